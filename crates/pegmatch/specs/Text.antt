@@ -1,0 +1,70 @@
+-- What the events of a success print: captures and templates (peg(1), 'yytext'; where the manual is vague the rules are this project's own).
+use Rattle.std.specs.Prelude.{ℕ, ◌≤◌, Bool, ◌||◌, ◌&&◌, List, [], ◌∷◌, ◌++◌, reverse, length, Option, Some, None, if◌then◌else◌, nat_le, ◌==◌, slice_range, codes}
+use Rattle.std.specs.List.{flat_map}
+use Rattle.std.specs.Str.{bytes_eq}
+use Rattle.std.specs.Fmt.{decimal}
+use Rattle.gramcheck.specs.Outcome.{Event, Opened, Closed, Acted}
+
+abbrev pub between : ℕ → ℕ → ℕ → Bool
+between low high b = nat_le low b && nat_le b high
+
+-- a letter, a digit or an underscore
+abbrev pub is_word : ℕ → Bool
+is_word b = between 97 122 b || between 65 90 b || between 48 57 b || (b == 95)
+
+-- A piece of a template: a maximal run of word bytes, or one other byte.
+pub data Piece : Type 0 where
+  Word : List ℕ → Piece
+  Other : ℕ → Piece
+
+-- a word byte joins the run right behind it, or begins one
+abbrev pub joined : ℕ → List Piece → List Piece
+joined b (Word run ∷ pieces) = Word (b ∷ run) ∷ pieces
+joined b (Other c ∷ pieces) = Word (b ∷ []) ∷ (Other c ∷ pieces)
+joined b [] = Word (b ∷ []) ∷ []
+
+-- The pieces of a template. Word bytes that stand side by side are one run, so no two runs stand side by side.
+abbrev pub pieces_of : List ℕ → List Piece
+pieces_of [] = []
+pieces_of (b ∷ bytes) = if is_word b then joined b (pieces_of bytes) else (Other b ∷ pieces_of bytes)
+
+-- a piece with the capture put in: `yytext` becomes the capture, `yyleng` its length in decimal, and all else stands
+abbrev pub filled_piece : List ℕ → Piece → List ℕ
+filled_piece capture (Word run) =
+    if bytes_eq run (codes "yytext") then capture
+    else (if bytes_eq run (codes "yyleng") then decimal (length capture) else run)
+filled_piece capture (Other b) = b ∷ []
+
+-- the template with the capture put in; what is put in is not looked at again
+abbrev pub filled : List ℕ → List ℕ → List ℕ
+filled template capture = flat_map (filled_piece capture) (pieces_of template)
+
+-- a space, a tab, CR or LF
+abbrev pub is_blank : ℕ → Bool
+is_blank b = (b == 32) || (b == 9) || (b == 13) || (b == 10)
+
+abbrev pub cut_front : List ℕ → List ℕ
+cut_front [] = []
+cut_front (b ∷ text) = if is_blank b then cut_front text else b ∷ text
+
+-- a text without the blanks at both its ends
+abbrev pub trimmed : List ℕ → List ℕ
+trimmed text = reverse (cut_front (reverse (cut_front text)))
+
+-- what an action prints: its template as it is, or without the blanks at its ends and on a line of its own
+abbrev pub printed : Bool → List ℕ → List ℕ → List ℕ
+printed raw template capture =
+    if raw then filled template capture else filled (trimmed template) capture ++ 10 ∷ []
+
+-- What the events print, with the place where a capture was opened last, and the capture so far.
+abbrev pub text_after : Bool → List ℕ → List Event → Option ℕ → List ℕ → List ℕ
+text_after raw x [] start capture = []
+text_after raw x (Opened p ∷ events) start capture = text_after raw x events (Some p) capture
+text_after raw x (Closed q ∷ events) None capture = text_after raw x events None capture
+text_after raw x (Closed q ∷ events) (Some p) capture = text_after raw x events (Some p) (slice_range x p q)
+text_after raw x (Acted template ∷ events) start capture =
+    printed raw template capture ++ text_after raw x events start capture
+
+-- the printed text of a unit's events: nothing is open and the capture is empty where it begins
+abbrev pub text_of : Bool → List ℕ → List Event → List ℕ
+text_of raw x events = text_after raw x events None []

@@ -1,0 +1,53 @@
+//! What a matcher owes.
+ghost use Rattle.std.specs.Prelude.{◌≡◌, ℕ, ◌<◌, List, length, true, IfOk};
+ghost use Rattle.gramcheck.specs.Grammar.{Grammar};
+ghost use Rattle.gramcheck.specs.Outcome.{Event};
+ghost use Rattle.pegmatch.specs.Answers.{IsAnswer, HoldsSuccess, Replays};
+ghost use Rattle.pegmatch.specs.Text.{text_of};
+
+use gramcheck::SoundPeg;
+use ruletable::{Memory, Sink};
+use thiserror::Error;
+
+/// What the start rule gives at the front of a window.
+#[derive(Clone, Copy, Debug, PartialEq, Eq)]
+pub enum Unit {
+    /// It succeeds and ends there.
+    Took { end: usize, begun: u128 },
+    /// It fails.
+    Failed { begun: u128 },
+    /// It would compare the window's last byte, and there is more behind the window.
+    Need,
+}
+
+/// Why a replay stopped.
+#[derive(Clone, Copy, Debug, PartialEq, Eq, Error)]
+pub enum ReplayFault {
+    /// A growth was refused; nothing was written.
+    #[error("out of memory")]
+    Memory,
+    /// The writer failed; a beginning was written.
+    #[error("write error")]
+    Write,
+}
+
+/// What runs a grammar's start rule at the front of a window.
+pub trait Matcher {
+    /// The events that it holds of its last success, for a grammar and a window.
+    ghost holds: { Self → Grammar → List ℕ → List Event → Type 0 };
+
+    fn match_unit(&mut self, peg: &SoundPeg, window: &[u8], more: bool) -> Result<Unit, Memory>
+        requires { more ≡ true → 0 < length window.now }
+        ensures { IfOk result (IsAnswer peg.now window.now more (holds self.new peg.now window.now)) };
+
+    fn replay<W: Sink>(
+        &mut self,
+        peg: &SoundPeg,
+        window: &[u8],
+        raw: bool,
+        out: &mut W,
+    ) -> Result<(), ReplayFault>
+        requires { HoldsSuccess peg.now window.now (holds self.old peg.now window.now) }
+        ensures { (events : List Event) → holds self.old peg.now window.now events →
+            Replays (W.contents out.old) (W.contents out.new) (W.failed out.old) (W.failed out.new) (text_of raw window.now events) result };
+}

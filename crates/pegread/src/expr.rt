@@ -1,0 +1,43 @@
+//! What the bodies of a grammar's rules are made of.
+
+use ruletable::{ByteSet, RuleTable};
+
+/// A parsing expression (Ford 2004, section 3), with the captures and actions of peg(1).
+#[derive(Drop)]
+pub enum Expr {
+    /// Any one byte.
+    Any,
+    /// These bytes.
+    Bytes(Vec<u8>),
+    /// One byte of a class.
+    Set(ByteSet),
+    /// The rule of that name.
+    Name(Vec<u8>),
+    /// All of them, in order.
+    Seq(Vec<Expr>),
+    /// The first that succeeds.
+    Choice(Vec<Expr>),
+    /// As often as it succeeds.
+    Star(Box<Expr>),
+    /// As often as it succeeds, but at least once.
+    Plus(Box<Expr>),
+    /// Once, if it succeeds.
+    Opt(Box<Expr>),
+    /// Whether it succeeds; takes nothing.
+    And(Box<Expr>),
+    /// Whether it fails; takes nothing.
+    Not(Box<Expr>),
+    /// An action, with the text between its outer braces.
+    Act(Vec<u8>),
+    /// The start of a capture.
+    Open,
+    /// The end of a capture.
+    Close,
+}
+
+/// A grammar as it was read: its rules, and the ids of those that a later definition names again.
+#[derive(Drop)]
+pub struct Peg {
+    pub rules: RuleTable<Expr>,
+    pub redefined: Vec<usize>,
+}

@@ -1,0 +1,19 @@
+-- What is said of a writer: the text that it takes, and the flag that tells whether it failed.
+use Rattle.std.specs.Prelude.{Result, ◌≡◌, ℕ, Bool, true, List, ◌++◌, MatchResult, Option}
+use Rattle.std.specs.Io.KnownBytes.{Appends}
+
+-- an `Err` sets the flag, and an `Ok` leaves it as it was
+abbrev pub Flags : {A E : Type 0} → Bool → Bool → Result A E → Type 0
+Flags old new r = MatchResult r (λ _. new ≡ old) (λ _. new ≡ true)
+
+-- part stands at the front of whole
+abbrev pub IsBeginning : List ℕ → List ℕ → Type 0
+IsBeginning part whole = (rest : List ℕ) × (whole ≡ part ++ rest)
+
+-- known bytes grow by a beginning of the text
+abbrev pub AppendsPart : Option (List ℕ) → Option (List ℕ) → List ℕ → Type 0
+AppendsPart old new text = (part : List ℕ) × IsBeginning part text × Appends old new part
+
+-- known bytes grow by the text at an `Ok`, and by a beginning of it at an `Err`
+abbrev pub Writes : {A E : Type 0} → Option (List ℕ) → Option (List ℕ) → List ℕ → Result A E → Type 0
+Writes old new text r = MatchResult r (λ _. Appends old new text) (λ _. AppendsPart old new text)

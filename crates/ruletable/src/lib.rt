@@ -1,0 +1,18 @@
+//! What both grammar tools share: writers, rules by name, sets of bytes, lines and faults.
+#![tactic(auto)]
+
+mod byte_set;
+mod fault;
+mod lines;
+mod memory;
+mod sink;
+mod span;
+mod table;
+
+pub use byte_set::ByteSet;
+pub use fault::{ReadFault, write_fault};
+pub use lines::{LineRule, line_of};
+pub use memory::Memory;
+pub use sink::{Sink, SinkOf, WriteFault, write_pieces, write_whole};
+pub use span::Span;
+pub use table::{Defined, NameCase, RuleTable};
