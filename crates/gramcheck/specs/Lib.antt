@@ -1,3 +1,5 @@
 pub mod Grammar
 pub mod Nodes
+pub mod Numbering
 pub mod Outcome
+pub mod Rising

@@ -1,13 +1,19 @@
 //! Sound grammars.
-ghost use Rattle.std.specs.Prelude.{◌≡◌, ◌<◌, length, slice_get, slice_index, Some};
+ghost use Rattle.std.specs.Prelude.{◌≡◌, ◌<◌, length, slice_get, Some, IfOk};
+ghost use Rattle.pegread.specs.Basic.{IsBasicGrammar};
+ghost use Rattle.pegread.specs.Views.{rules_of};
 ghost use Rattle.gramcheck.specs.Grammar.{IsSoundGrammar};
 
 use crate::node::Node;
-use pegread::Expr;
-use ruletable::RuleTable;
+use crate::number::number;
+use pegread::{Expr, Peg};
+use ruletable::{Memory, RuleTable};
+use std::alloc::Global;
 use std::marker::Model;
 
-/// A grammar that can be run, its bodies cut into numbered nodes.
+/// A grammar that can be run: its rules, their bodies cut into numbered nodes, and a start rule.
+///
+/// Operands have smaller numbers than the nodes that they stand in.
 #[derive(Drop)]
 pub struct SoundPeg {
     rules: RuleTable<Expr>,
@@ -34,6 +40,28 @@ impl Model for SoundPeg {
 }
 
 impl SoundPeg {
+    /// The grammar of one rule, its start rule, cut into nodes.
+    ///
+    /// `Memory` where a growth was refused; the grammar is dropped then.
+    pub fn of_one_rule(alloc: Global, peg: Peg) -> Result<SoundPeg, Memory>
+        requires { IsBasicGrammar (rules_of peg.rules) }
+        ensures rules { IfOk result (λ g. g.rules ≡ peg.rules) }
+        ensures start { IfOk result (λ g. g.start ≡ 0) }
+        ensures sound { IfOk result IsSoundGrammar }
+    {
+        let rules = peg.rules;
+        let mut nodes = Vec::new(alloc);
+        let body = number(alloc, rules.body(0), &mut nodes)?;
+        let mut bodies = Vec::new(alloc);
+        bodies.push(body)?;
+        Ok(SoundPeg {
+            rules,
+            start: 0,
+            nodes,
+            bodies,
+        })
+    }
+
     /// The rules as they were read.
     pub fn rules(&self) -> &RuleTable<Expr>
         ensures { result.now ≡ self.now.rules }
@@ -56,7 +84,7 @@ impl SoundPeg {
         self.nodes.len()
     }
 
-    /// The node of a rule's body.
+    /// The number of the node of a rule's body.
     pub fn body_node(&self, id: usize) -> usize
         requires { id < length self.now.bodies }
         ensures { slice_get self.now.bodies id ≡ Some result }
@@ -64,7 +92,7 @@ impl SoundPeg {
         self.bodies[id]
     }
 
-    /// A node.
+    /// The node of that number.
     pub fn node(&self, n: usize) -> &Node
         requires { n < length self.now.nodes }
         ensures { slice_get self.now.nodes n ≡ Some result.now }

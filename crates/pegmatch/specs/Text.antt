@@ -1,5 +1,5 @@
 -- What the events of a success print: captures and templates (peg(1), 'yytext'; where the manual is vague the rules are this project's own).
-use Rattle.std.specs.Prelude.{ℕ, ◌≤◌, Bool, ◌||◌, ◌&&◌, List, [], ◌∷◌, ◌++◌, reverse, length, Option, Some, None, if◌then◌else◌, nat_le, ◌==◌, slice_range, codes}
+use Rattle.std.specs.Prelude.{ℕ, Bool, ◌||◌, ◌&&◌, List, [], ◌∷◌, ◌++◌, reverse, length, Option, Some, None, if◌then◌else◌, nat_le, ◌==◌, slice_range, codes}
 use Rattle.std.specs.List.{flat_map}
 use Rattle.std.specs.Str.{bytes_eq}
 use Rattle.std.specs.Fmt.{decimal}

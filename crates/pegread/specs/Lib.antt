@@ -1,3 +1,10 @@
 pub mod Basic
+pub mod Kinds
+pub mod Machine
 pub mod Pattern
+pub mod Reading
+pub mod Slices
+pub mod Spelling
+pub mod Steps
+pub mod Tokens
 pub mod Views

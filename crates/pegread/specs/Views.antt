@@ -1,10 +1,9 @@
 -- The patterns that expressions stand for.
-use Rattle.std.specs.Prelude.{ℕ, false, List, [], ◌∷◌, map, get_or}
+use Rattle.std.specs.Prelude.{false, List, [], ◌∷◌, map, get_or}
 use Rattle.ruletable.specs.Rules as table
 use Rattle.pegread.specs.declared.expr.Expr.{Expr}
 use Rattle.pegread.specs.declared.expr.Expr.TheOpen.{Expr-F}
 use Rattle.pegread.specs.declared.expr.Expr.TheFolds.{fold-Expr}
-use Rattle.pegread.specs.declared.expr.Peg.{Peg}
 use Rattle.pegread.specs.Pattern.{Pattern, Any, Bytes, Set, Name, Seq, Choice, Star, Plus, Opt, And, Not, Act, Open, Close, Patterns, none, more, Rule}
 
 abbrev pub patterns : List Pattern → Patterns

@@ -1,5 +1,5 @@
 -- What contracts see of a table of rules: a list of rules in order of definition, no two of one name.
-use Rattle.std.specs.Prelude.{◌≡◌, ℕ, ◌<◌, Bool, bytes_eq, List, [], ◌∷◌, ◌++◌, length, map, position, slice_get, Option, None, Some}
+use Rattle.std.specs.Prelude.{◌≡◌, ℕ, zero, suc, Bool, bytes_eq, List, [], ◌∷◌, ◌++◌, length, map, position, slice_get, Option, None, Some}
 use Rattle.std.specs.Str.{str_to_ascii_lowercase}
 use Rattle.ruletable.specs.declared.span.Span.{Span}
 use Rattle.ruletable.specs.declared.table.Defined.{Defined}
@@ -48,3 +48,12 @@ abbrev pub Defines : {E : Type 0} → Rules E → Rules E → Rule E → Defined
 Defines old new rule (Added id) =
     (find_in old rule.name ≡ None) × (id ≡ length old.rules) × (new ≡ record { names = old.names; rules = old.rules ++ rule ∷ [] })
 Defines old new rule (Duplicate id) = (find_in old rule.name ≡ Some id) × (new ≡ old)
+
+-- the rules, with w as the body of the rule with that id
+abbrev pub set_body : {E : Type 0} → List (Rule E) → ℕ → E → List (Rule E)
+set_body [] id w = []
+set_body (rule ∷ rules) zero w = record { name = rule.name; body = w; span = rule.span } ∷ rules
+set_body (rule ∷ rules) (suc id) w = rule ∷ set_body rules id w
+
+abbrev pub with_body : {E : Type 0} → Rules E → ℕ → E → Rules E
+with_body table id w = record { names = table.names; rules = set_body table.rules id w }

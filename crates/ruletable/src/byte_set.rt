@@ -1,36 +1,68 @@
 //! Sets of bytes.
-ghost use Rattle.std.specs.Prelude.{◌≡◌, Bool, false, List, length, get_or};
+ghost use Rattle.std.specs.Prelude.{◌≡◌, ℕ, ◌<◌, ◌||◌, ◌&&◌, ◌==◌, nat_le, not, Bool, true, false, List, length, get_or};
 
 use std::marker::Model;
 
-/// A set of numbers from 0 to 255.
+/// A set of numbers from 0 to 255, seen as the list that says of each number whether it is a member.
 #[derive(Drop)]
 pub struct ByteSet {
-    members: [bool; 256],
+    words: [u64; 4],
 }
 
 impl Model for ByteSet {
+    ghost use Rattle.std.specs.Prelude.{Bool, List};
+
     ghost Value = { List Bool };
 
-    ghost view = { λ s. s.members };
+    ghost use Rattle.ruletable.specs.Members.{members_of};
 
-    ghost invariant = { λ s. length s.members ≡ 256 };
+    ghost view = { λ s. members_of s.words };
 }
 
 impl ByteSet {
     /// The empty set.
     pub fn new() -> ByteSet
         ensures count { length result ≡ 256 }
+        ensures empty { (k : ℕ) → get_or result k false ≡ false }
     {
-        ByteSet {
-            members: [false; 256],
-        }
+        ByteSet { words: [0; 4] }
     }
 
     /// Whether the byte is a member.
     pub fn has(&self, b: u8) -> bool
         ensures { result ≡ get_or self.now b false }
     {
-        self.members[b as usize]
+        let place = usize::from(b);
+        (self.words[place / 64] >> (place % 64)) & 1 == 1
+    }
+
+    // Makes the byte a member.
+    fn put(&mut self, b: u8)
+        ensures count { length self.new ≡ length self.old }
+        ensures members { (k : ℕ) → get_or self.new k false ≡ (get_or self.old k false || (k == b)) }
+    {
+        let place = usize::from(b);
+        self.words[place / 64] |= 1 << (place % 64);
+    }
+
+    /// Makes each byte from `first` to `last` a member. Where `first` is greater than `last`, the set stays as it is.
+    pub fn add_range(&mut self, first: u8, last: u8)
+        ensures count { length self.new ≡ length self.old }
+        ensures members { (k : ℕ) → get_or self.new k false ≡ (get_or self.old k false || (nat_le first k && nat_le k last)) }
+    {
+        for b in first..=last {
+            self.put(b);
+        }
+    }
+
+    /// The numbers from 0 to 255 that are no members.
+    pub fn complement(&self) -> ByteSet
+        ensures count { length result ≡ 256 }
+        ensures members { (k : ℕ) → k < 256 → get_or result k false ≡ not (get_or self.now k false) }
+    {
+        let [a, b, c, d] = self.words;
+        ByteSet {
+            words: [u64::MAX ^ a, u64::MAX ^ b, u64::MAX ^ c, u64::MAX ^ d],
+        }
     }
 }

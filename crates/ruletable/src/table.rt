@@ -1,7 +1,10 @@
 //! Rules by name, in order of definition.
-ghost use Rattle.std.specs.Prelude.{◌≡◌, ℕ, ◌<◌, [], length};
-ghost use Rattle.std.specs.Prelude.{◌==◌};
+ghost use Rattle.std.specs.Prelude.{◌≡◌, ◌==◌, ℕ, ◌<◌, [], length, slice_get, Some, IsOk, IfOk, OnErr};
+ghost use Rattle.std.specs.Borrow.{sem};
+ghost use Rattle.ruletable.specs.Lends.{LendsBody};
+ghost use Rattle.ruletable.specs.Rules.{find_in, names_of, bodies_of, spans_of, HasUniqueNames, Defines, key_of};
 
+use crate::memory::Memory;
 use crate::span::Span;
 use indexmap::IndexMap;
 use std::alloc::Global;
@@ -44,9 +47,11 @@ impl<E> Model for RuleTable<E> {
 
     ghost Value = { Rules E };
 
-    ghost use Rattle.ruletable.specs.Rows.{rules_in};
+    ghost use Rattle.ruletable.specs.Rows.{rules_in, KeysAreNames};
 
     ghost view = { λ t. record { names = t.names; rules = rules_in t.rows.entries } };
+
+    ghost invariant = { λ t. KeysAreNames t.names t.rows.entries };
 }
 
 impl<E> RuleTable<E> {
@@ -63,7 +68,8 @@ impl<E> RuleTable<E> {
 
     /// The number of rules.
     pub fn len(&self) -> usize
-        ensures { result ≡ length self.now.rules }
+        ensures len { result ≡ length self.now.rules }
+        ensures unique { HasUniqueNames self.now }
     {
         self.rows.len()
     }
@@ -74,4 +80,84 @@ impl<E> RuleTable<E> {
     {
         self.rows.is_empty()
     }
+
+    /// The id of the rule of that name. Folding copies the name, which may want memory.
+    pub fn find(&self, name: &[u8]) -> Result<Option<usize>, Memory>
+        ensures found { IfOk result (λ id. id ≡ find_in self.now name.now) }
+        ensures exact { self.now.names ≡ NameCase.Exact → IsOk result }
+    {
+        match self.names {
+            NameCase::Exact => Ok(self.rows.get_index_of(name)),
+            NameCase::Fold => {
+                let key = copied_key(*self.rows.allocator(), NameCase::Fold, name)?;
+                Ok(self.rows.get_index_of(key.as_slice()))
+            }
+        }
+    }
+
+    /// Adds a rule as the last one, unless there is one of that name.
+    pub fn define(&mut self, name: &[u8], body: E, span: Span) -> Result<Defined, Memory>
+    where
+        E: Drop,
+        ensures defines { IfOk result (Defines self.old self.new (record { name = name.now; body = body; span = span })) }
+        ensures unchanged { OnErr result (self.new ≡ self.old) }
+    {
+        let alloc = *self.rows.allocator();
+        let key = copied_key(alloc, self.names, name)?;
+        if let Some(id) = self.rows.get_index_of(&key) {
+            return Ok(Defined::Duplicate(id));
+        }
+        let id = self.rows.len();
+        let name = Vec::from_slice(alloc, name)?;
+        self.rows.insert(key, Row { name, body, span })?;
+        Ok(Defined::Added(id))
+    }
+
+    /// The name of a rule, as its definition spells it.
+    pub fn name(&self, id: usize) -> &[u8]
+        requires { id < length self.now.rules }
+        ensures { slice_get (names_of self.now) id ≡ Some result.now }
+    {
+        let (_, row) = self.rows.get_index(id).unwrap();
+        row.name.as_slice()
+    }
+
+    /// The body of a rule.
+    pub fn body(&self, id: usize) -> &E
+        requires { id < length self.now.rules }
+        ensures { slice_get (bodies_of self.now) id ≡ Some result.now }
+    {
+        let (_, row) = self.rows.get_index(id).unwrap();
+        &row.body
+    }
+
+    /// Where the name of a rule's definition stands.
+    pub fn span(&self, id: usize) -> Span
+        requires { id < length self.now.rules }
+        ensures { slice_get (spans_of self.now) id ≡ Some result }
+    {
+        let (_, row) = self.rows.get_index(id).unwrap();
+        row.span
+    }
+
+    /// The body of a rule, to write. The names, the spans and the other bodies stay.
+    pub fn body_mut(&mut self, id: usize) -> &mut E
+        requires { id < length self.old.rules }
+        ensures* writes_back { sem 𝓛 (LendsBody E.row self.entry id result) }
+        ensures value { slice_get (bodies_of self.old) id ≡ Some result.now }
+    {
+        let row = &mut self.rows[id];
+        &mut row.body
+    }
+}
+
+// What the name has in common with each other name of its rule.
+fn copied_key(alloc: Global, names: NameCase, name: &[u8]) -> Result<Vec<u8>, Memory>
+    ensures { IfOk result (λ key. key.items ≡ key_of names name.now) }
+{
+    let mut key = Vec::from_slice(alloc, name)?;
+    if names == NameCase::Fold {
+        key.make_ascii_lowercase();
+    }
+    Ok(key)
 }

@@ -1,0 +1,35 @@
+# Proves, builds and tests the tools. Needs the Rattle toolchain's command `rt` and nothing else.
+
+.PHONY: all programs example test check clean
+
+all: programs example
+
+# Proves what the programs stand on, builds them, and puts them into bin/.
+programs:
+	@echo "proving and building pegi (a first time takes some minutes)"
+	@cd crates/pegi && rt run -- ../../examples/username/username.peg \
+	    < ../../examples/username/letter.txt > out.log 2>&1 \
+	    || { cat out.log; exit 1; }
+	@rm -f crates/pegi/out.log
+	@mkdir -p bin
+	@cp crates/pegi/out/pegi bin/pegi
+
+# The one rule of the peg(1) manual that replaces `username`.
+example: programs
+	@echo
+	@echo '$$ cat examples/username/username.peg'
+	@cat examples/username/username.peg
+	@echo
+	@echo '$$ bin/pegi examples/username/username.peg < examples/username/letter.txt'
+	@bin/pegi examples/username/username.peg < examples/username/letter.txt
+
+# The gate: every proof from nothing, the edits that the prover must refuse, tests and programs.
+test:
+	rt ci
+
+# Every proof, over what earlier checks kept.
+check:
+	rt all check
+
+clean:
+	rm -rf bin crates/*/out

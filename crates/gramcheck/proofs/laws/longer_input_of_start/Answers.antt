@@ -1,0 +1,5 @@
+use Rattle.gramcheck.proofs.Starting.{grows_of_start}
+use Rattle.gramcheck.proofs.laws.longer_input_of_start.Goals as goal
+
+pub returns : goal.returns
+returns c = grows_of_start

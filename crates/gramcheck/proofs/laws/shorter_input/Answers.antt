@@ -1,0 +1,5 @@
+use Rattle.gramcheck.proofs.Shrinking.{shrinks}
+use Rattle.gramcheck.proofs.laws.shorter_input.Goals as goal
+
+pub returns : goal.returns
+returns c = λ rules x y e p k o less d. shrinks rules x y d less

@@ -1,0 +1,9 @@
+pub mod FinishLemmas
+pub mod Looking
+pub mod Texts
+pub mod Windows
+pub mod Steps
+pub mod Cuts
+pub mod Going
+pub mod Stopping
+pub mod Rightness

@@ -1,0 +1,12 @@
+pub mod Answers
+pub mod Attempts
+pub mod Delivery
+pub mod Finish
+pub mod Flush
+pub mod Input
+pub mod Reading
+pub mod Reply
+pub mod Status
+pub mod Stop
+pub mod Stopped
+pub mod Units

@@ -1,0 +1,8 @@
+pub mod Below
+pub mod Filling
+pub mod Literals
+pub mod Replaying
+pub mod Spelled
+pub mod Steps
+pub mod Trimming
+pub mod Units

@@ -1,0 +1,59 @@
+-- What the kept events stand for, and what was found for a node.
+use Rattle.std.specs.Prelude.{◌≡◌, ℕ, ◌≤◌, List, [], ◌∷◌, ◌++◌, slice_get, Some, Result, Ok, Err}
+use Rattle.pegread.specs.Pattern.{Pattern, Patterns, Rule}
+use Rattle.gramcheck.specs.Nodes.{Shape, Act, Spells, SpellAll}
+use Rattle.gramcheck.specs.Outcome as event
+use Rattle.gramcheck.specs.Outcome.{Outcome, Fails, Takes, Gives, GivesAll, GivesFirst}
+use Rattle.pegmatch.specs.declared.event.Kept.{Kept}
+use Rattle.pegmatch.specs.declared.matching.Found.{Found}
+use Rattle.pegmatch.specs.declared.matching.Tried.{Tried}
+use Rattle.pegmatch.specs.declared.matcher.Unit.{Unit as UnitAnswer}
+use Rattle.pegmatch.specs.declared.matcher.Unit.TheVariants as unit
+
+-- Kept events, one for each event: an action is kept by the number of its node.
+pub data StandFor (nodes : List Shape) : List Kept → List event.Event → Type 0 where
+  no_event : StandFor nodes [] []
+  opened : {p : ℕ} {kept : List Kept} {events : List event.Event} → StandFor nodes kept events →
+      StandFor nodes (Kept.Opened p ∷ kept) (event.Opened p ∷ events)
+  closed : {p : ℕ} {kept : List Kept} {events : List event.Event} → StandFor nodes kept events →
+      StandFor nodes (Kept.Closed p ∷ kept) (event.Closed p ∷ events)
+  acted : {n : ℕ} {t : List ℕ} {kept : List Kept} {events : List event.Event} → slice_get nodes n ≡ Some (Act t) →
+      StandFor nodes kept events → StandFor nodes (Kept.Acted n ∷ kept) (event.Acted t ∷ events)
+
+-- the outcome of what was found without events
+abbrev pub quiet_outcome : Found → Outcome
+quiet_outcome Found.Failed = Fails
+quiet_outcome (Found.Took end) = Takes end []
+
+-- A success adds its events, and a failure none.
+abbrev pub MatchesBy : List Shape → (Outcome → ℕ → Type 0) → Found → ℕ → List Kept → List Kept → Type 0
+MatchesBy nodes Gives' Found.Failed looked old new = Gives' Fails looked × (new ≡ old)
+MatchesBy nodes Gives' (Found.Took end) looked old new =
+    (added : List Kept) × (events : List event.Event) × StandFor nodes added events × Gives' (Takes end events) looked × (new ≡ old ++ added)
+
+-- What was found for a node at a place is what the expression that it spells gives there.
+abbrev pub IsMatch : List Rule → List Shape → List ℕ → ℕ → ℕ → Tried → List Kept → List Kept → Type 0
+IsMatch rules nodes x n p tried old new =
+    (e : Pattern) → Spells rules nodes n e → MatchesBy nodes (Gives rules x e p) tried.found tried.looked old new
+
+-- likewise for the members of a sequence
+abbrev pub IsMatchOfAll : List Rule → List Shape → List ℕ → List ℕ → ℕ → Tried → List Kept → List Kept → Type 0
+IsMatchOfAll rules nodes x ns p tried old new =
+    (es : Patterns) → SpellAll rules nodes ns es → MatchesBy nodes (GivesAll rules x es p) tried.found tried.looked old new
+
+-- likewise for the alternatives of a choice
+abbrev pub IsMatchOfFirst : List Rule → List Shape → List ℕ → List ℕ → ℕ → Tried → List Kept → List Kept → Type 0
+IsMatchOfFirst rules nodes x ns p tried old new =
+    (es : Patterns) → SpellAll rules nodes ns es → MatchesBy nodes (GivesFirst rules x es p) tried.found tried.looked old new
+
+-- A success ends in the input.
+abbrev pub EndsWithin : Found → ℕ → Type 0
+EndsWithin Found.Failed n = Unit {0}
+EndsWithin (Found.Took end) n = end ≤ n
+
+-- Only a success leaves events behind.
+abbrev pub IsEmptyUnlessTook : {E : Type 0} → Result UnitAnswer E → List Kept → Type 0
+IsEmptyUnlessTook (Ok (unit.Took end begun)) kept = Unit {0}
+IsEmptyUnlessTook (Ok (unit.Failed begun)) kept = kept ≡ []
+IsEmptyUnlessTook (Ok unit.Need) kept = kept ≡ []
+IsEmptyUnlessTook (Err e) kept = kept ≡ []

@@ -1,0 +1,54 @@
+//! Literals against a text.
+ghost use Rattle.std.specs.Prelude.{◌≡◌, ◌+◌, ◌^◌, ◌<◌, ◌≤◌, max, length, IsTrue};
+ghost use Rattle.gramcheck.specs.Outcome.{begins_with, compared, looked_at};
+
+/// How a literal compares with the front of a text.
+#[derive(Clone, Copy)]
+pub(crate) struct Comparison {
+    /// Whether the text begins with the literal.
+    pub(crate) begins: bool,
+    /// How many bytes were compared.
+    pub(crate) compared: usize,
+}
+
+/// Compares up to the first mismatch, and that byte too; the text's end is no byte.
+#[tactic(auto, using(crate::proofs::Literals::equal_byte, crate::proofs::Literals::other_byte, crate::proofs::Literals::text_ends, crate::proofs::Literals::literal_ends))]
+pub(crate) fn compare(text: &[u8], literal: &[u8]) -> Comparison
+    ensures begins { result.begins ≡ begins_with text.now literal.now }
+    ensures compared { result.compared ≡ compared text.now literal.now }
+    ensures within { result.compared ≤ length text.now }
+    ensures fits { IsTrue result.begins → length literal.now ≤ length text.now }
+{
+    for (i, b) in literal.iter().enumerate() {
+        if i >= text.len() {
+            return Comparison {
+                begins: false,
+                compared: i,
+            };
+        }
+        if text[i] != *b {
+            return Comparison {
+                begins: false,
+                compared: i + 1,
+            };
+        }
+    }
+    Comparison {
+        begins: true,
+        compared: literal.len(),
+    }
+}
+
+/// One more than the last place compared from `place` on, or 0.
+pub(crate) fn looked_after(place: usize, compared: usize) -> usize
+    requires { place + compared < 2 ^ 64 }
+    ensures { result ≡ looked_at place compared }
+{
+    if compared == 0 { 0 } else { place + compared }
+}
+
+pub(crate) fn further(a: usize, b: usize) -> usize
+    ensures { result ≡ max a b }
+{
+    a.max(b)
+}

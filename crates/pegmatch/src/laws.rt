@@ -1,0 +1,32 @@
+//! Laws of what a matcher answers.
+ghost use Rattle.std.specs.Prelude.{◌≡◌, ℕ, ◌≤◌, ◌++◌, true, List, length};
+ghost use Rattle.gramcheck.specs.Grammar.{Grammar};
+ghost use Rattle.gramcheck.specs.Outcome.{Outcome};
+ghost use Rattle.pegmatch.specs.Answers.{StartGives, WasEnough};
+
+use gramcheck::{longer_input_of_start, one_outcome_of_start, shorter_input_of_start};
+
+/// A window has at most one answer.
+pub fn one_answer()
+    ensures { (g : Grammar) (window : List ℕ) (o c : Outcome) (looked far : ℕ) →
+        StartGives g window o looked → StartGives g window c far → (o ≡ c) × (looked ≡ far) }
+{
+    one_outcome_of_start();
+}
+
+/// What is answered for a window with more behind it is what the start rule gives on every input that begins with the window.
+pub fn answer_stands()
+    ensures { (g : Grammar) (window rest : List ℕ) (o : Outcome) (looked : ℕ) →
+        StartGives g window o looked → WasEnough window true looked → StartGives g (window ++ rest) o looked }
+{
+    longer_input_of_start();
+}
+
+/// Where a window was not enough, the start rule looks at all of it on every input that begins with it.
+pub fn need_stands()
+    ensures { (g : Grammar) (window rest : List ℕ) (o c : Outcome) (looked : ℕ) →
+        StartGives g window o (length window) → StartGives g (window ++ rest) c looked → length window ≤ looked }
+{
+    one_outcome_of_start();
+    shorter_input_of_start();
+}

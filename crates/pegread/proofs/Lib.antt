@@ -1,0 +1,9 @@
+mod Backwards
+mod Basic
+mod Firsts
+mod Fronts
+mod Passing
+mod Patterns
+mod Steps
+mod Unique
+mod Viable

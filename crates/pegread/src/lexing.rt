@@ -1,0 +1,166 @@
+//! Where tokens and white space end.
+ghost use Rattle.std.specs.Prelude.{◌≡◌, ℕ, ◌≤◌, List, ◌∷◌, length, MatchOption};
+ghost use Rattle.pegread.specs.Slices.{starts_name, continues_name, is_blank, ends_line, Names, Closes, Body, Comment, White, IsNotWhite, NoDash, First};
+
+use crate::token_iter::Kind;
+
+fn is_start(b: u8) -> bool
+    ensures { result ≡ starts_name b }
+{
+    b.is_ascii_alphabetic() || b == b'_'
+}
+
+fn is_inner(b: u8) -> bool
+    ensures { result ≡ continues_name b }
+{
+    b.is_ascii_alphanumeric() || b == b'_'
+}
+
+fn is_white(b: u8) -> bool
+    ensures { result ≡ is_blank b }
+{
+    b == b' ' || b == b'\t' || b == b'\n' || b == b'\r'
+}
+
+fn is_newline(b: u8) -> bool
+    ensures { result ≡ ends_line b }
+{
+    b == b'\n' || b == b'\r'
+}
+
+// What stands behind a name's bytes.
+fn after_name(text: &[u8]) -> &[u8]
+    ensures names { Names text.now result.now }
+    ensures longest { (r : List ℕ) → Names text.now r → length result.now ≤ length r }
+{
+    let mut rest = text;
+    while let Some((first, tail)) = rest.split_first() {
+        if !is_inner(*first) {
+            break;
+        }
+        rest = tail;
+    }
+    rest
+}
+
+// What stands behind the next `mark` that no escape takes.
+fn after_mark(text: &[u8], mark: u8) -> Option<&[u8]>
+    ensures { MatchOption result ((r : List ℕ) → Closes mark text.now r → ⊥) (λ rest. Closes mark text.now rest.now) }
+{
+    let mut rest = text;
+    while let Some((first, tail)) = rest.split_first() {
+        if *first == mark {
+            return Some(tail);
+        }
+        if *first == b'\\' {
+            let (_, after) = tail.split_first()?;
+            rest = after;
+        } else {
+            rest = tail;
+        }
+    }
+    None
+}
+
+// What stands behind the brace that matches one that stands before.
+fn after_brace(text: &[u8]) -> Option<&[u8]>
+    ensures { MatchOption result ((r : List ℕ) → Body text.now r → ⊥) (λ rest. Body text.now rest.now) }
+{
+    let mut depth: usize = 0;
+    let mut rest = text;
+    while let Some((first, tail)) = rest.split_first() {
+        if *first == b'{' {
+            depth += 1;
+        } else if *first == b'}' {
+            if depth == 0 {
+                return Some(tail);
+            }
+            depth -= 1;
+        }
+        rest = tail;
+    }
+    None
+}
+
+// What stands behind a comment: the end of the line, or of the text.
+fn after_comment(text: &[u8]) -> &[u8]
+    ensures comment { Comment text.now result.now }
+    ensures shorter { length result.now ≤ length text.now }
+{
+    let mut rest = text;
+    while let Some((first, tail)) = rest.split_first() {
+        if is_newline(*first) {
+            break;
+        }
+        rest = tail;
+    }
+    rest
+}
+
+// What stands behind the white space.
+pub(crate) fn after_white(text: &[u8]) -> &[u8]
+    ensures white { White text.now result.now }
+    ensures all { IsNotWhite result.now }
+{
+    let mut rest = text;
+    while let Some((first, tail)) = rest.split_first() {
+        if is_white(*first) {
+            rest = tail;
+        } else if *first == b'#' {
+            rest = after_comment(tail);
+        } else {
+            break;
+        }
+    }
+    rest
+}
+
+// What stands behind a `-`.
+fn after_dash(text: &[u8]) -> Option<&[u8]>
+    ensures { MatchOption result (NoDash text.now) (λ rest. text.now ≡ 45 ∷ rest.now) }
+{
+    let (first, tail) = text.split_first()?;
+    if *first == b'-' { Some(tail) } else { None }
+}
+
+// The first token of a text that no white space begins: its kind, and what stands behind it.
+pub(crate) fn first_token(text: &[u8]) -> (Kind, &[u8])
+    requires { IsNotWhite text.now }
+    ensures { First result.0 text.now result.1.now }
+{
+    let Some((first, tail)) = text.split_first() else {
+        return (Kind::End, text);
+    };
+    let nothing = &text[text.len()..];
+    if *first == b'<' {
+        match after_dash(tail) {
+            Some(rest) => (Kind::Arrow, rest),
+            None => (Kind::Begin, tail),
+        }
+    } else if *first == b'>' {
+        (Kind::EndCap, tail)
+    } else if *first == b'/' {
+        (Kind::Slash, tail)
+    } else if *first == b'.' {
+        (Kind::Dot, tail)
+    } else if *first == b'\'' {
+        match after_mark(tail, b'\'') {
+            Some(rest) => (Kind::Literal, rest),
+            None => (Kind::Bad, nothing),
+        }
+    } else if *first == b'"' {
+        match after_mark(tail, b'"') {
+            Some(rest) => (Kind::Literal, rest),
+            None => (Kind::Bad, nothing),
+        }
+    } else if *first == b'{' {
+        match after_brace(tail) {
+            Some(rest) => (Kind::Action, rest),
+            None => (Kind::Bad, nothing),
+        }
+    } else if is_start(*first) {
+        (Kind::Ident, after_name(tail))
+    } else {
+        (Kind::Bad, nothing)
+    }
+}

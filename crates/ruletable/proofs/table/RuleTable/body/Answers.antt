@@ -1,0 +1,7 @@
+-- The part of the row at the id.
+use Rattle.ruletable.proofs.TableLemmas.{part_at}
+use Rattle.ruletable.proofs.table.RuleTable.body.Goals as goal
+
+pub returns : goal.returns
+returns g c =
+    rw (← c.self.view_is) (part_at (λ rule. rule.body) c.self.inside.rows.entries c.args.id _ _ c.get_index.ensures.entry c.unwrap.ensures)
