@@ -6,7 +6,7 @@ use Rattle.ruletable.proofs.Taken.{IsBeginning-same, IsBeginning-trans}
 use Rattle.pegread.specs.Views.{rules_of}
 use Rattle.gramcheck.specs.Grammar.{Grammar, IsSoundGrammar}
 use Rattle.gramcheck.specs.Nodes.{shapes_of}
-use Rattle.gramcheck.specs.Outcome.{Outcome, Fails, Takes, Event, RuleGives}
+use Rattle.gramcheck.specs.Outcome.{Outcome, Fails, Takes}
 use Rattle.gramcheck.proofs.Starting.{rises_of_start, has_of_start}
 use Rattle.pegmatch.specs.Text.{text_of}
 use Rattle.gramtools.specs.Input.{Input}
@@ -45,7 +45,16 @@ module _ (g : Grammar) (settings : Settings) (input : Input) where
   pub replies_there : (s : ℕ) (text last : List ℕ) (stop : Stop) → UnitsTo s text → EndsAt s last stop →
       Replies (rules_of g.rules) g.start settings input (reply_of (text ++ last) stop)
   replies_there s text last stop units ends = record {
-    place = s; before = text; last = last; stop = stop; units = units; ends = ends; out = refl; err = refl; status = refl; taken = refl;
+    place = s;
+    before = text;
+    last = last;
+    stop = stop;
+    units = units;
+    ends = ends;
+    out = refl;
+    err = refl;
+    status = refl;
+    taken = refl;
   }
 
   stops : (s : ℕ) (text last : List ℕ) (stop : Stop) → UnitsTo s text → EndsAt s last stop → Goes g settings input (text ++ last)

@@ -1,18 +1,18 @@
 -- A run that stopped so, and its end, were right.
-use Rattle.std.proofs.Common.{◌≡◌, ◌≢◌, ℕ, ◌≤◌, Bool, true, false, Option, Some, None, List, [], length, refl, sym, ◌∙◌, ap, subst, arith}
+use Rattle.std.proofs.Common.{◌≡◌, ◌≢◌, ℕ, Bool, true, false, Option, Some, None, List, [], refl, sym, ◌∙◌, ap, subst, arith}
 use Rattle.std.specs.Prelude.{Result, Ok, Err, IfSome}
 use Rattle.std.specs.Io.KnownBytes.{Appends, Keeps, Consumes}
 use Rattle.ruletable.specs.Writing.{Flags}
 use Rattle.ruletable.specs.declared.fault.ReadFault.{ReadFault}
 use Rattle.ruletable.specs.declared.fault.ReadFault.TheVariants as fault
 use Rattle.ruletable.specs.declared.sink.WriteFault.{WriteFault}
-use Rattle.ruletable.proofs.Taken.{Appends-kept, Appends-same, Consumes-same, IsBeginning-same}
+use Rattle.ruletable.proofs.Taken.{Appends-kept, Appends-same, IsBeginning-same}
 use Rattle.pegread.specs.Pattern.{Rule}
 use Rattle.pegread.specs.Reading.{Reads, IsFaultOf}
 use Rattle.gramtools.specs.Answers.{States, refused, runs, no_memory, IsRight}
-use Rattle.gramtools.specs.Delivery.{Observed, Reports}
+use Rattle.gramtools.specs.Delivery.{Reports}
 use Rattle.gramtools.specs.Finish.{Finishes}
-use Rattle.gramtools.specs.Input.{Input, input_from}
+use Rattle.gramtools.specs.Input.{input_from}
 use Rattle.gramtools.specs.Reply.{RunStates, refusal, without_memory}
 use Rattle.gramtools.specs.Status.{code_of}
 use Rattle.gramtools.specs.Stop.{message_of, status_of}
@@ -32,24 +32,36 @@ module _ (text : List ℕ) (settings : Settings) where
   pub is_refused : (old a : Option (List ℕ)) (failed : Bool) (why : ReadFault) → IsFaultOf text why → why ≢ fault.Memory →
       TextStops text settings old old failed a a (Ok (Refused why))
   is_refused None a failed why faulty other = tt
-  is_refused (Some xs) a failed why faulty other = ([], [], refl, Appends-same a, record {
-    stated = refusal why;
-    states = refused why faulty other;
-    written = (refl, refl, refl);
-    within = omega arith;
-    exact = λ is. refl;
-  })
+  is_refused (Some xs) a failed why faulty other = (
+    [],
+    [],
+    refl,
+    Appends-same a,
+    record {
+      stated = refusal why;
+      states = refused why faulty other;
+      written = (refl, refl, refl);
+      within = omega arith;
+      exact = λ is. refl;
+    },
+  )
 
   -- memory was refused before anything was read
   pub wants_memory : (old a : Option (List ℕ)) (failed : Bool) → TextStops text settings old old failed a a (Ok NoMemory)
   wants_memory None a failed = tt
-  wants_memory (Some xs) a failed = ([], [], refl, Appends-same a, record {
-    stated = without_memory [] 0;
-    states = no_memory;
-    written = (refl, refl, refl);
-    within = omega arith;
-    exact = λ is. refl;
-  })
+  wants_memory (Some xs) a failed = (
+    [],
+    [],
+    refl,
+    Appends-same a,
+    record {
+      stated = without_memory [] 0;
+      states = no_memory;
+      written = (refl, refl, refl);
+      within = omega arith;
+      exact = λ is. refl;
+    },
+  )
 
   -- the text was not read
   pub is_unread : (old a : Option (List ℕ)) (failed : Bool) (why : ReadFault) → IsFaultOf text why → TextStops text settings old old failed a a (Ok (unread why))
@@ -66,13 +78,19 @@ module _ (text : List ℕ) (settings : Settings) where
       StopsAs (RunStates rules start settings (input_from given taken failed)) settings.limit taken stop wrote) →
       TextStops text settings old new failed a b stop
   is_run rules start None new a b failed stop first reads w = tt
-  is_run rules start (Some xs) new a b failed stop first reads w = (w.0, w.1, w.2, w.3, record {
-    stated = w.4.stated;
-    states = runs rules w.4.stated reads (subst (λ s. RunStates rules s settings (input_from xs w.0 failed) w.4.stated) first w.4.states);
-    written = w.4.written;
-    within = w.4.within;
-    exact = w.4.exact;
-  })
+  is_run rules start (Some xs) new a b failed stop first reads w = (
+    w.0,
+    w.1,
+    w.2,
+    w.3,
+    record {
+      stated = w.4.stated;
+      states = runs rules w.4.stated reads (subst (λ s. RunStates rules s settings (input_from xs w.0 failed) w.4.stated) first w.4.states);
+      written = w.4.written;
+      within = w.4.within;
+      exact = w.4.exact;
+    },
+  )
 
   -- the stop and the end, together
   is_right : (given taken wrote told : List ℕ) (read_failed out_was out_failed err_failed : Bool) (stop : Result Stop WriteFault) (code : ℕ) →

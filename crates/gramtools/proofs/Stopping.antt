@@ -1,12 +1,11 @@
 -- What was read, and what was written of it.
-use Rattle.std.proofs.Common.{◌≡◌, ◌≢◌, ℕ, ◌+◌, ◌<◌, ◌≤◌, Bool, true, false, Option, Some, None, List, [], ◌++◌, length, take, refl, sym, ◌∙◌, ap, subst, arith, inl, inr, ◌⊎◌, nat_lt, if◌then◌else◌, length-append, length-take}
+use Rattle.std.proofs.Common.{◌≡◌, ℕ, ◌<◌, ◌≤◌, Bool, true, false, Option, Some, None, List, [], ◌++◌, length, take, refl, sym, ◌∙◌, ap, subst, arith, inl, inr, ◌⊎◌, nat_lt, if◌then◌else◌, length-append, length-take}
 use Rattle.std.specs.Prelude.{Result, Ok, Err, IfSome}
 use Rattle.std.proofs.Math.Seq.{take-append_seam}
 use Rattle.std.proofs.lemmas.Bool.{cases_lt}
 use Rattle.std.proofs.lemmas.Grind.{common_steps}
 use Rattle.std.proofs.lemmas.List.{append-nil}
 use Rattle.std.specs.Io.KnownBytes.{Appends, Consumes, IsAtEnd}
-use Rattle.ruletable.specs.Writing.{IsBeginning}
 use Rattle.ruletable.specs.declared.sink.WriteFault.{WriteFault}
 use Rattle.ruletable.proofs.Taken.{Appends-same, IsBeginning-trans, IsBeginning-nil}
 use Rattle.pegread.specs.Views.{rules_of}
@@ -20,7 +19,7 @@ use Rattle.gramtools.specs.declared.input.Given.{Given}
 use Rattle.gramtools.specs.declared.settings.Settings.{Settings}
 use Rattle.gramtools.specs.declared.stop.Stop.{Stop}
 use Rattle.gramtools.specs.declared.stop.Stop.TheVariants.{NoMemory}
-use Rattle.gramtools.proofs.Going.{Goes, reply_of, replies_there, units_go_on, unit_goes_on}
+use Rattle.gramtools.proofs.Going.{reply_of, replies_there, units_go_on, unit_goes_on}
 
 below_limit : (given : List ℕ) → length given < input_limit → bounded given ≡ record { bytes = given; fault = false }
 below_limit given h =
@@ -66,8 +65,8 @@ input_is xs bytes new failed false c whole broken =
 input_is xs bytes new failed true c whole broken = elim (broken refl) [
   | inl bad ↦ its_fault xs bytes failed bad
   | inr long ↦
-    let part = cut_short xs bytes new c in
-    no_fault xs bytes failed long.0 ∙ at_limit xs bytes (omega (arith, long.1, part.1)) (subst (λ n. take n xs ≡ bytes) long.1 part.0)
+      let part = cut_short xs bytes new c in
+      no_fault xs bytes failed long.0 ∙ at_limit xs bytes (omega (arith, long.1, part.1)) (subst (λ n. take n xs ≡ bytes) long.1 part.0)
 ]
 
 -- what a reader gave before memory was refused is no longer than the input
@@ -78,8 +77,8 @@ taken_within xs bytes new c le =
     elim (cases_lt (length xs) input_limit) [
       | inl below ↦ let e = ap (λ i. length i.bytes) (below_limit xs below) in omega (arith, e, part.1)
       | inr above ↦
-        let e = ap (λ i. length i.bytes) (at_limit xs (take input_limit xs) above refl) in
-        omega (arith, e, length-take input_limit xs)
+          let e = ap (λ i. length i.bytes) (at_limit xs (take input_limit xs) above refl) in
+          omega (arith, e, length-take input_limit xs)
     ]
 
 module _ (g : Grammar) (sound : IsSoundGrammar g) (settings : Settings) (input : Input) where
@@ -88,30 +87,40 @@ module _ (g : Grammar) (sound : IsSoundGrammar g) (settings : Settings) (input :
       IsCut (rules_of g.rules) g.start settings input a b r →
       (wrote : List ℕ) × Appends a b wrote × StopsAs (RunStates (rules_of g.rules) g.start settings input) settings.limit taken r wrote
   cut_stops a b taken (Ok stop) all (place, text, last, units, wrote, inl refused) =
-      let goes = units_go_on g settings input sound place text units in
-      (text ++ last, wrote, record {
-        stated = without_memory text (length input.bytes);
-        states = no_memory place text goes.reply units goes.replies goes.front;
-        written = (rw (refused.1, append-nil) refl, rw refused.0 refl, rw refused.0 refl);
-        within = omega (arith, all);
-        exact = λ other. absurd (other refused.0);
-      })
-  cut_stops a b taken (Ok stop) all (place, text, last, units, wrote, inr ends) = (text ++ last, wrote, record {
-    stated = reply_of g settings input (text ++ last) stop;
-    states = replied (reply_of g settings input (text ++ last) stop) (replies_there g settings input place text last stop units ends);
-    written = (refl, refl, refl);
-    within = omega (arith, all);
-    exact = λ other. all;
-  })
+      let goes = units_go_on g settings input sound place text units in (
+        text ++ last,
+        wrote,
+        record {
+          stated = without_memory text (length input.bytes);
+          states = no_memory place text goes.reply units goes.replies goes.front;
+          written = (rw (refused.1, append-nil) refl, rw refused.0 refl, rw refused.0 refl);
+          within = omega (arith, all);
+          exact = λ other. absurd (other refused.0);
+        },
+      )
+  cut_stops a b taken (Ok stop) all (place, text, last, units, wrote, inr ends) = (
+    text ++ last,
+    wrote,
+    record {
+      stated = reply_of g settings input (text ++ last) stop;
+      states = replied (reply_of g settings input (text ++ last) stop) (replies_there g settings input place text last stop units ends);
+      written = (refl, refl, refl);
+      within = omega (arith, all);
+      exact = λ other. all;
+    },
+  )
   cut_stops a b taken (Err fault) all (place, k, text, last, units, unit, part) =
-      let goes = unit_goes_on g settings input sound place k text last units unit in
-      (part.0, part.2, record {
-        stated = goes.reply;
-        states = replied goes.reply goes.replies;
-        written = IsBeginning-trans part.0 (text ++ last) goes.reply.out part.1 goes.front;
-        within = omega (arith, all, goes.taken);
-        exact = tt;
-      })
+      let goes = unit_goes_on g settings input sound place k text last units unit in (
+        part.0,
+        part.2,
+        record {
+          stated = goes.reply;
+          states = replied goes.reply goes.replies;
+          written = IsBeginning-trans part.0 (text ++ last) goes.reply.out part.1 goes.front;
+          within = omega (arith, all, goes.taken);
+          exact = tt;
+        },
+      )
 
   -- memory was refused before the first unit
   pub nothing_stops : (taken : List ℕ) → length taken ≤ length input.bytes →
@@ -157,6 +166,6 @@ module _ (g : Grammar) (sound : IsSoundGrammar g) (settings : Settings) where
     part.1,
     Appends-same a,
     let r : Result Stop WriteFault = Ok NoMemory in
-    subst (λ (f : Bool). StopsAs (RunStates (rules_of g.rules) g.start settings (input_from xs part.0 f)) settings.limit part.0 r []) (sym fine)
-    (nothing_stops g sound settings (bounded xs) part.0 (taken_within xs part.0 new part.1 part.2)),
+        subst (λ (f : Bool). StopsAs (RunStates (rules_of g.rules) g.start settings (input_from xs part.0 f)) settings.limit part.0 r []) (sym fine)
+        (nothing_stops g sound settings (bounded xs) part.0 (taken_within xs part.0 new part.1 part.2)),
   )

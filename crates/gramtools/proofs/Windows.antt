@@ -1,12 +1,11 @@
 -- What a window of at most limit + 1 bytes says of the whole rest.
-use Rattle.std.proofs.Common.{◌≡◌, ℕ, zero, suc, ◌+◌, ◌<◌, ◌≤◌, Bool, true, false, List, ◌++◌, length, take, drop, refl, sym, ◌∙◌, ap, subst, arith, nat_lt, inl, inr}
+use Rattle.std.proofs.Common.{◌≡◌, ℕ, suc, ◌<◌, ◌≤◌, Bool, List, ◌++◌, length, take, drop, sym, ◌∙◌, ap, subst, arith, nat_lt, inl, inr}
 use Rattle.std.proofs.lemmas.Bool.{cases_lt}
 use Rattle.std.proofs.lemmas.Grind.{common_steps}
 use Rattle.std.proofs.lemmas.List.{take-append-drop, length-take-le, take_all}
-use Rattle.pegread.specs.Pattern.{Rule}
 use Rattle.pegread.specs.Views.{rules_of}
 use Rattle.gramcheck.specs.Grammar.{Grammar, IsSoundGrammar}
-use Rattle.gramcheck.specs.Outcome.{Outcome, Takes, Event, RuleGives}
+use Rattle.gramcheck.specs.Outcome.{Outcome, Takes, Event}
 use Rattle.gramcheck.specs.Nodes.{shapes_of}
 use Rattle.gramcheck.proofs.Starting.{same_of_start, rises_of_start, grows_of_start, shrinks_of_start, has_of_start}
 use Rattle.pegmatch.specs.Answers.{StartGives, WasEnough}
@@ -36,18 +35,18 @@ module _ (g : Grammar) (x : List ℕ) (limit : ℕ) where
   pub seen : (o : Outcome) (looked : ℕ) → StartGives g window o looked → WasEnough window (nat_lt limit (length x)) looked → Seen g x limit o
   seen o looked d enough = elim (cases_lt limit (length x)) [
     | inl more ↦
-      let lt : looked < length window = enough (grind (arith, common_steps)) in
-      let l = full more in
-      record {
-        looked = looked;
-        gives = subst (λ t. StartGives g t o looked) whole (grows_of_start (rules_of g.rules) g.start window behind looked o lt d);
-        within = omega arith;
-      }
+        let lt : looked < length window = enough (grind (arith, common_steps)) in
+        let l = full more in
+        record {
+          looked = looked;
+          gives = subst (λ t. StartGives g t o looked) whole (grows_of_start (rules_of g.rules) g.start window behind looked o lt d);
+          within = omega arith;
+        }
     | inr all ↦
-      let is : window ≡ x = take_all (suc limit) x (omega arith) in
-      let there : StartGives g x o looked = subst (λ t. StartGives g t o looked) is d in
-      let l = looks_of_start (rules_of g.rules) g.start x o looked there in
-      record { looked = looked; gives = there; within = omega arith }
+        let is : window ≡ x = take_all (suc limit) x (omega arith) in
+        let there : StartGives g x o looked = subst (λ t. StartGives g t o looked) is d in
+        let l = looks_of_start (rules_of g.rules) g.start x o looked there in
+        record { looked = looked; gives = there; within = omega arith }
   ]
 
   -- the text of a success on the window
@@ -65,9 +64,9 @@ module _ (g : Grammar) (x : List ℕ) (limit : ℕ) where
       elim (cases_lt limit some.1) [
         | inl over ↦ (some.0, some.1, some.2, over)
         | inr le ↦
-          let l = full more in
-          let there : StartGives g (window ++ behind) some.0 some.1 = subst (λ t. StartGives g t some.0 some.1) (sym whole) some.2 in
-          let here = shrinks_of_start (rules_of g.rules) g.start window behind some.1 some.0 (omega arith) there in
-          let same = same_of_start (rules_of g.rules) g.start window some.1 (length window) some.0 o here d in
-          absurd (omega (arith, same.looked))
+            let l = full more in
+            let there : StartGives g (window ++ behind) some.0 some.1 = subst (λ t. StartGives g t some.0 some.1) (sym whole) some.2 in
+            let here = shrinks_of_start (rules_of g.rules) g.start window behind some.1 some.0 (omega arith) there in
+            let same = same_of_start (rules_of g.rules) g.start window some.1 (length window) some.0 o here d in
+            absurd (omega (arith, same.looked))
       ]

@@ -1,5 +1,5 @@
 -- What the end of a run tells.
-use Rattle.std.specs.Prelude.{◌≡◌, ℕ, Bool, List, Result, Ok, Err}
+use Rattle.std.specs.Prelude.{ℕ, Bool, List, Result, Ok, Err}
 use Rattle.ruletable.specs.declared.sink.WriteFault.{WriteFault}
 use Rattle.gramtools.specs.Status.{code_of}
 use Rattle.gramtools.specs.Stop.{message_of, status_of, write_error}

@@ -2,6 +2,8 @@
 #![tactic(auto)]
 
 mod engine;
+#[cfg(test)]
+mod fakes;
 mod finish;
 mod input;
 mod run;
@@ -9,12 +11,9 @@ mod settings;
 mod source;
 mod status;
 mod stop;
-mod unit;
-
-#[cfg(test)]
-mod fakes;
 #[cfg(test)]
 mod tests;
+mod unit;
 
 pub use run::run_peg;
 pub use settings::{DEFAULT_LIMIT, MAX_LIMIT, Mode, Settings};

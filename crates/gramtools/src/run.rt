@@ -36,13 +36,20 @@ fn run_units<M: Matcher, R: Source, O: Sink>(
         Consumes (R.remaining reader.old) (R.remaining reader.new) taken ×
         Appends (O.contents out.old) (O.contents out.new) wrote ×
         StopsAs (RunStates (rules_of peg.now.rules) peg.now.start settings.now (input_from given taken (R.failed reader.new)))
-            settings.now.limit taken result wrote) }
+        settings.now.limit taken result wrote) }
     ensures flag { Flags (O.failed out.old) (O.failed out.new) result }
 {
     // its contract says that the grammar is sound
     let _ = peg.nodes();
     match read_all(alloc, reader) {
-        Ok(given) => cut(matcher, peg, settings, given.bytes.as_slice(), given.fault, out),
+        Ok(given) => cut(
+            matcher,
+            peg,
+            settings,
+            given.bytes.as_slice(),
+            given.fault,
+            out,
+        ),
         Err(_) => Ok(Stop::NoMemory),
     }
 }
@@ -71,7 +78,7 @@ fn run_text<M: Matcher, R: Source, O: Sink>(
         Consumes (R.remaining reader.old) (R.remaining reader.new) taken ×
         Appends (O.contents out.old) (O.contents out.new) wrote ×
         StopsAs (States grammar.now settings.now (input_from given taken (R.failed reader.new)))
-            settings.now.limit taken result wrote) }
+        settings.now.limit taken result wrote) }
     ensures flag { Flags (O.failed out.old) (O.failed out.new) result }
 {
     let read = match read_peg(alloc, grammar) {

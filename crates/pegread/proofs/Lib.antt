@@ -1,7 +1,9 @@
 mod Backwards
 mod Basic
+mod Examples
 mod Firsts
 mod Fronts
+mod Marks
 mod Passing
 mod Patterns
 mod Steps

@@ -1,6 +1,7 @@
 pub mod Basic
 pub mod Kinds
 pub mod Machine
+pub mod Marks
 pub mod Pattern
 pub mod Reading
 pub mod Slices

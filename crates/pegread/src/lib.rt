@@ -11,4 +11,4 @@ mod token_lists;
 pub use expr::{Expr, Peg};
 pub use read::{MAX_GRAMMAR, one_tree, read_peg};
 pub use token_iter::{Kind, Token, TokenIter};
-pub use token_lists::{have_tokens, one_list, tokens};
+pub use token_lists::{are_marked, have_tokens, one_list, tokens};

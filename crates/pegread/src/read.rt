@@ -25,6 +25,7 @@ pub const MAX_GRAMMAR: usize = 1048576;
 pub fn read_peg(alloc: Global, text: &[u8]) -> Result<Peg, ReadFault>
     ensures found { IfOk result (λ peg. Reads text.now (rules_of peg.rules)) }
     ensures basic { IfOk result (λ peg. IsBasicGrammar (rules_of peg.rules)) }
+    ensures exact_names { IfOk result (λ peg. peg.rules.names ≡ NameCase.Exact) }
     ensures none_redefined { IfOk result (λ peg. peg.redefined.items ≡ []) }
     ensures only { (rules : List Rule) → Reads text.now rules → MatchResult result (λ peg. rules_of peg.rules ≡ rules) (λ f. f ≡ ReadFault.Memory) }
     ensures fault { IfErr result (λ f. IsFaultOf text.now f) }
@@ -70,6 +71,7 @@ fn read_definition(alloc: Global, text: &[u8]) -> Result<Definition<'_>, ReadFau
 // The grammar of that definition alone.
 fn peg_of(alloc: Global, definition: Definition<'_>) -> Result<Peg, Memory>
     ensures rules { IfOk result (λ peg. rules_of peg.rules ≡ rule_from definition.entry ∷ []) }
+    ensures exact_names { IfOk result (λ peg. peg.rules.names ≡ NameCase.Exact) }
     ensures none_redefined { IfOk result (λ peg. peg.redefined.items ≡ []) }
 {
     let mut rules = RuleTable::new(alloc, NameCase::Exact);
@@ -85,3 +87,6 @@ fn peg_of(alloc: Global, definition: Definition<'_>) -> Result<Peg, Memory>
 pub fn one_tree()
     ensures { (ts : List Tok) → (a b : List Rule) → Grammar ts a → Grammar ts b → a ≡ b }
 {}
+
+#[cfg(test)]
+mod tests;

@@ -1,6 +1,9 @@
 //! The tokens of a whole text.
 ghost use Rattle.std.specs.Prelude.{◌≡◌, ℕ, List, length};
-ghost use Rattle.pegread.specs.Tokens.{AreTokens, IsAtStart, Tok};
+ghost use Rattle.ruletable.specs.declared.span.Span.{Span};
+ghost use Rattle.pegread.specs.declared.token_iter.Kind.TheVariants.{Literal, Action};
+ghost use Rattle.pegread.specs.Marks.{IsQuoted, IsBraced};
+ghost use Rattle.pegread.specs.Tokens.{AreTokens, IsAtStart, Next, Tok, tok};
 
 use crate::token_iter::TokenIter;
 
@@ -22,3 +25,9 @@ pub fn have_tokens(text: &[u8])
 {
     for _token in tokens(text) {}
 }
+
+/// A law: a literal is its content between two quotes of one kind, and an action its text between braces.
+pub fn are_marked()
+    ensures literal { (total : ℕ) (t r z : List ℕ) (p : Span) → Next total t (tok Literal z p) r → IsQuoted z }
+    ensures action { (total : ℕ) (t r z : List ℕ) (p : Span) → Next total t (tok Action z p) r → IsBraced z }
+{}

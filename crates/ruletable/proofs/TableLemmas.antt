@@ -83,12 +83,13 @@ module _ {E : Type 0} where
   pub rules_in-push : (entries : List (Vec ℕ Global × Row E)) (key : Vec ℕ Global) (row : Row E) → rules_in (entries ++ (key, row) ∷ []) ≡ rules_in entries ++ rule_in row ∷ []
   rules_in-push entries key row = map-append (λ entry. rule_in entry.1) entries ((key, row) ∷ [])
 
+  -- a table with one more rule
   pub with_rule : (names : NameCase) (entries new : List (Vec ℕ Global × Row E)) (key : Vec ℕ Global) (row : Row E) (rule : Rule E) → new ≡ entries ++ (key, row) ∷ [] → rule_in row ≡ rule →
       ◌≡◌ {A = Rules E} (record { names = names; rules = rules_in new }) (record { names = names; rules = rules_in entries ++ rule ∷ [] })
   with_rule names entries new key row rule is same =
       ap (λ rules. record { names = names; rules = rules }) (ap rules_in is ∙ rules_in-push entries key row ∙ ap (λ r. rules_in entries ++ r ∷ []) same)
 
-  -- another body for a row leaves the keys, and is that of the rule
+  -- another body in a row is that of the rule
   pub rules_in-set : (entries : List (Vec ℕ Global × Row E)) (id : ℕ) (row : Row E) (w : E) → slice_get (values_of entries) id ≡ Some row →
       rules_in (set_value_at entries id (record { name = row.name; body = w; span = row.span })) ≡ set_body (rules_in entries) id w
   rules_in-set [] id row w at = refl
@@ -96,6 +97,12 @@ module _ {E : Type 0} where
       let same : entry.1 ≡ row = ap (λ o. unwrap_or o row) at in
       ap (λ (r : Row E). record { name = r.name.items; body = w; span = r.span } ∷ rules_in entries) (sym same)
   rules_in-set (entry ∷ entries) (suc id) row w at = ap (λ rules. rule_in entry.1 ∷ rules) (rules_in-set entries id row w at)
+
+  -- and leaves the number of rules, the names, the spans and the other bodies
+  pub length-set_body : (rules : List (Rule E)) (id : ℕ) (w : E) → length (set_body rules id w) ≡ length rules
+  length-set_body [] id w = refl
+  length-set_body (rule ∷ rules) zero w = refl
+  length-set_body (rule ∷ rules) (suc id) w = ap suc (length-set_body rules id w)
 
   pub names_of-set_body : (rules : List (Rule E)) (id : ℕ) (w : E) → map (λ rule. rule.name) (set_body rules id w) ≡ map (λ rule. rule.name) rules
   names_of-set_body [] id w = refl
@@ -112,6 +119,7 @@ module _ {E : Type 0} where
   bodies_of-set_body (rule ∷ rules) zero w = refl
   bodies_of-set_body (rule ∷ rules) (suc id) w = ap (λ l. rule.body ∷ l) (bodies_of-set_body rules id w)
 
+  -- and the keys
   keys_in-set : (entries : List (Vec ℕ Global × Row E)) (id : ℕ) (row : Row E) → keys_in (set_value_at entries id row) ≡ keys_in entries
   keys_in-set [] id row = refl
   keys_in-set (entry ∷ entries) zero row = refl

@@ -18,3 +18,6 @@ pub use number::write_number;
 pub use sink::{Sink, SinkOf, WriteFault, write_pieces, write_whole};
 pub use span::Span;
 pub use table::{Defined, NameCase, RuleTable};
+
+#[cfg(test)]
+mod tests;

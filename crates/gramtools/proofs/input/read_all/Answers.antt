@@ -7,6 +7,15 @@ pub returns-in-Err-extend_from_slice-clause-part : goal.returns-in-Err-extend_fr
 returns-in-Err-extend_from_slice-clause-part g c = (
   _,
   Consumes-join _ _ _ _ _ c.loop-buffer.invariant.taken c.in-Ok.ensures.bytes.0,
-  omega (arith, length-append c.loop-buffer.bytes.items (take c.in-Ok.n c.read.new.buffer), length-take c.in-Ok.n c.read.new.buffer,
-      c.read.auto.buffer, length-take c.min-most.result c.loop-buffer.buffer, c.loop-buffer.invariant.within, c.in-Ok.ensures.within, c.min-most.ensures, c.len-room.ensures),
+  omega (
+    arith,
+    length-append c.loop-buffer.bytes.items (take c.in-Ok.n c.read.new.buffer),
+    length-take c.in-Ok.n c.read.new.buffer,
+    c.read.auto.buffer,
+    length-take c.min-most.result c.loop-buffer.buffer,
+    c.loop-buffer.invariant.within,
+    c.in-Ok.ensures.within,
+    c.min-most.ensures,
+    c.len-room.ensures,
+  ),
 )

@@ -1,5 +1,4 @@
 -- What was read, and what was written of it.
-use Rattle.std.proofs.Common.{◌≡◌}
 use Rattle.gramtools.proofs.Stopping.{nothing_was_written, units_were_written}
 use Rattle.gramtools.proofs.run.run_units.Goals as goal
 
