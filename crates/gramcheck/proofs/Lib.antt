@@ -8,3 +8,4 @@ pub mod Patterns
 pub mod Rising
 pub mod Shrinking
 pub mod Starting
+mod Examples

@@ -3,10 +3,9 @@
 
 use gramtools::{SourceOf, pegi_main};
 use ruletable::SinkOf;
-use std::env;
-use std::io;
 use std::io::BufWriter;
 use std::process::ExitCode;
+use std::{env, io};
 
 fn main(rt: HostRuntime) -> io::Result<ExitCode> {
     let words: Vec<String> = env::args(&rt)?.collect(rt.alloc())?;

@@ -6,3 +6,4 @@ pub mod Spelled
 pub mod Steps
 pub mod Trimming
 pub mod Units
+mod Examples

@@ -7,10 +7,12 @@ use Rattle.pegread.specs.Pattern.{Pattern, Any, Bytes, Act, Open, Close, Pattern
 use Rattle.pegread.specs.Tokens.{Tok, tok}
 use Rattle.pegread.specs.Spelling.{sequence, choice, has_backslash, inside, rule_at}
 
+-- one list of members behind another
 abbrev pub append : Patterns → Patterns → Patterns
 append none fs = fs
 append (more e es) fs = more e (append es fs)
 
+-- one member more
 abbrev pub snoc : Patterns → Pattern → Patterns
 snoc es e = append es (more e none)
 
@@ -25,14 +27,17 @@ pub data Config : Type 0 where
   body : List ℕ → Span → Patterns → Patterns → Config
   done : Rule → Config
 
+-- the first token is the definition's name
 abbrev pub start_step : Kind → List ℕ → Span → Option Config
 start_step Ident z p = Some (named z p)
 start_step _ z p = None
 
+-- the second is the arrow
 abbrev pub named_step : List ℕ → Span → Kind → Option Config
 named_step n p Arrow = Some (body n p none none)
 named_step n p _ = None
 
+-- each further one adds an item, ends a sequence, or ends the whole
 abbrev pub body_step : List ℕ → Span → Patterns → Patterns → Kind → List ℕ → Option Config
 body_step n p bs es Literal z = cond (has_backslash (inside z)) None (Some (body n p bs (snoc es (Bytes (inside z)))))
 body_step n p bs es Dot z = Some (body n p bs (snoc es Any))
@@ -50,6 +55,7 @@ step (named n p) (tok k z q) = named_step n p k
 step (body n p bs es) (tok k z q) = body_step n p bs es k z
 step (done r) t = None
 
+-- all steps of a list
 abbrev pub run : Config → List Tok → Option Config
 run c [] = Some c
 run c (k ∷ ts) = elim (step c k) [ None ↦ None | Some d ↦ run d ts ]

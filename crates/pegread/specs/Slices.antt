@@ -4,15 +4,19 @@ use Rattle.std.specs.Char.{is_ascii_alphabetic, is_ascii_alphanumeric}
 use Rattle.pegread.specs.declared.token_iter.Kind.{Kind}
 use Rattle.pegread.specs.declared.token_iter.Kind.TheVariants.{Ident, Arrow, Begin, EndCap, Slash, Dot, Literal, Action, Bad, End}
 
+-- letters and `_`
 abbrev pub starts_name : ℕ → Bool
 starts_name b = is_ascii_alphabetic b || (b == 95)
 
+-- letters, digits and `_`
 abbrev pub continues_name : ℕ → Bool
 continues_name b = is_ascii_alphanumeric b || (b == 95)
 
+-- space, tab, LF and CR
 abbrev pub is_blank : ℕ → Bool
 is_blank b = (b == 32) || (b == 9) || (b == 10) || (b == 13)
 
+-- LF and CR
 abbrev pub ends_line : ℕ → Bool
 ends_line b = (b == 10) || (b == 13)
 
@@ -43,16 +47,18 @@ pub data Comment : List ℕ → List ℕ → Type 0 where
   ended : {r : List ℕ} → IsLineEnd r → Comment r r
   inside : {b : ℕ} {bs r : List ℕ} → ends_line b ≡ false → Comment bs r → Comment (b ∷ bs) r
 
--- white space
+-- white space: blanks and comments, as far as one likes
 pub data White : List ℕ → List ℕ → Type 0 where
   no_more : {r : List ℕ} → White r r
   blank : {b : ℕ} {bs r : List ℕ} → is_blank b ≡ true → White bs r → White (b ∷ bs) r
   comment : {bs m r : List ℕ} → Comment bs m → White m r → White (35 ∷ bs) r
 
+-- the text's first byte, if it has one, begins no white space
 abbrev pub IsNotWhite : List ℕ → Type 0
 IsNotWhite [] = Unit {0}
 IsNotWhite (b ∷ bs) = (is_blank b ≡ false) × (b ≢ 35)
 
+-- the text doesn't begin with `-`, which would make an arrow of a `<` before it
 abbrev pub NoDash : List ℕ → Type 0
 NoDash [] = Unit {0}
 NoDash (b ∷ bs) = b ≢ 45

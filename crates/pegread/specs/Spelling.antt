@@ -17,6 +17,7 @@ choice none = Choice none
 choice (more e none) = e
 choice (more e (more f es)) = Choice (more e (more f es))
 
+-- whether byte 92 is among them
 abbrev pub has_backslash : List ℕ → Bool
 has_backslash [] = false
 has_backslash (b ∷ bs) = (b == 92) || has_backslash bs
@@ -43,6 +44,7 @@ pub data Alternatives : List Tok → List Tok → Patterns → Type 0 where
   only : {s r : List Tok} {es : Patterns} → Items s r es → Alternatives s r (more (sequence es) none)
   further : {s m r : List Tok} {z : List ℕ} {p : Span} {es bs : Patterns} → Items s (tok Slash z p ∷ m) es → Alternatives m r bs → Alternatives s r (more (sequence es) bs)
 
+-- the rule of that name, which stands there, with that body
 abbrev pub rule_at : List ℕ → Span → Pattern → Rule
 rule_at name span body = record { name = name; body = body; span = span }
 

@@ -11,15 +11,18 @@ use Rattle.pegread.specs.Spelling.{sequence, rule_at}
 use Rattle.pegread.specs.Machine.{Config, start, named, body, done, snoc}
 use Rattle.pegread.specs.Views.{pattern_of, patterns_of}
 
+-- the rule that was read
 abbrev pub rule_from : Definition → Rule
 rule_from d = rule_at d.name.now d.span (pattern_of d.body)
 
+-- what the reader has come to
 abbrev pub config_of : Reader → Config
 config_of readers.Start = start
 config_of (readers.Named name span) = named name.now span
 config_of (readers.Open b) = body b.name.now b.span (patterns_of b.alternatives.items) (patterns_of b.items.items)
 config_of (readers.Done d) = done (rule_from d)
 
+-- the reader stopped where the machine has no step, or for want of memory
 abbrev pub Stops : Option Config → Stop → Type 0
 Stops x stops.Hopeless = x ≡ None
 Stops x stops.Memory = Unit {0}

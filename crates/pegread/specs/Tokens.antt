@@ -12,6 +12,7 @@ use Rattle.pegread.specs.Slices.{White, First}
 pub data Tok : Type 0 where
   tok : Kind → List ℕ → Span → Tok
 
+-- its parts
 abbrev pub kind_of : Tok → Kind
 kind_of (tok k z p) = k
 
@@ -51,6 +52,7 @@ abbrev pub GivesToken : TokenIter → Option Token → TokenIter → Type 0
 GivesToken s r t = (total_of t ≡ total_of s) × MatchOption r ((s.ended ≡ true) × (t.ended ≡ true))
     (λ x. (s.ended ≡ false) × Next (total_of s) s.rest.now (tok_of x) t.rest.now × (t.ended ≡ is_end x.kind))
 
+-- at most so many calls give a token
 abbrev pub tokens_bound : TokenIter → Count
 tokens_bound s = at_most (cond s.ended 0 (length s.rest.now + 1))
 
@@ -66,6 +68,7 @@ AreLeft s ts = cond s.ended (ts ≡ []) (AreTokens (total_of s) s.rest.now ts)
 abbrev pub TakesFirst : TokenIter → Option Token → TokenIter → Type 0
 TakesFirst s r t = (ts : List Tok) → AreLeft s ts → MatchOption r (ts ≡ []) (λ x. (others : List Tok) × (ts ≡ tok_of x ∷ others) × AreLeft t others)
 
+-- both
 pub record GivesFirst (s : TokenIter) (r : Option Token) (t : TokenIter) : Type 0 where
   pub step : GivesToken s r t
   pub first : TakesFirst s r t

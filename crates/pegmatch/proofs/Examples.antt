@@ -1,0 +1,42 @@
+-- Worked examples of printed text, each computed.
+use Rattle.std.proofs.Common.{◌≡◌, ℕ, List, [], ◌∷◌, ◌++◌, refl, true, false, append_assoc, append-nil, decimal}
+use Rattle.std.specs.Prelude.{codes}
+use Rattle.gramcheck.specs.Outcome.{Event, Opened, Closed, Acted}
+use Rattle.pegmatch.specs.Text.{Word, Other, pieces_of, filled, trimmed, printed, text_of}
+
+-- word bytes that stand side by side are one run
+runs_are_maximal : pieces_of (codes "a1_ b") ≡ Word (codes "a1_") ∷ (Other 32 ∷ (Word (codes "b") ∷ []))
+runs_are_maximal = refl
+
+-- `{ yytext yyleng yytextual }` with the capture `yyleng`: a longer run stands, and what is put in is not looked at again
+words : text_of false (codes "yyleng") (Opened 0 ∷ (Closed 6 ∷ (Acted (codes " yytext yyleng yytextual ") ∷ []))) ≡
+    codes "yyleng " ++ ((decimal 6 ++ codes " yytextual") ++ codes "\n")
+words = simp (append_assoc, append-nil)
+
+-- `{ USER }` prints its template without the blanks at its ends, on a line
+blanks_are_cut : text_of false [] (Acted (codes " USER ") ∷ []) ≡ codes "USER\n"
+blanks_are_cut = refl
+
+-- a captured LF stands: `< . > { yytext }` at an LF
+captured_line_end : text_of false (10 ∷ []) (Opened 0 ∷ (Closed 1 ∷ (Acted (codes " yytext ") ∷ []))) ≡ 10 ∷ (10 ∷ [])
+captured_line_end = refl
+
+-- before any capture it is empty
+no_capture : text_of false (codes "a") (Acted (codes "[yytext]") ∷ []) ≡ codes "[]\n"
+no_capture = refl
+
+-- a close with no open before it changes nothing
+close_alone : text_of true (codes "ab") (Closed 2 ∷ (Acted (codes "[yytext]") ∷ [])) ≡ codes "[]"
+close_alone = refl
+
+-- a second close uses the same start
+second_close : text_of true (codes "abc") (Opened 0 ∷ (Closed 1 ∷ (Closed 3 ∷ (Acted (codes "yytext") ∷ [])))) ≡ codes "abc"
+second_close = refl
+
+-- C in a template stands as it is, but for the words: `{ putchar(yytext[0]); }`
+code_stands : text_of false (codes "h") (Opened 0 ∷ (Closed 1 ∷ (Acted (codes " putchar(yytext[0]); ") ∷ []))) ≡ codes "putchar(h[0]);\n"
+code_stands = refl
+
+-- raw: the template as it is, and no LF
+raw_text : text_of true (codes "a") (Opened 0 ∷ (Closed 1 ∷ (Acted (codes "yytext-") ∷ []))) ≡ codes "a-"
+raw_text = refl
