@@ -1,12 +1,12 @@
 -- What the steps at the end of a run tell together.
-use Rattle.std.proofs.Common.{◌≡◌, ℕ, ◌≤◌, Option, List, [], ◌++◌, refl, sym, ◌∙◌, ap, true, false, Bool, ◌⊎◌}
+use Rattle.std.proofs.Common.{◌≡◌, ℕ, ◌≤◌, Option, List, [], ◌++◌, refl, sym, ◌∙◌, ap, true, false, Bool, ◌⊎◌, inl, inr}
 use Rattle.std.specs.Prelude.{Result, Ok, Err}
 use Rattle.std.proofs.lemmas.List.{append-nil}
 use Rattle.std.specs.Io.KnownBytes.{Appends, Keeps}
 use Rattle.ruletable.specs.Writing.{Flags}
 use Rattle.ruletable.specs.Writing.{IsBeginning, Writes}
 use Rattle.ruletable.specs.declared.sink.WriteFault.{WriteFault}
-use Rattle.ruletable.proofs.Taken.{Appends-join, Appends-kept, IsBeginning-same, IsBeginning-nil, IsBeginning-after}
+use Rattle.ruletable.proofs.Taken.{Appends-join, Appends-kept, IsBeginning-same, IsBeginning-join, IsBeginning-after}
 use Rattle.gramtools.specs.declared.stop.Stop.{Stop}
 use Rattle.gramtools.specs.Stop.{message_of, status_of, write_error}
 use Rattle.gramtools.specs.Delivery.{Reports}
@@ -35,18 +35,30 @@ module _ (limit : ℕ) (out_was out_now err_told err_flushed err_now : Bool) (e0
   clean : err_now ≡ false → err_told ≡ false
   clean isnt = not_true err_told err_now (λ e. stays (flushes.err_stays e)) isnt
 
+  -- where the output's flush failed: all of the text was told before, or the error output had failed
+  told_before : (text : List ℕ) (bad : out_now ≡ true) → out_was ≡ false → (f : First e0 e1 err_told text) → (b : Bool) → err_told ≡ b →
+      (front : List ℕ) × ((front ≡ []) ⊎ (front ≡ text)) × IsBeginning (f.told ++ more) (front ++ write_error) ×
+      (err_now ≡ false → f.told ++ more ≡ front ++ write_error)
+  told_before text bad was f true e = (
+    text,
+    inr refl,
+    rw (flushes.silent e, append-nil) (IsBeginning-join f.told text write_error f.part),
+    λ err_ok. let fine : err_told ≡ false = clean err_ok in absurd (cc),
+  )
+  told_before text bad was f false e = (
+    text,
+    inr refl,
+    rw (f.whole e) (IsBeginning-after text more write_error flushes.part),
+    λ err_ok. rw (f.whole e) (ap (λ w. text ++ w) (flushes.whole was bad (not_true err_flushed err_now stays err_ok))),
+  )
+
   -- after a stop
   reports_stop : (text : List ℕ) (stated : ℕ) → out_was ≡ false → (f : First e0 e1 err_told text) →
       (out_now ≡ false → err_now ≡ false → code ≡ stated) → Reports text stated out_now err_now (f.told ++ more) code
   reports_stop text stated was f same = record {
     whole = λ out_ok err_ok. (rw (flushes.quiet (out_ok ∙ sym was), append-nil) (f.whole (clean err_ok)), same out_ok err_ok);
     part = λ out_ok. rw (flushes.quiet (out_ok ∙ sym was), append-nil) f.part;
-    before = λ out_bad. (
-      f.told,
-      f.part,
-      IsBeginning-after f.told more write_error flushes.part,
-      λ err_ok. ap (λ w. f.told ++ w) (flushes.whole was out_bad (not_true err_flushed err_now stays err_ok)),
-    );
+    before = λ out_bad. told_before text out_bad was f err_told refl;
     status = high;
   }
 
@@ -60,7 +72,7 @@ module _ (limit : ℕ) (out_was out_now err_told err_flushed err_now : Bool) (e0
         part = λ out_ok. absurd (cc);
         before = λ out_bad. (
           [],
-          IsBeginning-nil text,
+          inl refl,
           rw (flushes.quiet (bad ∙ sym was), append-nil) f.part,
           λ err_ok. rw (flushes.quiet (bad ∙ sym was), append-nil) (f.whole (clean err_ok)),
         );

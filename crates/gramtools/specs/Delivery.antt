@@ -1,5 +1,5 @@
 -- What a run states, and how much of it reaches writers that may fail.
-use Rattle.std.specs.Prelude.{◌≡◌, ℕ, ◌≤◌, Bool, true, false, List, ◌++◌, ◌⊎◌}
+use Rattle.std.specs.Prelude.{◌≡◌, ℕ, ◌≤◌, Bool, true, false, List, [], ◌++◌, ◌⊎◌}
 use Rattle.ruletable.specs.Writing.{IsBeginning}
 use Rattle.gramtools.specs.Reply.{Reply}
 use Rattle.gramtools.specs.Stop.{write_error}
@@ -14,11 +14,11 @@ pub record Observed : Type 0 where
   pub err_failed : Bool
   pub status : ℕ
 
--- the error output holds the text; where the output failed, a beginning of it and then `write error`
+-- The error output holds the text, or a beginning of it where it failed. Where the output failed, it holds `write error` alone or behind all of the text, or a beginning of that where it failed too.
 pub record Reports (text : List ℕ) (stated : ℕ) (out_failed err_failed : Bool) (err : List ℕ) (code : ℕ) : Type 0 where
   pub whole : out_failed ≡ false → err_failed ≡ false → (err ≡ text) × (code ≡ stated)
   pub part : out_failed ≡ false → IsBeginning err text
-  pub before : out_failed ≡ true → (front : List ℕ) × IsBeginning front text × IsBeginning err (front ++ write_error) ×
+  pub before : out_failed ≡ true → (front : List ℕ) × ((front ≡ []) ⊎ (front ≡ text)) × IsBeginning err (front ++ write_error) ×
       (err_failed ≡ false → err ≡ front ++ write_error)
   pub status : (out_failed ≡ true) ⊎ (err_failed ≡ true) → 4 ≤ code
 

@@ -1,5 +1,9 @@
 pub mod Basic
+pub mod CharLaws
+pub mod Chars
+pub mod Classes
 pub mod Kinds
+pub mod Literals
 pub mod Machine
 pub mod Marks
 pub mod Pattern

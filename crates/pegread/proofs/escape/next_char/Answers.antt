@@ -1,0 +1,5 @@
+use Rattle.pegread.proofs.Forms.{char-plain}
+use Rattle.pegread.proofs.escape.next_char.Goals as goal
+
+pub returns-else-first-eq92 : goal.returns-else-first-eq92
+returns-else-first-eq92 c = rw (c.in_ok-first.ensures.cases.0) (char-plain c.if-first-eq92.false)

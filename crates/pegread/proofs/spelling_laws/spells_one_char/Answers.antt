@@ -1,0 +1,5 @@
+use Rattle.pegread.proofs.CharFronts.{char-one}
+use Rattle.pegread.proofs.spelling_laws.spells_one_char.Goals as goal
+
+pub returns : goal.returns
+returns c = char-one

@@ -1,0 +1,5 @@
+use Rattle.pegread.proofs.Quoted.{one-literal}
+use Rattle.pegread.proofs.spelling_laws.spells_one_literal.Goals as goal
+
+pub returns : goal.returns
+returns c = one-literal

@@ -1,0 +1,5 @@
+use Rattle.pegread.proofs.CharFronts.{some-char, no-char}
+use Rattle.pegread.proofs.spelling_laws.spells_some_char.Goals as goal
+
+pub returns : goal.returns
+returns c = record { some = some-char; none = no-char }

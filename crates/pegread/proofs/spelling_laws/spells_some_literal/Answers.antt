@@ -1,0 +1,5 @@
+use Rattle.pegread.proofs.Quoted.{some-literal}
+use Rattle.pegread.proofs.spelling_laws.spells_some_literal.Goals as goal
+
+pub returns : goal.returns
+returns c = some-literal

@@ -1,0 +1,84 @@
+//! The sets of classes.
+ghost use Rattle.std.specs.Prelude.{◌≡◌, ◌≢◌, ℕ, false, [], ◌∷◌, length, get_or, MatchOption};
+ghost use Rattle.pegread.specs.Chars.{Paired};
+ghost use Rattle.pegread.specs.Classes.{IsClass, GoesOn, NoHat, Item, SpellsItems, SpellsSet};
+
+use crate::escape::next_char;
+use crate::literal::inside;
+use ruletable::ByteSet;
+
+/// The set of bytes that a class's slice spells: that of its items, or after a `^` that directly follows the bracket, of all other bytes.
+pub fn class_set(slice: &[u8]) -> ByteSet
+    requires { IsClass slice.now }
+    ensures { SpellsSet slice.now (λ b. get_or result b false) }
+{
+    let text = inside(slice);
+    match after_hat(text) {
+        Some(items) => items_set(items).complement(),
+        None => items_set(text),
+    }
+}
+
+// What stands behind a plain `^` that begins the text.
+fn after_hat(text: &[u8]) -> Option<&[u8]>
+    ensures { MatchOption result (NoHat text.now) (λ x. text.now ≡ 94 ∷ x.now) }
+{
+    let (first, tail) = text.split_first()?;
+    if *first == b'^' { Some(tail) } else { None }
+}
+
+// The set of the items that a text spells, one behind the other.
+fn items_set(text: &[u8]) -> ByteSet
+    requires { Paired text.now }
+    ensures items { SpellsItems text.now (λ b. get_or result b false) }
+    ensures count { length result ≡ 256 }
+{
+    let mut set = ByteSet::new();
+    let mut rest = text;
+    while let Some(item) = next_item(rest) {
+        set.add_range(item.first, item.last);
+        rest = item.behind;
+    }
+    set
+}
+
+// An item of a class: its first and its last byte, and what stands behind it.
+#[derive(Clone, Copy)]
+struct ClassItem<'a> {
+    first: u8,
+    last: u8,
+    behind: &'a [u8],
+}
+
+// The item at the front of a text.
+fn next_item(text: &[u8]) -> Option<ClassItem<'_>>
+    requires { Paired text.now }
+    ensures { MatchOption result (text.now ≡ []) (λ x. Item text.now x.behind.now x.first x.last) }
+{
+    let (first, rest) = next_char(text)?;
+    let Some(end) = after_dash(rest) else {
+        return Some(ClassItem {
+            first,
+            last: first,
+            behind: rest,
+        });
+    };
+    let (last, behind) = next_char(end)?;
+    Some(ClassItem {
+        first,
+        last,
+        behind,
+    })
+}
+
+// What stands behind a plain `-` that doesn't end the class.
+fn after_dash(text: &[u8]) -> Option<&[u8]>
+    ensures { MatchOption result (GoesOn text.now → ⊥) (λ x. (text.now ≡ 45 ∷ x.now) × (x.now ≢ [])) }
+{
+    let (first, tail) = text.split_first()?;
+    if *first == b'-' && !tail.is_empty() {
+        Some(tail)
+    } else {
+        None
+    }
+}

@@ -1,0 +1,119 @@
+//! The characters of literals and classes: bytes as they are, and escapes.
+ghost use Rattle.std.specs.Prelude.{◌≡◌, ◌≢◌, ℕ, ◌+◌, ◌≤◌, [], ◌∷◌, MatchOption};
+ghost use Rattle.pegread.specs.Chars.{Octal, Hex, Letter, DigitFirst, NoDigit, Char, SpellsNone};
+
+/// The byte that is spelled at the front of a text, and what stands behind its spelling: the longest that peg(1) knows there.
+/// `None` exactly for the empty text and for a backslash alone.
+pub fn next_char(text: &[u8]) -> Option<(u8, &[u8])>
+    ensures { MatchOption result (SpellsNone text.now) (λ x. Char text.now x.1.now x.0) }
+{
+    let (first, tail) = text.split_first()?;
+    if *first == b'\\' {
+        next_escape(tail)
+    } else {
+        Some((*first, tail))
+    }
+}
+
+// What a backslash and the text behind it spell.
+fn next_escape(text: &[u8]) -> Option<(u8, &[u8])>
+    ensures { MatchOption result (text.now ≡ []) (λ x. Char (92 ∷ text.now) x.1.now x.0) }
+{
+    let (first, tail) = text.split_first()?;
+    if *first == b'x' {
+        return Some(hex_escape(tail));
+    }
+    if let Some(value) = octal_digit(*first) {
+        return Some(octal_escape(value, tail));
+    }
+    match letter_byte(*first) {
+        Some(byte) => Some((byte, tail)),
+        None => Some((*first, tail)),
+    }
+}
+
+// What `\x` and the text behind it spell: without a digit, an `x`.
+fn hex_escape(text: &[u8]) -> (u8, &[u8])
+    ensures { Char (92 ∷ 120 ∷ text.now) result.1.now result.0 }
+{
+    let Some((high, behind)) = next_hex(text) else {
+        return (b'x', text);
+    };
+    match next_hex(behind) {
+        Some((low, rest)) => (high * 16 + low, rest),
+        None => (high, behind),
+    }
+}
+
+// What a backslash, the octal digit of that value and the text behind it spell: a third digit counts only where the first is at most 3.
+fn octal_escape(first: u8, text: &[u8]) -> (u8, &[u8])
+    requires { first ≤ 7 }
+    ensures { Char (92 ∷ (48 + first) ∷ text.now) result.1.now result.0 }
+{
+    let Some((second, behind)) = next_octal(text) else {
+        return (first, text);
+    };
+    let two = first * 8 + second;
+    if first > 3 {
+        return (two, behind);
+    }
+    match next_octal(behind) {
+        Some((third, rest)) => (two * 8 + third, rest),
+        None => (two, behind),
+    }
+}
+
+// The octal digit that begins a text: its value, and what stands behind it.
+fn next_octal(text: &[u8]) -> Option<(u8, &[u8])>
+    ensures { MatchOption result (NoDigit Octal text.now) (λ x. (x.0 ≤ 7) × DigitFirst Octal text.now x.1.now x.0) }
+{
+    let (first, tail) = text.split_first()?;
+    let value = octal_digit(*first)?;
+    Some((value, tail))
+}
+
+// The hexadecimal digit that begins a text: its value, and what stands behind it.
+fn next_hex(text: &[u8]) -> Option<(u8, &[u8])>
+    ensures { MatchOption result (NoDigit Hex text.now) (λ x. (x.0 ≤ 15) × DigitFirst Hex text.now x.1.now x.0) }
+{
+    let (first, tail) = text.split_first()?;
+    let value = hex_digit(*first)?;
+    Some((value, tail))
+}
+
+fn octal_digit(b: u8) -> Option<u8>
+    ensures { MatchOption result ((n : ℕ) → Octal b n → ⊥) (λ n. (b ≡ 48 + n) × (n ≤ 7)) }
+{
+    match b {
+        b'0'..=b'7' => Some(b - b'0'),
+        _ => None,
+    }
+}
+
+fn hex_digit(b: u8) -> Option<u8>
+    ensures { MatchOption result ((n : ℕ) → Hex b n → ⊥) (λ n. (n ≤ 15) × Hex b n) }
+{
+    match b {
+        b'0'..=b'9' => Some(b - b'0'),
+        b'A'..=b'F' => Some(b - b'A' + 10),
+        b'a'..=b'f' => Some(b - b'a' + 10),
+        _ => None,
+    }
+}
+
+// The byte that a letter behind a backslash stands for.
+fn letter_byte(b: u8) -> Option<u8>
+    ensures { MatchOption result ((c : ℕ) → Letter b c → ⊥) (λ c. Letter b c) }
+{
+    match b {
+        b'a' => Some(7),
+        b'b' => Some(8),
+        b'e' => Some(27),
+        b'f' => Some(12),
+        b'n' => Some(10),
+        b'r' => Some(13),
+        b't' => Some(9),
+        b'v' => Some(11),
+        _ => None,
+    }
+}

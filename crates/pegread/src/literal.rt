@@ -1,0 +1,41 @@
+//! The bytes of literals.
+ghost use Rattle.std.specs.Prelude.{◌≡◌, ℕ, ◌≤◌, List, [], ◌∷◌, ◌++◌, length, IfOk};
+ghost use Rattle.pegread.specs.Chars.{Chars, Paired};
+ghost use Rattle.pegread.specs.Literals.{IsLiteral, SpellsBytes};
+
+use crate::escape::next_char;
+use ruletable::Memory;
+use std::alloc::Global;
+
+/// The bytes that a literal's slice spells between its quotes.
+///
+/// # Errors
+/// `Memory` where a growth was refused.
+pub fn literal_bytes(alloc: Global, slice: &[u8]) -> Result<Vec<u8>, Memory>
+    requires { IsLiteral slice.now }
+    ensures { IfOk result (λ bytes. SpellsBytes slice.now bytes.items) }
+{
+    text_bytes(alloc, inside(slice))
+}
+
+// The bytes that a text spells, one behind the other.
+fn text_bytes(alloc: Global, text: &[u8]) -> Result<Vec<u8>, Memory>
+    requires { Paired text.now }
+    ensures { IfOk result (λ bytes. Chars text.now bytes.items) }
+{
+    let mut bytes = Vec::new(alloc);
+    let mut rest = text;
+    while let Some((byte, behind)) = next_char(rest) {
+        bytes.push(byte)?;
+        rest = behind;
+    }
+    Ok(bytes)
+}
+
+/// What stands between the first and the last byte of a slice.
+pub(crate) fn inside(slice: &[u8]) -> &[u8]
+    requires { 2 ≤ length slice.now }
+    ensures { (first last : ℕ) (text : List ℕ) → slice.now ≡ first ∷ (text ++ last ∷ []) → result.now ≡ text }
+{
+    &slice[1..slice.len() - 1]
+}
