@@ -6,6 +6,7 @@ mod engine;
 mod fakes;
 mod finish;
 mod input;
+mod mains;
 mod run;
 mod settings;
 mod source;
@@ -15,6 +16,7 @@ mod stop;
 mod tests;
 mod unit;
 
+pub use mains::pegi_main;
 pub use run::run_peg;
 pub use settings::{DEFAULT_LIMIT, MAX_LIMIT, Mode, Settings};
 pub use source::{Broken, Source, SourceOf};

@@ -22,6 +22,8 @@ pub enum Stop {
     NoMemory,
     /// The grammar's text has this fault.
     Refused(ReadFault),
+    /// The grammar's file cannot be read.
+    Unreadable,
 }
 
 /// The status of a run that stopped so.
@@ -35,6 +37,7 @@ pub fn status(stop: Stop) -> Status
         Stop::Broken => Status::Fault,
         Stop::NoMemory => Status::NoMemory,
         Stop::Refused(_) => Status::Refused,
+        Stop::Unreadable => Status::Fault,
     }
 }
 
@@ -50,6 +53,7 @@ pub fn write_stop<W: Sink>(stop: Stop, limit: usize, w: &mut W) -> Result<(), Wr
         Stop::Broken => write_whole(w, b"read error\n"),
         Stop::NoMemory => write_whole(w, b"out of memory\n"),
         Stop::Refused(fault) => write_fault(&fault, w),
+        Stop::Unreadable => write_whole(w, b"cannot read the grammar\n"),
     }
 }
 
