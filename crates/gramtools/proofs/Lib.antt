@@ -1,9 +1,10 @@
+pub mod Cuts
+pub mod Deciding
 pub mod FinishLemmas
+pub mod Going
 pub mod Looking
+pub mod Rightness
+pub mod Steps
+pub mod Stopping
 pub mod Texts
 pub mod Windows
-pub mod Steps
-pub mod Cuts
-pub mod Going
-pub mod Stopping
-pub mod Rightness

@@ -6,6 +6,7 @@ mod engine;
 mod fakes;
 mod finish;
 mod input;
+mod laws;
 mod mains;
 mod run;
 mod settings;
@@ -16,6 +17,7 @@ mod stop;
 mod tests;
 mod unit;
 
+pub use laws::{one_reply, one_statement};
 pub use mains::pegi_main;
 pub use run::run_peg;
 pub use settings::{DEFAULT_LIMIT, MAX_LIMIT, Mode, Settings};

@@ -1,0 +1,250 @@
+-- The units of an input and how a run on it ends are determined, and so is its reply; and so are a text's rules.
+use Rattle.std.proofs.Common.{◌≡◌, ◌≢◌, ℕ, ◌+◌, ◌<◌, ◌≤◌, true, List, [], ◌++◌, length, drop, refl, sym, ◌∙◌, ap, subst, arith}
+use Rattle.std.proofs.lemmas.List.{take-append-drop}
+use Rattle.ruletable.specs.declared.fault.ReadFault.{ReadFault}
+use Rattle.ruletable.specs.declared.fault.ReadFault.TheVariants as faults
+use Rattle.pegread.specs.Pattern.{Rule}
+use Rattle.pegread.specs.Reading.{Reads, IsFaultOf}
+use Rattle.pegread.specs.Spelling.{Grammar}
+use Rattle.pegread.specs.Tokens.{Tok, AreTokens}
+use Rattle.gramcheck.specs.Outcome.{Outcome, Fails, Takes, RuleGives}
+use Rattle.gramcheck.proofs.Starting.{same_of_start}
+use Rattle.gramtools.specs.Input.{Input}
+use Rattle.gramtools.specs.Reply.{Reply, Replies}
+use Rattle.gramtools.specs.Status.{code_of}
+use Rattle.gramtools.specs.Stop.{message_of, status_of}
+use Rattle.gramtools.specs.Units.{rest_from, MayRun, GivesAt, IsUnit, Units, none, one_more, Ends, broken, overlong, no_match, finished, empty_before_end, empty_at_end}
+use Rattle.gramtools.specs.declared.settings.Settings.{Settings}
+use Rattle.gramtools.specs.declared.stop.Stop.{Stop}
+
+-- two replies of the same parts
+same_reply : (a b : Reply) → a.out ≡ b.out → a.err ≡ b.err → a.status ≡ b.status → a.taken ≡ b.taken → a ≡ b
+same_reply a b out err status taken =
+    let is : record { out = a.out; err = a.err; status = a.status; taken = a.taken } ≡ record { out = b.out; err = b.err; status = b.status; taken = b.taken } = cc in is
+
+module _ (rules : List Rule) (start : ℕ) (settings : Settings) (input : Input) where
+  abbrev Gives : ℕ → Outcome → Type 0
+  Gives s o = GivesAt rules start settings input s o
+
+  abbrev UnitAt : ℕ → ℕ → List ℕ → Type 0
+  UnitAt s k text = IsUnit rules start settings input s k text
+
+  abbrev UnitsTo : ℕ → List ℕ → Type 0
+  UnitsTo s text = Units rules start settings input s text
+
+  abbrev EndsAt : ℕ → List ℕ → Stop → Type 0
+  EndsAt s last stop = Ends rules start settings input s last stop
+
+  -- one outcome at a place
+  one_gift : (s : ℕ) (o c : Outcome) (d : Gives s o) (g : Gives s c) → o ≡ c
+  one_gift s o c d g =
+      (same_of_start rules start (rest_from input s) d.looked g.looked o c d.gives g.gives).outcome
+
+  -- two units are the same
+  record OneUnit (k j : ℕ) (text other : List ℕ) : Type 0 where
+    bytes : k ≡ j
+    texts : text ≡ other
+
+  -- one number of bytes and one text at a place
+  one_unit : (s k j : ℕ) (text other : List ℕ) → UnitAt s k text → UnitAt s j other → OneUnit k j text other
+  one_unit s k j text other u v =
+      let h = one_gift s (Takes k u.events) (Takes j v.events) u.gives v.gives in
+      let events : u.events ≡ v.events = cc in
+      record { bytes = cc; texts = let p = u.prints in let q = v.prints in cc }
+
+  -- a unit of some bytes leads from s to s' or before it
+  record Reaches (s s' : ℕ) : Type 0 where
+    bytes : ℕ
+    text : List ℕ
+    unit : UnitAt s bytes text
+    some : 0 < bytes
+    within : s + bytes ≤ s'
+
+  -- two places to which units lead: the same, with the same text, or from one of them a unit leads on towards the other
+  data Compares (s : ℕ) (text : List ℕ) (s' : ℕ) (text' : List ℕ) : Type 0 where
+    same : s ≡ s' → text ≡ text' → Compares s text s' text'
+    before : Reaches s s' → Compares s text s' text'
+    behind : Reaches s' s → Compares s text s' text'
+
+  -- one more unit behind units that begin so
+  begins_further : (at k : ℕ) (front more : List ℕ) → UnitAt at k more → 0 < k → Compares 0 [] at front → Compares 0 [] (at + k) (front ++ more)
+  begins_further at k front more unit some (same here text) =
+      before (record { bytes = k; text = more; unit = subst (λ v. UnitAt v k more) (sym here) unit; some = some; within = omega (arith, here) })
+  begins_further at k front more unit some (before r) =
+      before (record { bytes = r.bytes; text = r.text; unit = r.unit; some = r.some; within = omega (arith, r.within) })
+  begins_further at k front more unit some (behind r) = absurd (omega (arith, r.some, r.within))
+
+  -- units lead nowhere, or begin with one of some bytes
+  begins : (s : ℕ) (text : List ℕ) → UnitsTo s text → Compares 0 [] s text
+  begins s text none = same refl refl
+  begins s text (one_more at k front more u unit some) = begins_further at k front more unit some (begins at front u)
+
+  -- the other way round
+  turned : (s s' : ℕ) (text text' : List ℕ) → Compares s text s' text' → Compares s' text' s text
+  turned s s' text text' (same here is) = same (sym here) (sym is)
+  turned s s' text text' (before r) = behind r
+  turned s s' text text' (behind r) = before r
+
+  -- both go on by a unit
+  module _ (s k s' k' : ℕ) (text more text' more' : List ℕ) (unit : UnitAt s k more) (unit' : UnitAt s' k' more') (some : 0 < k) (some' : 0 < k') where
+    -- the second went on from the end of the first without its last unit
+    both_before : Reaches s s' → Compares (s + k) (text ++ more) s' text' → Compares (s + k) (text ++ more) (s' + k') (text' ++ more')
+    both_before r (same here is) =
+        before (record { bytes = k'; text = more'; unit = subst (λ v. UnitAt v k' more') (sym here) unit'; some = some'; within = omega (arith, here) })
+    both_before r (before q) =
+        before (record { bytes = q.bytes; text = q.text; unit = q.unit; some = q.some; within = omega (arith, q.within) })
+    both_before r (behind q) =
+        let h = one_unit s k r.bytes more r.text unit r.unit in absurd (omega (arith, h.bytes, r.within, q.some, q.within))
+
+    -- the first went on from the end of the second without its last unit
+    both_behind : Reaches s' s → Compares s text (s' + k') (text' ++ more') → Compares (s + k) (text ++ more) (s' + k') (text' ++ more')
+    both_behind r (same here is) =
+        behind (record { bytes = k; text = more; unit = subst (λ v. UnitAt v k more) here unit; some = some; within = omega (arith, here) })
+    both_behind r (behind q) =
+        behind (record { bytes = q.bytes; text = q.text; unit = q.unit; some = q.some; within = omega (arith, q.within) })
+    both_behind r (before q) =
+        let h = one_unit s' k' r.bytes more' r.text unit' r.unit in absurd (omega (arith, h.bytes, r.within, q.some, q.within))
+
+    -- the two ends compare, whichever came first without the last units
+    both : Compares s text s' text' → Compares s text (s' + k') (text' ++ more') → Compares (s + k) (text ++ more) s' text' →
+        Compares (s + k) (text ++ more) (s' + k') (text' ++ more')
+    both (same here is) whole whole' =
+        let h = one_unit s k k' more more' unit (subst (λ v. UnitAt v k' more') (sym here) unit') in
+        let e = h.bytes in
+        let t = h.texts in
+        same (omega (arith, here, e)) cc
+    both (before r) whole whole' = both_before r whole'
+    both (behind r) whole whole' = both_behind r whole
+
+  -- the first goes on by a unit, and up to there all compare with it
+  goes_on : (s k : ℕ) (text more : List ℕ) → UnitsTo s text → (unit : UnitAt s k more) → (some : 0 < k) →
+      ((s' : ℕ) (text' : List ℕ) → UnitsTo s' text' → Compares s text s' text') →
+      (s' : ℕ) (text' : List ℕ) → UnitsTo s' text' → Compares (s + k) (text ++ more) s' text'
+  goes_on s k text more u unit some so_far s' text' none =
+      turned 0 (s + k) [] (text ++ more) (begins (s + k) (text ++ more) (one_more s k text more u unit some))
+  goes_on s k text more u unit some so_far s' text' (one_more at k' front more' u' unit' some') =
+      both s k at k' text more front more' unit unit' some some' (so_far at front u')
+      (so_far (at + k') (front ++ more') (one_more at k' front more' u' unit' some'))
+      (goes_on s k text more u unit some so_far at front u')
+
+  -- all places to which units lead compare
+  compares : (s : ℕ) (text : List ℕ) → UnitsTo s text → (s' : ℕ) (text' : List ℕ) → UnitsTo s' text' → Compares s text s' text'
+  compares s text none s' text' u' = begins s' text' u'
+  compares s text (one_more at k front more u unit some) s' text' u' =
+      goes_on at k front more u unit some (λ t other v. compares at front u t other v) s' text' u'
+
+  -- what looks further than the limit is no outcome within it
+  not_long : (s looked : ℕ) (o c : Outcome) → RuleGives rules start (rest_from input s) o looked → settings.limit < looked → Gives s c → ⊥
+  not_long s looked o c d over g =
+      let h = (same_of_start rules start (rest_from input s) looked g.looked o c d g.gives).looked in omega (arith, h, over, g.within)
+
+  -- no failure where a unit stands
+  not_both : (s k : ℕ) (text : List ℕ) → Gives s Fails → UnitAt s k text → ⊥
+  not_both s k text d u = let h = one_gift s Fails (Takes k u.events) d u.gives in absurd cc
+
+  -- after a fault no unit is run on too few bytes
+  few_bytes : (s : ℕ) → input.fault ≡ true → length input.bytes < s + settings.limit + 1 → MayRun settings input s → ⊥
+  few_bytes s fault few may = let m = may fault in omega (arith, m, few)
+
+  -- no run ends where a unit of some bytes stands
+  no_end : (s s' : ℕ) (last : List ℕ) (stop : Stop) → Reaches s s' → EndsAt s last stop → ⊥
+  no_end s s' last stop r (broken fault few) = few_bytes s fault few r.unit.gives.may_run
+  no_end s s' last stop r (overlong o looked may d over) = not_long s looked o (Takes r.bytes r.unit.events) d over r.unit.gives
+  no_end s s' last stop r (no_match d inside) = not_both s r.bytes r.text d r.unit
+  no_end s s' last stop r (finished d all) = not_both s r.bytes r.text d r.unit
+  no_end s s' last stop r (empty_before_end text u inside) = let h = one_unit s 0 r.bytes last r.text u r.unit in omega (arith, h.bytes, r.some)
+  no_end s s' last stop r (empty_at_end text u all) = let h = one_unit s 0 r.bytes last r.text u r.unit in omega (arith, h.bytes, r.some)
+
+  -- two ends are the same
+  record OneEnd (last other : List ℕ) (stop end : Stop) : Type 0 where
+    lasts : last ≡ other
+    stops : stop ≡ end
+
+  -- one end at a place
+  one_end : (s : ℕ) (last other : List ℕ) (stop end : Stop) → EndsAt s last stop → EndsAt s other end → OneEnd last other stop end
+  one_end s last other stop end (broken f few) (broken f' few') = record { lasts = refl; stops = refl }
+  one_end s last other stop end (broken f few) (overlong o n may d over) = absurd (few_bytes s f few may)
+  one_end s last other stop end (broken f few) (no_match d lt) = absurd (few_bytes s f few d.may_run)
+  one_end s last other stop end (broken f few) (finished d all) = absurd (few_bytes s f few d.may_run)
+  one_end s last other stop end (broken f few) (empty_before_end text u lt) = absurd (few_bytes s f few u.gives.may_run)
+  one_end s last other stop end (broken f few) (empty_at_end text u all) = absurd (few_bytes s f few u.gives.may_run)
+  one_end s last other stop end (overlong o n may d over) (broken f few) = absurd (few_bytes s f few may)
+  one_end s last other stop end (overlong o n may d over) (overlong o' n' may' d' over') = record { lasts = refl; stops = refl }
+  one_end s last other stop end (overlong o n may d over) (no_match g lt) = absurd (not_long s n o Fails d over g)
+  one_end s last other stop end (overlong o n may d over) (finished g all) = absurd (not_long s n o Fails d over g)
+  one_end s last other stop end (overlong o n may d over) (empty_before_end text u lt) = absurd (not_long s n o (Takes 0 u.events) d over u.gives)
+  one_end s last other stop end (overlong o n may d over) (empty_at_end text u all) = absurd (not_long s n o (Takes 0 u.events) d over u.gives)
+  one_end s last other stop end (no_match d lt) (broken f few) = absurd (few_bytes s f few d.may_run)
+  one_end s last other stop end (no_match d lt) (overlong o n may g over) = absurd (not_long s n o Fails g over d)
+  one_end s last other stop end (no_match d lt) (no_match g lt') = record { lasts = refl; stops = refl }
+  one_end s last other stop end (no_match d lt) (finished g all) = absurd (omega (arith, lt, all))
+  one_end s last other stop end (no_match d lt) (empty_before_end text u lt') = absurd (not_both s 0 text d u)
+  one_end s last other stop end (no_match d lt) (empty_at_end text u all) = absurd (not_both s 0 text d u)
+  one_end s last other stop end (finished d all) (broken f few) = absurd (few_bytes s f few d.may_run)
+  one_end s last other stop end (finished d all) (overlong o n may g over) = absurd (not_long s n o Fails g over d)
+  one_end s last other stop end (finished d all) (no_match g lt) = absurd (omega (arith, lt, all))
+  one_end s last other stop end (finished d all) (finished g all') = record { lasts = refl; stops = refl }
+  one_end s last other stop end (finished d all) (empty_before_end text u lt) = absurd (not_both s 0 text d u)
+  one_end s last other stop end (finished d all) (empty_at_end text u all') = absurd (not_both s 0 text d u)
+  one_end s last other stop end (empty_before_end text u lt) (broken f few) = absurd (few_bytes s f few u.gives.may_run)
+  one_end s last other stop end (empty_before_end text u lt) (overlong o n may d over) = absurd (not_long s n o (Takes 0 u.events) d over u.gives)
+  one_end s last other stop end (empty_before_end text u lt) (no_match d lt') = absurd (not_both s 0 text d u)
+  one_end s last other stop end (empty_before_end text u lt) (finished d all) = absurd (not_both s 0 text d u)
+  one_end s last other stop end (empty_before_end text u lt) (empty_before_end text' u' lt') =
+      record { lasts = (one_unit s 0 0 text text' u u').texts; stops = refl }
+  one_end s last other stop end (empty_before_end text u lt) (empty_at_end text' u' all) = absurd (omega (arith, lt, all))
+  one_end s last other stop end (empty_at_end text u all) (broken f few) = absurd (few_bytes s f few u.gives.may_run)
+  one_end s last other stop end (empty_at_end text u all) (overlong o n may d over) = absurd (not_long s n o (Takes 0 u.events) d over u.gives)
+  one_end s last other stop end (empty_at_end text u all) (no_match d lt) = absurd (not_both s 0 text d u)
+  one_end s last other stop end (empty_at_end text u all) (finished d all') = absurd (not_both s 0 text d u)
+  one_end s last other stop end (empty_at_end text u all) (empty_before_end text' u' lt) = absurd (omega (arith, lt, all))
+  one_end s last other stop end (empty_at_end text u all) (empty_at_end text' u' all') =
+      record { lasts = (one_unit s 0 0 text text' u u').texts; stops = refl }
+
+  -- two replies whose units compare so
+  settled : (a b : Reply) (r : Replies rules start settings input a) (q : Replies rules start settings input b) →
+      Compares r.place r.before q.place q.before → a ≡ b
+  settled a b r q (same here is) =
+      let h = one_end r.place r.last q.last r.stop q.stop r.ends (subst (λ v. EndsAt v q.last q.stop) (sym here) q.ends) in
+      let last = h.lasts in
+      let stop = h.stops in
+      same_reply a b (r.out ∙ ap (λ t. t ++ r.last) is ∙ ap (λ t. q.before ++ t) last ∙ sym q.out)
+      (r.err ∙ ap (λ w. message_of settings.limit w) stop ∙ sym q.err)
+      (r.status ∙ ap (λ w. code_of (status_of w)) stop ∙ sym q.status)
+      (r.taken ∙ sym q.taken)
+  settled a b r q (before to) = absurd (no_end r.place q.place r.last r.stop to r.ends)
+  settled a b r q (behind to) = absurd (no_end q.place r.place q.last q.stop to q.ends)
+
+-- one reply
+pub one_reply : (rules : List Rule) (start : ℕ) (settings : Settings) (input : Input) (a b : Reply) → Replies rules start settings input a →
+    Replies rules start settings input b → a ≡ b
+one_reply rules start settings input a b r q =
+    settled rules start settings input a b r q (compares rules start settings input r.place r.before r.units q.place q.before q.units)
+
+-- where a text has at most one list of tokens
+module _ (lists : (text : List ℕ) (a b : List Tok) → AreTokens (length text) text a → AreTokens (length text) text b → a ≡ b) where
+  -- and a list of tokens spells at most one grammar
+  pub one_grammar : ((ts : List Tok) (a b : List Rule) → Grammar ts a → Grammar ts b → a ≡ b) → (text : List ℕ) (a b : List Rule) → Reads text a →
+      Reads text b → a ≡ b
+  one_grammar trees text a b r q =
+      let d = r.spells in
+      let g = q.spells in
+      trees d.0 a b d.2 (subst (λ ts. Grammar ts b) (lists text g.0 d.0 g.1 d.1) g.2)
+
+  -- a grammar has no fault
+  pub no_fault : (text : List ℕ) (rules : List Rule) (fault : ReadFault) → IsFaultOf text fault → fault ≢ faults.Memory → Reads text rules → ⊥
+  no_fault text rules (faults.Syntax line) f other r =
+      let d = r.spells in
+      let h = f.1 in
+      let is = lists text d.0 h.all d.1 h.are_tokens in
+      let whole : Grammar h.all rules = subst (λ ts. Grammar ts rules) is d.2 in
+      h.hopeless.here (
+        drop (h.number + 1) h.all,
+        rules,
+        subst (λ ts. Grammar ts rules) (sym (take-append-drop (h.number + 1) h.all)) whole,
+      )
+  no_fault text rules (faults.Depth line) f other r = f
+  no_fault text rules (faults.CodePredicate line) f other r = f
+  no_fault text rules faults.TooLong f other r = omega (arith, f, r.within)
+  no_fault text rules faults.Memory f other r = other refl
+  no_fault text rules (faults.NumberTooLarge line) f other r = f

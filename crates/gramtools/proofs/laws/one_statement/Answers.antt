@@ -1,0 +1,8 @@
+use Rattle.gramtools.proofs.Deciding.{one_grammar, no_fault}
+use Rattle.gramtools.proofs.laws.one_statement.Goals as goal
+
+pub returns-clause-rules : goal.returns-clause-rules
+returns-clause-rules c = one_grammar c.one_list.ensures c.one_tree.ensures
+
+pub returns-clause-no_fault : goal.returns-clause-no_fault
+returns-clause-no_fault c = no_fault c.one_list.ensures
