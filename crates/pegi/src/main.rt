@@ -1,17 +1,34 @@
 //! Runs a grammar in the syntax of peg(1) on its standard input.
 #![tactic(auto)]
 
-use gramtools::{SourceOf, pegi_main};
+use gramtools::{SourceOf, Status, pegi_main};
 use ruletable::SinkOf;
 use std::io::BufWriter;
 use std::process::ExitCode;
+use std::rt::Env;
 use std::{env, io};
 
-fn main(rt: HostRuntime) -> io::Result<ExitCode> {
-    let words: Vec<String> = env::args(&rt)?.collect(rt.alloc())?;
+/// The program's words, its own name first.
+fn words_of(rt: &(impl Env + AllocGlobal)) -> io::Result<Vec<String>> {
+    Ok(env::args(rt)?.collect(rt.alloc())?)
+}
+
+/// The end of a program that found no memory for its words or its output.
+fn without_memory(rt: &impl Eprint) -> ExitCode {
+    let _ = rt.eprintln("out of memory");
+    ExitCode::from(Status::NoMemory.code())
+}
+
+fn main(rt: HostRuntime) -> ExitCode {
+    let Ok(words) = words_of(&rt) else {
+        return without_memory(&rt);
+    };
+    let Ok(buffered) = BufWriter::new(rt.alloc(), rt.stdout()) else {
+        return without_memory(&rt);
+    };
     let mut reader = SourceOf::new(rt.stdin());
-    let mut out = SinkOf::new(BufWriter::new(rt.alloc(), rt.stdout())?);
+    let mut out = SinkOf::new(buffered);
     let mut err = SinkOf::new(rt.stderr());
     let status = pegi_main(&rt, words.as_slice(), &mut reader, &mut out, &mut err);
-    Ok(ExitCode::from(status.code()))
+    ExitCode::from(status.code())
 }
