@@ -3,7 +3,7 @@
 
 use gramtools::{SourceOf, Status, pegi_main};
 use ruletable::SinkOf;
-use std::io::BufWriter;
+use std::io::{BufWriter, ErrorKind};
 use std::process::ExitCode;
 use std::rt::Env;
 use std::{env, io};
@@ -20,8 +20,11 @@ fn without_memory(rt: &impl Eprint) -> ExitCode {
 }
 
 fn main(rt: HostRuntime) -> ExitCode {
-    let Ok(words) = words_of(&rt) else {
-        return without_memory(&rt);
+    let words = match words_of(&rt) {
+        Ok(words) => words,
+        Err(fault) if fault.kind() == ErrorKind::OutOfMemory => return without_memory(&rt),
+        // a word that is no text
+        Err(_) => return ExitCode::from(Status::Refused.code()),
     };
     let Ok(buffered) = BufWriter::new(rt.alloc(), rt.stdout()) else {
         return without_memory(&rt);
