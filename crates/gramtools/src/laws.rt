@@ -15,11 +15,13 @@ pub fn one_reply()
         Replies rules start settings input a → Replies rules start settings input b → a ≡ b }
 {}
 
-/// A text is a grammar of at most one list of rules, and one that is a grammar has no fault, though memory may be refused in reading it.
+/// A text is a grammar of at most one list of rules, or has at most one fault, and never both; but memory may be refused in reading it.
 pub fn one_statement()
     ensures rules { (text : List ℕ) (a b : List Rule) → Reads text a → Reads text b → a ≡ b }
     ensures no_fault { (text : List ℕ) (rules : List Rule) (fault : ReadFault) →
         IsFaultOf text fault → fault ≢ ReadFault.Memory → Reads text rules → ⊥ }
+    ensures one_fault { (text : List ℕ) (a b : ReadFault) →
+        IsFaultOf text a → IsFaultOf text b → a ≢ ReadFault.Memory → b ≢ ReadFault.Memory → a ≡ b }
 {
     one_list();
     one_tree();
