@@ -2,7 +2,7 @@
 use Rattle.std.proofs.Common.{◌≡◌, ℕ, Bool, true, false, cond, Option, Some, None, List, [], ◌∷◌, refl}
 use Rattle.ruletable.specs.declared.span.Span.{Span}
 use Rattle.pegread.specs.declared.token_iter.Kind.{Kind}
-use Rattle.pegread.specs.declared.token_iter.Kind.TheVariants.{Ident, Arrow, Begin, EndCap, Slash, Dot, Literal, Action, Bad, End}
+use Rattle.pegread.specs.declared.token_iter.Kind.TheVariants.{Ident, Arrow, Begin, EndCap, Slash, Amp, Bang, Quest, Star, Plus, Dot, LParen, RParen, Literal, Class, Action, Bad, End}
 use Rattle.pegread.specs.Pattern.{Pattern, Bytes, Patterns, none, more, Rule}
 use Rattle.pegread.specs.Tokens.{Tok, tok}
 use Rattle.pegread.specs.Spelling.{sequence, choice, has_backslash, inside, One, literal, dot, action, begin, end_cap, Items, no_item, item, Alternatives, only, further, rule_at, Definition, definition}
@@ -67,6 +67,14 @@ module _ (n : List ℕ) (p : Span) (bs es : Patterns) where
   back-body rule End z q t h = rw (h.0, h.1) (end-here z q)
   back-body rule Ident z q t h = absurd h
   back-body rule Arrow z q t h = absurd h
+  back-body rule Amp z q t h = absurd h
+  back-body rule Bang z q t h = absurd h
+  back-body rule Quest z q t h = absurd h
+  back-body rule Star z q t h = absurd h
+  back-body rule Plus z q t h = absurd h
+  back-body rule LParen z q t h = absurd h
+  back-body rule RParen z q t h = absurd h
+  back-body rule Class z q t h = absurd h
   back-body rule Bad z q t h = absurd h
 
 all-alternatives : {s r : List Tok} {cs : Patterns} → Tail none none s r cs → Alternatives s r cs

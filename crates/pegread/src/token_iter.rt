@@ -18,10 +18,26 @@ pub enum Kind {
     EndCap,
     /// `/`.
     Slash,
+    /// `&`.
+    Amp,
+    /// `!`.
+    Bang,
+    /// `?`.
+    Quest,
+    /// `*`.
+    Star,
+    /// `+`.
+    Plus,
     /// `.`.
     Dot,
+    /// `(`.
+    LParen,
+    /// `)`.
+    RParen,
     /// From a quote, single or double, to the next one of its kind that no backslash takes.
     Literal,
+    /// From `[` to the next `]` that no backslash takes.
+    Class,
     /// From `{` to the `}` that matches it, where every brace counts.
     Action,
     /// What begins no token, from there to the end of the text.
