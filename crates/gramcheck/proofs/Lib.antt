@@ -1,11 +1,23 @@
 pub mod Assembling
 pub mod Basics
+pub mod Cutting
 pub mod Determined
+pub mod Ending
 pub mod Existing
+pub mod Falling
 pub mod Growing
+pub mod Ids
+pub mod Lists
+pub mod Lowering
 pub mod Numbering
+pub mod Outcomes
 pub mod Patterns
+pub mod Ranking
+pub mod Repeating
 pub mod Rising
 pub mod Shrinking
+pub mod Spelled
+pub mod Spelling
 pub mod Starting
+pub mod Taking
 mod Examples

@@ -1,100 +1,87 @@
--- Nodes that grow, and what they spell.
-use Rattle.std.proofs.Common.{◌≡◌, ℕ, zero, suc, ◌+◌, ◌<◌, List, [], ◌∷◌, ◌++◌, length, take, map, get_or, refl, sym, ap, subst, arith, ⊎_elim, inl, inr, ◌⊎◌, ◌∙◌, Some, add-one, append_assoc, append-nil, length-append}
-use Rattle.std.specs.Prelude.{slice_get}
+-- Nodes that are added one by one, and what they spell.
+use Rattle.std.proofs.Common.{◌≡◌, ℕ, ◌+◌, ◌<◌, ◌≤◌, List, [], ◌∷◌, ◌++◌, length, take, map, get_or, sym, ap, subst, arith, ⊎_elim, ◌∙◌, Some, add-one, append_assoc, append-nil, length-append}
+use Rattle.std.specs.Prelude.{slice_get, Contains}
+use Rattle.std.proofs.lemmas.Bool.{cases_lt}
 use Rattle.std.proofs.lemmas.List.{map-append, length-map}
-use Rattle.std.proofs.lemmas.List.Elements.{Contains-push_cases}
 use Rattle.std.proofs.Math.Seq.{take-suc}
 use Rattle.pegread.specs.Pattern as expr
 use Rattle.pegread.specs.Pattern.{Pattern, Patterns, Rule}
 use Rattle.pegread.specs.Views.{patterns, patterns_of, pattern_of}
 use Rattle.pegread.specs.declared.expr.Expr.{Expr}
 use Rattle.gramcheck.specs.declared.node.Node.{Node}
-use Rattle.gramcheck.specs.Nodes as node
-use Rattle.gramcheck.specs.Nodes.{Shape, shape_of, shapes_of, id_of, Spells, spells_any, spells_bytes, spells_set, spells_name, spells_seq, spells_choice, spells_star, spells_plus, spells_opt, spells_and, spells_not, spells_act, spells_open, spells_close, SpellAll, spell_none, spell_more, IsBasicNode}
-use Rattle.gramcheck.specs.Numbering.{AreBasicNodes, Numbers, NumbersAll}
+use Rattle.gramcheck.specs.Bodies.{IsBuilt, IsOperand}
+use Rattle.gramcheck.specs.Nodes.{Shape, shape_of, shapes_of, Spells, SpellAll, spell_none, spell_more}
+use Rattle.gramcheck.specs.Numbering.{Numbers, NumbersAll, SpellsPart}
+use Rattle.gramcheck.specs.Within.{Within, WithinSome, itself, of_first, of_later}
+use Rattle.gramcheck.proofs.Lists.{at_end, push_cases}
+use Rattle.gramcheck.proofs.Spelling.{still_spells, still_spell_all, is_there, are_there}
 
-at_end : (xs : List Shape) (a : Shape) → slice_get (xs ++ a ∷ []) (length xs) ≡ Some a
-at_end [] a = refl
-at_end (x ∷ xs) a = at_end xs a
-
-keeps : (xs ys : List Shape) (n : ℕ) (a : Shape) → slice_get xs n ≡ Some a → slice_get (xs ++ ys) n ≡ Some a
-keeps [] ys n a h = absurd (cc h)
-keeps (x ∷ xs) ys zero a h = h
-keeps (x ∷ xs) ys (suc n) a h = keeps xs ys n a h
-
-push_cases : (xs : List Shape) (a : Shape) (n : ℕ) (b : Shape) → slice_get (xs ++ a ∷ []) n ≡ Some b → (slice_get xs n ≡ Some b) ⊎ ((n ≡ length xs) × (a ≡ b))
-push_cases [] a zero b h = inr (refl, cc h)
-push_cases [] a (suc n) b h = absurd (cc h)
-push_cases (x ∷ xs) a zero b h = inl h
-push_cases (x ∷ xs) a (suc n) b h = ⊎_elim (λ k. inl k) (λ k. inr (ap (λ v. suc v) k.0, k.1)) (push_cases xs a n b h)
-
-basic_push : (xs : List Shape) (a : Shape) → AreBasicNodes xs → IsBasicNode (length xs) a → AreBasicNodes (xs ++ a ∷ [])
-basic_push xs a b w = record {
-  basic = λ n c h. ⊎_elim (λ old. b.basic n c old) (λ new. subst (λ v. IsBasicNode n v) new.1 (subst (λ v. IsBasicNode v a) (sym new.0) w)) (push_cases xs a n c h);
+built_push : (xs : List Shape) (a : Shape) → IsBuilt xs → ((m : ℕ) → IsOperand a m → m < length xs) → IsBuilt (xs ++ a ∷ [])
+built_push xs a b low = record {
+  after = λ n m c h o. ⊎_elim (λ old. b.after n m c old o)
+      (λ new. let less = low m (subst (λ v. IsOperand v m) (sym new.1) o) in omega (arith, less, new.0))
+      (push_cases xs a n c h);
 }
 
-module _ (rules : List Rule) (xs ys : List Shape) where
-  mutual
-    grows : {n : ℕ} {p : Pattern} → Spells rules xs n p → Spells rules (xs ++ ys) n p
-    grows (spells_any {n = n} g) = spells_any (keeps xs ys n node.Any g)
-    grows (spells_bytes {n = n} {bs = bs} g) = spells_bytes (keeps xs ys n (node.Bytes bs) g)
-    grows (spells_set {n = n} {s = s} g) = spells_set (keeps xs ys n (node.Set s) g)
-    grows (spells_name {n = n} {name = name} g) = spells_name (keeps xs ys n (node.Name (id_of rules name)) g)
-    grows (spells_seq {n = n} {ms = ms} g s) = spells_seq (keeps xs ys n (node.Seq ms) g) (all_grow s)
-    grows (spells_choice {n = n} {ms = ms} g s) = spells_choice (keeps xs ys n (node.Choice ms) g) (all_grow s)
-    grows (spells_star {n = n} {m = m} g s) = spells_star (keeps xs ys n (node.Star m) g) (grows s)
-    grows (spells_plus {n = n} {m = m} g s) = spells_plus (keeps xs ys n (node.Plus m) g) (grows s)
-    grows (spells_opt {n = n} {m = m} g s) = spells_opt (keeps xs ys n (node.Opt m) g) (grows s)
-    grows (spells_and {n = n} {m = m} g s) = spells_and (keeps xs ys n (node.And m) g) (grows s)
-    grows (spells_not {n = n} {m = m} g s) = spells_not (keeps xs ys n (node.Not m) g) (grows s)
-    grows (spells_act {n = n} {t = t} g) = spells_act (keeps xs ys n (node.Act t) g)
-    grows (spells_open {n = n} g) = spells_open (keeps xs ys n node.Open g)
-    grows (spells_close {n = n} g) = spells_close (keeps xs ys n node.Close g)
-
-    all_grow : {ms : List ℕ} {ps : Patterns} → SpellAll rules xs ms ps → SpellAll rules (xs ++ ys) ms ps
-    all_grow spell_none = spell_none
-    all_grow (spell_more s ss) = spell_more (grows s) (all_grow ss)
-
 -- one more node
-module _ (first mid : List Shape) (a : Shape) (n : ℕ) (p : Pattern) where
-  one_more : (added : List Shape) → mid ≡ first ++ added → (AreBasicNodes first → AreBasicNodes mid) → n ≡ length mid → IsBasicNode n a →
-      ((rules : List Rule) → slice_get (mid ++ a ∷ []) n ≡ Some a → Spells rules (mid ++ a ∷ []) n p) → Numbers first (mid ++ a ∷ []) n p
-  one_more added grown basic is after spells = record {
-    added = added ++ a ∷ [];
-    grown = ap (λ v. v ++ a ∷ []) grown ∙ append_assoc first added (a ∷ []);
-    there = let l = length-append mid (a ∷ []) in omega (arith, l, is);
-    spelled = λ rules. spells rules (subst (λ v. slice_get (mid ++ a ∷ []) v ≡ Some a) (sym is) (at_end mid a));
-    basic = λ b. basic_push mid a (basic b) (subst (λ v. IsBasicNode v a) is after);
-  }
+module _ (rules : List Rule) (first mid : List Shape) (a : Shape) (n : ℕ) (p : Pattern) where
+  one_more : (added : List Shape) → mid ≡ first ++ added → (IsBuilt first → IsBuilt mid) → ((m : ℕ) → length first ≤ m → m < length mid → SpellsPart rules mid p m) →
+      n ≡ length mid → ((m : ℕ) → IsOperand a m → m < length mid) → (slice_get (mid ++ a ∷ []) n ≡ Some a → Spells rules (mid ++ a ∷ []) n p) →
+      Numbers rules first (mid ++ a ∷ []) n p
+  one_more added grown built parts is low spells =
+      let at : slice_get (mid ++ a ∷ []) n ≡ Some a = subst (λ v. slice_get (mid ++ a ∷ []) v ≡ Some a) (sym is) (at_end mid a) in
+      record {
+        added = added ++ a ∷ [];
+        grown = ap (λ v. v ++ a ∷ []) grown ∙ append_assoc first added (a ∷ []);
+        spelled = spells at;
+        parts = λ m above below. ⊎_elim
+            (λ old.
+            let part = parts m above old in
+            record { part = part.part; within = part.within; spelled = still_spells rules mid (a ∷ []) part.spelled })
+            (λ past.
+            let l = length-append mid (a ∷ []) in
+            let same : n ≡ m = omega (arith, l, is) in
+            record { part = p; within = itself; spelled = subst (λ v. Spells rules (mid ++ a ∷ []) v p) same (spells at) })
+            (cases_lt m (length mid));
+        built = λ b. built_push mid a (built b) low;
+      }
 
 -- shapes after a push
 pushed : (nodes more : List Node) (v : Node) → more ≡ nodes ++ v ∷ [] → shapes_of more ≡ shapes_of nodes ++ shape_of v ∷ []
 pushed nodes more v e = ap shapes_of e ∙ map-append shape_of nodes (v ∷ [])
 
--- a node without operands
-pub leaf : (nodes more : List Node) (v : Node) (n : ℕ) (p : Pattern) → more ≡ nodes ++ v ∷ [] → n ≡ length nodes → IsBasicNode n (shape_of v) →
-    ((rules : List Rule) (xs : List Shape) → slice_get xs n ≡ Some (shape_of v) → Spells rules xs n p) → Numbers (shapes_of nodes) (shapes_of more) n p
-leaf nodes more v n p e is after spells =
-    rw (pushed nodes more v e)
-    (one_more (shapes_of nodes) (shapes_of nodes) (shape_of v) n p [] (sym (append-nil (shapes_of nodes))) (λ b. b) (is ∙ sym (length-map nodes shape_of)) after
-    (λ rules at. spells rules (shapes_of nodes ++ shape_of v ∷ []) at))
+module _ (rules : List Rule) (nodes more : List Node) (v : Node) (n : ℕ) (p : Pattern) (is_more : more ≡ nodes ++ v ∷ []) (is : n ≡ length nodes) where
+  -- a node without operands
+  pub leaf : ((m : ℕ) → IsOperand (shape_of v) m → ⊥) → ((xs : List Shape) → slice_get xs n ≡ Some (shape_of v) → Spells rules xs n p) →
+      Numbers rules (shapes_of nodes) (shapes_of more) n p
+  leaf none spells =
+      rw (pushed nodes more v is_more)
+      (one_more rules (shapes_of nodes) (shapes_of nodes) (shape_of v) n p [] (sym (append-nil (shapes_of nodes))) (λ b. b) (λ m low high. absurd (omega arith))
+      (is ∙ sym (length-map nodes shape_of)) (λ m o. absurd (none m o)) (λ at. spells (shapes_of nodes ++ shape_of v ∷ []) at))
 
--- a node over operands that stand before it
-pub seq_over : (first : List Shape) (nodes more : List Node) (v : Node) (ms : List ℕ) (n : ℕ) (ps : Patterns) → NumbersAll first (shapes_of nodes) ms ps →
-    more ≡ nodes ++ v ∷ [] → n ≡ length nodes → shape_of v ≡ node.Seq ms → Numbers first (shapes_of more) n (expr.Seq ps)
-seq_over first nodes more v ms n ps g e is shape =
-    rw (pushed nodes more v e, shape)
-    (one_more first (shapes_of nodes) (node.Seq ms) n (expr.Seq ps) g.added g.grown g.basic (is ∙ sym (length-map nodes shape_of))
-    (λ m h. let lt = g.there m h in let l = length-map nodes shape_of in omega (arith, lt, is, l))
-    (λ rules at. spells_seq at (all_grow rules (shapes_of nodes) (node.Seq ms ∷ []) (g.spelled rules))))
+  -- a node over one operand, which stands before it
+  pub over : (first : List Shape) (k : ℕ) (e : Pattern) → Numbers rules first (shapes_of nodes) k e → ((m : ℕ) → IsOperand (shape_of v) m → m ≡ k) →
+      ((d : Pattern) → Within e d → Within p d) → ((xs : List Shape) → slice_get xs n ≡ Some (shape_of v) → Spells rules xs k e → Spells rules xs n p) →
+      Numbers rules first (shapes_of more) n p
+  over first k e g alone within spells =
+      let there = is_there rules (shapes_of nodes) g.spelled in
+      rw (pushed nodes more v is_more)
+      (one_more rules first (shapes_of nodes) (shape_of v) n p g.added g.grown g.built
+      (λ m low high. let part = g.parts m low high in record { part = part.part; within = within part.part part.within; spelled = part.spelled })
+      (is ∙ sym (length-map nodes shape_of)) (λ m o. subst (λ i. i < length (shapes_of nodes)) (sym (alone m o)) there)
+      (λ at. spells (shapes_of nodes ++ shape_of v ∷ []) at (still_spells rules (shapes_of nodes) (shape_of v ∷ []) g.spelled)))
 
-pub choice_over : (first : List Shape) (nodes more : List Node) (v : Node) (ms : List ℕ) (n : ℕ) (ps : Patterns) → NumbersAll first (shapes_of nodes) ms ps →
-    more ≡ nodes ++ v ∷ [] → n ≡ length nodes → shape_of v ≡ node.Choice ms → Numbers first (shapes_of more) n (expr.Choice ps)
-choice_over first nodes more v ms n ps g e is shape =
-    rw (pushed nodes more v e, shape)
-    (one_more first (shapes_of nodes) (node.Choice ms) n (expr.Choice ps) g.added g.grown g.basic (is ∙ sym (length-map nodes shape_of))
-    (λ m h. let lt = g.there m h in let l = length-map nodes shape_of in omega (arith, lt, is, l))
-    (λ rules at. spells_choice at (all_grow rules (shapes_of nodes) (node.Choice ms ∷ []) (g.spelled rules))))
+  -- a node over members, which stand before it
+  pub over_all : (first : List Shape) (ks : List ℕ) (es : Patterns) → NumbersAll rules first (shapes_of nodes) ks es →
+      ((m : ℕ) → IsOperand (shape_of v) m → Contains ks m) →
+      ((d : Pattern) → WithinSome es d → Within p d) → ((xs : List Shape) → slice_get xs n ≡ Some (shape_of v) → SpellAll rules xs ks es → Spells rules xs n p) →
+      Numbers rules first (shapes_of more) n p
+  over_all first ks es g among within spells =
+      rw (pushed nodes more v is_more)
+      (one_more rules first (shapes_of nodes) (shape_of v) n p g.added g.grown g.built
+      (λ m low high. let part = g.parts m low high in record { part = part.part; within = within part.part part.within; spelled = part.spelled })
+      (is ∙ sym (length-map nodes shape_of)) (λ m o. are_there rules (shapes_of nodes) m g.spelled (among m o))
+      (λ at. spells (shapes_of nodes ++ shape_of v ∷ []) at (still_spell_all rules (shapes_of nodes) (shape_of v ∷ []) g.spelled)))
 
 -- one more member
 spell_push : (rules : List Rule) (xs : List Shape) (ps : List Pattern) (p : Pattern) (n : ℕ) {ns : List ℕ} → SpellAll rules xs ns (patterns ps) → Spells rules xs n p →
@@ -102,13 +89,22 @@ spell_push : (rules : List Rule) (xs : List Shape) (ps : List Pattern) (p : Patt
 spell_push rules xs [] p n spell_none s = spell_more s spell_none
 spell_push rules xs (q ∷ ps) p n (spell_more d ds) s = spell_more d (spell_push rules xs ps p n ds s)
 
-pub no_members : (xs : List Shape) (ns : List ℕ) → ns ≡ [] → NumbersAll xs xs ns expr.none
-no_members xs ns is = rw is (record {
+within_earlier : (ps : List Pattern) (p d : Pattern) → WithinSome (patterns ps) d → WithinSome (patterns (ps ++ p ∷ [])) d
+within_earlier [] p d w = elim w [ ]
+within_earlier (q ∷ ps) p d (of_first w) = of_first w
+within_earlier (q ∷ ps) p d (of_later w) = of_later (within_earlier ps p d w)
+
+within_last : (ps : List Pattern) (p d : Pattern) → Within p d → WithinSome (patterns (ps ++ p ∷ [])) d
+within_last [] p d w = of_first w
+within_last (q ∷ ps) p d w = of_later (within_last ps p d w)
+
+pub no_members : (rules : List Rule) (xs : List Shape) (ns : List ℕ) → ns ≡ [] → NumbersAll rules xs xs ns expr.none
+no_members rules xs ns is = rw is (record {
   added = [];
   grown = sym (append-nil xs);
-  there = λ n h. absurd (omega (arith, h.1));
-  spelled = λ rules. spell_none;
-  basic = λ b. b;
+  spelled = spell_none;
+  parts = λ m low high. absurd (omega arith);
+  built = λ b. b;
 })
 
 map_next : (es : List Expr) (i : ℕ) (v : Expr) → i < length es → v ≡ get_or es i v → map pattern_of (take (i + 1) es) ≡ map pattern_of (take i es) ++ pattern_of v ∷ []
@@ -116,18 +112,28 @@ map_next es i v lt is =
     ap (λ k. map pattern_of (take k es)) (add-one i) ∙ ap (map pattern_of) (take-suc es i v lt) ∙ map-append pattern_of (take i es) (get_or es i v ∷ []) ∙
     ap (λ w. map pattern_of (take i es) ++ pattern_of w ∷ []) (sym is)
 
-pub next_member : (first mid new : List Shape) (ns : List ℕ) (n : ℕ) (es : List Expr) (i : ℕ) (v : Expr) → i < length es → v ≡ get_or es i v →
-    NumbersAll first mid ns (patterns_of (take i es)) → Numbers mid new n (pattern_of v) → NumbersAll first new (ns ++ n ∷ []) (patterns_of (take (i + 1) es))
-next_member first mid new ns n es i v lt is g h = record {
-  added = g.added ++ h.added;
-  grown = h.grown ∙ ap (λ w. w ++ h.added) g.grown ∙ append_assoc first g.added h.added;
-  there = λ m k. ⊎_elim
-      (λ old. let low = g.there m old in let l = ap length h.grown ∙ length-append mid h.added in omega (arith, low, l))
-      (λ same. subst (λ w. w < length new) same h.there)
-      (Contains-push_cases ns n m k);
-  spelled = λ rules.
-      let all = subst (λ w. SpellAll rules w ns (patterns_of (take i es))) (sym h.grown) (all_grow rules mid h.added (g.spelled rules)) in
-      let taken : map pattern_of (take (i + 1) es) ≡ map pattern_of (take i es) ++ pattern_of v ∷ [] = map_next es i v lt is in
-      rw taken (spell_push rules new (map pattern_of (take i es)) (pattern_of v) n all (h.spelled rules));
-  basic = λ b. h.basic (g.basic b);
-}
+-- nodes of members, and then those of one more
+module _ (rules : List Rule) (first mid new : List Shape) (ns : List ℕ) (n : ℕ) (ps : List Pattern) (p : Pattern) where
+  append_member : NumbersAll rules first mid ns (patterns ps) → Numbers rules mid new n p → NumbersAll rules first new (ns ++ n ∷ []) (patterns (ps ++ p ∷ []))
+  append_member g h = record {
+    added = g.added ++ h.added;
+    grown = h.grown ∙ ap (λ w. w ++ h.added) g.grown ∙ append_assoc first g.added h.added;
+    spelled = spell_push rules new ps p n (subst (λ w. SpellAll rules w ns (patterns ps)) (sym h.grown) (still_spell_all rules mid h.added g.spelled)) h.spelled;
+    parts = λ m low high. ⊎_elim
+        (λ old.
+        let part = g.parts m low old in
+        record {
+          part = part.part;
+          within = within_earlier ps p part.part part.within;
+          spelled = subst (λ w. Spells rules w m part.part) (sym h.grown) (still_spells rules mid h.added part.spelled);
+        })
+        (λ past. let part = h.parts m past high in record { part = part.part; within = within_last ps p part.part part.within; spelled = part.spelled })
+        (cases_lt m (length mid));
+    built = λ b. h.built (g.built b);
+  }
+
+pub next_member : (rules : List Rule) (first mid new : List Shape) (ns : List ℕ) (n : ℕ) (es : List Expr) (i : ℕ) (v : Expr) → i < length es → v ≡ get_or es i v →
+    NumbersAll rules first mid ns (patterns_of (take i es)) → Numbers rules mid new n (pattern_of v) → NumbersAll rules first new (ns ++ n ∷ []) (patterns_of (take (i + 1) es))
+next_member rules first mid new ns n es i v lt is g h =
+    let taken : map pattern_of (take (i + 1) es) ≡ map pattern_of (take i es) ++ pattern_of v ∷ [] = map_next es i v lt is in
+    rw taken (append_member rules first mid new ns n (map pattern_of (take i es)) (pattern_of v) g h)

@@ -6,3 +6,5 @@ pub mod Numbering
 pub mod Outcome
 pub mod Ranks
 pub mod Rising
+pub mod Sound
+pub mod Within

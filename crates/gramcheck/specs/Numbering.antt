@@ -1,24 +1,45 @@
 -- Nodes numbered from expressions, operands first.
-use Rattle.std.specs.Prelude.{◌≡◌, ℕ, ◌<◌, List, ◌++◌, length, slice_get, Some, Contains}
+use Rattle.std.specs.Prelude.{◌≡◌, ℕ, ◌<◌, ◌≤◌, List, ◌++◌, length}
 use Rattle.pegread.specs.Pattern.{Pattern, Patterns, Rule}
-use Rattle.gramcheck.specs.Nodes.{Shape, Spells, SpellAll, IsBasicNode}
+use Rattle.gramcheck.specs.Bodies.{IsBuilt}
+use Rattle.gramcheck.specs.Nodes.{Shape, Spells, SpellAll}
+use Rattle.gramcheck.specs.Within.{Within, WithinSome, StandsIn}
 
--- each node is of a form that can be run, and its operands have smaller numbers
-pub record AreBasicNodes (nodes : List Shape) : Type 0 where
-  pub basic : (n : ℕ) (node : Shape) → slice_get nodes n ≡ Some node → IsBasicNode n node
+module _ (rules : List Rule) where
+  -- node m spells an expression that stands within p
+  pub record SpellsPart (nodes : List Shape) (p : Pattern) (m : ℕ) : Type 0 where
+    pub part : Pattern
+    pub within : Within p part
+    pub spelled : Spells rules nodes m part
 
--- nodes were added, and node n spells an expression
-pub record Numbers (old new : List Shape) (n : ℕ) (p : Pattern) : Type 0 where
-  pub added : List Shape
-  pub grown : new ≡ old ++ added
-  pub there : n < length new
-  pub spelled : (rules : List Rule) → Spells rules new n p
-  pub basic : AreBasicNodes old → AreBasicNodes new
+  -- node m spells an expression that stands within one of them
+  pub record SpellsPartOf (nodes : List Shape) (ps : Patterns) (m : ℕ) : Type 0 where
+    pub part : Pattern
+    pub within : WithinSome ps part
+    pub spelled : Spells rules nodes m part
 
--- nodes were added, and each of the numbers is that of a node that spells the member in its place
-pub record NumbersAll (old new : List Shape) (ns : List ℕ) (ps : Patterns) : Type 0 where
-  pub added : List Shape
-  pub grown : new ≡ old ++ added
-  pub there : (n : ℕ) → Contains ns n → n < length new
-  pub spelled : (rules : List Rule) → SpellAll rules new ns ps
-  pub basic : AreBasicNodes old → AreBasicNodes new
+  -- Nodes were added, operands before the nodes that they stand in. Node n spells an expression, and each new node spells one within it.
+  pub record Numbers (old new : List Shape) (n : ℕ) (p : Pattern) : Type 0 where
+    pub added : List Shape
+    pub grown : new ≡ old ++ added
+    pub spelled : Spells rules new n p
+    pub parts : (m : ℕ) → length old ≤ m → m < length new → SpellsPart new p m
+    pub built : IsBuilt old → IsBuilt new
+
+  -- Nodes were added, and each of the numbers is that of a node that spells the member in its place.
+  pub record NumbersAll (old new : List Shape) (ns : List ℕ) (ps : Patterns) : Type 0 where
+    pub added : List Shape
+    pub grown : new ≡ old ++ added
+    pub spelled : SpellAll rules new ns ps
+    pub parts : (m : ℕ) → length old ≤ m → m < length new → SpellsPartOf new ps m
+    pub built : IsBuilt old → IsBuilt new
+
+  -- node n spells an expression that stands in the body of a rule
+  pub record SpellsStanding (nodes : List Shape) (n : ℕ) : Type 0 where
+    pub expr : Pattern
+    pub stands : StandsIn rules expr
+    pub spelled : Spells rules nodes n expr
+
+  -- each node spells an expression that stands in the body of a rule
+  abbrev pub AreStanding : List Shape → Type 0
+  AreStanding nodes = (n : ℕ) → n < length nodes → SpellsStanding nodes n

@@ -1,13 +1,12 @@
 //! Cuts expressions into numbered nodes.
-ghost use Rattle.std.specs.Prelude.{◌≡◌, ℕ, ◌<◌, List, ◌++◌, ◌∷◌, [], length, get_or, IfOk};
-ghost use Rattle.pegread.specs.Basic.{IsBasic, AreBasic};
-ghost use Rattle.pegread.specs.Views.{pattern_of, patterns_of};
-ghost use Rattle.gramcheck.specs.Nodes.{shapes_of};
+ghost use Rattle.std.specs.Prelude.{◌≡◌, List, ◌++◌, ◌∷◌, [], length, IfOk};
+ghost use Rattle.pegread.specs.Views.{pattern_of, patterns_of, rules_of};
+ghost use Rattle.gramcheck.specs.Nodes.{id_of, shapes_of};
 ghost use Rattle.gramcheck.specs.Numbering.{Numbers, NumbersAll};
 
 use crate::node::Node;
 use pegread::Expr;
-use ruletable::Memory;
+use ruletable::{Memory, NameCase, RuleTable};
 use std::alloc::Global;
 
 // Adds a node, and gives its number.
@@ -20,49 +19,60 @@ fn add(nodes: &mut Vec<Node>, node: Node) -> Result<usize, Memory>
     Ok(number)
 }
 
+// The id of the rule of that name, or the number of rules where there is none.
+fn rule_id(rules: &RuleTable<Expr>, name: &[u8]) -> Result<usize, Memory>
+    requires { rules.now.names ≡ NameCase.Exact }
+    ensures { IfOk result (λ id. id ≡ id_of (rules_of rules.now) name.now) }
+{
+    let found = rules.find(name)?;
+    Ok(found.unwrap_or(rules.len()))
+}
+
 /// Adds the nodes of an expression, its operands first, and gives the number of its own.
 #[cycle(numbering)]
-pub(crate) fn number(alloc: Global, e: &Expr, nodes: &mut Vec<Node>) -> Result<usize, Memory>
-    requires { IsBasic (pattern_of e.now) }
-    ensures { IfOk result (λ n. Numbers (shapes_of nodes.old.items) (shapes_of nodes.new.items) n (pattern_of e.now)) }
+pub(crate) fn number(
+    alloc: Global,
+    rules: &RuleTable<Expr>,
+    e: &Expr,
+    nodes: &mut Vec<Node>,
+) -> Result<usize, Memory>
+    requires { rules.now.names ≡ NameCase.Exact }
+    ensures { IfOk result (λ n. Numbers (rules_of rules.now) (shapes_of nodes.old.items) (shapes_of nodes.new.items) n (pattern_of e.now)) }
 {
     let node = match e {
         Expr::Any => Node::Any,
         Expr::Bytes(bytes) => Node::Bytes(Vec::from_slice(alloc, bytes)?),
-        Expr::Seq(members) => Node::Seq(number_all(alloc, members, nodes)?),
-        Expr::Choice(alternatives) => Node::Choice(number_all(alloc, alternatives, nodes)?),
+        Expr::Set(members) => Node::Set(members.copied()),
+        Expr::Name(name) => Node::Name(rule_id(rules, name)?),
+        Expr::Seq(members) => Node::Seq(number_all(alloc, rules, members, nodes)?),
+        Expr::Choice(alternatives) => Node::Choice(number_all(alloc, rules, alternatives, nodes)?),
+        Expr::Star(operand) => Node::Star(number(alloc, rules, operand, nodes)?),
+        Expr::Plus(operand) => Node::Plus(number(alloc, rules, operand, nodes)?),
+        Expr::Opt(operand) => Node::Opt(number(alloc, rules, operand, nodes)?),
+        Expr::And(operand) => Node::And(number(alloc, rules, operand, nodes)?),
+        Expr::Not(operand) => Node::Not(number(alloc, rules, operand, nodes)?),
         Expr::Act(template) => Node::Act(Vec::from_slice(alloc, template)?),
         Expr::Open => Node::Open,
         Expr::Close => Node::Close,
-        // The forms that are not run.
-        Expr::Set(_)
-        | Expr::Name(_)
-        | Expr::Star(_)
-        | Expr::Plus(_)
-        | Expr::Opt(_)
-        | Expr::And(_)
-        | Expr::Not(_) => unreachable!(),
     };
     let n = add(nodes, node)?;
     Ok(n)
 }
 
-// A law that the loop below stands on: each member of a basic list is basic.
-fn members_are_basic()
-    ensures { (members : List Expr) (i : ℕ) (member : Expr) →
-        member ≡ get_or members i member → AreBasic (patterns_of members) → i < length members → IsBasic (pattern_of member) }
-{}
-
 // Adds the nodes of each of them in turn, and gives their numbers.
 #[cycle(numbering)]
-fn number_all(alloc: Global, members: &[Expr], nodes: &mut Vec<Node>) -> Result<Vec<usize>, Memory>
-    requires { AreBasic (patterns_of members.now) }
-    ensures { IfOk result (λ ns. NumbersAll (shapes_of nodes.old.items) (shapes_of nodes.new.items) ns.items (patterns_of members.now)) }
+fn number_all(
+    alloc: Global,
+    rules: &RuleTable<Expr>,
+    members: &[Expr],
+    nodes: &mut Vec<Node>,
+) -> Result<Vec<usize>, Memory>
+    requires { rules.now.names ≡ NameCase.Exact }
+    ensures { IfOk result (λ ns. NumbersAll (rules_of rules.now) (shapes_of nodes.old.items) (shapes_of nodes.new.items) ns.items (patterns_of members.now)) }
 {
-    members_are_basic();
     let mut numbers = Vec::new(alloc);
     for member in members {
-        let n = number(alloc, member, nodes)?;
+        let n = number(alloc, rules, member, nodes)?;
         numbers.push(n)?;
     }
     Ok(numbers)

@@ -4,10 +4,10 @@ ghost use Rattle.pegread.specs.Basic.{IsBasicGrammar};
 ghost use Rattle.pegread.specs.Views.{rules_of};
 ghost use Rattle.gramcheck.specs.Grammar.{IsSoundGrammar};
 
+use crate::cut::cut_grammar;
 use crate::node::Node;
-use crate::number::number;
 use pegread::{Expr, Peg};
-use ruletable::{Memory, RuleTable};
+use ruletable::{Memory, NameCase, RuleTable};
 use std::alloc::Global;
 use std::marker::Model;
 
@@ -44,21 +44,19 @@ impl SoundPeg {
     ///
     /// `Memory` where a growth was refused; the grammar is dropped then.
     pub fn of_one_rule(alloc: Global, peg: Peg) -> Result<SoundPeg, Memory>
-        requires { IsBasicGrammar (rules_of peg.rules) }
+        requires basic { IsBasicGrammar (rules_of peg.rules) }
+        requires exact_names { peg.rules.names ≡ NameCase.Exact }
         ensures rules { IfOk result (λ g. g.rules ≡ peg.rules) }
         ensures start { IfOk result (λ g. g.start ≡ 0) }
         ensures sound { IfOk result IsSoundGrammar }
     {
         let rules = peg.rules;
-        let mut nodes = Vec::new(alloc);
-        let body = number(alloc, rules.body(0), &mut nodes)?;
-        let mut bodies = Vec::new(alloc);
-        bodies.push(body)?;
+        let cut = cut_grammar(alloc, &rules)?;
         Ok(SoundPeg {
             rules,
             start: 0,
-            nodes,
-            bodies,
+            nodes: cut.nodes,
+            bodies: cut.bodies,
         })
     }
 

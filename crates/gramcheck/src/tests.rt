@@ -1,4 +1,4 @@
-ghost use Rattle.std.specs.Prelude.{IfOk};
+ghost use Rattle.std.specs.Prelude.{◌≡◌, IfOk};
 ghost use Rattle.pegread.specs.Basic.{IsBasic, IsBasicGrammar};
 ghost use Rattle.pegread.specs.Views.{pattern_of, rules_of};
 
@@ -11,7 +11,8 @@ use std::test::Fail;
 // The grammar of one rule of that body.
 fn peg_of(alloc: Global, body: Expr) -> Result<Peg, Memory>
     requires { IsBasic (pattern_of body) }
-    ensures { IfOk result (λ peg. IsBasicGrammar (rules_of peg.rules)) }
+    ensures basic { IfOk result (λ peg. IsBasicGrammar (rules_of peg.rules)) }
+    ensures exact_names { IfOk result (λ peg. peg.rules.names ≡ NameCase.Exact) }
 {
     let mut rules = RuleTable::new(alloc, NameCase::Exact);
     let _ = rules.define(b"unit", body, Span { start: 0, end: 4 })?;

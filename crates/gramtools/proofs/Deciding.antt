@@ -1,16 +1,7 @@
--- The units of an input and how a run on it ends are determined, and so is its reply; and so are a text's rules.
+-- The units of an input and how a run on it ends are determined, and so is its reply.
 use Rattle.std.proofs.Common.{◌≡◌, ◌≢◌, ℕ, ◌+◌, ◌<◌, ◌≤◌, ◌⊎◌, inl, inr, true, List, [], ◌++◌, length, take, drop, append_assoc, refl, sym, ◌∙◌, ap, subst, arith}
 use Rattle.std.specs.Prelude.{slice_get, Some}
-use Rattle.std.proofs.lemmas.List.{take-append-drop, take-take}
-use Rattle.std.proofs.lemmas.Bool.{cases_lt}
-use Rattle.ruletable.specs.Lines.{line_at}
-use Rattle.ruletable.specs.declared.lines.LineRule.TheVariants.{Any}
-use Rattle.ruletable.specs.declared.fault.ReadFault.{ReadFault}
-use Rattle.ruletable.specs.declared.fault.ReadFault.TheVariants as faults
 use Rattle.pegread.specs.Pattern.{Rule}
-use Rattle.pegread.specs.Reading.{Reads, IsFaultOf, IsHopelessAt}
-use Rattle.pegread.specs.Spelling.{Grammar, Viable, Hopeless}
-use Rattle.pegread.specs.Tokens.{Tok, AreTokens, start_of}
 use Rattle.gramcheck.specs.Outcome.{Outcome, Fails, Takes, RuleGives}
 use Rattle.gramcheck.proofs.Starting.{same_of_start}
 use Rattle.gramtools.specs.Input.{Input}
@@ -224,85 +215,3 @@ pub one_reply : (rules : List Rule) (start : ℕ) (settings : Settings) (input :
     Replies rules start settings input b → a ≡ b
 one_reply rules start settings input a b r q =
     settled rules start settings input a b r q (compares rules start settings input r.place r.before r.units q.place q.before q.units)
-
--- a beginning of a list that begins a grammar's list begins one too
-viable_before : (n m : ℕ) (ts : List Tok) → n ≤ m → Viable (take m ts) → Viable (take n ts)
-viable_before n m ts le v =
-    let front : take n (take m ts) ≡ take n ts = take-take n m ts le in
-    let cut : take m ts ++ v.0 ≡ take n ts ++ (drop n (take m ts) ++ v.0) =
-    ap (λ (w : List Tok). w ++ v.0) (sym (take-append-drop n (take m ts)) ∙ ap (λ (w : List Tok). w ++ drop n (take m ts)) front) ∙
-    append_assoc (take n ts) (drop n (take m ts)) v.0 in
-    (drop n (take m ts) ++ v.0, v.1, subst (λ w. Grammar w v.1) cut v.2)
-
--- no hopeless token stands before another
-none_before : (ts : List Tok) (i j : ℕ) → Hopeless ts i → Hopeless ts j → i < j → ⊥
-none_before ts i j h k lt = h.here (viable_before (i + 1) j ts (omega arith) k.before)
-
--- a list has one hopeless token at most
-one_number : (ts : List Tok) (i j : ℕ) → Hopeless ts i → Hopeless ts j → i ≡ j
-one_number ts i j h k =
-    elim (cases_lt i j) [
-      | inl lt ↦ absurd (none_before ts i j h k lt)
-      | inr ge ↦ elim (cases_lt j i) [
-        | inl lt ↦ absurd (none_before ts j i k h lt)
-        | inr le ↦ omega arith
-      ]
-    ]
-
--- where a text has at most one list of tokens
-module _ (lists : (text : List ℕ) (a b : List Tok) → AreTokens (length text) text a → AreTokens (length text) text b → a ≡ b) where
-  -- and a list of tokens spells at most one grammar
-  pub one_grammar : ((ts : List Tok) (a b : List Rule) → Grammar ts a → Grammar ts b → a ≡ b) → (text : List ℕ) (a b : List Rule) → Reads text a →
-      Reads text b → a ≡ b
-  one_grammar trees text a b r q =
-      let d = r.spells in
-      let g = q.spells in
-      trees d.0 a b d.2 (subst (λ ts. Grammar ts b) (lists text g.0 d.0 g.1 d.1) g.2)
-
-  -- a grammar has no fault
-  pub no_fault : (text : List ℕ) (rules : List Rule) (fault : ReadFault) → IsFaultOf text fault → fault ≢ faults.Memory → Reads text rules → ⊥
-  no_fault text rules (faults.Syntax line) f other r =
-      let d = r.spells in
-      let h = f.1 in
-      let is = lists text d.0 h.all d.1 h.are_tokens in
-      let whole : Grammar h.all rules = subst (λ ts. Grammar ts rules) is d.2 in
-      h.hopeless.here (
-        drop (h.number + 1) h.all,
-        rules,
-        subst (λ ts. Grammar ts rules) (sym (take-append-drop (h.number + 1) h.all)) whole,
-      )
-  no_fault text rules (faults.Depth line) f other r = f
-  no_fault text rules (faults.CodePredicate line) f other r = f
-  no_fault text rules faults.TooLong f other r = omega (arith, f, r.within)
-  no_fault text rules faults.Memory f other r = other refl
-  no_fault text rules (faults.NumberTooLarge line) f other r = f
-
-  -- two hopeless tokens of a text stand on one line
-  one_line : (text : List ℕ) (a b : ℕ) → IsHopelessAt text a → IsHopelessAt text b → a ≡ b
-  one_line text a b h k =
-      let all : k.all ≡ h.all = lists text k.all h.all k.are_tokens h.are_tokens in
-      let there : Hopeless h.all k.number = subst (λ ts. Hopeless ts k.number) all k.hopeless in
-      let number : h.number ≡ k.number = one_number h.all h.number k.number h.hopeless there in
-      let same : Some h.token ≡ Some k.token =
-      sym h.there ∙ ap (λ n. slice_get h.all n) number ∙ ap (λ (ts : List Tok). slice_get ts k.number) (sym all) ∙ k.there in
-      let token : h.token ≡ k.token = cc in
-      h.line_is ∙ ap (λ t. line_at Any text (start_of t)) token ∙ sym k.line_is
-
-  -- a text has one fault at most, but for want of memory
-  pub one_fault : (text : List ℕ) (a b : ReadFault) → IsFaultOf text a → IsFaultOf text b → a ≢ faults.Memory → b ≢ faults.Memory → a ≡ b
-  one_fault text (faults.Syntax a) (faults.Syntax b) f g m n = ap (λ l. faults.Syntax l) (one_line text a b f.1 g.1)
-  one_fault text (faults.Syntax a) faults.TooLong f g m n = absurd (omega (arith, f.0, g))
-  one_fault text faults.TooLong (faults.Syntax b) f g m n = absurd (omega (arith, g.0, f))
-  one_fault text faults.TooLong faults.TooLong f g m n = refl
-  one_fault text faults.Memory b f g m n = absurd (m refl)
-  one_fault text (faults.Depth a) b f g m n = absurd f
-  one_fault text (faults.CodePredicate a) b f g m n = absurd f
-  one_fault text (faults.NumberTooLarge a) b f g m n = absurd f
-  one_fault text (faults.Syntax a) faults.Memory f g m n = absurd (n refl)
-  one_fault text (faults.Syntax a) (faults.Depth b) f g m n = absurd g
-  one_fault text (faults.Syntax a) (faults.CodePredicate b) f g m n = absurd g
-  one_fault text (faults.Syntax a) (faults.NumberTooLarge b) f g m n = absurd g
-  one_fault text faults.TooLong faults.Memory f g m n = absurd (n refl)
-  one_fault text faults.TooLong (faults.Depth b) f g m n = absurd g
-  one_fault text faults.TooLong (faults.CodePredicate b) f g m n = absurd g
-  one_fault text faults.TooLong (faults.NumberTooLarge b) f g m n = absurd g

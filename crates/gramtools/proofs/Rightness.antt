@@ -7,19 +7,21 @@ use Rattle.ruletable.specs.declared.fault.ReadFault.{ReadFault}
 use Rattle.ruletable.specs.declared.fault.ReadFault.TheVariants as fault
 use Rattle.ruletable.specs.declared.sink.WriteFault.{WriteFault}
 use Rattle.ruletable.proofs.Taken.{Appends-kept, Appends-same, IsBeginning-same}
+use Rattle.pegread.specs.Basic.{IsBasicGrammar}
+use Rattle.pegread.specs.Definitions.{firsts}
 use Rattle.pegread.specs.Pattern.{Rule}
 use Rattle.pegread.specs.Reading.{Reads, IsFaultOf}
-use Rattle.gramtools.specs.Answers.{States, refused, runs, no_memory, IsRight}
+use Rattle.gramtools.specs.Answers.{States, refused, runs, not_run, no_memory, IsRight}
 use Rattle.gramtools.specs.Delivery.{Reports}
 use Rattle.gramtools.specs.Finish.{Finishes}
 use Rattle.gramtools.specs.Input.{input_from}
-use Rattle.gramtools.specs.Reply.{RunStates, refusal, without_memory}
+use Rattle.gramtools.specs.Reply.{RunStates, refusal, silence, without_memory}
 use Rattle.gramtools.specs.Status.{code_of}
 use Rattle.gramtools.specs.Stop.{message_of, status_of}
 use Rattle.gramtools.specs.Stopped.{StopsAs, unread}
 use Rattle.gramtools.specs.declared.settings.Settings.{Settings}
 use Rattle.gramtools.specs.declared.stop.Stop.{Stop}
-use Rattle.gramtools.specs.declared.stop.Stop.TheVariants.{NoMemory, Refused}
+use Rattle.gramtools.specs.declared.stop.Stop.TheVariants.{NoMemory, Refused, NotRun}
 
 -- what a run of a grammar's text comes to before its end
 abbrev pub TextStops : List ℕ → Settings → Option (List ℕ) → Option (List ℕ) → Bool → Option (List ℕ) → Option (List ℕ) → Result Stop WriteFault → Type 0
@@ -72,20 +74,39 @@ module _ (text : List ℕ) (settings : Settings) where
   is_unread old a failed fault.Memory faulty = wants_memory old a failed
   is_unread old a failed (fault.NumberTooLarge line) faulty = is_refused old a failed (fault.NumberTooLarge line) faulty (λ e. absurd (cc))
 
-  -- the text is a grammar, and its first rule was run
-  pub is_run : (rules : List Rule) (start : ℕ) (old new a b : Option (List ℕ)) (failed : Bool) (stop : Result Stop WriteFault) → start ≡ 0 → Reads text rules →
+  -- the text is a grammar that isn't run
+  pub is_not_run : (definitions : List Rule) (old a : Option (List ℕ)) (failed : Bool) → Reads text definitions → (IsBasicGrammar definitions → ⊥) →
+      TextStops text settings old old failed a a (Ok NotRun)
+  is_not_run definitions None a failed reads other = tt
+  is_not_run definitions (Some xs) a failed reads other = (
+    [],
+    [],
+    refl,
+    Appends-same a,
+    record {
+      stated = silence;
+      states = not_run definitions reads other;
+      written = (refl, refl, refl);
+      within = omega arith;
+      exact = λ is. refl;
+    },
+  )
+
+  -- the text is a grammar, and its rule was run
+  pub is_run : (definitions rules : List Rule) (start : ℕ) (old new a b : Option (List ℕ)) (failed : Bool) (stop : Result Stop WriteFault) → start ≡ 0 →
+      rules ≡ firsts [] definitions → Reads text definitions → IsBasicGrammar definitions →
       IfSome old (λ given. (taken wrote : List ℕ) × Consumes old new taken × Appends a b wrote ×
       StopsAs (RunStates rules start settings (input_from given taken failed)) settings.limit taken stop wrote) →
       TextStops text settings old new failed a b stop
-  is_run rules start None new a b failed stop first reads w = tt
-  is_run rules start (Some xs) new a b failed stop first reads w = (
+  is_run definitions rules start None new a b failed stop first same reads basic w = tt
+  is_run definitions rules start (Some xs) new a b failed stop first same reads basic w = (
     w.0,
     w.1,
     w.2,
     w.3,
     record {
       stated = w.4.stated;
-      states = runs rules w.4.stated reads (subst (λ s. RunStates rules s settings (input_from xs w.0 failed) w.4.stated) first w.4.states);
+      states = runs definitions w.4.stated reads basic (rw (first, same) at w.4.states);
       written = w.4.written;
       within = w.4.within;
       exact = w.4.exact;

@@ -2,19 +2,24 @@
 use Rattle.std.specs.Prelude.{◌≡◌, ◌≢◌, ℕ, ◌≤◌, false, List, [], length}
 use Rattle.ruletable.specs.declared.fault.ReadFault.{ReadFault}
 use Rattle.ruletable.specs.declared.fault.ReadFault.TheVariants.{Memory}
+use Rattle.pegread.specs.Basic.{IsBasicGrammar}
+use Rattle.pegread.specs.Definitions.{firsts}
 use Rattle.pegread.specs.Pattern.{Rule}
 use Rattle.pegread.specs.Reading.{Reads, IsFaultOf}
 use Rattle.gramtools.specs.Delivery.{Observed, Delivers}
 use Rattle.gramtools.specs.Input.{Input, input_from}
-use Rattle.gramtools.specs.Reply.{Reply, refusal, without_memory, RunStates}
+use Rattle.gramtools.specs.Reply.{Reply, refusal, silence, without_memory, RunStates}
 use Rattle.gramtools.specs.declared.settings.Settings.{Settings}
 
 -- what is stated for a grammar's text and an input
 pub data States (text : List ℕ) (settings : Settings) (input : Input) : Reply → Type 0 where
   -- the text has a fault, which is told
   refused : (fault : ReadFault) → IsFaultOf text fault → fault ≢ Memory → States text settings input (refusal fault)
-  -- the text is a grammar, whose first rule is run on the input
-  runs : (rules : List Rule) (stated : Reply) → Reads text rules → RunStates rules 0 settings input stated → States text settings input stated
+  -- the text is a grammar of the forms that are run so far, whose rule is run on the input
+  runs : (definitions : List Rule) (stated : Reply) → Reads text definitions → IsBasicGrammar definitions → RunStates (firsts [] definitions) 0 settings input stated →
+      States text settings input stated
+  -- any other grammar is not run yet, and nothing is told of it
+  not_run : (definitions : List Rule) → Reads text definitions → (IsBasicGrammar definitions → ⊥) → States text settings input silence
   -- a growth was refused in reading or checking the text
   no_memory : States text settings input (without_memory [] 0)
 

@@ -22,6 +22,10 @@ pub record Reply : Type 0 where
 abbrev pub refusal : ReadFault → Reply
 refusal fault = record { out = []; err = fault_text fault; status = 2; taken = 0 }
 
+-- nothing is written or taken of a grammar that isn't run
+abbrev pub silence : Reply
+silence = record { out = []; err = []; status = 2; taken = 0 }
+
 -- a growth is refused after this output and so many bytes of input
 abbrev pub without_memory : List ℕ → ℕ → Reply
 without_memory out taken = record { out = out; err = codes "out of memory\n"; status = 5; taken = taken }

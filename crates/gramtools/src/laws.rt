@@ -7,22 +7,17 @@ ghost use Rattle.gramtools.specs.Input.{Input};
 ghost use Rattle.gramtools.specs.Reply.{Replies, Reply};
 ghost use Rattle.gramtools.specs.declared.settings.Settings.{Settings};
 
-use pegread::{one_list, one_tree};
-
 /// A list of rules, a start rule and settings have at most one reply to an input.
 pub fn one_reply()
     ensures { (rules : List Rule) (start : ℕ) (settings : Settings) (input : Input) (a b : Reply) →
         Replies rules start settings input a → Replies rules start settings input b → a ≡ b }
 {}
 
-/// A text is a grammar of at most one list of rules, or has at most one fault, and never both; but memory may be refused in reading it.
+/// A text is a grammar of at most one list of definitions, or has at most one fault, and never both; but memory may be refused in reading it.
 pub fn one_statement()
-    ensures rules { (text : List ℕ) (a b : List Rule) → Reads text a → Reads text b → a ≡ b }
-    ensures no_fault { (text : List ℕ) (rules : List Rule) (fault : ReadFault) →
-        IsFaultOf text fault → fault ≢ ReadFault.Memory → Reads text rules → ⊥ }
+    ensures definitions { (text : List ℕ) (a b : List Rule) → Reads text a → Reads text b → a ≡ b }
+    ensures no_fault { (text : List ℕ) (definitions : List Rule) (fault : ReadFault) →
+        IsFaultOf text fault → fault ≢ ReadFault.Memory → Reads text definitions → ⊥ }
     ensures one_fault { (text : List ℕ) (a b : ReadFault) →
         IsFaultOf text a → IsFaultOf text b → a ≢ ReadFault.Memory → b ≢ ReadFault.Memory → a ≡ b }
-{
-    one_list();
-    one_tree();
-}
+{}

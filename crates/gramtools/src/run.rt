@@ -16,7 +16,7 @@ use crate::settings::Settings;
 use crate::source::Source;
 use crate::status::Status;
 use crate::stop::Stop;
-use gramcheck::SoundPeg;
+use gramcheck::{SoundPeg, is_basic};
 use pegmatch::{Matcher, Plain};
 use pegread::read_peg;
 use ruletable::{ReadFault, Sink, WriteFault};
@@ -85,6 +85,9 @@ fn run_text<M: Matcher, R: Source, O: Sink>(
         Ok(read) => read,
         Err(fault) => return Ok(stop_unread(fault)),
     };
+    if !is_basic(&read) {
+        return Ok(Stop::NotRun);
+    }
     let peg = match SoundPeg::of_one_rule(alloc, read) {
         Ok(peg) => peg,
         Err(_) => return Ok(Stop::NoMemory),
@@ -96,6 +99,8 @@ fn run_text<M: Matcher, R: Source, O: Sink>(
 ///
 /// - The grammar is in the syntax of peg(1). One that has a fault is told by that fault's line, status `Refused`, and
 ///   nothing is read.
+/// - So far a grammar is run that has one definition, of literals, `.`, sequences, choices, captures and actions. Of any
+///   other nothing is told: status `Refused`, and nothing is read.
 /// - A unit is one success of the first rule; it begins where the one before ended, and its actions are printed in order.
 ///   The run ends where the rule fails or takes no byte: `no match at byte S`, status `NoMatch`, but `Done` at the end of
 ///   the input.

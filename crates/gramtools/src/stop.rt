@@ -22,6 +22,8 @@ pub enum Stop {
     NoMemory,
     /// The grammar's text has this fault.
     Refused(ReadFault),
+    /// The grammar is of a form that is not run yet.
+    NotRun,
     /// The grammar's file cannot be read.
     Unreadable,
 }
@@ -37,11 +39,12 @@ pub fn status(stop: Stop) -> Status
         Stop::Broken => Status::Fault,
         Stop::NoMemory => Status::NoMemory,
         Stop::Refused(_) => Status::Refused,
+        Stop::NotRun => Status::Refused,
         Stop::Unreadable => Status::Fault,
     }
 }
 
-/// Writes the line for it, with its LF; nothing for the end of the input.
+/// Writes the line for it, with its LF; nothing for the end of the input, and for a grammar that is not run.
 pub fn write_stop<W: Sink>(stop: Stop, limit: usize, w: &mut W) -> Result<(), WriteFault>
     ensures bytes { Writes (W.contents w.old) (W.contents w.new) (message_of limit stop) result }
     ensures flag { Flags (W.failed w.old) (W.failed w.new) result }
@@ -53,6 +56,7 @@ pub fn write_stop<W: Sink>(stop: Stop, limit: usize, w: &mut W) -> Result<(), Wr
         Stop::Broken => write_whole(w, b"read error\n"),
         Stop::NoMemory => write_whole(w, b"out of memory\n"),
         Stop::Refused(fault) => write_fault(&fault, w),
+        Stop::NotRun => Ok(()),
         Stop::Unreadable => write_whole(w, b"cannot read the grammar\n"),
     }
 }

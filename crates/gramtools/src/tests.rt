@@ -202,37 +202,81 @@ fn ends_where_nothing_matches(rt: HostRuntime) -> Result<(), Fail> {
     check_rows(&rt, false, rows.as_slice())
 }
 
+/// A grammar that is not run: what is told of it, while nothing is printed and nothing is read.
+fn check_refused<R: Abort + AllocGlobal>(rt: &R, grammar: &[u8], line: &[u8]) {
+    let clock = Cell::new(0);
+    let mut reader = SourceOf::new(Tape::new(b"abc", 1, true));
+    let mut out = SinkOf::new(Paper::new(rt.alloc(), 1, &clock));
+    let mut err = SinkOf::new(Paper::new(rt.alloc(), 1, &clock));
+    let status = run_peg(
+        rt.alloc(),
+        grammar,
+        &Settings::run(),
+        &mut reader,
+        &mut out,
+        &mut err,
+    );
+    assert_eq!(rt; status, Status::Refused);
+    assert!(rt; out.into_inner().text().is_empty());
+    assert!(rt; err.into_inner().text() == line);
+    assert_eq!(rt; reader.into_inner().left(), 3, "nothing is read");
+}
+
 #[test]
-fn tells_a_fault_of_the_grammar(rt: HostRuntime) -> Result<(), Fail> {
-    let texts: [(&[u8], &[u8]); 8] = [
-        (b"", b"line 1: syntax error\n"),
-        (b"S <- \"a\n", b"line 1: syntax error\n"),
-        (b"S <- 'a'\r\n  'b' *\n", b"line 2: syntax error\n"),
-        (b"# a comment\r\n\rS <- ( 'a' )", b"line 3: syntax error\n"),
-        (b"S <- 'a'\nT <- 'b'\n", b"line 2: syntax error\n"),
-        (b"S <- 'a\\n'", b"line 1: syntax error\n"),
-        (b"S < - 'a'", b"line 1: syntax error\n"),
-        (b"S <- 'a' {\n}\n\n]", b"line 4: syntax error\n"),
-    ];
-    for (grammar, line) in texts {
-        let clock = Cell::new(0);
-        let mut reader = SourceOf::new(Tape::new(b"abc", 1, true));
-        let mut out = SinkOf::new(Paper::new(rt.alloc(), 1, &clock));
-        let mut err = SinkOf::new(Paper::new(rt.alloc(), 1, &clock));
-        let status = run_peg(
-            rt.alloc(),
-            grammar,
-            &Settings::run(),
-            &mut reader,
-            &mut out,
-            &mut err,
-        );
-        assert_eq!(rt; status, Status::Refused);
-        assert!(rt; out.into_inner().text().is_empty());
-        assert!(rt; err.into_inner().text() == line);
-        assert_eq!(rt; reader.into_inner().left(), 3, "nothing is read");
+fn tells_a_fault_of_the_grammar(rt: HostRuntime) {
+    check_refused(&rt, b"", b"line 1: syntax error\n");
+    check_refused(&rt, b"S <- \"a\n", b"line 1: syntax error\n");
+    check_refused(&rt, b"S <- 'a'\r\n  'b' **\n", b"line 2: syntax error\n");
+    check_refused(&rt, b"# a comment\r\n\rS <- ( 'a'", b"line 3: syntax error\n");
+    check_refused(&rt, b"S <- ( 'a'\n", b"line 2: syntax error\n");
+    check_refused(&rt, b"A <- 'a'\nB <- ( 'b'\nC\n<- 'c'", b"line 4: syntax error\n");
+    check_refused(&rt, b"S < - 'a'", b"line 1: syntax error\n");
+    check_refused(&rt, b"S <- 'a' {\n}\n\n]", b"line 4: syntax error\n");
+    check_refused(&rt, b"S <- &{ x } 'a'", b"line 1: code predicate\n");
+}
+
+/// That many brackets round a letter.
+fn nested(alloc: Global, depth: usize) -> Result<Vec<u8>, Fail> {
+    let mut text = b"S <- ".to_vec(alloc)?;
+    for _ in 0..depth {
+        text.push(b'(')?;
     }
+    text.extend_from_slice(b"'a'")?;
+    for _ in 0..depth {
+        text.push(b')')?;
+    }
+    Ok(text)
+}
+
+#[test]
+fn counts_open_brackets(rt: HostRuntime) -> Result<(), Fail> {
+    let deeper = nested(rt.alloc(), 201)?;
+    check_refused(&rt, &deeper, b"line 1: nested too deeply\n");
+    let deep = nested(rt.alloc(), 200)?;
+    let clock = Cell::new(0);
+    let mut reader = SourceOf::new(Tape::new(b"a", 1, false));
+    let mut out = SinkOf::new(Paper::new(rt.alloc(), 1, &clock));
+    let mut err = SinkOf::new(Paper::new(rt.alloc(), 1, &clock));
+    let status = run_peg(
+        rt.alloc(),
+        &deep,
+        &Settings::run(),
+        &mut reader,
+        &mut out,
+        &mut err,
+    );
+    assert_eq!(rt; status, Status::Done);
+    assert!(rt; out.into_inner().text().is_empty());
+    assert!(rt; err.into_inner().text().is_empty());
     Ok(())
+}
+
+#[test]
+fn tells_nothing_of_what_is_not_run(rt: HostRuntime) {
+    check_refused(&rt, b"S <- 'a'\nT <- 'b'\n", b"");
+    check_refused(&rt, b"S <- 'a' S <- 'b'", b"");
+    check_refused(&rt, b"S <- 'a'*", b"");
+    check_refused(&rt, b"S <- 'a' / (. [b])", b"");
 }
 
 #[test]

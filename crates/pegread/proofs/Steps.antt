@@ -4,7 +4,7 @@ use Rattle.std.proofs.lemmas.List.{take_at}
 use Rattle.pegread.specs.declared.token_iter.Kind.{Kind}
 use Rattle.pegread.specs.declared.token_iter.Kind.TheVariants.{End}
 use Rattle.pegread.specs.Kinds.{is_end}
-use Rattle.pegread.specs.Slices.{Names, none, more, Closes, close, escape, plain, Body, last, nested, other, Stands, ident, arrow, begin, end_cap, slash, dot, single, double, action, Comment, ended, inside, White, no_more, blank, comment, First, found, bad, at_end}
+use Rattle.pegread.specs.Slices.{Names, none, more, Closes, close, escape, plain, Body, last, nested, other, Stands, ident, arrow, single, double, class, action, Comment, ended, inside, White, no_more, blank, comment, First, found, bad, at_end}
 use Rattle.pegread.specs.declared.token_iter.Token.{Token}
 use Rattle.pegread.specs.declared.token_iter.TokenIter.{TokenIter}
 use Rattle.pegread.specs.Tokens.{Tok, tok, kind_of, tok_of, Next, AreTokens, last_one, one_more, GivesToken, AreLeft, total_of, IsAtStart}
@@ -48,15 +48,13 @@ less-one {t} {r} b h = record { part = one b h; less = (let e = ap length h.whol
 pub stands-part : {k : Kind} {t r : List ℕ} → Stands k t r → IsPart t r
 stands-part (ident h n) = less-one _ (names-end n)
 stands-part arrow = less-one _ (one _ here)
-stands-part begin = less-one _ here
-stands-part end_cap = less-one _ here
-stands-part slash = less-one _ here
-stands-part dot = less-one _ here
 stands-part (single c) = less-one _ (closes-end c)
 stands-part (double c) = less-one _ (closes-end c)
+stands-part (class c) = less-one _ (closes-end c)
 stands-part (action c) = less-one _ (body-end c)
+stands-part _ = less-one _ here
 
-stands-no_end : {t r : List ℕ} → Stands End t r → ⊥
+pub stands-no_end : {t r : List ℕ} → Stands End t r → ⊥
 stands-no_end h = elim h [ ]
 
 whole : (t : List ℕ) → IsEnd t []

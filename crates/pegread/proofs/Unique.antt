@@ -6,7 +6,7 @@ use Rattle.pegread.specs.declared.token_iter.Kind.{Kind}
 use Rattle.pegread.specs.declared.token_iter.Kind.TheVariants.{Ident}
 use Rattle.ruletable.specs.declared.span.Span.{Span}
 use Rattle.pegread.specs.Kinds.{is_end}
-use Rattle.pegread.specs.Slices.{starts_name, is_blank, Stands, ident, arrow, begin, end_cap, slash, dot, single, double, action, Comment, ended, inside, White, no_more, blank, comment, IsNotWhite, First, found, bad, at_end}
+use Rattle.pegread.specs.Slices.{starts_name, is_blank, Stands, ident, arrow, begin, Comment, ended, inside, White, no_more, blank, comment, IsNotWhite, First, found, bad, at_end}
 use Rattle.std.proofs.Common.{cond, Some, None}
 use Rattle.pegread.specs.declared.token_iter.Token.{Token}
 use Rattle.pegread.specs.declared.token_iter.TokenIter.{TokenIter}
@@ -35,14 +35,7 @@ letter-not-white b bs e = (grind (arith, nat_tests), λ h. let f : starts_name 3
 
 stands-not_white : {k : Kind} {t r : List ℕ} → Stands k t r → IsNotWhite t
 stands-not_white (ident {b} {bs} h n) = letter-not-white b bs h
-stands-not_white arrow = (refl, omega arith)
-stands-not_white begin = (refl, omega arith)
-stands-not_white end_cap = (refl, omega arith)
-stands-not_white slash = (refl, omega arith)
-stands-not_white dot = (refl, omega arith)
-stands-not_white (single c) = (refl, omega arith)
-stands-not_white (double c) = (refl, omega arith)
-stands-not_white (action c) = (refl, omega arith)
+stands-not_white _ = (refl, omega arith)
 
 first-not_white : {k : Kind} {t r : List ℕ} → First k t r → IsNotWhite t
 first-not_white (found h) = stands-not_white h.stands
@@ -58,36 +51,15 @@ same-end {t} {r} {s} h k e =
 
 letter-kind : {k : Kind} {b : ℕ} {bs r : List ℕ} → starts_name b ≡ true → Stands k (b ∷ bs) r → k ≡ Ident
 letter-kind e (ident h n) = refl
-letter-kind e arrow = cc
-letter-kind e begin = cc
-letter-kind e end_cap = cc
-letter-kind e slash = cc
-letter-kind e dot = cc
-letter-kind e (single c) = cc
-letter-kind e (double c) = cc
-letter-kind e (action c) = cc
+letter-kind e _ = cc
 
 -- two tokens that stand at one place and end at one place are of one kind
 stands-one : {k j : Kind} {t r s : List ℕ} → r ≡ s → Stands k t r → Stands j t s → k ≡ j
 stands-one e (ident h n) y = sym (letter-kind h y)
-stands-one e arrow (ident h n) = absurd (let f : starts_name 60 ≡ true = h in cc)
-stands-one e arrow arrow = refl
+stands-one e x (ident h n) = letter-kind h x
 stands-one e arrow begin = absurd (omega (arith, ap length e))
-stands-one e begin (ident h n) = absurd (let f : starts_name 60 ≡ true = h in cc)
 stands-one e begin arrow = absurd (omega (arith, ap length e))
-stands-one e begin begin = refl
-stands-one e end_cap (ident h n) = absurd (let f : starts_name 62 ≡ true = h in cc)
-stands-one e end_cap end_cap = refl
-stands-one e slash (ident h n) = absurd (let f : starts_name 47 ≡ true = h in cc)
-stands-one e slash slash = refl
-stands-one e dot (ident h n) = absurd (let f : starts_name 46 ≡ true = h in cc)
-stands-one e dot dot = refl
-stands-one e (single c) (ident h n) = absurd (let f : starts_name 39 ≡ true = h in cc)
-stands-one e (single c) (single d) = refl
-stands-one e (double c) (ident h n) = absurd (let f : starts_name 34 ≡ true = h in cc)
-stands-one e (double c) (double d) = refl
-stands-one e (action c) (ident h n) = absurd (let f : starts_name 123 ≡ true = h in cc)
-stands-one e (action c) (action d) = refl
+stands-one e _ _ = refl
 
 nothing-stands-at_end : {k : Kind} {r : List ℕ} → Stands k [] r → ⊥
 nothing-stands-at_end h = elim h [ ]

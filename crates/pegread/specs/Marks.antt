@@ -1,11 +1,14 @@
--- Marks that stand round a token's content.
-use Rattle.std.specs.Prelude.{◌≡◌, ◌⊎◌, ℕ, List, [], ◌∷◌, ◌++◌}
-use Rattle.pegread.specs.Spelling.{inside}
+-- What the slices of a text's literals, classes and actions are.
+use Rattle.std.specs.Prelude.{ℕ, List}
+use Rattle.pegread.specs.declared.token_iter.Kind.{Kind}
+use Rattle.pegread.specs.declared.token_iter.Kind.TheVariants.{Literal, Class, Action}
+use Rattle.pegread.specs.Actions.{IsBraced}
+use Rattle.pegread.specs.Classes.{IsClass}
+use Rattle.pegread.specs.Literals.{IsLiteral}
 
--- what stands inside, between two quotes of one kind
-abbrev pub IsQuoted : List ℕ → Type 0
-IsQuoted z = (z ≡ 39 ∷ (inside z ++ 39 ∷ [])) ⊎ (z ≡ 34 ∷ (inside z ++ 34 ∷ []))
-
--- what stands inside, between braces
-abbrev pub IsBraced : List ℕ → Type 0
-IsBraced z = z ≡ 123 ∷ (inside z ++ 125 ∷ [])
+-- the slice is one that a token of that kind can have
+abbrev pub IsCut : Kind → List ℕ → Type 0
+IsCut Literal z = IsLiteral z
+IsCut Class z = IsClass z
+IsCut Action z = IsBraced z
+IsCut _ z = Unit {0}

@@ -1,38 +1,61 @@
 -- What a text spells, and what is wrong with one that spells nothing.
-use Rattle.std.specs.Prelude.{◌≡◌, ℕ, ◌<◌, ◌≤◌, length, slice_get, List, Some}
+use Rattle.std.specs.Prelude.{◌≡◌, ℕ, ◌+◌, ◌<◌, ◌≤◌, ◌≢◌, length, map, take, slice_get, List, Some}
 use Rattle.ruletable.specs.Lines.{line_at}
 use Rattle.ruletable.specs.declared.lines.LineRule.TheVariants.{Any}
 use Rattle.ruletable.specs.declared.fault.ReadFault.{ReadFault}
 use Rattle.ruletable.specs.declared.fault.ReadFault.TheVariants as faults
-use Rattle.pegread.specs.declared.read.TheConstants.{MAX_GRAMMAR}
+use Rattle.pegread.specs.declared.read.TheConstants.{MAX_GRAMMAR, MAX_OPEN}
+use Rattle.pegread.specs.declared.token_iter.Kind.TheVariants.{Amp, Action}
 use Rattle.pegread.specs.Pattern.{Rule}
-use Rattle.pegread.specs.Tokens.{Tok, AreTokens, start_of}
-use Rattle.pegread.specs.Spelling.{Grammar, Hopeless}
+use Rattle.pegread.specs.Tokens.{Tok, AreTokens, kind_of, start_of}
+use Rattle.pegread.specs.Words.{Word, SayAll}
+use Rattle.pegread.specs.Limits.{IsShallow}
+use Rattle.pegread.specs.Spelling.{Grammar, Viable, Hopeless}
 
--- the text's tokens spell the rules
-abbrev pub Spells : List ℕ → List Rule → Type 0
-Spells text rules = (ts : List Tok) × AreTokens (length text) text ts × Grammar ts rules
-
--- the text is a grammar of these rules, and no longer than a grammar may be
-pub record Reads (text : List ℕ) (rules : List Rule) : Type 0 where
+-- The text is a grammar of these definitions, and keeps to the limits of its length and of brackets open at once.
+pub record Reads (text : List ℕ) (definitions : List Rule) : Type 0 where
   pub within : length text ≤ MAX_GRAMMAR
-  pub spells : Spells text rules
+  pub tokens : List Tok
+  pub are_tokens : AreTokens (length text) text tokens
+  pub words : List Word
+  pub say : SayAll tokens words
+  pub grammar : Grammar words definitions
+  pub shallow : IsShallow MAX_OPEN 0 tokens
 
--- a hopeless token of the text stands on that line
-pub record IsHopelessAt (text : List ℕ) (line : ℕ) : Type 0 where
+-- an action right behind an `&`
+pub record IsCodePredicate (ts : List Tok) (i : ℕ) : Type 0 where
+  pub place : ℕ
+  pub next : i ≡ place + 1
+  pub amp : slice_get (map kind_of ts) place ≡ Some Amp
+  pub action : slice_get (map kind_of ts) i ≡ Some Action
+
+-- with token i the tokens begin no grammar any more
+pub record IsHopeless (ts : List Tok) (i : ℕ) : Type 0 where
+  pub hopeless : Hopeless ts i
+  pub shallow : IsShallow MAX_OPEN 0 (take i ts)
+
+-- with token i the tokens still begin a grammar, but too many brackets are open
+pub record IsTooDeep (ts : List Tok) (i : ℕ) : Type 0 where
+  pub viable : Viable (take (i + 1) ts)
+  pub shallow : IsShallow MAX_OPEN 0 (take i ts)
+  pub deeper : IsShallow MAX_OPEN 0 (take (i + 1) ts) → ⊥
+
+-- a token of the text decides, and stands on that line
+pub record IsDecidedAt (text : List ℕ) (line : ℕ) (Decides : List Tok → ℕ → Type 0) : Type 0 where
+  pub within : length text ≤ MAX_GRAMMAR
   pub all : List Tok
   pub are_tokens : AreTokens (length text) text all
   pub number : ℕ
   pub token : Tok
   pub there : slice_get all number ≡ Some token
-  pub hopeless : Hopeless all number
+  pub decides : Decides all number
   pub line_is : line ≡ line_at Any text (start_of token)
 
--- The text is refused for that fault. Its length is looked at first. Memory may want at any growth.
+-- The text is refused for that fault. Its length is looked at first, then the first token that is hopeless or opens too many brackets decides. Memory may want at any growth.
 abbrev pub IsFaultOf : List ℕ → ReadFault → Type 0
-IsFaultOf text (faults.Syntax line) = (length text ≤ MAX_GRAMMAR) × IsHopelessAt text line
+IsFaultOf text (faults.Syntax line) = IsDecidedAt text line (λ ts i. IsHopeless ts i × (IsCodePredicate ts i → ⊥))
+IsFaultOf text (faults.CodePredicate line) = IsDecidedAt text line (λ ts i. IsHopeless ts i × IsCodePredicate ts i)
+IsFaultOf text (faults.Depth line) = IsDecidedAt text line IsTooDeep
 IsFaultOf text faults.TooLong = MAX_GRAMMAR < length text
 IsFaultOf text faults.Memory = Unit {0}
-IsFaultOf text (faults.Depth line) = ⊥
-IsFaultOf text (faults.CodePredicate line) = ⊥
 IsFaultOf text (faults.NumberTooLarge line) = ⊥

@@ -2,7 +2,7 @@
 use Rattle.std.specs.Prelude.{◌≡◌, ◌≢◌, ℕ, ◌≤◌, ◌||◌, ◌==◌, Bool, true, false, List, [], ◌∷◌, length}
 use Rattle.std.specs.Char.{is_ascii_alphabetic, is_ascii_alphanumeric}
 use Rattle.pegread.specs.declared.token_iter.Kind.{Kind}
-use Rattle.pegread.specs.declared.token_iter.Kind.TheVariants.{Ident, Arrow, Begin, EndCap, Slash, Dot, Literal, Action, Bad, End}
+use Rattle.pegread.specs.declared.token_iter.Kind.TheVariants.{Ident, Arrow, Begin, EndCap, Slash, Amp, Bang, Quest, Star, Plus, Dot, LParen, RParen, Literal, Class, Action, Bad, End}
 
 -- letters and `_`
 abbrev pub starts_name : ℕ → Bool
@@ -70,10 +70,22 @@ pub data Stands : Kind → List ℕ → List ℕ → Type 0 where
   begin : {r : List ℕ} → Stands Begin (60 ∷ r) r
   end_cap : {r : List ℕ} → Stands EndCap (62 ∷ r) r
   slash : {r : List ℕ} → Stands Slash (47 ∷ r) r
+  amp : {r : List ℕ} → Stands Amp (38 ∷ r) r
+  bang : {r : List ℕ} → Stands Bang (33 ∷ r) r
+  quest : {r : List ℕ} → Stands Quest (63 ∷ r) r
+  star : {r : List ℕ} → Stands Star (42 ∷ r) r
+  plus : {r : List ℕ} → Stands Plus (43 ∷ r) r
   dot : {r : List ℕ} → Stands Dot (46 ∷ r) r
+  lparen : {r : List ℕ} → Stands LParen (40 ∷ r) r
+  rparen : {r : List ℕ} → Stands RParen (41 ∷ r) r
   single : {bs r : List ℕ} → Closes 39 bs r → Stands Literal (39 ∷ bs) r
   double : {bs r : List ℕ} → Closes 34 bs r → Stands Literal (34 ∷ bs) r
+  class : {bs r : List ℕ} → Closes 93 bs r → Stands Class (91 ∷ bs) r
   action : {bs r : List ℕ} → Body bs r → Stands Action (123 ∷ bs) r
+
+-- a token that begins the text is of no kind that passes the test
+abbrev pub StandsNone : (Kind → Bool) → List ℕ → Type 0
+StandsNone f t = (kind : Kind) (r : List ℕ) → Stands kind t r → f kind ≡ false
 
 -- the longest token that begins the text
 pub record Longest (kind : Kind) (t r : List ℕ) : Type 0 where

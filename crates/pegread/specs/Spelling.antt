@@ -1,9 +1,10 @@
--- Which lists of tokens spell which grammars. A relation on two lists holds of a list and of what stands behind the part that is spelled.
-use Rattle.std.specs.Prelude.{◌≡◌, ℕ, ◌+◌, ◌-◌, ◌==◌, ◌||◌, Bool, false, List, [], ◌∷◌, ◌++◌, take, drop, length}
+-- Which words spell which grammars (peg(1) manual). A relation on two lists holds of a list and of what stands behind the part that is spelled.
+use Rattle.std.specs.Prelude.{◌≡◌, ℕ, ◌+◌, Bool, List, [], ◌∷◌, ◌++◌, take}
 use Rattle.ruletable.specs.declared.span.Span.{Span}
-use Rattle.pegread.specs.declared.token_iter.Kind.TheVariants.{Ident, Arrow, Begin, EndCap, Slash, Dot, Literal, Action, End}
-use Rattle.pegread.specs.Pattern.{Pattern, Any, Bytes, Seq, Choice, Act, Open, Close, Patterns, none, more, Rule}
-use Rattle.pegread.specs.Tokens.{Tok, tok}
+use Rattle.pegread.specs.Pattern as e
+use Rattle.pegread.specs.Pattern.{Pattern, Any, Bytes, Set, Name, Seq, Choice, Opt, And, Not, Act, Open, Close, Patterns, none, more, Rule}
+use Rattle.pegread.specs.Tokens.{Tok}
+use Rattle.pegread.specs.Words.{Word, Ident, Arrow, Begin, EndCap, Slash, Amp, Bang, Quest, Star, Plus, Dot, LParen, RParen, Literal, Class, Action, End, SayAll}
 
 -- a sequence of one member is that member
 abbrev pub sequence : Patterns → Pattern
@@ -17,48 +18,66 @@ choice none = Choice none
 choice (more e none) = e
 choice (more e (more f es)) = Choice (more e (more f es))
 
--- whether byte 92 is among them
-abbrev pub has_backslash : List ℕ → Bool
-has_backslash [] = false
-has_backslash (b ∷ bs) = (b == 92) || has_backslash bs
+-- no action begins the list
+abbrev pub NoAction : List Word → Type 0
+NoAction (Action t ∷ ws) = ⊥
+NoAction _ = Unit {0}
 
--- what stands between the first and the last byte: within a literal's quotes, or an action's outer braces
-abbrev pub inside : List ℕ → List ℕ
-inside z = take (length z - 2) (drop 1 z)
+mutual
+  pub data Primary : List Word → List Word → Pattern → Type 0 where
+    name : {n : List ℕ} {p : Span} {r : List Word} → Primary (Ident n p ∷ r) r (Name n)
+    literal : {bs : List ℕ} {r : List Word} → Primary (Literal bs ∷ r) r (Bytes bs)
+    class : {f : ℕ → Bool} {r : List Word} → Primary (Class f ∷ r) r (Set f)
+    dot : {r : List Word} → Primary (Dot ∷ r) r Any
+    action : {t : List ℕ} {r : List Word} → Primary (Action t ∷ r) r (Act t)
+    begin : {r : List Word} → Primary (Begin ∷ r) r Open
+    end_cap : {r : List Word} → Primary (EndCap ∷ r) r Close
+    -- an expression in parentheses, which are no expression of their own
+    parens : {s r : List Word} {x : Pattern} → Expression s (RParen ∷ r) x → Primary (LParen ∷ s) r x
 
--- one item of a sequence
-pub data One : List Tok → List Tok → Pattern → Type 0 where
-  literal : {z : List ℕ} {p : Span} {r : List Tok} → has_backslash (inside z) ≡ false → One (tok Literal z p ∷ r) r (Bytes (inside z))
-  dot : {z : List ℕ} {p : Span} {r : List Tok} → One (tok Dot z p ∷ r) r Any
-  action : {z : List ℕ} {p : Span} {r : List Tok} → One (tok Action z p ∷ r) r (Act (inside z))
-  begin : {z : List ℕ} {p : Span} {r : List Tok} → One (tok Begin z p ∷ r) r Open
-  end_cap : {z : List ℕ} {p : Span} {r : List Tok} → One (tok EndCap z p ∷ r) r Close
+  -- at most one suffix
+  pub data Suffixed : List Word → List Word → Pattern → Type 0 where
+    bare : {s r : List Word} {x : Pattern} → Primary s r x → Suffixed s r x
+    quest : {s r : List Word} {x : Pattern} → Primary s (Quest ∷ r) x → Suffixed s r (Opt x)
+    star : {s r : List Word} {x : Pattern} → Primary s (Star ∷ r) x → Suffixed s r (e.Star x)
+    plus : {s r : List Word} {x : Pattern} → Primary s (Plus ∷ r) x → Suffixed s r (e.Plus x)
 
--- any number of items, also none
-pub data Items : List Tok → List Tok → Patterns → Type 0 where
-  no_item : {r : List Tok} → Items r r none
-  item : {s m r : List Tok} {e : Pattern} {es : Patterns} → One s m e → Items m r es → Items s r (more e es)
+  -- at most one prefix; `&` and an action would be C's code as a predicate, which is no expression here
+  pub data Prefixed : List Word → List Word → Pattern → Type 0 where
+    plain : {s r : List Word} {x : Pattern} → Suffixed s r x → Prefixed s r x
+    bang : {s r : List Word} {x : Pattern} → Suffixed s r x → Prefixed (Bang ∷ s) r (Not x)
+    amp : {s r : List Word} {x : Pattern} → NoAction s → Suffixed s r x → Prefixed (Amp ∷ s) r (And x)
 
--- one or more sequences with slashes between
-pub data Alternatives : List Tok → List Tok → Patterns → Type 0 where
-  only : {s r : List Tok} {es : Patterns} → Items s r es → Alternatives s r (more (sequence es) none)
-  further : {s m r : List Tok} {z : List ℕ} {p : Span} {es bs : Patterns} → Items s (tok Slash z p ∷ m) es → Alternatives m r bs → Alternatives s r (more (sequence es) bs)
+  -- any number of items, also none
+  pub data Items : List Word → List Word → Patterns → Type 0 where
+    no_item : {r : List Word} → Items r r none
+    item : {s m r : List Word} {x : Pattern} {xs : Patterns} → Prefixed s m x → Items m r xs → Items s r (more x xs)
+
+  -- one or more sequences with slashes between
+  pub data Alternatives : List Word → List Word → Patterns → Type 0 where
+    only : {s r : List Word} {xs : Patterns} → Items s r xs → Alternatives s r (more (sequence xs) none)
+    further : {s m r : List Word} {xs ys : Patterns} → Items s (Slash ∷ m) xs → Alternatives m r ys → Alternatives s r (more (sequence xs) ys)
+
+  pub data Expression : List Word → List Word → Pattern → Type 0 where
+    expression : {s r : List Word} {ys : Patterns} → Alternatives s r ys → Expression s r (choice ys)
 
 -- the rule of that name, which stands there, with that body
 abbrev pub rule_at : List ℕ → Span → Pattern → Rule
-rule_at name span body = record { name = name; body = body; span = span }
+rule_at n p x = record { name = n; body = x; span = p }
 
--- The whole list spells the rule: its name, an arrow, an expression and the end. The rule's span is that of its name.
-pub data Definition : List Tok → Rule → Type 0 where
-  definition : {n y z : List ℕ} {p q e : Span} {s : List Tok} {bs : Patterns} → Alternatives s (tok End z e ∷ []) bs → Definition (tok Ident n p ∷ tok Arrow y q ∷ s) (rule_at n p (choice bs))
+-- The whole list spells the definitions: one or more, and the end. Each is a name, an arrow and an expression, and its span is that of its name.
+pub data Grammar : List Word → List Rule → Type 0 where
+  last_definition : {n : List ℕ} {p : Span} {s : List Word} {x : Pattern} → Expression s (End ∷ []) x → Grammar (Ident n p ∷ Arrow ∷ s) (rule_at n p x ∷ [])
+  more_definitions : {n : List ℕ} {p : Span} {s m : List Word} {x : Pattern} {rules : List Rule} → Expression s m x → Grammar m rules →
+      Grammar (Ident n p ∷ Arrow ∷ s) (rule_at n p x ∷ rules)
 
--- the whole list spells the rules of a grammar, which has one definition
-pub data Grammar : List Tok → List Rule → Type 0 where
-  one_rule : {s : List Tok} {rule : Rule} → Definition s rule → Grammar s (rule ∷ [])
+-- some words that go on with these spell a grammar
+abbrev pub Begins : List Word → Type 0
+Begins ws = (rest : List Word) × (rules : List Rule) × Grammar (ws ++ rest) rules
 
--- the list begins one that spells a grammar
+-- what the tokens say begins a grammar
 abbrev pub Viable : List Tok → Type 0
-Viable ts = (rest : List Tok) × (rules : List Rule) × Grammar (ts ++ rest) rules
+Viable ts = (ws : List Word) × SayAll ts ws × Begins ws
 
 -- tokens 0 to i-1 begin some grammar's list, tokens 0 to i begin none
 pub record Hopeless (ts : List Tok) (i : ℕ) : Type 0 where

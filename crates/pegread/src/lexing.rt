@@ -1,6 +1,7 @@
 //! Where tokens and white space end.
 ghost use Rattle.std.specs.Prelude.{◌≡◌, ℕ, ◌≤◌, List, ◌∷◌, length, MatchOption};
-ghost use Rattle.pegread.specs.Slices.{starts_name, continues_name, is_blank, ends_line, Names, Closes, Body, Comment, White, IsNotWhite, NoDash, First};
+ghost use Rattle.pegread.specs.Slices.{starts_name, continues_name, is_blank, ends_line, Names, Closes, Body, Comment, White, IsNotWhite, NoDash, First, StandsNone};
+ghost use Rattle.pegread.specs.Kinds.{is_sign, is_closed};
 
 use crate::token_iter::Kind;
 
@@ -123,6 +124,50 @@ fn after_dash(text: &[u8]) -> Option<&[u8]>
     if *first == b'-' { Some(tail) } else { None }
 }
 
+// The token that a `<` begins: its kind, and what stands behind it.
+fn angle_token(tail: &[u8]) -> (Kind, &[u8])
+    ensures { First result.0 (60 ∷ tail.now) result.1.now }
+{
+    match after_dash(tail) {
+        Some(rest) => (Kind::Arrow, rest),
+        None => (Kind::Begin, tail),
+    }
+}
+
+// The kind of token that the byte is, whatever stands behind it.
+fn sign_kind(b: u8) -> Option<Kind>
+    ensures { MatchOption result ((r : List ℕ) → StandsNone is_sign (b ∷ r)) (λ kind. (r : List ℕ) → First kind (b ∷ r) r) }
+{
+    match b {
+        b'>' => Some(Kind::EndCap),
+        b'/' => Some(Kind::Slash),
+        b'&' => Some(Kind::Amp),
+        b'!' => Some(Kind::Bang),
+        b'?' => Some(Kind::Quest),
+        b'*' => Some(Kind::Star),
+        b'+' => Some(Kind::Plus),
+        b'.' => Some(Kind::Dot),
+        b'(' => Some(Kind::LParen),
+        b')' => Some(Kind::RParen),
+        _ => None,
+    }
+}
+
+// The token that a mark of its own closes: its kind, and what stands behind it.
+fn closed_token(first: u8, tail: &[u8]) -> Option<(Kind, &[u8])>
+    ensures { MatchOption result (StandsNone is_closed (first ∷ tail.now)) (λ token. First token.0 (first ∷ tail.now) token.1.now) }
+{
+    if first == b'\'' || first == b'"' {
+        Some((Kind::Literal, after_mark(tail, first)?))
+    } else if first == b'[' {
+        Some((Kind::Class, after_mark(tail, b']')?))
+    } else if first == b'{' {
+        Some((Kind::Action, after_brace(tail)?))
+    } else {
+        None
+    }
+}
+
 // The first token of a text that no white space begins: its kind, and what stands behind it.
 pub(crate) fn first_token(text: &[u8]) -> (Kind, &[u8])
     requires { IsNotWhite text.now }
@@ -131,36 +176,15 @@ pub(crate) fn first_token(text: &[u8]) -> (Kind, &[u8])
     let Some((first, tail)) = text.split_first() else {
         return (Kind::End, text);
     };
-    let nothing = &text[text.len()..];
     if *first == b'<' {
-        match after_dash(tail) {
-            Some(rest) => (Kind::Arrow, rest),
-            None => (Kind::Begin, tail),
-        }
-    } else if *first == b'>' {
-        (Kind::EndCap, tail)
-    } else if *first == b'/' {
-        (Kind::Slash, tail)
-    } else if *first == b'.' {
-        (Kind::Dot, tail)
-    } else if *first == b'\'' {
-        match after_mark(tail, b'\'') {
-            Some(rest) => (Kind::Literal, rest),
-            None => (Kind::Bad, nothing),
-        }
-    } else if *first == b'"' {
-        match after_mark(tail, b'"') {
-            Some(rest) => (Kind::Literal, rest),
-            None => (Kind::Bad, nothing),
-        }
-    } else if *first == b'{' {
-        match after_brace(tail) {
-            Some(rest) => (Kind::Action, rest),
-            None => (Kind::Bad, nothing),
-        }
+        angle_token(tail)
     } else if is_start(*first) {
         (Kind::Ident, after_name(tail))
+    } else if let Some(kind) = sign_kind(*first) {
+        (kind, tail)
+    } else if let Some(token) = closed_token(*first, tail) {
+        token
     } else {
-        (Kind::Bad, nothing)
+        (Kind::Bad, &text[text.len()..])
     }
 }

@@ -1,91 +1,140 @@
 //! Reads a grammar's text.
-ghost use Rattle.std.specs.Prelude.{◌≡◌, ◌≤◌, List, [], ◌∷◌, length, IfOk, IfErr, MatchResult};
-ghost use Rattle.pegread.specs.Basic.{IsBasicGrammar};
+ghost use Rattle.std.specs.Prelude.{◌≡◌, ℕ, ◌≤◌, ◌++◌, ◌∷◌, Bool, List, length, slice_get, take as first, Some, IfOk, IfErr, MatchResult};
+ghost use Rattle.ruletable.specs.Lines.{line_at};
+ghost use Rattle.pegread.specs.Definitions.{IsTableOf};
+ghost use Rattle.pegread.specs.Marks.{IsCut};
 ghost use Rattle.pegread.specs.Pattern.{Rule};
 ghost use Rattle.pegread.specs.Reading.{Reads, IsFaultOf};
 ghost use Rattle.pegread.specs.Spelling.{Grammar};
-ghost use Rattle.pegread.specs.Steps.{rule_from};
-ghost use Rattle.pegread.specs.Tokens.{Tok};
-ghost use Rattle.pegread.specs.Views.{rules_of};
+ghost use Rattle.pegread.specs.Steps.{config_of, rules_from, Takes};
+ghost use Rattle.pegread.specs.Predicates.{hopeless_fault};
+ghost use Rattle.pegread.specs.Tokens.{Tok, tok_of};
+ghost use Rattle.pegread.specs.Words.{Word};
 
 use crate::expr::Peg;
-use crate::reader::{Definition, Reader, Stop, take};
-use crate::token_lists::{have_tokens, one_list, tokens};
+use crate::reader::{Definition, Reader, Stop, open_brackets, take};
+use crate::token_iter::{Kind, Token};
+use crate::token_lists::{are_marked, have_tokens, one_list, tokens};
+use crate::words::word_in;
 use ruletable::{Defined, LineRule, Memory, NameCase, ReadFault, RuleTable, line_of};
 use std::alloc::Global;
 
 /// How many bytes a grammar's text may have.
 pub const MAX_GRAMMAR: usize = 1048576;
 
-/// Reads a grammar in the syntax of peg(1): for now one definition, whose expression has literals without a backslash, `.`,
-/// `<`, `>`, actions, sequences and `/`. A rule's span is that of its name.
+/// How many brackets may be open at once.
+pub const MAX_OPEN: usize = 200;
+
+/// Reads a grammar in the syntax of peg(1).
 ///
-/// Refusals: `TooLong`, before all else, for a text of more than `MAX_GRAMMAR` bytes; `Syntax`, with the line of the first
-/// token that goes on no grammar, where lines end with LF, CR LF or CR; `Memory` where a growth was refused.
+/// A rule's span is that of its name. Where a name is defined again, its first definition stands, and `redefined` has the
+/// id of its rule once for each further one.
+///
+/// # Errors
+/// - `TooLong`, before all else, for a text of more than `MAX_GRAMMAR` bytes.
+/// - Else the first token decides that goes on no grammar, or that opens a bracket more than `MAX_OPEN` at once:
+///   `CodePredicate` for an action right behind `&`, `Syntax` for any other that goes on no grammar, and `Depth`. The line
+///   is that of the token's first byte, where lines end with LF, CR LF or CR.
+/// - `Memory` where a growth was refused.
 pub fn read_peg(alloc: Global, text: &[u8]) -> Result<Peg, ReadFault>
-    ensures found { IfOk result (λ peg. Reads text.now (rules_of peg.rules)) }
-    ensures basic { IfOk result (λ peg. IsBasicGrammar (rules_of peg.rules)) }
-    ensures exact_names { IfOk result (λ peg. peg.rules.names ≡ NameCase.Exact) }
-    ensures none_redefined { IfOk result (λ peg. peg.redefined.items ≡ []) }
-    ensures only { (rules : List Rule) → Reads text.now rules → MatchResult result (λ peg. rules_of peg.rules ≡ rules) (λ f. f ≡ ReadFault.Memory) }
+    ensures found { IfOk result (λ peg. (definitions : List Rule) × Reads text.now definitions × IsTableOf definitions peg.rules peg.redefined.items) }
+    ensures only { (definitions : List Rule) → Reads text.now definitions → MatchResult result (λ peg. IsTableOf definitions peg.rules peg.redefined.items) (λ f. f ≡ ReadFault.Memory) }
     ensures fault { IfErr result (λ f. IsFaultOf text.now f) }
 {
     if text.len() > MAX_GRAMMAR {
         return Err(ReadFault::TooLong);
     }
-    let definition = read_definition(alloc, text)?;
-    match peg_of(alloc, definition) {
+    let definitions = read_definitions(alloc, text)?;
+    match peg_of(alloc, definitions) {
         Ok(peg) => Ok(peg),
         Err(Memory) => Err(ReadFault::Memory),
     }
 }
 
-// Reads a grammar of one definition, from a text that isn't too long.
-fn read_definition(alloc: Global, text: &[u8]) -> Result<Definition<'_>, ReadFault>
+// Reads the definitions of a text that isn't too long.
+fn read_definitions(alloc: Global, text: &[u8]) -> Result<Vec<Definition<'_>>, ReadFault>
     requires { length text.now ≤ MAX_GRAMMAR }
-    ensures found { IfOk result (λ d. Reads text.now (rule_from d ∷ [])) }
-    ensures only { (rules : List Rule) → Reads text.now rules → MatchResult result (λ d. rule_from d ∷ [] ≡ rules) (λ f. f ≡ ReadFault.Memory) }
+    ensures found { IfOk result (λ ds. Reads text.now (rules_from ds.items)) }
     ensures fault { IfErr result (λ f. IsFaultOf text.now f) }
 {
-    one_list();
+    are_marked();
     have_tokens(text);
     let mut reader = Reader::Start;
+    let mut before = None;
     for token in tokens(text) {
         let at = token.span.start;
-        match take(alloc, reader, token) {
-            Ok(next) => reader = next,
-            Err(Stop::Hopeless) => {
-                return Err(ReadFault::Syntax {
-                    line: line_of(text, at, LineRule::Any),
-                });
+        let kind = token.kind;
+        match take_token(alloc, reader, token) {
+            Ok(next) => {
+                if open_brackets(&next) > MAX_OPEN {
+                    return Err(ReadFault::Depth {
+                        line: line_in(text, at),
+                    });
+                }
+                reader = next;
+                before = Some(kind);
             }
+            Err(Stop::Hopeless) => return Err(hopeless(before, kind, line_in(text, at))),
             Err(Stop::Memory) => return Err(ReadFault::Memory),
         }
     }
     match reader {
-        Reader::Done(definition) => Ok(definition),
+        Reader::Done(definitions) => Ok(definitions),
         _ => unreachable!(),
     }
 }
 
-// The grammar of that definition alone.
-fn peg_of(alloc: Global, definition: Definition<'_>) -> Result<Peg, Memory>
-    ensures rules { IfOk result (λ peg. rules_of peg.rules ≡ rule_from definition.entry ∷ []) }
-    ensures exact_names { IfOk result (λ peg. peg.rules.names ≡ NameCase.Exact) }
-    ensures none_redefined { IfOk result (λ peg. peg.redefined.items ≡ []) }
+// The line of the byte at a place, where lines end with LF, CR LF or CR.
+fn line_in(text: &[u8], at: usize) -> usize
+    ensures { result ≡ line_at LineRule.Any text.now at }
+{
+    line_of(text, at, LineRule::Any)
+}
+
+// What is wrong where a token of that kind goes on no grammar, by the kind of the token before it.
+fn hopeless(before: Option<Kind>, kind: Kind, line: usize) -> ReadFault
+    ensures { result ≡ hopeless_fault before kind line }
+{
+    match (before, kind) {
+        (Some(Kind::Amp), Kind::Action) => ReadFault::CodePredicate { line },
+        _ => ReadFault::Syntax { line },
+    }
+}
+
+// Takes what a token says.
+fn take_token<'a>(
+    alloc: Global,
+    reader: Reader<'a>,
+    token: Token<'a>,
+) -> Result<Reader<'a>, Stop>
+    requires { IsCut token.kind token.slice.now }
+    ensures { Takes (config_of reader.entry) (tok_of token.entry) result }
+{
+    match word_in(alloc, token) {
+        Ok(Some(word)) => take(alloc, reader, word),
+        Ok(None) => Err(Stop::Hopeless),
+        Err(Memory) => Err(Stop::Memory),
+    }
+}
+
+// The table of these definitions.
+fn peg_of(alloc: Global, definitions: Vec<Definition<'_>>) -> Result<Peg, Memory>
+    ensures { IfOk result (λ peg. IsTableOf (rules_from definitions.entry.items) peg.rules peg.redefined.items) }
 {
     let mut rules = RuleTable::new(alloc, NameCase::Exact);
     let mut redefined = Vec::new(alloc);
-    match rules.define(definition.name, definition.body, definition.span)? {
-        Defined::Added(_) => {}
-        Defined::Duplicate(id) => redefined.push(id)?,
+    for definition in definitions {
+        match rules.define(definition.name, definition.body, definition.span)? {
+            Defined::Added(_) => {}
+            Defined::Duplicate(id) => redefined.push(id)?,
+        }
     }
     Ok(Peg { rules, redefined })
 }
 
-/// A law: a list of tokens spells at most one grammar.
+/// A law: words spell at most one grammar.
 pub fn one_tree()
-    ensures { (ts : List Tok) → (a b : List Rule) → Grammar ts a → Grammar ts b → a ≡ b }
+    ensures { (ws : List Word) → (a b : List Rule) → Grammar ws a → Grammar ws b → a ≡ b }
 {}
 
 #[cfg(test)]

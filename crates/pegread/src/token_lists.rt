@@ -1,8 +1,12 @@
 //! The tokens of a whole text.
-ghost use Rattle.std.specs.Prelude.{◌≡◌, ℕ, List, length};
+ghost use Rattle.std.specs.Prelude.{◌≡◌, ℕ, List, length, All};
 ghost use Rattle.ruletable.specs.declared.span.Span.{Span};
-ghost use Rattle.pegread.specs.declared.token_iter.Kind.TheVariants.{Literal, Action};
-ghost use Rattle.pegread.specs.Marks.{IsQuoted, IsBraced};
+ghost use Rattle.pegread.specs.declared.token_iter.Kind.TheVariants.{Ident, Literal, Class, Action};
+ghost use Rattle.pegread.specs.Actions.{IsAction, IsBraced};
+ghost use Rattle.pegread.specs.Classes.{IsClass};
+ghost use Rattle.pegread.specs.Literals.{IsLiteral};
+ghost use Rattle.pegread.specs.Names.{IsName};
+ghost use Rattle.pegread.specs.Pieces.{MakeUp, LiesIn, AreInOrder};
 ghost use Rattle.pegread.specs.Tokens.{AreTokens, IsAtStart, Next, Tok, tok};
 
 use crate::token_iter::TokenIter;
@@ -26,8 +30,19 @@ pub fn have_tokens(text: &[u8])
     for _token in tokens(text) {}
 }
 
-/// A law: a literal is its content between two quotes of one kind, and an action its text between braces.
+/// A law: the slice of a name, a literal, a class or an action is one by itself, whatever stands behind it. That of an action is
+/// some text between two braces.
 pub fn are_marked()
-    ensures literal { (total : ℕ) (t r z : List ℕ) (p : Span) → Next total t (tok Literal z p) r → IsQuoted z }
+    ensures name { (total : ℕ) (t r z : List ℕ) (p : Span) → Next total t (tok Ident z p) r → IsName z }
+    ensures literal { (total : ℕ) (t r z : List ℕ) (p : Span) → Next total t (tok Literal z p) r → IsLiteral z }
+    ensures class { (total : ℕ) (t r z : List ℕ) (p : Span) → Next total t (tok Class z p) r → IsClass z }
+    ensures matched { (total : ℕ) (t r z : List ℕ) (p : Span) → Next total t (tok Action z p) r → IsAction z }
     ensures action { (total : ℕ) (t r z : List ℕ) (p : Span) → Next total t (tok Action z p) r → IsBraced z }
+{}
+
+/// A law: a text is its tokens' slices with white space between them, in order, and each slice lies where its span says.
+pub fn tokens_make_up()
+    ensures pieces { (text : List ℕ) (ts : List Tok) → AreTokens (length text) text ts → MakeUp ts text }
+    ensures slices { (text : List ℕ) (ts : List Tok) → AreTokens (length text) text ts → All (LiesIn text) ts }
+    ensures order { (text : List ℕ) (ts : List Tok) → AreTokens (length text) text ts → AreInOrder 0 ts }
 {}

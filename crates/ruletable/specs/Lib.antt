@@ -2,6 +2,8 @@ pub mod Faults
 pub mod Lends
 pub mod Lines
 pub mod Members
+pub mod Notes
 pub mod Rows
 pub mod Rules
+pub mod Runs
 pub mod Writing

@@ -1,6 +1,8 @@
 //! Sets of bytes.
 ghost use Rattle.std.specs.Prelude.{◌≡◌, ℕ, ◌<◌, ◌||◌, ◌&&◌, ◌==◌, nat_le, not, Bool, true, false, List, length, get_or};
+ghost use Rattle.ruletable.specs.Runs.{AreRuns, IsFirst, runs_of, test_of};
 
+use crate::runs::Runs;
 use std::marker::Model;
 
 /// A set of numbers from 0 to 255, seen as the list that says of each number whether it is a member.
@@ -34,6 +36,33 @@ impl ByteSet {
     {
         let place = usize::from(b);
         (self.words[place / 64] >> (place % 64)) & 1 == 1
+    }
+
+    // The first byte from `from` on that is a member, or with `member` false, that is none.
+    pub(crate) fn first_from(&self, from: u8, member: bool) -> Option<u8>
+        ensures { IsFirst (test_of self.now) from member result }
+    {
+        for b in from..=u8::MAX {
+            if self.has(b) == member {
+                return Some(b);
+            }
+        }
+        None
+    }
+
+    /// The maximal ranges of members, each with its first and its last byte, in ascending order. It takes no memory.
+    pub fn runs(&self) -> Runs<'_>
+        ensures runs { result ≡ runs_of (test_of self.now) }
+        ensures exact { AreRuns self.now result }
+    {
+        Runs::new(self)
+    }
+
+    /// A set of the same members.
+    pub fn copied(&self) -> ByteSet
+        ensures { result ≡ self.now }
+    {
+        ByteSet { words: self.words }
     }
 
     // Makes the byte a member.

@@ -2,8 +2,8 @@
 ghost use Rattle.std.specs.Prelude.{Some};
 
 use crate::{
-    ByteSet, Defined, LineRule, Memory, NameCase, ReadFault, RuleTable, Sink, SinkOf, Span,
-    line_of, write_fault, write_number, write_pieces, write_whole,
+    ByteSet, Defined, LineRule, Memory, NameCase, Note, ReadFault, RuleTable, Sink, SinkOf, Span,
+    line_of, union_of_runs, write_fault, write_note, write_number, write_pieces, write_whole,
 };
 use std::alloc::Global;
 use std::io;
@@ -131,6 +131,48 @@ fn sets_of_bytes(rt: HostRuntime) {
     }
 }
 
+// The runs of a set, as a list.
+fn list_of_runs(alloc: Global, set: &ByteSet) -> Result<Vec<(u8, u8)>, Fail> {
+    let mut list = Vec::new(alloc);
+    for run in set.runs() {
+        list.push(run)?;
+    }
+    Ok(list)
+}
+
+#[test]
+fn runs_of_sets(rt: HostRuntime) -> Result<(), Fail> {
+    let mut set = ByteSet::new();
+    assert!(rt; list_of_runs(rt.alloc(), &set)?.is_empty());
+    let all = list_of_runs(rt.alloc(), &set.complement())?;
+    assert!(rt; all.as_slice() == [(0, 255)].as_slice());
+    set.add_range(97, 100);
+    let four = list_of_runs(rt.alloc(), &set)?;
+    assert!(rt; four.as_slice() == [(97, 100)].as_slice());
+    let others = list_of_runs(rt.alloc(), &set.complement())?;
+    assert!(rt; others.as_slice() == [(0, 96), (101, 255)].as_slice());
+    let mut ends = ByteSet::new();
+    ends.add_range(255, 255);
+    ends.add_range(0, 0);
+    let two = list_of_runs(rt.alloc(), &ends)?;
+    assert!(rt; two.as_slice() == [(0, 0), (255, 255)].as_slice());
+    Ok(())
+}
+
+#[test]
+fn copies_of_sets(rt: HostRuntime) {
+    let mut set = ByteSet::new();
+    set.add_range(62, 66);
+    let mut copy = set.copied();
+    set.add_range(70, 70);
+    for b in 0u8..=255 {
+        assert_eq!(rt; copy.has(b), matches!(b, 62..=66), "at {b}");
+        assert_eq!(rt; union_of_runs(&copy).has(b), copy.has(b), "at {b}");
+    }
+    copy.add_range(80, 80);
+    assert!(rt; !set.has(80));
+}
+
 #[test]
 fn lines(rt: HostRuntime) {
     let text = b"a\nb\r\nc\rd";
@@ -183,6 +225,28 @@ fn messages(rt: HostRuntime) -> Result<(), Fail> {
             assert!(rt; sink.into_inner().taken.as_slice() == text);
         }
     }
+    Ok(())
+}
+
+// The line of a note.
+fn noted(alloc: Global, note: Note) -> Result<Vec<u8>, Fail> {
+    let mut sink = SinkOf::new(Paper::new(alloc, 3, 99, Full::Fails));
+    write_note(&note, &mut sink)?;
+    Ok(sink.into_inner().taken)
+}
+
+#[test]
+fn notes(rt: HostRuntime) -> Result<(), Fail> {
+    let line = noted(rt.alloc(), Note::Redefined(b"x".to_vec(rt.alloc())?))?;
+    assert!(rt; line.as_slice() == b"rule 'x' redefined\n".as_slice());
+    let line = noted(rt.alloc(), Note::Undefined(b"x_1".to_vec(rt.alloc())?))?;
+    assert!(rt; line.as_slice() == b"rule 'x_1' used but not defined\n".as_slice());
+    let line = noted(rt.alloc(), Note::Unused(b"x".to_vec(rt.alloc())?))?;
+    assert!(rt; line.as_slice() == b"rule 'x' defined but not used\n".as_slice());
+    let line = noted(rt.alloc(), Note::LeftRecursion(b"x".to_vec(rt.alloc())?))?;
+    assert!(rt; line.as_slice() == b"possible infinite left recursion in rule 'x'\n".as_slice());
+    let line = noted(rt.alloc(), Note::Loop(b"".to_vec(rt.alloc())?))?;
+    assert!(rt; line.as_slice() == b"possible infinite loop in rule ''\n".as_slice());
     Ok(())
 }
 

@@ -1,22 +1,28 @@
 //! Texts that are read, and texts that are refused.
-use super::{MAX_GRAMMAR, read_peg};
-use crate::expr::Expr;
-use ruletable::ReadFault;
+use super::{MAX_GRAMMAR, MAX_OPEN, read_peg};
+use crate::expr::{Expr, Peg};
+use ruletable::{ByteSet, ReadFault};
 use std::alloc::Global;
 use std::test::Fail;
 
-// An expression in one letter a node, with its members in brackets.
+// An expression as a term: its node, and its members in brackets.
 #[cycle(shape)]
 fn write_shape(shape: &mut Vec<u8>, e: &Expr) -> Result<(), Fail> {
     match e {
         Expr::Any => shape.push(b'.')?,
-        Expr::Bytes(bytes) => write_content(shape, b'"', bytes.as_slice())?,
-        Expr::Act(template) => write_content(shape, b'}', template.as_slice())?,
+        Expr::Bytes(bytes) => write_content(shape, b'"', bytes)?,
+        Expr::Set(members) => write_set(shape, members)?,
+        Expr::Name(name) => write_content(shape, b'@', name)?,
+        Expr::Seq(members) => write_members(shape, b'S', members)?,
+        Expr::Choice(alternatives) => write_members(shape, b'C', alternatives)?,
+        Expr::Star(operand) => write_operand(shape, b'*', operand)?,
+        Expr::Plus(operand) => write_operand(shape, b'+', operand)?,
+        Expr::Opt(operand) => write_operand(shape, b'?', operand)?,
+        Expr::And(operand) => write_operand(shape, b'&', operand)?,
+        Expr::Not(operand) => write_operand(shape, b'!', operand)?,
+        Expr::Act(template) => write_content(shape, b'}', template)?,
         Expr::Open => shape.push(b'<')?,
         Expr::Close => shape.push(b'>')?,
-        Expr::Seq(members) => write_members(shape, b'S', members.as_slice())?,
-        Expr::Choice(alternatives) => write_members(shape, b'C', alternatives.as_slice())?,
-        _ => shape.push(b'?')?,
     }
     Ok(())
 }
@@ -25,6 +31,23 @@ fn write_content(shape: &mut Vec<u8>, mark: u8, content: &[u8]) -> Result<(), Fa
     shape.extend_from_slice(content)?;
     shape.push(mark)?;
     Ok(())
+}
+
+fn write_set(shape: &mut Vec<u8>, members: &ByteSet) -> Result<(), Fail> {
+    shape.push(b'[')?;
+    for b in 0..=255 {
+        if members.has(b) {
+            shape.push(b)?;
+        }
+    }
+    shape.push(b']')?;
+    Ok(())
+}
+
+#[cycle(shape)]
+fn write_operand(shape: &mut Vec<u8>, mark: u8, operand: &Expr) -> Result<(), Fail> {
+    shape.push(mark)?;
+    write_shape(shape, operand)
 }
 
 #[cycle(shape)]
@@ -38,39 +61,71 @@ fn write_members(shape: &mut Vec<u8>, mark: u8, members: &[Expr]) -> Result<(), 
     Ok(())
 }
 
+// Each rule's name and body, one a line.
+fn shape_of(alloc: Global, peg: &Peg) -> Result<Vec<u8>, Fail> {
+    let mut shape = Vec::new(alloc);
+    for id in 0..peg.rules.len() {
+        write_content(&mut shape, b'=', peg.rules.name(id))?;
+        write_shape(&mut shape, peg.rules.body(id))?;
+        shape.push(b'\n')?;
+    }
+    Ok(shape)
+}
+
+fn is_read_as(alloc: Global, text: &[u8], shape: &[u8]) -> Result<bool, Fail> {
+    let peg = read_peg(alloc, text)?;
+    let found = shape_of(alloc, &peg)?;
+    Ok(found.as_slice() == shape)
+}
+
 #[test]
-fn reads_a_choice_of_sequences(rt: HostRuntime) -> Result<(), Fail> {
-    let peg = read_peg(
-        rt.alloc(),
-        b"start <- \"username\" { USER } / < . > { yytext }",
-    )?;
-    assert_eq!(rt; peg.rules.len(), 1);
-    assert_eq!(rt; peg.rules.name(0), b"start".as_slice());
-    let mut shape = Vec::new(rt.alloc());
-    write_shape(&mut shape, peg.rules.body(0))?;
-    assert_eq!(rt;
-        shape.as_slice(),
-        b"C(S(username\" USER })S(<.> yytext }))".as_slice()
-    );
+fn reads_each_form(rt: HostRuntime) -> Result<(), Fail> {
+    let alloc = rt.alloc();
+    assert!(rt; is_read_as(alloc, b"S <- .", b"S=.\n")?);
+    assert!(rt; is_read_as(alloc, b"S <- 'a\"' \"b'\"", b"S=S(a\"\"b'\")\n")?);
+    assert!(rt; is_read_as(alloc, b"S <- \"\\101\\400\\x4g\"", b"S=A 0\x04g\"\n")?);
+    assert!(rt; is_read_as(alloc, b"S <- [a-c-e]", b"S=[-abce]\n")?);
+    assert!(rt; is_read_as(alloc, b"S <- T_1", b"S=T_1@\n")?);
+    assert!(rt; is_read_as(alloc, b"S <- {x{y}}", b"S=x{y}}\n")?);
+    assert!(rt; is_read_as(alloc, b"S <- < . >", b"S=S(<.>)\n")?);
+    assert!(rt; is_read_as(alloc, b"S <- a?b*c+", b"S=S(?a@*b@+c@)\n")?);
+    assert!(rt; is_read_as(alloc, b"S <- &a!b", b"S=S(&a@!b@)\n")?);
+    assert!(rt; is_read_as(alloc, b"S <- !a?/&b*", b"S=C(!?a@&*b@)\n")?);
+    assert!(rt; is_read_as(alloc, b"S <- !{x}", b"S=!x}\n")?);
     Ok(())
 }
 
 #[test]
-fn collapses_one_member(rt: HostRuntime) -> Result<(), Fail> {
-    let cases: [(&[u8], &[u8]); 5] = [
-        (b"S <- .", b"."),
-        (b"S <-", b"S()"),
-        (b"S<-/", b"C(S()S())"),
-        (b"S <- 'a\"b' {x{y}'}", b"S(a\"b\"x{y}'})"),
-        (b"S <- # { }\r . # to the end", b"."),
-    ];
-    for (text, want) in cases {
-        let peg = read_peg(rt.alloc(), text)?;
-        assert_eq!(rt; peg.rules.len(), 1);
-        let mut shape = Vec::new(rt.alloc());
-        write_shape(&mut shape, peg.rules.body(0))?;
-        assert_eq!(rt; shape.as_slice(), want);
-    }
+fn parentheses_are_no_node(rt: HostRuntime) -> Result<(), Fail> {
+    let alloc = rt.alloc();
+    assert!(rt; is_read_as(alloc, b"S <-", b"S=S()\n")?);
+    assert!(rt; is_read_as(alloc, b"S<-/", b"S=C(S()S())\n")?);
+    assert!(rt; is_read_as(alloc, b"S <- ((.))", b"S=.\n")?);
+    assert!(rt; is_read_as(alloc, b"S <- ()", b"S=S()\n")?);
+    assert!(rt; is_read_as(alloc, b"S <- (. .) .", b"S=S(S(..).)\n")?);
+    assert!(rt; is_read_as(alloc, b"S <- (./a)* !(.)", b"S=S(*C(.a@)!.)\n")?);
+    assert!(rt; is_read_as(alloc, b"S <- (a*)*", b"S=**a@\n")?);
+    assert!(rt; is_read_as(alloc, b"S <- &({x})?", b"S=&?x}\n")?);
+    Ok(())
+}
+
+#[test]
+fn reads_definitions(rt: HostRuntime) -> Result<(), Fail> {
+    let alloc = rt.alloc();
+    assert!(rt; is_read_as(alloc, b"A<-B C<-A", b"A=B@\nC=A@\n")?);
+    assert!(rt; is_read_as(alloc, b"A <- B\n\rB # <-\n <- 'b'#", b"A=B@\nB=b\"\n")?);
+    Ok(())
+}
+
+#[test]
+fn keeps_the_first_definition(rt: HostRuntime) -> Result<(), Fail> {
+    let peg = read_peg(rt.alloc(), b"A<-'a' B<-'b' A<-'c' B<-'d' A<-'e'")?;
+    let shape = shape_of(rt.alloc(), &peg)?;
+    assert_eq!(rt; shape.as_slice(), b"A=a\"\nB=b\"\n".as_slice());
+    assert_eq!(rt; peg.redefined.as_slice(), [0, 1, 0].as_slice());
+    assert_eq!(rt; peg.rules.len(), 2);
+    assert_eq!(rt; peg.rules.span(1).start, 7);
+    assert_eq!(rt; peg.rules.span(1).end, 8);
     Ok(())
 }
 
@@ -81,35 +136,105 @@ fn is_refused(alloc: Global, text: &[u8], want: ReadFault) -> bool {
     }
 }
 
+fn is_wrong_at(alloc: Global, text: &[u8], line: usize) -> bool {
+    is_refused(alloc, text, ReadFault::Syntax { line })
+}
+
 #[test]
 fn names_the_line_of_the_hopeless_token(rt: HostRuntime) {
-    let cases: [(&[u8], usize); 12] = [
-        (b"", 1),
-        (b" \n", 2),
-        (b"S <- \"a\n", 1),
-        (b"S <- ( 'a'", 1),
-        (b"S <- '\\n'", 1),
-        (b"A <- 'a'\nB <- 'b'", 2),
-        (b"S <- 'a'\r\n.\r<- 'b'", 3),
-        (b"S\n\n<-\n{ {\n}\n", 4),
-        (b"S <- 'a\nb'\n[", 3),
-        (b"S < - 'a'", 1),
-        (b"\n<-", 2),
-        (b"S # <-\n\n# .\n/", 4),
-    ];
-    for (text, line) in cases {
-        assert!(rt;
-            is_refused(rt.alloc(), text, ReadFault::Syntax { line }),
-            "line {line}"
-        );
+    let alloc = rt.alloc();
+    assert!(rt; is_wrong_at(alloc, b"", 1));
+    assert!(rt; is_wrong_at(alloc, b" \n", 2));
+    assert!(rt; is_wrong_at(alloc, b"S <- \"a\n", 1));
+    assert!(rt; is_wrong_at(alloc, b"S <- ( 'a'\n", 2));
+    assert!(rt; is_wrong_at(alloc, b"A <- 'a'\nB <- ( 'b'\nC\n<- 'c'", 4));
+    assert!(rt; is_wrong_at(alloc, b"S <- { \"}\" }", 1));
+    assert!(rt; is_wrong_at(alloc, b"S <- 'a'\r\nT <- 'b'\rU <- (", 3));
+    assert!(rt; is_wrong_at(alloc, b"S <- 'a'**", 1));
+    assert!(rt; is_wrong_at(alloc, b"S\n\n<-\n{ {\n}\n", 4));
+    assert!(rt; is_wrong_at(alloc, b"S <- 'a\nb'\n[", 3));
+    assert!(rt; is_wrong_at(alloc, b"S < - 'a'", 1));
+    assert!(rt; is_wrong_at(alloc, b"\n<-", 2));
+    assert!(rt; is_wrong_at(alloc, b"A <- B\n-- C", 2));
+}
+
+#[test]
+fn tells_no_beginning_that_lacks_an_operand(rt: HostRuntime) {
+    let alloc = rt.alloc();
+    assert!(rt; is_wrong_at(alloc, b"S", 1));
+    assert!(rt; is_wrong_at(alloc, b"S <- !", 1));
+    assert!(rt; is_wrong_at(alloc, b"S <- &\n/", 2));
+    assert!(rt; is_wrong_at(alloc, b"S <- (!\n)", 2));
+    assert!(rt; is_wrong_at(alloc, b"S <- !\n&.", 2));
+    assert!(rt; is_wrong_at(alloc, b"S <- *", 1));
+    assert!(rt; is_wrong_at(alloc, b"S <- . )", 1));
+    assert!(rt; is_wrong_at(alloc, b"S <- !T\n<- .", 2));
+}
+
+#[test]
+fn tells_code_predicates(rt: HostRuntime) {
+    let alloc = rt.alloc();
+    assert!(rt; is_refused(alloc, b"S <- & {x}", ReadFault::CodePredicate { line: 1 }));
+    assert!(rt; is_refused(alloc, b"S <- &\n{ x } 'a'", ReadFault::CodePredicate { line: 2 }));
+    assert!(rt; is_wrong_at(alloc, b"S <- {x} <- {y}", 1));
+}
+
+// That many opening brackets, a dot, and as many closing ones.
+fn nested(alloc: Global, depth: usize) -> Result<Vec<u8>, Fail> {
+    let mut text = b"S <- ".to_vec(alloc)?;
+    for _ in 0..depth {
+        text.push(b'(')?;
     }
+    text.push(b'.')?;
+    for _ in 0..depth {
+        text.push(b')')?;
+    }
+    Ok(text)
+}
+
+#[test]
+fn counts_open_brackets(rt: HostRuntime) -> Result<(), Fail> {
+    let alloc = rt.alloc();
+    let deep = nested(alloc, MAX_OPEN)?;
+    assert!(rt; is_read_as(alloc, &deep, b"S=.\n")?);
+    let deeper = nested(alloc, MAX_OPEN + 1)?;
+    assert!(rt; is_refused(alloc, &deeper, ReadFault::Depth { line: 1 }));
+    let mut twice = nested(alloc, MAX_OPEN)?;
+    twice.extend_from_slice(b"(a)")?;
+    assert!(rt; is_read_as(alloc, &twice, b"S=S(.a@)\n")?);
+    Ok(())
 }
 
 #[test]
 fn tests_the_length_first(rt: HostRuntime) -> Result<(), Fail> {
     let mut spaces = vec![in rt.alloc(); b' '; MAX_GRAMMAR]?;
-    assert!(rt; is_refused(rt.alloc(), spaces.as_slice(), ReadFault::Syntax { line: 1 }));
+    assert!(rt; is_refused(rt.alloc(), &spaces, ReadFault::Syntax { line: 1 }));
     spaces.push(b' ')?;
-    assert!(rt; is_refused(rt.alloc(), spaces.as_slice(), ReadFault::TooLong));
+    assert!(rt; is_refused(rt.alloc(), &spaces, ReadFault::TooLong));
     Ok(())
+}
+
+// A single byte is no grammar.
+#[test]
+fn refuses_single_bytes(rt: HostRuntime) {
+    for b in 0..=255 {
+        let line = if b == b'\n' || b == b'\r' { 2 } else { 1 };
+        assert!(rt; is_wrong_at(rt.alloc(), &[b], line), "byte {b}");
+    }
+}
+
+// A grammar's beginnings are read from the arrow on, but for those that end within the literal.
+#[test]
+fn reads_or_refuses_each_beginning(rt: HostRuntime) {
+    let text = b"A <- 'a' B";
+    let read: [usize; 5] = [4, 5, 8, 9, 10];
+    for size in 0..=text.len() {
+        match read_peg(rt.alloc(), &text[..size]) {
+            Ok(_) => assert!(rt; read.contains(&size), "{size} bytes"),
+            Err(fault) => {
+                assert!(rt; !read.contains(&size), "{size} bytes");
+                assert!(rt; fault == ReadFault::Syntax { line: 1 }, "{size} bytes");
+            }
+        }
+    }
 }

@@ -1,9 +1,9 @@
 use Rattle.std.proofs.Common.{take}
-use Rattle.pegread.specs.Views.{patterns_of}
+use Rattle.pegread.specs.Views.{patterns_of, rules_of}
 use Rattle.gramcheck.specs.Nodes.{shapes_of}
 use Rattle.gramcheck.specs.Numbering.{NumbersAll}
 use Rattle.gramcheck.proofs.number.+numbering.Given as goal
 
 abbrev pub invariant-number_all-loop-member : goal.invariant-number_all-loop-member
 invariant-number_all-loop-member l =
-    NumbersAll (shapes_of l.initial.nodes.items) (shapes_of l.nodes.items) l.numbers.items (patterns_of (take l.member-index l.members))
+    NumbersAll (rules_of l.rules) (shapes_of l.initial.nodes.items) (shapes_of l.nodes.items) l.numbers.items (patterns_of (take l.member-index l.members))

@@ -1,5 +1,5 @@
-use Rattle.pegread.proofs.Viable.{grammar-one}
+use Rattle.pegread.proofs.Passing.{one-grammar}
 use Rattle.pegread.proofs.read.one_tree.Goals as goal
 
 pub returns : goal.returns
-returns c = λ ts a b h k. grammar-one h k
+returns c = λ ws a b h k. one-grammar h k

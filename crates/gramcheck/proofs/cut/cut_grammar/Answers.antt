@@ -1,0 +1,26 @@
+use Rattle.std.proofs.Common.{◌≡◌, length, arith}
+use Rattle.std.proofs.lemmas.List.{length-map}
+use Rattle.pegread.specs.Views.{rule_of, rules_of}
+use Rattle.gramcheck.proofs.Cutting.{none_cut, next_cut, bodies_of_cut, are_named}
+use Rattle.gramcheck.proofs.cut.cut_grammar.Goals as goal
+
+pub loop-id-init : goal.loop-id-init
+loop-id-init c = none_cut _ _ _ c.new-nodes.ensures.items c.new-bodies.ensures.items
+
+pub loop-id-preserved : goal.loop-id-preserved
+loop-id-preserved c = rw (c.in_ok-push.ensures.items) (next_cut _ _ _ _ _ _ _ c.loop-id.invariant c.body.ensures c.in_ok-n.ensures)
+
+pub returns-clause-bodies : goal.returns-clause-bodies
+returns-clause-bodies c =
+    let count = length-map c.args.rules.now.rules rule_of in
+    let all : c.loop-id.id ≡ length (rules_of c.args.rules.now) = omega (arith, count, c.len-id-end.ensures.len) in
+    bodies_of_cut _ _ _ _ c.loop-id.invariant all
+
+pub returns-clause-built : goal.returns-clause-built
+returns-clause-built c = c.loop-id.invariant.built
+
+pub returns-clause-named : goal.returns-clause-named
+returns-clause-named c = rw (length-map c.args.rules.now.rules rule_of) at (are_named _ _ c.loop-id.invariant.standing)
+
+pub returns-clause-standing : goal.returns-clause-standing
+returns-clause-standing c = c.loop-id.invariant.standing

@@ -1,0 +1,7 @@
+use Rattle.pegread.specs.Views.{rules_of}
+use Rattle.gramcheck.specs.Nodes.{shapes_of}
+use Rattle.gramcheck.proofs.Cutting.{AreCut}
+use Rattle.gramcheck.proofs.cut.cut_grammar.Given as goal
+
+abbrev pub invariant-loop-id : goal.invariant-loop-id
+invariant-loop-id l = AreCut (rules_of l.rules) l.id (shapes_of l.nodes.items) l.bodies.items

@@ -1,0 +1,38 @@
+//! Cuts the bodies of a grammar's rules into numbered nodes.
+ghost use Rattle.std.specs.Prelude.{◌≡◌, length, IfOk};
+ghost use Rattle.pegread.specs.Views.{rules_of};
+ghost use Rattle.gramcheck.specs.Bodies.{AreBodies, AreNamed, IsBuilt};
+ghost use Rattle.gramcheck.specs.Nodes.{shapes_of};
+ghost use Rattle.gramcheck.specs.Numbering.{AreStanding};
+
+use crate::node::Node;
+use crate::number::number;
+use pegread::Expr;
+use ruletable::{Memory, NameCase, RuleTable};
+use std::alloc::Global;
+
+/// The nodes of a grammar, operands before the nodes that they stand in, and of each rule the number of its body's node.
+#[derive(Drop)]
+pub(crate) struct Cut {
+    pub(crate) nodes: Vec<Node>,
+    pub(crate) bodies: Vec<usize>,
+}
+
+/// Cuts the bodies into nodes, rule by rule.
+///
+/// `Memory` where a growth was refused.
+pub(crate) fn cut_grammar(alloc: Global, rules: &RuleTable<Expr>) -> Result<Cut, Memory>
+    requires { rules.now.names ≡ NameCase.Exact }
+    ensures bodies { IfOk result (λ cut. AreBodies (rules_of rules.now) (shapes_of cut.nodes.items) cut.bodies.items) }
+    ensures built { IfOk result (λ cut. IsBuilt (shapes_of cut.nodes.items)) }
+    ensures named { IfOk result (λ cut. AreNamed (length rules.now.rules) (shapes_of cut.nodes.items)) }
+    ensures standing { IfOk result (λ cut. AreStanding (rules_of rules.now) (shapes_of cut.nodes.items)) }
+{
+    let mut nodes = Vec::new(alloc);
+    let mut bodies = Vec::new(alloc);
+    for id in 0..rules.len() {
+        let n = number(alloc, rules, rules.body(id), &mut nodes)?;
+        bodies.push(n)?;
+    }
+    Ok(Cut { nodes, bodies })
+}

@@ -1,0 +1,8 @@
+use Rattle.std.proofs.Common.{map}
+use Rattle.pegread.specs.Steps.{config_of}
+use Rattle.pegread.specs.Tokens.{tok_of, AreLeft}
+use Rattle.pegread.proofs.Looping.{HasTaken}
+use Rattle.pegread.proofs.read.read_definitions.Given as goal
+
+abbrev pub invariant-loop-token : goal.invariant-loop-token
+invariant-loop-token l = HasTaken l.text (AreLeft l.token-iterator) (config_of l.reader) l.before (map tok_of l.yielded)

@@ -1,0 +1,7 @@
+use Rattle.pegread.specs.Steps.{config_of, word_of}
+use Rattle.pegread.specs.Tokens.{tok_of}
+use Rattle.pegread.proofs.Looping.{taken-word}
+use Rattle.pegread.proofs.read.take_token.Goals as goal
+
+pub returns-in-Ok-Some : goal.returns-in-Ok-Some
+returns-in-Ok-Some c = taken-word (config_of c.args.reader) (tok_of c.args.token) (word_of c.in-Ok-Some.word) _ (rw c.in-Ok-Some.field-0-is at c.in-Ok-Some.ensures) c.take.ensures
