@@ -164,3 +164,6 @@ module _ (rules : List Rule) (start : ℕ) (nodes : List Shape) (bodies ranks : 
         gives = gives;
         only = λ o k d. let is = same_of_start rules start x k one.looked o one.outcome d gives in (is.outcome, is.looked);
       }
+
+  pub has_of_start : (o : Outcome) × (k : ℕ) × RuleGives rules start x o k
+  has_of_start = let one = start_gives_one in (one.outcome, one.looked, one.gives)

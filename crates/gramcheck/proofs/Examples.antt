@@ -1,8 +1,8 @@
 -- Worked examples of outcomes, each a derivation by hand.
-use Rattle.std.proofs.Common.{◌≡◌, ℕ, List, [], ◌∷◌, refl}
+use Rattle.std.proofs.Common.{[], ◌∷◌, refl}
 use Rattle.std.specs.Prelude.{codes}
-use Rattle.pegread.specs.Pattern.{Pattern, Any, Bytes, Set, Seq, Choice, Star, Opt, And, Not, Act, Open, Close, none, more}
-use Rattle.gramcheck.specs.Outcome.{Outcome, Fails, Takes, Event, Opened, Closed, Acted, Gives, GivesAll, GivesFirst, any_takes, any_at_end, bytes_take, bytes_fail, act, open_at, close_at, seq, choice, opt_takes, opt_none, star_none, star_more, and_takes, and_fails, not_takes, not_fails, all_done, one_fails, rest_fails, rest_takes, all_failed, first_takes, first_fails}
+use Rattle.pegread.specs.Pattern.{Any, Bytes, Seq, Choice, Star, And, Not, Act, Open, Close, none, more}
+use Rattle.gramcheck.specs.Outcome.{Fails, Takes, Acted, Gives, any_takes, any_at_end, bytes_take, bytes_fail, act, open_at, close_at, seq, choice, star_none, star_more, and_takes, not_takes, all_done, one_fails, rest_fails, rest_takes, first_takes, first_fails}
 
 -- `"a" / "ab"` on `ab` takes `a`: the second alternative is not tried once the first has succeeded
 first_alternative : Gives [] (codes "ab") (Choice (more (Bytes (codes "a")) (more (Bytes (codes "ab")) none))) 0 (Takes 1 []) 1

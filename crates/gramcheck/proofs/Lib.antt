@@ -1,23 +1,44 @@
-pub mod Assembling
-pub mod Basics
+pub mod Analysing
+pub mod Choosing
+pub mod Counting
 pub mod Cutting
+pub mod Deriving
 pub mod Determined
 pub mod Ending
+mod Examples
 pub mod Existing
 pub mod Falling
 pub mod Growing
 pub mod Ids
+pub mod Judging
 pub mod Lists
+pub mod Looping
 pub mod Lowering
+pub mod Marking
+pub mod Names
+pub mod Naming
+mod NotesExamples
+pub mod Noting
+pub mod Nulling
 pub mod Numbering
 pub mod Outcomes
 pub mod Patterns
+pub mod Peeling
+pub mod Placing
 pub mod Ranking
+pub mod Recurring
 pub mod Repeating
+pub mod Returning
+pub mod Reversing
 pub mod Rising
+pub mod Seeking
 pub mod Shrinking
 pub mod Spelled
 pub mod Spelling
 pub mod Starting
+pub mod Stepping
+pub mod Tables
 pub mod Taking
-mod Examples
+pub mod Telling
+pub mod Turning
+pub mod UsesLemmas

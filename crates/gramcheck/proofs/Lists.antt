@@ -33,3 +33,8 @@ pub mapped_from : {A B : Type 0} (f : A → B) (xs : List A) (i : ℕ) (b : B) �
 mapped_from f [] i b h = absurd (cc h)
 mapped_from f (x ∷ xs) zero b h = (x, refl, cc h)
 mapped_from f (x ∷ xs) (suc i) b h = mapped_from f xs i b h
+
+-- a list that holds at each place that place's number, and one number more
+pub one_more_own : (xs : List ℕ) (count : ℕ) → length xs ≡ count → ((n m : ℕ) → slice_get xs n ≡ Some m → m ≡ n) →
+    (n m : ℕ) → slice_get (xs ++ count ∷ []) n ≡ Some m → m ≡ n
+one_more_own xs count long each n m h = ⊎_elim (λ k. each n m k) (λ k. omega (arith, k.0, k.1, long)) (push_cases xs count n m h)

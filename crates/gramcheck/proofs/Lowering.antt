@@ -23,7 +23,7 @@ module _ (rules : List Rule) (nodes : List Shape) (bodies : List ℕ) where
   steps_from (to_denied {n = n} {m = m} g) = slice_get_within nodes n (node.Not m) g
 
   -- a member that only nullable ones stand before is one of them
-  front_contained : {ms : List ℕ} {m : ℕ} → FrontNode rules nodes bodies ms m → Contains ms m
+  pub front_contained : {ms : List ℕ} {m : ℕ} → FrontNode rules nodes bodies ms m → Contains ms m
   front_contained (front_first {m = m} {ms = ms}) = contains_first m ms
   front_contained (front_later {k = k} {m = m} {ms = ms} null f) = contains_later k ms m (front_contained f)
 

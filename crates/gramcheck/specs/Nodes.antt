@@ -1,5 +1,5 @@
 -- Numbered nodes that spell expressions.
-use Rattle.std.specs.Prelude.{◌≡◌, ℕ, ◌+◌, ◌<◌, Bool, false, List, [], ◌∷◌, map, slice_get, get_or, Some, bytes_eq, Contains, if◌then◌else◌}
+use Rattle.std.specs.Prelude.{◌≡◌, ℕ, ◌+◌, Bool, false, List, [], ◌∷◌, map, slice_get, get_or, Some, bytes_eq, if◌then◌else◌}
 use Rattle.pegread.specs.Pattern as e
 use Rattle.pegread.specs.Pattern.{Pattern, Patterns, Rule}
 use Rattle.gramcheck.specs.declared.node.Node.{Node}
@@ -68,14 +68,3 @@ module _ (rules : List Rule) (nodes : List Shape) where
     pub data SpellAll : List ℕ → Patterns → Type 0 where
       spell_none : SpellAll [] e.none
       spell_more : {n : ℕ} {ns : List ℕ} {p : Pattern} {ps : Patterns} → Spells n p → SpellAll ns ps → SpellAll (n ∷ ns) (e.more p ps)
-
--- A node of the forms that are run so far, whose operands have smaller numbers.
-abbrev pub IsBasicNode : ℕ → Shape → Type 0
-IsBasicNode n Any = Unit {0}
-IsBasicNode n (Bytes bs) = Unit {0}
-IsBasicNode n (Seq ms) = (m : ℕ) → Contains ms m → m < n
-IsBasicNode n (Choice ms) = (m : ℕ) → Contains ms m → m < n
-IsBasicNode n (Act t) = Unit {0}
-IsBasicNode n Open = Unit {0}
-IsBasicNode n Close = Unit {0}
-IsBasicNode n _ = ⊥

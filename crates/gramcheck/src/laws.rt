@@ -1,11 +1,11 @@
 //! Laws of what expressions give at a place, and start rules at the front of an input.
 ghost use Rattle.std.specs.Prelude.{◌≡◌, ℕ, ◌<◌, ◌≤◌, ◌++◌, List, length};
-ghost use Rattle.pegread.specs.Basic.{IsBasic};
 ghost use Rattle.pegread.specs.Pattern.{Pattern, Rule};
 ghost use Rattle.pegread.specs.Views.{rules_of};
 ghost use Rattle.gramcheck.specs.Grammar.{Grammar, IsSoundGrammar};
 ghost use Rattle.gramcheck.specs.Outcome.{Event, Outcome, Gives, RuleGives};
 ghost use Rattle.gramcheck.specs.Rising.{Rise};
+ghost use Rattle.gramcheck.specs.Within.{StandsIn};
 
 /// An expression gives at most one outcome at a place, and looks equally far each time.
 pub fn one_outcome()
@@ -55,10 +55,10 @@ pub fn shorter_input_of_start()
         k < length x → RuleGives rules start (x ++ y) o k → RuleGives rules start x o k }
 {}
 
-/// Every expression of the forms that can be run gives an outcome at every place of the input.
+/// Every expression that stands in a rule's body of a sound grammar gives an outcome at every place of the input.
 pub fn some_outcome()
-    ensures { (rules : List Rule) (x : List ℕ) (e : Pattern) (p : ℕ) →
-        IsBasic e → p ≤ length x → (o : Outcome) × (k : ℕ) × Gives rules x e p o k }
+    ensures { (g : Grammar) (x : List ℕ) (e : Pattern) (p : ℕ) →
+        IsSoundGrammar g → StandsIn (rules_of g.rules) e → p ≤ length x → (o : Outcome) × (k : ℕ) × Gives (rules_of g.rules) x e p o k }
 {}
 
 /// The start rule of a sound grammar gives an outcome on every input.

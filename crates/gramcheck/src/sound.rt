@@ -1,30 +1,32 @@
 //! Sound grammars.
-ghost use Rattle.std.specs.Prelude.{◌≡◌, ◌<◌, length, slice_get, Some, IfOk};
-ghost use Rattle.pegread.specs.Basic.{IsBasicGrammar};
+ghost use Rattle.std.specs.Prelude.{◌≡◌, ◌<◌, length, slice_get, Some};
 ghost use Rattle.pegread.specs.Views.{rules_of};
 ghost use Rattle.gramcheck.specs.Grammar.{IsSoundGrammar};
+ghost use Rattle.gramcheck.specs.Nodes.{shapes_of};
+ghost use Rattle.gramcheck.specs.Sound.{IsRanked};
 
-use crate::cut::cut_grammar;
+use crate::cut::Cut;
 use crate::node::Node;
-use pegread::{Expr, Peg};
-use ruletable::{Memory, NameCase, RuleTable};
-use std::alloc::Global;
+use pegread::Expr;
+use ruletable::RuleTable;
 use std::marker::Model;
 
-/// A grammar that can be run: its rules, their bodies cut into numbered nodes, and a start rule.
+/// A grammar that can be run: its rules, their bodies cut into numbered nodes, a start rule, and of each node a rank.
 ///
-/// Operands have smaller numbers than the nodes that they stand in.
+/// Operands have smaller numbers than the nodes that they stand in, and every left step leads to a node of lower rank.
 #[derive(Drop)]
 pub struct SoundPeg {
     rules: RuleTable<Expr>,
     start: usize,
     nodes: Vec<Node>,
     bodies: Vec<usize>,
+    ranks: Vec<usize>,
 }
 
 impl Model for SoundPeg {
-    ghost use Rattle.gramcheck.specs.Grammar.{Grammar, IsSound};
+    ghost use Rattle.gramcheck.specs.Grammar.{Grammar};
     ghost use Rattle.gramcheck.specs.Nodes.{shapes_of};
+    ghost use Rattle.gramcheck.specs.Sound.{IsRanked};
     ghost use Rattle.gramcheck.specs.contracts.node.Node as n;
     ghost use Rattle.pegread.specs.Views.{rules_of};
     ghost use Rattle.pegread.specs.contracts.expr.Expr as e;
@@ -34,30 +36,26 @@ impl Model for SoundPeg {
 
     ghost coded = { Prim.hlevel (codes, e.the_row.coded, n.the_row.coded) };
 
-    ghost view = { λ p. record { rules = p.rules; start = p.start; nodes = p.nodes.items; bodies = p.bodies.items } };
+    ghost view = { λ p. record { rules = p.rules; start = p.start; nodes = p.nodes.items; bodies = p.bodies.items; ranks = p.ranks.items } };
 
-    ghost invariant = { λ p. IsSound (rules_of p.rules) p.start (shapes_of p.nodes.items) p.bodies.items };
+    ghost invariant = { λ p. IsRanked (rules_of p.rules) p.start (shapes_of p.nodes.items) p.bodies.items p.ranks.items };
 }
 
 impl SoundPeg {
-    /// The grammar of one rule, its start rule, cut into nodes.
-    ///
-    /// `Memory` where a growth was refused; the grammar is dropped then.
-    pub fn of_one_rule(alloc: Global, peg: Peg) -> Result<SoundPeg, Memory>
-        requires basic { IsBasicGrammar (rules_of peg.rules) }
-        requires exact_names { peg.rules.names ≡ NameCase.Exact }
-        ensures rules { IfOk result (λ g. g.rules ≡ peg.rules) }
-        ensures start { IfOk result (λ g. g.start ≡ 0) }
-        ensures sound { IfOk result IsSoundGrammar }
+    /// The grammar of these rules, nodes and ranks.
+    pub(crate) fn new(rules: RuleTable<Expr>, start: usize, cut: Cut, ranks: Vec<usize>) -> SoundPeg
+        requires { IsRanked (rules_of rules) start (shapes_of cut.nodes.items) cut.bodies.items ranks.items }
+        ensures rules { result.rules ≡ rules }
+        ensures start { result.start ≡ start }
+        ensures sound { IsSoundGrammar result }
     {
-        let rules = peg.rules;
-        let cut = cut_grammar(alloc, &rules)?;
-        Ok(SoundPeg {
+        SoundPeg {
             rules,
-            start: 0,
+            start,
             nodes: cut.nodes,
             bodies: cut.bodies,
-        })
+            ranks,
+        }
     }
 
     /// The rules as they were read.
@@ -67,17 +65,17 @@ impl SoundPeg {
         &self.rules
     }
 
-    /// The id of the start rule.
+    /// The id of the start rule. The clause `sound` says what a grammar that can be run is.
     pub fn start(&self) -> usize
-        ensures { result ≡ self.now.start }
+        ensures id { result ≡ self.now.start }
+        ensures sound { IsSoundGrammar self.now }
     {
         self.start
     }
 
     /// The number of nodes.
     pub fn nodes(&self) -> usize
-        ensures count { result ≡ length self.now.nodes }
-        ensures sound { IsSoundGrammar self.now }
+        ensures { result ≡ length self.now.nodes }
     {
         self.nodes.len()
     }
@@ -96,5 +94,13 @@ impl SoundPeg {
         ensures { slice_get self.now.nodes n ≡ Some result.now }
     {
         &self.nodes[n]
+    }
+
+    /// The rank of the node of that number: at most the number of nodes, and lower after each left step.
+    pub fn rank(&self, n: usize) -> usize
+        requires { n < length self.now.nodes }
+        ensures { slice_get self.now.ranks n ≡ Some result }
+    {
+        self.ranks[n]
     }
 }

@@ -7,7 +7,8 @@ use Rattle.pegread.specs.Views.{rules_of}
 use Rattle.gramcheck.specs.Grammar.{Grammar, IsSoundGrammar}
 use Rattle.gramcheck.specs.Nodes.{shapes_of}
 use Rattle.gramcheck.specs.Outcome.{Outcome, Fails, Takes}
-use Rattle.gramcheck.proofs.Starting.{rises_of_start, has_of_start}
+use Rattle.gramcheck.proofs.Ending.{has_of_start}
+use Rattle.gramcheck.proofs.Starting.{rises_of_start}
 use Rattle.pegmatch.specs.Text.{text_of}
 use Rattle.gramtools.specs.Input.{Input}
 use Rattle.gramtools.specs.Reply.{Reply, Replies}
@@ -119,7 +120,7 @@ module _ (g : Grammar) (settings : Settings) (input : Input) where
     goes_on : (fuel s : ℕ) (text : List ℕ) → GoesFrom fuel → UnitsTo s text → s ≤ length input.bytes → length input.bytes < s + suc fuel →
         MayRun settings input s → Goes g settings input text
     goes_on fuel s text later units inside room may =
-        let some = has_of_start (rules_of g.rules) g.start (shapes_of g.nodes) g.bodies (rest s) sound in
+        let some = has_of_start (rules_of g.rules) g.start (shapes_of g.nodes) g.bodies g.ranks sound (rest s) in
         elim (cases_lt settings.limit some.1) [
           | inl over ↦ begins text [] (stops s text [] (Overlong s) units (overlong some.0 some.1 may some.2 over))
           | inr le ↦ goes_within fuel s text later units inside room some.0 (record { may_run = may; looked = some.1; gives = some.2; within = le })

@@ -3,6 +3,7 @@ pub mod Deciding
 pub mod FinishLemmas
 pub mod Going
 pub mod Looking
+pub mod Noting
 pub mod Rightness
 pub mod Steps
 pub mod Stopping

@@ -14,16 +14,16 @@ pub record Observed : Type 0 where
   pub err_failed : Bool
   pub status : ℕ
 
--- The error output holds the text, or a beginning of it where it failed. Where the output failed, it holds `write error` alone or behind all of the text, or a beginning of that where it failed too.
-pub record Reports (text : List ℕ) (stated : ℕ) (out_failed err_failed : Bool) (err : List ℕ) (code : ℕ) : Type 0 where
-  pub whole : out_failed ≡ false → err_failed ≡ false → (err ≡ text) × (code ≡ stated)
-  pub part : out_failed ≡ false → IsBeginning err text
-  pub before : out_failed ≡ true → (front : List ℕ) × ((front ≡ []) ⊎ (front ≡ text)) × IsBeginning err (front ++ write_error) ×
+-- The error output holds the notes and the text, or a beginning of that where it failed. Where the output failed, it holds `write error` behind the notes or behind all of the text, or a beginning of that where it failed too.
+pub record Reports (notes text : List ℕ) (stated : ℕ) (out_failed err_failed : Bool) (err : List ℕ) (code : ℕ) : Type 0 where
+  pub whole : out_failed ≡ false → err_failed ≡ false → (err ≡ notes ++ text) × (code ≡ stated)
+  pub part : out_failed ≡ false → IsBeginning err (notes ++ text)
+  pub before : out_failed ≡ true → (front : List ℕ) × ((front ≡ notes) ⊎ (front ≡ notes ++ text)) × IsBeginning err (front ++ write_error) ×
       (err_failed ≡ false → err ≡ front ++ write_error)
   pub status : (out_failed ≡ true) ⊎ (err_failed ≡ true) → 4 ≤ code
 
 -- both outputs hold what is stated, but for what a writer that failed did not take
-pub record Delivers (stated : Reply) (run : Observed) : Type 0 where
+pub record Delivers (notes : List ℕ) (stated : Reply) (run : Observed) : Type 0 where
   pub out : run.out_failed ≡ false → run.err_failed ≡ false → run.out ≡ stated.out
   pub part : IsBeginning run.out stated.out
-  pub err : Reports stated.err stated.status run.out_failed run.err_failed run.err run.status
+  pub err : Reports notes stated.err stated.status run.out_failed run.err_failed run.err run.status

@@ -1,9 +1,13 @@
 pub mod Answers
 pub mod Attempts
+pub mod Checking
+pub mod Coming
 pub mod Delivery
 pub mod Finish
 pub mod Flush
 pub mod Input
+pub mod Noted
+pub mod Printing
 pub mod Reading
 pub mod Reply
 pub mod Status

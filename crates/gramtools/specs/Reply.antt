@@ -3,6 +3,8 @@ use Rattle.std.specs.Prelude.{◌≡◌, ℕ, List, [], ◌++◌, length, codes}
 use Rattle.ruletable.specs.Faults.{fault_text}
 use Rattle.ruletable.specs.Writing.{IsBeginning}
 use Rattle.ruletable.specs.declared.fault.ReadFault.{ReadFault}
+use Rattle.pegread.specs.Canon.{grammar_text}
+use Rattle.pegread.specs.Definitions.{firsts}
 use Rattle.pegread.specs.Pattern.{Rule}
 use Rattle.gramtools.specs.Input.{Input}
 use Rattle.gramtools.specs.Status.{code_of}
@@ -22,9 +24,13 @@ pub record Reply : Type 0 where
 abbrev pub refusal : ReadFault → Reply
 refusal fault = record { out = []; err = fault_text fault; status = 2; taken = 0 }
 
--- nothing is written or taken of a grammar that isn't run
-abbrev pub silence : Reply
-silence = record { out = []; err = []; status = 2; taken = 0 }
+-- nothing is written behind the notes, and nothing is taken
+abbrev pub notes_alone : ℕ → Reply
+notes_alone status = record { out = []; err = []; status = status; taken = 0 }
+
+-- the canonical text of the grammar is written, and nothing is taken
+abbrev pub printed_text : List Rule → Reply
+printed_text definitions = record { out = grammar_text (firsts [] definitions); err = []; status = 0; taken = 0 }
 
 -- a growth is refused after this output and so many bytes of input
 abbrev pub without_memory : List ℕ → ℕ → Reply

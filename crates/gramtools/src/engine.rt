@@ -15,7 +15,7 @@ use ruletable::{Sink, WriteFault};
 pub fn cut<M: Matcher, O: Sink>(
     matcher: &mut M,
     peg: &SoundPeg,
-    settings: &Settings,
+    settings: &Settings<'_>,
     bytes: &[u8],
     fault: bool,
     out: &mut O,

@@ -8,6 +8,8 @@ mod finish;
 mod input;
 mod laws;
 mod mains;
+mod notes;
+mod printing;
 mod run;
 mod settings;
 mod source;

@@ -9,11 +9,14 @@ use std::cell::Cell;
 use std::process::Abort;
 use std::test::Fail;
 
+mod forms;
+mod noted;
+
 /// A run with ample memory, and what is to come of it.
 #[derive(Drop)]
 struct Row {
     grammar: &'static [u8],
-    settings: Settings,
+    settings: Settings<'static>,
     input: &'static [u8],
     out: &'static [u8],
     err: &'static [u8],
@@ -64,13 +67,14 @@ fn check_rows<R: Abort + AllocGlobal>(rt: &R, torn: bool, rows: &[Row]) -> Resul
     Ok(())
 }
 
-fn limited(limit: usize) -> Settings
+fn limited(limit: usize) -> Settings<'static>
     requires low { 1 ≤ limit }
     requires high { limit ≤ 16777216 }
 {
     Settings {
         mode: Mode::Run,
         limit,
+        start: None,
         raw: false,
     }
 }
@@ -125,6 +129,7 @@ fn prints_what_its_actions_print(rt: HostRuntime) -> Result<(), Fail> {
             settings: Settings {
                 mode: Mode::Run,
                 limit: 65_536,
+                start: None,
                 raw: true,
             },
             input: b"ab",
@@ -202,24 +207,37 @@ fn ends_where_nothing_matches(rt: HostRuntime) -> Result<(), Fail> {
     check_rows(&rt, false, rows.as_slice())
 }
 
-/// A grammar that is not run: what is told of it, while nothing is printed and nothing is read.
-fn check_refused<R: Abort + AllocGlobal>(rt: &R, grammar: &[u8], line: &[u8]) {
-    let clock = Cell::new(0);
-    let mut reader = SourceOf::new(Tape::new(b"abc", 1, true));
-    let mut out = SinkOf::new(Paper::new(rt.alloc(), 1, &clock));
-    let mut err = SinkOf::new(Paper::new(rt.alloc(), 1, &clock));
-    let status = run_peg(
-        rt.alloc(),
-        grammar,
-        &Settings::run(),
-        &mut reader,
-        &mut out,
-        &mut err,
-    );
-    assert_eq!(rt; status, Status::Refused);
-    assert!(rt; out.into_inner().text().is_empty());
-    assert!(rt; err.into_inner().text() == line);
-    assert_eq!(rt; reader.into_inner().left(), 3, "nothing is read");
+/// A run that reads nothing: what is told on the error output, and its status. Nothing is printed.
+fn check_unread<R: Abort + AllocGlobal>(
+    rt: &R,
+    grammar: &[u8],
+    settings: &Settings<'_>,
+    lines: &[u8],
+    status: Status,
+) {
+    for step in [1, 2, 3, 7] {
+        let clock = Cell::new(0);
+        let mut reader = SourceOf::new(Tape::new(b"abc", step, true));
+        let mut out = SinkOf::new(Paper::new(rt.alloc(), step, &clock));
+        let mut err = SinkOf::new(Paper::new(rt.alloc(), step, &clock));
+        let ended = run_peg(
+            rt.alloc(),
+            grammar,
+            settings,
+            &mut reader,
+            &mut out,
+            &mut err,
+        );
+        assert_eq!(rt; ended, status, "status by {step}");
+        assert!(rt; out.into_inner().text().is_empty(), "out by {step}");
+        assert!(rt; err.into_inner().text() == lines, "err by {step}");
+        assert_eq!(rt; reader.into_inner().left(), 3, "nothing is read by {step}");
+    }
+}
+
+/// A grammar that is refused with these lines.
+fn check_refused<R: Abort + AllocGlobal>(rt: &R, grammar: &[u8], lines: &[u8]) {
+    check_unread(rt, grammar, &Settings::run(), lines, Status::Refused);
 }
 
 #[test]
@@ -227,9 +245,17 @@ fn tells_a_fault_of_the_grammar(rt: HostRuntime) {
     check_refused(&rt, b"", b"line 1: syntax error\n");
     check_refused(&rt, b"S <- \"a\n", b"line 1: syntax error\n");
     check_refused(&rt, b"S <- 'a'\r\n  'b' **\n", b"line 2: syntax error\n");
-    check_refused(&rt, b"# a comment\r\n\rS <- ( 'a'", b"line 3: syntax error\n");
+    check_refused(
+        &rt,
+        b"# a comment\r\n\rS <- ( 'a'",
+        b"line 3: syntax error\n",
+    );
     check_refused(&rt, b"S <- ( 'a'\n", b"line 2: syntax error\n");
-    check_refused(&rt, b"A <- 'a'\nB <- ( 'b'\nC\n<- 'c'", b"line 4: syntax error\n");
+    check_refused(
+        &rt,
+        b"A <- 'a'\nB <- ( 'b'\nC\n<- 'c'",
+        b"line 4: syntax error\n",
+    );
     check_refused(&rt, b"S < - 'a'", b"line 1: syntax error\n");
     check_refused(&rt, b"S <- 'a' {\n}\n\n]", b"line 4: syntax error\n");
     check_refused(&rt, b"S <- &{ x } 'a'", b"line 1: code predicate\n");
@@ -269,14 +295,6 @@ fn counts_open_brackets(rt: HostRuntime) -> Result<(), Fail> {
     assert!(rt; out.into_inner().text().is_empty());
     assert!(rt; err.into_inner().text().is_empty());
     Ok(())
-}
-
-#[test]
-fn tells_nothing_of_what_is_not_run(rt: HostRuntime) {
-    check_refused(&rt, b"S <- 'a'\nT <- 'b'\n", b"");
-    check_refused(&rt, b"S <- 'a' S <- 'b'", b"");
-    check_refused(&rt, b"S <- 'a'*", b"");
-    check_refused(&rt, b"S <- 'a' / (. [b])", b"");
 }
 
 #[test]

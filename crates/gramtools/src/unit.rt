@@ -96,7 +96,7 @@ fn step_of(
 pub fn unit_at<M: Matcher, O: Sink>(
     matcher: &mut M,
     peg: &SoundPeg,
-    settings: &Settings,
+    settings: &Settings<'_>,
     bytes: &[u8],
     fault: bool,
     start: usize,
@@ -109,7 +109,7 @@ pub fn unit_at<M: Matcher, O: Sink>(
     ensures flag { Flags (O.failed out.old) (O.failed out.new) result }
 {
     // its contract says that the grammar is sound
-    let _ = peg.nodes();
+    let _ = peg.start();
     let rest = &bytes[start..];
     let more = rest.len() > settings.limit;
     if fault && !more {

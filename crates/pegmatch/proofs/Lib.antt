@@ -1,9 +1,10 @@
-pub mod Below
+pub mod Falling
 pub mod Filling
 pub mod Literals
 pub mod Replaying
 pub mod Spelled
 pub mod Steps
 pub mod Trimming
+pub mod Turning
 pub mod Units
 mod Examples

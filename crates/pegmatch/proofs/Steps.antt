@@ -3,14 +3,14 @@ use Rattle.std.proofs.Common.{◌≡◌, ℕ, ◌+◌, ◌<◌, ◌≤◌, max, 
 use Rattle.std.proofs.Math.Seq.{take-append_seam}
 use Rattle.std.proofs.lemmas.Grind.{common_steps}
 use Rattle.std.proofs.lemmas.Option.{slice_get-get_or, slice_get_past}
-use Rattle.pegread.specs.Pattern.{Pattern, Patterns, none, more, Rule, Any, Bytes}
+use Rattle.pegread.specs.Pattern.{Pattern, Patterns, none, more, Rule, Any, Bytes, Set}
 use Rattle.gramcheck.specs.Nodes.{Shape, Spells, SpellAll, spell_none, spell_more}
-use Rattle.gramcheck.specs.Outcome.{Outcome, Fails, Takes, Gives, any_takes, any_at_end, bytes_take, bytes_fail, GivesAll, all_done, one_fails, rest_fails, rest_takes, seq, choice, GivesFirst, all_failed, first_takes, first_fails, begins_with, compared, looked_at}
+use Rattle.gramcheck.specs.Outcome.{Outcome, Fails, Takes, Gives, any_takes, any_at_end, set_takes, set_fails, set_at_end, bytes_take, bytes_fail, GivesAll, all_done, one_fails, rest_fails, rest_takes, seq, choice, GivesFirst, all_failed, first_takes, first_fails, begins_with, compared, looked_at}
 use Rattle.gramcheck.specs.Outcome as event
 use Rattle.pegmatch.specs.Kept.{StandFor, no_event, opened, closed, acted, MatchesBy, IsMatch}
 use Rattle.pegmatch.specs.declared.event.Kept.{Kept}
-use Rattle.pegmatch.specs.declared.matching.Found.{Found}
-use Rattle.pegmatch.specs.declared.matching.Tried.{Tried}
+use Rattle.pegmatch.specs.declared.leaves.Found.{Found}
+use Rattle.pegmatch.specs.declared.leaves.Tried.{Tried}
 
 -- the outcome of what comes after these events
 abbrev pub after : List event.Event → Outcome → Outcome
@@ -25,10 +25,10 @@ pub record GoesOn (rules : List Rule) (x : List ℕ) (all : Patterns) (p : ℕ) 
 pub record TriesOn (rules : List Rule) (x : List ℕ) (all rest : Patterns) (p looked : ℕ) : Type 0 where
   pub on : (o : Outcome) (k : ℕ) → GivesFirst rules x rest p o k → GivesFirst rules x all p o (max looked k)
 
-max-zero : (k : ℕ) → max 0 k ≡ k
+pub max-zero : (k : ℕ) → max 0 k ≡ k
 max-zero k = omega arith
 
-max-assoc : (i j k : ℕ) → max i (max j k) ≡ max (max i j) k
+pub max-assoc : (i j k : ℕ) → max i (max j k) ≡ max (max i j) k
 max-assoc i j k = omega arith
 
 after-nil : (o : Outcome) → after [] o ≡ o
@@ -91,6 +91,15 @@ module _ (rules : List Rule) (x : List ℕ) where
 
   pub any_missing : (p : ℕ) → length x ≤ p → Gives rules x Any p Fails 0
   any_missing p h = any_at_end (slice_get_past x p h)
+
+  pub set_found : (s : ℕ → Bool) (p b : ℕ) → p < length x → b ≡ get_or x p 0 → s b ≡ true → Gives rules x (Set s) p (Takes (p + 1) []) (p + 1)
+  set_found s p b h is member = let here = slice_get-get_or x p 0 h in set_takes (rw is here) member
+
+  pub set_other : (s : ℕ → Bool) (p b : ℕ) → p < length x → b ≡ get_or x p 0 → s b ≡ false → Gives rules x (Set s) p Fails (p + 1)
+  set_other s p b h is other = let here = slice_get-get_or x p 0 h in set_fails (rw is here) other
+
+  pub set_missing : (s : ℕ → Bool) (p : ℕ) → length x ≤ p → Gives rules x (Set s) p Fails 0
+  set_missing s p h = set_at_end (slice_get_past x p h)
 
   pub bytes_found : (bs rest : List ℕ) (p n m : ℕ) (b : Bool) → rest ≡ drop p x → b ≡ begins_with rest bs → b ≡ true →
       m ≡ compared rest bs → n ≡ looked_at p m → Gives rules x (Bytes bs) p (Takes (p + length bs) []) n

@@ -5,8 +5,8 @@ use Rattle.gramcheck.specs.Nodes.{Shape, Act, Spells, SpellAll}
 use Rattle.gramcheck.specs.Outcome as event
 use Rattle.gramcheck.specs.Outcome.{Outcome, Fails, Takes, Gives, GivesAll, GivesFirst}
 use Rattle.pegmatch.specs.declared.event.Kept.{Kept}
-use Rattle.pegmatch.specs.declared.matching.Found.{Found}
-use Rattle.pegmatch.specs.declared.matching.Tried.{Tried}
+use Rattle.pegmatch.specs.declared.leaves.Found.{Found}
+use Rattle.pegmatch.specs.declared.leaves.Tried.{Tried}
 use Rattle.pegmatch.specs.declared.matcher.Unit.{Unit as UnitAnswer}
 use Rattle.pegmatch.specs.declared.matcher.Unit.TheVariants as unit
 
@@ -20,10 +20,18 @@ pub data StandFor (nodes : List Shape) : List Kept → List event.Event → Type
   acted : {n : ℕ} {t : List ℕ} {kept : List Kept} {events : List event.Event} → slice_get nodes n ≡ Some (Act t) →
       StandFor nodes kept events → StandFor nodes (Kept.Acted n ∷ kept) (event.Acted t ∷ events)
 
+-- the outcome of what was found, with these events
+abbrev pub outcome_of : Found → List event.Event → Outcome
+outcome_of Found.Failed events = Fails
+outcome_of (Found.Took end) events = Takes end events
+
 -- the outcome of what was found without events
 abbrev pub quiet_outcome : Found → Outcome
-quiet_outcome Found.Failed = Fails
-quiet_outcome (Found.Took end) = Takes end []
+quiet_outcome found = outcome_of found []
+
+-- the node spells an expression
+abbrev pub SpellsSome : List Rule → List Shape → ℕ → Type 0
+SpellsSome rules nodes n = (e : Pattern) × Spells rules nodes n e
 
 -- A success adds its events, and a failure none.
 abbrev pub MatchesBy : List Shape → (Outcome → ℕ → Type 0) → Found → ℕ → List Kept → List Kept → Type 0
@@ -36,7 +44,17 @@ abbrev pub IsMatch : List Rule → List Shape → List ℕ → ℕ → ℕ → T
 IsMatch rules nodes x n p tried old new =
     (e : Pattern) → Spells rules nodes n e → MatchesBy nodes (Gives rules x e p) tried.found tried.looked old new
 
--- likewise for the members of a sequence
+-- likewise for a node that repeats the operand, makes it optional or looks ahead at it: `form` makes its expression of the operand's
+abbrev pub IsMatchOver : (Pattern → Pattern) → List Rule → List Shape → List ℕ → ℕ → ℕ → Tried → List Kept → List Kept → Type 0
+IsMatchOver form rules nodes x m p tried old new =
+    (e : Pattern) → Spells rules nodes m e → MatchesBy nodes (Gives rules x (form e) p) tried.found tried.looked old new
+
+-- What was found for a node at a place is what its expression gives there, with some events.
+abbrev pub IsSeen : List Rule → List Shape → List ℕ → ℕ → ℕ → Tried → Type 0
+IsSeen rules nodes x n p tried =
+    (e : Pattern) → Spells rules nodes n e → (events : List event.Event) × Gives rules x e p (outcome_of tried.found events) tried.looked
+
+-- what was found for the members of a sequence
 abbrev pub IsMatchOfAll : List Rule → List Shape → List ℕ → List ℕ → ℕ → Tried → List Kept → List Kept → Type 0
 IsMatchOfAll rules nodes x ns p tried old new =
     (es : Patterns) → SpellAll rules nodes ns es → MatchesBy nodes (GivesAll rules x es p) tried.found tried.looked old new

@@ -4,6 +4,7 @@
 mod compare;
 mod event;
 mod laws;
+mod leaves;
 mod matcher;
 mod matching;
 mod plain;
@@ -13,3 +14,6 @@ mod replay;
 pub use laws::{answer_stands, need_stands, one_answer};
 pub use matcher::{Matcher, ReplayFault, Unit};
 pub use plain::Plain;
+
+#[cfg(test)]
+mod tests;

@@ -7,8 +7,9 @@ ghost use Rattle.pegmatch.specs.Kept.{StandFor, IsEmptyUnlessTook};
 ghost use Rattle.pegmatch.specs.Text.{text_of};
 
 use crate::event::Kept;
+use crate::leaves::Found;
 use crate::matcher::{Matcher, ReplayFault, Unit};
-use crate::matching::{Found, match_node};
+use crate::matching::match_node;
 use crate::replay::put_text;
 use gramcheck::{SoundPeg, events_rise_of_start};
 use ruletable::{Memory, Sink, write_whole};
@@ -16,6 +17,8 @@ use std::alloc::Global;
 use std::marker::Model;
 
 /// A matcher that evaluates anew whatever is asked. It is seen as the events that it keeps of its last success.
+///
+/// It recurses as deep as operands and names stand in one another along the input; a repetition goes no deeper with its turns.
 #[derive(Drop)]
 pub struct Plain {
     events: Vec<Kept>,
@@ -55,8 +58,6 @@ fn unit_of(
     requires some { more ≡ true → 0 < length window.now }
     ensures { IfOk result (IsAnswer peg.now window.now more (StandFor (shapes_of peg.now.nodes) events.new.items)) }
 {
-    // its contract says that the grammar is sound
-    let _ = peg.nodes();
     let root = peg.body_node(peg.start());
     let mut begun = 0;
     let tried = match_node(peg, window, root, 0, events, &mut begun)?;

@@ -1,5 +1,5 @@
 -- What spells a grammar leads the machine to its definitions.
-use Rattle.std.proofs.Common.{◌≡◌, ℕ, Some, List, [], ◌∷◌, ◌++◌, refl, ◌∙◌, ap, append_assoc as list_assoc}
+use Rattle.std.proofs.Common.{◌≡◌, ℕ, Some, List, [], ◌∷◌, ◌++◌, refl, ◌∙◌, ap, append_assoc as list_assoc, ◌<◌, length, arith}
 use Rattle.ruletable.specs.declared.span.Span.{Span}
 use Rattle.pegread.specs.Pattern as e
 use Rattle.pegread.specs.Pattern.{Pattern, Any, Bytes, Set, Name, Opt, And, Not, Act, Open, Close, Patterns, none, more, Rule}
@@ -228,3 +228,8 @@ grammar-runs g = pass-definitions [] start (λ n p s. refl) g
 -- a list of words spells one grammar at most
 pub one-grammar : {ws : List Word} {a b : List Rule} → Grammar ws a → Grammar ws b → a ≡ b
 one-grammar g k = let same = grammar-runs g in let other = grammar-runs k in cc
+
+-- a grammar has a definition
+pub grammar-some : {ws : List Word} {rules : List Rule} → Grammar ws rules → 0 < length rules
+grammar-some (last_definition h) = omega arith
+grammar-some (more_definitions h hs) = omega arith

@@ -1,9 +1,11 @@
 -- The table of definitions, one definition more.
-use Rattle.std.proofs.Common.{◌≡◌, ℕ, Bool, cond, not, List, [], ◌∷◌, ◌++◌, length, map, position, Option, Some, None, refl, sym, ap, ◌∙◌, append_assoc, append-nil, bytes_eq, arith}
-use Rattle.std.proofs.lemmas.List.{map-append}
+use Rattle.std.proofs.Common.{◌≡◌, ℕ, zero, suc, Bool, cond, not, List, [], ◌∷◌, ◌++◌, length, map, position, Option, Some, None, refl, sym, ap, ◌∙◌, append_assoc, append-nil, bytes_eq, arith, ◌+◌, ◌<◌, ◌⊎◌, inl, inr, Contains, length-append}
+use Rattle.std.proofs.lemmas.List.Quantifiers.{position-Some}
+use Rattle.std.proofs.lemmas.List.Elements.{Contains-append_cases}
+use Rattle.std.proofs.lemmas.List.{map-append, length-map}
 use Rattle.ruletable.proofs.TableLemmas.{position-map}
 use Rattle.ruletable.specs.Rules as table
-use Rattle.ruletable.specs.Rules.{find_in, Defines}
+use Rattle.ruletable.specs.Rules.{find_in, Defines, AreIds}
 use Rattle.ruletable.specs.declared.table.NameCase.TheVariants.{Exact}
 use Rattle.ruletable.specs.declared.table.Defined.{Defined}
 use Rattle.ruletable.specs.declared.table.Defined.TheVariants.{Added, Duplicate}
@@ -66,3 +68,36 @@ none-again-by known ds d (Some id) e more h = let none = rw (e, agains) at h in 
 pub none-again : (known ds : List Rule) → agains known ds ≡ [] → firsts known ds ≡ ds
 none-again known [] h = refl
 none-again known (d ∷ ds) h = none-again-by known ds d (id_in known d.name) refl (λ k. none-again (known ++ d ∷ []) ds k) h
+
+only-one : (i id : ℕ) → Contains (i ∷ []) id → i ≡ id
+only-one i id (zero, lt, e) = e
+only-one i id (suc k, lt, e) = absurd (omega (arith, lt))
+
+agains-within-by : (known ds : List Rule) (d : Rule) (x : Option ℕ) → id_in known d.name ≡ x → (id : ℕ) →
+    ((rules : List Rule) → Contains (agains rules ds) id → id < length (rules ++ firsts rules ds)) → Contains (agains known (d ∷ ds)) id → id < length (known ++ firsts known (d ∷ ds))
+agains-within-by known ds d None e id more h =
+    let c = rw (e, agains) at h in
+    let lt = more (known ++ d ∷ []) c in
+    rw (e, firsts) (omega (arith, lt, length-append (known ++ d ∷ []) (firsts (known ++ d ∷ []) ds), length-append known (d ∷ []), length-append known (d ∷ firsts (known ++ d ∷ []) ds)))
+agains-within-by known ds d (Some i) e id more h =
+    let c = rw (e, agains) at h in
+    let there = position-Some (λ (rule : Rule). bytes_eq d.name rule.name) known i d e in
+    rw (e, firsts) (elim (Contains-append_cases (i ∷ []) (agains known ds) id c) [
+      | inl one ↦ (let lt = there.0 in let same = only-one i id one in omega (arith, same, lt, length-append known (firsts known ds)))
+      | inr rest ↦ more known rest
+    ])
+
+agains-within : (ds known : List Rule) (id : ℕ) → Contains (agains known ds) id → id < length (known ++ firsts known ds)
+agains-within [] known id (k, lt, e) = absurd (omega (arith, lt))
+agains-within (d ∷ ds) known id h = agains-within-by known ds d (id_in known d.name) refl id (λ rules k. agains-within ds rules id k) h
+
+-- the ids of rules that are defined again are ids
+pub table-ids : (definitions : List Rule) (rules : table.Rules Expr) (redefined : List ℕ) → IsTableOf definitions rules redefined → AreIds rules redefined
+table-ids definitions rules redefined h id k =
+    let lt = agains-within definitions [] id (let e = h.again in rw e at k) in
+    omega (arith, lt, ap length h.kept, length-map rules.rules rule_of)
+
+-- some definition gives some rule
+pub table-some : (definitions : List Rule) (rules : table.Rules Expr) (redefined : List ℕ) → IsTableOf definitions rules redefined → 0 < length definitions → 0 < length rules.rules
+table-some [] rules redefined h lt = absurd (omega (arith, lt))
+table-some (d ∷ ds) rules redefined h lt = omega (arith, ap length h.kept, length-map rules.rules rule_of)

@@ -1,4 +1,7 @@
 //! What the bodies of a grammar's rules are made of.
+ghost use Rattle.std.specs.Prelude.{◌≡◌, ◌<◌, length};
+ghost use Rattle.ruletable.specs.declared.table.NameCase.TheVariants.{Exact};
+ghost use Rattle.ruletable.specs.Rules.{AreIds};
 
 use ruletable::{ByteSet, RuleTable};
 
@@ -35,9 +38,13 @@ pub enum Expr {
     Close,
 }
 
-/// A grammar as it was read: its rules, and the ids of those that a later definition names again.
+/// A grammar as it was read: its rules, at least one, whose names compare exactly, and the ids of those that a later
+/// definition names again.
 #[derive(Drop)]
 pub struct Peg {
     pub rules: RuleTable<Expr>,
     pub redefined: Vec<usize>,
+    ghost exact: { rules.names ≡ Exact },
+    ghost some: { 0 < length rules.rules },
+    ghost within: { AreIds rules redefined.items },
 }

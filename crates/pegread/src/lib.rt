@@ -6,6 +6,9 @@ mod escape;
 mod expr;
 mod lexing;
 mod literal;
+mod place;
+mod print;
+mod print_bytes;
 mod read;
 mod reader;
 mod spelling_laws;
@@ -17,6 +20,7 @@ pub use class::class_set;
 pub use escape::next_char;
 pub use expr::{Expr, Peg};
 pub use literal::literal_bytes;
+pub use print::{is_read_back, print_peg};
 pub use read::{MAX_GRAMMAR, MAX_OPEN, one_tree, read_peg};
 pub use spelling_laws::{
     spells_one_char, spells_one_class, spells_one_literal, spells_some_char, spells_some_class,
@@ -25,6 +29,8 @@ pub use spelling_laws::{
 pub use token_iter::{Kind, Token, TokenIter};
 pub use token_lists::{are_marked, have_tokens, one_list, tokens, tokens_make_up};
 
+#[cfg(test)]
+mod print_tests;
 #[cfg(test)]
 mod spelling_tests;
 #[cfg(test)]

@@ -1,5 +1,5 @@
 //! Reads a grammar's text.
-ghost use Rattle.std.specs.Prelude.{◌≡◌, ℕ, ◌≤◌, ◌++◌, ◌∷◌, Bool, List, length, slice_get, take as first, Some, IfOk, IfErr, MatchResult};
+ghost use Rattle.std.specs.Prelude.{◌≡◌, ℕ, ◌<◌, ◌≤◌, ◌++◌, ◌∷◌, Bool, List, length, slice_get, take as first, Some, IfOk, IfErr, MatchResult};
 ghost use Rattle.ruletable.specs.Lines.{line_at};
 ghost use Rattle.pegread.specs.Definitions.{IsTableOf};
 ghost use Rattle.pegread.specs.Marks.{IsCut};
@@ -102,11 +102,7 @@ fn hopeless(before: Option<Kind>, kind: Kind, line: usize) -> ReadFault
 }
 
 // Takes what a token says.
-fn take_token<'a>(
-    alloc: Global,
-    reader: Reader<'a>,
-    token: Token<'a>,
-) -> Result<Reader<'a>, Stop>
+fn take_token<'a>(alloc: Global, reader: Reader<'a>, token: Token<'a>) -> Result<Reader<'a>, Stop>
     requires { IsCut token.kind token.slice.now }
     ensures { Takes (config_of reader.entry) (tok_of token.entry) result }
 {
@@ -119,6 +115,7 @@ fn take_token<'a>(
 
 // The table of these definitions.
 fn peg_of(alloc: Global, definitions: Vec<Definition<'_>>) -> Result<Peg, Memory>
+    requires { 0 < length definitions.items }
     ensures { IfOk result (λ peg. IsTableOf (rules_from definitions.entry.items) peg.rules peg.redefined.items) }
 {
     let mut rules = RuleTable::new(alloc, NameCase::Exact);

@@ -453,12 +453,7 @@ pub(crate) fn take<'a>(
             _ => Err(Stop::Hopeless),
         },
         Reader::Named(name, span) => match word {
-            Word::Arrow => Ok(Reader::Fresh(new_body(
-                alloc,
-                Vec::new(alloc),
-                name,
-                span,
-            ))),
+            Word::Arrow => Ok(Reader::Fresh(new_body(alloc, Vec::new(alloc), name, span))),
             _ => Err(Stop::Hopeless),
         },
         Reader::Fresh(body) => take_fresh(alloc, body, word),

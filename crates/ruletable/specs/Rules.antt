@@ -1,5 +1,5 @@
 -- What contracts see of a table of rules: a list of rules in order of definition, no two of one name.
-use Rattle.std.specs.Prelude.{◌≡◌, ℕ, zero, suc, Bool, bytes_eq, List, [], ◌∷◌, ◌++◌, length, map, position, slice_get, Option, None, Some}
+use Rattle.std.specs.Prelude.{◌≡◌, ℕ, zero, suc, Bool, bytes_eq, List, [], ◌∷◌, ◌++◌, length, map, position, slice_get, Option, None, Some, Contains, ◌<◌}
 use Rattle.std.specs.Str.{str_to_ascii_lowercase}
 use Rattle.ruletable.specs.declared.span.Span.{Span}
 use Rattle.ruletable.specs.declared.table.Defined.{Defined}
@@ -57,3 +57,7 @@ set_body (rule ∷ rules) (suc id) w = rule ∷ set_body rules id w
 
 abbrev pub with_body : {E : Type 0} → Rules E → ℕ → E → Rules E
 with_body table id w = record { names = table.names; rules = set_body table.rules id w }
+
+-- each number of the list is the id of a rule
+abbrev pub AreIds : {E : Type 0} → Rules E → List ℕ → Type 0
+AreIds table ids = (id : ℕ) → Contains ids id → id < length table.rules

@@ -175,7 +175,13 @@ fn tells_no_beginning_that_lacks_an_operand(rt: HostRuntime) {
 fn tells_code_predicates(rt: HostRuntime) {
     let alloc = rt.alloc();
     assert!(rt; is_refused(alloc, b"S <- & {x}", ReadFault::CodePredicate { line: 1 }));
-    assert!(rt; is_refused(alloc, b"S <- &\n{ x } 'a'", ReadFault::CodePredicate { line: 2 }));
+    assert!(rt;
+        is_refused(
+            alloc,
+            b"S <- &\n{ x } 'a'",
+            ReadFault::CodePredicate { line: 2 }
+        )
+    );
     assert!(rt; is_wrong_at(alloc, b"S <- {x} <- {y}", 1));
 }
 

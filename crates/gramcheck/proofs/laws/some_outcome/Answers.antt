@@ -1,5 +1,9 @@
-use Rattle.gramcheck.proofs.Existing.{has}
+use Rattle.pegread.specs.Views.{rules_of}
+use Rattle.gramcheck.specs.Nodes.{shapes_of}
+use Rattle.gramcheck.proofs.Ending.{standing_ends}
 use Rattle.gramcheck.proofs.laws.some_outcome.Goals as goal
 
 pub returns : goal.returns
-returns c = λ rules x e p basic le. let h = has rules x e p basic le in (h.outcome, h.looked, h.gives)
+returns c = λ g x e p sound stands le.
+    let one = standing_ends (rules_of g.rules) g.start (shapes_of g.nodes) g.bodies g.ranks sound x e p stands le in
+    (one.outcome, one.looked, one.gives)

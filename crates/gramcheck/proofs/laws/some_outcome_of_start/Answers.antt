@@ -1,7 +1,7 @@
 use Rattle.pegread.specs.Views.{rules_of}
 use Rattle.gramcheck.specs.Nodes.{shapes_of}
-use Rattle.gramcheck.proofs.Starting.{has_of_start}
+use Rattle.gramcheck.proofs.Ending.{has_of_start}
 use Rattle.gramcheck.proofs.laws.some_outcome_of_start.Goals as goal
 
 pub returns : goal.returns
-returns c = λ g x sound. has_of_start (rules_of g.rules) g.start (shapes_of g.nodes) g.bodies x sound
+returns c = λ g x sound. has_of_start (rules_of g.rules) g.start (shapes_of g.nodes) g.bodies g.ranks sound x

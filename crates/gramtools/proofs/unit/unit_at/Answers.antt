@@ -21,7 +21,7 @@ returns-clause-follows g c =
     rw (take_rest, add-one) at c.front-window.ensures in
     rw c.step_of.ensures
     (step_is c.args.peg.now c.args.settings.now (record { bytes = c.args.bytes.now; fault = c.args.fault }) c.args.start c.requires.within
-    c.nodes.ensures.sound may _ _ c.print_unit-attempted.result (rw (front, take_rest) at c.print_unit-attempted.ensures.answer))
+    c.start.ensures.sound may _ _ c.print_unit-attempted.result (rw (front, take_rest) at c.print_unit-attempted.ensures.answer))
 
 pub returns-clause-fits : goal.returns-clause-fits
 returns-clause-fits g c =

@@ -1,6 +1,8 @@
 use Rattle.std.proofs.Common.{◌≡◌, [], arith}
-use Rattle.pegread.specs.Steps.{rules_from}
-use Rattle.pegread.proofs.Tables.{length-none, goes-first, goes-added, goes-again, goes-last}
+use Rattle.std.proofs.lemmas.List.{length-map}
+use Rattle.pegread.specs.Definitions.{IsTableOf}
+use Rattle.pegread.specs.Steps.{rule_from, rules_from}
+use Rattle.pegread.proofs.Tables.{length-none, goes-first, goes-added, goes-again, goes-last, table-some, table-ids}
 use Rattle.pegread.proofs.read.peg_of.Goals as goal
 
 pub loop-definition-init : goal.loop-definition-init
@@ -19,8 +21,24 @@ loop-definition-preserved c =
     rw c.in_ok-push-in-Duplicate.ensures.items
     (goes-again (rules_from c.args.definitions.items) t.rules c.define.new.self t.redefined.items c.in-Some.definition (rules_from c.next.new.self.rest.items) c.in-Duplicate.id left (rw c.in-Duplicate.is at c.in_ok-define.ensures.defines))
 
+module _ (c : goal.After-drop-definition-iterator-2) where
+  made : IsTableOf (rules_from c.args.definitions.items) c.loop-definition.rules c.loop-definition.redefined.items
+  made =
+      let t = c.loop-definition in
+      let none : t.definition-iterator.rest.items ≡ [] = length-none _ (omega (arith, t.definition-iterator.rest.ok, c.in-None.ensures.steps.0)) in
+      goes-last (rules_from c.args.definitions.items) t.rules t.redefined.items (rw none at t.invariant)
+
 pub returns : goal.returns
 returns c =
     let t = c.loop-definition in
     let none : t.definition-iterator.rest.items ≡ [] = length-none _ (omega (arith, t.definition-iterator.rest.ok, c.in-None.ensures.steps.0)) in
     goes-last (rules_from c.args.definitions.items) t.rules t.redefined.items (rw none at t.invariant)
+
+pub invariant_of-result-clause-exact : goal.invariant_of-result-clause-exact
+invariant_of-result-clause-exact c = (made c).names
+
+pub invariant_of-result-clause-some : goal.invariant_of-result-clause-some
+invariant_of-result-clause-some c = table-some (rules_from c.args.definitions.items) c.loop-definition.rules c.loop-definition.redefined.items (made c) (omega (arith, c.requires, length-map c.args.definitions.items rule_from))
+
+pub invariant_of-result-clause-within : goal.invariant_of-result-clause-within
+invariant_of-result-clause-within c = table-ids (rules_from c.args.definitions.items) c.loop-definition.rules c.loop-definition.redefined.items (made c)

@@ -1,0 +1,8 @@
+use Rattle.std.proofs.Common.{◌≡◌, take}
+use Rattle.gramcheck.specs.Derive.{demands_of}
+use Rattle.gramcheck.specs.Nodes.{shapes_of}
+use Rattle.gramcheck.specs.Nulls.{null_demands}
+use Rattle.gramcheck.proofs.nullable.needs.Given as goal
+
+abbrev pub invariant-loop-node : goal.invariant-loop-node
+invariant-loop-node l = demands_of l.needs.items ≡ null_demands l.bodies (shapes_of (take l.node-index l.nodes))

@@ -1,0 +1,14 @@
+-- The uses in one more member.
+use Rattle.std.proofs.Common.{◌++◌, take, append_assoc}
+use Rattle.gramcheck.specs.Uses.{names_in_all, names_in}
+use Rattle.pegread.specs.Views.{patterns_of, pattern_of}
+use Rattle.gramcheck.proofs.UsesLemmas.{all-next}
+use Rattle.gramcheck.proofs.uses.+using_names.Goals as goal
+
+pub add_all_uses-loop-member-preserved : goal.add_all_uses-loop-member-preserved
+add_all_uses-loop-member-preserved t c = λ rules seen uses.
+    rw (
+      all-next c.args.members.now c.loop-member.member-index c.member-item.result c.loop-member-test.true c.member-item.is,
+      ← append_assoc seen (names_in_all (patterns_of (take c.loop-member.member-index c.args.members.now))) (names_in (pattern_of c.member-item.result)),
+    )
+    (c.in_ok-add_uses.ensures rules (seen ++ names_in_all (patterns_of (take c.loop-member.member-index c.args.members.now))) (c.loop-member.invariant rules seen uses))

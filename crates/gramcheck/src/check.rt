@@ -1,0 +1,112 @@
+//! The checks of a grammar.
+ghost use Rattle.std.specs.Prelude.{◌≡◌, ◌<◌, ◌≢◌, None, Option, List, ℕ, true, false, length, map, IfOk, IfSome, MatchOption, option_copied};
+ghost use Rattle.ruletable.specs.Notes.{said_of};
+ghost use Rattle.ruletable.specs.Rules.{find_in};
+ghost use Rattle.pegread.specs.Views.{rules_of};
+ghost use Rattle.gramcheck.specs.Checked.{is_refused, IsStart};
+ghost use Rattle.gramcheck.specs.Defined.{IsGiven};
+ghost use Rattle.gramcheck.specs.Grammar.{IsSoundGrammar};
+ghost use Rattle.gramcheck.specs.Nodes.{shapes_of};
+ghost use Rattle.gramcheck.specs.Notes.{AreNotes, names_at};
+ghost use Rattle.gramcheck.specs.Sound.{IsRanked};
+
+use crate::analysis::analysed;
+use crate::cut::{Cut, cut_grammar};
+use crate::notes::{notes, refused};
+use crate::sound::SoundPeg;
+use pegread::{Expr, Peg};
+use ruletable::{Memory, NameCase, Note, RuleTable};
+use std::alloc::Global;
+
+/// What the checks of a grammar gave.
+#[derive(Drop)]
+pub struct Checked<S> {
+    /// What there is to say of it, in order.
+    pub notes: Vec<Note>,
+    /// The grammar, ready to run, unless a note refuses it.
+    pub sound: Option<S>,
+}
+
+/// Checks a grammar: what there is to say of it, and where no note refuses it, the grammar ready to run from its start
+/// rule, which is that with the name `start`, or else the first.
+///
+/// The notes are, each kind by the order of the rules: rules that are defined again; names that no rule has, by first
+/// use, where `start` is a use before all others; rules that are not used, which alone don't refuse the grammar; rules that
+/// may come back to themselves without taking a byte (Ford 2004, section 3.6); and rules that repeat what may take nothing.
+///
+/// # Errors
+/// `Memory` where a growth was refused; the grammar is dropped then.
+pub fn check_peg(alloc: Global, peg: Peg, start: Option<&str>) -> Result<Checked<SoundPeg>, Memory>
+    ensures notes { IfOk result (λ c. AreNotes (rules_of peg.rules) (names_at (rules_of peg.rules) peg.redefined.items) (option_copied start.entry) (map said_of c.notes.items)) }
+    ensures sound { IfOk result (λ c. MatchOption c.sound (is_refused (map said_of c.notes.items) ≡ true)
+        (λ g. (is_refused (map said_of c.notes.items) ≡ false) × (g.rules ≡ peg.rules) × IsStart (option_copied start.entry) (rules_of peg.rules) g.start)) }
+    ensures ranked { IfOk result (λ c. IfSome c.sound IsSoundGrammar) }
+{
+    let rules = peg.rules;
+    let judged = judge(alloc, &rules, &peg.redefined, start)?;
+    let notes = judged.notes;
+    if refused(&notes) {
+        return Ok(Checked { notes, sound: None });
+    }
+    let first = start_id(&rules, start)?;
+    let sound = SoundPeg::new(rules, first, judged.cut, judged.ranks);
+    Ok(Checked {
+        notes,
+        sound: Some(sound),
+    })
+}
+
+// The notes on a grammar, its nodes, and their ranks.
+#[derive(Drop)]
+struct Judged {
+    notes: Vec<Note>,
+    cut: Cut,
+    ranks: Vec<usize>,
+}
+
+// Cuts a grammar into nodes, and finds what there is to say of it. Where nothing refuses it, the ranks make it sound.
+fn judge(
+    alloc: Global,
+    rules: &RuleTable<Expr>,
+    redefined: &[usize],
+    start: Option<&str>,
+) -> Result<Judged, Memory>
+    requires { rules.now.names ≡ NameCase.Exact }
+    ensures notes { IfOk result (λ j. AreNotes (rules_of rules.now) (names_at (rules_of rules.now) redefined.now) (option_copied start.entry) (map said_of j.notes.items)) }
+    ensures ranked { IfOk result (λ j. is_refused (map said_of j.notes.items) ≡ false → (first : ℕ) → first < length (rules_of rules.now) →
+        IsRanked (rules_of rules.now) first (shapes_of j.cut.nodes.items) j.cut.bodies.items j.ranks.items) }
+    ensures given { IfOk result (λ j. is_refused (map said_of j.notes.items) ≡ false → IsGiven (option_copied start.entry) rules.now) }
+{
+    let _ = rules.len();
+    let cut = cut_grammar(alloc, rules)?;
+    let found = analysed(alloc, &cut.nodes, &cut.bodies)?;
+    let notes = notes(
+        alloc,
+        rules,
+        redefined,
+        start,
+        &found.recursive,
+        &found.looping,
+    )?;
+    Ok(Judged {
+        notes,
+        cut,
+        ranks: found.ranks,
+    })
+}
+
+// The id of the start rule of a grammar that has it.
+fn start_id(rules: &RuleTable<Expr>, start: Option<&str>) -> Result<usize, Memory>
+    requires exact { rules.now.names ≡ NameCase.Exact }
+    requires some { 0 < length rules.now.rules }
+    requires given { IsGiven (option_copied start) rules.now }
+    ensures { IfOk result (λ id. IsStart (option_copied start.entry) (rules_of rules.now) id) }
+{
+    let Some(name) = start else {
+        return Ok(0);
+    };
+    match rules.find(name.as_bytes())? {
+        Some(id) => Ok(id),
+        None => unreachable!(),
+    }
+}

@@ -1,0 +1,168 @@
+//! The notes on a grammar.
+ghost use Rattle.std.specs.Prelude.{◌≡◌, ℕ, ◌==◌, ◌<◌, ◌++◌, Bool, false, List, length, map, drop, get_or, Option, IfOk, option_copied};
+ghost use Rattle.std.specs.List.{list_any};
+ghost use Rattle.ruletable.specs.Notes.{Said, Undefined, said_of, refuses as said_refuses};
+ghost use Rattle.ruletable.specs.Rules.{names_of};
+ghost use Rattle.pegread.specs.Pattern.{Rule};
+ghost use Rattle.pegread.specs.Views.{rules_of};
+ghost use Rattle.gramcheck.specs.Left.{IsLeftRecursive, Loops};
+ghost use Rattle.gramcheck.specs.Notes.{AreMarks, AreNotes, AreRedefinitions, chosen, names_at};
+ghost use Rattle.gramcheck.specs.Kinds.{said_as};
+
+use crate::uses::uses_of;
+use pegread::{Expr, Peg};
+use ruletable::{Memory, Note, RuleTable};
+use std::alloc::Global;
+
+// The kinds of notes for which rules are marked.
+#[derive(Clone, Copy)]
+enum Kind {
+    Redefined,
+    Unused,
+    LeftRecursion,
+    Loop,
+}
+
+fn note_of(kind: Kind, name: Vec<u8>) -> Note
+    ensures { said_of result ≡ said_as kind name.items }
+{
+    match kind {
+        Kind::Redefined => Note::Redefined(name),
+        Kind::Unused => Note::Unused(name),
+        Kind::LeftRecursion => Note::LeftRecursion(name),
+        Kind::Loop => Note::Loop(name),
+    }
+}
+
+// Adds a note for each rule that is marked.
+fn note_marked(
+    alloc: Global,
+    rules: &RuleTable<Expr>,
+    marks: &[bool],
+    kind: Kind,
+    notes: &mut Vec<Note>,
+) -> Result<(), Memory>
+    requires { length marks.now ≡ length rules.now.rules }
+    ensures { IfOk result (λ _. map said_of notes.new.items ≡ map said_of notes.old.items ++ map (said_as kind) (chosen marks.now (names_of rules.now))) }
+{
+    for id in 0..rules.len() {
+        if marks[id] {
+            let name = Vec::from_slice(alloc, rules.name(id))?;
+            notes.push(note_of(kind, name))?;
+        }
+    }
+    Ok(())
+}
+
+// Adds a note for each name but the first `count`.
+fn note_undefined(
+    alloc: Global,
+    names: &RuleTable<()>,
+    count: usize,
+    notes: &mut Vec<Note>,
+) -> Result<(), Memory>
+    ensures { IfOk result (λ _. map said_of notes.new.items ≡ map said_of notes.old.items ++ map Undefined (drop count (names_of names.now))) }
+{
+    for id in count..names.len() {
+        let name = Vec::from_slice(alloc, names.name(id))?;
+        notes.push(Note::Undefined(name))?;
+    }
+    Ok(())
+}
+
+fn no_marks(alloc: Global, count: usize) -> Result<Vec<bool>, Memory>
+    ensures count { IfOk result (λ marks. length marks.items ≡ count) }
+    ensures marks { IfOk result (λ marks. (id : ℕ) → get_or marks.items id false ≡ false) }
+{
+    let mut marks = Vec::new(alloc);
+    for _id in 0..count {
+        marks.push(false)?;
+    }
+    Ok(marks)
+}
+
+// Of each of the first `count` ids whether it is in the list.
+fn marks_of(alloc: Global, ids: &[usize], count: usize) -> Result<Vec<bool>, Memory>
+    ensures count { IfOk result (λ marks. length marks.items ≡ count) }
+    ensures marks { IfOk result (λ marks. (id : ℕ) → id < count → get_or marks.items id false ≡ list_any (λ other. other == id) ids.now) }
+{
+    let mut marks = no_marks(alloc, count)?;
+    for id in ids {
+        if *id < marks.len() {
+            marks[*id] = true;
+        }
+    }
+    Ok(marks)
+}
+
+/// The notes on a grammar, in order: on rules that are defined again, which are those with the ids in `redefined`, on names that no rule has, on rules
+/// that are not used, and on those marked as left-recursive and as looping.
+///
+/// `Memory` where a growth was refused.
+pub(crate) fn notes(
+    alloc: Global,
+    rules: &RuleTable<Expr>,
+    redefined: &[usize],
+    start: Option<&str>,
+    recursive: &[bool],
+    looping: &[bool],
+) -> Result<Vec<Note>, Memory>
+    requires recursive { length recursive.now ≡ length rules.now.rules }
+    requires looping { length looping.now ≡ length rules.now.rules }
+    ensures { IfOk result (λ notes. AreMarks (IsLeftRecursive (rules_of rules.now)) (rules_of rules.now) recursive.now →
+        AreMarks (Loops (rules_of rules.now)) (rules_of rules.now) looping.now →
+        AreNotes (rules_of rules.now) (names_at (rules_of rules.now) redefined.now) (option_copied start.entry) (map said_of notes.items)) }
+{
+    let uses = uses_of(alloc, rules, start)?;
+    let again = marks_of(alloc, redefined, rules.len())?;
+    let mut notes = Vec::new(alloc);
+    note_marked(alloc, rules, &again, Kind::Redefined, &mut notes)?;
+    note_undefined(alloc, &uses.names, rules.len(), &mut notes)?;
+    note_marked(alloc, rules, &uses.unused, Kind::Unused, &mut notes)?;
+    note_marked(alloc, rules, recursive, Kind::LeftRecursion, &mut notes)?;
+    note_marked(alloc, rules, looping, Kind::Loop, &mut notes)?;
+    Ok(notes)
+}
+
+/// The notes on the rules that a grammar defines again, alone, by the order of the rules.
+///
+/// # Errors
+/// `Memory` where a growth was refused.
+pub fn redefinitions(alloc: Global, peg: &Peg) -> Result<Vec<Note>, Memory>
+    ensures { IfOk result (λ notes. AreRedefinitions (rules_of peg.now.rules) (names_at (rules_of peg.now.rules) peg.now.redefined.items) (map said_of notes.items)) }
+{
+    let again = marks_of(alloc, &peg.redefined, peg.rules.len())?;
+    let mut notes = Vec::new(alloc);
+    note_marked(alloc, &peg.rules, &again, Kind::Redefined, &mut notes)?;
+    Ok(notes)
+}
+
+fn refuses(note: &Note) -> bool
+    ensures { result ≡ said_refuses (said_of note.now) }
+{
+    match note {
+        Note::Unused(_) => false,
+        _ => true,
+    }
+}
+
+/// Whether a grammar on which there are these notes is refused: one of them is no note on a rule that is not used.
+pub(crate) fn refused(notes: &[Note]) -> bool
+    ensures { result ≡ list_any said_refuses (map said_of notes.now) }
+{
+    for note in notes {
+        if refuses(note) {
+            return true;
+        }
+    }
+    false
+}
+
+/// A law: there is at most one list of notes on a grammar.
+pub fn one_list_of_notes()
+    ensures { (rules : List Rule) (again : List (List ℕ)) (start : Option (List ℕ)) (a b : List Said) →
+        AreNotes rules again start a → AreNotes rules again start b → a ≡ b }
+{}
+
+#[cfg(test)]
+mod tests;

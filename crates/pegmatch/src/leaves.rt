@@ -1,0 +1,102 @@
+//! What the expressions without operands give at a place.
+ghost use Rattle.std.specs.Prelude.{◌≡◌, ◌≤◌, List, [], ◌∷◌, ◌++◌, length, false, get_or, IfOk, OnOk};
+ghost use Rattle.pegread.specs.Pattern.{Pattern, Rule};
+ghost use Rattle.gramcheck.specs.Outcome.{Gives};
+ghost use Rattle.pegmatch.specs.Kept.{quiet_outcome, EndsWithin};
+
+use crate::compare::{compare, looked_after};
+use crate::event::Kept;
+use ruletable::{ByteSet, Memory};
+
+/// Whether a node succeeded, and where that ended.
+#[derive(Clone, Copy, PartialEq, Eq, Debug)]
+pub(crate) enum Found {
+    Failed,
+    Took(usize),
+}
+
+/// What was found, and one more than the last place looked at, or 0.
+#[derive(Clone, Copy, PartialEq, Eq, Debug)]
+pub(crate) struct Tried {
+    pub(crate) found: Found,
+    pub(crate) looked: usize,
+}
+
+/// Takes a byte, if there is one.
+pub(crate) fn match_any(window: &[u8], place: usize) -> Tried
+    ensures within { EndsWithin result.found (length window.now) }
+    ensures looked { result.looked ≤ length window.now }
+    ensures value { (rules : List Rule) → Gives rules window.now Pattern.Any place (quiet_outcome result.found) result.looked }
+{
+    if place < window.len() {
+        Tried {
+            found: Found::Took(place + 1),
+            looked: place + 1,
+        }
+    } else {
+        Tried {
+            found: Found::Failed,
+            looked: 0,
+        }
+    }
+}
+
+/// Takes a byte of the set, if one is next.
+pub(crate) fn match_set(set: &ByteSet, window: &[u8], place: usize) -> Tried
+    ensures within { EndsWithin result.found (length window.now) }
+    ensures looked { result.looked ≤ length window.now }
+    ensures value { (rules : List Rule) → Gives rules window.now (Pattern.Set (λ b. get_or set.now b false)) place (quiet_outcome result.found) result.looked }
+{
+    if place >= window.len() {
+        return Tried {
+            found: Found::Failed,
+            looked: 0,
+        };
+    }
+    let next = place + 1;
+    if set.has(window[place]) {
+        Tried {
+            found: Found::Took(next),
+            looked: next,
+        }
+    } else {
+        Tried {
+            found: Found::Failed,
+            looked: next,
+        }
+    }
+}
+
+/// Takes these bytes, if they are next.
+pub(crate) fn match_bytes(bytes: &[u8], window: &[u8], place: usize) -> Tried
+    requires { place ≤ length window.now }
+    ensures within { EndsWithin result.found (length window.now) }
+    ensures looked { result.looked ≤ length window.now }
+    ensures value { (rules : List Rule) → Gives rules window.now (Pattern.Bytes bytes.now) place (quiet_outcome result.found) result.looked }
+{
+    let comparison = compare(&window[place..], bytes);
+    let looked = looked_after(place, comparison.compared);
+    if comparison.begins {
+        Tried {
+            found: Found::Took(place + bytes.len()),
+            looked,
+        }
+    } else {
+        Tried {
+            found: Found::Failed,
+            looked,
+        }
+    }
+}
+
+/// Keeps an event, and takes nothing.
+pub(crate) fn keep(event: Kept, place: usize, events: &mut Vec<Kept>) -> Result<Tried, Memory>
+    ensures found { IfOk result (λ tried. tried ≡ record { found = Found.Took place; looked = 0 }) }
+    ensures kept { OnOk result (events.new.items ≡ events.old.items ++ event ∷ []) }
+{
+    events.push(event)?;
+    Ok(Tried {
+        found: Found::Took(place),
+        looked: 0,
+    })
+}
