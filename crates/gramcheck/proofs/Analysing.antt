@@ -1,5 +1,5 @@
 -- What the marks of nodes say of rules.
-use Rattle.std.proofs.Common.{◌≡◌, ℕ, ◌<◌, Bool, false, List, length, map, get_or, sym, ap, arith, inl, ◌∙◌, Some}
+use Rattle.std.proofs.Common.{◌≡◌, ℕ, Bool, false, List, length, map, get_or, sym, ap, arith, ◌∙◌, Some}
 use Rattle.std.specs.Prelude.{slice_get}
 use Rattle.std.proofs.lemmas.List.{get_or-map, length-map}
 use Rattle.std.proofs.lemmas.Option.{slice_get_within, slice_get-get_or, get_or_from_slice_get}
@@ -7,7 +7,6 @@ use Rattle.pegread.specs.Pattern.{Rule}
 use Rattle.gramcheck.specs.Analysis.{IsAnalysed}
 use Rattle.gramcheck.specs.Bodies.{AreBodies}
 use Rattle.gramcheck.specs.Loops.{LoopsTo, AreLoopMarks}
-use Rattle.gramcheck.specs.Marks.{IsMarked}
 use Rattle.gramcheck.specs.Nodes as node
 use Rattle.gramcheck.specs.Nodes.{Shape}
 use Rattle.gramcheck.specs.Nulls.{AreNullMarks}

@@ -1,8 +1,7 @@
 -- What the checks find of a grammar that no note refuses.
-use Rattle.std.proofs.Common.{◌≡◌, ◌≢◌, ℕ, zero, suc, ◌+◌, ◌<◌, ◌≤◌, Bool, true, false, ◌||◌, List, [], ◌∷◌, ◌++◌, length, map, get_or, Option, Some, None, refl, sym, subst, ap, ◌∙◌, arith, ◌⊎◌, inl, inr, Contains}
-use Rattle.std.specs.Prelude.{slice_get, bytes_eq, position, unwrap_or, option_to_list}
+use Rattle.std.proofs.Common.{◌≡◌, ◌≢◌, ℕ, zero, suc, ◌<◌, Bool, true, false, ◌||◌, List, [], ◌∷◌, ◌++◌, length, map, get_or, Option, Some, None, refl, sym, subst, ap, ◌∙◌, arith, Contains}
+use Rattle.std.specs.Prelude.{slice_get, bytes_eq, option_to_list}
 use Rattle.std.specs.List.{list_any}
-use Rattle.std.proofs.lemmas.Bool.{cases_Bool}
 use Rattle.std.proofs.lemmas.List.{length-map}
 use Rattle.std.proofs.lemmas.List.Elements.{Contains-append_left, Contains-append_right}
 use Rattle.std.proofs.lemmas.List.Folds.{list_any-append}
@@ -25,16 +24,15 @@ use Rattle.gramcheck.specs.Defined.{IsGiven}
 use Rattle.gramcheck.specs.Left.{IsLeftRecursive, Loops}
 use Rattle.gramcheck.specs.Marks.{IsMarked, AreBelow}
 use Rattle.gramcheck.specs.Nodes.{Shape, id_of}
-use Rattle.gramcheck.specs.Notes.{Those, no_more, this_one, not_this, start_of, AreNotes, AreMarks}
+use Rattle.gramcheck.specs.Notes.{Those, no_more, not_this, AreNotes, AreMarks}
 use Rattle.gramcheck.specs.Numbering.{AreStanding}
-use Rattle.gramcheck.specs.Ranks.{AreRanks}
 use Rattle.gramcheck.specs.Sound.{IsRanked}
 use Rattle.gramcheck.specs.Uses.{names_in, names_in_all, names_used, rule_names, is_among, news}
 use Rattle.gramcheck.specs.Within.{Within, WithinSome, StandsIn, itself, of_seq, of_choice, of_star, of_plus, of_opt, of_and, of_not, of_first, of_later}
 use Rattle.gramcheck.proofs.Ids.{id_found, own_id}
 use Rattle.gramcheck.proofs.Marking.{marked_lt}
 use Rattle.gramcheck.proofs.Names.{same-name, own-name, names-same}
-use Rattle.gramcheck.proofs.Noting.{among-contains, contains-among}
+use Rattle.gramcheck.proofs.Noting.{among-contains}
 use Rattle.gramcheck.proofs.Ranking.{is_ranked}
 use Rattle.gramcheck.proofs.Spelling.{is_there}
 

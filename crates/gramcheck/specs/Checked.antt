@@ -1,5 +1,5 @@
 -- What the checks of a grammar give.
-use Rattle.std.specs.Prelude.{◌≡◌, ℕ, Bool, List, map, slice_get, Option, Some}
+use Rattle.std.specs.Prelude.{◌≡◌, ℕ, Bool, List, slice_get, Option, Some}
 use Rattle.std.specs.List.{list_any}
 use Rattle.ruletable.specs.Notes.{Said, refuses}
 use Rattle.pegread.specs.Pattern.{Rule}

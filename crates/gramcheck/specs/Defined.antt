@@ -1,5 +1,5 @@
 -- That a given start name is a rule's.
-use Rattle.std.specs.Prelude.{◌≡◌, ◌≢◌, ℕ, List, Option, Some, None}
+use Rattle.std.specs.Prelude.{◌≢◌, ℕ, List, Option, Some, None}
 use Rattle.ruletable.specs.Rules.{Rules, find_in}
 use Rattle.pegread.specs.declared.expr.Expr.{Expr}
 

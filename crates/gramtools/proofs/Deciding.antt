@@ -1,6 +1,5 @@
 -- The units of an input and how a run on it ends are determined, and so is its reply.
-use Rattle.std.proofs.Common.{◌≡◌, ◌≢◌, ℕ, ◌+◌, ◌<◌, ◌≤◌, ◌⊎◌, inl, inr, true, List, [], ◌++◌, length, take, drop, append_assoc, refl, sym, ◌∙◌, ap, subst, arith}
-use Rattle.std.specs.Prelude.{slice_get, Some}
+use Rattle.std.proofs.Common.{◌≡◌, ℕ, ◌+◌, ◌<◌, ◌≤◌, true, List, [], ◌++◌, length, refl, sym, ◌∙◌, ap, subst, arith}
 use Rattle.pegread.specs.Pattern.{Rule}
 use Rattle.gramcheck.specs.Outcome.{Outcome, Fails, Takes, RuleGives}
 use Rattle.gramcheck.proofs.Starting.{same_of_start}

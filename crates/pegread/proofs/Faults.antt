@@ -1,5 +1,5 @@
 -- A text has one list of definitions or one fault, but for want of memory.
-use Rattle.std.proofs.Common.{◌≡◌, ◌≢◌, ℕ, inl, inr, Some, List, length, refl, sym, ◌∙◌, ap, arith, slice_get}
+use Rattle.std.proofs.Common.{◌≡◌, ◌≢◌, ℕ, inl, inr, Some, List, refl, sym, ◌∙◌, ap, arith, slice_get}
 use Rattle.ruletable.specs.Lines.{line_at}
 use Rattle.ruletable.specs.declared.lines.LineRule.TheVariants.{Any}
 use Rattle.ruletable.specs.declared.fault.ReadFault.{ReadFault}

@@ -1,20 +1,18 @@
 -- Which tokens begin a grammar, and which token is the first that is hopeless, by what the machine does.
-use Rattle.std.proofs.Common.{◌≡◌, ℕ, ◌+◌, ◌≤◌, ◌<◌, Option, Some, None, List, [], ◌∷◌, ◌++◌, length, take, drop, refl, sym, ◌∙◌, ap, append_assoc, append-nil, length-append, arith}
+use Rattle.std.proofs.Common.{◌≡◌, ℕ, ◌+◌, ◌≤◌, ◌<◌, Some, None, List, [], ◌∷◌, ◌++◌, length, take, drop, ◌∙◌, ap, append_assoc, length-append, arith}
 use Rattle.std.proofs.Math.Seq.{take-append_seam}
 use Rattle.std.proofs.lemmas.List.{take-append-drop, take-take, take_at}
-use Rattle.ruletable.specs.declared.span.Span.{Span}
 use Rattle.pegread.specs.declared.read.TheConstants.{MAX_OPEN}
-use Rattle.pegread.specs.declared.token_iter.Kind.TheVariants as kinds
 use Rattle.pegread.specs.Limits.{IsShallow}
-use Rattle.pegread.specs.Machine.{Config, start, done, step, run, levels_in}
+use Rattle.pegread.specs.Machine.{Config, start, step, run, levels_in}
 use Rattle.pegread.specs.Pattern.{Rule}
 use Rattle.pegread.specs.Reading.{IsHopeless, IsTooDeep}
-use Rattle.pegread.specs.Spelling.{Grammar, Begins, Viable, Hopeless}
-use Rattle.pegread.specs.Tokens.{Tok, tok}
-use Rattle.pegread.specs.Words.{Word, Says, SayAll, say_none, say_more}
+use Rattle.pegread.specs.Spelling.{Grammar, Viable, Hopeless}
+use Rattle.pegread.specs.Tokens.{Tok}
+use Rattle.pegread.specs.Words.{Word, Says, SayAll, say_more}
 use Rattle.pegread.proofs.Shallow.{deeper-next}
 use Rattle.pegread.proofs.Viable.{run-snoc, runs-begins, stops-begins, begins-front, grammar-begins}
-use Rattle.pegread.proofs.Saying.{one-word, one-words, say-snoc, say-split, bad-says_nothing}
+use Rattle.pegread.proofs.Saying.{one-word, one-words, say-snoc, say-split}
 
 pub viable-of-run : {ts : List Tok} {ws : List Word} (c : Config) → SayAll ts ws → run start ws ≡ Some c → Viable ts
 viable-of-run {ws = ws} c say runs = (ws, say, runs-begins ws c runs)

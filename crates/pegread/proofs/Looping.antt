@@ -1,9 +1,8 @@
 -- What the reader's loop has come to, and what it says where it stops.
 use Rattle.std.proofs.Common.{◌≡◌, ℕ, zero, suc, ◌+◌, ◌<◌, ◌≤◌, Bool, true, false, cond, Option, Some, None, List, [], ◌∷◌, ◌++◌, length, map, slice_get, refl, sym, ap, ◌∙◌, append_assoc, append-nil, length-append, arith, Vec, Global, Result, Ok, Err}
 use Rattle.std.proofs.Math.Seq.{get_or-append_seam}
-use Rattle.std.proofs.lemmas.Option.{slice_get-get_or, slice_get-map, slice_get_within}
+use Rattle.std.proofs.lemmas.Option.{slice_get-get_or, slice_get-map}
 use Rattle.ruletable.specs.declared.span.Span.{Span}
-use Rattle.ruletable.specs.declared.fault.ReadFault.{ReadFault}
 use Rattle.ruletable.specs.declared.fault.ReadFault.TheVariants.{Syntax, CodePredicate}
 use Rattle.ruletable.specs.Lines.{line_at}
 use Rattle.ruletable.specs.declared.lines.LineRule.TheVariants.{Any}
@@ -29,7 +28,6 @@ use Rattle.pegread.specs.Machine.{Config, start, done, step, run, levels_in}
 use Rattle.pegread.specs.Pattern.{Rule}
 use Rattle.pegread.specs.Predicates.{is_predicate, hopeless_fault, last_kind}
 use Rattle.pegread.specs.Reading.{Reads, IsCodePredicate, IsHopeless, IsTooDeep, IsDecidedAt, IsFaultOf}
-use Rattle.pegread.specs.Spelling.{Hopeless}
 use Rattle.pegread.specs.Tokens.{Tok, tok, tok_of, kind_of, start_of, Next, AreTokens, AreLeft, IsAtStart, total_of, last_one, one_more}
 use Rattle.pegread.specs.Words as words
 use Rattle.pegread.specs.Words.{Word, Says, says_end, SayAll, say_none, say_more}

@@ -1,11 +1,11 @@
 -- Tokens say one thing, and all but what begins no token say something.
-use Rattle.std.proofs.Common.{◌≡◌, ℕ, suc, Bool, List, [], ◌∷◌, ◌++◌, length, take, drop, refl, ◌∙◌, sym, ap, append_assoc}
-use Rattle.std.proofs.lemmas.List.{take-append-drop, append_cancel_right}
+use Rattle.std.proofs.Common.{◌≡◌, ℕ, suc, List, [], ◌∷◌, ◌++◌, length, take, drop, refl, ◌∙◌, sym, ap}
+use Rattle.std.proofs.lemmas.List.{take-append-drop}
 use Rattle.ruletable.specs.declared.span.Span.{Span}
 use Rattle.pegread.specs.declared.token_iter.Kind.TheVariants as kinds
 use Rattle.pegread.specs.Actions.{IsBraced}
-use Rattle.pegread.specs.Classes.{IsClass, SpellsSet}
-use Rattle.pegread.specs.Literals.{IsLiteral, SpellsBytes}
+use Rattle.pegread.specs.Classes.{IsClass}
+use Rattle.pegread.specs.Literals.{IsLiteral}
 use Rattle.pegread.specs.Tokens.{Tok, tok}
 use Rattle.pegread.specs.Words.{Word, Ident, Arrow, Begin, EndCap, Slash, Amp, Bang, Quest, Star, Plus, Dot, LParen, RParen, Literal, Class, Action, End, Says, says_name, says_arrow, says_begin, says_end_cap, says_slash, says_amp, says_bang, says_quest, says_star, says_plus, says_dot, says_lparen, says_rparen, says_literal, says_class, says_action, says_end, SayAll, say_none, say_more}
 use Rattle.pegread.proofs.Items.{one-class, some-class}

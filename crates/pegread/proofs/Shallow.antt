@@ -1,10 +1,10 @@
 -- Where at most so many brackets are open anywhere in a list.
-use Rattle.std.proofs.Common.{◌≡◌, ℕ, ◌≤◌, ◌<◌, Some, List, [], ◌∷◌, ◌++◌, take, drop, refl, ◌∙◌, arith}
+use Rattle.std.proofs.Common.{◌≡◌, ℕ, ◌≤◌, ◌<◌, Some, List, [], ◌∷◌, ◌++◌, take, drop, ◌∙◌, arith}
 use Rattle.std.proofs.lemmas.List.{take-append-drop}
 use Rattle.pegread.specs.Limits.{open_behind, IsShallow}
 use Rattle.pegread.specs.Machine.{Config, start, done, step, run, levels_in}
 use Rattle.pegread.specs.Pattern.{Rule}
-use Rattle.pegread.specs.Tokens.{Tok, tok, kind_of}
+use Rattle.pegread.specs.Tokens.{Tok, tok}
 use Rattle.pegread.specs.Words.{Word, Says, SayAll}
 use Rattle.pegread.proofs.Depth.{open_count, run-levels}
 use Rattle.pegread.proofs.Viable.{run-snoc}

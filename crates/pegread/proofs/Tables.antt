@@ -1,5 +1,5 @@
 -- The table of definitions, one definition more.
-use Rattle.std.proofs.Common.{◌≡◌, ℕ, zero, suc, Bool, cond, not, List, [], ◌∷◌, ◌++◌, length, map, position, Option, Some, None, refl, sym, ap, ◌∙◌, append_assoc, append-nil, bytes_eq, arith, ◌+◌, ◌<◌, ◌⊎◌, inl, inr, Contains, length-append}
+use Rattle.std.proofs.Common.{◌≡◌, ℕ, zero, suc, List, [], ◌∷◌, ◌++◌, length, Option, Some, None, refl, sym, ap, ◌∙◌, append_assoc, append-nil, bytes_eq, arith, ◌<◌, inl, inr, Contains, length-append}
 use Rattle.std.proofs.lemmas.List.Quantifiers.{position-Some}
 use Rattle.std.proofs.lemmas.List.Elements.{Contains-append_cases}
 use Rattle.std.proofs.lemmas.List.{map-append, length-map}
@@ -7,14 +7,13 @@ use Rattle.ruletable.proofs.TableLemmas.{position-map}
 use Rattle.ruletable.specs.Rules as table
 use Rattle.ruletable.specs.Rules.{find_in, Defines, AreIds}
 use Rattle.ruletable.specs.declared.table.NameCase.TheVariants.{Exact}
-use Rattle.ruletable.specs.declared.table.Defined.{Defined}
 use Rattle.ruletable.specs.declared.table.Defined.TheVariants.{Added, Duplicate}
 use Rattle.pegread.specs.declared.expr.Expr.{Expr}
 use Rattle.pegread.specs.declared.reader.Definition.{Definition}
 use Rattle.pegread.specs.Pattern.{Rule}
 use Rattle.pegread.specs.Views.{rule_of, rules_of}
 use Rattle.pegread.specs.Definitions.{id_in, firsts, agains, IsTableOf}
-use Rattle.pegread.specs.Steps.{rule_from, rules_from}
+use Rattle.pegread.specs.Steps.{rule_from}
 
 -- a table and what is left make up the table of all definitions
 pub record Goes (all : List Rule) (rules : table.Rules Expr) (redefined : List ℕ) (left : List Rule) : Type 0 where

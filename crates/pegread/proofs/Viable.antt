@@ -1,7 +1,7 @@
 -- Words begin a grammar exactly if the machine can take them.
 use Rattle.std.proofs.Common.{◌≡◌, ℕ, Option, Some, None, List, [], ◌∷◌, ◌++◌, refl, sym, ◌∙◌, ap, append_assoc}
 use Rattle.ruletable.specs.declared.span.Span.{Span}
-use Rattle.pegread.specs.Pattern.{Pattern, Any, Name, Patterns, none, Rule}
+use Rattle.pegread.specs.Pattern.{Pattern, Any, Name, Patterns, Rule}
 use Rattle.pegread.specs.Words.{Word, Ident, Arrow, Dot, RParen, End}
 use Rattle.pegread.specs.Spelling.{Grammar, Begins}
 use Rattle.pegread.specs.Machine.{snoc, finish, Mark, no_mark, not_mark, and_mark, apply, fresh, read, read_name, Level, level, Head, ended, Config, start, named, body, done, end_step, step, run}

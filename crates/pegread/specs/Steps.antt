@@ -1,5 +1,5 @@
 -- The reader's state as a configuration of the machine, and what the reader's calls do to it.
-use Rattle.std.specs.Prelude.{◌≡◌, ℕ, List, [], ◌∷◌, map, reverse, get_or, false, Option, Some, None, Result, Ok, Err}
+use Rattle.std.specs.Prelude.{◌≡◌, ℕ, List, ◌∷◌, map, reverse, get_or, false, Option, Some, None, Result, Ok, Err}
 use Rattle.ruletable.specs.declared.span.Span.{Span}
 use Rattle.pegread.specs.declared.words.Word.{Word as CodeWord}
 use Rattle.pegread.specs.declared.words.Word.TheVariants as code

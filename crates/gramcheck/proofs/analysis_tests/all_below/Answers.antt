@@ -1,4 +1,4 @@
-use Rattle.std.proofs.Common.{◌<◌, Contains, get_or, refl, sym, subst, arith, ⊎_elim, add-one}
+use Rattle.std.proofs.Common.{◌<◌, Contains, get_or, sym, subst, arith, ⊎_elim, add-one}
 use Rattle.std.proofs.lemmas.List.{take_all}
 use Rattle.std.proofs.lemmas.List.Elements.{Contains-push_cases}
 use Rattle.std.proofs.Math.Seq.{take-suc}

@@ -1,4 +1,4 @@
-use Rattle.std.proofs.Common.{refl, ⊎_elim}
+use Rattle.std.proofs.Common.{⊎_elim}
 use Rattle.gramcheck.proofs.analysis_tests.operands_below.Goals as goal
 
 pub returns-in-Seq : goal.returns-in-Seq

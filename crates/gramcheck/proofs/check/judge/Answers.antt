@@ -1,4 +1,4 @@
-use Rattle.std.proofs.Common.{◌≡◌, List, map, sym, ap}
+use Rattle.std.proofs.Common.{List, map}
 use Rattle.std.specs.Prelude.{option_copied}
 use Rattle.ruletable.specs.Notes.{said_of}
 use Rattle.pegread.specs.Pattern.{Rule}

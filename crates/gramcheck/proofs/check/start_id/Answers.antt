@@ -1,4 +1,4 @@
-use Rattle.std.proofs.Common.{arith, ap, sym, ◌∙◌}
+use Rattle.std.proofs.Common.{arith, sym, ◌∙◌}
 use Rattle.std.proofs.lemmas.List.{length-map}
 use Rattle.pegread.specs.Views.{rule_of, rules_of}
 use Rattle.gramcheck.proofs.Judging.{first-start, found-start}

@@ -1,11 +1,9 @@
 -- One kind of notes alone.
-use Rattle.std.proofs.Common.{◌≡◌, ◌<◌, ℕ, List, length, map, sym, ap, ◌∙◌, arith, Some, []}
+use Rattle.std.proofs.Common.{◌≡◌, ◌<◌, ℕ, List, length, map, sym, ◌∙◌, arith, Some}
 use Rattle.std.specs.Prelude.{position, bytes_eq, slice_get}
 use Rattle.std.proofs.lemmas.List.{length-map}
-use Rattle.ruletable.specs.Notes.{Redefined, said_of}
-use Rattle.ruletable.specs.Rules.{names_of}
+use Rattle.ruletable.specs.Notes.{said_of}
 use Rattle.pegread.specs.Views.{rule_of, rules_of}
-use Rattle.gramcheck.specs.Notes.{chosen}
 use Rattle.gramcheck.specs.Uses.{rule_names}
 use Rattle.gramcheck.proofs.Names.{names-same, own-place}
 use Rattle.gramcheck.proofs.Noting.{redefinitions-are, marks-again}

@@ -1,9 +1,8 @@
-use Rattle.std.proofs.Common.{◌≡◌, ◌∷◌, [], map, length, refl, sym, ap, ◌∙◌, Some, arith}
+use Rattle.std.proofs.Common.{◌∷◌, [], ap, arith}
 use Rattle.std.proofs.lemmas.List.{map-append}
-use Rattle.pegread.specs.Steps.{config_of, rules_from, Takes}
+use Rattle.pegread.specs.Steps.{config_of, rules_from}
 use Rattle.pegread.specs.Tokens.{tok_of, AreLeft}
-use Rattle.pegread.specs.declared.reader.Reader.{Reader}
-use Rattle.pegread.proofs.Looping.{HasTaken, none-taken, one-taken, too-deep, hopeless-there, all-done, all-read, left-at_start, done-not, cut-of}
+use Rattle.pegread.proofs.Looping.{none-taken, one-taken, too-deep, hopeless-there, all-done, all-read, left-at_start, done-not, cut-of}
 use Rattle.pegread.proofs.read.read_definitions.Goals as goal
 
 pub loop-token-init : goal.loop-token-init

@@ -1,7 +1,6 @@
-use Rattle.std.proofs.Common.{rules as search_rules, sym, ap, arith}
+use Rattle.std.proofs.Common.{rules as search_rules, arith}
 use Rattle.std.proofs.lemmas.List.{length-map}
 use Rattle.pegread.specs.Steps.{rule_from}
-use Rattle.pegread.specs.Definitions.{IsTableOf}
 use Rattle.pegread.proofs.Passing.{grammar-some}
 use Rattle.pegread.proofs.Faults.{one-reading, no-fault}
 use Rattle.pegread.proofs.read.read_peg.Goals as goal
