@@ -1,6 +1,6 @@
 # Proves, builds and tests the tools. Needs the Rattle toolchain's command `rt` and nothing else.
 
-.PHONY: all programs example test check clean
+.PHONY: all programs example install test check clean
 
 all: programs example
 
@@ -22,6 +22,13 @@ example: programs
 	@echo
 	@echo '$$ bin/pegi examples/username/username.peg < examples/username/letter.txt'
 	@bin/pegi examples/username/username.peg < examples/username/letter.txt
+
+# The program and its manual page, below PREFIX.
+PREFIX ?= /usr/local
+install: programs
+	install -d $(DESTDIR)$(PREFIX)/bin $(DESTDIR)$(PREFIX)/share/man/man1
+	install -m 755 bin/pegi $(DESTDIR)$(PREFIX)/bin/pegi
+	install -m 644 man/pegi.1 $(DESTDIR)$(PREFIX)/share/man/man1/pegi.1
 
 # The gate: every proof from nothing, the edits that the prover must refuse, tests and programs.
 test:

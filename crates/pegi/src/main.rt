@@ -1,7 +1,8 @@
 //! Runs a grammar in the syntax of peg(1) on its standard input.
 #![tactic(auto)]
 
-use gramtools::{SourceOf, Status, pegi_main};
+use commands::pegi_main;
+use gramtools::{SourceOf, Status};
 use ruletable::SinkOf;
 use std::io::{BufWriter, ErrorKind};
 use std::process::ExitCode;

@@ -1,0 +1,2 @@
+mod Parses
+mod Answering

@@ -1,0 +1,69 @@
+//! The end of a program whose words were not parsed.
+ghost use Rattle.std.specs.Prelude.{◌≡◌, ◌⊎◌, ◌≤◌, false, true};
+ghost use Rattle.std.specs.Io.KnownBytes.{Keeps};
+ghost use Rattle.clap.specs.Words.{kind_of};
+ghost use Rattle.commands.specs.Parsing.{EndsAs, IsNoHelp};
+ghost use Rattle.gramtools.specs.Status.{code_of};
+
+use clap::Error;
+use clap::error::ErrorKind;
+use gramtools::{DEFAULT_LIMIT, Status, Stop, close_run, end_run};
+use ruletable::{Sink, write_whole};
+use std::alloc::Global;
+
+/// Tells on the error output what is wrong with the words.
+fn tell_fault<O: Sink, E: Sink>(text: &str, out: &mut O, err: &mut E) -> Status
+    requires out_is_fresh { O.failed out.old ≡ false }
+    requires err_is_fresh { E.failed err.old ≡ false }
+    ensures kept { Keeps (O.contents out.old) (O.contents out.new) }
+    ensures status { O.failed out.new ≡ false → E.failed err.new ≡ false → result ≡ Status.Refused }
+    ensures failed { (O.failed out.new ≡ true) ⊎ (E.failed err.new ≡ true) → 4 ≤ code_of result }
+{
+    if write_whole(err, text.as_bytes()).is_err() {
+        return close_run(out, err);
+    }
+    // the text says all
+    end_run(Ok(Stop::Noted), DEFAULT_LIMIT, out, err)
+}
+
+/// Shows the help on the output.
+fn show_help<O: Sink, E: Sink>(text: &str, out: &mut O, err: &mut E) -> Status
+    requires out_is_fresh { O.failed out.old ≡ false }
+    requires err_is_fresh { E.failed err.old ≡ false }
+    ensures status { O.failed out.new ≡ false → E.failed err.new ≡ false → result ≡ Status.Done }
+    ensures failed { (O.failed out.new ≡ true) ⊎ (E.failed err.new ≡ true) → 4 ≤ code_of result }
+{
+    match write_whole(out, text.as_bytes()) {
+        Ok(()) => end_run(Ok(Stop::Checked), DEFAULT_LIMIT, out, err),
+        Err(fault) => end_run(Err(fault), DEFAULT_LIMIT, out, err),
+    }
+}
+
+/// Ends a program whose words were not parsed: the help that was asked for goes to `out`, and what is wrong with the
+/// words to `err`. Where a growth was refused, `out of memory`.
+pub fn end_unparsed<O: Sink, E: Sink>(
+    alloc: Global,
+    error: &Error,
+    out: &mut O,
+    err: &mut E,
+) -> Status
+    requires out_is_fresh { O.failed out.old ≡ false }
+    requires err_is_fresh { E.failed err.old ≡ false }
+    ensures kept { IsNoHelp (kind_of error.now) → Keeps (O.contents out.old) (O.contents out.new) }
+    ensures refused { IsNoHelp (kind_of error.now) → EndsAs (O.failed out.new) (E.failed err.new) Status.Refused result }
+    ensures helped { kind_of error.now ≡ ErrorKind.DisplayHelp → EndsAs (O.failed out.new) (E.failed err.new) Status.Done result }
+    ensures no_memory { kind_of error.now ≡ ErrorKind.OutOfMemory → EndsAs (O.failed out.new) (E.failed err.new) Status.NoMemory result }
+    ensures failed { (O.failed out.new ≡ true) ⊎ (E.failed err.new ≡ true) → 4 ≤ code_of result }
+{
+    if error.kind() == ErrorKind::OutOfMemory {
+        return end_run(Ok(Stop::NoMemory), DEFAULT_LIMIT, out, err);
+    }
+    let Ok(text) = format!(in alloc; "{error}") else {
+        return end_run(Ok(Stop::NoMemory), DEFAULT_LIMIT, out, err);
+    };
+    if error.use_stderr() {
+        tell_fault(text.as_str(), out, err)
+    } else {
+        show_help(text.as_str(), out, err)
+    }
+}
