@@ -1,6 +1,6 @@
 # Proves, builds and tests the tools. Needs the Rattle toolchain's command `rt` and nothing else.
 
-.PHONY: all programs example install test check clean
+.PHONY: all programs example examples install test check clean
 
 all: programs example
 
@@ -22,6 +22,11 @@ example: programs
 	@echo
 	@echo '$$ bin/pegi examples/username/username.peg < examples/username/letter.txt'
 	@bin/pegi examples/username/username.peg < examples/username/letter.txt
+
+# Each folder of examples/, compared with what it must print. The gate's tests hold the same texts.
+examples: programs
+	@python3 scripts/example_tests.py check
+	@sh scripts/run_examples.sh
 
 # The program and its manual page, below PREFIX.
 PREFIX ?= /usr/local

@@ -1,25 +1,19 @@
 #!/bin/sh
-# Runs bin/pegi on each example. It must print the example's printed.txt, tell nothing on the error output, and end with
-# status 0. `make programs` builds bin/pegi.
+# Runs each folder of examples/ by the command in its run.sh, with bin/pegi. It must print the folder's printed.txt, tell
+# nothing on the error output, and end with status 0. `make programs` builds bin/pegi.
 set -eu
 cd "$(dirname "$0")/.."
 made=$(mktemp -d)
 trap 'rm -rf "$made"' EXIT
+PATH=$PWD/bin:$PATH
 
-# The example of that name, on that file of its folder.
-run() {
+for folder in examples/*/; do
+    name=$(basename "$folder")
     status=0
-    bin/pegi "examples/$1/$1.peg" < "examples/$1/$2" > "$made/out" 2> "$made/err" || status=$?
+    (cd "$folder" && sh run.sh) > "$made/out" 2> "$made/err" || status=$?
     cat "$made/err" >&2
-    [ "$status" = 0 ] || { echo "$1: status $status" >&2; exit 1; }
-    [ ! -s "$made/err" ] || { echo "$1: a message" >&2; exit 1; }
-    cmp "$made/out" "examples/$1/printed.txt"
-    echo "$1: as it must be"
-}
-
-run username letter.txt
-run calculator input.txt
-run json input.txt
-run csv input.txt
-# the grammar of grammars reads itself
-run peg peg.peg
+    [ "$status" = 0 ] || { echo "$name: status $status" >&2; exit 1; }
+    [ ! -s "$made/err" ] || { echo "$name: a message" >&2; exit 1; }
+    cmp "$made/out" "$folder/printed.txt"
+    echo "$name: as it must be"
+done

@@ -9,6 +9,7 @@ use std::cell::Cell;
 use std::process::Abort;
 use std::test::Fail;
 
+mod examples;
 mod forms;
 mod noted;
 

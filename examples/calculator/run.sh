@@ -1,0 +1,1 @@
+pegi calculator.peg < input.txt

@@ -1,0 +1,1 @@
+pegi csv.peg < input.txt

@@ -1,0 +1,1 @@
+pegi json.peg < input.txt

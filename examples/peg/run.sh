@@ -1,0 +1,1 @@
+pegi peg.peg < peg.peg

@@ -1,0 +1,1 @@
+pegi username.peg < letter.txt
