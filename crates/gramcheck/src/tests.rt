@@ -1,6 +1,11 @@
 //! The checks of whole texts: their notes, and the grammars that are ready to run.
 
-use crate::{Node, SoundPeg, check_peg};
+use crate::{
+    Node, SoundPeg, check_peg, events_rise, events_rise_of_start, exactly_one_outcome,
+    exactly_one_outcome_of_start, longer_input, longer_input_of_start, one_list_of_notes,
+    one_outcome, one_outcome_of_start, ranks_fall, shorter_input, shorter_input_of_start,
+    some_outcome, some_outcome_of_ranked, some_outcome_of_start,
+};
 use pegread::read_peg;
 use ruletable::{SinkOf, write_note};
 use std::alloc::Global;
@@ -129,6 +134,28 @@ fn redefinitions(rt: HostRuntime) -> Result<(), Fail> {
     Ok(())
 }
 
+// The lines of the notes on what a grammar's text defines again.
+fn lines_on_redefinitions(alloc: Global, text: &[u8]) -> Result<Vec<u8>, Fail> {
+    let peg = read_peg(alloc, text)?;
+    let notes = crate::redefinitions(alloc, &peg)?;
+    let mut sink = SinkOf::new(Vec::new(alloc));
+    for note in notes.iter() {
+        write_note(note, &mut sink)?;
+    }
+    Ok(sink.into_inner())
+}
+
+#[test]
+fn redefinitions_alone(rt: HostRuntime) -> Result<(), Fail> {
+    // whatever else there is to say of the grammar
+    let text = b"S <- X ''*\nT <- T\nT <- 'c'\nS <- 'd'\nT <- 'e'";
+    let lines = lines_on_redefinitions(rt.alloc(), text)?;
+    let want = b"rule 'S' redefined\nrule 'T' redefined\n";
+    assert!(rt; lines.as_slice() == want.as_slice());
+    assert!(rt; lines_on_redefinitions(rt.alloc(), b"S <- X ''*\nT <- T")?.is_empty());
+    Ok(())
+}
+
 #[test]
 fn names_of_start_rules(rt: HostRuntime) -> Result<(), Fail> {
     let alloc = rt.alloc();
@@ -211,4 +238,23 @@ fn left_steps_lower_the_rank(rt: HostRuntime) -> Result<(), Fail> {
     assert!(rt; second > body);
     assert!(rt; whole <= 6 && second <= 6);
     Ok(())
+}
+
+#[test]
+fn laws_return() {
+    one_list_of_notes();
+    one_outcome();
+    one_outcome_of_start();
+    events_rise();
+    events_rise_of_start();
+    longer_input();
+    longer_input_of_start();
+    shorter_input();
+    shorter_input_of_start();
+    ranks_fall();
+    some_outcome();
+    some_outcome_of_start();
+    some_outcome_of_ranked();
+    exactly_one_outcome();
+    exactly_one_outcome_of_start();
 }

@@ -1,6 +1,6 @@
 //! Units by hand.
 
-use crate::{Matcher, Plain, Unit};
+use crate::{Matcher, Plain, Unit, answer_stands, need_stands, one_answer};
 use gramcheck::{SoundPeg, check_peg};
 use pegread::read_peg;
 use ruletable::SinkOf;
@@ -137,4 +137,11 @@ fn what_is_only_looked_at_needs_more(rt: HostRuntime) -> Result<(), Fail> {
     assert!(rt; !needs_more(alloc, b"S <- 'a' !'b'", b"acd")?);
     assert!(rt; needs_more(alloc, b"S <- &'ab' 'a'", b"ab")?);
     Ok(())
+}
+
+#[test]
+fn laws_return() {
+    one_answer();
+    answer_stands();
+    need_stands();
 }

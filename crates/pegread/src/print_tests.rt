@@ -59,6 +59,7 @@ fn prints_each_form(rt: HostRuntime) -> Result<(), Fail> {
     assert!(rt; is_printed_as(alloc, b"S<-{a{b}}T_1", b"S <- {a{b}} T_1\n")?);
     assert!(rt; is_printed_as(alloc, b"S<-a?b*c+&d!e", b"S <- a? b* c+ &d !e\n")?);
     assert!(rt; is_printed_as(alloc, b"S<-'a'/\"b\"c/", b"S <- \"a\" / \"b\" c / \n")?);
+    assert!(rt; is_printed_as(alloc, b"S<-'x' /", b"S <- \"x\" / \n")?);
     assert!(rt; is_printed_as(alloc, b"A<-B #\nB<-'b'", b"A <- B\nB <- \"b\"\n")?);
     is_read_back();
     Ok(())

@@ -1,5 +1,8 @@
 //! The tables of escapes and classes, by hand.
-use crate::{class_set, literal_bytes, next_char};
+use crate::{
+    class_set, literal_bytes, next_char, spells_one_char, spells_one_class, spells_one_literal,
+    spells_some_char, spells_some_class, spells_some_literal,
+};
 use ruletable::ByteSet;
 use std::process::Abort;
 use std::test::Fail;
@@ -7,7 +10,7 @@ use std::test::Fail;
 // One character of each text: its byte, and what it leaves.
 #[test]
 fn spells_each_escape(rt: HostRuntime) -> Result<(), Fail> {
-    let rows: [(&[u8], u8, &[u8]); 30] = [
+    let rows: [(&[u8], u8, &[u8]); 33] = [
         (b"a", b'a', b""),
         (b"-]", b'-', b"]"),
         (b"\x00\xff", 0, b"\xff"),
@@ -36,8 +39,11 @@ fn spells_each_escape(rt: HostRuntime) -> Result<(), Fail> {
         (b"\\''", b'\'', b"'"),
         (b"\\\"", b'"', b""),
         (b"\\[\\]", b'[', b"\\]"),
+        (b"\\]", b']', b""),
         (b"\\\\n", b'\\', b"n"),
         (b"\\-", b'-', b""),
+        (b"\\\n", b'\n', b""),
+        (b"\\\xff0", 255, b"0"),
     ];
     for (text, byte, rest) in rows {
         let (spelled, behind) = next_char(text).ok_or("no byte")?;
@@ -92,10 +98,22 @@ fn spells_classes(rt: HostRuntime) {
     check_range(&rt, &class_set(b"[^]"), 0, 255);
     check_members(&rt, &class_set(b"[\\^a]"), b"^a");
     check_members(&rt, &class_set(b"[a^]"), b"^a");
+    // `a-^` is a range, since the byte behind `-` doesn't close the class, and it is reversed
+    check_members(&rt, &class_set(b"[b-da-^]"), b"bcd");
 }
 
 #[test]
 fn spells_all_but(rt: HostRuntime) {
     check_range(&rt, &class_set(b"[^\\x61-\\377]"), 0, 96);
     check_range(&rt, &class_set(b"[^\\0-`]"), 97, 255);
+}
+
+#[test]
+fn laws_return() {
+    spells_one_char();
+    spells_some_char();
+    spells_one_literal();
+    spells_some_literal();
+    spells_one_class();
+    spells_some_class();
 }

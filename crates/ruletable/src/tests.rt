@@ -107,12 +107,15 @@ fn finds_by_name(rt: HostRuntime) -> Result<(), Fail> {
 fn reads_each_part(rt: HostRuntime) -> Result<(), Fail> {
     let mut table = two_rules(rt.alloc(), NameCase::Fold)?;
     assert_eq!(rt; table.len(), 2);
+    assert!(rt; !table.is_empty());
     assert!(rt; table.name(1) == b"Two".as_slice());
     assert_eq!(rt; table.span(1), SECOND);
     *table.body_mut(1) = 22;
     assert_eq!(rt; table.len(), 2);
     assert_eq!(rt; *table.body(0), 1);
     assert_eq!(rt; *table.body(1), 22);
+    let none: RuleTable<u32> = RuleTable::new(rt.alloc(), NameCase::Exact);
+    assert!(rt; none.is_empty());
     Ok(())
 }
 
@@ -255,8 +258,9 @@ fn numbers_and_pieces(rt: HostRuntime) -> Result<(), Fail> {
     let mut sink = SinkOf::new(Paper::new(rt.alloc(), 2, 99, Full::TakesNothing));
     write_number(1048577, &mut sink)?;
     write_pieces(&mut sink, &[b"a", b"", b"bcd"])?;
+    write_whole(&mut sink, b"efg")?;
     assert!(rt; sink.flush().is_ok());
-    assert!(rt; sink.into_inner().taken.as_slice() == b"1048577abcd".as_slice());
+    assert!(rt; sink.into_inner().taken.as_slice() == b"1048577abcdefg".as_slice());
     Ok(())
 }
 

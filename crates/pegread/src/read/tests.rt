@@ -1,8 +1,9 @@
 //! Texts that are read, and texts that are refused.
-use super::{MAX_GRAMMAR, MAX_OPEN, read_peg};
+use super::{MAX_GRAMMAR, MAX_OPEN, one_tree, read_peg};
 use crate::expr::{Expr, Peg};
 use ruletable::{ByteSet, ReadFault};
 use std::alloc::Global;
+use std::process::Abort;
 use std::test::Fail;
 
 // An expression as a term: its node, and its members in brackets.
@@ -96,6 +97,15 @@ fn reads_each_form(rt: HostRuntime) -> Result<(), Fail> {
 }
 
 #[test]
+fn keeps_all_bytes(rt: HostRuntime) -> Result<(), Fail> {
+    let alloc = rt.alloc();
+    assert!(rt; is_read_as(alloc, b"S <- '\x00\xff\r\n'", b"S=\x00\xff\r\n\"\n")?);
+    assert!(rt; is_read_as(alloc, b"S <- {\x80\x00\r\n}", b"S=\x80\x00\r\n}\n")?);
+    assert!(rt; is_read_as(alloc, b"S <- [\x00\r\xff]", b"S=[\x00\r\xff]\n")?);
+    Ok(())
+}
+
+#[test]
 fn parentheses_are_no_node(rt: HostRuntime) -> Result<(), Fail> {
     let alloc = rt.alloc();
     assert!(rt; is_read_as(alloc, b"S <-", b"S=S()\n")?);
@@ -156,6 +166,8 @@ fn names_the_line_of_the_hopeless_token(rt: HostRuntime) {
     assert!(rt; is_wrong_at(alloc, b"S < - 'a'", 1));
     assert!(rt; is_wrong_at(alloc, b"\n<-", 2));
     assert!(rt; is_wrong_at(alloc, b"A <- B\n-- C", 2));
+    // line ends within a literal and an action count too
+    assert!(rt; is_wrong_at(alloc, b"S <- 'a\r\nb' {c\rd}\r\n]", 4));
 }
 
 #[test]
@@ -211,6 +223,19 @@ fn counts_open_brackets(rt: HostRuntime) -> Result<(), Fail> {
     Ok(())
 }
 
+// A suffix too many, and a bracket too many: whichever stands first.
+#[test]
+fn the_first_fault_decides(rt: HostRuntime) -> Result<(), Fail> {
+    let alloc = rt.alloc();
+    let mut brackets_first = nested(alloc, MAX_OPEN + 1)?;
+    brackets_first.extend_from_slice(b"\n**")?;
+    assert!(rt; is_refused(alloc, &brackets_first, ReadFault::Depth { line: 1 }));
+    let mut suffix_first = b"A <- a**\n".to_vec(alloc)?;
+    suffix_first.extend_from_slice(&nested(alloc, MAX_OPEN + 1)?)?;
+    assert!(rt; is_wrong_at(alloc, &suffix_first, 1));
+    Ok(())
+}
+
 #[test]
 fn tests_the_length_first(rt: HostRuntime) -> Result<(), Fail> {
     let mut spaces = vec![in rt.alloc(); b' '; MAX_GRAMMAR]?;
@@ -229,18 +254,62 @@ fn refuses_single_bytes(rt: HostRuntime) {
     }
 }
 
-// A grammar's beginnings are read from the arrow on, but for those that end within the literal.
-#[test]
-fn reads_or_refuses_each_beginning(rt: HostRuntime) {
-    let text = b"A <- 'a' B";
-    let read: [usize; 5] = [4, 5, 8, 9, 10];
-    for size in 0..=text.len() {
-        match read_peg(rt.alloc(), &text[..size]) {
-            Ok(_) => assert!(rt; read.contains(&size), "{size} bytes"),
-            Err(fault) => {
-                assert!(rt; !read.contains(&size), "{size} bytes");
-                assert!(rt; fault == ReadFault::Syntax { line: 1 }, "{size} bytes");
-            }
+// The line on which a beginning of that size is refused, by the sizes that are: a first, a last, and their line.
+fn line_of_refusal(size: usize, refused: &[(usize, usize, usize)]) -> Option<usize> {
+    for (first, last, line) in refused {
+        if *first <= size && size <= *last {
+            return Some(*line);
         }
     }
+    None
+}
+
+// Asserts which beginnings of a text are refused, each for the syntax of a line; all others are read.
+fn check_beginnings<R: Abort + AllocGlobal>(
+    rt: &R,
+    text: &[u8],
+    refused: &[(usize, usize, usize)],
+) {
+    for size in 0..=text.len() {
+        let found = match read_peg(rt.alloc(), &text[..size]) {
+            Ok(_) => None,
+            Err(fault) => Some(fault),
+        };
+        let want = match line_of_refusal(size, refused) {
+            Some(line) => Some(ReadFault::Syntax { line }),
+            None => None,
+        };
+        assert!(rt; found == want, "{size} bytes");
+    }
+}
+
+// A beginning is refused before its arrow is whole, and within a literal, an action, a class or open brackets.
+#[test]
+fn reads_or_refuses_each_beginning(rt: HostRuntime) {
+    check_beginnings(&rt, b"A <- 'a' B", &[(0, 3, 1), (6, 7, 1)]);
+    check_beginnings(
+        &rt,
+        b"start <- \"username\" { USER } / < . > { yytext }",
+        &[(0, 7, 1), (10, 18, 1), (21, 27, 1), (38, 46, 1)],
+    );
+    check_beginnings(
+        &rt,
+        b"A<-('x')/[b-da^-]*",
+        &[(0, 2, 1), (4, 7, 1), (10, 16, 1)],
+    );
+}
+
+// Within an open bracket no definition begins, so the third arrow is hopeless.
+#[test]
+fn refuses_each_beginning_on_its_line(rt: HostRuntime) {
+    check_beginnings(
+        &rt,
+        b"A <- 'a'\nB <- ( 'b'\nC\n<- 'c'",
+        &[(0, 3, 1), (6, 7, 1), (15, 19, 2), (20, 21, 3), (22, 28, 4)],
+    );
+}
+
+#[test]
+fn laws_return() {
+    one_tree();
 }

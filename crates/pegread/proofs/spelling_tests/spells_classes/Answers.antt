@@ -31,3 +31,6 @@ class_set-requires-9 g c = is-class _ refl
 
 pub class_set-requires-10 : goal.class_set-requires-10
 class_set-requires-10 g c = is-class _ refl
+
+pub class_set-requires-11 : goal.class_set-requires-11
+class_set-requires-11 g c = is-class _ refl
