@@ -80,7 +80,7 @@ impl SoundPeg {
         self.nodes.len()
     }
 
-    /// The number of the node of a rule's body.
+    /// The number of the node of a rule's body. The id must be that of a rule.
     pub fn body_node(&self, id: usize) -> usize
         requires { id < length self.now.bodies }
         ensures { slice_get self.now.bodies id ≡ Some result }
@@ -88,7 +88,7 @@ impl SoundPeg {
         self.bodies[id]
     }
 
-    /// The node of that number.
+    /// The node of that number, which must be less than `nodes()`.
     pub fn node(&self, n: usize) -> &Node
         requires { n < length self.now.nodes }
         ensures { slice_get self.now.nodes n ≡ Some result.now }
@@ -96,7 +96,7 @@ impl SoundPeg {
         &self.nodes[n]
     }
 
-    /// The rank of the node of that number: at most the number of nodes, and lower after each left step.
+    /// The rank of the node of that number, which must be less than `nodes()`: at most the number of nodes, and lower after each left step.
     pub fn rank(&self, n: usize) -> usize
         requires { n < length self.now.nodes }
         ensures { slice_get self.now.ranks n ≡ Some result }

@@ -1,4 +1,4 @@
-//! The engines of both grammar tools: they read an input, run a grammar on it, and answer on two writers.
+//! The engine of `pegi`: it reads an input, runs a grammar on it, and answers on two writers.
 #![tactic(auto)]
 
 mod engine;

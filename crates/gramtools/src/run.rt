@@ -171,7 +171,8 @@ fn run_text<R: Source, O: Sink, E: Sink>(
     }
 }
 
-/// Runs a grammar on what a reader gives: prints the texts of its units on `out` and writes why it stopped on `err`.
+/// Runs a grammar on what a reader gives: prints the texts of its units on `out` and writes why it stopped on `err`. None of
+/// the three may have failed before.
 ///
 /// - The grammar is in the syntax of peg(1). One that has a fault is told by that fault's line, status `Refused`, and
 ///   nothing is read.
@@ -179,8 +180,8 @@ fn run_text<R: Source, O: Sink, E: Sink>(
 ///   that are written on `err`, `Refused`. Nothing is read, and no other check is made.
 /// - Else the notes on it are written on `err`. If one of them refuses it, or it is only to be checked, that is all:
 ///   `Refused`, or `Done`, and nothing is read.
-/// - A unit is one success of the start rule, the one named in the settings or else the first; it begins where the one before ended, and its actions are printed in order.
-///   The run ends where the rule fails or takes no byte: `no match at byte S`, status `NoMatch`, but `Done` at the end of
+/// - A unit is one success of the start rule, the one named in the settings or else the first; it begins where the one
+///   before ended, and its actions are printed in order. The run ends where the rule fails or takes no byte: `no match at byte S`, status `NoMatch`, but `Done` at the end of
 ///   the input.
 /// - A unit that looks at more than `limit` bytes is not printed: `unit at byte S longer than L bytes`, `Overlong`.
 /// - After a fault of the reader a unit is run only where `limit` + 1 bytes from its place on were read: else

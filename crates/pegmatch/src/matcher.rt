@@ -12,9 +12,9 @@ use thiserror::Error;
 /// What the start rule gives at the front of a window.
 #[derive(Clone, Copy, Debug, PartialEq, Eq)]
 pub enum Unit {
-    /// It succeeds and ends there.
+    /// It succeeds: how many bytes it takes, and how many evaluations were begun, which is at least 1 and stays at the greatest number.
     Took { end: usize, begun: u128 },
-    /// It fails.
+    /// It fails: how many evaluations were begun.
     Failed { begun: u128 },
     /// It would compare the window's last byte, and there is more behind the window.
     Need,
@@ -36,10 +36,23 @@ pub trait Matcher {
     /// The events that it holds of its last success, for a grammar and a window.
     ghost holds: { Self → Grammar → List ℕ → List Event → Type 0 };
 
+    /// What the start rule gives at the front of the window (Ford 2004, section 3.3).
+    ///
+    /// Without `more` the window is the whole rest of the input, and the answer is never `Need`. With `more` the window
+    /// isn't empty, and `Need` says that its last byte was compared; any other answer holds for every rest that begins
+    /// with the window.
+    ///
+    /// # Errors
+    /// `Memory` where a growth was refused.
     fn match_unit(&mut self, peg: &SoundPeg, window: &[u8], more: bool) -> Result<Unit, Memory>
         requires { more ≡ true → 0 < length window.now }
         ensures { IfOk result (IsAnswer peg.now window.now more (holds self.new peg.now window.now)) };
 
+    /// Writes what the actions of its last success print, in order. It must hold a success for this grammar and window.
+    ///
+    /// # Errors
+    /// - `Memory` where a growth was refused; nothing was written.
+    /// - `Write` where the writer failed; a beginning was written.
     fn replay<W: Sink>(
         &mut self,
         peg: &SoundPeg,

@@ -7,7 +7,7 @@ use crate::escape::next_char;
 use ruletable::Memory;
 use std::alloc::Global;
 
-/// The bytes that a literal's slice spells between its quotes.
+/// The bytes that a literal's slice spells between its quotes. The slice must be one of a literal token.
 ///
 /// # Errors
 /// `Memory` where a growth was refused.

@@ -25,16 +25,16 @@ pub const MAX_GRAMMAR: usize = 1048576;
 /// How many brackets may be open at once.
 pub const MAX_OPEN: usize = 200;
 
-/// Reads a grammar in the syntax of peg(1).
+/// Reads a grammar in the syntax of the peg(1) manual, "PEG GRAMMARS".
 ///
 /// A rule's span is that of its name. Where a name is defined again, its first definition stands, and `redefined` has the
 /// id of its rule once for each further one.
 ///
 /// # Errors
 /// - `TooLong`, before all else, for a text of more than `MAX_GRAMMAR` bytes.
-/// - Else the first token decides that goes on no grammar, or that opens a bracket more than `MAX_OPEN` at once:
-///   `CodePredicate` for an action right behind `&`, `Syntax` for any other that goes on no grammar, and `Depth`. The line
-///   is that of the token's first byte, where lines end with LF, CR LF or CR.
+/// - Else the first token decides with which the text is no beginning of a grammar any more, or which opens one bracket
+///   more than `MAX_OPEN` at once: `Depth` for the latter, `CodePredicate` for an action right behind `&`, and `Syntax`
+///   for any other. The line is that of the token's first byte, where lines end with LF, CR LF or CR.
 /// - `Memory` where a growth was refused.
 pub fn read_peg(alloc: Global, text: &[u8]) -> Result<Peg, ReadFault>
     ensures found { IfOk result (λ peg. (definitions : List Rule) × Reads text.now definitions × IsTableOf definitions peg.rules peg.redefined.items) }

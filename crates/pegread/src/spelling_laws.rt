@@ -6,7 +6,7 @@ pub fn spells_one_char()
     ensures { OneChar }
 {}
 
-/// It spells one exactly where the text is neither empty nor a backslash alone.
+/// The front of a text spells a byte exactly where the text is neither empty nor a backslash alone.
 pub fn spells_some_char()
     ensures some { SomeChar }
     ensures none { NoChar }

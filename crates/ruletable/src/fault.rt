@@ -32,7 +32,7 @@ pub enum ReadFault {
     NumberTooLarge { line: usize },
 }
 
-/// Writes the fault's line, with its LF.
+/// Writes the fault's line, with its LF. `WriteFault` where the writer fails; then a beginning of the line is written.
 pub fn write_fault<W: Sink>(fault: &ReadFault, w: &mut W) -> Result<(), WriteFault>
     ensures bytes { Writes (W.contents w.old) (W.contents w.new) (fault_text fault.now) result }
     ensures flag { Flags (W.failed w.old) (W.failed w.new) result }

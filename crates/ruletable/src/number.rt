@@ -5,7 +5,8 @@ ghost use Rattle.ruletable.specs.Writing.{Writes, Flags};
 use crate::sink::{Sink, WriteFault, write_whole};
 use itoa::Buffer;
 
-/// Writes the number in decimal digits, without leading zeros.
+/// Writes the number in decimal digits, without leading zeros. `WriteFault` where the writer fails; then a beginning is
+/// written.
 pub fn write_number<W: Sink>(n: usize, w: &mut W) -> Result<(), WriteFault>
     ensures bytes { Writes (W.contents w.old) (W.contents w.new) (decimal n) result }
     ensures flag { Flags (W.failed w.old) (W.failed w.new) result }

@@ -7,7 +7,7 @@ ghost use Rattle.ruletable.specs.Writing.{Writes};
 use std::io;
 use thiserror::Error;
 
-/// A writer took nothing of what it was given.
+/// A writer failed: it took nothing of what it was given, or could not flush.
 #[derive(Clone, Copy, Debug, Drop, PartialEq, Eq, Error)]
 #[error("write error")]
 pub struct WriteFault;
@@ -27,10 +27,12 @@ pub trait Sink {
         ensures bytes { WriteAppends (contents self.old) (contents self.new) result bytes.now }
         ensures flag { Flags (failed self.old) (failed self.new) result };
 
+    /// Hands on what it holds back, or fails.
     fn flush(&mut self) -> Result<(), WriteFault>
         ensures bytes { Keeps (contents self.old) (contents self.new) }
         ensures flag { Flags (failed self.old) (failed self.new) result };
 
+    /// Whether a call has failed.
     fn has_failed(&self) -> bool
         ensures { result ≡ failed self.now };
 }
@@ -43,6 +45,7 @@ pub struct SinkOf<T> {
 }
 
 impl<T: io::Write> SinkOf<T> {
+    /// A sink that has not failed, over that writer.
     pub fn new(inner: T) -> SinkOf<T>
         ensures contents { ⟦<SinkOf<T> as Sink>⟧.contents result ≡ T.contents inner }
         ensures failed { ⟦<SinkOf<T> as Sink>⟧.failed result ≡ false }
@@ -53,6 +56,7 @@ impl<T: io::Write> SinkOf<T> {
         }
     }
 
+    /// The writer.
     pub fn into_inner(self) -> T
         ensures { T.contents result ≡ ⟦<SinkOf<T> as Sink>⟧.contents self }
     {
@@ -91,7 +95,7 @@ impl<T: io::Write> Sink for SinkOf<T> {
     }
 }
 
-/// Writes all of `bytes`, in as many calls as it takes.
+/// Writes all of `bytes`, in as many calls as it takes. `WriteFault` where the writer fails; then a beginning is written.
 pub fn write_whole<W: Sink>(w: &mut W, bytes: &[u8]) -> Result<(), WriteFault>
     ensures bytes { Writes (W.contents w.old) (W.contents w.new) bytes.now result }
     ensures flag { Flags (W.failed w.old) (W.failed w.new) result }
@@ -108,7 +112,7 @@ pub fn write_whole<W: Sink>(w: &mut W, bytes: &[u8]) -> Result<(), WriteFault>
 
 ghost use Rattle.std.specs.List.{flat_map};
 
-/// Writes the pieces, one after another.
+/// Writes the pieces, one after another. `WriteFault` where the writer fails; then a beginning is written.
 pub fn write_pieces<W: Sink>(w: &mut W, pieces: &[&[u8]]) -> Result<(), WriteFault>
     ensures bytes { Writes (W.contents w.old) (W.contents w.new) (flat_map (λ p. p.now) pieces.now) result }
     ensures flag { Flags (W.failed w.old) (W.failed w.new) result }

@@ -95,7 +95,8 @@ impl<E> RuleTable<E> {
         }
     }
 
-    /// Adds a rule as the last one, unless there is one of that name.
+    /// Adds a rule as the last one, unless there is one of that name. `Memory` where a growth was refused; the table then
+    /// stays as it was, as it does for a name that is there.
     pub fn define(&mut self, name: &[u8], body: E, span: Span) -> Result<Defined, Memory>
     where
         E: Drop,
@@ -113,7 +114,7 @@ impl<E> RuleTable<E> {
         Ok(Defined::Added(id))
     }
 
-    /// The name of a rule, as its definition spells it.
+    /// The name of the rule with that id, as its definition spells it. There must be such a rule.
     pub fn name(&self, id: usize) -> &[u8]
         requires { id < length self.now.rules }
         ensures { slice_get (names_of self.now) id ≡ Some result.now }
@@ -122,7 +123,7 @@ impl<E> RuleTable<E> {
         row.name.as_slice()
     }
 
-    /// The body of a rule.
+    /// The body of the rule with that id. There must be such a rule.
     pub fn body(&self, id: usize) -> &E
         requires { id < length self.now.rules }
         ensures { slice_get (bodies_of self.now) id ≡ Some result.now }
@@ -131,7 +132,7 @@ impl<E> RuleTable<E> {
         &row.body
     }
 
-    /// Where the name of a rule's definition stands.
+    /// Where the name of the definition of the rule with that id stands. There must be such a rule.
     pub fn span(&self, id: usize) -> Span
         requires { id < length self.now.rules }
         ensures { slice_get (spans_of self.now) id ≡ Some result }
@@ -140,7 +141,7 @@ impl<E> RuleTable<E> {
         row.span
     }
 
-    /// The body of a rule, to write. The names, the spans and the other bodies stay.
+    /// The body of the rule with that id, to write. There must be such a rule. The names, the spans and the other bodies stay.
     pub fn body_mut(&mut self, id: usize) -> &mut E
         requires { id < length self.old.rules }
         ensures* writes_back { sem 𝓛 (LendsBody E.row self.entry id result) }
