@@ -33,11 +33,6 @@ closes-by (plain p q c) = inr (inr (p, q, c))
 pub closes-end : {mark b : ℕ} {t bs : List ℕ} → t ≡ b ∷ bs → b ≡ mark → Closes mark t bs
 closes-end e h = rw (e, h) close
 
-pub closes-nothing : {mark : ℕ} {t r : List ℕ} → length t ≡ 0 → Closes mark t r → ⊥
-closes-nothing e close = cc
-closes-nothing e (escape c) = cc
-closes-nothing e (plain p q c) = cc
-
 module _ {mark b : ℕ} {t bs : List ℕ} (e : t ≡ b ∷ bs) where
   pub closes-plain : {r : List ℕ} → b ≢ mark → b ≢ 92 → Closes mark bs r → Closes mark t r
   closes-plain p q c = rw (e) (plain p q c)
@@ -52,10 +47,6 @@ module _ {mark b : ℕ} {t bs : List ℕ} (e : t ≡ b ∷ bs) where
   pub closes-escape-back : {d : ℕ} {ds r : List ℕ} → b ≢ mark → b ≡ 92 → bs ≡ d ∷ ds → Closes mark t r → Closes mark ds r
   unfolding Decided
   closes-escape-back m p q c = elim (closes-by (rw e at c)) [ inl x ↦ absurd (m x.0) | inr y ↦ elim y [ inl z ↦ (let same : z.2 ≡ _ = cc in rw same at z.4) | inr w ↦ absurd (w.1 p) ] ]
-
-  pub closes-escape-end : {r : List ℕ} → b ≢ mark → b ≡ 92 → length bs ≡ 0 → Closes mark t r → ⊥
-  unfolding Decided
-  closes-escape-end m p q c = elim (closes-by (rw e at c)) [ inl x ↦ m x.0 | inr y ↦ elim y [ inl z ↦ (let same : bs ≡ z.1 ∷ z.2 = z.3 in cc) | inr w ↦ w.1 p ] ]
 
 -- as many bodies, one after another, as braces are open
 abbrev pub Bodies : ℕ → List ℕ → List ℕ → Type 0

@@ -67,7 +67,3 @@ module _ {ts : List Tok} {ws : List Word} (c : Config) (say : SayAll ts ws) (run
       shallow = rw front shallow;
       deeper = rw next (deeper-next c d say runs says steps MAX_OPEN lt);
     }
-
--- what says a grammar has no hopeless token
-pub grammar-not_hopeless : {ts : List Tok} {ws : List Word} (rules : List Rule) (i : ℕ) → SayAll ts ws → Grammar ws rules → Hopeless ts i → ⊥
-grammar-not_hopeless {ts} rules i say grammar h = h.here (viable-take (i + 1) ts (grammar-viable rules say grammar))

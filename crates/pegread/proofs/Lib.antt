@@ -30,6 +30,7 @@ pub mod Respanned
 pub mod Saying
 pub mod Shallow
 mod Shapes
+mod Speaking
 mod Spelled
 mod Steps
 pub mod Tables

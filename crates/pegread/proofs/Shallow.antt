@@ -2,8 +2,7 @@
 use Rattle.std.proofs.Common.{◌≡◌, ℕ, ◌≤◌, ◌<◌, Some, List, [], ◌∷◌, ◌++◌, take, drop, ◌∙◌, arith}
 use Rattle.std.proofs.lemmas.List.{take-append-drop}
 use Rattle.pegread.specs.Limits.{open_behind, IsShallow}
-use Rattle.pegread.specs.Machine.{Config, start, done, step, run, levels_in}
-use Rattle.pegread.specs.Pattern.{Rule}
+use Rattle.pegread.specs.Machine.{Config, start, step, run, levels_in}
 use Rattle.pegread.specs.Tokens.{Tok, tok}
 use Rattle.pegread.specs.Words.{Word, Says, SayAll}
 use Rattle.pegread.proofs.Depth.{open_count, run-levels}
@@ -40,7 +39,3 @@ module _ {ts : List Tok} {ws : List Word} {t : Tok} {w : Word} (c d : Config) (s
 
   pub deeper-next : (m : ℕ) → m < levels_in d → IsShallow m 0 (ts ++ t ∷ []) → ⊥
   deeper-next m lt h = let e = next-levels in let le = shallow-within m 0 (ts ++ t ∷ []) h in omega arith
-
--- the whole opens no further bracket
-pub shallow-done : {ts : List Tok} {ws : List Word} {t : Tok} {w : Word} (m : ℕ) (c : Config) (rules : List Rule) → SayAll ts ws → run start ws ≡ Some c → Says t w → step c w ≡ Some (done rules) → IsShallow m 0 ts → IsShallow m 0 (ts ++ t ∷ [])
-shallow-done m c rules say runs says steps h = shallow-next c (done rules) say runs says steps m h (omega arith)

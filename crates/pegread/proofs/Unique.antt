@@ -7,7 +7,7 @@ use Rattle.pegread.specs.declared.token_iter.Kind.TheVariants.{Ident}
 use Rattle.ruletable.specs.declared.span.Span.{Span}
 use Rattle.pegread.specs.Kinds.{is_end}
 use Rattle.pegread.specs.Slices.{starts_name, is_blank, Stands, ident, arrow, begin, Comment, ended, inside, White, no_more, blank, comment, IsNotWhite, First, found, bad, at_end}
-use Rattle.std.proofs.Common.{cond, Some, None}
+use Rattle.std.proofs.Common.{cond, Some}
 use Rattle.pegread.specs.declared.token_iter.Token.{Token}
 use Rattle.pegread.specs.declared.token_iter.TokenIter.{TokenIter}
 use Rattle.pegread.specs.Tokens.{GivesToken, GivesFirst, AreLeft, total_of, tok_of, Tok, tok, kind_of, slice_of, start_of, end_of, Next, AreTokens, last_one, one_more}
@@ -128,10 +128,3 @@ takes-first s t x g items h =
 
 pub gives-first : {s t : TokenIter} {x : Token} → GivesToken s (Some x) t → GivesFirst s (Some x) t
 gives-first {s} {t} {x} g = record { step = g; first = takes-first s t x g }
-
-ended-empty : (e : Bool) (n : ℕ) (r : List ℕ) (items : List Tok) → e ≡ true → cond e (items ≡ []) (AreTokens n r items) → items ≡ []
-ended-empty true n r items h k = k
-ended-empty false n r items h k = cc
-
-pub gives-none : {s t : TokenIter} → total_of t ≡ total_of s → s.ended ≡ true → t.ended ≡ true → GivesFirst s None t
-gives-none {s} {t} e h k = record { step = (e, (h, k)); first = λ items l. ended-empty s.ended (total_of s) s.rest.now items h l }

@@ -31,10 +31,6 @@ one-run c w = go (step c w)
 pub run-snoc : (ws : List Word) (w : Word) (c d : Config) → run c ws ≡ Some d → run c (ws ++ w ∷ []) ≡ step d w
 run-snoc ws w c d h = run-append ws (w ∷ []) c ∙ ap (λ (x : Option Config). run_of x (w ∷ [])) h ∙ one-run d w
 
--- nothing stands behind the whole
-pub done-takes_none : (rules : List Rule) (w : Word) → step (done rules) w ≡ None
-done-takes_none rules w = refl
-
 end-step : (o : List Level) (rules : List Rule) (d : Config) → end_step o rules ≡ Some d → (all : List Rule) × (d ≡ done all)
 end-step [] rules d h = (rules, cc)
 end-step (l ∷ o) rules d h = cc

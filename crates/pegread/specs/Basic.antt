@@ -1,6 +1,5 @@
--- The grammars that are read and run so far: one rule, of literals, any byte, sequences, choices, captures and actions.
-use Rattle.std.specs.Prelude.{List, [], ◌∷◌}
-use Rattle.pegread.specs.Pattern.{Pattern, Any, Bytes, Set, Name, Seq, Choice, Star, Plus, Opt, And, Not, Act, Open, Close, Patterns, none, more, Rule}
+-- Patterns of literals, any byte, sequences, choices, captures and actions alone.
+use Rattle.pegread.specs.Pattern.{Pattern, Any, Bytes, Set, Name, Seq, Choice, Star, Plus, Opt, And, Not, Act, Open, Close, Patterns, none, more}
 
 abbrev mutual
   pub IsBasic : Pattern → Type 0
@@ -22,8 +21,3 @@ abbrev mutual
   pub AreBasic : Patterns → Type 0
   AreBasic none = Unit {0}
   AreBasic (more e es) = IsBasic e × AreBasic es
-
-abbrev pub IsBasicGrammar : List Rule → Type 0
-IsBasicGrammar [] = ⊥
-IsBasicGrammar (rule ∷ []) = IsBasic rule.body
-IsBasicGrammar (rule ∷ (next ∷ rules)) = ⊥

@@ -1,6 +1,7 @@
 //! Reads a grammar's text.
-ghost use Rattle.std.specs.Prelude.{◌≡◌, ℕ, ◌<◌, ◌≤◌, ◌++◌, ◌∷◌, Bool, List, length, slice_get, take as first, Some, IfOk, IfErr, MatchResult};
+ghost use Rattle.std.specs.Prelude.{◌≡◌, ◌≢◌, ℕ, ◌<◌, ◌≤◌, ◌++◌, ◌∷◌, Bool, List, length, slice_get, take as first, Some, IfOk, IfErr, MatchResult};
 ghost use Rattle.ruletable.specs.Lines.{line_at};
+ghost use Rattle.ruletable.specs.declared.span.Span.{Span};
 ghost use Rattle.pegread.specs.Definitions.{IsTableOf};
 ghost use Rattle.pegread.specs.Marks.{IsCut};
 ghost use Rattle.pegread.specs.Pattern.{Rule};
@@ -8,8 +9,8 @@ ghost use Rattle.pegread.specs.Reading.{Reads, IsFaultOf};
 ghost use Rattle.pegread.specs.Spelling.{Grammar};
 ghost use Rattle.pegread.specs.Steps.{config_of, rules_from, Takes};
 ghost use Rattle.pegread.specs.Predicates.{hopeless_fault};
-ghost use Rattle.pegread.specs.Tokens.{Tok, tok_of};
-ghost use Rattle.pegread.specs.Words.{Word};
+ghost use Rattle.pegread.specs.Tokens.{Tok, tok, tok_of, kind_of, Next};
+ghost use Rattle.pegread.specs.Words.{Word, Says, SayAll};
 
 use crate::expr::Peg;
 use crate::reader::{Definition, Reader, Stop, open_brackets, take};
@@ -129,9 +130,13 @@ fn peg_of(alloc: Global, definitions: Vec<Definition<'_>>) -> Result<Peg, Memory
     Ok(Peg { rules, redefined })
 }
 
-/// A law: words spell at most one grammar.
+/// A law: a bad token says nothing, every other token of a text says a word, tokens say at most one list of words, and
+/// words spell at most one grammar.
 pub fn one_tree()
-    ensures { (ws : List Word) → (a b : List Rule) → Grammar ws a → Grammar ws b → a ≡ b }
+    ensures silent { (z : List ℕ) (p : Span) (w : Word) → Says (tok Kind.Bad z p) w → ⊥ }
+    ensures says { (total : ℕ) (t r : List ℕ) (x : Tok) → Next total t x r → kind_of x ≢ Kind.Bad → (w : Word) × Says x w }
+    ensures words { (ts : List Tok) (vs ws : List Word) → SayAll ts vs → SayAll ts ws → vs ≡ ws }
+    ensures tree { (ws : List Word) → (a b : List Rule) → Grammar ws a → Grammar ws b → a ≡ b }
 {}
 
 #[cfg(test)]

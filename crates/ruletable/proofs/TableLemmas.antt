@@ -1,5 +1,5 @@
 -- A table's rules, as its map holds them.
-use Rattle.std.proofs.Common.{◌≡◌, ℕ, zero, suc, ◌+◌, ◌<◌, Bool, true, false, cond, not, List, [], ◌∷◌, ◌++◌, length, map, get_or, set, slice_get, position, Option, Some, None, refl, sym, ap, subst, ◌∙◌, arith, Bor, Vec, Global, nat_lt}
+use Rattle.std.proofs.Common.{◌≡◌, ℕ, zero, suc, ◌+◌, ◌<◌, Bool, true, false, cond, not, List, [], ◌∷◌, ◌++◌, length, map, get_or, slice_get, position, Option, Some, None, refl, sym, ap, subst, ◌∙◌, arith, Bor, Vec, Global, nat_lt}
 use Rattle.std.proofs.lemmas.List.{map-append, length-map}
 use Rattle.std.proofs.lemmas.List.Sums.{position_or_len_is}
 use Rattle.std.proofs.lemmas.Simd.{map-map}
@@ -98,26 +98,11 @@ module _ {E : Type 0} where
       ap (λ (r : Row E). record { name = r.name.items; body = w; span = r.span } ∷ rules_in entries) (sym same)
   rules_in-set (entry ∷ entries) (suc id) row w at = ap (λ rules. rule_in entry.1 ∷ rules) (rules_in-set entries id row w at)
 
-  -- and leaves the number of rules, the names, the spans and the other bodies
-  pub length-set_body : (rules : List (Rule E)) (id : ℕ) (w : E) → length (set_body rules id w) ≡ length rules
-  length-set_body [] id w = refl
-  length-set_body (rule ∷ rules) zero w = refl
-  length-set_body (rule ∷ rules) (suc id) w = ap suc (length-set_body rules id w)
-
+  -- and leaves the names
   pub names_of-set_body : (rules : List (Rule E)) (id : ℕ) (w : E) → map (λ rule. rule.name) (set_body rules id w) ≡ map (λ rule. rule.name) rules
   names_of-set_body [] id w = refl
   names_of-set_body (rule ∷ rules) zero w = refl
   names_of-set_body (rule ∷ rules) (suc id) w = ap (λ l. rule.name ∷ l) (names_of-set_body rules id w)
-
-  pub spans_of-set_body : (rules : List (Rule E)) (id : ℕ) (w : E) → map (λ rule. rule.span) (set_body rules id w) ≡ map (λ rule. rule.span) rules
-  spans_of-set_body [] id w = refl
-  spans_of-set_body (rule ∷ rules) zero w = refl
-  spans_of-set_body (rule ∷ rules) (suc id) w = ap (λ l. rule.span ∷ l) (spans_of-set_body rules id w)
-
-  pub bodies_of-set_body : (rules : List (Rule E)) (id : ℕ) (w : E) → map (λ rule. rule.body) (set_body rules id w) ≡ set (map (λ rule. rule.body) rules) id w
-  bodies_of-set_body [] id w = refl
-  bodies_of-set_body (rule ∷ rules) zero w = refl
-  bodies_of-set_body (rule ∷ rules) (suc id) w = ap (λ l. rule.body ∷ l) (bodies_of-set_body rules id w)
 
   -- and the keys
   keys_in-set : (entries : List (Vec ℕ Global × Row E)) (id : ℕ) (row : Row E) → keys_in (set_value_at entries id row) ≡ keys_in entries

@@ -4,7 +4,7 @@ use Rattle.std.specs.List.{flat_map}
 use Rattle.std.proofs.Math.Seq.{take-add}
 use Rattle.std.proofs.lemmas.List.{take-append-drop, append-nil}
 use Rattle.std.specs.Io.KnownBytes.{Appends, Consumes, Keeps}
-use Rattle.std.specs.Prelude.{Result, Ok, Err, IsErrAnd}
+use Rattle.std.specs.Prelude.{Result, Ok, Err}
 use Rattle.ruletable.specs.Writing.{IsBeginning, AppendsPart, Writes}
 
 -- one step after another
@@ -26,12 +26,6 @@ Appends-kept (Some a) None c xs f k = absurd f
 Appends-kept (Some a) (Some b) None xs f k = absurd k
 Appends-kept (Some a) (Some b) (Some c) xs f k = k ∙ f
 
-pub Consumes-kept : (a b c : Option (List ℕ)) (xs : List ℕ) → Consumes a b xs → Keeps b c → Consumes a c xs
-Consumes-kept None b c xs f k = tt
-Consumes-kept (Some a) None c xs f k = absurd f
-Consumes-kept (Some a) (Some b) None xs f k = absurd k
-Consumes-kept (Some a) (Some b) (Some c) xs f k = rw k f
-
 pub Appends-same : (a : Option (List ℕ)) → Appends a a []
 Appends-same None = tt
 Appends-same (Some a) = sym (append-nil a)
@@ -41,15 +35,6 @@ Consumes-join None b c xs ys f s = tt
 Consumes-join (Some a) None c xs ys f s = absurd f
 Consumes-join (Some a) (Some b) None xs ys f s = absurd s
 Consumes-join (Some a) (Some b) (Some c) xs ys f s = rw (f, s, append_assoc)
-
-pub Consumes-none : (a b : Option (List ℕ)) → Keeps a b → Consumes a b []
-Consumes-none None b k = tt
-Consumes-none (Some a) None k = absurd k
-Consumes-none (Some a) (Some b) k = sym k
-
-pub Consumes-same : (a : Option (List ℕ)) → Consumes a a []
-Consumes-same None = tt
-Consumes-same (Some a) = refl
 
 -- the first `at` bytes, and then n more
 pub Appends-more : (a b c : Option (List ℕ)) (at n : ℕ) (bytes : List ℕ) →
@@ -87,11 +72,6 @@ AppendsPart-first a b xs ys s = (s.0, IsBeginning-join s.0 xs ys s.1, s.2)
 pub Writes-then : {A E : Type 0} (a b c : Option (List ℕ)) (xs ys : List ℕ) (r : Result A E) → Appends a b xs → Writes b c ys r → Writes a c (xs ++ ys) r
 Writes-then a b c xs ys (Ok x) f s = Appends-join a b c xs ys f s
 Writes-then a b c xs ys (Err e) f s = AppendsPart-join a b c xs ys f s
-
--- the exit of a `?` after a part
-pub Writes-exit : {A E : Type 0} (Q : E → Type 0) (a b : Option (List ℕ)) (xs : List ℕ) (r : Result A E) → IsErrAnd r Q → AppendsPart a b xs → Writes a b xs r
-Writes-exit Q a b xs (Ok x) e s = absurd e
-Writes-exit Q a b xs (Err x) e s = s
 
 -- the pieces before one, it, and those after it
 pub flat_map-at : {X A : Type 0} (f : X → List A) (xs : List X) (i : ℕ) (d : X) → i < length xs →

@@ -120,7 +120,7 @@ fn reads_each_part(rt: HostRuntime) -> Result<(), Fail> {
 }
 
 #[test]
-fn sets_of_bytes(rt: HostRuntime) {
+fn a_set_has_what_was_added_and_its_complement_the_rest(rt: HostRuntime) {
     let mut set = ByteSet::new();
     assert!(rt; !set.has(b'a'));
     set.add_range(b'b', b'd');
@@ -144,7 +144,7 @@ fn list_of_runs(alloc: Global, set: &ByteSet) -> Result<Vec<(u8, u8)>, Fail> {
 }
 
 #[test]
-fn runs_of_sets(rt: HostRuntime) -> Result<(), Fail> {
+fn runs_are_the_maximal_ranges(rt: HostRuntime) -> Result<(), Fail> {
     let mut set = ByteSet::new();
     assert!(rt; list_of_runs(rt.alloc(), &set)?.is_empty());
     let all = list_of_runs(rt.alloc(), &set.complement())?;
@@ -163,7 +163,7 @@ fn runs_of_sets(rt: HostRuntime) -> Result<(), Fail> {
 }
 
 #[test]
-fn copies_of_sets(rt: HostRuntime) {
+fn a_copy_has_the_same_members_and_changes_alone(rt: HostRuntime) {
     let mut set = ByteSet::new();
     set.add_range(62, 66);
     let mut copy = set.copied();
@@ -177,7 +177,7 @@ fn copies_of_sets(rt: HostRuntime) {
 }
 
 #[test]
-fn lines(rt: HostRuntime) {
+fn lines_end_by_the_rule(rt: HostRuntime) {
     let text = b"a\nb\r\nc\rd";
     // the offset, and its line where LF alone ends one, and where CR LF and CR do too
     let rows = [
@@ -202,7 +202,7 @@ fn lines(rt: HostRuntime) {
 }
 
 #[test]
-fn messages(rt: HostRuntime) -> Result<(), Fail> {
+fn each_fault_has_its_line(rt: HostRuntime) -> Result<(), Fail> {
     let rows: [(ReadFault, &[u8]); 6] = [
         (ReadFault::Syntax { line: 1 }, b"line 1: syntax error\n"),
         (
@@ -239,7 +239,7 @@ fn noted(alloc: Global, note: Note) -> Result<Vec<u8>, Fail> {
 }
 
 #[test]
-fn notes(rt: HostRuntime) -> Result<(), Fail> {
+fn each_note_has_its_line(rt: HostRuntime) -> Result<(), Fail> {
     let line = noted(rt.alloc(), Note::Redefined(b"x".to_vec(rt.alloc())?))?;
     assert!(rt; line.as_slice() == b"rule 'x' redefined\n".as_slice());
     let line = noted(rt.alloc(), Note::Undefined(b"x_1".to_vec(rt.alloc())?))?;
@@ -254,7 +254,7 @@ fn notes(rt: HostRuntime) -> Result<(), Fail> {
 }
 
 #[test]
-fn numbers_and_pieces(rt: HostRuntime) -> Result<(), Fail> {
+fn numbers_and_pieces_are_written_whole(rt: HostRuntime) -> Result<(), Fail> {
     let mut sink = SinkOf::new(Paper::new(rt.alloc(), 2, 99, Full::TakesNothing));
     write_number(1048577, &mut sink)?;
     write_pieces(&mut sink, &[b"a", b"", b"bcd"])?;
@@ -265,7 +265,7 @@ fn numbers_and_pieces(rt: HostRuntime) -> Result<(), Fail> {
 }
 
 #[test]
-fn writers_that_fail(rt: HostRuntime) {
+fn a_failing_writer_keeps_a_beginning_and_sets_the_flag(rt: HostRuntime) {
     for full in [Full::Fails, Full::TakesNothing] {
         let mut sink = SinkOf::new(Paper::new(rt.alloc(), 2, 3, full));
         assert!(rt; write_whole(&mut sink, b"abcde").is_err());

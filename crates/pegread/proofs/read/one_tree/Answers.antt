@@ -1,5 +1,16 @@
 use Rattle.pegread.proofs.Passing.{one-grammar}
+use Rattle.pegread.proofs.Saying.{one-words}
+use Rattle.pegread.proofs.Speaking.{bad-silent, token-says}
 use Rattle.pegread.proofs.read.one_tree.Goals as goal
 
-pub returns : goal.returns
-returns c = λ ws a b h k. one-grammar h k
+pub returns-clause-silent : goal.returns-clause-silent
+returns-clause-silent c = bad-silent
+
+pub returns-clause-says : goal.returns-clause-says
+returns-clause-says c = token-says
+
+pub returns-clause-words : goal.returns-clause-words
+returns-clause-words c = λ ts vs ws h k. one-words h k
+
+pub returns-clause-tree : goal.returns-clause-tree
+returns-clause-tree c = λ ws a b h k. one-grammar h k

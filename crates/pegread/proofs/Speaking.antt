@@ -1,0 +1,32 @@
+-- Every token of a text says a word, but for a bad one, which says none.
+use Rattle.std.proofs.Common.{◌≢◌, ℕ, List, refl}
+use Rattle.ruletable.specs.declared.span.Span.{Span}
+use Rattle.pegread.specs.declared.token_iter.Kind.TheVariants as kinds
+use Rattle.pegread.specs.Tokens.{Tok, tok, kind_of, Next}
+use Rattle.pegread.specs.Words.{Word, Ident, Arrow, Begin, EndCap, Slash, Amp, Bang, Quest, Star, Plus, Dot, LParen, RParen, Literal, Class, Action, End, Says, says_name, says_arrow, says_begin, says_end_cap, says_slash, says_amp, says_bang, says_quest, says_star, says_plus, says_dot, says_lparen, says_rparen, says_literal, says_class, says_action, says_end}
+use Rattle.pegread.proofs.Items.{some-class}
+use Rattle.pegread.proofs.Quoted.{some-literal}
+use Rattle.pegread.proofs.TokenSlices.{literal-token, class-token, braced-token}
+
+pub bad-silent : (z : List ℕ) (p : Span) (w : Word) → Says (tok kinds.Bad z p) w → ⊥
+bad-silent z p w h = elim h [ ]
+
+pub token-says : (total : ℕ) (t r : List ℕ) (x : Tok) → Next total t x r → kind_of x ≢ kinds.Bad → (w : Word) × Says x w
+token-says total t r (tok kinds.Ident z p) n g = (Ident z p, says_name)
+token-says total t r (tok kinds.Arrow z p) n g = (Arrow, says_arrow)
+token-says total t r (tok kinds.Begin z p) n g = (Begin, says_begin)
+token-says total t r (tok kinds.EndCap z p) n g = (EndCap, says_end_cap)
+token-says total t r (tok kinds.Slash z p) n g = (Slash, says_slash)
+token-says total t r (tok kinds.Amp z p) n g = (Amp, says_amp)
+token-says total t r (tok kinds.Bang z p) n g = (Bang, says_bang)
+token-says total t r (tok kinds.Quest z p) n g = (Quest, says_quest)
+token-says total t r (tok kinds.Star z p) n g = (Star, says_star)
+token-says total t r (tok kinds.Plus z p) n g = (Plus, says_plus)
+token-says total t r (tok kinds.Dot z p) n g = (Dot, says_dot)
+token-says total t r (tok kinds.LParen z p) n g = (LParen, says_lparen)
+token-says total t r (tok kinds.RParen z p) n g = (RParen, says_rparen)
+token-says total t r (tok kinds.Literal z p) n g = let s = some-literal z (literal-token total t r z p n) in (Literal s.0, says_literal s.1)
+token-says total t r (tok kinds.Class z p) n g = let s = some-class z (class-token total t r z p n) in (Class s.0, says_class s.1)
+token-says total t r (tok kinds.Action z p) n g = let s = braced-token total t r z p n in (Action s.0, says_action s.1)
+token-says total t r (tok kinds.Bad z p) n g = absurd (g refl)
+token-says total t r (tok kinds.End z p) n g = (End, says_end)
