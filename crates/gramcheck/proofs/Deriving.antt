@@ -9,9 +9,6 @@ use Rattle.gramcheck.specs.Derive.{Demand, All, One, row_of, IsMet, IsDerived}
 use Rattle.gramcheck.specs.Waiting.{once, times, met, count_of, counts_of, left_of, row_at, Added, AreUsersTo, AreUsers, IsQueue, Told, IsComing}
 use Rattle.gramcheck.proofs.Counting.{once_same, once_other, times_push, times_in, in_times, times_take, times_earlier, in_get, one_place, met_push, met_none, met_mono, met_all, all_met, met_one, one_met}
 
-pub added_none : (n : ℕ) (users : List (List ℕ)) → Added [] n users users
-added_none n users = record { count = refl; own = λ m lt. omega arith; other = λ m k ne. refl }
-
 added_push : (row : List ℕ) (x n : ℕ) (a b : List (List ℕ)) (v : List ℕ) → Added row n a b → x < length b → v ≡ row_at b x ++ n ∷ [] → Added (row ++ x ∷ []) n a (set b x v)
 added_push row x n a b v g in_it is = record {
   count = length-set b x v ∙ g.count;

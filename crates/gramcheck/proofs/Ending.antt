@@ -15,7 +15,7 @@ use Rattle.std.proofs.lemmas.List.{length-map}
 use Rattle.gramcheck.proofs.Determined.{same}
 use Rattle.gramcheck.proofs.Starting.{same_of_start}
 use Rattle.gramcheck.proofs.Falling.{measure, falls, falls_here, falls_ahead}
-use Rattle.gramcheck.proofs.Lists.{contains_first, contains_later}
+use Rattle.gramcheck.proofs.Counting.{in_first, in_later}
 use Rattle.gramcheck.proofs.Outcomes.{Has, HasAll, HasFirst, any_has, set_has, bytes_has, opt_has, and_has, not_has, star_has, plus_has, member_has, alternative_has}
 use Rattle.gramcheck.proofs.Spelling.{is_there, part_spelled}
 use Rattle.gramcheck.proofs.Lowering.{bound, lower, steps_to_body}
@@ -64,10 +64,10 @@ module _ (rules : List Rule) (start : ℕ) (nodes : List Shape) (bodies ranks : 
       ((m : ℕ) → Contains ms m → rank m < rank n) → HasFirst rules x es p
   first_has t n p below le high ms es spell_none all = record { outcome = Fails; looked = 0; gives = all_failed }
   first_has t n p below le high ms es (spell_more {n = m} {ns = ns} {p = e} {ps = rest} s ss) all =
-      let less = falls_here (length x) p (length nodes) (rank m) (rank n) (all m (contains_first m ns)) in
+      let less = falls_here (length x) p (length nodes) (rank m) (rank n) (all m (in_first m ns)) in
       let one = below m p e s high (omega (arith, less)) in
       alternative_has rules x e rest p one.looked one.outcome one.gives
-      (first_has t n p below le high ns rest ss (λ k h. all k (contains_later m ns k h)))
+      (first_has t n p below le high ns rest ss (λ k h. all k (in_later m k ns h)))
 
   -- an operand that isn't nullable, again and again
   star_from : (t m : ℕ) (e : Pattern) → Below t → Spells rules nodes m e → (Nullable rules e → ⊥) → (left q : ℕ) → length x - q < left → q ≤ length x → at q m < t → Has rules x (expr.Star e) q

@@ -37,7 +37,7 @@ compare_more [] y (b ∷ bs) h = absurd (omega arith)
 compare_more (c ∷ t) y [] h = record { begins = refl; compared = refl }
 compare_more (c ∷ t) y (b ∷ bs) h = alike_step (c == b) c b t y bs refl h (λ k. compare_more t y bs k)
 
-looked_below : (p n m k : ℕ) → looked_at p n < k → p < k → m ≡ k - p → n < m
+pub looked_below : (p n m k : ℕ) → looked_at p n < k → p < k → m ≡ k - p → n < m
 looked_below p zero m k h lt is = omega arith
 looked_below p (suc n) m k h lt is = omega arith
 

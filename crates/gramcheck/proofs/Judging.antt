@@ -22,7 +22,7 @@ use Rattle.gramcheck.specs.Bodies.{AreBodies, IsBuilt}
 use Rattle.gramcheck.specs.Checked.{is_refused, IsStart}
 use Rattle.gramcheck.specs.Defined.{IsGiven}
 use Rattle.gramcheck.specs.Left.{IsLeftRecursive, Loops}
-use Rattle.gramcheck.specs.Marks.{IsMarked, AreBelow}
+use Rattle.gramcheck.specs.Marks.{IsMarked}
 use Rattle.gramcheck.specs.Nodes.{Shape, id_of}
 use Rattle.gramcheck.specs.Notes.{Those, no_more, not_this, AreNotes, AreMarks}
 use Rattle.gramcheck.specs.Numbering.{AreStanding}
@@ -34,13 +34,6 @@ use Rattle.gramcheck.proofs.Marking.{marked_lt}
 use Rattle.gramcheck.proofs.Names.{same-name, own-name, names-same}
 use Rattle.gramcheck.proofs.Noting.{among-contains}
 use Rattle.gramcheck.proofs.Ranking.{is_ranked}
-use Rattle.gramcheck.proofs.Spelling.{is_there}
-
--- the nodes of bodies are there
-pub bodies-below : (rules : List Rule) (nodes : List Shape) (bodies : List ℕ) → AreBodies rules nodes bodies → AreBelow bodies (length nodes)
-bodies-below rules nodes bodies are m (k, lt, e) =
-    let one = are.spelled k m (slice_get-get_or bodies k m lt ∙ ap Some e) in
-    is_there rules nodes one.2
 
 module _ (rules : List Rule) (nodes : List Shape) (bodies : List ℕ) (nulls recursive looping : List Bool) (ranks : List ℕ)
     (a : IsAnalysed rules nodes bodies nulls recursive looping ranks) where

@@ -6,7 +6,6 @@ pub mod Deriving
 pub mod Determined
 pub mod Ending
 mod Examples
-pub mod Existing
 pub mod Falling
 pub mod Growing
 pub mod Ids

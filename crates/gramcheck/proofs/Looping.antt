@@ -31,23 +31,6 @@ moved nulls a b (node.Act t) f h = h
 moved nulls a b node.Open f h = h
 moved nulls a b node.Close f h = h
 
--- a node that holds one that repeats repeats
-pub operand_loops : (nulls marks : List Bool) (v : Shape) (m : ℕ) → IsOperand v m → IsMarked marks m → LoopsNow nulls marks v
-operand_loops nulls marks node.Any m h d = absurd h
-operand_loops nulls marks (node.Bytes bs) m h d = absurd h
-operand_loops nulls marks (node.Set s) m h d = absurd h
-operand_loops nulls marks (node.Name id) m h d = absurd h
-operand_loops nulls marks (node.Seq ms) m h d = (m, h, d)
-operand_loops nulls marks (node.Choice ms) m h d = (m, h, d)
-operand_loops nulls marks (node.Star k) m h d = inr (subst (λ v. IsMarked marks v) h d)
-operand_loops nulls marks (node.Plus k) m h d = inr (subst (λ v. IsMarked marks v) h d)
-operand_loops nulls marks (node.Opt k) m h d = subst (λ v. IsMarked marks v) h d
-operand_loops nulls marks (node.And k) m h d = subst (λ v. IsMarked marks v) h d
-operand_loops nulls marks (node.Not k) m h d = subst (λ v. IsMarked marks v) h d
-operand_loops nulls marks (node.Act t) m h d = absurd h
-operand_loops nulls marks node.Open m h d = absurd h
-operand_loops nulls marks node.Close m h d = absurd h
-
 pub loops_next : (nodes : List Shape) (nulls marks : List Bool) (i : ℕ) (a : Shape) (c : Bool) → IsBuilt nodes → LoopsTo nodes nulls marks i → slice_get nodes i ≡ Some a →
     ((c ≡ true) ↔ LoopsNow nulls marks a) → LoopsTo nodes nulls (marks ++ c ∷ []) (i + 1)
 loops_next nodes nulls marks i a c built g at test = record {

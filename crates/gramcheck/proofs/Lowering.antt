@@ -8,7 +8,7 @@ use Rattle.gramcheck.specs.Nodes.{Shape, id_of, Spells}
 use Rattle.gramcheck.specs.Ranks.{NodeStep, to_body, to_alternative, to_member, to_starred, to_repeated, to_optional, to_asserted, to_denied, FrontNode, front_first, front_later}
 use Rattle.gramcheck.specs.Sound.{IsRanked}
 use Rattle.gramcheck.proofs.Ids.{body_there}
-use Rattle.gramcheck.proofs.Lists.{contains_first, contains_later}
+use Rattle.gramcheck.proofs.Counting.{in_first, in_later}
 use Rattle.gramcheck.proofs.Spelling.{is_there}
 
 module _ (rules : List Rule) (nodes : List Shape) (bodies : List ℕ) where
@@ -24,8 +24,8 @@ module _ (rules : List Rule) (nodes : List Shape) (bodies : List ℕ) where
 
   -- a member that only nullable ones stand before is one of them
   pub front_contained : {ms : List ℕ} {m : ℕ} → FrontNode rules nodes bodies ms m → Contains ms m
-  front_contained (front_first {m = m} {ms = ms}) = contains_first m ms
-  front_contained (front_later {k = k} {m = m} {ms = ms} null f) = contains_later k ms m (front_contained f)
+  front_contained (front_first {m = m} {ms = ms}) = in_first m ms
+  front_contained (front_later {k = k} {m = m} {ms = ms} null f) = in_later k m ms (front_contained f)
 
 module _ (rules : List Rule) (start : ℕ) (nodes : List Shape) (bodies ranks : List ℕ) (sound : IsRanked rules start nodes bodies ranks) where
   low_there : {n m : ℕ} → n < length nodes → m < n → m < length nodes

@@ -15,6 +15,12 @@ begins_within (c ∷ cs) (b ∷ bs) h =
     let k = begins_within cs bs tail in
     omega arith
 
+pub Rise-le : (p q : ℕ) (es : List Event) → Rise p q es → p ≤ q
+Rise-le p q [] h = h
+Rise-le p q (Opened k ∷ es) (h, rest) = let le = Rise-le k q es rest in omega arith
+Rise-le p q (Closed k ∷ es) (h, rest) = let le = Rise-le k q es rest in omega arith
+Rise-le p q (Acted t ∷ es) h = Rise-le p q es h
+
 pub Rise-append : (p q r : ℕ) (es fs : List Event) → Rise p q es → Rise q r fs → Rise p r (es ++ fs)
 Rise-append p q r [] fs h g = Rise-lower p q r fs h g
   where

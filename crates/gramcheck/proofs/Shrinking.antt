@@ -1,11 +1,11 @@
 -- What compares no byte from a text's length on is the same on that text alone.
-use Rattle.std.proofs.Common.{◌≡◌, ℕ, zero, suc, ◌+◌, ◌-◌, ◌<◌, ◌≤◌, Bool, true, false, ◌&&◌, if◌then◌else◌, ◌==◌, List, [], ◌∷◌, ◌++◌, length, drop, None, refl, sym, ◌∙◌, ap, arith, length-drop, ⊎_elim}
+use Rattle.std.proofs.Common.{◌≡◌, ℕ, zero, suc, ◌+◌, ◌<◌, ◌≤◌, Bool, true, false, ◌&&◌, if◌then◌else◌, ◌==◌, List, [], ◌∷◌, ◌++◌, length, drop, None, refl, sym, ◌∙◌, ap, arith, length-drop, ⊎_elim}
 use Rattle.std.specs.Prelude.{slice_get}
 use Rattle.std.proofs.lemmas.Bool.{cases_lt}
 use Rattle.std.proofs.Math.ListN.{drop_of_length-le}
 use Rattle.pegread.specs.Pattern.{Pattern, Patterns, Rule}
 use Rattle.gramcheck.specs.Outcome.{Outcome, begins_with, compared, looked_at, Gives, any_takes, any_at_end, set_takes, set_fails, set_at_end, bytes_take, bytes_fail, act, open_at, close_at, name, seq, choice, opt_takes, opt_none, star_none, star_more, plus_fails, plus_takes, and_takes, and_fails, not_takes, not_fails, GivesAll, all_done, one_fails, rest_fails, rest_takes, GivesFirst, all_failed, first_takes, first_fails}
-use Rattle.gramcheck.proofs.Growing.{Alike, alike_more, shorter, slice_get_more, drop_more}
+use Rattle.gramcheck.proofs.Growing.{Alike, alike_more, shorter, slice_get_more, drop_more, looked_below}
 
 none_before : (x y : List ℕ) (p : ℕ) → slice_get (x ++ y) p ≡ None → slice_get x p ≡ None
 none_before [] y p h = refl
@@ -44,14 +44,10 @@ looked_nothing : (p n k : ℕ) → looked_at p n < k → k ≤ p → n ≡ 0
 looked_nothing p zero k h le = refl
 looked_nothing p (suc n) k h le = absurd (omega arith)
 
-looked_within : (p n m k : ℕ) → looked_at p n < k → p < k → m ≡ k - p → n < m
-looked_within p zero m k h lt is = omega arith
-looked_within p (suc n) m k h lt is = omega arith
-
 bytes_less : (x y bs : List ℕ) (p : ℕ) → looked_at p (compared (drop p (x ++ y)) bs) < length x → AlikeAt (drop p (x ++ y)) (drop p x) bs
 bytes_less x y bs p h = ⊎_elim
     (λ lt.
-    let less = looked_within p (compared (drop p (x ++ y)) bs) _ (length x) h lt (length-drop p x) in
+    let less = looked_below p (compared (drop p (x ++ y)) bs) _ (length x) h lt (length-drop p x) in
     let more = drop_more x y p lt in
     let same = compare_less (drop p x) y bs (rw more at less) in
     rw more (record { begins = same.begins; compared = same.compared }))

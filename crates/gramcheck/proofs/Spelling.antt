@@ -5,7 +5,8 @@ use Rattle.std.proofs.lemmas.Option.{slice_get_within}
 use Rattle.pegread.specs.Pattern.{Pattern, Patterns, Rule}
 use Rattle.gramcheck.specs.Nodes as node
 use Rattle.gramcheck.specs.Nodes.{Shape, id_of, Spells, spells_any, spells_bytes, spells_set, spells_name, spells_seq, spells_choice, spells_star, spells_plus, spells_opt, spells_and, spells_not, spells_act, spells_open, spells_close, SpellAll, spell_none, spell_more}
-use Rattle.gramcheck.proofs.Lists.{keeps, contained_more}
+use Rattle.gramcheck.proofs.Counting.{cons_cases}
+use Rattle.gramcheck.proofs.Lists.{keeps}
 use Rattle.gramcheck.specs.Within.{Within, WithinSome, itself, of_seq, of_choice, of_star, of_plus, of_opt, of_and, of_not, of_first, of_later}
 
 module _ (rules : List Rule) (xs ys : List Shape) where
@@ -51,7 +52,7 @@ module _ (rules : List Rule) (nodes : List Shape) where
   pub are_there : {ms : List ℕ} {ps : Patterns} (m : ℕ) → SpellAll rules nodes ms ps → Contains ms m → m < length nodes
   are_there m spell_none (k, lt, e) = absurd (omega arith)
   are_there m (spell_more {n = n} {ns = ns} s ss) h =
-      ⊎_elim (λ same. subst (λ v. v < length nodes) same (is_there s)) (λ later. are_there m ss later) (contained_more n ns m h)
+      ⊎_elim (λ same. subst (λ v. v < length nodes) same (is_there s)) (λ later. are_there m ss later) (cons_cases n m ns h)
 
   -- a part of what a node spells is spelled by a node
   mutual

@@ -3,15 +3,8 @@ use Rattle.std.proofs.Common.{◌≡◌, ℕ, ◌+◌, ◌≤◌, List, [], ◌�
 use Rattle.pegread.specs.Pattern.{Pattern, Patterns, Rule}
 use Rattle.pegread.specs.Pattern as expr
 use Rattle.gramcheck.specs.Left.{Nullable, no_bytes, an_act, an_open, a_close, an_and, a_not, an_opt, a_star, a_plus, a_seq, a_choice, a_name, AllNullable, all_none, all_more, SomeNullable, some_first, some_later}
-use Rattle.gramcheck.specs.Outcome.{Event, Opened, Closed, Acted, Outcome, Fails, Takes, Gives, any_takes, any_at_end, set_takes, set_fails, set_at_end, bytes_take, bytes_fail, act, open_at, close_at, name, seq, choice, opt_takes, opt_none, star_none, star_more, plus_fails, plus_takes, and_takes, and_fails, not_takes, not_fails, GivesAll, all_done, one_fails, rest_fails, rest_takes, GivesFirst, all_failed, first_takes, first_fails}
-use Rattle.gramcheck.specs.Rising.{Rise}
-use Rattle.gramcheck.proofs.Rising.{within, within_all}
-
-Rise-le : (p q : ℕ) (es : List Event) → Rise p q es → p ≤ q
-Rise-le p q [] h = h
-Rise-le p q (Opened k ∷ es) (h, rest) = let le = Rise-le k q es rest in omega arith
-Rise-le p q (Closed k ∷ es) (h, rest) = let le = Rise-le k q es rest in omega arith
-Rise-le p q (Acted t ∷ es) h = Rise-le p q es h
+use Rattle.gramcheck.specs.Outcome.{Event, Outcome, Fails, Takes, Gives, any_takes, any_at_end, set_takes, set_fails, set_at_end, bytes_take, bytes_fail, act, open_at, close_at, name, seq, choice, opt_takes, opt_none, star_none, star_more, plus_fails, plus_takes, and_takes, and_fails, not_takes, not_fails, GivesAll, all_done, one_fails, rest_fails, rest_takes, GivesFirst, all_failed, first_takes, first_fails}
+use Rattle.gramcheck.proofs.Rising.{Rise-le, within, within_all}
 
 -- N holds where an outcome at p takes nothing
 abbrev pub NullIf : Type 0 → ℕ → Outcome → Type 0

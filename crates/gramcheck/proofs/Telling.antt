@@ -34,10 +34,6 @@ waiting_still (suc j ∷ left) (suc n) k lt h = let e = waiting_still left n k (
 left_past : (left : List ℕ) (n : ℕ) → length left ≤ n → left_of left n ≡ 1
 left_past left n le = get_or_past left n 1 le
 
--- the order at the start
-pub queue_none : IsQueue [] []
-queue_none = record { here = λ n e. absurd (omega (arith, e)); not_yet = λ n h. refl; total = refl }
-
 -- a number past the list of what is needed stands in no order
 past_queue : (left order : List ℕ) (n : ℕ) → IsQueue left order → length left ≤ n → times order n ≡ 0
 past_queue left order n q le = let e = left_past left n le in q.not_yet n (omega (arith, e))

@@ -6,6 +6,7 @@ use Rattle.gramcheck.specs.Nodes.{Shape, Act}
 use Rattle.gramcheck.specs.Outcome as event
 use Rattle.pegmatch.specs.Kept.{StandFor, no_event, opened, closed, acted}
 use Rattle.gramcheck.specs.Rising.{Rise}
+use Rattle.gramcheck.proofs.Rising.{Rise-le}
 use Rattle.pegmatch.specs.Text.{text_of, text_after, printed}
 use Rattle.pegmatch.specs.declared.event.Kept.{Kept}
 
@@ -35,12 +36,6 @@ module _ (nodes : List Shape) where
       let template : t ≡ h.1 = cc (h.2, is) in
       rw (h.3, rest, template) refl
 
-pub Rise-le : (low high : ℕ) (es : List event.Event) → Rise low high es → low ≤ high
-Rise-le low high [] h = h
-Rise-le low high (event.Opened p ∷ es) (h, r) = let k = Rise-le p high es r in omega arith
-Rise-le low high (event.Closed p ∷ es) (h, r) = let k = Rise-le p high es r in omega arith
-Rise-le low high (event.Acted t ∷ es) r = Rise-le low high es r
-
 -- What is put so far, and what is left, make up the whole text.
 pub record HavePut (raw : Bool) (nodes : List Shape) (x : List ℕ) (all : List Kept) (i : ℕ) (start : Option ℕ) (capture old new : List ℕ) : Type 0 where
   pub whole : List event.Event
@@ -53,19 +48,6 @@ pub record HavePut (raw : Bool) (nodes : List Shape) (x : List ℕ) (all : List 
   pub text : new ++ text_after raw x rest start capture ≡ old ++ text_of raw x whole
 
 module _ (raw : Bool) (nodes : List Shape) (x : List ℕ) (all : List Kept) where
-  pub none_put : (old : List ℕ) (whole : List event.Event) → StandFor nodes all whole → Rise 0 (length x) whole →
-      HavePut raw nodes x all 0 None [] old old
-  none_put old whole s r = record {
-    whole = whole;
-    meant = s;
-    rest = whole;
-    left = s;
-    low = 0;
-    begun = tt;
-    rise = r;
-    text = refl;
-  }
-
   -- nothing is left
   pub all_put : (i : ℕ) (start : Option ℕ) (capture old new : List ℕ) (events : List event.Event) → length all ≤ i →
       HavePut raw nodes x all i start capture old new → StandFor nodes all events → new ≡ old ++ text_of raw x events

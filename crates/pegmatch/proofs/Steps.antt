@@ -68,9 +68,6 @@ module _ (rules : List Rule) (x : List ℕ) where
       let same : es ++ [] ≡ es = simp append-nil in
       subst (λ v. GivesAll rules x all p (Takes q v) j) same (subst (λ v. GivesAll rules x all p (Takes q (es ++ [])) v) is d)
 
-  pub tries_on_start : (all : Patterns) (p : ℕ) → TriesOn rules x all all p 0
-  tries_on_start all p = record { on = λ o k d. rw (max-zero k) d }
-
   pub tries_on_step : (all : Patterns) (e : Pattern) (rest : Patterns) (p j k : ℕ) →
       TriesOn rules x all (more e rest) p j → Gives rules x e p Fails k → TriesOn rules x all rest p (max j k)
   tries_on_step all e rest p j k h d = record {
@@ -208,9 +205,6 @@ module _ (rules : List Rule) (nodes : List Shape) (x ns : List ℕ) where
   all_taken p i q old new k es h t =
       let goes' = rw (none_spelled i t.rest h t.spelled) at t.goes in
       (t.added, t.events, t.stand, goes_on_ends rules x es p q k _ goes', t.is)
-
-  pub none_failed : (p : ℕ) (old : List Kept) (es : Patterns) → SpellAll rules nodes ns es → HaveFailed rules nodes x ns p 0 old old 0 es
-  none_failed p old es s = record { rest = es; is = refl; spelled = s; tries = tries_on_start rules x es p }
 
   pub next_tried : (p i : ℕ) (old mid new : List Kept) (tried : Tried) (j k : ℕ) (es : Patterns) →
       i < length ns → HaveFailed rules nodes x ns p i old mid j es →

@@ -1,5 +1,4 @@
 pub mod Actions
-pub mod Basic
 pub mod Brackets
 pub mod Canon
 pub mod CharLaws
