@@ -2,12 +2,13 @@
 # Runs pegi on examples/username once for each growth of memory, each time with that growth refused, until three runs in a
 # row need none. Where a growth was needed, the run must write the texts of the first units alone, `out of memory` on the
 # error output, and end with status 5; else it must print the whole. It takes some ten seconds a growth.
+# Usage: refuse_each_growth.sh [FIRST], FIRST being the number of the first growth to refuse, or else 1.
 set -eu
 cd "$(dirname "$0")/../crates/pegi"
 example=../../examples/username
 made=$(mktemp -d)
 trap 'rm -rf "$made"' EXIT
-n=1
+n=${1:-1}
 whole=0
 while :; do
     status=0

@@ -2,7 +2,7 @@
 ghost use Rattle.std.specs.Prelude.{◌<◌, ◌≤◌};
 
 use crate::fakes::{Paper, Tape};
-use crate::{Mode, Settings, SourceOf, Status, run_peg};
+use crate::{Mode, Settings, SourceOf, Status, one_reply, one_statement, run_peg};
 use ruletable::SinkOf;
 use std::alloc::{AllocError, Global};
 use std::cell::Cell;
@@ -12,6 +12,7 @@ use std::test::Fail;
 mod examples;
 mod forms;
 mod noted;
+mod printed;
 
 /// A run with ample memory, and what is to come of it.
 #[derive(Drop)]
@@ -390,4 +391,10 @@ fn flushes_both_outputs_once(rt: HostRuntime) -> Result<(), Fail> {
     assert!(rt; out.text() == whole);
     assert!(rt; err.text().is_empty());
     Ok(())
+}
+
+#[test]
+fn laws_return() {
+    one_reply();
+    one_statement();
 }
