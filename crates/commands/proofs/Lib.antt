@@ -1,2 +1,5 @@
 mod Parses
 mod Answering
+mod Entries
+mod Whole
+mod Asking

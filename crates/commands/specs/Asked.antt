@@ -1,7 +1,10 @@
 -- What the words of a command line ask for.
-use Rattle.std.specs.Prelude.{◌≡◌, ◌≤◌, ℕ, Bool, true, false, List, Option, Some, None, codes, if◌then◌else◌}
+use Rattle.std.specs.Prelude.{◌≡◌, ◌≤◌, ◌⊎◌, ℕ, option_map, Bool, true, false, List, Option, Some, None, codes, if◌then◌else◌, is_some}
 use Rattle.std.specs.Str.{bytes_eq}
 use Rattle.std.specs.Str.Parse.{IsNumeral, digits_value, without_leading_plus}
+use Rattle.clap.specs.Words.{Row, Text, first_of, first_value, one_of, one_text}
+use Rattle.clap.specs.declared.parser.matches.Found.{Found}
+use Rattle.commands.specs.declared.settings.Asked.{Asked}
 use Rattle.gramtools.specs.declared.settings.Mode.{Mode}
 use Rattle.gramtools.specs.declared.settings.Mode.TheVariants.{Run, Check, Print}
 
@@ -20,3 +23,30 @@ IsLimitOf (Some text) n = IsNumeral 10 (without_leading_plus text) → 1 ≤ dig
 abbrev pub IsFlagOf : Option (List ℕ) → Bool → Type 0
 IsFlagOf text raw = (text ≡ None → raw ≡ false) × (text ≡ Some (codes "true") → raw ≡ true) ×
     (text ≡ Some (codes "false") → raw ≡ false)
+
+-- the text is the decimal number of a limit
+abbrev pub IsLimitText : Text → Type 0
+IsLimitText text = IsNumeral 10 (without_leading_plus text) × (1 ≤ digits_value 10 (without_leading_plus text)) ×
+    (digits_value 10 (without_leading_plus text) ≤ 16777216)
+
+-- what holds of the matches of words in which nothing is wrong: there is a limit in its range and a grammar, and the
+-- flag is `true` or `false` where it has a text
+pub record AreWhole (f : Found) : Type 0 where
+  pub limit : (text : Text) × (one_text f (codes "limit") ≡ Some text) × IsLimitText text
+  pub raw : (one_text f (codes "raw") ≡ None) ⊎ (one_text f (codes "raw") ≡ Some (codes "true"))
+      ⊎ (one_text f (codes "raw") ≡ Some (codes "false"))
+  pub grammar : is_some (first_value f (codes "grammar")) ≡ true
+
+-- the flag is given
+abbrev pub is_flagged : Option Text → Bool
+is_flagged None = false
+is_flagged (Some text) = bytes_eq text (codes "true")
+
+-- the matches ask for these settings and this grammar
+pub record Ask (rows : List Row) (asked : Asked) : Type 0 where
+  pub mode : asked.settings.mode ≡ mode_named (first_of (codes "mode") rows)
+  pub limit : (text : Text) × (one_of (codes "limit") rows ≡ Some text) × IsLimitText text
+      × (asked.settings.limit ≡ digits_value 10 (without_leading_plus text))
+  pub start : option_map (λ s. s.now) asked.settings.start ≡ first_of (codes "start") rows
+  pub raw : asked.settings.raw ≡ is_flagged (one_of (codes "raw") rows)
+  pub grammar : first_of (codes "grammar") rows ≡ Some asked.path.now

@@ -2,7 +2,7 @@
 use Rattle.std.specs.Prelude.{List, [], ◌∷◌, Some, true, codes, pos}
 use Rattle.std.specs.Borrow.{Bor}
 use Rattle.clap.specs.Words.{App, Rule, Text, new_app, new_rule, with_rule}
-use Rattle.clap.specs.declared.builder.action.ArgAction.TheVariants.{SetTrue}
+use Rattle.clap.specs.declared.builder.action.ArgAction.TheVariants.{Set, SetTrue}
 use Rattle.clap.specs.declared.builder.value_parser.ValueParser.TheVariants as vp
 
 -- the names of the modes
@@ -23,6 +23,7 @@ abbrev pub limit_rule : Rule
 limit_rule = record (new_rule (codes "limit")) {
   short = Some 108;
   value_names = 1;
+  action = Some Set;
   parser = Some (vp.Signed (pos 1) (pos 16777216));
   defaults = codes "65536" ∷ [];
 }
@@ -33,11 +34,11 @@ start_rule = record (new_rule (codes "start")) { short = Some 115; value_names =
 
 -- `-r`
 abbrev pub raw_rule : Rule
-raw_rule = record (new_rule (codes "raw")) { short = Some 114; action = Some SetTrue }
+raw_rule = record (new_rule (codes "raw")) { short = Some 114; action = Some SetTrue; parser = Some vp.Bool }
 
 -- the one word that is no option
 abbrev pub grammar_rule : Rule
-grammar_rule = record (new_rule (codes "grammar")) { value_names = 1; required = true }
+grammar_rule = record (new_rule (codes "grammar")) { value_names = 1; action = Some Set; required = true }
 
 -- the command, with its modes under these names
 abbrev pub pegi_app : Bor (List (Bor Text)) → App

@@ -1,6 +1,7 @@
 //! The command of `pegi`.
 ghost use Rattle.std.specs.Prelude.{◌≡◌, IfOk, false, true, map};
-ghost use Rattle.clap.specs.Words.{app_of, is_simple, is_simple_and_free, rule_of};
+ghost use Rattle.clap.specs.Words.{app_of, found_of, is_simple, is_simple_and_free, rule_of};
+ghost use Rattle.commands.specs.Asked.{AreWhole};
 ghost use Rattle.commands.specs.Command.{grammar_rule, limit_rule, mode_rule, pegi_app, raw_rule, start_rule};
 ghost use Rattle.commands.specs.Parsing.{AreModes, Parses};
 
@@ -38,6 +39,7 @@ fn limit_arg<'a>(alloc: Global) -> Arg<'a>
     Arg::new(alloc, "limit")
         .short('l')
         .value_name("N")
+        .action(ArgAction::Set)
         .help("How many bytes a unit may look at, from 1 to 16777216")
         .value_parser(value_parser!(u32).range(1..=16_777_216))
         .default_value("65536")
@@ -60,7 +62,8 @@ fn raw_arg<'a>(alloc: Global) -> Arg<'a>
     Arg::new(alloc, "raw")
         .short('r')
         .action(ArgAction::SetTrue)
-        .help("Print actions as they stand, neither trimmed nor on lines of their own")
+        .value_parser(value_parser!(bool))
+        .help("Print actions neither trimmed nor each on a line of its own")
 }
 
 fn grammar_arg<'a>(alloc: Global) -> Arg<'a>
@@ -69,6 +72,7 @@ fn grammar_arg<'a>(alloc: Global) -> Arg<'a>
 {
     Arg::new(alloc, "grammar")
         .value_name("GRAMMAR")
+        .action(ArgAction::Set)
         .help("The file of the grammar, at most 1048576 bytes")
         .required(true)
 }
@@ -97,6 +101,7 @@ pub fn is_a_simple_command()
 /// The error holds the help that was asked for, or what is wrong with the words, or want of memory.
 pub fn parse<'a, S: AsStr>(alloc: Global, words: &'a [S]) -> Result<ArgMatches<'a>, Error>
     ensures parses { (names : _) × AreModes names × Parses names (map S.text words.entry.now) result }
+    ensures whole { IfOk result (λ m. AreWhole (found_of m)) }
 {
     let command = match pegi_command(alloc) {
         Ok(command) => command,

@@ -1,15 +1,19 @@
 //! The end of a program whose words were not parsed.
-ghost use Rattle.std.specs.Prelude.{◌≡◌, ◌⊎◌, ◌≤◌, false, true};
+ghost use Rattle.std.specs.Prelude.{◌≡◌, ◌⊎◌, ◌≤◌, IfOk, false, true};
 ghost use Rattle.std.specs.Io.KnownBytes.{Keeps};
 ghost use Rattle.clap.specs.Words.{kind_of};
 ghost use Rattle.commands.specs.Parsing.{EndsAs, IsNoHelp};
 ghost use Rattle.gramtools.specs.Status.{code_of};
 
+use crate::command::pegi_command;
 use clap::Error;
 use clap::error::ErrorKind;
 use gramtools::{DEFAULT_LIMIT, Status, Stop, close_run, end_run};
 use ruletable::{Sink, write_whole};
-use std::alloc::Global;
+use std::alloc::{AllocError, Global};
+
+/// What is told of a word that is no UTF-8 text.
+const INVALID_UTF8: &str = "invalid UTF-8 was detected in one or more arguments";
 
 /// Tells on the error output what is wrong with the words.
 fn tell_fault<O: Sink, E: Sink>(text: &str, out: &mut O, err: &mut E) -> Status
@@ -65,5 +69,28 @@ pub fn end_unparsed<O: Sink, E: Sink>(
         tell_fault(text.as_str(), out, err)
     } else {
         show_help(text.as_str(), out, err)
+    }
+}
+
+/// The error of words that are not all UTF-8 text, in the form of the errors of a parse.
+fn invalid_utf8(alloc: Global) -> Result<Error, AllocError>
+    ensures kind { IfOk result (λ e. kind_of e ≡ ErrorKind.ValueValidation) }
+{
+    let mut command = pegi_command(alloc)?;
+    command.error(ErrorKind::ValueValidation, INVALID_UTF8)
+}
+
+/// Ends a program whose words are not all UTF-8 text: that is told on `err`, `Refused`. Where a growth was refused,
+/// `out of memory`, `NoMemory`.
+pub fn refuse_invalid_utf8<O: Sink, E: Sink>(alloc: Global, out: &mut O, err: &mut E) -> Status
+    requires out_is_fresh { O.failed out.old ≡ false }
+    requires err_is_fresh { E.failed err.old ≡ false }
+    ensures kept { Keeps (O.contents out.old) (O.contents out.new) }
+    ensures refused { EndsAs (O.failed out.new) (E.failed err.new) Status.Refused result }
+    ensures failed { (O.failed out.new ≡ true) ⊎ (E.failed err.new ≡ true) → 4 ≤ code_of result }
+{
+    match invalid_utf8(alloc) {
+        Ok(error) => end_unparsed(alloc, &error, out, err),
+        Err(_) => end_run(Ok(Stop::NoMemory), DEFAULT_LIMIT, out, err),
     }
 }

@@ -1,8 +1,10 @@
-//! The command lines of both grammar tools, and the bodies of their mains.
+//! The command line of `pegi`, and the body of its main.
 #![tactic(auto)]
 
 mod command;
 mod fault;
+#[cfg(test)]
+mod grammar_tests;
 mod mains;
 mod reading;
 #[cfg(test)]
@@ -12,5 +14,6 @@ mod settings;
 mod tests;
 
 pub use command::{is_a_simple_command, parse, pegi_command};
+pub use fault::refuse_invalid_utf8;
 pub use mains::pegi_main;
-pub use settings::settings_of;
+pub use settings::{Asked, read_words, settings_of};

@@ -1,14 +1,13 @@
-//! The bodies of the programs' mains.
+//! The body of the program's main.
 ghost use Rattle.std.specs.Prelude.{◌≡◌, false, map, string_bytes};
 ghost use Rattle.std.specs.Io.KnownBytes.{Keeps};
 ghost use Rattle.clap.specs.Words.{fault_of};
 ghost use Rattle.commands.specs.Command.{pegi_app};
 ghost use Rattle.commands.specs.Parsing.{Answers, AreModes, EndsAs};
 
-use crate::command::parse;
 use crate::fault::end_unparsed;
 use crate::reading::read_grammar;
-use crate::settings::settings_of;
+use crate::settings::{Asked, read_words};
 use gramtools::{Source, Status, Stop, end_run, run_peg};
 use ruletable::Sink;
 use std::io::ErrorKind;
@@ -36,13 +35,10 @@ pub fn pegi_main<R: Files + AllocGlobal, I: Source, O: Sink, E: Sink>(
         EndsAs (O.failed out.new) (E.failed err.new) Status.Refused result)
         (Keeps (I.remaining reader.old) (I.remaining reader.new) × EndsAs (O.failed out.new) (E.failed err.new) Status.Done result) }
 {
-    let matches = match parse(rt.alloc(), words) {
-        Ok(matches) => matches,
+    let Asked { settings, path } = match read_words(rt.alloc(), words) {
+        Ok(asked) => asked,
         Err(error) => return end_unparsed(rt.alloc(), &error, out, err),
     };
-    let settings = settings_of(&matches);
-    // a parse that succeeds has the word
-    let path = matches.get_str("grammar").unwrap_or("");
     match read_grammar(rt, path) {
         Ok(grammar) => run_peg(rt.alloc(), grammar.as_slice(), &settings, reader, out, err),
         Err(fault) if fault.kind() == ErrorKind::OutOfMemory => {

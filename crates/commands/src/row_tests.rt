@@ -7,7 +7,7 @@ use std::rt::Files;
 use std::test::Fail;
 
 /// A grammar, the options, an input, and what is to come of it on both outputs.
-type Row = (
+pub type Row = (
     &'static str,
     &'static [&'static str],
     &'static [u8],
@@ -16,7 +16,7 @@ type Row = (
 );
 
 /// Each row ends with this status and has written what is to come.
-fn check_rows<R: Files + Abort + AllocGlobal>(
+pub fn check_rows<R: Files + Abort + AllocGlobal>(
     rt: &R,
     file: &str,
     status: Status,

@@ -1,10 +1,15 @@
 //! The settings that the words ask for.
-ghost use Rattle.std.specs.Prelude.{◌≡◌, ◌≤◌, codes, option_map};
-ghost use Rattle.clap.specs.Words.{first_value, found_of, one_text};
-ghost use Rattle.commands.specs.Asked.{IsFlagOf, IsLimitOf, mode_named};
+ghost use Rattle.std.specs.Prelude.{◌≡◌, ◌≤◌, MatchResult, [], codes, map, option_map};
+ghost use Rattle.clap.specs.Words.{HasKind, fault_of, first_value, found_of, matches_of, one_text};
+ghost use Rattle.commands.specs.Asked.{Ask, IsFlagOf, IsLimitOf, mode_named};
+ghost use Rattle.commands.specs.Command.{pegi_app};
+ghost use Rattle.commands.specs.Parsing.{AreModes};
 
-use clap::ArgMatches;
+use crate::command::parse;
+use clap::{ArgMatches, Error};
 use gramtools::{DEFAULT_LIMIT, MAX_LIMIT, Mode, Settings};
+use std::alloc::Global;
+use std::convert::AsStr;
 
 fn mode_of(matches: &ArgMatches<'_>) -> Mode
     ensures { result ≡ mode_named (first_value (found_of matches.now) (codes "mode")) }
@@ -40,4 +45,31 @@ pub fn settings_of<'a>(matches: &ArgMatches<'a>) -> Settings<'a>
         start: matches.get_str("start"),
         raw: matches.get_flag("raw"),
     }
+}
+
+/// What the words of a command line ask for.
+#[derive(Drop)]
+pub struct Asked<'a> {
+    /// How the grammar is run.
+    pub settings: Settings<'a>,
+    /// The file of the grammar.
+    pub path: &'a str,
+}
+
+/// Reads the words of a command line, the program's name first.
+///
+/// The error is that of `parse`.
+pub fn read_words<'a, S: AsStr>(alloc: Global, words: &'a [S]) -> Result<Asked<'a>, Error>
+    ensures asked { (names : _) × AreModes names × MatchResult result
+        (λ a. (fault_of (pegi_app names) (map S.text words.entry.now) ≡ []) ×
+        Ask (matches_of (pegi_app names) (map S.text words.entry.now)) a)
+        (HasKind (fault_of (pegi_app names) (map S.text words.entry.now))) }
+{
+    let matches = match parse(alloc, words) {
+        Ok(matches) => matches,
+        Err(error) => return Err(error),
+    };
+    let settings = settings_of(&matches);
+    let path = matches.get_str("grammar").unwrap();
+    Ok(Asked { settings, path })
 }

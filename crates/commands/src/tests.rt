@@ -1,6 +1,6 @@
 //! The program's words, its files, and what it writes, over readers and writers in memory.
 
-use crate::{parse, pegi_main, settings_of};
+use crate::{Asked, parse, pegi_main, read_words, refuse_invalid_utf8, settings_of};
 use gramtools::{Mode, SourceOf, Status};
 use ruletable::SinkOf;
 use std::alloc::Global;
@@ -47,7 +47,7 @@ const LETTERS: &str = "pegi_command_letters.peg";
 /// Words that are wrong are told on the error output alone.
 #[test]
 fn refuses_words(rt: HostRuntime) -> Result<(), Fail> {
-    let rows: [&[&str]; 14] = [
+    let rows: [&[&str]; 15] = [
         &[],
         &["-l", "0", "g"],
         &["-l", "16777217", "g"],
@@ -60,6 +60,7 @@ fn refuses_words(rt: HostRuntime) -> Result<(), Fail> {
         &["g", "h"],
         &["-x", "g"],
         &["-s", "-x", "g"],
+        &["-s", "S", "-s", "S", "g"],
         &["-r", "-r", "g"],
         &["-u", "utf8", "g"],
     ];
@@ -69,6 +70,21 @@ fn refuses_words(rt: HostRuntime) -> Result<(), Fail> {
         assert!(rt; ran.out.is_empty(), "row {i}");
         assert!(rt; !ran.err.is_empty(), "row {i}");
     }
+    Ok(())
+}
+
+/// What is told of words that are no text: the words of the library `clap` for that.
+const INVALID_UTF8: &str =
+    "error: invalid UTF-8 was detected in one or more arguments\n\nUsage: pegi [OPTIONS] <GRAMMAR>\n\nFor more information, try '--help'.\n";
+
+#[test]
+fn refuses_words_that_are_no_text(rt: HostRuntime) -> Result<(), Fail> {
+    let mut out = SinkOf::new(Vec::new(rt.alloc()));
+    let mut err = SinkOf::new(Vec::new(rt.alloc()));
+    let status = refuse_invalid_utf8(rt.alloc(), &mut out, &mut err);
+    assert_eq!(rt; status, Status::Refused);
+    assert!(rt; out.into_inner().is_empty());
+    assert!(rt; err.into_inner().as_slice() == INVALID_UTF8.as_bytes());
     Ok(())
 }
 
@@ -182,12 +198,12 @@ fn reads_settings(rt: HostRuntime) -> Result<(), Fail> {
         rt.alloc(),
         &["-m", "check", "-l", "+5", "-s", "T", "-r", "g"],
     )?;
-    let matches = parse(rt.alloc(), words.as_slice())?;
-    let settings = settings_of(&matches);
+    let Asked { settings, path } = read_words(rt.alloc(), words.as_slice())?;
     assert_eq!(rt; settings.mode, Mode::Check);
     assert_eq!(rt; settings.limit, 5);
     assert!(rt; settings.start == Some("T"));
     assert!(rt; settings.raw);
+    assert!(rt; path == "g");
     let words = words_of(rt.alloc(), &["g"])?;
     let matches = parse(rt.alloc(), words.as_slice())?;
     let settings = settings_of(&matches);

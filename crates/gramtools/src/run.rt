@@ -181,8 +181,8 @@ fn run_text<R: Source, O: Sink, E: Sink>(
 /// - Else the notes on it are written on `err`. If one of them refuses it, or it is only to be checked, that is all:
 ///   `Refused`, or `Done`, and nothing is read.
 /// - A unit is one success of the start rule, the one named in the settings or else the first; it begins where the one
-///   before ended, and its actions are printed in order. The run ends where the rule fails or takes no byte: `no match at byte S`, status `NoMatch`, but `Done` at the end of
-///   the input.
+///   before ended, and its actions are printed in order. The run ends where the rule fails or takes no byte:
+///   `no match at byte S`, status `NoMatch`, but `Done` at the end of the input.
 /// - A unit that looks at more than `limit` bytes is not printed: `unit at byte S longer than L bytes`, `Overlong`.
 /// - After a fault of the reader a unit is run only where `limit` + 1 bytes from its place on were read: else
 ///   `read error`, `Fault`. So is an input of 9,223,372,036,854,775,807 bytes taken to end.

@@ -1,7 +1,7 @@
 //! Runs a grammar in the syntax of peg(1) on its standard input.
 #![tactic(auto)]
 
-use commands::pegi_main;
+use commands::{pegi_main, refuse_invalid_utf8};
 use gramtools::{SourceOf, Status};
 use ruletable::SinkOf;
 use std::io::{BufWriter, ErrorKind};
@@ -21,18 +21,21 @@ fn without_memory(rt: &impl Eprint) -> ExitCode {
 }
 
 fn main(rt: HostRuntime) -> ExitCode {
+    let Ok(buffered) = BufWriter::new(rt.alloc(), rt.stdout()) else {
+        return without_memory(&rt);
+    };
+    let mut out = SinkOf::new(buffered);
+    let mut err = SinkOf::new(rt.stderr());
     let words = match words_of(&rt) {
         Ok(words) => words,
         Err(fault) if fault.kind() == ErrorKind::OutOfMemory => return without_memory(&rt),
         // a word that is no text
-        Err(_) => return ExitCode::from(Status::Refused.code()),
-    };
-    let Ok(buffered) = BufWriter::new(rt.alloc(), rt.stdout()) else {
-        return without_memory(&rt);
+        Err(_) => {
+            let status = refuse_invalid_utf8(rt.alloc(), &mut out, &mut err);
+            return ExitCode::from(status.code());
+        }
     };
     let mut reader = SourceOf::new(rt.stdin());
-    let mut out = SinkOf::new(buffered);
-    let mut err = SinkOf::new(rt.stderr());
     let status = pegi_main(&rt, words.as_slice(), &mut reader, &mut out, &mut err);
     ExitCode::from(status.code())
 }

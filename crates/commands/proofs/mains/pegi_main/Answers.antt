@@ -7,7 +7,7 @@ use Rattle.commands.proofs.mains.pegi_main.Goals as goal
 
 pub returns-in-Err : goal.returns-in-Err
 returns-in-Err g c =
-    let said = c.in-Err.ensures.parses in
+    let said = c.in-Err.ensures.asked in
     let end = c.end_unparsed.ensures in
     record {
       words = (
