@@ -19,7 +19,8 @@ pub fn one_outcome_of_start()
         RuleGives rules start x o k → RuleGives rules start x c j → (o ≡ c) × (k ≡ j) }
 {}
 
-/// The places of a success's events stand in order, between where it begins and where it ends, and it ends within the input.
+/// The places of a success's events stand in order, between where it begins and where it ends, and it ends within the
+/// input.
 pub fn events_rise()
     ensures { (rules : List Rule) (x : List ℕ) (e : Pattern) (p q k : ℕ) (events : List Event) →
         p ≤ length x → Gives rules x e p (Outcome.Takes q events) k → Rise p q events × (q ≤ length x) }
@@ -31,25 +32,29 @@ pub fn events_rise_of_start()
         RuleGives rules start x (Outcome.Takes q events) k → Rise 0 q events × (q ≤ length x) }
 {}
 
-/// What an expression gives before it has looked at the input's last byte, it gives on every input that begins with this one.
+/// What an expression gives before it has looked at the input's last byte, it gives on every input that begins with this
+/// one.
 pub fn longer_input()
     ensures { (rules : List Rule) (x y : List ℕ) (e : Pattern) (p k : ℕ) (o : Outcome) →
         p < length x → k < length x → Gives rules x e p o k → Gives rules (x ++ y) e p o k }
 {}
 
-/// What a start rule gives before it has looked at the input's last byte, it gives on every input that begins with this one.
+/// What a start rule gives before it has looked at the input's last byte, it gives on every input that begins with this
+/// one.
 pub fn longer_input_of_start()
     ensures { (rules : List Rule) (start : ℕ) (x y : List ℕ) (k : ℕ) (o : Outcome) →
         k < length x → RuleGives rules start x o k → RuleGives rules start (x ++ y) o k }
 {}
 
-/// What an expression gives before it has looked at the last byte of a text with which the input begins, it gives on that text alone.
+/// What an expression gives before it has looked at the last byte of a text with which the input begins, it gives on that
+/// text alone.
 pub fn shorter_input()
     ensures { (rules : List Rule) (x y : List ℕ) (e : Pattern) (p k : ℕ) (o : Outcome) →
         k < length x → Gives rules (x ++ y) e p o k → Gives rules x e p o k }
 {}
 
-/// What a start rule gives before it has looked at the last byte of a text with which the input begins, it gives on that text alone.
+/// What a start rule gives before it has looked at the last byte of a text with which the input begins, it gives on that
+/// text alone.
 pub fn shorter_input_of_start()
     ensures { (rules : List Rule) (start : ℕ) (x y : List ℕ) (k : ℕ) (o : Outcome) →
         k < length x → RuleGives rules start (x ++ y) o k → RuleGives rules start x o k }

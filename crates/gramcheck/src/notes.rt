@@ -95,8 +95,8 @@ fn marks_of(alloc: Global, ids: &[usize], count: usize) -> Result<Vec<bool>, Mem
     Ok(marks)
 }
 
-/// The notes on a grammar, in order: on rules that are defined again, which are those with the ids in `redefined`, on names that no rule has, on rules
-/// that are not used, and on those marked as left-recursive and as looping.
+/// The notes on a grammar, in order: on rules that are defined again, which are those with the ids in `redefined`, on names
+/// that no rule has, on rules that are not used, and on those marked as left-recursive and as looping.
 ///
 /// `Memory` where a growth was refused.
 pub(crate) fn notes(

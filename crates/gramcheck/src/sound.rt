@@ -96,7 +96,8 @@ impl SoundPeg {
         &self.nodes[n]
     }
 
-    /// The rank of the node of that number, which must be less than `nodes()`: at most the number of nodes, and lower after each left step.
+    /// The rank of the node of that number, which must be less than `nodes()`: at most the number of nodes, and lower after
+    /// each left step.
     pub fn rank(&self, n: usize) -> usize
         requires { n < length self.now.nodes }
         ensures { slice_get self.now.ranks n ≡ Some result }

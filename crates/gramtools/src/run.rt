@@ -171,8 +171,8 @@ fn run_text<R: Source, O: Sink, E: Sink>(
     }
 }
 
-/// Runs a grammar on what a reader gives: prints the texts of its units on `out` and writes why it stopped on `err`. None of
-/// the three may have failed before.
+/// Runs a grammar on what a reader gives: prints the texts of its units on `out` and writes why it stopped on `err`. None
+/// of the three may have failed before.
 ///
 /// - The grammar is in the syntax of peg(1). One that has a fault is told by that fault's line, status `Refused`, and
 ///   nothing is read.

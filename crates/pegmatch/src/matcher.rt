@@ -12,7 +12,8 @@ use thiserror::Error;
 /// What the start rule gives at the front of a window.
 #[derive(Clone, Copy, Debug, PartialEq, Eq)]
 pub enum Unit {
-    /// It succeeds: how many bytes it takes, and how many evaluations were begun, which is at least 1 and stays at the greatest number.
+    /// It succeeds: how many bytes it takes, and how many evaluations were begun, which is at least 1 and stays at the
+    /// greatest number.
     Took { end: usize, begun: u128 },
     /// It fails: how many evaluations were begun.
     Failed { begun: u128 },

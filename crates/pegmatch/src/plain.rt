@@ -18,7 +18,8 @@ use std::marker::Model;
 
 /// A matcher that evaluates anew whatever is asked. It is seen as the events that it keeps of its last success.
 ///
-/// It recurses as deep as operands and names stand in one another along the input; a repetition goes no deeper with its turns.
+/// It recurses as deep as operands and names stand in one another along the input; a repetition goes no deeper with its
+/// turns.
 #[derive(Drop)]
 pub struct Plain {
     events: Vec<Kept>,

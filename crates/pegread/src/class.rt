@@ -7,8 +7,8 @@ use crate::escape::next_char;
 use crate::literal::inside;
 use ruletable::ByteSet;
 
-/// The set of bytes that a class's slice spells: that of its items, or after a `^` that directly follows the bracket, of all other bytes.
-/// The slice must be one of a class token.
+/// The set of bytes that a class's slice spells: that of its items, or after a `^` that directly follows the bracket, of
+/// all other bytes. The slice must be one of a class token.
 pub fn class_set(slice: &[u8]) -> ByteSet
     requires { IsClass slice.now }
     ensures { SpellsSet slice.now (λ b. get_or result b false) }

@@ -2,8 +2,8 @@
 ghost use Rattle.std.specs.Prelude.{◌≡◌, ◌≢◌, ℕ, ◌+◌, ◌≤◌, [], ◌∷◌, MatchOption};
 ghost use Rattle.pegread.specs.Chars.{Octal, Hex, Letter, DigitFirst, NoDigit, Char, SpellsNone};
 
-/// The byte that is spelled at the front of a text, and what stands behind its spelling: the longest that peg(1) knows there.
-/// `None` exactly for the empty text and for a backslash alone.
+/// The byte that is spelled at the front of a text, and what stands behind its spelling: the longest that peg(1) knows
+/// there. `None` exactly for the empty text and for a backslash alone.
 pub fn next_char(text: &[u8]) -> Option<(u8, &[u8])>
     ensures { MatchOption result (SpellsNone text.now) (λ x. Char text.now x.1.now x.0) }
 {

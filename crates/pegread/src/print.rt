@@ -129,12 +129,12 @@ fn print_definition<W: Sink>(name: &[u8], body: &Expr, w: &mut W) -> Result<(), 
     }
 }
 
-/// Writes a grammar's canonical text: each rule in order, with no parentheses but those that it needs. `WriteFault` where the
-/// writer fails; then a beginning of the text is written.
+/// Writes a grammar's canonical text: each rule in order, with no parentheses but those that it needs. `WriteFault` where
+/// the writer fails; then a beginning of the text is written.
 ///
-/// Where the grammar was read from some text, no name is defined again, and the canonical text has at most `MAX_GRAMMAR` bytes,
-/// that text reads as the same rules, but for their spans, and as nothing else. It takes no memory, and recurses no deeper than
-/// the expressions.
+/// Where the grammar was read from some text, no name is defined again, and the canonical text has at most `MAX_GRAMMAR`
+/// bytes, that text reads as the same rules, but for their spans, and as nothing else. It takes no memory, and recurses no
+/// deeper than the expressions.
 pub fn print_peg<W: Sink>(peg: &Peg, w: &mut W) -> Result<(), WriteFault>
     ensures bytes { Writes (W.contents w.old) (W.contents w.new) (canon.grammar_text (rules_of peg.now.rules)) result }
     ensures flag { Flags (W.failed w.old) (W.failed w.new) result }
@@ -150,9 +150,9 @@ pub fn print_peg<W: Sink>(peg: &Peg, w: &mut W) -> Result<(), WriteFault>
 }
 
 /// Laws of canonical texts. What a text reads as, its canonical text reads as too, but for spans, and as nothing else; no
-/// bracket is too many. The canonical text tells nothing of spans, so that of a canonical text is itself. And what a text reads
-/// as is formed: names are names, the braces of templates match, no sequence has one member, and no choice fewer than two
-/// alternatives.
+/// bracket is too many. The canonical text tells nothing of spans, so that of a canonical text is itself. And what a text
+/// reads as is formed: names are names, the braces of templates match, no sequence has one member, and no choice fewer than
+/// two alternatives.
 pub fn is_read_back()
     ensures read_back { ReadBack }
     ensures spans { SpansUnseen }

@@ -64,7 +64,8 @@ pub(crate) struct Level {
     prefix: Prefix,
 }
 
-/// The definitions that ended, the name of the one that goes on and where it stands, the expressions round open brackets, and the innermost one.
+/// The definitions that ended, the name of the one that goes on and where it stands, the expressions round open brackets,
+/// and the innermost one.
 #[derive(Drop)]
 pub(crate) struct Body<'a> {
     definitions: Vec<Definition<'a>>,

@@ -5,7 +5,8 @@ ghost use Rattle.pegread.specs.Kinds.{is_end as end_kind};
 use crate::lexing::{after_white, first_token};
 use ruletable::Span;
 
-/// What a token is (peg(1) manual, "PEG GRAMMARS"). White space, which is space, tab, LF, CR and comments from `#` to the end of the line, only separates tokens.
+/// What a token is (peg(1) manual, "PEG GRAMMARS"). White space, which is space, tab, LF, CR and comments from `#` to the
+/// end of the line, only separates tokens.
 #[derive(Clone, Copy, Debug, PartialEq, Eq)]
 pub enum Kind {
     /// A name: a letter or `_`, then letters, digits and `_`.

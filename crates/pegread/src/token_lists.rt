@@ -30,8 +30,8 @@ pub fn have_tokens(text: &[u8])
     for _token in tokens(text) {}
 }
 
-/// A law: the slice of a name, a literal, a class or an action is one by itself, whatever stands behind it. That of an action is
-/// some text between two braces.
+/// A law: the slice of a name, a literal, a class or an action is one by itself, whatever stands behind it. That of an
+/// action is some text between two braces.
 pub fn are_marked()
     ensures name { (total : ℕ) (t r z : List ℕ) (p : Span) → Next total t (tok Ident z p) r → IsName z }
     ensures literal { (total : ℕ) (t r z : List ℕ) (p : Span) → Next total t (tok Literal z p) r → IsLiteral z }

@@ -13,7 +13,8 @@ use crate::token_iter::{Kind, Token};
 use ruletable::{ByteSet, Memory, Span};
 use std::alloc::Global;
 
-/// A token as far as a grammar goes: its kind, with a name and where it stands, a literal's bytes, a class's members, or an action's template.
+/// A token as far as a grammar goes: its kind, with a name and where it stands, a literal's bytes, a class's members, or an
+/// action's template.
 #[derive(Drop)]
 pub(crate) enum Word<'a> {
     Ident(&'a [u8], Span),

@@ -141,7 +141,8 @@ impl<E> RuleTable<E> {
         row.span
     }
 
-    /// The body of the rule with that id, to write. There must be such a rule. The names, the spans and the other bodies stay.
+    /// The body of the rule with that id, to write. There must be such a rule. The names, the spans and the other bodies
+    /// stay.
     pub fn body_mut(&mut self, id: usize) -> &mut E
         requires { id < length self.old.rules }
         ensures* writes_back { sem 𝓛 (LendsBody E.row self.entry id result) }
