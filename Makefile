@@ -1,12 +1,13 @@
 # Proves, builds and tests the tools. Needs the Rattle toolchain's command `rt` and nothing else.
 
-.PHONY: all programs example examples install test check clean
+.PHONY: all programs example examples install test check edits clean
 
 all: programs example
 
-# Proves what the programs stand on, builds them, and puts them into bin/.
+# Proves the libraries that the programs stand on, builds the programs, and puts them into bin/.
 programs:
-	@echo "proving and building pegi (a first time takes some minutes)"
+	@python3 -B scripts/prove.py pegi
+	@echo "pegi: proving and building"
 	@cd crates/pegi && rt run -- ../../examples/username/username.peg \
 	    < ../../examples/username/letter.txt > out.log 2>&1 \
 	    || { cat out.log; exit 1; }
@@ -37,7 +38,12 @@ install: programs
 
 # The gate: every proof from nothing, the edits that the prover must refuse, tests and programs.
 test:
+	@python3 -B scripts/edit_index.py -q
 	rt ci
+
+# The edits that the prover must refuse, crate by crate.
+edits:
+	@python3 -B scripts/edit_index.py
 
 # Every proof, over what earlier checks kept.
 check:

@@ -1,5 +1,5 @@
 #!/usr/bin/env python3
-"""Prints crates/gramtools/src/tests/examples.rt: a test for each folder of examples/, which holds its texts word for word.
+"""Prints crates/gramtools/src/tests/examples.rt: a test of the folders of examples/, which holds their texts word for word.
 
 With the word `check` it compares the file with what it would print, and prints nothing.
 """
@@ -12,15 +12,26 @@ inputs = {"calculator": "input.txt", "csv": "input.txt", "json": "input.txt", "p
 
 HEAD = '''//! The folders of `examples/`, word for word: `scripts/example_tests.py` wrote this file.
 
-use super::forms::check_prints;
-use std::test::Fail;
+use super::{Row, check_rows};
+use crate::{DEFAULT_LIMIT, Status};
+use std::process::Abort;
+
+/// Checks that a grammar takes all of an input, prints this and tells nothing.
+fn check<R: Abort + AllocGlobal>(
+    rt: &R,
+    grammar: &'static [u8],
+    input: &'static [u8],
+    printed: &'static [u8],
+) {
+    let row: Row = (grammar, DEFAULT_LIMIT, input, printed, b"", Status::Done, 0);
+    check_rows(rt, false, &[row]);
+}
 '''
 
 TEST = '''
 #[test]
-fn {name}(rt: HostRuntime) -> Result<(), Fail> {{
-    check_prints({arguments})
-}}
+fn examples_print_what_they_must(rt: HostRuntime) {{
+{calls}}}
 '''
 
 
@@ -32,13 +43,13 @@ def constant(name, path):
     return f"\n{begin}" + ("\n    " if narrow else " ") + literal + "\n"
 
 
-def laid_out(arguments):
-    line = ", ".join(arguments)
-    return line if len(line) <= 60 else "".join(f"\n        {it}," for it in arguments) + "\n    "
+def call(arguments):
+    line = f"    check({', '.join(arguments)});\n"
+    return line if len(line) <= 70 else "    check(\n" + "".join(f"        {it},\n" for it in arguments) + "    );\n"
 
 
 def whole():
-    parts = [HEAD]
+    parts, calls = [HEAD], []
     for name, given in inputs.items():
         folder, high = top / "examples" / name, name.upper()
         grammar, printed = f"{high}_GRAMMAR", f"{high}_PRINTED"
@@ -47,9 +58,8 @@ def whole():
         if own_input:
             parts.append(constant(f"{high}_INPUT", folder / given))
         parts.append(constant(printed, folder / "printed.txt"))
-        arguments = ["&rt", grammar, f"{high}_INPUT" if own_input else grammar, printed]
-        parts.append(TEST.format(name=name, arguments=laid_out(arguments)))
-    return "".join(parts)
+        calls.append(call(["&rt", grammar, f"{high}_INPUT" if own_input else grammar, printed]))
+    return "".join(parts) + TEST.format(calls="".join(calls))
 
 
 if sys.argv[1:] == ["check"]:

@@ -3,8 +3,6 @@
 
 mod command;
 mod fault;
-#[cfg(test)]
-mod grammar_tests;
 mod mains;
 mod reading;
 #[cfg(test)]

@@ -1,11 +1,13 @@
 //! The program's words, its files, and what it writes, over readers and writers in memory.
 
-use crate::{Asked, parse, pegi_main, read_words, refuse_invalid_utf8, settings_of};
+use crate::{
+    Asked, is_a_simple_command, parse, pegi_command, pegi_main, read_words, refuse_invalid_utf8,
+    settings_of,
+};
 use gramtools::{Mode, SourceOf, Status};
 use ruletable::SinkOf;
 use std::alloc::Global;
 use std::fs;
-use std::process::Abort;
 use std::rt::Files;
 use std::test::Fail;
 
@@ -41,34 +43,44 @@ fn run<R: Files + AllocGlobal>(rt: &R, rest: &[&str], input: &[u8]) -> Result<Ra
     })
 }
 
-/// A file for the grammar of some letters.
-const LETTERS: &str = "pegi_command_letters.peg";
+/// Words on which no grammar runs, the status, and what is told, if it is not in the words of `clap`.
+static WORDS: [(&[&str], Status, &[u8]); 18] = [
+    (&[], Status::Refused, b""),
+    (&["-l", "0", "g"], Status::Refused, b""),
+    (&["-l", "16777217", "g"], Status::Refused, b""),
+    (&["-l", "-1", "g"], Status::Refused, b""),
+    (&["-l", "many", "g"], Status::Refused, b""),
+    (&["-l", "", "g"], Status::Refused, b""),
+    (&["-l", "1", "-l", "2", "g"], Status::Refused, b""),
+    (&["-m", "emit", "g"], Status::Refused, b""),
+    (&["-m", "check", "-m", "check", "g"], Status::Refused, b""),
+    (&["g", "h"], Status::Refused, b""),
+    (&["-x", "g"], Status::Refused, b""),
+    (&["-s", "-x", "g"], Status::Refused, b""),
+    (&["-s", "S", "-s", "S", "g"], Status::Refused, b""),
+    (&["-r", "-r", "g"], Status::Refused, b""),
+    (&["-u", "utf8", "g"], Status::Refused, b""),
+    (&["-h"], Status::Done, b""),
+    (
+        &["no/such/grammar.peg"],
+        Status::Fault,
+        b"cannot read the grammar\n",
+    ),
+    (&["."], Status::Fault, b"cannot read the grammar\n"),
+];
 
-/// Words that are wrong are told on the error output alone.
+/// Help goes to the output, and all else to the error output.
 #[test]
-fn refuses_words(rt: HostRuntime) -> Result<(), Fail> {
-    let rows: [&[&str]; 15] = [
-        &[],
-        &["-l", "0", "g"],
-        &["-l", "16777217", "g"],
-        &["-l", "-1", "g"],
-        &["-l", "many", "g"],
-        &["-l", "", "g"],
-        &["-l", "1", "-l", "2", "g"],
-        &["-m", "emit", "g"],
-        &["-m", "check", "-m", "check", "g"],
-        &["g", "h"],
-        &["-x", "g"],
-        &["-s", "-x", "g"],
-        &["-s", "S", "-s", "S", "g"],
-        &["-r", "-r", "g"],
-        &["-u", "utf8", "g"],
-    ];
-    for (i, row) in rows.iter().enumerate() {
-        let ran = run(&rt, row, b"input")?;
-        assert_eq!(rt; ran.status, Status::Refused, "row {i}");
-        assert!(rt; ran.out.is_empty(), "row {i}");
-        assert!(rt; !ran.err.is_empty(), "row {i}");
+fn ends_without_a_run(rt: HostRuntime) -> Result<(), Fail> {
+    for (i, (words, status, told)) in WORDS.iter().enumerate() {
+        let ran = run(&rt, words, b"input")?;
+        let is_help = *status == Status::Done;
+        assert!(rt; ran.status == *status, "row {i}");
+        assert!(rt;
+            ran.err.is_empty() == is_help && ran.out.is_empty() != is_help,
+            "row {i}"
+        );
+        assert!(rt; told.is_empty() || ran.err.as_slice() == *told, "row {i}");
     }
     Ok(())
 }
@@ -78,37 +90,14 @@ const INVALID_UTF8: &str =
     "error: invalid UTF-8 was detected in one or more arguments\n\nUsage: pegi [OPTIONS] <GRAMMAR>\n\nFor more information, try '--help'.\n";
 
 #[test]
-fn refuses_words_that_are_no_text(rt: HostRuntime) -> Result<(), Fail> {
+fn refuses_words_that_are_no_text(rt: HostRuntime) {
     let mut out = SinkOf::new(Vec::new(rt.alloc()));
     let mut err = SinkOf::new(Vec::new(rt.alloc()));
     let status = refuse_invalid_utf8(rt.alloc(), &mut out, &mut err);
-    assert_eq!(rt; status, Status::Refused);
-    assert!(rt; out.into_inner().is_empty());
+    assert!(rt; status == Status::Refused && out.into_inner().is_empty());
     assert!(rt; err.into_inner().as_slice() == INVALID_UTF8.as_bytes());
-    Ok(())
-}
-
-#[test]
-fn shows_help(rt: HostRuntime) -> Result<(), Fail> {
-    let ran = run(&rt, &["-h"], b"")?;
-    assert_eq!(rt; ran.status, Status::Done);
-    assert!(rt; !ran.out.is_empty());
-    assert!(rt; ran.err.is_empty());
-    Ok(())
-}
-
-#[test]
-fn tells_of_a_file_that_cannot_be_read(rt: HostRuntime) -> Result<(), Fail> {
-    for path in ["no/such/grammar.peg", "."] {
-        let ran = run(&rt, &[path], b"")?;
-        assert_eq!(rt; ran.status, Status::Fault, "{path}");
-        assert!(rt; ran.out.is_empty());
-        assert!(rt;
-            ran.err.as_slice() == b"cannot read the grammar\n".as_slice(),
-            "{path}"
-        );
-    }
-    Ok(())
+    is_a_simple_command();
+    assert!(rt; pegi_command(rt.alloc()).is_ok());
 }
 
 /// Runs the program with these options on this grammar, in a file of its own.
@@ -131,85 +120,16 @@ pub fn run_on<R: Files + AllocGlobal>(
 }
 
 #[test]
-fn runs_what_the_words_ask(rt: HostRuntime) -> Result<(), Fail> {
-    let grammar = "S <- [a-z]* { x }";
-    let rows: [(&[&str], &[u8]); 6] = [
-        (&[], b"x\nx\n"),
-        (&["-m", "check", "-l", "16777216"], b""),
-        (&["-m", "print"], b"S <- [a-z]* { x }\n"),
-        (&["-r"], b" x  x "),
-        (&["-s", "S", "-m", "run"], b"x\nx\n"),
-        (&["-l", "007", "--"], b"x\nx\n"),
-    ];
-    for (i, (options, out)) in rows.iter().enumerate() {
-        let ran = run_on(&rt, LETTERS, grammar, options, b"ab")?;
-        assert!(rt; ran.out.as_slice() == *out, "row {i}");
-        assert!(rt; ran.err.is_empty(), "row {i}");
-        assert_eq!(rt; ran.status, Status::Done, "row {i}");
-    }
-    Ok(())
-}
-
-/// A grammar, the options, what is told, and the status.
-type Told = (&'static str, &'static [&'static str], &'static [u8], Status);
-
-#[test]
-fn tells_what_went_wrong(rt: HostRuntime) -> Result<(), Fail> {
-    let rows: [Told; 6] = [
-        ("", &[], b"line 1: syntax error\n", Status::Refused),
-        (
-            "S <- 'a'",
-            &["-s", "T"],
-            b"rule 'T' used but not defined\nrule 'S' defined but not used\n",
-            Status::Refused,
-        ),
-        (
-            "S <- 'a'",
-            &["-s", ""],
-            b"rule '' used but not defined\nrule 'S' defined but not used\n",
-            Status::Refused,
-        ),
-        (
-            "S <- 'a'",
-            &["-s=-x"],
-            b"rule '-x' used but not defined\nrule 'S' defined but not used\n",
-            Status::Refused,
-        ),
-        ("S <- 'b'", &[], b"no match at byte 0\n", Status::NoMatch),
-        (
-            "S <- 'a' 'b'",
-            &["-l", "1"],
-            b"unit at byte 0 longer than 1 bytes\n",
-            Status::Overlong,
-        ),
-    ];
-    for (i, (grammar, options, err, status)) in rows.iter().enumerate() {
-        let ran = run_on(&rt, "pegi_command_wrong.peg", grammar, options, b"ac")?;
-        assert!(rt; ran.err.as_slice() == *err, "row {i}");
-        assert!(rt; ran.out.is_empty(), "row {i}");
-        assert_eq!(rt; ran.status, *status, "row {i}");
-    }
-    Ok(())
-}
-
-#[test]
 fn reads_settings(rt: HostRuntime) -> Result<(), Fail> {
-    let words = words_of(
-        rt.alloc(),
-        &["-m", "check", "-l", "+5", "-s", "T", "-r", "g"],
-    )?;
+    let rest = ["-m", "check", "-l", "+5", "-s", "T", "-r", "g"];
+    let words = words_of(rt.alloc(), &rest)?;
     let Asked { settings, path } = read_words(rt.alloc(), words.as_slice())?;
-    assert_eq!(rt; settings.mode, Mode::Check);
-    assert_eq!(rt; settings.limit, 5);
-    assert!(rt; settings.start == Some("T"));
-    assert!(rt; settings.raw);
-    assert!(rt; path == "g");
+    assert!(rt; settings.mode == Mode::Check && settings.limit == 5 && settings.raw);
+    assert!(rt; settings.start == Some("T") && path == "g");
     let words = words_of(rt.alloc(), &["g"])?;
     let matches = parse(rt.alloc(), words.as_slice())?;
     let settings = settings_of(&matches);
-    assert_eq!(rt; settings.mode, Mode::Run);
-    assert_eq!(rt; settings.limit, 65_536);
+    assert!(rt; settings.mode == Mode::Run && settings.limit == 65_536 && !settings.raw);
     assert!(rt; settings.start.is_none());
-    assert!(rt; !settings.raw);
     Ok(())
 }

@@ -28,10 +28,3 @@ pub use spelling_laws::{
 };
 pub use token_iter::{Kind, Token, TokenIter};
 pub use token_lists::{are_marked, have_tokens, one_list, tokens, tokens_make_up};
-
-#[cfg(test)]
-mod print_tests;
-#[cfg(test)]
-mod spelling_tests;
-#[cfg(test)]
-mod token_tests;

@@ -138,6 +138,3 @@ pub fn one_tree()
     ensures words { (ts : List Tok) (vs ws : List Word) → SayAll ts vs → SayAll ts ws → vs ≡ ws }
     ensures tree { (ws : List Word) → (a b : List Rule) → Grammar ws a → Grammar ws b → a ≡ b }
 {}
-
-#[cfg(test)]
-mod tests;

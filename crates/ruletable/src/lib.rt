@@ -22,6 +22,3 @@ pub use runs::{Runs, union_of_runs};
 pub use sink::{Sink, SinkOf, WriteFault, write_pieces, write_whole};
 pub use span::Span;
 pub use table::{Defined, NameCase, RuleTable};
-
-#[cfg(test)]
-mod tests;

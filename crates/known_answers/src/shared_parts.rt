@@ -1,0 +1,180 @@
+//! The public calls, on examples whose answers are known from outside.
+ghost use Rattle.std.specs.Prelude.{Some};
+
+use ruletable::{
+    ByteSet, Defined, LineRule, Memory, NameCase, Note, ReadFault, RuleTable, Sink, SinkOf, Span,
+    line_of, union_of_runs, write_fault, write_note, write_number, write_pieces, write_whole,
+};
+use std::alloc::Global;
+use std::io;
+use std::io::Write;
+use std::test::Fail;
+
+// A writer that takes two bytes a call, and three in all. Then it fails, or takes nothing.
+#[derive(Drop)]
+struct Paper {
+    taken: Vec<u8>,
+    fails: bool,
+}
+
+impl Write for Paper {
+    ghost contents = { λ p. Some p.taken.items };
+
+    fn write(&mut self, buf: &[u8]) -> io::Result<usize> {
+        let n = 3usize
+            .saturating_sub(self.taken.len())
+            .min(2)
+            .min(buf.len());
+        if n == 0 && self.fails {
+            return Err(io::Error::other("no more room"));
+        }
+        self.taken.extend_from_slice(&buf[..n])?;
+        Ok(n)
+    }
+
+    fn flush(&mut self) -> io::Result<()> {
+        Err(io::Error::other("no flush"))
+    }
+}
+
+#[test]
+fn a_failing_writer_keeps_a_beginning_and_sets_the_flag(rt: HostRuntime) {
+    for fails in [true, false] {
+        let taken = Vec::new(rt.alloc());
+        let mut sink = SinkOf::new(Paper { taken, fails });
+        assert!(rt; write_whole(&mut sink, b"abcde").is_err() && sink.has_failed());
+        assert!(rt; sink.into_inner().taken.as_slice() == b"abc".as_slice());
+    }
+    let taken = Vec::new(rt.alloc());
+    let mut sink = SinkOf::new(Paper { taken, fails: true });
+    assert!(rt; sink.flush().is_err() && sink.has_failed());
+}
+
+#[test]
+fn writes_numbers_pieces_and_notes(rt: HostRuntime) -> Result<(), Fail> {
+    let mut sink = SinkOf::new(Vec::new(rt.alloc()));
+    write_number(1048577, &mut sink)?;
+    write_pieces(&mut sink, &[b"a", b"", b"bcd"])?;
+    write_note(&Note::Loop(b"x_1".to_vec(rt.alloc())?), &mut sink)?;
+    assert!(rt; sink.flush().is_ok() && !sink.has_failed());
+    let want = b"1048577abcdpossible infinite loop in rule 'x_1'\n";
+    assert!(rt; sink.into_inner().as_slice() == want.as_slice());
+    Ok(())
+}
+
+static FAULTS: [(ReadFault, &[u8]); 6] = [
+    (ReadFault::Syntax { line: 1 }, b"line 1: syntax error\n"),
+    (
+        ReadFault::Depth { line: 20 },
+        b"line 20: nested too deeply\n",
+    ),
+    (
+        ReadFault::CodePredicate { line: 3 },
+        b"line 3: code predicate\n",
+    ),
+    (ReadFault::TooLong, b"grammar too long\n"),
+    (ReadFault::Memory, b"out of memory\n"),
+    (
+        ReadFault::NumberTooLarge { line: 1048577 },
+        b"line 1048577: number too large\n",
+    ),
+];
+
+#[test]
+fn each_fault_has_its_line(rt: HostRuntime) -> Result<(), Fail> {
+    for (fault, text) in &FAULTS {
+        let mut sink = SinkOf::new(Vec::new(rt.alloc()));
+        write_fault(fault, &mut sink)?;
+        assert!(rt; sink.into_inner().as_slice() == *text, "{text:?}");
+    }
+    Ok(())
+}
+
+const FIRST: Span = Span { start: 0, end: 3 };
+
+const SECOND: Span = Span { start: 9, end: 12 };
+
+// Two rules, whose bodies are 1 and 2.
+fn two_rules(alloc: Global, names: NameCase) -> Result<RuleTable<u32>, Memory> {
+    let mut table = RuleTable::new(alloc, names);
+    table.define(b"one", 1, FIRST)?;
+    table.define(b"Two", 2, SECOND)?;
+    Ok(table)
+}
+
+#[test]
+fn finds_and_defines_by_name(rt: HostRuntime) -> Result<(), Fail> {
+    for (names, two, one) in [
+        (NameCase::Exact, None, Defined::Added(2)),
+        (NameCase::Fold, Some(1), Defined::Duplicate(0)),
+    ] {
+        let mut table = two_rules(rt.alloc(), names)?;
+        assert!(rt; table.find(b"one")? == Some(0) && table.find(b"two")? == two);
+        assert_eq!(rt; table.find(b"tw")?, None);
+        assert_eq!(rt; table.define(b"Two", 3, FIRST)?, Defined::Duplicate(1));
+        assert_eq!(rt; table.define(b"ONE", 3, FIRST)?, one);
+    }
+    Ok(())
+}
+
+#[test]
+fn reads_each_part(rt: HostRuntime) -> Result<(), Fail> {
+    let mut table = two_rules(rt.alloc(), NameCase::Fold)?;
+    assert!(rt; table.len() == 2 && !table.is_empty());
+    *table.body_mut(1) = 22;
+    assert!(rt; table.len() == 2 && *table.body(0) == 1 && *table.body(1) == 22);
+    assert!(rt; table.name(1) == b"Two".as_slice() && table.span(1) == SECOND);
+    Ok(())
+}
+
+#[test]
+fn a_set_has_what_was_added(rt: HostRuntime) {
+    let mut set = ByteSet::new();
+    set.add_range(b'b', b'd');
+    set.add_range(255, 255);
+    set.add_range(9, 8);
+    let copy = set.copied();
+    set.add_range(60, 70);
+    for b in 0u8..=255 {
+        let is_one = matches!(b, b'b'..=b'd' | 255);
+        assert!(rt;
+            copy.has(b) == is_one && union_of_runs(&copy).has(b) == is_one,
+            "at {b}"
+        );
+        assert!(rt;
+            set.complement().has(b) != (is_one || matches!(b, 60..=70)),
+            "at {b}"
+        );
+    }
+    let mut runs = set.runs();
+    for want in [Some((60, 70)), Some((b'b', b'd')), Some((255, 255)), None] {
+        assert!(rt; runs.next() == want);
+    }
+}
+
+// An offset, and its line where LF alone ends one, and where CR LF and CR do too.
+static LINES: [(usize, usize, usize); 11] = [
+    (0, 1, 1),
+    (1, 1, 1),
+    (2, 2, 2),
+    (3, 2, 2),
+    (4, 2, 2),
+    (5, 3, 3),
+    (6, 3, 3),
+    (7, 3, 4),
+    (8, 3, 4),
+    (9, 3, 5),
+    (99, 3, 5),
+];
+
+#[test]
+fn lines_end_by_the_rule(rt: HostRuntime) {
+    let text = b"a\nb\r\nc\rd\r";
+    for (offset, by_lf, by_any) in &LINES {
+        let found = (
+            line_of(text, *offset, LineRule::Lf),
+            line_of(text, *offset, LineRule::Any),
+        );
+        assert!(rt; found == (*by_lf, *by_any), "at {offset}");
+    }
+}

@@ -1,0 +1,34 @@
+"""The crates of crates.txt, for the other scripts."""
+import pathlib
+
+
+def uses(top):
+    """Returns the crates, each with the crates of the repository that it uses."""
+    lines = (it.partition("#")[0] for it in (pathlib.Path(top) / "crates.txt").read_text().splitlines())
+    named = {it.partition(":")[0].split()[0]: it.partition(":")[2].split() for it in lines if it.strip()}
+    return {crate: [it for it in below if it in named] for crate, below in named.items()}
+
+
+def in_order(top):
+    """Returns the crates' names, each behind those that it uses."""
+    left, order = uses(top), []
+    while left:
+        ready = [crate for crate, below in left.items() if all(it in order for it in below)]
+        if not ready:
+            raise SystemExit(f"crates.txt: these use one another: {' '.join(left)}")
+        order += ready
+        for crate in ready:
+            del left[crate]
+    return order
+
+
+def below(top, crate):
+    """Returns the crates that a crate stands on."""
+    direct = uses(top)
+    found, left = set(), [crate]
+    while left:
+        for it in direct[left.pop()]:
+            if it not in found:
+                found.add(it)
+                left.append(it)
+    return found
