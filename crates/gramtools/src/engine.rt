@@ -1,33 +1,48 @@
-//! The units of an input in memory.
-ghost use Rattle.std.specs.Prelude.{◌≡◌};
+//! The units of an input that is read as far as they need it.
+ghost use Rattle.std.specs.Prelude.{◌≡◌, ℕ, List, ◌+◌, [], length};
+ghost use Rattle.std.specs.Io.KnownBytes.{Consumes};
 ghost use Rattle.ruletable.specs.Writing.{Flags};
+ghost use Rattle.feed.specs.Feed.{IsTrueOfReader, SameLoan, allowance_of, bytes_of, capacity_of, flow_of, input_limit, reader_of};
 ghost use Rattle.pegread.specs.Views.{rules_of};
+ghost use Rattle.gramtools.specs.Agrees.{Agrees};
+ghost use Rattle.gramtools.specs.Input.{Input};
 ghost use Rattle.gramtools.specs.Stopped.{IsCut};
 
 use crate::settings::Settings;
 use crate::stop::Stop;
-use crate::unit::{Step, unit_at};
+use crate::unit::{Step, next_unit};
+use feed::{Feed, Source};
 use gramcheck::SoundPeg;
 use pegmatch::Matcher;
 use ruletable::{Sink, WriteFault};
 
 /// Runs the units of an input in turn, each from where the one before ended, and prints the text of each.
-pub fn cut<M: Matcher, O: Sink>(
+pub fn cut<M: Matcher, R: Source, O: Sink>(
     matcher: &mut M,
     peg: &SoundPeg,
     settings: &Settings<'_>,
-    bytes: &[u8],
-    fault: bool,
+    feed: &mut Feed<'_, R>,
     out: &mut O,
 ) -> Result<Stop, WriteFault>
-    ensures units { IsCut (rules_of peg.now.rules) peg.now.start settings.now (record { bytes = bytes.now; fault = fault })
-        (O.contents out.old) (O.contents out.new) result }
+    requires capacity { capacity_of feed.old ≡ settings.now.limit + 1 }
+    requires empty { bytes_of feed.old ≡ [] }
+    requires allowance { allowance_of feed.old ≡ input_limit }
+    requires told { IsTrueOfReader R.remaining R.failed feed.old }
+    ensures loan { SameLoan feed.old feed.new }
+    ensures told { IsTrueOfReader R.remaining R.failed feed.new }
+    ensures units { (seen : List ℕ) × Consumes (R.remaining (reader_of feed.old)) (R.remaining (reader_of feed.new)) seen ×
+        (allowance_of feed.new + length seen ≡ input_limit) ×
+        ((input : Input) → Agrees seen (flow_of feed.new) input → IsCut (rules_of peg.now.rules) peg.now.start settings.now input (length seen)
+        (O.contents out.old) (O.contents out.new) result) }
     ensures flag { Flags (O.failed out.old) (O.failed out.new) result }
 {
     let mut start = 0;
     loop {
-        match unit_at(matcher, peg, settings, bytes, fault, start, out) {
-            Ok(Step::Takes(n)) => start += n,
+        match next_unit(matcher, peg, settings, feed, start, out) {
+            Ok(Step::Takes(n)) => {
+                feed.skip(n);
+                start += n;
+            }
             Ok(Step::Stops(stop)) => return Ok(stop),
             Err(fault) => return Err(fault),
         }

@@ -5,23 +5,21 @@ mod engine;
 #[cfg(test)]
 mod fakes;
 mod finish;
-mod input;
 mod laws;
 mod notes;
 mod printing;
 mod run;
 mod settings;
-mod source;
 mod status;
 mod stop;
 #[cfg(test)]
 mod tests;
 mod unit;
 
+pub use feed::{Broken, Source, SourceOf};
 pub use finish::{close as close_run, finish as end_run};
 pub use laws::{one_reply, one_statement};
 pub use run::run_peg;
 pub use settings::{DEFAULT_LIMIT, MAX_LIMIT, Mode, Settings};
-pub use source::{Broken, Source, SourceOf};
 pub use status::Status;
 pub use stop::Stop;

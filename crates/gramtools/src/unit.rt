@@ -1,11 +1,17 @@
-//! One unit at a place of the input.
-ghost use Rattle.std.specs.Prelude.{◌≡◌, ◌≤◌, ◌<◌, ◌+◌, length, take, true, nat_lt};
+//! One unit at the front of what a feed holds.
+ghost use Rattle.std.specs.Prelude.{◌≡◌, ◌≢◌, ℕ, List, Bool, ◌≤◌, ◌<◌, ◌+◌, ◌++◌, Ok, length, true};
+ghost use Rattle.std.specs.Io.KnownBytes.{Keeps};
 ghost use Rattle.ruletable.specs.Writing.{Flags};
+ghost use Rattle.feed.specs.Feed.{Grows, IsTrueOfReader, SameFeed, SameLoan, allowance_of, bytes_of, capacity_of, flow_of, input_limit};
 ghost use Rattle.pegread.specs.Views.{rules_of};
-ghost use Rattle.gramtools.specs.Attempts.{IsAttempt, IsStep, StaysWithin, step_after, stop_at};
+ghost use Rattle.gramtools.specs.Agrees.{Agrees};
+ghost use Rattle.gramtools.specs.Attempts.{IsAttempt, IsStep, IsStepOn, StaysWithin, step_after, stop_at};
+ghost use Rattle.gramtools.specs.Input.{Input};
+ghost use Rattle.gramtools.specs.Units.{taken_at};
 
 use crate::settings::Settings;
 use crate::stop::Stop;
+use feed::{Feed, Held, Source};
 use gramcheck::SoundPeg;
 use pegmatch::{Matcher, ReplayFault, Unit};
 use ruletable::{Sink, WriteFault};
@@ -31,6 +37,7 @@ pub enum Step {
 }
 
 /// Runs the start rule at the front of a window, and prints the text of a success.
+#[inline(always)]
 fn print_unit<M: Matcher, O: Sink>(
     matcher: &mut M,
     peg: &SoundPeg,
@@ -54,13 +61,6 @@ fn print_unit<M: Matcher, O: Sink>(
         Err(ReplayFault::Memory) => Ok(Attempt::NoMemory),
         Err(ReplayFault::Write) => Err(WriteFault),
     }
-}
-
-/// The first `most` bytes, or all where there are fewer.
-fn front(bytes: &[u8], most: usize) -> &[u8]
-    ensures { result.now ≡ take most bytes.now }
-{
-    &bytes[..bytes.len().min(most)]
 }
 
 /// How a run ends where no unit goes on at a place.
@@ -92,30 +92,125 @@ fn step_of(
     }
 }
 
-/// Runs one unit at a place, on a window of at most `limit` + 1 bytes, and prints its text.
-pub fn unit_at<M: Matcher, O: Sink>(
+/// Runs the start rule on the first piece of what a feed holds, where that is most of it but not all. `TooLong` puts the
+/// answer off.
+#[inline(always)]
+fn attempt_front<M: Matcher, R: Source, O: Sink>(
     matcher: &mut M,
     peg: &SoundPeg,
-    settings: &Settings<'_>,
-    bytes: &[u8],
-    fault: bool,
+    feed: &Feed<'_, R>,
+    raw: bool,
+    out: &mut O,
+) -> Result<Attempt, WriteFault>
+    ensures answer { result ≢ Ok Attempt.TooLong → (more : Bool) →
+        IsAttempt peg.now (bytes_of feed.now) more raw (O.contents out.old) (O.contents out.new) result }
+    ensures kept { result ≡ Ok Attempt.TooLong → Keeps (O.contents out.old) (O.contents out.new) }
+    ensures flag { Flags (O.failed out.old) (O.failed out.new) result }
+{
+    let front = feed.front();
+    let held = feed.len();
+    if front.len() == held {
+        return Ok(Attempt::TooLong);
+    }
+    if front.len() <= held / 4 * 3 {
+        return Ok(Attempt::TooLong);
+    }
+    print_unit(matcher, peg, front, true, raw, out)
+}
+
+/// Runs the start rule on all that a feed holds.
+#[inline(always)]
+fn attempt_all<M: Matcher, R: Source, O: Sink>(
+    matcher: &mut M,
+    peg: &SoundPeg,
+    feed: &mut Feed<'_, R>,
+    more: bool,
+    raw: bool,
+    out: &mut O,
+) -> Result<Attempt, WriteFault>
+    requires some { more ≡ true → 0 < length (bytes_of feed.old) }
+    ensures same { SameFeed feed.old feed.new }
+    ensures answer { IsAttempt peg.now (bytes_of feed.old) more raw (O.contents out.old) (O.contents out.new) result }
+    ensures flag { Flags (O.failed out.old) (O.failed out.new) result }
+{
+    let window: &[u8] = feed.window();
+    print_unit(matcher, peg, window, more, raw, out)
+}
+
+/// Runs the start rule at the front of what a feed holds, and prints the text of a success. It is put in one piece only
+/// where its first piece is too short for an answer.
+#[inline(always)]
+fn attempt_unit<M: Matcher, R: Source, O: Sink>(
+    matcher: &mut M,
+    peg: &SoundPeg,
+    feed: &mut Feed<'_, R>,
+    more: bool,
+    raw: bool,
+    out: &mut O,
+) -> Result<Attempt, WriteFault>
+    requires some { more ≡ true → 0 < length (bytes_of feed.old) }
+    ensures same { SameFeed feed.old feed.new }
+    ensures answer { IsAttempt peg.now (bytes_of feed.old) more raw (O.contents out.old) (O.contents out.new) result }
+    ensures flag { Flags (O.failed out.old) (O.failed out.new) result }
+{
+    match attempt_front(matcher, peg, feed, raw, out) {
+        Ok(Attempt::TooLong) => attempt_all(matcher, peg, feed, more, raw, out),
+        Ok(Attempt::Printed(n)) => Ok(Attempt::Printed(n)),
+        Ok(Attempt::Failed) => Ok(Attempt::Failed),
+        Ok(Attempt::NoMemory) => Ok(Attempt::NoMemory),
+        Err(fault) => Err(fault),
+    }
+}
+
+/// Runs one unit at the front of what a feed holds.
+#[inline(always)]
+fn unit_at<M: Matcher, R: Source, O: Sink>(
+    matcher: &mut M,
+    peg: &SoundPeg,
+    feed: &mut Feed<'_, R>,
+    more: bool,
+    raw: bool,
     start: usize,
     out: &mut O,
 ) -> Result<Step, WriteFault>
-    requires within { start ≤ length bytes.now }
-    ensures follows { IsStep (rules_of peg.now.rules) peg.now.start settings.now (record { bytes = bytes.now; fault = fault }) start
-        (O.contents out.old) (O.contents out.new) result }
-    ensures fits { StaysWithin (length bytes.now) start result }
+    requires some { more ≡ true → 0 < length (bytes_of feed.old) }
+    requires within { start + length (bytes_of feed.old) ≤ input_limit }
+    ensures same { SameFeed feed.old feed.new }
+    ensures follows { IsStepOn peg.now (bytes_of feed.old) more raw start (O.contents out.old) (O.contents out.new) result }
+    ensures flag { Flags (O.failed out.old) (O.failed out.new) result }
+{
+    let end = start + feed.len();
+    let attempted = attempt_unit(matcher, peg, feed, more, raw, out);
+    step_of(attempted, start, end)
+}
+
+/// Reads until `limit` + 1 bytes are held, the input ends or a read fails, and runs one unit.
+#[inline(always)]
+pub fn next_unit<M: Matcher, R: Source, O: Sink>(
+    matcher: &mut M,
+    peg: &SoundPeg,
+    settings: &Settings<'_>,
+    feed: &mut Feed<'_, R>,
+    start: usize,
+    out: &mut O,
+) -> Result<Step, WriteFault>
+    requires capacity { capacity_of feed.old ≡ settings.now.limit + 1 }
+    requires within { start + length (bytes_of feed.old) + allowance_of feed.old ≡ input_limit }
+    requires told { IsTrueOfReader R.remaining R.failed feed.old }
+    ensures loan { SameLoan feed.old feed.new }
+    ensures told { IsTrueOfReader R.remaining R.failed feed.new }
+    ensures grows { Grows R.remaining feed.old feed.new }
+    ensures follows { (before : List ℕ) (input : Input) → length before ≡ start → Agrees (before ++ bytes_of feed.new) (flow_of feed.new) input →
+        IsStep (rules_of peg.now.rules) peg.now.start settings.now input start (O.contents out.old) (O.contents out.new) result ×
+        (length (before ++ bytes_of feed.new) ≡ taken_at settings.now input start) }
+    ensures fits { StaysWithin (start + length (bytes_of feed.new)) start result }
     ensures flag { Flags (O.failed out.old) (O.failed out.new) result }
 {
     // its contract says that the grammar is sound
     let _ = peg.start();
-    let rest = &bytes[start..];
-    let more = rest.len() > settings.limit;
-    if fault && !more {
-        return Ok(Step::Stops(Stop::Broken));
+    match feed.fill() {
+        Held::Full => unit_at(matcher, peg, feed, true, settings.raw, start, out),
+        Held::End => unit_at(matcher, peg, feed, false, settings.raw, start, out),
+        Held::Fault => Ok(Step::Stops(Stop::Broken)),
     }
-    let window = front(rest, settings.limit + 1);
-    let attempted = print_unit(matcher, peg, window, more, settings.raw, out);
-    step_of(attempted, start, bytes.len())
 }

@@ -1,0 +1,16 @@
+-- What was read so far.
+use Rattle.std.proofs.Common.{◌≡◌, ◌-◌, ◌+◌, length}
+use Rattle.feed.specs.Feed.{Grows, IsTrueOfReader, SameLoan}
+use Rattle.feed.proofs.GrowsLemmas.{open_count}
+use Rattle.feed.proofs.feed.Feed.fill.Given as goal
+
+abbrev pub invariant-loop-room : goal.invariant-loop-room
+invariant-loop-room g l = record {
+  loan : SameLoan l.fn.self l.self;
+  grows : Grows g.R.Source.remaining l.fn.self l.self;
+  told : IsTrueOfReader g.R.Source.remaining g.R.Source.failed l.fn.self →
+      IsTrueOfReader g.R.Source.remaining g.R.Source.failed l.self;
+}
+
+abbrev pub decreases-loop-room : goal.decreases-loop-room
+decreases-loop-room g l = (l.self.ring.capacity - length l.self.ring.items) + open_count l.self.flow

@@ -1,0 +1,81 @@
+//! Readers.
+ghost use Rattle.std.specs.Prelude.{◌≡◌, ℕ, Option, ◌≤◌, Bool, false, List, length, IfOk};
+ghost use Rattle.std.specs.Io.KnownBytes.{ReadConsumes};
+ghost use Rattle.ruletable.specs.Writing.{Flags};
+
+use std::io;
+use thiserror::Error;
+
+/// A reader failed.
+#[derive(Clone, Copy, Debug, Drop, PartialEq, Eq, Error)]
+#[error("read error")]
+pub struct Broken;
+
+/// What gives bytes.
+pub trait Source {
+    /// The bytes still to come, where the inner reader tells them.
+    ghost remaining: { Self → Option (List ℕ) };
+
+    /// Whether a call has failed.
+    ghost failed: { Self → Bool };
+
+    /// Puts the next bytes at the front of `buffer` and answers how many, or fails and takes nothing.
+    /// 0 into a buffer that is not empty says that none is to come.
+    fn read(&mut self, buffer: &mut [u8]) -> Result<usize, Broken>
+        ensures within { IfOk result (λ n. n ≤ length buffer.new) }
+        ensures bytes { ReadConsumes (remaining self.old) (remaining self.new) result buffer.new }
+        ensures flag { Flags (failed self.old) (failed self.new) result };
+
+    /// Whether a call has failed.
+    fn has_failed(&self) -> bool
+        ensures { result ≡ failed self.now };
+}
+
+/// A source over a reader of `std`. Each error of that reader is a failure, an interrupted call too.
+#[derive(Drop)]
+pub struct SourceOf<R> {
+    inner: R,
+    failed: bool,
+}
+
+impl<R: io::Read> SourceOf<R> {
+    /// A source that has not failed.
+    pub fn new(inner: R) -> SourceOf<R>
+        ensures remaining { ⟦<SourceOf<R> as Source>⟧.remaining result ≡ R.remaining inner }
+        ensures failed { ⟦<SourceOf<R> as Source>⟧.failed result ≡ false }
+    {
+        SourceOf {
+            inner,
+            failed: false,
+        }
+    }
+
+    /// The reader, with the bytes that are still to come.
+    pub fn into_inner(self) -> R
+        ensures { R.remaining result ≡ ⟦<SourceOf<R> as Source>⟧.remaining self }
+    {
+        let SourceOf { inner, failed: _ } = self;
+        inner
+    }
+}
+
+impl<R: io::Read> Source for SourceOf<R> {
+    ghost remaining = { λ s. R.remaining s.inner };
+
+    ghost failed = { λ s. s.failed };
+
+    #[inline(always)]
+    fn read(&mut self, buffer: &mut [u8]) -> Result<usize, Broken> {
+        match self.inner.read(buffer) {
+            Ok(n) => Ok(n),
+            Err(_) => {
+                self.failed = true;
+                Err(Broken)
+            }
+        }
+    }
+
+    fn has_failed(&self) -> bool {
+        self.failed
+    }
+}
