@@ -12,10 +12,10 @@ use Rattle.gramcheck.specs.Ranks.{NodeStep, to_alternative, to_member, to_starre
 use Rattle.gramcheck.specs.Sound.{IsRanked, GivesOne, StartGivesOne}
 use Rattle.gramcheck.specs.Within.{Within, itself, StandsIn}
 use Rattle.std.proofs.lemmas.List.{length-map}
-use Rattle.gramcheck.proofs.Determined.{same}
+use Rattle.gramcheck.proofs.OneOutcomeLemmas.{same}
 use Rattle.gramcheck.proofs.Starting.{same_of_start}
 use Rattle.gramcheck.proofs.Falling.{measure, falls, falls_here, falls_ahead}
-use Rattle.gramcheck.proofs.Counting.{in_first, in_later}
+use Rattle.leastset.proofs.ContainsLemmas.{in_first, in_later}
 use Rattle.gramcheck.proofs.Outcomes.{Has, HasAll, HasFirst, any_has, set_has, bytes_has, opt_has, and_has, not_has, star_has, plus_has, member_has, alternative_has}
 use Rattle.gramcheck.proofs.Spelling.{is_there, part_spelled}
 use Rattle.gramcheck.proofs.Lowering.{bound, lower, steps_to_body}
@@ -101,7 +101,7 @@ module _ (rules : List Rule) (start : ℕ) (nodes : List Shape) (bodies ranks : 
   one_has t n p e below le high (spells_star {m = m} {p = f} g s) =
       let less = falls_here (length x) p (length nodes) (rank m) (rank n) (drops n m (to_starred g)) in
       star_from t m f below s (λ null. sound.moving.star n m g (f, s, null)) (length x - p + 1) p (omega arith) high (omega (arith, less))
-  one_has t n p e below le high (spells_plus {m = m} {p = f} g s) =
+  one_has t n p e below le high (spells_plus {m = m} {k = k} {p = f} g s a) =
       let step = drops n m (to_repeated g) in
       let less = falls_here (length x) p (length nodes) (rank m) (rank n) step in
       let one = below m p f s high (omega (arith, less)) in
@@ -109,7 +109,7 @@ module _ (rules : List Rule) (start : ℕ) (nodes : List Shape) (bodies ranks : 
       (λ q es d.
       let on = forward rules x p q one.looked f es d high in
       let next = falls (length x) p q (length nodes) (rank m) (rank n) on.0 on.1 (most m (is_there rules nodes s)) (λ _. step) in
-      star_from t m f below s (λ null. sound.moving.plus n m g (f, s, null)) (length x - q + 1) q (omega arith) on.1 (omega (arith, next)))
+      star_from t m f below s (λ null. sound.moving.plus n m k g (f, s, null)) (length x - q + 1) q (omega arith) on.1 (omega (arith, next)))
   one_has t n p e below le high (spells_opt {m = m} {p = f} g s) =
       let one = step_has t n p m f below le high s (to_optional g) in
       opt_has rules x f p one.looked one.outcome one.gives

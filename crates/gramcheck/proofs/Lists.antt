@@ -3,15 +3,6 @@ use Rattle.std.proofs.Common.{◌≡◌, ℕ, zero, suc, List, [], ◌∷◌, �
 use Rattle.std.specs.Prelude.{slice_get}
 
 module _ {A : Type 0} where
-  pub at_end : (xs : List A) (a : A) → slice_get (xs ++ a ∷ []) (length xs) ≡ Some a
-  at_end [] a = refl
-  at_end (x ∷ xs) a = at_end xs a
-
-  pub keeps : (xs ys : List A) (n : ℕ) (a : A) → slice_get xs n ≡ Some a → slice_get (xs ++ ys) n ≡ Some a
-  keeps [] ys n a h = absurd (cc h)
-  keeps (x ∷ xs) ys zero a h = h
-  keeps (x ∷ xs) ys (suc n) a h = keeps xs ys n a h
-
   pub push_cases : (xs : List A) (a : A) (n : ℕ) (b : A) → slice_get (xs ++ a ∷ []) n ≡ Some b → (slice_get xs n ≡ Some b) ⊎ ((n ≡ length xs) × (a ≡ b))
   push_cases [] a zero b h = inr (refl, cc h)
   push_cases [] a (suc n) b h = absurd (cc h)

@@ -8,7 +8,7 @@ use Rattle.gramcheck.specs.Nodes.{Shape, id_of, Spells}
 use Rattle.gramcheck.specs.Ranks.{NodeStep, to_body, to_alternative, to_member, to_starred, to_repeated, to_optional, to_asserted, to_denied, FrontNode, front_first, front_later}
 use Rattle.gramcheck.specs.Sound.{IsRanked}
 use Rattle.gramcheck.proofs.Ids.{body_there}
-use Rattle.gramcheck.proofs.Counting.{in_first, in_later}
+use Rattle.leastset.proofs.ContainsLemmas.{in_first, in_later}
 use Rattle.gramcheck.proofs.Spelling.{is_there}
 
 module _ (rules : List Rule) (nodes : List Shape) (bodies : List ℕ) where
@@ -17,7 +17,7 @@ module _ (rules : List Rule) (nodes : List Shape) (bodies : List ℕ) where
   steps_from (to_alternative {n = n} {ms = ms} g h) = slice_get_within nodes n (node.Choice ms) g
   steps_from (to_member {n = n} {ms = ms} g f) = slice_get_within nodes n (node.Seq ms) g
   steps_from (to_starred {n = n} {m = m} g) = slice_get_within nodes n (node.Star m) g
-  steps_from (to_repeated {n = n} {m = m} g) = slice_get_within nodes n (node.Plus m) g
+  steps_from (to_repeated {n = n} {m = m} {k = k} g) = slice_get_within nodes n (node.Plus m k) g
   steps_from (to_optional {n = n} {m = m} g) = slice_get_within nodes n (node.Opt m) g
   steps_from (to_asserted {n = n} {m = m} g) = slice_get_within nodes n (node.And m) g
   steps_from (to_denied {n = n} {m = m} g) = slice_get_within nodes n (node.Not m) g
@@ -37,7 +37,7 @@ module _ (rules : List Rule) (start : ℕ) (nodes : List Shape) (bodies ranks : 
   steps_to (to_member {n = n} {m = m} {ms = ms} g f) =
       low_there (slice_get_within nodes n (node.Seq ms) g) (sound.built.after n m (node.Seq ms) g (front_contained rules nodes bodies f))
   steps_to (to_starred {n = n} {m = m} g) = low_there (slice_get_within nodes n (node.Star m) g) (sound.built.after n m (node.Star m) g refl)
-  steps_to (to_repeated {n = n} {m = m} g) = low_there (slice_get_within nodes n (node.Plus m) g) (sound.built.after n m (node.Plus m) g refl)
+  steps_to (to_repeated {n = n} {m = m} {k = k} g) = low_there (slice_get_within nodes n (node.Plus m k) g) (sound.built.after n m (node.Plus m k) g refl)
   steps_to (to_optional {n = n} {m = m} g) = low_there (slice_get_within nodes n (node.Opt m) g) (sound.built.after n m (node.Opt m) g refl)
   steps_to (to_asserted {n = n} {m = m} g) = low_there (slice_get_within nodes n (node.And m) g) (sound.built.after n m (node.And m) g refl)
   steps_to (to_denied {n = n} {m = m} g) = low_there (slice_get_within nodes n (node.Not m) g) (sound.built.after n m (node.Not m) g refl)

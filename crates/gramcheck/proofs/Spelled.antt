@@ -16,7 +16,7 @@ module _ (rules : List Rule) (nodes : List Shape) where
   HasShape (node.Seq ms) p = (ps : Patterns) × (p ≡ expr.Seq ps) × SpellAll rules nodes ms ps
   HasShape (node.Choice ms) p = (ps : Patterns) × (p ≡ expr.Choice ps) × SpellAll rules nodes ms ps
   HasShape (node.Star m) p = (q : Pattern) × (p ≡ expr.Star q) × Spells rules nodes m q
-  HasShape (node.Plus m) p = (q : Pattern) × (p ≡ expr.Plus q) × Spells rules nodes m q
+  HasShape (node.Plus m k) p = (q : Pattern) × (p ≡ expr.Plus q) × Spells rules nodes m q × (slice_get nodes k ≡ Some (node.Star m))
   HasShape (node.Opt m) p = (q : Pattern) × (p ≡ expr.Opt q) × Spells rules nodes m q
   HasShape (node.And m) p = (q : Pattern) × (p ≡ expr.And q) × Spells rules nodes m q
   HasShape (node.Not m) p = (q : Pattern) × (p ≡ expr.Not q) × Spells rules nodes m q
@@ -33,7 +33,7 @@ module _ (rules : List Rule) (nodes : List Shape) where
   has_shape (spells_seq {ms = ms} {ps = ps} g s) shape h = let same : node.Seq ms ≡ shape = cc in subst (λ v. HasShape v (expr.Seq ps)) same (ps, refl, s)
   has_shape (spells_choice {ms = ms} {ps = ps} g s) shape h = let same : node.Choice ms ≡ shape = cc in subst (λ v. HasShape v (expr.Choice ps)) same (ps, refl, s)
   has_shape (spells_star {m = m} {p = q} g s) shape h = let same : node.Star m ≡ shape = cc in subst (λ v. HasShape v (expr.Star q)) same (q, refl, s)
-  has_shape (spells_plus {m = m} {p = q} g s) shape h = let same : node.Plus m ≡ shape = cc in subst (λ v. HasShape v (expr.Plus q)) same (q, refl, s)
+  has_shape (spells_plus {m = m} {k = k} {p = q} g s a) shape h = let same : node.Plus m k ≡ shape = cc in subst (λ v. HasShape v (expr.Plus q)) same (q, refl, s, a)
   has_shape (spells_opt {m = m} {p = q} g s) shape h = let same : node.Opt m ≡ shape = cc in subst (λ v. HasShape v (expr.Opt q)) same (q, refl, s)
   has_shape (spells_and {m = m} {p = q} g s) shape h = let same : node.And m ≡ shape = cc in subst (λ v. HasShape v (expr.And q)) same (q, refl, s)
   has_shape (spells_not {m = m} {p = q} g s) shape h = let same : node.Not m ≡ shape = cc in subst (λ v. HasShape v (expr.Not q)) same (q, refl, s)

@@ -3,10 +3,10 @@ use Rattle.std.proofs.Common.{◌≡◌, ℕ, ◌<◌, ◌≤◌, List, ◌++◌
 use Rattle.pegread.specs.Pattern.{Rule}
 use Rattle.gramcheck.specs.Outcome.{Outcome, Takes, Event, Gives, RuleGives}
 use Rattle.gramcheck.specs.Rising.{Rise}
-use Rattle.gramcheck.proofs.Determined.{same, Same}
-use Rattle.gramcheck.proofs.Growing.{grows}
+use Rattle.gramcheck.proofs.OneOutcomeLemmas.{same, Same}
+use Rattle.gramcheck.proofs.LongerInputLemmas.{grows}
 use Rattle.gramcheck.proofs.Rising.{within}
-use Rattle.gramcheck.proofs.Shrinking.{shrinks}
+use Rattle.gramcheck.proofs.ShorterInputLemmas.{shrinks}
 
 pub same_of_start : (rules : List Rule) (start : ℕ) (x : List ℕ) (k j : ℕ) (o c : Outcome) → RuleGives rules start x o k → RuleGives rules start x c j → Same o k c j
 same_of_start rules start x k j o c d g =

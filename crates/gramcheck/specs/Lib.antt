@@ -2,12 +2,11 @@ pub mod Analysis
 pub mod Bodies
 pub mod Checked
 pub mod Defined
-pub mod Derive
 pub mod Grammar
 pub mod Kinds
 pub mod Left
 pub mod Loops
-pub mod Marks
+pub mod NodeRows
 pub mod Nodes
 pub mod Notes
 pub mod Nulls
@@ -16,7 +15,5 @@ pub mod Outcome
 pub mod Ranks
 pub mod Rising
 pub mod Sound
-pub mod Steps
 pub mod Uses
-pub mod Waiting
 pub mod Within

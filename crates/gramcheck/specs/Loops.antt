@@ -2,7 +2,7 @@
 use Rattle.std.specs.Prelude.{◌≡◌, ◌⊎◌, ℕ, ◌<◌, Bool, List, length, slice_get, Some, Contains}
 use Rattle.pegread.specs.Pattern.{Pattern, Rule}
 use Rattle.gramcheck.specs.Left.{RepeatsNullable}
-use Rattle.gramcheck.specs.Marks.{IsMarked}
+use Rattle.leastset.specs.NumberMarks.{IsMarked}
 use Rattle.gramcheck.specs.Nodes.{Shape, Any, Bytes, Set, Name, Seq, Choice, Star, Plus, Opt, And, Not, Act, Open, Close, Spells}
 
 -- what the marks of a node's operands say of it
@@ -14,7 +14,7 @@ LoopsNow nulls marks (Name id) = ⊥
 LoopsNow nulls marks (Seq ms) = (m : ℕ) × Contains ms m × IsMarked marks m
 LoopsNow nulls marks (Choice ms) = (m : ℕ) × Contains ms m × IsMarked marks m
 LoopsNow nulls marks (Star m) = IsMarked nulls m ⊎ IsMarked marks m
-LoopsNow nulls marks (Plus m) = IsMarked nulls m ⊎ IsMarked marks m
+LoopsNow nulls marks (Plus m k) = IsMarked nulls m ⊎ IsMarked marks m
 LoopsNow nulls marks (Opt m) = IsMarked marks m
 LoopsNow nulls marks (And m) = IsMarked marks m
 LoopsNow nulls marks (Not m) = IsMarked marks m

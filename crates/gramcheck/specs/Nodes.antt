@@ -14,7 +14,7 @@ pub data Shape : Type 0 where
   Seq : List ℕ → Shape
   Choice : List ℕ → Shape
   Star : ℕ → Shape
-  Plus : ℕ → Shape
+  Plus : (operand : ℕ) → (star : ℕ) → Shape
   Opt : ℕ → Shape
   And : ℕ → Shape
   Not : ℕ → Shape
@@ -30,7 +30,7 @@ shape_of (code.Name id) = Name id
 shape_of (code.Seq members) = Seq members.items
 shape_of (code.Choice alternatives) = Choice alternatives.items
 shape_of (code.Star n) = Star n
-shape_of (code.Plus n) = Plus n
+shape_of (code.Plus n k) = Plus n k
 shape_of (code.Opt n) = Opt n
 shape_of (code.And n) = And n
 shape_of (code.Not n) = Not n
@@ -57,7 +57,7 @@ module _ (rules : List Rule) (nodes : List Shape) where
       spells_seq : {n : ℕ} {ms : List ℕ} {ps : Patterns} → slice_get nodes n ≡ Some (Seq ms) → SpellAll ms ps → Spells n (e.Seq ps)
       spells_choice : {n : ℕ} {ms : List ℕ} {ps : Patterns} → slice_get nodes n ≡ Some (Choice ms) → SpellAll ms ps → Spells n (e.Choice ps)
       spells_star : {n m : ℕ} {p : Pattern} → slice_get nodes n ≡ Some (Star m) → Spells m p → Spells n (e.Star p)
-      spells_plus : {n m : ℕ} {p : Pattern} → slice_get nodes n ≡ Some (Plus m) → Spells m p → Spells n (e.Plus p)
+      spells_plus : {n m k : ℕ} {p : Pattern} → slice_get nodes n ≡ Some (Plus m k) → Spells m p → slice_get nodes k ≡ Some (Star m) → Spells n (e.Plus p)
       spells_opt : {n m : ℕ} {p : Pattern} → slice_get nodes n ≡ Some (Opt m) → Spells m p → Spells n (e.Opt p)
       spells_and : {n m : ℕ} {p : Pattern} → slice_get nodes n ≡ Some (And m) → Spells m p → Spells n (e.And p)
       spells_not : {n m : ℕ} {p : Pattern} → slice_get nodes n ≡ Some (Not m) → Spells m p → Spells n (e.Not p)

@@ -1,10 +1,10 @@
 -- Which nodes are nullable.
 use Rattle.std.specs.Prelude.{ℕ, Bool, List, [], ◌∷◌, map, slice_get, option_to_list}
 use Rattle.pegread.specs.Pattern.{Pattern, Rule}
-use Rattle.gramcheck.specs.Derive as d
-use Rattle.gramcheck.specs.Derive.{Demand}
+use Rattle.leastset.specs.Demands as d
+use Rattle.leastset.specs.Demands.{Demand}
 use Rattle.gramcheck.specs.Left.{Nullable}
-use Rattle.gramcheck.specs.Marks.{IsMarked}
+use Rattle.leastset.specs.NumberMarks.{IsMarked}
 use Rattle.gramcheck.specs.Nodes.{Shape, Any, Bytes, Set, Name, Seq, Choice, Star, Plus, Opt, And, Not, Act, Open, Close, Spells}
 
 -- the nodes of which all or one must be nullable before a node is: all of none where it is at once, one of none where it never is
@@ -17,7 +17,7 @@ null_demand bodies (Name id) = d.One (option_to_list (slice_get bodies id))
 null_demand bodies (Seq ms) = d.All ms
 null_demand bodies (Choice ms) = d.One ms
 null_demand bodies (Star m) = d.All []
-null_demand bodies (Plus m) = d.One (m ∷ [])
+null_demand bodies (Plus m k) = d.One (m ∷ [])
 null_demand bodies (Opt m) = d.All []
 null_demand bodies (And m) = d.All []
 null_demand bodies (Not m) = d.All []

@@ -20,7 +20,7 @@ module _ (rules : List Rule) (nodes : List Shape) (bodies : List ℕ) where
     to_alternative : {n m : ℕ} {ms : List ℕ} → slice_get nodes n ≡ Some (Choice ms) → Contains ms m → NodeStep n m
     to_member : {n m : ℕ} {ms : List ℕ} → slice_get nodes n ≡ Some (Seq ms) → FrontNode ms m → NodeStep n m
     to_starred : {n m : ℕ} → slice_get nodes n ≡ Some (Star m) → NodeStep n m
-    to_repeated : {n m : ℕ} → slice_get nodes n ≡ Some (Plus m) → NodeStep n m
+    to_repeated : {n m k : ℕ} → slice_get nodes n ≡ Some (Plus m k) → NodeStep n m
     to_optional : {n m : ℕ} → slice_get nodes n ≡ Some (Opt m) → NodeStep n m
     to_asserted : {n m : ℕ} → slice_get nodes n ≡ Some (And m) → NodeStep n m
     to_denied : {n m : ℕ} → slice_get nodes n ≡ Some (Not m) → NodeStep n m
@@ -34,4 +34,4 @@ module _ (rules : List Rule) (nodes : List Shape) (bodies : List ℕ) where
   -- no node repeats a nullable one
   pub record RepeatsNoNull : Type 0 where
     pub star : (n m : ℕ) → slice_get nodes n ≡ Some (Star m) → IsNullNode m → ⊥
-    pub plus : (n m : ℕ) → slice_get nodes n ≡ Some (Plus m) → IsNullNode m → ⊥
+    pub plus : (n m k : ℕ) → slice_get nodes n ≡ Some (Plus m k) → IsNullNode m → ⊥

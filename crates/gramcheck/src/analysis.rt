@@ -3,7 +3,7 @@ ghost use Rattle.std.specs.Prelude.{◌≡◌, List, length, IfOk};
 ghost use Rattle.pegread.specs.Pattern.{Rule};
 ghost use Rattle.gramcheck.specs.Analysis.{IsAnalysed};
 ghost use Rattle.gramcheck.specs.Bodies.{AreBodies, IsBuilt};
-ghost use Rattle.gramcheck.specs.Marks.{AreBelow};
+ghost use Rattle.leastset.specs.NumberMarks.{AreBelow};
 ghost use Rattle.gramcheck.specs.Nodes.{shapes_of};
 
 use crate::left::find_left;

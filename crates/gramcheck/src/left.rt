@@ -1,18 +1,16 @@
 //! Left steps between nodes, the left-recursive rules, and ranks that each left step lowers.
-ghost use Rattle.std.specs.Prelude.{◌≡◌, ℕ, ◌<◌, List, length, map, IfOk, Contains};
+ghost use Rattle.std.specs.Prelude.{◌≡◌, ◌⊎◌, ℕ, ◌<◌, Bool, List, length, map, replicate, IfOk};
 ghost use Rattle.pegread.specs.Pattern.{Rule};
+ghost use Rattle.leastset.specs.NumberMarks.{IsMarked, AreBelow};
+ghost use Rattle.leastset.specs.StepRows.{rows_of};
 ghost use Rattle.gramcheck.specs.Bodies.{AreBodies, IsBuilt, IsOperand};
-ghost use Rattle.gramcheck.specs.Derive.{demand_of, demands_of};
-ghost use Rattle.gramcheck.specs.Marks.{AreBelow};
-ghost use Rattle.gramcheck.specs.Nodes.{shape_of, shapes_of};
+ghost use Rattle.gramcheck.specs.NodeRows.{front, steps_of, step_rows, MarksNames, IsLeft};
+ghost use Rattle.gramcheck.specs.Nodes.{Name, shape_of, shapes_of};
 ghost use Rattle.gramcheck.specs.Nulls.{AreNullMarks};
-ghost use Rattle.gramcheck.specs.Steps.{front, step_demand, step_demands, ArePlaces, IsLeft};
 
-use crate::derive::{Need, derive};
-use crate::marks::marks_of;
 use crate::node::Node;
 use crate::nullable::{body_of, one};
-use crate::search::recursive;
+use leastset::on_cycle;
 use ruletable::Memory;
 use std::alloc::Global;
 
@@ -31,36 +29,41 @@ fn front_of(alloc: Global, members: &[usize], nulls: &[bool]) -> Result<Vec<usiz
     Ok(row)
 }
 
-// Where left steps lead from a node.
-fn steps_from(alloc: Global, node: &Node, bodies: &[usize], nulls: &[bool]) -> Result<Need, Memory>
+// Returns the numbers of the nodes to which left steps lead from a node.
+fn steps_from(
+    alloc: Global,
+    node: &Node,
+    bodies: &[usize],
+    nulls: &[bool],
+) -> Result<Vec<usize>, Memory>
     requires { (m : ℕ) → IsOperand (shape_of node.now) m → m < length nulls.now }
-    ensures { IfOk result (λ need. demand_of need ≡ step_demand bodies.now nulls.now (shape_of node.now)) }
+    ensures { IfOk result (λ row. row.items ≡ steps_of bodies.now nulls.now (shape_of node.now)) }
 {
-    let row = match node {
-        Node::Any | Node::Bytes(_) | Node::Set(_) | Node::Act(_) | Node::Open | Node::Close =>
-            Vec::new(alloc),
-        Node::Name(id) => body_of(alloc, bodies, *id)?,
-        Node::Seq(members) => front_of(alloc, members, nulls)?,
-        Node::Choice(alternatives) => Vec::from_slice(alloc, alternatives)?,
+    match node {
+        Node::Any | Node::Bytes(_) | Node::Set(_) | Node::Act(_) | Node::Open | Node::Close => {
+            Ok(Vec::new(alloc))
+        }
+        Node::Name(id) => body_of(alloc, bodies, *id),
+        Node::Seq(members) => front_of(alloc, members, nulls),
+        Node::Choice(alternatives) => Ok(Vec::from_slice(alloc, alternatives)?),
         Node::Star(operand)
-        | Node::Plus(operand)
+        | Node::Plus { operand, .. }
         | Node::Opt(operand)
         | Node::And(operand)
-        | Node::Not(operand) => one(alloc, *operand)?,
-    };
-    Ok(Need::All(row))
+        | Node::Not(operand) => one(alloc, *operand),
+    }
 }
 
-// Where left steps lead, from each node.
+// Returns for each node the numbers of the nodes to which left steps lead from it.
 fn steps(
     alloc: Global,
     nodes: &[Node],
     bodies: &[usize],
     nulls: &[bool],
-) -> Result<Vec<Need>, Memory>
+) -> Result<Vec<Vec<usize>>, Memory>
     requires built { IsBuilt (shapes_of nodes.now) }
     requires count { length nulls.now ≡ length nodes.now }
-    ensures { IfOk result (λ steps. demands_of steps.items ≡ step_demands bodies.now nulls.now (shapes_of nodes.now)) }
+    ensures { IfOk result (λ steps. rows_of steps.items ≡ step_rows bodies.now nulls.now (shapes_of nodes.now)) }
 {
     let mut steps = Vec::new(alloc);
     for node in nodes {
@@ -69,24 +72,45 @@ fn steps(
     Ok(steps)
 }
 
-// Gives each number its place in the order.
-fn place_each(order: &[usize], places: &mut [usize])
-    requires { AreBelow order.now (length places.old) }
-    ensures { ArePlaces order.now order.now places.new (length places.old) }
+// Marks the rule that the node names, if it names one.
+fn mark_name(node: &Node, found: &mut [bool])
+    ensures count { length found.new ≡ length found.old }
+    ensures kept { (id : ℕ) → IsMarked found.old id → IsMarked found.new id }
+    ensures all { (id : ℕ) → shape_of node.now ≡ Name id → id < length found.old → IsMarked found.new id }
+    ensures only { (id : ℕ) → IsMarked found.new id → IsMarked found.old id ⊎ (shape_of node.now ≡ Name id) }
 {
-    for place in 0..order.len() {
-        places[order[place]] = place;
+    if let Node::Name(id) = node {
+        if *id < found.len() {
+            found[*id] = true;
+        }
     }
 }
 
-// Of each number its place in the order.
-fn places_of(alloc: Global, count: usize, order: &[usize]) -> Result<Vec<usize>, Memory>
-    requires { AreBelow order.now count }
-    ensures { IfOk result (λ places. ArePlaces order.now order.now places.items count) }
+// Marks the rules that marked nodes name.
+fn mark_names(nodes: &[Node], marks: &[bool], found: &mut [bool])
+    requires { length marks.now ≡ length nodes.now }
+    ensures { MarksNames (shapes_of nodes.now) (length nodes.now) marks.now found.old found.new }
 {
-    let mut places = vec![in alloc; 0; count]?;
-    place_each(order, &mut places);
-    Ok(places)
+    for n in 0..nodes.len() {
+        if marks[n] {
+            mark_name(&nodes[n], found);
+        }
+    }
+}
+
+// Returns `count` marks, set exactly for the rules that marked nodes name.
+fn named_rules(
+    alloc: Global,
+    nodes: &[Node],
+    marks: &[bool],
+    count: usize,
+) -> Result<Vec<bool>, Memory>
+    requires { length marks.now ≡ length nodes.now }
+    ensures { IfOk result (λ found. MarksNames (shapes_of nodes.now) (length nodes.now) marks.now (replicate count Bool.false) found.items) }
+{
+    let mut found = vec![in alloc; false; count]?;
+    mark_names(nodes, marks, &mut found);
+    Ok(found)
 }
 
 /// Which rules are left-recursive, and where none is, a rank of each node.
@@ -100,8 +124,10 @@ pub(crate) struct Left {
 
 /// Finds the left-recursive rules, and ranks the nodes.
 ///
-/// Nodes are peeled whose left steps all lead to peeled nodes: what is left over leads to a cycle.
-/// `Memory` where a growth was refused.
+/// A rule is left-recursive exactly where a node of its name comes back to itself by left steps.
+///
+/// # Errors
+/// `Memory` if an allocation fails.
 pub(crate) fn find_left(
     alloc: Global,
     nodes: &[Node],
@@ -115,9 +141,10 @@ pub(crate) fn find_left(
         IsLeft rules (shapes_of nodes.now) bodies.now left.recursive.items left.ranks.items) }
 {
     let steps = steps(alloc, nodes, bodies, nulls)?;
-    let order = derive(alloc, &steps)?;
-    let peeled = marks_of(alloc, nodes.len(), &order)?;
-    let recursive = recursive(alloc, nodes, bodies, &steps, &peeled)?;
-    let ranks = places_of(alloc, nodes.len(), &order)?;
-    Ok(Left { recursive, ranks })
+    let found = on_cycle(alloc, &steps)?;
+    let recursive = named_rules(alloc, nodes, &found.marks, bodies.len())?;
+    Ok(Left {
+        recursive,
+        ranks: found.ranks,
+    })
 }

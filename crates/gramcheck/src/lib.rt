@@ -4,17 +4,14 @@
 mod analysis;
 mod check;
 mod cut;
-mod derive;
 mod laws;
 mod left;
 mod loops;
-mod marks;
 mod node;
 mod notes;
 mod nullable;
 mod number;
 mod ranked_laws;
-mod search;
 mod sound;
 mod uses;
 
@@ -31,9 +28,5 @@ pub use ranked_laws::{
 };
 pub use sound::SoundPeg;
 
-#[cfg(test)]
-mod analysis_tests;
-#[cfg(test)]
-mod cut_tests;
 #[cfg(test)]
 mod tests;

@@ -2,11 +2,11 @@
 ghost use Rattle.std.specs.Prelude.{◌≡◌, ◌↔◌, ℕ, ◌<◌, Bool, length, map, slice_index_or, IfOk};
 ghost use Rattle.gramcheck.specs.Bodies.{IsBuilt, IsOperand};
 ghost use Rattle.gramcheck.specs.Loops.{LoopsNow, LoopsTo};
-ghost use Rattle.gramcheck.specs.Marks.{AreBelow};
+ghost use Rattle.leastset.specs.NumberMarks.{AreBelow};
 ghost use Rattle.gramcheck.specs.Nodes.{shape_of, shapes_of};
 
-use crate::marks::some_marked;
 use crate::node::Node;
+use leastset::some_marked;
 use ruletable::Memory;
 use std::alloc::Global;
 
@@ -25,7 +25,7 @@ fn repeats(node: &Node, nulls: &[bool], marks: &[bool]) -> bool
         | Node::Open
         | Node::Close => false,
         Node::Seq(members) | Node::Choice(members) => some_marked(members, marks),
-        Node::Star(operand) | Node::Plus(operand) => nulls[*operand] || marks[*operand],
+        Node::Star(operand) | Node::Plus { operand, .. } => nulls[*operand] || marks[*operand],
         Node::Opt(operand) | Node::And(operand) | Node::Not(operand) => marks[*operand],
     }
 }

@@ -20,8 +20,8 @@ pub enum Node {
     Choice(Vec<usize>),
     /// As often as it succeeds.
     Star(usize),
-    /// As often as it succeeds, but at least once.
-    Plus(usize),
+    /// As often as it succeeds, but at least once: the operand, and the node that goes on with it, its repetition.
+    Plus { operand: usize, star: usize },
     /// Once, if it succeeds.
     Opt(usize),
     /// Whether it succeeds; takes nothing.

@@ -163,6 +163,3 @@ pub fn one_list_of_notes()
     ensures { (rules : List Rule) (again : List (List ℕ)) (start : Option (List ℕ)) (a b : List Said) →
         AreNotes rules again start a → AreNotes rules again start b → a ≡ b }
 {}
-
-#[cfg(test)]
-mod tests;

@@ -2,14 +2,13 @@
 ghost use Rattle.std.specs.Prelude.{◌≡◌, ℕ, List, [], ◌∷◌, length, slice_get, option_to_list, IfOk};
 ghost use Rattle.pegread.specs.Pattern.{Rule};
 ghost use Rattle.gramcheck.specs.Bodies.{AreBodies, IsBuilt};
-ghost use Rattle.gramcheck.specs.Derive.{demand_of, demands_of};
-ghost use Rattle.gramcheck.specs.Marks.{AreBelow};
+ghost use Rattle.leastset.specs.Demands.{demand_of, demands_of};
+ghost use Rattle.leastset.specs.NumberMarks.{AreBelow};
 ghost use Rattle.gramcheck.specs.Nodes.{shape_of, shapes_of};
 ghost use Rattle.gramcheck.specs.Nulls.{null_demand, null_demands, AreNullMarks};
 
-use crate::derive::{Need, derive};
-use crate::marks::marks_of;
 use crate::node::Node;
+use leastset::{Need, least};
 use ruletable::Memory;
 use std::alloc::Global;
 
@@ -17,9 +16,7 @@ use std::alloc::Global;
 pub(crate) fn one(alloc: Global, n: usize) -> Result<Vec<usize>, Memory>
     ensures { IfOk result (λ row. row.items ≡ n ∷ []) }
 {
-    let mut row = Vec::new(alloc);
-    row.push(n)?;
-    Ok(row)
+    Ok(Vec::from_slice(alloc, &[n])?)
 }
 
 /// The node of the body of that rule, if there is such a rule.
@@ -48,7 +45,7 @@ fn need(alloc: Global, node: &Node, bodies: &[usize]) -> Result<Need, Memory>
         Node::Name(id) => Need::One(body_of(alloc, bodies, *id)?),
         Node::Seq(members) => Need::All(Vec::from_slice(alloc, members)?),
         Node::Choice(alternatives) => Need::One(Vec::from_slice(alloc, alternatives)?),
-        Node::Plus(operand) => Need::One(one(alloc, *operand)?),
+        Node::Plus { operand, .. } => Need::One(one(alloc, *operand)?),
         Node::Star(_)
         | Node::Opt(_)
         | Node::And(_)
@@ -80,7 +77,6 @@ pub(crate) fn nullable(alloc: Global, nodes: &[Node], bodies: &[usize]) -> Resul
     ensures marks { IfOk result (λ marks. (rules : List Rule) → AreBodies rules (shapes_of nodes.now) bodies.now → AreNullMarks rules (shapes_of nodes.now) marks.items) }
 {
     let needs = needs(alloc, nodes, bodies)?;
-    let order = derive(alloc, &needs)?;
-    let marks = marks_of(alloc, nodes.len(), &order)?;
+    let marks = least(alloc, &needs)?;
     Ok(marks)
 }

@@ -47,7 +47,14 @@ pub(crate) fn number(
         Expr::Seq(members) => Node::Seq(number_all(alloc, rules, members, nodes)?),
         Expr::Choice(alternatives) => Node::Choice(number_all(alloc, rules, alternatives, nodes)?),
         Expr::Star(operand) => Node::Star(number(alloc, rules, operand, nodes)?),
-        Expr::Plus(operand) => Node::Plus(number(alloc, rules, operand, nodes)?),
+        Expr::Plus(operand) => {
+            let repeated = number(alloc, rules, operand, nodes)?;
+            let star = add(nodes, Node::Star(repeated))?;
+            Node::Plus {
+                operand: repeated,
+                star,
+            }
+        }
         Expr::Opt(operand) => Node::Opt(number(alloc, rules, operand, nodes)?),
         Expr::And(operand) => Node::And(number(alloc, rules, operand, nodes)?),
         Expr::Not(operand) => Node::Not(number(alloc, rules, operand, nodes)?),

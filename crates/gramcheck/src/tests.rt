@@ -11,8 +11,6 @@ use ruletable::{SinkOf, write_note};
 use std::alloc::Global;
 use std::test::Fail;
 
-mod chains;
-
 // The lines of the notes on a grammar's text, and whether it is ready to run.
 fn noted(alloc: Global, text: &[u8], start: Option<&str>) -> Result<(Vec<u8>, bool), Fail> {
     let peg = read_peg(alloc, text)?;
@@ -24,113 +22,156 @@ fn noted(alloc: Global, text: &[u8], start: Option<&str>) -> Result<(Vec<u8>, bo
     Ok((sink.into_inner(), checked.sound.is_some()))
 }
 
-// Whether the notes on a grammar's text are these lines, and refuse it.
-fn is_refused_with(alloc: Global, text: &[u8], lines: &[u8]) -> Result<bool, Fail> {
-    let (found, ready) = noted(alloc, text, None)?;
-    Ok(found.as_slice() == lines && !ready)
-}
-
-// Whether the notes on a grammar's text are these lines, and leave it ready to run.
-fn is_ready_with(alloc: Global, text: &[u8], lines: &[u8]) -> Result<bool, Fail> {
-    let (found, ready) = noted(alloc, text, None)?;
-    Ok(found.as_slice() == lines && ready)
-}
-
-#[test]
-fn each_note_alone(rt: HostRuntime) -> Result<(), Fail> {
-    let alloc = rt.alloc();
-    assert!(rt; is_refused_with(alloc, b"S <- 'a'\nS <- 'b'", b"rule 'S' redefined\n")?);
-    assert!(rt; is_refused_with(alloc, b"S <- T 'a'", b"rule 'T' used but not defined\n")?);
-    assert!(rt;
-        is_ready_with(
-            alloc,
-            b"S <- 'a'\nT <- 'b'",
-            b"rule 'T' defined but not used\n"
-        )?
-    );
-    let line = b"possible infinite left recursion in rule 'S'\n";
-    assert!(rt; is_refused_with(alloc, b"S <- S 'a' / 'b'", line)?);
-    let line = b"possible infinite loop in rule 'S'\n";
-    assert!(rt; is_refused_with(alloc, b"S <- ('a'?)*", line)?);
-    Ok(())
-}
-
-#[test]
-fn all_notes_at_once(rt: HostRuntime) -> Result<(), Fail> {
-    let text = b"S <- X L\nL <- L 'b'\nU <- ('c'?)+\nS <- 'a'";
-    let lines =
-        b"rule 'S' redefined\nrule 'X' used but not defined\nrule 'U' defined but not used\npossible infinite left recursion in rule 'L'\npossible infinite loop in rule 'U'\n";
-    assert!(rt; is_refused_with(rt.alloc(), text, lines)?);
-    Ok(())
-}
-
-#[test]
-fn no_notes(rt: HostRuntime) -> Result<(), Fail> {
-    let alloc = rt.alloc();
-    assert!(rt; is_ready_with(alloc, b"S <- 'a' S / {e}", b"")?);
-    assert!(rt; is_ready_with(alloc, b"S <-", b"")?);
-    // names that stand before and behind their rules
-    assert!(rt; is_ready_with(alloc, b"S <- T U\nT <- U 't'?\nU <- 'u' T S", b"")?);
-    Ok(())
-}
-
-#[test]
-fn left_recursion(rt: HostRuntime) -> Result<(), Fail> {
-    let alloc = rt.alloc();
-    // past a predicate and an option, which may take nothing
-    let line = b"possible infinite left recursion in rule 'A'\n";
-    assert!(rt; is_refused_with(alloc, b"A <- !'x' 'y'? A / 'z'", line)?);
+// Grammars, the lines of the notes on them, and whether they are ready to run.
+const NOTED: [(&[u8], &[u8], bool); 34] = [
+    // nothing to say; names before and after their rules
+    (b"S <-", b"", true),
+    (b"S <- 'a' S / {e}", b"", true),
+    (b"S <- T U\nT <- U 't'?\nU <- 'u' T S", b"", true),
+    // each note alone
+    (b"S <- 'a'\nS <- 'b'", b"rule 'S' redefined\n", false),
+    (b"S <- T 'a'", b"rule 'T' used but not defined\n", false),
+    (
+        b"S <- 'a'\nT <- 'b'",
+        b"rule 'T' defined but not used\n",
+        true,
+    ),
+    (
+        b"S <- S 'a' / 'b'",
+        b"possible infinite left recursion in rule 'S'\n",
+        false,
+    ),
+    (
+        b"S <- ('a'?)*",
+        b"possible infinite loop in rule 'S'\n",
+        false,
+    ),
+    // all notes at once
+    (
+        b"S <- X L\nL <- L 'b'\nU <- ('c'?)+\nS <- 'a'",
+        b"rule 'S' redefined\nrule 'X' used but not defined\nrule 'U' defined but not used\npossible infinite left recursion in rule 'L'\npossible infinite loop in rule 'U'\n",
+        false,
+    ),
+    // left recursion past predicates, options, actions and rules that may take nothing
+    (
+        b"A <- !'x' 'y'? A / 'z'",
+        b"possible infinite left recursion in rule 'A'\n",
+        false,
+    ),
+    (
+        b"A <- {} A 'a' / &. A",
+        b"possible infinite left recursion in rule 'A'\n",
+        false,
+    ),
+    (
+        b"A <- B A / 'z'\nB <- {b} < 'c'* >",
+        b"possible infinite left recursion in rule 'A'\n",
+        false,
+    ),
     // within a predicate
-    assert!(rt; is_refused_with(alloc, b"A <- !(A 'x') 'z'", line)?);
-    // past a rule that may take nothing, but not past one without a body
-    assert!(rt; is_refused_with(alloc, b"A <- B A / 'z'\nB <- {b} < 'c'* >", line)?);
-    assert!(rt; is_refused_with(alloc, b"A <- B A / 'z'", b"rule 'B' used but not defined\n")?);
-    // a rule that leads to one, and doesn't come back itself
-    assert!(rt; is_refused_with(alloc, b"S <- A 'x'\nA <- A 'y' / 'z'", line)?);
-    Ok(())
-}
+    (
+        b"A <- !(A 'x') 'z'",
+        b"possible infinite left recursion in rule 'A'\n",
+        false,
+    ),
+    // no left recursion past what takes a byte, or past a name without a rule
+    (b"A <- 'a' A / 'a'+ A", b"", true),
+    (b"A <- B A / 'z'", b"rule 'B' used but not defined\n", false),
+    // through other rules; a rule that only leads to a cycle is not on it
+    (
+        b"A <- B 'a'\nB <- A / .",
+        b"possible infinite left recursion in rule 'A'\npossible infinite left recursion in rule 'B'\n",
+        false,
+    ),
+    (
+        b"S <- A 'x'\nA <- B\nB <- C 'a'\nC <- B 'b' / S",
+        b"possible infinite left recursion in rule 'S'\npossible infinite left recursion in rule 'A'\npossible infinite left recursion in rule 'B'\npossible infinite left recursion in rule 'C'\n",
+        false,
+    ),
+    (
+        b"A <- B\nB <- C 'a'\nC <- B / D\nD <- 'd'",
+        b"possible infinite left recursion in rule 'B'\npossible infinite left recursion in rule 'C'\n",
+        false,
+    ),
+    // loops of choices, predicates, sequences and other rules that may take nothing
+    (
+        b"S <- ('a'? / 'b')+",
+        b"possible infinite loop in rule 'S'\n",
+        false,
+    ),
+    (
+        b"S <- (&'a')*",
+        b"possible infinite loop in rule 'S'\n",
+        false,
+    ),
+    (
+        b"S <- ('' !.)* 'a'",
+        b"possible infinite loop in rule 'S'\n",
+        false,
+    ),
+    (b"S <- ('a' '')*", b"", true),
+    (
+        b"S <- 'a' !(''*)",
+        b"possible infinite loop in rule 'S'\n",
+        false,
+    ),
+    (
+        b"S <- T*\nT <- 'a'?",
+        b"possible infinite loop in rule 'S'\n",
+        false,
+    ),
+    (b"S <- T*\nT <- 'a'? 'b'", b"", true),
+    // several kinds, each in the order of the rules
+    (
+        b"A <- ('' / 'b')* C\nD <- 'd'",
+        b"rule 'C' used but not defined\nrule 'D' defined but not used\npossible infinite loop in rule 'A'\n",
+        false,
+    ),
+    (
+        b"S <- 'a'\nT <- ''*",
+        b"rule 'T' defined but not used\npossible infinite loop in rule 'T'\n",
+        false,
+    ),
+    // undefined names once each, by first use
+    (
+        b"S <- Y 'a' X Y\nT <- Z X S",
+        b"rule 'Y' used but not defined\nrule 'X' used but not defined\nrule 'Z' used but not defined\nrule 'T' defined but not used\n",
+        false,
+    ),
+    // redefinitions once a rule, in the order of the rules; a dropped body uses nothing and repeats nothing
+    (
+        b"S <- T\nT <- 'b'\nT <- 'c'\nS <- 'd'\nT <- 'e'",
+        b"rule 'S' redefined\nrule 'T' redefined\n",
+        false,
+    ),
+    (
+        b"S <- 'a'\nS <- T\nT <- 'b'",
+        b"rule 'S' redefined\nrule 'T' defined but not used\n",
+        false,
+    ),
+    (b"S <- 'a'\nS <- S X ''*", b"rule 'S' redefined\n", false),
+    // a rule that leads to a left-recursive one
+    (
+        b"S <- A 'x'\nA <- A 'y' / 'z'",
+        b"possible infinite left recursion in rule 'A'\n",
+        false,
+    ),
+    // a rule that only its own body uses is used; names differ by case
+    (
+        b"S <- 'a'\nown <- 'b' own\nlone <- <",
+        b"rule 'lone' defined but not used\n",
+        true,
+    ),
+    (b"S <- s", b"rule 's' used but not defined\n", false),
+];
 
 #[test]
-fn loops(rt: HostRuntime) -> Result<(), Fail> {
-    let alloc = rt.alloc();
-    let line = b"possible infinite loop in rule 'S'\n";
-    assert!(rt; is_refused_with(alloc, b"S <- ('a'? / 'b')+", line)?);
-    assert!(rt; is_refused_with(alloc, b"S <- (&'a')*", line)?);
-    // behind a byte, and within a predicate
-    assert!(rt; is_refused_with(alloc, b"S <- 'a' !(''*)", line)?);
-    // the rule that repeats, and not the one that may take nothing
-    assert!(rt; is_refused_with(alloc, b"S <- T*\nT <- 'a'?", line)?);
-    assert!(rt; is_ready_with(alloc, b"S <- T*\nT <- 'a'? 'b'", b"")?);
-    Ok(())
-}
-
-#[test]
-fn several_notes(rt: HostRuntime) -> Result<(), Fail> {
-    let alloc = rt.alloc();
-    let lines =
-        b"rule 'C' used but not defined\nrule 'D' defined but not used\npossible infinite loop in rule 'A'\n";
-    assert!(rt; is_refused_with(alloc, b"A <- ('' / 'b')* C\nD <- 'd'", lines)?);
-    let lines = b"rule 'T' defined but not used\npossible infinite loop in rule 'T'\n";
-    assert!(rt; is_refused_with(alloc, b"S <- 'a'\nT <- ''*", lines)?);
-    // each name once, by its first use
-    let lines =
-        b"rule 'Y' used but not defined\nrule 'X' used but not defined\nrule 'Z' used but not defined\nrule 'T' defined but not used\n";
-    assert!(rt; is_refused_with(alloc, b"S <- Y 'a' X Y\nT <- Z X S", lines)?);
-    Ok(())
-}
-
-#[test]
-fn redefinitions(rt: HostRuntime) -> Result<(), Fail> {
-    let alloc = rt.alloc();
-    // once a rule, in the order of the rules
-    let lines = b"rule 'S' redefined\nrule 'T' redefined\n";
-    let text = b"S <- T\nT <- 'b'\nT <- 'c'\nS <- 'd'\nT <- 'e'";
-    assert!(rt; is_refused_with(alloc, text, lines)?);
-    // a dropped body uses nothing, and does not repeat
-    let lines = b"rule 'S' redefined\nrule 'T' defined but not used\n";
-    assert!(rt; is_refused_with(alloc, b"S <- 'a'\nS <- T\nT <- 'b'", lines)?);
-    let line = b"rule 'S' redefined\n";
-    assert!(rt; is_refused_with(alloc, b"S <- 'a'\nS <- S X ''*", line)?);
+fn notes(rt: HostRuntime) -> Result<(), Fail> {
+    for (text, lines, ready) in NOTED {
+        let (found, is_ready) = noted(rt.alloc(), text, None)?;
+        assert!(rt; found.as_slice() == lines);
+        assert!(rt; is_ready == ready);
+    }
     Ok(())
 }
 
@@ -158,18 +199,38 @@ fn redefinitions_alone(rt: HostRuntime) -> Result<(), Fail> {
 
 #[test]
 fn names_of_start_rules(rt: HostRuntime) -> Result<(), Fail> {
-    let alloc = rt.alloc();
-    let (lines, ready) = noted(alloc, b"S <- 'a'\nT <- 'b'", Some("T"))?;
-    assert!(rt; ready && lines.as_slice() == b"rule 'S' defined but not used\n".as_slice());
-    let (lines, ready) = noted(alloc, b"S <- 'a' T\nT <- 'b'", Some("S"))?;
-    assert!(rt; ready && lines.is_empty());
-    let (lines, ready) = noted(alloc, b"S <- 'a'", Some("T"))?;
-    let want = b"rule 'T' used but not defined\nrule 'S' defined but not used\n";
-    assert!(rt; !ready && lines.as_slice() == want.as_slice());
-    let (lines, ready) = noted(alloc, b"S <- X", Some(""))?;
-    let want =
-        b"rule '' used but not defined\nrule 'X' used but not defined\nrule 'S' defined but not used\n";
-    assert!(rt; !ready && lines.as_slice() == want.as_slice());
+    let table: [(&[u8], &str, &[u8], bool); 5] = [
+        (
+            b"S <- 'a'\nT <- 'b'",
+            "T",
+            b"rule 'S' defined but not used\n",
+            true,
+        ),
+        (b"S <- 'a' T\nT <- 'b'", "S", b"", true),
+        (
+            b"A <- 'a' A B X\nB <- &Y / X+\nC <- .",
+            "Y",
+            b"rule 'Y' used but not defined\nrule 'X' used but not defined\nrule 'C' defined but not used\n",
+            false,
+        ),
+        (
+            b"S <- 'a'",
+            "T",
+            b"rule 'T' used but not defined\nrule 'S' defined but not used\n",
+            false,
+        ),
+        (
+            b"S <- X",
+            "",
+            b"rule '' used but not defined\nrule 'X' used but not defined\nrule 'S' defined but not used\n",
+            false,
+        ),
+    ];
+    for (text, start, lines, ready) in table {
+        let (found, is_ready) = noted(rt.alloc(), text, Some(start))?;
+        assert!(rt; found.as_slice() == lines);
+        assert!(rt; is_ready == ready);
+    }
     Ok(())
 }
 
@@ -192,37 +253,60 @@ fn start_ids(rt: HostRuntime) -> Result<(), Fail> {
     Ok(())
 }
 
-// A node's form, its text and its operands.
-fn parts(node: &Node) -> (u8, &[u8], &[usize]) {
+// A node's form, its one operand or the id of its name, and its members or alternatives.
+fn parts(node: &Node) -> (u8, usize, &[usize]) {
     match node {
-        Node::Any => (b'.', &[], &[]),
-        Node::Bytes(text) => (b'"', text, &[]),
-        Node::Seq(members) => (b',', &[], members),
-        Node::Choice(alternatives) => (b'/', &[], alternatives),
-        Node::Act(template) => (b'{', template, &[]),
-        Node::Open => (b'<', &[], &[]),
-        Node::Close => (b'>', &[], &[]),
-        _ => (b'?', &[], &[]),
+        Node::Any => (b'.', 0, &[]),
+        Node::Bytes(_) => (b'"', 0, &[]),
+        Node::Set(_) => (b'[', 0, &[]),
+        Node::Name(id) => (b'N', *id, &[]),
+        Node::Seq(members) => (b',', 0, members),
+        Node::Choice(alternatives) => (b'/', 0, alternatives),
+        Node::Star(n) => (b'*', *n, &[]),
+        Node::Plus { operand, .. } => (b'+', *operand, &[]),
+        Node::Opt(n) => (b'?', *n, &[]),
+        Node::And(n) => (b'&', *n, &[]),
+        Node::Not(n) => (b'!', *n, &[]),
+        Node::Act(_) => (b'{', 0, &[]),
+        Node::Open => (b'<', 0, &[]),
+        Node::Close => (b'>', 0, &[]),
     }
 }
 
 #[test]
-fn operands_stand_before_their_node(rt: HostRuntime) -> Result<(), Fail> {
-    let peg = sound(rt.alloc(), b"S <- 'a' . / < >", None)?;
-    let rows: [(u8, &[u8], &[usize]); 7] = [
-        (b'"', b"a", &[]),
-        (b'.', b"", &[]),
-        (b',', b"", &[0, 1]),
-        (b'<', b"", &[]),
-        (b'>', b"", &[]),
-        (b',', b"", &[3, 4]),
-        (b'/', b"", &[2, 5]),
+fn nodes_of_each_form(rt: HostRuntime) -> Result<(), Fail> {
+    let text = b"A <- B 'x'* !C / < . > {t}\nB <- [b-d]+ C?\nC <- &A";
+    let peg = sound(rt.alloc(), text, None)?;
+    let table: [(u8, usize, &[usize]); 20] = [
+        (b'N', 1, &[]),
+        (b'"', 0, &[]),
+        (b'*', 1, &[]),
+        (b'N', 2, &[]),
+        (b'!', 3, &[]),
+        (b',', 0, &[0, 2, 4]),
+        (b'<', 0, &[]),
+        (b'.', 0, &[]),
+        (b'>', 0, &[]),
+        (b'{', 0, &[]),
+        (b',', 0, &[6, 7, 8, 9]),
+        (b'/', 0, &[5, 10]),
+        (b'[', 0, &[]),
+        (b'*', 12, &[]),
+        (b'+', 12, &[]),
+        (b'N', 2, &[]),
+        (b'?', 15, &[]),
+        (b',', 0, &[14, 16]),
+        (b'N', 0, &[]),
+        (b'&', 18, &[]),
     ];
-    assert_eq!(rt; peg.nodes(), rows.len());
-    for (n, row) in rows.into_iter().enumerate() {
+    assert!(rt; peg.nodes() == table.len());
+    for (n, row) in table.into_iter().enumerate() {
         assert!(rt; parts(peg.node(n)) == row);
     }
-    assert_eq!(rt; peg.body_node(peg.start()), 6);
+    assert!(rt; peg.body_node(peg.start()) == 11);
+    assert!(rt; matches!(peg.node(1), Node::Bytes(text) if text.as_slice() == b"x".as_slice()));
+    assert!(rt; matches!(peg.node(9), Node::Act(text) if text.as_slice() == b"t".as_slice()));
+    assert!(rt; matches!(peg.node(12), Node::Set(set) if set.has(b'd') && !set.has(b'a')));
     Ok(())
 }
 

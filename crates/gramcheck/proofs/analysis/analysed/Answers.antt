@@ -1,7 +1,7 @@
 use Rattle.std.proofs.Common.{arith, sym, length, ap}
 use Rattle.std.proofs.lemmas.List.{length-map}
 use Rattle.gramcheck.specs.Nodes.{shape_of}
-use Rattle.gramcheck.proofs.Analysing as a
+use Rattle.gramcheck.proofs.IsAnalysedLemmas as a
 use Rattle.gramcheck.proofs.analysis.analysed.Goals as goal
 
 pub body_marks-requires : goal.body_marks-requires

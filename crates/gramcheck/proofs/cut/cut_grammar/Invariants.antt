@@ -1,6 +1,6 @@
 use Rattle.pegread.specs.Views.{rules_of}
 use Rattle.gramcheck.specs.Nodes.{shapes_of}
-use Rattle.gramcheck.proofs.Cutting.{AreCut}
+use Rattle.gramcheck.proofs.AreBodiesLemmas.{AreCut}
 use Rattle.gramcheck.proofs.cut.cut_grammar.Given as goal
 
 abbrev pub invariant-loop-id : goal.invariant-loop-id

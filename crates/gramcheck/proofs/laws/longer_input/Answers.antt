@@ -1,4 +1,4 @@
-use Rattle.gramcheck.proofs.Growing.{grows}
+use Rattle.gramcheck.proofs.LongerInputLemmas.{grows}
 use Rattle.gramcheck.proofs.laws.longer_input.Goals as goal
 
 pub returns : goal.returns

@@ -1,4 +1,4 @@
-use Rattle.gramcheck.proofs.Determined.{same}
+use Rattle.gramcheck.proofs.OneOutcomeLemmas.{same}
 use Rattle.gramcheck.proofs.laws.one_outcome.Goals as goal
 
 pub returns : goal.returns

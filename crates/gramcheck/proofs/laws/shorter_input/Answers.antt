@@ -1,4 +1,4 @@
-use Rattle.gramcheck.proofs.Shrinking.{shrinks}
+use Rattle.gramcheck.proofs.ShorterInputLemmas.{shrinks}
 use Rattle.gramcheck.proofs.laws.shorter_input.Goals as goal
 
 pub returns : goal.returns

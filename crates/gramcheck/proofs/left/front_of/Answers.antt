@@ -1,4 +1,4 @@
-use Rattle.gramcheck.proofs.Tables as t
+use Rattle.leastset.proofs.RowsOfLemmas as t
 use Rattle.gramcheck.proofs.left.front_of.Goals as goal
 
 pub bounds-nulls-member : goal.bounds-nulls-member

@@ -1,5 +1,5 @@
 use Rattle.std.proofs.Common.{◌≡◌, ◌++◌, drop}
-use Rattle.gramcheck.specs.Steps.{front}
+use Rattle.gramcheck.specs.NodeRows.{front}
 use Rattle.gramcheck.proofs.left.front_of.Given as goal
 
 abbrev pub invariant-loop-member : goal.invariant-loop-member

@@ -4,7 +4,7 @@ use Rattle.std.proofs.lemmas.List.{length-map}
 use Rattle.ruletable.specs.Rules.{names_of}
 use Rattle.ruletable.specs.Notes.{said_of}
 use Rattle.gramcheck.specs.Kinds.{said_as}
-use Rattle.gramcheck.proofs.Choosing.{note-marked, note-unmarked}
+use Rattle.gramcheck.proofs.ChosenLemmas.{note-marked, note-unmarked}
 use Rattle.gramcheck.proofs.notes.note_marked.Goals as goal
 use Rattle.gramcheck.proofs.notes.note_marked.Goals.{then-marks-id+in_ok-name+in_ok-push, else-marks-id}
 

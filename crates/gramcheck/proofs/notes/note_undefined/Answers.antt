@@ -2,7 +2,7 @@
 use Rattle.std.proofs.Common.{ap}
 use Rattle.ruletable.specs.Notes.{Undefined}
 use Rattle.ruletable.specs.Rules.{names_of}
-use Rattle.gramcheck.proofs.Choosing.{note-next}
+use Rattle.gramcheck.proofs.ChosenLemmas.{note-next}
 use Rattle.gramcheck.proofs.notes.note_undefined.Goals as goal
 
 pub loop-id-preserved : goal.loop-id-preserved

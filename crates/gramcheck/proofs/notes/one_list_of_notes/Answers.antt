@@ -1,4 +1,4 @@
-use Rattle.gramcheck.proofs.Noting.{notes-one}
+use Rattle.gramcheck.proofs.AreNotesLemmas.{notes-one}
 use Rattle.gramcheck.proofs.notes.one_list_of_notes.Goals as goal
 
 pub returns : goal.returns

@@ -1,0 +1,190 @@
+-- The least set of nodes whose needs are met contains exactly the nodes that spell nullable expressions.
+-- Serves: check_peg (notes, ranked)
+use Rattle.std.proofs.Common.{◌≡◌, ℕ, Bool, List, [], ◌∷◌, length, Contains, refl, sym, ap, subst, ◌∙◌, arith, ⊎_elim, inl, inr, ◌⊎◌, Some, option_to_list}
+use Rattle.std.specs.Prelude.{slice_get}
+use Rattle.std.proofs.lemmas.List.{length-map}
+use Rattle.std.proofs.lemmas.Option.{slice_get_within}
+use Rattle.pegread.specs.Pattern.{Pattern, Patterns, Rule}
+use Rattle.gramcheck.specs.Bodies.{AreBodies, IsBuilt, IsOperand}
+use Rattle.leastset.specs.Demands.{Demand, All, One, row_of, AreNeedsWithin}
+use Rattle.leastset.specs.Least.{Comes, by_all, by_one, AreMarksOfThose}
+use Rattle.gramcheck.specs.Left.{Nullable, no_bytes, an_act, an_open, a_close, an_and, a_not, an_opt, a_star, a_plus, a_seq, a_choice, a_name, AllNullable, all_none, all_more, SomeNullable, some_first, some_later}
+use Rattle.leastset.specs.NumberMarks.{AreBelow}
+use Rattle.gramcheck.specs.Nodes as node
+use Rattle.gramcheck.specs.Nodes.{Shape, id_of, Spells, spells_any, spells_bytes, spells_set, spells_name, spells_seq, spells_choice, spells_star, spells_plus, spells_opt, spells_and, spells_not, spells_act, spells_open, spells_close, SpellAll, spell_none, spell_more}
+use Rattle.gramcheck.specs.Nulls.{null_demand, null_demands, AreNullMarks}
+use Rattle.leastset.proofs.ContainsLemmas.{none_of, only_one, in_first, in_later, cons_cases, in_get}
+use Rattle.gramcheck.proofs.BodyOfLemmas.{said_here, said_there, name_body, body_node, node_body}
+
+-- a node needs operands and bodies
+null_row : (bodies : List ℕ) (a : Shape) (m : ℕ) → Contains (row_of (null_demand bodies a)) m →
+    IsOperand a m ⊎ Contains bodies m
+null_row bodies node.Any m h = absurd (none_of m h)
+null_row bodies (node.Bytes []) m h = absurd (none_of m h)
+null_row bodies (node.Bytes (b ∷ bs)) m h = absurd (none_of m h)
+null_row bodies (node.Set s) m h = absurd (none_of m h)
+null_row bodies (node.Name id) m h = inr (in_get bodies id m (name_body bodies id m h))
+null_row bodies (node.Seq ms) m h = inl h
+null_row bodies (node.Choice ms) m h = inl h
+null_row bodies (node.Star k) m h = absurd (none_of m h)
+null_row bodies (node.Plus k i) m h = inl (sym (only_one k m h))
+null_row bodies (node.Opt k) m h = absurd (none_of m h)
+null_row bodies (node.And k) m h = absurd (none_of m h)
+null_row bodies (node.Not k) m h = absurd (none_of m h)
+null_row bodies (node.Act t) m h = absurd (none_of m h)
+null_row bodies node.Open m h = absurd (none_of m h)
+null_row bodies node.Close m h = absurd (none_of m h)
+
+pub null_within : (bodies : List ℕ) (nodes : List Shape) (count : ℕ) → count ≡ length nodes → IsBuilt nodes →
+    AreBelow bodies count → AreNeedsWithin (null_demands bodies nodes)
+null_within bodies nodes count is built below = record {
+  within = λ n m need at h.
+      let s = said_there (null_demand bodies) nodes n need at in
+      let l = length-map nodes (null_demand bodies) in
+      ⊎_elim
+      (λ operand.
+      let lt = built.after n m s.0 s.1 operand in
+      let low = slice_get_within nodes n s.0 s.1 in
+      omega (arith, lt, low, l))
+      (λ body. let lt = below m body in omega (arith, lt, l, is))
+      (null_row bodies s.0 m (subst (λ v. Contains (row_of v) m) (sym s.2) h));
+}
+
+module _ (rules : List Rule) (nodes : List Shape) (bodies : List ℕ) (are : AreBodies rules nodes bodies) where
+  abbrev Here : ℕ → Type 0
+  Here n = Comes (null_demands bodies nodes) n
+
+  need_at : (n : ℕ) (a : Shape) (d : Demand) → slice_get nodes n ≡ Some a →
+      slice_get (null_demands bodies nodes) n ≡ Some d → null_demand bodies a ≡ d
+  need_at n a d g at = let e = said_here (null_demand bodies) nodes n a g in
+      let same : Some (null_demand bodies a) ≡ Some d = sym e ∙ at in cc same
+
+  all_of : {ms : List ℕ} {ps : Patterns} →
+      ((m : ℕ) (q : Pattern) → Contains ms m → Spells rules nodes m q → Nullable rules q) →
+      SpellAll rules nodes ms ps → AllNullable rules ps
+  all_of old spell_none = all_none
+  all_of old (spell_more {n = n} {ns = ns} {p = p} s ss) =
+      all_more (old n p (in_first n ns) s) (all_of (λ m q h k. old m q (in_later n m ns h) k) ss)
+
+  some_of : {ms : List ℕ} {ps : Patterns} (m : ℕ) → Contains ms m →
+      ((q : Pattern) → Spells rules nodes m q → Nullable rules q) → SpellAll rules nodes ms ps → SomeNullable rules ps
+  some_of m h old spell_none = absurd (none_of m h)
+  some_of m h old (spell_more {n = n} {ns = ns} {p = p} s ss) = ⊎_elim
+      (λ is. some_first (old p (subst (λ v. Spells rules nodes v p) is s)))
+      (λ later. some_later (some_of m later old ss))
+      (cons_cases n m ns h)
+
+  -- a node of which all are nullable that it needs
+  if_all : (n : ℕ) (row : List ℕ) {p : Pattern} → slice_get (null_demands bodies nodes) n ≡ Some (All row) →
+      ((m : ℕ) (q : Pattern) → Contains row m → Spells rules nodes m q → Nullable rules q) →
+      Spells rules nodes n p → Nullable rules p
+  if_all n row at old (spells_any g) = let e = need_at n node.Any (All row) g at in absurd (cc e)
+  if_all n row at old (spells_bytes {bs = []} g) = no_bytes
+  if_all n row at old (spells_bytes {bs = b ∷ bs} g) = let e =
+      need_at n (node.Bytes (b ∷ bs)) (All row) g at in absurd (cc e)
+  if_all n row at old (spells_set {s = s} g) = let e = need_at n (node.Set s) (All row) g at in absurd (cc e)
+  if_all n row at old (spells_name {name = name} g) = let e =
+      need_at n (node.Name (id_of rules name)) (All row) g at in absurd (cc e)
+  if_all n row at old (spells_seq {ms = ms} g ss) = let e = need_at n (node.Seq ms) (All row) g at in
+      let same : ms ≡ row = cc e in
+      a_seq (all_of (λ m q h k. old m q (subst (λ v. Contains v m) same h) k) ss)
+  if_all n row at old (spells_choice {ms = ms} g ss) = let e =
+      need_at n (node.Choice ms) (All row) g at in absurd (cc e)
+  if_all n row at old (spells_star g s) = a_star
+  if_all n row at old (spells_plus {m = m} {k = i} g s a) = let e =
+      need_at n (node.Plus m i) (All row) g at in absurd (cc e)
+  if_all n row at old (spells_opt g s) = an_opt
+  if_all n row at old (spells_and g s) = an_and
+  if_all n row at old (spells_not g s) = a_not
+  if_all n row at old (spells_act g) = an_act
+  if_all n row at old (spells_open g) = an_open
+  if_all n row at old (spells_close g) = a_close
+
+  -- a node of which one is nullable that it needs
+  if_one : (n m : ℕ) (row : List ℕ) {p : Pattern} → slice_get (null_demands bodies nodes) n ≡ Some (One row) →
+      Contains row m → ((q : Pattern) → Spells rules nodes m q → Nullable rules q) →
+      Spells rules nodes n p → Nullable rules p
+  if_one n m row at h old (spells_any g) = let e = need_at n node.Any (One row) g at in let same : row ≡ [] = cc e in
+      absurd (none_of m (subst (λ v. Contains v m) same h))
+  if_one n m row at h old (spells_bytes {bs = []} g) = no_bytes
+  if_one n m row at h old (spells_bytes {bs = b ∷ bs} g) = let e = need_at n (node.Bytes (b ∷ bs)) (One row) g at in
+      let same : row ≡ [] = cc e in absurd (none_of m (subst (λ v. Contains v m) same h))
+  if_one n m row at h old (spells_set {s = s} g) = let e = need_at n (node.Set s) (One row) g at in
+      let same : row ≡ [] = cc e in absurd (none_of m (subst (λ v. Contains v m) same h))
+  if_one n m row at h old (spells_name {name = name} g) =
+      let e = need_at n (node.Name (id_of rules name)) (One row) g at in
+      let same : row ≡ option_to_list (slice_get bodies (id_of rules name)) = cc e in
+      let b = node_body rules nodes bodies are name m
+      (name_body bodies (id_of rules name) m (subst (λ v. Contains v m) same h)) in
+      a_name b.1 (old b.0 b.2)
+  if_one n m row at h old (spells_seq {ms = ms} g ss) = let e = need_at n (node.Seq ms) (One row) g at in absurd (cc e)
+  if_one n m row at h old (spells_choice {ms = ms} g ss) = let e = need_at n (node.Choice ms) (One row) g at in
+      let same : row ≡ ms = cc e in
+      a_choice (some_of m (subst (λ v. Contains v m) same h) old ss)
+  if_one n m row at h old (spells_star g s) = a_star
+  if_one n m row at h old (spells_plus {m = k} {k = i} {p = p} g s a) =
+      let e = need_at n (node.Plus k i) (One row) g at in
+      let same : row ≡ k ∷ [] = cc e in
+      a_plus (old p (subst (λ v. Spells rules nodes v p) (only_one k m (subst (λ v. Contains v m) same h)) s))
+  if_one n m row at h old (spells_opt g s) = an_opt
+  if_one n m row at h old (spells_and g s) = an_and
+  if_one n m row at h old (spells_not g s) = a_not
+  if_one n m row at h old (spells_act g) = an_act
+  if_one n m row at h old (spells_open g) = an_open
+  if_one n m row at h old (spells_close g) = a_close
+
+  -- what comes in is nullable
+  null_of : {n : ℕ} → Here n → (p : Pattern) → Spells rules nodes n p → Nullable rules p
+  null_of (by_all {n = n} {row = row} at all) p s = if_all n row at (λ m q h k. null_of (all m h) q k) s
+  null_of (by_one {n = n} {m = m} {row = row} at h c) p s = if_one n m row at h (λ q k. null_of c q k) s
+
+  all_here : (n : ℕ) (a : Shape) (row : List ℕ) → slice_get nodes n ≡ Some a → null_demand bodies a ≡ All row →
+      ((m : ℕ) → Contains row m → Here m) → Here n
+  all_here n a row g e all = by_all (said_here (null_demand bodies) nodes n a g ∙ ap Some e) all
+
+  one_here : (n : ℕ) (a : Shape) (row : List ℕ) (m : ℕ) → slice_get nodes n ≡ Some a → null_demand bodies a ≡ One row →
+      Contains row m → Here m → Here n
+  one_here n a row m g e h c = by_one (said_here (null_demand bodies) nodes n a g ∙ ap Some e) h c
+
+  at_once : (n : ℕ) (a : Shape) → slice_get nodes n ≡ Some a → null_demand bodies a ≡ All [] → Here n
+  at_once n a g e = all_here n a [] g e (λ m h. absurd (none_of m h))
+
+  mutual
+    -- what is nullable comes in
+    null_in : {p : Pattern} → Nullable rules p → (n : ℕ) → Spells rules nodes n p → Here n
+    null_in no_bytes n (spells_bytes g) = at_once n (node.Bytes []) g refl
+    null_in an_act n (spells_act {t = t} g) = at_once n (node.Act t) g refl
+    null_in an_open n (spells_open g) = at_once n node.Open g refl
+    null_in a_close n (spells_close g) = at_once n node.Close g refl
+    null_in an_and n (spells_and {m = k} g s) = at_once n (node.And k) g refl
+    null_in a_not n (spells_not {m = k} g s) = at_once n (node.Not k) g refl
+    null_in an_opt n (spells_opt {m = k} g s) = at_once n (node.Opt k) g refl
+    null_in a_star n (spells_star {m = k} g s) = at_once n (node.Star k) g refl
+    null_in (a_plus d) n (spells_plus {m = k} {k = i} g s a) =
+        one_here n (node.Plus k i) (k ∷ []) k g refl (in_first k []) (null_in d k s)
+    null_in (a_seq ds) n (spells_seq {ms = ms} g ss) = all_here n (node.Seq ms) ms g refl (all_in ds ms ss)
+    null_in (a_choice ds) n (spells_choice {ms = ms} g ss) = let m = some_in ds ms ss in
+        one_here n (node.Choice ms) ms m.0 g refl m.1 m.2
+    null_in (a_name {n = name} {e = p} b d) n (spells_name g) =
+        let m = body_node rules nodes bodies are name p b in
+        one_here n (node.Name (id_of rules name)) (option_to_list (slice_get bodies (id_of rules name))) m.0 g refl
+        (subst (λ o. Contains (option_to_list o) m.0) (sym m.1) (in_first m.0 [])) (null_in d m.0 m.2)
+
+    all_in : {ps : Patterns} → AllNullable rules ps → (ms : List ℕ) → SpellAll rules nodes ms ps →
+        (m : ℕ) → Contains ms m → Here m
+    all_in all_none ms spell_none m h = absurd (none_of m h)
+    all_in (all_more d ds) ms (spell_more {n = n} {ns = ns} s ss) m h =
+        ⊎_elim (λ is. subst (λ v. Here v) is (null_in d n s)) (λ k. all_in ds ns ss m k) (cons_cases n m ns h)
+
+    some_in : {ps : Patterns} → SomeNullable rules ps → (ms : List ℕ) → SpellAll rules nodes ms ps →
+        (m : ℕ) × Contains ms m × Here m
+    some_in (some_first d) ms (spell_more {n = n} {ns = ns} s ss) = (n, in_first n ns, null_in d n s)
+    some_in (some_later ds) ms (spell_more {n = n} {ns = ns} s ss) = let m = some_in ds ns ss in
+        (m.0, in_later n m.0 ns m.1, m.2)
+
+  pub null_marks : (marks : List Bool) → AreMarksOfThose (null_demands bodies nodes) marks →
+      AreNullMarks rules nodes marks
+  null_marks marks of = record {
+    sound = λ n p s h. null_of ((of n).0 h) p s;
+    whole = λ n p s d. (of n).1 (null_in d n s);
+  }

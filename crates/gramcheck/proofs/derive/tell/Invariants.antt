@@ -1,6 +1,0 @@
-use Rattle.std.proofs.Common.{take}
-use Rattle.gramcheck.specs.Waiting.{Told}
-use Rattle.gramcheck.proofs.derive.tell.Given as goal
-
-abbrev pub invariant-loop-n : goal.invariant-loop-n
-invariant-loop-n l = Told (take l.n-index l.users) l.initial.left l.initial.order.items l.left l.order.items

@@ -1,0 +1,9 @@
+-- Chains put together.
+-- Serves: on_cycle (marks)
+use Rattle.std.proofs.Common.{ℕ, List}
+use Rattle.leastset.specs.Leads.{Leads, one, more}
+
+module _ (rows : List (List ℕ)) where
+  pub joined : {a b c : ℕ} → Leads rows a b → Leads rows b c → Leads rows a c
+  joined g (one step) = more g step
+  joined g (more h step) = more (joined g h) step

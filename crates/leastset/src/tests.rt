@@ -1,0 +1,130 @@
+//! Each public call on small tables, with answers found by hand.
+use crate::calling::comes_back;
+use crate::{
+    Need, are_below, are_needs_within, are_within, derive, least, mark, marks_of, on_cycle,
+    reached, some_marked,
+};
+use std::alloc::{AllocError, AllocGlobal, Global};
+use std::process::Abort;
+use std::test::Fail;
+
+// Returns the rows as vectors.
+fn rows_of(alloc: Global, slices: &[&[usize]]) -> Result<Vec<Vec<usize>>, AllocError> {
+    let mut rows = Vec::new(alloc);
+    for slice in slices {
+        rows.push(Vec::from_slice(alloc, slice)?)?;
+    }
+    Ok(rows)
+}
+
+// Returns the needs: of all numbers of a row, or of one.
+fn needs_of(alloc: Global, slices: &[(bool, &[usize])]) -> Result<Vec<Need>, AllocError> {
+    let mut needs = Vec::new(alloc);
+    for (all, slice) in slices {
+        let row = Vec::from_slice(alloc, slice)?;
+        needs.push(if *all { Need::All(row) } else { Need::One(row) })?;
+    }
+    Ok(needs)
+}
+
+#[test]
+fn finds_cycles(rt: HostRuntime) -> Result<(), Fail> {
+    let table: [(&[&[usize]], &[bool]); 5] = [
+        // no cycle
+        (&[&[1], &[2], &[]], &[false, false, false]),
+        // a step to itself, and one that leads there
+        (&[&[1], &[1]], &[false, true]),
+        // a cycle of two between two other numbers
+        (&[&[1], &[2], &[1, 3], &[]], &[false, true, true, false]),
+        // a cycle of two that leads to another
+        (&[&[1], &[0, 2], &[3], &[2]], &[true, true, true, true]),
+        // 0 leads to 1 and back, and by two ways to 3
+        (&[&[1, 2], &[3, 0], &[3], &[]], &[true, true, false, false]),
+    ];
+    for (slices, marks) in table {
+        let steps = rows_of(rt.alloc(), slices)?;
+        assert!(rt; are_within(&steps));
+        let found = on_cycle(rt.alloc(), &steps)?;
+        assert!(rt; found.marks.as_slice() == marks);
+        assert!(rt; found.ranks.len() == steps.len());
+    }
+    Ok(())
+}
+
+#[test]
+fn tells_which_number_comes_back(rt: HostRuntime) -> Result<(), Fail> {
+    let steps = rows_of(rt.alloc(), &[&[1], &[2], &[1]])?;
+    assert!(rt; are_within(&steps));
+    assert!(rt; steps.len() == 3);
+    assert!(rt; !comes_back(rt.alloc(), &steps, 0)?);
+    assert!(rt; comes_back(rt.alloc(), &steps, 1)?);
+    Ok(())
+}
+
+#[test]
+fn finds_least_sets(rt: HostRuntime) -> Result<(), Fail> {
+    let table: [(&[(bool, &[usize])], &[bool], &[usize]); 3] = [
+        // 0 needs nothing, 1 one of 0 and 2, 2 needs 1 and 3, which can never enter
+        (
+            &[(true, &[]), (false, &[0, 2]), (true, &[1, 3]), (false, &[])],
+            &[true, true, false, false],
+            &[0, 1],
+        ),
+        // two that need each other stay out
+        (&[(true, &[1]), (false, &[0])], &[false, false], &[]),
+        // a number that is named twice is needed once
+        (&[(true, &[1, 1]), (true, &[])], &[true, true], &[1, 0]),
+    ];
+    for (slices, marks, order) in table {
+        let needs = needs_of(rt.alloc(), slices)?;
+        assert!(rt; are_needs_within(&needs));
+        assert!(rt; least(rt.alloc(), &needs)?.as_slice() == marks);
+        assert!(rt; derive(rt.alloc(), &needs)?.as_slice() == order);
+    }
+    Ok(())
+}
+
+// Returns the marks of what steps reach from `these`, after the tests of what `reached` requires.
+fn reached_from<R: Abort + AllocGlobal>(
+    rt: &R,
+    steps: &[Vec<usize>],
+    these: &[usize],
+) -> Result<Vec<bool>, AllocError> {
+    assert!(rt; are_within(steps));
+    assert!(rt; are_below(these, steps.len()));
+    reached(rt.alloc(), steps, these)
+}
+
+#[test]
+fn finds_what_steps_reach(rt: HostRuntime) -> Result<(), Fail> {
+    let steps = rows_of(rt.alloc(), &[&[1], &[0], &[1, 3], &[]])?;
+    let table: [(&[usize], &[bool]); 3] = [
+        (&[], &[false, false, false, false]),
+        (&[0], &[true, true, false, false]),
+        (&[3, 2], &[true, true, true, true]),
+    ];
+    for (these, marks) in table {
+        assert!(rt; reached_from(&rt, &steps, these)?.as_slice() == marks);
+    }
+    Ok(())
+}
+
+#[test]
+fn sets_marks(rt: HostRuntime) -> Result<(), Fail> {
+    let mut marks = marks_of(rt.alloc(), 3, &[])?;
+    assert!(rt; are_below(&[2], marks.len()));
+    mark(&[2], &mut marks);
+    assert!(rt; marks.as_slice() == [false, false, true].as_slice());
+    assert!(rt; are_below(&[0, 1], marks.len()));
+    assert!(rt; !some_marked(&[0, 1], &marks));
+    Ok(())
+}
+
+#[test]
+fn tells_tables_that_go_too_far(rt: HostRuntime) -> Result<(), Fail> {
+    let steps = rows_of(rt.alloc(), &[&[0], &[2]])?;
+    assert!(rt; !are_within(&steps));
+    let needs = needs_of(rt.alloc(), &[(true, &[0]), (false, &[2])])?;
+    assert!(rt; !are_needs_within(&needs));
+    Ok(())
+}
