@@ -4,7 +4,7 @@
 use commands::{pegi_main, refuse_invalid_utf8};
 use gramtools::{SourceOf, Status};
 use ruletable::SinkOf;
-use std::io::{BufWriter, ErrorKind};
+use std::io::{BufReader, BufWriter, ErrorKind};
 use std::process::ExitCode;
 use std::rt::Env;
 use std::{env, io};
@@ -14,7 +14,7 @@ fn words_of(rt: &(impl Env + AllocGlobal)) -> io::Result<Vec<String>> {
     Ok(env::args(rt)?.collect(rt.alloc())?)
 }
 
-/// The end of a program that found no memory for its words or its output.
+/// The end of a program that found no memory for its words or for the buffers of its streams.
 fn without_memory(rt: &impl Eprint) -> ExitCode {
     let _ = rt.eprintln("out of memory");
     ExitCode::from(Status::NoMemory.code())
@@ -35,7 +35,11 @@ fn main(rt: HostRuntime) -> ExitCode {
             return ExitCode::from(status.code());
         }
     };
-    let mut reader = SourceOf::new(rt.stdin());
+    // without a buffer each unit would cost a system call
+    let Ok(ahead) = BufReader::new(rt.alloc(), rt.stdin()) else {
+        return without_memory(&rt);
+    };
+    let mut reader = SourceOf::new(ahead);
     let status = pegi_main(&rt, words.as_slice(), &mut reader, &mut out, &mut err);
     ExitCode::from(status.code())
 }

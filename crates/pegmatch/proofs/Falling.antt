@@ -15,7 +15,7 @@ use Rattle.gramcheck.proofs.Spelling.{is_there}
 use Rattle.gramcheck.proofs.Taking.{forward, null_of}
 use Rattle.pegmatch.specs.Kept.{SpellsSome, MatchesBy, IsMatch}
 use Rattle.pegmatch.specs.declared.event.Kept.{Kept}
-use Rattle.pegmatch.specs.declared.leaves.Found.{Found}
+use Rattle.cells.specs.declared.cell.Found.{Found}
 use Rattle.pegmatch.specs.declared.leaves.Tried.{Tried}
 
 -- the measure of a node at a place

@@ -1,7 +1,8 @@
 pub mod Falling
 pub mod Filling
 pub mod Literals
-pub mod Replaying
+pub mod FilledLemmas
+pub mod IsPrintedLemmas
 pub mod Spelled
 pub mod Steps
 pub mod Trimming

@@ -11,9 +11,9 @@ use Rattle.gramcheck.specs.Nodes.{Shape, shape_of, shapes_of, Spells}
 use Rattle.gramcheck.specs.Outcome.{Outcome, Fails, Takes, Gives, GivesAll, GivesFirst, name, seq, choice, act, open_at, close_at}
 use Rattle.gramcheck.proofs.Ids.{body_at_id}
 use Rattle.gramcheck.proofs.Spelled.{has_shape}
-use Rattle.pegmatch.specs.Kept.{no_event, opened, closed, acted, quiet_outcome, MatchesBy, IsMatch, IsMatchOver, IsMatchOfAll, IsMatchOfFirst}
+use Rattle.pegmatch.specs.Kept.{no_event, one_event, opened, closed, acted, quiet_outcome, MatchesBy, IsMatch, IsMatchOver, IsMatchOfAll, IsMatchOfFirst}
 use Rattle.pegmatch.specs.declared.event.Kept.{Kept}
-use Rattle.pegmatch.specs.declared.leaves.Found.{Found}
+use Rattle.cells.specs.declared.cell.Found.{Found}
 use Rattle.pegmatch.specs.declared.leaves.Tried.{Tried}
 
 pub shape_at : (nodes : List Node) (n : ℕ) (node : Node) → slice_get nodes n ≡ Some node → slice_get (shapes_of nodes) n ≡ Some (shape_of node)
@@ -70,15 +70,15 @@ module _ (rules : List Rule) (nodes : List Shape) where
 
     pub act_match : (t : List ℕ) (tried : Tried) (old new : List Kept) → slice_get nodes n ≡ Some (shape.Act t) → tried ≡ kept_one →
         new ≡ old ++ Kept.Acted n ∷ [] → IsMatch rules nodes x n p tried old new
-    act_match t tried old new at is put = λ c s. rw (is, has_shape rules nodes s (shape.Act t) at) (_, _, acted at no_event, act, put)
+    act_match t tried old new at is put = λ c s. rw (is, has_shape rules nodes s (shape.Act t) at) (_, _, one_event (acted at) no_event, act, put)
 
     pub open_match : (tried : Tried) (old new : List Kept) → slice_get nodes n ≡ Some shape.Open → tried ≡ kept_one →
         new ≡ old ++ Kept.Opened p ∷ [] → IsMatch rules nodes x n p tried old new
-    open_match tried old new at is put = λ c s. rw (is, has_shape rules nodes s shape.Open at) (_, _, opened no_event, open_at, put)
+    open_match tried old new at is put = λ c s. rw (is, has_shape rules nodes s shape.Open at) (_, _, one_event opened no_event, open_at, put)
 
     pub close_match : (tried : Tried) (old new : List Kept) → slice_get nodes n ≡ Some shape.Close → tried ≡ kept_one →
         new ≡ old ++ Kept.Closed p ∷ [] → IsMatch rules nodes x n p tried old new
-    close_match tried old new at is put = λ c s. rw (is, has_shape rules nodes s shape.Close at) (_, _, closed no_event, close_at, put)
+    close_match tried old new at is put = λ c s. rw (is, has_shape rules nodes s shape.Close at) (_, _, one_event closed no_event, close_at, put)
 
 pub node_within : (nodes : List Node) (n : ℕ) (s : Shape) → slice_get (shapes_of nodes) n ≡ Some s → n < length nodes
 node_within nodes n s is = let less = slice_get_within (shapes_of nodes) n s is in grind (arith, less, length-map)

@@ -7,9 +7,9 @@ use Rattle.pegread.specs.Pattern.{Pattern, Patterns, none, more, Rule, Any, Byte
 use Rattle.gramcheck.specs.Nodes.{Shape, Spells, SpellAll, spell_none, spell_more}
 use Rattle.gramcheck.specs.Outcome.{Outcome, Fails, Takes, Gives, any_takes, any_at_end, set_takes, set_fails, set_at_end, bytes_take, bytes_fail, GivesAll, all_done, one_fails, rest_fails, rest_takes, seq, choice, GivesFirst, all_failed, first_takes, first_fails, begins_with, compared, looked_at}
 use Rattle.gramcheck.specs.Outcome as event
-use Rattle.pegmatch.specs.Kept.{StandFor, no_event, opened, closed, acted, MatchesBy, IsMatch}
+use Rattle.pegmatch.specs.Kept.{StandFor, no_event, one_event, MatchesBy, IsMatch}
 use Rattle.pegmatch.specs.declared.event.Kept.{Kept}
-use Rattle.pegmatch.specs.declared.leaves.Found.{Found}
+use Rattle.cells.specs.declared.cell.Found.{Found}
 use Rattle.pegmatch.specs.declared.leaves.Tried.{Tried}
 
 -- the outcome of what comes after these events
@@ -115,9 +115,7 @@ module _ (rules : List Rule) (x : List ℕ) where
 pub StandFor-append : (nodes : List Shape) {ks ls : List Kept} {es fs : List event.Event} →
     StandFor nodes ks es → StandFor nodes ls fs → StandFor nodes (ks ++ ls) (es ++ fs)
 StandFor-append nodes no_event r = r
-StandFor-append nodes (opened s) r = opened (StandFor-append nodes s r)
-StandFor-append nodes (closed s) r = closed (StandFor-append nodes s r)
-StandFor-append nodes (acted is s) r = acted is (StandFor-append nodes s r)
+StandFor-append nodes (one_event h s) r = one_event h (StandFor-append nodes s r)
 
 -- The members before i took what is between p and q, and added these events.
 pub record HaveTaken (rules : List Rule) (nodes : List Shape) (x ns : List ℕ) (p i q : ℕ) (old new : List Kept) (looked : ℕ) (es : Patterns) : Type 0 where

@@ -7,7 +7,7 @@ use Rattle.gramcheck.specs.Nodes.{Shape}
 use Rattle.gramcheck.specs.Outcome.{Outcome, Gives, RuleGives}
 use Rattle.pegmatch.specs.Kept.{MatchesBy, IsMatch}
 use Rattle.pegmatch.specs.declared.event.Kept.{Kept}
-use Rattle.pegmatch.specs.declared.leaves.Found.{Found}
+use Rattle.cells.specs.declared.cell.Found.{Found}
 use Rattle.pegmatch.specs.declared.leaves.Tried.{Tried}
 
 some_outcome : (nodes : List Shape) (rules : List Rule) (x : List ℕ) (e : Pattern) (found : Found) (k : ℕ) (old new : List Kept) →

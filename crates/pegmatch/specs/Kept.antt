@@ -5,20 +5,22 @@ use Rattle.gramcheck.specs.Nodes.{Shape, Act, Spells, SpellAll}
 use Rattle.gramcheck.specs.Outcome as event
 use Rattle.gramcheck.specs.Outcome.{Outcome, Fails, Takes, Gives, GivesAll, GivesFirst}
 use Rattle.pegmatch.specs.declared.event.Kept.{Kept}
-use Rattle.pegmatch.specs.declared.leaves.Found.{Found}
+use Rattle.cells.specs.declared.cell.Found.{Found}
 use Rattle.pegmatch.specs.declared.leaves.Tried.{Tried}
 use Rattle.pegmatch.specs.declared.matcher.Unit.{Unit as UnitAnswer}
 use Rattle.pegmatch.specs.declared.matcher.Unit.TheVariants as unit
 
--- Kept events, one for each event: an action is kept by the number of its node.
+-- the event that is kept: an action is kept by the number of its node
+pub data StandsFor (nodes : List Shape) : Kept → event.Event → Type 0 where
+  opened : {p : ℕ} → StandsFor nodes (Kept.Opened p) (event.Opened p)
+  closed : {p : ℕ} → StandsFor nodes (Kept.Closed p) (event.Closed p)
+  acted : {n : ℕ} {t : List ℕ} → slice_get nodes n ≡ Some (Act t) → StandsFor nodes (Kept.Acted n) (event.Acted t)
+
+-- kept events, one for each event
 pub data StandFor (nodes : List Shape) : List Kept → List event.Event → Type 0 where
   no_event : StandFor nodes [] []
-  opened : {p : ℕ} {kept : List Kept} {events : List event.Event} → StandFor nodes kept events →
-      StandFor nodes (Kept.Opened p ∷ kept) (event.Opened p ∷ events)
-  closed : {p : ℕ} {kept : List Kept} {events : List event.Event} → StandFor nodes kept events →
-      StandFor nodes (Kept.Closed p ∷ kept) (event.Closed p ∷ events)
-  acted : {n : ℕ} {t : List ℕ} {kept : List Kept} {events : List event.Event} → slice_get nodes n ≡ Some (Act t) →
-      StandFor nodes kept events → StandFor nodes (Kept.Acted n ∷ kept) (event.Acted t ∷ events)
+  one_event : {k : Kept} {e : event.Event} {kept : List Kept} {events : List event.Event} → StandsFor nodes k e →
+      StandFor nodes kept events → StandFor nodes (k ∷ kept) (e ∷ events)
 
 -- the outcome of what was found, with these events
 abbrev pub outcome_of : Found → List event.Event → Outcome

@@ -1,9 +1,12 @@
-//! Kept events.
+//! Events as they are kept.
 
-/// An event of a success as it is kept, an action by the number of its node.
+/// An event of a success, an action by the number of its node.
 #[derive(Clone, Copy, Debug, PartialEq, Eq)]
-pub(crate) enum Kept {
+pub enum Kept {
+    /// A capture opened at this place.
     Opened(usize),
+    /// The capture closed at this place.
     Closed(usize),
+    /// The action of this node was met.
     Acted(usize),
 }

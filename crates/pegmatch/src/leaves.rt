@@ -6,24 +6,18 @@ ghost use Rattle.pegmatch.specs.Kept.{quiet_outcome, EndsWithin};
 
 use crate::compare::{compare, looked_after};
 use crate::event::Kept;
+use cells::Found;
 use ruletable::{ByteSet, Memory};
-
-/// Whether a node succeeded, and where that ended.
-#[derive(Clone, Copy, PartialEq, Eq, Debug)]
-pub(crate) enum Found {
-    Failed,
-    Took(usize),
-}
 
 /// What was found, and one more than the last place looked at, or 0.
 #[derive(Clone, Copy, PartialEq, Eq, Debug)]
-pub(crate) struct Tried {
-    pub(crate) found: Found,
-    pub(crate) looked: usize,
+pub struct Tried {
+    pub found: Found,
+    pub looked: usize,
 }
 
 /// Takes a byte, if there is one.
-pub(crate) fn match_any(window: &[u8], place: usize) -> Tried
+pub fn match_any(window: &[u8], place: usize) -> Tried
     ensures within { EndsWithin result.found (length window.now) }
     ensures looked { result.looked ≤ length window.now }
     ensures value { (rules : List Rule) → Gives rules window.now Pattern.Any place (quiet_outcome result.found) result.looked }
@@ -42,7 +36,7 @@ pub(crate) fn match_any(window: &[u8], place: usize) -> Tried
 }
 
 /// Takes a byte of the set, if one is next.
-pub(crate) fn match_set(set: &ByteSet, window: &[u8], place: usize) -> Tried
+pub fn match_set(set: &ByteSet, window: &[u8], place: usize) -> Tried
     ensures within { EndsWithin result.found (length window.now) }
     ensures looked { result.looked ≤ length window.now }
     ensures value { (rules : List Rule) → Gives rules window.now (Pattern.Set (λ b. get_or set.now b false)) place (quiet_outcome result.found) result.looked }
@@ -68,7 +62,7 @@ pub(crate) fn match_set(set: &ByteSet, window: &[u8], place: usize) -> Tried
 }
 
 /// Takes these bytes, if they are next.
-pub(crate) fn match_bytes(bytes: &[u8], window: &[u8], place: usize) -> Tried
+pub fn match_bytes(bytes: &[u8], window: &[u8], place: usize) -> Tried
     requires { place ≤ length window.now }
     ensures within { EndsWithin result.found (length window.now) }
     ensures looked { result.looked ≤ length window.now }

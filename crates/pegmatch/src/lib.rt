@@ -8,12 +8,15 @@ mod leaves;
 mod matcher;
 mod matching;
 mod plain;
-mod printing;
 mod replay;
+mod writing;
 
+pub use event::Kept;
 pub use laws::{answer_stands, need_stands, one_answer};
+pub use leaves::{Tried, match_any, match_bytes, match_set};
 pub use matcher::{Matcher, ReplayFault, Unit};
 pub use plain::Plain;
+pub use writing::{Capture, NO_CAPTURE, capture_after, write_event};
 
 #[cfg(test)]
 mod tests;

@@ -9,7 +9,8 @@ ghost use Rattle.pegmatch.specs.Kept.{SpellsSome, IsMatch, IsMatchOfAll, IsMatch
 
 use crate::compare::further;
 use crate::event::Kept;
-use crate::leaves::{Found, Tried, keep, match_any, match_bytes, match_set};
+use crate::leaves::{Tried, keep, match_any, match_bytes, match_set};
+use cells::Found;
 use gramcheck::{Node, SoundPeg};
 use ruletable::Memory;
 
@@ -45,7 +46,7 @@ pub(crate) fn match_node(
             match_first(peg, window, n, alternatives, place, events, begun)?
         }
         Node::Star(operand) => match_star(peg, window, *operand, place, events, begun)?,
-        Node::Plus(operand) => match_plus(peg, window, *operand, place, events, begun)?,
+        Node::Plus { operand, .. } => { match_plus(peg, window, *operand, place, events, begun)? }
         Node::Opt(operand) => match_opt(peg, window, *operand, place, events, begun)?,
         Node::And(operand) => match_and(peg, window, *operand, place, events, begun)?,
         Node::Not(operand) => match_not(peg, window, *operand, place, events, begun)?,

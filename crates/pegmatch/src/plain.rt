@@ -7,12 +7,12 @@ ghost use Rattle.pegmatch.specs.Kept.{StandFor, IsEmptyUnlessTook};
 ghost use Rattle.pegmatch.specs.Text.{text_of};
 
 use crate::event::Kept;
-use crate::leaves::Found;
 use crate::matcher::{Matcher, ReplayFault, Unit};
 use crate::matching::match_node;
-use crate::replay::put_text;
+use crate::replay::write_events;
+use cells::Found;
 use gramcheck::{SoundPeg, events_rise_of_start};
-use ruletable::{Memory, Sink, write_whole};
+use ruletable::{Memory, Sink};
 use std::alloc::Global;
 use std::marker::Model;
 
@@ -23,8 +23,6 @@ use std::marker::Model;
 #[derive(Drop)]
 pub struct Plain {
     events: Vec<Kept>,
-    // the text of one replay, kept for the next
-    text: Vec<u8>,
 }
 
 impl Model for Plain {
@@ -43,7 +41,6 @@ impl Plain {
     {
         Plain {
             events: Vec::new(alloc),
-            text: Vec::new(alloc),
         }
     }
 }
@@ -101,11 +98,7 @@ impl Matcher for Plain {
         ensures kept { self.new ≡ self.old }
     {
         events_rise_of_start();
-        self.text.clear();
-        if put_text(&mut self.text, peg, &self.events, window, raw).is_err() {
-            return Err(ReplayFault::Memory);
-        }
-        match write_whole(out, &self.text) {
+        match write_events(peg, &self.events, window, raw, out) {
             Ok(()) => Ok(()),
             Err(_) => Err(ReplayFault::Write),
         }

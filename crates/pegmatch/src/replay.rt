@@ -1,50 +1,35 @@
 //! The text that a success prints.
-ghost use Rattle.std.specs.Prelude.{◌≡◌, ◌≤◌, ◌++◌, ℕ, List, length, slice_range, OnOk};
+ghost use Rattle.std.specs.Prelude.{◌≡◌, ◌≤◌, ℕ, List, length};
 ghost use Rattle.gramcheck.specs.Nodes.{shapes_of};
 ghost use Rattle.gramcheck.specs.Outcome.{Event};
-ghost use Rattle.pegmatch.specs.Kept.{StandFor};
 ghost use Rattle.gramcheck.specs.Rising.{Rise};
+ghost use Rattle.pegmatch.specs.Kept.{StandFor};
 ghost use Rattle.pegmatch.specs.Text.{text_of};
+ghost use Rattle.ruletable.specs.Writing.{Writes, Flags};
 
 use crate::event::Kept;
-use crate::printing::put_action;
-use gramcheck::{Node, SoundPeg};
-use ruletable::Memory;
+use crate::writing::{NO_CAPTURE, capture_after, write_event};
+use gramcheck::SoundPeg;
+use ruletable::{Sink, WriteFault};
 
-fn part(text: &[u8], from: usize, to: usize) -> &[u8]
-    requires order { from ≤ to }
-    requires within { to ≤ length text.now }
-    ensures { result.now ≡ slice_range text.now from to }
-{
-    &text[from..to]
-}
-
-/// Puts what the kept events of a success print.
-pub(crate) fn put_text(
-    text: &mut Vec<u8>,
+/// Writes what the kept events of a success print.
+pub(crate) fn write_events<W: Sink>(
     peg: &SoundPeg,
     events: &[Kept],
     window: &[u8],
     raw: bool,
-) -> Result<(), Memory>
+    out: &mut W,
+) -> Result<(), WriteFault>
     requires { (meant : List Event) × StandFor (shapes_of peg.now.nodes) events.now meant × Rise 0 (length window.now) meant }
-    ensures { (meant : List Event) → StandFor (shapes_of peg.now.nodes) events.now meant →
-        OnOk result (text.new.items ≡ text.old.items ++ text_of raw window.now meant) }
+    ensures bytes { (meant : List Event) → StandFor (shapes_of peg.now.nodes) events.now meant → Rise 0 (length window.now) meant →
+        Writes (W.contents out.old) (W.contents out.new) (text_of raw window.now meant) result }
+    ensures flag { Flags (W.failed out.old) (W.failed out.new) result }
 {
-    let mut start: Option<usize> = None;
-    let mut capture: &[u8] = &[];
+    let mut capture = NO_CAPTURE;
     for event in events {
-        match event {
-            Kept::Opened(place) => start = Some(*place),
-            Kept::Closed(place) => {
-                if let Some(from) = start {
-                    capture = part(window, from, *place);
-                }
-            }
-            Kept::Acted(n) => match peg.node(*n) {
-                Node::Act(template) => put_action(text, raw, template, capture)?,
-                _ => unreachable!(),
-            },
+        match write_event(peg, window, raw, *event, capture, out) {
+            Ok(()) => capture = capture_after(capture, *event),
+            Err(fault) => return Err(fault),
         }
     }
     Ok(())

@@ -82,9 +82,9 @@ match_node-match_star-requires t c =
 pub match_node-match_plus-requires : goal.match_node-match_plus-requires
 match_node-match_plus-requires t c =
     let here = shape_at c.args.peg.now.nodes c.args.n _ (c.node.ensures ∙ ap Some c.in-Plus.is) in
-    let operand = has_shape _ _ c.requires.spells.1 (shape.Plus c.in-Plus.operand) here in
+    let operand = has_shape _ _ c.requires.spells.1 (shape.Plus c.in-Plus.operand c.in-Plus.star) here in
     let less = falls_at _ _ _ _ _ c.requires.sound (length c.args.window.now) c.args.n c.in-Plus.operand c.args.place (to_repeated here) in
-    (omega (arith, less, c.decreases), (c.requires.sound, ((operand.0, operand.2), (λ null. c.requires.sound.moving.plus _ _ here null, c.requires.place))))
+    (omega (arith, less, c.decreases), (c.requires.sound, ((operand.0, operand.2), (λ null. c.requires.sound.moving.plus _ _ _ here null, c.requires.place))))
 
 pub match_node-match_opt-requires : goal.match_node-match_opt-requires
 match_node-match_opt-requires t c =
@@ -161,7 +161,7 @@ match_node-returns-in_ok-tried-in-Star-clause-value t c =
 pub match_node-returns-in_ok-tried-in-Plus-clause-value : goal.match_node-returns-in_ok-tried-in-Plus-clause-value
 match_node-returns-in_ok-tried-in-Plus-clause-value t c =
     let here = shape_at c.args.peg.now.nodes c.args.n _ (c.node.ensures ∙ ap Some c.in-Plus.is) in
-    over_match _ _ _ _ _ expr.Plus _ _ _ _ (λ e s. has_shape _ _ s (shape.Plus c.in-Plus.operand) here) c.in_ok-tried-in-Plus.ensures.value
+    over_match _ _ _ _ _ expr.Plus _ _ _ _ (λ e s. let like = has_shape _ _ s (shape.Plus c.in-Plus.operand c.in-Plus.star) here in (like.0, like.1, like.2)) c.in_ok-tried-in-Plus.ensures.value
 
 pub match_node-returns-in_ok-tried-in-Opt-clause-value : goal.match_node-returns-in_ok-tried-in-Opt-clause-value
 match_node-returns-in_ok-tried-in-Opt-clause-value t c =

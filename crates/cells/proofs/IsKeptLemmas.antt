@@ -1,0 +1,144 @@
+-- What holds of the fields after each change, and what a look-up says of the entries.
+-- Serves: Cells::get, Cells::put.
+use Rattle.std.proofs.Common.{◌≡◌, ℕ, ◌+◌, ◌<◌, ◌≤◌, ◌⊎◌, inl, inr, Bool, false, List, [], ◌∷◌, ◌++◌, length, set, take, Some, refl, ap, sym, ◌∙◌, arith, length-append, length-set, take_all}
+use Rattle.std.proofs.lemmas.List.{length-map, map-append, take-append-le}
+use Rattle.std.proofs.lemmas.Bool.Decides.{nat_tests}
+use Rattle.std.specs.Prelude.{slice_get, option_map}
+use Rattle.std.proofs.lemmas.Option.{slice_get_within, slice_get-map}
+use Rattle.cells.specs.declared.cell.Cell.{Cell}
+use Rattle.cells.specs.declared.cell.Found.{Found}
+use Rattle.cells.specs.Entries.{Entry}
+use Rattle.cells.specs.Kept.{Holds, IsFree, IsMap, IsKept, IsAt, IsNowhere, entry_of, entries_of, found_of}
+use Rattle.cells.specs.Links.{IsLast, AreLinked}
+use Rattle.cells.specs.Rows.{row_of, number_of, fold}
+use Rattle.cells.proofs.PushLemmas.{push_cases, mapped_from}
+use Rattle.cells.proofs.AreLinkedLemmas.{AreLinked-push, AreLinked-same}
+
+some-inj : {A : Type 0} (x y : A) → Some x ≡ Some y → x ≡ y
+some-inj x y e = cc
+
+entry_at : (cells : List Cell) (i : ℕ) (c : Cell) → slice_get cells i ≡ Some c → slice_get (entries_of cells) i ≡ Some (entry_of c)
+entry_at cells i c h = slice_get-map entry_of cells i ∙ ap (option_map entry_of) h
+
+entry_is : (c : Cell) (n p e : ℕ) (o : Found) → c.node ≡ n → c.place ≡ p → c.end ≡ e → found_of e ≡ o →
+    entry_of c ≡ record { node = n; place = p; found = o }
+entry_is c n p e o hn hp he ho = rw (← hn, ← hp, ← ho, ← he) refl
+
+one_outcome : (cells : List Cell) (n p e : ℕ) (o : Found) → IsMap (entries_of cells) → IsAt cells n p e →
+    (d : Cell) (j : ℕ) → slice_get cells j ≡ Some d → d.node ≡ n → d.place ≡ p → found_of d.end ≡ o → Some (found_of e) ≡ Some o
+one_outcome cells n p e o m a d j hd hn hp ho =
+    let same : a.0 ≡ j = m a.0 j (entry_of a.1) (entry_of d) (entry_at cells a.0 a.1 a.2) (entry_at cells j d hd) (a.3 ∙ sym hn) (a.4 ∙ sym hp) in
+    let d_is : a.1 ≡ d = some-inj _ _ (sym a.2 ∙ ap (slice_get cells) same ∙ hd) in
+    ap Some (ap found_of (sym a.5 ∙ ap (λ x. x.end) d_is) ∙ ho)
+
+pub holds_at : (cells : List Cell) (n p e : ℕ) → IsAt cells n p e → Holds (entries_of cells) n p (found_of e)
+holds_at cells n p e a = (a.0, entry_at cells a.0 a.1 a.2 ∙ ap Some (entry_is a.1 n p e (found_of e) a.3 a.4 a.5 refl))
+
+pub holds_only : (cells : List Cell) (n p e : ℕ) → IsMap (entries_of cells) → IsAt cells n p e → (o : Found) →
+    Holds (entries_of cells) n p o → Some (found_of e) ≡ Some o
+holds_only cells n p e m a o h =
+    let b = mapped_from entry_of cells h.0 _ h.1 in
+    one_outcome cells n p e o m a b.0 h.0 b.1 (ap (λ x. x.node) b.2) (ap (λ x. x.place) b.2) (ap (λ x. x.found) b.2)
+
+pub free_nowhere : (cells : List Cell) (n p : ℕ) → IsNowhere cells n p → IsFree (entries_of cells) n p
+free_nowhere cells n p w o h =
+    let m = mapped_from entry_of cells h.0 _ h.1 in
+    w h.0 m.0 m.1 (ap (λ x. x.node) m.2) (ap (λ x. x.place) m.2)
+
+-- too great a number has no cell
+pub nowhere_great : (cells : List Cell) (n p : ℕ) → ((i : ℕ) (c : Cell) → slice_get cells i ≡ Some c → (c.node < 4294967295) × (c.place < 4294967295)) →
+    (4294967295 ≤ n) ⊎ (4294967295 ≤ p) → IsNowhere cells n p
+nowhere_great cells n p small great i c h hn hp =
+    let s = small i c h in
+    let s0 : c.node < 4294967295 = s.0 in
+    let s1 : c.place < 4294967295 = s.1 in
+    elim great [ inl g ↦ omega arith | inr g ↦ omega arith ]
+
+pub nowhere_none : (cells : List Cell) (rows : ℕ) (n p : ℕ) → (0 < length cells → 0 < rows) → rows ≡ 0 → IsNowhere cells n p
+nowhere_none cells rows n p some none i c h hn hp =
+    let w : i < length cells = slice_get_within cells i c h in
+    let k : 0 < rows = some (omega arith) in omega arith
+
+held : (a e : Entry) → a.node ≡ e.node → a.place ≡ e.place → a ≡ record { node = e.node; place = e.place; found = a.found }
+held a e hn hp = rw (← hn, ← hp) refl
+
+IsMap-push : (xs : List Entry) (e : Entry) → IsMap xs → IsFree xs e.node e.place → IsMap (xs ++ e ∷ [])
+IsMap-push xs e m free i j a b ha hb hn hp =
+    elim (push_cases xs e i a ha) [
+      | inl ga ↦ elim (push_cases xs e j b hb) [
+        | inl gb ↦ m i j a b ga gb hn hp
+        | inr q ↦ absurd (free a.found (i, ga ∙ ap Some (held a e (hn ∙ ap (λ x. x.node) (sym q.1)) (hp ∙ ap (λ x. x.place) (sym q.1)))))
+      ]
+      | inr q ↦ elim (push_cases xs e j b hb) [
+        | inl gb ↦ absurd (free b.found (j, gb ∙ ap Some (held b e (sym hn ∙ ap (λ x. x.node) (sym q.1)) (sym hp ∙ ap (λ x. x.place) (sym q.1)))))
+        | inr r ↦ q.0 ∙ sym r.0
+      ]
+    ]
+
+pub IsKept-push : (stride : ℕ) (wide now_wide : Bool) (cells : List Cell) (rows : List ℕ) (c : Cell) (row : ℕ) → IsKept stride wide cells rows →
+    0 < length rows → IsFree (entries_of cells) c.node c.place → (c.node < 4294967295) × (c.place < 4294967295) →
+    row ≡ row_of (length rows) stride c → IsLast (row_of (length rows) stride) cells (length cells) row c.link → length cells < 4294967294 →
+    (now_wide ≡ false → (wide ≡ false) × (number_of stride c.node c.place < length rows)) →
+    IsKept stride now_wide (cells ++ c ∷ []) (set rows row (length cells + 1))
+IsKept-push stride wide now_wide cells rows c row k some free small is last few now = record {
+  linked = rw (length-set rows row (length cells + 1), is) (AreLinked-push (row_of (length rows) stride) cells rows c k.linked (rw (← is) last));
+  some = λ _. rw (length-set rows row (length cells + 1)) some;
+  map = rw (map-append entry_of cells (c ∷ [])) (IsMap-push (entries_of cells) (entry_of c) k.map free);
+  narrow = λ i d h. elim (push_cases cells c i d h) [ inl g ↦ k.narrow i d g | inr q ↦ rw (← q.1) small ];
+  within = λ w i d h. rw (length-set rows row (length cells + 1))
+      (elim (push_cases cells c i d h) [ inl g ↦ k.within (now w).0 i d g | inr q ↦ rw (← q.1) (now w).1 ]);
+  few = omega (arith, length-append cells (c ∷ []));
+}
+
+fold-below : (count x : ℕ) → x < count → fold count x ≡ x
+unfolding fold
+fold-below count x h = grind (arith, nat_tests)
+
+-- more rows where no number is too great
+pub IsKept-more : (stride : ℕ) (cells : List Cell) (rows more : List ℕ) → IsKept stride false cells rows → IsKept stride false cells (rows ++ more)
+IsKept-more stride cells rows more k =
+    let size : length (rows ++ more) ≡ length rows + length more = length-append rows more in
+    record {
+      linked = AreLinked-same (row_of (length rows) stride) (row_of (length (rows ++ more)) stride) cells rows more
+          (λ i c h. let w : number_of stride c.node c.place < length rows = k.within refl i c h in
+          fold-below (length (rows ++ more)) (number_of stride c.node c.place) (omega arith) ∙ sym (fold-below (length rows) (number_of stride c.node c.place) w))
+          (λ i c h. rw (fold-below (length rows) (number_of stride c.node c.place) (k.within refl i c h)) (k.within refl i c h))
+          k.linked;
+      some = λ h. let w : 0 < length rows = k.some h in omega arith;
+      map = k.map;
+      narrow = k.narrow;
+      within = λ _ i c h. let w : number_of stride c.node c.place < length rows = k.within refl i c h in omega arith;
+      few = k.few;
+    }
+
+-- other links and rows
+pub IsKept-relinked : (stride : ℕ) (wide now_wide : Bool) (cells now_cells : List Cell) (rows now_rows : List ℕ) → IsKept stride wide cells rows →
+    AreLinked (row_of (length now_rows) stride) now_cells now_rows → entries_of now_cells ≡ entries_of cells → 0 < length now_rows →
+    (now_wide ≡ false → (i : ℕ) (c : Cell) → slice_get now_cells i ≡ Some c → number_of stride c.node c.place < length now_rows) →
+    IsKept stride now_wide now_cells now_rows
+IsKept-relinked stride wide now_wide cells now_cells rows now_rows k linked same some within = record {
+  linked = linked;
+  some = λ _. some;
+  map = rw same k.map;
+  narrow = λ i c h.
+      let b = mapped_from entry_of cells i (entry_of c) (ap (λ xs. slice_get xs i) (sym same) ∙ entry_at now_cells i c h) in
+      let n : b.0.node ≡ c.node = ap (λ x. x.node) b.2 in
+      let p : b.0.place ≡ c.place = ap (λ x. x.place) b.2 in
+      let s = k.narrow i b.0 b.1 in
+      let s0 : b.0.node < 4294967295 = s.0 in
+      let s1 : b.0.place < 4294967295 = s.1 in
+      (omega arith, omega arith);
+  within = within;
+  few =
+      let f : length cells < 4294967295 = k.few in
+      let e : length now_cells ≡ length cells = sym (length-map now_cells entry_of) ∙ ap length same ∙ length-map cells entry_of in
+      omega arith;
+}
+
+pub take-whole : {A : Type 0} → (n : ℕ) (xs ys : List A) → n ≡ length xs → take n (xs ++ ys) ≡ xs
+take-whole n xs ys h = take-append-le n xs ys (omega arith) ∙ take_all n xs (omega arith)
+
+-- what `put` asks for, at the cell that it makes
+pub free-is : (entries : List Entry) (e : Entry) (n p : ℕ) (o : Found) → e ≡ record { node = n; place = p; found = o } →
+    IsFree entries n p → IsFree entries e.node e.place
+free-is entries e n p o h free = rw h free

@@ -1,0 +1,5 @@
+pub mod PushLemmas
+pub mod AreLinkedLemmas
+pub mod IsSoughtLemmas
+pub mod IsKeptLemmas
+pub mod FoundAtLemmas

@@ -1,0 +1,14 @@
+use Rattle.std.proofs.Common.{◌≡◌, ◌++◌, length, sym, ◌∙◌}
+use Rattle.std.proofs.Common.{take, drop}
+use Rattle.cells.proofs.IsKeptLemmas.{take-whole}
+use Rattle.cells.proofs.map.insert.Goals as goal
+
+pub add-requires-clause-free : goal.add-requires-clause-free
+add-requires-clause-free c =
+    let n = c.make_rows.auto.cells in
+    let m = c.deref_mut.ensures.len in
+    let whole : take c.args.cells.now.len (c.make_rows.new.cells ++ drop (length c.make_rows.new.cells) c.args.cells.now.items) ≡ c.make_rows.new.cells =
+    take-whole _ c.make_rows.new.cells _ (sym (n ∙ m)) in
+    let v = c.deref_mut.ensures.value in
+    let same = c.in_ok-wide.ensures.same in
+    rw (whole, same, v) c.requires.free

@@ -1,0 +1,47 @@
+-- The cells as they are kept, and as entries.
+use Rattle.std.specs.Prelude.{◌≡◌, ℕ, ◌<◌, ◌==◌, Bool, false, List, Some, length, map, slice_get, if◌then◌else◌}
+use Rattle.cells.specs.declared.cell.Cell.{Cell}
+use Rattle.cells.specs.declared.cell.Found.{Found}
+use Rattle.cells.specs.declared.cell.Found.TheVariants.{Failed, Took}
+use Rattle.cells.specs.Entries.{Entry}
+use Rattle.cells.specs.Links.{AreLinked}
+use Rattle.cells.specs.Rows.{row_of, number_of}
+
+abbrev pub found_of : ℕ → Found
+found_of e = if e == 4294967295 then Failed else Took e
+
+abbrev pub entry_of : Cell → Entry
+entry_of c = record { node = c.node; place = c.place; found = found_of c.end }
+
+abbrev pub entries_of : List Cell → List Entry
+entries_of cells = map entry_of cells
+
+-- an entry is of that pair, and holds that
+abbrev pub Holds : List Entry → ℕ → ℕ → Found → Type 0
+Holds entries n p o = (i : ℕ) × (slice_get entries i ≡ Some (record { node = n; place = p; found = o }))
+
+-- no entry is of the pair
+abbrev pub IsFree : List Entry → ℕ → ℕ → Type 0
+IsFree entries n p = (o : Found) → Holds entries n p o → ⊥
+
+-- a pair stands but once
+abbrev pub IsMap : List Entry → Type 0
+IsMap entries = (i j : ℕ) (a b : Entry) → slice_get entries i ≡ Some a → slice_get entries j ≡ Some b →
+    a.node ≡ b.node → a.place ≡ b.place → i ≡ j
+
+-- a cell is of that pair, with that end
+abbrev pub IsAt : List Cell → ℕ → ℕ → ℕ → Type 0
+IsAt cells n p e = (i : ℕ) × (c : Cell) × (slice_get cells i ≡ Some c) × (c.node ≡ n) × (c.place ≡ p) × (c.end ≡ e)
+
+-- no cell is of the pair
+abbrev pub IsNowhere : List Cell → ℕ → ℕ → Type 0
+IsNowhere cells n p = (i : ℕ) (c : Cell) → slice_get cells i ≡ Some c → c.node ≡ n → c.place ≡ p → ⊥
+
+-- what holds of the fields of the table
+pub record IsKept (stride : ℕ) (wide : Bool) (cells : List Cell) (rows : List ℕ) : Type 0 where
+  pub linked : AreLinked (row_of (length rows) stride) cells rows
+  pub some : 0 < length cells → 0 < length rows
+  pub map : IsMap (entries_of cells)
+  pub narrow : (i : ℕ) (c : Cell) → slice_get cells i ≡ Some c → (c.node < 4294967295) × (c.place < 4294967295)
+  pub within : wide ≡ false → (i : ℕ) (c : Cell) → slice_get cells i ≡ Some c → number_of stride c.node c.place < length rows
+  pub few : length cells < 4294967295

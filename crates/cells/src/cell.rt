@@ -1,0 +1,61 @@
+//! One cell, as it is kept.
+ghost use Rattle.std.specs.Prelude.{◌≡◌, ◌<◌, ◌≤◌, IfSome, IfNone};
+ghost use Rattle.cells.specs.Kept.{found_of};
+
+/// What a node gave at a place.
+#[derive(Clone, Copy, PartialEq, Eq, Debug)]
+pub enum Found {
+    /// It failed.
+    Failed,
+    /// It succeeded, and ended there.
+    Took(usize),
+}
+
+/// A cell in 16 bytes: its node, its place, the end of its success or `FAILED`, and its link: one more than the index of
+/// the last cell before it in the same row, or 0.
+#[derive(Clone, Copy)]
+pub(crate) struct Cell {
+    pub(crate) node: u32,
+    pub(crate) place: u32,
+    pub(crate) end: u32,
+    pub(crate) link: u32,
+}
+
+// The end that stands for a failure.
+const FAILED: u32 = 4_294_967_295;
+
+/// A number as a cell keeps it; none if it is too great.
+#[inline(always)]
+pub(crate) fn narrow(n: usize) -> Option<u32>
+    ensures same { IfSome result (λ m. (m ≡ n) × (m < 4294967295)) }
+    ensures none { IfNone result (4294967295 ≤ n) }
+{
+    if n < FAILED as usize {
+        Some(n as u32)
+    } else {
+        None
+    }
+}
+
+/// The end that a cell keeps of what was found; none if it is too great.
+#[inline(always)]
+pub(crate) fn end_of(found: Found) -> Option<u32>
+    ensures { IfSome result (λ e. found_of e ≡ found) }
+{
+    match found {
+        Found::Failed => Some(FAILED),
+        Found::Took(end) => narrow(end),
+    }
+}
+
+/// The found that an end stands for.
+#[inline(always)]
+pub(crate) fn found_of_end(end: u32) -> Found
+    ensures { result ≡ found_of end }
+{
+    if end == FAILED {
+        Found::Failed
+    } else {
+        Found::Took(end as usize)
+    }
+}

@@ -1,0 +1,60 @@
+//! Cells that were put are found, and no others, also where rows are folded and after a reset.
+
+use crate::{Cells, Found};
+use std::process::Abort;
+use std::test::Fail;
+
+fn put_new(cells: &mut Cells, node: usize, place: usize) -> Result<(), Fail> {
+    match cells.get(node, place) {
+        Some(_) => {}
+        None => cells.put(node, place, Found::Took(node))?,
+    }
+    Ok(())
+}
+
+// Puts a cell for each third node at each of the places, and looks all up.
+fn filled(rt: &impl Abort, cells: &mut Cells, places: usize, nodes: usize) -> Result<(), Fail> {
+    cells.reset(nodes);
+    let mut count = 0usize;
+    for place in 0..places {
+        for node in 0..nodes {
+            if node % 3 == place % 3 {
+                put_new(cells, node, place)?;
+                count = count.wrapping_add(1);
+            }
+        }
+    }
+    assert_eq!(rt; cells.len(), count);
+    for place in 0..places {
+        for node in 0..nodes {
+            let wanted = if node % 3 == place % 3 {
+                Some(Found::Took(node))
+            } else {
+                None
+            };
+            assert!(rt; cells.get(node, place) == wanted);
+        }
+    }
+    Ok(())
+}
+
+#[test]
+fn found_again(rt: HostRuntime) -> Result<(), Fail> {
+    let mut cells = Cells::new(rt.alloc());
+    assert!(rt; cells.get(0, 0) == None);
+    filled(&rt, &mut cells, 40, 100)?;
+    filled(&rt, &mut cells, 3, 9000)?;
+    filled(&rt, &mut cells, 300, 4)?;
+    filled(&rt, &mut cells, 200, 50)
+}
+
+#[test]
+fn failed(rt: HostRuntime) -> Result<(), Fail> {
+    let mut cells = Cells::new(rt.alloc());
+    cells.reset(1);
+    cells.put(0, 7, Found::Failed)?;
+    assert!(rt; cells.get(0, 7) == Some(Found::Failed));
+    assert!(rt; cells.get(0, 6) == None);
+    assert!(rt; cells.get(5_000_000_000, 7) == None);
+    Ok(())
+}

@@ -1,0 +1,271 @@
+-- What a step makes of a desk.
+-- Serves: Desk::begin, Desk::step, Desk::match_unit.
+use Rattle.std.proofs.Common.{◌≡◌, ◌⊎◌, inl, inr, ℕ, suc, ◌+◌, ◌-◌, ◌*◌, ◌^◌, ◌<◌, ◌≤◌, Bool, true, false, get_or, Result, Ok, Err, OnOk, IfOk, is_err, List, [], ◌∷◌, ◌++◌, length, map, Option, Some, None, refl, sym, ◌∙◌, ap, subst, arith, length-append}
+use Rattle.std.specs.Prelude.{slice_get}
+use Rattle.std.proofs.Math.Nat.{mul-le-mul_right, mul-le-mul_left}
+use Rattle.pegread.specs.Pattern.{Rule}
+use Rattle.pegread.specs.Views.{rules_of}
+use Rattle.gramcheck.specs.Grammar.{Grammar, IsSoundGrammar}
+use Rattle.gramcheck.specs.Nodes.{Shape, shape_of, shapes_of, Spells}
+use Rattle.std.proofs.lemmas.List.{length-map}
+use Rattle.std.proofs.lemmas.Option.{slice_get-get_or}
+use Rattle.gramcheck.specs.Outcome.{Outcome, RuleGives}
+use Rattle.gramcheck.specs.Sound.{IsRanked}
+use Rattle.gramcheck.proofs.Ending as one
+use Rattle.pegmatch.specs.Answers.{StartGives}
+use Rattle.pegmatch.specs.Kept.{SpellsSome, outcome_of}
+use Rattle.cells.specs.declared.cell.Found.{Found}
+use Rattle.cells.specs.declared.cell.Found.TheVariants.{Failed, Took}
+use Rattle.pegmatch.specs.declared.matcher.Unit.{Unit as UnitAnswer}
+use Rattle.pegmatch.specs.declared.matcher.Unit.TheVariants as unit
+use Rattle.cells.specs.Entries.{Entry}
+use Rattle.desk.specs.declared.frame.Frame.{Frame}
+use Rattle.desk.specs.declared.turn.Turn.{Turn}
+use Rattle.desk.specs.declared.turn.Turn.TheVariants.{Ask, Answer, Need}
+use Rattle.cells.specs.Entries.{found_at, AreDifferent}
+use Rattle.desk.specs.Desk.{View, beginning, Fits, HasFrames, IsDone, Pushes, Drops, Reaches, Answers, Ends, IsStep, IsOutcome, told, unit_of}
+use Rattle.desk.specs.State.{HasCell, IsFound, IsPut, IsUnderWay, IsStack, AreCells}
+use Rattle.desk.specs.Turns.{IsTurn}
+use Rattle.desk.specs.Visits.{NodeGives, Asks, Visits}
+use Rattle.desk.proofs.AsksLemmas.{is_visited}
+use Rattle.desk.proofs.AreCellsLemmas.{all_at_most, cell_there, visited_there}
+use Rattle.desk.proofs.CodeLemmas.{cells_at_most}
+use Rattle.desk.proofs.LookedLemmas.{ends_within}
+use Rattle.desk.proofs.VisitsLemmas.{visits_within}
+use Rattle.desk.proofs.IsPutLemmas.{is_put, different_put}
+use Rattle.desk.proofs.NodeGivesLemmas.{gives_as, same_node}
+use Rattle.desk.proofs.IsStackLemmas.{top_visits, top_is_open, stack_push, stack_pop, cells_put, alone, all_visited, stack_begin, no_cells, under_way}
+
+-- what is counted has room
+pub room : (a b n : ℕ) → a < 2 ^ 64 → b < 2 ^ 64 → n ≤ a * (b + 1) → n + 1 < 2 ^ 128
+room a b n lt less h =
+    let one : a * (b + 1) ≤ a * (2 ^ 64) = mul-le-mul_left a (omega arith) in
+    omega arith
+
+pub some_frame : (fs : List Frame) → (fs ≡ [] → ⊥) → (u : Frame) × (us : List Frame) × (fs ≡ u ∷ us)
+some_frame [] h = absurd (h refl)
+some_frame (u ∷ us) h = (u, us, refl)
+
+less : (b old new below frames frames' : ℕ) → new ≤ b → new ≡ old + 1 → frames ≡ suc below → frames' ≡ suc (suc below) → 2 * (b + 1 - new) + frames' < 2 * (b + 1 - old) + frames
+less b old new below frames frames' most is before now = omega arith
+
+same_less : (b old new frames frames' : ℕ) → new ≡ old → frames ≡ suc frames' → 2 * (b + 1 - new) + frames' < 2 * (b + 1 - old) + frames
+same_less b old new frames frames' is before = omega arith
+
+pub ok_of : {A E P : Type 0} (r : Result A E) → is_err r ≡ false → OnOk r P → P
+ok_of (Ok a) h p = p
+ok_of (Err e) h p = absurd (cc h)
+
+-- the last frame, as it was read
+pub read_top : (fs below : List Frame) (t u : Frame) → fs ≡ t ∷ below → u ≡ t → fs ≡ u ∷ below
+read_top fs below t u is same = rw same is
+
+-- a node that gives the start rule's outcome
+pub start_gives : (g : Grammar) (x : List ℕ) → IsSoundGrammar g → (root k : ℕ) (o : Outcome) → slice_get g.bodies g.start ≡ Some root →
+    NodeGives (rules_of g.rules) (shapes_of g.nodes) g.bodies x root 0 o k → StartGives g x o k
+start_gives g x sound root k o at d =
+    let there = sound.spelled.spelled g.start root at in
+    record { body = there.0; rule = there.1; gives = gives_as (rules_of g.rules) (shapes_of g.nodes) sound.defined g.bodies x there.2 d }
+
+module _ (g : Grammar) (x : List ℕ) (more : Bool) (sound : IsSoundGrammar g) where
+  abbrev Rs : List Rule
+  Rs = rules_of g.rules
+
+  abbrev Ns : List Shape
+  Ns = shapes_of g.nodes
+
+  -- what is known of the last frame
+  pub record IsTop (d : View) (t : Frame) : Type 0 where
+    pub visits : Visits Rs Ns g.bodies x g.start t.node t.place
+    pub spelled : SpellsSome Rs Ns t.node
+    pub high : t.place ≤ length x
+    pub come : IsUnderWay Rs g.start Ns g.bodies x more d.cells t.node t.place t.next t.end
+    pub none : found_at d.cells t.node t.place ≡ None
+
+  stacked : (d : View) (t : Frame) (fs : List Frame) → Fits g x more d → d.frames ≡ t ∷ fs → IsStack Rs g.start Ns g.bodies x more d.cells (t ∷ fs)
+  stacked d t fs f is = subst (λ v. IsStack Rs g.start Ns g.bodies x more d.cells v) is f.stack
+
+  pub is_top : (d : View) (t : Frame) (fs : List Frame) → Fits g x more d → d.frames ≡ t ∷ fs → IsTop d t
+  is_top d t fs f is =
+      let s = stacked d t fs f is in
+      let visits = top_visits Rs g.start Ns g.bodies g.ranks x more sound d.cells t fs s in
+      let v = is_visited Rs g.start Ns g.bodies g.ranks x sound visits in
+      let o = top_is_open Rs g.start Ns g.bodies g.ranks x more sound d.cells t fs s in
+      record { visits = visits; spelled = v.spelled; high = v.high; come = o.come; none = o.none }
+
+  pub fits_at_most : (d : View) → Fits g x more d → d.begun ≤ length Ns * (length x + 1)
+  fits_at_most d f = let most = all_at_most Rs g.start Ns g.bodies g.ranks x more sound d.cells d.frames f.cells f.different f.stack in omega (arith, f.count, most)
+
+  -- what fits has right frames
+  pub frames_of : (d : View) → Fits g x more d → HasFrames g x more d
+  frames_of d f =
+      let most = fits_at_most d f in
+      let size = length-map g.nodes shape_of in
+      record { pairs = under_way Rs g.start Ns g.bodies g.ranks x more sound f.stack; few = rw (← size) (omega (arith, most, f.count)) }
+
+  -- the node of the start rule's body
+  start_node : (root : ℕ) × (slice_get g.bodies g.start ≡ Some root)
+  start_node = (get_or g.bodies g.start 0, slice_get-get_or g.bodies g.start 0 (omega (arith, sound.start_is_rule, sound.spelled.count)))
+
+  start_as : (root k : ℕ) (o : Outcome) → slice_get g.bodies g.start ≡ Some root → StartGives g x o k → NodeGives Rs Ns g.bodies x root 0 o k
+  start_as root k o at gives =
+      let there = sound.spelled.spelled g.start root at in
+      let same : there.0 ≡ gives.body = cc (there.1, gives.rule) in
+      record { expr = gives.body; spelled = subst (Spells Rs Ns root) same there.2; gives = gives.gives }
+
+  pub pushed : (old new : View) (t : Frame) (fs : List Frame) (m q i r : ℕ) → Fits g x more old → old.frames ≡ t ∷ fs →
+      IsTurn Rs g.start Ns g.bodies x more old.cells t.node t.place (Ask m q i r) → new.cells ≡ old.cells →
+      new.frames ≡ beginning m q ∷ (record { node = t.node; place = t.place; next = i; end = r } ∷ fs) → new.begun ≡ old.begun + 1 → IsStep g x more old new None
+  pushed old new t fs m q i r f is turn cells frames begun =
+      let stack = stack_push Rs g.start Ns g.bodies g.ranks x more sound old.cells t fs m q i r (stacked old t fs f is) turn in
+      let lengths = ap length frames in
+      let before = ap length is in (
+        record {
+          stack = rw (frames, cells) stack;
+          cells = rw cells f.cells;
+          different = rw cells f.different;
+          count = rw cells (omega (arith, begun, f.count, lengths, before));
+        },
+        (beginning m q, record { node = t.node; place = t.place; next = i; end = r } ∷ fs, frames),
+        inl (record {
+          frame = beginning m q;
+          top = t;
+          below = fs;
+          come = record { node = t.node; place = t.place; next = i; end = r };
+          same = (refl, refl);
+          was = is;
+          is = frames;
+          cells = cells;
+          begun = begun;
+        }),
+      )
+
+  module _ (old new : View) (t : Frame) (fs : List Frame) (h : Found) (f : Fits g x more old) (is : old.frames ≡ t ∷ fs)
+      (turn : IsTurn Rs g.start Ns g.bodies x more old.cells t.node t.place (Answer h)) (cells : new.cells ≡ old.cells ++ record { node = t.node; place = t.place; found = h } ∷ [])
+      (frames : new.frames ≡ fs) (begun : new.begun ≡ old.begun) where
+    put : IsPut old.cells new.cells t.node t.place h
+    put = is_put old.cells new.cells (record { node = t.node; place = t.place; found = h }) (is_top old t fs f is).none cells
+
+    longer : length new.cells ≡ length old.cells + 1
+    longer = ap length cells ∙ length-append old.cells (record { node = t.node; place = t.place; found = h } ∷ [])
+
+    pub drops : Drops old new h
+    drops = record { top = t; was = is ∙ ap (λ v. t ∷ v) (sym frames); cells = put; grown = longer; begun = begun }
+
+    pub still_fits : Fits g x more new
+    still_fits =
+        let lengths = ap length frames in
+        let before = ap length is in
+        let top = is_top old t fs f is in
+        record {
+          stack = rw frames (stack_pop Rs g.start Ns g.bodies g.ranks x more sound old.cells new.cells t fs h (stacked old t fs f is) put);
+          cells = cells_put Rs g.start Ns g.bodies g.ranks x more sound old.cells new.cells t.node t.place h f.cells top.visits turn put;
+          different = rw cells (different_put old.cells (record { node = t.node; place = t.place; found = h }) f.different top.none);
+          count = omega (arith, begun, f.count, lengths, before, longer);
+        }
+
+    pub dropped : (u : Frame) (us : List Frame) → new.frames ≡ u ∷ us → IsStep g x more old new None
+    dropped u us there = (still_fits, (u, us, there), inr (h, drops))
+
+    pub ended : new.frames ≡ [] → Ends g x more old new h
+    ended none =
+        let s : IsStack Rs g.start Ns g.bodies x more old.cells (t ∷ []) = stacked old t [] f (is ∙ ap (λ v. t ∷ v) (sym frames ∙ none)) in
+        let root = alone Rs g.start Ns g.bodies g.ranks x more sound old.cells t s in
+        let now = still_fits in
+        let here : found_at new.cells t.node 0 ≡ Some h = subst (λ v. found_at new.cells t.node v ≡ Some h) root.1 put.here in
+        let found = now.cells.found t.node 0 h here in
+        let lengths = ap length none in
+        record {
+          drops = drops;
+          done = record {
+            frames = none;
+            visited = now.cells.visited;
+            whole = λ n p v. all_visited Rs g.start Ns g.bodies g.ranks x more sound new.cells t.node now.cells root.0 (h, here) v;
+            found = now.cells.found;
+            different = now.different;
+            count = omega (arith, now.count, lengths);
+          };
+          answers = record { events = found.events; looked = found.looked; gives = start_gives g x sound t.node found.looked _ root.0 found.gives; enough = found.enough };
+        }
+
+  pub ended_step : (old new : View) (h : Found) (b : ℕ) → Ends g x more old new h → b ≡ new.begun → IsStep g x more old new (Some (unit_of h b))
+  ended_step old new Failed b e is = (e, is)
+  ended_step old new (Took end) b e is = (e, is)
+
+  pub reaches : (d : View) (t : Frame) (fs : List Frame) → d.frames ≡ t ∷ fs → IsTurn Rs g.start Ns g.bodies x more d.cells t.node t.place Need → Reaches g x more d
+  reaches d t fs is turn = record { behind = turn.0; top = t; below = fs; is = is; own = turn.1; outcome = turn.2.0; gives = turn.2.1 }
+
+  pub fits_begin : (root : ℕ) (d : View) → slice_get g.bodies g.start ≡ Some root → d.cells ≡ [] → d.frames ≡ beginning root 0 ∷ [] → d.begun ≡ 1 → Fits g x more d
+  fits_begin root d at cells frames begun = record {
+    stack = rw (cells, frames) (stack_begin Rs g.start Ns g.bodies g.ranks x more sound root at);
+    cells = rw cells (no_cells Rs g.start Ns g.bodies g.ranks x more sound);
+    different = rw cells tt;
+    count = rw (cells, frames) begun;
+  }
+
+  -- where the last frame's comparison reaches the window's last byte, the start rule looks at it
+  pub need_given : (d : View) → Fits g x more d → Reaches g x more d → (o : Outcome) × StartGives g x o (length x)
+  need_given d f r =
+      let has = one.has_of_start Rs g.start Ns g.bodies g.ranks sound x in
+      let root = start_node in
+      let gives : NodeGives Rs Ns g.bodies x root.0 0 has.0 has.1 = start_as root.0 has.1 has.0 root.1 has.2 in
+      let top = is_top d r.top r.below f r.is in
+      let within = visits_within Rs g.start Ns g.bodies g.ranks x sound top.visits root.0 has.1 has.0 root.1 gives in
+      let same = same_node Rs Ns sound.defined g.bodies x r.gives within.gives in
+      let far : has.1 ≡ length x = omega (arith, same.looked, within.less, ends_within Rs x has.2.gives) in
+      (has.0, subst (λ k. StartGives g x has.0 k) far has.2)
+
+  no_frames : (d : View) → d.frames ≡ [] → HasFrames g x more d
+  no_frames d none = record { pairs = rw none tt; few = rw none (omega arith) }
+
+  -- after a step the frames are right
+  pub step_frames : (old new : View) (v : Option UnitAnswer) → Fits g x more old → IsStep g x more old new v → HasFrames g x more new
+  step_frames old new None f s = frames_of new s.0
+  step_frames old new (Some (unit.Took end begun)) f s = no_frames new s.0.done.frames
+  step_frames old new (Some (unit.Failed begun)) f s = no_frames new s.0.done.frames
+  step_frames old new (Some unit.Need) f s = rw s.0 (frames_of old f)
+
+  pub frames_of_step : {E : Type 0} (old new : View) (r : Result (Option UnitAnswer) E) → Fits g x more old → IfOk r (IsStep g x more old new) → OnOk r (HasFrames g x more new)
+  frames_of_step old new (Ok v) f s = step_frames old new v f s
+  frames_of_step old new (Err e) f s = tt
+
+  pub step_outcome : (old new : View) (v : Option UnitAnswer) (u : UnitAnswer) → Fits g x more old → IsStep g x more old new v → v ≡ Some u → IsOutcome g x more new u
+  step_outcome old new v u f s is = by u (subst (λ w. IsStep g x more old new w) is s)
+    where
+      by : (u : UnitAnswer) → IsStep g x more old new (Some u) → IsOutcome g x more new u
+      by (unit.Took end begun) e = (e.0.done, e.0.answers, e.1)
+      by (unit.Failed begun) e = (e.0.done, e.0.answers, e.1)
+      by unit.Need e = (e.1.behind, need_given old f e.1)
+
+  pub step_less : (old new : View) (v : Option UnitAnswer) → Fits g x more old → IsStep g x more old new v → v ≡ None →
+      2 * (length Ns * (length x + 1) + 1 - new.begun) + length new.frames < 2 * (length Ns * (length x + 1) + 1 - old.begun) + length old.frames
+  step_less old new v f s is = by (subst (λ w. IsStep g x more old new w) is s)
+    where
+      by : IsStep g x more old new None → 2 * (length Ns * (length x + 1) + 1 - new.begun) + length new.frames < 2 * (length Ns * (length x + 1) + 1 - old.begun) + length old.frames
+      by (fits, some, what) = elim what [
+        | inl p ↦
+            let most = fits_at_most new fits in
+            let before = ap length p.was in
+            let now = ap length p.is in
+            less (length Ns * (length x + 1)) old.begun new.begun (length p.below) (length old.frames) (length new.frames) most p.begun before now
+        | inr h ↦
+            let before = ap length h.1.was in
+            same_less (length Ns * (length x + 1)) old.begun new.begun (length old.frames) (length new.frames) h.1.begun before
+      ]
+
+  -- no more are begun than nodes at places up to where the start rule looked
+  pub done_at_most : (d : View) (o : Outcome) (k : ℕ) → IsDone g x more d → StartGives g x o k → d.begun ≤ length Ns * (k + 1)
+  done_at_most d o k done gives =
+      let root = start_node in
+      let node : NodeGives Rs Ns g.bodies x root.0 0 o k = start_as root.0 k o root.1 gives in
+      let most = cells_at_most d.cells (length Ns) k done.different
+      (λ m q h.
+      let v = done.visited m q h.0 h.1 in
+      let within = visits_within Rs g.start Ns g.bodies g.ranks x sound v root.0 k o root.1 node in
+      ((visited_there Rs g.start Ns g.bodies g.ranks x more sound m q v).0, omega (arith, within.near))) in
+      omega (arith, done.count, most)
+
+  pub told_at_most : (d : View) (u : UnitAnswer) → IsOutcome g x more d u → (o : Outcome) (k : ℕ) → StartGives g x o k → told u ≤ length g.nodes * (k + 1)
+  told_at_most d (unit.Took end begun) h o k gives = rw (h.2, ← length-map g.nodes shape_of) (done_at_most d o k h.0 gives)
+  told_at_most d (unit.Failed begun) h o k gives = rw (h.2, ← length-map g.nodes shape_of) (done_at_most d o k h.0 gives)
+  told_at_most d unit.Need h o k gives = omega arith

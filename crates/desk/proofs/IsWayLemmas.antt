@@ -1,0 +1,379 @@
+-- The events of a success in path order, form by form.
+-- Serves: Desk::replay.
+use Rattle.std.proofs.Common.{◌≡◌, ◌⊎◌, inl, inr, ℕ, zero, suc, ◌+◌, ◌<◌, ◌≤◌, max, Bool, true, false, if◌then◌else◌, ◌==◌, nat_lt, List, [], ◌∷◌, ◌++◌, length, drop, get_or, Option, Some, None, refl, sym, ◌∙◌, ap, subst, arith, add-one, append-nil, drop-cons}
+use Rattle.std.specs.Prelude.{slice_get}
+use Rattle.std.proofs.lemmas.Bool.{cases_Bool, eqb-true, eqb-false, ltb-true, ltb-false}
+use Rattle.std.proofs.lemmas.Grind.{common_steps}
+use Rattle.pegread.specs.Pattern as expr
+use Rattle.pegread.specs.Pattern.{Pattern, Patterns, Rule, body_of}
+use Rattle.gramcheck.specs.Nodes as node
+use Rattle.gramcheck.specs.Nodes.{Shape, Spells, spells_star, SpellAll, spell_none, spell_more}
+use Rattle.gramcheck.specs.Outcome as event
+use Rattle.gramcheck.specs.Outcome.{Event, Outcome, Fails, Takes, Gives, any_takes, set_takes, bytes_take, act, open_at, close_at, name, seq, choice, opt_takes, opt_none, star_none, star_more, plus_takes, and_takes, not_takes, GivesAll, all_done, rest_takes, GivesFirst, first_takes, first_fails}
+use Rattle.gramcheck.specs.Sound.{IsRanked}
+use Rattle.gramcheck.proofs.OneOutcomeLemmas.{same}
+use Rattle.gramcheck.proofs.Spelled.{has_shape}
+use Rattle.pegmatch.specs.Kept.{SpellsSome}
+use Rattle.cells.specs.declared.cell.Found.{Found}
+use Rattle.cells.specs.declared.cell.Found.TheVariants.{Failed, Took}
+use Rattle.cells.specs.Entries.{Entry}
+use Rattle.desk.specs.declared.frame.Frame.{Frame}
+use Rattle.desk.specs.declared.way.Way.{Way}
+use Rattle.desk.specs.declared.way.Way.TheVariants.{Leave, Emit, TurnTo, GoInto}
+use Rattle.pegmatch.specs.declared.event.Kept.TheVariants.{Opened, Closed, Acted}
+use Rattle.cells.specs.Entries.{found_at}
+use Rattle.desk.specs.Desk.{beginning}
+use Rattle.pegmatch.specs.Kept.{opened, closed, acted}
+use Rattle.desk.specs.Path.{opt_way, into, star_way, seq_way, to_first, choice_way, Taking, AllTaking, LeftBy, IsLeft, IsWay, pair_height}
+use Rattle.desk.specs.State.{HasCell, HaveTaken, none_taken, HaveFailed, none_failed, one_failed, IsFound, AreCells}
+use Rattle.desk.specs.Visits.{NodeGives, NodeTakes, Asks, AsksMember, AsksAlternative, alternative_here, alternative_later}
+use Rattle.desk.proofs.AsksLemmas.{leads, falls}
+use Rattle.desk.proofs.GivesLemmas.{is_name}
+use Rattle.desk.proofs.NodeGivesLemmas.{gives_as, same_node}
+use Rattle.desk.proofs.HaveTakenLemmas.{taken_next, asks_member}
+
+module _ (rules : List Rule) (start : ℕ) (nodes : List Shape) (bodies ranks x : List ℕ) (more : Bool) (sound : IsRanked rules start nodes bodies ranks) (cells : List Entry)
+    (right : AreCells rules start nodes bodies x more cells) where
+  abbrev Takings : ℕ → ℕ → List Event → Type 0
+  Takings n p es = Taking rules nodes bodies ranks x cells n p es
+
+  abbrev Lefts : Frame → List Event → Type 0
+  Lefts f es = IsLeft rules nodes bodies ranks x cells f es
+
+  abbrev Ways : Frame → List Event → Way → Type 0
+  Ways f es w = IsWay rules nodes bodies ranks x cells f es w
+
+  as_own : {n p k : ℕ} {o : Outcome} {e : Pattern} → Spells rules nodes n e → NodeGives rules nodes bodies x n p o k → Gives rules x e p o k
+  as_own s d = gives_as rules nodes sound.defined bodies x s d
+
+  -- a success of a sequence is one of its members
+  of_seq : {ms : List ℕ} {ps : Patterns} {p k end : ℕ} {es : List Event} → SpellAll rules nodes ms ps → Gives rules x (expr.Seq ps) p (Takes end es) k → AllTaking rules nodes bodies ranks x cells ms p es
+  of_seq {ps = ps} {k = k} {end = end} ss (seq d) = record { exprs = ps; end = end; looked = k; spelled = ss; gives = d }
+
+  -- what is to come of a node that begins
+  fresh_by : (n p : ℕ) (es : List Event) → Takings n p es → (shape : Shape) → slice_get nodes n ≡ Some shape → LeftBy rules nodes bodies ranks x cells shape n p 0 p es
+  fresh_by n p es t node.Any h = t
+  fresh_by n p es t (node.Bytes bs) h = t
+  fresh_by n p es t (node.Set s) h = t
+  fresh_by n p es t (node.Name id) h = t
+  fresh_by n p es t (node.Seq ms) h =
+      let like = has_shape rules nodes t.gives.spelled (node.Seq ms) h in
+      (none_taken, of_seq like.2 (subst (λ v. Gives rules x v p (Takes t.end es) t.looked) like.1 t.gives.gives))
+  fresh_by n p es t (node.Choice ms) h = t
+  fresh_by n p es t (node.Star m) h = inl (refl, t)
+  fresh_by n p es t (node.Plus m s) h = inl (refl, t)
+  fresh_by n p es t (node.Opt m) h = t
+  fresh_by n p es t (node.And m) h = t
+  fresh_by n p es t (node.Not m) h = t
+  fresh_by n p es t (node.Act u) h = t
+  fresh_by n p es t node.Open h = t
+  fresh_by n p es t node.Close h = t
+
+  pub fresh : (n p : ℕ) (es : List Event) → HasCell cells n p → p ≤ length x → Takings n p es → Lefts (beginning n p) es
+  fresh n p es has high t = record { has = has; spelled = (t.gives.expr, t.gives.spelled); high = high; left = fresh_by n p es t }
+
+  any_quiet : {p k end : ℕ} {es : List Event} → Gives rules x expr.Any p (Takes end es) k → es ≡ []
+  any_quiet (any_takes h) = refl
+
+  set_quiet : {s : ℕ → Bool} {p k end : ℕ} {es : List Event} → Gives rules x (expr.Set s) p (Takes end es) k → es ≡ []
+  set_quiet (set_takes h g) = refl
+
+  bytes_quiet : {bs : List ℕ} {p k end : ℕ} {es : List Event} → Gives rules x (expr.Bytes bs) p (Takes end es) k → es ≡ []
+  bytes_quiet (bytes_take h) = refl
+
+  and_quiet : {e : Pattern} {p k end : ℕ} {es : List Event} → Gives rules x (expr.And e) p (Takes end es) k → es ≡ []
+  and_quiet (and_takes d) = refl
+
+  not_quiet : {e : Pattern} {p k end : ℕ} {es : List Event} → Gives rules x (expr.Not e) p (Takes end es) k → es ≡ []
+  not_quiet (not_takes d) = refl
+
+  act_one : {t : List ℕ} {p k end : ℕ} {es : List Event} → Gives rules x (expr.Act t) p (Takes end es) k → es ≡ event.Acted t ∷ []
+  act_one act = refl
+
+  open_one : {p k end : ℕ} {es : List Event} → Gives rules x expr.Open p (Takes end es) k → es ≡ event.Opened p ∷ []
+  open_one open_at = refl
+
+  close_one : {p k end : ℕ} {es : List Event} → Gives rules x expr.Close p (Takes end es) k → es ≡ event.Closed p ∷ []
+  close_one close_at = refl
+
+  -- of a node's success, where its operand's cell is a failure or a success
+  some_none : {h : Found} → Some h ≡ None → ⊥
+  some_none e = cc e
+
+  fails_not : {m p end k : ℕ} {now : List Event} {e : Pattern} → found_at cells m p ≡ Some Failed → Spells rules nodes m e → Gives rules x e p (Takes end now) k → ⊥
+  fails_not {m = m} {p = p} h s d = let w = same rules x d (as_own s (right.found m p Failed h).gives) in cc w.outcome
+
+  takes_not : {m p r k : ℕ} {e : Pattern} → found_at cells m p ≡ Some (Took r) → Spells rules nodes m e → Gives rules x e p Fails k → ⊥
+  takes_not {m = m} {p = p} {r = r} h s d = let w = same rules x d (as_own s (right.found m p (Took r) h).gives) in cc w.outcome
+
+  ends_so : {m p r end k : ℕ} {now : List Event} {e : Pattern} → found_at cells m p ≡ Some (Took r) → Spells rules nodes m e → Gives rules x e p (Takes end now) k → end ≡ r
+  ends_so {m = m} {p = p} {r = r} h s d = let w = same rules x d (as_own s (right.found m p (Took r) h).gives) in cc w.outcome
+
+  taking : {m p end k : ℕ} {now : List Event} {e : Pattern} → Spells rules nodes m e → Gives rules x e p (Takes end now) k → Takings m p now
+  taking {end = end} {k = k} {e = e} s d = record { end = end; looked = k; gives = record { expr = e; spelled = s; gives = d } }
+
+  of_name : {m p end k : ℕ} {es word : List _} {e : Pattern} → body_of rules word ≡ Some e → Spells rules nodes m e → Gives rules x (expr.Name word) p (Takes end es) k → Takings m p es
+  of_name {p = p} {end = end} {k = k} {es = es} {e = e} b s (name {e = d} h g) = let is : d ≡ e = cc in taking s (subst (λ v. Gives rules x v p (Takes end es) k) is g)
+
+  opt_failed : {m p end k : ℕ} {es : List Event} {e : Pattern} → Spells rules nodes m e → found_at cells m p ≡ Some Failed → Gives rules x (expr.Opt e) p (Takes end es) k → es ≡ []
+  opt_failed s h (opt_takes d) = absurd (fails_not h s d)
+  opt_failed s h (opt_none d) = refl
+
+  opt_took : {m p r end k : ℕ} {es : List Event} {e : Pattern} → Spells rules nodes m e → found_at cells m p ≡ Some (Took r) → Gives rules x (expr.Opt e) p (Takes end es) k → Takings m p es
+  opt_took s h (opt_takes d) = taking s d
+  opt_took s h (opt_none d) = absurd (takes_not h s d)
+
+  -- the operand's events, and those of what goes on with it
+  record Parts (m p s r : ℕ) (es : List Event) : Type 0 where
+    pub now : List Event
+    pub later : List Event
+    pub is : es ≡ now ++ later
+    pub here : Takings m p now
+    pub there : Takings s r later
+
+  star_failed : {m p end k : ℕ} {es : List Event} {e : Pattern} → Spells rules nodes m e → found_at cells m p ≡ Some Failed → Gives rules x (expr.Star e) p (Takes end es) k → es ≡ []
+  star_failed s h (star_none d) = refl
+  star_failed s h (star_more d c) = absurd (fails_not h s d)
+
+  star_took : {n m p r end k : ℕ} {es : List Event} {e : Pattern} → Spells rules nodes n (expr.Star e) → Spells rules nodes m e → found_at cells m p ≡ Some (Took r) →
+      Gives rules x (expr.Star e) p (Takes end es) k → Parts m p n r es
+  star_took sn s h (star_none d) = absurd (takes_not h s d)
+  star_took {n = n} sn s h (star_more {es = now} {fs = later} d c) =
+      record { now = now; later = later; is = refl; here = taking s d; there = subst (λ v. Takings n v later) (ends_so h s d) (taking sn c) }
+
+  plus_failed : {m p end k : ℕ} {es : List Event} {e : Pattern} → Spells rules nodes m e → found_at cells m p ≡ Some Failed → Gives rules x (expr.Plus e) p (Takes end es) k → ⊥
+  plus_failed s h (plus_takes d c) = fails_not h s d
+
+  plus_took : {n m p r end k : ℕ} {es : List Event} {e : Pattern} → Spells rules nodes n (expr.Star e) → Spells rules nodes m e → found_at cells m p ≡ Some (Took r) →
+      Gives rules x (expr.Plus e) p (Takes end es) k → Parts m p n r es
+  plus_took {n = n} sn s h (plus_takes {es = now} {fs = later} d c) =
+      record { now = now; later = later; is = refl; here = taking s d; there = subst (λ v. Takings n v later) (ends_so h s d) (taking sn c) }
+
+  AllTakes : List ℕ → ℕ → List Event → Type 0
+  AllTakes ms p es = AllTaking rules nodes bodies ranks x cells ms p es
+
+  -- the next member's events, and those of the members behind it
+  record MemberParts (m p : ℕ) (ms : List ℕ) (es : List Event) : Type 0 where
+    pub mid : ℕ
+    pub now : List Event
+    pub later : List Event
+    pub is : es ≡ now ++ later
+    pub here : Takings m p now
+    pub ends : (r : ℕ) → found_at cells m p ≡ Some (Took r) → mid ≡ r
+    pub fails : found_at cells m p ≡ Some Failed → ⊥
+    pub there : AllTaking rules nodes bodies ranks x cells ms mid later
+
+  member_parts : {m p end k : ℕ} {ms : List ℕ} {ps : Patterns} {es : List Event} → SpellAll rules nodes (m ∷ ms) ps → GivesAll rules x ps p (Takes end es) k → MemberParts m p ms es
+  member_parts (spell_more {ps = rest} s ss) (rest_takes {q = q} {r = r} {k = k} {es = now} {fs = later} d c) = record {
+    mid = q;
+    now = now;
+    later = later;
+    is = refl;
+    here = taking s d;
+    ends = λ z h. ends_so h s d;
+    fails = λ h. fails_not h s d;
+    there = record { exprs = rest; end = r; looked = k; spelled = ss; gives = c };
+  }
+
+  none_left : {p end k : ℕ} {ps : Patterns} {es : List Event} → SpellAll rules nodes [] ps → GivesAll rules x ps p (Takes end es) k → es ≡ []
+  none_left spell_none all_done = refl
+
+  -- the first alternative that succeeded
+  record Chosen (ms : List ℕ) (p : ℕ) (es : List Event) : Type 0 where
+    pub node : ℕ
+    pub is : choice_way cells ms p ≡ TurnTo node p
+    pub asked : AsksAlternative rules nodes bodies x p ms node
+    pub here : Takings node p es
+
+  chosen_here : (m p end k : ℕ) (ms : List ℕ) (es : List Event) (e : Pattern) → Spells rules nodes m e → Gives rules x e p (Takes end es) k → (h : Found) → found_at cells m p ≡ Some h → Chosen (m ∷ ms) p es
+  chosen_here m p end k ms es e s d Failed h = absurd (fails_not h s d)
+  chosen_here m p end k ms es e s d (Took r) h = record { node = m; is = rw h refl; asked = alternative_here; here = taking s d }
+
+  chosen_later : (m p j : ℕ) (ms : List ℕ) (es : List Event) (e : Pattern) → Spells rules nodes m e → Gives rules x e p Fails j → Chosen ms p es → (h : Found) → found_at cells m p ≡ Some h → Chosen (m ∷ ms) p es
+  chosen_later m p j ms es e s d l (Took r) h = absurd (takes_not h s d)
+  chosen_later m p j ms es e s d l Failed h =
+      record { node = l.node; is = rw h l.is; asked = alternative_later (record { looked = j; gives = record { expr = e; spelled = s; gives = d } }) l.asked; here = l.here }
+
+  chosen : (ms : List ℕ) (p end k : ℕ) (ps : Patterns) (es : List Event) → SpellAll rules nodes ms ps → GivesFirst rules x ps p (Takes end es) k →
+      ((m : ℕ) → AsksAlternative rules nodes bodies x p ms m → HasCell cells m p) → Chosen ms p es
+  chosen [] p end k ps es spell_none d has = elim d [ ]
+  chosen (m ∷ ms) p end k ps es (spell_more {p = e} s ss) (first_takes d) has = let h = has m alternative_here in chosen_here m p end k ms es e s d h.0 h.1
+  chosen (m ∷ ms) p end l ps es (spell_more {p = e} {ps = rest} s ss) (first_fails {j = j} {k = k} d c) has =
+      let h = has m alternative_here in
+      let more_has = λ (i : ℕ) (a : AsksAlternative rules nodes bodies x p ms i). has i (alternative_later (record { looked = j; gives = record { expr = e; spelled = s; gives = d } }) a) in
+      chosen_later m p j ms es e s d (chosen ms p end k rest es ss c more_has) h.0 h.1
+
+  of_choice : (ms : List ℕ) (p end k : ℕ) (ps : Patterns) (es : List Event) → SpellAll rules nodes ms ps → Gives rules x (expr.Choice ps) p (Takes end es) k →
+      ((m : ℕ) → AsksAlternative rules nodes bodies x p ms m → HasCell cells m p) → Chosen ms p es
+  of_choice ms p end k ps es ss (choice d) has = chosen ms p end k ps es ss d has
+
+  -- what comes next of a frame's events
+  module _ (f : Frame) (es : List Event) (l : Lefts f es) where
+    asked_left : (m q : ℕ) (now : List Event) → Asks rules nodes bodies x f.node f.place m q → Takings m q now → Lefts (beginning m q) now
+    asked_left m q now a t =
+        let to = leads rules start nodes bodies ranks x sound f.node f.place m q l.spelled l.high a in
+        fresh m q now (right.closed f.node f.place m q l.has.0 l.has.1 a) to.high t
+
+    lower : (m q : ℕ) → Asks rules nodes bodies x f.node f.place m q → pair_height rules nodes bodies ranks x cells m q < pair_height rules nodes bodies ranks x cells f.node f.place
+    lower m q a = falls rules start nodes bodies ranks x sound f.node f.place m q l.spelled l.high a
+
+    turns_to : (m q : ℕ) → Asks rules nodes bodies x f.node f.place m q → Takings m q es → Ways f es (TurnTo m q)
+    turns_to m q a t = (asked_left m q es a t, lower m q a)
+
+    -- what was asked for has a cell
+    asked_cell : (m q : ℕ) → Asks rules nodes bodies x f.node f.place m q → found_at cells m q ≡ None → ⊥
+    asked_cell m q a none = let has = right.closed f.node f.place m q l.has.0 l.has.1 a in some_none (sym has.1 ∙ none)
+
+    pub any_ways : slice_get nodes f.node ≡ Some node.Any → Ways f es Leave
+    any_ways at = let t = l.left node.Any at in any_quiet (subst (λ v. Gives rules x v f.place (Takes t.end es) t.looked) (has_shape rules nodes t.gives.spelled node.Any at) t.gives.gives)
+
+    pub set_ways : (s : ℕ → Bool) → slice_get nodes f.node ≡ Some (node.Set s) → Ways f es Leave
+    set_ways s at = let t = l.left (node.Set s) at in set_quiet (subst (λ v. Gives rules x v f.place (Takes t.end es) t.looked) (has_shape rules nodes t.gives.spelled (node.Set s) at) t.gives.gives)
+
+    pub bytes_ways : (bs : List ℕ) → slice_get nodes f.node ≡ Some (node.Bytes bs) → Ways f es Leave
+    bytes_ways bs at = let t = l.left (node.Bytes bs) at in bytes_quiet (subst (λ v. Gives rules x v f.place (Takes t.end es) t.looked) (has_shape rules nodes t.gives.spelled (node.Bytes bs) at) t.gives.gives)
+
+    pub and_ways : (m : ℕ) → slice_get nodes f.node ≡ Some (node.And m) → Ways f es Leave
+    and_ways m at = let t = l.left (node.And m) at in and_quiet (subst (λ v. Gives rules x v f.place (Takes t.end es) t.looked) ((has_shape rules nodes t.gives.spelled (node.And m) at).1) t.gives.gives)
+
+    pub not_ways : (m : ℕ) → slice_get nodes f.node ≡ Some (node.Not m) → Ways f es Leave
+    not_ways m at = let t = l.left (node.Not m) at in not_quiet (subst (λ v. Gives rules x v f.place (Takes t.end es) t.looked) ((has_shape rules nodes t.gives.spelled (node.Not m) at).1) t.gives.gives)
+
+    pub act_ways : (u : List ℕ) → slice_get nodes f.node ≡ Some (node.Act u) → Ways f es (Emit (Acted f.node))
+    act_ways u at =
+        let t = l.left (node.Act u) at in
+        (event.Acted u, acted at, act_one (subst (λ v. Gives rules x v f.place (Takes t.end es) t.looked) (has_shape rules nodes t.gives.spelled (node.Act u) at) t.gives.gives))
+
+    pub open_ways : slice_get nodes f.node ≡ Some node.Open → Ways f es (Emit (Opened f.place))
+    open_ways at =
+        let t = l.left node.Open at in
+        (event.Opened f.place, opened, open_one (subst (λ v. Gives rules x v f.place (Takes t.end es) t.looked) (has_shape rules nodes t.gives.spelled node.Open at) t.gives.gives))
+
+    pub close_ways : slice_get nodes f.node ≡ Some node.Close → Ways f es (Emit (Closed f.place))
+    close_ways at =
+        let t = l.left node.Close at in
+        (event.Closed f.place, closed, close_one (subst (λ v. Gives rules x v f.place (Takes t.end es) t.looked) (has_shape rules nodes t.gives.spelled node.Close at) t.gives.gives))
+
+    pub name_ways : (id m : ℕ) → slice_get nodes f.node ≡ Some (node.Name id) → slice_get bodies id ≡ Some m → Ways f es (TurnTo m f.place)
+    name_ways id m at body =
+        let t = l.left (node.Name id) at in
+        let is = is_name rules start nodes bodies ranks x sound f.node id m l.spelled at body in
+        turns_to m f.place (record { shape = node.Name id; at = at; by = (body, refl) }) (of_name is.is is.operand (as_own is.spelled t.gives))
+
+    pub opt_ways : (m : ℕ) (v : Option Found) → slice_get nodes f.node ≡ Some (node.Opt m) → v ≡ found_at cells m f.place → Ways f es (opt_way m f.place v)
+    opt_ways m None at h = absurd (asked_cell m f.place (record { shape = node.Opt m; at = at; by = (refl, refl) }) (sym h))
+    opt_ways m (Some Failed) at h =
+        let t = l.left (node.Opt m) at in
+        let like = has_shape rules nodes t.gives.spelled (node.Opt m) at in
+        opt_failed like.2 (sym h) (subst (λ v. Gives rules x v f.place (Takes t.end es) t.looked) like.1 t.gives.gives)
+    opt_ways m (Some (Took r)) at h =
+        let t = l.left (node.Opt m) at in
+        let like = has_shape rules nodes t.gives.spelled (node.Opt m) at in
+        turns_to m f.place (record { shape = node.Opt m; at = at; by = (refl, refl) }) (opt_took like.2 (sym h) (subst (λ v. Gives rules x v f.place (Takes t.end es) t.looked) like.1 t.gives.gives))
+
+    pub choice_ways : (ms : List ℕ) → slice_get nodes f.node ≡ Some (node.Choice ms) → Ways f es (choice_way cells ms f.place)
+    choice_ways ms at =
+        let t = l.left (node.Choice ms) at in
+        let like = has_shape rules nodes t.gives.spelled (node.Choice ms) at in
+        let one = of_choice ms f.place t.end t.looked like.0 es like.2 (subst (λ v. Gives rules x v f.place (Takes t.end es) t.looked) like.1 t.gives.gives)
+        (λ m a. right.closed f.node f.place m f.place l.has.0 l.has.1 (record { shape = node.Choice ms; at = at; by = (a, refl) })) in
+        rw one.is (turns_to one.node f.place (record { shape = node.Choice ms; at = at; by = (one.asked, refl) }) one.here)
+
+    -- what is left of the frame once it has come further
+    come : (shape : Shape) (i r : ℕ) (later : List Event) → slice_get nodes f.node ≡ Some shape → LeftBy rules nodes bodies ranks x cells shape f.node f.place i r later →
+        Lefts (record { node = f.node; place = f.place; next = i; end = r }) later
+    come shape i r later at left = record {
+      has = l.has;
+      spelled = l.spelled;
+      high = l.high;
+      left = λ other h. let is : shape ≡ other = cc (h, at) in subst (λ v. LeftBy rules nodes bodies ranks x cells v f.node f.place i r later) is left;
+    }
+
+    takes_of : (m q r : ℕ) → found_at cells m q ≡ Some (Took r) → NodeTakes rules nodes bodies x m q r
+    takes_of m q r h = let g = right.found m q (Took r) h in record { events = g.events; looked = g.looked; gives = g.gives }
+
+    star_begins : (m : ℕ) (v : Option Found) → slice_get nodes f.node ≡ Some (node.Star m) → v ≡ found_at cells m f.place → f.next ≡ 0 → Takings f.node f.place es → Ways f es (into m f.place 1 v)
+    star_begins m None at h zero_is t = absurd (asked_cell m f.place (record { shape = node.Star m; at = at; by = inl (refl, refl) }) (sym h))
+    star_begins m (Some Failed) at h zero_is t =
+        let like = has_shape rules nodes t.gives.spelled (node.Star m) at in
+        star_failed like.2 (sym h) (subst (λ v. Gives rules x v f.place (Takes t.end es) t.looked) like.1 t.gives.gives)
+    star_begins m (Some (Took r)) at h zero_is t =
+        let like = has_shape rules nodes t.gives.spelled (node.Star m) at in
+        let star : Spells rules nodes f.node (expr.Star like.0) = subst (Spells rules nodes f.node) like.1 t.gives.spelled in
+        let parts = star_took star like.2 (sym h) (subst (λ v. Gives rules x v f.place (Takes t.end es) t.looked) like.1 t.gives.gives) in
+        let first_asks : Asks rules nodes bodies x f.node f.place m f.place = record { shape = node.Star m; at = at; by = inl (refl, refl) } in
+        let then_asks : Asks rules nodes bodies x f.node f.place f.node r = record { shape = node.Star m; at = at; by = inr (refl, takes_of m f.place r (sym h)) } in (
+          parts.now,
+          parts.later,
+          parts.is,
+          asked_left m f.place parts.now first_asks parts.here,
+          come (node.Star m) 1 r parts.later at (inr (refl, then_asks, parts.there)),
+          lower m f.place first_asks,
+          (node.Star m, at, omega arith, omega arith),
+        )
+
+    plus_begins : (m s : ℕ) (v : Option Found) → slice_get nodes f.node ≡ Some (node.Plus m s) → v ≡ found_at cells m f.place → f.next ≡ 0 → Takings f.node f.place es → Ways f es (into m f.place 1 v)
+    plus_begins m s None at h zero_is t = absurd (asked_cell m f.place (record { shape = node.Plus m s; at = at; by = inl (refl, refl) }) (sym h))
+    plus_begins m s (Some Failed) at h zero_is t =
+        let like = has_shape rules nodes t.gives.spelled (node.Plus m s) at in
+        absurd (plus_failed like.2 (sym h) (subst (λ v. Gives rules x v f.place (Takes t.end es) t.looked) like.1 t.gives.gives))
+    plus_begins m s (Some (Took r)) at h zero_is t =
+        let like = has_shape rules nodes t.gives.spelled (node.Plus m s) at in
+        let parts = plus_took (spells_star like.3 like.2) like.2 (sym h) (subst (λ v. Gives rules x v f.place (Takes t.end es) t.looked) like.1 t.gives.gives) in
+        let first_asks : Asks rules nodes bodies x f.node f.place m f.place = record { shape = node.Plus m s; at = at; by = inl (refl, refl) } in
+        let then_asks : Asks rules nodes bodies x f.node f.place s r = record { shape = node.Plus m s; at = at; by = inr (refl, takes_of m f.place r (sym h)) } in (
+          parts.now,
+          parts.later,
+          parts.is,
+          asked_left m f.place parts.now first_asks parts.here,
+          come (node.Plus m s) 1 r parts.later at (inr (refl, then_asks, parts.there)),
+          lower m f.place first_asks,
+          (node.Plus m s, at, omega arith, omega arith),
+        )
+
+    pub star_ways : (m : ℕ) (v : Option Found) → slice_get nodes f.node ≡ Some (node.Star m) → v ≡ found_at cells m f.place → Ways f es (star_way f.node m f.place f.next f.end v)
+    star_ways m v at h = elim (l.left (node.Star m) at) [
+      | inl b ↦ subst (λ w. Ways f es (star_way f.node m f.place w f.end v)) (sym b.0) (star_begins m v at h b.0 b.1)
+      | inr b ↦ subst (λ w. Ways f es (star_way f.node m f.place w f.end v)) (sym b.0) (turns_to f.node f.end b.1 b.2)
+    ]
+
+    pub plus_ways : (m s : ℕ) (v : Option Found) → slice_get nodes f.node ≡ Some (node.Plus m s) → v ≡ found_at cells m f.place → Ways f es (star_way s m f.place f.next f.end v)
+    plus_ways m s v at h = elim (l.left (node.Plus m s) at) [
+      | inl b ↦ subst (λ w. Ways f es (star_way s m f.place w f.end v)) (sym b.0) (plus_begins m s v at h b.0 b.1)
+      | inr b ↦ subst (λ w. Ways f es (star_way s m f.place w f.end v)) (sym b.0) (turns_to s f.end b.1 b.2)
+    ]
+
+    seq_goes : (ms : List ℕ) (v : Option Found) → slice_get nodes f.node ≡ Some (node.Seq ms) → f.next < length ms → HaveTaken cells ms f.place f.next f.end →
+        MemberParts (get_or ms f.next 0) f.end (drop (f.next + 1) ms) es → v ≡ found_at cells (get_or ms f.next 0) f.end → Ways f es (into (get_or ms f.next 0) f.end (f.next + 1) v)
+    seq_goes ms v at lt taken parts h = by v h
+      where
+        asks : Asks rules nodes bodies x f.node f.place (get_or ms f.next 0) f.end
+        asks = record { shape = node.Seq ms; at = at; by = asks_member rules start nodes bodies ranks x more sound cells right.found taken lt }
+
+        by : (v : Option Found) → v ≡ found_at cells (get_or ms f.next 0) f.end → Ways f es (into (get_or ms f.next 0) f.end (f.next + 1) v)
+        by None g = absurd (asked_cell (get_or ms f.next 0) f.end asks (sym g))
+        by (Some Failed) g = absurd (parts.fails (sym g))
+        by (Some (Took r)) g = (
+          parts.now,
+          parts.later,
+          parts.is,
+          asked_left (get_or ms f.next 0) f.end parts.now asks parts.here,
+          come (node.Seq ms) (f.next + 1) r parts.later at (rw (add-one f.next) (taken_next cells taken r lt (sym g)), subst (λ w. AllTaking rules nodes bodies ranks x cells (drop (f.next + 1) ms) w parts.later) (parts.ends r (sym g)) parts.there),
+          lower (get_or ms f.next 0) f.end asks,
+          (node.Seq ms, at, refl, omega arith),
+        )
+
+    pub seq_ways : (ms : List ℕ) → slice_get nodes f.node ≡ Some (node.Seq ms) → Ways f es (seq_way cells ms f.next f.end)
+    seq_ways ms at =
+        let left = l.left (node.Seq ms) at in
+        elim (cases_Bool (nat_lt f.next (length ms))) [
+          | inl below ↦
+              let lt = ltb-true f.next (length ms) below in
+              let cut : drop f.next ms ≡ get_or ms f.next 0 ∷ drop (suc f.next) ms = drop-cons ms f.next 0 lt in
+              let parts = member_parts (subst (λ v. SpellAll rules nodes v left.1.exprs) cut left.1.spelled) left.1.gives in
+              rw below (seq_goes ms (found_at cells (get_or ms f.next 0) f.end) at lt left.0 (rw (add-one f.next) parts) refl)
+          | inr above ↦
+              let le = ltb-false f.next (length ms) above in
+              let cut : drop f.next ms ≡ [] = grind (arith, common_steps) in
+              rw above (none_left (subst (λ v. SpellAll rules nodes v left.1.exprs) cut left.1.spelled) left.1.gives)
+        ]

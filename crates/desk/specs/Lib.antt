@@ -1,0 +1,5 @@
+pub mod Visits
+pub mod State
+pub mod Turns
+pub mod Desk
+pub mod Path

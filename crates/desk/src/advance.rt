@@ -1,0 +1,37 @@
+//! Frames that begin and come further.
+ghost use Rattle.std.specs.Prelude.{◌≡◌, List, ◌∷◌, OnOk};
+ghost use Rattle.desk.specs.Desk.{beginning as begun_at};
+ghost use Rattle.desk.specs.declared.frame.Frame.{Frame};
+
+use crate::frame::{Frame, Frames};
+use ruletable::Memory;
+
+/// The frame of a node at a place that begins.
+#[inline(always)]
+pub(crate) fn beginning(node: usize, place: usize) -> Frame
+    ensures { result ≡ begun_at node place }
+{
+    Frame {
+        node,
+        place,
+        next: 0,
+        end: place,
+    }
+}
+
+/// The last frame comes further, and asks for a node at a place.
+#[inline(always)]
+pub(crate) fn advance(
+    frames: &mut Frames,
+    next: usize,
+    end: usize,
+    node: usize,
+    place: usize,
+) -> Result<(), Memory>
+    requires { (top : Frame) × (below : List Frame) × (frames.old ≡ top ∷ below) }
+    ensures { (top : Frame) (below : List Frame) → frames.old ≡ top ∷ below →
+        OnOk result (frames.new ≡ begun_at node place ∷ (record { node = top.node; place = top.place; next = next; end = end } ∷ below)) }
+{
+    frames.come_on(next, end);
+    frames.push(beginning(node, place))
+}

@@ -1,0 +1,17 @@
+//! The packrat matcher: it evaluates each node at each place at most once, with frames of its own in place of recursion.
+#![tactic(auto)]
+
+mod advance;
+mod desk;
+mod frame;
+mod replay;
+mod run;
+mod track;
+mod turn;
+mod walk;
+mod way;
+
+pub use desk::Desk;
+
+#[cfg(test)]
+mod tests;

@@ -1,0 +1,78 @@
+//! Writes what a success prints, from the cells.
+ghost use Rattle.std.specs.Prelude.{◌≡◌, ℕ, ◌≤◌, Bool, List, [], length};
+ghost use Rattle.pegread.specs.Views.{rules_of};
+ghost use Rattle.ruletable.specs.Writing.{Writes, Flags};
+ghost use Rattle.gramcheck.specs.Nodes.{shapes_of};
+ghost use Rattle.gramcheck.specs.Outcome.{Event};
+ghost use Rattle.gramcheck.specs.Rising.{Rise};
+ghost use Rattle.pegmatch.specs.Text.{text_of};
+ghost use Rattle.desk.specs.State.{AreCells};
+ghost use Rattle.desk.specs.Path.{Walks};
+ghost use Rattle.desk.specs.Desk.{View, Holds};
+ghost use Rattle.pegmatch.specs.Answers.{Replays};
+
+use crate::advance::beginning;
+use crate::track::Track;
+use crate::walk::go;
+use cells::Cells;
+use gramcheck::SoundPeg;
+use pegmatch::{NO_CAPTURE, ReplayFault, capture_after, write_event};
+use ruletable::{Sink, WriteFault};
+
+// Writes what the events that are still to come print.
+fn write_walk<W: Sink>(
+    peg: &SoundPeg,
+    window: &[u8],
+    raw: bool,
+    cells: &Cells,
+    track: &mut Track,
+    out: &mut W,
+) -> Result<(), WriteFault>
+    requires cells { (more : Bool) × AreCells (rules_of peg.now.rules) peg.now.start (shapes_of peg.now.nodes) peg.now.bodies window.now more cells.now }
+    requires walks { (all : List Event) × (Walks (rules_of peg.now.rules) (shapes_of peg.now.nodes) peg.now.bodies peg.now.ranks window.now cells.now track.old.frames all × Rise 0 (length window.now) all) }
+    requires room { length cells.now ≤ track.old.room }
+    ensures bytes { (all : List Event) → Walks (rules_of peg.now.rules) (shapes_of peg.now.nodes) peg.now.bodies peg.now.ranks window.now cells.now track.old.frames all → Rise 0 (length window.now) all →
+        Writes (W.contents out.old) (W.contents out.new) (text_of raw window.now all) result }
+    ensures flag { Flags (W.failed out.old) (W.failed out.new) result }
+{
+    let mut capture = NO_CAPTURE;
+    while !track.is_empty() {
+        let told = go(peg, window, cells, track);
+        if let Some(event) = told {
+            match write_event(peg, window, raw, event, capture, out) {
+                Ok(()) => capture = capture_after(capture, event),
+                Err(fault) => return Err(fault),
+            }
+        }
+    }
+    Ok(())
+}
+
+/// Writes what the actions of a success print, in order, from the cells of what it visited. The track makes room for as
+/// many frames as there are cells before anything is written.
+///
+/// # Errors
+/// - `Memory` where a growth was refused; nothing was written.
+/// - `Write` where the writer failed; a beginning was written.
+pub(crate) fn replay_cells<W: Sink>(
+    peg: &SoundPeg,
+    window: &[u8],
+    raw: bool,
+    cells: &Cells,
+    track: &mut Track,
+    out: &mut W,
+) -> Result<(), ReplayFault>
+    requires { (d : View) × ((events : List Event) × ((d.cells ≡ cells.now) × Holds d peg.now window.now events)) }
+    ensures { (d : View) (events : List Event) → d.cells ≡ cells.now → Holds d peg.now window.now events →
+        Replays (W.contents out.old) (W.contents out.new) (W.failed out.old) (W.failed out.new) (text_of raw window.now events) result }
+{
+    let root = peg.body_node(peg.start());
+    if track.reserve(cells.len()).is_err() {
+        return Err(ReplayFault::Memory);
+    }
+    track.push(beginning(root, 0));
+    match write_walk(peg, window, raw, cells, track, out) {
+        Ok(()) => Ok(()),
+        Err(_) => Err(ReplayFault::Write),
+    }
+}

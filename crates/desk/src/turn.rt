@@ -1,0 +1,203 @@
+//! What the evaluation of a node does next, from the cells so far.
+ghost use Rattle.std.specs.Prelude.{◌≡◌, ℕ, ◌<◌, ◌≤◌, length, slice_get, Some, true};
+ghost use Rattle.pegread.specs.Views.{rules_of};
+ghost use Rattle.gramcheck.specs.Grammar.{IsSoundGrammar};
+ghost use Rattle.gramcheck.specs.Nodes.{shapes_of};
+ghost use Rattle.pegmatch.specs.Kept.{SpellsSome};
+ghost use Rattle.cells.specs.Entries.{found_at};
+ghost use Rattle.desk.specs.State.{HaveTaken, HaveFailed, IsUnderWay, AreCells};
+ghost use Rattle.desk.specs.Turns.{same_turn, opt_turn, and_turn, not_turn, star_turn, plus_turn, IsLeafTurn, IsWalk, IsSearch, IsTurn};
+
+use cells::{Cells, Found};
+use gramcheck::{Node, SoundPeg};
+use pegmatch::{Tried, match_any, match_bytes, match_set};
+
+/// What an evaluation does next.
+#[derive(Clone, Copy, PartialEq, Eq, Debug)]
+pub(crate) enum Turn {
+    /// It asks for what a node gives at a place; so many of its members are done, and those before end there.
+    Ask {
+        node: usize,
+        place: usize,
+        next: usize,
+        end: usize,
+    },
+    /// It is done.
+    Answer(Found),
+    /// It would compare the last byte of a window behind which there is more.
+    Need,
+}
+
+#[inline(always)]
+fn ask(node: usize, place: usize) -> Turn
+    ensures { result ≡ Turn.Ask node place 0 place }
+{
+    Turn::Ask {
+        node,
+        place,
+        next: 0,
+        end: place,
+    }
+}
+
+// A comparison that reaches the last byte of a window behind which there is more is no answer.
+#[inline(always)]
+fn leaf_turn(tried: Tried, window: &[u8], more: bool) -> Turn
+    ensures { IsLeafTurn tried (length window.now) more result }
+{
+    if more && tried.looked == window.len() {
+        Turn::Need
+    } else {
+        Turn::Answer(tried.found)
+    }
+}
+
+// What the node gives at the place, handed on.
+#[inline(always)]
+fn same(cells: &Cells, node: usize, place: usize) -> Turn
+    ensures { result ≡ same_turn node place (found_at cells.now node place) }
+{
+    match cells.get(node, place) {
+        None => ask(node, place),
+        Some(found) => Turn::Answer(found),
+    }
+}
+
+#[inline(always)]
+fn opt(cells: &Cells, operand: usize, place: usize) -> Turn
+    ensures { result ≡ opt_turn operand place (found_at cells.now operand place) }
+{
+    match cells.get(operand, place) {
+        None => ask(operand, place),
+        Some(Found::Failed) => Turn::Answer(Found::Took(place)),
+        Some(Found::Took(end)) => Turn::Answer(Found::Took(end)),
+    }
+}
+
+#[inline(always)]
+fn and(cells: &Cells, operand: usize, place: usize) -> Turn
+    ensures { result ≡ and_turn operand place (found_at cells.now operand place) }
+{
+    match cells.get(operand, place) {
+        None => ask(operand, place),
+        Some(Found::Failed) => Turn::Answer(Found::Failed),
+        Some(Found::Took(_)) => Turn::Answer(Found::Took(place)),
+    }
+}
+
+#[inline(always)]
+fn not(cells: &Cells, operand: usize, place: usize) -> Turn
+    ensures { result ≡ not_turn operand place (found_at cells.now operand place) }
+{
+    match cells.get(operand, place) {
+        None => ask(operand, place),
+        Some(Found::Failed) => Turn::Answer(Found::Took(place)),
+        Some(Found::Took(_)) => Turn::Answer(Found::Failed),
+    }
+}
+
+#[inline(always)]
+fn star(cells: &Cells, node: usize, operand: usize, place: usize) -> Turn
+    ensures { result ≡ star_turn cells.now node operand place (found_at cells.now operand place) }
+{
+    match cells.get(operand, place) {
+        None => ask(operand, place),
+        Some(Found::Failed) => Turn::Answer(Found::Took(place)),
+        Some(Found::Took(end)) => same(cells, node, end),
+    }
+}
+
+#[inline(always)]
+fn plus(cells: &Cells, star: usize, operand: usize, place: usize) -> Turn
+    ensures { result ≡ plus_turn cells.now star operand place (found_at cells.now operand place) }
+{
+    match cells.get(operand, place) {
+        None => ask(operand, place),
+        Some(Found::Failed) => Turn::Answer(Found::Failed),
+        Some(Found::Took(end)) => same(cells, star, end),
+    }
+}
+
+// On through the members that have cells.
+#[inline(always)]
+fn all(cells: &Cells, members: &[usize], next: usize, end: usize) -> Turn
+    ensures { (p : ℕ) → HaveTaken cells.now members.now p next end → IsWalk cells.now members.now p result }
+{
+    let mut end = end;
+    for i in next..members.len() {
+        match cells.get(members[i], end) {
+            None => {
+                return Turn::Ask {
+                    node: members[i],
+                    place: end,
+                    next: i,
+                    end,
+                };
+            }
+            Some(Found::Failed) => return Turn::Answer(Found::Failed),
+            Some(Found::Took(after)) => end = after,
+        }
+    }
+    Turn::Answer(Found::Took(end))
+}
+
+// On through the alternatives that have cells.
+#[inline(always)]
+fn first(cells: &Cells, alternatives: &[usize], next: usize, place: usize) -> Turn
+    ensures { HaveFailed cells.now place alternatives.now next → IsSearch cells.now alternatives.now place result }
+{
+    for i in next..alternatives.len() {
+        match cells.get(alternatives[i], place) {
+            None => {
+                return Turn::Ask {
+                    node: alternatives[i],
+                    place,
+                    next: i,
+                    end: place,
+                };
+            }
+            Some(Found::Failed) => {}
+            Some(Found::Took(end)) => return Turn::Answer(Found::Took(end)),
+        }
+    }
+    Turn::Answer(Found::Failed)
+}
+
+/// What the evaluation of a node at a place does next, so many of its members done, and those before ending at `end`.
+#[inline(always)]
+pub(crate) fn next_turn(
+    peg: &SoundPeg,
+    window: &[u8],
+    more: bool,
+    cells: &Cells,
+    node: usize,
+    place: usize,
+    next: usize,
+    end: usize,
+) -> Turn
+    requires sound { IsSoundGrammar peg.now }
+    requires spells { SpellsSome (rules_of peg.now.rules) (shapes_of peg.now.nodes) node }
+    requires place { place ≤ length window.now }
+    requires some { more ≡ true → 0 < length window.now }
+    requires right { AreCells (rules_of peg.now.rules) peg.now.start (shapes_of peg.now.nodes) peg.now.bodies window.now more cells.now }
+    requires come { IsUnderWay (rules_of peg.now.rules) peg.now.start (shapes_of peg.now.nodes) peg.now.bodies window.now more cells.now node place next end }
+    ensures { IsTurn (rules_of peg.now.rules) peg.now.start (shapes_of peg.now.nodes) peg.now.bodies window.now more cells.now node place result }
+{
+    let turned = match peg.node(node) {
+        Node::Any => leaf_turn(match_any(window, place), window, more),
+        Node::Bytes(bytes) => leaf_turn(match_bytes(bytes, window, place), window, more),
+        Node::Set(set) => leaf_turn(match_set(set, window, place), window, more),
+        Node::Name(id) => same(cells, peg.body_node(*id), place),
+        Node::Seq(members) => all(cells, members, next, end),
+        Node::Choice(alternatives) => first(cells, alternatives, next, place),
+        Node::Star(operand) => star(cells, node, *operand, place),
+        Node::Plus { operand, star } => plus(cells, *star, *operand, place),
+        Node::Opt(operand) => opt(cells, *operand, place),
+        Node::And(operand) => and(cells, *operand, place),
+        Node::Not(operand) => not(cells, *operand, place),
+        Node::Act(_) => Turn::Answer(Found::Took(place)),
+        Node::Open => Turn::Answer(Found::Took(place)),
+        Node::Close => Turn::Answer(Found::Took(place)),
+    };
+    turned
+}

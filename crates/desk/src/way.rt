@@ -1,0 +1,138 @@
+//! Where a success goes on, from the cells: its events in path order.
+ghost use Rattle.std.specs.Prelude.{◌≡◌, ℕ, ◌+◌, ◌<◌, Bool, List, length};
+ghost use Rattle.pegread.specs.Views.{rules_of};
+ghost use Rattle.gramcheck.specs.Grammar.{IsSoundGrammar};
+ghost use Rattle.gramcheck.specs.Nodes.{shapes_of};
+ghost use Rattle.gramcheck.specs.Outcome.{Event};
+ghost use Rattle.cells.specs.declared.cell.Found.{Found};
+ghost use Rattle.cells.specs.Entries.{found_at};
+ghost use Rattle.desk.specs.State.{HaveFailed, AreCells};
+ghost use Rattle.desk.specs.Path.{IsLeft, IsWay, opt_way, star_way, seq_way, choice_way};
+
+use crate::frame::Frame;
+use cells::{Cells, Found};
+use gramcheck::{Node, SoundPeg};
+use pegmatch::Kept;
+
+/// Where a success goes on.
+#[derive(Clone, Copy, PartialEq, Eq, Debug)]
+pub(crate) enum Way {
+    /// It has no more events.
+    Leave,
+    /// It has this one event.
+    Emit(Kept),
+    /// Its events are those of this node at this place.
+    TurnTo {
+        node: usize,
+        place: usize,
+    },
+    /// The events of this node at this place come first; then it goes on, so many members done, and those before ending there.
+    GoInto {
+        node: usize,
+        place: usize,
+        next: usize,
+        end: usize,
+    },
+}
+
+// Into an operand that succeeded, and nowhere where it failed.
+fn opt(cells: &Cells, operand: usize, place: usize) -> Way
+    ensures { result ≡ opt_way operand place (found_at cells.now operand place) }
+{
+    match cells.get(operand, place) {
+        Some(Found::Took(_)) => Way::TurnTo {
+            node: operand,
+            place,
+        },
+        _ => Way::Leave,
+    }
+}
+
+// Through the operand, and then to the node that goes on with it.
+fn star(cells: &Cells, star: usize, operand: usize, place: usize, next: usize, end: usize) -> Way
+    ensures { result ≡ star_way star operand place next end (found_at cells.now operand place) }
+{
+    if next != 0 {
+        return Way::TurnTo {
+            node: star,
+            place: end,
+        };
+    }
+    match cells.get(operand, place) {
+        Some(Found::Took(after)) => Way::GoInto {
+            node: operand,
+            place,
+            next: 1,
+            end: after,
+        },
+        _ => Way::Leave,
+    }
+}
+
+// Through the next member.
+fn seq(cells: &Cells, members: &[usize], next: usize, end: usize) -> Way
+    ensures { result ≡ seq_way cells.now members.now next end }
+{
+    if next >= members.len() {
+        return Way::Leave;
+    }
+    let member = members[next];
+    match cells.get(member, end) {
+        Some(Found::Took(after)) => Way::GoInto {
+            node: member,
+            place: end,
+            next: next + 1,
+            end: after,
+        },
+        _ => Way::Leave,
+    }
+}
+
+// To the first alternative that succeeded.
+fn choice(cells: &Cells, alternatives: &[usize], place: usize) -> Way
+    ensures { result ≡ choice_way cells.now alternatives.now place }
+{
+    for alternative in alternatives {
+        if let Some(Found::Took(_)) = cells.get(*alternative, place) {
+            return Way::TurnTo {
+                node: *alternative,
+                place,
+            };
+        }
+    }
+    Way::Leave
+}
+
+/// Where the events of a node's success at a place go on.
+pub(crate) fn next_way(peg: &SoundPeg, cells: &Cells, frame: Frame) -> Way
+    requires sound { IsSoundGrammar peg.now }
+    requires there { frame.node < length peg.now.nodes }
+    ensures { (x : List ℕ) (more : Bool) (es : List Event) → AreCells (rules_of peg.now.rules) peg.now.start (shapes_of peg.now.nodes) peg.now.bodies x more cells.now →
+        IsLeft (rules_of peg.now.rules) (shapes_of peg.now.nodes) peg.now.bodies peg.now.ranks x cells.now frame es →
+        IsWay (rules_of peg.now.rules) (shapes_of peg.now.nodes) peg.now.bodies peg.now.ranks x cells.now frame es result }
+{
+    let place = frame.place;
+    let way = match peg.node(frame.node) {
+        Node::Any => Way::Leave,
+        Node::Bytes(_) => Way::Leave,
+        Node::Set(_) => Way::Leave,
+        Node::Name(id) => Way::TurnTo {
+            node: peg.body_node(*id),
+            place,
+        },
+        Node::Seq(members) => seq(cells, members, frame.next, frame.end),
+        Node::Choice(alternatives) => choice(cells, alternatives, place),
+        Node::Star(operand) => star(cells, frame.node, *operand, place, frame.next, frame.end),
+        Node::Plus {
+            operand,
+            star: again,
+        } => star(cells, *again, *operand, place, frame.next, frame.end),
+        Node::Opt(operand) => opt(cells, *operand, place),
+        Node::And(_) => Way::Leave,
+        Node::Not(_) => Way::Leave,
+        Node::Act(_) => Way::Emit(Kept::Acted(frame.node)),
+        Node::Open => Way::Emit(Kept::Opened(place)),
+        Node::Close => Way::Emit(Kept::Closed(place)),
+    };
+    way
+}

@@ -1,0 +1,12 @@
+use Rattle.std.proofs.Common.{◌≡◌, ◌≤◌, length, take, reverse}
+use Rattle.pegmatch.specs.Text.{cut_front}
+use Rattle.pegmatch.proofs.writing.back_blanks.Given as goal
+
+abbrev pub invariant-loop-end : goal.invariant-loop-end
+invariant-loop-end l = record {
+  within : l.end ≤ length l.text;
+  value : cut_front (reverse (take l.end l.text)) ≡ cut_front (reverse l.text);
+}
+
+abbrev pub decreases-loop-end : goal.decreases-loop-end
+decreases-loop-end l = l.end

@@ -1,0 +1,5 @@
+use Rattle.ruletable.proofs.Taken.{AppendsPart-first}
+use Rattle.pegmatch.proofs.writing.write_run_and.Goals as goal
+
+pub returns-in-Err-clause-bytes : goal.returns-in-Err-clause-bytes
+returns-in-Err-clause-bytes g c = AppendsPart-first _ _ _ _ c.in-Err.ensures.bytes
