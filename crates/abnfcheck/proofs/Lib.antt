@@ -1,0 +1,4 @@
+mod DerivesDecidedLemmas
+mod FiniteLeastLemmas
+mod JoinLemmas
+pub mod LiesLemmas

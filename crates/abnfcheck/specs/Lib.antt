@@ -1,0 +1,4 @@
+pub mod AbnfGrammar
+pub mod Decided
+pub mod Derivable
+pub mod Joined

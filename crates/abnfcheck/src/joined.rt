@@ -1,0 +1,37 @@
+//! The rules of a file, and the core rules that it leaves alone.
+ghost use Rattle.std.specs.Prelude.{◌≡◌, ◌<◌, length, slice_get, Some, IfOk};
+ghost use Rattle.ruletable.specs.Rules.{bodies_of};
+ghost use Rattle.abnfcheck.specs.Joined.{IsTaken, joined};
+
+use abnfread::Elem;
+use ruletable::{Memory, RuleTable};
+use std::alloc::Global;
+use std::mem;
+
+// The body of a rule, which is left with one that means nothing.
+fn take_body(alloc: Global, rules: &mut RuleTable<Elem>, id: usize) -> Elem
+    requires { id < length rules.old.rules }
+    ensures body { slice_get (bodies_of rules.old) id ≡ Some result }
+    ensures rest { IsTaken rules.old id rules.new }
+{
+    mem::replace(rules.body_mut(id), Elem::Prose(Vec::new(alloc)))
+}
+
+/// The file's rules, then the core rules that it leaves alone.
+///
+/// `Memory` where a growth was refused.
+pub fn join(
+    alloc: Global,
+    file: RuleTable<Elem>,
+    core: RuleTable<Elem>,
+) -> Result<RuleTable<Elem>, Memory>
+    ensures { IfOk result (λ rules. rules ≡ joined file core.rules) }
+{
+    let mut rules = file;
+    let mut core = core;
+    for id in 0..core.len() {
+        let body = take_body(alloc, &mut core, id);
+        rules.define(core.name(id), body, core.span(id))?;
+    }
+    Ok(rules)
+}

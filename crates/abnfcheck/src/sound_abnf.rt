@@ -1,0 +1,55 @@
+//! Sound grammars.
+ghost use Rattle.std.specs.Prelude.{◌≡◌};
+ghost use Rattle.abnfcheck.specs.AbnfGrammar.{IsSoundGrammar};
+
+use abnfread::Elem;
+use ruletable::RuleTable;
+use std::marker::Model;
+
+/// A grammar by which lines can be judged: the file's rules, then the core rules that it leaves alone, and the judged rule. From that one no name
+/// without a rule can be reached, and no prose.
+#[derive(Drop)]
+pub struct SoundAbnf {
+    rules: RuleTable<Elem>,
+    judged: usize,
+}
+
+impl Model for SoundAbnf {
+    ghost use Rattle.abnfcheck.specs.AbnfGrammar.{Grammar, IsSoundGrammar};
+    ghost use Rattle.abnfread.specs.contracts.elem.Elem as e;
+    ghost use Rattle.std.specs.Coded.{codes};
+
+    ghost Value = { Grammar };
+
+    ghost coded = { Prim.hlevel (codes, e.the_row.coded) };
+
+    ghost view = { λ g. record { rules = g.rules; judged = g.judged } };
+
+    ghost invariant = { λ g. IsSoundGrammar (record { rules = g.rules; judged = g.judged }) };
+}
+
+impl SoundAbnf {
+    /// The grammar of these rules and that judged one.
+    pub fn new(rules: RuleTable<Elem>, judged: usize) -> SoundAbnf
+        requires { IsSoundGrammar (record { rules = rules; judged = judged }) }
+        ensures rules { result.rules ≡ rules }
+        ensures judged { result.judged ≡ judged }
+    {
+        SoundAbnf { rules, judged }
+    }
+
+    /// The file's rules, then the core rules that it leaves alone.
+    pub fn rules(&self) -> &RuleTable<Elem>
+        ensures { result.now ≡ self.now.rules }
+    {
+        &self.rules
+    }
+
+    /// The id of the judged rule. The clause `sound` says what a grammar by which lines can be judged is.
+    pub fn judged(&self) -> usize
+        ensures id { result ≡ self.now.judged }
+        ensures sound { IsSoundGrammar self.now }
+    {
+        self.judged
+    }
+}

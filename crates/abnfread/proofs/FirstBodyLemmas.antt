@@ -1,0 +1,73 @@
+-- The body with which a definition begins a rule.
+-- Serves: read_abnf
+use Rattle.std.proofs.Common.{◌≡◌, ℕ, ◌<◌, Bool, true, false, cond, ◌&&◌, Option, Some, None, List, [], ◌∷◌, ◌++◌, length, position, refl, sym, ap, ◌∙◌, arith}
+use Rattle.std.specs.Prelude.{slice_get}
+use Rattle.std.proofs.lemmas.List.Quantifiers.{position-Some}
+use Rattle.ruletable.specs.Rules as table
+use Rattle.ruletable.specs.Rules.{find_in, same_name}
+use Rattle.ruletable.specs.declared.table.NameCase.TheVariants.{Fold}
+use Rattle.abnfread.specs.declared.elem.Elem.{Elem}
+use Rattle.abnfread.specs.declared.reader.Definition.{Definition as CodeDefinition}
+use Rattle.abnfread.specs.AbnfMachine.{append}
+use Rattle.abnfread.specs.AbnfReader.{definition_from}
+use Rattle.abnfread.specs.AbnfTable.{body_in, joined, IsCoreTable, IsFirstBody}
+use Rattle.abnfread.specs.CoreRules.{nowhere, core_list, core_bodies}
+use Rattle.abnfread.specs.Element.{Element, Elements, Prose, Rule, none, more}
+use Rattle.abnfread.specs.Views.{element_of, elements_of}
+use Rattle.abnfread.proofs.AbnfMachineLemmas.{append_assoc}
+use Rattle.abnfread.proofs.CoreRuleLemmas.{found-in}
+use Rattle.abnfread.proofs.ElementListLemmas.{elements_of-push}
+
+abbrev places : List ℕ → List Rule → Option ℕ
+places n rules = position (λ (rule : Rule). same_name Fold n rule.name) rules
+
+core-place : (core : table.Rules Elem) (n : List ℕ) (o : Option ℕ) → IsCoreTable core → find_in core n ≡ o → places n core_list ≡ o
+core-place core n o c h = sym (found-in core n c.names ∙ ap (places n) c.listed) ∙ h
+
+abbrev body_by : Option ℕ → Option Element
+body_by o = elim o [ None ↦ None | Some id ↦ slice_get core_bodies id ]
+
+core-body : (core : table.Rules Elem) (n : List ℕ) (o : Option ℕ) → IsCoreTable core → find_in core n ≡ o → body_in core_list n ≡ body_by o
+core-body core n o c h = ap body_by (core-place core n o c h)
+
+pub core-within : (core : table.Rules Elem) (n : List ℕ) (id : ℕ) → IsCoreTable core → find_in core n ≡ Some id → id < 16
+core-within core n id c h = (position-Some (λ (rule : Rule). same_name Fold n rule.name) core_list id (record { name = []; body = Prose []; span = nowhere }) (core-place core n (Some id) c h)).0
+
+module _ (d : CodeDefinition) where
+  abbrev name_of : List ℕ
+  name_of = d.name.now
+
+  abbrev added_by : Option Element → Element
+  added_by o = elim o [ None ↦ element_of d.body | Some c ↦ joined c (element_of d.body) ]
+
+  abbrev early_by : Option Element → Bool
+  early_by o = elim o [ None ↦ true | Some c ↦ false ]
+
+  pub first-plain : d.adds ≡ false → IsFirstBody (definition_from d) d.body false
+  first-plain e = (
+    sym (ap (λ (b : Bool). cond b (added_by (body_in core_list name_of)) (element_of d.body)) e),
+    sym (ap (λ (b : Bool). b && early_by (body_in core_list name_of)) e),
+  )
+
+  first-by : (o : Option Element) (e : Elem) (early : Bool) → d.adds ≡ true → body_in core_list name_of ≡ o → element_of e ≡ added_by o → early ≡ early_by o → IsFirstBody (definition_from d) e early
+  first-by o e early a h x y = (
+    x ∙ sym (ap added_by h) ∙ sym (ap (λ (b : Bool). cond b (added_by (body_in core_list name_of)) (element_of d.body)) a),
+    y ∙ sym (ap early_by h) ∙ sym (ap (λ (b : Bool). b && early_by (body_in core_list name_of)) a),
+  )
+
+  pub first-core : (core : table.Rules Elem) (id : ℕ) (c e : Elem) → IsCoreTable core → d.adds ≡ true → find_in core name_of ≡ Some id → slice_get core_bodies id ≡ Some (element_of c) → element_of e ≡ joined (element_of c) (element_of d.body) →
+      IsFirstBody (definition_from d) e false
+  first-core core id c e k a h s j = first-by (Some (element_of c)) e false a (core-body core name_of (Some id) k h ∙ s) j refl
+
+  pub first-new : (core : table.Rules Elem) → IsCoreTable core → d.adds ≡ true → find_in core name_of ≡ None → IsFirstBody (definition_from d) d.body true
+  first-new core k a h = first-by None d.body true a (core-body core name_of None k h) refl refl
+
+-- one alternative more
+pub one-joined : (all new rest left : List Elem) (e : Elem) (whole : Elements) → append (elements_of all) (elements_of left) ≡ whole → left ≡ e ∷ rest → new ≡ all ++ e ∷ [] → append (elements_of new) (elements_of rest) ≡ whole
+one-joined all new rest left e whole h p q =
+    ap (λ (xs : Elements). append xs (elements_of rest)) (elements_of-push all new e q) ∙ append_assoc (elements_of all) (more (element_of e) none) (elements_of rest)
+    ∙ ap (λ (xs : List Elem). append (elements_of all) (elements_of xs)) (sym p) ∙ h
+
+pub length-none : {X : Type 0} (xs : List X) → length xs ≡ 0 → xs ≡ []
+length-none [] e = refl
+length-none (x ∷ xs) e = absurd (omega (arith, e))

@@ -1,0 +1,13 @@
+use Rattle.std.proofs.Common.{rules as search_rules}
+use Rattle.abnfread.proofs.AbnfFaultLemmas.{one-reading, no-fault}
+use Rattle.abnfread.proofs.read.read_abnf.Goals as goal
+
+pub returns-in_err-definitions-clause-only : goal.returns-in_err-definitions-clause-only
+returns-in_err-definitions-clause-only c = λ definitions reads.
+    let h = no-fault c.args.text.now definitions _ reads c.in_err-definitions.ensures.fault in
+    search (search_rules, h)
+
+pub returns-in-Ok-clause-only : goal.returns-in-Ok-clause-only
+returns-in-Ok-clause-only c = λ definitions reads.
+    let same = one-reading c.args.text.now definitions _ reads c.in_ok-definitions.ensures.found in
+    rw same c.in-Ok.ensures.table

@@ -1,0 +1,17 @@
+pub mod AbnfKinds
+pub mod AbnfMachine
+pub mod AbnfReader
+pub mod AbnfReading
+pub mod AbnfSays
+pub mod AbnfSlices
+pub mod AbnfSpelling
+pub mod AbnfTable
+pub mod AbnfWords
+pub mod BaseDigits
+pub mod ByteClasses
+pub mod CoreRules
+pub mod Element
+pub mod MarkedIteration
+pub mod MarkedTokens
+pub mod Numerals
+pub mod Views

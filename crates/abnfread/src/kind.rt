@@ -1,0 +1,49 @@
+//! What a grammar in ABNF is cut into.
+ghost use Rattle.std.specs.Prelude.{◌≡◌};
+ghost use Rattle.abnfread.specs.AbnfKinds.{ends_list, is_repeat as repeats};
+
+/// What a token is (RFC 5234, section 4).
+#[derive(Clone, Copy, Debug, PartialEq, Eq)]
+pub enum AbnfKind {
+    /// A letter, then letters, digits and `-`.
+    Name,
+    /// `=` with no `/` behind it.
+    Is,
+    /// `=/`.
+    Adds,
+    /// `/`.
+    Slash,
+    /// `(`.
+    LParen,
+    /// `)`.
+    RParen,
+    /// `[`.
+    LBrack,
+    /// `]`.
+    RBrack,
+    /// Digits, or `*` with digits before and behind it, or none.
+    Repeat,
+    /// What stands in quotes, with `%s` or `%i` before it, or neither.
+    Text,
+    /// `%`, a base, and numbers with dots between, or two with `-` between.
+    Num,
+    /// What stands between `<` and `>`.
+    Prose,
+    /// What begins no token, from there to the end of the text.
+    Bad,
+    /// The end of the text.
+    End,
+}
+
+pub(crate) fn is_end(kind: AbnfKind) -> bool
+    ensures { result ≡ ends_list kind }
+{
+    matches!(kind, AbnfKind::End)
+}
+
+/// Whether it is a repeat.
+pub(crate) fn is_repeat(kind: AbnfKind) -> bool
+    ensures { result ≡ repeats kind }
+{
+    matches!(kind, AbnfKind::Repeat)
+}

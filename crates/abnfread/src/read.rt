@@ -1,0 +1,113 @@
+//! Reads a grammar's text.
+ghost use Rattle.std.specs.Prelude.{◌≡◌, ◌≤◌, List, length, IfOk, IfErr, MatchResult};
+ghost use Rattle.abnfread.specs.AbnfReader.{config_of, definitions_from, IsSaid, Takes};
+ghost use Rattle.abnfread.specs.AbnfReading.{Reads, IsFaultOf};
+ghost use Rattle.abnfread.specs.AbnfTable.{IsTableOf, IsCoreTable};
+ghost use Rattle.abnfread.specs.Element.{Definition as Read};
+ghost use Rattle.abnfread.specs.MarkedTokens.{marked_of};
+ghost use Rattle.ruletable.specs.Lines.{line_at};
+
+use crate::kind::{AbnfKind, is_repeat};
+use crate::marked::abnf_tokens;
+use crate::marks::MarkedToken;
+use crate::number::NumberFault;
+use crate::reader::{Definition, Reader, Stop};
+use crate::table::{Abnf, table_of};
+use crate::words::said_in;
+use lexer::{MAX_GRAMMAR, MAX_OPEN, have_tokens};
+use ruletable::{LineRule, Memory, ReadFault, line_of};
+use std::alloc::Global;
+
+// Reads the definitions of a text that is not too long.
+fn read_definitions(alloc: Global, text: &[u8]) -> Result<Vec<Definition<'_>>, ReadFault>
+    requires { length text.now ≤ MAX_GRAMMAR }
+    ensures found { IfOk result (λ ds. Reads text.now (definitions_from ds.items)) }
+    ensures fault { IfErr result (λ f. IsFaultOf text.now f) }
+{
+    have_tokens::<AbnfKind>(text);
+    let mut reader = Reader::new(alloc);
+    for token in abnf_tokens(text) {
+        let at = token.token.span.start;
+        match take_token(alloc, &mut reader, token) {
+            Ok(()) => {
+                if reader.open_brackets() > MAX_OPEN {
+                    return Err(ReadFault::Depth {
+                        line: line_in(text, at),
+                    });
+                }
+            }
+            Err(Stop::Hopeless) => {
+                return Err(ReadFault::Syntax {
+                    line: line_in(text, at),
+                });
+            }
+            Err(Stop::TooLarge) => {
+                return Err(ReadFault::NumberTooLarge {
+                    line: line_in(text, at),
+                });
+            }
+            Err(Stop::Memory) => return Err(ReadFault::Memory),
+        }
+    }
+    match reader.into_definitions() {
+        Some(definitions) => Ok(definitions),
+        None => unreachable!(),
+    }
+}
+
+// The line of the byte at a place, where lines end with LF.
+fn line_in(text: &[u8], at: usize) -> usize
+    ensures { result ≡ line_at LineRule.Lf text.now at }
+{
+    line_of(text, at, LineRule::Lf)
+}
+
+// Takes what a token says. A number over its limit is hopeless where no number goes on.
+fn take_token<'a>(
+    alloc: Global,
+    reader: &mut Reader<'a>,
+    token: MarkedToken<'a>,
+) -> Result<(), Stop>
+    requires { IsSaid token.token.kind token.token.slice.now token.token.span }
+    ensures { Takes (config_of reader.old) (marked_of token.entry) result reader.new }
+{
+    match said_in(alloc, token.token) {
+        Ok(Some(said)) => reader.take(token.gap, token.first, said),
+        Ok(None) => Err(Stop::Hopeless),
+        Err(NumberFault::TooLarge) => {
+            if reader.takes_number(is_repeat(token.token.kind), token.gap, token.first) {
+                Err(Stop::TooLarge)
+            } else {
+                Err(Stop::Hopeless)
+            }
+        }
+        Err(NumberFault::Memory) => Err(Stop::Memory),
+    }
+}
+
+/// Reads a grammar in ABNF (RFC 5234, RFC 7405). Names compare without case. `=/` adds alternatives to a rule of the
+/// file, or to the core rule of that name; else it begins a rule.
+///
+/// A rule's span is that of the name of its first definition. Where `=` defines a name again, the first definition stands.
+///
+/// # Errors
+/// - `TooLong`, before all else, for a text of more than `MAX_GRAMMAR` bytes.
+/// - Else the first token decides with which the text is no beginning of a grammar any more (`Syntax`), or which opens one
+///   bracket more than `MAX_OPEN` at once (`Depth`), or which is a number over its limit (`NumberTooLarge`): `MAX_REPEAT`
+///   in a repeat, `MAX_VALUE` in a terminal. The line is that of the token's first byte, where lines end with LF.
+/// - `Memory` if an allocation fails.
+pub fn read_abnf(alloc: Global, text: &[u8]) -> Result<Abnf, ReadFault>
+    ensures found { IfOk result (λ abnf. (definitions : List Read) × Reads text.now definitions × IsTableOf definitions abnf.rules abnf.redefined.items abnf.extended.items) }
+    ensures only { (definitions : List Read) → Reads text.now definitions → MatchResult result (λ abnf. IsTableOf definitions abnf.rules abnf.redefined.items abnf.extended.items) (λ f. f ≡ ReadFault.Memory) }
+    ensures core { IfOk result (λ abnf. IsCoreTable abnf.core) }
+    ensures fault { IfErr result (λ f. IsFaultOf text.now f) }
+{
+    if text.len() > MAX_GRAMMAR {
+        return Err(ReadFault::TooLong);
+    }
+    let definitions = read_definitions(alloc, text)?;
+    match table_of(alloc, definitions) {
+        Ok(abnf) => Ok(abnf),
+        Err(Memory) => Err(ReadFault::Memory),
+    }
+}

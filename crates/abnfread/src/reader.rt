@@ -1,0 +1,449 @@
+//! Takes a grammar's words one by one.
+ghost use Rattle.std.specs.Prelude.{◌≡◌, ◌∷◌, Bool, List, IfOk, [], Some, MatchOption};
+ghost use Rattle.abnfread.specs.AbnfMachine as machine;
+ghost use Rattle.abnfread.specs.AbnfMachine.{apply, enclosed, finish, ended, snoc, head, level as a_level, levels_in, element_step, fresh_step, read_step, named_step, rule_step, close_step, end_step, first_step, later_step, step};
+ghost use Rattle.abnfread.specs.AbnfReader.{said_of, definition_from, definitions_from, times_of, bracket_of, level_of, levels_of, head_of, ended_of, parts_of, outer_of, body_of, config_of, Steps, sample, is_there};
+ghost use Rattle.abnfread.specs.AbnfSpelling.{concatenation as concatenation_of, alternation as alternation_of};
+ghost use Rattle.abnfread.specs.AbnfWords.{word};
+ghost use Rattle.abnfread.specs.Element.{none, Definition as D};
+ghost use Rattle.abnfread.specs.Views.{element_of, elements_of};
+
+use crate::elem::Elem;
+use crate::words::Said;
+use ruletable::Span;
+use std::alloc::{AllocError, AllocFailed, Global};
+use std::mem;
+
+/// Why the reader takes no further token.
+#[derive(Clone, Copy, Debug)]
+pub(crate) enum Stop {
+    /// With this token the tokens so far begin no rules.
+    Hopeless,
+    /// A number of the token is over its limit.
+    TooLarge,
+    /// An allocation failed.
+    Memory,
+}
+
+impl From<AllocError> for Stop {
+    ghost use Rattle.abnfread.specs.declared.reader.Stop.TheVariants.{Memory};
+
+    ghost from_gives = { λ _ e. e ≡ Memory };
+
+    fn from(_: AllocError) -> Self {
+        Stop::Memory
+    }
+}
+
+impl<T: Drop> From<AllocFailed<T>> for Stop {
+    ghost use Rattle.abnfread.specs.declared.reader.Stop.TheVariants.{Memory};
+
+    ghost from_gives = { λ _ e. e ≡ Memory };
+
+    fn from(_: AllocFailed<T>) -> Self {
+        Stop::Memory
+    }
+}
+
+/// How often the next element stands.
+#[derive(Clone, Copy, Debug)]
+pub(crate) enum Times {
+    Once,
+    Repeated(u32, Option<u32>),
+}
+
+#[derive(Clone, Copy, Debug, PartialEq, Eq)]
+pub(crate) enum Bracket {
+    Paren,
+    Brack,
+}
+
+/// A definition as it was read: whether it adds alternatives, its name and where that stands, and its body.
+#[derive(Drop)]
+pub(crate) struct Definition<'a> {
+    pub(crate) adds: bool,
+    pub(crate) name: &'a [u8],
+    pub(crate) span: Span,
+    pub(crate) body: Elem,
+}
+
+/// What stands round an open bracket: the alternatives that ended, the parts of the last one, how often the bracket
+/// stands, and its form.
+#[derive(Drop)]
+pub(crate) struct Level {
+    alternatives: Vec<Elem>,
+    parts: Vec<Elem>,
+    times: Times,
+    bracket: Bracket,
+}
+
+/// What the reader has come to.
+#[derive(Clone, Copy, Debug)]
+pub(crate) enum At {
+    /// The beginning of the text.
+    Start,
+    /// Behind the name of a definition.
+    Named,
+    /// Where a repetition must begin.
+    Fresh,
+    /// Behind a repeat, where its element must follow.
+    Awaits(u32, Option<u32>),
+    /// Behind a repetition.
+    Read,
+    /// Behind the end.
+    Done,
+}
+
+/// Takes words, and makes definitions of them: those that ended, what the last one began with, what stands round its open
+/// brackets, and the alternatives and parts within the innermost one.
+#[derive(Drop)]
+pub(crate) struct Reader<'a> {
+    alloc: Global,
+    definitions: Vec<Definition<'a>>,
+    adds: bool,
+    name: &'a [u8],
+    span: Span,
+    outer: Vec<Level>,
+    alternatives: Vec<Elem>,
+    parts: Vec<Elem>,
+    at: At,
+}
+
+// A concatenation of one part is that part.
+fn concatenation(mut parts: Vec<Elem>) -> Elem
+    ensures { element_of result ≡ concatenation_of (elements_of parts.items) }
+{
+    if parts.len() != 1 {
+        return Elem::Concat(parts);
+    }
+    match parts.pop() {
+        Some(only) => only,
+        None => Elem::Concat(parts),
+    }
+}
+
+// An alternation of one alternative is that alternative.
+pub(crate) fn alternation(mut alternatives: Vec<Elem>) -> Elem
+    ensures { element_of result ≡ alternation_of (elements_of alternatives.items) }
+{
+    if alternatives.len() != 1 {
+        return Elem::Alt(alternatives);
+    }
+    match alternatives.pop() {
+        Some(only) => only,
+        None => Elem::Alt(alternatives),
+    }
+}
+
+// The alternation of these alternatives and one more, of these parts.
+fn finished(mut alternatives: Vec<Elem>, parts: Vec<Elem>) -> Result<Elem, AllocError>
+    ensures { IfOk result (λ e. element_of e ≡ finish (elements_of alternatives.items) (elements_of parts.items)) }
+{
+    alternatives.push(concatenation(parts))?;
+    Ok(alternation(alternatives))
+}
+
+// The element, as often as that.
+fn repeated(alloc: Global, times: Times, e: Elem) -> Result<Elem, AllocError>
+    ensures { IfOk result (λ r. element_of r ≡ apply (times_of times) (element_of e)) }
+{
+    match times {
+        Times::Once => Ok(e),
+        Times::Repeated(least, most) => {
+            let operand = Box::new(alloc, e)?;
+            Ok(Elem::Rep {
+                least,
+                most,
+                operand,
+            })
+        }
+    }
+}
+
+// What stands in a bracket of that form.
+fn bracketed(alloc: Global, bracket: Bracket, e: Elem) -> Result<Elem, AllocError>
+    ensures { IfOk result (λ r. element_of r ≡ enclosed (bracket_of bracket) (element_of e)) }
+{
+    match bracket {
+        Bracket::Paren => Ok(e),
+        Bracket::Brack => Ok(Elem::Opt(Box::new(alloc, e)?)),
+    }
+}
+
+impl<'a> Reader<'a> {
+    /// A reader that has taken no word.
+    pub(crate) fn new(alloc: Global) -> Reader<'a>
+        ensures { config_of result ≡ machine.start }
+    {
+        Reader {
+            alloc,
+            definitions: Vec::new(alloc),
+            adds: false,
+            name: &[],
+            span: Span { start: 0, end: 0 },
+            outer: Vec::new(alloc),
+            alternatives: Vec::new(alloc),
+            parts: Vec::new(alloc),
+            at: At::Start,
+        }
+    }
+
+    // Adds a repetition.
+    fn push_part(&mut self, times: Times, e: Elem) -> Result<(), Stop>
+        ensures { Steps (Some (machine.body (head_of self.old) (outer_of self.old) (ended_of self.old) (snoc (parts_of self.old) (apply (times_of times) (element_of e))) machine.read)) result self.new }
+    {
+        let part = repeated(self.alloc, times, e)?;
+        self.parts.push(part)?;
+        self.at = At::Read;
+        Ok(())
+    }
+
+    // Opens a bracket.
+    fn open_bracket(&mut self, times: Times, bracket: Bracket) -> Result<(), Stop>
+        ensures { Steps (Some (machine.body (head_of self.old) (a_level (ended_of self.old) (parts_of self.old) (times_of times) (bracket_of bracket) ∷ outer_of self.old) none none machine.fresh)) result self.new }
+    {
+        let alternatives = mem::replace(&mut self.alternatives, Vec::new(self.alloc));
+        let parts = mem::replace(&mut self.parts, Vec::new(self.alloc));
+        self.outer.push(Level {
+            alternatives,
+            parts,
+            times,
+            bracket,
+        })?;
+        self.at = At::Fresh;
+        Ok(())
+    }
+
+    // Takes the element of a repetition.
+    fn take_element(&mut self, times: Times, said: Said<'a>) -> Result<(), Stop>
+        ensures { Steps (element_step (head_of self.old) (outer_of self.old) (ended_of self.old) (parts_of self.old) (times_of times) (said_of said.entry)) result self.new }
+    {
+        match said {
+            Said::Name(name, _) => {
+                let name = Vec::from_slice(self.alloc, name)?;
+                self.push_part(times, Elem::Name(name))
+            }
+            Said::Text { folds, text } => {
+                let text = Vec::from_slice(self.alloc, text)?;
+                self.push_part(times, Elem::Text { folds, text })
+            }
+            Said::Values(values) => self.push_part(times, Elem::Values(values)),
+            Said::Range(low, high) => self.push_part(times, Elem::Range { low, high }),
+            Said::Prose(text) => {
+                let text = Vec::from_slice(self.alloc, text)?;
+                self.push_part(times, Elem::Prose(text))
+            }
+            Said::LParen => self.open_bracket(times, Bracket::Paren),
+            Said::LBrack => self.open_bracket(times, Bracket::Brack),
+            _ => Err(Stop::Hopeless),
+        }
+    }
+
+    // Takes a word where a repetition must begin.
+    fn take_fresh(&mut self, said: Said<'a>) -> Result<(), Stop>
+        ensures { Steps (fresh_step (head_of self.old) (outer_of self.old) (ended_of self.old) (parts_of self.old) (said_of said.entry)) result self.new }
+    {
+        match said {
+            Said::Repeat(least, most) => {
+                self.at = At::Awaits(least, most);
+                Ok(())
+            }
+            _ => self.take_element(Times::Once, said),
+        }
+    }
+
+    // Ends a concatenation at a slash.
+    fn end_concatenation(&mut self) -> Result<(), Stop>
+        ensures { Steps (Some (machine.body (head_of self.old) (outer_of self.old) (snoc (ended_of self.old) (concatenation_of (parts_of self.old))) none machine.fresh)) result self.new }
+    {
+        let parts = mem::replace(&mut self.parts, Vec::new(self.alloc));
+        self.alternatives.push(concatenation(parts))?;
+        self.at = At::Fresh;
+        Ok(())
+    }
+
+    // Closes a bracket of that form.
+    fn close_bracket(&mut self, bracket: Bracket) -> Result<(), Stop>
+        ensures { Steps (close_step (bracket_of bracket) (outer_of self.old) (head_of self.old) (finish (ended_of self.old) (parts_of self.old))) result self.new }
+    {
+        let Some(level) = self.outer.pop() else {
+            return Err(Stop::Hopeless);
+        };
+        if level.bracket != bracket {
+            return Err(Stop::Hopeless);
+        }
+        let alternatives = mem::replace(&mut self.alternatives, level.alternatives);
+        let parts = mem::replace(&mut self.parts, level.parts);
+        let inner = finished(alternatives, parts)?;
+        let e = bracketed(self.alloc, bracket, inner)?;
+        self.push_part(level.times, e)
+    }
+
+    // Ends a definition.
+    fn end_definition(&mut self) -> Result<(), AllocError>
+        ensures { IfOk result (λ _. definitions_from self.new.definitions.items ≡ ended (head_of self.old) (finish (ended_of self.old) (parts_of self.old))) }
+    {
+        let alternatives = mem::replace(&mut self.alternatives, Vec::new(self.alloc));
+        let parts = mem::replace(&mut self.parts, Vec::new(self.alloc));
+        let body = finished(alternatives, parts)?;
+        self.definitions.push(Definition {
+            adds: self.adds,
+            name: self.name,
+            span: self.span,
+            body,
+        })?;
+        Ok(())
+    }
+
+    // Takes a word behind a repetition.
+    fn take_behind(&mut self, gap: bool, said: Said<'a>) -> Result<(), Stop>
+        ensures { Steps (read_step (head_of self.old) (outer_of self.old) (ended_of self.old) (parts_of self.old) gap (said_of said.entry)) result self.new }
+    {
+        match said {
+            Said::Slash => self.end_concatenation(),
+            Said::RParen => self.close_bracket(Bracket::Paren),
+            Said::RBrack => self.close_bracket(Bracket::Brack),
+            Said::End => {
+                if !self.outer.is_empty() {
+                    return Err(Stop::Hopeless);
+                }
+                self.end_definition()?;
+                self.at = At::Done;
+                Ok(())
+            }
+            _ => {
+                if !gap {
+                    return Err(Stop::Hopeless);
+                }
+                self.take_fresh(said)
+            }
+        }
+    }
+
+    // Begins the body of a definition.
+    fn begin_body(&mut self, adds: bool)
+        ensures { config_of self.new ≡ machine.body (head (definitions_from self.old.definitions.items) adds self.old.name.now self.old.span) [] none none machine.fresh }
+    {
+        self.adds = adds;
+        self.outer = Vec::new(self.alloc);
+        self.alternatives = Vec::new(self.alloc);
+        self.parts = Vec::new(self.alloc);
+        self.at = At::Fresh;
+    }
+
+    // Takes a word behind the name of a definition.
+    fn take_assignment(&mut self, said: Said<'a>) -> Result<(), Stop>
+        ensures { Steps (named_step (definitions_from self.old.definitions.items) self.old.name.now self.old.span (said_of said.entry)) result self.new }
+    {
+        match said {
+            Said::Is => {
+                self.begin_body(false);
+                Ok(())
+            }
+            Said::Adds => {
+                self.begin_body(true);
+                Ok(())
+            }
+            _ => Err(Stop::Hopeless),
+        }
+    }
+
+    // Takes the first word of a line that begins a rule, behind these definitions.
+    fn take_rule(&mut self, said: Said<'a>) -> Result<(), Stop>
+        ensures { Steps (rule_step [] (definitions_from self.old.definitions.items) (said_of said.entry)) result self.new }
+    {
+        match said {
+            Said::Name(name, span) => {
+                self.name = name;
+                self.span = span;
+                self.at = At::Named;
+                Ok(())
+            }
+            _ => Err(Stop::Hopeless),
+        }
+    }
+
+    // Takes the first word of a line that begins a rule.
+    fn take_first(&mut self, said: Said<'a>) -> Result<(), Stop>
+        ensures { Steps (first_step (config_of self.old) (said_of said.entry)) result self.new }
+    {
+        match self.at {
+            At::Start => {
+                self.definitions = Vec::new(self.alloc);
+                self.take_rule(said)
+            }
+            At::Read => {
+                if !self.outer.is_empty() {
+                    return Err(Stop::Hopeless);
+                }
+                self.end_definition()?;
+                self.take_rule(said)
+            }
+            _ => Err(Stop::Hopeless),
+        }
+    }
+
+    // Takes any other word.
+    fn take_later(&mut self, gap: bool, said: Said<'a>) -> Result<(), Stop>
+        ensures { Steps (later_step (config_of self.old) gap (said_of said.entry)) result self.new }
+    {
+        match self.at {
+            At::Named => self.take_assignment(said),
+            At::Fresh => self.take_fresh(said),
+            At::Awaits(least, most) => {
+                if gap {
+                    return Err(Stop::Hopeless);
+                }
+                self.take_element(Times::Repeated(least, most), said)
+            }
+            At::Read => self.take_behind(gap, said),
+            _ => Err(Stop::Hopeless),
+        }
+    }
+
+    /// Takes the next word, with its marks. After an error nothing can be read.
+    pub(crate) fn take(&mut self, gap: bool, first: bool, said: Said<'a>) -> Result<(), Stop>
+        ensures { Steps (step (config_of self.old) (word gap first (said_of said.entry))) result self.new }
+    {
+        if first {
+            self.take_first(said)
+        } else {
+            self.take_later(gap, said)
+        }
+    }
+
+    /// Whether a number with these marks goes on, a repeat or not.
+    pub(crate) fn takes_number(&self, repeat: bool, gap: bool, first: bool) -> bool
+        ensures { result ≡ is_there (step (config_of self.now) (word gap first (sample repeat))) }
+    {
+        if first {
+            return false;
+        }
+        match self.at {
+            At::Fresh => true,
+            At::Awaits(_, _) => !gap && !repeat,
+            At::Read => gap,
+            _ => false,
+        }
+    }
+
+    /// How many brackets are open.
+    pub(crate) fn open_brackets(&self) -> usize
+        ensures { result ≡ levels_in (config_of self.now) }
+    {
+        match self.at {
+            At::Fresh | At::Awaits(_, _) | At::Read => self.outer.len(),
+            _ => 0,
+        }
+    }
+
+    /// The definitions, behind the end; `None` before it.
+    pub(crate) fn into_definitions(self) -> Option<Vec<Definition<'a>>>
+        ensures done { (ds : List D) → config_of self.entry ≡ machine.done ds → MatchOption result ⊥ (λ v. definitions_from v.items ≡ ds) }
+    {
+        match self.at {
+            At::Done => Some(self.definitions),
+            _ => None,
+        }
+    }
+}

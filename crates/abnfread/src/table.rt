@@ -1,0 +1,134 @@
+//! The table of a file's definitions.
+ghost use Rattle.std.specs.Prelude.{◌≡◌, ◌<◌, length, slice_get, Some, IfOk};
+ghost use Rattle.ruletable.specs.Rules.{bodies_of};
+ghost use Rattle.ruletable.specs.declared.table.NameCase.TheVariants.{Fold};
+ghost use Rattle.abnfread.specs.AbnfReader.{definition_from, definitions_from};
+ghost use Rattle.abnfread.specs.AbnfTable.{alternatives_of as alternatives, joined, IsTableOf, IsCoreTable, IsFirstBody, IsExtended, IsTaken};
+ghost use Rattle.abnfread.specs.Views.{element_of, elements_of};
+
+use crate::appendix::{core_body, core_rules};
+use crate::elem::Elem;
+use crate::reader::{Definition, alternation};
+use ruletable::{Memory, NameCase, RuleTable};
+use std::alloc::Global;
+use std::mem;
+
+/// A grammar as it was read.
+#[derive(Drop)]
+pub struct Abnf {
+    /// The rules of the file in order, each with what later definitions add to it.
+    pub rules: RuleTable<Elem>,
+    /// The core rules. A rule of the file stands for the core rule of its name.
+    pub core: RuleTable<Elem>,
+    /// The ids of the rules that are defined again by `=`, once for each time.
+    pub redefined: Vec<usize>,
+    /// The ids of the rules that begin with `=/`, though no core rule has the name.
+    pub extended: Vec<usize>,
+    ghost folds: { rules.names ≡ Fold },
+}
+
+// The alternatives of a body.
+fn alternatives_of(alloc: Global, e: Elem) -> Result<Vec<Elem>, Memory>
+    ensures { IfOk result (λ es. elements_of es.items ≡ alternatives (element_of e)) }
+{
+    match e {
+        Elem::Alt(all) => Ok(all),
+        only => {
+            let mut all = Vec::new(alloc);
+            all.push(only)?;
+            Ok(all)
+        }
+    }
+}
+
+// The alternatives of one body, and then those of another.
+fn join(alloc: Global, old: Elem, new: Elem) -> Result<Elem, Memory>
+    ensures { IfOk result (λ e. element_of e ≡ joined (element_of old) (element_of new)) }
+{
+    let mut all = alternatives_of(alloc, old)?;
+    let more = alternatives_of(alloc, new)?;
+    for e in more {
+        all.push(e)?;
+    }
+    Ok(alternation(all))
+}
+
+// The body of a rule, which is left with one that means nothing.
+fn take_body(alloc: Global, rules: &mut RuleTable<Elem>, id: usize) -> Elem
+    requires { id < length rules.old.rules }
+    ensures body { slice_get (bodies_of rules.old) id ≡ Some result }
+    ensures rest { IsTaken rules.old id rules.new }
+{
+    mem::replace(rules.body_mut(id), Elem::Prose(Vec::new(alloc)))
+}
+
+// Adds the alternatives of a body to a rule. After an error the table is of no use.
+fn extend(alloc: Global, rules: &mut RuleTable<Elem>, id: usize, body: Elem) -> Result<(), Memory>
+    requires { id < length rules.old.rules }
+    ensures { IfOk result (λ _. IsExtended rules.old rules.new id (element_of body)) }
+{
+    let old = take_body(alloc, rules, id);
+    let new = join(alloc, old, body)?;
+    *rules.body_mut(id) = new;
+    Ok(())
+}
+
+// The body with which a definition begins a rule, behind that of the core rule which it extends, and whether it extends
+// what no core rule defines.
+fn first_body(
+    alloc: Global,
+    core: &RuleTable<Elem>,
+    definition: Definition<'_>,
+) -> Result<(Elem, bool), Memory>
+    requires { IsCoreTable core.now }
+    ensures { IfOk result (λ r. IsFirstBody (definition_from definition.entry) r.0 r.1) }
+{
+    if !definition.adds {
+        return Ok((definition.body, false));
+    }
+    match core.find(definition.name)? {
+        Some(id) => {
+            let body = join(alloc, core_body(alloc, id)?, definition.body)?;
+            Ok((body, false))
+        }
+        None => Ok((definition.body, true)),
+    }
+}
+
+/// The table of these definitions.
+pub(crate) fn table_of(alloc: Global, definitions: Vec<Definition<'_>>) -> Result<Abnf, Memory>
+    ensures table { IfOk result (λ abnf. IsTableOf (definitions_from definitions.entry.items) abnf.rules abnf.redefined.items abnf.extended.items) }
+    ensures core { IfOk result (λ abnf. IsCoreTable abnf.core) }
+{
+    let core = core_rules(alloc)?;
+    let mut rules = RuleTable::new(alloc, NameCase::Fold);
+    let mut redefined = Vec::new(alloc);
+    let mut extended = Vec::new(alloc);
+    for definition in definitions {
+        let name = definition.name;
+        let span = definition.span;
+        let next = rules.len();
+        match rules.find(name)? {
+            Some(id) => {
+                if definition.adds {
+                    extend(alloc, &mut rules, id, definition.body)?;
+                } else {
+                    redefined.push(id)?;
+                }
+            }
+            None => {
+                let (body, early) = first_body(alloc, &core, definition)?;
+                rules.define(name, body, span)?;
+                if early {
+                    extended.push(next)?;
+                }
+            }
+        }
+    }
+    Ok(Abnf {
+        rules,
+        core,
+        redefined,
+        extended,
+    })
+}

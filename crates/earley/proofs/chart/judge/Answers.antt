@@ -1,0 +1,22 @@
+use Rattle.std.proofs.Common.{◌↔◌, IsTrue, length, map, subst}
+use Rattle.std.proofs.lemmas.List.{length-map}
+use Rattle.abnfcheck.specs.Derivable.{RuleDerives}
+use Rattle.earley.specs.Flat.{at}
+use Rattle.earley.specs.Holds.{Holds}
+use Rattle.earley.specs.ChartSets.{set_at, IsSet}
+use Rattle.earley.proofs.ChartSetsLemmas.{set_bound}
+use Rattle.earley.proofs.chart.judge.Goals as goal
+
+chain : {A B C : Type 0} → (A ↔ B) → (B ↔ C) → A ↔ C
+chain f g = ((λ a. g.0 (f.0 a)), (λ c. f.1 (g.1 c)))
+
+pub returns-clause-bound : goal.returns-clause-bound
+returns-clause-bound g c = λ j. set_bound c.args.flat.now (map g.L.Letter.number c.args.line.now) j (set_at c.judge_by.new.chart j)
+    (subst (λ v. IsSet v (map g.L.Letter.number c.args.line.now) j (set_at c.judge_by.new.chart j)) c.in_ok-tables.ensures.view (c.in_ok-answer.ensures.sets j))
+
+pub returns-clause-derives : goal.returns-clause-derives
+returns-clause-derives g c = λ has rules judged lowered letters.
+    chain
+    (subst (λ v. IsTrue c.in_ok-answer.answer ↔ Holds v (map g.L.Letter.number c.args.line.now) (length c.args.line.now) (at v.whole 1) 0) c.in_ok-tables.ensures.view c.in_ok-answer.ensures.answer)
+    (subst (λ n. Holds c.args.flat.now (map g.L.Letter.number c.args.line.now) n (at c.args.flat.now.whole 1) 0 ↔ RuleDerives has rules judged (map g.L.Letter.number c.args.line.now))
+    (length-map c.args.line.now g.L.Letter.number) (c.items_tell.ensures has rules judged c.args.flat.now (map g.L.Letter.number c.args.line.now) lowered letters))

@@ -1,0 +1,6 @@
+use Rattle.std.proofs.Common.{◌≡◌, ℕ, ◌+◌, length, take}
+use Rattle.earley.specs.Blocks.{block_of, expand}
+use Rattle.earley.proofs.chart.size_of.Given as goal
+
+abbrev pub invariant-loop-head : goal.invariant-loop-head
+invariant-loop-head l = (j : ℕ) → l.size ≡ length l.items + length (expand (block_of l.flat) j (take l.head-index l.heads))

@@ -1,0 +1,10 @@
+use Rattle.std.proofs.Common.{◌≡◌, sym, subst}
+use Rattle.earley.specs.Places.{In}
+use Rattle.earley.specs.ItemSets.{Adds}
+use Rattle.earley.proofs.AddsLemmas.{adds_one}
+use Rattle.earley.proofs.item.add.Goals as goal
+
+pub returns-in_ok-push : goal.returns-in_ok-push
+returns-in_ok-push c =
+    subst (λ v. Adds (λ a. a ≡ c.args.item) c.args.set.now.items v) (sym c.in_ok-push.ensures.items) (adds_one c.args.item c.args.set.now.items
+    (λ h. let t = c.holds.ensures.1 (subst (λ v. In c.args.item v) (sym c.deref.ensures.value) h) in let f = c.if-not-holds.true in absurd cc))

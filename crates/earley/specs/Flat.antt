@@ -1,0 +1,84 @@
+-- A grammar as numbered nodes, its places, and the relations between them.
+use Rattle.std.specs.Prelude.{◌≡◌, ℕ, ◌+◌, ◌<◌, ◌≤◌, List, length, slice_get, Option, Some, None}
+use Rattle.abnfcheck.specs.Derivable.{small}
+
+-- a set of letters
+pub data Set : Type 0 where
+  Exactly : ℕ → Set
+  EitherCase : ℕ → Set
+  Between : (low : ℕ) → (high : ℕ) → Set
+
+abbrev pub Has : Set → ℕ → Type 0
+Has (Exactly v) c = c ≡ v
+Has (EitherCase v) c = small c ≡ small v
+Has (Between low high) c = (low ≤ c) × (c ≤ high)
+
+-- an expression with the numbers of its operands
+pub data Node : Type 0 where
+  Letters : List Set → Node
+  Concat : List ℕ → Node
+  Alt : List ℕ → Node
+  Rep : (least : ℕ) → (most : Option ℕ) → ℕ → Node
+  Opt : ℕ → Node
+  Name : ℕ → Node  -- a rule, by its number
+  Nothing : Node
+
+pub record Flat : Type 0 where
+  pub nodes : List Node
+  pub bodies : List ℕ  -- for each rule the node of its body
+  pub whole : ℕ  -- the node of the judged rule's body alone, as a concatenation of one
+
+-- a place: a node, and how far one is in it
+pub data Place : Type 0 where
+  at : (node : ℕ) → (step : ℕ) → Place
+
+-- the last step of a repetition that is counted
+abbrev pub top : ℕ → Option ℕ → ℕ
+top least None = least
+top least (Some most) = most
+
+-- the steps where a node begins
+pub data Begins : Node → ℕ → Type 0 where
+  letters : {sets : List Set} → Begins (Letters sets) 0
+  concat : {ms : List ℕ} → Begins (Concat ms) 0
+  alt : {ms : List ℕ} {k : ℕ} → k < length ms → Begins (Alt ms) k
+  rep : {a m : ℕ} {b : Option ℕ} → Begins (Rep a b m) 0
+  opt : {m : ℕ} → Begins (Opt m) 0
+  opt_empty : {m : ℕ} → Begins (Opt m) 1
+
+-- the steps where it is done
+pub data IsDone : Node → ℕ → Type 0 where
+  letters : {sets : List Set} {k : ℕ} → k ≡ length sets → IsDone (Letters sets) k
+  concat : {ms : List ℕ} {k : ℕ} → k ≡ length ms → IsDone (Concat ms) k
+  alt : {ms : List ℕ} {k : ℕ} → k < length ms → IsDone (Alt ms) (length ms + k)
+  rep : {a m k : ℕ} {b : Option ℕ} → a ≤ k → k ≤ top a b → IsDone (Rep a b m) k
+  opt : {m : ℕ} → IsDone (Opt m) 2
+  opt_empty : {m : ℕ} → IsDone (Opt m) 1
+
+-- from one step to another by a letter
+pub data Reading : Node → ℕ → Set → ℕ → Type 0 where
+  letter : {sets : List Set} {k : ℕ} {set : Set} → slice_get sets k ≡ Some set → Reading (Letters sets) k set (k + 1)
+
+-- from one step to another by a node
+pub data Calling : Node → ℕ → ℕ → ℕ → Type 0 where
+  member : {ms : List ℕ} {k s : ℕ} → slice_get ms k ≡ Some s → Calling (Concat ms) k s (k + 1)
+  alternative : {ms : List ℕ} {k s : ℕ} → slice_get ms k ≡ Some s → Calling (Alt ms) k s (length ms + k)
+  turn : {a m k : ℕ} {b : Option ℕ} → k < top a b → Calling (Rep a b m) k m (k + 1)
+  turn_uncounted : {a m : ℕ} → Calling (Rep a None m) a m a
+  operand : {m : ℕ} → Calling (Opt m) 0 m 2
+
+module _ (flat : Flat) where
+  -- a name starts and ends where its body does
+  pub data Starts : ℕ → Place → Type 0 where
+    starts : {s k : ℕ} {node : Node} → slice_get flat.nodes s ≡ Some node → Begins node k → Starts s (at s k)
+    name_starts : {s t r : ℕ} {p : Place} → slice_get flat.nodes s ≡ Some (Name r) → slice_get flat.bodies r ≡ Some t → Starts t p → Starts s p
+
+  pub data Ends : Place → ℕ → Type 0 where
+    ends : {s k : ℕ} {node : Node} → slice_get flat.nodes s ≡ Some node → IsDone node k → Ends (at s k) s
+    name_ends : {s t r : ℕ} {p : Place} → slice_get flat.nodes s ≡ Some (Name r) → slice_get flat.bodies r ≡ Some t → Ends p t → Ends p s
+
+  pub data Reads : Place → Set → Place → Type 0 where
+    reads : {s k l : ℕ} {set : Set} {node : Node} → slice_get flat.nodes s ≡ Some node → Reading node k set l → Reads (at s k) set (at s l)
+
+  pub data Calls : Place → ℕ → Place → Type 0 where
+    calls : {s k t l : ℕ} {node : Node} → slice_get flat.nodes s ≡ Some node → Calling node k t l → Calls (at s k) t (at s l)

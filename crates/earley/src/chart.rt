@@ -1,0 +1,284 @@
+//! Charts of item sets, and the line judge.
+ghost use Rattle.std.specs.Prelude.{◌≡◌, ◌↔◌, ◌+◌, ◌*◌, ◌≤◌, ℕ, Bool, List, [], Some, IsTrue, IfOk, OnErr, length, map, slice_get};
+ghost use Rattle.abnfread.specs.Element.{Rule};
+ghost use Rattle.abnfcheck.specs.Derivable.{AreLetters, RuleDerives};
+ghost use Rattle.earley.specs.Lowered.{IsLowered};
+ghost use Rattle.earley.specs.NodeSteps.{flat_of};
+ghost use Rattle.earley.specs.Closed.{GiveRoots};
+ghost use Rattle.earley.specs.Charts.{IsAfter, IsExact};
+ghost use Rattle.earley.specs.ChartSets.{chart_of, set_at, IsSet, AreExact, AreSized};
+ghost use Rattle.earley.specs.ItemSets.{Adds};
+ghost use Rattle.earley.specs.Worklist.{AreNulls};
+ghost use Rattle.earley.specs.Blocks.{block_of, item_at, expand, full, AreTables, AreCalls};
+ghost use Rattle.earley.specs.Places.{In, places};
+ghost use Rattle.earley.specs.Flat.{Place};
+ghost use Rattle.earley.specs.Holds.{Holds};
+ghost use Rattle.earley.specs.FrontViews.{view, views, IsWholeAt};
+ghost use Rattle.earley.specs.declared.front.Front as front;
+
+use crate::block::Spot;
+use crate::fill::fill;
+use crate::flat::Flat;
+use crate::front::{Front, note};
+use crate::item::{Item, holds, same};
+use crate::item_laws::items_tell;
+use crate::letter::Letter;
+use crate::read_front::read;
+use crate::tables::{Tables, spots, whole_root};
+use ruletable::Memory;
+use std::alloc::Global;
+use std::marker::Model;
+use std::mem;
+use std::rc::Rc;
+
+/// The item sets of a line, seen as a list of lists of items, each a place with its origin.
+#[derive(Drop)]
+pub struct Chart {
+    alloc: Global,
+    tables: Option<Rc<Tables>>,
+    fronts: Vec<Front>,
+    // Holds the memory of sets that are gone.
+    spare: Vec<Front>,
+}
+
+impl Model for Chart {
+    ghost use Rattle.std.specs.Prelude.{ℕ, List};
+    ghost use Rattle.earley.specs.Flat.{Place};
+    ghost use Rattle.earley.specs.ChartSets.{chart_of, AreSized};
+
+    ghost Value = { List (List (Place × ℕ)) };
+
+    ghost view = { λ c. chart_of c.tables c.fronts.items };
+
+    ghost invariant = { λ c. AreSized c.tables c.fronts.items };
+}
+
+impl Chart {
+    /// Returns a chart with no set. It takes no memory.
+    pub fn new(alloc: Global) -> Chart
+        ensures { result ≡ [] }
+    {
+        Chart {
+            alloc,
+            tables: None,
+            fronts: Vec::new(alloc),
+            spare: Vec::new(alloc),
+        }
+    }
+
+    /// Returns the number of items of set `j`, 0 if there is no such set.
+    pub fn items(&self, j: usize) -> usize
+        ensures { result ≡ length (set_at self.now j) }
+    {
+        match self.fronts.get(j) {
+            Some(front) => front.size,
+            None => 0,
+        }
+    }
+
+    // Empties the chart, and returns the sets whose memory can be used again.
+    fn take_spare(&mut self) -> Result<Vec<Front>, Memory>
+        ensures empty { self.new ≡ [] }
+    {
+        self.tables = None;
+        let mut fronts = mem::replace(&mut self.fronts, Vec::new(self.alloc));
+        let mut spare = mem::replace(&mut self.spare, Vec::new(self.alloc));
+        spare.append(&mut fronts)?;
+        Ok(spare)
+    }
+
+    // Keeps the sets of a line, with the tables that they were filled by, and the memory that is left over.
+    fn keep(&mut self, tables: Rc<Tables>, fronts: Vec<Front>, spare: Vec<Front>)
+        requires { (j : ℕ) (f : front.Front) → slice_get fronts.items j ≡ Some f → f.size ≡ length (view tables.value j f) }
+        ensures { self.new ≡ chart_of (Some tables) fronts.items }
+    {
+        self.tables = Some(tables);
+        self.fronts = fronts;
+        self.spare = spare;
+    }
+}
+
+// Predicts the whole, before the first letter.
+fn begin(flat: &Tables, sets: &[Front], heads: &mut Vec<usize>) -> Result<(), Memory>
+    ensures { IfOk result (λ done. Adds (IsWholeAt flat.now (length sets.now)) heads.old.items heads.new.items) }
+{
+    if sets.len() == 0 {
+        if let Some(root) = whole_root(flat) {
+            note(heads, root)?;
+        }
+    }
+    Ok(())
+}
+
+// Adds what the last set has after its letter.
+fn follow<L: Letter>(
+    flat: &Tables,
+    line: &[L],
+    sets: &[Front],
+    items: &mut Vec<Item>,
+) -> Result<(), Memory>
+    requires { length sets.now ≤ length line.now }
+    ensures { IfOk result (λ done. Adds (IsAfter flat.now (map L.number line.now) (views flat.now 0 sets.now)) items.old.items items.new.items) }
+{
+    if sets.len() > 0 {
+        let last = sets.len() - 1;
+        read(flat, line[last], &sets[last], last, items)?;
+    }
+    Ok(())
+}
+
+// Returns the number of items of a set, those of the blocks counted. It is `Memory` if that is no number of 64 bits.
+fn size_of(flat: &Tables, heads: &[usize], items: &[Item]) -> Result<usize, Memory>
+    ensures { IfOk result (λ size. (j : ℕ) → size ≡ length (full (block_of flat.now) j heads.now items.now)) }
+{
+    let mut size = items.len();
+    for head in heads {
+        match size.checked_add(spots(flat, *head).len()) {
+            Some(sum) => size = sum,
+            None => return Err(Memory),
+        }
+    }
+    Ok(size)
+}
+
+// Returns a set with no item, in memory that is spare if there is such.
+fn fresh(alloc: Global, spare: &mut Vec<Front>) -> Front
+    ensures heads { result.heads.items ≡ [] }
+    ensures items { result.items.items ≡ [] }
+{
+    match spare.pop() {
+        Some(front) => {
+            let mut front = front;
+            front.heads.clear();
+            front.items.clear();
+            front
+        }
+        None => Front {
+            heads: Vec::new(alloc),
+            items: Vec::new(alloc),
+            size: 0,
+        },
+    }
+}
+
+// Returns the item sets of a line.
+fn fill_fronts<L: Letter>(
+    alloc: Global,
+    flat: &Tables,
+    line: &[L],
+    spare: &mut Vec<Front>,
+) -> Result<Vec<Front>, Memory>
+    requires roots { GiveRoots (flat_of flat.now) flat.now.roots.items }
+    requires nulls { AreNulls (flat_of flat.now) flat.now.nulls.items }
+    requires tables { AreTables flat.now }
+    requires calls { AreCalls flat.now }
+    ensures size { IfOk result (λ sets. length sets.items ≡ length line.now + 1) }
+    ensures sized { IfOk result (λ sets. (j : ℕ) (f : front.Front) → slice_get sets.items j ≡ Some f → f.size ≡ length (view flat.now j f)) }
+    ensures exact { IfOk result (λ sets. IsExact flat.now (map L.number line.now) (views flat.now 0 sets.items)) }
+{
+    let mut sets = Vec::new(alloc);
+    while sets.len() <= line.len() {
+        let Front {
+            mut heads,
+            mut items,
+            size: _,
+        } = fresh(alloc, spare);
+        begin(flat, &sets, &mut heads)?;
+        follow(flat, line, &sets, &mut items)?;
+        fill(flat, line, &sets, &mut heads, &mut items)?;
+        let size = size_of(flat, &heads, &items)?;
+        sets.push(Front { heads, items, size })?;
+    }
+    Ok(sets)
+}
+
+fn in_spots(spots: &[Spot], number: usize, item: Item) -> bool
+    ensures { IsTrue result ↔ In item (map (item_at number) spots.now) }
+{
+    for spot in spots {
+        let other = Item {
+            node: spot.node,
+            step: spot.step,
+            origin: number,
+        };
+        if same(item, other) {
+            return true;
+        }
+    }
+    false
+}
+
+fn in_heads(flat: &Tables, heads: &[usize], number: usize, item: Item) -> bool
+    ensures { IsTrue result ↔ In item (expand (block_of flat.now) number heads.now) }
+{
+    for head in heads {
+        if in_spots(spots(flat, *head), number, item) {
+            return true;
+        }
+    }
+    false
+}
+
+// Whether an item stands in a set.
+fn stands(flat: &Tables, front: &Front, number: usize, item: Item) -> bool
+    ensures { IsTrue result ↔ In item (view flat.now number front.now) }
+{
+    if in_heads(flat, &front.heads, number, item) {
+        return true;
+    }
+    holds(&front.items, item)
+}
+
+// Tells whether the last set holds the whole's end with origin 0.
+fn is_yes<L: Letter>(flat: &Tables, fronts: &[Front], line: &[L]) -> bool
+    requires size { length fronts.now ≡ length line.now + 1 }
+    requires exact { IsExact flat.now (map L.number line.now) (views flat.now 0 fronts.now) }
+    ensures { IsTrue result ↔ Holds (flat_of flat.now) (map L.number line.now) (length line.now) (Place.at flat.now.whole 1) 0 }
+{
+    let whole = Item {
+        node: flat.whole,
+        step: 1,
+        origin: 0,
+    };
+    let answer = stands(flat, &fronts[line.len()], line.len(), whole);
+    answer
+}
+
+// Fills an empty chart by these tables, and answers.
+fn judge_by<L: Letter>(
+    chart: &mut Chart,
+    tables: Rc<Tables>,
+    spare: Vec<Front>,
+    line: &[L],
+) -> Result<bool, Memory>
+    requires exact { AreExact tables.value }
+    requires empty { chart.old ≡ [] }
+    ensures sets { IfOk result (λ _. (j : ℕ) → IsSet (flat_of tables.value) (map L.number line.now) j (set_at chart.new j)) }
+    ensures answer { IfOk result (λ yes. IsTrue yes ↔ Holds (flat_of tables.value) (map L.number line.now) (length line.now) (Place.at (flat_of tables.value).whole 1) 0) }
+    ensures empty { OnErr result (chart.new ≡ []) }
+{
+    let alloc = *spare.allocator();
+    let mut spare = spare;
+    let fronts = fill_fronts(alloc, &tables, line, &mut spare)?;
+    let answer = is_yes(&tables, &fronts, line);
+    chart.keep(tables, fronts, spare);
+    Ok(answer)
+}
+
+/// Fills the chart with the item sets of a line, and tells whether the judged rule derives the line.
+///
+/// `Memory` if an allocation fails; the chart is empty then.
+pub fn judge<L: Letter>(chart: &mut Chart, flat: &Flat, line: &[L]) -> Result<bool, Memory>
+    ensures sets { IfOk result (λ _. (j : ℕ) → IsSet flat.now (map L.number line.now) j (set_at chart.new j)) }
+    ensures bound { IfOk result (λ _. (j : ℕ) → length (set_at chart.new j) ≤ places flat.now.nodes * (j + 1)) }
+    ensures answer { IfOk result (λ yes. IsTrue yes ↔ Holds flat.now (map L.number line.now) (length line.now) (Place.at flat.now.whole 1) 0) }
+    ensures derives { IfOk result (λ yes. (has : ℕ → Bool) (rules : List Rule) (judged : ℕ) → IsLowered rules judged flat.now → AreLetters has (map L.number line.now) →
+        IsTrue yes ↔ RuleDerives has rules judged (map L.number line.now)) }
+    ensures empty { OnErr result (chart.new ≡ []) }
+{
+    let spare = chart.take_spare()?;
+    let tables = flat.share()?;
+    let answer = judge_by(chart, tables, spare, line)?;
+    items_tell();
+    Ok(answer)
+}

@@ -1,0 +1,269 @@
+//! Fills an item set.
+ghost use Rattle.std.specs.Prelude.{◌≡◌, ◌↔◌, ◌+◌, ◌^◌, ◌<◌, ◌≤◌, true, IsTrue, IfOk, length, map, slice_get, Some, None, List, [], ◌∷◌, ℕ};
+ghost use Rattle.earley.specs.Places.{In, AreDifferent};
+ghost use Rattle.earley.specs.NodeSteps.{flat_of};
+ghost use Rattle.earley.specs.Closed.{GiveRoots, Hold, HoldAll, Keeps, IsClosed};
+ghost use Rattle.earley.specs.Worklist.{AreNulls, null_of, IsPassed};
+ghost use Rattle.earley.specs.ItemSets.{Adds, call_of, done_of, IsResumed, waiting_in, IsCompleted};
+ghost use Rattle.earley.specs.Blocks.{block_of, item_at, expand, full, begin_count, IsHead, IsLate, AreTables, AreCalls};
+ghost use Rattle.earley.specs.FrontViews.{view, views, IsAsked, IsOn, IsFurther, IsGoing};
+
+use crate::block::Spot;
+use crate::front::{Front, is_among, note};
+use crate::item::{Item, add};
+use crate::letter::Letter;
+use crate::tables::{Tables, call, calls, done, null, passes, spots};
+use ruletable::Memory;
+
+/// Adds what goes on where an item waited for a root.
+fn resume_one(flat: &Tables, root: usize, item: Item, set: &mut Vec<Item>) -> Result<(), Memory>
+    ensures { IfOk result (λ done. Adds (IsResumed flat.now root (item ∷ [])) set.old.items set.new.items) }
+{
+    if let Some((called, step)) = call(flat, item) {
+        if called == root {
+            add(
+                set,
+                Item {
+                    node: item.node,
+                    step,
+                    origin: item.origin,
+                },
+            )?;
+        }
+    }
+    Ok(())
+}
+
+/// Adds what goes on where items waited for a root.
+fn resume(flat: &Tables, root: usize, waiting: &[Item], set: &mut Vec<Item>) -> Result<(), Memory>
+    ensures { IfOk result (λ done. Adds (IsResumed flat.now root waiting.now) set.old.items set.new.items) }
+{
+    for item in waiting {
+        resume_one(flat, root, *item, set)?;
+    }
+    Ok(())
+}
+
+/// Adds what goes on where the spots of a block waited for a root.
+fn resume_spots(
+    flat: &Tables,
+    root: usize,
+    waiting: &[Spot],
+    origin: usize,
+    set: &mut Vec<Item>,
+) -> Result<(), Memory>
+    ensures { IfOk result (λ done. Adds (IsResumed flat.now root (map (item_at origin) waiting.now)) set.old.items set.new.items) }
+{
+    for spot in waiting {
+        resume_one(
+            flat,
+            root,
+            Item {
+                node: spot.node,
+                step: spot.step,
+                origin,
+            },
+            set,
+        )?;
+    }
+    Ok(())
+}
+
+/// Adds what goes on where the block of a head waited for a root.
+fn resume_block(
+    flat: &Tables,
+    root: usize,
+    head: usize,
+    origin: usize,
+    set: &mut Vec<Item>,
+) -> Result<(), Memory>
+    requires { AreCalls flat.now }
+    ensures { IfOk result (λ done. Adds (IsResumed flat.now root (map (item_at origin) (block_of flat.now head).spots)) set.old.items set.new.items) }
+{
+    if is_among(calls(flat, head), root) {
+        resume_spots(flat, root, spots(flat, head), origin, set)?;
+        return Ok(());
+    }
+    Ok(())
+}
+
+/// Adds what goes on where the blocks of heads waited for a root.
+fn resume_heads(
+    flat: &Tables,
+    root: usize,
+    heads: &[usize],
+    origin: usize,
+    set: &mut Vec<Item>,
+) -> Result<(), Memory>
+    requires { AreCalls flat.now }
+    ensures { IfOk result (λ done. Adds (IsResumed flat.now root (expand (block_of flat.now) origin heads.now)) set.old.items set.new.items) }
+{
+    for head in heads {
+        resume_block(flat, root, *head, origin, set)?;
+    }
+    Ok(())
+}
+
+/// Adds what goes on from a set where a root is done.
+fn resume_all(
+    flat: &Tables,
+    root: usize,
+    front: &Front,
+    origin: usize,
+    set: &mut Vec<Item>,
+) -> Result<(), Memory>
+    requires { AreCalls flat.now }
+    ensures { IfOk result (λ done. Adds (IsResumed flat.now root (view flat.now origin front.now)) set.old.items set.new.items) }
+{
+    resume_heads(flat, root, &front.heads, origin, set)?;
+    resume(flat, root, &front.items, set)?;
+    Ok(())
+}
+
+/// Adds what goes on from earlier sets where an item is done.
+fn complete(flat: &Tables, sets: &[Front], item: Item, set: &mut Vec<Item>) -> Result<(), Memory>
+    requires { AreCalls flat.now }
+    ensures { IfOk result (λ done. Adds (IsCompleted flat.now (views flat.now 0 sets.now) [] item) set.old.items set.new.items) }
+{
+    if done(flat, item) {
+        if let Some(front) = sets.get(item.origin) {
+            resume_all(flat, item.node, front, item.origin, set)?;
+        }
+    }
+    Ok(())
+}
+
+/// Predicts the root that an item calls.
+fn ask(flat: &Tables, item: Item, heads: &mut Vec<usize>) -> Result<(), Memory>
+    ensures { IfOk result (λ done. Adds (IsAsked flat.now item) heads.old.items heads.new.items) }
+{
+    if let Some((root, _)) = call(flat, item) {
+        note(heads, root)?;
+    }
+    Ok(())
+}
+
+/// Adds the item after one that calls a nullable root.
+fn pass(flat: &Tables, item: Item, set: &mut Vec<Item>) -> Result<(), Memory>
+    ensures { IfOk result (λ done. Adds (IsOn flat.now item) set.old.items set.new.items) }
+{
+    if let Some((root, step)) = call(flat, item) {
+        if null(flat, root) && step != item.step {
+            add(
+                set,
+                Item {
+                    node: item.node,
+                    step,
+                    origin: item.origin,
+                },
+            )?;
+        }
+    }
+    Ok(())
+}
+
+/// Adds what goes on where an item stands.
+fn advance(flat: &Tables, sets: &[Front], item: Item, set: &mut Vec<Item>) -> Result<(), Memory>
+    requires { AreCalls flat.now }
+    ensures { IfOk result (λ done. Adds (IsFurther flat.now (views flat.now 0 sets.now) item) set.old.items set.new.items) }
+{
+    pass(flat, item, set)?;
+    complete(flat, sets, item, set)?;
+    Ok(())
+}
+
+/// Predicts heads.
+fn note_all(calls: &[usize], heads: &mut Vec<usize>) -> Result<(), Memory>
+    ensures { IfOk result (λ done. Adds (λ t. In t calls.now) heads.old.items heads.new.items) }
+{
+    for head in calls {
+        note(heads, *head)?;
+    }
+    Ok(())
+}
+
+/// Adds spots with an origin.
+fn add_all(spots: &[Spot], origin: usize, set: &mut Vec<Item>) -> Result<(), Memory>
+    ensures { IfOk result (λ done. Adds (λ a. In a (map (item_at origin) spots.now)) set.old.items set.new.items) }
+{
+    for spot in spots {
+        add(
+            set,
+            Item {
+                node: spot.node,
+                step: spot.step,
+                origin,
+            },
+        )?;
+    }
+    Ok(())
+}
+
+/// Works on one item.
+fn work(
+    flat: &Tables,
+    sets: &[Front],
+    item: Item,
+    heads: &mut Vec<usize>,
+    items: &mut Vec<Item>,
+) -> Result<(), Memory>
+    requires { AreCalls flat.now }
+    ensures heads { IfOk result (λ done. Adds (IsAsked flat.now item) heads.old.items heads.new.items) }
+    ensures items { IfOk result (λ done. Adds (IsFurther flat.now (views flat.now 0 sets.now) item) items.old.items items.new.items) }
+{
+    ask(flat, item, heads)?;
+    advance(flat, sets, item, items)?;
+    Ok(())
+}
+
+/// Opens one head's block.
+fn open(
+    flat: &Tables,
+    head: usize,
+    origin: usize,
+    heads: &mut Vec<usize>,
+    items: &mut Vec<Item>,
+) -> Result<(), Memory>
+    ensures heads { IfOk result (λ done. Adds (λ t. In t (block_of flat.now head).calls) heads.old.items heads.new.items) }
+    ensures items { IfOk result (λ done. Adds (λ a. In a (map (item_at origin) (block_of flat.now head).passes)) items.old.items items.new.items) }
+{
+    note_all(calls(flat, head), heads)?;
+    add_all(passes(flat, head), origin, items)?;
+    Ok(())
+}
+
+/// Adds to a set all that its items and blocks ask for, each worked on once.
+pub(crate) fn fill<L: Letter>(
+    flat: &Tables,
+    line: &[L],
+    sets: &[Front],
+    heads: &mut Vec<usize>,
+    items: &mut Vec<Item>,
+) -> Result<(), Memory>
+    requires roots { GiveRoots (flat_of flat.now) flat.now.roots.items }
+    requires nulls { AreNulls (flat_of flat.now) flat.now.nulls.items }
+    requires tables { AreTables flat.now }
+    requires calls { AreCalls flat.now }
+    requires earlier { HoldAll (flat_of flat.now) (map L.number line.now) (views flat.now 0 sets.now) }
+    requires begun { IsGoing flat.now (map L.number line.now) (views flat.now 0 sets.now) 0 0 heads.old.items items.old.items }
+    ensures held { IfOk result (λ done. Hold (flat_of flat.now) (map L.number line.now) (length (views flat.now 0 sets.now)) (full (block_of flat.now) (length (views flat.now 0 sets.now)) heads.new.items items.new.items)) }
+    ensures different { IfOk result (λ done. AreDifferent (full (block_of flat.now) (length (views flat.now 0 sets.now)) heads.new.items items.new.items)) }
+    ensures keeps { IfOk result (λ done. Keeps (full (block_of flat.now) (length (views flat.now 0 sets.now)) heads.old.items items.old.items) (full (block_of flat.now) (length (views flat.now 0 sets.now)) heads.new.items items.new.items)) }
+    ensures closed { IfOk result (λ done. IsClosed flat.now (views flat.now 0 sets.now) (full (block_of flat.now) (length (views flat.now 0 sets.now)) heads.new.items items.new.items)) }
+{
+    let mut item_index = 0;
+    let mut head_index = 0;
+    loop {
+        if item_index < items.len() {
+            let item = items[item_index];
+            work(flat, sets, item, heads, items)?;
+            item_index += 1;
+        } else if head_index < heads.len() {
+            let head = heads[head_index];
+            open(flat, head, sets.len(), heads, items)?;
+            head_index += 1;
+        } else {
+            return Ok(());
+        }
+    }
+}

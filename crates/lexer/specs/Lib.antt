@@ -1,0 +1,3 @@
+pub mod SliceEnds
+pub mod TokenLists
+pub mod Viability

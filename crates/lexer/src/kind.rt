@@ -1,0 +1,36 @@
+//! What a text is cut into.
+ghost use Rattle.std.specs.Prelude.{◌≡◌, ℕ, ◌<◌, Bool, false, List, length};
+ghost use Rattle.lexer.specs.SliceEnds.{IsEnd};
+
+/// The kinds of tokens of a language, with the scanner that finds them.
+pub trait Kind: Copy {
+    /// Whether it ends a list of tokens.
+    ghost is_end: { Self → Bool };
+
+    /// White space, and what stands behind it.
+    ghost white: { List ℕ → List ℕ → Type 0 };
+
+    /// No white space begins the text.
+    ghost dark: { List ℕ → Type 0 };
+
+    /// The first token of a text that no white space begins, and what stands behind it.
+    ghost first: { Self → List ℕ → List ℕ → Type 0 };
+
+    fn is_last(self) -> bool
+        ensures { result ≡ is_end self };
+
+    fn after_white(text: &[u8]) -> &[u8]
+        ensures white { white text.now result.now }
+        ensures all { dark result.now };
+
+    fn first_token(text: &[u8]) -> (Self, &[u8])
+        requires { dark text.now }
+        ensures { first result.0 text.now result.1.now };
+
+    /// A law: what stands behind white space and a token is found in one way.
+    fn are_cut()
+        ensures white { (t r : List ℕ) → white t r → IsEnd t r }
+        ensures ends { (k : Self) (t r : List ℕ) → first k t r → IsEnd t r }
+        ensures less { (k : Self) (t r : List ℕ) → is_end k ≡ false → first k t r → length r < length t }
+        ensures one { (j k : Self) (t a b r s : List ℕ) → white t a → first j a r → white t b → first k b s → (j ≡ k) × (a ≡ b) × (r ≡ s) };
+}

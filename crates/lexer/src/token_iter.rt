@@ -1,0 +1,70 @@
+//! Cuts a text into tokens that lend slices of it.
+ghost use Rattle.std.specs.Prelude.{◌+◌, ◌^◌, ◌<◌, length};
+
+use crate::kind::Kind;
+use ruletable::Span;
+use std::marker::PhantomData;
+
+/// A token, with its slice of the text.
+#[derive(Clone, Copy, Debug)]
+pub struct Token<'a, K> {
+    pub kind: K,
+    pub slice: &'a [u8],
+    /// Where the slice lies in the text.
+    pub span: Span,
+}
+
+/// The tokens of a text, the last one the end.
+#[derive(Drop)]
+pub struct TokenIter<'a, K> {
+    rest: &'a [u8],
+    start: usize,
+    ended: bool,
+    kinds: PhantomData<K>,
+    ghost fits: { start + length rest.now < 2 ^ 64 },
+}
+
+impl<'a, K: Kind> TokenIter<'a, K> {
+    ghost use Rattle.lexer.specs.TokenLists.{IsAtStart};
+
+    pub(crate) fn new(text: &'a [u8]) -> Self
+        ensures { IsAtStart result text.now }
+    {
+        TokenIter {
+            rest: text,
+            start: 0,
+            ended: false,
+            kinds: PhantomData,
+        }
+    }
+}
+
+impl<'a, K: Kind> Iterator for TokenIter<'a, K> {
+    ghost use Rattle.lexer.specs.TokenLists.{GivesFirst, tokens_bound};
+
+    type Item = Token<'a, K>;
+
+    ghost next_gives = { GivesFirst K.white K.first K.is_end };
+
+    ghost remaining = { tokens_bound };
+
+    fn next(&mut self) -> Option<Token<'a, K>> {
+        if self.ended {
+            return None;
+        }
+        K::are_cut();
+        let text = K::after_white(self.rest);
+        let (kind, rest) = K::first_token(text);
+        let size = text.len() - rest.len();
+        let start = self.start + (self.rest.len() - text.len());
+        let end = start + size;
+        self.rest = rest;
+        self.start = end;
+        self.ended = kind.is_last();
+        Some(Token {
+            kind,
+            slice: &text[..size],
+            span: Span { start, end },
+        })
+    }
+}
