@@ -1,6 +1,6 @@
 //! Which nodes are nullable: they are passed without a letter.
-ghost use Rattle.std.specs.Prelude.{◌≡◌, ℕ, ◌<◌, [], ◌∷◌, length, map, slice_get, Some, IfOk};
-ghost use Rattle.leastset.specs.Demands.{All, One, demand_of, demands_of};
+ghost use Rattle.std.specs.Prelude.{◌≡◌, ℕ, ◌<◌, length, map, slice_get, Some, IfOk};
+ghost use Rattle.leastset.specs.Demands.{demand_of, demands_of};
 ghost use Rattle.earley.specs.Flat.{Flat};
 ghost use Rattle.earley.specs.FlatViews.{node_of, nodes_of};
 ghost use Rattle.earley.specs.NullNeeds.{need_of, need_of_repeat, need_of_body};
@@ -11,79 +11,64 @@ use crate::flat_node::Node;
 use leastset::{Need, least};
 use ruletable::Memory;
 use std::alloc::Global;
-
-// Returns the need of the numbers, all of them.
-fn all(alloc: Global, numbers: &[usize]) -> Result<Need, Memory>
-    ensures { IfOk result (λ need. demand_of need ≡ All numbers.now) }
-{
-    let row = Vec::from_slice(alloc, numbers)?;
-    Ok(Need::All(row))
-}
-
-// Returns the need of the numbers, one of them.
-fn one(alloc: Global, numbers: &[usize]) -> Result<Need, Memory>
-    ensures { IfOk result (λ need. demand_of need ≡ One numbers.now) }
-{
-    let row = Vec::from_slice(alloc, numbers)?;
-    Ok(Need::One(row))
-}
+use std::slice::from_ref;
 
 // Returns what a repetition needs to be nullable: nothing if it may have no turn, else its operand, and more turns than it
 // may have are never there.
-fn repeat_need(alloc: Global, least: u32, most: Option<u32>, operand: usize) -> Result<Need, Memory>
-    ensures { IfOk result (λ need. demand_of need ≡ need_of_repeat least most operand) }
+fn repeat_need(least: u32, most: Option<u32>, operand: &usize) -> Need<'_>
+    ensures { demand_of result ≡ need_of_repeat least most operand.now }
 {
     if least == 0 {
-        return all(alloc, &[]);
+        return Need::All(&[]);
     }
     match most {
-        Some(most) if most < least => one(alloc, &[]),
-        _ => all(alloc, &[operand]),
+        Some(most) if most < least => Need::One(&[]),
+        _ => Need::All(from_ref(operand)),
     }
 }
 
 // Returns what a name needs to be nullable: the body of its rule.
-fn name_need(alloc: Global, bodies: &[usize], id: usize) -> Result<Need, Memory>
-    ensures { IfOk result (λ need. demand_of need ≡ need_of_body (slice_get bodies.now id)) }
+fn name_need(bodies: &[usize], id: usize) -> Need<'_>
+    ensures { demand_of result ≡ need_of_body (slice_get bodies.now id) }
 {
     match bodies.get(id) {
-        Some(body) => all(alloc, &[*body]),
-        None => one(alloc, &[]),
+        Some(body) => Need::All(from_ref(body)),
+        None => Need::One(&[]),
     }
 }
 
 // Returns what a node needs to be nullable.
-fn need(alloc: Global, bodies: &[usize], node: &Node) -> Result<Need, Memory>
-    ensures { IfOk result (λ need. demand_of need ≡ need_of bodies.now (node_of node.now)) }
+fn need<'a>(bodies: &'a [usize], node: &'a Node) -> Need<'a>
+    ensures { demand_of result ≡ need_of bodies.now (node_of node.now) }
 {
     match node {
         Node::Letters(sets) => {
             if sets.is_empty() {
-                all(alloc, &[])
+                Need::All(&[])
             } else {
-                one(alloc, &[])
+                Need::One(&[])
             }
         }
-        Node::Concat(members) => all(alloc, members),
-        Node::Alt(alternatives) => one(alloc, alternatives),
+        Node::Concat(members) => Need::All(members),
+        Node::Alt(alternatives) => Need::One(alternatives),
         Node::Rep {
             least,
             most,
             operand,
-        } => repeat_need(alloc, *least, *most, *operand),
-        Node::Opt(_) => all(alloc, &[]),
-        Node::Name(id) => name_need(alloc, bodies, *id),
-        Node::Nothing => one(alloc, &[]),
+        } => repeat_need(*least, *most, operand),
+        Node::Opt(_) => Need::All(&[]),
+        Node::Name(id) => name_need(bodies, *id),
+        Node::Nothing => Need::One(&[]),
     }
 }
 
 // Returns what each node needs to be nullable.
-fn needs(alloc: Global, nodes: &[Node], bodies: &[usize]) -> Result<Vec<Need>, Memory>
+fn needs<'a>(alloc: Global, nodes: &'a [Node], bodies: &'a [usize]) -> Result<Vec<Need<'a>>, Memory>
     ensures { IfOk result (λ needs. demands_of needs.items ≡ map (need_of bodies.now) (nodes_of nodes.now)) }
 {
-    let mut needs = Vec::new(alloc);
+    let mut needs = Vec::with_capacity(alloc, nodes.len())?;
     for node in nodes {
-        needs.push(need(alloc, bodies, node)?)?;
+        needs.push(need(bodies, node))?;
     }
     Ok(needs)
 }

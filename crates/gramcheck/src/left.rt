@@ -9,65 +9,57 @@ ghost use Rattle.gramcheck.specs.Nodes.{Name, shape_of, shapes_of};
 ghost use Rattle.gramcheck.specs.Nulls.{AreNullMarks};
 
 use crate::node::Node;
-use crate::nullable::{body_of, one};
+use crate::nullable::body_of;
 use leastset::on_cycle;
 use ruletable::Memory;
 use std::alloc::Global;
+use std::slice::from_ref;
 
-// The first members, as far as the first that isn't nullable.
-fn front_of(alloc: Global, members: &[usize], nulls: &[bool]) -> Result<Vec<usize>, Memory>
+// Returns the first members, as far as the first that is not nullable.
+fn front_of<'a>(members: &'a [usize], nulls: &[bool]) -> &'a [usize]
     requires { AreBelow members.now (length nulls.now) }
-    ensures { IfOk result (λ row. row.items ≡ front nulls.now members.now) }
+    ensures { result.now ≡ front nulls.now members.now }
 {
-    let mut row = Vec::new(alloc);
-    for member in members {
-        row.push(*member)?;
-        if !nulls[*member] {
-            break;
+    for n in 0..members.len() {
+        if !nulls[members[n]] {
+            return &members[..n + 1];
         }
     }
-    Ok(row)
+    members
 }
 
 // Returns the numbers of the nodes to which left steps lead from a node.
-fn steps_from(
-    alloc: Global,
-    node: &Node,
-    bodies: &[usize],
-    nulls: &[bool],
-) -> Result<Vec<usize>, Memory>
+fn steps_from<'a>(node: &'a Node, bodies: &'a [usize], nulls: &[bool]) -> &'a [usize]
     requires { (m : ℕ) → IsOperand (shape_of node.now) m → m < length nulls.now }
-    ensures { IfOk result (λ row. row.items ≡ steps_of bodies.now nulls.now (shape_of node.now)) }
+    ensures { result.now ≡ steps_of bodies.now nulls.now (shape_of node.now) }
 {
     match node {
-        Node::Any | Node::Bytes(_) | Node::Set(_) | Node::Act(_) | Node::Open | Node::Close => {
-            Ok(Vec::new(alloc))
-        }
-        Node::Name(id) => body_of(alloc, bodies, *id),
-        Node::Seq(members) => front_of(alloc, members, nulls),
-        Node::Choice(alternatives) => Ok(Vec::from_slice(alloc, alternatives)?),
+        Node::Any | Node::Bytes(_) | Node::Set(_) | Node::Act(_) | Node::Open | Node::Close => &[],
+        Node::Name(id) => body_of(bodies, *id),
+        Node::Seq(members) => front_of(members, nulls),
+        Node::Choice(alternatives) => alternatives,
         Node::Star(operand)
         | Node::Plus { operand, .. }
         | Node::Opt(operand)
         | Node::And(operand)
-        | Node::Not(operand) => one(alloc, *operand),
+        | Node::Not(operand) => from_ref(operand),
     }
 }
 
 // Returns for each node the numbers of the nodes to which left steps lead from it.
-fn steps(
+fn steps<'a>(
     alloc: Global,
-    nodes: &[Node],
-    bodies: &[usize],
+    nodes: &'a [Node],
+    bodies: &'a [usize],
     nulls: &[bool],
-) -> Result<Vec<Vec<usize>>, Memory>
+) -> Result<Vec<&'a [usize]>, Memory>
     requires built { IsBuilt (shapes_of nodes.now) }
     requires count { length nulls.now ≡ length nodes.now }
     ensures { IfOk result (λ steps. rows_of steps.items ≡ step_rows bodies.now nulls.now (shapes_of nodes.now)) }
 {
-    let mut steps = Vec::new(alloc);
+    let mut steps = Vec::with_capacity(alloc, nodes.len())?;
     for node in nodes {
-        steps.push(steps_from(alloc, node, bodies, nulls)?)?;
+        steps.push(steps_from(node, bodies, nulls))?;
     }
     Ok(steps)
 }

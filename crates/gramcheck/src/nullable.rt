@@ -1,5 +1,5 @@
 //! Nullable nodes.
-ghost use Rattle.std.specs.Prelude.{◌≡◌, ℕ, List, [], ◌∷◌, length, slice_get, option_to_list, IfOk};
+ghost use Rattle.std.specs.Prelude.{◌≡◌, List, length, slice_get, option_to_list, IfOk};
 ghost use Rattle.pegread.specs.Pattern.{Rule};
 ghost use Rattle.gramcheck.specs.Bodies.{AreBodies, IsBuilt};
 ghost use Rattle.leastset.specs.Demands.{demand_of, demands_of};
@@ -11,58 +11,52 @@ use crate::node::Node;
 use leastset::{Need, least};
 use ruletable::Memory;
 use std::alloc::Global;
+use std::slice::from_ref;
 
-/// That number alone.
-pub(crate) fn one(alloc: Global, n: usize) -> Result<Vec<usize>, Memory>
-    ensures { IfOk result (λ row. row.items ≡ n ∷ []) }
+/// Returns the node of the body of the rule `id`, if there is such a rule.
+pub(crate) fn body_of(bodies: &[usize], id: usize) -> &[usize]
+    ensures { result.now ≡ option_to_list (slice_get bodies.now id) }
 {
-    Ok(Vec::from_slice(alloc, &[n])?)
-}
-
-/// The node of the body of that rule, if there is such a rule.
-pub(crate) fn body_of(alloc: Global, bodies: &[usize], id: usize) -> Result<Vec<usize>, Memory>
-    ensures { IfOk result (λ row. row.items ≡ option_to_list (slice_get bodies.now id)) }
-{
-    if id < bodies.len() {
-        return one(alloc, bodies[id]);
+    match bodies.get(id) {
+        Some(body) => from_ref(body),
+        None => &[],
     }
-    Ok(Vec::new(alloc))
 }
 
-// What a node needs before it is nullable.
-fn need(alloc: Global, node: &Node, bodies: &[usize]) -> Result<Need, Memory>
-    ensures { IfOk result (λ need. demand_of need ≡ null_demand bodies.now (shape_of node.now)) }
+// Returns what a node needs before it is nullable.
+fn need<'a>(node: &'a Node, bodies: &'a [usize]) -> Need<'a>
+    ensures { demand_of result ≡ null_demand bodies.now (shape_of node.now) }
 {
-    Ok(match node {
-        Node::Any | Node::Set(_) => Need::One(Vec::new(alloc)),
+    match node {
+        Node::Any | Node::Set(_) => Need::One(&[]),
         Node::Bytes(bytes) => {
             if bytes.is_empty() {
-                Need::All(Vec::new(alloc))
+                Need::All(&[])
             } else {
-                Need::One(Vec::new(alloc))
+                Need::One(&[])
             }
         }
-        Node::Name(id) => Need::One(body_of(alloc, bodies, *id)?),
-        Node::Seq(members) => Need::All(Vec::from_slice(alloc, members)?),
-        Node::Choice(alternatives) => Need::One(Vec::from_slice(alloc, alternatives)?),
-        Node::Plus { operand, .. } => Need::One(one(alloc, *operand)?),
+        Node::Name(id) => Need::One(body_of(bodies, *id)),
+        Node::Seq(members) => Need::All(members),
+        Node::Choice(alternatives) => Need::One(alternatives),
+        Node::Plus { operand, .. } => Need::One(from_ref(operand)),
         Node::Star(_)
         | Node::Opt(_)
         | Node::And(_)
         | Node::Not(_)
         | Node::Act(_)
         | Node::Open
-        | Node::Close => Need::All(Vec::new(alloc)),
-    })
+        | Node::Close => Need::All(&[]),
+    }
 }
 
-// What each node needs before it is nullable.
-fn needs(alloc: Global, nodes: &[Node], bodies: &[usize]) -> Result<Vec<Need>, Memory>
+// Returns what each node needs before it is nullable.
+fn needs<'a>(alloc: Global, nodes: &'a [Node], bodies: &'a [usize]) -> Result<Vec<Need<'a>>, Memory>
     ensures { IfOk result (λ needs. demands_of needs.items ≡ null_demands bodies.now (shapes_of nodes.now)) }
 {
-    let mut needs = Vec::new(alloc);
+    let mut needs = Vec::with_capacity(alloc, nodes.len())?;
     for node in nodes {
-        needs.push(need(alloc, node, bodies)?)?;
+        needs.push(need(node, bodies))?;
     }
     Ok(needs)
 }

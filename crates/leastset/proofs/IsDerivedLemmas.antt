@@ -10,48 +10,54 @@ use Rattle.leastset.proofs.ContainsLemmas.{in_get}
 use Rattle.leastset.specs.Demands.{Demand, All, One, row_of, IsMet, IsDerived}
 use Rattle.leastset.specs.NeedCounts.{once, times, met, count_of, counts_of, left_of, Added, AreUsersTo, AreUsers, IsQueue, Told, IsComing}
 use Rattle.leastset.specs.StepRows.{row_at}
-use Rattle.leastset.proofs.TimesLemmas.{once_same, once_other, times_push, times_in, in_times, times_take, times_earlier, one_place, met_push, met_none, met_mono, met_all, all_met, met_one, one_met}
+use Rattle.leastset.proofs.TimesLemmas.{once_same, once_other, times-append, times_in, in_times, times_take, times_earlier, one_place, met_push, met_none, met_mono, met_all, all_met, met_one, one_met}
 
-added_push : (row : List ℕ) (x n : ℕ) (a b : List (List ℕ)) (v : List ℕ) → Added row n a b → x < length b →
-    v ≡ row_at b x ++ n ∷ [] → Added (row ++ x ∷ []) n a (set b x v)
-added_push row x n a b v g in_it is = record {
-  count = length-set b x v ∙ g.count;
-  own = λ m low.
-      let o = g.own m low in
-      let p = times_push row x m in
-      ⊎_elim
-      (λ same.
-      let s = ap (λ w. times w n) (subst (λ w. row_at (set b x v) w ≡ v) (sym same) (get_or-set_same b x v [] in_it)
-      ∙ subst (λ w. v ≡ row_at b w ++ n ∷ []) (sym same) is) in
-      let t = times_push (row_at b m) n n in
+-- n was put before the row of x
+pub added_one : (rows : List (List ℕ)) (x n : ℕ) → x < length rows →
+    Added (x ∷ []) n rows (set rows x (n ∷ row_at rows x))
+added_one rows x n lt = record {
+  count = length-set rows x (n ∷ row_at rows x);
+  own = λ m low. ⊎_elim
+      (λ is.
+      let s = ap (λ v. times v n) (subst (λ v. row_at (set rows x (n ∷ row_at rows x)) v ≡ n ∷ row_at rows x) (sym is) (same x lt)) in
       let k = once_same n in
-      let e = subst (λ w. once x w ≡ 1) (sym same) (once_same x) in
-      omega (arith, o, p, s, t, k, e))
+      let e = subst (λ v. once x v ≡ 1) (sym is) (once_same x) in
+      let o = ap (λ v. times (row_at rows v) n) is in
+      omega (arith, s, k, e, o))
       (λ ne.
-      let s = ap (λ w. times w n) (get_or-set_other b x m v [] ne) in
-      let e = once_other x m (λ w. ne (sym w)) in
-      omega (arith, o, p, s, e))
+      let s = ap (λ v. times v n) (get_or-set_other rows x m (n ∷ row_at rows x) [] ne) in
+      let e = once_other x m (λ v. ne (sym v)) in
+      omega (arith, s, e))
       (cases_eq m x);
-  other = λ m k ne.
-      let o = g.other m k ne in
-      ⊎_elim
-      (λ same.
-      let s = ap (λ w. times w k) (subst (λ w. row_at (set b x v) w ≡ v) (sym same) (get_or-set_same b x v [] in_it)
-      ∙ subst (λ w. v ≡ row_at b w ++ n ∷ []) (sym same) is) in
-      let t = times_push (row_at b m) n k in
-      let e = once_other n k (λ w. ne (sym w)) in
-      omega (arith, o, s, t, e))
-      (λ diff. let s = ap (λ w. times w k) (get_or-set_other b x m v [] diff) in omega (arith, o, s))
+  other = λ m k ne. ⊎_elim
+      (λ is.
+      let s = ap (λ v. times v k) (subst (λ v. row_at (set rows x (n ∷ row_at rows x)) v ≡ n ∷ row_at rows x) (sym is) (same x lt)) in
+      let e = once_other n k (λ v. ne (sym v)) in
+      let o = ap (λ v. times (row_at rows v) k) is in
+      omega (arith, s, e, o))
+      (λ diff. ap (λ v. times v k) (get_or-set_other rows x m (n ∷ row_at rows x) [] diff))
       (cases_eq m x);
 }
+  where
+    same : (y : ℕ) → y < length rows → row_at (set rows y (n ∷ row_at rows y)) y ≡ n ∷ row_at rows y
+    same y low = get_or-set_same rows y (n ∷ row_at rows y) [] low
 
-pub added_next : (row : List ℕ) (i x n : ℕ) (a b : List (List ℕ)) (v : List ℕ) → i < length row → x ≡ get_or row i 0 →
-    Added (take i row) n a b → x < length b → v ≡ row_at b x ++ n ∷ [] →
-    Added (take (i + 1) row) n a (set b x v)
-added_next row i x n a b v lt here g in_it is =
-    rw (add-one i, take-suc row i 0, sym here) (added_push (take i row) x n a b v g in_it is)
+pub added_none : (n : ℕ) (a : List (List ℕ)) → Added [] n a a
+added_none n a = record { count = refl; own = λ m low. omega arith; other = λ m k ne. refl }
 
-empty_row : (n m : ℕ) → row_at (replicate n []) m ≡ []
+pub added_push : (row : List ℕ) (x n : ℕ) (a b c : List (List ℕ)) → Added row n a b → Added (x ∷ []) n b c →
+    Added (row ++ x ∷ []) n a c
+added_push row x n a b c g h = record {
+  count = h.count ∙ g.count;
+  own = λ m low.
+      let o = g.own m low in
+      let q = h.own m (let k = g.count in omega (arith, k, low)) in
+      let p = times-append row (x ∷ []) m in
+      omega (arith, o, q, p);
+  other = λ m k ne. h.other m k ne ∙ g.other m k ne;
+}
+
+pub empty_row : (n m : ℕ) → row_at (replicate n []) m ≡ []
 empty_row n m = ⊎_elim
     (λ lt. get_or-replicate n m [] [] lt)
     (λ le. let l = length-replicate {A = List ℕ} n [] in get_or_past (replicate n []) m [] (omega (arith, l, le)))

@@ -1,3 +1,4 @@
+pub mod AreListsLemmas
 pub mod AtLemmas
 pub mod ClosesLemmas
 pub mod ContainsLemmas

@@ -1,31 +1,36 @@
 -- Rows and needs of the code, read as lists.
 -- Serves: least, derive, reached, on_cycle
-use Rattle.std.proofs.Common.{◌≡◌, ℕ, zero, suc, ◌<◌, List, [], ◌∷◌, length, get_or, set, Contains, Some, sym, ap, arith, Vec, Global}
+use Rattle.std.proofs.Common.{◌≡◌, ℕ, zero, suc, ◌<◌, List, [], ◌∷◌, length, get_or, Contains, Some, refl, arith}
 use Rattle.std.specs.Prelude.{slice_get}
-use Rattle.std.proofs.lemmas.List.{length-map, map-set}
+use Rattle.std.specs.Borrow.{Bor}
+use Rattle.std.proofs.lemmas.List.{length-map}
 use Rattle.std.proofs.lemmas.List.Elements.{Contains-get_or}
 use Rattle.leastset.specs.declared.needs.Need.{Need}
+use Rattle.leastset.specs.declared.needs.Need.TheVariants as code
 use Rattle.leastset.specs.Demands.{demand_of, demands_of}
 use Rattle.leastset.specs.StepRows.{rows_of, row_at}
 
-pub row_items : (rows : List (Vec ℕ Global)) (n : ℕ) (v : Vec ℕ Global) → n < length rows → v ≡ get_or rows n v →
-    row_at (rows_of rows) n ≡ v.items
-row_items [] n v lt is = absurd (omega arith)
-row_items (row ∷ rows) zero v lt is = ap (λ w. w.items) (sym is)
-row_items (row ∷ rows) (suc n) v lt is = let less : n < length rows = omega arith in row_items rows n v less is
+-- the row past the end of a table of the code
+abbrev pub no_row : Bor (List ℕ)
+no_row = record { ref_ptr = (0, 0); now = [] }
 
-pub length-rows : (rows : List (Vec ℕ Global)) → length (rows_of rows) ≡ length rows
-length-rows rows = length-map rows (λ row. row.items)
+pub row_now : (rows : List (Bor (List ℕ))) (n : ℕ) → n < length rows → row_at (rows_of rows) n ≡ (get_or rows n no_row).now
+row_now [] n lt = absurd (omega arith)
+row_now (row ∷ rows) zero lt = refl
+row_now (row ∷ rows) (suc n) lt = let less : n < length rows = omega arith in row_now rows n less
 
-pub rows-set : (rows : List (Vec ℕ Global)) (n : ℕ) (v : Vec ℕ Global) →
-    rows_of (set rows n v) ≡ set (rows_of rows) n v.items
-rows-set rows n v = map-set (λ row. row.items) rows n v
+pub length-rows : (rows : List (Bor (List ℕ))) → length (rows_of rows) ≡ length rows
+length-rows rows = length-map rows (λ row. row.now)
 
-pub demand_at : (needs : List Need) (n : ℕ) (v : Need) → n < length needs → v ≡ get_or needs n v →
-    slice_get (demands_of needs) n ≡ Some (demand_of v)
-demand_at [] n v lt is = absurd (omega arith)
-demand_at (need ∷ needs) zero v lt is = ap (λ w. Some (demand_of w)) (sym is)
-demand_at (need ∷ needs) (suc n) v lt is = let less : n < length needs = omega arith in demand_at needs n v less is
+-- the need past the end of a list of the code
+abbrev pub no_need : Need
+no_need = code.All no_row
+
+pub demand_at : (needs : List Need) (n : ℕ) → n < length needs →
+    slice_get (demands_of needs) n ≡ Some (demand_of (get_or needs n no_need))
+demand_at [] n lt = absurd (omega arith)
+demand_at (need ∷ needs) zero lt = refl
+demand_at (need ∷ needs) (suc n) lt = let less : n < length needs = omega arith in demand_at needs n less
 
 pub length-demands : (needs : List Need) → length (demands_of needs) ≡ length needs
 length-demands needs = length-map needs demand_of

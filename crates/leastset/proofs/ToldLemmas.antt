@@ -201,20 +201,19 @@ told_none left order q = record {
 }
 
 -- telling one more
-pub told_next : (users : List ℕ) (i n : ℕ) (a o b p c q : List ℕ) → i < length users → n ≡ get_or users i 0 →
-    Told (take i users) a o b p → Told (n ∷ []) b p c q → Told (take (i + 1) users) a o c q
-told_next users i n a o b p c q lt is s t = rw (add-one i, take-suc users i 0) (record {
+pub told_push : (users : List ℕ) (n : ℕ) (a o b p c q : List ℕ) → Told users a o b p → Told (n ∷ []) b p c q →
+    Told (users ++ n ∷ []) a o c q
+told_push users n a o b p c q s t = record {
   count = t.count ∙ s.count;
   fewer = λ m in_it.
       let f = s.fewer m in_it in
       let g = t.fewer m (let l = s.count in omega (arith, l, in_it)) in
-      let k = times-append (take i users) (get_or users i 0 ∷ []) m in
-      let e = ap (λ v. once v m) is in
-      omega (arith, f, g, k, e);
+      let k = times-append users (n ∷ []) m in
+      omega (arith, f, g, k);
   queue = t.queue;
   added = s.added ++ t.added;
   grows = t.grows ∙ ap (λ v. v ++ t.added) s.grows ∙ append_assoc o s.added t.added;
-})
+}
 
 -- what one number needs, by how much it needed
 pub told_if_last : (n : ℕ) (left order : List ℕ) → n < length left → IsQueue left order → get_or left n 0 ≡ 1 →

@@ -10,8 +10,8 @@ pub data Demand : Type 0 where
 
 -- what a need of the code asks for
 abbrev pub demand_of : declared.Need → Demand
-demand_of (code.All row) = All row.items
-demand_of (code.One row) = One row.items
+demand_of (code.All row) = All row.now
+demand_of (code.One row) = One row.now
 
 -- what each need of the code asks for
 abbrev pub demands_of : List declared.Need → List Demand

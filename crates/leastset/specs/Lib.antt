@@ -5,4 +5,5 @@ pub mod NeedCounts
 pub mod NumberMarks
 pub mod Reach
 pub mod StepRows
+pub mod UserLists
 pub mod Way

@@ -7,7 +7,7 @@ use crate::cycles::on_cycle;
 use std::alloc::{AllocError, Global};
 
 /// Returns whether a chain of at least one step leads from `n` back to `n`.
-pub fn comes_back(alloc: Global, steps: &[Vec<usize>], n: usize) -> Result<bool, AllocError>
+pub fn comes_back(alloc: Global, steps: &[&[usize]], n: usize) -> Result<bool, AllocError>
     requires within { AreStepsWithin (rows_of steps.now) }
     requires n { n < length steps.now }
     ensures { IfOk result (λ back. (back ≡ Bool.true) ↔ Leads (rows_of steps.now) n n) }

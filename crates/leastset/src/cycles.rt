@@ -131,7 +131,7 @@ impl Search {
     }
 
     // Takes the step to `target`, the last target ahead.
-    fn look(&mut self, steps: &[Vec<usize>], target: usize) -> Result<(), AllocError>
+    fn look(&mut self, steps: &[&[usize]], target: usize) -> Result<(), AllocError>
         requires within { target < length (rows_of steps.now) }
         requires way { IsWay (rows_of steps.now) (before_step (way_of self.old) target) }
         requires short { AreShort (way_of self.old) }
@@ -141,7 +141,7 @@ impl Search {
     {
         match self.places[target] {
             Place::New => {
-                self.open(target, &steps[target])?;
+                self.open(target, steps[target])?;
             }
             Place::On(place) => {
                 self.meet(target, place);
@@ -152,7 +152,7 @@ impl Search {
     }
 
     // Takes one step from the last part, or ends the part if no target of it is ahead.
-    fn go_on(&mut self, steps: &[Vec<usize>], last: Part) -> Result<(), AllocError>
+    fn go_on(&mut self, steps: &[&[usize]], last: Part) -> Result<(), AllocError>
         requires within { AreStepsWithin (rows_of steps.now) }
         requires way { IsWay (rows_of steps.now) (way_of self.old) }
         requires last { IsLast self.old.parts.items last }
@@ -172,7 +172,7 @@ impl Search {
     }
 
     // Goes on until the path is empty.
-    fn follow(&mut self, steps: &[Vec<usize>]) -> Result<(), AllocError>
+    fn follow(&mut self, steps: &[&[usize]]) -> Result<(), AllocError>
         requires within { AreStepsWithin (rows_of steps.now) }
         requires way { IsWay (rows_of steps.now) (way_of self.old) }
         requires ranked { IsRanked (rows_of steps.now) (way_of self.old) (tally_of self.old) }
@@ -187,7 +187,7 @@ impl Search {
     }
 
     // Searches from `n` if the search has not met it.
-    fn search_from(&mut self, steps: &[Vec<usize>], n: usize) -> Result<(), AllocError>
+    fn search_from(&mut self, steps: &[&[usize]], n: usize) -> Result<(), AllocError>
         requires n { n < length (rows_of steps.now) }
         requires within { AreStepsWithin (rows_of steps.now) }
         requires through { IsThrough (rows_of steps.now) (way_of self.old) n }
@@ -196,14 +196,14 @@ impl Search {
         ensures ranked { IfOk result (λ _. IsRanked (rows_of steps.now) (way_of self.new) (tally_of self.new)) }
     {
         if let Place::New = self.places[n] {
-            self.open(n, &steps[n])?;
+            self.open(n, steps[n])?;
             self.follow(steps)?;
         }
         Ok(())
     }
 
     // Returns the state before the search.
-    fn new(alloc: Global, steps: &[Vec<usize>]) -> Result<Search, AllocError>
+    fn new(alloc: Global, steps: &[&[usize]]) -> Result<Search, AllocError>
         ensures through { IfOk result (λ search. IsThrough (rows_of steps.now) (way_of search) 0) }
         ensures ranked { IfOk result (λ search. IsRanked (rows_of steps.now) (way_of search) (tally_of search)) }
     {
@@ -219,7 +219,7 @@ impl Search {
     }
 
     // Searches from each number.
-    fn search_all(&mut self, steps: &[Vec<usize>]) -> Result<(), AllocError>
+    fn search_all(&mut self, steps: &[&[usize]]) -> Result<(), AllocError>
         requires within { AreStepsWithin (rows_of steps.now) }
         requires through { IsThrough (rows_of steps.now) (way_of self.old) 0 }
         requires ranked { IsRanked (rows_of steps.now) (way_of self.old) (tally_of self.old) }
@@ -249,7 +249,7 @@ pub struct Cycles {
 ///
 /// # Errors
 /// `AllocError` if an allocation fails.
-pub fn on_cycle(alloc: Global, steps: &[Vec<usize>]) -> Result<Cycles, AllocError>
+pub fn on_cycle(alloc: Global, steps: &[&[usize]]) -> Result<Cycles, AllocError>
     requires { AreStepsWithin (rows_of steps.now) }
     ensures count { IfOk result (λ found. length found.marks.items ≡ length steps.now) }
     ensures marks { IfOk result (λ found. AreCycleMarks (rows_of steps.now) found.marks.items) }

@@ -1,26 +1,28 @@
 //! The least set of numbers that contains each number whose need it meets.
-ghost use Rattle.std.specs.Prelude.{◌≡◌, ◌↔◌, ℕ, ◌<◌, Bool, List, [], ◌∷◌, length, map, replicate, Contains, IfOk};
+ghost use Rattle.std.specs.Prelude.{◌≡◌, ◌↔◌, ℕ, ◌<◌, Bool, List, [], ◌∷◌, length, map, replicate, IfOk};
 ghost use Rattle.leastset.specs.Demands.{Demand, demand_of, demands_of, row_of, AreNeedsWithin, AreNeedsWithinTo, IsDerived};
-ghost use Rattle.leastset.specs.NeedCounts.{count_of, counts_of, Added, AreUsers, IsQueue, Told, IsComing};
+ghost use Rattle.leastset.specs.NeedCounts.{count_of, counts_of, AreUsers, IsQueue, Told, IsComing};
 ghost use Rattle.leastset.specs.Least.{AreThoseThatCome, AreMarksOfThose};
-ghost use Rattle.leastset.specs.StepRows.{rows_of, row_at};
+ghost use Rattle.leastset.specs.NumberMarks.{AreBelow};
+ghost use Rattle.leastset.specs.StepRows.{row_at};
+ghost use Rattle.leastset.specs.UserLists.{AreLists, AddsAll, HoldUsers, AreListsWithin};
 
 use crate::marks::marks_of;
 use crate::rows::are_below;
 use std::alloc::{AllocError, Global};
 
 /// What a number needs before it enters the set.
-#[derive(Drop)]
-pub enum Need {
+#[derive(Clone, Copy)]
+pub enum Need<'a> {
     /// All of these numbers must be in the set.
-    All(Vec<usize>),
+    All(&'a [usize]),
     /// One of these numbers must be in the set.
-    One(Vec<usize>),
+    One(&'a [usize]),
 }
 
-impl Need {
+impl<'a> Need<'a> {
     // Returns the numbers that it names.
-    fn row(&self) -> &[usize]
+    fn row(&self) -> &'a [usize]
         ensures { result.now ≡ row_of (demand_of self.now) }
     {
         match self {
@@ -62,47 +64,70 @@ fn counts(alloc: Global, needs: &[Need]) -> Result<Vec<usize>, AllocError>
     Ok(counts)
 }
 
-// Returns `count` empty rows.
-fn empty_rows(alloc: Global, count: usize) -> Result<Vec<Vec<usize>>, AllocError>
-    ensures { IfOk result (λ rows. rows_of rows.items ≡ replicate count []) }
-{
-    let mut rows = Vec::new(alloc);
-    for _ in 0..count {
-        rows.push(Vec::new(alloc))?;
-    }
-    Ok(rows)
+// An entry of a list.
+#[derive(Clone, Copy)]
+struct Link {
+    // The number that stands in the list.
+    user: usize,
+    // One more than the index of the next entry, or 0 at the end of the list.
+    next: usize,
 }
 
-// Adds `n` to the row of each number in `row`, which `n` needs.
-fn add_user(n: usize, row: &[usize], users: &mut [Vec<usize>]) -> Result<(), AllocError>
-    requires { (m : ℕ) → Contains row.now m → m < length users.old }
-    ensures { IfOk result (λ _. Added row.now n (rows_of users.old) (rows_of users.new)) }
-{
-    for m in row {
-        users[*m].push(n)?;
-    }
-    Ok(())
+// For each number the list of the numbers that need it, as often as they name it. The lists share one vector: a vector
+// for each of them would take several times the memory.
+#[derive(Drop)]
+struct Users {
+    // For each number one more than the index of its list's first entry, or 0 if its list is empty.
+    firsts: Vec<usize>,
+    // The entries of all lists.
+    links: Vec<Link>,
 }
 
-// Adds each number to the rows of the numbers that it needs.
-fn add_users(needs: &[Need], users: &mut [Vec<usize>]) -> Result<(), AllocError>
-    requires within { AreNeedsWithin (demands_of needs.now) }
-    requires empty { rows_of users.old ≡ replicate (length needs.now) [] }
-    ensures { IfOk result (λ _. AreUsers (demands_of needs.now) (rows_of users.new)) }
-{
-    for n in 0..needs.len() {
-        add_user(n, needs[n].row(), users)?;
+impl Users {
+    // Returns `count` empty lists.
+    fn new(alloc: Global, count: usize) -> Result<Users, AllocError>
+        ensures { IfOk result (λ users. AreLists users (replicate count [])) }
+    {
+        Ok(Users {
+            firsts: vec![in alloc; 0; count]?,
+            links: Vec::new(alloc),
+        })
     }
-    Ok(())
+
+    // Puts `n` before the list of `m`.
+    fn add(&mut self, m: usize, n: usize) -> Result<(), AllocError>
+        requires { m < length self.old.firsts.items }
+        ensures { IfOk result (λ _. AddsAll (m ∷ []) n self.old self.new) }
+    {
+        self.links.push(Link {
+            user: n,
+            next: self.firsts[m],
+        })?;
+        self.firsts[m] = self.links.len();
+        Ok(())
+    }
+
+    // Puts `n` before the list of each number in `row`, which `n` needs.
+    fn add_all(&mut self, n: usize, row: &[usize]) -> Result<(), AllocError>
+        requires { AreBelow row.now (length self.old.firsts.items) }
+        ensures { IfOk result (λ _. AddsAll row.now n self.old self.new) }
+    {
+        for m in row {
+            self.add(*m, n)?;
+        }
+        Ok(())
+    }
 }
 
-// Returns for each number the numbers that need it, as often as they name it.
-fn users_of(alloc: Global, needs: &[Need]) -> Result<Vec<Vec<usize>>, AllocError>
+// Returns for each number the list of the numbers that need it, as often as they name it.
+fn users_of(alloc: Global, needs: &[Need]) -> Result<Users, AllocError>
     requires { AreNeedsWithin (demands_of needs.now) }
-    ensures { IfOk result (λ users. AreUsers (demands_of needs.now) (rows_of users.items)) }
+    ensures { IfOk result (λ users. HoldUsers (demands_of needs.now) users) }
 {
-    let mut users = empty_rows(alloc, needs.len())?;
-    add_users(needs, &mut users)?;
+    let mut users = Users::new(alloc, needs.len())?;
+    for n in 0..needs.len() {
+        users.add_all(n, needs[n].row())?;
+    }
     Ok(users)
 }
 
@@ -135,28 +160,37 @@ fn lower(n: usize, left: &mut [usize], order: &mut Vec<usize>) -> Result<(), All
     Ok(())
 }
 
-// Takes one off what each of `users` still needs.
-fn tell(users: &[usize], left: &mut [usize], order: &mut Vec<usize>) -> Result<(), AllocError>
-    requires within { (n : ℕ) → Contains users.now n → n < length left.old }
+// Takes one off what each number of the list of `m` still needs.
+fn tell(
+    users: &Users,
+    m: usize,
+    left: &mut [usize],
+    order: &mut Vec<usize>,
+) -> Result<(), AllocError>
+    requires m { m < length users.now.firsts.items }
+    requires lists { AreListsWithin users.now (length left.old) }
     requires queue { IsQueue left.old order.old.items }
-    ensures { IfOk result (λ _. Told users.now left.old order.old.items left.new order.new.items) }
+    ensures { IfOk result (λ _. (rows : List (List ℕ)) → AreLists users.now rows → Told (row_at rows m) left.old order.old.items left.new order.new.items) }
 {
-    for n in users {
-        lower(*n, left, order)?;
+    let mut at = users.firsts[m];
+    while at > 0 {
+        let link = users.links[at - 1];
+        lower(link.user, left, order)?;
+        at = link.next;
     }
     Ok(())
 }
 
 // Goes through the order, which grows, and takes each number off what its users still need.
-fn run(users: &[Vec<usize>], left: &mut [usize], order: &mut Vec<usize>) -> Result<(), AllocError>
-    requires count { length users.now ≡ length left.old }
-    requires within { (m n : ℕ) → Contains (row_at (rows_of users.now) m) n → n < length left.old }
+fn run(users: &Users, left: &mut [usize], order: &mut Vec<usize>) -> Result<(), AllocError>
+    requires count { length users.now.firsts.items ≡ length left.old }
+    requires lists { AreListsWithin users.now (length left.old) }
     requires queue { IsQueue left.old order.old.items }
-    ensures { IfOk result (λ _. (needs : List Demand) → AreUsers needs (rows_of users.now) → IsComing needs left.old order.old.items 0 → IsDerived needs order.new.items) }
+    ensures { IfOk result (λ _. (needs : List Demand) (rows : List (List ℕ)) → AreLists users.now rows → AreUsers needs rows → IsComing needs left.old order.old.items 0 → IsDerived needs order.new.items) }
 {
     let mut place = 0;
     while place < order.len() {
-        tell(&users[order[place]], left, order)?;
+        tell(users, order[place], left, order)?;
         place += 1;
     }
     Ok(())

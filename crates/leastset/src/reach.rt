@@ -31,7 +31,7 @@ fn mark_all(row: &[usize], marks: &mut [bool], stack: &mut Vec<usize>) -> Result
 
 // Marks the numbers that chains of steps from `these` reach. Each is stacked once, when it is marked.
 fn spread(
-    steps: &[Vec<usize>],
+    steps: &[&[usize]],
     these: &[usize],
     marks: &mut [bool],
     stack: &mut Vec<usize>,
@@ -45,7 +45,7 @@ fn spread(
 {
     mark_all(these, marks, stack)?;
     while let Some(n) = stack.pop() {
-        mark_all(&steps[n], marks, stack)?;
+        mark_all(steps[n], marks, stack)?;
     }
     Ok(())
 }
@@ -56,11 +56,7 @@ fn spread(
 ///
 /// # Errors
 /// `AllocError` if an allocation fails.
-pub fn reached(
-    alloc: Global,
-    steps: &[Vec<usize>],
-    these: &[usize],
-) -> Result<Vec<bool>, AllocError>
+pub fn reached(alloc: Global, steps: &[&[usize]], these: &[usize]) -> Result<Vec<bool>, AllocError>
     requires within { AreStepsWithin (rows_of steps.now) }
     requires these { AreBelow these.now (length steps.now) }
     ensures count { IfOk result (λ marks. length marks.items ≡ length steps.now) }

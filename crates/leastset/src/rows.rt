@@ -16,7 +16,7 @@ pub fn are_below(these: &[usize], count: usize) -> bool
 }
 
 /// Returns whether each step leads to a number that has a row, which is a number less than `steps.len()`.
-pub fn are_within(steps: &[Vec<usize>]) -> bool
+pub fn are_within(steps: &[&[usize]]) -> bool
     ensures { (result ≡ Bool.true) ↔ AreStepsWithin (rows_of steps.now) }
 {
     for row in steps {

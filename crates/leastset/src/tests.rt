@@ -4,28 +4,9 @@ use crate::{
     Need, are_below, are_needs_within, are_within, derive, least, mark, marks_of, on_cycle,
     reached, some_marked,
 };
-use std::alloc::{AllocError, AllocGlobal, Global};
+use std::alloc::{AllocError, AllocGlobal};
 use std::process::Abort;
 use std::test::Fail;
-
-// Returns the rows as vectors.
-fn rows_of(alloc: Global, slices: &[&[usize]]) -> Result<Vec<Vec<usize>>, AllocError> {
-    let mut rows = Vec::new(alloc);
-    for slice in slices {
-        rows.push(Vec::from_slice(alloc, slice)?)?;
-    }
-    Ok(rows)
-}
-
-// Returns the needs: of all numbers of a row, or of one.
-fn needs_of(alloc: Global, slices: &[(bool, &[usize])]) -> Result<Vec<Need>, AllocError> {
-    let mut needs = Vec::new(alloc);
-    for (all, slice) in slices {
-        let row = Vec::from_slice(alloc, slice)?;
-        needs.push(if *all { Need::All(row) } else { Need::One(row) })?;
-    }
-    Ok(needs)
-}
 
 #[test]
 fn finds_cycles(rt: HostRuntime) -> Result<(), Fail> {
@@ -41,10 +22,9 @@ fn finds_cycles(rt: HostRuntime) -> Result<(), Fail> {
         // 0 leads to 1 and back, and by two ways to 3
         (&[&[1, 2], &[3, 0], &[3], &[]], &[true, true, false, false]),
     ];
-    for (slices, marks) in table {
-        let steps = rows_of(rt.alloc(), slices)?;
-        assert!(rt; are_within(&steps));
-        let found = on_cycle(rt.alloc(), &steps)?;
+    for (steps, marks) in table {
+        assert!(rt; are_within(steps));
+        let found = on_cycle(rt.alloc(), steps)?;
         assert!(rt; found.marks.as_slice() == marks);
         assert!(rt; found.ranks.len() == steps.len());
     }
@@ -53,33 +33,41 @@ fn finds_cycles(rt: HostRuntime) -> Result<(), Fail> {
 
 #[test]
 fn tells_which_number_comes_back(rt: HostRuntime) -> Result<(), Fail> {
-    let steps = rows_of(rt.alloc(), &[&[1], &[2], &[1]])?;
-    assert!(rt; are_within(&steps));
+    let steps: &[&[usize]] = &[&[1], &[2], &[1]];
+    assert!(rt; are_within(steps));
     assert!(rt; steps.len() == 3);
-    assert!(rt; !comes_back(rt.alloc(), &steps, 0)?);
-    assert!(rt; comes_back(rt.alloc(), &steps, 1)?);
+    assert!(rt; !comes_back(rt.alloc(), steps, 0)?);
+    assert!(rt; comes_back(rt.alloc(), steps, 1)?);
     Ok(())
 }
 
 #[test]
 fn finds_least_sets(rt: HostRuntime) -> Result<(), Fail> {
-    let table: [(&[(bool, &[usize])], &[bool], &[usize]); 3] = [
+    let table: [(&[Need], &[bool], &[usize]); 3] = [
         // 0 needs nothing, 1 one of 0 and 2, 2 needs 1 and 3, which can never enter
         (
-            &[(true, &[]), (false, &[0, 2]), (true, &[1, 3]), (false, &[])],
+            &[
+                Need::All(&[]),
+                Need::One(&[0, 2]),
+                Need::All(&[1, 3]),
+                Need::One(&[]),
+            ],
             &[true, true, false, false],
             &[0, 1],
         ),
         // two that need each other stay out
-        (&[(true, &[1]), (false, &[0])], &[false, false], &[]),
+        (&[Need::All(&[1]), Need::One(&[0])], &[false, false], &[]),
         // a number that is named twice is needed once
-        (&[(true, &[1, 1]), (true, &[])], &[true, true], &[1, 0]),
+        (
+            &[Need::All(&[1, 1]), Need::All(&[])],
+            &[true, true],
+            &[1, 0],
+        ),
     ];
-    for (slices, marks, order) in table {
-        let needs = needs_of(rt.alloc(), slices)?;
-        assert!(rt; are_needs_within(&needs));
-        assert!(rt; least(rt.alloc(), &needs)?.as_slice() == marks);
-        assert!(rt; derive(rt.alloc(), &needs)?.as_slice() == order);
+    for (needs, marks, order) in table {
+        assert!(rt; are_needs_within(needs));
+        assert!(rt; least(rt.alloc(), needs)?.as_slice() == marks);
+        assert!(rt; derive(rt.alloc(), needs)?.as_slice() == order);
     }
     Ok(())
 }
@@ -87,7 +75,7 @@ fn finds_least_sets(rt: HostRuntime) -> Result<(), Fail> {
 // Returns the marks of what steps reach from `these`, after the tests of what `reached` requires.
 fn reached_from<R: Abort + AllocGlobal>(
     rt: &R,
-    steps: &[Vec<usize>],
+    steps: &[&[usize]],
     these: &[usize],
 ) -> Result<Vec<bool>, AllocError> {
     assert!(rt; are_within(steps));
@@ -97,14 +85,14 @@ fn reached_from<R: Abort + AllocGlobal>(
 
 #[test]
 fn finds_what_steps_reach(rt: HostRuntime) -> Result<(), Fail> {
-    let steps = rows_of(rt.alloc(), &[&[1], &[0], &[1, 3], &[]])?;
+    let steps: &[&[usize]] = &[&[1], &[0], &[1, 3], &[]];
     let table: [(&[usize], &[bool]); 3] = [
         (&[], &[false, false, false, false]),
         (&[0], &[true, true, false, false]),
         (&[3, 2], &[true, true, true, true]),
     ];
     for (these, marks) in table {
-        assert!(rt; reached_from(&rt, &steps, these)?.as_slice() == marks);
+        assert!(rt; reached_from(&rt, steps, these)?.as_slice() == marks);
     }
     Ok(())
 }
@@ -121,10 +109,7 @@ fn sets_marks(rt: HostRuntime) -> Result<(), Fail> {
 }
 
 #[test]
-fn tells_tables_that_go_too_far(rt: HostRuntime) -> Result<(), Fail> {
-    let steps = rows_of(rt.alloc(), &[&[0], &[2]])?;
-    assert!(rt; !are_within(&steps));
-    let needs = needs_of(rt.alloc(), &[(true, &[0]), (false, &[2])])?;
-    assert!(rt; !are_needs_within(&needs));
-    Ok(())
+fn tells_tables_that_go_too_far(rt: HostRuntime) {
+    assert!(rt; !are_within(&[&[0], &[2]]));
+    assert!(rt; !are_needs_within(&[Need::All(&[0]), Need::One(&[2])]));
 }

@@ -20,7 +20,7 @@ named_rules-requires c =
     let is = ap length (ap rows_of c.deref.ensures.value ∙ c.in_ok-steps.ensures) in
     let size = length-map (shapes_of c.args.nodes.now) (steps_of c.args.bodies.now c.args.nulls.now) in
     let shapes = length-map c.args.nodes.now shape_of in
-    let rows = length-map c.deref.result.now (λ row. row.items) in
+    let rows = length-map c.deref.result.now (λ row. row.now) in
     let count = c.in_ok-found.ensures.count in
     let marks = ap length c.deref-2.ensures.value in
     omega (arith, is, size, shapes, rows, count, marks)

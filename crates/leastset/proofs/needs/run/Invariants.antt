@@ -1,15 +1,15 @@
-use Rattle.std.proofs.Common.{◌≡◌, ◌-◌, List, length}
+use Rattle.std.proofs.Common.{◌≡◌, ◌-◌, List, ℕ, length}
 use Rattle.leastset.specs.Demands.{Demand}
 use Rattle.leastset.specs.NeedCounts.{AreUsers, IsComing, IsQueue}
-use Rattle.leastset.specs.StepRows.{rows_of}
+use Rattle.leastset.specs.UserLists.{AreLists}
 use Rattle.leastset.proofs.needs.run.Given as goal
 
 abbrev pub invariant-loop-place : goal.invariant-loop-place
 invariant-loop-place l = record {
   count : length l.left ≡ length l.fn.left;
   queue : IsQueue l.left l.order.items;
-  coming : (needs : List Demand) → AreUsers needs (rows_of l.users) → IsComing needs l.fn.left l.fn.order.items 0 →
-      IsComing needs l.left l.order.items l.place;
+  coming : (needs : List Demand) (rows : List (List ℕ)) → AreLists l.users rows → AreUsers needs rows →
+      IsComing needs l.fn.left l.fn.order.items 0 → IsComing needs l.left l.order.items l.place;
 }
 
 abbrev pub decreases-loop-place : goal.decreases-loop-place

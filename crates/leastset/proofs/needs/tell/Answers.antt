@@ -1,16 +1,52 @@
-use Rattle.std.proofs.Common.{arith, refl}
-use Rattle.leastset.proofs.RowsOfLemmas as t
-use Rattle.leastset.proofs.ToldLemmas as o
+use Rattle.std.proofs.Common.{◌-◌, ◌<◌, length, arith, refl, sym, subst, ◌∙◌}
+use Rattle.std.proofs.lemmas.Option.{slice_get_read}
+use Rattle.leastset.specs.UserLists.{Chain}
+use Rattle.leastset.specs.StepRows.{row_at}
+use Rattle.leastset.proofs.AreListsLemmas as l
+use Rattle.leastset.proofs.ToldLemmas.{other_default}
 use Rattle.leastset.proofs.needs.tell.Goals as goal
+
+pub loop-at-init : goal.loop-at-init
+loop-at-init c = λ rows a.
+    let first = c.index-at.ensures ∙ other_default _ _ _ 0 c.requires.m in
+    l.telling_none _ _ _ _ _ (subst (λ v. Chain c.args.users.now.links.items v (row_at rows c.args.m)) (sym first)
+    (a.list c.args.m)) c.requires.queue
+
+pub index-link-requires : goal.index-link-requires
+index-link-requires c =
+    let le = l.telling_within _ _ _ _ _ _ _ (c.loop-at.invariant c.requires.lists.rows c.requires.lists.lists) in
+    let ok = c.args.users.now.links.ok.0 in
+    let more = c.loop-at-test.true in
+    omega (arith, le, ok, more)
 
 pub lower-requires-clause-within : goal.lower-requires-clause-within
 lower-requires-clause-within c =
-    let lt = t.within_at _ _ _ c.requires.within c.loop-n-test.true in
-    let l = c.loop-n.invariant.count in
-    omega (arith, lt, l)
+    let t = c.loop-at.invariant c.requires.lists.rows c.requires.lists.lists in
+    let le = l.telling_within _ _ _ _ _ _ _ t in
+    let more = c.loop-at-test.true in
+    let there : c.loop-at.at - 1 < length c.args.users.now.links.items = omega (arith, le, more) in
+    let at = slice_get_read _ _ _ _ refl there c.index-link.ensures in
+    let lt = c.requires.lists.within c.args.m _ (l.telling_user _ _ _ _ _ _ _ _ more at t) in
+    let k = t.told.count in
+    omega (arith, lt, k)
 
-pub loop-n-init : goal.loop-n-init
-loop-n-init c = o.told_none _ _ c.requires.queue
+pub loop-at-smaller : goal.loop-at-smaller
+loop-at-smaller c =
+    let t = c.loop-at.invariant c.requires.lists.rows c.requires.lists.lists in
+    let le = l.telling_within _ _ _ _ _ _ _ t in
+    let more = c.loop-at-test.true in
+    let there : c.loop-at.at - 1 < length c.args.users.now.links.items = omega (arith, le, more) in
+    let at = slice_get_read _ _ _ _ refl there c.index-link.ensures in
+    l.telling_falls _ _ _ _ _ _ _ _ more at t
 
-pub loop-n-preserved : goal.loop-n-preserved
-loop-n-preserved c = o.told_next _ _ _ _ _ _ _ _ _ c.loop-n-test.true refl c.loop-n.invariant c.in_ok-lower.ensures
+pub loop-at-preserved : goal.loop-at-preserved
+loop-at-preserved c = λ rows a.
+    let t = c.loop-at.invariant rows a in
+    let le = l.telling_within _ _ _ _ _ _ _ t in
+    let more = c.loop-at-test.true in
+    let there : c.loop-at.at - 1 < length c.args.users.now.links.items = omega (arith, le, more) in
+    let at = slice_get_read _ _ _ _ refl there c.index-link.ensures in
+    l.telling_next _ _ _ _ _ _ _ _ _ _ more at t c.in_ok-lower.ensures
+
+pub returns : goal.returns
+returns c = λ rows a. l.telling_done _ _ _ _ _ _ _ c.loop-at-test.false (c.loop-at.invariant rows a)

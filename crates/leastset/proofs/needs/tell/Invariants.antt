@@ -1,6 +1,11 @@
-use Rattle.std.proofs.Common.{take}
-use Rattle.leastset.specs.NeedCounts.{Told}
+use Rattle.std.proofs.Common.{List, ℕ}
+use Rattle.leastset.specs.StepRows.{row_at}
+use Rattle.leastset.specs.UserLists.{AreLists, IsTelling}
 use Rattle.leastset.proofs.needs.tell.Given as goal
 
-abbrev pub invariant-loop-n : goal.invariant-loop-n
-invariant-loop-n l = Told (take l.n-index l.users) l.initial.left l.initial.order.items l.left l.order.items
+abbrev pub invariant-loop-at : goal.invariant-loop-at
+invariant-loop-at l = (rows : List (List ℕ)) → AreLists l.users rows →
+    IsTelling l.users.links.items l.at (row_at rows l.m) l.initial.left l.initial.order.items l.left l.order.items
+
+abbrev pub decreases-loop-at : goal.decreases-loop-at
+decreases-loop-at l = l.at

@@ -26,7 +26,7 @@ mark_all-requires-in-Some c = λ m h.
     let top = s.top_in _ _ _ _ _ _ (c.in-Some.ensures).items c.loop-n.invariant in
     let l = t.length-rows c.args.steps.now in
     let below : c.in-Some.n < length c.args.steps.now = omega (arith, top, l) in
-    let row = t.row_items _ _ _ below c.index-steps-n.is ∙ sym c.deref.ensures.value in
+    let row = t.row_now _ _ below in
     let lt = c.requires.within.within _ m (subst (λ v. Contains v m) (sym row) h) in
     let k = c.loop-n.invariant.count in
     omega (arith, lt, k)
@@ -39,7 +39,7 @@ loop-n-preserved c =
     let top = s.top_in _ _ _ _ _ _ (c.in-Some.ensures).items c.loop-n.invariant in
     let l = t.length-rows c.args.steps.now in
     let below : c.in-Some.n < length c.args.steps.now = omega (arith, top, l) in
-    let row = t.row_items _ _ _ below c.index-steps-n.is ∙ sym c.deref.ensures.value in
+    let row = t.row_now _ _ below in
     s.spreading_next _ _ _ _ _ _ _ _ (c.in-Some.ensures).items c.loop-n.invariant (rw row c.in_ok-mark_all-2.ensures)
 
 pub returns-clause-marks : goal.returns-clause-marks

@@ -1,4 +1,4 @@
-use Rattle.std.proofs.Common.{◌<◌, arith, refl, sym, subst, ◌∙◌, ⊎_elim, Contains}
+use Rattle.std.proofs.Common.{◌<◌, arith, refl, sym, subst, ⊎_elim, Contains}
 use Rattle.std.proofs.lemmas.Bool.{cases_eq}
 use Rattle.leastset.specs.StepRows.{Step, rows_of}
 use Rattle.leastset.proofs.RowsOfLemmas as b
@@ -9,7 +9,7 @@ pub returns-then-not-are_below : goal.returns-then-not-are_below
 returns-then-not-are_below c = (
   λ e. absurd (cc e),
   λ h.
-      let row = b.row_items _ _ _ c.loop-row-test.true c.row-item.is ∙ sym c.deref.ensures.value in
+      let row = b.row_now _ _ c.loop-row-test.true in
       let rows = b.length-rows c.args.steps.now in
       let no = c.if-not-are_below.true in
       let yes = c.are_below.ensures.1
@@ -20,7 +20,7 @@ returns-then-not-are_below c = (
 pub loop-row-preserved : goal.loop-row-preserved
 loop-row-preserved c = λ n m lt step. ⊎_elim
     (λ is.
-    let row = b.row_items _ _ _ c.loop-row-test.true c.row-item.is ∙ sym c.deref.ensures.value in
+    let row = b.row_now _ _ c.loop-row-test.true in
     let rows = b.length-rows c.args.steps.now in
     let below = c.are_below.ensures.0 c.if-not-are_below.false m
     (subst (λ v. Contains v m) row (subst (λ v. Step (rows_of c.args.steps.now) v m) is step)) in

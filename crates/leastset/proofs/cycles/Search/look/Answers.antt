@@ -1,4 +1,4 @@
-use Rattle.std.proofs.Common.{◌<◌, length, arith, refl, sym, ◌∙◌}
+use Rattle.std.proofs.Common.{◌<◌, length, arith, refl}
 use Rattle.std.proofs.lemmas.Option.{slice_get_read}
 use Rattle.leastset.specs.Way.{way_of}
 use Rattle.leastset.proofs.RowsOfLemmas as b
@@ -13,7 +13,7 @@ returns-in_ok-open-in-New-clause-goes c =
     let at = slice_get_read _ _ _ _ refl lt c.index.ensures in
     let rows = b.length-rows c.args.steps.now in
     let below : c.args.target < length c.args.steps.now = omega (arith, within, rows) in
-    let row = b.row_items _ _ _ below c.index-steps-target.is ∙ sym c.deref.ensures.value in
+    let row = b.row_now _ _ below in
     t.on_new _ _ _ _ within c.requires.way c.requires.short (rw c.in-New.is at at)
     (rw row c.in_ok-open-in-New.ensures.opens)
 

@@ -1,4 +1,4 @@
-use Rattle.std.proofs.Common.{◌<◌, length, arith, refl, sym, ◌∙◌, ap}
+use Rattle.std.proofs.Common.{◌<◌, length, arith, refl, ◌∙◌, ap}
 use Rattle.std.proofs.lemmas.Option.{slice_get_read}
 use Rattle.std.proofs.lemmas.List.{length-set}
 use Rattle.leastset.specs.Way.{way_of, tally_of, Tally}
@@ -15,7 +15,7 @@ follow-requires-clause-way c =
     let at = slice_get_read _ _ _ _ refl lt c.index.ensures in
     let rows = b.length-rows c.args.steps.now in
     let below : c.args.n < length c.args.steps.now = omega (arith, within, rows) in
-    let row = b.row_items _ _ _ below c.index-steps-n.is ∙ sym c.deref.ensures.value in
+    let row = b.row_now _ _ below in
     t.opened_first _ (way_of c.args.self.now) _ c.args.n c.requires.through (rw c.in-New.is at at)
     (rw row c.in_ok-open.ensures.opens)
 
@@ -27,7 +27,7 @@ returns-in_ok-follow-clause-through c =
     let at = slice_get_read _ _ _ _ refl lt c.index.ensures in
     let rows = b.length-rows c.args.steps.now in
     let below : c.args.n < length c.args.steps.now = omega (arith, within, rows) in
-    let row = b.row_items _ _ _ below c.index-steps-n.is ∙ sym c.deref.ensures.value in
+    let row = b.row_now _ _ below in
     t.through_more _ (way_of c.args.self.now) _ _ c.args.n within c.requires.through (rw c.in-New.is at at)
     (rw row c.in_ok-open.ensures.opens) c.in_ok-follow.ensures.comes
 
