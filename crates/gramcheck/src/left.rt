@@ -2,7 +2,7 @@
 ghost use Rattle.std.specs.Prelude.{◌≡◌, ◌⊎◌, ℕ, ◌<◌, Bool, List, length, map, replicate, IfOk};
 ghost use Rattle.pegread.specs.Pattern.{Rule};
 ghost use Rattle.leastset.specs.NumberMarks.{IsMarked, AreBelow};
-ghost use Rattle.leastset.specs.StepRows.{rows_of};
+ghost use Rattle.leastset.specs.StepRows.{slices_of};
 ghost use Rattle.gramcheck.specs.Bodies.{AreBodies, IsBuilt, IsOperand};
 ghost use Rattle.gramcheck.specs.NodeRows.{front, steps_of, step_rows, MarksNames, IsLeft};
 ghost use Rattle.gramcheck.specs.Nodes.{Name, shape_of, shapes_of};
@@ -55,7 +55,7 @@ fn steps<'a>(
 ) -> Result<Vec<&'a [usize]>, Memory>
     requires built { IsBuilt (shapes_of nodes.now) }
     requires count { length nulls.now ≡ length nodes.now }
-    ensures { IfOk result (λ steps. rows_of steps.items ≡ step_rows bodies.now nulls.now (shapes_of nodes.now)) }
+    ensures { IfOk result (λ steps. slices_of steps.items ≡ step_rows bodies.now nulls.now (shapes_of nodes.now)) }
 {
     let mut steps = Vec::with_capacity(alloc, nodes.len())?;
     for node in nodes {

@@ -1,6 +1,6 @@
 -- Rows and needs of the code, read as lists.
 -- Serves: least, derive, reached, on_cycle
-use Rattle.std.proofs.Common.{◌≡◌, ℕ, zero, suc, ◌<◌, List, [], ◌∷◌, length, get_or, Contains, Some, refl, arith}
+use Rattle.std.proofs.Common.{◌≡◌, ℕ, zero, suc, ◌<◌, List, [], ◌∷◌, length, get_or, Contains, Some, refl, sym, ap, arith, Vec, Global}
 use Rattle.std.specs.Prelude.{slice_get}
 use Rattle.std.specs.Borrow.{Bor}
 use Rattle.std.proofs.lemmas.List.{length-map}
@@ -8,23 +8,33 @@ use Rattle.std.proofs.lemmas.List.Elements.{Contains-get_or}
 use Rattle.leastset.specs.declared.needs.Need.{Need}
 use Rattle.leastset.specs.declared.needs.Need.TheVariants as code
 use Rattle.leastset.specs.Demands.{demand_of, demands_of}
-use Rattle.leastset.specs.StepRows.{rows_of, row_at}
+use Rattle.leastset.specs.StepRows.{slices_of, rows_of, row_at}
 
--- the row past the end of a table of the code
-abbrev pub no_row : Bor (List ℕ)
-no_row = record { ref_ptr = (0, 0); now = [] }
+pub row_items : (rows : List (Vec ℕ Global)) (n : ℕ) (v : Vec ℕ Global) → n < length rows → v ≡ get_or rows n v →
+    row_at (rows_of rows) n ≡ v.items
+row_items [] n v lt is = absurd (omega arith)
+row_items (row ∷ rows) zero v lt is = ap (λ w. w.items) (sym is)
+row_items (row ∷ rows) (suc n) v lt is = let less : n < length rows = omega arith in row_items rows n v less is
 
-pub row_now : (rows : List (Bor (List ℕ))) (n : ℕ) → n < length rows → row_at (rows_of rows) n ≡ (get_or rows n no_row).now
-row_now [] n lt = absurd (omega arith)
-row_now (row ∷ rows) zero lt = refl
-row_now (row ∷ rows) (suc n) lt = let less : n < length rows = omega arith in row_now rows n less
+pub length-rows : (rows : List (Vec ℕ Global)) → length (rows_of rows) ≡ length rows
+length-rows rows = length-map rows (λ row. row.items)
 
-pub length-rows : (rows : List (Bor (List ℕ))) → length (rows_of rows) ≡ length rows
-length-rows rows = length-map rows (λ row. row.now)
+-- the slice past the end of a table of the code
+abbrev pub no_slice : Bor (List ℕ)
+no_slice = record { ref_ptr = (0, 0); now = [] }
+
+pub slice_now : (rows : List (Bor (List ℕ))) (n : ℕ) → n < length rows →
+    row_at (slices_of rows) n ≡ (get_or rows n no_slice).now
+slice_now [] n lt = absurd (omega arith)
+slice_now (row ∷ rows) zero lt = refl
+slice_now (row ∷ rows) (suc n) lt = let less : n < length rows = omega arith in slice_now rows n less
+
+pub length-slices : (rows : List (Bor (List ℕ))) → length (slices_of rows) ≡ length rows
+length-slices rows = length-map rows (λ row. row.now)
 
 -- the need past the end of a list of the code
 abbrev pub no_need : Need
-no_need = code.All no_row
+no_need = code.All no_slice
 
 pub demand_at : (needs : List Need) (n : ℕ) → n < length needs →
     slice_get (demands_of needs) n ≡ Some (demand_of (get_or needs n no_need))

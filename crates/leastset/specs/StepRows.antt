@@ -1,10 +1,15 @@
 -- Tables of rows: steps lead from each number to the numbers of its row.
 use Rattle.std.specs.Prelude.{ℕ, ◌<◌, List, [], length, map, slice_index_or, Contains}
 use Rattle.std.specs.Borrow.{Bor}
+use Rattle.std.proofs.Common.{Vec, Global}
 
--- the rows of a table of the code
-abbrev pub rows_of : List (Bor (List ℕ)) → List (List ℕ)
-rows_of rows = map (λ row. row.now) rows
+-- the rows of a table of slices
+abbrev pub slices_of : List (Bor (List ℕ)) → List (List ℕ)
+slices_of rows = map (λ row. row.now) rows
+
+-- the rows of a table of vectors
+abbrev pub rows_of : List (Vec ℕ Global) → List (List ℕ)
+rows_of rows = map (λ row. row.items) rows
 
 -- a row, empty where there is no such row
 abbrev pub row_at : List (List ℕ) → ℕ → List ℕ

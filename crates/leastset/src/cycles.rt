@@ -6,7 +6,7 @@
 ghost use Rattle.std.specs.Prelude.{◌≡◌, ℕ, ◌+◌, ◌<◌, ◌≤◌, List, [], ◌∷◌, ◌++◌, length, drop, Contains, Some, IfOk};
 ghost use Rattle.leastset.specs.Leads.{AreCycleMarks, AreRanksBut};
 ghost use Rattle.leastset.specs.NumberMarks.{AreBelow};
-ghost use Rattle.leastset.specs.StepRows.{rows_of, row_at, AreStepsWithin};
+ghost use Rattle.leastset.specs.StepRows.{slices_of, row_at, AreStepsWithin};
 ghost use Rattle.leastset.specs.Way.{Way, way_of, At, Opens, Joins, Meets, Finishes, Closes, GoesOn, IsKept, IsWay, IsOwing, IsSource, IsThrough, IsLast, AreShort, ComesToEnd, before_step, tally_of, SetsAll, Ranks, IsRanked, KeepsDone};
 ghost use Rattle.leastset.specs.declared.cycles.Place.TheVariants as place;
 
@@ -132,10 +132,10 @@ impl Search {
 
     // Takes the step to `target`, the last target ahead.
     fn look(&mut self, steps: &[&[usize]], target: usize) -> Result<(), AllocError>
-        requires within { target < length (rows_of steps.now) }
-        requires way { IsWay (rows_of steps.now) (before_step (way_of self.old) target) }
+        requires within { target < length (slices_of steps.now) }
+        requires way { IsWay (slices_of steps.now) (before_step (way_of self.old) target) }
         requires short { AreShort (way_of self.old) }
-        ensures goes { IfOk result (λ _. GoesOn (rows_of steps.now) (before_step (way_of self.old) target) (way_of self.new)) }
+        ensures goes { IfOk result (λ _. GoesOn (slices_of steps.now) (before_step (way_of self.old) target) (way_of self.new)) }
         ensures keeps { IfOk result (λ _. KeepsDone (way_of self.old) (way_of self.new)) }
         ensures tally { IfOk result (λ _. tally_of self.new ≡ tally_of self.old) }
     {
@@ -153,12 +153,12 @@ impl Search {
 
     // Takes one step from the last part, or ends the part if no target of it is ahead.
     fn go_on(&mut self, steps: &[&[usize]], last: Part) -> Result<(), AllocError>
-        requires within { AreStepsWithin (rows_of steps.now) }
-        requires way { IsWay (rows_of steps.now) (way_of self.old) }
+        requires within { AreStepsWithin (slices_of steps.now) }
+        requires way { IsWay (slices_of steps.now) (way_of self.old) }
         requires last { IsLast self.old.parts.items last }
-        requires ranked { IsRanked (rows_of steps.now) (way_of self.old) (tally_of self.old) }
-        ensures goes { IfOk result (λ _. GoesOn (rows_of steps.now) (way_of self.old) (way_of self.new)) }
-        ensures ranked { IfOk result (λ _. IsRanked (rows_of steps.now) (way_of self.new) (tally_of self.new)) }
+        requires ranked { IsRanked (slices_of steps.now) (way_of self.old) (tally_of self.old) }
+        ensures goes { IfOk result (λ _. GoesOn (slices_of steps.now) (way_of self.old) (way_of self.new)) }
+        ensures ranked { IfOk result (λ _. IsRanked (slices_of steps.now) (way_of self.new) (tally_of self.new)) }
     {
         if self.ahead.len() > last.rest {
             if let Some(target) = self.ahead.pop() {
@@ -173,11 +173,11 @@ impl Search {
 
     // Goes on until the path is empty.
     fn follow(&mut self, steps: &[&[usize]]) -> Result<(), AllocError>
-        requires within { AreStepsWithin (rows_of steps.now) }
-        requires way { IsWay (rows_of steps.now) (way_of self.old) }
-        requires ranked { IsRanked (rows_of steps.now) (way_of self.old) (tally_of self.old) }
-        ensures comes { IfOk result (λ _. ComesToEnd (rows_of steps.now) (way_of self.old) (way_of self.new)) }
-        ensures ranked { IfOk result (λ _. IsRanked (rows_of steps.now) (way_of self.new) (tally_of self.new)) }
+        requires within { AreStepsWithin (slices_of steps.now) }
+        requires way { IsWay (slices_of steps.now) (way_of self.old) }
+        requires ranked { IsRanked (slices_of steps.now) (way_of self.old) (tally_of self.old) }
+        ensures comes { IfOk result (λ _. ComesToEnd (slices_of steps.now) (way_of self.old) (way_of self.new)) }
+        ensures ranked { IfOk result (λ _. IsRanked (slices_of steps.now) (way_of self.new) (tally_of self.new)) }
     {
         while let Some(last) = self.parts.last() {
             let last = *last;
@@ -188,12 +188,12 @@ impl Search {
 
     // Searches from `n` if the search has not met it.
     fn search_from(&mut self, steps: &[&[usize]], n: usize) -> Result<(), AllocError>
-        requires n { n < length (rows_of steps.now) }
-        requires within { AreStepsWithin (rows_of steps.now) }
-        requires through { IsThrough (rows_of steps.now) (way_of self.old) n }
-        requires ranked { IsRanked (rows_of steps.now) (way_of self.old) (tally_of self.old) }
-        ensures through { IfOk result (λ _. IsThrough (rows_of steps.now) (way_of self.new) (n + 1)) }
-        ensures ranked { IfOk result (λ _. IsRanked (rows_of steps.now) (way_of self.new) (tally_of self.new)) }
+        requires n { n < length (slices_of steps.now) }
+        requires within { AreStepsWithin (slices_of steps.now) }
+        requires through { IsThrough (slices_of steps.now) (way_of self.old) n }
+        requires ranked { IsRanked (slices_of steps.now) (way_of self.old) (tally_of self.old) }
+        ensures through { IfOk result (λ _. IsThrough (slices_of steps.now) (way_of self.new) (n + 1)) }
+        ensures ranked { IfOk result (λ _. IsRanked (slices_of steps.now) (way_of self.new) (tally_of self.new)) }
     {
         if let Place::New = self.places[n] {
             self.open(n, steps[n])?;
@@ -204,8 +204,8 @@ impl Search {
 
     // Returns the state before the search.
     fn new(alloc: Global, steps: &[&[usize]]) -> Result<Search, AllocError>
-        ensures through { IfOk result (λ search. IsThrough (rows_of steps.now) (way_of search) 0) }
-        ensures ranked { IfOk result (λ search. IsRanked (rows_of steps.now) (way_of search) (tally_of search)) }
+        ensures through { IfOk result (λ search. IsThrough (slices_of steps.now) (way_of search) 0) }
+        ensures ranked { IfOk result (λ search. IsRanked (slices_of steps.now) (way_of search) (tally_of search)) }
     {
         Ok(Search {
             places: vec![in alloc; Place::New; steps.len()]?,
@@ -220,11 +220,11 @@ impl Search {
 
     // Searches from each number.
     fn search_all(&mut self, steps: &[&[usize]]) -> Result<(), AllocError>
-        requires within { AreStepsWithin (rows_of steps.now) }
-        requires through { IsThrough (rows_of steps.now) (way_of self.old) 0 }
-        requires ranked { IsRanked (rows_of steps.now) (way_of self.old) (tally_of self.old) }
-        ensures through { IfOk result (λ _. IsThrough (rows_of steps.now) (way_of self.new) (length (rows_of steps.now))) }
-        ensures ranked { IfOk result (λ _. IsRanked (rows_of steps.now) (way_of self.new) (tally_of self.new)) }
+        requires within { AreStepsWithin (slices_of steps.now) }
+        requires through { IsThrough (slices_of steps.now) (way_of self.old) 0 }
+        requires ranked { IsRanked (slices_of steps.now) (way_of self.old) (tally_of self.old) }
+        ensures through { IfOk result (λ _. IsThrough (slices_of steps.now) (way_of self.new) (length (slices_of steps.now))) }
+        ensures ranked { IfOk result (λ _. IsRanked (slices_of steps.now) (way_of self.new) (tally_of self.new)) }
     {
         for n in 0..steps.len() {
             self.search_from(steps, n)?;
@@ -250,10 +250,10 @@ pub struct Cycles {
 /// # Errors
 /// `AllocError` if an allocation fails.
 pub fn on_cycle(alloc: Global, steps: &[&[usize]]) -> Result<Cycles, AllocError>
-    requires { AreStepsWithin (rows_of steps.now) }
+    requires { AreStepsWithin (slices_of steps.now) }
     ensures count { IfOk result (λ found. length found.marks.items ≡ length steps.now) }
-    ensures marks { IfOk result (λ found. AreCycleMarks (rows_of steps.now) found.marks.items) }
-    ensures ranks { IfOk result (λ found. AreRanksBut (rows_of steps.now) found.marks.items found.ranks.items) }
+    ensures marks { IfOk result (λ found. AreCycleMarks (slices_of steps.now) found.marks.items) }
+    ensures ranks { IfOk result (λ found. AreRanksBut (slices_of steps.now) found.marks.items found.ranks.items) }
 {
     let mut search = Search::new(alloc, steps)?;
     search.search_all(steps)?;

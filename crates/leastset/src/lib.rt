@@ -13,7 +13,7 @@ pub use cycles::{Cycles, on_cycle};
 pub use marks::{mark, marks_of, some_marked};
 pub use needs::{Need, are_needs_within, derive, least};
 pub use reach::reached;
-pub use rows::{are_below, are_within};
+pub use rows::{are_below, are_within, slices};
 
 #[cfg(test)]
 mod calling;

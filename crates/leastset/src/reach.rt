@@ -2,7 +2,7 @@
 ghost use Rattle.std.specs.Prelude.{◌≡◌, ℕ, ◌<◌, Bool, List, [], ◌∷◌, length, replicate, IfOk};
 ghost use Rattle.leastset.specs.NumberMarks.{AreBelow};
 ghost use Rattle.leastset.specs.Reach.{Stacks, AreReachedFrom};
-ghost use Rattle.leastset.specs.StepRows.{rows_of, AreStepsWithin};
+ghost use Rattle.leastset.specs.StepRows.{slices_of, AreStepsWithin};
 
 use std::alloc::{AllocError, Global};
 
@@ -36,12 +36,12 @@ fn spread(
     marks: &mut [bool],
     stack: &mut Vec<usize>,
 ) -> Result<(), AllocError>
-    requires within { AreStepsWithin (rows_of steps.now) }
+    requires within { AreStepsWithin (slices_of steps.now) }
     requires these { AreBelow these.now (length steps.now) }
     requires fresh { marks.old ≡ replicate (length steps.now) Bool.false }
     requires stack { stack.old.items ≡ [] }
     ensures count { IfOk result (λ _. length marks.new ≡ length steps.now) }
-    ensures marks { IfOk result (λ _. AreReachedFrom (rows_of steps.now) these.now marks.new) }
+    ensures marks { IfOk result (λ _. AreReachedFrom (slices_of steps.now) these.now marks.new) }
 {
     mark_all(these, marks, stack)?;
     while let Some(n) = stack.pop() {
@@ -57,10 +57,10 @@ fn spread(
 /// # Errors
 /// `AllocError` if an allocation fails.
 pub fn reached(alloc: Global, steps: &[&[usize]], these: &[usize]) -> Result<Vec<bool>, AllocError>
-    requires within { AreStepsWithin (rows_of steps.now) }
+    requires within { AreStepsWithin (slices_of steps.now) }
     requires these { AreBelow these.now (length steps.now) }
     ensures count { IfOk result (λ marks. length marks.items ≡ length steps.now) }
-    ensures marks { IfOk result (λ marks. AreReachedFrom (rows_of steps.now) these.now marks.items) }
+    ensures marks { IfOk result (λ marks. AreReachedFrom (slices_of steps.now) these.now marks.items) }
 {
     let mut marks = vec![in alloc; false; steps.len()]?;
     let mut stack = Vec::new(alloc);

@@ -2,7 +2,7 @@
 use crate::calling::comes_back;
 use crate::{
     Need, are_below, are_needs_within, are_within, derive, least, mark, marks_of, on_cycle,
-    reached, some_marked,
+    reached, slices, some_marked,
 };
 use std::alloc::{AllocError, AllocGlobal};
 use std::process::Abort;
@@ -94,6 +94,18 @@ fn finds_what_steps_reach(rt: HostRuntime) -> Result<(), Fail> {
     for (these, marks) in table {
         assert!(rt; reached_from(&rt, steps, these)?.as_slice() == marks);
     }
+    Ok(())
+}
+
+#[test]
+fn borrows_rows_that_are_vectors(rt: HostRuntime) -> Result<(), Fail> {
+    let mut rows = Vec::new(rt.alloc());
+    rows.push(Vec::from_slice(rt.alloc(), &[1, 0])?)?;
+    rows.push(Vec::new(rt.alloc()))?;
+    let steps = slices(rt.alloc(), &rows)?;
+    assert!(rt; steps.len() == 2);
+    assert!(rt; steps[0] == [1, 0].as_slice());
+    assert!(rt; steps[1].is_empty());
     Ok(())
 }
 

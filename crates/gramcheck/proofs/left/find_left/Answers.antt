@@ -1,7 +1,7 @@
 use Rattle.std.proofs.Common.{arith, length, ap, refl, subst, sym, ◌∙◌}
 use Rattle.std.proofs.lemmas.List.{length-map}
 use Rattle.leastset.specs.Leads.{AreCycleMarks, AreRanksBut}
-use Rattle.leastset.specs.StepRows.{rows_of, AreStepsWithin}
+use Rattle.leastset.specs.StepRows.{slices_of, AreStepsWithin}
 use Rattle.gramcheck.specs.NodeRows.{steps_of, step_rows}
 use Rattle.gramcheck.specs.Nodes.{shape_of, shapes_of}
 use Rattle.gramcheck.proofs.ComesBackLemmas as b
@@ -10,14 +10,14 @@ use Rattle.gramcheck.proofs.left.find_left.Goals as goal
 
 pub on_cycle-requires : goal.on_cycle-requires
 on_cycle-requires c =
-    let is = ap rows_of c.deref.ensures.value ∙ c.in_ok-steps.ensures in
+    let is = ap slices_of c.deref.ensures.value ∙ c.in_ok-steps.ensures in
     subst AreStepsWithin (sym is)
     (b.step_within c.args.bodies.now c.args.nulls.now (shapes_of c.args.nodes.now) c.requires.built _
     (sym (length-map c.args.nodes.now shape_of)) c.requires.bodies)
 
 pub named_rules-requires : goal.named_rules-requires
 named_rules-requires c =
-    let is = ap length (ap rows_of c.deref.ensures.value ∙ c.in_ok-steps.ensures) in
+    let is = ap length (ap slices_of c.deref.ensures.value ∙ c.in_ok-steps.ensures) in
     let size = length-map (shapes_of c.args.nodes.now) (steps_of c.args.bodies.now c.args.nulls.now) in
     let shapes = length-map c.args.nodes.now shape_of in
     let rows = length-map c.deref.result.now (λ row. row.now) in
@@ -27,7 +27,7 @@ named_rules-requires c =
 
 pub returns : goal.returns
 returns c = λ rules are nulls.
-    let is = ap rows_of c.deref.ensures.value ∙ c.in_ok-steps.ensures in
+    let is = ap slices_of c.deref.ensures.value ∙ c.in_ok-steps.ensures in
     let cycles = subst (λ v. AreCycleMarks v c.in_ok-found.found.marks.items) is c.in_ok-found.ensures.marks in
     let falls = subst (λ v. AreRanksBut v c.in_ok-found.found.marks.items c.in_ok-found.found.ranks.items) is
     c.in_ok-found.ensures.ranks in

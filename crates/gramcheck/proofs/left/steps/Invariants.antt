@@ -1,8 +1,8 @@
 use Rattle.std.proofs.Common.{◌≡◌, take}
-use Rattle.leastset.specs.StepRows.{rows_of}
+use Rattle.leastset.specs.StepRows.{slices_of}
 use Rattle.gramcheck.specs.NodeRows.{step_rows}
 use Rattle.gramcheck.specs.Nodes.{shapes_of}
 use Rattle.gramcheck.proofs.left.steps.Given as goal
 
 abbrev pub invariant-loop-node : goal.invariant-loop-node
-invariant-loop-node l = rows_of l.steps.items ≡ step_rows l.bodies l.nulls (shapes_of (take l.node-index l.nodes))
+invariant-loop-node l = slices_of l.steps.items ≡ step_rows l.bodies l.nulls (shapes_of (take l.node-index l.nodes))

@@ -9,13 +9,13 @@ mark_all-requires c = λ m h. let lt = c.requires.these m h in let l = ap length
     let k = length-replicate (length c.args.steps.now) false in omega (arith, lt, l, k)
 
 pub loop-n-init : goal.loop-n-init
-loop-n-init c = s.spreading_start _ _ (length c.args.steps.now) _ _ _ _ (sym (t.length-rows _))
+loop-n-init c = s.spreading_start _ _ (length c.args.steps.now) _ _ _ _ (sym (t.length-slices _))
     (ap length c.requires.fresh ∙ length-replicate _ false) c.requires.fresh c.requires.stack c.in_ok-mark_all.ensures
 
 pub bounds-steps-n : goal.bounds-steps-n
 bounds-steps-n c =
     let lt = s.top_in _ _ _ _ _ _ (c.in-Some.ensures).items c.loop-n.invariant in
-    let l = t.length-rows c.args.steps.now in
+    let l = t.length-slices c.args.steps.now in
     omega (arith, lt, l)
 
 pub offset_bounds-steps-n : goal.offset_bounds-steps-n
@@ -24,9 +24,9 @@ offset_bounds-steps-n c = let lt = bounds-steps-n c in search (rules, lt)
 pub mark_all-requires-in-Some : goal.mark_all-requires-in-Some
 mark_all-requires-in-Some c = λ m h.
     let top = s.top_in _ _ _ _ _ _ (c.in-Some.ensures).items c.loop-n.invariant in
-    let l = t.length-rows c.args.steps.now in
+    let l = t.length-slices c.args.steps.now in
     let below : c.in-Some.n < length c.args.steps.now = omega (arith, top, l) in
-    let row = t.row_now _ _ below in
+    let row = t.slice_now _ _ below in
     let lt = c.requires.within.within _ m (subst (λ v. Contains v m) (sym row) h) in
     let k = c.loop-n.invariant.count in
     omega (arith, lt, k)
@@ -37,9 +37,9 @@ loop-n-smaller c = rw (c.in-Some.ensures).items (s.falls _ _ _ _ (c.in_ok-mark_a
 pub loop-n-preserved : goal.loop-n-preserved
 loop-n-preserved c =
     let top = s.top_in _ _ _ _ _ _ (c.in-Some.ensures).items c.loop-n.invariant in
-    let l = t.length-rows c.args.steps.now in
+    let l = t.length-slices c.args.steps.now in
     let below : c.in-Some.n < length c.args.steps.now = omega (arith, top, l) in
-    let row = t.row_now _ _ below in
+    let row = t.slice_now _ _ below in
     s.spreading_next _ _ _ _ _ _ _ _ (c.in-Some.ensures).items c.loop-n.invariant (rw row c.in_ok-mark_all-2.ensures)
 
 pub returns-clause-marks : goal.returns-clause-marks
@@ -47,4 +47,4 @@ returns-clause-marks c = s.spreading_done _ _ _ _ (let e = (c.in_default.ensures
     let k = c.loop-n.stack.ok.0 in omega (arith, e, k)) c.loop-n.invariant
 
 pub returns-clause-count : goal.returns-clause-count
-returns-clause-count c = c.loop-n.invariant.count ∙ t.length-rows _
+returns-clause-count c = c.loop-n.invariant.count ∙ t.length-slices _

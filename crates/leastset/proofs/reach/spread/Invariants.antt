@@ -1,10 +1,10 @@
 use Rattle.std.proofs.Common.{◌+◌, length}
 use Rattle.leastset.specs.Reach.{IsSpreading, unset}
-use Rattle.leastset.specs.StepRows.{rows_of}
+use Rattle.leastset.specs.StepRows.{slices_of}
 use Rattle.leastset.proofs.reach.spread.Given as goal
 
 abbrev pub invariant-loop-n : goal.invariant-loop-n
-invariant-loop-n l = IsSpreading (rows_of l.steps) l.these l.marks l.stack.items
+invariant-loop-n l = IsSpreading (slices_of l.steps) l.these l.marks l.stack.items
 
 abbrev pub decreases-loop-n : goal.decreases-loop-n
 decreases-loop-n l = unset l.marks + length l.stack.items

@@ -1,15 +1,15 @@
 use Rattle.std.proofs.Common.{ℕ}
-use Rattle.leastset.specs.StepRows.{rows_of}
+use Rattle.leastset.specs.StepRows.{slices_of}
 use Rattle.leastset.specs.Way.{At, IsWay, IsRanked, way_of, tally_of, turns}
 use Rattle.leastset.specs.declared.cycles.Place.TheVariants as place
 use Rattle.leastset.proofs.cycles.Search.follow.Given as goal
 
 abbrev pub invariant-loop-last : goal.invariant-loop-last
 invariant-loop-last l = record {
-  way : IsWay (rows_of l.steps) (way_of l.self);
-  ranked : IsRanked (rows_of l.steps) (way_of l.self) (tally_of l.self);
+  way : IsWay (slices_of l.steps) (way_of l.self);
+  ranked : IsRanked (slices_of l.steps) (way_of l.self) (tally_of l.self);
   fresh : (n : ℕ) → At l.self.places.items n place.New → At l.initial.self.places.items n place.New;
 }
 
 abbrev pub decreases-loop-last : goal.decreases-loop-last
-decreases-loop-last l = turns (rows_of l.steps) (way_of l.self)
+decreases-loop-last l = turns (slices_of l.steps) (way_of l.self)

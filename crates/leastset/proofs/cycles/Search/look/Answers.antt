@@ -11,9 +11,9 @@ returns-in_ok-open-in-New-clause-goes c =
     let size = c.requires.way.kept.places in
     let lt : c.args.target < length c.args.self.now.places.items = omega (arith, within, size) in
     let at = slice_get_read _ _ _ _ refl lt c.index.ensures in
-    let rows = b.length-rows c.args.steps.now in
+    let rows = b.length-slices c.args.steps.now in
     let below : c.args.target < length c.args.steps.now = omega (arith, within, rows) in
-    let row = b.row_now _ _ below in
+    let row = b.slice_now _ _ below in
     t.on_new _ _ _ _ within c.requires.way c.requires.short (rw c.in-New.is at at)
     (rw row c.in_ok-open-in-New.ensures.opens)
 

@@ -13,9 +13,9 @@ follow-requires-clause-way c =
     let size = c.requires.through.way.kept.places in
     let lt : c.args.n < length c.args.self.now.places.items = omega (arith, within, size) in
     let at = slice_get_read _ _ _ _ refl lt c.index.ensures in
-    let rows = b.length-rows c.args.steps.now in
+    let rows = b.length-slices c.args.steps.now in
     let below : c.args.n < length c.args.steps.now = omega (arith, within, rows) in
-    let row = b.row_now _ _ below in
+    let row = b.slice_now _ _ below in
     t.opened_first _ (way_of c.args.self.now) _ c.args.n c.requires.through (rw c.in-New.is at at)
     (rw row c.in_ok-open.ensures.opens)
 
@@ -25,9 +25,9 @@ returns-in_ok-follow-clause-through c =
     let size = c.requires.through.way.kept.places in
     let lt : c.args.n < length c.args.self.now.places.items = omega (arith, within, size) in
     let at = slice_get_read _ _ _ _ refl lt c.index.ensures in
-    let rows = b.length-rows c.args.steps.now in
+    let rows = b.length-slices c.args.steps.now in
     let below : c.args.n < length c.args.steps.now = omega (arith, within, rows) in
-    let row = b.row_now _ _ below in
+    let row = b.slice_now _ _ below in
     t.through_more _ (way_of c.args.self.now) _ _ c.args.n within c.requires.through (rw c.in-New.is at at)
     (rw row c.in_ok-open.ensures.opens) c.in_ok-follow.ensures.comes
 
