@@ -13,7 +13,8 @@ use Rattle.std.proofs.lemmas.Simd.{map-map}
 use Rattle.std.specs.Option.{option_map}
 use Rattle.ruletable.specs.Rules.{Rules, names_of}
 use Rattle.std.proofs.lemmas.List.Folds.{list_any-append, list_any_at}
-use Rattle.ruletable.specs.Notes.{Said, Redefined, Undefined, Unused, LeftRecursion, Loop}
+use Rattle.ruletable.specs.Notes.{Said, said}
+use Rattle.ruletable.specs.declared.note.NoteKind.TheVariants.{Redefined, Undefined, Unused, LeftRecursion, Loop}
 use Rattle.pegread.specs.Pattern.{Rule}
 use Rattle.gramcheck.specs.Left.{IsLeftRecursive, Loops}
 use Rattle.gramcheck.specs.Notes.{start_of, IsUnused, names_at, AreNotes, AreRedefinitions, AreMarks, chosen}
@@ -157,12 +158,12 @@ module _ (rules : List Rule) (start : Option (List ℕ)) (names : Rules (Unit {0
   told-of : (f : List ℕ → Said) (marks : List Bool) → map f (chosen marks (rule_names rules)) ≡ map (λ rule. f rule.name) (chosen marks rules)
   told-of f marks = ap (map f) (chosen-map (λ rule. rule.name) marks rules) ∙ map-map f (λ rule. rule.name) (chosen marks rules)
 
-  pub are-notes : (ids : List ℕ) (again recursive looping : List Bool) (said : List Said) → AreMarks (λ rule. Contains (names_at rules ids) rule.name) rules again →
+  pub are-notes : (ids : List ℕ) (again recursive looping : List Bool) (notes : List Said) → AreMarks (λ rule. Contains (names_at rules ids) rule.name) rules again →
       AreMarks (IsLeftRecursive rules) rules recursive → AreMarks (Loops rules) rules looping →
-      said ≡ map Redefined (chosen again (rule_names rules)) ++ (map Undefined (drop (length rules) (names_of names)) ++ (map Unused (chosen unused (rule_names rules))
-      ++ (map LeftRecursion (chosen recursive (rule_names rules)) ++ map Loop (chosen looping (rule_names rules))))) →
-      AreNotes rules (names_at rules ids) start said
-  are-notes ids again recursive looping said redefined lefts loops h = record {
+      notes ≡ map (said Redefined) (chosen again (rule_names rules)) ++ (map (said Undefined) (drop (length rules) (names_of names)) ++ (map (said Unused) (chosen unused (rule_names rules))
+      ++ (map (said LeftRecursion) (chosen recursive (rule_names rules)) ++ map (said Loop) (chosen looping (rule_names rules))))) →
+      AreNotes rules (names_at rules ids) start notes
+  are-notes ids again recursive looping notes redefined lefts loops h = record {
     redefined = chosen again rules;
     unused = chosen unused rules;
     recursive = chosen recursive rules;
@@ -171,7 +172,7 @@ module _ (rules : List Rule) (start : Option (List ℕ)) (names : Rules (Unit {0
     are_unused = those-chosen _ rules unused marks-unused;
     are_recursive = those-chosen _ rules recursive lefts;
     are_looping = those-chosen _ rules looping loops;
-    all = h ∙ rw (told-of Redefined again, undefined-names, told-of Unused unused, told-of LeftRecursion recursive, told-of Loop looping) refl;
+    all = h ∙ rw (told-of (said Redefined) again, undefined-names, told-of (said Unused) unused, told-of (said LeftRecursion) recursive, told-of (said Loop) looping) refl;
   }
 
 -- one kind of notes after another
@@ -181,10 +182,10 @@ joined n a b c d e ka kb kc kd ke hn ha hb hc hd he = rw (he, hd, hc, hb, ha, hn
 
 -- the notes on rules that are defined again, alone
 pub redefinitions-are : (rules : List Rule) (own : (id : ℕ) (name : List ℕ) → slice_get (rule_names rules) id ≡ Some name → position (bytes_eq name) (rule_names rules) ≡ Some id) (ids : List ℕ)
-    (again : List Bool) (said : List Said) → AreMarks (λ rule. Contains (names_at rules ids) rule.name) rules again → said ≡ map Redefined (chosen again (rule_names rules)) →
-    AreRedefinitions rules (names_at rules ids) said
-redefinitions-are rules own ids again said marks h = record {
+    (again : List Bool) (notes : List Said) → AreMarks (λ rule. Contains (names_at rules ids) rule.name) rules again → notes ≡ map (said Redefined) (chosen again (rule_names rules)) →
+    AreRedefinitions rules (names_at rules ids) notes
+redefinitions-are rules own ids again notes marks h = record {
   redefined = chosen again rules;
   are_redefined = those-chosen _ rules again marks;
-  all = h ∙ ap (map Redefined) (chosen-map (λ rule. rule.name) again rules) ∙ map-map Redefined (λ rule. rule.name) (chosen again rules);
+  all = h ∙ ap (map (said Redefined)) (chosen-map (λ rule. rule.name) again rules) ∙ map-map (said Redefined) (λ rule. rule.name) (chosen again rules);
 }

@@ -7,7 +7,8 @@ use Rattle.std.proofs.lemmas.List.Elements.{Contains-append_left, Contains-appen
 use Rattle.std.proofs.lemmas.List.Folds.{list_any-append}
 use Rattle.std.proofs.lemmas.List.Quantifiers.{position-Some}
 use Rattle.std.proofs.lemmas.Option.{slice_get-get_or, slice_get-map, slice_get_within}
-use Rattle.ruletable.specs.Notes.{Said, Redefined, Undefined, Unused, LeftRecursion, Loop, refuses}
+use Rattle.ruletable.specs.Notes.{Said, said}
+use Rattle.ruletable.specs.declared.note.NoteKind.TheVariants.{Redefined, Undefined, Unused, LeftRecursion, Loop}
 use Rattle.ruletable.specs.Rules as table
 use Rattle.ruletable.specs.Rules.{find_in, HasUniqueNames}
 use Rattle.ruletable.specs.declared.table.NameCase.TheVariants.{Exact}
@@ -24,7 +25,7 @@ use Rattle.gramcheck.specs.Defined.{IsGiven}
 use Rattle.gramcheck.specs.Left.{IsLeftRecursive, Loops}
 use Rattle.leastset.specs.NumberMarks.{IsMarked}
 use Rattle.gramcheck.specs.Nodes.{Shape, id_of}
-use Rattle.gramcheck.specs.Notes.{Those, no_more, not_this, AreNotes, AreMarks}
+use Rattle.gramcheck.specs.Notes.{Those, no_more, not_this, AreNotes, AreMarks, said_refuses}
 use Rattle.gramcheck.specs.Numbering.{AreStanding}
 use Rattle.gramcheck.specs.Sound.{IsRanked}
 use Rattle.gramcheck.specs.Uses.{names_in, names_in_all, names_used, rule_names, is_among, news}
@@ -56,9 +57,9 @@ quiet : {X : Type 0} (p : X → Bool) (xs ys : List X) → list_any p (xs ++ ys)
 quiet p xs ys h = neither (list_any p xs) (list_any p ys) (sym (list_any-append p xs ys) ∙ h)
 
 -- where each of them would refuse, there are none
-none-mapped : {X : Type 0} (f : X → Said) (xs : List X) → ((x : X) → refuses (f x) ≡ true) → list_any refuses (map f xs) ≡ false → xs ≡ []
+none-mapped : {X : Type 0} (f : X → Said) (xs : List X) → ((x : X) → said_refuses (f x) ≡ true) → list_any said_refuses (map f xs) ≡ false → xs ≡ []
 none-mapped f [] h e = refl
-none-mapped f (x ∷ xs) h e = absurd (let two = neither (refuses (f x)) (list_any refuses (map f xs)) e in let is = h x in cc)
+none-mapped f (x ∷ xs) h e = absurd (let two = neither (said_refuses (f x)) (list_any said_refuses (map f xs)) e in let is = h x in cc)
 
 those-none : {A : Type 0} (P : A → Type 0) (xs : List A) → Those P xs [] → (id : ℕ) (x : A) → slice_get xs id ≡ Some x → P x → ⊥
 those-none P [] no_more id x there h = cc
@@ -127,14 +128,14 @@ module _ (rules : List Rule) (again : List (List ℕ)) (start : Option (List ℕ
 
   parts : Passes
   parts =
-      let one = quiet refuses (map (λ (rule : Rule). Redefined rule.name) are.redefined) _ (sym (ap (list_any refuses) are.all) ∙ passes) in
-      let two = quiet refuses (map Undefined undefined) _ one.1 in
-      let three = quiet refuses (map (λ (rule : Rule). Unused rule.name) are.unused) _ two.1 in
-      let four = quiet refuses (map (λ (rule : Rule). LeftRecursion rule.name) are.recursive) _ three.1 in
+      let one = quiet said_refuses (map (λ (rule : Rule). said Redefined rule.name) are.redefined) _ (sym (ap (list_any said_refuses) are.all) ∙ passes) in
+      let two = quiet said_refuses (map (said Undefined) undefined) _ one.1 in
+      let three = quiet said_refuses (map (λ (rule : Rule). said Unused rule.name) are.unused) _ two.1 in
+      let four = quiet said_refuses (map (λ (rule : Rule). said LeftRecursion rule.name) are.recursive) _ three.1 in
       record {
-        no_undefined = none-mapped Undefined undefined (λ x. refl) two.0;
-        no_recursive = none-mapped (λ (rule : Rule). LeftRecursion rule.name) are.recursive (λ x. refl) four.0;
-        no_looping = none-mapped (λ (rule : Rule). Loop rule.name) are.looping (λ x. refl) four.1;
+        no_undefined = none-mapped (said Undefined) undefined (λ x. refl) two.0;
+        no_recursive = none-mapped (λ (rule : Rule). said LeftRecursion rule.name) are.recursive (λ x. refl) four.0;
+        no_looping = none-mapped (λ (rule : Rule). said Loop rule.name) are.looping (λ x. refl) four.1;
       }
 
   known : (word : List ℕ) → Contains (option_to_list start ++ names_used rules) word → id_of rules word < length rules

@@ -4,7 +4,8 @@ use Rattle.std.proofs.lemmas.Bool.{both_ways}
 use Rattle.std.specs.Option.{unwrap_or}
 use Rattle.std.specs.Str.{bytes_eq}
 use Rattle.std.specs.Prelude.{codes}
-use Rattle.ruletable.specs.Notes.{Undefined, Unused}
+use Rattle.ruletable.specs.Notes.{said}
+use Rattle.ruletable.specs.declared.note.NoteKind.TheVariants.{Undefined, Unused}
 use Rattle.pegread.specs.Pattern.{Pattern, Any, Bytes, Name, Seq, Choice, Star, And, none, more, Rule}
 use Rattle.gramcheck.specs.Left.{LeftChain, one_step, more_steps}
 use Rattle.gramcheck.specs.Notes.{AreNotes, no_more, this_one, not_this}
@@ -33,7 +34,7 @@ no_step : {e : Pattern} → LeftChain (any_rule ∷ []) Any e → ⊥
 no_step (one_step s) = elim s [ ]
 no_step (more_steps c s) = no_step c
 
-start_without_rule : AreNotes (any_rule ∷ []) [] (Some (codes "T")) (Undefined (codes "T") ∷ Unused (codes "S") ∷ [])
+start_without_rule : AreNotes (any_rule ∷ []) [] (Some (codes "T")) (said Undefined (codes "T") ∷ said Unused (codes "S") ∷ [])
 start_without_rule = record {
   redefined = [];
   unused = any_rule ∷ [];

@@ -1,14 +1,15 @@
 -- What the checks of a grammar give.
 use Rattle.std.specs.Prelude.{◌≡◌, ℕ, Bool, List, slice_get, Option, Some}
 use Rattle.std.specs.List.{list_any}
-use Rattle.ruletable.specs.Notes.{Said, refuses}
+use Rattle.ruletable.specs.Notes.{Said}
+use Rattle.gramcheck.specs.Notes.{said_refuses}
 use Rattle.pegread.specs.Pattern.{Rule}
 use Rattle.gramcheck.specs.Notes.{start_of}
 use Rattle.gramcheck.specs.Uses.{rule_names}
 
 -- whether a grammar on which there are these notes is refused: one of them is no note on a rule that is not used
 abbrev pub is_refused : List Said → Bool
-is_refused notes = list_any refuses notes
+is_refused notes = list_any said_refuses notes
 
 -- the id is that of the start rule: of the rule with the given name, or of the first
 pub record IsStart (start : Option (List ℕ)) (rules : List Rule) (id : ℕ) : Type 0 where

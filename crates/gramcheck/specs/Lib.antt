@@ -3,7 +3,6 @@ pub mod Bodies
 pub mod Checked
 pub mod Defined
 pub mod Grammar
-pub mod Kinds
 pub mod Left
 pub mod Loops
 pub mod NodeRows

@@ -1,7 +1,9 @@
 -- What there is to say of a grammar, in order.
 use Rattle.std.specs.Prelude.{◌≡◌, ℕ, Bool, true, false, List, [], ◌∷◌, ◌++◌, map, length, slice_get, get_or, Option, Some, None, option_to_list, Contains}
 use Rattle.std.specs.List.{flat_map}
-use Rattle.ruletable.specs.Notes.{Said, Redefined, Undefined, Unused, LeftRecursion, Loop}
+use Rattle.ruletable.specs.Notes.{Said, said}
+use Rattle.ruletable.specs.declared.note.NoteKind.TheVariants.{Redefined, ExtendedEarly, Undefined, Prose, Unused, LeftRecursion, Loop}
+use Rattle.ruletable.specs.declared.note.NoteKind.{NoteKind}
 use Rattle.pegread.specs.Pattern.{Rule}
 use Rattle.gramcheck.specs.Left.{IsLeftRecursive, Loops}
 use Rattle.gramcheck.specs.Uses.{names_used, rule_names, news}
@@ -39,15 +41,28 @@ pub record AreNotes (rules : List Rule) (again : List (List ℕ)) (start : Optio
   pub are_unused : Those (IsUnused start rules) rules unused
   pub are_recursive : Those (IsLeftRecursive rules) rules recursive
   pub are_looping : Those (Loops rules) rules looping
-  pub all : notes ≡ map (λ rule. Redefined rule.name) redefined
-      ++ (map Undefined (news (rule_names rules) (option_to_list start ++ names_used rules))
-      ++ (map (λ rule. Unused rule.name) unused ++ (map (λ rule. LeftRecursion rule.name) recursive ++ map (λ rule. Loop rule.name) looping)))
+  pub all : notes ≡ map (λ rule. said Redefined rule.name) redefined
+      ++ (map (said Undefined) (news (rule_names rules) (option_to_list start ++ names_used rules))
+      ++ (map (λ rule. said Unused rule.name) unused ++ (map (λ rule. said LeftRecursion rule.name) recursive ++ map (λ rule. said Loop rule.name) looping)))
 
 -- the notes on rules that are defined again, alone
 pub record AreRedefinitions (rules : List Rule) (again : List (List ℕ)) (notes : List Said) : Type 0 where
   pub redefined : List Rule
   pub are_redefined : Those (λ rule. Contains again rule.name) rules redefined
-  pub all : notes ≡ map (λ rule. Redefined rule.name) redefined
+  pub all : notes ≡ map (λ rule. said Redefined rule.name) redefined
+
+-- whether a note of that kind refuses the grammar: each does, but that on a rule that is not used
+abbrev pub kind_refuses : NoteKind → Bool
+kind_refuses Redefined = true
+kind_refuses ExtendedEarly = true
+kind_refuses Undefined = true
+kind_refuses Prose = true
+kind_refuses Unused = false
+kind_refuses LeftRecursion = true
+kind_refuses Loop = true
+
+abbrev pub said_refuses : Said → Bool
+said_refuses note = kind_refuses note.kind
 
 -- a mark for each rule, set exactly where P holds of it
 pub record AreMarks (P : Rule → Type 0) (rules : List Rule) (marks : List Bool) : Type 0 where

@@ -1,54 +1,34 @@
 //! The notes on a grammar.
 ghost use Rattle.std.specs.Prelude.{◌≡◌, ℕ, ◌==◌, ◌<◌, ◌++◌, Bool, false, List, length, map, drop, get_or, Option, IfOk, option_copied};
 ghost use Rattle.std.specs.List.{list_any};
-ghost use Rattle.ruletable.specs.Notes.{Said, Undefined, said_of, refuses as said_refuses};
+ghost use Rattle.ruletable.specs.Notes.{Said, said, said_of};
+ghost use Rattle.ruletable.specs.declared.note.NoteKind.TheVariants.{Undefined};
 ghost use Rattle.ruletable.specs.Rules.{names_of};
 ghost use Rattle.pegread.specs.Pattern.{Rule};
 ghost use Rattle.pegread.specs.Views.{rules_of};
 ghost use Rattle.gramcheck.specs.Left.{IsLeftRecursive, Loops};
-ghost use Rattle.gramcheck.specs.Notes.{AreMarks, AreNotes, AreRedefinitions, chosen, names_at};
-ghost use Rattle.gramcheck.specs.Kinds.{said_as};
+ghost use Rattle.gramcheck.specs.Notes.{AreMarks, AreNotes, AreRedefinitions, chosen, names_at, said_refuses};
 
 use crate::uses::uses_of;
 use pegread::{Expr, Peg};
-use ruletable::{Memory, Note, RuleTable};
+use ruletable::{Memory, Note, NoteKind, RuleTable};
 use std::alloc::Global;
-
-// The kinds of notes for which rules are marked.
-#[derive(Clone, Copy)]
-enum Kind {
-    Redefined,
-    Unused,
-    LeftRecursion,
-    Loop,
-}
-
-fn note_of(kind: Kind, name: Vec<u8>) -> Note
-    ensures { said_of result ≡ said_as kind name.items }
-{
-    match kind {
-        Kind::Redefined => Note::Redefined(name),
-        Kind::Unused => Note::Unused(name),
-        Kind::LeftRecursion => Note::LeftRecursion(name),
-        Kind::Loop => Note::Loop(name),
-    }
-}
 
 // Adds a note for each rule that is marked.
 fn note_marked(
     alloc: Global,
     rules: &RuleTable<Expr>,
     marks: &[bool],
-    kind: Kind,
+    kind: NoteKind,
     notes: &mut Vec<Note>,
 ) -> Result<(), Memory>
     requires { length marks.now ≡ length rules.now.rules }
-    ensures { IfOk result (λ _. map said_of notes.new.items ≡ map said_of notes.old.items ++ map (said_as kind) (chosen marks.now (names_of rules.now))) }
+    ensures { IfOk result (λ _. map said_of notes.new.items ≡ map said_of notes.old.items ++ map (said kind) (chosen marks.now (names_of rules.now))) }
 {
     for id in 0..rules.len() {
         if marks[id] {
             let name = Vec::from_slice(alloc, rules.name(id))?;
-            notes.push(note_of(kind, name))?;
+            notes.push(Note { kind, name })?;
         }
     }
     Ok(())
@@ -61,11 +41,14 @@ fn note_undefined(
     count: usize,
     notes: &mut Vec<Note>,
 ) -> Result<(), Memory>
-    ensures { IfOk result (λ _. map said_of notes.new.items ≡ map said_of notes.old.items ++ map Undefined (drop count (names_of names.now))) }
+    ensures { IfOk result (λ _. map said_of notes.new.items ≡ map said_of notes.old.items ++ map (said Undefined) (drop count (names_of names.now))) }
 {
     for id in count..names.len() {
         let name = Vec::from_slice(alloc, names.name(id))?;
-        notes.push(Note::Undefined(name))?;
+        notes.push(Note {
+            kind: NoteKind::Undefined,
+            name,
+        })?;
     }
     Ok(())
 }
@@ -116,11 +99,11 @@ pub(crate) fn notes(
     let uses = uses_of(alloc, rules, start)?;
     let again = marks_of(alloc, redefined, rules.len())?;
     let mut notes = Vec::new(alloc);
-    note_marked(alloc, rules, &again, Kind::Redefined, &mut notes)?;
+    note_marked(alloc, rules, &again, NoteKind::Redefined, &mut notes)?;
     note_undefined(alloc, &uses.names, rules.len(), &mut notes)?;
-    note_marked(alloc, rules, &uses.unused, Kind::Unused, &mut notes)?;
-    note_marked(alloc, rules, recursive, Kind::LeftRecursion, &mut notes)?;
-    note_marked(alloc, rules, looping, Kind::Loop, &mut notes)?;
+    note_marked(alloc, rules, &uses.unused, NoteKind::Unused, &mut notes)?;
+    note_marked(alloc, rules, recursive, NoteKind::LeftRecursion, &mut notes)?;
+    note_marked(alloc, rules, looping, NoteKind::Loop, &mut notes)?;
     Ok(notes)
 }
 
@@ -133,17 +116,14 @@ pub fn redefinitions(alloc: Global, peg: &Peg) -> Result<Vec<Note>, Memory>
 {
     let again = marks_of(alloc, &peg.redefined, peg.rules.len())?;
     let mut notes = Vec::new(alloc);
-    note_marked(alloc, &peg.rules, &again, Kind::Redefined, &mut notes)?;
+    note_marked(alloc, &peg.rules, &again, NoteKind::Redefined, &mut notes)?;
     Ok(notes)
 }
 
 fn refuses(note: &Note) -> bool
     ensures { result ≡ said_refuses (said_of note.now) }
 {
-    match note {
-        Note::Unused(_) => false,
-        _ => true,
-    }
+    note.kind != NoteKind::Unused
 }
 
 /// Whether a grammar on which there are these notes is refused: one of them is no note on a rule that is not used.

@@ -2,8 +2,9 @@
 ghost use Rattle.std.specs.Prelude.{Some};
 
 use ruletable::{
-    ByteSet, Defined, LineRule, Memory, NameCase, Note, ReadFault, RuleTable, Sink, SinkOf, Span,
-    line_of, union_of_runs, write_fault, write_note, write_number, write_pieces, write_whole,
+    ByteSet, Defined, LineRule, Memory, NameCase, Note, NoteKind, ReadFault, RuleTable, Sink,
+    SinkOf, Span, line_of, union_of_runs, write_fault, write_note, write_number, write_pieces,
+    write_whole,
 };
 use std::alloc::Global;
 use std::io;
@@ -55,9 +56,17 @@ fn writes_numbers_pieces_and_notes(rt: HostRuntime) -> Result<(), Fail> {
     let mut sink = SinkOf::new(Vec::new(rt.alloc()));
     write_number(1048577, &mut sink)?;
     write_pieces(&mut sink, &[b"a", b"", b"bcd"])?;
-    write_note(&Note::Loop(b"x_1".to_vec(rt.alloc())?), &mut sink)?;
+    for (kind, name) in [
+        (NoteKind::Loop, b"x_1"),
+        (NoteKind::ExtendedEarly, b"y-2"),
+        (NoteKind::Prose, b"Z-3"),
+    ] {
+        let name = name.to_vec(rt.alloc())?;
+        write_note(&Note { kind, name }, &mut sink)?;
+    }
     assert!(rt; sink.flush().is_ok() && !sink.has_failed());
-    let want = b"1048577abcdpossible infinite loop in rule 'x_1'\n";
+    let want = b"1048577abcdpossible infinite loop in rule 'x_1'\n\
+        rule 'y-2' extended before it is defined\nprose in rule 'Z-3'\n";
     assert!(rt; sink.into_inner().as_slice() == want.as_slice());
     Ok(())
 }

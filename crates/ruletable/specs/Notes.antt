@@ -1,36 +1,41 @@
--- What there is to say of a grammar, the line that says it, and which of it refuses the grammar.
-use Rattle.std.specs.Prelude.{ℕ, Bool, true, false, List, ◌++◌, codes}
+-- Notes on a grammar, and the line of each.
+use Rattle.std.specs.Prelude.{ℕ, List, ◌++◌, codes}
 use Rattle.ruletable.specs.declared.note.Note.{Note}
-use Rattle.ruletable.specs.declared.note.Note.TheVariants as code
+use Rattle.ruletable.specs.declared.note.NoteKind.{NoteKind}
+use Rattle.ruletable.specs.declared.note.NoteKind.TheVariants.{Redefined, ExtendedEarly, Undefined, Prose, Unused, LeftRecursion, Loop}
 
--- what is said, with the name of which it is said
-pub data Said : Type 0 where
-  Redefined : List ℕ → Said
-  Undefined : List ℕ → Said
-  Unused : List ℕ → Said
-  LeftRecursion : List ℕ → Said
-  Loop : List ℕ → Said
+-- what a note says: its kind, and the name of which it speaks
+pub record Said : Type 0 where
+  pub kind : NoteKind
+  pub name : List ℕ
+
+abbrev pub said : NoteKind → List ℕ → Said
+said kind name = record { kind = kind; name = name }
 
 -- what the code's note says
 abbrev pub said_of : Note → Said
-said_of (code.Redefined name) = Redefined name.items
-said_of (code.Undefined name) = Undefined name.items
-said_of (code.Unused name) = Unused name.items
-said_of (code.LeftRecursion name) = LeftRecursion name.items
-said_of (code.Loop name) = Loop name.items
+said_of note = said note.kind note.name.items
 
--- the line on the error output
+-- the text before the name
+abbrev pub text_before : NoteKind → List ℕ
+text_before Redefined = codes "rule '"
+text_before ExtendedEarly = codes "rule '"
+text_before Undefined = codes "rule '"
+text_before Prose = codes "prose in rule '"
+text_before Unused = codes "rule '"
+text_before LeftRecursion = codes "possible infinite left recursion in rule '"
+text_before Loop = codes "possible infinite loop in rule '"
+
+-- the text after the name, with LF
+abbrev pub text_after : NoteKind → List ℕ
+text_after Redefined = codes "' redefined\n"
+text_after ExtendedEarly = codes "' extended before it is defined\n"
+text_after Undefined = codes "' used but not defined\n"
+text_after Prose = codes "'\n"
+text_after Unused = codes "' defined but not used\n"
+text_after LeftRecursion = codes "'\n"
+text_after Loop = codes "'\n"
+
+-- the line on standard error
 abbrev pub note_text : Said → List ℕ
-note_text (Redefined name) = codes "rule '" ++ name ++ codes "' redefined\n"
-note_text (Undefined name) = codes "rule '" ++ name ++ codes "' used but not defined\n"
-note_text (Unused name) = codes "rule '" ++ name ++ codes "' defined but not used\n"
-note_text (LeftRecursion name) = codes "possible infinite left recursion in rule '" ++ name ++ codes "'\n"
-note_text (Loop name) = codes "possible infinite loop in rule '" ++ name ++ codes "'\n"
-
--- whether a grammar of which this is said is refused: always, but where a rule is not used
-abbrev pub refuses : Said → Bool
-refuses (Redefined name) = true
-refuses (Undefined name) = true
-refuses (Unused name) = false
-refuses (LeftRecursion name) = true
-refuses (Loop name) = true
+note_text note = text_before note.kind ++ (note.name ++ text_after note.kind)

@@ -16,7 +16,7 @@ pub use byte_set::ByteSet;
 pub use fault::{ReadFault, write_fault};
 pub use lines::{LineRule, line_of};
 pub use memory::Memory;
-pub use note::{Note, write_note};
+pub use note::{Note, NoteKind, write_note};
 pub use number::write_number;
 pub use runs::{Runs, union_of_runs};
 pub use sink::{Sink, SinkOf, WriteFault, write_pieces, write_whole};

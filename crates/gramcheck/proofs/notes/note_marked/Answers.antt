@@ -2,8 +2,7 @@
 use Rattle.std.proofs.Common.{◌<◌, length, ap, map, ◌∙◌, arith}
 use Rattle.std.proofs.lemmas.List.{length-map}
 use Rattle.ruletable.specs.Rules.{names_of}
-use Rattle.ruletable.specs.Notes.{said_of}
-use Rattle.gramcheck.specs.Kinds.{said_as}
+use Rattle.ruletable.specs.Notes.{said, said_of}
 use Rattle.gramcheck.proofs.ChosenLemmas.{note-marked, note-unmarked}
 use Rattle.gramcheck.proofs.notes.note_marked.Goals as goal
 use Rattle.gramcheck.proofs.notes.note_marked.Goals.{then-marks-id+in_ok-name+in_ok-push, else-marks-id}
@@ -17,9 +16,9 @@ high c = omega (arith, length-map c.args.rules.now.rules (λ rule. rule.name))
 pub loop-id-preserved : goal.loop-id-preserved
 loop-id-preserved c = elim c.if-marks-id.branch [
   | then-marks-id+in_ok-name+in_ok-push w ↦ rw w.notes-is
-      (note-marked (said_as c.args.kind) c.args.marks.now (names_of c.args.rules.now) c.loop-id.id w.name.result.now c.loop-id.notes.items w.push.new.self.items _ _
-      (low c) w.name.ensures w.if-marks-id.true (w.in_ok-push.ensures).items (w.note_of.ensures ∙ ap (said_as c.args.kind) (w.in_ok-name.ensures).items) c.loop-id.invariant)
+      (note-marked (said c.args.kind) c.args.marks.now (names_of c.args.rules.now) c.loop-id.id w.name.result.now c.loop-id.notes.items w.push.new.self.items _ _
+      (low c) w.name.ensures w.if-marks-id.true (w.in_ok-push.ensures).items (ap (said c.args.kind) (w.in_ok-name.ensures).items) c.loop-id.invariant)
   | else-marks-id w ↦ rw w.notes-is
-      (note-unmarked (said_as c.args.kind) c.args.marks.now (names_of c.args.rules.now) c.loop-id.id (map said_of c.loop-id.notes.items) _
+      (note-unmarked (said c.args.kind) c.args.marks.now (names_of c.args.rules.now) c.loop-id.id (map said_of c.loop-id.notes.items) _
       (low c) (high c) w.if-marks-id.false c.loop-id.invariant)
 ]
