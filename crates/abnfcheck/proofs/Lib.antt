@@ -1,4 +1,9 @@
+mod AbnfNotesLemmas
 mod DerivesDecidedLemmas
 mod FiniteLeastLemmas
+mod GraphLemmas
 mod JoinLemmas
+mod JoinedRulesLemmas
 pub mod LiesLemmas
+mod NameIdsLemmas
+mod NameMarksLemmas
