@@ -7,3 +7,6 @@ mod JoinedRulesLemmas
 pub mod LiesLemmas
 mod NameIdsLemmas
 mod NameMarksLemmas
+mod NullNumbersLemmas
+mod RuleIdLemmas
+mod RuleNullsLemmas

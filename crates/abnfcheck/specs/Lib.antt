@@ -7,3 +7,4 @@ pub mod Joined
 pub mod NameIds
 pub mod NameMarks
 pub mod ProseIn
+pub mod RuleNulls

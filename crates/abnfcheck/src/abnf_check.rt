@@ -59,7 +59,7 @@ pub fn check_abnf(
     if found.refused {
         return Ok(Checked { notes, sound: None });
     }
-    let sound = SoundAbnf::new(rules, found.judged);
+    let sound = SoundAbnf::new(alloc, rules, found.judged)?;
     Ok(Checked {
         notes,
         sound: Some(sound),

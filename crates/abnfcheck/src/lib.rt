@@ -9,6 +9,7 @@ mod joined;
 mod name_ids;
 mod name_marks;
 mod prose;
+mod rule_nulls;
 mod sound_abnf;
 
 pub use abnf_check::{Checked, check_abnf};

@@ -33,8 +33,8 @@ returns-then-found-clause-sound c =
     let tells = c.in_ok-found.ensures.refused (rules_of c.args.abnf.rules) (length-map c.args.abnf.rules.rules rule_of ∙ sym c.len-count.ensures.len) in
     rw (c.in_ok-rules.ensures, c.deref.ensures.value) at (tells.0 c.if-found.true)
 
-pub new-sound-requires : goal.new-sound-requires
-new-sound-requires c =
+pub new-requires : goal.new-requires
+new-requires c =
     let tells = c.in_ok-found.ensures.refused (rules_of c.args.abnf.rules) (length-map c.args.abnf.rules.rules rule_of ∙ sym c.len-count.ensures.len) in
     let sound = sound_unless_refused (rules_of c.args.abnf.rules) (rules_of c.in_ok-rules.rules) _ (option_copied c.args.rule) (λ h. let yes = tells.1 h in let no = c.if-found.false in cc (yes, no)) in
     record {
@@ -56,6 +56,6 @@ returns-clause-sound c =
     (judged_in (option_copied c.args.rule) (rules_of (joined c.args.abnf.rules c.args.abnf.core.rules))) → ⊥ = λ h. let yes = tells.1 h in let no = c.if-found.false in absurd (cc (yes, no)) in
     let sound = sound_unless_refused (rules_of c.args.abnf.rules) _ _ (option_copied c.args.rule) passes in (
       passes,
-      c.new-sound.ensures.rules ∙ c.in_ok-rules.ensures,
-      c.new-sound.ensures.judged ∙ sym (judged_where _ _ _ sound.judged_is_rule (rw c.in_ok-rules.ensures at c.in_ok-found.ensures.judged)),
+      c.in_ok-sound.ensures.rules ∙ c.in_ok-rules.ensures,
+      c.in_ok-sound.ensures.judged ∙ sym (judged_where _ _ _ sound.judged_is_rule (rw c.in_ok-rules.ensures at c.in_ok-found.ensures.judged)),
     )
