@@ -17,3 +17,6 @@ pub use abnf_note::{AbnfNote, AbnfNoteKind};
 pub use decided_law::derivation_is_decided;
 pub use joined::join;
 pub use sound_abnf::SoundAbnf;
+
+#[cfg(test)]
+mod tests;
