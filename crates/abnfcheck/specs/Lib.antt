@@ -1,4 +1,10 @@
 pub mod AbnfGrammar
+pub mod AbnfNotes
+pub mod AbnfUses
 pub mod Decided
 pub mod Derivable
 pub mod Joined
+pub mod NameIds
+pub mod NameMarks
+pub mod ProseIn
+pub mod RuleNulls

@@ -1,10 +1,22 @@
 //! Checks grammars in ABNF.
 #![tactic(auto)]
 
+mod abnf_check;
+mod abnf_note;
+mod abnf_notes;
 mod decided_law;
 mod joined;
+mod name_ids;
+mod name_marks;
+mod prose;
+mod rule_nulls;
 mod sound_abnf;
 
+pub use abnf_check::{Checked, check_abnf};
+pub use abnf_note::{AbnfNote, AbnfNoteKind};
 pub use decided_law::derivation_is_decided;
 pub use joined::join;
 pub use sound_abnf::SoundAbnf;
+
+#[cfg(test)]
+mod tests;

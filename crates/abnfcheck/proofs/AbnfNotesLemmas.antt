@@ -1,0 +1,279 @@
+-- What marks choose of a list, the notes that are made of it, and what refuses a grammar.
+-- Serves: check_abnf (notes, sound)
+use Rattle.std.proofs.Common.{◌≡◌, ◌↔◌, ℕ, zero, suc, ◌+◌, ◌<◌, ◌≤◌, ◌==◌, ◌⊎◌, inl, inr, ⊎_elim, Bool, true, false, not, ◌||◌, List, [], ◌∷◌, ◌++◌, length, map, take, drop, get_or, Option, Some, None, refl, sym, ◌∙◌, ap, subst, arith, add-one, append_assoc, append-nil, cond, drop-cons, length-append}
+use Rattle.std.specs.Prelude.{slice_get, slice_index_or, option_to_list, Contains}
+use Rattle.std.specs.List.{list_any}
+use Rattle.std.proofs.Math.Seq.{drop-append_seam}
+use Rattle.std.proofs.lemmas.Bool.{both_ways}
+use Rattle.std.proofs.lemmas.Bool.Decides.{eqb_tells}
+use Rattle.std.proofs.lemmas.List.{map-append, length-map, get_or-take, get_or_past, length-take}
+use Rattle.std.proofs.lemmas.Option.{slice_get_within, get_or_from_slice_get}
+use Rattle.leastset.specs.NumberMarks.{IsMarked}
+use Rattle.leastset.specs.StepRows.{Step, AreStepsWithin}
+use Rattle.leastset.proofs.ContainsLemmas.{none_of, in_first, in_later, cons_cases}
+use Rattle.leastset.proofs.IsMarkedLemmas.{marked_lt}
+use Rattle.ruletable.specs.Rules.{same_name}
+use Rattle.ruletable.specs.declared.table.NameCase.TheVariants.{Fold}
+use Rattle.abnfread.specs.Element.{Element, Rule, bodies, id_of}
+use Rattle.abnfcheck.specs.AbnfGrammar.{Reachable, judged_rule, by_name, IsSound}
+use Rattle.abnfcheck.specs.AbnfNotes as n
+use Rattle.abnfcheck.specs.AbnfNotes.{Said, said, said_of, Those, no_more, this_one, not_this, judged_in, IsUnused, AreNotes, IsRefused, by_redefinition, by_prose}
+use Rattle.abnfcheck.specs.AbnfUses.{names_used, rule_names, news, Uses, HoldsProse}
+use Rattle.abnfcheck.specs.NameIds.{IsIdAt, IsGraph}
+use Rattle.abnfcheck.specs.NameMarks.{chosen, AreMarks, AreNoteMarks, IsUsed, ReachesBroken}
+use Rattle.abnfcheck.specs.ProseIn.{prose_in, prose_marks}
+use Rattle.abnfcheck.specs.declared.abnf_note.AbnfNote.{AbnfNote}
+use Rattle.abnfcheck.specs.declared.abnf_note.AbnfNoteKind.{AbnfNoteKind}
+use Rattle.abnfcheck.specs.declared.abnf_note.AbnfNoteKind.TheVariants as kind
+use Rattle.abnfcheck.proofs.GraphLemmas.{rows_long, step_uses, uses_step, judged_at, reached_as, reached_by, marked_prose, prose_marked, body_below, user_below}
+
+-- what marks choose
+chosen_none : {A : Type 0} (xs : List A) → chosen [] xs ≡ []
+chosen_none [] = refl
+chosen_none (x ∷ xs) = refl
+
+pub those_chosen : (P : ℕ → Type 0) (i : ℕ) (file : List Rule) (more : List (List ℕ)) (marks : List Bool) → length marks ≡ length file →
+    ((id : ℕ) → id < length file → (IsMarked marks id ↔ P (i + id))) → Those P i file (chosen marks (rule_names file ++ more))
+those_chosen P i [] more [] count h = subst (λ v. Those P i [] v) (sym (chosen_none more)) no_more
+those_chosen P i [] more (mark ∷ marks) count h = absurd (omega (arith, count))
+those_chosen P i (rule ∷ file) more [] count h = absurd (omega (arith, count))
+those_chosen P i (rule ∷ file) more (true ∷ marks) count h =
+    let zero_is : i + 0 ≡ i = omega arith in
+    this_one (subst P zero_is ((h 0 (omega arith)).0 refl))
+    (those_chosen P (suc i) file more marks (omega (arith, count)) (λ id lt. let same : i + suc id ≡ suc i + id = omega arith in subst (λ v. IsMarked marks id ↔ P v) same (h (suc id) (omega (arith, lt)))))
+those_chosen P i (rule ∷ file) more (false ∷ marks) count h =
+    let zero_is : i ≡ i + 0 = omega arith in
+    not_this (λ p. both_ways false refl ((h 0 (omega arith)).1 (subst P zero_is p)))
+    (those_chosen P (suc i) file more marks (omega (arith, count)) (λ id lt. let same : i + suc id ≡ suc i + id = omega arith in subst (λ v. IsMarked marks id ↔ P v) same (h (suc id) (omega (arith, lt)))))
+
+-- the first of what is left, chosen or not
+left-first : {X : Type 0} (xs : List X) (i : ℕ) (x : X) → i < length xs → get_or xs i x ≡ x → drop i xs ≡ x ∷ drop (i + 1) xs
+left-first xs i x low is = drop-cons xs i x low ∙ ap (λ y. y ∷ drop (suc i) xs) is ∙ ap (λ (k : ℕ). x ∷ drop k xs) (sym (add-one i))
+
+left-mark : (marks : List Bool) (i : ℕ) (b : Bool) → i < length marks → get_or marks i false ≡ b → drop i marks ≡ b ∷ drop (i + 1) marks
+left-mark marks i b low is = drop-cons marks i false low ∙ ap (λ t. t ∷ drop (suc i) marks) is ∙ ap (λ (k : ℕ). b ∷ drop k marks) (sym (add-one i))
+
+chosen-on : {X : Type 0} (marks : List Bool) (xs : List X) (i : ℕ) (x : X) → i < length marks → i < length xs → get_or xs i x ≡ x → get_or marks i false ≡ true →
+    chosen (drop i marks) (drop i xs) ≡ x ∷ chosen (drop (i + 1) marks) (drop (i + 1) xs)
+chosen-on marks xs i x low high is on = rw (left-mark marks i true low on, left-first xs i x high is) refl
+
+chosen-off : (marks : List Bool) (xs : List (List ℕ)) (i : ℕ) → i < length marks → i < length xs → get_or marks i false ≡ false →
+    chosen (drop i marks) (drop i xs) ≡ chosen (drop (i + 1) marks) (drop (i + 1) xs)
+chosen-off marks xs i low high off =
+    rw (left-mark marks i false low off, drop-cons xs i [] high) (ap (λ (k : ℕ). chosen (drop (i + 1) marks) (drop k xs)) (sym (add-one i)))
+
+-- one more note
+note-more : (now new : List AbnfNote) (note : AbnfNote) (what : Said) (left all : List Said) → new ≡ now ++ note ∷ [] → said_of note ≡ what →
+    map said_of now ++ (what ∷ left) ≡ all → map said_of new ++ left ≡ all
+note-more now new note what left all e is h =
+    ap (λ l. l ++ left) (ap (map said_of) e ∙ map-append said_of now (note ∷ []) ∙ ap (λ s. map said_of now ++ s ∷ []) is)
+    ∙ append_assoc (map said_of now) (what ∷ []) left ∙ h
+
+pub note-marked : (f : List ℕ → Said) (marks : List Bool) (names : List (List ℕ)) (i : ℕ) (name : List ℕ) (now new : List AbnfNote) (note : AbnfNote) (all : List Said) →
+    i < length marks → slice_get names i ≡ Some name → get_or marks i false ≡ true → new ≡ now ++ note ∷ [] → said_of note ≡ f name →
+    map said_of now ++ map f (chosen (drop i marks) (drop i names)) ≡ all → map said_of new ++ map f (chosen (drop (i + 1) marks) (drop (i + 1) names)) ≡ all
+note-marked f marks names i name now new note all low at on e is h =
+    note-more now new note (f name) (map f (chosen (drop (i + 1) marks) (drop (i + 1) names))) all e is
+    (ap (λ l. map said_of now ++ map f l) (sym (chosen-on marks names i name low (slice_get_within names i name at) (get_or_from_slice_get names i name name at) on)) ∙ h)
+
+pub note-unmarked : (f : List ℕ → Said) (marks : List Bool) (names : List (List ℕ)) (i : ℕ) (now all : List Said) → i < length marks → i < length names → get_or marks i false ≡ false →
+    now ++ map f (chosen (drop i marks) (drop i names)) ≡ all → now ++ map f (chosen (drop (i + 1) marks) (drop (i + 1) names)) ≡ all
+note-unmarked f marks names i now all low high off h = ap (λ l. now ++ map f l) (sym (chosen-off marks names i low high off)) ∙ h
+
+pub note-next : (f : List ℕ → Said) (names : List (List ℕ)) (i : ℕ) (name : List ℕ) (now new : List AbnfNote) (note : AbnfNote) (all : List Said) →
+    slice_get names i ≡ Some name → new ≡ now ++ note ∷ [] → said_of note ≡ f name →
+    map said_of now ++ map f (drop i names) ≡ all → map said_of new ++ map f (drop (i + 1) names) ≡ all
+note-next f names i name now new note all at e is h =
+    note-more now new note (f name) (map f (drop (i + 1) names)) all e is
+    (ap (λ l. map said_of now ++ map f l) (sym (left-first names i name (slice_get_within names i name at) (get_or_from_slice_get names i name name at))) ∙ h)
+
+drop_past : {A : Type 0} (xs : List A) (i : ℕ) → length xs ≤ i → drop i xs ≡ []
+drop_past [] zero le = refl
+drop_past [] (suc i) le = refl
+drop_past (x ∷ xs) zero le = absurd (omega (arith, le))
+drop_past (x ∷ xs) (suc i) le = drop_past xs i (omega (arith, le))
+
+pub none-left : (f : List ℕ → Said) (marks : List Bool) (names : List (List ℕ)) (i : ℕ) (now all : List Said) → length marks ≤ i → now ++ map f (chosen (drop i marks) (drop i names)) ≡ all → now ≡ all
+none-left f marks names i now all le h =
+    let none : chosen (drop i marks) (drop i names) ≡ [] = ap (λ l. chosen l (drop i names)) (drop_past marks i le) ∙ chosen_none (drop i names) in
+    sym (append-nil now) ∙ ap (λ l. now ++ map f l) (sym none) ∙ h
+
+-- one kind of notes after another
+pub one_by_one : (n a b c d e : List Said) (ka kb kc kd ke : List Said) → n ≡ [] → a ≡ n ++ ka → b ≡ a ++ kb → c ≡ b ++ kc → d ≡ c ++ kd → e ≡ d ++ ke →
+    e ≡ ka ++ (kb ++ (kc ++ (kd ++ ke)))
+one_by_one n a b c d e ka kb kc kd ke hn ha hb hc hd he = rw (he, hd, hc, hb, ha, hn) (simp append_assoc)
+
+-- ids in a list
+pub any_in : (ids : List ℕ) (id : ℕ) → list_any (λ other. other == id) ids ≡ true → Contains ids id
+any_in [] id h = absurd (both_ways false refl h)
+any_in (x ∷ ids) id h = elim (eqb_tells x id) [
+  | inl e ↦ subst (λ v. Contains (x ∷ ids) v) e.1 (in_first x ids)
+  | inr e ↦ in_later x id ids (any_in ids id (sym (ap (λ b. b || list_any (λ other. other == id) ids) e.0) ∙ h))
+]
+
+pub in_any : (ids : List ℕ) (id : ℕ) → Contains ids id → list_any (λ other. other == id) ids ≡ true
+in_any [] id h = absurd (none_of id h)
+in_any (x ∷ ids) id h = elim (eqb_tells x id) [
+  | inl e ↦ ap (λ b. b || list_any (λ other. other == id) ids) e.0
+  | inr e ↦ ap (λ b. b || list_any (λ other. other == id) ids) e.0 ∙ in_any ids id (⊎_elim (λ same. absurd (e.1 same)) (λ later. later) (cons_cases x id ids h))
+]
+
+pub ids_marked : (ids : List ℕ) (count : ℕ) (marks : List Bool) → length marks ≡ count → ((id : ℕ) → id < count → get_or marks id false ≡ list_any (λ other. other == id) ids) →
+    AreMarks (Contains ids) count marks
+ids_marked ids count marks is h = record { count_is = is; exact = λ id lt. ((λ on. any_in ids id (sym (h id lt) ∙ on)), (λ among. h id lt ∙ in_any ids id among)) }
+
+opposite : (marks : List Bool) (id : ℕ) → id < length marks → get_or (map not marks) id false ≡ not (get_or marks id false)
+opposite [] id lt = absurd (omega (arith, lt))
+opposite (mark ∷ marks) zero lt = refl
+opposite (mark ∷ marks) (suc id) lt = opposite marks id (omega (arith, lt))
+
+not_marked : (b : Bool) → not b ≡ true → b ≡ true → ⊥
+not_marked true h g = absurd (cc h)
+not_marked false h g = absurd (cc g)
+
+marked_not : (b : Bool) → (b ≡ true → ⊥) → not b ≡ true
+marked_not true h = absurd (h refl)
+marked_not false h = refl
+
+module _ (rules : List Rule) (given : Option (List ℕ)) (names : List (List ℕ)) (rows : List (List ℕ)) (judged : ℕ) (graph : IsGraph rules given names rows judged) where
+  -- a use of a rule is a mark
+  judged_same : (id : ℕ) → id < length rules → judged_in given rules ≡ id → judged ≡ id
+  judged_same id lt is = ⊎_elim (λ low. sym low.1 ∙ is) (λ high. absurd (let same = high.1 in omega (arith, lt, is, same))) (judged_at rules given names rows judged graph)
+
+  same_judged : (id : ℕ) → id < length rules → judged ≡ id → judged_in given rules ≡ id
+  same_judged id lt is = ⊎_elim (λ low. low.1 ∙ is) (λ high. absurd (let le = high.0 in omega (arith, lt, is, le))) (judged_at rules given names rows judged graph)
+
+  pub unused_marks : (count : ℕ) (used : List Bool) → count ≤ length rules → count ≤ length used → length used ≡ length rows → ((id : ℕ) → id < length rows → (IsMarked used id ↔ IsUsed rows judged id)) →
+      AreMarks (IsUnused rules (judged_in given rules)) count (map not (take count used))
+  unused_marks count used low fits all marks = record {
+    count_is = length-map (take count used) not ∙ count_of;
+    exact = λ id lt. (
+      (λ on. (
+        (λ user u. no id lt on ((marks id (below id lt)).1 (inr (user, uses_step rules given names rows judged graph user id (under id lt) u)))),
+        (λ is. no id lt on ((marks id (below id lt)).1 (inl (judged_same id (under id lt) is)))),
+      )),
+      (λ unused. at id lt ∙ marked_not (get_or used id false) (λ on. ⊎_elim
+          (λ is. unused.1 (same_judged id (under id lt) is))
+          (λ step. unused.0 step.0 (step_uses rules given names rows judged graph step.0 id (under id lt) step.1))
+          ((marks id (below id lt)).0 on))),
+    );
+  }
+    where
+      count_of : length (take count used) ≡ count
+      count_of = let l = length-take count used in omega (arith, l, fits)
+
+      under : (id : ℕ) → id < count → id < length rules
+      under id lt = omega (arith, lt, low)
+
+      below : (id : ℕ) → id < count → id < length rows
+      below id lt = omega (arith, lt, fits, all)
+
+      at : (id : ℕ) → id < count → get_or (map not (take count used)) id false ≡ not (get_or used id false)
+      at id lt = opposite (take count used) id (let l = count_of in omega (arith, lt, l)) ∙ ap not (get_or-take count used id false lt)
+
+      no : (id : ℕ) → id < count → IsMarked (map not (take count used)) id → IsMarked used id → ⊥
+      no id lt on used_on = not_marked (get_or used id false) (sym (at id lt) ∙ on) used_on
+
+  pub prose_exact : (count : ℕ) → count ≤ length rules → AreMarks (HoldsProse rules) count (take count (prose_marks rules))
+  prose_exact count low = record {
+    count_is = (let l = length-take count (prose_marks rules) in let k = length-map rules (λ (rule : Rule). prose_in rule.body) in omega (arith, l, k, low));
+    exact = λ id lt. (
+      (λ on. marked_prose rules id false (omega (arith, lt, low)) (sym (get_or-take count (prose_marks rules) id false lt) ∙ on)),
+      (λ h. get_or-take count (prose_marks rules) id false lt ∙ prose_marked rules id false h),
+    );
+  }
+
+  -- the notes on a grammar
+  pub are_notes : (file : List Rule) (more : List (List ℕ)) (again early : List ℕ) (redefined extended prose unused : List Bool) (notes : List Said) → rule_names rules ≡ rule_names file ++ more →
+      AreNoteMarks rules (length file) again early (judged_in given rules) redefined extended prose unused →
+      notes ≡ map (said kind.Redefined) (chosen redefined (rule_names rules)) ++ (map (said kind.ExtendedEarly) (chosen extended (rule_names rules))
+      ++ (map (said kind.Undefined) (drop (length rules) names) ++ (map (said kind.Prose) (chosen prose (rule_names rules)) ++ map (said kind.Unused) (chosen unused (rule_names rules))))) →
+      AreNotes file rules again early given notes
+  are_notes file more again early redefined extended prose unused notes begins marks h = record {
+    redefined = chosen redefined (rule_names rules);
+    extended = chosen extended (rule_names rules);
+    prose = chosen prose (rule_names rules);
+    unused = chosen unused (rule_names rules);
+    are_redefined = those (Contains again) redefined marks.redefined_are;
+    are_extended = those (Contains early) extended marks.extended_are;
+    hold_prose = those (HoldsProse rules) prose marks.prose_are;
+    are_unused = those (IsUnused rules (judged_in given rules)) unused marks.unused_are;
+    all = h ∙ ap (λ l. map (said kind.Redefined) (chosen redefined (rule_names rules)) ++ (map (said kind.ExtendedEarly) (chosen extended (rule_names rules))
+        ++ (map (said kind.Undefined) l ++ (map (said kind.Prose) (chosen prose (rule_names rules)) ++ map (said kind.Unused) (chosen unused (rule_names rules)))))) undefined;
+  }
+    where
+      those : (P : ℕ → Type 0) (ms : List Bool) → AreMarks P (length file) ms → Those P 0 file (chosen ms (rule_names rules))
+      those P ms m = subst (λ l. Those P 0 file (chosen ms l)) (sym begins)
+          (those_chosen P 0 file more ms m.count_is (λ id lt. let same : id ≡ 0 + id = omega arith in subst (λ v. IsMarked ms id ↔ P v) same (m.exact id lt)))
+
+      undefined : drop (length rules) names ≡ news (rule_names rules) (option_to_list given ++ names_used rules)
+      undefined = ap (drop (length rules)) graph.all
+          ∙ ap (λ (k : ℕ). drop k (rule_names rules ++ news (rule_names rules) (option_to_list given ++ names_used rules))) (sym (length-map rules (λ (rule : Rule). rule.name)))
+          ∙ drop-append_seam (rule_names rules) (news (rule_names rules) (option_to_list given ++ names_used rules))
+
+  -- what refuses a grammar
+  module _ (file : List Rule) (again : List ℕ) (redefined : List Bool) (marks : AreMarks (Contains again) (length file) redefined) where
+    pub refused_again : (id : ℕ) → IsMarked redefined id → IsRefused file rules again (judged_in given rules)
+    refused_again id on = let lt : id < length file = (let l = marked_lt redefined id on in let c = marks.count_is in omega (arith, l, c)) in by_redefinition lt ((marks.exact id lt).0 on)
+
+    pub refused_no_rule : length rules ≤ judged → IsRefused file rules again (judged_in given rules)
+    refused_no_rule le = n.by_name (⊎_elim
+        (λ low. absurd (let lt = low.0 in omega (arith, lt, le)))
+        (λ high. subst (λ v. Reachable rules (judged_in given rules) v) high.1 judged_rule)
+        (judged_at rules given names rows judged graph))
+
+    pub refused_broken : (place : ℕ) → ReachesBroken rows (prose_marks rules) judged place → IsRefused file rules again (judged_in given rules)
+    refused_broken place b =
+        let r = reached_as rules given names rows judged graph place b.reaches in
+        ⊎_elim
+        (λ low. by_prose r.reachable (subst (λ v. HoldsProse rules v) (sym low.1) (marked_prose rules place true low.0 b.broken)))
+        (λ high. n.by_name (subst (λ v. Reachable rules (judged_in given rules) v) high.1 r.reachable))
+        r.is
+
+    pub broken_refused : ((id : ℕ) → IsMarked redefined id → ⊥) → IsRefused file rules again (judged_in given rules) → (place : ℕ) × ReachesBroken rows (prose_marks rules) judged place
+    broken_refused none (by_redefinition {id = id} lt h) = absurd (none id ((marks.exact id lt).1 h))
+    broken_refused none (n.by_name r) =
+        let b = reached_by rules given names rows judged graph (length rules) r in
+        let le : length rules ≤ b.place = ⊎_elim (λ low. absurd (let lt = low.0 in let is = low.1 in omega (arith, lt, is))) (λ high. high.0) b.is in
+        (b.place, record { reaches = b.reaches; broken = get_or_past (prose_marks rules) b.place true (let l = length-map rules (λ (rule : Rule). prose_in rule.body) in omega (arith, l, le)) })
+    broken_refused none (by_prose {id = id} r h) =
+        let b = reached_by rules given names rows judged graph id r in
+        let lt = body_below rules id h.body h.body_is in
+        let same : b.place ≡ id = ⊎_elim (λ low. sym low.1) (λ high. absurd (let is = high.1 in omega (arith, lt, is))) b.is in
+        (b.place, record { reaches = b.reaches; broken = ap (λ v. slice_index_or (prose_marks rules) v true) same ∙ prose_marked rules id true h })
+
+-- a grammar that is not refused is sound
+id_most : (rules : List Rule) (name : List ℕ) → id_of rules name ≤ length rules
+id_most [] name = omega arith
+id_most (rule ∷ rules) name = step (same_name Fold name rule.name) (id_of rules name) (length rules) (id_most rules name)
+  where
+    step : (b : Bool) (k n : ℕ) → k ≤ n → cond b 0 (k + 1) ≤ suc n
+    step true k n le = omega arith
+    step false k n le = omega (arith, le)
+
+judged_most : (given : Option (List ℕ)) (rules : List Rule) → judged_in given rules ≤ length rules
+judged_most None rules = omega arith
+judged_most (Some name) rules = id_most rules name
+
+reached_most : (rules : List Rule) (judged : ℕ) → judged ≤ length rules → {id : ℕ} → Reachable rules judged id → id ≤ length rules
+reached_most rules judged le judged_rule = le
+reached_most rules judged le (by_name {name = name} r at within) = id_most rules name
+
+pub sound_unless_refused : (file rules : List Rule) (again : List ℕ) (given : Option (List ℕ)) → (IsRefused file rules again (judged_in given rules) → ⊥) → IsSound rules (judged_in given rules)
+sound_unless_refused file rules again given passes = record {
+  judged_is_rule = defined (judged_in given rules) judged_rule;
+  defined = defined;
+  plain = λ id body text r at within. passes (by_prose r (record { body = body; text = text; body_is = at; within = within }));
+}
+  where
+    low : (m n : ℕ) → m ≤ n → (m < n) ⊎ (m ≡ n)
+    low zero zero le = inr refl
+    low zero (suc n) le = inl (omega arith)
+    low (suc m) zero le = absurd (omega (arith, le))
+    low (suc m) (suc n) le = ⊎_elim (λ lt. inl (omega (arith, lt))) (λ is. inr (ap suc is)) (low m n (omega (arith, le)))
+
+    defined : (id : ℕ) → Reachable rules (judged_in given rules) id → id < length rules
+    defined id r = ⊎_elim (λ lt. lt) (λ is. absurd (passes (n.by_name (subst (λ v. Reachable rules (judged_in given rules) v) is r)))) (low id (length rules) (reached_most rules (judged_in given rules) (judged_most given rules) r))
+
+pub judged_where : (count place id : ℕ) → id < count → IsIdAt count place id → id ≡ place
+judged_where count place id lt at = ⊎_elim (λ low. low.1) (λ high. absurd (let is = high.1 in omega (arith, lt, is))) at

@@ -1,0 +1,104 @@
+//! The checks of a grammar in ABNF.
+ghost use Rattle.std.specs.Prelude.{◌≡◌, ◌↔◌, ◌≤◌, ◌++◌, ℕ, Bool, List, length, map, IfOk, MatchOption, option_copied};
+ghost use Rattle.ruletable.specs.Rules.{names_of};
+ghost use Rattle.abnfread.specs.Element.{Rule};
+ghost use Rattle.abnfread.specs.Views.{rules_of};
+ghost use Rattle.abnfcheck.specs.AbnfNotes.{judged_in, said_of, AreNotes, IsRefused};
+ghost use Rattle.abnfcheck.specs.AbnfUses.{rule_names};
+ghost use Rattle.abnfcheck.specs.NameIds.{IsIdAt};
+ghost use Rattle.abnfcheck.specs.Joined.{joined};
+
+use crate::abnf_note::AbnfNote;
+use crate::abnf_notes::{is_refused, note_marks, notes_on};
+use crate::joined::join;
+use crate::name_ids::name_ids;
+use crate::prose::rules_with_prose;
+use crate::sound_abnf::SoundAbnf;
+use abnfread::{Abnf, Elem};
+use ruletable::{Memory, NameCase, RuleTable};
+use std::alloc::Global;
+
+/// What the checks of a grammar gave.
+#[derive(Drop)]
+pub struct Checked<S> {
+    /// What there is to say of it, in order.
+    pub notes: Vec<AbnfNote>,
+    /// The grammar, ready to judge lines, unless a note refuses it.
+    pub sound: Option<S>,
+}
+
+/// Checks a grammar in ABNF: what there is to say of it, and where no note refuses it, the grammar ready to judge lines by the
+/// rule with the name `rule`, or else by the first. Names compare without case.
+///
+/// The notes are: rules of the file that `=` defines again; those that `=/` extends before they are defined, where no core rule
+/// has the name; names that no rule has, each once, by first use, where `rule` is a use before all others; rules of the file
+/// with prose; and rules of the file that nothing names and that are not judged. Notes on rules go by the order of the file.
+/// Uses in core rules that the file leaves alone count.
+///
+/// A redefinition refuses the grammar, and so do prose and a name without a rule if they can be reached from the judged rule.
+/// The other notes never do. A table without rules, which no text reads as, has no judged rule, and is refused without a note.
+///
+/// # Errors
+/// `Memory` if an allocation fails; the grammar is dropped then.
+pub fn check_abnf(
+    alloc: Global,
+    abnf: Abnf,
+    rule: Option<&str>,
+) -> Result<Checked<SoundAbnf>, Memory>
+    ensures notes { IfOk result (λ c. AreNotes (rules_of abnf.rules) (rules_of (joined abnf.rules abnf.core.rules)) abnf.redefined.items abnf.extended.items
+        (option_copied rule.entry) (map said_of c.notes.items)) }
+    ensures sound { IfOk result (λ c. MatchOption c.sound
+        (IsRefused (rules_of abnf.rules) (rules_of (joined abnf.rules abnf.core.rules)) abnf.redefined.items (judged_in (option_copied rule.entry) (rules_of (joined abnf.rules abnf.core.rules))))
+        (λ g. (IsRefused (rules_of abnf.rules) (rules_of (joined abnf.rules abnf.core.rules)) abnf.redefined.items (judged_in (option_copied rule.entry) (rules_of (joined abnf.rules abnf.core.rules))) → ⊥)
+        × (g.rules ≡ joined abnf.rules abnf.core.rules) × (g.judged ≡ judged_in (option_copied rule.entry) (rules_of (joined abnf.rules abnf.core.rules))))) }
+{
+    let count = abnf.rules.len();
+    let rules = join(alloc, abnf.rules, abnf.core)?;
+    let found = found_in(alloc, &rules, count, &abnf.redefined, &abnf.extended, rule)?;
+    let notes = found.notes;
+    if found.refused {
+        return Ok(Checked { notes, sound: None });
+    }
+    let sound = SoundAbnf::new(alloc, rules, found.judged)?;
+    Ok(Checked {
+        notes,
+        sound: Some(sound),
+    })
+}
+
+// The notes on a grammar, whether it is refused, and the id of the judged rule if there is such a rule.
+#[derive(Drop)]
+struct Found {
+    notes: Vec<AbnfNote>,
+    refused: bool,
+    judged: usize,
+}
+
+// Finds what there is to say of a grammar, of whose rules the first `count` are those of the file.
+fn found_in(
+    alloc: Global,
+    rules: &RuleTable<Elem>,
+    count: usize,
+    redefined: &[usize],
+    extended: &[usize],
+    rule: Option<&str>,
+) -> Result<Found, Memory>
+    requires folds { rules.now.names ≡ NameCase.Fold }
+    requires count { count ≤ length rules.now.rules }
+    ensures notes { IfOk result (λ found. (file : List Rule) (more : List (List ℕ)) → length file ≡ count → names_of rules.now ≡ rule_names file ++ more →
+        AreNotes file (rules_of rules.now) redefined.now extended.now (option_copied rule.entry) (map said_of found.notes.items)) }
+    ensures refused { IfOk result (λ found. (file : List Rule) → length file ≡ count →
+        (found.refused ≡ Bool.true) ↔ IsRefused file (rules_of rules.now) redefined.now (judged_in (option_copied rule.entry) (rules_of rules.now))) }
+    ensures judged { IfOk result (λ found. IsIdAt (length (rules_of rules.now)) found.judged (judged_in (option_copied rule.entry) (rules_of rules.now))) }
+{
+    let ids = name_ids(alloc, rules, rule)?;
+    let prose = rules_with_prose(alloc, rules)?;
+    let marks = note_marks(alloc, count, redefined, extended, &ids, &prose)?;
+    let notes = notes_on(alloc, rules, &ids.names, &marks)?;
+    let refused = is_refused(alloc, &ids, &prose, &marks.redefined)?;
+    Ok(Found {
+        notes,
+        refused,
+        judged: ids.judged,
+    })
+}

@@ -1,0 +1,125 @@
+//! Marks on names and rules by id.
+ghost use Rattle.std.specs.Prelude.{◌≡◌, ◌↔◌, ◌⊎◌, ℕ, ◌<◌, ◌≤◌, ◌==◌, Bool, length, map, not, get_or, Contains, IfOk};
+ghost use Rattle.std.specs.List.{list_any};
+ghost use Rattle.leastset.specs.NumberMarks.{AreBelow, IsMarked};
+ghost use Rattle.leastset.specs.StepRows.{Step, rows_of, AreStepsWithin};
+ghost use Rattle.abnfcheck.specs.NameMarks.{IsBroken, IsUsed, ReachesBroken};
+
+use leastset::{mark, reached};
+use ruletable::Memory;
+use std::alloc::Global;
+
+// Returns so many marks, none of them set.
+fn no_marks(alloc: Global, count: usize) -> Result<Vec<bool>, Memory>
+    ensures count { IfOk result (λ marks. length marks.items ≡ count) }
+    ensures marks { IfOk result (λ marks. (id : ℕ) → get_or marks.items id Bool.false ≡ Bool.false) }
+{
+    let mut marks = Vec::new(alloc);
+    for _id in 0..count {
+        marks.push(false)?;
+    }
+    Ok(marks)
+}
+
+/// Returns so many marks, set for the ids in the list. Other ids in the list are of no account.
+///
+/// `Memory` if an allocation fails.
+pub(crate) fn marks_at(alloc: Global, ids: &[usize], count: usize) -> Result<Vec<bool>, Memory>
+    ensures count { IfOk result (λ marks. length marks.items ≡ count) }
+    ensures marks { IfOk result (λ marks. (id : ℕ) → id < count → get_or marks.items id Bool.false ≡ list_any (λ other. other == id) ids.now) }
+{
+    let mut marks = no_marks(alloc, count)?;
+    for id in ids {
+        if *id < marks.len() {
+            marks[*id] = true;
+        }
+    }
+    Ok(marks)
+}
+
+// Marks the numbers to which steps lead.
+fn mark_targets(rows: &[Vec<usize>], marks: &mut [bool])
+    requires within { AreStepsWithin (rows_of rows.now) }
+    requires count { length marks.old ≡ length rows.now }
+    ensures count { length marks.new ≡ length marks.old }
+    ensures marks { (id : ℕ) → IsMarked marks.new id ↔ (IsMarked marks.old id ⊎ ((user : ℕ) × Step (rows_of rows.now) user id)) }
+{
+    for row in rows {
+        mark(row, marks);
+    }
+}
+
+/// Returns one mark for each row, set for the judged number and for those to which steps lead.
+///
+/// `Memory` if an allocation fails.
+pub(crate) fn used_marks(
+    alloc: Global,
+    rows: &[Vec<usize>],
+    judged: usize,
+) -> Result<Vec<bool>, Memory>
+    requires { AreStepsWithin (rows_of rows.now) }
+    ensures count { IfOk result (λ marks. length marks.items ≡ length rows.now) }
+    ensures marks { IfOk result (λ marks. (id : ℕ) → id < length rows.now → (IsMarked marks.items id ↔ IsUsed (rows_of rows.now) judged id)) }
+{
+    let mut marks = vec![in alloc; false; rows.len()]?;
+    if judged < marks.len() {
+        marks[judged] = true;
+    }
+    mark_targets(rows, &mut marks);
+    Ok(marks)
+}
+
+/// Returns the opposite of each mark.
+///
+/// `Memory` if an allocation fails.
+pub(crate) fn opposites(alloc: Global, marks: &[bool]) -> Result<Vec<bool>, Memory>
+    ensures { IfOk result (λ others. others.items ≡ map not marks.now) }
+{
+    let mut others = Vec::new(alloc);
+    for mark in marks {
+        others.push(!*mark)?;
+    }
+    Ok(others)
+}
+
+/// Returns whether a mark is set.
+pub(crate) fn some_set(marks: &[bool]) -> bool
+    ensures { (result ≡ Bool.true) ↔ ((id : ℕ) × IsMarked marks.now id) }
+{
+    for mark in marks {
+        if *mark {
+            return true;
+        }
+    }
+    false
+}
+
+// Returns whether a marked number stands for no rule, or for one that holds prose.
+fn is_broken(marks: &[bool], prose: &[bool]) -> bool
+    ensures { (result ≡ Bool.true) ↔ ((id : ℕ) × IsBroken marks.now prose.now id) }
+{
+    for id in 0..marks.len() {
+        if marks[id] && (id >= prose.len() || prose[id]) {
+            return true;
+        }
+    }
+    false
+}
+
+/// Returns whether a number that stands for no rule, or for one that holds prose, can be reached from the judged one, by steps
+/// or by none.
+///
+/// `Memory` if an allocation fails.
+pub(crate) fn reaches_broken(
+    alloc: Global,
+    rows: &[Vec<usize>],
+    prose: &[bool],
+    judged: usize,
+) -> Result<bool, Memory>
+    requires within { AreStepsWithin (rows_of rows.now) }
+    requires judged { judged < length rows.now }
+    ensures { IfOk result (λ broken. (broken ≡ Bool.true) ↔ ((id : ℕ) × ReachesBroken (rows_of rows.now) prose.now judged id)) }
+{
+    let marks = reached(alloc, rows, &[judged])?;
+    Ok(is_broken(&marks, prose))
+}
