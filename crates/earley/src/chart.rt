@@ -2,29 +2,25 @@
 ghost use Rattle.std.specs.Prelude.{◌≡◌, ◌↔◌, ◌+◌, ◌*◌, ◌≤◌, ℕ, Bool, List, [], Some, IsTrue, IfOk, OnErr, length, map, slice_get};
 ghost use Rattle.abnfread.specs.Element.{Rule};
 ghost use Rattle.abnfcheck.specs.Derivable.{AreLetters, RuleDerives};
-ghost use Rattle.earley.specs.Lowered.{IsLowered};
-ghost use Rattle.earley.specs.NodeSteps.{flat_of};
-ghost use Rattle.earley.specs.Closed.{GiveRoots};
+ghost use Rattle.flatgrammar.specs.Lowered.{IsLowered};
+ghost use Rattle.flatgrammar.specs.NodeSteps.{flat_of};
+ghost use Rattle.flatgrammar.specs.TableViews.{GiveRoots, AreNulls};
 ghost use Rattle.earley.specs.Charts.{IsAfter, IsExact};
-ghost use Rattle.earley.specs.ChartSets.{chart_of, set_at, IsSet, AreExact, AreSized};
+ghost use Rattle.earley.specs.ChartSets.{chart_of, set_at, IsSet, AreSized};
+ghost use Rattle.flatgrammar.specs.Blocks.{AreExact, block_of, item_at, AreTables, AreCalls};
 ghost use Rattle.earley.specs.ItemSets.{Adds};
-ghost use Rattle.earley.specs.Worklist.{AreNulls};
-ghost use Rattle.earley.specs.Blocks.{block_of, item_at, expand, full, AreTables, AreCalls};
-ghost use Rattle.earley.specs.Places.{In, places};
-ghost use Rattle.earley.specs.Flat.{Place};
-ghost use Rattle.earley.specs.Holds.{Holds};
-ghost use Rattle.earley.specs.FrontViews.{view, views, IsWholeAt};
+ghost use Rattle.earley.specs.FrontViews.{expand, full, view, views, IsWholeAt};
+ghost use Rattle.flatgrammar.specs.Places.{In, places};
+ghost use Rattle.flatgrammar.specs.Flat.{Place};
+ghost use Rattle.flatgrammar.specs.Holds.{Holds};
 ghost use Rattle.earley.specs.declared.front.Front as front;
 
-use crate::block::Spot;
 use crate::fill::fill;
-use crate::flat::Flat;
 use crate::front::{Front, note};
-use crate::item::{Item, holds, same};
-use crate::item_laws::items_tell;
+use crate::item::{holds, same};
 use crate::letter::Letter;
 use crate::read_front::read;
-use crate::tables::{Tables, spots, whole_root};
+use flatgrammar::{Flat, Item, Spot, Tables, items_tell, spots, whole_root};
 use ruletable::Memory;
 use std::alloc::Global;
 use std::marker::Model;
@@ -43,7 +39,7 @@ pub struct Chart {
 
 impl Model for Chart {
     ghost use Rattle.std.specs.Prelude.{ℕ, List};
-    ghost use Rattle.earley.specs.Flat.{Place};
+    ghost use Rattle.flatgrammar.specs.Flat.{Place};
     ghost use Rattle.earley.specs.ChartSets.{chart_of, AreSized};
 
     ghost Value = { List (List (Place × ℕ)) };

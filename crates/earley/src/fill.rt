@@ -1,18 +1,18 @@
 //! Fills an item set.
 ghost use Rattle.std.specs.Prelude.{◌≡◌, ◌↔◌, ◌+◌, ◌^◌, ◌<◌, ◌≤◌, true, IsTrue, IfOk, length, map, slice_get, Some, None, List, [], ◌∷◌, ℕ};
-ghost use Rattle.earley.specs.Places.{In, AreDifferent};
-ghost use Rattle.earley.specs.NodeSteps.{flat_of};
-ghost use Rattle.earley.specs.Closed.{GiveRoots, Hold, HoldAll, Keeps, IsClosed};
-ghost use Rattle.earley.specs.Worklist.{AreNulls, null_of, IsPassed};
-ghost use Rattle.earley.specs.ItemSets.{Adds, call_of, done_of, IsResumed, waiting_in, IsCompleted};
-ghost use Rattle.earley.specs.Blocks.{block_of, item_at, expand, full, begin_count, IsHead, IsLate, AreTables, AreCalls};
-ghost use Rattle.earley.specs.FrontViews.{view, views, IsAsked, IsOn, IsFurther, IsGoing};
+ghost use Rattle.flatgrammar.specs.Places.{In, AreDifferent};
+ghost use Rattle.flatgrammar.specs.NodeSteps.{flat_of};
+ghost use Rattle.flatgrammar.specs.TableViews.{GiveRoots, AreNulls, null_of, call_of, done_of};
+ghost use Rattle.earley.specs.Closed.{Hold, HoldAll, Keeps, IsClosed};
+ghost use Rattle.earley.specs.Worklist.{IsPassed};
+ghost use Rattle.earley.specs.ItemSets.{Adds, IsResumed, waiting_in, IsCompleted};
+ghost use Rattle.flatgrammar.specs.Blocks.{block_of, item_at, begin_count, IsHead, IsLate, AreTables, AreCalls};
+ghost use Rattle.earley.specs.FrontViews.{expand, full, view, views, IsAsked, IsOn, IsFurther, IsGoing};
 
-use crate::block::Spot;
 use crate::front::{Front, is_among, note};
-use crate::item::{Item, add};
+use crate::item::add;
 use crate::letter::Letter;
-use crate::tables::{Tables, call, calls, done, null, passes, spots};
+use flatgrammar::{Item, Spot, Tables, call, calls, done, null, passes, spots};
 use ruletable::Memory;
 
 /// Adds what goes on where an item waited for a root.

@@ -1,9 +1,9 @@
 //! Item sets as they are kept.
 ghost use Rattle.std.specs.Prelude.{◌≡◌, ◌↔◌, IsTrue, IfOk};
-ghost use Rattle.earley.specs.Places.{In};
+ghost use Rattle.flatgrammar.specs.Places.{In};
 ghost use Rattle.earley.specs.ItemSets.{Adds};
 
-use crate::item::Item;
+use flatgrammar::Item;
 use ruletable::Memory;
 
 /// Holds an item set: the heads, which are the roots that were predicted in it and whose blocks stand in it, and the items

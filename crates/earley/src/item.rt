@@ -1,17 +1,10 @@
 //! Items of a set.
 ghost use Rattle.std.specs.Prelude.{◌≡◌, ◌↔◌, IsTrue, IfOk};
-ghost use Rattle.earley.specs.Places.{In};
+ghost use Rattle.flatgrammar.specs.Places.{In};
 ghost use Rattle.earley.specs.ItemSets.{Adds};
 
+use flatgrammar::Item;
 use ruletable::Memory;
-
-/// A place, which is a node and a step of it, with the number of letters before which the node's expression began.
-#[derive(Clone, Copy, PartialEq, Eq)]
-pub(crate) struct Item {
-    pub(crate) node: usize,
-    pub(crate) step: usize,
-    pub(crate) origin: usize,
-}
 
 /// Tells whether two items are equal.
 pub(crate) fn same(a: Item, b: Item) -> bool

@@ -1,35 +1,23 @@
 //! What a set has after a letter.
 ghost use Rattle.std.specs.Prelude.{◌≡◌, ◌↔◌, ◌+◌, ◌^◌, ◌<◌, ◌≤◌, ℕ, true, IsTrue, IfOk, length, map, slice_get, [], ◌∷◌};
-ghost use Rattle.earley.specs.NodeSteps.{IfSomeSet};
+ghost use Rattle.flatgrammar.specs.NodeSteps.{IfSomeSet};
 ghost use Rattle.earley.specs.ItemSets.{Adds};
-ghost use Rattle.earley.specs.ReadItems.{IsRead, read_of};
-ghost use Rattle.earley.specs.Blocks.{block_of, item_at, expand};
-ghost use Rattle.earley.specs.FrontViews.{view};
+ghost use Rattle.earley.specs.ReadItems.{IsRead};
+ghost use Rattle.flatgrammar.specs.TableViews.{read_of};
+ghost use Rattle.flatgrammar.specs.Blocks.{block_of, item_at};
+ghost use Rattle.earley.specs.FrontViews.{expand, view};
 
-use crate::block::Spot;
-use crate::flat_node::reads;
 use crate::front::Front;
-use crate::item::{Item, add};
+use crate::item::add;
 use crate::letter::Letter;
-use crate::tables::{Tables, spots};
+use flatgrammar::{Item, Spot, Tables, reads, spots};
 use ruletable::Memory;
-
-/// Whether an item's place reads a letter.
-fn reads_at(flat: &Tables, item: Item, value: u32) -> bool
-    ensures value { IsTrue result ↔ IfSomeSet (read_of flat.now item) value }
-    ensures fits { IsTrue result → item.step + 1 < 2 ^ 64 }
-{
-    match flat.nodes.get(item.node) {
-        None => false,
-        Some(node) => reads(node, item.step, value),
-    }
-}
 
 /// Adds what an item reads.
 fn read_one(flat: &Tables, value: u32, item: Item, set: &mut Vec<Item>) -> Result<(), Memory>
     ensures { IfOk result (λ done. Adds (IsRead flat.now value (item ∷ [])) set.old.items set.new.items) }
 {
-    if reads_at(flat, item, value) {
+    if reads(flat, item, value) {
         add(
             set,
             Item {

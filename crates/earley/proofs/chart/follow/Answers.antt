@@ -1,6 +1,6 @@
 use Rattle.std.proofs.Common.{◌≡◌, ◌+◌, ◌-◌, ◌<◌, Some, length, map, ap, ◌∙◌, arith}
 use Rattle.earley.specs.FrontViews.{view, views}
-use Rattle.earley.proofs.FollowLemmas.{get_map}
+use Rattle.flatgrammar.proofs.CallOfLemmas.{get_map}
 use Rattle.earley.proofs.IsBuiltLemmas.{get_is}
 use Rattle.earley.proofs.ExpandLemmas.{get_views, length_views}
 use Rattle.earley.proofs.ViewsLemmas.{after_last}

@@ -1,8 +1,8 @@
 use Rattle.std.proofs.Common.{take, map, subst, sym, ap, ◌∙◌}
-use Rattle.earley.specs.Places.{In}
-use Rattle.earley.specs.declared.item.Item.{Item}
+use Rattle.flatgrammar.specs.Places.{In}
+use Rattle.flatgrammar.specs.declared.flat_item.Item.{Item}
 use Rattle.earley.specs.ItemSets.{Adds}
-use Rattle.earley.specs.Blocks.{item_at}
+use Rattle.flatgrammar.specs.Blocks.{item_at}
 use Rattle.earley.proofs.ExpandLemmas.{in_more, take_one, map_end}
 use Rattle.earley.proofs.fill.add_all.Goals as goal
 

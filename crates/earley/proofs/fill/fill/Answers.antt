@@ -1,11 +1,12 @@
 use Rattle.std.proofs.Common.{map, ℕ, ◌+◌, ◌<◌, length, subst, sym, arith, slice_index_or, inl, inr}
-use Rattle.earley.specs.Places.{In}
-use Rattle.earley.specs.declared.item.Item.{Item}
+use Rattle.flatgrammar.specs.Places.{In}
+use Rattle.flatgrammar.specs.declared.flat_item.Item.{Item}
 use Rattle.earley.specs.ItemSets.{Adds}
-use Rattle.earley.specs.Blocks.{block_of, item_at}
+use Rattle.flatgrammar.specs.Blocks.{block_of, item_at}
 use Rattle.earley.specs.FrontViews.{views, IsAsked, IsFurther}
 use Rattle.earley.proofs.IsGoingLemmas.{measure, more_keeps, item_more, head_more, full_held, all_different, all_closed}
-use Rattle.earley.proofs.ExpandLemmas.{length_views, past_get}
+use Rattle.earley.proofs.ExpandLemmas.{length_views}
+use Rattle.flatgrammar.proofs.CallOfLemmas.{past_get}
 use Rattle.earley.proofs.fill.fill.Goals as goal
 
 pub loop-item_index-smaller-then-item_index-len : goal.loop-item_index-smaller-then-item_index-len

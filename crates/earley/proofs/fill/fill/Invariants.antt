@@ -1,9 +1,9 @@
 use Rattle.std.proofs.Common.{map, ◌+◌, ◌-◌, ◌*◌, length}
-use Rattle.earley.specs.Places.{places}
-use Rattle.earley.specs.NodeSteps.{flat_of}
+use Rattle.flatgrammar.specs.Places.{places}
+use Rattle.flatgrammar.specs.NodeSteps.{flat_of}
 use Rattle.earley.specs.Closed.{Keeps}
-use Rattle.earley.specs.Blocks.{block_of, full}
-use Rattle.earley.specs.FrontViews.{views, IsGoing}
+use Rattle.flatgrammar.specs.Blocks.{block_of}
+use Rattle.earley.specs.FrontViews.{full, views, IsGoing}
 use Rattle.earley.proofs.fill.fill.Given as goal
 
 abbrev pub invariant-loop-item_index : goal.invariant-loop-item_index

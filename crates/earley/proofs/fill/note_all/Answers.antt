@@ -1,5 +1,5 @@
 use Rattle.std.proofs.Common.{ℕ, take, subst, sym}
-use Rattle.earley.specs.Places.{In}
+use Rattle.flatgrammar.specs.Places.{In}
 use Rattle.earley.specs.ItemSets.{Adds}
 use Rattle.earley.proofs.ExpandLemmas.{in_more, take_one}
 use Rattle.earley.proofs.fill.note_all.Goals as goal

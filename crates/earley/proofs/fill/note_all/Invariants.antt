@@ -1,5 +1,5 @@
 use Rattle.std.proofs.Common.{take}
-use Rattle.earley.specs.Places.{In}
+use Rattle.flatgrammar.specs.Places.{In}
 use Rattle.earley.specs.ItemSets.{Adds}
 use Rattle.earley.proofs.fill.note_all.Given as goal
 

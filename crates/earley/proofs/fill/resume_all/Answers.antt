@@ -1,6 +1,7 @@
 use Rattle.std.proofs.Common.{subst}
 use Rattle.earley.specs.ItemSets.{Adds, IsResumed}
-use Rattle.earley.specs.Blocks.{block_of, expand}
+use Rattle.flatgrammar.specs.Blocks.{block_of}
+use Rattle.earley.specs.FrontViews.{expand}
 use Rattle.earley.proofs.ExpandLemmas.{resumed_both}
 use Rattle.earley.proofs.fill.resume_all.Goals as goal
 

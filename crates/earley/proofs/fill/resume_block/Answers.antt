@@ -1,5 +1,5 @@
 use Rattle.std.proofs.Common.{sym, subst}
-use Rattle.earley.specs.Places.{In}
+use Rattle.flatgrammar.specs.Places.{In}
 use Rattle.earley.proofs.ExpandLemmas.{none_called}
 use Rattle.earley.proofs.fill.resume_block.Goals as goal
 

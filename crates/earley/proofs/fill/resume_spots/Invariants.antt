@@ -1,6 +1,6 @@
 use Rattle.std.proofs.Common.{take, map}
 use Rattle.earley.specs.ItemSets.{Adds, IsResumed}
-use Rattle.earley.specs.Blocks.{item_at}
+use Rattle.flatgrammar.specs.Blocks.{item_at}
 use Rattle.earley.proofs.fill.resume_spots.Given as goal
 
 abbrev pub invariant-loop-spot : goal.invariant-loop-spot

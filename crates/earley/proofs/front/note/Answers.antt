@@ -1,5 +1,5 @@
 use Rattle.std.proofs.Common.{◌≡◌, ℕ, sym, subst}
-use Rattle.earley.specs.Places.{In}
+use Rattle.flatgrammar.specs.Places.{In}
 use Rattle.earley.specs.ItemSets.{Adds}
 use Rattle.earley.proofs.AddsLemmas.{adds_one}
 use Rattle.earley.proofs.front.note.Goals as goal

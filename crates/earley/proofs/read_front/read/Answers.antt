@@ -1,8 +1,8 @@
 use Rattle.std.proofs.Common.{subst}
 use Rattle.earley.specs.ItemSets.{Adds}
 use Rattle.earley.specs.ReadItems.{IsRead}
-use Rattle.earley.specs.Blocks.{block_of, expand}
-use Rattle.earley.specs.FrontViews.{view}
+use Rattle.flatgrammar.specs.Blocks.{block_of}
+use Rattle.earley.specs.FrontViews.{expand, view}
 use Rattle.earley.proofs.ExpandLemmas.{reads_both}
 use Rattle.earley.proofs.read_front.read.Goals as goal
 

@@ -1,7 +1,8 @@
 use Rattle.std.proofs.Common.{take}
 use Rattle.earley.specs.ItemSets.{Adds}
 use Rattle.earley.specs.ReadItems.{IsRead}
-use Rattle.earley.specs.Blocks.{block_of, expand}
+use Rattle.flatgrammar.specs.Blocks.{block_of}
+use Rattle.earley.specs.FrontViews.{expand}
 use Rattle.earley.proofs.read_front.read_heads.Given as goal
 
 abbrev pub invariant-loop-head : goal.invariant-loop-head
