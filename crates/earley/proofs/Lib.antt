@@ -3,10 +3,12 @@ pub mod BlockLemmas
 pub mod ChartSetsLemmas
 pub mod ExpandLemmas
 pub mod FollowLemmas
+pub mod HeadTablesLemmas
 pub mod IsBuiltLemmas
 pub mod IsChartLemmas
 pub mod IsGoingLemmas
 pub mod IsWorkedLemmas
+pub mod ItemRowsLemmas
 pub mod ResumedLemmas
 pub mod SetAtMostLemmas
 pub mod ViewsLemmas

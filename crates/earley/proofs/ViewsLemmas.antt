@@ -165,6 +165,13 @@ module _ (flat : code_flat.Tables) (roots : GiveRoots (flat_of flat) flat.roots.
       (subst (λ v. IsBuilt flat x v) (sym (views_more flat 0 three front))
       (subst (λ n. IsBuilt flat x (views flat 0 three ++ full (block_of flat) n front.heads.items front.items.items ∷ [])) number more))
 
+  pub built_by : (front : Front) (heads' : List ℕ) (items' : List Item) → front.heads.items ≡ heads' → front.items.items ≡ items' →
+      Hold (flat_of flat) x (length (views flat 0 three)) (full (block_of flat) (length (views flat 0 three)) heads' items') →
+      AreDifferent (full (block_of flat) (length (views flat 0 three)) heads' items') →
+      Keeps (full (block_of flat) (length (views flat 0 three)) heads items) (full (block_of flat) (length (views flat 0 three)) heads' items') →
+      IsClosed flat (views flat 0 three) (full (block_of flat) (length (views flat 0 three)) heads' items') → IsBuilt flat x (views flat 0 (fronts ++ front ∷ []))
+  built_by front heads' items' h i hold different keeps closed = built_from front (rw (h, i) hold) (rw (h, i) different) (rw (h, i) keeps) (rw (h, i) closed)
+
 -- looking for an item, one entry after another
 not_more : (item : Item) (ws : List Item) (w : Item) → (In item ws → ⊥) → (item ≡ w → ⊥) → In item (ws ++ w ∷ []) → ⊥
 not_more item ws w none differs h = by (before_end item w ws h)

@@ -2,6 +2,8 @@ pub mod ChartSets
 pub mod Charts
 pub mod Closed
 pub mod FrontViews
+pub mod HeadTables
+pub mod ItemRows
 pub mod ItemSets
 pub mod ReadItems
 pub mod Worklist

@@ -1,10 +1,8 @@
 //! Items of a set.
-ghost use Rattle.std.specs.Prelude.{◌≡◌, ◌↔◌, IsTrue, IfOk};
+ghost use Rattle.std.specs.Prelude.{◌≡◌, ◌↔◌, IsTrue};
 ghost use Rattle.flatgrammar.specs.Places.{In};
-ghost use Rattle.earley.specs.ItemSets.{Adds};
 
 use flatgrammar::Item;
-use ruletable::Memory;
 
 /// Tells whether two items are equal.
 pub(crate) fn same(a: Item, b: Item) -> bool
@@ -23,14 +21,4 @@ pub(crate) fn holds(set: &[Item], item: Item) -> bool
         }
     }
     false
-}
-
-/// Adds an item unless it is there.
-pub(crate) fn add(set: &mut Vec<Item>, item: Item) -> Result<(), Memory>
-    ensures { IfOk result (λ done. Adds (λ a. a ≡ item) set.old.items set.new.items) }
-{
-    if !holds(set, item) {
-        set.push(item)?;
-    }
-    Ok(())
 }

@@ -4,7 +4,9 @@
 mod chart;
 mod fill;
 mod front;
+mod heads;
 mod item;
+mod items;
 mod letter;
 mod read_front;
 
