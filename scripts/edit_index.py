@@ -18,7 +18,8 @@ OTHERS = r"ensures|invariant|loop|safe|ends|requires of [\w.]+"
 PLAIN_TRAITS = ("From", "Model", "Display", "Drop")
 # Functions of which no wrong body can be written: they lend a field of a type of which no other value is at hand, or make a
 # value of which there is only one that takes no memory.
-EXEMPT = ("abnfcheck: SoundAbnf.rules", "earley: Chart.new", "gramcheck: SoundPeg.rules")
+EXEMPT = ("abnfcheck: SoundAbnf.rules", "earley: Chart.new", "flatgrammar: Flat.share",
+          "gramcheck: SoundPeg.rules")
 
 
 @dataclasses.dataclass

@@ -2,9 +2,9 @@
 -- Serves: judge.
 use Rattle.std.proofs.Common.{◌≡◌, ◌⊎◌, inl, inr, List, [], ◌∷◌, ◌++◌, refl, sym, ◌∙◌, ap, subst, append_assoc}
 use Rattle.std.proofs.lemmas.List.{append-nil}
-use Rattle.earley.specs.Places.{In}
+use Rattle.flatgrammar.specs.Places.{In}
 use Rattle.earley.specs.ItemSets.{Adds}
-use Rattle.earley.proofs.InLemmas.{in_left, at_end, before_end, different_end}
+use Rattle.flatgrammar.proofs.InLemmas.{in_left, at_end, before_end, different_end}
 
 pub adds_none : {A : Type 0} (Q : A → Type 0) (old : List A) → ((a : A) → Q a → In a old) → Adds Q old old
 adds_none {A = A} Q old held = record { added = []; is = sym (append-nil old); all = held; only = λ a h. inl h; different = λ d. d }

@@ -1,19 +1,21 @@
 -- A set kept as heads with their blocks: what the blocks imply stands, and asks for nothing more.
 -- Serves: judge.
 use Rattle.std.proofs.Common.{◌≡◌, ℕ, ◌<◌, ◌⊎◌, inl, inr, Some, None, List, [], ◌∷◌, ◌++◌, length, map, slice_get, refl, sym, ◌∙◌, ap, subst}
-use Rattle.earley.specs.Flat.{at}
-use Rattle.earley.specs.Holds.{Holds}
-use Rattle.earley.specs.Places.{In, now, on, AreDifferent}
-use Rattle.earley.specs.declared.item.Item.{Item}
-use Rattle.earley.specs.declared.tables.Tables as code_flat
-use Rattle.earley.specs.NodeSteps.{flat_of}
-use Rattle.earley.specs.ItemSets.{call_of, waiting_or, IsPredicted, IsCompleted}
-use Rattle.earley.specs.Closed.{GiveRoots, HoldAll}
+use Rattle.flatgrammar.specs.Flat.{at}
+use Rattle.flatgrammar.specs.Holds.{Holds}
+use Rattle.flatgrammar.specs.Places.{In, now, on, AreDifferent}
+use Rattle.flatgrammar.specs.declared.flat_item.Item.{Item}
+use Rattle.flatgrammar.specs.declared.tables.Tables as code_flat
+use Rattle.flatgrammar.specs.NodeSteps.{flat_of}
+use Rattle.flatgrammar.specs.TableViews.{call_of, GiveRoots}
+use Rattle.earley.specs.ItemSets.{waiting_or, IsPredicted, IsCompleted}
+use Rattle.earley.specs.Closed.{HoldAll}
 use Rattle.earley.specs.Worklist.{IsPassed, IsWork, IsWorked}
-use Rattle.earley.specs.declared.block.Spot.{Spot}
-use Rattle.earley.specs.Blocks.{item_at, Block, begin_count, call_at, Inside, begun, called, expand, full, AreBlocks, AreOpened}
+use Rattle.flatgrammar.specs.declared.block.Spot.{Spot}
+use Rattle.flatgrammar.specs.Blocks.{item_at, Block, begin_count, call_at, Inside, begun, called}
+use Rattle.earley.specs.FrontViews.{expand, full, AreBlocks, AreOpened}
 use Rattle.earley.proofs.FollowLemmas.{predicted_holds}
-use Rattle.earley.proofs.InLemmas.{in_left}
+use Rattle.flatgrammar.proofs.InLemmas.{in_left}
 use Rattle.earley.proofs.ResumedLemmas.{item_same}
 
 pub in_right : {A : Type 0} {a : A} (xs : List A) {ys : List A} → In a ys → In a (xs ++ ys)

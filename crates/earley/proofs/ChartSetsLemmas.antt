@@ -3,22 +3,22 @@
 use Rattle.std.proofs.Common.{◌≡◌, ℕ, zero, suc, ◌+◌, ◌*◌, ◌<◌, ◌≤◌, ◌⊎◌, inl, inr, Option, Some, None, List, [], ◌∷◌, ◌++◌, length, length-append, map, take, slice_get, slice_index_or, refl, sym, ◌∙◌, ap, subst, arith, ⊎_elim, Global}
 use Rattle.std.proofs.lemmas.List.{length-map}
 use Rattle.std.specs.declared.rc.Rc.{Rc}
-use Rattle.earley.specs.Flat.{Flat, Place, at}
-use Rattle.earley.specs.Holds.{Holds, begins, called, has_read, returned}
-use Rattle.earley.specs.Places.{In, now, on, AreDifferent, places}
-use Rattle.earley.specs.declared.item.Item.{Item}
+use Rattle.flatgrammar.specs.Flat.{Flat, Place, at}
+use Rattle.flatgrammar.specs.Holds.{Holds, begins, called, has_read, returned}
+use Rattle.flatgrammar.specs.Places.{In, now, on, places}
+use Rattle.flatgrammar.specs.declared.flat_item.Item.{Item}
 use Rattle.earley.specs.declared.front.Front.{Front}
-use Rattle.earley.specs.declared.tables.Tables as code_flat
-use Rattle.earley.specs.NodeSteps.{flat_of}
+use Rattle.flatgrammar.specs.declared.tables.Tables as code_flat
+use Rattle.flatgrammar.specs.NodeSteps.{flat_of}
 use Rattle.earley.specs.Charts.{item_of, IsExact, IsExactSet}
 use Rattle.earley.specs.ChartSets.{pair, chart_of, set_at, IsSet, AreSized}
-use Rattle.earley.specs.declared.block.Spot.{Spot}
-use Rattle.earley.specs.Blocks.{Block, item_at, expand, full, block_of}
-use Rattle.earley.specs.FrontViews.{view, views}
-use Rattle.earley.proofs.BeforeLemmas.{get_below}
-use Rattle.earley.proofs.FlatCutLemmas.{push_cases}
+use Rattle.flatgrammar.specs.declared.block.Spot.{Spot}
+use Rattle.flatgrammar.specs.Blocks.{Block, item_at, block_of}
+use Rattle.earley.specs.FrontViews.{expand, full, view, views}
+use Rattle.flatgrammar.proofs.BeforeLemmas.{get_below}
+use Rattle.flatgrammar.proofs.FlatCutLemmas.{push_cases}
 use Rattle.earley.proofs.ExpandLemmas.{get_views, length_views, take_one, expand_end}
-use Rattle.earley.proofs.PlacesLemmas.{items_at_most}
+use Rattle.flatgrammar.proofs.PlacesLemmas.{items_at_most}
 use Rattle.earley.proofs.SetAtMostLemmas.{From, in_map, different_map}
 
 -- no set lies past the line's end

@@ -2,20 +2,21 @@
 -- Serves: judge.
 use Rattle.std.proofs.Common.{◌≡◌, ℕ, zero, suc, ◌+◌, ◌<◌, ◌≤◌, ◌⊎◌, inl, inr, List, [], ◌∷◌, ◌++◌, true, Some, None, length, map, take, slice_get, slice_index_or, refl, sym, ◌∙◌, ap, subst, arith, append_assoc}
 use Rattle.std.proofs.lemmas.List.{append-nil}
-use Rattle.earley.specs.Places.{In, now, on}
-use Rattle.earley.specs.declared.item.Item.{Item}
-use Rattle.earley.specs.declared.tables.Tables as code_flat
-use Rattle.earley.specs.declared.block.Spot.{Spot}
-use Rattle.earley.specs.ItemSets.{Adds, call_of, IsResumed, IsCompleted, done_of, waiting_or, waiting_in}
-use Rattle.earley.specs.NodeSteps.{IfSomeSet}
-use Rattle.earley.specs.ReadItems.{IsRead, read_of}
+use Rattle.flatgrammar.specs.Places.{In, now, on}
+use Rattle.flatgrammar.specs.declared.flat_item.Item.{Item}
+use Rattle.flatgrammar.specs.declared.tables.Tables as code_flat
+use Rattle.flatgrammar.specs.declared.block.Spot.{Spot}
+use Rattle.earley.specs.ItemSets.{Adds, IsResumed, IsCompleted, waiting_or, waiting_in}
+use Rattle.flatgrammar.specs.TableViews.{call_of, done_of, read_of, null_of}
+use Rattle.flatgrammar.specs.NodeSteps.{IfSomeSet}
+use Rattle.earley.specs.ReadItems.{IsRead}
 use Rattle.earley.specs.declared.front.Front.{Front}
-use Rattle.earley.specs.FrontViews.{view, views, IsOn, IsAsked}
-use Rattle.earley.specs.Worklist.{null_of}
-use Rattle.earley.proofs.ResumedLemmas.{item_same, some_same}
-use Rattle.earley.specs.Blocks.{item_at, Block, expand, block_of, AreCalls}
+use Rattle.earley.specs.FrontViews.{view, views, IsOn, IsAsked, expand}
+use Rattle.earley.proofs.ResumedLemmas.{item_same}
+use Rattle.flatgrammar.proofs.CallOfLemmas.{some_same}
+use Rattle.flatgrammar.specs.Blocks.{item_at, Block, block_of, AreCalls}
 use Rattle.earley.proofs.AddsLemmas.{adds_both, adds_as, adds_none}
-use Rattle.earley.proofs.InLemmas.{in_left, at_end, before_end}
+use Rattle.flatgrammar.proofs.InLemmas.{in_left, at_end, before_end}
 use Rattle.earley.proofs.BlockLemmas.{in_right, either, from_map}
 
 pub take_one : {A : Type 0} (xs : List A) (k : ℕ) (d : A) → k < length xs → take (k + 1) xs ≡ take k xs ++ slice_index_or xs k d ∷ []
@@ -209,11 +210,6 @@ none_on flat item old never = adds_none (IsOn flat item) old (λ a h. absurd (ne
 pub asked_one : (flat : code_flat.Tables) (item : Item) (root next : ℕ) (old new : List ℕ) → call_of flat item ≡ Some (root, next) → Adds (λ t. t ≡ root) old new → Adds (IsAsked flat item) old new
 asked_one flat item root next old new is p = adds_as (λ t. t ≡ root) (IsAsked flat item) old new
     (λ t h. record { next = next; call = is ∙ ap (λ v. Some (v, next)) (sym h) }) (λ t h. ap (λ v. v.0) (some_same (sym h.call ∙ is))) p
-
-pub past_get : {A : Type 0} (xs : List A) (k : ℕ) → length xs ≤ k → slice_get xs k ≡ None
-past_get [] k le = refl
-past_get (x ∷ xs) zero le = absurd (omega (arith, le))
-past_get (x ∷ xs) (suc k) le = past_get xs k (omega (arith, le))
 
 pub length_views : (flat : code_flat.Tables) (j : ℕ) (fronts : List Front) → length (views flat j fronts) ≡ length fronts
 length_views flat j [] = refl

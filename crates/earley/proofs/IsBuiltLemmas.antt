@@ -2,24 +2,21 @@
 -- Serves: judge.
 use Rattle.std.proofs.Common.{◌≡◌, ℕ, zero, suc, ◌+◌, ◌<◌, ◌≤◌, ◌⊎◌, inl, inr, Option, Some, None, List, [], ◌∷◌, ◌++◌, length, take, slice_get, refl, sym, ◌∙◌, ap, subst, arith, slice_index_or}
 use Rattle.std.proofs.lemmas.List.{take-append-le}
-use Rattle.earley.specs.Flat.{Place, at, Starts}
-use Rattle.earley.specs.Places.{In, AreDifferent}
-use Rattle.earley.specs.declared.item.Item.{Item}
-use Rattle.earley.specs.declared.tables.Tables as code_flat
-use Rattle.earley.specs.NodeSteps.{flat_of}
-use Rattle.earley.specs.Closed.{GiveRoots, Hold, HoldAll, IsClosed}
+use Rattle.flatgrammar.specs.Flat.{Place, at, Starts, Node, Letters, Concat, Alt, Rep, Opt, Name, Nothing, Set, Has, Reading, reads}
+use Rattle.flatgrammar.specs.Places.{In, AreDifferent}
+use Rattle.flatgrammar.specs.declared.flat_item.Item.{Item}
+use Rattle.flatgrammar.specs.declared.tables.Tables as code_flat
+use Rattle.flatgrammar.specs.NodeSteps.{flat_of, read_at, IfSomeSet}
+use Rattle.flatgrammar.specs.TableViews.{GiveRoots, read_in, joined}
+use Rattle.earley.specs.Closed.{Hold, HoldAll, IsClosed}
 use Rattle.earley.specs.ReadItems.{IsRead}
 use Rattle.earley.specs.Charts.{item_of, IsFirst, IsWhole, IsAfter, IsExact, IsBuilt}
-use Rattle.earley.specs.FlatViews.{node_of}
-use Rattle.earley.specs.NodeSteps.{read_at, IfSomeSet}
+use Rattle.flatgrammar.specs.FlatViews.{node_of}
 use Rattle.earley.specs.ItemSets.{Adds}
-use Rattle.earley.specs.ReadItems.{read_in}
-use Rattle.earley.specs.Charts.{joined}
-use Rattle.earley.specs.declared.flat_node.Node as code_node
+use Rattle.flatgrammar.specs.declared.flat_node.Node as code_node
 use Rattle.earley.proofs.AddsLemmas.{adds_as}
-use Rattle.earley.proofs.FollowLemmas.{begun_starts, get_map}
-use Rattle.earley.specs.Flat.{Node, Letters, Concat, Alt, Rep, Opt, Name, Nothing, Set, Has, Reading, reads}
-use Rattle.earley.specs.Holds.{Holds, begins, has_read}
+use Rattle.flatgrammar.proofs.CallOfLemmas.{begun_starts, get_map}
+use Rattle.flatgrammar.specs.Holds.{Holds, begins, has_read}
 use Rattle.earley.proofs.IsChartLemmas.{contains, whole_in}
 
 record AtEnd {A : Type 0} (xs : List A) (y : A) (k : ℕ) (z : A) : Type 0 where

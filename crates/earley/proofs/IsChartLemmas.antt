@@ -1,58 +1,20 @@
 -- Every item of a line stands in its chart.
 -- Serves: judge.
-use Rattle.std.proofs.Common.{◌≡◌, ℕ, zero, suc, ◌+◌, ◌-◌, ◌<◌, ◌≤◌, true, ◌⊎◌, inl, inr, Some, None, List, [], ◌∷◌, length, map, take, slice_get, refl, sym, ◌∙◌, ap, subst, arith, lt-ltb, le-leb, eq-eqb, le-ltb, length-take-le}
+use Rattle.std.proofs.Common.{◌≡◌, ℕ, zero, suc, ◌+◌, ◌<◌, ◌≤◌, true, ◌⊎◌, inl, inr, Some, None, List, [], ◌∷◌, length, take, slice_get, refl, sym, ◌∙◌, ap, subst, arith, length-take-le}
 use Rattle.std.proofs.lemmas.Bool.{cases_lt}
-use Rattle.earley.specs.Flat.{Node, Letters, Name, Flat, Place, at, Set, Has, Begins, IsDone, Reading, Calling, Starts, starts, name_starts, Ends, ends, name_ends, Reads, reads, Calls, calls}
-use Rattle.earley.specs.Holds.{Holds, begins, called, has_read, returned}
-use Rattle.earley.specs.Places.{In}
-use Rattle.earley.proofs.PlacesLemmas.{holds_origin}
-use Rattle.earley.specs.declared.item.Item.{Item}
-use Rattle.earley.specs.declared.tables.Tables as code_flat
-use Rattle.earley.specs.FlatViews.{node_of}
-use Rattle.earley.specs.NodeSteps.{flat_of, begin_count, is_done, callee, read_at, IfSomeSet}
-use Rattle.earley.specs.ItemSets.{root_in, rooted, called_by, call_of, done_in, done_of, count_in, waiting_in}
-use Rattle.earley.specs.ReadItems.{read_in, read_of}
-use Rattle.earley.specs.Roots.{Root, own, named}
-use Rattle.earley.specs.Closed.{GiveRoots}
-use Rattle.earley.specs.Charts.{item_of, IsChart, IsWhole, joined}
-
-calling_callee : {node : Node} {k t l : ℕ} → Calling node k t l → callee node k ≡ Some (t, l)
-calling_callee (Calling.member is) = rw is refl
-calling_callee (Calling.alternative is) = rw is refl
-calling_callee (Calling.turn {a = a} {k = k} {b = None} lt) = rw (lt-ltb k a lt) refl
-calling_callee (Calling.turn {a = a} {k = k} {b = Some b} lt) = rw (lt-ltb k b lt) refl
-calling_callee (Calling.turn_uncounted {a = a}) = rw (le-ltb a a (omega arith), eq-eqb a a refl) refl
-calling_callee Calling.operand = refl
-
-done_tests : {node : Node} {k : ℕ} → IsDone node k → is_done node k ≡ true
-done_tests (IsDone.letters {sets = sets} {k = k} same) = eq-eqb k (length sets) same
-done_tests (IsDone.concat {ms = ms} {k = k} same) = eq-eqb k (length ms) same
-done_tests (IsDone.alt {ms = ms} {k = k} lt) =
-    let le : length ms ≤ length ms + k = omega arith in
-    let below : length ms + k - length ms < length ms = omega arith in
-    rw (le-leb (length ms) (length ms + k) le, lt-ltb (length ms + k - length ms) (length ms) below) refl
-done_tests (IsDone.rep {a = a} {k = k} {b = None} low high) = let same : k ≡ a = omega arith in eq-eqb k a same
-done_tests (IsDone.rep {a = a} {k = k} {b = Some b} low high) = rw (le-leb a k low, le-leb k b high) refl
-done_tests IsDone.opt = refl
-done_tests IsDone.opt_empty = refl
-
-begin_below : {node : Node} {k : ℕ} → Begins node k → k < begin_count node
-begin_below Begins.letters = omega arith
-begin_below Begins.concat = omega arith
-begin_below (Begins.alt lt) = lt
-begin_below Begins.rep = omega arith
-begin_below Begins.opt = omega arith
-begin_below Begins.opt_empty = omega arith
-
-pub record Unmapped {A B : Type 0} (f : A → B) (xs : List A) (k : ℕ) (y : B) : Type 0 where
-  pub from : A
-  pub at : slice_get xs k ≡ Some from
-  pub is : f from ≡ y
-
-pub get_unmap : {A B : Type 0} (f : A → B) (xs : List A) (k : ℕ) (y : B) → slice_get (map f xs) k ≡ Some y → Unmapped f xs k y
-get_unmap f [] k y h = absurd cc
-get_unmap f (x ∷ xs) zero y h = let same : f x ≡ y = cc in record { from = x; at = refl; is = same }
-get_unmap f (x ∷ xs) (suc k) y h = let u = get_unmap f xs k y h in record { from = u.from; at = u.at; is = u.is }
+use Rattle.flatgrammar.specs.Flat.{Node, Letters, Name, Flat, Place, at, Set, Has, Begins, IsDone, Reading, Calling, Starts, starts, name_starts, Ends, ends, name_ends, Reads, reads, Calls, calls}
+use Rattle.flatgrammar.specs.Holds.{Holds, begins, called, has_read, returned}
+use Rattle.flatgrammar.specs.Places.{In}
+use Rattle.flatgrammar.proofs.PlacesLemmas.{holds_origin}
+use Rattle.flatgrammar.specs.declared.flat_item.Item.{Item}
+use Rattle.flatgrammar.specs.declared.tables.Tables as code_flat
+use Rattle.flatgrammar.specs.FlatViews.{node_of}
+use Rattle.flatgrammar.specs.NodeSteps.{flat_of, begin_count, is_done, callee, read_at, IfSomeSet}
+use Rattle.flatgrammar.specs.TableViews.{root_in, rooted, called_by, call_of, done_in, done_of, count_in, read_in, read_of, GiveRoots, joined}
+use Rattle.earley.specs.ItemSets.{waiting_in}
+use Rattle.flatgrammar.specs.Roots.{Root, own, named}
+use Rattle.earley.specs.Charts.{item_of, IsChart, IsWhole}
+use Rattle.flatgrammar.proofs.CallOfLemmas.{done_tests, calling_callee, begin_below, get_below, get_unmap}
 
 record There {A : Type 0} (xs : List A) (k : ℕ) : Type 0 where
   what : A
@@ -62,11 +24,6 @@ get_there : {A : Type 0} (xs : List A) (k : ℕ) → k < length xs → There xs 
 get_there [] k lt = absurd (omega arith)
 get_there (x ∷ xs) zero lt = record { what = x; is = refl }
 get_there (x ∷ xs) (suc k) lt = let less : k < length xs = omega arith in let t = get_there xs k less in record { what = t.what; is = t.is }
-
-pub get_below : {A : Type 0} (xs : List A) (k : ℕ) {y : A} → slice_get xs k ≡ Some y → k < length xs
-get_below [] k is = absurd cc
-get_below (x ∷ xs) zero is = omega arith
-get_below (x ∷ xs) (suc k) is = omega (arith, get_below xs k is)
 
 get_front : {A : Type 0} (xs : List A) (j k : ℕ) → k < j → slice_get (take j xs) k ≡ slice_get xs k
 get_front [] zero k lt = refl

@@ -1,56 +1,29 @@
 -- The worklist over heads and items.
 -- Serves: judge.
 use Rattle.std.proofs.Common.{◌≡◌, ℕ, suc, ◌+◌, ◌-◌, ◌*◌, ◌<◌, ◌≤◌, ◌⊎◌, inl, inr, Option, Some, None, List, [], ◌∷◌, ◌++◌, length, map, take, slice_get, slice_index_or, refl, sym, ◌∙◌, ap, subst, arith, length-append}
-use Rattle.std.proofs.lemmas.Bool.{cases_lt}
 use Rattle.std.proofs.lemmas.List.{take-append-le}
-use Rattle.earley.specs.Flat.{Flat, Node, Place, at, Calling, Calls, calls}
-use Rattle.earley.specs.Holds.{Holds}
-use Rattle.earley.specs.Places.{places, In, AreDifferent}
-use Rattle.earley.proofs.PlacesLemmas.{holds_origin, at_most, every, in_every, length_every}
-use Rattle.earley.specs.declared.item.Item.{Item}
-use Rattle.earley.specs.declared.block.Spot.{Spot}
-use Rattle.earley.specs.declared.tables.Tables as code_flat
-use Rattle.earley.specs.NodeSteps as meaning
-use Rattle.earley.specs.FlatViews.{node_of}
-use Rattle.earley.specs.NodeSteps.{flat_of}
-use Rattle.earley.specs.ItemSets.{Adds, call_of, called_by, count_in, waiting_or, IsCompleted}
-use Rattle.earley.specs.Roots.{Root, own, named}
-use Rattle.earley.specs.Closed.{GiveRoots, Hold, HoldAll, IsClosed, Keeps}
-use Rattle.earley.specs.Worklist.{AreNulls, IsWork, IsWorked}
-use Rattle.earley.specs.Blocks.{item_at, begin_count, Inside, begun, called, IsBlock, block_of, expand, full, AreBlocks, IsHead, IsLate, AreTables}
-use Rattle.earley.specs.FrontViews.{IsAsked, IsOn, IsFurther, IsGoing}
+use Rattle.flatgrammar.specs.Flat.{at}
+use Rattle.flatgrammar.specs.Holds.{Holds}
+use Rattle.flatgrammar.specs.Places.{places, In, AreDifferent}
+use Rattle.flatgrammar.proofs.PlacesLemmas.{holds_origin, at_most, every, in_every, length_every}
+use Rattle.flatgrammar.specs.declared.flat_item.Item.{Item}
+use Rattle.flatgrammar.specs.declared.block.Spot.{Spot}
+use Rattle.flatgrammar.specs.declared.tables.Tables as code_flat
+use Rattle.flatgrammar.specs.FlatViews.{node_of}
+use Rattle.flatgrammar.specs.NodeSteps.{flat_of}
+use Rattle.earley.specs.ItemSets.{Adds, waiting_or, IsCompleted}
+use Rattle.flatgrammar.specs.TableViews.{call_of, called_by, GiveRoots, AreNulls}
+use Rattle.earley.specs.Closed.{Hold, HoldAll, IsClosed, Keeps}
+use Rattle.earley.specs.Worklist.{IsWork, IsWorked}
+use Rattle.flatgrammar.specs.Blocks.{item_at, begin_count, Inside, begun, called, IsBlock, block_of, IsHead, IsLate, AreTables}
+use Rattle.earley.specs.FrontViews.{expand, full, AreBlocks, IsAsked, IsOn, IsFurther, IsGoing}
 use Rattle.earley.proofs.SetAtMostLemmas.{set_at_most}
-use Rattle.earley.proofs.FollowLemmas.{called_of, predicted_holds, completed_holds}
-use Rattle.earley.proofs.IsChartLemmas.{get_unmap, get_below}
+use Rattle.flatgrammar.proofs.CallOfLemmas.{equal_or, root_stands, calls_late, called_of, get_below}
+use Rattle.earley.proofs.FollowLemmas.{predicted_holds, completed_holds}
 use Rattle.earley.proofs.IsWorkedLemmas.{passed_holds, nothing, worked_closed}
-use Rattle.earley.proofs.InLemmas.{in_left, among_more, at_index_in, in_front}
+use Rattle.flatgrammar.proofs.InLemmas.{in_left, among_more, at_index_in, in_front}
 use Rattle.earley.proofs.BlockLemmas.{in_right, either, in_expand, from_expand, blocks_worked, inside_holds, full_different, in_map, from_map}
 use Rattle.earley.proofs.ResumedLemmas.{item_same}
-
-pub equal_or : (m n : ℕ) → (m ≡ n) ⊎ (m ≡ n → ⊥)
-equal_or m n = by (cases_lt m n) (cases_lt n m)
-  where
-    by : (m < n) ⊎ (n ≤ m) → (n < m) ⊎ (m ≤ n) → (m ≡ n) ⊎ (m ≡ n → ⊥)
-    by (inl lt) other = inr (λ same. absurd (omega (arith, lt, same)))
-    by (inr le) (inl lt) = inr (λ same. absurd (omega (arith, lt, same)))
-    by (inr le) (inr ge) = inl (omega (arith, le, ge))
-
-abbrev pub place_node : Place → ℕ
-place_node (at s k) = s
-
-abbrev pub place_step : Place → ℕ
-place_step (at s k) = k
-
-calling_late : {node : Node} {k t l : ℕ} → Calling node k t l → (l ≡ k → ⊥) → l < meaning.begin_count node → ⊥
-calling_late (Calling.member is) moves lt = absurd (omega (arith, lt))
-calling_late (Calling.alternative is) moves lt = absurd (omega (arith, lt))
-calling_late (Calling.turn below) moves lt = absurd (omega (arith, lt))
-calling_late Calling.turn_uncounted moves lt = moves refl
-calling_late Calling.operand moves lt = absurd (omega (arith, lt))
-
-pub root_stands : {nodes : List Node} {bodies : List ℕ} {s t : ℕ} → Root nodes bodies s t → (node : Node) × (slice_get nodes t ≡ Some node)
-root_stands (own {node = node} is differs) = (node, is)
-root_stands (named is at_r r) = root_stands r
 
 front_same : {A : Type 0} (k : ℕ) (old added new : List A) → new ≡ old ++ added → k ≤ length old → take k new ≡ take k old
 front_same k old added new is le = ap (λ v. take k v) is ∙ take-append-le k old added le
@@ -63,11 +36,6 @@ size_map f [] = refl
 size_map f (y ∷ xs) = ap suc (size_map f xs)
 
 module _ (flat : code_flat.Tables) where
-  pub calls_late : {s : ℕ} {q r : Place} → Calls (flat_of flat) q s r → (place_step r ≡ place_step q → ⊥) → place_step r < begin_count flat (place_node q) → ⊥
-  calls_late (calls {s = s} {l = l} {node = node} is c) moves lt =
-      let u = get_unmap node_of flat.nodes.items s node is in
-      calling_late c moves (subst (λ v. l < meaning.begin_count v) u.is (subst (λ v. l < count_in v) u.at lt))
-
   inside_begins : {h : ℕ} {p : Spot} → Inside flat h p → p.step < begin_count flat p.node
   inside_begins (begun lt) = lt
   inside_begins (called i call lt) = lt

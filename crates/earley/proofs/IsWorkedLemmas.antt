@@ -2,27 +2,29 @@
 -- Serves: judge.
 use Rattle.std.proofs.Common.{◌≡◌, ℕ, suc, ◌+◌, ◌-◌, ◌*◌, ◌<◌, ◌≤◌, true, ◌⊎◌, inl, inr, Bool, Option, Some, None, List, [], length, take, slice_get, slice_index_or, refl, sym, ◌∙◌, ap, subst, arith, length-append}
 use Rattle.std.proofs.lemmas.List.{take-append-le}
-use Rattle.earley.specs.Flat.{Flat, Node, at}
-use Rattle.earley.specs.Holds.{Holds}
-use Rattle.earley.specs.Nullable.{Passes, Nullable}
-use Rattle.earley.specs.Places.{places, In, AreDifferent}
-use Rattle.earley.proofs.PlacesLemmas.{holds_origin}
-use Rattle.earley.proofs.FlatNullableLemmas.{stays, pass}
-use Rattle.earley.specs.declared.item.Item.{Item}
-use Rattle.earley.specs.declared.flat_node.Node as code_node
-use Rattle.earley.specs.declared.tables.Tables as code_flat
-use Rattle.earley.specs.FlatViews.{node_of}
-use Rattle.earley.specs.NodeSteps.{flat_of}
-use Rattle.earley.specs.ItemSets.{Adds, call_of, done_in, waiting_or, IsPredicted, IsResumed, IsCompleted, IsNextOf}
-use Rattle.earley.specs.Roots.{Root, own, named}
-use Rattle.earley.specs.Closed.{GiveRoots, Hold, HoldAll, IsClosed, Keeps}
-use Rattle.earley.specs.Worklist.{AreNulls, null_in, null_of, IsPassed, IsWork, IsWorked}
+use Rattle.flatgrammar.specs.Flat.{Node, at}
+use Rattle.flatgrammar.specs.Holds.{Holds}
+use Rattle.flatgrammar.specs.Nullable.{Passes, Nullable}
+use Rattle.flatgrammar.specs.Places.{places, In, AreDifferent}
+use Rattle.flatgrammar.proofs.PlacesLemmas.{holds_origin}
+use Rattle.flatgrammar.proofs.FlatNullableLemmas.{stays, pass}
+use Rattle.flatgrammar.specs.declared.flat_item.Item.{Item}
+use Rattle.flatgrammar.specs.declared.flat_node.Node as code_node
+use Rattle.flatgrammar.specs.declared.tables.Tables as code_flat
+use Rattle.flatgrammar.specs.FlatViews.{node_of}
+use Rattle.flatgrammar.specs.NodeSteps.{flat_of}
+use Rattle.earley.specs.ItemSets.{Adds, waiting_or, IsPredicted, IsResumed, IsCompleted, IsNextOf}
+use Rattle.flatgrammar.specs.TableViews.{call_of, done_in, GiveRoots, AreNulls, null_in, null_of}
+use Rattle.flatgrammar.specs.Roots.{Root, own, named}
+use Rattle.earley.specs.Closed.{Hold, HoldAll, IsClosed, Keeps}
+use Rattle.earley.specs.Worklist.{IsPassed, IsWork, IsWorked}
 use Rattle.earley.proofs.SetAtMostLemmas.{set_at_most}
-use Rattle.earley.proofs.FollowLemmas.{get_map, below_get, called_of, predicted_holds, completed_holds}
-use Rattle.earley.proofs.InLemmas.{in_left, among_more, at_index_in}
-use Rattle.earley.proofs.NodeStepsLemmas.{done_is}
+use Rattle.flatgrammar.proofs.CallOfLemmas.{get_map, below_get, called_of, some_same}
+use Rattle.earley.proofs.FollowLemmas.{predicted_holds, completed_holds}
+use Rattle.flatgrammar.proofs.InLemmas.{in_left, among_more, at_index_in}
+use Rattle.flatgrammar.proofs.NodeStepsLemmas.{done_is}
 use Rattle.earley.proofs.AddsLemmas.{adds_both, adds_as, adds_none}
-use Rattle.earley.proofs.ResumedLemmas.{item_same, some_same}
+use Rattle.earley.proofs.ResumedLemmas.{item_same}
 
 nullable_up : {nodes : List Node} {bodies : List ℕ} {s t : ℕ} → Root nodes bodies s t → Nullable nodes bodies t → Nullable nodes bodies s
 nullable_up (own is differs) n = n

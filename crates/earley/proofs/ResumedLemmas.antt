@@ -1,24 +1,22 @@
 -- One turn of the loops over an item set.
 -- Serves: judge.
-use Rattle.std.proofs.Common.{◌≡◌, ℕ, zero, suc, ◌+◌, ◌<◌, ◌≤◌, ◌⊎◌, inl, inr, Some, List, [], ◌∷◌, length, take, slice_index_or, refl, sym, ◌∙◌, ap, subst, arith}
+use Rattle.std.proofs.Common.{◌≡◌, ℕ, zero, suc, ◌+◌, ◌<◌, ◌≤◌, ◌⊎◌, inl, inr, Some, List, [], ◌∷◌, length, take, slice_index_or, refl, sym, ◌∙◌, ap, subst, arith, slice_get}
 use Rattle.std.proofs.lemmas.Bool.{cases_lt}
-use Rattle.std.proofs.Common.{slice_get}
-use Rattle.earley.specs.Places.{In, now, on}
-use Rattle.earley.specs.declared.item.Item.{Item}
-use Rattle.earley.specs.declared.tables.Tables as code_flat
-use Rattle.earley.specs.ItemSets.{Adds, IsBegun, IsResumed, call_of, count_in, IsPredicted, IsCompleted, IsNextOf, IsNext}
-use Rattle.earley.specs.NodeSteps.{IfSomeSet}
-use Rattle.earley.specs.ReadItems.{IsRead, read_of}
-use Rattle.earley.proofs.InLemmas.{among_more, in_front, from_front}
+use Rattle.flatgrammar.specs.Places.{In, now, on}
+use Rattle.flatgrammar.specs.declared.flat_item.Item.{Item}
+use Rattle.flatgrammar.specs.declared.tables.Tables as code_flat
+use Rattle.earley.specs.ItemSets.{Adds, IsBegun, IsResumed, IsPredicted, IsCompleted, IsNextOf, IsNext}
+use Rattle.flatgrammar.specs.TableViews.{call_of, count_in, read_of}
+use Rattle.flatgrammar.specs.NodeSteps.{IfSomeSet}
+use Rattle.earley.specs.ReadItems.{IsRead}
+use Rattle.flatgrammar.proofs.InLemmas.{among_more, in_front, from_front}
 use Rattle.earley.proofs.AddsLemmas.{adds_both, adds_as, adds_none}
+use Rattle.flatgrammar.proofs.CallOfLemmas.{some_same}
 
 pub item_same : (a : Item) (n s o : ℕ) → a.node ≡ n → a.step ≡ s → a.origin ≡ o → a ≡ record { node = n; step = s; origin = o }
 item_same a n s o hn hs ho =
     ap (λ v. record { node = v; step = a.step; origin = a.origin }) hn ∙
     (ap (λ v. record { node = n; step = v; origin = a.origin }) hs ∙ ap (λ v. record { node = n; step = s; origin = v }) ho)
-
-pub some_same : {A : Type 0} {a b : A} → Some a ≡ Some b → a ≡ b
-some_same h = cc
 
 pub begun_more : (root k j : ℕ) (old mid new : List Item) → Adds (IsBegun root k j) old mid → Adds (λ a. a ≡ record { node = root; step = k; origin = j }) mid new →
     Adds (IsBegun root (k + 1) j) old new

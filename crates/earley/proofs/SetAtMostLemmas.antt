@@ -2,11 +2,11 @@
 -- Serves: judge.
 use Rattle.std.proofs.Common.{◌≡◌, ℕ, ◌+◌, ◌*◌, ◌≤◌, List, [], ◌∷◌, length, map, refl, sym, ◌∙◌, ap, subst}
 use Rattle.std.proofs.lemmas.List.{length-map}
-use Rattle.earley.specs.Flat.{Flat, Place, at}
-use Rattle.earley.specs.Holds.{Holds}
-use Rattle.earley.specs.Places.{places, In, now, on, AreDifferent}
-use Rattle.earley.proofs.PlacesLemmas.{items_at_most}
-use Rattle.earley.specs.declared.item.Item.{Item}
+use Rattle.flatgrammar.specs.Flat.{Flat, Place, at}
+use Rattle.flatgrammar.specs.Holds.{Holds}
+use Rattle.flatgrammar.specs.Places.{places, In, now, on, AreDifferent}
+use Rattle.flatgrammar.proofs.PlacesLemmas.{items_at_most}
+use Rattle.flatgrammar.specs.declared.flat_item.Item.{Item}
 use Rattle.earley.specs.Closed.{Hold}
 use Rattle.earley.specs.ChartSets.{pair}
 

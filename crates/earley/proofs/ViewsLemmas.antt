@@ -1,33 +1,32 @@
 -- A chart of heads and items, set by set.
 -- Serves: judge.
 use Rattle.std.proofs.Common.{◌≡◌, ℕ, suc, ◌+◌, ◌<◌, ◌≤◌, ◌⊎◌, inl, inr, Option, Some, None, List, [], ◌∷◌, ◌++◌, length, map, take, slice_get, slice_index_or, refl, sym, ◌∙◌, ap, subst, arith}
-use Rattle.earley.specs.Flat.{at}
-use Rattle.earley.specs.Holds.{Holds, begins}
-use Rattle.earley.specs.Places.{In, AreDifferent}
-use Rattle.earley.specs.declared.item.Item.{Item}
+use Rattle.flatgrammar.specs.Flat.{at}
+use Rattle.flatgrammar.specs.Holds.{Holds, begins}
+use Rattle.flatgrammar.specs.Places.{In, AreDifferent}
+use Rattle.flatgrammar.specs.declared.flat_item.Item.{Item}
 use Rattle.earley.specs.declared.front.Front.{Front}
-use Rattle.earley.specs.declared.flat_node.Node as code_node
-use Rattle.earley.specs.declared.tables.Tables as code_flat
-use Rattle.earley.specs.declared.flat_node.Node.TheVariants as vn
-use Rattle.earley.specs.FlatViews.{node_of}
-use Rattle.earley.specs.NodeSteps.{flat_of, IfSomeSet}
-use Rattle.earley.specs.ItemSets.{Adds, count_in}
-use Rattle.earley.specs.ReadItems.{read_in, IsRead}
-use Rattle.earley.specs.Closed.{GiveRoots, Hold, IsClosed, Keeps}
-use Rattle.earley.specs.Charts.{IsFirst, IsAfter, IsBuilt, whole_root}
-use Rattle.earley.specs.Worklist.{AreNulls}
-use Rattle.earley.specs.declared.block.Spot.{Spot}
-use Rattle.earley.specs.Blocks.{item_at, Block, begin_count, block_of, expand, full, AreTables}
-use Rattle.earley.specs.FrontViews.{view, views, IsGoing, IsWholeAt}
-use Rattle.earley.proofs.FollowLemmas.{begun_starts}
+use Rattle.flatgrammar.specs.declared.flat_node.Node as code_node
+use Rattle.flatgrammar.specs.declared.tables.Tables as code_flat
+use Rattle.flatgrammar.specs.declared.flat_node.Node.TheVariants as vn
+use Rattle.flatgrammar.specs.FlatViews.{node_of}
+use Rattle.flatgrammar.specs.NodeSteps.{flat_of, IfSomeSet}
+use Rattle.earley.specs.ItemSets.{Adds}
+use Rattle.flatgrammar.specs.TableViews.{count_in, read_in, GiveRoots, whole_root, AreNulls}
+use Rattle.earley.specs.ReadItems.{IsRead}
+use Rattle.earley.specs.Closed.{Hold, IsClosed, Keeps}
+use Rattle.earley.specs.Charts.{IsFirst, IsAfter, IsBuilt}
+use Rattle.flatgrammar.specs.declared.block.Spot.{Spot}
+use Rattle.flatgrammar.specs.Blocks.{item_at, Block, begin_count, block_of, AreTables}
+use Rattle.earley.specs.FrontViews.{expand, full, view, views, IsGoing, IsWholeAt}
+use Rattle.flatgrammar.proofs.CallOfLemmas.{begun_starts, root_stands, get_below, some_same}
 use Rattle.earley.proofs.IsBuiltLemmas.{after_holds, root_is, built_more}
 use Rattle.earley.proofs.BlockLemmas.{in_expand, in_right, in_map, from_map, either}
-use Rattle.earley.proofs.InLemmas.{in_left, before_end, at_index_in}
-use Rattle.earley.proofs.IsGoingLemmas.{root_stands, size_map}
-use Rattle.earley.proofs.IsChartLemmas.{get_below}
+use Rattle.flatgrammar.proofs.InLemmas.{in_left, before_end, at_index_in}
+use Rattle.earley.proofs.IsGoingLemmas.{size_map}
 use Rattle.earley.proofs.ExpandLemmas.{length_views, take_one, take_past, map_end, expand_end}
 use Rattle.earley.proofs.AddsLemmas.{adds_as, adds_none}
-use Rattle.earley.proofs.ResumedLemmas.{item_same, some_same}
+use Rattle.earley.proofs.ResumedLemmas.{item_same}
 
 pub views_more : (flat : code_flat.Tables) (j : ℕ) (fronts : List Front) (front : Front) → views flat j (fronts ++ front ∷ []) ≡ views flat j fronts ++ view flat (j + length fronts) front ∷ []
 views_more flat j [] front = let z : j ≡ j + 0 = omega arith in ap (λ v. view flat v front ∷ []) z
@@ -165,6 +164,13 @@ module _ (flat : code_flat.Tables) (roots : GiveRoots (flat_of flat) flat.roots.
       subst (λ v. IsBuilt flat x (views flat 0 (v ++ front ∷ []))) is_three
       (subst (λ v. IsBuilt flat x v) (sym (views_more flat 0 three front))
       (subst (λ n. IsBuilt flat x (views flat 0 three ++ full (block_of flat) n front.heads.items front.items.items ∷ [])) number more))
+
+  pub built_by : (front : Front) (heads' : List ℕ) (items' : List Item) → front.heads.items ≡ heads' → front.items.items ≡ items' →
+      Hold (flat_of flat) x (length (views flat 0 three)) (full (block_of flat) (length (views flat 0 three)) heads' items') →
+      AreDifferent (full (block_of flat) (length (views flat 0 three)) heads' items') →
+      Keeps (full (block_of flat) (length (views flat 0 three)) heads items) (full (block_of flat) (length (views flat 0 three)) heads' items') →
+      IsClosed flat (views flat 0 three) (full (block_of flat) (length (views flat 0 three)) heads' items') → IsBuilt flat x (views flat 0 (fronts ++ front ∷ []))
+  built_by front heads' items' h i hold different keeps closed = built_from front (rw (h, i) hold) (rw (h, i) different) (rw (h, i) keeps) (rw (h, i) closed)
 
 -- looking for an item, one entry after another
 not_more : (item : Item) (ws : List Item) (w : Item) → (In item ws → ⊥) → (item ≡ w → ⊥) → In item (ws ++ w ∷ []) → ⊥

@@ -2,17 +2,13 @@
 use Rattle.std.specs.Prelude.{◌≡◌, ℕ, List, [], map, slice_get, slice_index_or, length, Option, Some, None}
 use Rattle.std.proofs.Common.{Global}
 use Rattle.std.specs.declared.rc.Rc.{Rc}
-use Rattle.earley.specs.Flat.{Flat, Place, at}
-use Rattle.earley.specs.Holds.{Holds}
-use Rattle.earley.specs.Places.{In, AreDifferent}
-use Rattle.earley.specs.declared.item.Item.{Item}
+use Rattle.flatgrammar.specs.Flat.{Flat, Place, at}
+use Rattle.flatgrammar.specs.Holds.{Holds}
+use Rattle.flatgrammar.specs.Places.{In, AreDifferent}
+use Rattle.flatgrammar.specs.declared.flat_item.Item.{Item}
 use Rattle.earley.specs.declared.front.Front.{Front}
-use Rattle.earley.specs.declared.tables.Tables as code_flat
-use Rattle.earley.specs.Closed.{GiveRoots}
-use Rattle.earley.specs.NodeSteps.{flat_of}
-use Rattle.earley.specs.Worklist.{AreNulls}
-use Rattle.earley.specs.Blocks.{AreTables, AreCalls}
-use Rattle.earley.specs.FrontViews.{view, views}
+use Rattle.flatgrammar.specs.declared.tables.Tables as code_flat
+use Rattle.earley.specs.FrontViews.{views}
 
 -- an item as the definitions name it
 abbrev pub pair : Item → Place × ℕ
@@ -32,13 +28,6 @@ pub record IsSet (flat : Flat) (x : List ℕ) (j : ℕ) (set : List (Place × �
   pub held : (p : Place) (i : ℕ) → In {A = Place × ℕ} (p, i) set → Holds flat x j p i
   pub all : (p : Place) (i : ℕ) → Holds flat x j p i → In {A = Place × ℕ} (p, i) set
   pub different : AreDifferent set
-
--- the tables of a flat grammar tell what they are for
-pub record AreExact (tables : code_flat.Tables) : Type 0 where
-  pub roots : GiveRoots (flat_of tables) tables.roots.items
-  pub nulls : AreNulls (flat_of tables) tables.nulls.items
-  pub blocks : AreTables tables
-  pub calls : AreCalls tables
 
 -- each set has its size beside it
 pub record AreSized (tables : Option (Rc code_flat.Tables Global)) (fronts : List Front) : Type 0 where

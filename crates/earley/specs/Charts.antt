@@ -1,14 +1,15 @@
 -- A chart: sets that begin with the whole, are closed, and follow one another by letters.
-use Rattle.std.specs.Prelude.{◌≡◌, ℕ, ◌+◌, ◌⊎◌, length, List, take, slice_get, Option, Some, None}
-use Rattle.earley.specs.declared.item.Item.{Item}
-use Rattle.earley.specs.declared.tables.Tables as code_flat
-use Rattle.earley.specs.NodeSteps.{flat_of}
+use Rattle.std.specs.Prelude.{◌≡◌, ℕ, ◌+◌, ◌⊎◌, length, List, take, slice_get, Some}
+use Rattle.flatgrammar.specs.declared.flat_item.Item.{Item}
+use Rattle.flatgrammar.specs.declared.tables.Tables as code_flat
+use Rattle.flatgrammar.specs.NodeSteps.{flat_of}
 use Rattle.earley.specs.Closed.{Hold, HoldAll, IsClosed}
-use Rattle.earley.specs.ItemSets.{IsBegun, count_in}
-use Rattle.earley.specs.Holds.{Holds}
+use Rattle.earley.specs.ItemSets.{IsBegun}
+use Rattle.flatgrammar.specs.TableViews.{whole_root, count_in}
+use Rattle.flatgrammar.specs.Holds.{Holds}
 use Rattle.earley.specs.ReadItems.{IsRead}
-use Rattle.earley.specs.Flat.{Place, at, Starts}
-use Rattle.earley.specs.Places.{In, AreDifferent}
+use Rattle.flatgrammar.specs.Flat.{Place, at, Starts}
+use Rattle.flatgrammar.specs.Places.{In, AreDifferent}
 
 abbrev pub item_of : Place → ℕ → Item
 item_of (at s k) i = record { node = s; step = k; origin = i }
@@ -18,14 +19,6 @@ pub record IsChart (flat : code_flat.Tables) (x : List ℕ) (sets : List (List I
   pub closed : (j : ℕ) (set : List Item) → slice_get sets j ≡ Some set → IsClosed flat (take j sets) set
   pub read : (j c : ℕ) (set next : List Item) → slice_get sets j ≡ Some set → slice_get sets (j + 1) ≡ Some next → slice_get x j ≡ Some c →
       (a : Item) → IsRead flat c set a → In a next
-
-abbrev pub joined : Option (Option ℕ) → Option ℕ
-joined None = None
-joined (Some root) = root
-
--- the root of the whole
-abbrev pub whole_root : code_flat.Tables → Option ℕ
-whole_root flat = joined (slice_get flat.roots.items flat.whole)
 
 -- the items where the whole begins
 pub record IsWhole (flat : code_flat.Tables) (a : Item) : Type 0 where

@@ -1,16 +1,11 @@
 -- Sets that hold items of a line, and sets to which nothing can be added.
-use Rattle.std.specs.Prelude.{◌≡◌, ℕ, ◌↔◌, List, slice_get, Option, Some}
-use Rattle.earley.specs.declared.item.Item.{Item}
-use Rattle.earley.specs.declared.tables.Tables as code_flat
+use Rattle.std.specs.Prelude.{◌≡◌, ℕ, List, slice_get, Some}
+use Rattle.flatgrammar.specs.declared.flat_item.Item.{Item}
+use Rattle.flatgrammar.specs.declared.tables.Tables as code_flat
 use Rattle.earley.specs.ItemSets.{IsNext}
-use Rattle.earley.specs.Flat.{Flat, at}
-use Rattle.earley.specs.Roots.{Root}
-use Rattle.earley.specs.Holds.{Holds}
-use Rattle.earley.specs.Places.{In}
-
--- the table has of each node its root
-abbrev pub GiveRoots : Flat → List (Option ℕ) → Type 0
-GiveRoots flat roots = (s t : ℕ) → (slice_get roots s ≡ Some (Some t)) ↔ Root flat.nodes flat.bodies s t
+use Rattle.flatgrammar.specs.Flat.{Flat, at}
+use Rattle.flatgrammar.specs.Holds.{Holds}
+use Rattle.flatgrammar.specs.Places.{In}
 
 abbrev pub Hold : Flat → List ℕ → ℕ → List Item → Type 0
 Hold flat x j set = (a : Item) → In a set → Holds flat x j (at a.node a.step) a.origin

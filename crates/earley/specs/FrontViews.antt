@@ -1,17 +1,35 @@
 -- A set as it is kept: heads with their blocks, and the items beside them.
-use Rattle.std.specs.Prelude.{◌≡◌, ℕ, suc, ◌<◌, ◌≤◌, ◌⊎◌, List, [], ◌∷◌, length, take, Some}
-use Rattle.earley.specs.Flat.{at}
-use Rattle.earley.specs.Holds.{Holds}
-use Rattle.earley.specs.Places.{In, AreDifferent}
-use Rattle.earley.specs.NodeSteps.{flat_of}
+use Rattle.std.specs.Prelude.{◌≡◌, ℕ, suc, ◌<◌, ◌≤◌, ◌⊎◌, List, [], ◌∷◌, ◌++◌, length, map, take, Some}
+use Rattle.flatgrammar.specs.declared.block.Spot.{Spot}
+use Rattle.flatgrammar.specs.Flat.{at}
+use Rattle.flatgrammar.specs.Holds.{Holds}
+use Rattle.flatgrammar.specs.Places.{In, AreDifferent}
+use Rattle.flatgrammar.specs.NodeSteps.{flat_of}
 use Rattle.earley.specs.Closed.{Hold}
-use Rattle.earley.specs.declared.item.Item.{Item}
+use Rattle.flatgrammar.specs.declared.flat_item.Item.{Item}
 use Rattle.earley.specs.declared.front.Front.{Front}
-use Rattle.earley.specs.declared.tables.Tables as code_flat
-use Rattle.earley.specs.ItemSets.{call_of, IsCompleted}
-use Rattle.earley.specs.Charts.{whole_root}
+use Rattle.flatgrammar.specs.declared.tables.Tables as code_flat
+use Rattle.flatgrammar.specs.TableViews.{call_of, whole_root}
+use Rattle.earley.specs.ItemSets.{IsCompleted}
 use Rattle.earley.specs.Worklist.{IsPassed, IsWorked}
-use Rattle.earley.specs.Blocks.{block_of, full, begin_count, IsHead, IsLate, AreOpened}
+use Rattle.flatgrammar.specs.Blocks.{Block, IsBlock, item_at, block_of, begin_count, IsHead, IsLate}
+
+abbrev pub expand : (ℕ → Block) → ℕ → List ℕ → List Item
+expand blocks j [] = []
+expand blocks j (h ∷ heads) = map (item_at j) (blocks h).spots ++ expand blocks j heads
+
+-- a set as it is kept: the heads predicted in it, and the items beside their blocks
+abbrev pub full : (ℕ → Block) → ℕ → List ℕ → List Item → List Item
+full blocks j heads items = expand blocks j heads ++ items
+
+pub record AreBlocks (flat : code_flat.Tables) (blocks : ℕ → Block) (heads : List ℕ) : Type 0 where
+  pub block : (h : ℕ) → In h heads → IsBlock flat h (blocks h)
+  pub apart : (g h : ℕ) → In g heads → In h heads → (p : Spot) → In p (blocks g).spots → In p (blocks h).spots → g ≡ h
+
+-- what the blocks of a front of the heads ask for is there
+pub record AreOpened (blocks : ℕ → Block) (j : ℕ) (front heads : List ℕ) (items : List Item) : Type 0 where
+  pub calls : (h : ℕ) → In h front → (t : ℕ) → In t (blocks h).calls → In t heads
+  pub passes : (h : ℕ) → In h front → (r : Spot) → In r (blocks h).passes → In (item_at j r) (full blocks j heads items)
 
 abbrev pub view : code_flat.Tables → ℕ → Front → List Item
 view flat j front = full (block_of flat) j front.heads.items front.items.items

@@ -1,11 +1,9 @@
 -- Item sets as lists, and how one grows.
-use Rattle.std.specs.Prelude.{◌≡◌, ℕ, ◌<◌, ◌⊎◌, Bool, true, false, List, ◌++◌, length, slice_get, Option, Some, None}
-use Rattle.earley.specs.declared.item.Item.{Item}
-use Rattle.earley.specs.declared.flat_node.Node as code_node
-use Rattle.earley.specs.declared.tables.Tables as code_flat
-use Rattle.earley.specs.FlatViews.{node_of}
-use Rattle.earley.specs.NodeSteps.{begin_count, is_done, callee}
-use Rattle.earley.specs.Places.{In, AreDifferent}
+use Rattle.std.specs.Prelude.{◌≡◌, ℕ, ◌<◌, ◌⊎◌, true, List, ◌++◌, length, slice_get, Option, Some, None}
+use Rattle.flatgrammar.specs.declared.flat_item.Item.{Item}
+use Rattle.flatgrammar.specs.declared.tables.Tables as code_flat
+use Rattle.flatgrammar.specs.Places.{In, AreDifferent}
+use Rattle.flatgrammar.specs.TableViews.{count_in, done_of, call_of}
 
 -- new is old, and after it those of Q that were not there, each once
 pub record Adds {A : Type 0} (Q : A → Type 0) (old : List A) (new : List A) : Type 0 where
@@ -14,35 +12,6 @@ pub record Adds {A : Type 0} (Q : A → Type 0) (old : List A) (new : List A) : 
   pub all : (a : A) → Q a → In a new
   pub only : (a : A) → In a new → In a old ⊎ Q a
   pub different : AreDifferent old → AreDifferent new
-
--- a root in the table
-abbrev pub root_in : Option (Option ℕ) → ℕ → Option (ℕ × ℕ)
-root_in None l = None
-root_in (Some None) l = None
-root_in (Some (Some r)) l = Some (r, l)
-
-abbrev pub rooted : List (Option ℕ) → Option (ℕ × ℕ) → Option (ℕ × ℕ)
-rooted roots None = None
-rooted roots (Some called) = root_in (slice_get roots called.0) called.1
-
-abbrev pub called_by : List (Option ℕ) → Option code_node.Node → ℕ → Option (ℕ × ℕ)
-called_by roots None k = None
-called_by roots (Some node) k = rooted roots (callee (node_of node) k)
-
--- the root that an item's place calls, and the step after it
-abbrev pub call_of : code_flat.Tables → Item → Option (ℕ × ℕ)
-call_of flat item = called_by flat.roots.items (slice_get flat.nodes.items item.node) item.step
-
-abbrev pub done_in : Option code_node.Node → ℕ → Bool
-done_in None k = false
-done_in (Some node) k = is_done (node_of node) k
-
-abbrev pub done_of : code_flat.Tables → Item → Bool
-done_of flat item = done_in (slice_get flat.nodes.items item.node) item.step
-
-abbrev pub count_in : Option code_node.Node → ℕ
-count_in None = 0
-count_in (Some node) = begin_count (node_of node)
 
 -- the items where a root begins
 abbrev pub IsBegun : ℕ → ℕ → ℕ → Item → Type 0

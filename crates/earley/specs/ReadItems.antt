@@ -1,19 +1,10 @@
 -- The set after a letter.
-use Rattle.std.specs.Prelude.{◌≡◌, ℕ, ◌+◌, List, slice_get, Option, Some, None}
-use Rattle.earley.specs.declared.item.Item.{Item}
-use Rattle.earley.specs.declared.flat_node.Node as code_node
-use Rattle.earley.specs.declared.tables.Tables as code_flat
-use Rattle.earley.specs.FlatViews.{node_of}
-use Rattle.earley.specs.NodeSteps.{read_at, IfSomeSet}
-use Rattle.earley.specs.Flat.{Set}
-use Rattle.earley.specs.Places.{In}
-
-abbrev pub read_in : Option code_node.Node → ℕ → Option Set
-read_in None k = None
-read_in (Some node) k = read_at (node_of node) k
-
-abbrev pub read_of : code_flat.Tables → Item → Option Set
-read_of flat item = read_in (slice_get flat.nodes.items item.node) item.step
+use Rattle.std.specs.Prelude.{◌≡◌, ℕ, ◌+◌, List}
+use Rattle.flatgrammar.specs.declared.flat_item.Item.{Item}
+use Rattle.flatgrammar.specs.declared.tables.Tables as code_flat
+use Rattle.flatgrammar.specs.NodeSteps.{IfSomeSet}
+use Rattle.flatgrammar.specs.Places.{In}
+use Rattle.flatgrammar.specs.TableViews.{read_of}
 
 pub record IsRead (flat : code_flat.Tables) (c : ℕ) (from : List Item) (a : Item) : Type 0 where
   pub by : Item

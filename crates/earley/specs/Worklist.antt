@@ -1,22 +1,10 @@
 -- What the worklist adds for one item of a set.
-use Rattle.std.specs.Prelude.{◌≡◌, ℕ, ◌↔◌, ◌⊎◌, Bool, true, false, List, [], length, slice_get, Option, Some, None}
-use Rattle.earley.specs.declared.item.Item.{Item}
-use Rattle.earley.specs.declared.tables.Tables as code_flat
-use Rattle.earley.specs.ItemSets.{call_of, IsPredicted, IsCompleted}
-use Rattle.earley.specs.Flat.{Flat}
-use Rattle.earley.specs.Places.{In}
-use Rattle.earley.specs.Nullable.{Nullable}
-
--- the marks tell the nullable nodes
-abbrev pub AreNulls : Flat → List Bool → Type 0
-AreNulls flat nulls = (t : ℕ) → (slice_get nulls t ≡ Some true) ↔ Nullable flat.nodes flat.bodies t
-
-abbrev pub null_in : Option Bool → Bool
-null_in None = false
-null_in (Some marked) = marked
-
-abbrev pub null_of : code_flat.Tables → ℕ → Bool
-null_of flat t = null_in (slice_get flat.nulls.items t)
+use Rattle.std.specs.Prelude.{◌≡◌, ℕ, ◌⊎◌, true, List, [], length, Some}
+use Rattle.flatgrammar.specs.declared.flat_item.Item.{Item}
+use Rattle.flatgrammar.specs.declared.tables.Tables as code_flat
+use Rattle.flatgrammar.specs.TableViews.{null_of, call_of}
+use Rattle.earley.specs.ItemSets.{IsPredicted, IsCompleted}
+use Rattle.flatgrammar.specs.Places.{In}
 
 -- the item after one that calls a nullable root
 pub record IsPassed (flat : code_flat.Tables) (item : Item) (a : Item) : Type 0 where

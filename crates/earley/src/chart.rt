@@ -2,29 +2,27 @@
 ghost use Rattle.std.specs.Prelude.{◌≡◌, ◌↔◌, ◌+◌, ◌*◌, ◌≤◌, ℕ, Bool, List, [], Some, IsTrue, IfOk, OnErr, length, map, slice_get};
 ghost use Rattle.abnfread.specs.Element.{Rule};
 ghost use Rattle.abnfcheck.specs.Derivable.{AreLetters, RuleDerives};
-ghost use Rattle.earley.specs.Lowered.{IsLowered};
-ghost use Rattle.earley.specs.NodeSteps.{flat_of};
-ghost use Rattle.earley.specs.Closed.{GiveRoots};
+ghost use Rattle.flatgrammar.specs.Lowered.{IsLowered};
+ghost use Rattle.flatgrammar.specs.NodeSteps.{flat_of};
+ghost use Rattle.flatgrammar.specs.TableViews.{GiveRoots, AreNulls};
 ghost use Rattle.earley.specs.Charts.{IsAfter, IsExact};
-ghost use Rattle.earley.specs.ChartSets.{chart_of, set_at, IsSet, AreExact, AreSized};
+ghost use Rattle.earley.specs.ChartSets.{chart_of, set_at, IsSet, AreSized};
+ghost use Rattle.flatgrammar.specs.Blocks.{AreExact, block_of, item_at, AreTables, AreCalls};
 ghost use Rattle.earley.specs.ItemSets.{Adds};
-ghost use Rattle.earley.specs.Worklist.{AreNulls};
-ghost use Rattle.earley.specs.Blocks.{block_of, item_at, expand, full, AreTables, AreCalls};
-ghost use Rattle.earley.specs.Places.{In, places};
-ghost use Rattle.earley.specs.Flat.{Place};
-ghost use Rattle.earley.specs.Holds.{Holds};
-ghost use Rattle.earley.specs.FrontViews.{view, views, IsWholeAt};
+ghost use Rattle.earley.specs.FrontViews.{expand, full, view, views, IsWholeAt};
+ghost use Rattle.flatgrammar.specs.Places.{In, places};
+ghost use Rattle.flatgrammar.specs.Flat.{Place};
+ghost use Rattle.flatgrammar.specs.Holds.{Holds};
 ghost use Rattle.earley.specs.declared.front.Front as front;
 
-use crate::block::Spot;
 use crate::fill::fill;
-use crate::flat::Flat;
-use crate::front::{Front, note};
-use crate::item::{Item, holds, same};
-use crate::item_laws::items_tell;
+use crate::front::Front;
+use crate::heads::Heads;
+use crate::item::{holds, same};
+use crate::items::Items;
 use crate::letter::Letter;
 use crate::read_front::read;
-use crate::tables::{Tables, spots, whole_root};
+use flatgrammar::{Flat, Item, Spot, Tables, items_tell, spots, whole_root};
 use ruletable::Memory;
 use std::alloc::Global;
 use std::marker::Model;
@@ -37,13 +35,31 @@ pub struct Chart {
     alloc: Global,
     tables: Option<Rc<Tables>>,
     fronts: Vec<Front>,
-    // Holds the memory of sets that are gone.
+    kept: Kept,
+}
+
+// Holds what is kept from line to line: two tables, and the memory of sets that are gone.
+#[derive(Drop)]
+struct Kept {
+    heads: Heads,
+    items: Items,
     spare: Vec<Front>,
+}
+
+impl Kept {
+    // Returns tables without entries. It takes no memory.
+    fn new(alloc: Global) -> Kept {
+        Kept {
+            heads: Heads::new(alloc),
+            items: Items::new(alloc),
+            spare: Vec::new(alloc),
+        }
+    }
 }
 
 impl Model for Chart {
     ghost use Rattle.std.specs.Prelude.{ℕ, List};
-    ghost use Rattle.earley.specs.Flat.{Place};
+    ghost use Rattle.flatgrammar.specs.Flat.{Place};
     ghost use Rattle.earley.specs.ChartSets.{chart_of, AreSized};
 
     ghost Value = { List (List (Place × ℕ)) };
@@ -62,7 +78,7 @@ impl Chart {
             alloc,
             tables: None,
             fronts: Vec::new(alloc),
-            spare: Vec::new(alloc),
+            kept: Kept::new(alloc),
         }
     }
 
@@ -76,35 +92,35 @@ impl Chart {
         }
     }
 
-    // Empties the chart, and returns the sets whose memory can be used again.
-    fn take_spare(&mut self) -> Result<Vec<Front>, Memory>
+    // Empties the chart, and returns what is kept for the next line.
+    fn take_kept(&mut self) -> Result<Kept, Memory>
         ensures empty { self.new ≡ [] }
     {
         self.tables = None;
         let mut fronts = mem::replace(&mut self.fronts, Vec::new(self.alloc));
-        let mut spare = mem::replace(&mut self.spare, Vec::new(self.alloc));
-        spare.append(&mut fronts)?;
-        Ok(spare)
+        let mut kept = mem::replace(&mut self.kept, Kept::new(self.alloc));
+        kept.spare.append(&mut fronts)?;
+        Ok(kept)
     }
 
-    // Keeps the sets of a line, with the tables that they were filled by, and the memory that is left over.
-    fn keep(&mut self, tables: Rc<Tables>, fronts: Vec<Front>, spare: Vec<Front>)
+    // Keeps the sets of a line, with the tables that they were filled by, and what is kept for the next line.
+    fn keep(&mut self, tables: Rc<Tables>, fronts: Vec<Front>, kept: Kept)
         requires { (j : ℕ) (f : front.Front) → slice_get fronts.items j ≡ Some f → f.size ≡ length (view tables.value j f) }
         ensures { self.new ≡ chart_of (Some tables) fronts.items }
     {
         self.tables = Some(tables);
         self.fronts = fronts;
-        self.spare = spare;
+        self.kept = kept;
     }
 }
 
 // Predicts the whole, before the first letter.
-fn begin(flat: &Tables, sets: &[Front], heads: &mut Vec<usize>) -> Result<(), Memory>
-    ensures { IfOk result (λ done. Adds (IsWholeAt flat.now (length sets.now)) heads.old.items heads.new.items) }
+fn begin(flat: &Tables, sets: &[Front], heads: &mut Heads) -> Result<(), Memory>
+    ensures { IfOk result (λ done. Adds (IsWholeAt flat.now (length sets.now)) heads.old heads.new) }
 {
     if sets.len() == 0 {
         if let Some(root) = whole_root(flat) {
-            note(heads, root)?;
+            heads.note(root)?;
         }
     }
     Ok(())
@@ -115,10 +131,10 @@ fn follow<L: Letter>(
     flat: &Tables,
     line: &[L],
     sets: &[Front],
-    items: &mut Vec<Item>,
+    items: &mut Items,
 ) -> Result<(), Memory>
     requires { length sets.now ≤ length line.now }
-    ensures { IfOk result (λ done. Adds (IsAfter flat.now (map L.number line.now) (views flat.now 0 sets.now)) items.old.items items.new.items) }
+    ensures { IfOk result (λ done. Adds (IsAfter flat.now (map L.number line.now) (views flat.now 0 sets.now)) items.old items.new) }
 {
     if sets.len() > 0 {
         let last = sets.len() - 1;
@@ -141,18 +157,10 @@ fn size_of(flat: &Tables, heads: &[usize], items: &[Item]) -> Result<usize, Memo
     Ok(size)
 }
 
-// Returns a set with no item, in memory that is spare if there is such.
-fn fresh(alloc: Global, spare: &mut Vec<Front>) -> Front
-    ensures heads { result.heads.items ≡ [] }
-    ensures items { result.items.items ≡ [] }
-{
+// Returns a set whose memory can be used again.
+fn memory_of(alloc: Global, spare: &mut Vec<Front>) -> Front {
     match spare.pop() {
-        Some(front) => {
-            let mut front = front;
-            front.heads.clear();
-            front.items.clear();
-            front
-        }
+        Some(front) => front,
         None => Front {
             heads: Vec::new(alloc),
             items: Vec::new(alloc),
@@ -161,33 +169,51 @@ fn fresh(alloc: Global, spare: &mut Vec<Front>) -> Front
     }
 }
 
+// Moves the heads and the items into a set.
+fn close(
+    flat: &Tables,
+    heads: &mut Heads,
+    items: &mut Items,
+    memory: Front,
+) -> Result<Front, Memory>
+    ensures heads { IfOk result (λ front. front.heads.items ≡ heads.old) }
+    ensures items { IfOk result (λ front. front.items.items ≡ items.old) }
+    ensures size { IfOk result (λ front. (j : ℕ) → front.size ≡ length (view flat.now j front)) }
+    ensures no_heads { IfOk result (λ front. heads.new ≡ []) }
+    ensures no_items { IfOk result (λ front. items.new ≡ []) }
+{
+    let heads = heads.take(memory.heads);
+    let items = items.take(memory.items)?;
+    let size = size_of(flat, &heads, &items)?;
+    Ok(Front { heads, items, size })
+}
+
 // Returns the item sets of a line.
 fn fill_fronts<L: Letter>(
-    alloc: Global,
     flat: &Tables,
     line: &[L],
+    heads: &mut Heads,
+    items: &mut Items,
     spare: &mut Vec<Front>,
 ) -> Result<Vec<Front>, Memory>
     requires roots { GiveRoots (flat_of flat.now) flat.now.roots.items }
     requires nulls { AreNulls (flat_of flat.now) flat.now.nulls.items }
     requires tables { AreTables flat.now }
     requires calls { AreCalls flat.now }
+    requires no_heads { heads.old ≡ [] }
+    requires no_items { items.old ≡ [] }
     ensures size { IfOk result (λ sets. length sets.items ≡ length line.now + 1) }
     ensures sized { IfOk result (λ sets. (j : ℕ) (f : front.Front) → slice_get sets.items j ≡ Some f → f.size ≡ length (view flat.now j f)) }
     ensures exact { IfOk result (λ sets. IsExact flat.now (map L.number line.now) (views flat.now 0 sets.items)) }
 {
+    let alloc = *spare.allocator();
     let mut sets = Vec::new(alloc);
     while sets.len() <= line.len() {
-        let Front {
-            mut heads,
-            mut items,
-            size: _,
-        } = fresh(alloc, spare);
-        begin(flat, &sets, &mut heads)?;
-        follow(flat, line, &sets, &mut items)?;
-        fill(flat, line, &sets, &mut heads, &mut items)?;
-        let size = size_of(flat, &heads, &items)?;
-        sets.push(Front { heads, items, size })?;
+        begin(flat, &sets, heads)?;
+        follow(flat, line, &sets, items)?;
+        fill(flat, line, &sets, heads, items)?;
+        let front = close(flat, heads, items, memory_of(alloc, spare))?;
+        sets.push(front)?;
     }
     Ok(sets)
 }
@@ -248,7 +274,7 @@ fn is_yes<L: Letter>(flat: &Tables, fronts: &[Front], line: &[L]) -> bool
 fn judge_by<L: Letter>(
     chart: &mut Chart,
     tables: Rc<Tables>,
-    spare: Vec<Front>,
+    kept: Kept,
     line: &[L],
 ) -> Result<bool, Memory>
     requires exact { AreExact tables.value }
@@ -257,11 +283,18 @@ fn judge_by<L: Letter>(
     ensures answer { IfOk result (λ yes. IsTrue yes ↔ Holds (flat_of tables.value) (map L.number line.now) (length line.now) (Place.at (flat_of tables.value).whole 1) 0) }
     ensures empty { OnErr result (chart.new ≡ []) }
 {
-    let alloc = *spare.allocator();
-    let mut spare = spare;
-    let fronts = fill_fronts(alloc, &tables, line, &mut spare)?;
+    let mut kept = kept;
+    kept.heads.clear();
+    kept.items.clear();
+    let fronts = fill_fronts(
+        &tables,
+        line,
+        &mut kept.heads,
+        &mut kept.items,
+        &mut kept.spare,
+    )?;
     let answer = is_yes(&tables, &fronts, line);
-    chart.keep(tables, fronts, spare);
+    chart.keep(tables, fronts, kept);
     Ok(answer)
 }
 
@@ -276,9 +309,9 @@ pub fn judge<L: Letter>(chart: &mut Chart, flat: &Flat, line: &[L]) -> Result<bo
         IsTrue yes ↔ RuleDerives has rules judged (map L.number line.now)) }
     ensures empty { OnErr result (chart.new ≡ []) }
 {
-    let spare = chart.take_spare()?;
+    let kept = chart.take_kept()?;
     let tables = flat.share()?;
-    let answer = judge_by(chart, tables, spare, line)?;
+    let answer = judge_by(chart, tables, kept, line)?;
     items_tell();
     Ok(answer)
 }

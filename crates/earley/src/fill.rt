@@ -1,42 +1,40 @@
 //! Fills an item set.
 ghost use Rattle.std.specs.Prelude.{◌≡◌, ◌↔◌, ◌+◌, ◌^◌, ◌<◌, ◌≤◌, true, IsTrue, IfOk, length, map, slice_get, Some, None, List, [], ◌∷◌, ℕ};
-ghost use Rattle.earley.specs.Places.{In, AreDifferent};
-ghost use Rattle.earley.specs.NodeSteps.{flat_of};
-ghost use Rattle.earley.specs.Closed.{GiveRoots, Hold, HoldAll, Keeps, IsClosed};
-ghost use Rattle.earley.specs.Worklist.{AreNulls, null_of, IsPassed};
-ghost use Rattle.earley.specs.ItemSets.{Adds, call_of, done_of, IsResumed, waiting_in, IsCompleted};
-ghost use Rattle.earley.specs.Blocks.{block_of, item_at, expand, full, begin_count, IsHead, IsLate, AreTables, AreCalls};
-ghost use Rattle.earley.specs.FrontViews.{view, views, IsAsked, IsOn, IsFurther, IsGoing};
+ghost use Rattle.flatgrammar.specs.Places.{In, AreDifferent};
+ghost use Rattle.flatgrammar.specs.NodeSteps.{flat_of};
+ghost use Rattle.flatgrammar.specs.TableViews.{GiveRoots, AreNulls, null_of, call_of, done_of};
+ghost use Rattle.earley.specs.Closed.{Hold, HoldAll, Keeps, IsClosed};
+ghost use Rattle.earley.specs.Worklist.{IsPassed};
+ghost use Rattle.earley.specs.ItemSets.{Adds, IsResumed, waiting_in, IsCompleted};
+ghost use Rattle.flatgrammar.specs.Blocks.{block_of, item_at, begin_count, IsHead, IsLate, AreTables, AreCalls};
+ghost use Rattle.earley.specs.FrontViews.{expand, full, view, views, IsAsked, IsOn, IsFurther, IsGoing};
 
-use crate::block::Spot;
-use crate::front::{Front, is_among, note};
-use crate::item::{Item, add};
+use crate::front::{Front, is_among};
+use crate::heads::Heads;
+use crate::items::Items;
 use crate::letter::Letter;
-use crate::tables::{Tables, call, calls, done, null, passes, spots};
+use flatgrammar::{Item, Spot, Tables, call, calls, done, null, passes, spots};
 use ruletable::Memory;
 
 /// Adds what goes on where an item waited for a root.
-fn resume_one(flat: &Tables, root: usize, item: Item, set: &mut Vec<Item>) -> Result<(), Memory>
-    ensures { IfOk result (λ done. Adds (IsResumed flat.now root (item ∷ [])) set.old.items set.new.items) }
+fn resume_one(flat: &Tables, root: usize, item: Item, set: &mut Items) -> Result<(), Memory>
+    ensures { IfOk result (λ done. Adds (IsResumed flat.now root (item ∷ [])) set.old set.new) }
 {
     if let Some((called, step)) = call(flat, item) {
         if called == root {
-            add(
-                set,
-                Item {
-                    node: item.node,
-                    step,
-                    origin: item.origin,
-                },
-            )?;
+            set.add(Item {
+                node: item.node,
+                step,
+                origin: item.origin,
+            })?;
         }
     }
     Ok(())
 }
 
 /// Adds what goes on where items waited for a root.
-fn resume(flat: &Tables, root: usize, waiting: &[Item], set: &mut Vec<Item>) -> Result<(), Memory>
-    ensures { IfOk result (λ done. Adds (IsResumed flat.now root waiting.now) set.old.items set.new.items) }
+fn resume(flat: &Tables, root: usize, waiting: &[Item], set: &mut Items) -> Result<(), Memory>
+    ensures { IfOk result (λ done. Adds (IsResumed flat.now root waiting.now) set.old set.new) }
 {
     for item in waiting {
         resume_one(flat, root, *item, set)?;
@@ -50,9 +48,9 @@ fn resume_spots(
     root: usize,
     waiting: &[Spot],
     origin: usize,
-    set: &mut Vec<Item>,
+    set: &mut Items,
 ) -> Result<(), Memory>
-    ensures { IfOk result (λ done. Adds (IsResumed flat.now root (map (item_at origin) waiting.now)) set.old.items set.new.items) }
+    ensures { IfOk result (λ done. Adds (IsResumed flat.now root (map (item_at origin) waiting.now)) set.old set.new) }
 {
     for spot in waiting {
         resume_one(
@@ -75,10 +73,10 @@ fn resume_block(
     root: usize,
     head: usize,
     origin: usize,
-    set: &mut Vec<Item>,
+    set: &mut Items,
 ) -> Result<(), Memory>
     requires { AreCalls flat.now }
-    ensures { IfOk result (λ done. Adds (IsResumed flat.now root (map (item_at origin) (block_of flat.now head).spots)) set.old.items set.new.items) }
+    ensures { IfOk result (λ done. Adds (IsResumed flat.now root (map (item_at origin) (block_of flat.now head).spots)) set.old set.new) }
 {
     if is_among(calls(flat, head), root) {
         resume_spots(flat, root, spots(flat, head), origin, set)?;
@@ -93,10 +91,10 @@ fn resume_heads(
     root: usize,
     heads: &[usize],
     origin: usize,
-    set: &mut Vec<Item>,
+    set: &mut Items,
 ) -> Result<(), Memory>
     requires { AreCalls flat.now }
-    ensures { IfOk result (λ done. Adds (IsResumed flat.now root (expand (block_of flat.now) origin heads.now)) set.old.items set.new.items) }
+    ensures { IfOk result (λ done. Adds (IsResumed flat.now root (expand (block_of flat.now) origin heads.now)) set.old set.new) }
 {
     for head in heads {
         resume_block(flat, root, *head, origin, set)?;
@@ -110,10 +108,10 @@ fn resume_all(
     root: usize,
     front: &Front,
     origin: usize,
-    set: &mut Vec<Item>,
+    set: &mut Items,
 ) -> Result<(), Memory>
     requires { AreCalls flat.now }
-    ensures { IfOk result (λ done. Adds (IsResumed flat.now root (view flat.now origin front.now)) set.old.items set.new.items) }
+    ensures { IfOk result (λ done. Adds (IsResumed flat.now root (view flat.now origin front.now)) set.old set.new) }
 {
     resume_heads(flat, root, &front.heads, origin, set)?;
     resume(flat, root, &front.items, set)?;
@@ -121,9 +119,9 @@ fn resume_all(
 }
 
 /// Adds what goes on from earlier sets where an item is done.
-fn complete(flat: &Tables, sets: &[Front], item: Item, set: &mut Vec<Item>) -> Result<(), Memory>
+fn complete(flat: &Tables, sets: &[Front], item: Item, set: &mut Items) -> Result<(), Memory>
     requires { AreCalls flat.now }
-    ensures { IfOk result (λ done. Adds (IsCompleted flat.now (views flat.now 0 sets.now) [] item) set.old.items set.new.items) }
+    ensures { IfOk result (λ done. Adds (IsCompleted flat.now (views flat.now 0 sets.now) [] item) set.old set.new) }
 {
     if done(flat, item) {
         if let Some(front) = sets.get(item.origin) {
@@ -134,38 +132,35 @@ fn complete(flat: &Tables, sets: &[Front], item: Item, set: &mut Vec<Item>) -> R
 }
 
 /// Predicts the root that an item calls.
-fn ask(flat: &Tables, item: Item, heads: &mut Vec<usize>) -> Result<(), Memory>
-    ensures { IfOk result (λ done. Adds (IsAsked flat.now item) heads.old.items heads.new.items) }
+fn ask(flat: &Tables, item: Item, heads: &mut Heads) -> Result<(), Memory>
+    ensures { IfOk result (λ done. Adds (IsAsked flat.now item) heads.old heads.new) }
 {
     if let Some((root, _)) = call(flat, item) {
-        note(heads, root)?;
+        heads.note(root)?;
     }
     Ok(())
 }
 
 /// Adds the item after one that calls a nullable root.
-fn pass(flat: &Tables, item: Item, set: &mut Vec<Item>) -> Result<(), Memory>
-    ensures { IfOk result (λ done. Adds (IsOn flat.now item) set.old.items set.new.items) }
+fn pass(flat: &Tables, item: Item, set: &mut Items) -> Result<(), Memory>
+    ensures { IfOk result (λ done. Adds (IsOn flat.now item) set.old set.new) }
 {
     if let Some((root, step)) = call(flat, item) {
         if null(flat, root) && step != item.step {
-            add(
-                set,
-                Item {
-                    node: item.node,
-                    step,
-                    origin: item.origin,
-                },
-            )?;
+            set.add(Item {
+                node: item.node,
+                step,
+                origin: item.origin,
+            })?;
         }
     }
     Ok(())
 }
 
 /// Adds what goes on where an item stands.
-fn advance(flat: &Tables, sets: &[Front], item: Item, set: &mut Vec<Item>) -> Result<(), Memory>
+fn advance(flat: &Tables, sets: &[Front], item: Item, set: &mut Items) -> Result<(), Memory>
     requires { AreCalls flat.now }
-    ensures { IfOk result (λ done. Adds (IsFurther flat.now (views flat.now 0 sets.now) item) set.old.items set.new.items) }
+    ensures { IfOk result (λ done. Adds (IsFurther flat.now (views flat.now 0 sets.now) item) set.old set.new) }
 {
     pass(flat, item, set)?;
     complete(flat, sets, item, set)?;
@@ -173,28 +168,25 @@ fn advance(flat: &Tables, sets: &[Front], item: Item, set: &mut Vec<Item>) -> Re
 }
 
 /// Predicts heads.
-fn note_all(calls: &[usize], heads: &mut Vec<usize>) -> Result<(), Memory>
-    ensures { IfOk result (λ done. Adds (λ t. In t calls.now) heads.old.items heads.new.items) }
+fn note_all(calls: &[usize], heads: &mut Heads) -> Result<(), Memory>
+    ensures { IfOk result (λ done. Adds (λ t. In t calls.now) heads.old heads.new) }
 {
     for head in calls {
-        note(heads, *head)?;
+        heads.note(*head)?;
     }
     Ok(())
 }
 
 /// Adds spots with an origin.
-fn add_all(spots: &[Spot], origin: usize, set: &mut Vec<Item>) -> Result<(), Memory>
-    ensures { IfOk result (λ done. Adds (λ a. In a (map (item_at origin) spots.now)) set.old.items set.new.items) }
+fn add_all(spots: &[Spot], origin: usize, set: &mut Items) -> Result<(), Memory>
+    ensures { IfOk result (λ done. Adds (λ a. In a (map (item_at origin) spots.now)) set.old set.new) }
 {
     for spot in spots {
-        add(
-            set,
-            Item {
-                node: spot.node,
-                step: spot.step,
-                origin,
-            },
-        )?;
+        set.add(Item {
+            node: spot.node,
+            step: spot.step,
+            origin,
+        })?;
     }
     Ok(())
 }
@@ -204,12 +196,12 @@ fn work(
     flat: &Tables,
     sets: &[Front],
     item: Item,
-    heads: &mut Vec<usize>,
-    items: &mut Vec<Item>,
+    heads: &mut Heads,
+    items: &mut Items,
 ) -> Result<(), Memory>
     requires { AreCalls flat.now }
-    ensures heads { IfOk result (λ done. Adds (IsAsked flat.now item) heads.old.items heads.new.items) }
-    ensures items { IfOk result (λ done. Adds (IsFurther flat.now (views flat.now 0 sets.now) item) items.old.items items.new.items) }
+    ensures heads { IfOk result (λ done. Adds (IsAsked flat.now item) heads.old heads.new) }
+    ensures items { IfOk result (λ done. Adds (IsFurther flat.now (views flat.now 0 sets.now) item) items.old items.new) }
 {
     ask(flat, item, heads)?;
     advance(flat, sets, item, items)?;
@@ -221,11 +213,11 @@ fn open(
     flat: &Tables,
     head: usize,
     origin: usize,
-    heads: &mut Vec<usize>,
-    items: &mut Vec<Item>,
+    heads: &mut Heads,
+    items: &mut Items,
 ) -> Result<(), Memory>
-    ensures heads { IfOk result (λ done. Adds (λ t. In t (block_of flat.now head).calls) heads.old.items heads.new.items) }
-    ensures items { IfOk result (λ done. Adds (λ a. In a (map (item_at origin) (block_of flat.now head).passes)) items.old.items items.new.items) }
+    ensures heads { IfOk result (λ done. Adds (λ t. In t (block_of flat.now head).calls) heads.old heads.new) }
+    ensures items { IfOk result (λ done. Adds (λ a. In a (map (item_at origin) (block_of flat.now head).passes)) items.old items.new) }
 {
     note_all(calls(flat, head), heads)?;
     add_all(passes(flat, head), origin, items)?;
@@ -237,29 +229,29 @@ pub(crate) fn fill<L: Letter>(
     flat: &Tables,
     line: &[L],
     sets: &[Front],
-    heads: &mut Vec<usize>,
-    items: &mut Vec<Item>,
+    heads: &mut Heads,
+    items: &mut Items,
 ) -> Result<(), Memory>
     requires roots { GiveRoots (flat_of flat.now) flat.now.roots.items }
     requires nulls { AreNulls (flat_of flat.now) flat.now.nulls.items }
     requires tables { AreTables flat.now }
     requires calls { AreCalls flat.now }
     requires earlier { HoldAll (flat_of flat.now) (map L.number line.now) (views flat.now 0 sets.now) }
-    requires begun { IsGoing flat.now (map L.number line.now) (views flat.now 0 sets.now) 0 0 heads.old.items items.old.items }
-    ensures held { IfOk result (λ done. Hold (flat_of flat.now) (map L.number line.now) (length (views flat.now 0 sets.now)) (full (block_of flat.now) (length (views flat.now 0 sets.now)) heads.new.items items.new.items)) }
-    ensures different { IfOk result (λ done. AreDifferent (full (block_of flat.now) (length (views flat.now 0 sets.now)) heads.new.items items.new.items)) }
-    ensures keeps { IfOk result (λ done. Keeps (full (block_of flat.now) (length (views flat.now 0 sets.now)) heads.old.items items.old.items) (full (block_of flat.now) (length (views flat.now 0 sets.now)) heads.new.items items.new.items)) }
-    ensures closed { IfOk result (λ done. IsClosed flat.now (views flat.now 0 sets.now) (full (block_of flat.now) (length (views flat.now 0 sets.now)) heads.new.items items.new.items)) }
+    requires begun { IsGoing flat.now (map L.number line.now) (views flat.now 0 sets.now) 0 0 heads.old items.old }
+    ensures held { IfOk result (λ done. Hold (flat_of flat.now) (map L.number line.now) (length (views flat.now 0 sets.now)) (full (block_of flat.now) (length (views flat.now 0 sets.now)) heads.new items.new)) }
+    ensures different { IfOk result (λ done. AreDifferent (full (block_of flat.now) (length (views flat.now 0 sets.now)) heads.new items.new)) }
+    ensures keeps { IfOk result (λ done. Keeps (full (block_of flat.now) (length (views flat.now 0 sets.now)) heads.old items.old) (full (block_of flat.now) (length (views flat.now 0 sets.now)) heads.new items.new)) }
+    ensures closed { IfOk result (λ done. IsClosed flat.now (views flat.now 0 sets.now) (full (block_of flat.now) (length (views flat.now 0 sets.now)) heads.new items.new)) }
 {
     let mut item_index = 0;
     let mut head_index = 0;
     loop {
         if item_index < items.len() {
-            let item = items[item_index];
+            let item = items.at(item_index);
             work(flat, sets, item, heads, items)?;
             item_index += 1;
         } else if head_index < heads.len() {
-            let head = heads[head_index];
+            let head = heads.at(head_index);
             open(flat, head, sets.len(), heads, items)?;
             head_index += 1;
         } else {

@@ -1,10 +1,8 @@
 //! Item sets as they are kept.
-ghost use Rattle.std.specs.Prelude.{◌≡◌, ◌↔◌, IsTrue, IfOk};
-ghost use Rattle.earley.specs.Places.{In};
-ghost use Rattle.earley.specs.ItemSets.{Adds};
+ghost use Rattle.std.specs.Prelude.{◌≡◌, ◌↔◌, IsTrue};
+ghost use Rattle.flatgrammar.specs.Places.{In};
 
-use crate::item::Item;
-use ruletable::Memory;
+use flatgrammar::Item;
 
 /// Holds an item set: the heads, which are the roots that were predicted in it and whose blocks stand in it, and the items
 /// beside their blocks. `size` is the number of its items, those of the blocks counted.
@@ -25,14 +23,4 @@ pub(crate) fn is_among(heads: &[usize], head: usize) -> bool
         }
     }
     false
-}
-
-/// Adds a head unless it is there.
-pub(crate) fn note(heads: &mut Vec<usize>, head: usize) -> Result<(), Memory>
-    ensures { IfOk result (λ done. Adds (λ a. a ≡ head) heads.old.items heads.new.items) }
-{
-    if !is_among(heads, head) {
-        heads.push(head)?;
-    }
-    Ok(())
 }

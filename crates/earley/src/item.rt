@@ -1,17 +1,8 @@
 //! Items of a set.
-ghost use Rattle.std.specs.Prelude.{◌≡◌, ◌↔◌, IsTrue, IfOk};
-ghost use Rattle.earley.specs.Places.{In};
-ghost use Rattle.earley.specs.ItemSets.{Adds};
+ghost use Rattle.std.specs.Prelude.{◌≡◌, ◌↔◌, IsTrue};
+ghost use Rattle.flatgrammar.specs.Places.{In};
 
-use ruletable::Memory;
-
-/// A place, which is a node and a step of it, with the number of letters before which the node's expression began.
-#[derive(Clone, Copy, PartialEq, Eq)]
-pub(crate) struct Item {
-    pub(crate) node: usize,
-    pub(crate) step: usize,
-    pub(crate) origin: usize,
-}
+use flatgrammar::Item;
 
 /// Tells whether two items are equal.
 pub(crate) fn same(a: Item, b: Item) -> bool
@@ -30,14 +21,4 @@ pub(crate) fn holds(set: &[Item], item: Item) -> bool
         }
     }
     false
-}
-
-/// Adds an item unless it is there.
-pub(crate) fn add(set: &mut Vec<Item>, item: Item) -> Result<(), Memory>
-    ensures { IfOk result (λ done. Adds (λ a. a ≡ item) set.old.items set.new.items) }
-{
-    if !holds(set, item) {
-        set.push(item)?;
-    }
-    Ok(())
 }

@@ -1,50 +1,35 @@
 //! What a set has after a letter.
 ghost use Rattle.std.specs.Prelude.{◌≡◌, ◌↔◌, ◌+◌, ◌^◌, ◌<◌, ◌≤◌, ℕ, true, IsTrue, IfOk, length, map, slice_get, [], ◌∷◌};
-ghost use Rattle.earley.specs.NodeSteps.{IfSomeSet};
+ghost use Rattle.flatgrammar.specs.NodeSteps.{IfSomeSet};
 ghost use Rattle.earley.specs.ItemSets.{Adds};
-ghost use Rattle.earley.specs.ReadItems.{IsRead, read_of};
-ghost use Rattle.earley.specs.Blocks.{block_of, item_at, expand};
-ghost use Rattle.earley.specs.FrontViews.{view};
+ghost use Rattle.earley.specs.ReadItems.{IsRead};
+ghost use Rattle.flatgrammar.specs.TableViews.{read_of};
+ghost use Rattle.flatgrammar.specs.Blocks.{block_of, item_at};
+ghost use Rattle.earley.specs.FrontViews.{expand, view};
 
-use crate::block::Spot;
-use crate::flat_node::reads;
 use crate::front::Front;
-use crate::item::{Item, add};
+use crate::items::Items;
 use crate::letter::Letter;
-use crate::tables::{Tables, spots};
+use flatgrammar::{Item, Spot, Tables, reads, spots};
 use ruletable::Memory;
 
-/// Whether an item's place reads a letter.
-fn reads_at(flat: &Tables, item: Item, value: u32) -> bool
-    ensures value { IsTrue result ↔ IfSomeSet (read_of flat.now item) value }
-    ensures fits { IsTrue result → item.step + 1 < 2 ^ 64 }
-{
-    match flat.nodes.get(item.node) {
-        None => false,
-        Some(node) => reads(node, item.step, value),
-    }
-}
-
 /// Adds what an item reads.
-fn read_one(flat: &Tables, value: u32, item: Item, set: &mut Vec<Item>) -> Result<(), Memory>
-    ensures { IfOk result (λ done. Adds (IsRead flat.now value (item ∷ [])) set.old.items set.new.items) }
+fn read_one(flat: &Tables, value: u32, item: Item, set: &mut Items) -> Result<(), Memory>
+    ensures { IfOk result (λ done. Adds (IsRead flat.now value (item ∷ [])) set.old set.new) }
 {
-    if reads_at(flat, item, value) {
-        add(
-            set,
-            Item {
-                node: item.node,
-                step: item.step + 1,
-                origin: item.origin,
-            },
-        )?;
+    if reads(flat, item, value) {
+        set.add(Item {
+            node: item.node,
+            step: item.step + 1,
+            origin: item.origin,
+        })?;
     }
     Ok(())
 }
 
 /// Adds what items read.
-fn read_items(flat: &Tables, value: u32, from: &[Item], set: &mut Vec<Item>) -> Result<(), Memory>
-    ensures { IfOk result (λ done. Adds (IsRead flat.now value from.now) set.old.items set.new.items) }
+fn read_items(flat: &Tables, value: u32, from: &[Item], set: &mut Items) -> Result<(), Memory>
+    ensures { IfOk result (λ done. Adds (IsRead flat.now value from.now) set.old set.new) }
 {
     for item in from {
         read_one(flat, value, *item, set)?;
@@ -58,9 +43,9 @@ fn read_spots(
     value: u32,
     from: &[Spot],
     origin: usize,
-    set: &mut Vec<Item>,
+    set: &mut Items,
 ) -> Result<(), Memory>
-    ensures { IfOk result (λ done. Adds (IsRead flat.now value (map (item_at origin) from.now)) set.old.items set.new.items) }
+    ensures { IfOk result (λ done. Adds (IsRead flat.now value (map (item_at origin) from.now)) set.old set.new) }
 {
     for spot in from {
         read_one(
@@ -83,9 +68,9 @@ fn read_heads(
     value: u32,
     heads: &[usize],
     origin: usize,
-    set: &mut Vec<Item>,
+    set: &mut Items,
 ) -> Result<(), Memory>
-    ensures { IfOk result (λ done. Adds (IsRead flat.now value (expand (block_of flat.now) origin heads.now)) set.old.items set.new.items) }
+    ensures { IfOk result (λ done. Adds (IsRead flat.now value (expand (block_of flat.now) origin heads.now)) set.old set.new) }
 {
     for head in heads {
         read_spots(flat, value, spots(flat, *head), origin, set)?;
@@ -99,9 +84,9 @@ pub(crate) fn read<L: Letter>(
     letter: L,
     from: &Front,
     origin: usize,
-    set: &mut Vec<Item>,
+    set: &mut Items,
 ) -> Result<(), Memory>
-    ensures { IfOk result (λ done. Adds (IsRead flat.now (L.number letter) (view flat.now origin from.now)) set.old.items set.new.items) }
+    ensures { IfOk result (λ done. Adds (IsRead flat.now (L.number letter) (view flat.now origin from.now)) set.old set.new) }
 {
     let value = letter.value();
     read_heads(flat, value, &from.heads, origin, set)?;

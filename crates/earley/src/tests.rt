@@ -2,9 +2,9 @@
 ghost use Rattle.std.specs.Prelude.{◌≡◌, IfOk};
 ghost use Rattle.ruletable.specs.declared.table.NameCase.TheVariants.{Fold};
 
-use crate::lowered::lower_rules;
-use crate::{Chart, Flat, Letter, Node, items_at_most, items_tell, judge};
+use crate::{Chart, Letter, judge};
 use abnfread::Elem;
+use flatgrammar::{Flat, Node, items_at_most, items_tell, lower_rules};
 use ruletable::{Memory, NameCase, RuleTable, Span};
 use std::alloc::Global;
 use std::test::Fail;

@@ -3,35 +3,37 @@ use Rattle.earley.specs.declared.front.Front.{Front}
 use Rattle.earley.specs.Charts.{IsBuilt}
 use Rattle.earley.specs.FrontViews.{view, views}
 use Rattle.earley.proofs.IsBuiltLemmas.{built_exact}
-use Rattle.earley.proofs.ViewsLemmas.{going_from, built_from}
-use Rattle.earley.proofs.ChartSetsLemmas.{sized_push, size_here}
+use Rattle.earley.proofs.ViewsLemmas.{going_from, built_by}
+use Rattle.earley.proofs.ChartSetsLemmas.{sized_push}
 use Rattle.earley.proofs.chart.fill_fronts.Goals as goal
 
 pub fill-requires-clause-begun : goal.fill-requires-clause-begun
 fill-requires-clause-begun g c =
     going_from c.args.flat.now c.requires.roots c.requires.nulls c.requires.tables (map g.L.Letter.number c.args.line.now) c.loop-alloc.sets.items
     c.deref.result.now c.deref-in-loop-alloc.result.now c.deref-in-loop-alloc-2.result.now c.deref.ensures.value c.deref-in-loop-alloc.ensures.value c.deref-in-loop-alloc-2.ensures.value
-    c.fresh-heads.result.heads.items c.fresh-heads.result.items.items c.fresh-heads.ensures.heads c.fresh-heads.ensures.items c.loop-alloc.invariant.built c.begin.new.heads.items c.follow.new.items.items
+    c.loop-alloc.heads c.loop-alloc.items c.loop-alloc.invariant.no_heads c.loop-alloc.invariant.no_items c.loop-alloc.invariant.built c.begin.new.heads c.follow.new.items
     c.in_ok-begin.ensures c.in_ok-follow.ensures
 
 pub loop-alloc-preserved : goal.loop-alloc-preserved
 loop-alloc-preserved g c =
-    let front : Front = record { heads = c.fill.new.heads; items = c.fill.new.items; size = c.in_ok-size.size } in
+    let front : Front = c.in_ok-front.front in
     let size = length-append c.loop-alloc.sets.items (front ∷ []) in
     let test = c.loop-alloc-test.true in
     let len = c.len.ensures in
     let ok = c.loop-alloc.sets.ok.0 in
     record {
       built = subst (λ v. IsBuilt c.args.flat.now (map g.L.Letter.number c.args.line.now) (views c.args.flat.now 0 v)) (sym c.in_ok-push.ensures.items)
-          (built_from c.args.flat.now c.requires.roots c.requires.nulls c.requires.tables (map g.L.Letter.number c.args.line.now) c.loop-alloc.sets.items
+          (built_by c.args.flat.now c.requires.roots c.requires.nulls c.requires.tables (map g.L.Letter.number c.args.line.now) c.loop-alloc.sets.items
           c.deref.result.now c.deref-in-loop-alloc.result.now c.deref-in-loop-alloc-2.result.now c.deref.ensures.value c.deref-in-loop-alloc.ensures.value c.deref-in-loop-alloc-2.ensures.value
-          c.fresh-heads.result.heads.items c.fresh-heads.result.items.items c.fresh-heads.ensures.heads c.fresh-heads.ensures.items c.loop-alloc.invariant.built c.begin.new.heads.items c.follow.new.items.items
-          c.in_ok-begin.ensures c.in_ok-follow.ensures front
+          c.loop-alloc.heads c.loop-alloc.items c.loop-alloc.invariant.no_heads c.loop-alloc.invariant.no_items c.loop-alloc.invariant.built c.begin.new.heads c.follow.new.items
+          c.in_ok-begin.ensures c.in_ok-follow.ensures front c.fill.new.heads c.fill.new.items c.in_ok-front.ensures.heads c.in_ok-front.ensures.items
           c.in_ok-fill.ensures.held c.in_ok-fill.ensures.different c.in_ok-fill.ensures.keeps c.in_ok-fill.ensures.closed);
       within = (let short : length (c.loop-alloc.sets.items ++ front ∷ []) ≤ length c.args.line.now + 1 = omega (arith, size, test, len, ok) in
           subst (λ v. length v ≤ length c.args.line.now + 1) (sym c.in_ok-push.ensures.items) short);
+      no_heads = c.in_ok-front.ensures.no_heads;
+      no_items = c.in_ok-front.ensures.no_items;
       sized = subst (λ v. (j : ℕ) (f : Front) → slice_get v j ≡ Some f → f.size ≡ length (view c.args.flat.now j f)) (sym c.in_ok-push.ensures.items)
-          (sized_push c.args.flat.now c.loop-alloc.sets.items front c.loop-alloc.invariant.sized (λ j. size_here c.args.flat.now j _ _ c.fill.new.heads.items c.fill.new.items.items _ c.deref-in-loop-alloc-3.ensures.value c.deref-in-loop-alloc-4.ensures.value (c.in_ok-size.ensures j)));
+          (sized_push c.args.flat.now c.loop-alloc.sets.items front c.loop-alloc.invariant.sized c.in_ok-front.ensures.size);
     }
 
 pub returns-clause-exact : goal.returns-clause-exact

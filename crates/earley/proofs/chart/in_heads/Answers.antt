@@ -1,5 +1,5 @@
 use Rattle.std.proofs.Common.{refl}
-use Rattle.earley.specs.Blocks.{block_of}
+use Rattle.flatgrammar.specs.Blocks.{block_of}
 use Rattle.earley.proofs.ViewsLemmas.{heads_none, heads_some}
 use Rattle.earley.proofs.chart.in_heads.Goals as goal
 

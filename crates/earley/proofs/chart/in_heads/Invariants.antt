@@ -1,6 +1,7 @@
 use Rattle.std.proofs.Common.{take}
-use Rattle.earley.specs.Places.{In}
-use Rattle.earley.specs.Blocks.{block_of, expand}
+use Rattle.flatgrammar.specs.Places.{In}
+use Rattle.flatgrammar.specs.Blocks.{block_of}
+use Rattle.earley.specs.FrontViews.{expand}
 use Rattle.earley.proofs.chart.in_heads.Given as goal
 
 abbrev pub invariant-loop-head : goal.invariant-loop-head

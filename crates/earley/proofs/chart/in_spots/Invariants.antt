@@ -1,6 +1,6 @@
 use Rattle.std.proofs.Common.{take, map}
-use Rattle.earley.specs.Places.{In}
-use Rattle.earley.specs.Blocks.{item_at}
+use Rattle.flatgrammar.specs.Places.{In}
+use Rattle.flatgrammar.specs.Blocks.{item_at}
 use Rattle.earley.proofs.chart.in_spots.Given as goal
 
 abbrev pub invariant-loop-spot : goal.invariant-loop-spot

@@ -1,6 +1,6 @@
 use Rattle.std.proofs.Common.{◌≡◌, ◌+◌, ◌<◌, Some, length, ap, ◌∙◌, arith}
-use Rattle.earley.specs.Flat.{at}
-use Rattle.earley.specs.declared.item.Item.{Item}
+use Rattle.flatgrammar.specs.Flat.{at}
+use Rattle.flatgrammar.specs.declared.flat_item.Item.{Item}
 use Rattle.earley.specs.FrontViews.{view}
 use Rattle.earley.proofs.ExpandLemmas.{get_views}
 use Rattle.earley.proofs.IsBuiltLemmas.{get_is}

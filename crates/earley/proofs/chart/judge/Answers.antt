@@ -1,8 +1,8 @@
 use Rattle.std.proofs.Common.{◌↔◌, IsTrue, length, map, subst}
 use Rattle.std.proofs.lemmas.List.{length-map}
 use Rattle.abnfcheck.specs.Derivable.{RuleDerives}
-use Rattle.earley.specs.Flat.{at}
-use Rattle.earley.specs.Holds.{Holds}
+use Rattle.flatgrammar.specs.Flat.{at}
+use Rattle.flatgrammar.specs.Holds.{Holds}
 use Rattle.earley.specs.ChartSets.{set_at, IsSet}
 use Rattle.earley.proofs.ChartSetsLemmas.{set_bound}
 use Rattle.earley.proofs.chart.judge.Goals as goal

@@ -1,6 +1,6 @@
-use Rattle.std.proofs.Common.{◌+◌, length, map, ap, ◌∙◌, sym, subst}
+use Rattle.std.proofs.Common.{◌+◌, map, ap, ◌∙◌, sym, subst}
 use Rattle.std.proofs.lemmas.List.{length-map}
-use Rattle.earley.specs.NodeSteps.{flat_of}
+use Rattle.flatgrammar.specs.NodeSteps.{flat_of}
 use Rattle.earley.specs.Charts.{IsExact}
 use Rattle.earley.specs.ChartSets.{set_at, IsSet}
 use Rattle.earley.specs.FrontViews.{views}

@@ -1,5 +1,5 @@
 use Rattle.std.proofs.Common.{arith}
-use Rattle.earley.specs.Blocks.{block_of}
+use Rattle.flatgrammar.specs.Blocks.{block_of}
 use Rattle.earley.proofs.ChartSetsLemmas.{size_more}
 use Rattle.earley.proofs.chart.size_of.Goals as goal
 

@@ -1,5 +1,6 @@
 use Rattle.std.proofs.Common.{◌≡◌, ℕ, ◌+◌, length, take}
-use Rattle.earley.specs.Blocks.{block_of, expand}
+use Rattle.flatgrammar.specs.Blocks.{block_of}
+use Rattle.earley.specs.FrontViews.{expand}
 use Rattle.earley.proofs.chart.size_of.Given as goal
 
 abbrev pub invariant-loop-head : goal.invariant-loop-head

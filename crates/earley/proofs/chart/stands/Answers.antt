@@ -1,7 +1,8 @@
 use Rattle.std.proofs.Common.{◌⊎◌, inl, inr, refl, subst, sym, IsTrue}
-use Rattle.earley.specs.Places.{In}
-use Rattle.earley.specs.Blocks.{block_of, expand}
-use Rattle.earley.proofs.InLemmas.{in_left}
+use Rattle.flatgrammar.specs.Places.{In}
+use Rattle.flatgrammar.specs.Blocks.{block_of}
+use Rattle.earley.specs.FrontViews.{expand}
+use Rattle.flatgrammar.proofs.InLemmas.{in_left}
 use Rattle.earley.proofs.BlockLemmas.{in_right, either}
 use Rattle.earley.proofs.chart.stands.Goals as goal
 

@@ -1,5 +1,6 @@
 use Rattle.std.proofs.Common.{sym, ◌∙◌, length, ltb-true}
-use Rattle.earley.proofs.ExpandLemmas.{completed_on, completed_here, past_get}
+use Rattle.earley.proofs.ExpandLemmas.{completed_on, completed_here}
+use Rattle.flatgrammar.proofs.CallOfLemmas.{past_get}
 use Rattle.earley.proofs.IsBuiltLemmas.{get_is}
 use Rattle.earley.proofs.fill.complete.Goals as goal
 

@@ -1,15 +1,15 @@
 use Rattle.std.proofs.Common.{map, ◌+◌, ◌-◌, ◌*◌, length}
-use Rattle.earley.specs.Places.{places}
-use Rattle.earley.specs.NodeSteps.{flat_of}
+use Rattle.flatgrammar.specs.Places.{places}
+use Rattle.flatgrammar.specs.NodeSteps.{flat_of}
 use Rattle.earley.specs.Closed.{Keeps}
-use Rattle.earley.specs.Blocks.{block_of, full}
-use Rattle.earley.specs.FrontViews.{views, IsGoing}
+use Rattle.flatgrammar.specs.Blocks.{block_of}
+use Rattle.earley.specs.FrontViews.{full, views, IsGoing}
 use Rattle.earley.proofs.fill.fill.Given as goal
 
 abbrev pub invariant-loop-item_index : goal.invariant-loop-item_index
 invariant-loop-item_index g l = record {
-  going : IsGoing l.flat (map g.L.Letter.number l.line) (views l.flat 0 l.sets) l.item_index l.head_index l.heads.items l.items.items;
-  keeps : Keeps (full (block_of l.flat) (length (views l.flat 0 l.sets)) l.initial.heads.items l.initial.items.items) (full (block_of l.flat) (length (views l.flat 0 l.sets)) l.heads.items l.items.items);
+  going : IsGoing l.flat (map g.L.Letter.number l.line) (views l.flat 0 l.sets) l.item_index l.head_index l.heads l.items;
+  keeps : Keeps (full (block_of l.flat) (length (views l.flat 0 l.sets)) l.initial.heads l.initial.items) (full (block_of l.flat) (length (views l.flat 0 l.sets)) l.heads l.items);
 }
 
 abbrev pub decreases-loop-item_index : goal.decreases-loop-item_index

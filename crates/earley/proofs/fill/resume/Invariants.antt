@@ -3,4 +3,4 @@ use Rattle.earley.specs.ItemSets.{Adds, IsResumed}
 use Rattle.earley.proofs.fill.resume.Given as goal
 
 abbrev pub invariant-loop-item : goal.invariant-loop-item
-invariant-loop-item l = Adds (IsResumed l.flat l.root (take l.item-index l.waiting)) l.initial.set.items l.set.items
+invariant-loop-item l = Adds (IsResumed l.flat l.root (take l.item-index l.waiting)) l.initial.set l.set

@@ -1,5 +1,5 @@
 use Rattle.std.proofs.Common.{refl}
-use Rattle.earley.specs.Blocks.{block_of}
+use Rattle.flatgrammar.specs.Blocks.{block_of}
 use Rattle.earley.proofs.ExpandLemmas.{resumed_heads_more}
 use Rattle.earley.proofs.fill.resume_heads.Goals as goal
 

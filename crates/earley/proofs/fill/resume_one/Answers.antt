@@ -1,5 +1,5 @@
 use Rattle.std.proofs.Common.{Some, sym, ◌∙◌, ap}
-use Rattle.earley.proofs.ResumedLemmas.{some_same}
+use Rattle.flatgrammar.proofs.CallOfLemmas.{some_same}
 use Rattle.earley.proofs.ExpandLemmas.{resumed_one, resumed_not}
 use Rattle.earley.proofs.fill.resume_one.Goals as goal
 

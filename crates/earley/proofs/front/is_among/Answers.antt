@@ -1,6 +1,6 @@
 use Rattle.std.proofs.Common.{ℕ, sym, subst, refl}
-use Rattle.earley.specs.Places.{In}
-use Rattle.earley.proofs.InLemmas.{at_index_in, none_more}
+use Rattle.flatgrammar.specs.Places.{In}
+use Rattle.flatgrammar.proofs.InLemmas.{at_index_in, none_more}
 use Rattle.earley.proofs.front.is_among.Goals as goal
 
 pub returns-then-other-head : goal.returns-then-other-head

@@ -1,5 +1,5 @@
 use Rattle.std.proofs.Common.{take}
-use Rattle.earley.specs.Places.{In}
+use Rattle.flatgrammar.specs.Places.{In}
 use Rattle.earley.proofs.front.is_among.Given as goal
 
 abbrev pub invariant-loop-other : goal.invariant-loop-other

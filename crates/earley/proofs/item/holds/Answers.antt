@@ -1,6 +1,6 @@
 use Rattle.std.proofs.Common.{sym, subst, refl}
-use Rattle.earley.specs.Places.{In}
-use Rattle.earley.proofs.InLemmas.{at_index_in, none_more}
+use Rattle.flatgrammar.specs.Places.{In}
+use Rattle.flatgrammar.proofs.InLemmas.{at_index_in, none_more}
 use Rattle.earley.proofs.item.holds.Goals as goal
 
 pub returns-then-same : goal.returns-then-same

@@ -1,4 +1,4 @@
-use Rattle.earley.specs.Blocks.{block_of}
+use Rattle.flatgrammar.specs.Blocks.{block_of}
 use Rattle.earley.proofs.ExpandLemmas.{reads_heads_more}
 use Rattle.earley.proofs.read_front.read_heads.Goals as goal
 

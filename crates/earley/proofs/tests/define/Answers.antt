@@ -1,4 +1,4 @@
-use Rattle.std.proofs.Common.{◌≡◌, ap, ◌∙◌, List}
+use Rattle.std.proofs.Common.{◌≡◌, ap, ◌∙◌}
 use Rattle.ruletable.specs.Rules.{Rule, Rules, Defines}
 use Rattle.ruletable.specs.declared.table.Defined.{Defined}
 use Rattle.ruletable.specs.declared.table.Defined.TheVariants.{Added, Duplicate}

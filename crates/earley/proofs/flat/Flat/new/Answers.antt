@@ -1,9 +1,0 @@
-use Rattle.std.proofs.Common.{sym, subst}
-use Rattle.earley.specs.ChartSets.{AreExact}
-use Rattle.earley.proofs.AreExactLemmas.{tables_exact}
-use Rattle.earley.proofs.flat.Flat.new.Goals as goal
-
-pub invariant_of-result : goal.invariant_of-result
-invariant_of-result c = subst (λ v. AreExact v) (sym c.in_ok-tables.ensures.ok)
-    (tables_exact c.args.nodes c.args.bodies c.in_ok-roots.roots c.in_ok-nulls.nulls c.new.result c.in_ok-blocks.blocks c.args.whole _ _ _ _
-    c.deref.ensures.value c.deref-2.ensures.value c.deref-3.ensures.value c.deref-4.ensures.value c.in_ok-roots.ensures c.in_ok-nulls.ensures c.in_ok-blocks.ensures)

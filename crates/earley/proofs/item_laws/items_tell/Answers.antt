@@ -1,5 +1,0 @@
-use Rattle.earley.proofs.RuleDerivesLemmas.{exactly}
-use Rattle.earley.proofs.item_laws.items_tell.Goals as goal
-
-pub returns : goal.returns
-returns c = λ has rules judged flat x lowered letters. exactly has rules judged flat lowered x letters

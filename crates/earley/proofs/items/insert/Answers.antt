@@ -1,0 +1,10 @@
+use Rattle.std.proofs.Common.{◌≡◌, sym, subst}
+use Rattle.flatgrammar.specs.Places.{In}
+use Rattle.earley.specs.ItemSets.{Adds}
+use Rattle.earley.proofs.AddsLemmas.{adds_one}
+use Rattle.earley.proofs.items.insert.Goals as goal
+
+pub returns-in_ok-push-clause-added : goal.returns-in_ok-push-clause-added
+returns-in_ok-push-clause-added c =
+    subst (λ v. Adds (λ a. a ≡ c.args.item) c.args.list.now.items v) (sym c.in_ok-push.ensures.pushed) (adds_one c.args.item c.args.list.now.items
+    (λ h. let t = c.stands.ensures.1 (subst (λ v. In c.args.item v) (sym c.deref-2.ensures.value) h) in let f = c.if-not-stands.true in absurd cc))

@@ -1,7 +1,0 @@
-use Rattle.abnfread.specs.Views.{rules_of}
-use Rattle.earley.specs.FlatViews.{nodes_of}
-use Rattle.earley.specs.Numbers.{AreCut}
-use Rattle.earley.proofs.lower_elem.number_bodies.Given as goal
-
-abbrev pub invariant-loop-id : goal.invariant-loop-id
-invariant-loop-id l = AreCut (rules_of l.rules) l.id (nodes_of l.nodes.items) l.bodies.items

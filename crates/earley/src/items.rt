@@ -1,0 +1,203 @@
+//! The items of a set, found fast.
+ghost use Rattle.std.specs.Prelude.{◌≡◌, ◌↔◌, ◌<◌, ◌≤◌, ◌++◌, ◌∷◌, ℕ, List, [], length, slice_get, Some, IsTrue, IfOk};
+ghost use Rattle.flatgrammar.specs.Places.{In};
+ghost use Rattle.earley.specs.ItemSets.{Adds};
+ghost use Rattle.earley.specs.ItemRows.{row_of as the_row_of, IsLast, AreLinked};
+
+use crate::item::same;
+use flatgrammar::Item;
+use ruletable::Memory;
+use std::alloc::Global;
+use std::marker::Model;
+use std::mem;
+
+// The rows of a first growth.
+const FIRST: usize = 64;
+
+/// The items of a set beside its blocks, in the order in which they were added, seen as a list.
+///
+/// Items of one row are linked, the last one first. The rows and links may hold anything where there is no item, so that
+/// emptying takes no time.
+#[derive(Drop)]
+pub(crate) struct Items {
+    list: Vec<Item>,
+    // of each item one more than the index of the last one before it in its row, or 0
+    links: Vec<usize>,
+    // of each row one more than the index of its last item
+    rows: Vec<usize>,
+}
+
+impl Model for Items {
+    ghost use Rattle.std.specs.Prelude.{List, length};
+    ghost use Rattle.flatgrammar.specs.declared.flat_item.Item.{Item};
+    ghost use Rattle.earley.specs.ItemRows.{row_of, AreLinked};
+
+    ghost Value = { List Item };
+
+    ghost view = { λ s. s.list.items };
+
+    ghost invariant = { λ s. AreLinked (row_of (length s.rows.items)) s.list.items s.links.items s.rows.items };
+}
+
+// The row of an item among that many.
+#[tactic(auto, unfolding(crate::specs::ItemRows::row_of))]
+#[inline(always)]
+fn row_of(count: usize, item: Item) -> usize
+    requires { 0 < count }
+    ensures value { result ≡ the_row_of count item }
+    ensures within { result < count }
+{
+    (item.node.wrapping_mul(5) ^ item.step ^ item.origin.wrapping_mul(31)) & (count - 1)
+}
+
+// One more than the index of the last item of the row, or 0.
+#[inline(always)]
+fn last_of(list: &[Item], rows: &[usize], row: usize) -> usize
+    requires row { row < length rows.now }
+    requires linked { (links : List ℕ) × (AreLinked (the_row_of (length rows.now)) list.now links rows.now) }
+    ensures { IsLast (the_row_of (length rows.now)) list.now (length list.now) row result }
+{
+    let last = rows[row];
+    if last == 0 || last > list.len() {
+        return 0;
+    }
+    if row_of(rows.len(), list[last - 1]) != row {
+        return 0;
+    }
+    last
+}
+
+// Tells whether an item stands in a list, whose last one in the same row is given.
+#[inline(always)]
+fn stands(list: &[Item], links: &[usize], count: usize, last: usize, item: Item) -> bool
+    requires linked { (rows : List ℕ) × (AreLinked (the_row_of count) list.now links.now rows) }
+    requires last { IsLast (the_row_of count) list.now (length list.now) (the_row_of count item) last }
+    ensures { IsTrue result ↔ In item list.now }
+{
+    let mut at = last;
+    while at > 0 {
+        if same(list[at - 1], item) {
+            return true;
+        }
+        at = links[at - 1];
+    }
+    false
+}
+
+// Sets the link of an index, which is at most one past the last.
+fn set_link(links: &mut Vec<usize>, index: usize, link: usize) -> Result<(), Memory>
+    requires { index ≤ length links.old.items }
+    ensures here { IfOk result (λ done. slice_get links.new.items index ≡ Some link) }
+    ensures others { (i l : ℕ) → i < index → slice_get links.new.items i ≡ Some l → slice_get links.old.items i ≡ Some l }
+    ensures long { length links.old.items ≤ length links.new.items }
+{
+    if index < links.len() {
+        links[index] = link;
+    } else {
+        links.push(link)?;
+    }
+    Ok(())
+}
+
+// Adds an item to its row, whose last one is given.
+fn push(
+    list: &mut Vec<Item>,
+    links: &mut Vec<usize>,
+    rows: &mut [usize],
+    last: usize,
+    item: Item,
+) -> Result<(), Memory>
+    requires linked { AreLinked (the_row_of (length rows.old)) list.old.items links.old.items rows.old }
+    requires some { 0 < length rows.old }
+    requires last { IsLast (the_row_of (length rows.old)) list.old.items (length list.old.items) (the_row_of (length rows.old) item) last }
+    ensures linked { AreLinked (the_row_of (length rows.new)) list.new.items links.new.items rows.new }
+    ensures pushed { IfOk result (λ done. list.new.items ≡ list.old.items ++ item ∷ []) }
+{
+    let row = row_of(rows.len(), item);
+    let index = list.len();
+    set_link(links, index, last)?;
+    list.push(item)?;
+    rows[row] = index + 1;
+    Ok(())
+}
+
+// Adds an item unless it is there.
+fn insert(
+    list: &mut Vec<Item>,
+    links: &mut Vec<usize>,
+    rows: &mut [usize],
+    item: Item,
+) -> Result<(), Memory>
+    requires linked { AreLinked (the_row_of (length rows.old)) list.old.items links.old.items rows.old }
+    requires some { 0 < length rows.old }
+    ensures linked { AreLinked (the_row_of (length rows.new)) list.new.items links.new.items rows.new }
+    ensures added { IfOk result (λ done. Adds (λ a. a ≡ item) list.old.items list.new.items) }
+{
+    let row = row_of(rows.len(), item);
+    let last = last_of(list, rows, row);
+    if !stands(list, links, rows.len(), last, item) {
+        push(list, links, rows, last, item)?;
+    }
+    Ok(())
+}
+
+impl Items {
+    /// Returns no items. It takes no memory.
+    pub(crate) fn new(alloc: Global) -> Items
+        ensures { result ≡ [] }
+    {
+        Items {
+            list: Vec::new(alloc),
+            links: Vec::new(alloc),
+            rows: Vec::new(alloc),
+        }
+    }
+
+    /// Returns the number of items.
+    pub(crate) fn len(&self) -> usize
+        ensures { result ≡ length self.now }
+    {
+        self.list.len()
+    }
+
+    /// Returns the item at that index.
+    pub(crate) fn at(&self, index: usize) -> Item
+        requires { index < length self.now }
+        ensures { slice_get self.now index ≡ Some result }
+    {
+        self.list[index]
+    }
+
+    /// Adds an item unless it is there. `Memory` if an allocation fails.
+    pub(crate) fn add(&mut self, item: Item) -> Result<(), Memory>
+        ensures { IfOk result (λ done. Adds (λ a. a ≡ item) self.old self.new) }
+    {
+        if self.rows.is_empty() {
+            self.rows.resize(FIRST, 0)?;
+        }
+        insert(&mut self.list, &mut self.links, &mut self.rows, item)
+    }
+
+    /// Empties it, and keeps its memory.
+    pub(crate) fn clear(&mut self)
+        ensures { self.new ≡ [] }
+    {
+        self.list.clear();
+    }
+
+    /// Empties it, and returns the items that it had, in exchange for memory. It has more rows from then on where the items
+    /// were more than the rows. `Memory` if an allocation fails.
+    pub(crate) fn take(&mut self, memory: Vec<Item>) -> Result<Vec<Item>, Memory>
+        ensures items { IfOk result (λ items. items.items ≡ self.old) }
+        ensures empty { IfOk result (λ items. self.new ≡ []) }
+    {
+        let mut memory = memory;
+        memory.clear();
+        let items = mem::replace(&mut self.list, memory);
+        if items.len() > self.rows.len() {
+            let count = self.rows.len().saturating_mul(2);
+            self.rows.resize(count, 0)?;
+        }
+        Ok(items)
+    }
+}

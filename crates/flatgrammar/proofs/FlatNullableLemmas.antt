@@ -1,0 +1,73 @@
+-- Items whose origin is their own set pass no letter, and a nullable node is passed in any set.
+-- Serves: judge.
+use Rattle.std.proofs.Common.{◌≡◌, ℕ, Some, List, slice_get, arith}
+use Rattle.flatgrammar.specs.Flat.{Flat, Node, Place, at, Begins, Starts, starts, name_starts, Ends, ends, name_ends, Calls, calls}
+use Rattle.flatgrammar.specs.Holds.{Holds, begins, called, has_read, returned}
+use Rattle.flatgrammar.specs.Nullable.{Passes, begun, stepped, Nullable, done, named}
+use Rattle.flatgrammar.proofs.PlacesLemmas.{holds_origin}
+
+module _ (flat : Flat) where
+  abbrev pub PassesAt : Place → Type 0
+  PassesAt (at s k) = Passes flat.nodes flat.bodies s k
+
+  starts_pass : {s : ℕ} {p : Place} → Starts flat s p → PassesAt p
+  starts_pass (starts is b) = begun is b
+  starts_pass (name_starts is at_r st) = starts_pass st
+
+  ends_null : {s : ℕ} {p : Place} → Ends flat p s → PassesAt p → Nullable flat.nodes flat.bodies s
+  ends_null (ends is d) passes = done passes is d
+  ends_null (name_ends is at_r e) passes = named is at_r (ends_null e passes)
+
+  calls_pass : {s : ℕ} {q r : Place} → Calls flat q s r → PassesAt q → Nullable flat.nodes flat.bodies s → PassesAt r
+  calls_pass (calls is c) passes null = stepped passes is c null
+
+  module _ (x : List ℕ) where
+    -- what stands in the set where it began
+    pub stays : {i j : ℕ} {p : Place} → Holds flat x j p i → i ≡ j → PassesAt p
+    stays (begins st) same = starts_pass st
+    stays (called h c st) same = starts_pass st
+    stays (has_read h r letter lies) same = absurd (omega (arith, holds_origin flat h, same))
+    stays (returned {i = i} {j = j} {k = k} h e g c) same =
+        let one = holds_origin flat h in
+        let two = holds_origin flat g in
+        let inner : k ≡ j = omega (arith, one, two, same) in
+        let outer : i ≡ k = omega (arith, one, two, same) in
+        calls_pass c (stays g outer) (ends_null e (stays h inner))
+
+    -- from a start to an end of a node, within set j
+    pub record Through (s j : ℕ) : Type 0 where
+      pub from : Place
+      pub to : Place
+      pub start : Starts flat s from
+      pub end : Ends flat to s
+      pub run : Holds flat x j from j → Holds flat x j to j
+
+    record Begun (s k j : ℕ) : Type 0 where
+      from : ℕ
+      node : Node
+      is : slice_get flat.nodes s ≡ Some node
+      begins : Begins node from
+      run : Holds flat x j (at s from) j → Holds flat x j (at s k) j
+
+    over : {i j s : ℕ} {q r : Place} → Calls flat q s r → Through s j → Holds flat x j q i → Holds flat x j r i
+    over c t h = returned (t.run (called h c t.start)) t.end h c
+
+    mutual
+      passed : {s k : ℕ} → Passes flat.nodes flat.bodies s k → (j : ℕ) → Begun s k j
+      passed (begun {k = k} {node = node} is b) j = record { from = k; node = node; is = is; begins = b; run = λ h. h }
+      passed (stepped p is c null) j =
+          let b = passed p j in
+          let t = through null j in
+          record { from = b.from; node = b.node; is = b.is; begins = b.begins; run = λ h. over (calls is c) t (b.run h) }
+
+      pub through : {s : ℕ} → Nullable flat.nodes flat.bodies s → (j : ℕ) → Through s j
+      through (done {s = s} {k = k} p is d) j =
+          let b = passed p j in
+          record { from = at s b.from; to = at s k; start = starts b.is b.begins; end = ends is d; run = b.run }
+      through (named is at_r null) j =
+          let t = through null j in
+          record { from = t.from; to = t.to; start = name_starts is at_r t.start; end = name_ends is at_r t.end; run = t.run }
+
+    -- a nullable node that is called is passed at once
+    pub pass : {i j s : ℕ} {q r : Place} → Holds flat x j q i → Calls flat q s r → Nullable flat.nodes flat.bodies s → Holds flat x j r i
+    pass {j = j} h c null = over c (through null j) h

@@ -1,0 +1,154 @@
+-- A list of different items is no longer than places and origins allow.
+-- Serves: items_at_most, judge.
+use Rattle.std.proofs.Common.{◌≡◌, ℕ, zero, suc, ◌+◌, ◌*◌, ◌<◌, ◌≤◌, List, [], ◌∷◌, ◌++◌, length, refl, sym, ◌∙◌, ap, subst, arith, length-append, suc-mul, ◌⊎◌, inl, inr}
+use Rattle.std.proofs.lemmas.Bool.{cases_lt}
+use Rattle.std.specs.Prelude.{slice_get, Some}
+use Rattle.flatgrammar.specs.Flat.{Node, Flat, Place, at, Set, Begins, Reading, Calling, Starts, starts, name_starts, reads, calls}
+use Rattle.flatgrammar.specs.Holds.{Holds, begins, called, has_read, returned}
+use Rattle.flatgrammar.proofs.BeforeLemmas.{get_below}
+use Rattle.flatgrammar.specs.Places.{width, places, In, now, on, AreDifferent}
+
+-- the list without one member
+record Without {A : Type 0} (x : A) (ys : List A) : Type 0 where
+  rest : List A
+  shorter : length ys ≡ suc (length rest)
+  keeps : (a : A) → (a ≡ x → ⊥) → In a ys → In a rest
+
+without : {A : Type 0} (x : A) (ys : List A) → In x ys → Without x ys
+without x [] h = elim h [ ]
+without x (y ∷ ys) (now is) = record { rest = ys; shorter = refl; keeps = λ a differs h. kept a differs h }
+  where
+    kept : (a : _) → (a ≡ x → ⊥) → In a (y ∷ ys) → In a ys
+    kept a differs (now same) = absurd (differs (same ∙ sym is))
+    kept a differs (on h) = h
+without x (y ∷ ys) (on h) =
+    let w = without x ys h in
+    record { rest = y ∷ w.rest; shorter = ap suc w.shorter; keeps = λ a differs g. kept w a differs g }
+  where
+    kept : (w : Without x ys) (a : _) → (a ≡ x → ⊥) → In a (y ∷ ys) → In a (y ∷ w.rest)
+    kept w a differs (now same) = now same
+    kept w a differs (on g) = on (w.keeps a differs g)
+
+-- different members of a list are no more than it has
+pub at_most : {A : Type 0} (xs ys : List A) → AreDifferent xs → ((a : A) → In a xs → In a ys) → length xs ≤ length ys
+at_most [] ys different among = omega arith
+at_most (x ∷ xs) ys different among =
+    let w = without x ys (among x (now refl)) in
+    let rest = at_most xs w.rest different.1 (λ a h. w.keeps a (λ same. different.0 (subst (λ v. In v xs) same h)) (among a (on h))) in
+    omega (arith, rest, w.shorter)
+
+in_left : {A : Type 0} {a : A} {xs : List A} (ys : List A) → In a xs → In a (xs ++ ys)
+in_left ys (now h) = now h
+in_left ys (on h) = on (in_left ys h)
+
+in_right : {A : Type 0} {a : A} (xs : List A) {ys : List A} → In a ys → In a (xs ++ ys)
+in_right [] h = h
+in_right (x ∷ xs) h = on (in_right xs h)
+
+-- f at each number below n
+abbrev pub every : {A : Type 0} → ℕ → (ℕ → A) → List A
+every zero f = []
+every (suc n) f = f n ∷ every n f
+
+pub in_every : {A : Type 0} (n k : ℕ) (f : ℕ → A) → k < n → In (f k) (every n f)
+in_every zero k f lt = absurd (omega arith)
+in_every (suc n) k f lt = by (cases_lt k n) (λ less. in_every n k f less)
+  where
+    by : ((k < n) ⊎ (n ≤ k)) → (k < n → In (f k) (every n f)) → In (f k) (f n ∷ every n f)
+    by (inl less) ih = on (ih less)
+    by (inr le) ih = let same : k ≡ n = omega arith in now (ap f same)
+
+pub length_every : {A : Type 0} (n : ℕ) (f : ℕ → A) → length (every n f) ≡ n
+length_every zero f = refl
+length_every (suc n) f = ap suc (length_every n f)
+
+abbrev places_from : ℕ → List Node → List Place
+places_from s [] = []
+places_from s (node ∷ nodes) = every (width node) (λ k. at s k) ++ places_from (suc s) nodes
+
+length_places : (s : ℕ) (nodes : List Node) → length (places_from s nodes) ≡ places nodes
+length_places s [] = refl
+length_places s (node ∷ nodes) =
+    omega (arith, length-append (every (width node) (λ k. at s k)) (places_from (suc s) nodes), length_every (width node) (λ k. at s k), length_places (suc s) nodes)
+
+in_places : (s i k : ℕ) (nodes : List Node) {node : Node} → slice_get nodes i ≡ Some node → k < width node → In (at (s + i) k) (places_from s nodes)
+in_places s i k [] is lt = absurd cc
+in_places s zero k (n ∷ nodes) {node = node} is lt =
+    let same : node ≡ n = cc in let zero_is : s ≡ s + 0 = omega arith in
+    in_left (places_from (suc s) nodes) (subst (λ v. In (at v k) (every (width n) (λ u. at s u))) zero_is (in_every (width n) k (λ u. at s u) (subst (λ v. k < width v) same lt)))
+in_places s (suc i) k (n ∷ nodes) is lt =
+    let one : suc s + i ≡ s + suc i = omega arith in
+    in_right (every (width n) (λ u. at s u)) (subst (λ v. In (at v k) (places_from (suc s) nodes)) one (in_places (suc s) i k nodes is lt))
+
+abbrev pairs : {A : Type 0} → ℕ → List A → List (A × ℕ)
+pairs n [] = []
+pairs n (x ∷ xs) = every n (λ i. (x, i)) ++ pairs n xs
+
+length_pairs : {A : Type 0} (n : ℕ) (xs : List A) → length (pairs n xs) ≡ length xs * n
+length_pairs n [] = omega arith
+length_pairs {A = A} n (x ∷ xs) =
+    let f : ℕ → A × ℕ = λ i. (x, i) in
+    let part = length-append (every n f) (pairs n xs) in
+    let one = length_every n f in
+    let rest = length_pairs n xs in
+    let split = suc-mul (length xs) n in
+    let more : suc (length xs) * n ≡ n + length xs * n = omega (arith, split) in
+    part ∙ (ap (λ v. v + length (pairs n xs)) one ∙ (ap (λ v. n + v) rest ∙ sym more))
+
+in_pairs : {A : Type 0} (n i : ℕ) (x : A) (xs : List A) → i < n → In x xs → In (x, i) (pairs n xs)
+in_pairs n i x [] lt h = elim h [ ]
+in_pairs {A = A} n i x (y ∷ xs) lt (now is) = in_left (pairs n xs) (subst (λ v. In {A = A × ℕ} (v, i) (every n (λ u. (y, u)))) (sym is) (in_every n i (λ u. (y, u)) lt))
+in_pairs n i x (y ∷ xs) lt (on h) = in_right (every n (λ u. (y, u))) (in_pairs n i x xs lt h)
+
+module _ (flat : Flat) where
+  -- a place of some node
+  abbrev pub IsPlace : Place → Type 0
+  IsPlace (at s k) = (node : Node) × (slice_get flat.nodes s ≡ Some node) × (k < width node)
+
+  begins_within : {node : Node} {k : ℕ} → Begins node k → k < width node
+  begins_within Begins.letters = omega arith
+  begins_within Begins.concat = omega arith
+  begins_within (Begins.alt lt) = omega arith
+  begins_within Begins.rep = omega arith
+  begins_within Begins.opt = omega arith
+  begins_within Begins.opt_empty = omega arith
+
+  reading_within : {node : Node} {k l : ℕ} {set : Set} → Reading node k set l → l < width node
+  reading_within (Reading.letter {sets = sets} {k = k} is) = omega (arith, get_below sets k is)
+
+  calling_within : {node : Node} {k l t : ℕ} → Calling node k t l → l < width node
+  calling_within (Calling.member {ms = ms} {k = k} is) = omega (arith, get_below ms k is)
+  calling_within (Calling.alternative {ms = ms} {k = k} is) = omega (arith, get_below ms k is)
+  calling_within (Calling.turn lt) = omega arith
+  calling_within Calling.turn_uncounted = omega arith
+  calling_within Calling.operand = omega arith
+
+  starts_place : {s : ℕ} {p : Place} → Starts flat s p → IsPlace p
+  starts_place (starts {node = node} is b) = (node, is, begins_within b)
+  starts_place (name_starts is at_r st) = starts_place st
+
+  pub holds_place : {x : List ℕ} {i j : ℕ} {p : Place} → Holds flat x j p i → IsPlace p
+  holds_place (begins st) = starts_place st
+  holds_place (called h c st) = starts_place st
+  holds_place (has_read h (reads {node = node} is r) get lies) = (node, is, reading_within r)
+  holds_place (returned h e g (calls {node = node} is c)) = (node, is, calling_within c)
+
+  pub holds_origin : {x : List ℕ} {i j : ℕ} {p : Place} → Holds flat x j p i → i ≤ j
+  holds_origin (begins st) = omega arith
+  holds_origin (called h c st) = omega arith
+  holds_origin (has_read h r get lies) = omega (arith, holds_origin h)
+  holds_origin (returned h e g c) = omega (arith, holds_origin h, holds_origin g)
+
+  place_in : (p : Place) → IsPlace p → In p (places_from 0 flat.nodes)
+  place_in (at s k) h =
+      let zero_is : 0 + s ≡ s = omega arith in
+      subst (λ v. In (at v k) (places_from 0 flat.nodes)) zero_is (in_places 0 s k flat.nodes h.1 h.2)
+
+  -- a list of different items of set j
+  pub items_at_most : (x : List ℕ) (j : ℕ) (set : List (Place × ℕ)) → AreDifferent set → ((p : Place) (i : ℕ) → In (p, i) set → Holds flat x j p i) →
+      length set ≤ places flat.nodes * (j + 1)
+  items_at_most x j set different sound =
+      let among = at_most set (pairs (j + 1) (places_from 0 flat.nodes)) different
+      (λ a h. let g = sound a.0 a.1 h in let lt : a.1 < j + 1 = omega (arith, holds_origin g) in in_pairs (j + 1) a.1 a.0 (places_from 0 flat.nodes) lt (place_in a.0 (holds_place g))) in
+      let size = length_pairs (j + 1) (places_from 0 flat.nodes) in
+      rw (← length_places 0 flat.nodes) (rw (← size) among)

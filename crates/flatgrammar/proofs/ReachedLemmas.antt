@@ -1,0 +1,69 @@
+-- What an item says is derived.
+-- Serves: items_tell, lower, judge.
+use Rattle.std.proofs.Common.{◌≡◌, ℕ, List, [], ◌∷◌, ◌++◌, subst}
+use Rattle.std.specs.Prelude.{slice_get, Bool, Some}
+use Rattle.abnfread.specs.Element.{Element, Rule}
+use Rattle.abnfcheck.specs.Derivable as der
+use Rattle.abnfcheck.specs.Derivable.{AreLetters, Derives}
+use Rattle.flatgrammar.specs.Flat.{Node, Flat, Place, at, Name, Set, Has, Reading, Calling, IsDone, Begins, Starts, starts, name_starts, Ends, ends, name_ends, Reads, reads, Calls, calls}
+use Rattle.flatgrammar.specs.Holds.{Holds, begins, called, has_read, returned}
+use Rattle.flatgrammar.specs.Lowered.{Spells, spells, Shows, shows_name, AreBodies}
+use Rattle.abnfcheck.proofs.LiesLemmas.{Lies, here, step, join, are_letters}
+use Rattle.flatgrammar.proofs.RuleNodeLemmas.{body_of_number}
+use Rattle.flatgrammar.proofs.BeforeLemmas.{Before, start_part, read_part, call_part, end_part}
+
+module _ (has : ℕ → Bool) (rules : List Rule) (flat : Flat)
+    (bodies : AreBodies rules flat.nodes flat.bodies) where
+  -- w lies before the place, whatever its node spells
+  abbrev pub PartOf : Place → List ℕ → Type 0
+  PartOf (at s k) w = (node : Node) (el : Element) → slice_get flat.nodes s ≡ Some node → Shows rules flat.nodes node el → Before has rules node el k w
+
+  starts_empty : {s : ℕ} {p : Place} → Starts flat s p → PartOf p []
+  starts_empty (starts {k = k} {node = node'} is b) = λ node el is' shown.
+      let same : node' ≡ node = cc in start_part has rules flat.nodes (subst (λ v. Begins v k) same b) shown
+  starts_empty (name_starts is at_r st) = starts_empty st
+
+  named : {s t r : ℕ} {w : List ℕ} {el : Element} → slice_get flat.nodes s ≡ Some (Name r) → slice_get flat.bodies r ≡ Some t → Spells rules flat.nodes s el →
+      ((body : Element) → Spells rules flat.nodes t body → Derives has rules body w) → Derives has rules el w
+  named {t = t} {r = r} {w = w} is at_r (spells {node = node} {el = el} is' shown) from = by (let same : node ≡ Name r = cc in subst (λ v. Shows rules flat.nodes v el) same shown)
+    where
+      by : {el : Element} → Shows rules flat.nodes (Name r) el → Derives has rules el w
+      by (shows_name {n = n} {r = r} found) = let h = body_of_number rules flat.nodes flat.bodies bodies n r t found at_r in der.name h.1 (from h.0 h.2)
+
+  ends_derive : {s : ℕ} {p : Place} {w : List ℕ} → Ends flat p s → AreLetters has w → PartOf p w → (el : Element) → Spells rules flat.nodes s el → Derives has rules el w
+  ends_derive (ends {k = k} {node = node'} is d) letters part = λ el sp. own is d letters part sp
+    where
+      own : {s k : ℕ} {node' : Node} {w : List ℕ} {el : Element} → slice_get flat.nodes s ≡ Some node' → IsDone node' k → AreLetters has w → PartOf (at s k) w → Spells rules flat.nodes s el → Derives has rules el w
+      own {k = k} {node' = node'} is d letters part (spells {node = node} {el = el} is' shown) =
+          let same : node' ≡ node = cc in
+          end_part has rules flat.nodes (subst (λ v. IsDone v k) same d) shown letters (part node el is' shown)
+  ends_derive (name_ends is at_r e) letters part = λ el sp. named is at_r sp (ends_derive e letters part)
+
+  read_on : {q r : Place} {set : Set} (c : ℕ) (w : List ℕ) → Reads flat q set r → Has set c → PartOf q w → PartOf r (w ++ c ∷ [])
+  read_on c w (reads {k = k} {l = l} {set = set} {node = node'} is r) h part = λ node el is' shown.
+      let same : node' ≡ node = cc in read_part has rules c (subst (λ v. Reading v k set l) same r) h (part node el is' shown)
+
+  call_on : {q r : Place} {t : ℕ} (w v : List ℕ) → Calls flat q t r → PartOf q w → ((el : Element) → Spells rules flat.nodes t el → Derives has rules el v) → PartOf r (w ++ v)
+  call_on w v (calls {k = k} {t = t} {l = l} {node = node'} is c) part from = λ node el is' shown.
+      let same : node' ≡ node = cc in call_part has rules flat.nodes (subst (λ v. Calling v k t l) same c) shown (part node el is' shown) from
+
+  module _ (x : List ℕ) (letters : AreLetters has x) where
+    pub record Reached (i j : ℕ) (p : Place) : Type 0 where
+      pub word : List ℕ
+      pub lies : Lies x i word j
+      pub part : PartOf p word
+
+    pub sound : {i j : ℕ} {p : Place} → Holds flat x j p i → Reached i j p
+    sound (begins st) = record { word = []; lies = here; part = starts_empty st }
+    sound (called h c st) = record { word = []; lies = here; part = starts_empty st }
+    sound (has_read {c = c} h r is lies_in) =
+        let g = sound h in
+        record { word = g.word ++ c ∷ []; lies = join x g.lies (step is here); part = read_on c g.word r lies_in g.part }
+    sound (returned h e g c) =
+        let inner = sound h in
+        let outer = sound g in
+        record {
+          word = outer.word ++ inner.word;
+          lies = join x outer.lies inner.lies;
+          part = call_on outer.word inner.word c outer.part (ends_derive e (are_letters x has letters inner.lies) inner.part);
+        }

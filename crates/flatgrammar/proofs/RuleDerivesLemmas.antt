@@ -1,0 +1,41 @@
+-- The line's items tell whether the rule derives it.
+-- Serves: items_tell, lower, judge.
+use Rattle.std.proofs.Common.{◌≡◌, ℕ, List, [], ◌∷◌, length, refl, sym, subst, ◌↔◌, append-nil}
+use Rattle.std.specs.Prelude.{Bool}
+use Rattle.abnfread.specs.Element as e
+use Rattle.abnfread.specs.Element.{Element, Rule}
+use Rattle.abnfcheck.specs.Derivable.{AreLetters, Derives, DerivesAll, all_done, then, RuleDerives}
+use Rattle.flatgrammar.specs.Flat.{Flat, Concat, at, Calling, Begins, starts, calls}
+use Rattle.flatgrammar.specs.Holds.{Holds, begins}
+use Rattle.flatgrammar.specs.Lowered.{Spells, shows_concat, spell_none, spell_more, IsLowered}
+use Rattle.flatgrammar.proofs.RuleNodeLemmas.{node_of_rule}
+use Rattle.abnfcheck.proofs.LiesLemmas.{only, all_of}
+use Rattle.flatgrammar.proofs.BeforeLemmas.{Before, in_concat}
+use Rattle.flatgrammar.proofs.ReachedLemmas.{sound}
+use Rattle.flatgrammar.proofs.NodeRunsLemmas.{run, call_step}
+
+module _ (has : ℕ → Bool) (rules : List Rule) (judged : ℕ) (flat : Flat) (lowered : IsLowered rules judged flat) (x : List ℕ) where
+  ended : (ms : List ℕ) (el : Element) (w : List ℕ) → Before has rules (Concat ms) (e.Concat (e.more el e.none)) 1 w → Derives has rules el w
+  ended ms el w (in_concat d) = one d
+    where
+      one : {w : List ℕ} → DerivesAll has rules (e.more el e.none) w → Derives has rules el w
+      one (then {w = w} d all_done) = subst (λ v. Derives has rules el v) (sym (append-nil w)) d
+
+  pub derived : AreLetters has x → Holds flat x (length x) (at flat.whole 1) 0 → RuleDerives has rules judged x
+  derived letters h =
+      let body = lowered.spelled.spelled judged lowered.body lowered.body_is in
+      let reached = sound has rules flat lowered.spelled x letters h in
+      let part = reached.part (Concat (lowered.body ∷ [])) (e.Concat (e.more body.0 e.none)) lowered.whole (shows_concat (spell_more body.2 spell_none)) in
+      let d = ended (lowered.body ∷ []) body.0 reached.word part in
+      record { body = body.0; is = body.1; derives = subst (λ v. Derives has rules body.0 v) (only x reached.lies (all_of x)) d }
+
+  pub holds : RuleDerives has rules judged x → Holds flat x (length x) (at flat.whole 1) 0
+  holds d =
+      let h = node_of_rule rules flat.nodes flat.bodies lowered.spelled judged d.body d.is in
+      let same : h.node ≡ lowered.body = cc (h.at, lowered.body_is) in
+      call_step has rules flat lowered.spelled x (calls lowered.whole (Calling.member refl))
+      (run has rules flat lowered.spelled x d.derives lowered.body 0 (length x) (subst (λ v. Spells rules flat.nodes v d.body) same h.spelled) (all_of x))
+      0 (begins (starts lowered.whole Begins.concat))
+
+  pub exactly : AreLetters has x → Holds flat x (length x) (at flat.whole 1) 0 ↔ RuleDerives has rules judged x
+  exactly letters = (derived letters, holds)

@@ -1,0 +1,49 @@
+-- Names, the bodies of their rules, and the nodes of these.
+-- Serves: items_tell, lower, judge.
+use Rattle.std.proofs.Common.{◌≡◌, ℕ, zero, suc, ◌+◌, ◌<◌, Bool, true, false, cond, List, [], ◌∷◌, length, Option, Some, refl, ◌∙◌, subst, arith, add-one}
+use Rattle.std.specs.Prelude.{slice_get}
+use Rattle.std.proofs.lemmas.List.{length-map}
+use Rattle.ruletable.specs.Rules.{same_name}
+use Rattle.ruletable.specs.declared.table.NameCase.TheVariants.{Fold}
+use Rattle.abnfread.specs.Element.{Element, Rule, bodies, body_of, id_of}
+use Rattle.flatgrammar.specs.Flat.{Node}
+use Rattle.flatgrammar.specs.Lowered.{Spells, AreBodies}
+use Rattle.flatgrammar.proofs.BeforeLemmas.{get_below}
+
+-- the body of a name stands at its id
+pub body_at_id : (rules : List Rule) (name : List ℕ) → body_of rules name ≡ slice_get (bodies rules) (id_of rules name)
+body_at_id [] name = refl
+body_at_id (rule ∷ rules) name =
+    here_or_later (same_name Fold name rule.name) rule.body (bodies rules) (id_of rules name) (body_of rules name) (body_at_id rules name)
+  where
+    here_or_later : (b : Bool) (body : Element) (bodies : List Element) (k : ℕ) (later : Option Element) → later ≡ slice_get bodies k →
+        cond b (Some body) later ≡ slice_get (body ∷ bodies) (cond b 0 (k + 1))
+    here_or_later true body bodies k later h = refl
+    here_or_later false body bodies k later h = rw add-one h
+
+pub there : {A : Type 0} (xs : List A) (k : ℕ) → k < length xs → (y : A) × (slice_get xs k ≡ Some y)
+there [] k lt = absurd (omega arith)
+there (x ∷ xs) zero lt = (x, refl)
+there (x ∷ xs) (suc k) lt = there xs k (omega arith)
+
+-- the node of a rule's body
+pub record HasNode (rules : List Rule) (nodes : List Node) (numbers : List ℕ) (r : ℕ) (el : Element) : Type 0 where
+  pub node : ℕ
+  pub at : slice_get numbers r ≡ Some node
+  pub spelled : Spells rules nodes node el
+
+module _ (rules : List Rule) (nodes : List Node) (numbers : List ℕ) (are : AreBodies rules nodes numbers) where
+  pub node_of_rule : (r : ℕ) (el : Element) → slice_get (bodies rules) r ≡ Some el → HasNode rules nodes numbers r el
+  node_of_rule r el is =
+      let below = get_below (bodies rules) r is in
+      let count = length-map rules (λ rule. rule.body) in
+      let number = there numbers r (omega (arith, below, count, are.count)) in
+      let body = are.spelled r number.0 number.1 in
+      let same : body.0 ≡ el = cc (body.1, is) in
+      record { node = number.0; at = number.1; spelled = subst (λ v. Spells rules nodes number.0 v) same body.2 }
+
+  -- the body that a node's number spells is the name's
+  pub body_of_number : (n : List ℕ) (r t : ℕ) → r ≡ id_of rules n → slice_get numbers r ≡ Some t → (el : Element) × (body_of rules n ≡ Some el) × Spells rules nodes t el
+  body_of_number n r t is at =
+      let body = are.spelled r t at in
+      (body.0, (body_at_id rules n ∙ subst (λ v. slice_get (bodies rules) v ≡ Some body.0) is body.1), body.2)

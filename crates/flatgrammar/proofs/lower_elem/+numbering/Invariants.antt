@@ -1,0 +1,9 @@
+use Rattle.std.proofs.Common.{take}
+use Rattle.abnfread.specs.Views.{elements_of, rules_of}
+use Rattle.flatgrammar.specs.FlatViews.{nodes_of}
+use Rattle.flatgrammar.specs.Numbers.{NumbersAll}
+use Rattle.flatgrammar.proofs.lower_elem.+numbering.Given as goal
+
+abbrev pub invariant-number_all-loop-member : goal.invariant-number_all-loop-member
+invariant-number_all-loop-member l =
+    NumbersAll (rules_of l.rules) (nodes_of l.initial.nodes.items) (nodes_of l.nodes.items) l.numbers.items (elements_of (take l.member-index l.members))

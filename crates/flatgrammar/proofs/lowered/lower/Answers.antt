@@ -1,0 +1,10 @@
+use Rattle.std.proofs.Common.{subst}
+use Rattle.abnfread.specs.Views.{rules_of}
+use Rattle.flatgrammar.specs.Lowered.{IsLowered}
+use Rattle.flatgrammar.proofs.LoweredLemmas as o
+use Rattle.flatgrammar.proofs.lowered.lower.Goals as goal
+
+pub returns-clause-tells : goal.returns-clause-tells
+returns-clause-tells c = o.tells (rules_of c.args.grammar.now.rules) c.args.grammar.now.judged c.in_ok-flat.flat
+    (subst (λ v. IsLowered (rules_of v) c.args.grammar.now.judged c.in_ok-flat.flat) c.rules.ensures
+    (subst (λ v. IsLowered (rules_of c.rules.result.now) v c.in_ok-flat.flat) c.judged-judged.ensures.id c.in_ok-flat.ensures.lowered))

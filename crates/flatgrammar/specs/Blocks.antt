@@ -1,0 +1,87 @@
+-- What the prediction of a root implies, as a table made once: the places where it and the nodes that it alone calls begin.
+use Rattle.std.specs.Prelude.{◌≡◌, ℕ, ◌<◌, ◌⊎◌, true, List, [], slice_get, Option, Some, None}
+use Rattle.flatgrammar.specs.declared.flat_item.Item.{Item}
+use Rattle.flatgrammar.specs.declared.block.Spot.{Spot}
+use Rattle.flatgrammar.specs.declared.block.Block as code_block
+use Rattle.flatgrammar.specs.declared.tables.Tables as code_flat
+use Rattle.flatgrammar.specs.NodeSteps.{flat_of}
+use Rattle.flatgrammar.specs.TableViews.{call_of, count_in, null_of, whole_root, GiveRoots, AreNulls}
+use Rattle.flatgrammar.specs.Places.{In, AreDifferent}
+
+abbrev pub item_at : ℕ → Spot → Item
+item_at j p = record { node = p.node; step = p.step; origin = j }
+
+pub record Block : Type 0 where
+  pub spots : List Spot  -- where something begins
+  pub calls : List ℕ  -- the roots that have blocks of their own
+  pub passes : List Spot  -- what goes on at once
+
+abbrev pub block_in : Option code_block.Block → Block
+block_in None = record { spots = []; calls = []; passes = [] }
+block_in (Some b) = record { spots = b.spots.items; calls = b.calls.items; passes = b.passes.items }
+
+abbrev pub block_of : code_flat.Tables → ℕ → Block
+block_of flat h = block_in (slice_get flat.blocks.items h)
+
+abbrev pub begin_count : code_flat.Tables → ℕ → ℕ
+begin_count flat t = count_in (slice_get flat.nodes.items t)
+
+-- the root that a spot calls, and the step after it
+abbrev pub call_at : code_flat.Tables → Spot → Option (ℕ × ℕ)
+call_at flat p = call_of flat (item_at 0 p)
+
+-- the spots that begin wherever a root is predicted
+pub data Inside (flat : code_flat.Tables) (h : ℕ) : Spot → Type 0 where
+  begun : {k : ℕ} → k < begin_count flat h → Inside flat h (record { node = h; step = k })
+  called : {p : Spot} {t l k : ℕ} → Inside flat h p → call_at flat p ≡ Some (t, l) → k < begin_count flat t → Inside flat h (record { node = t; step = k })
+
+pub record IsPassing (flat : code_flat.Tables) (spots : List Spot) (r : Spot) : Type 0 where
+  pub from : Spot
+  pub stands : In from spots
+  pub root : ℕ
+  pub call : call_at flat from ≡ Some (root, r.step)
+  pub null : null_of flat root ≡ true
+  pub node : r.node ≡ from.node
+
+pub record IsCalling (flat : code_flat.Tables) (spots : List Spot) (t : ℕ) : Type 0 where
+  pub from : Spot
+  pub stands : In from spots
+  pub next : ℕ
+  pub call : call_at flat from ≡ Some (t, next)
+
+pub record IsBlock (flat : code_flat.Tables) (h : ℕ) (b : Block) : Type 0 where
+  pub begun : (k : ℕ) → k < begin_count flat h → In (record { node = h; step = k }) b.spots
+  pub inside : (p : Spot) → In p b.spots → Inside flat h p
+  pub called : (t : ℕ) → IsCalling flat b.spots t → In t b.calls ⊎ ((k : ℕ) → k < begin_count flat t → In (record { node = t; step = k }) b.spots)
+  pub calls : (t : ℕ) → In t b.calls → IsCalling flat b.spots t
+  pub passed : (r : Spot) → IsPassing flat b.spots r → In r b.passes ⊎ In r b.spots
+  pub passes : (r : Spot) → In r b.passes → IsPassing flat b.spots r
+  pub late : (r : Spot) → In r b.passes → r.step < begin_count flat r.node → ⊥
+  pub different : AreDifferent b.spots
+
+-- a root whose block begins with it
+abbrev pub IsHead : code_flat.Tables → ℕ → Type 0
+IsHead flat h = (k : ℕ) → k < begin_count flat h → In (record { node = h; step = k }) (block_of flat h).spots
+
+-- an item that something led to: it begins nothing, or calls itself back
+abbrev pub IsLate : code_flat.Tables → Item → Type 0
+IsLate flat a = (a.step < begin_count flat a.node → ⊥) ⊎ ((t : ℕ) × (call_of flat a ≡ Some (t, a.step)))
+
+-- the tables of a grammar
+pub record AreTables (flat : code_flat.Tables) : Type 0 where
+  pub block : (h : ℕ) → IsHead flat h → IsBlock flat h (block_of flat h)
+  pub apart : (g h : ℕ) → IsHead flat g → IsHead flat h → (p : Spot) → In p (block_of flat g).spots → In p (block_of flat h).spots → g ≡ h
+  pub inner : (h t : ℕ) → IsHead flat h → In t (block_of flat h).calls → IsHead flat t
+  pub outer : (a : Item) (t l : ℕ) → IsLate flat a → call_of flat a ≡ Some (t, l) → IsHead flat t
+  pub whole : (t : ℕ) → whole_root flat ≡ Some t → IsHead flat t
+
+-- each block has all roots that its spots call
+abbrev pub AreCalls : code_flat.Tables → Type 0
+AreCalls flat = (h t : ℕ) → IsCalling flat (block_of flat h).spots t → In t (block_of flat h).calls
+
+-- the tables of a flat grammar tell what they are for
+pub record AreExact (tables : code_flat.Tables) : Type 0 where
+  pub roots : GiveRoots (flat_of tables) tables.roots.items
+  pub nulls : AreNulls (flat_of tables) tables.nulls.items
+  pub blocks : AreTables tables
+  pub calls : AreCalls tables

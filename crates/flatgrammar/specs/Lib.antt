@@ -1,0 +1,14 @@
+pub mod Blocks
+pub mod Flat
+pub mod FlatViews
+pub mod Holds
+pub mod Lowered
+pub mod NodeSteps
+pub mod NullNeeds
+pub mod Nullable
+pub mod Numbers
+pub mod OwnBlocks
+pub mod Places
+pub mod Roots
+pub mod TableViews
+pub mod Ways

@@ -1,0 +1,58 @@
+-- The relations of a node as functions.
+use Rattle.std.specs.Prelude.{ℕ, ◌+◌, ◌-◌, Bool, false, ◌&&◌, ◌||◌, eqb, ltb, leb, length, slice_get, Option, Some, None, if◌then◌else◌}
+use Rattle.flatgrammar.specs.FlatViews.{nodes_of}
+use Rattle.flatgrammar.specs.declared.tables.Tables as code_flat
+use Rattle.flatgrammar.specs.Flat.{Node, Set, Has, Flat, Letters, Concat, Alt, Rep, Opt, Name, Nothing}
+
+-- the grammar of the tables
+abbrev pub flat_of : code_flat.Tables → Flat
+flat_of flat = record { nodes = nodes_of flat.nodes.items; bodies = flat.bodies.items; whole = flat.whole }
+
+-- the steps below this are those where the node begins
+abbrev pub begin_count : Node → ℕ
+begin_count (Letters sets) = 1
+begin_count (Concat ms) = 1
+begin_count (Alt ms) = length ms
+begin_count (Rep a b m) = 1
+begin_count (Opt m) = 2
+begin_count (Name r) = 0
+begin_count Nothing = 0
+
+abbrev pub is_done : Node → ℕ → Bool
+is_done (Letters sets) k = eqb k (length sets)
+is_done (Concat ms) k = eqb k (length ms)
+is_done (Alt ms) k = leb (length ms) k && ltb (k - length ms) (length ms)
+is_done (Rep a None m) k = eqb k a
+is_done (Rep a (Some b) m) k = leb a k && leb k b
+is_done (Opt m) k = eqb k 1 || eqb k 2
+is_done (Name r) k = false
+is_done Nothing k = false
+
+-- a called node, and the step after it
+abbrev pub with_next : Option ℕ → ℕ → Option (ℕ × ℕ)
+with_next None l = None
+with_next (Some s) l = Some (s, l)
+
+abbrev pub callee : Node → ℕ → Option (ℕ × ℕ)
+callee (Letters sets) k = None
+callee (Concat ms) k = with_next (slice_get ms k) (k + 1)
+callee (Alt ms) k = with_next (slice_get ms k) (length ms + k)
+callee (Rep a None m) k = if ltb k a then Some (m, k + 1) else (if eqb k a then Some (m, a) else None)
+callee (Rep a (Some b) m) k = if ltb k b then Some (m, k + 1) else None
+callee (Opt m) k = if eqb k 0 then Some (m, 2) else None
+callee (Name r) k = None
+callee Nothing k = None
+
+-- the set that a step reads
+abbrev pub read_at : Node → ℕ → Option Set
+read_at (Letters sets) k = slice_get sets k
+read_at (Concat ms) k = None
+read_at (Alt ms) k = None
+read_at (Rep a b m) k = None
+read_at (Opt m) k = None
+read_at (Name r) k = None
+read_at Nothing k = None
+
+abbrev pub IfSomeSet : Option Set → ℕ → Type 0
+IfSomeSet None c = ⊥
+IfSomeSet (Some set) c = Has set c

@@ -1,0 +1,15 @@
+-- What a node passes without a letter.
+use Rattle.std.specs.Prelude.{◌≡◌, ℕ, List, slice_get, Some}
+use Rattle.flatgrammar.specs.Flat.{Node, Name, Begins, IsDone, Calling}
+
+module _ (nodes : List Node) (bodies : List ℕ) where
+  mutual
+    -- from a node's beginning to one of its steps
+    pub data Passes : ℕ → ℕ → Type 0 where
+      begun : {s k : ℕ} {node : Node} → slice_get nodes s ≡ Some node → Begins node k → Passes s k
+      stepped : {s k t l : ℕ} {node : Node} → Passes s k → slice_get nodes s ≡ Some node → Calling node k t l → Nullable t → Passes s l
+
+    -- to where it is done
+    pub data Nullable : ℕ → Type 0 where
+      done : {s k : ℕ} {node : Node} → Passes s k → slice_get nodes s ≡ Some node → IsDone node k → Nullable s
+      named : {s t r : ℕ} → slice_get nodes s ≡ Some (Name r) → slice_get bodies r ≡ Some t → Nullable t → Nullable s

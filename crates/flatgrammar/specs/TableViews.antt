@@ -1,0 +1,69 @@
+-- What the tables of a flat grammar tell, node by node.
+use Rattle.std.specs.Prelude.{◌≡◌, ℕ, ◌↔◌, Bool, true, false, List, slice_get, Option, Some, None}
+use Rattle.flatgrammar.specs.declared.flat_item.Item.{Item}
+use Rattle.flatgrammar.specs.declared.flat_node.Node as code_node
+use Rattle.flatgrammar.specs.declared.tables.Tables as code_flat
+use Rattle.flatgrammar.specs.Flat.{Flat, Set}
+use Rattle.flatgrammar.specs.FlatViews.{node_of}
+use Rattle.flatgrammar.specs.NodeSteps.{begin_count, is_done, callee, read_at}
+use Rattle.flatgrammar.specs.Nullable.{Nullable}
+use Rattle.flatgrammar.specs.Roots.{Root}
+
+-- the table has of each node its root
+abbrev pub GiveRoots : Flat → List (Option ℕ) → Type 0
+GiveRoots flat roots = (s t : ℕ) → (slice_get roots s ≡ Some (Some t)) ↔ Root flat.nodes flat.bodies s t
+
+-- a root in the table
+abbrev pub root_in : Option (Option ℕ) → ℕ → Option (ℕ × ℕ)
+root_in None l = None
+root_in (Some None) l = None
+root_in (Some (Some r)) l = Some (r, l)
+
+abbrev pub rooted : List (Option ℕ) → Option (ℕ × ℕ) → Option (ℕ × ℕ)
+rooted roots None = None
+rooted roots (Some called) = root_in (slice_get roots called.0) called.1
+
+abbrev pub called_by : List (Option ℕ) → Option code_node.Node → ℕ → Option (ℕ × ℕ)
+called_by roots None k = None
+called_by roots (Some node) k = rooted roots (callee (node_of node) k)
+
+-- the root that an item's place calls, and the step after it
+abbrev pub call_of : code_flat.Tables → Item → Option (ℕ × ℕ)
+call_of flat item = called_by flat.roots.items (slice_get flat.nodes.items item.node) item.step
+
+abbrev pub done_in : Option code_node.Node → ℕ → Bool
+done_in None k = false
+done_in (Some node) k = is_done (node_of node) k
+
+abbrev pub done_of : code_flat.Tables → Item → Bool
+done_of flat item = done_in (slice_get flat.nodes.items item.node) item.step
+
+abbrev pub count_in : Option code_node.Node → ℕ
+count_in None = 0
+count_in (Some node) = begin_count (node_of node)
+
+-- the marks tell the nullable nodes
+abbrev pub AreNulls : Flat → List Bool → Type 0
+AreNulls flat nulls = (t : ℕ) → (slice_get nulls t ≡ Some true) ↔ Nullable flat.nodes flat.bodies t
+
+abbrev pub null_in : Option Bool → Bool
+null_in None = false
+null_in (Some marked) = marked
+
+abbrev pub null_of : code_flat.Tables → ℕ → Bool
+null_of flat t = null_in (slice_get flat.nulls.items t)
+
+abbrev pub joined : Option (Option ℕ) → Option ℕ
+joined None = None
+joined (Some root) = root
+
+-- the root of the whole
+abbrev pub whole_root : code_flat.Tables → Option ℕ
+whole_root flat = joined (slice_get flat.roots.items flat.whole)
+
+abbrev pub read_in : Option code_node.Node → ℕ → Option Set
+read_in None k = None
+read_in (Some node) k = read_at (node_of node) k
+
+abbrev pub read_of : code_flat.Tables → Item → Option Set
+read_of flat item = read_in (slice_get flat.nodes.items item.node) item.step

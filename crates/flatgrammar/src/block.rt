@@ -1,0 +1,17 @@
+//! What the prediction of a root implies.
+
+/// A node and a step of it.
+#[derive(Clone, Copy)]
+pub struct Spot {
+    pub node: usize,
+    pub step: usize,
+}
+
+/// Holds what follows from a root's prediction, whatever the line: the spots where something begins, the roots that these
+/// spots call, and the spots behind calls of nullable roots.
+#[derive(Drop)]
+pub struct Block {
+    pub spots: Vec<Spot>,
+    pub calls: Vec<usize>,
+    pub passes: Vec<Spot>,
+}

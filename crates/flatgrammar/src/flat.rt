@@ -1,0 +1,122 @@
+//! Lowered grammars.
+ghost use Rattle.std.specs.Prelude.{◌≡◌, ◌↔◌, ℕ, ◌<◌, length, slice_get, Some, IfOk, IsTrue};
+ghost use Rattle.flatgrammar.specs.Blocks.{AreExact};
+ghost use Rattle.flatgrammar.specs.FlatViews.{node_of, nodes_of};
+ghost use Rattle.flatgrammar.specs.NodeSteps.{flat_of};
+ghost use Rattle.flatgrammar.specs.Nullable.{Nullable};
+ghost use Rattle.flatgrammar.specs.Numbers.{AreOrdered};
+ghost use Rattle.flatgrammar.specs.Roots.{Root};
+
+use crate::flat_node::Node;
+use crate::nulls::find_nulls;
+use crate::own_block::own_blocks;
+use crate::roots::find_roots;
+use crate::tables::Tables;
+use ruletable::Memory;
+use std::alloc::Global;
+use std::marker::Model;
+use std::rc::Rc;
+
+/// A grammar as numbered nodes: of each rule the node of its body, and the whole, a concatenation of the judged rule's body
+/// alone.
+///
+/// It keeps what judging looks up by node: where a node starts and ends, whether it is nullable, and what its prediction
+/// implies.
+#[derive(Drop)]
+pub struct Flat {
+    tables: Rc<Tables>,
+}
+
+impl Model for Flat {
+    ghost use Rattle.flatgrammar.specs.Flat as spec;
+    ghost use Rattle.flatgrammar.specs.Blocks.{AreExact};
+    ghost use Rattle.flatgrammar.specs.NodeSteps.{flat_of};
+
+    ghost Value = { spec.Flat };
+
+    ghost view = { λ f. flat_of f.tables.value };
+
+    ghost invariant = { λ f. AreExact f.tables.value };
+}
+
+impl Flat {
+    /// Returns the flat grammar of these nodes. `Memory` if an allocation fails.
+    pub(crate) fn new(
+        alloc: Global,
+        nodes: Vec<Node>,
+        bodies: Vec<usize>,
+        whole: usize,
+    ) -> Result<Flat, Memory>
+        requires ordered { AreOrdered (nodes_of nodes.items) }
+        requires within { (id m : ℕ) → slice_get bodies.items id ≡ Some m → m < length nodes.items }
+        ensures nodes { IfOk result (λ flat. flat.nodes ≡ nodes_of nodes.items) }
+        ensures bodies { IfOk result (λ flat. flat.bodies ≡ bodies.items) }
+        ensures whole { IfOk result (λ flat. flat.whole ≡ whole) }
+    {
+        let roots = find_roots(alloc, &nodes, &bodies)?;
+        let nulls = find_nulls(alloc, &nodes, &bodies)?;
+        let mut tables = Tables {
+            nodes,
+            bodies,
+            roots,
+            nulls,
+            blocks: Vec::new(alloc),
+            whole,
+        };
+        let blocks = own_blocks(alloc, &tables)?;
+        tables.blocks = blocks;
+        let tables = Rc::new(alloc, tables)?;
+        Ok(Flat { tables })
+    }
+
+    /// Returns the number of nodes.
+    pub fn nodes(&self) -> usize
+        ensures { result ≡ length self.now.nodes }
+    {
+        self.tables.nodes.len()
+    }
+
+    /// Returns the node of that number, which must be less than `nodes()`.
+    pub fn node(&self, n: usize) -> &Node
+        requires { n < length self.now.nodes }
+        ensures { slice_get self.now.nodes n ≡ Some (node_of result.now) }
+    {
+        &self.tables.nodes[n]
+    }
+
+    /// Returns the node where that one starts and ends, if there is one: of a name that of its rule's body.
+    pub fn root(&self, n: usize) -> Option<usize>
+        ensures { (t : ℕ) → (result ≡ Some t) ↔ Root self.now.nodes self.now.bodies n t }
+    {
+        match self.tables.roots.get(n) {
+            Some(root) => *root,
+            None => None,
+        }
+    }
+
+    /// Tells whether that node is passed without a letter.
+    pub fn is_nullable(&self, n: usize) -> bool
+        ensures { IsTrue result ↔ Nullable self.now.nodes self.now.bodies n }
+    {
+        match self.tables.nulls.get(n) {
+            Some(mark) => *mark,
+            None => false,
+        }
+    }
+
+    /// Returns the number of the whole.
+    pub fn whole(&self) -> usize
+        ensures { result ≡ self.now.whole }
+    {
+        self.tables.whole
+    }
+
+    /// Returns the tables, shared. `Memory` if an allocation fails.
+    pub fn share(&self) -> Result<Rc<Tables>, Memory>
+        ensures exact { IfOk result (λ tables. AreExact tables.value) }
+        ensures view { IfOk result (λ tables. flat_of tables.value ≡ self.now) }
+    {
+        let tables = self.tables.clone()?;
+        Ok(tables)
+    }
+}

@@ -1,0 +1,148 @@
+//! Numbered nodes.
+ghost use Rattle.std.specs.Prelude.{◌≡◌, ◌↔◌, ◌+◌, ◌^◌, ◌<◌, IsTrue};
+ghost use Rattle.abnfcheck.specs.Derivable.{small};
+ghost use Rattle.flatgrammar.specs.Flat.{Has};
+ghost use Rattle.flatgrammar.specs.FlatViews.{set_of, node_of};
+ghost use Rattle.flatgrammar.specs.NodeSteps.{begin_count, is_done, callee, read_at, IfSomeSet};
+
+/// A set of letters.
+#[derive(Clone, Copy, Debug, PartialEq, Eq)]
+pub enum Set {
+    /// This letter.
+    Exactly(u32),
+    /// This letter and its other case.
+    EitherCase(u32),
+    /// The letters from `low` to `high`.
+    Between { low: u32, high: u32 },
+}
+
+/// An element with the numbers of its operands in their place.
+#[derive(Drop)]
+pub enum Node {
+    /// One letter of each set, in order.
+    Letters(Vec<Set>),
+    /// All of them, in order.
+    Concat(Vec<usize>),
+    /// One of them.
+    Alt(Vec<usize>),
+    /// At least `least` of it, and at most `most` where that is there.
+    Rep {
+        least: u32,
+        most: Option<u32>,
+        operand: usize,
+    },
+    /// It, or nothing.
+    Opt(usize),
+    /// The rule of that id; the number of rules stands for a rule that is not there.
+    Name(usize),
+    /// What derives nothing.
+    Nothing,
+}
+
+fn small(value: u32) -> u32
+    ensures { result ≡ small value }
+{
+    if 64 < value && value < 91 {
+        value + 32
+    } else {
+        value
+    }
+}
+
+/// Whether a set holds a letter.
+pub(crate) fn has(set: &Set, value: u32) -> bool
+    ensures { IsTrue result ↔ Has (set_of set.now) value }
+{
+    match set {
+        Set::Exactly(v) => value == *v,
+        Set::EitherCase(v) => small(value) == small(*v),
+        Set::Between { low, high } => *low <= value && value <= *high,
+    }
+}
+
+/// In how many steps a node begins: those from 0 on.
+pub(crate) fn begins(node: &Node) -> usize
+    ensures { result ≡ begin_count (node_of node.now) }
+{
+    match node {
+        Node::Letters(_) | Node::Concat(_) | Node::Rep { .. } => 1,
+        Node::Alt(members) => members.len(),
+        Node::Opt(_) => 2,
+        Node::Name(_) | Node::Nothing => 0,
+    }
+}
+
+/// Whether a node is done at a step.
+pub(crate) fn is_done(node: &Node, step: usize) -> bool
+    ensures { result ≡ is_done (node_of node.now) step }
+{
+    match node {
+        Node::Letters(sets) => step == sets.len(),
+        Node::Concat(members) => step == members.len(),
+        Node::Alt(members) => members.len() <= step && step - members.len() < members.len(),
+        Node::Rep {
+            least,
+            most: None,
+            ..
+        } => step == *least as usize,
+        Node::Rep {
+            least,
+            most: Some(most),
+            ..
+        } => *least as usize <= step && step <= *most as usize,
+        Node::Opt(_) => step == 1 || step == 2,
+        Node::Name(_) | Node::Nothing => false,
+    }
+}
+
+/// The node that a step calls, and the step after it.
+pub(crate) fn callee(node: &Node, step: usize) -> Option<(usize, usize)>
+    ensures { result ≡ callee (node_of node.now) step }
+{
+    match node {
+        Node::Concat(members) => {
+            if step < members.len() {
+                Some((members[step], step + 1))
+            } else {
+                None
+            }
+        }
+        Node::Alt(members) => {
+            if step < members.len() {
+                Some((members[step], members.len() + step))
+            } else {
+                None
+            }
+        }
+        Node::Rep {
+            least,
+            most,
+            operand,
+        } => {
+            let top = match most {
+                None => *least,
+                Some(most) => *most,
+            };
+            if step < top as usize {
+                Some((*operand, step + 1))
+            } else if step == top as usize && most.is_none() {
+                Some((*operand, step))
+            } else {
+                None
+            }
+        }
+        Node::Opt(operand) => { if step == 0 { Some((*operand, 2)) } else { None } }
+        Node::Letters(_) | Node::Name(_) | Node::Nothing => None,
+    }
+}
+
+/// Whether a step reads a letter.
+pub(crate) fn reads(node: &Node, step: usize, value: u32) -> bool
+    ensures value { IsTrue result ↔ IfSomeSet (read_at (node_of node.now) step) value }
+    ensures fits { IsTrue result → step + 1 < 2 ^ 64 }
+{
+    match node {
+        Node::Letters(sets) => step < sets.len() && has(&sets[step], value),
+        _ => false,
+    }
+}

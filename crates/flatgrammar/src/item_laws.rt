@@ -1,0 +1,22 @@
+//! Laws of the definitions.
+ghost use Rattle.std.specs.Prelude.{◌≡◌, ◌↔◌, ℕ, ◌+◌, ◌*◌, ◌≤◌, List, Bool, length};
+ghost use Rattle.abnfread.specs.Element.{Rule};
+ghost use Rattle.abnfcheck.specs.Derivable.{AreLetters, RuleDerives};
+ghost use Rattle.flatgrammar.specs.Flat.{Flat, Place};
+ghost use Rattle.flatgrammar.specs.Holds.{Holds};
+ghost use Rattle.flatgrammar.specs.Lowered.{IsLowered};
+ghost use Rattle.flatgrammar.specs.Places.{In, AreDifferent, places};
+
+/// Set n of the items of n letters holds the whole's end exactly where the judged rule derives them.
+pub fn items_tell()
+    ensures { (has : ℕ → Bool) (rules : List Rule) (judged : ℕ) (flat : Flat) (x : List ℕ) →
+        IsLowered rules judged flat →
+        AreLetters has x →
+        Holds flat x (length x) (Place.at flat.whole 1) 0 ↔ RuleDerives has rules judged x }
+{}
+
+/// Different items of set j are at most as many as places and origins allow.
+pub fn items_at_most()
+    ensures { (flat : Flat) (x : List ℕ) (j : ℕ) (set : List (Place × ℕ)) → AreDifferent set →
+        ((p : Place) (i : ℕ) → In {A = Place × ℕ} (p, i) set → Holds flat x j p i) → length set ≤ places flat.nodes * (j + 1) }
+{}

@@ -1,0 +1,22 @@
+//! Lowers grammars in ABNF to numbered nodes.
+#![tactic(auto)]
+
+mod block;
+mod flat;
+mod flat_item;
+mod flat_node;
+mod item_laws;
+mod lower_elem;
+mod lowered;
+mod nulls;
+mod own_block;
+mod roots;
+mod tables;
+
+pub use block::{Block, Spot};
+pub use flat::Flat;
+pub use flat_item::Item;
+pub use flat_node::{Node, Set};
+pub use item_laws::{items_at_most, items_tell};
+pub use lowered::{lower, lower_rules};
+pub use tables::{Tables, call, calls, done, null, passes, reads, spots, whole_root};

@@ -1,0 +1,105 @@
+//! The tables of a lowered grammar, by node.
+ghost use Rattle.std.specs.Prelude.{◌≡◌, ◌↔◌, ◌+◌, ◌^◌, ◌<◌, IsTrue};
+ghost use Rattle.flatgrammar.specs.NodeSteps.{IfSomeSet};
+ghost use Rattle.flatgrammar.specs.TableViews.{call_of, done_of, null_of, read_of, whole_root};
+ghost use Rattle.flatgrammar.specs.Blocks.{block_of};
+
+use crate::block::{Block, Spot};
+use crate::flat_item::Item;
+use crate::flat_node;
+use crate::flat_node::{Node, callee, is_done};
+
+/// Holds the nodes of a lowered grammar, of each rule the node of its body, of each node its root, a mark of what is nullable
+/// and its block, and the whole's node.
+#[derive(Drop)]
+pub struct Tables {
+    pub nodes: Vec<Node>,
+    pub bodies: Vec<usize>,
+    pub roots: Vec<Option<usize>>,
+    pub nulls: Vec<bool>,
+    pub blocks: Vec<Block>,
+    pub whole: usize,
+}
+
+/// Returns the root that an item's place calls, and the step after it.
+pub fn call(flat: &Tables, item: Item) -> Option<(usize, usize)>
+    ensures { result ≡ call_of flat.now item }
+{
+    let node = flat.nodes.get(item.node)?;
+    let (called, next) = callee(node, item.step)?;
+    match flat.roots.get(called) {
+        Some(Some(root)) => Some((*root, next)),
+        _ => None,
+    }
+}
+
+/// Tells whether an item's node is done at its step.
+pub fn done(flat: &Tables, item: Item) -> bool
+    ensures { result ≡ done_of flat.now item }
+{
+    match flat.nodes.get(item.node) {
+        None => false,
+        Some(node) => is_done(node, item.step),
+    }
+}
+
+/// Tells whether a root is nullable.
+pub fn null(flat: &Tables, root: usize) -> bool
+    ensures { result ≡ null_of flat.now root }
+{
+    match flat.nulls.get(root) {
+        Some(yes) => *yes,
+        None => false,
+    }
+}
+
+/// Returns the spots of a root's block.
+pub fn spots(flat: &Tables, head: usize) -> &[Spot]
+    ensures { result.now ≡ (block_of flat.now head).spots }
+{
+    match flat.blocks.get(head) {
+        Some(block) => &block.spots,
+        None => &[],
+    }
+}
+
+/// Returns the roots that the spots of a root's block call.
+pub fn calls(flat: &Tables, head: usize) -> &[usize]
+    ensures { result.now ≡ (block_of flat.now head).calls }
+{
+    match flat.blocks.get(head) {
+        Some(block) => &block.calls,
+        None => &[],
+    }
+}
+
+/// Returns the spots behind the nullable calls of a root's block.
+pub fn passes(flat: &Tables, head: usize) -> &[Spot]
+    ensures { result.now ≡ (block_of flat.now head).passes }
+{
+    match flat.blocks.get(head) {
+        Some(block) => &block.passes,
+        None => &[],
+    }
+}
+
+/// Returns the root of the whole.
+pub fn whole_root(flat: &Tables) -> Option<usize>
+    ensures { result ≡ whole_root flat.now }
+{
+    match flat.roots.get(flat.whole) {
+        None => None,
+        Some(root) => *root,
+    }
+}
+
+/// Tells whether an item's place reads a letter.
+pub fn reads(flat: &Tables, item: Item, value: u32) -> bool
+    ensures value { IsTrue result ↔ IfSomeSet (read_of flat.now item) value }
+    ensures fits { IsTrue result → item.step + 1 < 2 ^ 64 }
+{
+    match flat.nodes.get(item.node) {
+        None => false,
+        Some(node) => flat_node::reads(node, item.step, value),
+    }
+}
