@@ -17,14 +17,15 @@ use Rattle.ruletable.specs.declared.table.NameCase.TheVariants.{Fold}
 use Rattle.abnfread.specs.Element.{Element, Rule, bodies, id_of}
 use Rattle.abnfcheck.specs.AbnfGrammar.{Reachable, judged_rule, by_name, IsSound}
 use Rattle.abnfcheck.specs.AbnfNotes as n
-use Rattle.abnfcheck.specs.AbnfNotes.{Said, said, said_of, Those, no_more, this_one, not_this, judged_in, IsUnused, AreNotes, IsRefused, by_redefinition, by_prose}
+use Rattle.ruletable.specs.Notes.{Said, said, said_of}
+use Rattle.abnfcheck.specs.AbnfNotes.{Those, no_more, this_one, not_this, judged_in, IsUnused, AreNotes, IsRefused, by_redefinition, by_prose}
 use Rattle.abnfcheck.specs.AbnfUses.{names_used, rule_names, news, Uses, HoldsProse}
 use Rattle.abnfcheck.specs.NameIds.{IsIdAt, IsGraph}
 use Rattle.abnfcheck.specs.NameMarks.{chosen, AreMarks, AreNoteMarks, IsUsed, ReachesBroken}
 use Rattle.abnfcheck.specs.ProseIn.{prose_in, prose_marks}
-use Rattle.abnfcheck.specs.declared.abnf_note.AbnfNote.{AbnfNote}
-use Rattle.abnfcheck.specs.declared.abnf_note.AbnfNoteKind.{AbnfNoteKind}
-use Rattle.abnfcheck.specs.declared.abnf_note.AbnfNoteKind.TheVariants as kind
+use Rattle.ruletable.specs.declared.note.Note.{Note}
+use Rattle.ruletable.specs.declared.note.NoteKind.{NoteKind}
+use Rattle.ruletable.specs.declared.note.NoteKind.TheVariants as kind
 use Rattle.abnfcheck.proofs.GraphLemmas.{rows_long, step_uses, uses_step, judged_at, reached_as, reached_by, marked_prose, prose_marked, body_below, user_below}
 
 -- what marks choose
@@ -63,13 +64,13 @@ chosen-off marks xs i low high off =
     rw (left-mark marks i false low off, drop-cons xs i [] high) (ap (λ (k : ℕ). chosen (drop (i + 1) marks) (drop k xs)) (sym (add-one i)))
 
 -- one more note
-note-more : (now new : List AbnfNote) (note : AbnfNote) (what : Said) (left all : List Said) → new ≡ now ++ note ∷ [] → said_of note ≡ what →
+note-more : (now new : List Note) (note : Note) (what : Said) (left all : List Said) → new ≡ now ++ note ∷ [] → said_of note ≡ what →
     map said_of now ++ (what ∷ left) ≡ all → map said_of new ++ left ≡ all
 note-more now new note what left all e is h =
     ap (λ l. l ++ left) (ap (map said_of) e ∙ map-append said_of now (note ∷ []) ∙ ap (λ s. map said_of now ++ s ∷ []) is)
     ∙ append_assoc (map said_of now) (what ∷ []) left ∙ h
 
-pub note-marked : (f : List ℕ → Said) (marks : List Bool) (names : List (List ℕ)) (i : ℕ) (name : List ℕ) (now new : List AbnfNote) (note : AbnfNote) (all : List Said) →
+pub note-marked : (f : List ℕ → Said) (marks : List Bool) (names : List (List ℕ)) (i : ℕ) (name : List ℕ) (now new : List Note) (note : Note) (all : List Said) →
     i < length marks → slice_get names i ≡ Some name → get_or marks i false ≡ true → new ≡ now ++ note ∷ [] → said_of note ≡ f name →
     map said_of now ++ map f (chosen (drop i marks) (drop i names)) ≡ all → map said_of new ++ map f (chosen (drop (i + 1) marks) (drop (i + 1) names)) ≡ all
 note-marked f marks names i name now new note all low at on e is h =
@@ -80,7 +81,7 @@ pub note-unmarked : (f : List ℕ → Said) (marks : List Bool) (names : List (L
     now ++ map f (chosen (drop i marks) (drop i names)) ≡ all → now ++ map f (chosen (drop (i + 1) marks) (drop (i + 1) names)) ≡ all
 note-unmarked f marks names i now all low high off h = ap (λ l. now ++ map f l) (sym (chosen-off marks names i low high off)) ∙ h
 
-pub note-next : (f : List ℕ → Said) (names : List (List ℕ)) (i : ℕ) (name : List ℕ) (now new : List AbnfNote) (note : AbnfNote) (all : List Said) →
+pub note-next : (f : List ℕ → Said) (names : List (List ℕ)) (i : ℕ) (name : List ℕ) (now new : List Note) (note : Note) (all : List Said) →
     slice_get names i ≡ Some name → new ≡ now ++ note ∷ [] → said_of note ≡ f name →
     map said_of now ++ map f (drop i names) ≡ all → map said_of new ++ map f (drop (i + 1) names) ≡ all
 note-next f names i name now new note all at e is h =

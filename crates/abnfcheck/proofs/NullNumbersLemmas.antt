@@ -5,8 +5,9 @@ use Rattle.std.specs.Prelude.{slice_get, Contains}
 use Rattle.std.proofs.Math.Seq.{take-suc}
 use Rattle.std.proofs.lemmas.Bool.{cases_eq}
 use Rattle.std.proofs.lemmas.List.{map-append, length-map}
-use Rattle.leastset.specs.Demands.{Demand, All, One, demand_of, demands_of, row_of, AreNeedsWithin}
-use Rattle.leastset.specs.declared.needs.Need.{Need}
+use Rattle.leastset.specs.Demands.{Demand, All, One, row_of, AreNeedsWithin}
+use Rattle.abnfcheck.specs.OwnNeeds.{own_demand_of, own_demands_of}
+use Rattle.abnfcheck.specs.declared.own_needs.OwnNeed.{OwnNeed}
 use Rattle.leastset.proofs.ContainsLemmas.{none_of, only_one, cons_cases}
 use Rattle.abnfread.specs.Element as e
 use Rattle.abnfread.specs.Element.{Element, Elements, Rule, bodies, id_of, none, more}
@@ -135,19 +136,19 @@ module _ (rules : List Rule) (old now new : List Demand) (need : Demand) (n : �
       longer : length rules ≤ length old → length rules ≤ length now
       longer fits = let l = ap length grown ∙ length-append old added in omega (arith, fits, l)
 
-module _ (rules : List Rule) (need : Need) (n : ℕ) (el : Element) where
-  pub leaf : (old new : List Need) → new ≡ old ++ need ∷ [] → n ≡ length old → IsNeedOf rules (demands_of old) (demand_of need) el → IsNumbered rules (demands_of old) (demands_of new) n el
-  leaf old new is at of = numbered rules (demands_of old) (demands_of old) (demands_of new) (demand_of need) n el (ap demands_of is ∙ map-append demand_of old (need ∷ [])) (at ∙ sym (length-map old demand_of))
-      [] (sym (append-nil (demands_of old))) (λ fits. of) (λ fits w. w)
+module _ (rules : List Rule) (need : OwnNeed) (n : ℕ) (el : Element) where
+  pub leaf : (old new : List OwnNeed) → new ≡ old ++ need ∷ [] → n ≡ length old → IsNeedOf rules (own_demands_of old) (own_demand_of need) el → IsNumbered rules (own_demands_of old) (own_demands_of new) n el
+  leaf old new is at of = numbered rules (own_demands_of old) (own_demands_of old) (own_demands_of new) (own_demand_of need) n el (ap own_demands_of is ∙ map-append own_demand_of old (need ∷ [])) (at ∙ sym (length-map old own_demand_of))
+      [] (sym (append-nil (own_demands_of old))) (λ fits. of) (λ fits w. w)
 
-  pub over : (old now new : List Need) → new ≡ now ++ need ∷ [] → n ≡ length now → (m : ℕ) (d : Element) → IsNumbered rules (demands_of old) (demands_of now) m d →
-      (Asks rules (demands_of now) m d → IsNeedOf rules (demands_of now) (demand_of need) el) → IsNumbered rules (demands_of old) (demands_of new) n el
-  over old now new is at m d g of = numbered rules (demands_of old) (demands_of now) (demands_of new) (demand_of need) n el (ap demands_of is ∙ map-append demand_of now (need ∷ [])) (at ∙ sym (length-map now demand_of))
+  pub over : (old now new : List OwnNeed) → new ≡ now ++ need ∷ [] → n ≡ length now → (m : ℕ) (d : Element) → IsNumbered rules (own_demands_of old) (own_demands_of now) m d →
+      (Asks rules (own_demands_of now) m d → IsNeedOf rules (own_demands_of now) (own_demand_of need) el) → IsNumbered rules (own_demands_of old) (own_demands_of new) n el
+  over old now new is at m d g of = numbered rules (own_demands_of old) (own_demands_of now) (own_demands_of new) (own_demand_of need) n el (ap own_demands_of is ∙ map-append own_demand_of now (need ∷ [])) (at ∙ sym (length-map now own_demand_of))
       g.added g.grown (λ fits. of (g.asked fits)) g.within
 
-  pub over_all : (old now new : List Need) → new ≡ now ++ need ∷ [] → n ≡ length now → (ms : List ℕ) (es : Elements) → AreNumbered rules (demands_of old) (demands_of now) ms es →
-      (AskAll rules (demands_of now) ms es → IsNeedOf rules (demands_of now) (demand_of need) el) → IsNumbered rules (demands_of old) (demands_of new) n el
-  over_all old now new is at ms es g of = numbered rules (demands_of old) (demands_of now) (demands_of new) (demand_of need) n el (ap demands_of is ∙ map-append demand_of now (need ∷ [])) (at ∙ sym (length-map now demand_of))
+  pub over_all : (old now new : List OwnNeed) → new ≡ now ++ need ∷ [] → n ≡ length now → (ms : List ℕ) (es : Elements) → AreNumbered rules (own_demands_of old) (own_demands_of now) ms es →
+      (AskAll rules (own_demands_of now) ms es → IsNeedOf rules (own_demands_of now) (own_demand_of need) el) → IsNumbered rules (own_demands_of old) (own_demands_of new) n el
+  over_all old now new is at ms es g of = numbered rules (own_demands_of old) (own_demands_of now) (own_demands_of new) (own_demand_of need) n el (ap own_demands_of is ∙ map-append own_demand_of now (need ∷ [])) (at ∙ sym (length-map now own_demand_of))
       g.added g.grown (λ fits. of (g.asked fits)) g.within
 
 -- members, one by one
@@ -209,12 +210,12 @@ next_rule rules old now i n body lt at r g = record {
     within = λ k m need is h.
         let l = length-set now i (All (n ∷ [])) in
         let less : m < length now = ⊎_elim
-            (λ here.
-            let one : All (n ∷ []) ≡ need = let s = get_set_here now i (All (n ∷ [])) inside in let t = subst (λ v. slice_get (set now i (All (n ∷ []))) v ≡ Some need) here is in cc (s, t) in
-            let same = only_one n m (subst (λ v. Contains (row_of v) m) (sym one) h) in
-            let low = asks_below rules now (g.asked r.fits) in omega (arith, same, low))
-            (λ other. (g.within r.fits r.within).within k m need (sym (get_set now i (All (n ∷ [])) k other) ∙ is) h)
-            (cases_eq k i) in
+        (λ here.
+        let one : All (n ∷ []) ≡ need = let s = get_set_here now i (All (n ∷ [])) inside in let t = subst (λ v. slice_get (set now i (All (n ∷ []))) v ≡ Some need) here is in cc (s, t) in
+        let same = only_one n m (subst (λ v. Contains (row_of v) m) (sym one) h) in
+        let low = asks_below rules now (g.asked r.fits) in omega (arith, same, low))
+        (λ other. (g.within r.fits r.within).within k m need (sym (get_set now i (All (n ∷ [])) k other) ∙ is) h)
+        (cases_eq k i) in
         omega (arith, less, l);
   };
   have = λ id other less here. ⊎_elim

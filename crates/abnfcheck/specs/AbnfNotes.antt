@@ -1,23 +1,10 @@
 -- The notes on a grammar in ABNF, in order, and what refuses it. Own, but for what RFC 5234, sections 2.1, 3.3 and 4, says of rule names, `=/` and prose.
 use Rattle.std.specs.Prelude.{◌≡◌, ℕ, suc, ◌<◌, List, [], ◌∷◌, ◌++◌, map, length, Option, Some, None, option_to_list, Contains}
+use Rattle.ruletable.specs.Notes.{Said, said}
+use Rattle.ruletable.specs.declared.note.NoteKind.TheVariants as kind
 use Rattle.abnfread.specs.Element.{Rule, id_of}
 use Rattle.abnfcheck.specs.AbnfGrammar.{Reachable}
 use Rattle.abnfcheck.specs.AbnfUses.{names_used, rule_names, news, Uses, HoldsProse}
-use Rattle.abnfcheck.specs.declared.abnf_note.AbnfNote.{AbnfNote}
-use Rattle.abnfcheck.specs.declared.abnf_note.AbnfNoteKind.{AbnfNoteKind}
-use Rattle.abnfcheck.specs.declared.abnf_note.AbnfNoteKind.TheVariants as kind
-
--- what a note says: its kind, and the name of which it is said
-pub record Said : Type 0 where
-  pub kind : AbnfNoteKind
-  pub name : List ℕ
-
-abbrev pub said : AbnfNoteKind → List ℕ → Said
-said kind name = record { kind = kind; name = name }
-
--- what the code's note says
-abbrev pub said_of : AbnfNote → Said
-said_of note = said note.kind note.name.items
 
 module _ (P : ℕ → Type 0) where
   -- the names of those rules of which P holds by their ids, in the order of the rules; i is the id of the first

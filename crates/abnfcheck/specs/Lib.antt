@@ -8,3 +8,4 @@ pub mod NameIds
 pub mod NameMarks
 pub mod ProseIn
 pub mod RuleNulls
+pub mod OwnNeeds

@@ -3,26 +3,26 @@ ghost use Rattle.std.specs.Prelude.{◌≡◌, ◌↔◌, ◌≤◌, ◌++◌, �
 ghost use Rattle.ruletable.specs.Rules.{names_of};
 ghost use Rattle.abnfread.specs.Element.{Rule};
 ghost use Rattle.abnfread.specs.Views.{rules_of};
-ghost use Rattle.abnfcheck.specs.AbnfNotes.{judged_in, said_of, AreNotes, IsRefused};
+ghost use Rattle.ruletable.specs.Notes.{said_of};
+ghost use Rattle.abnfcheck.specs.AbnfNotes.{judged_in, AreNotes, IsRefused};
 ghost use Rattle.abnfcheck.specs.AbnfUses.{rule_names};
 ghost use Rattle.abnfcheck.specs.NameIds.{IsIdAt};
 ghost use Rattle.abnfcheck.specs.Joined.{joined};
 
-use crate::abnf_note::AbnfNote;
 use crate::abnf_notes::{is_refused, note_marks, notes_on};
 use crate::joined::join;
 use crate::name_ids::name_ids;
 use crate::prose::rules_with_prose;
 use crate::sound_abnf::SoundAbnf;
 use abnfread::{Abnf, Elem};
-use ruletable::{Memory, NameCase, RuleTable};
+use ruletable::{Memory, NameCase, Note, RuleTable};
 use std::alloc::Global;
 
 /// What the checks of a grammar gave.
 #[derive(Drop)]
 pub struct Checked<S> {
     /// What there is to say of it, in order.
-    pub notes: Vec<AbnfNote>,
+    pub notes: Vec<Note>,
     /// The grammar, ready to judge lines, unless a note refuses it.
     pub sound: Option<S>,
 }
@@ -69,7 +69,7 @@ pub fn check_abnf(
 // The notes on a grammar, whether it is refused, and the id of the judged rule if there is such a rule.
 #[derive(Drop)]
 struct Found {
-    notes: Vec<AbnfNote>,
+    notes: Vec<Note>,
     refused: bool,
     judged: usize,
 }

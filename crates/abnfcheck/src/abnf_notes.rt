@@ -3,16 +3,16 @@ ghost use Rattle.std.specs.Prelude.{◌≡◌, ◌↔◌, ◌≤◌, ◌++◌, �
 ghost use Rattle.leastset.specs.StepRows.{rows_of, AreStepsWithin};
 ghost use Rattle.ruletable.specs.Rules.{names_of};
 ghost use Rattle.abnfread.specs.Element.{Rule};
-ghost use Rattle.abnfcheck.specs.AbnfNotes.{judged_in, said, said_of, IsRefused};
+ghost use Rattle.ruletable.specs.Notes.{said, said_of};
+ghost use Rattle.abnfcheck.specs.AbnfNotes.{judged_in, IsRefused};
 ghost use Rattle.abnfcheck.specs.NameIds.{IsGraph};
 ghost use Rattle.abnfcheck.specs.NameMarks.{chosen, AreMarks, AreNoteMarks};
 ghost use Rattle.abnfcheck.specs.ProseIn.{prose_marks};
 
-use crate::abnf_note::{AbnfNote, AbnfNoteKind};
 use crate::name_ids::NameIds;
 use crate::name_marks::{marks_at, opposites, reaches_broken, some_set, used_marks};
 use abnfread::Elem;
-use ruletable::{Memory, RuleTable};
+use ruletable::{Memory, Note, NoteKind, RuleTable};
 use std::alloc::Global;
 
 /// Marks on the rules of a file, one for each of them and each kind of note.
@@ -64,8 +64,8 @@ fn note_marked(
     alloc: Global,
     rules: &RuleTable<Elem>,
     marks: &[bool],
-    kind: AbnfNoteKind,
-    notes: &mut Vec<AbnfNote>,
+    kind: NoteKind,
+    notes: &mut Vec<Note>,
 ) -> Result<(), Memory>
     requires { length marks.now ≤ length rules.now.rules }
     ensures { IfOk result (λ _. map said_of notes.new.items ≡ map said_of notes.old.items ++ map (said kind) (chosen marks.now (names_of rules.now))) }
@@ -73,7 +73,7 @@ fn note_marked(
     for id in 0..marks.len() {
         if marks[id] {
             let name = Vec::from_slice(alloc, rules.name(id))?;
-            notes.push(AbnfNote { kind, name })?;
+            notes.push(Note { kind, name })?;
         }
     }
     Ok(())
@@ -84,14 +84,14 @@ fn note_undefined(
     alloc: Global,
     names: &RuleTable<()>,
     count: usize,
-    notes: &mut Vec<AbnfNote>,
+    notes: &mut Vec<Note>,
 ) -> Result<(), Memory>
-    ensures { IfOk result (λ _. map said_of notes.new.items ≡ map said_of notes.old.items ++ map (said AbnfNoteKind.Undefined) (drop count (names_of names.now))) }
+    ensures { IfOk result (λ _. map said_of notes.new.items ≡ map said_of notes.old.items ++ map (said NoteKind.Undefined) (drop count (names_of names.now))) }
 {
     for id in count..names.len() {
         let name = Vec::from_slice(alloc, names.name(id))?;
-        notes.push(AbnfNote {
-            kind: AbnfNoteKind::Undefined,
+        notes.push(Note {
+            kind: NoteKind::Undefined,
             name,
         })?;
     }
@@ -106,41 +106,35 @@ pub(crate) fn notes_on(
     rules: &RuleTable<Elem>,
     names: &RuleTable<()>,
     marks: &NoteMarks,
-) -> Result<Vec<AbnfNote>, Memory>
+) -> Result<Vec<Note>, Memory>
     requires redefined { length marks.now.redefined.items ≤ length rules.now.rules }
     requires extended { length marks.now.extended.items ≤ length rules.now.rules }
     requires prose { length marks.now.prose.items ≤ length rules.now.rules }
     requires unused { length marks.now.unused.items ≤ length rules.now.rules }
-    ensures { IfOk result (λ notes. map said_of notes.items ≡ map (said AbnfNoteKind.Redefined) (chosen marks.now.redefined.items (names_of rules.now))
-        ++ (map (said AbnfNoteKind.ExtendedEarly) (chosen marks.now.extended.items (names_of rules.now))
-        ++ (map (said AbnfNoteKind.Undefined) (drop (length rules.now.rules) (names_of names.now))
-        ++ (map (said AbnfNoteKind.Prose) (chosen marks.now.prose.items (names_of rules.now))
-        ++ map (said AbnfNoteKind.Unused) (chosen marks.now.unused.items (names_of rules.now)))))) }
+    ensures { IfOk result (λ notes. map said_of notes.items ≡ map (said NoteKind.Redefined) (chosen marks.now.redefined.items (names_of rules.now))
+        ++ (map (said NoteKind.ExtendedEarly) (chosen marks.now.extended.items (names_of rules.now))
+        ++ (map (said NoteKind.Undefined) (drop (length rules.now.rules) (names_of names.now))
+        ++ (map (said NoteKind.Prose) (chosen marks.now.prose.items (names_of rules.now))
+        ++ map (said NoteKind.Unused) (chosen marks.now.unused.items (names_of rules.now)))))) }
 {
     let mut notes = Vec::new(alloc);
     note_marked(
         alloc,
         rules,
         &marks.redefined,
-        AbnfNoteKind::Redefined,
+        NoteKind::Redefined,
         &mut notes,
     )?;
     note_marked(
         alloc,
         rules,
         &marks.extended,
-        AbnfNoteKind::ExtendedEarly,
+        NoteKind::ExtendedEarly,
         &mut notes,
     )?;
     note_undefined(alloc, names, rules.len(), &mut notes)?;
-    note_marked(alloc, rules, &marks.prose, AbnfNoteKind::Prose, &mut notes)?;
-    note_marked(
-        alloc,
-        rules,
-        &marks.unused,
-        AbnfNoteKind::Unused,
-        &mut notes,
-    )?;
+    note_marked(alloc, rules, &marks.prose, NoteKind::Prose, &mut notes)?;
+    note_marked(alloc, rules, &marks.unused, NoteKind::Unused, &mut notes)?;
     Ok(notes)
 }
 

@@ -2,18 +2,17 @@
 #![tactic(auto)]
 
 mod abnf_check;
-mod abnf_note;
 mod abnf_notes;
 mod decided_law;
 mod joined;
 mod name_ids;
 mod name_marks;
+mod own_needs;
 mod prose;
 mod rule_nulls;
 mod sound_abnf;
 
 pub use abnf_check::{Checked, check_abnf};
-pub use abnf_note::{AbnfNote, AbnfNoteKind};
 pub use decided_law::derivation_is_decided;
 pub use joined::join;
 pub use sound_abnf::SoundAbnf;

@@ -5,7 +5,7 @@ ghost use Rattle.leastset.specs.NumberMarks.{AreBelow, IsMarked};
 ghost use Rattle.leastset.specs.StepRows.{Step, rows_of, AreStepsWithin};
 ghost use Rattle.abnfcheck.specs.NameMarks.{IsBroken, IsUsed, ReachesBroken};
 
-use leastset::{mark, reached};
+use leastset::{mark, reached, slices};
 use ruletable::Memory;
 use std::alloc::Global;
 
@@ -120,6 +120,7 @@ pub(crate) fn reaches_broken(
     requires judged { judged < length rows.now }
     ensures { IfOk result (λ broken. (broken ≡ Bool.true) ↔ ((id : ℕ) × ReachesBroken (rows_of rows.now) prose.now judged id)) }
 {
-    let marks = reached(alloc, rows, &[judged])?;
+    let steps = slices(alloc, rows)?;
+    let marks = reached(alloc, &steps, &[judged])?;
     Ok(is_broken(&marks, prose))
 }

@@ -1,33 +1,35 @@
 //! Which rules derive the empty string.
 ghost use Rattle.std.specs.Prelude.{◌≡◌, ◌≤◌, List, [], ◌∷◌, ◌++◌, length, replicate, IfOk};
-ghost use Rattle.leastset.specs.Demands.{All, One, AreNeedsWithin, demand_of, demands_of};
+ghost use Rattle.leastset.specs.Demands.{All, One, AreNeedsWithin};
+ghost use Rattle.abnfcheck.specs.OwnNeeds.{own_demand_of, own_demands_of};
 ghost use Rattle.abnfread.specs.Element.{id_of};
 ghost use Rattle.abnfread.specs.Views.{element_of, elements_of, rules_of};
 ghost use Rattle.abnfcheck.specs.RuleNulls.{AreNullMarks, AreNumbered, HaveBodyNeeds, if_empty, IsNumbered, need_of_id, need_of_repeat};
 
+use crate::own_needs::{OwnNeed, lend};
 use abnfread::Elem;
-use leastset::{Need, least};
+use leastset::least;
 use ruletable::{Memory, NameCase, RuleTable};
 use std::alloc::Global;
 
 // Returns the need of all these numbers.
-fn all(alloc: Global, numbers: &[usize]) -> Result<Need, Memory>
-    ensures { IfOk result (λ need. demand_of need ≡ All numbers.now) }
+fn all(alloc: Global, numbers: &[usize]) -> Result<OwnNeed, Memory>
+    ensures { IfOk result (λ need. own_demand_of need ≡ All numbers.now) }
 {
     let row = Vec::from_slice(alloc, numbers)?;
-    Ok(Need::All(row))
+    Ok(OwnNeed::All(row))
 }
 
 // Returns a need that is never met.
-fn never(alloc: Global) -> Result<Need, Memory>
-    ensures { IfOk result (λ need. demand_of need ≡ One []) }
+fn never(alloc: Global) -> Result<OwnNeed, Memory>
+    ensures { IfOk result (λ need. own_demand_of need ≡ One []) }
 {
-    Ok(Need::One(Vec::new(alloc)))
+    Ok(OwnNeed::One(Vec::new(alloc)))
 }
 
 // Returns the need of a text: none if the text is empty.
-fn text_need(alloc: Global, text: &[u8]) -> Result<Need, Memory>
-    ensures { IfOk result (λ need. demand_of need ≡ if_empty text.now) }
+fn text_need(alloc: Global, text: &[u8]) -> Result<OwnNeed, Memory>
+    ensures { IfOk result (λ need. own_demand_of need ≡ if_empty text.now) }
 {
     if text.is_empty() {
         all(alloc, &[])
@@ -37,8 +39,8 @@ fn text_need(alloc: Global, text: &[u8]) -> Result<Need, Memory>
 }
 
 // Returns the need of a list of values: none if there is no value.
-fn values_need(alloc: Global, values: &[u32]) -> Result<Need, Memory>
-    ensures { IfOk result (λ need. demand_of need ≡ if_empty values.now) }
+fn values_need(alloc: Global, values: &[u32]) -> Result<OwnNeed, Memory>
+    ensures { IfOk result (λ need. own_demand_of need ≡ if_empty values.now) }
 {
     if values.is_empty() {
         all(alloc, &[])
@@ -48,8 +50,13 @@ fn values_need(alloc: Global, values: &[u32]) -> Result<Need, Memory>
 }
 
 // Returns the need of a repetition: none if it may have no turn, else its operand. Reversed bounds are never met.
-fn repeat_need(alloc: Global, least: u32, most: Option<u32>, operand: usize) -> Result<Need, Memory>
-    ensures { IfOk result (λ need. demand_of need ≡ need_of_repeat least most operand) }
+fn repeat_need(
+    alloc: Global,
+    least: u32,
+    most: Option<u32>,
+    operand: usize,
+) -> Result<OwnNeed, Memory>
+    ensures { IfOk result (λ need. own_demand_of need ≡ need_of_repeat least most operand) }
 {
     if least == 0 {
         return all(alloc, &[]);
@@ -70,8 +77,8 @@ fn rule_id(rules: &RuleTable<Elem>, name: &[u8]) -> Result<usize, Memory>
 }
 
 // Returns the need of a name by its id: its rule, if there is one.
-fn name_need(alloc: Global, count: usize, id: usize) -> Result<Need, Memory>
-    ensures { IfOk result (λ need. demand_of need ≡ need_of_id count id) }
+fn name_need(alloc: Global, count: usize, id: usize) -> Result<OwnNeed, Memory>
+    ensures { IfOk result (λ need. own_demand_of need ≡ need_of_id count id) }
 {
     if id < count {
         all(alloc, &[id])
@@ -81,7 +88,7 @@ fn name_need(alloc: Global, count: usize, id: usize) -> Result<Need, Memory>
 }
 
 // Adds a need, and returns its number.
-fn push_need(needs: &mut Vec<Need>, need: Need) -> Result<usize, Memory>
+fn push_need(needs: &mut Vec<OwnNeed>, need: OwnNeed) -> Result<usize, Memory>
     ensures number { IfOk result (λ n. n ≡ length needs.old.items) }
     ensures needs { IfOk result (λ _. needs.new.items ≡ needs.old.items ++ need ∷ []) }
 {
@@ -96,17 +103,17 @@ fn add_needs(
     alloc: Global,
     rules: &RuleTable<Elem>,
     e: &Elem,
-    needs: &mut Vec<Need>,
+    needs: &mut Vec<OwnNeed>,
 ) -> Result<usize, Memory>
     requires { rules.now.names ≡ NameCase.Fold }
-    ensures { IfOk result (λ n. IsNumbered (rules_of rules.now) (demands_of needs.old.items) (demands_of needs.new.items) n (element_of e.now)) }
+    ensures { IfOk result (λ n. IsNumbered (rules_of rules.now) (own_demands_of needs.old.items) (own_demands_of needs.new.items) n (element_of e.now)) }
 {
     let need = match e {
         Elem::Text { text, .. } => text_need(alloc, text)?,
         Elem::Values(values) => values_need(alloc, values)?,
         Elem::Range { .. } => never(alloc)?,
-        Elem::Concat(members) => Need::All(add_all_needs(alloc, rules, members, needs)?),
-        Elem::Alt(alternatives) => Need::One(add_all_needs(alloc, rules, alternatives, needs)?),
+        Elem::Concat(members) => OwnNeed::All(add_all_needs(alloc, rules, members, needs)?),
+        Elem::Alt(alternatives) => OwnNeed::One(add_all_needs(alloc, rules, alternatives, needs)?),
         Elem::Rep {
             least,
             most,
@@ -129,10 +136,10 @@ fn add_all_needs(
     alloc: Global,
     rules: &RuleTable<Elem>,
     members: &[Elem],
-    needs: &mut Vec<Need>,
+    needs: &mut Vec<OwnNeed>,
 ) -> Result<Vec<usize>, Memory>
     requires { rules.now.names ≡ NameCase.Fold }
-    ensures { IfOk result (λ ns. AreNumbered (rules_of rules.now) (demands_of needs.old.items) (demands_of needs.new.items) ns.items (elements_of members.now)) }
+    ensures { IfOk result (λ ns. AreNumbered (rules_of rules.now) (own_demands_of needs.old.items) (own_demands_of needs.new.items) ns.items (elements_of members.now)) }
 {
     let mut numbers = Vec::new(alloc);
     for member in members {
@@ -143,8 +150,8 @@ fn add_all_needs(
 }
 
 // Returns so many needs that are never met.
-fn unmet(alloc: Global, count: usize) -> Result<Vec<Need>, Memory>
-    ensures { IfOk result (λ needs. demands_of needs.items ≡ replicate count (One [])) }
+fn unmet(alloc: Global, count: usize) -> Result<Vec<OwnNeed>, Memory>
+    ensures { IfOk result (λ needs. own_demands_of needs.items ≡ replicate count (One [])) }
 {
     let mut needs = Vec::new(alloc);
     for _ in 0..count {
@@ -154,10 +161,10 @@ fn unmet(alloc: Global, count: usize) -> Result<Vec<Need>, Memory>
 }
 
 // Returns the needs of the rules, and behind them those of the elements in their bodies.
-fn rule_needs(alloc: Global, rules: &RuleTable<Elem>) -> Result<Vec<Need>, Memory>
+fn rule_needs(alloc: Global, rules: &RuleTable<Elem>) -> Result<Vec<OwnNeed>, Memory>
     requires { rules.now.names ≡ NameCase.Fold }
-    ensures within { IfOk result (λ needs. AreNeedsWithin (demands_of needs.items)) }
-    ensures bodies { IfOk result (λ needs. HaveBodyNeeds (rules_of rules.now) (demands_of needs.items) (length (rules_of rules.now))) }
+    ensures within { IfOk result (λ needs. AreNeedsWithin (own_demands_of needs.items)) }
+    ensures bodies { IfOk result (λ needs. HaveBodyNeeds (rules_of rules.now) (own_demands_of needs.items) (length (rules_of rules.now))) }
 {
     let mut needs = unmet(alloc, rules.len())?;
     for id in 0..rules.len() {
@@ -175,6 +182,7 @@ pub(crate) fn rule_nulls(alloc: Global, rules: &RuleTable<Elem>) -> Result<Vec<b
     ensures { IfOk result (λ marks. AreNullMarks (rules_of rules.now) marks.items) }
 {
     let needs = rule_needs(alloc, rules)?;
-    let marks = least(alloc, &needs)?;
+    let lent = lend(alloc, &needs)?;
+    let marks = least(alloc, &lent)?;
     Ok(marks)
 }

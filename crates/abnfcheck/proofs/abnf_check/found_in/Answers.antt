@@ -5,7 +5,8 @@ use Rattle.std.proofs.lemmas.List.{length-map}
 use Rattle.leastset.proofs.RowsOfLemmas.{length-rows}
 use Rattle.abnfread.specs.Element.{Rule}
 use Rattle.abnfread.specs.Views.{rule_of, rules_of}
-use Rattle.abnfcheck.specs.AbnfNotes.{judged_in, said_of}
+use Rattle.ruletable.specs.Notes.{said_of}
+use Rattle.abnfcheck.specs.AbnfNotes.{judged_in}
 use Rattle.abnfcheck.specs.NameMarks.{AreMarks, AreNoteMarks}
 use Rattle.abnfcheck.specs.ProseIn.{prose_in}
 use Rattle.abnfcheck.proofs.AbnfNotesLemmas.{are_notes}

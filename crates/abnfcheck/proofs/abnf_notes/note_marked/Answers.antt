@@ -2,7 +2,7 @@
 use Rattle.std.proofs.Common.{◌<◌, length, ap, map, arith}
 use Rattle.std.proofs.lemmas.List.{length-map}
 use Rattle.ruletable.specs.Rules.{names_of}
-use Rattle.abnfcheck.specs.AbnfNotes.{said, said_of}
+use Rattle.ruletable.specs.Notes.{said, said_of}
 use Rattle.abnfcheck.proofs.AbnfNotesLemmas.{none-left, note-marked, note-unmarked}
 use Rattle.abnfcheck.proofs.abnf_notes.note_marked.Goals.{then-marks-id+in_ok-name+in_ok-push, else-marks-id}
 use Rattle.abnfcheck.proofs.abnf_notes.note_marked.Goals as goal

@@ -1,7 +1,7 @@
 -- The notes so far, and those on the marked rules from the id on.
 use Rattle.std.proofs.Common.{◌≡◌, ◌++◌, map, drop}
 use Rattle.ruletable.specs.Rules.{names_of}
-use Rattle.abnfcheck.specs.AbnfNotes.{said, said_of}
+use Rattle.ruletable.specs.Notes.{said, said_of}
 use Rattle.abnfcheck.specs.NameMarks.{chosen}
 use Rattle.abnfcheck.proofs.abnf_notes.note_marked.Given as goal
 

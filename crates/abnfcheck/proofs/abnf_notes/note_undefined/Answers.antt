@@ -1,8 +1,8 @@
 -- The name at the id is noted.
 use Rattle.std.proofs.Common.{ap}
 use Rattle.ruletable.specs.Rules.{names_of}
-use Rattle.abnfcheck.specs.AbnfNotes.{said}
-use Rattle.abnfcheck.specs.declared.abnf_note.AbnfNoteKind.TheVariants as kind
+use Rattle.ruletable.specs.Notes.{said}
+use Rattle.ruletable.specs.declared.note.NoteKind.TheVariants as kind
 use Rattle.abnfcheck.proofs.AbnfNotesLemmas.{note-next}
 use Rattle.abnfcheck.proofs.abnf_notes.note_undefined.Goals as goal
 

@@ -1,8 +1,8 @@
 -- The notes so far, and those on the names from the id on.
 use Rattle.std.proofs.Common.{◌≡◌, ◌++◌, map, drop}
 use Rattle.ruletable.specs.Rules.{names_of}
-use Rattle.abnfcheck.specs.AbnfNotes.{said, said_of}
-use Rattle.abnfcheck.specs.declared.abnf_note.AbnfNoteKind.TheVariants as kind
+use Rattle.ruletable.specs.Notes.{said, said_of}
+use Rattle.ruletable.specs.declared.note.NoteKind.TheVariants as kind
 use Rattle.abnfcheck.proofs.abnf_notes.note_undefined.Given as goal
 
 abbrev pub invariant-loop-id : goal.invariant-loop-id
