@@ -2,6 +2,8 @@
 use Rattle.std.specs.Prelude.{◌≡◌, ℕ, ◌<◌, ◌≤◌, List, length, map, take, slice_get, Some, Contains}
 use Rattle.leastset.specs.declared.needs.Need as declared
 use Rattle.leastset.specs.declared.needs.Need.TheVariants as code
+use Rattle.leastset.specs.declared.owned.OwnedNeed as owned
+use Rattle.leastset.specs.declared.owned.OwnedNeed.TheVariants as own
 
 -- what a number needs before it enters the set: all of these numbers, or one of them
 pub data Demand : Type 0 where
@@ -16,6 +18,15 @@ demand_of (code.One row) = One row.now
 -- what each need of the code asks for
 abbrev pub demands_of : List declared.Need → List Demand
 demands_of needs = map demand_of needs
+
+-- what a need with a vector of its own asks for
+abbrev pub owned_demand_of : owned.OwnedNeed → Demand
+owned_demand_of (own.All row) = All row.items
+owned_demand_of (own.One row) = One row.items
+
+-- what each of them asks for
+abbrev pub owned_demands_of : List owned.OwnedNeed → List Demand
+owned_demands_of needs = map owned_demand_of needs
 
 -- the numbers that a need names
 abbrev pub row_of : Demand → List ℕ

@@ -6,14 +6,16 @@
 mod cycles;
 mod marks;
 mod needs;
+mod owned;
 mod reach;
 mod rows;
 
 pub use cycles::{Cycles, on_cycle};
 pub use marks::{mark, marks_of, some_marked};
 pub use needs::{Need, are_needs_within, derive, least};
+pub use owned::{OwnedNeed, borrowed_needs, slices};
 pub use reach::reached;
-pub use rows::{are_below, are_within, slices};
+pub use rows::{are_below, are_within};
 
 #[cfg(test)]
 mod calling;

@@ -1,23 +1,7 @@
-//! Tables of rows: slices of rows that are vectors, and tests of what the other functions require.
-ghost use Rattle.std.specs.Prelude.{◌≡◌, ◌↔◌, ℕ, Bool, length, IfOk};
+//! Tests of what the other functions require of their tables.
+ghost use Rattle.std.specs.Prelude.{◌≡◌, ◌↔◌, ℕ, Bool, length};
 ghost use Rattle.leastset.specs.NumberMarks.{AreBelow};
-ghost use Rattle.leastset.specs.StepRows.{slices_of, rows_of, AreStepsWithin, AreStepsWithinTo};
-
-use std::alloc::{AllocError, Global};
-
-/// Returns a slice of each row, for a caller whose rows are vectors.
-///
-/// # Errors
-/// `AllocError` if an allocation fails.
-pub fn slices(alloc: Global, rows: &[Vec<usize>]) -> Result<Vec<&[usize]>, AllocError>
-    ensures { IfOk result (λ slices. slices_of slices.items ≡ rows_of rows.now) }
-{
-    let mut slices = Vec::with_capacity(alloc, rows.len())?;
-    for row in rows {
-        slices.push(row.as_slice())?;
-    }
-    Ok(slices)
-}
+ghost use Rattle.leastset.specs.StepRows.{slices_of, AreStepsWithin, AreStepsWithinTo};
 
 /// Returns whether each number in `these` is less than `count`.
 pub fn are_below(these: &[usize], count: usize) -> bool

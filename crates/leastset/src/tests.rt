@@ -1,8 +1,8 @@
 //! Each public call on small tables, with answers found by hand.
 use crate::calling::comes_back;
 use crate::{
-    Need, are_below, are_needs_within, are_within, derive, least, mark, marks_of, on_cycle,
-    reached, slices, some_marked,
+    Need, OwnedNeed, are_below, are_needs_within, are_within, borrowed_needs, derive, least, mark,
+    marks_of, on_cycle, reached, slices, some_marked,
 };
 use std::alloc::{AllocError, AllocGlobal};
 use std::process::Abort;
@@ -106,6 +106,19 @@ fn borrows_rows_that_are_vectors(rt: HostRuntime) -> Result<(), Fail> {
     assert!(rt; steps.len() == 2);
     assert!(rt; steps[0] == [1, 0].as_slice());
     assert!(rt; steps[1].is_empty());
+    Ok(())
+}
+
+#[test]
+fn borrows_needs_that_have_vectors(rt: HostRuntime) -> Result<(), Fail> {
+    let mut owned = Vec::new(rt.alloc());
+    owned.push(OwnedNeed::All(Vec::new(rt.alloc())))?;
+    owned.push(OwnedNeed::One(Vec::from_slice(rt.alloc(), &[2, 0])?))?;
+    owned.push(OwnedNeed::All(Vec::from_slice(rt.alloc(), &[0, 3])?))?;
+    owned.push(OwnedNeed::One(Vec::new(rt.alloc())))?;
+    let needs = borrowed_needs(rt.alloc(), &owned)?;
+    assert!(rt; are_needs_within(&needs));
+    assert!(rt; least(rt.alloc(), &needs)?.as_slice() == [true, true, false, false].as_slice());
     Ok(())
 }
 
