@@ -5,9 +5,8 @@ use Rattle.std.specs.Prelude.{slice_get, Contains}
 use Rattle.std.proofs.Math.Seq.{take-suc}
 use Rattle.std.proofs.lemmas.Bool.{cases_eq}
 use Rattle.std.proofs.lemmas.List.{map-append, length-map}
-use Rattle.leastset.specs.Demands.{Demand, All, One, row_of, AreNeedsWithin}
-use Rattle.abnfcheck.specs.OwnNeeds.{own_demand_of, own_demands_of}
-use Rattle.abnfcheck.specs.declared.own_needs.OwnNeed.{OwnNeed}
+use Rattle.leastset.specs.Demands.{Demand, All, One, row_of, AreNeedsWithin, owned_demand_of, owned_demands_of}
+use Rattle.leastset.specs.declared.owned.OwnedNeed.{OwnedNeed}
 use Rattle.leastset.proofs.ContainsLemmas.{none_of, only_one, cons_cases}
 use Rattle.abnfread.specs.Element as e
 use Rattle.abnfread.specs.Element.{Element, Elements, Rule, bodies, id_of, none, more}
@@ -136,19 +135,19 @@ module _ (rules : List Rule) (old now new : List Demand) (need : Demand) (n : �
       longer : length rules ≤ length old → length rules ≤ length now
       longer fits = let l = ap length grown ∙ length-append old added in omega (arith, fits, l)
 
-module _ (rules : List Rule) (need : OwnNeed) (n : ℕ) (el : Element) where
-  pub leaf : (old new : List OwnNeed) → new ≡ old ++ need ∷ [] → n ≡ length old → IsNeedOf rules (own_demands_of old) (own_demand_of need) el → IsNumbered rules (own_demands_of old) (own_demands_of new) n el
-  leaf old new is at of = numbered rules (own_demands_of old) (own_demands_of old) (own_demands_of new) (own_demand_of need) n el (ap own_demands_of is ∙ map-append own_demand_of old (need ∷ [])) (at ∙ sym (length-map old own_demand_of))
-      [] (sym (append-nil (own_demands_of old))) (λ fits. of) (λ fits w. w)
+module _ (rules : List Rule) (need : OwnedNeed) (n : ℕ) (el : Element) where
+  pub leaf : (old new : List OwnedNeed) → new ≡ old ++ need ∷ [] → n ≡ length old → IsNeedOf rules (owned_demands_of old) (owned_demand_of need) el → IsNumbered rules (owned_demands_of old) (owned_demands_of new) n el
+  leaf old new is at of = numbered rules (owned_demands_of old) (owned_demands_of old) (owned_demands_of new) (owned_demand_of need) n el (ap owned_demands_of is ∙ map-append owned_demand_of old (need ∷ [])) (at ∙ sym (length-map old owned_demand_of))
+      [] (sym (append-nil (owned_demands_of old))) (λ fits. of) (λ fits w. w)
 
-  pub over : (old now new : List OwnNeed) → new ≡ now ++ need ∷ [] → n ≡ length now → (m : ℕ) (d : Element) → IsNumbered rules (own_demands_of old) (own_demands_of now) m d →
-      (Asks rules (own_demands_of now) m d → IsNeedOf rules (own_demands_of now) (own_demand_of need) el) → IsNumbered rules (own_demands_of old) (own_demands_of new) n el
-  over old now new is at m d g of = numbered rules (own_demands_of old) (own_demands_of now) (own_demands_of new) (own_demand_of need) n el (ap own_demands_of is ∙ map-append own_demand_of now (need ∷ [])) (at ∙ sym (length-map now own_demand_of))
+  pub over : (old now new : List OwnedNeed) → new ≡ now ++ need ∷ [] → n ≡ length now → (m : ℕ) (d : Element) → IsNumbered rules (owned_demands_of old) (owned_demands_of now) m d →
+      (Asks rules (owned_demands_of now) m d → IsNeedOf rules (owned_demands_of now) (owned_demand_of need) el) → IsNumbered rules (owned_demands_of old) (owned_demands_of new) n el
+  over old now new is at m d g of = numbered rules (owned_demands_of old) (owned_demands_of now) (owned_demands_of new) (owned_demand_of need) n el (ap owned_demands_of is ∙ map-append owned_demand_of now (need ∷ [])) (at ∙ sym (length-map now owned_demand_of))
       g.added g.grown (λ fits. of (g.asked fits)) g.within
 
-  pub over_all : (old now new : List OwnNeed) → new ≡ now ++ need ∷ [] → n ≡ length now → (ms : List ℕ) (es : Elements) → AreNumbered rules (own_demands_of old) (own_demands_of now) ms es →
-      (AskAll rules (own_demands_of now) ms es → IsNeedOf rules (own_demands_of now) (own_demand_of need) el) → IsNumbered rules (own_demands_of old) (own_demands_of new) n el
-  over_all old now new is at ms es g of = numbered rules (own_demands_of old) (own_demands_of now) (own_demands_of new) (own_demand_of need) n el (ap own_demands_of is ∙ map-append own_demand_of now (need ∷ [])) (at ∙ sym (length-map now own_demand_of))
+  pub over_all : (old now new : List OwnedNeed) → new ≡ now ++ need ∷ [] → n ≡ length now → (ms : List ℕ) (es : Elements) → AreNumbered rules (owned_demands_of old) (owned_demands_of now) ms es →
+      (AskAll rules (owned_demands_of now) ms es → IsNeedOf rules (owned_demands_of now) (owned_demand_of need) el) → IsNumbered rules (owned_demands_of old) (owned_demands_of new) n el
+  over_all old now new is at ms es g of = numbered rules (owned_demands_of old) (owned_demands_of now) (owned_demands_of new) (owned_demand_of need) n el (ap owned_demands_of is ∙ map-append owned_demand_of now (need ∷ [])) (at ∙ sym (length-map now owned_demand_of))
       g.added g.grown (λ fits. of (g.asked fits)) g.within
 
 -- members, one by one

@@ -8,4 +8,3 @@ pub mod NameIds
 pub mod NameMarks
 pub mod ProseIn
 pub mod RuleNulls
-pub mod OwnNeeds

@@ -7,7 +7,6 @@ mod decided_law;
 mod joined;
 mod name_ids;
 mod name_marks;
-mod own_needs;
 mod prose;
 mod rule_nulls;
 mod sound_abnf;

@@ -1,35 +1,33 @@
 //! Which rules derive the empty string.
 ghost use Rattle.std.specs.Prelude.{◌≡◌, ◌≤◌, List, [], ◌∷◌, ◌++◌, length, replicate, IfOk};
-ghost use Rattle.leastset.specs.Demands.{All, One, AreNeedsWithin};
-ghost use Rattle.abnfcheck.specs.OwnNeeds.{own_demand_of, own_demands_of};
+ghost use Rattle.leastset.specs.Demands.{All, One, AreNeedsWithin, owned_demand_of, owned_demands_of};
 ghost use Rattle.abnfread.specs.Element.{id_of};
 ghost use Rattle.abnfread.specs.Views.{element_of, elements_of, rules_of};
 ghost use Rattle.abnfcheck.specs.RuleNulls.{AreNullMarks, AreNumbered, HaveBodyNeeds, if_empty, IsNumbered, need_of_id, need_of_repeat};
 
-use crate::own_needs::{OwnNeed, lend};
 use abnfread::Elem;
-use leastset::least;
+use leastset::{OwnedNeed, borrowed_needs, least};
 use ruletable::{Memory, NameCase, RuleTable};
 use std::alloc::Global;
 
 // Returns the need of all these numbers.
-fn all(alloc: Global, numbers: &[usize]) -> Result<OwnNeed, Memory>
-    ensures { IfOk result (λ need. own_demand_of need ≡ All numbers.now) }
+fn all(alloc: Global, numbers: &[usize]) -> Result<OwnedNeed, Memory>
+    ensures { IfOk result (λ need. owned_demand_of need ≡ All numbers.now) }
 {
     let row = Vec::from_slice(alloc, numbers)?;
-    Ok(OwnNeed::All(row))
+    Ok(OwnedNeed::All(row))
 }
 
 // Returns a need that is never met.
-fn never(alloc: Global) -> Result<OwnNeed, Memory>
-    ensures { IfOk result (λ need. own_demand_of need ≡ One []) }
+fn never(alloc: Global) -> Result<OwnedNeed, Memory>
+    ensures { IfOk result (λ need. owned_demand_of need ≡ One []) }
 {
-    Ok(OwnNeed::One(Vec::new(alloc)))
+    Ok(OwnedNeed::One(Vec::new(alloc)))
 }
 
 // Returns the need of a text: none if the text is empty.
-fn text_need(alloc: Global, text: &[u8]) -> Result<OwnNeed, Memory>
-    ensures { IfOk result (λ need. own_demand_of need ≡ if_empty text.now) }
+fn text_need(alloc: Global, text: &[u8]) -> Result<OwnedNeed, Memory>
+    ensures { IfOk result (λ need. owned_demand_of need ≡ if_empty text.now) }
 {
     if text.is_empty() {
         all(alloc, &[])
@@ -39,8 +37,8 @@ fn text_need(alloc: Global, text: &[u8]) -> Result<OwnNeed, Memory>
 }
 
 // Returns the need of a list of values: none if there is no value.
-fn values_need(alloc: Global, values: &[u32]) -> Result<OwnNeed, Memory>
-    ensures { IfOk result (λ need. own_demand_of need ≡ if_empty values.now) }
+fn values_need(alloc: Global, values: &[u32]) -> Result<OwnedNeed, Memory>
+    ensures { IfOk result (λ need. owned_demand_of need ≡ if_empty values.now) }
 {
     if values.is_empty() {
         all(alloc, &[])
@@ -55,8 +53,8 @@ fn repeat_need(
     least: u32,
     most: Option<u32>,
     operand: usize,
-) -> Result<OwnNeed, Memory>
-    ensures { IfOk result (λ need. own_demand_of need ≡ need_of_repeat least most operand) }
+) -> Result<OwnedNeed, Memory>
+    ensures { IfOk result (λ need. owned_demand_of need ≡ need_of_repeat least most operand) }
 {
     if least == 0 {
         return all(alloc, &[]);
@@ -77,8 +75,8 @@ fn rule_id(rules: &RuleTable<Elem>, name: &[u8]) -> Result<usize, Memory>
 }
 
 // Returns the need of a name by its id: its rule, if there is one.
-fn name_need(alloc: Global, count: usize, id: usize) -> Result<OwnNeed, Memory>
-    ensures { IfOk result (λ need. own_demand_of need ≡ need_of_id count id) }
+fn name_need(alloc: Global, count: usize, id: usize) -> Result<OwnedNeed, Memory>
+    ensures { IfOk result (λ need. owned_demand_of need ≡ need_of_id count id) }
 {
     if id < count {
         all(alloc, &[id])
@@ -88,7 +86,7 @@ fn name_need(alloc: Global, count: usize, id: usize) -> Result<OwnNeed, Memory>
 }
 
 // Adds a need, and returns its number.
-fn push_need(needs: &mut Vec<OwnNeed>, need: OwnNeed) -> Result<usize, Memory>
+fn push_need(needs: &mut Vec<OwnedNeed>, need: OwnedNeed) -> Result<usize, Memory>
     ensures number { IfOk result (λ n. n ≡ length needs.old.items) }
     ensures needs { IfOk result (λ _. needs.new.items ≡ needs.old.items ++ need ∷ []) }
 {
@@ -103,17 +101,22 @@ fn add_needs(
     alloc: Global,
     rules: &RuleTable<Elem>,
     e: &Elem,
-    needs: &mut Vec<OwnNeed>,
+    needs: &mut Vec<OwnedNeed>,
 ) -> Result<usize, Memory>
     requires { rules.now.names ≡ NameCase.Fold }
-    ensures { IfOk result (λ n. IsNumbered (rules_of rules.now) (own_demands_of needs.old.items) (own_demands_of needs.new.items) n (element_of e.now)) }
+    ensures { IfOk result (λ n. IsNumbered (rules_of rules.now) (owned_demands_of needs.old.items) (owned_demands_of needs.new.items) n (element_of e.now)) }
 {
     let need = match e {
         Elem::Text { text, .. } => text_need(alloc, text)?,
         Elem::Values(values) => values_need(alloc, values)?,
         Elem::Range { .. } => never(alloc)?,
-        Elem::Concat(members) => OwnNeed::All(add_all_needs(alloc, rules, members, needs)?),
-        Elem::Alt(alternatives) => OwnNeed::One(add_all_needs(alloc, rules, alternatives, needs)?),
+        Elem::Concat(members) => OwnedNeed::All(add_all_needs(alloc, rules, members, needs)?),
+        Elem::Alt(alternatives) => OwnedNeed::One(add_all_needs(
+            alloc,
+            rules,
+            alternatives,
+            needs,
+        )?),
         Elem::Rep {
             least,
             most,
@@ -136,10 +139,10 @@ fn add_all_needs(
     alloc: Global,
     rules: &RuleTable<Elem>,
     members: &[Elem],
-    needs: &mut Vec<OwnNeed>,
+    needs: &mut Vec<OwnedNeed>,
 ) -> Result<Vec<usize>, Memory>
     requires { rules.now.names ≡ NameCase.Fold }
-    ensures { IfOk result (λ ns. AreNumbered (rules_of rules.now) (own_demands_of needs.old.items) (own_demands_of needs.new.items) ns.items (elements_of members.now)) }
+    ensures { IfOk result (λ ns. AreNumbered (rules_of rules.now) (owned_demands_of needs.old.items) (owned_demands_of needs.new.items) ns.items (elements_of members.now)) }
 {
     let mut numbers = Vec::new(alloc);
     for member in members {
@@ -150,8 +153,8 @@ fn add_all_needs(
 }
 
 // Returns so many needs that are never met.
-fn unmet(alloc: Global, count: usize) -> Result<Vec<OwnNeed>, Memory>
-    ensures { IfOk result (λ needs. own_demands_of needs.items ≡ replicate count (One [])) }
+fn unmet(alloc: Global, count: usize) -> Result<Vec<OwnedNeed>, Memory>
+    ensures { IfOk result (λ needs. owned_demands_of needs.items ≡ replicate count (One [])) }
 {
     let mut needs = Vec::new(alloc);
     for _ in 0..count {
@@ -161,10 +164,10 @@ fn unmet(alloc: Global, count: usize) -> Result<Vec<OwnNeed>, Memory>
 }
 
 // Returns the needs of the rules, and behind them those of the elements in their bodies.
-fn rule_needs(alloc: Global, rules: &RuleTable<Elem>) -> Result<Vec<OwnNeed>, Memory>
+fn rule_needs(alloc: Global, rules: &RuleTable<Elem>) -> Result<Vec<OwnedNeed>, Memory>
     requires { rules.now.names ≡ NameCase.Fold }
-    ensures within { IfOk result (λ needs. AreNeedsWithin (own_demands_of needs.items)) }
-    ensures bodies { IfOk result (λ needs. HaveBodyNeeds (rules_of rules.now) (own_demands_of needs.items) (length (rules_of rules.now))) }
+    ensures within { IfOk result (λ needs. AreNeedsWithin (owned_demands_of needs.items)) }
+    ensures bodies { IfOk result (λ needs. HaveBodyNeeds (rules_of rules.now) (owned_demands_of needs.items) (length (rules_of rules.now))) }
 {
     let mut needs = unmet(alloc, rules.len())?;
     for id in 0..rules.len() {
@@ -182,7 +185,7 @@ pub(crate) fn rule_nulls(alloc: Global, rules: &RuleTable<Elem>) -> Result<Vec<b
     ensures { IfOk result (λ marks. AreNullMarks (rules_of rules.now) marks.items) }
 {
     let needs = rule_needs(alloc, rules)?;
-    let lent = lend(alloc, &needs)?;
-    let marks = least(alloc, &lent)?;
+    let borrowed = borrowed_needs(alloc, &needs)?;
+    let marks = least(alloc, &borrowed)?;
     Ok(marks)
 }
