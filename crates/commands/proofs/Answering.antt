@@ -6,8 +6,8 @@ use Rattle.clap.specs.declared.error.Error.{Error}
 use Rattle.clap.specs.declared.error.kind.ErrorKind.{ErrorKind}
 use Rattle.clap.specs.declared.error.kind.ErrorKind.TheVariants.{DisplayHelp, OutOfMemory}
 use Rattle.commands.specs.Parsing.{Answers, EndsAs, IsNoHelp}
-use Rattle.gramtools.specs.declared.status.Status.{Status}
-use Rattle.gramtools.specs.declared.status.Status.TheVariants.{NoMemory}
+use Rattle.toolrun.specs.declared.status.Status.{Status}
+use Rattle.toolrun.specs.declared.status.Status.TheVariants.{NoMemory}
 
 -- nothing is wrong, and no help is asked for
 pub parsed : (kinds : Kinds) (P Q : Type 0) → kinds ≡ [] → Answers kinds P Q

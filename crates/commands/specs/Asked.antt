@@ -5,8 +5,8 @@ use Rattle.std.specs.Str.Parse.{IsNumeral, digits_value, without_leading_plus}
 use Rattle.clap.specs.Words.{Row, Text, first_of, first_value, one_of, one_text}
 use Rattle.clap.specs.declared.parser.matches.Found.{Found}
 use Rattle.commands.specs.declared.settings.Asked.{Asked}
-use Rattle.gramtools.specs.declared.settings.Mode.{Mode}
-use Rattle.gramtools.specs.declared.settings.Mode.TheVariants.{Run, Check, Print}
+use Rattle.toolrun.specs.declared.settings.Mode.{Mode}
+use Rattle.toolrun.specs.declared.settings.Mode.TheVariants.{Run, Check, Print}
 
 -- the mode of a name; `run` where none is given
 abbrev pub mode_named : Option (List ℕ) → Mode

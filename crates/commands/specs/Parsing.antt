@@ -7,8 +7,8 @@ use Rattle.clap.specs.declared.error.kind.ErrorKind.{ErrorKind}
 use Rattle.clap.specs.declared.error.kind.ErrorKind.TheVariants.{DisplayHelp, DisplayVersion}
 use Rattle.clap.specs.declared.parser.matches.ArgMatches.{ArgMatches}
 use Rattle.commands.specs.Command.{mode_names, pegi_app}
-use Rattle.gramtools.specs.declared.status.Status.{Status}
-use Rattle.gramtools.specs.declared.status.Status.TheVariants.{NoMemory}
+use Rattle.toolrun.specs.declared.status.Status.{Status}
+use Rattle.toolrun.specs.declared.status.Status.TheVariants.{NoMemory}
 
 -- the texts are the names of the modes
 abbrev pub AreModes : Bor (List (Bor Text)) → Type 0

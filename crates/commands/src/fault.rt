@@ -3,12 +3,12 @@ ghost use Rattle.std.specs.Prelude.{◌≡◌, ◌⊎◌, ◌≤◌, IfOk, false
 ghost use Rattle.std.specs.Io.KnownBytes.{Keeps};
 ghost use Rattle.clap.specs.Words.{kind_of};
 ghost use Rattle.commands.specs.Parsing.{EndsAs, IsNoHelp};
-ghost use Rattle.gramtools.specs.Status.{code_of};
+ghost use Rattle.toolrun.specs.Status.{code_of};
 
 use crate::command::pegi_command;
 use clap::Error;
 use clap::error::ErrorKind;
-use gramtools::{DEFAULT_LIMIT, Status, Stop, close_run, end_run};
+use gramtools::{Status, Stop, close_run, end_run};
 use ruletable::{Sink, write_whole};
 use std::alloc::{AllocError, Global};
 
@@ -27,7 +27,7 @@ fn tell_fault<O: Sink, E: Sink>(text: &str, out: &mut O, err: &mut E) -> Status
         return close_run(out, err);
     }
     // the text says all
-    end_run(Ok(Stop::Noted), DEFAULT_LIMIT, out, err)
+    end_run(Ok(Stop::Quiet(Status::Refused)), out, err)
 }
 
 /// Shows the help on the output.
@@ -38,8 +38,8 @@ fn show_help<O: Sink, E: Sink>(text: &str, out: &mut O, err: &mut E) -> Status
     ensures failed { (O.failed out.new ≡ true) ⊎ (E.failed err.new ≡ true) → 4 ≤ code_of result }
 {
     match write_whole(out, text.as_bytes()) {
-        Ok(()) => end_run(Ok(Stop::Checked), DEFAULT_LIMIT, out, err),
-        Err(fault) => end_run(Err(fault), DEFAULT_LIMIT, out, err),
+        Ok(()) => end_run(Ok(Stop::Quiet(Status::Done)), out, err),
+        Err(fault) => end_run(Err(fault), out, err),
     }
 }
 
@@ -60,10 +60,10 @@ pub fn end_unparsed<O: Sink, E: Sink>(
     ensures failed { (O.failed out.new ≡ true) ⊎ (E.failed err.new ≡ true) → 4 ≤ code_of result }
 {
     if error.kind() == ErrorKind::OutOfMemory {
-        return end_run(Ok(Stop::NoMemory), DEFAULT_LIMIT, out, err);
+        return end_run(Ok(Stop::NoMemory), out, err);
     }
     let Ok(text) = format!(in alloc; "{error}") else {
-        return end_run(Ok(Stop::NoMemory), DEFAULT_LIMIT, out, err);
+        return end_run(Ok(Stop::NoMemory), out, err);
     };
     if error.use_stderr() {
         tell_fault(text.as_str(), out, err)
@@ -91,6 +91,6 @@ pub fn refuse_invalid_utf8<O: Sink, E: Sink>(alloc: Global, out: &mut O, err: &m
 {
     match invalid_utf8(alloc) {
         Ok(error) => end_unparsed(alloc, &error, out, err),
-        Err(_) => end_run(Ok(Stop::NoMemory), DEFAULT_LIMIT, out, err),
+        Err(_) => end_run(Ok(Stop::NoMemory), out, err),
     }
 }

@@ -42,8 +42,8 @@ pub fn pegi_main<R: Files + AllocGlobal, I: Source, O: Sink, E: Sink>(
     match read_grammar(rt, path) {
         Ok(grammar) => run_peg(rt.alloc(), grammar.as_slice(), &settings, reader, out, err),
         Err(fault) if fault.kind() == ErrorKind::OutOfMemory => {
-            end_run(Ok(Stop::NoMemory), settings.limit, out, err)
+            end_run(Ok(Stop::NoMemory), out, err)
         }
-        Err(_) => end_run(Ok(Stop::Unreadable), settings.limit, out, err),
+        Err(_) => end_run(Ok(Stop::Unreadable), out, err),
     }
 }

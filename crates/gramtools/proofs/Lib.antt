@@ -1,14 +1,10 @@
-pub mod AgreesLemmas
 pub mod AttemptLemmas
 pub mod CutLemmas
-pub mod FinishLemmas
-pub mod IsRightLemmas
 pub mod LookedLemmas
 pub mod NextUnitLemmas
-pub mod NotesTextLemmas
 pub mod OneReplyLemmas
+pub mod PegTaskLemmas
 pub mod SomeReplyLemmas
 pub mod StepLemmas
-pub mod StopsAsLemmas
 pub mod TextOfLemmas
 pub mod WindowLemmas

@@ -2,7 +2,6 @@
 use Rattle.std.proofs.Common.{◌≡◌, ℕ, suc, zero, ◌+◌, ◌<◌, ◌≤◌, Bool, true, false, List, [], ◌++◌, length, drop, refl, sym, arith, inl, inr, ◌⊎◌, length-drop}
 use Rattle.std.proofs.Math.Nat.{min-le_left, min-le_right, le-min}
 use Rattle.std.proofs.lemmas.Bool.{cases_lt, cases_eq}
-use Rattle.ruletable.specs.Writing.{IsBeginning}
 use Rattle.ruletable.proofs.Taken.{IsBeginning-same, IsBeginning-trans}
 use Rattle.pegread.specs.Views.{rules_of}
 use Rattle.gramcheck.specs.Grammar.{Grammar, IsSoundGrammar}
@@ -11,21 +10,22 @@ use Rattle.gramcheck.specs.Outcome.{Outcome, Fails, Takes}
 use Rattle.gramcheck.proofs.Ending.{has_of_start}
 use Rattle.gramcheck.proofs.Starting.{rises_of_start}
 use Rattle.pegmatch.specs.Text.{text_of}
-use Rattle.gramtools.specs.Input.{Input}
-use Rattle.gramtools.specs.Reply.{Reply, Replies}
-use Rattle.gramtools.specs.Status.{code_of}
-use Rattle.gramtools.specs.Stop.{message_of, status_of}
+use Rattle.toolrun.specs.Input.{Input}
+use Rattle.gramtools.specs.Reply.{Replies}
+use Rattle.toolrun.specs.Reply.{Reply}
+use Rattle.toolrun.specs.RunSteps.{Begins}
+use Rattle.toolrun.specs.Status.{code_of}
+use Rattle.toolrun.specs.Stop.{message_of, status_of}
 use Rattle.gramtools.specs.Units.{taken_at, MayRun, GivesAt, IsUnit, Units, none, one_more, Ends, broken, overlong, no_match, finished, empty_before_end, empty_at_end}
-use Rattle.gramtools.specs.declared.settings.Settings.{Settings}
-use Rattle.gramtools.specs.declared.stop.Stop.{Stop}
-use Rattle.gramtools.specs.declared.stop.Stop.TheVariants.{End, NoMatch, Overlong, Broken}
+use Rattle.toolrun.specs.declared.settings.Settings.{Settings}
+use Rattle.toolrun.specs.declared.status.Status.TheVariants.{Done}
+use Rattle.toolrun.specs.declared.stop.Stop.{Stop}
+use Rattle.toolrun.specs.declared.stop.Stop.TheVariants.{Quiet, NoMatch, LongUnit, Broken}
 
 -- a reply that begins with the text and takes no less than a unit at s
-pub record Goes (g : Grammar) (settings : Settings) (input : Input) (s : ℕ) (text : List ℕ) : Type 0 where
-  pub reply : Reply
-  pub replies : Replies (rules_of g.rules) g.start settings input reply
-  pub front : IsBeginning text reply.out
-  pub taken : taken_at settings input s ≤ reply.taken
+abbrev pub Goes : Grammar → Settings → Input → ℕ → List ℕ → Type 0
+Goes g settings input s text = Begins (Units (rules_of g.rules) g.start settings input) (Ends (rules_of g.rules) g.start settings input)
+    (taken_at settings input) (taken_at settings input s) text
 
 module _ (g : Grammar) (settings : Settings) (input : Input) where
   abbrev rest : ℕ → List ℕ
@@ -42,16 +42,16 @@ module _ (g : Grammar) (settings : Settings) (input : Input) where
 
   -- the reply of a run that stops here
   abbrev pub reply_of : ℕ → List ℕ → Stop → Reply
-  reply_of s out stop = record { out = out; err = message_of settings.limit stop; status = code_of (status_of stop); taken = taken_at settings input s }
+  reply_of s out stop = record { out = out; err = message_of stop; status = code_of (status_of stop); taken = taken_at settings input s }
 
   pub replies_there : (s : ℕ) (text last : List ℕ) (stop : Stop) → UnitsTo s text → EndsAt s last stop →
       Replies (rules_of g.rules) g.start settings input (reply_of s (text ++ last) stop)
   replies_there s text last stop units ends = record {
-    place = s;
+    point = s;
     before = text;
     last = last;
     stop = stop;
-    units = units;
+    steps = units;
     ends = ends;
     out = refl;
     err = refl;
@@ -95,13 +95,13 @@ module _ (g : Grammar) (settings : Settings) (input : Input) where
 
   empty : (s : ℕ) (text last : List ℕ) → UnitsTo s text → s ≤ length input.bytes → UnitAt s 0 last → Goes g settings input s (text ++ last)
   empty s text last units inside unit = elim (cases_eq s (length input.bytes)) [
-    | inl at_end ↦ stops s text last End units (empty_at_end last unit at_end)
+    | inl at_end ↦ stops s text last (Quiet Done) units (empty_at_end last unit at_end)
     | inr before ↦ stops s text last (NoMatch s) units (empty_before_end last unit (omega arith))
   ]
 
   fails : (s : ℕ) (text : List ℕ) → UnitsTo s text → s ≤ length input.bytes → GivesAt (rules_of g.rules) g.start settings input s Fails → Goes g settings input s text
   fails s text units inside d = elim (cases_eq s (length input.bytes)) [
-    | inl at_end ↦ begins s s text [] (omega arith) (stops s text [] End units (finished d at_end))
+    | inl at_end ↦ begins s s text [] (omega arith) (stops s text [] (Quiet Done) units (finished d at_end))
     | inr before ↦ begins s s text [] (omega arith) (stops s text [] (NoMatch s) units (no_match d (omega arith)))
   ]
 
@@ -130,7 +130,7 @@ module _ (g : Grammar) (settings : Settings) (input : Input) where
     goes_on fuel s text later units inside room may =
         let some = has_of_start (rules_of g.rules) g.start (shapes_of g.nodes) g.bodies g.ranks sound (rest s) in
         elim (cases_lt settings.limit some.1) [
-          | inl over ↦ begins s s text [] (omega arith) (stops s text [] (Overlong s) units (overlong some.0 some.1 may some.2 over))
+          | inl over ↦ begins s s text [] (omega arith) (stops s text [] (LongUnit s settings.limit) units (overlong some.0 some.1 may some.2 over))
           | inr le ↦ goes_within fuel s text later units inside room some.0 (record { may_run = may; looked = some.1; gives = some.2; within = le })
         ]
 

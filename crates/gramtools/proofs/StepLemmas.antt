@@ -12,10 +12,11 @@ use Rattle.gramcheck.proofs.Starting.{rises_of_start}
 use Rattle.pegmatch.specs.Answers.{StartGives, WasEnough}
 use Rattle.pegmatch.specs.Text.{text_of}
 use Rattle.gramtools.specs.Attempts.{IsAttempt, IsStep, StaysWithin, step_after}
-use Rattle.gramtools.specs.Input.{Input}
+use Rattle.toolrun.specs.Input.{Input}
 use Rattle.gramtools.specs.Units.{MayRun, GivesAt, IsUnit, Ends, broken, overlong, no_match, finished, empty_before_end, empty_at_end}
-use Rattle.gramtools.specs.declared.settings.Settings.{Settings}
-use Rattle.gramtools.specs.declared.stop.Stop.TheVariants.{End, NoMatch, Broken}
+use Rattle.toolrun.specs.declared.settings.Settings.{Settings}
+use Rattle.toolrun.specs.declared.status.Status.TheVariants.{Done}
+use Rattle.toolrun.specs.declared.stop.Stop.TheVariants.{Quiet, NoMatch, Broken}
 use Rattle.gramtools.specs.declared.unit.Attempt.{Attempt}
 use Rattle.gramtools.specs.declared.unit.Attempt.TheVariants.{Printed, Failed, TooLong, NoMemory}
 use Rattle.gramtools.proofs.WindowLemmas.{seen, seen_text, seen_long}
@@ -53,17 +54,17 @@ module _ (g : Grammar) (settings : Settings) (input : Input) (s : ℕ) (inside :
     }
 
     fails_here : (b : Bool) → (s == length input.bytes) ≡ b → GivesAt (rules_of g.rules) g.start settings input s Fails →
-        Ends (rules_of g.rules) g.start settings input s [] (if b then End else NoMatch s)
+        Ends (rules_of g.rules) g.start settings input s [] (if b then Quiet Done else NoMatch s)
     fails_here true e d = finished d (grind (arith, common_steps, e))
     fails_here false e d = let h : s < length input.bytes = grind (arith, common_steps, e) in no_match d h
 
     empty_here : (b : Bool) (text : List ℕ) → (s == length input.bytes) ≡ b → IsUnit (rules_of g.rules) g.start settings input s 0 text →
-        Ends (rules_of g.rules) g.start settings input s text (if b then End else NoMatch s)
+        Ends (rules_of g.rules) g.start settings input s text (if b then Quiet Done else NoMatch s)
     empty_here true text e d = empty_at_end text d (grind (arith, common_steps, e))
     empty_here false text e d = let h : s < length input.bytes = grind (arith, common_steps, e) in empty_before_end text d h
 
     pub step_is : (old new : Option (List ℕ)) (r : Result Attempt WriteFault) → IsAttempt g window more settings.raw old new r →
-        IsStep (rules_of g.rules) g.start settings input s old new (step_after s (length input.bytes) r)
+        IsStep (rules_of g.rules) g.start settings input s old new (step_after settings.limit s (length input.bytes) r)
     step_is old new (Ok (Printed zero)) (events, looked, d, enough, wrote) =
         inr (_, empty_here (s == length input.bytes) _ refl (is_unit zero events looked d enough), wrote)
     step_is old new (Ok (Printed (suc n))) (events, looked, d, enough, wrote) = (_, is_unit (suc n) events looked d enough, wrote, omega arith)
@@ -77,7 +78,7 @@ module _ (g : Grammar) (settings : Settings) (input : Input) (s : ℕ) (inside :
     step_is old new (Err fault) (k, events, looked, d, enough, wrote) = (k, _, is_unit k events looked d enough, wrote)
 
   pub step_fits : (old new : Option (List ℕ)) (r : Result Attempt WriteFault) → IsAttempt g window more settings.raw old new r →
-      StaysWithin (length input.bytes) s (step_after s (length input.bytes) r)
+      StaysWithin (length input.bytes) s (step_after settings.limit s (length input.bytes) r)
   step_fits old new (Ok (Printed zero)) a = tt
   step_fits old new (Ok (Printed (suc n))) (events, looked, d, enough, wrote) =
       let r = rises_of_start (rules_of g.rules) g.start window (suc n) looked events d in

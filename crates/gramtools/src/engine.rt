@@ -1,20 +1,23 @@
 //! The units of an input that is read as far as they need it.
-ghost use Rattle.std.specs.Prelude.{◌≡◌, ℕ, List, ◌+◌, [], length};
+ghost use Rattle.std.specs.Prelude.{◌≡◌, ℕ, List, ◌+◌, [], length, false};
 ghost use Rattle.std.specs.Io.KnownBytes.{Consumes};
 ghost use Rattle.ruletable.specs.Writing.{Flags};
 ghost use Rattle.feed.specs.Feed.{IsTrueOfReader, SameLoan, allowance_of, bytes_of, capacity_of, flow_of, input_limit, reader_of};
 ghost use Rattle.pegread.specs.Views.{rules_of};
-ghost use Rattle.gramtools.specs.Agrees.{Agrees};
-ghost use Rattle.gramtools.specs.Input.{Input};
+ghost use Rattle.toolrun.specs.Agrees.{Agrees};
+ghost use Rattle.toolrun.specs.Input.{Input};
+ghost use Rattle.gramtools.specs.Reply.{RunStates};
 ghost use Rattle.gramtools.specs.Stopped.{IsCut};
+ghost use Rattle.toolrun.specs.Stopped.{Performs};
+ghost use Rattle.toolrun.specs.Stream.{passed};
 
-use crate::settings::Settings;
-use crate::stop::Stop;
 use crate::unit::{Step, next_unit};
 use feed::{Feed, Source};
 use gramcheck::SoundPeg;
 use pegmatch::Matcher;
 use ruletable::{Sink, WriteFault};
+use std::alloc::Global;
+use toolrun::{Settings, Stop};
 
 /// Runs the units of an input in turn, each from where the one before ended, and prints the text of each.
 pub fn cut<M: Matcher, R: Source, O: Sink>(
@@ -47,4 +50,29 @@ pub fn cut<M: Matcher, R: Source, O: Sink>(
             Err(fault) => return Err(fault),
         }
     }
+}
+
+/// Runs the units of a grammar on what a reader gives.
+pub fn run_units<M: Matcher, R: Source, O: Sink>(
+    alloc: Global,
+    matcher: &mut M,
+    peg: &SoundPeg,
+    settings: &Settings<'_>,
+    reader: &mut R,
+    out: &mut O,
+) -> Result<Stop, WriteFault>
+    requires { R.failed reader.old ≡ false }
+    ensures { Performs (RunStates (rules_of peg.now.rules) peg.now.start settings.now)
+        (passed R.remaining R.failed reader.old reader.new) (passed O.contents O.failed out.old out.new) result }
+{
+    // its contract says that the grammar is sound
+    let _ = peg.start();
+    let ring = match Feed::<R>::room(alloc, settings.limit) {
+        Ok(ring) => ring,
+        Err(_) => return Ok(Stop::NoMemory),
+    };
+    let mut feed = Feed::new(ring, reader);
+    let stop = cut(matcher, peg, settings, &mut feed, out);
+    let _reader = feed.into_reader();
+    stop
 }

@@ -4,17 +4,16 @@ ghost use Rattle.std.specs.Io.KnownBytes.{Keeps};
 ghost use Rattle.ruletable.specs.Writing.{Flags};
 ghost use Rattle.feed.specs.Feed.{Grows, IsTrueOfReader, SameFeed, SameLoan, allowance_of, bytes_of, capacity_of, flow_of, input_limit};
 ghost use Rattle.pegread.specs.Views.{rules_of};
-ghost use Rattle.gramtools.specs.Agrees.{Agrees};
+ghost use Rattle.toolrun.specs.Agrees.{Agrees};
 ghost use Rattle.gramtools.specs.Attempts.{IsAttempt, IsStep, IsStepOn, StaysWithin, step_after, stop_at};
-ghost use Rattle.gramtools.specs.Input.{Input};
+ghost use Rattle.toolrun.specs.Input.{Input};
 ghost use Rattle.gramtools.specs.Units.{taken_at};
 
-use crate::settings::Settings;
-use crate::stop::Stop;
 use feed::{Feed, Held, Source};
 use gramcheck::SoundPeg;
 use pegmatch::{Matcher, ReplayFault, Unit};
 use ruletable::{Sink, WriteFault};
+use toolrun::{Settings, Status, Stop};
 
 /// What came of the start rule at the front of a window.
 #[derive(Clone, Copy, Debug, PartialEq, Eq)]
@@ -68,25 +67,26 @@ fn stop_where(place: usize, len: usize) -> Stop
     ensures { result ≡ stop_at place len }
 {
     if place == len {
-        Stop::End
+        Stop::Quiet(Status::Done)
     } else {
         Stop::NoMatch(place)
     }
 }
 
-/// What follows at a place where this came of the start rule.
+/// What follows at a place where this came of the start rule, which may look at `limit` bytes.
 fn step_of(
     attempted: Result<Attempt, WriteFault>,
+    limit: usize,
     place: usize,
     len: usize,
 ) -> Result<Step, WriteFault>
-    ensures { result ≡ step_after place len attempted }
+    ensures { result ≡ step_after limit place len attempted }
 {
     match attempted {
         Ok(Attempt::Printed(0)) => Ok(Step::Stops(stop_where(place, len))),
         Ok(Attempt::Printed(n)) => Ok(Step::Takes(n)),
         Ok(Attempt::Failed) => Ok(Step::Stops(stop_where(place, len))),
-        Ok(Attempt::TooLong) => Ok(Step::Stops(Stop::Overlong(place))),
+        Ok(Attempt::TooLong) => Ok(Step::Stops(Stop::LongUnit { place, limit })),
         Ok(Attempt::NoMemory) => Ok(Step::Stops(Stop::NoMemory)),
         Err(fault) => Err(fault),
     }
@@ -169,19 +169,19 @@ fn unit_at<M: Matcher, R: Source, O: Sink>(
     peg: &SoundPeg,
     feed: &mut Feed<'_, R>,
     more: bool,
-    raw: bool,
+    settings: &Settings<'_>,
     start: usize,
     out: &mut O,
 ) -> Result<Step, WriteFault>
     requires some { more ≡ true → 0 < length (bytes_of feed.old) }
     requires within { start + length (bytes_of feed.old) ≤ input_limit }
     ensures same { SameFeed feed.old feed.new }
-    ensures follows { IsStepOn peg.now (bytes_of feed.old) more raw start (O.contents out.old) (O.contents out.new) result }
+    ensures follows { IsStepOn peg.now (bytes_of feed.old) more settings.now start (O.contents out.old) (O.contents out.new) result }
     ensures flag { Flags (O.failed out.old) (O.failed out.new) result }
 {
     let end = start + feed.len();
-    let attempted = attempt_unit(matcher, peg, feed, more, raw, out);
-    step_of(attempted, start, end)
+    let attempted = attempt_unit(matcher, peg, feed, more, settings.raw, out);
+    step_of(attempted, settings.limit, start, end)
 }
 
 /// Reads until `limit` + 1 bytes are held, the input ends or a read fails, and runs one unit.
@@ -209,8 +209,8 @@ pub fn next_unit<M: Matcher, R: Source, O: Sink>(
     // its contract says that the grammar is sound
     let _ = peg.start();
     match feed.fill() {
-        Held::Full => unit_at(matcher, peg, feed, true, settings.raw, start, out),
-        Held::End => unit_at(matcher, peg, feed, false, settings.raw, start, out),
+        Held::Full => unit_at(matcher, peg, feed, true, settings, start, out),
+        Held::End => unit_at(matcher, peg, feed, false, settings, start, out),
         Held::Fault => Ok(Step::Stops(Stop::Broken)),
     }
 }

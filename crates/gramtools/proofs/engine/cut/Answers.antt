@@ -1,9 +1,9 @@
 -- One more unit, or the end.
-use Rattle.std.proofs.Common.{◌≡◌, ℕ, [], ◌++◌, ◌≤◌, ◌∙◌, length, take, drop, refl, ap, rules, arith, length-append, length-drop}
+use Rattle.std.proofs.Common.{[], ◌++◌, ◌≤◌, ◌∙◌, length, take, refl, ap, rules, arith, length-append, length-drop}
 use Rattle.ruletable.proofs.Taken.{Appends-same}
 use Rattle.feed.proofs.GrowsLemmas.{Consumes-same}
 use Rattle.gramtools.specs.Units.{none}
-use Rattle.gramtools.proofs.AgreesLemmas.{earlier, seen_more, slides, slides-len}
+use Rattle.toolrun.proofs.AgreesLemmas.{earlier, seen_more, slides, slides-len}
 use Rattle.gramtools.proofs.CutLemmas.{one_more_unit, stops_there, fails_there}
 use Rattle.gramtools.proofs.engine.cut.Goals as goal
 

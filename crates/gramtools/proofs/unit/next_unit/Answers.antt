@@ -1,7 +1,7 @@
 -- What the window says, by how it was filled.
-use Rattle.std.proofs.Common.{◌≡◌, ◌∙◌, refl, arith, true, false}
+use Rattle.std.proofs.Common.{◌∙◌, refl, arith, true, false}
 use Rattle.std.specs.Prelude.{Ok}
-use Rattle.gramtools.specs.declared.stop.Stop.TheVariants.{Broken}
+use Rattle.toolrun.specs.declared.stop.Stop.TheVariants.{Broken}
 use Rattle.gramtools.specs.declared.unit.Step.TheVariants.{Stops}
 use Rattle.gramtools.proofs.NextUnitLemmas.{full_window, last_window, broken_step, step_on_fits}
 use Rattle.gramtools.proofs.unit.next_unit.Goals as goal
@@ -14,7 +14,7 @@ returns-in-Full-clause-follows g c = λ before input here a.
 
 pub returns-in-Full-clause-fits : goal.returns-in-Full-clause-fits
 returns-in-Full-clause-fits g c =
-    step_on_fits c.args.peg.now c.fill.new.self.ring.items c.unit_at.new.feed.ring.items true c.args.settings.now.raw c.args.start
+    step_on_fits c.args.peg.now c.fill.new.self.ring.items c.unit_at.new.feed.ring.items true c.args.settings.now c.args.start
     (g.O.Sink.contents c.args.out.now) (g.O.Sink.contents c.unit_at.new.out) c.unit_at.result c.unit_at.ensures.same.bytes c.unit_at.ensures.follows
 
 pub returns-in-End-clause-follows : goal.returns-in-End-clause-follows
@@ -28,7 +28,7 @@ returns-in-End-clause-follows g c = λ before input here a.
 pub returns-in-End-clause-fits : goal.returns-in-End-clause-fits
 returns-in-End-clause-fits g c =
     let on = c.unit_at-in-End in
-    step_on_fits c.args.peg.now c.fill.new.self.ring.items on.new.feed.ring.items false c.args.settings.now.raw c.args.start
+    step_on_fits c.args.peg.now c.fill.new.self.ring.items on.new.feed.ring.items false c.args.settings.now c.args.start
     (g.O.Sink.contents c.args.out.now) (g.O.Sink.contents on.new.out) on.result on.ensures.same.bytes on.ensures.follows
 
 pub returns-in-Fault-clause-follows : goal.returns-in-Fault-clause-follows

@@ -1,0 +1,5 @@
+pub mod AgreesLemmas
+pub mod FinishLemmas
+pub mod IsRightLemmas
+pub mod NotesTextLemmas
+pub mod StopsAsLemmas

@@ -1,0 +1,14 @@
+pub mod Agrees
+pub mod Delivery
+pub mod Finish
+pub mod Flush
+pub mod Input
+pub mod NotesText
+pub mod Plan
+pub mod Reply
+pub mod Right
+pub mod RunSteps
+pub mod Status
+pub mod Stop
+pub mod Stopped
+pub mod Stream

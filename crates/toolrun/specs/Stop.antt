@@ -1,0 +1,32 @@
+-- The message and the status of each way in which a run stops.
+use Rattle.std.specs.Prelude.{ℕ, List, [], ◌++◌, codes, decimal}
+use Rattle.ruletable.specs.Faults.{fault_text}
+use Rattle.toolrun.specs.declared.status.Status.{Status}
+use Rattle.toolrun.specs.declared.status.Status.TheVariants as status
+use Rattle.toolrun.specs.declared.stop.Stop.{Stop}
+use Rattle.toolrun.specs.declared.stop.Stop.TheVariants.{Quiet, NoMatch, LongUnit, LongLine, Broken, NoMemory, Refused, Unreadable}
+
+abbrev pub status_of : Stop → Status
+status_of (Quiet status) = status
+status_of (NoMatch s) = status.NoMatch
+status_of (LongUnit s limit) = status.Overlong
+status_of (LongLine n limit) = status.Overlong
+status_of Broken = status.Fault
+status_of NoMemory = status.NoMemory
+status_of (Refused fault) = status.Refused
+status_of Unreadable = status.Fault
+
+-- the line on the error output; none where all is said
+abbrev pub message_of : Stop → List ℕ
+message_of (Quiet status) = []
+message_of (NoMatch s) = codes "no match at byte " ++ decimal s ++ codes "\n"
+message_of (LongUnit s limit) = codes "unit at byte " ++ decimal s ++ codes " longer than " ++ decimal limit ++ codes " bytes\n"
+message_of (LongLine n limit) = codes "line " ++ decimal n ++ codes " longer than " ++ decimal limit ++ codes " bytes\n"
+message_of Broken = codes "read error\n"
+message_of NoMemory = codes "out of memory\n"
+message_of (Refused fault) = fault_text fault
+message_of Unreadable = codes "cannot read the grammar\n"
+
+-- what is told of a writer that failed
+abbrev pub write_error : List ℕ
+write_error = codes "write error\n"

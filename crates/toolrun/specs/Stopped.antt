@@ -1,0 +1,31 @@
+-- What a run has written when it stops, before its messages.
+use Rattle.std.specs.Prelude.{◌≡◌, ◌≢◌, ℕ, ◌≤◌, List, length, Result, Ok, Err, IfOk, IfSome}
+use Rattle.std.specs.Io.KnownBytes.{Appends, Consumes}
+use Rattle.ruletable.specs.Writing.{Flags, IsBeginning}
+use Rattle.ruletable.specs.declared.sink.WriteFault.{WriteFault}
+use Rattle.toolrun.specs.Input.{Input, input_from}
+use Rattle.toolrun.specs.Reply.{Reply}
+use Rattle.toolrun.specs.Status.{code_of}
+use Rattle.toolrun.specs.Stop.{message_of, status_of}
+use Rattle.toolrun.specs.Stream.{Stream}
+use Rattle.toolrun.specs.declared.stop.Stop.{Stop}
+use Rattle.toolrun.specs.declared.stop.Stop.TheVariants.{NoMemory}
+
+-- what is stated has been written, or a beginning of it where the writer failed
+abbrev pub IsWritten : Result Stop WriteFault → Reply → List ℕ → Type 0
+IsWritten (Ok stop) stated wrote = (wrote ≡ stated.out) × (stated.err ≡ message_of stop) × (stated.status ≡ code_of (status_of stop))
+IsWritten (Err fault) stated wrote = IsBeginning wrote stated.out
+
+-- What a run that stopped so states, and how much of it has been written and taken.
+pub record StopsAs (States : Reply → Type 0) (taken : List ℕ) (stop : Result Stop WriteFault) (wrote : List ℕ) : Type 0 where
+  pub stated : Reply
+  pub states : States stated
+  pub written : IsWritten stop stated wrote
+  pub within : length taken ≤ stated.taken
+  pub exact : IfOk stop (λ why. why ≢ NoMemory → length taken ≡ stated.taken)
+
+-- Where the reader tells its bytes, the run stopped as one that states this.
+pub record Performs (Does : Input → Reply → Type 0) (reader out : Stream) (stop : Result Stop WriteFault) : Type 0 where
+  pub stopped : IfSome reader.old (λ given. (taken wrote : List ℕ) × Consumes reader.old reader.new taken × Appends out.old out.new wrote ×
+      StopsAs (Does (input_from given taken reader.failed)) taken stop wrote)
+  pub flag : Flags out.was out.failed stop

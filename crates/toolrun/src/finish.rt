@@ -1,0 +1,97 @@
+//! The end of a run: a message, and both flushes.
+ghost use Rattle.std.specs.Prelude.{◌≡◌, ℕ, List, true, false};
+ghost use Rattle.std.specs.Io.KnownBytes.{Appends, Keeps};
+ghost use Rattle.ruletable.specs.Writing.{Flags, Writes};
+ghost use Rattle.toolrun.specs.Finish.{told_of, ending_of, Finishes};
+ghost use Rattle.toolrun.specs.Flush.{Flushes};
+ghost use Rattle.toolrun.specs.Status.{code_of};
+
+use crate::status::Status;
+use crate::stop::{Stop, status, write_stop};
+use ruletable::{Sink, WriteFault, write_whole};
+
+/// Flushes the output, and tells a fault on the error output.
+fn flush_out<O: Sink, E: Sink>(out: &mut O, err: &mut E)
+    ensures kept { Keeps (O.contents out.old) (O.contents out.new) }
+    ensures told { (more : List ℕ) × Appends (E.contents err.old) (E.contents err.new) more ×
+        Flushes (O.failed out.old) (O.failed out.new) (E.failed err.old) (E.failed err.new) more }
+{
+    if out.has_failed() {
+        return;
+    }
+    match out.flush() {
+        Ok(()) => {}
+        Err(_) => {
+            if !err.has_failed() {
+                let _ = write_whole(err, b"write error\n");
+            }
+        }
+    }
+}
+
+/// Flushes the error output.
+fn flush_err<E: Sink>(err: &mut E)
+    ensures kept { Keeps (E.contents err.old) (E.contents err.new) }
+    ensures stays { E.failed err.old ≡ true → E.failed err.new ≡ true }
+{
+    if err.has_failed() {
+        return;
+    }
+    let _ = err.flush();
+}
+
+/// Tells the error output of a stop, or of a fault of the output.
+fn tell<E: Sink>(stop: Result<Stop, WriteFault>, err: &mut E) -> Result<(), WriteFault>
+    ensures bytes { Writes (E.contents err.old) (E.contents err.new) (told_of stop) result }
+    ensures flag { Flags (E.failed err.old) (E.failed err.new) result }
+{
+    match stop {
+        Ok(stop) => write_stop(stop, err),
+        Err(_) => write_whole(err, b"write error\n"),
+    }
+}
+
+fn ending(stop: Result<Stop, WriteFault>) -> Status
+    ensures { result ≡ ending_of stop }
+{
+    match stop {
+        Ok(stop) => status(stop),
+        Err(_) => Status::Fault,
+    }
+}
+
+/// Ends a run that stopped so, or whose output failed: a line on `err`, and each writer that has not failed is
+/// flushed once, `out` first.
+pub fn finish<O: Sink, E: Sink>(stop: Result<Stop, WriteFault>, out: &mut O, err: &mut E) -> Status
+    requires fresh { E.failed err.old ≡ false }
+    requires flag { Flags false (O.failed out.old) stop }
+    ensures kept { Keeps (O.contents out.old) (O.contents out.new) }
+    ensures stays { O.failed out.old ≡ true → O.failed out.new ≡ true }
+    ensures told { (told : List ℕ) × Appends (E.contents err.old) (E.contents err.new) told ×
+        Finishes stop (O.failed out.new) (E.failed err.new) told (code_of result) }
+{
+    let base = ending(stop);
+    let _ = tell(stop, err);
+    flush_out(out, err);
+    flush_err(err);
+    if out.has_failed() {
+        return base.at_least_fault();
+    }
+    if err.has_failed() {
+        return base.at_least_fault();
+    }
+    base
+}
+
+/// Ends a run whose error output failed: nothing more is written, and the output is flushed, if it has not failed.
+pub fn close<O: Sink, E: Sink>(out: &mut O, err: &mut E) -> Status
+    requires { E.failed err.old ≡ true }
+    ensures out { Keeps (O.contents out.old) (O.contents out.new) }
+    ensures err { Keeps (E.contents err.old) (E.contents err.new) }
+    ensures stays { E.failed err.new ≡ true }
+    ensures status { result ≡ Status.Fault }
+{
+    flush_out(out, err);
+    flush_err(err);
+    Status::Fault
+}

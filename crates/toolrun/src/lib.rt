@@ -1,0 +1,15 @@
+//! The run of a tool: it plans from a grammar's text, performs the plan on an input, and ends.
+#![tactic(auto)]
+
+mod finish;
+mod notes;
+mod settings;
+mod status;
+mod stop;
+mod tool;
+
+pub use finish::{close as close_run, finish as end_run};
+pub use settings::{DEFAULT_LIMIT, MAX_LIMIT, Mode, Settings};
+pub use status::Status;
+pub use stop::Stop;
+pub use tool::{Plan, Tool, run_tool};

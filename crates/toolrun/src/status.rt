@@ -1,0 +1,46 @@
+//! What a run comes to.
+ghost use Rattle.std.specs.Prelude.{◌≡◌, max};
+ghost use Rattle.toolrun.specs.Status.{code_of};
+
+/// What a run came to. The greater code stands where two apply.
+#[derive(Clone, Copy, Debug, PartialEq, Eq)]
+pub enum Status {
+    /// All input was taken, or nothing was refused.
+    Done,
+    /// A place where nothing matches.
+    NoMatch,
+    /// The grammar or the arguments are refused.
+    Refused,
+    /// A unit longer than the limit.
+    Overlong,
+    /// A reader or a writer failed.
+    Fault,
+    /// A growth was refused.
+    NoMemory,
+}
+
+impl Status {
+    /// The exit status, from 0 to 5.
+    pub fn code(self) -> u8
+        ensures { result ≡ code_of self }
+    {
+        match self {
+            Status::Done => 0,
+            Status::NoMatch => 1,
+            Status::Refused => 2,
+            Status::Overlong => 3,
+            Status::Fault => 4,
+            Status::NoMemory => 5,
+        }
+    }
+
+    /// This status, or `Fault` where that is greater.
+    pub fn at_least_fault(self) -> Status
+        ensures { code_of result ≡ max (code_of self) 4 }
+    {
+        match self {
+            Status::NoMemory => Status::NoMemory,
+            _ => Status::Fault,
+        }
+    }
+}

@@ -1,0 +1,90 @@
+//! How a run stops.
+ghost use Rattle.std.specs.Prelude.{◌≡◌, ◌++◌, codes, decimal};
+ghost use Rattle.ruletable.specs.Writing.{Flags, Writes};
+ghost use Rattle.toolrun.specs.Stop.{status_of, message_of};
+
+use crate::status::Status;
+use itoa::Buffer;
+use ruletable::{ReadFault, Sink, WriteFault, write_fault, write_pieces, write_whole};
+
+/// Why a run stopped. A place counts the bytes before it, a line from 1.
+#[derive(Clone, Copy, Debug, PartialEq, Eq)]
+pub enum Stop {
+    /// All is said; the run has this status.
+    Quiet(Status),
+    /// Nothing goes on at this place.
+    NoMatch(usize),
+    /// The unit at this place looks at more bytes than the limit.
+    LongUnit { place: usize, limit: usize },
+    /// The line of this number has more bytes than the limit.
+    LongLine { line: usize, limit: usize },
+    /// The reader failed before all that was to be looked at was held.
+    Broken,
+    /// A growth was refused.
+    NoMemory,
+    /// The grammar's text has this fault.
+    Refused(ReadFault),
+    /// The grammar's file cannot be read.
+    Unreadable,
+}
+
+/// The status of a run that stopped so.
+pub fn status(stop: Stop) -> Status
+    ensures { result ≡ status_of stop }
+{
+    match stop {
+        Stop::Quiet(status) => status,
+        Stop::NoMatch(_) => Status::NoMatch,
+        Stop::LongUnit { .. } => Status::Overlong,
+        Stop::LongLine { .. } => Status::Overlong,
+        Stop::Broken => Status::Fault,
+        Stop::NoMemory => Status::NoMemory,
+        Stop::Refused(_) => Status::Refused,
+        Stop::Unreadable => Status::Fault,
+    }
+}
+
+/// Writes the line for it, with its LF; nothing where all is said.
+pub fn write_stop<W: Sink>(stop: Stop, w: &mut W) -> Result<(), WriteFault>
+    ensures bytes { Writes (W.contents w.old) (W.contents w.new) (message_of stop) result }
+    ensures flag { Flags (W.failed w.old) (W.failed w.new) result }
+{
+    match stop {
+        Stop::Quiet(_) => Ok(()),
+        Stop::NoMatch(at) => write_numbers(b"no match at byte ", at, b"\n", w),
+        Stop::LongUnit { place, limit } => write_long(b"unit at byte ", place, limit, w),
+        Stop::LongLine { line, limit } => write_long(b"line ", line, limit, w),
+        Stop::Broken => write_whole(w, b"read error\n"),
+        Stop::NoMemory => write_whole(w, b"out of memory\n"),
+        Stop::Refused(fault) => write_fault(&fault, w),
+        Stop::Unreadable => write_whole(w, b"cannot read the grammar\n"),
+    }
+}
+
+fn write_numbers<W: Sink>(
+    before: &[u8],
+    at: usize,
+    behind: &[u8],
+    w: &mut W,
+) -> Result<(), WriteFault>
+    ensures bytes { Writes (W.contents w.old) (W.contents w.new) (before.now ++ decimal at ++ behind.now) result }
+    ensures flag { Flags (W.failed w.old) (W.failed w.new) result }
+{
+    let mut digits = Buffer::new();
+    let place = digits.format(at).as_bytes();
+    let pieces: [&[u8]; 3] = [before, place, behind];
+    write_pieces(w, &pieces)
+}
+
+fn write_long<W: Sink>(what: &[u8], at: usize, limit: usize, w: &mut W) -> Result<(), WriteFault>
+    ensures bytes { Writes (W.contents w.old) (W.contents w.new)
+        (what.now ++ decimal at ++ codes " longer than " ++ decimal limit ++ codes " bytes\n") result }
+    ensures flag { Flags (W.failed w.old) (W.failed w.new) result }
+{
+    let mut place_digits = Buffer::new();
+    let mut limit_digits = Buffer::new();
+    let place = place_digits.format(at).as_bytes();
+    let most = limit_digits.format(limit).as_bytes();
+    let pieces: [&[u8]; 5] = [what, place, b" longer than ", most, b" bytes\n"];
+    write_pieces(w, &pieces)
+}
