@@ -1,5 +1,7 @@
 //! The checks of whole texts: their notes, the grammars by which lines can be judged, and their rules that derive the empty string.
-use crate::{AbnfNote, AbnfNoteKind, SoundAbnf, check_abnf};
+use crate::{
+    AbnfNote, AbnfNoteKind, SoundAbnf, check_abnf, derivation_is_decided, one_list_of_abnf_notes,
+};
 use abnfread::read_abnf;
 use std::alloc::Global;
 use std::test::Fail;
@@ -126,4 +128,10 @@ fn empty_strings(rt: HostRuntime) -> Result<(), Fail> {
         }
     }
     Ok(())
+}
+
+#[test]
+fn laws() {
+    derivation_is_decided();
+    one_list_of_abnf_notes();
 }
