@@ -1,5 +1,5 @@
 -- What marks choose of a list, the notes that are made of it, and what refuses a grammar.
--- Serves: check_abnf (notes, sound)
+-- Serves: check_abnf (notes, sound), one_list_of_abnf_notes
 use Rattle.std.proofs.Common.{◌≡◌, ◌↔◌, ℕ, zero, suc, ◌+◌, ◌<◌, ◌≤◌, ◌==◌, ◌⊎◌, inl, inr, ⊎_elim, Bool, true, false, not, ◌||◌, List, [], ◌∷◌, ◌++◌, length, map, take, drop, get_or, Option, Some, None, refl, sym, ◌∙◌, ap, subst, arith, add-one, append_assoc, append-nil, cond, drop-cons, length-append}
 use Rattle.std.specs.Prelude.{slice_get, slice_index_or, option_to_list, Contains}
 use Rattle.std.specs.List.{list_any}
@@ -278,3 +278,19 @@ sound_unless_refused file rules again given passes = record {
 
 pub judged_where : (count place id : ℕ) → id < count → IsIdAt count place id → id ≡ place
 judged_where count place id lt at = ⊎_elim (λ low. low.1) (λ high. absurd (let is = high.1 in omega (arith, lt, is))) at
+
+-- there is at most one list of notes
+those_same : (P : ℕ → Type 0) {i : ℕ} {rules : List Rule} {a b : List (List ℕ)} → Those P i rules a → Those P i rules b → a ≡ b
+those_same P no_more no_more = refl
+those_same P (this_one {rule = rule} h d) (this_one g e) = ap (λ v. rule.name ∷ v) (those_same P d e)
+those_same P (this_one h d) (not_this g e) = absurd (g h)
+those_same P (not_this h d) (this_one g e) = absurd (h g)
+those_same P (not_this h d) (not_this g e) = those_same P d e
+
+pub notes_same : (file rules : List Rule) (again early : List ℕ) (given : Option (List ℕ)) (a b : List Said) → AreNotes file rules again early given a → AreNotes file rules again early given b → a ≡ b
+notes_same file rules again early given a b g h =
+    let redefined = those_same (Contains again) g.are_redefined h.are_redefined in
+    let extended = those_same (Contains early) g.are_extended h.are_extended in
+    let prose = those_same (HoldsProse rules) g.hold_prose h.hold_prose in
+    let unused = those_same (IsUnused rules (judged_in given rules)) g.are_unused h.are_unused in
+    rw (g.all, redefined, extended, prose, unused) (sym h.all)

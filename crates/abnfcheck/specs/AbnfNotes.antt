@@ -1,4 +1,5 @@
--- The notes on a grammar in ABNF, in order, and what refuses it. Own, but for what RFC 5234, sections 2.1, 3.3 and 4, says of rule names, `=/` and prose.
+-- The notes on a grammar in ABNF, in order, and what refuses it. Own, but for what RFC 5234, sections 2.1, 3.3 and 4,
+-- says of rule names, `=/` and prose.
 use Rattle.std.specs.Prelude.{◌≡◌, ℕ, suc, ◌<◌, List, [], ◌∷◌, ◌++◌, map, length, Option, Some, None, option_to_list, Contains}
 use Rattle.ruletable.specs.Notes.{Said, said}
 use Rattle.ruletable.specs.declared.note.NoteKind.TheVariants as kind
@@ -13,7 +14,8 @@ module _ (P : ℕ → Type 0) where
     this_one : {i : ℕ} {rule : Rule} {rules : List Rule} {names : List (List ℕ)} → P i → Those (suc i) rules names → Those i (rule ∷ rules) (rule.name ∷ names)
     not_this : {i : ℕ} {rule : Rule} {rules : List Rule} {names : List (List ℕ)} → (P i → ⊥) → Those (suc i) rules names → Those i (rule ∷ rules) names
 
--- the id of the judged rule: of that with the given name, or of the first; the number of rules stands for a name without a rule
+-- the id of the judged rule: of that with the given name, or of the first; the number of rules stands for a name
+-- without a rule
 abbrev pub judged_in : Option (List ℕ) → List Rule → ℕ
 judged_in None rules = 0
 judged_in (Some name) rules = id_of rules name
@@ -22,10 +24,11 @@ judged_in (Some name) rules = id_of rules name
 abbrev pub IsUnused : List Rule → ℕ → ℕ → Type 0
 IsUnused rules judged id = ((user : ℕ) → Uses rules user id → ⊥) × (judged ≡ id → ⊥)
 
--- The notes, given the rules of the file, all rules, the ids of the rules that are defined again, and of those that are extended before they are defined, and the
--- name of the judged rule if one is given: those on rules of the file that are defined again; on rules of the file that are extended before they are defined; on
--- names that no rule has, each once, by first use, where a given name is a use before all others; on rules of the file that hold prose; and on rules of the file
--- that are not used. Each kind on rules goes by their order.
+-- The notes, given the rules of the file, all rules, the ids of the rules that are defined again, and of those that are
+-- extended before they are defined, and the name of the judged rule if one is given: those on rules of the file that
+-- are defined again; on rules of the file that are extended before they are defined; on names that no rule has, each
+-- once, by first use, where a given name is a use before all others; on rules of the file that hold prose; and on rules
+-- of the file that are not used. Each kind on rules goes by their order.
 pub record AreNotes (file rules : List Rule) (again early : List ℕ) (given : Option (List ℕ)) (notes : List Said) : Type 0 where
   pub redefined : List (List ℕ)
   pub extended : List (List ℕ)

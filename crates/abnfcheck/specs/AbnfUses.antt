@@ -41,7 +41,8 @@ abbrev pub news : List (List ℕ) → List (List ℕ) → List (List ℕ)
 news known [] = []
 news known (name ∷ names) = cond (is_among known name) (news known names) (name ∷ news (known ++ name ∷ []) names)
 
--- a name of the rule with the second id stands in the body of the rule with the first; the number of rules stands for a name without a rule
+-- a name of the rule with the second id stands in the body of the rule with the first; the number of rules stands for a
+-- name without a rule
 pub record Uses (rules : List Rule) (user id : ℕ) : Type 0 where
   pub body : Element
   pub name : List ℕ

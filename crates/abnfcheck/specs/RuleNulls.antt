@@ -1,4 +1,5 @@
--- Rules that derive the empty list, and numbered needs by which they are found. But for `AreNullMarks`, private helpers alone use it.
+-- Rules that derive the empty list, and numbered needs by which they are found. But for `AreNullMarks`, private helpers
+-- alone use it.
 use Rattle.std.specs.Prelude.{◌≡◌, ◌↔◌, ℕ, ◌<◌, ◌≤◌, Bool, List, [], ◌∷◌, ◌++◌, length, leb, ltb, slice_get, Option, Some, None, if◌then◌else◌}
 use Rattle.leastset.specs.Demands.{Demand, All, One, AreNeedsWithin}
 use Rattle.leastset.specs.NumberMarks.{IsMarked}

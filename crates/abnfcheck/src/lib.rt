@@ -7,6 +7,7 @@ mod decided_law;
 mod joined;
 mod name_ids;
 mod name_marks;
+mod notes_law;
 mod prose;
 mod rule_nulls;
 mod sound_abnf;
@@ -14,6 +15,7 @@ mod sound_abnf;
 pub use abnf_check::{Checked, check_abnf};
 pub use decided_law::derivation_is_decided;
 pub use joined::join;
+pub use notes_law::one_list_of_abnf_notes;
 pub use sound_abnf::SoundAbnf;
 
 #[cfg(test)]
