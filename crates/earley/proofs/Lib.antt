@@ -12,3 +12,4 @@ pub mod ItemRowsLemmas
 pub mod ResumedLemmas
 pub mod SetAtMostLemmas
 pub mod ViewsLemmas
+pub mod WaitingLemmas

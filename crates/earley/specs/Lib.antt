@@ -6,4 +6,5 @@ pub mod HeadTables
 pub mod ItemRows
 pub mod ItemSets
 pub mod ReadItems
+pub mod Waiting
 pub mod Worklist

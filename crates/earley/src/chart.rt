@@ -9,6 +9,7 @@ ghost use Rattle.earley.specs.Charts.{IsAfter, IsExact};
 ghost use Rattle.earley.specs.ChartSets.{chart_of, set_at, IsSet, AreSized};
 ghost use Rattle.flatgrammar.specs.Blocks.{AreExact, block_of, item_at, AreTables, AreCalls};
 ghost use Rattle.earley.specs.ItemSets.{Adds};
+ghost use Rattle.earley.specs.Waiting.{AreWaiting};
 ghost use Rattle.earley.specs.FrontViews.{expand, full, view, views, IsWholeAt};
 ghost use Rattle.flatgrammar.specs.Places.{In, places};
 ghost use Rattle.flatgrammar.specs.Flat.{Place};
@@ -22,6 +23,7 @@ use crate::item::{holds, same};
 use crate::items::Items;
 use crate::letter::Letter;
 use crate::read_front::read;
+use crate::wait::wait_all;
 use flatgrammar::{Flat, Item, Spot, Tables, items_tell, spots, whole_root};
 use ruletable::Memory;
 use std::alloc::Global;
@@ -164,14 +166,18 @@ fn memory_of(alloc: Global, spare: &mut Vec<Front>) -> Front {
         None => Front {
             heads: Vec::new(alloc),
             items: Vec::new(alloc),
+            homes: Vec::new(alloc),
+            firsts: Vec::new(alloc),
+            waits: Vec::new(alloc),
             size: 0,
         },
     }
 }
 
-// Moves the heads and the items into a set.
+// Moves the heads and the items into a set, and lists what waits for the heads.
 fn close(
     flat: &Tables,
+    number: usize,
     heads: &mut Heads,
     items: &mut Items,
     memory: Front,
@@ -179,13 +185,31 @@ fn close(
     ensures heads { IfOk result (λ front. front.heads.items ≡ heads.old) }
     ensures items { IfOk result (λ front. front.items.items ≡ items.old) }
     ensures size { IfOk result (λ front. (j : ℕ) → front.size ≡ length (view flat.now j front)) }
+    ensures waiting { IfOk result (λ front. AreWaiting flat.now (view flat.now number front) front.heads.items front.firsts.items front.waits.items) }
     ensures no_heads { IfOk result (λ front. heads.new ≡ []) }
     ensures no_items { IfOk result (λ front. items.new ≡ []) }
 {
-    let heads = heads.take(memory.heads);
-    let items = items.take(memory.items)?;
+    let Front {
+        heads: heads_memory,
+        items: items_memory,
+        homes,
+        mut firsts,
+        mut waits,
+        size: _,
+    } = memory;
+    wait_all(flat, heads, items, number, &mut firsts, &mut waits)?;
+    let homes = items.take_homes(homes);
+    let heads = heads.take(heads_memory);
+    let items = items.take(items_memory)?;
     let size = size_of(flat, &heads, &items)?;
-    Ok(Front { heads, items, size })
+    Ok(Front {
+        heads,
+        items,
+        homes,
+        firsts,
+        waits,
+        size,
+    })
 }
 
 // Returns the item sets of a line.
@@ -212,7 +236,7 @@ fn fill_fronts<L: Letter>(
         begin(flat, &sets, heads)?;
         follow(flat, line, &sets, items)?;
         fill(flat, line, &sets, heads, items)?;
-        let front = close(flat, heads, items, memory_of(alloc, spare))?;
+        let front = close(flat, sets.len(), heads, items, memory_of(alloc, spare))?;
         sets.push(front)?;
     }
     Ok(sets)

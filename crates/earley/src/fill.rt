@@ -1,5 +1,5 @@
 //! Fills an item set.
-ghost use Rattle.std.specs.Prelude.{◌≡◌, ◌↔◌, ◌+◌, ◌^◌, ◌<◌, ◌≤◌, true, IsTrue, IfOk, length, map, slice_get, Some, None, List, [], ◌∷◌, ℕ};
+ghost use Rattle.std.specs.Prelude.{◌≡◌, ◌↔◌, ◌+◌, ◌^◌, ◌<◌, ◌≤◌, true, IsTrue, IfOk, IfSome, length, map, slice_get, Some, None, List, [], ◌∷◌, ℕ};
 ghost use Rattle.flatgrammar.specs.Places.{In, AreDifferent};
 ghost use Rattle.flatgrammar.specs.NodeSteps.{flat_of};
 ghost use Rattle.flatgrammar.specs.TableViews.{GiveRoots, AreNulls, null_of, call_of, done_of};
@@ -7,12 +7,15 @@ ghost use Rattle.earley.specs.Closed.{Hold, HoldAll, Keeps, IsClosed};
 ghost use Rattle.earley.specs.Worklist.{IsPassed};
 ghost use Rattle.earley.specs.ItemSets.{Adds, IsResumed, waiting_in, IsCompleted};
 ghost use Rattle.flatgrammar.specs.Blocks.{block_of, item_at, begin_count, IsHead, IsLate, AreTables, AreCalls};
+ghost use Rattle.earley.specs.Waiting.{Chain, AreWaiting, AreWaitingAll};
+ghost use Rattle.flatgrammar.specs.declared.flat_item.Item as code_item;
 ghost use Rattle.earley.specs.FrontViews.{expand, full, view, views, IsAsked, IsOn, IsFurther, IsGoing};
 
 use crate::front::{Front, is_among};
 use crate::heads::Heads;
 use crate::items::Items;
 use crate::letter::Letter;
+use crate::wait::{Wait, first_at};
 use flatgrammar::{Item, Spot, Tables, call, calls, done, null, passes, spots};
 use ruletable::Memory;
 
@@ -22,11 +25,14 @@ fn resume_one(flat: &Tables, root: usize, item: Item, set: &mut Items) -> Result
 {
     if let Some((called, step)) = call(flat, item) {
         if called == root {
-            set.add(Item {
-                node: item.node,
-                step,
-                origin: item.origin,
-            })?;
+            set.add(
+                Item {
+                    node: item.node,
+                    step,
+                    origin: item.origin,
+                },
+                0,
+            )?;
         }
     }
     Ok(())
@@ -118,14 +124,66 @@ fn resume_all(
     Ok(())
 }
 
+/// Returns the index of a head. The home is looked at first.
+fn home_of(heads: &[usize], home: usize, head: usize) -> Option<usize>
+    ensures { IfSome result (λ index. slice_get heads.now index ≡ Some head) }
+{
+    if home < heads.len() && heads[home] == head {
+        Some(home)
+    } else {
+        None
+    }
+}
+
+/// Adds what is listed from a link on.
+fn go_along(waits: &[Wait], first: usize, set: &mut Items) -> Result<(), Memory>
+    requires { (items : List code_item.Item) × (Chain waits.now first items) }
+    ensures { IfOk result (λ done. (items : List code_item.Item) → Chain waits.now first items → Adds (λ a. In a items) set.old set.new) }
+{
+    let mut at = first;
+    while at > 0 {
+        let wait = waits[at - 1];
+        set.add(wait.item, wait.home)?;
+        at = wait.next;
+    }
+    Ok(())
+}
+
+/// Adds what goes on from a set where a root is done.
+fn go_on(
+    flat: &Tables,
+    root: usize,
+    front: &Front,
+    origin: usize,
+    home: usize,
+    set: &mut Items,
+) -> Result<(), Memory>
+    requires calls { AreCalls flat.now }
+    requires waiting { AreWaiting flat.now (view flat.now origin front.now) front.now.heads.items front.now.firsts.items front.now.waits.items }
+    ensures { IfOk result (λ done. Adds (IsResumed flat.now root (view flat.now origin front.now)) set.old set.new) }
+{
+    match home_of(&front.heads, home, root) {
+        Some(index) => go_along(&front.waits, first_at(&front.firsts, index), set)?,
+        None => resume_all(flat, root, front, origin, set)?,
+    }
+    Ok(())
+}
+
 /// Adds what goes on from earlier sets where an item is done.
-fn complete(flat: &Tables, sets: &[Front], item: Item, set: &mut Items) -> Result<(), Memory>
-    requires { AreCalls flat.now }
+fn complete(
+    flat: &Tables,
+    sets: &[Front],
+    item: Item,
+    home: usize,
+    set: &mut Items,
+) -> Result<(), Memory>
+    requires calls { AreCalls flat.now }
+    requires waiting { AreWaitingAll flat.now sets.now }
     ensures { IfOk result (λ done. Adds (IsCompleted flat.now (views flat.now 0 sets.now) [] item) set.old set.new) }
 {
     if done(flat, item) {
         if let Some(front) = sets.get(item.origin) {
-            resume_all(flat, item.node, front, item.origin, set)?;
+            go_on(flat, item.node, front, item.origin, home, set)?;
         }
     }
     Ok(())
@@ -142,28 +200,38 @@ fn ask(flat: &Tables, item: Item, heads: &mut Heads) -> Result<(), Memory>
 }
 
 /// Adds the item after one that calls a nullable root.
-fn pass(flat: &Tables, item: Item, set: &mut Items) -> Result<(), Memory>
+fn pass(flat: &Tables, item: Item, home: usize, set: &mut Items) -> Result<(), Memory>
     ensures { IfOk result (λ done. Adds (IsOn flat.now item) set.old set.new) }
 {
     if let Some((root, step)) = call(flat, item) {
         if null(flat, root) && step != item.step {
-            set.add(Item {
-                node: item.node,
-                step,
-                origin: item.origin,
-            })?;
+            set.add(
+                Item {
+                    node: item.node,
+                    step,
+                    origin: item.origin,
+                },
+                home,
+            )?;
         }
     }
     Ok(())
 }
 
 /// Adds what goes on where an item stands.
-fn advance(flat: &Tables, sets: &[Front], item: Item, set: &mut Items) -> Result<(), Memory>
-    requires { AreCalls flat.now }
+fn advance(
+    flat: &Tables,
+    sets: &[Front],
+    item: Item,
+    home: usize,
+    set: &mut Items,
+) -> Result<(), Memory>
+    requires calls { AreCalls flat.now }
+    requires waiting { AreWaitingAll flat.now sets.now }
     ensures { IfOk result (λ done. Adds (IsFurther flat.now (views flat.now 0 sets.now) item) set.old set.new) }
 {
-    pass(flat, item, set)?;
-    complete(flat, sets, item, set)?;
+    pass(flat, item, home, set)?;
+    complete(flat, sets, item, home, set)?;
     Ok(())
 }
 
@@ -178,15 +246,18 @@ fn note_all(calls: &[usize], heads: &mut Heads) -> Result<(), Memory>
 }
 
 /// Adds spots with an origin.
-fn add_all(spots: &[Spot], origin: usize, set: &mut Items) -> Result<(), Memory>
+fn add_all(spots: &[Spot], origin: usize, home: usize, set: &mut Items) -> Result<(), Memory>
     ensures { IfOk result (λ done. Adds (λ a. In a (map (item_at origin) spots.now)) set.old set.new) }
 {
     for spot in spots {
-        set.add(Item {
-            node: spot.node,
-            step: spot.step,
-            origin,
-        })?;
+        set.add(
+            Item {
+                node: spot.node,
+                step: spot.step,
+                origin,
+            },
+            home,
+        )?;
     }
     Ok(())
 }
@@ -196,15 +267,17 @@ fn work(
     flat: &Tables,
     sets: &[Front],
     item: Item,
+    home: usize,
     heads: &mut Heads,
     items: &mut Items,
 ) -> Result<(), Memory>
-    requires { AreCalls flat.now }
+    requires calls { AreCalls flat.now }
+    requires waiting { AreWaitingAll flat.now sets.now }
     ensures heads { IfOk result (λ done. Adds (IsAsked flat.now item) heads.old heads.new) }
     ensures items { IfOk result (λ done. Adds (IsFurther flat.now (views flat.now 0 sets.now) item) items.old items.new) }
 {
     ask(flat, item, heads)?;
-    advance(flat, sets, item, items)?;
+    advance(flat, sets, item, home, items)?;
     Ok(())
 }
 
@@ -213,6 +286,7 @@ fn open(
     flat: &Tables,
     head: usize,
     origin: usize,
+    home: usize,
     heads: &mut Heads,
     items: &mut Items,
 ) -> Result<(), Memory>
@@ -220,7 +294,7 @@ fn open(
     ensures items { IfOk result (λ done. Adds (λ a. In a (map (item_at origin) (block_of flat.now head).passes)) items.old items.new) }
 {
     note_all(calls(flat, head), heads)?;
-    add_all(passes(flat, head), origin, items)?;
+    add_all(passes(flat, head), origin, home, items)?;
     Ok(())
 }
 
@@ -236,6 +310,7 @@ pub(crate) fn fill<L: Letter>(
     requires nulls { AreNulls (flat_of flat.now) flat.now.nulls.items }
     requires tables { AreTables flat.now }
     requires calls { AreCalls flat.now }
+    requires waiting { AreWaitingAll flat.now sets.now }
     requires earlier { HoldAll (flat_of flat.now) (map L.number line.now) (views flat.now 0 sets.now) }
     requires begun { IsGoing flat.now (map L.number line.now) (views flat.now 0 sets.now) 0 0 heads.old items.old }
     ensures held { IfOk result (λ done. Hold (flat_of flat.now) (map L.number line.now) (length (views flat.now 0 sets.now)) (full (block_of flat.now) (length (views flat.now 0 sets.now)) heads.new items.new)) }
@@ -248,11 +323,12 @@ pub(crate) fn fill<L: Letter>(
     loop {
         if item_index < items.len() {
             let item = items.at(item_index);
-            work(flat, sets, item, heads, items)?;
+            let home = items.home(item_index);
+            work(flat, sets, item, home, heads, items)?;
             item_index += 1;
         } else if head_index < heads.len() {
             let head = heads.at(head_index);
-            open(flat, head, sets.len(), heads, items)?;
+            open(flat, head, sets.len(), head_index, heads, items)?;
             head_index += 1;
         } else {
             return Ok(());

@@ -33,6 +33,8 @@ impl Model for Heads {
 fn index_of(list: &[usize], table: &[usize], head: usize) -> Option<usize>
     requires { IsTable list.now table.now }
     ensures found { IfSome result (λ index. slice_get list.now index ≡ Some head) }
+    ensures within { IfSome result (λ index. index < length list.now) }
+    ensures only { IfSome result (λ index. (i : ℕ) → slice_get list.now i ≡ Some head → i ≡ index) }
     ensures none { IfNone result (In head list.now → ⊥) }
 {
     let index = match table.get(head) {
@@ -101,9 +103,18 @@ impl Heads {
         self.list[index]
     }
 
+    /// Returns the heads.
+    pub(crate) fn list(&self) -> &[usize]
+        ensures { result.now ≡ self.now }
+    {
+        &self.list
+    }
+
     /// Returns the index of a head.
     pub(crate) fn find(&self, head: usize) -> Option<usize>
         ensures found { IfSome result (λ index. slice_get self.now index ≡ Some head) }
+        ensures within { IfSome result (λ index. index < length self.now) }
+        ensures only { IfSome result (λ index. (i : ℕ) → slice_get self.now i ≡ Some head → i ≡ index) }
         ensures none { IfNone result (In head self.now → ⊥) }
     {
         index_of(&self.list, &self.table, head)

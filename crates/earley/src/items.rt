@@ -25,6 +25,8 @@ pub(crate) struct Items {
     links: Vec<usize>,
     // of each row one more than the index of its last item
     rows: Vec<usize>,
+    // of each item the index of the head that it belongs to in the set of its origin. It is not relied on
+    homes: Vec<usize>,
 }
 
 impl Model for Items {
@@ -141,6 +143,16 @@ fn insert(
     Ok(())
 }
 
+// Sets the home of an index.
+fn set_home(homes: &mut Vec<usize>, index: usize, home: usize) -> Result<(), Memory> {
+    if index < homes.len() {
+        homes[index] = home;
+    } else {
+        homes.push(home)?;
+    }
+    Ok(())
+}
+
 impl Items {
     /// Returns no items. It takes no memory.
     pub(crate) fn new(alloc: Global) -> Items
@@ -150,6 +162,7 @@ impl Items {
             list: Vec::new(alloc),
             links: Vec::new(alloc),
             rows: Vec::new(alloc),
+            homes: Vec::new(alloc),
         }
     }
 
@@ -168,14 +181,41 @@ impl Items {
         self.list[index]
     }
 
+    /// Returns the items.
+    pub(crate) fn list(&self) -> &[Item]
+        ensures { result.now ≡ self.now }
+    {
+        &self.list
+    }
+
+    /// Returns the home of the item at that index.
+    pub(crate) fn home(&self, index: usize) -> usize {
+        match self.homes.get(index) {
+            Some(home) => *home,
+            None => 0,
+        }
+    }
+
+    /// Returns the homes that it had, in exchange for memory.
+    pub(crate) fn take_homes(&mut self, memory: Vec<usize>) -> Vec<usize>
+        ensures { self.new ≡ self.old }
+    {
+        mem::replace(&mut self.homes, memory)
+    }
+
     /// Adds an item unless it is there. `Memory` if an allocation fails.
-    pub(crate) fn add(&mut self, item: Item) -> Result<(), Memory>
+    pub(crate) fn add(&mut self, item: Item, home: usize) -> Result<(), Memory>
         ensures { IfOk result (λ done. Adds (λ a. a ≡ item) self.old self.new) }
     {
         if self.rows.is_empty() {
             self.rows.resize(FIRST, 0)?;
         }
-        insert(&mut self.list, &mut self.links, &mut self.rows, item)
+        let index = self.list.len();
+        insert(&mut self.list, &mut self.links, &mut self.rows, item)?;
+        if index < self.list.len() {
+            set_home(&mut self.homes, index, home)?;
+        }
+        Ok(())
     }
 
     /// Empties it, and keeps its memory.

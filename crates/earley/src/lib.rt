@@ -9,6 +9,7 @@ mod item;
 mod items;
 mod letter;
 mod read_front;
+mod wait;
 
 pub use chart::{Chart, judge};
 pub use letter::Letter;

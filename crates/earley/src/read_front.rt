@@ -14,25 +14,46 @@ use flatgrammar::{Item, Spot, Tables, reads, spots};
 use ruletable::Memory;
 
 /// Adds what an item reads.
-fn read_one(flat: &Tables, value: u32, item: Item, set: &mut Items) -> Result<(), Memory>
+fn read_one(
+    flat: &Tables,
+    value: u32,
+    item: Item,
+    home: usize,
+    set: &mut Items,
+) -> Result<(), Memory>
     ensures { IfOk result (λ done. Adds (IsRead flat.now value (item ∷ [])) set.old set.new) }
 {
     if reads(flat, item, value) {
-        set.add(Item {
-            node: item.node,
-            step: item.step + 1,
-            origin: item.origin,
-        })?;
+        set.add(
+            Item {
+                node: item.node,
+                step: item.step + 1,
+                origin: item.origin,
+            },
+            home,
+        )?;
     }
     Ok(())
 }
 
 /// Adds what items read.
-fn read_items(flat: &Tables, value: u32, from: &[Item], set: &mut Items) -> Result<(), Memory>
+fn read_items(
+    flat: &Tables,
+    value: u32,
+    from: &[Item],
+    homes: &[usize],
+    set: &mut Items,
+) -> Result<(), Memory>
     ensures { IfOk result (λ done. Adds (IsRead flat.now value from.now) set.old set.new) }
 {
+    let mut index = 0usize;
     for item in from {
-        read_one(flat, value, *item, set)?;
+        let home = match homes.get(index) {
+            Some(home) => *home,
+            None => 0,
+        };
+        read_one(flat, value, *item, home, set)?;
+        index = index.wrapping_add(1);
     }
     Ok(())
 }
@@ -43,6 +64,7 @@ fn read_spots(
     value: u32,
     from: &[Spot],
     origin: usize,
+    home: usize,
     set: &mut Items,
 ) -> Result<(), Memory>
     ensures { IfOk result (λ done. Adds (IsRead flat.now value (map (item_at origin) from.now)) set.old set.new) }
@@ -56,6 +78,7 @@ fn read_spots(
                 step: spot.step,
                 origin,
             },
+            home,
             set,
         )?;
     }
@@ -72,8 +95,10 @@ fn read_heads(
 ) -> Result<(), Memory>
     ensures { IfOk result (λ done. Adds (IsRead flat.now value (expand (block_of flat.now) origin heads.now)) set.old set.new) }
 {
+    let mut home = 0usize;
     for head in heads {
-        read_spots(flat, value, spots(flat, *head), origin, set)?;
+        read_spots(flat, value, spots(flat, *head), origin, home, set)?;
+        home = home.wrapping_add(1);
     }
     Ok(())
 }
@@ -90,6 +115,6 @@ pub(crate) fn read<L: Letter>(
 {
     let value = letter.value();
     read_heads(flat, value, &from.heads, origin, set)?;
-    read_items(flat, value, &from.items, set)?;
+    read_items(flat, value, &from.items, &from.homes, set)?;
     Ok(())
 }

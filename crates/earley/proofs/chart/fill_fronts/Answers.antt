@@ -2,6 +2,8 @@ use Rattle.std.proofs.Common.{◌≡◌, ℕ, Some, slice_get, ◌+◌, ◌≤�
 use Rattle.earley.specs.declared.front.Front.{Front}
 use Rattle.earley.specs.Charts.{IsBuilt}
 use Rattle.earley.specs.FrontViews.{view, views}
+use Rattle.earley.specs.Waiting.{AreWaiting, AreWaitingAll}
+use Rattle.earley.proofs.WaitingLemmas.{waiting_push}
 use Rattle.earley.proofs.IsBuiltLemmas.{built_exact}
 use Rattle.earley.proofs.ViewsLemmas.{going_from, built_by}
 use Rattle.earley.proofs.ChartSetsLemmas.{sized_push}
@@ -13,6 +15,9 @@ fill-requires-clause-begun g c =
     c.deref.result.now c.deref-in-loop-alloc.result.now c.deref-in-loop-alloc-2.result.now c.deref.ensures.value c.deref-in-loop-alloc.ensures.value c.deref-in-loop-alloc-2.ensures.value
     c.loop-alloc.heads c.loop-alloc.items c.loop-alloc.invariant.no_heads c.loop-alloc.invariant.no_items c.loop-alloc.invariant.built c.begin.new.heads c.follow.new.items
     c.in_ok-begin.ensures c.in_ok-follow.ensures
+
+pub fill-requires-clause-waiting : goal.fill-requires-clause-waiting
+fill-requires-clause-waiting g c = subst (λ v. AreWaitingAll c.args.flat.now v) (sym c.deref-in-loop-alloc-2.ensures.value) c.loop-alloc.invariant.waiting
 
 pub loop-alloc-preserved : goal.loop-alloc-preserved
 loop-alloc-preserved g c =
@@ -32,6 +37,9 @@ loop-alloc-preserved g c =
           subst (λ v. length v ≤ length c.args.line.now + 1) (sym c.in_ok-push.ensures.items) short);
       no_heads = c.in_ok-front.ensures.no_heads;
       no_items = c.in_ok-front.ensures.no_items;
+      waiting = subst (λ v. AreWaitingAll c.args.flat.now v) (sym c.in_ok-push.ensures.items) (waiting_push c.args.flat.now c.loop-alloc.sets.items front c.loop-alloc.invariant.waiting
+          (subst (λ n. AreWaiting c.args.flat.now (view c.args.flat.now n front) front.heads.items front.firsts.items front.waits.items)
+          (let count : c.len-in-loop-alloc.result ≡ length c.loop-alloc.sets.items = (let e = c.len-in-loop-alloc.ensures in omega (arith, e, ok)) in count) c.in_ok-front.ensures.waiting));
       sized = subst (λ v. (j : ℕ) (f : Front) → slice_get v j ≡ Some f → f.size ≡ length (view c.args.flat.now j f)) (sym c.in_ok-push.ensures.items)
           (sized_push c.args.flat.now c.loop-alloc.sets.items front c.loop-alloc.invariant.sized c.in_ok-front.ensures.size);
     }

@@ -29,3 +29,9 @@ returns-else-index-list-clause-none c h =
       | else-index-list-via-then-index-list+else-list-index w ↦ absurd (w.if-list-index.false (or_get c.args.list.now c.in-Some.index.now _ c.args.head here))
       | else-index-list-via-else-index-list w ↦ absurd (let no = w.if-index-list.false in omega (arith, no, lt))
     ]
+
+pub returns-then-list-index-clause-only : goal.returns-then-list-index-clause-only
+returns-then-list-index-clause-only c i e =
+    let k = c.in-Some.ensures.lookup in
+    let at : slice_get c.args.table.now c.args.head ≡ Some c.in-Some.index.now = get_is c.args.table.now c.args.head c.in-Some.index.now (ltb-true c.args.head (length c.args.table.now) (sym k.0)) k.1 in
+    some_same (sym (c.requires i c.args.head e) ∙ at)

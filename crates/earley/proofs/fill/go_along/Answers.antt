@@ -1,0 +1,22 @@
+use Rattle.std.proofs.Common.{◌≡◌, ℕ, ◌-◌, ◌<◌, length, arith}
+use Rattle.earley.proofs.WaitingLemmas.{chain_within, chain_next, along_start, along_next, along_end}
+use Rattle.earley.proofs.fill.go_along.Goals as goal
+
+pub loop-at-init : goal.loop-at-init
+loop-at-init c es chain = along_start c.args.waits.now c.args.first es c.args.set.now chain
+
+pub bounds-waits-at : goal.bounds-waits-at
+bounds-waits-at c =
+    let a = c.loop-at.invariant c.requires.0 c.requires.1 in
+    let le = chain_within a.chain in
+    let pos = c.loop-at-test.true in
+    omega (arith, le, pos)
+
+pub loop-at-smaller : goal.loop-at-smaller
+loop-at-smaller c = (chain_next _ (c.loop-at.invariant c.requires.0 c.requires.1).chain c.loop-at-test.true).less
+
+pub loop-at-preserved : goal.loop-at-preserved
+loop-at-preserved c es chain = along_next c.args.waits.now c.loop-at.at es _ _ _ _ (c.loop-at.invariant es chain) c.loop-at-test.true c.in_ok-add.ensures
+
+pub returns : goal.returns
+returns c es chain = along_end c.args.waits.now c.loop-at.at es _ _ (c.loop-at.invariant es chain) (let test = c.loop-at-test.false in omega (arith, test))

@@ -1,0 +1,162 @@
+//! What waits for the heads of a set.
+ghost use Rattle.std.specs.Prelude.{◌≡◌, ◌++◌, ◌∷◌, ℕ, List, [], length, map, slice_index_or, IfOk};
+ghost use Rattle.flatgrammar.specs.Blocks.{block_of, item_at};
+ghost use Rattle.flatgrammar.specs.declared.flat_item.Item as code_item;
+ghost use Rattle.earley.specs.FrontViews.{expand, full};
+ghost use Rattle.earley.specs.Waiting.{AreWaiting};
+
+use crate::heads::Heads;
+use crate::items::Items;
+use flatgrammar::{Item, Spot, Tables, call, spots};
+use ruletable::Memory;
+
+/// What goes on where a head is done: the item, its home, and one more than the index of the next one of that head, or 0.
+#[derive(Clone, Copy)]
+pub(crate) struct Wait {
+    pub(crate) item: Item,
+    pub(crate) home: usize,
+    pub(crate) next: usize,
+}
+
+/// Returns one more than the index of the first that waits for the head of an index, or 0.
+pub(crate) fn first_at(firsts: &[usize], index: usize) -> usize
+    ensures { result ≡ slice_index_or firsts.now index 0 }
+{
+    match firsts.get(index) {
+        Some(first) => *first,
+        None => 0,
+    }
+}
+
+// Lists nothing for any of so many heads.
+fn empty_firsts(count: usize, firsts: &mut Vec<usize>) -> Result<(), Memory>
+    ensures none { IfOk result (λ done. (h : ℕ) → slice_index_or firsts.new.items h 0 ≡ 0) }
+    ensures long { IfOk result (λ done. length firsts.new.items ≡ count) }
+{
+    firsts.clear();
+    firsts.resize(count, 0)?;
+    Ok(())
+}
+
+// Lists what goes on behind an item for the head that it calls.
+fn wait_one(
+    flat: &Tables,
+    heads: &Heads,
+    item: Item,
+    home: usize,
+    firsts: &mut Vec<usize>,
+    waits: &mut Vec<Wait>,
+) -> Result<(), Memory>
+    requires { length firsts.old.items ≡ length heads.now }
+    ensures long { length firsts.new.items ≡ length firsts.old.items }
+    ensures more { IfOk result (λ done. (seen : List code_item.Item) → AreWaiting flat.now seen heads.now firsts.old.items waits.old.items →
+        AreWaiting flat.now (seen ++ item ∷ []) heads.now firsts.new.items waits.new.items) }
+{
+    let Some((root, step)) = call(flat, item) else {
+        return Ok(());
+    };
+    let Some(index) = heads.find(root) else {
+        return Ok(());
+    };
+    let item = Item {
+        node: item.node,
+        step,
+        origin: item.origin,
+    };
+    let next = firsts[index];
+    waits.push(Wait { item, home, next })?;
+    firsts[index] = waits.len();
+    Ok(())
+}
+
+// Lists what goes on behind the spots of a block.
+fn wait_spots(
+    flat: &Tables,
+    heads: &Heads,
+    from: &[Spot],
+    place: (usize, usize),
+    firsts: &mut Vec<usize>,
+    waits: &mut Vec<Wait>,
+) -> Result<(), Memory>
+    requires { length firsts.old.items ≡ length heads.now }
+    ensures long { length firsts.new.items ≡ length firsts.old.items }
+    ensures more { IfOk result (λ done. (seen : List code_item.Item) → AreWaiting flat.now seen heads.now firsts.old.items waits.old.items →
+        AreWaiting flat.now (seen ++ map (item_at place.0) from.now) heads.now firsts.new.items waits.new.items) }
+{
+    for spot in from {
+        let item = Item {
+            node: spot.node,
+            step: spot.step,
+            origin: place.0,
+        };
+        wait_one(flat, heads, item, place.1, firsts, waits)?;
+    }
+    Ok(())
+}
+
+// Lists what goes on behind the blocks of the heads.
+fn wait_heads(
+    flat: &Tables,
+    heads: &Heads,
+    list: &[usize],
+    origin: usize,
+    firsts: &mut Vec<usize>,
+    waits: &mut Vec<Wait>,
+) -> Result<(), Memory>
+    requires { length firsts.old.items ≡ length heads.now }
+    ensures long { length firsts.new.items ≡ length firsts.old.items }
+    ensures more { IfOk result (λ done. (seen : List code_item.Item) → AreWaiting flat.now seen heads.now firsts.old.items waits.old.items →
+        AreWaiting flat.now (seen ++ expand (block_of flat.now) origin list.now) heads.now firsts.new.items waits.new.items) }
+{
+    let mut home = 0usize;
+    for head in list {
+        wait_spots(
+            flat,
+            heads,
+            spots(flat, *head),
+            (origin, home),
+            firsts,
+            waits,
+        )?;
+        home = home.wrapping_add(1);
+    }
+    Ok(())
+}
+
+// Lists what goes on behind items.
+fn wait_items(
+    flat: &Tables,
+    heads: &Heads,
+    items: &Items,
+    firsts: &mut Vec<usize>,
+    waits: &mut Vec<Wait>,
+) -> Result<(), Memory>
+    requires { length firsts.old.items ≡ length heads.now }
+    ensures { IfOk result (λ done. (seen : List code_item.Item) → AreWaiting flat.now seen heads.now firsts.old.items waits.old.items →
+        AreWaiting flat.now (seen ++ items.now) heads.now firsts.new.items waits.new.items) }
+{
+    let mut home = 0usize;
+    for item in items.list() {
+        wait_one(flat, heads, *item, items.home(home), firsts, waits)?;
+        home = home.wrapping_add(1);
+    }
+    Ok(())
+}
+
+/// Lists for each head what goes on where it is done.
+pub(crate) fn wait_all(
+    flat: &Tables,
+    heads: &Heads,
+    items: &Items,
+    origin: usize,
+    firsts: &mut Vec<usize>,
+    waits: &mut Vec<Wait>,
+) -> Result<(), Memory>
+    ensures { IfOk result (λ done. AreWaiting flat.now (full (block_of flat.now) origin heads.now items.now) heads.now firsts.new.items waits.new.items) }
+{
+    empty_firsts(heads.len(), firsts)?;
+    waits.clear();
+    wait_heads(flat, heads, heads.list(), origin, firsts, waits)?;
+    wait_items(flat, heads, items, firsts, waits)?;
+    Ok(())
+}
