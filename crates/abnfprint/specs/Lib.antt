@@ -1,0 +1,3 @@
+pub mod CanonicalAbnf
+pub mod FormedAbnf
+pub mod AbnfReadBack

@@ -1,0 +1,8 @@
+//! Writes the canonical text of grammars in ABNF (RFC 5234, RFC 7405).
+#![tactic(auto)]
+
+mod place;
+mod print;
+mod terminal;
+
+pub use print::{is_abnf_read_back, print_abnf};
