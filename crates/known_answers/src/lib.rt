@@ -12,6 +12,10 @@ mod feed_window;
 #[cfg(test)]
 mod grammar_notes;
 #[cfg(test)]
+mod printed_abnf;
+#[cfg(test)]
+mod refused_abnf;
+#[cfg(test)]
 mod refused_texts;
 #[cfg(test)]
 mod shared_parts;
