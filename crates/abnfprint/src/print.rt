@@ -135,8 +135,9 @@ fn print_definition<W: Sink>(name: &[u8], body: &Elem, w: &mut W) -> Result<(), 
 /// and with no parentheses but those that it needs. Core rules that the file leaves alone aren't written. `WriteFault`
 /// where the writer fails; then a beginning of the text is written.
 ///
-/// Where the grammar was read from some text, and the canonical text has at most `MAX_GRAMMAR` bytes, that text reads as
-/// the same rules, but for their spans, and as nothing else. It takes no memory, and recurses no deeper than the elements.
+/// Where the grammar was read from some text, and the canonical text has at most `MAX_GRAMMAR` bytes, that text reads
+/// as the same rules, but for their spans, and as nothing else. It takes no memory, and recurses no deeper than the
+/// elements.
 pub fn print_abnf<W: Sink>(abnf: &Abnf, w: &mut W) -> Result<(), WriteFault>
     ensures bytes { Writes (W.contents w.old) (W.contents w.new) (canon.grammar_text (rules_of abnf.now.rules)) result }
     ensures flag { Flags (W.failed w.old) (W.failed w.new) result }
@@ -151,10 +152,10 @@ pub fn print_abnf<W: Sink>(abnf: &Abnf, w: &mut W) -> Result<(), WriteFault>
     Ok(())
 }
 
-/// Laws of canonical texts. The rules that a text reads as, their canonical text reads as too, but for spans, and as nothing
-/// else; no bracket is too many, and no number too large. The canonical text tells nothing of spans, so that of a canonical
-/// text is itself. And the rules that a text reads as are formed: names are names, texts and prose hold what they may, no
-/// concatenation or alternation has fewer than two parts, and no number is over its limit.
+/// Laws of canonical texts. The rules that a text reads as, their canonical text reads as too, but for spans, and as
+/// nothing else; no bracket is too many, and no number too large. The canonical text tells nothing of spans, so that of
+/// a canonical text is itself. And the rules that a text reads as are formed: names are names, texts and prose hold what
+/// they may, no concatenation or alternation has fewer than two parts, and no number is over its limit.
 pub fn is_abnf_read_back()
     ensures read_back { ReadBack }
     ensures spans { SpansUnseen }

@@ -1,6 +1,7 @@
 //! Texts in ABNF that are refused, with the fault and the line, by hand.
 use abnfread::{MAX_REPEAT, MAX_VALUE, read_abnf};
-use ruletable::ReadFault;
+use lexer::MAX_GRAMMAR;
+use ruletable::{LineRule, ReadFault, line_of};
 use std::alloc::Global;
 use std::process::Abort;
 use std::test::Fail;
@@ -86,11 +87,8 @@ static BEGINNINGS: [(&[u8], &[usize]); 2] = [
 #[test]
 fn refuses_beginnings_at_their_last_line(rt: HostRuntime) {
     for (text, lengths) in &BEGINNINGS {
-        let mut line = 1;
         for size in 0..=text.len() {
-            if size > 0 && text[size - 1] == b'\n' {
-                line += 1;
-            }
+            let line = line_of(text, size, LineRule::Lf);
             let found = fault_of(rt.alloc(), &text[..size]);
             let want = if lengths.contains(&size) {
                 None
@@ -154,5 +152,14 @@ fn tells_too_many_brackets(rt: HostRuntime) -> Result<(), Fail> {
     assert!(rt; fault_of(rt.alloc(), &most) == Some(ReadFault::Syntax { line: 2 }));
     let over = opened(rt.alloc(), 201)?;
     assert!(rt; fault_of(rt.alloc(), &over) == Some(ReadFault::Depth { line: 2 }));
+    Ok(())
+}
+
+#[test]
+fn tests_the_length_first(rt: HostRuntime) -> Result<(), Fail> {
+    let mut comment = vec![in rt.alloc(); b';'; MAX_GRAMMAR]?;
+    assert!(rt; fault_of(rt.alloc(), &comment) == Some(ReadFault::Syntax { line: 1 }));
+    comment.push(b';')?;
+    assert!(rt; fault_of(rt.alloc(), &comment) == Some(ReadFault::TooLong));
     Ok(())
 }
