@@ -8,6 +8,7 @@ ghost use Rattle.cells.specs.Entries.{found_at};
 ghost use Rattle.desk.specs.State.{HaveTaken, HaveFailed, IsUnderWay, AreCells};
 ghost use Rattle.desk.specs.Turns.{same_turn, opt_turn, and_turn, not_turn, star_turn, plus_turn, IsLeafTurn, IsWalk, IsSearch, IsTurn};
 
+use crate::frame::Frame;
 use cells::{Cells, Found};
 use gramcheck::{Node, SoundPeg};
 use pegmatch::{Tried, match_any, match_bytes, match_set};
@@ -40,9 +41,9 @@ fn ask(node: usize, place: usize) -> Turn
     }
 }
 
-// A comparison that reaches the last byte of a window behind which there is more is no answer.
+/// What was tried, where its comparison does not reach the last byte of a window behind which there is more.
 #[inline(always)]
-fn leaf_turn(tried: Tried, window: &[u8], more: bool) -> Turn
+pub(crate) fn leaf_turn(tried: Tried, window: &[u8], more: bool) -> Turn
     ensures { IsLeafTurn tried (length window.now) more result }
 {
     if more && tried.looked == window.len() {
@@ -163,34 +164,32 @@ fn first(cells: &Cells, alternatives: &[usize], next: usize, place: usize) -> Tu
     Turn::Answer(Found::Failed)
 }
 
-/// What the evaluation of a node at a place does next, so many of its members done, and those before ending at `end`.
+/// What the evaluation of a frame's node at its place does next.
 #[inline(always)]
 pub(crate) fn next_turn(
     peg: &SoundPeg,
     window: &[u8],
     more: bool,
     cells: &Cells,
-    node: usize,
-    place: usize,
-    next: usize,
-    end: usize,
+    frame: Frame,
 ) -> Turn
     requires sound { IsSoundGrammar peg.now }
-    requires spells { SpellsSome (rules_of peg.now.rules) (shapes_of peg.now.nodes) node }
-    requires place { place ≤ length window.now }
+    requires spells { SpellsSome (rules_of peg.now.rules) (shapes_of peg.now.nodes) frame.node }
+    requires place { frame.place ≤ length window.now }
     requires some { more ≡ true → 0 < length window.now }
     requires right { AreCells (rules_of peg.now.rules) peg.now.start (shapes_of peg.now.nodes) peg.now.bodies window.now more cells.now }
-    requires come { IsUnderWay (rules_of peg.now.rules) peg.now.start (shapes_of peg.now.nodes) peg.now.bodies window.now more cells.now node place next end }
-    ensures { IsTurn (rules_of peg.now.rules) peg.now.start (shapes_of peg.now.nodes) peg.now.bodies window.now more cells.now node place result }
+    requires come { IsUnderWay (rules_of peg.now.rules) peg.now.start (shapes_of peg.now.nodes) peg.now.bodies window.now more cells.now frame.node frame.place frame.next frame.end }
+    ensures { IsTurn (rules_of peg.now.rules) peg.now.start (shapes_of peg.now.nodes) peg.now.bodies window.now more cells.now frame.node frame.place result }
 {
-    let turned = match peg.node(node) {
+    let place = frame.place;
+    let turned = match peg.node(frame.node) {
         Node::Any => leaf_turn(match_any(window, place), window, more),
         Node::Bytes(bytes) => leaf_turn(match_bytes(bytes, window, place), window, more),
         Node::Set(set) => leaf_turn(match_set(set, window, place), window, more),
         Node::Name(id) => same(cells, peg.body_node(*id), place),
-        Node::Seq(members) => all(cells, members, next, end),
-        Node::Choice(alternatives) => first(cells, alternatives, next, place),
-        Node::Star(operand) => star(cells, node, *operand, place),
+        Node::Seq(members) => all(cells, members, frame.next, frame.end),
+        Node::Choice(alternatives) => first(cells, alternatives, frame.next, place),
+        Node::Star(operand) => star(cells, frame.node, *operand, place),
         Node::Plus { operand, star } => plus(cells, *star, *operand, place),
         Node::Opt(operand) => opt(cells, *operand, place),
         Node::And(operand) => and(cells, *operand, place),

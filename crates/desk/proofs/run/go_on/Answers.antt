@@ -1,61 +1,46 @@
-use Rattle.std.proofs.lemmas.Bool.{both_ways}
-use Rattle.desk.proofs.IsStepLemmas.{read_top, some_frame, is_top}
-use Rattle.desk.proofs.IsNextLemmas.{leaf_top, pushed_next, leaf_need, leaf_next, top_need, dropped_next, ended_next}
+use Rattle.std.proofs.Common.{refl, ap}
+use Rattle.desk.proofs.IsNextLemmas.{at_top, leaf_top, pushed_next, leaf_need, leaf_next, top_need, dropped_next, ended_next}
 use Rattle.desk.proofs.run.go_on.Goals as goal
 
 pub next_turn-requires-clause-spells : goal.next_turn-requires-clause-spells
-next_turn-requires-clause-spells c =
-    (is_top _ _ _ c.start-start.ensures.sound _ _ _ c.requires.fits (read_top _ _ _ _ c.requires.frame.2 (c.top-top.ensures _ _ c.requires.frame.2))).spelled
+next_turn-requires-clause-spells c = (at_top _ _ _ c.start-start.ensures.sound _ _ _ c.requires.fits).spelled
 
 pub next_turn-requires-clause-place : goal.next_turn-requires-clause-place
-next_turn-requires-clause-place c =
-    (is_top _ _ _ c.start-start.ensures.sound _ _ _ c.requires.fits (read_top _ _ _ _ c.requires.frame.2 (c.top-top.ensures _ _ c.requires.frame.2))).high
+next_turn-requires-clause-place c = (at_top _ _ _ c.start-start.ensures.sound _ _ _ c.requires.fits).high
+
+pub next_turn-requires-clause-come : goal.next_turn-requires-clause-come
+next_turn-requires-clause-come c = (at_top _ _ _ c.start-start.ensures.sound _ _ _ c.requires.fits).come
 
 pub leaf_of-requires-clause-spells : goal.leaf_of-requires-clause-spells
-leaf_of-requires-clause-spells c =
-    let is = read_top _ _ _ _ c.requires.frame.2 (c.top-top.ensures _ _ c.requires.frame.2) in
-    (leaf_top _ _ _ c.start-start.ensures.sound _ _ _ _ c.requires.fits is _ _ _ _ c.in-Ask.ensures).spelled
+leaf_of-requires-clause-spells c = (leaf_top _ _ _ c.start-start.ensures.sound _ _ _ c.requires.fits _ _ _ _ c.in-Ask.ensures).spelled
 
 pub leaf_of-requires-clause-place : goal.leaf_of-requires-clause-place
-leaf_of-requires-clause-place c =
-    let is = read_top _ _ _ _ c.requires.frame.2 (c.top-top.ensures _ _ c.requires.frame.2) in
-    (leaf_top _ _ _ c.start-start.ensures.sound _ _ _ _ c.requires.fits is _ _ _ _ c.in-Ask.ensures).high
-
-pub leaf_of-requires-clause-come : goal.leaf_of-requires-clause-come
-leaf_of-requires-clause-come c =
-    let is = read_top _ _ _ _ c.requires.frame.2 (c.top-top.ensures _ _ c.requires.frame.2) in
-    (leaf_top _ _ _ c.start-start.ensures.sound _ _ _ _ c.requires.fits is _ _ _ _ c.in-Ask.ensures).come
+leaf_of-requires-clause-place c = (leaf_top _ _ _ c.start-start.ensures.sound _ _ _ c.requires.fits _ _ _ _ c.in-Ask.ensures).high
 
 pub returns-in-Need : goal.returns-in-Need
-returns-in-Need c =
-    let is = read_top _ _ _ _ c.requires.frame.2 (c.top-top.ensures _ _ c.requires.frame.2) in
-    top_need _ _ _ c.start-start.ensures.sound _ _ _ _ c.requires.fits is c.in-Need.ensures
+returns-in-Need c = top_need _ _ _ c.start-start.ensures.sound _ _ _ c.requires.fits c.in-Need.ensures c.args.cells.now c.args.below.now
 
-pub returns-then-is_empty : goal.returns-then-is_empty
-returns-then-is_empty c =
-    let is = read_top _ _ _ _ c.requires.frame.2 (c.top-top.ensures _ _ c.requires.frame.2) in
-    ended_next _ _ _ c.start-start.ensures.sound _ _ _ _ c.requires.fits is _ _ _ c.in-Answer.ensures c.in_ok-put-in-Answer.ensures.added
-    (c.pop.ensures _ _ is) (c.is_empty.ensures.0 c.if-is_empty.true)
+pub returns-in-Some : goal.returns-in-Some
+returns-in-Some c =
+    dropped_next _ _ _ c.start-start.ensures.sound _ _ _ c.requires.fits _ _ c.in-Answer.ensures c.in_ok-put-in-Answer.ensures.added _ _ c.in-Some.ensures.some
 
-pub returns-else-is_empty : goal.returns-else-is_empty
-returns-else-is_empty c =
-    let is = read_top _ _ _ _ c.requires.frame.2 (c.top-top.ensures _ _ c.requires.frame.2) in
-    let some = some_frame c.pop.new.self (λ none. both_ways c.is_empty.result c.if-is_empty.false (c.is_empty.ensures.1 none)) in
-    dropped_next _ _ _ c.start-start.ensures.sound _ _ _ _ c.requires.fits is _ _ _ c.in-Answer.ensures c.in_ok-put-in-Answer.ensures.added
-    (c.pop.ensures _ _ is) _ _ some.2
+pub returns-in-None : goal.returns-in-None
+returns-in-None c =
+    let none = c.in-None.ensures.none in
+    ended_next _ _ _ c.start-start.ensures.sound _ _ _ c.requires.fits _ _ c.in-Answer.ensures c.in_ok-put-in-Answer.ensures.added _ none.0 none.1
 
 pub returns-in_ok-put-in-Some-Answer : goal.returns-in_ok-put-in-Some-Answer
 returns-in_ok-put-in-Some-Answer c =
-    let is = read_top _ _ _ _ c.requires.frame.2 (c.top-top.ensures _ _ c.requires.frame.2) in
-    leaf_next _ _ _ c.start-start.ensures.sound _ _ _ _ c.requires.fits is _ _ _ _ c.in-Ask.ensures _ _ _
-    (rw c.in-Some-Answer.field-0-is at c.in-Some-Answer.ensures) c.in_ok-put-in-Some-Answer.ensures.added (c.come_on.ensures _ _ is)
+    let right = c.requires.fits.cells in
+    leaf_next _ _ _ c.start-start.ensures.sound _ _ _ c.requires.fits _ _ _ _ c.in-Ask.ensures _ _
+    ((rw c.in-Some-Answer.field-0-is at c.in-Some-Answer.ensures) _ right) c.in_ok-put-in-Some-Answer.ensures.added
 
 pub returns-in-Some-Need : goal.returns-in-Some-Need
 returns-in-Some-Need c =
-    let is = read_top _ _ _ _ c.requires.frame.2 (c.top-top.ensures _ _ c.requires.frame.2) in
-    leaf_need _ _ _ c.start-start.ensures.sound _ _ _ _ c.requires.fits is _ _ _ _ c.in-Ask.ensures (rw c.in-Some-Need.field-0-is at c.in-Some-Need.ensures)
+    let right = c.requires.fits.cells in
+    leaf_need _ _ _ c.start-start.ensures.sound _ _ _ c.requires.fits _ _ _ _ c.in-Ask.ensures ((rw c.in-Some-Need.field-0-is at c.in-Some-Need.ensures) _ right)
+    c.args.cells.now c.args.below.now
 
-pub returns-in_ok-advance-in_default : goal.returns-in_ok-advance-in_default
-returns-in_ok-advance-in_default c =
-    let is = read_top _ _ _ _ c.requires.frame.2 (c.top-top.ensures _ _ c.requires.frame.2) in
-    pushed_next _ _ _ c.start-start.ensures.sound _ _ _ _ c.requires.fits is _ _ _ _ c.in-Ask.ensures _ (c.in_ok-advance-in_default.ensures _ _ is)
+pub returns-in_ok-push-in_default : goal.returns-in_ok-push-in_default
+returns-in_ok-push-in_default c =
+    pushed_next _ _ _ c.start-start.ensures.sound _ _ _ c.requires.fits _ _ _ _ c.in-Ask.ensures _ _ c.beginning.ensures c.in_ok-push-in_default.ensures
