@@ -1,20 +1,13 @@
 //! A match without a frame for a node that asks for nothing.
-ghost use Rattle.std.specs.Prelude.{◌≡◌, ◌+◌, ◌<◌, ◌≤◌, List, [], ◌∷◌, length, slice_get, Some, true, IfOk, IfSome};
-ghost use Rattle.pegread.specs.Views.{rules_of};
-ghost use Rattle.gramcheck.specs.Grammar.{IsSoundGrammar};
-ghost use Rattle.gramcheck.specs.Nodes.{shapes_of};
-ghost use Rattle.pegmatch.specs.Kept.{SpellsSome};
-ghost use Rattle.cells.specs.Entries.{Entry};
+ghost use Rattle.std.specs.Prelude.{◌≡◌, ◌+◌, ◌<◌, ◌≤◌, List, [], ◌∷◌, length, slice_get, Some, true, IfOk};
 ghost use Rattle.desk.specs.Desk.{counted, Fits, IsNext, IsMatched};
-ghost use Rattle.desk.specs.State.{AreCells};
-ghost use Rattle.desk.specs.Turns.{IsTurn};
 
 use crate::advance::beginning;
+use crate::ahead::{Halt, turn_on};
 use crate::frame::{Frame, Frames};
-use crate::turn::{Turn, leaf_turn, next_turn};
+use crate::turn::Turn;
 use cells::{Cells, Found};
-use gramcheck::{Node, SoundPeg};
-use pegmatch::{match_any, match_bytes, match_set};
+use gramcheck::SoundPeg;
 use ruletable::Memory;
 
 /// What a turn of a match does.
@@ -28,29 +21,7 @@ pub(crate) enum Next {
     Need,
 }
 
-// What a node without operands gives at a place, whatever the cells; none for any other node.
-#[inline(always)]
-fn leaf_of(peg: &SoundPeg, window: &[u8], more: bool, node: usize, place: usize) -> Option<Turn>
-    requires sound { IsSoundGrammar peg.now }
-    requires spells { SpellsSome (rules_of peg.now.rules) (shapes_of peg.now.nodes) node }
-    requires place { place ≤ length window.now }
-    requires some { more ≡ true → 0 < length window.now }
-    ensures { IfSome result (λ turn. (cells : List Entry) → AreCells (rules_of peg.now.rules) peg.now.start (shapes_of peg.now.nodes) peg.now.bodies window.now more cells →
-        IsTurn (rules_of peg.now.rules) peg.now.start (shapes_of peg.now.nodes) peg.now.bodies window.now more cells node place turn) }
-{
-    match peg.node(node) {
-        Node::Any => Some(leaf_turn(match_any(window, place), window, more)),
-        Node::Bytes(bytes) => Some(leaf_turn(match_bytes(bytes, window, place), window, more)),
-        Node::Set(set) => Some(leaf_turn(match_set(set, window, place), window, more)),
-        Node::Act(_) => Some(Turn::Answer(Found::Took(place))),
-        Node::Open => Some(Turn::Answer(Found::Took(place))),
-        Node::Close => Some(Turn::Answer(Found::Took(place))),
-        _ => None,
-    }
-}
-
-/// Goes on with the last frame, `top`; those below it are kept apart. Where it asks for a node without operands, that
-/// node's cell comes in at once, with no frame of its own.
+/// Goes on with the last frame, `top`; those below it are kept apart.
 #[inline(always)]
 fn go_on(
     peg: &SoundPeg,
@@ -65,38 +36,30 @@ fn go_on(
     ensures { IfOk result (IsNext peg.now window.now more (counted cells.old (top ∷ below.old)) cells.new below.new) }
 {
     let _start = peg.start();
-    match next_turn(peg, window, more, cells, top) {
-        Turn::Need => Ok(Next::Need),
-        Turn::Answer(found) => {
+    match turn_on(peg, window, more, cells, top) {
+        Err(Halt::Memory) => Err(Memory),
+        Err(Halt::Short) => Ok(Next::Need),
+        Ok(Turn::Need) => Ok(Next::Need),
+        Ok(Turn::Answer(found)) => {
             cells.put(top.node, top.place, found)?;
             match below.take() {
                 Some(frame) => Ok(Next::More(frame)),
                 None => Ok(Next::Ended(found)),
             }
         }
-        Turn::Ask {
+        Ok(Turn::Ask {
             node,
             place,
             next,
             end,
-        } => {
-            let come = Frame {
+        }) => {
+            below.push(Frame {
                 node: top.node,
                 place: top.place,
                 next,
                 end,
-            };
-            match leaf_of(peg, window, more, node, place) {
-                Some(Turn::Answer(found)) => {
-                    cells.put(node, place, found)?;
-                    Ok(Next::More(come))
-                }
-                Some(Turn::Need) => Ok(Next::Need),
-                _ => {
-                    below.push(come)?;
-                    Ok(Next::More(beginning(node, place)))
-                }
-            }
+            })?;
+            Ok(Next::More(beginning(node, place)))
         }
     }
 }

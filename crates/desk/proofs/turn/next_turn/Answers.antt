@@ -25,27 +25,27 @@ returns-in-Set c =
 
 pub returns-in-Name : goal.returns-in-Name
 returns-in-Name c =
-    rw c.same-turned.ensures (name_is_turn _ _ _ _ _ _ _ c.requires.sound c.args.cells.now c.requires.right.found c.args.frame.node c.args.frame.place c.requires.spells _ _ _ (shape_at c.args.peg.now.nodes c.args.frame.node _ (c.node.ensures ∙ ap Some c.in-Name.is)) c.body_node.ensures refl)
+    rw c.same-turned.ensures (name_is_turn _ _ _ _ _ _ _ c.requires.sound c.args.cells.now c.requires.right.found c.args.frame.node c.args.frame.place c.requires.spells _ _ _ (shape_at c.args.peg.now.nodes c.args.frame.node _ (c.node.ensures ∙ ap Some c.in-Name.is)) c.body_node-body.ensures c.get.ensures)
 
 pub returns-in-Opt : goal.returns-in-Opt
 returns-in-Opt c =
-    rw c.opt-turned.ensures (opt_is_turn _ _ _ _ _ _ _ c.requires.sound c.args.cells.now c.requires.right.found c.args.frame.node c.args.frame.place c.requires.spells _ _ (shape_at c.args.peg.now.nodes c.args.frame.node _ (c.node.ensures ∙ ap Some c.in-Opt.is)) refl)
+    rw c.opt-turned.ensures (opt_is_turn _ _ _ _ _ _ _ c.requires.sound c.args.cells.now c.requires.right.found c.args.frame.node c.args.frame.place c.requires.spells _ _ (shape_at c.args.peg.now.nodes c.args.frame.node _ (c.node.ensures ∙ ap Some c.in-Opt.is)) c.get-in-Opt.ensures)
 
 pub returns-in-And : goal.returns-in-And
 returns-in-And c =
-    rw c.and-turned.ensures (and_is_turn _ _ _ _ _ _ _ c.requires.sound c.args.cells.now c.requires.right.found c.args.frame.node c.args.frame.place c.requires.spells _ _ (shape_at c.args.peg.now.nodes c.args.frame.node _ (c.node.ensures ∙ ap Some c.in-And.is)) refl)
+    rw c.and-turned.ensures (and_is_turn _ _ _ _ _ _ _ c.requires.sound c.args.cells.now c.requires.right.found c.args.frame.node c.args.frame.place c.requires.spells _ _ (shape_at c.args.peg.now.nodes c.args.frame.node _ (c.node.ensures ∙ ap Some c.in-And.is)) c.get-in-And.ensures)
 
 pub returns-in-Not : goal.returns-in-Not
 returns-in-Not c =
-    rw c.not-turned.ensures (not_is_turn _ _ _ _ _ _ _ c.requires.sound c.args.cells.now c.requires.right.found c.args.frame.node c.args.frame.place c.requires.spells _ _ (shape_at c.args.peg.now.nodes c.args.frame.node _ (c.node.ensures ∙ ap Some c.in-Not.is)) refl)
+    rw c.not-turned.ensures (not_is_turn _ _ _ _ _ _ _ c.requires.sound c.args.cells.now c.requires.right.found c.args.frame.node c.args.frame.place c.requires.spells _ _ (shape_at c.args.peg.now.nodes c.args.frame.node _ (c.node.ensures ∙ ap Some c.in-Not.is)) c.get-in-Not.ensures)
 
 pub returns-in-Star : goal.returns-in-Star
 returns-in-Star c =
-    rw c.star-turned.ensures (star_is_turn _ _ _ _ _ _ _ c.requires.sound c.args.cells.now c.requires.right.found c.args.frame.node c.args.frame.place c.requires.spells _ _ (shape_at c.args.peg.now.nodes c.args.frame.node _ (c.node.ensures ∙ ap Some c.in-Star.is)) refl)
+    rw c.star-turned.ensures (star_is_turn _ _ _ _ _ _ _ c.requires.sound c.args.cells.now c.requires.right.found c.args.frame.node c.args.frame.place c.requires.spells _ _ (shape_at c.args.peg.now.nodes c.args.frame.node _ (c.node.ensures ∙ ap Some c.in-Star.is)) c.get-found.ensures)
 
 pub returns-in-Plus : goal.returns-in-Plus
 returns-in-Plus c =
-    rw c.plus-turned.ensures (plus_is_turn _ _ _ _ _ _ _ c.requires.sound c.args.cells.now c.requires.right.found c.args.frame.node c.args.frame.place c.requires.spells _ _ _ (shape_at c.args.peg.now.nodes c.args.frame.node _ (c.node.ensures ∙ ap Some c.in-Plus.is)) refl)
+    rw c.plus-turned.ensures (plus_is_turn _ _ _ _ _ _ _ c.requires.sound c.args.cells.now c.requires.right.found c.args.frame.node c.args.frame.place c.requires.spells _ _ _ (shape_at c.args.peg.now.nodes c.args.frame.node _ (c.node.ensures ∙ ap Some c.in-Plus.is)) c.get-found-in-Plus.ensures)
 
 pub returns-in-Seq : goal.returns-in-Seq
 returns-in-Seq c =

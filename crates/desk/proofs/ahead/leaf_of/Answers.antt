@@ -3,7 +3,7 @@ use Rattle.gramcheck.specs.Nodes.{spells_any, spells_bytes, spells_set, spells_a
 use Rattle.gramcheck.specs.Outcome.{act, open_at, close_at}
 use Rattle.pegmatch.proofs.Spelled.{shape_at}
 use Rattle.desk.proofs.IsTurnLemmas.{leaf_turns, mark_turns}
-use Rattle.desk.proofs.run.leaf_of.Goals as goal
+use Rattle.desk.proofs.ahead.leaf_of.Goals as goal
 
 pub returns-in-Any : goal.returns-in-Any
 returns-in-Any c = λ cells right.
