@@ -1,5 +1,5 @@
 #!/usr/bin/env python3
-"""Prints crates/gramtools/src/tests/examples.rt: a test of the folders of examples/, which holds their texts word for word.
+"""Prints crates/known_runs/src/tests/examples.rt: a test of the folders of examples/, which holds their texts word for word.
 
 With the word `check` it compares the file with what it would print, and prints nothing.
 """
@@ -7,13 +7,13 @@ import pathlib
 import sys
 
 top = pathlib.Path(__file__).resolve().parent.parent
-file = top / "crates/gramtools/src/tests/examples.rt"
+file = top / "crates/known_runs/src/tests/examples.rt"
 inputs = {"calculator": "input.txt", "csv": "input.txt", "json": "input.txt", "peg": "peg.peg", "username": "letter.txt"}
 
 HEAD = '''//! The folders of `examples/`, word for word: `scripts/example_tests.py` wrote this file.
 
 use super::{Row, check_rows};
-use crate::{DEFAULT_LIMIT, Status};
+use gramtools::{DEFAULT_LIMIT, Status};
 use std::process::Abort;
 
 /// Checks that a grammar takes all of an input, prints this and tells nothing.

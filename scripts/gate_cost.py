@@ -1,14 +1,18 @@
 #!/usr/bin/env python3
-"""Measures what each part of the gate costs, crate by crate, in minutes of processor time, and prints a table.
+"""Runs the gate and prints what it costs: minutes of processor time of each crate's proof, tests and edits.
 
-usage: gate_cost.py [proofs|tests|edits|programs ..] [CRATE ..]
+usage: gate_cost.py [WORD ..]
 
-With no part named it measures all four, with no crate named all of crates.txt. It works on a copy of what git tracks, in a
-temporary folder, so that nothing is kept from earlier runs. RT names the command, `rt` if not set.
+The words are those of another command of `rt`, as `must-fail feed`; with none it is `ci`. It runs in a copy of what git
+tracks, in a temporary folder, so that nothing is kept from earlier runs. RT names the command, `rt` if not set.
 
-proofs: the crate proved from nothing. tests: the crate and its tests proved from nothing again, built and run, as the gate
-does. edits: its must-fail edits. programs: a program built and run.
+proofs: each crate proved from nothing. tests: the crate proved again with its tests. edits: the edits that the prover
+must refuse. rest: what compiles, links and runs, and the work of `rt` itself.
+
+The processor time of each process of the prover is read twice a second, so a process that ends between two readings
+misses up to half a second. The total is exact.
 """
+import collections
 import os
 import pathlib
 import resource
@@ -16,13 +20,14 @@ import shutil
 import subprocess
 import sys
 import tempfile
+import time
 
-PARTS = ("proofs", "tests", "edits", "programs")
+from crates import in_order
+
 TOP = pathlib.Path(__file__).resolve().parent.parent
-sys.path.insert(0, str(TOP / "scripts"))
-from crates import below, in_order
-
 RT = os.environ.get("RT", "rt").split()
+PARTS = ("proofs", "tests", "edits")
+TICKS = os.sysconf("SC_CLK_TCK")
 
 
 def copy_tree(to):
@@ -35,61 +40,63 @@ def copy_tree(to):
     subprocess.run(["git", "init", "-q", "."], cwd=to, check=True)
 
 
-def cost(words, folder):
-    """Returns the minutes of processor time of a command and its children."""
-    before = resource.getrusage(resource.RUSAGE_CHILDREN)
-    ran = subprocess.run([*RT, *words], cwd=folder, stdout=subprocess.PIPE, stderr=subprocess.STDOUT, text=True)
-    after = resource.getrusage(resource.RUSAGE_CHILDREN)
-    if ran.returncode:
-        sys.exit(f"{ran.stdout[-3000:]}\n{' '.join(words)} failed in {folder}")
-    return (after.ru_utime + after.ru_stime - before.ru_utime - before.ru_stime) / 60
+def part_of(words, folder):
+    """Returns the crate and the part for which a process of the prover works; none for any other process."""
+    if pathlib.Path(words[0]).name != "rattle" or "--crate-name" not in words:
+        return None
+    crate = words[words.index("--crate-name") + 1]
+    if pathlib.Path(folder).name.startswith("rt-edit-"):
+        return crate, "edits"
+    return crate, "tests" if "--test" in words else "proofs"
 
 
-def proof(folder):
-    """Returns the command that proves a crate, and builds what the crates above need."""
-    return ["lib"] if (folder / "src/lib.rt").is_file() else ["check"]
+def read_processes(session, found):
+    """Notes the processor time so far of each process of the prover in the session."""
+    for folder in pathlib.Path("/proc").glob("[0-9]*"):
+        try:
+            fields = (folder / "stat").read_text().rpartition(")")[2].split()
+            if int(fields[3]) != session:
+                continue
+            words = (folder / "cmdline").read_bytes().decode(errors="replace").split("\0")
+            part = part_of(words, os.readlink(folder / "cwd"))
+        except (OSError, ValueError, IndexError):
+            continue
+        if part:
+            found[folder.name, fields[19]] = part, (int(fields[11]) + int(fields[12])) / TICKS
 
 
-def costs(top, crate, parts):
-    """Returns the minutes of each part of a crate."""
-    folder = top / "crates" / crate
-    minutes = cost(proof(folder), folder)
-    found = {"proofs": minutes} if "proofs" in parts else {}
-    has_tests = any("#[test]" in file.read_text() for file in folder.glob("src/**/*.rt"))
-    if "tests" in parts and has_tests:
-        shutil.move(folder / "out", folder / "kept")
-        found["tests"] = cost(["test"], folder)
-        shutil.rmtree(folder / "out")
-        shutil.move(folder / "kept", folder / "out")
-    if "edits" in parts and (folder / "must-fail").is_dir():
-        found["edits"] = cost(["must-fail", crate], top)
-    if "programs" in parts and (folder / "src/main.rt").is_file():
-        found["programs"] = cost(["run"], folder)
-    return found
+def run_and_read(words, folder):
+    """Runs a command of `rt`. Returns its exit status, the minutes of each crate and part, and all minutes."""
+    found = {}
+    with tempfile.TemporaryFile("w+") as out:
+        run = subprocess.Popen([*RT, *words], cwd=folder, stdout=out, stderr=subprocess.STDOUT, start_new_session=True)
+        while run.poll() is None:
+            read_processes(run.pid, found)
+            time.sleep(0.5)
+        out.seek(0)
+        print("".join(out.readlines()[-5:]), end="")
+    used = resource.getrusage(resource.RUSAGE_CHILDREN)
+    minutes = collections.Counter()
+    for part, seconds in found.values():
+        minutes[part] += seconds / 60
+    return run.returncode, minutes, (used.ru_utime + used.ru_stime) / 60
 
 
 def main(words):
-    parts = [it for it in words if it in PARTS] or PARTS
-    crates = in_order(TOP)
-    wanted = [it for it in words if it not in PARTS] or crates
-    strange = [it for it in wanted if it not in crates]
-    if strange:
-        sys.exit(f"{__doc__}\nno part and no crate: {' '.join(strange)}")
-    print("| Crate | " + " | ".join(PARTS) + " |\n|---|" + "---|" * len(PARTS))
-    whole = dict.fromkeys(PARTS, 0.0)
-    with tempfile.TemporaryDirectory() as room:
-        copied = pathlib.Path(room)
-        copy_tree(copied)
-        needed = {*wanted}.union(*(below(TOP, it) for it in wanted))
-        for crate in (it for it in crates if it in needed):
-            if crate not in wanted:
-                cost(proof(copied / "crates" / crate), copied / "crates" / crate)
-                continue
-            found = costs(copied, crate, parts)
-            for part, minutes in found.items():
-                whole[part] += minutes
-            print(f"| `{crate}` | " + " | ".join(f"{found[it]:.1f}" if it in found else "" for it in PARTS) + " |", flush=True)
-    print("| all | " + " | ".join(f"{whole[it]:.1f}" for it in PARTS) + f" |\n\n{sum(whole.values()):.0f} minutes of processor in all")
+    with tempfile.TemporaryDirectory(prefix="gate-") as folder:
+        copy_tree(pathlib.Path(folder))
+        start = time.monotonic()
+        status, minutes, total = run_and_read(words or ["ci"], folder)
+        wall = (time.monotonic() - start) / 60
+    print(f"\n| Crate | {' | '.join(PARTS)} | sum |\n|---|{'---|' * (len(PARTS) + 1)}")
+    for crate in in_order(TOP):
+        row = [minutes[crate, part] for part in PARTS]
+        if sum(row):
+            print(f"| `{crate}` | {' | '.join(f'{it:.1f}' if it else '' for it in row)} | {sum(row):.1f} |")
+    sums = [sum(it for (_, at), it in minutes.items() if at == part) for part in PARTS]
+    print(f"| all | {' | '.join(f'{it:.1f}' for it in sums)} | {sum(sums):.1f} |")
+    print(f"\nrest: {total - sum(sums):.1f}; in all {total:.1f} minutes of processor time, {wall:.1f} of wall clock")
+    return status
 
 
-main(sys.argv[1:])
+sys.exit(main(sys.argv[1:]))

@@ -23,6 +23,3 @@ pub use marks::{AbnfTokenIter, MarkedToken};
 pub use number::{MAX_REPEAT, MAX_VALUE};
 pub use read::read_abnf;
 pub use table::Abnf;
-
-#[cfg(test)]
-mod tests;

@@ -8,6 +8,3 @@ mod rows;
 
 pub use cell::Found;
 pub use map::Cells;
-
-#[cfg(test)]
-mod tests;

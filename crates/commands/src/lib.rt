@@ -5,11 +5,7 @@ mod command;
 mod fault;
 mod mains;
 mod reading;
-#[cfg(test)]
-mod row_tests;
 mod settings;
-#[cfg(test)]
-mod tests;
 
 pub use command::{is_a_simple_command, parse, pegi_command};
 pub use fault::refuse_invalid_utf8;

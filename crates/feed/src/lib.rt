@@ -4,8 +4,6 @@
 mod feed;
 mod held;
 mod source;
-#[cfg(test)]
-mod tests;
 
 pub use feed::Feed;
 pub use held::{Flow, Held};

@@ -27,6 +27,3 @@ pub use ranked_laws::{
     exactly_one_outcome, exactly_one_outcome_of_start, ranks_fall, some_outcome_of_ranked,
 };
 pub use sound::SoundPeg;
-
-#[cfg(test)]
-mod tests;

@@ -2,8 +2,6 @@
 #![tactic(auto)]
 
 mod engine;
-#[cfg(test)]
-mod fakes;
 mod finish;
 mod laws;
 mod notes;
@@ -12,8 +10,6 @@ mod run;
 mod settings;
 mod status;
 mod stop;
-#[cfg(test)]
-mod tests;
 mod unit;
 
 pub use feed::{Broken, Source, SourceOf};

@@ -2,7 +2,15 @@
 #![tactic(auto)]
 
 #[cfg(test)]
+mod abnf_texts;
+#[cfg(test)]
 mod canonical_texts;
+#[cfg(test)]
+mod cell_table;
+#[cfg(test)]
+mod feed_window;
+#[cfg(test)]
+mod grammar_notes;
 #[cfg(test)]
 mod refused_texts;
 #[cfg(test)]
@@ -11,3 +19,5 @@ mod shared_parts;
 mod spellings;
 #[cfg(test)]
 mod token_rows;
+#[cfg(test)]
+mod unit_texts;

@@ -17,6 +17,3 @@ pub use leaves::{Tried, match_any, match_bytes, match_set};
 pub use matcher::{Matcher, ReplayFault, Unit};
 pub use plain::Plain;
 pub use writing::{Capture, NO_CAPTURE, capture_after, write_event};
-
-#[cfg(test)]
-mod tests;

@@ -1,6 +1,6 @@
 //! The program's words, its files, and what it writes, over readers and writers in memory.
 
-use crate::{
+use commands::{
     Asked, is_a_simple_command, parse, pegi_command, pegi_main, read_words, refuse_invalid_utf8,
     settings_of,
 };

@@ -2,7 +2,7 @@
 
 use super::{USERNAME, run_over};
 use crate::fakes::{Paper, Tape};
-use crate::{DEFAULT_LIMIT, Mode, Settings, Status};
+use gramtools::{DEFAULT_LIMIT, Mode, Settings, Status};
 use std::alloc::Global;
 use std::cell::Cell;
 use std::process::Abort;

@@ -1,6 +1,6 @@
 //! Whole runs of the program, with the grammar in a file.
 
-use crate::tests::run_on;
+use crate::command_words::run_on;
 use gramtools::Status;
 use std::test::Fail;
 

@@ -1,6 +1,6 @@
 //! The checks of whole texts: their notes, and the grammars that are ready to run.
 
-use crate::{
+use gramcheck::{
     Node, SoundPeg, check_peg, events_rise, events_rise_of_start, exactly_one_outcome,
     exactly_one_outcome_of_start, longer_input, longer_input_of_start, one_list_of_notes,
     one_outcome, one_outcome_of_start, ranks_fall, shorter_input, shorter_input_of_start,
@@ -178,7 +178,7 @@ fn notes(rt: HostRuntime) -> Result<(), Fail> {
 // The lines of the notes on what a grammar's text defines again.
 fn lines_on_redefinitions(alloc: Global, text: &[u8]) -> Result<Vec<u8>, Fail> {
     let peg = read_peg(alloc, text)?;
-    let notes = crate::redefinitions(alloc, &peg)?;
+    let notes = gramcheck::redefinitions(alloc, &peg)?;
     let mut sink = SinkOf::new(Vec::new(alloc));
     for note in notes.iter() {
         write_note(note, &mut sink)?;

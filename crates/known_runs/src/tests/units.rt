@@ -2,7 +2,7 @@
 
 use super::{Row, USERNAME, check_rows, limited, run_over};
 use crate::fakes::{Paper, Tape};
-use crate::{DEFAULT_LIMIT, Mode, Settings, Status};
+use gramtools::{DEFAULT_LIMIT, Mode, Settings, Status};
 use std::cell::Cell;
 use std::test::Fail;
 

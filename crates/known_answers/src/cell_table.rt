@@ -1,6 +1,6 @@
 //! Cells that were put are found, and no others, also where rows are folded and after a reset.
 
-use crate::{Cells, Found};
+use cells::{Cells, Found};
 use std::process::Abort;
 use std::test::Fail;
 

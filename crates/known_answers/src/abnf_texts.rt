@@ -1,5 +1,5 @@
 //! Tokens, texts that are read, texts that are refused, and the core rules.
-use crate::{Abnf, AbnfKind, Elem, abnf_tokens, core_rules, read_abnf};
+use abnfread::{Abnf, AbnfKind, Elem, abnf_tokens, core_rules, read_abnf};
 use ruletable::ReadFault;
 use std::process::Abort;
 use std::test::Fail;

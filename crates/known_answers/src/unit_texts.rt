@@ -1,7 +1,7 @@
 //! Units by hand.
 
-use crate::{Matcher, Plain, Unit, answer_stands, need_stands, one_answer};
 use gramcheck::{SoundPeg, check_peg};
+use pegmatch::{Matcher, Plain, Unit, answer_stands, need_stands, one_answer};
 use pegread::read_peg;
 use ruletable::SinkOf;
 use std::alloc::Global;

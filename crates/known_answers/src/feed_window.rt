@@ -1,6 +1,6 @@
 //! A window over a few bytes.
 
-use crate::{Feed, Held, Source, SourceOf};
+use feed::{Feed, Held, Source, SourceOf};
 use std::test::Fail;
 
 #[test]

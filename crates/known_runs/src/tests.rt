@@ -2,7 +2,7 @@
 ghost use Rattle.std.specs.Prelude.{◌<◌};
 
 use crate::fakes::{Paper, Tape};
-use crate::{MAX_LIMIT, Mode, Settings, SourceOf, Status, one_reply, one_statement, run_peg};
+use gramtools::{MAX_LIMIT, Mode, Settings, SourceOf, Status, one_reply, one_statement, run_peg};
 use ruletable::SinkOf;
 use std::alloc::Global;
 use std::cell::Cell;

@@ -1,0 +1,12 @@
+//! Whole runs of the engine and of the command line, over readers, writers and files in memory, on rows whose answers a
+//! manual or a hand gives.
+#![tactic(auto)]
+
+#[cfg(test)]
+mod command_rows;
+#[cfg(test)]
+mod command_words;
+#[cfg(test)]
+mod fakes;
+#[cfg(test)]
+mod tests;
