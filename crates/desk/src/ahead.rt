@@ -79,7 +79,7 @@ fn see(
 
 // On through the members of a sequence.
 #[inline(always)]
-fn all(
+fn all_on(
     peg: &SoundPeg,
     window: &[u8],
     more: bool,
@@ -115,7 +115,7 @@ fn all(
 
 // On through the alternatives of a choice.
 #[inline(always)]
-fn first(
+fn first_on(
     peg: &SoundPeg,
     window: &[u8],
     more: bool,
@@ -166,8 +166,8 @@ pub(crate) fn turn_on(
     let _start = peg.start();
     let place = top.place;
     match peg.node(top.node) {
-        Node::Seq(members) => all(peg, window, more, cells, members, top),
-        Node::Choice(alternatives) => first(peg, window, more, cells, alternatives, top),
+        Node::Seq(members) => all_on(peg, window, more, cells, members, top),
+        Node::Choice(alternatives) => first_on(peg, window, more, cells, alternatives, top),
         Node::Name(id) => {
             let body = peg.body_node(*id);
             match see(peg, window, more, cells, body, place) {

@@ -14,11 +14,11 @@ node-requires c =
     let there = is_there _ _ (at_top _ _ _ c.start-start.ensures.sound _ _ _ c.requires.fits.1).spelled.1 in
     omega (arith, there, length-map c.args.peg.now.nodes shape_of)
 
-pub all-requires-clause-members : goal.all-requires-clause-members
-all-requires-clause-members c = rw c.deref.ensures.value (shape_at c.args.peg.now.nodes c.args.top.node _ (c.node.ensures ∙ ap Some c.in-Seq.is))
+pub all_on-requires-clause-members : goal.all_on-requires-clause-members
+all_on-requires-clause-members c = rw c.deref.ensures.value (shape_at c.args.peg.now.nodes c.args.top.node _ (c.node.ensures ∙ ap Some c.in-Seq.is))
 
-pub first-requires-clause-alternatives : goal.first-requires-clause-alternatives
-first-requires-clause-alternatives c = rw c.deref-in-Choice.ensures.value (shape_at c.args.peg.now.nodes c.args.top.node _ (c.node.ensures ∙ ap Some c.in-Choice.is))
+pub first_on-requires-clause-alternatives : goal.first_on-requires-clause-alternatives
+first_on-requires-clause-alternatives c = rw c.deref-in-Choice.ensures.value (shape_at c.args.peg.now.nodes c.args.top.node _ (c.node.ensures ∙ ap Some c.in-Choice.is))
 
 pub body_node-body-requires : goal.body_node-body-requires
 body_node-body-requires c =

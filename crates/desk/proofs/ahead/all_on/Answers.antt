@@ -1,5 +1,5 @@
 use Rattle.desk.proofs.IsOnLemmas.{stays, next_child, member_free, member_fails, member_takes, member_halts, all_taken}
-use Rattle.desk.proofs.ahead.all.Goals as goal
+use Rattle.desk.proofs.ahead.all_on.Goals as goal
 
 pub loop-i-init : goal.loop-i-init
 loop-i-init c = λ below fits. stays _ _ _ c.start-start.ensures.sound _ _ _ fits

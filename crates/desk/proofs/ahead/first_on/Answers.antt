@@ -1,5 +1,5 @@
 use Rattle.desk.proofs.IsOnLemmas.{stays, other_child, alternative_free, alternative_takes, alternative_fails, alternative_halts, all_failed}
-use Rattle.desk.proofs.ahead.first.Goals as goal
+use Rattle.desk.proofs.ahead.first_on.Goals as goal
 
 pub loop-i-init : goal.loop-i-init
 loop-i-init c = λ below fits. stays _ _ _ c.start-start.ensures.sound _ _ _ fits
