@@ -4,6 +4,7 @@ ghost use Rattle.pegread.specs.Views.{rules_of};
 ghost use Rattle.gramcheck.specs.Grammar.{IsSoundGrammar};
 ghost use Rattle.gramcheck.specs.Nodes.{shapes_of};
 ghost use Rattle.gramcheck.specs.Outcome.{Event};
+ghost use Rattle.pegmatch.specs.Kept.{SpellsSome};
 ghost use Rattle.cells.specs.Entries.{Entry};
 ghost use Rattle.desk.specs.Desk.{beginning as begun_at};
 ghost use Rattle.desk.specs.State.{AreCells};
@@ -21,7 +22,7 @@ use pegmatch::Kept;
 #[inline(always)]
 fn begin(peg: &SoundPeg, track: &mut Track, node: usize, place: usize) -> Option<Kept>
     requires sound { IsSoundGrammar peg.now }
-    requires there { node < length peg.now.nodes }
+    requires spells { SpellsSome (rules_of peg.now.rules) (shapes_of peg.now.nodes) node }
     requires room { length track.old.frames < track.old.room }
     ensures begins { (cells : List Entry) (x : List ℕ) (more : Bool) (all : List Event) → AreCells (rules_of peg.now.rules) peg.now.start (shapes_of peg.now.nodes) peg.now.bodies x more cells →
         Walks (rules_of peg.now.rules) (shapes_of peg.now.nodes) peg.now.bodies peg.now.ranks x cells (begun_at node place ∷ track.old.frames) all →

@@ -17,13 +17,12 @@ next_way-requires-clause-there c =
     let there = is_there _ _ last.left.spelled.1 in
     omega (arith, there, length-map c.args.peg.now.nodes shape_of)
 
-pub begin-requires-clause-there : goal.begin-requires-clause-there
-begin-requires-clause-there c =
+pub begin-requires-clause-spells : goal.begin-requires-clause-spells
+begin-requires-clause-spells c =
     let is = read_top _ _ _ _ c.requires.top.2 (c.top-top.ensures _ _ c.requires.top.2) in
     let last = last_at _ _ _ _ _ _ _ _ _ _ is c.requires.walks.1 in
     let way = c.in-TurnTo.ensures _ _ _ c.requires.cells.1 last.left in
-    let there = is_there _ _ way.0.spelled.1 in
-    omega (arith, there, length-map c.args.peg.now.nodes shape_of)
+    way.0.spelled
 
 pub begin-requires-clause-room : goal.begin-requires-clause-room
 begin-requires-clause-room c =
@@ -32,13 +31,12 @@ begin-requires-clause-room c =
     let after = ap length (c.pop-in-TurnTo.ensures.frames _ _ c.requires.top.2) in
     omega (arith, deep, before, after, c.requires.room, c.pop-in-TurnTo.ensures.room)
 
-pub begin-requires-in-GoInto-clause-there : goal.begin-requires-in-GoInto-clause-there
-begin-requires-in-GoInto-clause-there c =
+pub begin-requires-in-GoInto-clause-spells : goal.begin-requires-in-GoInto-clause-spells
+begin-requires-in-GoInto-clause-spells c =
     let is = read_top _ _ _ _ c.requires.top.2 (c.top-top.ensures _ _ c.requires.top.2) in
     let last = last_at _ _ _ _ _ _ _ _ _ _ is c.requires.walks.1 in
     let way = c.in-GoInto.ensures _ _ _ c.requires.cells.1 last.left in
-    let there = is_there _ _ way.3.spelled.1 in
-    omega (arith, there, length-map c.args.peg.now.nodes shape_of)
+    way.3.spelled
 
 pub begin-requires-in-GoInto-clause-room : goal.begin-requires-in-GoInto-clause-room
 begin-requires-in-GoInto-clause-room c =
