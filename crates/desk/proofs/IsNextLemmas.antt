@@ -12,17 +12,21 @@ use Rattle.desk.specs.declared.frame.Frame.{Frame}
 use Rattle.desk.specs.declared.run.Next.TheVariants as next
 use Rattle.desk.specs.declared.turn.Turn.TheVariants.{Ask, Answer, Need}
 use Rattle.cells.specs.declared.cell.Found.TheVariants.{Failed, Took}
-use Rattle.desk.specs.Desk.{View, beginning, counted, Fits, IsStep, IsNext, IsMatched, IsOutcome, unit_of_match}
+use Rattle.desk.specs.Desk.{View, beginning, counted, Fits, IsDone, IsStep, IsNext, IsMatched, IsOutcome, unit_of_match}
 use Rattle.desk.specs.Turns.{IsTurn}
 use Rattle.desk.proofs.IsStepLemmas.{IsTop, is_top, pushed, dropped, ended, reaches, need_given, step_less}
 
 module _ (g : Grammar) (x : List ℕ) (more : Bool) (sound : IsSoundGrammar g) where
-  step_next : (old new : View) → Fits g x more old → IsStep g x more old new None → IsNext g x more old new next.More
-  step_next old new f s = (s.0, s.1, step_less g x more sound old new None f s refl)
+  step_next : (old : View) (cells : List Entry) (top : Frame) (below : List Frame) → Fits g x more old → IsStep g x more old (counted cells (top ∷ below)) None → IsNext g x more old cells below (next.More top)
+  step_next old cells top below f s = (s.0, step_less g x more sound old (counted cells (top ∷ below)) None f s refl)
 
-  module _ (cells : List Entry) (frames : List Frame) (t : Frame) (fs : List Frame) (f : Fits g x more (counted cells frames)) (is : frames ≡ t ∷ fs) where
-    size : length frames ≡ length (t ∷ fs)
-    size = ap length is
+  module _ (cells : List Entry) (t : Frame) (fs : List Frame) (f : Fits g x more (counted cells (t ∷ fs))) where
+    abbrev here : View
+    here = counted cells (t ∷ fs)
+
+    -- what is known of the last frame
+    pub at_top : IsTop g x more sound here t
+    at_top = is_top g x more sound here t fs f refl
 
     module _ (m q i r : ℕ) (turn : IsTurn (rules_of g.rules) g.start (shapes_of g.nodes) g.bodies x more cells t.node t.place (Ask m q i r)) where
       abbrev come : Frame
@@ -31,60 +35,56 @@ module _ (g : Grammar) (x : List ℕ) (more : Bool) (sound : IsSoundGrammar g) w
       abbrev pub mid : View
       mid = counted cells (beginning m q ∷ (come ∷ fs))
 
-      push : IsStep g x more (counted cells frames) mid None
-      push = pushed g x more sound (counted cells frames) mid t fs m q i r f is turn refl refl (let n = size in omega arith)
+      push : IsStep g x more here mid None
+      push = pushed g x more sound here mid t fs m q i r f refl turn refl refl (omega arith)
 
       pub leaf_top : IsTop g x more sound mid (beginning m q)
       leaf_top = is_top g x more sound mid (beginning m q) (come ∷ fs) push.0 refl
 
-      pub pushed_next : (frames' : List Frame) → frames' ≡ beginning m q ∷ (come ∷ fs) → IsNext g x more (counted cells frames) (counted cells frames') next.More
-      pushed_next frames' now = rw now (step_next (counted cells frames) mid f push)
+      pub pushed_next : (top : Frame) (below : List Frame) → top ≡ beginning m q → below ≡ come ∷ fs → IsNext g x more here cells below (next.More top)
+      pushed_next top below is now = rw (is, now) (step_next here cells (beginning m q) (come ∷ fs) f push)
 
-      pub leaf_need : IsTurn (rules_of g.rules) g.start (shapes_of g.nodes) g.bodies x more cells m q Need →
-          IsNext g x more (counted cells frames) (counted cells frames) next.Need
-      leaf_need need =
+      pub leaf_need : IsTurn (rules_of g.rules) g.start (shapes_of g.nodes) g.bodies x more cells m q Need → (cells' : List Entry) (below : List Frame) →
+          IsNext g x more here cells' below next.Need
+      leaf_need need cells' below =
           let r = reaches g x more sound mid (beginning m q) (come ∷ fs) refl need in
-          (f, need.0, need_given g x more sound mid push.0 r)
+          (need.0, need_given g x more sound mid push.0 r)
 
-      module _ (h : Found) (cells' : List Entry) (frames' : List Frame) (leaf : IsTurn (rules_of g.rules) g.start (shapes_of g.nodes) g.bodies x more cells m q (Answer h))
-          (put : cells' ≡ cells ++ record { node = m; place = q; found = h } ∷ []) (now : frames' ≡ come ∷ fs) where
-        drop_leaf : IsStep g x more mid (counted cells' frames') None
-        drop_leaf = dropped g x more sound mid (counted cells' frames') (beginning m q) (come ∷ fs) h push.0 refl leaf put now
-            (let a = ap length now in let b = ap length put in omega (arith, length-append cells (record { node = m; place = q; found = h } ∷ []))) come fs now
+      module _ (h : Found) (cells' : List Entry) (leaf : IsTurn (rules_of g.rules) g.start (shapes_of g.nodes) g.bodies x more cells m q (Answer h))
+          (put : cells' ≡ cells ++ record { node = m; place = q; found = h } ∷ []) where
+        drop_leaf : IsStep g x more mid (counted cells' (come ∷ fs)) None
+        drop_leaf = dropped g x more sound mid (counted cells' (come ∷ fs)) (beginning m q) (come ∷ fs) h push.0 refl leaf put refl
+            (let b = ap length put in omega (arith, length-append cells (record { node = m; place = q; found = h } ∷ []))) come fs refl
 
-        pub leaf_next : IsNext g x more (counted cells frames) (counted cells' frames') next.More
+        pub leaf_next : IsNext g x more here cells' fs (next.More come)
         leaf_next =
-            let one = step_less g x more sound (counted cells frames) mid None f push refl in
-            let two = step_less g x more sound mid (counted cells' frames') None push.0 drop_leaf refl in
-            (drop_leaf.0, drop_leaf.1, omega (arith, one, two))
+            let one = step_less g x more sound here mid None f push refl in
+            let two = step_less g x more sound mid (counted cells' (come ∷ fs)) None push.0 drop_leaf refl in
+            (drop_leaf.0, omega (arith, one, two))
 
-    pub top_need : IsTurn (rules_of g.rules) g.start (shapes_of g.nodes) g.bodies x more cells t.node t.place Need →
-        IsNext g x more (counted cells frames) (counted cells frames) next.Need
-    top_need need =
-        let r = reaches g x more sound (counted cells frames) t fs is need in
-        (f, need.0, need_given g x more sound (counted cells frames) f r)
+    pub top_need : IsTurn (rules_of g.rules) g.start (shapes_of g.nodes) g.bodies x more cells t.node t.place Need → (cells' : List Entry) (below : List Frame) →
+        IsNext g x more here cells' below next.Need
+    top_need need cells' below =
+        let r = reaches g x more sound here t fs refl need in
+        (need.0, need_given g x more sound here f r)
 
-    module _ (h : Found) (cells' : List Entry) (frames' : List Frame) (turn : IsTurn (rules_of g.rules) g.start (shapes_of g.nodes) g.bodies x more cells t.node t.place (Answer h))
-        (put : cells' ≡ cells ++ record { node = t.node; place = t.place; found = h } ∷ []) (now : frames' ≡ fs) where
-      same_count : length cells' + length frames' ≡ length cells + length frames
-      same_count = let a = ap length now in let b = ap length put in let n = size in omega (arith, length-append cells (record { node = t.node; place = t.place; found = h } ∷ []))
+    module _ (h : Found) (cells' : List Entry) (turn : IsTurn (rules_of g.rules) g.start (shapes_of g.nodes) g.bodies x more cells t.node t.place (Answer h))
+        (put : cells' ≡ cells ++ record { node = t.node; place = t.place; found = h } ∷ []) where
+      same_count : length cells' + length fs ≡ length cells + length (t ∷ fs)
+      same_count = let b = ap length put in omega (arith, length-append cells (record { node = t.node; place = t.place; found = h } ∷ []))
 
-      pub dropped_next : (u : Frame) (us : List Frame) → frames' ≡ u ∷ us → IsNext g x more (counted cells frames) (counted cells' frames') next.More
+      pub dropped_next : (u : Frame) (us : List Frame) → fs ≡ u ∷ us → IsNext g x more here cells' us (next.More u)
       dropped_next u us there =
-          step_next (counted cells frames) (counted cells' frames') f
-          (dropped g x more sound (counted cells frames) (counted cells' frames') t fs h f is turn put now same_count u us there)
+          let s = dropped g x more sound here (counted cells' fs) t fs h f refl turn put refl same_count u us there in
+          step_next here cells' u us f (subst (λ v. IsStep g x more here (counted cells' v) None) there s)
 
-      pub ended_next : frames' ≡ [] → IsNext g x more (counted cells frames) (counted cells' frames') (next.Ended h)
-      ended_next none =
-          let e = ended g x more sound (counted cells frames) (counted cells' frames') t fs h f is turn put now same_count none in
-          (e.done, e.answers)
-
--- what fits is counted
-pub counted_fits : (g : Grammar) (x : List ℕ) (more : Bool) (d : View) → Fits g x more d → Fits g x more (counted d.cells d.frames)
-counted_fits g x more d f = record { stack = f.stack; cells = f.cells; different = f.different; count = refl }
+      pub ended_next : (below : List Frame) → fs ≡ [] → below ≡ [] → IsNext g x more here cells' below (next.Ended h)
+      ended_next below none now =
+          let e = ended g x more sound here (counted cells' fs) t fs h f refl turn put refl same_count none in
+          (subst (λ v. IsDone g x more (counted cells' v)) (none ∙ sym now) e.done, e.answers)
 
 -- what a match found is what it ends with
 pub matched_outcome : (g : Grammar) (x : List ℕ) (more : Bool) (d : View) (v : Option Found) (b : ℕ) → IsMatched g x more d v → b ≡ d.begun → IsOutcome g x more d (unit_of_match v b)
-matched_outcome g x more d None b m is = (m.1, m.2)
+matched_outcome g x more d None b m is = m
 matched_outcome g x more d (Some Failed) b m is = (m.0, m.1, is)
 matched_outcome g x more d (Some (Took end)) b m is = (m.0, m.1, is)

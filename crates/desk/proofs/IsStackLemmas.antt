@@ -130,7 +130,7 @@ module _ (rules : List Rule) (start : ℕ) (nodes : List Shape) (bodies ranks x 
   top_is_open cells f fs s = top_open s
 
   -- the last frame has come further
-  come_on : {cells : List Entry} {f : Frame} {fs : List Frame} → Stack cells (f ∷ fs) → (i q : ℕ) → IsUnderWay rules start nodes bodies x more cells f.node f.place i q →
+  pub come_on : {cells : List Entry} {f : Frame} {fs : List Frame} → Stack cells (f ∷ fs) → (i q : ℕ) → IsUnderWay rules start nodes bodies x more cells f.node f.place i q →
       Stack cells (record { node = f.node; place = f.place; next = i; end = q } ∷ fs)
   come_on (bottom o at is) i q w = bottom (record { none = o.none; come = w }) at is
   come_on (above o a s) i q w = above (record { none = o.none; come = w }) a s

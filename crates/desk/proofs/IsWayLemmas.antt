@@ -1,6 +1,6 @@
 -- The events of a success in path order, form by form.
 -- Serves: Desk::replay.
-use Rattle.std.proofs.Common.{◌≡◌, ◌⊎◌, inl, inr, ℕ, zero, suc, ◌+◌, ◌<◌, ◌≤◌, max, Bool, true, false, if◌then◌else◌, ◌==◌, nat_lt, List, [], ◌∷◌, ◌++◌, length, drop, get_or, Option, Some, None, refl, sym, ◌∙◌, ap, subst, arith, add-one, append-nil, drop-cons}
+use Rattle.std.proofs.Common.{◌≡◌, ◌⊎◌, inl, inr, ℕ, zero, suc, ◌+◌, ◌<◌, ◌≤◌, max, Bool, true, false, if◌then◌else◌, ◌==◌, nat_lt, List, [], ◌∷◌, ◌++◌, length, drop, get_or, Option, Some, None, refl, sym, ◌∙◌, ap, subst, arith, add-one, append-nil, drop-cons, IfSome}
 use Rattle.std.specs.Prelude.{slice_get}
 use Rattle.std.proofs.lemmas.Bool.{cases_Bool, eqb-true, eqb-false, ltb-true, ltb-false}
 use Rattle.std.proofs.lemmas.Grind.{common_steps}
@@ -24,13 +24,18 @@ use Rattle.pegmatch.specs.declared.event.Kept.TheVariants.{Opened, Closed, Acted
 use Rattle.cells.specs.Entries.{found_at}
 use Rattle.desk.specs.Desk.{beginning}
 use Rattle.pegmatch.specs.Kept.{opened, closed, acted}
-use Rattle.desk.specs.Path.{opt_way, into, star_way, seq_way, to_first, choice_way, Taking, AllTaking, LeftBy, IsLeft, IsWay, pair_height}
+use Rattle.desk.specs.Path.{IsQuiet, opt_way, into, star_way, seq_way, to_first, choice_way, Taking, AllTaking, LeftBy, IsLeft, IsWay, pair_height}
 use Rattle.desk.specs.State.{HasCell, HaveTaken, none_taken, HaveFailed, none_failed, one_failed, IsFound, AreCells}
 use Rattle.desk.specs.Visits.{NodeGives, NodeTakes, Asks, AsksMember, AsksAlternative, alternative_here, alternative_later}
 use Rattle.desk.proofs.AsksLemmas.{leads, falls}
 use Rattle.desk.proofs.GivesLemmas.{is_name}
 use Rattle.desk.proofs.NodeGivesLemmas.{gives_as, same_node}
 use Rattle.desk.proofs.HaveTakenLemmas.{taken_next, asks_member}
+
+-- where it is to be left, it is left for that reason
+pub leave_by : (r : Option Way) (b : Bool) (Q : Way → Type 0) → IfSome r (λ w. (b ≡ true) × (w ≡ Leave)) → (b ≡ true → Q Leave) → IfSome r Q
+leave_by None b Q h f = tt
+leave_by (Some w) b Q h f = rw h.1 (f h.0)
 
 module _ (rules : List Rule) (start : ℕ) (nodes : List Shape) (bodies ranks x : List ℕ) (more : Bool) (sound : IsRanked rules start nodes bodies ranks) (cells : List Entry)
     (right : AreCells rules start nodes bodies x more cells) where
@@ -86,6 +91,37 @@ module _ (rules : List Rule) (start : ℕ) (nodes : List Shape) (bodies ranks x 
 
   not_quiet : {e : Pattern} {p k end : ℕ} {es : List Event} → Gives rules x (expr.Not e) p (Takes end es) k → es ≡ []
   not_quiet (not_takes d) = refl
+
+  -- an expression prints nothing wherever it succeeds
+  abbrev Hushed : Pattern → Type 0
+  Hushed e = (p k end : ℕ) (es : List Event) → Gives rules x e p (Takes end es) k → es ≡ []
+
+  hushed : (m : ℕ) (e : Pattern) → Spells rules nodes m e → (shape : Shape) → slice_get nodes m ≡ Some shape → IsQuiet shape → Hushed e
+  hushed m e s node.Any at q = λ p k end es d. any_quiet (subst (λ v. Gives rules x v p (Takes end es) k) (has_shape rules nodes s node.Any at) d)
+  hushed m e s (node.Bytes bs) at q = λ p k end es d. bytes_quiet (subst (λ v. Gives rules x v p (Takes end es) k) (has_shape rules nodes s (node.Bytes bs) at) d)
+  hushed m e s (node.Set b) at q = λ p k end es d. set_quiet (subst (λ v. Gives rules x v p (Takes end es) k) (has_shape rules nodes s (node.Set b) at) d)
+  hushed m e s (node.Name id) at q = absurd q
+  hushed m e s (node.Seq ms) at q = absurd q
+  hushed m e s (node.Choice ms) at q = absurd q
+  hushed m e s (node.Star k) at q = absurd q
+  hushed m e s (node.Plus k i) at q = absurd q
+  hushed m e s (node.Opt k) at q = absurd q
+  hushed m e s (node.And i) at q = λ p k end es d. and_quiet (subst (λ v. Gives rules x v p (Takes end es) k) ((has_shape rules nodes s (node.And i) at).1) d)
+  hushed m e s (node.Not i) at q = λ p k end es d. not_quiet (subst (λ v. Gives rules x v p (Takes end es) k) ((has_shape rules nodes s (node.Not i) at).1) d)
+  hushed m e s (node.Act t) at q = absurd q
+  hushed m e s node.Open at q = absurd q
+  hushed m e s node.Close at q = absurd q
+
+  star_hushed : {e : Pattern} {p k end : ℕ} {es : List Event} → Hushed e → Gives rules x (expr.Star e) p (Takes end es) k → es ≡ []
+  star_hushed h (star_none d) = refl
+  star_hushed h (star_more d c) = rw (h _ _ _ _ d, star_hushed h c) refl
+
+  plus_hushed : {e : Pattern} {p k end : ℕ} {es : List Event} → Hushed e → Gives rules x (expr.Plus e) p (Takes end es) k → es ≡ []
+  plus_hushed h (plus_takes d c) = rw (h _ _ _ _ d, star_hushed h c) refl
+
+  opt_hushed : {e : Pattern} {p k end : ℕ} {es : List Event} → Hushed e → Gives rules x (expr.Opt e) p (Takes end es) k → es ≡ []
+  opt_hushed h (opt_takes d) = h _ _ _ _ d
+  opt_hushed h (opt_none d) = refl
 
   act_one : {t : List ℕ} {p k end : ℕ} {es : List Event} → Gives rules x (expr.Act t) p (Takes end es) k → es ≡ event.Acted t ∷ []
   act_one act = refl
@@ -342,6 +378,31 @@ module _ (rules : List Rule) (start : ℕ) (nodes : List Shape) (bodies ranks x 
       | inl b ↦ subst (λ w. Ways f es (star_way s m f.place w f.end v)) (sym b.0) (plus_begins m s v at h b.0 b.1)
       | inr b ↦ subst (λ w. Ways f es (star_way s m f.place w f.end v)) (sym b.0) (turns_to s f.end b.1 b.2)
     ]
+
+    module _ (m : ℕ) (shape : Shape) (operand : slice_get nodes m ≡ Some shape) (quiet : IsQuiet shape) (fresh_frame : f.next ≡ 0) where
+      pub star_leaves : slice_get nodes f.node ≡ Some (node.Star m) → Ways f es Leave
+      star_leaves at = elim (l.left (node.Star m) at) [
+        | inl b ↦
+            let t = b.1 in
+            let like = has_shape rules nodes t.gives.spelled (node.Star m) at in
+            star_hushed (hushed m like.0 like.2 shape operand quiet) (subst (λ v. Gives rules x v f.place (Takes t.end es) t.looked) like.1 t.gives.gives)
+        | inr b ↦ absurd (let one : f.next ≡ 1 = b.0 in omega arith)
+      ]
+
+      pub plus_leaves : (s : ℕ) → slice_get nodes f.node ≡ Some (node.Plus m s) → Ways f es Leave
+      plus_leaves s at = elim (l.left (node.Plus m s) at) [
+        | inl b ↦
+            let t = b.1 in
+            let like = has_shape rules nodes t.gives.spelled (node.Plus m s) at in
+            plus_hushed (hushed m like.0 like.2 shape operand quiet) (subst (λ v. Gives rules x v f.place (Takes t.end es) t.looked) like.1 t.gives.gives)
+        | inr b ↦ absurd (let one : f.next ≡ 1 = b.0 in omega arith)
+      ]
+
+      pub opt_leaves : slice_get nodes f.node ≡ Some (node.Opt m) → Ways f es Leave
+      opt_leaves at =
+          let t = l.left (node.Opt m) at in
+          let like = has_shape rules nodes t.gives.spelled (node.Opt m) at in
+          opt_hushed (hushed m like.0 like.2 shape operand quiet) (subst (λ v. Gives rules x v f.place (Takes t.end es) t.looked) like.1 t.gives.gives)
 
     seq_goes : (ms : List ℕ) (v : Option Found) → slice_get nodes f.node ≡ Some (node.Seq ms) → f.next < length ms → HaveTaken cells ms f.place f.next f.end →
         MemberParts (get_or ms f.next 0) f.end (drop (f.next + 1) ms) es → v ≡ found_at cells (get_or ms f.next 0) f.end → Ways f es (into (get_or ms f.next 0) f.end (f.next + 1) v)

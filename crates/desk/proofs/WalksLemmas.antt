@@ -17,7 +17,7 @@ use Rattle.desk.specs.declared.way.Way.TheVariants.{Leave, Emit, TurnTo, GoInto}
 use Rattle.pegmatch.specs.declared.event.Kept.{Kept}
 use Rattle.cells.specs.Entries.{found_at}
 use Rattle.desk.specs.Desk.{beginning}
-use Rattle.desk.specs.Path.{IsLeft, IsWay, pair_height, frame_height, AreHigher, Walks, no_walk, walk, arity, arity_of, arities, todo, weight, Tells, IsTaken, Goes}
+use Rattle.desk.specs.Path.{IsLeft, IsWay, pair_height, frame_height, AreHigher, Walks, no_walk, walk, arity, arity_of, arities, todo, weight, Tells, Begins, Goes}
 use Rattle.desk.specs.State.{HasCell, AreCells}
 use Rattle.desk.proofs.CodeLemmas.{In, now, on, in_cases, Differ, at_most, code, code_same, cell_codes, length_codes}
 use Rattle.desk.proofs.IsPutLemmas.{is_of, is_own}
@@ -181,13 +181,27 @@ module _ (rules : List Rule) (nodes : List Shape) (bodies ranks x : List ℕ) (c
           omega (arith, a, split);
     }
 
--- a step of a walk, by its last frame
-pub goes : (rules : List Rule) (nodes : List Shape) (bodies ranks x : List ℕ) (cells : List Entry) (f : Frame) (fs new : List Frame) (all : List Event) (mark : Option Kept) (way : Way) →
-    (l : LastOf rules nodes bodies ranks x cells f fs all) → IsWay rules nodes bodies ranks x cells f l.now way → IsTaken f fs new mark way → Goes rules nodes bodies ranks x cells (f ∷ fs) mark all new
-goes rules nodes bodies ranks x cells f fs new all mark Leave l way t = rw (t.0, t.1) (leaves rules nodes bodies ranks x cells f fs all l way)
-goes rules nodes bodies ranks x cells f fs new all mark (Emit m) l way t = rw (t.0, t.1) (emits rules nodes bodies ranks x cells f fs all l m way)
-goes rules nodes bodies ranks x cells f fs new all mark (TurnTo m q) l way t = rw (t.0, t.1) (turns rules nodes bodies ranks x cells f fs all l m q way)
-goes rules nodes bodies ranks x cells f fs new all mark (GoInto m q i r) l way t = rw (t.0, t.1) (goes_into rules nodes bodies ranks x cells f fs all l m q i r way)
+module _ (rules : List Rule) (nodes : List Shape) (bodies ranks x : List ℕ) (cells : List Entry) where
+  -- a step that tells nothing, and then a beginning
+  pub goes_then : (fs mid new : List Frame) (all : List Event) (mark : Option Kept) (g : Goes rules nodes bodies ranks x cells fs None all mid) →
+      Begins rules nodes bodies ranks x cells mid mark g.later new → Goes rules nodes bodies ranks x cells fs mark all new
+  goes_then fs mid new all None g b = record { later = b.later; walks = b.walks; tells = g.tells ∙ b.tells; less = omega (arith, g.less, b.most) }
+  goes_then fs mid new all (Some m) g b =
+      record { later = b.later; walks = b.walks; tells = (b.tells.0, b.tells.1, g.tells ∙ b.tells.2); less = omega (arith, g.less, b.most) }
+
+  of_goes : (fs new : List Frame) (all : List Event) (mark : Option Kept) → Goes rules nodes bodies ranks x cells fs mark all new → Begins rules nodes bodies ranks x cells fs mark all new
+  of_goes fs new all mark g = record { later = g.later; walks = g.walks; tells = g.tells; most = omega (arith, g.less) }
+
+  pub begins_pushed : (fs new : List Frame) (all : List Event) → Walks rules nodes bodies ranks x cells fs all → new ≡ fs → Begins rules nodes bodies ranks x cells fs None all new
+  begins_pushed fs new all w is = record { later = all; walks = rw is w; tells = refl; most = rw is (omega arith) }
+
+  module _ (f : Frame) (fs : List Frame) (all : List Event) (w : Walks rules nodes bodies ranks x cells (f ∷ fs) all) where
+    pub begins_left : ((es : List Event) → IsLeft rules nodes bodies ranks x cells f es → IsWay rules nodes bodies ranks x cells f es Leave) → Begins rules nodes bodies ranks x cells (f ∷ fs) None all fs
+    begins_left way = let l = last rules nodes bodies ranks x cells f fs all w in of_goes (f ∷ fs) fs all None (leaves rules nodes bodies ranks x cells f fs all l (way l.now l.left))
+
+    pub begins_told : (mark : Kept) → ((es : List Event) → IsLeft rules nodes bodies ranks x cells f es → IsWay rules nodes bodies ranks x cells f es (Emit mark)) →
+        Begins rules nodes bodies ranks x cells (f ∷ fs) (Some mark) all fs
+    begins_told mark way = let l = last rules nodes bodies ranks x cells f fs all w in of_goes (f ∷ fs) fs all (Some mark) (emits rules nodes bodies ranks x cells f fs all l mark (way l.now l.left))
 
 -- where a frame is gone into there is room for one more
 pub room_into : (rules : List Rule) (nodes : List Shape) (bodies ranks x : List ℕ) (cells : List Entry) (f : Frame) (fs : List Frame) (all : List Event) (way : Way) (room : ℕ) →

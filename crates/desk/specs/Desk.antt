@@ -121,16 +121,17 @@ module _ (g : Grammar) (x : List ℕ) (more : Bool) where
   abbrev pub left : View → ℕ
   left d = 2 * (length (shapes_of g.nodes) * (length x + 1) + 1 - d.begun) + length d.frames
 
-  -- what a turn of a match does: it goes on; or all is evaluated; or the start rule looks at the last byte of a window behind which there is more
-  abbrev pub IsNext : View → View → Next → Type 0
-  IsNext old new next.More = Fits new × ((f : Frame) × (fs : List Frame) × (new.frames ≡ f ∷ fs)) × (left new < left old)
-  IsNext old new (next.Ended f) = IsDone new × Answers f
-  IsNext old new next.Need = Fits new × (more ≡ true) × ((o : Outcome) × StartGives g x o (length x))
+  -- what a turn of a match does, with these cells and these frames below the last one: it goes on with this frame; or all is
+  -- evaluated; or the start rule looks at the last byte of a window behind which there is more
+  abbrev pub IsNext : View → List Entry → List Frame → Next → Type 0
+  IsNext old cells below (next.More top) = Fits (counted cells (top ∷ below)) × (left (counted cells (top ∷ below)) < left old)
+  IsNext old cells below (next.Ended f) = IsDone (counted cells below) × Answers f
+  IsNext old cells below next.Need = (more ≡ true) × ((o : Outcome) × StartGives g x o (length x))
 
   -- what a match leaves behind where it found this, or where the window is too short
   abbrev pub IsMatched : View → Option Found → Type 0
   IsMatched d (Some f) = IsDone d × Answers f
-  IsMatched d None = Fits d × (more ≡ true) × ((o : Outcome) × StartGives g x o (length x))
+  IsMatched d None = (more ≡ true) × ((o : Outcome) × StartGives g x o (length x))
 
   -- what a match ends with: all is evaluated; or the start rule looks at the last byte of a window behind which there is more
   abbrev pub IsOutcome : View → UnitAnswer → Type 0

@@ -1,3 +1,4 @@
+pub mod Ahead
 pub mod Visits
 pub mod State
 pub mod Turns

@@ -47,6 +47,23 @@ abbrev pub Tells : List Shape → Option Kept → List Event → List Event → 
 Tells nodes None all later = all ≡ later
 Tells nodes (Some mark) all later = (e : Event) × StandsFor nodes mark e × (all ≡ e ∷ later)
 
+-- a node of this shape prints nothing wherever it succeeds
+abbrev pub IsQuiet : Shape → Type 0
+IsQuiet Any = Unit {0}
+IsQuiet (Bytes bs) = Unit {0}
+IsQuiet (Set s) = Unit {0}
+IsQuiet (Name id) = ⊥
+IsQuiet (Seq ms) = ⊥
+IsQuiet (Choice ms) = ⊥
+IsQuiet (Star m) = ⊥
+IsQuiet (Plus m s) = ⊥
+IsQuiet (Opt m) = ⊥
+IsQuiet (And m) = Unit {0}
+IsQuiet (Not m) = Unit {0}
+IsQuiet (Act t) = ⊥
+IsQuiet Open = ⊥
+IsQuiet Close = ⊥
+
 module _ (rules : List Rule) (nodes : List Shape) (bodies ranks x : List ℕ) (cells : List Entry) where
   -- the height of a pair: what is left of the input first, and then the rank
   abbrev pub pair_height : ℕ → ℕ → ℕ
@@ -136,19 +153,19 @@ module _ (rules : List Rule) (nodes : List Shape) (bodies ranks x : List ℕ) (c
   weight [] = 0
   weight (f ∷ fs) = todo f * arities nodes ^ frame_height f + weight fs
 
+  -- frames of which the last one begins, gone on with at once or not at all: the event that is told, and those still to come
+  pub record Begins (fs : List Frame) (mark : Option Kept) (all : List Event) (new : List Frame) : Type 0 where
+    pub later : List Event
+    pub walks : Walks new later
+    pub tells : Tells nodes mark all later
+    pub most : weight new ≤ weight fs
+
   -- a step of a walk: the event that it tells, the events still to come, and that less is left
   pub record Goes (fs : List Frame) (mark : Option Kept) (all : List Event) (new : List Frame) : Type 0 where
     pub later : List Event
     pub walks : Walks new later
     pub tells : Tells nodes mark all later
     pub less : weight new < weight fs
-
--- what a way makes of the frames, and the mark that it tells
-abbrev pub IsTaken : Frame → List Frame → List Frame → Option Kept → Way → Type 0
-IsTaken f fs new mark Leave = (new ≡ fs) × (mark ≡ None)
-IsTaken f fs new mark (Emit m) = (new ≡ fs) × (mark ≡ Some m)
-IsTaken f fs new mark (TurnTo m q) = (new ≡ beginning m q ∷ fs) × (mark ≡ None)
-IsTaken f fs new mark (GoInto m q i r) = (new ≡ beginning m q ∷ (record { node = f.node; place = f.place; next = i; end = r } ∷ fs)) × (mark ≡ None)
 
 -- the frames and how many there is room for
 pub record View : Type 0 where

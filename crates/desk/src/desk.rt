@@ -85,9 +85,7 @@ fn step_on(
 {
     let _start = peg.start();
     let top = frames.top();
-    match next_turn(
-        peg, window, more, cells, top.node, top.place, top.next, top.end,
-    ) {
+    match next_turn(peg, window, more, cells, top) {
         Turn::Need => Ok(Some(Unit::Need)),
         Turn::Ask {
             node,
@@ -206,9 +204,10 @@ impl Matcher for Desk {
         ensures bounded { IfOk result (λ unit. (o : Outcome) (k : ℕ) → StartGives peg.now window.now o k → told unit ≤ length peg.now.nodes * (k + 1)) }
         ensures empty { OnErr result (self.new ≡ empty) }
     {
-        let _start = peg.start();
-        self.begin(peg)?;
-        let matched = match_on(peg, window, more, &mut self.cells, &mut self.frames);
+        let root = peg.body_node(peg.start());
+        self.cells.reset(peg.nodes());
+        self.frames.clear();
+        let matched = match_on(peg, window, more, &mut self.cells, &mut self.frames, root);
         self.begun = all_begun(&self.cells, &self.frames);
         match matched {
             Ok(found) => Ok(matched_unit(found, self.begun)),

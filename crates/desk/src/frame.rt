@@ -1,5 +1,5 @@
 //! Evaluations under way.
-ghost use Rattle.std.specs.Prelude.{◌≡◌, List, [], ◌∷◌, length, OnOk, true, ◌↔◌};
+ghost use Rattle.std.specs.Prelude.{◌≡◌, List, [], ◌∷◌, length, IfSome, IfNone, OnOk, true, ◌↔◌};
 ghost use Rattle.desk.specs.declared.frame.Frame.{Frame};
 
 use ruletable::Memory;
@@ -75,6 +75,15 @@ impl Frames {
     {
         self.frames.push(frame)?;
         Ok(())
+    }
+
+    /// Takes the last frame, if there is one.
+    #[inline(always)]
+    pub(crate) fn take(&mut self) -> Option<Frame>
+        ensures some { IfSome result (λ frame. self.old ≡ frame ∷ self.new) }
+        ensures none { IfNone result ((self.old ≡ []) × (self.new ≡ [])) }
+    {
+        self.frames.pop()
     }
 
     /// Without the last frame.

@@ -2,6 +2,7 @@
 #![tactic(auto)]
 
 mod advance;
+mod ahead;
 mod desk;
 mod frame;
 mod replay;

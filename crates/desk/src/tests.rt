@@ -233,3 +233,63 @@ fn plain_and_desk_answer_alike(rt: HostRuntime) -> Result<(), Fail> {
     }
     Ok(())
 }
+
+// What both matchers print of a window that is the whole rest, once they agree on what the start rule gives.
+fn same<R: Abort + AllocGlobal>(rt: &R, peg: &SoundPeg, window: &[u8]) -> Result<(), Fail> {
+    let mut plain = Plain::new(rt.alloc());
+    let mut desk = Desk::new(rt.alloc());
+    let mut first = SinkOf::new(Vec::new(rt.alloc()));
+    let mut second = SinkOf::new(Vec::new(rt.alloc()));
+    match (
+        plain.match_unit(peg, window, false)?,
+        desk.match_unit(peg, window, false)?,
+    ) {
+        (Unit::Took { end, .. }, Unit::Took { end: also, .. }) => {
+            assert_eq!(rt; end, also);
+            plain.replay(peg, window, true, &mut first)?;
+            desk.replay(peg, window, true, &mut second)?;
+        }
+        (Unit::Failed { .. }, Unit::Failed { .. }) => {}
+        _ => assert!(rt; false, "one succeeds, one fails"),
+    }
+    assert!(rt; first.into_inner().as_slice() == second.into_inner().as_slice());
+    Ok(())
+}
+
+// Grammars in the style of the examples, with repetitions and predicates: (grammar, windows).
+static GRAMMARS: [(&[u8], [&[u8]; 3]); 5] = [
+    (
+        b"L <- W S E {print} / <(!E .)*> E {no yytext}\nS <- P ('+' W P {add} / '-' W P {sub})*\nP <- V ('*' W V {mul})*\n\
+          V <- <[0-9]+> W {push yytext} / '(' W S ')' W\nW <- [ \\t]*\nE <- '\\n' / !.",
+        [b"1 + 2*(3-4)\n", b"1 + + 2\n", b"((7))*8"],
+    ),
+    (
+        b"T <- W V !.\nV <- (O / A / S {yytext} / N) W\nO <- '{' W {o} (S W ':' W V (',' W S W ':' W V)*)? '}' {x}\n\
+          A <- '[' W {a} (V (',' W V)*)? ']' {y}\nS <- '\"' <C*> '\"'\nC <- [^\"\\\\] / '\\\\' .\n\
+          N <- <'-'? [0-9]+ ('.' [0-9]+)?> {number yytext}\nW <- [ \\n]*",
+        [b"{\"a\": [1, -2.5, \"x\\\"y\"]}", b"[[], {}]", b"[1, 2"],
+    ),
+    (
+        b"S <- <[a-z]+> &([^\\n]* '\\n') {yytext} / ' ' / '\\n'",
+        [b"ab cd\n", b" x", b"ab"],
+    ),
+    (
+        b"S <- ({x} 'a')* (<'b'?> {[yytext]})? !'c' .*",
+        [b"aab", b"aac", b"abz"],
+    ),
+    (
+        b"S <- (<[a-z]> {yytext} / '.' {no})+ !.",
+        [b"", b"x.z", b"\n"],
+    ),
+];
+
+#[test]
+fn plain_and_desk_print_the_same(rt: HostRuntime) -> Result<(), Fail> {
+    for (grammar, windows) in GRAMMARS {
+        let peg = sound(rt.alloc(), grammar)?;
+        for window in windows {
+            same(&rt, &peg, window)?;
+        }
+    }
+    Ok(())
+}

@@ -1,5 +1,6 @@
 //! Frames of a walk, with room for as many as there are cells.
 ghost use Rattle.std.specs.Prelude.{◌≡◌, ◌<◌, ◌≤◌, ◌↔◌, true, List, [], ◌∷◌, length, OnOk};
+ghost use Rattle.desk.specs.Ahead.{come_to};
 ghost use Rattle.desk.specs.declared.frame.Frame.{Frame};
 
 use crate::frame::Frame;
@@ -69,6 +70,18 @@ impl Track {
             Ok(()) => {}
             Err(_) => unreachable!(),
         }
+    }
+
+    /// The last frame comes further.
+    pub(crate) fn come_on(&mut self, next: usize, end: usize)
+        requires { (top : Frame) × (below : List Frame) × (self.old.frames ≡ top ∷ below) }
+        ensures frames { (top : Frame) (below : List Frame) → self.old.frames ≡ top ∷ below → self.new.frames ≡ come_to top next end ∷ below }
+        ensures room { self.new.room ≡ self.old.room }
+    {
+        let last = self.frames.len() - 1;
+        let frame = &mut self.frames[last];
+        frame.next = next;
+        frame.end = end;
     }
 
     /// Without the last frame.

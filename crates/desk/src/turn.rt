@@ -8,6 +8,7 @@ ghost use Rattle.cells.specs.Entries.{found_at};
 ghost use Rattle.desk.specs.State.{HaveTaken, HaveFailed, IsUnderWay, AreCells};
 ghost use Rattle.desk.specs.Turns.{same_turn, opt_turn, and_turn, not_turn, star_turn, plus_turn, IsLeafTurn, IsWalk, IsSearch, IsTurn};
 
+use crate::frame::Frame;
 use cells::{Cells, Found};
 use gramcheck::{Node, SoundPeg};
 use pegmatch::{Tried, match_any, match_bytes, match_set};
@@ -40,9 +41,9 @@ fn ask(node: usize, place: usize) -> Turn
     }
 }
 
-// A comparison that reaches the last byte of a window behind which there is more is no answer.
+/// What was tried, where its comparison does not reach the last byte of a window behind which there is more.
 #[inline(always)]
-fn leaf_turn(tried: Tried, window: &[u8], more: bool) -> Turn
+pub(crate) fn leaf_turn(tried: Tried, window: &[u8], more: bool) -> Turn
     ensures { IsLeafTurn tried (length window.now) more result }
 {
     if more && tried.looked == window.len() {
@@ -52,69 +53,86 @@ fn leaf_turn(tried: Tried, window: &[u8], more: bool) -> Turn
     }
 }
 
-// What the node gives at the place, handed on.
+/// What a node gives at a place, handed on.
 #[inline(always)]
-fn same(cells: &Cells, node: usize, place: usize) -> Turn
-    ensures { result ≡ same_turn node place (found_at cells.now node place) }
+pub(crate) fn same(found: Option<Found>, node: usize, place: usize) -> Turn
+    ensures { result ≡ same_turn node place found }
 {
-    match cells.get(node, place) {
+    match found {
         None => ask(node, place),
         Some(found) => Turn::Answer(found),
     }
 }
 
+/// What an option makes of its operand.
 #[inline(always)]
-fn opt(cells: &Cells, operand: usize, place: usize) -> Turn
-    ensures { result ≡ opt_turn operand place (found_at cells.now operand place) }
+pub(crate) fn opt(found: Option<Found>, operand: usize, place: usize) -> Turn
+    ensures { result ≡ opt_turn operand place found }
 {
-    match cells.get(operand, place) {
+    match found {
         None => ask(operand, place),
         Some(Found::Failed) => Turn::Answer(Found::Took(place)),
         Some(Found::Took(end)) => Turn::Answer(Found::Took(end)),
     }
 }
 
+/// What a predicate `&` makes of its operand.
 #[inline(always)]
-fn and(cells: &Cells, operand: usize, place: usize) -> Turn
-    ensures { result ≡ and_turn operand place (found_at cells.now operand place) }
+pub(crate) fn and(found: Option<Found>, operand: usize, place: usize) -> Turn
+    ensures { result ≡ and_turn operand place found }
 {
-    match cells.get(operand, place) {
+    match found {
         None => ask(operand, place),
         Some(Found::Failed) => Turn::Answer(Found::Failed),
         Some(Found::Took(_)) => Turn::Answer(Found::Took(place)),
     }
 }
 
+/// What a predicate `!` makes of its operand.
 #[inline(always)]
-fn not(cells: &Cells, operand: usize, place: usize) -> Turn
-    ensures { result ≡ not_turn operand place (found_at cells.now operand place) }
+pub(crate) fn not(found: Option<Found>, operand: usize, place: usize) -> Turn
+    ensures { result ≡ not_turn operand place found }
 {
-    match cells.get(operand, place) {
+    match found {
         None => ask(operand, place),
         Some(Found::Failed) => Turn::Answer(Found::Took(place)),
         Some(Found::Took(_)) => Turn::Answer(Found::Failed),
     }
 }
 
+/// What a repetition makes of its operand, and of itself where the operand ended.
 #[inline(always)]
-fn star(cells: &Cells, node: usize, operand: usize, place: usize) -> Turn
-    ensures { result ≡ star_turn cells.now node operand place (found_at cells.now operand place) }
+pub(crate) fn star(
+    cells: &Cells,
+    found: Option<Found>,
+    node: usize,
+    operand: usize,
+    place: usize,
+) -> Turn
+    ensures { result ≡ star_turn cells.now node operand place found }
 {
-    match cells.get(operand, place) {
+    match found {
         None => ask(operand, place),
         Some(Found::Failed) => Turn::Answer(Found::Took(place)),
-        Some(Found::Took(end)) => same(cells, node, end),
+        Some(Found::Took(end)) => same(cells.get(node, end), node, end),
     }
 }
 
+/// What a repetition of at least once makes of its operand, and of the node that goes on with it where the operand ended.
 #[inline(always)]
-fn plus(cells: &Cells, star: usize, operand: usize, place: usize) -> Turn
-    ensures { result ≡ plus_turn cells.now star operand place (found_at cells.now operand place) }
+pub(crate) fn plus(
+    cells: &Cells,
+    found: Option<Found>,
+    star: usize,
+    operand: usize,
+    place: usize,
+) -> Turn
+    ensures { result ≡ plus_turn cells.now star operand place found }
 {
-    match cells.get(operand, place) {
+    match found {
         None => ask(operand, place),
         Some(Found::Failed) => Turn::Answer(Found::Failed),
-        Some(Found::Took(end)) => same(cells, star, end),
+        Some(Found::Took(end)) => same(cells.get(star, end), star, end),
     }
 }
 
@@ -163,38 +181,48 @@ fn first(cells: &Cells, alternatives: &[usize], next: usize, place: usize) -> Tu
     Turn::Answer(Found::Failed)
 }
 
-/// What the evaluation of a node at a place does next, so many of its members done, and those before ending at `end`.
+/// What the evaluation of a frame's node at its place does next.
 #[inline(always)]
 pub(crate) fn next_turn(
     peg: &SoundPeg,
     window: &[u8],
     more: bool,
     cells: &Cells,
-    node: usize,
-    place: usize,
-    next: usize,
-    end: usize,
+    frame: Frame,
 ) -> Turn
     requires sound { IsSoundGrammar peg.now }
-    requires spells { SpellsSome (rules_of peg.now.rules) (shapes_of peg.now.nodes) node }
-    requires place { place ≤ length window.now }
+    requires spells { SpellsSome (rules_of peg.now.rules) (shapes_of peg.now.nodes) frame.node }
+    requires place { frame.place ≤ length window.now }
     requires some { more ≡ true → 0 < length window.now }
     requires right { AreCells (rules_of peg.now.rules) peg.now.start (shapes_of peg.now.nodes) peg.now.bodies window.now more cells.now }
-    requires come { IsUnderWay (rules_of peg.now.rules) peg.now.start (shapes_of peg.now.nodes) peg.now.bodies window.now more cells.now node place next end }
-    ensures { IsTurn (rules_of peg.now.rules) peg.now.start (shapes_of peg.now.nodes) peg.now.bodies window.now more cells.now node place result }
+    requires come { IsUnderWay (rules_of peg.now.rules) peg.now.start (shapes_of peg.now.nodes) peg.now.bodies window.now more cells.now frame.node frame.place frame.next frame.end }
+    ensures { IsTurn (rules_of peg.now.rules) peg.now.start (shapes_of peg.now.nodes) peg.now.bodies window.now more cells.now frame.node frame.place result }
 {
-    let turned = match peg.node(node) {
+    let place = frame.place;
+    let turned = match peg.node(frame.node) {
         Node::Any => leaf_turn(match_any(window, place), window, more),
         Node::Bytes(bytes) => leaf_turn(match_bytes(bytes, window, place), window, more),
         Node::Set(set) => leaf_turn(match_set(set, window, place), window, more),
-        Node::Name(id) => same(cells, peg.body_node(*id), place),
-        Node::Seq(members) => all(cells, members, next, end),
-        Node::Choice(alternatives) => first(cells, alternatives, next, place),
-        Node::Star(operand) => star(cells, node, *operand, place),
-        Node::Plus { operand, star } => plus(cells, *star, *operand, place),
-        Node::Opt(operand) => opt(cells, *operand, place),
-        Node::And(operand) => and(cells, *operand, place),
-        Node::Not(operand) => not(cells, *operand, place),
+        Node::Name(id) => {
+            let body = peg.body_node(*id);
+            same(cells.get(body, place), body, place)
+        }
+        Node::Seq(members) => all(cells, members, frame.next, frame.end),
+        Node::Choice(alternatives) => first(cells, alternatives, frame.next, place),
+        Node::Star(operand) => {
+            let found = cells.get(*operand, place);
+            star(cells, found, frame.node, *operand, place)
+        }
+        Node::Plus {
+            operand,
+            star: again,
+        } => {
+            let found = cells.get(*operand, place);
+            plus(cells, found, *again, *operand, place)
+        }
+        Node::Opt(operand) => opt(cells.get(*operand, place), *operand, place),
+        Node::And(operand) => and(cells.get(*operand, place), *operand, place),
+        Node::Not(operand) => not(cells.get(*operand, place), *operand, place),
         Node::Act(_) => Turn::Answer(Found::Took(place)),
         Node::Open => Turn::Answer(Found::Took(place)),
         Node::Close => Turn::Answer(Found::Took(place)),

@@ -1,49 +1,38 @@
 //! Walks over the events of a success, from the cells.
 ghost use Rattle.std.specs.Prelude.{◌≡◌, ℕ, ◌<◌, ◌≤◌, Bool, List, ◌∷◌, length};
 ghost use Rattle.pegread.specs.Views.{rules_of};
+ghost use Rattle.gramcheck.specs.Grammar.{IsSoundGrammar};
 ghost use Rattle.gramcheck.specs.Nodes.{shapes_of};
 ghost use Rattle.gramcheck.specs.Outcome.{Event};
+ghost use Rattle.pegmatch.specs.Kept.{SpellsSome};
+ghost use Rattle.cells.specs.Entries.{Entry};
+ghost use Rattle.desk.specs.Desk.{beginning as begun_at};
 ghost use Rattle.desk.specs.State.{AreCells};
-ghost use Rattle.desk.specs.Path.{Walks, IsTaken, Goes};
+ghost use Rattle.desk.specs.Path.{Walks, Begins, Goes};
 ghost use Rattle.desk.specs.declared.frame.Frame.{Frame};
-ghost use Rattle.desk.specs.declared.way.Way.{Way};
 
 use crate::advance::beginning;
-use crate::frame::Frame;
 use crate::track::Track;
-use crate::way::{Way, next_way};
+use crate::way::{Way, next_way, way_at_once};
 use cells::Cells;
 use gramcheck::SoundPeg;
 use pegmatch::Kept;
 
-// Takes a way from the last frame.
-fn take_way(track: &mut Track, top: Frame, way: Way) -> Option<Kept>
-    requires into { (m q i r : ℕ) → way ≡ Way.GoInto m q i r → length track.old.frames < track.old.room }
-    requires room { length track.old.frames ≤ track.old.room }
-    requires top { (below : List Frame) × (track.old.frames ≡ top ∷ below) }
-    ensures taken { (below : List Frame) → track.old.frames ≡ top ∷ below → IsTaken top below track.new.frames result way }
+// Begins with a node at a place. Where its events need no cell there is no frame of it; one that it has comes next.
+#[inline(always)]
+fn begin(peg: &SoundPeg, track: &mut Track, node: usize, place: usize) -> Option<Kept>
+    requires sound { IsSoundGrammar peg.now }
+    requires spells { SpellsSome (rules_of peg.now.rules) (shapes_of peg.now.nodes) node }
+    requires room { length track.old.frames < track.old.room }
+    ensures begins { (cells : List Entry) (x : List ℕ) (more : Bool) (all : List Event) → AreCells (rules_of peg.now.rules) peg.now.start (shapes_of peg.now.nodes) peg.now.bodies x more cells →
+        Walks (rules_of peg.now.rules) (shapes_of peg.now.nodes) peg.now.bodies peg.now.ranks x cells (begun_at node place ∷ track.old.frames) all →
+        Begins (rules_of peg.now.rules) (shapes_of peg.now.nodes) peg.now.bodies peg.now.ranks x cells (begun_at node place ∷ track.old.frames) result all track.new.frames }
     ensures room { track.old.room ≤ track.new.room }
 {
-    track.pop();
-    match way {
-        Way::Leave => None,
-        Way::Emit(event) => Some(event),
-        Way::TurnTo { node, place } => {
-            track.push(beginning(node, place));
-            None
-        }
-        Way::GoInto {
-            node,
-            place,
-            next,
-            end,
-        } => {
-            track.push(Frame {
-                node: top.node,
-                place: top.place,
-                next,
-                end,
-            });
+    match way_at_once(peg, node, place) {
+        Some(Way::Leave) => None,
+        Some(Way::Emit(event)) => Some(event),
+        _ => {
             track.push(beginning(node, place));
             None
         }
@@ -51,6 +40,7 @@ fn take_way(track: &mut Track, top: Frame, way: Way) -> Option<Kept>
 }
 
 // Goes on with the last frame, and tells an event that comes next.
+#[inline(always)]
 pub(crate) fn go(peg: &SoundPeg, window: &[u8], cells: &Cells, track: &mut Track) -> Option<Kept>
     requires cells { (more : Bool) × AreCells (rules_of peg.now.rules) peg.now.start (shapes_of peg.now.nodes) peg.now.bodies window.now more cells.now }
     requires top { (top : Frame) × (below : List Frame) × (track.old.frames ≡ top ∷ below) }
@@ -62,6 +52,27 @@ pub(crate) fn go(peg: &SoundPeg, window: &[u8], cells: &Cells, track: &mut Track
 {
     let _start = peg.start();
     let top = track.top();
-    let way = next_way(peg, cells, top);
-    take_way(track, top, way)
+    match next_way(peg, cells, top) {
+        Way::Leave => {
+            track.pop();
+            None
+        }
+        Way::Emit(event) => {
+            track.pop();
+            Some(event)
+        }
+        Way::TurnTo { node, place } => {
+            track.pop();
+            begin(peg, track, node, place)
+        }
+        Way::GoInto {
+            node,
+            place,
+            next,
+            end,
+        } => {
+            track.come_on(next, end);
+            begin(peg, track, node, place)
+        }
+    }
 }

@@ -1,13 +1,15 @@
 //! Where a success goes on, from the cells: its events in path order.
-ghost use Rattle.std.specs.Prelude.{◌≡◌, ℕ, ◌+◌, ◌<◌, Bool, List, length};
+ghost use Rattle.std.specs.Prelude.{◌≡◌, ℕ, ◌+◌, ◌<◌, Bool, true, List, length, IfSome};
 ghost use Rattle.pegread.specs.Views.{rules_of};
 ghost use Rattle.gramcheck.specs.Grammar.{IsSoundGrammar};
-ghost use Rattle.gramcheck.specs.Nodes.{shapes_of};
+ghost use Rattle.gramcheck.specs.Nodes.{shape_of, shapes_of};
+ghost use Rattle.pegmatch.specs.Kept.{SpellsSome};
 ghost use Rattle.gramcheck.specs.Outcome.{Event};
 ghost use Rattle.cells.specs.declared.cell.Found.{Found};
-ghost use Rattle.cells.specs.Entries.{found_at};
+ghost use Rattle.cells.specs.Entries.{Entry, found_at};
+ghost use Rattle.desk.specs.Desk.{beginning};
 ghost use Rattle.desk.specs.State.{HaveFailed, AreCells};
-ghost use Rattle.desk.specs.Path.{IsLeft, IsWay, opt_way, star_way, seq_way, choice_way};
+ghost use Rattle.desk.specs.Path.{IsLeft, IsQuiet, IsWay, opt_way, star_way, seq_way, choice_way};
 
 use crate::frame::Frame;
 use cells::{Cells, Found};
@@ -135,4 +137,52 @@ pub(crate) fn next_way(peg: &SoundPeg, cells: &Cells, frame: Frame) -> Way
         Node::Close => Way::Emit(Kept::Closed(place)),
     };
     way
+}
+
+// Whether a node prints nothing wherever it succeeds: it has no operands and is no mark, or it is a predicate.
+#[inline(always)]
+fn is_quiet(node: &Node) -> bool
+    ensures { result ≡ true → IsQuiet (shape_of node.now) }
+{
+    match node {
+        Node::Any => true,
+        Node::Bytes(_) => true,
+        Node::Set(_) => true,
+        Node::And(_) => true,
+        Node::Not(_) => true,
+        _ => false,
+    }
+}
+
+// To leave, where that is so.
+#[inline(always)]
+fn leave_if(leaves: bool) -> Option<Way>
+    ensures { IfSome result (λ way. (leaves ≡ true) × (way ≡ Way.Leave)) }
+{
+    if leaves { Some(Way::Leave) } else { None }
+}
+
+/// Where the events of a node that begins at a place go on, if that needs no cell.
+#[inline(always)]
+pub(crate) fn way_at_once(peg: &SoundPeg, node: usize, place: usize) -> Option<Way>
+    requires sound { IsSoundGrammar peg.now }
+    requires spells { SpellsSome (rules_of peg.now.rules) (shapes_of peg.now.nodes) node }
+    ensures { IfSome result (λ way. (cells : List Entry) (x : List ℕ) (more : Bool) (es : List Event) → AreCells (rules_of peg.now.rules) peg.now.start (shapes_of peg.now.nodes) peg.now.bodies x more cells →
+        IsLeft (rules_of peg.now.rules) (shapes_of peg.now.nodes) peg.now.bodies peg.now.ranks x cells (beginning node place) es →
+        IsWay (rules_of peg.now.rules) (shapes_of peg.now.nodes) peg.now.bodies peg.now.ranks x cells (beginning node place) es way) }
+{
+    match peg.node(node) {
+        Node::Any => Some(Way::Leave),
+        Node::Bytes(_) => Some(Way::Leave),
+        Node::Set(_) => Some(Way::Leave),
+        Node::And(_) => Some(Way::Leave),
+        Node::Not(_) => Some(Way::Leave),
+        Node::Act(_) => Some(Way::Emit(Kept::Acted(node))),
+        Node::Open => Some(Way::Emit(Kept::Opened(place))),
+        Node::Close => Some(Way::Emit(Kept::Closed(place))),
+        Node::Star(operand) => leave_if(is_quiet(peg.node(*operand))),
+        Node::Plus { operand, .. } => leave_if(is_quiet(peg.node(*operand))),
+        Node::Opt(operand) => leave_if(is_quiet(peg.node(*operand))),
+        _ => None,
+    }
 }

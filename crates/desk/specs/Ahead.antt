@@ -1,0 +1,43 @@
+-- What an evaluation does next where nodes without operands are evaluated at once.
+use Rattle.std.specs.Prelude.{◌≡◌, ◌⊎◌, ℕ, ◌≤◌, Bool, true, List, [], ◌∷◌, ◌++◌, length, Option, Some, None, Result, Ok, Err}
+use Rattle.pegread.specs.Pattern.{Rule}
+use Rattle.pegread.specs.Views.{rules_of}
+use Rattle.gramcheck.specs.Grammar.{Grammar}
+use Rattle.gramcheck.specs.Nodes.{Shape, shapes_of}
+use Rattle.gramcheck.specs.Outcome.{Outcome}
+use Rattle.pegmatch.specs.Answers.{StartGives}
+use Rattle.cells.specs.declared.cell.Found.{Found}
+use Rattle.cells.specs.Entries.{Entry, found_at}
+use Rattle.desk.specs.declared.ahead.Halt.{Halt}
+use Rattle.desk.specs.declared.ahead.Halt.TheVariants.{Memory, Short}
+use Rattle.desk.specs.declared.frame.Frame.{Frame}
+use Rattle.desk.specs.declared.turn.Turn.{Turn}
+use Rattle.desk.specs.declared.turn.Turn.TheVariants.{Answer, Need}
+use Rattle.desk.specs.Desk.{counted, Fits, left}
+use Rattle.desk.specs.Turns.{IsTurn}
+
+-- What is seen of node n at p: what its cell holds, which a node without operands gets where it has none; or that it has none; or that
+-- its own comparison reaches the last byte of a window behind which there is more.
+module _ (rules : List Rule) (start : ℕ) (nodes : List Shape) (bodies x : List ℕ) (more : Bool) (old new : List Entry) (n p : ℕ) where
+  abbrev pub IsSeen : Result (Option Found) Halt → Type 0
+  IsSeen (Ok (Some f)) =
+      (found_at new n p ≡ Some f) × ((new ≡ old) ⊎ ((found_at old n p ≡ None) × (new ≡ old ++ record { node = n; place = p; found = f } ∷ []) ×
+      IsTurn rules start nodes bodies x more old n p (Answer f)))
+  IsSeen (Ok None) = (new ≡ old) × (found_at old n p ≡ None)
+  IsSeen (Err Memory) = Unit {0}
+  IsSeen (Err Short) = (found_at old n p ≡ None) × IsTurn rules start nodes bodies x more old n p Need
+
+-- a frame that has come to its member i at q
+abbrev pub come_to : Frame → ℕ → ℕ → Frame
+come_to f i q = record { node = f.node; place = f.place; next = i; end = q }
+
+-- What the last frame does next, over the cells that came in, and over the frames below it: less is left, or as much.
+module _ (g : Grammar) (x : List ℕ) (more : Bool) (below : List Frame) (old new : List Entry) (top : Frame) where
+  pub record HasCome (i q : ℕ) : Type 0 where
+    pub fits : Fits g x more (counted new (come_to top i q ∷ below))
+    pub less : left g x more (counted new (come_to top i q ∷ below)) ≤ left g x more (counted old (top ∷ below))
+
+  abbrev pub IsOn : Result Turn Halt → Type 0
+  IsOn (Ok turn) = (i q : ℕ) × HasCome i q × IsTurn (rules_of g.rules) g.start (shapes_of g.nodes) g.bodies x more new top.node top.place turn
+  IsOn (Err Memory) = Unit {0}
+  IsOn (Err Short) = (more ≡ true) × ((o : Outcome) × StartGives g x o (length x))

@@ -1,0 +1,203 @@
+//! What an evaluation does next, where nodes without operands are evaluated at once.
+ghost use Rattle.std.specs.Prelude.{◌≡◌, ◌<◌, ◌≤◌, List, ◌∷◌, length, slice_get, Some, true, IfSome};
+ghost use Rattle.pegread.specs.Views.{rules_of};
+ghost use Rattle.gramcheck.specs.Grammar.{IsSoundGrammar};
+ghost use Rattle.gramcheck.specs.Nodes.{Shape, shapes_of};
+ghost use Rattle.pegmatch.specs.Kept.{SpellsSome};
+ghost use Rattle.cells.specs.Entries.{Entry};
+ghost use Rattle.desk.specs.declared.frame.Frame.{Frame};
+ghost use Rattle.desk.specs.Ahead.{IsSeen, IsOn};
+ghost use Rattle.desk.specs.Desk.{counted, Fits};
+ghost use Rattle.desk.specs.State.{AreCells};
+ghost use Rattle.desk.specs.Turns.{IsTurn};
+
+use crate::frame::Frame;
+use crate::turn::{Turn, and, leaf_turn, next_turn, not, opt, plus, same, star};
+use cells::{Cells, Found};
+use gramcheck::{Node, SoundPeg};
+use pegmatch::{match_any, match_bytes, match_set};
+
+/// Why a match stops with no outcome.
+#[derive(Clone, Copy, PartialEq, Eq, Debug)]
+pub(crate) enum Halt {
+    /// A growth was refused.
+    Memory,
+    /// It would compare the last byte of a window behind which there is more.
+    Short,
+}
+
+// What a node without operands gives at a place, whatever the cells; none for any other node.
+#[inline(always)]
+fn leaf_of(peg: &SoundPeg, window: &[u8], more: bool, node: usize, place: usize) -> Option<Turn>
+    requires sound { IsSoundGrammar peg.now }
+    requires spells { SpellsSome (rules_of peg.now.rules) (shapes_of peg.now.nodes) node }
+    requires place { place ≤ length window.now }
+    requires some { more ≡ true → 0 < length window.now }
+    ensures { IfSome result (λ turn. (cells : List Entry) → AreCells (rules_of peg.now.rules) peg.now.start (shapes_of peg.now.nodes) peg.now.bodies window.now more cells →
+        IsTurn (rules_of peg.now.rules) peg.now.start (shapes_of peg.now.nodes) peg.now.bodies window.now more cells node place turn) }
+{
+    match peg.node(node) {
+        Node::Any => Some(leaf_turn(match_any(window, place), window, more)),
+        Node::Bytes(bytes) => Some(leaf_turn(match_bytes(bytes, window, place), window, more)),
+        Node::Set(set) => Some(leaf_turn(match_set(set, window, place), window, more)),
+        Node::Act(_) => Some(Turn::Answer(Found::Took(place))),
+        Node::Open => Some(Turn::Answer(Found::Took(place))),
+        Node::Close => Some(Turn::Answer(Found::Took(place))),
+        _ => None,
+    }
+}
+
+// The cell of a node at a place; one without operands gets its cell where it has none.
+#[inline(always)]
+fn see(
+    peg: &SoundPeg,
+    window: &[u8],
+    more: bool,
+    cells: &mut Cells,
+    node: usize,
+    place: usize,
+) -> Result<Option<Found>, Halt>
+    requires sound { IsSoundGrammar peg.now }
+    requires spells { SpellsSome (rules_of peg.now.rules) (shapes_of peg.now.nodes) node }
+    requires place { place ≤ length window.now }
+    requires some { more ≡ true → 0 < length window.now }
+    requires right { AreCells (rules_of peg.now.rules) peg.now.start (shapes_of peg.now.nodes) peg.now.bodies window.now more cells.old }
+    ensures { IsSeen (rules_of peg.now.rules) peg.now.start (shapes_of peg.now.nodes) peg.now.bodies window.now more cells.old cells.new node place result }
+{
+    if let Some(found) = cells.get(node, place) {
+        return Ok(Some(found));
+    }
+    match leaf_of(peg, window, more, node, place) {
+        Some(Turn::Answer(found)) => match cells.put(node, place, found) {
+            Ok(()) => Ok(Some(found)),
+            Err(_) => Err(Halt::Memory),
+        },
+        Some(Turn::Need) => Err(Halt::Short),
+        _ => Ok(None),
+    }
+}
+
+// On through the members of a sequence.
+#[inline(always)]
+fn all_on(
+    peg: &SoundPeg,
+    window: &[u8],
+    more: bool,
+    cells: &mut Cells,
+    members: &[usize],
+    top: Frame,
+) -> Result<Turn, Halt>
+    requires members { slice_get (shapes_of peg.now.nodes) top.node ≡ Some (Shape.Seq members.now) }
+    requires some { more ≡ true → 0 < length window.now }
+    requires fits { (below : List Frame) × Fits peg.now window.now more (counted cells.old (top ∷ below)) }
+    ensures { (below : List Frame) → Fits peg.now window.now more (counted cells.old (top ∷ below)) →
+        IsOn peg.now window.now more below cells.old cells.new top result }
+{
+    let _start = peg.start();
+    let mut end = top.end;
+    for i in top.next..members.len() {
+        match see(peg, window, more, cells, members[i], end) {
+            Ok(None) => {
+                return Ok(Turn::Ask {
+                    node: members[i],
+                    place: end,
+                    next: i,
+                    end,
+                });
+            }
+            Ok(Some(Found::Failed)) => return Ok(Turn::Answer(Found::Failed)),
+            Ok(Some(Found::Took(after))) => end = after,
+            Err(halt) => return Err(halt),
+        }
+    }
+    Ok(Turn::Answer(Found::Took(end)))
+}
+
+// On through the alternatives of a choice.
+#[inline(always)]
+fn first_on(
+    peg: &SoundPeg,
+    window: &[u8],
+    more: bool,
+    cells: &mut Cells,
+    alternatives: &[usize],
+    top: Frame,
+) -> Result<Turn, Halt>
+    requires alternatives { slice_get (shapes_of peg.now.nodes) top.node ≡ Some (Shape.Choice alternatives.now) }
+    requires some { more ≡ true → 0 < length window.now }
+    requires fits { (below : List Frame) × Fits peg.now window.now more (counted cells.old (top ∷ below)) }
+    ensures { (below : List Frame) → Fits peg.now window.now more (counted cells.old (top ∷ below)) →
+        IsOn peg.now window.now more below cells.old cells.new top result }
+{
+    let _start = peg.start();
+    for i in top.next..alternatives.len() {
+        match see(peg, window, more, cells, alternatives[i], top.place) {
+            Ok(None) => {
+                return Ok(Turn::Ask {
+                    node: alternatives[i],
+                    place: top.place,
+                    next: i,
+                    end: top.place,
+                });
+            }
+            Ok(Some(Found::Failed)) => {}
+            Ok(Some(Found::Took(end))) => return Ok(Turn::Answer(Found::Took(end))),
+            Err(halt) => return Err(halt),
+        }
+    }
+    Ok(Turn::Answer(Found::Failed))
+}
+
+/// What the evaluation of a frame's node at its place does next. A node without operands that it asks for gets its cell at
+/// once.
+#[inline(always)]
+pub(crate) fn turn_on(
+    peg: &SoundPeg,
+    window: &[u8],
+    more: bool,
+    cells: &mut Cells,
+    top: Frame,
+) -> Result<Turn, Halt>
+    requires some { more ≡ true → 0 < length window.now }
+    requires fits { (below : List Frame) × Fits peg.now window.now more (counted cells.old (top ∷ below)) }
+    ensures { (below : List Frame) → Fits peg.now window.now more (counted cells.old (top ∷ below)) →
+        IsOn peg.now window.now more below cells.old cells.new top result }
+{
+    let _start = peg.start();
+    let place = top.place;
+    match peg.node(top.node) {
+        Node::Seq(members) => all_on(peg, window, more, cells, members, top),
+        Node::Choice(alternatives) => first_on(peg, window, more, cells, alternatives, top),
+        Node::Name(id) => {
+            let body = peg.body_node(*id);
+            match see(peg, window, more, cells, body, place) {
+                Ok(found) => Ok(same(found, body, place)),
+                Err(halt) => Err(halt),
+            }
+        }
+        Node::Star(operand) => match see(peg, window, more, cells, *operand, place) {
+            Ok(found) => Ok(star(cells, found, top.node, *operand, place)),
+            Err(halt) => Err(halt),
+        },
+        Node::Plus {
+            operand,
+            star: again,
+        } => match see(peg, window, more, cells, *operand, place) {
+            Ok(found) => Ok(plus(cells, found, *again, *operand, place)),
+            Err(halt) => Err(halt),
+        },
+        Node::Opt(operand) => match see(peg, window, more, cells, *operand, place) {
+            Ok(found) => Ok(opt(found, *operand, place)),
+            Err(halt) => Err(halt),
+        },
+        Node::And(operand) => match see(peg, window, more, cells, *operand, place) {
+            Ok(found) => Ok(and(found, *operand, place)),
+            Err(halt) => Err(halt),
+        },
+        Node::Not(operand) => match see(peg, window, more, cells, *operand, place) {
+            Ok(found) => Ok(not(found, *operand, place)),
+            Err(halt) => Err(halt),
+        },
+        _ => Ok(next_turn(peg, window, more, cells, top)),
+    }
+}
