@@ -8,11 +8,10 @@ use Rattle.std.proofs.lemmas.List.{map-append, length-map}
 use Rattle.leastset.specs.Demands.{Demand, All, One, demand_of, demands_of, row_of, AreNeedsWithin}
 use Rattle.leastset.specs.declared.needs.Need.{Need}
 use Rattle.leastset.proofs.ContainsLemmas.{none_of, only_one, cons_cases}
-use Rattle.abnfread.specs.Element as e
-use Rattle.abnfread.specs.Element.{Element, Elements, Rule, bodies, id_of, none, more}
+use Rattle.abnfread.specs.Element.{Element, Elements, Rule, bodies, id_of, none}
 use Rattle.abnfread.specs.Views.{elements, element_of, elements_of}
 use Rattle.abnfread.specs.declared.elem.Elem.{Elem}
-use Rattle.abnfcheck.specs.RuleNulls.{if_empty, need_of_turns, need_of_repeat, need_of_id, Asks, asks, IsNeedOf, of_text, of_values, of_range, of_concat, of_alt, of_rep, of_opt, of_name, of_prose, AskAll, ask_none, ask_more, HasBodyNeed, HaveBodyNeeds, IsNumbered, AreNumbered}
+use Rattle.abnfcheck.specs.RuleNulls.{if_empty, need_of_turns, Asks, asks, IsNeedOf, of_text, of_values, of_range, of_concat, of_alt, of_rep, of_opt, of_name, of_prose, AskAll, ask_none, ask_more, HaveBodyNeeds, IsNumbered, AreNumbered}
 
 get_below : {A : Type 0} (xs : List A) (n : ℕ) {a : A} → slice_get xs n ≡ Some a → n < length xs
 get_below [] n is = absurd (cc is)
@@ -209,12 +208,12 @@ next_rule rules old now i n body lt at r g = record {
     within = λ k m need is h.
         let l = length-set now i (All (n ∷ [])) in
         let less : m < length now = ⊎_elim
-            (λ here.
-            let one : All (n ∷ []) ≡ need = let s = get_set_here now i (All (n ∷ [])) inside in let t = subst (λ v. slice_get (set now i (All (n ∷ []))) v ≡ Some need) here is in cc (s, t) in
-            let same = only_one n m (subst (λ v. Contains (row_of v) m) (sym one) h) in
-            let low = asks_below rules now (g.asked r.fits) in omega (arith, same, low))
-            (λ other. (g.within r.fits r.within).within k m need (sym (get_set now i (All (n ∷ [])) k other) ∙ is) h)
-            (cases_eq k i) in
+        (λ here.
+        let one : All (n ∷ []) ≡ need = let s = get_set_here now i (All (n ∷ [])) inside in let t = subst (λ v. slice_get (set now i (All (n ∷ []))) v ≡ Some need) here is in cc (s, t) in
+        let same = only_one n m (subst (λ v. Contains (row_of v) m) (sym one) h) in
+        let low = asks_below rules now (g.asked r.fits) in omega (arith, same, low))
+        (λ other. (g.within r.fits r.within).within k m need (sym (get_set now i (All (n ∷ [])) k other) ∙ is) h)
+        (cases_eq k i) in
         omega (arith, less, l);
   };
   have = λ id other less here. ⊎_elim

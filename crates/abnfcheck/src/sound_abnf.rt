@@ -40,11 +40,7 @@ impl SoundAbnf {
     ///
     /// # Errors
     /// `Memory` if an allocation fails; the rules are dropped then.
-    pub fn new(
-        alloc: Global,
-        rules: RuleTable<Elem>,
-        judged: usize,
-    ) -> Result<SoundAbnf, Memory>
+    pub fn new(alloc: Global, rules: RuleTable<Elem>, judged: usize) -> Result<SoundAbnf, Memory>
         requires { IsSoundGrammar (record { rules = rules; judged = judged }) }
         ensures rules { IfOk result (λ g. g.rules ≡ rules) }
         ensures judged { IfOk result (λ g. g.judged ≡ judged) }

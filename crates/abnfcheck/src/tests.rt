@@ -40,14 +40,29 @@ static ROWS: [Row; 24] = [
     (b"a = \"x\"", None, b"", Some(b"a")),
     // prose refuses only if the judged rule reaches it
     (b"a = <any text> / b\nb = \"x\"", None, b"<a ", None),
-    (b"a = <any text> / b\nb = \"x\"", Some("b"), b"<a -a ", Some(b"b")),
-    (b"a = \"x\"\nb = [2*(\"y\" <p>)]\nc = b", None, b"<b -c ", Some(b"a")),
+    (
+        b"a = <any text> / b\nb = \"x\"",
+        Some("b"),
+        b"<a -a ",
+        Some(b"b"),
+    ),
+    (
+        b"a = \"x\"\nb = [2*(\"y\" <p>)]\nc = b",
+        None,
+        b"<b -c ",
+        Some(b"a"),
+    ),
     // so does a name without a rule; it is spelled as its first use does
     (b"a = \"x\"\nb = c", None, b"?c -b ", Some(b"a")),
     (b"a = b\nb = *(\"x\" / Foo) FOO / foO", None, b"?Foo ", None),
     // a definition by `=/` that begins a rule never refuses
     (b"x =/ \"a\"", None, b"/x ", Some(b"x")),
-    (b"a = DiGiT\nFoo =/ \"x\"\nfOO =/ \"y\"", None, b"/Foo -Foo ", Some(b"a")),
+    (
+        b"a = DiGiT\nFoo =/ \"x\"\nfOO =/ \"y\"",
+        None,
+        b"/Foo -Foo ",
+        Some(b"a"),
+    ),
     // a definition again always does, once a rule, spelled as the first
     (b"a = \"x\"\na = \"y\"\nA = \"z\"", None, b"=a ", None),
     (b"a = \"x\"\nBb = \"y\"\nBB = c", None, b"=Bb -Bb ", None),
@@ -82,7 +97,10 @@ fn notes_in_order(rt: HostRuntime) -> Result<(), Fail> {
         let checked = check_abnf(rt.alloc(), read_abnf(rt.alloc(), text)?, *rule)?;
         let notes = text_of(rt.alloc(), &checked.notes)?;
         assert!(rt; notes.as_slice() == *want, "the notes on {text:?}");
-        assert!(rt; checked.sound.is_some() == judged.is_some(), "whether {text:?} is sound");
+        assert!(rt;
+            checked.sound.is_some() == judged.is_some(),
+            "whether {text:?} is sound"
+        );
         if let Some(sound) = &checked.sound {
             let name = sound.rules().name(sound.judged());
             assert!(rt; *judged == Some(name), "the judged rule of {text:?}");
@@ -124,7 +142,10 @@ fn empty_strings(rt: HostRuntime) -> Result<(), Fail> {
     for (text, null) in &NULLABLE {
         let sound = sound_of(rt.alloc(), text)?;
         if sound.rules().len() > 0 {
-            assert!(rt; sound.nullable(0) == *null, "whether {text:?} derives the empty string");
+            assert!(rt;
+                sound.nullable(0) == *null,
+                "whether {text:?} derives the empty string"
+            );
         }
     }
     Ok(())

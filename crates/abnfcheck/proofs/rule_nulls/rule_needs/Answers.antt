@@ -1,7 +1,7 @@
 -- The needs of one more rule.
-use Rattle.std.proofs.Common.{arith, ◌<◌, length, ◌∙◌, ap}
+use Rattle.std.proofs.Common.{arith}
 use Rattle.std.proofs.lemmas.List.{length-map, map-set}
-use Rattle.leastset.specs.Demands.{demand_of, demands_of}
+use Rattle.leastset.specs.Demands.{demands_of}
 use Rattle.abnfread.specs.Views.{element_of, rule_of, rules_of}
 use Rattle.abnfcheck.proofs.NameIdsLemmas.{body_shown}
 use Rattle.abnfcheck.proofs.NullNumbersLemmas.{next_rule}
