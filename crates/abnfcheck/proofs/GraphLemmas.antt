@@ -1,21 +1,18 @@
 -- Steps between the ids of names are the uses of rules, and what they reach is what can be reached from the judged rule.
 -- Serves: check_abnf (notes, sound)
-use Rattle.std.proofs.Common.{◌≡◌, ◌↔◌, ℕ, zero, suc, ◌+◌, ◌<◌, ◌≤◌, ◌⊎◌, inl, inr, ⊎_elim, Bool, true, false, ◌||◌, List, [], ◌∷◌, ◌++◌, length, map, Option, Some, None, refl, sym, ◌∙◌, ap, subst, arith, length-append}
+use Rattle.std.proofs.Common.{◌≡◌, ℕ, zero, suc, ◌<◌, ◌≤◌, ◌⊎◌, inl, inr, ⊎_elim, Bool, true, false, ◌||◌, List, [], ◌∷◌, ◌++◌, length, Option, Some, refl, sym, ◌∙◌, ap, subst, arith, length-append}
 use Rattle.std.specs.Prelude.{slice_get, slice_index_or, Contains}
 use Rattle.std.proofs.lemmas.List.{length-map}
-use Rattle.std.proofs.lemmas.Option.{slice_get_within, slice_get-get_or, get_or_from_slice_get, slice_get-map}
 use Rattle.leastset.specs.Reach.{Reaches, here as start, further}
-use Rattle.leastset.specs.StepRows.{Step, row_at, AreStepsWithin}
+use Rattle.leastset.specs.StepRows.{Step, AreStepsWithin}
 use Rattle.leastset.proofs.ContainsLemmas.{none_of, in_first, in_later, cons_cases}
 use Rattle.abnfread.specs.Element as e
 use Rattle.abnfread.specs.Element.{Element, Elements, Rule, bodies, id_of}
-use Rattle.abnfcheck.specs.AbnfGrammar as g
-use Rattle.abnfcheck.specs.AbnfGrammar.{Within, WithinSome, itself, of_concat, of_alt, of_rep, of_opt, of_first, of_later, Reachable, judged_rule, by_name, IsSound}
-use Rattle.abnfcheck.specs.AbnfNotes.{judged_in, IsRefused, by_redefinition, by_name as refused_name, by_prose}
+use Rattle.abnfcheck.specs.AbnfGrammar.{Within, WithinSome, itself, of_concat, of_alt, of_rep, of_opt, of_first, of_later, Reachable, judged_rule, by_name}
+use Rattle.abnfcheck.specs.AbnfNotes.{judged_in}
 use Rattle.abnfcheck.specs.AbnfUses.{names_in, names_in_all, names_used, rule_names, news, Uses, HoldsProse}
 use Rattle.std.specs.Prelude.{option_to_list}
-use Rattle.abnfcheck.specs.NameIds.{IsPlace, IsIdAt, IsJudged, AreIdsOf, no_uses, one_use, AreRows, IsGraph}
-use Rattle.abnfcheck.specs.NameMarks.{ReachesBroken}
+use Rattle.abnfcheck.specs.NameIds.{IsPlace, IsIdAt, IsJudged, AreIdsOf, no_uses, one_use, IsGraph}
 use Rattle.abnfcheck.specs.ProseIn.{prose_in, prose_in_one, prose_marks}
 use Rattle.abnfcheck.proofs.NameIdsLemmas.{place_below, place_id, judged_id}
 

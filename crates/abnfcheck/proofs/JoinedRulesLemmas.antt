@@ -1,11 +1,10 @@
 -- Joined rules begin with those of the file.
 -- Serves: check_abnf (notes, sound)
-use Rattle.std.proofs.Common.{◌≡◌, ℕ, List, [], ◌∷◌, ◌++◌, length, map, Option, Some, None, refl, sym, ◌∙◌, ap, arith, append_assoc, append-nil, length-append}
+use Rattle.std.proofs.Common.{◌≡◌, ℕ, List, [], ◌∷◌, ◌++◌, map, Option, Some, None, refl, sym, ◌∙◌, ap, append_assoc, append-nil}
 use Rattle.std.proofs.lemmas.List.{map-append}
 use Rattle.ruletable.specs.Rules as table
 use Rattle.ruletable.specs.Rules.{find_in, names_of}
-use Rattle.abnfread.specs.Element.{Rule}
-use Rattle.abnfread.specs.Views.{rule_of, rules_of}
+use Rattle.abnfread.specs.Views.{rules_of}
 use Rattle.abnfread.specs.declared.elem.Elem.{Elem}
 use Rattle.abnfcheck.specs.AbnfUses.{rule_names}
 use Rattle.abnfcheck.specs.Joined.{added, joined}

@@ -8,11 +8,10 @@ use Rattle.std.proofs.lemmas.List.{map-append, length-map}
 use Rattle.leastset.specs.Demands.{Demand, All, One, row_of, AreNeedsWithin, owned_demand_of, owned_demands_of}
 use Rattle.leastset.specs.declared.owned.OwnedNeed.{OwnedNeed}
 use Rattle.leastset.proofs.ContainsLemmas.{none_of, only_one, cons_cases}
-use Rattle.abnfread.specs.Element as e
-use Rattle.abnfread.specs.Element.{Element, Elements, Rule, bodies, id_of, none, more}
+use Rattle.abnfread.specs.Element.{Element, Elements, Rule, bodies, id_of, none}
 use Rattle.abnfread.specs.Views.{elements, element_of, elements_of}
 use Rattle.abnfread.specs.declared.elem.Elem.{Elem}
-use Rattle.abnfcheck.specs.RuleNulls.{if_empty, need_of_turns, need_of_repeat, need_of_id, Asks, asks, IsNeedOf, of_text, of_values, of_range, of_concat, of_alt, of_rep, of_opt, of_name, of_prose, AskAll, ask_none, ask_more, HasBodyNeed, HaveBodyNeeds, IsNumbered, AreNumbered}
+use Rattle.abnfcheck.specs.RuleNulls.{if_empty, need_of_turns, Asks, asks, IsNeedOf, of_text, of_values, of_range, of_concat, of_alt, of_rep, of_opt, of_name, of_prose, AskAll, ask_none, ask_more, HaveBodyNeeds, IsNumbered, AreNumbered}
 
 get_below : {A : Type 0} (xs : List A) (n : ℕ) {a : A} → slice_get xs n ≡ Some a → n < length xs
 get_below [] n is = absurd (cc is)

@@ -1,8 +1,8 @@
 -- A number is in the least set exactly if its element derives the empty list.
 -- Serves: check_abnf (sound), nullable
-use Rattle.std.proofs.Common.{◌≡◌, ◌↔◌, ℕ, zero, suc, ◌+◌, ◌<◌, ◌≤◌, ◌⊎◌, inl, inr, ⊎_elim, Bool, true, false, cond, leb, ltb, List, [], ◌∷◌, ◌++◌, length, Option, Some, None, refl, sym, ◌∙◌, ap, subst, arith, leb-true, le-leb, ltb-true, lt-ltb}
+use Rattle.std.proofs.Common.{◌≡◌, ◌↔◌, ℕ, zero, suc, ◌<◌, ◌≤◌, ◌⊎◌, inl, inr, ⊎_elim, Bool, true, false, cond, leb, ltb, List, [], ◌∷◌, ◌++◌, length, Option, Some, None, refl, sym, ◌∙◌, ap, subst, arith, leb-true, le-leb, ltb-true, lt-ltb}
 use Rattle.std.specs.Prelude.{slice_get, Contains}
-use Rattle.leastset.specs.Demands.{Demand, All, One, AreNeedsWithin}
+use Rattle.leastset.specs.Demands.{Demand, All, One}
 use Rattle.leastset.specs.Least.{Comes, by_all, by_one, AreMarksOfThose}
 use Rattle.std.proofs.lemmas.Bool.{cases_lt}
 use Rattle.leastset.specs.NumberMarks.{IsMarked}
@@ -11,7 +11,7 @@ use Rattle.abnfread.specs.Element as e
 use Rattle.abnfread.specs.Element.{Element, Elements, Rule, bodies, body_of, id_of, none, more}
 use Rattle.abnfcheck.specs.Derivable as der
 use Rattle.abnfcheck.specs.Derivable.{Derives, DerivesAll, DerivesSome, DerivesTimes, all_done, then, this, later, no_more, one_more, RuleDerives}
-use Rattle.abnfcheck.specs.RuleNulls.{AreNullMarks, if_empty, need_of_turns, need_of_repeat, need_of_id, Asks, asks, IsNeedOf, of_text, of_values, of_range, of_concat, of_alt, of_rep, of_opt, of_name, of_prose, AskAll, ask_none, ask_more, HasBodyNeed, HaveBodyNeeds}
+use Rattle.abnfcheck.specs.RuleNulls.{AreNullMarks, if_empty, need_of_turns, need_of_repeat, Asks, asks, IsNeedOf, of_text, of_values, of_range, of_concat, of_alt, of_rep, of_opt, of_name, of_prose, AskAll, ask_none, ask_more, HaveBodyNeeds}
 use Rattle.abnfcheck.proofs.GraphLemmas.{body_below, body_there}
 use Rattle.abnfcheck.proofs.RuleIdLemmas.{body_at_id}
 

@@ -1,5 +1,5 @@
 -- Marks on names and rules by id. Private helpers alone use it.
-use Rattle.std.specs.Prelude.{◌≡◌, ◌⊎◌, ◌↔◌, ℕ, ◌<◌, ◌==◌, Bool, true, false, List, [], ◌∷◌, length, map, take, slice_index_or, Contains}
+use Rattle.std.specs.Prelude.{◌≡◌, ◌⊎◌, ◌↔◌, ℕ, ◌<◌, Bool, true, false, List, [], ◌∷◌, length, slice_index_or, Contains}
 use Rattle.leastset.specs.NumberMarks.{IsMarked}
 use Rattle.leastset.specs.Reach.{Reaches}
 use Rattle.leastset.specs.StepRows.{Step}

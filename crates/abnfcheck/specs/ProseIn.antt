@@ -1,5 +1,5 @@
 -- Whether prose stands in an element. Private helpers alone use it.
-use Rattle.std.specs.Prelude.{ℕ, Bool, true, false, ◌||◌, List, map}
+use Rattle.std.specs.Prelude.{Bool, true, false, ◌||◌, List, map}
 use Rattle.abnfread.specs.Element.{Element, Elements, Text, Values, Range, Concat, Alt, Rep, Opt, Name, Prose, none, more, Rule}
 
 abbrev mutual

@@ -1,12 +1,11 @@
 -- The joined rules begin with those of the file.
-use Rattle.std.proofs.Common.{◌≡◌, ◌<◌, ◌∙◌, ◌++◌, ap, arith, length, map, subst, sym, length-append, ⊎_elim}
+use Rattle.std.proofs.Common.{◌∙◌, ap, arith, length, subst, sym, length-append}
 use Rattle.std.specs.Prelude.{option_copied}
 use Rattle.std.proofs.lemmas.List.{length-map}
 use Rattle.ruletable.specs.Rules.{names_of}
 use Rattle.abnfread.specs.Views.{rule_of, rules_of}
 use Rattle.abnfcheck.specs.AbnfGrammar.{IsSound}
 use Rattle.abnfcheck.specs.AbnfNotes.{judged_in, IsRefused}
-use Rattle.abnfcheck.specs.AbnfUses.{rule_names}
 use Rattle.abnfcheck.specs.Joined.{joined}
 use Rattle.abnfcheck.proofs.AbnfNotesLemmas.{judged_where, sound_unless_refused}
 use Rattle.abnfcheck.proofs.JoinedRulesLemmas.{extends_joined, names_begin}

@@ -2,7 +2,7 @@
 use Rattle.std.proofs.Common.{ap, arith, length, refl}
 use Rattle.std.proofs.lemmas.List.{length-map}
 use Rattle.abnfread.specs.Element.{Rule}
-use Rattle.abnfcheck.specs.ProseIn.{prose_in, prose_marks}
+use Rattle.abnfcheck.specs.ProseIn.{prose_in}
 use Rattle.abnfcheck.proofs.AbnfNotesLemmas.{refused_again, refused_no_rule, refused_broken, broken_refused}
 use Rattle.abnfcheck.proofs.abnf_notes.is_refused.Goals as goal
 

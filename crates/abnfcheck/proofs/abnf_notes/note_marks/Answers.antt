@@ -1,12 +1,12 @@
 -- The marks of each kind are exact.
-use Rattle.std.proofs.Common.{◌≡◌, ◌≤◌, ◌∙◌, ap, arith, length, map, not, subst, sym, take}
+use Rattle.std.proofs.Common.{◌≤◌, ◌∙◌, ap, arith, length, map, not, subst, sym, take}
 use Rattle.std.proofs.lemmas.List.{length-map}
 use Rattle.leastset.proofs.RowsOfLemmas.{length-rows}
 use Rattle.abnfread.specs.Element.{Rule}
 use Rattle.abnfcheck.specs.AbnfNotes.{judged_in, IsUnused}
 use Rattle.abnfcheck.specs.AbnfUses.{HoldsProse}
 use Rattle.abnfcheck.specs.NameMarks.{AreMarks}
-use Rattle.abnfcheck.specs.ProseIn.{prose_in, prose_marks}
+use Rattle.abnfcheck.specs.ProseIn.{prose_in}
 use Rattle.abnfcheck.proofs.AbnfNotesLemmas.{ids_marked, prose_exact, unused_marks}
 use Rattle.abnfcheck.proofs.abnf_notes.note_marks.Goals as goal
 

@@ -1,5 +1,5 @@
 -- The names in one more member, and in each kind of element.
-use Rattle.std.proofs.Common.{◌++◌, subst, arith, length, take}
+use Rattle.std.proofs.Common.{◌++◌, subst, arith}
 use Rattle.std.proofs.lemmas.List.{take_all}
 use Rattle.abnfread.specs.Views.{elements_of}
 use Rattle.abnfread.proofs.ElementLemmas.{element-Concat, element-Alt, element-Rep, element-Opt, element-Name}

@@ -1,14 +1,12 @@
 -- The names of the rules, the given one, and those in the bodies.
-use Rattle.std.proofs.Common.{◌≡◌, ◌∙◌, ◌++◌, ℕ, List, Option, ap, sym, subst, length, arith}
+use Rattle.std.proofs.Common.{◌∙◌, sym, arith}
 use Rattle.std.specs.Prelude.{option_copied, option_to_list}
 use Rattle.std.proofs.lemmas.List.{length-map}
 use Rattle.leastset.specs.StepRows.{rows_of}
 use Rattle.leastset.proofs.RowsOfLemmas.{length-rows}
 use Rattle.ruletable.specs.Rules.{names_of}
-use Rattle.abnfread.specs.Element.{Rule}
 use Rattle.abnfread.specs.Views.{rules_of}
-use Rattle.abnfcheck.specs.AbnfUses.{names_used, news, rule_names}
-use Rattle.abnfcheck.specs.NameIds.{AreRowsTo}
+use Rattle.abnfcheck.specs.AbnfUses.{rule_names}
 use Rattle.abnfcheck.proofs.NameIdsLemmas.{first_known, graph_from, names_same, rows_fit}
 use Rattle.abnfcheck.proofs.name_ids.name_ids.Goals as goal
 

@@ -1,8 +1,8 @@
 -- One more row.
-use Rattle.std.proofs.Common.{◌<◌, arith, subst, sym, ◌∙◌, length, Contains}
+use Rattle.std.proofs.Common.{arith, subst, sym, ◌∙◌, Contains}
 use Rattle.leastset.specs.StepRows.{rows_of}
 use Rattle.leastset.proofs.RowsOfLemmas.{row_items, length-rows}
-use Rattle.abnfcheck.proofs.NameMarksLemmas.{targets_next, targets_all}
+use Rattle.abnfcheck.proofs.NameMarksLemmas.{targets_next}
 use Rattle.abnfcheck.proofs.name_marks.mark_targets.Goals as goal
 
 pub mark-requires : goal.mark-requires

@@ -1,5 +1,5 @@
 -- The need of each kind of element, and of one more member.
-use Rattle.std.proofs.Common.{refl, sym, length}
+use Rattle.std.proofs.Common.{refl, sym}
 use Rattle.std.proofs.lemmas.List.{length-map}
 use Rattle.abnfread.specs.Views.{rule_of}
 use Rattle.abnfread.proofs.ElementLemmas.{element-Text, element-Values, element-Range, element-Concat, element-Alt, element-Rep, element-Opt, element-Name, element-Prose}
