@@ -1,10 +1,9 @@
-use Rattle.std.proofs.Common.{◌≡◌, ◌∷◌, ap, None, refl, arith, length}
+use Rattle.std.proofs.Common.{◌∷◌, ap, None, refl, arith, length}
 use Rattle.std.proofs.lemmas.List.{length-map}
 use Rattle.pegread.specs.Views.{rules_of}
 use Rattle.gramcheck.specs.Nodes.{shape_of, shapes_of}
 use Rattle.gramcheck.proofs.Spelling.{is_there}
 use Rattle.desk.specs.Desk.{beginning}
-use Rattle.desk.specs.Ahead.{come_to}
 use Rattle.desk.specs.Path.{Goes}
 use Rattle.desk.proofs.IsStepLemmas.{read_top}
 use Rattle.desk.proofs.WalksLemmas.{depth, last_at, leaves, emits, turns, goes_into, goes_then, goes_at, room_into}
