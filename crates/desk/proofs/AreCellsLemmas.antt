@@ -11,8 +11,8 @@ use Rattle.cells.specs.Entries.{found_at, AreDifferent}
 use Rattle.desk.specs.State.{HasCell, IsStack, no_frame, bottom, above, AreCells}
 use Rattle.desk.specs.Visits.{Visits}
 use Rattle.desk.proofs.AsksLemmas.{is_visited}
-use Rattle.desk.proofs.CodeLemmas.{In, now, on, in_cases, Differ, code, code_same, code_below, cell_codes, all_codes, cell_of, not_among, cells_differ, length_codes, at_most_below, cells_at_most}
-use Rattle.desk.proofs.IsStackLemmas.{high, AreAbove, are_above, top_visits, top_is_open}
+use Rattle.desk.proofs.CodeLemmas.{In, in_cases, Differ, code, code_same, code_below, cell_codes, all_codes, cell_of, not_among, cells_differ, length_codes, at_most_below}
+use Rattle.desk.proofs.IsStackLemmas.{high, AreAbove, are_above, top_visits}
 
 module _ (rules : List Rule) (start : ℕ) (nodes : List Shape) (bodies ranks x : List ℕ) (more : Bool) (sound : IsRanked rules start nodes bodies ranks) where
   -- a pair that is visited is of a node that is there, and a place of the input

@@ -1,12 +1,11 @@
 -- What an evaluation asks for: it is spelled, stands no earlier, and is lower where it stands at the same place.
 -- Serves: Desk::step, Desk::match_unit, Desk::replay.
-use Rattle.std.proofs.Common.{◌≡◌, ◌⊎◌, inl, inr, ℕ, zero, suc, ◌<◌, ◌≤◌, List, [], ◌∷◌, length, Some, refl, sym, ap, subst, arith}
-use Rattle.std.specs.Prelude.{slice_get, slice_index, Contains}
+use Rattle.std.proofs.Common.{◌≡◌, inl, inr, ℕ, ◌<◌, ◌≤◌, List, length, Some, sym, subst, arith}
+use Rattle.std.specs.Prelude.{slice_get, Contains}
 use Rattle.pegread.specs.Pattern as expr
 use Rattle.pegread.specs.Pattern.{Pattern, Patterns, Rule}
 use Rattle.gramcheck.specs.Nodes as node
 use Rattle.gramcheck.specs.Nodes.{Shape, Spells, spells_star, SpellAll, spell_none, spell_more}
-use Rattle.gramcheck.specs.Outcome.{Event, Outcome, Fails, Takes}
 use Rattle.gramcheck.specs.Ranks.{IsNullNode, NodeStep, FrontNode, front_first, front_later, to_body, to_alternative, to_member, to_starred, to_repeated, to_optional, to_asserted, to_denied}
 use Rattle.gramcheck.specs.Sound.{IsRanked}
 use Rattle.leastset.proofs.ContainsLemmas.{in_first, in_later}
@@ -14,7 +13,7 @@ use Rattle.gramcheck.proofs.Spelled.{has_shape}
 use Rattle.gramcheck.proofs.Taking.{forward, null_of}
 use Rattle.pegmatch.proofs.Falling.{at, falls_to}
 use Rattle.pegmatch.specs.Kept.{SpellsSome}
-use Rattle.desk.specs.Visits.{NodeGives, NodeTakes, AsksMember, member_here, member_later, AsksAlternative, alternative_here, alternative_later, AsksBy, Asks, Visits, first, asked}
+use Rattle.desk.specs.Visits.{NodeTakes, AsksMember, member_here, member_later, AsksAlternative, alternative_here, alternative_later, AsksBy, Asks, Visits, first, asked}
 
 module _ (rules : List Rule) (start : ℕ) (nodes : List Shape) (bodies ranks x : List ℕ) (sound : IsRanked rules start nodes bodies ranks) where
   -- what node n at p asks for: node m at q

@@ -1,6 +1,6 @@
 -- There are no more cells and frames than nodes at places.
 -- Serves: Desk::step, Desk::match_unit, Desk::replay.
-use Rattle.std.proofs.Common.{◌≡◌, ◌⊎◌, inl, inr, ℕ, zero, suc, ◌+◌, ◌*◌, ◌<◌, ◌≤◌, Bool, true, false, if◌then◌else◌, List, [], ◌∷◌, ◌++◌, length, Option, Some, None, refl, sym, ◌∙◌, ap, subst, arith, add-one}
+use Rattle.std.proofs.Common.{◌≡◌, ◌⊎◌, inl, inr, ℕ, zero, suc, ◌+◌, ◌*◌, ◌<◌, ◌≤◌, Bool, true, false, if◌then◌else◌, List, [], ◌∷◌, length, Option, Some, None, refl, sym, ◌∙◌, ap, subst, arith}
 use Rattle.std.proofs.Math.Nat.{mul-le-mul_right}
 use Rattle.std.proofs.lemmas.Bool.{cases_lt, cases_order}
 use Rattle.cells.specs.Entries.{Entry}
@@ -8,7 +8,7 @@ use Rattle.desk.specs.declared.frame.Frame.{Frame}
 use Rattle.cells.specs.declared.cell.Found.{Found}
 use Rattle.cells.specs.Entries.{found_at, AreDifferent}
 use Rattle.desk.specs.State.{HasCell}
-use Rattle.desk.proofs.IsPutLemmas.{is_of, own, is_own}
+use Rattle.desk.proofs.IsPutLemmas.{is_of, own}
 
 pub data In : ℕ → List ℕ → Type 0 where
   now : {a b : ℕ} {xs : List ℕ} → a ≡ b → In a (b ∷ xs)

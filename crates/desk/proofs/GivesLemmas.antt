@@ -6,13 +6,13 @@ use Rattle.pegread.specs.Pattern as expr
 use Rattle.pegread.specs.Pattern.{Pattern, Patterns, Rule}
 use Rattle.gramcheck.specs.Nodes as node
 use Rattle.gramcheck.specs.Nodes.{Shape, Spells, spells_star}
-use Rattle.gramcheck.specs.Outcome.{Event, Outcome, Fails, Takes, Gives, GivesAll, GivesFirst, name, seq, choice, opt_takes, opt_none, star_none, star_more, plus_fails, plus_takes, and_takes, and_fails, not_takes, not_fails}
+use Rattle.gramcheck.specs.Outcome.{Event, Outcome, Fails, Takes, Gives, name, opt_takes, opt_none, star_none, star_more, plus_fails, plus_takes, and_takes, and_fails, not_takes, not_fails}
 use Rattle.gramcheck.specs.Sound.{IsRanked}
 use Rattle.gramcheck.proofs.Ids.{body_at_id}
 use Rattle.gramcheck.proofs.Spelled.{has_shape}
 use Rattle.pegmatch.specs.Kept.{SpellsSome}
 use Rattle.desk.specs.Visits.{NodeGives}
-use Rattle.desk.proofs.NodeGivesLemmas.{gives_as, one_spelled}
+use Rattle.desk.proofs.NodeGivesLemmas.{gives_as}
 
 abbrev DoesTake : Outcome → Type 0
 DoesTake Fails = ⊥

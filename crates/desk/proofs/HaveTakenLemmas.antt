@@ -1,21 +1,17 @@
 -- Members and alternatives that have cells: what the whole gives, and what it asked for.
 -- Serves: Desk::step, Desk::match_unit, Desk::replay.
-use Rattle.std.proofs.Common.{◌≡◌, ◌⊎◌, inl, inr, ℕ, zero, suc, ◌+◌, add-one, ◌<◌, ◌≤◌, max, Bool, true, List, [], ◌∷◌, ◌++◌, length, get_or, Option, Some, None, refl, sym, ◌∙◌, ap, subst, arith}
-use Rattle.std.specs.Prelude.{slice_get}
-use Rattle.pegread.specs.Pattern as expr
+use Rattle.std.proofs.Common.{◌≡◌, ℕ, suc, ◌+◌, add-one, ◌<◌, ◌≤◌, max, Bool, true, List, [], ◌∷◌, ◌++◌, length, get_or, Some, sym, ◌∙◌, ap, subst, arith}
 use Rattle.pegread.specs.Pattern.{Pattern, Patterns, Rule}
-use Rattle.gramcheck.specs.Nodes as node
 use Rattle.gramcheck.specs.Nodes.{Shape, Spells, SpellAll, spell_none, spell_more}
-use Rattle.gramcheck.specs.Outcome.{Event, Outcome, Fails, Takes, Gives, seq, choice, GivesAll, all_done, one_fails, rest_fails, rest_takes, GivesFirst, all_failed, first_takes, first_fails}
+use Rattle.gramcheck.specs.Outcome.{Event, Outcome, Gives, GivesAll, all_done, one_fails, rest_fails, rest_takes, GivesFirst, all_failed, first_takes, first_fails}
 use Rattle.gramcheck.specs.Sound.{IsRanked}
 use Rattle.gramcheck.proofs.OneOutcomeLemmas.{Same}
-use Rattle.gramcheck.proofs.Spelled.{has_shape}
-use Rattle.pegmatch.specs.Kept.{SpellsSome, outcome_of}
+use Rattle.pegmatch.specs.Kept.{outcome_of}
 use Rattle.cells.specs.declared.cell.Found.{Found}
 use Rattle.cells.specs.declared.cell.Found.TheVariants.{Failed, Took}
 use Rattle.cells.specs.Entries.{Entry}
 use Rattle.cells.specs.Entries.{found_at}
-use Rattle.desk.specs.State.{HasCell, IsPut, HaveTaken, none_taken, one_taken, HaveFailed, none_failed, one_failed, IsFound}
+use Rattle.desk.specs.State.{HasCell, HaveTaken, none_taken, one_taken, HaveFailed, none_failed, one_failed, IsFound}
 use Rattle.desk.specs.Visits.{NodeGives, NodeTakes, NodeFails, AsksMember, member_here, member_later, AsksAlternative, alternative_here, alternative_later}
 use Rattle.desk.proofs.NodeGivesLemmas.{gives_as, same_node}
 

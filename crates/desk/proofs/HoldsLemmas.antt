@@ -1,11 +1,11 @@
 -- A desk that holds a success has the cells of a walk over its events.
 -- Serves: Desk::match_unit, Desk::replay.
-use Rattle.std.proofs.Common.{◌≡◌, ℕ, ◌≤◌, Bool, List, [], ◌∷◌, ◌++◌, length, Some, refl, sym, ◌∙◌, ap, subst, arith, append-nil, get_or}
+use Rattle.std.proofs.Common.{◌≡◌, ℕ, ◌≤◌, Bool, List, [], ◌∷◌, length, Some, sym, ap, subst, arith, append-nil, get_or}
 use Rattle.std.specs.Prelude.{slice_get}
 use Rattle.pegread.specs.Views.{rules_of}
 use Rattle.gramcheck.specs.Grammar.{Grammar, IsSoundGrammar}
 use Rattle.gramcheck.specs.Nodes.{shapes_of, Spells}
-use Rattle.gramcheck.specs.Outcome.{Event, Takes}
+use Rattle.gramcheck.specs.Outcome.{Event}
 use Rattle.pegmatch.specs.Answers.{IsAnswer}
 use Rattle.pegmatch.specs.declared.matcher.Unit.{Unit as UnitAnswer}
 use Rattle.pegmatch.specs.declared.matcher.Unit.TheVariants as unit
@@ -15,7 +15,7 @@ use Rattle.desk.specs.declared.frame.Frame.{Frame}
 use Rattle.desk.specs.Desk.{View, beginning, IsDone, IsOutcome, Holds}
 use Rattle.desk.specs.Path.{Walks, no_walk, walk}
 use Rattle.desk.specs.State.{HasCell, AreCells}
-use Rattle.desk.specs.Visits.{NodeGives, first, asked}
+use Rattle.desk.specs.Visits.{first, asked}
 use Rattle.gramcheck.specs.Rising.{Rise}
 use Rattle.gramcheck.proofs.Rising.{Rise-upper}
 use Rattle.gramcheck.proofs.Starting.{rises_of_start}

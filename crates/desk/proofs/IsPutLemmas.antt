@@ -5,7 +5,7 @@ use Rattle.std.proofs.lemmas.Bool.{cases_Bool, eqb-true, eq-eqb, and_parts, and_
 use Rattle.cells.specs.declared.cell.Found.{Found}
 use Rattle.cells.specs.Entries.{Entry}
 use Rattle.cells.specs.Entries.{found_at, AreDifferent}
-use Rattle.desk.specs.State.{IsPut, HasCell}
+use Rattle.desk.specs.State.{IsPut}
 
 -- whether the cell is of that node and place
 abbrev pub is_of : Entry → ℕ → ℕ → Bool

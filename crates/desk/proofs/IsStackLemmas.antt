@@ -1,22 +1,19 @@
 -- Frames that are pushed, and turned into cells.
 -- Serves: Desk::begin, Desk::step, Desk::match_unit.
-use Rattle.std.proofs.Common.{◌≡◌, ◌⊎◌, inl, inr, ℕ, zero, ◌<◌, ◌≤◌, Bool, true, List, [], ◌∷◌, length, Option, Some, None, refl, sym, ◌∙◌, ap, subst, arith}
+use Rattle.std.proofs.Common.{◌≡◌, inl, inr, ℕ, ◌<◌, ◌≤◌, Bool, List, [], ◌∷◌, Some, refl, sym, ◌∙◌, subst, arith}
 use Rattle.std.specs.Prelude.{slice_get}
 use Rattle.pegread.specs.Pattern.{Rule}
 use Rattle.gramcheck.specs.Nodes as node
 use Rattle.gramcheck.specs.Nodes.{Shape}
-use Rattle.gramcheck.specs.Outcome.{Outcome}
 use Rattle.gramcheck.specs.Sound.{IsRanked}
 use Rattle.cells.specs.declared.cell.Found.{Found}
-use Rattle.pegmatch.specs.Kept.{SpellsSome}
 use Rattle.cells.specs.Entries.{Entry}
 use Rattle.desk.specs.declared.frame.Frame.{Frame}
-use Rattle.desk.specs.declared.turn.Turn.{Turn}
-use Rattle.desk.specs.declared.turn.Turn.TheVariants.{Ask, Answer, Need}
+use Rattle.desk.specs.declared.turn.Turn.TheVariants.{Ask, Answer}
 use Rattle.cells.specs.Entries.{found_at}
-use Rattle.desk.specs.State.{HasCell, IsPut, HaveTaken, none_taken, HaveFailed, none_failed, HasCome, IsFound, IsUnderWay, IsOpen, IsStack, no_frame, bottom, above, AreCells, HasNoFrame, AreUnderWay}
+use Rattle.desk.specs.State.{HasCell, IsPut, none_taken, none_failed, HasCome, IsUnderWay, IsOpen, IsStack, no_frame, bottom, above, AreCells, HasNoFrame, AreUnderWay}
 use Rattle.desk.specs.Turns.{IsTurn}
-use Rattle.desk.specs.Visits.{NodeGives, Asks, Visits, first, asked}
+use Rattle.desk.specs.Visits.{Asks, Visits, first, asked}
 use Rattle.desk.proofs.AsksLemmas.{height, falls, is_visited}
 use Rattle.desk.proofs.HaveTakenLemmas.{still_taken, still_failed}
 

@@ -1,34 +1,31 @@
 -- What a step makes of a desk.
 -- Serves: Desk::begin, Desk::step, Desk::match_unit.
-use Rattle.std.proofs.Common.{◌≡◌, ◌⊎◌, inl, inr, ℕ, suc, ◌+◌, ◌-◌, ◌*◌, ◌^◌, ◌<◌, ◌≤◌, Bool, true, false, get_or, Result, Ok, Err, OnOk, IfOk, is_err, List, [], ◌∷◌, ◌++◌, length, map, Option, Some, None, refl, sym, ◌∙◌, ap, subst, arith, length-append}
+use Rattle.std.proofs.Common.{◌≡◌, inl, inr, ℕ, suc, ◌+◌, ◌-◌, ◌*◌, ◌^◌, ◌<◌, ◌≤◌, Bool, false, get_or, Result, Ok, Err, OnOk, IfOk, is_err, List, [], ◌∷◌, ◌++◌, length, Option, Some, None, refl, sym, ◌∙◌, ap, subst, arith, length-append}
 use Rattle.std.specs.Prelude.{slice_get}
-use Rattle.std.proofs.Math.Nat.{mul-le-mul_right, mul-le-mul_left}
+use Rattle.std.proofs.Math.Nat.{mul-le-mul_left}
 use Rattle.pegread.specs.Pattern.{Rule}
 use Rattle.pegread.specs.Views.{rules_of}
 use Rattle.gramcheck.specs.Grammar.{Grammar, IsSoundGrammar}
 use Rattle.gramcheck.specs.Nodes.{Shape, shape_of, shapes_of, Spells}
 use Rattle.std.proofs.lemmas.List.{length-map}
 use Rattle.std.proofs.lemmas.Option.{slice_get-get_or}
-use Rattle.gramcheck.specs.Outcome.{Outcome, RuleGives}
-use Rattle.gramcheck.specs.Sound.{IsRanked}
+use Rattle.gramcheck.specs.Outcome.{Outcome}
 use Rattle.gramcheck.proofs.Ending as one
 use Rattle.pegmatch.specs.Answers.{StartGives}
-use Rattle.pegmatch.specs.Kept.{SpellsSome, outcome_of}
+use Rattle.pegmatch.specs.Kept.{SpellsSome}
 use Rattle.cells.specs.declared.cell.Found.{Found}
 use Rattle.cells.specs.declared.cell.Found.TheVariants.{Failed, Took}
 use Rattle.pegmatch.specs.declared.matcher.Unit.{Unit as UnitAnswer}
 use Rattle.pegmatch.specs.declared.matcher.Unit.TheVariants as unit
-use Rattle.cells.specs.Entries.{Entry}
 use Rattle.desk.specs.declared.frame.Frame.{Frame}
-use Rattle.desk.specs.declared.turn.Turn.{Turn}
 use Rattle.desk.specs.declared.turn.Turn.TheVariants.{Ask, Answer, Need}
-use Rattle.cells.specs.Entries.{found_at, AreDifferent}
-use Rattle.desk.specs.Desk.{View, beginning, Fits, HasFrames, IsDone, Pushes, Drops, Reaches, Answers, Ends, IsStep, IsOutcome, told, unit_of}
-use Rattle.desk.specs.State.{HasCell, IsFound, IsPut, IsUnderWay, IsStack, AreCells}
+use Rattle.cells.specs.Entries.{found_at}
+use Rattle.desk.specs.Desk.{View, beginning, Fits, HasFrames, IsDone, Drops, Reaches, Ends, IsStep, IsOutcome, told, unit_of}
+use Rattle.desk.specs.State.{IsPut, IsUnderWay, IsStack}
 use Rattle.desk.specs.Turns.{IsTurn}
-use Rattle.desk.specs.Visits.{NodeGives, Asks, Visits}
+use Rattle.desk.specs.Visits.{NodeGives, Visits}
 use Rattle.desk.proofs.AsksLemmas.{is_visited}
-use Rattle.desk.proofs.AreCellsLemmas.{all_at_most, cell_there, visited_there}
+use Rattle.desk.proofs.AreCellsLemmas.{all_at_most, visited_there}
 use Rattle.desk.proofs.CodeLemmas.{cells_at_most}
 use Rattle.desk.proofs.LookedLemmas.{ends_within}
 use Rattle.desk.proofs.VisitsLemmas.{visits_within}

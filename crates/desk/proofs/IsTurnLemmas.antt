@@ -1,12 +1,12 @@
 -- What an evaluation does next, form by form.
 -- Serves: Desk::step, Desk::match_unit.
-use Rattle.std.proofs.Common.{◌≡◌, ◌⊎◌, inl, inr, ℕ, ◌+◌, ◌<◌, ◌≤◌, max, Bool, true, List, [], ◌∷◌, ◌++◌, length, get_or, Option, Some, None, refl, sym, ◌∙◌, ap, subst, arith}
+use Rattle.std.proofs.Common.{◌≡◌, inl, inr, ℕ, ◌<◌, ◌≤◌, max, Bool, true, List, [], ◌++◌, length, Option, Some, None, refl, sym, subst, arith}
 use Rattle.std.specs.Prelude.{slice_get}
 use Rattle.pegread.specs.Pattern as expr
 use Rattle.pegread.specs.Pattern.{Pattern, Patterns, Rule}
 use Rattle.gramcheck.specs.Nodes as node
 use Rattle.gramcheck.specs.Nodes.{Shape, Spells, SpellAll}
-use Rattle.gramcheck.specs.Outcome.{Event, Outcome, Fails, Takes, Gives, seq, choice}
+use Rattle.gramcheck.specs.Outcome.{Event, Takes, Gives, seq, choice}
 use Rattle.gramcheck.specs.Sound.{IsRanked}
 use Rattle.gramcheck.proofs.Spelled.{has_shape}
 use Rattle.pegmatch.specs.Kept.{SpellsSome, quiet_outcome}
@@ -17,9 +17,9 @@ use Rattle.cells.specs.Entries.{Entry}
 use Rattle.desk.specs.declared.turn.Turn.{Turn}
 use Rattle.desk.specs.declared.turn.Turn.TheVariants.{Ask, Answer, Need}
 use Rattle.cells.specs.Entries.{found_at}
-use Rattle.desk.specs.State.{HasCell, HaveTaken, HaveFailed, HasCome, IsUnderWay, IsFound}
+use Rattle.desk.specs.State.{HasCell, HasCome, IsUnderWay, IsFound}
 use Rattle.desk.specs.Turns.{same_turn, opt_turn, and_turn, not_turn, star_turn, plus_turn, IsLeafTurn, IsWalk, IsSearch, IsTurn}
-use Rattle.desk.specs.Visits.{NodeGives, NodeTakes, AsksBy, Asks}
+use Rattle.desk.specs.Visits.{AsksBy, Asks}
 use Rattle.desk.proofs.GivesLemmas.{name_gives, opt_gives_takes, opt_gives_none, and_gives_takes, and_gives_fails, not_gives_takes, not_gives_fails, star_gives_none, star_gives_more, star_never_fails, plus_gives_fails, plus_gives_takes, plus_star}
 use Rattle.desk.proofs.HaveTakenLemmas.{ends_alike, nor_both, takes_by, asks_member, asks_alternative, all_fail, fail_closed, all_take, take_closed, first_found, found_closed, none_found, none_closed}
 

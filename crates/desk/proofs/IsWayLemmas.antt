@@ -1,8 +1,8 @@
 -- The events of a success in path order, form by form.
 -- Serves: Desk::replay.
-use Rattle.std.proofs.Common.{◌≡◌, ◌⊎◌, inl, inr, ℕ, zero, suc, ◌+◌, ◌<◌, ◌≤◌, max, Bool, true, false, if◌then◌else◌, ◌==◌, nat_lt, List, [], ◌∷◌, ◌++◌, length, drop, get_or, Option, Some, None, refl, sym, ◌∙◌, ap, subst, arith, add-one, append-nil, drop-cons, IfSome}
+use Rattle.std.proofs.Common.{◌≡◌, inl, inr, ℕ, suc, ◌+◌, ◌<◌, ◌≤◌, Bool, true, nat_lt, List, [], ◌∷◌, ◌++◌, length, drop, get_or, Option, Some, None, refl, sym, ◌∙◌, subst, arith, add-one, drop-cons, IfSome}
 use Rattle.std.specs.Prelude.{slice_get}
-use Rattle.std.proofs.lemmas.Bool.{cases_Bool, eqb-true, eqb-false, ltb-true, ltb-false}
+use Rattle.std.proofs.lemmas.Bool.{cases_Bool, ltb-true, ltb-false}
 use Rattle.std.proofs.lemmas.Grind.{common_steps}
 use Rattle.pegread.specs.Pattern as expr
 use Rattle.pegread.specs.Pattern.{Pattern, Patterns, Rule, body_of}
@@ -13,23 +13,22 @@ use Rattle.gramcheck.specs.Outcome.{Event, Outcome, Fails, Takes, Gives, any_tak
 use Rattle.gramcheck.specs.Sound.{IsRanked}
 use Rattle.gramcheck.proofs.OneOutcomeLemmas.{same}
 use Rattle.gramcheck.proofs.Spelled.{has_shape}
-use Rattle.pegmatch.specs.Kept.{SpellsSome}
 use Rattle.cells.specs.declared.cell.Found.{Found}
 use Rattle.cells.specs.declared.cell.Found.TheVariants.{Failed, Took}
 use Rattle.cells.specs.Entries.{Entry}
 use Rattle.desk.specs.declared.frame.Frame.{Frame}
 use Rattle.desk.specs.declared.way.Way.{Way}
-use Rattle.desk.specs.declared.way.Way.TheVariants.{Leave, Emit, TurnTo, GoInto}
+use Rattle.desk.specs.declared.way.Way.TheVariants.{Leave, Emit, TurnTo}
 use Rattle.pegmatch.specs.declared.event.Kept.TheVariants.{Opened, Closed, Acted}
 use Rattle.cells.specs.Entries.{found_at}
 use Rattle.desk.specs.Desk.{beginning}
 use Rattle.pegmatch.specs.Kept.{opened, closed, acted}
-use Rattle.desk.specs.Path.{IsQuiet, opt_way, into, star_way, seq_way, to_first, choice_way, Taking, AllTaking, LeftBy, IsLeft, IsWay, pair_height}
-use Rattle.desk.specs.State.{HasCell, HaveTaken, none_taken, HaveFailed, none_failed, one_failed, IsFound, AreCells}
-use Rattle.desk.specs.Visits.{NodeGives, NodeTakes, Asks, AsksMember, AsksAlternative, alternative_here, alternative_later}
+use Rattle.desk.specs.Path.{IsQuiet, opt_way, into, star_way, seq_way, choice_way, Taking, AllTaking, LeftBy, IsLeft, IsWay, pair_height}
+use Rattle.desk.specs.State.{HasCell, HaveTaken, none_taken, AreCells}
+use Rattle.desk.specs.Visits.{NodeGives, NodeTakes, Asks, AsksAlternative, alternative_here, alternative_later}
 use Rattle.desk.proofs.AsksLemmas.{leads, falls}
 use Rattle.desk.proofs.GivesLemmas.{is_name}
-use Rattle.desk.proofs.NodeGivesLemmas.{gives_as, same_node}
+use Rattle.desk.proofs.NodeGivesLemmas.{gives_as}
 use Rattle.desk.proofs.HaveTakenLemmas.{taken_next, asks_member}
 
 -- where it is to be left, it is left for that reason

@@ -1,17 +1,17 @@
 -- What an evaluation asks for gives an outcome, and looks no further than the evaluation does.
 -- Serves: Desk::match_unit.
-use Rattle.std.proofs.Common.{◌≡◌, inl, inr, ℕ, ◌≤◌, max, List, [], ◌∷◌, length, Some, refl, sym, ap, subst, arith}
+use Rattle.std.proofs.Common.{◌≡◌, inl, inr, ℕ, ◌≤◌, max, List, Some, refl, sym, ap, subst, arith}
 use Rattle.std.specs.Prelude.{slice_get}
 use Rattle.pegread.specs.Pattern as expr
 use Rattle.pegread.specs.Pattern.{Pattern, Patterns, Rule, body_of}
 use Rattle.gramcheck.specs.Nodes as node
 use Rattle.gramcheck.specs.Nodes.{Shape, Spells, spells_star, SpellAll, spell_none, spell_more}
-use Rattle.gramcheck.specs.Outcome.{Event, Outcome, Fails, Takes, Gives, name, seq, choice, opt_takes, opt_none, star_none, star_more, plus_fails, plus_takes, and_takes, and_fails, not_takes, not_fails, GivesAll, one_fails, rest_fails, rest_takes, GivesFirst, first_takes, first_fails}
+use Rattle.gramcheck.specs.Outcome.{Outcome, Fails, Takes, Gives, name, seq, choice, opt_takes, opt_none, star_none, star_more, plus_fails, plus_takes, and_takes, and_fails, not_takes, not_fails, GivesAll, one_fails, rest_fails, rest_takes, GivesFirst, first_takes, first_fails}
 use Rattle.gramcheck.specs.Sound.{IsRanked}
 use Rattle.gramcheck.proofs.OneOutcomeLemmas.{same}
 use Rattle.gramcheck.proofs.LongerInputLemmas.{ends_by}
 use Rattle.gramcheck.proofs.Spelled.{has_shape}
-use Rattle.desk.specs.Visits.{NodeGives, NodeTakes, NodeFails, AsksMember, member_here, member_later, AsksAlternative, alternative_here, alternative_later, AsksBy, Asks, Visits, first, asked}
+use Rattle.desk.specs.Visits.{NodeGives, NodeTakes, AsksMember, member_here, member_later, AsksAlternative, alternative_here, alternative_later, AsksBy, Asks, Visits, first, asked}
 use Rattle.desk.proofs.GivesLemmas.{is_name}
 use Rattle.desk.proofs.NodeGivesLemmas.{gives_as}
 

@@ -1,15 +1,12 @@
 -- A walk's frames: their depth, the events still to come, and the steps that are left.
 -- Serves: Desk::replay.
-use Rattle.std.proofs.Common.{◌≡◌, ◌⊎◌, inl, inr, ℕ, zero, suc, ◌+◌, ◌-◌, ◌*◌, ◌^◌, ◌<◌, ◌≤◌, Bool, true, false, if◌then◌else◌, List, [], ◌∷◌, ◌++◌, length, Option, Some, None, refl, sym, ◌∙◌, ap, subst, arith, append_assoc, append-nil}
-use Rattle.std.specs.Prelude.{slice_get, Contains}
-use Rattle.std.proofs.Math.Nat.{mul-le-mul_right, mul-le-mul_left, pow-le-pow_right, one-le-pow}
+use Rattle.std.proofs.Common.{◌≡◌, inl, inr, ℕ, zero, suc, ◌+◌, ◌-◌, ◌*◌, ◌^◌, ◌<◌, ◌≤◌, Bool, true, false, if◌then◌else◌, List, [], ◌∷◌, ◌++◌, length, Option, Some, None, refl, ◌∙◌, ap, subst, arith, append_assoc}
+use Rattle.std.specs.Prelude.{slice_get}
+use Rattle.std.proofs.Math.Nat.{mul-le-mul_right, pow-le-pow_right, one-le-pow}
 use Rattle.std.proofs.lemmas.Grind.{pow_more}
-use Rattle.std.proofs.lemmas.Bool.{cases_Bool}
 use Rattle.pegread.specs.Pattern.{Rule}
 use Rattle.gramcheck.specs.Nodes.{Shape}
 use Rattle.gramcheck.specs.Outcome.{Event}
-use Rattle.gramcheck.specs.Sound.{IsRanked}
-use Rattle.cells.specs.declared.cell.Found.{Found}
 use Rattle.cells.specs.Entries.{Entry}
 use Rattle.desk.specs.declared.frame.Frame.{Frame}
 use Rattle.desk.specs.declared.way.Way.{Way}
@@ -17,8 +14,8 @@ use Rattle.desk.specs.declared.way.Way.TheVariants.{Leave, Emit, TurnTo, GoInto}
 use Rattle.pegmatch.specs.declared.event.Kept.{Kept}
 use Rattle.cells.specs.Entries.{found_at}
 use Rattle.desk.specs.Desk.{beginning}
-use Rattle.desk.specs.Path.{IsLeft, IsWay, pair_height, frame_height, AreHigher, Walks, no_walk, walk, arity, arity_of, arities, todo, weight, Tells, Begins, Goes}
-use Rattle.desk.specs.State.{HasCell, AreCells}
+use Rattle.desk.specs.Path.{IsLeft, IsWay, pair_height, frame_height, AreHigher, Walks, no_walk, walk, arity, arity_of, arities, todo, Begins, Goes}
+use Rattle.desk.specs.State.{HasCell}
 use Rattle.desk.proofs.CodeLemmas.{In, now, on, in_cases, Differ, at_most, code, code_same, cell_codes, length_codes}
 use Rattle.desk.proofs.IsPutLemmas.{is_of, is_own}
 

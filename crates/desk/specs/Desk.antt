@@ -1,9 +1,9 @@
 -- What contracts see of a desk.
-use Rattle.std.specs.Prelude.{◌≡◌, ◌⊎◌, ℕ, ◌+◌, ◌-◌, ◌*◌, ◌<◌, ◌≤◌, Bool, true, List, [], ◌∷◌, length, slice_get, Option, Some, None, Result, Ok, Err}
+use Rattle.std.specs.Prelude.{◌≡◌, ◌⊎◌, ℕ, ◌+◌, ◌-◌, ◌*◌, ◌<◌, ◌≤◌, Bool, true, List, [], ◌∷◌, length, Option, Some, None}
 use Rattle.pegread.specs.Views.{rules_of}
 use Rattle.gramcheck.specs.Grammar.{Grammar}
 use Rattle.gramcheck.specs.Nodes.{shapes_of}
-use Rattle.gramcheck.specs.Outcome.{Event, Outcome, Fails, Takes}
+use Rattle.gramcheck.specs.Outcome.{Event, Outcome, Takes}
 use Rattle.pegmatch.specs.Answers.{StartGives, WasEnough}
 use Rattle.pegmatch.specs.Kept.{outcome_of}
 use Rattle.cells.specs.declared.cell.Found.{Found}

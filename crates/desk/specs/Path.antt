@@ -1,9 +1,8 @@
 -- A success's events in path order, from cells.
-use Rattle.std.specs.Prelude.{◌≡◌, ◌⊎◌, ℕ, ◌+◌, ◌-◌, ◌*◌, ◌^◌, ◌<◌, ◌≤◌, Bool, List, [], ◌∷◌, ◌++◌, length, drop, get_or, slice_get, slice_index, Option, Some, None, if◌then◌else◌, ◌==◌, nat_lt}
-use Rattle.pegread.specs.Pattern.{Pattern, Patterns, Rule}
+use Rattle.std.specs.Prelude.{◌≡◌, ◌⊎◌, ℕ, ◌+◌, ◌-◌, ◌*◌, ◌^◌, ◌<◌, ◌≤◌, List, [], ◌∷◌, ◌++◌, length, drop, get_or, slice_get, slice_index, Option, Some, None, if◌then◌else◌, ◌==◌, nat_lt}
+use Rattle.pegread.specs.Pattern.{Patterns, Rule}
 use Rattle.gramcheck.specs.Nodes.{Shape, Any, Bytes, Set, Name, Seq, Choice, Star, Plus, Opt, And, Not, Act, Open, Close, SpellAll}
-use Rattle.gramcheck.specs.Outcome as event
-use Rattle.gramcheck.specs.Outcome.{Event, Outcome, Takes, GivesAll}
+use Rattle.gramcheck.specs.Outcome.{Event, Takes, GivesAll}
 use Rattle.pegmatch.specs.Kept.{SpellsSome, StandsFor}
 use Rattle.cells.specs.declared.cell.Found.{Found}
 use Rattle.cells.specs.declared.cell.Found.TheVariants.{Failed, Took}

@@ -1,8 +1,8 @@
 -- What a desk holds on its way: the cells of what was evaluated, and the frames of what is under way.
 use Rattle.std.specs.Prelude.{◌≡◌, ◌⊎◌, ℕ, zero, suc, ◌<◌, Bool, true, List, [], ◌∷◌, length, slice_get, Some, None}
-use Rattle.pegread.specs.Pattern.{Pattern, Rule}
+use Rattle.pegread.specs.Pattern.{Rule}
 use Rattle.gramcheck.specs.Nodes.{Shape, Any, Bytes, Set, Name, Seq, Choice, Star, Plus, Opt, And, Not, Act, Open, Close}
-use Rattle.gramcheck.specs.Outcome.{Event, Outcome, Fails, Takes}
+use Rattle.gramcheck.specs.Outcome.{Event}
 use Rattle.cells.specs.declared.cell.Found.{Found}
 use Rattle.cells.specs.declared.cell.Found.TheVariants.{Failed, Took}
 use Rattle.pegmatch.specs.Kept.{outcome_of}

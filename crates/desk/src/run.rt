@@ -47,12 +47,14 @@ fn go_on(
                 None => Ok(Next::Ended(found)),
             }
         }
-        Ok(Turn::Ask {
-            node,
-            place,
-            next,
-            end,
-        }) => {
+        Ok(
+            Turn::Ask {
+                node,
+                place,
+                next,
+                end,
+            },
+        ) => {
             below.push(Frame {
                 node: top.node,
                 place: top.place,

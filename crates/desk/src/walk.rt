@@ -20,7 +20,7 @@ use pegmatch::Kept;
 
 // Begins with a node at a place. Where its events need no cell there is no frame of it; one that it has comes next.
 #[inline(always)]
-fn begin(peg: &SoundPeg, track: &mut Track, node: usize, place: usize) -> Option<Kept>
+fn begin_at(peg: &SoundPeg, track: &mut Track, node: usize, place: usize) -> Option<Kept>
     requires sound { IsSoundGrammar peg.now }
     requires spells { SpellsSome (rules_of peg.now.rules) (shapes_of peg.now.nodes) node }
     requires room { length track.old.frames < track.old.room }
@@ -63,7 +63,7 @@ pub(crate) fn go(peg: &SoundPeg, window: &[u8], cells: &Cells, track: &mut Track
         }
         Way::TurnTo { node, place } => {
             track.pop();
-            begin(peg, track, node, place)
+            begin_at(peg, track, node, place)
         }
         Way::GoInto {
             node,
@@ -72,7 +72,7 @@ pub(crate) fn go(peg: &SoundPeg, window: &[u8], cells: &Cells, track: &mut Track
             end,
         } => {
             track.come_on(next, end);
-            begin(peg, track, node, place)
+            begin_at(peg, track, node, place)
         }
     }
 }

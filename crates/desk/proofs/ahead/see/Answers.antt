@@ -1,6 +1,6 @@
-use Rattle.std.proofs.Common.{inr, None, refl}
+use Rattle.std.proofs.Common.{inr, None}
 use Rattle.cells.specs.Entries.{found_at}
-use Rattle.std.proofs.Common.{◌≡◌, sym, ◌∙◌}
+use Rattle.std.proofs.Common.{◌≡◌, sym}
 use Rattle.desk.proofs.IsPutLemmas.{is_put}
 use Rattle.desk.proofs.ahead.see.Goals as goal
 

@@ -1,8 +1,6 @@
-use Rattle.std.proofs.Common.{◌≡◌, length, ap, Some, ◌∙◌, arith}
+use Rattle.std.proofs.Common.{ap, Some, ◌∙◌, arith}
 use Rattle.std.proofs.lemmas.List.{length-map}
-use Rattle.std.specs.Prelude.{slice_get}
-use Rattle.gramcheck.specs.Nodes as shape
-use Rattle.gramcheck.specs.Nodes.{shape_of, shapes_of}
+use Rattle.gramcheck.specs.Nodes.{shape_of}
 use Rattle.gramcheck.proofs.Spelling.{is_there}
 use Rattle.pegmatch.proofs.Spelled.{shape_at}
 use Rattle.desk.proofs.IsNextLemmas.{at_top}

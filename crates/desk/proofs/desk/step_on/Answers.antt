@@ -1,8 +1,8 @@
-use Rattle.std.proofs.Common.{rules, refl, sym, ap, ◌∙◌, arith, Bool, true, false}
+use Rattle.std.proofs.Common.{refl}
 use Rattle.std.proofs.lemmas.Bool.{both_ways}
 use Rattle.std.proofs.lemmas.List.{length-map}
 use Rattle.gramcheck.specs.Nodes.{shape_of}
-use Rattle.desk.proofs.IsStepLemmas.{room, read_top, some_frame, is_top, fits_at_most, pushed, dropped, ended, ended_step}
+use Rattle.desk.proofs.IsStepLemmas.{read_top, some_frame, is_top, fits_at_most, pushed, dropped, ended, ended_step}
 use Rattle.desk.proofs.desk.step_on.Goals as goal
 
 pub next_turn-requires-clause-spells : goal.next_turn-requires-clause-spells

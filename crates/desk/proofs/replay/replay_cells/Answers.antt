@@ -1,5 +1,4 @@
-use Rattle.std.proofs.Common.{◌≡◌, ◌≤◌, ◌<◌, ◌∷◌, [], length, Some, sym, ap, arith, ◌∙◌}
-use Rattle.std.specs.Prelude.{slice_get}
+use Rattle.std.proofs.Common.{◌≡◌, ◌∷◌, [], length, sym, ap, arith, ◌∙◌}
 use Rattle.desk.specs.Desk.{beginning}
 use Rattle.desk.proofs.HoldsLemmas.{held_walk, held_cells, held_some, held_rise}
 use Rattle.desk.proofs.IsStepLemmas.{ok_of}

@@ -1,4 +1,4 @@
-use Rattle.std.proofs.Common.{refl, ap, ◌∙◌, ◌∷◌, []}
+use Rattle.std.proofs.Common.{refl}
 use Rattle.desk.proofs.IsStepLemmas.{fits_begin}
 use Rattle.desk.proofs.run.match_on.Goals as goal
 

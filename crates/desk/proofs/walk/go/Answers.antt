@@ -1,10 +1,9 @@
-use Rattle.std.proofs.Common.{◌≡◌, ◌∷◌, ap, None, refl, arith, length}
+use Rattle.std.proofs.Common.{◌∷◌, ap, None, refl, arith, length}
 use Rattle.std.proofs.lemmas.List.{length-map}
 use Rattle.pegread.specs.Views.{rules_of}
 use Rattle.gramcheck.specs.Nodes.{shape_of, shapes_of}
 use Rattle.gramcheck.proofs.Spelling.{is_there}
 use Rattle.desk.specs.Desk.{beginning}
-use Rattle.desk.specs.Ahead.{come_to}
 use Rattle.desk.specs.Path.{Goes}
 use Rattle.desk.proofs.IsStepLemmas.{read_top}
 use Rattle.desk.proofs.WalksLemmas.{depth, last_at, leaves, emits, turns, goes_into, goes_then, goes_at, room_into}
@@ -17,29 +16,29 @@ next_way-requires-clause-there c =
     let there = is_there _ _ last.left.spelled.1 in
     omega (arith, there, length-map c.args.peg.now.nodes shape_of)
 
-pub begin-requires-clause-spells : goal.begin-requires-clause-spells
-begin-requires-clause-spells c =
+pub begin_at-requires-clause-spells : goal.begin_at-requires-clause-spells
+begin_at-requires-clause-spells c =
     let is = read_top _ _ _ _ c.requires.top.2 (c.top-top.ensures _ _ c.requires.top.2) in
     let last = last_at _ _ _ _ _ _ _ _ _ _ is c.requires.walks.1 in
     let way = c.in-TurnTo.ensures _ _ _ c.requires.cells.1 last.left in
     way.0.spelled
 
-pub begin-requires-clause-room : goal.begin-requires-clause-room
-begin-requires-clause-room c =
+pub begin_at-requires-clause-room : goal.begin_at-requires-clause-room
+begin_at-requires-clause-room c =
     let deep = depth _ _ _ _ _ _ _ _ c.requires.walks.1 in
     let before = ap length c.requires.top.2 in
     let after = ap length (c.pop-in-TurnTo.ensures.frames _ _ c.requires.top.2) in
     omega (arith, deep, before, after, c.requires.room, c.pop-in-TurnTo.ensures.room)
 
-pub begin-requires-in-GoInto-clause-spells : goal.begin-requires-in-GoInto-clause-spells
-begin-requires-in-GoInto-clause-spells c =
+pub begin_at-requires-in-GoInto-clause-spells : goal.begin_at-requires-in-GoInto-clause-spells
+begin_at-requires-in-GoInto-clause-spells c =
     let is = read_top _ _ _ _ c.requires.top.2 (c.top-top.ensures _ _ c.requires.top.2) in
     let last = last_at _ _ _ _ _ _ _ _ _ _ is c.requires.walks.1 in
     let way = c.in-GoInto.ensures _ _ _ c.requires.cells.1 last.left in
     way.3.spelled
 
-pub begin-requires-in-GoInto-clause-room : goal.begin-requires-in-GoInto-clause-room
-begin-requires-in-GoInto-clause-room c =
+pub begin_at-requires-in-GoInto-clause-room : goal.begin_at-requires-in-GoInto-clause-room
+begin_at-requires-in-GoInto-clause-room c =
     let is = read_top _ _ _ _ c.requires.top.2 (c.top-top.ensures _ _ c.requires.top.2) in
     let last = last_at _ _ _ _ _ _ _ _ _ _ is c.requires.walks.1 in
     let way = c.in-GoInto.ensures _ _ _ c.requires.cells.1 last.left in
@@ -68,7 +67,7 @@ returns-in-TurnTo-clause-goes c = λ all walks.
     let way = c.in-TurnTo.ensures _ _ _ c.requires.cells.1 last.left in
     let g : Goes (rules_of c.args.peg.now.rules) (shapes_of c.args.peg.now.nodes) c.args.peg.now.bodies c.args.peg.now.ranks c.args.window.now c.args.cells.now (c.top-top.result ∷ c.requires.top.1) None all (beginning c.in-TurnTo.node c.in-TurnTo.place ∷ c.pop-in-TurnTo.new.self.frames) =
     rw (c.pop-in-TurnTo.ensures.frames _ _ is) (turns _ _ _ _ _ _ _ _ all last _ _ way) in
-    goes_at _ _ _ _ _ _ _ _ _ _ _ _ is (goes_then _ _ _ _ _ _ _ _ _ _ _ g (c.begin.ensures.begins _ _ _ _ c.requires.cells.1 g.walks))
+    goes_at _ _ _ _ _ _ _ _ _ _ _ _ is (goes_then _ _ _ _ _ _ _ _ _ _ _ g (c.begin_at.ensures.begins _ _ _ _ c.requires.cells.1 g.walks))
 
 pub returns-in-GoInto-clause-goes : goal.returns-in-GoInto-clause-goes
 returns-in-GoInto-clause-goes c = λ all walks.
@@ -77,4 +76,4 @@ returns-in-GoInto-clause-goes c = λ all walks.
     let way = c.in-GoInto.ensures _ _ _ c.requires.cells.1 last.left in
     let g : Goes (rules_of c.args.peg.now.rules) (shapes_of c.args.peg.now.nodes) c.args.peg.now.bodies c.args.peg.now.ranks c.args.window.now c.args.cells.now (c.top-top.result ∷ c.requires.top.1) None all (beginning c.in-GoInto.node c.in-GoInto.place ∷ c.come_on.new.self.frames) =
     rw (c.come_on.ensures.frames _ _ is) (goes_into _ _ _ _ _ _ _ _ all last _ _ _ _ way) in
-    goes_at _ _ _ _ _ _ _ _ _ _ _ _ is (goes_then _ _ _ _ _ _ _ _ _ _ _ g (c.begin-in-GoInto.ensures.begins _ _ _ _ c.requires.cells.1 g.walks))
+    goes_at _ _ _ _ _ _ _ _ _ _ _ _ is (goes_then _ _ _ _ _ _ _ _ _ _ _ g (c.begin_at-in-GoInto.ensures.begins _ _ _ _ c.requires.cells.1 g.walks))

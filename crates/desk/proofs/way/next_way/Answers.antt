@@ -1,4 +1,4 @@
-use Rattle.std.proofs.Common.{rules, ap, refl, Some, ◌≡◌, ◌∙◌, arith}
+use Rattle.std.proofs.Common.{ap, refl, Some, ◌≡◌, ◌∙◌, arith}
 use Rattle.std.specs.Prelude.{slice_get}
 use Rattle.gramcheck.specs.Nodes as shape
 use Rattle.gramcheck.specs.Nodes.{shapes_of}

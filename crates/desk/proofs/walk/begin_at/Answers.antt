@@ -1,6 +1,6 @@
 use Rattle.std.proofs.Common.{ap, ◌∷◌, ◌∙◌}
 use Rattle.desk.proofs.WalksLemmas.{begins_left, begins_told, begins_pushed}
-use Rattle.desk.proofs.walk.begin.Goals as goal
+use Rattle.desk.proofs.walk.begin_at.Goals as goal
 
 pub returns-in-Some-Leave-clause-begins : goal.returns-in-Some-Leave-clause-begins
 returns-in-Some-Leave-clause-begins c = λ cells x more all right w.
