@@ -1,9 +1,7 @@
 -- The table of heads grows with them.
 -- Serves: judge.
 use Rattle.std.proofs.Common.{◌≡◌, ℕ, zero, suc, ◌<◌, ◌⊎◌, inl, inr, List, [], ◌∷◌, ◌++◌, length, set, Some, refl, ap, ◌∙◌, arith, slice_get}
-use Rattle.std.proofs.lemmas.Option.{slice_get_within}
 use Rattle.flatgrammar.specs.Places.{In}
-use Rattle.flatgrammar.proofs.CallOfLemmas.{some_same}
 use Rattle.flatgrammar.proofs.FlatCutLemmas.{push_cases}
 use Rattle.earley.specs.HeadTables.{IsTable}
 use Rattle.earley.proofs.ItemRowsLemmas.{keeps_get, get_in}

@@ -1,5 +1,5 @@
 -- Items linked by rows: each names the last one before it in its row, and each row its last one.
-use Rattle.std.specs.Prelude.{◌≡◌, ℕ, ◌+◌, ◌-◌, ◌*◌, ◌%◌, ◌^◌, ◌<◌, ◌≤◌, List, Some, slice_get, length, bit_and, bit_xor}
+use Rattle.std.specs.Prelude.{◌≡◌, ℕ, ◌-◌, ◌*◌, ◌%◌, ◌^◌, ◌<◌, ◌≤◌, List, Some, slice_get, length, bit_and, bit_xor}
 use Rattle.flatgrammar.specs.declared.flat_item.Item.{Item}
 
 unfoldable pub row_of : ℕ → Item → ℕ

@@ -298,7 +298,13 @@ static ROWS: &[(&str, &[(&str, bool)])] = &[
     ),
     (
         "k = %s\"Ab\"\n  / \"cd\"\nK =/ 2*3%x78\n",
-        &[("Ab", true), ("ab", false), ("CD", true), ("xx", true), ("xxxx", false)],
+        &[
+            ("Ab", true),
+            ("ab", false),
+            ("CD", true),
+            ("xx", true),
+            ("xxxx", false),
+        ],
     ),
     (
         "  s = \"a\"\n     / t\n  t = \"b\"\n",
@@ -358,7 +364,9 @@ static CORE: &[&[(u8, u8)]] = &[
 ];
 
 fn is_in(ranges: &[(u8, u8)], byte: u8) -> bool {
-    ranges.iter().any(|range| range.0 <= byte && byte <= range.1)
+    ranges
+        .iter()
+        .any(|range| range.0 <= byte && byte <= range.1)
 }
 
 #[test]
@@ -370,7 +378,11 @@ fn core_rules_on_single_bytes(rt: HostRuntime) -> Result<(), Fail> {
         let flat = lower_rules(rt.alloc(), &core, id)?;
         let ranges = CORE.get(id).copied().unwrap_or(&[]);
         for byte in 0..=255u8 {
-            assert_eq!(rt; judge(&mut chart, &flat, &[byte])?, is_in(ranges, byte), "{id} {byte}");
+            assert_eq!(rt;
+                judge(&mut chart, &flat, &[byte])?,
+                is_in(ranges, byte),
+                "{id} {byte}"
+            );
         }
     }
     Ok(())

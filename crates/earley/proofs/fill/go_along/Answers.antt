@@ -1,4 +1,4 @@
-use Rattle.std.proofs.Common.{◌≡◌, ℕ, ◌-◌, ◌<◌, length, arith}
+use Rattle.std.proofs.Common.{arith}
 use Rattle.earley.proofs.WaitingLemmas.{chain_within, chain_next, along_start, along_next, along_end}
 use Rattle.earley.proofs.fill.go_along.Goals as goal
 

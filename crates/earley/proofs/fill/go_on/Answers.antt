@@ -1,8 +1,5 @@
-use Rattle.std.proofs.Common.{◌≡◌, ℕ, Some, List, sym, subst, slice_get, slice_index_or}
-use Rattle.flatgrammar.specs.declared.flat_item.Item.{Item}
-use Rattle.earley.specs.FrontViews.{view}
-use Rattle.earley.specs.ItemSets.{IsResumed}
-use Rattle.earley.specs.Waiting.{Chain, IsListed}
+use Rattle.std.proofs.Common.{◌≡◌, Some, subst, slice_get, slice_index_or}
+use Rattle.earley.specs.Waiting.{Chain}
 use Rattle.earley.proofs.WaitingLemmas.{listed_adds}
 use Rattle.earley.proofs.fill.go_on.Goals as goal
 

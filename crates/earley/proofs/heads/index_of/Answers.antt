@@ -1,4 +1,4 @@
-use Rattle.std.proofs.Common.{◌≡◌, ℕ, ◌<◌, length, Some, slice_get, slice_index_or, ap, sym, ◌∙◌, arith, ltb-true}
+use Rattle.std.proofs.Common.{◌≡◌, length, Some, slice_get, ap, sym, ◌∙◌, arith, ltb-true}
 use Rattle.std.proofs.lemmas.Option.{slice_get_within}
 use Rattle.flatgrammar.proofs.CallOfLemmas.{some_same}
 use Rattle.earley.proofs.IsBuiltLemmas.{get_is}

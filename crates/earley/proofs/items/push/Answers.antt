@@ -1,5 +1,5 @@
-use Rattle.std.proofs.Common.{◌≡◌, ℕ, ◌+◌, ◌<◌, ◌≤◌, length, length-set, set, Some, sym, subst, arith, slice_get}
-use Rattle.earley.specs.ItemRows.{row_of, AreLinked}
+use Rattle.std.proofs.Common.{◌≡◌, ◌+◌, length, length-set, Some, sym, subst, arith, slice_get}
+use Rattle.earley.specs.ItemRows.{row_of}
 use Rattle.earley.proofs.ItemRowsLemmas.{linked_same, linked_push}
 use Rattle.earley.proofs.items.push.Goals as goal
 

@@ -1,6 +1,6 @@
-use Rattle.std.proofs.Common.{◌≡◌, ℕ, ◌-◌, ◌<◌, length, Some, ap, sym, ◌∙◌, refl, arith, slice_index_or}
+use Rattle.std.proofs.Common.{◌-◌, Some, ap, ◌∙◌, refl, arith}
 use Rattle.earley.specs.ItemRows.{row_of}
-use Rattle.earley.proofs.ItemRowsLemmas.{get_in, get_index, sought_start, sought_step, sought_none}
+use Rattle.earley.proofs.ItemRowsLemmas.{get_in, get_index, sought_step, sought_none}
 use Rattle.earley.proofs.items.stands.Goals as goal
 
 pub returns-then-same : goal.returns-then-same

@@ -1,4 +1,4 @@
-use Rattle.std.proofs.Common.{◌≡◌, [], ◌++◌, subst}
+use Rattle.std.proofs.Common.{[], ◌++◌, subst}
 use Rattle.flatgrammar.specs.Blocks.{block_of}
 use Rattle.earley.specs.FrontViews.{expand}
 use Rattle.earley.specs.Waiting.{AreWaiting}

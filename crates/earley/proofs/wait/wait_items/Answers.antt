@@ -1,4 +1,4 @@
-use Rattle.std.proofs.Common.{◌≡◌, ◌∙◌, ◌+◌, ◌++◌, ◌∷◌, [], subst, length, take, slice_index_or, arith}
+use Rattle.std.proofs.Common.{◌≡◌, ◌∙◌, ◌++◌, subst, take, arith}
 use Rattle.earley.specs.Waiting.{AreWaiting}
 use Rattle.earley.proofs.ExpandLemmas.{take_past}
 use Rattle.earley.proofs.WaitingLemmas.{waiting_then, taken}

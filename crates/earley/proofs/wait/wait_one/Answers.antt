@@ -1,4 +1,4 @@
-use Rattle.std.proofs.Common.{◌≡◌, ℕ, ◌+◌, ◌<◌, length, Some, sym, ◌∙◌, ap, refl, arith}
+use Rattle.std.proofs.Common.{◌≡◌, ◌+◌, ◌<◌, length, Some, sym, ◌∙◌, ap, refl, arith}
 use Rattle.flatgrammar.proofs.CallOfLemmas.{some_same}
 use Rattle.earley.proofs.WaitingLemmas.{waiting_none, waiting_more}
 use Rattle.earley.proofs.IsBuiltLemmas.{get_is}

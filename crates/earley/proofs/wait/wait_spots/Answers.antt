@@ -1,9 +1,8 @@
-use Rattle.std.proofs.Common.{◌≡◌, ◌∙◌, ◌++◌, ap, subst, length, map, take, arith}
-use Rattle.flatgrammar.specs.Blocks.{block_of, item_at}
-use Rattle.earley.specs.FrontViews.{expand}
+use Rattle.std.proofs.Common.{◌∙◌, ◌++◌, ap, subst, map, take, arith}
+use Rattle.flatgrammar.specs.Blocks.{item_at}
 use Rattle.earley.specs.Waiting.{AreWaiting}
 use Rattle.earley.proofs.ExpandLemmas.{take_one, take_past, map_end}
-use Rattle.earley.proofs.WaitingLemmas.{waiting_then, waiting_same}
+use Rattle.earley.proofs.WaitingLemmas.{waiting_then}
 use Rattle.earley.proofs.wait.wait_spots.Goals as goal
 
 pub loop-spot-preserved : goal.loop-spot-preserved
