@@ -9,7 +9,7 @@ cp -r "$here/../../crates" "$top/crates"
 cp "$here/../../crates.txt" "$top/crates.txt"
 echo 'judge_bench: abnfread earley flatgrammar ruletable' >> "$top/crates.txt"
 mkdir -p "$top/crates/judge_bench/src"
-cp "$here/main.rt" "$top/crates/judge_bench/src/main.rt"
+cp "$here/program.txt" "$top/crates/judge_bench/src/main.rt"
 cd "$top/crates/judge_bench"
 for name in ${*:-date uri json alpha ss50 ss200 left right kw}; do
     python3 "$here/lines.py" "$name" > "$top/$name.in"
