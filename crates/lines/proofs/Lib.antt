@@ -1,0 +1,4 @@
+pub mod LineRunLemmas
+pub mod LineStepLemmas
+pub mod LinesLemmas
+pub mod NextLineLemmas

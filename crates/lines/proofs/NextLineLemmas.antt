@@ -1,0 +1,143 @@
+-- What was found in a window stands in every input of which so much has been seen.
+-- Serves: next_line (follows)
+use Rattle.std.proofs.Common.{◌≡◌, ◌≢◌, ℕ, suc, ◌+◌, ◌<◌, ◌≤◌, ◌==◌, Bool, true, false, Some, None, List, [], ◌∷◌, ◌++◌, length, drop, take, refl, sym, ◌∙◌, ap, arith, append_assoc, length-append, length-take, get_or, drop-cons, if◌then◌else◌}
+use Rattle.std.proofs.Math.Nat.{min-eq_left, min-eq_right}
+use Rattle.std.proofs.Math.Seq.{take-append_seam, drop-append_seam}
+use Rattle.std.proofs.lemmas.Bool.{eqb-true}
+use Rattle.std.proofs.lemmas.Bool.Decides.{nat_tests}
+use Rattle.std.proofs.lemmas.Grind.{common_steps}
+use Rattle.std.proofs.lemmas.List.{append-nil, get_or-take, take-append-drop, take-append-le}
+use Rattle.std.proofs.lemmas.List.Elements.{All-from_get_or}
+use Rattle.memchr.specs.Find.{IsFirstByte, Nowhere, NoneBefore, is_byte, Passes}
+use Rattle.feed.specs.Feed.{IsHeld, bytes_of, capacity_of, flow_of}
+use Rattle.feed.specs.declared.feed.Feed.{Feed}
+use Rattle.feed.specs.declared.held.Flow.TheVariants.{Ended}
+use Rattle.feed.specs.declared.held.Held.{Held}
+use Rattle.feed.specs.declared.held.Held.TheVariants as held
+use Rattle.toolrun.specs.Agrees.{Agrees}
+use Rattle.toolrun.specs.Input.{Input}
+use Rattle.lines.specs.InputLines.{HasNoEnd, IsNext, LiesWithin, line_without, taken_at}
+use Rattle.lines.specs.declared.line.Line.TheVariants as line
+
+nil_of : (xs : List ℕ) → length xs ≡ 0 → xs ≡ []
+nil_of [] e = refl
+nil_of (x ∷ xs) e = absurd (omega arith)
+
+-- where no LF was found
+none_found : (xs : List ℕ) → Nowhere (Passes (is_byte 10) xs) 0 (length xs) → HasNoEnd xs
+none_found xs h = All-from_get_or (λ b. b ≢ 10) xs 0 (λ i lt is. h i (omega arith) lt (rw is refl))
+
+-- where the first one was found
+first_found : (n : ℕ) (xs : List ℕ) → NoneBefore (Passes (is_byte 10) xs) 0 (length xs) n → Passes (is_byte 10) xs n →
+    (xs ≡ take n xs ++ 10 ∷ drop (suc n) xs) × HasNoEnd (take n xs) × (length (take n xs) ≡ n)
+first_found n xs before found =
+    let l = length-take n xs in
+    let inside : n < length xs = omega (arith, before.high) in
+    let here : get_or xs n 0 ≡ 10 = grind (arith, nat_tests, found) in (
+      sym (take-append-drop n xs) ∙ ap (λ t. take n xs ++ t) (drop-cons xs n 0 inside ∙ ap (λ b. b ∷ drop (suc n) xs) here),
+      All-from_get_or (λ b. b ≢ 10) (take n xs) 0 (λ i lt eq.
+          let low : i < n = omega arith in
+          let same : get_or xs i 0 ≡ 10 = sym (get_or-take n xs i 0 low) ∙ eq in
+          before.before i (omega arith) low (rw same refl)),
+      omega arith,
+    )
+
+-- what is held is the beginning of the rest
+pub held_front : (before items : List ℕ) (more bytes : List ℕ) (k start : ℕ) → bytes ≡ (before ++ items) ++ more → length before ≡ start → k ≤ length items →
+    take k items ≡ take k (drop start bytes)
+held_front before items more bytes k start is here le =
+    rw (is, append_assoc before items more, ← here, drop-append_seam before (items ++ more)) (sym (take-append-le k items more le))
+
+module _ {R : Type 0} (f : Feed R) (limit : ℕ) (before : List ℕ) (input : Input) (room : capacity_of f ≡ limit + 1) (fits : length (bytes_of f) ≤ capacity_of f)
+    (agrees : Agrees (before ++ bytes_of f) (flow_of f) input) where
+  abbrev items : List ℕ
+  items = bytes_of f
+
+  abbrev rest : List ℕ
+  rest = drop (length before) input.bytes
+
+  bytes_are : input.bytes ≡ before ++ (items ++ agrees.more)
+  bytes_are = agrees.bytes ∙ append_assoc before items agrees.more
+
+  rest_is : rest ≡ items ++ agrees.more
+  rest_is = rw bytes_are (drop-append_seam before (items ++ agrees.more))
+
+  bytes_len : length input.bytes ≡ length before + (length items + length agrees.more)
+  bytes_len =
+      let l = ap length bytes_are in
+      omega (arith, l, length-append before (items ++ agrees.more), length-append items agrees.more)
+
+  seen_len : length (before ++ items) ≡ length before + length items
+  seen_len = length-append before items
+
+  abbrev Taken : Type 0
+  Taken = length (before ++ items) ≡ taken_at limit input (length before)
+
+  taken_all : agrees.more ≡ [] → Taken
+  taken_all none =
+      let m = ap length none in
+      let le : length input.bytes ≤ length before + limit + 1 = omega (arith, bytes_len, m, fits, room) in
+      let l : length (before ++ items) ≡ length input.bytes = omega (arith, seen_len, bytes_len, m) in
+      l ∙ sym (min-eq_left le)
+
+  pub taken : (held : Held) → IsHeld f held → Taken
+  taken held.Full full =
+      let le : length before + limit + 1 ≤ length input.bytes = omega (arith, bytes_len, full, room) in
+      let l : length (before ++ items) ≡ length before + limit + 1 = omega (arith, seen_len, full, room) in
+      l ∙ sym (min-eq_right le)
+  taken held.End ended = taken_all (agrees.ended ended.0).0
+  taken held.Fault broken = taken_all (agrees.broken broken.0).0
+
+  -- an LF was found
+  pub found : (k : ℕ) → IsFirstByte (is_byte 10) items (Some k) → IsNext limit input (length before) (line.Whole k)
+  found k (first, here) =
+      let high : k < length items = omega (arith, first.high) in
+      let is = first_found k items first here in
+      let front : take k rest ≡ take k items = rw rest_is (take-append-le k items agrees.more (omega (arith, high))) in
+      rw front (
+        record {
+          after = drop (suc k) items ++ agrees.more;
+          cut = rest_is ∙ ap (λ t. t ++ agrees.more) is.0 ∙ append_assoc (take k items) (10 ∷ drop (suc k) items) agrees.more;
+          one = is.1;
+          within = omega (arith, is.2, high, fits, room);
+        },
+        is.2,
+      )
+
+  -- none was
+  module _ (none : IsFirstByte (is_byte 10) items None) where
+    held_rest : agrees.more ≡ [] → rest ≡ items
+    held_rest e = rest_is ∙ ap (λ t. items ++ t) e ∙ append-nil items
+
+    last_piece : (b : Bool) → (length items == 0) ≡ b → flow_of f ≡ Ended → length items ≤ limit →
+        IsNext limit input (length before) (if b then line.End else line.Last (length items))
+    last_piece true e ended short =
+        let a = agrees.ended ended in (held_rest a.0 ∙ nil_of items (eqb-true (length items) 0 e), a.1)
+    last_piece false e ended short =
+        let a = agrees.ended ended in
+        let same = held_rest a.0 in
+        let some : 0 < length items = grind (arith, common_steps, e) in
+        (rw same (none_found items none), ap length same, some, short, a.1)
+
+    pub not_found : (held : Held) → IsHeld f held → IsNext limit input (length before) (line_without held (length items))
+    not_found held.Full full =
+        let e : length items ≡ suc limit = omega (arith, full, room) in
+        let window : take (suc limit) rest ≡ items = rw (rest_is, ← e) (take-append_seam items agrees.more) in
+        let l = ap length rest_is in
+        (rw window (none_found items none), omega (arith, e, l, length-append items agrees.more))
+    not_found held.End ended = last_piece (length items == 0) refl ended.0 (let lt = ended.1 in omega (arith, lt, room))
+    not_found held.Fault broken =
+        let a = agrees.broken broken.0 in
+        let same = held_rest a.0 in
+        let lt = broken.1 in
+        (rw same (none_found items none), rw same (omega (arith, lt, room)), a.1)
+
+-- a last piece is all that is held
+last_fits : (len : ℕ) (b : Bool) → LiesWithin len (if b then line.End else line.Last len)
+last_fits len true = tt
+last_fits len false = omega arith
+
+pub without_fits : (held : Held) (len : ℕ) → LiesWithin len (line_without held len)
+without_fits held.Full len = tt
+without_fits held.End len = last_fits len (len == 0)
+without_fits held.Fault len = tt

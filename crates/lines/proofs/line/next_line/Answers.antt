@@ -1,0 +1,24 @@
+-- What was found in the window, or was not.
+use Rattle.std.proofs.Common.{length, arith}
+use Rattle.lines.proofs.NextLineLemmas.{taken, found, not_found, without_fits}
+use Rattle.lines.proofs.line.next_line.Goals as goal
+
+pub returns-in-Some-clause-follows : goal.returns-in-Some-clause-follows
+returns-in-Some-clause-follows g c = λ limit before input room a.
+    let feed = c.fill-held.new.self in (
+      found feed limit before input room c.fill-held.ensures.within a c.in-Some.k c.in-Some.ensures,
+      taken feed limit before input room c.fill-held.ensures.within a c.fill-held.result c.fill-held.ensures.held,
+    )
+
+pub returns-in-Some-clause-fits : goal.returns-in-Some-clause-fits
+returns-in-Some-clause-fits g c = let is = c.in-Some.ensures in let high = is.0.high in omega (arith, high)
+
+pub returns-in-None-clause-follows : goal.returns-in-None-clause-follows
+returns-in-None-clause-follows g c = λ limit before input room a.
+    let feed = c.fill-held.new.self in (
+      rw (c.without_lf.ensures, c.len-len.ensures.len) (not_found feed limit before input room c.fill-held.ensures.within a c.in-None.ensures c.fill-held.result c.fill-held.ensures.held),
+      taken feed limit before input room c.fill-held.ensures.within a c.fill-held.result c.fill-held.ensures.held,
+    )
+
+pub returns-in-None-clause-fits : goal.returns-in-None-clause-fits
+returns-in-None-clause-fits g c = rw (c.without_lf.ensures, c.len-len.ensures.len) (without_fits c.fill-held.result (length c.fill-held.new.self.ring.items))

@@ -1,0 +1,25 @@
+-- The lines so far, of every input that begins with what was seen, have been answered.
+use Rattle.std.proofs.Common.{◌≡◌, ◌+◌, ◌-◌, ◌≤◌, ◌++◌, length, ℕ, List}
+use Rattle.std.specs.Io.KnownBytes.{Appends, Consumes}
+use Rattle.feed.specs.Feed.{IsTrueOfReader, SameLoan, allowance_of, bytes_of, capacity_of, flow_of, input_limit, reader_of}
+use Rattle.toolrun.specs.Agrees.{Agrees}
+use Rattle.toolrun.specs.Input.{Input}
+use Rattle.lines.specs.InputLines.{Lines}
+use Rattle.lines.proofs.line_loop.answer_lines.Given as goal
+
+abbrev pub invariant-loop-yes : goal.invariant-loop-yes
+invariant-loop-yes g l = record {
+  capacity : capacity_of l.feed ≡ l.limit + 1;
+  counted : l.at.count ≤ l.at.place;
+  within : l.at.place + length (bytes_of l.feed) + allowance_of l.feed ≡ input_limit;
+  told : IsTrueOfReader g.R.Source.remaining g.R.Source.failed l.feed;
+  loan : SameLoan l.fn.feed l.feed;
+  flag : g.O.Sink.failed l.out ≡ g.O.Sink.failed l.fn.out;
+  written : (before : List ℕ) × (length before ≡ l.at.place) ×
+      Consumes (g.R.Source.remaining (reader_of l.fn.feed)) (g.R.Source.remaining (reader_of l.feed)) (before ++ bytes_of l.feed) ×
+      ((input : Input) → Agrees (before ++ bytes_of l.feed) (flow_of l.feed) input →
+      (text : List ℕ) × Lines (g.J.Judge.member l.judge) l.limit input l.at text × Appends (g.O.Sink.contents l.fn.out) (g.O.Sink.contents l.out) text);
+}
+
+abbrev pub decreases-loop-yes : goal.decreases-loop-yes
+decreases-loop-yes g l = input_limit - l.at.place

@@ -1,0 +1,94 @@
+-- The lines of an input, the answers to them, and how a run of them ends.
+use Rattle.std.specs.Prelude.{◌≡◌, ◌≢◌, ℕ, suc, ◌+◌, ◌<◌, ◌≤◌, ◌==◌, ◌&&◌, ⊤, min, Bool, true, false, List, [], ◌∷◌, ◌++◌, length, take, drop, codes, if◌then◌else◌}
+use Rattle.std.specs.List.{All}
+use Rattle.feed.specs.declared.held.Held.{Held}
+use Rattle.feed.specs.declared.held.Held.TheVariants as held
+use Rattle.toolrun.specs.Input.{Input}
+use Rattle.toolrun.specs.Reply.{Reply}
+use Rattle.toolrun.specs.RunSteps.{RunStates}
+use Rattle.toolrun.specs.declared.status.Status.{Status}
+use Rattle.toolrun.specs.declared.status.Status.TheVariants.{Done, NoMatch}
+use Rattle.toolrun.specs.declared.stop.Stop.{Stop}
+use Rattle.toolrun.specs.declared.stop.Stop.TheVariants as stop
+use Rattle.lines.specs.declared.line.Line.{Line}
+use Rattle.lines.specs.declared.line.Line.TheVariants.{Whole, Last, Overlong, End, Broken}
+use Rattle.lines.specs.declared.line_loop.At.{At}
+
+-- none of these bytes is an LF
+abbrev pub HasNoEnd : List ℕ → Type 0
+HasNoEnd bytes = All (λ b. b ≢ 10) bytes
+
+-- yes: it holds; no: it does not
+abbrev pub IsAnswer : Type 0 → Bool → Type 0
+IsAnswer P true = P
+IsAnswer P false = P → ⊥
+
+-- what is written for an answer
+abbrev pub answer : Bool → List ℕ
+answer true = codes "yes\n"
+answer false = codes "no\n"
+
+-- how a run ends whose lines were all answered by yes, or not
+abbrev pub status_after : Bool → Status
+status_after true = Done
+status_after false = NoMatch
+
+-- behind a line of n bytes and its LF
+abbrev pub behind : At → ℕ → Bool → At
+behind at n said = record { place = at.place + n + 1; count = at.count + 1; all = at.all && said }
+
+-- how many bytes are taken where the last line is looked for at s
+abbrev pub taken_at : ℕ → Input → ℕ → ℕ
+taken_at limit input s = min (length input.bytes) (s + limit + 1)
+
+abbrev pub place_taken : ℕ → Input → At → ℕ
+place_taken limit input at = taken_at limit input at.place
+
+module _ (limit : ℕ) (input : Input) where
+  -- at s stand this line of at most so many bytes, and its LF
+  pub record IsLine (s : ℕ) (line : List ℕ) : Type 0 where
+    pub after : List ℕ
+    pub cut : drop s input.bytes ≡ line ++ 10 ∷ after
+    pub one : HasNoEnd line
+    pub within : length line ≤ limit
+
+  -- What stands at s. After a fault of the reader a line stands there only with its LF.
+  abbrev pub IsNext : ℕ → Line → Type 0
+  IsNext s (Whole k) = IsLine s (take k (drop s input.bytes)) × (length (take k (drop s input.bytes)) ≡ k)
+  IsNext s (Last k) = HasNoEnd (drop s input.bytes) × (length (drop s input.bytes) ≡ k) × (0 < k) × (k ≤ limit) × (input.fault ≡ false)
+  IsNext s Overlong = HasNoEnd (take (suc limit) (drop s input.bytes)) × (limit < length (drop s input.bytes))
+  IsNext s End = (drop s input.bytes ≡ []) × (input.fault ≡ false)
+  IsNext s Broken = HasNoEnd (drop s input.bytes) × (length (drop s input.bytes) ≤ limit) × (input.fault ≡ true)
+
+-- what is found lies in so many bytes
+abbrev pub LiesWithin : ℕ → Line → Type 0
+LiesWithin len (Whole k) = k < len
+LiesWithin len (Last k) = k ≤ len
+LiesWithin len _ = ⊤
+
+-- what stands at the front where so many bytes and no LF are held
+abbrev pub line_without : Held → ℕ → Line
+line_without held.Full len = Overlong
+line_without held.End len = if len == 0 then End else Last len
+line_without held.Fault len = Broken
+
+module _ (Member : List ℕ → Type 0) (limit : ℕ) (input : Input) where
+  -- the lines up to a place, and their answers
+  pub data Lines : At → List ℕ → Type 0 where
+    none : Lines (record { place = 0; count = 0; all = true }) []
+    one_more : (at : At) (before line : List ℕ) (said : Bool) → Lines at before → IsLine limit input at.place line → IsAnswer (Member line) said →
+        Lines (behind at (length line) said) (before ++ answer said)
+
+  -- how a run ends there, and the answer to a last line without LF
+  pub data Ends (at : At) : List ℕ → Stop → Type 0 where
+    broken : input.fault ≡ true → HasNoEnd (drop at.place input.bytes) → length (drop at.place input.bytes) ≤ limit → Ends at [] stop.Broken
+    overlong : HasNoEnd (take (suc limit) (drop at.place input.bytes)) → limit < length (drop at.place input.bytes) →
+        Ends at [] (stop.LongLine (at.count + 1) limit)
+    finished : input.fault ≡ false → drop at.place input.bytes ≡ [] → Ends at [] (stop.Quiet (status_after at.all))
+    last_line : (said : Bool) → input.fault ≡ false → drop at.place input.bytes ≢ [] → HasNoEnd (drop at.place input.bytes) →
+        length (drop at.place input.bytes) ≤ limit → IsAnswer (Member (drop at.place input.bytes)) said →
+        Ends at (answer said) (stop.Quiet (status_after (at.all && said)))
+
+-- what a run of the lines of an input states
+abbrev pub LinesReply : (List ℕ → Type 0) → ℕ → Input → Reply → Type 0
+LinesReply Member limit input reply = RunStates (Lines Member limit input) (Ends Member limit input) (place_taken limit input) reply

@@ -1,0 +1,10 @@
+//! The lines of an input: each is judged, and the answers are written in turn.
+#![tactic(auto)]
+
+mod answers;
+mod line;
+mod line_loop;
+
+pub use answers::Judge;
+pub use line::{Line, next_line};
+pub use line_loop::{At, run_lines};
