@@ -1,10 +1,9 @@
 -- The rules of the table of a file and of the core rules are those of its definitions.
 -- Serves: run_abnf (right)
-use Rattle.std.proofs.Common.{◌≡◌, ℕ, ◌+◌, Bool, not, cond, List, [], ◌∷◌, ◌++◌, length, map, Option, Some, None, refl, sym, ◌∙◌, ap, nat_lt}
+use Rattle.std.proofs.Common.{◌≡◌, ℕ, ◌+◌, Bool, not, cond, List, [], ◌∷◌, map, Option, Some, None, refl, sym, ◌∙◌, ap}
 use Rattle.std.specs.Prelude.{MatchOption}
-use Rattle.std.specs.List.{position, position_or_len}
+use Rattle.std.specs.List.{position_or_len}
 use Rattle.std.proofs.lemmas.List.{length-map, map-append}
-use Rattle.std.proofs.lemmas.List.Recursion.{is_position_or_len}
 use Rattle.ruletable.specs.Notes.{Said}
 use Rattle.ruletable.specs.Rules as table
 use Rattle.ruletable.specs.Rules.{find_in, same_name}

@@ -1,7 +1,7 @@
 -- Whether a line is derived is decided, and what the judge answers.
 -- Serves: run_abnf (right)
-use Rattle.std.proofs.Common.{◌≡◌, ◌↔◌, ℕ, suc, ◌<◌, Bool, true, false, List, [], ◌∷◌, map, get_or, refl, ap, subst, arith}
-use Rattle.std.specs.Prelude.{IsTrue, ltb}
+use Rattle.std.proofs.Common.{◌↔◌, ℕ, suc, ◌<◌, Bool, true, false, List, [], ◌∷◌, map, get_or, refl, subst}
+use Rattle.std.specs.Prelude.{IsTrue}
 use Rattle.std.proofs.lemmas.Bool.{both_ways, lt-ltb}
 use Rattle.std.proofs.lemmas.List.{map-id}
 use mathlib.Core.HLevel.{⊥_prop}
@@ -40,5 +40,5 @@ pub judge_answers : ((has : ℕ → Bool) (rules : List Rule) (id : ℕ) (x : Li
     IsTrue told ↔ RuleDerives has rules judged (map (λ (b : ℕ). b) line)) → IsAnswer (IsMember rules judged line) told
 judge_answers law rules judged flat line told bytes lowered tells =
     let t : AreLetters is_byte line → IsLowered rules judged flat → IsTrue told ↔ RuleDerives is_byte rules judged line =
-        subst (λ (l : List ℕ). AreLetters is_byte l → IsLowered rules judged flat → IsTrue told ↔ RuleDerives is_byte rules judged l) (map-id line) (λ letters l. tells is_byte rules judged l letters) in
+    subst (λ (l : List ℕ). AreLetters is_byte l → IsLowered rules judged flat → IsTrue told ↔ RuleDerives is_byte rules judged l) (map-id line) (λ letters l. tells is_byte rules judged l letters) in
     told_answers (IsLowered rules judged flat) (IsMember rules judged line) told lowered (t (bytes_are_letters line bytes)) (member_is_decided law rules judged line)

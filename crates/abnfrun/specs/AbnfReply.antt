@@ -1,11 +1,10 @@
 -- What a run of a grammar on an input states.
-use Rattle.std.specs.Prelude.{ℕ, Bool, List, [], Option, ltb}
+use Rattle.std.specs.Prelude.{ℕ, Bool, List, [], ltb}
 use Rattle.ruletable.specs.Faults.{fault_text}
 use Rattle.ruletable.specs.declared.fault.ReadFault.{ReadFault}
-use Rattle.abnfread.specs.Element.{Rule, Definition}
+use Rattle.abnfread.specs.Element.{Rule}
 use Rattle.abnfcheck.specs.Derivable.{RuleDerives}
 use Rattle.abnfprint.specs.CanonicalAbnf.{grammar_text}
-use Rattle.abnfrun.specs.AbnfNoted.{file_rules}
 use Rattle.lines.specs.InputLines.{LinesReply}
 use Rattle.toolrun.specs.Input.{Input}
 use Rattle.toolrun.specs.Reply.{Reply}

@@ -1,5 +1,5 @@
 -- What is left to do with a grammar when its notes are written. It serves private helpers alone.
-use Rattle.std.specs.Prelude.{◌≡◌, [], Option, Some, None, Result, Ok, Err}
+use Rattle.std.specs.Prelude.{◌≡◌, Option, Some, None, Result, Ok, Err}
 use Rattle.ruletable.specs.declared.fault.ReadFault.{ReadFault}
 use Rattle.ruletable.specs.declared.fault.ReadFault.TheVariants.{Syntax, Depth, CodePredicate, TooLong, Memory, NumberTooLarge}
 use Rattle.abnfread.specs.Views.{rules_of}

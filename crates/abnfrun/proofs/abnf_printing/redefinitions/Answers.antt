@@ -1,5 +1,5 @@
 -- The marked rules are those that are defined again.
-use Rattle.std.proofs.Common.{◌∙◌, map, arith, sym}
+use Rattle.std.proofs.Common.{◌∙◌, map, arith}
 use Rattle.ruletable.specs.Notes.{said_of}
 use Rattle.abnfrun.proofs.AreRedefinitionsLemmas.{are_redefined}
 use Rattle.abnfrun.proofs.abnf_printing.redefinitions.Goals as goal
