@@ -1,0 +1,4 @@
+pub mod AbnfTaskLemmas
+pub mod AllRulesLemmas
+pub mod AreRedefinitionsLemmas
+pub mod JudgeReplyLemmas

@@ -1,0 +1,35 @@
+-- What a run of a grammar on an input states.
+use Rattle.std.specs.Prelude.{ℕ, Bool, List, [], ltb}
+use Rattle.ruletable.specs.Faults.{fault_text}
+use Rattle.ruletable.specs.declared.fault.ReadFault.{ReadFault}
+use Rattle.abnfread.specs.Element.{Rule}
+use Rattle.abnfcheck.specs.Derivable.{RuleDerives}
+use Rattle.abnfprint.specs.CanonicalAbnf.{grammar_text}
+use Rattle.lines.specs.InputLines.{LinesReply}
+use Rattle.toolrun.specs.Input.{Input}
+use Rattle.toolrun.specs.Reply.{Reply}
+use Rattle.toolrun.specs.declared.settings.Settings.{Settings}
+
+-- a grammar's text is refused: its fault is told, and nothing is taken
+abbrev pub refusal : ReadFault → Reply
+refusal fault = record { out = []; err = fault_text fault; status = 2; taken = 0 }
+
+-- nothing is written behind the notes, and nothing is taken
+abbrev pub notes_alone : ℕ → Reply
+notes_alone status = record { out = []; err = []; status = status; taken = 0 }
+
+-- the canonical text of these rules is written, and nothing is taken
+abbrev pub printed_rules : List Rule → Reply
+printed_rules rules = record { out = grammar_text rules; err = []; status = 0; taken = 0 }
+
+-- the letters of a line are bytes
+abbrev pub is_byte : ℕ → Bool
+is_byte v = ltb v 256
+
+-- the lines that the judged rule derives (RFC 5234, section 3; RFC 7405, section 2.1)
+abbrev pub IsMember : List Rule → ℕ → List ℕ → Type 0
+IsMember rules judged line = RuleDerives is_byte rules judged line
+
+-- each line of the input is judged by that rule
+abbrev pub JudgeReply : List Rule → ℕ → Settings → Input → Reply → Type 0
+JudgeReply rules judged settings input reply = LinesReply (IsMember rules judged) settings.limit input reply

@@ -1,0 +1,6 @@
+pub mod AbnfAnswers
+pub mod AbnfChecking
+pub mod AbnfNoted
+pub mod AbnfPrinting
+pub mod AbnfReply
+pub mod AbnfTasks

@@ -1,0 +1,58 @@
+//! A run of the ABNF tool.
+ghost use Rattle.std.specs.Prelude.{◌≡◌, ℕ, List, false, IfSome};
+ghost use Rattle.std.specs.Io.KnownBytes.{Appends, Consumes};
+ghost use Rattle.abnfrun.specs.AbnfAnswers.{AbnfStates};
+ghost use Rattle.toolrun.specs.Right.{IsRight};
+ghost use Rattle.toolrun.specs.Status.{code_of};
+
+use crate::abnf_task::AbnfTask;
+use feed::Source;
+use ruletable::Sink;
+use std::alloc::Global;
+use toolrun::{Settings, Status, run_tool};
+
+/// Judges the lines that a reader gives by a grammar: writes `yes` or `no` for each on `out`, and why it stopped on `err`.
+/// None of the three may have failed before.
+///
+/// - The grammar is in ABNF (RFC 5234, RFC 7405). One that has a fault is told by that fault's line, status `Refused`, and
+///   nothing is read.
+/// - If it is to be printed, its canonical text is written on `out`, `Done`; but if it defines a rule again, the notes on
+///   that are written on `err`, `Refused`. Nothing is read, and no other check is made.
+/// - Else the notes on it are written on `err`. If it is refused, or only to be checked, that is all: `Refused`, or `Done`,
+///   and nothing is read.
+/// - A line ends before an LF, and a last piece without LF is a line if it is not empty; a CR belongs to its line. It is
+///   answered by `yes` exactly if the judged rule derives its bytes: the rule named in the settings, or else the first.
+///   The run ends behind the last line with `Done` if all answers are `yes`, else with `NoMatch`.
+/// - A line of more than `limit` bytes is not answered: `line K longer than L bytes`, `Overlong`; K counts from 1.
+/// - After a fault of the reader a line is judged only if its LF was read: else `read error`, `Fault`. So is an input of
+///   9,223,372,036,854,775,807 bytes taken to end.
+/// - Where a writer fails, nothing more is written to it, a fault of `out` is told by `write error` on `err`, and the
+///   status is at least `Fault`. Writers that have not failed are flushed once at the end, `out` first.
+/// - Where a growth is refused, the answers before stand whole: `out of memory`, `NoMemory`.
+pub fn run_abnf<R: Source, O: Sink, E: Sink>(
+    alloc: Global,
+    grammar: &[u8],
+    settings: &Settings<'_>,
+    reader: &mut R,
+    out: &mut O,
+    err: &mut E,
+) -> Status
+    requires reader_is_fresh { R.failed reader.old ≡ false }
+    requires out_is_fresh { O.failed out.old ≡ false }
+    requires err_is_fresh { E.failed err.old ≡ false }
+    ensures right { IfSome (R.remaining reader.old) (λ given. (taken wrote told : List ℕ) ×
+        Consumes (R.remaining reader.old) (R.remaining reader.new) taken ×
+        Appends (O.contents out.old) (O.contents out.new) wrote ×
+        Appends (E.contents err.old) (E.contents err.new) told ×
+        IsRight (AbnfStates grammar.now settings.now) given (record {
+          taken = taken;
+          read_failed = R.failed reader.new;
+          out = wrote;
+          out_failed = O.failed out.new;
+          err = told;
+          err_failed = E.failed err.new;
+          status = code_of result;
+        })) }
+{
+    run_tool::<AbnfTask, R, O, E>(alloc, grammar, settings, reader, out, err)
+}

@@ -1,0 +1,11 @@
+//! The ABNF tool: it reads a grammar, checks or prints it or judges lines by it, and answers on two writers.
+#![tactic(auto)]
+
+mod abnf_printing;
+mod abnf_run;
+mod abnf_task;
+mod line_judge;
+
+pub use abnf_run::run_abnf;
+pub use feed::{Broken, Source, SourceOf};
+pub use toolrun::{DEFAULT_LIMIT, MAX_LIMIT, Mode, Settings, Status, Stop, close_run, end_run};
