@@ -1,0 +1,308 @@
+//! Whole runs of the ABNF tool: lines, their answers, notes, and where a run ends.
+ghost use Rattle.std.specs.Prelude.{◌<◌};
+
+use crate::fakes::{Paper, Tape};
+use abnfrun::run_abnf;
+use gramtools::{MAX_LIMIT, Mode, Settings, SourceOf, Status};
+use ruletable::SinkOf;
+use std::alloc::Global;
+use std::cell::Cell;
+use std::process::Abort;
+
+// A grammar, the judged rule, how many bytes a line may have, an input, what is to come on both outputs, the status, and how
+// many bytes of the input are left to the reader.
+type AbnfRow = (
+    &'static [u8],
+    Option<&'static str>,
+    usize,
+    &'static [u8],
+    &'static [u8],
+    &'static [u8],
+    Status,
+    usize,
+);
+
+const WORD: &[u8] = b"word = 1*ALPHA";
+
+static ANSWERED: [AbnfRow; 19] = [
+    (
+        WORD,
+        None,
+        65536,
+        b"ab\nA1\n\nZ",
+        b"yes\nno\nno\nyes\n",
+        b"",
+        Status::NoMatch,
+        0,
+    ),
+    (
+        b"s = s s / \"a\" / \"\"",
+        None,
+        65536,
+        b"aaa\n\nb\n",
+        b"yes\nyes\nno\n",
+        b"",
+        Status::NoMatch,
+        0,
+    ),
+    (
+        b"k = %s\"Ab\"\n  / \"cd\"\nK =/ 2*3%x78",
+        None,
+        65536,
+        b"Ab\nab\nCD\nxx\nxxxx\n",
+        b"yes\nno\nyes\nyes\nno\n",
+        b"",
+        Status::NoMatch,
+        0,
+    ),
+    // a line that is too long ends the run, and the reader keeps what lies behind its first four bytes
+    (
+        WORD,
+        None,
+        3,
+        b"abc\nabcd\n",
+        b"yes\n",
+        b"line 2 longer than 3 bytes\n",
+        Status::Overlong,
+        1,
+    ),
+    (
+        WORD,
+        None,
+        3,
+        b"abcd\nef",
+        b"",
+        b"line 1 longer than 3 bytes\n",
+        Status::Overlong,
+        3,
+    ),
+    (
+        WORD,
+        None,
+        3,
+        b"ab\ncdef",
+        b"yes\n",
+        b"line 2 longer than 3 bytes\n",
+        Status::Overlong,
+        0,
+    ),
+    (WORD, None, 3, b"abc", b"yes\n", b"", Status::Done, 0),
+    (
+        WORD,
+        None,
+        3,
+        b"abcd",
+        b"",
+        b"line 1 longer than 3 bytes\n",
+        Status::Overlong,
+        0,
+    ),
+    // a CR belongs to its line
+    (
+        WORD,
+        None,
+        65536,
+        b"ab\r\n",
+        b"no\n",
+        b"",
+        Status::NoMatch,
+        0,
+    ),
+    (WORD, None, 65536, b"", b"", b"", Status::Done, 0),
+    // refused grammars read nothing
+    (
+        b"a = \"x\"\n/ \"y\"",
+        None,
+        65536,
+        b"x\n",
+        b"",
+        b"line 2: syntax error\n",
+        Status::Refused,
+        2,
+    ),
+    (
+        b"s = 65536\"a\"",
+        None,
+        65536,
+        b"x\n",
+        b"",
+        b"line 1: number too large\n",
+        Status::Refused,
+        2,
+    ),
+    (
+        b"a = <any text> / b\nb = \"x\"",
+        None,
+        65536,
+        b"X\n",
+        b"",
+        b"prose in rule 'a'\n",
+        Status::Refused,
+        2,
+    ),
+    (
+        b"a = <any text> / b\nb = \"x\"",
+        Some("b"),
+        65536,
+        b"X\n",
+        b"yes\n",
+        b"prose in rule 'a'\nrule 'a' defined but not used\n",
+        Status::Done,
+        0,
+    ),
+    (
+        b"  s = \"a\"\n     / t\n  t = \"b\"",
+        None,
+        65536,
+        b"B\nab\n",
+        b"yes\nno\n",
+        b"",
+        Status::NoMatch,
+        0,
+    ),
+    (
+        b"n = 1*DIGIT\nDIGIT = \"7\"",
+        None,
+        65536,
+        b"77\n1\n",
+        b"yes\nno\n",
+        b"",
+        Status::NoMatch,
+        0,
+    ),
+    (
+        b"x =/ \"a\"",
+        None,
+        65536,
+        b"A\n",
+        b"yes\n",
+        b"rule 'x' extended before it is defined\n",
+        Status::Done,
+        0,
+    ),
+    (
+        b"s = %x100 / 3*2\"a\" / \"b\"",
+        None,
+        65536,
+        b"aa\nb\n",
+        b"no\nyes\n",
+        b"",
+        Status::NoMatch,
+        0,
+    ),
+    (
+        b"a = \"x\"\nb = c",
+        None,
+        65536,
+        b"X\n",
+        b"yes\n",
+        b"rule 'c' used but not defined\nrule 'b' defined but not used\n",
+        Status::Done,
+        0,
+    ),
+];
+
+fn settings_of(mode: Mode, limit: usize, start: Option<&'static str>) -> Settings<'static> {
+    Settings {
+        mode,
+        limit: limit.max(1).min(MAX_LIMIT),
+        start,
+        raw: false,
+    }
+}
+
+// Returns the status of a run, how many bytes are left on its tape, and both papers.
+fn run_over<'a>(
+    alloc: Global,
+    grammar: &[u8],
+    settings: &Settings<'_>,
+    tape: Tape<'_>,
+    out: Paper<'a>,
+    err: Paper<'a>,
+) -> (Status, usize, Paper<'a>, Paper<'a>) {
+    let mut reader = SourceOf::new(tape);
+    let mut out = SinkOf::new(out);
+    let mut err = SinkOf::new(err);
+    let status = run_abnf(alloc, grammar, settings, &mut reader, &mut out, &mut err);
+    let left = reader.into_inner().left();
+    (status, left, out.into_inner(), err.into_inner())
+}
+
+// Checks a row by reads and writes of so many bytes.
+fn check_row<R: Abort + AllocGlobal>(rt: &R, row: AbnfRow, step: usize)
+    requires { 0 < step }
+{
+    let (grammar, start, limit, input, text, lines, ends, rest) = row;
+    let settings = settings_of(Mode::Run, limit, start);
+    let clock = Cell::new(0);
+    let out = Paper::new(rt.alloc(), step, &clock);
+    let err = Paper::new(rt.alloc(), step, &clock);
+    let tape = Tape::new(input, step, false);
+    let (status, left, out, err) = run_over(rt.alloc(), grammar, &settings, tape, out, err);
+    assert!(rt; out.holds(text), "out by {step}");
+    assert!(rt; err.holds(lines), "err by {step}");
+    assert_eq!(rt; status, ends, "status by {step}");
+    assert_eq!(rt; left, rest, "left by {step}");
+}
+
+#[test]
+fn lines_are_answered(rt: HostRuntime) {
+    for row in &ANSWERED {
+        for step in [1, 2, 3, 7, 4096] {
+            check_row(&rt, *row, step);
+        }
+    }
+}
+
+#[test]
+fn a_torn_line_is_not_answered(rt: HostRuntime) {
+    let settings = settings_of(Mode::Run, 65536, None);
+    let clock = Cell::new(0);
+    let out = Paper::new(rt.alloc(), 7, &clock);
+    let err = Paper::new(rt.alloc(), 7, &clock);
+    let tape = Tape::new(b"ab\nc", 7, true);
+    let (status, left, out, err) = run_over(rt.alloc(), WORD, &settings, tape, out, err);
+    assert!(rt; out.holds(b"yes\n") && err.holds(b"read error\n"));
+    assert!(rt; status == Status::Fault && left == 0);
+}
+
+#[test]
+fn an_output_that_fails_holds_a_beginning_of_the_answers(rt: HostRuntime) {
+    let settings = settings_of(Mode::Run, 65536, None);
+    let clock = Cell::new(0);
+    let out = Paper::new(rt.alloc(), 7, &clock).with_room(3);
+    let err = Paper::new(rt.alloc(), 7, &clock);
+    let tape = Tape::new(b"ab\nA1\n\nZ", 7, false);
+    let (status, _left, out, err) = run_over(rt.alloc(), WORD, &settings, tape, out, err);
+    assert!(rt; out.holds(b"yes") && err.holds(b"write error\n"));
+    assert!(rt; status == Status::Fault);
+}
+
+#[test]
+fn an_abnf_grammar_is_printed_or_checked_alone(rt: HostRuntime) {
+    let clock = Cell::new(0);
+    let out = Paper::new(rt.alloc(), 7, &clock);
+    let err = Paper::new(rt.alloc(), 7, &clock);
+    let (status, left, out, err) = run_over(
+        rt.alloc(),
+        b"k = %s\"Ab\"\n  / \"cd\"\nK =/ 2*3%x78",
+        &settings_of(Mode::Print, 65536, None),
+        Tape::new(b"x\n", 7, false),
+        out,
+        err,
+    );
+    assert!(rt; out.holds(b"k = %s\"Ab\" / \"cd\" / 2*3%x78\n") && err.holds(b""));
+    assert!(rt; status == Status::Done && left == 2);
+    let out = Paper::new(rt.alloc(), 7, &clock);
+    let err = Paper::new(rt.alloc(), 7, &clock);
+    let (status, left, out, err) = run_over(
+        rt.alloc(),
+        b"a = \"x\"\na = \"y\"",
+        &settings_of(Mode::Check, 65536, None),
+        Tape::new(b"x\n", 7, false),
+        out,
+        err,
+    );
+    assert!(rt; out.holds(b"") && err.holds(b"rule 'a' redefined\n"));
+    assert!(rt; status == Status::Refused && left == 2);
+}
