@@ -13,6 +13,3 @@ mod wait;
 
 pub use chart::{Chart, judge};
 pub use letter::Letter;
-
-#[cfg(test)]
-mod tests;

@@ -1,6 +1,6 @@
 //! Each public call on small tables, with answers found by hand.
-use crate::calling::comes_back;
-use crate::{
+use crate::cycle_caller::comes_back;
+use leastset::{
     Need, OwnedNeed, are_below, are_needs_within, are_within, borrowed_needs, derive, least, mark,
     marks_of, on_cycle, reached, slices, some_marked,
 };

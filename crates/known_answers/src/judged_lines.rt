@@ -1,9 +1,8 @@
 //! The answers to the lines of small inputs, by hand.
 ghost use Rattle.std.specs.Prelude.{◌≤◌, length};
 
-use crate::answers::Judge;
-use crate::line_loop::run_lines;
 use feed::SourceOf;
+use lines::{Judge, run_lines};
 use ruletable::{Memory, SinkOf};
 use std::rt::HostRuntime;
 use toolrun::{Status, Stop};

@@ -1,5 +1,5 @@
 //! The checks of whole texts: their notes, the grammars by which lines can be judged, and their rules that derive the empty string.
-use crate::{SoundAbnf, check_abnf, derivation_is_decided, one_list_of_abnf_notes};
+use abnfcheck::{SoundAbnf, check_abnf, derivation_is_decided, one_list_of_abnf_notes};
 use abnfread::read_abnf;
 use ruletable::{Note, NoteKind};
 use std::alloc::Global;

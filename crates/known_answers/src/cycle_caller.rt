@@ -3,7 +3,7 @@ ghost use Rattle.std.specs.Prelude.{◌≡◌, ◌↔◌, ◌<◌, Bool, length,
 ghost use Rattle.leastset.specs.Leads.{Leads};
 ghost use Rattle.leastset.specs.StepRows.{slices_of, AreStepsWithin};
 
-use crate::cycles::on_cycle;
+use leastset::on_cycle;
 use std::alloc::{AllocError, Global};
 
 /// Returns whether a chain of at least one step leads from `n` back to `n`.
