@@ -7,6 +7,7 @@ ghost use Rattle.commands.specs.Parsing.{Answers, EndsAs};
 
 use crate::command::Program;
 use crate::reading::{end_unready, read_job};
+use abnfrun::run_abnf;
 use feed::Source;
 use gramtools::run_peg;
 use ruletable::Sink;
@@ -41,3 +42,27 @@ pub fn pegi_main<R: Files + AllocGlobal, I: Source, O: Sink, E: Sink>(
     }
 }
 
+/// The program `abnfi`, whose words are its own name and `[-m MODE] [-l N] [-s RULE] GRAMMAR`. It judges the lines that the
+/// reader gives by the grammar in the file GRAMMAR, as `run_abnf` says, with the settings of the words.
+///
+/// Words without a run, a grammar that cannot be read and want of memory end it as they end `pegi_main`.
+pub fn abnfi_main<R: Files + AllocGlobal, I: Source, O: Sink, E: Sink>(
+    rt: &R,
+    words: &[String],
+    reader: &mut I,
+    out: &mut O,
+    err: &mut E,
+) -> Status
+    requires reader_is_fresh { I.failed reader.old ≡ false }
+    requires out_is_fresh { O.failed out.old ≡ false }
+    requires err_is_fresh { E.failed err.old ≡ false }
+    ensures words { (app : _) × IsAppOf Program.Abnfi app × Answers (fault_of app (map string_bytes words.now))
+        (Keeps (I.remaining reader.old) (I.remaining reader.new) × Keeps (O.contents out.old) (O.contents out.new) ×
+        EndsAs (O.failed out.new) (E.failed err.new) Status.Refused result)
+        (Keeps (I.remaining reader.old) (I.remaining reader.new) × EndsAs (O.failed out.new) (E.failed err.new) Status.Done result) }
+{
+    match read_job(rt, Program::Abnfi, words) {
+        Ok(job) => run_abnf(rt.alloc(), job.grammar.as_slice(), &job.settings, reader, out, err),
+        Err(why) => end_unready(rt.alloc(), &why, out, err),
+    }
+}
