@@ -1,4 +1,5 @@
 -- What the words ask for, from what is found and what the getters read of it.
+-- Serves: read_words
 use Rattle.std.proofs.Common.{◌≡◌, ◌∙◌, ap, subst, sym, inl, inr, List, Option, Some}
 use Rattle.std.specs.Prelude.{codes, option_map}
 use Rattle.std.specs.Borrow.{Bor}
