@@ -1,7 +1,8 @@
 //! Lines judged by small grammars, with answers found by hand.
 use abnfread::{core_rules, read_abnf};
-use earley::{Chart, Letter, judge};
+use earley::{Chart, judge};
 use flatgrammar::{Flat, Node, items_at_most, items_tell, lower_rules};
+use letters::Letter;
 use ruletable::Memory;
 use std::alloc::Global;
 use std::test::Fail;

@@ -10,6 +10,8 @@ mod canonical_texts;
 #[cfg(test)]
 mod cell_table;
 #[cfg(test)]
+mod code_points;
+#[cfg(test)]
 mod cycle_caller;
 #[cfg(test)]
 mod feed_window;
