@@ -1,5 +1,5 @@
 -- Words begin a grammar exactly if the machine can take them, and a token that it cannot take decides.
-use Rattle.std.proofs.Common.{◌≡◌, ℕ, ◌<◌, Option, Some, None, List, [], ◌∷◌, ◌++◌, length, refl, ap, ◌∙◌}
+use Rattle.std.proofs.Common.{◌≡◌, ℕ, ◌<◌, Some, None, List, [], ◌∷◌, ◌++◌, length, refl, ap, ◌∙◌}
 use Rattle.lexer.specs.declared.limits.TheConstants.{MAX_OPEN}
 use Rattle.lexer.proofs.ViabilityLemmas as viability
 use Rattle.ruletable.specs.declared.span.Span.{Span}

@@ -1,5 +1,5 @@
 -- Every token of a text says one word, but for a bad one, which says none.
-use Rattle.std.proofs.Common.{◌≡◌, ◌≢◌, ℕ, List, ◌∷◌, refl, ◌∙◌, sym, ap}
+use Rattle.std.proofs.Common.{◌≡◌, ◌≢◌, ℕ, List, refl, ◌∙◌, sym, ap}
 use Rattle.ruletable.specs.declared.span.Span.{Span}
 use Rattle.pegread.specs.declared.kind.Kind.TheVariants as kinds
 use Rattle.lexer.specs.TokenLists.{tok, kind_of}

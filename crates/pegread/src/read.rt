@@ -99,7 +99,11 @@ fn hopeless(before: Option<Kind>, kind: Kind, line: usize) -> ReadFault
 }
 
 // Takes what a token says.
-fn take_token<'a>(alloc: Global, reader: Reader<'a>, token: Token<'a, Kind>) -> Result<Reader<'a>, Stop>
+fn take_token<'a>(
+    alloc: Global,
+    reader: Reader<'a>,
+    token: Token<'a, Kind>,
+) -> Result<Reader<'a>, Stop>
     requires { IsCut token.kind token.slice.now }
     ensures { Takes (config_of reader.entry) (tok_of token.entry) result }
 {
