@@ -1,5 +1,6 @@
 //! Tokens of texts, by hand.
-use pegread::{Kind, are_marked, have_tokens, one_list, tokens, tokens_make_up};
+use lexer::{have_tokens, one_list, tokens};
+use pegread::{Kind, are_marked, tokens_make_up};
 use std::process::Abort;
 
 // A text, and its tokens before the end.
@@ -101,7 +102,7 @@ static ROWS: [Row; 22] = [
 
 // The text has these tokens, then its end, and nothing behind it.
 fn check_tokens(rt: &impl Abort, text: &[u8], want: &[(Kind, &[u8])]) {
-    let mut found = tokens(text);
+    let mut found = tokens::<Kind>(text);
     for (kind, slice) in want {
         let is_next = found
             .next()
@@ -122,15 +123,15 @@ fn cuts_texts_into_tokens(rt: HostRuntime) {
 #[test]
 fn places_slices(rt: HostRuntime) {
     let want = [(1, 3), (6, 8), (8, 11), (12, 12)];
-    for (token, (start, end)) in tokens(b" ab\r\n <-'c' ").zip(want) {
+    for (token, (start, end)) in tokens::<Kind>(b" ab\r\n <-'c' ").zip(want) {
         assert_eq!(rt; (token.span.start, token.span.end), (start, end));
     }
 }
 
 #[test]
 fn laws_return() {
-    one_list();
+    one_list::<Kind>();
     are_marked();
     tokens_make_up();
-    have_tokens(b"a <- 'b' # c");
+    have_tokens::<Kind>(b"a <- 'b' # c");
 }

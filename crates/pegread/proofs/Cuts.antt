@@ -1,19 +1,22 @@
 -- The tokens that a canonical text is made of, each before what stands behind.
 use Rattle.std.proofs.Common.{◌≡◌, ℕ, ◌+◌, ◌-◌, ◌≤◌, Bool, true, false, List, [], ◌∷◌, ◌++◌, length, refl, ap, arith, inr, length-append}
 use Rattle.ruletable.specs.declared.span.Span.{Span}
-use Rattle.pegread.specs.declared.token_iter.Kind.{Kind}
-use Rattle.pegread.specs.declared.token_iter.Kind.TheVariants as kinds
+use Rattle.pegread.specs.declared.kind.Kind.{Kind}
+use Rattle.pegread.specs.declared.kind.Kind.TheVariants as kinds
 use Rattle.pegread.specs.Kinds.{is_end}
 use Rattle.pegread.specs.Literals.{SpellsBytes}
 use Rattle.pegread.specs.Classes.{SpellsSet}
-use Rattle.pegread.specs.Slices.{starts_name, is_blank, Names, none, more, Closes, Body, last, nested, other, White, no_more, blank, NoDash, First, at_end}
-use Rattle.pegread.specs.Tokens.{Tok, tok, AreTokens, last_one, one_more}
+use Rattle.lexer.specs.SliceEnds.{no_more, piece, at_end}
+use Rattle.pegread.specs.Slices.{starts_name, is_blank, Names, none, more, Closes, Body, last, nested, other, White, blank, NoDash, First}
+use Rattle.lexer.specs.TokenLists.{tok, last_one, one_more}
+use Rattle.pegread.specs.Tokens.{Tok, AreTokens}
 use Rattle.pegread.specs.Words as words
-use Rattle.pegread.specs.Words.{Word, Says, says_name, says_arrow, says_begin, says_literal, says_class, says_action, says_end, SayAll, say_none, say_more}
+use Rattle.lexer.specs.Viability.{say_none, say_more}
+use Rattle.pegread.specs.Words.{Word, Says, says_name, says_arrow, says_begin, says_literal, says_class, says_action, says_end, SayAll}
 use Rattle.pegread.proofs.Firsts.{first-literal, first-class, first-action, first-arrow, first-begin, first-ident}
 use Rattle.pegread.proofs.Fronts.{NoMore, names-longest}
 use Rattle.pegread.proofs.Respanned.{SameWord, same_word, same_name, SameWords, same_none, same_more}
-use Rattle.pegread.proofs.Steps.{white-shorter}
+use Rattle.pegread.proofs.SliceLemmas.{white-shorter}
 
 -- a token of that kind and slice says the word, but for its span
 pub record SaysLike (k : Kind) (z : List ℕ) (p : Span) (w : Word) : Type 0 where
@@ -59,8 +62,8 @@ placed total le (next {k} {t} {m} {r} {s} w f e h y c) =
     }
 
 pub blanked : {b : ℕ} {t : List ℕ} {ws : List Word} → is_blank b ≡ true → Cuts t ws → Cuts (b ∷ t) ws
-blanked h (nothing w) = nothing (blank h w)
-blanked h (next w f e k y c) = next (blank h w) f e k y c
+blanked h (nothing w) = nothing (piece (blank h) w)
+blanked h (next w f e k y c) = next (piece (blank h) w) f e k y c
 
 -- a word that has no span
 pub plainly : {k : Kind} {z : List ℕ} {w : Word} → ((p : Span) → Says (tok k z p) w) → (p : Span) → SaysLike k z p w

@@ -11,7 +11,8 @@ use Rattle.pegread.specs.Names.{IsName}
 use Rattle.pegread.specs.Names as names
 use Rattle.pegread.specs.Pattern as e
 use Rattle.pegread.specs.Pattern.{Pattern, Any, Bytes, Set, Name, Seq, Choice, Opt, And, Not, Act, Open, Close, Patterns, none, more, Rule}
-use Rattle.pegread.specs.Slices.{end_cap, slash, amp, bang, quest, star, plus, lparen, rparen, dot, no_more, NoDash}
+use Rattle.lexer.specs.SliceEnds.{no_more}
+use Rattle.pegread.specs.Slices.{end_cap, slash, amp, bang, quest, star, plus, lparen, rparen, dot, NoDash}
 use Rattle.pegread.specs.Words as words
 use Rattle.pegread.specs.Words.{Word, says_end_cap, says_slash, says_amp, says_bang, says_quest, says_star, says_plus, says_dot, says_lparen, says_rparen}
 use Rattle.pegread.proofs.ClassTexts.{class-inside, set-spelled}

@@ -2,8 +2,10 @@
 use Rattle.std.proofs.Common.{◌≡◌, ℕ, zero, suc, Option, Some, None, List, [], ◌∷◌, refl, ◌∙◌, ap}
 use Rattle.ruletable.specs.declared.span.Span.{Span}
 use Rattle.pegread.specs.Pattern.{Pattern, Name, Patterns}
-use Rattle.pegread.specs.Tokens.{Tok, kind_of}
-use Rattle.pegread.specs.Words.{Word, Ident, Arrow, Begin, EndCap, Slash, Amp, Bang, Quest, Star, Plus, Dot, LParen, RParen, Literal, Class, Action, End, Says, says_name, says_arrow, says_begin, says_end_cap, says_slash, says_amp, says_bang, says_quest, says_star, says_plus, says_dot, says_lparen, says_rparen, says_literal, says_class, says_action, says_end, SayAll, say_none, say_more}
+use Rattle.lexer.specs.TokenLists.{kind_of}
+use Rattle.pegread.specs.Tokens.{Tok}
+use Rattle.lexer.specs.Viability.{say_none, say_more}
+use Rattle.pegread.specs.Words.{Word, Ident, Arrow, Begin, EndCap, Slash, Amp, Bang, Quest, Star, Plus, Dot, LParen, RParen, Literal, Class, Action, End, Says, says_name, says_arrow, says_begin, says_end_cap, says_slash, says_amp, says_bang, says_quest, says_star, says_plus, says_dot, says_lparen, says_rparen, says_literal, says_class, says_action, says_end, SayAll}
 use Rattle.pegread.specs.Machine.{snoc, apply, Mark, no_mark, not_mark, and_mark, fresh, read, read_name, Level, level, Head, Config, start, named, body, done, fresh_step, read_step, name_step, step, run, levels, levels_in}
 use Rattle.pegread.specs.Limits.{open_behind}
 

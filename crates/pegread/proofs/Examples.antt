@@ -1,18 +1,21 @@
 -- Examples of what the definitions say.
 use Rattle.std.proofs.Common.{ℕ, List, [], ◌∷◌, arith, codes, refl}
 use Rattle.ruletable.specs.declared.span.Span.{Span}
-use Rattle.pegread.specs.declared.token_iter.Kind.TheVariants as kinds
+use Rattle.pegread.specs.declared.kind.Kind.TheVariants as kinds
 use Rattle.pegread.specs.Pattern.{Any, Bytes, Name, Seq, Choice, Opt, Not, Act, none, more}
 use Rattle.pegread.specs.Literals.{SpellsBytes}
 use Rattle.pegread.specs.Chars.{no_chars, more_chars}
 use Rattle.pegread.specs.Limits.{IsShallow}
 use Rattle.pegread.specs.Slices.{First}
-use Rattle.pegread.specs.Tokens.{Tok, tok}
-use Rattle.pegread.specs.Words.{Ident, Arrow, Slash, Bang, Quest, Dot, LParen, RParen, Literal, Action, End, say_none, say_more, says_name, says_arrow, says_amp, says_star, says_lparen, says_literal, says_action}
-use Rattle.pegread.specs.Spelling.{name, literal, dot, action, parens, bare, quest, plain, bang, no_item, item, only, further, expression, rule_at, Grammar, last_definition, more_definitions, Hopeless}
+use Rattle.lexer.specs.TokenLists.{tok}
+use Rattle.pegread.specs.Tokens.{Tok}
+use Rattle.lexer.specs.Viability.{say_none, say_more}
+use Rattle.pegread.specs.Words.{Ident, Arrow, Slash, Bang, Quest, Dot, LParen, RParen, Literal, Action, End, says_name, says_arrow, says_amp, says_star, says_lparen, says_literal, says_action}
+use Rattle.pegread.specs.Spelling.{name, literal, dot, action, parens, bare, quest, plain, bang, no_item, item, only, further, expression, rule_at, Grammar, last_definition, more_definitions}
 use Rattle.pegread.proofs.Firsts.{first-arrow, first-begin}
 use Rattle.pegread.proofs.Forms.{char-plain}
-use Rattle.pegread.proofs.Grammars.{hopeless-step}
+use Rattle.pegread.proofs.GrammarViabilityLemmas.{hopeless-step}
+use Rattle.pegread.specs.Reading.{IsHopeless}
 
 -- `<-x` begins with an arrow, `<x` with the start of a capture
 arrow-first : First kinds.Arrow (codes "<-x") (codes "x")
@@ -51,16 +54,16 @@ literal-a = record { mark = 39; inside = codes "a"; cut = refl; chars = more_cha
 
 module _ (s t : List ℕ) (p : Span) (us : List Tok) where
   -- `S <- &{x}`: C's code as a predicate is hopeless with the action
-  and_action-hopeless : Hopeless (tok kinds.Ident s p ∷ tok kinds.Arrow (codes "<-") p ∷ tok kinds.Amp (codes "&") p ∷ tok kinds.Action (codes "{x}") p ∷ us) 3
-  and_action-hopeless = hopeless-step _ (say_more says_name (say_more says_arrow (say_more says_amp say_none))) refl _ us _ refl (says_action {t = codes "x"} refl) refl
+  and_action-hopeless : IsHopeless (tok kinds.Ident s p ∷ tok kinds.Arrow (codes "<-") p ∷ tok kinds.Amp (codes "&") p ∷ tok kinds.Action (codes "{x}") p ∷ us) 3
+  and_action-hopeless = hopeless-step _ (say_more says_name (say_more says_arrow (say_more says_amp say_none))) refl (omega arith, (omega arith, (omega arith, omega arith))) _ us (says_action {t = codes "x"} refl) refl
 
   -- `S <- 'a'**`: at most one suffix
-  two_stars-hopeless : Hopeless (tok kinds.Ident s p ∷ tok kinds.Arrow (codes "<-") p ∷ tok kinds.Literal (codes "'a'") p ∷ tok kinds.Star (codes "*") p ∷ tok kinds.Star (codes "*") p ∷ us) 4
-  two_stars-hopeless = hopeless-step _ (say_more says_name (say_more says_arrow (say_more (says_literal literal-a) (say_more says_star say_none)))) refl _ us _ refl says_star refl
+  two_stars-hopeless : IsHopeless (tok kinds.Ident s p ∷ tok kinds.Arrow (codes "<-") p ∷ tok kinds.Literal (codes "'a'") p ∷ tok kinds.Star (codes "*") p ∷ tok kinds.Star (codes "*") p ∷ us) 4
+  two_stars-hopeless = hopeless-step _ (say_more says_name (say_more says_arrow (say_more (says_literal literal-a) (say_more says_star say_none)))) refl (omega arith, (omega arith, (omega arith, (omega arith, omega arith)))) _ us says_star refl
 
   -- `S <- (T <-`: no definition begins within brackets
-  arrow_inside-hopeless : Hopeless (tok kinds.Ident s p ∷ tok kinds.Arrow (codes "<-") p ∷ tok kinds.LParen (codes "(") p ∷ tok kinds.Ident t p ∷ tok kinds.Arrow (codes "<-") p ∷ us) 4
-  arrow_inside-hopeless = hopeless-step _ (say_more says_name (say_more says_arrow (say_more says_lparen (say_more says_name say_none)))) refl _ us _ refl says_arrow refl
+  arrow_inside-hopeless : IsHopeless (tok kinds.Ident s p ∷ tok kinds.Arrow (codes "<-") p ∷ tok kinds.LParen (codes "(") p ∷ tok kinds.Ident t p ∷ tok kinds.Arrow (codes "<-") p ∷ us) 4
+  arrow_inside-hopeless = hopeless-step _ (say_more says_name (say_more says_arrow (say_more says_lparen (say_more says_name say_none)))) refl (omega arith, (omega arith, (omega arith, (omega arith, omega arith)))) _ us says_arrow refl
 
   -- two brackets are open at most, and not one
   two-open : IsShallow 2 0 (tok kinds.LParen (codes "(") p ∷ tok kinds.LParen (codes "(") p ∷ tok kinds.RParen (codes ")") p ∷ tok kinds.LParen (codes "(") p ∷ [])

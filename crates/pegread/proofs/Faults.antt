@@ -1,22 +1,40 @@
 -- A text has one list of definitions or one fault, but for want of memory.
-use Rattle.std.proofs.Common.{◌≡◌, ◌≢◌, ℕ, inl, inr, Some, List, refl, sym, ◌∙◌, ap, arith, slice_get}
+use Rattle.std.proofs.Common.{◌≡◌, ◌≢◌, ℕ, ◌⊎◌, inl, inr, take, Some, List, refl, sym, ◌∙◌, ap, arith, slice_get}
+use Rattle.lexer.proofs.ViabilityLemmas as viability
+use Rattle.lexer.specs.declared.limits.TheConstants.{MAX_OPEN}
 use Rattle.ruletable.specs.Lines.{line_at}
 use Rattle.ruletable.specs.declared.lines.LineRule.TheVariants.{Any}
 use Rattle.ruletable.specs.declared.fault.ReadFault.{ReadFault}
 use Rattle.ruletable.specs.declared.fault.ReadFault.TheVariants as faults
 use Rattle.pegread.specs.Pattern.{Rule}
-use Rattle.pegread.specs.Reading.{Reads, IsCodePredicate, IsHopeless, IsTooDeep, IsDecidedAt, IsFaultOf}
-use Rattle.pegread.specs.Tokens.{Tok, start_of}
-use Rattle.pegread.proofs.Deciding.{Decides, one-deciding, not-both, none-deciding}
+use Rattle.pegread.specs.Spelling.{Grammar, Viable}
+use Rattle.pegread.specs.Words.{Says}
+use Rattle.pegread.specs.Reading.{AreWithin, Reads, IsCodePredicate, IsHopeless, IsTooDeep, IsDecidedAt, IsFaultOf}
+use Rattle.lexer.specs.TokenLists.{start_of}
+use Rattle.pegread.specs.Tokens.{Tok}
 use Rattle.pegread.proofs.Passing.{one-grammar}
-use Rattle.pegread.proofs.Unique.{tokens-one}
-use Rattle.pegread.proofs.Saying.{one-words}
+use Rattle.pegread.proofs.SaysLemmas.{one-word}
+use Rattle.pegread.proofs.Shallow.{shallow-take}
+use Rattle.pegread.proofs.SliceLemmas.{tokens-one}
 
 pub one-reading : (text : List ℕ) (a b : List Rule) → Reads text a → Reads text b → a ≡ b
 one-reading text a b r q =
     let tokens = tokens-one q.are_tokens r.are_tokens in
-    let words = one-words (rw tokens at q.say) r.say in
+    let words = viability.one-words Says one-word (let s = q.say in rw tokens at s) r.say in
     one-grammar r.grammar (rw words at q.grammar)
+
+-- a token decides that the text spells no grammar, or that too many brackets are open
+abbrev Decides : List Tok → ℕ → Type 0
+Decides ts i = IsHopeless ts i ⊎ IsTooDeep ts i
+
+viable-take : (i : ℕ) (ts : List Tok) → Viable ts → Viable (take i ts)
+viable-take = viability.viable-take Says Grammar
+
+within-take : (i : ℕ) (ts : List Tok) → AreWithin ts → AreWithin (take i ts)
+within-take i ts h = shallow-take MAX_OPEN 0 i ts h
+
+one-deciding : (ts : List Tok) (i j : ℕ) → Decides ts i → Decides ts j → i ≡ j
+one-deciding = viability.one-deciding Viable AreWithin viable-take within-take
 
 -- two tokens of a text that decide are one
 record OnePlace (text : List ℕ) (a b : ℕ) (D E : List Tok → ℕ → Type 0) : Type 0 where
@@ -71,10 +89,10 @@ module _ (text : List ℕ) (a b : ℕ) where
   syntax-code h k = let p = one-place text a b IsSyntax IsCode syntax-decides code-decides h k in let s = p.first in let c = p.second in s.1 c.1
 
   syntax-deep : IsDecidedAt text a IsSyntax → IsDecidedAt text b IsTooDeep → ⊥
-  syntax-deep h k = let p = one-place text a b IsSyntax IsTooDeep syntax-decides deep-decides h k in let s = p.first in not-both p.all p.number s.0 p.second
+  syntax-deep h k = let p = one-place text a b IsSyntax IsTooDeep syntax-decides deep-decides h k in let s = p.first in viability.not-both Viable AreWithin viable-take within-take p.all p.number s.0 p.second
 
   code-deep : IsDecidedAt text a IsCode → IsDecidedAt text b IsTooDeep → ⊥
-  code-deep h k = let p = one-place text a b IsCode IsTooDeep code-decides deep-decides h k in let c = p.first in not-both p.all p.number c.0 p.second
+  code-deep h k = let p = one-place text a b IsCode IsTooDeep code-decides deep-decides h k in let c = p.first in viability.not-both Viable AreWithin viable-take within-take p.all p.number c.0 p.second
 
 pub one-fault : (text : List ℕ) (a b : ReadFault) → IsFaultOf text a → IsFaultOf text b → a ≢ faults.Memory → b ≢ faults.Memory → a ≡ b
 one-fault text faults.Memory b f g m n = absurd (m refl)
@@ -103,7 +121,7 @@ read-decides_none : (text : List ℕ) (rules : List Rule) (line : ℕ) (D : List
 read-decides_none text rules line D f r h =
     let all : h.all ≡ r.tokens = tokens-one h.are_tokens r.are_tokens in
     let there : D r.tokens h.number = rw all at h.decides in
-    none-deciding rules h.number r.say r.grammar r.shallow (f r.tokens h.number there)
+    viability.none-deciding Viable AreWithin viable-take within-take r.tokens h.number (viability.viable-whole Says Grammar rules r.say r.grammar) r.shallow (f r.tokens h.number there)
 
 pub no-fault : (text : List ℕ) (rules : List Rule) (fault : ReadFault) → Reads text rules → IsFaultOf text fault → fault ≡ faults.Memory
 no-fault text rules (faults.Syntax line) r f = absurd (read-decides_none text rules line IsSyntax syntax-decides r f)

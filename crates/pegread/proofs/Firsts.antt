@@ -1,9 +1,12 @@
 -- Which tokens a first byte leaves, and how far each reaches.
 use Rattle.std.proofs.Common.{◌≡◌, ◌≢◌, ℕ, ◌≤◌, ◌-◌, ◌||◌, ◌==◌, cond, Bool, true, false, List, [], ◌∷◌, length, take, drop, refl, sym, arith, ◌⊎◌, inl, inr}
-use Rattle.pegread.specs.declared.token_iter.Kind.{Kind}
-use Rattle.pegread.specs.declared.token_iter.Kind.TheVariants.{Ident, Arrow, Begin, Literal, Class, Action, Bad, End}
+use Rattle.pegread.specs.declared.kind.Kind.{Kind}
+use Rattle.pegread.specs.declared.kind.Kind.TheVariants.{Ident, Arrow, Begin, Literal, Class, Action, Bad, End}
 use Rattle.pegread.specs.Kinds.{is_sign, is_closed}
-use Rattle.pegread.specs.Slices.{starts_name, Names, Closes, close, escape, plain, Body, last, nested, other, Stands, StandsNone, ident, arrow, begin, single, double, class, action, First, found, bad, at_end, IsNotWhite, NoDash}
+use Rattle.lexer.specs.SliceEnds.{NoPiece, found, bad, at_end}
+use Rattle.pegread.specs.Slices.{starts_name, Names, Closes, close, escape, plain, Body, last, nested, other, Stands, StandsNone, ident, arrow, begin, single, double, class, action, Piece, First, NoDash}
+use Rattle.lexer.proofs.FirstLemmas as firsts
+use Rattle.pegread.proofs.SliceLemmas.{stands-part}
 use Rattle.pegread.proofs.Fronts.{Decided, closes-by}
 
 pub closes-one : {mark : ℕ} {t r s : List ℕ} → mark ≢ 92 → Closes mark t r → Closes mark t s → r ≡ s
@@ -23,7 +26,7 @@ body-one (other p q h) (other p' q' u) = body-one h u
 
 -- each token that stands there ends where this one does
 alone : {k : Kind} {t r : List ℕ} → Stands k t r → ((j : Kind) (s : List ℕ) → Stands j t s → r ≡ s) → First k t r
-alone h f = found (record { stands = h; longest = λ j s x. let e = f j s x in rw e (omega arith) })
+alone h f = firsts.alone Piece Stands Bad End stands-part h f
 
 -- whether the byte begins an arrow or what a mark closes
 abbrev begins_longer : ℕ → Bool
@@ -120,5 +123,5 @@ module _ {b : ℕ} {t bs : List ℕ} (e : t ≡ b ∷ bs) where
   pub first-ident : {r : List ℕ} → starts_name b ≡ true → Names bs r → ((s : List ℕ) → Names bs s → length r ≤ length s) → First Ident t r
   first-ident h n l = rw (e) (found (record { stands = ident h n; longest = λ _ s x. l s (ident-names h x) }))
 
-  pub first-bad : IsNotWhite t → b ≢ 60 → starts_name b ≡ false → StandsNone is_sign (b ∷ bs) → StandsNone is_closed (b ∷ bs) → First Bad t (take (length t - length t) (drop (length t) t))
+  pub first-bad : NoPiece Piece t → b ≢ 60 → starts_name b ≡ false → StandsNone is_sign (b ∷ bs) → StandsNone is_closed (b ∷ bs) → First Bad t (take (length t - length t) (drop (length t) t))
   first-bad w a n p q = rw (nothing-left t, e) (bad (rw e at w) (λ k s h. nothing-stands a n (p k s h) (q k s h) h))

@@ -1,5 +1,6 @@
 -- How far the relations of specs/Slices.antt reach.
 use Rattle.std.proofs.Common.{◌≡◌, ◌≢◌, ℕ, zero, suc, ◌≤◌, true, false, List, [], ◌∷◌, length, refl, arith, ◌⊎◌, inl, inr}
+use Rattle.lexer.specs.SliceEnds.{piece}
 use Rattle.pegread.specs.Slices.{continues_name, is_blank, ends_line, Names, none, more, Closes, close, escape, plain, Body, last, nested, other, IsLineEnd, Comment, inside, White, blank, comment}
 
 -- the text doesn't go on with a byte of a name
@@ -117,7 +118,7 @@ module _ {b : ℕ} {t bs : List ℕ} (e : t ≡ b ∷ bs) where
   comment-on p h = rw (e) (inside p h)
 
   pub blank-on : {r : List ℕ} → is_blank b ≡ true → White bs r → White t r
-  blank-on p h = rw (e) (blank p h)
+  blank-on p h = rw (e) (piece (blank p) h)
 
   pub comment-off : {m r : List ℕ} → b ≡ 35 → Comment bs m → White m r → White t r
-  comment-off p h k = rw (e, p) (comment h k)
+  comment-off p h k = rw (e, p) (piece (comment h) k)

@@ -9,12 +9,15 @@ use Rattle.pegread.specs.Formed.{AreBytes, IsByteSet, IsTemplate, IsFormed, AreF
 use Rattle.pegread.specs.Names.{IsName}
 use Rattle.pegread.specs.Pattern.{Pattern, Patterns, none, more, Rule}
 use Rattle.pegread.specs.Reading.{Reads}
+use Rattle.lexer.specs.SliceEnds.{no_more, piece}
 use Rattle.pegread.specs.Slices as slices
 use Rattle.pegread.specs.Slices.{White, Comment, Body}
 use Rattle.pegread.specs.Spelling.{sequence, choice, Primary, name, literal, class, dot, action, begin, end_cap, parens, Suffixed, bare, quest, star, plus, Prefixed, plain, bang, amp, Items, no_item, item, Alternatives, only, further, Expression, expression, Grammar, last_definition, more_definitions}
-use Rattle.pegread.specs.Tokens.{Tok, slice_of, Next, AreTokens, last_one, one_more}
+use Rattle.lexer.specs.TokenLists.{slice_of, last_one, one_more}
+use Rattle.pegread.specs.Tokens.{Tok, Next, AreTokens}
 use Rattle.pegread.specs.Words as words
-use Rattle.pegread.specs.Words.{Word, Says, says_name, says_literal, says_class, says_action, SayAll, say_none, say_more}
+use Rattle.lexer.specs.Viability.{say_none, say_more}
+use Rattle.pegread.specs.Words.{Word, Says, says_name, says_literal, says_class, says_action, SayAll}
 use Rattle.pegread.proofs.Spelled.{IsFull}
 use Rattle.pegread.proofs.TokenSlices.{name-token, action-token}
 
@@ -43,9 +46,9 @@ comment-bytes (slices.ended h) w = w
 comment-bytes (slices.inside h c) w = comment-bytes c w.1
 
 white-bytes : {t r : List ℕ} → White t r → AreBytes t → AreBytes r
-white-bytes slices.no_more w = w
-white-bytes (slices.blank h c) w = white-bytes c w.1
-white-bytes (slices.comment h c) w = white-bytes c (comment-bytes h w.1)
+white-bytes no_more w = w
+white-bytes (piece (slices.blank h) c) w = white-bytes c w.1
+white-bytes (piece (slices.comment h) c) w = white-bytes c (comment-bytes h w.1)
 
 octal-most : {x k : ℕ} → Octal x k → k ≤ 7
 octal-most (octal_digit h) = h

@@ -7,14 +7,13 @@ mod ClassTexts
 pub mod Closing
 mod Cuts
 mod Cutting
-pub mod Deciding
 mod Depth
 mod Examples
 pub mod Faults
 mod Firsts
 pub mod Forms
 mod Fronts
-pub mod Grammars
+pub mod GrammarViabilityLemmas
 pub mod Image
 pub mod Items
 pub mod Leaving
@@ -27,13 +26,10 @@ mod Pieces
 pub mod Quoted
 pub mod ReadingBack
 pub mod Respanned
-pub mod Saying
+pub mod SaysLemmas
 pub mod Shallow
 mod Shapes
-mod Speaking
+pub mod SliceLemmas
 mod Spelled
-mod Steps
 pub mod Tables
 pub mod TokenSlices
-mod Unique
-mod Viable

@@ -7,9 +7,9 @@ use Rattle.ruletable.specs.declared.fault.ReadFault.TheVariants.{Syntax, CodePre
 use Rattle.ruletable.specs.Lines.{line_at}
 use Rattle.ruletable.specs.declared.lines.LineRule.TheVariants.{Any}
 use Rattle.std.specs.Option.{option_map}
-use Rattle.pegread.specs.declared.read.TheConstants.{MAX_GRAMMAR, MAX_OPEN}
-use Rattle.pegread.specs.declared.token_iter.Kind.{Kind}
-use Rattle.pegread.specs.declared.token_iter.Kind.TheVariants.{Literal, Class, Amp, Action, End}
+use Rattle.lexer.specs.declared.limits.TheConstants.{MAX_GRAMMAR, MAX_OPEN}
+use Rattle.pegread.specs.declared.kind.Kind.{Kind}
+use Rattle.pegread.specs.declared.kind.Kind.TheVariants.{Literal, Class, Amp, Action, End}
 use Rattle.pegread.specs.declared.reader.Stop.{Stop}
 use Rattle.pegread.specs.declared.reader.Stop.TheVariants as stops
 use Rattle.pegread.specs.declared.reader.Definition.{Definition}
@@ -20,21 +20,25 @@ use Rattle.pegread.specs.Literals.{IsLiteral}
 use Rattle.pegread.specs.Classes.{IsClass}
 use Rattle.pegread.specs.Marks.{IsCut}
 use Rattle.pegread.specs.Actions.{IsBraced}
-use Rattle.pegread.specs.declared.token_iter.Token.{Token}
-use Rattle.pegread.specs.declared.token_iter.TokenIter.{TokenIter}
+use Rattle.lexer.proofs.ViabilityLemmas.{run_of, run-append, run-snoc, say-snoc, Split, say-split}
+use Rattle.lexer.specs.declared.token_iter.Token.{Token}
+use Rattle.lexer.specs.TokenLists as lexed
+use Rattle.lexer.specs.declared.token_iter.TokenIter.{TokenIter}
 use Rattle.pegread.specs.Kinds.{is_end}
 use Rattle.pegread.specs.Limits.{IsShallow}
 use Rattle.pegread.specs.Machine.{Config, start, done, step, run, levels_in}
 use Rattle.pegread.specs.Pattern.{Rule}
+use Rattle.pegread.specs.Slices.{White, First}
 use Rattle.pegread.specs.Predicates.{is_predicate, hopeless_fault, last_kind}
 use Rattle.pegread.specs.Reading.{Reads, IsCodePredicate, IsHopeless, IsTooDeep, IsDecidedAt, IsFaultOf}
-use Rattle.pegread.specs.Tokens.{Tok, tok, tok_of, kind_of, start_of, Next, AreTokens, AreLeft, IsAtStart, total_of, last_one, one_more}
+use Rattle.lexer.specs.TokenLists.{tok, tok_of, kind_of, start_of, last_one, one_more}
+use Rattle.pegread.specs.Tokens.{Tok, Next, AreTokens}
 use Rattle.pegread.specs.Words as words
-use Rattle.pegread.specs.Words.{Word, Says, says_end, SayAll, say_none, say_more}
-use Rattle.pegread.proofs.Grammars.{hopeless-next, is-hopeless, is-too_deep}
-use Rattle.pegread.proofs.Saying.{one-word, say-snoc, Split, say-split}
+use Rattle.lexer.specs.Viability.{say_none, say_more}
+use Rattle.pegread.specs.Words.{Word, Says, says_end, SayAll}
+use Rattle.pegread.proofs.GrammarViabilityLemmas.{end-done, hopeless-next, too_deep-next}
+use Rattle.pegread.proofs.SaysLemmas.{one-word}
 use Rattle.pegread.proofs.Shallow.{shallow-none, shallow-next}
-use Rattle.pegread.proofs.Viable.{run_of, one-run, run-append, run-snoc, end-done}
 use Rattle.pegread.proofs.Backwards.{runs-grammar}
 
 -- the tokens so far and those that are left are the text's, and the machine took what those so far say
@@ -100,8 +104,8 @@ module _ {text : List ℕ} {left : List Tok → Type 0} {c : Config} {before : O
     are_left = are;
     all = rw (append_assoc ts (t ∷ []) others) whole;
     words = h.words ++ w ∷ [];
-    say = say-snoc h.say says;
-    reached = run-snoc h.words w start c h.reached ∙ steps;
+    say = say-snoc Says h.say says;
+    reached = run-snoc step h.words w start c h.reached ∙ steps;
     shallow = shallow-next c d h.say h.reached says steps MAX_OPEN h.shallow le;
     last = sym (last-snoc ts t);
   }
@@ -111,11 +115,11 @@ module _ {text : List ℕ} {left : List Tok → Type 0} {c : Config} {before : O
     decided D k = record { within = within; all = ts ++ t ∷ others; are_tokens = whole; number = length ts; token = t; there = get-seam ts t others; decides = k; line_is = there }
 
     pub too-deep : (d : Config) (w : Word) → Says t w → step c w ≡ Some d → MAX_OPEN < levels_in d → IsDecidedAt text line IsTooDeep
-    too-deep d w says steps lt = decided IsTooDeep (is-too_deep c h.say h.reached t others (ts ++ t ∷ others) refl d says steps h.shallow lt)
+    too-deep d w says steps lt = decided IsTooDeep (too_deep-next c h.say h.reached h.shallow t others d w says steps lt)
 
     module _ (stops : (w : Word) → Says t w → step c w ≡ None) where
       is-here : IsHopeless (ts ++ t ∷ others) (length ts)
-      is-here = is-hopeless c h.say h.reached t others (ts ++ t ∷ others) refl (hopeless-next c h.say h.reached t others (ts ++ t ∷ others) refl stops) h.shallow
+      is-here = hopeless-next c h.say h.reached h.shallow t others stops
 
       is-predicate : is_predicate before (kind_of t) ≡ true → IsCodePredicate (ts ++ t ∷ others) (length ts)
       is-predicate e = behind-amp (predicate-kinds before (kind_of t) e)
@@ -148,9 +152,9 @@ tokens-end : {total : ℕ} {t : List ℕ} {ts : List Tok} → AreTokens total t 
 tokens-end (last_one {x = tok k z p} n e) = ([], z, p, ap (λ (k : Kind). tok k z p ∷ []) (end-kind k e))
 tokens-end (one_more {x} n e more) = let h = tokens-end more in (x ∷ h.0, h.1, h.2, ap (λ (y : List Tok). x ∷ y) h.3)
 
-run-end : (x : Option Config) (c : Config) → run_of x (words.End ∷ []) ≡ Some c → (rules : List Rule) × (c ≡ done rules)
+run-end : (x : Option Config) (c : Config) → run_of step x (words.End ∷ []) ≡ Some c → (rules : List Rule) × (c ≡ done rules)
 run-end None c e = cc
-run-end (Some d) c e = end-done d c (sym (one-run d words.End) ∙ e)
+run-end (Some d) c e = end-done d c (sym (run-snoc step [] words.End d d refl) ∙ e)
 
 -- no token is left
 module _ {text : List ℕ} {left : List Tok → Type 0} {c : Config} {before : Option Kind} {ts : List Tok} (h : HasTaken text left c before ts) (none : h.rest ≡ []) where
@@ -160,20 +164,18 @@ module _ {text : List ℕ} {left : List Tok → Type 0} {c : Config} {before : O
   pub all-done : (rules : List Rule) × (c ≡ done rules)
   all-done =
       let e = tokens-end every in
-      let s = say-split e.0 (tok End e.1 e.2 ∷ []) (rw e.3 at h.say) in
-      said-end s (sym (run-append s.front s.back start) ∙ ap (run start) (sym s.whole) ∙ h.reached)
+      let s = say-split Says e.0 (tok End e.1 e.2 ∷ []) (rw e.3 at h.say) in
+      said-end s (sym (run-append step s.front s.back start) ∙ ap (run start) (sym s.whole) ∙ h.reached)
     where
-      said-end : {fs : List Tok} {z : List ℕ} {p : Span} {ws : List Word} (s : Split fs (tok End z p ∷ []) ws) → run_of (run start s.front) s.back ≡ Some c → (rules : List Rule) × (c ≡ done rules)
+      said-end : {fs : List Tok} {z : List ℕ} {p : Span} {ws : List Word} (s : Split Says fs (tok End z p ∷ []) ws) → run_of step (run start s.front) s.back ≡ Some c → (rules : List Rule) × (c ≡ done rules)
       said-end s e = run-end (run start s.front) c (rw (only-end s.rest) at e)
 
   pub all-read : (rules : List Rule) → c ≡ done rules → length text ≤ MAX_GRAMMAR → Reads text rules
   all-read rules e within = record { within = within; tokens = ts; are_tokens = every; words = h.words; say = h.say; grammar = runs-grammar rules h.words (h.reached ∙ ap Some e); shallow = h.shallow }
 
--- whatever tokens the text has are left at first
-pub left-at_start : (s : TokenIter) {t : List ℕ} {ts : List Tok} → IsAtStart s t → AreTokens (length t) t ts → AreLeft s ts
-left-at_start s {t} at_start h =
-    let total : total_of s ≡ length t = omega (arith, ap length at_start.0) in
-    rw (at_start.2, total, at_start.0) h
+-- what is left of the text's tokens
+abbrev pub AreLeft : TokenIter Kind → List Tok → Type 0
+AreLeft = lexed.AreLeft White First is_end
 
 pub done-not : (r : Reader) (rules : List Rule) → config_of r ≡ done rules → ((ds : Vec Definition Global) → r ≡ readers.Done ds → ⊥) → ⊥
 done-not readers.Start rules e f = cc
@@ -193,11 +195,11 @@ module _ (literal : (total : ℕ) (t r z : List ℕ) (p : Span) → Next total t
   cut-kind total t r z Action p n = action total t r z p n
   cut-kind total t r z _ p n = tt
 
-  pub cut-of : (total : ℕ) (t r : List ℕ) (x : Token) → Next total t (tok_of x) r → IsCut x.kind x.slice.now
+  pub cut-of : (total : ℕ) (t r : List ℕ) (x : Token Kind) → Next total t (tok_of x) r → IsCut x.kind x.slice.now
   cut-of total t r x n = cut-kind total t r x.slice.now x.kind x.span n
 
 -- the machine's step for the one word of a token is the token's
 pub taken-word : (c : Config) (t : Tok) (w : Word) (r : Result Reader Stop) → Says t w → Steps (step c w) r → Takes c t r
 taken-word c t w (Ok r) says s = (w, says, s)
-taken-word c t w (Err stops.Hopeless) says s = λ v h. ap (step c) (one-word h says) ∙ s
+taken-word c t w (Err stops.Hopeless) says s = λ v h. ap (step c) (one-word t v w h says) ∙ s
 taken-word c t w (Err stops.Memory) says s = tt

@@ -2,15 +2,17 @@
 use Rattle.std.proofs.Common.{◌≡◌, ℕ, suc, ◌+◌, ◌≤◌, max, Bool, true, false, List, [], ◌∷◌, refl, sym, subst, arith}
 use Rattle.pegread.specs.declared.place.Place.{Place}
 use Rattle.pegread.specs.declared.place.Place.TheVariants.{Alternative, Member, OfPrefix, OfAmp, OfSuffix}
-use Rattle.pegread.specs.declared.token_iter.Kind.TheVariants as kinds
+use Rattle.pegread.specs.declared.kind.Kind.TheVariants as kinds
 use Rattle.pegread.specs.Brackets.{wraps, is_act}
 use Rattle.pegread.specs.Limits.{open_behind, IsShallow}
 use Rattle.pegread.specs.Pattern as e
 use Rattle.pegread.specs.Pattern.{Pattern, Any, Bytes, Set, Name, Seq, Choice, Opt, And, Not, Act, Open, Close, Patterns, none, more, Rule}
 use Rattle.pegread.specs.Spelling.{sequence, choice, NoAction, Primary, name, literal, class, dot, action, begin, end_cap, parens, Suffixed, bare, quest, star, plus, Prefixed, plain, bang, amp, Items, no_item, item, Alternatives, only, further, Expression, expression, Grammar, last_definition, more_definitions}
-use Rattle.pegread.specs.Tokens.{Tok, tok, kind_of}
+use Rattle.lexer.specs.TokenLists.{tok, kind_of}
+use Rattle.pegread.specs.Tokens.{Tok}
 use Rattle.pegread.specs.Words as words
-use Rattle.pegread.specs.Words.{Word, Says, says_lparen, says_rparen, SayAll, say_none, say_more}
+use Rattle.lexer.specs.Viability.{say_none, say_more}
+use Rattle.pegread.specs.Words.{Word, Says, says_lparen, says_rparen, SayAll}
 use Rattle.pegread.proofs.Listed.{within, listed, listed_members, listed_alternatives, listed_more, listed_rules}
 use Rattle.pegread.proofs.Respanned.{same_word, same_name, SameWords, same_none, same_more}
 

@@ -2,13 +2,15 @@
 use Rattle.std.proofs.Common.{◌≡◌, ℕ, ◌+◌, ◌-◌, ◌≤◌, All, true, List, [], ◌∷◌, ◌++◌, length, take, drop, refl, sym, ap, ◌∙◌, subst, arith, append_assoc, append-nil, length-append}
 use Rattle.std.proofs.lemmas.List.{drop_at, take_at}
 use Rattle.std.proofs.lemmas.List.Elements.{All-nil, All-cons}
-use Rattle.pegread.specs.declared.token_iter.Kind.{Kind}
-use Rattle.pegread.specs.declared.token_iter.Kind.TheVariants.{End}
+use Rattle.pegread.specs.declared.kind.Kind.{Kind}
+use Rattle.pegread.specs.declared.kind.Kind.TheVariants.{End}
 use Rattle.pegread.specs.Kinds.{is_end}
-use Rattle.pegread.specs.Slices.{IsLineEnd, Comment, ended, inside, White, no_more, blank, comment, Stands, First, found, bad, at_end}
-use Rattle.pegread.specs.Tokens.{Tok, slice_of, start_of, end_of, Next, AreTokens, last_one, one_more}
+use Rattle.lexer.specs.SliceEnds.{no_more, piece, found, bad, at_end}
+use Rattle.pegread.specs.Slices.{IsLineEnd, Comment, ended, inside, White, blank, comment, Stands, First}
+use Rattle.lexer.specs.TokenLists.{slice_of, start_of, end_of, last_one, one_more}
+use Rattle.pegread.specs.Tokens.{Tok, Next, AreTokens}
 use Rattle.pegread.specs.Pieces.{MakeUp, made_last, made_more, LiesIn, AreInOrder}
-use Rattle.pegread.proofs.Steps.{stands-no_end}
+use Rattle.pegread.proofs.SliceLemmas.{stands-no_end}
 
 -- a comment's inside, which ends before each line end
 record CommentPart (t r : List ℕ) : Type 0 where
@@ -34,14 +36,14 @@ line_end-front (b ∷ w) r e h = rw e at h
 
 white-part : {t r : List ℕ} → White t r → WhitePart t r
 white-part no_more = record { part = []; cut = refl; alone = no_more }
-white-part (blank {b} p h) = let x = white-part h in record { part = b ∷ x.part; cut = ap (λ (z : List ℕ). b ∷ z) x.cut; alone = blank p x.alone }
-white-part (comment {r = r} c h) =
+white-part (piece (blank {b} p) h) = let x = white-part h in record { part = b ∷ x.part; cut = ap (λ (z : List ℕ). b ∷ z) x.cut; alone = piece (blank p) x.alone }
+white-part {r} (piece (comment c) h) =
     let x = comment-part c in
     let y = white-part h in
     record {
       part = 35 ∷ (x.part ++ y.part);
       cut = ap (λ (z : List ℕ). 35 ∷ z) (x.cut ∙ ap (λ (z : List ℕ). x.part ++ z) y.cut ∙ sym (append_assoc x.part y.part r));
-      alone = comment (x.alone y.part (line_end-front y.part r y.cut x.ends)) y.alone;
+      alone = piece (comment (x.alone y.part (line_end-front y.part r y.cut x.ends))) y.alone;
     }
 
 -- the end is an empty token of an empty text

@@ -2,7 +2,7 @@
 use Rattle.std.proofs.Common.{◌≡◌, ℕ, List, [], length, ◌≤◌, sym, ap, ◌∙◌, subst, arith}
 use Rattle.ruletable.specs.Rules as table
 use Rattle.pegread.specs.declared.expr.Expr.{Expr}
-use Rattle.pegread.specs.declared.read.TheConstants.{MAX_GRAMMAR, MAX_OPEN}
+use Rattle.lexer.specs.declared.limits.TheConstants.{MAX_GRAMMAR, MAX_OPEN}
 use Rattle.pegread.specs.Canon.{grammar_text}
 use Rattle.pegread.specs.Formed.{AreBytes}
 use Rattle.pegread.specs.Pattern.{Rule}

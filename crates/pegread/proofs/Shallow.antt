@@ -3,11 +3,11 @@ use Rattle.std.proofs.Common.{◌≡◌, ℕ, ◌≤◌, ◌<◌, Some, List, []
 use Rattle.std.proofs.lemmas.List.{take-append-drop}
 use Rattle.pegread.specs.Limits.{open_behind, IsShallow}
 use Rattle.pegread.specs.Machine.{Config, start, step, run, levels_in}
-use Rattle.pegread.specs.Tokens.{Tok, tok}
+use Rattle.lexer.specs.TokenLists.{tok}
+use Rattle.pegread.specs.Tokens.{Tok}
 use Rattle.pegread.specs.Words.{Word, Says, SayAll}
+use Rattle.lexer.proofs.ViabilityLemmas.{run-snoc, say-snoc}
 use Rattle.pegread.proofs.Depth.{open_count, run-levels}
-use Rattle.pegread.proofs.Viable.{run-snoc}
-use Rattle.pegread.proofs.Saying.{say-snoc}
 
 pub shallow-none : (m : ℕ) → IsShallow m 0 []
 shallow-none m = omega arith
@@ -32,7 +32,7 @@ shallow-snoc m d (tok k z p ∷ ts) t h le = (h.0, shallow-snoc m (open_behind k
 -- the machine took one token more
 module _ {ts : List Tok} {ws : List Word} {t : Tok} {w : Word} (c d : Config) (say : SayAll ts ws) (runs : run start ws ≡ Some c) (says : Says t w) (steps : step c w ≡ Some d) where
   next-levels : levels_in d ≡ open_count 0 (ts ++ t ∷ [])
-  next-levels = run-levels start d (say-snoc say says) (run-snoc ws w start c runs ∙ steps)
+  next-levels = run-levels start d (say-snoc Says say says) (run-snoc step ws w start c runs ∙ steps)
 
   pub shallow-next : (m : ℕ) → IsShallow m 0 ts → levels_in d ≤ m → IsShallow m 0 (ts ++ t ∷ [])
   shallow-next m h le = shallow-snoc m 0 ts t h (let e = next-levels in omega arith)

@@ -2,13 +2,15 @@
 use Rattle.std.proofs.Common.{◌≡◌, ℕ, ◌<◌, List, [], ◌∷◌, ◌++◌, length, refl, sym, ap, ◌∙◌, subst, arith, append_assoc, append-nil}
 use Rattle.std.proofs.lemmas.List.{append_cancel_right}
 use Rattle.ruletable.specs.declared.span.Span.{Span}
-use Rattle.pegread.specs.declared.token_iter.Kind.TheVariants.{Ident, Literal, Class, Action}
-use Rattle.pegread.specs.Slices.{Names, none, more, Closes, close, escape, plain, Body, last, nested, other, Stands, ident, single, double, class, action, First, found}
+use Rattle.pegread.specs.declared.kind.Kind.TheVariants.{Ident, Literal, Class, Action}
+use Rattle.lexer.specs.SliceEnds.{found}
+use Rattle.pegread.specs.Slices.{Names, none, more, Closes, close, escape, plain, Body, last, nested, other, Stands, ident, single, double, class, action, First}
 use Rattle.pegread.specs.Literals.{IsLiteral, single_quoted, double_quoted}
 use Rattle.pegread.specs.Classes.{IsClass, bracketed}
 use Rattle.pegread.specs.Names.{IsName, named}
 use Rattle.pegread.specs.Actions.{IsAction, braced, IsBraced}
-use Rattle.pegread.specs.Tokens.{tok, Next}
+use Rattle.lexer.specs.TokenLists.{tok}
+use Rattle.pegread.specs.Tokens.{Next}
 use Rattle.pegread.proofs.Quoted.{closes-alone}
 
 names-front : {t r : List ℕ} → Names t r → (s : List ℕ) × (t ≡ s ++ r) × Names s []

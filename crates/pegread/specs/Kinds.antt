@@ -1,7 +1,7 @@
 -- Kinds of tokens.
 use Rattle.std.specs.Prelude.{Bool, true, false}
-use Rattle.pegread.specs.declared.token_iter.Kind.{Kind}
-use Rattle.pegread.specs.declared.token_iter.Kind.TheVariants.{EndCap, Slash, Amp, Bang, Quest, Star, Plus, Dot, LParen, RParen, Literal, Class, Action, End}
+use Rattle.pegread.specs.declared.kind.Kind.{Kind}
+use Rattle.pegread.specs.declared.kind.Kind.TheVariants.{EndCap, Slash, Amp, Bang, Quest, Star, Plus, Dot, LParen, RParen, Literal, Class, Action, End}
 
 -- whether the list of a text's tokens ends with it
 abbrev pub is_end : Kind → Bool

@@ -1,8 +1,9 @@
 -- How many brackets are open at once.
 use Rattle.std.specs.Prelude.{ℕ, zero, suc, ◌≤◌, List, [], ◌∷◌}
-use Rattle.pegread.specs.declared.token_iter.Kind.{Kind}
-use Rattle.pegread.specs.declared.token_iter.Kind.TheVariants.{LParen, RParen}
-use Rattle.pegread.specs.Tokens.{Tok, tok}
+use Rattle.pegread.specs.declared.kind.Kind.{Kind}
+use Rattle.pegread.specs.declared.kind.Kind.TheVariants.{LParen, RParen}
+use Rattle.lexer.specs.TokenLists.{tok}
+use Rattle.pegread.specs.Tokens.{Tok}
 
 -- the brackets that are open behind a token, of those that were before
 abbrev pub open_behind : Kind → ℕ → ℕ

@@ -1,5 +1,6 @@
 -- A machine that takes words from the left, with the patterns that it has made so far: what the reader's steps do.
 use Rattle.std.specs.Prelude.{ℕ, suc, Option, Some, None, List, [], ◌∷◌, ◌++◌}
+use Rattle.lexer.specs.Viability as viability
 use Rattle.ruletable.specs.declared.span.Span.{Span}
 use Rattle.pegread.specs.Pattern as e
 use Rattle.pegread.specs.Pattern.{Pattern, Any, Bytes, Set, Name, Opt, And, Not, Act, Open, Close, Patterns, none, more, Rule}
@@ -133,8 +134,7 @@ step (done rules) w = None
 
 -- all steps of a list
 abbrev pub run : Config → List Word → Option Config
-run c [] = Some c
-run c (w ∷ ws) = elim (step c w) [ None ↦ None | Some d ↦ run d ws ]
+run = viability.run step
 
 -- the brackets that are open
 abbrev pub levels : List Level → ℕ

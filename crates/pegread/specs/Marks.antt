@@ -1,7 +1,7 @@
 -- What the slices of a text's literals, classes and actions are.
 use Rattle.std.specs.Prelude.{ℕ, List}
-use Rattle.pegread.specs.declared.token_iter.Kind.{Kind}
-use Rattle.pegread.specs.declared.token_iter.Kind.TheVariants.{Literal, Class, Action}
+use Rattle.pegread.specs.declared.kind.Kind.{Kind}
+use Rattle.pegread.specs.declared.kind.Kind.TheVariants.{Literal, Class, Action}
 use Rattle.pegread.specs.Actions.{IsBraced}
 use Rattle.pegread.specs.Classes.{IsClass}
 use Rattle.pegread.specs.Literals.{IsLiteral}

@@ -1,7 +1,8 @@
 -- How tokens and white space make up a text.
 use Rattle.std.specs.Prelude.{◌≡◌, ℕ, ◌-◌, ◌≤◌, List, [], ◌∷◌, ◌++◌, length, take, drop}
 use Rattle.pegread.specs.Slices.{White}
-use Rattle.pegread.specs.Tokens.{Tok, slice_of, start_of, end_of}
+use Rattle.lexer.specs.TokenLists.{slice_of, start_of, end_of}
+use Rattle.pegread.specs.Tokens.{Tok}
 
 -- The text is white space and the first token's slice, white space and the second token's slice, and so on; the last slice is empty, and ends it.
 pub data MakeUp : List Tok → List ℕ → Type 0 where

@@ -2,9 +2,10 @@
 use Rattle.std.specs.Prelude.{ℕ, Bool, true, false, cond, Option, Some, None, List, [], ◌∷◌}
 use Rattle.ruletable.specs.declared.fault.ReadFault.{ReadFault}
 use Rattle.ruletable.specs.declared.fault.ReadFault.TheVariants.{Syntax, CodePredicate}
-use Rattle.pegread.specs.declared.token_iter.Kind.{Kind}
-use Rattle.pegread.specs.declared.token_iter.Kind.TheVariants.{Amp, Action}
-use Rattle.pegread.specs.Tokens.{Tok, kind_of}
+use Rattle.pegread.specs.declared.kind.Kind.{Kind}
+use Rattle.pegread.specs.declared.kind.Kind.TheVariants.{Amp, Action}
+use Rattle.lexer.specs.TokenLists.{kind_of}
+use Rattle.pegread.specs.Tokens.{Tok}
 
 -- an action right behind an `&`
 abbrev pub is_predicate : Option Kind → Kind → Bool

@@ -2,7 +2,7 @@
 use Rattle.std.specs.Prelude.{◌≡◌, ℕ, ◌≤◌, length, map, List, []}
 use Rattle.ruletable.specs.Rules as table
 use Rattle.pegread.specs.declared.expr.Expr.{Expr}
-use Rattle.pegread.specs.declared.read.TheConstants.{MAX_GRAMMAR}
+use Rattle.lexer.specs.declared.limits.TheConstants.{MAX_GRAMMAR}
 use Rattle.pegread.specs.Canon.{grammar_text}
 use Rattle.pegread.specs.Definitions.{IsTableOf}
 use Rattle.pegread.specs.Formed.{AreBytes, AreFormedRules, IsSome}

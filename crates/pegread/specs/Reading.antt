@@ -1,16 +1,18 @@
 -- What a text spells, and what is wrong with one that spells nothing.
-use Rattle.std.specs.Prelude.{◌≡◌, ℕ, ◌+◌, ◌<◌, ◌≤◌, length, map, take, slice_get, List, Some}
+use Rattle.std.specs.Prelude.{◌≡◌, ℕ, ◌+◌, ◌<◌, ◌≤◌, length, map, slice_get, List, Some}
 use Rattle.ruletable.specs.Lines.{line_at}
 use Rattle.ruletable.specs.declared.lines.LineRule.TheVariants.{Any}
 use Rattle.ruletable.specs.declared.fault.ReadFault.{ReadFault}
 use Rattle.ruletable.specs.declared.fault.ReadFault.TheVariants as faults
-use Rattle.pegread.specs.declared.read.TheConstants.{MAX_GRAMMAR, MAX_OPEN}
-use Rattle.pegread.specs.declared.token_iter.Kind.TheVariants.{Amp, Action}
+use Rattle.lexer.specs.Viability as viability
+use Rattle.lexer.specs.declared.limits.TheConstants.{MAX_GRAMMAR, MAX_OPEN}
+use Rattle.pegread.specs.declared.kind.Kind.TheVariants.{Amp, Action}
 use Rattle.pegread.specs.Pattern.{Rule}
-use Rattle.pegread.specs.Tokens.{Tok, AreTokens, kind_of, start_of}
+use Rattle.lexer.specs.TokenLists.{kind_of, start_of}
+use Rattle.pegread.specs.Tokens.{Tok, AreTokens}
 use Rattle.pegread.specs.Words.{Word, SayAll}
 use Rattle.pegread.specs.Limits.{IsShallow}
-use Rattle.pegread.specs.Spelling.{Grammar, Viable, Hopeless}
+use Rattle.pegread.specs.Spelling.{Grammar, Viable}
 
 -- The text is a grammar of these definitions, and keeps to the limits of its length and of brackets open at once.
 pub record Reads (text : List ℕ) (definitions : List Rule) : Type 0 where
@@ -29,16 +31,17 @@ pub record IsCodePredicate (ts : List Tok) (i : ℕ) : Type 0 where
   pub amp : slice_get (map kind_of ts) place ≡ Some Amp
   pub action : slice_get (map kind_of ts) i ≡ Some Action
 
+-- at most MAX_OPEN brackets are open at once
+abbrev pub AreWithin : List Tok → Type 0
+AreWithin = IsShallow MAX_OPEN 0
+
 -- with token i the tokens begin no grammar any more
-pub record IsHopeless (ts : List Tok) (i : ℕ) : Type 0 where
-  pub hopeless : Hopeless ts i
-  pub shallow : IsShallow MAX_OPEN 0 (take i ts)
+abbrev pub IsHopeless : List Tok → ℕ → Type 0
+IsHopeless = viability.IsHopeless Viable AreWithin
 
 -- with token i the tokens still begin a grammar, but too many brackets are open
-pub record IsTooDeep (ts : List Tok) (i : ℕ) : Type 0 where
-  pub viable : Viable (take (i + 1) ts)
-  pub shallow : IsShallow MAX_OPEN 0 (take i ts)
-  pub deeper : IsShallow MAX_OPEN 0 (take (i + 1) ts) → ⊥
+abbrev pub IsTooDeep : List Tok → ℕ → Type 0
+IsTooDeep = viability.IsOver Viable AreWithin
 
 -- a token of the text decides, and stands on that line
 pub record IsDecidedAt (text : List ℕ) (line : ℕ) (Decides : List Tok → ℕ → Type 0) : Type 0 where

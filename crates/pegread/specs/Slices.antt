@@ -1,8 +1,9 @@
 -- Where a token of a kind ends: each relation holds of a text and of what stands behind the token that begins it.
-use Rattle.std.specs.Prelude.{◌≡◌, ◌≢◌, ℕ, ◌≤◌, ◌||◌, ◌==◌, Bool, true, false, List, [], ◌∷◌, length}
+use Rattle.std.specs.Prelude.{◌≡◌, ◌≢◌, ℕ, ◌||◌, ◌==◌, Bool, true, false, List, [], ◌∷◌}
 use Rattle.std.specs.Char.{is_ascii_alphabetic, is_ascii_alphanumeric}
-use Rattle.pegread.specs.declared.token_iter.Kind.{Kind}
-use Rattle.pegread.specs.declared.token_iter.Kind.TheVariants.{Ident, Arrow, Begin, EndCap, Slash, Amp, Bang, Quest, Star, Plus, Dot, LParen, RParen, Literal, Class, Action, Bad, End}
+use Rattle.lexer.specs.SliceEnds as ends
+use Rattle.pegread.specs.declared.kind.Kind.{Kind}
+use Rattle.pegread.specs.declared.kind.Kind.TheVariants.{Ident, Arrow, Begin, EndCap, Slash, Amp, Bang, Quest, Star, Plus, Dot, LParen, RParen, Literal, Class, Action, Bad, End}
 
 -- letters and `_`
 abbrev pub starts_name : ℕ → Bool
@@ -47,16 +48,14 @@ pub data Comment : List ℕ → List ℕ → Type 0 where
   ended : {r : List ℕ} → IsLineEnd r → Comment r r
   inside : {b : ℕ} {bs r : List ℕ} → ends_line b ≡ false → Comment bs r → Comment (b ∷ bs) r
 
--- white space: blanks and comments, as far as one likes
-pub data White : List ℕ → List ℕ → Type 0 where
-  no_more : {r : List ℕ} → White r r
-  blank : {b : ℕ} {bs r : List ℕ} → is_blank b ≡ true → White bs r → White (b ∷ bs) r
-  comment : {bs m r : List ℕ} → Comment bs m → White m r → White (35 ∷ bs) r
+-- a piece of white space: a blank, or a comment
+pub data Piece : List ℕ → List ℕ → Type 0 where
+  blank : {b : ℕ} {r : List ℕ} → is_blank b ≡ true → Piece (b ∷ r) r
+  comment : {bs r : List ℕ} → Comment bs r → Piece (35 ∷ bs) r
 
--- the text's first byte, if it has one, begins no white space
-abbrev pub IsNotWhite : List ℕ → Type 0
-IsNotWhite [] = Unit {0}
-IsNotWhite (b ∷ bs) = (is_blank b ≡ false) × (b ≢ 35)
+-- white space: blanks and comments, as far as one likes
+abbrev pub White : List ℕ → List ℕ → Type 0
+White = ends.White Piece
 
 -- the text doesn't begin with `-`, which would make an arrow of a `<` before it
 abbrev pub NoDash : List ℕ → Type 0
@@ -87,13 +86,6 @@ pub data Stands : Kind → List ℕ → List ℕ → Type 0 where
 abbrev pub StandsNone : (Kind → Bool) → List ℕ → Type 0
 StandsNone f t = (kind : Kind) (r : List ℕ) → Stands kind t r → f kind ≡ false
 
--- the longest token that begins the text
-pub record Longest (kind : Kind) (t r : List ℕ) : Type 0 where
-  pub stands : Stands kind t r
-  pub longest : (other : Kind) (s : List ℕ) → Stands other t s → length r ≤ length s
-
--- the first token of a text that no white space begins: one that stands there, or Bad where none does, or the end
-pub data First : Kind → List ℕ → List ℕ → Type 0 where
-  found : {kind : Kind} {t r : List ℕ} → Longest kind t r → First kind t r
-  bad : {b : ℕ} {bs : List ℕ} → IsNotWhite (b ∷ bs) → ((kind : Kind) (s : List ℕ) → Stands kind (b ∷ bs) s → ⊥) → First Bad (b ∷ bs) []
-  at_end : First End [] []
+-- the first token of a text that no white space begins: the longest that stands there, or Bad where none does, or the end
+abbrev pub First : Kind → List ℕ → List ℕ → Type 0
+First = ends.First Piece Stands Bad End

@@ -1,10 +1,11 @@
 -- Which words spell which grammars (peg(1) manual). A relation on two lists holds of a list and of what stands behind the part that is spelled.
-use Rattle.std.specs.Prelude.{ℕ, ◌+◌, Bool, List, [], ◌∷◌, ◌++◌, take}
+use Rattle.std.specs.Prelude.{ℕ, Bool, List, [], ◌∷◌}
+use Rattle.lexer.specs.Viability as viability
 use Rattle.ruletable.specs.declared.span.Span.{Span}
 use Rattle.pegread.specs.Pattern as e
 use Rattle.pegread.specs.Pattern.{Pattern, Any, Bytes, Set, Name, Seq, Choice, Opt, And, Not, Act, Open, Close, Patterns, none, more, Rule}
 use Rattle.pegread.specs.Tokens.{Tok}
-use Rattle.pegread.specs.Words.{Word, Ident, Arrow, Begin, EndCap, Slash, Amp, Bang, Quest, Star, Plus, Dot, LParen, RParen, Literal, Class, Action, End, SayAll}
+use Rattle.pegread.specs.Words.{Word, Ident, Arrow, Begin, EndCap, Slash, Amp, Bang, Quest, Star, Plus, Dot, LParen, RParen, Literal, Class, Action, End, Says}
 
 -- a sequence of one member is that member
 abbrev pub sequence : Patterns → Pattern
@@ -73,13 +74,8 @@ pub data Grammar : List Word → List Rule → Type 0 where
 
 -- some words that go on with these spell a grammar
 abbrev pub Begins : List Word → Type 0
-Begins ws = (rest : List Word) × (rules : List Rule) × Grammar (ws ++ rest) rules
+Begins = viability.Begins Grammar
 
 -- what the tokens say begins a grammar
 abbrev pub Viable : List Tok → Type 0
-Viable ts = (ws : List Word) × SayAll ts ws × Begins ws
-
--- tokens 0 to i-1 begin some grammar's list, tokens 0 to i begin none
-pub record Hopeless (ts : List Tok) (i : ℕ) : Type 0 where
-  pub before : Viable (take i ts)
-  pub here : Viable (take (i + 1) ts) → ⊥
+Viable = viability.Viable Says Grammar

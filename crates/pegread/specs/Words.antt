@@ -1,8 +1,10 @@
 -- What tokens say to a grammar.
 use Rattle.std.specs.Prelude.{◌≡◌, ℕ, Bool, List, [], ◌∷◌, ◌++◌}
+use Rattle.lexer.specs.Viability as viability
 use Rattle.ruletable.specs.declared.span.Span.{Span}
-use Rattle.pegread.specs.declared.token_iter.Kind.TheVariants as kinds
-use Rattle.pegread.specs.Tokens.{Tok, tok}
+use Rattle.pegread.specs.declared.kind.Kind.TheVariants as kinds
+use Rattle.lexer.specs.TokenLists.{tok}
+use Rattle.pegread.specs.Tokens.{Tok}
 use Rattle.pegread.specs.Literals.{SpellsBytes}
 use Rattle.pegread.specs.Classes.{SpellsSet}
 
@@ -50,6 +52,5 @@ pub data Says : Tok → Word → Type 0 where
   says_end : {z : List ℕ} {p : Span} → Says (tok kinds.End z p) End
 
 -- the words of a list of tokens, one of each
-pub data SayAll : List Tok → List Word → Type 0 where
-  say_none : SayAll [] []
-  say_more : {t : Tok} {w : Word} {ts : List Tok} {ws : List Word} → Says t w → SayAll ts ws → SayAll (t ∷ ts) (w ∷ ws)
+abbrev pub SayAll : List Tok → List Word → Type 0
+SayAll = viability.SayAll Says

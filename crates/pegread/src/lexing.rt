@@ -1,9 +1,10 @@
 //! Where tokens and white space end.
 ghost use Rattle.std.specs.Prelude.{◌≡◌, ℕ, ◌≤◌, List, ◌∷◌, length, MatchOption};
-ghost use Rattle.pegread.specs.Slices.{starts_name, continues_name, is_blank, ends_line, Names, Closes, Body, Comment, White, IsNotWhite, NoDash, First, StandsNone};
+ghost use Rattle.lexer.specs.SliceEnds.{NoPiece};
+ghost use Rattle.pegread.specs.Slices.{starts_name, continues_name, is_blank, ends_line, Names, Closes, Body, Comment, Piece, White, NoDash, First, StandsNone};
 ghost use Rattle.pegread.specs.Kinds.{is_sign, is_closed};
 
-use crate::token_iter::Kind;
+use crate::kind::Kind;
 
 fn is_start(b: u8) -> bool
     ensures { result ≡ starts_name b }
@@ -99,9 +100,9 @@ fn after_comment(text: &[u8]) -> &[u8]
 }
 
 // What stands behind the white space.
-pub(crate) fn after_white(text: &[u8]) -> &[u8]
+pub(crate) fn after_blanks(text: &[u8]) -> &[u8]
     ensures white { White text.now result.now }
-    ensures all { IsNotWhite result.now }
+    ensures all { NoPiece Piece result.now }
 {
     let mut rest = text;
     while let Some((first, tail)) = rest.split_first() {
@@ -169,8 +170,8 @@ fn closed_token(first: u8, tail: &[u8]) -> Option<(Kind, &[u8])>
 }
 
 // The first token of a text that no white space begins: its kind, and what stands behind it.
-pub(crate) fn first_token(text: &[u8]) -> (Kind, &[u8])
-    requires { IsNotWhite text.now }
+pub(crate) fn first_of(text: &[u8]) -> (Kind, &[u8])
+    requires { NoPiece Piece text.now }
     ensures { First result.0 text.now result.1.now }
 {
     let Some((first, tail)) = text.split_first() else {

@@ -4,6 +4,8 @@
 mod class;
 mod escape;
 mod expr;
+mod kind;
+mod lexicon;
 mod lexing;
 mod literal;
 mod place;
@@ -12,19 +14,19 @@ mod print_bytes;
 mod read;
 mod reader;
 mod spelling_laws;
-mod token_iter;
 mod token_lists;
 mod words;
 
 pub use class::class_set;
 pub use escape::next_char;
 pub use expr::{Expr, Peg};
+pub use kind::Kind;
+pub use lexer::{MAX_GRAMMAR, MAX_OPEN};
 pub use literal::literal_bytes;
 pub use print::{is_read_back, print_peg};
-pub use read::{MAX_GRAMMAR, MAX_OPEN, one_tree, read_peg};
+pub use read::{one_tree, read_peg};
 pub use spelling_laws::{
     spells_one_char, spells_one_class, spells_one_literal, spells_some_char, spells_some_class,
     spells_some_literal,
 };
-pub use token_iter::{Kind, Token, TokenIter};
-pub use token_lists::{are_marked, have_tokens, one_list, tokens, tokens_make_up};
+pub use token_lists::{are_marked, tokens_make_up};

@@ -9,7 +9,7 @@ ghost use Rattle.pegread.specs.Views.{pattern_of, patterns_of, rules_of};
 use crate::expr::{Expr, Peg};
 use crate::place::{Place, is_wrapped};
 use crate::print_bytes::{print_action, print_literal, print_set};
-use crate::read::MAX_GRAMMAR;
+use lexer::MAX_GRAMMAR;
 use ruletable::{Sink, WriteFault, write_pieces, write_whole};
 
 // An expression within another, in parentheses where it needs them.

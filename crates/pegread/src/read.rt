@@ -9,22 +9,18 @@ ghost use Rattle.pegread.specs.Reading.{Reads, IsFaultOf};
 ghost use Rattle.pegread.specs.Spelling.{Grammar};
 ghost use Rattle.pegread.specs.Steps.{config_of, rules_from, Takes};
 ghost use Rattle.pegread.specs.Predicates.{hopeless_fault};
-ghost use Rattle.pegread.specs.Tokens.{Tok, tok, tok_of, kind_of, Next};
+ghost use Rattle.lexer.specs.TokenLists.{tok, tok_of, kind_of};
+ghost use Rattle.pegread.specs.Tokens.{Tok, Next};
 ghost use Rattle.pegread.specs.Words.{Word, Says, SayAll};
 
 use crate::expr::Peg;
+use crate::kind::Kind;
 use crate::reader::{Definition, Reader, Stop, open_brackets, take};
-use crate::token_iter::{Kind, Token};
-use crate::token_lists::{are_marked, have_tokens, one_list, tokens};
+use crate::token_lists::are_marked;
 use crate::words::word_in;
+use lexer::{MAX_GRAMMAR, MAX_OPEN, Token, have_tokens, tokens};
 use ruletable::{Defined, LineRule, Memory, NameCase, ReadFault, RuleTable, line_of};
 use std::alloc::Global;
-
-/// How many bytes a grammar's text may have.
-pub const MAX_GRAMMAR: usize = 1048576;
-
-/// How many brackets may be open at once.
-pub const MAX_OPEN: usize = 200;
 
 /// Reads a grammar in the syntax of the peg(1) manual, "PEG GRAMMARS".
 ///
@@ -59,10 +55,10 @@ fn read_definitions(alloc: Global, text: &[u8]) -> Result<Vec<Definition<'_>>, R
     ensures fault { IfErr result (λ f. IsFaultOf text.now f) }
 {
     are_marked();
-    have_tokens(text);
+    have_tokens::<Kind>(text);
     let mut reader = Reader::Start;
     let mut before = None;
-    for token in tokens(text) {
+    for token in tokens::<Kind>(text) {
         let at = token.span.start;
         let kind = token.kind;
         match take_token(alloc, reader, token) {
@@ -103,7 +99,11 @@ fn hopeless(before: Option<Kind>, kind: Kind, line: usize) -> ReadFault
 }
 
 // Takes what a token says.
-fn take_token<'a>(alloc: Global, reader: Reader<'a>, token: Token<'a>) -> Result<Reader<'a>, Stop>
+fn take_token<'a>(
+    alloc: Global,
+    reader: Reader<'a>,
+    token: Token<'a, Kind>,
+) -> Result<Reader<'a>, Stop>
     requires { IsCut token.kind token.slice.now }
     ensures { Takes (config_of reader.entry) (tok_of token.entry) result }
 {

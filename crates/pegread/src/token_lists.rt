@@ -1,34 +1,14 @@
 //! The tokens of a whole text.
-ghost use Rattle.std.specs.Prelude.{◌≡◌, ℕ, List, length, All};
+ghost use Rattle.std.specs.Prelude.{ℕ, List, length, All};
 ghost use Rattle.ruletable.specs.declared.span.Span.{Span};
-ghost use Rattle.pegread.specs.declared.token_iter.Kind.TheVariants.{Ident, Literal, Class, Action};
+ghost use Rattle.pegread.specs.declared.kind.Kind.TheVariants.{Ident, Literal, Class, Action};
 ghost use Rattle.pegread.specs.Actions.{IsAction, IsBraced};
 ghost use Rattle.pegread.specs.Classes.{IsClass};
 ghost use Rattle.pegread.specs.Literals.{IsLiteral};
 ghost use Rattle.pegread.specs.Names.{IsName};
 ghost use Rattle.pegread.specs.Pieces.{MakeUp, LiesIn, AreInOrder};
-ghost use Rattle.pegread.specs.Tokens.{AreTokens, IsAtStart, Next, Tok, tok};
-
-use crate::token_iter::TokenIter;
-
-/// The tokens of a text. It takes no memory, and what the tokens lend is the text's.
-pub fn tokens(text: &[u8]) -> TokenIter<'_>
-    ensures { IsAtStart result text.now }
-{
-    TokenIter::new(text)
-}
-
-/// A law: a text has at most one list of tokens.
-pub fn one_list()
-    ensures { (text : List ℕ) → (a b : List Tok) → AreTokens (length text) text a → AreTokens (length text) text b → a ≡ b }
-{}
-
-/// A law: a text has a list of tokens. It goes over them, and takes no memory.
-pub fn have_tokens(text: &[u8])
-    ensures { (ts : List Tok) × AreTokens (length text.now) text.now ts }
-{
-    for _token in tokens(text) {}
-}
+ghost use Rattle.lexer.specs.TokenLists.{tok};
+ghost use Rattle.pegread.specs.Tokens.{AreTokens, Next, Tok};
 
 /// A law: the slice of a name, a literal, a class or an action is one by itself, whatever stands behind it. That of an
 /// action is some text between two braces.

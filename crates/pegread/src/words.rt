@@ -3,13 +3,14 @@ ghost use Rattle.std.specs.Prelude.{◌≡◌, ◌∷◌, ◌++◌, [], MatchOpt
 ghost use Rattle.pegread.specs.Actions.{IsBraced};
 ghost use Rattle.pegread.specs.Marks.{IsCut};
 ghost use Rattle.pegread.specs.Steps.{word_of};
-ghost use Rattle.pegread.specs.Tokens.{tok_of};
+ghost use Rattle.lexer.specs.TokenLists.{tok_of};
 ghost use Rattle.pegread.specs.Words as words;
 ghost use Rattle.pegread.specs.Words.{Says};
 
 use crate::class::class_set;
+use crate::kind::Kind;
 use crate::literal::{inside, literal_bytes};
-use crate::token_iter::{Kind, Token};
+use lexer::Token;
 use ruletable::{ByteSet, Memory, Span};
 use std::alloc::Global;
 
@@ -40,7 +41,7 @@ pub(crate) enum Word<'a> {
 ///
 /// # Errors
 /// `Memory` where a growth was refused.
-pub(crate) fn word_in(alloc: Global, token: Token<'_>) -> Result<Option<Word<'_>>, Memory>
+pub(crate) fn word_in(alloc: Global, token: Token<'_, Kind>) -> Result<Option<Word<'_>>, Memory>
     requires { IsCut token.kind token.slice.now }
     ensures { IfOk result (λ said. MatchOption said ((w : words.Word) → Says (tok_of token.entry) w → ⊥) (λ w. Says (tok_of token.entry) (word_of w))) }
 {

@@ -1,6 +1,7 @@
 use Rattle.pegread.proofs.Passing.{one-grammar}
-use Rattle.pegread.proofs.Saying.{one-words}
-use Rattle.pegread.proofs.Speaking.{bad-silent, token-says}
+use Rattle.lexer.proofs.ViabilityLemmas.{one-words}
+use Rattle.pegread.specs.Words.{Says}
+use Rattle.pegread.proofs.SaysLemmas.{bad-silent, token-says, one-word}
 use Rattle.pegread.proofs.read.one_tree.Goals as goal
 
 pub returns-clause-silent : goal.returns-clause-silent
@@ -10,7 +11,7 @@ pub returns-clause-says : goal.returns-clause-says
 returns-clause-says c = token-says
 
 pub returns-clause-words : goal.returns-clause-words
-returns-clause-words c = λ ts vs ws h k. one-words h k
+returns-clause-words c = λ ts vs ws h k. one-words Says one-word h k
 
 pub returns-clause-tree : goal.returns-clause-tree
 returns-clause-tree c = λ ws a b h k. one-grammar h k

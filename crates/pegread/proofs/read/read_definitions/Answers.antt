@@ -1,15 +1,18 @@
 use Rattle.std.proofs.Common.{◌∷◌, [], ap, arith}
 use Rattle.std.proofs.lemmas.List.{map-append}
 use Rattle.pegread.specs.Steps.{config_of, rules_from}
-use Rattle.pegread.specs.Tokens.{tok_of, AreLeft}
-use Rattle.pegread.proofs.Looping.{none-taken, one-taken, too-deep, hopeless-there, all-done, all-read, left-at_start, done-not, cut-of}
+use Rattle.lexer.specs.TokenLists.{tok_of}
+use Rattle.lexer.proofs.TokenListLemmas.{left-at_start}
+use Rattle.pegread.specs.Kinds.{is_end}
+use Rattle.pegread.specs.Slices.{White, First}
+use Rattle.pegread.proofs.Looping.{none-taken, one-taken, too-deep, hopeless-there, all-done, all-read, AreLeft, done-not, cut-of}
 use Rattle.pegread.proofs.read.read_definitions.Goals as goal
 
 pub loop-token-init : goal.loop-token-init
 loop-token-init c =
     let all = c.have_tokens.ensures in
     none-taken c.args.text.now (AreLeft c.into_iter-token-iterator.result) all.0
-    (rw c.into_iter-token-iterator.ensures.into_iter_gives (left-at_start c.tokens-token-items.result c.tokens-token-items.ensures all.1)) all.1
+    (rw c.into_iter-token-iterator.ensures.into_iter_gives (left-at_start White First is_end c.tokens-token-items.result c.tokens-token-items.ensures all.1)) all.1
 
 pub take_token-requires : goal.take_token-requires
 take_token-requires c = cut-of c.are_marked.ensures.literal c.are_marked.ensures.class c.are_marked.ensures.action _ _ _ c.in-Some.token c.in-Some.ensures.steps.step.1.1

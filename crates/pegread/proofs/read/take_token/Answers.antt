@@ -1,5 +1,5 @@
 use Rattle.pegread.specs.Steps.{config_of, word_of}
-use Rattle.pegread.specs.Tokens.{tok_of}
+use Rattle.lexer.specs.TokenLists.{tok_of}
 use Rattle.pegread.proofs.Looping.{taken-word}
 use Rattle.pegread.proofs.read.take_token.Goals as goal
 

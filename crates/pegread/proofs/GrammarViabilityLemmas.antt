@@ -1,35 +1,18 @@
--- Words begin a grammar exactly if the machine can take them.
-use Rattle.std.proofs.Common.{◌≡◌, ℕ, Option, Some, None, List, [], ◌∷◌, ◌++◌, refl, sym, ◌∙◌, ap, append_assoc}
+-- Words begin a grammar exactly if the machine can take them, and a token that it cannot take decides.
+use Rattle.std.proofs.Common.{◌≡◌, ℕ, ◌<◌, Some, None, List, [], ◌∷◌, ◌++◌, length, refl, ap, ◌∙◌}
+use Rattle.lexer.specs.declared.limits.TheConstants.{MAX_OPEN}
+use Rattle.lexer.proofs.ViabilityLemmas as viability
 use Rattle.ruletable.specs.declared.span.Span.{Span}
 use Rattle.pegread.specs.Pattern.{Pattern, Any, Name, Patterns, Rule}
-use Rattle.pegread.specs.Words.{Word, Ident, Arrow, Dot, RParen, End}
-use Rattle.pegread.specs.Spelling.{Grammar, Begins}
-use Rattle.pegread.specs.Machine.{snoc, finish, Mark, no_mark, not_mark, and_mark, apply, fresh, read, read_name, Level, level, Head, ended, Config, start, named, body, done, end_step, step, run}
+use Rattle.pegread.specs.Reading.{AreWithin, IsHopeless, IsTooDeep}
+use Rattle.pegread.specs.Spelling.{Grammar, Begins, Viable}
+use Rattle.pegread.specs.Tokens.{Tok}
+use Rattle.pegread.specs.Words.{Word, Ident, Arrow, Dot, RParen, End, Says, SayAll}
+use Rattle.pegread.specs.Machine.{snoc, finish, Mark, no_mark, not_mark, and_mark, apply, fresh, read, read_name, Level, level, Head, ended, Config, start, named, body, done, end_step, step, run, levels_in}
 use Rattle.pegread.proofs.Passing.{grammar-runs}
 use Rattle.pegread.proofs.Backwards.{runs-grammar}
-
-abbrev pub run_of : Option Config → List Word → Option Config
-run_of None s = None
-run_of (Some c) s = run c s
-
-append-on : (p s : List Word) → ((d : Config) → run d (p ++ s) ≡ run_of (run d p) s) → (x : Option Config) → (elim x [ None ↦ None | Some d ↦ run d (p ++ s) ]) ≡ run_of (elim x [ None ↦ None | Some d ↦ run d p ]) s
-append-on p s f None = refl
-append-on p s f (Some d) = f d
-
-pub run-append : (p s : List Word) (c : Config) → run c (p ++ s) ≡ run_of (run c p) s
-run-append [] s c = refl
-run-append (w ∷ p) s c = append-on p s (λ d. run-append p s d) (step c w)
-
-pub one-run : (c : Config) (w : Word) → run c (w ∷ []) ≡ step c w
-one-run c w = go (step c w)
-  where
-    go : (x : Option Config) → (elim x [ None ↦ None | Some d ↦ Some d ]) ≡ x
-    go None = refl
-    go (Some d) = refl
-
--- one word more
-pub run-snoc : (ws : List Word) (w : Word) (c d : Config) → run c ws ≡ Some d → run c (ws ++ w ∷ []) ≡ step d w
-run-snoc ws w c d h = run-append ws (w ∷ []) c ∙ ap (λ (x : Option Config). run_of x (w ∷ [])) h ∙ one-run d w
+use Rattle.pegread.proofs.SaysLemmas.{one-word}
+use Rattle.pegread.proofs.Shallow.{deeper-next}
 
 end-step : (o : List Level) (rules : List Rule) (d : Config) → end_step o rules ≡ Some d → (all : List Rule) × (d ≡ done all)
 end-step [] rules d h = (rules, cc)
@@ -89,20 +72,29 @@ completion (body h o bs es m (read x)) = (closers o, completes-read o h bs es m 
 completion (body h o bs es m (read_name n p)) = let c = completes-fresh o h bs (snoc es (apply m (Name n))) in (closers o, record { rules = c.rules; runs = name-closes o h bs es m n p ∙ c.runs })
 completion (done rules) = ([], record { rules = rules; runs = refl })
 
-pub runs-begins : (ws : List Word) (c : Config) → run start ws ≡ Some c → Begins ws
-runs-begins ws c h =
-    let q = completion c in
-    (q.0, q.1.rules, runs-grammar q.1.rules (ws ++ q.0) (run-append ws q.0 start ∙ ap (λ (x : Option Config). run_of x q.0) h ∙ q.1.runs))
+completed : (c : Config) → (s : List Word) × (rules : List Rule) × (run c s ≡ Some (done rules))
+completed c = let q = completion c in (q.0, q.1.rules, q.1.runs)
 
-pub stops-begins : (ws : List Word) → run start ws ≡ None → Begins ws → ⊥
-stops-begins ws h (s, rules, g) =
-    let there : Some (done rules) ≡ None = sym (grammar-runs g) ∙ run-append ws s start ∙ ap (λ (x : Option Config). run_of x s) h in
-    cc
+runs-begins : (ws : List Word) (c : Config) → run start ws ≡ Some c → Begins ws
+runs-begins = viability.runs-begins step Grammar start done (λ ws g h. grammar-runs h) (λ ws g h. runs-grammar g ws h) completed
 
--- what begins words that begin a grammar begins one too
-pub begins-front : (ws vs : List Word) → Begins (ws ++ vs) → Begins ws
-begins-front ws vs (s, rules, g) = (vs ++ s, rules, rw (← append_assoc ws vs s) g)
+stops-begins : (ws : List Word) → run start ws ≡ None → Begins ws → ⊥
+stops-begins = viability.stops-begins step Grammar start done (λ ws g h. grammar-runs h) (λ ws g h. runs-grammar g ws h) completed
 
--- a grammar is the beginning of itself
-pub grammar-begins : (ws : List Word) (rules : List Rule) → Grammar ws rules → Begins ws
-grammar-begins ws rules g = runs-begins ws (done rules) (grammar-runs g)
+-- the machine took the tokens ts, and came to c
+module _ {ts : List Tok} {ws : List Word} (c : Config) (say : SayAll ts ws) (runs : run start ws ≡ Some c) (within : AreWithin ts) (t : Tok) (us : List Tok) where
+  -- a token of which it takes no word then
+  pub hopeless-next : ((w : Word) → Says t w → step c w ≡ None) → IsHopeless (ts ++ t ∷ us) (length ts)
+  hopeless-next stops =
+      viability.hopeless-at Viable AreWithin ts t us (viability.viable-run Says Grammar step start runs-begins stops-begins one-word c say runs) within
+      (viability.not-viable Says Grammar step start runs-begins stops-begins one-word c say runs t stops)
+
+  -- a token of which it takes the word, with too many brackets open then
+  pub too_deep-next : (d : Config) (w : Word) → Says t w → step c w ≡ Some d → MAX_OPEN < levels_in d → IsTooDeep (ts ++ t ∷ us) (length ts)
+  too_deep-next d w says steps lt =
+      viability.over-at Viable AreWithin ts t us (viability.viable-next Says Grammar step start runs-begins stops-begins one-word c say runs t w d says steps) within
+      (deeper-next c d say runs says steps MAX_OPEN lt)
+
+  -- of the one word that the token says
+  pub hopeless-step : {w : Word} → Says t w → step c w ≡ None → IsHopeless (ts ++ t ∷ us) (length ts)
+  hopeless-step {w} says stops = hopeless-next (λ v h. ap (step c) (one-word t v w h says) ∙ stops)

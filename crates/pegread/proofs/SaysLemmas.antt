@@ -1,11 +1,12 @@
--- Every token of a text says a word, but for a bad one, which says none.
-use Rattle.std.proofs.Common.{◌≢◌, ℕ, List, refl}
+-- Every token of a text says one word, but for a bad one, which says none.
+use Rattle.std.proofs.Common.{◌≡◌, ◌≢◌, ℕ, List, refl, ◌∙◌, sym, ap}
 use Rattle.ruletable.specs.declared.span.Span.{Span}
-use Rattle.pegread.specs.declared.token_iter.Kind.TheVariants as kinds
-use Rattle.pegread.specs.Tokens.{Tok, tok, kind_of, Next}
+use Rattle.pegread.specs.declared.kind.Kind.TheVariants as kinds
+use Rattle.lexer.specs.TokenLists.{tok, kind_of}
+use Rattle.pegread.specs.Tokens.{Tok, Next}
 use Rattle.pegread.specs.Words.{Word, Ident, Arrow, Begin, EndCap, Slash, Amp, Bang, Quest, Star, Plus, Dot, LParen, RParen, Literal, Class, Action, End, Says, says_name, says_arrow, says_begin, says_end_cap, says_slash, says_amp, says_bang, says_quest, says_star, says_plus, says_dot, says_lparen, says_rparen, says_literal, says_class, says_action, says_end}
-use Rattle.pegread.proofs.Items.{some-class}
-use Rattle.pegread.proofs.Quoted.{some-literal}
+use Rattle.pegread.proofs.Items.{one-class, some-class}
+use Rattle.pegread.proofs.Quoted.{one-literal, some-literal, same-inside}
 use Rattle.pegread.proofs.TokenSlices.{literal-token, class-token, braced-token}
 
 pub bad-silent : (z : List ℕ) (p : Span) (w : Word) → Says (tok kinds.Bad z p) w → ⊥
@@ -30,3 +31,22 @@ token-says total t r (tok kinds.Class z p) n g = let s = some-class z (class-tok
 token-says total t r (tok kinds.Action z p) n g = let s = braced-token total t r z p n in (Action s.0, says_action s.1)
 token-says total t r (tok kinds.Bad z p) n g = absurd (g refl)
 token-says total t r (tok kinds.End z p) n g = (End, says_end)
+
+pub one-word : (t : Tok) (v w : Word) → Says t v → Says t w → v ≡ w
+one-word t v w says_name says_name = refl
+one-word t v w says_arrow says_arrow = refl
+one-word t v w says_begin says_begin = refl
+one-word t v w says_end_cap says_end_cap = refl
+one-word t v w says_slash says_slash = refl
+one-word t v w says_amp says_amp = refl
+one-word t v w says_bang says_bang = refl
+one-word t v w says_quest says_quest = refl
+one-word t v w says_star says_star = refl
+one-word t v w says_plus says_plus = refl
+one-word t v w says_dot says_dot = refl
+one-word t v w says_lparen says_lparen = refl
+one-word t v w says_rparen says_rparen = refl
+one-word t v w (says_literal {z} h) (says_literal k) = ap Literal (one-literal z _ _ h k)
+one-word t v w (says_class {z} h) (says_class k) = ap Class (one-class z _ _ h k)
+one-word t v w (says_action {t = a} h) (says_action {t = b} k) = ap Action (same-inside 123 125 123 125 a b (sym h ∙ k))
+one-word t v w says_end says_end = refl

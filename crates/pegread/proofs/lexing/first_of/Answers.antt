@@ -1,6 +1,6 @@
 use Rattle.std.proofs.Common.{rules}
 use Rattle.pegread.proofs.Firsts.{first-end, first-ident, first-bad}
-use Rattle.pegread.proofs.lexing.first_token.Goals as goal
+use Rattle.pegread.proofs.lexing.first_of.Goals as goal
 
 pub returns-in_default : goal.returns-in_default
 returns-in_default c = first-end _ c.in_default.ensures.cases

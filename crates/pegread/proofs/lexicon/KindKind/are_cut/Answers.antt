@@ -1,0 +1,14 @@
+use Rattle.pegread.proofs.SliceLemmas.{white-ends, first-ends, first-less, one-next}
+use Rattle.pegread.proofs.lexicon.KindKind.are_cut.Goals as goal
+
+pub returns-clause-white : goal.returns-clause-white
+returns-clause-white c = λ t r h. white-ends h
+
+pub returns-clause-ends : goal.returns-clause-ends
+returns-clause-ends c = λ k t r h. first-ends h
+
+pub returns-clause-less : goal.returns-clause-less
+returns-clause-less c = λ k t r e h. first-less e h
+
+pub returns-clause-one : goal.returns-clause-one
+returns-clause-one c = one-next

@@ -1,0 +1,43 @@
+//! What a grammar of peg(1) is cut into.
+
+/// What a token is (peg(1) manual, "PEG GRAMMARS"). White space, which is space, tab, LF, CR and comments from `#` to the
+/// end of the line, only separates tokens.
+#[derive(Clone, Copy, Debug, PartialEq, Eq)]
+pub enum Kind {
+    /// A name: a letter or `_`, then letters, digits and `_`.
+    Ident,
+    /// `<-`, always where these two bytes begin a token.
+    Arrow,
+    /// `<` with no `-` behind it.
+    Begin,
+    /// `>`.
+    EndCap,
+    /// `/`.
+    Slash,
+    /// `&`.
+    Amp,
+    /// `!`.
+    Bang,
+    /// `?`.
+    Quest,
+    /// `*`.
+    Star,
+    /// `+`.
+    Plus,
+    /// `.`.
+    Dot,
+    /// `(`.
+    LParen,
+    /// `)`.
+    RParen,
+    /// From a quote, single or double, to the next one of its kind that no backslash takes.
+    Literal,
+    /// From `[` to the next `]` that no backslash takes.
+    Class,
+    /// From `{` to the `}` that matches it, where every brace counts.
+    Action,
+    /// What begins no token, from there to the end of the text.
+    Bad,
+    /// The end of the text.
+    End,
+}
