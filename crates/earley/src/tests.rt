@@ -2,9 +2,10 @@
 ghost use Rattle.std.specs.Prelude.{◌≡◌, IfOk};
 ghost use Rattle.ruletable.specs.declared.table.NameCase.TheVariants.{Fold};
 
-use crate::{Chart, Letter, judge};
+use crate::{Chart, judge};
 use abnfread::{Elem, core_rules, read_abnf};
 use flatgrammar::{Flat, Node, items_at_most, items_tell, lower_rules};
+use letters::Letter;
 use ruletable::{Memory, NameCase, RuleTable, Span};
 use std::alloc::Global;
 use std::test::Fail;
