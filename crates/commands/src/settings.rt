@@ -7,7 +7,7 @@ ghost use Rattle.commands.specs.Parsing.{AreModes};
 
 use crate::command::parse;
 use clap::{ArgMatches, Error};
-use gramtools::{DEFAULT_LIMIT, MAX_LIMIT, Mode, Settings};
+use gramtools::{Alphabet, DEFAULT_LIMIT, MAX_LIMIT, Mode, Settings};
 use std::alloc::Global;
 use std::convert::AsStr;
 
@@ -38,12 +38,14 @@ pub fn settings_of<'a>(matches: &ArgMatches<'a>) -> Settings<'a>
     ensures limit { IsLimitOf (one_text (found_of matches.now) (codes "limit")) result.limit }
     ensures start { option_map (λ s. s.now) result.start ≡ first_value (found_of matches.now) (codes "start") }
     ensures raw { IsFlagOf (one_text (found_of matches.now) (codes "raw")) result.raw }
+    ensures letters { result.letters ≡ Alphabet.Bytes }
 {
     Settings {
         mode: mode_of(matches),
         limit: limit_of(matches),
         start: matches.get_str("start"),
         raw: matches.get_flag("raw"),
+        letters: Alphabet::Bytes,
     }
 }
 
