@@ -8,6 +8,8 @@ mod canonical_texts;
 #[cfg(test)]
 mod cell_table;
 #[cfg(test)]
+mod code_points;
+#[cfg(test)]
 mod feed_window;
 #[cfg(test)]
 mod grammar_notes;
