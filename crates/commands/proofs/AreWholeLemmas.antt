@@ -4,14 +4,13 @@ use Rattle.std.proofs.Common.{◌≡◌, ◌∙◌, ◌⊎◌, ◌<◌, ◌≤�
 use Rattle.std.specs.Prelude.{codes, pos}
 use Rattle.std.specs.List.{slice_index_or}
 use Rattle.std.specs.Str.{bytes_eq}
-use Rattle.std.specs.Borrow.{Bor}
 use Rattle.std.specs.Str.Parse.{IsNumeral, digits_value, starts_with_minus, without_leading_plus}
 use Rattle.std.proofs.lemmas.Int.{ints}
 use Rattle.std.proofs.lemmas.List.{get_or-map, length-map}
 use Rattle.std.proofs.lemmas.Slice.Eq.{bytes_eq-Decides}
 use Rattle.clap.specs.Facts.{args_of, least_values, unwrap_or_range}
 use Rattle.clap.specs.Texts.{items_of}
-use Rattle.clap.specs.Built.{IsAuto, IsParsedFrom, IsPlain, IsPlainArg}
+use Rattle.clap.specs.Built.{IsParsedFrom, IsPlain, IsPlainArg}
 use Rattle.clap.specs.Lexer.{without_minus}
 use Rattle.clap.specs.Matches.{first_value, found_of, one_text}
 use Rattle.clap.specs.Simple.{App, Shape, app_of, shape_of}
@@ -172,7 +171,7 @@ arg_of c rs is k d r has own =
             let there : (slice_index_or (args_of c) j e).id.now ≡ (slice_index_or rs j (rule_of e)).id =
             ap (λ (q : Rule). q.id) (rule_at (args_of c) rs is.list j e few) in
             only_at rs k r.id has.only j (rule_of e) few
-                (sym (ap (λ t. bytes_eq t r.id) there) ∙ (sym (ap (λ t. bytes_eq (slice_index_or (args_of c) j e).id.now t) own_id) ∙ same));
+            (sym (ap (λ t. bytes_eq t r.id) there) ∙ (sym (ap (λ t. bytes_eq (slice_index_or (args_of c) j e).id.now t) own_id) ∙ same));
         named = λ e. own.named (sym own_id ∙ e);
         own = no_auto r.id own.help own.version (slice_index_or (args_of c) k d) own_id;
       };
@@ -218,10 +217,10 @@ limit_is c rs is m p d k has =
     let by = arg_of c rs is k d limit_rule has (record { named = λ n. cc; help = refl; version = refl }) in
     let a = slice_index_or (args_of c) k d in
     let defaults : 0 < length (items_of a.default_vals) = subst (λ n. 0 < n)
-        (sym (ap (λ (r : Rule). length r.defaults) by.rule) ∙ length-map (items_of a.default_vals) (λ s. s.now)) (omega arith) in
+    (sym (ap (λ (r : Rule). length r.defaults) by.rule) ∙ length-map (items_of a.default_vals) (λ s. s.now)) (omega arith) in
     let least : 1 ≤ least_values a = subst (λ o. 1 ≤ (unwrap_or_range o).start_inclusive) (sym (ap (λ (r : Rule). r.range) by.rule)) (omega arith) in
     let read = default_reads c m p k d by.alone (by.bare.ifs, defaults) (ap (λ (r : Rule). r.action) by.rule) by.bare.delim least
-        (vp.Signed (pos 1) (pos 16777216)) (ap (λ (r : Rule). r.parser) by.rule) in (
+    (vp.Signed (pos 1) (pos 16777216)) (ap (λ (r : Rule). r.parser) by.rule) in (
       without_minus read.0.now,
       subst (λ w. one_text (found_of m) w ≡ Some (without_minus read.0.now)) by.id read.1,
       limit_text read.0.now read.2,
@@ -245,7 +244,7 @@ grammar_is : (c : Command) (rs : List Rule) → IsCommand c rs → (m : ArgMatch
 grammar_is c rs is m p d k has =
     let by = arg_of c rs is k d grammar_rule has (record { named = λ n. cc; help = refl; version = refl }) in
     let least : 1 ≤ least_values (slice_index_or (args_of c) k d) =
-        subst (λ o. 1 ≤ (unwrap_or_range o).start_inclusive) (sym (ap (λ (r : Rule). r.range) by.rule)) (omega arith) in
+    subst (λ o. 1 ≤ (unwrap_or_range o).start_inclusive) (sym (ap (λ (r : Rule). r.range) by.rule)) (omega arith) in
     subst (λ w. is_some (first_value (found_of m) w) ≡ true) by.id
     (required_has_value c m p is.plain is.globals is.negates k d by.alone.within (ap (λ (r : Rule). r.required) by.rule)
     (ap (λ (r : Rule). r.action) by.rule) by.bare.delim least by.alone.unique by.alone.named by.alone.own)
@@ -255,9 +254,9 @@ none_is : (c : Command) (rs : List Rule) → IsCommand c rs → (m : ArgMatches)
     → one_text (found_of m) id ≡ None
 none_is c rs is m p id own none = none_found c m p is.plain is.globals id own.named own.help own.version
     (λ j e low same.
-        let few : j < length rs = subst (λ n. j < n) (count (args_of c) rs is.list) low in
-        lacks_at rs id none j (rule_of e) few
-            (sym (ap (λ t. bytes_eq t id) (ap (λ (q : Rule). q.id) (rule_at (args_of c) rs is.list j e few))) ∙ same))
+    let few : j < length rs = subst (λ n. j < n) (count (args_of c) rs is.list) low in
+    lacks_at rs id none j (rule_of e) few
+    (sym (ap (λ t. bytes_eq t id) (ap (λ (q : Rule). q.id) (rule_at (args_of c) rs is.list j e few))) ∙ same))
 
 -- ---- the programs
 

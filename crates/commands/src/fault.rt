@@ -8,9 +8,9 @@ ghost use Rattle.toolrun.specs.Status.{code_of};
 use crate::command::{Program, command_of};
 use clap::Error;
 use clap::error::ErrorKind;
-use toolrun::{Status, Stop, close_run, end_run};
 use ruletable::{Sink, write_whole};
 use std::alloc::{AllocError, Global};
+use toolrun::{Status, Stop, close_run, end_run};
 
 /// What is told of a word that is no UTF-8 text.
 const INVALID_UTF8: &str = "invalid UTF-8 was detected in one or more arguments";

@@ -37,7 +37,14 @@ pub fn pegi_main<R: Files + AllocGlobal, I: Source, O: Sink, E: Sink>(
         (Keeps (I.remaining reader.old) (I.remaining reader.new) × EndsAs (O.failed out.new) (E.failed err.new) Status.Done result) }
 {
     match read_job(rt, Program::Pegi, words) {
-        Ok(job) => run_peg(rt.alloc(), job.grammar.as_slice(), &job.settings, reader, out, err),
+        Ok(job) => run_peg(
+            rt.alloc(),
+            job.grammar.as_slice(),
+            &job.settings,
+            reader,
+            out,
+            err,
+        ),
         Err(why) => end_unready(rt.alloc(), &why, out, err),
     }
 }
@@ -62,7 +69,14 @@ pub fn abnfi_main<R: Files + AllocGlobal, I: Source, O: Sink, E: Sink>(
         (Keeps (I.remaining reader.old) (I.remaining reader.new) × EndsAs (O.failed out.new) (E.failed err.new) Status.Done result) }
 {
     match read_job(rt, Program::Abnfi, words) {
-        Ok(job) => run_abnf(rt.alloc(), job.grammar.as_slice(), &job.settings, reader, out, err),
+        Ok(job) => run_abnf(
+            rt.alloc(),
+            job.grammar.as_slice(),
+            &job.settings,
+            reader,
+            out,
+            err,
+        ),
         Err(why) => end_unready(rt.alloc(), &why, out, err),
     }
 }
