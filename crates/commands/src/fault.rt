@@ -54,9 +54,12 @@ pub fn end_unparsed<O: Sink, E: Sink>(
     requires out_is_fresh { O.failed out.old ≡ false }
     requires err_is_fresh { E.failed err.old ≡ false }
     ensures kept { IsNoHelp (kind_of error.now) → Keeps (O.contents out.old) (O.contents out.new) }
-    ensures refused { IsNoHelp (kind_of error.now) → EndsAs (O.failed out.new) (E.failed err.new) Status.Refused result }
-    ensures helped { kind_of error.now ≡ ErrorKind.DisplayHelp → EndsAs (O.failed out.new) (E.failed err.new) Status.Done result }
-    ensures no_memory { kind_of error.now ≡ ErrorKind.OutOfMemory → EndsAs (O.failed out.new) (E.failed err.new) Status.NoMemory result }
+    ensures refused { IsNoHelp (kind_of error.now) →
+        EndsAs (O.failed out.new) (E.failed err.new) Status.Refused result }
+    ensures helped { kind_of error.now ≡ ErrorKind.DisplayHelp →
+        EndsAs (O.failed out.new) (E.failed err.new) Status.Done result }
+    ensures no_memory { kind_of error.now ≡ ErrorKind.OutOfMemory →
+        EndsAs (O.failed out.new) (E.failed err.new) Status.NoMemory result }
     ensures failed { (O.failed out.new ≡ true) ⊎ (E.failed err.new ≡ true) → 4 ≤ code_of result }
 {
     if error.kind() == ErrorKind::OutOfMemory {
