@@ -5,9 +5,10 @@ use Rattle.ruletable.specs.declared.fault.ReadFault.{ReadFault}
 use Rattle.abnfread.specs.Element.{Rule}
 use Rattle.abnfcheck.specs.Derivable.{RuleDerives}
 use Rattle.abnfprint.specs.CanonicalAbnf.{grammar_text}
-use Rattle.lines.specs.InputLines.{LinesReply}
+use Rattle.lines.specs.InputLines.{Ends, Lines, LinesReply, place_taken}
 use Rattle.toolrun.specs.Input.{Input}
 use Rattle.toolrun.specs.Reply.{Reply}
+use Rattle.toolrun.specs.RunSteps.{Replies}
 use Rattle.toolrun.specs.declared.settings.Settings.{Settings}
 
 -- a grammar's text is refused: its fault is told, and nothing is taken
@@ -30,6 +31,11 @@ is_byte v = ltb v 256
 abbrev pub IsMember : List Rule → ℕ → List ℕ → Type 0
 IsMember rules judged line = RuleDerives is_byte rules judged line
 
--- each line of the input is judged by that rule
+-- each line of the input is judged by that rule, and no growth is refused
+abbrev pub JudgeReplies : List Rule → ℕ → Settings → Input → Reply → Type 0
+JudgeReplies rules judged settings input reply =
+    Replies (Lines (IsMember rules judged) settings.limit input) (Ends (IsMember rules judged) settings.limit input) (place_taken settings.limit input) reply
+
+-- each line of the input is judged by that rule, or the first ones where a growth is refused
 abbrev pub JudgeReply : List Rule → ℕ → Settings → Input → Reply → Type 0
 JudgeReply rules judged settings input reply = LinesReply (IsMember rules judged) settings.limit input reply
