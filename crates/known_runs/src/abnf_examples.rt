@@ -585,7 +585,7 @@ const RFC8259_LINES: &[u8] = br##"{"a": [1, 2.5e-3, true, null], "b": {}}
 {'a':1}
 NULL
 "a\x"
-"a	tab"
+"a\u12"
 "open
 
 [1] [2]

@@ -43,7 +43,7 @@ has_end_within : (n : ℕ) (xs line after : List ℕ) → xs ≡ line ++ 10 ∷ 
 has_end_within n xs line after cut le h =
     let l = ap length cut in
     let here : get_or (take (suc n) xs) (length line) 0 ≡ 10 =
-        get_or-take (suc n) xs (length line) 0 (omega (arith, le)) ∙ ap (λ (t : List ℕ). get_or t (length line) 0) cut ∙ get_or-append_seam line 10 after 0 in
+    get_or-take (suc n) xs (length line) 0 (omega (arith, le)) ∙ ap (λ (t : List ℕ). get_or t (length line) 0) cut ∙ get_or-append_seam line 10 after 0 in
     All-get_or (λ v. v ≢ 10) (take (suc n) xs) (length line) 0 (omega (arith, l, le, length-take (suc n) xs, length-append line (10 ∷ after))) h here
 
 -- one answer
