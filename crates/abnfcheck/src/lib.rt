@@ -17,6 +17,3 @@ pub use decided_law::derivation_is_decided;
 pub use joined::join;
 pub use notes_law::one_list_of_abnf_notes;
 pub use sound_abnf::SoundAbnf;
-
-#[cfg(test)]
-mod tests;

@@ -1,10 +1,14 @@
 -- What a run of a grammar on an input states.
-use Rattle.std.specs.Prelude.{ℕ, Bool, List, [], ltb}
+use Rattle.std.specs.Prelude.{ℕ, List, []}
 use Rattle.ruletable.specs.Faults.{fault_text}
 use Rattle.ruletable.specs.declared.fault.ReadFault.{ReadFault}
 use Rattle.abnfread.specs.Element.{Rule}
 use Rattle.abnfcheck.specs.Derivable.{RuleDerives}
 use Rattle.abnfprint.specs.CanonicalAbnf.{grammar_text}
+use Rattle.letters.specs.Letters.{has}
+use Rattle.letters.specs.Utf8Text.{Spells}
+use Rattle.letters.specs.declared.alphabet.Alphabet.{Alphabet}
+use Rattle.letters.specs.declared.alphabet.Alphabet.TheVariants.{Bytes, Utf8}
 use Rattle.lines.specs.InputLines.{LinesReply}
 use Rattle.toolrun.specs.Input.{Input}
 use Rattle.toolrun.specs.Reply.{Reply}
@@ -22,14 +26,12 @@ notes_alone status = record { out = []; err = []; status = status; taken = 0 }
 abbrev pub printed_rules : List Rule → Reply
 printed_rules rules = record { out = grammar_text rules; err = []; status = 0; taken = 0 }
 
--- the letters of a line are bytes
-abbrev pub is_byte : ℕ → Bool
-is_byte v = ltb v 256
-
--- the lines that the judged rule derives (RFC 5234, section 3; RFC 7405, section 2.1)
-abbrev pub IsMember : List Rule → ℕ → List ℕ → Type 0
-IsMember rules judged line = RuleDerives is_byte rules judged line
+-- The lines that the judged rule derives (RFC 5234, section 3; RFC 7405, section 2.1). Their letters are bytes, or the code points of UTF-8 (RFC 3629,
+-- section 3): then a line that is not UTF-8 is none of them.
+abbrev pub IsMember : Alphabet → List Rule → ℕ → List ℕ → Type 0
+IsMember Bytes rules judged line = RuleDerives (has Bytes) rules judged line
+IsMember Utf8 rules judged line = (points : List ℕ) × Spells points line × RuleDerives (has Utf8) rules judged points
 
 -- each line of the input is judged by that rule
 abbrev pub JudgeReply : List Rule → ℕ → Settings → Input → Reply → Type 0
-JudgeReply rules judged settings input reply = LinesReply (IsMember rules judged) settings.limit input reply
+JudgeReply rules judged settings input reply = LinesReply (IsMember settings.letters rules judged) settings.limit input reply

@@ -21,8 +21,9 @@ use toolrun::{Settings, Status, run_tool};
 /// - Else the notes on it are written on `err`. If it is refused, or only to be checked, that is all: `Refused`, or `Done`,
 ///   and nothing is read.
 /// - A line ends before an LF, and a last piece without LF is a line if it is not empty; a CR belongs to its line. It is
-///   answered by `yes` exactly if the judged rule derives its bytes: the rule named in the settings, or else the first.
-///   The run ends behind the last line with `Done` if all answers are `yes`, else with `NoMatch`.
+///   answered by `yes` exactly if the judged rule derives it: the rule named in the settings, or else the first. The letters
+///   of a line are its bytes; or, if the settings say so, its code points in UTF-8, and then a line that is not UTF-8 is
+///   answered by `no`. The run ends behind the last line with `Done` if all answers are `yes`, else with `NoMatch`.
 /// - A line of more than `limit` bytes is not answered: `line K longer than L bytes`, `Overlong`; K counts from 1.
 /// - After a fault of the reader a line is judged only if its LF was read: else `read error`, `Fault`. So is an input of
 ///   9,223,372,036,854,775,807 bytes taken to end.

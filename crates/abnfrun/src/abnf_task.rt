@@ -14,6 +14,7 @@ use crate::line_judge::judge_lines;
 use abnfcheck::{Checked, SoundAbnf, check_abnf, derivation_is_decided};
 use abnfread::{Abnf, read_abnf};
 use feed::Source;
+use letters::utf8_is_decided;
 use ruletable::{Memory, ReadFault, Sink, WriteFault};
 use std::alloc::Global;
 use toolrun::{Mode, Plan, Settings, Status, Stop, Tool};
@@ -79,6 +80,7 @@ fn plan_run(alloc: Global, grammar: &[u8], settings: &Settings<'_>) -> Plan<Abnf
     ensures { IsPlan (AbnfStates grammar.now settings.now) (notes_text (map said_of result.notes.items)) (does_of (λ t. abnf_does t settings.now) result.task) }
 {
     derivation_is_decided();
+    utf8_is_decided();
     match checked(alloc, grammar, settings.start) {
         Ok(Checked { notes, sound }) => Plan {
             notes,

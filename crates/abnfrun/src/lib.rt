@@ -8,4 +8,6 @@ mod line_judge;
 
 pub use abnf_run::run_abnf;
 pub use feed::{Broken, Source, SourceOf};
-pub use toolrun::{DEFAULT_LIMIT, MAX_LIMIT, Mode, Settings, Status, Stop, close_run, end_run};
+pub use toolrun::{
+    Alphabet, DEFAULT_LIMIT, MAX_LIMIT, Mode, Settings, Status, Stop, close_run, end_run,
+};

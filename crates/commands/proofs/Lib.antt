@@ -1,5 +1,5 @@
-mod Parses
-mod Answering
-mod Entries
-mod Whole
-mod Asking
+mod AppLemmas
+mod AnswersLemmas
+mod EntryLemmas
+mod AreWholeLemmas
+mod AskLemmas

@@ -1,16 +1,26 @@
--- The command of `pegi`, as a parse reads it.
-use Rattle.std.specs.Prelude.{List, [], ◌∷◌, Some, true, codes, pos}
+-- The commands of the programs, as a parse reads them.
+use Rattle.std.specs.Prelude.{◌≡◌, List, [], ◌∷◌, Some, true, codes, map, pos}
 use Rattle.std.specs.Borrow.{Bor}
 use Rattle.clap.specs.Words.{App, Rule, Text, new_app, new_rule, with_rule}
 use Rattle.clap.specs.declared.builder.action.ArgAction.TheVariants.{Set, SetTrue}
 use Rattle.clap.specs.declared.builder.value_parser.ValueParser.TheVariants as vp
+use Rattle.commands.specs.declared.command.Program.{Program}
+use Rattle.commands.specs.declared.command.Program.TheVariants.{Abnfi, Pegi}
+
+-- texts that an argument takes
+abbrev pub Names : Type 0
+Names = Bor (List (Bor Text))
 
 -- the names of the modes
 abbrev pub mode_names : List Text
 mode_names = codes "run" ∷ codes "check" ∷ codes "print" ∷ []
 
+-- the texts are the names of the modes
+abbrev pub AreModes : Names → Type 0
+AreModes names = map (λ s. s.now) names.now ≡ mode_names
+
 -- `-m MODE`, one of the names; `run` where it is not given
-abbrev pub mode_rule : Bor (List (Bor Text)) → Rule
+abbrev pub mode_rule : Names → Rule
 mode_rule names = record (new_rule (codes "mode")) {
   short = Some 109;
   value_names = 1;
@@ -40,7 +50,19 @@ raw_rule = record (new_rule (codes "raw")) { short = Some 114; action = Some Set
 abbrev pub grammar_rule : Rule
 grammar_rule = record (new_rule (codes "grammar")) { value_names = 1; action = Some Set; required = true }
 
--- the command, with its modes under these names
-abbrev pub pegi_app : Bor (List (Bor Text)) → App
-pegi_app names = with_rule (with_rule (with_rule (with_rule (with_rule (new_app (codes "pegi"))
-    (mode_rule names)) limit_rule) start_rule) raw_rule) grammar_rule
+-- a command with the options of both programs, its modes under these names
+abbrev pub with_options : Names → App → App
+with_options names app = with_rule (with_rule (with_rule app (mode_rule names)) limit_rule) start_rule
+
+-- `pegi [-m MODE] [-l N] [-s RULE] [-r] GRAMMAR`
+abbrev pub pegi_app : Names → App
+pegi_app names = with_rule (with_rule (with_options names (new_app (codes "pegi"))) raw_rule) grammar_rule
+
+-- `abnfi [-m MODE] [-l N] [-s RULE] GRAMMAR`
+abbrev pub abnfi_app : Names → App
+abnfi_app names = with_rule (with_options names (new_app (codes "abnfi"))) grammar_rule
+
+-- this is the command of the program
+abbrev pub IsAppOf : Program → App → Type 0
+IsAppOf Pegi app = (names : Names) × AreModes names × (app ≡ pegi_app names)
+IsAppOf Abnfi app = (names : Names) × AreModes names × (app ≡ abnfi_app names)

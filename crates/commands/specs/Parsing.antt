@@ -1,25 +1,26 @@
 -- What a parse of the words comes to.
-use Rattle.std.specs.Prelude.{◌≡◌, ◌≢◌, ◌⊎◌, List, [], ◌∷◌, Bool, false, map, Result, MatchResult}
-use Rattle.std.specs.Borrow.{Bor}
-use Rattle.clap.specs.Words.{HasKind, IsAmong, Kinds, Text, fault_of, found_of, matches_of, rows_of}
+use Rattle.std.specs.Prelude.{◌≡◌, ◌≢◌, ◌⊎◌, List, [], ◌∷◌, Bool, false, Result, MatchResult}
+use Rattle.clap.specs.Words.{App, HasKind, IsAmong, Kinds, Text, fault_of, found_of, matches_of, rows_of}
 use Rattle.clap.specs.declared.error.Error.{Error}
 use Rattle.clap.specs.declared.error.kind.ErrorKind.{ErrorKind}
 use Rattle.clap.specs.declared.error.kind.ErrorKind.TheVariants.{DisplayHelp, DisplayVersion}
 use Rattle.clap.specs.declared.parser.matches.ArgMatches.{ArgMatches}
-use Rattle.commands.specs.Command.{mode_names, pegi_app}
+use Rattle.commands.specs.declared.reading.Unready.{Unready}
+use Rattle.commands.specs.declared.reading.Unready.TheVariants.{NoMemory as NoRoom, Unreadable, Words}
 use Rattle.toolrun.specs.declared.status.Status.{Status}
 use Rattle.toolrun.specs.declared.status.Status.TheVariants.{NoMemory}
 
--- the texts are the names of the modes
-abbrev pub AreModes : Bor (List (Bor Text)) → Type 0
-AreModes names = map (λ s. s.now) names.now ≡ mode_names
-
 -- Words in which nothing is wrong are matched as the command says, unless memory is wanting; of others the error says
 -- what is wrong, or that help was asked for.
-abbrev pub Parses : Bor (List (Bor Text)) → List Text → Result ArgMatches Error → Type 0
-Parses names words r = MatchResult r
-    (λ m. (fault_of (pegi_app names) words ≡ []) × (rows_of (found_of m) ≡ matches_of (pegi_app names) words))
-    (HasKind (fault_of (pegi_app names) words))
+abbrev pub Parses : App → List Text → Result ArgMatches Error → Type 0
+Parses app words r = MatchResult r (λ m. (fault_of app words ≡ []) × (rows_of (found_of m) ≡ matches_of app words))
+    (HasKind (fault_of app words))
+
+-- the words have these faults, or else no fault, and the grammar was not read
+abbrev pub IsUnready : Kinds → Unready → Type 0
+IsUnready kinds (Words error) = HasKind kinds error
+IsUnready kinds Unreadable = kinds ≡ []
+IsUnready kinds NoRoom = kinds ≡ []
 
 -- no help and no version is asked for by this
 abbrev pub IsNoHelp : ErrorKind → Type 0

@@ -1,21 +1,23 @@
-//! The command of `pegi`.
+//! The commands of the programs.
 ghost use Rattle.std.specs.Prelude.{◌≡◌, IfOk, false, true, map};
 ghost use Rattle.clap.specs.Words.{app_of, found_of, is_simple, is_simple_and_free, rule_of};
 ghost use Rattle.commands.specs.Asked.{AreWhole};
-ghost use Rattle.commands.specs.Command.{grammar_rule, limit_rule, mode_rule, pegi_app, raw_rule, start_rule};
-ghost use Rattle.commands.specs.Parsing.{AreModes, Parses};
+ghost use Rattle.commands.specs.Command.{AreModes, IsAppOf, grammar_rule, limit_rule, mode_rule, raw_rule, start_rule, with_options};
+ghost use Rattle.commands.specs.Parsing.{Parses};
 
+use crate::help;
 use clap::{Arg, ArgAction, ArgMatches, Command, Error, value_parser};
 use std::alloc::{AllocError, Global};
 use std::convert::AsStr;
 
-/// What `pegi` does, in a line.
-const ABOUT: &str =
-    "Runs a grammar in the syntax of peg(1) on standard input and prints its actions in order";
-
-/// The end of the help.
-const AFTER: &str =
-    "Exit status:\n  0  all input was taken, or nothing was refused\n  1  no match at some byte\n  2  the grammar or the arguments are refused\n  3  a unit is longer than N bytes\n  4  a read or write error, or the grammar cannot be read\n  5  out of memory\n\nExample:\n  pegi username.peg < letter.txt";
+/// A program of this repository.
+#[derive(Clone, Copy, Debug, PartialEq, Eq)]
+pub enum Program {
+    /// `pegi [-m MODE] [-l N] [-s RULE] [-r] GRAMMAR`
+    Pegi,
+    /// `abnfi [-m MODE] [-l N] [-s RULE] GRAMMAR`
+    Abnfi,
+}
 
 /// The names of the modes.
 static MODES: [&str; 3] = ["run", "check", "print"];
@@ -27,12 +29,12 @@ fn mode_arg<'a>(alloc: Global) -> Arg<'a>
     Arg::new(alloc, "mode")
         .short('m')
         .value_name("MODE")
-        .help("What is done with the grammar")
+        .help(help::MODE)
         .value_parser(MODES.as_slice())
         .default_value("run")
 }
 
-fn limit_arg<'a>(alloc: Global) -> Arg<'a>
+fn limit_arg<'a>(alloc: Global, help: &'a str) -> Arg<'a>
     ensures rule { rule_of result ≡ limit_rule }
     ensures local { result.global ≡ false }
 {
@@ -40,19 +42,19 @@ fn limit_arg<'a>(alloc: Global) -> Arg<'a>
         .short('l')
         .value_name("N")
         .action(ArgAction::Set)
-        .help("How many bytes a unit may look at, from 1 to 16777216")
+        .help(help)
         .value_parser(value_parser!(u32).range(1..=16_777_216))
         .default_value("65536")
 }
 
-fn start_arg<'a>(alloc: Global) -> Arg<'a>
+fn start_arg<'a>(alloc: Global, help: &'a str) -> Arg<'a>
     ensures rule { rule_of result ≡ start_rule }
     ensures local { result.global ≡ false }
 {
     Arg::new(alloc, "start")
         .short('s')
         .value_name("RULE")
-        .help("The start rule [default: the first rule]")
+        .help(help)
 }
 
 fn raw_arg<'a>(alloc: Global) -> Arg<'a>
@@ -63,7 +65,7 @@ fn raw_arg<'a>(alloc: Global) -> Arg<'a>
         .short('r')
         .action(ArgAction::SetTrue)
         .value_parser(value_parser!(bool))
-        .help("Print actions neither trimmed nor each on a line of its own")
+        .help(help::RAW)
 }
 
 fn grammar_arg<'a>(alloc: Global) -> Arg<'a>
@@ -73,37 +75,76 @@ fn grammar_arg<'a>(alloc: Global) -> Arg<'a>
     Arg::new(alloc, "grammar")
         .value_name("GRAMMAR")
         .action(ArgAction::Set)
-        .help("The file of the grammar, at most 1048576 bytes")
+        .help(help::GRAMMAR)
         .required(true)
+}
+
+/// Adds the options that both programs have; the last two texts are the help of `-l` and `-s`.
+fn add_options<'a>(
+    alloc: Global,
+    command: Command<'a>,
+    limit: &'a str,
+    start: &'a str,
+) -> Result<Command<'a>, AllocError>
+    ensures options { (names : _) × AreModes names × IfOk result (λ c. app_of c ≡ with_options names (app_of command.entry)) }
+{
+    let with_mode = command.arg(mode_arg(alloc))?;
+    let with_limit = with_mode.arg(limit_arg(alloc, limit))?;
+    with_limit.arg(start_arg(alloc, start))
 }
 
 /// The command `pegi [-m MODE] [-l N] [-s RULE] [-r] GRAMMAR`. Refused for want of memory.
 pub fn pegi_command<'a>(alloc: Global) -> Result<Command<'a>, AllocError>
-    ensures app { (names : _) × AreModes names × IfOk result (λ c. app_of c ≡ pegi_app names) }
+    ensures app { (app : _) × IsAppOf Program.Pegi app × IfOk result (λ c. app_of c ≡ app) }
 {
-    let plain = Command::new(alloc, "pegi").about(ABOUT).after_help(AFTER);
-    let with_mode = plain.arg(mode_arg(alloc))?;
-    let with_limit = with_mode.arg(limit_arg(alloc))?;
-    let with_start = with_limit.arg(start_arg(alloc))?;
-    let with_raw = with_start.arg(raw_arg(alloc))?;
+    let plain = Command::new(alloc, "pegi")
+        .about(help::PEGI)
+        .after_help(help::AFTER_PEGI);
+    let with_options = add_options(alloc, plain, help::PEGI_LIMIT, help::PEGI_START)?;
+    let with_raw = with_options.arg(raw_arg(alloc))?;
     with_raw.arg(grammar_arg(alloc))
 }
 
-/// The command is a simple one, and no argument has a rule on another: its matches are a function of the words, and so is
+/// The command `abnfi [-m MODE] [-l N] [-s RULE] GRAMMAR`. Refused for want of memory.
+pub fn abnfi_command<'a>(alloc: Global) -> Result<Command<'a>, AllocError>
+    ensures app { (app : _) × IsAppOf Program.Abnfi app × IfOk result (λ c. app_of c ≡ app) }
+{
+    let plain = Command::new(alloc, "abnfi")
+        .about(help::ABNFI)
+        .after_help(help::AFTER_ABNFI);
+    let with_options = add_options(alloc, plain, help::ABNFI_LIMIT, help::ABNFI_START)?;
+    with_options.arg(grammar_arg(alloc))
+}
+
+/// The command of a program. Refused for want of memory.
+pub fn command_of<'a>(alloc: Global, program: Program) -> Result<Command<'a>, AllocError>
+    ensures app { (app : _) × IsAppOf program app × IfOk result (λ c. app_of c ≡ app) }
+{
+    match program {
+        Program::Pegi => pegi_command(alloc),
+        Program::Abnfi => abnfi_command(alloc),
+    }
+}
+
+/// Each command is a simple one, and no argument has a rule on another: its matches are a function of the words, and so is
 /// what is wrong with them.
 pub fn is_a_simple_command()
-    ensures simple { (names : _) → is_simple (pegi_app names) ≡ true }
-    ensures free { (names : _) → is_simple_and_free (pegi_app names) ≡ true }
+    ensures simple { (program : _) (app : _) → IsAppOf program app → is_simple app ≡ true }
+    ensures free { (program : _) (app : _) → IsAppOf program app → is_simple_and_free app ≡ true }
 {}
 
-/// Parses the words of a command line, the program's name first.
+/// Parses the words of a program's command line, its name first.
 ///
 /// The error holds the help that was asked for, or what is wrong with the words, or want of memory.
-pub fn parse<'a, S: AsStr>(alloc: Global, words: &'a [S]) -> Result<ArgMatches<'a>, Error>
-    ensures parses { (names : _) × AreModes names × Parses names (map S.text words.entry.now) result }
+pub fn parse<'a, S: AsStr>(
+    alloc: Global,
+    program: Program,
+    words: &'a [S],
+) -> Result<ArgMatches<'a>, Error>
+    ensures parses { (app : _) × IsAppOf program app × Parses app (map S.text words.entry.now) result }
     ensures whole { IfOk result (λ m. AreWhole (found_of m)) }
 {
-    let command = match pegi_command(alloc) {
+    let command = match command_of(alloc, program) {
         Ok(command) => command,
         Err(fault) => return Err(fault.into()),
     };

@@ -5,10 +5,10 @@ ghost use Rattle.clap.specs.Words.{kind_of};
 ghost use Rattle.commands.specs.Parsing.{EndsAs, IsNoHelp};
 ghost use Rattle.toolrun.specs.Status.{code_of};
 
-use crate::command::pegi_command;
+use crate::command::{Program, command_of};
 use clap::Error;
 use clap::error::ErrorKind;
-use gramtools::{Status, Stop, close_run, end_run};
+use toolrun::{Status, Stop, close_run, end_run};
 use ruletable::{Sink, write_whole};
 use std::alloc::{AllocError, Global};
 
@@ -73,23 +73,28 @@ pub fn end_unparsed<O: Sink, E: Sink>(
 }
 
 /// The error of words that are not all UTF-8 text, in the form of the errors of a parse.
-fn invalid_utf8(alloc: Global) -> Result<Error, AllocError>
+fn invalid_utf8(alloc: Global, program: Program) -> Result<Error, AllocError>
     ensures kind { IfOk result (λ e. kind_of e ≡ ErrorKind.ValueValidation) }
 {
-    let mut command = pegi_command(alloc)?;
+    let mut command = command_of(alloc, program)?;
     command.error(ErrorKind::ValueValidation, INVALID_UTF8)
 }
 
 /// Ends a program whose words are not all UTF-8 text: that is told on `err`, `Refused`. Where a growth was refused,
 /// `out of memory`, `NoMemory`.
-pub fn refuse_invalid_utf8<O: Sink, E: Sink>(alloc: Global, out: &mut O, err: &mut E) -> Status
+pub fn refuse_invalid_utf8<O: Sink, E: Sink>(
+    alloc: Global,
+    program: Program,
+    out: &mut O,
+    err: &mut E,
+) -> Status
     requires out_is_fresh { O.failed out.old ≡ false }
     requires err_is_fresh { E.failed err.old ≡ false }
     ensures kept { Keeps (O.contents out.old) (O.contents out.new) }
     ensures refused { EndsAs (O.failed out.new) (E.failed err.new) Status.Refused result }
     ensures failed { (O.failed out.new ≡ true) ⊎ (E.failed err.new ≡ true) → 4 ≤ code_of result }
 {
-    match invalid_utf8(alloc) {
+    match invalid_utf8(alloc, program) {
         Ok(error) => end_unparsed(alloc, &error, out, err),
         Err(_) => end_run(Ok(Stop::NoMemory), out, err),
     }

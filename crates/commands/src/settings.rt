@@ -2,12 +2,11 @@
 ghost use Rattle.std.specs.Prelude.{◌≡◌, ◌≤◌, MatchResult, [], codes, map, option_map};
 ghost use Rattle.clap.specs.Words.{HasKind, fault_of, first_value, found_of, matches_of, one_text};
 ghost use Rattle.commands.specs.Asked.{Ask, IsFlagOf, IsLimitOf, mode_named};
-ghost use Rattle.commands.specs.Command.{pegi_app};
-ghost use Rattle.commands.specs.Parsing.{AreModes};
+ghost use Rattle.commands.specs.Command.{IsAppOf};
 
-use crate::command::parse;
+use crate::command::{Program, parse};
 use clap::{ArgMatches, Error};
-use gramtools::{DEFAULT_LIMIT, MAX_LIMIT, Mode, Settings};
+use toolrun::{Alphabet, DEFAULT_LIMIT, MAX_LIMIT, Mode, Settings};
 use std::alloc::Global;
 use std::convert::AsStr;
 
@@ -38,12 +37,14 @@ pub fn settings_of<'a>(matches: &ArgMatches<'a>) -> Settings<'a>
     ensures limit { IsLimitOf (one_text (found_of matches.now) (codes "limit")) result.limit }
     ensures start { option_map (λ s. s.now) result.start ≡ first_value (found_of matches.now) (codes "start") }
     ensures raw { IsFlagOf (one_text (found_of matches.now) (codes "raw")) result.raw }
+    ensures letters { result.letters ≡ Alphabet.Bytes }
 {
     Settings {
         mode: mode_of(matches),
         limit: limit_of(matches),
         start: matches.get_str("start"),
         raw: matches.get_flag("raw"),
+        letters: Alphabet::Bytes,
     }
 }
 
@@ -56,16 +57,19 @@ pub struct Asked<'a> {
     pub path: &'a str,
 }
 
-/// Reads the words of a command line, the program's name first.
+/// Reads the words of a program's command line, its name first.
 ///
 /// The error is that of `parse`.
-pub fn read_words<'a, S: AsStr>(alloc: Global, words: &'a [S]) -> Result<Asked<'a>, Error>
-    ensures asked { (names : _) × AreModes names × MatchResult result
-        (λ a. (fault_of (pegi_app names) (map S.text words.entry.now) ≡ []) ×
-        Ask (matches_of (pegi_app names) (map S.text words.entry.now)) a)
-        (HasKind (fault_of (pegi_app names) (map S.text words.entry.now))) }
+pub fn read_words<'a, S: AsStr>(
+    alloc: Global,
+    program: Program,
+    words: &'a [S],
+) -> Result<Asked<'a>, Error>
+    ensures asked { (app : _) × IsAppOf program app × MatchResult result
+        (λ a. (fault_of app (map S.text words.entry.now) ≡ []) × Ask (matches_of app (map S.text words.entry.now)) a)
+        (HasKind (fault_of app (map S.text words.entry.now))) }
 {
-    let matches = match parse(alloc, words) {
+    let matches = match parse(alloc, program, words) {
         Ok(matches) => matches,
         Err(error) => return Err(error),
     };

@@ -1,7 +1,7 @@
 //! Charts of item sets, and the line judge.
-ghost use Rattle.std.specs.Prelude.{◌≡◌, ◌↔◌, ◌+◌, ◌*◌, ◌≤◌, ℕ, Bool, List, [], Some, IsTrue, IfOk, OnErr, length, map, slice_get};
+ghost use Rattle.std.specs.Prelude.{◌≡◌, ◌↔◌, ◌+◌, ◌*◌, ◌≤◌, ℕ, List, [], Some, IsTrue, IfOk, OnErr, length, map, slice_get};
 ghost use Rattle.abnfread.specs.Element.{Rule};
-ghost use Rattle.abnfcheck.specs.Derivable.{AreLetters, RuleDerives};
+ghost use Rattle.abnfcheck.specs.Derivable.{RuleDerives};
 ghost use Rattle.flatgrammar.specs.Lowered.{IsLowered};
 ghost use Rattle.flatgrammar.specs.NodeSteps.{flat_of};
 ghost use Rattle.flatgrammar.specs.TableViews.{GiveRoots, AreNulls};
@@ -14,6 +14,7 @@ ghost use Rattle.earley.specs.FrontViews.{expand, full, view, views, IsWholeAt};
 ghost use Rattle.flatgrammar.specs.Places.{In, places};
 ghost use Rattle.flatgrammar.specs.Flat.{Place};
 ghost use Rattle.flatgrammar.specs.Holds.{Holds};
+ghost use Rattle.letters.specs.Letters.{has};
 ghost use Rattle.earley.specs.declared.front.Front as front;
 
 use crate::fill::fill;
@@ -21,10 +22,11 @@ use crate::front::Front;
 use crate::heads::Heads;
 use crate::item::{holds, same};
 use crate::items::Items;
-use crate::letter::Letter;
+use crate::letter_law::values_are_letters;
 use crate::read_front::read;
 use crate::wait::wait_all;
 use flatgrammar::{Flat, Item, Spot, Tables, items_tell, spots, whole_root};
+use letters::Letter;
 use ruletable::Memory;
 use std::alloc::Global;
 use std::marker::Model;
@@ -322,20 +324,22 @@ fn judge_by<L: Letter>(
     Ok(answer)
 }
 
-/// Fills the chart with the item sets of a line, and tells whether the judged rule derives the line.
+/// Fills the chart with the item sets of a line, and tells whether the judged rule derives the line, by the alphabet of its
+/// letters: a value that is no letter derives nothing, and a range derives those of its values that are letters.
 ///
 /// `Memory` if an allocation fails; the chart is empty then.
 pub fn judge<L: Letter>(chart: &mut Chart, flat: &Flat, line: &[L]) -> Result<bool, Memory>
     ensures sets { IfOk result (λ _. (j : ℕ) → IsSet flat.now (map L.number line.now) j (set_at chart.new j)) }
     ensures bound { IfOk result (λ _. (j : ℕ) → length (set_at chart.new j) ≤ places flat.now.nodes * (j + 1)) }
     ensures answer { IfOk result (λ yes. IsTrue yes ↔ Holds flat.now (map L.number line.now) (length line.now) (Place.at flat.now.whole 1) 0) }
-    ensures derives { IfOk result (λ yes. (has : ℕ → Bool) (rules : List Rule) (judged : ℕ) → IsLowered rules judged flat.now → AreLetters has (map L.number line.now) →
-        IsTrue yes ↔ RuleDerives has rules judged (map L.number line.now)) }
+    ensures derives { IfOk result (λ yes. (rules : List Rule) (judged : ℕ) → IsLowered rules judged flat.now →
+        IsTrue yes ↔ RuleDerives (has L.ALPHABET) rules judged (map L.number line.now)) }
     ensures empty { OnErr result (chart.new ≡ []) }
 {
     let kept = chart.take_kept()?;
     let tables = flat.share()?;
     let answer = judge_by(chart, tables, kept, line)?;
+    values_are_letters(line);
     items_tell();
     Ok(answer)
 }

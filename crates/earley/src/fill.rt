@@ -14,9 +14,9 @@ ghost use Rattle.earley.specs.FrontViews.{expand, full, view, views, IsAsked, Is
 use crate::front::{Front, is_among};
 use crate::heads::Heads;
 use crate::items::Items;
-use crate::letter::Letter;
 use crate::wait::{Wait, first_at};
 use flatgrammar::{Item, Spot, Tables, call, calls, done, null, passes, spots};
+use letters::Letter;
 use ruletable::Memory;
 
 /// Adds what goes on where an item waited for a root.

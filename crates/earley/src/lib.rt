@@ -7,12 +7,8 @@ mod front;
 mod heads;
 mod item;
 mod items;
-mod letter;
+mod letter_law;
 mod read_front;
 mod wait;
 
 pub use chart::{Chart, judge};
-pub use letter::Letter;
-
-#[cfg(test)]
-mod tests;

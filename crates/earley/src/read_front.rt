@@ -9,8 +9,8 @@ ghost use Rattle.earley.specs.FrontViews.{expand, view};
 
 use crate::front::Front;
 use crate::items::Items;
-use crate::letter::Letter;
 use flatgrammar::{Item, Spot, Tables, reads, spots};
+use letters::Letter;
 use ruletable::Memory;
 
 /// Adds what an item reads.

@@ -2,15 +2,27 @@
 #![tactic(auto)]
 
 #[cfg(test)]
+mod abnf_checks;
+#[cfg(test)]
 mod abnf_texts;
 #[cfg(test)]
 mod canonical_texts;
 #[cfg(test)]
 mod cell_table;
 #[cfg(test)]
+mod code_points;
+#[cfg(test)]
+mod cycle_caller;
+#[cfg(test)]
 mod feed_window;
 #[cfg(test)]
 mod grammar_notes;
+#[cfg(test)]
+mod judged_grammars;
+#[cfg(test)]
+mod judged_lines;
+#[cfg(test)]
+mod least_sets;
 #[cfg(test)]
 mod printed_abnf;
 #[cfg(test)]

@@ -3,7 +3,7 @@ ghost use Rattle.std.specs.Prelude.{◌<◌};
 
 use crate::fakes::{Paper, Tape};
 use abnfrun::run_abnf;
-use gramtools::{MAX_LIMIT, Mode, Settings, SourceOf, Status};
+use gramtools::{Alphabet, MAX_LIMIT, Mode, Settings, SourceOf, Status};
 use ruletable::SinkOf;
 use std::alloc::Global;
 use std::cell::Cell;
@@ -202,12 +202,80 @@ static ANSWERED: [AbnfRow; 19] = [
     ),
 ];
 
-fn settings_of(mode: Mode, limit: usize, start: Option<&'static str>) -> Settings<'static> {
+// The lines of an input by their code points and by their bytes.
+struct LettersRow {
+    grammar: &'static [u8],
+    limit: usize,
+    input: &'static [u8],
+    by_points: &'static [u8],
+    by_bytes: &'static [u8],
+    lines: &'static [u8],
+    ends: (Status, Status),
+}
+
+static LETTERS: [LettersRow; 5] = [
+    LettersRow {
+        grammar: b"s = %x20AC / %xE9 / %xD800-E000",
+        limit: 65536,
+        input: b"\xE2\x82\xAC\n\xC3\xA9\n\xE9\n\xEE\x80\x80\n",
+        by_points: b"yes\nyes\nno\nyes\n",
+        by_bytes: b"no\nno\nyes\nno\n",
+        lines: b"",
+        ends: (Status::NoMatch, Status::NoMatch),
+    },
+    LettersRow {
+        grammar: b"o = *OCTET",
+        limit: 65536,
+        input: b"\xE2\x82\xAC\n\xC3\xA9\n\xC0\x80\n",
+        by_points: b"no\nyes\nno\n",
+        by_bytes: b"yes\nyes\nyes\n",
+        lines: b"",
+        ends: (Status::NoMatch, Status::Done),
+    },
+    // the limit counts bytes
+    LettersRow {
+        grammar: b"o = *%x00-10FFFF",
+        limit: 2,
+        input: b"\xE2\x82\xAC\n",
+        by_points: b"",
+        by_bytes: b"",
+        lines: b"line 1 longer than 2 bytes\n",
+        ends: (Status::Overlong, Status::Overlong),
+    },
+    // two bytes are no spelling of the null, a surrogate has none, and the last line is torn
+    LettersRow {
+        grammar: b"o = *%x00-10FFFF",
+        limit: 65536,
+        input: b"\xC0\x80\n\xED\xA0\x80\n\x00a\xF4\x8F\xBF\xBF\n\xE2\x82",
+        by_points: b"no\nno\nyes\nno\n",
+        by_bytes: b"yes\nyes\nyes\nyes\n",
+        lines: b"",
+        ends: (Status::NoMatch, Status::Done),
+    },
+    // a text of ASCII letters is the same in both
+    LettersRow {
+        grammar: b"s = \"ab\"",
+        limit: 65536,
+        input: b"aB\nb\n",
+        by_points: b"yes\nno\n",
+        by_bytes: b"yes\nno\n",
+        lines: b"",
+        ends: (Status::NoMatch, Status::NoMatch),
+    },
+];
+
+fn settings_of(
+    mode: Mode,
+    limit: usize,
+    start: Option<&'static str>,
+    letters: Alphabet,
+) -> Settings<'static> {
     Settings {
         mode,
         limit: limit.max(1).min(MAX_LIMIT),
         start,
         raw: false,
+        letters,
     }
 }
 
@@ -233,7 +301,7 @@ fn check_row<R: Abort + AllocGlobal>(rt: &R, row: AbnfRow, step: usize)
     requires { 0 < step }
 {
     let (grammar, start, limit, input, text, lines, ends, rest) = row;
-    let settings = settings_of(Mode::Run, limit, start);
+    let settings = settings_of(Mode::Run, limit, start, Alphabet::Bytes);
     let clock = Cell::new(0);
     let out = Paper::new(rt.alloc(), step, &clock);
     let err = Paper::new(rt.alloc(), step, &clock);
@@ -254,9 +322,35 @@ fn lines_are_answered(rt: HostRuntime) {
     }
 }
 
+// Checks the answers to the lines of a row, by letters of one alphabet.
+fn check_letters<R: Abort + AllocGlobal>(
+    rt: &R,
+    row: &LettersRow,
+    letters: Alphabet,
+    text: &[u8],
+    ends: Status,
+) {
+    let settings = settings_of(Mode::Run, row.limit, None, letters);
+    let clock = Cell::new(0);
+    let out = Paper::new(rt.alloc(), 7, &clock);
+    let err = Paper::new(rt.alloc(), 7, &clock);
+    let tape = Tape::new(row.input, 7, false);
+    let (status, _left, out, err) = run_over(rt.alloc(), row.grammar, &settings, tape, out, err);
+    assert!(rt; out.holds(text) && err.holds(row.lines));
+    assert_eq!(rt; status, ends);
+}
+
+#[test]
+fn lines_are_judged_by_their_letters(rt: HostRuntime) {
+    for row in &LETTERS {
+        check_letters(&rt, row, Alphabet::Utf8, row.by_points, row.ends.0);
+        check_letters(&rt, row, Alphabet::Bytes, row.by_bytes, row.ends.1);
+    }
+}
+
 #[test]
 fn a_torn_line_is_not_answered(rt: HostRuntime) {
-    let settings = settings_of(Mode::Run, 65536, None);
+    let settings = settings_of(Mode::Run, 65536, None, Alphabet::Bytes);
     let clock = Cell::new(0);
     let out = Paper::new(rt.alloc(), 7, &clock);
     let err = Paper::new(rt.alloc(), 7, &clock);
@@ -268,7 +362,7 @@ fn a_torn_line_is_not_answered(rt: HostRuntime) {
 
 #[test]
 fn an_output_that_fails_holds_a_beginning_of_the_answers(rt: HostRuntime) {
-    let settings = settings_of(Mode::Run, 65536, None);
+    let settings = settings_of(Mode::Run, 65536, None, Alphabet::Bytes);
     let clock = Cell::new(0);
     let out = Paper::new(rt.alloc(), 7, &clock).with_room(3);
     let err = Paper::new(rt.alloc(), 7, &clock);
@@ -286,7 +380,7 @@ fn an_abnf_grammar_is_printed_or_checked_alone(rt: HostRuntime) {
     let (status, left, out, err) = run_over(
         rt.alloc(),
         b"k = %s\"Ab\"\n  / \"cd\"\nK =/ 2*3%x78",
-        &settings_of(Mode::Print, 65536, None),
+        &settings_of(Mode::Print, 65536, None, Alphabet::Bytes),
         Tape::new(b"x\n", 7, false),
         out,
         err,
@@ -298,7 +392,7 @@ fn an_abnf_grammar_is_printed_or_checked_alone(rt: HostRuntime) {
     let (status, left, out, err) = run_over(
         rt.alloc(),
         b"a = \"x\"\na = \"y\"",
-        &settings_of(Mode::Check, 65536, None),
+        &settings_of(Mode::Check, 65536, None, Alphabet::Bytes),
         Tape::new(b"x\n", 7, false),
         out,
         err,

@@ -1,20 +1,11 @@
-//! Whole runs of the program, with the grammar in a file.
+//! Whole runs of `pegi`, with the grammar in a file.
 
-use crate::command_words::run_on;
+use crate::command_words::{CommandRow, check_rows, run_on};
+use commands::Program;
 use gramtools::Status;
 use std::test::Fail;
 
-/// A grammar, the options, an input, what is to come of it on both outputs, and the status.
-type Row = (
-    &'static str,
-    &'static [&'static str],
-    &'static [u8],
-    &'static [u8],
-    &'static [u8],
-    Status,
-);
-
-static ROWS: [Row; 31] = [
+static ROWS: [CommandRow; 31] = [
     // actions and captures
     (
         "start <- \"username\" { USER } / < . > { yytext }",
@@ -267,13 +258,7 @@ static ROWS: [Row; 31] = [
 
 #[test]
 fn runs_each_row(rt: HostRuntime) -> Result<(), Fail> {
-    for (grammar, options, input, out, err, status) in &ROWS {
-        let ran = run_on(&rt, "pegi_rows.peg", grammar, options, input)?;
-        assert!(rt; ran.out.as_slice() == *out, "out of {grammar}");
-        assert!(rt; ran.err.as_slice() == *err, "err of {grammar}");
-        assert!(rt; ran.status == *status, "status of {grammar}");
-    }
-    Ok(())
+    check_rows(&rt, Program::Pegi, "pegi_rows.peg", &ROWS)
 }
 
 /// What stands before and behind a text that is repeated, how often, how often the text `)` follows, what is told, and the
@@ -309,7 +294,7 @@ fn grammars_at_the_limits(rt: HostRuntime) -> Result<(), Fail> {
         grammar.push_str(filler.repeat(rt.alloc(), *count)?.as_str())?;
         grammar.push_str(core)?;
         grammar.push_str(")".repeat(rt.alloc(), *closers)?.as_str())?;
-        let ran = run_on(&rt, "pegi_limits.peg", grammar.as_str(), &[], b"a")?;
+        let ran = run_on(&rt, Program::Pegi, "pegi_limits.peg", grammar.as_str(), &[], b"a")?;
         assert!(rt; ran.out.is_empty() && ran.err.as_slice() == *err, "{count}");
         assert!(rt; ran.status == *status, "{count}");
     }

@@ -5,6 +5,8 @@
 #[cfg(test)]
 mod abnf_runs;
 #[cfg(test)]
+mod abnfi_rows;
+#[cfg(test)]
 mod command_rows;
 #[cfg(test)]
 mod command_words;

@@ -2,7 +2,7 @@
 ghost use Rattle.std.specs.Prelude.{◌<◌};
 
 use crate::fakes::{Paper, Tape};
-use gramtools::{MAX_LIMIT, Mode, Settings, SourceOf, Status, one_reply, one_statement, run_peg};
+use gramtools::{Alphabet, MAX_LIMIT, Mode, Settings, SourceOf, Status, one_reply, one_statement, run_peg};
 use ruletable::SinkOf;
 use std::alloc::Global;
 use std::cell::Cell;
@@ -35,6 +35,7 @@ fn limited(limit: usize) -> Settings<'static> {
         limit: limit.max(1).min(MAX_LIMIT),
         start: None,
         raw: false,
+        letters: Alphabet::Bytes,
     }
 }
 

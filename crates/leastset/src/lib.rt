@@ -16,8 +16,3 @@ pub use needs::{Need, are_needs_within, derive, least};
 pub use owned::{OwnedNeed, borrowed_needs, slices};
 pub use reach::reached;
 pub use rows::{are_below, are_within};
-
-#[cfg(test)]
-mod calling;
-#[cfg(test)]
-mod tests;

@@ -4,8 +4,6 @@
 mod answers;
 mod line;
 mod line_loop;
-#[cfg(test)]
-mod tests;
 
 pub use answers::Judge;
 pub use line::{Line, next_line};

@@ -1,7 +1,7 @@
 //! Runs a grammar in the syntax of peg(1) on its standard input.
 #![tactic(auto)]
 
-use commands::{pegi_main, refuse_invalid_utf8};
+use commands::{Program, pegi_main, refuse_invalid_utf8};
 use gramtools::{SourceOf, Status};
 use ruletable::SinkOf;
 use std::io::{BufReader, BufWriter, ErrorKind};
@@ -31,7 +31,7 @@ fn main(rt: HostRuntime) -> ExitCode {
         Err(fault) if fault.kind() == ErrorKind::OutOfMemory => return without_memory(&rt),
         // a word that is no text
         Err(_) => {
-            let status = refuse_invalid_utf8(rt.alloc(), &mut out, &mut err);
+            let status = refuse_invalid_utf8(rt.alloc(), Program::Pegi, &mut out, &mut err);
             return ExitCode::from(status.code());
         }
     };

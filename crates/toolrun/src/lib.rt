@@ -9,6 +9,7 @@ mod stop;
 mod tool;
 
 pub use finish::{close as close_run, finish as end_run};
+pub use letters::Alphabet;
 pub use settings::{DEFAULT_LIMIT, MAX_LIMIT, Mode, Settings};
 pub use status::Status;
 pub use stop::Stop;

@@ -4,7 +4,7 @@ ghost use Rattle.std.specs.Prelude.{◌<◌};
 
 use super::run_over;
 use crate::fakes::{Paper, Tape};
-use gramtools::{DEFAULT_LIMIT, Mode, Settings, Status};
+use gramtools::{Alphabet, DEFAULT_LIMIT, Mode, Settings, Status};
 use std::alloc::Global;
 use std::cell::Cell;
 use std::process::Abort;
@@ -30,6 +30,7 @@ fn check_row<R: Abort + AllocGlobal>(rt: &R, row: Unread, step: usize)
         limit: DEFAULT_LIMIT,
         start,
         raw: false,
+        letters: Alphabet::Bytes,
     };
     let clock = Cell::new(0);
     let out = Paper::new(rt.alloc(), step, &clock);

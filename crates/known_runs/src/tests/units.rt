@@ -2,7 +2,7 @@
 
 use super::{Row, USERNAME, check_rows, limited, run_over};
 use crate::fakes::{Paper, Tape};
-use gramtools::{DEFAULT_LIMIT, Mode, Settings, Status};
+use gramtools::{Alphabet, DEFAULT_LIMIT, Mode, Settings, Status};
 use std::cell::Cell;
 use std::test::Fail;
 
@@ -371,6 +371,7 @@ fn raw_text_is_neither_trimmed_nor_on_a_line_of_its_own(rt: HostRuntime) {
         limit: L,
         start: None,
         raw: true,
+        letters: Alphabet::Bytes,
     };
     let tape = Tape::new(b"ab", 1, false);
     let (status, _, out, err) = run_over(

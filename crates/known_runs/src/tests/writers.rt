@@ -2,7 +2,7 @@
 
 use super::{USERNAME, run_over};
 use crate::fakes::{Paper, Tape};
-use gramtools::{DEFAULT_LIMIT, Mode, Settings, Status};
+use gramtools::{Alphabet, DEFAULT_LIMIT, Mode, Settings, Status};
 use std::alloc::Global;
 use std::cell::Cell;
 use std::process::Abort;
@@ -29,6 +29,7 @@ fn run_row<'a>(
         limit: DEFAULT_LIMIT,
         start: None,
         raw: false,
+        letters: Alphabet::Bytes,
     };
     let tape = Tape::new(input, 3, false);
     run_over(alloc, grammar, &settings, tape, out, err)

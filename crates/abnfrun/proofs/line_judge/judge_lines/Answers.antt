@@ -7,5 +7,8 @@ use Rattle.abnfrun.proofs.line_judge.judge_lines.Goals as goal
 
 pub returns-in_default : goal.returns-in_default
 returns-in_default g c =
-    no_line_was_run (IsMember (rules_of c.args.grammar.now.rules) c.args.grammar.now.judged) c.args.settings.now.limit
-    (member_is_decided c.derivation_is_decided.ensures (rules_of c.args.grammar.now.rules) c.args.grammar.now.judged) _ _ _ _ _
+    let s = c.args.settings.now in
+    let rules = rules_of c.args.grammar.now.rules in
+    let judged = c.args.grammar.now.judged in
+    no_line_was_run (IsMember s.letters rules judged) s.limit
+    (member_is_decided c.derivation_is_decided.ensures c.utf8_is_decided.ensures.decided c.utf8_is_decided.ensures.one s.letters rules judged) _ _ _ _ _

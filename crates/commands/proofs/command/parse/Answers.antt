@@ -1,8 +1,8 @@
 -- The command is a simple one, so the words decide.
 use Rattle.std.proofs.Common.{map}
 use Rattle.std.proofs.lemmas.Result.{IfOk-weaker}
-use Rattle.commands.proofs.Parses.{parses}
-use Rattle.commands.proofs.Whole.{whole}
+use Rattle.commands.proofs.AppLemmas.{app_is_free, app_is_simple, app_parses}
+use Rattle.commands.proofs.AreWholeLemmas.{is_whole}
 use Rattle.commands.proofs.command.parse.Goals as goal
 
 pub returns : goal.returns
@@ -13,8 +13,8 @@ returns g c =
       parses = (
         made.0,
         made.1,
-        parses made.0 (map g.S.AsStr.text c.args.words.now) _ made.2 parsed.result parsed.ensures.matches
-            parsed.ensures.kinds,
+        app_parses made.0 _ (map g.S.AsStr.text c.args.words.now) made.2 (app_is_simple c.args.program made.0 made.1)
+            (app_is_free c.args.program made.0 made.1) parsed.result parsed.ensures.matches parsed.ensures.kinds,
       );
-      whole = IfOk-weaker parsed.result _ _ (λ m from. whole _ made.0 made.2 m from) parsed.ensures.parsed;
+      whole = IfOk-weaker parsed.result _ _ (λ m from. is_whole c.args.program made.0 made.1 _ made.2 m from) parsed.ensures.parsed;
     }

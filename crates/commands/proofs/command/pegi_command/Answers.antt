@@ -1,23 +1,34 @@
--- Each argument in turn.
-use Rattle.std.proofs.Common.{ap, ap₂, ◌∙◌}
-use Rattle.std.proofs.lemmas.Result.{IfOk-weaker}
+-- The options of both programs, the flag and the grammar in turn.
+use Rattle.std.proofs.Common.{ap, ap₂, ◌∙◌, refl}
+use Rattle.std.proofs.lemmas.Result.{IfOk-weaker, err_from_is_err_and}
 use Rattle.clap.specs.Simple.{app_of_fields}
 use Rattle.clap.specs.Words.{with_rule}
+use Rattle.commands.specs.Command.{pegi_app, with_options}
 use Rattle.commands.proofs.command.pegi_command.Goals as goal
+
+pub returns-in_err-with_options : goal.returns-in_err-with_options
+returns-in_err-with_options c =
+    let options = c.add_options.ensures.options in
+    let fault = err_from_is_err_and c.from_residual.result c.from_residual.ensures.1 in
+    record { app = (pegi_app options.0, (options.0, options.1, refl), rw fault.1 tt) }
+
+pub returns-in_err-with_raw : goal.returns-in_err-with_raw
+returns-in_err-with_raw c =
+    let options = c.in_ok-with_options.ensures.options in
+    let fault = err_from_is_err_and c.from_residual-in_err-with_raw.result c.from_residual-in_err-with_raw.ensures.1 in
+    record { app = (pegi_app options.0, (options.0, options.1, refl), rw fault.1 tt) }
 
 pub returns : goal.returns
 returns c =
-    let mode = c.mode_arg.ensures.rule in
+    let options = c.in_ok-with_options.ensures.options in
     let zero = ap app_of_fields c.after_help-plain.ensures ∙ ap app_of_fields c.about.ensures ∙ c.new.ensures.app in
-    let one = c.in_ok-with_mode.ensures.shape c.mode_arg.ensures.local ∙ ap₂ with_rule zero mode.2 in
-    let two = c.in_ok-with_limit.ensures.shape c.limit_arg.ensures.local ∙ ap₂ with_rule one c.limit_arg.ensures.rule in
-    let three = c.in_ok-with_start.ensures.shape c.start_arg.ensures.local ∙ ap₂ with_rule two c.start_arg.ensures.rule in
-    let four = c.in_ok-with_raw.ensures.shape c.raw_arg.ensures.local ∙ ap₂ with_rule three c.raw_arg.ensures.rule in
+    let base = options.2 ∙ ap (with_options options.0) zero in
+    let raw = c.in_ok-with_raw.ensures.shape c.raw_arg.ensures.local ∙ ap₂ with_rule base c.raw_arg.ensures.rule in
     record {
       app = (
-        mode.0,
-        mode.1,
-        IfOk-weaker c.arg-5.result _ _
-            (λ r h. h.shape c.grammar_arg.ensures.local ∙ ap₂ with_rule four c.grammar_arg.ensures.rule) c.arg-5.ensures,
+        pegi_app options.0,
+        (options.0, options.1, refl),
+        IfOk-weaker c.arg-2.result _ _
+            (λ r h. h.shape c.grammar_arg.ensures.local ∙ ap₂ with_rule raw c.grammar_arg.ensures.rule) c.arg-2.ensures,
       );
     }

@@ -3,6 +3,7 @@ use Rattle.std.proofs.lemmas.List.{length-map}
 use Rattle.abnfcheck.specs.Derivable.{RuleDerives}
 use Rattle.flatgrammar.specs.Flat.{at}
 use Rattle.flatgrammar.specs.Holds.{Holds}
+use Rattle.letters.specs.Letters.{has}
 use Rattle.earley.specs.ChartSets.{set_at, IsSet}
 use Rattle.earley.proofs.ChartSetsLemmas.{set_bound}
 use Rattle.earley.proofs.chart.judge.Goals as goal
@@ -15,8 +16,8 @@ returns-clause-bound g c = λ j. set_bound c.args.flat.now (map g.L.Letter.numbe
     (subst (λ v. IsSet v (map g.L.Letter.number c.args.line.now) j (set_at c.judge_by.new.chart j)) c.in_ok-tables.ensures.view (c.in_ok-answer.ensures.sets j))
 
 pub returns-clause-derives : goal.returns-clause-derives
-returns-clause-derives g c = λ has rules judged lowered letters.
+returns-clause-derives g c = λ rules judged lowered.
     chain
     (subst (λ v. IsTrue c.in_ok-answer.answer ↔ Holds v (map g.L.Letter.number c.args.line.now) (length c.args.line.now) (at v.whole 1) 0) c.in_ok-tables.ensures.view c.in_ok-answer.ensures.answer)
-    (subst (λ n. Holds c.args.flat.now (map g.L.Letter.number c.args.line.now) n (at c.args.flat.now.whole 1) 0 ↔ RuleDerives has rules judged (map g.L.Letter.number c.args.line.now))
-    (length-map c.args.line.now g.L.Letter.number) (c.items_tell.ensures has rules judged c.args.flat.now (map g.L.Letter.number c.args.line.now) lowered letters))
+    (subst (λ n. Holds c.args.flat.now (map g.L.Letter.number c.args.line.now) n (at c.args.flat.now.whole 1) 0 ↔ RuleDerives (has g.L.Letter.ALPHABET) rules judged (map g.L.Letter.number c.args.line.now))
+    (length-map c.args.line.now g.L.Letter.number) (c.items_tell.ensures (has g.L.Letter.ALPHABET) rules judged c.args.flat.now (map g.L.Letter.number c.args.line.now) lowered c.values_are_letters.ensures))

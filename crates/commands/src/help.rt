@@ -1,0 +1,38 @@
+//! What the programs say of themselves and of their arguments.
+
+/// What `pegi` does, in a line.
+pub const PEGI: &str =
+    "Runs a grammar in the syntax of peg(1) on standard input and prints its actions in order";
+
+/// What `abnfi` does, in a line.
+pub const ABNFI: &str =
+    "Judges each line of standard input by an ABNF grammar (RFC 5234, RFC 7405): yes or no";
+
+/// What `-m` says, with both programs.
+pub const MODE: &str = "What is done with the grammar";
+
+/// What `-l` says, with `pegi`.
+pub const PEGI_LIMIT: &str = "How many bytes a unit may look at, from 1 to 16777216";
+
+/// What `-l` says, with `abnfi`.
+pub const ABNFI_LIMIT: &str = "How many bytes a line may have, from 1 to 16777216";
+
+/// What `-s` says, with `pegi`.
+pub const PEGI_START: &str = "The start rule [default: the first rule]";
+
+/// What `-s` says, with `abnfi`.
+pub const ABNFI_START: &str = "The judged rule [default: the first rule]";
+
+/// What `-r` says.
+pub const RAW: &str = "Print actions neither trimmed nor each on a line of its own";
+
+/// What is said of the grammar's file, with both programs.
+pub const GRAMMAR: &str = "The file of the grammar, at most 1048576 bytes";
+
+/// The end of the help of `pegi`.
+pub const AFTER_PEGI: &str =
+    "Exit status:\n  0  all input was taken, or nothing was refused\n  1  no match at some byte\n  2  the grammar or the arguments are refused\n  3  a unit is longer than N bytes\n  4  a read or write error, or the grammar cannot be read\n  5  out of memory\n\nExample:\n  pegi username.peg < letter.txt";
+
+/// The end of the help of `abnfi`.
+pub const AFTER_ABNFI: &str =
+    "Exit status:\n  0  all lines are yes, or nothing was refused\n  1  some line is no\n  2  the grammar or the arguments are refused\n  3  a line is longer than N bytes\n  4  a read or write error, or the grammar cannot be read\n  5  out of memory\n\nExample:\n  abnfi date.abnf < dates.txt";

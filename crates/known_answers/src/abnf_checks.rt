@@ -1,0 +1,158 @@
+//! The checks of whole texts: their notes, the grammars by which lines can be judged, and their rules that derive the empty string.
+use abnfcheck::{SoundAbnf, check_abnf, derivation_is_decided, one_list_of_abnf_notes};
+use abnfread::read_abnf;
+use ruletable::{Note, NoteKind};
+use std::alloc::Global;
+use std::test::Fail;
+
+// A mark for each kind of note.
+fn mark_of(kind: NoteKind) -> u8 {
+    match kind {
+        NoteKind::Redefined => b'=',
+        NoteKind::ExtendedEarly => b'/',
+        NoteKind::Undefined => b'?',
+        NoteKind::Prose => b'<',
+        NoteKind::Unused => b'-',
+        NoteKind::LeftRecursion | NoteKind::Loop => b'!',
+    }
+}
+
+// The notes as one text: of each the mark of its kind and its name, and a space.
+fn text_of(alloc: Global, notes: &[Note]) -> Result<Vec<u8>, Fail> {
+    let mut text = Vec::new(alloc);
+    for note in notes {
+        text.push(mark_of(note.kind))?;
+        text.extend_from_slice(&note.name)?;
+        text.push(b' ')?;
+    }
+    Ok(text)
+}
+
+// A text, the name of the rule to judge by, the notes, and the name of the judged rule where the grammar is sound.
+type Row = (
+    &'static [u8],
+    Option<&'static str>,
+    &'static [u8],
+    Option<&'static [u8]>,
+);
+
+static ROWS: [Row; 24] = [
+    (b"a = \"x\"", None, b"", Some(b"a")),
+    // prose refuses only if the judged rule reaches it
+    (b"a = <any text> / b\nb = \"x\"", None, b"<a ", None),
+    (
+        b"a = <any text> / b\nb = \"x\"",
+        Some("b"),
+        b"<a -a ",
+        Some(b"b"),
+    ),
+    (
+        b"a = \"x\"\nb = [2*(\"y\" <p>)]\nc = b",
+        None,
+        b"<b -c ",
+        Some(b"a"),
+    ),
+    // so does a name without a rule; it is spelled as its first use does
+    (b"a = \"x\"\nb = c", None, b"?c -b ", Some(b"a")),
+    (b"a = b\nb = *(\"x\" / Foo) FOO / foO", None, b"?Foo ", None),
+    // a definition by `=/` that begins a rule never refuses
+    (b"x =/ \"a\"", None, b"/x ", Some(b"x")),
+    (
+        b"a = DiGiT\nFoo =/ \"x\"\nfOO =/ \"y\"",
+        None,
+        b"/Foo -Foo ",
+        Some(b"a"),
+    ),
+    // a definition again always does, once a rule, spelled as the first
+    (b"a = \"x\"\na = \"y\"\nA = \"z\"", None, b"=a ", None),
+    (b"a = \"x\"\nBb = \"y\"\nBB = c", None, b"=Bb -Bb ", None),
+    (b"a = b\nb =/ \"x\"\nb = \"y\"", None, b"=b /b ", None),
+    // core rules that the file replaces, extends, or reaches through others
+    (b"n = 1*DIGIT\nDIGIT = \"7\"", None, b"", Some(b"n")),
+    (b"n = 1*DIGIT\ndigit =/ \"x\"", None, b"", Some(b"n")),
+    (b"a = LWSP\nWSP = \"_\"", None, b"", Some(b"a")),
+    (b"a = LWSP\nWSP = <p>", None, b"<WSP ", None),
+    (b"a = \"x\"\nWSP = <p>", None, b"<WSP ", Some(b"a")),
+    (b"a = \"x\"\nBIT = \"2\"", None, b"-BIT ", Some(b"a")),
+    // the rule that is judged: a core rule, a rule of the file in another case, no rule
+    (b"a = \"x\"", Some("digit"), b"-a ", Some(b"DIGIT")),
+    (b"a = \"x\"\nBc = a", Some("bC"), b"", Some(b"Bc")),
+    (b"s = u", Some("T"), b"?T ?u -s ", None),
+    // a rule that only its own body uses, and cycles
+    (b"a = \"x\"\nb = [b]", None, b"", Some(b"a")),
+    (b"a = b\nb = a", None, b"", Some(b"a")),
+    (b"a = <>", None, b"<a ", None),
+    // all kinds at once
+    (
+        b"a = \"x\" / u\nA = \"y\"\nb =/ <p>\nc = V / U / b d\nd = \"z\"\nd = \"t\"\ne =/ <q>",
+        None,
+        b"=a =d /b /e ?u ?V <b <e -c -e ",
+        None,
+    ),
+];
+
+#[test]
+fn notes_in_order(rt: HostRuntime) -> Result<(), Fail> {
+    for (text, rule, want, judged) in &ROWS {
+        let checked = check_abnf(rt.alloc(), read_abnf(rt.alloc(), text)?, *rule)?;
+        let notes = text_of(rt.alloc(), &checked.notes)?;
+        assert!(rt; notes.as_slice() == *want, "the notes on {text:?}");
+        assert!(rt;
+            checked.sound.is_some() == judged.is_some(),
+            "whether {text:?} is sound"
+        );
+        if let Some(sound) = &checked.sound {
+            let name = sound.rules().name(sound.judged());
+            assert!(rt; *judged == Some(name), "the judged rule of {text:?}");
+        }
+    }
+    Ok(())
+}
+
+// The sound grammar of a text.
+fn sound_of(alloc: Global, text: &[u8]) -> Result<SoundAbnf, Fail> {
+    let checked = check_abnf(alloc, read_abnf(alloc, text)?, None)?;
+    Ok(checked.sound.ok_or("refused")?)
+}
+
+// Texts, and whether their first rule derives the empty string.
+static NULLABLE: [(&[u8], bool); 18] = [
+    (b"s = \"\"", true),
+    (b"s = \"a\"", false),
+    (b"s = %x0", false),
+    (b"s = %x100 / %x110000", false),
+    (b"s = 1%x30-39 / *DIGIT", true),
+    (b"s = 1*DIGIT", false),
+    (b"s = 0\"a\"", true),
+    (b"s = 2*3[\"a\"]", true),
+    (b"s = 3*2[\"a\"]", false),
+    (b"s = 3*2e\ne = \"\"", false),
+    (b"s = 0e\ne = e", true),
+    (b"s = a b\na = \"\"\nb = [\"x\"]", true),
+    (b"s = a b\na = \"\"\nb = \"x\"", false),
+    (b"s = \"x\" / a\na = *\"x\"", true),
+    (b"s = s", false),
+    (b"s = a\na = b\nb = a / \"\"", true),
+    (b"s = LWSP", true),
+    (b"s = WSP / %x5-1", false),
+];
+
+#[test]
+fn empty_strings(rt: HostRuntime) -> Result<(), Fail> {
+    for (text, null) in &NULLABLE {
+        let sound = sound_of(rt.alloc(), text)?;
+        if sound.rules().len() > 0 {
+            assert!(rt;
+                sound.nullable(0) == *null,
+                "whether {text:?} derives the empty string"
+            );
+        }
+    }
+    Ok(())
+}
+
+#[test]
+fn laws() {
+    derivation_is_decided();
+    one_list_of_abnf_notes();
+}

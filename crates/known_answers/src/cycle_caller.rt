@@ -1,0 +1,17 @@
+//! A caller: what it can prove from the contract of `on_cycle` alone.
+ghost use Rattle.std.specs.Prelude.{◌≡◌, ◌↔◌, ◌<◌, Bool, length, IfOk};
+ghost use Rattle.leastset.specs.Leads.{Leads};
+ghost use Rattle.leastset.specs.StepRows.{slices_of, AreStepsWithin};
+
+use leastset::on_cycle;
+use std::alloc::{AllocError, Global};
+
+/// Returns whether a chain of at least one step leads from `n` back to `n`.
+pub fn comes_back(alloc: Global, steps: &[&[usize]], n: usize) -> Result<bool, AllocError>
+    requires within { AreStepsWithin (slices_of steps.now) }
+    requires n { n < length steps.now }
+    ensures { IfOk result (λ back. (back ≡ Bool.true) ↔ Leads (slices_of steps.now) n n) }
+{
+    let found = on_cycle(alloc, steps)?;
+    Ok(found.marks[n])
+}

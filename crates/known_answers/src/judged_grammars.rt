@@ -1,0 +1,229 @@
+//! Lines judged by small grammars, with answers found by hand.
+use abnfread::{core_rules, read_abnf};
+use earley::{Chart, judge};
+use flatgrammar::{Flat, Node, items_at_most, items_tell, lower_rules};
+use letters::Letter;
+use ruletable::Memory;
+use std::alloc::Global;
+use std::test::Fail;
+
+// Whether each line is judged as it says, by one chart.
+fn are_judged(alloc: Global, flat: &Flat, lines: &[(&str, bool)]) -> Result<bool, Memory> {
+    let mut chart = Chart::new(alloc);
+    for row in lines {
+        if judge(&mut chart, flat, row.0.as_bytes())? != row.1 {
+            return Ok(false);
+        }
+    }
+    Ok(true)
+}
+
+// The grammar of a text, whose first rule is judged.
+fn grammar(alloc: Global, text: &str) -> Result<Flat, Memory> {
+    let Ok(abnf) = read_abnf(alloc, text.as_bytes()) else {
+        return Err(Memory);
+    };
+    if abnf.rules.is_empty() {
+        return Err(Memory);
+    }
+    let flat = lower_rules(alloc, &abnf.rules, 0)?;
+    Ok(flat)
+}
+
+// Grammars with core rules written out, and lines with their answers.
+static ROWS: &[(&str, &[(&str, bool)])] = &[
+    (
+        "word = 1*ALPHA\nALPHA = %x41-5A / %x61-7A\n",
+        &[("ab", true), ("A1", false), ("", false), ("Z", true)],
+    ),
+    (
+        "s = s s / \"a\" / \"\"\n",
+        &[("aaa", true), ("", true), ("b", false)],
+    ),
+    (
+        "k = %s\"Ab\"\n  / \"cd\"\nK =/ 2*3%x78\n",
+        &[
+            ("Ab", true),
+            ("ab", false),
+            ("CD", true),
+            ("xx", true),
+            ("xxxx", false),
+        ],
+    ),
+    (
+        "  s = \"a\"\n     / t\n  t = \"b\"\n",
+        &[("B", true), ("ab", false)],
+    ),
+    (
+        "n = 1*DIGIT\nDIGIT = \"7\"\n",
+        &[("77", true), ("1", false)],
+    ),
+    (
+        "s = %x100 / 3*2\"a\" / \"b\"\n",
+        &[("aa", false), ("b", true)],
+    ),
+    (
+        "a = LWSP\nWSP = \"_\"\nLWSP = *(WSP / CRLF WSP)\nCRLF = %x0D %x0A\n",
+        &[("_", true), (" ", false)],
+    ),
+    (
+        "s = a a a \"x\"\na = [\"x\"]\n",
+        &[("x", true), ("", false), ("xxxx", true), ("xxxxx", false)],
+    ),
+    (
+        "a = [b] [b] [b]\nb = \"b\"\n",
+        &[("", true), ("b", true), ("bbb", true), ("bbbb", false)],
+    ),
+    ("a = 0\"x\"\n", &[("", true), ("x", false)]),
+    ("a = \"a\" a / \"a\"\n", &[("aaaa", true), ("aaab", false)]),
+    // names alone
+    ("a = a\n", &[("", false), ("x", false)]),
+    ("a = b\nb = A\n", &[("", false), ("x", false)]),
+    // a name that no rule defines, and prose
+    ("a = c\n", &[("", false), ("c", false)]),
+    ("a = <any>\n", &[("", false), ("any", false)]),
+    // repeats and options
+    (
+        "a = *(*\"x\")\n",
+        &[("", true), ("xx", true), ("xy", false)],
+    ),
+    (
+        "a = 2*3[\"x\"]\n",
+        &[("", true), ("xXx", true), ("xxxx", false)],
+    ),
+    (
+        "a = 2*3\"x\"\n",
+        &[("x", false), ("xx", true), ("xxx", true), ("xxxx", false)],
+    ),
+    (
+        "a = 3*2\"x\"\n",
+        &[("", false), ("xx", false), ("xxx", false)],
+    ),
+    (
+        "a = 1*\"x\"\n",
+        &[("", false), ("x", true), ("xxxxx", true)],
+    ),
+    // nullable members
+    (
+        "a = 0\"x\" b\nb = [a] \"y\"\n",
+        &[("y", true), ("yy", true), ("", false)],
+    ),
+    (
+        "a = b b \"x\"\nb = [\"x\"]\n",
+        &[("x", true), ("", false), ("xxx", true), ("xxxx", false)],
+    ),
+    (
+        "a = b \"x\" / \"x\"\nb = [\"c\"] a\n",
+        &[("x", true), ("cxx", true), ("ccxxx", true), ("cx", false)],
+    ),
+    // texts and values
+    (
+        "a = %s\"Ab\"\n",
+        &[("Ab", true), ("ab", false), ("A", false)],
+    ),
+    (
+        "a = %x61.100 / %x61-63\n",
+        &[("a", true), ("c", true), ("d", false), ("ab", false)],
+    ),
+];
+
+#[test]
+fn answers_of_grammars(rt: HostRuntime) -> Result<(), Fail> {
+    for row in ROWS {
+        let flat = grammar(rt.alloc(), row.0)?;
+        assert!(rt; are_judged(rt.alloc(), &flat, row.1)?, "{}", row.0);
+    }
+    Ok(())
+}
+
+// The bytes that each core rule derives alone, from each low one to the high one beside it.
+static CORE: &[&[(u8, u8)]] = &[
+    &[(0x41, 0x5a), (0x61, 0x7a)],
+    &[(0x30, 0x31)],
+    &[(0x01, 0x7f)],
+    &[(0x0d, 0x0d)],
+    &[],
+    &[(0x00, 0x1f), (0x7f, 0x7f)],
+    &[(0x30, 0x39)],
+    &[(0x22, 0x22)],
+    &[(0x30, 0x39), (0x41, 0x46), (0x61, 0x66)],
+    &[(0x09, 0x09)],
+    &[(0x0a, 0x0a)],
+    &[(0x09, 0x09), (0x20, 0x20)],
+    &[(0x00, 0xff)],
+    &[(0x20, 0x20)],
+    &[(0x21, 0x7e)],
+    &[(0x09, 0x09), (0x20, 0x20)],
+];
+
+fn is_in(ranges: &[(u8, u8)], byte: u8) -> bool {
+    ranges
+        .iter()
+        .any(|range| range.0 <= byte && byte <= range.1)
+}
+
+#[test]
+fn core_rules_on_single_bytes(rt: HostRuntime) -> Result<(), Fail> {
+    let core = core_rules(rt.alloc())?;
+    assert_eq!(rt; core.len(), CORE.len());
+    let mut chart = Chart::new(rt.alloc());
+    for id in 0..core.len() {
+        let flat = lower_rules(rt.alloc(), &core, id)?;
+        let ranges = CORE.get(id).copied().unwrap_or(&[]);
+        for byte in 0..=255u8 {
+            assert_eq!(rt;
+                judge(&mut chart, &flat, &[byte])?,
+                is_in(ranges, byte),
+                "{id} {byte}"
+            );
+        }
+    }
+    Ok(())
+}
+
+// A rule that doubles itself.
+const DOUBLES: &str = "a = a a / \"a\" / \"\"\n";
+
+#[test]
+fn sets_are_bounded(rt: HostRuntime) -> Result<(), Fail> {
+    let flat = grammar(rt.alloc(), DOUBLES)?;
+    let mut chart = Chart::new(rt.alloc());
+    assert!(rt; judge(&mut chart, &flat, b"aaa".as_slice())?);
+    for j in 0..4 {
+        let items = chart.items(j);
+        assert!(rt; 0 < items && items <= 14 * (j + 1));
+    }
+    assert_eq!(rt; chart.items(4), 0);
+    items_tell();
+    items_at_most();
+    Ok(())
+}
+
+#[test]
+fn nodes_of_a_grammar(rt: HostRuntime) -> Result<(), Fail> {
+    // the operand's name has no root but the repetition
+    let flat = grammar(rt.alloc(), "a = *b\nb = a\n")?;
+    assert_eq!(rt; flat.nodes(), 4);
+    assert_eq!(rt; flat.whole(), 3);
+    assert_eq!(rt; flat.root(0), Some(1));
+    assert_eq!(rt; flat.root(2), Some(1));
+    assert!(rt; flat.is_nullable(0) && flat.is_nullable(1));
+    if flat.nodes() > 0 {
+        assert!(rt; matches!(flat.node(0), Node::Name(1)));
+    }
+    assert_eq!(rt; 65u8.value(), 65);
+    Ok(())
+}
+
+#[test]
+fn one_chart_for_many_lines(rt: HostRuntime) -> Result<(), Fail> {
+    let flat = grammar(rt.alloc(), DOUBLES)?;
+    let mut chart = Chart::new(rt.alloc());
+    let line = b"aaaaaaa";
+    for n in 0..1000 {
+        let end = n % 8;
+        assert!(rt; judge(&mut chart, &flat, &line[..end])?);
+        assert_eq!(rt; chart.items(end + 1), 0);
+    }
+    Ok(())
+}
