@@ -7,8 +7,8 @@ use Rattle.pegread.specs.Views.{rules_of}
 use Rattle.gramcheck.specs.Grammar.{Grammar, IsSoundGrammar}
 use Rattle.gramcheck.specs.Outcome.{Outcome, Takes, Event}
 use Rattle.gramcheck.specs.Nodes.{shapes_of}
-use Rattle.gramcheck.proofs.Ending.{has_of_start}
-use Rattle.gramcheck.proofs.Starting.{same_of_start, rises_of_start, grows_of_start, shrinks_of_start}
+use Rattle.gramcheck.proofs.SomeOutcomeLemmas.{has_of_start}
+use Rattle.gramcheck.proofs.StartRuleLemmas.{same_of_start, rises_of_start, grows_of_start, shrinks_of_start}
 use Rattle.pegmatch.specs.Answers.{StartGives, WasEnough}
 use Rattle.pegmatch.specs.Text.{text_of}
 use Rattle.gramtools.proofs.LookedLemmas.{looks_of_start}
