@@ -4,18 +4,11 @@
 
 all: programs example
 
-# Proves the libraries that the programs stand on, builds the programs, and puts them into bin/.
+# Proves the crates that the programs stand on, builds the programs, and puts them into bin/.
 programs:
-	@python3 -B scripts/prove.py pegi
-	@echo "pegi: proving and building"
-	@cd crates/pegi && rt run -- ../../examples/username/username.peg \
-	    < ../../examples/username/letter.txt > out.log 2>&1 \
-	    || { cat out.log; exit 1; }
-	@rm -f crates/pegi/out.log
-	@mkdir -p bin
-	@cp crates/pegi/out/pegi bin/pegi
+	@python3 -B scripts/prove.py pegi abnfi
 
-# The one rule of the peg(1) manual that replaces `username`.
+# A run of each program: the one rule of the peg(1) manual that replaces `username`, and a line of letters.
 example: programs
 	@echo
 	@echo '$$ cat examples/username/username.peg'
@@ -23,18 +16,24 @@ example: programs
 	@echo
 	@echo '$$ bin/pegi examples/username/username.peg < examples/username/letter.txt'
 	@bin/pegi examples/username/username.peg < examples/username/letter.txt
+	@echo
+	@echo '$$ cat crates/abnfi/data/word.abnf'
+	@cat crates/abnfi/data/word.abnf
+	@echo
+	@echo '$$ echo word | bin/abnfi crates/abnfi/data/word.abnf'
+	@echo word | bin/abnfi crates/abnfi/data/word.abnf
 
 # Each folder of examples/, compared with what it must print. The gate's tests hold the same texts.
 examples: programs
 	@python3 scripts/example_tests.py check
 	@sh scripts/run_examples.sh
 
-# The program and its manual page, below PREFIX.
+# The programs and their manual pages, below PREFIX.
 PREFIX ?= /usr/local
 install: programs
 	install -d $(DESTDIR)$(PREFIX)/bin $(DESTDIR)$(PREFIX)/share/man/man1
-	install -m 755 bin/pegi $(DESTDIR)$(PREFIX)/bin/pegi
-	install -m 644 man/pegi.1 $(DESTDIR)$(PREFIX)/share/man/man1/pegi.1
+	install -m 755 bin/pegi bin/abnfi $(DESTDIR)$(PREFIX)/bin
+	install -m 644 man/pegi.1 man/abnfi.1 $(DESTDIR)$(PREFIX)/share/man/man1
 
 # The gate: every proof from nothing, the edits that the prover must refuse, tests and programs.
 test:

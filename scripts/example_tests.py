@@ -1,14 +1,18 @@
 #!/usr/bin/env python3
-"""Prints crates/known_runs/src/tests/examples.rt: a test of the folders of examples/, which holds their texts word for word.
+"""Writes the tests of the folders of examples/, which hold their texts word for word: crates/known_runs/src/tests/examples.rt for
+those of pegi and crates/known_runs/src/abnf_examples.rt for those of abnfi.
 
-With the word `check` it compares the file with what it would print, and prints nothing.
+With the word `check` it compares the files with what it would write, and writes nothing.
 """
 import pathlib
+import re
 import sys
 
 top = pathlib.Path(__file__).resolve().parent.parent
-file = top / "crates/known_runs/src/tests/examples.rt"
+peg_file = top / "crates/known_runs/src/tests/examples.rt"
+abnf_file = top / "crates/known_runs/src/abnf_examples.rt"
 inputs = {"calculator": "input.txt", "csv": "input.txt", "json": "input.txt", "peg": "peg.peg", "username": "letter.txt"}
+abnf_names = ["abnf", "rfc3339", "rfc3986", "rfc5322", "rfc8259"]
 
 HEAD = '''//! The folders of `examples/`, word for word: `scripts/example_tests.py` wrote this file.
 
@@ -34,6 +38,25 @@ fn examples_print_what_they_must(rt: HostRuntime) {{
 {calls}}}
 '''
 
+ABNF_HEAD = '''//! The folders of `examples/` of the ABNF tool, word for word: `scripts/example_tests.py` wrote this file.
+
+use crate::abnf_runs::{AbnfRow, check_row};
+use gramtools::{DEFAULT_LIMIT, Status};
+'''
+
+ABNF_TEST = '''
+#[test]
+fn abnf_examples_answer_what_they_must(rt: HostRuntime) {{
+    let rows: [AbnfRow; {count}] = [
+{rows}    ];
+    for row in &rows {{
+        for step in [3, 4096] {{
+            check_row(&rt, *row, step);
+        }}
+    }}
+}}
+'''
+
 
 def constant(name, path):
     text = path.read_text()
@@ -48,7 +71,7 @@ def call(arguments):
     return line if len(line) <= 70 else "    check(\n" + "".join(f"        {it},\n" for it in arguments) + "    );\n"
 
 
-def whole():
+def peg_tests():
     parts, calls = [HEAD], []
     for name, given in inputs.items():
         folder, high = top / "examples" / name, name.upper()
@@ -62,6 +85,35 @@ def whole():
     return "".join(parts) + TEST.format(calls="".join(calls))
 
 
-if sys.argv[1:] == ["check"]:
-    sys.exit(0 if file.read_text() == whole() else f"{file.relative_to(top)} is not what scripts/example_tests.py prints")
-print(whole(), end="")
+def judged_rule(folder):
+    """Returns the rule that the folder's command names, as the source has it."""
+    named = re.search(r"-s (\S+)", (folder / "run.sh").read_text())
+    return f'Some("{named[1]}")' if named else "None"
+
+
+def abnf_tests():
+    parts, rows = [ABNF_HEAD], []
+    for name in abnf_names:
+        folder, high = top / "examples" / name, name.upper()
+        parts.append(constant(f"{high}_GRAMMAR", folder / f"{name}.abnf"))
+        parts.append(constant(f"{high}_LINES", folder / "lines.txt"))
+        parts.append(constant(f"{high}_PRINTED", folder / "printed.txt"))
+        told = 'b""'
+        if (folder / "told.txt").exists():
+            told = f"{high}_TOLD"
+            parts.append(constant(told, folder / "told.txt"))
+        status = "Status::NoMatch" if (folder / "status").exists() else "Status::Done"
+        fields = [f"{high}_GRAMMAR", judged_rule(folder), "DEFAULT_LIMIT", f"{high}_LINES", f"{high}_PRINTED", told, status, "0"]
+        rows.append("        (\n" + "".join(f"            {it},\n" for it in fields) + "        ),\n")
+    return "".join(parts) + ABNF_TEST.format(count=len(abnf_names), rows="".join(rows))
+
+
+def main(words):
+    for file, text in ((peg_file, peg_tests()), (abnf_file, abnf_tests())):
+        if words != ["check"]:
+            file.write_text(text)
+        elif not file.exists() or file.read_text() != text:
+            sys.exit(f"{file.relative_to(top)} is not what scripts/example_tests.py writes")
+
+
+main(sys.argv[1:])

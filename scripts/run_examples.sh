@@ -1,6 +1,7 @@
 #!/bin/sh
-# Runs each folder of examples/ by the command in its run.sh, with bin/pegi. It must print the folder's printed.txt, tell
-# nothing on the error output, and end with status 0. `make programs` builds bin/pegi.
+# Runs each folder of examples/ by the command in its run.sh, with bin/pegi and bin/abnfi. It must print the folder's
+# printed.txt, tell its told.txt on the error output, or nothing where there is none, and end with the status in its file
+# status, or else 0. `make programs` builds the programs; a folder whose program is not built is skipped.
 set -eu
 cd "$(dirname "$0")/.."
 made=$(mktemp -d)
@@ -9,11 +10,16 @@ PATH=$PWD/bin:$PATH
 
 for folder in examples/*/; do
     name=$(basename "$folder")
+    read -r program rest < "$folder/run.sh"
+    [ -x "bin/$program" ] || { echo "$name: $program: not built: skipped"; continue; }
     status=0
     (cd "$folder" && sh run.sh) > "$made/out" 2> "$made/err" || status=$?
-    cat "$made/err" >&2
-    [ "$status" = 0 ] || { echo "$name: status $status" >&2; exit 1; }
-    [ ! -s "$made/err" ] || { echo "$name: a message" >&2; exit 1; }
+    wanted=0
+    [ ! -f "$folder/status" ] || wanted=$(cat "$folder/status")
+    told=/dev/null
+    [ ! -f "$folder/told.txt" ] || told=$folder/told.txt
+    [ "$status" = "$wanted" ] || { cat "$made/err" >&2; echo "$name: status $status" >&2; exit 1; }
+    cmp "$made/err" "$told"
     cmp "$made/out" "$folder/printed.txt"
     echo "$name: as it must be"
 done

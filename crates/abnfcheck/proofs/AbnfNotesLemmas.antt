@@ -1,5 +1,5 @@
 -- What marks choose of a list, the notes that are made of it, and what refuses a grammar.
--- Serves: check_abnf (notes, sound), one_list_of_abnf_notes
+-- Serves: check_abnf (notes, sound), one_list_of_abnf_notes, one_statement_of_abnf
 use Rattle.std.proofs.Common.{◌≡◌, ◌↔◌, ℕ, zero, suc, ◌+◌, ◌<◌, ◌≤◌, ◌==◌, ◌⊎◌, inl, inr, ⊎_elim, Bool, true, false, not, ◌||◌, List, [], ◌∷◌, ◌++◌, length, map, take, drop, get_or, Option, Some, None, refl, sym, ◌∙◌, ap, subst, arith, add-one, append_assoc, append-nil, cond, drop-cons, length-append}
 use Rattle.std.specs.Prelude.{slice_get, slice_index_or, option_to_list, Contains}
 use Rattle.std.specs.List.{list_any}
@@ -280,7 +280,7 @@ pub judged_where : (count place id : ℕ) → id < count → IsIdAt count place 
 judged_where count place id lt at = ⊎_elim (λ low. low.1) (λ high. absurd (let is = high.1 in omega (arith, lt, is))) at
 
 -- there is at most one list of notes
-those_same : (P : ℕ → Type 0) {i : ℕ} {rules : List Rule} {a b : List (List ℕ)} → Those P i rules a → Those P i rules b → a ≡ b
+pub those_same : (P : ℕ → Type 0) {i : ℕ} {rules : List Rule} {a b : List (List ℕ)} → Those P i rules a → Those P i rules b → a ≡ b
 those_same P no_more no_more = refl
 those_same P (this_one {rule = rule} h d) (this_one g e) = ap (λ v. rule.name ∷ v) (those_same P d e)
 those_same P (this_one h d) (not_this g e) = absurd (g h)

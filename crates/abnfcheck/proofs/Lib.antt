@@ -1,4 +1,4 @@
-mod AbnfNotesLemmas
+pub mod AbnfNotesLemmas
 mod DerivesDecidedLemmas
 mod FiniteLeastLemmas
 mod GraphLemmas

@@ -1,8 +1,8 @@
 //! Judges the lines of its standard input by an ABNF grammar.
 #![tactic(auto)]
 
-use commands::{Program, abnfi_main, refuse_invalid_utf8};
 use abnfrun::{SourceOf, Status};
+use commands::{Program, abnfi_main, refuse_invalid_utf8};
 use ruletable::SinkOf;
 use std::io::{BufReader, BufWriter, ErrorKind};
 use std::process::ExitCode;

@@ -9,9 +9,10 @@ use Rattle.letters.specs.Letters.{has}
 use Rattle.letters.specs.Utf8Text.{Spells}
 use Rattle.letters.specs.declared.alphabet.Alphabet.{Alphabet}
 use Rattle.letters.specs.declared.alphabet.Alphabet.TheVariants.{Bytes, Utf8}
-use Rattle.lines.specs.InputLines.{LinesReply}
+use Rattle.lines.specs.InputLines.{Ends, Lines, LinesReply, place_taken}
 use Rattle.toolrun.specs.Input.{Input}
 use Rattle.toolrun.specs.Reply.{Reply}
+use Rattle.toolrun.specs.RunSteps.{Replies}
 use Rattle.toolrun.specs.declared.settings.Settings.{Settings}
 
 -- a grammar's text is refused: its fault is told, and nothing is taken
@@ -32,6 +33,11 @@ abbrev pub IsMember : Alphabet → List Rule → ℕ → List ℕ → Type 0
 IsMember Bytes rules judged line = RuleDerives (has Bytes) rules judged line
 IsMember Utf8 rules judged line = (points : List ℕ) × Spells points line × RuleDerives (has Utf8) rules judged points
 
--- each line of the input is judged by that rule
+-- each line of the input is judged by that rule, and no growth is refused
+abbrev pub JudgeReplies : List Rule → ℕ → Settings → Input → Reply → Type 0
+JudgeReplies rules judged settings input reply =
+    Replies (Lines (IsMember settings.letters rules judged) settings.limit input) (Ends (IsMember settings.letters rules judged) settings.limit input) (place_taken settings.limit input) reply
+
+-- each line of the input is judged by that rule, or the first ones where a growth is refused
 abbrev pub JudgeReply : List Rule → ℕ → Settings → Input → Reply → Type 0
 JudgeReply rules judged settings input reply = LinesReply (IsMember settings.letters rules judged) settings.limit input reply

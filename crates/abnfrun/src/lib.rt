@@ -4,10 +4,12 @@
 mod abnf_printing;
 mod abnf_run;
 mod abnf_task;
+mod laws;
 mod line_judge;
 
 pub use abnf_run::run_abnf;
 pub use feed::{Broken, Source, SourceOf};
+pub use laws::{one_reply_of_abnf, one_statement_of_abnf};
 pub use toolrun::{
     Alphabet, DEFAULT_LIMIT, MAX_LIMIT, Mode, Settings, Status, Stop, close_run, end_run,
 };

@@ -1,6 +1,6 @@
 -- What `found_at` says of the entries of a list.
 -- Serves: Cells::get, Cells::put, Desk::step.
-use Rattle.std.proofs.Common.{◌≡◌, ℕ, zero, suc, Bool, true, false, ◌&&◌, ◌==◌, if◌then◌else◌, List, [], ◌∷◌, Option, Some, None, refl, sym, ◌∙◌, ap}
+use Rattle.std.proofs.Common.{◌≡◌, ℕ, zero, suc, Bool, true, false, ◌&&◌, ◌==◌, if◌then◌else◌, List, [], ◌∷◌, ◌++◌, Option, Some, None, refl, ap}
 use Rattle.std.specs.Prelude.{slice_get}
 use Rattle.std.proofs.lemmas.Bool.{eqb-true, eq-eqb, and_parts, and_from}
 use Rattle.cells.specs.declared.cell.Found.{Found}
@@ -69,3 +69,14 @@ free_none es n p free = by (found_at es n p) refl
     by : (v : Option Found) → found_at es n p ≡ v → None ≡ v
     by None is = refl
     by (Some f) is = absurd (free f (found_holds es n p f is))
+
+-- a cell more, for a pair that had none
+pub found_at_end : (es : List Entry) (n p : ℕ) (f : Found) → found_at es n p ≡ None → found_at (es ++ record { node = n; place = p; found = f } ∷ []) n p ≡ Some f
+found_at_end [] n p f none = rw (own (record { node = n; place = p; found = f })) refl
+found_at_end (c ∷ es) n p f none = by (is_of c n p) none (found_at_end es n p f)
+  where
+    by : (v : Bool) → (if v then Some c.found else found_at es n p) ≡ None →
+        (found_at es n p ≡ None → found_at (es ++ record { node = n; place = p; found = f } ∷ []) n p ≡ Some f) →
+        (if v then Some c.found else found_at (es ++ record { node = n; place = p; found = f } ∷ []) n p) ≡ Some f
+    by true none rec = absurd (cc none)
+    by false none rec = rec none

@@ -1,16 +1,17 @@
 -- What holds of the fields after each change, and what a look-up says of the entries.
 -- Serves: Cells::get, Cells::put.
-use Rattle.std.proofs.Common.{◌≡◌, ℕ, ◌+◌, ◌<◌, ◌≤◌, ◌⊎◌, inl, inr, Bool, false, List, [], ◌∷◌, ◌++◌, length, set, take, Some, refl, ap, sym, ◌∙◌, arith, length-append, length-set, take_all}
+use Rattle.std.proofs.Common.{◌≡◌, ℕ, ◌+◌, ◌<◌, ◌≤◌, ◌⊎◌, inl, inr, List, [], ◌∷◌, ◌++◌, length, set, take, Some, None, refl, ap, sym, ◌∙◌, arith, length-append, length-set, take_all}
 use Rattle.std.proofs.lemmas.List.{length-map, map-append, take-append-le}
 use Rattle.std.proofs.lemmas.Bool.Decides.{nat_tests}
 use Rattle.std.specs.Prelude.{slice_get, option_map}
 use Rattle.std.proofs.lemmas.Option.{slice_get_within, slice_get-map}
 use Rattle.cells.specs.declared.cell.Cell.{Cell}
 use Rattle.cells.specs.declared.cell.Found.{Found}
-use Rattle.cells.specs.Entries.{Entry}
+use Rattle.cells.specs.Entries.{Entry, found_at, IsKnown}
 use Rattle.cells.specs.Kept.{Holds, IsFree, IsMap, IsKept, IsAt, IsNowhere, entry_of, entries_of, found_of}
 use Rattle.cells.specs.Links.{IsLast, AreLinked}
 use Rattle.cells.specs.Rows.{row_of, number_of, fold}
+use Rattle.cells.proofs.FoundAtLemmas.{found_at_end, free_none, held_found}
 use Rattle.cells.proofs.PushLemmas.{push_cases, mapped_from}
 use Rattle.cells.proofs.AreLinkedLemmas.{AreLinked-push, AreLinked-same}
 
@@ -75,50 +76,53 @@ IsMap-push xs e m free i j a b ha hb hn hp =
       ]
     ]
 
-pub IsKept-push : (stride : ℕ) (wide now_wide : Bool) (cells : List Cell) (rows : List ℕ) (c : Cell) (row : ℕ) → IsKept stride wide cells rows →
+pub IsKept-push : (stride mask : ℕ) (cells : List Cell) (rows : List ℕ) (c : Cell) (row : ℕ) → IsKept stride mask cells rows →
     0 < length rows → IsFree (entries_of cells) c.node c.place → (c.node < 4294967295) × (c.place < 4294967295) →
-    row ≡ row_of (length rows) stride c → IsLast (row_of (length rows) stride) cells (length cells) row c.link → length cells < 4294967294 →
-    (now_wide ≡ false → (wide ≡ false) × (number_of stride c.node c.place < length rows)) →
-    IsKept stride now_wide (cells ++ c ∷ []) (set rows row (length cells + 1))
-IsKept-push stride wide now_wide cells rows c row k some free small is last few now = record {
-  linked = rw (length-set rows row (length cells + 1), is) (AreLinked-push (row_of (length rows) stride) cells rows c k.linked (rw (← is) last));
+    row ≡ row_of (length rows) mask stride c → IsLast (row_of (length rows) mask stride) cells (length cells) row c.link → length cells < 4294967294 →
+    (mask ≡ 0 → number_of stride c.node c.place < length rows) → IsKept stride mask (cells ++ c ∷ []) (set rows row (length cells + 1))
+IsKept-push stride mask cells rows c row k some free small is last few low = record {
+  linked = rw (length-set rows row (length cells + 1), is) (AreLinked-push (row_of (length rows) mask stride) cells rows c k.linked (rw (← is) last));
   some = λ _. rw (length-set rows row (length cells + 1)) some;
+  masked = λ _. rw (length-set rows row (length cells + 1)) (k.masked some);
   map = rw (map-append entry_of cells (c ∷ [])) (IsMap-push (entries_of cells) (entry_of c) k.map free);
   narrow = λ i d h. elim (push_cases cells c i d h) [ inl g ↦ k.narrow i d g | inr q ↦ rw (← q.1) small ];
   within = λ w i d h. rw (length-set rows row (length cells + 1))
-      (elim (push_cases cells c i d h) [ inl g ↦ k.within (now w).0 i d g | inr q ↦ rw (← q.1) (now w).1 ]);
+      (elim (push_cases cells c i d h) [ inl g ↦ k.within w i d g | inr q ↦ rw (← q.1) (low w) ]);
   few = omega (arith, length-append cells (c ∷ []));
 }
 
-fold-below : (count x : ℕ) → x < count → fold count x ≡ x
+fold-below : (count mask x : ℕ) → x < count → fold count mask x ≡ x
 unfolding fold
-fold-below count x h = grind (arith, nat_tests)
+fold-below count mask x h = grind (arith, nat_tests)
 
--- more rows where no number is too great
-pub IsKept-more : (stride : ℕ) (cells : List Cell) (rows more : List ℕ) → IsKept stride false cells rows → IsKept stride false cells (rows ++ more)
-IsKept-more stride cells rows more k =
+-- more rows where no number is folded
+pub IsKept-more : (stride : ℕ) (cells : List Cell) (rows more : List ℕ) → ((b h : ℕ) → slice_get more b ≡ Some h → h ≡ 0) → IsKept stride 0 cells rows →
+    0 < length (rows ++ more) → IsKept stride 0 cells (rows ++ more)
+IsKept-more stride cells rows more none k some =
     let size : length (rows ++ more) ≡ length rows + length more = length-append rows more in
     record {
-      linked = AreLinked-same (row_of (length rows) stride) (row_of (length (rows ++ more)) stride) cells rows more
+      linked = AreLinked-same (row_of (length rows) 0 stride) (row_of (length (rows ++ more)) 0 stride) cells rows more
           (λ i c h. let w : number_of stride c.node c.place < length rows = k.within refl i c h in
-          fold-below (length (rows ++ more)) (number_of stride c.node c.place) (omega arith) ∙ sym (fold-below (length rows) (number_of stride c.node c.place) w))
-          (λ i c h. rw (fold-below (length rows) (number_of stride c.node c.place) (k.within refl i c h)) (k.within refl i c h))
+          fold-below (length (rows ++ more)) 0 (number_of stride c.node c.place) (omega arith) ∙ sym (fold-below (length rows) 0 (number_of stride c.node c.place) w))
+          (λ i c h. rw (fold-below (length rows) 0 (number_of stride c.node c.place) (k.within refl i c h)) (k.within refl i c h))
+          none
           k.linked;
-      some = λ h. let w : 0 < length rows = k.some h in omega arith;
+      some = λ _. some;
+      masked = λ _. some;
       map = k.map;
       narrow = k.narrow;
       within = λ _ i c h. let w : number_of stride c.node c.place < length rows = k.within refl i c h in omega arith;
       few = k.few;
     }
 
--- other links and rows
-pub IsKept-relinked : (stride : ℕ) (wide now_wide : Bool) (cells now_cells : List Cell) (rows now_rows : List ℕ) → IsKept stride wide cells rows →
-    AreLinked (row_of (length now_rows) stride) now_cells now_rows → entries_of now_cells ≡ entries_of cells → 0 < length now_rows →
-    (now_wide ≡ false → (i : ℕ) (c : Cell) → slice_get now_cells i ≡ Some c → number_of stride c.node c.place < length now_rows) →
-    IsKept stride now_wide now_cells now_rows
-IsKept-relinked stride wide now_wide cells now_cells rows now_rows k linked same some within = record {
+-- other links and rows, where numbers are folded
+pub IsKept-relinked : (stride mask now_mask : ℕ) (cells now_cells : List Cell) (rows now_rows : List ℕ) → IsKept stride mask cells rows →
+    AreLinked (row_of (length now_rows) now_mask stride) now_cells now_rows → entries_of now_cells ≡ entries_of cells → 0 < now_mask → now_mask < length now_rows →
+    IsKept stride now_mask now_cells now_rows
+IsKept-relinked stride mask now_mask cells now_cells rows now_rows k linked same some masked = record {
   linked = linked;
-  some = λ _. some;
+  some = λ _. omega arith;
+  masked = λ _. masked;
   map = rw same k.map;
   narrow = λ i c h.
       let b = mapped_from entry_of cells i (entry_of c) (ap (λ xs. slice_get xs i) (sym same) ∙ entry_at now_cells i c h) in
@@ -128,7 +132,7 @@ IsKept-relinked stride wide now_wide cells now_cells rows now_rows k linked same
       let s0 : b.0.node < 4294967295 = s.0 in
       let s1 : b.0.place < 4294967295 = s.1 in
       (omega arith, omega arith);
-  within = within;
+  within = λ z. absurd (omega arith);
   few =
       let f : length cells < 4294967295 = k.few in
       let e : length now_cells ≡ length cells = sym (length-map now_cells entry_of) ∙ ap length same ∙ length-map cells entry_of in
@@ -142,3 +146,16 @@ take-whole n xs ys h = take-append-le n xs ys (omega arith) ∙ take_all n xs (o
 pub free-is : (entries : List Entry) (e : Entry) (n p : ℕ) (o : Found) → e ≡ record { node = n; place = p; found = o } →
     IsFree entries n p → IsFree entries e.node e.place
 free-is entries e n p o h free = rw h free
+
+-- a pair that had a cell
+pub known_old : (cells : List Cell) (old : List Entry) (n p e : ℕ) (f : Found) → IsMap (entries_of cells) → entries_of cells ≡ old → IsAt cells n p e →
+    IsKnown old (entries_of cells) n p f (found_of e)
+known_old cells old n p e f m same at =
+    (sym (held_found (entries_of cells) n p (found_of e) (holds_at cells n p e at) (holds_only cells n p e m at)), inl same)
+
+-- a pair that has one since
+pub known_new : (old new : List Entry) (n p : ℕ) (f : Found) → IsFree old n p → new ≡ old ++ record { node = n; place = p; found = f } ∷ [] →
+    IsKnown old new n p f f
+known_new old new n p f free is =
+    let none : found_at old n p ≡ None = sym (free_none old n p free) in
+    (rw is (found_at_end old n p f none), inr (none, refl, is))

@@ -1,6 +1,6 @@
 -- Elements of a list that grows at its end.
 -- Serves: Cells::put.
-use Rattle.std.proofs.Common.{◌≡◌, ℕ, zero, suc, ◌<◌, List, [], ◌∷◌, ◌++◌, length, map, set, Some, refl, ap, ⊎_elim, inl, inr, ◌⊎◌, arith}
+use Rattle.std.proofs.Common.{◌≡◌, ℕ, zero, suc, ◌≤◌, List, [], ◌∷◌, ◌++◌, length, map, set, Some, refl, ap, ⊎_elim, inl, inr, ◌⊎◌, arith}
 use Rattle.std.specs.Prelude.{slice_get}
 
 module _ {A : Type 0} where
@@ -28,10 +28,11 @@ module _ {A : Type 0} where
   set_cases (y ∷ xs) (suc i) (suc j) v x h =
       ⊎_elim (λ k. inl (ap (λ n. suc n) k.0, k.1)) (λ k. inr ((λ e. k.0 (omega arith)), k.1)) (set_cases xs i j v x h)
 
-  pub front_of : (xs ys : List A) (i : ℕ) (x : A) → i < length xs → slice_get (xs ++ ys) i ≡ Some x → slice_get xs i ≡ Some x
-  front_of [] ys i x w h = absurd (omega arith)
-  front_of (y ∷ xs) ys zero x w h = h
-  front_of (y ∷ xs) ys (suc i) x w h = front_of xs ys i x (omega arith) h
+  pub more_cases : (xs ys : List A) (i : ℕ) (x : A) → slice_get (xs ++ ys) i ≡ Some x →
+      (slice_get xs i ≡ Some x) ⊎ ((length xs ≤ i) × ((j : ℕ) × (slice_get ys j ≡ Some x)))
+  more_cases [] ys i x h = inr (omega arith, (i, h))
+  more_cases (y ∷ xs) ys zero x h = inl h
+  more_cases (y ∷ xs) ys (suc i) x h = ⊎_elim (λ k. inl k) (λ k. inr (let w : length xs ≤ i = k.0 in omega arith, k.1)) (more_cases xs ys i x h)
 
 -- an element of a mapped list is made of the list's own
 pub mapped_from : {A B : Type 0} (f : A → B) (xs : List A) (i : ℕ) (b : B) → slice_get (map f xs) i ≡ Some b → (a : A) × (slice_get xs i ≡ Some a) × (f a ≡ b)

@@ -1,5 +1,5 @@
 -- The cells as callers see them: a list of entries, one for each pair of a node and a place that has a cell.
-use Rattle.std.specs.Prelude.{◌≡◌, ℕ, ◌&&◌, ◌==◌, if◌then◌else◌, List, [], ◌∷◌, Option, Some, None}
+use Rattle.std.specs.Prelude.{◌≡◌, ◌⊎◌, ℕ, ◌&&◌, ◌==◌, if◌then◌else◌, List, [], ◌∷◌, ◌++◌, Option, Some, None}
 use Rattle.cells.specs.declared.cell.Found.{Found}
 
 pub record Entry : Type 0 where
@@ -16,3 +16,8 @@ found_at (c ∷ cells) n p = if (c.node == n) && (c.place == p) then Some c.foun
 abbrev pub AreDifferent : List Entry → Type 0
 AreDifferent [] = Unit {0}
 AreDifferent (c ∷ cells) = (found_at cells c.node c.place ≡ None) × AreDifferent cells
+
+-- the pair's cell holds f: it had it, or has it since, as the last one
+abbrev pub IsKnown : List Entry → List Entry → ℕ → ℕ → Found → Found → Type 0
+IsKnown old new n p found f = (found_at new n p ≡ Some f) × ((new ≡ old) ⊎ ((found_at old n p ≡ None) × (f ≡ found) ×
+    (new ≡ old ++ record { node = n; place = p; found = found } ∷ [])))

@@ -1,10 +1,11 @@
 //! The cells as a finite map.
-ghost use Rattle.std.specs.Prelude.{◌≡◌, ◌<◌, ◌≤◌, ◌++◌, ◌∷◌, [], length, false, None, IfOk, IfSome, OnOk, OnErr};
-ghost use Rattle.cells.specs.Entries.{found_at};
-ghost use Rattle.cells.specs.Kept.{IsFree, IsKept, entry_of, entries_of};
+ghost use Rattle.std.specs.Prelude.{◌≡◌, ◌<◌, ◌≤◌, ◌++◌, ◌∷◌, ◌^◌, [], length, false, None, IfOk, IfSome, OnOk, OnErr};
+ghost use Rattle.cells.specs.Entries.{found_at, IsKnown};
+ghost use Rattle.cells.specs.Kept.{IsFree, IsKept, entry_of, entries_of, found_of};
+ghost use Rattle.cells.specs.Rows.{number_of as number};
 
 use crate::cell::{Cell, Found, end_of, found_of_end, narrow};
-use crate::link::{find, last_of, relink};
+use crate::link::{find, last_of, relink, walk};
 use crate::rows::{fold, number_of};
 use ruletable::Memory;
 use std::alloc::Global;
@@ -15,17 +16,17 @@ const FIRST: usize = 256;
 
 /// The cells of one unit, seen as the list of their entries in the order in which they were put.
 ///
-/// A cell takes 16 bytes, and each row takes 4 more. Numbers from 4,294,967,295 on, and more cells than that, are refused as want of
+/// A cell takes 16 bytes, and each row takes 4 more; 32 neighbouring nodes share a row of each place. Numbers from 4,294,967,295 on, and more cells than that, are refused as want of
 /// memory.
 #[derive(Drop)]
 pub struct Cells {
     cells: Vec<Cell>,
-    // of each row one more than the index of its last cell; any number where it has none
+    // of each row one more than the index of its last cell, or 0
     rows: Vec<u32>,
     // how many rows a place has
     stride: u32,
-    // whether the number of some cell may be no row, so that it stands in another one
-    wide: bool,
+    // the bits of a number that is no row which name its row; 0 where each number is a row
+    mask: usize,
 }
 
 impl Model for Cells {
@@ -37,13 +38,13 @@ impl Model for Cells {
 
     ghost view = { λ m. entries_of m.cells.items };
 
-    ghost invariant = { λ m. IsKept m.stride m.wide m.cells.items m.rows.items };
+    ghost invariant = { λ m. IsKept m.stride m.mask m.cells.items m.rows.items };
 }
 
 // Twice so many rows, and some at first.
 fn twice(count: usize) -> usize
     ensures more { count ≤ result }
-    ensures some { 0 < result }
+    ensures some { FIRST ≤ result }
 {
     if count < FIRST {
         FIRST
@@ -52,50 +53,84 @@ fn twice(count: usize) -> usize
     }
 }
 
-// Doubles the rows.
-fn grow(cells: &mut [Cell], rows: &mut Vec<u32>, stride: u32, wide: bool) -> Result<bool, Memory>
-    requires { IsKept stride wide cells.old rows.old.items }
-    ensures kept { IfOk result (λ now_wide. IsKept stride now_wide cells.new rows.new.items) }
+// Rows for that number and some behind it.
+fn beyond(count: usize, number: usize) -> usize
+    requires { number < 2 ^ 62 }
+    ensures more { count ≤ result }
+    ensures within { number < result }
+{
+    count.max(number + number / 8 + 16)
+}
+
+// The greatest number of ones below so many rows.
+fn mask_below(count: usize) -> usize
+    requires { FIRST ≤ count }
+    ensures some { 0 < result }
+    ensures within { result < count }
+{
+    let mut mask = FIRST - 1;
+    while mask < count / 2 {
+        mask = mask + mask + 1;
+    }
+    mask
+}
+
+// Makes more rows. Where the number is not far beyond what the cells need, there are rows up to it; else numbers are
+// folded. The result is the mask.
+fn grow(
+    cells: &mut [Cell],
+    rows: &mut Vec<u32>,
+    stride: u32,
+    mask: usize,
+    number: usize,
+) -> Result<usize, Memory>
+    requires { IsKept stride mask cells.old rows.old.items }
+    ensures kept { IfOk result (λ now. IsKept stride now cells.new rows.new.items) }
     ensures same { entries_of cells.new ≡ entries_of cells.old }
     ensures some { OnOk result (0 < length rows.new.items) }
+    ensures within { IfOk result (λ now. now ≡ 0 → number < length rows.new.items) }
     ensures unchanged { OnErr result ((cells.new ≡ cells.old) × (rows.new.items ≡ rows.old.items)) }
 {
-    rows.resize(twice(rows.len()), 0)?;
-    if wide {
-        Ok(relink(cells, rows, stride))
-    } else {
-        Ok(false)
+    if mask == 0 && number / 4 <= cells.len() + FIRST {
+        rows.resize(beyond(rows.len(), number), 0)?;
+        return Ok(0);
     }
+    rows.resize(twice(rows.len()), 0)?;
+    let folded = mask_below(rows.len());
+    relink(cells, rows, stride, folded);
+    Ok(folded)
 }
 
-// Whether the rows are to be doubled before one more cell of that number comes in: where there are more than two cells a
-// row, or where the number is no row and a few cells a row are there.
+// Whether more rows are to be made before one more cell of that number comes in: where the number is no row, and no number
+// is folded or there are more than two cells a row.
 #[inline(always)]
-fn needs_rows(cells: usize, rows: usize, number: usize) -> bool
-    ensures { result ≡ false → 0 < rows }
+fn needs_rows(cells: usize, rows: usize, mask: usize, number: usize) -> bool
+    ensures some { result ≡ false → 0 < rows }
+    ensures within { result ≡ false → mask ≡ 0 → number < rows }
 {
-    rows == 0 || cells / 2 >= rows || (number >= rows && rows / 4 <= cells.saturating_add(FIRST))
+    number >= rows && (mask == 0 || cells / 2 >= rows)
 }
 
-// Doubles the rows where that is wanted.
+// Makes more rows where that is wanted. The result is the mask.
 #[inline(always)]
 fn make_rows(
     cells: &mut [Cell],
     rows: &mut Vec<u32>,
     stride: u32,
-    wide: bool,
+    mask: usize,
     number: usize,
-) -> Result<bool, Memory>
-    requires { IsKept stride wide cells.old rows.old.items }
-    ensures kept { IfOk result (λ now_wide. IsKept stride now_wide cells.new rows.new.items) }
+) -> Result<usize, Memory>
+    requires { IsKept stride mask cells.old rows.old.items }
+    ensures kept { IfOk result (λ now. IsKept stride now cells.new rows.new.items) }
     ensures same { entries_of cells.new ≡ entries_of cells.old }
     ensures some { OnOk result (0 < length rows.new.items) }
+    ensures within { IfOk result (λ now. now ≡ 0 → number < length rows.new.items) }
     ensures unchanged { OnErr result ((cells.new ≡ cells.old) × (rows.new.items ≡ rows.old.items)) }
 {
-    if needs_rows(cells.len(), rows.len(), number) {
-        grow(cells, rows, stride, wide)
+    if needs_rows(cells.len(), rows.len(), mask, number) {
+        grow(cells, rows, stride, mask, number)
     } else {
-        Ok(wide)
+        Ok(mask)
     }
 }
 
@@ -113,40 +148,36 @@ fn cell_of(node: usize, place: usize, found: Found) -> Option<Cell>
     })
 }
 
-// Adds a cell behind the last one of its row. The result says whether the number of some cell may be no row.
+// Adds a cell behind the last one of its row.
 #[inline(always)]
 fn add(
     cells: &mut Vec<Cell>,
     rows: &mut [u32],
     stride: u32,
-    wide: bool,
+    mask: usize,
     cell: Cell,
-) -> Result<bool, Memory>
-    requires kept { IsKept stride wide cells.old.items rows.old }
+) -> Result<(), Memory>
+    requires kept { IsKept stride mask cells.old.items rows.old }
     requires some { 0 < length rows.old }
+    requires within { mask ≡ 0 → number stride cell.node cell.place < length rows.old }
     requires free { IsFree (entries_of cells.old.items) cell.node cell.place }
     requires narrow { (cell.node < 4294967295) × (cell.place < 4294967295) }
-    ensures kept { IfOk result (λ now_wide. IsKept stride now_wide cells.new.items rows.new) }
+    ensures kept { OnOk result (IsKept stride mask cells.new.items rows.new) }
     ensures added { OnOk result (entries_of cells.new.items ≡ entries_of cells.old.items ++ entry_of cell ∷ []) }
     ensures unchanged { OnErr result ((cells.new.items ≡ cells.old.items) × (rows.new ≡ rows.old)) }
 {
     if cells.len() >= 4_294_967_294 {
         return Err(Memory);
     }
-    let number = number_of(stride, cell.node, cell.place);
-    let row = fold(rows.len(), number);
-    let link = last_of(cells, rows, stride, row);
+    let row = fold(rows.len(), mask, number_of(stride, cell.node, cell.place));
+    let link = last_of(cells, rows, stride, mask, row);
     let linked = Cell {
         link: link as u32,
         ..cell
     };
     cells.push(linked)?;
     rows[row] = cells.len() as u32;
-    if number < rows.len() {
-        Ok(wide)
-    } else {
-        Ok(true)
-    }
+    Ok(())
 }
 
 // Adds a cell, with more rows where they are wanted.
@@ -155,20 +186,45 @@ fn insert(
     cells: &mut Vec<Cell>,
     rows: &mut Vec<u32>,
     stride: u32,
-    wide: &mut bool,
+    mask: &mut usize,
     cell: Cell,
 ) -> Result<(), Memory>
-    requires kept { IsKept stride wide.old cells.old.items rows.old.items }
+    requires kept { IsKept stride mask.old cells.old.items rows.old.items }
     requires free { IsFree (entries_of cells.old.items) cell.node cell.place }
     requires narrow { (cell.node < 4294967295) × (cell.place < 4294967295) }
-    ensures kept { IsKept stride wide.new cells.new.items rows.new.items }
+    ensures kept { IsKept stride mask.new cells.new.items rows.new.items }
     ensures added { OnOk result (entries_of cells.new.items ≡ entries_of cells.old.items ++ entry_of cell ∷ []) }
     ensures unchanged { OnErr result (entries_of cells.new.items ≡ entries_of cells.old.items) }
 {
-    let number = number_of(stride, cell.node, cell.place);
-    *wide = make_rows(cells, rows, stride, *wide, number)?;
-    *wide = add(cells, rows, stride, *wide, cell)?;
-    Ok(())
+    let at = number_of(stride, cell.node, cell.place);
+    *mask = make_rows(cells, rows, stride, *mask, at)?;
+    add(cells, rows, stride, *mask, cell)
+}
+
+// The end that the cell of that pair has, or adds the cell and gives its end.
+#[inline(always)]
+fn find_or_insert(
+    cells: &mut Vec<Cell>,
+    rows: &mut Vec<u32>,
+    stride: u32,
+    mask: &mut usize,
+    cell: Cell,
+) -> Result<u32, Memory>
+    requires kept { IsKept stride mask.old cells.old.items rows.old.items }
+    requires narrow { (cell.node < 4294967295) × (cell.place < 4294967295) }
+    ensures kept { IsKept stride mask.new cells.new.items rows.new.items }
+    ensures known { IfOk result (λ e. IsKnown (entries_of cells.old.items) (entries_of cells.new.items) cell.node cell.place (found_of cell.end) (found_of e)) }
+    ensures unchanged { OnErr result (entries_of cells.new.items ≡ entries_of cells.old.items) }
+{
+    let at = number_of(stride, cell.node, cell.place);
+    *mask = make_rows(cells, rows, stride, *mask, at)?;
+    if let Some(end) = walk(cells, rows, stride, *mask, cell.node, cell.place) {
+        return Ok(end);
+    }
+    match add(cells, rows, stride, *mask, cell) {
+        Ok(()) => Ok(cell.end),
+        Err(fault) => Err(fault),
+    }
 }
 
 impl Cells {
@@ -180,7 +236,7 @@ impl Cells {
             cells: Vec::new(alloc),
             rows: Vec::new(alloc),
             stride: 1,
-            wide: false,
+            mask: 0,
         }
     }
 
@@ -189,11 +245,12 @@ impl Cells {
         ensures { self.new ≡ [] }
     {
         self.cells.clear();
-        self.stride = match narrow(nodes / 16 + 1) {
+        self.rows.clear();
+        self.stride = match narrow(nodes / 32 + 1) {
             Some(rows) => rows | 1,
             None => 1,
         };
-        self.wide = false;
+        self.mask = 0;
     }
 
     /// The number of cells.
@@ -217,7 +274,7 @@ impl Cells {
         let Some(place) = narrow(place) else {
             return None;
         };
-        match find(&self.cells, &self.rows, self.stride, node, place) {
+        match find(&self.cells, &self.rows, self.stride, self.mask, node, place) {
             Some(end) => Some(found_of_end(end)),
             None => None,
         }
@@ -237,8 +294,33 @@ impl Cells {
             &mut self.cells,
             &mut self.rows,
             self.stride,
-            &mut self.wide,
+            &mut self.mask,
             cell,
         )
+    }
+
+    /// What the node has at the place: what its cell there holds, or else `found`, for which a cell is added.
+    ///
+    /// # Errors
+    /// `Memory` where a growth was refused; no cell is added.
+    #[inline(always)]
+    pub fn get_or_put(&mut self, node: usize, place: usize, found: Found) -> Result<Found, Memory>
+        ensures known { IfOk result (λ f. IsKnown self.old self.new node place found f) }
+        ensures unchanged { OnErr result (self.new ≡ self.old) }
+    {
+        let cell = match cell_of(node, place, found) {
+            Some(cell) => cell,
+            None => return Err(Memory),
+        };
+        match find_or_insert(
+            &mut self.cells,
+            &mut self.rows,
+            self.stride,
+            &mut self.mask,
+            cell,
+        ) {
+            Ok(end) => Ok(found_of_end(end)),
+            Err(fault) => Err(fault),
+        }
     }
 }

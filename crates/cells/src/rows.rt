@@ -2,22 +2,22 @@
 ghost use Rattle.std.specs.Prelude.{◌≡◌, ◌<◌, ◌*◌, ◌+◌, ◌^◌};
 ghost use Rattle.cells.specs.Rows.{number_of as number, fold as folded};
 
-/// The number of a node and a place where each place has `stride` rows, and 16 nodes share one.
+/// The number of a node and a place where each place has `stride` rows, and 32 nodes share one.
 #[tactic(auto, unfolding(crate::specs::Rows::number_of))]
 #[inline(always)]
 pub(crate) fn number_of(stride: u32, node: u32, place: u32) -> usize
     ensures { result ≡ number stride node place }
 {
-    place as usize * stride as usize + node as usize / 16
+    place as usize * stride as usize + node as usize / 32
 }
 
-/// A number as a row: itself, or folded where there are not so many.
+/// A number as a row: itself, or its last bits where there are not so many rows.
 #[tactic(auto, unfolding(crate::specs::Rows::fold))]
 #[inline(always)]
-pub(crate) fn fold(count: usize, x: usize) -> usize
-    requires { 0 < count }
-    ensures value { result ≡ folded count x }
+pub(crate) fn fold(count: usize, mask: usize, x: usize) -> usize
+    requires { mask < count }
+    ensures value { result ≡ folded count mask x }
     ensures within { result < count }
 {
-    if x < count { x } else { x & (count - 1) }
+    if x < count { x } else { x & mask }
 }

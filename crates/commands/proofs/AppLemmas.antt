@@ -2,7 +2,8 @@
 -- Serves: is_a_simple_command, parse
 use Rattle.std.proofs.Common.{◌≡◌, ◌∙◌, ap, subst, sym, refl, true, List, Result, Ok, Err}
 use Rattle.std.specs.Prelude.{IfOk}
-use Rattle.clap.specs.Words.{App, FailsBy, HasKind, HasMatchesOf, Text, fault_of, is_simple, is_simple_and_free, matches_of}
+use Rattle.clap.specs.Words.{App, FailsBy, HasKind, HasMatchesOf, Text, fault_of, is_simple}
+use Rattle.clap.specs.Words.{is_simple_and_free, matches_of}
 use Rattle.clap.specs.declared.error.Error.{Error}
 use Rattle.clap.specs.declared.parser.matches.ArgMatches.{ArgMatches}
 use Rattle.commands.specs.Command.{IsAppOf, Names, abnfi_app, pegi_app}
@@ -31,8 +32,8 @@ app_is_free Pegi app of = ap is_simple_and_free of.2 ∙ pegi_free of.0
 app_is_free Abnfi app of = ap is_simple_and_free of.2 ∙ abnfi_free of.0
 
 -- what is said of a parse by any simple command
-pub app_parses : (app made : App) (words : List Text) → made ≡ app → is_simple app ≡ true → is_simple_and_free app ≡ true
-    → (r : Result ArgMatches Error) → IfOk r (HasMatchesOf made words)
+pub app_parses : (app made : App) (words : List Text) → made ≡ app → is_simple app ≡ true
+    → is_simple_and_free app ≡ true → (r : Result ArgMatches Error) → IfOk r (HasMatchesOf made words)
     → (is_simple_and_free made ≡ true → FailsBy (fault_of made words) r) → Parses app words r
 app_parses app made words is simple free (Ok m) matches fails = (
   ap (λ (a : App). fault_of a words) (sym is) ∙ fails (ap is_simple_and_free is ∙ free),

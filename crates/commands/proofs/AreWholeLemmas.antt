@@ -4,14 +4,13 @@ use Rattle.std.proofs.Common.{◌≡◌, ◌∙◌, ◌⊎◌, ◌<◌, ◌≤�
 use Rattle.std.specs.Prelude.{codes, pos}
 use Rattle.std.specs.List.{slice_index_or}
 use Rattle.std.specs.Str.{bytes_eq}
-use Rattle.std.specs.Borrow.{Bor}
 use Rattle.std.specs.Str.Parse.{IsNumeral, digits_value, starts_with_minus, without_leading_plus}
 use Rattle.std.proofs.lemmas.Int.{ints}
 use Rattle.std.proofs.lemmas.List.{get_or-map, length-map}
 use Rattle.std.proofs.lemmas.Slice.Eq.{bytes_eq-Decides}
 use Rattle.clap.specs.Facts.{args_of, least_values, unwrap_or_range}
 use Rattle.clap.specs.Texts.{items_of}
-use Rattle.clap.specs.Built.{IsAuto, IsParsedFrom, IsPlain, IsPlainArg}
+use Rattle.clap.specs.Built.{IsParsedFrom, IsPlain, IsPlainArg}
 use Rattle.clap.specs.Lexer.{without_minus}
 use Rattle.clap.specs.Matches.{first_value, found_of, one_text}
 use Rattle.clap.specs.Simple.{App, Shape, app_of, shape_of}
@@ -53,12 +52,14 @@ abbrev are_bare : List Rule → Bool
 are_bare [] = true
 are_bare (r ∷ rs) = (r.is_simple && r.is_free) && are_bare rs
 
-lacks_at : (rs : List Rule) (id : Text) → lacks_id rs id ≡ true → (j : ℕ) (d : Rule) → j < length rs → bytes_eq (slice_index_or rs j d).id id ≡ true → ⊥
+lacks_at : (rs : List Rule) (id : Text) → lacks_id rs id ≡ true → (j : ℕ) (d : Rule) → j < length rs
+    → bytes_eq (slice_index_or rs j d).id id ≡ true → ⊥
 lacks_at [] id e j d lt is = absurd (omega arith)
 lacks_at (r ∷ rs) id e zero d lt is = true≢false (sym is ∙ is_false _ (both _ _ e).0)
 lacks_at (r ∷ rs) id e (suc j) d lt is = lacks_at rs id (both _ _ e).1 j d (omega arith) is
 
-only_at : (rs : List Rule) (k : ℕ) (id : Text) → is_only rs k id ≡ true → (j : ℕ) (d : Rule) → j < length rs → bytes_eq (slice_index_or rs j d).id id ≡ true → j ≡ k
+only_at : (rs : List Rule) (k : ℕ) (id : Text) → is_only rs k id ≡ true → (j : ℕ) (d : Rule) → j < length rs
+    → bytes_eq (slice_index_or rs j d).id id ≡ true → j ≡ k
 only_at [] k id e j d lt is = absurd (omega arith)
 only_at (r ∷ rs) zero id e zero d lt is = refl
 only_at (r ∷ rs) zero id e (suc j) d lt is = absurd (lacks_at rs id e j d (omega arith) is)
@@ -112,14 +113,16 @@ rule_at xs rs e k d lt =
     let long : k < length xs = subst (λ n. k < n) (sym (count xs rs e)) lt in
     sym (get_or-map rule_of xs k d (rule_of d) long) ∙ ap (λ qs. slice_index_or qs k (rule_of d)) e
 
-bare_at : (xs : List Arg) (rs : List Rule) → map rule_of xs ≡ rs → are_bare rs ≡ true → (k : ℕ) (d : Arg) → k < length rs → IsBare (slice_index_or xs k d)
+bare_at : (xs : List Arg) (rs : List Rule) → map rule_of xs ≡ rs → are_bare rs ≡ true → (k : ℕ) (d : Arg)
+    → k < length rs → IsBare (slice_index_or xs k d)
 bare_at xs rs e all k d lt =
     let is = rule_at xs rs e k d lt in
     let both_true = bare_rule rs all k (rule_of d) lt in
-    bare (slice_index_or xs k d) (ap (λ (r : Rule). r.is_simple) is ∙ both_true.0) (ap (λ (r : Rule). r.is_free) is ∙ both_true.1)
+    bare (slice_index_or xs k d) (ap (λ (r : Rule). r.is_simple) is ∙ both_true.0)
+    (ap (λ (r : Rule). r.is_free) is ∙ both_true.1)
 
-is_command : (c : Command) (app : App) → app_of c ≡ app → app.top.is_plain ≡ true → app.top.subcommand_negates_reqs ≡ false
-    → are_bare app.top.rules ≡ true → IsCommand c app.top.rules
+is_command : (c : Command) (app : App) → app_of c ≡ app → app.top.is_plain ≡ true
+    → app.top.subcommand_negates_reqs ≡ false → are_bare app.top.rules ≡ true → IsCommand c app.top.rules
 is_command c app e plain negates all =
     let shape : shape_of c ≡ app.top = ap (λ (a : App). a.top) e in
     let fields = plain_fields c (ap (λ (s : Shape). s.is_plain) shape ∙ plain) in
@@ -128,7 +131,9 @@ is_command c app e plain negates all =
       list = list;
       bare_rules = all;
       plain = (
-        λ k d lt. (bare_at (args_of c) app.top.rules list all k d (subst (λ n. k < n) (count (args_of c) app.top.rules list) lt)).plain,
+        λ k d lt.
+            let few = subst (λ n. k < n) (count (args_of c) app.top.rules list) lt in
+            (bare_at (args_of c) app.top.rules list all k d few).plain,
         fields.groups,
       );
       globals = fields.globals;
@@ -154,9 +159,11 @@ record IsArgOf (c : Command) (k : ℕ) (d : Arg) (r : Rule) : Type 0 where
   id : (slice_index_or (args_of c) k d).id.now ≡ r.id
   alone : IsAlone c k d
 
-arg_of : (c : Command) (rs : List Rule) → IsCommand c rs → (k : ℕ) (d : Arg) (r : Rule) → HasAt rs k r → IsOwn r.id → IsArgOf c k d r
+arg_of : (c : Command) (rs : List Rule) → IsCommand c rs → (k : ℕ) (d : Arg) (r : Rule)
+    → HasAt rs k r → IsOwn r.id → IsArgOf c k d r
 arg_of c rs is k d r has own =
-    let rule : rule_of (slice_index_or (args_of c) k d) ≡ r = rule_at (args_of c) rs is.list k d has.within ∙ has.at (rule_of d) in
+    let rule : rule_of (slice_index_or (args_of c) k d) ≡ r =
+    rule_at (args_of c) rs is.list k d has.within ∙ has.at (rule_of d) in
     let own_id : (slice_index_or (args_of c) k d).id.now ≡ r.id = ap (λ (q : Rule). q.id) rule in
     let long = count (args_of c) rs is.list in
     record {
@@ -172,7 +179,8 @@ arg_of c rs is k d r has own =
             let there : (slice_index_or (args_of c) j e).id.now ≡ (slice_index_or rs j (rule_of e)).id =
             ap (λ (q : Rule). q.id) (rule_at (args_of c) rs is.list j e few) in
             only_at rs k r.id has.only j (rule_of e) few
-                (sym (ap (λ t. bytes_eq t r.id) there) ∙ (sym (ap (λ t. bytes_eq (slice_index_or (args_of c) j e).id.now t) own_id) ∙ same));
+            (sym (ap (λ t. bytes_eq t r.id) there)
+            ∙ (sym (ap (λ t. bytes_eq (slice_index_or (args_of c) j e).id.now t) own_id) ∙ same));
         named = λ e. own.named (sym own_id ∙ e);
         own = no_auto r.id own.help own.version (slice_index_or (args_of c) k d) own_id;
       };
@@ -203,31 +211,37 @@ limit_text t passed = go (starts_with_minus t) refl
         let to : digits_value 10 (without_leading_plus t) ≤ 16777216 = omega (arith, ints) in
         rw (minus_free t minus) (numeral, from, to)
 
-bool_text : (v : Text) → (bytes_eq v (codes "true") || bytes_eq v (codes "false")) ≡ true → (v ≡ codes "true") ⊎ (v ≡ codes "false")
+bool_text : (v : Text) → (bytes_eq v (codes "true") || bytes_eq v (codes "false")) ≡ true
+    → (v ≡ codes "true") ⊎ (v ≡ codes "false")
 bool_text v e = go (bytes_eq v (codes "true")) refl e
   where
-    go : (b : Bool) → bytes_eq v (codes "true") ≡ b → (b || bytes_eq v (codes "false")) ≡ true → (v ≡ codes "true") ⊎ (v ≡ codes "false")
+    go : (b : Bool) → bytes_eq v (codes "true") ≡ b → (b || bytes_eq v (codes "false")) ≡ true
+        → (v ≡ codes "true") ⊎ (v ≡ codes "false")
     go true is h = inl ((bytes_eq-Decides v (codes "true")).0 is)
     go false is h = inr ((bytes_eq-Decides v (codes "false")).0 h)
 
 -- ---- one argument of a program
 
-limit_is : (c : Command) (rs : List Rule) → IsCommand c rs → (m : ArgMatches) → IsParsedFrom c m → (d : Arg) (k : ℕ) → HasAt rs k limit_rule
+limit_is : (c : Command) (rs : List Rule) → IsCommand c rs → (m : ArgMatches) → IsParsedFrom c m → (d : Arg) (k : ℕ)
+    → HasAt rs k limit_rule
     → (text : Text) × (one_text (found_of m) (codes "limit") ≡ Some text) × IsLimitText text
 limit_is c rs is m p d k has =
     let by = arg_of c rs is k d limit_rule has (record { named = λ n. cc; help = refl; version = refl }) in
     let a = slice_index_or (args_of c) k d in
-    let defaults : 0 < length (items_of a.default_vals) = subst (λ n. 0 < n)
-        (sym (ap (λ (r : Rule). length r.defaults) by.rule) ∙ length-map (items_of a.default_vals) (λ s. s.now)) (omega arith) in
-    let least : 1 ≤ least_values a = subst (λ o. 1 ≤ (unwrap_or_range o).start_inclusive) (sym (ap (λ (r : Rule). r.range) by.rule)) (omega arith) in
-    let read = default_reads c m p k d by.alone (by.bare.ifs, defaults) (ap (λ (r : Rule). r.action) by.rule) by.bare.delim least
-        (vp.Signed (pos 1) (pos 16777216)) (ap (λ (r : Rule). r.parser) by.rule) in (
+    let many = sym (ap (λ (r : Rule). length r.defaults) by.rule) ∙ length-map (items_of a.default_vals) (λ s. s.now) in
+    let defaults : 0 < length (items_of a.default_vals) = subst (λ n. 0 < n) many (omega arith) in
+    let least : 1 ≤ least_values a = subst (λ o. 1 ≤ (unwrap_or_range o).start_inclusive)
+    (sym (ap (λ (r : Rule). r.range) by.rule)) (omega arith) in
+    let read = default_reads c m p k d by.alone (by.bare.ifs, defaults) (ap (λ (r : Rule). r.action) by.rule)
+    by.bare.delim least
+    (vp.Signed (pos 1) (pos 16777216)) (ap (λ (r : Rule). r.parser) by.rule) in (
       without_minus read.0.now,
       subst (λ w. one_text (found_of m) w ≡ Some (without_minus read.0.now)) by.id read.1,
       limit_text read.0.now read.2,
     )
 
-raw_is : (c : Command) (rs : List Rule) → IsCommand c rs → (m : ArgMatches) → IsParsedFrom c m → (d : Arg) (k : ℕ) → HasAt rs k raw_rule
+raw_is : (c : Command) (rs : List Rule) → IsCommand c rs → (m : ArgMatches) → IsParsedFrom c m → (d : Arg) (k : ℕ)
+    → HasAt rs k raw_rule
     → (one_text (found_of m) (codes "raw") ≡ None) ⊎ (one_text (found_of m) (codes "raw") ≡ Some (codes "true"))
     ⊎ (one_text (found_of m) (codes "raw") ≡ Some (codes "false"))
 raw_is c rs is m p d k has =
@@ -235,29 +249,33 @@ raw_is c rs is m p d k has =
     elim (some_reads c m p k d by.alone vp.Bool (ap (λ (r : Rule). r.parser) by.rule)) [
       | inl none ↦ inl (subst (λ w. one_text (found_of m) w ≡ None) by.id none)
       | inr got ↦ inr (elim (bool_text got.0.now got.2) [
-        | inl as_true ↦ inl (subst (λ w. one_text (found_of m) w ≡ Some got.0.now) by.id got.1 ∙ ap (λ t. Some t) as_true)
-        | inr as_false ↦ inr (subst (λ w. one_text (found_of m) w ≡ Some got.0.now) by.id got.1 ∙ ap (λ t. Some t) as_false)
+        | inl as_true ↦
+            inl (subst (λ w. one_text (found_of m) w ≡ Some got.0.now) by.id got.1 ∙ ap (λ t. Some t) as_true)
+        | inr as_false ↦
+            inr (subst (λ w. one_text (found_of m) w ≡ Some got.0.now) by.id got.1 ∙ ap (λ t. Some t) as_false)
       ])
     ]
 
-grammar_is : (c : Command) (rs : List Rule) → IsCommand c rs → (m : ArgMatches) → IsParsedFrom c m → (d : Arg) (k : ℕ) → HasAt rs k grammar_rule
+grammar_is : (c : Command) (rs : List Rule) → IsCommand c rs → (m : ArgMatches) → IsParsedFrom c m → (d : Arg) (k : ℕ)
+    → HasAt rs k grammar_rule
     → is_some (first_value (found_of m) (codes "grammar")) ≡ true
 grammar_is c rs is m p d k has =
     let by = arg_of c rs is k d grammar_rule has (record { named = λ n. cc; help = refl; version = refl }) in
     let least : 1 ≤ least_values (slice_index_or (args_of c) k d) =
-        subst (λ o. 1 ≤ (unwrap_or_range o).start_inclusive) (sym (ap (λ (r : Rule). r.range) by.rule)) (omega arith) in
+    subst (λ o. 1 ≤ (unwrap_or_range o).start_inclusive) (sym (ap (λ (r : Rule). r.range) by.rule)) (omega arith) in
     subst (λ w. is_some (first_value (found_of m) w) ≡ true) by.id
     (required_has_value c m p is.plain is.globals is.negates k d by.alone.within (ap (λ (r : Rule). r.required) by.rule)
     (ap (λ (r : Rule). r.action) by.rule) by.bare.delim least by.alone.unique by.alone.named by.alone.own)
 
 -- a command without a rule of this id finds nothing under it
-none_is : (c : Command) (rs : List Rule) → IsCommand c rs → (m : ArgMatches) → IsParsedFrom c m → (id : Text) → IsOwn id → lacks_id rs id ≡ true
+none_is : (c : Command) (rs : List Rule) → IsCommand c rs → (m : ArgMatches) → IsParsedFrom c m → (id : Text)
+    → IsOwn id → lacks_id rs id ≡ true
     → one_text (found_of m) id ≡ None
 none_is c rs is m p id own none = none_found c m p is.plain is.globals id own.named own.help own.version
     (λ j e low same.
-        let few : j < length rs = subst (λ n. j < n) (count (args_of c) rs is.list) low in
-        lacks_at rs id none j (rule_of e) few
-            (sym (ap (λ t. bytes_eq t id) (ap (λ (q : Rule). q.id) (rule_at (args_of c) rs is.list j e few))) ∙ same))
+    let few : j < length rs = subst (λ n. j < n) (count (args_of c) rs is.list) low in
+    lacks_at rs id none j (rule_of e) few
+    (sym (ap (λ t. bytes_eq t id) (ap (λ (q : Rule). q.id) (rule_at (args_of c) rs is.list j e few))) ∙ same))
 
 -- ---- the programs
 
@@ -265,7 +283,8 @@ none_is c rs is m p id own none = none_found c m p is.plain is.globals id own.na
 first_arg : (c : Command) (rs : List Rule) → IsCommand c rs → 0 < length rs → Arg
 first_arg c rs is some = head_of (args_of c) (subst (λ n. 0 < n) (sym (count (args_of c) rs is.list)) some)
 
-pegi_is_whole : (c : Command) (names : Names) → app_of c ≡ pegi_app names → (m : ArgMatches) → IsParsedFrom c m → AreWhole (found_of m)
+pegi_is_whole : (c : Command) (names : Names) → app_of c ≡ pegi_app names → (m : ArgMatches)
+    → IsParsedFrom c m → AreWhole (found_of m)
 pegi_is_whole c names e m p =
     let rs = (pegi_app names).top.rules in
     let is = is_command c (pegi_app names) e refl refl refl in
@@ -276,7 +295,8 @@ pegi_is_whole c names e m p =
       grammar = grammar_is c rs is m p d 4 (record { within = omega arith; at = λ q. refl; only = refl });
     }
 
-abnfi_is_whole : (c : Command) (names : Names) → app_of c ≡ abnfi_app names → (m : ArgMatches) → IsParsedFrom c m → AreWhole (found_of m)
+abnfi_is_whole : (c : Command) (names : Names) → app_of c ≡ abnfi_app names → (m : ArgMatches)
+    → IsParsedFrom c m → AreWhole (found_of m)
 abnfi_is_whole c names e m p =
     let rs = (abnfi_app names).top.rules in
     let is = is_command c (abnfi_app names) e refl refl refl in
@@ -287,6 +307,7 @@ abnfi_is_whole c names e m p =
       grammar = grammar_is c rs is m p d 3 (record { within = omega arith; at = λ q. refl; only = refl });
     }
 
-pub is_whole : (program : Program) (app : App) → IsAppOf program app → (c : Command) → app_of c ≡ app → (m : ArgMatches) → IsParsedFrom c m → AreWhole (found_of m)
+pub is_whole : (program : Program) (app : App) → IsAppOf program app → (c : Command) → app_of c ≡ app
+    → (m : ArgMatches) → IsParsedFrom c m → AreWhole (found_of m)
 is_whole Pegi app of c e m p = pegi_is_whole c of.0 (e ∙ of.2) m p
 is_whole Abnfi app of c e m p = abnfi_is_whole c of.0 (e ∙ of.2) m p

@@ -186,25 +186,31 @@ some_reads c m p k d alone q parser = go (matched_of (found_of m) (slice_index_o
     go (Some x) e = first x e x.vals.items refl
 
 -- an argument of this id is not one that building adds
-pub no_auto : (id : List ℕ) → bytes_eq id (codes "help") ≡ false → bytes_eq id (codes "version") ≡ false → (a : Arg) → a.id.now ≡ id → IsAuto a → ⊥
-no_auto id help version a is (inl e) = true≢false (sym ((bytes_eq-Decides id (codes "help")).1 (sym is ∙ e)) ∙ help)
-no_auto id help version a is (inr e) = true≢false (sym ((bytes_eq-Decides id (codes "version")).1 (sym is ∙ e)) ∙ version)
+pub no_auto : (id : List ℕ) → bytes_eq id (codes "help") ≡ false → bytes_eq id (codes "version") ≡ false
+    → (a : Arg) → a.id.now ≡ id → IsAuto a → ⊥
+no_auto id help version a is (inl e) =
+    true≢false (sym ((bytes_eq-Decides id (codes "help")).1 (sym is ∙ e)) ∙ help)
+no_auto id help version a is (inr e) =
+    true≢false (sym ((bytes_eq-Decides id (codes "version")).1 (sym is ∙ e)) ∙ version)
 
 -- no argument of a command that excludes nothing has this id, and nothing is found under it
-pub none_found : (c : Command) (m : ArgMatches) (p : IsParsedFrom c m) → IsPlain c → (out-Command c).has_globals ≡ false → (id : List ℕ)
-    → (id ≡ [] → ⊥) → bytes_eq id (codes "help") ≡ false → bytes_eq id (codes "version") ≡ false
+pub none_found : (c : Command) (m : ArgMatches) (p : IsParsedFrom c m) → IsPlain c
+    → (out-Command c).has_globals ≡ false → (id : List ℕ) → (id ≡ [] → ⊥)
+    → bytes_eq id (codes "help") ≡ false → bytes_eq id (codes "version") ≡ false
     → ((j : ℕ) (e : Arg) → j < length (args_of c) → bytes_eq (slice_index_or (args_of c) j e).id.now id ≡ true → ⊥)
     → one_text (found_of m) id ≡ None
 none_found c m p plain globals id named help version none = go (matched_of (found_of m) id) refl
   where
     -- no argument of the command that was built has the id
-    lacks : (j : ℕ) (x : Arg) → j < length (args_of p.built) → slice_index_or (args_of p.built) j x ≡ x → bytes_eq x.id.now id ≡ true → ⊥
+    lacks : (j : ℕ) (x : Arg) → j < length (args_of p.built) → slice_index_or (args_of p.built) j x ≡ x
+        → bytes_eq x.id.now id ≡ true → ⊥
     lacks j x high at same = elim (cases_lt j (length (args_of c))) [
       | inl under ↦
           let s = subst (λ w. SameRules (slice_index_or (args_of c) j x) w) at (p.from.kept j x under).1 in
           none j x under (rw (← s.id) same)
       | inr over ↦
-          no_auto id help version x ((bytes_eq-Decides x.id.now id).0 same) (subst IsAuto at (p.from.extra j x over high))
+          no_auto id help version x ((bytes_eq-Decides x.id.now id).0 same)
+          (subst IsAuto at (p.from.extra j x over high))
     ]
 
     go : (o : Option MatchedArg) → matched_of (found_of m) id ≡ o → one_text (found_of m) id ≡ None

@@ -2,7 +2,8 @@
 ghost use Rattle.std.specs.Prelude.{◌≡◌, IfOk, false, true, map};
 ghost use Rattle.clap.specs.Words.{app_of, found_of, is_simple, is_simple_and_free, rule_of};
 ghost use Rattle.commands.specs.Asked.{AreWhole};
-ghost use Rattle.commands.specs.Command.{AreModes, IsAppOf, grammar_rule, limit_rule, mode_rule, raw_rule, start_rule, with_options};
+ghost use Rattle.commands.specs.Command.{AreModes, IsAppOf, grammar_rule, limit_rule, mode_rule, raw_rule};
+ghost use Rattle.commands.specs.Command.{start_rule, with_options};
 ghost use Rattle.commands.specs.Parsing.{Parses};
 
 use crate::help;
@@ -86,14 +87,15 @@ fn add_options<'a>(
     limit: &'a str,
     start: &'a str,
 ) -> Result<Command<'a>, AllocError>
-    ensures options { (names : _) × AreModes names × IfOk result (λ c. app_of c ≡ with_options names (app_of command.entry)) }
+    ensures options { (names : _) × AreModes names ×
+        IfOk result (λ c. app_of c ≡ with_options names (app_of command.entry)) }
 {
     let with_mode = command.arg(mode_arg(alloc))?;
     let with_limit = with_mode.arg(limit_arg(alloc, limit))?;
     with_limit.arg(start_arg(alloc, start))
 }
 
-/// The command `pegi [-m MODE] [-l N] [-s RULE] [-r] GRAMMAR`. Refused for want of memory.
+/// Returns the command `pegi [-m MODE] [-l N] [-s RULE] [-r] GRAMMAR`. Refused for want of memory.
 pub fn pegi_command<'a>(alloc: Global) -> Result<Command<'a>, AllocError>
     ensures app { (app : _) × IsAppOf Program.Pegi app × IfOk result (λ c. app_of c ≡ app) }
 {
@@ -105,7 +107,7 @@ pub fn pegi_command<'a>(alloc: Global) -> Result<Command<'a>, AllocError>
     with_raw.arg(grammar_arg(alloc))
 }
 
-/// The command `abnfi [-m MODE] [-l N] [-s RULE] GRAMMAR`. Refused for want of memory.
+/// Returns the command `abnfi [-m MODE] [-l N] [-s RULE] GRAMMAR`. Refused for want of memory.
 pub fn abnfi_command<'a>(alloc: Global) -> Result<Command<'a>, AllocError>
     ensures app { (app : _) × IsAppOf Program.Abnfi app × IfOk result (λ c. app_of c ≡ app) }
 {
@@ -116,7 +118,7 @@ pub fn abnfi_command<'a>(alloc: Global) -> Result<Command<'a>, AllocError>
     with_options.arg(grammar_arg(alloc))
 }
 
-/// The command of a program. Refused for want of memory.
+/// Returns the command of a program. Refused for want of memory.
 pub fn command_of<'a>(alloc: Global, program: Program) -> Result<Command<'a>, AllocError>
     ensures app { (app : _) × IsAppOf program app × IfOk result (λ c. app_of c ≡ app) }
 {
@@ -126,8 +128,8 @@ pub fn command_of<'a>(alloc: Global, program: Program) -> Result<Command<'a>, Al
     }
 }
 
-/// Each command is a simple one, and no argument has a rule on another: its matches are a function of the words, and so is
-/// what is wrong with them.
+/// Says that each command is a simple one, and no argument has a rule on another: its matches are a function of the
+/// words, and so is what is wrong with them.
 pub fn is_a_simple_command()
     ensures simple { (program : _) (app : _) → IsAppOf program app → is_simple app ≡ true }
     ensures free { (program : _) (app : _) → IsAppOf program app → is_simple_and_free app ≡ true }

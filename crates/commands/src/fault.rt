@@ -8,9 +8,9 @@ ghost use Rattle.toolrun.specs.Status.{code_of};
 use crate::command::{Program, command_of};
 use clap::Error;
 use clap::error::ErrorKind;
-use toolrun::{Status, Stop, close_run, end_run};
 use ruletable::{Sink, write_whole};
 use std::alloc::{AllocError, Global};
+use toolrun::{Status, Stop, close_run, end_run};
 
 /// What is told of a word that is no UTF-8 text.
 const INVALID_UTF8: &str = "invalid UTF-8 was detected in one or more arguments";
@@ -54,9 +54,12 @@ pub fn end_unparsed<O: Sink, E: Sink>(
     requires out_is_fresh { O.failed out.old ≡ false }
     requires err_is_fresh { E.failed err.old ≡ false }
     ensures kept { IsNoHelp (kind_of error.now) → Keeps (O.contents out.old) (O.contents out.new) }
-    ensures refused { IsNoHelp (kind_of error.now) → EndsAs (O.failed out.new) (E.failed err.new) Status.Refused result }
-    ensures helped { kind_of error.now ≡ ErrorKind.DisplayHelp → EndsAs (O.failed out.new) (E.failed err.new) Status.Done result }
-    ensures no_memory { kind_of error.now ≡ ErrorKind.OutOfMemory → EndsAs (O.failed out.new) (E.failed err.new) Status.NoMemory result }
+    ensures refused { IsNoHelp (kind_of error.now) →
+        EndsAs (O.failed out.new) (E.failed err.new) Status.Refused result }
+    ensures helped { kind_of error.now ≡ ErrorKind.DisplayHelp →
+        EndsAs (O.failed out.new) (E.failed err.new) Status.Done result }
+    ensures no_memory { kind_of error.now ≡ ErrorKind.OutOfMemory →
+        EndsAs (O.failed out.new) (E.failed err.new) Status.NoMemory result }
     ensures failed { (O.failed out.new ≡ true) ⊎ (E.failed err.new ≡ true) → 4 ≤ code_of result }
 {
     if error.kind() == ErrorKind::OutOfMemory {

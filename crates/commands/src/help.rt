@@ -30,9 +30,25 @@ pub const RAW: &str = "Print actions neither trimmed nor each on a line of its o
 pub const GRAMMAR: &str = "The file of the grammar, at most 1048576 bytes";
 
 /// The end of the help of `pegi`.
-pub const AFTER_PEGI: &str =
-    "Exit status:\n  0  all input was taken, or nothing was refused\n  1  no match at some byte\n  2  the grammar or the arguments are refused\n  3  a unit is longer than N bytes\n  4  a read or write error, or the grammar cannot be read\n  5  out of memory\n\nExample:\n  pegi username.peg < letter.txt";
+pub const AFTER_PEGI: &str = "Exit status:
+  0  all input was taken, or nothing was refused
+  1  no match at some byte
+  2  the grammar or the arguments are refused
+  3  a unit is longer than N bytes
+  4  a read or write error, or the grammar cannot be read
+  5  out of memory
+
+Example:
+  pegi username.peg < letter.txt";
 
 /// The end of the help of `abnfi`.
-pub const AFTER_ABNFI: &str =
-    "Exit status:\n  0  all lines are yes, or nothing was refused\n  1  some line is no\n  2  the grammar or the arguments are refused\n  3  a line is longer than N bytes\n  4  a read or write error, or the grammar cannot be read\n  5  out of memory\n\nExample:\n  abnfi date.abnf < dates.txt";
+pub const AFTER_ABNFI: &str = "Exit status:
+  0  all lines are yes, or nothing was refused
+  1  some line is no
+  2  the grammar or the arguments are refused
+  3  a line is longer than N bytes
+  4  a read or write error, or the grammar cannot be read
+  5  out of memory
+
+Example:
+  abnfi date.abnf < dates.txt";

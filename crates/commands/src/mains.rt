@@ -14,8 +14,8 @@ use ruletable::Sink;
 use std::rt::Files;
 use toolrun::Status;
 
-/// The program `pegi`, whose words are its own name and `[-m MODE] [-l N] [-s RULE] [-r] GRAMMAR`. It runs the grammar in
-/// the file GRAMMAR on what the reader gives, as `run_peg` says, with the settings of the words.
+/// Runs the program `pegi`, whose words are its own name and `[-m MODE] [-l N] [-s RULE] [-r] GRAMMAR`: it runs the
+/// grammar in the file GRAMMAR on what the reader gives, as `run_peg` says, with the settings of the words.
 ///
 /// - `-h`: the help on `out`, `Done`.
 /// - Other words, or a value out of its range: what is wrong with them on `err`, `Refused`, and nothing is read.
@@ -34,16 +34,24 @@ pub fn pegi_main<R: Files + AllocGlobal, I: Source, O: Sink, E: Sink>(
     ensures words { (app : _) × IsAppOf Program.Pegi app × Answers (fault_of app (map string_bytes words.now))
         (Keeps (I.remaining reader.old) (I.remaining reader.new) × Keeps (O.contents out.old) (O.contents out.new) ×
         EndsAs (O.failed out.new) (E.failed err.new) Status.Refused result)
-        (Keeps (I.remaining reader.old) (I.remaining reader.new) × EndsAs (O.failed out.new) (E.failed err.new) Status.Done result) }
+        (Keeps (I.remaining reader.old) (I.remaining reader.new) ×
+        EndsAs (O.failed out.new) (E.failed err.new) Status.Done result) }
 {
     match read_job(rt, Program::Pegi, words) {
-        Ok(job) => run_peg(rt.alloc(), job.grammar.as_slice(), &job.settings, reader, out, err),
+        Ok(job) => run_peg(
+            rt.alloc(),
+            job.grammar.as_slice(),
+            &job.settings,
+            reader,
+            out,
+            err,
+        ),
         Err(why) => end_unready(rt.alloc(), &why, out, err),
     }
 }
 
-/// The program `abnfi`, whose words are its own name and `[-m MODE] [-l N] [-s RULE] GRAMMAR`. It judges the lines that the
-/// reader gives by the grammar in the file GRAMMAR, as `run_abnf` says, with the settings of the words.
+/// Runs the program `abnfi`, whose words are its own name and `[-m MODE] [-l N] [-s RULE] GRAMMAR`: it judges the lines
+/// that the reader gives by the grammar in the file GRAMMAR, as `run_abnf` says, with the settings of the words.
 ///
 /// Words without a run, a grammar that cannot be read and want of memory end it as they end `pegi_main`.
 pub fn abnfi_main<R: Files + AllocGlobal, I: Source, O: Sink, E: Sink>(
@@ -59,10 +67,18 @@ pub fn abnfi_main<R: Files + AllocGlobal, I: Source, O: Sink, E: Sink>(
     ensures words { (app : _) × IsAppOf Program.Abnfi app × Answers (fault_of app (map string_bytes words.now))
         (Keeps (I.remaining reader.old) (I.remaining reader.new) × Keeps (O.contents out.old) (O.contents out.new) ×
         EndsAs (O.failed out.new) (E.failed err.new) Status.Refused result)
-        (Keeps (I.remaining reader.old) (I.remaining reader.new) × EndsAs (O.failed out.new) (E.failed err.new) Status.Done result) }
+        (Keeps (I.remaining reader.old) (I.remaining reader.new) ×
+        EndsAs (O.failed out.new) (E.failed err.new) Status.Done result) }
 {
     match read_job(rt, Program::Abnfi, words) {
-        Ok(job) => run_abnf(rt.alloc(), job.grammar.as_slice(), &job.settings, reader, out, err),
+        Ok(job) => run_abnf(
+            rt.alloc(),
+            job.grammar.as_slice(),
+            &job.settings,
+            reader,
+            out,
+            err,
+        ),
         Err(why) => end_unready(rt.alloc(), &why, out, err),
     }
 }

@@ -54,7 +54,8 @@ pub fn read_job<'a, R: Files + AllocGlobal>(
 ) -> Result<Job<'a>, Unready>
     ensures job { (app : _) × IsAppOf program app × MatchResult result
         (λ job. (fault_of app (map string_bytes words.entry.now) ≡ []) ×
-        ((path : _) × Ask (matches_of app (map string_bytes words.entry.now)) (record { settings = job.settings; path = path })))
+        ((path : _) × Ask (matches_of app (map string_bytes words.entry.now))
+        (record { settings = job.settings; path = path })))
         (IsUnready (fault_of app (map string_bytes words.entry.now))) }
 {
     let Asked { settings, path } = match read_words(rt.alloc(), program, words) {
@@ -78,7 +79,8 @@ pub fn end_unready<O: Sink, E: Sink>(
     requires out_is_fresh { O.failed out.old ≡ false }
     requires err_is_fresh { E.failed err.old ≡ false }
     ensures words { (kinds : Kinds) → IsUnready kinds why.now → Answers kinds
-        (Keeps (O.contents out.old) (O.contents out.new) × EndsAs (O.failed out.new) (E.failed err.new) Status.Refused result)
+        (Keeps (O.contents out.old) (O.contents out.new) ×
+        EndsAs (O.failed out.new) (E.failed err.new) Status.Refused result)
         (EndsAs (O.failed out.new) (E.failed err.new) Status.Done result) }
     ensures failed { (O.failed out.new ≡ true) ⊎ (E.failed err.new ≡ true) → 4 ≤ code_of result }
 {

@@ -6,9 +6,9 @@ ghost use Rattle.commands.specs.Command.{IsAppOf};
 
 use crate::command::{Program, parse};
 use clap::{ArgMatches, Error};
-use toolrun::{Alphabet, DEFAULT_LIMIT, MAX_LIMIT, Mode, Settings};
 use std::alloc::Global;
 use std::convert::AsStr;
+use toolrun::{Alphabet, DEFAULT_LIMIT, MAX_LIMIT, Mode, Settings};
 
 fn mode_of(matches: &ArgMatches<'_>) -> Mode
     ensures { result ≡ mode_named (first_value (found_of matches.now) (codes "mode")) }

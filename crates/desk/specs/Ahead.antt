@@ -10,11 +10,21 @@ use Rattle.cells.specs.declared.cell.Found.{Found}
 use Rattle.cells.specs.Entries.{Entry, found_at}
 use Rattle.desk.specs.declared.ahead.Halt.{Halt}
 use Rattle.desk.specs.declared.ahead.Halt.TheVariants.{Memory, Short}
+use Rattle.desk.specs.declared.ahead.Sight.{Sight}
+use Rattle.desk.specs.declared.ahead.Sight.TheVariants.{Known, Literal, Operands}
 use Rattle.desk.specs.declared.frame.Frame.{Frame}
 use Rattle.desk.specs.declared.turn.Turn.{Turn}
 use Rattle.desk.specs.declared.turn.Turn.TheVariants.{Answer, Need}
 use Rattle.desk.specs.Desk.{counted, Fits, left}
+use Rattle.desk.specs.State.{AreCells}
 use Rattle.desk.specs.Turns.{IsTurn}
+
+-- What is known of node n at p before its cell is looked up: it is what it gives, whatever the cells.
+module _ (rules : List Rule) (start : ℕ) (nodes : List Shape) (bodies x : List ℕ) (more : Bool) (n p : ℕ) where
+  abbrev pub IsSight : Sight → Type 0
+  IsSight (Known turn) = (cells : List Entry) → AreCells rules start nodes bodies x more cells → IsTurn rules start nodes bodies x more cells n p turn
+  IsSight Literal = Unit {0}
+  IsSight Operands = Unit {0}
 
 -- What is seen of node n at p: what its cell holds, which a node without operands gets where it has none; or that it has none; or that
 -- its own comparison reaches the last byte of a window behind which there is more.

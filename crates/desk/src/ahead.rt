@@ -6,7 +6,7 @@ ghost use Rattle.gramcheck.specs.Nodes.{Shape, shapes_of};
 ghost use Rattle.pegmatch.specs.Kept.{SpellsSome};
 ghost use Rattle.cells.specs.Entries.{Entry};
 ghost use Rattle.desk.specs.declared.frame.Frame.{Frame};
-ghost use Rattle.desk.specs.Ahead.{IsSeen, IsOn};
+ghost use Rattle.desk.specs.Ahead.{IsSight, IsSeen, IsOn};
 ghost use Rattle.desk.specs.Desk.{counted, Fits};
 ghost use Rattle.desk.specs.State.{AreCells};
 ghost use Rattle.desk.specs.Turns.{IsTurn};
@@ -26,9 +26,40 @@ pub(crate) enum Halt {
     Short,
 }
 
-// What a node without operands gives at a place, whatever the cells; none for any other node.
+/// What is known of a node at a place before its cell is looked up.
+#[derive(Clone, Copy, PartialEq, Eq, Debug)]
+pub(crate) enum Sight {
+    /// What it gives, whatever the cells: it compares one byte, or none.
+    Known(Turn),
+    /// It is a literal, which is compared only where it has no cell.
+    Literal,
+    /// It has operands.
+    Operands,
+}
+
+// What is known of a node at a place before its cell is looked up.
 #[inline(always)]
-fn leaf_of(peg: &SoundPeg, window: &[u8], more: bool, node: usize, place: usize) -> Option<Turn>
+fn sight_of(peg: &SoundPeg, window: &[u8], more: bool, node: usize, place: usize) -> Sight
+    requires sound { IsSoundGrammar peg.now }
+    requires spells { SpellsSome (rules_of peg.now.rules) (shapes_of peg.now.nodes) node }
+    requires place { place ≤ length window.now }
+    requires some { more ≡ true → 0 < length window.now }
+    ensures { IsSight (rules_of peg.now.rules) peg.now.start (shapes_of peg.now.nodes) peg.now.bodies window.now more node place result }
+{
+    match peg.node(node) {
+        Node::Any => Sight::Known(leaf_turn(match_any(window, place), window, more)),
+        Node::Set(set) => Sight::Known(leaf_turn(match_set(set, window, place), window, more)),
+        Node::Act(_) => Sight::Known(Turn::Answer(Found::Took(place))),
+        Node::Open => Sight::Known(Turn::Answer(Found::Took(place))),
+        Node::Close => Sight::Known(Turn::Answer(Found::Took(place))),
+        Node::Bytes(_) => Sight::Literal,
+        _ => Sight::Operands,
+    }
+}
+
+// What a literal gives at a place, whatever the cells; none for any other node.
+#[inline(always)]
+fn literal_of(peg: &SoundPeg, window: &[u8], more: bool, node: usize, place: usize) -> Option<Turn>
     requires sound { IsSoundGrammar peg.now }
     requires spells { SpellsSome (rules_of peg.now.rules) (shapes_of peg.now.nodes) node }
     requires place { place ≤ length window.now }
@@ -37,13 +68,38 @@ fn leaf_of(peg: &SoundPeg, window: &[u8], more: bool, node: usize, place: usize)
         IsTurn (rules_of peg.now.rules) peg.now.start (shapes_of peg.now.nodes) peg.now.bodies window.now more cells node place turn) }
 {
     match peg.node(node) {
-        Node::Any => Some(leaf_turn(match_any(window, place), window, more)),
         Node::Bytes(bytes) => Some(leaf_turn(match_bytes(bytes, window, place), window, more)),
-        Node::Set(set) => Some(leaf_turn(match_set(set, window, place), window, more)),
-        Node::Act(_) => Some(Turn::Answer(Found::Took(place))),
-        Node::Open => Some(Turn::Answer(Found::Took(place))),
-        Node::Close => Some(Turn::Answer(Found::Took(place))),
         _ => None,
+    }
+}
+
+// The cell of a literal at a place, which it gets where it has none.
+#[inline(always)]
+fn see_literal(
+    peg: &SoundPeg,
+    window: &[u8],
+    more: bool,
+    cells: &mut Cells,
+    node: usize,
+    place: usize,
+) -> Result<Option<Found>, Halt>
+    requires sound { IsSoundGrammar peg.now }
+    requires spells { SpellsSome (rules_of peg.now.rules) (shapes_of peg.now.nodes) node }
+    requires place { place ≤ length window.now }
+    requires some { more ≡ true → 0 < length window.now }
+    requires right { AreCells (rules_of peg.now.rules) peg.now.start (shapes_of peg.now.nodes) peg.now.bodies window.now more cells.old }
+    ensures { IsSeen (rules_of peg.now.rules) peg.now.start (shapes_of peg.now.nodes) peg.now.bodies window.now more cells.old cells.new node place result }
+{
+    if let Some(found) = cells.get(node, place) {
+        return Ok(Some(found));
+    }
+    match literal_of(peg, window, more, node, place) {
+        Some(Turn::Answer(found)) => match cells.put(node, place, found) {
+            Ok(()) => Ok(Some(found)),
+            Err(_) => Err(Halt::Memory),
+        },
+        Some(Turn::Need) => Err(Halt::Short),
+        _ => Ok(None),
     }
 }
 
@@ -64,16 +120,20 @@ fn see(
     requires right { AreCells (rules_of peg.now.rules) peg.now.start (shapes_of peg.now.nodes) peg.now.bodies window.now more cells.old }
     ensures { IsSeen (rules_of peg.now.rules) peg.now.start (shapes_of peg.now.nodes) peg.now.bodies window.now more cells.old cells.new node place result }
 {
-    if let Some(found) = cells.get(node, place) {
-        return Ok(Some(found));
-    }
-    match leaf_of(peg, window, more, node, place) {
-        Some(Turn::Answer(found)) => match cells.put(node, place, found) {
-            Ok(()) => Ok(Some(found)),
+    match sight_of(peg, window, more, node, place) {
+        Sight::Known(Turn::Answer(found)) => match cells.get_or_put(node, place, found) {
+            Ok(known) => Ok(Some(known)),
             Err(_) => Err(Halt::Memory),
         },
-        Some(Turn::Need) => Err(Halt::Short),
-        _ => Ok(None),
+        Sight::Known(Turn::Need) => match cells.get(node, place) {
+            Some(found) => Ok(Some(found)),
+            None => Err(Halt::Short),
+        },
+        Sight::Literal => see_literal(peg, window, more, cells, node, place),
+        _ => match cells.get(node, place) {
+            Some(found) => Ok(Some(found)),
+            None => Ok(None),
+        },
     }
 }
 

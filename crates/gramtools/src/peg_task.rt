@@ -12,9 +12,9 @@ ghost use Rattle.toolrun.specs.declared.settings.Mode.TheVariants.{Run, Check, P
 
 use crate::engine::run_units;
 use crate::printing::{Printable, print_rules, read_again};
+use desk::Desk;
 use feed::Source;
 use gramcheck::{Checked, SoundPeg, check_peg};
-use pegmatch::Plain;
 use pegread::{Peg, read_peg};
 use ruletable::{Memory, ReadFault, Sink, WriteFault};
 use std::alloc::Global;
@@ -157,7 +157,7 @@ impl Tool for PegTask {
         match self {
             PegTask::Prints(peg) => print_rules(peg, out),
             PegTask::Runs(peg) => {
-                let mut matcher = Plain::new(alloc);
+                let mut matcher = Desk::new(alloc);
                 run_units(alloc, &mut matcher, peg, settings, reader, out)
             }
         }

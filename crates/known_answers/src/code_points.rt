@@ -51,7 +51,12 @@ fn lines_have_the_code_points_of_utf8(rt: HostRuntime) -> Result<(), Fail> {
     let mut points = Vec::new(rt.alloc());
     for &(line, wanted) in TEXTS {
         assert!(rt; decode(line, &mut points)?, "{line:?} is UTF-8");
-        assert!(rt; points.iter().map(|point| point.value()).eq(wanted.iter().copied()));
+        assert!(rt;
+            points
+                .iter()
+                .map(|point| point.value())
+                .eq(wanted.iter().copied())
+        );
         assert_eq!(rt; utf8_len(line), line.len());
     }
     Ok(())

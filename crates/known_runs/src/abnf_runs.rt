@@ -11,7 +11,7 @@ use std::process::Abort;
 
 // A grammar, the judged rule, how many bytes a line may have, an input, what is to come on both outputs, the status, and how
 // many bytes of the input are left to the reader.
-type AbnfRow = (
+pub type AbnfRow = (
     &'static [u8],
     Option<&'static str>,
     usize,
@@ -297,7 +297,7 @@ fn run_over<'a>(
 }
 
 // Checks a row by reads and writes of so many bytes.
-fn check_row<R: Abort + AllocGlobal>(rt: &R, row: AbnfRow, step: usize)
+pub fn check_row<R: Abort + AllocGlobal>(rt: &R, row: AbnfRow, step: usize)
     requires { 0 < step }
 {
     let (grammar, start, limit, input, text, lines, ends, rest) = row;

@@ -294,7 +294,14 @@ fn grammars_at_the_limits(rt: HostRuntime) -> Result<(), Fail> {
         grammar.push_str(filler.repeat(rt.alloc(), *count)?.as_str())?;
         grammar.push_str(core)?;
         grammar.push_str(")".repeat(rt.alloc(), *closers)?.as_str())?;
-        let ran = run_on(&rt, Program::Pegi, "pegi_limits.peg", grammar.as_str(), &[], b"a")?;
+        let ran = run_on(
+            &rt,
+            Program::Pegi,
+            "pegi_limits.peg",
+            grammar.as_str(),
+            &[],
+            b"a",
+        )?;
         assert!(rt; ran.out.is_empty() && ran.err.as_slice() == *err, "{count}");
         assert!(rt; ran.status == *status, "{count}");
     }

@@ -3,6 +3,8 @@
 #![tactic(auto)]
 
 #[cfg(test)]
+mod abnf_examples;
+#[cfg(test)]
 mod abnf_runs;
 #[cfg(test)]
 mod abnfi_rows;

@@ -2,7 +2,9 @@
 ghost use Rattle.std.specs.Prelude.{◌<◌};
 
 use crate::fakes::{Paper, Tape};
-use gramtools::{Alphabet, MAX_LIMIT, Mode, Settings, SourceOf, Status, one_reply, one_statement, run_peg};
+use gramtools::{
+    Alphabet, MAX_LIMIT, Mode, Settings, SourceOf, Status, one_reply, one_statement, run_peg,
+};
 use ruletable::SinkOf;
 use std::alloc::Global;
 use std::cell::Cell;

@@ -1,4 +1,5 @@
 pub mod LineRunLemmas
 pub mod LineStepLemmas
 pub mod LinesLemmas
+pub mod LinesReplyLemmas
 pub mod NextLineLemmas

@@ -10,5 +10,5 @@ add-requires-clause-free c =
     let whole : take c.args.cells.now.len (c.make_rows.new.cells ++ drop (length c.make_rows.new.cells) c.args.cells.now.items) ≡ c.make_rows.new.cells =
     take-whole _ c.make_rows.new.cells _ (sym (n ∙ m)) in
     let v = c.deref_mut.ensures.value in
-    let same = c.in_ok-wide.ensures.same in
+    let same = c.in_ok-mask.ensures.same in
     rw (whole, same, v) c.requires.free

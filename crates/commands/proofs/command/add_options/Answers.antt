@@ -7,7 +7,8 @@ use Rattle.commands.proofs.command.add_options.Goals as goal
 pub returns : goal.returns
 returns c =
     let mode = c.mode_arg.ensures.rule in
-    let one = c.in_ok-with_mode.ensures.shape c.mode_arg.ensures.local ∙ ap (with_rule (app_of c.args.command)) mode.2 in
+    let one = c.in_ok-with_mode.ensures.shape c.mode_arg.ensures.local
+    ∙ ap (with_rule (app_of c.args.command)) mode.2 in
     let two = c.in_ok-with_limit.ensures.shape c.limit_arg.ensures.local ∙ ap₂ with_rule one c.limit_arg.ensures.rule in
     record {
       options = (

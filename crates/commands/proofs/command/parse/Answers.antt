@@ -16,5 +16,6 @@ returns g c =
         app_parses made.0 _ (map g.S.AsStr.text c.args.words.now) made.2 (app_is_simple c.args.program made.0 made.1)
             (app_is_free c.args.program made.0 made.1) parsed.result parsed.ensures.matches parsed.ensures.kinds,
       );
-      whole = IfOk-weaker parsed.result _ _ (λ m from. is_whole c.args.program made.0 made.1 _ made.2 m from) parsed.ensures.parsed;
+      whole = IfOk-weaker parsed.result _ _ (λ m from. is_whole c.args.program made.0 made.1 _ made.2 m from)
+          parsed.ensures.parsed;
     }

@@ -8,7 +8,13 @@ pub returns-in-Ok : goal.returns-in-Ok
 returns-in-Ok g c =
     let job = c.in-Ok.ensures.job in
     let kinds = fault_of job.0 (map (string_bytes {Z = Global}) c.args.words.now) in
-    record { words = (job.0, job.1, (λ faults. absurd (no_faults kinds job.2.0 faults), λ help. absurd (no_help kinds job.2.0 help))) }
+    record {
+      words = (
+        job.0,
+        job.1,
+        (λ faults. absurd (no_faults kinds job.2.0 faults), λ help. absurd (no_help kinds job.2.0 help)),
+      );
+    }
 
 pub returns-in-Err : goal.returns-in-Err
 returns-in-Err g c =

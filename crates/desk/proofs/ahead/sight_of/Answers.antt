@@ -1,19 +1,14 @@
 use Rattle.std.proofs.Common.{ap, Some, ◌∙◌}
-use Rattle.gramcheck.specs.Nodes.{spells_any, spells_bytes, spells_set, spells_act, spells_open, spells_close}
+use Rattle.gramcheck.specs.Nodes.{spells_any, spells_set, spells_act, spells_open, spells_close}
 use Rattle.gramcheck.specs.Outcome.{act, open_at, close_at}
 use Rattle.pegmatch.proofs.NodeShapeLemmas.{shape_at}
 use Rattle.desk.proofs.IsTurnLemmas.{leaf_turns, mark_turns}
-use Rattle.desk.proofs.ahead.leaf_of.Goals as goal
+use Rattle.desk.proofs.ahead.sight_of.Goals as goal
 
 pub returns-in-Any : goal.returns-in-Any
 returns-in-Any c = λ cells right.
     let here = shape_at c.args.peg.now.nodes c.args.node _ (c.node.ensures ∙ ap Some c.in-Any.is) in
     leaf_turns _ _ _ _ _ _ _ c.requires.sound cells right.found c.args.node c.args.place c.requires.spells _ here (λ m q a. a) _ _ _ (spells_any here) (c.match_any.ensures.value _) c.match_any.ensures.looked c.leaf_turn.ensures
-
-pub returns-in-Bytes : goal.returns-in-Bytes
-returns-in-Bytes c = λ cells right.
-    let here = shape_at c.args.peg.now.nodes c.args.node _ (c.node.ensures ∙ ap Some c.in-Bytes.is) in
-    leaf_turns _ _ _ _ _ _ _ c.requires.sound cells right.found c.args.node c.args.place c.requires.spells _ here (λ m q a. a) _ _ _ (spells_bytes here) (rw c.deref.ensures.value at c.match_bytes.ensures.value _) c.match_bytes.ensures.looked c.leaf_turn-in-Bytes.ensures
 
 pub returns-in-Set : goal.returns-in-Set
 returns-in-Set c = λ cells right.

@@ -1,0 +1,175 @@
+-- The lines of an input and how a run of them ends are determined, and so is its reply.
+-- Serves: one_reply_of_abnf
+use Rattle.std.proofs.Common.{◌≡◌, ◌≢◌, ℕ, suc, ◌<◌, ◌≤◌, ◌&&◌, Bool, true, false, List, [], ◌∷◌, ◌++◌, length, take, drop, get_or, refl, sym, ◌∙◌, ap, subst, arith, inl, inr, length-append, length-take}
+use Rattle.std.proofs.Math.Seq.{get_or-append_seam}
+use Rattle.std.proofs.lemmas.Bool.{cases_lt}
+use Rattle.std.proofs.lemmas.List.{get_or-take}
+use Rattle.std.proofs.lemmas.List.Elements.{All-head, All-tail, All-get_or}
+use Rattle.toolrun.specs.Input.{Input}
+use Rattle.toolrun.specs.Reply.{Reply}
+use Rattle.toolrun.specs.RunSteps.{Replies}
+use Rattle.toolrun.specs.Status.{code_of}
+use Rattle.toolrun.specs.Stop.{message_of, status_of}
+use Rattle.toolrun.specs.declared.stop.Stop.{Stop}
+use Rattle.toolrun.specs.declared.stop.Stop.TheVariants as stop
+use Rattle.lines.specs.InputLines.{HasNoEnd, IsAnswer, answer, status_after, behind, place_taken, IsLine, Lines, none, one_more, Ends, broken, overlong, finished, last_line}
+use Rattle.lines.specs.declared.line_loop.At.{At}
+
+-- two replies of the same parts
+same_reply : (a b : Reply) → a.out ≡ b.out → a.err ≡ b.err → a.status ≡ b.status → a.taken ≡ b.taken → a ≡ b
+same_reply a b out err status taken =
+    let is : record { out = a.out; err = a.err; status = a.status; taken = a.taken } ≡ record { out = b.out; err = b.err; status = b.status; taken = b.taken } = cc in is
+
+-- what stands before the first LF is one
+one_front : (a b x y : List ℕ) → HasNoEnd a → HasNoEnd b → a ++ 10 ∷ x ≡ b ++ 10 ∷ y → a ≡ b
+one_front [] [] x y h k e = refl
+one_front [] (c ∷ b) x y h k e = absurd (All-head (λ v. v ≢ 10) c b k (let f = ap (λ (l : List ℕ). get_or l 0 0) e in sym f))
+one_front (c ∷ a) [] x y h k e = absurd (All-head (λ v. v ≢ 10) c a h (ap (λ (l : List ℕ). get_or l 0 0) e))
+one_front (c ∷ a) (d ∷ b) x y h k e =
+    let first : c ≡ d = ap (λ (l : List ℕ). get_or l 0 0) e in
+    let rest : a ++ 10 ∷ x ≡ b ++ 10 ∷ y = ap (λ (l : List ℕ). drop 1 l) e in
+    let front : a ≡ b = one_front a b x y (All-tail (λ v. v ≢ 10) c a h) (All-tail (λ v. v ≢ 10) d b k) rest in
+    cc
+
+-- a list with an LF is not without one
+has_end : (xs line after : List ℕ) → xs ≡ line ++ 10 ∷ after → HasNoEnd xs → ⊥
+has_end xs line after cut h =
+    let l = ap length cut in
+    let here : get_or xs (length line) 0 ≡ 10 = ap (λ (t : List ℕ). get_or t (length line) 0) cut ∙ get_or-append_seam line 10 after 0 in
+    All-get_or (λ v. v ≢ 10) xs (length line) 0 (omega (arith, l, length-append line (10 ∷ after))) h here
+
+-- nor is a front of it that reaches over the LF
+has_end_within : (n : ℕ) (xs line after : List ℕ) → xs ≡ line ++ 10 ∷ after → length line ≤ n → HasNoEnd (take (suc n) xs) → ⊥
+has_end_within n xs line after cut le h =
+    let l = ap length cut in
+    let here : get_or (take (suc n) xs) (length line) 0 ≡ 10 =
+    get_or-take (suc n) xs (length line) 0 (omega (arith, le)) ∙ ap (λ (t : List ℕ). get_or t (length line) 0) cut ∙ get_or-append_seam line 10 after 0 in
+    All-get_or (λ v. v ≢ 10) (take (suc n) xs) (length line) 0 (omega (arith, l, le, length-take (suc n) xs, length-append line (10 ∷ after))) h here
+
+-- one answer
+one_answer : (P : Type 0) (a b : Bool) → IsAnswer P a → IsAnswer P b → a ≡ b
+one_answer P true true h k = refl
+one_answer P true false h k = absurd (k h)
+one_answer P false true h k = absurd (h k)
+one_answer P false false h k = refl
+
+module _ (Member : List ℕ → Type 0) (limit : ℕ) (input : Input) where
+  abbrev LinesTo : At → List ℕ → Type 0
+  LinesTo at text = Lines Member limit input at text
+
+  abbrev EndsAt : At → List ℕ → Stop → Type 0
+  EndsAt at last why = Ends Member limit input at last why
+
+  abbrev LineAt : ℕ → List ℕ → Type 0
+  LineAt s line = IsLine limit input s line
+
+  -- one line at a place
+  one_line : (s : ℕ) (a b : List ℕ) → LineAt s a → LineAt s b → a ≡ b
+  one_line s a b h k = one_front a b h.after k.after h.one k.one (sym h.cut ∙ k.cut)
+
+  -- two places, and the answers up to them, are the same
+  record Same (at other : At) (text more : List ℕ) : Type 0 where
+    places : at ≡ other
+    texts : text ≡ more
+
+  -- both go on by a line
+  same_next : (at other : At) (text more line next : List ℕ) (said told : Bool) → Same at other text more → LineAt at.place line → LineAt other.place next →
+      IsAnswer (Member line) said → IsAnswer (Member next) told →
+      Same (behind at (length line) said) (behind other (length next) told) (text ++ answer said) (more ++ answer told)
+  same_next at other text more line next said told same h k s t =
+      let place = same.places in
+      let words = same.texts in
+      let lines : line ≡ next = one_line at.place line next h (subst (λ (v : At). LineAt v.place next) (sym place) k) in
+      let answers : said ≡ told = one_answer (Member line) said told s (subst (λ (l : List ℕ). IsAnswer (Member l) told) (sym lines) t) in
+      record { places = cc; texts = cc }
+
+  -- as many lines lead to one place
+  same_place : (at : At) (text : List ℕ) → LinesTo at text → (other : At) (more : List ℕ) → LinesTo other more → at.count ≡ other.count → Same at other text more
+  same_place at text none other more none e = record { places = refl; texts = refl }
+  same_place at text none other more (one_more before front line said u is says) e = absurd (omega (arith, e))
+  same_place at text (one_more before front line said u is says) other more none e = absurd (omega (arith, e))
+  same_place at text (one_more before front line said u is says) other more (one_more prior begun next told v has tells) e =
+      same_next before prior front begun line next said told (same_place before front u prior begun v (omega (arith, e))) is has says tells
+
+  -- after so many lines there is a further one
+  record GoesOn (n : ℕ) : Type 0 where
+    at : At
+    text : List ℕ
+    lines : LinesTo at text
+    count : at.count ≡ n
+    line : List ℕ
+    is : LineAt at.place line
+
+  goes_on : (n : ℕ) (at : At) (text : List ℕ) → LinesTo at text → n < at.count → GoesOn n
+  goes_on n at text none lt = absurd (omega (arith, lt))
+  goes_on n at text (one_more before front line said u is says) lt = elim (cases_lt n before.count) [
+    | inl less ↦ goes_on n before front u less
+    | inr ge ↦ record { at = before; text = front; lines = u; count = omega (arith, lt, ge); line = line; is = is }
+  ]
+
+  -- no run ends where a line and its LF stand
+  no_end : (at : At) (line last : List ℕ) (why : Stop) → LineAt at.place line → EndsAt at last why → ⊥
+  no_end at line last why is (broken fault free short) = has_end (drop at.place input.bytes) line is.after is.cut free
+  no_end at line last why is (overlong free long) = has_end_within limit (drop at.place input.bytes) line is.after is.cut is.within free
+  no_end at line last why is (finished fine empty) =
+      let l = ap length is.cut in
+      let m = ap length empty in
+      omega (arith, l, m, length-append line (10 ∷ is.after))
+  no_end at line last why is (last_line said fine some free short says) = has_end (drop at.place input.bytes) line is.after is.cut free
+
+  -- nor behind fewer lines than another run answers
+  no_earlier_end : (at other : At) (text more last : List ℕ) (why : Stop) → LinesTo at text → EndsAt at last why → LinesTo other more → at.count < other.count → ⊥
+  no_earlier_end at other text more last why lines ends further lt =
+      let g = goes_on at.count other more further lt in
+      let same = same_place at text lines g.at g.text g.lines (sym g.count) in
+      no_end at g.line last why (subst (λ (v : At). LineAt v.place g.line) (sym same.places) g.is) ends
+
+  -- two ends are the same
+  record OneEnd (last other : List ℕ) (why end : Stop) : Type 0 where
+    lasts : last ≡ other
+    stops : why ≡ end
+
+  one_end : (at : At) (last other : List ℕ) (why end : Stop) → EndsAt at last why → EndsAt at other end → OneEnd last other why end
+  one_end at last other why end (broken fault free short) (broken fault' free' short') = record { lasts = refl; stops = refl }
+  one_end at last other why end (broken fault free short) (overlong free' long) = absurd (omega (arith, short, long))
+  one_end at last other why end (broken fault free short) (finished fine empty) = absurd (cc)
+  one_end at last other why end (broken fault free short) (last_line said fine some free' short' says) = absurd (cc)
+  one_end at last other why end (overlong free long) (broken fault free' short) = absurd (omega (arith, short, long))
+  one_end at last other why end (overlong free long) (overlong free' long') = record { lasts = refl; stops = refl }
+  one_end at last other why end (overlong free long) (finished fine empty) = absurd (let l = ap length empty in omega (arith, l, long))
+  one_end at last other why end (overlong free long) (last_line said fine some free' short says) = absurd (omega (arith, short, long))
+  one_end at last other why end (finished fine empty) (broken fault free short) = absurd (cc)
+  one_end at last other why end (finished fine empty) (overlong free long) = absurd (let l = ap length empty in omega (arith, l, long))
+  one_end at last other why end (finished fine empty) (finished fine' empty') = record { lasts = refl; stops = refl }
+  one_end at last other why end (finished fine empty) (last_line said fine' some free short says) = absurd (some empty)
+  one_end at last other why end (last_line said fine some free short says) (broken fault free' short') = absurd (cc)
+  one_end at last other why end (last_line said fine some free short says) (overlong free' long) = absurd (omega (arith, short, long))
+  one_end at last other why end (last_line said fine some free short says) (finished fine' empty) = absurd (some empty)
+  one_end at last other why end (last_line said fine some free short says) (last_line told fine' some' free' short' tells) =
+      let answers : said ≡ told = one_answer (Member (drop at.place input.bytes)) said told says tells in
+      record { lasts = ap answer answers; stops = ap (λ (b : Bool). stop.Quiet (status_after (at.all && b))) answers }
+
+  abbrev HasReply : Reply → Type 0
+  HasReply reply = Replies (Lines Member limit input) (Ends Member limit input) (place_taken limit input) reply
+
+  -- two replies behind as many lines
+  settled : (a b : Reply) (r : HasReply a) (q : HasReply b) → Same r.point q.point r.before q.before → a ≡ b
+  settled a b r q same =
+      let place = same.places in
+      let h = one_end r.point r.last q.last r.stop q.stop r.ends (subst (λ (v : At). EndsAt v q.last q.stop) (sym place) q.ends) in
+      let last = h.lasts in
+      let why = h.stops in
+      same_reply a b (r.out ∙ ap (λ t. t ++ r.last) same.texts ∙ ap (λ t. q.before ++ t) last ∙ sym q.out)
+      (r.err ∙ ap (λ w. message_of w) why ∙ sym q.err)
+      (r.status ∙ ap (λ w. code_of (status_of w)) why ∙ sym q.status)
+      (r.taken ∙ ap (λ (v : At). place_taken limit input v) place ∙ sym q.taken)
+
+  -- one reply
+  pub one_lines_reply : (a b : Reply) → HasReply a → HasReply b → a ≡ b
+  one_lines_reply a b r q = elim (cases_lt r.point.count q.point.count) [
+    | inl lt ↦ absurd (no_earlier_end r.point q.point r.before q.before r.last r.stop r.steps r.ends q.steps lt)
+    | inr ge ↦ elim (cases_lt q.point.count r.point.count) [
+      | inl lt ↦ absurd (no_earlier_end q.point r.point q.before r.before q.last q.stop q.steps q.ends r.steps lt)
+      | inr le ↦ settled a b r q (same_place r.point r.before r.steps q.point q.before q.steps (omega (arith, ge, le)))
+    ]
+  ]

@@ -1,0 +1,1 @@
+abnfi -s rule abnf.abnf < lines.txt

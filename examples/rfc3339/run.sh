@@ -1,0 +1,1 @@
+abnfi -s date-time rfc3339.abnf < lines.txt

@@ -1,0 +1,1 @@
+abnfi -s URI-reference rfc3986.abnf < lines.txt

@@ -1,0 +1,1 @@
+abnfi rfc5322.abnf < lines.txt

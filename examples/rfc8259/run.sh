@@ -1,0 +1,1 @@
+abnfi rfc8259.abnf < lines.txt

@@ -1,0 +1,145 @@
+/* A library for LD_PRELOAD that refuses memory, writes and reads of the program that it is loaded into.
+ *
+ * FAULT_GROWTH=N      the Nth call that asks for memory is refused
+ * FAULT_LASTS=1       and so are all calls behind it
+ * FAULT_ROOM=FD:N     writes to FD are taken up to N bytes in all; then they fail
+ * FAULT_WRITE=N       each write takes at most N bytes
+ * FAULT_READ=N        the Nth read fails, of any file
+ * FAULT_INPUT=N       reads of standard input give at most N bytes in all; then they fail
+ * FAULT_PIECE=N       each read gives at most N bytes
+ * FAULT_TOLD=FILE     a file that is made when something is refused
+ */
+#define _GNU_SOURCE
+#include <errno.h>
+#include <fcntl.h>
+#include <stddef.h>
+#include <stdlib.h>
+#include <string.h>
+#include <sys/mman.h>
+#include <sys/syscall.h>
+#include <sys/uio.h>
+#include <unistd.h>
+
+extern void *__libc_malloc(size_t);
+extern void *__libc_calloc(size_t, size_t);
+extern void *__libc_realloc(void *, size_t);
+extern void *__libc_memalign(size_t, size_t);
+
+static long growth = -1, room = -1, most_written = -1, bad_read = -1, input = -1, piece = -1;
+static int room_fd = -1, lasts = 0;
+static const char *told;
+
+static long number(const char *name) {
+    const char *text = getenv(name);
+    return text ? atol(text) : -1;
+}
+
+__attribute__((constructor)) static void begin(void) {
+    const char *text = getenv("FAULT_ROOM");
+    if (text) {
+        room_fd = atoi(text);
+        room = strchr(text, ':') ? atol(strchr(text, ':') + 1) : 0;
+    }
+    most_written = number("FAULT_WRITE");
+    bad_read = number("FAULT_READ");
+    input = number("FAULT_INPUT");
+    piece = number("FAULT_PIECE");
+    told = getenv("FAULT_TOLD");
+    lasts = getenv("FAULT_LASTS") != NULL;
+    growth = number("FAULT_GROWTH");
+}
+
+static void refused(void) {
+    if (told) {
+        long fd = syscall(SYS_openat, AT_FDCWD, told, O_CREAT | O_WRONLY, 0600);
+        if (fd >= 0)
+            syscall(SYS_close, fd);
+    }
+}
+
+static int may_grow(void) {
+    if (growth <= 0 || --growth > 0)
+        return 1;
+    growth = lasts ? 1 : 0;
+    refused();
+    errno = ENOMEM;
+    return 0;
+}
+
+void *malloc(size_t size) { return may_grow() ? __libc_malloc(size) : NULL; }
+
+void *calloc(size_t count, size_t size) { return may_grow() ? __libc_calloc(count, size) : NULL; }
+
+void *realloc(void *old, size_t size) { return may_grow() ? __libc_realloc(old, size) : NULL; }
+
+void *memalign(size_t align, size_t size) { return may_grow() ? __libc_memalign(align, size) : NULL; }
+
+void *aligned_alloc(size_t align, size_t size) { return may_grow() ? __libc_memalign(align, size) : NULL; }
+
+int posix_memalign(void **to, size_t align, size_t size) {
+    if (!may_grow())
+        return ENOMEM;
+    *to = __libc_memalign(align, size);
+    return *to || !size ? 0 : ENOMEM;
+}
+
+void *mmap(void *at, size_t size, int prot, int flags, int fd, off_t offset) {
+    if ((flags & MAP_ANONYMOUS) && !may_grow())
+        return MAP_FAILED;
+    return (void *)syscall(SYS_mmap, at, size, prot, flags, fd, offset);
+}
+
+ssize_t write(int fd, const void *from, size_t count) {
+    if (most_written >= 0 && count > (size_t)most_written)
+        count = most_written;
+    if (fd == room_fd) {
+        if (count > (size_t)room)
+            count = room;
+        if (room == 0) {
+            refused();
+            errno = ENOSPC;
+            return -1;
+        }
+        room -= count;
+    }
+    return syscall(SYS_write, fd, from, count);
+}
+
+ssize_t __write(int fd, const void *from, size_t count) { return write(fd, from, count); }
+
+ssize_t writev(int fd, const struct iovec *parts, int count) {
+    for (int i = 0; i < count; i++)
+        if (parts[i].iov_len)
+            return write(fd, parts[i].iov_base, parts[i].iov_len);
+    return 0;
+}
+
+ssize_t read(int fd, void *to, size_t count) {
+    if (bad_read > 0 && --bad_read == 0) {
+        refused();
+        errno = EIO;
+        return -1;
+    }
+    if (piece >= 0 && count > (size_t)piece)
+        count = piece;
+    if (fd == 0 && input >= 0) {
+        if (input == 0) {
+            refused();
+            errno = EIO;
+            return -1;
+        }
+        if (count > (size_t)input)
+            count = input;
+    }
+    ssize_t got = syscall(SYS_read, fd, to, count);
+    if (fd == 0 && input > 0 && got > 0)
+        input -= got;
+    return got;
+}
+
+ssize_t readv(int fd, const struct iovec *parts, int count) {
+    for (int i = 0; i < count; i++)
+        if (parts[i].iov_len)
+            return read(fd, parts[i].iov_base, parts[i].iov_len);
+    return 0;
+}

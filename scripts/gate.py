@@ -1,0 +1,49 @@
+#!/usr/bin/env python3
+"""The gate: the form of the edits that must fail, `rt ci`, and where both are green the programs as users run them: random cases
+against slow answers, and runs in which memory, writes, reads and stack are refused.
+
+usage: gate.py
+
+Prints the last line of `rt ci` last. The status is 0 if all of it is green. RT names the command, `rt` if not set. What is not
+built, and what there is no C compiler for, is skipped: `rt ci` has proved and run it in its own way.
+"""
+import os
+import pathlib
+import subprocess
+import sys
+
+TOP = pathlib.Path(__file__).resolve().parent.parent
+RT = os.environ.get("RT", "rt").split()
+
+
+def script(name, *words):
+    """Runs a script beside this one, and tells whether it ended well."""
+    return subprocess.run([sys.executable, "-B", TOP / "scripts" / name, *words], cwd=TOP, check=False).returncode == 0
+
+
+def ci():
+    """Runs `rt ci`, shows what it prints, and returns its status and its last line, which is not shown yet."""
+    last = ""
+    try:
+        run = subprocess.Popen([*RT, "ci"], cwd=TOP, stdout=subprocess.PIPE, stderr=subprocess.STDOUT, text=True, errors="replace")
+    except OSError as fault:
+        return 1, f"{RT[0]}: {fault}"
+    for line in run.stdout:
+        if last:
+            print(last, flush=True)
+        last = line.rstrip("\n")
+    return run.wait(), last
+
+
+def main():
+    formed = script("edit_index.py", "-q")
+    status, last = ci()
+    green = formed and status == 0
+    if green:
+        print(last, flush=True)
+        green = all([script("random_cases.py", "-n", "5000"), script("faults.py")])
+    print(last, flush=True)
+    return 0 if green else status or 1
+
+
+sys.exit(main())

@@ -1,0 +1,141 @@
+"""Random grammars in ABNF, their texts, and lines for them."""
+import slow_abnf
+
+NAMES = ["s", "A-1", "b", "C"]
+LETTERS = b"abAB01"
+
+
+def leaf(r, names):
+    kind = r.choice(["text"] * 4 + ["values", "range", "name", "name", "name", "core"] + ["prose"] * (r.random() < 0.05))
+    if kind == "text":
+        letters = bytes(r.choice(LETTERS + b" %") for _ in range(r.choice([0, 1, 1, 1, 2, 2, 3])))
+        return kind, letters, r.random() < 0.3
+    if kind == "values":
+        return kind, [r.choice([65, 97, 98, 48, 300, 255, 13]) for _ in range(r.choice([1, 1, 2]))]
+    if kind == "range":
+        first = r.choice([0, 48, 65, 97, 97, 200])
+        return kind, first, first + r.choice([0, 1, 25, 100, 2000, -1 if first else 0])
+    if kind == "prose":
+        return kind, b"any text"
+    found = r.choice(["ALPHA", "digit", "BIT", "HEXDIG", "WSP", "LWSP", "Crlf"] if kind == "core" else names)
+    return "name", found if r.random() < 0.8 else found.swapcase()
+
+
+def element(r, names, depth):
+    if depth == 0 or r.random() < 0.25:
+        return leaf(r, names)
+    kind = r.choice(["concat", "concat", "alt", "alt", "rep", "rep", "opt"])
+    if kind in ("concat", "alt"):
+        return kind, [element(r, names, depth - 1) for _ in range(r.choice([2, 2, 3]))]
+    if kind == "opt":
+        return kind, element(r, names, depth - 1)
+    least = r.choice([0, 0, 1, 1, 2, 3])
+    most = r.choice([None, None, least, least + r.randrange(3), 7, least - 1 if least else 0])
+    return kind, least, most, element(r, names, depth - 1)
+
+
+def grammar(r):
+    """Returns a random grammar: recursive ones, names without a rule, `=/`, core rules replaced or extended."""
+    names = NAMES[:r.choice([1, 2, 2, 3, 4])]
+    rules = [(name, r.random() < 0.05, element(r, names + ["z"] * (r.random() < 0.05), 3)) for name in names]
+    for name in names:
+        if r.random() < 0.15:
+            rules.insert(r.randrange(len(rules) + 1), (r.choice([name, name.upper()]), True, element(r, names, 2)))
+    if r.random() < 0.1:
+        rules.append((r.choice(["DIGIT", "wsp", "Alpha", "LF"]), r.random() < 0.5, element(r, names, 1)))
+    if r.random() < 0.04:
+        rules.append((r.choice(names).swapcase(), False, element(r, names, 1)))
+    return rules
+
+
+def grown(r, rules, e, left):
+    """Returns a string that the element derives, as far as so many steps go; else any."""
+    kind = e[0]
+    if left <= 0 or kind == "prose":
+        return b""
+    if kind == "text":
+        return e[1] if e[2] else bytes(r.choice([it, ord(chr(it).swapcase())]) for it in e[1])
+    if kind == "values":
+        return bytes(it for it in e[1] if it < 256)
+    if kind == "range":
+        return bytes([r.randint(e[1], min(e[2], 255))]) if e[1] <= min(e[2], 255) else b""
+    if kind == "concat":
+        return b"".join(grown(r, rules, it, left - 1) for it in e[1])
+    if kind == "alt":
+        return grown(r, rules, r.choice(e[1]), left - 1)
+    if kind == "opt":
+        return grown(r, rules, e[1], left - 1) if r.random() < 0.5 else b""
+    if kind == "rep":
+        most = e[1] + 2 if e[2] is None else min(e[2], e[1] + 2)
+        return b"".join(grown(r, rules, e[3], left - 1) for _ in range(r.randint(min(e[1], most), most)))
+    return grown(r, rules, rules.all.get(e[1].upper(), ("prose", b"")), left - 1)
+
+
+def line(r, rules, judged):
+    """Returns a line that the judged rule derives, or one near it, or any."""
+    if r.random() < 0.25:
+        return bytes(r.choice(LETTERS) for _ in range(r.randrange(6)))
+    found = bytearray(grown(r, rules, ("name", judged), 12)[:10])
+    if r.random() < 0.4:
+        at = r.randrange(len(found) + 1)
+        found[at:at + r.randrange(2)] = bytes([r.choice(LETTERS)] * r.randrange(2))
+    return bytes(found).replace(b"\n", b"")
+
+
+def given(r, grammar_of, judged, count):
+    rules = slow_abnf.Rules(grammar_of)
+    first = judged or next(iter(rules.file))
+    lines = [line(r, rules, first) for _ in range(count)]
+    return b"\n".join(lines) + r.choice([b"", b"\n", b"\n"])
+
+
+def number_text(r, value, base):
+    zeros = "0" * r.choice([0, 0, 0, 1, 2])
+    return zeros + {"x": "%X" % value, "d": "%d" % value, "b": bin(value)[2:]}[base]
+
+
+def blank(r):
+    return r.choice([" ", " ", " ", "  ", "\t", "\n    ", " ; a comment\n\t  ", "\n\n;\r\n    "])
+
+
+def repeat_text(r, least, most):
+    if least == most and r.random() < 0.7:
+        return str(least)
+    front = "" if least == 0 and r.random() < 0.7 else str(least)
+    return front + "*" + ("" if most is None else str(most))
+
+
+def plain_text(r, e):
+    kind = e[0]
+    if kind == "text":
+        return ("%s" if e[2] else r.choice(["", "", "%i", "%I"])) + '"' + e[1].decode() + '"'
+    if kind in ("values", "range"):
+        base = r.choice("xxdb")
+        mark, join = r.choice([base, base.upper()]), "." if kind == "values" else "-"
+        return "%" + mark + join.join(number_text(r, it, base) for it in (e[1] if kind == "values" else e[1:]))
+    if kind == "name":
+        return e[1]
+    if kind == "prose":
+        return "<" + e[1].decode() + ">"
+    if kind == "concat":
+        return blank(r).join(text_of(r, it, "concat") for it in e[1])
+    if kind == "alt":
+        return r.choice([" / ", "/", blank(r) + "/" + blank(r)]).join(text_of(r, it, "alt") for it in e[1])
+    if kind == "opt":
+        return "[" + plain_text(r, e[1]) + blank(r) * r.randrange(2) + "]"
+    return repeat_text(r, e[1], e[2]) + text_of(r, e[3], "rep")
+
+
+def text_of(r, e, within):
+    text, kind = plain_text(r, e), e[0]
+    loose = {"alt": True, "concat": within in ("concat", "rep"), "rep": within == "rep"}.get(kind, False)
+    if loose or r.random() < 0.05:
+        return "(" + blank(r) * r.randrange(2) + text + blank(r) * r.randrange(2) + ")"
+    return text
+
+
+def grammar_text(r, rules):
+    """Returns the text of a grammar, and each rule's names as it spells them."""
+    margin = r.choice(["", "", "  "])
+    return "".join(margin + name + r.choice([" ", ""]) + ("=/" if adds else "=") + " " + plain_text(r, body) + r.choice(["\n", "\r\n", " ; end\n"])
+                   for name, adds, body in rules).encode()

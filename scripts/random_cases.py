@@ -1,0 +1,112 @@
+#!/usr/bin/env python3
+"""Compares bin/pegi and bin/abnfi with slow answers to random grammars and inputs (slow_peg.py, slow_abnf.py).
+
+usage: random_cases.py [-n COUNT] [-s SEED] [pegi | abnfi]
+
+A case is a unit that pegi tries, a line that abnfi judges, or a grammar that is refused. COUNT cases are compared, 20000 if
+not given, half of them by each program. Cases and their order follow from the seed alone. Prints how many cases were compared; at the
+first disagreement it prints the case and ends with status 1. A program that is not built is skipped.
+"""
+import argparse
+import collections
+import pathlib
+import random
+import subprocess
+import sys
+import tempfile
+
+import random_abnf
+import random_peg
+import slow_abnf
+import slow_peg
+
+TOP = pathlib.Path(__file__).resolve().parent.parent
+LINES = 40
+
+# A run: the words behind the grammar's name, the grammar's text, the input, and what is to come of it.
+Case = collections.namedtuple("Case", "words grammar given wanted count")
+
+
+def peg_case(r):
+    """Returns a random run of pegi; none where its slow answer takes too long."""
+    rules, given = random_peg.grammar(r), random_peg.given(r)
+    start = r.choice([it[0] for it in rules] + ["X"]) if r.random() < 0.1 else None
+    limit, raw = r.choice([65536] * 8 + [1, 2, 3, 5, 10]), r.random() < 0.2
+    words = ["-l", str(limit)] + ["-r"] * raw + (["-s", start] if start else [])
+    text = random_peg.grammar_text(r, rules)
+    try:
+        *wanted, count = slow_peg.answer(rules, given, limit, start, raw)
+    except (slow_peg.TooSlow, RecursionError):
+        return None
+    return Case(words, text, given, tuple(wanted), count)
+
+
+def abnf_case(r):
+    """Returns a random run of abnfi."""
+    rules = random_abnf.grammar(r)
+    judged = r.choice([it[0].upper() for it in rules] + ["X", "alpha"]) if r.random() < 0.1 else None
+    limit = r.choice([65536] * 8 + [5, 8])
+    words = ["-l", str(limit)] + (["-s", judged] if judged else [])
+    text, given = random_abnf.grammar_text(r, rules), random_abnf.given(r, rules, judged, LINES)
+    *wanted, count = slow_abnf.answer(rules, given, limit, judged)
+    return Case(words, text, given, tuple(wanted), count)
+
+
+def answer_of(program, case, file):
+    """Returns both outputs and the status of a run; none of them where it does not end."""
+    file.write_bytes(case.grammar)
+    try:
+        ran = subprocess.run([program, *case.words, file], input=case.given, capture_output=True, timeout=60)
+    except subprocess.TimeoutExpired:
+        return None, None, "no end"
+    return ran.stdout, ran.stderr, ran.returncode
+
+
+def show(program, case, found):
+    """Prints a case in which the program's answer is another."""
+    print(f"disagreement: {program.name} {' '.join(case.words)}")
+    for what, text in (("grammar", case.grammar), ("input", case.given)):
+        print(f"{what}: {text!r}")
+    for what, wanted, got in zip(("output", "error output", "status"), case.wanted, found):
+        print(f"{what}: wanted {wanted!r}" + ("" if wanted == got else f"\n{what}: got    {got!r}"))
+
+
+def compare(program, make, count, seed, folder):
+    """Compares so many cases of a program. Returns how many ended by each status; none at a disagreement."""
+    done, statuses, r, file = 0, collections.Counter(), random.Random(f"{seed} {program.name}"), folder / "grammar"
+    while done < count:
+        case = make(r)
+        if case is None:
+            continue
+        found = answer_of(program, case, file)
+        if found != case.wanted:
+            show(program, case, found)
+            return None
+        done += case.count
+        statuses[found[2]] += 1
+    runs = ", ".join(f"{many} of status {status}" for status, many in sorted(statuses.items()))
+    print(f"random_cases: {program.name}: {done} cases agree, in {sum(statuses.values())} runs ({runs}), seed {seed}", flush=True)
+    return statuses
+
+
+def main():
+    words = argparse.ArgumentParser(description="Compares the programs with slow answers to random cases.")
+    words.add_argument("-n", type=int, default=20000, metavar="COUNT")
+    words.add_argument("-s", default="1", metavar="SEED")
+    words.add_argument("program", nargs="?", choices=["pegi", "abnfi"])
+    given = words.parse_args()
+    sys.setrecursionlimit(20000)
+    right = True
+    with tempfile.TemporaryDirectory(prefix="random_cases-") as folder:
+        for name, make in (("pegi", peg_case), ("abnfi", abnf_case)):
+            program = TOP / "bin" / name
+            if given.program not in (None, name):
+                continue
+            if not program.exists():
+                print(f"random_cases: {name}: not built: skipped")
+            elif compare(program, make, given.n // 2 if given.program is None else given.n, given.s, pathlib.Path(folder)) is None:
+                right = False
+    return 0 if right else 1
+
+
+sys.exit(main())

@@ -1,0 +1,229 @@
+"""What abnfi must answer, worked out slowly and plainly: the strings that rules derive (RFC 5234, sections 2 to 4, and RFC
+7405) and the notes on a grammar. It shares nothing with the crates.
+
+An element is a tuple: ("text", b, is_case_sensitive), ("values", [v ..]), ("range", a, b), ("concat", [e ..]), ("alt", [e ..]),
+("rep", a, b or None, e), ("opt", e), ("name", n), ("prose", text). A grammar is a list of (name, adds, element), where `adds`
+tells whether the rule is given by `=/`.
+"""
+
+
+def name(text):
+    return ("name", text)
+
+
+def text(letters):
+    return ("text", letters, False)
+
+
+def either(*parts):
+    return ("alt", list(parts))
+
+
+# RFC 5234, appendix B.1
+CORE = {
+    "ALPHA": either(("range", 0x41, 0x5A), ("range", 0x61, 0x7A)),
+    "BIT": either(text(b"0"), text(b"1")),
+    "CHAR": ("range", 0x01, 0x7F),
+    "CR": ("values", [0x0D]),
+    "CRLF": ("concat", [name("CR"), name("LF")]),
+    "CTL": either(("range", 0x00, 0x1F), ("values", [0x7F])),
+    "DIGIT": ("range", 0x30, 0x39),
+    "DQUOTE": ("values", [0x22]),
+    "HEXDIG": either(name("DIGIT"), *(text(bytes([it])) for it in b"ABCDEF")),
+    "HTAB": ("values", [0x09]),
+    "LF": ("values", [0x0A]),
+    "LWSP": ("rep", 0, None, either(name("WSP"), ("concat", [name("CRLF"), name("WSP")]))),
+    "OCTET": ("range", 0x00, 0xFF),
+    "SP": ("values", [0x20]),
+    "VCHAR": ("range", 0x21, 0x7E),
+    "WSP": either(name("SP"), name("HTAB")),
+}
+
+
+def alternatives(e):
+    return e[1] if e[0] == "alt" else [e]
+
+
+class Rules:
+    """The rules that the definitions of a file make; keys are names in capitals."""
+
+    def __init__(self, grammar):
+        self.file, self.spelled, self.again, self.early = {}, {}, set(), set()
+        for spelled, adds, body in grammar:
+            self.define(spelled, adds, body)
+        left_alone = {it: body for it, body in CORE.items() if it not in self.file}
+        self.all = {**self.file, **left_alone}
+
+    def define(self, spelled, adds, body):
+        key = spelled.upper()
+        self.spelled.setdefault(key, spelled)
+        old = self.file.get(key, CORE.get(key) if adds else None)
+        if adds and old is not None:
+            self.file[key] = either(*alternatives(old), *alternatives(body))
+        elif key in self.file:
+            self.again.add(key)
+        else:
+            self.file[key] = body
+            if adds:
+                self.early.add(key)
+
+
+def parts(e):
+    """Returns the elements right inside an element."""
+    if e[0] in ("concat", "alt"):
+        return e[1]
+    return [e[-1]] if e[0] in ("rep", "opt") else []
+
+
+def walk(e):
+    """Yields an element and all inside it, from left to right."""
+    yield e
+    for part in parts(e):
+        yield from walk(part)
+
+
+def names_in(e):
+    return [it[1] for it in walk(e) if it[0] == "name"]
+
+
+def has_prose(e):
+    return any(it[0] == "prose" for it in walk(e))
+
+
+def reached(rules, judged):
+    """Returns the least set of names that holds the judged one and, with each, those in its body."""
+    found, left = set(), [judged.upper()]
+    while left:
+        key = left.pop()
+        if key not in found:
+            found.add(key)
+            left += [it.upper() for it in names_in(rules.all[key])] if key in rules.all else []
+    return found
+
+
+def notes_on(rules, judged):
+    """Returns the lines of the notes on a grammar, and whether it is refused."""
+    first = judged or next(iter(rules.file))
+    uses = ([judged] if judged else []) + [it for body in rules.all.values() for it in names_in(body)]
+    undefined, used = {}, set()
+    for it in uses:
+        if it.upper() not in rules.all:
+            undefined.setdefault(it.upper(), it)
+    for body in rules.all.values():
+        used.update(it.upper() for it in names_in(body))
+    lines = [f"rule '{rules.spelled[it]}' redefined" for it in rules.file if it in rules.again]
+    lines += [f"rule '{rules.spelled[it]}' extended before it is defined" for it in rules.file if it in rules.early]
+    lines += [f"rule '{it}' used but not defined" for it in undefined.values()]
+    lines += [f"prose in rule '{rules.spelled[it]}'" for it, body in rules.file.items() if has_prose(body)]
+    lines += [f"rule '{rules.spelled[it]}' defined but not used" for it in rules.file
+              if it not in used and it != first.upper()]
+    near = reached(rules, first)
+    broken = any(it not in rules.all or has_prose(rules.all[it]) for it in near)
+    return "".join(it + "\n" for it in lines).encode(), bool(rules.again) or broken
+
+
+class Deriver:
+    """Which parts of a line the rules derive. A set of places is a number whose bits are the places."""
+
+    def __init__(self, rules, line):
+        self.rules, self.line, self.size = rules.all, line, len(line)
+        self.ends = {}
+
+    def derives(self, key):
+        """Tells whether the rule derives the line: the least sets, by rounds until none grows."""
+        self.ends = {it: [0] * (self.size + 1) for it in self.wanted(key)}
+        while True:
+            before = {it: list(rows) for it, rows in self.ends.items()}
+            for it in self.ends:
+                self.ends[it] = [self.behind(self.rules[it], 1 << place) for place in range(self.size + 1)]
+            if before == self.ends:
+                return bool(self.ends[key][0] >> self.size & 1)
+
+    def wanted(self, key):
+        found, left = set(), [key]
+        while left:
+            it = left.pop()
+            if it not in found:
+                found.add(it)
+                left += [other.upper() for other in names_in(self.rules[it])]
+        return found
+
+    def behind(self, e, places):
+        """Returns where a string of the element may end that begins at one of the places."""
+        return getattr(self, "behind_" + e[0])(e, places) if places else 0
+
+    def over(self, places, tests):
+        """Returns the places behind letters that meet the tests one after another."""
+        for test in tests:
+            ends = 0
+            for place in range(self.size):
+                if places >> place & 1 and test(self.line[place]):
+                    ends |= 1 << place + 1
+            places = ends
+        return places
+
+    def behind_text(self, e, places):
+        _, letters, exact = e
+        return self.over(places, [lambda b, c=c: b == c or not exact and bytes([b]).lower() == bytes([c]).lower()
+                                  for c in letters])
+
+    def behind_values(self, e, places):
+        return self.over(places, [lambda b, v=v: b == v for v in e[1]])
+
+    def behind_range(self, e, places):
+        return self.over(places, [lambda b: e[1] <= b <= e[2]])
+
+    def behind_concat(self, e, places):
+        for part in e[1]:
+            places = self.behind(part, places)
+        return places
+
+    def behind_alt(self, e, places):
+        ends = 0
+        for part in e[1]:
+            ends |= self.behind(part, places)
+        return ends
+
+    def behind_opt(self, e, places):
+        return places | self.behind(e[1], places)
+
+    def behind_rep(self, e, places):
+        _, least, most, part = e
+        for _ in range(least):
+            places = self.behind(part, places)
+        if most is not None and most < least:
+            return 0
+        ends, turn = places, least
+        while most is None or turn < most:
+            places = self.behind(part, places)
+            turn += 1
+            if places | ends == ends and most is None:
+                break
+            ends |= places
+        return ends
+
+    def behind_name(self, e, places):
+        ends, rows = 0, self.ends[e[1].upper()]
+        for place in range(self.size + 1):
+            if places >> place & 1:
+                ends |= rows[place]
+        return ends
+
+
+def answer(grammar, given, limit, judged):
+    """Returns the output, the error output, the status, and how many lines were judged; refusals are one."""
+    rules = Rules(grammar)
+    told, refused = notes_on(rules, judged)
+    if refused:
+        return b"", told, 2, 1
+    key = (judged or next(iter(rules.file))).upper()
+    lines = given.split(b"\n")
+    lines = lines[:-1] if lines[-1] == b"" else lines
+    out, status = [], 0
+    for number, line in enumerate(lines, 1):
+        if len(line) > limit:
+            return b"".join(out), told + b"line %d longer than %d bytes\n" % (number, limit), 3, number
+        yes = Deriver(rules, line).derives(key)
+        out.append(b"yes\n" if yes else b"no\n")
+        status = status if yes else 1
+    return b"".join(out), told, status, max(1, len(lines))
