@@ -1,5 +1,5 @@
 -- How a feed grows, call by call.
--- Serves: Feed::fill, and gramtools' run_peg
+-- Serves: Feed::fill, run_peg (right)
 use Rattle.std.proofs.Common.{◌≡◌, ℕ, zero, ◌+◌, List, [], ◌++◌, length, refl, sym, ◌∙◌, ap, append_assoc, arith, Option, Some, None, inl, inr, length-append}
 use Rattle.std.proofs.lemmas.List.{append-nil}
 use Rattle.std.specs.Io.KnownBytes.{Consumes}

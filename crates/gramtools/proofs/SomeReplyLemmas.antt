@@ -1,4 +1,5 @@
 -- Each input has a reply, and the text of the first units is a beginning of it.
+-- Serves: run_peg (right)
 use Rattle.std.proofs.Common.{◌≡◌, ℕ, suc, zero, ◌+◌, ◌<◌, ◌≤◌, Bool, true, false, List, [], ◌++◌, length, drop, refl, sym, arith, inl, inr, ◌⊎◌, length-drop}
 use Rattle.std.proofs.Math.Nat.{min-le_left, min-le_right, le-min}
 use Rattle.std.proofs.lemmas.Bool.{cases_lt, cases_eq}

@@ -1,4 +1,5 @@
 -- What came of the start rule at the front of a window is a step of the run.
+-- Serves: run_peg (right)
 use Rattle.std.proofs.Common.{◌≡◌, ℕ, zero, suc, ◌<◌, ◌≤◌, Bool, true, false, Option, List, [], length, drop, take, refl, arith, nat_lt, inl, inr, length-drop, length-take, if◌then◌else◌, ◌==◌}
 use Rattle.std.specs.Prelude.{Result, Ok, Err}
 use Rattle.std.proofs.lemmas.Grind.{common_steps}
