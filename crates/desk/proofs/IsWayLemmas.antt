@@ -12,7 +12,7 @@ use Rattle.gramcheck.specs.Outcome as event
 use Rattle.gramcheck.specs.Outcome.{Event, Outcome, Fails, Takes, Gives, any_takes, set_takes, bytes_take, act, open_at, close_at, name, seq, choice, opt_takes, opt_none, star_none, star_more, plus_takes, and_takes, not_takes, GivesAll, all_done, rest_takes, GivesFirst, first_takes, first_fails}
 use Rattle.gramcheck.specs.Sound.{IsRanked}
 use Rattle.gramcheck.proofs.OneOutcomeLemmas.{same}
-use Rattle.gramcheck.proofs.Spelled.{has_shape}
+use Rattle.gramcheck.proofs.HasShapeLemmas.{has_shape}
 use Rattle.cells.specs.declared.cell.Found.{Found}
 use Rattle.cells.specs.declared.cell.Found.TheVariants.{Failed, Took}
 use Rattle.cells.specs.Entries.{Entry}

@@ -1,7 +1,7 @@
 use Rattle.std.proofs.Common.{ap, Some, ◌∙◌}
 use Rattle.gramcheck.specs.Nodes.{spells_any, spells_set, spells_act, spells_open, spells_close}
 use Rattle.gramcheck.specs.Outcome.{act, open_at, close_at}
-use Rattle.pegmatch.proofs.Spelled.{shape_at}
+use Rattle.pegmatch.proofs.NodeShapeLemmas.{shape_at}
 use Rattle.desk.proofs.IsTurnLemmas.{leaf_turns, mark_turns}
 use Rattle.desk.proofs.ahead.sight_of.Goals as goal
 

@@ -2,7 +2,7 @@ use Rattle.std.proofs.Common.{ap, refl, Some, ◌≡◌, ◌∙◌, arith}
 use Rattle.std.specs.Prelude.{slice_get}
 use Rattle.gramcheck.specs.Nodes as shape
 use Rattle.gramcheck.specs.Nodes.{shapes_of}
-use Rattle.pegmatch.proofs.Spelled.{shape_at}
+use Rattle.pegmatch.proofs.NodeShapeLemmas.{shape_at}
 use Rattle.desk.proofs.IsWayLemmas.{any_ways, bytes_ways, set_ways, name_ways, seq_ways, choice_ways, star_ways, plus_ways, opt_ways, and_ways, not_ways, act_ways, open_ways, close_ways}
 use Rattle.desk.proofs.way.next_way.Goals as goal
 
