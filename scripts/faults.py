@@ -2,12 +2,11 @@
 """Runs bin/pegi and bin/abnfi as users run them, with memory, writes and reads refused by a library (faults/faults.c),
 and with a stack of 256 KB.
 
-usage: faults.py [-d] [SWEEP ..]
+usage: faults.py [SWEEP ..]
 
 The sweeps are `memory`, `writes`, `reads` and `stack`; all of them if none is named. Each prints how many runs it made.
 A run that is not as it must be is printed, and then the status is 1. A program that is not built is skipped, and so are
-all sweeps but `stack` where there is no C compiler `cc`. -d adds runs to `stack` that recurse as deep as an input is
-long.
+all sweeps but `stack` where there is no C compiler `cc`.
 """
 import argparse
 import collections
@@ -172,10 +171,14 @@ def reads(tools):
 
 
 def deep_grammars():
-    """Runs that recurse as deep as an input is long."""
+    """Rules that stand in one another as deep as an input, or the grammar, is long."""
     yield peg("a rule that calls itself at each byte", b"S <- 'a' S / 'b' {x}", b"a" * 60000 + b"b", [b"x\n"])
     names = b"".join(b"R%d<-R%d\n" % (n, n + 1) for n in range(50000))
     yield peg("a chain of 50,000 rules", names + b"R50000<-'a'{x}", b"a", [b"x\n"])
+    names = b"".join(b"R%d=R%d\n" % (n, n + 1) for n in range(50000))
+    yield abnf("a chain of 50,000 rules, ABNF", names + b'R50000="a"', b"a\nb\n", [YES, NO], status=1)
+    yield abnf("a rule that calls itself at each byte, ABNF", b's = "a" s / "b"', b"a" * 2000 + b"b\n", [YES])
+    yield abnf("the same from the left, ABNF", b's = s "a" / "b"', b"b" + b"a" * 60000 + b"\n", [YES])
 
 
 def hostile_grammars():
@@ -197,7 +200,6 @@ def hostile_grammars():
     yield abnf("20,000 repetitions in one rule", repetitions, b"bb\nc\n", [YES, NO], status=1)
     choice = b"s=" + b"/".join(b'"%s"' % it for it in words)
     yield abnf("50,000 literals in one choice, ABNF", choice, b"49999\n50000\n", [YES, NO], status=1)
-    yield abnf("a rule that calls itself at each byte, ABNF", b's = "a" s / "b"', b"a" * 2000 + b"b\n", [YES])
 
 
 def small_stack():
@@ -241,22 +243,20 @@ def hostile(tools, run):
         tools.expect(run, ended._replace(out=ended.out[:500]), right, f"a stack of 256 KB, mode {mode}")
 
 
-def stack(tools, deep):
+def stack(tools):
     """The examples, and hostile grammars, on a small stack."""
     for folder in sorted((TOP / "examples").iterdir()):
         example(tools, folder)
-    for run in [*hostile_grammars(), *(deep_grammars() if deep else [])]:
+    for run in [*hostile_grammars(), *deep_grammars()]:
         if tools.has(run.program):
             hostile(tools, run)
 
 
 def main():
-    sweeps = {"memory": memory, "writes": writes, "reads": reads}
+    sweeps = {"memory": memory, "writes": writes, "reads": reads, "stack": stack}
     words = argparse.ArgumentParser(description="Refuses memory, writes, reads and stack to the programs.")
-    words.add_argument("-d", action="store_true", help="runs that recurse as deep as an input is long")
-    words.add_argument("sweep", nargs="*", choices=[*sweeps, "stack", []])
-    given = words.parse_args()
-    wanted = given.sweep or [*sweeps, "stack"]
+    words.add_argument("sweep", nargs="*", choices=[*sweeps, []])
+    wanted = words.parse_args().sweep or list(sweeps)
     with tempfile.TemporaryDirectory(prefix="faults-") as folder:
         tools = Tools(folder)
         for program in ("pegi", "abnfi"):
@@ -268,7 +268,7 @@ def main():
             if sweep != "stack" and not built:
                 print(f"faults: {sweep}: no C compiler cc: skipped")
                 continue
-            stack(tools, given.d) if sweep == "stack" else sweeps[sweep](tools)
+            sweeps[sweep](tools)
             print(f"faults: {sweep}: {tools.runs - before} runs", flush=True)
     print(f"faults: {tools.wrong} wrong of {tools.runs} runs")
     return 1 if tools.wrong else 0
