@@ -1,6 +1,6 @@
 #!/usr/bin/env python3
-"""Writes the tests of the folders of examples/, which hold their texts word for word: crates/known_runs/src/tests/examples.rt for
-those of pegi and crates/known_runs/src/abnf_examples.rt for those of abnfi.
+"""Writes the tests of the folders of examples/, which hold their texts word for word: in crates/known_runs/src/ the
+file tests/examples.rt for those of pegi, and abnf_examples.rt for those of abnfi.
 
 With the word `check` it compares the files with what it would write, and writes nothing.
 """
@@ -11,7 +11,13 @@ import sys
 top = pathlib.Path(__file__).resolve().parent.parent
 peg_file = top / "crates/known_runs/src/tests/examples.rt"
 abnf_file = top / "crates/known_runs/src/abnf_examples.rt"
-inputs = {"calculator": "input.txt", "csv": "input.txt", "json": "input.txt", "peg": "peg.peg", "username": "letter.txt"}
+inputs = {
+    "calculator": "input.txt",
+    "csv": "input.txt",
+    "json": "input.txt",
+    "peg": "peg.peg",
+    "username": "letter.txt",
+}
 abnf_names = ["abnf", "rfc3339", "rfc3986", "rfc5322", "rfc8259"]
 
 HEAD = '''//! The folders of `examples/`, word for word: `scripts/example_tests.py` wrote this file.
@@ -38,7 +44,7 @@ fn examples_print_what_they_must(rt: HostRuntime) {{
 {calls}}}
 '''
 
-ABNF_HEAD = '''//! The folders of `examples/` of the ABNF tool, word for word: `scripts/example_tests.py` wrote this file.
+ABNF_HEAD = '''//! The folders of `examples/` in ABNF, word for word: `scripts/example_tests.py` wrote this file.
 
 use crate::abnf_runs::{AbnfRow, check_row};
 use gramtools::{DEFAULT_LIMIT, Status};
@@ -103,7 +109,8 @@ def abnf_tests():
             told = f"{high}_TOLD"
             parts.append(constant(told, folder / "told.txt"))
         status = "Status::NoMatch" if (folder / "status").exists() else "Status::Done"
-        fields = [f"{high}_GRAMMAR", judged_rule(folder), "DEFAULT_LIMIT", f"{high}_LINES", f"{high}_PRINTED", told, status, "0"]
+        texts = [f"{high}_LINES", f"{high}_PRINTED", told]
+        fields = [f"{high}_GRAMMAR", judged_rule(folder), "DEFAULT_LIMIT", *texts, status, "0"]
         rows.append("        (\n" + "".join(f"            {it},\n" for it in fields) + "        ),\n")
     return "".join(parts) + ABNF_TEST.format(count=len(abnf_names), rows="".join(rows))
 

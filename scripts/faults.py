@@ -1,12 +1,12 @@
 #!/usr/bin/env python3
-"""Runs bin/pegi and bin/abnfi as users run them, with memory, writes and reads refused by a library (faults/faults.c), and with a
-stack of 256 KB.
+"""Runs bin/pegi and bin/abnfi as users run them, with memory, writes and reads refused by a library (faults/faults.c),
+and with a stack of 256 KB.
 
-usage: faults.py [-d] [SWEEP ..]
+usage: faults.py [SWEEP ..]
 
-The sweeps are `memory`, `writes`, `reads` and `stack`; all of them if none is named. Each prints how many runs it made. At a
-run that is not as it must be, the run is printed, and the status is 1. A program that is not built is skipped, and all sweeps
-but `stack` where there is no C compiler `cc`. -d adds runs to `stack` that recurse as deep as an input is long.
+The sweeps are `memory`, `writes`, `reads` and `stack`; all of them if none is named. Each prints how many runs it made.
+A run that is not as it must be is printed, and then the status is 1. A program that is not built is skipped, and so are
+all sweeps but `stack` where there is no C compiler `cc`.
 """
 import argparse
 import collections
@@ -24,35 +24,44 @@ STACK = 256 * 1024
 # that is refused it asks again, so the run can go on.
 GROWTHS_OF_WORDS = 10
 
-# A run: its name, the program and its words, the grammar, the input, the texts of the units or lines, the error output, the status.
+# A run: its name, the program and its words, the grammar, the input, the texts of the units or lines, the error output,
+# and the status.
 Run = collections.namedtuple("Run", "name program words grammar given texts told status")
 Ended = collections.namedtuple("Ended", "out err status refused")
 
 
-def run_of(name, program, grammar, given, texts, told=b"", status=0, words=()):
-    return Run(name, program, list(words), grammar, given, texts, told, status)
+def peg(name, grammar, given, texts, told=b"", status=0, words=()):
+    return Run(name, "pegi", list(words), grammar, given, texts, told, status)
 
 
-USERNAME = run_of("a word replaced", "pegi", b'start <- "username" { USER } / < . > { yytext }', b"a username\n",
-                  [b"a\n", b" \n", b"USER\n", b"\n\n"])
-WORDS = run_of("words of letters", "abnfi", b"word = 1*ALPHA", b"ab\nA1\n\nZ", [b"yes\n", b"no\n", b"no\n", b"yes\n"], status=1)
-NOTED = run_of("a grammar that three notes refuse", "pegi", b"A <- ('' / 'b')* C\nD <- 'd'", b"b", [],
-               b"rule 'C' used but not defined\nrule 'D' defined but not used\npossible infinite loop in rule 'A'\n", 2)
-ABNF_NOTED = run_of("a note before the answers", "abnfi", b"a = <any text> / b\nb = \"x\"", b"X\n", [b"yes\n"],
-                    b"prose in rule 'a'\nrule 'a' defined but not used\n", words=["-s", "b"])
+def abnf(name, grammar, given, texts, told=b"", status=0, words=()):
+    return Run(name, "abnfi", list(words), grammar, given, texts, told, status)
+
+
+PRINT = ("-m", "print")
+YES, NO = b"yes\n", b"no\n"
+USERNAME = peg("a word replaced", b'start <- "username" { USER } / < . > { yytext }', b"a username\n",
+               [b"a\n", b" \n", b"USER\n", b"\n\n"])
+WORDS = abnf("words of letters", b"word = 1*ALPHA", b"ab\nA1\n\nZ", [YES, NO, NO, YES], status=1)
+NOTED = peg("a grammar that notes refuse", b"A <- ('' / 'b')* C\nD <- 'd'", b"b", [],
+            b"rule 'C' used but not defined\nrule 'D' defined but not used\n"
+            b"possible infinite loop in rule 'A'\n", 2)
+ABNF_NOTED = abnf("notes before the answers", b"a = <any text> / b\nb = \"x\"", b"X\n", [YES],
+                  b"prose in rule 'a'\nrule 'a' defined but not used\n", words=["-s", "b"])
+PRINTED = peg("a grammar printed", b"A<-('x')/[b-da^-]*", b"", [b'A <- "x" / [\\055\\136a-d]*\n'], words=PRINT)
 ALTERNATIVES = b'k = %s"Ab"\n  / "cd"\nK =/ 2*3%x78'
+LINES = b"Ab\nab\nCD\nxx\nxxxx\n"
 
 # The runs in which each growth is refused.
 GROWING = [
     USERNAME,
-    run_of("a capture that rules share", "pegi", b"S <- B <'a'> B <> B\nB <- {yytext.}", b"a", [b".\na.\n.\n"]),
-    run_of("a grammar printed", "pegi", b"A<-('x')/[b-da^-]*", b"", [b'A <- "x" / [\\055\\136a-d]*\n'], words=["-m", "print"]),
-    run_of("an ambiguous rule", "abnfi", b's = s s / "a" / ""', b"aaa\n\nb\n", [b"yes\n", b"yes\n", b"no\n"], status=1),
-    run_of("alternatives added to a rule", "abnfi", ALTERNATIVES, b"Ab\nab\nCD\nxx\nxxxx\n",
-           [b"yes\n", b"no\n", b"yes\n", b"yes\n", b"no\n"], status=1),
-    run_of("a grammar in ABNF printed", "abnfi", ALTERNATIVES, b"", [b'k = %s"Ab" / "cd" / 2*3%x78\n'], words=["-m", "print"]),
-    run_of("an action met four times in a unit", "pegi", b"S <- A A 'x'\nA <- B B\nB <- {b}", b"x", [b"b\nb\nb\nb\n"]),
+    peg("a capture that rules share", b"S <- B <'a'> B <> B\nB <- {yytext.}", b"a", [b".\na.\n.\n"]),
+    PRINTED,
+    peg("an action met four times in a unit", b"S <- A A 'x'\nA <- B B\nB <- {b}", b"x", [b"b\nb\nb\nb\n"]),
     WORDS,
+    abnf("an ambiguous rule", b's = s s / "a" / ""', b"aaa\n\nb\n", [YES, YES, NO], status=1),
+    abnf("alternatives added to a rule", ALTERNATIVES, LINES, [YES, NO, YES, YES, NO], status=1),
+    abnf("a grammar in ABNF printed", ALTERNATIVES, b"", [b'k = %s"Ab" / "cd" / 2*3%x78\n'], words=PRINT),
 ]
 
 
@@ -70,14 +79,15 @@ class Tools:
         """Makes the library; False where there is no compiler."""
         self.library = self.folder / "faults.so"
         words = ["cc", "-shared", "-fPIC", "-O1", "-o", self.library, TOP / "scripts/faults/faults.c"]
-        return bool(shutil.which("cc")) and subprocess.run(words, check=False).returncode == 0
+        return bool(shutil.which("cc")) and bool(subprocess.run(words, check=True))
 
     def run(self, run, **faults):
         """Runs a program with these faults, and returns how it ended."""
         told, grammar = self.folder / "told", self.folder / "grammar"
         told.unlink(missing_ok=True)
         grammar.write_bytes(run.grammar)
-        environment = {"LD_PRELOAD": str(self.library), "FAULT_TOLD": str(told)} | {f"FAULT_{it}": str(n) for it, n in faults.items()}
+        environment = {"LD_PRELOAD": str(self.library), "FAULT_TOLD": str(told)}
+        environment |= {f"FAULT_{it}": str(n) for it, n in faults.items()}
         ran = subprocess.run([TOP / "bin" / run.program, *run.words, grammar], input=run.given, capture_output=True,
                              env=os.environ | environment, timeout=120, check=False)
         return Ended(ran.stdout, ran.stderr, ran.returncode, told.exists())
@@ -108,12 +118,12 @@ def refuse_each(tools, run, **more):
             right, good = True, good + 1
         tools.expect(run, ended, right, f"growth {number} refused {more}")
         number += 1
-    tools.expect(run, ended, is_as_stated(run, ended), "no growth refused")
+    tools.expect(run, ended, number > 1 and is_as_stated(run, ended), "no growth refused")
     return number - 1, good
 
 
 def memory(tools):
-    """Each growth refused in turn, alone or with all behind it: the texts of the first units alone, and `out of memory`."""
+    """Refuses each growth in turn, alone and then with all behind it."""
     for run in (it for it in GROWING if tools.has(it.program)):
         growths, good = refuse_each(tools, run)
         refuse_each(tools, run, LASTS=1)
@@ -122,7 +132,7 @@ def memory(tools):
 
 def writes(tools):
     """Each write short, and each output failing behind each number of bytes."""
-    for run in (it for it in [USERNAME, WORDS, NOTED, ABNF_NOTED, *GROWING[2:3]] if tools.has(it.program)):
+    for run in (it for it in [USERNAME, WORDS, NOTED, ABNF_NOTED, PRINTED] if tools.has(it.program)):
         for most in (1, 2, 3):
             ended = tools.run(run, WRITE=most)
             tools.expect(run, ended, is_as_stated(run, ended), f"writes of {most} bytes")
@@ -161,44 +171,55 @@ def reads(tools):
 
 
 def deep_grammars():
-    """Runs that recurse as deep as an input is long."""
-    yield run_of("a rule that calls itself at each byte", "pegi", b"S <- 'a' S / 'b' {x}", b"a" * 60000 + b"b", [b"x\n"])
+    """Rules that stand in one another as deep as an input, or the grammar, is long."""
+    yield peg("a rule that calls itself at each byte", b"S <- 'a' S / 'b' {x}", b"a" * 60000 + b"b", [b"x\n"])
     names = b"".join(b"R%d<-R%d\n" % (n, n + 1) for n in range(50000))
-    yield run_of("a chain of 50,000 rules", "pegi", names + b"R50000<-'a'{x}", b"a", [b"x\n"])
+    yield peg("a chain of 50,000 rules", names + b"R50000<-'a'{x}", b"a", [b"x\n"])
+    names = b"".join(b"R%d=R%d\n" % (n, n + 1) for n in range(50000))
+    yield abnf("a chain of 50,000 rules, ABNF", names + b'R50000="a"', b"a\nb\n", [YES, NO], status=1)
+    yield abnf("a rule that calls itself at each byte, ABNF", b's = "a" s / "b"', b"a" * 2000 + b"b\n", [YES])
+    yield abnf("the same from the left, ABNF", b's = s "a" / "b"', b"b" + b"a" * 60000 + b"\n", [YES])
 
 
 def hostile_grammars():
     """Grammars at the limits of brackets and of length."""
-    yield run_of("200 brackets", "pegi", b"S <- " + b"(" * 200 + b"'a' {x}" + b")" * 200, b"aa", [b"x\n", b"x\n"])
-    yield run_of("200 options, one in another", "pegi", b"S <- " + b"('a' " * 200 + b")? " * 200 + b"{x}", b"a" * 150, [b"x\n"] * 2)
-    yield run_of("349,000 options in one rule", "pegi", b"S <- " + b".? " * 349000 + b"{x}", b"abc", [b"x\n"] * 2)
-    yield run_of("50,000 literals in one choice", "pegi", b"S <- " + b"/".join(b"'%05d'" % n for n in range(50000)) + b" {x}",
-                 b"4999900000", [b"x\n"])
-    yield run_of("200 brackets, ABNF", "abnfi", b"s = " + b"(" * 200 + b'"a"' + b")" * 200, b"a\nb", [b"yes\n", b"no\n"], status=1)
-    yield run_of("200 options, one in another, ABNF", "abnfi", b"s = " + b'["a" ' * 200 + b"]" * 200, b"a" * 150 + b"\n\n" + b"a" * 201,
-                 [b"yes\n", b"yes\n", b"no\n"], status=1)
-    yield run_of("349,000 repetitions in one rule, and no line", "abnfi", b"s=" + b"*b " * 349000 + b'\nb="b"', b"", [])
-    yield run_of("20,000 repetitions in one rule", "abnfi", b"s=" + b"*b " * 20000 + b'\nb="b"', b"bb\nc\n", [b"yes\n", b"no\n"], status=1)
-    yield run_of("50,000 literals in one choice, ABNF", "abnfi", b"s=" + b"/".join(b'"%05d"' % n for n in range(50000)), b"49999\n50000\n",
-                 [b"yes\n", b"no\n"], status=1)
-    yield run_of("a rule that calls itself at each byte, ABNF", "abnfi", b's = "a" s / "b"', b"a" * 2000 + b"b\n", [b"yes\n"])
+    words = [b"%05d" % n for n in range(50000)]
+    yield peg("200 brackets", b"S <- " + b"(" * 200 + b"'a' {x}" + b")" * 200, b"aa", [b"x\n"] * 2)
+    options = b"S <- " + b"('a' " * 200 + b")? " * 200 + b"{x}"
+    yield peg("200 options, one in another", options, b"a" * 150, [b"x\n"] * 2)
+    yield peg("349,000 options in one rule", b"S <- " + b".? " * 349000 + b"{x}", b"abc", [b"x\n"] * 2)
+    choice = b"S <- " + b"/".join(b"'%s'" % it for it in words) + b" {x}"
+    yield peg("50,000 literals in one choice", choice, b"4999900000", [b"x\n"])
+    nested = b"s = " + b"(" * 200 + b'"a"' + b")" * 200
+    yield abnf("200 brackets, ABNF", nested, b"a\nb", [YES, NO], status=1)
+    options = b"s = " + b'["a" ' * 200 + b"]" * 200
+    lines = b"a" * 150 + b"\n\n" + b"a" * 201
+    yield abnf("200 options, one in another, ABNF", options, lines, [YES, YES, NO], status=1)
+    yield abnf("349,000 repetitions in one rule, and no line", b"s=" + b"*b " * 349000 + b'\nb="b"', b"", [])
+    repetitions = b"s=" + b"*b " * 20000 + b'\nb="b"'
+    yield abnf("20,000 repetitions in one rule", repetitions, b"bb\nc\n", [YES, NO], status=1)
+    choice = b"s=" + b"/".join(b'"%s"' % it for it in words)
+    yield abnf("50,000 literals in one choice, ABNF", choice, b"49999\n50000\n", [YES, NO], status=1)
 
 
 def small_stack():
     resource.setrlimit(resource.RLIMIT_STACK, (STACK, STACK))
 
 
+def text_of(file, other):
+    return file.read_bytes() if file.exists() else other
+
+
 def example(tools, folder):
     """Runs an example on a small stack."""
-    def text(name, other):
-        return (folder / name).read_bytes() if (folder / name).exists() else other
-    words = (folder / "run.sh").read_text()
-    if not tools.has(words.split()[0]):
+    if not tools.has((folder / "run.sh").read_text().split()[0]):
         return
     path = {"PATH": f"{TOP / 'bin'}:{os.environ['PATH']}"}
-    ran = subprocess.run(["sh", "run.sh"], cwd=folder, capture_output=True, env=os.environ | path, preexec_fn=small_stack, check=False)
+    ran = subprocess.run(["sh", "run.sh"], cwd=folder, capture_output=True, env=os.environ | path,
+                         preexec_fn=small_stack, check=False)
     ended = Ended(ran.stdout, ran.stderr, ran.returncode, False)
-    run = run_of(f"examples/{folder.name}", "", b"", b"", [text("printed.txt", b"")], text("told.txt", b""), int(text("status", b"0")))
+    texts, told = [text_of(folder / "printed.txt", b"")], text_of(folder / "told.txt", b"")
+    run = Run(f"examples/{folder.name}", "", [], b"", b"", texts, told, int(text_of(folder / "status", b"0")))
     tools.expect(run, ended, is_as_stated(run, ended), "a stack of 256 KB")
 
 
@@ -222,22 +243,20 @@ def hostile(tools, run):
         tools.expect(run, ended._replace(out=ended.out[:500]), right, f"a stack of 256 KB, mode {mode}")
 
 
-def stack(tools, deep):
+def stack(tools):
     """The examples, and hostile grammars, on a small stack."""
     for folder in sorted((TOP / "examples").iterdir()):
         example(tools, folder)
-    for run in [*hostile_grammars(), *(deep_grammars() if deep else [])]:
+    for run in [*hostile_grammars(), *deep_grammars()]:
         if tools.has(run.program):
             hostile(tools, run)
 
 
 def main():
-    sweeps = {"memory": memory, "writes": writes, "reads": reads}
+    sweeps = {"memory": memory, "writes": writes, "reads": reads, "stack": stack}
     words = argparse.ArgumentParser(description="Refuses memory, writes, reads and stack to the programs.")
-    words.add_argument("-d", action="store_true", help="runs that recurse as deep as an input is long")
-    words.add_argument("sweep", nargs="*", choices=[*sweeps, "stack", []])
-    given = words.parse_args()
-    wanted = given.sweep or [*sweeps, "stack"]
+    words.add_argument("sweep", nargs="*", choices=[*sweeps, []])
+    wanted = words.parse_args().sweep or list(sweeps)
     with tempfile.TemporaryDirectory(prefix="faults-") as folder:
         tools = Tools(folder)
         for program in ("pegi", "abnfi"):
@@ -249,7 +268,7 @@ def main():
             if sweep != "stack" and not built:
                 print(f"faults: {sweep}: no C compiler cc: skipped")
                 continue
-            stack(tools, given.d) if sweep == "stack" else sweeps[sweep](tools)
+            sweeps[sweep](tools)
             print(f"faults: {sweep}: {tools.runs - before} runs", flush=True)
     print(f"faults: {tools.wrong} wrong of {tools.runs} runs")
     return 1 if tools.wrong else 0

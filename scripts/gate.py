@@ -1,11 +1,11 @@
 #!/usr/bin/env python3
-"""The gate: the form of the edits that must fail, `rt ci`, and where both are green the programs as users run them: random cases
-against slow answers, and runs in which memory, writes, reads and stack are refused.
+"""The gate: the form of the edits that must fail, `rt ci`, and where both are green the programs as users run them:
+random cases against slow answers, and runs in which memory, writes, reads and stack are refused.
 
 usage: gate.py
 
-Prints the last line of `rt ci` last. The status is 0 if all of it is green. RT names the command, `rt` if not set. What is not
-built, and what there is no C compiler for, is skipped: `rt ci` has proved and run it in its own way.
+Prints the last line of `rt ci` last. The status is 0 if all of it is green. RT names the command, `rt` if not set. What
+is not built, and what there is no C compiler for, is skipped: `rt ci` has proved and run it in its own way.
 """
 import os
 import pathlib
@@ -25,7 +25,9 @@ def ci():
     """Runs `rt ci`, shows what it prints, and returns its status and its last line, which is not shown yet."""
     last = ""
     try:
-        run = subprocess.Popen([*RT, "ci"], cwd=TOP, stdout=subprocess.PIPE, stderr=subprocess.STDOUT, text=True, errors="replace")
+        run = subprocess.Popen(
+            [*RT, "ci"], cwd=TOP, stdout=subprocess.PIPE, stderr=subprocess.STDOUT, text=True, errors="replace"
+        )
     except OSError as fault:
         return 1, f"{RT[0]}: {fault}"
     for line in run.stdout:

@@ -6,7 +6,8 @@ LETTERS = b"abAB01"
 
 
 def leaf(r, names):
-    kind = r.choice(["text"] * 4 + ["values", "range", "name", "name", "name", "core"] + ["prose"] * (r.random() < 0.05))
+    often = ["text"] * 4 + ["values", "range", "name", "name", "name", "core"]
+    kind = r.choice(often + ["prose"] * (r.random() < 0.05))
     if kind == "text":
         letters = bytes(r.choice(LETTERS + b" %") for _ in range(r.choice([0, 1, 1, 1, 2, 2, 3])))
         return kind, letters, r.random() < 0.3
@@ -135,7 +136,9 @@ def text_of(r, e, within):
 
 
 def grammar_text(r, rules):
-    """Returns the text of a grammar, and each rule's names as it spells them."""
-    margin = r.choice(["", "", "  "])
-    return "".join(margin + name + r.choice([" ", ""]) + ("=/" if adds else "=") + " " + plain_text(r, body) + r.choice(["\n", "\r\n", " ; end\n"])
-                   for name, adds, body in rules).encode()
+    """Returns the text of a grammar."""
+    margin, lines = r.choice(["", "", "  "]), []
+    for name, adds, body in rules:
+        begin = margin + name + r.choice([" ", ""]) + ("=/" if adds else "=") + " "
+        lines.append(begin + plain_text(r, body) + r.choice(["\n", "\r\n", " ; end\n"]))
+    return "".join(lines).encode()

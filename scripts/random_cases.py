@@ -3,9 +3,10 @@
 
 usage: random_cases.py [-n COUNT] [-s SEED] [pegi | abnfi]
 
-A case is a unit that pegi tries, a line that abnfi judges, or a grammar that is refused. COUNT cases are compared, 20000 if
-not given, half of them by each program. Cases and their order follow from the seed alone. Prints how many cases were compared; at the
-first disagreement it prints the case and ends with status 1. A program that is not built is skipped.
+A case is a unit that pegi tries, a line that abnfi judges, or a grammar that is refused. COUNT cases are compared, half
+of them by each program; 20000 if it is not given. Cases and their order follow from the seed alone. Prints how many
+cases were compared; at the first disagreement it prints the case and ends with status 1. A program that is not built is
+skipped.
 """
 import argparse
 import collections
@@ -85,7 +86,8 @@ def compare(program, make, count, seed, folder):
         done += case.count
         statuses[found[2]] += 1
     runs = ", ".join(f"{many} of status {status}" for status, many in sorted(statuses.items()))
-    print(f"random_cases: {program.name}: {done} cases agree, in {sum(statuses.values())} runs ({runs}), seed {seed}", flush=True)
+    total = sum(statuses.values())
+    print(f"random_cases: {program.name}: {done} cases agree, in {total} runs ({runs}), seed {seed}", flush=True)
     return statuses
 
 
@@ -96,6 +98,7 @@ def main():
     words.add_argument("program", nargs="?", choices=["pegi", "abnfi"])
     given = words.parse_args()
     sys.setrecursionlimit(20000)
+    count = given.n // 2 if given.program is None else given.n
     right = True
     with tempfile.TemporaryDirectory(prefix="random_cases-") as folder:
         for name, make in (("pegi", peg_case), ("abnfi", abnf_case)):
@@ -104,7 +107,7 @@ def main():
                 continue
             if not program.exists():
                 print(f"random_cases: {name}: not built: skipped")
-            elif compare(program, make, given.n // 2 if given.program is None else given.n, given.s, pathlib.Path(folder)) is None:
+            elif compare(program, make, count, given.s, pathlib.Path(folder)) is None:
                 right = False
     return 0 if right else 1
 

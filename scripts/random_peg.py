@@ -9,7 +9,8 @@ ESCAPES = {7: "\\a", 8: "\\b", 27: "\\e", 12: "\\f", 10: "\\n", 13: "\\r", 9: "\
 
 def random_bytes(r):
     odd = r.random() < 0.1
-    return bytes(r.choice(b"\x00\n\r\"'\\]-^\xff" if odd else LETTERS) for _ in range(r.choice([0, 1, 1, 1, 2, 2, 3])))
+    count = r.choice([0, 1, 1, 1, 2, 2, 3])
+    return bytes(r.choice(b"\x00\n\r\"'\\]-^\xff" if odd else LETTERS) for _ in range(count))
 
 
 def random_set(r):
@@ -18,7 +19,8 @@ def random_set(r):
 
 
 def leaf(r, names):
-    kind = r.choice(["any", "bytes", "bytes", "bytes", "set", "act", "open", "close"] + ["name", "name", "name"] * bool(names))
+    kinds = ["any", "bytes", "bytes", "bytes", "set", "act", "open", "close"]
+    kind = r.choice(kinds + ["name", "name", "name"] * bool(names))
     if kind == "bytes":
         return kind, random_bytes(r)
     if kind == "set":
@@ -57,8 +59,8 @@ def grammar(r):
         rules.append((name, body))
     if r.random() < 0.5:
         rest = ("seq", [("star", ("set", frozenset(range(256)) - {10})), ("opt", ("bytes", b"\n")), ("act", b"!")])
-        line = ("choice", [("seq", [("name", "S"), ("bytes", b"\n"), ("act", b"#")]), ("seq", [("and", ("any",)), rest])])
-        rules.insert(0, ("Line", line))
+        line = ("seq", [("name", "S"), ("bytes", b"\n"), ("act", b"#")])
+        rules.insert(0, ("Line", ("choice", [line, ("seq", [("and", ("any",)), rest])])))
     if r.random() < 0.05:
         rules.append((r.choice(names), expression(r, names, 1)))
     if r.random() < 0.05:
@@ -68,7 +70,8 @@ def grammar(r):
 
 def given(r):
     """Returns a random input."""
-    lines = [bytes(r.choice(LETTERS) for _ in range(r.choice([0, 1, 1, 2, 2, 3, 4, 6]))) for _ in range(r.choice([1, 5, 40]))]
+    sizes = [r.choice([0, 1, 1, 2, 2, 3, 4, 6]) for _ in range(r.choice([1, 5, 40]))]
+    lines = [bytes(r.choice(LETTERS) for _ in range(size)) for size in sizes]
     text = b"\n".join(lines) + r.choice([b"", b"\n"])
     return text + bytes([r.randrange(256)]) if r.random() < 0.1 else text
 
@@ -100,16 +103,25 @@ def blank(r):
     return r.choice([" ", " ", " ", "  ", "\t", "\n ", " # a comment\n ", " #\r\n\t"])
 
 
+def needs_brackets(e, within):
+    """Tells whether an expression needs brackets in the form round it: body, choice, seq, suffix, prefix, or and."""
+    kind = e[0]
+    if within == "body":
+        return False
+    if kind == "seq":
+        return within != "choice" and (not e[1] or within in ("seq", "suffix", "prefix", "and"))
+    if kind in ("and", "not"):
+        return within in ("suffix", "prefix", "and")
+    if kind in ("star", "plus", "opt"):
+        return within == "suffix" or within == "and" and e[1][0] == "act"
+    # an action right behind `&` would be a code predicate
+    return kind == "choice" or kind == "act" and within == "and"
+
+
 def text_of(r, e, within):
-    """Returns an expression's text, in brackets where `within` (the form round it) needs them, and sometimes elsewhere."""
-    text, kind = plain_text(r, e), e[0]
-    loose = {"choice": True, "seq": len(e) > 1 and kind == "seq" and within in ("seq", "suffix", "prefix"),
-             "and": within in ("suffix", "prefix"), "not": within in ("suffix", "prefix"),
-             "star": within == "suffix", "plus": within == "suffix", "opt": within == "suffix"}.get(kind, False)
-    empty = kind == "seq" and not e[1]
-    if within == "and" and (kind == "act" or kind in ("star", "plus", "opt")):
-        loose = True
-    if (loose and within != "body") or empty and within not in ("body", "choice") or r.random() < 0.05:
+    """Returns an expression's text, in brackets where they are needed, and sometimes elsewhere."""
+    text = plain_text(r, e)
+    if needs_brackets(e, within) or r.random() < 0.05:
         return "(" + blank(r) * r.randrange(2) + text + blank(r) * r.randrange(2) + ")"
     return text
 
@@ -131,11 +143,10 @@ def plain_text(r, e):
     if kind == "choice":
         return (blank(r) + "/" + blank(r)).join(text_of(r, it, "choice") for it in e[1])
     if kind in ("and", "not"):
-        form = "and" if kind == "and" and e[1][0] not in ("and", "not", "seq") else "prefix"
-        return ("&" if kind == "and" else "!") + text_of(r, e[1], form)
+        return ("&" if kind == "and" else "!") + text_of(r, e[1], "and" if kind == "and" else "prefix")
     return text_of(r, e[1], "suffix") + {"star": "*", "plus": "+", "opt": "?"}[kind]
 
 
 def grammar_text(r, rules):
-    return "".join(name + blank(r) + "<-" + blank(r) + text_of(r, body, "body") + r.choice(["\n", "\r\n", "\r", " #\n"])
-                   for name, body in rules).encode("latin-1")
+    lines = [name + blank(r) + "<-" + blank(r) + text_of(r, body, "body") for name, body in rules]
+    return "".join(it + r.choice(["\n", "\r\n", "\r", " #\n"]) for it in lines).encode()

@@ -1,9 +1,9 @@
-"""What abnfi must answer, worked out slowly and plainly: the strings that rules derive (RFC 5234, sections 2 to 4, and RFC
-7405) and the notes on a grammar. It shares nothing with the crates.
+"""What abnfi must answer, worked out slowly and plainly: the strings that rules derive (RFC 5234, sections 2 to 4, and
+RFC 7405) and the notes on a grammar. It shares nothing with the crates.
 
-An element is a tuple: ("text", b, is_case_sensitive), ("values", [v ..]), ("range", a, b), ("concat", [e ..]), ("alt", [e ..]),
-("rep", a, b or None, e), ("opt", e), ("name", n), ("prose", text). A grammar is a list of (name, adds, element), where `adds`
-tells whether the rule is given by `=/`.
+An element is a tuple: ("text", b, is_case_sensitive), ("values", [v ..]), ("range", a, b), ("concat", [e ..]),
+("alt", [e ..]), ("rep", a, b or None, e), ("opt", e), ("name", n), ("prose", text). A grammar is a list of
+(name, adds, element), where `adds` tells whether the rule is given by `=/`.
 """
 
 

@@ -1,9 +1,10 @@
-"""What pegi must answer, worked out slowly and plainly: Ford's definition of expressions ("Parsing Expression Grammars",
-2004, section 3), the units of an input, the text of actions, and the notes on a grammar. It shares nothing with the crates.
+"""What pegi must answer, worked out slowly and plainly: Ford's definition of expressions ("Parsing Expression
+Grammars", 2004, section 3), the units of an input, the text of actions, and the notes on a grammar. It shares nothing
+with the crates.
 
 An expression is a tuple: ("any",), ("bytes", b), ("set", frozenset), ("name", n), ("seq", [e ..]), ("choice", [e ..]),
-("star", e), ("plus", e), ("opt", e), ("and", e), ("not", e), ("act", template), ("open",), ("close",). A grammar is a list of
-(name, expression), in which a name may stand twice.
+("star", e), ("plus", e), ("opt", e), ("and", e), ("not", e), ("act", template), ("open",), ("close",). A grammar is a
+list of (name, expression), in which a name may stand twice.
 """
 import re
 

@@ -9,24 +9,22 @@ use Rattle.std.proofs.lemmas.Bool.Decides.{eqb_tells}
 use Rattle.std.proofs.lemmas.List.{map-append, length-map, get_or-take, get_or_past, length-take}
 use Rattle.std.proofs.lemmas.Option.{slice_get_within, get_or_from_slice_get}
 use Rattle.leastset.specs.NumberMarks.{IsMarked}
-use Rattle.leastset.specs.StepRows.{Step, AreStepsWithin}
 use Rattle.leastset.proofs.ContainsLemmas.{none_of, in_first, in_later, cons_cases}
 use Rattle.leastset.proofs.IsMarkedLemmas.{marked_lt}
 use Rattle.ruletable.specs.Rules.{same_name}
 use Rattle.ruletable.specs.declared.table.NameCase.TheVariants.{Fold}
-use Rattle.abnfread.specs.Element.{Element, Rule, bodies, id_of}
+use Rattle.abnfread.specs.Element.{Rule, id_of}
 use Rattle.abnfcheck.specs.AbnfGrammar.{Reachable, judged_rule, by_name, IsSound}
 use Rattle.abnfcheck.specs.AbnfNotes as n
 use Rattle.ruletable.specs.Notes.{Said, said, said_of}
 use Rattle.abnfcheck.specs.AbnfNotes.{Those, no_more, this_one, not_this, judged_in, IsUnused, AreNotes, IsRefused, by_redefinition, by_prose}
-use Rattle.abnfcheck.specs.AbnfUses.{names_used, rule_names, news, Uses, HoldsProse}
+use Rattle.abnfcheck.specs.AbnfUses.{names_used, rule_names, news, HoldsProse}
 use Rattle.abnfcheck.specs.NameIds.{IsIdAt, IsGraph}
 use Rattle.abnfcheck.specs.NameMarks.{chosen, AreMarks, AreNoteMarks, IsUsed, ReachesBroken}
 use Rattle.abnfcheck.specs.ProseIn.{prose_in, prose_marks}
 use Rattle.ruletable.specs.declared.note.Note.{Note}
-use Rattle.ruletable.specs.declared.note.NoteKind.{NoteKind}
 use Rattle.ruletable.specs.declared.note.NoteKind.TheVariants as kind
-use Rattle.abnfcheck.proofs.GraphLemmas.{rows_long, step_uses, uses_step, judged_at, reached_as, reached_by, marked_prose, prose_marked, body_below, user_below}
+use Rattle.abnfcheck.proofs.GraphLemmas.{step_uses, uses_step, judged_at, reached_as, reached_by, marked_prose, prose_marked, body_below}
 
 -- what marks choose
 chosen_none : {A : Type 0} (xs : List A) → chosen [] xs ≡ []

@@ -1,5 +1,7 @@
 pub mod AbnfNotesLemmas
+mod AimLemmas
 mod DerivesDecidedLemmas
+mod ElementNeedsLemmas
 mod FiniteLeastLemmas
 mod GraphLemmas
 mod JoinLemmas
@@ -7,6 +9,5 @@ mod JoinedRulesLemmas
 pub mod LiesLemmas
 mod NameIdsLemmas
 mod NameMarksLemmas
-mod NullNumbersLemmas
 mod RuleIdLemmas
-mod RuleNullsLemmas
+mod YieldsLemmas

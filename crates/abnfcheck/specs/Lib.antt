@@ -7,4 +7,4 @@ pub mod Joined
 pub mod NameIds
 pub mod NameMarks
 pub mod ProseIn
-pub mod RuleNulls
+pub mod RuleMarks

@@ -3,17 +3,20 @@
 
 mod abnf_check;
 mod abnf_notes;
+mod aim;
 mod decided_law;
 mod joined;
 mod name_ids;
 mod name_marks;
 mod notes_law;
+mod productive_marks;
 mod prose;
-mod rule_nulls;
+mod rule_marks;
 mod sound_abnf;
 
 pub use abnf_check::{Checked, check_abnf};
 pub use decided_law::derivation_is_decided;
 pub use joined::join;
 pub use notes_law::one_list_of_abnf_notes;
+pub use productive_marks::productive;
 pub use sound_abnf::SoundAbnf;

@@ -4,7 +4,7 @@ ghost use Rattle.abnfread.specs.Views.{rules_of};
 ghost use Rattle.abnfcheck.specs.AbnfGrammar.{IsSoundGrammar};
 ghost use Rattle.abnfcheck.specs.Derivable.{RuleDerives};
 
-use crate::rule_nulls::rule_nulls;
+use crate::rule_marks::rule_nulls;
 use abnfread::Elem;
 use ruletable::{Memory, RuleTable};
 use std::alloc::Global;
@@ -21,7 +21,7 @@ pub struct SoundAbnf {
 
 impl Model for SoundAbnf {
     ghost use Rattle.abnfcheck.specs.AbnfGrammar.{Grammar, IsSoundGrammar};
-    ghost use Rattle.abnfcheck.specs.RuleNulls.{AreNullMarks};
+    ghost use Rattle.abnfcheck.specs.RuleMarks.{AreNullMarks};
     ghost use Rattle.abnfread.specs.Views.{rules_of};
     ghost use Rattle.abnfread.specs.contracts.elem.Elem as e;
     ghost use Rattle.std.specs.Coded.{codes};

@@ -7,7 +7,7 @@ use Rattle.std.specs.Io.KnownBytes.{Appends}
 use Rattle.std.specs.Prelude.{Result, Ok, Err}
 use Rattle.ruletable.specs.Rules as table
 use Rattle.ruletable.specs.Writing.{AppendsPart, Writes}
-use Rattle.ruletable.proofs.Taken.{Appends-join, Appends-same, AppendsPart-join, AppendsPart-first}
+use Rattle.ruletable.proofs.AppendsLemmas.{Appends-join, Appends-same, AppendsPart-join, AppendsPart-first}
 use Rattle.abnfread.specs.declared.elem.Elem.{Elem}
 use Rattle.abnfread.specs.Element.{Element, Elements, none, more}
 use Rattle.abnfread.specs.Views.{element_of, elements_of, rule_of}

@@ -1,4 +1,5 @@
 -- Which tokens a first byte leaves, and how far each reaches.
+-- Serves: AbnfKind::after_white, AbnfKind::are_cut, AbnfKind::first_token, abnf_tokens, read_abnf
 use Rattle.std.proofs.Common.{◌≡◌, ◌≢◌, ℕ, ◌≤◌, ◌-◌, ◌||◌, ◌==◌, Bool, true, false, List, [], ◌∷◌, length, take, drop, refl, sym, arith, ◌⊎◌, inl, inr, ◌∙◌, cond}
 use Rattle.std.specs.Char.{is_ascii_alphabetic}
 use Rattle.std.proofs.lemmas.Bool.Decides.{nat_tests}

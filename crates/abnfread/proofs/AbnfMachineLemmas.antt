@@ -1,4 +1,5 @@
 -- What spells rules leads the machine to them.
+-- Serves: read_abnf
 use Rattle.std.proofs.Common.{◌≡◌, ℕ, Bool, true, false, Option, Some, None, List, [], ◌∷◌, ◌++◌, refl, ◌∙◌, ap, append_assoc as list_assoc}
 use Rattle.ruletable.specs.declared.span.Span.{Span}
 use Rattle.abnfread.specs.Element.{Element, Elements, none, more, Opt, Definition}

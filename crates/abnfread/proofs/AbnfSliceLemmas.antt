@@ -1,4 +1,5 @@
 -- A text is cut in one way.
+-- Serves: AbnfKind::are_cut, abnf_tokens, read_abnf
 use Rattle.std.proofs.Common.{◌≡◌, ℕ, ◌<◌, Bool, true, false, List, [], ◌∷◌, length, refl, sym, ap, arith}
 use Rattle.std.specs.Char.{is_ascii_alphabetic}
 use Rattle.lexer.specs.SliceEnds.{IsEnd, IsPart}

@@ -1,4 +1,5 @@
 -- Where the machine comes to rules, what it took spells them. Each configuration has a relation of its own: what completes it.
+-- Serves: read_abnf
 use Rattle.std.proofs.Common.{◌≡◌, ℕ, Bool, true, false, Option, Some, None, List, [], ◌∷◌, ◌++◌, refl, sym, ◌∙◌, ap, ◌⊎◌, inl, inr, append_assoc as list_assoc}
 use Rattle.ruletable.specs.declared.span.Span.{Span}
 use Rattle.abnfread.specs.Element as e

@@ -1,4 +1,5 @@
 -- Words begin rules exactly if the machine can take them.
+-- Serves: read_abnf
 use Rattle.std.proofs.Common.{◌≡◌, true, false, Some, None, List, [], ◌∷◌, refl}
 use Rattle.lexer.proofs.ViabilityLemmas as taking
 use Rattle.ruletable.specs.declared.span.Span.{Span}

@@ -1,4 +1,5 @@
 -- How far bytes of a class reach, and digits.
+-- Serves: AbnfKind::after_white, AbnfKind::are_cut, AbnfKind::first_token, abnf_tokens, read_abnf
 use Rattle.std.proofs.Common.{◌≡◌, ℕ, ◌<◌, ◌≤◌, Bool, true, false, List, [], ◌∷◌, length, refl, sym, ◌∙◌, arith, ◌⊎◌, inl, inr}
 use Rattle.std.proofs.lemmas.Bool.Decides.{nat_tests}
 use Rattle.std.specs.Char.{digit_value}

@@ -1,5 +1,5 @@
 -- The element of an `Elem`, one equation for each variant.
--- Serves: the callers whose contracts speak of `element_of`.
+-- Serves: core_rules, read_abnf
 use Rattle.std.proofs.Common.{◌≡◌, ℕ, Bool, Option, Vec, Box, Global, sym, ap, ◌∙◌}
 use Rattle.abnfread.specs.Element as p
 use Rattle.abnfread.specs.Views.{element_of, elements_of, node_element}

@@ -1,5 +1,5 @@
 -- A token says one thing at most, and something unless it is bad.
--- Serves: read_abnf, one_reading
+-- Serves: read_abnf
 use Rattle.std.proofs.Common.{◌≡◌, ℕ, ◌||◌, ◌==◌, Bool, true, Option, List, [], ◌∷◌, ◌++◌, refl, sym, ◌∙◌, ap, append_assoc, arith}
 use Rattle.std.proofs.lemmas.List.{append_cancel_right}
 use Rattle.std.specs.Str.Parse.{digits_value}

@@ -77,6 +77,7 @@ fn mask_below(count: usize) -> usize
 
 // Makes more rows. Where the number is not far beyond what the cells need, there are rows up to it; else numbers are
 // folded. The result is the mask.
+#[inline(never)]
 fn grow(
     cells: &mut [Cell],
     rows: &mut Vec<u32>,

@@ -4,7 +4,7 @@ use Rattle.std.proofs.Common.{◌≡◌, inl, inr, ℕ, ◌+◌, ◌*◌, ◌<�
 use Rattle.pegread.specs.Pattern.{Rule}
 use Rattle.gramcheck.specs.Nodes.{Shape}
 use Rattle.gramcheck.specs.Sound.{IsRanked}
-use Rattle.gramcheck.proofs.Spelling.{is_there}
+use Rattle.gramcheck.proofs.NodeSpellsLemmas.{is_there}
 use Rattle.cells.specs.Entries.{Entry}
 use Rattle.desk.specs.declared.frame.Frame.{Frame}
 use Rattle.cells.specs.Entries.{found_at, AreDifferent}

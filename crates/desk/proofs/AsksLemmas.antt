@@ -9,9 +9,9 @@ use Rattle.gramcheck.specs.Nodes.{Shape, Spells, spells_star, SpellAll, spell_no
 use Rattle.gramcheck.specs.Ranks.{IsNullNode, NodeStep, FrontNode, front_first, front_later, to_body, to_alternative, to_member, to_starred, to_repeated, to_optional, to_asserted, to_denied}
 use Rattle.gramcheck.specs.Sound.{IsRanked}
 use Rattle.leastset.proofs.ContainsLemmas.{in_first, in_later}
-use Rattle.gramcheck.proofs.Spelled.{has_shape}
-use Rattle.gramcheck.proofs.Taking.{forward, null_of}
-use Rattle.pegmatch.proofs.Falling.{at, falls_to}
+use Rattle.gramcheck.proofs.HasShapeLemmas.{has_shape}
+use Rattle.gramcheck.proofs.NullIfLemmas.{forward, null_of}
+use Rattle.pegmatch.proofs.OperandLemmas.{at, falls_to}
 use Rattle.pegmatch.specs.Kept.{SpellsSome}
 use Rattle.desk.specs.Visits.{NodeTakes, AsksMember, member_here, member_later, AsksAlternative, alternative_here, alternative_later, AsksBy, Asks, Visits, first, asked}
 

@@ -8,8 +8,8 @@ use Rattle.gramcheck.specs.Nodes as node
 use Rattle.gramcheck.specs.Nodes.{Shape, Spells, spells_star}
 use Rattle.gramcheck.specs.Outcome.{Event, Outcome, Fails, Takes, Gives, name, opt_takes, opt_none, star_none, star_more, plus_fails, plus_takes, and_takes, and_fails, not_takes, not_fails}
 use Rattle.gramcheck.specs.Sound.{IsRanked}
-use Rattle.gramcheck.proofs.Ids.{body_at_id}
-use Rattle.gramcheck.proofs.Spelled.{has_shape}
+use Rattle.gramcheck.proofs.OwnIdLemmas.{body_at_id}
+use Rattle.gramcheck.proofs.HasShapeLemmas.{has_shape}
 use Rattle.pegmatch.specs.Kept.{SpellsSome}
 use Rattle.desk.specs.Visits.{NodeGives}
 use Rattle.desk.proofs.NodeGivesLemmas.{gives_as}

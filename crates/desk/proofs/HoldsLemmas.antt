@@ -17,8 +17,8 @@ use Rattle.desk.specs.Path.{Walks, no_walk, walk}
 use Rattle.desk.specs.State.{HasCell, AreCells}
 use Rattle.desk.specs.Visits.{first, asked}
 use Rattle.gramcheck.specs.Rising.{Rise}
-use Rattle.gramcheck.proofs.Rising.{Rise-upper}
-use Rattle.gramcheck.proofs.Starting.{rises_of_start}
+use Rattle.gramcheck.proofs.RiseLemmas.{Rise-upper}
+use Rattle.gramcheck.proofs.StartRuleLemmas.{rises_of_start}
 use Rattle.desk.proofs.IsWayLemmas.{fresh}
 
 pub some_cell : (cells : List Entry) (n p : ℕ) → HasCell cells n p → 1 ≤ length cells

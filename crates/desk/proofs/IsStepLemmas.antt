@@ -10,7 +10,7 @@ use Rattle.gramcheck.specs.Nodes.{Shape, shape_of, shapes_of, Spells}
 use Rattle.std.proofs.lemmas.List.{length-map}
 use Rattle.std.proofs.lemmas.Option.{slice_get-get_or}
 use Rattle.gramcheck.specs.Outcome.{Outcome}
-use Rattle.gramcheck.proofs.Ending as one
+use Rattle.gramcheck.proofs.SomeOutcomeLemmas as one
 use Rattle.pegmatch.specs.Answers.{StartGives}
 use Rattle.pegmatch.specs.Kept.{SpellsSome}
 use Rattle.cells.specs.declared.cell.Found.{Found}

@@ -12,7 +12,7 @@ use Rattle.gramcheck.specs.Outcome as event
 use Rattle.gramcheck.specs.Outcome.{Event, Outcome, Fails, Takes, Gives, any_takes, set_takes, bytes_take, act, open_at, close_at, name, seq, choice, opt_takes, opt_none, star_none, star_more, plus_takes, and_takes, not_takes, GivesAll, all_done, rest_takes, GivesFirst, first_takes, first_fails}
 use Rattle.gramcheck.specs.Sound.{IsRanked}
 use Rattle.gramcheck.proofs.OneOutcomeLemmas.{same}
-use Rattle.gramcheck.proofs.Spelled.{has_shape}
+use Rattle.gramcheck.proofs.HasShapeLemmas.{has_shape}
 use Rattle.cells.specs.declared.cell.Found.{Found}
 use Rattle.cells.specs.declared.cell.Found.TheVariants.{Failed, Took}
 use Rattle.cells.specs.Entries.{Entry}
@@ -23,7 +23,7 @@ use Rattle.pegmatch.specs.declared.event.Kept.TheVariants.{Opened, Closed, Acted
 use Rattle.cells.specs.Entries.{found_at}
 use Rattle.desk.specs.Desk.{beginning}
 use Rattle.pegmatch.specs.Kept.{opened, closed, acted}
-use Rattle.desk.specs.Path.{IsQuiet, opt_way, into, star_way, seq_way, choice_way, Taking, AllTaking, LeftBy, IsLeft, IsWay, pair_height}
+use Rattle.desk.specs.Path.{IsQuiet, EndsBy, opt_way, into, star_way, seq_way, choice_way, Taking, AllTaking, LeftBy, IsLeft, IsWay, pair_height}
 use Rattle.desk.specs.State.{HasCell, HaveTaken, none_taken, AreCells}
 use Rattle.desk.specs.Visits.{NodeGives, NodeTakes, Asks, AsksAlternative, alternative_here, alternative_later}
 use Rattle.desk.proofs.AsksLemmas.{leads, falls}
@@ -35,6 +35,12 @@ use Rattle.desk.proofs.HaveTakenLemmas.{taken_next, asks_member}
 pub leave_by : (r : Option Way) (b : Bool) (Q : Way → Type 0) → IfSome r (λ w. (b ≡ true) × (w ≡ Leave)) → (b ≡ true → Q Leave) → IfSome r Q
 leave_by None b Q h f = tt
 leave_by (Some w) b Q h f = rw h.1 (f h.0)
+
+-- where a node's success ends, if it is told
+pub ends_told : (nodes : List Shape) (n p k : ℕ) (shape : Shape) (r : Option ℕ) → slice_get nodes n ≡ Some shape → IfSome r (λ e. e ≡ k) → ((e : ℕ) → e ≡ k → EndsBy shape p e) →
+    IfSome r (λ e. (s : Shape) × (slice_get nodes n ≡ Some s) × EndsBy s p e)
+ends_told nodes n p k shape None at h f = tt
+ends_told nodes n p k shape (Some e) at h f = (shape, at, f e h)
 
 module _ (rules : List Rule) (start : ℕ) (nodes : List Shape) (bodies ranks x : List ℕ) (more : Bool) (sound : IsRanked rules start nodes bodies ranks) (cells : List Entry)
     (right : AreCells rules start nodes bodies x more cells) where
@@ -90,6 +96,55 @@ module _ (rules : List Rule) (start : ℕ) (nodes : List Shape) (bodies ranks x 
 
   not_quiet : {e : Pattern} {p k end : ℕ} {es : List Event} → Gives rules x (expr.Not e) p (Takes end es) k → es ≡ []
   not_quiet (not_takes d) = refl
+
+  any_end : {p k end : ℕ} {es : List Event} → Gives rules x expr.Any p (Takes end es) k → end ≡ p + 1
+  any_end (any_takes h) = refl
+
+  set_end : {s : ℕ → Bool} {p k end : ℕ} {es : List Event} → Gives rules x (expr.Set s) p (Takes end es) k → end ≡ p + 1
+  set_end (set_takes h g) = refl
+
+  bytes_end : {bs : List ℕ} {p k end : ℕ} {es : List Event} → Gives rules x (expr.Bytes bs) p (Takes end es) k → end ≡ p + length bs
+  bytes_end (bytes_take h) = refl
+
+  and_end : {e : Pattern} {p k end : ℕ} {es : List Event} → Gives rules x (expr.And e) p (Takes end es) k → end ≡ p
+  and_end (and_takes d) = refl
+
+  not_end : {e : Pattern} {p k end : ℕ} {es : List Event} → Gives rules x (expr.Not e) p (Takes end es) k → end ≡ p
+  not_end (not_takes d) = refl
+
+  act_end : {t : List ℕ} {p k end : ℕ} {es : List Event} → Gives rules x (expr.Act t) p (Takes end es) k → end ≡ p
+  act_end act = refl
+
+  open_end : {p k end : ℕ} {es : List Event} → Gives rules x expr.Open p (Takes end es) k → end ≡ p
+  open_end open_at = refl
+
+  close_end : {p k end : ℕ} {es : List Event} → Gives rules x expr.Close p (Takes end es) k → end ≡ p
+  close_end close_at = refl
+
+  -- a success ends where its shape says
+  pub ends_by : (m p e r : ℕ) (shape : Shape) → slice_get nodes m ≡ Some shape → EndsBy shape p e → found_at cells m p ≡ Some (Took r) → e ≡ r
+  ends_by m p e r node.Any at is h = let g = right.found m p (Took r) h in
+      is ∙ sym (any_end (subst (λ v. Gives rules x v p (Takes r g.events) g.looked) (has_shape rules nodes g.gives.spelled node.Any at) g.gives.gives))
+  ends_by m p e r (node.Bytes bs) at is h = let g = right.found m p (Took r) h in
+      is ∙ sym (bytes_end (subst (λ v. Gives rules x v p (Takes r g.events) g.looked) (has_shape rules nodes g.gives.spelled (node.Bytes bs) at) g.gives.gives))
+  ends_by m p e r (node.Set s) at is h = let g = right.found m p (Took r) h in
+      is ∙ sym (set_end (subst (λ v. Gives rules x v p (Takes r g.events) g.looked) (has_shape rules nodes g.gives.spelled (node.Set s) at) g.gives.gives))
+  ends_by m p e r (node.Name id) at is h = absurd is
+  ends_by m p e r (node.Seq ms) at is h = absurd is
+  ends_by m p e r (node.Choice ms) at is h = absurd is
+  ends_by m p e r (node.Star k) at is h = absurd is
+  ends_by m p e r (node.Plus k i) at is h = absurd is
+  ends_by m p e r (node.Opt k) at is h = absurd is
+  ends_by m p e r (node.And k) at is h = let g = right.found m p (Took r) h in
+      is ∙ sym (and_end (subst (λ v. Gives rules x v p (Takes r g.events) g.looked) ((has_shape rules nodes g.gives.spelled (node.And k) at).1) g.gives.gives))
+  ends_by m p e r (node.Not k) at is h = let g = right.found m p (Took r) h in
+      is ∙ sym (not_end (subst (λ v. Gives rules x v p (Takes r g.events) g.looked) ((has_shape rules nodes g.gives.spelled (node.Not k) at).1) g.gives.gives))
+  ends_by m p e r (node.Act t) at is h = let g = right.found m p (Took r) h in
+      is ∙ sym (act_end (subst (λ v. Gives rules x v p (Takes r g.events) g.looked) (has_shape rules nodes g.gives.spelled (node.Act t) at) g.gives.gives))
+  ends_by m p e r node.Open at is h = let g = right.found m p (Took r) h in
+      is ∙ sym (open_end (subst (λ v. Gives rules x v p (Takes r g.events) g.looked) (has_shape rules nodes g.gives.spelled node.Open at) g.gives.gives))
+  ends_by m p e r node.Close at is h = let g = right.found m p (Took r) h in
+      is ∙ sym (close_end (subst (λ v. Gives rules x v p (Takes r g.events) g.looked) (has_shape rules nodes g.gives.spelled node.Close at) g.gives.gives))
 
   -- an expression prints nothing wherever it succeeds
   abbrev Hushed : Pattern → Type 0
@@ -422,6 +477,24 @@ module _ (rules : List Rule) (start : ℕ) (nodes : List Shape) (bodies ranks x 
           lower (get_or ms f.next 0) f.end asks,
           (node.Seq ms, at, refl, omega arith),
         )
+
+    -- the next member succeeded
+    pub seq_taken : (ms : List ℕ) → slice_get nodes f.node ≡ Some (node.Seq ms) → f.next < length ms → (r : ℕ) × (found_at cells (get_or ms f.next 0) f.end ≡ Some (Took r))
+    seq_taken ms at lt = by (found_at cells (get_or ms f.next 0) f.end) refl
+      where
+        left : LeftBy rules nodes bodies ranks x cells (node.Seq ms) f.node f.place f.next f.end es
+        left = l.left (node.Seq ms) at
+
+        asks : Asks rules nodes bodies x f.node f.place (get_or ms f.next 0) f.end
+        asks = record { shape = node.Seq ms; at = at; by = asks_member rules start nodes bodies ranks x more sound cells right.found left.0 lt }
+
+        parts : MemberParts (get_or ms f.next 0) f.end (drop (suc f.next) ms) es
+        parts = member_parts (subst (λ v. SpellAll rules nodes v left.1.exprs) (drop-cons ms f.next 0 lt) left.1.spelled) left.1.gives
+
+        by : (v : Option Found) → found_at cells (get_or ms f.next 0) f.end ≡ v → (r : ℕ) × (v ≡ Some (Took r))
+        by None g = absurd (asked_cell (get_or ms f.next 0) f.end asks g)
+        by (Some Failed) g = absurd (parts.fails g)
+        by (Some (Took r)) g = (r, refl)
 
     pub seq_ways : (ms : List ℕ) → slice_get nodes f.node ≡ Some (node.Seq ms) → Ways f es (seq_way cells ms f.next f.end)
     seq_ways ms at =

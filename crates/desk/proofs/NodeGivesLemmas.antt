@@ -9,8 +9,8 @@ use Rattle.gramcheck.specs.Nodes as node
 use Rattle.gramcheck.specs.Nodes.{Shape, id_of, Spells, spells_any, spells_bytes, spells_set, spells_name, spells_seq, spells_choice, spells_star, spells_plus, spells_opt, spells_and, spells_not, spells_act, spells_open, spells_close, SpellAll, spell_none, spell_more}
 use Rattle.gramcheck.specs.Outcome.{Outcome, Gives}
 use Rattle.gramcheck.proofs.OneOutcomeLemmas.{same, Same}
-use Rattle.gramcheck.proofs.Names.{same-name}
-use Rattle.gramcheck.proofs.Spelled.{has_shape}
+use Rattle.gramcheck.proofs.RuleNameLemmas.{same-name}
+use Rattle.gramcheck.proofs.HasShapeLemmas.{has_shape}
 use Rattle.desk.specs.Visits.{NodeGives}
 
 -- the id of a rule is that of one name

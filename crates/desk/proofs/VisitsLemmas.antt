@@ -10,7 +10,7 @@ use Rattle.gramcheck.specs.Outcome.{Outcome, Fails, Takes, Gives, name, seq, cho
 use Rattle.gramcheck.specs.Sound.{IsRanked}
 use Rattle.gramcheck.proofs.OneOutcomeLemmas.{same}
 use Rattle.gramcheck.proofs.LongerInputLemmas.{ends_by}
-use Rattle.gramcheck.proofs.Spelled.{has_shape}
+use Rattle.gramcheck.proofs.HasShapeLemmas.{has_shape}
 use Rattle.desk.specs.Visits.{NodeGives, NodeTakes, AsksMember, member_here, member_later, AsksAlternative, alternative_here, alternative_later, AsksBy, Asks, Visits, first, asked}
 use Rattle.desk.proofs.GivesLemmas.{is_name}
 use Rattle.desk.proofs.NodeGivesLemmas.{gives_as}

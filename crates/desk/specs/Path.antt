@@ -63,6 +63,23 @@ IsQuiet (Act t) = ⊥
 IsQuiet Open = ⊥
 IsQuiet Close = ⊥
 
+-- where a success of a node of this shape at p ends, whatever the input
+abbrev pub EndsBy : Shape → ℕ → ℕ → Type 0
+EndsBy Any p e = e ≡ p + 1
+EndsBy (Bytes bs) p e = e ≡ p + length bs
+EndsBy (Set s) p e = e ≡ p + 1
+EndsBy (Name id) p e = ⊥
+EndsBy (Seq ms) p e = ⊥
+EndsBy (Choice ms) p e = ⊥
+EndsBy (Star m) p e = ⊥
+EndsBy (Plus m s) p e = ⊥
+EndsBy (Opt m) p e = ⊥
+EndsBy (And m) p e = e ≡ p
+EndsBy (Not m) p e = e ≡ p
+EndsBy (Act t) p e = e ≡ p
+EndsBy Open p e = e ≡ p
+EndsBy Close p e = e ≡ p
+
 module _ (rules : List Rule) (nodes : List Shape) (bodies ranks x : List ℕ) (cells : List Entry) where
   -- the height of a pair: what is left of the input first, and then the rank
   abbrev pub pair_height : ℕ → ℕ → ℕ

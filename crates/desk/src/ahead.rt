@@ -1,10 +1,11 @@
 //! What an evaluation does next, where nodes without operands are evaluated at once.
-ghost use Rattle.std.specs.Prelude.{◌≡◌, ◌<◌, ◌≤◌, List, ◌∷◌, length, slice_get, Some, true, IfSome};
+ghost use Rattle.std.specs.Prelude.{◌≡◌, ◌<◌, ◌≤◌, List, ◌∷◌, length, slice_get, Some, None, true, IfSome, IfOk, IfErr};
 ghost use Rattle.pegread.specs.Views.{rules_of};
 ghost use Rattle.gramcheck.specs.Grammar.{IsSoundGrammar};
 ghost use Rattle.gramcheck.specs.Nodes.{Shape, shapes_of};
 ghost use Rattle.pegmatch.specs.Kept.{SpellsSome};
-ghost use Rattle.cells.specs.Entries.{Entry};
+ghost use Rattle.cells.specs.Entries.{Entry, found_at};
+ghost use Rattle.cells.specs.declared.cell.Found.{Found};
 ghost use Rattle.desk.specs.declared.frame.Frame.{Frame};
 ghost use Rattle.desk.specs.Ahead.{IsSight, IsSeen, IsOn};
 ghost use Rattle.desk.specs.Desk.{counted, Fits};
@@ -26,12 +27,15 @@ pub(crate) enum Halt {
     Short,
 }
 
+// A literal of more bytes is compared only where it has no cell.
+const SHORT: usize = 8;
+
 /// What is known of a node at a place before its cell is looked up.
 #[derive(Clone, Copy, PartialEq, Eq, Debug)]
 pub(crate) enum Sight {
-    /// What it gives, whatever the cells: it compares one byte, or none.
+    /// What it gives, whatever the cells: it compares few bytes, or none.
     Known(Turn),
-    /// It is a literal, which is compared only where it has no cell.
+    /// It is a long literal, which is compared only where it has no cell.
     Literal,
     /// It has operands.
     Operands,
@@ -52,7 +56,12 @@ fn sight_of(peg: &SoundPeg, window: &[u8], more: bool, node: usize, place: usize
         Node::Act(_) => Sight::Known(Turn::Answer(Found::Took(place))),
         Node::Open => Sight::Known(Turn::Answer(Found::Took(place))),
         Node::Close => Sight::Known(Turn::Answer(Found::Took(place))),
-        Node::Bytes(_) => Sight::Literal,
+        Node::Bytes(bytes) => {
+            if bytes.len() > SHORT {
+                return Sight::Literal;
+            }
+            Sight::Known(leaf_turn(match_bytes(bytes, window, place), window, more))
+        }
         _ => Sight::Operands,
     }
 }
@@ -74,7 +83,7 @@ fn literal_of(peg: &SoundPeg, window: &[u8], more: bool, node: usize, place: usi
 }
 
 // The cell of a literal at a place, which it gets where it has none.
-#[inline(always)]
+#[inline(never)]
 fn see_literal(
     peg: &SoundPeg,
     window: &[u8],
@@ -103,6 +112,18 @@ fn see_literal(
     }
 }
 
+// The cell of a node at a place which would look at the last byte of the window, if it has one.
+#[inline(never)]
+fn held_or_short(cells: &Cells, node: usize, place: usize) -> Result<Option<Found>, Halt>
+    ensures held { IfOk result (λ seen. (f : Found) × (seen ≡ Some f) × (found_at cells.now node place ≡ Some f)) }
+    ensures short { IfErr result (λ halt. (halt ≡ Halt.Short) × (found_at cells.now node place ≡ None)) }
+{
+    match cells.get(node, place) {
+        Some(found) => Ok(Some(found)),
+        None => Err(Halt::Short),
+    }
+}
+
 // The cell of a node at a place; one without operands gets its cell where it has none.
 #[inline(always)]
 fn see(
@@ -125,10 +146,7 @@ fn see(
             Ok(known) => Ok(Some(known)),
             Err(_) => Err(Halt::Memory),
         },
-        Sight::Known(Turn::Need) => match cells.get(node, place) {
-            Some(found) => Ok(Some(found)),
-            None => Err(Halt::Short),
-        },
+        Sight::Known(Turn::Need) => held_or_short(cells, node, place),
         Sight::Literal => see_literal(peg, window, more, cells, node, place),
         _ => match cells.get(node, place) {
             Some(found) => Ok(Some(found)),

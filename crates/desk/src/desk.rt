@@ -150,7 +150,8 @@ impl Desk {
         ensures empty { OnErr result (self.new ≡ empty) }
     {
         self.reset();
-        self.cells.reset(peg.nodes());
+        let nodes = peg.nodes();
+        self.cells.reset(nodes);
         let root = peg.body_node(peg.start());
         if self.frames.push(beginning(root, 0)).is_err() {
             self.reset();

@@ -1,15 +1,15 @@
 //! Where a success goes on, from the cells: its events in path order.
-ghost use Rattle.std.specs.Prelude.{◌≡◌, ℕ, ◌+◌, ◌<◌, Bool, true, List, length, IfSome};
+ghost use Rattle.std.specs.Prelude.{◌≡◌, ℕ, ◌+◌, ◌<◌, Bool, true, List, length, get_or, slice_get, Some, IfSome};
 ghost use Rattle.pegread.specs.Views.{rules_of};
 ghost use Rattle.gramcheck.specs.Grammar.{IsSoundGrammar};
-ghost use Rattle.gramcheck.specs.Nodes.{shape_of, shapes_of};
+ghost use Rattle.gramcheck.specs.Nodes.{Shape, shape_of, shapes_of};
 ghost use Rattle.pegmatch.specs.Kept.{SpellsSome};
 ghost use Rattle.gramcheck.specs.Outcome.{Event};
 ghost use Rattle.cells.specs.declared.cell.Found.{Found};
 ghost use Rattle.cells.specs.Entries.{Entry, found_at};
 ghost use Rattle.desk.specs.Desk.{beginning};
 ghost use Rattle.desk.specs.State.{HaveFailed, AreCells};
-ghost use Rattle.desk.specs.Path.{IsLeft, IsQuiet, IsWay, opt_way, star_way, seq_way, choice_way};
+ghost use Rattle.desk.specs.Path.{EndsBy, IsLeft, IsQuiet, IsWay, opt_way, star_way, seq_way, choice_way};
 
 use crate::frame::Frame;
 use cells::{Cells, Found};
@@ -71,15 +71,59 @@ fn star(cells: &Cells, star: usize, operand: usize, place: usize, next: usize, e
     }
 }
 
+// The place so many bytes behind one, if it is a number.
+#[inline(always)]
+fn behind(place: usize, bytes: usize) -> Option<usize>
+    ensures { IfSome result (λ end. end ≡ place + bytes) }
+{
+    place.checked_add(bytes)
+}
+
+// Where a success of a node at a place ends, if that is told without its cell.
+#[inline(always)]
+fn end_at_once(peg: &SoundPeg, node: usize, place: usize) -> Option<usize>
+    requires { node < length peg.now.nodes }
+    ensures { IfSome result (λ end. (shape : Shape) × (slice_get (shapes_of peg.now.nodes) node ≡ Some shape) × EndsBy shape place end) }
+{
+    match peg.node(node) {
+        Node::Any => behind(place, 1),
+        Node::Set(_) => behind(place, 1),
+        Node::Bytes(bytes) => behind(place, bytes.len()),
+        Node::And(_) => Some(place),
+        Node::Not(_) => Some(place),
+        Node::Act(_) => Some(place),
+        Node::Open => Some(place),
+        Node::Close => Some(place),
+        _ => None,
+    }
+}
+
+// The outcome of a node at a place where it succeeded.
+#[inline(always)]
+fn success_of(peg: &SoundPeg, cells: &Cells, node: usize, place: usize) -> Option<Found>
+    requires sound { IsSoundGrammar peg.now }
+    requires there { node < length peg.now.nodes }
+    ensures { (x : List ℕ) (more : Bool) (end : ℕ) → AreCells (rules_of peg.now.rules) peg.now.start (shapes_of peg.now.nodes) peg.now.bodies x more cells.now →
+        found_at cells.now node place ≡ Some (Found.Took end) → result ≡ Some (Found.Took end) }
+{
+    match end_at_once(peg, node, place) {
+        Some(end) => Some(Found::Took(end)),
+        None => cells.get(node, place),
+    }
+}
+
 // Through the next member.
-fn seq(cells: &Cells, members: &[usize], next: usize, end: usize) -> Way
-    ensures { result ≡ seq_way cells.now members.now next end }
+fn seq(peg: &SoundPeg, cells: &Cells, members: &[usize], next: usize, end: usize) -> Way
+    requires sound { IsSoundGrammar peg.now }
+    requires there { (i : ℕ) → i < length members.now → get_or members.now i 0 < length peg.now.nodes }
+    ensures { (x : List ℕ) (more : Bool) → AreCells (rules_of peg.now.rules) peg.now.start (shapes_of peg.now.nodes) peg.now.bodies x more cells.now →
+        (next < length members.now → (r : ℕ) × (found_at cells.now (get_or members.now next 0) end ≡ Some (Found.Took r))) → result ≡ seq_way cells.now members.now next end }
 {
     if next >= members.len() {
         return Way::Leave;
     }
     let member = members[next];
-    match cells.get(member, end) {
+    match success_of(peg, cells, member, end) {
         Some(Found::Took(after)) => Way::GoInto {
             node: member,
             place: end,
@@ -122,7 +166,7 @@ pub(crate) fn next_way(peg: &SoundPeg, cells: &Cells, frame: Frame) -> Way
             node: peg.body_node(*id),
             place,
         },
-        Node::Seq(members) => seq(cells, members, frame.next, frame.end),
+        Node::Seq(members) => seq(peg, cells, members, frame.next, frame.end),
         Node::Choice(alternatives) => choice(cells, alternatives, place),
         Node::Star(operand) => star(cells, frame.node, *operand, place, frame.next, frame.end),
         Node::Plus {

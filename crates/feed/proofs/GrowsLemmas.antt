@@ -1,9 +1,9 @@
 -- How a feed grows, call by call.
--- Serves: Feed::fill, and gramtools' run_peg
+-- Serves: Feed::fill, run_peg (right)
 use Rattle.std.proofs.Common.{◌≡◌, ℕ, zero, ◌+◌, List, [], ◌++◌, length, refl, sym, ◌∙◌, ap, append_assoc, arith, Option, Some, None, inl, inr, length-append}
 use Rattle.std.proofs.lemmas.List.{append-nil}
 use Rattle.std.specs.Io.KnownBytes.{Consumes}
-use Rattle.ruletable.proofs.Taken.{Consumes-join}
+use Rattle.ruletable.proofs.AppendsLemmas.{Consumes-join}
 use Rattle.feed.specs.Feed.{Grows, bytes_of, flow_of, reader_of}
 use Rattle.feed.specs.declared.feed.Feed.{Feed}
 use Rattle.feed.specs.declared.held.Flow.{Flow}

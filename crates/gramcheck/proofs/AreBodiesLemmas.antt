@@ -1,4 +1,5 @@
 -- The bodies of a grammar's rules, cut one by one.
+-- Serves: check_peg
 use Rattle.std.proofs.Common.{◌≡◌, ℕ, zero, suc, ◌+◌, List, [], ◌∷◌, ◌++◌, length, map, Some, refl, sym, ap, subst, arith, ⊎_elim, length-append}
 use Rattle.std.specs.Prelude.{slice_get}
 use Rattle.std.proofs.lemmas.Bool.{cases_lt}
@@ -12,10 +13,10 @@ use Rattle.gramcheck.specs.Bodies.{AreBodies, AreNamed, IsBuilt}
 use Rattle.gramcheck.specs.Nodes as node
 use Rattle.gramcheck.specs.Nodes.{Shape, shapes_of, id_of, Spells, spells_any, spells_bytes, spells_set, spells_name, spells_seq, spells_choice, spells_star, spells_plus, spells_opt, spells_and, spells_not, spells_act, spells_open, spells_close}
 use Rattle.gramcheck.specs.Numbering.{Numbers, AreStanding}
-use Rattle.gramcheck.proofs.Ids.{id_most}
-use Rattle.gramcheck.proofs.Lists.{push_cases}
-use Rattle.gramcheck.proofs.Spelled.{has_shape}
-use Rattle.gramcheck.proofs.Spelling.{still_spells}
+use Rattle.gramcheck.proofs.OwnIdLemmas.{id_most}
+use Rattle.gramcheck.proofs.PushCasesLemmas.{push_cases}
+use Rattle.gramcheck.proofs.HasShapeLemmas.{has_shape}
+use Rattle.gramcheck.proofs.NodeSpellsLemmas.{still_spells}
 
 -- the bodies of the first rules are cut into nodes
 pub record AreCut (rules : List Rule) (count : ℕ) (nodes : List Shape) (bodies : List ℕ) : Type 0 where

@@ -1,4 +1,5 @@
 -- The notes on a grammar, from the marks on its rules and the uses of names.
+-- Serves: check_peg, one_list_of_notes, redefinitions
 use Rattle.std.proofs.Common.{◌≡◌, ℕ, suc, ◌<◌, ◌==◌, ◌||◌, Bool, true, false, not, cond, List, [], ◌∷◌, ◌++◌, length, map, drop, get_or, Option, Some, None, refl, sym, ap, subst, ◌∙◌, arith, inl, inr, append_assoc}
 use Rattle.std.specs.Prelude.{position, slice_get, option_to_list, Contains}
 use Rattle.std.specs.Str.{bytes_eq}
@@ -17,10 +18,10 @@ use Rattle.ruletable.specs.Notes.{Said, said}
 use Rattle.ruletable.specs.declared.note.NoteKind.TheVariants.{Redefined, Undefined, Unused, LeftRecursion, Loop}
 use Rattle.pegread.specs.Pattern.{Rule}
 use Rattle.gramcheck.specs.Left.{IsLeftRecursive, Loops}
-use Rattle.gramcheck.specs.Notes.{start_of, IsUnused, names_at, AreNotes, AreRedefinitions, AreMarks, chosen}
+use Rattle.gramcheck.specs.GrammarNotes.{start_of, IsUnused, names_at, AreNotes, AreRedefinitions, AreMarks, chosen}
 use Rattle.gramcheck.specs.Uses.{names_used, rule_names, is_among, news, AreUses}
 use Rattle.gramcheck.proofs.ChosenLemmas.{those-one, those-chosen, chosen-map}
-use Rattle.gramcheck.proofs.Names.{same-name, own-name, other-name}
+use Rattle.gramcheck.proofs.RuleNameLemmas.{same-name, own-name, other-name}
 
 -- there is at most one list of notes
 pub notes-one : (rules : List Rule) (again : List (List ℕ)) (start : Option (List ℕ)) (a b : List Said) → AreNotes rules again start a → AreNotes rules again start b → a ≡ b

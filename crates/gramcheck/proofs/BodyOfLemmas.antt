@@ -1,4 +1,5 @@
 -- The nodes of rules' bodies, by the rules' names.
+-- Serves: check_peg
 use Rattle.std.proofs.Common.{◌≡◌, ℕ, zero, suc, ◌+◌, ◌<◌, Bool, true, false, cond, List, [], ◌∷◌, length, map, get_or, refl, ap, subst, arith, add-one, ◌∙◌, Some, Contains, Option, None, option_to_list}
 use Rattle.std.specs.Prelude.{slice_get, bytes_eq, option_map}
 use Rattle.std.proofs.lemmas.List.{length-map}

@@ -1,4 +1,5 @@
 -- What marks choose of a list, and the notes that are made of it.
+-- Serves: check_peg, one_list_of_notes, redefinitions
 use Rattle.std.proofs.Common.{◌≡◌, ℕ, suc, ◌+◌, ◌<◌, Bool, true, false, List, [], ◌∷◌, ◌++◌, length, map, drop, get_or, Some, refl, sym, ap, ◌∙◌, arith, add-one, append_assoc, drop-cons}
 use Rattle.std.specs.Prelude.{slice_get}
 use Rattle.std.proofs.lemmas.Bool.{both_ways}
@@ -7,7 +8,7 @@ use Rattle.std.proofs.lemmas.Option.{slice_get_within, get_or_from_slice_get}
 use Rattle.ruletable.specs.declared.note.Note.{Note}
 use Rattle.ruletable.specs.Notes.{Said, said_of}
 use Rattle.pegread.specs.Pattern.{Rule}
-use Rattle.gramcheck.specs.Notes.{Those, no_more, this_one, not_this, AreMarks, chosen}
+use Rattle.gramcheck.specs.GrammarNotes.{Those, no_more, this_one, not_this, AreMarks, chosen}
 
 -- at most one list is those of which P holds
 pub those-one : {A : Type 0} (P : A → Type 0) (xs ys zs : List A) → Those P xs ys → Those P xs zs → ys ≡ zs

@@ -1,4 +1,5 @@
 -- What the marks of nodes say of rules.
+-- Serves: check_peg
 use Rattle.std.proofs.Common.{◌≡◌, ℕ, Bool, false, List, length, map, get_or, sym, ap, arith, ◌∙◌, Some}
 use Rattle.std.specs.Prelude.{slice_get}
 use Rattle.std.proofs.lemmas.List.{get_or-map, length-map}

@@ -1,4 +1,5 @@
 -- A grammar that is cut into nodes, and that the checks find nothing against, is ranked.
+-- Serves: check_peg
 use Rattle.std.proofs.Common.{◌≡◌, ℕ, ◌<◌, List, length, Some, subst, arith}
 use Rattle.std.specs.Prelude.{slice_get}
 use Rattle.std.proofs.lemmas.Option.{slice_get_within}
@@ -13,7 +14,7 @@ use Rattle.gramcheck.specs.Ranks.{AreRanks}
 use Rattle.gramcheck.specs.Sound.{IsRanked}
 use Rattle.gramcheck.specs.Within.{StandsIn}
 use Rattle.gramcheck.proofs.RepeatsNoNullLemmas.{repeats_no_null}
-use Rattle.gramcheck.proofs.Spelled.{has_shape}
+use Rattle.gramcheck.proofs.HasShapeLemmas.{has_shape}
 
 -- where every name that stands in a body is that of a rule, so is every node's
 module _ (rules : List Rule) (nodes : List Shape) (standing : AreStanding rules nodes)

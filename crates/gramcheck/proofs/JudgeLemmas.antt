@@ -1,4 +1,5 @@
 -- What the checks find of a grammar that no note refuses.
+-- Serves: check_peg
 use Rattle.std.proofs.Common.{◌≡◌, ◌≢◌, ℕ, zero, suc, ◌<◌, Bool, true, false, ◌||◌, List, [], ◌∷◌, ◌++◌, length, map, get_or, Option, Some, None, refl, sym, subst, ap, ◌∙◌, arith, Contains}
 use Rattle.std.specs.Prelude.{slice_get, bytes_eq, option_to_list}
 use Rattle.std.specs.List.{list_any}
@@ -25,14 +26,14 @@ use Rattle.gramcheck.specs.Defined.{IsGiven}
 use Rattle.gramcheck.specs.Left.{IsLeftRecursive, Loops}
 use Rattle.leastset.specs.NumberMarks.{IsMarked}
 use Rattle.gramcheck.specs.Nodes.{Shape, id_of}
-use Rattle.gramcheck.specs.Notes.{Those, no_more, not_this, AreNotes, AreMarks, said_refuses}
+use Rattle.gramcheck.specs.GrammarNotes.{Those, no_more, not_this, AreNotes, AreMarks, said_refuses}
 use Rattle.gramcheck.specs.Numbering.{AreStanding}
 use Rattle.gramcheck.specs.Sound.{IsRanked}
 use Rattle.gramcheck.specs.Uses.{names_in, names_in_all, names_used, rule_names, is_among, news}
 use Rattle.gramcheck.specs.Within.{Within, WithinSome, StandsIn, itself, of_seq, of_choice, of_star, of_plus, of_opt, of_and, of_not, of_first, of_later}
-use Rattle.gramcheck.proofs.Ids.{id_found, own_id}
+use Rattle.gramcheck.proofs.OwnIdLemmas.{id_found, own_id}
 use Rattle.leastset.proofs.IsMarkedLemmas.{marked_lt}
-use Rattle.gramcheck.proofs.Names.{same-name, own-name, names-same}
+use Rattle.gramcheck.proofs.RuleNameLemmas.{same-name, own-name, names-same}
 use Rattle.gramcheck.proofs.AreNotesLemmas.{among-contains}
 use Rattle.gramcheck.proofs.IsRankedLemmas.{is_ranked}
 

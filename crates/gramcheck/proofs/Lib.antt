@@ -4,32 +4,32 @@ pub mod AreRanksLemmas
 pub mod BodyOfLemmas
 pub mod ChosenLemmas
 pub mod ComesBackLemmas
-pub mod Ending
-mod Examples
-pub mod Falling
-pub mod Ids
+pub mod HasOutcomeLemmas
+pub mod HasShapeLemmas
 pub mod IsAnalysedLemmas
 pub mod IsLeftLemmas
 pub mod IsRankedLemmas
 pub mod JudgeLemmas
 pub mod LeftStepLemmas
-pub mod Lists
 pub mod LongerInputLemmas
 pub mod LoopMarksLemmas
-pub mod Lowering
-pub mod Names
+pub mod MeasureLemmas
+pub mod NodeSpellsLemmas
 mod NotesExamples
+pub mod NullIfLemmas
 pub mod NullableLemmas
 pub mod NumbersLemmas
 pub mod OneOutcomeLemmas
-pub mod Outcomes
-pub mod Patterns
+mod OutcomeExamples
+pub mod OwnIdLemmas
+pub mod PatternOfLemmas
+pub mod PushCasesLemmas
 pub mod RepeatsNoNullLemmas
-pub mod Rising
+pub mod RiseLemmas
+pub mod RuleNameLemmas
 pub mod ShapesOfLemmas
 pub mod ShorterInputLemmas
-pub mod Spelled
-pub mod Spelling
-pub mod Starting
-pub mod Taking
+pub mod SomeOutcomeLemmas
+pub mod StartRuleLemmas
+pub mod StepsToBodyLemmas
 pub mod UsesLemmas

@@ -1,4 +1,5 @@
 -- What an expression gives before it has looked at the input's end is what it gives on every longer input.
+-- Serves: longer_input, longer_input_of_start, shorter_input, shorter_input_of_start
 use Rattle.std.proofs.Common.{◌≡◌, ℕ, zero, suc, ◌+◌, ◌-◌, ◌<◌, ◌≤◌, max, Bool, true, false, ◌&&◌, if◌then◌else◌, ◌==◌, List, [], ◌∷◌, ◌++◌, length, drop, refl, ◌∙◌, ap, arith, length-drop}
 use Rattle.std.proofs.lemmas.List.{drop-append-le}
 use Rattle.std.specs.Prelude.{slice_get}

@@ -1,4 +1,5 @@
 -- Marks of repetitions of nullable expressions, operands first.
+-- Serves: check_peg
 use Rattle.std.proofs.Common.{◌≡◌, ◌↔◌, ℕ, ◌+◌, ◌<◌, ◌≤◌, Bool, true, false, List, [], ◌∷◌, ◌++◌, length, get_or, Contains, refl, sym, subst, arith, ⊎_elim, inl, inr, ◌∙◌, Some, length-append}
 use Rattle.std.specs.Prelude.{slice_get}
 use Rattle.std.proofs.lemmas.Bool.{cases_lt}

@@ -8,7 +8,7 @@ use Rattle.ruletable.specs.Notes.{said}
 use Rattle.ruletable.specs.declared.note.NoteKind.TheVariants.{Undefined, Unused}
 use Rattle.pegread.specs.Pattern.{Pattern, Any, Bytes, Name, Seq, Choice, Star, And, none, more, Rule}
 use Rattle.gramcheck.specs.Left.{LeftChain, one_step, more_steps}
-use Rattle.gramcheck.specs.Notes.{AreNotes, no_more, this_one, not_this}
+use Rattle.gramcheck.specs.GrammarNotes.{AreNotes, no_more, this_one, not_this}
 use Rattle.gramcheck.specs.Uses.{names_used, news}
 
 -- `S <- &B / 'a' (C S)*` and then `C <- B` use B, C, S and B

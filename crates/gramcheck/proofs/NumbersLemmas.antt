@@ -1,4 +1,5 @@
 -- Nodes that are added one by one, and what they spell.
+-- Serves: check_peg
 use Rattle.std.proofs.Common.{◌≡◌, ℕ, ◌+◌, ◌<◌, ◌≤◌, List, [], ◌∷◌, ◌++◌, length, take, map, get_or, sym, ap, subst, arith, ⊎_elim, ◌∙◌, Some, add-one, append_assoc, append-nil, length-append}
 use Rattle.std.specs.Prelude.{slice_get, Contains}
 use Rattle.std.proofs.lemmas.Bool.{cases_lt}
@@ -15,8 +16,8 @@ use Rattle.gramcheck.specs.Nodes.{Shape, Star, Plus, shape_of, shapes_of, Spells
 use Rattle.gramcheck.specs.Numbering.{Numbers, NumbersAll, SpellsPart}
 use Rattle.gramcheck.specs.Within.{Within, WithinSome, itself, of_star, of_plus, of_first, of_later}
 use Rattle.leastset.proofs.AtLemmas.{at_push, at_append_left}
-use Rattle.gramcheck.proofs.Lists.{push_cases}
-use Rattle.gramcheck.proofs.Spelling.{still_spells, still_spell_all, is_there, are_there}
+use Rattle.gramcheck.proofs.PushCasesLemmas.{push_cases}
+use Rattle.gramcheck.proofs.NodeSpellsLemmas.{still_spells, still_spell_all, is_there, are_there}
 
 built_push : (xs : List Shape) (a : Shape) → IsBuilt xs → ((m : ℕ) → IsOperand a m → m < length xs) → IsBuilt (xs ++ a ∷ [])
 built_push xs a b low = record {

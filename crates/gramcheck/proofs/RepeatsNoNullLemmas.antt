@@ -1,4 +1,5 @@
 -- Where no rule's body repeats a nullable expression, no node repeats a nullable one.
+-- Serves: check_peg
 use Rattle.std.proofs.Common.{◌≡◌, ℕ, List, [], map, Some, sym, ap, subst, ◌∙◌}
 use Rattle.std.specs.Prelude.{slice_get}
 use Rattle.std.proofs.lemmas.Option.{slice_get_within}
@@ -10,9 +11,9 @@ use Rattle.gramcheck.specs.Nodes.{Shape, id_of, Spells, spells_any, spells_bytes
 use Rattle.gramcheck.specs.Numbering.{AreStanding}
 use Rattle.gramcheck.specs.Ranks.{RepeatsNoNull}
 use Rattle.gramcheck.specs.Within.{Within, WithinSome, itself, of_seq, of_choice, of_star, of_plus, of_opt, of_and, of_not, of_first, of_later, StandsIn}
-use Rattle.gramcheck.proofs.Ids.{body_at_id}
-use Rattle.gramcheck.proofs.Lists.{mapped_from}
-use Rattle.gramcheck.proofs.Spelled.{has_shape}
+use Rattle.gramcheck.proofs.OwnIdLemmas.{body_at_id}
+use Rattle.gramcheck.proofs.PushCasesLemmas.{mapped_from}
+use Rattle.gramcheck.proofs.HasShapeLemmas.{has_shape}
 
 -- what repeats a nullable expression within an expression repeats it in the whole
 module _ (rules : List Rule) where

@@ -1,4 +1,5 @@
 -- What is held of the names that were used, with one use more.
+-- Serves: check_peg
 use Rattle.std.proofs.Common.{◌≡◌, ℕ, zero, suc, ◌+◌, ◌<◌, ◌≤◌, Bool, true, false, cond, not, ◌||◌, List, [], ◌∷◌, ◌++◌, length, map, position, get_or, set, take, slice_get, Option, Some, None, refl, sym, ap, subst, ◌∙◌, arith, inl, inr, append_assoc, append-nil, add-one, length-append, length-set}
 use Rattle.std.proofs.Math.Bool.{or-false}
 use Rattle.std.proofs.lemmas.Bool.{both_ways, cases_eq, cases_Bool, or_right}
@@ -17,8 +18,8 @@ use Rattle.std.specs.Prelude.{option_to_list, Result, Ok, Err, IfOk}
 use Rattle.pegread.specs.Pattern.{Pattern, Rule}
 use Rattle.pegread.specs.Views.{patterns, patterns_of, pattern_of, rule_of, rules_of}
 use Rattle.pegread.specs.declared.expr.Expr.{Expr}
-use Rattle.gramcheck.specs.Notes.{start_of}
-use Rattle.gramcheck.proofs.Names.{same-name, own-name, other-name, position-any, position-none, found, names-same, one-place, own-place}
+use Rattle.gramcheck.specs.GrammarNotes.{start_of}
+use Rattle.gramcheck.proofs.RuleNameLemmas.{same-name, own-name, other-name, position-any, position-none, found, names-same, one-place, own-place}
 use Rattle.gramcheck.specs.Uses.{names_in, names_in_all, names_used, rule_names, is_among, news, AreUses}
 
 -- one more name is new where it is neither known nor new already

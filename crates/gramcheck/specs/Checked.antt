@@ -2,9 +2,9 @@
 use Rattle.std.specs.Prelude.{◌≡◌, ℕ, Bool, List, slice_get, Option, Some}
 use Rattle.std.specs.List.{list_any}
 use Rattle.ruletable.specs.Notes.{Said}
-use Rattle.gramcheck.specs.Notes.{said_refuses}
+use Rattle.gramcheck.specs.GrammarNotes.{said_refuses}
 use Rattle.pegread.specs.Pattern.{Rule}
-use Rattle.gramcheck.specs.Notes.{start_of}
+use Rattle.gramcheck.specs.GrammarNotes.{start_of}
 use Rattle.gramcheck.specs.Uses.{rule_names}
 
 -- whether a grammar on which there are these notes is refused: one of them is no note on a rule that is not used

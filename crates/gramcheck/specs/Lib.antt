@@ -3,11 +3,11 @@ pub mod Bodies
 pub mod Checked
 pub mod Defined
 pub mod Grammar
+pub mod GrammarNotes
 pub mod Left
 pub mod Loops
 pub mod NodeRows
 pub mod Nodes
-pub mod Notes
 pub mod Nulls
 pub mod Numbering
 pub mod Outcome

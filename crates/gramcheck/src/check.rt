@@ -7,7 +7,7 @@ ghost use Rattle.gramcheck.specs.Checked.{is_refused, IsStart};
 ghost use Rattle.gramcheck.specs.Defined.{IsGiven};
 ghost use Rattle.gramcheck.specs.Grammar.{IsSoundGrammar};
 ghost use Rattle.gramcheck.specs.Nodes.{shapes_of};
-ghost use Rattle.gramcheck.specs.Notes.{AreNotes, names_at};
+ghost use Rattle.gramcheck.specs.GrammarNotes.{AreNotes, names_at};
 ghost use Rattle.gramcheck.specs.Sound.{IsRanked};
 
 use crate::analysis::analysed;

@@ -7,7 +7,7 @@ ghost use Rattle.ruletable.specs.Rules.{names_of};
 ghost use Rattle.pegread.specs.Pattern.{Rule};
 ghost use Rattle.pegread.specs.Views.{rules_of};
 ghost use Rattle.gramcheck.specs.Left.{IsLeftRecursive, Loops};
-ghost use Rattle.gramcheck.specs.Notes.{AreMarks, AreNotes, AreRedefinitions, chosen, names_at, said_refuses};
+ghost use Rattle.gramcheck.specs.GrammarNotes.{AreMarks, AreNotes, AreRedefinitions, chosen, names_at, said_refuses};
 
 use crate::uses::uses_of;
 use pegread::{Expr, Peg};

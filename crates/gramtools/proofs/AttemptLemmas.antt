@@ -8,7 +8,7 @@ use Rattle.ruletable.specs.declared.sink.WriteFault.{WriteFault}
 use Rattle.pegread.specs.Views.{rules_of}
 use Rattle.gramcheck.specs.Grammar.{Grammar}
 use Rattle.gramcheck.specs.Outcome.{Outcome, Fails, Takes, Event}
-use Rattle.gramcheck.proofs.Starting.{rises_of_start, grows_of_start}
+use Rattle.gramcheck.proofs.StartRuleLemmas.{rises_of_start, grows_of_start}
 use Rattle.pegmatch.specs.Answers.{StartGives}
 use Rattle.pegmatch.specs.Text.{text_of}
 use Rattle.gramtools.specs.Attempts.{IsAttempt}

@@ -1,6 +1,6 @@
 pub mod AttemptLemmas
 pub mod CutLemmas
-pub mod LookedLemmas
+pub mod LooksOfStartLemmas
 pub mod NextUnitLemmas
 pub mod OneReplyLemmas
 pub mod PegTaskLemmas

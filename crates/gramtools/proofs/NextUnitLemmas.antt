@@ -11,7 +11,7 @@ use Rattle.feed.specs.declared.held.Flow.{Flow}
 use Rattle.feed.specs.declared.held.Flow.TheVariants.{Ended, Broken}
 use Rattle.pegread.specs.Views.{rules_of}
 use Rattle.gramcheck.specs.Grammar.{Grammar, IsSoundGrammar}
-use Rattle.gramcheck.proofs.Starting.{rises_of_start}
+use Rattle.gramcheck.proofs.StartRuleLemmas.{rises_of_start}
 use Rattle.toolrun.specs.Agrees.{Agrees}
 use Rattle.gramtools.specs.Attempts.{IsAttempt, IsStep, IsStepOn, StaysWithin, step_after, stop_at}
 use Rattle.toolrun.specs.Input.{Input}

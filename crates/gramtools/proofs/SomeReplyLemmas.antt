@@ -1,14 +1,15 @@
 -- Each input has a reply, and the text of the first units is a beginning of it.
+-- Serves: run_peg (right)
 use Rattle.std.proofs.Common.{◌≡◌, ℕ, suc, zero, ◌+◌, ◌<◌, ◌≤◌, Bool, true, false, List, [], ◌++◌, length, drop, refl, sym, arith, inl, inr, ◌⊎◌, length-drop}
 use Rattle.std.proofs.Math.Nat.{min-le_left, min-le_right, le-min}
 use Rattle.std.proofs.lemmas.Bool.{cases_lt, cases_eq}
-use Rattle.ruletable.proofs.Taken.{IsBeginning-same, IsBeginning-trans}
+use Rattle.ruletable.proofs.AppendsLemmas.{IsBeginning-same, IsBeginning-trans}
 use Rattle.pegread.specs.Views.{rules_of}
 use Rattle.gramcheck.specs.Grammar.{Grammar, IsSoundGrammar}
 use Rattle.gramcheck.specs.Nodes.{shapes_of}
 use Rattle.gramcheck.specs.Outcome.{Outcome, Fails, Takes}
-use Rattle.gramcheck.proofs.Ending.{has_of_start}
-use Rattle.gramcheck.proofs.Starting.{rises_of_start}
+use Rattle.gramcheck.proofs.SomeOutcomeLemmas.{has_of_start}
+use Rattle.gramcheck.proofs.StartRuleLemmas.{rises_of_start}
 use Rattle.pegmatch.specs.Text.{text_of}
 use Rattle.toolrun.specs.Input.{Input}
 use Rattle.gramtools.specs.Reply.{Replies}

@@ -1,14 +1,15 @@
 -- What came of the start rule at the front of a window is a step of the run.
+-- Serves: run_peg (right)
 use Rattle.std.proofs.Common.{◌≡◌, ℕ, zero, suc, ◌<◌, ◌≤◌, Bool, true, false, Option, List, [], length, drop, take, refl, arith, nat_lt, inl, inr, length-drop, length-take, if◌then◌else◌, ◌==◌}
 use Rattle.std.specs.Prelude.{Result, Ok, Err}
 use Rattle.std.proofs.lemmas.Grind.{common_steps}
 use Rattle.std.specs.Io.KnownBytes.{Appends}
 use Rattle.ruletable.specs.declared.sink.WriteFault.{WriteFault}
-use Rattle.ruletable.proofs.Taken.{Appends-none, Appends-same}
+use Rattle.ruletable.proofs.AppendsLemmas.{Appends-none, Appends-same}
 use Rattle.pegread.specs.Views.{rules_of}
 use Rattle.gramcheck.specs.Grammar.{Grammar, IsSoundGrammar}
 use Rattle.gramcheck.specs.Outcome.{Outcome, Fails, Takes, Event}
-use Rattle.gramcheck.proofs.Starting.{rises_of_start}
+use Rattle.gramcheck.proofs.StartRuleLemmas.{rises_of_start}
 use Rattle.pegmatch.specs.Answers.{StartGives, WasEnough}
 use Rattle.pegmatch.specs.Text.{text_of}
 use Rattle.gramtools.specs.Attempts.{IsAttempt, IsStep, StaysWithin, step_after}

@@ -1,4 +1,5 @@
 -- What a window of at most limit + 1 bytes says of the whole rest.
+-- Serves: run_peg (right)
 use Rattle.std.proofs.Common.{◌≡◌, ℕ, suc, ◌<◌, ◌≤◌, Bool, List, ◌++◌, length, take, drop, sym, ◌∙◌, ap, subst, arith, nat_lt, inl, inr}
 use Rattle.std.proofs.lemmas.Bool.{cases_lt}
 use Rattle.std.proofs.lemmas.Grind.{common_steps}
@@ -7,11 +8,11 @@ use Rattle.pegread.specs.Views.{rules_of}
 use Rattle.gramcheck.specs.Grammar.{Grammar, IsSoundGrammar}
 use Rattle.gramcheck.specs.Outcome.{Outcome, Takes, Event}
 use Rattle.gramcheck.specs.Nodes.{shapes_of}
-use Rattle.gramcheck.proofs.Ending.{has_of_start}
-use Rattle.gramcheck.proofs.Starting.{same_of_start, rises_of_start, grows_of_start, shrinks_of_start}
+use Rattle.gramcheck.proofs.SomeOutcomeLemmas.{has_of_start}
+use Rattle.gramcheck.proofs.StartRuleLemmas.{same_of_start, rises_of_start, grows_of_start, shrinks_of_start}
 use Rattle.pegmatch.specs.Answers.{StartGives, WasEnough}
 use Rattle.pegmatch.specs.Text.{text_of}
-use Rattle.gramtools.proofs.LookedLemmas.{looks_of_start}
+use Rattle.gramtools.proofs.LooksOfStartLemmas.{looks_of_start}
 use Rattle.gramtools.proofs.TextOfLemmas.{text_same}
 
 -- an outcome on the rest that looks at no more than the limit

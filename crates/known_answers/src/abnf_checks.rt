@@ -1,6 +1,9 @@
 //! The checks of whole texts: their notes, the grammars by which lines can be judged, and their rules that derive the empty string.
-use abnfcheck::{SoundAbnf, check_abnf, derivation_is_decided, one_list_of_abnf_notes};
+use abnfcheck::{
+    SoundAbnf, check_abnf, derivation_is_decided, one_list_of_abnf_notes, productive,
+};
 use abnfread::read_abnf;
+use letters::Alphabet;
 use ruletable::{Note, NoteKind};
 use std::alloc::Global;
 use std::test::Fail;
@@ -147,6 +150,41 @@ fn empty_strings(rt: HostRuntime) -> Result<(), Fail> {
                 "whether {text:?} derives the empty string"
             );
         }
+    }
+    Ok(())
+}
+
+// Texts, and whether their first rule derives some list of bytes, and of code points.
+static PRODUCTIVE: [(&[u8], bool, bool); 16] = [
+    (b"s = \"abc\" / %x100 \"x\"", true, true),
+    (b"s = %x20AC \"x\"", false, true),
+    (b"s = %x41.20AC", false, true),
+    (b"s = %x41.D800", false, false),
+    (b"s = %xFF-100", true, true),
+    (b"s = %x100-200", false, true),
+    (b"s = %xD800-DFFF", false, false),
+    (b"s = %xD800-E000", false, true),
+    (b"s = %x5-1", false, false),
+    (b"s = 2*1\"a\"", false, false),
+    (b"s = 1*%x110000", false, false),
+    (b"s = *%x110000 [s]", true, true),
+    (b"s = \"x\" s", false, false),
+    (b"s = \"a\" t \"b\" / \"ac\"\nt = \"x\" t", true, true),
+    (b"s = \"a\" t\nt = \"x\" t", false, false),
+    (b"s = t u\nt = ALPHA\nu = u \"a\" / t", true, true),
+];
+
+#[test]
+fn some_lists(rt: HostRuntime) -> Result<(), Fail> {
+    for (text, by_bytes, by_points) in &PRODUCTIVE {
+        let sound = sound_of(rt.alloc(), text)?;
+        let bytes = productive(rt.alloc(), &sound, Alphabet::Bytes)?;
+        let points = productive(rt.alloc(), &sound, Alphabet::Utf8)?;
+        assert_eq!(rt; bytes.len(), sound.rules().len());
+        assert!(rt;
+            bytes.first() == Some(by_bytes) && points.first() == Some(by_points),
+            "whether {text:?} derives something"
+        );
     }
     Ok(())
 }

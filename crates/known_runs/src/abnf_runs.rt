@@ -2,7 +2,7 @@
 ghost use Rattle.std.specs.Prelude.{◌<◌};
 
 use crate::fakes::{Paper, Tape};
-use abnfrun::run_abnf;
+use abnfrun::{one_reply_of_abnf, one_statement_of_abnf, run_abnf};
 use gramtools::{Alphabet, MAX_LIMIT, Mode, Settings, SourceOf, Status};
 use ruletable::SinkOf;
 use std::alloc::Global;
@@ -399,4 +399,10 @@ fn an_abnf_grammar_is_printed_or_checked_alone(rt: HostRuntime) {
     );
     assert!(rt; out.holds(b"") && err.holds(b"rule 'a' redefined\n"));
     assert!(rt; status == Status::Refused && left == 2);
+}
+
+#[test]
+fn laws_of_abnf_return() {
+    one_reply_of_abnf();
+    one_statement_of_abnf();
 }

@@ -1,4 +1,5 @@
 -- The first token of a text is found in one way, where two tokens of one place and one end are of one kind.
+-- Serves: Kind::are_cut, AbnfKind::are_cut, read_peg, read_abnf
 use Rattle.std.proofs.Common.{◌≡◌, ℕ, ◌<◌, Bool, true, false, List, [], ◌∷◌, ◌++◌, length, drop, refl, sym, ap, arith, length-append, append_assoc, ◌∙◌}
 use Rattle.std.proofs.lemmas.List.{drop_at}
 use Rattle.lexer.specs.SliceEnds.{IsEnd, IsPart, White, no_more, piece, NoPiece, First, found, bad, at_end}

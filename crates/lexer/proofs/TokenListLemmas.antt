@@ -1,4 +1,5 @@
 -- A text is cut into tokens in one way, where the first token is found in one way.
+-- Serves: TokenIter::next, one_list, have_tokens, abnf_tokens, read_peg, read_abnf
 use Rattle.std.proofs.Common.{◌≡◌, ℕ, ◌+◌, ◌-◌, ◌≤◌, Bool, true, false, cond, Some, None, List, [], ◌∷◌, ◌++◌, length, take, refl, sym, ap, arith, length-append, ◌∙◌}
 use Rattle.std.proofs.lemmas.List.{take_at, append_cancel_right}
 use Rattle.ruletable.specs.declared.span.Span.{Span}

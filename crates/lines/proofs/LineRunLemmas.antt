@@ -6,7 +6,7 @@ use Rattle.std.proofs.lemmas.List.{append-nil}
 use Rattle.std.specs.Io.KnownBytes.{Appends, Consumes}
 use Rattle.ruletable.specs.Writing.{Flags}
 use Rattle.ruletable.specs.declared.sink.WriteFault.{WriteFault}
-use Rattle.ruletable.proofs.Taken.{Appends-join, Appends-kept, AppendsPart-join}
+use Rattle.ruletable.proofs.AppendsLemmas.{Appends-join, Appends-kept, AppendsPart-join}
 use Rattle.feed.specs.Feed.{IsToldBy, input_limit}
 use Rattle.feed.specs.declared.held.Flow.{Flow}
 use Rattle.toolrun.specs.Agrees.{Agrees}

@@ -4,7 +4,7 @@ use Rattle.std.proofs.Common.{◌≡◌, ℕ, ◌+◌, ◌&&◌, Bool, Option, S
 use Rattle.std.specs.Prelude.{Result, Ok, Err}
 use Rattle.std.proofs.lemmas.List.{take_all}
 use Rattle.ruletable.specs.declared.sink.WriteFault.{WriteFault}
-use Rattle.ruletable.proofs.Taken.{Appends-same}
+use Rattle.ruletable.proofs.AppendsLemmas.{Appends-same}
 use Rattle.toolrun.specs.Input.{Input}
 use Rattle.toolrun.specs.declared.stop.Stop.TheVariants.{Quiet, LongLine}
 use Rattle.toolrun.specs.declared.stop.Stop.TheVariants as stop

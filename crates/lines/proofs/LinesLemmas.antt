@@ -5,7 +5,7 @@ use Rattle.std.proofs.Math.Nat.{min-le_left, min-le_right, le-min}
 use Rattle.std.proofs.lemmas.Bool.{cases_lt, cases_eq}
 use Rattle.std.proofs.lemmas.List.{take-append-le}
 use Rattle.std.proofs.lemmas.List.Elements.{All-nil, All-cons, All-take}
-use Rattle.ruletable.proofs.Taken.{IsBeginning-same, IsBeginning-trans}
+use Rattle.ruletable.proofs.AppendsLemmas.{IsBeginning-same, IsBeginning-trans}
 use Rattle.toolrun.specs.Input.{Input}
 use Rattle.toolrun.specs.RunSteps.{Begins}
 use Rattle.toolrun.specs.Status.{code_of}

@@ -5,7 +5,7 @@ use Rattle.std.specs.Prelude.{slice_range, slice_get}
 use Rattle.std.proofs.lemmas.List.{reverse-reverse}
 use Rattle.std.specs.Io.KnownBytes.{Appends}
 use Rattle.ruletable.specs.Writing.{AppendsPart, Writes}
-use Rattle.ruletable.proofs.Taken.{Appends-join, AppendsPart-join, AppendsPart-first, Writes-then}
+use Rattle.ruletable.proofs.AppendsLemmas.{Appends-join, AppendsPart-join, AppendsPart-first, Writes-then}
 use Rattle.pegmatch.specs.Text.{is_word, Word, filled_piece, filled, cut_front, trimmed, printed}
 use Rattle.gramcheck.specs.Nodes.{Shape, Act}
 use Rattle.gramcheck.specs.Outcome as event
@@ -14,7 +14,7 @@ use Rattle.pegmatch.specs.Kept.{StandsFor, opened, closed, acted}
 use Rattle.pegmatch.specs.Printing.{event_text}
 use Rattle.pegmatch.specs.declared.event.Kept.{Kept}
 use Rattle.pegmatch.specs.declared.event.Kept.TheVariants.{Acted}
-use Rattle.pegmatch.proofs.Filling.{AreWord, other_put, last_put}
+use Rattle.pegmatch.proofs.FilledRunLemmas.{AreWord, other_put, last_put}
 
 -- what was written, and the filled rest of the template
 abbrev pub IsWritten : Option (List ℕ) → Option (List ℕ) → List ℕ → List ℕ → ℕ → Type 0

@@ -1,16 +1,16 @@
 -- What is printed event by event.
--- Serves: Plain and Desk, replay.
+-- Serves: Plain::replay, Desk::replay
 use Rattle.std.proofs.Common.{◌≡◌, ℕ, ◌+◌, ◌<◌, ◌≤◌, Bool, List, [], ◌∷◌, ◌++◌, length, get_or, drop, Option, Some, None, refl, sym, ◌∙◌, ap, subst, arith, append_assoc, append-nil, add-one, drop-cons}
 use Rattle.std.specs.Prelude.{slice_range, slice_get}
 use Rattle.std.specs.Io.KnownBytes.{Appends}
 use Rattle.std.proofs.lemmas.Grind.{common_steps}
 use Rattle.ruletable.specs.Writing.{AppendsPart}
-use Rattle.ruletable.proofs.Taken.{Appends-join, Appends-same, AppendsPart-join, AppendsPart-first}
+use Rattle.ruletable.proofs.AppendsLemmas.{Appends-join, Appends-same, AppendsPart-join, AppendsPart-first}
 use Rattle.gramcheck.specs.Nodes.{Shape, Act}
 use Rattle.gramcheck.specs.Outcome as event
 use Rattle.gramcheck.specs.Outcome.{Event}
 use Rattle.gramcheck.specs.Rising.{Rise}
-use Rattle.gramcheck.proofs.Rising.{Rise-le}
+use Rattle.gramcheck.proofs.RiseLemmas.{Rise-le}
 use Rattle.pegmatch.specs.Kept.{StandsFor, opened, closed, acted, StandFor, no_event, one_event}
 use Rattle.pegmatch.specs.Printing.{event_text, closed_at, capture_by, IsPrinted}
 use Rattle.pegmatch.specs.Text.{printed, text_after, text_of}

@@ -1,11 +1,11 @@
-pub mod Falling
-pub mod Filling
-pub mod Literals
+pub mod CompareLemmas
+pub mod CutFrontLemmas
 pub mod FilledLemmas
+pub mod FilledRunLemmas
 pub mod IsPrintedLemmas
-pub mod Spelled
-pub mod Steps
-pub mod Trimming
-pub mod Turning
-pub mod Units
-mod Examples
+pub mod MatchStepLemmas
+pub mod NodeShapeLemmas
+pub mod OperandLemmas
+mod PrintedTextExamples
+pub mod RuleGivesLemmas
+pub mod TurnsOnLemmas

@@ -12,7 +12,7 @@ pub(crate) struct Comparison {
 }
 
 /// Compares up to the first mismatch, and that byte too; the text's end is no byte.
-#[tactic(auto, using(crate::proofs::Literals::equal_byte, crate::proofs::Literals::other_byte, crate::proofs::Literals::text_ends, crate::proofs::Literals::literal_ends))]
+#[tactic(auto, using(crate::proofs::CompareLemmas::equal_byte, crate::proofs::CompareLemmas::other_byte, crate::proofs::CompareLemmas::text_ends, crate::proofs::CompareLemmas::literal_ends))]
 pub(crate) fn compare(text: &[u8], literal: &[u8]) -> Comparison
     ensures begins { result.begins ≡ begins_with text.now literal.now }
     ensures compared { result.compared ≡ compared text.now literal.now }

@@ -73,7 +73,7 @@ fn is_blank_byte(b: u8) -> bool
 }
 
 /// The number of blanks at a text's front.
-#[tactic(auto, using(crate::proofs::Trimming::front_blank, crate::proofs::Trimming::front_other))]
+#[tactic(auto, using(crate::proofs::CutFrontLemmas::front_blank, crate::proofs::CutFrontLemmas::front_other))]
 fn front_blanks(text: &[u8]) -> usize
     ensures within { result ≤ length text.now }
     ensures value { drop result text.now ≡ cut_front text.now }
@@ -87,7 +87,7 @@ fn front_blanks(text: &[u8]) -> usize
 }
 
 /// Where the blanks at a text's end begin.
-#[tactic(auto, using(crate::proofs::Trimming::back_blank, crate::proofs::Trimming::back_other))]
+#[tactic(auto, using(crate::proofs::CutFrontLemmas::back_blank, crate::proofs::CutFrontLemmas::back_other))]
 fn back_blanks(text: &[u8]) -> usize
     ensures within { result ≤ length text.now }
     ensures value { reverse (take result text.now) ≡ cut_front (reverse text.now) }

@@ -4,8 +4,8 @@ use Rattle.std.proofs.lemmas.Bool.Decides.{nat_tests}
 use Rattle.pegread.specs.Chars.{octal_digit, hex_digit, hex_upper, digit_first, letter_e, letter_n, Char, Chars, no_chars, more_chars}
 use Rattle.pegread.specs.Literals.{SpellsBytes}
 use Rattle.pegread.specs.Classes.{GoesOn, Item, item_char, item_range, Ranges, no_items, more_items, in_ranges, bytes_in, complement, SpellsSet, positive, negative}
-use Rattle.pegread.proofs.Forms.{no-octal, no-hex, no_digit-empty, no_digit-here, char-plain, char-letter, char-itself, char-x, char-one_hex, char-two_hex, char-one_octal, char-two_octal, char-three_octal}
-use Rattle.pegread.proofs.CharFronts.{no-letter}
+use Rattle.pegread.proofs.CharFormLemmas.{no-octal, no-hex, no_digit-empty, no_digit-here, char-plain, char-letter, char-itself, char-x, char-one_hex, char-two_hex, char-one_octal, char-two_octal, char-three_octal}
+use Rattle.pegread.proofs.CharFrontLemmas.{no-letter}
 
 module _ where
   escape : Char (codes "\\e") [] 27

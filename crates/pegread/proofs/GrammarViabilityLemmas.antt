@@ -1,4 +1,5 @@
 -- Words begin a grammar exactly if the machine can take them, and a token that it cannot take decides.
+-- Serves: read_peg
 use Rattle.std.proofs.Common.{◌≡◌, ℕ, ◌<◌, Some, None, List, [], ◌∷◌, ◌++◌, length, refl, ap, ◌∙◌}
 use Rattle.lexer.specs.declared.limits.TheConstants.{MAX_OPEN}
 use Rattle.lexer.proofs.ViabilityLemmas as viability
@@ -9,10 +10,10 @@ use Rattle.pegread.specs.Spelling.{Grammar, Begins, Viable}
 use Rattle.pegread.specs.Tokens.{Tok}
 use Rattle.pegread.specs.Words.{Word, Ident, Arrow, Dot, RParen, End, Says, SayAll}
 use Rattle.pegread.specs.Machine.{snoc, finish, Mark, no_mark, not_mark, and_mark, apply, fresh, read, read_name, Level, level, Head, ended, Config, start, named, body, done, end_step, step, run, levels_in}
-use Rattle.pegread.proofs.Passing.{grammar-runs}
-use Rattle.pegread.proofs.Backwards.{runs-grammar}
+use Rattle.pegread.proofs.GrammarMachineLemmas.{grammar-runs}
+use Rattle.pegread.proofs.GrammarSpellingLemmas.{runs-grammar}
 use Rattle.pegread.proofs.SaysLemmas.{one-word}
-use Rattle.pegread.proofs.Shallow.{deeper-next}
+use Rattle.pegread.proofs.IsShallowLemmas.{deeper-next}
 
 end-step : (o : List Level) (rules : List Rule) (d : Config) → end_step o rules ≡ Some d → (all : List Rule) × (d ≡ done all)
 end-step [] rules d h = (rules, cc)

@@ -1,35 +1,34 @@
-mod Backwards
+pub mod AreMarkedLemmas
+mod ByteShapeLemmas
 mod CanonExamples
 mod CharExamples
-pub mod CharFronts
-mod ClassRuns
-mod ClassTexts
-pub mod Closing
-mod Cuts
-mod Cutting
-mod Depth
-mod Examples
-pub mod Faults
-mod Firsts
-pub mod Forms
-mod Fronts
+pub mod CharFormLemmas
+pub mod CharFrontLemmas
+mod ClassRunLemmas
+mod ClassTextLemmas
+mod CutsLemmas
+mod CutsRulesLemmas
+mod FirstByteLemmas
+mod GrammarExamples
+mod GrammarMachineLemmas
+mod GrammarSpellingLemmas
 pub mod GrammarViabilityLemmas
-pub mod Image
-pub mod Items
-pub mod Leaving
-mod Listed
-mod Looping
-mod Nesting
-mod Passing
-mod Patterns
-mod Pieces
-pub mod Quoted
-pub mod ReadingBack
-pub mod Respanned
+pub mod IsFaultOfLemmas
+pub mod IsShallowLemmas
+pub mod IsTableOfLemmas
+pub mod LeavesLemmas
+mod ListedWordLemmas
+mod MakeUpLemmas
+mod OpenCountLemmas
+mod PatternsOfLemmas
+pub mod ReadBackLemmas
+mod ReadDefinitionsLemmas
+pub mod ReadsFormedLemmas
+pub mod SameWordsLemmas
 pub mod SaysLemmas
-pub mod Shallow
-mod Shapes
+mod SliceFrontLemmas
 pub mod SliceLemmas
-mod Spelled
-pub mod Tables
-pub mod TokenSlices
+pub mod SpellsBytesLemmas
+mod SpellsOneLemmas
+pub mod SpellsSetLemmas
+mod StaysInLemmas

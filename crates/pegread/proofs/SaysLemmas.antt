@@ -1,13 +1,14 @@
 -- Every token of a text says one word, but for a bad one, which says none.
+-- Serves: is_read_back, one_tree, read_peg
 use Rattle.std.proofs.Common.{◌≡◌, ◌≢◌, ℕ, List, refl, ◌∙◌, sym, ap}
 use Rattle.ruletable.specs.declared.span.Span.{Span}
 use Rattle.pegread.specs.declared.kind.Kind.TheVariants as kinds
 use Rattle.lexer.specs.TokenLists.{tok, kind_of}
 use Rattle.pegread.specs.Tokens.{Tok, Next}
 use Rattle.pegread.specs.Words.{Word, Ident, Arrow, Begin, EndCap, Slash, Amp, Bang, Quest, Star, Plus, Dot, LParen, RParen, Literal, Class, Action, End, Says, says_name, says_arrow, says_begin, says_end_cap, says_slash, says_amp, says_bang, says_quest, says_star, says_plus, says_dot, says_lparen, says_rparen, says_literal, says_class, says_action, says_end}
-use Rattle.pegread.proofs.Items.{one-class, some-class}
-use Rattle.pegread.proofs.Quoted.{one-literal, some-literal, same-inside}
-use Rattle.pegread.proofs.TokenSlices.{literal-token, class-token, braced-token}
+use Rattle.pegread.proofs.SpellsSetLemmas.{one-class, some-class}
+use Rattle.pegread.proofs.SpellsBytesLemmas.{one-literal, some-literal, same-inside}
+use Rattle.pegread.proofs.AreMarkedLemmas.{literal-token, class-token, braced-token}
 
 pub bad-silent : (z : List ℕ) (p : Span) (w : Word) → Says (tok kinds.Bad z p) w → ⊥
 bad-silent z p w h = elim h [ ]

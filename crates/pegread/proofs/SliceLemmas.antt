@@ -1,4 +1,5 @@
 -- A text is cut in one way.
+-- Serves: Kind::after_white, Kind::are_cut, Kind::first_token, is_read_back, read_peg, tokens_make_up
 use Rattle.std.proofs.Common.{◌≡◌, ◌≢◌, ℕ, ◌≤◌, ◌<◌, true, false, List, [], ◌∷◌, length, refl, sym, ap, arith}
 use Rattle.std.proofs.lemmas.Bool.Decides.{nat_tests}
 use Rattle.lexer.specs.SliceEnds.{IsEnd, IsPart, NoPiece}

@@ -1,4 +1,5 @@
 -- A set of bytes, bit by bit.
+-- Serves: ByteSet::add_range, ByteSet::complement, ByteSet::has, ByteSet::new
 use Rattle.std.proofs.Common.{◌≡◌, ◌≢◌, ℕ, zero, suc, ◌+◌, ◌*◌, ◌<◌, ◌≤◌, ◌/◌, ◌%◌, ◌^◌, ◌==◌, ◌||◌, not, false, List, [], ◌∷◌, length, get_or, set, refl, sym, ap, subst, ◌⊎◌, ◌&&◌, ◌-◌, nat_le, nat_lt, ◌∙◌, inl, inr, arith, bit_and, bit_or, bit_xor, ltb, w64}
 use Rattle.std.proofs.lemmas.Bool.{cases_Bool, cases_eq, or_right, or_from}
 use Rattle.std.proofs.Math.Bool.{or-false}

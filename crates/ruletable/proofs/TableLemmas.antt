@@ -1,4 +1,5 @@
 -- A table's rules, as its map holds them.
+-- Serves: RuleTable::define, RuleTable::find, RuleTable::name, RuleTable::body, RuleTable::span, RuleTable::len
 use Rattle.std.proofs.Common.{◌≡◌, ℕ, zero, suc, ◌+◌, ◌<◌, Bool, true, false, cond, not, List, [], ◌∷◌, ◌++◌, length, map, get_or, slice_get, position, Option, Some, None, refl, sym, ap, subst, ◌∙◌, arith, Bor, Vec, Global, nat_lt}
 use Rattle.std.proofs.lemmas.List.{map-append, length-map}
 use Rattle.std.proofs.lemmas.List.Sums.{position_or_len_is}
@@ -14,7 +15,7 @@ use Rattle.std.proofs.lemmas.Bool.Decides.{nat_tests}
 use Rattle.indexmap.specs.Layout.{set_value_at}
 use Rattle.std.specs.Map.{values_of}
 use Rattle.ruletable.specs.Rules.{Rule, Rules, HasUniqueNames, find_in, key_of, set_body}
-use Rattle.ruletable.specs.Rows.{rule_in, rules_in, keys_in, KeysAreNames}
+use Rattle.ruletable.specs.RuleRows.{rule_in, rules_in, keys_in, KeysAreNames}
 use Rattle.ruletable.specs.declared.table.NameCase.{NameCase}
 use Rattle.ruletable.specs.declared.table.Row.{Row}
 

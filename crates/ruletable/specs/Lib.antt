@@ -3,7 +3,7 @@ pub mod Lends
 pub mod Lines
 pub mod Members
 pub mod Notes
-pub mod Rows
+pub mod RuleRows
 pub mod Rules
 pub mod Runs
 pub mod Writing

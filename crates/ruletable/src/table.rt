@@ -47,7 +47,7 @@ impl<E> Model for RuleTable<E> {
 
     ghost Value = { Rules E };
 
-    ghost use Rattle.ruletable.specs.Rows.{rules_in, KeysAreNames};
+    ghost use Rattle.ruletable.specs.RuleRows.{rules_in, KeysAreNames};
 
     ghost view = { λ t. record { names = t.names; rules = rules_in t.rows.entries } };
 

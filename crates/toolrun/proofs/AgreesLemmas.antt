@@ -6,7 +6,7 @@ use Rattle.std.proofs.lemmas.Bool.{cases_lt}
 use Rattle.std.proofs.lemmas.Grind.{common_steps}
 use Rattle.std.proofs.lemmas.List.{append-nil, take-append-drop}
 use Rattle.std.specs.Io.KnownBytes.{Consumes}
-use Rattle.ruletable.proofs.Taken.{Consumes-join}
+use Rattle.ruletable.proofs.AppendsLemmas.{Consumes-join}
 use Rattle.feed.specs.Feed.{Grows, IsToldBy, bytes_of, flow_of, input_limit, reader_of}
 use Rattle.feed.specs.declared.feed.Feed.{Feed}
 use Rattle.feed.specs.declared.held.Flow.{Flow}

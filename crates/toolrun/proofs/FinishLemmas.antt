@@ -1,5 +1,5 @@
 -- What the steps at the end of a run tell together.
--- Serves: end_run (told)
+-- Serves: finish
 use Rattle.std.proofs.Common.{◌≡◌, ℕ, ◌≤◌, Option, List, [], ◌++◌, refl, sym, ◌∙◌, ap, true, false, Bool, ◌⊎◌, inl, inr}
 use Rattle.std.specs.Prelude.{Result, Ok, Err}
 use Rattle.std.proofs.lemmas.List.{append-nil}
@@ -7,7 +7,7 @@ use Rattle.std.specs.Io.KnownBytes.{Appends, Keeps}
 use Rattle.ruletable.specs.Writing.{Flags}
 use Rattle.ruletable.specs.Writing.{IsBeginning, Writes}
 use Rattle.ruletable.specs.declared.sink.WriteFault.{WriteFault}
-use Rattle.ruletable.proofs.Taken.{Appends-join, Appends-kept, IsBeginning-same, IsBeginning-join, IsBeginning-after}
+use Rattle.ruletable.proofs.AppendsLemmas.{Appends-join, Appends-kept, IsBeginning-same, IsBeginning-join, IsBeginning-after}
 use Rattle.toolrun.specs.declared.stop.Stop.{Stop}
 use Rattle.toolrun.specs.Stop.{write_error}
 use Rattle.toolrun.specs.Stop.{message_of, status_of}

@@ -6,7 +6,7 @@ use Rattle.std.specs.Result.{is_err}
 use Rattle.std.specs.Io.KnownBytes.{Appends, Keeps, Consumes}
 use Rattle.ruletable.specs.Writing.{Flags, Writes, AppendsPart}
 use Rattle.ruletable.specs.declared.sink.WriteFault.{WriteFault}
-use Rattle.ruletable.proofs.Taken.{Appends-join, Appends-kept, Appends-none, Appends-same, IsBeginning-same, IsBeginning-nil, IsBeginning-join, IsBeginning-after}
+use Rattle.ruletable.proofs.AppendsLemmas.{Appends-join, Appends-kept, Appends-none, Appends-same, IsBeginning-same, IsBeginning-nil, IsBeginning-join, IsBeginning-after}
 use Rattle.toolrun.specs.Delivery.{Reports}
 use Rattle.toolrun.specs.Input.{Input, input_from}
 use Rattle.toolrun.specs.Reply.{Reply}

@@ -1,4 +1,5 @@
 -- The text of notes.
+-- Serves: write_notes
 use Rattle.std.proofs.Common.{◌≡◌, ℕ, List, [], ◌∷◌, ◌++◌, map, refl, ap, zero, suc, get_or, take, length, ◌<◌, sym, ◌∙◌, append_assoc, append-nil, arith}
 use Rattle.std.specs.List.{flat_map}
 use Rattle.ruletable.specs.Notes.{note_text, said_of}

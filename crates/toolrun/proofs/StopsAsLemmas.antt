@@ -1,12 +1,12 @@
 -- What was read, and what was written of it.
--- Serves: run_peg (right), and the lines of an input
+-- Serves: run_peg (right), run_abnf (right), run_lines
 use Rattle.std.proofs.Common.{◌≡◌, ℕ, ◌+◌, Bool, Option, Some, None, List, [], ◌++◌, length, refl, arith, inl, inr}
 use Rattle.std.specs.Prelude.{Result, Ok, Err, IfSome}
 use Rattle.std.proofs.lemmas.List.{append-nil}
 use Rattle.std.specs.Io.KnownBytes.{Appends, Consumes}
 use Rattle.ruletable.specs.Writing.{Flags}
 use Rattle.ruletable.specs.declared.sink.WriteFault.{WriteFault}
-use Rattle.ruletable.proofs.Taken.{Appends-same, IsBeginning-trans, IsBeginning-nil}
+use Rattle.ruletable.proofs.AppendsLemmas.{Appends-same, IsBeginning-trans, IsBeginning-nil}
 use Rattle.feed.specs.Feed.{IsToldBy, input_limit}
 use Rattle.feed.specs.declared.held.Flow.{Flow}
 use Rattle.toolrun.specs.Agrees.{Agrees}

@@ -1,13 +1,11 @@
 -- The ids, the marks, the notes, and what refuses.
-use Rattle.std.proofs.Common.{◌≡◌, ◌≤◌, ◌∙◌, ap, arith, length, map, subst, sym}
-use Rattle.std.specs.Prelude.{option_copied, Contains}
+use Rattle.std.proofs.Common.{◌∙◌, ap, arith, length, subst, sym}
+use Rattle.std.specs.Prelude.{Contains}
 use Rattle.std.proofs.lemmas.List.{length-map}
 use Rattle.leastset.proofs.RowsOfLemmas.{length-rows}
 use Rattle.abnfread.specs.Element.{Rule}
 use Rattle.abnfread.specs.Views.{rule_of, rules_of}
-use Rattle.ruletable.specs.Notes.{said_of}
-use Rattle.abnfcheck.specs.AbnfNotes.{judged_in}
-use Rattle.abnfcheck.specs.NameMarks.{AreMarks, AreNoteMarks}
+use Rattle.abnfcheck.specs.NameMarks.{AreMarks}
 use Rattle.abnfcheck.specs.ProseIn.{prose_in}
 use Rattle.abnfcheck.proofs.AbnfNotesLemmas.{are_notes}
 use Rattle.abnfcheck.proofs.GraphLemmas.{judged_at, rows_long, steps_within}

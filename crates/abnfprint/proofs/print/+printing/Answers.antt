@@ -1,5 +1,5 @@
 use Rattle.std.proofs.Common.{rules}
-use Rattle.ruletable.proofs.Taken.{AppendsPart-first, Writes-then}
+use Rattle.ruletable.proofs.AppendsLemmas.{AppendsPart-first, Writes-then}
 use Rattle.abnfprint.proofs.LeftTextLemmas.{leaves-all, leaves-rest, leaves-part, leaves-none, leaves-at, leaves-last, item-left, end-left}
 use Rattle.abnfprint.proofs.print.+printing.Goals as goal
 

@@ -1,4 +1,4 @@
-use Rattle.ruletable.proofs.Taken.{AppendsPart-first, Writes-then}
+use Rattle.ruletable.proofs.AppendsLemmas.{AppendsPart-first, Writes-then}
 use Rattle.abnfprint.proofs.PrintedNumberLemmas.{upper-one, upper-more}
 use Rattle.abnfprint.proofs.terminal.+digits.Goals as goal
 

@@ -1,4 +1,4 @@
-use Rattle.ruletable.proofs.Taken.{AppendsPart-first, Writes-then}
+use Rattle.ruletable.proofs.AppendsLemmas.{AppendsPart-first, Writes-then}
 use Rattle.abnfprint.proofs.terminal.print_star.Goals as goal
 
 pub returns-in-Ok-clause-bytes : goal.returns-in-Ok-clause-bytes

@@ -1,5 +1,5 @@
 use Rattle.std.proofs.Common.{rules, codes}
-use Rattle.ruletable.proofs.Taken.{AppendsPart-first}
+use Rattle.ruletable.proofs.AppendsLemmas.{AppendsPart-first}
 use Rattle.abnfprint.specs.CanonicalAbnf.{values_text}
 use Rattle.abnfprint.proofs.LeftTextLemmas.{leaves-all, leaves-rest, leaves-part, leaves-none, leaves-at, value-left, values-end}
 use Rattle.abnfprint.proofs.terminal.print_values.Goals as goal

@@ -1,6 +1,6 @@
 use Rattle.std.proofs.Common.{ap, Some, ◌∙◌}
 use Rattle.gramcheck.specs.Nodes.{spells_bytes}
-use Rattle.pegmatch.proofs.Spelled.{shape_at}
+use Rattle.pegmatch.proofs.NodeShapeLemmas.{shape_at}
 use Rattle.desk.proofs.IsTurnLemmas.{leaf_turns}
 use Rattle.desk.proofs.ahead.literal_of.Goals as goal
 

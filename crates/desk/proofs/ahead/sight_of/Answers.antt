@@ -1,7 +1,7 @@
 use Rattle.std.proofs.Common.{ap, Some, ◌∙◌}
-use Rattle.gramcheck.specs.Nodes.{spells_any, spells_set, spells_act, spells_open, spells_close}
+use Rattle.gramcheck.specs.Nodes.{spells_any, spells_bytes, spells_set, spells_act, spells_open, spells_close}
 use Rattle.gramcheck.specs.Outcome.{act, open_at, close_at}
-use Rattle.pegmatch.proofs.Spelled.{shape_at}
+use Rattle.pegmatch.proofs.NodeShapeLemmas.{shape_at}
 use Rattle.desk.proofs.IsTurnLemmas.{leaf_turns, mark_turns}
 use Rattle.desk.proofs.ahead.sight_of.Goals as goal
 
@@ -29,3 +29,8 @@ pub returns-in-Close : goal.returns-in-Close
 returns-in-Close c = λ cells right.
     let here = shape_at c.args.peg.now.nodes c.args.node _ (c.node.ensures ∙ ap Some c.in-Close.is) in
     mark_turns _ _ _ _ _ _ _ c.requires.sound cells right.found c.args.node c.args.place c.requires.spells _ here (λ m q a. a) _ _ (spells_close here) close_at c.requires.some
+
+pub returns-else-len-gt-SHORT : goal.returns-else-len-gt-SHORT
+returns-else-len-gt-SHORT c = λ cells right.
+    let here = shape_at c.args.peg.now.nodes c.args.node _ (c.node.ensures ∙ ap Some c.in-Bytes.is) in
+    leaf_turns _ _ _ _ _ _ _ c.requires.sound cells right.found c.args.node c.args.place c.requires.spells _ here (λ m q a. a) _ _ _ (spells_bytes here) (rw c.deref.ensures.value at c.match_bytes.ensures.value _) c.match_bytes.ensures.looked c.leaf_turn-in-Bytes.ensures

@@ -1,8 +1,8 @@
 use Rattle.std.proofs.Common.{ap, Some, ◌∙◌, arith}
 use Rattle.std.proofs.lemmas.List.{length-map}
 use Rattle.gramcheck.specs.Nodes.{shape_of}
-use Rattle.gramcheck.proofs.Spelling.{is_there}
-use Rattle.pegmatch.proofs.Spelled.{shape_at}
+use Rattle.gramcheck.proofs.NodeSpellsLemmas.{is_there}
+use Rattle.pegmatch.proofs.NodeShapeLemmas.{shape_at}
 use Rattle.desk.proofs.IsNextLemmas.{at_top}
 use Rattle.desk.proofs.IsOnLemmas.{stays, child, halts, asks_name, name_on, asks_star, star_on, asks_plus, plus_on, asks_opt, opt_on, asks_and, and_on, asks_not, not_on}
 use Rattle.desk.proofs.ahead.turn_on.Goals as goal

@@ -3,7 +3,7 @@ use Rattle.std.specs.Prelude.{slice_get}
 use Rattle.gramcheck.specs.Nodes as shape
 use Rattle.gramcheck.specs.Nodes.{shapes_of, spells_any, spells_bytes, spells_set, spells_act, spells_open, spells_close}
 use Rattle.gramcheck.specs.Outcome.{act, open_at, close_at}
-use Rattle.pegmatch.proofs.Spelled.{shape_at}
+use Rattle.pegmatch.proofs.NodeShapeLemmas.{shape_at}
 use Rattle.desk.proofs.IsTurnLemmas.{leaf_turns, mark_turns, name_is_turn, opt_is_turn, and_is_turn, not_is_turn, star_is_turn, plus_is_turn, seq_is_turn, choice_is_turn}
 use Rattle.desk.proofs.turn.next_turn.Goals as goal
 

@@ -2,7 +2,7 @@ use Rattle.std.proofs.Common.{◌∷◌, ap, None, refl, arith, length}
 use Rattle.std.proofs.lemmas.List.{length-map}
 use Rattle.pegread.specs.Views.{rules_of}
 use Rattle.gramcheck.specs.Nodes.{shape_of, shapes_of}
-use Rattle.gramcheck.proofs.Spelling.{is_there}
+use Rattle.gramcheck.proofs.NodeSpellsLemmas.{is_there}
 use Rattle.desk.specs.Desk.{beginning}
 use Rattle.desk.specs.Path.{Goes}
 use Rattle.desk.proofs.IsStepLemmas.{read_top}

@@ -1,9 +1,9 @@
 use Rattle.std.proofs.Common.{ap, refl, arith, Some, ◌∙◌}
 use Rattle.std.proofs.lemmas.List.{length-map}
 use Rattle.gramcheck.specs.Nodes.{shape_of}
-use Rattle.gramcheck.proofs.Spelled.{has_shape}
-use Rattle.gramcheck.proofs.Spelling.{is_there}
-use Rattle.pegmatch.proofs.Spelled.{shape_at}
+use Rattle.gramcheck.proofs.HasShapeLemmas.{has_shape}
+use Rattle.gramcheck.proofs.NodeSpellsLemmas.{is_there}
+use Rattle.pegmatch.proofs.NodeShapeLemmas.{shape_at}
 use Rattle.desk.proofs.IsWayLemmas.{any_ways, bytes_ways, set_ways, and_ways, not_ways, act_ways, open_ways, close_ways, leave_by, star_leaves, plus_leaves, opt_leaves}
 use Rattle.desk.proofs.way.way_at_once.Goals as goal
 

@@ -5,7 +5,7 @@ use Rattle.pegread.specs.Pattern.{Rule}
 use Rattle.pegread.specs.Views.{rules_of}
 use Rattle.gramcheck.specs.Analysis.{IsAnalysed}
 use Rattle.gramcheck.specs.Nodes.{shapes_of}
-use Rattle.gramcheck.specs.Notes.{AreNotes, names_at}
+use Rattle.gramcheck.specs.GrammarNotes.{AreNotes, names_at}
 use Rattle.gramcheck.proofs.JudgeLemmas.{marks-recursive, marks-looping, own-ids, ranked, start-known, is-given}
 use Rattle.gramcheck.proofs.check.judge.Goals as goal
 

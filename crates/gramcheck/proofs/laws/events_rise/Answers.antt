@@ -1,4 +1,4 @@
-use Rattle.gramcheck.proofs.Rising.{within}
+use Rattle.gramcheck.proofs.RiseLemmas.{within}
 use Rattle.gramcheck.proofs.laws.events_rise.Goals as goal
 
 pub returns : goal.returns

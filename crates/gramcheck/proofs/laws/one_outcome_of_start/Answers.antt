@@ -1,4 +1,4 @@
-use Rattle.gramcheck.proofs.Starting.{same_of_start}
+use Rattle.gramcheck.proofs.StartRuleLemmas.{same_of_start}
 use Rattle.gramcheck.proofs.laws.one_outcome_of_start.Goals as goal
 
 pub returns : goal.returns

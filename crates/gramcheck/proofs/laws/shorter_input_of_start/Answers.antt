@@ -1,4 +1,4 @@
-use Rattle.gramcheck.proofs.Starting.{shrinks_of_start}
+use Rattle.gramcheck.proofs.StartRuleLemmas.{shrinks_of_start}
 use Rattle.gramcheck.proofs.laws.shorter_input_of_start.Goals as goal
 
 pub returns : goal.returns

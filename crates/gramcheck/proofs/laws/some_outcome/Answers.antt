@@ -1,6 +1,6 @@
 use Rattle.pegread.specs.Views.{rules_of}
 use Rattle.gramcheck.specs.Nodes.{shapes_of}
-use Rattle.gramcheck.proofs.Ending.{standing_ends}
+use Rattle.gramcheck.proofs.SomeOutcomeLemmas.{standing_ends}
 use Rattle.gramcheck.proofs.laws.some_outcome.Goals as goal
 
 pub returns : goal.returns

@@ -1,6 +1,6 @@
 use Rattle.pegread.specs.Views.{rules_of}
 use Rattle.gramcheck.specs.Nodes.{shapes_of}
-use Rattle.gramcheck.proofs.Ending.{has_of_start}
+use Rattle.gramcheck.proofs.SomeOutcomeLemmas.{has_of_start}
 use Rattle.gramcheck.proofs.laws.some_outcome_of_start.Goals as goal
 
 pub returns : goal.returns

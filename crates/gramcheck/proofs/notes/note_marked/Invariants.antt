@@ -2,7 +2,7 @@
 use Rattle.std.proofs.Common.{◌≡◌, ◌++◌, map, drop}
 use Rattle.ruletable.specs.Notes.{said, said_of}
 use Rattle.ruletable.specs.Rules.{names_of}
-use Rattle.gramcheck.specs.Notes.{chosen}
+use Rattle.gramcheck.specs.GrammarNotes.{chosen}
 use Rattle.gramcheck.proofs.notes.note_marked.Given as goal
 
 abbrev pub invariant-loop-id : goal.invariant-loop-id

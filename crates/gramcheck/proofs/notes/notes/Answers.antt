@@ -4,7 +4,7 @@ use Rattle.std.specs.Prelude.{option_copied}
 use Rattle.std.proofs.lemmas.List.{length-map}
 use Rattle.ruletable.specs.Notes.{said_of}
 use Rattle.pegread.specs.Views.{rule_of, rules_of}
-use Rattle.gramcheck.proofs.Names.{names-same}
+use Rattle.gramcheck.proofs.RuleNameLemmas.{names-same}
 use Rattle.gramcheck.proofs.AreNotesLemmas.{are-notes, marks-again, joined}
 use Rattle.gramcheck.proofs.notes.notes.Goals as goal
 

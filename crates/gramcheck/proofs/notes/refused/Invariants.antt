@@ -2,7 +2,7 @@
 use Rattle.std.proofs.Common.{◌≡◌, map, drop}
 use Rattle.std.specs.List.{list_any}
 use Rattle.ruletable.specs.Notes.{said_of}
-use Rattle.gramcheck.specs.Notes.{said_refuses}
+use Rattle.gramcheck.specs.GrammarNotes.{said_refuses}
 use Rattle.gramcheck.proofs.notes.refused.Given as goal
 
 abbrev pub invariant-loop-note : goal.invariant-loop-note

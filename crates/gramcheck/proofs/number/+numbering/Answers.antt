@@ -3,7 +3,7 @@ use Rattle.pegread.specs.Views.{rules_of}
 use Rattle.gramcheck.specs.Nodes as node
 use Rattle.gramcheck.specs.Nodes.{spells_any, spells_bytes, spells_set, spells_name, spells_seq, spells_choice, spells_star, spells_plus, spells_opt, spells_and, spells_not, spells_act, spells_open, spells_close}
 use Rattle.gramcheck.specs.Within.{of_seq, of_choice, of_star, of_opt, of_and, of_not}
-use Rattle.gramcheck.proofs.Patterns.{pattern-Any, pattern-Bytes, pattern-Set, pattern-Name, pattern-Seq, pattern-Choice, pattern-Star, pattern-Plus, pattern-Opt, pattern-And, pattern-Not, pattern-Act, pattern-Open, pattern-Close}
+use Rattle.gramcheck.proofs.PatternOfLemmas.{pattern-Any, pattern-Bytes, pattern-Set, pattern-Name, pattern-Seq, pattern-Choice, pattern-Star, pattern-Plus, pattern-Opt, pattern-And, pattern-Not, pattern-Act, pattern-Open, pattern-Close}
 use Rattle.gramcheck.proofs.NumbersLemmas as o
 use Rattle.gramcheck.proofs.number.+numbering.Goals as goal
 use Rattle.gramcheck.proofs.number.+numbering.Goals.{number-in-Any, number-in-Bytes+in_ok-from_slice-in-Bytes, number-in-Set, number-in-Name+in_ok-rule_id-in-Name, number-in-Seq+in_ok-number_all-in-Seq, number-in-Choice+in_ok-number_all-in-Choice, number-in-Star+in_ok-number-in-Star, number-in-Plus+in_ok-repeated-in-Plus+in_ok-star-in-Plus, number-in-Opt+in_ok-number-in-Opt, number-in-And+in_ok-number-in-And, number-in-Not+in_ok-number-in-Not, number-in-Act+in_ok-from_slice-in-Act, number-in-Open, number-in-Close}

@@ -1,5 +1,5 @@
 use Rattle.std.proofs.Common.{◌∙◌}
-use Rattle.gramcheck.proofs.Ids.{id_found}
+use Rattle.gramcheck.proofs.OwnIdLemmas.{id_found}
 use Rattle.gramcheck.proofs.number.rule_id.Goals as goal
 
 pub returns : goal.returns

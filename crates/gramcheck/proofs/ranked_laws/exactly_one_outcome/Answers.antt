@@ -1,4 +1,4 @@
-use Rattle.gramcheck.proofs.Ending.{gives_one}
+use Rattle.gramcheck.proofs.SomeOutcomeLemmas.{gives_one}
 use Rattle.gramcheck.proofs.ranked_laws.exactly_one_outcome.Goals as goal
 
 pub returns : goal.returns

@@ -1,4 +1,4 @@
-use Rattle.gramcheck.proofs.Ending.{start_gives_one}
+use Rattle.gramcheck.proofs.SomeOutcomeLemmas.{start_gives_one}
 use Rattle.gramcheck.proofs.ranked_laws.exactly_one_outcome_of_start.Goals as goal
 
 pub returns : goal.returns

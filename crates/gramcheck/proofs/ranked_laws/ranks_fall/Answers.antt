@@ -1,4 +1,4 @@
-use Rattle.gramcheck.proofs.Lowering.{lower, steps_to}
+use Rattle.gramcheck.proofs.StepsToBodyLemmas.{lower, steps_to}
 use Rattle.gramcheck.proofs.ranked_laws.ranks_fall.Goals as goal
 
 pub returns : goal.returns

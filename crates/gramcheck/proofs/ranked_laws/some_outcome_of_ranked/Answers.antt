@@ -1,4 +1,4 @@
-use Rattle.gramcheck.proofs.Ending.{ends}
+use Rattle.gramcheck.proofs.SomeOutcomeLemmas.{ends}
 use Rattle.gramcheck.proofs.ranked_laws.some_outcome_of_ranked.Goals as goal
 
 pub returns : goal.returns

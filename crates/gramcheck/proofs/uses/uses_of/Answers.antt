@@ -2,7 +2,7 @@
 use Rattle.std.proofs.Common.{[], take, append-nil, append_assoc}
 use Rattle.std.specs.Prelude.{option_copied, option_to_list}
 use Rattle.pegread.specs.Views.{rules_of, pattern_of}
-use Rattle.gramcheck.specs.Notes.{start_of}
+use Rattle.gramcheck.specs.GrammarNotes.{start_of}
 use Rattle.gramcheck.specs.Uses.{names_used, names_in}
 use Rattle.gramcheck.proofs.UsesLemmas.{used-next}
 use Rattle.gramcheck.proofs.uses.uses_of.Goals as goal

@@ -2,7 +2,7 @@
 use Rattle.std.proofs.Common.{◌++◌, take}
 use Rattle.std.specs.Prelude.{option_copied, option_to_list}
 use Rattle.pegread.specs.Views.{rules_of}
-use Rattle.gramcheck.specs.Notes.{start_of}
+use Rattle.gramcheck.specs.GrammarNotes.{start_of}
 use Rattle.gramcheck.specs.Uses.{AreUses, names_used}
 use Rattle.gramcheck.proofs.uses.uses_of.Given as goal
 

@@ -1,6 +1,6 @@
 -- One more line, or the end.
 use Rattle.std.proofs.Common.{ℕ, [], ◌+◌, ◌++◌, ◌≤◌, ◌∙◌, length, take, refl, ap, rules, arith, length-append, length-drop}
-use Rattle.ruletable.proofs.Taken.{Appends-same}
+use Rattle.ruletable.proofs.AppendsLemmas.{Appends-same}
 use Rattle.feed.proofs.GrowsLemmas.{Consumes-same}
 use Rattle.toolrun.proofs.AgreesLemmas.{earlier, seen_more, slides, slides-len}
 use Rattle.lines.specs.InputLines.{none}

@@ -1,4 +1,4 @@
-use Rattle.pegmatch.proofs.Steps.{any_found, any_missing}
+use Rattle.pegmatch.proofs.MatchStepLemmas.{any_found, any_missing}
 use Rattle.pegmatch.proofs.leaves.match_any.Goals as goal
 
 pub returns-then-place-window-clause-value : goal.returns-then-place-window-clause-value

@@ -1,6 +1,6 @@
 use Rattle.std.proofs.Common.{arith}
 use Rattle.std.proofs.lemmas.Grind.{common_steps}
-use Rattle.pegmatch.proofs.Steps.{bytes_found, bytes_missing}
+use Rattle.pegmatch.proofs.MatchStepLemmas.{bytes_found, bytes_missing}
 use Rattle.pegmatch.proofs.leaves.match_bytes.Goals as goal
 
 pub returns-then-comparison-clause-value : goal.returns-then-comparison-clause-value

@@ -1,5 +1,5 @@
 use Rattle.std.proofs.Common.{refl, sym, ◌∙◌}
-use Rattle.pegmatch.proofs.Steps.{set_found, set_other, set_missing}
+use Rattle.pegmatch.proofs.MatchStepLemmas.{set_found, set_other, set_missing}
 use Rattle.pegmatch.proofs.leaves.match_set.Goals as goal
 
 pub returns-then-place-window-clause-value : goal.returns-then-place-window-clause-value

@@ -2,12 +2,12 @@ use Rattle.std.proofs.Common.{rules, arith, Some, ap, ◌≡◌, ◌∙◌, leng
 use Rattle.pegread.specs.Pattern as expr
 use Rattle.gramcheck.specs.Nodes as shape
 use Rattle.gramcheck.specs.Ranks.{to_body, to_alternative, to_member, to_starred, to_repeated, to_optional, to_asserted, to_denied}
-use Rattle.gramcheck.proofs.Spelled.{has_shape}
+use Rattle.gramcheck.proofs.HasShapeLemmas.{has_shape}
 use Rattle.std.proofs.lemmas.List.Elements.{Contains-get_or}
-use Rattle.pegmatch.proofs.Falling.{falls_to, falls_at, falls_on, member_of_seq, member_of_choice, onward, front_here, front_next}
-use Rattle.pegmatch.proofs.Spelled.{shape_at, quiet_match, name_match, over_match, all_match, first_match, act_match, open_match, close_match}
-use Rattle.pegmatch.proofs.Steps.{none_taken, one_taken, one_failed, all_taken, next_tried, one_found, all_tried}
-use Rattle.pegmatch.proofs.Turning.{none_turned, one_turned, all_turned, plus_failed, plus_took, opt_took, opt_failed, and_took, and_failed, not_took, not_failed}
+use Rattle.pegmatch.proofs.OperandLemmas.{falls_to, falls_at, falls_on, member_of_seq, member_of_choice, onward, front_here, front_next}
+use Rattle.pegmatch.proofs.NodeShapeLemmas.{shape_at, quiet_match, name_match, over_match, all_match, first_match, act_match, open_match, close_match}
+use Rattle.pegmatch.proofs.MatchStepLemmas.{none_taken, one_taken, one_failed, all_taken, next_tried, one_found, all_tried}
+use Rattle.pegmatch.proofs.TurnsOnLemmas.{none_turned, one_turned, all_turned, plus_failed, plus_took, opt_took, opt_failed, and_took, and_failed, not_took, not_failed}
 use Rattle.pegmatch.proofs.matching.+matching.Goals as goal
 
 pub match_all-loop-member-init : goal.match_all-loop-member-init

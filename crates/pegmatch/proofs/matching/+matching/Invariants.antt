@@ -2,9 +2,9 @@ use Rattle.std.proofs.Common.{◌≡◌, ◌+◌, ◌-◌, ◌*◌, ◌≤◌, l
 use Rattle.pegread.specs.Pattern.{Pattern, Patterns}
 use Rattle.pegread.specs.Views.{rules_of}
 use Rattle.gramcheck.specs.Nodes.{shapes_of, Spells, SpellAll}
-use Rattle.pegmatch.proofs.Falling.{at, IsFront}
-use Rattle.pegmatch.proofs.Steps.{HaveTaken, HaveFailed}
-use Rattle.pegmatch.proofs.Turning.{HaveTurned}
+use Rattle.pegmatch.proofs.OperandLemmas.{at, IsFront}
+use Rattle.pegmatch.proofs.MatchStepLemmas.{HaveTaken, HaveFailed}
+use Rattle.pegmatch.proofs.TurnsOnLemmas.{HaveTurned}
 use Rattle.pegmatch.proofs.matching.+matching.Given as goal
 
 abbrev pub decreases-match_node : goal.decreases-match_node

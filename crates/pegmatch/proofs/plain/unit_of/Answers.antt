@@ -1,4 +1,4 @@
-use Rattle.pegmatch.proofs.Units.{rule_gives}
+use Rattle.pegmatch.proofs.RuleGivesLemmas.{rule_gives}
 use Rattle.pegmatch.proofs.plain.unit_of.Goals as goal
 
 pub returns-then-tried-window : goal.returns-then-tried-window

@@ -1,7 +1,7 @@
 use Rattle.std.proofs.Common.{refl, ap, Some, ◌∙◌}
 use Rattle.std.specs.Prelude.{slice_range}
-use Rattle.ruletable.proofs.Taken.{Appends-same}
-use Rattle.pegmatch.proofs.Spelled.{shape_at}
+use Rattle.ruletable.proofs.AppendsLemmas.{Appends-same}
+use Rattle.pegmatch.proofs.NodeShapeLemmas.{shape_at}
 use Rattle.pegmatch.proofs.FilledLemmas.{acts_so, quiet_event}
 use Rattle.pegmatch.proofs.writing.write_event.Goals as goal
 

@@ -1,5 +1,5 @@
 use Rattle.std.proofs.Common.{arith, ◌+◌, sym, ◌∙◌, refl, [], ap}
-use Rattle.pegmatch.proofs.Filling.{word_kept, no_word}
+use Rattle.pegmatch.proofs.FilledRunLemmas.{word_kept, no_word}
 use Rattle.pegmatch.proofs.FilledLemmas.{written_next, written_fault, written_last}
 use Rattle.pegmatch.proofs.writing.write_filled.Goals as goal
 use Rattle.pegmatch.proofs.writing.write_filled.Goals.{then-not-is_word_byte+in-Ok, else-not-is_word_byte}

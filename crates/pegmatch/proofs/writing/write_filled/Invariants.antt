@@ -2,7 +2,7 @@ use Rattle.std.proofs.Common.{◌≡◌, ◌++◌, ◌≤◌, ℕ, List, length,
 use Rattle.std.specs.Prelude.{slice_range}
 use Rattle.std.specs.Io.KnownBytes.{Appends}
 use Rattle.pegmatch.specs.Text.{filled}
-use Rattle.pegmatch.proofs.Filling.{AreWord}
+use Rattle.pegmatch.proofs.FilledRunLemmas.{AreWord}
 use Rattle.pegmatch.proofs.writing.write_filled.Given as goal
 
 abbrev pub invariant-loop-i : goal.invariant-loop-i

@@ -1,4 +1,4 @@
-use Rattle.ruletable.proofs.Taken.{AppendsPart-first}
+use Rattle.ruletable.proofs.AppendsLemmas.{AppendsPart-first}
 use Rattle.pegmatch.proofs.writing.write_run_and.Goals as goal
 
 pub returns-in-Err-clause-bytes : goal.returns-in-Err-clause-bytes

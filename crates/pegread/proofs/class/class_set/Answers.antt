@@ -1,6 +1,6 @@
 use Rattle.std.proofs.Common.{sym, arith}
-use Rattle.pegread.proofs.Quoted.{paired-behind_plain}
-use Rattle.pegread.proofs.Items.{class-bracketed, class-positive, class-negative}
+use Rattle.pegread.proofs.SpellsBytesLemmas.{paired-behind_plain}
+use Rattle.pegread.proofs.SpellsSetLemmas.{class-bracketed, class-positive, class-negative}
 use Rattle.pegread.proofs.class.class_set.Goals as goal
 
 pub items_set-requires : goal.items_set-requires

@@ -1,6 +1,6 @@
 use Rattle.std.proofs.Common.{◌∙◌}
 use Rattle.pegread.specs.Classes.{more_items}
-use Rattle.pegread.proofs.Items.{item-paired, item-smaller, items-step, items-ended}
+use Rattle.pegread.proofs.SpellsSetLemmas.{item-paired, item-smaller, items-step, items-ended}
 use Rattle.pegread.proofs.class.items_set.Goals as goal
 
 pub loop-item-smaller : goal.loop-item-smaller

@@ -1,6 +1,6 @@
 use Rattle.std.proofs.Common.{arith}
 use Rattle.pegread.specs.Classes.{item_char, item_range}
-use Rattle.pegread.proofs.Quoted.{char-paired, none-paired, paired-behind_plain}
+use Rattle.pegread.proofs.SpellsBytesLemmas.{char-paired, none-paired, paired-behind_plain}
 use Rattle.pegread.proofs.class.next_item.Goals as goal
 
 pub returns-in_default : goal.returns-in_default

@@ -1,5 +1,5 @@
 use Rattle.std.proofs.Common.{arith}
-use Rattle.pegread.proofs.Forms.{hex-digit, hex-upper, hex-lower}
+use Rattle.pegread.proofs.CharFormLemmas.{hex-digit, hex-upper, hex-lower}
 use Rattle.pegread.proofs.escape.hex_digit.Goals as goal
 
 pub returns-in-48-to-57 : goal.returns-in-48-to-57

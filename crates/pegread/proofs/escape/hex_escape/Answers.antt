@@ -1,5 +1,5 @@
 use Rattle.std.proofs.Common.{arith}
-use Rattle.pegread.proofs.Forms.{char-x, char-one_hex, char-two_hex, char-at}
+use Rattle.pegread.proofs.CharFormLemmas.{char-x, char-one_hex, char-two_hex, char-at}
 use Rattle.pegread.proofs.escape.hex_escape.Goals as goal
 
 pub returns-in_default : goal.returns-in_default

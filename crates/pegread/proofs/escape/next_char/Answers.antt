@@ -1,4 +1,4 @@
-use Rattle.pegread.proofs.Forms.{char-plain}
+use Rattle.pegread.proofs.CharFormLemmas.{char-plain}
 use Rattle.pegread.proofs.escape.next_char.Goals as goal
 
 pub returns-else-first-eq92 : goal.returns-else-first-eq92

@@ -1,4 +1,4 @@
-use Rattle.pegread.proofs.Forms.{char-letter, char-itself}
+use Rattle.pegread.proofs.CharFormLemmas.{char-letter, char-itself}
 use Rattle.pegread.proofs.escape.next_escape.Goals as goal
 
 pub returns-in-Some-letter_byte : goal.returns-in-Some-letter_byte

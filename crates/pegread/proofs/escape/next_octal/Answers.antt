@@ -1,4 +1,4 @@
-use Rattle.pegread.proofs.Forms.{no_digit-nothing, no_digit-begins, digit-begins, octal-here}
+use Rattle.pegread.proofs.CharFormLemmas.{no_digit-nothing, no_digit-begins, digit-begins, octal-here}
 use Rattle.pegread.proofs.escape.next_octal.Goals as goal
 
 pub returns-in_err-first : goal.returns-in_err-first

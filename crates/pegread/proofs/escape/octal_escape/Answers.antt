@@ -1,6 +1,6 @@
 use Rattle.std.proofs.Common.{arith, inl, inr}
 use Rattle.pegread.specs.Chars.{octal_digit}
-use Rattle.pegread.proofs.Forms.{char-one_octal, char-two_octal, char-three_octal, char-at}
+use Rattle.pegread.proofs.CharFormLemmas.{char-one_octal, char-two_octal, char-three_octal, char-at}
 use Rattle.pegread.proofs.escape.octal_escape.Goals as goal
 
 pub returns-in_default : goal.returns-in_default

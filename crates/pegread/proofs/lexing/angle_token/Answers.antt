@@ -1,4 +1,4 @@
-use Rattle.pegread.proofs.Firsts.{first-arrow, first-begin}
+use Rattle.pegread.proofs.FirstByteLemmas.{first-arrow, first-begin}
 use Rattle.pegread.proofs.lexing.angle_token.Goals as goal
 
 pub returns-in-Some : goal.returns-in-Some

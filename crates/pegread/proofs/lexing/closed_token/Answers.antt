@@ -1,4 +1,4 @@
-use Rattle.pegread.proofs.Firsts.{first-literal, first-class, first-action}
+use Rattle.pegread.proofs.FirstByteLemmas.{first-literal, first-class, first-action}
 use Rattle.pegread.proofs.lexing.closed_token.Goals as goal
 
 pub returns-in_ok-after_mark : goal.returns-in_ok-after_mark

@@ -1,5 +1,5 @@
 use Rattle.std.proofs.Common.{rules}
-use Rattle.pegread.proofs.Firsts.{first-end, first-ident, first-bad}
+use Rattle.pegread.proofs.FirstByteLemmas.{first-end, first-ident, first-bad}
 use Rattle.pegread.proofs.lexing.first_of.Goals as goal
 
 pub returns-in_default : goal.returns-in_default

@@ -1,6 +1,6 @@
 use Rattle.std.proofs.Common.{refl}
 use Rattle.pegread.specs.Slices.{end_cap, slash, amp, bang, quest, star, plus, dot, lparen, rparen}
-use Rattle.pegread.proofs.Firsts.{first-sign}
+use Rattle.pegread.proofs.FirstByteLemmas.{first-sign}
 use Rattle.pegread.proofs.lexing.sign_kind.Goals as goal
 
 pub returns-in-62 : goal.returns-in-62

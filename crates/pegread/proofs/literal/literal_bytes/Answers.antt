@@ -1,5 +1,5 @@
 use Rattle.std.proofs.lemmas.Result.{IfOk-weaker}
-use Rattle.pegread.proofs.Quoted.{literal-quoted}
+use Rattle.pegread.proofs.SpellsBytesLemmas.{literal-quoted}
 use Rattle.pegread.proofs.literal.literal_bytes.Goals as goal
 
 pub text_bytes-requires : goal.text_bytes-requires

@@ -1,5 +1,5 @@
 use Rattle.pegread.specs.Chars.{more_chars}
-use Rattle.pegread.proofs.Quoted.{char-paired, none-paired, chars-pushed, chars-ended}
+use Rattle.pegread.proofs.SpellsBytesLemmas.{char-paired, none-paired, chars-pushed, chars-ended}
 use Rattle.pegread.proofs.literal.text_bytes.Goals as goal
 
 pub loop-byte-preserved : goal.loop-byte-preserved

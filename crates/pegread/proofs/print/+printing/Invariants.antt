@@ -1,7 +1,7 @@
 use Rattle.std.proofs.Common.{◌≡◌, drop}
 use Rattle.pegread.specs.Canon.{joined}
 use Rattle.pegread.specs.Views.{patterns_of}
-use Rattle.pegread.proofs.Leaving.{Leaves, left_of}
+use Rattle.pegread.proofs.LeavesLemmas.{Leaves, left_of}
 use Rattle.pegread.proofs.print.+printing.Given as goal
 
 abbrev pub invariant-print_all-loop-i : goal.invariant-print_all-loop-i

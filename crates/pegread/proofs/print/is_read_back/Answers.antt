@@ -1,6 +1,6 @@
-use Rattle.pegread.proofs.Image.{reads-formed}
-use Rattle.pegread.proofs.ReadingBack.{read-back, prints-itself}
-use Rattle.pegread.proofs.Respanned.{spans-unseen}
+use Rattle.pegread.proofs.ReadsFormedLemmas.{reads-formed}
+use Rattle.pegread.proofs.ReadBackLemmas.{read-back, prints-itself}
+use Rattle.pegread.proofs.SameWordsLemmas.{spans-unseen}
 use Rattle.pegread.proofs.print.is_read_back.Goals as goal
 
 pub returns : goal.returns

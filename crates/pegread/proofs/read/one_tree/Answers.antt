@@ -1,4 +1,4 @@
-use Rattle.pegread.proofs.Passing.{one-grammar}
+use Rattle.pegread.proofs.GrammarMachineLemmas.{one-grammar}
 use Rattle.lexer.proofs.ViabilityLemmas.{one-words}
 use Rattle.pegread.specs.Words.{Says}
 use Rattle.pegread.proofs.SaysLemmas.{bad-silent, token-says, one-word}

@@ -2,7 +2,7 @@ use Rattle.std.proofs.Common.{◌≡◌, [], arith}
 use Rattle.std.proofs.lemmas.List.{length-map}
 use Rattle.pegread.specs.Definitions.{IsTableOf}
 use Rattle.pegread.specs.Steps.{rule_from, rules_from}
-use Rattle.pegread.proofs.Tables.{length-none, goes-first, goes-added, goes-again, goes-last, table-some, table-ids}
+use Rattle.pegread.proofs.IsTableOfLemmas.{length-none, goes-first, goes-added, goes-again, goes-last, table-some, table-ids}
 use Rattle.pegread.proofs.read.peg_of.Goals as goal
 
 pub loop-definition-init : goal.loop-definition-init

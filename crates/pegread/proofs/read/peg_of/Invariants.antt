@@ -1,5 +1,5 @@
 use Rattle.pegread.specs.Steps.{rules_from}
-use Rattle.pegread.proofs.Tables.{Goes}
+use Rattle.pegread.proofs.IsTableOfLemmas.{Goes}
 use Rattle.pegread.proofs.read.peg_of.Given as goal
 
 -- the table so far and the definitions that are left make up the table of all

@@ -5,7 +5,7 @@ use Rattle.lexer.specs.TokenLists.{tok_of}
 use Rattle.lexer.proofs.TokenListLemmas.{left-at_start}
 use Rattle.pegread.specs.Kinds.{is_end}
 use Rattle.pegread.specs.Slices.{White, First}
-use Rattle.pegread.proofs.Looping.{none-taken, one-taken, too-deep, hopeless-there, all-done, all-read, AreLeft, done-not, cut-of}
+use Rattle.pegread.proofs.ReadDefinitionsLemmas.{none-taken, one-taken, too-deep, hopeless-there, all-done, all-read, AreLeft, done-not, cut-of}
 use Rattle.pegread.proofs.read.read_definitions.Goals as goal
 
 pub loop-token-init : goal.loop-token-init

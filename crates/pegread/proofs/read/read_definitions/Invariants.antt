@@ -1,7 +1,7 @@
 use Rattle.std.proofs.Common.{map}
 use Rattle.pegread.specs.Steps.{config_of}
 use Rattle.lexer.specs.TokenLists.{tok_of}
-use Rattle.pegread.proofs.Looping.{AreLeft, HasTaken}
+use Rattle.pegread.proofs.ReadDefinitionsLemmas.{AreLeft, HasTaken}
 use Rattle.pegread.proofs.read.read_definitions.Given as goal
 
 abbrev pub invariant-loop-token : goal.invariant-loop-token

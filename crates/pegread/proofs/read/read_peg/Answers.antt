@@ -1,8 +1,8 @@
 use Rattle.std.proofs.Common.{rules as search_rules, arith}
 use Rattle.std.proofs.lemmas.List.{length-map}
 use Rattle.pegread.specs.Steps.{rule_from}
-use Rattle.pegread.proofs.Passing.{grammar-some}
-use Rattle.pegread.proofs.Faults.{one-reading, no-fault}
+use Rattle.pegread.proofs.GrammarMachineLemmas.{grammar-some}
+use Rattle.pegread.proofs.IsFaultOfLemmas.{one-reading, no-fault}
 use Rattle.pegread.proofs.read.read_peg.Goals as goal
 
 pub returns-in_err-definitions-clause-only : goal.returns-in_err-definitions-clause-only

@@ -1,6 +1,6 @@
 use Rattle.pegread.specs.Steps.{config_of, word_of}
 use Rattle.lexer.specs.TokenLists.{tok_of}
-use Rattle.pegread.proofs.Looping.{taken-word}
+use Rattle.pegread.proofs.ReadDefinitionsLemmas.{taken-word}
 use Rattle.pegread.proofs.read.take_token.Goals as goal
 
 pub returns-in-Ok-Some : goal.returns-in-Ok-Some

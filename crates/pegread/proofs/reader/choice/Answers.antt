@@ -1,5 +1,5 @@
 use Rattle.std.proofs.Common.{rules, ◌∙◌, sym}
-use Rattle.pegread.proofs.Patterns.{pattern_of-choice, choice-many}
+use Rattle.pegread.proofs.PatternsOfLemmas.{pattern_of-choice, choice-many}
 use Rattle.pegread.proofs.reader.choice.Goals as goal
 
 pub returns-then-len-ne1 : goal.returns-then-len-ne1

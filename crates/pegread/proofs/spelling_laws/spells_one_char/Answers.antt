@@ -1,4 +1,4 @@
-use Rattle.pegread.proofs.CharFronts.{char-one}
+use Rattle.pegread.proofs.CharFrontLemmas.{char-one}
 use Rattle.pegread.proofs.spelling_laws.spells_one_char.Goals as goal
 
 pub returns : goal.returns

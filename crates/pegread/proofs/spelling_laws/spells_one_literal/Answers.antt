@@ -1,4 +1,4 @@
-use Rattle.pegread.proofs.Quoted.{one-literal}
+use Rattle.pegread.proofs.SpellsBytesLemmas.{one-literal}
 use Rattle.pegread.proofs.spelling_laws.spells_one_literal.Goals as goal
 
 pub returns : goal.returns

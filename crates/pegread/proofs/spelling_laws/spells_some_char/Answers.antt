@@ -1,4 +1,4 @@
-use Rattle.pegread.proofs.CharFronts.{some-char, no-char}
+use Rattle.pegread.proofs.CharFrontLemmas.{some-char, no-char}
 use Rattle.pegread.proofs.spelling_laws.spells_some_char.Goals as goal
 
 pub returns : goal.returns

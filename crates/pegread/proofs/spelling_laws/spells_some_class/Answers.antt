@@ -1,4 +1,4 @@
-use Rattle.pegread.proofs.Items.{some-class}
+use Rattle.pegread.proofs.SpellsSetLemmas.{some-class}
 use Rattle.pegread.proofs.spelling_laws.spells_some_class.Goals as goal
 
 pub returns : goal.returns

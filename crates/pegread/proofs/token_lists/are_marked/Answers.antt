@@ -1,4 +1,4 @@
-use Rattle.pegread.proofs.TokenSlices.{name-token, literal-token, class-token, action-token, braced-token}
+use Rattle.pegread.proofs.AreMarkedLemmas.{name-token, literal-token, class-token, action-token, braced-token}
 use Rattle.pegread.proofs.token_lists.are_marked.Goals as goal
 
 pub returns-clause-name : goal.returns-clause-name

@@ -1,4 +1,4 @@
-use Rattle.pegread.proofs.Pieces.{make-up, tokens-lie, tokens-in-order}
+use Rattle.pegread.proofs.MakeUpLemmas.{make-up, tokens-lie, tokens-in-order}
 use Rattle.pegread.proofs.token_lists.tokens_make_up.Goals as goal
 
 pub returns-clause-pieces : goal.returns-clause-pieces

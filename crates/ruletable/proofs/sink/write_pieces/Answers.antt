@@ -1,5 +1,5 @@
 -- A part of one piece after those before it.
-use Rattle.ruletable.proofs.Taken.{AppendsPart-at}
+use Rattle.ruletable.proofs.AppendsLemmas.{AppendsPart-at}
 use Rattle.ruletable.proofs.sink.write_pieces.Goals as goal
 
 pub returns-in-Err-clause-bytes : goal.returns-in-Err-clause-bytes

@@ -1,7 +1,7 @@
 -- The bytes that this write took follow those before it.
 use Rattle.std.proofs.Common.{rules, take}
 use Rattle.std.proofs.lemmas.List.{take_rest}
-use Rattle.ruletable.proofs.Taken.{Appends-more, Appends-kept, IsBeginning-take}
+use Rattle.ruletable.proofs.AppendsLemmas.{Appends-more, Appends-kept, IsBeginning-take}
 use Rattle.ruletable.proofs.sink.write_whole.Goals as goal
 
 pub loop-at-preserved : goal.loop-at-preserved

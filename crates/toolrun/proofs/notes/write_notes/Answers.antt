@@ -2,7 +2,7 @@
 use Rattle.std.proofs.Common.{add-one, ◌∙◌}
 use Rattle.std.proofs.lemmas.List.{take_all}
 use Rattle.ruletable.specs.Notes.{note_text, said_of}
-use Rattle.ruletable.proofs.Taken.{Appends-join, AppendsPart-at}
+use Rattle.ruletable.proofs.AppendsLemmas.{Appends-join, AppendsPart-at}
 use Rattle.toolrun.proofs.NotesTextLemmas.{text-of-notes, flat_map-next}
 use Rattle.toolrun.proofs.notes.write_notes.Goals as goal
 

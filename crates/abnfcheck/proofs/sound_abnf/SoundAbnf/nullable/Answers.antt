@@ -6,7 +6,7 @@ use Rattle.abnfread.specs.declared.elem.Elem.{Elem}
 use Rattle.abnfread.specs.Views.{rule_of, rules_of}
 use Rattle.abnfcheck.specs.AbnfGrammar.{IsSoundGrammar}
 use Rattle.abnfcheck.specs.Derivable.{RuleDerives}
-use Rattle.abnfcheck.specs.RuleNulls.{AreNullMarks}
+use Rattle.abnfcheck.specs.RuleMarks.{AreNullMarks}
 use Rattle.abnfcheck.proofs.sound_abnf.SoundAbnf.nullable.Goals as goal
 
 pub returns-in-Some : goal.returns-in-Some

@@ -1,6 +1,6 @@
 use Rattle.std.proofs.Common.{length, subst}
 use Rattle.gramcheck.specs.Rising.{Rise}
-use Rattle.gramcheck.proofs.Rising.{Rise-upper}
+use Rattle.gramcheck.proofs.RiseLemmas.{Rise-upper}
 use Rattle.pegmatch.proofs.IsPrintedLemmas.{same_events}
 use Rattle.pegmatch.proofs.plain.PlainMatcher.replay.Goals as goal
 use Rattle.pegmatch.proofs.plain.PlainMatcher.replay.Goals.{in-Ok, in-Err}

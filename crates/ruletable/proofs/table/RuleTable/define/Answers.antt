@@ -4,7 +4,7 @@ use Rattle.std.proofs.lemmas.List.{length-map}
 use Rattle.indexmap.proofs.CallerLemmas.{insert_entry-new}
 use Rattle.indexmap.proofs.MapLemmas.{Missing-position}
 use Rattle.ruletable.proofs.TableLemmas.{position-found, KeysAreNames-push, with_rule}
-use Rattle.ruletable.specs.Rows.{KeysAreNames}
+use Rattle.ruletable.specs.RuleRows.{KeysAreNames}
 use Rattle.ruletable.specs.Rules.{key_of}
 use Rattle.ruletable.proofs.table.RuleTable.define.Goals as goal
 

@@ -1,7 +1,0 @@
--- So many needs that are never met.
-use Rattle.std.proofs.Common.{◌≡◌, [], replicate}
-use Rattle.leastset.specs.Demands.{One, owned_demands_of}
-use Rattle.abnfcheck.proofs.rule_nulls.unmet.Given as goal
-
-abbrev pub invariant-loop : goal.invariant-loop
-invariant-loop l = owned_demands_of l.needs.items ≡ replicate l.counter (One [])

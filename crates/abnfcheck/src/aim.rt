@@ -1,0 +1,12 @@
+//! What is asked of rules.
+
+use letters::Alphabet;
+
+/// What is asked of a rule.
+#[derive(Clone, Copy)]
+pub(crate) enum Aim {
+    /// That it derives the empty string.
+    Empty,
+    /// That it derives some list of letters of the alphabet.
+    Letters(Alphabet),
+}

@@ -1,0 +1,149 @@
+#!/usr/bin/env python3
+"""Lists what breaks the rules of names and sizes, one line each, and fails where something does.
+
+    names.py            the rules of names, and the files that are too long
+    names.py --lines    the lines of more than 120 characters too, a count for each file
+"""
+import collections
+import pathlib
+import re
+import subprocess
+import sys
+
+LONGEST_LINE = 120
+LONGEST_FILE = 800
+# A file of a function's proof has its name from the prover, and the head of a folder from the language.
+MIRRORS = {"Answers.antt", "Invariants.antt", "Proof.antt", "Lib.antt"}
+# Nouns that end as gerunds do.
+NOUNS = {"Spelling", "String"}
+# Participles that do not end in `ed`.
+PARTICIPLES = {"Begun", "Chosen", "Kept", "Left", "Made", "Read", "Said", "Taken", "Told", "Written"}
+TEXTS = {".antt", ".edit", ".md", ".py", ".rt", ".sh"}
+
+
+def tracked(top):
+    """Returns the repository's files, as paths from its top."""
+    listed = subprocess.run(["git", "ls-files"], cwd=top, check=True, capture_output=True, text=True).stdout
+    return [pathlib.PurePosixPath(it) for it in listed.splitlines() if (top / it).is_file()]
+
+
+def is_proof(path):
+    """Tells whether the file has lemmas of several functions."""
+    parts = path.parts
+    return len(parts) == 4 and parts[0] == "crates" and parts[2] == "proofs" and path.name not in MIRRORS
+
+
+def definitions(top, files):
+    """Returns the names of the definitions and functions, without case, `_` and `-`."""
+    found = set()
+    for path in files:
+        if path.suffix not in (".antt", ".rt"):
+            continue
+        text = (top / path).read_text()
+        if path.suffix == ".rt":
+            names = re.findall(r"\b(?:fn|struct|enum|trait) (\w+)", text)
+        else:
+            names = re.findall(r"^ *(?:(?:unfoldable|abbrev|pub|data|record) )*([^\s(){}:]+)[^\n]* : ", text, re.M)
+        found.update(re.sub(r"[_-]", "", it).lower() for it in names)
+    return found
+
+
+def words(name):
+    """Returns the words of a name in camel case."""
+    return re.findall(r"[A-Z][a-z0-9]*", name)
+
+
+def of_lemma_names(files, known):
+    """Yields what breaks the rules of the names of lemma files."""
+    for path in filter(is_proof, files):
+        found = re.fullmatch(r"([A-Z][A-Za-z0-9]*)(?:Lemmas|Examples)", path.stem)
+        if not found:
+            yield f"{path}: a file of lemmas is named SUBJECTLemmas.antt, one of worked examples SUBJECTExamples.antt"
+            continue
+        subject = words(found.group(1))
+        if subject[-1].endswith("ing") and subject[-1] not in NOUNS:
+            yield f"{path}: `{subject[-1]}` is a gerund"
+        alone = len(subject) == 1 and (subject[0].endswith("ed") or subject[0] in PARTICIPLES)
+        if alone and found.group(1).lower() not in known:
+            yield f"{path}: `{subject[0]}` is a participle, and no definition's name"
+
+
+def functions(top, files):
+    """Returns the names of the workspace's functions."""
+    return {
+        name
+        for path in files
+        if path.suffix == ".rt"
+        for name in re.findall(r"\bfn (\w+)", (top / path).read_text())
+    }
+
+
+def of_served(top, files):
+    """Yields what breaks the rule that line 2 of a lemma file names the functions that it serves."""
+    known = functions(top, files)
+    for path in filter(is_proof, files):
+        if not path.stem.endswith("Lemmas"):
+            continue
+        lines = (top / path).read_text().splitlines()
+        found = re.fullmatch(r"-- Serves: (.+?)\.?", lines[1]) if len(lines) > 1 else None
+        if not found:
+            yield f"{path}:2: the line is not `-- Serves: ` and public functions"
+            continue
+        for name in re.sub(r" \([^)]*\)", "", found.group(1)).split(", "):
+            if name.rpartition("::")[2] not in known:
+                yield f"{path}:2: `{name}` is no function"
+
+
+def of_twins(files):
+    """Yields the names that more than one file of lemmas or definitions has."""
+    places = collections.defaultdict(list)
+    for path in files:
+        if path.suffix == ".antt" and path.name not in MIRRORS:
+            places[path.name].append(path)
+    for name, paths in sorted(places.items()):
+        if len(paths) > 1:
+            yield f"{name}: {', '.join(map(str, paths))}"
+
+
+def of_long_files(top, files):
+    """Yields the files that have too many lines."""
+    for path in files:
+        if path.suffix in TEXTS - {".md"}:
+            count = len((top / path).read_text().splitlines())
+            if count > LONGEST_FILE:
+                yield f"{path}: {count} lines"
+
+
+def of_long_lines(top, files):
+    """Yields the files that have lines that are too long, each with their count."""
+    for path in files:
+        if path.suffix in TEXTS:
+            count = sum(len(it) > LONGEST_LINE for it in (top / path).read_text().splitlines())
+            if count:
+                yield f"{path}: {count} lines of more than {LONGEST_LINE} characters"
+
+
+def main(arguments):
+    """Prints what breaks the rules, by rule, and returns 1 where something does."""
+    top = pathlib.Path(__file__).resolve().parent.parent
+    files = tracked(top)
+    rules = {
+        "names of lemma files": of_lemma_names(files, definitions(top, files)),
+        "the functions that lemma files serve": of_served(top, files),
+        "names that stand more than once": of_twins(files),
+        f"files of more than {LONGEST_FILE} lines": of_long_files(top, files),
+    }
+    if "--lines" in arguments:
+        rules[f"lines of more than {LONGEST_LINE} characters"] = of_long_lines(top, files)
+    broken = 0
+    for rule, found in rules.items():
+        found = list(found)
+        broken += len(found)
+        print(f"{rule}: {len(found) or 'none'}")
+        for it in found:
+            print(f"  {it}")
+    return 1 if broken else 0
+
+
+if __name__ == "__main__":
+    sys.exit(main(sys.argv[1:]))
