@@ -14,22 +14,22 @@ use Rattle.commands.specs.declared.command.Program.TheVariants.{Abnfi, Pegi}
 pegi_free : (names : Names) → is_simple_and_free (pegi_app names) ≡ true
 pegi_free names = refl
 
-abnfi_free : (names : Names) → is_simple_and_free (abnfi_app names) ≡ true
-abnfi_free names = refl
+abnfi_free : (names alphabets : Names) → is_simple_and_free (abnfi_app names alphabets) ≡ true
+abnfi_free names alphabets = refl
 
 pegi_simple : (names : Names) → is_simple (pegi_app names) ≡ true
 pegi_simple names = refl
 
-abnfi_simple : (names : Names) → is_simple (abnfi_app names) ≡ true
-abnfi_simple names = refl
+abnfi_simple : (names alphabets : Names) → is_simple (abnfi_app names alphabets) ≡ true
+abnfi_simple names alphabets = refl
 
 pub app_is_simple : (program : Program) (app : App) → IsAppOf program app → is_simple app ≡ true
 app_is_simple Pegi app of = ap is_simple of.2 ∙ pegi_simple of.0
-app_is_simple Abnfi app of = ap is_simple of.2 ∙ abnfi_simple of.0
+app_is_simple Abnfi app of = ap is_simple of.2.2.2 ∙ abnfi_simple of.0 of.2.0
 
 pub app_is_free : (program : Program) (app : App) → IsAppOf program app → is_simple_and_free app ≡ true
 app_is_free Pegi app of = ap is_simple_and_free of.2 ∙ pegi_free of.0
-app_is_free Abnfi app of = ap is_simple_and_free of.2 ∙ abnfi_free of.0
+app_is_free Abnfi app of = ap is_simple_and_free of.2.2.2 ∙ abnfi_free of.0 of.2.0
 
 -- what is said of a parse by any simple command
 pub app_parses : (app made : App) (words : List Text) → made ≡ app → is_simple app ≡ true

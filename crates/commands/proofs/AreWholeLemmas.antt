@@ -295,19 +295,19 @@ pegi_is_whole c names e m p =
       grammar = grammar_is c rs is m p d 4 (record { within = omega arith; at = λ q. refl; only = refl });
     }
 
-abnfi_is_whole : (c : Command) (names : Names) → app_of c ≡ abnfi_app names → (m : ArgMatches)
+abnfi_is_whole : (c : Command) (names alphabets : Names) → app_of c ≡ abnfi_app names alphabets → (m : ArgMatches)
     → IsParsedFrom c m → AreWhole (found_of m)
-abnfi_is_whole c names e m p =
-    let rs = (abnfi_app names).top.rules in
-    let is = is_command c (abnfi_app names) e refl refl refl in
+abnfi_is_whole c names alphabets e m p =
+    let rs = (abnfi_app names alphabets).top.rules in
+    let is = is_command c (abnfi_app names alphabets) e refl refl refl in
     let d = first_arg c rs is (omega arith) in
     record {
       limit = limit_is c rs is m p d 1 (record { within = omega arith; at = λ q. refl; only = refl });
       raw = inl (none_is c rs is m p (codes "raw") (record { named = λ n. cc; help = refl; version = refl }) refl);
-      grammar = grammar_is c rs is m p d 3 (record { within = omega arith; at = λ q. refl; only = refl });
+      grammar = grammar_is c rs is m p d 4 (record { within = omega arith; at = λ q. refl; only = refl });
     }
 
 pub is_whole : (program : Program) (app : App) → IsAppOf program app → (c : Command) → app_of c ≡ app
     → (m : ArgMatches) → IsParsedFrom c m → AreWhole (found_of m)
 is_whole Pegi app of c e m p = pegi_is_whole c of.0 (e ∙ of.2) m p
-is_whole Abnfi app of c e m p = abnfi_is_whole c of.0 (e ∙ of.2) m p
+is_whole Abnfi app of c e m p = abnfi_is_whole c of.0 of.2.0 (e ∙ of.2.2.2) m p

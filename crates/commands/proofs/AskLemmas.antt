@@ -6,7 +6,7 @@ use Rattle.std.specs.Borrow.{Bor}
 use Rattle.clap.specs.Words.{Row, Text, first_of, first_value, one_of, one_text, rows_of}
 use Rattle.clap.specs.declared.parser.matches.Found.{Found}
 use Rattle.clap.proofs.WalkLemmas.{first_value-rows, one_text-rows}
-use Rattle.commands.specs.Asked.{AreWhole, Ask, IsFlagOf, IsLimitOf, is_flagged, mode_named}
+use Rattle.commands.specs.Asked.{AreWhole, Ask, IsFlagOf, IsLimitOf, alphabet_named, is_flagged, mode_named}
 use Rattle.commands.specs.declared.settings.Asked.{Asked}
 
 first : (f : Found) (rows : List Row) → rows_of f ≡ rows → (id : Text) → first_value f id ≡ first_of id rows
@@ -20,9 +20,10 @@ pub ask : (f : Found) (rows : List Row) → rows_of f ≡ rows → AreWhole f �
     → IsLimitOf (one_text f (codes "limit")) a.settings.limit
     → option_map (λ s. s.now) a.settings.start ≡ first_value f (codes "start")
     → IsFlagOf (one_text f (codes "raw")) a.settings.raw
+    → a.settings.letters ≡ alphabet_named (first_value f (codes "letters"))
     → option_map (λ s. s.now) path ≡ first_value f (codes "grammar") → path ≡ Some a.path
     → Ask rows a
-ask f rows e whole a path mode limit start raw word is =
+ask f rows e whole a path mode limit start raw letters word is =
     let w = whole.limit in
     let number = subst (λ o. IsLimitOf o a.settings.limit) w.1 limit in
     let flag = one f rows e (codes "raw") in
@@ -35,5 +36,6 @@ ask f rows e whole a path mode limit start raw word is =
         | inr (inl on) ↦ raw.1 on ∙ ap is_flagged (sym on ∙ flag)
         | inr (inr off) ↦ raw.2 off ∙ ap is_flagged (sym off ∙ flag)
       ];
+      letters = letters ∙ ap alphabet_named (first f rows e (codes "letters"));
       grammar = sym (first f rows e (codes "grammar")) ∙ (sym word ∙ ap (option_map (λ (s : Bor Text). s.now)) is);
     }

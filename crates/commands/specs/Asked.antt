@@ -5,6 +5,8 @@ use Rattle.std.specs.Str.Parse.{IsNumeral, digits_value, without_leading_plus}
 use Rattle.clap.specs.Words.{Row, Text, first_of, first_value, one_of, one_text}
 use Rattle.clap.specs.declared.parser.matches.Found.{Found}
 use Rattle.commands.specs.declared.settings.Asked.{Asked}
+use Rattle.letters.specs.declared.alphabet.Alphabet.{Alphabet}
+use Rattle.letters.specs.declared.alphabet.Alphabet.TheVariants.{Bytes, Utf8}
 use Rattle.toolrun.specs.declared.settings.Mode.{Mode}
 use Rattle.toolrun.specs.declared.settings.Mode.TheVariants.{Run, Check, Print}
 
@@ -12,6 +14,11 @@ use Rattle.toolrun.specs.declared.settings.Mode.TheVariants.{Run, Check, Print}
 abbrev pub mode_named : Option (List ℕ) → Mode
 mode_named None = Run
 mode_named (Some name) = if bytes_eq name (codes "check") then Check else (if bytes_eq name (codes "print") then Print else Run)
+
+-- the alphabet of a name; bytes where none is given
+abbrev pub alphabet_named : Option (List ℕ) → Alphabet
+alphabet_named None = Bytes
+alphabet_named (Some name) = if bytes_eq name (codes "utf8") then Utf8 else Bytes
 
 -- n is the limit that a text gives: its decimal number, where that is in range; 65,536 where none is given
 abbrev pub IsLimitOf : Option (List ℕ) → ℕ → Type 0
@@ -49,4 +56,5 @@ pub record Ask (rows : List Row) (asked : Asked) : Type 0 where
       × (asked.settings.limit ≡ digits_value 10 (without_leading_plus text))
   pub start : option_map (λ s. s.now) asked.settings.start ≡ first_of (codes "start") rows
   pub raw : asked.settings.raw ≡ is_flagged (one_of (codes "raw") rows)
+  pub letters : asked.settings.letters ≡ alphabet_named (first_of (codes "letters") rows)
   pub grammar : first_of (codes "grammar") rows ≡ Some asked.path.now

@@ -42,6 +42,23 @@ limit_rule = record (new_rule (codes "limit")) {
 abbrev pub start_rule : Rule
 start_rule = record (new_rule (codes "start")) { short = Some 115; value_names = 1 }
 
+-- the names of the alphabets of a line
+abbrev pub alphabet_names : List Text
+alphabet_names = codes "bytes" ∷ codes "utf8" ∷ []
+
+-- the texts are the names of the alphabets
+abbrev pub AreAlphabets : Names → Type 0
+AreAlphabets names = map (λ s. s.now) names.now ≡ alphabet_names
+
+-- `-u MODE`, one of the names; `bytes` where it is not given
+abbrev pub letters_rule : Names → Rule
+letters_rule names = record (new_rule (codes "letters")) {
+  short = Some 117;
+  value_names = 1;
+  parser = Some (vp.Names names);
+  defaults = codes "bytes" ∷ [];
+}
+
 -- `-r`
 abbrev pub raw_rule : Rule
 raw_rule = record (new_rule (codes "raw")) { short = Some 114; action = Some SetTrue; parser = Some vp.Bool }
@@ -58,11 +75,12 @@ with_options names app = with_rule (with_rule (with_rule app (mode_rule names)) 
 abbrev pub pegi_app : Names → App
 pegi_app names = with_rule (with_rule (with_options names (new_app (codes "pegi"))) raw_rule) grammar_rule
 
--- `abnfi [-m MODE] [-l N] [-s RULE] GRAMMAR`
-abbrev pub abnfi_app : Names → App
-abnfi_app names = with_rule (with_options names (new_app (codes "abnfi"))) grammar_rule
+-- `abnfi [-m MODE] [-l N] [-s RULE] [-u MODE] GRAMMAR`
+abbrev pub abnfi_app : Names → Names → App
+abnfi_app names alphabets = with_rule (with_rule (with_options names (new_app (codes "abnfi"))) (letters_rule alphabets)) grammar_rule
 
 -- this is the command of the program
 abbrev pub IsAppOf : Program → App → Type 0
 IsAppOf Pegi app = (names : Names) × AreModes names × (app ≡ pegi_app names)
-IsAppOf Abnfi app = (names : Names) × AreModes names × (app ≡ abnfi_app names)
+IsAppOf Abnfi app = (names : Names) × AreModes names × (alphabets : Names) × AreAlphabets alphabets ×
+    (app ≡ abnfi_app names alphabets)

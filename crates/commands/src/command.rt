@@ -2,8 +2,8 @@
 ghost use Rattle.std.specs.Prelude.{◌≡◌, IfOk, false, true, map};
 ghost use Rattle.clap.specs.Words.{app_of, found_of, is_simple, is_simple_and_free, rule_of};
 ghost use Rattle.commands.specs.Asked.{AreWhole};
-ghost use Rattle.commands.specs.Command.{AreModes, IsAppOf, grammar_rule, limit_rule, mode_rule, raw_rule};
-ghost use Rattle.commands.specs.Command.{start_rule, with_options};
+ghost use Rattle.commands.specs.Command.{AreAlphabets, AreModes, IsAppOf, grammar_rule, letters_rule, limit_rule};
+ghost use Rattle.commands.specs.Command.{mode_rule, raw_rule, start_rule, with_options};
 ghost use Rattle.commands.specs.Parsing.{Parses};
 
 use crate::help;
@@ -16,12 +16,15 @@ use std::convert::AsStr;
 pub enum Program {
     /// `pegi [-m MODE] [-l N] [-s RULE] [-r] GRAMMAR`
     Pegi,
-    /// `abnfi [-m MODE] [-l N] [-s RULE] GRAMMAR`
+    /// `abnfi [-m MODE] [-l N] [-s RULE] [-u MODE] GRAMMAR`
     Abnfi,
 }
 
 /// The names of the modes.
 static MODES: [&str; 3] = ["run", "check", "print"];
+
+/// The names of the alphabets of a line.
+static ALPHABETS: [&str; 2] = ["bytes", "utf8"];
 
 fn mode_arg<'a>(alloc: Global) -> Arg<'a>
     ensures rule { (names : _) × AreModes names × (rule_of result ≡ mode_rule names) }
@@ -69,6 +72,18 @@ fn raw_arg<'a>(alloc: Global) -> Arg<'a>
         .help(help::RAW)
 }
 
+fn letters_arg<'a>(alloc: Global) -> Arg<'a>
+    ensures rule { (names : _) × AreAlphabets names × (rule_of result ≡ letters_rule names) }
+    ensures local { result.global ≡ false }
+{
+    Arg::new(alloc, "letters")
+        .short('u')
+        .value_name("MODE")
+        .help(help::LETTERS)
+        .value_parser(ALPHABETS.as_slice())
+        .default_value("bytes")
+}
+
 fn grammar_arg<'a>(alloc: Global) -> Arg<'a>
     ensures rule { rule_of result ≡ grammar_rule }
     ensures local { result.global ≡ false }
@@ -107,15 +122,17 @@ pub fn pegi_command<'a>(alloc: Global) -> Result<Command<'a>, AllocError>
     with_raw.arg(grammar_arg(alloc))
 }
 
-/// Returns the command `abnfi [-m MODE] [-l N] [-s RULE] GRAMMAR`. Refused for want of memory.
+/// Returns the command `abnfi [-m MODE] [-l N] [-s RULE] [-u MODE] GRAMMAR`. Refused for want of memory.
 pub fn abnfi_command<'a>(alloc: Global) -> Result<Command<'a>, AllocError>
     ensures app { (app : _) × IsAppOf Program.Abnfi app × IfOk result (λ c. app_of c ≡ app) }
 {
+    let letters = letters_arg(alloc);
     let plain = Command::new(alloc, "abnfi")
         .about(help::ABNFI)
         .after_help(help::AFTER_ABNFI);
     let with_options = add_options(alloc, plain, help::ABNFI_LIMIT, help::ABNFI_START)?;
-    with_options.arg(grammar_arg(alloc))
+    let with_letters = with_options.arg(letters)?;
+    with_letters.arg(grammar_arg(alloc))
 }
 
 /// Returns the command of a program. Refused for want of memory.

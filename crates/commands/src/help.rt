@@ -23,6 +23,9 @@ pub const PEGI_START: &str = "The start rule [default: the first rule]";
 /// What `-s` says, with `abnfi`.
 pub const ABNFI_START: &str = "The judged rule [default: the first rule]";
 
+/// What `-u` says.
+pub const LETTERS: &str = "What the letters of a line are: its bytes, or the code points of UTF-8";
+
 /// What `-r` says.
 pub const RAW: &str = "Print actions neither trimmed nor each on a line of its own";
 

@@ -1,7 +1,7 @@
 //! The settings that the words ask for.
 ghost use Rattle.std.specs.Prelude.{◌≡◌, ◌≤◌, MatchResult, [], codes, map, option_map};
 ghost use Rattle.clap.specs.Words.{HasKind, fault_of, first_value, found_of, matches_of, one_text};
-ghost use Rattle.commands.specs.Asked.{Ask, IsFlagOf, IsLimitOf, mode_named};
+ghost use Rattle.commands.specs.Asked.{Ask, IsFlagOf, IsLimitOf, alphabet_named, mode_named};
 ghost use Rattle.commands.specs.Command.{IsAppOf};
 
 use crate::command::{Program, parse};
@@ -31,20 +31,29 @@ fn limit_of(matches: &ArgMatches<'_>) -> usize
     }
 }
 
+fn letters_of(matches: &ArgMatches<'_>) -> Alphabet
+    ensures { result ≡ alphabet_named (first_value (found_of matches.now) (codes "letters")) }
+{
+    match matches.get_str("letters") {
+        Some(name) if name == "utf8" => Alphabet::Utf8,
+        _ => Alphabet::Bytes,
+    }
+}
+
 /// The settings that the words ask for, and the defaults elsewhere.
 pub fn settings_of<'a>(matches: &ArgMatches<'a>) -> Settings<'a>
     ensures mode { result.mode ≡ mode_named (first_value (found_of matches.now) (codes "mode")) }
     ensures limit { IsLimitOf (one_text (found_of matches.now) (codes "limit")) result.limit }
     ensures start { option_map (λ s. s.now) result.start ≡ first_value (found_of matches.now) (codes "start") }
     ensures raw { IsFlagOf (one_text (found_of matches.now) (codes "raw")) result.raw }
-    ensures letters { result.letters ≡ Alphabet.Bytes }
+    ensures letters { result.letters ≡ alphabet_named (first_value (found_of matches.now) (codes "letters")) }
 {
     Settings {
         mode: mode_of(matches),
         limit: limit_of(matches),
         start: matches.get_str("start"),
         raw: matches.get_flag("raw"),
-        letters: Alphabet::Bytes,
+        letters: letters_of(matches),
     }
 }
 

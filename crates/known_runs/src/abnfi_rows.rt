@@ -5,7 +5,7 @@ use commands::Program;
 use gramtools::Status;
 use std::test::Fail;
 
-static ROWS: [CommandRow; 16] = [
+static ROWS: [CommandRow; 18] = [
     (
         "word = 1*ALPHA",
         &[],
@@ -135,6 +135,23 @@ static ROWS: [CommandRow; 16] = [
         b"",
         b"rule 'a' redefined\n",
         Status::Refused,
+    ),
+    // the letter U+00E9 as UTF-8, and as a byte
+    (
+        "s = %xE9",
+        &["-u", "utf8"],
+        b"\xC3\xA9\n\xE9\n",
+        b"yes\nno\n",
+        b"",
+        Status::NoMatch,
+    ),
+    (
+        "s = %xE9",
+        &["-u", "bytes"],
+        b"\xC3\xA9\n\xE9\n",
+        b"no\nyes\n",
+        b"",
+        Status::NoMatch,
     ),
 ];
 

@@ -57,7 +57,7 @@ fn run<R: Files + AllocGlobal>(
 }
 
 /// A program, words on which it runs no grammar, the status, and what is told, if it is not in the words of `clap`.
-static WORDS: [(Program, &[&str], Status, &[u8]); 29] = [
+static WORDS: [(Program, &[&str], Status, &[u8]); 30] = [
     (Program::Pegi, &[], Status::Refused, b""),
     (Program::Pegi, &["-l", "0", "g"], Status::Refused, b""),
     (
@@ -108,7 +108,13 @@ static WORDS: [(Program, &[&str], Status, &[u8]); 29] = [
     ),
     (Program::Abnfi, &[], Status::Refused, b""),
     (Program::Abnfi, &["-r", "g"], Status::Refused, b""),
-    (Program::Abnfi, &["-u", "utf8", "g"], Status::Refused, b""),
+    (Program::Abnfi, &["-u", "latin1", "g"], Status::Refused, b""),
+    (
+        Program::Abnfi,
+        &["-u", "utf8", "-u", "utf8", "g"],
+        Status::Refused,
+        b"",
+    ),
     (Program::Abnfi, &["-w", "g"], Status::Refused, b""),
     (Program::Abnfi, &["-l", "0", "g"], Status::Refused, b""),
     (

@@ -1,4 +1,4 @@
--- The options of both programs and the grammar in turn.
+-- The options of both programs, the alphabet and the grammar in turn.
 use Rattle.std.proofs.Common.{ap, ap₂, ◌∙◌, refl}
 use Rattle.std.proofs.lemmas.Result.{IfOk-weaker, err_from_is_err_and}
 use Rattle.clap.specs.Simple.{app_of_fields}
@@ -9,19 +9,33 @@ use Rattle.commands.proofs.command.abnfi_command.Goals as goal
 pub returns-in_err-with_options : goal.returns-in_err-with_options
 returns-in_err-with_options c =
     let options = c.add_options.ensures.options in
+    let letters = c.letters_arg-letters.ensures.rule in
     let fault = err_from_is_err_and c.from_residual.result c.from_residual.ensures.1 in
-    record { app = (abnfi_app options.0, (options.0, options.1, refl), rw fault.1 tt) }
+    record {
+      app = (abnfi_app options.0 letters.0, (options.0, options.1, letters.0, letters.1, refl), rw fault.1 tt);
+    }
+
+pub returns-in_err-with_letters : goal.returns-in_err-with_letters
+returns-in_err-with_letters c =
+    let options = c.in_ok-with_options.ensures.options in
+    let letters = c.letters_arg-letters.ensures.rule in
+    let fault = err_from_is_err_and c.from_residual-in_err-with_letters.result c.from_residual-in_err-with_letters.ensures.1 in
+    record {
+      app = (abnfi_app options.0 letters.0, (options.0, options.1, letters.0, letters.1, refl), rw fault.1 tt);
+    }
 
 pub returns : goal.returns
 returns c =
     let options = c.in_ok-with_options.ensures.options in
+    let letters = c.letters_arg-letters.ensures.rule in
     let zero = ap app_of_fields c.after_help-plain.ensures ∙ ap app_of_fields c.about.ensures ∙ c.new.ensures.app in
     let base = options.2 ∙ ap (with_options options.0) zero in
+    let two = c.in_ok-with_letters.ensures.shape c.letters_arg-letters.ensures.local ∙ ap₂ with_rule base letters.2 in
     record {
       app = (
-        abnfi_app options.0,
-        (options.0, options.1, refl),
-        IfOk-weaker c.arg.result _ _
-            (λ r h. h.shape c.grammar_arg.ensures.local ∙ ap₂ with_rule base c.grammar_arg.ensures.rule) c.arg.ensures,
+        abnfi_app options.0 letters.0,
+        (options.0, options.1, letters.0, letters.1, refl),
+        IfOk-weaker c.arg-2.result _ _
+            (λ r h. h.shape c.grammar_arg.ensures.local ∙ ap₂ with_rule two c.grammar_arg.ensures.rule) c.arg-2.ensures,
       );
     }

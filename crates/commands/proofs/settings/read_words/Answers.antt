@@ -16,7 +16,8 @@ returns g c =
           said.2.0,
           ask (found_of c.in-Ok.matches) (matches_of said.0 (map g.S.AsStr.text c.args.words.now)) said.2.1
               c.in-Ok.ensures.whole (record { settings = c.settings_of-settings.result; path = c.unwrap-path.result })
-              c.get_str.result settings.mode settings.limit settings.start settings.raw c.get_str.ensures
+              c.get_str.result settings.mode settings.limit settings.start settings.raw
+              settings.letters c.get_str.ensures
               c.unwrap-path.ensures,
         ),
       );
