@@ -174,7 +174,7 @@ def reads(tools):
 STREAMS = [
     ("an output on a full disk", '"$0" "$1" < "$2" > /dev/full', b"write error\n"),
     ("a closed output", '"$0" "$1" < "$2" >&-', b"write error\n"),
-    ("an output whose reader is gone", '{ "$0" "$1" < "$2"; echo $? > "$3"; } | :; exit $(cat "$3")', b"write error\n"),
+    ("an output whose reader is gone", '{ "$0" "$1" < "$2"; echo $? > "$3"; } | :; read s < "$3"; exit $s', b"write error\n"),
     ("a closed input", '"$0" "$1" <&-', b"read error\n"),
     ("a folder as the input", '"$0" "$1" < /', b"read error\n"),
     ("a folder as the grammar", '"$0" / < "$2"', b"cannot read the grammar\n"),
