@@ -4,9 +4,9 @@ and with a stack of 256 KB.
 
 usage: faults.py [SWEEP ..]
 
-The sweeps are `memory`, `writes`, `reads` and `stack`; all of them if none is named. Each prints how many runs it made.
-A run that is not as it must be is printed, and then the status is 1. A program that is not built is skipped, and so are
-all sweeps but `stack` where there is no C compiler `cc`.
+The sweeps are `memory`, `writes`, `reads`, `streams` and `stack`; all of them if none is named. Each prints how many
+runs it made. A run that is not as it must be is printed, and then the status is 1. A program that is not built is
+skipped, and so are the first three sweeps where there is no C compiler `cc`.
 """
 import argparse
 import collections
@@ -170,6 +170,31 @@ def reads(tools):
             number += 1
 
 
+# Streams that the system itself refuses, as a shell gives them to a program, and the message of the run.
+STREAMS = [
+    ("an output on a full disk", '"$0" "$1" < "$2" > /dev/full', b"write error\n"),
+    ("a closed output", '"$0" "$1" < "$2" >&-', b"write error\n"),
+    ("an output whose reader is gone", '{ "$0" "$1" < "$2"; echo $? > "$3"; } | :; read s < "$3"; exit $s', b"write error\n"),
+    ("a closed input", '"$0" "$1" <&-', b"read error\n"),
+    ("a folder as the input", '"$0" "$1" < /', b"read error\n"),
+    ("a folder as the grammar", '"$0" / < "$2"', b"cannot read the grammar\n"),
+    ("no grammar", '"$0" "$1.none" < "$2"', b"cannot read the grammar\n"),
+]
+
+
+def streams(tools):
+    """Streams that are full, closed, gone, or no files, with more output than a pipe holds."""
+    given, grammar, status = (tools.folder / it for it in ("input", "grammar", "status"))
+    given.write_bytes(b"ab\n" * 200000)
+    for program, text in (("pegi", b"S <- . {yytext}"), ("abnfi", b"word = 1*ALPHA")):
+        grammar.write_bytes(text)
+        for name, line, told in STREAMS if tools.has(program) else []:
+            ran = subprocess.run(["sh", "-c", line, TOP / "bin" / program, grammar, given, status], capture_output=True,
+                                 timeout=120, check=False)
+            ended = Ended(ran.stdout, ran.stderr, ran.returncode, False)
+            tools.expect(peg(program, b"", b"", []), ended, ended[:3] == (b"", told, 4), name)
+
+
 def deep_grammars():
     """Rules that stand in one another as deep as an input, or the grammar, is long."""
     yield peg("a rule that calls itself at each byte", b"S <- 'a' S / 'b' {x}", b"a" * 60000 + b"b", [b"x\n"])
@@ -253,7 +278,7 @@ def stack(tools):
 
 
 def main():
-    sweeps = {"memory": memory, "writes": writes, "reads": reads, "stack": stack}
+    sweeps = {"memory": memory, "writes": writes, "reads": reads, "streams": streams, "stack": stack}
     words = argparse.ArgumentParser(description="Refuses memory, writes, reads and stack to the programs.")
     words.add_argument("sweep", nargs="*", choices=[*sweeps, []])
     wanted = words.parse_args().sweep or list(sweeps)
@@ -265,7 +290,7 @@ def main():
         built = tools.build()
         for sweep in wanted:
             before = tools.runs
-            if sweep != "stack" and not built:
+            if sweep in ("memory", "writes", "reads") and not built:
                 print(f"faults: {sweep}: no C compiler cc: skipped")
                 continue
             sweeps[sweep](tools)

@@ -12,10 +12,10 @@ def leaf(r, names):
         letters = bytes(r.choice(LETTERS + b" %") for _ in range(r.choice([0, 1, 1, 1, 2, 2, 3])))
         return kind, letters, r.random() < 0.3
     if kind == "values":
-        return kind, [r.choice([65, 97, 98, 48, 300, 255, 13]) for _ in range(r.choice([1, 1, 2]))]
+        return kind, [r.choice([65, 97, 98, 48, 300, 255, 13, 0xD800, 0x10FFFF]) for _ in range(r.choice([1, 1, 2]))]
     if kind == "range":
-        first = r.choice([0, 48, 65, 97, 97, 200])
-        return kind, first, first + r.choice([0, 1, 25, 100, 2000, -1 if first else 0])
+        first = r.choice([0, 48, 65, 97, 97, 200, 0xD7FF])
+        return kind, first, first + r.choice([0, 1, 25, 100, 2000, 0x110000, -1 if first else 0])
     if kind == "prose":
         return kind, b"any text"
     found = r.choice(["ALPHA", "digit", "BIT", "HEXDIG", "WSP", "LWSP", "Crlf"] if kind == "core" else names)
@@ -49,7 +49,14 @@ def grammar(r):
     return rules
 
 
-def grown(r, rules, e, left):
+def spelled(value, is_utf8):
+    """Returns the bytes of a letter; none where the value is not one."""
+    if is_utf8:
+        return b"" if 0xD800 <= value <= 0xDFFF or value > 0x10FFFF else chr(value).encode()
+    return bytes([value]) if value < 256 else b""
+
+
+def grown(r, rules, e, left, is_utf8=False):
     """Returns a string that the element derives, as far as so many steps go; else any."""
     kind = e[0]
     if left <= 0 or kind == "prose":
@@ -57,36 +64,38 @@ def grown(r, rules, e, left):
     if kind == "text":
         return e[1] if e[2] else bytes(r.choice([it, ord(chr(it).swapcase())]) for it in e[1])
     if kind == "values":
-        return bytes(it for it in e[1] if it < 256)
+        return b"".join(spelled(it, is_utf8) for it in e[1])
     if kind == "range":
-        return bytes([r.randint(e[1], min(e[2], 255))]) if e[1] <= min(e[2], 255) else b""
+        last = e[2] if is_utf8 else min(e[2], 255)
+        return spelled(r.randint(e[1], last), is_utf8) if e[1] <= last else b""
     if kind == "concat":
-        return b"".join(grown(r, rules, it, left - 1) for it in e[1])
+        return b"".join(grown(r, rules, it, left - 1, is_utf8) for it in e[1])
     if kind == "alt":
-        return grown(r, rules, r.choice(e[1]), left - 1)
+        return grown(r, rules, r.choice(e[1]), left - 1, is_utf8)
     if kind == "opt":
-        return grown(r, rules, e[1], left - 1) if r.random() < 0.5 else b""
+        return grown(r, rules, e[1], left - 1, is_utf8) if r.random() < 0.5 else b""
     if kind == "rep":
         most = e[1] + 2 if e[2] is None else min(e[2], e[1] + 2)
-        return b"".join(grown(r, rules, e[3], left - 1) for _ in range(r.randint(min(e[1], most), most)))
-    return grown(r, rules, rules.all.get(e[1].upper(), ("prose", b"")), left - 1)
+        return b"".join(grown(r, rules, e[3], left - 1, is_utf8) for _ in range(r.randint(min(e[1], most), most)))
+    return grown(r, rules, rules.all.get(e[1].upper(), ("prose", b"")), left - 1, is_utf8)
 
 
-def line(r, rules, judged):
+def line(r, rules, judged, is_utf8):
     """Returns a line that the judged rule derives, or one near it, or any."""
     if r.random() < 0.25:
         return bytes(r.choice(LETTERS) for _ in range(r.randrange(6)))
-    found = bytearray(grown(r, rules, ("name", judged), 12)[:10])
+    found = bytearray(grown(r, rules, ("name", judged), 12, is_utf8)[:10])
     if r.random() < 0.4:
         at = r.randrange(len(found) + 1)
         found[at:at + r.randrange(2)] = bytes([r.choice(LETTERS)] * r.randrange(2))
     return bytes(found).replace(b"\n", b"")
 
 
-def given(r, grammar_of, judged, count):
+def given(r, grammar_of, judged, count, is_utf8):
+    """Returns an input of so many lines."""
     rules = slow_abnf.Rules(grammar_of)
     first = judged or next(iter(rules.file))
-    lines = [line(r, rules, first) for _ in range(count)]
+    lines = [line(r, rules, first, is_utf8) for _ in range(count)]
     return b"\n".join(lines) + r.choice([b"", b"\n", b"\n"])
 
 

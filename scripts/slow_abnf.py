@@ -122,8 +122,23 @@ def notes_on(rules, judged):
     return "".join(it + "\n" for it in lines).encode(), bool(rules.again) or broken
 
 
+def lower(letter):
+    """Returns a letter of US-ASCII in lower case, and any other as it is."""
+    return letter + 32 if 0x41 <= letter <= 0x5A else letter
+
+
+def letters_of(line, is_utf8):
+    """Returns the letters of a line: its bytes, or its code points; none where it is not UTF-8."""
+    if not is_utf8:
+        return list(line)
+    try:
+        return [ord(it) for it in line.decode("utf-8")]
+    except UnicodeDecodeError:
+        return None
+
+
 class Deriver:
-    """Which parts of a line the rules derive. A set of places is a number whose bits are the places."""
+    """Which parts of a list of letters the rules derive. A set of places is a number whose bits are the places."""
 
     def __init__(self, rules, line):
         self.rules, self.line, self.size = rules.all, line, len(line)
@@ -164,8 +179,7 @@ class Deriver:
 
     def behind_text(self, e, places):
         _, letters, exact = e
-        return self.over(places, [lambda b, c=c: b == c or not exact and bytes([b]).lower() == bytes([c]).lower()
-                                  for c in letters])
+        return self.over(places, [lambda b, c=c: b == c or not exact and lower(b) == lower(c) for c in letters])
 
     def behind_values(self, e, places):
         return self.over(places, [lambda b, v=v: b == v for v in e[1]])
@@ -210,7 +224,7 @@ class Deriver:
         return ends
 
 
-def answer(grammar, given, limit, judged):
+def answer(grammar, given, limit, judged, is_utf8=False):
     """Returns the output, the error output, the status, and how many lines were judged; refusals are one."""
     rules = Rules(grammar)
     told, refused = notes_on(rules, judged)
@@ -223,7 +237,8 @@ def answer(grammar, given, limit, judged):
     for number, line in enumerate(lines, 1):
         if len(line) > limit:
             return b"".join(out), told + b"line %d longer than %d bytes\n" % (number, limit), 3, number
-        yes = Deriver(rules, line).derives(key)
+        letters = letters_of(line, is_utf8)
+        yes = letters is not None and Deriver(rules, letters).derives(key)
         out.append(b"yes\n" if yes else b"no\n")
         status = status if yes else 1
     return b"".join(out), told, status, max(1, len(lines))

@@ -1,5 +1,5 @@
 -- The lines of an input and how a run of them ends are determined, and so is its reply.
--- Serves: one_reply_of_abnf
+-- Serves: one_reply_of_abnf, one_statement_of_abnf
 use Rattle.std.proofs.Common.{◌≡◌, ◌≢◌, ℕ, suc, ◌<◌, ◌≤◌, ◌&&◌, Bool, true, false, List, [], ◌∷◌, ◌++◌, length, take, drop, get_or, refl, sym, ◌∙◌, ap, subst, arith, inl, inr, length-append, length-take}
 use Rattle.std.proofs.Math.Seq.{get_or-append_seam}
 use Rattle.std.proofs.lemmas.Bool.{cases_lt}
@@ -14,11 +14,6 @@ use Rattle.toolrun.specs.declared.stop.Stop.{Stop}
 use Rattle.toolrun.specs.declared.stop.Stop.TheVariants as stop
 use Rattle.lines.specs.InputLines.{HasNoEnd, IsAnswer, answer, status_after, behind, place_taken, IsLine, Lines, none, one_more, Ends, broken, overlong, finished, last_line}
 use Rattle.lines.specs.declared.line_loop.At.{At}
-
--- two replies of the same parts
-same_reply : (a b : Reply) → a.out ≡ b.out → a.err ≡ b.err → a.status ≡ b.status → a.taken ≡ b.taken → a ≡ b
-same_reply a b out err status taken =
-    let is : record { out = a.out; err = a.err; status = a.status; taken = a.taken } ≡ record { out = b.out; err = b.err; status = b.status; taken = b.taken } = cc in is
 
 -- what stands before the first LF is one
 one_front : (a b x y : List ℕ) → HasNoEnd a → HasNoEnd b → a ++ 10 ∷ x ≡ b ++ 10 ∷ y → a ≡ b
@@ -153,16 +148,18 @@ module _ (Member : List ℕ → Type 0) (limit : ℕ) (input : Input) where
   HasReply reply = Replies (Lines Member limit input) (Ends Member limit input) (place_taken limit input) reply
 
   -- two replies behind as many lines
-  settled : (a b : Reply) (r : HasReply a) (q : HasReply b) → Same r.point q.point r.before q.before → a ≡ b
-  settled a b r q same =
+  reply_there : (a b : Reply) (r : HasReply a) (q : HasReply b) → Same r.point q.point r.before q.before → a ≡ b
+  reply_there a b r q same =
       let place = same.places in
       let h = one_end r.point r.last q.last r.stop q.stop r.ends (subst (λ (v : At). EndsAt v q.last q.stop) (sym place) q.ends) in
       let last = h.lasts in
       let why = h.stops in
-      same_reply a b (r.out ∙ ap (λ t. t ++ r.last) same.texts ∙ ap (λ t. q.before ++ t) last ∙ sym q.out)
-      (r.err ∙ ap (λ w. message_of w) why ∙ sym q.err)
-      (r.status ∙ ap (λ w. code_of (status_of w)) why ∙ sym q.status)
-      (r.taken ∙ ap (λ (v : At). place_taken limit input v) place ∙ sym q.taken)
+      let out : a.out ≡ b.out = r.out ∙ ap (λ t. t ++ r.last) same.texts ∙ ap (λ t. q.before ++ t) last ∙ sym q.out in
+      let err : a.err ≡ b.err = r.err ∙ ap (λ w. message_of w) why ∙ sym q.err in
+      let status : a.status ≡ b.status = r.status ∙ ap (λ w. code_of (status_of w)) why ∙ sym q.status in
+      let taken : a.taken ≡ b.taken = r.taken ∙ ap (λ (v : At). place_taken limit input v) place ∙ sym q.taken in
+      let is : record { out = a.out; err = a.err; status = a.status; taken = a.taken } ≡ record { out = b.out; err = b.err; status = b.status; taken = b.taken } = cc in
+      is
 
   -- one reply
   pub one_lines_reply : (a b : Reply) → HasReply a → HasReply b → a ≡ b
@@ -170,6 +167,6 @@ module _ (Member : List ℕ → Type 0) (limit : ℕ) (input : Input) where
     | inl lt ↦ absurd (no_earlier_end r.point q.point r.before q.before r.last r.stop r.steps r.ends q.steps lt)
     | inr ge ↦ elim (cases_lt q.point.count r.point.count) [
       | inl lt ↦ absurd (no_earlier_end q.point r.point q.before r.before q.last q.stop q.steps q.ends r.steps lt)
-      | inr le ↦ settled a b r q (same_place r.point r.before r.steps q.point q.before q.steps (omega (arith, ge, le)))
+      | inr le ↦ reply_there a b r q (same_place r.point r.before r.steps q.point q.before q.steps (omega (arith, ge, le)))
     ]
   ]
