@@ -25,11 +25,11 @@ abnfi_simple names alphabets = refl
 
 pub app_is_simple : (program : Program) (app : App) → IsAppOf program app → is_simple app ≡ true
 app_is_simple Pegi app of = ap is_simple of.2 ∙ pegi_simple of.0
-app_is_simple Abnfi app of = ap is_simple of.2.2.2 ∙ abnfi_simple of.0 of.2.0
+app_is_simple Abnfi app of = ap is_simple of.4 ∙ abnfi_simple of.0 of.2
 
 pub app_is_free : (program : Program) (app : App) → IsAppOf program app → is_simple_and_free app ≡ true
 app_is_free Pegi app of = ap is_simple_and_free of.2 ∙ pegi_free of.0
-app_is_free Abnfi app of = ap is_simple_and_free of.2.2.2 ∙ abnfi_free of.0 of.2.0
+app_is_free Abnfi app of = ap is_simple_and_free of.4 ∙ abnfi_free of.0 of.2
 
 -- what is said of a parse by any simple command
 pub app_parses : (app made : App) (words : List Text) → made ≡ app → is_simple app ≡ true

@@ -310,4 +310,4 @@ abnfi_is_whole c names alphabets e m p =
 pub is_whole : (program : Program) (app : App) → IsAppOf program app → (c : Command) → app_of c ≡ app
     → (m : ArgMatches) → IsParsedFrom c m → AreWhole (found_of m)
 is_whole Pegi app of c e m p = pegi_is_whole c of.0 (e ∙ of.2) m p
-is_whole Abnfi app of c e m p = abnfi_is_whole c of.0 of.2.0 (e ∙ of.2.2.2) m p
+is_whole Abnfi app of c e m p = abnfi_is_whole c of.0 of.2 (e ∙ of.4) m p
