@@ -58,3 +58,33 @@ fn failed(rt: HostRuntime) -> Result<(), Fail> {
     assert!(rt; cells.get(5_000_000_000, 7) == None);
     Ok(())
 }
+
+#[test]
+fn got_or_put(rt: HostRuntime) -> Result<(), Fail> {
+    let mut cells = Cells::new(rt.alloc());
+    cells.reset(3);
+    let first = cells.get_or_put(2, 5, Found::Took(9))?;
+    assert!(rt; first == Found::Took(9));
+    let again = cells.get_or_put(2, 5, Found::Failed)?;
+    assert!(rt; again == Found::Took(9));
+    let other = cells.get_or_put(1, 5, Found::Failed)?;
+    assert!(rt; other == Found::Failed);
+    assert_eq!(rt; cells.len(), 2);
+    Ok(())
+}
+
+// Few nodes at places far apart, so that rows are folded.
+#[test]
+fn far_apart(rt: HostRuntime) -> Result<(), Fail> {
+    let mut cells = Cells::new(rt.alloc());
+    cells.reset(9000);
+    for step in 0..700usize {
+        put_new(&mut cells, step * 11, step * 1000)?;
+    }
+    for step in 0..700usize {
+        assert!(rt; cells.get(step * 11, step * 1000) == Some(Found::Took(step * 11)));
+        assert!(rt; cells.get(step * 11, step * 1000 + 1) == None);
+    }
+    assert_eq!(rt; cells.len(), 700);
+    Ok(())
+}

@@ -1,4 +1,4 @@
-use Rattle.std.proofs.Common.{ap, refl, arith, Some, ◌≡◌, ◌+◌, ◌∙◌, length}
+use Rattle.std.proofs.Common.{ap, refl, arith, Some, ◌∙◌}
 use Rattle.gramcheck.specs.Nodes.{shapes_of}
 use Rattle.pegmatch.proofs.NodeShapeLemmas.{shape_at}
 use Rattle.desk.proofs.IsWayLemmas.{ends_told}

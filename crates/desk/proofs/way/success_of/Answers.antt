@@ -1,5 +1,4 @@
 use Rattle.std.proofs.Common.{ap, Some, ◌∙◌}
-use Rattle.desk.specs.declared.frame.Frame.{Frame}
 use Rattle.cells.specs.declared.cell.Found.TheVariants.{Took}
 use Rattle.desk.proofs.IsWayLemmas.{ends_by}
 use Rattle.desk.proofs.way.success_of.Goals as goal
