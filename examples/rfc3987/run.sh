@@ -1,0 +1,1 @@
+abnfi -u utf8 -s IRI-reference rfc3987.abnf < lines.txt
