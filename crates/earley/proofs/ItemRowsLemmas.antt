@@ -1,6 +1,7 @@
 -- Items linked by rows, and a walk along a row.
 -- Serves: judge.
-use Rattle.std.proofs.Common.{◌≡◌, ℕ, zero, suc, ◌+◌, ◌-◌, ◌<◌, ◌≤◌, ◌⊎◌, inl, inr, List, [], ◌∷◌, ◌++◌, length, set, Some, refl, ap, sym, ◌∙◌, ⊎_elim, arith, slice_get, slice_index_or, length-append}
+use Rattle.std.proofs.Common.{◌≡◌, ℕ, zero, suc, ◌+◌, ◌-◌, ◌<◌, ◌≤◌, ◌⊎◌, inl, inr, List, [], ◌∷◌, ◌++◌, length, set, take, Some, refl, ap, sym, ◌∙◌, ⊎_elim, arith, slice_get, slice_index_or, length-append, length-set, add-one}
+use Rattle.std.proofs.lemmas.List.{length-take-le}
 use Rattle.std.proofs.lemmas.Option.{slice_get_within}
 use Rattle.flatgrammar.specs.Places.{In, now, on}
 use Rattle.flatgrammar.specs.declared.flat_item.Item.{Item}
@@ -49,6 +50,16 @@ pub or_get : {A : Type 0} (xs : List A) (k : ℕ) (d y : A) → slice_get xs k �
 or_get [] k d y h = absurd (let no = h in cc)
 or_get (x ∷ xs) zero d y h = some_same h
 or_get (x ∷ xs) (suc k) d y h = or_get xs k d y h
+
+take_next : {A : Type 0} (xs : List A) (i : ℕ) (x : A) → slice_get xs i ≡ Some x → take (suc i) xs ≡ take i xs ++ x ∷ []
+take_next [] i x h = absurd cc
+take_next (y ∷ ys) zero x h = ap (λ v. v ∷ []) (some_same h)
+take_next (y ∷ ys) (suc i) x h = ap (λ l. y ∷ l) (take_next ys i x h)
+
+set_get : {A : Type 0} (xs : List A) (i : ℕ) (a : A) → i < length xs → slice_get (set xs i a) i ≡ Some a
+set_get [] i a lt = absurd (omega (arith, lt))
+set_get (x ∷ xs) zero a lt = refl
+set_get (x ∷ xs) (suc i) a lt = set_get xs i a (let less : i < length xs = omega (arith, lt) in less)
 
 module _ (row : Item → ℕ) where
   pub none_linked : (links rows : List ℕ) → AreLinked row [] links rows
@@ -108,6 +119,23 @@ module _ (row : Item → ℕ) where
           by_size (inr q) = let le = q.0 in let n = m.1 in omega (arith, le, n)
       by_head j h d g (inl e) (inr m) = let k = l.last j h d e m.1 in (k.0, in_push list a (row d) (h - 1) k.1)
       by_head j h d g (inr q) (inr m) = absurd (m.0 (ap row (sym q.1)))
+
+  -- the next item of a list of which the first i are linked
+  pub linked_next : (list : List Item) (links rows : List ℕ) (i last : ℕ) (a : Item) → slice_get list i ≡ Some a → length list ≤ length links →
+      AreLinked row (take i list) links rows → IsLast row (take i list) (length (take i list)) (row a) last → 0 < length rows →
+      AreLinked row (take (i + 1) list) (set links i last) (set rows (row a) (i + 1))
+  linked_next list links rows i last a is long l at_last some =
+      let lt = slice_get_within list i a is in
+      let count : length (take i list) ≡ i = length-take-le i list (omega (arith, lt)) in
+      let size = length-set links i last in
+      let kept = linked_same (take i list) links (set links i last) rows l (omega (arith, count, size, long, lt)) (λ j k less g. other j k less g count) in
+      let here : slice_get (set links i last) (length (take i list)) ≡ Some last = rw count (set_get links i last (omega (arith, lt, long))) in
+      let pushed = linked_push (take i list) (set links i last) rows a last kept here at_last some
+      (sym (length-set rows (row a) (length (take i list) + 1))) in
+      rw (add-one i, take_next list i a is) (rw (count, add-one i) at pushed)
+    where
+      other : (j k : ℕ) → j < length (take i list) → slice_get (set links i last) j ≡ Some k → length (take i list) ≡ i → slice_get links j ≡ Some k
+      other j k less g count = ⊎_elim (λ e. absurd (let same = e.0 in omega (arith, same, less, count))) (λ e. e.1) (set_cases links i j last k g)
 
   -- no item is the one sought at `at` or later, and before it stands one of its row
   pub record IsSought (list : List Item) (item : Item) (at : ℕ) : Type 0 where

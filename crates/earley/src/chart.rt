@@ -202,7 +202,7 @@ fn close(
     wait_all(flat, heads, items, number, &mut firsts, &mut waits)?;
     let homes = items.take_homes(homes);
     let heads = heads.take(heads_memory);
-    let items = items.take(items_memory)?;
+    let items = items.take(items_memory);
     let size = size_of(flat, &heads, &items)?;
     Ok(Front {
         heads,

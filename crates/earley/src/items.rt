@@ -143,6 +143,34 @@ fn insert(
     Ok(())
 }
 
+// Links all items anew, whatever the links and rows were.
+fn relink(list: &[Item], links: &mut [usize], rows: &mut [usize])
+    requires some { 0 < length rows.old }
+    requires long { length list.now ≤ length links.old }
+    ensures linked { AreLinked (the_row_of (length rows.new)) list.now links.new rows.new }
+    ensures count { length rows.new ≡ length rows.old }
+{
+    for i in 0..list.len() {
+        let row = row_of(rows.len(), list[i]);
+        let last = last_of(&list[..i], rows, row);
+        links[i] = last;
+        rows[row] = i + 1;
+    }
+}
+
+// Doubles the rows. `Memory` if an allocation fails.
+fn widen(list: &[Item], links: &mut [usize], rows: &mut Vec<usize>) -> Result<(), Memory>
+    requires linked { AreLinked (the_row_of (length rows.old.items)) list.now links.old rows.old.items }
+    requires some { 0 < length rows.old.items }
+    ensures linked { AreLinked (the_row_of (length rows.new.items)) list.now links.new rows.new.items }
+    ensures some { 0 < length rows.new.items }
+{
+    let count = rows.len().saturating_mul(2);
+    rows.resize(count, 0)?;
+    relink(list, links, rows);
+    Ok(())
+}
+
 // Sets the home of an index.
 fn set_home(homes: &mut Vec<usize>, index: usize, home: usize) -> Result<(), Memory> {
     if index < homes.len() {
@@ -211,6 +239,9 @@ impl Items {
             self.rows.resize(FIRST, 0)?;
         }
         let index = self.list.len();
+        if index >= self.rows.len() {
+            widen(&self.list, &mut self.links, &mut self.rows)?;
+        }
         insert(&mut self.list, &mut self.links, &mut self.rows, item)?;
         if index < self.list.len() {
             set_home(&mut self.homes, index, home)?;
@@ -225,19 +256,13 @@ impl Items {
         self.list.clear();
     }
 
-    /// Empties it, and returns the items that it had, in exchange for memory. It has more rows from then on where the items
-    /// were more than the rows. `Memory` if an allocation fails.
-    pub(crate) fn take(&mut self, memory: Vec<Item>) -> Result<Vec<Item>, Memory>
-        ensures items { IfOk result (λ items. items.items ≡ self.old) }
-        ensures empty { IfOk result (λ items. self.new ≡ []) }
+    /// Empties it, and returns the items that it had, in exchange for memory.
+    pub(crate) fn take(&mut self, memory: Vec<Item>) -> Vec<Item>
+        ensures items { result.items ≡ self.old }
+        ensures empty { self.new ≡ [] }
     {
         let mut memory = memory;
         memory.clear();
-        let items = mem::replace(&mut self.list, memory);
-        if items.len() > self.rows.len() {
-            let count = self.rows.len().saturating_mul(2);
-            self.rows.resize(count, 0)?;
-        }
-        Ok(items)
+        mem::replace(&mut self.list, memory)
     }
 }
