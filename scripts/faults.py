@@ -27,7 +27,7 @@ GROWTHS_OF_WORDS = 10
 # A run: its name, the program and its words, the grammar, the input, the texts of the units or lines, the error output,
 # and the status.
 Run = collections.namedtuple("Run", "name program words grammar given texts told status")
-Ended = collections.namedtuple("Ended", "out err status refused")
+Ended = collections.namedtuple("Ended", "out err status refused left", defaults=[None])
 
 
 def peg(name, grammar, given, texts, told=b"", status=0, words=()):
@@ -83,19 +83,21 @@ class Tools:
 
     def run(self, run, **faults):
         """Runs a program with these faults, and returns how it ended."""
-        told, grammar = self.folder / "told", self.folder / "grammar"
+        told, left, grammar = self.folder / "told", self.folder / "left", self.folder / "grammar"
         told.unlink(missing_ok=True)
+        left.unlink(missing_ok=True)
         grammar.write_bytes(run.grammar)
-        environment = {"LD_PRELOAD": str(self.library), "FAULT_TOLD": str(told)}
+        environment = {"LD_PRELOAD": str(self.library), "FAULT_TOLD": str(told), "FAULT_LEFT": str(left)}
         environment |= {f"FAULT_{it}": str(n) for it, n in faults.items()}
         ran = subprocess.run([TOP / "bin" / run.program, *run.words, grammar], input=run.given, capture_output=True,
                              env=os.environ | environment, timeout=120, check=False)
-        return Ended(ran.stdout, ran.stderr, ran.returncode, told.exists())
+        blocks = int(left.read_text()) if left.exists() else -1
+        return Ended(ran.stdout, ran.stderr, ran.returncode, told.exists(), blocks)
 
     def expect(self, run, ended, holds, what):
-        """Counts a run, and prints it if it is not as it must be."""
+        """Counts a run, and prints it if it is not as it must be, or if some memory was not given back."""
         self.runs += 1
-        if not holds:
+        if not holds or ended.left:
             self.wrong += 1
             print(f"wrong: {run.name}, {what}: {ended}")
 

@@ -8,6 +8,7 @@
  * FAULT_INPUT=N       reads of standard input give at most N bytes in all; then they fail
  * FAULT_PIECE=N       each read gives at most N bytes
  * FAULT_TOLD=FILE     a file that is made when something is refused
+ * FAULT_LEFT=FILE     a file that says at the end how many blocks of memory were not given back
  */
 #define _GNU_SOURCE
 #include <errno.h>
@@ -24,10 +25,12 @@ extern void *__libc_malloc(size_t);
 extern void *__libc_calloc(size_t, size_t);
 extern void *__libc_realloc(void *, size_t);
 extern void *__libc_memalign(size_t, size_t);
+extern void __libc_free(void *);
 
 static long growth = -1, room = -1, most_written = -1, bad_read = -1, input = -1, piece = -1;
 static int room_fd = -1, lasts = 0;
-static const char *told;
+static long blocks = 0;
+static const char *told, *left;
 
 static long number(const char *name) {
     const char *text = getenv(name);
@@ -45,6 +48,8 @@ __attribute__((constructor)) static void begin(void) {
     input = number("FAULT_INPUT");
     piece = number("FAULT_PIECE");
     told = getenv("FAULT_TOLD");
+    left = getenv("FAULT_LEFT");
+    blocks = 0;
     lasts = getenv("FAULT_LASTS") != NULL;
     growth = number("FAULT_GROWTH");
 }
@@ -66,21 +71,54 @@ static int may_grow(void) {
     return 0;
 }
 
-void *malloc(size_t size) { return may_grow() ? __libc_malloc(size) : NULL; }
+/* Counts a block that was given. */
+static void *given(void *block) {
+    blocks += block != NULL;
+    return block;
+}
 
-void *calloc(size_t count, size_t size) { return may_grow() ? __libc_calloc(count, size) : NULL; }
+void *malloc(size_t size) { return may_grow() ? given(__libc_malloc(size)) : NULL; }
 
-void *realloc(void *old, size_t size) { return may_grow() ? __libc_realloc(old, size) : NULL; }
+void *calloc(size_t count, size_t size) { return may_grow() ? given(__libc_calloc(count, size)) : NULL; }
 
-void *memalign(size_t align, size_t size) { return may_grow() ? __libc_memalign(align, size) : NULL; }
+void *realloc(void *old, size_t size) {
+    if (!old)
+        return malloc(size);
+    return may_grow() ? __libc_realloc(old, size) : NULL;
+}
 
-void *aligned_alloc(size_t align, size_t size) { return may_grow() ? __libc_memalign(align, size) : NULL; }
+void free(void *block) {
+    blocks -= block != NULL;
+    __libc_free(block);
+}
+
+void *memalign(size_t align, size_t size) { return may_grow() ? given(__libc_memalign(align, size)) : NULL; }
+
+void *aligned_alloc(size_t align, size_t size) { return memalign(align, size); }
 
 int posix_memalign(void **to, size_t align, size_t size) {
     if (!may_grow())
         return ENOMEM;
-    *to = __libc_memalign(align, size);
+    *to = given(__libc_memalign(align, size));
     return *to || !size ? 0 : ENOMEM;
+}
+
+__attribute__((destructor)) static void end(void) {
+    char text[24];
+    int at = sizeof text;
+    long n = blocks < 0 ? -blocks : blocks;
+    if (!left)
+        return;
+    do
+        text[--at] = '0' + n % 10;
+    while (n /= 10);
+    if (blocks < 0)
+        text[--at] = '-';
+    long fd = syscall(SYS_openat, AT_FDCWD, left, O_CREAT | O_WRONLY | O_TRUNC, 0600);
+    if (fd >= 0) {
+        syscall(SYS_write, fd, text + at, sizeof text - at);
+        syscall(SYS_close, fd);
+    }
 }
 
 void *mmap(void *at, size_t size, int prot, int flags, int fd, off_t offset) {
