@@ -38,19 +38,23 @@ def abnf(name, grammar, given, texts, told=b"", status=0, words=()):
     return Run(name, "abnfi", list(words), grammar, given, texts, told, status)
 
 
-PRINT = ("-m", "print")
+PRINT, CHECK = ("-m", "print"), ("-m", "check")
 YES, NO = b"yes\n", b"no\n"
 USERNAME = peg("a word replaced", b'start <- "username" { USER } / < . > { yytext }', b"a username\n",
                [b"a\n", b" \n", b"USER\n", b"\n\n"])
 WORDS = abnf("words of letters", b"word = 1*ALPHA", b"ab\nA1\n\nZ", [YES, NO, NO, YES], status=1)
-NOTED = peg("a grammar that notes refuse", b"A <- ('' / 'b')* C\nD <- 'd'", b"b", [],
-            b"rule 'C' used but not defined\nrule 'D' defined but not used\n"
-            b"possible infinite loop in rule 'A'\n", 2)
-ABNF_NOTED = abnf("notes before the answers", b"a = <any text> / b\nb = \"x\"", b"X\n", [YES],
-                  b"prose in rule 'a'\nrule 'a' defined but not used\n", words=["-s", "b"])
+REFUSED = b"A <- ('' / 'b')* C\nD <- 'd'"
+REFUSALS = b"rule 'C' used but not defined\nrule 'D' defined but not used\npossible infinite loop in rule 'A'\n"
+NOTED = peg("a grammar that notes refuse", REFUSED, b"b", [], REFUSALS, 2)
+CHECKED = peg("the same grammar checked", REFUSED, b"b", [], REFUSALS, 2, words=CHECK)
+PROSE = b"a = <any text> / b\nb = \"x\""
+NOTES = b"prose in rule 'a'\nrule 'a' defined but not used\n"
+ABNF_NOTED = abnf("notes before the answers", PROSE, b"X\n", [YES], NOTES, words=["-s", "b"])
+ABNF_CHECKED = abnf("the same grammar in ABNF checked", PROSE, b"X\n", [], NOTES, words=[*CHECK, "-s", "b"])
 PRINTED = peg("a grammar printed", b"A<-('x')/[b-da^-]*", b"", [b'A <- "x" / [\\055\\136a-d]*\n'], words=PRINT)
 ALTERNATIVES = b'k = %s"Ab"\n  / "cd"\nK =/ 2*3%x78'
 LINES = b"Ab\nab\nCD\nxx\nxxxx\n"
+ABNF_PRINTED = abnf("a grammar in ABNF printed", ALTERNATIVES, b"", [b'k = %s"Ab" / "cd" / 2*3%x78\n'], words=PRINT)
 
 # The runs in which each growth is refused.
 GROWING = [
@@ -61,8 +65,14 @@ GROWING = [
     WORDS,
     abnf("an ambiguous rule", b's = s s / "a" / ""', b"aaa\n\nb\n", [YES, YES, NO], status=1),
     abnf("alternatives added to a rule", ALTERNATIVES, LINES, [YES, NO, YES, YES, NO], status=1),
-    abnf("a grammar in ABNF printed", ALTERNATIVES, b"", [b'k = %s"Ab" / "cd" / 2*3%x78\n'], words=PRINT),
+    ABNF_PRINTED,
+    CHECKED,
+    ABNF_CHECKED,
 ]
+
+
+# The runs whose writes fail.
+WRITTEN = [USERNAME, WORDS, NOTED, ABNF_NOTED, PRINTED, ABNF_PRINTED, CHECKED, ABNF_CHECKED]
 
 
 class Tools:
@@ -134,7 +144,7 @@ def memory(tools):
 
 def writes(tools):
     """Each write short, and each output failing behind each number of bytes."""
-    for run in (it for it in [USERNAME, WORDS, NOTED, ABNF_NOTED, PRINTED] if tools.has(it.program)):
+    for run in (it for it in WRITTEN if tools.has(it.program)):
         for most in (1, 2, 3):
             ended = tools.run(run, WRITE=most)
             tools.expect(run, ended, is_as_stated(run, ended), f"writes of {most} bytes")

@@ -5,9 +5,9 @@
     names.py --lines    the lines of more than 120 characters too, a count for each file
 """
 import collections
+import os
 import pathlib
 import re
-import subprocess
 import sys
 
 LONGEST_LINE = 120
@@ -18,13 +18,18 @@ MIRRORS = {"Answers.antt", "Invariants.antt", "Proof.antt", "Lib.antt"}
 NOUNS = {"Spelling", "String"}
 # Participles that do not end in `ed`.
 PARTICIPLES = {"Begun", "Chosen", "Kept", "Left", "Made", "Read", "Said", "Taken", "Told", "Written"}
+# Folders that hold no sources.
+BUILT = {".git", "__pycache__", "bin", "out"}
 TEXTS = {".antt", ".edit", ".md", ".py", ".rt", ".sh"}
 
 
-def tracked(top):
-    """Returns the repository's files, as paths from its top."""
-    listed = subprocess.run(["git", "ls-files"], cwd=top, check=True, capture_output=True, text=True).stdout
-    return [pathlib.PurePosixPath(it) for it in listed.splitlines() if (top / it).is_file()]
+def sources(top):
+    """Returns the repository's files, as paths from its top, without what a build leaves."""
+    found = []
+    for folder, folders, names in os.walk(top):
+        folders[:] = sorted(set(folders) - BUILT)
+        found += [pathlib.PurePath(folder, it).relative_to(top) for it in sorted(names)]
+    return found
 
 
 def is_proof(path):
@@ -126,7 +131,7 @@ def of_long_lines(top, files):
 def main(arguments):
     """Prints what breaks the rules, by rule, and returns 1 where something does."""
     top = pathlib.Path(__file__).resolve().parent.parent
-    files = tracked(top)
+    files = sources(top)
     rules = {
         "names of lemma files": of_lemma_names(files, definitions(top, files)),
         "the functions that lemma files serve": of_served(top, files),

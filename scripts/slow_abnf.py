@@ -128,24 +128,36 @@ def lower(letter):
 
 
 def letters_of(line, is_utf8):
-    """Returns the letters of a line: its bytes, or its code points; none where it is not UTF-8."""
+    """Returns the letters of a line, its bytes or its code points, and whether it is UTF-8 where it has to be; where it is
+    not, they are those of its longest beginning that is.
+    """
     if not is_utf8:
-        return list(line)
+        return list(line), True
     try:
-        return [ord(it) for it in line.decode("utf-8")]
-    except UnicodeDecodeError:
-        return None
+        return [ord(it) for it in line.decode("utf-8")], True
+    except UnicodeDecodeError as fault:
+        return [ord(it) for it in line[:fault.start].decode("utf-8")], False
+
+
+def is_letter(value, is_utf8):
+    """Tells whether a value is that of a letter: of a byte, or of a code point outside the surrogates."""
+    return value < 0xD800 or 0xE000 <= value < 0x110000 if is_utf8 else value < 0x100
 
 
 class Deriver:
-    """Which parts of a list of letters the rules derive. A set of places is a number whose bits are the places."""
+    """Which parts of a list of letters the rules derive. A set of places is a number whose bits are the places.
 
-    def __init__(self, rules, line):
+    If more letters may follow, `may_follow` tells whether one of the values of a range is a letter, and the last place
+    stands for all behind it.
+    """
+
+    def __init__(self, rules, line, may_follow=None):
         self.rules, self.line, self.size = rules.all, line, len(line)
+        self.may_follow = may_follow or (lambda low, high: False)
         self.ends = {}
 
     def derives(self, key):
-        """Tells whether the rule derives the line: the least sets, by rounds until none grows."""
+        """Tells whether the rule derives the line, or one that begins with it: the least sets, by rounds until none grows."""
         self.ends = {it: [0] * (self.size + 1) for it in self.wanted(key)}
         while True:
             before = {it: list(rows) for it, rows in self.ends.items()}
@@ -167,25 +179,27 @@ class Deriver:
         """Returns where a string of the element may end that begins at one of the places."""
         return getattr(self, "behind_" + e[0])(e, places) if places else 0
 
-    def over(self, places, tests):
-        """Returns the places behind letters that meet the tests one after another."""
-        for test in tests:
-            ends = 0
-            for place in range(self.size):
-                if places >> place & 1 and test(self.line[place]):
-                    ends |= 1 << place + 1
-            places = ends
-        return places
+    def over(self, places, low, high, test):
+        """Returns the places behind a letter from `low` to `high` that meets the test."""
+        ends = 1 << self.size if places >> self.size & 1 and self.may_follow(low, high) else 0
+        for place in range(self.size):
+            if places >> place & 1 and test(self.line[place]):
+                ends |= 1 << place + 1
+        return ends
 
     def behind_text(self, e, places):
         _, letters, exact = e
-        return self.over(places, [lambda b, c=c: b == c or not exact and lower(b) == lower(c) for c in letters])
+        for c in letters:
+            places = self.over(places, c, c, lambda b, c=c: b == c or not exact and lower(b) == lower(c))
+        return places
 
     def behind_values(self, e, places):
-        return self.over(places, [lambda b, v=v: b == v for v in e[1]])
+        for v in e[1]:
+            places = self.over(places, v, v, lambda b, v=v: b == v)
+        return places
 
     def behind_range(self, e, places):
-        return self.over(places, [lambda b: e[1] <= b <= e[2]])
+        return self.over(places, e[1], e[2], lambda b: e[1] <= b <= e[2])
 
     def behind_concat(self, e, places):
         for part in e[1]:
@@ -224,7 +238,15 @@ class Deriver:
         return ends
 
 
-def answer(grammar, given, limit, judged, is_utf8=False):
+def furthest(rules, letters, key, is_utf8):
+    """Returns how many first letters begin something that the rule derives; 0 if it derives nothing."""
+    def may_follow(low, high):
+        return any(is_letter(it, is_utf8) for it in (low, max(low, 0xE000)) if it <= high)
+    sizes = range(len(letters), 0, -1)
+    return next((size for size in sizes if Deriver(rules, letters[:size], may_follow).derives(key)), 0)
+
+
+def answer(grammar, given, limit, judged, is_utf8=False, is_viable=False):
     """Returns the output, the error output, the status, and how many lines were judged; refusals are one."""
     rules = Rules(grammar)
     told, refused = notes_on(rules, judged)
@@ -237,8 +259,9 @@ def answer(grammar, given, limit, judged, is_utf8=False):
     for number, line in enumerate(lines, 1):
         if len(line) > limit:
             return b"".join(out), told + b"line %d longer than %d bytes\n" % (number, limit), 3, number
-        letters = letters_of(line, is_utf8)
-        yes = letters is not None and Deriver(rules, letters).derives(key)
-        out.append(b"yes\n" if yes else b"no\n")
+        letters, is_text = letters_of(line, is_utf8)
+        yes = is_text and Deriver(rules, letters).derives(key)
+        no = b"no %d\n" % furthest(rules, letters, key, is_utf8) if is_viable and not yes else b"no\n"
+        out.append(b"yes\n" if yes else no)
         status = status if yes else 1
     return b"".join(out), told, status, max(1, len(lines))

@@ -13,6 +13,3 @@ mod walk;
 mod way;
 
 pub use desk::Desk;
-
-#[cfg(test)]
-mod tests;

@@ -14,6 +14,8 @@ mod code_points;
 #[cfg(test)]
 mod cycle_caller;
 #[cfg(test)]
+mod desk_units;
+#[cfg(test)]
 mod feed_window;
 #[cfg(test)]
 mod grammar_notes;

@@ -76,7 +76,8 @@ fn refuses_each_single_byte(rt: HostRuntime) {
 }
 
 // A text, and the lengths of its beginnings that are read.
-static BEGINNINGS: [(&[u8], &[usize]); 2] = [
+static BEGINNINGS: [(&[u8], &[usize]); 3] = [
+    (b"a = \"x\"", &[7]),
     (
         b"k = %s\"Ab\"\n  / \"cd\"\nK =/ 2*3%x78",
         &[10, 11, 12, 13, 19, 20, 31, 32],

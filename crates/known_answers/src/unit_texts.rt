@@ -11,8 +11,8 @@ use std::test::Fail;
 // A capture that the second alternative does not see.
 const LETTERS: &[u8] = b"S <- < 'a' > 'b' { yytext } / 'a' { [yytext] }";
 
-// The grammar of a text, ready to run.
-fn sound(alloc: Global, text: &[u8]) -> Result<SoundPeg, Fail> {
+/// Returns the grammar of a text, ready to run.
+pub(crate) fn sound(alloc: Global, text: &[u8]) -> Result<SoundPeg, Fail> {
     let checked = check_peg(alloc, read_peg(alloc, text)?, None)?;
     Ok(checked.sound.ok_or("refused")?)
 }
@@ -136,6 +136,42 @@ fn what_is_only_looked_at_needs_more(rt: HostRuntime) -> Result<(), Fail> {
     assert!(rt; needs_more(alloc, b"S <- 'a' !'b'", b"ac")?);
     assert!(rt; !needs_more(alloc, b"S <- 'a' !'b'", b"acd")?);
     assert!(rt; needs_more(alloc, b"S <- &'ab' 'a'", b"ab")?);
+    Ok(())
+}
+
+// A grammar, its window, whether its action prints verbatim, and what is printed.
+static TEMPLATES: [(&[u8], &[u8], bool, &[u8]); 6] = [
+    // `yytextual` is a word of its own, and what is put in is not looked at again
+    (
+        b"S <- < 'yyleng' > { yytext yyleng yytextual }",
+        b"yyleng",
+        false,
+        b"yyleng 6 yytextual\n",
+    ),
+    (b"S <- < 'b' > { yytext\t}", b"b", true, b" b\t"),
+    (b"S <- < > {[yytext]}", b"", false, b"[]\n"),
+    (b"S <- < 'x' > {\r\n\t }", b"x", false, b"\n"),
+    (b"S <- < 'x' > {}", b"x", true, b""),
+    (
+        b"S <- < '0123456789' > {yyleng-yytext_}",
+        b"0123456789",
+        false,
+        b"10-yytext_\n",
+    ),
+];
+
+#[test]
+fn actions_print_their_templates(rt: HostRuntime) -> Result<(), Fail> {
+    for &(grammar, window, raw, text) in &TEMPLATES {
+        let peg = sound(rt.alloc(), grammar)?;
+        let mut plain = Plain::new(rt.alloc());
+        let mut out = SinkOf::new(Vec::new(rt.alloc()));
+        match plain.match_unit(&peg, window, false)? {
+            Unit::Took { .. } => plain.replay(&peg, window, raw, &mut out)?,
+            _ => assert!(rt; false, "no success"),
+        }
+        assert!(rt; out.into_inner().as_slice() == text, "{grammar:?}");
+    }
     Ok(())
 }
 

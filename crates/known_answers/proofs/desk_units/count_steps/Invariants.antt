@@ -1,7 +1,7 @@
 use Rattle.std.proofs.Common.{◌≡◌, false, List, ◌∷◌}
 use Rattle.desk.specs.declared.frame.Frame.{Frame}
 use Rattle.desk.specs.Desk.{Fits}
-use Rattle.desk.proofs.tests.count_steps.Given as goal
+use Rattle.known_answers.proofs.desk_units.count_steps.Given as goal
 
 abbrev pub invariant-loop-i : goal.invariant-loop-i
 invariant-loop-i l = record {

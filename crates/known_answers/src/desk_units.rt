@@ -3,10 +3,10 @@ ghost use Rattle.std.specs.Prelude.{◌≡◌, List, ◌∷◌, false};
 ghost use Rattle.desk.specs.Desk.{Fits};
 ghost use Rattle.desk.specs.declared.frame.Frame.{Frame};
 
-use crate::Desk;
-use gramcheck::{SoundPeg, check_peg};
+use crate::unit_texts::sound;
+use desk::Desk;
+use gramcheck::SoundPeg;
 use pegmatch::{Matcher, Plain, Unit};
-use pegread::read_peg;
 use ruletable::{Memory, SinkOf};
 use std::alloc::Global;
 use std::process::Abort;
@@ -14,12 +14,6 @@ use std::test::Fail;
 
 // Rules that share an action.
 const SHARED: &[u8] = b"S <- A A 'x'\nA <- B B\nB <- {b}";
-
-// The grammar of a text, ready to run.
-fn sound(alloc: Global, text: &[u8]) -> Result<SoundPeg, Fail> {
-    let checked = check_peg(alloc, read_peg(alloc, text)?, None)?;
-    Ok(checked.sound.ok_or("refused")?)
-}
 
 // A window that is the whole rest: what a match answers, with a cell for each evaluation, and what a success prints.
 fn check<R: Abort + AllocGlobal>(
