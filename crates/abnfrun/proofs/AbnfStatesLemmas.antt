@@ -14,8 +14,10 @@ use Rattle.abnfread.proofs.AbnfFaultLemmas.{one-reading, no-fault}
 use Rattle.abnfcheck.proofs.AbnfNotesLemmas.{notes_same, those_same}
 use Rattle.abnfrun.specs.AbnfAnswers.{AbnfStates, refused, noted, checked, judges, again, printed, no_memory}
 use Rattle.abnfrun.specs.AbnfNoted.{file_rules, all_rules, again_in, judged_of, AreNotesOn, IsRefusedFor, AreAgain, rule_given}
-use Rattle.abnfrun.specs.AbnfReply.{refusal, notes_alone, printed_rules, JudgeReply}
+use Rattle.abnfrun.specs.AbnfReply.{AnswersFor, refusal, notes_alone, printed_rules, JudgeReply}
+use Rattle.abnfrun.proofs.IsAnswerToLemmas.{one_answer}
 use Rattle.abnfrun.proofs.OneFaultLemmas.{one-fault}
+use Rattle.letters.proofs.SpellsLemmas.{spells_one}
 use Rattle.lines.proofs.LinesReplyLemmas.{one_lines_reply}
 use Rattle.toolrun.specs.Input.{Input}
 use Rattle.toolrun.specs.NotesText.{notes_text}
@@ -71,7 +73,9 @@ module _ (settings : Settings) (input : Input) where
 
     one_run : (a b : Reply) → JudgeReply (all_rules definitions) (judged_of definitions (rule_given settings)) settings input a →
         JudgeReply (all_rules definitions) (judged_of definitions (rule_given settings)) settings input b → a.status ≢ 5 → b.status ≢ 5 → a ≡ b
-    one_run a b (steps.replied r g) (steps.replied q h) m n = one_lines_reply _ settings.limit input a b g h
+    one_run a b (steps.replied r g) (steps.replied q h) m n = 
+        one_lines_reply (AnswersFor (all_rules definitions) (judged_of definitions (rule_given settings)) settings)
+        (λ line. one_answer spells_one settings.letters (all_rules definitions) (judged_of definitions (rule_given settings)) line settings.viable) settings.limit input a b g h
     one_run a b (steps.no_memory point out reply before replies front) h m n = absurd (m refl)
     one_run a b g (steps.no_memory point out reply before replies front) m n = absurd (n refl)
 
