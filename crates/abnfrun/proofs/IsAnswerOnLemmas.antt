@@ -27,22 +27,15 @@ DerivationIsDecided = (has : ℕ → Bool) (rules : List Rule) (id : ℕ) (x : L
 abbrev pub FurthestIsFound : Type 0
 FurthestIsFound = (has : ℕ → Bool) (rules : List Rule) (id : ℕ) (x : List ℕ) → (n : ℕ) × IsFurthest has rules id x n
 
+abbrev pub FurthestIsOne : Type 0
+FurthestIsOne = (has : ℕ → Bool) (rules : List Rule) (id : ℕ) (x : List ℕ) (a b : ℕ) → IsFurthest has rules id x a → IsFurthest has rules id x b → a ≡ b
+
 module _ (has : ℕ → Bool) (rules : List Rule) (judged : ℕ) (x : List ℕ) where
   abbrev Derived : Type 0
   Derived = RuleDerives has rules judged x
 
   abbrev FurthestAt : ℕ → Type 0
   FurthestAt n = IsFurthest has rules judged x n
-
-  -- one longest viable beginning
-  pub one_furthest : (a b : ℕ) → FurthestAt a → FurthestAt b → a ≡ b
-  one_furthest a b f g = elim (cases_lt a b) [
-    | inl lt ↦ absurd (f.last b lt g.within (g.begins (omega (arith, lt))))
-    | inr ge ↦ elim (cases_lt b a) [
-      | inl lt ↦ absurd (g.last a lt f.within (f.begins (omega (arith, lt))))
-      | inr le ↦ omega (arith, ge, le)
-    ]
-  ]
 
   -- what is derived is its own longest viable beginning
   pub whole_is_furthest : Derived → FurthestAt (length x)
@@ -64,11 +57,11 @@ module _ (has : ℕ → Bool) (rules : List Rule) (judged : ℕ) (x : List ℕ) 
   told_no : (Known : Type 0) → ∥ Known ∥₁ → (Known → Derived → ⊥) → Derived → ⊥
   told_no Known known tells p = ∥∥₁_elim known ⊥_prop (λ k. tells k p)
 
-  told_furthest : (Known : Type 0) → ∥ Known ∥₁ → (n : ℕ) → (Known → FurthestAt n) → (m : ℕ) × FurthestAt m → FurthestAt n
-  told_furthest Known known n tells (m, found) = elim (cases_lt m n) [
-    | inl lt ↦ absurd (∥∥₁_elim known ⊥_prop (λ k. let e = one_furthest m n found (tells k) in omega (arith, e, lt)))
+  told_furthest : FurthestIsOne → (Known : Type 0) → ∥ Known ∥₁ → (n : ℕ) → (Known → FurthestAt n) → (m : ℕ) × FurthestAt m → FurthestAt n
+  told_furthest one Known known n tells (m, found) = elim (cases_lt m n) [
+    | inl lt ↦ absurd (∥∥₁_elim known ⊥_prop (λ k. let e = one has rules judged x m n found (tells k) in omega (arith, e, lt)))
     | inr ge ↦ elim (cases_lt n m) [
-      | inl lt ↦ absurd (∥∥₁_elim known ⊥_prop (λ k. let e = one_furthest m n found (tells k) in omega (arith, e, lt)))
+      | inl lt ↦ absurd (∥∥₁_elim known ⊥_prop (λ k. let e = one has rules judged x m n found (tells k) in omega (arith, e, lt)))
       | inr le ↦ let same : m ≡ n = omega (arith, ge, le) in subst (λ (v : ℕ). FurthestAt v) same found
     ]
   ]
@@ -78,12 +71,12 @@ module _ (has : ℕ → Bool) (rules : List Rule) (judged : ℕ) (x : List ℕ) 
   judge_says law flat true lowered tells = told_yes (IsLowered rules judged flat) lowered (λ l. (tells l).0 refl) (law has rules judged x)
   judge_says law flat false lowered tells = told_no (IsLowered rules judged flat) lowered (λ l p. both_ways false refl ((tells l).1 p))
 
-  pub verdict_says : DerivationIsDecided → FurthestIsFound → (flat : Flat) (told : Verdict) → ∥ TellsBeginnings has rules judged flat ∥₁ →
+  pub verdict_says : DerivationIsDecided → FurthestIsFound → FurthestIsOne → (flat : Flat) (told : Verdict) → ∥ TellsBeginnings has rules judged flat ∥₁ →
       (TellsBeginnings has rules judged flat → IsVerdict has rules judged x told) → IsVerdict has rules judged x told
-  verdict_says law found flat verdict.Yes pruned tells = told_yes (TellsBeginnings has rules judged flat) pruned tells (law has rules judged x)
-  verdict_says law found flat (verdict.No n) pruned tells = (
+  verdict_says law found one flat verdict.Yes pruned tells = told_yes (TellsBeginnings has rules judged flat) pruned tells (law has rules judged x)
+  verdict_says law found one flat (verdict.No n) pruned tells = (
     told_no (TellsBeginnings has rules judged flat) pruned (λ t. (tells t).0),
-    told_furthest (TellsBeginnings has rules judged flat) pruned n (λ t. (tells t).1) (found has rules judged x),
+    told_furthest one (TellsBeginnings has rules judged flat) pruned n (λ t. (tells t).1) (found has rules judged x),
   )
 
 -- each list of letters has an answer

@@ -8,7 +8,7 @@ use Rattle.abnfcheck.specs.Beginnings.{IsFurthest}
 use Rattle.abnfcheck.specs.Derivable.{RuleDerives}
 use Rattle.abnfrun.specs.AbnfReply.{AreLettersOf, IsAnswerTo, IsMember, Reaches}
 use Rattle.abnfrun.specs.LetterAnswers.{IsAnswerOn, torn}
-use Rattle.abnfrun.proofs.IsAnswerOnLemmas.{DerivationIsDecided, FurthestIsFound, letters_answered, one_furthest, whole_is_furthest}
+use Rattle.abnfrun.proofs.IsAnswerOnLemmas.{DerivationIsDecided, FurthestIsFound, FurthestIsOne, letters_answered, whole_is_furthest}
 use Rattle.letters.specs.Letters.{has}
 use Rattle.letters.specs.Utf8Text.{IsLongestText, IsText, Spells, end}
 use Rattle.letters.specs.declared.alphabet.Alphabet.{Alphabet}
@@ -116,7 +116,7 @@ line_answered law found text one Utf8 viable rules judged line = by viable (text
         (torn (length t.points) d.0, torn_answer true rules judged line bad refl k.0 t.points k.1 t.spelled d.0 d.1)
 
 -- and one alone
-module _ (one : TextIsOne) (letters : Alphabet) (rules : List Rule) (judged : ℕ) (line : List ℕ) where
+module _ (one : TextIsOne) (furthest : FurthestIsOne) (letters : Alphabet) (rules : List Rule) (judged : ℕ) (line : List ℕ) where
   one_letters : (letters : Alphabet) (x y : List ℕ) → AreLettersOf letters line x → AreLettersOf letters line y → x ≡ y
   one_letters Bytes x y e f = e ∙ sym f
   one_letters Utf8 x y e f = one (take e.0 line) x y e.2 (subst (λ (k : ℕ). Spells y (take k line)) (one_longest line f.0 e.0 f.1 e.1) f.2)
@@ -124,7 +124,7 @@ module _ (one : TextIsOne) (letters : Alphabet) (rules : List Rule) (judged : �
   one_reach : (n m : ℕ) → Reaches letters rules judged line n → Reaches letters rules judged line m → n ≡ m
   one_reach n m r q =
       let same = one_letters letters r.of_line q.of_line r.are q.are in
-      one_furthest (has letters) rules judged q.of_line n m (subst (λ (v : List ℕ). IsFurthest (has letters) rules judged v n) same r.furthest) q.furthest
+      furthest (has letters) rules judged q.of_line n m (subst (λ (v : List ℕ). IsFurthest (has letters) rules judged v n) same r.furthest) q.furthest
 
   pub one_answer : (viable : Bool) (a b : Answer) → IsAnswerTo letters viable rules judged line a → IsAnswerTo letters viable rules judged line b → a ≡ b
   one_answer viable Yes Yes g h = refl

@@ -1,6 +1,5 @@
 //! The lines of an input, judged by a grammar.
 ghost use Rattle.std.specs.Prelude.{◌≡◌, ℕ, Bool, List, false, true, length, map, IfOk};
-ghost use Rattle.abnfcheck.specs.Beginnings.{IsFurthest};
 ghost use Rattle.abnfread.specs.Element.{Rule};
 ghost use Rattle.abnfread.specs.Views.{rules_of};
 ghost use Rattle.abnfrun.specs.AbnfReply.{IsAnswerTo, JudgeReply};
@@ -13,7 +12,7 @@ ghost use Rattle.lines.specs.declared.answers.Answer.{Answer};
 ghost use Rattle.toolrun.specs.Stopped.{Performs};
 ghost use Rattle.toolrun.specs.Stream.{passed};
 
-use abnfcheck::{SoundAbnf, derivation_is_decided};
+use abnfcheck::{SoundAbnf, derivation_is_decided, furthest_is_found};
 use earley::{Chart, Verdict, judge, viable};
 use feed::Source;
 use flatgrammar::{Flat, lower};
@@ -42,11 +41,6 @@ pub struct Work {
     chart: Chart,
     points: Vec<CodePoint>,
 }
-
-fn furthest_is_found()
-    requires { (has : ℕ → Bool) (rules : List Rule) (id : ℕ) (x : List ℕ) → (n : ℕ) × IsFurthest has rules id x n }
-    ensures { (has : ℕ → Bool) (rules : List Rule) (id : ℕ) (x : List ℕ) → (n : ℕ) × IsFurthest has rules id x n }
-{}
 
 /// Returns nothing. Its contract is a law: each line has an answer.
 pub fn lines_have_answers()
