@@ -102,7 +102,7 @@ fn judge_torn(judges: &LineJudge<'_>, work: &mut Work, line: &[u8]) -> Result<An
     ensures { IfOk result (IsAnswerTo Alphabet.Utf8 judges.now.viable (rules_of judges.now.grammar.now.rules) judges.now.grammar.now.judged line.now) }
 {
     let len = utf8_len(line);
-    let is_text = decode(&line[..len], &mut work.points)?;
+    let _is_text = decode(&line[..len], &mut work.points)?;
     let said = judge_letters(judges, &mut work.chart, work.points.as_slice())?;
     Ok(torn_by(said, work.points.len()))
 }
