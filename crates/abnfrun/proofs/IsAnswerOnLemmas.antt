@@ -1,13 +1,13 @@
 -- The answer to a list of letters: that there is one, and that it is what the judge of letters tells.
 -- Serves: run_abnf (right)
-use Rattle.std.proofs.Common.{◌≡◌, ◌↔◌, ℕ, ◌<◌, Bool, true, false, List, [], ◌++◌, length, take, refl, sym, ◌∙◌, subst, arith, inl, inr}
+use Rattle.std.proofs.Common.{◌≡◌, ◌↔◌, ℕ, Bool, true, false, List, [], length, take, refl, sym, ◌∙◌, subst, arith, inl, inr}
 use Rattle.std.specs.Prelude.{IsTrue}
 use Rattle.std.proofs.lemmas.Bool.{both_ways, cases_lt}
 use Rattle.std.proofs.lemmas.List.{append-nil, take_all}
 use mathlib.Core.HLevel.{⊥_prop}
 use mathlib.Core.Logic.{∥∥₁_elim}
 use Rattle.abnfread.specs.Element.{Rule}
-use Rattle.abnfcheck.specs.Beginnings.{BeginsMember, IsFurthest}
+use Rattle.abnfcheck.specs.Beginnings.{IsFurthest}
 use Rattle.abnfcheck.specs.Decided.{Says}
 use Rattle.abnfcheck.specs.Derivable.{RuleDerives}
 use Rattle.abnfrun.specs.LetterAnswers.{IsAnswerOn}
