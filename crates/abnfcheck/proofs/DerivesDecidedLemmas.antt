@@ -1,6 +1,7 @@
--- Whether a rule derives a list of letters is decided: the members of a finite list of spans are marked until no more can be.
--- Serves: derivation_is_decided.
-use Rattle.std.proofs.Common.{◌≡◌, ℕ, zero, suc, ◌+◌, ◌-◌, ◌<◌, ◌≤◌, ◌⊎◌, inl, inr, Bool, true, false, ◌&&◌, ◌||◌, cond, eqb, ltb, leb, List, [], ◌∷◌, ◌++◌, length, Option, Some, None, refl, sym, ◌∙◌, ap, subst, arith, eqb-true, eq-eqb, ltb-true, lt-ltb, leb-true, le-leb, ⊎_elim}
+-- Whether a rule derives some letters that lead from a state of a finite automaton to another is decided: the members of a finite list of
+-- elements with two states are marked until no more can be.
+-- Serves: derivation_is_decided, furthest_is_found
+use Rattle.std.proofs.Common.{◌≡◌, ℕ, zero, suc, ◌+◌, ◌-◌, ◌<◌, ◌≤◌, ◌⊎◌, inl, inr, Bool, true, false, ◌&&◌, ◌||◌, cond, eqb, ltb, leb, List, [], ◌∷◌, ◌++◌, Option, Some, None, refl, sym, ◌∙◌, ap, subst, arith, eqb-true, eq-eqb, ltb-true, lt-ltb, leb-true, le-leb, ⊎_elim}
 use Rattle.std.specs.Prelude.{slice_get}
 use Rattle.ruletable.specs.Rules.{same_name}
 use Rattle.ruletable.specs.declared.table.NameCase.TheVariants.{Fold}
@@ -9,31 +10,31 @@ use Rattle.abnfread.specs.Element.{Element, Elements, Rule, bodies, body_of}
 use Rattle.abnfcheck.specs.Derivable as der
 use Rattle.abnfcheck.specs.Derivable.{small, StandsFor, Spelled, AreLetters, Derives, DerivesAll, DerivesSome, DerivesTimes, all_done, then, this, later, no_more, one_more, RuleDerives}
 use Rattle.abnfcheck.specs.Decided.{Says}
-use Rattle.abnfcheck.proofs.LiesLemmas.{Lies, here, step, join, split, ahead, only, all_of}
+use Rattle.abnfcheck.proofs.LeadsLemmas.{Leads, here, step, join, split}
 use Rattle.abnfcheck.proofs.FiniteLeastLemmas.{Listed, first, further, least_is_decided}
 
 -- tests
-and_first : (a b : Bool) → (a && b) ≡ true → a ≡ true
+pub and_first : (a b : Bool) → (a && b) ≡ true → a ≡ true
 and_first true b h = refl
 and_first false b h = absurd (cc h)
 
-and_second : (a b : Bool) → (a && b) ≡ true → b ≡ true
+pub and_second : (a b : Bool) → (a && b) ≡ true → b ≡ true
 and_second true b h = h
 and_second false b h = absurd (cc h)
 
-and_true : (a b : Bool) → a ≡ true → b ≡ true → (a && b) ≡ true
+pub and_true : (a b : Bool) → a ≡ true → b ≡ true → (a && b) ≡ true
 and_true true b h g = g
 and_true false b h g = absurd (cc h)
 
-or_true : (a b : Bool) → (a || b) ≡ true → (a ≡ true) ⊎ (b ≡ true)
+pub or_true : (a b : Bool) → (a || b) ≡ true → (a ≡ true) ⊎ (b ≡ true)
 or_true true b h = inl refl
 or_true false b h = inr h
 
-or_first : (a b : Bool) → a ≡ true → (a || b) ≡ true
+pub or_first : (a b : Bool) → a ≡ true → (a || b) ≡ true
 or_first true b h = refl
 or_first false b h = absurd (cc h)
 
-or_second : (a b : Bool) → b ≡ true → (a || b) ≡ true
+pub or_second : (a b : Bool) → b ≡ true → (a || b) ≡ true
 or_second true b h = refl
 or_second false b h = h
 
@@ -46,7 +47,7 @@ any_found : (n : ℕ) (f : ℕ → Bool) → any n f ≡ true → (k : ℕ) × (
 any_found zero f h = absurd (cc h)
 any_found (suc n) f h = ⊎_elim (λ is. (n, is)) (λ rest. any_found n f rest) (or_true (f n) (any n f) h)
 
-order : (j k : ℕ) → (j < k) ⊎ (k ≤ j)
+pub order : (j k : ℕ) → (j < k) ⊎ (k ≤ j)
 order zero zero = inr (omega arith)
 order zero (suc k) = inl (omega arith)
 order (suc j) zero = inr (omega arith)
@@ -265,7 +266,7 @@ body_in [] id d is = absurd (cc is)
 body_in (rule ∷ rules) zero d is = let same : rule.body ≡ d = cc is in on_left (universe rules) (subst (λ v. Listed v (subs rule.body)) same (itself rule.body))
 body_in (rule ∷ rules) (suc id) d is = on_right (subs rule.body) (body_in rules id d is)
 
--- an element and a span of the line
+-- an element and two states
 record Fact : Type 0 where
   el : Element
   from : ℕ
@@ -294,26 +295,78 @@ from_facts n (d ∷ ds) f h = ⊎_elim
     (λ r. let g = from_facts n ds f r in (further g.0, g.1, g.2))
     (one_side (each n (λ i. every n (λ j. fact d i j))) h)
 
-module _ (has : ℕ → Bool) (rules : List Rule) (x : List ℕ) where
-  -- leaves
-  abbrev stands : Bool → ℕ → Option ℕ → Bool
-  stands folds t None = false
-  stands true t (Some c) = eqb (small c) (small t)
-  stands false t (Some c) = eqb c t
+-- a letter that stands for another
+abbrev stands : Bool → ℕ → ℕ → Bool
+stands true t c = eqb (small c) (small t)
+stands false t c = eqb c t
 
+stands_for : (folds : Bool) (t c : ℕ) → stands folds t c ≡ true → StandsFor folds t c
+stands_for true t c h = eqb-true (small c) (small t) h
+stands_for false t c h = eqb-true c t h
+
+stands_true : (folds : Bool) (t c : ℕ) → StandsFor folds t c → stands folds t c ≡ true
+stands_true true t c h = eq-eqb (small c) (small t) h
+stands_true false t c h = eq-eqb c t h
+
+from_small : (b : Bool) (c : ℕ) → c ≤ cond b (c + 32) c
+from_small true c = omega arith
+from_small false c = omega arith
+
+to_small : (b : Bool) (c : ℕ) → cond b (c + 32) c ≤ c + 32
+to_small true c = omega arith
+to_small false c = omega arith
+
+stands_below : (folds : Bool) (t c : ℕ) → StandsFor folds t c → c < t + 33
+stands_below true t c h =
+    let low : c ≤ small c = from_small (ltb 64 c && ltb c 91) c in
+    let high : small t ≤ t + 32 = to_small (ltb 64 t && ltb t 91) t in
+    omega (arith, low, high, h)
+stands_below false t c h = omega (arith, h)
+
+-- The states are the numbers up to `last`. `goes i c k`: the letter c leads from i to k.
+module _ (has : ℕ → Bool) (rules : List Rule) (last : ℕ) (goes : ℕ → ℕ → ℕ → Bool) (within : (i c k : ℕ) → goes i c k ≡ true → k ≤ last) where
+  abbrev Goes : ℕ → ℕ → ℕ → Type 0
+  Goes i c k = goes i c k ≡ true
+
+  -- a letter below a bound that leads from i to a state, where f holds of both
+  abbrev moves : ℕ → ℕ → (ℕ → ℕ → Bool) → Bool
+  moves bound i f = any bound (λ c. any (last + 1) (λ k. goes i c k && f c k))
+
+  record Move (i : ℕ) (f : ℕ → ℕ → Bool) : Type 0 where
+    letter : ℕ
+    next : ℕ
+    moved : goes i letter next ≡ true
+    holds : f letter next ≡ true
+
+  move_of : (bound i : ℕ) (f : ℕ → ℕ → Bool) → moves bound i f ≡ true → Move i f
+  move_of bound i f h =
+      let one = any_found bound (λ c. any (last + 1) (λ k. goes i c k && f c k)) h in
+      let two = any_found (last + 1) (λ k. goes i one.0 k && f one.0 k) one.1 in
+      record {
+        letter = one.0;
+        next = two.0;
+        moved = and_first (goes i one.0 two.0) (f one.0 two.0) two.1;
+        holds = and_second (goes i one.0 two.0) (f one.0 two.0) two.1;
+      }
+
+  moves_by : (bound i c k : ℕ) (f : ℕ → ℕ → Bool) → c < bound → goes i c k ≡ true → f c k ≡ true → moves bound i f ≡ true
+  moves_by bound i c k f lt is h =
+      any_at bound c (λ c. any (last + 1) (λ k. goes i c k && f c k)) lt
+      (any_at (last + 1) k (λ k. goes i c k && f c k) (let le = within i c k is in omega (arith, le)) (and_true (goes i c k) (f c k) is h))
+
+  -- leaves
   abbrev reads_text : Bool → List ℕ → ℕ → ℕ → Bool
   reads_text folds [] i j = eqb i j
-  reads_text folds (t ∷ ts) i j = stands folds t (slice_get x i) && reads_text folds ts (i + 1) j
+  reads_text folds (t ∷ ts) i j = moves (t + 33) i (λ c k. stands folds t c && reads_text folds ts k j)
 
   abbrev reads_values : List ℕ → ℕ → ℕ → Bool
   reads_values [] i j = eqb i j
-  reads_values (v ∷ vs) i j = (stands false v (slice_get x i) && has v) && reads_values vs (i + 1) j
+  reads_values (v ∷ vs) i j = moves (v + 1) i (λ c k. (eqb c v && has v) && reads_values vs k j)
 
-  abbrev in_range : ℕ → ℕ → Option ℕ → Bool
-  in_range low high None = false
-  in_range low high (Some c) = (leb low c && leb c high) && has c
+  abbrev reads_range : ℕ → ℕ → ℕ → ℕ → Bool
+  reads_range low high i j = moves (high + 1) i (λ c k. ((leb low c && leb c high) && has c) && eqb k j)
 
-  -- an element with a span whose parts are marked
+  -- an element with two states whose parts are marked
   abbrev may : Option ℕ → Bool
   may None = true
   may (Some b) = ltb 0 b
@@ -323,12 +376,12 @@ module _ (has : ℕ → Bool) (rules : List Rule) (x : List ℕ) where
   of_body s (Some d) i j = s (fact d i j)
 
   abbrev both : (Fact → Bool) → Element → Element → ℕ → ℕ → Bool
-  both s d c i j = any (length x + 1) (λ m. s (fact d i m) && s (fact c m j))
+  both s d c i j = any (last + 1) (λ m. s (fact d i m) && s (fact c m j))
 
   abbrev grows : (Fact → Bool) → Element → ℕ → ℕ → Bool
   grows s (e.Text folds t) i j = reads_text folds t i j
   grows s (e.Values vs) i j = reads_values vs i j
-  grows s (e.Range low high) i j = in_range low high (slice_get x i) && eqb (i + 1) j
+  grows s (e.Range low high) i j = reads_range low high i j
   grows s (e.Concat e.none) i j = eqb i j
   grows s (e.Concat (e.more d es)) i j = both s d (e.Concat es) i j
   grows s (e.Alt e.none) i j = false
@@ -341,43 +394,41 @@ module _ (has : ℕ → Bool) (rules : List Rule) (x : List ℕ) where
   abbrev grow : (Fact → Bool) → Fact → Bool
   grow s f = grows s f.el f.from f.to
 
-  -- the span is a word that the element derives
+  -- some letters that the element derives lead from the one state to the other
   record Spans (f : Fact) : Type 0 where
     word : List ℕ
-    lies : Lies x f.from word f.to
+    leads : Leads Goes f.from word f.to
     derives : Derives has rules f.el word
 
-  stands_for : (folds : Bool) (t : ℕ) (o : Option ℕ) → stands folds t o ≡ true → (c : ℕ) × (o ≡ Some c) × StandsFor folds t c
-  stands_for folds t None h = absurd (cc h)
-  stands_for true t (Some c) h = (c, refl, eqb-true (small c) (small t) h)
-  stands_for false t (Some c) h = (c, refl, eqb-true c t h)
-
-  text_spans : (folds : Bool) (t : List ℕ) (i j : ℕ) → reads_text folds t i j ≡ true → (w : List ℕ) × Lies x i w j × Spelled folds t w
-  text_spans folds [] i j h = ([], subst (λ v. Lies x i [] v) (eqb-true i j h) here, Spelled.end)
+  text_spans : (folds : Bool) (t : List ℕ) (i j : ℕ) → reads_text folds t i j ≡ true → (w : List ℕ) × Leads Goes i w j × Spelled folds t w
+  text_spans folds [] i j h = ([], subst (λ v. Leads Goes i [] v) (eqb-true i j h) here, Spelled.end)
   text_spans folds (t ∷ ts) i j h =
-      let one = stands_for folds t (slice_get x i) (and_first (stands folds t (slice_get x i)) (reads_text folds ts (i + 1) j) h) in
-      let rest = text_spans folds ts (i + 1) j (and_second (stands folds t (slice_get x i)) (reads_text folds ts (i + 1) j) h) in
-      (one.0 ∷ rest.0, step one.1 rest.1, Spelled.next one.2 rest.2)
+      let m = move_of (t + 33) i (λ c k. stands folds t c && reads_text folds ts k j) h in
+      let one = stands_for folds t m.letter (and_first (stands folds t m.letter) (reads_text folds ts m.next j) m.holds) in
+      let rest = text_spans folds ts m.next j (and_second (stands folds t m.letter) (reads_text folds ts m.next j) m.holds) in
+      (m.letter ∷ rest.0, step m.moved rest.1, Spelled.next one rest.2)
 
-  values_span : (vs : List ℕ) (i j : ℕ) → reads_values vs i j ≡ true → Lies x i vs j × AreLetters has vs
-  values_span [] i j h = (subst (λ v. Lies x i [] v) (eqb-true i j h) here, tt)
+  values_span : (vs : List ℕ) (i j : ℕ) → reads_values vs i j ≡ true → Leads Goes i vs j × AreLetters has vs
+  values_span [] i j h = (subst (λ v. Leads Goes i [] v) (eqb-true i j h) here, tt)
   values_span (v ∷ vs) i j h =
-      let front = and_first (stands false v (slice_get x i) && has v) (reads_values vs (i + 1) j) h in
-      let one = stands_for false v (slice_get x i) (and_first (stands false v (slice_get x i)) (has v) front) in
-      let rest = values_span vs (i + 1) j (and_second (stands false v (slice_get x i) && has v) (reads_values vs (i + 1) j) h) in
-      (step (one.1 ∙ ap Some one.2) rest.0, (and_second (stands false v (slice_get x i)) (has v) front, rest.1))
+      let m = move_of (v + 1) i (λ c k. (eqb c v && has v) && reads_values vs k j) h in
+      let front = and_first (eqb m.letter v && has v) (reads_values vs m.next j) m.holds in
+      let same = eqb-true m.letter v (and_first (eqb m.letter v) (has v) front) in
+      let rest = values_span vs m.next j (and_second (eqb m.letter v && has v) (reads_values vs m.next j) m.holds) in
+      (step (subst (λ c. goes i c m.next ≡ true) same m.moved) rest.0, (and_second (eqb m.letter v) (has v) front, rest.1))
 
-  range_spans : (low high i j : ℕ) (o : Option ℕ) → slice_get x i ≡ o → (in_range low high o && eqb (i + 1) j) ≡ true → Spans (fact (e.Range low high) i j)
-  range_spans low high i j None is h = absurd (cc h)
-  range_spans low high i j (Some c) is h =
-      let inside = and_first ((leb low c && leb c high) && has c) (eqb (i + 1) j) h in
-      let ends = eqb-true (i + 1) j (and_second ((leb low c && leb c high) && has c) (eqb (i + 1) j) h) in
-      let bounds = and_first (leb low c && leb c high) (has c) inside in
+  range_spans : (low high i j : ℕ) → reads_range low high i j ≡ true → Spans (fact (e.Range low high) i j)
+  range_spans low high i j h =
+      let m = move_of (high + 1) i (λ c k. ((leb low c && leb c high) && has c) && eqb k j) h in
+      let inside = and_first ((leb low m.letter && leb m.letter high) && has m.letter) (eqb m.next j) m.holds in
+      let ends = eqb-true m.next j (and_second ((leb low m.letter && leb m.letter high) && has m.letter) (eqb m.next j) m.holds) in
+      let bounds = and_first (leb low m.letter && leb m.letter high) (has m.letter) inside in
       record {
-        word = c ∷ [];
-        lies = step is (subst (λ v. Lies x (i + 1) [] v) ends here);
-        derives = der.range (leb-true low c (and_first (leb low c) (leb c high) bounds)) (leb-true c high (and_second (leb low c) (leb c high) bounds))
-            (and_second (leb low c && leb c high) (has c) inside);
+        word = m.letter ∷ [];
+        leads = step m.moved (subst (λ v. Leads Goes m.next [] v) ends here);
+        derives = der.range (leb-true low m.letter (and_first (leb low m.letter) (leb m.letter high) bounds))
+            (leb-true m.letter high (and_second (leb low m.letter) (leb m.letter high) bounds))
+            (and_second (leb low m.letter && leb m.letter high) (has m.letter) inside);
       }
 
   members_of : {es : Elements} {w : List ℕ} → Derives has rules (e.Concat es) w → DerivesAll has rules es w
@@ -416,7 +467,7 @@ module _ (has : ℕ → Bool) (rules : List Rule) (x : List ℕ) where
 
     two_of : (d c : Element) (i j : ℕ) → both s d c i j ≡ true → Two d c i j
     two_of d c i j h =
-        let f = any_found (length x + 1) (λ m. s (fact d i m) && s (fact c m j)) h in
+        let f = any_found (last + 1) (λ m. s (fact d i m) && s (fact c m j)) h in
         record {
           mid = f.0;
           left = right (fact d i f.0) (and_first (s (fact d i f.0)) (s (fact c f.0 j)) f.1);
@@ -425,77 +476,79 @@ module _ (has : ℕ → Bool) (rules : List Rule) (x : List ℕ) where
 
     body_spans : (n : List ℕ) (i j : ℕ) (o : Option Element) → body_of rules n ≡ o → of_body s o i j ≡ true → Spans (fact (e.Name n) i j)
     body_spans n i j None is h = absurd (cc h)
-    body_spans n i j (Some d) is h = let p = right (fact d i j) h in record { word = p.word; lies = p.lies; derives = der.name is p.derives }
+    body_spans n i j (Some d) is h = let p = right (fact d i j) h in record { word = p.word; leads = p.leads; derives = der.name is p.derives }
 
     rep_spans : (a : ℕ) (b : Option ℕ) (d : Element) (i j : ℕ) → grows s (e.Rep a b d) i j ≡ true → Spans (fact (e.Rep a b d) i j)
     rep_spans a b d i j h = ⊎_elim
         (λ none.
         let le = leb-true a 0 (and_first (leb a 0) (eqb i j) none) in
-        record { word = []; lies = subst (λ v. Lies x i [] v) (eqb-true i j (and_second (leb a 0) (eqb i j) none)) here; derives = der.rep {k = 0} le (none_within b) no_more })
+        record { word = []; leads = subst (λ v. Leads Goes i [] v) (eqb-true i j (and_second (leb a 0) (eqb i j) none)) here; derives = der.rep {k = 0} le (none_within b) no_more })
         (λ some.
         let t = two_of d (e.Rep (a - 1) (less b) d) i j (and_second (may b) (both s d (e.Rep (a - 1) (less b) d) i j) some) in
         let r = turns_of t.rest.derives in
         let low = r.low in
         record {
           word = t.left.word ++ t.rest.word;
-          lies = join x t.left.lies t.rest.lies;
+          leads = join Goes t.left.leads t.rest.leads;
           derives = der.rep {k = suc r.count} (omega (arith, low)) (more_within r.count b (and_first (may b) (both s d (e.Rep (a - 1) (less b) d) i j) some) r.high) (one_more t.left.derives r.times);
         })
         (or_true (leb a 0 && eqb i j) (may b && both s d (e.Rep (a - 1) (less b) d) i j) h)
 
     grown_spans : (d : Element) (i j : ℕ) → grows s d i j ≡ true → Spans (fact d i j)
-    grown_spans (e.Text folds t) i j h = let r = text_spans folds t i j h in record { word = r.0; lies = r.1; derives = der.text r.2 }
-    grown_spans (e.Values vs) i j h = let r = values_span vs i j h in record { word = vs; lies = r.0; derives = der.values r.1 }
-    grown_spans (e.Range low high) i j h = range_spans low high i j (slice_get x i) refl h
-    grown_spans (e.Concat e.none) i j h = record { word = []; lies = subst (λ v. Lies x i [] v) (eqb-true i j h) here; derives = der.concat all_done }
+    grown_spans (e.Text folds t) i j h = let r = text_spans folds t i j h in record { word = r.0; leads = r.1; derives = der.text r.2 }
+    grown_spans (e.Values vs) i j h = let r = values_span vs i j h in record { word = vs; leads = r.0; derives = der.values r.1 }
+    grown_spans (e.Range low high) i j h = range_spans low high i j h
+    grown_spans (e.Concat e.none) i j h = record { word = []; leads = subst (λ v. Leads Goes i [] v) (eqb-true i j h) here; derives = der.concat all_done }
     grown_spans (e.Concat (e.more d es)) i j h =
         let t = two_of d (e.Concat es) i j h in
-        record { word = t.left.word ++ t.rest.word; lies = join x t.left.lies t.rest.lies; derives = der.concat (then t.left.derives (members_of t.rest.derives)) }
+        record { word = t.left.word ++ t.rest.word; leads = join Goes t.left.leads t.rest.leads; derives = der.concat (then t.left.derives (members_of t.rest.derives)) }
     grown_spans (e.Alt e.none) i j h = absurd (cc h)
     grown_spans (e.Alt (e.more d es)) i j h = ⊎_elim
-        (λ l. let p = right (fact d i j) l in record { word = p.word; lies = p.lies; derives = der.alt (this p.derives) })
-        (λ r. let p = right (fact (e.Alt es) i j) r in record { word = p.word; lies = p.lies; derives = der.alt (later (alternative_of p.derives)) })
+        (λ l. let p = right (fact d i j) l in record { word = p.word; leads = p.leads; derives = der.alt (this p.derives) })
+        (λ r. let p = right (fact (e.Alt es) i j) r in record { word = p.word; leads = p.leads; derives = der.alt (later (alternative_of p.derives)) })
         (or_true (s (fact d i j)) (s (fact (e.Alt es) i j)) h)
     grown_spans (e.Rep a b d) i j h = rep_spans a b d i j h
     grown_spans (e.Opt d) i j h = ⊎_elim
-        (λ none. record { word = []; lies = subst (λ v. Lies x i [] v) (eqb-true i j none) here; derives = der.opt_empty })
-        (λ some. let p = right (fact d i j) some in record { word = p.word; lies = p.lies; derives = der.opt p.derives })
+        (λ none. record { word = []; leads = subst (λ v. Leads Goes i [] v) (eqb-true i j none) here; derives = der.opt_empty })
+        (λ some. let p = right (fact d i j) some in record { word = p.word; leads = p.leads; derives = der.opt p.derives })
         (or_true (eqb i j) (s (fact d i j)) h)
     grown_spans (e.Name n) i j h = body_spans n i j (body_of rules n) refl h
     grown_spans (e.Prose t) i j h = absurd (cc h)
 
-  nowhere : {i j : ℕ} → Lies x i [] j → i ≡ j
+  nowhere : {i j : ℕ} → Leads Goes i [] j → i ≡ j
   nowhere here = refl
 
-  module _ (s : Fact → Bool) (closed : (f : Fact) → Listed f (facts (length x + 1) (universe rules)) → grow s f ≡ true → s f ≡ true) where
-    comes : (d : Element) (i j : ℕ) → Listed d (universe rules) → i ≤ length x → j ≤ length x → grows s d i j ≡ true → s (fact d i j) ≡ true
-    comes d i j h a b g = closed (fact d i j) (in_facts (length x + 1) i j (universe rules) d (omega (arith, a)) (omega (arith, b)) h) g
+  stays : {i j : ℕ} {w : List ℕ} → Leads Goes i w j → i ≤ last → j ≤ last
+  stays here le = le
+  stays (step {i = i} {k = k} {c = c} is l) le = stays l (within i c k is)
 
-    stands_true : (folds : Bool) (t c : ℕ) (o : Option ℕ) → o ≡ Some c → StandsFor folds t c → stands folds t o ≡ true
-    stands_true true t c o is h = rw is (eq-eqb (small c) (small t) h)
-    stands_true false t c o is h = rw is (eq-eqb c t h)
+  module _ (s : Fact → Bool) (closed : (f : Fact) → Listed f (facts (last + 1) (universe rules)) → grow s f ≡ true → s f ≡ true) where
+    comes : (d : Element) (i j : ℕ) → Listed d (universe rules) → i ≤ last → j ≤ last → grows s d i j ≡ true → s (fact d i j) ≡ true
+    comes d i j h a b g = closed (fact d i j) (in_facts (last + 1) i j (universe rules) d (omega (arith, a)) (omega (arith, b)) h) g
 
-    text_read : {folds : Bool} {t w : List ℕ} (i j : ℕ) → Spelled folds t w → Lies x i w j → reads_text folds t i j ≡ true
+    text_read : {folds : Bool} {t w : List ℕ} (i j : ℕ) → Spelled folds t w → Leads Goes i w j → reads_text folds t i j ≡ true
     text_read i j Spelled.end l = eq-eqb i j (nowhere l)
-    text_read {folds = folds} i j (Spelled.next {t = t} {c = c} {ts = ts} h d) (step is l) =
-        and_true (stands folds t (slice_get x i)) (reads_text folds ts (i + 1) j) (stands_true folds t c (slice_get x i) is h) (text_read (i + 1) j d l)
+    text_read {folds = folds} i j (Spelled.next {t = t} {c = c} {ts = ts} h d) (step {k = k} is l) =
+        moves_by (t + 33) i c k (λ c k. stands folds t c && reads_text folds ts k j) (stands_below folds t c h) is
+        (and_true (stands folds t c) (reads_text folds ts k j) (stands_true folds t c h) (text_read k j d l))
 
-    values_read : (vs : List ℕ) (i j : ℕ) → AreLetters has vs → Lies x i vs j → reads_values vs i j ≡ true
+    values_read : (vs : List ℕ) (i j : ℕ) → AreLetters has vs → Leads Goes i vs j → reads_values vs i j ≡ true
     values_read [] i j all l = eq-eqb i j (nowhere l)
-    values_read (v ∷ vs) i j all (step is l) =
-        and_true (stands false v (slice_get x i) && has v) (reads_values vs (i + 1) j)
-        (and_true (stands false v (slice_get x i)) (has v) (stands_true false v v (slice_get x i) is refl) all.0) (values_read vs (i + 1) j all.1 l)
+    values_read (v ∷ vs) i j all (step {k = k} is l) =
+        moves_by (v + 1) i v k (λ c k. (eqb c v && has v) && reads_values vs k j) (omega arith) is
+        (and_true (eqb v v && has v) (reads_values vs k j) (and_true (eqb v v) (has v) (eq-eqb v v refl) all.0) (values_read vs k j all.1 l))
 
-    range_read : (low high i j c : ℕ) → low ≤ c → c ≤ high → has c ≡ true → Lies x i (c ∷ []) j → (in_range low high (slice_get x i) && eqb (i + 1) j) ≡ true
-    range_read low high i j c a b h (step is l) =
-        and_true (in_range low high (slice_get x i)) (eqb (i + 1) j)
-        (rw is (and_true (leb low c && leb c high) (has c) (and_true (leb low c) (leb c high) (le-leb low c a) (le-leb c high b)) h)) (eq-eqb (i + 1) j (nowhere l))
+    range_read : (low high i j c : ℕ) → low ≤ c → c ≤ high → has c ≡ true → Leads Goes i (c ∷ []) j → reads_range low high i j ≡ true
+    range_read low high i j c a b h (step {k = k} is l) =
+        moves_by (high + 1) i c k (λ c k. ((leb low c && leb c high) && has c) && eqb k j) (omega (arith, b)) is
+        (and_true ((leb low c && leb c high) && has c) (eqb k j)
+        (and_true (leb low c && leb c high) (has c) (and_true (leb low c) (leb c high) (le-leb low c a) (le-leb c high b)) h) (eq-eqb k j (nowhere l)))
 
-    both_come : (d c : Element) (i m j : ℕ) → m ≤ length x → s (fact d i m) ≡ true → s (fact c m j) ≡ true → both s d c i j ≡ true
-    both_come d c i m j le one two = any_at (length x + 1) m (λ m. s (fact d i m) && s (fact c m j)) (omega (arith, le)) (and_true (s (fact d i m)) (s (fact c m j)) one two)
+    both_come : (d c : Element) (i m j : ℕ) → m ≤ last → s (fact d i m) ≡ true → s (fact c m j) ≡ true → both s d c i j ≡ true
+    both_come d c i m j le one two = any_at (last + 1) m (λ m. s (fact d i m) && s (fact c m j)) (omega (arith, le)) (and_true (s (fact d i m)) (s (fact c m j)) one two)
 
     mutual
-      derived : {d : Element} {w : List ℕ} → Derives has rules d w → (i j : ℕ) → Lies x i w j → Listed d (universe rules) → i ≤ length x → j ≤ length x → s (fact d i j) ≡ true
+      derived : {d : Element} {w : List ℕ} → Derives has rules d w → (i j : ℕ) → Leads Goes i w j → Listed d (universe rules) → i ≤ last → j ≤ last → s (fact d i j) ≡ true
       derived (der.text {folds = folds} {t = t} h) i j l at a b = comes (e.Text folds t) i j at a b (text_read i j h l)
       derived (der.values {vs = vs} h) i j l at a b = comes (e.Values vs) i j at a b (values_read vs i j h l)
       derived (der.range {low = low} {high = high} {c = c} p q h) i j l at a b = comes (e.Range low high) i j at a b (range_read low high i j c p q h l)
@@ -507,60 +560,64 @@ module _ (has : ℕ → Bool) (rules : List Rule) (x : List ℕ) where
           comes (e.Opt d) i j at a b (or_second (eqb i j) (s (fact d i j)) (derived h i j l (universe_parts rules (e.Opt d) d at operand) a b))
       derived (der.name {n = n} {e = d} is h) i j l at a b = comes (e.Name n) i j at a b (rw is (derived h i j l (named_in rules n d is) a b))
 
-      all_derived : {es : Elements} {w : List ℕ} → DerivesAll has rules es w → (i j : ℕ) → Lies x i w j → Listed (e.Concat es) (universe rules) → i ≤ length x → j ≤ length x →
+      all_derived : {es : Elements} {w : List ℕ} → DerivesAll has rules es w → (i j : ℕ) → Leads Goes i w j → Listed (e.Concat es) (universe rules) → i ≤ last → j ≤ last →
           s (fact (e.Concat es) i j) ≡ true
       all_derived all_done i j l at a b = comes (e.Concat e.none) i j at a b (eq-eqb i j (nowhere l))
       all_derived (then {e = d} {es = es} {w = w} h hs) i j l at a b =
-          let c = split x w l in
-          let le = ahead x c.right in
-          let mid : c.mid ≤ length x = omega (arith, le, b) in
+          let c = split Goes w l in
+          let mid = stays c.left a in
           comes (e.Concat (e.more d es)) i j at a b (both_come d (e.Concat es) i c.mid j mid
           (derived h i c.mid c.left (universe_parts rules (e.Concat (e.more d es)) d at concat_first) a mid)
           (all_derived hs c.mid j c.right (universe_parts rules (e.Concat (e.more d es)) (e.Concat es) at concat_rest) mid b))
 
-      some_derived : {es : Elements} {w : List ℕ} → DerivesSome has rules es w → (i j : ℕ) → Lies x i w j → Listed (e.Alt es) (universe rules) → i ≤ length x → j ≤ length x →
+      some_derived : {es : Elements} {w : List ℕ} → DerivesSome has rules es w → (i j : ℕ) → Leads Goes i w j → Listed (e.Alt es) (universe rules) → i ≤ last → j ≤ last →
           s (fact (e.Alt es) i j) ≡ true
       some_derived (this {e = d} {es = es} h) i j l at a b = comes (e.Alt (e.more d es)) i j at a b (or_first (s (fact d i j)) (s (fact (e.Alt es) i j))
           (derived h i j l (universe_parts rules (e.Alt (e.more d es)) d at alt_first) a b))
       some_derived (later {e = d} {es = es} h) i j l at a b = comes (e.Alt (e.more d es)) i j at a b (or_second (s (fact d i j)) (s (fact (e.Alt es) i j))
           (some_derived h i j l (universe_parts rules (e.Alt (e.more d es)) (e.Alt es) at alt_rest) a b))
 
-      times_derived : {d : Element} {k : ℕ} {w : List ℕ} → DerivesTimes has rules d k w → (i j : ℕ) → Lies x i w j → (least : ℕ) (most : Option ℕ) → least ≤ k → der.Within k most →
-          Listed (e.Rep least most d) (universe rules) → i ≤ length x → j ≤ length x → s (fact (e.Rep least most d) i j) ≡ true
+      times_derived : {d : Element} {k : ℕ} {w : List ℕ} → DerivesTimes has rules d k w → (i j : ℕ) → Leads Goes i w j → (least : ℕ) (most : Option ℕ) → least ≤ k → der.Within k most →
+          Listed (e.Rep least most d) (universe rules) → i ≤ last → j ≤ last → s (fact (e.Rep least most d) i j) ≡ true
       times_derived (no_more {e = d}) i j l least most low high at a b = comes (e.Rep least most d) i j at a b
           (or_first (leb least 0 && eqb i j) (may most && both s d (e.Rep (least - 1) (less most) d) i j) (and_true (leb least 0) (eqb i j) (le-leb least 0 low) (eq-eqb i j (nowhere l))))
       times_derived (one_more {e = d} {k = k} {w = w} h hs) i j l least most low high at a b =
-          let c = split x w l in
-          let le = ahead x c.right in
-          let mid : c.mid ≤ length x = omega (arith, le, b) in
+          let c = split Goes w l in
+          let mid = stays c.left a in
           let left = less_within k most high in
           comes (e.Rep least most d) i j at a b (or_second (leb least 0 && eqb i j) (may most && both s d (e.Rep (least - 1) (less most) d) i j)
           (and_true (may most) (both s d (e.Rep (least - 1) (less most) d) i j) left.0 (both_come d (e.Rep (least - 1) (less most) d) i c.mid j mid
           (derived h i c.mid c.left (universe_parts rules (e.Rep least most d) d at turn) a mid)
           (times_derived hs c.mid j c.right (least - 1) (less most) (omega (arith, low)) left.1 (universe_parts rules (e.Rep least most d) (e.Rep (least - 1) (less most) d) at turns_left) mid b))))
 
-  span_is_decided : (f : Fact) → Listed f (facts (length x + 1) (universe rules)) → (said : Bool) × Says (Spans f) said
-  span_is_decided f at = least_is_decided (facts (length x + 1) (universe rules)) grow Spans
+  span_is_decided : (f : Fact) → Listed f (facts (last + 1) (universe rules)) → (said : Bool) × Says (Spans f) said
+  span_is_decided f at = least_is_decided (facts (last + 1) (universe rules)) grow Spans
       (λ s right f g. grown_spans s right f.el f.from f.to g)
-      (λ s closed f here p. let r = from_facts (length x + 1) (universe rules) f here in derived s closed p.derives f.from f.to p.lies r.0 (let a = r.1 in omega (arith, a)) (let b = r.2 in omega (arith, b)))
+      (λ s closed f here p. let r = from_facts (last + 1) (universe rules) f here in derived s closed p.derives f.from f.to p.leads r.0 (let a = r.1 in omega (arith, a)) (let b = r.2 in omega (arith, b)))
       f at
 
-  whole_word : (id : ℕ) (d : Element) → slice_get (bodies rules) id ≡ Some d → (said : Bool) → Says (Spans (fact d 0 (length x))) said → (yes : Bool) × Says (RuleDerives has rules id x) yes
-  whole_word id d is true p = (true, record { body = d; is = is; derives = subst (λ v. Derives has rules d v) (only x p.lies (all_of x)) p.derives })
-  whole_word id d is false p = (
+  -- some letters that the rule of that id derives lead from i to j
+  pub record RuleLeads (id i j : ℕ) : Type 0 where
+    pub word : List ℕ
+    pub leads : Leads Goes i word j
+    pub derives : RuleDerives has rules id word
+
+  body_leads : (id i j : ℕ) (d : Element) → slice_get (bodies rules) id ≡ Some d → (said : Bool) → Says (Spans (fact d i j)) said → (yes : Bool) × Says (RuleLeads id i j) yes
+  body_leads id i j d is true p = (true, record { word = p.word; leads = p.leads; derives = record { body = d; is = is; derives = p.derives } })
+  body_leads id i j d is false p = (
     false,
-    λ r. let same : r.body ≡ d = cc (r.is, is) in
-        p (record { word = x; lies = all_of x; derives = subst (λ v. Derives has rules v x) same r.derives }),
+    λ r. let same : r.derives.body ≡ d = cc (r.derives.is, is) in
+        p (record { word = r.word; leads = r.leads; derives = subst (λ v. Derives has rules v r.word) same r.derives.derives }),
   )
 
-  pub rule_derives_is_decided : (id : ℕ) → (yes : Bool) × Says (RuleDerives has rules id x) yes
-  rule_derives_is_decided id = by (slice_get (bodies rules) id) refl
+  pub rule_leads_is_decided : (id i j : ℕ) → i ≤ last → j ≤ last → (yes : Bool) × Says (RuleLeads id i j) yes
+  rule_leads_is_decided id i j a b = by (slice_get (bodies rules) id) refl
     where
-      by : (o : Option Element) → slice_get (bodies rules) id ≡ o → (yes : Bool) × Says (RuleDerives has rules id x) yes
-      by None is = (false, λ r. none_some (sym is ∙ r.is))
+      by : (o : Option Element) → slice_get (bodies rules) id ≡ o → (yes : Bool) × Says (RuleLeads id i j) yes
+      by None is = (false, λ r. none_some (sym is ∙ r.derives.is))
         where
           none_some : {d : Element} → None ≡ Some d → ⊥
           none_some h = absurd (cc h)
       by (Some d) is =
-          let f = span_is_decided (fact d 0 (length x)) (in_facts (length x + 1) 0 (length x) (universe rules) d (omega arith) (omega arith) (body_in rules id d is)) in
-          whole_word id d is f.0 f.1
+          let f = span_is_decided (fact d i j) (in_facts (last + 1) i j (universe rules) d (omega (arith, a)) (omega (arith, b)) (body_in rules id d is)) in
+          body_leads id i j d is f.0 f.1

@@ -1,11 +1,13 @@
 pub mod AbnfNotesLemmas
 mod AimLemmas
+mod BeginsMemberLemmas
 mod DerivesDecidedLemmas
 mod ElementNeedsLemmas
 mod FiniteLeastLemmas
 mod GraphLemmas
 mod JoinLemmas
 mod JoinedRulesLemmas
+pub mod LeadsLemmas
 pub mod LiesLemmas
 mod NameIdsLemmas
 mod NameMarksLemmas

@@ -1,6 +1,7 @@
 pub mod AbnfGrammar
 pub mod AbnfNotes
 pub mod AbnfUses
+pub mod Beginnings
 pub mod Decided
 pub mod Derivable
 pub mod Joined

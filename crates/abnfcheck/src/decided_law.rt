@@ -1,10 +1,18 @@
-//! A law of derivation.
-ghost use Rattle.std.specs.Prelude.{ℕ, Bool, List};
+//! Laws of derivation.
+ghost use Rattle.std.specs.Prelude.{◌≡◌, ℕ, Bool, List};
 ghost use Rattle.abnfread.specs.Element.{Rule};
+ghost use Rattle.abnfcheck.specs.Beginnings.{IsFurthest};
 ghost use Rattle.abnfcheck.specs.Decided.{Says};
 ghost use Rattle.abnfcheck.specs.Derivable.{RuleDerives};
 
 /// Returns nothing. Its contract is a law: for every list of letters either a rule derives it or it does not.
 pub fn derivation_is_decided()
     ensures { (has : ℕ → Bool) (rules : List Rule) (id : ℕ) (x : List ℕ) → (yes : Bool) × Says (RuleDerives has rules id x) yes }
+{}
+
+/// Returns nothing. Its contract is a law: the longest viable beginning of every list of letters has one length.
+pub fn furthest_is_found()
+    ensures found { (has : ℕ → Bool) (rules : List Rule) (id : ℕ) (x : List ℕ) → (n : ℕ) × IsFurthest has rules id x n }
+    ensures one { (has : ℕ → Bool) (rules : List Rule) (id : ℕ) (x : List ℕ) (a b : ℕ) →
+        IsFurthest has rules id x a → IsFurthest has rules id x b → a ≡ b }
 {}

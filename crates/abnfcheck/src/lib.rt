@@ -15,7 +15,7 @@ mod rule_marks;
 mod sound_abnf;
 
 pub use abnf_check::{Checked, check_abnf};
-pub use decided_law::derivation_is_decided;
+pub use decided_law::{derivation_is_decided, furthest_is_found};
 pub use joined::join;
 pub use notes_law::one_list_of_abnf_notes;
 pub use productive_marks::productive;

@@ -9,13 +9,16 @@ use Rattle.std.specs.Prelude.{Contains}
 use Rattle.abnfread.specs.AbnfReading.{Reads, IsFaultOf}
 use Rattle.abnfread.specs.AbnfTable.{body_in, earlies}
 use Rattle.abnfread.specs.CoreRules.{core_list}
-use Rattle.abnfread.specs.Element.{Definition}
+use Rattle.abnfread.specs.Element.{Definition, Rule}
 use Rattle.abnfread.proofs.AbnfFaultLemmas.{one-reading, no-fault}
 use Rattle.abnfcheck.proofs.AbnfNotesLemmas.{notes_same, those_same}
 use Rattle.abnfrun.specs.AbnfAnswers.{AbnfStates, refused, noted, checked, judges, again, printed, no_memory}
 use Rattle.abnfrun.specs.AbnfNoted.{file_rules, all_rules, again_in, judged_of, AreNotesOn, IsRefusedFor, AreAgain, rule_given}
-use Rattle.abnfrun.specs.AbnfReply.{refusal, notes_alone, printed_rules, JudgeReply}
+use Rattle.abnfrun.specs.AbnfReply.{AnswersFor, refusal, notes_alone, printed_rules, JudgeReply}
+use Rattle.abnfrun.proofs.IsAnswerOnLemmas.{FurthestIsOne}
+use Rattle.abnfrun.proofs.IsAnswerToLemmas.{TextIsOne, one_answer}
 use Rattle.abnfrun.proofs.OneFaultLemmas.{one-fault}
+use Rattle.lines.specs.declared.answers.Answer.{Answer}
 use Rattle.lines.proofs.LinesReplyLemmas.{one_lines_reply}
 use Rattle.toolrun.specs.Input.{Input}
 use Rattle.toolrun.specs.NotesText.{notes_text}
@@ -23,6 +26,10 @@ use Rattle.toolrun.specs.Reply.{Reply}
 use Rattle.toolrun.specs.RunSteps as steps
 use Rattle.toolrun.specs.declared.settings.Mode.TheVariants.{Run, Check, Print}
 use Rattle.toolrun.specs.declared.settings.Settings.{Settings}
+
+-- each line has one answer
+abbrev AnswersAreOne : Settings → Type 0
+AnswersAreOne settings = (rules : List Rule) (judged : ℕ) (line : List ℕ) (a b : Answer) → AnswersFor rules judged settings line a → AnswersFor rules judged settings line b → a ≡ b
 
 -- the notes on redefinitions are one list
 one_again : (definitions : List Definition) (a b : List Said) → AreAgain definitions a → AreAgain definitions b → a ≡ b
@@ -64,14 +71,16 @@ module _ (settings : Settings) (input : Input) where
   parts text notes reply (printed ds r are mode) ample = inr (record { definitions = ds; reads = r; states = is_printed are mode })
   parts text notes reply no_memory ample = absurd (ample refl)
 
-  module _ (definitions : List Definition) where
+  module _ (one : AnswersAreOne settings) (definitions : List Definition) where
     one_text : (a b : List Said) → AreNotesOn definitions (rule_given settings) a → AreNotesOn definitions (rule_given settings) b → notes_text a ≡ notes_text b
     one_text a b g h =
         ap notes_text (notes_same (file_rules definitions) (all_rules definitions) (again_in definitions) (earlies (body_in core_list) 0 [] definitions) (rule_given settings) a b g h)
 
     one_run : (a b : Reply) → JudgeReply (all_rules definitions) (judged_of definitions (rule_given settings)) settings input a →
         JudgeReply (all_rules definitions) (judged_of definitions (rule_given settings)) settings input b → a.status ≢ 5 → b.status ≢ 5 → a ≡ b
-    one_run a b (steps.replied r g) (steps.replied q h) m n = one_lines_reply _ settings.limit input a b g h
+    one_run a b (steps.replied r g) (steps.replied q h) m n =
+        one_lines_reply (AnswersFor (all_rules definitions) (judged_of definitions (rule_given settings)) settings)
+        (one (all_rules definitions) (judged_of definitions (rule_given settings))) settings.limit input a b g h
     one_run a b (steps.no_memory point out reply before replies front) h m n = absurd (m refl)
     one_run a b g (steps.no_memory point out reply before replies front) m n = absurd (n refl)
 
@@ -102,18 +111,18 @@ module _ (settings : Settings) (input : Input) where
     one_of notes others a b (is_printed g mode) (is_again w h some mode') m n = absurd (some (one_again definitions w [] h g))
     one_of notes others a b (is_printed g mode) (is_printed h mode') m n = (refl, refl)
 
-  one_in : (text notes others : List ℕ) (a b : Reply) → IsRefusal text notes a ⊎ IsRead text notes a → IsRefusal text others b ⊎ IsRead text others b → a.status ≢ 5 → b.status ≢ 5 →
+  one_in : AnswersAreOne settings → (text notes others : List ℕ) (a b : Reply) → IsRefusal text notes a ⊎ IsRead text notes a → IsRefusal text others b ⊎ IsRead text others b → a.status ≢ 5 → b.status ≢ 5 →
       (notes ≡ others) × (a ≡ b)
-  one_in text notes others a b (inl g) (inl h) m n =
+  one_in one text notes others a b (inl g) (inl h) m n =
       (g.none ∙ sym h.none, g.told ∙ ap refusal (one-fault text g.fault h.fault g.is_fault h.is_fault g.other h.other) ∙ sym h.told)
-  one_in text notes others a b (inl g) (inr h) m n = absurd (let other = g.other in other (no-fault text h.definitions g.fault h.reads g.is_fault))
-  one_in text notes others a b (inr g) (inl h) m n = absurd (let other = h.other in other (no-fault text g.definitions h.fault g.reads h.is_fault))
-  one_in text notes others a b (inr g) (inr h) m n =
+  one_in one text notes others a b (inl g) (inr h) m n = absurd (let other = g.other in other (no-fault text h.definitions g.fault h.reads g.is_fault))
+  one_in one text notes others a b (inr g) (inl h) m n = absurd (let other = h.other in other (no-fault text g.definitions h.fault g.reads h.is_fault))
+  one_in one text notes others a b (inr g) (inr h) m n =
       let same : h.definitions ≡ g.definitions = one-reading text h.definitions g.definitions h.reads g.reads in
-      one_of g.definitions notes others a b g.states (subst (λ (ds : List Definition). StatesOf ds others b) same h.states) m n
+      one_of one g.definitions notes others a b g.states (subst (λ (ds : List Definition). StatesOf ds others b) same h.states) m n
 
 -- one list of notes and one reply
-pub one_statement : (text : List ℕ) (settings : Settings) (input : Input) (notes others : List ℕ) (a b : Reply) →
+pub one_statement : TextIsOne → FurthestIsOne → (text : List ℕ) (settings : Settings) (input : Input) (notes others : List ℕ) (a b : Reply) →
     AbnfStates text settings input notes a → AbnfStates text settings input others b → a.status ≢ 5 → b.status ≢ 5 → (notes ≡ others) × (a ≡ b)
-one_statement text settings input notes others a b g h m n =
-    one_in settings input text notes others a b (parts settings input text notes a g m) (parts settings input text others b h n) m n
+one_statement one furthest text settings input notes others a b g h m n =
+    one_in settings input (λ rules judged line. one_answer one furthest settings.letters rules judged line settings.viable) text notes others a b (parts settings input text notes a g m) (parts settings input text others b h n) m n

@@ -17,10 +17,11 @@ use Rattle.abnfrun.specs.AbnfAnswers.{AbnfStates, refused, noted, checked, judge
 use Rattle.abnfrun.specs.AbnfChecking.{IsChecked}
 use Rattle.abnfrun.specs.AbnfNoted.{rule_given}
 use Rattle.abnfrun.specs.AbnfPrinting.{IsPrintable, Prints}
-use Rattle.abnfrun.specs.AbnfReply.{IsMember, printed_rules}
+use Rattle.abnfrun.specs.AbnfReply.{AnswersFor, printed_rules}
 use Rattle.abnfrun.specs.AbnfTasks.{abnf_does, check_task, run_task, unread}
 use Rattle.abnfrun.specs.declared.abnf_task.AbnfTask.{AbnfTask}
-use Rattle.lines.specs.InputLines.{IsAnswer, none}
+use Rattle.lines.specs.InputLines.{none}
+use Rattle.lines.specs.declared.answers.Answer.{Answer}
 use Rattle.lines.proofs.LinesLemmas.{lines_go_on}
 use Rattle.toolrun.specs.Input.{Input}
 use Rattle.toolrun.specs.NotesText.{notes_text}
@@ -54,7 +55,7 @@ module _ (text : List ℕ) (settings : Settings) where
   unread-plan (fault.NumberTooLarge line) faulty = refused-plan (fault.NumberTooLarge line) faulty (λ e. absurd (cc))
 
   -- a grammar that was checked, to judge lines
-  pub run_plan : ((rules : List Rule) (judged : ℕ) (line : List ℕ) → (yes : Bool) × IsAnswer (IsMember settings.letters rules judged line) yes) →
+  pub run_plan : ((rules : List Rule) (judged : ℕ) (line : List ℕ) → (said : Answer) × AnswersFor rules judged settings line said) →
       (notes : List Said) (sound : Option Grammar) → settings.mode ≡ Run → IsChecked text (rule_given settings) notes sound →
       Planned (notes_text notes) (run_task sound)
   run_plan decided notes None run c = record {
@@ -64,7 +65,7 @@ module _ (text : List ℕ) (settings : Settings) where
   run_plan decided notes (Some g) run c = record {
     stated = λ input reply is. let kept = c.ready.1 in let at = c.ready.2 in judges c.definitions notes reply c.reads c.are_notes c.ready.0 run (rw (kept, at) at is);
     some = λ input.
-        let goes = lines_go_on (IsMember settings.letters (rules_of g.rules) g.judged) settings.limit input (decided (rules_of g.rules) g.judged) (record { place = 0; count = 0; all = true }) [] none in
+        let goes = lines_go_on (AnswersFor (rules_of g.rules) g.judged settings) settings.limit input (decided (rules_of g.rules) g.judged) (record { place = 0; count = 0; all = true }) [] none in
         (goes.reply, replied goes.reply goes.replies);
   }
 

@@ -2,5 +2,6 @@ pub mod AbnfStatesLemmas
 pub mod AbnfTaskLemmas
 pub mod AllRulesLemmas
 pub mod AreRedefinitionsLemmas
-pub mod JudgeReplyLemmas
+pub mod IsAnswerOnLemmas
+pub mod IsAnswerToLemmas
 pub mod OneFaultLemmas

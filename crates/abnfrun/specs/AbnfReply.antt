@@ -1,15 +1,18 @@
 -- What a run of a grammar on an input states.
-use Rattle.std.specs.Prelude.{ℕ, List, []}
+use Rattle.std.specs.Prelude.{◌≡◌, ℕ, Bool, true, false, List, [], take}
 use Rattle.ruletable.specs.Faults.{fault_text}
 use Rattle.ruletable.specs.declared.fault.ReadFault.{ReadFault}
 use Rattle.abnfread.specs.Element.{Rule}
+use Rattle.abnfcheck.specs.Beginnings.{IsFurthest}
 use Rattle.abnfcheck.specs.Derivable.{RuleDerives}
 use Rattle.abnfprint.specs.CanonicalAbnf.{grammar_text}
 use Rattle.letters.specs.Letters.{has}
-use Rattle.letters.specs.Utf8Text.{Spells}
+use Rattle.letters.specs.Utf8Text.{IsLongestText, Spells}
 use Rattle.letters.specs.declared.alphabet.Alphabet.{Alphabet}
 use Rattle.letters.specs.declared.alphabet.Alphabet.TheVariants.{Bytes, Utf8}
 use Rattle.lines.specs.InputLines.{Ends, Lines, LinesReply, place_taken}
+use Rattle.lines.specs.declared.answers.Answer.{Answer}
+use Rattle.lines.specs.declared.answers.Answer.TheVariants.{Yes, No, NoAfter}
 use Rattle.toolrun.specs.Input.{Input}
 use Rattle.toolrun.specs.Reply.{Reply}
 use Rattle.toolrun.specs.RunSteps.{Replies}
@@ -33,11 +36,32 @@ abbrev pub IsMember : Alphabet → List Rule → ℕ → List ℕ → Type 0
 IsMember Bytes rules judged line = RuleDerives (has Bytes) rules judged line
 IsMember Utf8 rules judged line = (points : List ℕ) × Spells points line × RuleDerives (has Utf8) rules judged points
 
+-- The letters of a line: its bytes, or the code points of its longest beginning that is UTF-8, which is the whole line if the line is UTF-8.
+abbrev pub AreLettersOf : Alphabet → List ℕ → List ℕ → Type 0
+AreLettersOf Bytes line x = x ≡ line
+AreLettersOf Utf8 line x = (k : ℕ) × IsLongestText line k × Spells x (take k line)
+
+-- the longest viable beginning of a line's letters has n letters
+pub record Reaches (letters : Alphabet) (rules : List Rule) (judged : ℕ) (line : List ℕ) (n : ℕ) : Type 0 where
+  pub of_line : List ℕ
+  pub are : AreLettersOf letters line of_line
+  pub furthest : IsFurthest (has letters) rules judged of_line n
+
+-- The answer to a line: yes exactly if the judged rule derives it. If viable beginnings are asked for, a no tells the length of the longest one.
+abbrev pub IsAnswerTo : Alphabet → Bool → List Rule → ℕ → List ℕ → Answer → Type 0
+IsAnswerTo letters viable rules judged line Yes = IsMember letters rules judged line
+IsAnswerTo letters viable rules judged line No = (viable ≡ false) × (IsMember letters rules judged line → ⊥)
+IsAnswerTo letters viable rules judged line (NoAfter n) = (viable ≡ true) × (IsMember letters rules judged line → ⊥) × Reaches letters rules judged line n
+
+-- the answers to lines that settings ask for
+abbrev pub AnswersFor : List Rule → ℕ → Settings → List ℕ → Answer → Type 0
+AnswersFor rules judged settings = IsAnswerTo settings.letters settings.viable rules judged
+
 -- each line of the input is judged by that rule, and no growth is refused
 abbrev pub JudgeReplies : List Rule → ℕ → Settings → Input → Reply → Type 0
 JudgeReplies rules judged settings input reply =
-    Replies (Lines (IsMember settings.letters rules judged) settings.limit input) (Ends (IsMember settings.letters rules judged) settings.limit input) (place_taken settings.limit input) reply
+    Replies (Lines (AnswersFor rules judged settings) settings.limit input) (Ends (AnswersFor rules judged settings) settings.limit input) (place_taken settings.limit input) reply
 
 -- each line of the input is judged by that rule, or the first ones where a growth is refused
 abbrev pub JudgeReply : List Rule → ℕ → Settings → Input → Reply → Type 0
-JudgeReply rules judged settings input reply = LinesReply (IsMember settings.letters rules judged) settings.limit input reply
+JudgeReply rules judged settings input reply = LinesReply (AnswersFor rules judged settings) settings.limit input reply

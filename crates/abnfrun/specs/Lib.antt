@@ -4,3 +4,4 @@ pub mod AbnfNoted
 pub mod AbnfPrinting
 pub mod AbnfReply
 pub mod AbnfTasks
+pub mod LetterAnswers

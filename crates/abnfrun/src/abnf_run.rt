@@ -11,8 +11,8 @@ use ruletable::Sink;
 use std::alloc::Global;
 use toolrun::{Settings, Status, run_tool};
 
-/// Judges the lines that a reader gives by a grammar: writes `yes` or `no` for each on `out`, and why it stopped on `err`.
-/// None of the three may have failed before.
+/// Judges the lines that a reader gives by a grammar: writes the answer to each on `out`, and why it stopped on `err`. None
+/// of the three may have failed before.
 ///
 /// - The grammar is in ABNF (RFC 5234, RFC 7405). One that has a fault is told by that fault's line, status `Refused`, and
 ///   nothing is read.
@@ -23,7 +23,10 @@ use toolrun::{Settings, Status, run_tool};
 /// - A line ends before an LF, and a last piece without LF is a line if it is not empty; a CR belongs to its line. It is
 ///   answered by `yes` exactly if the judged rule derives it: the rule named in the settings, or else the first. The letters
 ///   of a line are its bytes; or, if the settings say so, its code points in UTF-8, and then a line that is not UTF-8 is
-///   answered by `no`. The run ends behind the last line with `Done` if all answers are `yes`, else with `NoMatch`.
+///   not derived. The run ends behind the last line with `Done` if all answers are `yes`, else with `NoMatch`.
+/// - A line that is not derived is answered by `no`. If the settings ask for viable beginnings, it is answered by `no N`: the
+///   first N of its letters, and no more, begin something that the judged rule derives. Of a line that is not UTF-8 these
+///   letters are those of its longest beginning that is.
 /// - A line of more than `limit` bytes is not answered: `line K longer than L bytes`, `Overlong`; K counts from 1.
 /// - After a fault of the reader a line is judged only if its LF was read: else `read error`, `Fault`. So is an input of
 ///   9,223,372,036,854,775,807 bytes taken to end.

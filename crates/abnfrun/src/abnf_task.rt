@@ -10,11 +10,10 @@ ghost use Rattle.toolrun.specs.Plan.{IsPlan, does_of};
 ghost use Rattle.toolrun.specs.declared.settings.Mode.TheVariants.{Run, Check, Print};
 
 use crate::abnf_printing::{Printable, print_rules, read_again};
-use crate::line_judge::judge_lines;
-use abnfcheck::{Checked, SoundAbnf, check_abnf, derivation_is_decided};
+use crate::line_judge::{judge_lines, lines_have_answers};
+use abnfcheck::{Checked, SoundAbnf, check_abnf};
 use abnfread::{Abnf, read_abnf};
 use feed::Source;
-use letters::utf8_is_decided;
 use ruletable::{Memory, ReadFault, Sink, WriteFault};
 use std::alloc::Global;
 use toolrun::{Mode, Plan, Settings, Status, Stop, Tool};
@@ -79,8 +78,7 @@ fn plan_run(alloc: Global, grammar: &[u8], settings: &Settings<'_>) -> Plan<Abnf
     requires { settings.now.mode ≡ Run }
     ensures { IsPlan (AbnfStates grammar.now settings.now) (notes_text (map said_of result.notes.items)) (does_of (λ t. abnf_does t settings.now) result.task) }
 {
-    derivation_is_decided();
-    utf8_is_decided();
+    lines_have_answers();
     match checked(alloc, grammar, settings.start) {
         Ok(Checked { notes, sound }) => Plan {
             notes,

@@ -9,11 +9,17 @@ ghost use Rattle.toolrun.specs.Input.{Input};
 ghost use Rattle.toolrun.specs.Reply.{Reply};
 ghost use Rattle.toolrun.specs.declared.settings.Settings.{Settings};
 
+use abnfcheck::furthest_is_found;
+use letters::utf8_is_decided;
+
 /// A list of rules, a judged rule and settings have at most one reply to an input.
 pub fn one_reply_of_abnf()
     ensures { (rules : List Rule) (judged : ℕ) (settings : Settings) (input : Input) (a b : Reply) →
         JudgeReplies rules judged settings input a → JudgeReplies rules judged settings input b → a ≡ b }
-{}
+{
+    furthest_is_found();
+    utf8_is_decided();
+}
 
 /// A text in ABNF is a grammar of at most one list of definitions, or has at most one fault, and never both; but memory may
 /// be refused in reading it. A text, settings and an input have at most one list of notes and one reply, but for those
@@ -27,4 +33,7 @@ pub fn one_statement_of_abnf()
     ensures whole { (text : List ℕ) (settings : Settings) (input : Input) (notes others : List ℕ) (a b : Reply) →
         AbnfStates text settings input notes a → AbnfStates text settings input others b → a.status ≢ 5 → b.status ≢ 5 →
         (notes ≡ others) × (a ≡ b) }
-{}
+{
+    furthest_is_found();
+    utf8_is_decided();
+}

@@ -1,29 +1,38 @@
 //! The lines of an input, judged by a grammar.
-ghost use Rattle.std.specs.Prelude.{◌≡◌, false, IfOk};
+ghost use Rattle.std.specs.Prelude.{◌≡◌, ℕ, Bool, List, false, true, length, map, IfOk};
+ghost use Rattle.abnfread.specs.Element.{Rule};
 ghost use Rattle.abnfread.specs.Views.{rules_of};
-ghost use Rattle.abnfrun.specs.AbnfReply.{IsMember, JudgeReply};
+ghost use Rattle.abnfrun.specs.AbnfReply.{IsAnswerTo, JudgeReply};
+ghost use Rattle.abnfrun.specs.LetterAnswers.{IsAnswerOn, torn};
 ghost use Rattle.flatgrammar.specs.Lowered.{IsLowered};
-ghost use Rattle.lines.specs.InputLines.{IsAnswer};
+ghost use Rattle.flatgrammar.specs.ToldBeginnings.{TellsBeginnings};
+ghost use Rattle.letters.specs.Letters.{has};
+ghost use Rattle.letters.specs.Utf8Text.{IsText};
+ghost use Rattle.lines.specs.declared.answers.Answer.{Answer};
 ghost use Rattle.toolrun.specs.Stopped.{Performs};
 ghost use Rattle.toolrun.specs.Stream.{passed};
 
-use abnfcheck::{SoundAbnf, derivation_is_decided};
-use earley::{Chart, judge};
+use abnfcheck::{SoundAbnf, derivation_is_decided, furthest_is_found};
+use earley::{Chart, Verdict, judge, viable};
 use feed::Source;
 use flatgrammar::{Flat, lower};
-use letters::{Alphabet, CodePoint, decode, utf8_is_decided};
-use lines::{Judge, run_lines};
+use letters::{Alphabet, CodePoint, Letter, decode, utf8_is_decided, utf8_len};
+use lines::{Answer, Judge, run_lines};
 use ruletable::{Memory, Sink, WriteFault};
 use std::alloc::Global;
 use toolrun::{Settings, Stop};
+use viable::lower_viable;
 
-/// Tells whether the judged rule of a grammar derives a line, whose letters are of this alphabet.
+/// Answers lines by a grammar: whether its judged rule derives them, and how far they begin something that it derives if
+/// that is asked for.
 #[derive(Drop)]
 pub struct LineJudge<'a> {
     grammar: &'a SoundAbnf,
     letters: Alphabet,
+    viable: bool,
     flat: Flat,
-    ghost lowered: { ∥ IsLowered (rules_of grammar.now.rules) grammar.now.judged flat ∥₁ },
+    ghost lowered: { viable ≡ false → ∥ IsLowered (rules_of grammar.now.rules) grammar.now.judged flat ∥₁ },
+    ghost tells: { viable ≡ true → ∥ TellsBeginnings (has letters) (rules_of grammar.now.rules) grammar.now.judged flat ∥₁ },
 }
 
 /// The memory that lines are judged in: the item sets of a line, and its code points.
@@ -33,33 +42,93 @@ pub struct Work {
     points: Vec<CodePoint>,
 }
 
-/// Returns whether the judged rule derives the bytes of a line. `Memory` if an allocation fails.
-fn judge_bytes(judges: &LineJudge<'_>, chart: &mut Chart, line: &[u8]) -> Result<bool, Memory>
-    ensures { IfOk result (λ yes. IsAnswer (IsMember Alphabet.Bytes (rules_of judges.now.grammar.now.rules) judges.now.grammar.now.judged line.now) yes) }
+/// Returns nothing. Its contract is a law: each line has an answer.
+pub fn lines_have_answers()
+    ensures { (letters : Alphabet) (viable : Bool) (rules : List Rule) (judged : ℕ) (line : List ℕ) →
+        (said : Answer) × IsAnswerTo letters viable rules judged line said }
 {
     derivation_is_decided();
-    let told = judge(chart, &judges.flat, line)?;
-    Ok(told)
+    furthest_is_found();
+    utf8_is_decided();
 }
 
-/// Returns whether a line is UTF-8 and the judged rule derives its code points. `Memory` if an allocation fails.
-fn judge_points(judges: &LineJudge<'_>, work: &mut Work, line: &[u8]) -> Result<bool, Memory>
-    ensures { IfOk result (λ yes. IsAnswer (IsMember Alphabet.Utf8 (rules_of judges.now.grammar.now.rules) judges.now.grammar.now.judged line.now) yes) }
+/// Returns the answer to the letters of a line. `Memory` if an allocation fails.
+fn judge_letters<L: Letter>(
+    judges: &LineJudge<'_>,
+    chart: &mut Chart,
+    line: &[L],
+) -> Result<Answer, Memory>
+    requires { judges.now.letters ≡ L.ALPHABET }
+    ensures { IfOk result (IsAnswerOn (has L.ALPHABET) judges.now.viable (rules_of judges.now.grammar.now.rules) judges.now.grammar.now.judged (map L.number line.now)) }
 {
     derivation_is_decided();
+    furthest_is_found();
+    if judges.viable {
+        return match viable(chart, &judges.flat, line)? {
+            Verdict::Yes => Ok(Answer::Yes),
+            Verdict::No(n) => Ok(Answer::NoAfter(n)),
+        };
+    }
+    let yes = judge(chart, &judges.flat, line)?;
+    if yes { Ok(Answer::Yes) } else { Ok(Answer::No) }
+}
+
+/// Returns the answer to a line of bytes. `Memory` if an allocation fails.
+fn judge_bytes(judges: &LineJudge<'_>, chart: &mut Chart, line: &[u8]) -> Result<Answer, Memory>
+    requires { judges.now.letters ≡ Alphabet.Bytes }
+    ensures { IfOk result (IsAnswerTo Alphabet.Bytes judges.now.viable (rules_of judges.now.grammar.now.rules) judges.now.grammar.now.judged line.now) }
+{
+    let said = judge_letters(judges, chart, line)?;
+    Ok(said)
+}
+
+/// Returns the answer to a line by the answer to its longest beginning that is UTF-8, of so many letters, where that is
+/// not the whole line.
+fn torn_by(said: Answer, count: usize) -> Answer
+    ensures { result ≡ torn count said }
+{
+    match said {
+        Answer::Yes => Answer::NoAfter(count),
+        Answer::No => Answer::No,
+        Answer::NoAfter(n) => Answer::NoAfter(n),
+    }
+}
+
+/// Returns the answer to a line that is not UTF-8. `Memory` if an allocation fails.
+fn judge_torn(judges: &LineJudge<'_>, work: &mut Work, line: &[u8]) -> Result<Answer, Memory>
+    requires letters { judges.now.letters ≡ Alphabet.Utf8 }
+    requires viable { judges.now.viable ≡ true }
+    requires torn { IsText line.now → ⊥ }
+    ensures { IfOk result (IsAnswerTo Alphabet.Utf8 judges.now.viable (rules_of judges.now.grammar.now.rules) judges.now.grammar.now.judged line.now) }
+{
+    let len = utf8_len(line);
+    let _is_text = decode(&line[..len], &mut work.points)?;
+    let said = judge_letters(judges, &mut work.chart, work.points.as_slice())?;
+    Ok(torn_by(said, work.points.len()))
+}
+
+/// Returns the answer to a line of code points. `Memory` if an allocation fails.
+fn judge_points(judges: &LineJudge<'_>, work: &mut Work, line: &[u8]) -> Result<Answer, Memory>
+    requires { judges.now.letters ≡ Alphabet.Utf8 }
+    ensures { IfOk result (IsAnswerTo Alphabet.Utf8 judges.now.viable (rules_of judges.now.grammar.now.rules) judges.now.grammar.now.judged line.now) }
+{
     utf8_is_decided();
     let is_text = decode(line, &mut work.points)?;
-    if !is_text {
-        return Ok(false);
+    if is_text {
+        let said = judge_letters(judges, &mut work.chart, work.points.as_slice())?;
+        return Ok(said);
     }
-    let told = judge(&mut work.chart, &judges.flat, work.points.as_slice())?;
-    Ok(told)
+    if judges.viable {
+        let said = judge_torn(judges, work, line)?;
+        return Ok(said);
+    }
+    Ok(Answer::No)
 }
 
 impl Judge<Work> for LineJudge<'_> {
-    ghost member = { λ j. IsMember j.letters (rules_of j.grammar.now.rules) j.grammar.now.judged };
+    ghost told = { λ j. IsAnswerTo j.letters j.viable (rules_of j.grammar.now.rules) j.grammar.now.judged };
 
-    fn judge(&self, work: &mut Work, line: &[u8]) -> Result<bool, Memory> {
+    fn judge(&self, work: &mut Work, line: &[u8]) -> Result<Answer, Memory> {
         match self.letters {
             Alphabet::Bytes => judge_bytes(self, &mut work.chart, line),
             Alphabet::Utf8 => judge_points(self, work, line),
@@ -67,12 +136,25 @@ impl Judge<Work> for LineJudge<'_> {
     }
 
     fn decided(&self) {
-        derivation_is_decided();
-        utf8_is_decided();
+        lines_have_answers();
     }
 }
 
-/// Judges the lines of what a reader gives by a grammar, and writes `yes` or `no` for each.
+/// Lowers a grammar as settings ask for: its productive parts alone if they ask for viable beginnings. `Memory` if an
+/// allocation fails.
+fn lowered(alloc: Global, grammar: &SoundAbnf, settings: &Settings<'_>) -> Result<Flat, Memory>
+    ensures lowered { IfOk result (λ flat. settings.now.viable ≡ false →
+        IsLowered (rules_of grammar.now.rules) grammar.now.judged flat) }
+    ensures tells { IfOk result (λ flat. settings.now.viable ≡ true →
+        TellsBeginnings (has settings.now.letters) (rules_of grammar.now.rules) grammar.now.judged flat) }
+{
+    if settings.viable {
+        return lower_viable(alloc, grammar, settings.letters);
+    }
+    lower(alloc, grammar)
+}
+
+/// Judges the lines of what a reader gives by a grammar, and writes the answer to each: `yes`, `no`, or `no` and a number.
 pub fn judge_lines<R: Source, O: Sink>(
     alloc: Global,
     grammar: &SoundAbnf,
@@ -84,14 +166,14 @@ pub fn judge_lines<R: Source, O: Sink>(
     ensures { Performs (JudgeReply (rules_of grammar.now.rules) grammar.now.judged settings.now)
         (passed R.remaining R.failed reader.old reader.new) (passed O.contents O.failed out.old out.new) result }
 {
-    derivation_is_decided();
-    utf8_is_decided();
-    let Ok(flat) = lower(alloc, grammar) else {
+    lines_have_answers();
+    let Ok(flat) = lowered(alloc, grammar, settings) else {
         return Ok(Stop::NoMemory);
     };
     let judge = LineJudge {
         grammar,
         letters: settings.letters,
+        viable: settings.viable,
         flat,
     };
     let mut work = Work {

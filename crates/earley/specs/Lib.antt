@@ -6,5 +6,6 @@ pub mod HeadTables
 pub mod ItemRows
 pub mod ItemSets
 pub mod ReadItems
+pub mod Verdicts
 pub mod Waiting
 pub mod Worklist

@@ -9,6 +9,8 @@ mod item;
 mod items;
 mod letter_law;
 mod read_front;
+mod verdict;
 mod wait;
 
 pub use chart::{Chart, judge};
+pub use verdict::{Verdict, viable};

@@ -11,4 +11,5 @@ pub mod OwnBlocks
 pub mod Places
 pub mod Roots
 pub mod TableViews
+pub mod ToldBeginnings
 pub mod Ways

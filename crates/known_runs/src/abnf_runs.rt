@@ -276,11 +276,12 @@ fn settings_of(
         start,
         raw: false,
         letters,
+        viable: false,
     }
 }
 
 // Returns the status of a run, how many bytes are left on its tape, and both papers.
-fn run_over<'a>(
+pub fn run_over<'a>(
     alloc: Global,
     grammar: &[u8],
     settings: &Settings<'_>,

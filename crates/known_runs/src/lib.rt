@@ -16,3 +16,5 @@ mod command_words;
 mod fakes;
 #[cfg(test)]
 mod tests;
+#[cfg(test)]
+mod viable_runs;

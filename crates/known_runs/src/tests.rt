@@ -38,6 +38,7 @@ fn limited(limit: usize) -> Settings<'static> {
         start: None,
         raw: false,
         letters: Alphabet::Bytes,
+        viable: false,
     }
 }
 

@@ -1,6 +1,6 @@
--- The lines of an input and how a run of them ends are determined, and so is its reply.
+-- The lines of an input and how a run of them ends are determined, and so is its reply, where each line has one answer.
 -- Serves: one_reply_of_abnf, one_statement_of_abnf
-use Rattle.std.proofs.Common.{◌≡◌, ◌≢◌, ℕ, suc, ◌<◌, ◌≤◌, ◌&&◌, Bool, true, false, List, [], ◌∷◌, ◌++◌, length, take, drop, get_or, refl, sym, ◌∙◌, ap, subst, arith, inl, inr, length-append, length-take}
+use Rattle.std.proofs.Common.{◌≡◌, ◌≢◌, ℕ, suc, ◌<◌, ◌≤◌, ◌&&◌, true, false, List, [], ◌∷◌, ◌++◌, length, take, drop, get_or, refl, sym, ◌∙◌, ap, subst, arith, inl, inr, length-append, length-take}
 use Rattle.std.proofs.Math.Seq.{get_or-append_seam}
 use Rattle.std.proofs.lemmas.Bool.{cases_lt}
 use Rattle.std.proofs.lemmas.List.{get_or-take}
@@ -12,7 +12,8 @@ use Rattle.toolrun.specs.Status.{code_of}
 use Rattle.toolrun.specs.Stop.{message_of, status_of}
 use Rattle.toolrun.specs.declared.stop.Stop.{Stop}
 use Rattle.toolrun.specs.declared.stop.Stop.TheVariants as stop
-use Rattle.lines.specs.InputLines.{HasNoEnd, IsAnswer, answer, status_after, behind, place_taken, IsLine, Lines, none, one_more, Ends, broken, overlong, finished, last_line}
+use Rattle.lines.specs.InputLines.{HasNoEnd, answer_text, says_yes, status_after, behind, place_taken, IsLine, Lines, none, one_more, Ends, broken, overlong, finished, last_line}
+use Rattle.lines.specs.declared.answers.Answer.{Answer}
 use Rattle.lines.specs.declared.line_loop.At.{At}
 
 -- what stands before the first LF is one
@@ -41,19 +42,12 @@ has_end_within n xs line after cut le h =
     get_or-take (suc n) xs (length line) 0 (omega (arith, le)) ∙ ap (λ (t : List ℕ). get_or t (length line) 0) cut ∙ get_or-append_seam line 10 after 0 in
     All-get_or (λ v. v ≢ 10) (take (suc n) xs) (length line) 0 (omega (arith, l, le, length-take (suc n) xs, length-append line (10 ∷ after))) h here
 
--- one answer
-one_answer : (P : Type 0) (a b : Bool) → IsAnswer P a → IsAnswer P b → a ≡ b
-one_answer P true true h k = refl
-one_answer P true false h k = absurd (k h)
-one_answer P false true h k = absurd (h k)
-one_answer P false false h k = refl
-
-module _ (Member : List ℕ → Type 0) (limit : ℕ) (input : Input) where
+module _ (Told : List ℕ → Answer → Type 0) (one_answer : (line : List ℕ) (a b : Answer) → Told line a → Told line b → a ≡ b) (limit : ℕ) (input : Input) where
   abbrev LinesTo : At → List ℕ → Type 0
-  LinesTo at text = Lines Member limit input at text
+  LinesTo at text = Lines Told limit input at text
 
   abbrev EndsAt : At → List ℕ → Stop → Type 0
-  EndsAt at last why = Ends Member limit input at last why
+  EndsAt at last why = Ends Told limit input at last why
 
   abbrev LineAt : ℕ → List ℕ → Type 0
   LineAt s line = IsLine limit input s line
@@ -68,14 +62,14 @@ module _ (Member : List ℕ → Type 0) (limit : ℕ) (input : Input) where
     texts : text ≡ more
 
   -- both go on by a line
-  same_next : (at other : At) (text more line next : List ℕ) (said told : Bool) → Same at other text more → LineAt at.place line → LineAt other.place next →
-      IsAnswer (Member line) said → IsAnswer (Member next) told →
-      Same (behind at (length line) said) (behind other (length next) told) (text ++ answer said) (more ++ answer told)
+  same_next : (at other : At) (text more line next : List ℕ) (said told : Answer) → Same at other text more → LineAt at.place line → LineAt other.place next →
+      Told line said → Told next told →
+      Same (behind at (length line) said) (behind other (length next) told) (text ++ answer_text said) (more ++ answer_text told)
   same_next at other text more line next said told same h k s t =
       let place = same.places in
       let words = same.texts in
       let lines : line ≡ next = one_line at.place line next h (subst (λ (v : At). LineAt v.place next) (sym place) k) in
-      let answers : said ≡ told = one_answer (Member line) said told s (subst (λ (l : List ℕ). IsAnswer (Member l) told) (sym lines) t) in
+      let answers : said ≡ told = one_answer line said told s (subst (λ (l : List ℕ). Told l told) (sym lines) t) in
       record { places = cc; texts = cc }
 
   -- as many lines lead to one place
@@ -141,11 +135,11 @@ module _ (Member : List ℕ → Type 0) (limit : ℕ) (input : Input) where
   one_end at last other why end (last_line said fine some free short says) (overlong free' long) = absurd (omega (arith, short, long))
   one_end at last other why end (last_line said fine some free short says) (finished fine' empty) = absurd (some empty)
   one_end at last other why end (last_line said fine some free short says) (last_line told fine' some' free' short' tells) =
-      let answers : said ≡ told = one_answer (Member (drop at.place input.bytes)) said told says tells in
-      record { lasts = ap answer answers; stops = ap (λ (b : Bool). stop.Quiet (status_after (at.all && b))) answers }
+      let answers : said ≡ told = one_answer (drop at.place input.bytes) said told says tells in
+      record { lasts = ap answer_text answers; stops = ap (λ (v : Answer). stop.Quiet (status_after (at.all && says_yes v))) answers }
 
   abbrev HasReply : Reply → Type 0
-  HasReply reply = Replies (Lines Member limit input) (Ends Member limit input) (place_taken limit input) reply
+  HasReply reply = Replies (Lines Told limit input) (Ends Told limit input) (place_taken limit input) reply
 
   -- two replies behind as many lines
   reply_there : (a b : Reply) (r : HasReply a) (q : HasReply b) → Same r.point q.point r.before q.before → a ≡ b

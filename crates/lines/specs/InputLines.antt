@@ -1,5 +1,5 @@
 -- The lines of an input, the answers to them, and how a run of them ends.
-use Rattle.std.specs.Prelude.{◌≡◌, ◌≢◌, ℕ, suc, ◌+◌, ◌<◌, ◌≤◌, ◌==◌, ◌&&◌, ⊤, min, Bool, true, false, List, [], ◌∷◌, ◌++◌, length, take, drop, codes, if◌then◌else◌}
+use Rattle.std.specs.Prelude.{◌≡◌, ◌≢◌, ℕ, suc, ◌+◌, ◌<◌, ◌≤◌, ◌==◌, ◌&&◌, ⊤, min, Bool, true, false, List, [], ◌∷◌, ◌++◌, length, take, drop, codes, decimal, if◌then◌else◌}
 use Rattle.std.specs.List.{All}
 use Rattle.feed.specs.declared.held.Held.{Held}
 use Rattle.feed.specs.declared.held.Held.TheVariants as held
@@ -10,6 +10,8 @@ use Rattle.toolrun.specs.declared.status.Status.{Status}
 use Rattle.toolrun.specs.declared.status.Status.TheVariants.{Done, NoMatch}
 use Rattle.toolrun.specs.declared.stop.Stop.{Stop}
 use Rattle.toolrun.specs.declared.stop.Stop.TheVariants as stop
+use Rattle.lines.specs.declared.answers.Answer.{Answer}
+use Rattle.lines.specs.declared.answers.Answer.TheVariants.{Yes, No, NoAfter}
 use Rattle.lines.specs.declared.line.Line.{Line}
 use Rattle.lines.specs.declared.line.Line.TheVariants.{Whole, Last, Overlong, End, Broken}
 use Rattle.lines.specs.declared.line_loop.At.{At}
@@ -18,15 +20,17 @@ use Rattle.lines.specs.declared.line_loop.At.{At}
 abbrev pub HasNoEnd : List ℕ → Type 0
 HasNoEnd bytes = All (λ b. b ≢ 10) bytes
 
--- yes: it holds; no: it does not
-abbrev pub IsAnswer : Type 0 → Bool → Type 0
-IsAnswer P true = P
-IsAnswer P false = P → ⊥
-
 -- what is written for an answer
-abbrev pub answer : Bool → List ℕ
-answer true = codes "yes\n"
-answer false = codes "no\n"
+abbrev pub answer_text : Answer → List ℕ
+answer_text Yes = codes "yes\n"
+answer_text No = codes "no\n"
+answer_text (NoAfter n) = codes "no " ++ decimal n ++ codes "\n"
+
+-- whether an answer is yes
+abbrev pub says_yes : Answer → Bool
+says_yes Yes = true
+says_yes No = false
+says_yes (NoAfter n) = false
 
 -- how a run ends whose lines were all answered by yes, or not
 abbrev pub status_after : Bool → Status
@@ -34,8 +38,8 @@ status_after true = Done
 status_after false = NoMatch
 
 -- behind a line of n bytes and its LF
-abbrev pub behind : At → ℕ → Bool → At
-behind at n said = record { place = at.place + n + 1; count = at.count + 1; all = at.all && said }
+abbrev pub behind : At → ℕ → Answer → At
+behind at n said = record { place = at.place + n + 1; count = at.count + 1; all = at.all && says_yes said }
 
 -- how many bytes are taken where the last line is looked for at s
 abbrev pub taken_at : ℕ → Input → ℕ → ℕ
@@ -72,12 +76,13 @@ line_without held.Full len = Overlong
 line_without held.End len = if len == 0 then End else Last len
 line_without held.Fault len = Broken
 
-module _ (Member : List ℕ → Type 0) (limit : ℕ) (input : Input) where
+-- Told says which answer is that of a line.
+module _ (Told : List ℕ → Answer → Type 0) (limit : ℕ) (input : Input) where
   -- the lines up to a place, and their answers
   pub data Lines : At → List ℕ → Type 0 where
     none : Lines (record { place = 0; count = 0; all = true }) []
-    one_more : (at : At) (before line : List ℕ) (said : Bool) → Lines at before → IsLine limit input at.place line → IsAnswer (Member line) said →
-        Lines (behind at (length line) said) (before ++ answer said)
+    one_more : (at : At) (before line : List ℕ) (said : Answer) → Lines at before → IsLine limit input at.place line → Told line said →
+        Lines (behind at (length line) said) (before ++ answer_text said)
 
   -- how a run ends there, and the answer to a last line without LF
   pub data Ends (at : At) : List ℕ → Stop → Type 0 where
@@ -85,10 +90,10 @@ module _ (Member : List ℕ → Type 0) (limit : ℕ) (input : Input) where
     overlong : HasNoEnd (take (suc limit) (drop at.place input.bytes)) → limit < length (drop at.place input.bytes) →
         Ends at [] (stop.LongLine (at.count + 1) limit)
     finished : input.fault ≡ false → drop at.place input.bytes ≡ [] → Ends at [] (stop.Quiet (status_after at.all))
-    last_line : (said : Bool) → input.fault ≡ false → drop at.place input.bytes ≢ [] → HasNoEnd (drop at.place input.bytes) →
-        length (drop at.place input.bytes) ≤ limit → IsAnswer (Member (drop at.place input.bytes)) said →
-        Ends at (answer said) (stop.Quiet (status_after (at.all && said)))
+    last_line : (said : Answer) → input.fault ≡ false → drop at.place input.bytes ≢ [] → HasNoEnd (drop at.place input.bytes) →
+        length (drop at.place input.bytes) ≤ limit → Told (drop at.place input.bytes) said →
+        Ends at (answer_text said) (stop.Quiet (status_after (at.all && says_yes said)))
 
 -- what a run of the lines of an input states
-abbrev pub LinesReply : (List ℕ → Type 0) → ℕ → Input → Reply → Type 0
-LinesReply Member limit input reply = RunStates (Lines Member limit input) (Ends Member limit input) (place_taken limit input) reply
+abbrev pub LinesReply : (List ℕ → Answer → Type 0) → ℕ → Input → Reply → Type 0
+LinesReply Told limit input reply = RunStates (Lines Told limit input) (Ends Told limit input) (place_taken limit input) reply

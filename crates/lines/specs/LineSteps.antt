@@ -6,26 +6,27 @@ use Rattle.ruletable.specs.declared.sink.WriteFault.{WriteFault}
 use Rattle.toolrun.specs.Input.{Input}
 use Rattle.toolrun.specs.declared.stop.Stop.{Stop}
 use Rattle.toolrun.specs.declared.stop.Stop.TheVariants.{Quiet, NoMemory}
-use Rattle.lines.specs.InputLines.{Ends, IsAnswer, IsLine, answer, status_after}
+use Rattle.lines.specs.InputLines.{Ends, IsLine, answer_text, says_yes, status_after}
+use Rattle.lines.specs.declared.answers.Answer.{Answer}
 use Rattle.lines.specs.declared.line_loop.At.{At}
 use Rattle.lines.specs.declared.line_loop.Step.{Step}
 use Rattle.lines.specs.declared.line_loop.Step.TheVariants.{Answers, Stops}
 
 -- a line was answered, or nothing was written for want of memory
-abbrev pub Answered : Type 0 → Option (List ℕ) → Option (List ℕ) → Result (Option Bool) WriteFault → Type 0
-Answered P old new (Ok (Some said)) = IsAnswer P said × Appends old new (answer said)
+abbrev pub Answered : (Answer → Type 0) → Option (List ℕ) → Option (List ℕ) → Result (Option Answer) WriteFault → Type 0
+Answered P old new (Ok (Some said)) = P said × Appends old new (answer_text said)
 Answered P old new (Ok None) = Keeps old new
-Answered P old new (Err fault) = (said : Bool) × IsAnswer P said × AppendsPart old new (answer said)
+Answered P old new (Err fault) = (said : Answer) × P said × AppendsPart old new (answer_text said)
 
 -- what follows a line of n bytes
-abbrev pub after_whole : ℕ → Result (Option Bool) WriteFault → Result Step WriteFault
+abbrev pub after_whole : ℕ → Result (Option Answer) WriteFault → Result Step WriteFault
 after_whole n (Ok (Some said)) = Ok (Answers said n)
 after_whole n (Ok None) = Ok (Stops NoMemory)
 after_whole n (Err fault) = Err fault
 
 -- how a run ends behind a last line
-abbrev pub after_last : Bool → Result (Option Bool) WriteFault → Result Step WriteFault
-after_last all (Ok (Some said)) = Ok (Stops (Quiet (status_after (all && said))))
+abbrev pub after_last : Bool → Result (Option Answer) WriteFault → Result Step WriteFault
+after_last all (Ok (Some said)) = Ok (Stops (Quiet (status_after (all && says_yes said))))
 after_last all (Ok None) = Ok (Stops NoMemory)
 after_last all (Err fault) = Err fault
 
@@ -34,11 +35,11 @@ abbrev pub FitsIn : ℕ → Result Step WriteFault → Type 0
 FitsIn len (Ok (Answers said n)) = n < len
 FitsIn len _ = ⊤
 
-module _ (Member : List ℕ → Type 0) (limit : ℕ) (input : Input) where
+module _ (Told : List ℕ → Answer → Type 0) (limit : ℕ) (input : Input) where
   -- a line was answered, or the run ends here and its last answer was written, or memory was refused and nothing was
   abbrev pub IsStep : At → Option (List ℕ) → Option (List ℕ) → Result Step WriteFault → Type 0
   IsStep at old new (Ok (Answers said n)) =
-      (line : List ℕ) × IsLine limit input at.place line × (length line ≡ n) × IsAnswer (Member line) said × Appends old new (answer said)
-  IsStep at old new (Ok (Stops why)) = ((why ≡ NoMemory) × Keeps old new) ⊎ ((last : List ℕ) × Ends Member limit input at last why × Appends old new last)
-  IsStep at old new (Err fault) = (said : Bool) × AppendsPart old new (answer said) ×
-      (((line : List ℕ) × IsLine limit input at.place line × IsAnswer (Member line) said) ⊎ ((why : Stop) × Ends Member limit input at (answer said) why))
+      (line : List ℕ) × IsLine limit input at.place line × (length line ≡ n) × Told line said × Appends old new (answer_text said)
+  IsStep at old new (Ok (Stops why)) = ((why ≡ NoMemory) × Keeps old new) ⊎ ((last : List ℕ) × Ends Told limit input at last why × Appends old new last)
+  IsStep at old new (Err fault) = (said : Answer) × AppendsPart old new (answer_text said) ×
+      (((line : List ℕ) × IsLine limit input at.place line × Told line said) ⊎ ((why : Stop) × Ends Told limit input at (answer_text said) why))

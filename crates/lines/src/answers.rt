@@ -1,25 +1,38 @@
 //! The answer to one line.
-ghost use Rattle.std.specs.Prelude.{◌≡◌, ◌≤◌, ℕ, Bool, List, length, take, IfOk};
+ghost use Rattle.std.specs.Prelude.{◌≡◌, ◌≤◌, ◌++◌, ℕ, List, codes, decimal, length, take, IfOk};
 ghost use Rattle.feed.specs.Feed.{SameFeed, bytes_of};
 ghost use Rattle.ruletable.specs.Writing.{Flags, Writes};
-ghost use Rattle.lines.specs.InputLines.{IsAnswer, answer};
+ghost use Rattle.lines.specs.InputLines.{answer_text};
 ghost use Rattle.lines.specs.LineSteps.{Answered};
+ghost use Rattle.lines.specs.declared.answers.Answer.{Answer};
 
 use feed::{Feed, Source};
-use ruletable::{Memory, Sink, WriteFault, write_whole};
+use itoa::Buffer;
+use ruletable::{Memory, Sink, WriteFault, write_pieces, write_whole};
 
-/// What tells whether a line is one of a set of lines. W is the memory that it works in.
+/// The answer to a line.
+#[derive(Clone, Copy, Debug, PartialEq, Eq)]
+pub enum Answer {
+    /// `yes`.
+    Yes,
+    /// `no`.
+    No,
+    /// `no` and a number.
+    NoAfter(usize),
+}
+
+/// What answers lines. W is the memory that it works in.
 pub trait Judge<W> {
-    /// The lines of the set.
-    ghost member: { Self → List ℕ → Type 0 };
+    /// Which answer is that of a line.
+    ghost told: { Self → List ℕ → Answer → Type 0 };
 
-    /// Returns whether the line is in the set. `Memory` if an allocation fails.
-    fn judge(&self, work: &mut W, line: &[u8]) -> Result<bool, Memory>
-        ensures { IfOk result (λ yes. IsAnswer (member self.now line.now) yes) };
+    /// Returns the line's answer. `Memory` if an allocation fails.
+    fn judge(&self, work: &mut W, line: &[u8]) -> Result<Answer, Memory>
+        ensures { IfOk result (told self.now line.now) };
 
-    /// A law: each line is in the set, or is not. It does nothing.
+    /// A law: each line has an answer. It does nothing.
     fn decided(&self)
-        ensures { (line : List ℕ) → (yes : Bool) × IsAnswer (member self.now line) yes };
+        ensures { (line : List ℕ) → (said : Answer) × told self.now line said };
 }
 
 /// Judges the first `n` bytes that are held. They are put in one piece only where the first piece is shorter.
@@ -28,10 +41,10 @@ fn judge_held<W, J: Judge<W>, R: Source>(
     work: &mut W,
     feed: &mut Feed<'_, R>,
     n: usize,
-) -> Result<bool, Memory>
+) -> Result<Answer, Memory>
     requires { n ≤ length (bytes_of feed.old) }
     ensures same { SameFeed feed.old feed.new }
-    ensures answer { IfOk result (λ yes. IsAnswer (J.member judge.now (take n (bytes_of feed.old))) yes) }
+    ensures answer { IfOk result (J.told judge.now (take n (bytes_of feed.old))) }
 {
     let front = feed.front();
     if n <= front.len() {
@@ -41,15 +54,27 @@ fn judge_held<W, J: Judge<W>, R: Source>(
     judge.judge(work, &window[..n])
 }
 
-/// Writes the line of an answer.
-fn write_answer<O: Sink>(yes: bool, out: &mut O) -> Result<(), WriteFault>
-    ensures bytes { Writes (O.contents out.old) (O.contents out.new) (answer yes) result }
+/// Writes `no` and a number.
+fn write_no<O: Sink>(n: usize, out: &mut O) -> Result<(), WriteFault>
+    ensures bytes { Writes (O.contents out.old) (O.contents out.new) (codes "no " ++ decimal n ++ codes "\n") result }
     ensures flag { Flags (O.failed out.old) (O.failed out.new) result }
 {
-    if yes {
-        return write_whole(out, b"yes\n");
+    let mut buffer = Buffer::new();
+    let digits = buffer.format(n).as_bytes();
+    let pieces: [&[u8]; 3] = [b"no ", digits, b"\n"];
+    write_pieces(out, &pieces)
+}
+
+/// Writes the line of an answer.
+fn write_answer<O: Sink>(said: Answer, out: &mut O) -> Result<(), WriteFault>
+    ensures bytes { Writes (O.contents out.old) (O.contents out.new) (answer_text said) result }
+    ensures flag { Flags (O.failed out.old) (O.failed out.new) result }
+{
+    match said {
+        Answer::Yes => write_whole(out, b"yes\n"),
+        Answer::No => write_whole(out, b"no\n"),
+        Answer::NoAfter(n) => write_no(n, out),
     }
-    write_whole(out, b"no\n")
 }
 
 /// Judges the first `n` bytes that are held, and writes the answer. `None` if an allocation fails; then nothing is
@@ -60,17 +85,17 @@ pub fn answer_held<W, J: Judge<W>, R: Source, O: Sink>(
     feed: &mut Feed<'_, R>,
     n: usize,
     out: &mut O,
-) -> Result<Option<bool>, WriteFault>
+) -> Result<Option<Answer>, WriteFault>
     requires { n ≤ length (bytes_of feed.old) }
     ensures same { SameFeed feed.old feed.new }
-    ensures answered { Answered (J.member judge.now (take n (bytes_of feed.old))) (O.contents out.old) (O.contents out.new) result }
+    ensures answered { Answered (J.told judge.now (take n (bytes_of feed.old))) (O.contents out.old) (O.contents out.new) result }
     ensures flag { Flags (O.failed out.old) (O.failed out.new) result }
 {
-    let Ok(yes) = judge_held(judge, work, feed, n) else {
+    let Ok(said) = judge_held(judge, work, feed, n) else {
         return Ok(None);
     };
-    match write_answer(yes, out) {
-        Ok(()) => Ok(Some(yes)),
+    match write_answer(said, out) {
+        Ok(()) => Ok(Some(said)),
         Err(fault) => Err(fault),
     }
 }

@@ -5,6 +5,6 @@ mod answers;
 mod line;
 mod line_loop;
 
-pub use answers::Judge;
+pub use answers::{Answer, Judge};
 pub use line::{Line, next_line};
 pub use line_loop::{At, run_lines};

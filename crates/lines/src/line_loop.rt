@@ -8,10 +8,10 @@ ghost use Rattle.toolrun.specs.Input.{Input};
 ghost use Rattle.toolrun.specs.RunSteps.{HasRun};
 ghost use Rattle.toolrun.specs.Stopped.{Performs};
 ghost use Rattle.toolrun.specs.Stream.{passed};
-ghost use Rattle.lines.specs.InputLines.{Ends, Lines, LinesReply, place_taken, status_after, taken_at};
+ghost use Rattle.lines.specs.InputLines.{Ends, Lines, LinesReply, place_taken, says_yes, status_after, taken_at};
 ghost use Rattle.lines.specs.LineSteps.{FitsIn, IsStep, after_last, after_whole};
 
-use crate::answers::{Judge, answer_held};
+use crate::answers::{Answer, Judge, answer_held};
 use crate::line::{Line, next_line};
 use feed::{Feed, Source};
 use ruletable::{Sink, WriteFault};
@@ -32,7 +32,7 @@ pub struct At {
 /// What follows at a place: a line of so many bytes was answered, or a stop.
 #[derive(Clone, Copy, Debug, PartialEq, Eq)]
 pub enum Step {
-    Answers { yes: bool, len: usize },
+    Answers { said: Answer, len: usize },
     Stops(Stop),
 }
 
@@ -43,30 +43,41 @@ fn status_of_all(all: bool) -> Status
     if all { Status::Done } else { Status::NoMatch }
 }
 
-/// Returns whether all lines were answered by yes, and one more.
-fn still_all(all: bool, yes: bool) -> bool
-    ensures { result ≡ all && yes }
+/// Returns whether an answer is yes.
+fn is_yes(said: Answer) -> bool
+    ensures { result ≡ says_yes said }
 {
-    all && yes
+    match said {
+        Answer::Yes => true,
+        Answer::No => false,
+        Answer::NoAfter(_) => false,
+    }
+}
+
+/// Returns whether all lines were answered by yes, and one more.
+fn still_all(all: bool, said: Answer) -> bool
+    ensures { result ≡ all && says_yes said }
+{
+    all && is_yes(said)
 }
 
 /// Returns what follows a line of `n` bytes of which this is the answer.
-fn step_of(answered: Result<Option<bool>, WriteFault>, n: usize) -> Result<Step, WriteFault>
+fn step_of(answered: Result<Option<Answer>, WriteFault>, n: usize) -> Result<Step, WriteFault>
     ensures { result ≡ after_whole n answered }
 {
     match answered {
-        Ok(Some(yes)) => Ok(Step::Answers { yes, len: n }),
+        Ok(Some(said)) => Ok(Step::Answers { said, len: n }),
         Ok(None) => Ok(Step::Stops(Stop::NoMemory)),
         Err(fault) => Err(fault),
     }
 }
 
 /// Returns how a run ends behind a last line of which this is the answer.
-fn end_of(answered: Result<Option<bool>, WriteFault>, all: bool) -> Result<Step, WriteFault>
+fn end_of(answered: Result<Option<Answer>, WriteFault>, all: bool) -> Result<Step, WriteFault>
     ensures { result ≡ after_last all answered }
 {
     match answered {
-        Ok(Some(yes)) => Ok(Step::Stops(Stop::Quiet(status_of_all(still_all(all, yes))))),
+        Ok(Some(said)) => Ok(Step::Stops(Stop::Quiet(status_of_all(still_all(all, said))))),
         Ok(None) => Ok(Step::Stops(Stop::NoMemory)),
         Err(fault) => Err(fault),
     }
@@ -89,7 +100,7 @@ fn next_step<W, J: Judge<W>, R: Source, O: Sink>(
     ensures told { IsTrueOfReader R.remaining R.failed feed.new }
     ensures grows { Grows R.remaining feed.old feed.new }
     ensures follows { (before : List ℕ) (input : Input) → length before ≡ at.place → Agrees (before ++ bytes_of feed.new) (flow_of feed.new) input →
-        IsStep (J.member judge.now) limit input at (O.contents out.old) (O.contents out.new) result ×
+        IsStep (J.told judge.now) limit input at (O.contents out.old) (O.contents out.new) result ×
         (length (before ++ bytes_of feed.new) ≡ taken_at limit input at.place) }
     ensures fits { FitsIn (length (bytes_of feed.new)) result }
     ensures flag { Flags (O.failed out.old) (O.failed out.new) result }
@@ -123,7 +134,7 @@ fn answer_lines<W, J: Judge<W>, R: Source, O: Sink>(
     ensures lines { (seen : List ℕ) × Consumes (R.remaining (reader_of feed.old)) (R.remaining (reader_of feed.new)) seen ×
         (allowance_of feed.new + length seen ≡ input_limit) ×
         ((input : Input) → Agrees seen (flow_of feed.new) input →
-        HasRun (Lines (J.member judge.now) limit input) (Ends (J.member judge.now) limit input) (place_taken limit input) (length seen)
+        HasRun (Lines (J.told judge.now) limit input) (Ends (J.told judge.now) limit input) (place_taken limit input) (length seen)
         (O.contents out.old) (O.contents out.new) result) }
     ensures flag { Flags (O.failed out.old) (O.failed out.new) result }
 {
@@ -135,12 +146,12 @@ fn answer_lines<W, J: Judge<W>, R: Source, O: Sink>(
     };
     loop {
         match next_step(judge, work, limit, feed, at, out) {
-            Ok(Step::Answers { yes, len }) => {
+            Ok(Step::Answers { said, len }) => {
                 feed.skip(len + 1);
                 at = At {
                     place: at.place + len + 1,
                     count: at.count + 1,
-                    all: still_all(at.all, yes),
+                    all: still_all(at.all, said),
                 };
             }
             Ok(Step::Stops(stop)) => return Ok(stop),
@@ -149,7 +160,8 @@ fn answer_lines<W, J: Judge<W>, R: Source, O: Sink>(
     }
 }
 
-/// Judges the lines of what a reader gives, and writes `yes` or `no` for each. The reader may not have failed before.
+/// Judges the lines of what a reader gives, and writes the answer to each: `yes`, `no`, or `no` and a number. The reader
+/// may not have failed before.
 ///
 /// - A line ends before an LF, and a last piece without LF is a line if it is not empty. A CR belongs to its line.
 /// - The first line of more than `limit` bytes ends the run: `LongLine` with its number from 1 and the limit. So it is
@@ -168,7 +180,7 @@ pub fn run_lines<W, J: Judge<W>, R: Source, O: Sink>(
 ) -> Result<Stop, WriteFault>
     requires small { limit ≤ 16777216 }
     requires reader_is_fresh { R.failed reader.old ≡ false }
-    ensures { Performs (LinesReply (J.member judge.now) limit)
+    ensures { Performs (LinesReply (J.told judge.now) limit)
         (passed R.remaining R.failed reader.old reader.new) (passed O.contents O.failed out.old out.new) result }
 {
     judge.decided();

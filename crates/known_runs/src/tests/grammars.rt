@@ -31,6 +31,7 @@ fn check_row<R: Abort + AllocGlobal>(rt: &R, row: Unread, step: usize)
         start,
         raw: false,
         letters: Alphabet::Bytes,
+        viable: false,
     };
     let clock = Cell::new(0);
     let out = Paper::new(rt.alloc(), step, &clock);

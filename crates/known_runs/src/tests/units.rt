@@ -372,6 +372,7 @@ fn raw_text_is_neither_trimmed_nor_on_a_line_of_its_own(rt: HostRuntime) {
         start: None,
         raw: true,
         letters: Alphabet::Bytes,
+        viable: false,
     };
     let tape = Tape::new(b"ab", 1, false);
     let (status, _, out, err) = run_over(

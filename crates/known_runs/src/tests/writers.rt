@@ -30,6 +30,7 @@ fn run_row<'a>(
         start: None,
         raw: false,
         letters: Alphabet::Bytes,
+        viable: false,
     };
     let tape = Tape::new(input, 3, false);
     run_over(alloc, grammar, &settings, tape, out, err)

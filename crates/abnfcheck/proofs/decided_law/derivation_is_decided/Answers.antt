@@ -1,5 +1,5 @@
-use Rattle.abnfcheck.proofs.DerivesDecidedLemmas.{rule_derives_is_decided}
+use Rattle.abnfcheck.proofs.BeginsMemberLemmas.{rule_derives_is_decided}
 use Rattle.abnfcheck.proofs.decided_law.derivation_is_decided.Goals as goal
 
 pub returns : goal.returns
-returns c = λ has rules id x. rule_derives_is_decided has rules x id
+returns c = λ has rules id x. rule_derives_is_decided has rules id x

@@ -2,13 +2,12 @@
 use Rattle.std.proofs.Common.{map}
 use Rattle.ruletable.specs.Notes.{said_of}
 use Rattle.abnfrun.proofs.AbnfTaskLemmas.{unread-plan, run_plan}
-use Rattle.abnfrun.proofs.JudgeReplyLemmas.{member_is_decided}
 use Rattle.abnfrun.proofs.abnf_task.plan_run.Goals as goal
 
 pub returns-in-Ok : goal.returns-in-Ok
 returns-in-Ok c = rw c.task_of_run.ensures
     (run_plan c.args.grammar.now c.args.settings.now
-    (member_is_decided c.derivation_is_decided.ensures c.utf8_is_decided.ensures.decided c.utf8_is_decided.ensures.one c.args.settings.now.letters)
+    (c.lines_have_answers.ensures c.args.settings.now.letters c.args.settings.now.viable)
     (map said_of c.in-Ok.field-0.notes.items) c.in-Ok.field-0.sound c.requires c.in-Ok.ensures.checked)
 
 pub returns-in-Err : goal.returns-in-Err

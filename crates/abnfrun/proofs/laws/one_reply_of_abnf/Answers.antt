@@ -1,6 +1,9 @@
-use Rattle.abnfrun.specs.AbnfReply.{IsMember}
-use Rattle.lines.proofs.LinesReplyLemmas.{one_lines_reply}
+use Rattle.abnfrun.specs.AbnfReply.{AnswersFor}
+use Rattle.abnfrun.proofs.IsAnswerToLemmas.{one_answer}
 use Rattle.abnfrun.proofs.laws.one_reply_of_abnf.Goals as goal
+use Rattle.lines.proofs.LinesReplyLemmas.{one_lines_reply}
 
 pub returns : goal.returns
-returns c = λ rules judged settings input a b. one_lines_reply (IsMember settings.letters rules judged) settings.limit input a b
+returns c = λ rules judged settings input a b.
+    one_lines_reply (AnswersFor rules judged settings)
+    (λ line. one_answer c.utf8_is_decided.ensures.one c.furthest_is_found.ensures.one settings.letters rules judged line settings.viable) settings.limit input a b

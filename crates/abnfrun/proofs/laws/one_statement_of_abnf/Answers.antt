@@ -13,4 +13,4 @@ pub returns-clause-one_fault : goal.returns-clause-one_fault
 returns-clause-one_fault c = one-fault
 
 pub returns-clause-whole : goal.returns-clause-whole
-returns-clause-whole c = one_statement
+returns-clause-whole c = one_statement c.utf8_is_decided.ensures.one c.furthest_is_found.ensures.one

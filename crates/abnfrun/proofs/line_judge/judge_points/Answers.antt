@@ -1,11 +1,11 @@
--- The chart tells whether the judged rule derives the code points.
+-- The line is UTF-8, and its code points have this answer.
 use Rattle.abnfread.specs.Views.{rules_of}
-use Rattle.abnfrun.proofs.JudgeReplyLemmas.{text_answers}
-use Rattle.letters.specs.Utf8Text.{numbers}
+use Rattle.abnfrun.proofs.IsAnswerToLemmas.{text_answer}
 use Rattle.abnfrun.proofs.line_judge.judge_points.Goals as goal
+use Rattle.letters.specs.Utf8Text.{numbers}
 
-pub returns : goal.returns
-returns c =
+pub returns-then-is_text : goal.returns-then-is_text
+returns-then-is_text c =
     let j = c.args.judges.now in
-    text_answers (rules_of j.grammar.now.rules) j.grammar.now.judged c.derivation_is_decided.ensures c.utf8_is_decided.ensures.one j.flat c.args.line.now
-    (numbers c.as_slice.result.now) c.in_ok-told.told j.lowered (rw c.as_slice.ensures.value (c.in_ok-is_text.ensures.text c.if-not-is_text.false)) c.in_ok-told.ensures.derives
+    text_answer j.viable (rules_of j.grammar.now.rules) j.grammar.now.judged c.args.line.now c.utf8_is_decided.ensures.one (numbers c.as_slice.result.now)
+    (rw c.as_slice.ensures.value (c.in_ok-is_text.ensures.text c.if-is_text.true)) c.in_ok-said.said c.in_ok-said.ensures

@@ -7,8 +7,8 @@ use Rattle.lines.specs.InputLines.{none}
 use Rattle.lines.proofs.LineRunLemmas.{one_more_line, stops_there, fails_there}
 use Rattle.lines.proofs.line_loop.answer_lines.Goals as goal
 
-pub loop-yes-init : goal.loop-yes-init
-loop-yes-init g c = record {
+pub loop-said-init : goal.loop-said-init
+loop-said-init g c = record {
   capacity = c.requires.capacity;
   counted = omega arith;
   within = let l = ap length c.requires.empty in omega (arith, l, c.requires.allowance);
@@ -18,64 +18,64 @@ loop-yes-init g c = record {
   written = ([], refl, rw c.requires.empty (Consumes-same _), λ input a. ([], none, Appends-same _));
 }
 
-pub loop-yes-preserved : goal.loop-yes-preserved
-loop-yes-preserved g c =
-    let so_far = c.loop-yes.invariant.written in
+pub loop-said-preserved : goal.loop-said-preserved
+loop-said-preserved g c =
+    let so_far = c.loop-said.invariant.written in
     let grew = c.in-Ok-Answers.ensures.grows in
     let items = c.next_step.new.feed.ring.items in
     let n : ℕ = c.in-Ok-Answers.len + 1 in
     let fits = (rw c.in-Ok-Answers.field-0-is at c.in-Ok-Answers.ensures.fits) in
     let le : n ≤ length items = omega (arith, fits) in
     record {
-      capacity = c.skip.ensures.capacity ∙ grew.capacity ∙ c.loop-yes.invariant.capacity;
-      counted = omega (arith, c.loop-yes.invariant.counted);
+      capacity = c.skip.ensures.capacity ∙ grew.capacity ∙ c.loop-said.invariant.capacity;
+      counted = omega (arith, c.loop-said.invariant.counted);
       within = let kept = ap length c.skip.ensures.bytes in
           let more = ap length grew.bytes in
-          omega (arith, kept, length-drop n items, c.skip.ensures.allowance, grew.allowance, more, length-append c.loop-yes.feed.ring.items grew.more, c.loop-yes.invariant.within, le);
+          omega (arith, kept, length-drop n items, c.skip.ensures.allowance, grew.allowance, more, length-append c.loop-said.feed.ring.items grew.more, c.loop-said.invariant.within, le);
       told = rw (c.skip.ensures.reader, c.skip.ensures.allowance, c.skip.ensures.flow) c.in-Ok-Answers.ensures.told;
-      loan = c.skip.ensures.loan ∙ c.in-Ok-Answers.ensures.loan ∙ c.loop-yes.invariant.loan;
+      loan = c.skip.ensures.loan ∙ c.in-Ok-Answers.ensures.loan ∙ c.loop-said.invariant.loan;
       flag = search rules;
       written = (
         so_far.0 ++ take n items,
-        (let e = slides-len so_far.0 items n c.loop-yes.at.place so_far.1 le in omega (arith, e)),
+        (let e = slides-len so_far.0 items n c.loop-said.at.place so_far.1 le in omega (arith, e)),
         rw (c.skip.ensures.reader, c.skip.ensures.bytes, slides so_far.0 items n) (seen_more _ _ _ grew so_far.0 _ so_far.2),
         λ input b.
             let a = rw (c.skip.ensures.bytes, slides so_far.0 items n, c.skip.ensures.flow) at b in
             let front = so_far.3 input (earlier _ _ _ grew so_far.0 input a) in
             let step = c.in-Ok-Answers.ensures.follows so_far.0 input so_far.1 a in
-            rw c.still_all.ensures (one_more_line (g.J.Judge.member c.args.judge.now) c.args.limit input c.loop-yes.at _ _ _ front.0 front.1 front.2
-            c.in-Ok-Answers.yes c.in-Ok-Answers.len (rw c.in-Ok-Answers.field-0-is at step.0)),
+            rw c.still_all.ensures (one_more_line (g.J.Judge.told c.args.judge.now) c.args.limit input c.loop-said.at _ _ _ front.0 front.1 front.2
+            c.in-Ok-Answers.said c.in-Ok-Answers.len (rw c.in-Ok-Answers.field-0-is at step.0)),
       );
     }
 
 pub returns-in-Ok-Stops-clause-lines : goal.returns-in-Ok-Stops-clause-lines
 returns-in-Ok-Stops-clause-lines g c =
-    let so_far = c.loop-yes.invariant.written in
+    let so_far = c.loop-said.invariant.written in
     let grew = c.in-Ok-Stops.ensures.grows in
     let items = c.next_step.new.feed.ring.items in (
       so_far.0 ++ items,
       seen_more _ _ _ grew so_far.0 _ so_far.2,
       let more = ap length grew.bytes in
-          omega (arith, length-append so_far.0 items, so_far.1, grew.allowance, more, length-append c.loop-yes.feed.ring.items grew.more, c.loop-yes.invariant.within),
+          omega (arith, length-append so_far.0 items, so_far.1, grew.allowance, more, length-append c.loop-said.feed.ring.items grew.more, c.loop-said.invariant.within),
       λ input a.
           let front = so_far.3 input (earlier _ _ _ grew so_far.0 input a) in
           let step = c.in-Ok-Stops.ensures.follows so_far.0 input so_far.1 a in
-          stops_there (g.J.Judge.member c.args.judge.now) c.args.limit input c.loop-yes.at _ _ _ front.0 front.1 front.2 (length (so_far.0 ++ items))
+          stops_there (g.J.Judge.told c.args.judge.now) c.args.limit input c.loop-said.at _ _ _ front.0 front.1 front.2 (length (so_far.0 ++ items))
           c.in-Ok-Stops.stop (rw c.in-Ok-Stops.field-0-is at step.0) step.1,
     )
 
 pub returns-in-Err-clause-lines : goal.returns-in-Err-clause-lines
 returns-in-Err-clause-lines g c =
-    let so_far = c.loop-yes.invariant.written in
+    let so_far = c.loop-said.invariant.written in
     let grew = c.in-Err.ensures.grows in
     let items = c.next_step.new.feed.ring.items in (
       so_far.0 ++ items,
       seen_more _ _ _ grew so_far.0 _ so_far.2,
       let more = ap length grew.bytes in
-          omega (arith, length-append so_far.0 items, so_far.1, grew.allowance, more, length-append c.loop-yes.feed.ring.items grew.more, c.loop-yes.invariant.within),
+          omega (arith, length-append so_far.0 items, so_far.1, grew.allowance, more, length-append c.loop-said.feed.ring.items grew.more, c.loop-said.invariant.within),
       λ input a.
           let front = so_far.3 input (earlier _ _ _ grew so_far.0 input a) in
           let step = c.in-Err.ensures.follows so_far.0 input so_far.1 a in
-          fails_there (g.J.Judge.member c.args.judge.now) c.args.limit input c.loop-yes.at _ _ _ front.0 front.1 front.2 c.decided.ensures (length (so_far.0 ++ items))
+          fails_there (g.J.Judge.told c.args.judge.now) c.args.limit input c.loop-said.at _ _ _ front.0 front.1 front.2 c.decided.ensures (length (so_far.0 ++ items))
           c.in-Err.fault step.0 step.1,
     )

@@ -7,8 +7,8 @@ use Rattle.toolrun.specs.Input.{Input}
 use Rattle.lines.specs.InputLines.{Lines}
 use Rattle.lines.proofs.line_loop.answer_lines.Given as goal
 
-abbrev pub invariant-loop-yes : goal.invariant-loop-yes
-invariant-loop-yes g l = record {
+abbrev pub invariant-loop-said : goal.invariant-loop-said
+invariant-loop-said g l = record {
   capacity : capacity_of l.feed ≡ l.limit + 1;
   counted : l.at.count ≤ l.at.place;
   within : l.at.place + length (bytes_of l.feed) + allowance_of l.feed ≡ input_limit;
@@ -18,8 +18,8 @@ invariant-loop-yes g l = record {
   written : (before : List ℕ) × (length before ≡ l.at.place) ×
       Consumes (g.R.Source.remaining (reader_of l.fn.feed)) (g.R.Source.remaining (reader_of l.feed)) (before ++ bytes_of l.feed) ×
       ((input : Input) → Agrees (before ++ bytes_of l.feed) (flow_of l.feed) input →
-      (text : List ℕ) × Lines (g.J.Judge.member l.judge) l.limit input l.at text × Appends (g.O.Sink.contents l.fn.out) (g.O.Sink.contents l.out) text);
+      (text : List ℕ) × Lines (g.J.Judge.told l.judge) l.limit input l.at text × Appends (g.O.Sink.contents l.fn.out) (g.O.Sink.contents l.out) text);
 }
 
-abbrev pub decreases-loop-yes : goal.decreases-loop-yes
-decreases-loop-yes g l = input_limit - l.at.place
+abbrev pub decreases-loop-said : goal.decreases-loop-said
+decreases-loop-said g l = input_limit - l.at.place

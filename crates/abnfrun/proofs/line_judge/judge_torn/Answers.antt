@@ -1,0 +1,18 @@
+-- The line's longest beginning that is UTF-8 is decoded, and its code points have this answer.
+use Rattle.std.proofs.Common.{◌≡◌, arith, length}
+use Rattle.std.proofs.lemmas.List.{length-map}
+use Rattle.abnfread.specs.Views.{rules_of}
+use Rattle.abnfrun.proofs.IsAnswerToLemmas.{decoded, torn_answer}
+use Rattle.abnfrun.proofs.line_judge.judge_torn.Goals as goal
+use Rattle.letters.specs.Utf8Text.{number, numbers}
+
+pub returns : goal.returns
+returns c =
+    let j = c.args.judges.now in
+    let points = numbers c.as_slice.result.now in
+    let longest = c.utf8_len-len.ensures in
+    let spelled = rw (← c.as_slice.ensures.value) at (decoded _ _ _ c.in_ok-_is_text._is_text longest.text c.in_ok-_is_text.ensures.text c.in_ok-_is_text.ensures.none) in
+    let count : c.len.result ≡ length points = omega (arith, length-map c.as_slice.result.now number, c.len.ensures, c.as_slice.ensures.len) in
+    rw (c.torn_by.ensures, count)
+    (torn_answer j.viable (rules_of j.grammar.now.rules) j.grammar.now.judged c.args.line.now c.requires.torn c.requires.viable c.utf8_len-len.result points longest spelled
+    c.in_ok-said.said c.in_ok-said.ensures)

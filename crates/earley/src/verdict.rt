@@ -1,0 +1,39 @@
+//! How far a line begins something that the judged rule derives.
+ghost use Rattle.std.specs.Prelude.{◌≡◌, ◌+◌, ◌*◌, ◌≤◌, ℕ, List, [], IfOk, OnErr, length, map};
+ghost use Rattle.abnfread.specs.Element.{Rule};
+ghost use Rattle.earley.specs.ChartSets.{set_at, IsSet};
+ghost use Rattle.earley.specs.Verdicts.{IsVerdict};
+ghost use Rattle.flatgrammar.specs.Places.{places};
+ghost use Rattle.flatgrammar.specs.ToldBeginnings.{TellsBeginnings};
+ghost use Rattle.letters.specs.Letters.{has};
+
+use crate::chart::Chart;
+use flatgrammar::Flat;
+use letters::Letter;
+use ruletable::Memory;
+
+/// What is told of a line.
+#[derive(Clone, Copy, Debug, PartialEq, Eq)]
+pub enum Verdict {
+    /// The judged rule derives it.
+    Yes,
+    /// The judged rule does not derive it: its first so many letters begin a list that the rule derives, and no more of
+    /// them do; 0 if the rule derives no list.
+    No(usize),
+}
+
+/// Fills the chart with the item sets of a line, and tells whether the judged rule derives the line, or else its longest
+/// viable beginning. The flat grammar is that of `lower_viable` for the alphabet of the letters.
+///
+/// `Memory` if an allocation fails; the chart is empty then.
+pub fn viable<L: Letter>(chart: &mut Chart, flat: &Flat, line: &[L]) -> Result<Verdict, Memory>
+    ensures sets { IfOk result (λ _. (j : ℕ) → IsSet flat.now (map L.number line.now) j (set_at chart.new j)) }
+    ensures bound { IfOk result (λ _. (j : ℕ) → length (set_at chart.new j) ≤ places flat.now.nodes * (j + 1)) }
+    ensures verdict { IfOk result (λ told. (rules : List Rule) (judged : ℕ) → TellsBeginnings (has L.ALPHABET) rules judged flat.now →
+        IsVerdict (has L.ALPHABET) rules judged (map L.number line.now) told) }
+    ensures empty { OnErr result (chart.new ≡ []) }
+{
+    // STUB
+    *chart = Chart::new(std::alloc::Global);
+    Err(Memory)
+}

@@ -1,0 +1,152 @@
+//! Whole runs of the ABNF tool that tell of each line that it refuses how far it begins something that is derived.
+
+use crate::abnf_runs::run_over;
+use crate::fakes::{Paper, Tape};
+use gramtools::{Alphabet, DEFAULT_LIMIT, Mode, Settings, Status};
+use std::cell::Cell;
+use std::process::Abort;
+use std::test::Fail;
+
+// A grammar with its judged rule, letters, an input, what is to come on both outputs, and the status.
+struct ViableRow {
+    grammar: &'static [u8],
+    start: Option<&'static str>,
+    letters: Alphabet,
+    input: &'static [u8],
+    text: &'static [u8],
+    lines: &'static [u8],
+    status: Status,
+}
+
+static VIABLE: [ViableRow; 8] = [
+    // the third line is empty, and the last has no LF
+    ViableRow {
+        grammar: b"word = 1*ALPHA",
+        start: None,
+        letters: Alphabet::Bytes,
+        input: b"ab\nA1\n\nZ",
+        text: b"yes\nno 1\nno 0\nyes\n",
+        lines: b"",
+        status: Status::NoMatch,
+    },
+    // no line of bytes goes on with the second alternative
+    ViableRow {
+        grammar: b"s = \"abc\" / %x100 \"x\"",
+        start: None,
+        letters: Alphabet::Bytes,
+        input: b"ab\nabd\nabcd\n",
+        text: b"no 2\nno 2\nno 3\n",
+        lines: b"",
+        status: Status::NoMatch,
+    },
+    // t derives nothing
+    ViableRow {
+        grammar: b"s = \"a\" t \"b\" / \"ac\"\nt = \"x\" t",
+        start: None,
+        letters: Alphabet::Bytes,
+        input: b"ax\n",
+        text: b"no 1\n",
+        lines: b"",
+        status: Status::NoMatch,
+    },
+    ViableRow {
+        grammar: b"s = \"a\" t \"b\" / \"ac\"\nt = \"x\" t",
+        start: Some("t"),
+        letters: Alphabet::Bytes,
+        input: b"x\n",
+        text: b"no 0\n",
+        lines: b"rule 's' defined but not used\n",
+        status: Status::NoMatch,
+    },
+    // code points are counted, not bytes
+    ViableRow {
+        grammar: b"s = %x20AC \"x\"",
+        start: None,
+        letters: Alphabet::Utf8,
+        input: b"\xE2\x82\xAC\xFF",
+        text: b"no 1\n",
+        lines: b"",
+        status: Status::NoMatch,
+    },
+    // a line is refused whose longest beginning that is UTF-8 is derived
+    ViableRow {
+        grammar: b"s = 1*%x20AC",
+        start: None,
+        letters: Alphabet::Utf8,
+        input: b"\xE2\x82\xAC\xE2\x82\xAC\xE2\x82\n\xFF\n\xE2\x82\xAC\n",
+        text: b"no 2\nno 0\nyes\n",
+        lines: b"",
+        status: Status::NoMatch,
+    },
+    // the letters of a line that is UTF-8 are bytes too, if bytes are asked for
+    ViableRow {
+        grammar: b"s = %xE2 %x82 %xAC \"x\"",
+        start: None,
+        letters: Alphabet::Bytes,
+        input: b"\xE2\x82\xAC\n\xE2\x82\xACx\n",
+        text: b"no 3\nyes\n",
+        lines: b"",
+        status: Status::NoMatch,
+    },
+    ViableRow {
+        grammar: b"word = 1*ALPHA",
+        start: None,
+        letters: Alphabet::Utf8,
+        input: b"ab\nZ\n",
+        text: b"yes\nyes\n",
+        lines: b"",
+        status: Status::Done,
+    },
+];
+
+// Checks what a run writes, and its status.
+fn check_viable<R: Abort + AllocGlobal>(rt: &R, row: &ViableRow) {
+    let settings = Settings {
+        mode: Mode::Run,
+        limit: DEFAULT_LIMIT,
+        start: row.start,
+        raw: false,
+        letters: row.letters,
+        viable: true,
+    };
+    let clock = Cell::new(0);
+    let out = Paper::new(rt.alloc(), 7, &clock);
+    let err = Paper::new(rt.alloc(), 7, &clock);
+    let tape = Tape::new(row.input, 7, false);
+    let (status, _left, out, err) = run_over(rt.alloc(), row.grammar, &settings, tape, out, err);
+    assert!(rt; out.holds(row.text) && err.holds(row.lines));
+    assert_eq!(rt; status, row.status);
+}
+
+#[test]
+fn refused_lines_have_numbers(rt: HostRuntime) {
+    for row in &VIABLE {
+        check_viable(&rt, row);
+    }
+}
+
+#[test]
+fn a_long_line_is_refused_at_its_last_letter(rt: HostRuntime) -> Result<(), Fail> {
+    let mut line = Vec::new(rt.alloc());
+    for _ in 0..9_999 {
+        line.push(b'a')?;
+    }
+    line.push(b'1')?;
+    let settings = Settings {
+        mode: Mode::Run,
+        limit: DEFAULT_LIMIT,
+        start: None,
+        raw: false,
+        letters: Alphabet::Bytes,
+        viable: true,
+    };
+    let clock = Cell::new(0);
+    let out = Paper::new(rt.alloc(), 4096, &clock);
+    let err = Paper::new(rt.alloc(), 4096, &clock);
+    let tape = Tape::new(line.as_slice(), 4096, false);
+    let (status, _left, out, err) =
+        run_over(rt.alloc(), b"word = 1*ALPHA", &settings, tape, out, err);
+    assert!(rt; out.holds(b"no 9999\n") && err.holds(b""));
+    assert_eq!(rt; status, Status::NoMatch);
+    Ok(())
+}

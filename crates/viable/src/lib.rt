@@ -1,0 +1,6 @@
+//! Lowers the productive parts of grammars in ABNF to numbered nodes.
+#![tactic(auto)]
+
+mod viable_lowered;
+
+pub use viable_lowered::lower_viable;

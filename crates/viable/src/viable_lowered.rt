@@ -1,0 +1,26 @@
+//! From a sound grammar to a flat one of its productive parts.
+ghost use Rattle.std.specs.Prelude.{◌+◌, ◌≤◌, IfOk};
+ghost use Rattle.abnfread.specs.Element.{bodies};
+ghost use Rattle.abnfread.specs.Views.{rules_of};
+ghost use Rattle.flatgrammar.specs.Places.{places, sizes};
+ghost use Rattle.flatgrammar.specs.ToldBeginnings.{TellsBeginnings};
+ghost use Rattle.letters.specs.Letters.{has};
+
+use abnfcheck::SoundAbnf;
+use flatgrammar::Flat;
+use letters::Alphabet;
+use ruletable::Memory;
+use std::alloc::Global;
+
+/// Lowers the productive parts of a grammar to numbered nodes: those that derive some list of letters of the alphabet. The
+/// judged rule derives a list of letters exactly if the set after them holds the whole's end with origin 0; and the set
+/// after the first letters of a list, one or more, is not empty exactly if they begin a list that the rule derives.
+///
+/// `Memory` if an allocation fails.
+pub fn lower_viable(alloc: Global, grammar: &SoundAbnf, alphabet: Alphabet) -> Result<Flat, Memory>
+    ensures tells { IfOk result (λ flat. TellsBeginnings (has alphabet) (rules_of grammar.now.rules) grammar.now.judged flat) }
+    ensures places { IfOk result (λ flat. places flat.nodes ≤ sizes (bodies (rules_of grammar.now.rules)) + 2) }
+{
+    // STUB
+    Err(Memory)
+}
