@@ -54,6 +54,7 @@ pub fn settings_of<'a>(matches: &ArgMatches<'a>) -> Settings<'a>
         start: matches.get_str("start"),
         raw: matches.get_flag("raw"),
         letters: letters_of(matches),
+        viable: false,
     }
 }
 
