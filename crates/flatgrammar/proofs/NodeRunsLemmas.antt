@@ -11,7 +11,8 @@ use Rattle.flatgrammar.specs.Flat.{Node, Flat, Letters, Concat, Alt, Rep, Place,
 use Rattle.flatgrammar.specs.Holds.{Holds, called, has_read, returned}
 use Rattle.flatgrammar.specs.Lowered.{Spells, spells, shows_text, shows_values, shows_range, shows_concat, shows_alt, shows_rep, shows_opt, shows_name, SpellAll, spell_none, spell_more, AreBodies}
 use Rattle.flatgrammar.proofs.RuleNodeLemmas.{body_at_id, node_of_rule}
-use Rattle.abnfcheck.proofs.LiesLemmas.{Lies, here, step, split}
+use Rattle.abnfcheck.proofs.IsPathLemmas.{here, step, split}
+use Rattle.abnfcheck.proofs.LiesLemmas.{OnLine, Lies}
 use Rattle.flatgrammar.proofs.BeforeLemmas.{Fit, fit_none, fit_more, text_fits, values_fit, Turned, turned_none}
 
 record Next {A : Type 0} (xs : List A) (k : ℕ) (y : A) (ys : List A) : Type 0 where
@@ -86,11 +87,12 @@ module _ (has : ℕ → Bool) (rules : List Rule) (flat : Flat)
   read_all : (s : ℕ) (sets : List Set) → slice_get flat.nodes s ≡ Some (Letters sets) → {left : List Set} {w : List ℕ} → Fit left w →
       (k i j : ℕ) → drop k sets ≡ left → Lies x i w j → Steps (at s k) i (at s (k + length left)) j
   read_all s sets is fit_none k i j left here = λ o h. let same : k ≡ k + 0 = omega arith in subst (λ v. Holds flat x i (at s v) o) same h
-  read_all s sets is (fit_more {set = set} {sets = rest} h f) k i j left (step at_i l) = λ o g.
+  read_all s sets is (fit_more {set = set} {sets = rest} h f) k i j left (step {k = after} on l) = λ o g.
       let n = next_of sets k left in
-      let on = read_all s sets is f (k + 1) (i + 1) j n.rest l o (has_read g (reads is (Reading.letter n.is)) at_i h) in
+      let one = subst (λ v. Holds flat x v (at s (k + 1)) o) on.1 (has_read g (reads is (Reading.letter n.is)) on.0 h) in
+      let more = read_all s sets is f (k + 1) after j n.rest l o one in
       let same : k + 1 + length rest ≡ k + suc (length rest) = omega arith in
-      subst (λ v. Holds flat x j (at s v) o) same on
+      subst (λ v. Holds flat x j (at s v) o) same more
 
   run_letters : {s i j : ℕ} {sets : List Set} {w : List ℕ} → slice_get flat.nodes s ≡ Some (Letters sets) → Fit sets w → Lies x i w j → Runs s i j
   run_letters {s = s} {i = i} {j = j} {sets = sets} is f l =
@@ -138,7 +140,7 @@ module _ (has : ℕ → Bool) (rules : List Rule) (flat : Flat)
     run_all all_done spell_none s ms is k i j left here = λ o h. let same : k ≡ k + 0 = omega arith in subst (λ v. Holds flat x i (at s v) o) same h
     run_all (then {w = w} d ds) (spell_more {m = m} {ms = rest} sp all) s ms is k i j left l = λ o h.
         let n = next_of ms k left in
-        let cut = split x w l in
+        let cut = split (OnLine x) w l in
         let once = call_step (calls is (Calling.member n.is)) (run d m i cut.mid sp cut.left) o h in
         let on = run_all ds all s ms is (k + 1) cut.mid j n.rest cut.right o once in
         let same : k + 1 + length rest ≡ k + suc (length rest) = omega arith in
@@ -159,7 +161,7 @@ module _ (has : ℕ → Bool) (rules : List Rule) (flat : Flat)
         record { to = f; turned = subst (λ v. Turned a b v f) same turned; steps = λ o h. h }
     run_times (one_more {k = k} {w = w} d ds) s a m b is sp t f i j turned within l =
         let n = turn_on a b m t f turned (within_less t k b within) in
-        let cut = split x w l in
+        let cut = split (OnLine x) w l in
         let once = call_step (calls is n.calling) (run d m i cut.mid sp cut.left) in
         let on = run_times ds s a m b is sp (suc t) n.to cut.mid j n.turned (within_same t k b within) cut.right in
         let same : suc t + k ≡ t + suc k = omega arith in

@@ -1,6 +1,6 @@
 -- What an item says is derived.
 -- Serves: items_tell, lower, judge.
-use Rattle.std.proofs.Common.{◌≡◌, ℕ, List, [], ◌∷◌, ◌++◌, subst}
+use Rattle.std.proofs.Common.{◌≡◌, ℕ, List, [], ◌∷◌, ◌++◌, refl, subst}
 use Rattle.std.specs.Prelude.{slice_get, Bool, Some}
 use Rattle.abnfread.specs.Element.{Element, Rule}
 use Rattle.abnfcheck.specs.Derivable as der
@@ -8,7 +8,8 @@ use Rattle.abnfcheck.specs.Derivable.{AreLetters, Derives}
 use Rattle.flatgrammar.specs.Flat.{Node, Flat, Place, at, Name, Set, Has, Reading, Calling, IsDone, Begins, Starts, starts, name_starts, Ends, ends, name_ends, Reads, reads, Calls, calls}
 use Rattle.flatgrammar.specs.Holds.{Holds, begins, called, has_read, returned}
 use Rattle.flatgrammar.specs.Lowered.{Spells, spells, Shows, shows_name, AreBodies}
-use Rattle.abnfcheck.proofs.LiesLemmas.{Lies, here, step, join, are_letters}
+use Rattle.abnfcheck.proofs.IsPathLemmas.{here, step, join}
+use Rattle.abnfcheck.proofs.LiesLemmas.{OnLine, Lies, are_letters}
 use Rattle.flatgrammar.proofs.RuleNodeLemmas.{body_of_number}
 use Rattle.flatgrammar.proofs.BeforeLemmas.{Before, start_part, read_part, call_part, end_part}
 
@@ -58,12 +59,12 @@ module _ (has : ℕ → Bool) (rules : List Rule) (flat : Flat)
     sound (called h c st) = record { word = []; lies = here; part = starts_empty st }
     sound (has_read {c = c} h r is lies_in) =
         let g = sound h in
-        record { word = g.word ++ c ∷ []; lies = join x g.lies (step is here); part = read_on c g.word r lies_in g.part }
+        record { word = g.word ++ c ∷ []; lies = join (OnLine x) g.lies (step (is, refl) here); part = read_on c g.word r lies_in g.part }
     sound (returned h e g c) =
         let inner = sound h in
         let outer = sound g in
         record {
           word = outer.word ++ inner.word;
-          lies = join x outer.lies inner.lies;
+          lies = join (OnLine x) outer.lies inner.lies;
           part = call_on outer.word inner.word c outer.part (ends_derive e (are_letters x has letters inner.lies) inner.part);
         }
