@@ -21,6 +21,10 @@ use Rattle.flatgrammar.proofs.RuleNodeLemmas.{body_at_id}
 use Rattle.viable.specs.Pruned.{IsProductive, AreProductive, Keeps, keep_values, empty_rep, keep_alt, KeepsAll, keep_none, keep_more, KeepsSome, some_none, kept, dropped}
 use Rattle.viable.proofs.KeepsLemmas.{keeps_productive}
 
+abbrev snoc : Elements → Element → Elements
+snoc none d = more d none
+snoc (more e es) d = more e (snoc es d)
+
 module _ (has : ℕ → Bool) (rules : List Rule) where
   pub no_values : (vs : List ℕ) → (AreLetters has vs → ⊥) → IsProductive has rules (e.Values vs) → ⊥
   no_values vs not p = by p.derives
@@ -112,30 +116,30 @@ module _ (has : ℕ → Bool) (rules : List Rule) where
   some_alts es (d ∷ ds) empty is off ks = alt_left es (elements_of ds) (element_of d) ks
 
   -- members one by one
-  all_push : (es : List Element) (el d : Element) (ds : List Element) → KeepsAll has rules (elements es) (elements ds) → Keeps has rules el d → KeepsAll has rules (elements (es ++ el ∷ [])) (elements (ds ++ d ∷ []))
-  all_push [] el d [] keep_none k = keep_more k keep_none
-  all_push [] el d (b ∷ ds) ks k = elim ks [ ]
-  all_push (c ∷ es) el d [] ks k = elim ks [ ]
-  all_push (c ∷ es) el d (b ∷ ds) (keep_more j ks) k = keep_more j (all_push es el d ds ks k)
+  all_push : {es ds : Elements} (el d : Element) → KeepsAll has rules es ds → Keeps has rules el d → KeepsAll has rules (snoc es el) (snoc ds d)
+  all_push el d keep_none k = keep_more k keep_none
+  all_push el d (keep_more j ks) k = keep_more j (all_push el d ks k)
 
-  kept_push : (es : List Element) (el d : Element) (ds : List Element) → KeepsSome has rules (elements es) (elements ds) → Keeps has rules el d → KeepsSome has rules (elements (es ++ el ∷ [])) (elements (ds ++ d ∷ []))
-  kept_push [] el d [] some_none k = kept k some_none
-  kept_push [] el d (b ∷ ds) ks k = elim ks [ ]
-  kept_push (c ∷ es) el d ds (dropped not ks) k = dropped not (kept_push es el d ds ks k)
-  kept_push (c ∷ es) el d (b ∷ ds) (kept j ks) k = kept j (kept_push es el d ds ks k)
+  kept_push : {es ds : Elements} (el d : Element) → KeepsSome has rules es ds → Keeps has rules el d → KeepsSome has rules (snoc es el) (snoc ds d)
+  kept_push el d some_none k = kept k some_none
+  kept_push el d (dropped not ks) k = dropped not (kept_push el d ks k)
+  kept_push el d (kept j ks) k = kept j (kept_push el d ks k)
 
-  drop_push : (es : List Element) (el : Element) {ds : Elements} → KeepsSome has rules (elements es) ds → (IsProductive has rules el → ⊥) → KeepsSome has rules (elements (es ++ el ∷ [])) ds
-  drop_push [] el some_none not = dropped not some_none
-  drop_push (c ∷ es) el (kept j ks) not = kept j (drop_push es el ks not)
-  drop_push (c ∷ es) el (dropped was ks) not = dropped was (drop_push es el ks not)
+  drop_push : {es ds : Elements} (el : Element) → KeepsSome has rules es ds → (IsProductive has rules el → ⊥) → KeepsSome has rules (snoc es el) ds
+  drop_push el some_none not = dropped not some_none
+  drop_push el (dropped was ks) not = dropped was (drop_push el ks not)
+  drop_push el (kept j ks) not = kept j (drop_push el ks not)
 
-map_next : (es : List Elem) (i : ℕ) (v : Elem) → i < length es → v ≡ get_or es i v → map element_of (take (i + 1) es) ≡ map element_of (take i es) ++ element_of v ∷ []
-map_next es i v lt is =
-    ap (λ k. map element_of (take k es)) (add-one i) ∙ ap (map element_of) (take-suc es i v lt) ∙ map-append element_of (take i es) (get_or es i v ∷ []) ∙
-    ap (λ w. map element_of (take i es) ++ element_of w ∷ []) (sym is)
+snoc_is : (es : List Element) (el : Element) → elements (es ++ el ∷ []) ≡ snoc (elements es) el
+snoc_is [] el = refl
+snoc_is (c ∷ es) el = ap (λ v. more c v) (snoc_is es el)
 
-map_push : (ds : List Elem) (d : Elem) → map element_of (ds ++ d ∷ []) ≡ map element_of ds ++ element_of d ∷ []
-map_push ds d = map-append element_of ds (d ∷ [])
+push_is : (es : List Elem) (v : Elem) → elements_of (es ++ v ∷ []) ≡ snoc (elements_of es) (element_of v)
+push_is es v = ap elements (map-append element_of es (v ∷ [])) ∙ snoc_is (map element_of es) (element_of v)
+
+next_is : (es : List Elem) (i : ℕ) (v : Elem) → i < length es → v ≡ get_or es i v → elements_of (take (i + 1) es) ≡ snoc (elements_of (take i es)) (element_of v)
+next_is es i v lt is =
+    ap (λ k. elements_of (take k es)) (add-one i) ∙ ap elements_of (take-suc es i v lt) ∙ ap (λ w. elements_of (take i es ++ w ∷ [])) (sym is) ∙ push_is (take i es) v
 
 one_at : (has : ℕ → Bool) (rules : List Rule) (es : List Elem) (i : ℕ) (d : Elem) {w : List ℕ} → i < length es → AreLetters has w → DerivesAll has rules (elements_of es) w → IsProductive has rules (element_of (get_or es i d))
 one_at has rules [] i d lt all ds = absurd (omega (arith, lt))
@@ -145,18 +149,18 @@ one_at has rules (x ∷ es) (suc i) d lt all (then {w = w} {v = v} one ds) = one
 module _ (has : ℕ → Bool) (rules : List Rule) (es ds : List Elem) (i : ℕ) (v : Elem) (lt : i < length es) (is : v ≡ get_or es i v) where
   pub next_member : (d : Elem) → KeepsAll has rules (elements_of (take i es)) (elements_of ds) → Keeps has rules (element_of v) (element_of d) →
       KeepsAll has rules (elements_of (take (i + 1) es)) (elements_of (ds ++ d ∷ []))
-  next_member d ks k = rw (map_next es i v lt is, map_push ds d) (all_push has rules (map element_of (take i es)) (element_of v) (element_of d) (map element_of ds) ks k)
+  next_member d ks k = rw (next_is es i v lt is, push_is ds d) (all_push has rules (element_of v) (element_of d) ks k)
 
   pub no_member : (IsProductive has rules (element_of v) → ⊥) → AreProductive has rules (elements_of es) → ⊥
   no_member not p = not (subst (λ w. IsProductive has rules (element_of w)) (sym is) (one_at has rules es i v lt p.letters p.derives))
 
   pub next_kept : (d : Elem) → KeepsSome has rules (elements_of (take i es)) (elements_of ds) → Keeps has rules (element_of v) (element_of d) →
       KeepsSome has rules (elements_of (take (i + 1) es)) (elements_of (ds ++ d ∷ []))
-  next_kept d ks k = rw (map_next es i v lt is, map_push ds d) (kept_push has rules (map element_of (take i es)) (element_of v) (element_of d) (map element_of ds) ks k)
+  next_kept d ks k = rw (next_is es i v lt is, push_is ds d) (kept_push has rules (element_of v) (element_of d) ks k)
 
   pub next_dropped : KeepsSome has rules (elements_of (take i es)) (elements_of ds) → (IsProductive has rules (element_of v) → ⊥) →
       KeepsSome has rules (elements_of (take (i + 1) es)) (elements_of ds)
-  next_dropped ks not = rw (map_next es i v lt is) (drop_push has rules (map element_of (take i es)) (element_of v) ks not)
+  next_dropped ks not = rw (next_is es i v lt is) (drop_push has rules (element_of v) ks not)
 
 pub copied_next : (vs got : List ℕ) (i d : ℕ) → i < length vs → got ≡ take i vs → got ++ get_or vs i d ∷ [] ≡ take (i + 1) vs
 copied_next vs got i d lt is = ap (λ l. l ++ get_or vs i d ∷ []) is ∙ sym (ap (λ k. take k vs) (add-one i) ∙ take-suc vs i d lt)

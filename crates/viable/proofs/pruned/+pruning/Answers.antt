@@ -4,7 +4,7 @@ use Rattle.letters.specs.Letters.{has}
 use Rattle.viable.specs.Pruned.{keep_none, some_none}
 use Rattle.viable.proofs.PruneLemmas as o
 use Rattle.viable.proofs.pruned.+pruning.Goals as goal
-use Rattle.viable.proofs.pruned.+pruning.Goals.{prune-in-Text+in_ok-prune_text-in-Text, prune-in-Values+in_ok-left-in-Values, prune-in-Range, prune-in-Concat+in_ok-prune_all-in-Concat, prune-in-Alt+in_ok-prune_some-in-Alt, prune-in-Rep+in_ok-operand-in-Rep+in_ok-left-in-Rep, prune-in-Opt+in_ok-operand-in-Opt+in_ok-prune_option-in-Opt, prune-in-Name+in_ok-left-in-Name, prune-in-Prose}
+use Rattle.viable.proofs.pruned.+pruning.Goals.{prune-in-Text+in_ok-prune_text-in-Text, prune-in-Values+in_ok-left-in-Values, prune-in-Range, prune-in-Concat+in_ok-prune_all-in-Concat, prune-in-Alt+in_ok-prune_some-in-Alt, prune-in-Rep+in_ok-operand-in-Rep+in_ok-left-in-Rep, prune-in-Opt+in_ok-operand-in-Opt+in_ok-prune_option-in-Opt, prune-in-Name+in_ok-left-in-Name, prune-in-Prose, prune_some-in-Some+in_ok-push-in-Some, prune_some-in-None}
 
 pub prune-returns : goal.prune-returns
 prune-returns t c = elim c.match-e.branch [
@@ -36,10 +36,10 @@ prune_all-loop-member-preserved t c = rw c.in_ok-push-in-Some.ensures.items
 pub prune_some-loop-alternative-init : goal.prune_some-loop-alternative-init
 prune_some-loop-alternative-init t c = rw c.new-kept.ensures.items some_none
 
-pub prune_some-loop-alternative-preserved-in_ok-push-in-Some : goal.prune_some-loop-alternative-preserved-in_ok-push-in-Some
-prune_some-loop-alternative-preserved-in_ok-push-in-Some t c = rw c.in_ok-push-in-Some.ensures.items
-    (o.next_kept (has c.args.alphabet) (rules_of c.args.rules.now) _ _ _ _ c.loop-alternative-test.true c.alternative-item.is _ c.loop-alternative.invariant (rw c.in-Some.is at c.in_ok-left.ensures))
-
-pub prune_some-loop-alternative-preserved-in-None : goal.prune_some-loop-alternative-preserved-in-None
-prune_some-loop-alternative-preserved-in-None t c =
-    o.next_dropped (has c.args.alphabet) (rules_of c.args.rules.now) _ _ _ _ c.loop-alternative-test.true c.alternative-item.is c.loop-alternative.invariant (rw c.in-None.is at c.in_ok-left.ensures)
+pub prune_some-loop-alternative-preserved : goal.prune_some-loop-alternative-preserved
+prune_some-loop-alternative-preserved t c = elim c.match-branch-2.branch [
+  | prune_some-in-Some+in_ok-push-in-Some w ↦ rw (w.kept-is, w.in_ok-push-in-Some.ensures.items)
+      (o.next_kept (has c.args.alphabet) (rules_of c.args.rules.now) _ _ _ _ c.loop-alternative-test.true c.alternative-item.is _ c.loop-alternative.invariant (rw w.in-Some.is at c.in_ok-left.ensures))
+  | prune_some-in-None w ↦ rw w.kept-is
+      (o.next_dropped (has c.args.alphabet) (rules_of c.args.rules.now) _ _ _ _ c.loop-alternative-test.true c.alternative-item.is c.loop-alternative.invariant (rw w.in-None.is at c.in_ok-left.ensures))
+]
