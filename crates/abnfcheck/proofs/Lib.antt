@@ -1,5 +1,5 @@
 pub mod AbnfNotesLemmas
-mod AimLemmas
+pub mod AimLemmas
 mod DerivesDecidedLemmas
 mod ElementNeedsLemmas
 mod FiniteLeastLemmas
@@ -7,7 +7,7 @@ mod GraphLemmas
 mod JoinLemmas
 mod JoinedRulesLemmas
 pub mod LiesLemmas
-mod NameIdsLemmas
+pub mod NameIdsLemmas
 mod NameMarksLemmas
 mod RuleIdLemmas
-mod YieldsLemmas
+pub mod YieldsLemmas

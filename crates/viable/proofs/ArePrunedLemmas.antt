@@ -1,17 +1,15 @@
 -- The items of the pruned rules tell what the rules derive, and what begins it.
 -- Serves: lower_viable.
-use Rattle.std.proofs.Common.{◌≡◌, ◌↔◌, ℕ, zero, suc, ◌+◌, ◌<◌, ◌≤◌, Bool, List, [], ◌∷◌, ◌++◌, length, take, Option, Some, None, refl, sym, ◌∙◌, ap, subst, arith}
+use Rattle.std.proofs.Common.{◌≡◌, ◌↔◌, ℕ, zero, suc, ◌<◌, ◌≤◌, Bool, List, [], ◌∷◌, length, take, Some, refl, sym, ◌∙◌, ap, subst, arith}
 use Rattle.std.specs.Prelude.{slice_get}
 use Rattle.std.proofs.lemmas.List.{length-map}
 use Rattle.abnfread.specs.Element as e
 use Rattle.abnfread.specs.Element.{Element, Rule, bodies, body_of, id_of}
 use Rattle.abnfcheck.specs.Beginnings.{BeginsMember}
-use Rattle.abnfcheck.specs.Derivable as der
 use Rattle.abnfcheck.specs.Derivable.{AreLetters, Derives, RuleDerives}
 use Rattle.abnfcheck.proofs.YieldsLemmas.{letters_both}
-use Rattle.flatgrammar.specs.Flat.{Node, Nothing, Flat, at}
-use Rattle.flatgrammar.specs.Holds.{Holds}
-use Rattle.flatgrammar.specs.Lowered.{Spells, spells, Shows, shows_prose, IsLowered}
+use Rattle.flatgrammar.specs.Flat.{Nothing, Flat}
+use Rattle.flatgrammar.specs.Lowered.{Spells, spells, shows_prose, IsLowered}
 use Rattle.flatgrammar.specs.Places.{size, sizes}
 use Rattle.flatgrammar.specs.ToldBeginnings.{HasItem, TellsBeginnings}
 use Rattle.flatgrammar.proofs.BeforeLemmas.{get_below}
@@ -117,7 +115,8 @@ module _ (has : ℕ → Bool) (rules left : List Rule) (pruned : ArePruned has r
   module _ (judged : ℕ) (flat : Flat) (lowered : IsLowered left judged flat) where
     forth_member : (x : List ℕ) (n : ℕ) → AreLetters has x → BeginsMember has rules judged x n → BeginsMember has left judged x n
     forth_member x n letters b = record {
-      rest = b.rest; letters = b.letters;
+      rest = b.rest;
+      letters = b.letters;
       derives = rule_forth (letters_both has (take n x) b.rest (letters_take has n x letters) b.letters) b.derives;
     }
 

@@ -1,6 +1,6 @@
 -- Whatever stands in an item set goes on to a list that the judged rule derives.
 -- Serves: lower_viable.
-use Rattle.std.proofs.Common.{◌≡◌, ℕ, zero, suc, ◌+◌, ◌<◌, Bool, Some, List, [], ◌∷◌, ◌++◌, take, refl, sym, ◌∙◌, ap, subst, arith, append_assoc}
+use Rattle.std.proofs.Common.{◌≡◌, ℕ, zero, suc, ◌+◌, ◌<◌, Bool, Some, List, [], ◌∷◌, ◌++◌, take, sym, ◌∙◌, ap, subst, arith, append_assoc}
 use Rattle.std.specs.Prelude.{slice_get}
 use Rattle.std.proofs.lemmas.List.{append-nil}
 use Rattle.abnfread.specs.Element as e
@@ -10,7 +10,7 @@ use Rattle.abnfcheck.specs.Derivable as der
 use Rattle.abnfcheck.specs.Derivable.{AreLetters, Derives, DerivesAll, all_done, then, RuleDerives}
 use Rattle.abnfcheck.proofs.LiesLemmas.{Lies, here, step, are_letters}
 use Rattle.abnfcheck.proofs.YieldsLemmas.{letters_both}
-use Rattle.flatgrammar.specs.Flat.{Node, Flat, Concat, Name, Place, at, Calling, Starts, starts, name_starts, reads, Calls, calls}
+use Rattle.flatgrammar.specs.Flat.{Node, Flat, Name, Place, at, Calling, Starts, starts, name_starts, reads, Calls, calls}
 use Rattle.flatgrammar.specs.Holds.{Holds, begins, called, has_read, returned}
 use Rattle.flatgrammar.specs.Lowered.{Spells, spells, Shows, shows_name, shows_concat, spell_none, spell_more, IsLowered}
 use Rattle.flatgrammar.specs.Places.{width}
@@ -19,7 +19,7 @@ use Rattle.flatgrammar.proofs.PlacesLemmas.{holds_place, calling_within}
 use Rattle.flatgrammar.proofs.ReachedLemmas.{Reached, sound}
 use Rattle.flatgrammar.proofs.RuleNodeLemmas.{body_of_number}
 use Rattle.viable.specs.Pruned.{IsProductive}
-use Rattle.viable.proofs.LiveLemmas.{IsLive, live_concat, live_name, no_live, more_live, GoesOn, goes_on, Part, part_of}
+use Rattle.viable.proofs.LiveLemmas.{IsLive, live_concat, live_name, no_live, more_live, goes_on, part_of}
 
 lies_take : (x : List ℕ) (i j : ℕ) (w : List ℕ) → Lies x i w j → take j x ≡ take i x ++ w
 lies_take x i j [] here = sym (append-nil (take i x))

@@ -8,7 +8,7 @@ use Rattle.abnfcheck.specs.Beginnings.{BeginsMember}
 use Rattle.abnfcheck.specs.Derivable as der
 use Rattle.abnfcheck.specs.Derivable.{AreLetters, Derives, DerivesAll, DerivesSome, DerivesTimes, all_done, then, this, later, no_more, one_more, RuleDerives}
 use Rattle.abnfcheck.proofs.LiesLemmas.{Lies, here, step, split, all_of}
-use Rattle.flatgrammar.specs.Flat.{Node, Flat, Letters, Concat, Alt, Rep, Place, at, Set, Has, Reading, Calling, Begins, Starts, starts, name_starts, reads, calls}
+use Rattle.flatgrammar.specs.Flat.{Flat, Letters, Concat, Alt, Rep, Place, at, Set, Has, Reading, Calling, Begins, Starts, starts, name_starts, reads, calls}
 use Rattle.flatgrammar.specs.Holds.{Holds, begins, called, has_read}
 use Rattle.flatgrammar.specs.Lowered.{Spells, spells, shows_text, shows_values, shows_range, shows_concat, shows_alt, shows_rep, shows_opt, shows_name, SpellAll, spell_none, spell_more, AreBodies, IsLowered}
 use Rattle.flatgrammar.specs.ToldBeginnings.{HasItem}

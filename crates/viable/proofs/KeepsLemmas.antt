@@ -1,6 +1,6 @@
 -- What is left of an element derives the same lists of letters, and is no larger.
 -- Serves: lower_viable.
-use Rattle.std.proofs.Common.{◌≡◌, ℕ, zero, suc, ◌+◌, ◌≤◌, Bool, true, List, [], ◌∷◌, ◌++◌, Option, Some, None, refl, sym, subst, arith}
+use Rattle.std.proofs.Common.{◌≡◌, ℕ, zero, suc, ◌≤◌, Bool, List, [], ◌∷◌, ◌++◌, Option, Some, None, refl, subst, arith}
 use Rattle.abnfread.specs.Element as e
 use Rattle.abnfread.specs.Element.{Element, Elements, none, more, Rule, body_of}
 use Rattle.abnfcheck.specs.Derivable as der

@@ -1,7 +1,6 @@
 -- Elements whose parts are productive: what lies before a step of a node goes on to what the element derives.
 -- Serves: lower_viable.
 use Rattle.std.proofs.Common.{◌≡◌, ℕ, zero, suc, ◌+◌, ◌-◌, ◌<◌, ◌≤◌, ◌⊎◌, inl, inr, Bool, Option, Some, None, List, [], ◌∷◌, ◌++◌, length, take, drop, refl, sym, subst, arith, append_assoc}
-use Rattle.std.specs.Prelude.{slice_get}
 use Rattle.std.proofs.lemmas.Bool.{cases_lt}
 use Rattle.std.proofs.lemmas.List.{append-nil}
 use Rattle.abnfread.specs.Element as e
@@ -161,7 +160,9 @@ module _ (has : ℕ → Bool) (rules : List Rule) where
         let h = member_at has rules nodes k s all is in
         let one : suc k ≡ k + 1 = omega arith in
         record {
-          of = h.el; spelled = h.spelled; live = live_at k ls h.is;
+          of = h.el;
+          spelled = h.spelled;
+          live = live_at k ls h.is;
           on = λ v c. subst (λ z. Before has rules (Concat ms) (e.Concat es) z (w ++ v)) one (in_concat (all_snoc has rules es k w d h.is c));
         }
     part_of (Calling.alternative {k = k} {s = s} is) (shows_alt all) (live_alt ls) (alt_begun lt) =

@@ -1,6 +1,6 @@
 -- Where nothing begins at the judged rule's body, the item sets hold the whole's start alone.
 -- Serves: lower_viable.
-use Rattle.std.proofs.Common.{◌≡◌, ℕ, ◌+◌, ◌<◌, List, [], ◌∷◌, Some, refl, sym, ap, ◌∙◌, subst, arith}
+use Rattle.std.proofs.Common.{◌≡◌, ℕ, ◌<◌, List, [], ◌∷◌, Some, refl, sym, ap, ◌∙◌, subst, arith}
 use Rattle.std.specs.Prelude.{slice_get}
 use Rattle.flatgrammar.specs.Flat.{Flat, Node, Nothing, Concat, Place, at, Set, Begins, IsDone, Reading, Calling, Starts, starts, name_starts, Ends, ends, name_ends, Reads, reads, Calls, calls}
 use Rattle.flatgrammar.specs.Holds.{Holds, begins, called, has_read, returned}

@@ -1,14 +1,14 @@
 -- A table of the same names with what is left of the bodies, rule by rule.
 -- Serves: lower_viable.
-use Rattle.std.proofs.Common.{◌≡◌, ℕ, zero, suc, ◌+◌, ◌<◌, ◌⊎◌, inl, inr, ⊎_elim, Bool, cond, List, [], ◌∷◌, ◌++◌, length, map, take, Some, refl, sym, ◌∙◌, ap, subst, arith}
+use Rattle.std.proofs.Common.{◌≡◌, ℕ, zero, suc, ◌+◌, ⊎_elim, Bool, cond, List, [], ◌∷◌, ◌++◌, length, map, take, Some, refl, sym, ◌∙◌, ap, subst, arith}
 use Rattle.std.specs.Prelude.{slice_get}
-use Rattle.std.proofs.lemmas.List.{length-map, length-take-le, map-append}
+use Rattle.std.proofs.lemmas.List.{length-map, length-take-le}
 use Rattle.ruletable.specs.Rules as table
 use Rattle.ruletable.specs.Rules.{names_of, bodies_of, same_name, HasUniqueNames, Defines}
 use Rattle.ruletable.specs.declared.table.Defined.{Defined}
 use Rattle.ruletable.specs.declared.table.Defined.TheVariants.{Added, Duplicate}
 use Rattle.ruletable.specs.declared.table.NameCase.TheVariants.{Fold}
-use Rattle.abnfread.specs.Element.{Element, Rule, bodies, id_of}
+use Rattle.abnfread.specs.Element.{Element, bodies, id_of}
 use Rattle.abnfread.specs.Views.{element_of, rule_of, rules_of}
 use Rattle.abnfread.specs.declared.elem.Elem.{Elem}
 use Rattle.abnfcheck.proofs.NameIdsLemmas.{name_next}

@@ -1,4 +1,4 @@
-use Rattle.std.proofs.Common.{◌==◌, sym, ◌∙◌, ap}
+use Rattle.std.proofs.Common.{◌==◌, ◌∙◌, ap}
 use Rattle.abnfread.proofs.ElementLemmas.{element-Alt}
 use Rattle.viable.proofs.PruneLemmas as o
 use Rattle.viable.proofs.pruned.prune_alt.Goals as goal

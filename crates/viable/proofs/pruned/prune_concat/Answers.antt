@@ -1,6 +1,5 @@
 use Rattle.abnfread.proofs.ElementLemmas.{element-Concat}
 use Rattle.viable.specs.Pruned.{keep_concat}
-use Rattle.viable.proofs.PruneLemmas as o
 use Rattle.viable.proofs.pruned.prune_concat.Goals as goal
 
 pub returns : goal.returns

@@ -1,4 +1,3 @@
-use Rattle.std.proofs.Common.{arith}
 use Rattle.abnfread.proofs.ElementLemmas.{element-Concat, element-Rep}
 use Rattle.viable.specs.Pruned.{keep_rep}
 use Rattle.viable.proofs.PruneLemmas as o
