@@ -1,5 +1,5 @@
 -- What texts, values and ranges derive of what is asked for.
--- Serves: check_abnf (sound), nullable, productive
+-- Serves: check_abnf (sound), nullable, productive, lower_viable
 use Rattle.std.proofs.Common.{◌≡◌, ◌↔◌, ℕ, zero, suc, ◌+◌, ◌<◌, ◌==◌, Bool, true, false, List, [], ◌∷◌, length, take, get_or, add-one, refl, sym, ◌∙◌, ap, subst, arith, lt-ltb}
 use Rattle.std.specs.Prelude.{IsTrue}
 use Rattle.std.proofs.lemmas.Bool.{both_ways, eqb-true}
@@ -50,7 +50,7 @@ stands_for_itself : (folds : Bool) (c : ℕ) → StandsFor folds c c
 stands_for_itself true c = refl
 stands_for_itself false c = refl
 
-spelled_itself : (folds : Bool) (t : List ℕ) → Spelled folds t t
+pub spelled_itself : (folds : Bool) (t : List ℕ) → Spelled folds t t
 spelled_itself folds [] = der.end
 spelled_itself folds (c ∷ t) = der.next (stands_for_itself folds c) (spelled_itself folds t)
 
@@ -59,7 +59,7 @@ byte_is_letter : (alphabet : Alphabet) (b : ℕ) → b < 256 → in_alphabet alp
 byte_is_letter Bytes b lt = lt-ltb b 256 lt
 byte_is_letter Utf8 b lt = rw (lt-ltb b 0xD800 (omega (arith, lt))) refl
 
-bytes_are_letters : (alphabet : Alphabet) (t : List ℕ) → ((i : ℕ) → get_or t i 0 < 256) → AreLetters (in_alphabet alphabet) t
+pub bytes_are_letters : (alphabet : Alphabet) (t : List ℕ) → ((i : ℕ) → get_or t i 0 < 256) → AreLetters (in_alphabet alphabet) t
 bytes_are_letters alphabet [] bytes = tt
 bytes_are_letters alphabet (b ∷ t) bytes = (byte_is_letter alphabet b (bytes 0), bytes_are_letters alphabet t (λ i. bytes (suc i)))
 

@@ -1,5 +1,5 @@
 -- Where a list of letters leads from a state to another.
--- Serves: derivation_is_decided, furthest_is_found
+-- Serves: derivation_is_decided, furthest_is_found, lower_viable
 use Rattle.std.proofs.Common.{ℕ, List, [], ◌∷◌, ◌++◌}
 
 -- `Goes i c k`: the letter c leads from i to k

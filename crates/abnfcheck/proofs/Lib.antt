@@ -1,5 +1,5 @@
 pub mod AbnfNotesLemmas
-mod AimLemmas
+pub mod AimLemmas
 mod BeginsMemberLemmas
 mod DerivesDecidedLemmas
 mod ElementNeedsLemmas
@@ -9,7 +9,7 @@ pub mod IsPathLemmas
 mod JoinLemmas
 mod JoinedRulesLemmas
 pub mod LiesLemmas
-mod NameIdsLemmas
+pub mod NameIdsLemmas
 mod NameMarksLemmas
 mod RuleIdLemmas
-mod YieldsLemmas
+pub mod YieldsLemmas

@@ -1,5 +1,5 @@
 -- Where a list of letters lies in the line.
--- Serves: derivation_is_decided, furthest_is_found
+-- Serves: derivation_is_decided, furthest_is_found, lower_viable
 use Rattle.std.proofs.Common.{◌≡◌, ℕ, zero, suc, ◌+◌, ◌≤◌, Bool, true, List, [], ◌∷◌, length, refl, subst, arith}
 use Rattle.std.specs.Prelude.{slice_get, Some}
 use Rattle.abnfcheck.specs.Derivable.{AreLetters}

@@ -1,5 +1,5 @@
 -- Names by id, with one use more.
--- Serves: check_abnf (notes, sound)
+-- Serves: check_abnf (notes, sound), lower_viable
 use Rattle.std.proofs.Common.{◌≡◌, ℕ, zero, suc, ◌+◌, ◌<◌, ◌≤◌, inl, inr, ⊎_elim, Bool, true, false, ◌||◌, cond, not, nat_lt, List, [], ◌∷◌, ◌++◌, length, map, take, get_or, position, Option, Some, None, refl, sym, ◌∙◌, ap, subst, arith, append_assoc, append-nil, length-append, add-one}
 use Rattle.std.specs.Prelude.{slice_get, option_to_list}
 use Rattle.std.proofs.lemmas.Option.{slice_get_within, get_or_from_slice_get}
@@ -110,7 +110,7 @@ position-none p xs h = any-counted p xs ∙ by (nat_lt (prefix_len (λ x. not (p
     by true e = absurd (cc e)
     by false e = refl
 
-found_in : (names : Rules (Unit {0})) (name : List ℕ) → names.names ≡ Fold → find_in names name ≡ position (same_name Fold name) (names_of names)
+found_in : {A : Type 0} (names : Rules A) (name : List ℕ) → names.names ≡ Fold → find_in names name ≡ position (same_name Fold name) (names_of names)
 found_in names name folds = rw folds (sym (position-map (λ rule. rule.name) (same_name Fold name) names.rules))
 
 pub added_by : (old new : Rules (Unit {0})) (rule : table.Rule (Unit {0})) (id : ℕ) → old.names ≡ Fold → Defines old new rule (Added id) → IsAdded old new rule.name id
@@ -223,14 +223,14 @@ next_rows rules old new more rows row i body at is r ids = record {
 pub no_rows : (rules : List Rule) (names : List (List ℕ)) → AreRowsTo rules names [] 0
 no_rows rules names = record { count_is = refl; ids = λ id body lt at. absurd (omega (arith, lt)) }
 
--- the names of a table's rules, one by one
-rule_named : (rules : List (table.Rule Elem)) (id : ℕ) (name : List ℕ) → slice_get (map (λ rule. rule.name) rules) id ≡ Some name →
-    (rule : table.Rule Elem) × (slice_get rules id ≡ Some rule) × (rule.name ≡ name)
+-- the names of a table's rules, one by one, are those of another table
+rule_named : {A : Type 0} (rules : List (table.Rule A)) (id : ℕ) (name : List ℕ) → slice_get (map (λ rule. rule.name) rules) id ≡ Some name →
+    (rule : table.Rule A) × (slice_get rules id ≡ Some rule) × (rule.name ≡ name)
 rule_named [] id name h = absurd (cc h)
 rule_named (rule ∷ rules) zero name h = (rule, refl, cc h)
 rule_named (rule ∷ rules) (suc id) name h = rule_named rules id name h
 
-pub name_next : (t : Rules Elem) → HasUniqueNames t → t.names ≡ Fold → (names new : Rules (Unit {0})) (i : ℕ) (rule : table.Rule (Unit {0})) (done : Defined) → names.names ≡ Fold →
+pub name_next : {A B : Type 0} (t : Rules A) → HasUniqueNames t → t.names ≡ Fold → (names new : Rules B) (i : ℕ) (rule : table.Rule B) (done : Defined) → names.names ≡ Fold →
     names_of names ≡ take i (names_of t) → slice_get (names_of t) i ≡ Some rule.name → Defines names new rule done → (new.names ≡ Fold) × (names_of new ≡ take (i + 1) (names_of t))
 name_next t unique t_folds names new i rule (Added id) folds so_far at d = (
   ap (λ n. n.names) d.2 ∙ folds,

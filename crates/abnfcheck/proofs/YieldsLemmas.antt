@@ -1,5 +1,5 @@
 -- A number is in the least set exactly if its element derives a list that is asked for.
--- Serves: check_abnf (sound), nullable, productive
+-- Serves: check_abnf (sound), nullable, productive, lower_viable
 use Rattle.std.proofs.Common.{◌≡◌, ◌↔◌, ℕ, zero, suc, ◌<◌, ◌≤◌, ◌⊎◌, inl, inr, ⊎_elim, Bool, true, false, cond, leb, ltb, List, [], ◌∷◌, ◌++◌, length, Option, Some, None, refl, sym, ◌∙◌, subst, arith, leb-true, le-leb, ltb-true, lt-ltb, take}
 use Rattle.std.specs.Prelude.{slice_get, Contains, IsTrue}
 use Rattle.leastset.specs.Demands.{Demand, All, One}
@@ -24,11 +24,11 @@ nil_both : (w v : List ℕ) → w ++ v ≡ [] → (w ≡ []) × (v ≡ [])
 nil_both [] v is = (refl, is)
 nil_both (c ∷ w) v is = absurd (cc is)
 
-letters_both : (has : ℕ → Bool) (w v : List ℕ) → AreLetters has w → AreLetters has v → AreLetters has (w ++ v)
+pub letters_both : (has : ℕ → Bool) (w v : List ℕ) → AreLetters has w → AreLetters has v → AreLetters has (w ++ v)
 letters_both has [] v a b = b
 letters_both has (c ∷ w) v a b = (a.0, letters_both has w v a.1 b)
 
-letters_parts : (has : ℕ → Bool) (w v : List ℕ) → AreLetters has (w ++ v) → AreLetters has w × AreLetters has v
+pub letters_parts : (has : ℕ → Bool) (w v : List ℕ) → AreLetters has (w ++ v) → AreLetters has w × AreLetters has v
 letters_parts has [] v a = (tt, a)
 letters_parts has (c ∷ w) v a = let rest = letters_parts has w v a.1 in ((a.0, rest.0), rest.1)
 

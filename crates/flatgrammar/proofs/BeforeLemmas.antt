@@ -1,5 +1,5 @@
 -- What lies before a step of a node.
--- Serves: items_tell, lower, judge.
+-- Serves: items_tell, lower, judge, lower_viable.
 use Rattle.std.proofs.Common.{◌≡◌, ℕ, zero, suc, ◌+◌, ◌<◌, ◌≤◌, min, Bool, true, false, List, [], ◌∷◌, ◌++◌, map, length, take, refl, sym, ap, subst, arith, append_assoc}
 use Rattle.std.specs.Prelude.{slice_get, Option, Some, None}
 use Rattle.std.proofs.lemmas.List.{append-nil}
@@ -41,12 +41,12 @@ nth none k = None
 nth (more e es) zero = Some e
 nth (more e es) (suc k) = nth es k
 
-fit_text : (folds : Bool) (t w : List ℕ) → Fit (map (letter_set folds) t) w → Spelled folds t w
+pub fit_text : (folds : Bool) (t w : List ℕ) → Fit (map (letter_set folds) t) w → Spelled folds t w
 fit_text folds [] w fit_none = der.end
 fit_text true (b ∷ t) w (fit_more {w = v} h f) = der.next h (fit_text true t v f)
 fit_text false (b ∷ t) w (fit_more {w = v} h f) = der.next h (fit_text false t v f)
 
-fit_values : (vs w : List ℕ) → Fit (map Exactly vs) w → w ≡ vs
+pub fit_values : (vs w : List ℕ) → Fit (map Exactly vs) w → w ≡ vs
 fit_values [] w fit_none = refl
 fit_values (b ∷ vs) w (fit_more {c = c} {w = v} h f) = let rest = fit_values vs v f in let same : c ≡ b = h in cc
 
@@ -81,7 +81,7 @@ first_all rules nodes spell_none = refl
 first_all rules nodes (spell_more {el = el} s all) = ap (λ v. more el v) (first_all rules nodes all)
 
 module _ (has : ℕ → Bool) (rules : List Rule) where
-  all_snoc : (es : Elements) (k : ℕ) (w : List ℕ) {el : Element} {v : List ℕ} → DerivesAll has rules (first k es) w → nth es k ≡ Some el → Derives has rules el v →
+  pub all_snoc : (es : Elements) (k : ℕ) (w : List ℕ) {el : Element} {v : List ℕ} → DerivesAll has rules (first k es) w → nth es k ≡ Some el → Derives has rules el v →
       DerivesAll has rules (first (suc k) es) (w ++ v)
   all_snoc none k w d is c = absurd cc
   all_snoc (more e es) zero w {el = el} {v = v} all_done is c =
@@ -90,12 +90,12 @@ module _ (has : ℕ → Bool) (rules : List Rule) where
   all_snoc (more e es) (suc k) w {v = v} (then {w = u} {v = u'} d ds) is c =
       subst (λ z. DerivesAll has rules (more e (first (suc k) es)) z) (sym (append_assoc u u' v)) (then d (all_snoc es k u' ds is c))
 
-  times_snoc : {k : ℕ} {el : Element} {w v : List ℕ} → DerivesTimes has rules el k w → Derives has rules el v → DerivesTimes has rules el (suc k) (w ++ v)
+  pub times_snoc : {k : ℕ} {el : Element} {w v : List ℕ} → DerivesTimes has rules el k w → Derives has rules el v → DerivesTimes has rules el (suc k) (w ++ v)
   times_snoc {el = el} {v = v} no_more c = subst (λ u. DerivesTimes has rules el 1 u) (append-nil v) (one_more c no_more)
   times_snoc {el = el} {v = v} (one_more {k = k} {w = u} {v = u'} d ds) c =
       subst (λ z. DerivesTimes has rules el (suc (suc k)) z) (sym (append_assoc u u' v)) (one_more d (times_snoc ds c))
 
-  some_of : (es : Elements) (k : ℕ) {el : Element} {w : List ℕ} → nth es k ≡ Some el → Derives has rules el w → DerivesSome has rules es w
+  pub some_of : (es : Elements) (k : ℕ) {el : Element} {w : List ℕ} → nth es k ≡ Some el → Derives has rules el w → DerivesSome has rules es w
   some_of none k is d = absurd cc
   some_of (more e es) zero {el = el} {w = w} is d = this (let same : el ≡ e = cc in subst (λ u. Derives has rules u w) same d)
   some_of (more e es) (suc k) is d = later (some_of es k is d)
@@ -129,12 +129,12 @@ module _ (has : ℕ → Bool) (rules : List Rule) where
     start_part Begins.opt (shows_opt s) = opt_begun
     start_part Begins.opt_empty (shows_opt s) = opt_passed
 
-    record Member (es : Elements) (k t : ℕ) : Type 0 where
-      el : Element
-      is : nth es k ≡ Some el
-      spelled : Spells rules nodes t el
+    pub record Member (es : Elements) (k t : ℕ) : Type 0 where
+      pub el : Element
+      pub is : nth es k ≡ Some el
+      pub spelled : Spells rules nodes t el
 
-    member_at : {ms : List ℕ} {es : Elements} (k t : ℕ) → SpellAll rules nodes ms es → slice_get ms k ≡ Some t → Member es k t
+    pub member_at : {ms : List ℕ} {es : Elements} (k t : ℕ) → SpellAll rules nodes ms es → slice_get ms k ≡ Some t → Member es k t
     member_at k t spell_none is = absurd cc
     member_at zero t (spell_more {m = m} {el = el} s all) is = record { el = el; is = refl; spelled = (let same : m ≡ t = cc in subst (λ v. Spells rules nodes v el) same s) }
     member_at (suc k) t (spell_more s all) is = let h = member_at k t all is in record { el = h.el; is = h.is; spelled = h.spelled }

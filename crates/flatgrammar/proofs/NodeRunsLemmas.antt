@@ -1,5 +1,5 @@
 -- What is derived stands as an item.
--- Serves: items_tell, lower, judge.
+-- Serves: items_tell, lower, judge, lower_viable.
 use Rattle.std.proofs.Common.{◌≡◌, ℕ, zero, suc, ◌+◌, ◌<◌, ◌≤◌, min, List, [], ◌∷◌, length, drop, refl, sym, ◌∙◌, ap, subst, arith, ◌⊎◌, inl, inr}
 use Rattle.std.proofs.lemmas.Bool.{cases_lt}
 use Rattle.std.specs.Prelude.{slice_get, Bool, Option, Some, None}
@@ -15,13 +15,13 @@ use Rattle.abnfcheck.proofs.IsPathLemmas.{here, step, split}
 use Rattle.abnfcheck.proofs.LiesLemmas.{OnLine, Lies}
 use Rattle.flatgrammar.proofs.BeforeLemmas.{Fit, fit_none, fit_more, text_fits, values_fit, Turned, turned_none}
 
-record Next {A : Type 0} (xs : List A) (k : ℕ) (y : A) (ys : List A) : Type 0 where
-  is : slice_get xs k ≡ Some y
-  rest : drop (k + 1) xs ≡ ys
-  below : k < length xs
+pub record Next {A : Type 0} (xs : List A) (k : ℕ) (y : A) (ys : List A) : Type 0 where
+  pub is : slice_get xs k ≡ Some y
+  pub rest : drop (k + 1) xs ≡ ys
+  pub below : k < length xs
 
 -- the first of what is left stands at that place
-next_of : {A : Type 0} (xs : List A) (k : ℕ) {y : A} {ys : List A} → drop k xs ≡ y ∷ ys → Next xs k y ys
+pub next_of : {A : Type 0} (xs : List A) (k : ℕ) {y : A} {ys : List A} → drop k xs ≡ y ∷ ys → Next xs k y ys
 next_of [] zero h = absurd cc
 next_of [] (suc k) h = absurd cc
 next_of (z ∷ xs) zero {y = y} {ys = ys} h =
@@ -33,12 +33,12 @@ next_of (z ∷ xs) (suc k) {ys = ys} h =
     record { is = n.is; rest = (let one : suc (k + 1) ≡ suc k + 1 = omega arith in subst (λ v. drop v (z ∷ xs) ≡ ys) one n.rest); below = omega (arith, n.below) }
 
 -- one more turn of a repetition, after t turns, at step f
-record Turn (a : ℕ) (b : Option ℕ) (m t f : ℕ) : Type 0 where
-  to : ℕ
-  calling : Calling (Rep a b m) f m to
-  turned : Turned a b (suc t) to
+pub record Turn (a : ℕ) (b : Option ℕ) (m t f : ℕ) : Type 0 where
+  pub to : ℕ
+  pub calling : Calling (Rep a b m) f m to
+  pub turned : Turned a b (suc t) to
 
-turn_on : (a : ℕ) (b : Option ℕ) (m t f : ℕ) → Turned a b t f → der.Within (suc t) b → Turn a b m t f
+pub turn_on : (a : ℕ) (b : Option ℕ) (m t f : ℕ) → Turned a b t f → der.Within (suc t) b → Turn a b m t f
 turn_on a (Some most) m t f is within = record { to = f + 1; calling = Calling.turn (omega arith); turned = omega arith }
 turn_on a None m t f is within = by (cases_lt t a)
   where
@@ -51,11 +51,11 @@ turn_on a None m t f is within = by (cases_lt t a)
         let turned : a ≡ min (suc t) a = omega arith in
         record { to = a; calling = subst (λ v. Calling (Rep a None m) v m a) top_is Calling.turn_uncounted; turned = turned }
 
-within_less : (t k : ℕ) (b : Option ℕ) → der.Within (t + suc k) b → der.Within (suc t) b
+pub within_less : (t k : ℕ) (b : Option ℕ) → der.Within (t + suc k) b → der.Within (suc t) b
 within_less t k None h = tt
 within_less t k (Some b) h = omega arith
 
-within_same : (t k : ℕ) (b : Option ℕ) → der.Within (t + suc k) b → der.Within (suc t + k) b
+pub within_same : (t k : ℕ) (b : Option ℕ) → der.Within (t + suc k) b → der.Within (suc t + k) b
 within_same t k None h = tt
 within_same t k (Some b) h = omega arith
 

@@ -1,5 +1,5 @@
 -- A list of different items is no longer than places and origins allow.
--- Serves: items_at_most, judge.
+-- Serves: items_at_most, judge, lower_viable.
 use Rattle.std.proofs.Common.{◌≡◌, ℕ, zero, suc, ◌+◌, ◌*◌, ◌<◌, ◌≤◌, List, [], ◌∷◌, ◌++◌, length, refl, sym, ◌∙◌, ap, subst, arith, length-append, suc-mul, ◌⊎◌, inl, inr}
 use Rattle.std.proofs.lemmas.Bool.{cases_lt}
 use Rattle.std.specs.Prelude.{slice_get, Some}
@@ -116,7 +116,7 @@ module _ (flat : Flat) where
   reading_within : {node : Node} {k l : ℕ} {set : Set} → Reading node k set l → l < width node
   reading_within (Reading.letter {sets = sets} {k = k} is) = omega (arith, get_below sets k is)
 
-  calling_within : {node : Node} {k l t : ℕ} → Calling node k t l → l < width node
+  pub calling_within : {node : Node} {k l t : ℕ} → Calling node k t l → l < width node
   calling_within (Calling.member {ms = ms} {k = k} is) = omega (arith, get_below ms k is)
   calling_within (Calling.alternative {ms = ms} {k = k} is) = omega (arith, get_below ms k is)
   calling_within (Calling.turn lt) = omega arith

@@ -6,8 +6,9 @@ ghost use Rattle.flatgrammar.specs.Places.{places, sizes};
 ghost use Rattle.flatgrammar.specs.ToldBeginnings.{TellsBeginnings};
 ghost use Rattle.letters.specs.Letters.{has};
 
-use abnfcheck::SoundAbnf;
-use flatgrammar::Flat;
+use crate::pruned::prune_rules;
+use abnfcheck::{SoundAbnf, productive};
+use flatgrammar::{Flat, lower_rules};
 use letters::Alphabet;
 use ruletable::Memory;
 use std::alloc::Global;
@@ -21,6 +22,9 @@ pub fn lower_viable(alloc: Global, grammar: &SoundAbnf, alphabet: Alphabet) -> R
     ensures tells { IfOk result (λ flat. TellsBeginnings (has alphabet) (rules_of grammar.now.rules) grammar.now.judged flat) }
     ensures places { IfOk result (λ flat. places flat.nodes ≤ sizes (bodies (rules_of grammar.now.rules)) + 2) }
 {
-    // STUB
-    Err(Memory)
+    let judged = grammar.judged();
+    let marks = productive(alloc, grammar, alphabet)?;
+    let pruned = prune_rules(alloc, alphabet, grammar.rules(), &marks)?;
+    let flat = lower_rules(alloc, &pruned, judged)?;
+    Ok(flat)
 }

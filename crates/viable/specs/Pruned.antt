@@ -1,0 +1,75 @@
+-- Elements and rules without the parts that derive no list of letters.
+use Rattle.std.specs.Prelude.{◌≡◌, ℕ, Bool, List, length, slice_get, Option, Some, None, Vec}
+use Rattle.abnfread.specs.Element.{Element, Elements, Text, Values, Range, Concat, Alt, Rep, Opt, Name, Prose, none, more, Rule, bodies, id_of}
+use Rattle.abnfread.specs.Views.{element_of, elements_of}
+use Rattle.abnfread.specs.declared.elem.Elem.{Elem}
+use Rattle.abnfcheck.specs.Derivable.{AreLetters, Derives, DerivesAll, Within}
+use Rattle.letters.specs.Letters.{HasLetter}
+
+-- `has` tells the letters of the alphabet
+module _ (has : ℕ → Bool) (rules : List Rule) where
+  -- an element derives some list of letters
+  pub record IsProductive (e : Element) : Type 0 where
+    pub word : List ℕ
+    pub letters : AreLetters has word
+    pub derives : Derives has rules e word
+
+  -- the members one after another derive some list of letters
+  pub record AreProductive (es : Elements) : Type 0 where
+    pub word : List ℕ
+    pub letters : AreLetters has word
+    pub derives : DerivesAll has rules es word
+
+  mutual
+    -- `Keeps e d`: e is productive, and d is e with its productive parts alone
+    pub data Keeps : Element → Element → Type 0 where
+      keep_text : {folds : Bool} {t : List ℕ} → AreLetters has t → Keeps (Text folds t) (Text folds t)
+      keep_values : {vs : List ℕ} → AreLetters has vs → Keeps (Values vs) (Values vs)
+      keep_range : {low high : ℕ} → HasLetter has low high → Keeps (Range low high) (Range low high)
+      keep_concat : {es ds : Elements} → KeepsAll es ds → Keeps (Concat es) (Concat ds)
+      keep_alt : {es ds : Elements} → IsProductive (Alt es) → KeepsSome es ds → Keeps (Alt es) (Alt ds)
+      keep_rep : {a : ℕ} {b : Option ℕ} {e d : Element} → Within a b → Keeps e d → Keeps (Rep a b e) (Rep a b d)
+      empty_rep : {b : Option ℕ} {e : Element} → (IsProductive e → ⊥) → Keeps (Rep 0 b e) (Concat none)
+      keep_opt : {e d : Element} → Keeps e d → Keeps (Opt e) (Opt d)
+      empty_opt : {e : Element} → (IsProductive e → ⊥) → Keeps (Opt e) (Concat none)
+      keep_name : {n : List ℕ} → IsProductive (Name n) → Keeps (Name n) (Name n)
+
+    -- each member is kept
+    pub data KeepsAll : Elements → Elements → Type 0 where
+      keep_none : KeepsAll none none
+      keep_more : {e d : Element} {es ds : Elements} → Keeps e d → KeepsAll es ds → KeepsAll (more e es) (more d ds)
+
+    -- an alternative that is not productive is dropped
+    pub data KeepsSome : Elements → Elements → Type 0 where
+      some_none : KeepsSome none none
+      kept : {e d : Element} {es ds : Elements} → Keeps e d → KeepsSome es ds → KeepsSome (more e es) (more d ds)
+      dropped : {e : Element} {es ds : Elements} → (IsProductive e → ⊥) → KeepsSome es ds → KeepsSome (more e es) ds
+
+  -- what is left of an element: nothing, if it is not productive
+  abbrev pub IsLeft : Element → Option Element → Type 0
+  IsLeft e None = IsProductive e → ⊥
+  IsLeft e (Some d) = Keeps e d
+
+  -- what is left of the members: nothing, if one of them is not productive
+  abbrev pub AreLeft : Elements → Option Elements → Type 0
+  AreLeft es None = AreProductive es → ⊥
+  AreLeft es (Some ds) = KeepsAll es ds
+
+  -- the body of a rule that is not productive becomes one that derives nothing
+  pub data IsLeftBody : Element → Element → Type 0 where
+    left_body : {e d : Element} → Keeps e d → IsLeftBody e d
+    no_body : {e : Element} {t : List ℕ} → (IsProductive e → ⊥) → IsLeftBody e (Prose t)
+
+-- the same names with what is left of the bodies
+pub record ArePruned (has : ℕ → Bool) (rules left : List Rule) : Type 0 where
+  pub count : length left ≡ length rules
+  pub ids : (n : List ℕ) → id_of left n ≡ id_of rules n
+  pub left_of : (id : ℕ) (e d : Element) → slice_get (bodies rules) id ≡ Some e → slice_get (bodies left) id ≡ Some d → IsLeftBody has rules e d
+
+abbrev pub some_element : Option Elem → Option Element
+some_element None = None
+some_element (Some e) = Some (element_of e)
+
+abbrev pub some_elements : {Z : Type 0} → Option (Vec Elem Z) → Option Elements
+some_elements None = None
+some_elements (Some es) = Some (elements_of es.items)
