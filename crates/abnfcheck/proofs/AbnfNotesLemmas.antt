@@ -1,36 +1,31 @@
--- What marks choose of a list, the notes that are made of it, and what refuses a grammar.
+-- The notes on what marks choose of the rules, and what refuses a grammar.
 -- Serves: check_abnf (notes, sound), one_list_of_abnf_notes, one_statement_of_abnf
-use Rattle.std.proofs.Common.{◌≡◌, ◌↔◌, ℕ, zero, suc, ◌+◌, ◌<◌, ◌≤◌, ◌==◌, ◌⊎◌, inl, inr, ⊎_elim, Bool, true, false, not, ◌||◌, List, [], ◌∷◌, ◌++◌, length, map, take, drop, get_or, Option, Some, None, refl, sym, ◌∙◌, ap, subst, arith, add-one, append_assoc, append-nil, cond, drop-cons}
-use Rattle.std.specs.Prelude.{slice_get, slice_index_or, option_to_list, Contains}
-use Rattle.std.specs.List.{list_any}
+use Rattle.std.proofs.Common.{◌≡◌, ◌↔◌, ℕ, zero, suc, ◌+◌, ◌<◌, ◌≤◌, ◌⊎◌, inl, inr, ⊎_elim, Bool, true, false, not, List, [], ◌∷◌, ◌++◌, length, map, take, drop, get_or, Option, Some, None, refl, sym, ◌∙◌, ap, subst, arith, cond}
+use Rattle.std.specs.Prelude.{slice_index_or, option_to_list, Contains}
 use Rattle.std.proofs.Math.Seq.{drop-append_seam}
 use Rattle.std.proofs.lemmas.Bool.{both_ways}
-use Rattle.std.proofs.lemmas.Bool.Decides.{eqb_tells}
-use Rattle.std.proofs.lemmas.List.{map-append, length-map, get_or-take, get_or_past, length-take}
-use Rattle.std.proofs.lemmas.Option.{slice_get_within, get_or_from_slice_get}
+use Rattle.std.proofs.lemmas.List.{length-map, get_or-take, get_or_past, length-take}
 use Rattle.leastset.specs.NumberMarks.{IsMarked}
-use Rattle.leastset.proofs.ContainsLemmas.{none_of, in_first, in_later, cons_cases}
 use Rattle.leastset.proofs.IsMarkedLemmas.{marked_lt}
 use Rattle.ruletable.specs.Rules.{same_name}
 use Rattle.ruletable.specs.declared.table.NameCase.TheVariants.{Fold}
+use Rattle.rulenames.specs.FirstUses.{news}
+use Rattle.rulenames.specs.IdMarks.{chosen, AreMarks}
+use Rattle.rulenames.proofs.AreMarksLemmas.{opposite}
+use Rattle.rulenames.proofs.ChosenLemmas.{chosen_none}
 use Rattle.abnfread.specs.Element.{Rule, id_of}
 use Rattle.abnfcheck.specs.AbnfGrammar.{Reachable, judged_rule, by_name, IsSound}
 use Rattle.abnfcheck.specs.AbnfNotes as n
-use Rattle.ruletable.specs.Notes.{Said, said, said_of}
+use Rattle.ruletable.specs.Notes.{Said, said}
 use Rattle.abnfcheck.specs.AbnfNotes.{Those, no_more, this_one, not_this, judged_in, IsUnused, AreNotes, IsRefused, by_redefinition, by_prose}
-use Rattle.abnfcheck.specs.AbnfUses.{names_used, rule_names, news, HoldsProse}
+use Rattle.abnfcheck.specs.AbnfUses.{names_used, rule_names, HoldsProse}
 use Rattle.abnfcheck.specs.NameIds.{IsIdAt, IsGraph}
-use Rattle.abnfcheck.specs.NameMarks.{chosen, AreMarks, AreNoteMarks, IsUsed, ReachesBroken}
+use Rattle.abnfcheck.specs.NameMarks.{AreNoteMarks, IsUsed, ReachesBroken}
 use Rattle.abnfcheck.specs.ProseIn.{prose_in, prose_marks}
-use Rattle.ruletable.specs.declared.note.Note.{Note}
 use Rattle.ruletable.specs.declared.note.NoteKind.TheVariants as kind
 use Rattle.abnfcheck.proofs.GraphLemmas.{step_uses, uses_step, judged_at, reached_as, reached_by, marked_prose, prose_marked, body_below}
 
 -- what marks choose
-chosen_none : {A : Type 0} (xs : List A) → chosen [] xs ≡ []
-chosen_none [] = refl
-chosen_none (x ∷ xs) = refl
-
 pub those_chosen : (P : ℕ → Type 0) (i : ℕ) (file : List Rule) (more : List (List ℕ)) (marks : List Bool) → length marks ≡ length file →
     ((id : ℕ) → id < length file → (IsMarked marks id ↔ P (i + id))) → Those P i file (chosen marks (rule_names file ++ more))
 those_chosen P i [] more [] count h = subst (λ v. Those P i [] v) (sym (chosen_none more)) no_more
@@ -44,87 +39,6 @@ those_chosen P i (rule ∷ file) more (false ∷ marks) count h =
     let zero_is : i ≡ i + 0 = omega arith in
     not_this (λ p. both_ways false refl ((h 0 (omega arith)).1 (subst P zero_is p)))
     (those_chosen P (suc i) file more marks (omega (arith, count)) (λ id lt. let same : i + suc id ≡ suc i + id = omega arith in subst (λ v. IsMarked marks id ↔ P v) same (h (suc id) (omega (arith, lt)))))
-
--- the first of what is left, chosen or not
-left-first : {X : Type 0} (xs : List X) (i : ℕ) (x : X) → i < length xs → get_or xs i x ≡ x → drop i xs ≡ x ∷ drop (i + 1) xs
-left-first xs i x low is = drop-cons xs i x low ∙ ap (λ y. y ∷ drop (suc i) xs) is ∙ ap (λ (k : ℕ). x ∷ drop k xs) (sym (add-one i))
-
-left-mark : (marks : List Bool) (i : ℕ) (b : Bool) → i < length marks → get_or marks i false ≡ b → drop i marks ≡ b ∷ drop (i + 1) marks
-left-mark marks i b low is = drop-cons marks i false low ∙ ap (λ t. t ∷ drop (suc i) marks) is ∙ ap (λ (k : ℕ). b ∷ drop k marks) (sym (add-one i))
-
-chosen-on : {X : Type 0} (marks : List Bool) (xs : List X) (i : ℕ) (x : X) → i < length marks → i < length xs → get_or xs i x ≡ x → get_or marks i false ≡ true →
-    chosen (drop i marks) (drop i xs) ≡ x ∷ chosen (drop (i + 1) marks) (drop (i + 1) xs)
-chosen-on marks xs i x low high is on = rw (left-mark marks i true low on, left-first xs i x high is) refl
-
-chosen-off : (marks : List Bool) (xs : List (List ℕ)) (i : ℕ) → i < length marks → i < length xs → get_or marks i false ≡ false →
-    chosen (drop i marks) (drop i xs) ≡ chosen (drop (i + 1) marks) (drop (i + 1) xs)
-chosen-off marks xs i low high off =
-    rw (left-mark marks i false low off, drop-cons xs i [] high) (ap (λ (k : ℕ). chosen (drop (i + 1) marks) (drop k xs)) (sym (add-one i)))
-
--- one more note
-note-more : (now new : List Note) (note : Note) (what : Said) (left all : List Said) → new ≡ now ++ note ∷ [] → said_of note ≡ what →
-    map said_of now ++ (what ∷ left) ≡ all → map said_of new ++ left ≡ all
-note-more now new note what left all e is h =
-    ap (λ l. l ++ left) (ap (map said_of) e ∙ map-append said_of now (note ∷ []) ∙ ap (λ s. map said_of now ++ s ∷ []) is)
-    ∙ append_assoc (map said_of now) (what ∷ []) left ∙ h
-
-pub note-marked : (f : List ℕ → Said) (marks : List Bool) (names : List (List ℕ)) (i : ℕ) (name : List ℕ) (now new : List Note) (note : Note) (all : List Said) →
-    i < length marks → slice_get names i ≡ Some name → get_or marks i false ≡ true → new ≡ now ++ note ∷ [] → said_of note ≡ f name →
-    map said_of now ++ map f (chosen (drop i marks) (drop i names)) ≡ all → map said_of new ++ map f (chosen (drop (i + 1) marks) (drop (i + 1) names)) ≡ all
-note-marked f marks names i name now new note all low at on e is h =
-    note-more now new note (f name) (map f (chosen (drop (i + 1) marks) (drop (i + 1) names))) all e is
-    (ap (λ l. map said_of now ++ map f l) (sym (chosen-on marks names i name low (slice_get_within names i name at) (get_or_from_slice_get names i name name at) on)) ∙ h)
-
-pub note-unmarked : (f : List ℕ → Said) (marks : List Bool) (names : List (List ℕ)) (i : ℕ) (now all : List Said) → i < length marks → i < length names → get_or marks i false ≡ false →
-    now ++ map f (chosen (drop i marks) (drop i names)) ≡ all → now ++ map f (chosen (drop (i + 1) marks) (drop (i + 1) names)) ≡ all
-note-unmarked f marks names i now all low high off h = ap (λ l. now ++ map f l) (sym (chosen-off marks names i low high off)) ∙ h
-
-pub note-next : (f : List ℕ → Said) (names : List (List ℕ)) (i : ℕ) (name : List ℕ) (now new : List Note) (note : Note) (all : List Said) →
-    slice_get names i ≡ Some name → new ≡ now ++ note ∷ [] → said_of note ≡ f name →
-    map said_of now ++ map f (drop i names) ≡ all → map said_of new ++ map f (drop (i + 1) names) ≡ all
-note-next f names i name now new note all at e is h =
-    note-more now new note (f name) (map f (drop (i + 1) names)) all e is
-    (ap (λ l. map said_of now ++ map f l) (sym (left-first names i name (slice_get_within names i name at) (get_or_from_slice_get names i name name at))) ∙ h)
-
-drop_past : {A : Type 0} (xs : List A) (i : ℕ) → length xs ≤ i → drop i xs ≡ []
-drop_past [] zero le = refl
-drop_past [] (suc i) le = refl
-drop_past (x ∷ xs) zero le = absurd (omega (arith, le))
-drop_past (x ∷ xs) (suc i) le = drop_past xs i (omega (arith, le))
-
-pub none-left : (f : List ℕ → Said) (marks : List Bool) (names : List (List ℕ)) (i : ℕ) (now all : List Said) → length marks ≤ i → now ++ map f (chosen (drop i marks) (drop i names)) ≡ all → now ≡ all
-none-left f marks names i now all le h =
-    let none : chosen (drop i marks) (drop i names) ≡ [] = ap (λ l. chosen l (drop i names)) (drop_past marks i le) ∙ chosen_none (drop i names) in
-    sym (append-nil now) ∙ ap (λ l. now ++ map f l) (sym none) ∙ h
-
--- one kind of notes after another
-pub one_by_one : (n a b c d e : List Said) (ka kb kc kd ke : List Said) → n ≡ [] → a ≡ n ++ ka → b ≡ a ++ kb → c ≡ b ++ kc → d ≡ c ++ kd → e ≡ d ++ ke →
-    e ≡ ka ++ (kb ++ (kc ++ (kd ++ ke)))
-one_by_one n a b c d e ka kb kc kd ke hn ha hb hc hd he = rw (he, hd, hc, hb, ha, hn) (simp append_assoc)
-
--- ids in a list
-pub any_in : (ids : List ℕ) (id : ℕ) → list_any (λ other. other == id) ids ≡ true → Contains ids id
-any_in [] id h = absurd (both_ways false refl h)
-any_in (x ∷ ids) id h = elim (eqb_tells x id) [
-  | inl e ↦ subst (λ v. Contains (x ∷ ids) v) e.1 (in_first x ids)
-  | inr e ↦ in_later x id ids (any_in ids id (sym (ap (λ b. b || list_any (λ other. other == id) ids) e.0) ∙ h))
-]
-
-pub in_any : (ids : List ℕ) (id : ℕ) → Contains ids id → list_any (λ other. other == id) ids ≡ true
-in_any [] id h = absurd (none_of id h)
-in_any (x ∷ ids) id h = elim (eqb_tells x id) [
-  | inl e ↦ ap (λ b. b || list_any (λ other. other == id) ids) e.0
-  | inr e ↦ ap (λ b. b || list_any (λ other. other == id) ids) e.0 ∙ in_any ids id (⊎_elim (λ same. absurd (e.1 same)) (λ later. later) (cons_cases x id ids h))
-]
-
-pub ids_marked : (ids : List ℕ) (count : ℕ) (marks : List Bool) → length marks ≡ count → ((id : ℕ) → id < count → get_or marks id false ≡ list_any (λ other. other == id) ids) →
-    AreMarks (Contains ids) count marks
-ids_marked ids count marks is h = record { count_is = is; exact = λ id lt. ((λ on. any_in ids id (sym (h id lt) ∙ on)), (λ among. h id lt ∙ in_any ids id among)) }
-
-opposite : (marks : List Bool) (id : ℕ) → id < length marks → get_or (map not marks) id false ≡ not (get_or marks id false)
-opposite [] id lt = absurd (omega (arith, lt))
-opposite (mark ∷ marks) zero lt = refl
-opposite (mark ∷ marks) (suc id) lt = opposite marks id (omega (arith, lt))
 
 not_marked : (b : Bool) → not b ≡ true → b ≡ true → ⊥
 not_marked true h g = absurd (cc h)
@@ -205,10 +119,10 @@ module _ (rules : List Rule) (given : Option (List ℕ)) (names : List (List ℕ
       those P ms m = subst (λ l. Those P 0 file (chosen ms l)) (sym begins)
           (those_chosen P 0 file more ms m.count_is (λ id lt. let same : id ≡ 0 + id = omega arith in subst (λ v. IsMarked ms id ↔ P v) same (m.exact id lt)))
 
-      undefined : drop (length rules) names ≡ news (rule_names rules) (option_to_list given ++ names_used rules)
+      undefined : drop (length rules) names ≡ news Fold (rule_names rules) (option_to_list given ++ names_used rules)
       undefined = ap (drop (length rules)) graph.all
-          ∙ ap (λ (k : ℕ). drop k (rule_names rules ++ news (rule_names rules) (option_to_list given ++ names_used rules))) (sym (length-map rules (λ (rule : Rule). rule.name)))
-          ∙ drop-append_seam (rule_names rules) (news (rule_names rules) (option_to_list given ++ names_used rules))
+          ∙ ap (λ (k : ℕ). drop k (rule_names rules ++ news Fold (rule_names rules) (option_to_list given ++ names_used rules))) (sym (length-map rules (λ (rule : Rule). rule.name)))
+          ∙ drop-append_seam (rule_names rules) (news Fold (rule_names rules) (option_to_list given ++ names_used rules))
 
   -- what refuses a grammar
   module _ (file : List Rule) (again : List ℕ) (redefined : List Bool) (marks : AreMarks (Contains again) (length file) redefined) where

@@ -6,15 +6,19 @@ use Rattle.std.proofs.lemmas.List.{length-map}
 use Rattle.leastset.specs.Reach.{Reaches, here as start, further}
 use Rattle.leastset.specs.StepRows.{Step, AreStepsWithin}
 use Rattle.leastset.proofs.ContainsLemmas.{none_of, in_first, in_later, cons_cases}
+use Rattle.ruletable.specs.declared.table.NameCase.TheVariants.{Fold}
+use Rattle.rulenames.specs.FirstUses.{news}
+use Rattle.rulenames.specs.NameUses.{IsPlace, AreIdsOf, no_uses, one_use}
+use Rattle.rulenames.proofs.IsPlaceLemmas.{place_below}
 use Rattle.abnfread.specs.Element as e
 use Rattle.abnfread.specs.Element.{Element, Elements, Rule, bodies, id_of}
 use Rattle.abnfcheck.specs.AbnfGrammar.{Within, WithinSome, itself, of_concat, of_alt, of_rep, of_opt, of_first, of_later, Reachable, judged_rule, by_name}
 use Rattle.abnfcheck.specs.AbnfNotes.{judged_in}
-use Rattle.abnfcheck.specs.AbnfUses.{names_in, names_in_all, names_used, rule_names, news, Uses, HoldsProse}
+use Rattle.abnfcheck.specs.AbnfUses.{names_in, names_in_all, names_used, rule_names, Uses, HoldsProse}
 use Rattle.std.specs.Prelude.{option_to_list}
-use Rattle.abnfcheck.specs.NameIds.{IsPlace, IsIdAt, IsJudged, AreIdsOf, no_uses, one_use, IsGraph}
+use Rattle.abnfcheck.specs.NameIds.{IsIdAt, IsJudged, IsGraph}
 use Rattle.abnfcheck.specs.ProseIn.{prose_in, prose_in_one, prose_marks}
-use Rattle.abnfcheck.proofs.NameIdsLemmas.{place_below, place_id, judged_id}
+use Rattle.abnfcheck.proofs.NameIdsLemmas.{place_id, judged_id}
 
 -- a member of a list
 pub data In {A : Type 0} (a : A) : List A → Type 0 where
@@ -152,21 +156,21 @@ prose_marked rules id d h = prose_mark rules id h.body d h.body_is ∙ within_pr
 record UseOf (names uses : List (List ℕ)) (m : ℕ) : Type 0 where
   name : List ℕ
   among : In name uses
-  place : IsPlace name names m
+  place : IsPlace Fold name names m
 
-id_use : {names uses : List (List ℕ)} {ids : List ℕ} (m : ℕ) → AreIdsOf names uses ids → Contains ids m → UseOf names uses m
+id_use : {names uses : List (List ℕ)} {ids : List ℕ} (m : ℕ) → AreIdsOf Fold names uses ids → Contains ids m → UseOf names uses m
 id_use m no_uses h = absurd (none_of m h)
 id_use {names = names} m (one_use {used = used} {uses = uses} {id = id} {ids = ids} p rest) h = ⊎_elim
-    (λ is. record { name = used; among = in_head; place = subst (λ v. IsPlace used names v) is p })
+    (λ is. record { name = used; among = in_head; place = subst (λ v. IsPlace Fold used names v) is p })
     (λ later. let u = id_use m rest later in record { name = u.name; among = in_tail u.among; place = u.place })
     (cons_cases id m ids h)
 
 record IdOf (names : List (List ℕ)) (ids : List ℕ) (used : List ℕ) : Type 0 where
   id : ℕ
   among : Contains ids id
-  place : IsPlace used names id
+  place : IsPlace Fold used names id
 
-use_id : {names uses : List (List ℕ)} {ids : List ℕ} {used : List ℕ} → AreIdsOf names uses ids → In used uses → IdOf names ids used
+use_id : {names uses : List (List ℕ)} {ids : List ℕ} {used : List ℕ} → AreIdsOf Fold names uses ids → In used uses → IdOf names ids used
 use_id no_uses i = elim i [ ]
 use_id (one_use {id = id} {ids = ids} p rest) in_head = record { id = id; among = in_first id ids; place = p }
 use_id (one_use {id = id} {ids = ids} p rest) (in_tail i) = let f = use_id rest i in record { id = f.id; among = in_later id f.id ids f.among; place = f.place }
@@ -179,13 +183,13 @@ order (suc m) (suc n) = ⊎_elim (λ lt. inl (omega (arith, lt))) (λ le. inr (o
 
 module _ (rules : List Rule) (given : Option (List ℕ)) (names : List (List ℕ)) (rows : List (List ℕ)) (judged : ℕ) (graph : IsGraph rules given names rows judged) where
   abbrev more : List (List ℕ)
-  more = news (rule_names rules) (option_to_list given ++ names_used rules)
+  more = news Fold (rule_names rules) (option_to_list given ++ names_used rules)
 
   abbrev count : ℕ
   count = length rules
 
-  id_at : {n : List ℕ} {m : ℕ} → IsPlace n names m → IsIdAt count m (id_of rules n)
-  id_at {n = n} {m = m} p = place_id rules more (subst (λ l. IsPlace n l m) graph.all p)
+  id_at : {n : List ℕ} {m : ℕ} → IsPlace Fold n names m → IsIdAt count m (id_of rules n)
+  id_at {n = n} {m = m} p = place_id rules more (subst (λ l. IsPlace Fold n l m) graph.all p)
 
   -- each rule has a name
   pub rows_long : count ≤ length rows
@@ -202,7 +206,7 @@ module _ (rules : List Rule) (given : Option (List ℕ)) (names : List (List ℕ
     name : List ℕ
     body_is : slice_get (bodies rules) user ≡ Some body
     within : Within body (e.Name name)
-    place : IsPlace name names m
+    place : IsPlace Fold name names m
 
   step_use : (user m : ℕ) → Step rows user m → StepUse user m
   step_use user m step =
@@ -211,7 +215,7 @@ module _ (rules : List Rule) (given : Option (List ℕ)) (names : List (List ℕ
       record { body = b.0; name = u.name; body_is = b.1; within = name_within b.0 u.among; place = u.place }
 
   pub steps_within : AreStepsWithin rows
-  steps_within = record { within = λ n m step. let u = step_use n m step in let lt = place_below u.place in let c = graph.are_rows.count in omega (arith, lt, c) }
+  steps_within = record { within = λ n m step. let u = step_use n m step in let lt = place_below Fold u.place in let c = graph.are_rows.count in omega (arith, lt, c) }
 
   -- a step to a rule's name is a use of the rule
   pub step_uses : (user id : ℕ) → id < count → Step rows user id → Uses rules user id

@@ -9,7 +9,7 @@ pub mod IsPathLemmas
 mod JoinLemmas
 mod JoinedRulesLemmas
 pub mod LiesLemmas
-pub mod NameIdsLemmas
+mod NameIdsLemmas
 mod NameMarksLemmas
 mod RuleIdLemmas
 pub mod YieldsLemmas

@@ -3,9 +3,11 @@
 use Rattle.std.specs.Prelude.{◌≡◌, ℕ, suc, ◌<◌, List, [], ◌∷◌, ◌++◌, map, length, Option, Some, None, option_to_list, Contains}
 use Rattle.ruletable.specs.Notes.{Said, said}
 use Rattle.ruletable.specs.declared.note.NoteKind.TheVariants as kind
+use Rattle.ruletable.specs.declared.table.NameCase.TheVariants.{Fold}
+use Rattle.rulenames.specs.FirstUses.{news}
 use Rattle.abnfread.specs.Element.{Rule, id_of}
 use Rattle.abnfcheck.specs.AbnfGrammar.{Reachable}
-use Rattle.abnfcheck.specs.AbnfUses.{names_used, rule_names, news, Uses, HoldsProse}
+use Rattle.abnfcheck.specs.AbnfUses.{names_used, rule_names, Uses, HoldsProse}
 
 module _ (P : ℕ → Type 0) where
   -- the names of those rules of which P holds by their ids, in the order of the rules; i is the id of the first
@@ -40,7 +42,7 @@ pub record AreNotes (file rules : List Rule) (again early : List ℕ) (given : O
   pub are_unused : Those (IsUnused rules (judged_in given rules)) 0 file unused
   pub all : notes ≡ map (said kind.Redefined) redefined
       ++ (map (said kind.ExtendedEarly) extended
-      ++ (map (said kind.Undefined) (news (rule_names rules) (option_to_list given ++ names_used rules))
+      ++ (map (said kind.Undefined) (news Fold (rule_names rules) (option_to_list given ++ names_used rules))
       ++ (map (said kind.Prose) prose ++ map (said kind.Unused) unused)))
 
 module _ (file rules : List Rule) (again : List ℕ) (judged : ℕ) where

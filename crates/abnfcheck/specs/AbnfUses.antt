@@ -1,8 +1,6 @@
--- The names that stand in the bodies of rules, in order, and those of them that no rule has.
-use Rattle.std.specs.Prelude.{◌≡◌, ℕ, Bool, cond, List, [], ◌∷◌, ◌++◌, map, slice_get, Some}
-use Rattle.std.specs.List.{list_any}
-use Rattle.ruletable.specs.Rules.{same_name}
-use Rattle.ruletable.specs.declared.table.NameCase.TheVariants.{Fold}
+-- The names that stand in the bodies of rules, in order.
+use Rattle.std.specs.Prelude.{◌≡◌, ℕ, List, [], ◌∷◌, ◌++◌, map, slice_get, Some}
+use Rattle.std.specs.List.{flat_map}
 use Rattle.abnfread.specs.Element.{Element, Elements, Text, Values, Range, Concat, Alt, Rep, Opt, Name, Prose, none, more, Rule, bodies, id_of}
 use Rattle.abnfcheck.specs.AbnfGrammar.{Within}
 
@@ -25,21 +23,11 @@ abbrev mutual
 
 -- the names in the bodies, rule by rule
 abbrev pub names_used : List Rule → List (List ℕ)
-names_used [] = []
-names_used (rule ∷ rules) = names_in rule.body ++ names_used rules
+names_used rules = flat_map (λ rule. names_in rule.body) rules
 
 -- the names of the rules, in order
 abbrev pub rule_names : List Rule → List (List ℕ)
 rule_names rules = map (λ rule. rule.name) rules
-
--- whether the name is in the list, in whatever case
-abbrev pub is_among : List (List ℕ) → List ℕ → Bool
-is_among names name = list_any (same_name Fold name) names
-
--- the names of a list that are not known, each once, in the order and the spelling in which they come first
-abbrev pub news : List (List ℕ) → List (List ℕ) → List (List ℕ)
-news known [] = []
-news known (name ∷ names) = cond (is_among known name) (news known names) (name ∷ news (known ++ name ∷ []) names)
 
 -- a name of the rule with the second id stands in the body of the rule with the first; the number of rules stands for a
 -- name without a rule

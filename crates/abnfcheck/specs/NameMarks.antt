@@ -1,23 +1,12 @@
 -- Marks on names and rules by id. Private helpers alone use it.
-use Rattle.std.specs.Prelude.{◌≡◌, ◌⊎◌, ◌↔◌, ℕ, ◌<◌, Bool, true, false, List, [], ◌∷◌, length, slice_index_or, Contains}
+use Rattle.std.specs.Prelude.{◌≡◌, ◌⊎◌, ℕ, Bool, true, List, slice_index_or, Contains}
 use Rattle.leastset.specs.NumberMarks.{IsMarked}
 use Rattle.leastset.specs.Reach.{Reaches}
 use Rattle.leastset.specs.StepRows.{Step}
+use Rattle.rulenames.specs.IdMarks.{AreMarks}
 use Rattle.abnfread.specs.Element.{Rule}
 use Rattle.abnfcheck.specs.AbnfUses.{HoldsProse}
 use Rattle.abnfcheck.specs.AbnfNotes.{IsUnused}
-
--- those of a list that are marked
-abbrev pub chosen : {A : Type 0} → List Bool → List A → List A
-chosen marks [] = []
-chosen [] (x ∷ xs) = []
-chosen (true ∷ marks) (x ∷ xs) = x ∷ chosen marks xs
-chosen (false ∷ marks) (x ∷ xs) = chosen marks xs
-
--- exactly those numbers below the count are marked of which P holds
-pub record AreMarks (P : ℕ → Type 0) (count : ℕ) (marks : List Bool) : Type 0 where
-  pub count_is : length marks ≡ count
-  pub exact : (id : ℕ) → id < count → (IsMarked marks id ↔ P id)
 
 -- the judged number, and those to which steps lead
 abbrev pub IsUsed : List (List ℕ) → ℕ → ℕ → Type 0

@@ -2,16 +2,18 @@
 ghost use Rattle.std.specs.Prelude.{◌≡◌, ◌↔◌, ◌≤◌, ◌++◌, ℕ, Bool, List, length, map, drop, Option, Contains, IfOk};
 ghost use Rattle.leastset.specs.StepRows.{rows_of, AreStepsWithin};
 ghost use Rattle.ruletable.specs.Rules.{names_of};
+ghost use Rattle.rulenames.specs.IdMarks.{chosen, AreMarks};
 ghost use Rattle.abnfread.specs.Element.{Rule};
 ghost use Rattle.ruletable.specs.Notes.{said, said_of};
 ghost use Rattle.abnfcheck.specs.AbnfNotes.{judged_in, IsRefused};
 ghost use Rattle.abnfcheck.specs.NameIds.{IsGraph};
-ghost use Rattle.abnfcheck.specs.NameMarks.{chosen, AreMarks, AreNoteMarks};
+ghost use Rattle.abnfcheck.specs.NameMarks.{AreNoteMarks};
 ghost use Rattle.abnfcheck.specs.ProseIn.{prose_marks};
 
 use crate::name_ids::NameIds;
-use crate::name_marks::{marks_at, opposites, reaches_broken, some_set, used_marks};
+use crate::name_marks::{reaches_broken, some_set, used_marks};
 use abnfread::Elem;
+use rulenames::{marks_at, note_marked, note_undefined, opposites};
 use ruletable::{Memory, Note, NoteKind, RuleTable};
 use std::alloc::Global;
 
@@ -57,45 +59,6 @@ pub(crate) fn note_marks(
         prose,
         unused,
     })
-}
-
-// Adds a note for each rule that is marked.
-fn note_marked(
-    alloc: Global,
-    rules: &RuleTable<Elem>,
-    marks: &[bool],
-    kind: NoteKind,
-    notes: &mut Vec<Note>,
-) -> Result<(), Memory>
-    requires { length marks.now ≤ length rules.now.rules }
-    ensures { IfOk result (λ _. map said_of notes.new.items ≡ map said_of notes.old.items ++ map (said kind) (chosen marks.now (names_of rules.now))) }
-{
-    for id in 0..marks.len() {
-        if marks[id] {
-            let name = Vec::from_slice(alloc, rules.name(id))?;
-            notes.push(Note { kind, name })?;
-        }
-    }
-    Ok(())
-}
-
-// Adds a note for each name but the first `count`.
-fn note_undefined(
-    alloc: Global,
-    names: &RuleTable<()>,
-    count: usize,
-    notes: &mut Vec<Note>,
-) -> Result<(), Memory>
-    ensures { IfOk result (λ _. map said_of notes.new.items ≡ map said_of notes.old.items ++ map (said NoteKind.Undefined) (drop count (names_of names.now))) }
-{
-    for id in count..names.len() {
-        let name = Vec::from_slice(alloc, names.name(id))?;
-        notes.push(Note {
-            kind: NoteKind::Undefined,
-            name,
-        })?;
-    }
-    Ok(())
 }
 
 /// Returns the notes on the marked rules, and on the names behind those of the rules.

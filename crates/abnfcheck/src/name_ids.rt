@@ -3,12 +3,15 @@ ghost use Rattle.std.specs.Prelude.{◌≡◌, ◌≤◌, ℕ, List, [], ◌++�
 ghost use Rattle.leastset.specs.StepRows.{rows_of, row_at};
 ghost use Rattle.ruletable.specs.Rules.{names_of};
 ghost use Rattle.ruletable.specs.declared.table.NameCase.TheVariants.{Fold};
+ghost use Rattle.rulenames.specs.FirstUses.{news};
+ghost use Rattle.rulenames.specs.NameUses.{IsScanned};
 ghost use Rattle.abnfread.specs.Views.{element_of, elements_of, rules_of};
-ghost use Rattle.abnfcheck.specs.AbnfUses.{names_in, names_in_all, names_used, news};
-ghost use Rattle.abnfcheck.specs.NameIds.{AreRowsTo, IsAdded, IsGraph, IsJudged, IsScanned};
+ghost use Rattle.abnfcheck.specs.AbnfUses.{names_in, names_in_all, names_used};
+ghost use Rattle.abnfcheck.specs.NameIds.{AreRowsTo, IsGraph, IsJudged};
 
 use abnfread::Elem;
-use ruletable::{Defined, Memory, NameCase, RuleTable, Span};
+use rulenames::{add_name, add_use, names_of_rules};
+use ruletable::{Memory, NameCase, RuleTable};
 use std::alloc::Global;
 
 /// The names of a grammar by id: those of its rules, then those that no rule has, by first use.
@@ -22,42 +25,18 @@ pub(crate) struct NameIds {
     pub(crate) judged: usize,
 }
 
-// A name's place in the text is of no use here.
-const NOWHERE: Span = Span { start: 0, end: 0 };
-
-// Returns the names of the rules.
-fn names_of_rules(alloc: Global, rules: &RuleTable<Elem>) -> Result<RuleTable<()>, Memory>
-    requires { rules.now.names ≡ NameCase.Fold }
-    ensures folds { IfOk result (λ names. names.names ≡ Fold) }
-    ensures names { IfOk result (λ names. names_of names ≡ names_of rules.now) }
-{
-    let mut names = RuleTable::new(alloc, NameCase::Fold);
-    for id in 0..rules.len() {
-        names.define(rules.name(id), (), NOWHERE)?;
-    }
-    Ok(names)
-}
-
-// Returns the id of a name, which is added if it is not there.
-fn add_name(name: &[u8], names: &mut RuleTable<()>) -> Result<usize, Memory>
-    requires { names.old.names ≡ NameCase.Fold }
-    ensures { IfOk result (IsAdded names.old names.new name.now) }
-{
-    match names.define(name, (), NOWHERE)? {
-        Defined::Added(id) => Ok(id),
-        Defined::Duplicate(id) => Ok(id),
-    }
-}
-
 // Returns the id of the given name, which is added if it is not there, or 0.
 fn judged_id(rule: Option<&str>, names: &mut RuleTable<()>) -> Result<usize, Memory>
     requires { names.old.names ≡ NameCase.Fold }
     ensures folds { IfOk result (λ _. names.new.names ≡ Fold) }
-    ensures names { IfOk result (λ _. names_of names.new ≡ names_of names.old ++ news (names_of names.old) (option_to_list (option_copied rule.entry))) }
+    ensures names { IfOk result (λ _. names_of names.new ≡ names_of names.old ++ news Fold (names_of names.old) (option_to_list (option_copied rule.entry))) }
     ensures judged { IfOk result (IsJudged (option_copied rule.entry) (names_of names.new)) }
 {
     match rule {
-        Some(name) => add_name(name.as_bytes(), names),
+        Some(name) => {
+            let id = add_name(name.as_bytes(), names)?;
+            Ok(id)
+        }
         None => Ok(0),
     }
 }
@@ -67,13 +46,12 @@ fn judged_id(rule: Option<&str>, names: &mut RuleTable<()>) -> Result<usize, Mem
 fn add_names(e: &Elem, names: &mut RuleTable<()>, row: &mut Vec<usize>) -> Result<(), Memory>
     requires { names.old.names ≡ NameCase.Fold }
     ensures folds { IfOk result (λ _. names.new.names ≡ Fold) }
-    ensures scanned { IfOk result (λ _. (known seen uses : List (List ℕ)) → IsScanned known seen uses names.old row.old.items →
-        IsScanned known (seen ++ names_in (element_of e.now)) (uses ++ names_in (element_of e.now)) names.new row.new.items) }
+    ensures scanned { IfOk result (λ _. (known seen uses : List (List ℕ)) → IsScanned Fold known seen uses names.old row.old.items →
+        IsScanned Fold known (seen ++ names_in (element_of e.now)) (uses ++ names_in (element_of e.now)) names.new row.new.items) }
 {
     match e {
         Elem::Name(name) => {
-            let id = add_name(name, names)?;
-            row.push(id)?;
+            add_use(name, names, row)?;
             Ok(())
         }
         Elem::Concat(members) => add_all_names(members, names, row),
@@ -96,8 +74,8 @@ fn add_all_names(
 ) -> Result<(), Memory>
     requires { names.old.names ≡ NameCase.Fold }
     ensures folds { IfOk result (λ _. names.new.names ≡ Fold) }
-    ensures scanned { IfOk result (λ _. (known seen uses : List (List ℕ)) → IsScanned known seen uses names.old row.old.items →
-        IsScanned known (seen ++ names_in_all (elements_of members.now)) (uses ++ names_in_all (elements_of members.now)) names.new row.new.items) }
+    ensures scanned { IfOk result (λ _. (known seen uses : List (List ℕ)) → IsScanned Fold known seen uses names.old row.old.items →
+        IsScanned Fold known (seen ++ names_in_all (elements_of members.now)) (uses ++ names_in_all (elements_of members.now)) names.new row.new.items) }
 {
     for member in members {
         add_names(member, names, row)?;
@@ -112,9 +90,9 @@ fn body_rows(
     names: &mut RuleTable<()>,
 ) -> Result<Vec<Vec<usize>>, Memory>
     requires { names.old.names ≡ NameCase.Fold }
-    ensures names { IfOk result (λ _. (known seen : List (List ℕ)) → names_of names.old ≡ known ++ news known seen →
-        names_of names.new ≡ known ++ news known (seen ++ names_used (rules_of rules.now))) }
-    ensures rows { IfOk result (λ rows. (known seen : List (List ℕ)) → names_of names.old ≡ known ++ news known seen →
+    ensures names { IfOk result (λ _. (known seen : List (List ℕ)) → names_of names.old ≡ known ++ news Fold known seen →
+        names_of names.new ≡ known ++ news Fold known (seen ++ names_used (rules_of rules.now))) }
+    ensures rows { IfOk result (λ rows. (known seen : List (List ℕ)) → names_of names.old ≡ known ++ news Fold known seen →
         AreRowsTo (rules_of rules.now) (names_of names.new) (rows_of rows.items) (length (rules_of rules.now))) }
 {
     let mut rows = Vec::new(alloc);
@@ -150,7 +128,7 @@ pub(crate) fn name_ids(
     requires { rules.now.names ≡ NameCase.Fold }
     ensures { IfOk result (λ ids. IsGraph (rules_of rules.now) (option_copied rule.entry) (names_of ids.names) (rows_of ids.rows.items) ids.judged) }
 {
-    let mut names = names_of_rules(alloc, rules)?;
+    let mut names = names_of_rules(alloc, rules, NameCase::Fold)?;
     let judged = judged_id(rule, &mut names)?;
     let mut rows = body_rows(alloc, rules, &mut names)?;
     pad(alloc, names.len(), &mut rows)?;

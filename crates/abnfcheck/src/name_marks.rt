@@ -1,6 +1,5 @@
 //! Marks on names and rules by id.
-ghost use Rattle.std.specs.Prelude.{◌≡◌, ◌↔◌, ◌⊎◌, ℕ, ◌<◌, ◌≤◌, ◌==◌, Bool, length, map, not, get_or, Contains, IfOk};
-ghost use Rattle.std.specs.List.{list_any};
+ghost use Rattle.std.specs.Prelude.{◌≡◌, ◌↔◌, ◌⊎◌, ℕ, ◌<◌, Bool, length, IfOk};
 ghost use Rattle.leastset.specs.NumberMarks.{AreBelow, IsMarked};
 ghost use Rattle.leastset.specs.StepRows.{Step, rows_of, AreStepsWithin};
 ghost use Rattle.abnfcheck.specs.NameMarks.{IsBroken, IsUsed, ReachesBroken};
@@ -8,34 +7,6 @@ ghost use Rattle.abnfcheck.specs.NameMarks.{IsBroken, IsUsed, ReachesBroken};
 use leastset::{mark, reached, slices};
 use ruletable::Memory;
 use std::alloc::Global;
-
-// Returns so many marks, none of them set.
-fn no_marks(alloc: Global, count: usize) -> Result<Vec<bool>, Memory>
-    ensures count { IfOk result (λ marks. length marks.items ≡ count) }
-    ensures marks { IfOk result (λ marks. (id : ℕ) → get_or marks.items id Bool.false ≡ Bool.false) }
-{
-    let mut marks = Vec::new(alloc);
-    for _id in 0..count {
-        marks.push(false)?;
-    }
-    Ok(marks)
-}
-
-/// Returns so many marks, set for the ids in the list. Other ids in the list are of no account.
-///
-/// `Memory` if an allocation fails.
-pub(crate) fn marks_at(alloc: Global, ids: &[usize], count: usize) -> Result<Vec<bool>, Memory>
-    ensures count { IfOk result (λ marks. length marks.items ≡ count) }
-    ensures marks { IfOk result (λ marks. (id : ℕ) → id < count → get_or marks.items id Bool.false ≡ list_any (λ other. other == id) ids.now) }
-{
-    let mut marks = no_marks(alloc, count)?;
-    for id in ids {
-        if *id < marks.len() {
-            marks[*id] = true;
-        }
-    }
-    Ok(marks)
-}
 
 // Marks the numbers to which steps lead.
 fn mark_targets(rows: &[Vec<usize>], marks: &mut [bool])
@@ -67,19 +38,6 @@ pub(crate) fn used_marks(
     }
     mark_targets(rows, &mut marks);
     Ok(marks)
-}
-
-/// Returns the opposite of each mark.
-///
-/// `Memory` if an allocation fails.
-pub(crate) fn opposites(alloc: Global, marks: &[bool]) -> Result<Vec<bool>, Memory>
-    ensures { IfOk result (λ others. others.items ≡ map not marks.now) }
-{
-    let mut others = Vec::new(alloc);
-    for mark in marks {
-        others.push(!*mark)?;
-    }
-    Ok(others)
 }
 
 /// Returns whether a mark is set.

@@ -1,6 +1,6 @@
 -- The notes on a grammar, from the marks on its rules and the uses of names.
 -- Serves: check_peg, one_list_of_notes, redefinitions
-use Rattle.std.proofs.Common.{◌≡◌, ℕ, suc, ◌<◌, ◌==◌, ◌||◌, Bool, true, false, not, cond, List, [], ◌∷◌, ◌++◌, length, map, drop, get_or, Option, Some, None, refl, sym, ap, subst, ◌∙◌, arith, inl, inr, append_assoc}
+use Rattle.std.proofs.Common.{◌≡◌, ℕ, suc, ◌==◌, ◌||◌, Bool, true, false, not, cond, List, [], ◌∷◌, ◌++◌, length, map, drop, get_or, Option, Some, None, refl, sym, ap, subst, ◌∙◌, arith, inl, inr}
 use Rattle.std.specs.Prelude.{position, slice_get, option_to_list, Contains}
 use Rattle.std.specs.Str.{bytes_eq}
 use Rattle.std.specs.List.{list_any}
@@ -8,7 +8,7 @@ use Rattle.std.proofs.Math.Bool.{or-false}
 use Rattle.std.proofs.Math.Seq.{drop-append_seam}
 use Rattle.std.proofs.lemmas.Bool.{both_ways, cases_Bool, or_right, or_cases}
 use Rattle.std.proofs.lemmas.Bool.Decides.{eqb_tells}
-use Rattle.std.proofs.lemmas.List.{length-map, get_or_default}
+use Rattle.std.proofs.lemmas.List.{length-map}
 use Rattle.std.proofs.lemmas.Option.{slice_get-map, slice_get_within}
 use Rattle.std.proofs.lemmas.Simd.{map-map}
 use Rattle.std.specs.Option.{option_map}
@@ -16,11 +16,18 @@ use Rattle.ruletable.specs.Rules.{Rules, names_of}
 use Rattle.std.proofs.lemmas.List.Folds.{list_any-append, list_any_at}
 use Rattle.ruletable.specs.Notes.{Said, said}
 use Rattle.ruletable.specs.declared.note.NoteKind.TheVariants.{Redefined, Undefined, Unused, LeftRecursion, Loop}
+use Rattle.ruletable.specs.declared.table.NameCase.TheVariants.{Exact}
+use Rattle.rulenames.specs.FirstUses.{is_among, news}
+use Rattle.rulenames.specs.IdMarks as ids
+use Rattle.rulenames.specs.IdMarks.{chosen}
+use Rattle.rulenames.proofs.AreMarksLemmas.{mark_tests, opposite}
+use Rattle.rulenames.proofs.ChosenLemmas.{chosen-map}
+use Rattle.rulenames.proofs.IsScannedLemmas.{known_among}
 use Rattle.pegread.specs.Pattern.{Rule}
 use Rattle.gramcheck.specs.Left.{IsLeftRecursive, Loops}
-use Rattle.gramcheck.specs.GrammarNotes.{start_of, IsUnused, names_at, AreNotes, AreRedefinitions, AreMarks, chosen}
-use Rattle.gramcheck.specs.Uses.{names_used, rule_names, is_among, news, AreUses}
-use Rattle.gramcheck.proofs.ChosenLemmas.{those-one, those-chosen, chosen-map}
+use Rattle.gramcheck.specs.GrammarNotes.{start_of, IsUnused, names_at, AreNotes, AreRedefinitions, AreMarks}
+use Rattle.gramcheck.specs.Uses.{names_used, rule_names, AreUses}
+use Rattle.gramcheck.proofs.ThoseLemmas.{those-one, those-chosen}
 use Rattle.gramcheck.proofs.RuleNameLemmas.{same-name, own-name, other-name}
 
 -- there is at most one list of notes
@@ -33,22 +40,22 @@ notes-one rules again start a b g h =
     rw (g.all, redefined, unused, recursive, looping) (sym h.all)
 
 -- the test whether a name is in a list
-pub among-contains : (names : List (List ℕ)) (n : List ℕ) → is_among names n ≡ true → Contains names n
+pub among-contains : (names : List (List ℕ)) (n : List ℕ) → is_among Exact names n ≡ true → Contains names n
 among-contains [] n h = absurd (both_ways false refl h)
 among-contains (x ∷ names) n h = elim (cases_Bool (bytes_eq n x)) [
   | inl e ↦ (0, omega arith, sym (same-name n x e))
   | inr e ↦
-      let later = among-contains names n (sym (ap (λ b. b || is_among names n) e) ∙ h) in
+      let later = among-contains names n (sym (ap (λ b. b || is_among Exact names n) e) ∙ h) in
       (suc later.0, (let low = later.1 in omega arith), later.2)
 ]
 
-pub contains-among : (names : List (List ℕ)) (n : List ℕ) → Contains names n → is_among names n ≡ true
+pub contains-among : (names : List (List ℕ)) (n : List ℕ) → Contains names n → is_among Exact names n ≡ true
 contains-among names n c = list_any_at (bytes_eq n) names c.0 n c.1 (subst (λ x. bytes_eq n x ≡ true) (sym c.2) (own-name n))
 
 -- the names with these ids
 module _ (rules : List Rule) (id : ℕ) (n : List ℕ) (at : slice_get (rule_names rules) id ≡ Some n)
     (unique : (i : ℕ) → slice_get (rule_names rules) i ≡ Some n → i ≡ id) where
-  at-one : (i : ℕ) (r : Option (List ℕ)) → slice_get (rule_names rules) i ≡ r → is_among (option_to_list r) n ≡ (i == id)
+  at-one : (i : ℕ) (r : Option (List ℕ)) → slice_get (rule_names rules) i ≡ r → is_among Exact (option_to_list r) n ≡ (i == id)
   at-one i None h = elim (eqb_tells i id) [
     | inl e ↦ absurd (let here = subst (λ (k : ℕ). slice_get (rule_names rules) k ≡ None) e.1 h in cc (at, here))
     | inr e ↦ sym (e.0)
@@ -61,11 +68,11 @@ module _ (rules : List Rule) (id : ℕ) (n : List ℕ) (at : slice_get (rule_nam
     | inr e ↦ other-name n m (λ is. e.1 (unique i (subst (λ x. slice_get (rule_names rules) i ≡ Some x) (sym is) h))) ∙ sym (e.0)
   ]
 
-  pub at-ids : (ids : List ℕ) → is_among (names_at rules ids) n ≡ list_any (λ i. i == id) ids
+  pub at-ids : (ids : List ℕ) → is_among Exact (names_at rules ids) n ≡ list_any (λ i. i == id) ids
   at-ids [] = refl
   at-ids (i ∷ ids) =
       list_any-append (bytes_eq n) (option_to_list (slice_get (rule_names rules) i)) (names_at rules ids)
-      ∙ ap (λ b. b || is_among (names_at rules ids) n) (at-one i (slice_get (rule_names rules) i) refl)
+      ∙ ap (λ b. b || is_among Exact (names_at rules ids) n) (at-one i (slice_get (rule_names rules) i) refl)
       ∙ ap (λ b. (i == id) || b) (at-ids ids)
 
 -- the name of the rule at an id
@@ -73,56 +80,55 @@ name-at : (rules : List Rule) (id : ℕ) (rule : Rule) → slice_get rules id �
 name-at rules id rule at = slice_get-map (λ r. r.name) rules id ∙ ap (option_map (λ (r : Rule). r.name)) at
 
 -- the start rule's name, as a list of at most one
-among-start : (o : Option (List ℕ)) (n : List ℕ) → is_among (option_to_list o) n ≡ true → o ≡ Some n
+among-start : (o : Option (List ℕ)) (n : List ℕ) → is_among Exact (option_to_list o) n ≡ true → o ≡ Some n
 among-start None n h = absurd (both_ways false refl h)
 among-start (Some m) n h = ap (λ x. Some x) (sym (same-name n m (sym (or-false (bytes_eq n m)) ∙ h)))
 
 -- the names that no rule has are the same with the first rule's name before all uses
 news-start : (start : Option (List ℕ)) (rules : List Rule) (uses : List (List ℕ)) →
-    news (rule_names rules) (option_to_list (start_of start rules) ++ uses) ≡ news (rule_names rules) (option_to_list start ++ uses)
+    news Exact (rule_names rules) (option_to_list (start_of start rules) ++ uses) ≡ news Exact (rule_names rules) (option_to_list start ++ uses)
 news-start (Some name) rules uses = refl
 news-start None [] uses = refl
 news-start None (rule ∷ rules) uses =
-    ap (λ b. cond b (news (rule_names (rule ∷ rules)) uses) (rule.name ∷ news (rule_names (rule ∷ rules) ++ rule.name ∷ []) uses)) (ap (λ b. b || is_among (rule_names rules) rule.name) (own-name rule.name))
+    ap (λ b. cond b (news Exact (rule_names (rule ∷ rules)) uses) (rule.name ∷ news Exact (rule_names (rule ∷ rules) ++ rule.name ∷ []) uses)) (ap (λ b. b || is_among Exact (rule_names rules) rule.name) (own-name rule.name))
 
 -- what all uses in a grammar say of its rules
 -- where each rule is the one that its name finds
 module _ (rules : List Rule) (own : (id : ℕ) (name : List ℕ) → slice_get (rule_names rules) id ≡ Some name → position (bytes_eq name) (rule_names rules) ≡ Some id) where
   -- the rules that are defined again
-  pub marks-again : (ids : List ℕ) (again : List Bool) → length again ≡ length rules →
-      ((id : ℕ) → id < length rules → get_or again id false ≡ list_any (λ other. other == id) ids) → AreMarks (λ rule. Contains (names_at rules ids) rule.name) rules again
-  marks-again ids again count marks = record {
-    count = count;
-    sound = λ id rule at on. among-contains (names_at rules ids) rule.name (told id rule at ∙ on);
-    whole = λ id rule at is. sym (told id rule at) ∙ contains-among (names_at rules ids) rule.name is;
+  pub marks-again : (numbers : List ℕ) (again : List Bool) → ids.AreMarks (Contains numbers) (length rules) again → AreMarks (λ rule. Contains (names_at rules numbers) rule.name) rules again
+  marks-again numbers again marks = record {
+    count = marks.count_is;
+    sound = λ id rule at on. among-contains (names_at rules numbers) rule.name (told id rule at ∙ on);
+    whole = λ id rule at is. sym (told id rule at) ∙ contains-among (names_at rules numbers) rule.name is;
   }
     where
-      told : (id : ℕ) (rule : Rule) → slice_get rules id ≡ Some rule → is_among (names_at rules ids) rule.name ≡ get_or again id false
+      told : (id : ℕ) (rule : Rule) → slice_get rules id ≡ Some rule → is_among Exact (names_at rules numbers) rule.name ≡ get_or again id false
       told id rule at =
           let here = name-at rules id rule at in
-          at-ids rules id rule.name here (λ i other. let a = own i rule.name other in let b = own id rule.name here in cc (a, b)) ids
-          ∙ sym (marks id (slice_get_within rules id rule at))
+          at-ids rules id rule.name here (λ i other. let a = own i rule.name other in let b = own id rule.name here in cc (a, b)) numbers
+          ∙ sym (mark_tests numbers (length rules) again marks id (slice_get_within rules id rule at))
 
-module _ (rules : List Rule) (start : Option (List ℕ)) (names : Rules (Unit {0})) (unused : List Bool)
-    (uses : AreUses rules (option_to_list (start_of start rules) ++ names_used rules) names unused) where
+module _ (rules : List Rule) (start : Option (List ℕ)) (names : Rules (Unit {0})) (numbers : List ℕ)
+    (uses : AreUses rules (option_to_list (start_of start rules) ++ names_used rules) names numbers) where
   abbrev seen : List (List ℕ)
   seen = option_to_list (start_of start rules) ++ names_used rules
 
-  seen-start : (n : List ℕ) → is_among seen n ≡ false → start_of start rules ≡ Some n → ⊥
+  seen-start : (n : List ℕ) → is_among Exact seen n ≡ false → start_of start rules ≡ Some n → ⊥
   seen-start n h is =
-      both_ways (is_among seen n) h
+      both_ways (is_among Exact seen n) h
       (list_any-append (bytes_eq n) (option_to_list (start_of start rules)) (names_used rules)
-      ∙ ap (λ o. is_among (option_to_list o) n || is_among (names_used rules) n) is
-      ∙ ap (λ b. (b || false) || is_among (names_used rules) n) (own-name n))
+      ∙ ap (λ o. is_among Exact (option_to_list o) n || is_among Exact (names_used rules) n) is
+      ∙ ap (λ b. (b || false) || is_among Exact (names_used rules) n) (own-name n))
 
-  seen-used : (n : List ℕ) → is_among seen n ≡ false → Contains (names_used rules) n → ⊥
+  seen-used : (n : List ℕ) → is_among Exact seen n ≡ false → Contains (names_used rules) n → ⊥
   seen-used n h c =
-      both_ways (is_among seen n) h
+      both_ways (is_among Exact seen n) h
       (list_any-append (bytes_eq n) (option_to_list (start_of start rules)) (names_used rules)
-      ∙ or_right (is_among (option_to_list (start_of start rules)) n) (is_among (names_used rules) n) (contains-among (names_used rules) n c))
+      ∙ or_right (is_among Exact (option_to_list (start_of start rules)) n) (is_among Exact (names_used rules) n) (contains-among (names_used rules) n c))
 
-  not-seen : (n : List ℕ) → (Contains (names_used rules) n → ⊥) → (start_of start rules ≡ Some n → ⊥) → is_among seen n ≡ false
-  not-seen n used first = elim (cases_Bool (is_among seen n)) [
+  not-seen : (n : List ℕ) → (Contains (names_used rules) n → ⊥) → (start_of start rules ≡ Some n → ⊥) → is_among Exact seen n ≡ false
+  not-seen n used first = elim (cases_Bool (is_among Exact seen n)) [
     | inl e ↦ elim (or_cases _ _ (sym (list_any-append (bytes_eq n) (option_to_list (start_of start rules)) (names_used rules)) ∙ e)) [
       | inl a ↦ absurd (first (among-start (start_of start rules) n a))
       | inr b ↦ absurd (used (among-contains (names_used rules) n b))
@@ -134,58 +140,59 @@ module _ (rules : List Rule) (start : Option (List ℕ)) (names : Rules (Unit {0
   not-true true h = sym h
   not-true false h = refl
 
-  mark-of : (id : ℕ) (rule : Rule) → slice_get rules id ≡ Some rule → get_or unused id false ≡ not (is_among seen rule.name)
-  mark-of id rule at =
-      get_or_default unused id false true (let low = slice_get_within rules id rule at in omega (arith, low, uses.count)) ∙ uses.marks id rule.name (name-at rules id rule at)
+  -- the marks of the rules that are not used
+  module _ (own : (id : ℕ) (name : List ℕ) → slice_get (rule_names rules) id ≡ Some name → position (bytes_eq name) (rule_names rules) ≡ Some id)
+      (used : List Bool) (marks : ids.AreMarks (Contains numbers) (length rules) used) where
+    mark-of : (id : ℕ) (rule : Rule) → slice_get rules id ≡ Some rule → get_or (map not used) id false ≡ not (is_among Exact seen rule.name)
+    mark-of id rule at =
+        let low = slice_get_within rules id rule at in
+        opposite used id (omega (arith, low, marks.count_is))
+        ∙ ap not
+        (mark_tests numbers (length rules) used marks id low
+        ∙ known_among Exact (rule_names rules) seen seen names numbers rule.name id uses (own id rule.name (name-at rules id rule at)))
 
-  pub marks-unused : AreMarks (IsUnused start rules) rules unused
-  marks-unused = record {
-    count = uses.count;
-    sound = λ id rule at on.
-        let out : is_among seen rule.name ≡ false = not-true (is_among seen rule.name) (sym (mark-of id rule at) ∙ on) in
-        (seen-used rule.name out, seen-start rule.name out);
-    whole = λ id rule at is. mark-of id rule at ∙ ap not (not-seen rule.name is.0 is.1);
-  }
+    pub marks-unused : AreMarks (IsUnused start rules) rules (map not used)
+    marks-unused = record {
+      count = length-map used not ∙ marks.count_is;
+      sound = λ id rule at on.
+          let out : is_among Exact seen rule.name ≡ false = not-true (is_among Exact seen rule.name) (sym (mark-of id rule at) ∙ on) in
+          (seen-used rule.name out, seen-start rule.name out);
+      whole = λ id rule at is. mark-of id rule at ∙ ap not (not-seen rule.name is.0 is.1);
+    }
 
   -- the names that no rule has
-  pub undefined-names : drop (length rules) (names_of names) ≡ news (rule_names rules) (option_to_list start ++ names_used rules)
+  pub undefined-names : drop (length rules) (names_of names) ≡ news Exact (rule_names rules) (option_to_list start ++ names_used rules)
   undefined-names =
       ap (drop (length rules)) uses.all
-      ∙ ap (λ (k : ℕ). drop k (rule_names rules ++ news (rule_names rules) seen)) (sym (length-map rules (λ rule. rule.name)))
-      ∙ drop-append_seam (rule_names rules) (news (rule_names rules) seen)
+      ∙ ap (λ (k : ℕ). drop k (rule_names rules ++ news Exact (rule_names rules) seen)) (sym (length-map rules (λ rule. rule.name)))
+      ∙ drop-append_seam (rule_names rules) (news Exact (rule_names rules) seen)
       ∙ news-start start rules (names_used rules)
 
   -- all notes
   told-of : (f : List ℕ → Said) (marks : List Bool) → map f (chosen marks (rule_names rules)) ≡ map (λ rule. f rule.name) (chosen marks rules)
   told-of f marks = ap (map f) (chosen-map (λ rule. rule.name) marks rules) ∙ map-map f (λ rule. rule.name) (chosen marks rules)
 
-  pub are-notes : (ids : List ℕ) (again recursive looping : List Bool) (notes : List Said) → AreMarks (λ rule. Contains (names_at rules ids) rule.name) rules again →
-      AreMarks (IsLeftRecursive rules) rules recursive → AreMarks (Loops rules) rules looping →
+  pub are-notes : (redefined : List ℕ) (again unused recursive looping : List Bool) (notes : List Said) → AreMarks (λ rule. Contains (names_at rules redefined) rule.name) rules again →
+      AreMarks (IsUnused start rules) rules unused → AreMarks (IsLeftRecursive rules) rules recursive → AreMarks (Loops rules) rules looping →
       notes ≡ map (said Redefined) (chosen again (rule_names rules)) ++ (map (said Undefined) (drop (length rules) (names_of names)) ++ (map (said Unused) (chosen unused (rule_names rules))
       ++ (map (said LeftRecursion) (chosen recursive (rule_names rules)) ++ map (said Loop) (chosen looping (rule_names rules))))) →
-      AreNotes rules (names_at rules ids) start notes
-  are-notes ids again recursive looping notes redefined lefts loops h = record {
+      AreNotes rules (names_at rules redefined) start notes
+  are-notes redefined again unused recursive looping notes agains outs lefts loops h = record {
     redefined = chosen again rules;
     unused = chosen unused rules;
     recursive = chosen recursive rules;
     looping = chosen looping rules;
-    are_redefined = those-chosen _ rules again redefined;
-    are_unused = those-chosen _ rules unused marks-unused;
+    are_redefined = those-chosen _ rules again agains;
+    are_unused = those-chosen _ rules unused outs;
     are_recursive = those-chosen _ rules recursive lefts;
     are_looping = those-chosen _ rules looping loops;
     all = h ∙ rw (told-of (said Redefined) again, undefined-names, told-of (said Unused) unused, told-of (said LeftRecursion) recursive, told-of (said Loop) looping) refl;
   }
 
--- one kind of notes after another
-pub joined : (n a b c d e : List Said) (ka kb kc kd ke : List Said) → n ≡ [] → a ≡ n ++ ka → b ≡ a ++ kb → c ≡ b ++ kc → d ≡ c ++ kd → e ≡ d ++ ke →
-    e ≡ ka ++ (kb ++ (kc ++ (kd ++ ke)))
-joined n a b c d e ka kb kc kd ke hn ha hb hc hd he = rw (he, hd, hc, hb, ha, hn) (simp append_assoc)
-
 -- the notes on rules that are defined again, alone
-pub redefinitions-are : (rules : List Rule) (own : (id : ℕ) (name : List ℕ) → slice_get (rule_names rules) id ≡ Some name → position (bytes_eq name) (rule_names rules) ≡ Some id) (ids : List ℕ)
-    (again : List Bool) (notes : List Said) → AreMarks (λ rule. Contains (names_at rules ids) rule.name) rules again → notes ≡ map (said Redefined) (chosen again (rule_names rules)) →
-    AreRedefinitions rules (names_at rules ids) notes
-redefinitions-are rules own ids again notes marks h = record {
+pub redefinitions-are : (rules : List Rule) (redefined : List ℕ) (again : List Bool) (notes : List Said) → AreMarks (λ rule. Contains (names_at rules redefined) rule.name) rules again →
+    notes ≡ map (said Redefined) (chosen again (rule_names rules)) → AreRedefinitions rules (names_at rules redefined) notes
+redefinitions-are rules redefined again notes marks h = record {
   redefined = chosen again rules;
   are_redefined = those-chosen _ rules again marks;
   all = h ∙ ap (map (said Redefined)) (chosen-map (λ rule. rule.name) again rules) ∙ map-map (said Redefined) (λ rule. rule.name) (chosen again rules);

@@ -13,6 +13,7 @@ use Rattle.ruletable.specs.declared.note.NoteKind.TheVariants.{Redefined, Undefi
 use Rattle.ruletable.specs.Rules as table
 use Rattle.ruletable.specs.Rules.{find_in, HasUniqueNames}
 use Rattle.ruletable.specs.declared.table.NameCase.TheVariants.{Exact}
+use Rattle.rulenames.specs.FirstUses.{is_among, news}
 use Rattle.pegread.specs.Pattern as expr
 use Rattle.pegread.specs.Pattern.{Pattern, Patterns, Rule}
 use Rattle.pegread.specs.Views.{rule_of, rules_of}
@@ -29,7 +30,7 @@ use Rattle.gramcheck.specs.Nodes.{Shape, id_of}
 use Rattle.gramcheck.specs.GrammarNotes.{Those, no_more, not_this, AreNotes, AreMarks, said_refuses}
 use Rattle.gramcheck.specs.Numbering.{AreStanding}
 use Rattle.gramcheck.specs.Sound.{IsRanked}
-use Rattle.gramcheck.specs.Uses.{names_in, names_in_all, names_used, rule_names, is_among, news}
+use Rattle.gramcheck.specs.Uses.{names_in, names_in_all, names_used, rule_names}
 use Rattle.gramcheck.specs.Within.{Within, WithinSome, StandsIn, itself, of_seq, of_choice, of_star, of_plus, of_opt, of_and, of_not, of_first, of_later}
 use Rattle.gramcheck.proofs.OwnIdLemmas.{id_found, own_id}
 use Rattle.leastset.proofs.IsMarkedLemmas.{marked_lt}
@@ -67,16 +68,16 @@ those-none P [] no_more id x there h = cc
 those-none P (y ∷ ys) (not_this other more) zero x there h = other (let same : y ≡ x = cc in rw same h)
 those-none P (y ∷ ys) (not_this other more) (suc id) x there h = those-none P ys more id x there h
 
-news-none-by : (known names : List (List ℕ)) (n : List ℕ) (b : Bool) → is_among known n ≡ b → news known (n ∷ names) ≡ [] → (b ≡ true) × (news known names ≡ [])
+news-none-by : (known names : List (List ℕ)) (n : List ℕ) (b : Bool) → is_among Exact known n ≡ b → news Exact known (n ∷ names) ≡ [] → (b ≡ true) × (news Exact known names ≡ [])
 news-none-by known names n true e h = (refl, (let k = rw (e, news) at h in k))
 news-none-by known names n false e h = let k = rw (e, news) at h in cc
 
 -- where no name of a list is new, each is known
-news-none : (known names : List (List ℕ)) → news known names ≡ [] → (n : List ℕ) → Contains names n → is_among known n ≡ true
+news-none : (known names : List (List ℕ)) → news Exact known names ≡ [] → (n : List ℕ) → Contains names n → is_among Exact known n ≡ true
 news-none known [] h n (k, lt, e) = absurd (omega (arith, lt))
-news-none known (x ∷ names) h n (zero, lt, e) = let two = news-none-by known names x (is_among known x) refl h in rw e at two.0
+news-none known (x ∷ names) h n (zero, lt, e) = let two = news-none-by known names x (is_among Exact known x) refl h in rw e at two.0
 news-none known (x ∷ names) h n (suc k, lt, e) =
-    let two = news-none-by known names x (is_among known x) refl h in
+    let two = news-none-by known names x (is_among Exact known x) refl h in
     news-none known names two.1 n (k, (omega arith), e)
 
 mutual
@@ -119,7 +120,7 @@ named-id (rule ∷ rules) word (suc k, lt, e) = named-by rule rules word (bytes_
 -- no note refuses the grammar
 module _ (rules : List Rule) (again : List (List ℕ)) (start : Option (List ℕ)) (notes : List Said) (are : AreNotes rules again start notes) (passes : is_refused notes ≡ false) where
   abbrev undefined : List (List ℕ)
-  undefined = news (rule_names rules) (option_to_list start ++ names_used rules)
+  undefined = news Exact (rule_names rules) (option_to_list start ++ names_used rules)
 
   -- none of the kinds that refuse is among them
   record Passes : Type 0 where

@@ -2,7 +2,6 @@ pub mod AreBodiesLemmas
 pub mod AreNotesLemmas
 pub mod AreRanksLemmas
 pub mod BodyOfLemmas
-pub mod ChosenLemmas
 pub mod ComesBackLemmas
 pub mod HasOutcomeLemmas
 pub mod HasShapeLemmas
@@ -32,4 +31,5 @@ pub mod ShorterInputLemmas
 pub mod SomeOutcomeLemmas
 pub mod StartRuleLemmas
 pub mod StepsToBodyLemmas
+pub mod ThoseLemmas
 pub mod UsesLemmas

@@ -6,10 +6,12 @@ use Rattle.std.specs.Str.{bytes_eq}
 use Rattle.std.specs.Prelude.{codes}
 use Rattle.ruletable.specs.Notes.{said}
 use Rattle.ruletable.specs.declared.note.NoteKind.TheVariants.{Undefined, Unused}
+use Rattle.ruletable.specs.declared.table.NameCase.TheVariants.{Exact}
 use Rattle.pegread.specs.Pattern.{Pattern, Any, Bytes, Name, Seq, Choice, Star, And, none, more, Rule}
 use Rattle.gramcheck.specs.Left.{LeftChain, one_step, more_steps}
 use Rattle.gramcheck.specs.GrammarNotes.{AreNotes, no_more, this_one, not_this}
-use Rattle.gramcheck.specs.Uses.{names_used, news}
+use Rattle.rulenames.specs.FirstUses.{news}
+use Rattle.gramcheck.specs.Uses.{names_used}
 
 -- `S <- &B / 'a' (C S)*` and then `C <- B` use B, C, S and B
 uses_in_order : names_used
@@ -19,11 +21,11 @@ uses_in_order : names_used
 uses_in_order = refl
 
 -- of these S and C are rules, so B alone is new, once
-new_names : news (codes "S" ∷ codes "C" ∷ []) (codes "B" ∷ codes "C" ∷ codes "S" ∷ codes "B" ∷ []) ≡ codes "B" ∷ []
+new_names : news Exact (codes "S" ∷ codes "C" ∷ []) (codes "B" ∷ codes "C" ∷ codes "S" ∷ codes "B" ∷ []) ≡ codes "B" ∷ []
 new_names = refl
 
 -- by first use, and not by the alphabet
-first_use : news [] (codes "b" ∷ codes "a" ∷ codes "b" ∷ codes "c" ∷ []) ≡ codes "b" ∷ codes "a" ∷ codes "c" ∷ []
+first_use : news Exact [] (codes "b" ∷ codes "a" ∷ codes "b" ∷ codes "c" ∷ []) ≡ codes "b" ∷ codes "a" ∷ codes "c" ∷ []
 first_use = refl
 
 -- `S <- .` with a start that no rule has: T is used but not defined, and S is defined but not used

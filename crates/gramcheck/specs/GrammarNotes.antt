@@ -4,9 +4,11 @@ use Rattle.std.specs.List.{flat_map}
 use Rattle.ruletable.specs.Notes.{Said, said}
 use Rattle.ruletable.specs.declared.note.NoteKind.TheVariants.{Redefined, ExtendedEarly, Undefined, Prose, Unused, LeftRecursion, Loop}
 use Rattle.ruletable.specs.declared.note.NoteKind.{NoteKind}
+use Rattle.ruletable.specs.declared.table.NameCase.TheVariants.{Exact}
 use Rattle.pegread.specs.Pattern.{Rule}
 use Rattle.gramcheck.specs.Left.{IsLeftRecursive, Loops}
-use Rattle.gramcheck.specs.Uses.{names_used, rule_names, news}
+use Rattle.rulenames.specs.FirstUses.{news}
+use Rattle.gramcheck.specs.Uses.{names_used, rule_names}
 
 -- those of a list of which P holds, in the list's order
 module _ {A : Type 0} (P : A → Type 0) where
@@ -42,7 +44,7 @@ pub record AreNotes (rules : List Rule) (again : List (List ℕ)) (start : Optio
   pub are_recursive : Those (IsLeftRecursive rules) rules recursive
   pub are_looping : Those (Loops rules) rules looping
   pub all : notes ≡ map (λ rule. said Redefined rule.name) redefined
-      ++ (map (said Undefined) (news (rule_names rules) (option_to_list start ++ names_used rules))
+      ++ (map (said Undefined) (news Exact (rule_names rules) (option_to_list start ++ names_used rules))
       ++ (map (λ rule. said Unused rule.name) unused ++ (map (λ rule. said LeftRecursion rule.name) recursive ++ map (λ rule. said Loop rule.name) looping)))
 
 -- the notes on rules that are defined again, alone
@@ -69,10 +71,3 @@ pub record AreMarks (P : Rule → Type 0) (rules : List Rule) (marks : List Bool
   pub count : length marks ≡ length rules
   pub sound : (id : ℕ) (rule : Rule) → slice_get rules id ≡ Some rule → get_or marks id false ≡ true → P rule
   pub whole : (id : ℕ) (rule : Rule) → slice_get rules id ≡ Some rule → P rule → get_or marks id false ≡ true
-
--- those of a list that are marked
-abbrev pub chosen : {A : Type 0} → List Bool → List A → List A
-chosen marks [] = []
-chosen [] (x ∷ xs) = []
-chosen (true ∷ marks) (x ∷ xs) = x ∷ chosen marks xs
-chosen (false ∷ marks) (x ∷ xs) = chosen marks xs

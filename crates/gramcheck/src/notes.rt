@@ -1,82 +1,17 @@
 //! The notes on a grammar.
-ghost use Rattle.std.specs.Prelude.{◌≡◌, ℕ, ◌==◌, ◌<◌, ◌++◌, Bool, false, List, length, map, drop, get_or, Option, IfOk, option_copied};
+ghost use Rattle.std.specs.Prelude.{◌≡◌, ℕ, List, length, map, Option, IfOk, option_copied};
 ghost use Rattle.std.specs.List.{list_any};
-ghost use Rattle.ruletable.specs.Notes.{Said, said, said_of};
-ghost use Rattle.ruletable.specs.declared.note.NoteKind.TheVariants.{Undefined};
-ghost use Rattle.ruletable.specs.Rules.{names_of};
+ghost use Rattle.ruletable.specs.Notes.{Said, said_of};
 ghost use Rattle.pegread.specs.Pattern.{Rule};
 ghost use Rattle.pegread.specs.Views.{rules_of};
 ghost use Rattle.gramcheck.specs.Left.{IsLeftRecursive, Loops};
-ghost use Rattle.gramcheck.specs.GrammarNotes.{AreMarks, AreNotes, AreRedefinitions, chosen, names_at, said_refuses};
+ghost use Rattle.gramcheck.specs.GrammarNotes.{AreMarks, AreNotes, AreRedefinitions, names_at, said_refuses};
 
 use crate::uses::uses_of;
 use pegread::{Expr, Peg};
-use ruletable::{Memory, Note, NoteKind, RuleTable};
+use rulenames::{marks_at, note_marked, note_undefined, opposites};
+use ruletable::{Memory, NameCase, Note, NoteKind, RuleTable};
 use std::alloc::Global;
-
-// Adds a note for each rule that is marked.
-fn note_marked(
-    alloc: Global,
-    rules: &RuleTable<Expr>,
-    marks: &[bool],
-    kind: NoteKind,
-    notes: &mut Vec<Note>,
-) -> Result<(), Memory>
-    requires { length marks.now ≡ length rules.now.rules }
-    ensures { IfOk result (λ _. map said_of notes.new.items ≡ map said_of notes.old.items ++ map (said kind) (chosen marks.now (names_of rules.now))) }
-{
-    for id in 0..rules.len() {
-        if marks[id] {
-            let name = Vec::from_slice(alloc, rules.name(id))?;
-            notes.push(Note { kind, name })?;
-        }
-    }
-    Ok(())
-}
-
-// Adds a note for each name but the first `count`.
-fn note_undefined(
-    alloc: Global,
-    names: &RuleTable<()>,
-    count: usize,
-    notes: &mut Vec<Note>,
-) -> Result<(), Memory>
-    ensures { IfOk result (λ _. map said_of notes.new.items ≡ map said_of notes.old.items ++ map (said Undefined) (drop count (names_of names.now))) }
-{
-    for id in count..names.len() {
-        let name = Vec::from_slice(alloc, names.name(id))?;
-        notes.push(Note {
-            kind: NoteKind::Undefined,
-            name,
-        })?;
-    }
-    Ok(())
-}
-
-fn no_marks(alloc: Global, count: usize) -> Result<Vec<bool>, Memory>
-    ensures count { IfOk result (λ marks. length marks.items ≡ count) }
-    ensures marks { IfOk result (λ marks. (id : ℕ) → get_or marks.items id false ≡ false) }
-{
-    let mut marks = Vec::new(alloc);
-    for _id in 0..count {
-        marks.push(false)?;
-    }
-    Ok(marks)
-}
-
-// Of each of the first `count` ids whether it is in the list.
-fn marks_of(alloc: Global, ids: &[usize], count: usize) -> Result<Vec<bool>, Memory>
-    ensures count { IfOk result (λ marks. length marks.items ≡ count) }
-    ensures marks { IfOk result (λ marks. (id : ℕ) → id < count → get_or marks.items id false ≡ list_any (λ other. other == id) ids.now) }
-{
-    let mut marks = no_marks(alloc, count)?;
-    for id in ids {
-        if *id < marks.len() {
-            marks[*id] = true;
-        }
-    }
-    Ok(marks)
-}
 
 /// The notes on a grammar, in order: on rules that are defined again, which are those with the ids in `redefined`, on names
 /// that no rule has, on rules that are not used, and on those marked as left-recursive and as looping.
@@ -90,6 +25,7 @@ pub(crate) fn notes(
     recursive: &[bool],
     looping: &[bool],
 ) -> Result<Vec<Note>, Memory>
+    requires exact { rules.now.names ≡ NameCase.Exact }
     requires recursive { length recursive.now ≡ length rules.now.rules }
     requires looping { length looping.now ≡ length rules.now.rules }
     ensures { IfOk result (λ notes. AreMarks (IsLeftRecursive (rules_of rules.now)) (rules_of rules.now) recursive.now →
@@ -97,11 +33,13 @@ pub(crate) fn notes(
         AreNotes (rules_of rules.now) (names_at (rules_of rules.now) redefined.now) (option_copied start.entry) (map said_of notes.items)) }
 {
     let uses = uses_of(alloc, rules, start)?;
-    let again = marks_of(alloc, redefined, rules.len())?;
+    let again = marks_at(alloc, redefined, rules.len())?;
+    let used = marks_at(alloc, &uses.ids, rules.len())?;
+    let unused = opposites(alloc, &used)?;
     let mut notes = Vec::new(alloc);
     note_marked(alloc, rules, &again, NoteKind::Redefined, &mut notes)?;
     note_undefined(alloc, &uses.names, rules.len(), &mut notes)?;
-    note_marked(alloc, rules, &uses.unused, NoteKind::Unused, &mut notes)?;
+    note_marked(alloc, rules, &unused, NoteKind::Unused, &mut notes)?;
     note_marked(alloc, rules, recursive, NoteKind::LeftRecursion, &mut notes)?;
     note_marked(alloc, rules, looping, NoteKind::Loop, &mut notes)?;
     Ok(notes)
@@ -114,7 +52,7 @@ pub(crate) fn notes(
 pub fn redefinitions(alloc: Global, peg: &Peg) -> Result<Vec<Note>, Memory>
     ensures { IfOk result (λ notes. AreRedefinitions (rules_of peg.now.rules) (names_at (rules_of peg.now.rules) peg.now.redefined.items) (map said_of notes.items)) }
 {
-    let again = marks_of(alloc, &peg.redefined, peg.rules.len())?;
+    let again = marks_at(alloc, &peg.redefined, peg.rules.len())?;
     let mut notes = Vec::new(alloc);
     note_marked(alloc, &peg.rules, &again, NoteKind::Redefined, &mut notes)?;
     Ok(notes)

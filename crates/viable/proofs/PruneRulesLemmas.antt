@@ -11,7 +11,7 @@ use Rattle.ruletable.specs.declared.table.NameCase.TheVariants.{Fold}
 use Rattle.abnfread.specs.Element.{Element, bodies, id_of}
 use Rattle.abnfread.specs.Views.{element_of, rule_of, rules_of}
 use Rattle.abnfread.specs.declared.elem.Elem.{Elem}
-use Rattle.abnfcheck.proofs.NameIdsLemmas.{name_next}
+use Rattle.rulenames.proofs.IsAddedLemmas.{name_next}
 use Rattle.flatgrammar.proofs.BeforeLemmas.{get_below}
 use Rattle.flatgrammar.proofs.FlatCutLemmas.{push_cases}
 use Rattle.viable.specs.Pruned.{IsLeftBody, ArePruned}
@@ -48,7 +48,7 @@ pub next_pruned : (has : ℕ → Bool) (rules old new : table.Rules Elem) (i : �
 next_pruned has rules old new i rule b done unique folds o name_at body_at is_left d = record { folds = next.0; names = next.1; left_of = λ id e l was is. by done d id e l was is }
   where
     next : (new.names ≡ Fold) × (names_of new ≡ take (i + 1) (names_of rules))
-    next = name_next rules unique folds old new i rule done o.folds o.names name_at d
+    next = name_next rules unique Fold folds old new i rule done o.folds o.names name_at d
 
     long : length (names_of old) ≡ i
     long = let lt = get_below (names_of rules) i name_at in ap length o.names ∙ length-take-le i (names_of rules) (omega (arith, lt))

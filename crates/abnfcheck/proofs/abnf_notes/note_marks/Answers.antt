@@ -2,12 +2,12 @@
 use Rattle.std.proofs.Common.{◌≤◌, ◌∙◌, ap, arith, length, map, not, subst, sym, take}
 use Rattle.std.proofs.lemmas.List.{length-map}
 use Rattle.leastset.proofs.RowsOfLemmas.{length-rows}
+use Rattle.rulenames.specs.IdMarks.{AreMarks}
 use Rattle.abnfread.specs.Element.{Rule}
 use Rattle.abnfcheck.specs.AbnfNotes.{judged_in, IsUnused}
 use Rattle.abnfcheck.specs.AbnfUses.{HoldsProse}
-use Rattle.abnfcheck.specs.NameMarks.{AreMarks}
 use Rattle.abnfcheck.specs.ProseIn.{prose_in}
-use Rattle.abnfcheck.proofs.AbnfNotesLemmas.{ids_marked, prose_exact, unused_marks}
+use Rattle.abnfcheck.proofs.AbnfNotesLemmas.{prose_exact, unused_marks}
 use Rattle.abnfcheck.proofs.abnf_notes.note_marks.Goals as goal
 
 pub returns : goal.returns
@@ -15,8 +15,8 @@ returns c = λ rules given graph prose.
     let fits : c.args.count ≤ length rules = (let few = c.requires.prose in let l = ap length prose in let k = length-map rules (λ (rule : Rule). prose_in rule.body) in omega (arith, few, l, k)) in
     let rows = length-rows c.args.ids.now.rows.items in
     record {
-      redefined_are = ids_marked c.args.redefined.now c.args.count _ c.in_ok-redefined.ensures.count c.in_ok-redefined.ensures.marks;
-      extended_are = ids_marked c.args.extended.now c.args.count _ c.in_ok-extended.ensures.count c.in_ok-extended.ensures.marks;
+      redefined_are = c.in_ok-redefined.ensures;
+      extended_are = c.in_ok-extended.ensures;
       prose_are = subst (λ v. AreMarks (HoldsProse rules) c.args.count v) (sym (c.in_ok-prose.ensures.items ∙ ap (take c.args.count) prose)) (prose_exact rules given _ _ _ graph c.args.count fits);
       unused_are = subst (λ v. AreMarks (IsUnused rules (judged_in given rules)) c.args.count v) (sym (c.in_ok-unused.ensures ∙ ap (λ l. map not (take c.args.count l)) c.deref-2.ensures.value))
           (unused_marks rules given _ _ _ graph c.args.count c.in_ok-used.used.items fits

@@ -1,11 +1,12 @@
 -- The names in one more member, and in each kind of element.
-use Rattle.std.proofs.Common.{◌++◌, subst, arith}
+use Rattle.std.proofs.Common.{◌++◌, ◌∙◌, subst, arith}
 use Rattle.std.proofs.lemmas.List.{take_all}
+use Rattle.ruletable.specs.declared.table.NameCase.TheVariants.{Fold}
+use Rattle.rulenames.specs.NameUses.{IsScanned}
 use Rattle.abnfread.specs.Views.{elements_of}
 use Rattle.abnfread.proofs.ElementLemmas.{element-Concat, element-Alt, element-Rep, element-Opt, element-Name}
 use Rattle.abnfcheck.specs.AbnfUses.{names_in_all}
-use Rattle.abnfcheck.specs.NameIds.{IsScanned}
-use Rattle.abnfcheck.proofs.NameIdsLemmas.{scan_more, scan_next}
+use Rattle.abnfcheck.proofs.NameIdsLemmas.{scan_next}
 use Rattle.abnfcheck.proofs.name_ids.+scan.Goals as goal
 
 pub add_all_names-loop-member-preserved : goal.add_all_names-loop-member-preserved
@@ -18,15 +19,16 @@ add_all_names-loop-member-preserved t c = record {
 
 pub add_all_names-returns-clause-scanned : goal.add_all_names-returns-clause-scanned
 add_all_names-returns-clause-scanned t c = λ known seen uses s.
-    subst (λ l. IsScanned known (seen ++ names_in_all (elements_of l)) (uses ++ names_in_all (elements_of l)) c.loop-member.names c.loop-member.row.items)
+    subst (λ l. IsScanned Fold known (seen ++ names_in_all (elements_of l)) (uses ++ names_in_all (elements_of l)) c.loop-member.names c.loop-member.row.items)
     (take_all c.loop-member.member-index c.args.members.now (let past = c.loop-member-test.false in omega (arith, past)))
     (c.loop-member.invariant.scanned known seen uses s)
 
-pub add_names-returns-in_ok-push-in-Name-clause-scanned :
-    goal.add_names-returns-in_ok-push-in-Name-clause-scanned
-add_names-returns-in_ok-push-in-Name-clause-scanned t c = λ known seen uses s.
-    rw (c.in-Name.is, element-Name, c.in_ok-push-in-Name.ensures.items)
-    (scan_more known seen uses c.args.names.now c.add_name.new.names c.args.row.now.items c.in-Name.name.items c.in_ok-id-in-Name.id s (rw c.deref.ensures.value at c.in_ok-id-in-Name.ensures))
+pub add_names-returns-in_ok-add_use-in-Name-clause-folds : goal.add_names-returns-in_ok-add_use-in-Name-clause-folds
+add_names-returns-in_ok-add_use-in-Name-clause-folds t c = c.in_ok-add_use-in-Name.ensures.case ∙ c.requires
+
+pub add_names-returns-in_ok-add_use-in-Name-clause-scanned : goal.add_names-returns-in_ok-add_use-in-Name-clause-scanned
+add_names-returns-in_ok-add_use-in-Name-clause-scanned t c = λ known seen uses s.
+    rw (c.in-Name.is, element-Name) (rw c.deref.ensures.value at (c.in_ok-add_use-in-Name.ensures.scanned Fold known seen uses s))
 
 pub add_names-returns-in-Concat-clause-scanned : goal.add_names-returns-in-Concat-clause-scanned
 add_names-returns-in-Concat-clause-scanned t c = rw (c.in-Concat.is, element-Concat) (rw c.deref-in-Concat.ensures.value at c.add_all_names.ensures.scanned)

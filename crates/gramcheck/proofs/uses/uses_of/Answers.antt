@@ -4,11 +4,12 @@ use Rattle.std.specs.Prelude.{option_copied, option_to_list}
 use Rattle.pegread.specs.Views.{rules_of, pattern_of}
 use Rattle.gramcheck.specs.GrammarNotes.{start_of}
 use Rattle.gramcheck.specs.Uses.{names_used, names_in}
-use Rattle.gramcheck.proofs.UsesLemmas.{used-next}
+use Rattle.gramcheck.proofs.UsesLemmas.{used-next, uses-none}
 use Rattle.gramcheck.proofs.uses.uses_of.Goals as goal
 
 pub loop-id-init : goal.loop-id-init
-loop-id-init c = rw append-nil (c.in_ok-add_start.ensures [] c.in_ok-uses.ensures)
+loop-id-init c =
+    rw append-nil (c.in_ok-add_start.ensures [] (rw c.new.ensures.items (uses-none c.args.rules.now c.in_ok-names.names c.in_ok-names.ensures.case c.in_ok-names.ensures.names)))
 
 pub loop-id-preserved : goal.loop-id-preserved
 loop-id-preserved c =

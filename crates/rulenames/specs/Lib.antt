@@ -1,0 +1,3 @@
+pub mod FirstUses
+pub mod IdMarks
+pub mod NameUses
