@@ -45,6 +45,8 @@ USERNAME = peg("a word replaced", b'start <- "username" { USER } / < . > { yytex
 WORDS = abnf("words of letters", b"word = 1*ALPHA", b"ab\nA1\n\nZ", [YES, NO, NO, YES], status=1)
 REFUSED = b"A <- ('' / 'b')* C\nD <- 'd'"
 REFUSALS = b"rule 'C' used but not defined\nrule 'D' defined but not used\npossible infinite loop in rule 'A'\n"
+VIABLE = abnf("words of letters, and how far the others go", b"word = 1*ALPHA", b"ab\nA1\n\nZ",
+              [YES, b"no 1\n", b"no 0\n", YES], status=1, words=["-w"])
 NOTED = peg("a grammar that notes refuse", REFUSED, b"b", [], REFUSALS, 2)
 CHECKED = peg("the same grammar checked", REFUSED, b"b", [], REFUSALS, 2, words=CHECK)
 PROSE = b"a = <any text> / b\nb = \"x\""
@@ -63,6 +65,7 @@ GROWING = [
     PRINTED,
     peg("an action met four times in a unit", b"S <- A A 'x'\nA <- B B\nB <- {b}", b"x", [b"b\nb\nb\nb\n"]),
     WORDS,
+    VIABLE,
     abnf("an ambiguous rule", b's = s s / "a" / ""', b"aaa\n\nb\n", [YES, YES, NO], status=1),
     abnf("alternatives added to a rule", ALTERNATIVES, LINES, [YES, NO, YES, YES, NO], status=1),
     ABNF_PRINTED,

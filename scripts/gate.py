@@ -43,7 +43,7 @@ def main():
     green = formed and status == 0
     if green:
         print(last, flush=True)
-        green = all([script("random_cases.py", "-n", "5000"), script("faults.py")])
+        green = all([script("random_cases.py", "-n", "5000", "-u", "-w"), script("faults.py")])
     print(last, flush=True)
     return 0 if green else status or 1
 
