@@ -7,8 +7,8 @@ use Rattle.abnfread.specs.Element.{Rule}
 use Rattle.abnfcheck.specs.Beginnings.{BeginsMember, IsFurthest}
 use Rattle.abnfcheck.specs.Decided.{Says}
 use Rattle.abnfcheck.specs.Derivable.{AreLetters, RuleDerives}
-use Rattle.abnfcheck.proofs.DerivesDecidedLemmas.{and_first, and_second, and_true, or_true, or_first, or_second, order, RuleLeads, rule_leads_is_decided}
-use Rattle.abnfcheck.proofs.LeadsLemmas.{Leads, here, step, join}
+use Rattle.abnfcheck.proofs.DerivesDecidedLemmas.{and_first, and_second, and_true, or_true, or_first, or_second, order, RulePath, rule_path_is_decided}
+use Rattle.abnfcheck.proofs.IsPathLemmas.{IsPath, here, step, join}
 use Rattle.abnfcheck.proofs.LiesLemmas.{OnLine, Lies, only, all_of}
 
 abbrev is_that : ℕ → Option ℕ → Bool
@@ -59,7 +59,7 @@ module _ (more : ℕ → Bool) (x : List ℕ) where
     letters : AreLetters more rest
     parts : front ++ rest ≡ w
 
-  parts_of : {i j : ℕ} {w : List ℕ} → Leads Goes i w j → j ≡ length x → Parts i w
+  parts_of : {i j : ℕ} {w : List ℕ} → IsPath Goes i w j → j ≡ length x → Parts i w
   parts_of (here {i = i}) e = record { front = []; rest = []; lies = subst (λ v. Lies x i [] v) e here; letters = tt; parts = refl }
   parts_of (step {i = i} {k = k} {c = c} {w = w} is l) e =
       let p = parts_of l e in
@@ -76,14 +76,14 @@ module _ (more : ℕ → Bool) (x : List ℕ) where
       })
       (move i c k is)
 
-  along : {i j : ℕ} {w : List ℕ} → Lies x i w j → Leads Goes i w j
+  along : {i j : ℕ} {w : List ℕ} → Lies x i w j → IsPath Goes i w j
   along here = here
   along (step {i = i} {k = k} {c = c} is l) = step
       (or_first (is_that c (slice_get x i) && eqb (i + 1) k) (more c && (eqb i (length x) && eqb k (length x)))
       (and_true (is_that c (slice_get x i)) (eqb (i + 1) k) (is_that_one c (slice_get x i) is.0) (eq-eqb (i + 1) k is.1)))
       (along l)
 
-  behind : (v : List ℕ) → AreLetters more v → Leads Goes (length x) v (length x)
+  behind : (v : List ℕ) → AreLetters more v → IsPath Goes (length x) v (length x)
   behind [] all = here
   behind (c ∷ v) all = step
       (or_second (is_that c (slice_get x (length x)) && eqb (length x + 1) (length x)) (more c && (eqb (length x) (length x) && eqb (length x) (length x)))
@@ -98,9 +98,9 @@ module _ (more : ℕ → Bool) (x : List ℕ) where
       letters : AreLetters more rest
       derives : RuleDerives has rules id (x ++ rest)
 
-    longer : RuleLeads has rules (length x) goes within id 0 (length x) → Longer
+    longer : RulePath has rules (length x) goes within id 0 (length x) → Longer
     longer r =
-        let p = parts_of r.leads refl in
+        let p = parts_of r.path refl in
         let whole : p.front ≡ x = only x p.lies (all_of x) in
         record {
           rest = p.rest;
@@ -108,13 +108,13 @@ module _ (more : ℕ → Bool) (x : List ℕ) where
           derives = subst (λ v. RuleDerives has rules id (v ++ p.rest)) whole (subst (λ v. RuleDerives has rules id v) (sym p.parts) r.derives);
         }
 
-    leads : Longer → RuleLeads has rules (length x) goes within id 0 (length x)
-    leads l = record { word = x ++ l.rest; leads = join Goes (along (all_of x)) (behind l.rest l.letters); derives = l.derives }
+    leads : Longer → RulePath has rules (length x) goes within id 0 (length x)
+    leads l = record { word = x ++ l.rest; path = join Goes (along (all_of x)) (behind l.rest l.letters); derives = l.derives }
 
     longer_is_decided : (yes : Bool) × Says Longer yes
-    longer_is_decided = let h = rule_leads_is_decided has rules (length x) goes within id 0 (length x) (omega arith) (omega arith) in by h.0 h.1
+    longer_is_decided = let h = rule_path_is_decided has rules (length x) goes within id 0 (length x) (omega arith) (omega arith) in by h.0 h.1
       where
-        by : (said : Bool) → Says (RuleLeads has rules (length x) goes within id 0 (length x)) said → (yes : Bool) × Says Longer yes
+        by : (said : Bool) → Says (RulePath has rules (length x) goes within id 0 (length x)) said → (yes : Bool) × Says Longer yes
         by true r = (true, longer r)
         by false none = (false, λ l. none (leads l))
 

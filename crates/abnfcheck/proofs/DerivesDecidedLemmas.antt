@@ -10,7 +10,7 @@ use Rattle.abnfread.specs.Element.{Element, Elements, Rule, bodies, body_of}
 use Rattle.abnfcheck.specs.Derivable as der
 use Rattle.abnfcheck.specs.Derivable.{small, StandsFor, Spelled, AreLetters, Derives, DerivesAll, DerivesSome, DerivesTimes, all_done, then, this, later, no_more, one_more, RuleDerives}
 use Rattle.abnfcheck.specs.Decided.{Says}
-use Rattle.abnfcheck.proofs.LeadsLemmas.{Leads, here, step, join, split}
+use Rattle.abnfcheck.proofs.IsPathLemmas.{IsPath, here, step, join, split}
 use Rattle.abnfcheck.proofs.FiniteLeastLemmas.{Listed, first, further, least_is_decided}
 
 -- tests
@@ -397,19 +397,19 @@ module _ (has : ℕ → Bool) (rules : List Rule) (last : ℕ) (goes : ℕ → �
   -- some letters that the element derives lead from the one state to the other
   record Spans (f : Fact) : Type 0 where
     word : List ℕ
-    leads : Leads Goes f.from word f.to
+    path : IsPath Goes f.from word f.to
     derives : Derives has rules f.el word
 
-  text_spans : (folds : Bool) (t : List ℕ) (i j : ℕ) → reads_text folds t i j ≡ true → (w : List ℕ) × Leads Goes i w j × Spelled folds t w
-  text_spans folds [] i j h = ([], subst (λ v. Leads Goes i [] v) (eqb-true i j h) here, Spelled.end)
+  text_spans : (folds : Bool) (t : List ℕ) (i j : ℕ) → reads_text folds t i j ≡ true → (w : List ℕ) × IsPath Goes i w j × Spelled folds t w
+  text_spans folds [] i j h = ([], subst (λ v. IsPath Goes i [] v) (eqb-true i j h) here, Spelled.end)
   text_spans folds (t ∷ ts) i j h =
       let m = move_of (t + 33) i (λ c k. stands folds t c && reads_text folds ts k j) h in
       let one = stands_for folds t m.letter (and_first (stands folds t m.letter) (reads_text folds ts m.next j) m.holds) in
       let rest = text_spans folds ts m.next j (and_second (stands folds t m.letter) (reads_text folds ts m.next j) m.holds) in
       (m.letter ∷ rest.0, step m.moved rest.1, Spelled.next one rest.2)
 
-  values_span : (vs : List ℕ) (i j : ℕ) → reads_values vs i j ≡ true → Leads Goes i vs j × AreLetters has vs
-  values_span [] i j h = (subst (λ v. Leads Goes i [] v) (eqb-true i j h) here, tt)
+  values_span : (vs : List ℕ) (i j : ℕ) → reads_values vs i j ≡ true → IsPath Goes i vs j × AreLetters has vs
+  values_span [] i j h = (subst (λ v. IsPath Goes i [] v) (eqb-true i j h) here, tt)
   values_span (v ∷ vs) i j h =
       let m = move_of (v + 1) i (λ c k. (eqb c v && has v) && reads_values vs k j) h in
       let front = and_first (eqb m.letter v && has v) (reads_values vs m.next j) m.holds in
@@ -425,7 +425,7 @@ module _ (has : ℕ → Bool) (rules : List Rule) (last : ℕ) (goes : ℕ → �
       let bounds = and_first (leb low m.letter && leb m.letter high) (has m.letter) inside in
       record {
         word = m.letter ∷ [];
-        leads = step m.moved (subst (λ v. Leads Goes m.next [] v) ends here);
+        path = step m.moved (subst (λ v. IsPath Goes m.next [] v) ends here);
         derives = der.range (leb-true low m.letter (and_first (leb low m.letter) (leb m.letter high) bounds))
             (leb-true m.letter high (and_second (leb low m.letter) (leb m.letter high) bounds))
             (and_second (leb low m.letter && leb m.letter high) (has m.letter) inside);
@@ -476,49 +476,49 @@ module _ (has : ℕ → Bool) (rules : List Rule) (last : ℕ) (goes : ℕ → �
 
     body_spans : (n : List ℕ) (i j : ℕ) (o : Option Element) → body_of rules n ≡ o → of_body s o i j ≡ true → Spans (fact (e.Name n) i j)
     body_spans n i j None is h = absurd (cc h)
-    body_spans n i j (Some d) is h = let p = right (fact d i j) h in record { word = p.word; leads = p.leads; derives = der.name is p.derives }
+    body_spans n i j (Some d) is h = let p = right (fact d i j) h in record { word = p.word; path = p.path; derives = der.name is p.derives }
 
     rep_spans : (a : ℕ) (b : Option ℕ) (d : Element) (i j : ℕ) → grows s (e.Rep a b d) i j ≡ true → Spans (fact (e.Rep a b d) i j)
     rep_spans a b d i j h = ⊎_elim
         (λ none.
         let le = leb-true a 0 (and_first (leb a 0) (eqb i j) none) in
-        record { word = []; leads = subst (λ v. Leads Goes i [] v) (eqb-true i j (and_second (leb a 0) (eqb i j) none)) here; derives = der.rep {k = 0} le (none_within b) no_more })
+        record { word = []; path = subst (λ v. IsPath Goes i [] v) (eqb-true i j (and_second (leb a 0) (eqb i j) none)) here; derives = der.rep {k = 0} le (none_within b) no_more })
         (λ some.
         let t = two_of d (e.Rep (a - 1) (less b) d) i j (and_second (may b) (both s d (e.Rep (a - 1) (less b) d) i j) some) in
         let r = turns_of t.rest.derives in
         let low = r.low in
         record {
           word = t.left.word ++ t.rest.word;
-          leads = join Goes t.left.leads t.rest.leads;
+          path = join Goes t.left.path t.rest.path;
           derives = der.rep {k = suc r.count} (omega (arith, low)) (more_within r.count b (and_first (may b) (both s d (e.Rep (a - 1) (less b) d) i j) some) r.high) (one_more t.left.derives r.times);
         })
         (or_true (leb a 0 && eqb i j) (may b && both s d (e.Rep (a - 1) (less b) d) i j) h)
 
     grown_spans : (d : Element) (i j : ℕ) → grows s d i j ≡ true → Spans (fact d i j)
-    grown_spans (e.Text folds t) i j h = let r = text_spans folds t i j h in record { word = r.0; leads = r.1; derives = der.text r.2 }
-    grown_spans (e.Values vs) i j h = let r = values_span vs i j h in record { word = vs; leads = r.0; derives = der.values r.1 }
+    grown_spans (e.Text folds t) i j h = let r = text_spans folds t i j h in record { word = r.0; path = r.1; derives = der.text r.2 }
+    grown_spans (e.Values vs) i j h = let r = values_span vs i j h in record { word = vs; path = r.0; derives = der.values r.1 }
     grown_spans (e.Range low high) i j h = range_spans low high i j h
-    grown_spans (e.Concat e.none) i j h = record { word = []; leads = subst (λ v. Leads Goes i [] v) (eqb-true i j h) here; derives = der.concat all_done }
+    grown_spans (e.Concat e.none) i j h = record { word = []; path = subst (λ v. IsPath Goes i [] v) (eqb-true i j h) here; derives = der.concat all_done }
     grown_spans (e.Concat (e.more d es)) i j h =
         let t = two_of d (e.Concat es) i j h in
-        record { word = t.left.word ++ t.rest.word; leads = join Goes t.left.leads t.rest.leads; derives = der.concat (then t.left.derives (members_of t.rest.derives)) }
+        record { word = t.left.word ++ t.rest.word; path = join Goes t.left.path t.rest.path; derives = der.concat (then t.left.derives (members_of t.rest.derives)) }
     grown_spans (e.Alt e.none) i j h = absurd (cc h)
     grown_spans (e.Alt (e.more d es)) i j h = ⊎_elim
-        (λ l. let p = right (fact d i j) l in record { word = p.word; leads = p.leads; derives = der.alt (this p.derives) })
-        (λ r. let p = right (fact (e.Alt es) i j) r in record { word = p.word; leads = p.leads; derives = der.alt (later (alternative_of p.derives)) })
+        (λ l. let p = right (fact d i j) l in record { word = p.word; path = p.path; derives = der.alt (this p.derives) })
+        (λ r. let p = right (fact (e.Alt es) i j) r in record { word = p.word; path = p.path; derives = der.alt (later (alternative_of p.derives)) })
         (or_true (s (fact d i j)) (s (fact (e.Alt es) i j)) h)
     grown_spans (e.Rep a b d) i j h = rep_spans a b d i j h
     grown_spans (e.Opt d) i j h = ⊎_elim
-        (λ none. record { word = []; leads = subst (λ v. Leads Goes i [] v) (eqb-true i j none) here; derives = der.opt_empty })
-        (λ some. let p = right (fact d i j) some in record { word = p.word; leads = p.leads; derives = der.opt p.derives })
+        (λ none. record { word = []; path = subst (λ v. IsPath Goes i [] v) (eqb-true i j none) here; derives = der.opt_empty })
+        (λ some. let p = right (fact d i j) some in record { word = p.word; path = p.path; derives = der.opt p.derives })
         (or_true (eqb i j) (s (fact d i j)) h)
     grown_spans (e.Name n) i j h = body_spans n i j (body_of rules n) refl h
     grown_spans (e.Prose t) i j h = absurd (cc h)
 
-  nowhere : {i j : ℕ} → Leads Goes i [] j → i ≡ j
+  nowhere : {i j : ℕ} → IsPath Goes i [] j → i ≡ j
   nowhere here = refl
 
-  stays : {i j : ℕ} {w : List ℕ} → Leads Goes i w j → i ≤ last → j ≤ last
+  stays : {i j : ℕ} {w : List ℕ} → IsPath Goes i w j → i ≤ last → j ≤ last
   stays here le = le
   stays (step {i = i} {k = k} {c = c} is l) le = stays l (within i c k is)
 
@@ -526,19 +526,19 @@ module _ (has : ℕ → Bool) (rules : List Rule) (last : ℕ) (goes : ℕ → �
     comes : (d : Element) (i j : ℕ) → Listed d (universe rules) → i ≤ last → j ≤ last → grows s d i j ≡ true → s (fact d i j) ≡ true
     comes d i j h a b g = closed (fact d i j) (in_facts (last + 1) i j (universe rules) d (omega (arith, a)) (omega (arith, b)) h) g
 
-    text_read : {folds : Bool} {t w : List ℕ} (i j : ℕ) → Spelled folds t w → Leads Goes i w j → reads_text folds t i j ≡ true
+    text_read : {folds : Bool} {t w : List ℕ} (i j : ℕ) → Spelled folds t w → IsPath Goes i w j → reads_text folds t i j ≡ true
     text_read i j Spelled.end l = eq-eqb i j (nowhere l)
     text_read {folds = folds} i j (Spelled.next {t = t} {c = c} {ts = ts} h d) (step {k = k} is l) =
         moves_by (t + 33) i c k (λ c k. stands folds t c && reads_text folds ts k j) (stands_below folds t c h) is
         (and_true (stands folds t c) (reads_text folds ts k j) (stands_true folds t c h) (text_read k j d l))
 
-    values_read : (vs : List ℕ) (i j : ℕ) → AreLetters has vs → Leads Goes i vs j → reads_values vs i j ≡ true
+    values_read : (vs : List ℕ) (i j : ℕ) → AreLetters has vs → IsPath Goes i vs j → reads_values vs i j ≡ true
     values_read [] i j all l = eq-eqb i j (nowhere l)
     values_read (v ∷ vs) i j all (step {k = k} is l) =
         moves_by (v + 1) i v k (λ c k. (eqb c v && has v) && reads_values vs k j) (omega arith) is
         (and_true (eqb v v && has v) (reads_values vs k j) (and_true (eqb v v) (has v) (eq-eqb v v refl) all.0) (values_read vs k j all.1 l))
 
-    range_read : (low high i j c : ℕ) → low ≤ c → c ≤ high → has c ≡ true → Leads Goes i (c ∷ []) j → reads_range low high i j ≡ true
+    range_read : (low high i j c : ℕ) → low ≤ c → c ≤ high → has c ≡ true → IsPath Goes i (c ∷ []) j → reads_range low high i j ≡ true
     range_read low high i j c a b h (step {k = k} is l) =
         moves_by (high + 1) i c k (λ c k. ((leb low c && leb c high) && has c) && eqb k j) (omega (arith, b)) is
         (and_true ((leb low c && leb c high) && has c) (eqb k j)
@@ -548,7 +548,7 @@ module _ (has : ℕ → Bool) (rules : List Rule) (last : ℕ) (goes : ℕ → �
     both_come d c i m j le one two = any_at (last + 1) m (λ m. s (fact d i m) && s (fact c m j)) (omega (arith, le)) (and_true (s (fact d i m)) (s (fact c m j)) one two)
 
     mutual
-      derived : {d : Element} {w : List ℕ} → Derives has rules d w → (i j : ℕ) → Leads Goes i w j → Listed d (universe rules) → i ≤ last → j ≤ last → s (fact d i j) ≡ true
+      derived : {d : Element} {w : List ℕ} → Derives has rules d w → (i j : ℕ) → IsPath Goes i w j → Listed d (universe rules) → i ≤ last → j ≤ last → s (fact d i j) ≡ true
       derived (der.text {folds = folds} {t = t} h) i j l at a b = comes (e.Text folds t) i j at a b (text_read i j h l)
       derived (der.values {vs = vs} h) i j l at a b = comes (e.Values vs) i j at a b (values_read vs i j h l)
       derived (der.range {low = low} {high = high} {c = c} p q h) i j l at a b = comes (e.Range low high) i j at a b (range_read low high i j c p q h l)
@@ -560,7 +560,7 @@ module _ (has : ℕ → Bool) (rules : List Rule) (last : ℕ) (goes : ℕ → �
           comes (e.Opt d) i j at a b (or_second (eqb i j) (s (fact d i j)) (derived h i j l (universe_parts rules (e.Opt d) d at operand) a b))
       derived (der.name {n = n} {e = d} is h) i j l at a b = comes (e.Name n) i j at a b (rw is (derived h i j l (named_in rules n d is) a b))
 
-      all_derived : {es : Elements} {w : List ℕ} → DerivesAll has rules es w → (i j : ℕ) → Leads Goes i w j → Listed (e.Concat es) (universe rules) → i ≤ last → j ≤ last →
+      all_derived : {es : Elements} {w : List ℕ} → DerivesAll has rules es w → (i j : ℕ) → IsPath Goes i w j → Listed (e.Concat es) (universe rules) → i ≤ last → j ≤ last →
           s (fact (e.Concat es) i j) ≡ true
       all_derived all_done i j l at a b = comes (e.Concat e.none) i j at a b (eq-eqb i j (nowhere l))
       all_derived (then {e = d} {es = es} {w = w} h hs) i j l at a b =
@@ -570,14 +570,14 @@ module _ (has : ℕ → Bool) (rules : List Rule) (last : ℕ) (goes : ℕ → �
           (derived h i c.mid c.left (universe_parts rules (e.Concat (e.more d es)) d at concat_first) a mid)
           (all_derived hs c.mid j c.right (universe_parts rules (e.Concat (e.more d es)) (e.Concat es) at concat_rest) mid b))
 
-      some_derived : {es : Elements} {w : List ℕ} → DerivesSome has rules es w → (i j : ℕ) → Leads Goes i w j → Listed (e.Alt es) (universe rules) → i ≤ last → j ≤ last →
+      some_derived : {es : Elements} {w : List ℕ} → DerivesSome has rules es w → (i j : ℕ) → IsPath Goes i w j → Listed (e.Alt es) (universe rules) → i ≤ last → j ≤ last →
           s (fact (e.Alt es) i j) ≡ true
       some_derived (this {e = d} {es = es} h) i j l at a b = comes (e.Alt (e.more d es)) i j at a b (or_first (s (fact d i j)) (s (fact (e.Alt es) i j))
           (derived h i j l (universe_parts rules (e.Alt (e.more d es)) d at alt_first) a b))
       some_derived (later {e = d} {es = es} h) i j l at a b = comes (e.Alt (e.more d es)) i j at a b (or_second (s (fact d i j)) (s (fact (e.Alt es) i j))
           (some_derived h i j l (universe_parts rules (e.Alt (e.more d es)) (e.Alt es) at alt_rest) a b))
 
-      times_derived : {d : Element} {k : ℕ} {w : List ℕ} → DerivesTimes has rules d k w → (i j : ℕ) → Leads Goes i w j → (least : ℕ) (most : Option ℕ) → least ≤ k → der.Within k most →
+      times_derived : {d : Element} {k : ℕ} {w : List ℕ} → DerivesTimes has rules d k w → (i j : ℕ) → IsPath Goes i w j → (least : ℕ) (most : Option ℕ) → least ≤ k → der.Within k most →
           Listed (e.Rep least most d) (universe rules) → i ≤ last → j ≤ last → s (fact (e.Rep least most d) i j) ≡ true
       times_derived (no_more {e = d}) i j l least most low high at a b = comes (e.Rep least most d) i j at a b
           (or_first (leb least 0 && eqb i j) (may most && both s d (e.Rep (least - 1) (less most) d) i j) (and_true (leb least 0) (eqb i j) (le-leb least 0 low) (eq-eqb i j (nowhere l))))
@@ -593,31 +593,31 @@ module _ (has : ℕ → Bool) (rules : List Rule) (last : ℕ) (goes : ℕ → �
   span_is_decided : (f : Fact) → Listed f (facts (last + 1) (universe rules)) → (said : Bool) × Says (Spans f) said
   span_is_decided f at = least_is_decided (facts (last + 1) (universe rules)) grow Spans
       (λ s right f g. grown_spans s right f.el f.from f.to g)
-      (λ s closed f here p. let r = from_facts (last + 1) (universe rules) f here in derived s closed p.derives f.from f.to p.leads r.0 (let a = r.1 in omega (arith, a)) (let b = r.2 in omega (arith, b)))
+      (λ s closed f here p. let r = from_facts (last + 1) (universe rules) f here in derived s closed p.derives f.from f.to p.path r.0 (let a = r.1 in omega (arith, a)) (let b = r.2 in omega (arith, b)))
       f at
 
   -- some letters that the rule of that id derives lead from i to j
-  pub record RuleLeads (id i j : ℕ) : Type 0 where
+  pub record RulePath (id i j : ℕ) : Type 0 where
     pub word : List ℕ
-    pub leads : Leads Goes i word j
+    pub path : IsPath Goes i word j
     pub derives : RuleDerives has rules id word
 
-  body_leads : (id i j : ℕ) (d : Element) → slice_get (bodies rules) id ≡ Some d → (said : Bool) → Says (Spans (fact d i j)) said → (yes : Bool) × Says (RuleLeads id i j) yes
-  body_leads id i j d is true p = (true, record { word = p.word; leads = p.leads; derives = record { body = d; is = is; derives = p.derives } })
-  body_leads id i j d is false p = (
+  body_path : (id i j : ℕ) (d : Element) → slice_get (bodies rules) id ≡ Some d → (said : Bool) → Says (Spans (fact d i j)) said → (yes : Bool) × Says (RulePath id i j) yes
+  body_path id i j d is true p = (true, record { word = p.word; path = p.path; derives = record { body = d; is = is; derives = p.derives } })
+  body_path id i j d is false p = (
     false,
     λ r. let same : r.derives.body ≡ d = cc (r.derives.is, is) in
-        p (record { word = r.word; leads = r.leads; derives = subst (λ v. Derives has rules v r.word) same r.derives.derives }),
+        p (record { word = r.word; path = r.path; derives = subst (λ v. Derives has rules v r.word) same r.derives.derives }),
   )
 
-  pub rule_leads_is_decided : (id i j : ℕ) → i ≤ last → j ≤ last → (yes : Bool) × Says (RuleLeads id i j) yes
-  rule_leads_is_decided id i j a b = by (slice_get (bodies rules) id) refl
+  pub rule_path_is_decided : (id i j : ℕ) → i ≤ last → j ≤ last → (yes : Bool) × Says (RulePath id i j) yes
+  rule_path_is_decided id i j a b = by (slice_get (bodies rules) id) refl
     where
-      by : (o : Option Element) → slice_get (bodies rules) id ≡ o → (yes : Bool) × Says (RuleLeads id i j) yes
+      by : (o : Option Element) → slice_get (bodies rules) id ≡ o → (yes : Bool) × Says (RulePath id i j) yes
       by None is = (false, λ r. none_some (sym is ∙ r.derives.is))
         where
           none_some : {d : Element} → None ≡ Some d → ⊥
           none_some h = absurd (cc h)
       by (Some d) is =
           let f = span_is_decided (fact d i j) (in_facts (last + 1) i j (universe rules) d (omega (arith, a)) (omega (arith, b)) (body_in rules id d is)) in
-          body_leads id i j d is f.0 f.1
+          body_path id i j d is f.0 f.1

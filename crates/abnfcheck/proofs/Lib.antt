@@ -5,9 +5,9 @@ mod DerivesDecidedLemmas
 mod ElementNeedsLemmas
 mod FiniteLeastLemmas
 mod GraphLemmas
+pub mod IsPathLemmas
 mod JoinLemmas
 mod JoinedRulesLemmas
-pub mod LeadsLemmas
 pub mod LiesLemmas
 mod NameIdsLemmas
 mod NameMarksLemmas

@@ -3,7 +3,7 @@
 use Rattle.std.proofs.Common.{◌≡◌, ℕ, zero, suc, ◌+◌, ◌≤◌, Bool, true, List, [], ◌∷◌, length, refl, subst, arith}
 use Rattle.std.specs.Prelude.{slice_get, Some}
 use Rattle.abnfcheck.specs.Derivable.{AreLetters}
-use Rattle.abnfcheck.proofs.LeadsLemmas.{Leads, here, step}
+use Rattle.abnfcheck.proofs.IsPathLemmas.{IsPath, here, step}
 
 -- the letter c stands at i, and k is the place behind it
 abbrev pub OnLine : List ℕ → ℕ → ℕ → ℕ → Type 0
@@ -11,7 +11,7 @@ OnLine x i c k = (slice_get x i ≡ Some c) × (i + 1 ≡ k)
 
 -- the letters from i to j are w
 abbrev pub Lies : List ℕ → ℕ → List ℕ → ℕ → Type 0
-Lies x i w j = Leads (OnLine x) i w j
+Lies x i w j = IsPath (OnLine x) i w j
 
 module _ (x : List ℕ) where
   ahead : {i j : ℕ} {w : List ℕ} → Lies x i w j → i ≤ j

@@ -7,6 +7,7 @@ pub mod HeadTablesLemmas
 pub mod IsBuiltLemmas
 pub mod IsChartLemmas
 pub mod IsGoingLemmas
+pub mod IsVerdictLemmas
 pub mod IsWorkedLemmas
 pub mod ItemRowsLemmas
 pub mod ResumedLemmas

@@ -1,5 +1,5 @@
 //! How far a line begins something that the judged rule derives.
-ghost use Rattle.std.specs.Prelude.{◌≡◌, ◌+◌, ◌*◌, ◌≤◌, ℕ, List, [], IfOk, OnErr, length, map};
+ghost use Rattle.std.specs.Prelude.{◌≡◌, ◌+◌, ◌*◌, ◌<◌, ◌≤◌, ℕ, List, [], IfOk, OnErr, length, map};
 ghost use Rattle.abnfread.specs.Element.{Rule};
 ghost use Rattle.earley.specs.ChartSets.{set_at, IsSet};
 ghost use Rattle.earley.specs.Verdicts.{IsVerdict};
@@ -7,7 +7,8 @@ ghost use Rattle.flatgrammar.specs.Places.{places};
 ghost use Rattle.flatgrammar.specs.ToldBeginnings.{TellsBeginnings};
 ghost use Rattle.letters.specs.Letters.{has};
 
-use crate::chart::Chart;
+use crate::chart::{Chart, judge};
+use crate::letter_law::values_are_letters;
 use flatgrammar::Flat;
 use letters::Letter;
 use ruletable::Memory;
@@ -22,6 +23,19 @@ pub enum Verdict {
     No(usize),
 }
 
+// Returns the number of the last set up to that number that is not empty, 0 if there is none.
+fn furthest(chart: &Chart, end: usize) -> usize
+    ensures within { result ≤ end }
+    ensures some { 0 < result → 0 < length (set_at chart.now result) }
+    ensures last { (m : ℕ) → result < m → m ≤ end → length (set_at chart.now m) ≡ 0 }
+{
+    let mut last = end;
+    while last > 0 && chart.items(last) == 0 {
+        last -= 1;
+    }
+    last
+}
+
 /// Fills the chart with the item sets of a line, and tells whether the judged rule derives the line, or else its longest
 /// viable beginning. The flat grammar is that of `lower_viable` for the alphabet of the letters.
 ///
@@ -33,7 +47,12 @@ pub fn viable<L: Letter>(chart: &mut Chart, flat: &Flat, line: &[L]) -> Result<V
         IsVerdict (has L.ALPHABET) rules judged (map L.number line.now) told) }
     ensures empty { OnErr result (chart.new ≡ []) }
 {
-    // STUB
-    *chart = Chart::new(std::alloc::Global);
-    Err(Memory)
+    let derived = judge(chart, flat, line)?;
+    values_are_letters(line);
+    let told = if derived {
+        Verdict::Yes
+    } else {
+        Verdict::No(furthest(chart, line.len()))
+    };
+    Ok(told)
 }

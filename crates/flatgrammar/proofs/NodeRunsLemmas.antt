@@ -11,7 +11,7 @@ use Rattle.flatgrammar.specs.Flat.{Node, Flat, Letters, Concat, Alt, Rep, Place,
 use Rattle.flatgrammar.specs.Holds.{Holds, called, has_read, returned}
 use Rattle.flatgrammar.specs.Lowered.{Spells, spells, shows_text, shows_values, shows_range, shows_concat, shows_alt, shows_rep, shows_opt, shows_name, SpellAll, spell_none, spell_more, AreBodies}
 use Rattle.flatgrammar.proofs.RuleNodeLemmas.{body_at_id, node_of_rule}
-use Rattle.abnfcheck.proofs.LeadsLemmas.{here, step, split}
+use Rattle.abnfcheck.proofs.IsPathLemmas.{here, step, split}
 use Rattle.abnfcheck.proofs.LiesLemmas.{OnLine, Lies}
 use Rattle.flatgrammar.proofs.BeforeLemmas.{Fit, fit_none, fit_more, text_fits, values_fit, Turned, turned_none}
 

@@ -8,7 +8,7 @@ use Rattle.abnfcheck.specs.Derivable.{AreLetters, Derives}
 use Rattle.flatgrammar.specs.Flat.{Node, Flat, Place, at, Name, Set, Has, Reading, Calling, IsDone, Begins, Starts, starts, name_starts, Ends, ends, name_ends, Reads, reads, Calls, calls}
 use Rattle.flatgrammar.specs.Holds.{Holds, begins, called, has_read, returned}
 use Rattle.flatgrammar.specs.Lowered.{Spells, spells, Shows, shows_name, AreBodies}
-use Rattle.abnfcheck.proofs.LeadsLemmas.{here, step, join}
+use Rattle.abnfcheck.proofs.IsPathLemmas.{here, step, join}
 use Rattle.abnfcheck.proofs.LiesLemmas.{OnLine, Lies, are_letters}
 use Rattle.flatgrammar.proofs.RuleNodeLemmas.{body_of_number}
 use Rattle.flatgrammar.proofs.BeforeLemmas.{Before, start_part, read_part, call_part, end_part}
