@@ -1,28 +1,39 @@
 //! The answers to the lines of small inputs, by hand.
-ghost use Rattle.std.specs.Prelude.{◌≤◌, length};
+ghost use Rattle.std.specs.Prelude.{◌≡◌, ◌-◌, length, ltb, if◌then◌else◌};
+ghost use Rattle.lines.specs.declared.answers.Answer.TheVariants as answer;
 
 use feed::SourceOf;
-use lines::{Judge, run_lines};
+use lines::{Answer, Judge, run_lines};
 use ruletable::{Memory, SinkOf};
+use std::process::Abort;
 use std::rt::HostRuntime;
 use toolrun::{Status, Stop};
 
-/// The lines of at most so many bytes.
+/// Says yes to the lines of at most so many bytes. To another line it says no, and by how many bytes it is longer if it
+/// counts.
 struct Short {
     most: usize,
+    counts: bool,
 }
 
 impl Judge<u8> for Short {
-    ghost member = { λ short line. length line ≤ short.most };
+    ghost told = { λ short line said. said ≡ (if ltb short.most (length line)
+        then (if short.counts then answer.NoAfter (length line - short.most) else answer.No) else answer.Yes) };
 
-    fn judge(&self, _work: &mut u8, line: &[u8]) -> Result<bool, Memory> {
-        Ok(line.len() <= self.most)
+    fn judge(&self, _work: &mut u8, line: &[u8]) -> Result<Answer, Memory> {
+        if self.most < line.len() {
+            if self.counts {
+                return Ok(Answer::NoAfter(line.len() - self.most));
+            }
+            return Ok(Answer::No);
+        }
+        Ok(Answer::Yes)
     }
 
     fn decided(&self) {}
 }
 
-/// An input, what is written where lines may have 4 bytes and those of at most 2 are in the set, and how the run ends.
+/// An input, what is written where lines may have 4 bytes and those of at most 2 are answered by yes, and how the run ends.
 static ROWS: [(&[u8], &[u8], Stop); 8] = [
     (b"", b"", Stop::Quiet(Status::Done)),
     (b"\n", b"yes\n", Stop::Quiet(Status::Done)),
@@ -42,21 +53,33 @@ static ROWS: [(&[u8], &[u8], Stop); 8] = [
     (b"abcde", b"", Stop::LongLine { line: 1, limit: 4 }),
 ];
 
+/// Runs over an input whose lines may have 4 bytes, of which lines of at most 2 are answered by yes, and checks what is
+/// written and how the run ends.
+fn check_lines<R: Abort + AllocGlobal>(
+    rt: &R,
+    counts: bool,
+    input: &[u8],
+    wanted: &[u8],
+    stop: Stop,
+) {
+    let mut reader = SourceOf::new(input);
+    let mut out = SinkOf::new(Vec::new(rt.alloc()));
+    let mut work = 0u8;
+    let judge = Short { most: 2, counts };
+    let ended = run_lines(rt.alloc(), &judge, &mut work, 4, &mut reader, &mut out);
+    assert!(rt; ended == Ok(stop), "how the run ends");
+    assert!(rt; out.into_inner().as_slice() == wanted, "what is written");
+}
+
 #[test]
 fn answers_lines(rt: HostRuntime) {
     for &(input, wanted, stop) in &ROWS {
-        let mut reader = SourceOf::new(input);
-        let mut out = SinkOf::new(Vec::new(rt.alloc()));
-        let mut work = 0u8;
-        let ended = run_lines(
-            rt.alloc(),
-            &Short { most: 2 },
-            &mut work,
-            4,
-            &mut reader,
-            &mut out,
-        );
-        assert!(rt; ended == Ok(stop), "how the run ends");
-        assert!(rt; out.into_inner().as_slice() == wanted, "what is written");
+        check_lines(&rt, false, input, wanted, stop);
     }
+}
+
+#[test]
+fn tells_numbers(rt: HostRuntime) {
+    let stop = Stop::Quiet(Status::NoMatch);
+    check_lines(&rt, true, b"abcd\na\nabc", b"no 2\nyes\nno 1\n", stop);
 }

@@ -1,10 +1,9 @@
 -- A line has at most so many bytes, or more.
-use Rattle.std.proofs.Common.{true, false, length, arith, inl, inr}
-use Rattle.std.proofs.lemmas.Bool.{cases_lt}
+use Rattle.std.proofs.Common.{◌-◌, length, ltb, refl, if◌then◌else◌}
 use Rattle.known_answers.proofs.judged_lines.ShortJudgeU8.decided.Goals as goal
+use Rattle.lines.specs.declared.answers.Answer.TheVariants as answer
 
 pub returns : goal.returns
-returns c = λ line. elim (cases_lt c.args.self.now.most (length line)) [
-  | inl over ↦ (false, λ le. omega (arith, over, le))
-  | inr short ↦ (true, short)
-]
+returns c = λ line.
+    let short = c.args.self.now in
+    (if ltb short.most (length line) then (if short.counts then answer.NoAfter (length line - short.most) else answer.No) else answer.Yes, refl)
