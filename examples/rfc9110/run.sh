@@ -1,0 +1,1 @@
+abnfi -w rfc9110.abnf < lines.txt
