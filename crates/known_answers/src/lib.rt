@@ -39,3 +39,5 @@ mod spellings;
 mod token_rows;
 #[cfg(test)]
 mod unit_texts;
+#[cfg(test)]
+mod viable_beginnings;

@@ -1,0 +1,192 @@
+//! How far lines begin something that a rule derives, found by hand.
+use abnfcheck::{SoundAbnf, check_abnf};
+use abnfread::read_abnf;
+use earley::{Chart, Verdict, viable};
+use letters::{Alphabet, decode};
+use std::alloc::Global;
+use std::test::Fail;
+use viable::lower_viable;
+
+// A text, the name of the rule to judge by, and lines of bytes with what is told of each.
+type Row = (
+    &'static str,
+    Option<&'static str>,
+    &'static [(&'static str, Verdict)],
+);
+
+static ROWS: [Row; 16] = [
+    (
+        "word = 1*ALPHA",
+        None,
+        &[
+            ("ab", Verdict::Yes),
+            ("A1", Verdict::No(1)),
+            ("ab1c", Verdict::No(2)),
+            ("", Verdict::No(0)),
+            ("1", Verdict::No(0)),
+        ],
+    ),
+    // a line that begins one that is derived is refused behind its last letter
+    (
+        "s = 2*3\"a\"",
+        None,
+        &[
+            ("", Verdict::No(0)),
+            ("a", Verdict::No(1)),
+            ("aab", Verdict::No(2)),
+            ("aaaa", Verdict::No(3)),
+        ],
+    ),
+    (
+        "s = s s / \"a\" / \"\"",
+        None,
+        &[
+            ("", Verdict::Yes),
+            ("aa", Verdict::Yes),
+            ("aab", Verdict::No(2)),
+            ("b", Verdict::No(0)),
+        ],
+    ),
+    ("s = \"Ab\"", None, &[("aX", Verdict::No(1))]),
+    // a value, a range and a repetition that derive nothing, beside alternatives that do
+    (
+        "s = \"abc\" / \"ax\" %x100",
+        None,
+        &[
+            ("abc", Verdict::Yes),
+            ("ax", Verdict::No(1)),
+            ("abd", Verdict::No(2)),
+            ("abcd", Verdict::No(3)),
+        ],
+    ),
+    (
+        "s = %x61.100 / %x62-63",
+        None,
+        &[("a", Verdict::No(0)), ("b", Verdict::Yes)],
+    ),
+    (
+        "s = %x30-39 / \"x\" %x39-30",
+        None,
+        &[
+            ("x", Verdict::No(0)),
+            ("9", Verdict::Yes),
+            ("99", Verdict::No(1)),
+        ],
+    ),
+    (
+        "s = \"a\" 3*2\"b\" / \"ac\"",
+        None,
+        &[("ab", Verdict::No(1)), ("ac", Verdict::Yes)],
+    ),
+    // a rule that derives nothing, as a member of a concatenation
+    (
+        "s = \"a\" t \"b\" / \"ac\"\nt = \"x\" t",
+        None,
+        &[
+            ("ax", Verdict::No(1)),
+            ("ab", Verdict::No(1)),
+            ("ac", Verdict::Yes),
+        ],
+    ),
+    // the same rule judges
+    (
+        "s = \"a\" t \"b\" / \"ac\"\nt = \"x\" t",
+        Some("t"),
+        &[
+            ("x", Verdict::No(0)),
+            ("", Verdict::No(0)),
+            ("ac", Verdict::No(0)),
+        ],
+    ),
+    ("s = s", None, &[("", Verdict::No(0)), ("s", Verdict::No(0))]),
+    // an option and repetitions whose operands derive nothing
+    (
+        "s = \"a\" [\"b\" t] \"c\"\nt = \"x\" t",
+        None,
+        &[
+            ("ab", Verdict::No(1)),
+            ("abx", Verdict::No(1)),
+            ("ac", Verdict::Yes),
+        ],
+    ),
+    (
+        "s = \"a\" *(\"b\" t) \"c\"\nt = \"x\" t",
+        None,
+        &[("ab", Verdict::No(1)), ("ac", Verdict::Yes)],
+    ),
+    (
+        "s = \"a\" 1*(\"b\" t) / \"d\"\nt = \"x\" t",
+        None,
+        &[("a", Verdict::No(0)), ("d", Verdict::Yes)],
+    ),
+    // an option that derives nothing but the empty line
+    (
+        "s = [%x100]",
+        None,
+        &[("", Verdict::Yes), ("a", Verdict::No(0))],
+    ),
+    // nested rules, of which one is open at the end of the line
+    (
+        "s = \"(\" *(s / ALPHA) \")\"",
+        None,
+        &[
+            ("(a(b)c)", Verdict::Yes),
+            ("(a(b)", Verdict::No(5)),
+            ("(a))", Verdict::No(3)),
+            (")", Verdict::No(0)),
+        ],
+    ),
+];
+
+// The sound grammar of a text.
+fn sound(alloc: Global, text: &[u8], rule: Option<&str>) -> Result<SoundAbnf, Fail> {
+    let checked = check_abnf(alloc, read_abnf(alloc, text)?, rule)?;
+    Ok(checked.sound.ok_or("refused")?)
+}
+
+#[test]
+fn verdicts_on_lines_of_bytes(rt: HostRuntime) -> Result<(), Fail> {
+    let mut chart = Chart::new(rt.alloc());
+    for &(text, rule, lines) in &ROWS {
+        let grammar = sound(rt.alloc(), text.as_bytes(), rule)?;
+        let flat = lower_viable(rt.alloc(), &grammar, Alphabet::Bytes)?;
+        for &(line, wanted) in lines {
+            let told = viable(&mut chart, &flat, line.as_bytes())?;
+            assert_eq!(rt; told, wanted, "{text}: {line}");
+        }
+    }
+    Ok(())
+}
+
+// A text, and lines in UTF-8 with what is told of their code points.
+static POINTS: [(&[u8], &[(&[u8], Verdict)]); 2] = [
+    (
+        b"s = %x20AC \"x\"",
+        &[
+            (b"\xE2\x82\xACx", Verdict::Yes),
+            (b"\xE2\x82\xACy", Verdict::No(1)),
+            (b"\xC2\xAC", Verdict::No(0)),
+        ],
+    ),
+    // a surrogate is no letter
+    (
+        b"s = \"a\" %xD800 / \"b\"",
+        &[(b"a", Verdict::No(0)), (b"b", Verdict::Yes)],
+    ),
+];
+
+#[test]
+fn verdicts_on_lines_of_code_points(rt: HostRuntime) -> Result<(), Fail> {
+    let mut chart = Chart::new(rt.alloc());
+    let mut points = Vec::new(rt.alloc());
+    for &(text, lines) in &POINTS {
+        let grammar = sound(rt.alloc(), text, None)?;
+        let flat = lower_viable(rt.alloc(), &grammar, Alphabet::Utf8)?;
+        for &(line, wanted) in lines {
+            assert!(rt; decode(line, &mut points)?, "{line:?} is UTF-8");
+            let told = viable(&mut chart, &flat, points.as_slice())?;
+            assert_eq!(rt; told, wanted, "{line:?}");
+        }
+    }
+    Ok(())
+}
