@@ -1,4 +1,4 @@
--- What holds of the matches of a program's words: a limit in its range, a grammar, and a flag.
+-- What holds of the matches of a program's words: a limit in its range, a grammar, and flags.
 -- Serves: parse (whole)
 use Rattle.std.proofs.Common.{◌≡◌, ◌∙◌, ◌⊎◌, ◌<◌, ◌≤◌, ◌&&◌, ◌||◌, ap, subst, sym, refl, inl, inr, arith, true≢false, ℕ, zero, suc, Bool, true, false, not, List, [], ◌∷◌, map, length, Option, Some, None, is_some}
 use Rattle.std.specs.Prelude.{codes, pos}
@@ -25,8 +25,8 @@ use Rattle.clap.proofs.CallerLemmas.{required_has_value}
 use Rattle.clap.proofs.SimpleLemmas.{is_false, is_nil, plain_fields}
 use Rattle.clap.proofs.WalkLemmas.{both}
 use Rattle.commands.proofs.EntryLemmas.{IsAlone, default_reads, no_auto, none_found, some_reads}
-use Rattle.commands.specs.Asked.{AreWhole, IsLimitText}
-use Rattle.commands.specs.Command.{IsAppOf, Names, abnfi_app, grammar_rule, limit_rule, pegi_app, raw_rule}
+use Rattle.commands.specs.Asked.{AreWhole, IsFlagText, IsLimitText}
+use Rattle.commands.specs.Command.{IsAppOf, Names, abnfi_app, flag_rule, grammar_rule, limit_rule, pegi_app}
 use Rattle.commands.specs.declared.command.Program.{Program}
 use Rattle.commands.specs.declared.command.Program.TheVariants.{Abnfi, Pegi}
 
@@ -240,12 +240,11 @@ limit_is c rs is m p d k has =
       limit_text read.0.now read.2,
     )
 
-raw_is : (c : Command) (rs : List Rule) → IsCommand c rs → (m : ArgMatches) → IsParsedFrom c m → (d : Arg) (k : ℕ)
-    → HasAt rs k raw_rule
-    → (one_text (found_of m) (codes "raw") ≡ None) ⊎ (one_text (found_of m) (codes "raw") ≡ Some (codes "true"))
-    ⊎ (one_text (found_of m) (codes "raw") ≡ Some (codes "false"))
-raw_is c rs is m p d k has =
-    let by = arg_of c rs is k d raw_rule has (record { named = λ n. cc; help = refl; version = refl }) in
+flag_is : (c : Command) (rs : List Rule) → IsCommand c rs → (m : ArgMatches) → IsParsedFrom c m → (d : Arg) (k : ℕ)
+    → (id : Text) (letter : ℕ) → IsOwn id → HasAt rs k (flag_rule id letter)
+    → IsFlagText (one_text (found_of m) id)
+flag_is c rs is m p d k id letter own has =
+    let by = arg_of c rs is k d (flag_rule id letter) has own in
     elim (some_reads c m p k d by.alone vp.Bool (ap (λ (r : Rule). r.parser) by.rule)) [
       | inl none ↦ inl (subst (λ w. one_text (found_of m) w ≡ None) by.id none)
       | inr got ↦ inr (elim (bool_text got.0.now got.2) [
@@ -291,7 +290,9 @@ pegi_is_whole c names e m p =
     let d = first_arg c rs is (omega arith) in
     record {
       limit = limit_is c rs is m p d 1 (record { within = omega arith; at = λ q. refl; only = refl });
-      raw = raw_is c rs is m p d 3 (record { within = omega arith; at = λ q. refl; only = refl });
+      raw = flag_is c rs is m p d 3 (codes "raw") 114 (record { named = λ n. cc; help = refl; version = refl })
+          (record { within = omega arith; at = λ q. refl; only = refl });
+      viable = inl (none_is c rs is m p (codes "viable") (record { named = λ n. cc; help = refl; version = refl }) refl);
       grammar = grammar_is c rs is m p d 4 (record { within = omega arith; at = λ q. refl; only = refl });
     }
 
@@ -304,7 +305,9 @@ abnfi_is_whole c names alphabets e m p =
     record {
       limit = limit_is c rs is m p d 1 (record { within = omega arith; at = λ q. refl; only = refl });
       raw = inl (none_is c rs is m p (codes "raw") (record { named = λ n. cc; help = refl; version = refl }) refl);
-      grammar = grammar_is c rs is m p d 4 (record { within = omega arith; at = λ q. refl; only = refl });
+      viable = flag_is c rs is m p d 4 (codes "viable") 119 (record { named = λ n. cc; help = refl; version = refl })
+          (record { within = omega arith; at = λ q. refl; only = refl });
+      grammar = grammar_is c rs is m p d 5 (record { within = omega arith; at = λ q. refl; only = refl });
     }
 
 pub is_whole : (program : Program) (app : App) → IsAppOf program app → (c : Command) → app_of c ≡ app

@@ -26,22 +26,26 @@ IsLimitOf None n = n ≡ 65536
 IsLimitOf (Some text) n = IsNumeral 10 (without_leading_plus text) → 1 ≤ digits_value 10 (without_leading_plus text) →
     digits_value 10 (without_leading_plus text) ≤ 16777216 → n ≡ digits_value 10 (without_leading_plus text)
 
--- raw tells whether the flag was given
+-- given tells whether the flag was given
 abbrev pub IsFlagOf : Option (List ℕ) → Bool → Type 0
-IsFlagOf text raw = (text ≡ None → raw ≡ false) × (text ≡ Some (codes "true") → raw ≡ true) ×
-    (text ≡ Some (codes "false") → raw ≡ false)
+IsFlagOf text given = (text ≡ None → given ≡ false) × (text ≡ Some (codes "true") → given ≡ true) ×
+    (text ≡ Some (codes "false") → given ≡ false)
+
+-- a flag has no text, or it is `true` or `false`
+abbrev pub IsFlagText : Option Text → Type 0
+IsFlagText text = (text ≡ None) ⊎ (text ≡ Some (codes "true")) ⊎ (text ≡ Some (codes "false"))
 
 -- the text is the decimal number of a limit
 abbrev pub IsLimitText : Text → Type 0
 IsLimitText text = IsNumeral 10 (without_leading_plus text) × (1 ≤ digits_value 10 (without_leading_plus text)) ×
     (digits_value 10 (without_leading_plus text) ≤ 16777216)
 
--- what holds of the matches of words in which nothing is wrong: there is a limit in its range and a grammar, and the
+-- what holds of the matches of words in which nothing is wrong: there is a limit in its range and a grammar, and each
 -- flag is `true` or `false` where it has a text
 pub record AreWhole (f : Found) : Type 0 where
   pub limit : (text : Text) × (one_text f (codes "limit") ≡ Some text) × IsLimitText text
-  pub raw : (one_text f (codes "raw") ≡ None) ⊎ (one_text f (codes "raw") ≡ Some (codes "true"))
-      ⊎ (one_text f (codes "raw") ≡ Some (codes "false"))
+  pub raw : IsFlagText (one_text f (codes "raw"))
+  pub viable : IsFlagText (one_text f (codes "viable"))
   pub grammar : is_some (first_value f (codes "grammar")) ≡ true
 
 -- the flag is given
@@ -57,4 +61,5 @@ pub record Ask (rows : List Row) (asked : Asked) : Type 0 where
   pub start : option_map (λ s. s.now) asked.settings.start ≡ first_of (codes "start") rows
   pub raw : asked.settings.raw ≡ is_flagged (one_of (codes "raw") rows)
   pub letters : asked.settings.letters ≡ alphabet_named (first_of (codes "letters") rows)
+  pub viable : asked.settings.viable ≡ is_flagged (one_of (codes "viable") rows)
   pub grammar : first_of (codes "grammar") rows ≡ Some asked.path.now

@@ -1,5 +1,5 @@
 -- The commands of the programs, as a parse reads them.
-use Rattle.std.specs.Prelude.{◌≡◌, List, [], ◌∷◌, Some, true, codes, map, pos}
+use Rattle.std.specs.Prelude.{◌≡◌, ℕ, List, [], ◌∷◌, Some, true, codes, map, pos}
 use Rattle.std.specs.Borrow.{Bor}
 use Rattle.clap.specs.Words.{App, Rule, Text, new_app, new_rule, with_rule}
 use Rattle.clap.specs.declared.builder.action.ArgAction.TheVariants.{Set, SetTrue}
@@ -59,9 +59,17 @@ letters_rule names = record (new_rule (codes "letters")) {
   defaults = codes "bytes" ∷ [];
 }
 
+-- a flag of one letter
+abbrev pub flag_rule : Text → ℕ → Rule
+flag_rule id letter = record (new_rule id) { short = Some letter; action = Some SetTrue; parser = Some vp.Bool }
+
 -- `-r`
 abbrev pub raw_rule : Rule
-raw_rule = record (new_rule (codes "raw")) { short = Some 114; action = Some SetTrue; parser = Some vp.Bool }
+raw_rule = flag_rule (codes "raw") 114
+
+-- `-w`
+abbrev pub viable_rule : Rule
+viable_rule = flag_rule (codes "viable") 119
 
 -- the one word that is no option
 abbrev pub grammar_rule : Rule
@@ -75,9 +83,10 @@ with_options names app = with_rule (with_rule (with_rule app (mode_rule names)) 
 abbrev pub pegi_app : Names → App
 pegi_app names = with_rule (with_rule (with_options names (new_app (codes "pegi"))) raw_rule) grammar_rule
 
--- `abnfi [-m MODE] [-l N] [-s RULE] [-u MODE] GRAMMAR`
+-- `abnfi [-m MODE] [-l N] [-s RULE] [-u MODE] [-w] GRAMMAR`
 abbrev pub abnfi_app : Names → Names → App
-abnfi_app names alphabets = with_rule (with_rule (with_options names (new_app (codes "abnfi"))) (letters_rule alphabets)) grammar_rule
+abnfi_app names alphabets =
+    with_rule (with_rule (with_rule (with_options names (new_app (codes "abnfi"))) (letters_rule alphabets)) viable_rule) grammar_rule
 
 -- this is the command of the program
 abbrev pub IsAppOf : Program → App → Type 0

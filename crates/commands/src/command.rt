@@ -3,7 +3,7 @@ ghost use Rattle.std.specs.Prelude.{◌≡◌, IfOk, false, true, map};
 ghost use Rattle.clap.specs.Words.{app_of, found_of, is_simple, is_simple_and_free, rule_of};
 ghost use Rattle.commands.specs.Asked.{AreWhole};
 ghost use Rattle.commands.specs.Command.{AreAlphabets, AreModes, IsAppOf, grammar_rule, letters_rule, limit_rule};
-ghost use Rattle.commands.specs.Command.{mode_rule, raw_rule, start_rule, with_options};
+ghost use Rattle.commands.specs.Command.{mode_rule, raw_rule, start_rule, viable_rule, with_options};
 ghost use Rattle.commands.specs.Parsing.{Parses};
 
 use crate::help;
@@ -16,7 +16,7 @@ use std::convert::AsStr;
 pub enum Program {
     /// `pegi [-m MODE] [-l N] [-s RULE] [-r] GRAMMAR`
     Pegi,
-    /// `abnfi [-m MODE] [-l N] [-s RULE] [-u MODE] GRAMMAR`
+    /// `abnfi [-m MODE] [-l N] [-s RULE] [-u MODE] [-w] GRAMMAR`
     Abnfi,
 }
 
@@ -84,6 +84,17 @@ fn letters_arg<'a>(alloc: Global) -> Arg<'a>
         .default_value("bytes")
 }
 
+fn viable_arg<'a>(alloc: Global) -> Arg<'a>
+    ensures rule { rule_of result ≡ viable_rule }
+    ensures local { result.global ≡ false }
+{
+    Arg::new(alloc, "viable")
+        .short('w')
+        .action(ArgAction::SetTrue)
+        .value_parser(value_parser!(bool))
+        .help(help::VIABLE)
+}
+
 fn grammar_arg<'a>(alloc: Global) -> Arg<'a>
     ensures rule { rule_of result ≡ grammar_rule }
     ensures local { result.global ≡ false }
@@ -122,7 +133,7 @@ pub fn pegi_command<'a>(alloc: Global) -> Result<Command<'a>, AllocError>
     with_raw.arg(grammar_arg(alloc))
 }
 
-/// Returns the command `abnfi [-m MODE] [-l N] [-s RULE] [-u MODE] GRAMMAR`. Refused for want of memory.
+/// Returns the command `abnfi [-m MODE] [-l N] [-s RULE] [-u MODE] [-w] GRAMMAR`. Refused for want of memory.
 pub fn abnfi_command<'a>(alloc: Global) -> Result<Command<'a>, AllocError>
     ensures app { (app : _) × IsAppOf Program.Abnfi app × IfOk result (λ c. app_of c ≡ app) }
 {
@@ -132,7 +143,8 @@ pub fn abnfi_command<'a>(alloc: Global) -> Result<Command<'a>, AllocError>
         .after_help(help::AFTER_ABNFI);
     let with_options = add_options(alloc, plain, help::ABNFI_LIMIT, help::ABNFI_START)?;
     let with_letters = with_options.arg(letters)?;
-    with_letters.arg(grammar_arg(alloc))
+    let with_viable = with_letters.arg(viable_arg(alloc))?;
+    with_viable.arg(grammar_arg(alloc))
 }
 
 /// Returns the command of a program. Refused for want of memory.

@@ -26,6 +26,9 @@ pub const ABNFI_START: &str = "The judged rule [default: the first rule]";
 /// What `-u` says.
 pub const LETTERS: &str = "What the letters of a line are: its bytes, or the code points of UTF-8";
 
+/// What `-w` says.
+pub const VIABLE: &str = "Write how far a refused line goes: no N";
+
 /// What `-r` says.
 pub const RAW: &str = "Print actions neither trimmed nor each on a line of its own";
 

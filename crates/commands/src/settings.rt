@@ -47,6 +47,7 @@ pub fn settings_of<'a>(matches: &ArgMatches<'a>) -> Settings<'a>
     ensures start { option_map (λ s. s.now) result.start ≡ first_value (found_of matches.now) (codes "start") }
     ensures raw { IsFlagOf (one_text (found_of matches.now) (codes "raw")) result.raw }
     ensures letters { result.letters ≡ alphabet_named (first_value (found_of matches.now) (codes "letters")) }
+    ensures viable { IsFlagOf (one_text (found_of matches.now) (codes "viable")) result.viable }
 {
     Settings {
         mode: mode_of(matches),
@@ -54,7 +55,7 @@ pub fn settings_of<'a>(matches: &ArgMatches<'a>) -> Settings<'a>
         start: matches.get_str("start"),
         raw: matches.get_flag("raw"),
         letters: letters_of(matches),
-        viable: false,
+        viable: matches.get_flag("viable"),
     }
 }
 
