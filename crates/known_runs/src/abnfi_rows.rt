@@ -5,7 +5,7 @@ use commands::Program;
 use gramtools::Status;
 use std::test::Fail;
 
-static ROWS: [CommandRow; 18] = [
+static ROWS: [CommandRow; 20] = [
     (
         "word = 1*ALPHA",
         &[],
@@ -150,6 +150,23 @@ static ROWS: [CommandRow; 18] = [
         &["-u", "bytes"],
         b"\xC3\xA9\n\xE9\n",
         b"no\nyes\n",
+        b"",
+        Status::NoMatch,
+    ),
+    // how many bytes, or code points, begin something that is derived
+    (
+        "s = \"abc\" / %x100 \"x\"",
+        &["-w"],
+        b"abc\nabd\n\nabcd\n",
+        b"yes\nno 2\nno 0\nno 3\n",
+        b"",
+        Status::NoMatch,
+    ),
+    (
+        "s = %xE9 \"x\"",
+        &["-w", "-u", "utf8"],
+        b"\xC3\xA9\n\xC3\xA9y\n\xE9\n",
+        b"no 1\nno 1\nno 0\n",
         b"",
         Status::NoMatch,
     ),

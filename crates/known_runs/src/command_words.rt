@@ -57,7 +57,7 @@ fn run<R: Files + AllocGlobal>(
 }
 
 /// A program, words on which it runs no grammar, the status, and what is told, if it is not in the words of `clap`.
-static WORDS: [(Program, &[&str], Status, &[u8]); 30] = [
+static WORDS: [(Program, &[&str], Status, &[u8]); 31] = [
     (Program::Pegi, &[], Status::Refused, b""),
     (Program::Pegi, &["-l", "0", "g"], Status::Refused, b""),
     (
@@ -93,6 +93,7 @@ static WORDS: [(Program, &[&str], Status, &[u8]); 30] = [
     ),
     (Program::Pegi, &["-r", "-r", "g"], Status::Refused, b""),
     (Program::Pegi, &["-u", "utf8", "g"], Status::Refused, b""),
+    (Program::Pegi, &["-w", "g"], Status::Refused, b""),
     (Program::Pegi, &["-h"], Status::Done, b""),
     (
         Program::Pegi,
@@ -115,7 +116,7 @@ static WORDS: [(Program, &[&str], Status, &[u8]); 30] = [
         Status::Refused,
         b"",
     ),
-    (Program::Abnfi, &["-w", "g"], Status::Refused, b""),
+    (Program::Abnfi, &["-w", "-w", "g"], Status::Refused, b""),
     (Program::Abnfi, &["-l", "0", "g"], Status::Refused, b""),
     (
         Program::Abnfi,
