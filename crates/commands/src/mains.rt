@@ -50,8 +50,9 @@ pub fn pegi_main<R: Files + AllocGlobal, I: Source, O: Sink, E: Sink>(
     }
 }
 
-/// Runs the program `abnfi`, whose words are its own name and `[-m MODE] [-l N] [-s RULE] GRAMMAR`: it judges the lines
-/// that the reader gives by the grammar in the file GRAMMAR, as `run_abnf` says, with the settings of the words.
+/// Runs the program `abnfi`, whose words are its own name and `[-m MODE] [-l N] [-s RULE] [-u MODE] [-w] GRAMMAR`: it
+/// judges the lines that the reader gives by the grammar in the file GRAMMAR, as `run_abnf` says, with the settings of
+/// the words.
 ///
 /// Words without a run, a grammar that cannot be read and want of memory end it as they end `pegi_main`.
 pub fn abnfi_main<R: Files + AllocGlobal, I: Source, O: Sink, E: Sink>(

@@ -98,7 +98,11 @@ static ROWS: [Row; 16] = [
             ("ac", Verdict::No(0)),
         ],
     ),
-    ("s = s", None, &[("", Verdict::No(0)), ("s", Verdict::No(0))]),
+    (
+        "s = s",
+        None,
+        &[("", Verdict::No(0)), ("s", Verdict::No(0))],
+    ),
     // an option and repetitions whose operands derive nothing
     (
         "s = \"a\" [\"b\" t] \"c\"\nt = \"x\" t",
