@@ -1,5 +1,4 @@
--- Whether a rule derives some letters that lead from a state of a finite automaton to another is decided: the members of a finite list of
--- elements with two states are marked until no more can be.
+-- Whether a rule derives letters that lead from a state of a finite automaton to another is decided: elements with two states are marked.
 -- Serves: derivation_is_decided, furthest_is_found
 use Rattle.std.proofs.Common.{◌≡◌, ℕ, zero, suc, ◌+◌, ◌-◌, ◌<◌, ◌≤◌, ◌⊎◌, inl, inr, Bool, true, false, ◌&&◌, ◌||◌, cond, eqb, ltb, leb, List, [], ◌∷◌, ◌++◌, Option, Some, None, refl, sym, ◌∙◌, ap, subst, arith, eqb-true, eq-eqb, ltb-true, lt-ltb, leb-true, le-leb, ⊎_elim}
 use Rattle.std.specs.Prelude.{slice_get}

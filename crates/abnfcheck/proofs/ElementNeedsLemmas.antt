@@ -9,7 +9,7 @@ use Rattle.leastset.specs.Demands.{Demand, All, One, row_of, AreNeedsWithin, own
 use Rattle.leastset.specs.declared.owned.OwnedNeed.{OwnedNeed}
 use Rattle.leastset.proofs.ContainsLemmas.{none_of, only_one, cons_cases}
 use Rattle.abnfread.specs.Element.{Element, Elements, Rule, bodies, id_of, none}
-use Rattle.abnfread.specs.Views.{elements, element_of, elements_of}
+use Rattle.abnfread.specs.AbnfViews.{elements, element_of, elements_of}
 use Rattle.abnfread.specs.declared.elem.Elem.{Elem}
 use Rattle.abnfcheck.specs.declared.aim.Aim.{Aim}
 use Rattle.abnfcheck.specs.declared.aim.Aim.TheVariants.{Empty, Letters}

@@ -18,7 +18,7 @@ use Rattle.rulenames.proofs.IsPlaceLemmas.{place_append}
 use Rattle.rulenames.proofs.IsScannedLemmas.{ids_more, scan_grows, used_next as next_uses}
 use Rattle.abnfread.specs.declared.elem.Elem.{Elem}
 use Rattle.abnfread.specs.Element.{Element, Rule, bodies, id_of}
-use Rattle.abnfread.specs.Views.{elements, element_of, elements_of, rule_of}
+use Rattle.abnfread.specs.AbnfViews.{elements, element_of, elements_of, rule_of}
 use Rattle.abnfcheck.specs.AbnfUses.{names_in, names_in_all, names_used, rule_names}
 use Rattle.abnfcheck.specs.AbnfNotes.{judged_in}
 use Rattle.abnfcheck.specs.NameIds.{IsIdAt, AreRowsTo, IsGraph, IsJudged}

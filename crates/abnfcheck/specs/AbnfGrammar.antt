@@ -4,7 +4,7 @@ use Rattle.ruletable.specs.Rules as table
 use Rattle.ruletable.specs.declared.table.NameCase.TheVariants.{Fold}
 use Rattle.abnfread.specs.declared.elem.Elem.{Elem}
 use Rattle.abnfread.specs.Element.{Element, Elements, Concat, Alt, Rep, Opt, Name, Prose, more, Rule, bodies, id_of}
-use Rattle.abnfread.specs.Views.{rules_of}
+use Rattle.abnfread.specs.AbnfViews.{rules_of}
 
 -- what stands in an element, itself included
 mutual

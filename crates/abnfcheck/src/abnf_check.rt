@@ -2,7 +2,7 @@
 ghost use Rattle.std.specs.Prelude.{◌≡◌, ◌↔◌, ◌≤◌, ◌++◌, ℕ, Bool, List, length, map, IfOk, MatchOption, option_copied};
 ghost use Rattle.ruletable.specs.Rules.{names_of};
 ghost use Rattle.abnfread.specs.Element.{Rule};
-ghost use Rattle.abnfread.specs.Views.{rules_of};
+ghost use Rattle.abnfread.specs.AbnfViews.{rules_of};
 ghost use Rattle.ruletable.specs.Notes.{said_of};
 ghost use Rattle.abnfcheck.specs.AbnfNotes.{judged_in, AreNotes, IsRefused};
 ghost use Rattle.abnfcheck.specs.AbnfUses.{rule_names};

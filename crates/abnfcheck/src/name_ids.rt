@@ -5,7 +5,7 @@ ghost use Rattle.ruletable.specs.Rules.{names_of};
 ghost use Rattle.ruletable.specs.declared.table.NameCase.TheVariants.{Fold};
 ghost use Rattle.rulenames.specs.FirstUses.{news};
 ghost use Rattle.rulenames.specs.NameUses.{IsScanned};
-ghost use Rattle.abnfread.specs.Views.{element_of, elements_of, rules_of};
+ghost use Rattle.abnfread.specs.AbnfViews.{element_of, elements_of, rules_of};
 ghost use Rattle.abnfcheck.specs.AbnfUses.{names_in, names_in_all, names_used};
 ghost use Rattle.abnfcheck.specs.NameIds.{AreRowsTo, IsGraph, IsJudged};
 

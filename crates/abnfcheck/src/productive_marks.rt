@@ -1,6 +1,6 @@
 //! Which rules derive something.
 ghost use Rattle.std.specs.Prelude.{◌≡◌, IfOk};
-ghost use Rattle.abnfread.specs.Views.{rules_of};
+ghost use Rattle.abnfread.specs.AbnfViews.{rules_of};
 ghost use Rattle.abnfcheck.specs.RuleMarks.{AreProductive};
 
 use crate::aim::Aim;

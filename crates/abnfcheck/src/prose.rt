@@ -1,6 +1,6 @@
 //! Which rules hold prose.
 ghost use Rattle.std.specs.Prelude.{◌≡◌, IfOk};
-ghost use Rattle.abnfread.specs.Views.{element_of, elements_of, rules_of};
+ghost use Rattle.abnfread.specs.AbnfViews.{element_of, elements_of, rules_of};
 ghost use Rattle.abnfcheck.specs.ProseIn.{prose_in, prose_in_one, prose_marks};
 
 use abnfread::Elem;

@@ -2,7 +2,7 @@
 ghost use Rattle.std.specs.Prelude.{◌≡◌, ◌↔◌, ◌≤◌, ℕ, Bool, IsTrue, List, [], ◌∷◌, ◌++◌, length, replicate, IfOk};
 ghost use Rattle.leastset.specs.Demands.{All, One, AreNeedsWithin, owned_demand_of, owned_demands_of};
 ghost use Rattle.abnfread.specs.Element.{Rule, Text, Values, Range, id_of};
-ghost use Rattle.abnfread.specs.Views.{element_of, elements_of, rules_of};
+ghost use Rattle.abnfread.specs.AbnfViews.{element_of, elements_of, rules_of};
 ghost use Rattle.abnfcheck.specs.Derivable.{AreLetters};
 ghost use Rattle.letters.specs.Letters.{has};
 ghost use Rattle.abnfcheck.specs.RuleMarks.{AreMarksFor, AreNullMarks, AreNumbered, HaveBodyNeeds, IsNumbered, IsTestOf, Yields, need_if, need_of_id, need_of_repeat};

@@ -1,6 +1,6 @@
 //! Sound grammars.
 ghost use Rattle.std.specs.Prelude.{◌≡◌, ◌↔◌, ◌<◌, ℕ, Bool, [], length, IfOk};
-ghost use Rattle.abnfread.specs.Views.{rules_of};
+ghost use Rattle.abnfread.specs.AbnfViews.{rules_of};
 ghost use Rattle.abnfcheck.specs.AbnfGrammar.{IsSoundGrammar};
 ghost use Rattle.abnfcheck.specs.Derivable.{RuleDerives};
 
@@ -22,7 +22,7 @@ pub struct SoundAbnf {
 impl Model for SoundAbnf {
     ghost use Rattle.abnfcheck.specs.AbnfGrammar.{Grammar, IsSoundGrammar};
     ghost use Rattle.abnfcheck.specs.RuleMarks.{AreNullMarks};
-    ghost use Rattle.abnfread.specs.Views.{rules_of};
+    ghost use Rattle.abnfread.specs.AbnfViews.{rules_of};
     ghost use Rattle.abnfread.specs.contracts.elem.Elem as e;
     ghost use Rattle.std.specs.Coded.{codes};
 

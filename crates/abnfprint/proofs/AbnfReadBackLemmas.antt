@@ -6,7 +6,7 @@ use Rattle.lexer.specs.declared.limits.TheConstants.{MAX_GRAMMAR, MAX_OPEN}
 use Rattle.abnfread.specs.declared.elem.Elem.{Elem}
 use Rattle.abnfread.specs.AbnfReading.{Reads}
 use Rattle.abnfread.specs.Element.{Rule, Definition}
-use Rattle.abnfread.specs.Views.{rules_of}
+use Rattle.abnfread.specs.AbnfViews.{rules_of}
 use Rattle.abnfread.proofs.AbnfFaultLemmas.{one-reading}
 use Rattle.abnfprint.specs.AbnfReadBack.{table_of, SameButSpans, ReadsAs, IsRead}
 use Rattle.abnfprint.specs.CanonicalAbnf.{definition_text, grammar_text}

@@ -10,7 +10,7 @@ use Rattle.ruletable.specs.Writing.{AppendsPart, Writes}
 use Rattle.ruletable.proofs.AppendsLemmas.{Appends-join, Appends-same, AppendsPart-join, AppendsPart-first}
 use Rattle.abnfread.specs.declared.elem.Elem.{Elem}
 use Rattle.abnfread.specs.Element.{Element, Elements, none, more}
-use Rattle.abnfread.specs.Views.{element_of, elements_of, rule_of}
+use Rattle.abnfread.specs.AbnfViews.{element_of, elements_of, rule_of}
 use Rattle.abnfprint.specs.CanonicalAbnf.{around, wraps, text_of, joined, more_joined, definition_text, grammar_text, hexadecimal, values_text, dotted}
 use Rattle.abnfprint.specs.declared.place.Place.{Place}
 

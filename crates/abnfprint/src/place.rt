@@ -1,6 +1,6 @@
 //! Where an element needs parentheses.
 ghost use Rattle.std.specs.Prelude.{◌≡◌};
-ghost use Rattle.abnfread.specs.Views.{element_of};
+ghost use Rattle.abnfread.specs.AbnfViews.{element_of};
 ghost use Rattle.abnfprint.specs.CanonicalAbnf as canon;
 
 use abnfread::Elem;

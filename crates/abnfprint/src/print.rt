@@ -2,7 +2,7 @@
 ghost use Rattle.std.specs.Prelude.{◌≡◌, ◌≤◌, ◌++◌, ◌∷◌, ◌==◌, ℕ, cond, List, [], length};
 ghost use Rattle.ruletable.specs.Writing.{Writes, Flags};
 ghost use Rattle.abnfread.specs.Element as element;
-ghost use Rattle.abnfread.specs.Views.{element_of, elements_of, rules_of};
+ghost use Rattle.abnfread.specs.AbnfViews.{element_of, elements_of, rules_of};
 ghost use Rattle.abnfprint.specs.AbnfReadBack.{IsRead, ReadsAs, ReadsFormed, ReadBack, SpansUnseen, PrintsItself};
 ghost use Rattle.abnfprint.specs.CanonicalAbnf as canon;
 

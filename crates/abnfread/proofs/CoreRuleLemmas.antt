@@ -13,7 +13,7 @@ use Rattle.ruletable.proofs.TableLemmas.{position-map}
 use Rattle.abnfread.specs.declared.elem.Elem.{Elem}
 use Rattle.abnfread.specs.CoreRules.{nowhere, core_list, core_names, core_bodies}
 use Rattle.abnfread.specs.Element.{Element, Rule}
-use Rattle.abnfread.specs.Views.{element_of, rule_of, rules_of}
+use Rattle.abnfread.specs.AbnfViews.{element_of, rule_of, rules_of}
 
 pub record IsCoreSoFar (i : ℕ) (rules : table.Rules Elem) : Type 0 where
   pub names : rules.names ≡ Fold

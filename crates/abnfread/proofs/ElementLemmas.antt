@@ -2,7 +2,7 @@
 -- Serves: core_rules, read_abnf
 use Rattle.std.proofs.Common.{◌≡◌, ℕ, Bool, Option, Vec, Box, Global, sym, ap, ◌∙◌}
 use Rattle.abnfread.specs.Element as p
-use Rattle.abnfread.specs.Views.{element_of, elements_of, node_element}
+use Rattle.abnfread.specs.AbnfViews.{element_of, elements_of, node_element}
 use Rattle.abnfread.specs.declared.elem.Elem.{Elem}
 use Rattle.abnfread.specs.declared.elem.Elem.TheOpen.{Elem-F}
 use Rattle.abnfread.specs.declared.elem.Elem.TheFolds.{fold-roll-Elem}

@@ -5,7 +5,7 @@ use Rattle.abnfread.specs.declared.elem.Elem.{Elem}
 use Rattle.abnfread.specs.AbnfMachine.{snoc, Head, Level, body, fresh, read}
 use Rattle.abnfread.specs.AbnfSpelling.{concatenation, alternation}
 use Rattle.abnfread.specs.Element.{Element, Elements, none, more, Concat, Alt}
-use Rattle.abnfread.specs.Views.{element_of, elements_of}
+use Rattle.abnfread.specs.AbnfViews.{element_of, elements_of}
 
 pub concatenation-many : (xs : List Elem) → (length xs ≡ 1 → ⊥) → concatenation (elements_of xs) ≡ Concat (elements_of xs)
 concatenation-many [] h = refl

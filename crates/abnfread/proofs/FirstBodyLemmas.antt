@@ -13,7 +13,7 @@ use Rattle.abnfread.specs.AbnfReader.{definition_from}
 use Rattle.abnfread.specs.AbnfTable.{body_in, joined, IsCoreTable, IsFirstBody}
 use Rattle.abnfread.specs.CoreRules.{nowhere, core_list, core_bodies}
 use Rattle.abnfread.specs.Element.{Element, Elements, Prose, Rule, none, more}
-use Rattle.abnfread.specs.Views.{element_of, elements_of}
+use Rattle.abnfread.specs.AbnfViews.{element_of, elements_of}
 use Rattle.abnfread.proofs.AbnfMachineLemmas.{append_assoc}
 use Rattle.abnfread.proofs.CoreRuleLemmas.{found-in}
 use Rattle.abnfread.proofs.ElementListLemmas.{elements_of-push}

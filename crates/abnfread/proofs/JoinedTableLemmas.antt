@@ -18,7 +18,7 @@ use Rattle.abnfread.specs.AbnfReader.{definition_from}
 use Rattle.abnfread.specs.AbnfTable.{body_in, joined, id_in, begun, firsts, agains, is_early, earlies, IsTableOf, IsFirstBody, IsExtended}
 use Rattle.abnfread.specs.CoreRules.{core_list}
 use Rattle.abnfread.specs.Element.{Element, Rule, Definition}
-use Rattle.abnfread.specs.Views.{element_of, rule_of, rules_of}
+use Rattle.abnfread.specs.AbnfViews.{element_of, rule_of, rules_of}
 use Rattle.abnfread.proofs.AbnfTableLemmas.{name_of, grow_named, grow-names, take_all, take-all}
 use Rattle.abnfread.proofs.CoreRuleLemmas.{found-in, some-one}
 

@@ -24,7 +24,7 @@ use Rattle.abnfread.specs.AbnfWords as words
 use Rattle.abnfread.specs.AbnfWords.{Said, Word, word}
 use Rattle.abnfread.specs.Element.{Elements, Definition}
 use Rattle.abnfread.specs.MarkedTokens.{Marked}
-use Rattle.abnfread.specs.Views.{element_of, elements_of}
+use Rattle.abnfread.specs.AbnfViews.{element_of, elements_of}
 
 -- what the code's word stands for
 abbrev pub said_of : CodeSaid → Said

@@ -14,4 +14,4 @@ pub mod Element
 pub mod MarkedIteration
 pub mod MarkedTokens
 pub mod Numerals
-pub mod Views
+pub mod AbnfViews

@@ -4,7 +4,7 @@ ghost use Rattle.ruletable.specs.declared.table.NameCase.TheVariants.{Fold};
 ghost use Rattle.abnfread.specs.AbnfMachine.{snoc};
 ghost use Rattle.abnfread.specs.CoreRules.{pair as pair_of, plain, value as value_of, hexdig as hexdig_of, lwsp as lwsp_of, core_list, core_names, core_bodies};
 ghost use Rattle.abnfread.specs.Element.{Range, Concat, Alt, Name};
-ghost use Rattle.abnfread.specs.Views.{element_of, elements_of, rules_of};
+ghost use Rattle.abnfread.specs.AbnfViews.{element_of, elements_of, rules_of};
 
 use crate::elem::Elem;
 use ruletable::{Memory, NameCase, RuleTable, Span};

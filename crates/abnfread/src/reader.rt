@@ -6,7 +6,7 @@ ghost use Rattle.abnfread.specs.AbnfReader.{said_of, definition_from, definition
 ghost use Rattle.abnfread.specs.AbnfSpelling.{concatenation as concatenation_of, alternation as alternation_of};
 ghost use Rattle.abnfread.specs.AbnfWords.{word};
 ghost use Rattle.abnfread.specs.Element.{none, Definition as D};
-ghost use Rattle.abnfread.specs.Views.{element_of, elements_of};
+ghost use Rattle.abnfread.specs.AbnfViews.{element_of, elements_of};
 
 use crate::elem::Elem;
 use crate::words::Said;

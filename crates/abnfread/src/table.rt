@@ -4,7 +4,7 @@ ghost use Rattle.ruletable.specs.Rules.{bodies_of};
 ghost use Rattle.ruletable.specs.declared.table.NameCase.TheVariants.{Fold};
 ghost use Rattle.abnfread.specs.AbnfReader.{definition_from, definitions_from};
 ghost use Rattle.abnfread.specs.AbnfTable.{alternatives_of as alternatives, joined, IsTableOf, IsCoreTable, IsFirstBody, IsExtended, IsTaken};
-ghost use Rattle.abnfread.specs.Views.{element_of, elements_of};
+ghost use Rattle.abnfread.specs.AbnfViews.{element_of, elements_of};
 
 use crate::appendix::{core_body, core_rules};
 use crate::elem::Elem;

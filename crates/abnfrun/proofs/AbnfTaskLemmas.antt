@@ -11,7 +11,7 @@ use Rattle.ruletable.specs.declared.note.Note.{Note}
 use Rattle.ruletable.specs.declared.sink.WriteFault.{WriteFault}
 use Rattle.abnfread.specs.AbnfReading.{IsFaultOf}
 use Rattle.abnfread.specs.Element.{Rule}
-use Rattle.abnfread.specs.Views.{rules_of}
+use Rattle.abnfread.specs.AbnfViews.{rules_of}
 use Rattle.abnfcheck.specs.AbnfGrammar.{Grammar}
 use Rattle.abnfrun.specs.AbnfAnswers.{AbnfStates, refused, noted, checked, judges, again as again_noted, printed, no_memory}
 use Rattle.abnfrun.specs.AbnfChecking.{IsChecked}

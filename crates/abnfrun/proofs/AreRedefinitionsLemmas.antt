@@ -11,7 +11,7 @@ use Rattle.ruletable.specs.Rules.{names_of}
 use Rattle.ruletable.specs.declared.note.NoteKind.TheVariants.{Redefined}
 use Rattle.rulenames.specs.IdMarks.{chosen, AreMarks}
 use Rattle.abnfread.specs.Element.{Rule}
-use Rattle.abnfread.specs.Views.{rule_of, rules_of}
+use Rattle.abnfread.specs.AbnfViews.{rule_of, rules_of}
 use Rattle.abnfread.specs.declared.elem.Elem.{Elem}
 use Rattle.abnfcheck.specs.AbnfNotes.{Those}
 use Rattle.abnfcheck.specs.AbnfUses.{rule_names}

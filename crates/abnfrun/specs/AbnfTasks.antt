@@ -2,7 +2,7 @@
 use Rattle.std.specs.Prelude.{◌≡◌, Option, Some, None, Result, Ok, Err}
 use Rattle.ruletable.specs.declared.fault.ReadFault.{ReadFault}
 use Rattle.ruletable.specs.declared.fault.ReadFault.TheVariants.{Syntax, Depth, CodePredicate, TooLong, Memory, NumberTooLarge}
-use Rattle.abnfread.specs.Views.{rules_of}
+use Rattle.abnfread.specs.AbnfViews.{rules_of}
 use Rattle.abnfcheck.specs.AbnfGrammar.{Grammar}
 use Rattle.abnfrun.specs.AbnfReply.{JudgeReply, printed_rules}
 use Rattle.abnfrun.specs.declared.abnf_task.AbnfTask.{AbnfTask}

@@ -3,7 +3,7 @@ ghost use Rattle.std.specs.Prelude.{map, IfOk, IfErr};
 ghost use Rattle.ruletable.specs.Notes.{said_of};
 ghost use Rattle.ruletable.specs.Writing.{Flags};
 ghost use Rattle.abnfread.specs.AbnfReading.{IsFaultOf};
-ghost use Rattle.abnfread.specs.Views.{rules_of};
+ghost use Rattle.abnfread.specs.AbnfViews.{rules_of};
 ghost use Rattle.abnfprint.specs.CanonicalAbnf.{grammar_text};
 ghost use Rattle.abnfrun.specs.AbnfNoted.{AreRedefinitions};
 ghost use Rattle.abnfrun.specs.AbnfPrinting.{IsPrintable, Prints};
@@ -28,13 +28,7 @@ fn redefinitions(alloc: Global, abnf: &Abnf) -> Result<Vec<Note>, Memory>
 {
     let marks = marks_at(alloc, &abnf.redefined, abnf.rules.len())?;
     let mut notes = Vec::new(alloc);
-    note_marked(
-        alloc,
-        &abnf.rules,
-        &marks,
-        NoteKind::Redefined,
-        &mut notes,
-    )?;
+    note_marked(alloc, &abnf.rules, &marks, NoteKind::Redefined, &mut notes)?;
     Ok(notes)
 }
 

@@ -1,7 +1,7 @@
 //! The lines of an input, judged by a grammar.
 ghost use Rattle.std.specs.Prelude.{◌≡◌, ℕ, Bool, List, false, true, length, map, IfOk};
 ghost use Rattle.abnfread.specs.Element.{Rule};
-ghost use Rattle.abnfread.specs.Views.{rules_of};
+ghost use Rattle.abnfread.specs.AbnfViews.{rules_of};
 ghost use Rattle.abnfrun.specs.AbnfReply.{IsAnswerTo, JudgeReply};
 ghost use Rattle.abnfrun.specs.LetterAnswers.{IsAnswerOn, torn};
 ghost use Rattle.flatgrammar.specs.Lowered.{IsLowered};

@@ -5,7 +5,7 @@ use Rattle.std.specs.Prelude.{slice_get}
 use Rattle.std.proofs.lemmas.Bool.{eqb-true, eq-eqb, and_parts, and_from}
 use Rattle.cells.specs.declared.cell.Found.{Found}
 use Rattle.cells.specs.Entries.{Entry, found_at}
-use Rattle.cells.specs.Kept.{Holds, IsFree}
+use Rattle.cells.specs.CellEntries.{Holds, IsFree}
 
 -- whether the entry is of that node and place
 abbrev pub is_of : Entry → ℕ → ℕ → Bool

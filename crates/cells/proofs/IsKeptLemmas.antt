@@ -8,7 +8,7 @@ use Rattle.std.proofs.lemmas.Option.{slice_get_within, slice_get-map}
 use Rattle.cells.specs.declared.cell.Cell.{Cell}
 use Rattle.cells.specs.declared.cell.Found.{Found}
 use Rattle.cells.specs.Entries.{Entry, found_at, IsKnown}
-use Rattle.cells.specs.Kept.{Holds, IsFree, IsMap, IsKept, IsAt, IsNowhere, entry_of, entries_of, found_of}
+use Rattle.cells.specs.CellEntries.{Holds, IsFree, IsMap, IsKept, IsAt, IsNowhere, entry_of, entries_of, found_of}
 use Rattle.cells.specs.Links.{IsLast, AreLinked}
 use Rattle.cells.specs.Rows.{row_of, number_of, fold}
 use Rattle.cells.proofs.FoundAtLemmas.{found_at_end, free_none, held_found}

@@ -1,6 +1,6 @@
 //! One cell, as it is kept.
 ghost use Rattle.std.specs.Prelude.{◌≡◌, ◌<◌, ◌≤◌, IfSome, IfNone};
-ghost use Rattle.cells.specs.Kept.{found_of};
+ghost use Rattle.cells.specs.CellEntries.{found_of};
 
 /// What a node gave at a place.
 #[derive(Clone, Copy, PartialEq, Eq, Debug)]

@@ -1,6 +1,6 @@
 //! Cells linked by rows.
 ghost use Rattle.std.specs.Prelude.{◌≡◌, ℕ, ◌<◌, ◌≤◌, ◌^◌, length, slice_get, Some, IfSome, IfNone};
-ghost use Rattle.cells.specs.Kept.{IsAt, IsNowhere, entries_of};
+ghost use Rattle.cells.specs.CellEntries.{IsAt, IsNowhere, entries_of};
 ghost use Rattle.cells.specs.Links.{IsLast, AreLinked};
 ghost use Rattle.cells.specs.Rows.{row_of as the_row_of};
 

@@ -1,7 +1,7 @@
 //! The cells as a finite map.
 ghost use Rattle.std.specs.Prelude.{◌≡◌, ◌<◌, ◌≤◌, ◌++◌, ◌∷◌, ◌^◌, [], length, false, None, IfOk, IfSome, OnOk, OnErr};
 ghost use Rattle.cells.specs.Entries.{found_at, IsKnown};
-ghost use Rattle.cells.specs.Kept.{IsFree, IsKept, entry_of, entries_of, found_of};
+ghost use Rattle.cells.specs.CellEntries.{IsFree, IsKept, entry_of, entries_of, found_of};
 ghost use Rattle.cells.specs.Rows.{number_of as number};
 
 use crate::cell::{Cell, Found, end_of, found_of_end, narrow};
@@ -32,7 +32,7 @@ pub struct Cells {
 impl Model for Cells {
     ghost use Rattle.std.specs.Prelude.{List};
     ghost use Rattle.cells.specs.Entries.{Entry};
-    ghost use Rattle.cells.specs.Kept.{IsKept, entries_of};
+    ghost use Rattle.cells.specs.CellEntries.{IsKept, entries_of};
 
     ghost Value = { List Entry };
 

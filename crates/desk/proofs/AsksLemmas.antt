@@ -12,7 +12,7 @@ use Rattle.leastset.proofs.ContainsLemmas.{in_first, in_later}
 use Rattle.gramcheck.proofs.HasShapeLemmas.{has_shape}
 use Rattle.gramcheck.proofs.NullIfLemmas.{forward, null_of}
 use Rattle.pegmatch.proofs.OperandLemmas.{at, falls_to}
-use Rattle.pegmatch.specs.Kept.{SpellsSome}
+use Rattle.pegmatch.specs.KeptEvents.{SpellsSome}
 use Rattle.desk.specs.Visits.{NodeTakes, AsksMember, member_here, member_later, AsksAlternative, alternative_here, alternative_later, AsksBy, Asks, Visits, first, asked}
 
 module _ (rules : List Rule) (start : ℕ) (nodes : List Shape) (bodies ranks x : List ℕ) (sound : IsRanked rules start nodes bodies ranks) where

@@ -10,7 +10,7 @@ use Rattle.gramcheck.specs.Outcome.{Event, Outcome, Fails, Takes, Gives, name, o
 use Rattle.gramcheck.specs.Sound.{IsRanked}
 use Rattle.gramcheck.proofs.OwnIdLemmas.{body_at_id}
 use Rattle.gramcheck.proofs.HasShapeLemmas.{has_shape}
-use Rattle.pegmatch.specs.Kept.{SpellsSome}
+use Rattle.pegmatch.specs.KeptEvents.{SpellsSome}
 use Rattle.desk.specs.Visits.{NodeGives}
 use Rattle.desk.proofs.NodeGivesLemmas.{gives_as}
 

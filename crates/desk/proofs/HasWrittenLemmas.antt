@@ -8,7 +8,7 @@ use Rattle.pegread.specs.Pattern.{Rule}
 use Rattle.gramcheck.specs.Nodes.{Shape}
 use Rattle.gramcheck.specs.Outcome.{Event}
 use Rattle.gramcheck.specs.Rising.{Rise}
-use Rattle.pegmatch.specs.Printing.{event_text, capture_by}
+use Rattle.pegmatch.specs.EventPrinting.{event_text, capture_by}
 use Rattle.pegmatch.specs.Text.{text_of}
 use Rattle.pegmatch.specs.declared.event.Kept.{Kept}
 use Rattle.pegmatch.specs.declared.writing.Capture.{Capture}

@@ -6,7 +6,7 @@ use Rattle.gramcheck.specs.Nodes.{Shape, Spells, SpellAll, spell_none, spell_mor
 use Rattle.gramcheck.specs.Outcome.{Event, Outcome, Gives, GivesAll, all_done, one_fails, rest_fails, rest_takes, GivesFirst, all_failed, first_takes, first_fails}
 use Rattle.gramcheck.specs.Sound.{IsRanked}
 use Rattle.gramcheck.proofs.OneOutcomeLemmas.{Same}
-use Rattle.pegmatch.specs.Kept.{outcome_of}
+use Rattle.pegmatch.specs.KeptEvents.{outcome_of}
 use Rattle.cells.specs.declared.cell.Found.{Found}
 use Rattle.cells.specs.declared.cell.Found.TheVariants.{Failed, Took}
 use Rattle.cells.specs.Entries.{Entry}

@@ -2,7 +2,7 @@
 -- Serves: Desk::match_unit, Desk::replay.
 use Rattle.std.proofs.Common.{◌≡◌, ℕ, ◌≤◌, Bool, List, [], ◌∷◌, length, Some, sym, ap, subst, arith, append-nil, get_or}
 use Rattle.std.specs.Prelude.{slice_get}
-use Rattle.pegread.specs.Views.{rules_of}
+use Rattle.pegread.specs.PegViews.{rules_of}
 use Rattle.gramcheck.specs.Grammar.{Grammar, IsSoundGrammar}
 use Rattle.gramcheck.specs.Nodes.{shapes_of, Spells}
 use Rattle.gramcheck.specs.Outcome.{Event}

@@ -1,7 +1,7 @@
 -- What a turn of a match makes of cells and frames: a leaf's cell is a frame that is pushed and dropped.
 -- Serves: Desk::match_unit.
 use Rattle.std.proofs.Common.{◌≡◌, ℕ, ◌+◌, Bool, List, [], ◌∷◌, ◌++◌, length, Option, Some, None, refl, sym, ◌∙◌, ap, subst, arith, length-append}
-use Rattle.pegread.specs.Views.{rules_of}
+use Rattle.pegread.specs.PegViews.{rules_of}
 use Rattle.gramcheck.specs.Grammar.{Grammar, IsSoundGrammar}
 use Rattle.gramcheck.specs.Nodes.{shapes_of}
 use Rattle.cells.specs.Entries.{Entry}

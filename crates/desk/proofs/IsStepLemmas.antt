@@ -4,7 +4,7 @@ use Rattle.std.proofs.Common.{◌≡◌, inl, inr, ℕ, suc, ◌+◌, ◌-◌, �
 use Rattle.std.specs.Prelude.{slice_get}
 use Rattle.std.proofs.Math.Nat.{mul-le-mul_left}
 use Rattle.pegread.specs.Pattern.{Rule}
-use Rattle.pegread.specs.Views.{rules_of}
+use Rattle.pegread.specs.PegViews.{rules_of}
 use Rattle.gramcheck.specs.Grammar.{Grammar, IsSoundGrammar}
 use Rattle.gramcheck.specs.Nodes.{Shape, shape_of, shapes_of, Spells}
 use Rattle.std.proofs.lemmas.List.{length-map}
@@ -12,7 +12,7 @@ use Rattle.std.proofs.lemmas.Option.{slice_get-get_or}
 use Rattle.gramcheck.specs.Outcome.{Outcome}
 use Rattle.gramcheck.proofs.SomeOutcomeLemmas as one
 use Rattle.pegmatch.specs.Answers.{StartGives}
-use Rattle.pegmatch.specs.Kept.{SpellsSome}
+use Rattle.pegmatch.specs.KeptEvents.{SpellsSome}
 use Rattle.cells.specs.declared.cell.Found.{Found}
 use Rattle.cells.specs.declared.cell.Found.TheVariants.{Failed, Took}
 use Rattle.pegmatch.specs.declared.matcher.Unit.{Unit as UnitAnswer}

@@ -9,7 +9,7 @@ use Rattle.gramcheck.specs.Nodes.{Shape, Spells, SpellAll}
 use Rattle.gramcheck.specs.Outcome.{Event, Takes, Gives, seq, choice}
 use Rattle.gramcheck.specs.Sound.{IsRanked}
 use Rattle.gramcheck.proofs.HasShapeLemmas.{has_shape}
-use Rattle.pegmatch.specs.Kept.{SpellsSome, quiet_outcome}
+use Rattle.pegmatch.specs.KeptEvents.{SpellsSome, quiet_outcome}
 use Rattle.cells.specs.declared.cell.Found.{Found}
 use Rattle.cells.specs.declared.cell.Found.TheVariants.{Failed, Took}
 use Rattle.pegmatch.specs.declared.leaves.Tried.{Tried}

@@ -22,7 +22,7 @@ use Rattle.desk.specs.declared.way.Way.TheVariants.{Leave, Emit, TurnTo}
 use Rattle.pegmatch.specs.declared.event.Kept.TheVariants.{Opened, Closed, Acted}
 use Rattle.cells.specs.Entries.{found_at}
 use Rattle.desk.specs.Desk.{beginning}
-use Rattle.pegmatch.specs.Kept.{opened, closed, acted}
+use Rattle.pegmatch.specs.KeptEvents.{opened, closed, acted}
 use Rattle.desk.specs.Path.{IsQuiet, EndsBy, opt_way, into, star_way, seq_way, choice_way, Taking, AllTaking, LeftBy, IsLeft, IsWay, pair_height}
 use Rattle.desk.specs.State.{HasCell, HaveTaken, none_taken, AreCells}
 use Rattle.desk.specs.Visits.{NodeGives, NodeTakes, Asks, AsksAlternative, alternative_here, alternative_later}

@@ -3,7 +3,7 @@ use Rattle.std.specs.Prelude.{◌≡◌, ◌⊎◌, ℕ, ◌+◌, ◌-◌, ◌*�
 use Rattle.pegread.specs.Pattern.{Patterns, Rule}
 use Rattle.gramcheck.specs.Nodes.{Shape, Any, Bytes, Set, Name, Seq, Choice, Star, Plus, Opt, And, Not, Act, Open, Close, SpellAll}
 use Rattle.gramcheck.specs.Outcome.{Event, Takes, GivesAll}
-use Rattle.pegmatch.specs.Kept.{SpellsSome, StandsFor}
+use Rattle.pegmatch.specs.KeptEvents.{SpellsSome, StandsFor}
 use Rattle.cells.specs.declared.cell.Found.{Found}
 use Rattle.cells.specs.declared.cell.Found.TheVariants.{Failed, Took}
 use Rattle.cells.specs.Entries.{Entry}

@@ -5,7 +5,7 @@ use Rattle.gramcheck.specs.Nodes.{Shape, Any, Bytes, Set, Name, Seq, Choice, Sta
 use Rattle.gramcheck.specs.Outcome.{Event}
 use Rattle.cells.specs.declared.cell.Found.{Found}
 use Rattle.cells.specs.declared.cell.Found.TheVariants.{Failed, Took}
-use Rattle.pegmatch.specs.Kept.{outcome_of}
+use Rattle.pegmatch.specs.KeptEvents.{outcome_of}
 use Rattle.cells.specs.Entries.{Entry}
 use Rattle.desk.specs.declared.frame.Frame.{Frame}
 use Rattle.cells.specs.Entries.{found_at}

@@ -1,9 +1,9 @@
 //! What an evaluation does next, where nodes without operands are evaluated at once.
 ghost use Rattle.std.specs.Prelude.{◌≡◌, ◌<◌, ◌≤◌, List, ◌∷◌, length, slice_get, Some, None, true, IfSome, IfOk, IfErr};
-ghost use Rattle.pegread.specs.Views.{rules_of};
+ghost use Rattle.pegread.specs.PegViews.{rules_of};
 ghost use Rattle.gramcheck.specs.Grammar.{IsSoundGrammar};
 ghost use Rattle.gramcheck.specs.Nodes.{Shape, shapes_of};
-ghost use Rattle.pegmatch.specs.Kept.{SpellsSome};
+ghost use Rattle.pegmatch.specs.KeptEvents.{SpellsSome};
 ghost use Rattle.cells.specs.Entries.{Entry, found_at};
 ghost use Rattle.cells.specs.declared.cell.Found.{Found};
 ghost use Rattle.desk.specs.declared.frame.Frame.{Frame};

@@ -1,9 +1,9 @@
 //! What the evaluation of a node does next, from the cells so far.
 ghost use Rattle.std.specs.Prelude.{◌≡◌, ℕ, ◌<◌, ◌≤◌, length, slice_get, Some, true};
-ghost use Rattle.pegread.specs.Views.{rules_of};
+ghost use Rattle.pegread.specs.PegViews.{rules_of};
 ghost use Rattle.gramcheck.specs.Grammar.{IsSoundGrammar};
 ghost use Rattle.gramcheck.specs.Nodes.{shapes_of};
-ghost use Rattle.pegmatch.specs.Kept.{SpellsSome};
+ghost use Rattle.pegmatch.specs.KeptEvents.{SpellsSome};
 ghost use Rattle.cells.specs.Entries.{found_at};
 ghost use Rattle.desk.specs.State.{HaveTaken, HaveFailed, IsUnderWay, AreCells};
 ghost use Rattle.desk.specs.Turns.{same_turn, opt_turn, and_turn, not_turn, star_turn, plus_turn, IsLeafTurn, IsWalk, IsSearch, IsTurn};

@@ -1,10 +1,10 @@
 //! Walks over the events of a success, from the cells.
 ghost use Rattle.std.specs.Prelude.{◌≡◌, ℕ, ◌<◌, ◌≤◌, Bool, List, ◌∷◌, length};
-ghost use Rattle.pegread.specs.Views.{rules_of};
+ghost use Rattle.pegread.specs.PegViews.{rules_of};
 ghost use Rattle.gramcheck.specs.Grammar.{IsSoundGrammar};
 ghost use Rattle.gramcheck.specs.Nodes.{shapes_of};
 ghost use Rattle.gramcheck.specs.Outcome.{Event};
-ghost use Rattle.pegmatch.specs.Kept.{SpellsSome};
+ghost use Rattle.pegmatch.specs.KeptEvents.{SpellsSome};
 ghost use Rattle.cells.specs.Entries.{Entry};
 ghost use Rattle.desk.specs.Desk.{beginning as begun_at};
 ghost use Rattle.desk.specs.State.{AreCells};

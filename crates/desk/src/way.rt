@@ -1,9 +1,9 @@
 //! Where a success goes on, from the cells: its events in path order.
 ghost use Rattle.std.specs.Prelude.{◌≡◌, ℕ, ◌+◌, ◌<◌, Bool, true, List, length, get_or, slice_get, Some, IfSome};
-ghost use Rattle.pegread.specs.Views.{rules_of};
+ghost use Rattle.pegread.specs.PegViews.{rules_of};
 ghost use Rattle.gramcheck.specs.Grammar.{IsSoundGrammar};
 ghost use Rattle.gramcheck.specs.Nodes.{Shape, shape_of, shapes_of};
-ghost use Rattle.pegmatch.specs.Kept.{SpellsSome};
+ghost use Rattle.pegmatch.specs.KeptEvents.{SpellsSome};
 ghost use Rattle.gramcheck.specs.Outcome.{Event};
 ghost use Rattle.cells.specs.declared.cell.Found.{Found};
 ghost use Rattle.cells.specs.Entries.{Entry, found_at};

@@ -6,11 +6,11 @@ pub mod FollowLemmas
 pub mod HeadTablesLemmas
 pub mod IsBuiltLemmas
 pub mod IsChartLemmas
-pub mod IsGoingLemmas
+pub mod FillLemmas
 pub mod IsVerdictLemmas
 pub mod IsWorkedLemmas
 pub mod ItemRowsLemmas
 pub mod ResumedLemmas
 pub mod SetAtMostLemmas
 pub mod ViewsLemmas
-pub mod WaitingLemmas
+pub mod WaitAllLemmas

@@ -23,7 +23,7 @@ use Rattle.flatgrammar.proofs.CallOfLemmas.{begun_starts, root_stands, get_below
 use Rattle.earley.proofs.IsBuiltLemmas.{after_holds, root_is, built_more}
 use Rattle.earley.proofs.BlockLemmas.{in_expand, in_right, in_map, from_map, either}
 use Rattle.flatgrammar.proofs.InLemmas.{in_left, before_end, at_index_in}
-use Rattle.earley.proofs.IsGoingLemmas.{size_map}
+use Rattle.earley.proofs.FillLemmas.{size_map}
 use Rattle.earley.proofs.ExpandLemmas.{length_views, take_one, take_past, map_end, expand_end}
 use Rattle.earley.proofs.AddsLemmas.{adds_as, adds_none}
 use Rattle.earley.proofs.ResumedLemmas.{item_same}

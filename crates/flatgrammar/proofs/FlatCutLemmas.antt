@@ -4,7 +4,7 @@ use Rattle.std.proofs.Common.{◌≡◌, ℕ, zero, suc, ◌+◌, List, [], ◌�
 use Rattle.std.specs.Prelude.{slice_get}
 use Rattle.ruletable.specs.Rules as table
 use Rattle.abnfread.specs.Element.{Element, Rule, bodies}
-use Rattle.abnfread.specs.Views.{element_of, rule_of}
+use Rattle.abnfread.specs.AbnfViews.{element_of, rule_of}
 use Rattle.abnfread.specs.declared.elem.Elem.{Elem}
 use Rattle.flatgrammar.specs.Flat.{Node}
 use Rattle.flatgrammar.specs.Lowered.{Spells}

@@ -6,7 +6,7 @@ use Rattle.std.proofs.lemmas.List.{map-append, length-map}
 use Rattle.std.proofs.Math.Seq.{take-suc}
 use Rattle.abnfread.specs.Element as e
 use Rattle.abnfread.specs.Element.{Element, Elements, Rule}
-use Rattle.abnfread.specs.Views.{elements, elements_of, element_of}
+use Rattle.abnfread.specs.AbnfViews.{elements, elements_of, element_of}
 use Rattle.abnfread.specs.declared.elem.Elem.{Elem}
 use Rattle.flatgrammar.specs.Flat.{Node}
 use Rattle.flatgrammar.specs.Lowered.{Spells, spells, Shows, SpellAll, spell_none, spell_more}

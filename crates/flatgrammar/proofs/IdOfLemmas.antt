@@ -11,7 +11,7 @@ use Rattle.ruletable.specs.Rules.{find_in, same_name}
 use Rattle.ruletable.specs.declared.table.NameCase.TheVariants.{Fold}
 use Rattle.abnfread.specs.declared.elem.Elem.{Elem}
 use Rattle.abnfread.specs.Element.{id_of}
-use Rattle.abnfread.specs.Views.{rule_of, rules_of}
+use Rattle.abnfread.specs.AbnfViews.{rule_of, rules_of}
 
 first_id : (rules : List (table.Rule Elem)) (name : List ℕ) → id_of (map rule_of rules) name ≡ position_or_len (λ rule. same_name Fold name rule.name) rules
 first_id rules name =

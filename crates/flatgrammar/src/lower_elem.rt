@@ -1,7 +1,7 @@
 //! Cuts the bodies of a grammar's rules into numbered nodes.
 ghost use Rattle.std.specs.Prelude.{◌≡◌, ℕ, List, ◌++◌, ◌∷◌, [], length, map, IfOk};
 ghost use Rattle.abnfread.specs.Element.{id_of};
-ghost use Rattle.abnfread.specs.Views.{element_of, elements_of, rules_of};
+ghost use Rattle.abnfread.specs.AbnfViews.{element_of, elements_of, rules_of};
 ghost use Rattle.flatgrammar.specs.Flat.{Exactly, Between};
 ghost use Rattle.flatgrammar.specs.Lowered.{letter_set};
 ghost use Rattle.flatgrammar.specs.FlatViews.{set_of, nodes_of};

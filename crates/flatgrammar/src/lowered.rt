@@ -2,7 +2,7 @@
 ghost use Rattle.std.specs.Prelude.{◌≡◌, ◌↔◌, ℕ, ◌+◌, ◌<◌, List, ◌∷◌, [], Bool, length, IfOk};
 ghost use Rattle.abnfcheck.specs.Derivable.{AreLetters, RuleDerives};
 ghost use Rattle.abnfread.specs.Element.{bodies};
-ghost use Rattle.abnfread.specs.Views.{rules_of};
+ghost use Rattle.abnfread.specs.AbnfViews.{rules_of};
 ghost use Rattle.flatgrammar.specs.Flat.{Place};
 ghost use Rattle.flatgrammar.specs.Holds.{Holds};
 ghost use Rattle.flatgrammar.specs.Lowered.{IsLowered};

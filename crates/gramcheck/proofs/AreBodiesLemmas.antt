@@ -6,7 +6,7 @@ use Rattle.std.proofs.lemmas.Bool.{cases_lt}
 use Rattle.std.proofs.lemmas.Option.{slice_get_within}
 use Rattle.ruletable.specs.Rules as table
 use Rattle.pegread.specs.Pattern.{Pattern, Rule}
-use Rattle.pegread.specs.Views.{pattern_of, rule_of}
+use Rattle.pegread.specs.PegViews.{pattern_of, rule_of}
 use Rattle.pegread.specs.declared.expr.Expr.{Expr}
 use Rattle.gramcheck.specs.declared.node.Node.{Node}
 use Rattle.gramcheck.specs.Bodies.{AreBodies, AreNamed, IsBuilt}

@@ -16,7 +16,7 @@ use Rattle.ruletable.specs.declared.table.NameCase.TheVariants.{Exact}
 use Rattle.rulenames.specs.FirstUses.{is_among, news}
 use Rattle.pegread.specs.Pattern as expr
 use Rattle.pegread.specs.Pattern.{Pattern, Patterns, Rule}
-use Rattle.pegread.specs.Views.{rule_of, rules_of}
+use Rattle.pegread.specs.PegViews.{rule_of, rules_of}
 use Rattle.std.specs.Option.{option_map}
 use Rattle.pegread.specs.declared.expr.Expr.{Expr}
 use Rattle.pegread.specs.declared.expr.Expr.TheVariants as exprs

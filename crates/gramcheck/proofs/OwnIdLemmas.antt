@@ -14,7 +14,7 @@ use Rattle.std.proofs.lemmas.List.{length-map}
 use Rattle.std.proofs.lemmas.Option.{slice_get-get_or}
 use Rattle.pegread.specs.Pattern as expr
 use Rattle.pegread.specs.Pattern.{Pattern, Rule, body_of}
-use Rattle.pegread.specs.Views.{rule_of, rules_of}
+use Rattle.pegread.specs.PegViews.{rule_of, rules_of}
 use Rattle.pegread.specs.declared.expr.Expr.{Expr}
 use Rattle.gramcheck.specs.Nodes.{id_of}
 use Rattle.gramcheck.proofs.PushCasesLemmas.{mapped_from}

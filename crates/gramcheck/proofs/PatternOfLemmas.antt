@@ -2,7 +2,7 @@
 -- Serves: check_peg
 use Rattle.std.proofs.Common.{◌≡◌, ℕ, Bool, false, List, get_or, Vec, Box, Global, sym, ap, ◌∙◌}
 use Rattle.pegread.specs.Pattern as p
-use Rattle.pegread.specs.Views.{pattern_of, patterns_of, node_pattern}
+use Rattle.pegread.specs.PegViews.{pattern_of, patterns_of, node_pattern}
 use Rattle.pegread.specs.declared.expr.Expr.{Expr}
 use Rattle.pegread.specs.declared.expr.Expr.TheOpen.{Expr-F}
 use Rattle.pegread.specs.declared.expr.Expr.TheFolds.{fold-roll-Expr}

@@ -9,7 +9,7 @@ use Rattle.ruletable.specs.Rules.{Rules, HasUniqueNames, names_of}
 use Rattle.ruletable.specs.declared.table.NameCase.TheVariants.{Exact}
 use Rattle.rulenames.proofs.IsAddedLemmas.{own_place}
 use Rattle.pegread.specs.Pattern.{Rule}
-use Rattle.pegread.specs.Views.{rule_of, rules_of}
+use Rattle.pegread.specs.PegViews.{rule_of, rules_of}
 use Rattle.pegread.specs.declared.expr.Expr.{Expr}
 use Rattle.gramcheck.specs.Uses.{rule_names}
 

@@ -13,7 +13,7 @@ use Rattle.ruletable.specs.declared.table.NameCase.TheVariants.{Exact}
 use Rattle.rulenames.specs.NameUses.{no_uses}
 use Rattle.rulenames.proofs.IsScannedLemmas.{used_next}
 use Rattle.pegread.specs.Pattern.{Pattern, Rule}
-use Rattle.pegread.specs.Views.{patterns, patterns_of, pattern_of, rule_of, rules_of}
+use Rattle.pegread.specs.PegViews.{patterns, patterns_of, pattern_of, rule_of, rules_of}
 use Rattle.pegread.specs.declared.expr.Expr.{Expr}
 use Rattle.gramcheck.specs.GrammarNotes.{start_of}
 use Rattle.gramcheck.specs.Uses.{names_in, names_in_all, names_used, rule_names, AreUses}

@@ -2,7 +2,7 @@
 ghost use Rattle.std.specs.Prelude.{◌≡◌, ◌<◌, ◌≢◌, None, Option, List, ℕ, true, false, length, map, IfOk, IfSome, MatchOption, option_copied};
 ghost use Rattle.ruletable.specs.Notes.{said_of};
 ghost use Rattle.ruletable.specs.Rules.{find_in};
-ghost use Rattle.pegread.specs.Views.{rules_of};
+ghost use Rattle.pegread.specs.PegViews.{rules_of};
 ghost use Rattle.gramcheck.specs.Checked.{is_refused, IsStart};
 ghost use Rattle.gramcheck.specs.Defined.{IsGiven};
 ghost use Rattle.gramcheck.specs.Grammar.{IsSoundGrammar};

@@ -1,6 +1,6 @@
 //! Cuts the bodies of a grammar's rules into numbered nodes.
 ghost use Rattle.std.specs.Prelude.{◌≡◌, length, IfOk};
-ghost use Rattle.pegread.specs.Views.{rules_of};
+ghost use Rattle.pegread.specs.PegViews.{rules_of};
 ghost use Rattle.gramcheck.specs.Bodies.{AreBodies, AreNamed, IsBuilt};
 ghost use Rattle.gramcheck.specs.Nodes.{shapes_of};
 ghost use Rattle.gramcheck.specs.Numbering.{AreStanding};

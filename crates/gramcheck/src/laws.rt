@@ -1,7 +1,7 @@
 //! Laws of what expressions give at a place, and start rules at the front of an input.
 ghost use Rattle.std.specs.Prelude.{◌≡◌, ℕ, ◌<◌, ◌≤◌, ◌++◌, List, length};
 ghost use Rattle.pegread.specs.Pattern.{Pattern, Rule};
-ghost use Rattle.pegread.specs.Views.{rules_of};
+ghost use Rattle.pegread.specs.PegViews.{rules_of};
 ghost use Rattle.gramcheck.specs.Grammar.{Grammar, IsSoundGrammar};
 ghost use Rattle.gramcheck.specs.Outcome.{Event, Outcome, Gives, RuleGives};
 ghost use Rattle.gramcheck.specs.Rising.{Rise};

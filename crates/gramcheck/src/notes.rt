@@ -3,7 +3,7 @@ ghost use Rattle.std.specs.Prelude.{◌≡◌, ℕ, List, length, map, Option, I
 ghost use Rattle.std.specs.List.{list_any};
 ghost use Rattle.ruletable.specs.Notes.{Said, said_of};
 ghost use Rattle.pegread.specs.Pattern.{Rule};
-ghost use Rattle.pegread.specs.Views.{rules_of};
+ghost use Rattle.pegread.specs.PegViews.{rules_of};
 ghost use Rattle.gramcheck.specs.Left.{IsLeftRecursive, Loops};
 ghost use Rattle.gramcheck.specs.GrammarNotes.{AreMarks, AreNotes, AreRedefinitions, names_at, said_refuses};
 

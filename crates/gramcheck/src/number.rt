@@ -1,6 +1,6 @@
 //! Cuts expressions into numbered nodes.
 ghost use Rattle.std.specs.Prelude.{◌≡◌, List, ◌++◌, ◌∷◌, [], length, IfOk};
-ghost use Rattle.pegread.specs.Views.{pattern_of, patterns_of, rules_of};
+ghost use Rattle.pegread.specs.PegViews.{pattern_of, patterns_of, rules_of};
 ghost use Rattle.gramcheck.specs.Nodes.{id_of, shapes_of};
 ghost use Rattle.gramcheck.specs.Numbering.{Numbers, NumbersAll};
 

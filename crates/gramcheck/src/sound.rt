@@ -1,6 +1,6 @@
 //! Sound grammars.
 ghost use Rattle.std.specs.Prelude.{◌≡◌, ◌<◌, length, slice_get, Some};
-ghost use Rattle.pegread.specs.Views.{rules_of};
+ghost use Rattle.pegread.specs.PegViews.{rules_of};
 ghost use Rattle.gramcheck.specs.Grammar.{IsSoundGrammar};
 ghost use Rattle.gramcheck.specs.Nodes.{shapes_of};
 ghost use Rattle.gramcheck.specs.Sound.{IsRanked};
@@ -28,7 +28,7 @@ impl Model for SoundPeg {
     ghost use Rattle.gramcheck.specs.Nodes.{shapes_of};
     ghost use Rattle.gramcheck.specs.Sound.{IsRanked};
     ghost use Rattle.gramcheck.specs.contracts.node.Node as n;
-    ghost use Rattle.pegread.specs.Views.{rules_of};
+    ghost use Rattle.pegread.specs.PegViews.{rules_of};
     ghost use Rattle.pegread.specs.contracts.expr.Expr as e;
     ghost use Rattle.std.specs.Coded.{codes};
 

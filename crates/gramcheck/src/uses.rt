@@ -1,7 +1,7 @@
 //! The names that the rules' bodies use.
 ghost use Rattle.std.specs.Prelude.{◌≡◌, ℕ, List, ◌++◌, IfOk, option_copied, option_to_list};
 ghost use Rattle.pegread.specs.Pattern.{Rule};
-ghost use Rattle.pegread.specs.Views.{pattern_of, patterns_of, rules_of};
+ghost use Rattle.pegread.specs.PegViews.{pattern_of, patterns_of, rules_of};
 ghost use Rattle.gramcheck.specs.GrammarNotes.{start_of};
 ghost use Rattle.gramcheck.specs.Uses.{AreUses, names_in, names_in_all, names_used};
 

@@ -5,7 +5,7 @@ use Rattle.std.specs.Prelude.{Result, Ok, Err}
 use Rattle.std.specs.Io.KnownBytes.{Appends}
 use Rattle.ruletable.specs.Writing.{AppendsPart, IsBeginning}
 use Rattle.ruletable.specs.declared.sink.WriteFault.{WriteFault}
-use Rattle.pegread.specs.Views.{rules_of}
+use Rattle.pegread.specs.PegViews.{rules_of}
 use Rattle.gramcheck.specs.Grammar.{Grammar}
 use Rattle.gramcheck.specs.Outcome.{Outcome, Fails, Takes, Event}
 use Rattle.gramcheck.proofs.StartRuleLemmas.{rises_of_start, grows_of_start}

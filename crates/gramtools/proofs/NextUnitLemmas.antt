@@ -9,7 +9,7 @@ use Rattle.std.proofs.lemmas.List.{append-nil, take_all}
 use Rattle.ruletable.specs.declared.sink.WriteFault.{WriteFault}
 use Rattle.feed.specs.declared.held.Flow.{Flow}
 use Rattle.feed.specs.declared.held.Flow.TheVariants.{Ended, Broken}
-use Rattle.pegread.specs.Views.{rules_of}
+use Rattle.pegread.specs.PegViews.{rules_of}
 use Rattle.gramcheck.specs.Grammar.{Grammar, IsSoundGrammar}
 use Rattle.gramcheck.proofs.StartRuleLemmas.{rises_of_start}
 use Rattle.toolrun.specs.Agrees.{Agrees}

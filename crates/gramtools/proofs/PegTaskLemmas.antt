@@ -17,8 +17,8 @@ use Rattle.gramtools.specs.Answers.{States, refused, noted, checked, runs, again
 use Rattle.gramtools.specs.Checking.{IsChecked}
 use Rattle.gramtools.specs.Noted.{start_given}
 use Rattle.gramtools.specs.PegTask.{check_task, peg_does, run_task}
-use Rattle.gramtools.specs.Printing.{IsPrintable, Prints}
-use Rattle.gramtools.specs.Stopped.{unread}
+use Rattle.gramtools.specs.PegPrinting.{IsPrintable, Prints}
+use Rattle.gramtools.specs.PegStopped.{unread}
 use Rattle.gramtools.specs.Units.{none}
 use Rattle.gramtools.specs.declared.peg_task.PegTask.{PegTask}
 use Rattle.gramtools.proofs.SomeReplyLemmas.{units_go_on}

@@ -4,7 +4,7 @@ use Rattle.std.proofs.Common.{◌≡◌, ℕ, suc, zero, ◌+◌, ◌<◌, ◌�
 use Rattle.std.proofs.Math.Nat.{min-le_left, min-le_right, le-min}
 use Rattle.std.proofs.lemmas.Bool.{cases_lt, cases_eq}
 use Rattle.ruletable.proofs.AppendsLemmas.{IsBeginning-same, IsBeginning-trans}
-use Rattle.pegread.specs.Views.{rules_of}
+use Rattle.pegread.specs.PegViews.{rules_of}
 use Rattle.gramcheck.specs.Grammar.{Grammar, IsSoundGrammar}
 use Rattle.gramcheck.specs.Nodes.{shapes_of}
 use Rattle.gramcheck.specs.Outcome.{Outcome, Fails, Takes}
@@ -12,7 +12,7 @@ use Rattle.gramcheck.proofs.SomeOutcomeLemmas.{has_of_start}
 use Rattle.gramcheck.proofs.StartRuleLemmas.{rises_of_start}
 use Rattle.pegmatch.specs.Text.{text_of}
 use Rattle.toolrun.specs.Input.{Input}
-use Rattle.gramtools.specs.Reply.{Replies}
+use Rattle.gramtools.specs.PegReply.{Replies}
 use Rattle.toolrun.specs.Reply.{Reply}
 use Rattle.toolrun.specs.RunSteps.{Begins}
 use Rattle.toolrun.specs.Status.{code_of}

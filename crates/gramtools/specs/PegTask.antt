@@ -1,9 +1,9 @@
 -- What is left to do with a grammar when its notes are written. It serves private helpers alone.
 use Rattle.std.specs.Prelude.{◌≡◌, [], Option, Some, None, Result, Ok, Err}
 use Rattle.pegread.specs.Canon.{grammar_text}
-use Rattle.pegread.specs.Views.{rules_of}
+use Rattle.pegread.specs.PegViews.{rules_of}
 use Rattle.gramcheck.specs.Grammar.{Grammar}
-use Rattle.gramtools.specs.Reply.{RunStates}
+use Rattle.gramtools.specs.PegReply.{RunStates}
 use Rattle.gramtools.specs.declared.peg_task.PegTask.{PegTask}
 use Rattle.gramtools.specs.declared.peg_task.PegTask.TheVariants.{Prints, Runs}
 use Rattle.toolrun.specs.Input.{Input}

@@ -3,11 +3,11 @@ ghost use Rattle.std.specs.Prelude.{◌≡◌, ℕ, List, ◌+◌, [], length, f
 ghost use Rattle.std.specs.Io.KnownBytes.{Consumes};
 ghost use Rattle.ruletable.specs.Writing.{Flags};
 ghost use Rattle.feed.specs.Feed.{IsTrueOfReader, SameLoan, allowance_of, bytes_of, capacity_of, flow_of, input_limit, reader_of};
-ghost use Rattle.pegread.specs.Views.{rules_of};
+ghost use Rattle.pegread.specs.PegViews.{rules_of};
 ghost use Rattle.toolrun.specs.Agrees.{Agrees};
 ghost use Rattle.toolrun.specs.Input.{Input};
-ghost use Rattle.gramtools.specs.Reply.{RunStates};
-ghost use Rattle.gramtools.specs.Stopped.{IsCut};
+ghost use Rattle.gramtools.specs.PegReply.{RunStates};
+ghost use Rattle.gramtools.specs.PegStopped.{IsCut};
 ghost use Rattle.toolrun.specs.Stopped.{Performs};
 ghost use Rattle.toolrun.specs.Stream.{passed};
 

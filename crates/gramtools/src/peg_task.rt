@@ -5,7 +5,7 @@ ghost use Rattle.pegread.specs.Reading.{IsFaultOf};
 ghost use Rattle.gramtools.specs.Answers.{States};
 ghost use Rattle.gramtools.specs.Checking.{IsChecked};
 ghost use Rattle.gramtools.specs.PegTask.{check_task, peg_does, run_task};
-ghost use Rattle.gramtools.specs.Stopped.{unread};
+ghost use Rattle.gramtools.specs.PegStopped.{unread};
 ghost use Rattle.toolrun.specs.NotesText.{notes_text};
 ghost use Rattle.toolrun.specs.Plan.{IsPlan, does_of};
 ghost use Rattle.toolrun.specs.declared.settings.Mode.TheVariants.{Run, Check, Print};

@@ -3,7 +3,7 @@ ghost use Rattle.std.specs.Prelude.{◌≡◌, ◌≢◌, ℕ, List, Bool, ◌�
 ghost use Rattle.std.specs.Io.KnownBytes.{Keeps};
 ghost use Rattle.ruletable.specs.Writing.{Flags};
 ghost use Rattle.feed.specs.Feed.{Grows, IsTrueOfReader, SameFeed, SameLoan, allowance_of, bytes_of, capacity_of, flow_of, input_limit};
-ghost use Rattle.pegread.specs.Views.{rules_of};
+ghost use Rattle.pegread.specs.PegViews.{rules_of};
 ghost use Rattle.toolrun.specs.Agrees.{Agrees};
 ghost use Rattle.gramtools.specs.Attempts.{IsAttempt, IsStep, IsStepOn, StaysWithin, step_after, stop_at};
 ghost use Rattle.toolrun.specs.Input.{Input};

@@ -144,8 +144,14 @@ fn a_long_line_is_refused_at_its_last_letter(rt: HostRuntime) -> Result<(), Fail
     let out = Paper::new(rt.alloc(), 4096, &clock);
     let err = Paper::new(rt.alloc(), 4096, &clock);
     let tape = Tape::new(line.as_slice(), 4096, false);
-    let (status, _left, out, err) =
-        run_over(rt.alloc(), b"word = 1*ALPHA", &settings, tape, out, err);
+    let (status, _left, out, err) = run_over(
+        rt.alloc(),
+        b"word = 1*ALPHA",
+        &settings,
+        tape,
+        out,
+        err,
+    );
     assert!(rt; out.holds(b"no 9999\n") && err.holds(b""));
     assert_eq!(rt; status, Status::NoMatch);
     Ok(())

@@ -10,8 +10,8 @@ use Rattle.pegmatch.specs.Text.{is_word, Word, filled_piece, filled, cut_front, 
 use Rattle.gramcheck.specs.Nodes.{Shape, Act}
 use Rattle.gramcheck.specs.Outcome as event
 use Rattle.gramcheck.specs.Outcome.{Event}
-use Rattle.pegmatch.specs.Kept.{StandsFor, opened, closed, acted}
-use Rattle.pegmatch.specs.Printing.{event_text}
+use Rattle.pegmatch.specs.KeptEvents.{StandsFor, opened, closed, acted}
+use Rattle.pegmatch.specs.EventPrinting.{event_text}
 use Rattle.pegmatch.specs.declared.event.Kept.{Kept}
 use Rattle.pegmatch.specs.declared.event.Kept.TheVariants.{Acted}
 use Rattle.pegmatch.proofs.FilledRunLemmas.{AreWord, other_put, last_put}

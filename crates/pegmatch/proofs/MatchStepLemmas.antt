@@ -8,7 +8,7 @@ use Rattle.pegread.specs.Pattern.{Pattern, Patterns, none, more, Rule, Any, Byte
 use Rattle.gramcheck.specs.Nodes.{Shape, Spells, SpellAll, spell_none, spell_more}
 use Rattle.gramcheck.specs.Outcome.{Outcome, Fails, Takes, Gives, any_takes, any_at_end, set_takes, set_fails, set_at_end, bytes_take, bytes_fail, GivesAll, all_done, one_fails, rest_fails, rest_takes, seq, choice, GivesFirst, all_failed, first_takes, first_fails, begins_with, compared, looked_at}
 use Rattle.gramcheck.specs.Outcome as event
-use Rattle.pegmatch.specs.Kept.{StandFor, no_event, one_event, MatchesBy, IsMatch}
+use Rattle.pegmatch.specs.KeptEvents.{StandFor, no_event, one_event, MatchesBy, IsMatch}
 use Rattle.pegmatch.specs.declared.event.Kept.{Kept}
 use Rattle.cells.specs.declared.cell.Found.{Found}
 use Rattle.pegmatch.specs.declared.leaves.Tried.{Tried}

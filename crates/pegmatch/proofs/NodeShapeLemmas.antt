@@ -12,7 +12,7 @@ use Rattle.gramcheck.specs.Nodes.{Shape, shape_of, shapes_of, Spells}
 use Rattle.gramcheck.specs.Outcome.{Outcome, Fails, Takes, Gives, GivesAll, GivesFirst, name, seq, choice, act, open_at, close_at}
 use Rattle.gramcheck.proofs.OwnIdLemmas.{body_at_id}
 use Rattle.gramcheck.proofs.HasShapeLemmas.{has_shape}
-use Rattle.pegmatch.specs.Kept.{no_event, one_event, opened, closed, acted, quiet_outcome, MatchesBy, IsMatch, IsMatchOver, IsMatchOfAll, IsMatchOfFirst}
+use Rattle.pegmatch.specs.KeptEvents.{no_event, one_event, opened, closed, acted, quiet_outcome, MatchesBy, IsMatch, IsMatchOver, IsMatchOfAll, IsMatchOfFirst}
 use Rattle.pegmatch.specs.declared.event.Kept.{Kept}
 use Rattle.cells.specs.declared.cell.Found.{Found}
 use Rattle.pegmatch.specs.declared.leaves.Tried.{Tried}

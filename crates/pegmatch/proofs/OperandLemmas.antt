@@ -14,7 +14,7 @@ use Rattle.gramcheck.proofs.StepsToBodyLemmas.{bound, lower}
 use Rattle.gramcheck.proofs.HasShapeLemmas.{has_shape}
 use Rattle.gramcheck.proofs.NodeSpellsLemmas.{is_there}
 use Rattle.gramcheck.proofs.NullIfLemmas.{forward, null_of}
-use Rattle.pegmatch.specs.Kept.{SpellsSome, MatchesBy, IsMatch}
+use Rattle.pegmatch.specs.KeptEvents.{SpellsSome, MatchesBy, IsMatch}
 use Rattle.pegmatch.specs.declared.event.Kept.{Kept}
 use Rattle.cells.specs.declared.cell.Found.{Found}
 use Rattle.pegmatch.specs.declared.leaves.Tried.{Tried}

@@ -6,7 +6,7 @@ use Rattle.pegread.specs.Pattern.{Pattern, Rule}
 use Rattle.gramcheck.specs.Sound.{IsRanked}
 use Rattle.gramcheck.specs.Nodes.{Shape}
 use Rattle.gramcheck.specs.Outcome.{Outcome, Gives, RuleGives}
-use Rattle.pegmatch.specs.Kept.{MatchesBy, IsMatch}
+use Rattle.pegmatch.specs.KeptEvents.{MatchesBy, IsMatch}
 use Rattle.pegmatch.specs.declared.event.Kept.{Kept}
 use Rattle.cells.specs.declared.cell.Found.{Found}
 use Rattle.pegmatch.specs.declared.leaves.Tried.{Tried}

@@ -5,7 +5,7 @@ use Rattle.pegread.specs.Pattern.{Pattern, Rule, Star, Plus, Opt, And, Not}
 use Rattle.gramcheck.specs.Nodes.{Shape, Spells}
 use Rattle.gramcheck.specs.Outcome as event
 use Rattle.gramcheck.specs.Outcome.{Outcome, Fails, Takes, Gives, opt_takes, opt_none, star_none, star_more, plus_fails, plus_takes, and_takes, and_fails, not_takes, not_fails}
-use Rattle.pegmatch.specs.Kept.{StandFor, no_event, MatchesBy, IsMatch, IsMatchOver, IsSeen}
+use Rattle.pegmatch.specs.KeptEvents.{StandFor, no_event, MatchesBy, IsMatch, IsMatchOver, IsSeen}
 use Rattle.pegmatch.specs.declared.event.Kept.{Kept}
 use Rattle.cells.specs.declared.cell.Found.{Found}
 use Rattle.pegmatch.specs.declared.leaves.Tried.{Tried}

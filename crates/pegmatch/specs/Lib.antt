@@ -1,4 +1,4 @@
 pub mod Answers
-pub mod Kept
+pub mod KeptEvents
 pub mod Text
-pub mod Printing
+pub mod EventPrinting

@@ -2,7 +2,7 @@
 ghost use Rattle.std.specs.Prelude.{◌≡◌, ◌≤◌, List, [], ◌∷◌, ◌++◌, length, false, get_or, IfOk, OnOk};
 ghost use Rattle.pegread.specs.Pattern.{Pattern, Rule};
 ghost use Rattle.gramcheck.specs.Outcome.{Gives};
-ghost use Rattle.pegmatch.specs.Kept.{quiet_outcome, EndsWithin};
+ghost use Rattle.pegmatch.specs.KeptEvents.{quiet_outcome, EndsWithin};
 
 use crate::compare::{compare, looked_after};
 use crate::event::Kept;

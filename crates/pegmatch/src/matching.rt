@@ -1,11 +1,11 @@
 //! What a node gives at a place, by recursion over the nodes.
 ghost use Rattle.std.specs.Prelude.{◌≡◌, ◌≤◌, length, slice_get, Some, IfOk, OnOk};
 ghost use Rattle.pegread.specs.Pattern.{Pattern};
-ghost use Rattle.pegread.specs.Views.{rules_of};
+ghost use Rattle.pegread.specs.PegViews.{rules_of};
 ghost use Rattle.gramcheck.specs.Grammar.{IsSoundGrammar};
 ghost use Rattle.gramcheck.specs.Nodes.{Shape, shapes_of};
 ghost use Rattle.gramcheck.specs.Ranks.{IsNullNode};
-ghost use Rattle.pegmatch.specs.Kept.{SpellsSome, IsMatch, IsMatchOfAll, IsMatchOfFirst, IsMatchOver, IsSeen, EndsWithin};
+ghost use Rattle.pegmatch.specs.KeptEvents.{SpellsSome, IsMatch, IsMatchOfAll, IsMatchOfFirst, IsMatchOver, IsSeen, EndsWithin};
 
 use crate::compare::further;
 use crate::event::Kept;

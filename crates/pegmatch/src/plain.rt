@@ -3,7 +3,7 @@ ghost use Rattle.std.specs.Prelude.{◌≡◌, ℕ, ◌<◌, List, [], length, t
 ghost use Rattle.gramcheck.specs.Outcome.{Event};
 ghost use Rattle.gramcheck.specs.Nodes.{shapes_of};
 ghost use Rattle.pegmatch.specs.Answers.{IsAnswer, HoldsSuccess, Replays};
-ghost use Rattle.pegmatch.specs.Kept.{StandFor, IsEmptyUnlessTook};
+ghost use Rattle.pegmatch.specs.KeptEvents.{StandFor, IsEmptyUnlessTook};
 ghost use Rattle.pegmatch.specs.Text.{text_of};
 
 use crate::event::Kept;

@@ -3,7 +3,7 @@ ghost use Rattle.std.specs.Prelude.{◌≡◌, ◌≤◌, ℕ, List, length};
 ghost use Rattle.gramcheck.specs.Nodes.{shapes_of};
 ghost use Rattle.gramcheck.specs.Outcome.{Event};
 ghost use Rattle.gramcheck.specs.Rising.{Rise};
-ghost use Rattle.pegmatch.specs.Kept.{StandFor};
+ghost use Rattle.pegmatch.specs.KeptEvents.{StandFor};
 ghost use Rattle.pegmatch.specs.Text.{text_of};
 ghost use Rattle.ruletable.specs.Writing.{Writes, Flags};
 

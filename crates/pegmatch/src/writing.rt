@@ -3,8 +3,8 @@ ghost use Rattle.std.specs.Prelude.{◌≡◌, ◌≤◌, ◌++◌, ◌∷◌, [
 ghost use Rattle.gramcheck.specs.Nodes.{shapes_of};
 ghost use Rattle.gramcheck.specs.Outcome.{Event};
 ghost use Rattle.ruletable.specs.Writing.{Writes, Flags};
-ghost use Rattle.pegmatch.specs.Kept.{StandsFor};
-ghost use Rattle.pegmatch.specs.Printing.{capture_by, event_text};
+ghost use Rattle.pegmatch.specs.KeptEvents.{StandsFor};
+ghost use Rattle.pegmatch.specs.EventPrinting.{capture_by, event_text};
 ghost use Rattle.pegmatch.specs.Text.{is_word, is_blank, Piece, filled_piece, filled, cut_front, trimmed, printed};
 
 use crate::event::Kept;

@@ -12,7 +12,7 @@ use Rattle.ruletable.specs.declared.table.Defined.TheVariants.{Added, Duplicate}
 use Rattle.pegread.specs.declared.expr.Expr.{Expr}
 use Rattle.pegread.specs.declared.reader.Definition.{Definition}
 use Rattle.pegread.specs.Pattern.{Rule}
-use Rattle.pegread.specs.Views.{rule_of, rules_of}
+use Rattle.pegread.specs.PegViews.{rule_of, rules_of}
 use Rattle.pegread.specs.Definitions.{id_in, firsts, agains, IsTableOf}
 use Rattle.pegread.specs.Steps.{rule_from}
 

@@ -14,7 +14,7 @@ use Rattle.pegread.specs.declared.place.Place.{Place}
 use Rattle.pegread.specs.Brackets.{around, wraps}
 use Rattle.pegread.specs.Canon.{text_of, joined, more_joined, definition_text, grammar_text}
 use Rattle.pegread.specs.Pattern.{Pattern, Patterns, none, more}
-use Rattle.pegread.specs.Views.{pattern_of, patterns_of, rule_of}
+use Rattle.pegread.specs.PegViews.{pattern_of, patterns_of, rule_of}
 
 -- A beginning of the whole text has been taken, and what is left goes on from there.
 pub record Leaves (a b : Option (List ℕ)) (whole left : List ℕ) : Type 0 where

@@ -8,7 +8,7 @@ use Rattle.pegread.specs.declared.expr.Expr.TheVariants as exprs
 use Rattle.pegread.specs.Pattern.{Pattern, Seq, Choice, more}
 use Rattle.pegread.specs.Spelling.{sequence, choice}
 use Rattle.pegread.specs.Machine.{snoc}
-use Rattle.pegread.specs.Views.{pattern_of, patterns_of, node_pattern}
+use Rattle.pegread.specs.PegViews.{pattern_of, patterns_of, node_pattern}
 
 pub pattern_of-seq : (v : Vec Expr Global) → pattern_of (exprs.Seq v) ≡ Seq (patterns_of v.items)
 pattern_of-seq v = ap pattern_of (sym (exprs.rolls-Seq v)) ∙ fold-roll-Expr Pattern node_pattern (Expr-F.Seq v)

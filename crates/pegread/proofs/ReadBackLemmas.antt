@@ -9,7 +9,7 @@ use Rattle.pegread.specs.Formed.{AreBytes}
 use Rattle.pegread.specs.Pattern.{Rule}
 use Rattle.pegread.specs.ReadBack.{ReadsAs, IsRead}
 use Rattle.pegread.specs.Reading.{Reads}
-use Rattle.pegread.specs.Views.{rules_of}
+use Rattle.pegread.specs.PegViews.{rules_of}
 use Rattle.pegread.proofs.CutsLemmas.{placed}
 use Rattle.pegread.proofs.CutsRulesLemmas.{cuts-rules}
 use Rattle.pegread.proofs.IsFaultOfLemmas.{one-reading}

@@ -4,7 +4,7 @@ use Rattle.ruletable.specs.Rules as table
 use Rattle.ruletable.specs.declared.table.NameCase.TheVariants.{Exact}
 use Rattle.pegread.specs.declared.expr.Expr.{Expr}
 use Rattle.pegread.specs.Pattern.{Rule}
-use Rattle.pegread.specs.Views.{rules_of}
+use Rattle.pegread.specs.PegViews.{rules_of}
 
 -- the place of the rule of that name among these
 abbrev pub id_in : List Rule → List ℕ → Option ℕ

@@ -22,5 +22,5 @@ pub mod Slices
 pub mod Spelling
 pub mod Steps
 pub mod Tokens
-pub mod Views
+pub mod PegViews
 pub mod Words

@@ -18,7 +18,7 @@ use Rattle.pegread.specs.Words as words
 use Rattle.pegread.specs.Words.{Word, Says}
 use Rattle.pegread.specs.Tokens.{Tok}
 use Rattle.pegread.specs.Machine.{Config, start, named, body, done, Head, head, Level, level, Last, fresh, read, read_name, Mark, no_mark, not_mark, and_mark, fresh_step, read_step, name_step, close_step, end_step, ended, finish, snoc, apply, step}
-use Rattle.pegread.specs.Views.{pattern_of, patterns_of}
+use Rattle.pegread.specs.PegViews.{pattern_of, patterns_of}
 
 -- what the code's word stands for
 abbrev pub word_of : CodeWord → Word

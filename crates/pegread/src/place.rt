@@ -1,7 +1,7 @@
 //! Where an expression needs parentheses.
 ghost use Rattle.std.specs.Prelude.{◌≡◌};
 ghost use Rattle.pegread.specs.Brackets as brackets;
-ghost use Rattle.pegread.specs.Views.{pattern_of};
+ghost use Rattle.pegread.specs.PegViews.{pattern_of};
 
 use crate::expr::Expr;
 

@@ -4,7 +4,7 @@ ghost use Rattle.ruletable.specs.Writing.{Writes, Flags};
 ghost use Rattle.pegread.specs.Brackets.{wraps, around};
 ghost use Rattle.pegread.specs.Canon as canon;
 ghost use Rattle.pegread.specs.ReadBack.{IsRead, ReadsAs, ReadsFormed, ReadBack, SpansUnseen, PrintsItself};
-ghost use Rattle.pegread.specs.Views.{pattern_of, patterns_of, rules_of};
+ghost use Rattle.pegread.specs.PegViews.{pattern_of, patterns_of, rules_of};
 
 use crate::expr::{Expr, Peg};
 use crate::place::{Place, is_wrapped};

@@ -3,7 +3,7 @@ ghost use Rattle.std.specs.Prelude.{◌≡◌, ◌++◌, ◌∷◌, [], IfOk};
 ghost use Rattle.pegread.specs.Spelling.{sequence as sequence_of, choice as choice_of};
 ghost use Rattle.pegread.specs.Machine.{step, close_step, finish, ended, apply, levels_in, snoc, level as a_level, body as a_body, head, no_mark, fresh as is_fresh};
 ghost use Rattle.pegread.specs.Pattern.{none, Name};
-ghost use Rattle.pegread.specs.Views.{pattern_of, patterns_of};
+ghost use Rattle.pegread.specs.PegViews.{pattern_of, patterns_of};
 ghost use Rattle.pegread.specs.Steps.{Steps, config_of, config_with, with_mark, head_of, level_of, levels_of, mark_of, rules_from, word_of, step_fresh, step_unmarked, step_read, step_name, AddsItem, IsOpened, HasNewSequence};
 
 use crate::expr::Expr;

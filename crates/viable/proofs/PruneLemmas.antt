@@ -9,7 +9,7 @@ use Rattle.letters.specs.Letters.{has as in_alphabet, HasLetter}
 use Rattle.letters.specs.declared.alphabet.Alphabet.{Alphabet}
 use Rattle.abnfread.specs.Element as e
 use Rattle.abnfread.specs.Element.{Element, Elements, none, more, Rule, bodies, body_of, id_of}
-use Rattle.abnfread.specs.Views.{element_of, elements, elements_of}
+use Rattle.abnfread.specs.AbnfViews.{element_of, elements, elements_of}
 use Rattle.abnfread.specs.declared.elem.Elem.{Elem}
 use Rattle.abnfcheck.specs.Derivable as der
 use Rattle.abnfcheck.specs.Derivable.{AreLetters, Derives, DerivesAll, DerivesSome, DerivesTimes, then, this, later, no_more, one_more, RuleDerives}

@@ -9,7 +9,7 @@ use Rattle.ruletable.specs.declared.table.Defined.{Defined}
 use Rattle.ruletable.specs.declared.table.Defined.TheVariants.{Added, Duplicate}
 use Rattle.ruletable.specs.declared.table.NameCase.TheVariants.{Fold}
 use Rattle.abnfread.specs.Element.{Element, bodies, id_of}
-use Rattle.abnfread.specs.Views.{element_of, rule_of, rules_of}
+use Rattle.abnfread.specs.AbnfViews.{element_of, rule_of, rules_of}
 use Rattle.abnfread.specs.declared.elem.Elem.{Elem}
 use Rattle.rulenames.proofs.IsAddedLemmas.{name_next}
 use Rattle.flatgrammar.proofs.BeforeLemmas.{get_below}

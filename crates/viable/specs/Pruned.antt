@@ -1,7 +1,7 @@
 -- Elements and rules without the parts that derive no list of letters.
 use Rattle.std.specs.Prelude.{◌≡◌, ℕ, Bool, List, length, slice_get, Option, Some, None, Vec}
 use Rattle.abnfread.specs.Element.{Element, Elements, Text, Values, Range, Concat, Alt, Rep, Opt, Name, Prose, none, more, Rule, bodies, id_of}
-use Rattle.abnfread.specs.Views.{element_of, elements_of}
+use Rattle.abnfread.specs.AbnfViews.{element_of, elements_of}
 use Rattle.abnfread.specs.declared.elem.Elem.{Elem}
 use Rattle.abnfcheck.specs.Derivable.{AreLetters, Derives, DerivesAll, Within}
 use Rattle.letters.specs.Letters.{HasLetter}

@@ -1,7 +1,7 @@
 //! From a sound grammar to a flat one of its productive parts.
 ghost use Rattle.std.specs.Prelude.{◌+◌, ◌≤◌, IfOk};
 ghost use Rattle.abnfread.specs.Element.{bodies};
-ghost use Rattle.abnfread.specs.Views.{rules_of};
+ghost use Rattle.abnfread.specs.AbnfViews.{rules_of};
 ghost use Rattle.flatgrammar.specs.Places.{places, sizes};
 ghost use Rattle.flatgrammar.specs.ToldBeginnings.{TellsBeginnings};
 ghost use Rattle.letters.specs.Letters.{has};

@@ -3,7 +3,7 @@ use Rattle.std.proofs.Common.{◌∙◌, ap, arith, length, subst, sym, length-a
 use Rattle.std.specs.Prelude.{option_copied}
 use Rattle.std.proofs.lemmas.List.{length-map}
 use Rattle.ruletable.specs.Rules.{names_of}
-use Rattle.abnfread.specs.Views.{rule_of, rules_of}
+use Rattle.abnfread.specs.AbnfViews.{rule_of, rules_of}
 use Rattle.abnfcheck.specs.AbnfGrammar.{IsSound}
 use Rattle.abnfcheck.specs.AbnfNotes.{judged_in, IsRefused}
 use Rattle.abnfcheck.specs.Joined.{joined}

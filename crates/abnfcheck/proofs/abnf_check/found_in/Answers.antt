@@ -5,7 +5,7 @@ use Rattle.std.proofs.lemmas.List.{length-map}
 use Rattle.leastset.proofs.RowsOfLemmas.{length-rows}
 use Rattle.rulenames.specs.IdMarks.{AreMarks}
 use Rattle.abnfread.specs.Element.{Rule}
-use Rattle.abnfread.specs.Views.{rule_of, rules_of}
+use Rattle.abnfread.specs.AbnfViews.{rule_of, rules_of}
 use Rattle.abnfcheck.specs.ProseIn.{prose_in}
 use Rattle.abnfcheck.proofs.AbnfNotesLemmas.{are_notes}
 use Rattle.abnfcheck.proofs.GraphLemmas.{judged_at, rows_long, steps_within}

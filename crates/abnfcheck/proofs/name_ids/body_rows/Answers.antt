@@ -9,7 +9,7 @@ use Rattle.rulenames.specs.FirstUses.{news}
 use Rattle.rulenames.specs.NameUses.{IsScanned, no_uses}
 use Rattle.rulenames.proofs.IsScannedLemmas.{scan_grows}
 use Rattle.abnfread.specs.Element.{bodies}
-use Rattle.abnfread.specs.Views.{element_of, rules_of}
+use Rattle.abnfread.specs.AbnfViews.{element_of, rules_of}
 use Rattle.abnfcheck.specs.AbnfUses.{names_in, names_used}
 use Rattle.abnfcheck.specs.NameIds.{AreRowsTo}
 use Rattle.abnfcheck.proofs.NameIdsLemmas.{body_shown, next_names, next_rows}

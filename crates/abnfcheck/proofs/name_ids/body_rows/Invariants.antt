@@ -4,7 +4,7 @@ use Rattle.leastset.specs.StepRows.{rows_of}
 use Rattle.ruletable.specs.Rules.{names_of}
 use Rattle.ruletable.specs.declared.table.NameCase.TheVariants.{Fold}
 use Rattle.rulenames.specs.FirstUses.{news}
-use Rattle.abnfread.specs.Views.{rules_of}
+use Rattle.abnfread.specs.AbnfViews.{rules_of}
 use Rattle.abnfcheck.specs.AbnfUses.{names_used}
 use Rattle.abnfcheck.specs.NameIds.{AreRowsTo}
 use Rattle.abnfcheck.proofs.name_ids.body_rows.Given as goal

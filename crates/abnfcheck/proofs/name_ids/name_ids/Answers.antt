@@ -5,7 +5,7 @@ use Rattle.std.proofs.lemmas.List.{length-map}
 use Rattle.leastset.specs.StepRows.{rows_of}
 use Rattle.leastset.proofs.RowsOfLemmas.{length-rows}
 use Rattle.ruletable.specs.Rules.{names_of}
-use Rattle.abnfread.specs.Views.{rules_of}
+use Rattle.abnfread.specs.AbnfViews.{rules_of}
 use Rattle.abnfcheck.specs.AbnfUses.{rule_names}
 use Rattle.abnfcheck.proofs.NameIdsLemmas.{first_known, graph_from, names_same, rows_fit}
 use Rattle.abnfcheck.proofs.name_ids.name_ids.Goals as goal

@@ -3,7 +3,7 @@ use Rattle.std.proofs.Common.{◌∙◌, ap, length, sym}
 use Rattle.std.proofs.lemmas.List.{length-map}
 use Rattle.ruletable.specs.Rules as table
 use Rattle.abnfread.specs.declared.elem.Elem.{Elem}
-use Rattle.abnfread.specs.Views.{rule_of, rules_of}
+use Rattle.abnfread.specs.AbnfViews.{rule_of, rules_of}
 use Rattle.abnfcheck.proofs.YieldsLemmas.{productive_marks}
 use Rattle.abnfcheck.proofs.productive_marks.productive.Goals as goal
 

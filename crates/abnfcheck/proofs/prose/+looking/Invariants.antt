@@ -1,6 +1,6 @@
 -- Whether prose stands in one of the members is decided by those that are left.
 use Rattle.std.proofs.Common.{◌≡◌, drop}
-use Rattle.abnfread.specs.Views.{elements_of}
+use Rattle.abnfread.specs.AbnfViews.{elements_of}
 use Rattle.abnfcheck.specs.ProseIn.{prose_in_one}
 use Rattle.abnfcheck.proofs.prose.+looking.Given as goal
 

@@ -1,6 +1,6 @@
 -- The mark of one more rule.
 use Rattle.std.proofs.Common.{ap, sym, ◌∙◌, ◌++◌, ◌∷◌, [], take}
-use Rattle.abnfread.specs.Views.{element_of, rules_of}
+use Rattle.abnfread.specs.AbnfViews.{element_of, rules_of}
 use Rattle.abnfcheck.specs.ProseIn.{prose_marks}
 use Rattle.abnfcheck.proofs.NameIdsLemmas.{body_shown}
 use Rattle.abnfcheck.proofs.NameMarksLemmas.{prose_next}

@@ -1,6 +1,6 @@
 -- The marks of the rules so far.
 use Rattle.std.proofs.Common.{◌≡◌, take}
-use Rattle.abnfread.specs.Views.{rules_of}
+use Rattle.abnfread.specs.AbnfViews.{rules_of}
 use Rattle.abnfcheck.specs.ProseIn.{prose_marks}
 use Rattle.abnfcheck.proofs.prose.rules_with_prose.Given as goal
 

@@ -1,7 +1,7 @@
 -- The need of each kind of element, and of one more member.
 use Rattle.std.proofs.Common.{sym}
 use Rattle.std.proofs.lemmas.List.{length-map}
-use Rattle.abnfread.specs.Views.{rule_of}
+use Rattle.abnfread.specs.AbnfViews.{rule_of}
 use Rattle.abnfread.proofs.ElementLemmas.{element-Text, element-Values, element-Range, element-Concat, element-Alt, element-Rep, element-Opt, element-Name, element-Prose}
 use Rattle.abnfcheck.specs.RuleMarks.{of_concat, of_alt}
 use Rattle.abnfcheck.proofs.ElementNeedsLemmas as o

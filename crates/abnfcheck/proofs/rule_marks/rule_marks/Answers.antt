@@ -3,7 +3,7 @@ use Rattle.std.proofs.Common.{◌≡◌, ◌∙◌, ap, subst, sym, arith, lengt
 use Rattle.std.proofs.lemmas.List.{length-map}
 use Rattle.leastset.specs.Demands.{AreNeedsWithin, demand_of, demands_of, owned_demands_of}
 use Rattle.leastset.specs.Least.{AreMarksOfThose}
-use Rattle.abnfread.specs.Views.{rules_of}
+use Rattle.abnfread.specs.AbnfViews.{rules_of}
 use Rattle.abnfcheck.proofs.YieldsLemmas.{marks_for}
 use Rattle.abnfcheck.proofs.rule_marks.rule_marks.Goals as goal
 

@@ -1,5 +1,5 @@
 -- A rule derives the empty list exactly if it derives a list that is empty.
-use Rattle.abnfread.specs.Views.{rules_of}
+use Rattle.abnfread.specs.AbnfViews.{rules_of}
 use Rattle.abnfcheck.proofs.YieldsLemmas.{null_marks}
 use Rattle.abnfcheck.proofs.rule_marks.rule_nulls.Goals as goal
 

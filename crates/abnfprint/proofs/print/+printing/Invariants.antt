@@ -1,5 +1,5 @@
 use Rattle.std.proofs.Common.{◌≡◌, drop}
-use Rattle.abnfread.specs.Views.{elements_of}
+use Rattle.abnfread.specs.AbnfViews.{elements_of}
 use Rattle.abnfprint.specs.CanonicalAbnf.{joined}
 use Rattle.abnfprint.proofs.LeftTextLemmas.{Leaves, left_of}
 use Rattle.abnfprint.proofs.print.+printing.Given as goal

@@ -1,5 +1,5 @@
 use Rattle.std.proofs.Common.{◌≡◌, drop, map}
-use Rattle.abnfread.specs.Views.{rule_of, rules_of}
+use Rattle.abnfread.specs.AbnfViews.{rule_of, rules_of}
 use Rattle.abnfprint.specs.CanonicalAbnf.{grammar_text}
 use Rattle.abnfprint.proofs.LeftTextLemmas.{Leaves}
 use Rattle.abnfprint.proofs.print.print_abnf.Given as goal

@@ -1,5 +1,5 @@
 use Rattle.std.proofs.Common.{◌≡◌, ℕ, List, [], ◌∷◌, ◌++◌, append_assoc, codes}
-use Rattle.abnfread.specs.Views.{element_of}
+use Rattle.abnfread.specs.AbnfViews.{element_of}
 use Rattle.abnfprint.specs.CanonicalAbnf.{text_of}
 use Rattle.abnfprint.proofs.LeftTextLemmas.{leaves-all, leaves-rest, leaves-part, leaves-last, leaves-at}
 use Rattle.abnfprint.proofs.print.print_definition.Goals as goal

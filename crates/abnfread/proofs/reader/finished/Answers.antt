@@ -2,7 +2,7 @@ use Rattle.std.proofs.Common.{◌∙◌, ap}
 use Rattle.abnfread.specs.AbnfMachine.{snoc}
 use Rattle.abnfread.specs.AbnfSpelling.{alternation}
 use Rattle.abnfread.specs.Element.{Element}
-use Rattle.abnfread.specs.Views.{elements_of}
+use Rattle.abnfread.specs.AbnfViews.{elements_of}
 use Rattle.abnfread.proofs.ElementListLemmas.{elements_of-push}
 use Rattle.abnfread.proofs.reader.finished.Goals as goal
 

@@ -1,6 +1,6 @@
 use Rattle.std.proofs.Common.{◌≡◌, [], refl, sym, ap, ◌∙◌, arith}
 use Rattle.abnfread.specs.AbnfSpelling.{alternation}
-use Rattle.abnfread.specs.Views.{elements_of}
+use Rattle.abnfread.specs.AbnfViews.{elements_of}
 use Rattle.abnfread.proofs.AbnfMachineLemmas.{append-none}
 use Rattle.abnfread.proofs.FirstBodyLemmas.{one-joined, length-none}
 use Rattle.abnfread.proofs.table.join.Goals as goal

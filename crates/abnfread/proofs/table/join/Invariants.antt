@@ -1,7 +1,7 @@
 use Rattle.std.proofs.Common.{◌≡◌}
 use Rattle.abnfread.specs.AbnfMachine.{append}
 use Rattle.abnfread.specs.AbnfTable.{alternatives_of}
-use Rattle.abnfread.specs.Views.{element_of, elements_of}
+use Rattle.abnfread.specs.AbnfViews.{element_of, elements_of}
 use Rattle.abnfread.proofs.table.join.Given as goal
 
 -- the alternatives so far and those that are left are all

@@ -2,7 +2,7 @@
 use Rattle.std.proofs.Common.{◌≡◌, [], map, arith, refl}
 use Rattle.std.proofs.lemmas.Bool.Decides.{nat_tests}
 use Rattle.ruletable.specs.Notes.{said_of}
-use Rattle.abnfread.specs.Views.{rules_of}
+use Rattle.abnfread.specs.AbnfViews.{rules_of}
 use Rattle.abnfrun.proofs.AbnfTaskLemmas.{unread-plan, again-plan, length-none, some_said, printed-states}
 use Rattle.abnfrun.proofs.abnf_task.plan_print.Goals as goal
 

@@ -1,6 +1,6 @@
 -- The chart tells whether the judged rule derives the letters, and how far they begin what it derives.
 use Rattle.std.proofs.Common.{map}
-use Rattle.abnfread.specs.Views.{rules_of}
+use Rattle.abnfread.specs.AbnfViews.{rules_of}
 use Rattle.abnfrun.proofs.IsAnswerOnLemmas.{judge_says, verdict_says}
 use Rattle.abnfrun.proofs.line_judge.judge_letters.Goals as goal
 use Rattle.letters.specs.Letters.{has}

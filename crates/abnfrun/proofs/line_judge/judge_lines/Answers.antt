@@ -1,5 +1,5 @@
 -- Memory was refused before the first line, or the lines were judged.
-use Rattle.abnfread.specs.Views.{rules_of}
+use Rattle.abnfread.specs.AbnfViews.{rules_of}
 use Rattle.abnfrun.specs.AbnfReply.{AnswersFor}
 use Rattle.lines.proofs.LineRunLemmas.{no_line_was_run}
 use Rattle.abnfrun.proofs.line_judge.judge_lines.Goals as goal

@@ -1,5 +1,5 @@
 -- The line is UTF-8, and its code points have this answer.
-use Rattle.abnfread.specs.Views.{rules_of}
+use Rattle.abnfread.specs.AbnfViews.{rules_of}
 use Rattle.abnfrun.proofs.IsAnswerToLemmas.{text_answer}
 use Rattle.abnfrun.proofs.line_judge.judge_points.Goals as goal
 use Rattle.letters.specs.Utf8Text.{numbers}

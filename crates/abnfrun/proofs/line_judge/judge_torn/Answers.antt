@@ -1,7 +1,7 @@
 -- The line's longest beginning that is UTF-8 is decoded, and its code points have this answer.
 use Rattle.std.proofs.Common.{◌≡◌, arith, length}
 use Rattle.std.proofs.lemmas.List.{length-map}
-use Rattle.abnfread.specs.Views.{rules_of}
+use Rattle.abnfread.specs.AbnfViews.{rules_of}
 use Rattle.abnfrun.proofs.IsAnswerToLemmas.{decoded, torn_answer}
 use Rattle.abnfrun.proofs.line_judge.judge_torn.Goals as goal
 use Rattle.letters.specs.Utf8Text.{number, numbers}

@@ -1,6 +1,6 @@
 use Rattle.std.proofs.Common.{◌≤◌, arith, sym, ◌∙◌, length, take_all, refl}
 use Rattle.std.proofs.Math.Seq.{map-set_same}
-use Rattle.cells.specs.Kept.{entry_of}
+use Rattle.cells.specs.CellEntries.{entry_of}
 use Rattle.cells.proofs.AreLinkedLemmas.{AreLinked-none, AreLinked-set}
 use Rattle.cells.proofs.link.relink.Goals as goal
 

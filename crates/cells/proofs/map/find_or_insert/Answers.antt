@@ -1,6 +1,6 @@
 use Rattle.std.proofs.Common.{◌≡◌, ◌++◌, length, sym, ◌∙◌}
 use Rattle.std.proofs.Common.{take, drop}
-use Rattle.cells.specs.Kept.{IsAt, IsNowhere, entries_of, found_of}
+use Rattle.cells.specs.CellEntries.{IsAt, IsNowhere, entries_of, found_of}
 use Rattle.cells.proofs.IsKeptLemmas.{free_nowhere, known_new, known_old, take-whole}
 use Rattle.cells.proofs.map.find_or_insert.Goals as goal
 

@@ -1,5 +1,5 @@
 use Rattle.std.proofs.Common.{◌≡◌, ◌<◌, ◌++◌, length, arith, sym, ◌∙◌}
-use Rattle.cells.specs.Kept.{IsKept}
+use Rattle.cells.specs.CellEntries.{IsKept}
 use Rattle.std.proofs.Common.{take, drop, take_all}
 use Rattle.cells.proofs.AreLinkedLemmas.{zeros}
 use Rattle.cells.proofs.IsKeptLemmas.{IsKept-more, IsKept-relinked, take-whole}

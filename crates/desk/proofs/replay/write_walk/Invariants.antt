@@ -2,7 +2,7 @@ use Rattle.std.proofs.Common.{◌≡◌, ◌≤◌, List, length}
 use Rattle.gramcheck.specs.Nodes.{shapes_of}
 use Rattle.gramcheck.specs.Outcome.{Event}
 use Rattle.gramcheck.specs.Rising.{Rise}
-use Rattle.pegread.specs.Views.{rules_of}
+use Rattle.pegread.specs.PegViews.{rules_of}
 use Rattle.desk.specs.Path.{Walks, weight}
 use Rattle.desk.proofs.HasWrittenLemmas.{HasWritten}
 use Rattle.desk.proofs.replay.write_walk.Given as goal

@@ -1,6 +1,6 @@
 use Rattle.std.proofs.Common.{◌∷◌, ap, None, refl, arith, length}
 use Rattle.std.proofs.lemmas.List.{length-map}
-use Rattle.pegread.specs.Views.{rules_of}
+use Rattle.pegread.specs.PegViews.{rules_of}
 use Rattle.gramcheck.specs.Nodes.{shape_of, shapes_of}
 use Rattle.gramcheck.proofs.NodeSpellsLemmas.{is_there}
 use Rattle.desk.specs.Desk.{beginning}

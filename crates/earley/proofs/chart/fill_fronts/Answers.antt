@@ -3,7 +3,7 @@ use Rattle.earley.specs.declared.front.Front.{Front}
 use Rattle.earley.specs.Charts.{IsBuilt}
 use Rattle.earley.specs.FrontViews.{view, views}
 use Rattle.earley.specs.Waiting.{AreWaiting, AreWaitingAll}
-use Rattle.earley.proofs.WaitingLemmas.{waiting_push}
+use Rattle.earley.proofs.WaitAllLemmas.{waiting_push}
 use Rattle.earley.proofs.IsBuiltLemmas.{built_exact}
 use Rattle.earley.proofs.ViewsLemmas.{going_from, built_by}
 use Rattle.earley.proofs.ChartSetsLemmas.{sized_push}

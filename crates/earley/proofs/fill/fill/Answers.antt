@@ -4,7 +4,7 @@ use Rattle.flatgrammar.specs.declared.flat_item.Item.{Item}
 use Rattle.earley.specs.ItemSets.{Adds}
 use Rattle.flatgrammar.specs.Blocks.{block_of, item_at}
 use Rattle.earley.specs.FrontViews.{views, IsAsked, IsFurther}
-use Rattle.earley.proofs.IsGoingLemmas.{measure, more_keeps, item_more, head_more, full_held, all_different, all_closed}
+use Rattle.earley.proofs.FillLemmas.{measure, more_keeps, item_more, head_more, full_held, all_different, all_closed}
 use Rattle.earley.proofs.ExpandLemmas.{length_views}
 use Rattle.flatgrammar.proofs.CallOfLemmas.{past_get}
 use Rattle.earley.proofs.ItemRowsLemmas.{index_get}

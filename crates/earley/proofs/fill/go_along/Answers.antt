@@ -1,5 +1,5 @@
 use Rattle.std.proofs.Common.{arith}
-use Rattle.earley.proofs.WaitingLemmas.{chain_within, chain_next, along_start, along_next, along_end}
+use Rattle.earley.proofs.WaitAllLemmas.{chain_within, chain_next, along_start, along_next, along_end}
 use Rattle.earley.proofs.fill.go_along.Goals as goal
 
 pub loop-at-init : goal.loop-at-init

@@ -1,6 +1,6 @@
 use Rattle.std.proofs.Common.{◌≡◌, Some, subst, slice_get, slice_index_or}
 use Rattle.earley.specs.Waiting.{Chain}
-use Rattle.earley.proofs.WaitingLemmas.{listed_adds}
+use Rattle.earley.proofs.WaitAllLemmas.{listed_adds}
 use Rattle.earley.proofs.fill.go_on.Goals as goal
 
 pub go_along-requires : goal.go_along-requires

@@ -2,7 +2,7 @@ use Rattle.std.proofs.Common.{[], ◌++◌, subst}
 use Rattle.flatgrammar.specs.Blocks.{block_of}
 use Rattle.earley.specs.FrontViews.{expand}
 use Rattle.earley.specs.Waiting.{AreWaiting}
-use Rattle.earley.proofs.WaitingLemmas.{waiting_start}
+use Rattle.earley.proofs.WaitAllLemmas.{waiting_start}
 use Rattle.earley.proofs.wait.wait_all.Goals as goal
 
 pub returns : goal.returns

@@ -3,7 +3,7 @@ use Rattle.flatgrammar.specs.Blocks.{block_of, item_at}
 use Rattle.earley.specs.FrontViews.{expand}
 use Rattle.earley.specs.Waiting.{AreWaiting}
 use Rattle.earley.proofs.ExpandLemmas.{take_one, take_past, expand_end}
-use Rattle.earley.proofs.WaitingLemmas.{waiting_then}
+use Rattle.earley.proofs.WaitAllLemmas.{waiting_then}
 use Rattle.earley.proofs.wait.wait_heads.Goals as goal
 
 pub loop-head-preserved : goal.loop-head-preserved

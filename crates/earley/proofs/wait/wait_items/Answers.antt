@@ -1,7 +1,7 @@
 use Rattle.std.proofs.Common.{◌≡◌, ◌∙◌, ◌++◌, subst, take, arith}
 use Rattle.earley.specs.Waiting.{AreWaiting}
 use Rattle.earley.proofs.ExpandLemmas.{take_past}
-use Rattle.earley.proofs.WaitingLemmas.{waiting_then, taken}
+use Rattle.earley.proofs.WaitAllLemmas.{waiting_then, taken}
 use Rattle.earley.proofs.wait.wait_items.Goals as goal
 
 pub loop-item-preserved : goal.loop-item-preserved

@@ -1,6 +1,6 @@
 use Rattle.std.proofs.Common.{◌≡◌, ◌+◌, ◌<◌, length, Some, sym, ◌∙◌, ap, refl, arith}
 use Rattle.flatgrammar.proofs.CallOfLemmas.{some_same}
-use Rattle.earley.proofs.WaitingLemmas.{waiting_none, waiting_more}
+use Rattle.earley.proofs.WaitAllLemmas.{waiting_none, waiting_more}
 use Rattle.earley.proofs.IsBuiltLemmas.{get_is}
 use Rattle.earley.proofs.ItemRowsLemmas.{get_in, or_get}
 use Rattle.earley.proofs.wait.wait_one.Goals as goal

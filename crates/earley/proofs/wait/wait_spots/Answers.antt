@@ -2,7 +2,7 @@ use Rattle.std.proofs.Common.{◌∙◌, ◌++◌, ap, subst, map, take, arith}
 use Rattle.flatgrammar.specs.Blocks.{item_at}
 use Rattle.earley.specs.Waiting.{AreWaiting}
 use Rattle.earley.proofs.ExpandLemmas.{take_one, take_past, map_end}
-use Rattle.earley.proofs.WaitingLemmas.{waiting_then}
+use Rattle.earley.proofs.WaitAllLemmas.{waiting_then}
 use Rattle.earley.proofs.wait.wait_spots.Goals as goal
 
 pub loop-spot-preserved : goal.loop-spot-preserved

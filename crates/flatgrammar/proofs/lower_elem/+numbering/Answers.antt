@@ -1,5 +1,5 @@
 use Rattle.std.proofs.Common.{refl, ◌∙◌, ap, arith}
-use Rattle.abnfread.specs.Views.{rules_of}
+use Rattle.abnfread.specs.AbnfViews.{rules_of}
 use Rattle.abnfread.specs.Element.{id_of}
 use Rattle.flatgrammar.specs.Lowered.{shows_text, shows_values, shows_range, shows_concat, shows_alt, shows_rep, shows_opt, shows_name, shows_prose}
 use Rattle.abnfread.proofs.ElementLemmas.{element-Text, element-Values, element-Range, element-Concat, element-Alt, element-Rep, element-Opt, element-Name, element-Prose}

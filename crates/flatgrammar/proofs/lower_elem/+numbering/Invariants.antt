@@ -1,5 +1,5 @@
 use Rattle.std.proofs.Common.{take}
-use Rattle.abnfread.specs.Views.{elements_of, rules_of}
+use Rattle.abnfread.specs.AbnfViews.{elements_of, rules_of}
 use Rattle.flatgrammar.specs.FlatViews.{nodes_of}
 use Rattle.flatgrammar.specs.Numbers.{NumbersAll}
 use Rattle.flatgrammar.proofs.lower_elem.+numbering.Given as goal

@@ -1,4 +1,4 @@
-use Rattle.abnfread.specs.Views.{rules_of}
+use Rattle.abnfread.specs.AbnfViews.{rules_of}
 use Rattle.flatgrammar.specs.FlatViews.{nodes_of}
 use Rattle.flatgrammar.specs.Numbers.{AreCut}
 use Rattle.flatgrammar.proofs.lower_elem.number_bodies.Given as goal

@@ -1,5 +1,5 @@
 use Rattle.std.proofs.Common.{subst}
-use Rattle.abnfread.specs.Views.{rules_of}
+use Rattle.abnfread.specs.AbnfViews.{rules_of}
 use Rattle.flatgrammar.specs.Lowered.{IsLowered}
 use Rattle.flatgrammar.proofs.LoweredLemmas as o
 use Rattle.flatgrammar.proofs.lowered.lower.Goals as goal

@@ -1,6 +1,6 @@
 use Rattle.std.proofs.Common.{◌≡◌, false, map, sym}
 use Rattle.ruletable.specs.Notes.{said_of}
-use Rattle.pegread.specs.Views.{rules_of}
+use Rattle.pegread.specs.PegViews.{rules_of}
 use Rattle.gramcheck.specs.Checked.{is_refused}
 use Rattle.gramcheck.proofs.JudgeLemmas.{start-below}
 use Rattle.gramcheck.proofs.check.check_peg.Goals as goal

@@ -2,7 +2,7 @@ use Rattle.std.proofs.Common.{List, map}
 use Rattle.std.specs.Prelude.{option_copied}
 use Rattle.ruletable.specs.Notes.{said_of}
 use Rattle.pegread.specs.Pattern.{Rule}
-use Rattle.pegread.specs.Views.{rules_of}
+use Rattle.pegread.specs.PegViews.{rules_of}
 use Rattle.gramcheck.specs.Analysis.{IsAnalysed}
 use Rattle.gramcheck.specs.Nodes.{shapes_of}
 use Rattle.gramcheck.specs.GrammarNotes.{AreNotes, names_at}

@@ -1,6 +1,6 @@
 use Rattle.std.proofs.Common.{arith, sym, ◌∙◌}
 use Rattle.std.proofs.lemmas.List.{length-map}
-use Rattle.pegread.specs.Views.{rule_of, rules_of}
+use Rattle.pegread.specs.PegViews.{rule_of, rules_of}
 use Rattle.gramcheck.proofs.JudgeLemmas.{first-start, found-start}
 use Rattle.gramcheck.proofs.check.start_id.Goals as goal
 

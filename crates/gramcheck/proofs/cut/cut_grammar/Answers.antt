@@ -1,6 +1,6 @@
 use Rattle.std.proofs.Common.{◌≡◌, length, arith}
 use Rattle.std.proofs.lemmas.List.{length-map}
-use Rattle.pegread.specs.Views.{rule_of, rules_of}
+use Rattle.pegread.specs.PegViews.{rule_of, rules_of}
 use Rattle.gramcheck.proofs.AreBodiesLemmas.{none_cut, next_cut, bodies_of_cut, are_named}
 use Rattle.gramcheck.proofs.cut.cut_grammar.Goals as goal
 

@@ -1,4 +1,4 @@
-use Rattle.pegread.specs.Views.{rules_of}
+use Rattle.pegread.specs.PegViews.{rules_of}
 use Rattle.gramcheck.specs.Nodes.{shapes_of}
 use Rattle.gramcheck.proofs.AreBodiesLemmas.{AreCut}
 use Rattle.gramcheck.proofs.cut.cut_grammar.Given as goal

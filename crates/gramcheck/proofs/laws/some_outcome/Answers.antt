@@ -1,4 +1,4 @@
-use Rattle.pegread.specs.Views.{rules_of}
+use Rattle.pegread.specs.PegViews.{rules_of}
 use Rattle.gramcheck.specs.Nodes.{shapes_of}
 use Rattle.gramcheck.proofs.SomeOutcomeLemmas.{standing_ends}
 use Rattle.gramcheck.proofs.laws.some_outcome.Goals as goal

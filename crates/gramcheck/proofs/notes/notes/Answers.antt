@@ -4,7 +4,7 @@ use Rattle.std.specs.Prelude.{option_copied}
 use Rattle.std.proofs.lemmas.List.{length-map}
 use Rattle.ruletable.specs.Notes.{said_of}
 use Rattle.rulenames.proofs.ChosenLemmas.{one_by_one}
-use Rattle.pegread.specs.Views.{rule_of, rules_of}
+use Rattle.pegread.specs.PegViews.{rule_of, rules_of}
 use Rattle.gramcheck.proofs.RuleNameLemmas.{names-same, own-names}
 use Rattle.gramcheck.proofs.AreNotesLemmas.{are-notes, marks-again, marks-unused}
 use Rattle.gramcheck.proofs.notes.notes.Goals as goal

@@ -2,7 +2,7 @@
 use Rattle.std.proofs.Common.{◌≡◌, length, map, sym, ◌∙◌}
 use Rattle.std.proofs.lemmas.List.{length-map}
 use Rattle.ruletable.specs.Notes.{said_of}
-use Rattle.pegread.specs.Views.{rule_of, rules_of}
+use Rattle.pegread.specs.PegViews.{rule_of, rules_of}
 use Rattle.gramcheck.proofs.RuleNameLemmas.{names-same, own-names}
 use Rattle.gramcheck.proofs.AreNotesLemmas.{redefinitions-are, marks-again}
 use Rattle.gramcheck.proofs.notes.redefinitions.Goals as goal

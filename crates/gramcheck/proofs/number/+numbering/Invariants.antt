@@ -1,5 +1,5 @@
 use Rattle.std.proofs.Common.{take}
-use Rattle.pegread.specs.Views.{patterns_of, rules_of}
+use Rattle.pegread.specs.PegViews.{patterns_of, rules_of}
 use Rattle.gramcheck.specs.Nodes.{shapes_of}
 use Rattle.gramcheck.specs.Numbering.{NumbersAll}
 use Rattle.gramcheck.proofs.number.+numbering.Given as goal

@@ -1,7 +1,7 @@
 -- The uses in the members so far.
 use Rattle.std.proofs.Common.{ℕ, List, ◌++◌, take}
 use Rattle.pegread.specs.Pattern.{Rule}
-use Rattle.pegread.specs.Views.{patterns_of}
+use Rattle.pegread.specs.PegViews.{patterns_of}
 use Rattle.gramcheck.specs.Uses.{AreUses, names_in_all}
 use Rattle.gramcheck.proofs.uses.+using_names.Given as goal
 

@@ -1,7 +1,7 @@
 -- Where none is given, the start rule is the first.
 use Rattle.std.proofs.Common.{◌++◌, subst}
 use Rattle.ruletable.specs.declared.table.NameCase.TheVariants.{Exact}
-use Rattle.pegread.specs.Views.{rules_of}
+use Rattle.pegread.specs.PegViews.{rules_of}
 use Rattle.gramcheck.specs.Uses.{AreUses, rule_names}
 use Rattle.gramcheck.proofs.UsesLemmas.{first-start, ok-then}
 use Rattle.gramcheck.proofs.uses.add_start.Goals as goal

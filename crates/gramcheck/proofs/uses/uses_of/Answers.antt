@@ -1,7 +1,7 @@
 -- The start rule's use, and then those in one more body.
 use Rattle.std.proofs.Common.{[], take, append-nil, append_assoc}
 use Rattle.std.specs.Prelude.{option_copied, option_to_list}
-use Rattle.pegread.specs.Views.{rules_of, pattern_of}
+use Rattle.pegread.specs.PegViews.{rules_of, pattern_of}
 use Rattle.gramcheck.specs.GrammarNotes.{start_of}
 use Rattle.gramcheck.specs.Uses.{names_used, names_in}
 use Rattle.gramcheck.proofs.UsesLemmas.{used-next, uses-none}

@@ -1,7 +1,7 @@
 -- The uses in the bodies of the rules before the one at the id.
 use Rattle.std.proofs.Common.{◌++◌, take}
 use Rattle.std.specs.Prelude.{option_copied, option_to_list}
-use Rattle.pegread.specs.Views.{rules_of}
+use Rattle.pegread.specs.PegViews.{rules_of}
 use Rattle.gramcheck.specs.GrammarNotes.{start_of}
 use Rattle.gramcheck.specs.Uses.{AreUses, names_used}
 use Rattle.gramcheck.proofs.uses.uses_of.Given as goal

@@ -2,7 +2,7 @@
 use Rattle.std.proofs.Common.{◌≡◌, [], map, arith, refl}
 use Rattle.std.proofs.lemmas.Bool.Decides.{nat_tests}
 use Rattle.ruletable.specs.Notes.{said_of}
-use Rattle.pegread.specs.Views.{rules_of}
+use Rattle.pegread.specs.PegViews.{rules_of}
 use Rattle.pegread.proofs.IsTableOfLemmas.{length-none}
 use Rattle.gramtools.proofs.PegTaskLemmas.{unread-plan, again-plan, some_said, printed-states}
 use Rattle.gramtools.proofs.peg_task.plan_print.Goals as goal

@@ -2,7 +2,7 @@ use Rattle.std.proofs.Common.{◌≡◌, ℕ, List, length}
 use Rattle.gramcheck.specs.Nodes.{shapes_of}
 use Rattle.gramcheck.specs.Outcome.{Event}
 use Rattle.gramcheck.specs.Rising.{Rise}
-use Rattle.pegmatch.specs.Kept.{StandFor}
+use Rattle.pegmatch.specs.KeptEvents.{StandFor}
 use Rattle.pegmatch.proofs.IsPrintedLemmas.{HaveWritten}
 use Rattle.pegmatch.proofs.replay.write_events.Given as goal
 

@@ -2,7 +2,7 @@ use Rattle.std.proofs.Common.{rules}
 use Rattle.ruletable.proofs.AppendsLemmas.{AppendsPart-first, Writes-then}
 use Rattle.pegread.specs.Brackets.{wraps}
 use Rattle.pegread.specs.Canon.{text_of}
-use Rattle.pegread.specs.Views.{pattern_of}
+use Rattle.pegread.specs.PegViews.{pattern_of}
 use Rattle.pegread.proofs.LeavesLemmas.{leaves-all, leaves-rest, leaves-part, leaves-none, leaves-at, leaves-around, leaves-last, item-left, end-left}
 use Rattle.pegread.proofs.print.+printing.Goals as goal
 

@@ -1,6 +1,6 @@
 use Rattle.std.proofs.Common.{◌≡◌, drop}
 use Rattle.pegread.specs.Canon.{joined}
-use Rattle.pegread.specs.Views.{patterns_of}
+use Rattle.pegread.specs.PegViews.{patterns_of}
 use Rattle.pegread.proofs.LeavesLemmas.{Leaves, left_of}
 use Rattle.pegread.proofs.print.+printing.Given as goal
 

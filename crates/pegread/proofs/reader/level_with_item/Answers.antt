@@ -1,7 +1,7 @@
 use Rattle.std.proofs.Common.{◌∙◌, ap}
 use Rattle.pegread.specs.Pattern.{Pattern, Patterns}
 use Rattle.pegread.specs.Machine.{snoc, level, no_mark}
-use Rattle.pegread.specs.Views.{patterns_of}
+use Rattle.pegread.specs.PegViews.{patterns_of}
 use Rattle.pegread.proofs.PatternsOfLemmas.{patterns_of-push}
 use Rattle.pegread.proofs.reader.level_with_item.Goals as goal
 

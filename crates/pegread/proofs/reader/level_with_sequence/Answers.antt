@@ -1,7 +1,7 @@
 use Rattle.std.proofs.Common.{refl, ◌∙◌, ap}
 use Rattle.pegread.specs.Pattern.{Pattern}
 use Rattle.pegread.specs.Machine.{snoc}
-use Rattle.pegread.specs.Views.{patterns_of}
+use Rattle.pegread.specs.PegViews.{patterns_of}
 use Rattle.pegread.proofs.PatternsOfLemmas.{patterns_of-push}
 use Rattle.pegread.proofs.reader.level_with_sequence.Goals as goal
 

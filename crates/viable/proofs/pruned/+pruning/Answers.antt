@@ -1,4 +1,4 @@
-use Rattle.abnfread.specs.Views.{rules_of}
+use Rattle.abnfread.specs.AbnfViews.{rules_of}
 use Rattle.abnfread.proofs.ElementLemmas.{element-Text, element-Values, element-Range, element-Concat, element-Alt, element-Rep, element-Opt, element-Name, element-Prose}
 use Rattle.letters.specs.Letters.{has}
 use Rattle.viable.specs.Pruned.{keep_none, some_none}

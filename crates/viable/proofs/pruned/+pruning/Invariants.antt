@@ -1,5 +1,5 @@
 use Rattle.std.proofs.Common.{take}
-use Rattle.abnfread.specs.Views.{elements_of, rules_of}
+use Rattle.abnfread.specs.AbnfViews.{elements_of, rules_of}
 use Rattle.letters.specs.Letters.{has}
 use Rattle.viable.specs.Pruned.{KeepsAll, KeepsSome}
 use Rattle.viable.proofs.pruned.+pruning.Given as goal

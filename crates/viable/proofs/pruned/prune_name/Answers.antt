@@ -1,6 +1,6 @@
 use Rattle.std.proofs.Common.{◌∙◌, subst, sym}
 use Rattle.abnfread.proofs.ElementLemmas.{element-Name}
-use Rattle.abnfread.specs.Views.{rules_of}
+use Rattle.abnfread.specs.AbnfViews.{rules_of}
 use Rattle.leastset.specs.NumberMarks.{IsMarked}
 use Rattle.flatgrammar.proofs.IdOfLemmas.{id_found}
 use Rattle.viable.specs.Pruned.{keep_name}

@@ -1,5 +1,5 @@
 use Rattle.std.proofs.Common.{subst, arith}
-use Rattle.abnfread.specs.Views.{rules_of}
+use Rattle.abnfread.specs.AbnfViews.{rules_of}
 use Rattle.letters.specs.Letters.{has}
 use Rattle.flatgrammar.specs.Lowered.{IsLowered}
 use Rattle.viable.specs.Pruned.{ArePruned}

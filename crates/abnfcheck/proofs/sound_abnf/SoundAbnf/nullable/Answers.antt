@@ -3,7 +3,7 @@ use Rattle.std.proofs.Common.{◌≡◌, ◌<◌, ◌∙◌, [], false, get_or, 
 use Rattle.std.proofs.lemmas.List.{length-map}
 use Rattle.ruletable.specs.Rules as table
 use Rattle.abnfread.specs.declared.elem.Elem.{Elem}
-use Rattle.abnfread.specs.Views.{rule_of, rules_of}
+use Rattle.abnfread.specs.AbnfViews.{rule_of, rules_of}
 use Rattle.abnfcheck.specs.AbnfGrammar.{IsSoundGrammar}
 use Rattle.abnfcheck.specs.Derivable.{RuleDerives}
 use Rattle.abnfcheck.specs.RuleMarks.{AreNullMarks}

@@ -1,5 +1,5 @@
 -- Each line has an answer.
-use Rattle.abnfread.specs.Views.{rules_of}
+use Rattle.abnfread.specs.AbnfViews.{rules_of}
 use Rattle.abnfrun.proofs.line_judge.LineJudgeJudgeWork.decided.Goals as goal
 
 pub returns : goal.returns

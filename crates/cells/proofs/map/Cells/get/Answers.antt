@@ -1,7 +1,7 @@
 use Rattle.std.proofs.Common.{◌≡◌, length, arith, sym}
 use Rattle.std.proofs.Common.{inl, inr, vec_len}
 use Rattle.std.proofs.lemmas.Bool.Decides.{nat_tests}
-use Rattle.cells.specs.Kept.{IsFree, IsAt, IsNowhere, entries_of, found_of}
+use Rattle.cells.specs.CellEntries.{IsFree, IsAt, IsNowhere, entries_of, found_of}
 use Rattle.cells.proofs.FoundAtLemmas.{free_none, held_found}
 use Rattle.cells.proofs.IsKeptLemmas.{holds_at, holds_only, free_nowhere, nowhere_great, nowhere_none}
 use Rattle.cells.proofs.map.Cells.get.Goals as goal

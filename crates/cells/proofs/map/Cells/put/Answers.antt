@@ -1,4 +1,4 @@
-use Rattle.cells.specs.Kept.{entry_of, entries_of}
+use Rattle.cells.specs.CellEntries.{entry_of, entries_of}
 use Rattle.cells.proofs.FoundAtLemmas.{none_free}
 use Rattle.cells.proofs.IsKeptLemmas.{free-is}
 use Rattle.cells.proofs.map.Cells.put.Goals as goal

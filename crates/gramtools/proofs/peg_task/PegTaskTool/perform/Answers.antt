@@ -1,6 +1,6 @@
 -- The canonical text was printed, or the units were run.
 use Rattle.pegread.specs.Canon.{grammar_text}
-use Rattle.pegread.specs.Views.{rules_of}
+use Rattle.pegread.specs.PegViews.{rules_of}
 use Rattle.gramtools.proofs.PegTaskLemmas.{was_printed}
 use Rattle.gramtools.proofs.peg_task.PegTaskTool.perform.Goals as goal
 
