@@ -1,0 +1,3 @@
+mod ChoiceLemmas
+mod CommentLemmas
+mod CountTokensLemmas

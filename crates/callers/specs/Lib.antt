@@ -1,0 +1,4 @@
+pub mod Choices
+pub mod CommentLines
+pub mod Loaded
+pub mod Printed
