@@ -1,3 +1,4 @@
+mod AreBytesLemmas
 mod ChoiceLemmas
 mod CommentLemmas
 mod CountTokensLemmas

@@ -1,0 +1,8 @@
+use Rattle.std.proofs.Common.{◌≡◌, sym, rules}
+use Rattle.callers.proofs.print_caller.read_again.Goals as goal
+
+pub returns-in-Ok-clause-same : goal.returns-in-Ok-clause-same
+returns-in-Ok-clause-same c =
+    let same = rw c.in-Some.is at c.in_ok-canonical.ensures.same in
+    let back = same.2 in
+    (same.0, same.1, back.again, back.same, c.in-Ok.ensures.only back.again (rw (c.deref.ensures.value) back.reads))
