@@ -1,5 +1,5 @@
 -- The numbers of a slice of bytes are bytes.
--- Serves: canonical_text, canonical_abnf
+-- Serves: canonical_text
 use Rattle.std.proofs.Common.{◌<◌, ℕ, suc, List, [], ◌∷◌, get_or}
 use Rattle.pegread.specs.Formed.{AreBytes}
 

@@ -44,6 +44,6 @@ pub fn read_again(alloc: Global, text: &[u8]) -> Result<Option<Peg>, ReadFault>
     };
     match read_peg(alloc, &canonical) {
         Ok(peg) => Ok(Some(peg)),
-        Err(_) => Err(ReadFault::Memory),
+        Err(fault) => Err(fault),
     }
 }
