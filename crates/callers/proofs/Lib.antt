@@ -2,4 +2,3 @@ mod AreBytesLemmas
 mod ChoiceLemmas
 mod CommentLemmas
 mod CountTokensLemmas
-mod IsMemoryRunLemmas
