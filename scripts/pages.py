@@ -16,7 +16,7 @@ status is 1.
 import re
 import sys
 
-from contract_index import TOP, definitions, functions, head_end, owner_of
+from contract_index import OWNER, TOP, definitions, functions, head_end, owner_of
 from crates import in_order
 
 PAGES = TOP / "docs" / "crates"
@@ -89,13 +89,18 @@ def head_of(text, start):
 
 
 def methods(text, name):
-    """Returns the public functions of the blocks `impl NAME`, each block with its first row."""
-    for block in re.finditer(r"^impl(?:<[^{]*?>)? %s\b[^{;]*\{\n(.*?)^\}" % name, text, re.M | re.S):
-        if " for " in block.group().split("\n")[0]:
+    """Returns the functions of the blocks `impl NAME` that are public, and of `impl TRAIT for NAME` those with clauses of
+    their own; each block with its first row."""
+    for block in re.finditer(r"^impl\b[^\n]*\{\n(.*?)^\}", text, re.M | re.S):
+        first = block.group().split("\n")[0]
+        owner, of_trait = OWNER.match(first), " for " in first
+        if not owner or owner.group(1) != name:
             continue
-        found = [head_of(text, block.start(1) + it.start()) for it in re.finditer(r"(?<=^    )pub fn", block.group(1), re.M)]
+        found = [head_of(text, block.start(1) + it.start()) for it in re.finditer(r"^    (?:pub )?fn \w", block.group(1), re.M)
+                 if of_trait or it.group().startswith("    pub")]
+        found = [it for it in found if not of_trait or "\n        ensures" in it]
         if found:
-            yield block.group().split("\n")[0] + "\n" + "\n\n".join(found) + "\n}"
+            yield first + "\n" + "\n\n".join(found) + "\n}"
 
 
 def view_of(text, name):

@@ -1,6 +1,6 @@
 -- The rules of a table, gone over one by one.
 -- Serves: some_choice
-use Rattle.std.proofs.Common.{◌≡◌, ℕ, zero, suc, ◌+◌, ◌≤◌, ◌||◌, Some, List, [], ◌∷◌, length, drop, slice_get, map, refl, ap, arith, add-one}
+use Rattle.std.proofs.Common.{◌≡◌, ℕ, zero, suc, ◌+◌, ◌||◌, Some, List, [], ◌∷◌, drop, slice_get, map, refl, add-one}
 use Rattle.ruletable.specs.Rules as table
 use Rattle.pegread.specs.declared.expr.Expr.{Expr}
 use Rattle.pegread.specs.Views.{pattern_of, rule_of}

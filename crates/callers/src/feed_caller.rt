@@ -1,5 +1,5 @@
 //! A caller of `feed`.
-ghost use Rattle.std.specs.Prelude.{◌≡◌, ◌↔◌, Contains, IsTrue};
+ghost use Rattle.std.specs.Prelude.{◌↔◌, Contains, IsTrue};
 ghost use Rattle.feed.specs.Feed.{Grows, bytes_of};
 
 use feed::{Feed, Source};

@@ -1,5 +1,5 @@
 //! A caller of `lines`.
-ghost use Rattle.std.specs.Prelude.{◌≡◌, Some, false, slice_get};
+ghost use Rattle.std.specs.Prelude.{◌≡◌, false};
 ghost use Rattle.callers.specs.CommentLines.{IsComment};
 ghost use Rattle.lines.specs.InputLines.{LinesReply};
 ghost use Rattle.toolrun.specs.Stopped.{Performs};

@@ -1,5 +1,5 @@
 //! Callers of `gramtools`, `abnfrun` and `toolrun`: whole runs in memory.
-ghost use Rattle.std.specs.Prelude.{◌≡◌, Some, false};
+ghost use Rattle.std.specs.Prelude.{Some, false};
 ghost use Rattle.abnfrun.specs.AbnfAnswers.{AbnfStates};
 ghost use Rattle.callers.specs.MemoryRun.{IsMemoryRun};
 ghost use Rattle.gramtools.specs.Answers.{States};

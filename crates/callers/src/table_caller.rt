@@ -1,5 +1,5 @@
 //! Callers of `ruletable`.
-ghost use Rattle.std.specs.Prelude.{◌≡◌, ◌↔◌, ◌||◌, ◌&&◌, ℕ, Bool, false, None, get_or, nat_le, IfOk, OnErr, IsTrue};
+ghost use Rattle.std.specs.Prelude.{◌≡◌, ◌↔◌, ◌||◌, ◌&&◌, ℕ, false, None, get_or, nat_le, IfOk, OnErr, IsTrue};
 ghost use Rattle.ruletable.specs.Rules.{find_in};
 
 use ruletable::{ByteSet, Defined, Memory, RuleTable, Span};

@@ -1,4 +1,4 @@
-use Rattle.std.proofs.Common.{◌≡◌, ◌≤◌, ◌<◌, ◌∙◌, sym, [], length, rules, arith}
+use Rattle.std.proofs.Common.{◌≡◌, ◌≤◌, ◌∙◌, sym, [], length, rules, arith}
 use Rattle.std.proofs.lemmas.List.{nil_from_length}
 use Rattle.lexer.specs.declared.limits.TheConstants.{MAX_GRAMMAR}
 use Rattle.pegread.specs.Canon.{grammar_text}

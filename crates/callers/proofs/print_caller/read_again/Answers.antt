@@ -1,4 +1,4 @@
-use Rattle.std.proofs.Common.{◌≡◌, sym, rules}
+use Rattle.std.proofs.Common.{◌≡◌}
 use Rattle.ruletable.specs.declared.fault.ReadFault.TheVariants as fault
 use Rattle.callers.proofs.print_caller.read_again.Goals as goal
 

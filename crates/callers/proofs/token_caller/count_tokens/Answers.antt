@@ -1,4 +1,4 @@
-use Rattle.std.proofs.Common.{◌≡◌, ◌∙◌, sym}
+use Rattle.std.proofs.Common.{◌∙◌, sym}
 use Rattle.pegread.specs.Kinds.{is_end}
 use Rattle.pegread.specs.Slices.{White, First}
 use Rattle.callers.proofs.CountTokensLemmas.{all-given, at-start}
