@@ -29,7 +29,7 @@ pub use judge_caller::derives;
 pub use line_caller::{Comments, answer_comments};
 pub use point_caller::count_points;
 pub use print_caller::{canonical_text, read_again};
-pub use run_caller::{Bytes, Ran, abnf_in_memory, peg_in_memory};
+pub use run_caller::{Ran, abnf_in_memory, peg_in_memory};
 pub use table_caller::{add_rule, word_bytes};
 pub use token_caller::count_tokens;
 pub use tree_caller::{count_rules, is_choice, some_choice};

@@ -14,7 +14,7 @@ use toolrun::{Settings, Status};
 
 /// A reader over bytes in memory, which never fails.
 #[derive(Drop)]
-pub struct Bytes<'a> {
+struct Bytes<'a> {
     rest: &'a [u8],
 }
 
