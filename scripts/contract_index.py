@@ -17,7 +17,19 @@ TOP = pathlib.Path(__file__).resolve().parent.parent
 FUNCTION = re.compile(r"^( *)pub fn (\w+)", re.M)
 OWNER = re.compile(r"^(?:impl|pub trait)(?:<.*?>)? (?:(?:\w+)(?:<.*?>)? for )?(\w+)", re.M)
 METHOD = re.compile(r"^( +)fn (\w+)", re.M)
+CLAUSE = re.compile(r"(?:requires|ensures)\*?(?: \w+)? $|ghost \w+: $")
 IMPORT = re.compile(r"^ghost use Rattle\.(\w+)\.specs\.([\w.]+)\.\{(.*?)\};", re.M | re.S)
+
+
+def head_end(text, start):
+    """Returns where the head of a function ends that begins there: before its body, or before the `;` that ends it."""
+    depth = 0
+    for place in range(start, len(text)):
+        letter = text[place]
+        if depth == 0 and (letter == ";" or letter == "{" and not CLAUSE.search(text, start, place)):
+            return place
+        depth += (letter in "([{") - (letter in ")]}")
+    return len(text)
 
 
 def functions(text):
@@ -28,9 +40,7 @@ def functions(text):
     for trait in re.finditer(r"^pub trait .*?^}", text, re.M | re.S):
         found += [(it.group(2), trait.start() + it.start()) for it in METHOD.finditer(trait.group())]
     for name, start in sorted(found, key=lambda it: it[1]):
-        end = re.search(r"\n *\{|;\n|\{\}", text[start:])
-        head = text[start:start + end.end()] if end else text[start:]
-        yield name, text.count("\n", 0, start) + 1, head
+        yield name, text.count("\n", 0, start) + 1, text[start:head_end(text, start)].rstrip()
 
 
 def owner_of(text, line):
@@ -95,4 +105,5 @@ def main(*words):
     return 0
 
 
-sys.exit(main(*sys.argv[1:]))
+if __name__ == "__main__":
+    sys.exit(main(*sys.argv[1:]))

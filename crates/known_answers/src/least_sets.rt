@@ -1,5 +1,4 @@
 //! Each public call on small tables, with answers found by hand.
-use crate::cycle_caller::comes_back;
 use leastset::{
     Need, OwnedNeed, are_below, are_needs_within, are_within, borrowed_needs, derive, least, mark,
     marks_of, on_cycle, reached, slices, some_marked,
@@ -28,16 +27,6 @@ fn finds_cycles(rt: HostRuntime) -> Result<(), Fail> {
         assert!(rt; found.marks.as_slice() == marks);
         assert!(rt; found.ranks.len() == steps.len());
     }
-    Ok(())
-}
-
-#[test]
-fn tells_which_number_comes_back(rt: HostRuntime) -> Result<(), Fail> {
-    let steps: &[&[usize]] = &[&[1], &[2], &[1]];
-    assert!(rt; are_within(steps));
-    assert!(rt; steps.len() == 3);
-    assert!(rt; !comes_back(rt.alloc(), steps, 0)?);
-    assert!(rt; comes_back(rt.alloc(), steps, 1)?);
     Ok(())
 }
 

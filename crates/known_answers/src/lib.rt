@@ -12,8 +12,6 @@ mod cell_table;
 #[cfg(test)]
 mod code_points;
 #[cfg(test)]
-mod cycle_caller;
-#[cfg(test)]
 mod desk_units;
 #[cfg(test)]
 mod feed_window;

@@ -1,4 +1,4 @@
-//! A caller: what it can prove from the contract of `on_cycle` alone.
+//! A caller of `leastset`.
 ghost use Rattle.std.specs.Prelude.{◌≡◌, ◌↔◌, ◌<◌, Bool, length, IfOk};
 ghost use Rattle.leastset.specs.Leads.{Leads};
 ghost use Rattle.leastset.specs.StepRows.{slices_of, AreStepsWithin};

@@ -1,0 +1,4 @@
+mod AreBytesLemmas
+mod ChoiceLemmas
+mod CommentLemmas
+mod CountTokensLemmas

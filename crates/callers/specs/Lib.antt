@@ -1,0 +1,6 @@
+pub mod Choices
+pub mod CommentLines
+pub mod Loaded
+pub mod LoadedAbnf
+pub mod MemoryRun
+pub mod Printed

@@ -1,0 +1,21 @@
+//! A caller of `flatgrammar` and `earley`.
+ghost use Rattle.std.specs.Prelude.{◌↔◌, IfOk, IsTrue};
+ghost use Rattle.abnfcheck.specs.Derivable.{RuleDerives};
+ghost use Rattle.abnfread.specs.Views.{rules_of};
+ghost use Rattle.letters.specs.Letters.{has};
+
+use abnfcheck::SoundAbnf;
+use earley::{Chart, judge};
+use flatgrammar::lower;
+use letters::Alphabet;
+use ruletable::Memory;
+use std::alloc::Global;
+
+/// Returns whether the judged rule of a grammar derives a line of bytes.
+pub fn derives(alloc: Global, grammar: &SoundAbnf, line: &[u8]) -> Result<bool, Memory>
+    ensures { IfOk result (λ yes. IsTrue yes ↔ RuleDerives (has Alphabet.Bytes) (rules_of grammar.now.rules) grammar.now.judged line.now) }
+{
+    let flat = lower(alloc, grammar)?;
+    let mut chart = Chart::new(alloc);
+    judge(&mut chart, &flat, line)
+}

@@ -1,0 +1,38 @@
+//! A caller of `lines`.
+ghost use Rattle.std.specs.Prelude.{◌≡◌, false};
+ghost use Rattle.callers.specs.CommentLines.{IsComment};
+ghost use Rattle.lines.specs.InputLines.{LinesReply};
+ghost use Rattle.toolrun.specs.Stopped.{Performs};
+ghost use Rattle.toolrun.specs.Stream.{passed};
+
+use feed::Source;
+use lines::{Judge, run_lines};
+use ruletable::{Memory, Sink, WriteFault};
+use std::alloc::Global;
+use toolrun::Stop;
+
+/// Judges lines by their first byte.
+pub struct Comments;
+
+impl Judge<()> for Comments {
+    ghost member = { λ _ line. IsComment line };
+
+    fn judge(&self, _work: &mut (), line: &[u8]) -> Result<bool, Memory> {
+        Ok(line.first() == Some(&b'#'))
+    }
+
+    fn decided(&self) {}
+}
+
+/// Writes `yes` for each line of an input that begins with `#`, and `no` for any other.
+pub fn answer_comments<R: Source, O: Sink>(
+    alloc: Global,
+    reader: &mut R,
+    out: &mut O,
+) -> Result<Stop, WriteFault>
+    requires { R.failed reader.old ≡ false }
+    ensures { Performs (LinesReply IsComment 65536)
+        (passed R.remaining R.failed reader.old reader.new) (passed O.contents O.failed out.old out.new) result }
+{
+    run_lines(alloc, &Comments, &mut (), 65_536, reader, out)
+}

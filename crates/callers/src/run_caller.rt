@@ -1,0 +1,74 @@
+//! Callers of `gramtools`, `abnfrun` and `toolrun`: whole runs in memory.
+ghost use Rattle.std.specs.Prelude.{Some, false};
+ghost use Rattle.abnfrun.specs.AbnfAnswers.{AbnfStates};
+ghost use Rattle.callers.specs.MemoryRun.{IsMemoryRun};
+ghost use Rattle.gramtools.specs.Answers.{States};
+ghost use Rattle.toolrun.specs.Status.{code_of};
+
+use abnfrun::run_abnf;
+use feed::{Broken, Source};
+use gramtools::run_peg;
+use ruletable::SinkOf;
+use std::alloc::Global;
+use toolrun::{Settings, Status};
+
+/// A reader over bytes in memory, which never fails.
+#[derive(Drop)]
+struct Bytes<'a> {
+    rest: &'a [u8],
+}
+
+impl Source for Bytes<'_> {
+    ghost remaining = { λ b. Some b.rest.now };
+
+    ghost failed = { λ _. false };
+
+    fn read(&mut self, buffer: &mut [u8]) -> Result<usize, Broken> {
+        let n = buffer.len().min(self.rest.len());
+        buffer[..n].copy_from_slice(&self.rest[..n]);
+        self.rest = &self.rest[n..];
+        Ok(n)
+    }
+
+    fn has_failed(&self) -> bool {
+        false
+    }
+}
+
+/// What a run wrote on both outputs, and its status.
+#[derive(Drop)]
+pub struct Ran {
+    pub out: Vec<u8>,
+    pub err: Vec<u8>,
+    pub status: Status,
+}
+
+/// Runs a grammar of peg(1) on an input in memory.
+pub fn peg_in_memory(alloc: Global, grammar: &[u8], settings: &Settings<'_>, input: &[u8]) -> Ran
+    ensures { IsMemoryRun (States grammar.now settings.now) input.now result.out.items result.err.items (code_of result.status) }
+{
+    let mut reader = Bytes { rest: input };
+    let mut out = SinkOf::new(Vec::new(alloc));
+    let mut err = SinkOf::new(Vec::new(alloc));
+    let status = run_peg(alloc, grammar, settings, &mut reader, &mut out, &mut err);
+    Ran {
+        out: out.into_inner(),
+        err: err.into_inner(),
+        status,
+    }
+}
+
+/// Judges the lines of an input in memory by a grammar in ABNF.
+pub fn abnf_in_memory(alloc: Global, grammar: &[u8], settings: &Settings<'_>, input: &[u8]) -> Ran
+    ensures { IsMemoryRun (AbnfStates grammar.now settings.now) input.now result.out.items result.err.items (code_of result.status) }
+{
+    let mut reader = Bytes { rest: input };
+    let mut out = SinkOf::new(Vec::new(alloc));
+    let mut err = SinkOf::new(Vec::new(alloc));
+    let status = run_abnf(alloc, grammar, settings, &mut reader, &mut out, &mut err);
+    Ran {
+        out: out.into_inner(),
+        err: err.into_inner(),
+        status,
+    }
+}
