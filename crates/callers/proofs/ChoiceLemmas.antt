@@ -3,7 +3,7 @@
 use Rattle.std.proofs.Common.{◌≡◌, ℕ, zero, suc, ◌+◌, ◌||◌, Some, List, [], ◌∷◌, drop, slice_get, map, refl, add-one}
 use Rattle.ruletable.specs.Rules as table
 use Rattle.pegread.specs.declared.expr.Expr.{Expr}
-use Rattle.pegread.specs.Views.{pattern_of, rule_of}
+use Rattle.pegread.specs.PegViews.{pattern_of, rule_of}
 use Rattle.callers.specs.Choices.{is_choice, some_choice}
 
 choice-first : (rules : List (table.Rule Expr)) (i : ℕ) (e : Expr) → slice_get (map (λ rule. rule.body) rules) i ≡ Some e →

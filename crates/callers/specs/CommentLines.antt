@@ -1,6 +1,14 @@
 -- Lines that are comments.
 use Rattle.std.specs.Prelude.{◌≡◌, ℕ, List, slice_get, Some}
+use Rattle.lines.specs.declared.answers.Answer.{Answer}
+use Rattle.lines.specs.declared.answers.Answer.TheVariants.{Yes, No, NoAfter}
 
 -- the line begins with `#`
 abbrev pub IsComment : List ℕ → Type 0
 IsComment line = slice_get line 0 ≡ Some 35
+
+-- yes for a comment, no for any other line
+abbrev pub IsCommentAnswer : List ℕ → Answer → Type 0
+IsCommentAnswer line Yes = IsComment line
+IsCommentAnswer line No = IsComment line → ⊥
+IsCommentAnswer line (NoAfter n) = ⊥

@@ -7,7 +7,7 @@ use Rattle.gramcheck.specs.GrammarNotes.{AreNotes, names_at}
 use Rattle.pegread.specs.Definitions.{firsts, agains}
 use Rattle.pegread.specs.Pattern.{Rule}
 use Rattle.pegread.specs.Reading.{Reads}
-use Rattle.pegread.specs.Views.{rules_of}
+use Rattle.pegread.specs.PegViews.{rules_of}
 
 -- a note refuses the grammar of these definitions; or it can be run, from its first rule
 abbrev pub IsReady : List Rule → Option Grammar → Type 0

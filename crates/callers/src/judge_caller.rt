@@ -1,7 +1,7 @@
 //! A caller of `flatgrammar` and `earley`.
 ghost use Rattle.std.specs.Prelude.{◌↔◌, IfOk, IsTrue};
 ghost use Rattle.abnfcheck.specs.Derivable.{RuleDerives};
-ghost use Rattle.abnfread.specs.Views.{rules_of};
+ghost use Rattle.abnfread.specs.AbnfViews.{rules_of};
 ghost use Rattle.letters.specs.Letters.{has};
 
 use abnfcheck::SoundAbnf;

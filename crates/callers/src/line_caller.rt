@@ -1,12 +1,12 @@
 //! A caller of `lines`.
 ghost use Rattle.std.specs.Prelude.{◌≡◌, false};
-ghost use Rattle.callers.specs.CommentLines.{IsComment};
+ghost use Rattle.callers.specs.CommentLines.{IsCommentAnswer};
 ghost use Rattle.lines.specs.InputLines.{LinesReply};
 ghost use Rattle.toolrun.specs.Stopped.{Performs};
 ghost use Rattle.toolrun.specs.Stream.{passed};
 
 use feed::Source;
-use lines::{Judge, run_lines};
+use lines::{Answer, Judge, run_lines};
 use ruletable::{Memory, Sink, WriteFault};
 use std::alloc::Global;
 use toolrun::Stop;
@@ -15,10 +15,13 @@ use toolrun::Stop;
 pub struct Comments;
 
 impl Judge<()> for Comments {
-    ghost member = { λ _ line. IsComment line };
+    ghost told = { λ _ line said. IsCommentAnswer line said };
 
-    fn judge(&self, _work: &mut (), line: &[u8]) -> Result<bool, Memory> {
-        Ok(line.first() == Some(&b'#'))
+    fn judge(&self, _work: &mut (), line: &[u8]) -> Result<Answer, Memory> {
+        if line.first() == Some(&b'#') {
+            return Ok(Answer::Yes);
+        }
+        Ok(Answer::No)
     }
 
     fn decided(&self) {}
@@ -31,7 +34,7 @@ pub fn answer_comments<R: Source, O: Sink>(
     out: &mut O,
 ) -> Result<Stop, WriteFault>
     requires { R.failed reader.old ≡ false }
-    ensures { Performs (LinesReply IsComment 65536)
+    ensures { Performs (LinesReply IsCommentAnswer 65536)
         (passed R.remaining R.failed reader.old reader.new) (passed O.contents O.failed out.old out.new) result }
 {
     run_lines(alloc, &Comments, &mut (), 65_536, reader, out)

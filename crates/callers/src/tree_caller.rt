@@ -4,7 +4,7 @@ ghost use Rattle.callers.specs.Choices.{is_choice, some_choice};
 ghost use Rattle.pegread.specs.Definitions.{firsts};
 ghost use Rattle.pegread.specs.Pattern.{Rule};
 ghost use Rattle.pegread.specs.Reading.{IsFaultOf, Reads};
-ghost use Rattle.pegread.specs.Views.{pattern_of, rules_of};
+ghost use Rattle.pegread.specs.PegViews.{pattern_of, rules_of};
 
 use pegread::{Expr, Peg, read_peg};
 use ruletable::ReadFault;

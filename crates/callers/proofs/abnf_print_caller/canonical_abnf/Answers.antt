@@ -1,7 +1,7 @@
 use Rattle.std.proofs.Common.{◌≡◌, ◌≤◌, length, rules}
 use Rattle.lexer.specs.declared.limits.TheConstants.{MAX_GRAMMAR}
 use Rattle.abnfprint.specs.CanonicalAbnf.{grammar_text}
-use Rattle.abnfread.specs.Views.{rules_of}
+use Rattle.abnfread.specs.AbnfViews.{rules_of}
 use Rattle.callers.proofs.abnf_print_caller.canonical_abnf.Goals as goal
 
 pub returns-clause-same : goal.returns-clause-same

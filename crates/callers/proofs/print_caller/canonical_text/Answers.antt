@@ -2,7 +2,7 @@ use Rattle.std.proofs.Common.{◌≡◌, ◌≤◌, ◌∙◌, sym, [], length, 
 use Rattle.std.proofs.lemmas.List.{nil_from_length}
 use Rattle.lexer.specs.declared.limits.TheConstants.{MAX_GRAMMAR}
 use Rattle.pegread.specs.Canon.{grammar_text}
-use Rattle.pegread.specs.Views.{rules_of}
+use Rattle.pegread.specs.PegViews.{rules_of}
 use Rattle.pegread.proofs.IsTableOfLemmas.{none-again}
 use Rattle.callers.proofs.AreBytesLemmas.{are-bytes}
 use Rattle.callers.proofs.print_caller.canonical_text.Goals as goal

@@ -1,5 +1,5 @@
 use Rattle.std.proofs.Common.{◌≡◌, ◌+◌, true, false, Bool, ◌||◌, map, drop, sym, ap, ◌∙◌}
-use Rattle.pegread.specs.Views.{pattern_of, rule_of}
+use Rattle.pegread.specs.PegViews.{pattern_of, rule_of}
 use Rattle.callers.specs.Choices.{is_choice, some_choice}
 use Rattle.callers.proofs.ChoiceLemmas.{choice-left}
 use Rattle.callers.proofs.tree_caller.some_choice.Goals as goal

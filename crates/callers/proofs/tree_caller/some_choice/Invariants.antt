@@ -1,5 +1,5 @@
 use Rattle.std.proofs.Common.{◌≡◌, map, drop}
-use Rattle.pegread.specs.Views.{rule_of, rules_of}
+use Rattle.pegread.specs.PegViews.{rule_of, rules_of}
 use Rattle.callers.specs.Choices.{some_choice}
 use Rattle.callers.proofs.tree_caller.some_choice.Given as goal
 
