@@ -18,7 +18,7 @@ use Rattle.flatgrammar.proofs.RuleNodeLemmas.{body_at_id, there}
 use Rattle.viable.specs.Pruned.{IsProductive, Keeps, keep_text, keep_values, keep_range, keep_concat, keep_alt, keep_rep, empty_rep, keep_opt, empty_opt, keep_name, KeepsAll, keep_none, keep_more, KeepsSome, some_none, kept, dropped, IsLeftBody, left_body, no_body, ArePruned}
 use Rattle.viable.proofs.ContextLemmas.{AreLiveBodies, items_go_on}
 use Rattle.viable.proofs.HasItemLemmas.{has_item}
-use Rattle.viable.proofs.KeepsLemmas.{LeftBody, keeps_productive, forth, back, sized}
+use Rattle.viable.proofs.KeepsLemmas.{LeftBody, no_prose, keeps_productive, forth, back, sized}
 use Rattle.viable.proofs.LiveLemmas.{IsLive, live_text, live_values, live_range, live_concat, live_alt, live_rep, live_opt, live_name, AreLive, no_live, more_live}
 use Rattle.viable.proofs.NothingLemmas.{no_item}
 
@@ -27,12 +27,10 @@ letters_take has zero x all = tt
 letters_take has (suc n) [] all = tt
 letters_take has (suc n) (c ∷ x) all = (all.0, letters_take has n x all.1)
 
-no_prose : {has : ℕ → Bool} {rules : List Rule} {t w : List ℕ} → Derives has rules (e.Prose t) w → ⊥
-no_prose d = elim d [ ]
-
 module _ (has : ℕ → Bool) (rules left : List Rule) (pruned : ArePruned has rules left) where
   -- the rules have as many bodies
-  body_left : (id : ℕ) (el : Element) → slice_get (bodies rules) id ≡ Some el → (d : Element) × (slice_get (bodies left) id ≡ Some d) × IsLeftBody has rules el d
+  body_left : (id : ℕ) (el : Element) → slice_get (bodies rules) id ≡ Some el →
+      (d : Element) × (slice_get (bodies left) id ≡ Some d) × IsLeftBody has rules el d
   body_left id el is =
       let below = get_below (bodies rules) id is in
       let all = length-map rules (λ rule. rule.body) in
@@ -41,7 +39,8 @@ module _ (has : ℕ → Bool) (rules left : List Rule) (pruned : ArePruned has r
       let d = there (bodies left) id (omega (arith, below, all, same, count)) in
       (d.0, d.1, pruned.left_of id el d.0 is d.1)
 
-  body_was : (id : ℕ) (d : Element) → slice_get (bodies left) id ≡ Some d → (el : Element) × (slice_get (bodies rules) id ≡ Some el) × IsLeftBody has rules el d
+  body_was : (id : ℕ) (d : Element) → slice_get (bodies left) id ≡ Some d →
+      (el : Element) × (slice_get (bodies rules) id ≡ Some el) × IsLeftBody has rules el d
   body_was id d is =
       let below = get_below (bodies left) id is in
       let all = length-map rules (λ rule. rule.body) in
@@ -73,11 +72,12 @@ module _ (has : ℕ → Bool) (rules left : List Rule) (pruned : ArePruned has r
     where
       by : {el d : Element} → IsLeftBody has rules el d → Derives has left d w → Derives has rules el w
       by (left_body k) d = back has rules left names d k
-      by (no_body not) d = absurd (no_prose d)
+      by (no_body not) d = absurd (no_prose has left d)
 
   -- what is kept has productive parts alone
   still_productive : {el d : Element} → Keeps has rules el d → IsProductive has left d
-  still_productive k = let p = keeps_productive has rules k in record { word = p.word; letters = p.letters; derives = forth has rules left names p.derives p.letters k }
+  still_productive k =
+      let p = keeps_productive has rules k in record { word = p.word; letters = p.letters; derives = forth has rules left names p.derives p.letters k }
 
   mutual
     lives : {el d : Element} → Keeps has rules el d → IsLive has left d
@@ -110,7 +110,7 @@ module _ (has : ℕ → Bool) (rules left : List Rule) (pruned : ArePruned has r
     where
       by : {c b : Element} → IsLeftBody has rules c b → IsProductive has left b → IsLive has left b
       by (left_body kb) p = lives kb
-      by (no_body not) p = absurd (no_prose p.derives)
+      by (no_body not) p = absurd (no_prose has left p.derives)
 
   module _ (judged : ℕ) (flat : Flat) (lowered : IsLowered left judged flat) where
     forth_member : (x : List ℕ) (n : ℕ) → AreLetters has x → BeginsMember has rules judged x n → BeginsMember has left judged x n
@@ -135,7 +135,8 @@ module _ (has : ℕ → Bool) (rules left : List Rule) (pruned : ArePruned has r
         was : (el : Element) × (slice_get (bodies rules) judged ≡ Some el) × IsLeftBody has rules el body.0
         was = body_was judged body.0 body.1
 
-        by : {el d : Element} → IsLeftBody has rules el d → Spells left flat.nodes lowered.body d → slice_get (bodies left) judged ≡ Some d → HasItem flat x n ↔ BeginsMember has rules judged x n
+        by : {el d : Element} → IsLeftBody has rules el d → Spells left flat.nodes lowered.body d → slice_get (bodies left) judged ≡ Some d →
+            HasItem flat x n ↔ BeginsMember has rules judged x n
         by (left_body k) sp is = (
           (λ h. back_member x n (items_go_on has left judged flat lowered (live_bodies judged is k) x letters n h)),
           (λ b. has_item has left judged flat lowered x n le (forth_member x n letters b)),

@@ -52,6 +52,9 @@ pub record AreLiveBodies (has : ℕ → Bool) (rules : List Rule) (judged : ℕ)
   pub whole : (el : Element) → slice_get (bodies rules) judged ≡ Some el → IsProductive has rules el × IsLive has rules el
 
 module _ (has : ℕ → Bool) (rules : List Rule) (judged : ℕ) (flat : Flat) (lowered : IsLowered rules judged flat) (live : AreLiveBodies has rules judged) (x : List ℕ) (letters : AreLetters has x) where
+  moved : {v w : List ℕ} → v ≡ w → RuleDerives has rules judged v → RuleDerives has rules judged w
+  moved same d = subst (λ z. RuleDerives has rules judged z) same d
+
   record BeginsAfter (i : ℕ) (v : List ℕ) : Type 0 where
     tail : List ℕ
     tail_letters : AreLetters has tail
@@ -87,7 +90,8 @@ module _ (has : ℕ → Bool) (rules : List Rule) (judged : ℕ) (flat : Flat) (
               let same : other ≡ body = cc (found, is) in
               live.named n body is (record { word = w; letters = all; derives = subst (λ v. Derives has rules v w) same d })
 
-      by : {el : Element} → Shows rules flat.nodes (Name r) el → IsLive has rules el → ((body : Element) → Spells rules flat.nodes t' body → IsLive has rules body → Into body t) → Into el t
+      by : {el : Element} → Shows rules flat.nodes (Name r) el → IsLive has rules el →
+          ((body : Element) → Spells rules flat.nodes t' body → IsLive has rules body → Into body t) → Into el t
       by (shows_name {n = n} found) (live_name p) rec =
           let body = body_of_number rules flat.nodes flat.bodies lowered.spelled n r t' found at_r in
           let inside = rec body.0 body.2 (inner body.0 body.1 p) in
@@ -102,7 +106,11 @@ module _ (has : ℕ → Bool) (rules : List Rule) (judged : ℕ) (flat : Flat) (
         el = inside.of;
         spelled = inside.spelled;
         alive = inside.alive;
-        on = λ v all d. record { tail = []; tail_letters = tt; derived = record { body = body.0; is = body.1; derives = subst (λ u. Derives has rules body.0 u) (sym (append-nil v)) (one (inside.up v d)) } };
+        on = λ v all d. record {
+          tail = [];
+          tail_letters = tt;
+          derived = record { body = body.0; is = body.1; derives = subst (λ u. Derives has rules body.0 u) (sym (append-nil v)) (one (inside.up v d)) };
+        };
       }
     where
       alone : {el : Element} {w : List ℕ} → DerivesAll has rules (more el none) w → Derives has rules el w
@@ -135,7 +143,8 @@ module _ (has : ℕ → Bool) (rules : List Rule) (judged : ℕ) (flat : Flat) (
                 record {
                   tail = f.rest ++ on.tail;
                   tail_letters = letters_both has f.rest on.tail f.letters on.tail_letters;
-                  derived = subst (λ z. RuleDerives has rules judged z) {x = (take i x ++ ((reached.word ++ v) ++ f.rest)) ++ on.tail} {y = (take j x ++ v) ++ (f.rest ++ on.tail)} (joined x i j reached.word v f.rest on.tail reached.lies) on.derived;
+                  derived = moved {v = (take i x ++ ((reached.word ++ v) ++ f.rest)) ++ on.tail} {w = (take j x ++ v) ++ (f.rest ++ on.tail)}
+                      (joined x i j reached.word v f.rest on.tail reached.lies) on.derived;
                 };
           }
 
@@ -170,5 +179,6 @@ module _ (has : ℕ → Bool) (rules : List Rule) (judged : ℕ) (flat : Flat) (
               record {
                 rest = f.rest ++ on.tail;
                 letters = letters_both has f.rest on.tail f.letters on.tail_letters;
-                derives = subst (λ z. RuleDerives has rules judged z) {x = (take i x ++ (reached.word ++ f.rest)) ++ on.tail} {y = take j x ++ (f.rest ++ on.tail)} (joined_one x i j reached.word f.rest on.tail reached.lies) on.derived;
+                derives = moved {v = (take i x ++ (reached.word ++ f.rest)) ++ on.tail} {w = take j x ++ (f.rest ++ on.tail)}
+                    (joined_one x i j reached.word f.rest on.tail reached.lies) on.derived;
               }

@@ -1,7 +1,8 @@
 -- Where letters begin a list that the judged rule derives, an item stands after each of them.
 -- Serves: lower_viable.
-use Rattle.std.proofs.Common.{◌≡◌, ℕ, zero, suc, ◌+◌, ◌≤◌, ◌⊎◌, inl, inr, ⊎_elim, Some, None, Option, List, [], ◌∷◌, ◌++◌, length, take, drop, refl, sym, ◌∙◌, ap, subst, arith}
+use Rattle.std.proofs.Common.{◌≡◌, ℕ, zero, suc, ◌+◌, ◌≤◌, ◌⊎◌, inl, inr, ⊎_elim, Some, None, Option, List, [], ◌∷◌, ◌++◌, length, take, drop, refl, sym, ◌∙◌, subst, arith}
 use Rattle.std.specs.Prelude.{slice_get, Bool}
+use Rattle.std.proofs.lemmas.List.{length-take-le}
 use Rattle.abnfread.specs.Element as e
 use Rattle.abnfread.specs.Element.{Element, Elements, Rule}
 use Rattle.abnfcheck.specs.Beginnings.{BeginsMember}
@@ -47,7 +48,8 @@ module _ (has : ℕ → Bool) (rules : List Rule) (flat : Flat) (bodies : AreBod
   from_none k (Some b) h = omega (arith, h)
 
   mutual
-    reach : {el : Element} {v : List ℕ} → Derives has rules el v → (s i j : ℕ) → Spells rules flat.nodes s el → (u r : List ℕ) → v ≡ u ++ r → Lies x i u j →
+    reach : {el : Element} {v : List ℕ} → Derives has rules el v → (s i j : ℕ) → Spells rules flat.nodes s el → (u r : List ℕ) → v ≡ u ++ r →
+        Lies x i u j →
         ((p : Place) → Starts flat s p → Holds flat x i p i) → HasItem flat x j
     reach (der.text {w = w} d) s i j (spells is (shows_text {sets = sets} same)) u r cut l begin =
         reach_letters s sets is (subst (λ v. Fit v w) (sym same) (text_fits d)) 0 i j i refl u r cut l (begin (at s 0) (starts is Begins.letters))
@@ -68,8 +70,8 @@ module _ (has : ℕ → Bool) (rules : List Rule) (flat : Flat) (bodies : AreBod
         reach d h.node i j h.spelled u r cut l (λ p st. begin p (name_starts is h.at st))
 
     reach_all : {es : Elements} {v : List ℕ} {left : List ℕ} → DerivesAll has rules es v → SpellAll rules flat.nodes left es →
-        (s : ℕ) (ms : List ℕ) → slice_get flat.nodes s ≡ Some (Concat ms) → (k i j o : ℕ) → drop k ms ≡ left → (u r : List ℕ) → v ≡ u ++ r → Lies x i u j →
-        Holds flat x i (at s k) o → HasItem flat x j
+        (s : ℕ) (ms : List ℕ) → slice_get flat.nodes s ≡ Some (Concat ms) → (k i j o : ℕ) → drop k ms ≡ left → (u r : List ℕ) → v ≡ u ++ r →
+        Lies x i u j → Holds flat x i (at s k) o → HasItem flat x j
     reach_all all_done spell_none s ms is k i j o left u r cut l h = ended u r j cut l h
     reach_all (then {w = w} {v = v} d ds) (spell_more {m = m} sp all) s ms is k i j o left u r cut l h =
         let n = next_of ms k left in
@@ -90,7 +92,8 @@ module _ (has : ℕ → Bool) (rules : List Rule) (flat : Flat) (bodies : AreBod
     reach_some (later d) (spell_more sp all) s ms is k i j left u r cut l begin =
         let n = next_of ms k left in reach_some d all s ms is (k + 1) i j n.rest u r cut l begin
 
-    reach_times : {el : Element} {count : ℕ} {v : List ℕ} → DerivesTimes has rules el count v → (s a m : ℕ) (b : Option ℕ) → slice_get flat.nodes s ≡ Some (Rep a b m) →
+    reach_times : {el : Element} {count : ℕ} {v : List ℕ} → DerivesTimes has rules el count v → (s a m : ℕ) (b : Option ℕ) →
+        slice_get flat.nodes s ≡ Some (Rep a b m) →
         Spells rules flat.nodes m el → (t f i j o : ℕ) → Turned a b t f → der.Within (t + count) b → (u r : List ℕ) → v ≡ u ++ r → Lies x i u j →
         Holds flat x i (at s f) o → HasItem flat x j
     reach_times no_more s a m b is sp t f i j o turned within u r cut l h = ended u r j cut l h
@@ -114,17 +117,12 @@ front_lies : (x : List ℕ) (j : ℕ) {i k : ℕ} {w : List ℕ} → Lies (take 
 front_lies x j here = here
 front_lies x j (step {i = i} on l) = step (front_at x j i on.0, on.1) (front_lies x j l)
 
-long_front : (x : List ℕ) (j : ℕ) → j ≤ length x → length (take j x) ≡ j
-long_front x zero le = refl
-long_front [] (suc j) le = absurd (omega (arith, le))
-long_front (c ∷ x) (suc j) le = ap suc (long_front x j (omega (arith, le)))
-
 module _ (has : ℕ → Bool) (rules : List Rule) (judged : ℕ) (flat : Flat) (lowered : IsLowered rules judged flat) (x : List ℕ) where
   pub has_item : (j : ℕ) → j ≤ length x → BeginsMember has rules judged x j → HasItem flat x j
   has_item j le b =
       let d = b.derives in
       let h = node_of_rule rules flat.nodes flat.bodies lowered.spelled judged d.body d.is in
       let same : h.node ≡ lowered.body = cc (h.at, lowered.body_is) in
-      let front = subst (λ v. Lies x 0 (take j x) v) (long_front x j le) (front_lies x j (all_of (take j x))) in
+      let front = subst (λ v. Lies x 0 (take j x) v) (length-take-le j x le) (front_lies x j (all_of (take j x))) in
       reach has rules flat lowered.spelled x d.derives lowered.body 0 j (subst (λ v. Spells rules flat.nodes v d.body) same h.spelled) (take j x) b.rest refl front
       (λ p st. called (begins (starts lowered.whole Begins.concat)) (calls lowered.whole (Calling.member refl)) st)

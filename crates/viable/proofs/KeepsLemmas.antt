@@ -8,13 +8,16 @@ use Rattle.abnfcheck.specs.Derivable.{AreLetters, Within, Derives, DerivesAll, D
 use Rattle.abnfcheck.proofs.AimLemmas.{spelled_itself}
 use Rattle.abnfcheck.proofs.YieldsLemmas.{letters_both, letters_parts}
 use Rattle.flatgrammar.specs.Places.{count, size, size_all}
-use Rattle.viable.specs.Pruned.{IsProductive, AreProductive, Keeps, keep_text, keep_values, keep_range, keep_concat, keep_alt, keep_rep, empty_rep, keep_opt, empty_opt, keep_name, KeepsAll, keep_none, keep_more, KeepsSome, some_none, kept, dropped}
+use Rattle.viable.specs.Pruned.{IsProductive, AreAllProductive, Keeps, keep_text, keep_values, keep_range, keep_concat, keep_alt, keep_rep, empty_rep, keep_opt, empty_opt, keep_name, KeepsAll, keep_none, keep_more, KeepsSome, some_none, kept, dropped}
 
 pub within_none : (b : Option ℕ) → Within 0 b
 within_none None = tt
 within_none (Some most) = omega arith
 
 module _ (has : ℕ → Bool) (rules : List Rule) where
+  pub no_prose : {t w : List ℕ} → Derives has rules (e.Prose t) w → ⊥
+  no_prose d = elim d [ ]
+
   times : (el : Element) (k : ℕ) → IsProductive has rules el → (w : List ℕ) × AreLetters has w × DerivesTimes has rules el k w
   times el zero p = ([], tt, no_more)
   times el (suc k) p = let rest = times el k p in (p.word ++ rest.0, letters_both has p.word rest.0 p.letters rest.1, one_more p.derives rest.2)
@@ -25,7 +28,8 @@ module _ (has : ℕ → Bool) (rules : List Rule) where
     keeps_productive (keep_text {folds = folds} {t = t} letters) = record { word = t; letters = letters; derives = der.text (spelled_itself folds t) }
     keeps_productive (keep_values {vs = vs} letters) = record { word = vs; letters = letters; derives = der.values letters }
     keeps_productive (keep_range some) = record { word = some.letter ∷ []; letters = (some.is, tt); derives = der.range some.from some.to some.is }
-    keeps_productive (keep_concat ks) = let p = keeps_all_productive ks in record { word = p.word; letters = p.letters; derives = der.concat p.derives }
+    keeps_productive (keep_concat ks) =
+        let p = keeps_all_productive ks in record { word = p.word; letters = p.letters; derives = der.concat p.derives }
     keeps_productive (keep_alt p ks) = p
     keeps_productive (keep_rep {a = a} {e = el} within k) =
         let p = times el a (keeps_productive k) in record { word = p.0; letters = p.1; derives = der.rep {k = a} (omega arith) within p.2 }
@@ -34,7 +38,7 @@ module _ (has : ℕ → Bool) (rules : List Rule) where
     keeps_productive (empty_opt not) = record { word = []; letters = tt; derives = der.opt_empty }
     keeps_productive (keep_name p) = p
 
-    keeps_all_productive : {es ds : Elements} → KeepsAll has rules es ds → AreProductive has rules es
+    keeps_all_productive : {es ds : Elements} → KeepsAll has rules es ds → AreAllProductive has rules es
     keeps_all_productive keep_none = record { word = []; letters = tt; derives = all_done }
     keeps_all_productive (keep_more k ks) =
         let p = keeps_productive k in let ps = keeps_all_productive ks in
@@ -71,13 +75,15 @@ module _ (has : ℕ → Bool) (rules left : List Rule)
     forth_all (then {w = w} {v = v} d rest) letters (keep_more k ks) =
         let both = letters_parts has w v letters in then (forth d both.0 k) (forth_all rest both.1 ks)
 
-    forth_some : {es ds : Elements} {w : List ℕ} → DerivesSome has rules es w → AreLetters has w → KeepsSome has rules es ds → DerivesSome has left ds w
+    forth_some : {es ds : Elements} {w : List ℕ} → DerivesSome has rules es w → AreLetters has w → KeepsSome has rules es ds →
+        DerivesSome has left ds w
     forth_some (this d) letters (kept k ks) = this (forth d letters k)
     forth_some {w = w} (this d) letters (dropped not ks) = absurd (not (record { word = w; letters = letters; derives = d }))
     forth_some (later d) letters (kept k ks) = later (forth_some d letters ks)
     forth_some (later d) letters (dropped not ks) = forth_some d letters ks
 
-    forth_times : {el d : Element} {k : ℕ} {w : List ℕ} → DerivesTimes has rules el k w → AreLetters has w → Keeps has rules el d → DerivesTimes has left d k w
+    forth_times : {el d : Element} {k : ℕ} {w : List ℕ} → DerivesTimes has rules el k w → AreLetters has w → Keeps has rules el d →
+        DerivesTimes has left d k w
     forth_times no_more letters keeps = no_more
     forth_times (one_more {w = w} {v = v} d rest) letters keeps =
         let both = letters_parts has w v letters in one_more (forth d both.0 keeps) (forth_times rest both.1 keeps)

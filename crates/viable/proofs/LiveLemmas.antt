@@ -88,7 +88,8 @@ module _ (has : ℕ → Bool) (rules : List Rule) where
       }
 
   -- as many turns as are asked for, at least
-  rep_rest : (a j : ℕ) (b : Option ℕ) {el : Element} {w : List ℕ} → der.Within a b → der.Within j b → IsProductive has rules el → DerivesTimes has rules el j w → GoesOn (e.Rep a b el) w
+  rep_rest : (a j : ℕ) (b : Option ℕ) {el : Element} {w : List ℕ} → der.Within a b → der.Within j b → IsProductive has rules el →
+      DerivesTimes has rules el j w → GoesOn (e.Rep a b el) w
   rep_rest a j b {el = el} {w = w} low high one d = by (cases_lt j a)
     where
       by : ((j < a) ⊎ (a ≤ j)) → GoesOn (e.Rep a b el) w
@@ -106,7 +107,8 @@ module _ (has : ℕ → Bool) (rules : List Rule) where
   range_of low high w letters (fit_more h fit_none) = der.range h.0 h.1 letters.0
 
   module _ (nodes : List Node) where
-    pub goes_on : {node : Node} {el : Element} {k : ℕ} {w : List ℕ} → Shows rules nodes node el → IsLive has rules el → k < width node → AreLetters has w → Before has rules node el k w → GoesOn el w
+    pub goes_on : {node : Node} {el : Element} {k : ℕ} {w : List ℕ} → Shows rules nodes node el → IsLive has rules el → k < width node →
+        AreLetters has w → Before has rules node el k w → GoesOn el w
     goes_on {k = k} {w = w} (shows_text {folds = folds} {t = t} is) (live_text one) lt letters (in_letters {sets = sets} f) = by one.letters one.derives
       where
         by : {u : List ℕ} → AreLetters has u → Derives has rules (e.Text folds t) u → GoesOn (e.Text folds t) w
@@ -155,7 +157,8 @@ module _ (has : ℕ → Bool) (rules : List Rule) where
     live_at zero (more_live {el = first} one l ls) is = subst (λ v. IsLive has rules v) (cc is) l
     live_at (suc k) (more_live one l ls) is = live_at k ls is
 
-    pub part_of : {node : Node} {el : Element} {k t l : ℕ} {w : List ℕ} → Calling node k t l → Shows rules nodes node el → IsLive has rules el → Before has rules node el k w → Part node el t l w
+    pub part_of : {node : Node} {el : Element} {k t l : ℕ} {w : List ℕ} → Calling node k t l → Shows rules nodes node el → IsLive has rules el →
+        Before has rules node el k w → Part node el t l w
     part_of {w = w} (Calling.member {ms = ms} {k = k} {s = s} is) (shows_concat {es = es} all) (live_concat ls) (in_concat d) =
         let h = member_at has rules nodes k s all is in
         let one : suc k ≡ k + 1 = omega arith in

@@ -3,7 +3,7 @@
 use Rattle.std.proofs.Common.{◌≡◌, ℕ, zero, suc, ◌+◌, ◌<◌, ◌≤◌, ◌==◌, Bool, true, false, List, [], ◌∷◌, ◌++◌, length, take, map, get_or, Option, Some, None, refl, sym, ◌∙◌, ap, subst, arith, add-one}
 use Rattle.std.specs.Prelude.{slice_get}
 use Rattle.std.proofs.lemmas.Bool.{eqb-true}
-use Rattle.std.proofs.lemmas.List.{length-map, map-append, nil_from_length}
+use Rattle.std.proofs.lemmas.List.{length-map, map-append, nil_from_length, take_all}
 use Rattle.std.proofs.Math.Seq.{take-suc}
 use Rattle.letters.specs.Letters.{has as in_alphabet, HasLetter}
 use Rattle.letters.specs.declared.alphabet.Alphabet.{Alphabet}
@@ -18,7 +18,7 @@ use Rattle.abnfcheck.proofs.YieldsLemmas.{letters_parts}
 use Rattle.leastset.specs.NumberMarks.{IsMarked}
 use Rattle.flatgrammar.proofs.BeforeLemmas.{get_below}
 use Rattle.flatgrammar.proofs.RuleNodeLemmas.{body_at_id}
-use Rattle.viable.specs.Pruned.{IsProductive, AreProductive, Keeps, keep_values, empty_rep, keep_alt, KeepsAll, keep_none, keep_more, KeepsSome, some_none, kept, dropped}
+use Rattle.viable.specs.Pruned.{IsProductive, AreAllProductive, Keeps, keep_values, empty_rep, keep_alt, KeepsAll, keep_none, keep_more, KeepsSome, some_none, kept, dropped}
 use Rattle.viable.proofs.KeepsLemmas.{keeps_productive}
 
 abbrev snoc : Elements → Element → Elements
@@ -32,29 +32,19 @@ module _ (has : ℕ → Bool) (rules : List Rule) where
       by : {w : List ℕ} → Derives has rules (e.Values vs) w → ⊥
       by (der.values all) = not all
 
-  pub values_left : (vs got : List ℕ) (i : ℕ) → length vs ≤ i → AreLetters has (take i vs) × (got ≡ take i vs) → Keeps has rules (e.Values vs) (e.Values got)
-  values_left vs got i all so_far = by (take_all vs i all)
+  pub values_left : (vs got : List ℕ) (i : ℕ) → length vs ≤ i → AreLetters has (take i vs) × (got ≡ take i vs) →
+      Keeps has rules (e.Values vs) (e.Values got)
+  values_left vs got i all so_far = by (take_all i vs all)
     where
-      take_all : {A : Type 0} (xs : List A) (n : ℕ) → length xs ≤ n → take n xs ≡ xs
-      take_all [] zero le = refl
-      take_all [] (suc n) le = refl
-      take_all (x ∷ xs) zero le = absurd (omega (arith, le))
-      take_all (x ∷ xs) (suc n) le = ap (λ v. x ∷ v) (take_all xs n (omega (arith, le)))
-
       by : take i vs ≡ vs → Keeps has rules (e.Values vs) (e.Values got)
-      by same = subst (λ v. Keeps has rules (e.Values vs) (e.Values v)) (sym (so_far.1 ∙ same)) (keep_values (subst (λ v. AreLetters has v) same so_far.0))
+      by same =
+          subst (λ v. Keeps has rules (e.Values vs) (e.Values v)) (sym (so_far.1 ∙ same)) (keep_values (subst (λ v. AreLetters has v) same so_far.0))
 
   pub no_range : (low high : ℕ) → (HasLetter has low high → ⊥) → IsProductive has rules (e.Range low high) → ⊥
   no_range low high not p = by p.derives
     where
       by : {w : List ℕ} → Derives has rules (e.Range low high) w → ⊥
       by (der.range {c = c} from to is) = not (record { letter = c; from = from; to = to; is = is })
-
-  pub no_prose : (t : List ℕ) → IsProductive has rules (e.Prose t) → ⊥
-  no_prose t p = by p.derives
-    where
-      by : {w : List ℕ} → Derives has rules (e.Prose t) w → ⊥
-      by d = elim d [ ]
 
   -- repetitions
   pub reversed : (a : ℕ) (b : Option ℕ) (el : Element) → (der.Within a b → ⊥) → IsProductive has rules (e.Rep a b el) → ⊥
@@ -81,13 +71,13 @@ module _ (has : ℕ → Bool) (rules : List Rule) where
       by all (der.rep low high ds) = times low all ds
 
   -- concatenations and alternations
-  members_of : (es : Elements) → IsProductive has rules (e.Concat es) → AreProductive has rules es
+  members_of : (es : Elements) → IsProductive has rules (e.Concat es) → AreAllProductive has rules es
   members_of es p = by p.letters p.derives
     where
-      by : {w : List ℕ} → AreLetters has w → Derives has rules (e.Concat es) w → AreProductive has rules es
+      by : {w : List ℕ} → AreLetters has w → Derives has rules (e.Concat es) w → AreAllProductive has rules es
       by {w = w} all (der.concat ds) = record { word = w; letters = all; derives = ds }
 
-  pub no_concat : (es : Elements) → (AreProductive has rules es → ⊥) → IsProductive has rules (e.Concat es) → ⊥
+  pub no_concat : (es : Elements) → (AreAllProductive has rules es → ⊥) → IsProductive has rules (e.Concat es) → ⊥
   no_concat es not p = not (members_of es p)
 
   none_derives : {es : Elements} {w : List ℕ} → KeepsSome has rules es none → AreLetters has w → DerivesSome has rules es w → ⊥
@@ -108,10 +98,13 @@ module _ (has : ℕ → Bool) (rules : List Rule) where
   alt_left : (es ds : Elements) (d : Element) → KeepsSome has rules es (more d ds) → Keeps has rules (e.Alt es) (e.Alt (more d ds))
   alt_left es ds d ks = let s = some_derives ks in keep_alt (record { word = s.0; letters = s.1; derives = der.alt s.2 }) ks
 
-  pub no_alts : (es : Elements) (ds : List Elem) (empty : Bool) → empty ≡ (length ds == 0) → empty ≡ true → KeepsSome has rules es (elements_of ds) → IsProductive has rules (e.Alt es) → ⊥
-  no_alts es ds empty is on ks = no_alt es (subst (λ v. KeepsSome has rules es (elements_of v)) (nil_from_length ds (eqb-true (length ds) 0 (sym is ∙ on))) ks)
+  pub no_alts : (es : Elements) (ds : List Elem) (empty : Bool) → empty ≡ (length ds == 0) → empty ≡ true →
+      KeepsSome has rules es (elements_of ds) → IsProductive has rules (e.Alt es) → ⊥
+  no_alts es ds empty is on ks =
+      no_alt es (subst (λ v. KeepsSome has rules es (elements_of v)) (nil_from_length ds (eqb-true (length ds) 0 (sym is ∙ on))) ks)
 
-  pub some_alts : (es : Elements) (ds : List Elem) (empty : Bool) → empty ≡ (length ds == 0) → empty ≡ false → KeepsSome has rules es (elements_of ds) → Keeps has rules (e.Alt es) (e.Alt (elements_of ds))
+  pub some_alts : (es : Elements) (ds : List Elem) (empty : Bool) → empty ≡ (length ds == 0) → empty ≡ false →
+      KeepsSome has rules es (elements_of ds) → Keeps has rules (e.Alt es) (e.Alt (elements_of ds))
   some_alts es [] empty is off ks = absurd (cc (is, off))
   some_alts es (d ∷ ds) empty is off ks = alt_left es (elements_of ds) (element_of d) ks
 
@@ -137,11 +130,13 @@ snoc_is (c ∷ es) el = ap (λ v. more c v) (snoc_is es el)
 push_is : (es : List Elem) (v : Elem) → elements_of (es ++ v ∷ []) ≡ snoc (elements_of es) (element_of v)
 push_is es v = ap elements (map-append element_of es (v ∷ [])) ∙ snoc_is (map element_of es) (element_of v)
 
-next_is : (es : List Elem) (i : ℕ) (v : Elem) → i < length es → v ≡ get_or es i v → elements_of (take (i + 1) es) ≡ snoc (elements_of (take i es)) (element_of v)
+next_is : (es : List Elem) (i : ℕ) (v : Elem) → i < length es → v ≡ get_or es i v →
+    elements_of (take (i + 1) es) ≡ snoc (elements_of (take i es)) (element_of v)
 next_is es i v lt is =
     ap (λ k. elements_of (take k es)) (add-one i) ∙ ap elements_of (take-suc es i v lt) ∙ ap (λ w. elements_of (take i es ++ w ∷ [])) (sym is) ∙ push_is (take i es) v
 
-one_at : (has : ℕ → Bool) (rules : List Rule) (es : List Elem) (i : ℕ) (d : Elem) {w : List ℕ} → i < length es → AreLetters has w → DerivesAll has rules (elements_of es) w → IsProductive has rules (element_of (get_or es i d))
+one_at : (has : ℕ → Bool) (rules : List Rule) (es : List Elem) (i : ℕ) (d : Elem) {w : List ℕ} → i < length es → AreLetters has w →
+    DerivesAll has rules (elements_of es) w → IsProductive has rules (element_of (get_or es i d))
 one_at has rules [] i d lt all ds = absurd (omega (arith, lt))
 one_at has rules (x ∷ es) zero d lt all (then {w = w} {v = v} one ds) = record { word = w; letters = (letters_parts has w v all).0; derives = one }
 one_at has rules (x ∷ es) (suc i) d lt all (then {w = w} {v = v} one ds) = one_at has rules es i d (omega (arith, lt)) (letters_parts has w v all).1 ds
@@ -151,7 +146,7 @@ module _ (has : ℕ → Bool) (rules : List Rule) (es ds : List Elem) (i : ℕ) 
       KeepsAll has rules (elements_of (take (i + 1) es)) (elements_of (ds ++ d ∷ []))
   next_member d ks k = rw (next_is es i v lt is, push_is ds d) (all_push has rules (element_of v) (element_of d) ks k)
 
-  pub no_member : (IsProductive has rules (element_of v) → ⊥) → AreProductive has rules (elements_of es) → ⊥
+  pub no_member : (IsProductive has rules (element_of v) → ⊥) → AreAllProductive has rules (elements_of es) → ⊥
   no_member not p = not (subst (λ w. IsProductive has rules (element_of w)) (sym is) (one_at has rules es i v lt p.letters p.derives))
 
   pub next_kept : (d : Elem) → KeepsSome has rules (elements_of (take i es)) (elements_of ds) → Keeps has rules (element_of v) (element_of d) →

@@ -15,7 +15,7 @@ module _ (has : ℕ → Bool) (rules : List Rule) where
     pub derives : Derives has rules e word
 
   -- the members one after another derive some list of letters
-  pub record AreProductive (es : Elements) : Type 0 where
+  pub record AreAllProductive (es : Elements) : Type 0 where
     pub word : List ℕ
     pub letters : AreLetters has word
     pub derives : DerivesAll has rules es word
@@ -52,7 +52,7 @@ module _ (has : ℕ → Bool) (rules : List Rule) where
 
   -- what is left of the members: nothing, if one of them is not productive
   abbrev pub AreLeft : Elements → Option Elements → Type 0
-  AreLeft es None = AreProductive es → ⊥
+  AreLeft es None = AreAllProductive es → ⊥
   AreLeft es (Some ds) = KeepsAll es ds
 
   -- the body of a rule that is not productive becomes one that derives nothing

@@ -104,7 +104,8 @@ fn prune_option(alloc: Global, operand: Option<Elem>) -> Result<Elem, Memory>
 
 // Returns what is left of a concatenation, from what is left of its members.
 fn prune_concat(members: Option<Vec<Elem>>) -> Option<Elem>
-    ensures { (test : ℕ → Bool) (rules : List Rule) (es : Elements) → AreLeft test rules es (some_elements members) → IsLeft test rules (e.Concat es) (some_element result) }
+    ensures { (test : ℕ → Bool) (rules : List Rule) (es : Elements) →
+        AreLeft test rules es (some_elements members) → IsLeft test rules (e.Concat es) (some_element result) }
 {
     let members = members?;
     Some(Elem::Concat(members))
@@ -112,7 +113,8 @@ fn prune_concat(members: Option<Vec<Elem>>) -> Option<Elem>
 
 // Returns what is left of an alternation, from what is left of its alternatives.
 fn prune_alt(alternatives: Vec<Elem>) -> Option<Elem>
-    ensures { (test : ℕ → Bool) (rules : List Rule) (es : Elements) → KeepsSome test rules es (elements_of alternatives.items) → IsLeft test rules (e.Alt es) (some_element result) }
+    ensures { (test : ℕ → Bool) (rules : List Rule) (es : Elements) →
+        KeepsSome test rules es (elements_of alternatives.items) → IsLeft test rules (e.Alt es) (some_element result) }
 {
     if alternatives.is_empty() {
         None
@@ -152,7 +154,7 @@ fn prune_name(
     }
 }
 
-/// Returns what is left of an element: a copy of its productive parts, or nothing if it is not productive.
+// Returns what is left of an element: a copy of its productive parts, or nothing if it is not productive.
 #[cycle(pruning)]
 fn prune(
     alloc: Global,

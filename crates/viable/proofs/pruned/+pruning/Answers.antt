@@ -2,6 +2,7 @@ use Rattle.abnfread.specs.AbnfViews.{rules_of}
 use Rattle.abnfread.proofs.ElementLemmas.{element-Text, element-Values, element-Range, element-Concat, element-Alt, element-Rep, element-Opt, element-Name, element-Prose}
 use Rattle.letters.specs.Letters.{has}
 use Rattle.viable.specs.Pruned.{keep_none, some_none}
+use Rattle.viable.proofs.KeepsLemmas.{no_prose}
 use Rattle.viable.proofs.PruneLemmas as o
 use Rattle.viable.proofs.pruned.+pruning.Goals as goal
 use Rattle.viable.proofs.pruned.+pruning.Goals.{prune-in-Text+in_ok-prune_text-in-Text, prune-in-Values+in_ok-left-in-Values, prune-in-Range, prune-in-Concat+in_ok-prune_all-in-Concat, prune-in-Alt+in_ok-prune_some-in-Alt, prune-in-Rep+in_ok-operand-in-Rep+in_ok-left-in-Rep, prune-in-Opt+in_ok-operand-in-Opt+in_ok-prune_option-in-Opt, prune-in-Name+in_ok-left-in-Name, prune-in-Prose, prune_some-in-Some+in_ok-push-in-Some, prune_some-in-None}
@@ -20,14 +21,15 @@ prune-returns t c = elim c.match-e.branch [
   | prune-in-Opt+in_ok-operand-in-Opt+in_ok-prune_option-in-Opt w ↦ rw (w.in-Opt.is, element-Opt, w.left-is)
       (w.in_ok-prune_option-in-Opt.ensures (has c.args.alphabet) (rules_of c.args.rules.now) _ (rw w.deref-in-Opt.ensures at w.in_ok-operand-in-Opt.ensures))
   | prune-in-Name+in_ok-left-in-Name w ↦ rw (w.in-Name.is, element-Name, w.left-is) (rw w.deref-in-Name.ensures.value at w.in_ok-left-in-Name.ensures)
-  | prune-in-Prose w ↦ rw (w.in-Prose.is, element-Prose, w.left-is) (o.no_prose (has c.args.alphabet) (rules_of c.args.rules.now) _)
+  | prune-in-Prose w ↦ rw (w.in-Prose.is, element-Prose, w.left-is) (λ p. no_prose (has c.args.alphabet) (rules_of c.args.rules.now) p.derives)
 ]
 
 pub prune_all-loop-member-init : goal.prune_all-loop-member-init
 prune_all-loop-member-init t c = rw c.new-kept.ensures.items keep_none
 
 pub prune_all-returns-in-None : goal.prune_all-returns-in-None
-prune_all-returns-in-None t c = o.no_member (has c.args.alphabet) (rules_of c.args.rules.now) _ c.loop-member.kept.items _ _ c.loop-member-test.true c.member-item.is (rw c.in-None.is at c.in_ok-left.ensures)
+prune_all-returns-in-None t c =
+    o.no_member (has c.args.alphabet) (rules_of c.args.rules.now) _ c.loop-member.kept.items _ _ c.loop-member-test.true c.member-item.is (rw c.in-None.is at c.in_ok-left.ensures)
 
 pub prune_all-loop-member-preserved : goal.prune_all-loop-member-preserved
 prune_all-loop-member-preserved t c = rw c.in_ok-push-in-Some.ensures.items
