@@ -11,6 +11,7 @@ use toolrun::{Status, Stop};
 
 /// Says yes to the lines of at most so many bytes. To another line it says no, and by how many bytes it is longer if it
 /// counts.
+#[derive(Drop)]
 struct Short {
     most: usize,
     counts: bool,
