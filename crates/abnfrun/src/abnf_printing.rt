@@ -1,19 +1,17 @@
 //! A grammar that is read to be printed in its canonical form.
-ghost use Rattle.std.specs.Prelude.{◌≡◌, ◌<◌, ◌≤◌, ◌==◌, ℕ, Bool, map, length, get_or, IfOk, IfErr};
-ghost use Rattle.std.specs.List.{list_any};
-ghost use Rattle.ruletable.specs.Notes.{said, said_of};
-ghost use Rattle.ruletable.specs.Rules.{names_of};
+ghost use Rattle.std.specs.Prelude.{map, IfOk, IfErr};
+ghost use Rattle.ruletable.specs.Notes.{said_of};
 ghost use Rattle.ruletable.specs.Writing.{Flags};
 ghost use Rattle.abnfread.specs.AbnfReading.{IsFaultOf};
 ghost use Rattle.abnfread.specs.Views.{rules_of};
-ghost use Rattle.abnfcheck.specs.NameMarks.{chosen};
 ghost use Rattle.abnfprint.specs.CanonicalAbnf.{grammar_text};
 ghost use Rattle.abnfrun.specs.AbnfNoted.{AreRedefinitions};
 ghost use Rattle.abnfrun.specs.AbnfPrinting.{IsPrintable, Prints};
 
 use abnfprint::print_abnf;
-use abnfread::{Abnf, Elem, read_abnf};
-use ruletable::{Memory, Note, NoteKind, ReadFault, RuleTable, Sink, WriteFault};
+use abnfread::{Abnf, read_abnf};
+use rulenames::{marks_at, note_marked};
+use ruletable::{Memory, Note, NoteKind, ReadFault, Sink, WriteFault};
 use std::alloc::Global;
 use toolrun::{Status, Stop};
 
@@ -24,48 +22,13 @@ pub struct Printable {
     pub again: Vec<Note>,
 }
 
-/// Returns so many marks, set for the ids in the list. Other ids in the list are of no account.
-fn marks_at(alloc: Global, ids: &[usize], count: usize) -> Result<Vec<bool>, Memory>
-    ensures count { IfOk result (λ marks. length marks.items ≡ count) }
-    ensures marks { IfOk result (λ marks. (id : ℕ) → id < count → get_or marks.items id Bool.false ≡ list_any (λ other. other == id) ids.now) }
-{
-    let mut marks = vec![in alloc; false; count]?;
-    for id in ids {
-        if *id < marks.len() {
-            marks[*id] = true;
-        }
-    }
-    Ok(marks)
-}
-
-/// Returns a note for each rule that is marked as defined again.
-fn note_redefined(
-    alloc: Global,
-    rules: &RuleTable<Elem>,
-    marks: &[bool],
-) -> Result<Vec<Note>, Memory>
-    requires { length marks.now ≤ length rules.now.rules }
-    ensures { IfOk result (λ notes. map said_of notes.items ≡ map (said NoteKind.Redefined) (chosen marks.now (names_of rules.now))) }
-{
-    let mut notes = Vec::new(alloc);
-    for id in 0..marks.len() {
-        if marks[id] {
-            let name = Vec::from_slice(alloc, rules.name(id))?;
-            notes.push(Note {
-                kind: NoteKind::Redefined,
-                name,
-            })?;
-        }
-    }
-    Ok(notes)
-}
-
 /// Returns the notes on the rules that a grammar defines again, alone, by the order of the rules.
 fn redefinitions(alloc: Global, abnf: &Abnf) -> Result<Vec<Note>, Memory>
     ensures { IfOk result (λ notes. AreRedefinitions (rules_of abnf.now.rules) abnf.now.redefined.items (map said_of notes.items)) }
 {
     let marks = marks_at(alloc, &abnf.redefined, abnf.rules.len())?;
-    let notes = note_redefined(alloc, &abnf.rules, &marks)?;
+    let mut notes = Vec::new(alloc);
+    note_marked(alloc, &abnf.rules, &marks, NoteKind::Redefined, &mut notes)?;
     Ok(notes)
 }
 
