@@ -36,8 +36,6 @@ mod spellings;
 #[cfg(test)]
 mod token_rows;
 #[cfg(test)]
-mod undefined_names;
-#[cfg(test)]
 mod unit_texts;
 #[cfg(test)]
 mod viable_beginnings;

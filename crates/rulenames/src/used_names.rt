@@ -37,6 +37,9 @@ pub fn names_of_rules<T>(
 pub fn add_name(name: &[u8], names: &mut RuleTable<()>) -> Result<usize, Memory>
     ensures { IfOk result (IsAdded names.old names.new name.now) }
 {
+    if let Some(id) = names.find(name)? {
+        return Ok(id);
+    }
     match names.define(name, (), NOWHERE)? {
         Defined::Added(id) => Ok(id),
         Defined::Duplicate(id) => Ok(id),
