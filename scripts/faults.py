@@ -20,9 +20,9 @@ import tempfile
 
 TOP = pathlib.Path(__file__).resolve().parent.parent
 STACK = 256 * 1024
-# So many growths at most make the list of a program's words. The list asks first for all that it will need, and where
-# that is refused it asks again, so the run can go on.
-GROWTHS_OF_WORDS = 10
+# So many growths at most make the list of a program's words, beside one for each word before the grammar's. The list asks
+# first for all that it will need, and where that is refused it asks again, so the run can go on.
+GROWTHS_OF_WORDS = 7
 
 # A run: its name, the program and its words, the grammar, the input, the texts of the units or lines, the error output,
 # and the status.
@@ -129,7 +129,7 @@ def refuse_each(tools, run, **more):
     number, good = 1, 0
     while (ended := tools.run(run, GROWTH=number, **more)).refused:
         right = ended.out in fronts and (ended.err, ended.status) == (b"out of memory\n", 5)
-        if is_as_stated(run, ended) and number <= GROWTHS_OF_WORDS:
+        if is_as_stated(run, ended) and number <= len(run.words) + GROWTHS_OF_WORDS:
             right, good = True, good + 1
         tools.expect(run, ended, right, f"growth {number} refused {more}")
         number += 1
