@@ -1,11 +1,11 @@
 #!/usr/bin/env python3
-"""Prints, for each public function of the libraries, where its contract, the definitions that it cites, its proof and the
-lemmas that serve it stand.
+"""Prints, for each public function of the libraries, where its contract, the definitions that it cites, its proof and
+the lemmas that serve it stand.
 
 usage: contract_index.py [WORD ..]
 
-A word is a crate or a function; with none all are printed. A line is a file, and the names in it that the contract cites.
-The lemma files are those whose second line names the function behind `-- Serves:`.
+A word is a crate or a function; with none all are printed. A line is a file, and the names in it that the contract
+cites. The lemma files are those whose second line names the function behind `-- Serves:`.
 """
 import pathlib
 import re

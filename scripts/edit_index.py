@@ -1,8 +1,8 @@
 #!/usr/bin/env python3
 """Prints the must-fail edits crate by crate: the function, what the edit changes, and the clause that refuses it.
 
-Ends with status 1 where an edit's name or first line lacks its form, or a public function has no edit (CONTRIBUTING.md).
-With -q it prints only what is wrong.
+Ends with status 1 where an edit's name or first line lacks its form, or a public function has no edit
+(CONTRIBUTING.md). With -q it prints only what is wrong.
 """
 import dataclasses
 import pathlib
@@ -18,8 +18,8 @@ OTHERS = r"ensures|invariant|loop|safe|ends|requires of [\w.]+"
 PLAIN_TRAITS = ("From", "Model", "Display", "Drop")
 # Crates that show how to call the others: no one calls them, so they need no edits.
 EXAMPLES = ("callers",)
-# Functions of which no wrong body can be written: they lend a field of a type of which no other value is at hand, or make a
-# value of which there is only one that takes no memory.
+# Functions of which no wrong body can be written: they lend a field of a type of which no other value is at hand, or
+# make a value of which there is only one that takes no memory.
 EXEMPT = ("abnfcheck: SoundAbnf.rules", "earley: Chart.new", "flatgrammar: Flat.share",
           "gramcheck: SoundPeg.rules")
 
@@ -53,7 +53,8 @@ def clauses_at(lines, at):
         if re.fullmatch(indent + r"\S.*;", lines[end]):
             return None
         if re.fullmatch(indent + r"(\{|\{\}|\S.* \{|\S.* \{\})", lines[end]):
-            return [it[1] or "ensures" for it in (re.match(r" *ensures\*? (\w*)", line) for line in lines[at:end]) if it]
+            heads = (re.match(r" *ensures\*? (\w*)", line) for line in lines[at:end])
+            return [it[1] or "ensures" for it in heads if it]
     return None
 
 

@@ -20,8 +20,8 @@ import tempfile
 
 TOP = pathlib.Path(__file__).resolve().parent.parent
 STACK = 256 * 1024
-# So many growths at most make the list of a program's words, beside one for each word before the grammar's. The list asks
-# first for all that it will need, and where that is refused it asks again, so the run can go on.
+# So many growths at most make the list of a program's words, beside one for each word before the grammar's. The list
+# asks first for all that it will need, and where that is refused it asks again, so the run can go on.
 GROWTHS_OF_WORDS = 7
 
 # A run: its name, the program and its words, the grammar, the input, the texts of the units or lines, the error output,
@@ -189,7 +189,11 @@ def reads(tools):
 STREAMS = [
     ("an output on a full disk", '"$0" "$1" < "$2" > /dev/full', b"write error\n"),
     ("a closed output", '"$0" "$1" < "$2" >&-', b"write error\n"),
-    ("an output whose reader is gone", '{ "$0" "$1" < "$2"; echo $? > "$3"; } | :; read s < "$3"; exit $s', b"write error\n"),
+    (
+        "an output whose reader is gone",
+        '{ "$0" "$1" < "$2"; echo $? > "$3"; } | :; read s < "$3"; exit $s',
+        b"write error\n",
+    ),
     ("a closed input", '"$0" "$1" <&-', b"read error\n"),
     ("a folder as the input", '"$0" "$1" < /', b"read error\n"),
     ("a folder as the grammar", '"$0" / < "$2"', b"cannot read the grammar\n"),

@@ -1,7 +1,7 @@
 #!/usr/bin/env python3
-"""The gate: the rules of names, the form of the edits that must fail, the pages of the libraries, `rt ci`, and where all
-are green the programs as users run them: random cases against slow answers, and runs in which memory, writes, reads and
-stack are refused.
+"""The gate: the rules of names, the form of the edits that must fail, the pages of the libraries, `rt ci`, and where
+all are green the programs as users run them: random cases against slow answers, and runs in which memory, writes,
+reads and stack are refused.
 
 usage: gate.py
 

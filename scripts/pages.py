@@ -34,7 +34,8 @@ def libraries():
 
 
 def exports(crate):
-    """Returns what a library gives out: by the name outside, the source file and the name there; None for another crate's."""
+    """Returns what a library gives out: by the name outside, the source file and the name there; None for another
+    crate's."""
     source, given = TOP / "crates" / crate / "src", {}
     for module, one, many in EXPORT.findall((source / "lib.rt").read_text()):
         for it in re.split(r",\s*", (one or many).strip(", \n")):
@@ -89,14 +90,15 @@ def head_of(text, start):
 
 
 def methods(text, name):
-    """Returns the functions of the blocks `impl NAME` that are public, and of `impl TRAIT for NAME` those with clauses of
-    their own; each block with its first row."""
+    """Returns the functions of the blocks `impl NAME` that are public, and of `impl TRAIT for NAME` those with clauses
+    of their own; each block with its first row."""
     for block in re.finditer(r"^impl\b[^\n]*\{\n(.*?)^\}", text, re.M | re.S):
         first = block.group().split("\n")[0]
         owner, of_trait = OWNER.match(first), " for " in first
         if not owner or owner.group(1) != name:
             continue
-        found = [head_of(text, block.start(1) + it.start()) for it in re.finditer(r"^    (?:pub )?fn \w", block.group(1), re.M)
+        heads = re.finditer(r"^    (?:pub )?fn \w", block.group(1), re.M)
+        found = [head_of(text, block.start(1) + it.start()) for it in heads
                  if of_trait or it.group().startswith("    pub")]
         found = [it for it in found if not of_trait or "\n        ensures" in it]
         if found:
@@ -178,7 +180,8 @@ def cited(crate):
             if name in given or owner_of(text, line) in given:
                 for path, names in definitions(text, head):
                     found.setdefault(path, set()).update(names)
-    rows = [f"- `{path.relative_to(TOP)}`: {', '.join(f'`{it}`' for it in sorted(found[path]))}" for path in sorted(found)]
+    names = {path: ", ".join(f"`{it}`" for it in sorted(found[path])) for path in sorted(found)}
+    rows = [f"- `{path.relative_to(TOP)}`: {names[path]}" for path in names]
     return "\n".join(rows) + "\n" if rows else "None.\n"
 
 

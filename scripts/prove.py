@@ -1,6 +1,6 @@
 #!/usr/bin/env python3
-"""Proves the crates that programs stand on, one behind the other, builds the programs, and puts them into bin/. It says which
-crate is at work. What an earlier run proved is not proved again.
+"""Proves the crates that programs stand on, one behind the other, builds the programs, and puts them into bin/. It says
+which crate is at work. What an earlier run proved is not proved again.
 
 usage: prove.py PROGRAM..
 """

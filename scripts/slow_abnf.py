@@ -128,8 +128,8 @@ def lower(letter):
 
 
 def letters_of(line, is_utf8):
-    """Returns the letters of a line, its bytes or its code points, and whether it is UTF-8 where it has to be; where it is
-    not, they are those of its longest beginning that is.
+    """Returns the letters of a line, its bytes or its code points, and whether it is UTF-8 where it has to be; where it
+    is not, they are those of its longest beginning that is.
     """
     if not is_utf8:
         return list(line), True
@@ -157,7 +157,8 @@ class Deriver:
         self.ends = {}
 
     def derives(self, key):
-        """Tells whether the rule derives the line, or one that begins with it: the least sets, by rounds until none grows."""
+        """Tells whether the rule derives the line, or one that begins with it: the least sets, by rounds until none
+        grows."""
         self.ends = {it: [0] * (self.size + 1) for it in self.wanted(key)}
         while True:
             before = {it: list(rows) for it, rows in self.ends.items()}

@@ -1,9 +1,10 @@
 #!/usr/bin/env python3
-"""Reads what lines.py writes, an ABNF grammar, a byte 0 and lines, and writes rules over numbers for marpa.c, and the lines.
+"""Reads what lines.py writes, an ABNF grammar, a byte 0 and lines, and writes rules over numbers for marpa.c, and the
+lines.
 
 Alternatives that are sets of bytes are one terminal. A repetition without an upper bound, of what is never empty, is a
-sequence of libmarpa. Output: the numbers of terminals and of symbols; for each terminal a line of 256 digits, 1 where the byte
-is in it; for each rule a line, `r LHS RHS..` or `s LHS RHS MIN`; an empty line; then the lines.
+sequence of libmarpa. Output: the numbers of terminals and of symbols; for each terminal a line of 256 digits, 1 where
+the byte is in it; for each rule a line, `r LHS RHS..` or `s LHS RHS MIN`; an empty line; then the lines.
 """
 import re
 import sys
