@@ -8,7 +8,7 @@ use Rattle.pegread.specs.Classes.{complement}
 -- the letter that stands for a control byte behind a backslash
 abbrev pub letter_for : ℕ → Option ℕ
 letter_for b = cond (b == 7) (Some (code "a")) (cond (b == 8) (Some (code "b")) (cond (b == 27) (Some (code "e")) (cond (b == 12) (Some (code "f"))
-    (cond (b == 10) (Some (code "n")) (cond (b == 13) (Some (code "r")) (cond (b == 9) (Some (code "t")) (cond (b == 11) (Some (code "v")) None)))))))
+    (cond (b == code "\n") (Some (code "n")) (cond (b == code "\r") (Some (code "r")) (cond (b == code "\t") (Some (code "t")) (cond (b == 11) (Some (code "v")) None)))))))
 
 abbrev pub with_letter : Option ℕ → List ℕ → List ℕ
 with_letter (Some l) s = code "\\" ∷ l ∷ []
