@@ -70,7 +70,11 @@ fn read_definitions(alloc: Global, text: &[u8]) -> Result<Vec<Definition<'_>>, R
                 reader = next;
                 before = Some(kind);
             }
-            Err(Stop::Hopeless) => return Err(hopeless(before, kind, line_of(text, at, LineRule::Any))),
+            Err(Stop::Hopeless) => return Err(hopeless(
+                before,
+                kind,
+                line_of(text, at, LineRule::Any),
+            )),
             Err(Stop::Memory) => return Err(ReadFault::Memory),
         }
     }

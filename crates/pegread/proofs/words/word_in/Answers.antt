@@ -51,7 +51,6 @@ returns-in_ok-literal_bytes-in-Literal c = rw c.in-Literal.is (says_literal c.in
 pub returns-in-Class : goal.returns-in-Class
 returns-in-Class c = rw c.in-Class.is (says_class c.class_set.ensures)
 
-
 pub returns-in_ok-template-in-Action : goal.returns-in_ok-template-in-Action
 returns-in_ok-template-in-Action c =
     let braced = rw c.in-Action.is at c.requires in
