@@ -14,7 +14,7 @@ use Rattle.abnfread.proofs.AbnfFaultLemmas.{one-reading, no-fault}
 use Rattle.abnfcheck.proofs.AbnfNotesLemmas.{notes_same, those_same}
 use Rattle.abnfrun.specs.AbnfAnswers.{AbnfStates, refused, noted, checked, judges, again, printed, no_memory}
 use Rattle.abnfrun.specs.AbnfNoted.{file_rules, all_rules, again_in, judged_of, AreNotesOn, IsRefusedFor, AreAgain, rule_given}
-use Rattle.abnfrun.specs.AbnfReply.{AnswersFor, refusal, notes_alone, printed_rules, JudgeReply}
+use Rattle.abnfrun.specs.AbnfReply.{AnswersFor, printed_rules, JudgeReply}
 use Rattle.abnfrun.proofs.IsAnswerOnLemmas.{FurthestIsOne}
 use Rattle.abnfrun.proofs.IsAnswerToLemmas.{TextIsOne, one_answer}
 use Rattle.abnfrun.proofs.OneFaultLemmas.{one-fault}
@@ -22,7 +22,7 @@ use Rattle.lines.specs.declared.answers.Answer.{Answer}
 use Rattle.lines.proofs.LinesReplyLemmas.{one_lines_reply}
 use Rattle.toolrun.specs.Input.{Input}
 use Rattle.toolrun.specs.NotesText.{notes_text}
-use Rattle.toolrun.specs.Reply.{Reply}
+use Rattle.toolrun.specs.Reply.{Reply, notes_alone, refusal}
 use Rattle.toolrun.specs.RunSteps as steps
 use Rattle.toolrun.specs.declared.settings.Mode.TheVariants.{Run, Check, Print}
 use Rattle.toolrun.specs.declared.settings.Settings.{Settings}

@@ -6,10 +6,10 @@ use Rattle.ruletable.specs.declared.fault.ReadFault.TheVariants.{Memory}
 use Rattle.abnfread.specs.AbnfReading.{Reads, IsFaultOf}
 use Rattle.abnfread.specs.Element.{Definition}
 use Rattle.abnfrun.specs.AbnfNoted.{file_rules, all_rules, judged_of, AreNotesOn, IsRefusedFor, AreAgain, rule_given}
-use Rattle.abnfrun.specs.AbnfReply.{refusal, notes_alone, printed_rules, JudgeReply}
+use Rattle.abnfrun.specs.AbnfReply.{printed_rules, JudgeReply}
 use Rattle.toolrun.specs.Input.{Input}
 use Rattle.toolrun.specs.NotesText.{notes_text}
-use Rattle.toolrun.specs.Reply.{Reply, without_memory}
+use Rattle.toolrun.specs.Reply.{Reply, notes_alone, refusal, without_memory}
 use Rattle.toolrun.specs.declared.settings.Mode.TheVariants.{Run, Check, Print}
 use Rattle.toolrun.specs.declared.settings.Settings.{Settings}
 

@@ -1,7 +1,5 @@
 -- What a run of a grammar on an input states.
 use Rattle.std.specs.Prelude.{◌≡◌, ℕ, Bool, true, false, List, [], take}
-use Rattle.ruletable.specs.Faults.{fault_text}
-use Rattle.ruletable.specs.declared.fault.ReadFault.{ReadFault}
 use Rattle.abnfread.specs.Element.{Rule}
 use Rattle.abnfcheck.specs.Beginnings.{IsFurthest}
 use Rattle.abnfcheck.specs.Derivable.{RuleDerives}
@@ -14,21 +12,13 @@ use Rattle.lines.specs.InputLines.{Ends, Lines, LinesReply, place_taken}
 use Rattle.lines.specs.declared.answers.Answer.{Answer}
 use Rattle.lines.specs.declared.answers.Answer.TheVariants.{Yes, No, NoAfter}
 use Rattle.toolrun.specs.Input.{Input}
-use Rattle.toolrun.specs.Reply.{Reply}
+use Rattle.toolrun.specs.Reply.{Reply, text_alone}
 use Rattle.toolrun.specs.RunSteps.{Replies}
 use Rattle.toolrun.specs.declared.settings.Settings.{Settings}
 
--- a grammar's text is refused: its fault is told, and nothing is taken
-abbrev pub refusal : ReadFault → Reply
-refusal fault = record { out = []; err = fault_text fault; status = 2; taken = 0 }
-
--- nothing is written behind the notes, and nothing is taken
-abbrev pub notes_alone : ℕ → Reply
-notes_alone status = record { out = []; err = []; status = status; taken = 0 }
-
 -- the canonical text of these rules is written, and nothing is taken
 abbrev pub printed_rules : List Rule → Reply
-printed_rules rules = record { out = grammar_text rules; err = []; status = 0; taken = 0 }
+printed_rules rules = text_alone (grammar_text rules)
 
 -- The lines that the judged rule derives (RFC 5234, section 3; RFC 7405, section 2.1). Their letters are bytes, or the code points of UTF-8 (RFC 3629,
 -- section 3): then a line that is not UTF-8 is none of them.

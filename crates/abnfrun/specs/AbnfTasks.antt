@@ -1,7 +1,5 @@
 -- What is left to do with a grammar when its notes are written. It serves private helpers alone.
 use Rattle.std.specs.Prelude.{◌≡◌, Option, Some, None, Result, Ok, Err}
-use Rattle.ruletable.specs.declared.fault.ReadFault.{ReadFault}
-use Rattle.ruletable.specs.declared.fault.ReadFault.TheVariants.{Syntax, Depth, CodePredicate, TooLong, Memory, NumberTooLarge}
 use Rattle.abnfread.specs.AbnfViews.{rules_of}
 use Rattle.abnfcheck.specs.AbnfGrammar.{Grammar}
 use Rattle.abnfrun.specs.AbnfReply.{JudgeReply, printed_rules}
@@ -12,7 +10,7 @@ use Rattle.toolrun.specs.Reply.{Reply}
 use Rattle.toolrun.specs.declared.settings.Settings.{Settings}
 use Rattle.toolrun.specs.declared.status.Status.TheVariants as status
 use Rattle.toolrun.specs.declared.stop.Stop.{Stop}
-use Rattle.toolrun.specs.declared.stop.Stop.TheVariants.{Quiet, NoMemory, Refused}
+use Rattle.toolrun.specs.declared.stop.Stop.TheVariants.{Quiet}
 
 -- what a task states for settings and an input
 abbrev pub abnf_does : AbnfTask → Settings → Input → Reply → Type 0
@@ -28,12 +26,3 @@ run_task (Some g) = Ok (Judges g)
 abbrev pub check_task : Option Grammar → Result AbnfTask Stop
 check_task None = Err (Quiet status.Refused)
 check_task (Some g) = Err (Quiet status.Done)
-
--- how a run stops whose grammar was not read
-abbrev pub unread : ReadFault → Stop
-unread (Syntax line) = Refused (Syntax line)
-unread (Depth line) = Refused (Depth line)
-unread (CodePredicate line) = Refused (CodePredicate line)
-unread TooLong = Refused TooLong
-unread Memory = NoMemory
-unread (NumberTooLarge line) = Refused (NumberTooLarge line)

@@ -6,7 +6,8 @@ ghost use Rattle.abnfread.specs.AbnfReading.{IsFaultOf};
 ghost use Rattle.abnfread.specs.AbnfViews.{rules_of};
 ghost use Rattle.abnfprint.specs.CanonicalAbnf.{grammar_text};
 ghost use Rattle.abnfrun.specs.AbnfNoted.{AreRedefinitions};
-ghost use Rattle.abnfrun.specs.AbnfPrinting.{IsPrintable, Prints};
+ghost use Rattle.abnfrun.specs.AbnfPrinting.{IsPrintable};
+ghost use Rattle.toolrun.specs.Stopped.{Prints};
 
 use abnfprint::print_abnf;
 use abnfread::{Abnf, read_abnf};

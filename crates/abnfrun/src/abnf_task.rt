@@ -4,7 +4,7 @@ ghost use Rattle.ruletable.specs.Notes.{said_of};
 ghost use Rattle.abnfread.specs.AbnfReading.{IsFaultOf};
 ghost use Rattle.abnfrun.specs.AbnfAnswers.{AbnfStates};
 ghost use Rattle.abnfrun.specs.AbnfChecking.{IsChecked};
-ghost use Rattle.abnfrun.specs.AbnfTasks.{abnf_does, check_task, run_task, unread};
+ghost use Rattle.abnfrun.specs.AbnfTasks.{abnf_does, check_task, run_task};
 ghost use Rattle.toolrun.specs.NotesText.{notes_text};
 ghost use Rattle.toolrun.specs.Plan.{IsPlan, does_of};
 ghost use Rattle.toolrun.specs.declared.settings.Mode.TheVariants.{Run, Check, Print};
@@ -16,7 +16,7 @@ use abnfread::{Abnf, read_abnf};
 use feed::Source;
 use ruletable::{Memory, ReadFault, Sink, WriteFault};
 use std::alloc::Global;
-use toolrun::{Mode, Plan, Settings, Status, Stop, Tool};
+use toolrun::{Mode, Plan, Settings, Status, Stop, Tool, stop_unread};
 
 /// What is left to do with a grammar when its notes are written.
 #[derive(Drop)]
@@ -40,16 +40,6 @@ fn checked(
     match check_abnf(alloc, read, rule) {
         Ok(checked) => Ok(checked),
         Err(Memory) => Err(ReadFault::Memory),
-    }
-}
-
-/// Returns how a run stops whose grammar was not read.
-fn stop_unread(fault: ReadFault) -> Stop
-    ensures { result ≡ unread fault }
-{
-    match fault {
-        ReadFault::Memory => Stop::NoMemory,
-        _ => Stop::Refused(fault),
     }
 }
 

@@ -3,3 +3,4 @@ mod AnswersLemmas
 mod EntryLemmas
 mod AreWholeLemmas
 mod AskLemmas
+mod JobStatesLemmas

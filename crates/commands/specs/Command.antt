@@ -1,4 +1,5 @@
 -- The commands of the programs, as a parse reads them.
+use Prim.Native.Char.{code}
 use Rattle.std.specs.Prelude.{◌≡◌, ℕ, List, [], ◌∷◌, Some, true, codes, map, pos}
 use Rattle.std.specs.Borrow.{Bor}
 use Rattle.clap.specs.Words.{App, Rule, Text, new_app, new_rule, with_rule}
@@ -6,6 +7,7 @@ use Rattle.clap.specs.declared.builder.action.ArgAction.TheVariants.{Set, SetTru
 use Rattle.clap.specs.declared.builder.value_parser.ValueParser.TheVariants as vp
 use Rattle.commands.specs.declared.command.Program.{Program}
 use Rattle.commands.specs.declared.command.Program.TheVariants.{Abnfi, Pegi}
+use Rattle.toolrun.specs.declared.settings.TheConstants.{MAX_LIMIT}
 
 -- texts that an argument takes
 abbrev pub Names : Type 0
@@ -22,7 +24,7 @@ AreModes names = map (λ s. s.now) names.now ≡ mode_names
 -- `-m MODE`, one of the names; `run` where it is not given
 abbrev pub mode_rule : Names → Rule
 mode_rule names = record (new_rule (codes "mode")) {
-  short = Some 109;
+  short = Some (code "m");
   value_names = 1;
   parser = Some (vp.Names names);
   defaults = codes "run" ∷ [];
@@ -31,16 +33,16 @@ mode_rule names = record (new_rule (codes "mode")) {
 -- `-l N`, a number from 1 to 16,777,216; 65,536 where it is not given
 abbrev pub limit_rule : Rule
 limit_rule = record (new_rule (codes "limit")) {
-  short = Some 108;
+  short = Some (code "l");
   value_names = 1;
   action = Some Set;
-  parser = Some (vp.Signed (pos 1) (pos 16777216));
+  parser = Some (vp.Signed (pos 1) (pos MAX_LIMIT));
   defaults = codes "65536" ∷ [];
 }
 
 -- `-s RULE`, any text
 abbrev pub start_rule : Rule
-start_rule = record (new_rule (codes "start")) { short = Some 115; value_names = 1 }
+start_rule = record (new_rule (codes "start")) { short = Some (code "s"); value_names = 1 }
 
 -- the names of the alphabets of a line
 abbrev pub alphabet_names : List Text
@@ -53,7 +55,7 @@ AreAlphabets names = map (λ s. s.now) names.now ≡ alphabet_names
 -- `-u MODE`, one of the names; `bytes` where it is not given
 abbrev pub letters_rule : Names → Rule
 letters_rule names = record (new_rule (codes "letters")) {
-  short = Some 117;
+  short = Some (code "u");
   value_names = 1;
   parser = Some (vp.Names names);
   defaults = codes "bytes" ∷ [];
@@ -65,11 +67,11 @@ flag_rule id letter = record (new_rule id) { short = Some letter; action = Some 
 
 -- `-r`
 abbrev pub raw_rule : Rule
-raw_rule = flag_rule (codes "raw") 114
+raw_rule = flag_rule (codes "raw") (code "r")
 
 -- `-w`
 abbrev pub viable_rule : Rule
-viable_rule = flag_rule (codes "viable") 119
+viable_rule = flag_rule (codes "viable") (code "w")
 
 -- the one word that is no option
 abbrev pub grammar_rule : Rule

@@ -1,3 +1,4 @@
 pub mod Asked
 pub mod Command
+pub mod Jobs
 pub mod Parsing

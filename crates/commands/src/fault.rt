@@ -2,6 +2,7 @@
 ghost use Rattle.std.specs.Prelude.{◌≡◌, ◌⊎◌, ◌≤◌, IfOk, false, true};
 ghost use Rattle.std.specs.Io.KnownBytes.{Keeps};
 ghost use Rattle.clap.specs.Words.{kind_of};
+ghost use Rattle.commands.specs.Jobs.{TellsOf};
 ghost use Rattle.commands.specs.Parsing.{EndsAs, IsNoHelp};
 ghost use Rattle.toolrun.specs.Status.{code_of};
 
@@ -60,6 +61,8 @@ pub fn end_unparsed<O: Sink, E: Sink>(
         EndsAs (O.failed out.new) (E.failed err.new) Status.Done result }
     ensures no_memory { kind_of error.now ≡ ErrorKind.OutOfMemory →
         EndsAs (O.failed out.new) (E.failed err.new) Status.NoMemory result }
+    ensures stopped { kind_of error.now ≡ ErrorKind.OutOfMemory → TellsOf Stop.NoMemory (O.contents out.old)
+        (O.contents out.new) (O.failed out.new) (E.contents err.old) (E.contents err.new) (E.failed err.new) (code_of result) }
     ensures failed { (O.failed out.new ≡ true) ⊎ (E.failed err.new ≡ true) → 4 ≤ code_of result }
 {
     if error.kind() == ErrorKind::OutOfMemory {
@@ -75,7 +78,7 @@ pub fn end_unparsed<O: Sink, E: Sink>(
     }
 }
 
-/// The error of words that are not all UTF-8 text, in the form of the errors of a parse.
+/// Returns the error of words that are not all UTF-8 text, in the form of the errors of a parse.
 fn invalid_utf8(alloc: Global, program: Program) -> Result<Error, AllocError>
     ensures kind { IfOk result (λ e. kind_of e ≡ ErrorKind.ValueValidation) }
 {

@@ -1,9 +1,15 @@
 //! The bodies of the programs' mains.
-ghost use Rattle.std.specs.Prelude.{◌≡◌, false, map, string_bytes};
+ghost use Rattle.std.specs.Prelude.{◌≡◌, [], false, map, string_bytes};
 ghost use Rattle.std.specs.Io.KnownBytes.{Keeps};
-ghost use Rattle.clap.specs.Words.{fault_of};
+ghost use Rattle.abnfrun.specs.AbnfAnswers.{AbnfStates};
+ghost use Rattle.clap.specs.Words.{fault_of, matches_of};
 ghost use Rattle.commands.specs.Command.{IsAppOf};
+ghost use Rattle.commands.specs.Jobs.{JobStates};
 ghost use Rattle.commands.specs.Parsing.{Answers, EndsAs};
+ghost use Rattle.gramtools.specs.Answers.{States};
+ghost use Rattle.toolrun.specs.Right.{Comes};
+ghost use Rattle.toolrun.specs.Status.{code_of};
+ghost use Rattle.toolrun.specs.Stream.{passed};
 
 use crate::command::Program;
 use crate::reading::{end_unready, read_job};
@@ -36,6 +42,10 @@ pub fn pegi_main<R: Files + AllocGlobal, I: Source, O: Sink, E: Sink>(
         EndsAs (O.failed out.new) (E.failed err.new) Status.Refused result)
         (Keeps (I.remaining reader.old) (I.remaining reader.new) ×
         EndsAs (O.failed out.new) (E.failed err.new) Status.Done result) }
+    ensures right { (app : _) × IsAppOf Program.Pegi app × (fault_of app (map string_bytes words.now) ≡ [] →
+        Comes (JobStates States (matches_of app (map string_bytes words.now)))
+        (passed I.remaining I.failed reader.old reader.new) (passed O.contents O.failed out.old out.new)
+        (passed E.contents E.failed err.old err.new) (code_of result)) }
 {
     match read_job(rt, Program::Pegi, words) {
         Ok(job) => run_peg(
@@ -70,6 +80,10 @@ pub fn abnfi_main<R: Files + AllocGlobal, I: Source, O: Sink, E: Sink>(
         EndsAs (O.failed out.new) (E.failed err.new) Status.Refused result)
         (Keeps (I.remaining reader.old) (I.remaining reader.new) ×
         EndsAs (O.failed out.new) (E.failed err.new) Status.Done result) }
+    ensures right { (app : _) × IsAppOf Program.Abnfi app × (fault_of app (map string_bytes words.now) ≡ [] →
+        Comes (JobStates AbnfStates (matches_of app (map string_bytes words.now)))
+        (passed I.remaining I.failed reader.old reader.new) (passed O.contents O.failed out.old out.new)
+        (passed E.contents E.failed err.old err.new) (code_of result)) }
 {
     match read_job(rt, Program::Abnfi, words) {
         Ok(job) => run_abnf(

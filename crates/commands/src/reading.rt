@@ -4,6 +4,7 @@ ghost use Rattle.std.specs.Io.KnownBytes.{Keeps};
 ghost use Rattle.clap.specs.Words.{Kinds, fault_of, matches_of};
 ghost use Rattle.commands.specs.Asked.{Ask};
 ghost use Rattle.commands.specs.Command.{IsAppOf};
+ghost use Rattle.commands.specs.Jobs.{IsStopOf, TellsOf};
 ghost use Rattle.commands.specs.Parsing.{Answers, EndsAs, IsUnready};
 ghost use Rattle.toolrun.specs.Status.{code_of};
 
@@ -82,6 +83,8 @@ pub fn end_unready<O: Sink, E: Sink>(
         (Keeps (O.contents out.old) (O.contents out.new) ×
         EndsAs (O.failed out.new) (E.failed err.new) Status.Refused result)
         (EndsAs (O.failed out.new) (E.failed err.new) Status.Done result) }
+    ensures stopped { (stop : _) → IsStopOf why.now stop → TellsOf stop (O.contents out.old) (O.contents out.new)
+        (O.failed out.new) (E.contents err.old) (E.contents err.new) (E.failed err.new) (code_of result) }
     ensures failed { (O.failed out.new ≡ true) ⊎ (E.failed err.new ≡ true) → 4 ≤ code_of result }
 {
     match why {

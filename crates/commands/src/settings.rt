@@ -23,7 +23,7 @@ fn mode_of(matches: &ArgMatches<'_>) -> Mode
 fn limit_of(matches: &ArgMatches<'_>) -> usize
     ensures value { IsLimitOf (one_text (found_of matches.now) (codes "limit")) result }
     ensures low { 1 ≤ result }
-    ensures high { result ≤ 16777216 }
+    ensures high { result ≤ MAX_LIMIT }
 {
     match matches.get_one::<u32>("limit") {
         Some(limit) => (limit as usize).clamp(1, MAX_LIMIT),
@@ -40,7 +40,7 @@ fn letters_of(matches: &ArgMatches<'_>) -> Alphabet
     }
 }
 
-/// The settings that the words ask for, and the defaults elsewhere.
+/// Returns the settings that the words ask for, and the defaults elsewhere.
 pub fn settings_of<'a>(matches: &ArgMatches<'a>) -> Settings<'a>
     ensures mode { result.mode ≡ mode_named (first_value (found_of matches.now) (codes "mode")) }
     ensures limit { IsLimitOf (one_text (found_of matches.now) (codes "limit")) result.limit }

@@ -46,7 +46,7 @@ pub(crate) fn loops(alloc: Global, nodes: &[Node], nulls: &[bool]) -> Result<Vec
     Ok(marks)
 }
 
-/// The marks of the rules' bodies.
+/// Returns the marks of the rules' bodies.
 ///
 /// `Memory` where a growth was refused.
 pub(crate) fn body_marks(

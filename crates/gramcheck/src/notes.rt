@@ -13,8 +13,9 @@ use rulenames::{marks_at, note_marked, note_undefined, opposites};
 use ruletable::{Memory, NameCase, Note, NoteKind, RuleTable};
 use std::alloc::Global;
 
-/// The notes on a grammar, in order: on rules that are defined again, which are those with the ids in `redefined`, on names
-/// that no rule has, on rules that are not used, and on those marked as left-recursive and as looping.
+/// Returns the notes on a grammar, in order: on rules that are defined again, which are those with the ids in
+/// `redefined`, on names that no rule has, on rules that are not used, and on those marked as left-recursive and as
+/// looping.
 ///
 /// `Memory` where a growth was refused.
 pub(crate) fn notes(
@@ -45,7 +46,7 @@ pub(crate) fn notes(
     Ok(notes)
 }
 
-/// The notes on the rules that a grammar defines again, alone, by the order of the rules.
+/// Returns the notes on the rules that a grammar defines again, alone, by the order of the rules.
 ///
 /// # Errors
 /// `Memory` where a growth was refused.
@@ -64,7 +65,8 @@ fn refuses(note: &Note) -> bool
     note.kind != NoteKind::Unused
 }
 
-/// Whether a grammar on which there are these notes is refused: one of them is no note on a rule that is not used.
+/// Returns whether a grammar on which there are these notes is refused: one of them is no note on a rule that is not
+/// used.
 pub(crate) fn refused(notes: &[Note]) -> bool
     ensures { result ≡ list_any said_refuses (map said_of notes.now) }
 {

@@ -61,7 +61,7 @@ fn needs<'a>(alloc: Global, nodes: &'a [Node], bodies: &'a [usize]) -> Result<Ve
     Ok(needs)
 }
 
-/// The marks of the nullable nodes.
+/// Returns the marks of the nullable nodes.
 ///
 /// `Memory` where a growth was refused.
 pub(crate) fn nullable(alloc: Global, nodes: &[Node], bodies: &[usize]) -> Result<Vec<bool>, Memory>

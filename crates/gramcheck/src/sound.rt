@@ -42,7 +42,7 @@ impl Model for SoundPeg {
 }
 
 impl SoundPeg {
-    /// The grammar of these rules, nodes and ranks.
+    /// Returns the grammar of these rules, nodes and ranks.
     pub(crate) fn new(rules: RuleTable<Expr>, start: usize, cut: Cut, ranks: Vec<usize>) -> SoundPeg
         requires { IsRanked (rules_of rules) start (shapes_of cut.nodes.items) cut.bodies.items ranks.items }
         ensures rules { result.rules ≡ rules }
@@ -58,14 +58,14 @@ impl SoundPeg {
         }
     }
 
-    /// The rules as they were read.
+    /// Returns the rules as they were read.
     pub fn rules(&self) -> &RuleTable<Expr>
         ensures { result.now ≡ self.now.rules }
     {
         &self.rules
     }
 
-    /// The id of the start rule. The clause `sound` says what a grammar that can be run is.
+    /// Returns the id of the start rule. The clause `sound` says what a grammar that can be run is.
     pub fn start(&self) -> usize
         ensures id { result ≡ self.now.start }
         ensures sound { IsSoundGrammar self.now }
@@ -73,14 +73,14 @@ impl SoundPeg {
         self.start
     }
 
-    /// The number of nodes.
+    /// Returns the number of nodes.
     pub fn nodes(&self) -> usize
         ensures { result ≡ length self.now.nodes }
     {
         self.nodes.len()
     }
 
-    /// The number of the node of a rule's body. The id must be that of a rule.
+    /// Returns the number of the node of a rule's body. The id must be that of a rule.
     pub fn body_node(&self, id: usize) -> usize
         requires { id < length self.now.bodies }
         ensures { slice_get self.now.bodies id ≡ Some result }
@@ -88,7 +88,7 @@ impl SoundPeg {
         self.bodies[id]
     }
 
-    /// The node of that number, which must be less than `nodes()`.
+    /// Returns the node of that number, which must be less than `nodes()`.
     pub fn node(&self, n: usize) -> &Node
         requires { n < length self.now.nodes }
         ensures { slice_get self.now.nodes n ≡ Some result.now }
@@ -96,8 +96,8 @@ impl SoundPeg {
         &self.nodes[n]
     }
 
-    /// The rank of the node of that number, which must be less than `nodes()`: at most the number of nodes, and lower after
-    /// each left step.
+    /// Returns the rank of the node of that number, which must be less than `nodes()`: at most the number of nodes, and
+    /// lower after each left step.
     pub fn rank(&self, n: usize) -> usize
         requires { n < length self.now.nodes }
         ensures { slice_get self.now.ranks n ≡ Some result }

@@ -1,14 +1,9 @@
 -- What the peg tool plans and performs is what is stated.
 -- Serves: run_peg (right)
 use Rattle.std.proofs.Common.{◌≡◌, ◌≢◌, ℕ, Bool, Option, Some, None, List, [], refl, arith, map, length, ◌<◌, ◌∷◌}
-use Rattle.std.specs.Prelude.{Result, Ok, Err, IfSome}
-use Rattle.std.specs.Io.KnownBytes.{Appends, Consumes}
-use Rattle.ruletable.specs.Notes.{Said, said_of}
-use Rattle.ruletable.specs.Writing.{Flags}
+use Rattle.std.specs.Prelude.{Result, Ok, Err}
+use Rattle.ruletable.specs.Notes.{Said}
 use Rattle.ruletable.specs.declared.fault.ReadFault.{ReadFault}
-use Rattle.ruletable.specs.declared.fault.ReadFault.TheVariants as fault
-use Rattle.ruletable.specs.declared.note.Note.{Note}
-use Rattle.ruletable.specs.declared.sink.WriteFault.{WriteFault}
 use Rattle.pegread.specs.Canon.{grammar_text}
 use Rattle.pegread.specs.Pattern.{Rule}
 use Rattle.pegread.specs.Reading.{IsFaultOf}
@@ -17,41 +12,31 @@ use Rattle.gramtools.specs.Answers.{States, refused, noted, checked, runs, again
 use Rattle.gramtools.specs.Checking.{IsChecked}
 use Rattle.gramtools.specs.Noted.{start_given}
 use Rattle.gramtools.specs.PegTask.{check_task, peg_does, run_task}
-use Rattle.gramtools.specs.PegPrinting.{IsPrintable, Prints}
-use Rattle.gramtools.specs.PegStopped.{unread}
+use Rattle.gramtools.specs.PegPrinting.{IsPrintable}
 use Rattle.gramtools.specs.Units.{none}
 use Rattle.gramtools.specs.declared.peg_task.PegTask.{PegTask}
 use Rattle.gramtools.proofs.SomeReplyLemmas.{units_go_on}
 use Rattle.toolrun.specs.Input.{Input}
 use Rattle.toolrun.specs.NotesText.{notes_text}
 use Rattle.toolrun.specs.Plan.{IsPlan, does_of, stopped}
-use Rattle.toolrun.specs.Reply.{Reply}
+use Rattle.toolrun.specs.Reply.{Reply, text_alone}
 use Rattle.toolrun.specs.RunSteps.{replied}
-use Rattle.toolrun.specs.Stopped.{StopsAs, Performs}
+use Rattle.toolrun.specs.Stop.{unread}
 use Rattle.toolrun.specs.declared.settings.Mode.TheVariants.{Run, Check, Print}
 use Rattle.toolrun.specs.declared.settings.Settings.{Settings}
 use Rattle.toolrun.specs.declared.status.Status.TheVariants as status
 use Rattle.toolrun.specs.declared.stop.Stop.{Stop}
-use Rattle.toolrun.specs.declared.stop.Stop.TheVariants.{Quiet, NoMemory, Refused}
+use Rattle.toolrun.specs.declared.stop.Stop.TheVariants.{Quiet}
+use Rattle.toolrun.proofs.IsPlanLemmas.{unread-plan as plan_of_unread}
 
 module _ (text : List ℕ) (settings : Settings) where
   abbrev Planned : List ℕ → Result PegTask Stop → Type 0
   Planned notes task = IsPlan (States text settings) notes (does_of (λ t. peg_does t settings) task)
 
   -- a text that was not read
-  refused-plan : (why : ReadFault) → IsFaultOf text why → why ≢ fault.Memory → Planned [] (Err (Refused why))
-  refused-plan why faulty other = record {
-    stated = λ input reply is. rw is (refused why faulty other);
-    some = λ input. (stopped (Refused why), refl);
-  }
-
   pub unread-plan : (why : ReadFault) → IsFaultOf text why → Planned [] (Err (unread why))
-  unread-plan (fault.Syntax line) faulty = refused-plan (fault.Syntax line) faulty (λ e. absurd (cc))
-  unread-plan (fault.Depth line) faulty = refused-plan (fault.Depth line) faulty (λ e. absurd (cc))
-  unread-plan (fault.CodePredicate line) faulty = refused-plan (fault.CodePredicate line) faulty (λ e. absurd (cc))
-  unread-plan fault.TooLong faulty = refused-plan fault.TooLong faulty (λ e. absurd (cc))
-  unread-plan fault.Memory faulty = record { stated = λ input reply is. rw is no_memory; some = λ input. (stopped NoMemory, refl) }
-  unread-plan (fault.NumberTooLarge line) faulty = refused-plan (fault.NumberTooLarge line) faulty (λ e. absurd (cc))
+  unread-plan why faulty =
+      plan_of_unread (States text settings) (IsFaultOf text) (λ input why. refused why) (λ input. no_memory) (λ (t : PegTask). peg_does t settings) why faulty
 
   -- a grammar that was checked, to be run
   pub run_plan : (notes : List Said) (sound : Option Grammar) → settings.mode ≡ Run → IsChecked text (start_given settings) notes sound →
@@ -86,41 +71,5 @@ module _ (text : List ℕ) (settings : Settings) where
   }
 
   pub printed-states : (rules : List Rule) → settings.mode ≡ Print → IsPrintable text rules [] → (input : Input) (reply : Reply) →
-      reply ≡ record { out = grammar_text rules; err = []; status = 0; taken = 0 } → States text settings input [] reply
+      reply ≡ text_alone (grammar_text rules) → States text settings input [] reply
   printed-states rules print c input reply is = let kept = c.kept in rw (is, kept) (printed c.definitions c.reads c.are_again print)
-
-pub some_said : (notes : List Note) → 0 < length notes → map said_of notes ≢ []
-some_said [] some e = absurd (omega (arith, some))
-some_said (note ∷ notes) some e = absurd (cc)
-
--- what is printed of a grammar is stated
-prints_stop : (text : List ℕ) (old a b : Option (List ℕ)) (failed : Bool) (r : Result Stop WriteFault) → Prints a b text r →
-    IfSome old (λ given. (taken wrote : List ℕ) × Consumes old old taken × Appends a b wrote ×
-    StopsAs (λ reply. reply ≡ record { out = text; err = []; status = 0; taken = 0 }) taken r wrote)
-prints_stop text None a b failed r p = tt
-prints_stop text (Some xs) a b failed (Ok stop) p =
-    let is = p.0 in (
-      [],
-      text,
-      refl,
-      p.1,
-      record {
-        stated = record { out = text; err = []; status = 0; taken = 0 };
-        states = refl;
-        written = (refl, rw is refl, rw is refl);
-        within = omega arith;
-        exact = λ other. refl;
-      },
-    )
-prints_stop text (Some xs) a b failed (Err fault) p = (
-  [],
-  p.0,
-  refl,
-  p.2,
-  record { stated = record { out = text; err = []; status = 0; taken = 0 }; states = refl; written = p.1; within = omega arith; exact = tt },
-)
-
-pub was_printed : (text : List ℕ) (r0 s0 s1 : Option (List ℕ)) (r_was r_failed o_was o_failed : Bool) (r : Result Stop WriteFault) → Prints s0 s1 text r → Flags o_was o_failed r →
-    Performs (λ input reply. reply ≡ record { out = text; err = []; status = 0; taken = 0 })
-    (record { old = r0; new = r0; was = r_was; failed = r_failed }) (record { old = s0; new = s1; was = o_was; failed = o_failed }) r
-was_printed text r0 s0 s1 r_was r_failed o_was o_failed r p flag = record { stopped = prints_stop text r0 s0 s1 r_failed r p; flag = flag }

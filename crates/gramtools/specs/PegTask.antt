@@ -7,7 +7,7 @@ use Rattle.gramtools.specs.PegReply.{RunStates}
 use Rattle.gramtools.specs.declared.peg_task.PegTask.{PegTask}
 use Rattle.gramtools.specs.declared.peg_task.PegTask.TheVariants.{Prints, Runs}
 use Rattle.toolrun.specs.Input.{Input}
-use Rattle.toolrun.specs.Reply.{Reply}
+use Rattle.toolrun.specs.Reply.{Reply, text_alone}
 use Rattle.toolrun.specs.declared.settings.Settings.{Settings}
 use Rattle.toolrun.specs.declared.status.Status.TheVariants as status
 use Rattle.toolrun.specs.declared.stop.Stop.{Stop}
@@ -15,7 +15,7 @@ use Rattle.toolrun.specs.declared.stop.Stop.TheVariants.{Quiet}
 
 -- what a task states for settings and an input
 abbrev pub peg_does : PegTask → Settings → Input → Reply → Type 0
-peg_does (Prints peg) settings input reply = reply ≡ record { out = grammar_text (rules_of peg.rules); err = []; status = 0; taken = 0 }
+peg_does (Prints peg) settings input reply = reply ≡ text_alone (grammar_text (rules_of peg.rules))
 peg_does (Runs g) settings input reply = RunStates (rules_of g.rules) g.start settings input reply
 
 -- a grammar that is sound is run

@@ -5,7 +5,6 @@ ghost use Rattle.pegread.specs.Reading.{IsFaultOf};
 ghost use Rattle.gramtools.specs.Answers.{States};
 ghost use Rattle.gramtools.specs.Checking.{IsChecked};
 ghost use Rattle.gramtools.specs.PegTask.{check_task, peg_does, run_task};
-ghost use Rattle.gramtools.specs.PegStopped.{unread};
 ghost use Rattle.toolrun.specs.NotesText.{notes_text};
 ghost use Rattle.toolrun.specs.Plan.{IsPlan, does_of};
 ghost use Rattle.toolrun.specs.declared.settings.Mode.TheVariants.{Run, Check, Print};
@@ -18,7 +17,7 @@ use gramcheck::{Checked, SoundPeg, check_peg};
 use pegread::{Peg, read_peg};
 use ruletable::{Memory, ReadFault, Sink, WriteFault};
 use std::alloc::Global;
-use toolrun::{Mode, Plan, Settings, Status, Stop, Tool};
+use toolrun::{Mode, Plan, Settings, Status, Stop, Tool, stop_unread};
 
 /// What is left to do with a grammar when its notes are written.
 #[derive(Drop)]
@@ -42,16 +41,6 @@ fn checked(
     match check_peg(alloc, read, start) {
         Ok(checked) => Ok(checked),
         Err(Memory) => Err(ReadFault::Memory),
-    }
-}
-
-/// Returns how a run stops whose grammar was not read.
-fn stop_unread(fault: ReadFault) -> Stop
-    ensures { result ≡ unread fault }
-{
-    match fault {
-        ReadFault::Memory => Stop::NoMemory,
-        _ => Stop::Refused(fault),
     }
 }
 

@@ -62,7 +62,7 @@ fn print_unit<M: Matcher, O: Sink>(
     }
 }
 
-/// How a run ends where no unit goes on at a place.
+/// Returns how a run ends where no unit goes on at a place.
 fn stop_where(place: usize, len: usize) -> Stop
     ensures { result ≡ stop_at place len }
 {
@@ -73,7 +73,7 @@ fn stop_where(place: usize, len: usize) -> Stop
     }
 }
 
-/// What follows at a place where this came of the start rule, which may look at `limit` bytes.
+/// Returns what follows at a place where this came of the start rule, which may look at `limit` bytes.
 fn step_of(
     attempted: Result<Attempt, WriteFault>,
     limit: usize,

@@ -1,11 +1,13 @@
 //! Cuts a text into tokens of the kinds of some language.
 #![tactic(auto)]
 
+mod byte_slices;
 mod kind;
 mod limits;
 mod token_iter;
 mod token_lists;
 
+pub use byte_slices::{after_byte, inside};
 pub use kind::Kind;
 pub use limits::{MAX_GRAMMAR, MAX_OPEN};
 pub use token_iter::{Token, TokenIter};

@@ -5,7 +5,7 @@ ghost use Rattle.lexer.specs.TokenLists.{AreTokens, IsAtStart, Tok};
 use crate::kind::Kind;
 use crate::token_iter::TokenIter;
 
-/// The tokens of a text. It takes no memory, and what the tokens lend is the text's.
+/// Returns the tokens of a text. It takes no memory, and what the tokens lend is the text's.
 pub fn tokens<K: Kind>(text: &[u8]) -> TokenIter<'_, K>
     ensures { IsAtStart result text.now }
 {

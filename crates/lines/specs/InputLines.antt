@@ -1,4 +1,5 @@
 -- The lines of an input, the answers to them, and how a run of them ends.
+use Prim.Native.Char.{code}
 use Rattle.std.specs.Prelude.{◌≡◌, ◌≢◌, ℕ, suc, ◌+◌, ◌<◌, ◌≤◌, ◌==◌, ◌&&◌, ⊤, min, Bool, true, false, List, [], ◌∷◌, ◌++◌, length, take, drop, codes, decimal, if◌then◌else◌}
 use Rattle.std.specs.List.{All}
 use Rattle.feed.specs.declared.held.Held.{Held}
@@ -18,7 +19,7 @@ use Rattle.lines.specs.declared.line_loop.At.{At}
 
 -- none of these bytes is an LF
 abbrev pub HasNoEnd : List ℕ → Type 0
-HasNoEnd bytes = All (λ b. b ≢ 10) bytes
+HasNoEnd bytes = All (λ b. b ≢ code "\n") bytes
 
 -- what is written for an answer
 abbrev pub answer_text : Answer → List ℕ
@@ -52,7 +53,7 @@ module _ (limit : ℕ) (input : Input) where
   -- at s stand this line of at most so many bytes, and its LF
   pub record IsLine (s : ℕ) (line : List ℕ) : Type 0 where
     pub after : List ℕ
-    pub cut : drop s input.bytes ≡ line ++ 10 ∷ after
+    pub cut : drop s input.bytes ≡ line ++ code "\n" ∷ after
     pub one : HasNoEnd line
     pub within : length line ≤ limit
 

@@ -10,6 +10,7 @@ ghost use Rattle.toolrun.specs.Stopped.{Performs};
 ghost use Rattle.toolrun.specs.Stream.{passed};
 ghost use Rattle.lines.specs.InputLines.{Ends, Lines, LinesReply, place_taken, says_yes, status_after, taken_at};
 ghost use Rattle.lines.specs.LineSteps.{FitsIn, IsStep, after_last, after_whole};
+ghost use Rattle.toolrun.specs.declared.settings.TheConstants.{MAX_LIMIT};
 
 use crate::answers::{Answer, Judge, answer_held};
 use crate::line::{Line, next_line};
@@ -178,7 +179,7 @@ pub fn run_lines<W, J: Judge<W>, R: Source, O: Sink>(
     reader: &mut R,
     out: &mut O,
 ) -> Result<Stop, WriteFault>
-    requires small { limit ≤ 16777216 }
+    requires small { limit ≤ MAX_LIMIT }
     requires reader_is_fresh { R.failed reader.old ≡ false }
     ensures { Performs (LinesReply (J.told judge.now) limit)
         (passed R.remaining R.failed reader.old reader.new) (passed O.contents O.failed out.old out.new) result }

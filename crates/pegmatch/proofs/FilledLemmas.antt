@@ -1,5 +1,5 @@
 -- A template that is written piece by piece.
--- Serves: write_event.
+-- Serves: write_event
 use Rattle.std.proofs.Common.{◌≡◌, ℕ, ◌+◌, ◌<◌, ◌≤◌, Bool, false, reverse, List, [], ◌∷◌, ◌++◌, length, get_or, drop, Option, Some, Result, refl, sym, ◌∙◌, ap, subst, append_assoc}
 use Rattle.std.specs.Prelude.{slice_range, slice_get}
 use Rattle.std.proofs.lemmas.List.{reverse-reverse}

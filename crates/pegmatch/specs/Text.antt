@@ -1,4 +1,5 @@
 -- What the events of a success print: captures and templates (peg(1), 'yytext'; where the manual is vague the rules are this project's own).
+use Prim.Native.Char.{code}
 use Rattle.std.specs.Prelude.{ℕ, Bool, ◌||◌, ◌&&◌, List, [], ◌∷◌, ◌++◌, reverse, length, Option, Some, None, if◌then◌else◌, nat_le, ◌==◌, slice_range, codes}
 use Rattle.std.specs.List.{flat_map}
 use Rattle.std.specs.Str.{bytes_eq}
@@ -10,7 +11,7 @@ between low high b = nat_le low b && nat_le b high
 
 -- a letter, a digit or an underscore
 abbrev pub is_word : ℕ → Bool
-is_word b = between 97 122 b || between 65 90 b || between 48 57 b || (b == 95)
+is_word b = between (code "a") (code "z") b || between (code "A") (code "Z") b || between (code "0") (code "9") b || (b == code "_")
 
 -- A piece of a template: a maximal run of word bytes, or one other byte.
 pub data Piece : Type 0 where
@@ -41,7 +42,7 @@ filled template capture = flat_map (filled_piece capture) (pieces_of template)
 
 -- a space, a tab, CR or LF
 abbrev pub is_blank : ℕ → Bool
-is_blank b = (b == 32) || (b == 9) || (b == 13) || (b == 10)
+is_blank b = (b == code " ") || (b == code "\t") || (b == code "\r") || (b == code "\n")
 
 abbrev pub cut_front : List ℕ → List ℕ
 cut_front [] = []
@@ -54,7 +55,7 @@ trimmed text = reverse (cut_front (reverse (cut_front text)))
 -- what an action prints: its template as it is, or without the blanks at its ends and on a line of its own
 abbrev pub printed : Bool → List ℕ → List ℕ → List ℕ
 printed raw template capture =
-    if raw then filled template capture else filled (trimmed template) capture ++ 10 ∷ []
+    if raw then filled template capture else filled (trimmed template) capture ++ codes "\n"
 
 -- What the events print, with the place where a capture was opened last, and the capture so far.
 abbrev pub text_after : Bool → List ℕ → List Event → Option ℕ → List ℕ → List ℕ

@@ -37,7 +37,7 @@ pub trait Matcher {
     /// The events that it holds of its last success, for a grammar and a window.
     ghost holds: { Self → Grammar → List ℕ → List Event → Type 0 };
 
-    /// What the start rule gives at the front of the window (Ford 2004, section 3.3).
+    /// Returns what the start rule gives at the front of the window (Ford 2004, section 3.3).
     ///
     /// Without `more` the window is the whole rest of the input, and the answer is never `Need`. With `more` the window
     /// isn't empty, and `Need` says that its last byte was compared; any other answer holds for every rest that begins

@@ -35,7 +35,7 @@ impl Model for Plain {
 }
 
 impl Plain {
-    /// An empty matcher; it takes no memory.
+    /// Returns an empty matcher; it takes no memory.
     pub fn new(alloc: Global) -> Plain
         ensures { result ≡ [] }
     {
@@ -45,7 +45,7 @@ impl Plain {
     }
 }
 
-/// What the start rule gives at the front of the window, its events added.
+/// Returns what the start rule gives at the front of the window, its events added.
 fn unit_of(
     peg: &SoundPeg,
     window: &[u8],

@@ -72,7 +72,7 @@ fn is_blank_byte(b: u8) -> bool
     matches!(b, b' ' | b'\t' | b'\r' | b'\n')
 }
 
-/// The number of blanks at a text's front.
+/// Returns the number of blanks at a text's front.
 #[tactic(auto, using(crate::proofs::CutFrontLemmas::front_blank, crate::proofs::CutFrontLemmas::front_other))]
 fn front_blanks(text: &[u8]) -> usize
     ensures within { result ≤ length text.now }
@@ -86,7 +86,7 @@ fn front_blanks(text: &[u8]) -> usize
     text.len()
 }
 
-/// Where the blanks at a text's end begin.
+/// Returns where the blanks at a text's end begin.
 #[tactic(auto, using(crate::proofs::CutFrontLemmas::back_blank, crate::proofs::CutFrontLemmas::back_other))]
 fn back_blanks(text: &[u8]) -> usize
     ensures within { result ≤ length text.now }
@@ -141,7 +141,7 @@ pub const NO_CAPTURE: Capture = Capture {
     to: 0,
 };
 
-/// The capture after an event.
+/// Returns the capture after an event.
 pub fn capture_after(capture: Capture, event: Kept) -> Capture
     ensures { result ≡ capture_by capture event }
 {

@@ -7,7 +7,7 @@ use Rattle.std.proofs.lemmas.Bool.{cases_Bool, ltb-true, ltb-false, or_parts}
 use Rattle.std.proofs.lemmas.Bool.Decides.{eqb_tells, nat_tests}
 use Rattle.std.proofs.lemmas.List.FromFn.{get_or-map-range_with_len}
 use Rattle.ruletable.specs.Runs.{runs_of, test_of, in_runs, AreApart}
-use Rattle.ruletable.proofs.RunsLemmas.{are_runs, after-same}
+use Rattle.ruletable.proofs.RunsLemmas.{are_runs, after-same, one-alone, one-more}
 use Rattle.pegread.specs.Classes.{in_range, in_ranges}
 
 -- each range goes up, and is of bytes
@@ -53,17 +53,11 @@ in-runs f b h = in-same (runs_of f) b ∙ ap (λ xs. in_runs xs b) (runs-same f)
 abbrev pub items_of : ℕ × ℕ → List (ℕ × ℕ)
 items_of x = cond (x.0 == x.1) ((x.0, x.0) ∷ []) (cond (x.0 + 1 == x.1) ((x.0, x.0) ∷ (x.1, x.1) ∷ []) (x ∷ []))
 
-one-range : (b x : ℕ) → (nat_le b x && nat_le x b) ≡ (x == b)
-one-range b x = grind (arith, nat_tests)
-
-longer-range : (b c d x : ℕ) → b + 1 ≡ c → c ≤ d → (nat_le b x && nat_le x d) ≡ ((x == b) || (nat_le c x && nat_le x d))
-longer-range b c d x e h = grind (arith, nat_tests)
-
 in-items : (x : ℕ × ℕ) (xs : List (ℕ × ℕ)) (b : ℕ) → x.0 ≤ x.1 → in_ranges (items_of x ++ xs) b ≡ (in_range x b || in_ranges xs b)
 in-items x xs b h = elim (eqb_tells x.0 x.1) [
   | inl e ↦ rw (e.0) (ap (λ (v : ℕ). (nat_le x.0 b && nat_le b v) || in_ranges xs b) e.1)
   | inr e ↦ rw (e.0) (elim (eqb_tells (x.0 + 1) x.1) [
-    | inl k ↦ rw (k.0) (ap (λ (v : Bool). v || (in_range (x.1, x.1) b || in_ranges xs b)) (one-range x.0 b) ∙ sym (or_assoc (b == x.0) (in_range (x.1, x.1) b) (in_ranges xs b)) ∙ ap (λ (v : Bool). v || in_ranges xs b) (sym (longer-range x.0 x.1 x.1 b k.1 (omega arith))))
+    | inl k ↦ rw (k.0) (ap (λ (v : Bool). v || (in_range (x.1, x.1) b || in_ranges xs b)) (one-alone x.0 b) ∙ sym (or_assoc (b == x.0) (in_range (x.1, x.1) b) (in_ranges xs b)) ∙ ap (λ (v : Bool). v || in_ranges xs b) (sym (one-more x.0 x.1 x.1 b k.1 (omega arith))))
     | inr k ↦ rw (k.0) refl
   ])
 ]

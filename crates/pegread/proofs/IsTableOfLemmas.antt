@@ -55,10 +55,6 @@ goes-first all rules redefined names none fresh = record { names = names; kept =
 pub goes-last : (all : List Rule) (rules : table.Rules Expr) (redefined : List ℕ) → Goes all rules redefined [] → IsTableOf all rules redefined
 goes-last all rules redefined g = record { names = g.names; kept = sym (append-nil (rules_of rules)) ∙ g.kept; again = sym (append-nil redefined) ∙ g.again }
 
-pub length-none : {X : Type 0} (xs : List X) → length xs ≡ 0 → xs ≡ []
-length-none [] e = refl
-length-none (x ∷ xs) e = absurd (omega (arith, e))
-
 -- where no name is defined again, the rules are the definitions
 none-again-by : (known ds : List Rule) (d : Rule) (x : Option ℕ) → id_in known d.name ≡ x →
     (agains (known ++ d ∷ []) ds ≡ [] → firsts (known ++ d ∷ []) ds ≡ ds) → agains known (d ∷ ds) ≡ [] → firsts known (d ∷ ds) ≡ d ∷ ds

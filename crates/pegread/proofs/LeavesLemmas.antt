@@ -1,7 +1,7 @@
 -- Texts that are written piece by piece.
 -- Serves: print_peg
 use Rattle.std.proofs.Common.{◌≡◌, ℕ, zero, suc, ◌+◌, ◌≤◌, ◌<◌, ◌==◌, cond, Bool, true, false, Option, Some, List, [], ◌∷◌, ◌++◌, length, drop, get_or, slice_get, map, refl, sym, ◌∙◌, ap, subst, append_assoc, arith, add-one, drop-cons}
-use Rattle.std.proofs.lemmas.List.{append-nil}
+use Rattle.std.proofs.lemmas.List.{append-nil, drop_all}
 use Rattle.std.proofs.lemmas.Bool.{eqb-true}
 use Rattle.std.specs.Io.KnownBytes.{Appends}
 use Rattle.std.specs.Prelude.{Result, Ok, Err}
@@ -57,14 +57,8 @@ leaves-around a false s h = cc
 pub map-left : {A : Type 0} (f : A → List ℕ) (xs : List A) (i : ℕ) (d : A) → i < length xs → flat_map f (drop i xs) ≡ f (get_or xs i d) ++ flat_map f (drop (i + 1) xs)
 map-left f xs i d h = rw (add-one, drop-cons xs i d) refl
 
-drop-end : {A : Type 0} (xs : List A) (i : ℕ) → length xs ≤ i → drop i xs ≡ []
-drop-end [] zero h = refl
-drop-end [] (suc i) h = refl
-drop-end (x ∷ xs) zero h = absurd (omega arith)
-drop-end (x ∷ xs) (suc i) h = drop-end xs i (omega arith)
-
 pub map-end : {A : Type 0} (f : A → List ℕ) (xs : List A) (i : ℕ) → length xs ≤ i → flat_map f (drop i xs) ≡ []
-map-end f xs i h = ap (λ ys. flat_map f ys) (drop-end xs i h)
+map-end f xs i h = ap (λ ys. flat_map f ys) (drop_all i xs h)
 
 -- what is left of members or alternatives, from one on
 abbrev pub left_of : Place → List ℕ → ℕ → Patterns → List ℕ
@@ -96,7 +90,7 @@ item-left p mark es i e same h =
     ∙ ap (λ (w : List ℕ). cond (i == 0) [] mark ++ (around (wraps p (pattern_of e)) (text_of (pattern_of e)) ++ w)) (later-left i ((i + 1) == 0) (joined p mark rest) (more_joined p mark rest) refl)
 
 pub end-left : (p : Place) (mark : List ℕ) (es : List Expr) (i : ℕ) → length es ≤ i → left_of p mark i (patterns_of (drop i es)) ≡ []
-end-left p mark es i h = ap (λ (ys : List Expr). left_of p mark i (patterns_of ys)) (drop-end es i h) ∙ none-left (i == 0) p mark
+end-left p mark es i h = ap (λ (ys : List Expr). left_of p mark i (patterns_of ys)) (drop_all i es h) ∙ none-left (i == 0) p mark
 
 -- what is left of a table's text, from one rule on
 rule-first : (rules : List (table.Rule Expr)) (i : ℕ) (n : List ℕ) (e : Expr) →
@@ -115,4 +109,4 @@ pub rule-left : (rules : List (table.Rule Expr)) (i : ℕ) (n : List ℕ) (e : E
 rule-left rules i n e h k = rw add-one (rule-first rules i n e h k)
 
 pub rules-end : (rules : List (table.Rule Expr)) (i : ℕ) → length rules ≤ i → grammar_text (map rule_of (drop i rules)) ≡ []
-rules-end rules i h = ap (λ (ys : List (table.Rule Expr)). grammar_text (map rule_of ys)) (drop-end rules i h)
+rules-end rules i h = ap (λ (ys : List (table.Rule Expr)). grammar_text (map rule_of ys)) (drop_all i rules h)

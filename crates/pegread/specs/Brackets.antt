@@ -1,4 +1,5 @@
 -- Where the canonical text puts parentheses round a pattern.
+use Prim.Native.Char.{code}
 use Rattle.std.specs.Prelude.{ℕ, ◌||◌, nat_lt, Bool, true, false, List, [], ◌∷◌, ◌++◌}
 use Rattle.pegread.specs.declared.place.Place.{Place}
 use Rattle.pegread.specs.declared.place.Place.TheVariants.{Alternative, Member, OfPrefix, OfAmp, OfSuffix}
@@ -41,5 +42,5 @@ wraps p e = nat_lt (rank e) (least p)
 
 -- a text, in parentheses or not
 abbrev pub around : Bool → List ℕ → List ℕ
-around true s = 40 ∷ (s ++ 41 ∷ [])
+around true s = code "(" ∷ (s ++ code ")" ∷ [])
 around false s = s

@@ -1,4 +1,5 @@
 -- The canonical text of a grammar.
+use Prim.Native.Char.{code}
 use Rattle.std.specs.Prelude.{ℕ, codes, List, [], ◌∷◌, ◌++◌}
 use Rattle.std.specs.List.{flat_map}
 use Rattle.pegread.specs.declared.place.Place.{Place}
@@ -11,7 +12,7 @@ abbrev mutual
   -- the text of a pattern as a rule's body, where it needs no parentheses
   pub text_of : Pattern → List ℕ
   text_of Any = codes "."
-  text_of (Bytes bs) = 34 ∷ (flat_map escaped bs ++ 34 ∷ [])
+  text_of (Bytes bs) = code "\"" ∷ (flat_map escaped bs ++ code "\"" ∷ [])
   text_of (Set f) = class_text f
   text_of (Name n) = n
   text_of (Seq es) = joined Member (codes " ") es
@@ -19,9 +20,9 @@ abbrev mutual
   text_of (Star e) = around (wraps OfSuffix e) (text_of e) ++ codes "*"
   text_of (Plus e) = around (wraps OfSuffix e) (text_of e) ++ codes "+"
   text_of (Opt e) = around (wraps OfSuffix e) (text_of e) ++ codes "?"
-  text_of (And e) = 38 ∷ around (wraps OfAmp e) (text_of e)
-  text_of (Not e) = 33 ∷ around (wraps OfPrefix e) (text_of e)
-  text_of (Act t) = 123 ∷ (t ++ 125 ∷ [])
+  text_of (And e) = code "&" ∷ around (wraps OfAmp e) (text_of e)
+  text_of (Not e) = code "!" ∷ around (wraps OfPrefix e) (text_of e)
+  text_of (Act t) = code "{" ∷ (t ++ code "}" ∷ [])
   text_of Open = codes "<"
   text_of Close = codes ">"
 
@@ -37,7 +38,7 @@ abbrev mutual
 
 -- a definition: the name, ` <- `, the body and LF
 abbrev pub definition_text : List ℕ → Pattern → List ℕ
-definition_text n e = n ++ (codes " <- " ++ (text_of e ++ 10 ∷ []))
+definition_text n e = n ++ (codes " <- " ++ (text_of e ++ code "\n" ∷ []))
 
 abbrev pub rule_text : Rule → List ℕ
 rule_text rule = definition_text rule.name rule.body

@@ -1,24 +1,26 @@
 -- What a class spells: a set of bytes, as a test of the numbers from 0 to 255.
+use Prim.Native.Char.{code}
 use Rattle.std.specs.Prelude.{◌≡◌, ◌≢◌, ℕ, ◌||◌, ◌&&◌, nat_le, nat_lt, not, cond, Bool, false, List, [], ◌∷◌, ◌++◌}
+use Rattle.lexer.specs.SliceEnds.{Lacks}
 use Rattle.pegread.specs.Chars.{Char}
 use Rattle.pegread.specs.Slices.{Closes}
 
 -- the slice of a class: a bracket, and what follows up to the next closing bracket that no escape takes, which ends it. It ends there also after a `-`, a rule of our own: no plain `]` ends a range.
 pub data IsClass : List ℕ → Type 0 where
-  bracketed : {bs : List ℕ} → Closes 93 bs [] → IsClass (91 ∷ bs)
+  bracketed : {bs : List ℕ} → Closes (code "]") bs [] → IsClass (code "[" ∷ bs)
 
 -- a plain `-` stands there, and more of the class behind it
 abbrev pub GoesOn : List ℕ → Type 0
 GoesOn [] = ⊥
 GoesOn (b ∷ []) = ⊥
-GoesOn (b ∷ c ∷ cs) = b ≡ 45
+GoesOn (b ∷ c ∷ cs) = b ≡ code "-"
 
 -- An item at the front of a class's inside: the text, what stands behind the item, and the item's first and last byte. The inside is without the brackets, so a `-` that ends it makes no range, a rule of our own.
 pub data Item : List ℕ → List ℕ → ℕ → ℕ → Type 0 where
   -- one character, a `-` too
   item_char : {t r : List ℕ} {a : ℕ} → Char t r a → (GoesOn r → ⊥) → Item t r a a
   -- a character, a plain `-`, and a character
-  item_range : {t m r : List ℕ} {a b : ℕ} → Char t (45 ∷ m) a → Char m r b → Item t r a b
+  item_range : {t m r : List ℕ} {a b : ℕ} → Char t (code "-" ∷ m) a → Char m r b → Item t r a b
 
 -- the items of a whole inside, one behind the other: the first and the last byte of each
 pub data Ranges : List ℕ → List (ℕ × ℕ) → Type 0 where
@@ -44,15 +46,14 @@ complement f b = cond (nat_lt b 256) (not (f b)) false
 
 -- no `^` begins it
 abbrev pub NoHat : List ℕ → Type 0
-NoHat [] = Unit {0}
-NoHat (b ∷ bs) = b ≢ 94
+NoHat = Lacks (code "^")
 
 -- a class's slice, and its set
 pub data SpellsSet : List ℕ → (ℕ → Bool) → Type 0 where
   -- the bytes of its items
-  positive : {inside : List ℕ} {f : ℕ → Bool} {xs : List (ℕ × ℕ)} (slice : List ℕ) → slice ≡ 91 ∷ (inside ++ 93 ∷ []) → NoHat inside → Ranges inside xs → ((b : ℕ) → f b ≡ bytes_in (in_ranges xs) b) → SpellsSet slice f
+  positive : {inside : List ℕ} {f : ℕ → Bool} {xs : List (ℕ × ℕ)} (slice : List ℕ) → slice ≡ code "[" ∷ (inside ++ code "]" ∷ []) → NoHat inside → Ranges inside xs → ((b : ℕ) → f b ≡ bytes_in (in_ranges xs) b) → SpellsSet slice f
   -- all other bytes, where a plain `^` directly follows the bracket
-  negative : {inside : List ℕ} {f : ℕ → Bool} {xs : List (ℕ × ℕ)} (slice : List ℕ) → slice ≡ 91 ∷ 94 ∷ (inside ++ 93 ∷ []) → Ranges inside xs → ((b : ℕ) → f b ≡ complement (in_ranges xs) b) → SpellsSet slice f
+  negative : {inside : List ℕ} {f : ℕ → Bool} {xs : List (ℕ × ℕ)} (slice : List ℕ) → slice ≡ code "[" ∷ code "^" ∷ (inside ++ code "]" ∷ []) → Ranges inside xs → ((b : ℕ) → f b ≡ complement (in_ranges xs) b) → SpellsSet slice f
 
 -- the ranges that an inside spells, and the test of their numbers
 pub record SpellsItems (inside : List ℕ) (f : ℕ → Bool) : Type 0 where

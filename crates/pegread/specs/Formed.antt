@@ -1,4 +1,5 @@
 -- What the patterns of a grammar that was read are like.
+use Prim.Native.Char.{code}
 use Rattle.std.specs.Prelude.{◌≡◌, ℕ, ◌<◌, ◌≤◌, Bool, false, List, [], ◌∷◌, ◌++◌}
 use Rattle.pegread.specs.Names.{IsName}
 use Rattle.pegread.specs.Pattern.{Pattern, Any, Bytes, Set, Name, Seq, Choice, Star, Plus, Opt, And, Not, Act, Open, Close, Patterns, none, more, Rule}
@@ -15,7 +16,7 @@ IsByteSet f = (b : ℕ) → 256 ≤ b → f b ≡ false
 
 -- the braces of a template match
 abbrev pub IsTemplate : List ℕ → Type 0
-IsTemplate t = Body (t ++ 125 ∷ []) []
+IsTemplate t = Body (t ++ code "}" ∷ []) []
 
 -- none, or two and more: one member is no sequence
 abbrev pub IsNotOne : Patterns → Type 0

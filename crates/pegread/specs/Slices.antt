@@ -1,4 +1,5 @@
 -- Where a token of a kind ends: each relation holds of a text and of what stands behind the token that begins it.
+use Prim.Native.Char.{code}
 use Rattle.std.specs.Prelude.{◌≡◌, ◌≢◌, ℕ, ◌||◌, ◌==◌, Bool, true, false, List, [], ◌∷◌}
 use Rattle.std.specs.Char.{is_ascii_alphabetic, is_ascii_alphanumeric}
 use Rattle.lexer.specs.SliceEnds as ends
@@ -7,19 +8,19 @@ use Rattle.pegread.specs.declared.kind.Kind.TheVariants.{Ident, Arrow, Begin, En
 
 -- letters and `_`
 abbrev pub starts_name : ℕ → Bool
-starts_name b = is_ascii_alphabetic b || (b == 95)
+starts_name b = is_ascii_alphabetic b || (b == code "_")
 
 -- letters, digits and `_`
 abbrev pub continues_name : ℕ → Bool
-continues_name b = is_ascii_alphanumeric b || (b == 95)
+continues_name b = is_ascii_alphanumeric b || (b == code "_")
 
 -- space, tab, LF and CR
 abbrev pub is_blank : ℕ → Bool
-is_blank b = (b == 32) || (b == 9) || (b == 10) || (b == 13)
+is_blank b = (b == code " ") || (b == code "\t") || (b == code "\n") || (b == code "\r")
 
 -- LF and CR
 abbrev pub ends_line : ℕ → Bool
-ends_line b = (b == 10) || (b == 13)
+ends_line b = (b == code "\n") || (b == code "\r")
 
 -- bytes of a name, any number of them
 pub data Names : List ℕ → List ℕ → Type 0 where
@@ -29,14 +30,14 @@ pub data Names : List ℕ → List ℕ → Type 0 where
 -- up to the next mark that no escape takes, and with it
 pub data Closes (mark : ℕ) : List ℕ → List ℕ → Type 0 where
   close : {r : List ℕ} → Closes mark (mark ∷ r) r
-  escape : {b : ℕ} {bs r : List ℕ} → Closes mark bs r → Closes mark (92 ∷ b ∷ bs) r
-  plain : {b : ℕ} {bs r : List ℕ} → b ≢ mark → b ≢ 92 → Closes mark bs r → Closes mark (b ∷ bs) r
+  escape : {b : ℕ} {bs r : List ℕ} → Closes mark bs r → Closes mark (code "\\" ∷ b ∷ bs) r
+  plain : {b : ℕ} {bs r : List ℕ} → b ≢ mark → b ≢ code "\\" → Closes mark bs r → Closes mark (b ∷ bs) r
 
 -- up to the brace that matches one that stands before, and with it
 pub data Body : List ℕ → List ℕ → Type 0 where
-  last : {r : List ℕ} → Body (125 ∷ r) r
-  nested : {bs m r : List ℕ} → Body bs m → Body m r → Body (123 ∷ bs) r
-  other : {b : ℕ} {bs r : List ℕ} → b ≢ 123 → b ≢ 125 → Body bs r → Body (b ∷ bs) r
+  last : {r : List ℕ} → Body (code "}" ∷ r) r
+  nested : {bs m r : List ℕ} → Body bs m → Body m r → Body (code "{" ∷ bs) r
+  other : {b : ℕ} {bs r : List ℕ} → b ≢ code "{" → b ≢ code "}" → Body bs r → Body (b ∷ bs) r
 
 -- no byte, or one that is of no comment's inside
 abbrev pub IsLineEnd : List ℕ → Type 0
@@ -51,7 +52,7 @@ pub data Comment : List ℕ → List ℕ → Type 0 where
 -- a piece of white space: a blank, or a comment
 pub data Piece : List ℕ → List ℕ → Type 0 where
   blank : {b : ℕ} {r : List ℕ} → is_blank b ≡ true → Piece (b ∷ r) r
-  comment : {bs r : List ℕ} → Comment bs r → Piece (35 ∷ bs) r
+  comment : {bs r : List ℕ} → Comment bs r → Piece (code "#" ∷ bs) r
 
 -- white space: blanks and comments, as far as one likes
 abbrev pub White : List ℕ → List ℕ → Type 0
@@ -59,28 +60,27 @@ White = ends.White Piece
 
 -- the text doesn't begin with `-`, which would make an arrow of a `<` before it
 abbrev pub NoDash : List ℕ → Type 0
-NoDash [] = Unit {0}
-NoDash (b ∷ bs) = b ≢ 45
+NoDash = ends.Lacks (code "-")
 
 -- A token of the kind begins the text, and r is what stands behind it.
 pub data Stands : Kind → List ℕ → List ℕ → Type 0 where
   ident : {b : ℕ} {bs r : List ℕ} → starts_name b ≡ true → Names bs r → Stands Ident (b ∷ bs) r
-  arrow : {r : List ℕ} → Stands Arrow (60 ∷ 45 ∷ r) r
-  begin : {r : List ℕ} → Stands Begin (60 ∷ r) r
-  end_cap : {r : List ℕ} → Stands EndCap (62 ∷ r) r
-  slash : {r : List ℕ} → Stands Slash (47 ∷ r) r
-  amp : {r : List ℕ} → Stands Amp (38 ∷ r) r
-  bang : {r : List ℕ} → Stands Bang (33 ∷ r) r
-  quest : {r : List ℕ} → Stands Quest (63 ∷ r) r
-  star : {r : List ℕ} → Stands Star (42 ∷ r) r
-  plus : {r : List ℕ} → Stands Plus (43 ∷ r) r
-  dot : {r : List ℕ} → Stands Dot (46 ∷ r) r
-  lparen : {r : List ℕ} → Stands LParen (40 ∷ r) r
-  rparen : {r : List ℕ} → Stands RParen (41 ∷ r) r
-  single : {bs r : List ℕ} → Closes 39 bs r → Stands Literal (39 ∷ bs) r
-  double : {bs r : List ℕ} → Closes 34 bs r → Stands Literal (34 ∷ bs) r
-  class : {bs r : List ℕ} → Closes 93 bs r → Stands Class (91 ∷ bs) r
-  action : {bs r : List ℕ} → Body bs r → Stands Action (123 ∷ bs) r
+  arrow : {r : List ℕ} → Stands Arrow (code "<" ∷ code "-" ∷ r) r
+  begin : {r : List ℕ} → Stands Begin (code "<" ∷ r) r
+  end_cap : {r : List ℕ} → Stands EndCap (code ">" ∷ r) r
+  slash : {r : List ℕ} → Stands Slash (code "/" ∷ r) r
+  amp : {r : List ℕ} → Stands Amp (code "&" ∷ r) r
+  bang : {r : List ℕ} → Stands Bang (code "!" ∷ r) r
+  quest : {r : List ℕ} → Stands Quest (code "?" ∷ r) r
+  star : {r : List ℕ} → Stands Star (code "*" ∷ r) r
+  plus : {r : List ℕ} → Stands Plus (code "+" ∷ r) r
+  dot : {r : List ℕ} → Stands Dot (code "." ∷ r) r
+  lparen : {r : List ℕ} → Stands LParen (code "(" ∷ r) r
+  rparen : {r : List ℕ} → Stands RParen (code ")" ∷ r) r
+  single : {bs r : List ℕ} → Closes (code "'") bs r → Stands Literal (code "'" ∷ bs) r
+  double : {bs r : List ℕ} → Closes (code "\"") bs r → Stands Literal (code "\"" ∷ bs) r
+  class : {bs r : List ℕ} → Closes (code "]") bs r → Stands Class (code "[" ∷ bs) r
+  action : {bs r : List ℕ} → Body bs r → Stands Action (code "{" ∷ bs) r
 
 -- a token that begins the text is of no kind that passes the test
 abbrev pub StandsNone : (Kind → Bool) → List ℕ → Type 0

@@ -1,4 +1,5 @@
 -- What tokens say to a grammar.
+use Prim.Native.Char.{code}
 use Rattle.std.specs.Prelude.{◌≡◌, ℕ, Bool, List, [], ◌∷◌, ◌++◌}
 use Rattle.lexer.specs.Viability as viability
 use Rattle.ruletable.specs.declared.span.Span.{Span}
@@ -48,7 +49,7 @@ pub data Says : Tok → Word → Type 0 where
   -- the set that is spelled between its brackets
   says_class : {z : List ℕ} {f : ℕ → Bool} {p : Span} → SpellsSet z f → Says (tok kinds.Class z p) (Class f)
   -- the text between its outer braces
-  says_action : {z t : List ℕ} {p : Span} → z ≡ 123 ∷ (t ++ 125 ∷ []) → Says (tok kinds.Action z p) (Action t)
+  says_action : {z t : List ℕ} {p : Span} → z ≡ code "{" ∷ (t ++ code "}" ∷ []) → Says (tok kinds.Action z p) (Action t)
   says_end : {z : List ℕ} {p : Span} → Says (tok kinds.End z p) End
 
 -- the words of a list of tokens, one of each

@@ -1,31 +1,23 @@
 //! The sets of classes.
 ghost use Rattle.std.specs.Prelude.{◌≡◌, ◌≢◌, ℕ, false, [], ◌∷◌, length, get_or, MatchOption};
 ghost use Rattle.pegread.specs.Chars.{Paired};
-ghost use Rattle.pegread.specs.Classes.{IsClass, GoesOn, NoHat, Item, SpellsItems, SpellsSet};
+ghost use Rattle.pegread.specs.Classes.{IsClass, Item, SpellsItems, SpellsSet};
 
 use crate::escape::next_char;
-use crate::literal::inside;
+use lexer::{after_byte, inside};
 use ruletable::ByteSet;
 
-/// The set of bytes that a class's slice spells: that of its items, or after a `^` that directly follows the bracket, of
-/// all other bytes. The slice must be one of a class token.
+/// Returns the set of bytes that a class's slice spells: that of its items, or after a `^` that directly follows the
+/// bracket, of all other bytes. The slice must be one of a class token.
 pub fn class_set(slice: &[u8]) -> ByteSet
     requires { IsClass slice.now }
     ensures { SpellsSet slice.now (λ b. get_or result b false) }
 {
     let text = inside(slice);
-    match after_hat(text) {
+    match after_byte(text, b'^') {
         Some(items) => items_set(items).complement(),
         None => items_set(text),
     }
-}
-
-// What stands behind a plain `^` that begins the text.
-fn after_hat(text: &[u8]) -> Option<&[u8]>
-    ensures { MatchOption result (NoHat text.now) (λ x. text.now ≡ 94 ∷ x.now) }
-{
-    let (first, tail) = text.split_first()?;
-    if *first == b'^' { Some(tail) } else { None }
 }
 
 // The set of the items that a text spells, one behind the other.
@@ -57,29 +49,20 @@ fn next_item(text: &[u8]) -> Option<ClassItem<'_>>
     ensures { MatchOption result (text.now ≡ []) (λ x. Item text.now x.behind.now x.first x.last) }
 {
     let (first, rest) = next_char(text)?;
-    let Some(end) = after_dash(rest) else {
-        return Some(ClassItem {
+    match after_byte(rest, b'-') {
+        // a `-` that ends the class is a character
+        Some(end) if !end.is_empty() => {
+            let (last, behind) = next_char(end)?;
+            Some(ClassItem {
+                first,
+                last,
+                behind,
+            })
+        }
+        _ => Some(ClassItem {
             first,
             last: first,
             behind: rest,
-        });
-    };
-    let (last, behind) = next_char(end)?;
-    Some(ClassItem {
-        first,
-        last,
-        behind,
-    })
-}
-
-// What stands behind a plain `-` that doesn't end the class.
-fn after_dash(text: &[u8]) -> Option<&[u8]>
-    ensures { MatchOption result (GoesOn text.now → ⊥) (λ x. (text.now ≡ 45 ∷ x.now) × (x.now ≢ [])) }
-{
-    let (first, tail) = text.split_first()?;
-    if *first == b'-' && !tail.is_empty() {
-        Some(tail)
-    } else {
-        None
+        }),
     }
 }

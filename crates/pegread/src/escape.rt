@@ -1,9 +1,9 @@
 //! The characters of literals and classes: bytes as they are, and escapes.
 ghost use Rattle.std.specs.Prelude.{◌≡◌, ◌≢◌, ℕ, ◌+◌, ◌≤◌, [], ◌∷◌, MatchOption};
-ghost use Rattle.pegread.specs.Chars.{Octal, Hex, Letter, DigitFirst, NoDigit, Char, SpellsNone};
+ghost use Rattle.pegread.specs.Chars.{code, Octal, Hex, Letter, DigitFirst, NoDigit, Char, SpellsNone};
 
-/// The byte that is spelled at the front of a text, and what stands behind its spelling: the longest that peg(1) knows
-/// there. `None` exactly for the empty text and for a backslash alone.
+/// Returns the byte that is spelled at the front of a text, and what stands behind its spelling: the longest that
+/// peg(1) knows there. `None` exactly for the empty text and for a backslash alone.
 pub fn next_char(text: &[u8]) -> Option<(u8, &[u8])>
     ensures { MatchOption result (SpellsNone text.now) (λ x. Char text.now x.1.now x.0) }
 {
@@ -17,7 +17,7 @@ pub fn next_char(text: &[u8]) -> Option<(u8, &[u8])>
 
 // What a backslash and the text behind it spell.
 fn next_escape(text: &[u8]) -> Option<(u8, &[u8])>
-    ensures { MatchOption result (text.now ≡ []) (λ x. Char (92 ∷ text.now) x.1.now x.0) }
+    ensures { MatchOption result (text.now ≡ []) (λ x. Char (code "\\" ∷ text.now) x.1.now x.0) }
 {
     let (first, tail) = text.split_first()?;
     if *first == b'x' {
@@ -34,7 +34,7 @@ fn next_escape(text: &[u8]) -> Option<(u8, &[u8])>
 
 // What `\x` and the text behind it spell: without a digit, an `x`.
 fn hex_escape(text: &[u8]) -> (u8, &[u8])
-    ensures { Char (92 ∷ 120 ∷ text.now) result.1.now result.0 }
+    ensures { Char (code "\\" ∷ code "x" ∷ text.now) result.1.now result.0 }
 {
     let Some((high, behind)) = next_hex(text) else {
         return (b'x', text);
@@ -48,7 +48,7 @@ fn hex_escape(text: &[u8]) -> (u8, &[u8])
 // What a backslash, the octal digit of that value and the text behind it spell: a third digit counts only where the first is at most 3.
 fn octal_escape(first: u8, text: &[u8]) -> (u8, &[u8])
     requires { first ≤ 7 }
-    ensures { Char (92 ∷ (48 + first) ∷ text.now) result.1.now result.0 }
+    ensures { Char (code "\\" ∷ (code "0" + first) ∷ text.now) result.1.now result.0 }
 {
     let Some((second, behind)) = next_octal(text) else {
         return (first, text);

@@ -1,10 +1,12 @@
 //! Where tokens and white space end.
 ghost use Rattle.std.specs.Prelude.{◌≡◌, ℕ, ◌≤◌, List, ◌∷◌, length, MatchOption};
 ghost use Rattle.lexer.specs.SliceEnds.{NoPiece};
-ghost use Rattle.pegread.specs.Slices.{starts_name, continues_name, is_blank, ends_line, Names, Closes, Body, Comment, Piece, White, NoDash, First, StandsNone};
+ghost use Rattle.pegread.specs.Chars.{code};
+ghost use Rattle.pegread.specs.Slices.{starts_name, continues_name, is_blank, ends_line, Names, Closes, Body, Comment, Piece, White, First, StandsNone};
 ghost use Rattle.pegread.specs.Kinds.{is_sign, is_closed};
 
 use crate::kind::Kind;
+use lexer::after_byte;
 
 fn is_start(b: u8) -> bool
     ensures { result ≡ starts_name b }
@@ -117,19 +119,11 @@ pub(crate) fn after_blanks(text: &[u8]) -> &[u8]
     rest
 }
 
-// What stands behind a `-`.
-fn after_dash(text: &[u8]) -> Option<&[u8]>
-    ensures { MatchOption result (NoDash text.now) (λ rest. text.now ≡ 45 ∷ rest.now) }
-{
-    let (first, tail) = text.split_first()?;
-    if *first == b'-' { Some(tail) } else { None }
-}
-
 // The token that a `<` begins: its kind, and what stands behind it.
 fn angle_token(tail: &[u8]) -> (Kind, &[u8])
-    ensures { First result.0 (60 ∷ tail.now) result.1.now }
+    ensures { First result.0 (code "<" ∷ tail.now) result.1.now }
 {
-    match after_dash(tail) {
+    match after_byte(tail, b'-') {
         Some(rest) => (Kind::Arrow, rest),
         None => (Kind::Begin, tail),
     }

@@ -1,13 +1,14 @@
 //! The bytes of literals.
-ghost use Rattle.std.specs.Prelude.{◌≡◌, ℕ, ◌≤◌, List, [], ◌∷◌, ◌++◌, length, IfOk};
+ghost use Rattle.std.specs.Prelude.{IfOk};
 ghost use Rattle.pegread.specs.Chars.{Chars, Paired};
 ghost use Rattle.pegread.specs.Literals.{IsLiteral, SpellsBytes};
 
 use crate::escape::next_char;
+use lexer::inside;
 use ruletable::Memory;
 use std::alloc::Global;
 
-/// The bytes that a literal's slice spells between its quotes. The slice must be one of a literal token.
+/// Returns the bytes that a literal's slice spells between its quotes. The slice must be one of a literal token.
 ///
 /// # Errors
 /// `Memory` where a growth was refused.
@@ -30,12 +31,4 @@ fn text_bytes(alloc: Global, text: &[u8]) -> Result<Vec<u8>, Memory>
         rest = behind;
     }
     Ok(bytes)
-}
-
-/// What stands between the first and the last byte of a slice.
-pub(crate) fn inside(slice: &[u8]) -> &[u8]
-    requires { 2 ≤ length slice.now }
-    ensures { (first last : ℕ) (text : List ℕ) → slice.now ≡ first ∷ (text ++ last ∷ []) → result.now ≡ text }
-{
-    &slice[1..slice.len() - 1]
 }

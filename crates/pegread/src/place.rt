@@ -6,7 +6,7 @@ ghost use Rattle.pegread.specs.PegViews.{pattern_of};
 use crate::expr::Expr;
 
 /// Where an expression stands within another.
-#[derive(Clone, Copy, Debug)]
+#[derive(Clone, Copy)]
 pub(crate) enum Place {
     Alternative,
     Member,

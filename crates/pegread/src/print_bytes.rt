@@ -4,6 +4,7 @@ ghost use Rattle.std.specs.List.{flat_map};
 ghost use Rattle.ruletable.specs.Runs.{test_of};
 ghost use Rattle.ruletable.specs.Writing.{Writes, Flags};
 ghost use Rattle.pegread.specs.Canon as canon;
+ghost use Rattle.pegread.specs.Chars.{code};
 ghost use Rattle.pegread.specs.Escapes.{letter_for as the_letter, is_unprintable as unprintable, written, escaped, shown, run_text, runs_text, class_text};
 ghost use Rattle.pegread.specs.Pattern as patterns;
 
@@ -145,7 +146,7 @@ fn print_runs<W: Sink>(set: &ByteSet, w: &mut W) -> Result<(), WriteFault>
 
 // A class of these runs, behind its opening mark.
 fn print_class<W: Sink>(mark: &[u8], set: &ByteSet, w: &mut W) -> Result<(), WriteFault>
-    ensures bytes { Writes (W.contents w.old) (W.contents w.new) (mark.now ++ (runs_text (test_of set.now) ++ 93 ∷ [])) result }
+    ensures bytes { Writes (W.contents w.old) (W.contents w.new) (mark.now ++ (runs_text (test_of set.now) ++ code "]" ∷ [])) result }
     ensures flag { Flags (W.failed w.old) (W.failed w.new) result }
 {
     match write_whole(w, mark) {

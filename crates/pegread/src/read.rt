@@ -1,6 +1,5 @@
 //! Reads a grammar's text.
 ghost use Rattle.std.specs.Prelude.{◌≡◌, ◌≢◌, ℕ, ◌<◌, ◌≤◌, ◌++◌, ◌∷◌, Bool, List, length, slice_get, take as first, Some, IfOk, IfErr, MatchResult};
-ghost use Rattle.ruletable.specs.Lines.{line_at};
 ghost use Rattle.ruletable.specs.declared.span.Span.{Span};
 ghost use Rattle.pegread.specs.Definitions.{IsTableOf};
 ghost use Rattle.pegread.specs.Marks.{IsCut};
@@ -65,13 +64,17 @@ fn read_definitions(alloc: Global, text: &[u8]) -> Result<Vec<Definition<'_>>, R
             Ok(next) => {
                 if open_brackets(&next) > MAX_OPEN {
                     return Err(ReadFault::Depth {
-                        line: line_in(text, at),
+                        line: line_of(text, at, LineRule::Any),
                     });
                 }
                 reader = next;
                 before = Some(kind);
             }
-            Err(Stop::Hopeless) => return Err(hopeless(before, kind, line_in(text, at))),
+            Err(Stop::Hopeless) => return Err(hopeless(
+                before,
+                kind,
+                line_of(text, at, LineRule::Any),
+            )),
             Err(Stop::Memory) => return Err(ReadFault::Memory),
         }
     }
@@ -79,13 +82,6 @@ fn read_definitions(alloc: Global, text: &[u8]) -> Result<Vec<Definition<'_>>, R
         Reader::Done(definitions) => Ok(definitions),
         _ => unreachable!(),
     }
-}
-
-// The line of the byte at a place, where lines end with LF, CR LF or CR.
-fn line_in(text: &[u8], at: usize) -> usize
-    ensures { result ≡ line_at LineRule.Any text.now at }
-{
-    line_of(text, at, LineRule::Any)
 }
 
 // What is wrong where a token of that kind goes on no grammar, by the kind of the token before it.

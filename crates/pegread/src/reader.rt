@@ -12,7 +12,7 @@ use ruletable::Span;
 use std::alloc::{AllocError, AllocFailed, Global};
 
 /// Why the reader takes no further word.
-#[derive(Clone, Copy, Debug)]
+#[derive(Clone, Copy)]
 pub(crate) enum Stop {
     /// With this word the words so far begin no grammar.
     Hopeless,
@@ -41,7 +41,7 @@ impl<T: Drop> From<AllocFailed<T>> for Stop {
 }
 
 /// A prefix that waits for its item.
-#[derive(Clone, Copy, Debug)]
+#[derive(Clone, Copy)]
 pub(crate) enum Prefix {
     Nothing,
     Not,
@@ -464,7 +464,7 @@ pub(crate) fn take<'a>(
     }
 }
 
-/// How many brackets are open.
+/// Returns how many brackets are open.
 pub(crate) fn open_brackets(reader: &Reader<'_>) -> usize
     ensures { result ≡ levels_in (config_of reader.now) }
 {

@@ -1,6 +1,5 @@
 //! What tokens say to a grammar.
-ghost use Rattle.std.specs.Prelude.{◌≡◌, ◌∷◌, ◌++◌, [], MatchOption, IfOk};
-ghost use Rattle.pegread.specs.Actions.{IsBraced};
+ghost use Rattle.std.specs.Prelude.{MatchOption, IfOk};
 ghost use Rattle.pegread.specs.Marks.{IsCut};
 ghost use Rattle.pegread.specs.Steps.{word_of};
 ghost use Rattle.lexer.specs.TokenLists.{tok_of};
@@ -9,8 +8,8 @@ ghost use Rattle.pegread.specs.Words.{Says};
 
 use crate::class::class_set;
 use crate::kind::Kind;
-use crate::literal::{inside, literal_bytes};
-use lexer::Token;
+use crate::literal::literal_bytes;
+use lexer::{Token, inside};
 use ruletable::{ByteSet, Memory, Span};
 use std::alloc::Global;
 
@@ -37,7 +36,7 @@ pub(crate) enum Word<'a> {
     End,
 }
 
-/// What a token says; `None` for `Bad`, which says nothing.
+/// Returns what a token says; `None` for `Bad`, which says nothing.
 ///
 /// # Errors
 /// `Memory` where a growth was refused.
@@ -61,17 +60,12 @@ pub(crate) fn word_in(alloc: Global, token: Token<'_, Kind>) -> Result<Option<Wo
         Kind::RParen => Ok(Some(Word::RParen)),
         Kind::Literal => Ok(Some(Word::Literal(literal_bytes(alloc, token.slice)?))),
         Kind::Class => Ok(Some(Word::Class(class_set(token.slice)))),
-        Kind::Action => Ok(Some(Word::Action(template(alloc, token.slice)?))),
+        Kind::Action => {
+            // the text within its outer braces
+            let template = Vec::from_slice(alloc, inside(token.slice))?;
+            Ok(Some(Word::Action(template)))
+        }
         Kind::Bad => Ok(None),
         Kind::End => Ok(Some(Word::End)),
     }
-}
-
-// The text within an action's outer braces.
-fn template(alloc: Global, slice: &[u8]) -> Result<Vec<u8>, Memory>
-    requires { IsBraced slice.now }
-    ensures { IfOk result (λ t. slice.now ≡ 123 ∷ (t.items ++ 125 ∷ [])) }
-{
-    let text = inside(slice);
-    Ok(Vec::from_slice(alloc, text)?)
 }

@@ -2,7 +2,7 @@
 -- Serves: note_marked, note_undefined, check_peg, redefinitions, check_abnf (notes), run_abnf (right)
 use Rattle.std.proofs.Common.{◌≡◌, ℕ, zero, suc, ◌+◌, ◌<◌, ◌≤◌, Bool, true, false, List, [], ◌∷◌, ◌++◌, length, map, drop, get_or, Some, refl, sym, ap, ◌∙◌, arith, add-one, append_assoc, append-nil, drop-cons}
 use Rattle.std.specs.Prelude.{slice_get}
-use Rattle.std.proofs.lemmas.List.{map-append}
+use Rattle.std.proofs.lemmas.List.{drop_all, map-append}
 use Rattle.std.proofs.lemmas.Option.{slice_get_within, get_or_from_slice_get}
 use Rattle.ruletable.specs.Notes.{Said, said_of}
 use Rattle.ruletable.specs.declared.note.Note.{Note}
@@ -61,15 +61,9 @@ note-next f names i name now new note all at e is h =
     note-more now new note (f name) (map f (drop (i + 1) names)) all e is
     (ap (λ l. map said_of now ++ map f l) (sym (left-first names i name (slice_get_within names i name at) (get_or_from_slice_get names i name name at))) ∙ h)
 
-drop_past : {A : Type 0} (xs : List A) (i : ℕ) → length xs ≤ i → drop i xs ≡ []
-drop_past [] zero le = refl
-drop_past [] (suc i) le = refl
-drop_past (x ∷ xs) zero le = absurd (omega (arith, le))
-drop_past (x ∷ xs) (suc i) le = drop_past xs i (omega (arith, le))
-
 pub none-left : (f : List ℕ → Said) (marks : List Bool) (names : List (List ℕ)) (i : ℕ) (now all : List Said) → length marks ≤ i → now ++ map f (chosen (drop i marks) (drop i names)) ≡ all → now ≡ all
 none-left f marks names i now all le h =
-    let none : chosen (drop i marks) (drop i names) ≡ [] = ap (λ l. chosen l (drop i names)) (drop_past marks i le) ∙ chosen_none (drop i names) in
+    let none : chosen (drop i marks) (drop i names) ≡ [] = ap (λ l. chosen l (drop i names)) (drop_all i marks le) ∙ chosen_none (drop i names) in
     sym (append-nil now) ∙ ap (λ l. now ++ map f l) (sym none) ∙ h
 
 -- one kind of notes after another

@@ -27,10 +27,10 @@ apart-from f zero n = tt
 apart-from f (suc k) n = apart-push_if (f n) n (runs_from f k (n + 1)) (apart-from f k (n + 1))
 
 -- what one more number puts into the runs
-one-more : (n m z b : ℕ) → n + 1 ≡ m → m ≤ z → (nat_le n b && nat_le b z) ≡ ((b == n) || (nat_le m b && nat_le b z))
+pub one-more : (n m z b : ℕ) → n + 1 ≡ m → m ≤ z → (nat_le n b && nat_le b z) ≡ ((b == n) || (nat_le m b && nat_le b z))
 one-more n m z b e h = grind (arith, nat_tests)
 
-one-alone : (n b : ℕ) → (nat_le n b && nat_le b n) ≡ (b == n)
+pub one-alone : (n b : ℕ) → (nat_le n b && nat_le b n) ≡ (b == n)
 one-alone n b = grind (arith, nat_tests)
 
 in_runs-push : (n b : ℕ) (runs : List (ℕ × ℕ)) → AreApart (n + 1) runs → in_runs (push n runs) b ≡ ((b == n) || in_runs runs b)

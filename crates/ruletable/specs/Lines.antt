@@ -1,16 +1,17 @@
 -- On which line of a text a byte stands.
+use Prim.Native.Char.{code}
 use Rattle.std.specs.Prelude.{ℕ, zero, suc, ◌+◌, ◌==◌, ◌&&◌, ◌||◌, not, Bool, false, List, [], ◌∷◌, if◌then◌else◌}
 use Rattle.ruletable.specs.declared.lines.LineRule.{LineRule}
 use Rattle.ruletable.specs.declared.lines.LineRule.TheVariants.{Lf, Any}
 
 abbrev pub begins_with_lf : List ℕ → Bool
 begins_with_lf [] = false
-begins_with_lf (b ∷ bytes) = b == 10
+begins_with_lf (b ∷ bytes) = b == code "\n"
 
 -- Whether a line end ends with byte b, where `behind` stands behind it: an LF, or under `Any` also a CR, which belongs to an LF right behind it.
 abbrev pub ends_line : LineRule → ℕ → List ℕ → Bool
-ends_line Lf b behind = b == 10
-ends_line Any b behind = (b == 10) || ((b == 13) && not (begins_with_lf behind))
+ends_line Lf b behind = b == code "\n"
+ends_line Any b behind = (b == code "\n") || ((b == code "\r") && not (begins_with_lf behind))
 
 -- how many line ends lie wholly within the first bytes of the text
 abbrev pub line_ends : LineRule → List ℕ → ℕ → ℕ

@@ -22,7 +22,7 @@ impl Model for ByteSet {
 }
 
 impl ByteSet {
-    /// The empty set.
+    /// Returns the empty set.
     pub fn new() -> ByteSet
         ensures count { length result ≡ 256 }
         ensures empty { (k : ℕ) → get_or result k false ≡ false }
@@ -30,7 +30,7 @@ impl ByteSet {
         ByteSet { words: [0; 4] }
     }
 
-    /// Whether the byte is a member.
+    /// Returns whether the byte is a member.
     pub fn has(&self, b: u8) -> bool
         ensures { result ≡ get_or self.now b false }
     {
@@ -50,7 +50,8 @@ impl ByteSet {
         None
     }
 
-    /// The maximal ranges of members, each with its first and its last byte, in ascending order. It takes no memory.
+    /// Returns the maximal ranges of members, each with its first and its last byte, in ascending order. It takes no
+    /// memory.
     pub fn runs(&self) -> Runs<'_>
         ensures runs { result ≡ runs_of (test_of self.now) }
         ensures exact { AreRuns self.now result }
@@ -58,7 +59,7 @@ impl ByteSet {
         Runs::new(self)
     }
 
-    /// A set of the same members.
+    /// Returns a set of the same members.
     pub fn copied(&self) -> ByteSet
         ensures { result ≡ self.now }
     {
@@ -84,7 +85,7 @@ impl ByteSet {
         }
     }
 
-    /// The numbers from 0 to 255 that are no members.
+    /// Returns the numbers from 0 to 255 that are no members.
     pub fn complement(&self) -> ByteSet
         ensures count { length result ≡ 256 }
         ensures members { (k : ℕ) → k < 256 → get_or result k false ≡ not (get_or self.now k false) }

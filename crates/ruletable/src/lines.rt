@@ -31,7 +31,7 @@ fn starts_with_lf(bytes: &[u8]) -> bool
     }
 }
 
-/// The line, from 1, of the byte at an offset: 1 and the line ends that lie wholly before it.
+/// Returns the line, from 1, of the byte at an offset: 1 and the line ends that lie wholly before it.
 pub fn line_of(text: &[u8], offset: usize, rule: LineRule) -> usize
     ensures { result ≡ line_at rule text.now offset }
 {

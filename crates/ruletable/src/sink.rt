@@ -32,7 +32,7 @@ pub trait Sink {
         ensures bytes { Keeps (contents self.old) (contents self.new) }
         ensures flag { Flags (failed self.old) (failed self.new) result };
 
-    /// Whether a call has failed.
+    /// Returns whether a call has failed.
     fn has_failed(&self) -> bool
         ensures { result ≡ failed self.now };
 }
@@ -45,7 +45,7 @@ pub struct SinkOf<T> {
 }
 
 impl<T: io::Write> SinkOf<T> {
-    /// A sink that has not failed, over that writer.
+    /// Returns a sink that has not failed, over that writer.
     pub fn new(inner: T) -> SinkOf<T>
         ensures contents { ⟦<SinkOf<T> as Sink>⟧.contents result ≡ T.contents inner }
         ensures failed { ⟦<SinkOf<T> as Sink>⟧.failed result ≡ false }
@@ -56,7 +56,7 @@ impl<T: io::Write> SinkOf<T> {
         }
     }
 
-    /// The writer.
+    /// Returns the writer.
     pub fn into_inner(self) -> T
         ensures { T.contents result ≡ ⟦<SinkOf<T> as Sink>⟧.contents self }
     {

@@ -55,7 +55,7 @@ impl<E> Model for RuleTable<E> {
 }
 
 impl<E> RuleTable<E> {
-    /// A table with no rule. It takes no memory.
+    /// Returns a table with no rule. It takes no memory.
     pub fn new(alloc: Global, names: NameCase) -> RuleTable<E>
         ensures names { result.names ≡ names }
         ensures rules { result.rules ≡ [] }
@@ -66,7 +66,7 @@ impl<E> RuleTable<E> {
         }
     }
 
-    /// The number of rules.
+    /// Returns the number of rules.
     pub fn len(&self) -> usize
         ensures len { result ≡ length self.now.rules }
         ensures unique { HasUniqueNames self.now }
@@ -74,14 +74,14 @@ impl<E> RuleTable<E> {
         self.rows.len()
     }
 
-    /// Whether there is no rule.
+    /// Returns whether there is no rule.
     pub fn is_empty(&self) -> bool
         ensures { result ≡ (length self.now.rules == 0) }
     {
         self.rows.is_empty()
     }
 
-    /// The id of the rule of that name. Folding copies the name, which may want memory.
+    /// Returns the id of the rule of that name. Folding copies the name, which may want memory.
     pub fn find(&self, name: &[u8]) -> Result<Option<usize>, Memory>
         ensures found { IfOk result (λ id. id ≡ find_in self.now name.now) }
         ensures exact { self.now.names ≡ NameCase.Exact → IsOk result }
@@ -95,8 +95,8 @@ impl<E> RuleTable<E> {
         }
     }
 
-    /// Adds a rule as the last one, unless there is one of that name. `Memory` where a growth was refused; the table then
-    /// stays as it was, as it does for a name that is there.
+    /// Adds a rule as the last one, unless there is one of that name. `Memory` where a growth was refused; the table
+    /// then stays as it was, as it does for a name that is there.
     pub fn define(&mut self, name: &[u8], body: E, span: Span) -> Result<Defined, Memory>
     where
         E: Drop,
@@ -114,7 +114,7 @@ impl<E> RuleTable<E> {
         Ok(Defined::Added(id))
     }
 
-    /// The name of the rule with that id, as its definition spells it. There must be such a rule.
+    /// Returns the name of the rule with that id, as its definition spells it. There must be such a rule.
     pub fn name(&self, id: usize) -> &[u8]
         requires { id < length self.now.rules }
         ensures { slice_get (names_of self.now) id ≡ Some result.now }
@@ -123,7 +123,7 @@ impl<E> RuleTable<E> {
         row.name.as_slice()
     }
 
-    /// The body of the rule with that id. There must be such a rule.
+    /// Returns the body of the rule with that id. There must be such a rule.
     pub fn body(&self, id: usize) -> &E
         requires { id < length self.now.rules }
         ensures { slice_get (bodies_of self.now) id ≡ Some result.now }
@@ -132,7 +132,7 @@ impl<E> RuleTable<E> {
         &row.body
     }
 
-    /// Where the name of the definition of the rule with that id stands. There must be such a rule.
+    /// Returns where the name of the definition of the rule with that id stands. There must be such a rule.
     pub fn span(&self, id: usize) -> Span
         requires { id < length self.now.rules }
         ensures { slice_get (spans_of self.now) id ≡ Some result }
@@ -141,8 +141,8 @@ impl<E> RuleTable<E> {
         row.span
     }
 
-    /// The body of the rule with that id, to write. There must be such a rule. The names, the spans and the other bodies
-    /// stay.
+    /// Returns the body of the rule with that id, to write. There must be such a rule. The names, the spans and the
+    /// other bodies stay.
     pub fn body_mut(&mut self, id: usize) -> &mut E
         requires { id < length self.old.rules }
         ensures* writes_back { sem 𝓛 (LendsBody E.row self.entry id result) }

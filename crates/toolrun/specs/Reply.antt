@@ -1,5 +1,7 @@
 -- What a run of a tool states.
-use Rattle.std.specs.Prelude.{ℕ, List, codes}
+use Rattle.std.specs.Prelude.{ℕ, List, [], codes}
+use Rattle.ruletable.specs.Faults.{fault_text}
+use Rattle.ruletable.specs.declared.fault.ReadFault.{ReadFault}
 
 -- both outputs, the status, and how many bytes of input are taken
 pub record Reply : Type 0 where
@@ -7,6 +9,18 @@ pub record Reply : Type 0 where
   pub err : List ℕ
   pub status : ℕ
   pub taken : ℕ
+
+-- a grammar's text is refused: its fault is told, and nothing is taken
+abbrev pub refusal : ReadFault → Reply
+refusal fault = record { out = []; err = fault_text fault; status = 2; taken = 0 }
+
+-- nothing is written behind the notes, and nothing is taken
+abbrev pub notes_alone : ℕ → Reply
+notes_alone status = record { out = []; err = []; status = status; taken = 0 }
+
+-- this text alone is written, and nothing is taken
+abbrev pub text_alone : List ℕ → Reply
+text_alone text = record { out = text; err = []; status = 0; taken = 0 }
 
 -- a growth is refused after this output and so many bytes of input
 abbrev pub without_memory : List ℕ → ℕ → Reply

@@ -1,15 +1,20 @@
 -- What a run has written when it stops, before its messages.
-use Rattle.std.specs.Prelude.{◌≡◌, ◌≢◌, ℕ, ◌≤◌, List, length, Result, Ok, Err, IfOk, IfSome}
+use Rattle.std.specs.Prelude.{◌≡◌, ◌≢◌, ℕ, ◌≤◌, List, length, Option, Result, Ok, Err, IfOk, IfSome, MatchResult}
 use Rattle.std.specs.Io.KnownBytes.{Appends, Consumes}
-use Rattle.ruletable.specs.Writing.{Flags, IsBeginning}
+use Rattle.ruletable.specs.Writing.{AppendsPart, Flags, IsBeginning}
 use Rattle.ruletable.specs.declared.sink.WriteFault.{WriteFault}
 use Rattle.toolrun.specs.Input.{Input, input_from}
 use Rattle.toolrun.specs.Reply.{Reply}
 use Rattle.toolrun.specs.Status.{code_of}
 use Rattle.toolrun.specs.Stop.{message_of, status_of}
 use Rattle.toolrun.specs.Stream.{Stream}
+use Rattle.toolrun.specs.declared.status.Status.TheVariants.{Done}
 use Rattle.toolrun.specs.declared.stop.Stop.{Stop}
-use Rattle.toolrun.specs.declared.stop.Stop.TheVariants.{NoMemory}
+use Rattle.toolrun.specs.declared.stop.Stop.TheVariants.{NoMemory, Quiet}
+
+-- the text was written, and the run is done; or a beginning of it was written where the writer failed
+abbrev pub Prints : Option (List ℕ) → Option (List ℕ) → List ℕ → Result Stop WriteFault → Type 0
+Prints old new text r = MatchResult r (λ stop. (stop ≡ Quiet Done) × Appends old new text) (λ _. AppendsPart old new text)
 
 -- what is stated has been written, or a beginning of it where the writer failed
 abbrev pub IsWritten : Result Stop WriteFault → Reply → List ℕ → Type 0

@@ -12,5 +12,5 @@ pub use finish::{close as close_run, finish as end_run};
 pub use letters::Alphabet;
 pub use settings::{DEFAULT_LIMIT, MAX_LIMIT, Mode, Settings};
 pub use status::Status;
-pub use stop::Stop;
+pub use stop::{Stop, stop_unread};
 pub use tool::{Plan, Tool, run_tool};

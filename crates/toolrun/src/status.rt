@@ -20,7 +20,7 @@ pub enum Status {
 }
 
 impl Status {
-    /// The exit status, from 0 to 5.
+    /// Returns the exit status, from 0 to 5.
     pub fn code(self) -> u8
         ensures { result ≡ code_of self }
     {
@@ -34,7 +34,7 @@ impl Status {
         }
     }
 
-    /// This status, or `Fault` where that is greater.
+    /// Returns this status, or `Fault` where that is greater.
     pub fn at_least_fault(self) -> Status
         ensures { code_of result ≡ max (code_of self) 4 }
     {

@@ -1,7 +1,7 @@
 //! How a run stops.
 ghost use Rattle.std.specs.Prelude.{◌≡◌, ◌++◌, codes, decimal};
 ghost use Rattle.ruletable.specs.Writing.{Flags, Writes};
-ghost use Rattle.toolrun.specs.Stop.{status_of, message_of};
+ghost use Rattle.toolrun.specs.Stop.{status_of, message_of, unread};
 
 use crate::status::Status;
 use itoa::Buffer;
@@ -28,7 +28,7 @@ pub enum Stop {
     Unreadable,
 }
 
-/// The status of a run that stopped so.
+/// Returns the status of a run that stopped so.
 pub fn status(stop: Stop) -> Status
     ensures { result ≡ status_of stop }
 {
@@ -41,6 +41,16 @@ pub fn status(stop: Stop) -> Status
         Stop::NoMemory => Status::NoMemory,
         Stop::Refused(_) => Status::Refused,
         Stop::Unreadable => Status::Fault,
+    }
+}
+
+/// Returns how a run stops whose grammar was not read.
+pub fn stop_unread(fault: ReadFault) -> Stop
+    ensures { result ≡ unread fault }
+{
+    match fault {
+        ReadFault::Memory => Stop::NoMemory,
+        _ => Stop::Refused(fault),
     }
 }
 

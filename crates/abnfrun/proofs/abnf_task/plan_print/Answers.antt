@@ -1,14 +1,16 @@
 -- The text is refused, or its grammar is printed, or noted.
 use Rattle.std.proofs.Common.{◌≡◌, [], map, arith, refl}
 use Rattle.std.proofs.lemmas.Bool.Decides.{nat_tests}
+use Rattle.std.proofs.lemmas.List.{nil_from_length}
 use Rattle.ruletable.specs.Notes.{said_of}
 use Rattle.abnfread.specs.AbnfViews.{rules_of}
-use Rattle.abnfrun.proofs.AbnfTaskLemmas.{unread-plan, again-plan, length-none, some_said, printed-states}
+use Rattle.abnfrun.proofs.AbnfTaskLemmas.{unread-plan, again-plan, printed-states}
+use Rattle.toolrun.proofs.NotesTextLemmas.{some_said}
 use Rattle.abnfrun.proofs.abnf_task.plan_print.Goals as goal
 
 pub returns-then-is_empty : goal.returns-then-is_empty
 returns-then-is_empty c =
-    let none : c.in-Ok.field-0.again.items ≡ [] = length-none _ (grind (arith, nat_tests, c.in-Ok.field-0.again.ok, c.if-is_empty.ensures)) in
+    let none : c.in-Ok.field-0.again.items ≡ [] = nil_from_length _ (grind (arith, nat_tests, c.in-Ok.field-0.again.ok, c.if-is_empty.ensures)) in
     let p = rw none at c.in-Ok.ensures.read in
     rw none (record {
       stated = λ input reply is. printed-states c.args.grammar.now c.args.settings.now (rules_of c.in-Ok.field-0.abnf.rules) c.requires p input reply is;

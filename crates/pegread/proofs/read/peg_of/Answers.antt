@@ -1,8 +1,8 @@
 use Rattle.std.proofs.Common.{◌≡◌, [], arith}
-use Rattle.std.proofs.lemmas.List.{length-map}
+use Rattle.std.proofs.lemmas.List.{length-map, nil_from_length}
 use Rattle.pegread.specs.Definitions.{IsTableOf}
 use Rattle.pegread.specs.Steps.{rule_from, rules_from}
-use Rattle.pegread.proofs.IsTableOfLemmas.{length-none, goes-first, goes-added, goes-again, goes-last, table-some, table-ids}
+use Rattle.pegread.proofs.IsTableOfLemmas.{goes-first, goes-added, goes-again, goes-last, table-some, table-ids}
 use Rattle.pegread.proofs.read.peg_of.Goals as goal
 
 pub loop-definition-init : goal.loop-definition-init
@@ -25,13 +25,13 @@ module _ (c : goal.After-drop-definition-iterator-2) where
   made : IsTableOf (rules_from c.args.definitions.items) c.loop-definition.rules c.loop-definition.redefined.items
   made =
       let t = c.loop-definition in
-      let none : t.definition-iterator.rest.items ≡ [] = length-none _ (omega (arith, t.definition-iterator.rest.ok, c.in-None.ensures.steps.0)) in
+      let none : t.definition-iterator.rest.items ≡ [] = nil_from_length _ (omega (arith, t.definition-iterator.rest.ok, c.in-None.ensures.steps.0)) in
       goes-last (rules_from c.args.definitions.items) t.rules t.redefined.items (rw none at t.invariant)
 
 pub returns : goal.returns
 returns c =
     let t = c.loop-definition in
-    let none : t.definition-iterator.rest.items ≡ [] = length-none _ (omega (arith, t.definition-iterator.rest.ok, c.in-None.ensures.steps.0)) in
+    let none : t.definition-iterator.rest.items ≡ [] = nil_from_length _ (omega (arith, t.definition-iterator.rest.ok, c.in-None.ensures.steps.0)) in
     goes-last (rules_from c.args.definitions.items) t.rules t.redefined.items (rw none at t.invariant)
 
 pub invariant_of-result-clause-exact : goal.invariant_of-result-clause-exact

@@ -23,7 +23,7 @@ returns-then-open_brackets-gt-MAX_OPEN-clause-fault c =
     let h = c.loop-token.invariant in
     let given = c.in-Some.ensures.steps.first h.rest h.are_left in
     let took = c.in-Ok.ensures in
-    too-deep h (tok_of c.in-Some.token) given.0 given.1 c.line_in.result c.requires c.line_in.ensures (config_of c.in-Ok.next) took.0 took.1 took.2
+    too-deep h (tok_of c.in-Some.token) given.0 given.1 c.line_of.result c.requires c.line_of.ensures (config_of c.in-Ok.next) took.0 took.1 took.2
     (omega (arith, c.open_brackets.ensures, c.if-open_brackets-gt-MAX_OPEN.true))
 
 pub loop-token-preserved : goal.loop-token-preserved
@@ -40,7 +40,7 @@ returns-in-Err-Hopeless-clause-fault c =
     let h = c.loop-token.invariant in
     let given = c.in-Some.ensures.steps.first h.rest h.are_left in
     let stops = rw c.in-Err-Hopeless.field-0-is at c.in-Err-Hopeless.ensures in
-    rw c.hopeless.ensures (hopeless-there h (tok_of c.in-Some.token) given.0 given.1 c.line_in-in-Err-Hopeless.result c.requires c.line_in-in-Err-Hopeless.ensures stops)
+    rw c.hopeless.ensures (hopeless-there h (tok_of c.in-Some.token) given.0 given.1 c.line_of-in-Err-Hopeless.result c.requires c.line_of-in-Err-Hopeless.ensures stops)
 
 pub unreachable-requires : goal.unreachable-requires
 unreachable-requires c =

@@ -1,3 +1,5 @@
+-- Each kind of token says its word.
+use Rattle.std.proofs.Common.{◌≡◌, ℕ, List, [], ◌∷◌, ◌++◌, sym, ◌∙◌, subst}
 use Rattle.pegread.specs.Words.{says_name, says_arrow, says_begin, says_end_cap, says_slash, says_amp, says_bang, says_quest, says_star, says_plus, says_dot, says_lparen, says_rparen, says_end, says_literal, says_class, says_action}
 use Rattle.pegread.proofs.words.word_in.Goals as goal
 
@@ -50,4 +52,7 @@ pub returns-in-Class : goal.returns-in-Class
 returns-in-Class c = rw c.in-Class.is (says_class c.class_set.ensures)
 
 pub returns-in_ok-template-in-Action : goal.returns-in_ok-template-in-Action
-returns-in_ok-template-in-Action c = rw c.in-Action.is (says_action c.in_ok-template-in-Action.ensures)
+returns-in_ok-template-in-Action c =
+    let braced = rw c.in-Action.is at c.requires in
+    let same = c.in_ok-template-in-Action.ensures.items ∙ c.inside.ensures 123 125 braced.0 braced.1 in
+    rw c.in-Action.is (says_action (subst (λ (t : List ℕ). c.args.token.slice.now ≡ 123 ∷ (t ++ 125 ∷ [])) (sym same) braced.1))

@@ -1,7 +1,7 @@
 -- The canonical text was printed, or the lines were judged.
 use Rattle.abnfprint.specs.CanonicalAbnf.{grammar_text}
 use Rattle.abnfread.specs.AbnfViews.{rules_of}
-use Rattle.abnfrun.proofs.AbnfTaskLemmas.{was_printed}
+use Rattle.toolrun.proofs.PrintsLemmas.{was_printed}
 use Rattle.abnfrun.proofs.abnf_task.AbnfTaskTool.perform.Goals as goal
 
 pub returns-in-Prints : goal.returns-in-Prints

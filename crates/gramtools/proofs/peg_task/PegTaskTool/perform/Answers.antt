@@ -1,7 +1,7 @@
 -- The canonical text was printed, or the units were run.
 use Rattle.pegread.specs.Canon.{grammar_text}
 use Rattle.pegread.specs.PegViews.{rules_of}
-use Rattle.gramtools.proofs.PegTaskLemmas.{was_printed}
+use Rattle.toolrun.proofs.PrintsLemmas.{was_printed}
 use Rattle.gramtools.proofs.peg_task.PegTaskTool.perform.Goals as goal
 
 pub returns-in-Prints : goal.returns-in-Prints
