@@ -109,8 +109,8 @@ fn tells_faults(rt: HostRuntime) {
         (b"a = \"x\"\n/ \"y\"", ReadFault::Syntax { line: 2 }),
         (b"a = \"x\"\r\"y\"", ReadFault::Syntax { line: 1 }),
         (b"a = %d4294967296", ReadFault::NumberTooLarge { line: 1 }),
-        (b"\ns = 65536\"a\"", ReadFault::NumberTooLarge { line: 2 }),
-        (b"a = \"x\"65536", ReadFault::Syntax { line: 1 }),
+        (b"\ns = 4294967296\"a\"", ReadFault::NumberTooLarge { line: 2 }),
+        (b"a = \"x\"4294967296", ReadFault::Syntax { line: 1 }),
     ];
     for &(text, fault) in rows {
         match read_abnf(rt.alloc(), text) {

@@ -105,23 +105,23 @@ fn refuses_beginnings_at_their_last_line(rt: HostRuntime) {
 static LARGE: [(&[u8], usize); 6] = [
     (b"a = %x41.100000000", 1),
     (b"a = \"x\"\n  %b1-100000000000000000000000000000000", 2),
-    (b"s = 65536\"a\"", 1),
-    (b"s = *65536\"a\"", 1),
-    (b"s = 0\"a\"\n 65536*\"a\"", 2),
-    (b"s = (65536\"a\" [", 1),
+    (b"s = 4294967296\"a\"", 1),
+    (b"s = *04294967296\"a\"", 1),
+    (b"s = 0\"a\"\n 4294967296*\"a\"", 2),
+    (b"s = (4294967296\"a\" [", 1),
 ];
 
 // A text with a number over its limit, and the line of its first hopeless token.
 static HOPELESS_LARGE: [(&[u8], usize); 4] = [
-    (b"a = 2 65536\"x\"", 1),
-    (b"65536", 1),
+    (b"a = 2 4294967296\"x\"", 1),
+    (b"4294967296", 1),
     (b"a %d4294967296", 1),
     (b"a = \"x\"\n%d4294967296", 2),
 ];
 
 #[test]
 fn tells_numbers_over_their_limits(rt: HostRuntime) {
-    assert!(rt; MAX_REPEAT == 65535 && MAX_VALUE == 4294967295);
+    assert!(rt; MAX_REPEAT == 4294967295 && MAX_VALUE == 4294967295);
     for (text, line) in &LARGE {
         let found = fault_of(rt.alloc(), text);
         assert!(rt;
