@@ -1,7 +1,7 @@
 -- Elements that derive the empty list, whatever the letters.
-use Rattle.std.specs.Prelude.{◌≡◌, ℕ, Bool, true, false, List, []}
+use Rattle.std.specs.Prelude.{◌≡◌, ◌↔◌, ℕ, Bool, true, false, List, [], length, slice_get, Some}
 use Rattle.abnfread.specs.Element.{Element, Elements, Rule}
-use Rattle.abnfcheck.specs.Derivable.{Derives, DerivesAll, DerivesSome}
+use Rattle.abnfcheck.specs.Derivable.{Derives, DerivesAll, DerivesSome, RuleDerives}
 
 module _ (rules : List Rule) where
   abbrev pub IsEmpty : Element → Type 0
@@ -23,3 +23,13 @@ module _ (rules : List Rule) where
   pub record TellsSome (mark : Bool) (es : Elements) : Type 0 where
     pub yes : mark ≡ true → (has : ℕ → Bool) → DerivesSome has rules es []
     pub no : mark ≡ false → (has : ℕ → Bool) → DerivesSome has rules es [] → ⊥
+
+-- of each rule a mark that tells whether it derives the empty list
+pub record AreNullRules (rules : List Rule) (marks : List Bool) : Type 0 where
+  pub count : length marks ≡ length rules
+  pub each : (id : ℕ) (mark : Bool) → slice_get marks id ≡ Some mark → (has : ℕ → Bool) → (mark ≡ true) ↔ RuleDerives has rules id []
+
+-- as many rules, of which the same derive the empty list
+pub record AreNullAlike (rules others : List Rule) : Type 0 where
+  pub count : length others ≡ length rules
+  pub alike : (has : ℕ → Bool) (id : ℕ) → RuleDerives has others id [] ↔ RuleDerives has rules id []
