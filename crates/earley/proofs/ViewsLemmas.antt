@@ -41,6 +41,7 @@ read_late flat c k (Some (vn.Letters sets)) h lt = absurd (omega (arith, lt))
 read_late flat c k (Some (vn.Concat ms)) h lt = elim h [ ]
 read_late flat c k (Some (vn.Alt ms)) h lt = elim h [ ]
 read_late flat c k (Some (vn.Rep a b m)) h lt = elim h [ ]
+read_late flat c k (Some (vn.Turns a b)) h lt = elim h [ ]
 read_late flat c k (Some (vn.Opt m)) h lt = elim h [ ]
 read_late flat c k (Some (vn.Name r)) h lt = elim h [ ]
 read_late flat c k (Some vn.Nothing) h lt = elim h [ ]
