@@ -7,7 +7,7 @@ use Rattle.abnfread.specs.Element as e
 use Rattle.abnfread.specs.Element.{Element, Rule, bodies, body_of, id_of}
 use Rattle.abnfcheck.specs.Derivable as der
 use Rattle.abnfcheck.specs.Derivable.{Derives, RuleDerives}
-use Rattle.flatgrammar.specs.NullElements.{Tells, AreNullRules, AreNullAlike}
+use Rattle.flatgrammar.specs.NullElements.{AreNullRules, AreNullAlike}
 use Rattle.flatgrammar.specs.Numbers.{NamesTell}
 use Rattle.flatgrammar.proofs.BeforeLemmas.{get_below}
 use Rattle.flatgrammar.proofs.FlatCutLemmas.{push_cases}
@@ -74,3 +74,7 @@ next_marked rules i marks mark m is = record {
 
 pub all_marked : (rules : List Rule) (i : ℕ) (marks : List Bool) → AreNullSoFar rules i marks → i ≡ length rules → AreNullRules rules marks
 all_marked rules i marks m all = record { count = m.long ∙ all; each = m.each }
+
+-- the judged rule is one of them
+pub judged_there : (rules others : List Rule) (judged : ℕ) → AreNullAlike rules others → judged < length rules → judged < length others
+judged_there rules others judged alike lt = let same = alike.count in omega (arith, same, lt)
