@@ -30,16 +30,16 @@ points_at_most (next {bytes = bytes} {rest = rest} point writes spells) =
     omega (arith, some, rec, size)
 
 -- what is told of the lines within the limit alone
-module _ (Told Said : List ℕ → Answer → Type 0) (limit : ℕ) (as : (line : List ℕ) (said : Answer) → length line ≤ limit → Told line said → Said line said) where
+module _ (Told Said : List ℕ → Answer → Type 0) (limit : ℕ) (tells : (line : List ℕ) (said : Answer) → length line ≤ limit → Told line said → Said line said) where
   lines_as : (input : Input) {at : At} {text : List ℕ} → Lines Told limit input at text → Lines Said limit input at text
   lines_as input none = none
-  lines_as input (one_more at before line said lines is told) = one_more at before line said (lines_as input lines) is (as line said is.within told)
+  lines_as input (one_more at before line said lines is told) = one_more at before line said (lines_as input lines) is (tells line said is.within told)
 
   ends_as : (input : Input) {at : At} {text : List ℕ} {stop : Stop} → Ends Told limit input at text stop → Ends Said limit input at text stop
   ends_as input (Ends.broken fault no_end short) = Ends.broken fault no_end short
   ends_as input (Ends.overlong no_end long) = Ends.overlong no_end long
   ends_as input (Ends.finished fault done) = Ends.finished fault done
-  ends_as input (Ends.last_line said fault some no_end short told) = Ends.last_line said fault some no_end short (as _ said short told)
+  ends_as input (Ends.last_line said fault some no_end short told) = Ends.last_line said fault some no_end short (tells _ said short told)
 
   replies_as : (input : Input) (reply : Reply) → Replies (Lines Told limit input) (Ends Told limit input) (place_taken limit input) reply →
       Replies (Lines Said limit input) (Ends Said limit input) (place_taken limit input) reply
