@@ -3,6 +3,7 @@ import slow_abnf
 
 NAMES = ["s", "A-1", "b", "C"]
 LETTERS = b"abAB01"
+LARGE = [7, 65536, 4294967295]
 
 
 def leaf(r, names):
@@ -30,8 +31,8 @@ def element(r, names, depth):
         return kind, [element(r, names, depth - 1) for _ in range(r.choice([2, 2, 3]))]
     if kind == "opt":
         return kind, element(r, names, depth - 1)
-    least = r.choice([0, 0, 1, 1, 2, 3])
-    most = r.choice([None, None, least, least + r.randrange(3), 7, least - 1 if least else 0])
+    least = r.choice([0, 0, 1, 1, 2, 3] * 3 + LARGE)
+    most = r.choice([None, None, least, min(least + r.randrange(3), LARGE[-1]), 7, least - 1 if least else 0, LARGE[-1]])
     return kind, least, most, element(r, names, depth - 1)
 
 
@@ -76,7 +77,8 @@ def grown(r, rules, e, left, is_utf8=False):
         return grown(r, rules, e[1], left - 1, is_utf8) if r.random() < 0.5 else b""
     if kind == "rep":
         most = e[1] + 2 if e[2] is None else min(e[2], e[1] + 2)
-        return b"".join(grown(r, rules, e[3], left - 1, is_utf8) for _ in range(r.randint(min(e[1], most), most)))
+        turns = min(r.randint(min(e[1], most), most), 9)
+        return b"".join(grown(r, rules, e[3], left - 1, is_utf8) for _ in range(turns))
     return grown(r, rules, rules.all.get(e[1].upper(), ("prose", b"")), left - 1, is_utf8)
 
 

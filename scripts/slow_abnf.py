@@ -218,15 +218,17 @@ class Deriver:
 
     def behind_rep(self, e, places):
         _, least, most, part = e
-        for _ in range(least):
-            places = self.behind(part, places)
         if most is not None and most < least:
             return 0
+        for _ in range(least):
+            before, places = places, self.behind(part, places)
+            if places == before:  # as after each further turn
+                break
         ends, turn = places, least
         while most is None or turn < most:
             places = self.behind(part, places)
             turn += 1
-            if places | ends == ends and most is None:
+            if places | ends == ends:  # and so behind each further turn
                 break
             ends |= places
         return ends

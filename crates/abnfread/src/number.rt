@@ -8,8 +8,8 @@ ghost use Rattle.abnfread.specs.AbnfSlices.{Run, Stops};
 use crate::scan::{Class, after_byte, after_run, digit};
 use std::alloc::{AllocError, AllocFailed, Global};
 
-/// How often an element may be repeated at most.
-pub const MAX_REPEAT: u32 = 65535;
+/// The largest number of a repetition.
+pub const MAX_REPEAT: u32 = 4294967295;
 
 /// The largest value of a terminal.
 pub const MAX_VALUE: u32 = 4294967295;

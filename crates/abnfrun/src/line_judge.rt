@@ -1,9 +1,9 @@
 //! The lines of an input, judged by a grammar.
-ghost use Rattle.std.specs.Prelude.{◌≡◌, ℕ, Bool, List, false, true, length, map, IfOk};
+ghost use Rattle.std.specs.Prelude.{◌≡◌, ◌≤◌, ℕ, Bool, List, false, true, length, map, IfOk};
 ghost use Rattle.abnfread.specs.Element.{Rule};
 ghost use Rattle.abnfread.specs.AbnfViews.{rules_of};
 ghost use Rattle.abnfrun.specs.AbnfReply.{IsAnswerTo, JudgeReply};
-ghost use Rattle.abnfrun.specs.LetterAnswers.{IsAnswerOn, torn};
+ghost use Rattle.abnfrun.specs.LetterAnswers.{IsAnswerOn, IsAnswerWithin, torn};
 ghost use Rattle.flatgrammar.specs.Lowered.{IsLowered};
 ghost use Rattle.flatgrammar.specs.ToldBeginnings.{TellsBeginnings};
 ghost use Rattle.letters.specs.Letters.{has};
@@ -52,13 +52,14 @@ pub fn lines_have_answers()
     utf8_is_decided();
 }
 
-/// Returns the answer to the letters of a line. `Memory` if an allocation fails.
+/// Returns the answer to the letters of a line, no more than the flat grammar serves. `Memory` if an allocation fails.
 fn judge_letters<L: Letter>(
     judges: &LineJudge<'_>,
     chart: &mut Chart,
     line: &[L],
 ) -> Result<Answer, Memory>
-    requires { judges.now.letters ≡ L.ALPHABET }
+    requires letters { judges.now.letters ≡ L.ALPHABET }
+    requires within { length line.now ≤ judges.now.flat.limit }
     ensures { IfOk result (IsAnswerOn (has L.ALPHABET) judges.now.viable (rules_of judges.now.grammar.now.rules) judges.now.grammar.now.judged (map L.number line.now)) }
 {
     derivation_is_decided();
@@ -75,7 +76,8 @@ fn judge_letters<L: Letter>(
 
 /// Returns the answer to a line of bytes. `Memory` if an allocation fails.
 fn judge_bytes(judges: &LineJudge<'_>, chart: &mut Chart, line: &[u8]) -> Result<Answer, Memory>
-    requires { judges.now.letters ≡ Alphabet.Bytes }
+    requires letters { judges.now.letters ≡ Alphabet.Bytes }
+    requires within { length line.now ≤ judges.now.flat.limit }
     ensures { IfOk result (IsAnswerTo Alphabet.Bytes judges.now.viable (rules_of judges.now.grammar.now.rules) judges.now.grammar.now.judged line.now) }
 {
     let said = judge_letters(judges, chart, line)?;
@@ -99,6 +101,7 @@ fn judge_torn(judges: &LineJudge<'_>, work: &mut Work, line: &[u8]) -> Result<An
     requires letters { judges.now.letters ≡ Alphabet.Utf8 }
     requires viable { judges.now.viable ≡ true }
     requires torn { IsText line.now → ⊥ }
+    requires within { length line.now ≤ judges.now.flat.limit }
     ensures { IfOk result (IsAnswerTo Alphabet.Utf8 judges.now.viable (rules_of judges.now.grammar.now.rules) judges.now.grammar.now.judged line.now) }
 {
     let len = utf8_len(line);
@@ -109,7 +112,8 @@ fn judge_torn(judges: &LineJudge<'_>, work: &mut Work, line: &[u8]) -> Result<An
 
 /// Returns the answer to a line of code points. `Memory` if an allocation fails.
 fn judge_points(judges: &LineJudge<'_>, work: &mut Work, line: &[u8]) -> Result<Answer, Memory>
-    requires { judges.now.letters ≡ Alphabet.Utf8 }
+    requires letters { judges.now.letters ≡ Alphabet.Utf8 }
+    requires within { length line.now ≤ judges.now.flat.limit }
     ensures { IfOk result (IsAnswerTo Alphabet.Utf8 judges.now.viable (rules_of judges.now.grammar.now.rules) judges.now.grammar.now.judged line.now) }
 {
     utf8_is_decided();
@@ -126,9 +130,13 @@ fn judge_points(judges: &LineJudge<'_>, work: &mut Work, line: &[u8]) -> Result<
 }
 
 impl Judge<Work> for LineJudge<'_> {
-    ghost told = { λ j. IsAnswerTo j.letters j.viable (rules_of j.grammar.now.rules) j.grammar.now.judged };
+    ghost told = { λ j. IsAnswerWithin j.flat.limit j.letters j.viable (rules_of j.grammar.now.rules) j.grammar.now.judged };
 
+    // A line that is too long for the flat grammar is not judged. A run has no such line.
     fn judge(&self, work: &mut Work, line: &[u8]) -> Result<Answer, Memory> {
+        if line.len() > self.flat.limit() {
+            return Ok(Answer::No);
+        }
         match self.letters {
             Alphabet::Bytes => judge_bytes(self, &mut work.chart, line),
             Alphabet::Utf8 => judge_points(self, work, line),
@@ -140,18 +148,19 @@ impl Judge<Work> for LineJudge<'_> {
     }
 }
 
-/// Lowers a grammar as settings ask for: its productive parts alone if they ask for viable beginnings. `Memory` if an
-/// allocation fails.
+/// Lowers a grammar as settings ask for: for lines within their limit, and its productive parts alone if they ask for viable
+/// beginnings. `Memory` if an allocation fails.
 fn lowered(alloc: Global, grammar: &SoundAbnf, settings: &Settings<'_>) -> Result<Flat, Memory>
+    ensures limit { IfOk result (λ flat. flat.limit ≡ settings.now.limit) }
     ensures lowered { IfOk result (λ flat. settings.now.viable ≡ false →
         IsLowered (rules_of grammar.now.rules) grammar.now.judged flat) }
     ensures tells { IfOk result (λ flat. settings.now.viable ≡ true →
         TellsBeginnings (has settings.now.letters) (rules_of grammar.now.rules) grammar.now.judged flat) }
 {
     if settings.viable {
-        return lower_viable(alloc, grammar, settings.letters);
+        return lower_viable(alloc, grammar, settings.letters, settings.limit);
     }
-    lower(alloc, grammar)
+    lower(alloc, grammar, settings.limit)
 }
 
 /// Judges the lines of what a reader gives by a grammar, and writes the answer to each: `yes`, `no`, or `no` and a number.

@@ -1,13 +1,13 @@
 -- A set kept as heads with their blocks: what the blocks imply stands, and asks for nothing more.
 -- Serves: judge.
-use Rattle.std.proofs.Common.{◌≡◌, ℕ, ◌<◌, ◌⊎◌, inl, inr, Some, None, List, [], ◌∷◌, ◌++◌, length, map, slice_get, refl, sym, ◌∙◌, ap, subst}
+use Rattle.std.proofs.Common.{◌≡◌, ℕ, ◌<◌, ◌⊎◌, false, inl, inr, Some, None, List, [], ◌∷◌, ◌++◌, length, map, slice_get, refl, sym, ◌∙◌, ap, subst}
 use Rattle.flatgrammar.specs.Flat.{at}
 use Rattle.flatgrammar.specs.Holds.{Holds}
 use Rattle.flatgrammar.specs.Places.{In, now, on, AreDifferent}
 use Rattle.flatgrammar.specs.declared.flat_item.Item.{Item}
 use Rattle.flatgrammar.specs.declared.tables.Tables as code_flat
 use Rattle.flatgrammar.specs.NodeSteps.{flat_of}
-use Rattle.flatgrammar.specs.TableViews.{call_of, GiveRoots}
+use Rattle.flatgrammar.specs.TableViews.{call_of, takes_of, GiveRoots}
 use Rattle.earley.specs.ItemSets.{waiting_or, IsPredicted, IsCompleted}
 use Rattle.earley.specs.Closed.{HoldAll}
 use Rattle.earley.specs.Worklist.{IsPassed, IsWork, IsWorked}
@@ -16,7 +16,7 @@ use Rattle.flatgrammar.specs.Blocks.{item_at, Block, begin_count, call_at, Insid
 use Rattle.earley.specs.FrontViews.{expand, full, AreBlocks, AreOpened}
 use Rattle.earley.proofs.FollowLemmas.{predicted_holds}
 use Rattle.flatgrammar.proofs.InLemmas.{in_left}
-use Rattle.earley.proofs.ResumedLemmas.{item_same}
+use Rattle.earley.proofs.ItemLemmas.{item_same}
 
 pub in_right : {A : Type 0} {a : A} (xs : List A) {ys : List A} → In a ys → In a (xs ++ ys)
 in_right [] h = h
@@ -94,7 +94,7 @@ module _ (flat : code_flat.Tables) (blocks : ℕ → Block) (sets : List (List I
           let origin : b.origin ≡ length sets = p.origin ∙ ap (λ v. v.origin) e.is in
           let is = item_same b e.spot.node b.step (length sets) node refl origin in
           subst (λ v. In v (full blocks (length sets) heads items)) (sym is)
-          (cases (block.passed (record { node = e.spot.node; step = b.step }) (record { from = e.spot; stands = e.lies; root = p.root; call = call; null = p.null; node = refl })))
+          (cases (block.passed (record { node = e.spot.node; step = b.step }) (record { from = e.spot; stands = e.lies; root = p.root; call = call; null = p.null; free = subst (λ v. takes_of flat v ≡ false) e.is p.free; node = refl })))
         where
           cases : In (record { node = e.spot.node; step = b.step }) (blocks e.head).passes ⊎ In (record { node = e.spot.node; step = b.step }) (blocks e.head).spots →
               In (item_at (length sets) (record { node = e.spot.node; step = b.step })) (full blocks (length sets) heads items)

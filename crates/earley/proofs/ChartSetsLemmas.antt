@@ -26,7 +26,7 @@ pub holds_within : {flat : Flat} {x : List ℕ} {j i : ℕ} {p : Place} → Hold
 holds_within (begins st) = omega arith
 holds_within (called h c st) = holds_within h
 holds_within {x = x} (has_read {j = j} h r letter lies) = let lt = get_below x j letter in omega (arith, lt)
-holds_within (returned h e g c) = holds_within h
+holds_within (returned h e g c takes) = holds_within h
 
 index_map : {A B : Type 0} (f : A → B) (xs : List A) (j : ℕ) (a : A) (d : B) → slice_get xs j ≡ Some a → slice_index_or (map f xs) j d ≡ f a
 index_map f [] j a d is = absurd (cc is)

@@ -1,18 +1,18 @@
 -- Loops that add what one entry after another asks for.
 -- Serves: judge.
-use Rattle.std.proofs.Common.{◌≡◌, ℕ, zero, suc, ◌+◌, ◌<◌, ◌≤◌, ◌⊎◌, inl, inr, List, [], ◌∷◌, ◌++◌, true, Some, None, length, map, take, slice_get, slice_index_or, refl, sym, ◌∙◌, ap, subst, arith, append_assoc}
+use Rattle.std.proofs.Common.{◌≡◌, ℕ, zero, suc, ◌+◌, ◌<◌, ◌≤◌, ◌⊎◌, inl, inr, List, [], ◌∷◌, ◌++◌, true, false, Some, None, length, map, take, slice_get, slice_index_or, refl, sym, ◌∙◌, ap, subst, arith, append_assoc}
 use Rattle.std.proofs.lemmas.List.{append-nil}
 use Rattle.flatgrammar.specs.Places.{In, now, on}
 use Rattle.flatgrammar.specs.declared.flat_item.Item.{Item}
 use Rattle.flatgrammar.specs.declared.tables.Tables as code_flat
 use Rattle.flatgrammar.specs.declared.block.Spot.{Spot}
 use Rattle.earley.specs.ItemSets.{Adds, IsResumed, IsCompleted, waiting_or, waiting_in}
-use Rattle.flatgrammar.specs.TableViews.{call_of, done_of, read_of, null_of}
+use Rattle.flatgrammar.specs.TableViews.{call_of, done_of, read_of, null_of, takes_of}
 use Rattle.flatgrammar.specs.NodeSteps.{IfSomeSet}
 use Rattle.earley.specs.ReadItems.{IsRead}
 use Rattle.earley.specs.declared.front.Front.{Front}
 use Rattle.earley.specs.FrontViews.{view, views, IsOn, IsAsked, expand}
-use Rattle.earley.proofs.ResumedLemmas.{item_same}
+use Rattle.earley.proofs.ItemLemmas.{item_same}
 use Rattle.flatgrammar.proofs.CallOfLemmas.{some_same}
 use Rattle.flatgrammar.specs.Blocks.{item_at, Block, block_of, AreCalls}
 use Rattle.earley.proofs.AddsLemmas.{adds_both, adds_as, adds_none}
@@ -194,18 +194,18 @@ completed_here flat fronts item old is = adds_none (IsCompleted flat (views flat
     nobody : (a b : Item) → In b [] → In a old
     nobody a b h = elim h [ ]
 
-pub one_on : (flat : code_flat.Tables) (item : Item) (root next : ℕ) (old new : List Item) → call_of flat item ≡ Some (root, next) → null_of flat root ≡ true → (next ≡ item.step → ⊥) →
+pub one_on : (flat : code_flat.Tables) (item : Item) (root next : ℕ) (old new : List Item) → call_of flat item ≡ Some (root, next) → null_of flat root ≡ true → takes_of flat item ≡ false → (next ≡ item.step → ⊥) →
     Adds (λ a. a ≡ record { node = item.node; step = next; origin = item.origin }) old new → Adds (IsOn flat item) old new
-one_on flat item root next old new is marked moves p = adds_as (λ a. a ≡ record { node = item.node; step = next; origin = item.origin }) (IsOn flat item) old new
+one_on flat item root next old new is marked free moves p = adds_as (λ a. a ≡ record { node = item.node; step = next; origin = item.origin }) (IsOn flat item) old new
     (λ a h. record {
-      passed = record { root = root; call = is ∙ ap (λ v. Some (root, v)) (sym (ap (λ v. v.step) h)); null = marked; node = ap (λ v. v.node) h; origin = ap (λ v. v.origin) h };
+      passed = record { root = root; call = is ∙ ap (λ v. Some (root, v)) (sym (ap (λ v. v.step) h)); null = marked; free = free; node = ap (λ v. v.node) h; origin = ap (λ v. v.origin) h };
       moves = λ same. moves (sym (ap (λ v. v.step) h) ∙ same);
     })
     (λ a h. item_same a item.node next item.origin h.passed.node (ap (λ v. v.1) (some_same (sym h.passed.call ∙ is))) h.passed.origin) p
 
-pub none_on : (flat : code_flat.Tables) (item : Item) (old : List Item) → ((root next : ℕ) → call_of flat item ≡ Some (root, next) → null_of flat root ≡ true → (next ≡ item.step → ⊥) → ⊥) →
+pub none_on : (flat : code_flat.Tables) (item : Item) (old : List Item) → ((root next : ℕ) → call_of flat item ≡ Some (root, next) → null_of flat root ≡ true → takes_of flat item ≡ false → (next ≡ item.step → ⊥) → ⊥) →
     Adds (IsOn flat item) old old
-none_on flat item old never = adds_none (IsOn flat item) old (λ a h. absurd (never h.passed.root a.step h.passed.call h.passed.null h.moves))
+none_on flat item old never = adds_none (IsOn flat item) old (λ a h. absurd (never h.passed.root a.step h.passed.call h.passed.null h.passed.free h.moves))
 
 pub asked_one : (flat : code_flat.Tables) (item : Item) (root next : ℕ) (old new : List ℕ) → call_of flat item ≡ Some (root, next) → Adds (λ t. t ≡ root) old new → Adds (IsAsked flat item) old new
 asked_one flat item root next old new is p = adds_as (λ t. t ≡ root) (IsAsked flat item) old new

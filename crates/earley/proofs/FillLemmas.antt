@@ -23,7 +23,7 @@ use Rattle.earley.proofs.FollowLemmas.{predicted_holds, completed_holds}
 use Rattle.earley.proofs.IsWorkedLemmas.{passed_holds, nothing, worked_closed}
 use Rattle.flatgrammar.proofs.InLemmas.{in_left, among_more, at_index_in, in_front}
 use Rattle.earley.proofs.BlockLemmas.{in_right, either, in_expand, from_expand, blocks_worked, inside_holds, full_different, in_map, from_map}
-use Rattle.earley.proofs.ResumedLemmas.{item_same}
+use Rattle.earley.proofs.ItemLemmas.{item_same}
 
 front_same : {A : Type 0} (k : ℕ) (old added new : List A) → new ≡ old ++ added → k ≤ length old → take k new ≡ take k old
 front_same k old added new is le = ap (λ v. take k v) is ∙ take-append-le k old added le
@@ -99,10 +99,16 @@ module _ (flat : code_flat.Tables) (roots : GiveRoots (flat_of flat) flat.roots.
   further_beside item a (inl o) same lt = on_begins item a o lt
   further_beside item a (inr c) same lt = completed_beside item a c same
 
+  -- who waits in an earlier set
+  early : (o : ℕ) (found : Option (List Item)) {b : Item} → slice_get sets o ≡ found → In b (waiting_or [] found) → o < length sets
+  early o None is h = elim h [ ]
+  early o (Some set) is h = get_below sets o is
+
   further_holds : (item a : Item) → Holds (flat_of flat) x (length sets) (at item.node item.step) item.origin → IsFurther flat sets item a →
       Holds (flat_of flat) x (length sets) (at a.node a.step) a.origin
   further_holds item a h (inl o) = passed_holds flat roots nulls x sets earlier item a h o.passed
   further_holds item a h (inr c) = completed_holds flat roots x sets [] earlier (nothing flat roots nulls x sets earlier) item a h c
+      (λ t. early item.origin (slice_get sets item.origin) refl c.resumed.waits)
 
   module _ (ii hi : ℕ) (heads : List ℕ) (items : List Item) (g : IsGoing flat x sets ii hi heads items) where
     spot_holds : (h : ℕ) (p : Spot) → In h heads → In p (block_of flat h).spots → Holds (flat_of flat) x (length sets) (at p.node p.step) (length sets)
@@ -241,7 +247,7 @@ module _ (flat : code_flat.Tables) (roots : GiveRoots (flat_of flat) flat.roots.
           let p = this_block.passes r h in
           let from = spot_holds (slice_index_or heads hi d) p.from at_this p.stands in
           passed_holds flat roots nulls x sets earlier (item_at (length sets) p.from) (item_at (length sets) r) from
-          (record { root = p.root; call = p.call; null = p.null; node = p.node; origin = refl })
+          (record { root = p.root; call = p.call; null = p.null; free = p.free; node = p.node; origin = refl })
 
       pub head_more : IsGoing flat x sets ii (hi + 1) heads' items'
       head_more = record {

@@ -1,6 +1,6 @@
 -- What an item asks for stands in the item sets.
 -- Serves: judge.
-use Rattle.std.proofs.Common.{◌≡◌, ℕ, ◌≤◌, inl, inr, Option, Some, None, List, length, slice_get, refl, sym, subst, arith}
+use Rattle.std.proofs.Common.{◌≡◌, ℕ, ◌<◌, ◌≤◌, true, Option, Some, None, List, length, slice_get, refl, sym, subst, arith}
 use Rattle.flatgrammar.specs.Flat.{at}
 use Rattle.flatgrammar.specs.Holds.{Holds, called, returned}
 use Rattle.flatgrammar.specs.Places.{In}
@@ -8,10 +8,10 @@ use Rattle.flatgrammar.proofs.PlacesLemmas.{holds_origin}
 use Rattle.flatgrammar.specs.declared.flat_item.Item.{Item}
 use Rattle.flatgrammar.specs.declared.tables.Tables as code_flat
 use Rattle.flatgrammar.specs.NodeSteps.{flat_of}
-use Rattle.flatgrammar.specs.TableViews.{GiveRoots}
-use Rattle.earley.specs.ItemSets.{waiting_or, IsPredicted, IsCompleted, IsNextOf, IsNext}
+use Rattle.flatgrammar.specs.TableViews.{GiveRoots, takes_of}
+use Rattle.earley.specs.ItemSets.{waiting_or, IsPredicted, IsCompleted}
 use Rattle.earley.specs.Closed.{Hold, HoldAll}
-use Rattle.flatgrammar.proofs.CallOfLemmas.{done_ends, begun_starts, below_get, called_of}
+use Rattle.flatgrammar.proofs.CallOfLemmas.{done_ends, begun_starts, below_get, called_of, takes_true}
 
 module _ (flat : code_flat.Tables) (roots : GiveRoots (flat_of flat) flat.roots.items) where
   module _ (x : List ℕ) (sets : List (List Item)) (seen : List Item)
@@ -34,20 +34,13 @@ module _ (flat : code_flat.Tables) (roots : GiveRoots (flat_of flat) flat.roots.
         let same : length sets ≡ item.origin = omega (arith, past, le) in
         subst (λ v. Holds (flat_of flat) x v (at from.node from.step) from.origin) same (hold from h)
 
-    pub completed_holds : (item a : Item) → Holds (flat_of flat) x (length sets) (at item.node item.step) item.origin → IsCompleted flat sets seen item a →
-        Holds (flat_of flat) x (length sets) (at a.node a.step) a.origin
-    completed_holds item a h p =
+    pub completed_holds : (item a : Item) → Holds (flat_of flat) x (length sets) (at item.node item.step) item.origin → (p : IsCompleted flat sets seen item a) →
+        (takes_of flat p.resumed.from ≡ true → item.origin < length sets) → Holds (flat_of flat) x (length sets) (at a.node a.step) a.origin
+    completed_holds item a h p later =
         let r = p.resumed in
         let c = called_of flat roots r.from item.node a.step r.call in
         let e = done_ends flat roots item.node item.step c.callee (slice_get flat.nodes.items item.node) refl p.done c.rooted in
         let w = waited item r.from (slice_get sets item.origin) refl r.waits (holds_origin (flat_of flat) h) in
-        let made : Holds (flat_of flat) x (length sets) (at r.from.node a.step) r.from.origin = returned h e w c.calls in
+        let made : Holds (flat_of flat) x (length sets) (at r.from.node a.step) r.from.origin = returned h e w c.calls (λ t. later (takes_true flat r.from.node r.from.step r.from.origin t)) in
         subst (λ v. Holds (flat_of flat) x (length sets) (at a.node a.step) v) (sym r.origin)
         (subst (λ v. Holds (flat_of flat) x (length sets) (at v a.step) r.from.origin) (sym r.node) made)
-
-    pub next_holds : (a : Item) → IsNext flat sets seen seen a → Holds (flat_of flat) x (length sets) (at a.node a.step) a.origin
-    next_holds a n = by n.next
-      where
-        by : IsNextOf flat sets seen n.by a → Holds (flat_of flat) x (length sets) (at a.node a.step) a.origin
-        by (inl p) = predicted_holds n.by a (hold n.by n.stands) p
-        by (inr p) = completed_holds n.by a (hold n.by n.stands) p

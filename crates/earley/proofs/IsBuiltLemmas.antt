@@ -2,7 +2,7 @@
 -- Serves: judge.
 use Rattle.std.proofs.Common.{◌≡◌, ℕ, zero, suc, ◌+◌, ◌<◌, ◌≤◌, ◌⊎◌, inl, inr, Option, Some, None, List, [], ◌∷◌, ◌++◌, length, take, slice_get, refl, sym, ◌∙◌, ap, subst, arith, slice_index_or}
 use Rattle.std.proofs.lemmas.List.{take-append-le}
-use Rattle.flatgrammar.specs.Flat.{Place, at, Starts, Node, Letters, Concat, Alt, Rep, Opt, Name, Nothing, Set, Has, Reading, reads}
+use Rattle.flatgrammar.specs.Flat.{Place, at, Starts, Node, Letters, Concat, Alt, Rep, Turns, Opt, Name, Nothing, Set, Has, Reading, reads}
 use Rattle.flatgrammar.specs.Places.{In, AreDifferent}
 use Rattle.flatgrammar.specs.declared.flat_item.Item.{Item}
 use Rattle.flatgrammar.specs.declared.tables.Tables as code_flat
@@ -114,6 +114,7 @@ read_from (Letters sets) k c h = read_found sets k c (slice_get sets k) refl h
 read_from (Concat ms) k c h = elim h [ ]
 read_from (Alt ms) k c h = elim h [ ]
 read_from (Rep a b m) k c h = elim h [ ]
+read_from (Turns b m) k c h = elim h [ ]
 read_from (Opt m) k c h = elim h [ ]
 read_from (Name r) k c h = elim h [ ]
 read_from Nothing k c h = elim h [ ]

@@ -2,7 +2,7 @@
 -- Serves: judge.
 use Rattle.std.proofs.Common.{◌≡◌, ℕ, zero, suc, ◌+◌, ◌<◌, ◌≤◌, true, ◌⊎◌, inl, inr, Some, None, List, [], ◌∷◌, length, take, slice_get, refl, sym, ◌∙◌, ap, subst, arith, length-take-le}
 use Rattle.std.proofs.lemmas.Bool.{cases_lt}
-use Rattle.flatgrammar.specs.Flat.{Node, Letters, Name, Flat, Place, at, Set, Has, Begins, IsDone, Reading, Calling, Starts, starts, name_starts, Ends, ends, name_ends, Reads, reads, Calls, calls}
+use Rattle.flatgrammar.specs.Flat.{Node, Letters, Name, Flat, Place, at, Set, Has, Begins, IsDone, Reading, Calling, Starts, starts, name_starts, Ends, ends, name_ends, Reads, reads, Calls, calls, Takes}
 use Rattle.flatgrammar.specs.Holds.{Holds, begins, called, has_read, returned}
 use Rattle.flatgrammar.specs.Places.{In}
 use Rattle.flatgrammar.proofs.PlacesLemmas.{holds_origin}
@@ -14,7 +14,7 @@ use Rattle.flatgrammar.specs.TableViews.{root_in, rooted, called_by, call_of, do
 use Rattle.earley.specs.ItemSets.{waiting_in}
 use Rattle.flatgrammar.specs.Roots.{Root, own, named}
 use Rattle.earley.specs.Charts.{item_of, IsChart, IsWhole}
-use Rattle.flatgrammar.proofs.CallOfLemmas.{done_tests, calling_callee, begin_below, get_below, get_unmap}
+use Rattle.flatgrammar.proofs.CallOfLemmas.{done_tests, calling_callee, begin_below, get_below, get_unmap, true_takes}
 
 record There {A : Type 0} (xs : List A) (k : ℕ) : Type 0 where
   what : A
@@ -100,8 +100,8 @@ module _ (flat : code_flat.Tables) (roots : GiveRoots (flat_of flat) flat.roots.
       (record { by = item_of (at n k) i; stands = h; next = inl (record { root = b.root; next = l; call = call_is n k i at_n c b.rooted; begun = (refl, below, size) }) }))
 
   resumed_in : (i j k : ℕ) {s : ℕ} {q r p : Place} (set earlier : List Item) → slice_get sets j ≡ Some set → slice_get sets k ≡ Some earlier → k ≤ j →
-      In (item_of p k) set → Ends (flat_of flat) p s → In (item_of q i) earlier → Calls (flat_of flat) q s r → In (item_of r i) set
-  resumed_in i j o {p = p} set earlier is is_earlier le h e g (calls {s = n} {k = k} {t = t} {l = l} {node = node} at_n c) =
+      In (item_of p k) set → Ends (flat_of flat) p s → In (item_of q i) earlier → Calls (flat_of flat) q s r → (Takes (flat_of flat) q → k < j) → In (item_of r i) set
+  resumed_in i j o {p = p} set earlier is is_earlier le h e g (calls {s = n} {k = k} {t = t} {l = l} {node = node} at_n c) takes =
       let b = ends_at e in
       let u = get_unmap node_of flat.nodes.items b.root b.node b.stands in
       let done_is : done_of flat (item_of (at b.root b.step) o) ≡ true = ap (λ v. done_in v b.step) u.at ∙ (ap (λ v. is_done v b.step) u.is ∙ done_tests b.done) in
@@ -109,7 +109,14 @@ module _ (flat : code_flat.Tables) (roots : GiveRoots (flat_of flat) flat.roots.
       (record {
         by = item_of (at b.root b.step) o;
         stands = subst (λ v. In (item_of v o) set) b.place h;
-        next = inr (record { done = done_is; resumed = record { from = item_of (at n k) i; waits = waits (cases_lt o j); call = call_is n k i at_n c b.rooted; node = refl; origin = refl } });
+        next = inr (record {
+          completed = record { done = done_is; resumed = record { from = item_of (at n k) i; waits = waits (cases_lt o j); call = call_is n k i at_n c b.rooted; node = refl; origin = refl } };
+          later = λ t.
+              let lt = takes (true_takes flat n k i t) in
+              let within = get_below sets j is in
+              let size = length-take-le j sets (omega (arith, within)) in
+              omega (arith, lt, size);
+        });
       })
     where
       some_same : {a b : List Item} → Some a ≡ Some b → a ≡ b
@@ -137,8 +144,8 @@ module _ (flat : code_flat.Tables) (roots : GiveRoots (flat_of flat) flat.roots.
       let below : j < length sets = omega (arith, get_below sets (j + 1) is) in
       let before = get_there sets j below in
       read_in_next i j c before.what set before.is is letter lies r (contains h before.what before.is)
-  contains (returned {i = i} {j = j} {k = k} h e g c) set is =
+  contains (returned {i = i} {j = j} {k = k} h e g c takes) set is =
       let le = holds_origin (flat_of flat) h in
       let below : k < length sets = omega (arith, get_below sets j is, le) in
       let before = get_there sets k below in
-      resumed_in i j k set before.what is before.is le (contains h set is) e (contains g before.what before.is) c
+      resumed_in i j k set before.what is before.is le (contains h set is) e (contains g before.what before.is) c takes

@@ -9,8 +9,8 @@ pub mod IsChartLemmas
 pub mod FillLemmas
 pub mod IsVerdictLemmas
 pub mod IsWorkedLemmas
+pub mod ItemLemmas
 pub mod ItemRowsLemmas
-pub mod ResumedLemmas
 pub mod SetAtMostLemmas
 pub mod ViewsLemmas
 pub mod WaitAllLemmas

@@ -26,7 +26,7 @@ use Rattle.flatgrammar.proofs.InLemmas.{in_left, before_end, at_index_in}
 use Rattle.earley.proofs.FillLemmas.{size_map}
 use Rattle.earley.proofs.ExpandLemmas.{length_views, take_one, take_past, map_end, expand_end}
 use Rattle.earley.proofs.AddsLemmas.{adds_as, adds_none}
-use Rattle.earley.proofs.ResumedLemmas.{item_same}
+use Rattle.earley.proofs.ItemLemmas.{item_same}
 
 pub views_more : (flat : code_flat.Tables) (j : ℕ) (fronts : List Front) (front : Front) → views flat j (fronts ++ front ∷ []) ≡ views flat j fronts ++ view flat (j + length fronts) front ∷ []
 views_more flat j [] front = let z : j ≡ j + 0 = omega arith in ap (λ v. view flat v front ∷ []) z
@@ -41,6 +41,7 @@ read_late flat c k (Some (vn.Letters sets)) h lt = absurd (omega (arith, lt))
 read_late flat c k (Some (vn.Concat ms)) h lt = elim h [ ]
 read_late flat c k (Some (vn.Alt ms)) h lt = elim h [ ]
 read_late flat c k (Some (vn.Rep a b m)) h lt = elim h [ ]
+read_late flat c k (Some (vn.Turns a b)) h lt = elim h [ ]
 read_late flat c k (Some (vn.Opt m)) h lt = elim h [ ]
 read_late flat c k (Some (vn.Name r)) h lt = elim h [ ]
 read_late flat c k (Some vn.Nothing) h lt = elim h [ ]

@@ -17,7 +17,7 @@ use Rattle.earley.specs.Waiting.{Chain, ended, linked, IsListed, AreWaiting, Are
 use Rattle.earley.proofs.AddsLemmas.{adds_none, adds_both, adds_as}
 use Rattle.earley.proofs.ExpandLemmas.{take_one}
 use Rattle.flatgrammar.proofs.FlatCutLemmas.{push_cases}
-use Rattle.earley.proofs.ResumedLemmas.{item_same}
+use Rattle.earley.proofs.ItemLemmas.{item_same}
 use Rattle.earley.proofs.ItemRowsLemmas.{keeps_get, end_get, or_get}
 
 pub chain_within : {waits : List Wait} {f : ℕ} {es : List Item} → Chain waits f es → f ≤ length waits

@@ -3,7 +3,7 @@ use Rattle.std.specs.Prelude.{◌≡◌, ℕ, ◌<◌, ◌⊎◌, true, List, �
 use Rattle.flatgrammar.specs.declared.flat_item.Item.{Item}
 use Rattle.flatgrammar.specs.declared.tables.Tables as code_flat
 use Rattle.flatgrammar.specs.Places.{In, AreDifferent}
-use Rattle.flatgrammar.specs.TableViews.{count_in, done_of, call_of}
+use Rattle.flatgrammar.specs.TableViews.{count_in, done_of, call_of, takes_of}
 
 -- new is old, and after it those of Q that were not there, each once
 pub record Adds {A : Type 0} (Q : A → Type 0) (old : List A) (new : List A) : Type 0 where
@@ -45,8 +45,13 @@ pub record IsCompleted (flat : code_flat.Tables) (sets : List (List Item)) (seen
   pub done : done_of flat item ≡ true
   pub resumed : IsResumed flat item.node (waiting_in sets seen item.origin) a
 
+-- of them, those that go on: behind a turn that takes a letter one goes on only in a later set
+pub record IsGoingOn (flat : code_flat.Tables) (sets : List (List Item)) (seen : List Item) (item : Item) (a : Item) : Type 0 where
+  pub completed : IsCompleted flat sets seen item a
+  pub later : takes_of flat completed.resumed.from ≡ true → item.origin < length sets
+
 abbrev pub IsNextOf : code_flat.Tables → List (List Item) → List Item → Item → Item → Type 0
-IsNextOf flat sets seen item a = IsPredicted flat (length sets) item a ⊎ IsCompleted flat sets seen item a
+IsNextOf flat sets seen item a = IsPredicted flat (length sets) item a ⊎ IsGoingOn flat sets seen item a
 
 -- the items that the front of a set asks for
 pub record IsNext (flat : code_flat.Tables) (sets : List (List Item)) (seen : List Item) (front : List Item) (a : Item) : Type 0 where

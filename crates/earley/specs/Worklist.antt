@@ -1,16 +1,17 @@
 -- What the worklist adds for one item of a set.
-use Rattle.std.specs.Prelude.{◌≡◌, ℕ, ◌⊎◌, true, List, [], length, Some}
+use Rattle.std.specs.Prelude.{◌≡◌, ℕ, ◌⊎◌, true, false, List, [], length, Some}
 use Rattle.flatgrammar.specs.declared.flat_item.Item.{Item}
 use Rattle.flatgrammar.specs.declared.tables.Tables as code_flat
-use Rattle.flatgrammar.specs.TableViews.{null_of, call_of}
+use Rattle.flatgrammar.specs.TableViews.{null_of, call_of, takes_of}
 use Rattle.earley.specs.ItemSets.{IsPredicted, IsCompleted}
 use Rattle.flatgrammar.specs.Places.{In}
 
--- the item after one that calls a nullable root
+-- the item after one that calls a nullable root, but for a turn that takes a letter
 pub record IsPassed (flat : code_flat.Tables) (item : Item) (a : Item) : Type 0 where
   pub root : ℕ
   pub call : call_of flat item ≡ Some (root, a.step)
   pub null : null_of flat root ≡ true
+  pub free : takes_of flat item ≡ false
   pub node : a.node ≡ item.node
   pub origin : a.origin ≡ item.origin
 

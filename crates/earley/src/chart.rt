@@ -325,10 +325,12 @@ fn judge_by<L: Letter>(
 }
 
 /// Fills the chart with the item sets of a line, and tells whether the judged rule derives the line, by the alphabet of its
-/// letters: a value that is no letter derives nothing, and a range derives those of its values that are letters.
+/// letters: a value that is no letter derives nothing, and a range derives those of its values that are letters. The line
+/// may have at most `flat.limit()` letters.
 ///
 /// `Memory` if an allocation fails; the chart is empty then.
 pub fn judge<L: Letter>(chart: &mut Chart, flat: &Flat, line: &[L]) -> Result<bool, Memory>
+    requires { length line.now ≤ flat.now.limit }
     ensures sets { IfOk result (λ _. (j : ℕ) → IsSet flat.now (map L.number line.now) j (set_at chart.new j)) }
     ensures bound { IfOk result (λ _. (j : ℕ) → length (set_at chart.new j) ≤ places flat.now.nodes * (j + 1)) }
     ensures answer { IfOk result (λ yes. IsTrue yes ↔ Holds flat.now (map L.number line.now) (length line.now) (Place.at flat.now.whole 1) 0) }

@@ -2,7 +2,7 @@
 ghost use Rattle.std.specs.Prelude.{◌≡◌, ◌↔◌, ◌+◌, ◌^◌, ◌<◌, ◌≤◌, true, IsTrue, IfOk, IfSome, length, map, slice_get, Some, None, List, [], ◌∷◌, ℕ};
 ghost use Rattle.flatgrammar.specs.Places.{In, AreDifferent};
 ghost use Rattle.flatgrammar.specs.NodeSteps.{flat_of};
-ghost use Rattle.flatgrammar.specs.TableViews.{GiveRoots, AreNulls, null_of, call_of, done_of};
+ghost use Rattle.flatgrammar.specs.TableViews.{GiveRoots, AreNulls, null_of, call_of, done_of, takes_of};
 ghost use Rattle.earley.specs.Closed.{Hold, HoldAll, Keeps, IsClosed};
 ghost use Rattle.earley.specs.Worklist.{IsPassed};
 ghost use Rattle.earley.specs.ItemSets.{Adds, IsResumed, waiting_in, IsCompleted};
@@ -15,7 +15,7 @@ use crate::front::{Front, is_among};
 use crate::heads::Heads;
 use crate::items::Items;
 use crate::wait::{Wait, first_at};
-use flatgrammar::{Item, Spot, Tables, call, calls, done, null, passes, spots};
+use flatgrammar::{Item, Spot, Tables, call, calls, done, null, passes, spots, takes_letter};
 use letters::Letter;
 use ruletable::Memory;
 
@@ -199,12 +199,12 @@ fn ask(flat: &Tables, item: Item, heads: &mut Heads) -> Result<(), Memory>
     Ok(())
 }
 
-/// Adds the item after one that calls a nullable root.
+/// Adds the item after one that calls a nullable root, but for a turn that takes a letter.
 fn pass(flat: &Tables, item: Item, home: usize, set: &mut Items) -> Result<(), Memory>
     ensures { IfOk result (λ done. Adds (IsOn flat.now item) set.old set.new) }
 {
     if let Some((root, step)) = call(flat, item) {
-        if null(flat, root) && step != item.step {
+        if null(flat, root) && !takes_letter(flat, item) && step != item.step {
             set.add(
                 Item {
                     node: item.node,

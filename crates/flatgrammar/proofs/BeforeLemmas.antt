@@ -1,14 +1,17 @@
 -- What lies before a step of a node.
 -- Serves: items_tell, lower, judge, lower_viable.
-use Rattle.std.proofs.Common.{◌≡◌, ℕ, zero, suc, ◌+◌, ◌<◌, ◌≤◌, min, Bool, true, false, List, [], ◌∷◌, ◌++◌, map, length, take, refl, sym, ap, subst, arith, append_assoc}
+use Rattle.std.proofs.Common.{◌≡◌, ℕ, zero, suc, ◌+◌, ◌<◌, ◌≤◌, min, Bool, true, false, List, [], ◌∷◌, ◌++◌, map, length, take, refl, sym, ap, subst, arith, append_assoc, length-append, ◌-◌, ◌⊎◌, inl, inr}
 use Rattle.std.specs.Prelude.{slice_get, Option, Some, None}
 use Rattle.std.proofs.lemmas.List.{append-nil}
+use Rattle.std.proofs.lemmas.Bool.{cases_lt}
 use Rattle.abnfread.specs.Element as e
 use Rattle.abnfread.specs.Element.{Element, Elements, none, more, Rule, body_of}
 use Rattle.abnfcheck.specs.Derivable as der
 use Rattle.abnfcheck.specs.Derivable.{AreLetters, Derives, DerivesAll, DerivesSome, DerivesTimes, Spelled, all_done, then, this, later, no_more, one_more}
-use Rattle.flatgrammar.specs.Flat.{Node, Set, Has, Exactly, Between, Letters, Concat, Alt, Rep, Opt, top, Begins, IsDone, Reading, Calling}
-use Rattle.flatgrammar.specs.Lowered.{letter_set, Spells, Shows, shows_text, shows_values, shows_range, shows_concat, shows_alt, shows_rep, shows_opt, SpellAll, spell_none, spell_more}
+use Rattle.flatgrammar.specs.Flat.{Node, Set, Has, Exactly, Between, Letters, Concat, Alt, Rep, Turns, Opt, top, Begins, IsDone, Reading, Calling}
+use Rattle.flatgrammar.specs.Flat.{capped}
+use Rattle.flatgrammar.specs.NullElements.{IsNeverEmpty}
+use Rattle.flatgrammar.specs.Lowered.{letter_set, capped_most, Spells, Shows, shows_text, shows_values, shows_range, shows_concat, shows_alt, shows_rep, shows_turns, shows_opt, SpellAll, spell_none, spell_more}
 
 -- letters that lie in sets, one by one
 pub data Fit : List Set → List ℕ → Type 0 where
@@ -76,9 +79,9 @@ pub turned_enough : (a j k : ℕ) (b : Option ℕ) → a ≤ k → k ≤ top a b
 turned_enough a j k None low high is = (omega arith, tt)
 turned_enough a j k (Some b) low high is = (omega arith, omega arith)
 
-first_all : (rules : List Rule) (nodes : List Node) {ms : List ℕ} {es : Elements} → SpellAll rules nodes ms es → first (length ms) es ≡ es
-first_all rules nodes spell_none = refl
-first_all rules nodes (spell_more {el = el} s all) = ap (λ v. more el v) (first_all rules nodes all)
+first_all : (rules : List Rule) (limit : ℕ) (nodes : List Node) {ms : List ℕ} {es : Elements} → SpellAll rules limit nodes ms es → first (length ms) es ≡ es
+first_all rules limit nodes spell_none = refl
+first_all rules limit nodes (spell_more {el = el} s all) = ap (λ v. more el v) (first_all rules limit nodes all)
 
 module _ (has : ℕ → Bool) (rules : List Rule) where
   pub all_snoc : (es : Elements) (k : ℕ) (w : List ℕ) {el : Element} {v : List ℕ} → DerivesAll has rules (first k es) w → nth es k ≡ Some el → Derives has rules el v →
@@ -107,40 +110,58 @@ module _ (has : ℕ → Bool) (rules : List Rule) where
     alt_begun : {ms : List ℕ} {es : Elements} {k : ℕ} → k < length ms → Before (Alt ms) (e.Alt es) k []
     alt_done : {ms : List ℕ} {es : Elements} {el : Element} {k : ℕ} {w : List ℕ} (m : ℕ) → k ≡ length ms + m → nth es m ≡ Some el → Derives has rules el w →
         Before (Alt ms) (e.Alt es) k w
+    in_turns : {m j k : ℕ} {c : ℕ} {b d : Option ℕ} {el : Element} {w : List ℕ} → DerivesTimes has rules el j w → Turned 0 b j k → Before (Turns b m) (e.Rep c d el) k w
     in_rep : {a c m j k : ℕ} {b d : Option ℕ} {el : Element} {w : List ℕ} → DerivesTimes has rules el j w → Turned a b j k → Before (Rep a b m) (e.Rep c d el) k w
     opt_begun : {m : ℕ} {el : Element} → Before (Opt m) (e.Opt el) 0 []
     opt_done : {m : ℕ} {el : Element} {w : List ℕ} → Derives has rules el w → Before (Opt m) (e.Opt el) 2 w
     opt_passed : {m : ℕ} {el : Element} → Before (Opt m) (e.Opt el) 1 []
 
-  start_part_rep : (a m : ℕ) (b : Option ℕ) (el : Element) → Before (Rep a b m) (e.Rep a b el) 0 []
-  start_part_rep a m b el = in_rep no_more (turned_none a b)
+  start_part_rep : (a c m : ℕ) (b d : Option ℕ) (el : Element) → Before (Rep a b m) (e.Rep c d el) 0 []
+  start_part_rep a c m b d el = in_rep no_more (turned_none a b)
+
+  start_part_turns : (c m : ℕ) (b d : Option ℕ) (el : Element) → Before (Turns b m) (e.Rep c d el) 0 []
+  start_part_turns c m b d el = in_turns no_more (turned_none 0 b)
 
   pub read_part : {node : Node} {el : Element} {k l : ℕ} {set : Set} {w : List ℕ} (c : ℕ) → Reading node k set l → Has set c → Before node el k w → Before node el l (w ++ c ∷ [])
   read_part c (Reading.letter {sets = sets} {k = k} is) h (in_letters {el = el} {w = w} f) =
       let one : suc k ≡ k + 1 = omega arith in
       subst (λ v. Before (Letters sets) el v (w ++ c ∷ [])) one (in_letters (fit_snoc sets k w c f is h))
 
-  module _ (nodes : List Node) where
-    pub start_part : {node : Node} {el : Element} {k : ℕ} → Begins node k → Shows rules nodes node el → Before node el k []
+  -- turns of an element that never derives the empty list take as many letters at least
+  pub turns_most : {el : Element} {k : ℕ} {w : List ℕ} → IsNeverEmpty rules el → DerivesTimes has rules el k w → k ≤ length w
+  turns_most never no_more = omega arith
+  turns_most never (one_more {w = []} d ds) = absurd (never has d)
+  turns_most never (one_more {k = k} {w = c ∷ w} {v = v} d ds) =
+      let rest = turns_most never ds in let all = length-append w v in omega (arith, rest, all)
+
+  -- where an element derives the empty list, more turns of it change nothing
+  pub padded : {el : Element} {w : List ℕ} {k : ℕ} (n : ℕ) → Derives has rules el [] → DerivesTimes has rules el k w → DerivesTimes has rules el (n + k) w
+  padded {el = el} {w = w} {k = k} zero empty d = let same : k ≡ zero + k = omega arith in subst (λ v. DerivesTimes has rules el v w) same d
+  padded {el = el} {w = w} {k = k} (suc n) empty d =
+      let same : suc (n + k) ≡ suc n + k = omega arith in subst (λ v. DerivesTimes has rules el v w) same (one_more empty (padded n empty d))
+
+  module _ (limit : ℕ) (nodes : List Node) where
+    pub start_part : {node : Node} {el : Element} {k : ℕ} → Begins node k → Shows rules limit nodes node el → Before node el k []
     start_part Begins.letters shown = in_letters fit_none
     start_part Begins.concat (shows_concat all) = in_concat all_done
     start_part (Begins.alt lt) (shows_alt all) = alt_begun lt
-    start_part Begins.rep (shows_rep {a = a} {m = m} {b = b} {el = el} s) = start_part_rep a m b el
+    start_part Begins.rep (shows_rep {a = a} {c = c} {m = m} {b = b} {d = d} {el = el} low high never s) = start_part_rep c a m d b el
+    start_part Begins.turns (shows_turns {a = a} {m = m} {b = b} {d = d} {el = el} high within empty s) = start_part_turns a m d b el
     start_part Begins.opt (shows_opt s) = opt_begun
     start_part Begins.opt_empty (shows_opt s) = opt_passed
 
     pub record Member (es : Elements) (k t : ℕ) : Type 0 where
       pub el : Element
       pub is : nth es k ≡ Some el
-      pub spelled : Spells rules nodes t el
+      pub spelled : Spells rules limit nodes t el
 
-    pub member_at : {ms : List ℕ} {es : Elements} (k t : ℕ) → SpellAll rules nodes ms es → slice_get ms k ≡ Some t → Member es k t
+    pub member_at : {ms : List ℕ} {es : Elements} (k t : ℕ) → SpellAll rules limit nodes ms es → slice_get ms k ≡ Some t → Member es k t
     member_at k t spell_none is = absurd cc
-    member_at zero t (spell_more {m = m} {el = el} s all) is = record { el = el; is = refl; spelled = (let same : m ≡ t = cc in subst (λ v. Spells rules nodes v el) same s) }
+    member_at zero t (spell_more {m = m} {el = el} s all) is = record { el = el; is = refl; spelled = (let same : m ≡ t = cc in subst (λ v. Spells rules limit nodes v el) same s) }
     member_at (suc k) t (spell_more s all) is = let h = member_at k t all is in record { el = h.el; is = h.is; spelled = h.spelled }
 
-    pub call_part : {node : Node} {el : Element} {k t l : ℕ} {w v : List ℕ} → Calling node k t l → Shows rules nodes node el → Before node el k w →
-        ((el' : Element) → Spells rules nodes t el' → Derives has rules el' v) → Before node el l (w ++ v)
+    pub call_part : {node : Node} {el : Element} {k t l : ℕ} {w v : List ℕ} → Calling node k t l → Shows rules limit nodes node el → Before node el k w →
+        ((el' : Element) → Spells rules limit nodes t el' → Derives has rules el' v) → Before node el l (w ++ v)
     call_part {v = v} (Calling.member {k = k} {s = s} is) (shows_concat {ms = ms} {es = es} all) (in_concat {w = w} d) from =
         let h = member_at k s all is in
         let one : suc k ≡ k + 1 = omega arith in
@@ -148,31 +169,61 @@ module _ (has : ℕ → Bool) (rules : List Rule) where
     call_part (Calling.alternative {k = k} {s = s} is) (shows_alt all) (alt_begun lt) from =
         let h = member_at k s all is in alt_done k refl h.is (from h.el h.spelled)
     call_part (Calling.alternative {ms = ms} {k = k} is) (shows_alt all) (alt_done m same at d) from = absurd (omega (arith, get_below ms k is))
-    call_part (Calling.turn {a = a} {k = k} {b = b} lt) (shows_rep {el = el} s) (in_rep {j = j} d is) from =
+    call_part (Calling.turn {a = a} {k = k} {b = b} lt) (shows_rep {el = el} low high never s) (in_rep {j = j} d is) from =
         in_rep (times_snoc d (from el s)) (turned_more a j k b lt is)
-    call_part (Calling.turn_uncounted {a = a}) (shows_rep {el = el} s) (in_rep {j = j} d is) from =
+    call_part (Calling.turn_uncounted {a = a}) (shows_rep {el = el} low high never s) (in_rep {j = j} d is) from =
         let enough : a ≡ min (suc j) a = omega arith in in_rep (times_snoc d (from el s)) enough
+    call_part (Calling.takes {k = k} {b = b} lt) (shows_turns {el = el} high within empty s) (in_turns {j = j} d is) from =
+        in_turns (times_snoc d (from el s)) (turned_more 0 j k b lt is)
+    call_part Calling.takes_uncounted (shows_turns {el = el} high within empty s) (in_turns {j = j} d is) from =
+        let enough : 0 ≡ min (suc j) 0 = omega arith in in_turns (times_snoc d (from el s)) enough
     call_part Calling.operand (shows_opt {el = el} s) opt_begun from = opt_done (from el s)
 
-    pub end_part : {node : Node} {el : Element} {k : ℕ} {w : List ℕ} → IsDone node k → Shows rules nodes node el → AreLetters has w → Before node el k w → Derives has rules el w
-    end_part (IsDone.letters {sets = sets} at) (shows_text {folds = folds} {t = t} is) letters (in_letters {w = w} f) =
+    pub end_part : {node : Node} {el : Element} {k : ℕ} {w : List ℕ} → IsDone node k → Shows rules limit nodes node el → AreLetters has w → length w ≤ limit → Before node el k w → Derives has rules el w
+    end_part (IsDone.letters {sets = sets} at) (shows_text {folds = folds} {t = t} is) letters short (in_letters {w = w} f) =
         let g = fit_all sets w (subst (λ v. Fit (take v sets) w) at f) in
         der.text (fit_text folds t w (subst (λ v. Fit v w) is g))
-    end_part (IsDone.letters {sets = sets} at) (shows_values {vs = vs} is) letters (in_letters {w = w} f) =
+    end_part (IsDone.letters {sets = sets} at) (shows_values {vs = vs} is) letters short (in_letters {w = w} f) =
         let g = fit_all sets w (subst (λ v. Fit (take v sets) w) at f) in
         let same = fit_values vs w (subst (λ v. Fit v w) is g) in
         subst (λ v. Derives has rules (e.Values vs) v) (sym same) (der.values (subst (AreLetters has) same letters))
-    end_part (IsDone.letters {sets = sets} at) (shows_range {low = low} {high = high}) letters (in_letters {w = w} f) =
+    end_part (IsDone.letters {sets = sets} at) (shows_range {low = low} {high = high}) letters short (in_letters {w = w} f) =
         range_of low high w letters (fit_all sets w (subst (λ v. Fit (take v sets) w) at f))
       where
         range_of : (low high : ℕ) (w : List ℕ) → AreLetters has w → Fit (Between low high ∷ []) w → Derives has rules (e.Range low high) w
         range_of low high w letters (fit_more h fit_none) = der.range h.0 h.1 letters.0
-    end_part (IsDone.concat at) (shows_concat {ms = ms} {es = es} all) letters (in_concat {w = w} d) =
-        der.concat (subst (λ v. DerivesAll has rules v w) (first_all rules nodes all) (subst (λ v. DerivesAll has rules (first v es) w) at d))
-    end_part (IsDone.alt lt) (shows_alt all) letters (alt_begun less) = absurd (omega arith)
-    end_part (IsDone.alt {k = k} lt) (shows_alt {es = es} all) letters (alt_done {el = el} m same is d) =
+    end_part (IsDone.concat at) (shows_concat {ms = ms} {es = es} all) letters short (in_concat {w = w} d) =
+        der.concat (subst (λ v. DerivesAll has rules v w) (first_all rules limit nodes all) (subst (λ v. DerivesAll has rules (first v es) w) at d))
+    end_part (IsDone.alt lt) (shows_alt all) letters short (alt_begun less) = absurd (omega arith)
+    end_part (IsDone.alt {k = k} lt) (shows_alt {es = es} all) letters short (alt_done {el = el} m same is d) =
         der.alt (some_of es m is d)
-    end_part (IsDone.rep {a = a} {k = k} {b = b} low high) (shows_rep s) letters (in_rep {j = j} d is) =
-        let h = turned_enough a j k b low high is in der.rep h.0 h.1 d
-    end_part IsDone.opt (shows_opt s) letters (opt_done d) = der.opt d
-    end_part IsDone.opt_empty (shows_opt s) letters opt_passed = der.opt_empty
+    end_part (IsDone.rep {a = c} {k = k} {b = d} low high) (shows_rep {a = a} {b = b} least most never s) letters short (in_rep {j = j} ds is) =
+        let h = turned_enough c j k d low high is in
+        let few = turns_most never ds in
+        let under : j ≤ limit = omega (arith, few, short) in
+        der.rep (uncapped a c j least under h.0) (uncapped_most b d j most under h.1) ds
+      where
+        uncapped : (a c j : ℕ) → c ≡ capped limit a → j ≤ limit → c ≤ j → a ≤ j
+        uncapped a c j is under le = omega (arith, is, under, le)
+
+        uncapped_most : (b d : Option ℕ) (j : ℕ) → d ≡ capped_most limit b → j ≤ limit → der.Within j d → der.Within j b
+        uncapped_most None d j is under within = tt
+        uncapped_most (Some b) None j is under within = absurd (cc is)
+        uncapped_most (Some b) (Some d) j is under within = let same : d ≡ capped limit b = cc is in omega (arith, same, within)
+    end_part (IsDone.turns {k = k} {b = d} high) (shows_turns {a = a} {b = b} {el = el} most within empty s) letters short (in_turns {j = j} {w = w} ds is) =
+        enough a b d j k within most high is ds
+      where
+        enough : (a : ℕ) (b d : Option ℕ) (j k : ℕ) → der.Within a b → d ≡ capped_most limit b → k ≤ top 0 d → Turned 0 d j k → DerivesTimes has rules el j w → Derives has rules (e.Rep a b el) w
+        enough a None d j k within most high is ds = der.rep {k = a + j} (omega arith) tt (padded a (empty has) ds)
+        enough a (Some b) None j k within most high is ds = absurd (cc most)
+        enough a (Some b) (Some d) j k within most high is ds =
+            let same : d ≡ capped limit b = cc most in
+            by (cases_lt j a)
+          where
+            by : ((j < a) ⊎ (a ≤ j)) → Derives has rules (e.Rep a (Some b) el) w
+            by (inl less) =
+                let all : a - j + j ≡ a = omega (arith, less) in
+                der.rep {k = a} (omega arith) within (subst (λ v. DerivesTimes has rules el v w) all (padded (a - j) (empty has) ds))
+            by (inr le) = let same : d ≡ capped limit b = cc most in der.rep {k = j} le (omega (arith, high, is, same)) ds
+    end_part IsDone.opt (shows_opt s) letters short (opt_done d) = der.opt d
+    end_part IsDone.opt_empty (shows_opt s) letters short opt_passed = der.opt_empty

@@ -2,17 +2,17 @@
 -- Serves: lower, judge.
 use Rattle.std.proofs.Common.{◌≡◌, ℕ, zero, suc, ◌+◌, ◌-◌, ◌<◌, ◌≤◌, true, ◌⊎◌, inl, inr, Option, Some, None, List, [], ◌∷◌, length, map, slice_get, refl, ap, subst, arith, lt-ltb, le-leb, eq-eqb, le-ltb}
 use Rattle.std.proofs.lemmas.Bool.{cases_lt}
-use Rattle.flatgrammar.specs.Flat.{Node, Flat, Place, at, Begins, IsDone, Calling, Starts, starts, name_starts, Ends, ends, name_ends, Calls, calls}
+use Rattle.flatgrammar.specs.Flat.{Node, Flat, Place, at, Begins, IsDone, Calling, IsTaking, Starts, starts, name_starts, Ends, ends, name_ends, Calls, calls, Takes, in_turns}
 use Rattle.flatgrammar.specs.declared.flat_item.Item.{Item}
 use Rattle.flatgrammar.specs.declared.flat_node.Node as code_node
 use Rattle.flatgrammar.specs.declared.tables.Tables as code_flat
 use Rattle.flatgrammar.specs.FlatViews.{node_of}
 use Rattle.flatgrammar.specs.NodeSteps as meaning
-use Rattle.flatgrammar.specs.NodeSteps.{flat_of, is_done, callee, begin_count}
-use Rattle.flatgrammar.specs.TableViews.{root_in, rooted, called_by, call_of, done_in, count_in, GiveRoots}
+use Rattle.flatgrammar.specs.NodeSteps.{flat_of, is_done, callee, takes, begin_count}
+use Rattle.flatgrammar.specs.TableViews.{root_in, rooted, called_by, call_of, done_in, count_in, takes_in, takes_of, GiveRoots}
 use Rattle.flatgrammar.specs.Blocks as blocks
 use Rattle.flatgrammar.specs.Roots.{Root, own, named}
-use Rattle.flatgrammar.proofs.NodeStepsLemmas.{callee_calling, done_is, begins_is}
+use Rattle.flatgrammar.proofs.NodeStepsLemmas.{callee_calling, done_is, begins_is, taking_takes, takes_taking}
 
 pub some_same : {A : Type 0} {a b : A} → Some a ≡ Some b → a ≡ b
 some_same h = cc
@@ -41,6 +41,8 @@ calling_late (Calling.member is) moves lt = absurd (omega (arith, lt))
 calling_late (Calling.alternative is) moves lt = absurd (omega (arith, lt))
 calling_late (Calling.turn below) moves lt = absurd (omega (arith, lt))
 calling_late Calling.turn_uncounted moves lt = moves refl
+calling_late (Calling.takes below) moves lt = absurd (omega (arith, lt))
+calling_late Calling.takes_uncounted moves lt = moves refl
 calling_late Calling.operand moves lt = absurd (omega (arith, lt))
 
 pub root_stands : {nodes : List Node} {bodies : List ℕ} {s t : ℕ} → Root nodes bodies s t → (node : Node) × (slice_get nodes t ≡ Some node)
@@ -53,6 +55,9 @@ calling_callee (Calling.alternative is) = rw is refl
 calling_callee (Calling.turn {a = a} {k = k} {b = None} lt) = rw (lt-ltb k a lt) refl
 calling_callee (Calling.turn {a = a} {k = k} {b = Some b} lt) = rw (lt-ltb k b lt) refl
 calling_callee (Calling.turn_uncounted {a = a}) = rw (le-ltb a a (omega arith), eq-eqb a a refl) refl
+calling_callee (Calling.takes {k = k} {b = None} lt) = absurd (omega (arith, lt))
+calling_callee (Calling.takes {k = k} {b = Some b} lt) = rw (lt-ltb k b lt) refl
+calling_callee Calling.takes_uncounted = refl
 calling_callee Calling.operand = refl
 
 pub done_tests : {node : Node} {k : ℕ} → IsDone node k → is_done node k ≡ true
@@ -64,6 +69,8 @@ done_tests (IsDone.alt {ms = ms} {k = k} lt) =
     rw (le-leb (length ms) (length ms + k) le, lt-ltb (length ms + k - length ms) (length ms) below) refl
 done_tests (IsDone.rep {a = a} {k = k} {b = None} low high) = let same : k ≡ a = omega arith in eq-eqb k a same
 done_tests (IsDone.rep {a = a} {k = k} {b = Some b} low high) = rw (le-leb a k low, le-leb k b high) refl
+done_tests (IsDone.turns {k = k} {b = None} high) = let same : k ≡ 0 = omega (arith, high) in eq-eqb k 0 same
+done_tests (IsDone.turns {k = k} {b = Some b} high) = le-leb k b high
 done_tests IsDone.opt = refl
 done_tests IsDone.opt_empty = refl
 
@@ -72,6 +79,7 @@ begin_below Begins.letters = omega arith
 begin_below Begins.concat = omega arith
 begin_below (Begins.alt lt) = lt
 begin_below Begins.rep = omega arith
+begin_below Begins.turns = omega arith
 begin_below Begins.opt = omega arith
 begin_below Begins.opt_empty = omega arith
 
@@ -107,6 +115,28 @@ starts_at_root (named is at_r root) at_t b = name_starts is at_r (starts_at_root
 ends_at_root : {flat : Flat} {s t k : ℕ} {node : Node} → Root flat.nodes flat.bodies s t → slice_get flat.nodes t ≡ Some node → IsDone node k → Ends flat (at t k) s
 ends_at_root (own is differs) at_t d = ends at_t d
 ends_at_root (named is at_r root) at_t d = name_ends is at_r (ends_at_root root at_t d)
+
+-- the two words for a turn that takes a letter
+takes_by : (nodes : List code_node.Node) (n : ℕ) (o : Option code_node.Node) {node : Node} → slice_get nodes n ≡ o → slice_get (map node_of nodes) n ≡ Some node → IsTaking node → takes_in o ≡ true
+takes_by nodes n None is at_n t = absurd (past nodes n is at_n)
+  where
+    past : (nodes : List code_node.Node) (n : ℕ) {node : Node} → slice_get nodes n ≡ None → slice_get (map node_of nodes) n ≡ Some node → ⊥
+    past [] n is at_n = absurd (cc at_n)
+    past (x ∷ nodes) zero is at_n = absurd (cc is)
+    past (x ∷ nodes) (suc n) is at_n = past nodes n is at_n
+takes_by nodes n (Some c) {node = node} is at_n t =
+    let same : node ≡ node_of c = cc (at_n, get_map node_of nodes n is) in subst (λ v. takes v ≡ true) same (taking_takes t)
+
+pub takes_true : (flat : code_flat.Tables) (n k i : ℕ) → Takes (flat_of flat) (at n k) → takes_of flat (record { node = n; step = k; origin = i }) ≡ true
+takes_true flat n k i (in_turns is t) = takes_by flat.nodes.items n (slice_get flat.nodes.items n) refl is t
+
+true_by : (nodes : List code_node.Node) (bodies : List ℕ) (whole limit n k : ℕ) (o : Option code_node.Node) → slice_get nodes n ≡ o → takes_in o ≡ true →
+    Takes (record { nodes = map node_of nodes; bodies = bodies; whole = whole; limit = limit }) (at n k)
+true_by nodes bodies whole limit n k None is h = absurd cc
+true_by nodes bodies whole limit n k (Some c) is h = in_turns (get_map node_of nodes n is) (takes_taking (node_of c) h)
+
+pub true_takes : (flat : code_flat.Tables) (n k i : ℕ) → takes_of flat (record { node = n; step = k; origin = i }) ≡ true → Takes (flat_of flat) (at n k)
+true_takes flat n k i h = true_by flat.nodes.items flat.bodies.items flat.whole flat.limit n k (slice_get flat.nodes.items n) refl h
 
 module _ (flat : code_flat.Tables) (roots : GiveRoots (flat_of flat) flat.roots.items) where
   -- the node that a place calls, with its root

@@ -6,10 +6,13 @@ pub mod FlatNullableLemmas
 pub mod FlatNumbersLemmas
 pub mod IdOfLemmas
 pub mod InLemmas
+pub mod IsEmptyRepeatLemmas
 pub mod LoweredLemmas
+pub mod NamesTellLemmas
 pub mod NodeRunsLemmas
 pub mod NodeStepsLemmas
 pub mod NullNeedsLemmas
+pub mod OnLineLemmas
 pub mod OwnBlockLemmas
 pub mod PlacesLemmas
 pub mod ReachedLemmas
@@ -17,4 +20,5 @@ pub mod RootLemmas
 pub mod RuleDerivesLemmas
 pub mod RuleNodeLemmas
 pub mod SpellAllLemmas
+pub mod TellsLemmas
 pub mod WalkLemmas

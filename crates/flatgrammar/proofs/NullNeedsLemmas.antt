@@ -6,7 +6,7 @@ use Rattle.std.proofs.lemmas.List.{length-map}
 use Rattle.leastset.specs.Demands.{Demand, All, One, row_of, AreNeedsWithin}
 use Rattle.leastset.specs.Least.{Comes, by_all, by_one, AreMarksOfThose}
 use Rattle.leastset.specs.NumberMarks.{IsMarked}
-use Rattle.flatgrammar.specs.Flat.{Node, Set, Letters, Concat, Alt, Rep, Opt, Name, Nothing, top, Begins, IsDone, Calling}
+use Rattle.flatgrammar.specs.Flat.{Node, Set, Letters, Concat, Alt, Rep, Turns, Opt, Name, Nothing, IsTaking, top, Begins, IsDone, Calling}
 use Rattle.flatgrammar.specs.Nullable.{Passes, begun, stepped, Nullable, done, named}
 use Rattle.flatgrammar.specs.NullNeeds.{need_of, need_of_sets, need_of_turns, need_of_repeat, need_of_body}
 use Rattle.flatgrammar.specs.Numbers.{IsOperand, AreOrdered}
@@ -97,22 +97,23 @@ module _ (nodes : List Node) (bodies : List ℕ) where
       by n m (Concat ms) at h = before n m (Concat ms) at (standing ms m h)
       by n m (Alt ms) at h = before n m (Alt ms) at (standing ms m h)
       by n m (Rep a b d) at h = of_repeat m a d b (leb a 0) (before n d (Rep a b d) at refl) h
+      by n m (Turns b d) at h = absurd (nothing_in h)
       by n m (Opt d) at h = absurd (nothing_in h)
       by n m (Name id) at h = of_body m id (slice_get bodies id) refl h
       by n m Nothing at h = absurd (nothing_in h)
 
   -- what is in the least set is nullable
   module _ (n : ℕ) where
-    from_start : (node : Node) → slice_get nodes n ≡ Some node → Begins node 0 → (k : ℕ) →
+    from_start : (node : Node) → slice_get nodes n ≡ Some node → Begins node 0 → (IsTaking node → ⊥) → (k : ℕ) →
         ((j : ℕ) → j < k → (m : ℕ) × (Calling node j m (j + 1)) × Nullable nodes bodies m) → Passes nodes bodies n k
-    from_start node at b zero each = begun at b
-    from_start node at b (suc k) each =
+    from_start node at b free zero each = begun at b
+    from_start node at b free (suc k) each =
         let last = each k (omega arith) in
         let one : k + 1 ≡ suc k = omega arith in
-        subst (λ v. Passes nodes bodies n v) one (stepped (from_start node at b k (λ j lt. each j (omega (arith, lt)))) at last.1 last.2)
+        subst (λ v. Passes nodes bodies n v) one (stepped (from_start node at b free k (λ j lt. each j (omega (arith, lt)))) at last.1 free last.2)
 
     all_null : (ms : List ℕ) → slice_get nodes n ≡ Some (Concat ms) → ((m : ℕ) → Contains ms m → Nullable nodes bodies m) → Nullable nodes bodies n
-    all_null ms at each = done (from_start (Concat ms) at Begins.concat (length ms) (λ j lt. let m = there ms j lt in (m.0, Calling.member m.1, each m.0 (contained ms j m.0 m.1)))) at (IsDone.concat refl)
+    all_null ms at each = done (from_start (Concat ms) at Begins.concat (λ t. elim t [ ]) (length ms) (λ j lt. let m = there ms j lt in (m.0, Calling.member m.1, each m.0 (contained ms j m.0 m.1)))) at (IsDone.concat refl)
       where
         there : (xs : List ℕ) (k : ℕ) → k < length xs → (m : ℕ) × (slice_get xs k ≡ Some m)
         there [] k lt = absurd (omega (arith, lt))
@@ -122,10 +123,10 @@ module _ (nodes : List Node) (bodies : List ℕ) where
     some_null : (ms : List ℕ) → slice_get nodes n ≡ Some (Alt ms) → (k m : ℕ) → slice_get ms k ≡ Some m → Nullable nodes bodies m → Nullable nodes bodies n
     some_null ms at k m is null =
         let lt = get_below ms k is in
-        done (stepped (begun at (Begins.alt lt)) at (Calling.alternative is) null) at (IsDone.alt lt)
+        done (stepped (begun at (Begins.alt lt)) at (Calling.alternative is) (λ t. elim t [ ]) null) at (IsDone.alt lt)
 
     turns_null : (a d : ℕ) (b : Option ℕ) → slice_get nodes n ≡ Some (Rep a b d) → a ≤ top a b → Nullable nodes bodies d → Nullable nodes bodies n
-    turns_null a d b at le null = done (from_start (Rep a b d) at Begins.rep a (λ j lt. (d, Calling.turn (omega (arith, lt, le)), null))) at (IsDone.rep (omega arith) le)
+    turns_null a d b at le null = done (from_start (Rep a b d) at Begins.rep (λ t. elim t [ ]) a (λ j lt. (d, Calling.turn (omega (arith, lt, le)), null))) at (IsDone.rep (omega arith) le)
 
     no_turn_null : (a d : ℕ) (b : Option ℕ) → slice_get nodes n ≡ Some (Rep a b d) → a ≤ 0 → Nullable nodes bodies n
     no_turn_null a d b at le = done (begun at Begins.rep) at (IsDone.rep le (omega arith))
@@ -156,6 +157,7 @@ module _ (nodes : List Node) (bodies : List ℕ) where
       by : (c : Bool) → leb a 0 ≡ c → Tells (cond c (All []) (need_of_turns a b d)) → Nullable nodes bodies n
       by true le h = no_turn_null n a d b at (leb-true a 0 le)
       by false le h = turns b at h
+  null_of_need n (Turns b d) at h = done (begun at Begins.turns) at (IsDone.turns (omega arith))
   null_of_need n (Opt d) at h = done (begun at Begins.opt_empty) at IsDone.opt_empty
   null_of_need n (Name id) at h = by (slice_get bodies id) refl h
     where
@@ -178,6 +180,7 @@ module _ (nodes : List Node) (bodies : List ℕ) where
   Rests (Concat ms) k = (j m : ℕ) → j < k → slice_get ms j ≡ Some m → Comes node_needs m
   Rests (Alt ms) k = (k < length ms) ⊎ ((j : ℕ) × (m : ℕ) × (slice_get ms j ≡ Some m) × Comes node_needs m)
   Rests (Rep a b d) k = (k ≡ 0) ⊎ Comes node_needs d
+  Rests (Turns b d) k = Unit {0}
   Rests (Opt d) k = Unit {0}
   Rests (Name id) k = Unit {0}
   Rests Nothing k = Unit {0}
@@ -187,6 +190,7 @@ module _ (nodes : List Node) (bodies : List ℕ) where
   begin_rests Begins.concat = λ j m lt is. absurd (omega (arith, lt))
   begin_rests (Begins.alt lt) = inl lt
   begin_rests Begins.rep = inl refl
+  begin_rests Begins.turns = tt
   begin_rests Begins.opt = tt
   begin_rests Begins.opt_empty = tt
 
@@ -209,6 +213,8 @@ module _ (nodes : List Node) (bodies : List ℕ) where
   step_rests (Calling.alternative {k = k} {s = s} is) rests comes = inr (k, s, is, comes)
   step_rests (Calling.turn lt) rests comes = inr comes
   step_rests Calling.turn_uncounted rests comes = inr comes
+  step_rests (Calling.takes lt) rests comes = tt
+  step_rests Calling.takes_uncounted rests comes = tt
   step_rests Calling.operand rests comes = tt
 
   -- the need of a node that is done
@@ -254,6 +260,7 @@ module _ (nodes : List Node) (bodies : List ℕ) where
         let s = standing ms m h in let lt = get_below ms s.0 s.1 in rests s.0 m (omega (arith, lt, same)) s.1)
     done_comes (IsDone.alt {ms = ms} {k = k} lt) at rests = alt_comes ms k at rests
     done_comes (IsDone.rep {a = a} {m = d} {k = k} {b = b} low high) at rests = turns_come a d k b at low high rests
+    done_comes (IsDone.turns {m = d} {b = b} high) at rests = free (need_at (Turns b d) at)
     done_comes (IsDone.opt {m = d}) at rests = free (need_at (Opt d) at)
     done_comes (IsDone.opt_empty {m = d}) at rests = free (need_at (Opt d) at)
 
@@ -264,7 +271,7 @@ module _ (nodes : List Node) (bodies : List ℕ) where
 
     passes_rest : {n k : ℕ} {node : Node} → Passes nodes bodies n k → slice_get nodes n ≡ Some node → Rests node k
     passes_rest {k = k} {node = node} (begun {node = d} is b) at = let same : d ≡ node = cc (is, at) in subst (λ v. Rests v k) same (begin_rests b)
-    passes_rest {node = node} (stepped {l = l} {node = d} p is c null) at =
+    passes_rest {node = node} (stepped {l = l} {node = d} p is c plain null) at =
         let same : d ≡ node = cc (is, at) in
         subst (λ v. Rests v l) same (step_rests c (passes_rest p is) (null_comes null))
 
@@ -278,5 +285,5 @@ module _ (nodes : List Node) (bodies : List ℕ) where
   at_marked (m ∷ marks) zero is = ap Some is
   at_marked (m ∷ marks) (suc t) is = at_marked marks t is
 
-  pub nulls_are : (marks : List Bool) → AreMarksOfThose node_needs marks → (whole : ℕ) → AreNulls (record { nodes = nodes; bodies = bodies; whole = whole }) marks
-  nulls_are marks are whole = λ t. ((λ is. comes_null ((are t).0 (marked_at marks t is))), (λ null. at_marked marks t ((are t).1 (null_comes null))))
+  pub nulls_are : (marks : List Bool) → AreMarksOfThose node_needs marks → (whole limit : ℕ) → AreNulls (record { nodes = nodes; bodies = bodies; whole = whole; limit = limit }) marks
+  nulls_are marks are whole limit = λ t. ((λ is. comes_null ((are t).0 (marked_at marks t is))), (λ null. at_marked marks t ((are t).1 (null_comes null))))

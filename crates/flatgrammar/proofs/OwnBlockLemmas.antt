@@ -6,7 +6,7 @@ use Rattle.flatgrammar.specs.Places.{In, now, on, AreDifferent}
 use Rattle.flatgrammar.specs.declared.block.Spot.{Spot}
 use Rattle.flatgrammar.specs.declared.block.Block as code_block
 use Rattle.flatgrammar.specs.declared.tables.Tables as code_flat
-use Rattle.flatgrammar.specs.TableViews.{count_in, GiveRoots, null_of}
+use Rattle.flatgrammar.specs.TableViews.{count_in, GiveRoots, null_of, takes_of}
 use Rattle.flatgrammar.proofs.CallOfLemmas.{past_get, called_of, calls_late, equal_or, some_same}
 use Rattle.flatgrammar.proofs.FlatNumbersLemmas.{at_end}
 use Rattle.flatgrammar.specs.NodeSteps.{flat_of}
@@ -73,26 +73,30 @@ record Passing (flat : code_flat.Tables) (h n : ℕ) (r : Spot) : Type 0 where
   root : ℕ
   call : call_at flat (spot h step) ≡ Some (root, r.step)
   null : null_of flat root ≡ true
+  free : takes_of flat (item_at 0 (spot h step)) ≡ false
   node : r.node ≡ h
   moves : r.step ≡ step → ⊥
 
 kept : (flat : code_flat.Tables) (h n : ℕ) (p : Spot) (rest : List Spot) (o : Option (ℕ × ℕ)) → In p rest → In p (pass_first flat h n o rest)
 kept flat h n p rest None i = i
-kept flat h n p rest (Some (t, l)) i = by (null_of flat t) (eqb l n)
+kept flat h n p rest (Some (t, l)) i = by (takes_of flat (item_at 0 (spot h n))) (null_of flat t) (eqb l n)
   where
-    by : (b c : Bool) → In p (if b then (if c then rest else spot h l ∷ rest) else rest)
-    by true true = i
-    by true false = on i
-    by false c = i
+    by : (a b c : Bool) → In p (if a then rest else (if b then (if c then rest else spot h l ∷ rest) else rest))
+    by true b c = i
+    by false true true = i
+    by false true false = on i
+    by false false c = i
 
-in_passes : (flat : code_flat.Tables) (h n k t l : ℕ) → k < n → call_at flat (spot h k) ≡ Some (t, l) → null_of flat t ≡ true → (l ≡ k → ⊥) → In (spot h l) (passes_to flat h n)
-in_passes flat h zero k t l lt call null moves = absurd (omega (arith, lt))
-in_passes flat h (suc n) k t l lt call null moves = by (cases_lt k n) (λ less. in_passes flat h n k t l less call null moves)
+in_passes : (flat : code_flat.Tables) (h n k t l : ℕ) → k < n → call_at flat (spot h k) ≡ Some (t, l) → takes_of flat (item_at 0 (spot h k)) ≡ false → null_of flat t ≡ true → (l ≡ k → ⊥) → In (spot h l) (passes_to flat h n)
+in_passes flat h zero k t l lt call free null moves = absurd (omega (arith, lt))
+in_passes flat h (suc n) k t l lt call free null moves = by (cases_lt k n) (λ less. in_passes flat h n k t l less call free null moves)
   where
-    put : (b c : Bool) → b ≡ true → (c ≡ true → ⊥) → In (spot h l) (if b then (if c then passes_to flat h n else spot h l ∷ passes_to flat h n) else passes_to flat h n)
-    put true true marked other = absurd (other refl)
-    put true false marked other = now refl
-    put false c marked other = absurd cc
+    put : (a b c : Bool) → a ≡ false → b ≡ true → (c ≡ true → ⊥) →
+        In (spot h l) (if a then passes_to flat h n else (if b then (if c then passes_to flat h n else spot h l ∷ passes_to flat h n) else passes_to flat h n))
+    put true b c plain marked other = absurd (cc plain)
+    put false true true plain marked other = absurd (other refl)
+    put false true false plain marked other = now refl
+    put false false c plain marked other = absurd (cc marked)
 
     by : (k < n) ⊎ (n ≤ k) → (k < n → In (spot h l) (passes_to flat h n)) → In (spot h l) (pass_first flat h n (call_at flat (spot h n)) (passes_to flat h n))
     by (inl less) rec = kept flat h n (spot h l) (passes_to flat h n) (call_at flat (spot h n)) (rec less)
@@ -100,19 +104,20 @@ in_passes flat h (suc n) k t l lt call null moves = by (cases_lt k n) (λ less. 
         let same : n ≡ k = omega (arith, lt, le) in
         let here : call_at flat (spot h n) ≡ Some (t, l) = ap (λ v. call_at flat (spot h v)) same ∙ call in
         subst (λ v. In (spot h l) (pass_first flat h n v (passes_to flat h n))) (sym here)
-        (put (null_of flat t) (eqb l n) null (λ e. moves (eqb-true l n e ∙ same)))
+        (put (takes_of flat (item_at 0 (spot h n))) (null_of flat t) (eqb l n) (ap (λ v. takes_of flat (item_at 0 (spot h v))) same ∙ free) null (λ e. moves (eqb-true l n e ∙ same)))
 
 from_passes : (flat : code_flat.Tables) (h n : ℕ) (r : Spot) → In r (passes_to flat h n) → Passing flat h n r
 from_passes flat h zero r i = elim i [ ]
 from_passes flat h (suc n) r i = by (call_at flat (spot h n)) refl i (λ g. from_passes flat h n r g)
   where
     longer : Passing flat h n r → Passing flat h (suc n) r
-    longer p = let less = p.below in record { step = p.step; below = omega (arith, less); root = p.root; call = p.call; null = p.null; node = p.node; moves = p.moves }
+    longer p = let less = p.below in record { step = p.step; below = omega (arith, less); root = p.root; call = p.call; null = p.null; free = p.free; node = p.node; moves = p.moves }
 
-    take_out : (t l : ℕ) → call_at flat (spot h n) ≡ Some (t, l) → (b c : Bool) → null_of flat t ≡ b → eqb l n ≡ c →
-        In r (if b then (if c then passes_to flat h n else spot h l ∷ passes_to flat h n) else passes_to flat h n) → (In r (passes_to flat h n) → Passing flat h n r) → Passing flat h (suc n) r
-    take_out t l is true true null same g rec = longer (rec g)
-    take_out t l is true false null differs (now r_is) rec =
+    take_out : (t l : ℕ) → call_at flat (spot h n) ≡ Some (t, l) → (a b c : Bool) → takes_of flat (item_at 0 (spot h n)) ≡ a → null_of flat t ≡ b → eqb l n ≡ c →
+        In r (if a then passes_to flat h n else (if b then (if c then passes_to flat h n else spot h l ∷ passes_to flat h n) else passes_to flat h n)) → (In r (passes_to flat h n) → Passing flat h n r) → Passing flat h (suc n) r
+    take_out t l is true b c plain null same g rec = longer (rec g)
+    take_out t l is false true true plain null same g rec = longer (rec g)
+    take_out t l is false true false plain null differs (now r_is) rec =
         let step : r.step ≡ l = ap (λ v. v.step) r_is in
         record {
           step = n;
@@ -120,15 +125,16 @@ from_passes flat h (suc n) r i = by (call_at flat (spot h n)) refl i (λ g. from
           root = t;
           call = is ∙ ap (λ v. Some (t, v)) (sym step);
           null = null;
+          free = plain;
           node = ap (λ v. v.node) r_is;
           moves = λ e. let one = eq-eqb l n (sym step ∙ e) in absurd cc;
         }
-    take_out t l is true false null differs (on g) rec = longer (rec g)
-    take_out t l is false c null same g rec = longer (rec g)
+    take_out t l is false true false plain null differs (on g) rec = longer (rec g)
+    take_out t l is false false c plain null same g rec = longer (rec g)
 
     by : (o : Option (ℕ × ℕ)) → call_at flat (spot h n) ≡ o → In r (pass_first flat h n o (passes_to flat h n)) → (In r (passes_to flat h n) → Passing flat h n r) → Passing flat h (suc n) r
     by None is g rec = longer (rec g)
-    by (Some (t, l)) is g rec = take_out t l is (null_of flat t) (eqb l n) refl refl g rec
+    by (Some (t, l)) is g rec = take_out t l is (takes_of flat (item_at 0 (spot h n))) (null_of flat t) (eqb l n) refl refl refl g rec
 
 module _ (flat : code_flat.Tables) (roots : GiveRoots (flat_of flat) flat.roots.items) where
   own_is_block : (h : ℕ) → IsBlock flat h (own_block flat h)
@@ -140,7 +146,7 @@ module _ (flat : code_flat.Tables) (roots : GiveRoots (flat_of flat) flat.roots.
     calls = λ t i. let c = from_calls flat h (begin_count flat h) t i in record { from = spot h c.step; stands = in_spots h (begin_count flat h) c.step c.below; next = c.next; call = c.call };
     passed = λ r p. passed r p (from_spots h (begin_count flat h) p.from p.stands) (equal_or r.step p.from.step);
     passes = λ r i. let p = from_passes flat h (begin_count flat h) r i in
-        record { from = spot h p.step; stands = in_spots h (begin_count flat h) p.step p.below; root = p.root; call = p.call; null = p.null; node = p.node };
+        record { from = spot h p.step; stands = in_spots h (begin_count flat h) p.step p.below; root = p.root; call = p.call; null = p.null; free = p.free; node = p.node };
     late = λ r i lt. let p = from_passes flat h (begin_count flat h) r i in
         calls_late flat (called_of flat roots (item_at 0 (spot h p.step)) p.root r.step p.call).calls p.moves (subst (λ v. r.step < begin_count flat v) p.node lt);
     different = spots_different h (begin_count flat h);
@@ -156,7 +162,7 @@ module _ (flat : code_flat.Tables) (roots : GiveRoots (flat_of flat) flat.roots.
           let node : r.node ≡ h = p.node ∙ ap (λ v. v.node) f.0 in
           let is : r ≡ spot h r.step = ap (λ v. record { node = v; step = r.step }) node in
           inl (subst (λ v. In v (passes_to flat h (begin_count flat h))) (sym is)
-          (in_passes flat h (begin_count flat h) p.from.step p.root r.step f.1 (subst (λ v. call_at flat v ≡ Some (p.root, r.step)) f.0 p.call) p.null moves))
+          (in_passes flat h (begin_count flat h) p.from.step p.root r.step f.1 (subst (λ v. call_at flat v ≡ Some (p.root, r.step)) f.0 p.call) (subst (λ v. takes_of flat (item_at 0 v) ≡ false) f.0 p.free) p.null moves))
 
   module _ (single : (h : ℕ) → block_of flat h ≡ own_block flat h) where
     pub single_calls : AreCalls flat
@@ -204,24 +210,29 @@ call_added o t l items rest is = rw is (append_assoc items (t ∷ []) rest)
 pub no_call_added : (o : Option (ℕ × ℕ)) (items rest : List ℕ) → o ≡ None → items ++ rest ≡ items ++ call_first o rest
 no_call_added o items rest is = rw is refl
 
-pub pass_added : (flat : code_flat.Tables) (h n : ℕ) (o : Option (ℕ × ℕ)) (t l : ℕ) (items rest : List Spot) → o ≡ Some (t, l) → null_of flat t ≡ true → (l ≡ n → ⊥) →
+pub pass_added : (flat : code_flat.Tables) (h n : ℕ) (o : Option (ℕ × ℕ)) (t l : ℕ) (items rest : List Spot) → o ≡ Some (t, l) → takes_of flat (item_at 0 (spot h n)) ≡ false → null_of flat t ≡ true → (l ≡ n → ⊥) →
     (items ++ spot h l ∷ []) ++ rest ≡ items ++ pass_first flat h n o rest
-pass_added flat h n o t l items rest is null moves = rw is (by (null_of flat t) (eqb l n) refl null)
+pass_added flat h n o t l items rest is free null moves = rw is (by (takes_of flat (item_at 0 (spot h n))) (null_of flat t) (eqb l n) refl free null)
   where
-    by : (b c : Bool) → c ≡ eqb l n → b ≡ true → (items ++ spot h l ∷ []) ++ rest ≡ items ++ (if b then (if c then rest else spot h l ∷ rest) else rest)
-    by true true same marked = absurd (moves (eqb-true l n (sym same)))
-    by true false same marked = append_assoc items (spot h l ∷ []) rest
-    by false c same marked = absurd (cc marked)
+    by : (a b c : Bool) → c ≡ eqb l n → a ≡ false → b ≡ true →
+        (items ++ spot h l ∷ []) ++ rest ≡ items ++ (if a then rest else (if b then (if c then rest else spot h l ∷ rest) else rest))
+    by true b c same plain marked = absurd (cc plain)
+    by false true true same plain marked = absurd (moves (eqb-true l n (sym same)))
+    by false true false same plain marked = append_assoc items (spot h l ∷ []) rest
+    by false false c same plain marked = absurd (cc marked)
 
 pub no_pass_added : (flat : code_flat.Tables) (h n : ℕ) (o : Option (ℕ × ℕ)) (items rest : List Spot) →
-    ((t l : ℕ) → o ≡ Some (t, l) → (null_of flat t ≡ false) ⊎ (l ≡ n)) → items ++ rest ≡ items ++ pass_first flat h n o rest
+    ((t l : ℕ) → o ≡ Some (t, l) → (takes_of flat (item_at 0 (spot h n)) ≡ true) ⊎ ((null_of flat t ≡ false) ⊎ (l ≡ n))) → items ++ rest ≡ items ++ pass_first flat h n o rest
 no_pass_added flat h n None items rest none = refl
-no_pass_added flat h n (Some (t, l)) items rest none = ⊎_elim (λ unmarked. rw unmarked refl) (λ same. by (null_of flat t) (eqb l n) (eq-eqb l n same)) (none t l refl)
+no_pass_added flat h n (Some (t, l)) items rest none = ⊎_elim (λ taking. rw taking refl)
+    (λ other. by (takes_of flat (item_at 0 (spot h n))) (null_of flat t) (eqb l n) (⊎_elim (λ unmarked. inl unmarked) (λ same. inr (eq-eqb l n same)) other)) (none t l refl)
   where
-    by : (b c : Bool) → c ≡ true → items ++ rest ≡ items ++ (if b then (if c then rest else spot h l ∷ rest) else rest)
-    by true true same = refl
-    by true false same = absurd (cc same)
-    by false c same = refl
+    by : (a b c : Bool) → (b ≡ false) ⊎ (c ≡ true) → items ++ rest ≡ items ++ (if a then rest else (if b then (if c then rest else spot h l ∷ rest) else rest))
+    by true b c other = refl
+    by false true true other = refl
+    by false true false (inl unmarked) = absurd (cc unmarked)
+    by false true false (inr same) = absurd (cc same)
+    by false false c other = refl
 
 get_left : {A : Type 0} (xs ys : List A) (k : ℕ) → k < length xs → slice_get (xs ++ ys) k ≡ slice_get xs k
 get_left [] ys k lt = absurd (omega (arith, lt))

@@ -110,6 +110,7 @@ module _ (flat : Flat) where
   begins_within Begins.concat = omega arith
   begins_within (Begins.alt lt) = omega arith
   begins_within Begins.rep = omega arith
+  begins_within Begins.turns = omega arith
   begins_within Begins.opt = omega arith
   begins_within Begins.opt_empty = omega arith
 
@@ -121,6 +122,8 @@ module _ (flat : Flat) where
   calling_within (Calling.alternative {ms = ms} {k = k} is) = omega (arith, get_below ms k is)
   calling_within (Calling.turn lt) = omega arith
   calling_within Calling.turn_uncounted = omega arith
+  calling_within (Calling.takes lt) = omega arith
+  calling_within Calling.takes_uncounted = omega arith
   calling_within Calling.operand = omega arith
 
   starts_place : {s : ℕ} {p : Place} → Starts flat s p → IsPlace p
@@ -131,13 +134,13 @@ module _ (flat : Flat) where
   holds_place (begins st) = starts_place st
   holds_place (called h c st) = starts_place st
   holds_place (has_read h (reads {node = node} is r) get lies) = (node, is, reading_within r)
-  holds_place (returned h e g (calls {node = node} is c)) = (node, is, calling_within c)
+  holds_place (returned h e g (calls {node = node} is c) t) = (node, is, calling_within c)
 
   pub holds_origin : {x : List ℕ} {i j : ℕ} {p : Place} → Holds flat x j p i → i ≤ j
   holds_origin (begins st) = omega arith
   holds_origin (called h c st) = omega arith
   holds_origin (has_read h r get lies) = omega (arith, holds_origin h)
-  holds_origin (returned h e g c) = omega (arith, holds_origin h, holds_origin g)
+  holds_origin (returned h e g c t) = omega (arith, holds_origin h, holds_origin g)
 
   place_in : (p : Place) → IsPlace p → In p (places_from 0 flat.nodes)
   place_in (at s k) h =

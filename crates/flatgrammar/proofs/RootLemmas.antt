@@ -6,7 +6,7 @@ use Rattle.std.proofs.lemmas.List.{length-map, map-append}
 use Rattle.std.proofs.lemmas.Option.{slice_get_within}
 use Rattle.std.proofs.lemmas.Grind.{common_steps}
 use Rattle.std.proofs.Math.Seq.{take-suc}
-use Rattle.flatgrammar.specs.Flat.{Node, Letters, Concat, Alt, Rep, Opt, Name, Nothing}
+use Rattle.flatgrammar.specs.Flat.{Node, Letters, Concat, Alt, Rep, Turns, Opt, Name, Nothing}
 use Rattle.flatgrammar.specs.Roots.{Root, own, named, AreRoots}
 use Rattle.flatgrammar.specs.declared.flat_node.Node as declared
 use Rattle.flatgrammar.specs.declared.roots.Way.{Way}
@@ -35,6 +35,7 @@ first_on bodies s t (Letters sets) h = absurd (other h)
 first_on bodies s t (Concat ms) h = absurd (other h)
 first_on bodies s t (Alt ms) h = absurd (other h)
 first_on bodies s t (Rep a b m) h = absurd (other h)
+first_on bodies s t (Turns b m) h = absurd (other h)
 first_on bodies s t (Opt m) h = absurd (other h)
 first_on bodies s t (Name r) h = (r, refl, to_on (slice_get bodies r) t h)
 first_on bodies s t Nothing h = absurd (other h)
@@ -44,6 +45,7 @@ first_found bodies s u (Letters sets) h = (own_same h, λ r e. absurd (cc e))
 first_found bodies s u (Concat ms) h = (own_same h, λ r e. absurd (cc e))
 first_found bodies s u (Alt ms) h = (own_same h, λ r e. absurd (cc e))
 first_found bodies s u (Rep a b m) h = (own_same h, λ r e. absurd (cc e))
+first_found bodies s u (Turns b m) h = (own_same h, λ r e. absurd (cc e))
 first_found bodies s u (Opt m) h = (own_same h, λ r e. absurd (cc e))
 first_found bodies s u (Name r) h = absurd (to_found (slice_get bodies r) u h)
 first_found bodies s u Nothing h = (own_same h, λ r e. absurd (cc e))
@@ -53,6 +55,7 @@ first_own bodies s (Letters sets) h = refl
 first_own bodies s (Concat ms) h = refl
 first_own bodies s (Alt ms) h = refl
 first_own bodies s (Rep a b m) h = refl
+first_own bodies s (Turns b m) h = refl
 first_own bodies s (Opt m) h = refl
 first_own bodies s (Name r) h = absurd (h r refl)
 first_own bodies s Nothing h = refl

@@ -4,7 +4,7 @@ use Rattle.std.proofs.Common.{◌≡◌, ℕ, zero, suc, ◌+◌, ◌<◌, List,
 use Rattle.std.specs.Prelude.{slice_get, Some}
 use Rattle.abnfread.specs.Element.{Element, Elements, Rule}
 use Rattle.flatgrammar.specs.Flat.{Node}
-use Rattle.flatgrammar.specs.Lowered.{Spells, spells, Shows, shows_text, shows_values, shows_range, shows_concat, shows_alt, shows_rep, shows_opt, shows_name, shows_prose, SpellAll, spell_none, spell_more}
+use Rattle.flatgrammar.specs.Lowered.{Spells, spells, Shows, shows_text, shows_values, shows_range, shows_concat, shows_alt, shows_rep, shows_turns, shows_reversed, shows_opt, shows_name, shows_prose, SpellAll, spell_none, spell_more}
 use Rattle.flatgrammar.specs.Places.{width, places}
 use Rattle.flatgrammar.specs.Numbers.{IsOperand}
 use Rattle.flatgrammar.proofs.BeforeLemmas.{get_below}
@@ -14,23 +14,25 @@ keeps [] ys n h = absurd (cc h)
 keeps (x ∷ xs) ys zero h = h
 keeps (x ∷ xs) ys (suc n) h = keeps xs ys n h
 
-module _ (rules : List Rule) (xs ys : List Node) where
+module _ (rules : List Rule) (limit : ℕ) (xs ys : List Node) where
   mutual
-    pub still_spells : {s : ℕ} {el : Element} → Spells rules xs s el → Spells rules (xs ++ ys) s el
+    pub still_spells : {s : ℕ} {el : Element} → Spells rules limit xs s el → Spells rules limit (xs ++ ys) s el
     still_spells (spells {s = s} is shown) = spells (keeps xs ys s is) (still_shows shown)
 
-    pub still_shows : {node : Node} {el : Element} → Shows rules xs node el → Shows rules (xs ++ ys) node el
+    pub still_shows : {node : Node} {el : Element} → Shows rules limit xs node el → Shows rules limit (xs ++ ys) node el
     still_shows (shows_text is) = shows_text is
     still_shows (shows_values is) = shows_values is
     still_shows shows_range = shows_range
     still_shows (shows_concat all) = shows_concat (still_spell_all all)
     still_shows (shows_alt all) = shows_alt (still_spell_all all)
-    still_shows (shows_rep sp) = shows_rep (still_spells sp)
+    still_shows (shows_rep low high never sp) = shows_rep low high never (still_spells sp)
+    still_shows (shows_turns high within empty sp) = shows_turns high within empty (still_spells sp)
+    still_shows (shows_reversed lt) = shows_reversed lt
     still_shows (shows_opt sp) = shows_opt (still_spells sp)
     still_shows (shows_name is) = shows_name is
     still_shows shows_prose = shows_prose
 
-    pub still_spell_all : {ms : List ℕ} {es : Elements} → SpellAll rules xs ms es → SpellAll rules (xs ++ ys) ms es
+    pub still_spell_all : {ms : List ℕ} {es : Elements} → SpellAll rules limit xs ms es → SpellAll rules limit (xs ++ ys) ms es
     still_spell_all spell_none = spell_none
     still_spell_all (spell_more sp all) = spell_more (still_spells sp) (still_spell_all all)
 
@@ -41,24 +43,26 @@ places_more (x ∷ xs) ys = let rest = places_more xs ys in omega (arith, rest)
 pub places_push : (xs : List Node) (node : Node) → places (xs ++ node ∷ []) ≡ places xs + width node
 places_push xs node = let all = places_more xs (node ∷ []) in omega (arith, all)
 
-pub spells_below : (rules : List Rule) (xs : List Node) {m : ℕ} {el : Element} → Spells rules xs m el → m < length xs
-spells_below rules xs (spells {s = s} is shown) = get_below xs s is
+pub spells_below : (rules : List Rule) (limit : ℕ) (xs : List Node) {m : ℕ} {el : Element} → Spells rules limit xs m el → m < length xs
+spells_below rules limit xs (spells {s = s} is shown) = get_below xs s is
 
-all_below : (rules : List Rule) (xs : List Node) {ms : List ℕ} {es : Elements} → SpellAll rules xs ms es → (k m : ℕ) → slice_get ms k ≡ Some m → m < length xs
-all_below rules xs spell_none k m h = absurd (cc h)
-all_below rules xs (spell_more {m = first} sp all) zero m h =
+all_below : (rules : List Rule) (limit : ℕ) (xs : List Node) {ms : List ℕ} {es : Elements} → SpellAll rules limit xs ms es → (k m : ℕ) → slice_get ms k ≡ Some m → m < length xs
+all_below rules limit xs spell_none k m h = absurd (cc h)
+all_below rules limit xs (spell_more {m = first} sp all) zero m h =
     let same : first ≡ m = cc h in
-    subst (λ v. v < length xs) same (spells_below rules xs sp)
-all_below rules xs (spell_more sp all) (suc k) m h = all_below rules xs all k m h
+    subst (λ v. v < length xs) same (spells_below rules limit xs sp)
+all_below rules limit xs (spell_more sp all) (suc k) m h = all_below rules limit xs all k m h
 
 -- the operands of a node that shows an element are there
-pub operand_below : (rules : List Rule) (xs : List Node) {node : Node} {el : Element} → Shows rules xs node el → (m : ℕ) → IsOperand node m → m < length xs
-operand_below rules xs (shows_text is) m h = absurd h
-operand_below rules xs (shows_values is) m h = absurd h
-operand_below rules xs shows_range m h = absurd h
-operand_below rules xs (shows_concat all) m h = all_below rules xs all h.0 m h.1
-operand_below rules xs (shows_alt all) m h = all_below rules xs all h.0 m h.1
-operand_below rules xs (shows_rep sp) m h = subst (λ v. v < length xs) (sym h) (spells_below rules xs sp)
-operand_below rules xs (shows_opt sp) m h = subst (λ v. v < length xs) (sym h) (spells_below rules xs sp)
-operand_below rules xs (shows_name is) m h = absurd h
-operand_below rules xs shows_prose m h = absurd h
+pub operand_below : (rules : List Rule) (limit : ℕ) (xs : List Node) {node : Node} {el : Element} → Shows rules limit xs node el → (m : ℕ) → IsOperand node m → m < length xs
+operand_below rules limit xs (shows_text is) m h = absurd h
+operand_below rules limit xs (shows_values is) m h = absurd h
+operand_below rules limit xs shows_range m h = absurd h
+operand_below rules limit xs (shows_concat all) m h = all_below rules limit xs all h.0 m h.1
+operand_below rules limit xs (shows_alt all) m h = all_below rules limit xs all h.0 m h.1
+operand_below rules limit xs (shows_rep low high never sp) m h = subst (λ v. v < length xs) (sym h) (spells_below rules limit xs sp)
+operand_below rules limit xs (shows_turns high within empty sp) m h = subst (λ v. v < length xs) (sym h) (spells_below rules limit xs sp)
+operand_below rules limit xs (shows_reversed lt) m h = absurd h
+operand_below rules limit xs (shows_opt sp) m h = subst (λ v. v < length xs) (sym h) (spells_below rules limit xs sp)
+operand_below rules limit xs (shows_name is) m h = absurd h
+operand_below rules limit xs shows_prose m h = absurd h

@@ -1,11 +1,11 @@
 -- What the prediction of a root implies, as a table made once: the places where it and the nodes that it alone calls begin.
-use Rattle.std.specs.Prelude.{◌≡◌, ℕ, ◌<◌, ◌⊎◌, true, List, [], slice_get, Option, Some, None}
+use Rattle.std.specs.Prelude.{◌≡◌, ℕ, ◌<◌, ◌⊎◌, true, false, List, [], slice_get, Option, Some, None}
 use Rattle.flatgrammar.specs.declared.flat_item.Item.{Item}
 use Rattle.flatgrammar.specs.declared.block.Spot.{Spot}
 use Rattle.flatgrammar.specs.declared.block.Block as code_block
 use Rattle.flatgrammar.specs.declared.tables.Tables as code_flat
 use Rattle.flatgrammar.specs.NodeSteps.{flat_of}
-use Rattle.flatgrammar.specs.TableViews.{call_of, count_in, null_of, whole_root, GiveRoots, AreNulls}
+use Rattle.flatgrammar.specs.TableViews.{call_of, count_in, null_of, whole_root, takes_of, GiveRoots, AreNulls}
 use Rattle.flatgrammar.specs.Places.{In, AreDifferent}
 
 abbrev pub item_at : ℕ → Spot → Item
@@ -41,6 +41,7 @@ pub record IsPassing (flat : code_flat.Tables) (spots : List Spot) (r : Spot) : 
   pub root : ℕ
   pub call : call_at flat from ≡ Some (root, r.step)
   pub null : null_of flat root ≡ true
+  pub free : takes_of flat (item_at 0 from) ≡ false  -- a turn that takes a letter is not passed
   pub node : r.node ≡ from.node
 
 pub record IsCalling (flat : code_flat.Tables) (spots : List Spot) (t : ℕ) : Type 0 where

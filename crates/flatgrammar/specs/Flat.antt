@@ -1,5 +1,5 @@
 -- A grammar as numbered nodes, its places, and the relations between them.
-use Rattle.std.specs.Prelude.{◌≡◌, ℕ, ◌+◌, ◌<◌, ◌≤◌, List, length, slice_get, Option, Some, None}
+use Rattle.std.specs.Prelude.{◌≡◌, ℕ, ◌+◌, ◌<◌, ◌≤◌, min, List, length, slice_get, Option, Some, None}
 use Rattle.abnfcheck.specs.Derivable.{small}
 
 -- a set of letters
@@ -19,6 +19,7 @@ pub data Node : Type 0 where
   Concat : List ℕ → Node
   Alt : List ℕ → Node
   Rep : (least : ℕ) → (most : Option ℕ) → ℕ → Node
+  Turns : (most : Option ℕ) → ℕ → Node  -- at most so many turns, each of at least one letter
   Opt : ℕ → Node
   Name : ℕ → Node  -- a rule, by its number
   Nothing : Node
@@ -27,6 +28,7 @@ pub record Flat : Type 0 where
   pub nodes : List Node
   pub bodies : List ℕ  -- for each rule the node of its body
   pub whole : ℕ  -- the node of the judged rule's body alone, as a concatenation of one
+  pub limit : ℕ  -- it serves lines of at most so many letters
 
 -- a place: a node, and how far one is in it
 pub data Place : Type 0 where
@@ -37,12 +39,17 @@ abbrev pub top : ℕ → Option ℕ → ℕ
 top least None = least
 top least (Some most) = most
 
+-- a number, or one more than the limit where that is less
+abbrev pub capped : ℕ → ℕ → ℕ
+capped limit n = min n (limit + 1)
+
 -- the steps where a node begins
 pub data Begins : Node → ℕ → Type 0 where
   letters : {sets : List Set} → Begins (Letters sets) 0
   concat : {ms : List ℕ} → Begins (Concat ms) 0
   alt : {ms : List ℕ} {k : ℕ} → k < length ms → Begins (Alt ms) k
   rep : {a m : ℕ} {b : Option ℕ} → Begins (Rep a b m) 0
+  turns : {m : ℕ} {b : Option ℕ} → Begins (Turns b m) 0
   opt : {m : ℕ} → Begins (Opt m) 0
   opt_empty : {m : ℕ} → Begins (Opt m) 1
 
@@ -52,6 +59,7 @@ pub data IsDone : Node → ℕ → Type 0 where
   concat : {ms : List ℕ} {k : ℕ} → k ≡ length ms → IsDone (Concat ms) k
   alt : {ms : List ℕ} {k : ℕ} → k < length ms → IsDone (Alt ms) (length ms + k)
   rep : {a m k : ℕ} {b : Option ℕ} → a ≤ k → k ≤ top a b → IsDone (Rep a b m) k
+  turns : {m k : ℕ} {b : Option ℕ} → k ≤ top 0 b → IsDone (Turns b m) k
   opt : {m : ℕ} → IsDone (Opt m) 2
   opt_empty : {m : ℕ} → IsDone (Opt m) 1
 
@@ -65,7 +73,13 @@ pub data Calling : Node → ℕ → ℕ → ℕ → Type 0 where
   alternative : {ms : List ℕ} {k s : ℕ} → slice_get ms k ≡ Some s → Calling (Alt ms) k s (length ms + k)
   turn : {a m k : ℕ} {b : Option ℕ} → k < top a b → Calling (Rep a b m) k m (k + 1)
   turn_uncounted : {a m : ℕ} → Calling (Rep a None m) a m a
+  takes : {m k : ℕ} {b : Option ℕ} → k < top 0 b → Calling (Turns b m) k m (k + 1)
+  takes_uncounted : {m : ℕ} → Calling (Turns None m) 0 m 0
   operand : {m : ℕ} → Calling (Opt m) 0 m 2
+
+-- a node whose turns take at least one letter each
+pub data IsTaking : Node → Type 0 where
+  is_taking : {m : ℕ} {b : Option ℕ} → IsTaking (Turns b m)
 
 module _ (flat : Flat) where
   -- a name starts and ends where its body does
@@ -82,3 +96,7 @@ module _ (flat : Flat) where
 
   pub data Calls : Place → ℕ → Place → Type 0 where
     calls : {s k t l : ℕ} {node : Node} → slice_get flat.nodes s ≡ Some node → Calling node k t l → Calls (at s k) t (at s l)
+
+  -- a place in such a node
+  pub data Takes : Place → Type 0 where
+    in_turns : {s k : ℕ} {node : Node} → slice_get flat.nodes s ≡ Some node → IsTaking node → Takes (at s k)

@@ -17,6 +17,7 @@ node_of (code.Letters sets) = flat.Letters (map set_of sets.items)
 node_of (code.Concat members) = flat.Concat members.items
 node_of (code.Alt alternatives) = flat.Alt alternatives.items
 node_of (code.Rep least most operand) = flat.Rep least most operand
+node_of (code.Turns most operand) = flat.Turns most operand
 node_of (code.Opt operand) = flat.Opt operand
 node_of (code.Name id) = flat.Name id
 node_of code.Nothing = flat.Nothing

@@ -4,6 +4,7 @@ pub mod FlatViews
 pub mod Holds
 pub mod Lowered
 pub mod NodeSteps
+pub mod NullElements
 pub mod NullNeeds
 pub mod Nullable
 pub mod Numbers

@@ -1,15 +1,23 @@
 -- The nodes of a lowered grammar spell its rules.
-use Rattle.std.specs.Prelude.{◌≡◌, ℕ, Bool, true, false, List, [], ◌∷◌, length, map, slice_get, Option, Some}
+use Rattle.std.specs.Prelude.{◌≡◌, ℕ, ◌<◌, Bool, true, false, List, [], ◌∷◌, length, map, slice_get, Option, Some, None}
+use Rattle.abnfcheck.specs.Derivable.{Within}
 use Rattle.abnfread.specs.Element as e
 use Rattle.abnfread.specs.Element.{Element, Elements, Rule, id_of}
-use Rattle.flatgrammar.specs.Flat.{Node, Flat, Set, Exactly, EitherCase, Between, Letters, Concat, Alt, Rep, Opt, Name, Nothing}
+use Rattle.flatgrammar.specs.Flat.{Node, Flat, Set, Exactly, EitherCase, Between, Letters, Concat, Alt, Rep, Turns, Opt, Name, Nothing, capped}
+use Rattle.flatgrammar.specs.NullElements.{IsEmpty, IsNeverEmpty}
 
 -- the letters that may stand for one of a text
 abbrev pub letter_set : Bool → ℕ → Set
 letter_set true c = EitherCase c
 letter_set false c = Exactly c
 
-module _ (rules : List Rule) (nodes : List Node) where
+abbrev pub capped_most : ℕ → Option ℕ → Option ℕ
+capped_most limit None = None
+capped_most limit (Some most) = Some (capped limit most)
+
+-- On lines within the limit numbers above it make no difference. Where the operand of a repetition derives the empty list, each number of turns
+-- from the bounds on is reached by turns that take a letter and others that do not, and the former alone are counted.
+module _ (rules : List Rule) (limit : ℕ) (nodes : List Node) where
   mutual
     -- node s spells an element
     pub data Spells : ℕ → Element → Type 0 where
@@ -22,7 +30,11 @@ module _ (rules : List Rule) (nodes : List Node) where
       shows_range : {low high : ℕ} → Shows (Letters (Between low high ∷ [])) (e.Range low high)
       shows_concat : {ms : List ℕ} {es : Elements} → SpellAll ms es → Shows (Concat ms) (e.Concat es)
       shows_alt : {ms : List ℕ} {es : Elements} → SpellAll ms es → Shows (Alt ms) (e.Alt es)
-      shows_rep : {a m : ℕ} {b : Option ℕ} {el : Element} → Spells m el → Shows (Rep a b m) (e.Rep a b el)
+      shows_rep : {a c m : ℕ} {b d : Option ℕ} {el : Element} → c ≡ capped limit a → d ≡ capped_most limit b → IsNeverEmpty rules el → Spells m el →
+          Shows (Rep c d m) (e.Rep a b el)
+      shows_turns : {a m : ℕ} {b d : Option ℕ} {el : Element} → d ≡ capped_most limit b → Within a b → IsEmpty rules el → Spells m el →
+          Shows (Turns d m) (e.Rep a b el)
+      shows_reversed : {a b : ℕ} {el : Element} → b < a → Shows Nothing (e.Rep a (Some b) el)
       shows_opt : {m : ℕ} {el : Element} → Spells m el → Shows (Opt m) (e.Opt el)
       shows_name : {n : List ℕ} {r : ℕ} → r ≡ id_of rules n → Shows (Name r) (e.Name n)
       shows_prose : {t : List ℕ} → Shows Nothing (e.Prose t)
@@ -32,13 +44,13 @@ module _ (rules : List Rule) (nodes : List Node) where
       spell_more : {m : ℕ} {ms : List ℕ} {el : Element} {es : Elements} → Spells m el → SpellAll ms es → SpellAll (m ∷ ms) (e.more el es)
 
 -- of each rule the node that spells its body
-pub record AreBodies (rules : List Rule) (nodes : List Node) (bodies : List ℕ) : Type 0 where
+pub record AreBodies (rules : List Rule) (limit : ℕ) (nodes : List Node) (bodies : List ℕ) : Type 0 where
   pub count : length bodies ≡ length rules
-  pub spelled : (id m : ℕ) → slice_get bodies id ≡ Some m → (el : Element) × (slice_get (e.bodies rules) id ≡ Some el) × Spells rules nodes m el
+  pub spelled : (id m : ℕ) → slice_get bodies id ≡ Some m → (el : Element) × (slice_get (e.bodies rules) id ≡ Some el) × Spells rules limit nodes m el
 
 -- the nodes spell the rules' bodies, and the whole is the judged rule's body alone
 pub record IsLowered (rules : List Rule) (judged : ℕ) (flat : Flat) : Type 0 where
-  pub spelled : AreBodies rules flat.nodes flat.bodies
+  pub spelled : AreBodies rules flat.limit flat.nodes flat.bodies
   pub body : ℕ
   pub body_is : slice_get flat.bodies judged ≡ Some body
   pub whole : slice_get flat.nodes flat.whole ≡ Some (Concat (body ∷ []))

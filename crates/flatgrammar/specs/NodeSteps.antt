@@ -1,12 +1,12 @@
 -- The relations of a node as functions.
-use Rattle.std.specs.Prelude.{ℕ, ◌+◌, ◌-◌, Bool, false, ◌&&◌, ◌||◌, eqb, ltb, leb, length, slice_get, Option, Some, None, if◌then◌else◌}
+use Rattle.std.specs.Prelude.{ℕ, ◌+◌, ◌-◌, Bool, true, false, ◌&&◌, ◌||◌, eqb, ltb, leb, length, slice_get, Option, Some, None, if◌then◌else◌}
 use Rattle.flatgrammar.specs.FlatViews.{nodes_of}
 use Rattle.flatgrammar.specs.declared.tables.Tables as code_flat
-use Rattle.flatgrammar.specs.Flat.{Node, Set, Has, Flat, Letters, Concat, Alt, Rep, Opt, Name, Nothing}
+use Rattle.flatgrammar.specs.Flat.{Node, Set, Has, Flat, Letters, Concat, Alt, Rep, Turns, Opt, Name, Nothing}
 
 -- the grammar of the tables
 abbrev pub flat_of : code_flat.Tables → Flat
-flat_of flat = record { nodes = nodes_of flat.nodes.items; bodies = flat.bodies.items; whole = flat.whole }
+flat_of flat = record { nodes = nodes_of flat.nodes.items; bodies = flat.bodies.items; whole = flat.whole; limit = flat.limit }
 
 -- the steps below this are those where the node begins
 abbrev pub begin_count : Node → ℕ
@@ -14,6 +14,7 @@ begin_count (Letters sets) = 1
 begin_count (Concat ms) = 1
 begin_count (Alt ms) = length ms
 begin_count (Rep a b m) = 1
+begin_count (Turns b m) = 1
 begin_count (Opt m) = 2
 begin_count (Name r) = 0
 begin_count Nothing = 0
@@ -24,9 +25,22 @@ is_done (Concat ms) k = eqb k (length ms)
 is_done (Alt ms) k = leb (length ms) k && ltb (k - length ms) (length ms)
 is_done (Rep a None m) k = eqb k a
 is_done (Rep a (Some b) m) k = leb a k && leb k b
+is_done (Turns None m) k = eqb k 0
+is_done (Turns (Some b) m) k = leb k b
 is_done (Opt m) k = eqb k 1 || eqb k 2
 is_done (Name r) k = false
 is_done Nothing k = false
+
+-- each turn takes a letter
+abbrev pub takes : Node → Bool
+takes (Letters sets) = false
+takes (Concat ms) = false
+takes (Alt ms) = false
+takes (Rep a b m) = false
+takes (Turns b m) = true
+takes (Opt m) = false
+takes (Name r) = false
+takes Nothing = false
 
 -- a called node, and the step after it
 abbrev pub with_next : Option ℕ → ℕ → Option (ℕ × ℕ)
@@ -39,6 +53,8 @@ callee (Concat ms) k = with_next (slice_get ms k) (k + 1)
 callee (Alt ms) k = with_next (slice_get ms k) (length ms + k)
 callee (Rep a None m) k = if ltb k a then Some (m, k + 1) else (if eqb k a then Some (m, a) else None)
 callee (Rep a (Some b) m) k = if ltb k b then Some (m, k + 1) else None
+callee (Turns None m) k = if eqb k 0 then Some (m, 0) else None
+callee (Turns (Some b) m) k = if ltb k b then Some (m, k + 1) else None
 callee (Opt m) k = if eqb k 0 then Some (m, 2) else None
 callee (Name r) k = None
 callee Nothing k = None
@@ -49,6 +65,7 @@ read_at (Letters sets) k = slice_get sets k
 read_at (Concat ms) k = None
 read_at (Alt ms) k = None
 read_at (Rep a b m) k = None
+read_at (Turns b m) k = None
 read_at (Opt m) k = None
 read_at (Name r) k = None
 read_at Nothing k = None

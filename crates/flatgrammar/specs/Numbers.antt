@@ -1,8 +1,10 @@
 -- Nodes numbered from elements, operands first.
-use Rattle.std.specs.Prelude.{◌≡◌, ℕ, ◌+◌, ◌<◌, List, ◌++◌, length, take, slice_get, Some}
-use Rattle.abnfread.specs.Element.{Element, Elements, Rule, bodies}
-use Rattle.flatgrammar.specs.Flat.{Node, Letters, Concat, Alt, Rep, Opt, Name, Nothing}
+use Rattle.std.specs.Prelude.{◌≡◌, ℕ, ◌+◌, ◌<◌, ◌≤◌, Bool, false, List, ◌++◌, length, take, slice_get, get_or, Some}
+use Rattle.abnfread.specs.Element as e
+use Rattle.abnfread.specs.Element.{Element, Elements, Rule, bodies, id_of}
+use Rattle.flatgrammar.specs.Flat.{Node, Letters, Concat, Alt, Rep, Turns, Opt, Name, Nothing}
 use Rattle.flatgrammar.specs.Lowered.{Spells, SpellAll}
+use Rattle.flatgrammar.specs.NullElements.{Tells, TellsAll, TellsSome}
 use Rattle.flatgrammar.specs.Places.{places, size, size_all, sizes}
 
 -- the nodes that stand in a node
@@ -11,6 +13,7 @@ IsOperand (Letters sets) m = ⊥
 IsOperand (Concat ms) m = (k : ℕ) × (slice_get ms k ≡ Some m)
 IsOperand (Alt ms) m = (k : ℕ) × (slice_get ms k ≡ Some m)
 IsOperand (Rep a b d) m = m ≡ d
+IsOperand (Turns b d) m = m ≡ d
 IsOperand (Opt d) m = m ≡ d
 IsOperand (Name r) m = ⊥
 IsOperand Nothing m = ⊥
@@ -19,26 +22,33 @@ IsOperand Nothing m = ⊥
 pub record AreOrdered (nodes : List Node) : Type 0 where
   pub before : (s m : ℕ) (node : Node) → slice_get nodes s ≡ Some node → IsOperand node m → m < s
 
-module _ (rules : List Rule) where
-  -- nodes were added, of as many places as the element has, and node n spells it
-  pub record Numbers (old new : List Node) (n : ℕ) (el : Element) : Type 0 where
+-- the marks tell which names derive the empty list
+abbrev pub NamesTell : List Rule → List Bool → Type 0
+NamesTell rules marks = (n : List ℕ) → Tells rules (get_or marks (id_of rules n) false) (e.Name n)
+
+module _ (rules : List Rule) (limit : ℕ) where
+  -- nodes were added, of no more places than the element has, and node n spells it
+  pub record Numbers (old new : List Node) (n : ℕ) (empty : Bool) (el : Element) : Type 0 where
     pub added : List Node
     pub grown : new ≡ old ++ added
-    pub spelled : Spells rules new n el
-    pub sized : places new ≡ places old + size el
+    pub spelled : Spells rules limit new n el
+    pub sized : places new ≤ places old + size limit el
+    pub tells : Tells rules empty el
     pub ordered : AreOrdered old → AreOrdered new
 
   -- nodes were added, and each of the numbers is that of a node that spells the member in its place
-  pub record NumbersAll (old new : List Node) (ns : List ℕ) (els : Elements) : Type 0 where
+  pub record NumbersAll (old new : List Node) (ns : List ℕ) (all any : Bool) (els : Elements) : Type 0 where
     pub added : List Node
     pub grown : new ≡ old ++ added
-    pub spelled : SpellAll rules new ns els
-    pub sized : places new ≡ places old + size_all els
+    pub spelled : SpellAll rules limit new ns els
+    pub sized : places new ≤ places old + size_all limit els
+    pub tell_all : TellsAll rules all els
+    pub tell_some : TellsSome rules any els
     pub ordered : AreOrdered old → AreOrdered new
 
   -- the bodies of the first rules are cut into nodes
   pub record AreCut (count : ℕ) (nodes : List Node) (numbers : List ℕ) : Type 0 where
     pub long : length numbers ≡ count
-    pub spelled : (id m : ℕ) → slice_get numbers id ≡ Some m → (el : Element) × (slice_get (bodies rules) id ≡ Some el) × Spells rules nodes m el
-    pub sized : places nodes ≡ sizes (take count (bodies rules))
+    pub spelled : (id m : ℕ) → slice_get numbers id ≡ Some m → (el : Element) × (slice_get (bodies rules) id ≡ Some el) × Spells rules limit nodes m el
+    pub sized : places nodes ≤ sizes limit (take count (bodies rules))
     pub ordered : AreOrdered nodes

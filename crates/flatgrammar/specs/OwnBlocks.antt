@@ -2,8 +2,8 @@
 use Rattle.std.specs.Prelude.{ℕ, zero, suc, List, [], ◌∷◌, Option, Some, None, eqb, if◌then◌else◌}
 use Rattle.flatgrammar.specs.declared.block.Spot.{Spot}
 use Rattle.flatgrammar.specs.declared.tables.Tables as code_flat
-use Rattle.flatgrammar.specs.TableViews.{null_of}
-use Rattle.flatgrammar.specs.Blocks.{Block, begin_count, call_at}
+use Rattle.flatgrammar.specs.TableViews.{null_of, takes_of}
+use Rattle.flatgrammar.specs.Blocks.{Block, begin_count, call_at, item_at}
 
 abbrev pub spot : ℕ → ℕ → Spot
 spot h k = record { node = h; step = k }
@@ -22,7 +22,7 @@ calls_to flat h (suc n) = call_first (call_at flat (spot h n)) (calls_to flat h 
 
 abbrev pub pass_first : code_flat.Tables → ℕ → ℕ → Option (ℕ × ℕ) → List Spot → List Spot
 pass_first flat h n None rest = rest
-pass_first flat h n (Some (t, l)) rest = if null_of flat t then (if eqb l n then rest else spot h l ∷ rest) else rest
+pass_first flat h n (Some (t, l)) rest = if takes_of flat (item_at 0 (spot h n)) then rest else (if null_of flat t then (if eqb l n then rest else spot h l ∷ rest) else rest)
 
 abbrev pub passes_to : code_flat.Tables → ℕ → ℕ → List Spot
 passes_to flat h zero = []

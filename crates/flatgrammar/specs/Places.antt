@@ -2,7 +2,7 @@
 use Rattle.std.specs.Prelude.{◌≡◌, ℕ, ◌+◌, ◌*◌, List, [], ◌∷◌, length}
 use Rattle.abnfread.specs.Element as e
 use Rattle.abnfread.specs.Element.{Element, Elements, none, more}
-use Rattle.flatgrammar.specs.Flat.{Node, Letters, Concat, Alt, Rep, Opt, Name, Nothing, top}
+use Rattle.flatgrammar.specs.Flat.{Node, Letters, Concat, Alt, Rep, Turns, Opt, Name, Nothing, top, capped}
 
 -- the places of one node
 abbrev pub width : Node → ℕ
@@ -10,6 +10,7 @@ width (Letters sets) = length sets + 1
 width (Concat ms) = length ms + 1
 width (Alt ms) = 2 * length ms
 width (Rep a b m) = top a b + 1
+width (Turns b m) = top 0 b + 1
 width (Opt m) = 3
 width (Name r) = 0
 width Nothing = 0
@@ -22,26 +23,26 @@ abbrev pub count : Elements → ℕ
 count none = 0
 count (more el es) = count es + 1
 
--- the places of an element, with all that stand in it
+-- the places of an element, with all that stand in it, for lines within the limit
 abbrev mutual
-  pub size : Element → ℕ
-  size (e.Text folds text) = length text + 1
-  size (e.Values vs) = length vs + 1
-  size (e.Range low high) = 2
-  size (e.Concat es) = count es + 1 + size_all es
-  size (e.Alt es) = 2 * count es + size_all es
-  size (e.Rep a b el) = top a b + 1 + size el
-  size (e.Opt el) = 3 + size el
-  size (e.Name n) = 0
-  size (e.Prose text) = 0
+  pub size : ℕ → Element → ℕ
+  size limit (e.Text folds text) = length text + 1
+  size limit (e.Values vs) = length vs + 1
+  size limit (e.Range low high) = 2
+  size limit (e.Concat es) = count es + 1 + size_all limit es
+  size limit (e.Alt es) = 2 * count es + size_all limit es
+  size limit (e.Rep a b el) = capped limit (top a b) + 1 + size limit el
+  size limit (e.Opt el) = 3 + size limit el
+  size limit (e.Name n) = 0
+  size limit (e.Prose text) = 0
 
-  pub size_all : Elements → ℕ
-  size_all none = 0
-  size_all (more el es) = size el + size_all es
+  pub size_all : ℕ → Elements → ℕ
+  size_all limit none = 0
+  size_all limit (more el es) = size limit el + size_all limit es
 
-abbrev pub sizes : List Element → ℕ
-sizes [] = 0
-sizes (el ∷ els) = size el + sizes els
+abbrev pub sizes : ℕ → List Element → ℕ
+sizes limit [] = 0
+sizes limit (el ∷ els) = size limit el + sizes limit els
 
 pub data In {A : Type 0} : A → List A → Type 0 where
   now : {a b : A} {xs : List A} → a ≡ b → In a (b ∷ xs)

@@ -5,7 +5,7 @@ use Rattle.flatgrammar.specs.declared.flat_node.Node as code_node
 use Rattle.flatgrammar.specs.declared.tables.Tables as code_flat
 use Rattle.flatgrammar.specs.Flat.{Flat, Set}
 use Rattle.flatgrammar.specs.FlatViews.{node_of}
-use Rattle.flatgrammar.specs.NodeSteps.{begin_count, is_done, callee, read_at}
+use Rattle.flatgrammar.specs.NodeSteps.{begin_count, is_done, callee, takes, read_at}
 use Rattle.flatgrammar.specs.Nullable.{Nullable}
 use Rattle.flatgrammar.specs.Roots.{Root}
 
@@ -41,6 +41,14 @@ done_of flat item = done_in (slice_get flat.nodes.items item.node) item.step
 abbrev pub count_in : Option code_node.Node → ℕ
 count_in None = 0
 count_in (Some node) = begin_count (node_of node)
+
+abbrev pub takes_in : Option code_node.Node → Bool
+takes_in None = false
+takes_in (Some node) = takes (node_of node)
+
+-- what an item's place calls has to take a letter
+abbrev pub takes_of : code_flat.Tables → Item → Bool
+takes_of flat item = takes_in (slice_get flat.nodes.items item.node)
 
 -- the marks tell the nullable nodes
 abbrev pub AreNulls : Flat → List Bool → Type 0

@@ -1,7 +1,7 @@
 -- How roots are found: ways that lead on, and roots that are known.
 use Rattle.std.specs.Prelude.{◌≡◌, ◌⊎◌, ℕ, ◌<◌, List, [], ◌∷◌, length, slice_get, Option, Some, None, Contains}
 use Rattle.std.proofs.Math.ListN.{set}
-use Rattle.flatgrammar.specs.Flat.{Node, Letters, Concat, Alt, Rep, Opt, Name, Nothing}
+use Rattle.flatgrammar.specs.Flat.{Node, Letters, Concat, Alt, Rep, Turns, Opt, Name, Nothing}
 use Rattle.flatgrammar.specs.declared.roots.Way.{Way}
 use Rattle.flatgrammar.specs.declared.roots.Way.TheVariants.{On, Found}
 
@@ -15,6 +15,7 @@ first_way bodies s (Letters sets) = Found (Some s)
 first_way bodies s (Concat ms) = Found (Some s)
 first_way bodies s (Alt ms) = Found (Some s)
 first_way bodies s (Rep a b m) = Found (Some s)
+first_way bodies s (Turns b m) = Found (Some s)
 first_way bodies s (Opt m) = Found (Some s)
 first_way bodies s (Name r) = way_to (slice_get bodies r)
 first_way bodies s Nothing = Found (Some s)

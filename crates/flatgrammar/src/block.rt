@@ -8,7 +8,7 @@ pub struct Spot {
 }
 
 /// Holds what follows from a root's prediction, whatever the line: the spots where something begins, the roots that these
-/// spots call, and the spots behind calls of nullable roots.
+/// spots call, and the spots behind calls of nullable roots that need not take a letter.
 #[derive(Drop)]
 pub struct Block {
     pub spots: Vec<Spot>,

@@ -18,7 +18,7 @@ use std::marker::Model;
 use std::rc::Rc;
 
 /// A grammar as numbered nodes: of each rule the node of its body, and the whole, a concatenation of the judged rule's body
-/// alone.
+/// alone. It serves lines of at most `limit` letters.
 ///
 /// It keeps what judging looks up by node: where a node starts and ends, whether it is nullable, and what its prediction
 /// implies.
@@ -40,18 +40,20 @@ impl Model for Flat {
 }
 
 impl Flat {
-    /// Returns the flat grammar of these nodes. `Memory` if an allocation fails.
+    /// Returns the flat grammar of these nodes, for lines of at most `limit` letters. `Memory` if an allocation fails.
     pub(crate) fn new(
         alloc: Global,
         nodes: Vec<Node>,
         bodies: Vec<usize>,
         whole: usize,
+        limit: usize,
     ) -> Result<Flat, Memory>
         requires ordered { AreOrdered (nodes_of nodes.items) }
         requires within { (id m : ℕ) → slice_get bodies.items id ≡ Some m → m < length nodes.items }
         ensures nodes { IfOk result (λ flat. flat.nodes ≡ nodes_of nodes.items) }
         ensures bodies { IfOk result (λ flat. flat.bodies ≡ bodies.items) }
         ensures whole { IfOk result (λ flat. flat.whole ≡ whole) }
+        ensures limit { IfOk result (λ flat. flat.limit ≡ limit) }
     {
         let roots = find_roots(alloc, &nodes, &bodies)?;
         let nulls = find_nulls(alloc, &nodes, &bodies)?;
@@ -62,6 +64,7 @@ impl Flat {
             nulls,
             blocks: Vec::new(alloc),
             whole,
+            limit,
         };
         let blocks = own_blocks(alloc, &tables)?;
         tables.blocks = blocks;
@@ -109,6 +112,13 @@ impl Flat {
         ensures { result ≡ self.now.whole }
     {
         self.tables.whole
+    }
+
+    /// Returns how many letters a line may have.
+    pub fn limit(&self) -> usize
+        ensures { result ≡ self.now.limit }
+    {
+        self.tables.limit
     }
 
     /// Returns the tables, shared. `Memory` if an allocation fails.

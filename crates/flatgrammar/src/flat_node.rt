@@ -1,9 +1,9 @@
 //! Numbered nodes.
 ghost use Rattle.std.specs.Prelude.{◌≡◌, ◌↔◌, ◌+◌, ◌^◌, ◌<◌, IsTrue};
 ghost use Rattle.abnfcheck.specs.Derivable.{small};
-ghost use Rattle.flatgrammar.specs.Flat.{Has};
+ghost use Rattle.flatgrammar.specs.Flat.{Has, Rep, Turns};
 ghost use Rattle.flatgrammar.specs.FlatViews.{set_of, node_of};
-ghost use Rattle.flatgrammar.specs.NodeSteps.{begin_count, is_done, callee, read_at, IfSomeSet};
+ghost use Rattle.flatgrammar.specs.NodeSteps.{begin_count, is_done, callee, takes, read_at, IfSomeSet};
 
 /// A set of letters.
 #[derive(Clone, Copy, Debug, PartialEq, Eq)]
@@ -28,6 +28,11 @@ pub enum Node {
     /// At least `least` of it, and at most `most` where that is there.
     Rep {
         least: u32,
+        most: Option<u32>,
+        operand: usize,
+    },
+    /// At most `most` turns of it where that is there, each of at least one letter.
+    Turns {
         most: Option<u32>,
         operand: usize,
     },
@@ -65,7 +70,7 @@ pub(crate) fn begins(node: &Node) -> usize
     ensures { result ≡ begin_count (node_of node.now) }
 {
     match node {
-        Node::Letters(_) | Node::Concat(_) | Node::Rep { .. } => 1,
+        Node::Letters(_) | Node::Concat(_) | Node::Rep { .. } | Node::Turns { .. } => 1,
         Node::Alt(members) => members.len(),
         Node::Opt(_) => 2,
         Node::Name(_) | Node::Nothing => 0,
@@ -90,8 +95,32 @@ pub(crate) fn is_done(node: &Node, step: usize) -> bool
             most: Some(most),
             ..
         } => *least as usize <= step && step <= *most as usize,
+        Node::Turns { most: None, .. } => step == 0,
+        Node::Turns {
+            most: Some(most),
+            ..
+        } => step <= *most as usize,
         Node::Opt(_) => step == 1 || step == 2,
         Node::Name(_) | Node::Nothing => false,
+    }
+}
+
+// The operand and the step after a turn, where a step of a repetition goes on to one. Without a bound the turns behind the last that is asked for are
+// not counted.
+fn turn(least: u32, most: Option<u32>, operand: usize, step: usize) -> Option<(usize, usize)>
+    ensures rep { result ≡ callee (Rep least most operand) step }
+    ensures turns { least ≡ 0 → result ≡ callee (Turns most operand) step }
+{
+    let top = match most {
+        None => least,
+        Some(most) => most,
+    };
+    if step < top as usize {
+        Some((operand, step + 1))
+    } else if step == top as usize && most.is_none() {
+        Some((operand, step))
+    } else {
+        None
     }
 }
 
@@ -118,21 +147,20 @@ pub(crate) fn callee(node: &Node, step: usize) -> Option<(usize, usize)>
             least,
             most,
             operand,
-        } => {
-            let top = match most {
-                None => *least,
-                Some(most) => *most,
-            };
-            if step < top as usize {
-                Some((*operand, step + 1))
-            } else if step == top as usize && most.is_none() {
-                Some((*operand, step))
-            } else {
-                None
-            }
-        }
+        } => turn(*least, *most, *operand, step),
+        Node::Turns { most, operand } => turn(0, *most, *operand, step),
         Node::Opt(operand) => { if step == 0 { Some((*operand, 2)) } else { None } }
         Node::Letters(_) | Node::Name(_) | Node::Nothing => None,
+    }
+}
+
+/// Whether each turn of a node takes a letter.
+pub(crate) fn takes(node: &Node) -> bool
+    ensures { result ≡ takes (node_of node.now) }
+{
+    match node {
+        Node::Turns { .. } => true,
+        _ => false,
     }
 }
 

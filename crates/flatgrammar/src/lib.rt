@@ -19,4 +19,4 @@ pub use flat_item::Item;
 pub use flat_node::{Node, Set};
 pub use item_laws::{items_at_most, items_tell};
 pub use lowered::{lower, lower_rules};
-pub use tables::{Tables, call, calls, done, null, passes, reads, spots, whole_root};
+pub use tables::{Tables, call, calls, done, null, passes, reads, spots, takes_letter, whole_root};

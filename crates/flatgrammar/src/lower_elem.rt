@@ -1,11 +1,16 @@
 //! Cuts the bodies of a grammar's rules into numbered nodes.
-ghost use Rattle.std.specs.Prelude.{◌≡◌, ℕ, List, ◌++◌, ◌∷◌, [], length, map, IfOk};
-ghost use Rattle.abnfread.specs.Element.{id_of};
+ghost use Rattle.std.specs.Prelude.{◌≡◌, ◌<◌, ◌≤◌, ◌+◌, ◌&&◌, ◌||◌, ℕ, List, ◌++◌, ◌∷◌, [], length, map, get_or, Bool, Some, IfOk};
+ghost use Rattle.abnfcheck.specs.Derivable.{Within};
+ghost use Rattle.abnfread.specs.Element as e;
+ghost use Rattle.abnfread.specs.Element.{Element, Rule, id_of};
 ghost use Rattle.abnfread.specs.AbnfViews.{element_of, elements_of, rules_of};
-ghost use Rattle.flatgrammar.specs.Flat.{Exactly, Between};
-ghost use Rattle.flatgrammar.specs.Lowered.{letter_set};
-ghost use Rattle.flatgrammar.specs.FlatViews.{set_of, nodes_of};
-ghost use Rattle.flatgrammar.specs.Numbers.{Numbers, NumbersAll, AreCut};
+ghost use Rattle.flatgrammar.specs.Flat as flat;
+ghost use Rattle.flatgrammar.specs.Flat.{Exactly, Between, capped, top};
+ghost use Rattle.flatgrammar.specs.Lowered.{letter_set, capped_most, Spells, Shows};
+ghost use Rattle.flatgrammar.specs.NullElements.{Tells};
+ghost use Rattle.flatgrammar.specs.Places.{width};
+ghost use Rattle.flatgrammar.specs.FlatViews.{set_of, node_of, nodes_of};
+ghost use Rattle.flatgrammar.specs.Numbers.{NamesTell, Numbers, NumbersAll, AreCut};
 
 use crate::flat_node::{Node, Set};
 use abnfread::Elem;
@@ -73,73 +78,221 @@ fn range_set(alloc: Global, low: u32, high: u32) -> Result<Vec<Set>, Memory>
     Ok(sets)
 }
 
-/// Adds the nodes of an element, its operands first, and gives the number of its own.
+/// The node of an element, and whether the element derives the empty list.
+#[derive(Clone, Copy)]
+pub(crate) struct Made {
+    pub(crate) number: usize,
+    pub(crate) empty: bool,
+}
+
+// The nodes of elements, whether all of these derive the empty list, and whether one does.
+#[derive(Drop)]
+struct Members {
+    numbers: Vec<usize>,
+    all: bool,
+    any: bool,
+}
+
+// A number, or one more than the limit where that is less.
+fn capped(limit: usize, n: u32) -> u32
+    ensures { result ≡ capped limit n }
+{
+    match u32::try_from(limit) {
+        Ok(limit) if limit < n => limit + 1,
+        _ => n,
+    }
+}
+
+// A number that may be missing, likewise.
+fn capped_most(limit: usize, most: Option<u32>) -> Option<u32>
+    ensures { result ≡ capped_most limit most }
+{
+    match most {
+        Some(most) => Some(capped(limit, most)),
+        None => None,
+    }
+}
+
+// Whether a repetition is to be at least more often than at most.
+fn is_reversed(least: u32, most: Option<u32>) -> bool
+    ensures yes { result ≡ Bool.true → (b : ℕ) × (most ≡ Some b) × b < least }
+    ensures no { result ≡ Bool.false → Within least most }
+{
+    match most {
+        Some(most) => most < least,
+        None => false,
+    }
+}
+
+// The node of a repetition, for lines within the limit. Where the operand derives the empty list, the turns that are asked for are there without a letter.
+fn repeat(limit: usize, least: u32, most: Option<u32>, made: Made) -> Node
+    ensures shows { (rules : List Rule) (nodes : List flat.Node) (el : Element) → Tells rules made.empty el → Spells rules limit nodes made.number el →
+        Shows rules limit nodes (node_of result) (e.Rep least most el) }
+    ensures width { width (node_of result) ≤ capped limit (top least most) + 1 }
+{
+    if is_reversed(least, most) {
+        Node::Nothing
+    } else if made.empty {
+        Node::Turns {
+            most: capped_most(limit, most),
+            operand: made.number,
+        }
+    } else {
+        Node::Rep {
+            least: capped(limit, least),
+            most: capped_most(limit, most),
+            operand: made.number,
+        }
+    }
+}
+
+// Whether a repetition derives the empty list.
+fn is_empty_repeat(least: u32, most: Option<u32>, empty: bool) -> bool
+    ensures { (rules : List Rule) (el : Element) → Tells rules empty el → Tells rules result (e.Rep least most el) }
+{
+    match most {
+        Some(most) => least <= most && (least == 0 || empty),
+        None => least == 0 || empty,
+    }
+}
+
+// Whether there is no byte.
+fn no_bytes(bytes: &[u8]) -> bool
+    ensures yes { result ≡ Bool.true → length bytes.now ≡ 0 }
+    ensures no { result ≡ Bool.false → 0 < length bytes.now }
+{
+    bytes.is_empty()
+}
+
+// Whether there is no value.
+fn no_values(values: &[u32]) -> bool
+    ensures yes { result ≡ Bool.true → length values.now ≡ 0 }
+    ensures no { result ≡ Bool.false → 0 < length values.now }
+{
+    values.is_empty()
+}
+
+// Whether both are true.
+fn both(a: bool, b: bool) -> bool
+    ensures { result ≡ (a && b) }
+{
+    a && b
+}
+
+// Whether one is true.
+fn either(a: bool, b: bool) -> bool
+    ensures { result ≡ (a || b) }
+{
+    a || b
+}
+
+// Whether the rule of that id derives the empty list, by its mark.
+fn mark(marks: &[bool], id: usize) -> bool
+    ensures { result ≡ get_or marks.now id Bool.false }
+{
+    match marks.get(id) {
+        Some(empty) => *empty,
+        None => false,
+    }
+}
+
+/// Adds the nodes of an element, its operands first, and gives the number of its own, and whether the element derives the empty list.
 #[cycle(numbering)]
 pub(crate) fn number(
     alloc: Global,
     rules: &RuleTable<Elem>,
+    marks: &[bool],
+    limit: usize,
     e: &Elem,
     nodes: &mut Vec<Node>,
-) -> Result<usize, Memory>
-    requires { rules.now.names ≡ NameCase.Fold }
-    ensures { IfOk result (λ n. Numbers (rules_of rules.now) (nodes_of nodes.old.items) (nodes_of nodes.new.items) n (element_of e.now)) }
+) -> Result<Made, Memory>
+    requires folds { rules.now.names ≡ NameCase.Fold }
+    requires marks { NamesTell (rules_of rules.now) marks.now }
+    ensures { IfOk result (λ made. Numbers (rules_of rules.now) limit (nodes_of nodes.old.items) (nodes_of nodes.new.items) made.number made.empty (element_of e.now)) }
 {
-    let node = match e {
-        Elem::Text { folds, text } => Node::Letters(text_sets(alloc, *folds, text)?),
-        Elem::Values(values) => Node::Letters(value_sets(alloc, values)?),
-        Elem::Range { low, high } => Node::Letters(range_set(alloc, *low, *high)?),
-        Elem::Concat(members) => Node::Concat(number_all(alloc, rules, members, nodes)?),
-        Elem::Alt(alternatives) => Node::Alt(number_all(alloc, rules, alternatives, nodes)?),
+    let (node, empty) = match e {
+        Elem::Text { folds, text } => (
+            Node::Letters(text_sets(alloc, *folds, text)?),
+            no_bytes(text),
+        ),
+        Elem::Values(values) => (Node::Letters(value_sets(alloc, values)?), no_values(values)),
+        Elem::Range { low, high } => (Node::Letters(range_set(alloc, *low, *high)?), false),
+        Elem::Concat(members) => {
+            let made = number_all(alloc, rules, marks, limit, members, nodes)?;
+            (Node::Concat(made.numbers), made.all)
+        }
+        Elem::Alt(alternatives) => {
+            let made = number_all(alloc, rules, marks, limit, alternatives, nodes)?;
+            (Node::Alt(made.numbers), made.any)
+        }
         Elem::Rep {
             least,
             most,
             operand,
-        } => Node::Rep {
-            least: *least,
-            most: *most,
-            operand: number(alloc, rules, operand, nodes)?,
-        },
-        Elem::Opt(operand) => Node::Opt(number(alloc, rules, operand, nodes)?),
-        Elem::Name(name) => Node::Name(rule_id(rules, name)?),
-        Elem::Prose(_) => Node::Nothing,
+        } => {
+            let made = number(alloc, rules, marks, limit, operand, nodes)?;
+            (
+                repeat(limit, *least, *most, made),
+                is_empty_repeat(*least, *most, made.empty),
+            )
+        }
+        Elem::Opt(operand) => (
+            Node::Opt(number(alloc, rules, marks, limit, operand, nodes)?.number),
+            true,
+        ),
+        Elem::Name(name) => {
+            let id = rule_id(rules, name)?;
+            (Node::Name(id), mark(marks, id))
+        }
+        Elem::Prose(_) => (Node::Nothing, false),
     };
     let n = add(nodes, node)?;
-    Ok(n)
+    Ok(Made { number: n, empty })
 }
 
-// Adds the nodes of each of them in turn, and gives their numbers.
+// Adds the nodes of each of them in turn.
 #[cycle(numbering)]
 fn number_all(
     alloc: Global,
     rules: &RuleTable<Elem>,
+    marks: &[bool],
+    limit: usize,
     members: &[Elem],
     nodes: &mut Vec<Node>,
-) -> Result<Vec<usize>, Memory>
-    requires { rules.now.names ≡ NameCase.Fold }
-    ensures { IfOk result (λ ns. NumbersAll (rules_of rules.now) (nodes_of nodes.old.items) (nodes_of nodes.new.items) ns.items (elements_of members.now)) }
+) -> Result<Members, Memory>
+    requires folds { rules.now.names ≡ NameCase.Fold }
+    requires marks { NamesTell (rules_of rules.now) marks.now }
+    ensures { IfOk result (λ made. NumbersAll (rules_of rules.now) limit (nodes_of nodes.old.items) (nodes_of nodes.new.items) made.numbers.items made.all made.any (elements_of members.now)) }
 {
     let mut numbers = Vec::new(alloc);
+    let mut all = true;
+    let mut any = false;
     for member in members {
-        let n = number(alloc, rules, member, nodes)?;
-        numbers.push(n)?;
+        let made = number(alloc, rules, marks, limit, member, nodes)?;
+        numbers.push(made.number)?;
+        all = both(all, made.empty);
+        any = either(any, made.empty);
     }
-    Ok(numbers)
+    Ok(Members { numbers, all, any })
 }
 
 /// Cuts the bodies into nodes, rule by rule, and gives the numbers of their nodes.
 pub(crate) fn number_bodies(
     alloc: Global,
     rules: &RuleTable<Elem>,
+    marks: &[bool],
+    limit: usize,
     nodes: &mut Vec<Node>,
 ) -> Result<Vec<usize>, Memory>
     requires folds { rules.now.names ≡ NameCase.Fold }
+    requires marks { NamesTell (rules_of rules.now) marks.now }
     requires none { nodes.old.items ≡ [] }
-    ensures { IfOk result (λ bodies. AreCut (rules_of rules.now) (length rules.now.rules) (nodes_of nodes.new.items) bodies.items) }
+    ensures { IfOk result (λ bodies. AreCut (rules_of rules.now) limit (length rules.now.rules) (nodes_of nodes.new.items) bodies.items) }
 {
     let mut bodies = Vec::new(alloc);
     for id in 0..rules.len() {
-        let n = number(alloc, rules, rules.body(id), nodes)?;
-        bodies.push(n)?;
+        let made = number(alloc, rules, marks, limit, rules.body(id), nodes)?;
+        bodies.push(made.number)?;
     }
     Ok(bodies)
 }

@@ -1,11 +1,12 @@
 //! From a sound grammar to a flat one.
-ghost use Rattle.std.specs.Prelude.{◌≡◌, ◌↔◌, ℕ, ◌+◌, ◌<◌, List, ◌∷◌, [], Bool, length, IfOk};
+ghost use Rattle.std.specs.Prelude.{◌≡◌, ◌↔◌, ℕ, ◌+◌, ◌≤◌, List, ◌∷◌, [], Bool, length, IfOk};
 ghost use Rattle.abnfcheck.specs.Derivable.{AreLetters, RuleDerives};
 ghost use Rattle.abnfread.specs.Element.{bodies};
 ghost use Rattle.abnfread.specs.AbnfViews.{rules_of};
 ghost use Rattle.flatgrammar.specs.Flat.{Place};
 ghost use Rattle.flatgrammar.specs.Holds.{Holds};
 ghost use Rattle.flatgrammar.specs.Lowered.{IsLowered};
+ghost use Rattle.flatgrammar.specs.NullElements.{AreNullAlike, AreNullRules};
 ghost use Rattle.flatgrammar.specs.Places.{places, sizes};
 
 use crate::flat::Flat;
@@ -25,30 +26,51 @@ fn alone(alloc: Global, n: usize) -> Result<Vec<usize>, Memory>
     Ok(numbers)
 }
 
-// Lowers rules to numbered nodes, that one being judged.
-pub fn lower_rules(alloc: Global, rules: &RuleTable<Elem>, judged: usize) -> Result<Flat, Memory>
-    requires folds { rules.now.names ≡ NameCase.Fold }
-    requires judged { judged < length (rules_of rules.now) }
-    ensures lowered { IfOk result (IsLowered (rules_of rules.now) judged) }
-    ensures places { IfOk result (λ flat. places flat.nodes ≡ sizes (bodies (rules_of rules.now)) + 2) }
+// Marks the rules of a grammar that derive the empty list.
+fn null_marks(alloc: Global, grammar: &SoundAbnf) -> Result<Vec<bool>, Memory>
+    ensures { IfOk result (λ marks. AreNullRules (rules_of grammar.now.rules) marks.items) }
 {
+    let mut marks = Vec::new(alloc);
+    for id in 0..grammar.rules().len() {
+        marks.push(grammar.nullable(id))?;
+    }
+    Ok(marks)
+}
+
+/// Lowers rules to numbered nodes, for lines of at most `limit` letters. The grammar's judged rule is judged, and the same of its rules as of these derive
+/// the empty list. `Memory` if an allocation fails.
+pub fn lower_rules(
+    alloc: Global,
+    grammar: &SoundAbnf,
+    rules: &RuleTable<Elem>,
+    limit: usize,
+) -> Result<Flat, Memory>
+    requires folds { rules.now.names ≡ NameCase.Fold }
+    requires alike { AreNullAlike (rules_of grammar.now.rules) (rules_of rules.now) }
+    ensures limit { IfOk result (λ flat. flat.limit ≡ limit) }
+    ensures lowered { IfOk result (IsLowered (rules_of rules.now) grammar.now.judged) }
+    ensures places { IfOk result (λ flat. places flat.nodes ≤ sizes limit (bodies (rules_of rules.now)) + 2) }
+{
+    let judged = grammar.judged();
+    let marks = null_marks(alloc, grammar)?;
     let mut nodes = Vec::new(alloc);
-    let bodies = number_bodies(alloc, rules, &mut nodes)?;
+    let bodies = number_bodies(alloc, rules, &marks, limit, &mut nodes)?;
     let members = alone(alloc, bodies[judged])?;
     let whole = add(&mut nodes, Node::Concat(members))?;
-    let flat = Flat::new(alloc, nodes, bodies, whole)?;
+    let flat = Flat::new(alloc, nodes, bodies, whole, limit)?;
     Ok(flat)
 }
 
-/// Lowers a grammar to numbered nodes. The judged rule derives a list of letters exactly if the set after them holds the
-/// whole's end with origin 0. `Memory` if an allocation fails.
-pub fn lower(alloc: Global, grammar: &SoundAbnf) -> Result<Flat, Memory>
+/// Lowers a grammar to numbered nodes, for lines of at most `limit` letters. The judged rule derives a list of so many letters
+/// exactly if the set after them holds the whole's end with origin 0. `Memory` if an allocation fails.
+pub fn lower(alloc: Global, grammar: &SoundAbnf, limit: usize) -> Result<Flat, Memory>
+    ensures limit { IfOk result (λ flat. flat.limit ≡ limit) }
     ensures lowered { IfOk result (IsLowered (rules_of grammar.now.rules) grammar.now.judged) }
-    ensures tells { IfOk result (λ flat. (has : ℕ → Bool) (x : List ℕ) → AreLetters has x →
+    ensures tells { IfOk result (λ flat. (has : ℕ → Bool) (x : List ℕ) → length x ≤ limit → AreLetters has x →
         Holds flat x (length x) (Place.at flat.whole 1) 0 ↔ RuleDerives has (rules_of grammar.now.rules) grammar.now.judged x) }
-    ensures places { IfOk result (λ flat. places flat.nodes ≡ sizes (bodies (rules_of grammar.now.rules)) + 2) }
+    ensures places { IfOk result (λ flat. places flat.nodes ≤ sizes limit (bodies (rules_of grammar.now.rules)) + 2) }
 {
-    let judged = grammar.judged();
-    let flat = lower_rules(alloc, grammar.rules(), judged)?;
+    let _judged = grammar.judged();
+    let flat = lower_rules(alloc, grammar, grammar.rules(), limit)?;
     Ok(flat)
 }

@@ -56,7 +56,7 @@ fn need<'a>(bodies: &'a [usize], node: &'a Node) -> Need<'a>
             most,
             operand,
         } => repeat_need(*least, *most, operand),
-        Node::Opt(_) => Need::All(&[]),
+        Node::Turns { .. } | Node::Opt(_) => Need::All(&[]),
         Node::Name(id) => name_need(bodies, *id),
         Node::Nothing => Need::One(&[]),
     }
@@ -81,7 +81,7 @@ pub(crate) fn find_nulls(
 ) -> Result<Vec<bool>, Memory>
     requires ordered { AreOrdered (nodes_of nodes.now) }
     requires within { (id m : ℕ) → slice_get bodies.now id ≡ Some m → m < length nodes.now }
-    ensures { IfOk result (λ nulls. (whole : ℕ) → AreNulls (record { nodes = nodes_of nodes.now; bodies = bodies.now; whole = whole }) nulls.items) }
+    ensures { IfOk result (λ nulls. (whole limit : ℕ) → AreNulls (record { nodes = nodes_of nodes.now; bodies = bodies.now; whole = whole; limit = limit }) nulls.items) }
 {
     let needs = needs(alloc, nodes, bodies)?;
     let marks = least(alloc, &needs)?;

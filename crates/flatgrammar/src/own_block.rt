@@ -7,7 +7,7 @@ ghost use Rattle.flatgrammar.specs.OwnBlocks.{spot, spots_to, call_first, calls_
 use crate::block::{Block, Spot};
 use crate::flat_item::Item;
 use crate::flat_node::begins;
-use crate::tables::{Tables, call, null};
+use crate::tables::{Tables, call, null, takes_letter};
 use ruletable::Memory;
 use std::alloc::Global;
 
@@ -63,7 +63,7 @@ fn own_calls(alloc: Global, flat: &Tables, node: usize, count: usize) -> Result<
     Ok(calls)
 }
 
-// Adds the spot behind a call of a nullable root, unless it is the spot that calls.
+// Adds the spot behind a call of a nullable root, unless it is the spot that calls, or what is called has to take a letter.
 fn add_pass(flat: &Tables, node: usize, step: usize, passes: &mut Vec<Spot>) -> Result<(), Memory>
     ensures { IfOk result (λ _. (rest : List spots.Spot) → passes.new.items ++ rest ≡ passes.old.items ++ pass_first flat.now node step (call_at flat.now (spot node step)) rest) }
 {
@@ -75,7 +75,7 @@ fn add_pass(flat: &Tables, node: usize, step: usize, passes: &mut Vec<Spot>) -> 
     let Some((root, next)) = call(flat, item) else {
         return Ok(());
     };
-    if !null(flat, root) {
+    if takes_letter(flat, item) || !null(flat, root) {
         return Ok(());
     }
     if next == step {

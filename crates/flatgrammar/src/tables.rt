@@ -1,16 +1,16 @@
 //! The tables of a lowered grammar, by node.
 ghost use Rattle.std.specs.Prelude.{◌≡◌, ◌↔◌, ◌+◌, ◌^◌, ◌<◌, IsTrue};
 ghost use Rattle.flatgrammar.specs.NodeSteps.{IfSomeSet};
-ghost use Rattle.flatgrammar.specs.TableViews.{call_of, done_of, null_of, read_of, whole_root};
+ghost use Rattle.flatgrammar.specs.TableViews.{call_of, done_of, null_of, takes_of, read_of, whole_root};
 ghost use Rattle.flatgrammar.specs.Blocks.{block_of};
 
 use crate::block::{Block, Spot};
 use crate::flat_item::Item;
 use crate::flat_node;
-use crate::flat_node::{Node, callee, is_done};
+use crate::flat_node::{Node, callee, is_done, takes};
 
 /// Holds the nodes of a lowered grammar, of each rule the node of its body, of each node its root, a mark of what is nullable
-/// and its block, and the whole's node.
+/// and its block, the whole's node, and how many letters a line may have.
 #[derive(Drop)]
 pub struct Tables {
     pub nodes: Vec<Node>,
@@ -19,6 +19,7 @@ pub struct Tables {
     pub nulls: Vec<bool>,
     pub blocks: Vec<Block>,
     pub whole: usize,
+    pub limit: usize,
 }
 
 /// Returns the root that an item's place calls, and the step after it.
@@ -40,6 +41,16 @@ pub fn done(flat: &Tables, item: Item) -> bool
     match flat.nodes.get(item.node) {
         None => false,
         Some(node) => is_done(node, item.step),
+    }
+}
+
+/// Tells whether what an item's place calls has to take a letter.
+pub fn takes_letter(flat: &Tables, item: Item) -> bool
+    ensures { result ≡ takes_of flat.now item }
+{
+    match flat.nodes.get(item.node) {
+        None => false,
+        Some(node) => takes(node),
     }
 }
 

@@ -52,13 +52,13 @@ static HOPELESS: [(&[u8], usize); 39] = [
     // a gap, or none, between repetitions, and a repeat that nothing follows
     (b"a = *\"x\"2\"y\"", 1),
     (b"a = 2 \"x\"", 1),
-    (b"a = \"x\"65536", 1),
+    (b"a = \"x\"4294967296", 1),
     (b"a = %x41.42-43", 1),
     (b"a = \"x\"\n/ \"y\"", 2),
     (b"a = \"x\"\r\"y\"", 1),
     // a number over its limit that is not read
-    (b"a = 2 65536\"x\"", 1),
-    (b"65536", 1),
+    (b"a = 2 4294967296\"x\"", 1),
+    (b"4294967296", 1),
     (b"a %d4294967296", 1),
     (b"a = \"x\"\n%d4294967296", 2),
 ];
@@ -116,18 +116,18 @@ fn refuses_beginnings_at_their_last_line(rt: HostRuntime) {
 // A text, and the line of the number over its limit.
 static LARGE: [(&[u8], usize); 8] = [
     (b"a = %d4294967296", 1),
-    (b"\ns = 65536\"a\"", 2),
+    (b"\ns = 4294967296\"a\"", 2),
     (b"a = %x41.100000000", 1),
     (b"a = \"x\"\n  %b1-100000000000000000000000000000000", 2),
-    (b"s = 65536\"a\"", 1),
-    (b"s = *65536\"a\"", 1),
-    (b"s = 0\"a\"\n 65536*\"a\"", 2),
-    (b"s = (65536\"a\" [", 1),
+    (b"s = 4294967296\"a\"", 1),
+    (b"s = *04294967296\"a\"", 1),
+    (b"s = 0\"a\"\n 4294967296*\"a\"", 2),
+    (b"s = (4294967296\"a\" [", 1),
 ];
 
 #[test]
 fn tells_numbers_over_their_limits(rt: HostRuntime) {
-    assert!(rt; MAX_REPEAT == 65535 && MAX_VALUE == 4294967295);
+    assert!(rt; MAX_REPEAT == 4294967295 && MAX_VALUE == 4294967295);
     for row in &LARGE {
         let fault = ReadFault::NumberTooLarge { line: row.1 };
         assert!(rt; is_refused(rt.alloc(), row.0, fault), "{:?}", row.0);

@@ -10,12 +10,14 @@ use Rattle.abnfcheck.specs.Derivable.{AreLetters, Derives, RuleDerives}
 use Rattle.abnfcheck.proofs.YieldsLemmas.{letters_both}
 use Rattle.flatgrammar.specs.Flat.{Nothing, Flat}
 use Rattle.flatgrammar.specs.Lowered.{Spells, spells, shows_prose, IsLowered}
+use Rattle.flatgrammar.specs.NullElements.{AreNullAlike}
 use Rattle.flatgrammar.specs.Places.{size, sizes}
 use Rattle.flatgrammar.specs.ToldBeginnings.{HasItem, TellsBeginnings}
 use Rattle.flatgrammar.proofs.BeforeLemmas.{get_below}
 use Rattle.flatgrammar.proofs.RuleDerivesLemmas.{exactly}
 use Rattle.flatgrammar.proofs.RuleNodeLemmas.{body_at_id, there}
 use Rattle.viable.specs.Pruned.{IsProductive, Keeps, keep_text, keep_values, keep_range, keep_concat, keep_alt, keep_rep, empty_rep, keep_opt, empty_opt, keep_name, KeepsAll, keep_none, keep_more, KeepsSome, some_none, kept, dropped, IsLeftBody, left_body, no_body, ArePruned}
+use Rattle.viable.proofs.AreNullAlikeLemmas.{any_letters}
 use Rattle.viable.proofs.ContextLemmas.{AreLiveBodies, items_go_on}
 use Rattle.viable.proofs.HasItemLemmas.{has_item}
 use Rattle.viable.proofs.KeepsLemmas.{LeftBody, no_prose, keeps_productive, forth, back, sized}
@@ -123,55 +125,65 @@ module _ (has : ℕ → Bool) (rules left : List Rule) (pruned : ArePruned has r
     back_member : (x : List ℕ) (n : ℕ) → BeginsMember has left judged x n → BeginsMember has rules judged x n
     back_member x n b = record { rest = b.rest; letters = b.letters; derives = rule_back b.derives }
 
-    is_nothing : {m : ℕ} {t : List ℕ} → Spells left flat.nodes m (e.Prose t) → slice_get flat.nodes m ≡ Some Nothing
+    is_nothing : {m : ℕ} {t : List ℕ} → Spells left flat.limit flat.nodes m (e.Prose t) → slice_get flat.nodes m ≡ Some Nothing
     is_nothing (spells is shows_prose) = is
 
-    viable : (x : List ℕ) (n : ℕ) → AreLetters has x → 0 < n → n ≤ length x → HasItem flat x n ↔ BeginsMember has rules judged x n
-    viable x n letters past le = by was.2 body.2 body.1
+    viable : (x : List ℕ) (n : ℕ) → length x ≤ flat.limit → AreLetters has x → 0 < n → n ≤ length x → HasItem flat x n ↔ BeginsMember has rules judged x n
+    viable x n line letters past le = by was.2 body.2 body.1
       where
-        body : (d : Element) × (slice_get (bodies left) judged ≡ Some d) × Spells left flat.nodes lowered.body d
+        body : (d : Element) × (slice_get (bodies left) judged ≡ Some d) × Spells left flat.limit flat.nodes lowered.body d
         body = lowered.spelled.spelled judged lowered.body lowered.body_is
 
         was : (el : Element) × (slice_get (bodies rules) judged ≡ Some el) × IsLeftBody has rules el body.0
         was = body_was judged body.0 body.1
 
-        by : {el d : Element} → IsLeftBody has rules el d → Spells left flat.nodes lowered.body d → slice_get (bodies left) judged ≡ Some d →
+        by : {el d : Element} → IsLeftBody has rules el d → Spells left flat.limit flat.nodes lowered.body d → slice_get (bodies left) judged ≡ Some d →
             HasItem flat x n ↔ BeginsMember has rules judged x n
         by (left_body k) sp is = (
-          (λ h. back_member x n (items_go_on has left judged flat lowered (live_bodies judged is k) x letters n h)),
-          (λ b. has_item has left judged flat lowered x n le (forth_member x n letters b)),
+          (λ h. back_member x n (items_go_on has left judged flat lowered (live_bodies judged is k) x line letters n h)),
+          (λ b. has_item has left judged flat lowered x line n le (forth_member x n letters b)),
         )
         by (no_body not) sp is = (
           (λ h. absurd (no_item flat lowered.body lowered.whole (is_nothing sp) x n past h)),
-          (λ b. has_item has left judged flat lowered x n le (forth_member x n letters b)),
+          (λ b. has_item has left judged flat lowered x line n le (forth_member x n letters b)),
         )
 
     pub tells_beginnings : TellsBeginnings has rules judged flat
     tells_beginnings = record {
-      tells = λ x letters.
-          let exact = exactly has left judged flat lowered x letters in
+      tells = λ x line letters.
+          let exact = exactly has left judged flat lowered x line letters in
           ((λ h. rule_back (exact.0 h)), (λ d. exact.1 (rule_forth letters d)));
       viable = viable;
     }
 
--- the bodies have no more places
-body_sized : (has : ℕ → Bool) (rules : List Rule) {el d : Element} → IsLeftBody has rules el d → size d ≤ size el
-body_sized has rules (left_body k) = sized has rules k
-body_sized has rules (no_body not) = omega arith
+-- the same rules derive the empty list, whatever the letters
+pub null_alike : (has : ℕ → Bool) (rules left : List Rule) → ArePruned has rules left → AreNullAlike rules left
+null_alike has rules left pruned = record {
+  count = pruned.count;
+  alike = λ test id. (
+    (λ d. any_letters has test rules (rule_back has rules left pruned (any_letters test has left d))),
+    (λ d. any_letters has test left (rule_forth has rules left pruned tt (any_letters test has rules d))),
+  );
+}
 
-sizes_less : (els ds : List Element) → length ds ≡ length els →
-    ((id : ℕ) (el d : Element) → slice_get els id ≡ Some el → slice_get ds id ≡ Some d → size d ≤ size el) → sizes ds ≤ sizes els
-sizes_less [] [] count each = omega arith
-sizes_less [] (d ∷ ds) count each = absurd (omega (arith, count))
-sizes_less (el ∷ els) [] count each = omega arith
-sizes_less (el ∷ els) (d ∷ ds) count each =
+-- the bodies have no more places
+body_sized : (has : ℕ → Bool) (rules : List Rule) (limit : ℕ) {el d : Element} → IsLeftBody has rules el d → size limit d ≤ size limit el
+body_sized has rules limit (left_body k) = sized has rules limit k
+body_sized has rules limit (no_body not) = omega arith
+
+sizes_less : (limit : ℕ) (els ds : List Element) → length ds ≡ length els →
+    ((id : ℕ) (el d : Element) → slice_get els id ≡ Some el → slice_get ds id ≡ Some d → size limit d ≤ size limit el) → sizes limit ds ≤ sizes limit els
+sizes_less limit [] [] count each = omega arith
+sizes_less limit [] (d ∷ ds) count each = absurd (omega (arith, count))
+sizes_less limit (el ∷ els) [] count each = omega arith
+sizes_less limit (el ∷ els) (d ∷ ds) count each =
     let first = each 0 el d refl refl in
-    let rest = sizes_less els ds (omega (arith, count)) (λ id c b was is. each (suc id) c b was is) in
+    let rest = sizes_less limit els ds (omega (arith, count)) (λ id c b was is. each (suc id) c b was is) in
     omega (arith, first, rest)
 
-pub places_left : (has : ℕ → Bool) (rules left : List Rule) → ArePruned has rules left → sizes (bodies left) ≤ sizes (bodies rules)
-places_left has rules left pruned =
+pub places_left : (has : ℕ → Bool) (rules left : List Rule) (limit : ℕ) → ArePruned has rules left → sizes limit (bodies left) ≤ sizes limit (bodies rules)
+places_left has rules left limit pruned =
     let all = length-map rules (λ rule. rule.body) in
     let same = length-map left (λ rule. rule.body) in
     let count = pruned.count in
-    sizes_less (bodies rules) (bodies left) (omega (arith, all, same, count)) (λ id el d was is. body_sized has rules (pruned.left_of id el d was is))
+    sizes_less limit (bodies rules) (bodies left) (omega (arith, all, same, count)) (λ id el d was is. body_sized has rules limit (pruned.left_of id el d was is))

@@ -1,6 +1,6 @@
 -- Whatever stands in an item set goes on to a list that the judged rule derives.
 -- Serves: lower_viable.
-use Rattle.std.proofs.Common.{◌≡◌, ℕ, zero, suc, ◌+◌, ◌<◌, Bool, Some, List, [], ◌∷◌, ◌++◌, take, sym, ◌∙◌, ap, subst, arith, append_assoc}
+use Rattle.std.proofs.Common.{◌≡◌, ℕ, zero, suc, ◌+◌, ◌<◌, ◌≤◌, Bool, Some, List, [], ◌∷◌, ◌++◌, length, take, sym, ◌∙◌, ap, subst, arith, append_assoc}
 use Rattle.std.specs.Prelude.{slice_get}
 use Rattle.std.proofs.lemmas.List.{append-nil}
 use Rattle.abnfread.specs.Element as e
@@ -51,7 +51,8 @@ pub record AreLiveBodies (has : ℕ → Bool) (rules : List Rule) (judged : ℕ)
   pub named : (n : List ℕ) (el : Element) → body_of rules n ≡ Some el → IsProductive has rules el → IsLive has rules el
   pub whole : (el : Element) → slice_get (bodies rules) judged ≡ Some el → IsProductive has rules el × IsLive has rules el
 
-module _ (has : ℕ → Bool) (rules : List Rule) (judged : ℕ) (flat : Flat) (lowered : IsLowered rules judged flat) (live : AreLiveBodies has rules judged) (x : List ℕ) (letters : AreLetters has x) where
+module _ (has : ℕ → Bool) (rules : List Rule) (judged : ℕ) (flat : Flat) (lowered : IsLowered rules judged flat) (live : AreLiveBodies has rules judged) (x : List ℕ) (line : length x ≤ flat.limit)
+    (letters : AreLetters has x) where
   moved : {v w : List ℕ} → v ≡ w → RuleDerives has rules judged v → RuleDerives has rules judged w
   moved same d = subst (λ z. RuleDerives has rules judged z) same d
 
@@ -63,7 +64,7 @@ module _ (has : ℕ → Bool) (rules : List Rule) (judged : ℕ) (flat : Flat) (
   -- node s spells an element in whose place whatever it derives from i on goes on to a list that the judged rule derives
   record Context (i s : ℕ) : Type 0 where
     el : Element
-    spelled : Spells rules flat.nodes s el
+    spelled : Spells rules flat.limit flat.nodes s el
     alive : IsLive has rules el
     on : (v : List ℕ) → AreLetters has v → Derives has rules el v → BeginsAfter i v
 
@@ -73,14 +74,14 @@ module _ (has : ℕ → Bool) (rules : List Rule) (judged : ℕ) (flat : Flat) (
   -- where a node starts in another, what is derived there is derived by the other's element
   record Into (el : Element) (t : ℕ) : Type 0 where
     of : Element
-    spelled : Spells rules flat.nodes t of
+    spelled : Spells rules flat.limit flat.nodes t of
     alive : IsLive has rules of
     up : (v : List ℕ) → Derives has rules of v → Derives has rules el v
 
-  into : {s t k : ℕ} {el : Element} → Starts flat s (at t k) → Spells rules flat.nodes s el → IsLive has rules el → Into el t
+  into : {s t k : ℕ} {el : Element} → Starts flat s (at t k) → Spells rules flat.limit flat.nodes s el → IsLive has rules el → Into el t
   into {el = el} (starts is b) sp l = record { of = el; spelled = sp; alive = l; up = λ v d. d }
   into {t = t} {el = el} (name_starts {t = t'} {r = r} is at_r st) (spells {node = node} is' shown) l =
-      by (let same : node ≡ Name r = cc (is, is') in subst (λ v. Shows rules flat.nodes v el) same shown) l (λ body spelled alive. into {el = body} st spelled alive)
+      by (let same : node ≡ Name r = cc (is, is') in subst (λ v. Shows rules flat.limit flat.nodes v el) same shown) l (λ body spelled alive. into {el = body} st spelled alive)
     where
       inner : {n : List ℕ} (body : Element) → body_of rules n ≡ Some body → IsProductive has rules (e.Name n) → IsLive has rules body
       inner {n = n} body is p = of p.letters p.derives
@@ -90,10 +91,10 @@ module _ (has : ℕ → Bool) (rules : List Rule) (judged : ℕ) (flat : Flat) (
               let same : other ≡ body = cc (found, is) in
               live.named n body is (record { word = w; letters = all; derives = subst (λ v. Derives has rules v w) same d })
 
-      by : {el : Element} → Shows rules flat.nodes (Name r) el → IsLive has rules el →
-          ((body : Element) → Spells rules flat.nodes t' body → IsLive has rules body → Into body t) → Into el t
+      by : {el : Element} → Shows rules flat.limit flat.nodes (Name r) el → IsLive has rules el →
+          ((body : Element) → Spells rules flat.limit flat.nodes t' body → IsLive has rules body → Into body t) → Into el t
       by (shows_name {n = n} found) (live_name p) rec =
-          let body = body_of_number rules flat.nodes flat.bodies lowered.spelled n r t' found at_r in
+          let body = body_of_number rules flat.limit flat.nodes flat.bodies lowered.spelled n r t' found at_r in
           let inside = rec body.0 body.2 (inner body.0 body.1 p) in
           record { of = inside.of; spelled = inside.spelled; alive = inside.alive; up = λ v d. der.name body.1 (inside.up v d) }
 
@@ -122,14 +123,14 @@ module _ (has : ℕ → Bool) (rules : List Rule) (judged : ℕ) (flat : Flat) (
   called_context : {i j s : ℕ} {p q r : Place} → Holds flat x j q i → Calls flat q s r → Starts flat s p → ContextAt i q → ContextAt j p
   called_context {i = i} {j = j} {p = at t m} h (calls {s = u} {k = k} {t = callee} {l = l} {node = outer} at_u c) st context = by context.spelled
     where
-      reached : Reached has rules flat lowered.spelled x letters i j (at u k)
-      reached = sound has rules flat lowered.spelled x letters h
+      reached : Reached has rules flat.limit flat lowered.spelled x letters line i j (at u k)
+      reached = sound has rules flat.limit flat lowered.spelled x letters line h
 
-      by : Spells rules flat.nodes u context.el → Context j t
+      by : Spells rules flat.limit flat.nodes u context.el → Context j t
       by (spells {node = node} is shown) =
           let same : outer ≡ node = cc (at_u, is) in
           let call = subst (λ v. Calling v k callee l) same c in
-          let part = part_of has rules flat.nodes call shown context.alive (reached.part node context.el is shown) in
+          let part = part_of has rules flat.limit flat.nodes call shown context.alive (reached.part node context.el is shown) in
           let inside = into st part.spelled part.live in
           record {
             el = inside.of;
@@ -138,7 +139,7 @@ module _ (has : ℕ → Bool) (rules : List Rule) (judged : ℕ) (flat : Flat) (
             on = λ v all d.
                 let before = part.on v (inside.up v d) in
                 let both = letters_both has reached.word v (are_letters x has letters reached.lies) all in
-                let f = goes_on has rules flat.nodes shown context.alive (calling_within flat call) both before in
+                let f = goes_on has rules flat.limit flat.nodes shown context.alive (calling_within flat call) both before in
                 let on = context.on ((reached.word ++ v) ++ f.rest) (letters_both has (reached.word ++ v) f.rest both f.letters) f.derives in
                 record {
                   tail = f.rest ++ on.tail;
@@ -152,7 +153,7 @@ module _ (has : ℕ → Bool) (rules : List Rule) (judged : ℕ) (flat : Flat) (
   context (begins st) = begun_context st
   context (called h c st) = called_context h c st (context h)
   context (has_read h (reads is r) letter lies) = context h
-  context (returned h e g (calls is c)) = context g
+  context (returned h e g (calls is c) takes) = context g
 
   pub items_go_on : (j : ℕ) → HasItem flat x j → BeginsMember has rules judged x j
   items_go_on j h = by h.place h.origin h.held
@@ -163,18 +164,18 @@ module _ (has : ℕ → Bool) (rules : List Rule) (judged : ℕ) (flat : Flat) (
           place : (node : Node) × (slice_get flat.nodes s ≡ Some node) × (k < width node)
           place = holds_place flat held
 
-          reached : Reached has rules flat lowered.spelled x letters i j (at s k)
-          reached = sound has rules flat lowered.spelled x letters held
+          reached : Reached has rules flat.limit flat lowered.spelled x letters line i j (at s k)
+          reached = sound has rules flat.limit flat lowered.spelled x letters line held
 
           there : Context i s
           there = context held
 
-          own : Spells rules flat.nodes s there.el → BeginsMember has rules judged x j
+          own : Spells rules flat.limit flat.nodes s there.el → BeginsMember has rules judged x j
           own (spells {node = node} is shown) =
               let same : place.0 ≡ node = cc (place.1, is) in
               let lt = subst (λ v. k < width v) same place.2 in
               let all = are_letters x has letters reached.lies in
-              let f = goes_on has rules flat.nodes shown there.alive lt all (reached.part node there.el is shown) in
+              let f = goes_on has rules flat.limit flat.nodes shown there.alive lt all (reached.part node there.el is shown) in
               let on = there.on (reached.word ++ f.rest) (letters_both has reached.word f.rest all f.letters) f.derives in
               record {
                 rest = f.rest ++ on.tail;

@@ -128,7 +128,7 @@ module _ (has : ℕ → Bool) (rules left : List Rule)
     back_times (one_more d rest) keeps = one_more (back d keeps) (back_times rest keeps)
 
 -- it has no more places
-module _ (has : ℕ → Bool) (rules : List Rule) where
+module _ (has : ℕ → Bool) (rules : List Rule) (limit : ℕ) where
   all_counted : {es ds : Elements} → KeepsAll has rules es ds → count ds ≡ count es
   all_counted keep_none = refl
   all_counted (keep_more k ks) = let rest = all_counted ks in omega (arith, rest)
@@ -139,7 +139,7 @@ module _ (has : ℕ → Bool) (rules : List Rule) where
   some_counted (dropped not ks) = let rest = some_counted ks in omega (arith, rest)
 
   mutual
-    pub sized : {el d : Element} → Keeps has rules el d → size d ≤ size el
+    pub sized : {el d : Element} → Keeps has rules el d → size limit d ≤ size limit el
     sized (keep_text letters) = omega arith
     sized (keep_values letters) = omega arith
     sized (keep_range some) = omega arith
@@ -151,11 +151,11 @@ module _ (has : ℕ → Bool) (rules : List Rule) where
     sized (empty_opt not) = omega arith
     sized (keep_name p) = omega arith
 
-    all_sized : {es ds : Elements} → KeepsAll has rules es ds → size_all ds ≤ size_all es
+    all_sized : {es ds : Elements} → KeepsAll has rules es ds → size_all limit ds ≤ size_all limit es
     all_sized keep_none = omega arith
     all_sized (keep_more k ks) = let s = sized k in let rest = all_sized ks in omega (arith, s, rest)
 
-    some_sized : {es ds : Elements} → KeepsSome has rules es ds → size_all ds ≤ size_all es
+    some_sized : {es ds : Elements} → KeepsSome has rules es ds → size_all limit ds ≤ size_all limit es
     some_sized some_none = omega arith
     some_sized (kept k ks) = let s = sized k in let rest = some_sized ks in omega (arith, s, rest)
     some_sized (dropped not ks) = let rest = some_sized ks in omega (arith, rest)

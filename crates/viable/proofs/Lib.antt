@@ -1,3 +1,4 @@
+pub mod AreNullAlikeLemmas
 pub mod ArePrunedLemmas
 pub mod ContextLemmas
 pub mod HasItemLemmas

@@ -8,10 +8,10 @@ use Rattle.abnfread.specs.Element.{Element, Elements, none, more, Rule}
 use Rattle.abnfcheck.specs.Derivable as der
 use Rattle.abnfcheck.specs.Derivable.{AreLetters, Derives, DerivesAll, DerivesTimes, all_done, then, this, no_more, one_more}
 use Rattle.abnfcheck.proofs.YieldsLemmas.{letters_both}
-use Rattle.flatgrammar.specs.Flat.{Node, Concat, Set, Between, Calling, top}
-use Rattle.flatgrammar.specs.Lowered.{Spells, Shows, shows_text, shows_values, shows_range, shows_concat, shows_alt, shows_rep, shows_opt, shows_name, shows_prose, SpellAll, spell_none, spell_more}
+use Rattle.flatgrammar.specs.Flat.{Node, Concat, Set, Between, Calling, top, capped}
+use Rattle.flatgrammar.specs.Lowered.{capped_most, Spells, Shows, shows_text, shows_values, shows_range, shows_concat, shows_alt, shows_rep, shows_turns, shows_reversed, shows_opt, shows_name, shows_prose, SpellAll, spell_none, spell_more}
 use Rattle.flatgrammar.specs.Places.{width}
-use Rattle.flatgrammar.proofs.BeforeLemmas.{Fit, fit_none, fit_more, fit_text, fit_values, text_fits, values_fit, first, nth, Turned, turned_more, all_snoc, times_snoc, some_of, Before, in_letters, in_concat, alt_begun, alt_done, in_rep, opt_begun, opt_done, opt_passed, member_at, get_below}
+use Rattle.flatgrammar.proofs.BeforeLemmas.{Fit, fit_none, fit_more, fit_text, fit_values, text_fits, values_fit, first, nth, Turned, turned_more, all_snoc, times_snoc, some_of, Before, in_letters, in_concat, alt_begun, alt_done, in_rep, in_turns, opt_begun, opt_done, opt_passed, member_at, get_below}
 use Rattle.viable.specs.Pruned.{IsProductive}
 
 -- each part of an element is productive
@@ -99,15 +99,17 @@ module _ (has : ℕ → Bool) (rules : List Rule) where
           record { rest = r.rest; letters = r.letters; derives = der.rep {k = a} (omega arith) low (subst (λ v. DerivesTimes has rules el v (w ++ r.rest)) all r.derives) }
       by (inr le) = as_is w (der.rep {k = j} le high d)
 
-  turns_within : (a j k : ℕ) (b : Option ℕ) → k < top a b + 1 → Turned a b j k → der.Within j b
-  turns_within a j k None lt turned = tt
-  turns_within a j k (Some b) lt turned = omega (arith, lt, turned)
+  -- the bound of a node's turns is that of the element, or less
+  turns_within : (limit j k c : ℕ) (b d : Option ℕ) → d ≡ capped_most limit b → k < top c d + 1 → Turned c d j k → der.Within j b
+  turns_within limit j k c None d is lt turned = tt
+  turns_within limit j k c (Some b) None is lt turned = absurd (cc is)
+  turns_within limit j k c (Some b) (Some d) is lt turned = let same : d ≡ capped limit b = cc is in omega (arith, same, lt, turned)
 
   range_of : (low high : ℕ) (w : List ℕ) → AreLetters has w → Fit (Between low high ∷ []) w → Derives has rules (e.Range low high) w
   range_of low high w letters (fit_more h fit_none) = der.range h.0 h.1 letters.0
 
-  module _ (nodes : List Node) where
-    pub goes_on : {node : Node} {el : Element} {k : ℕ} {w : List ℕ} → Shows rules nodes node el → IsLive has rules el → k < width node →
+  module _ (limit : ℕ) (nodes : List Node) where
+    pub goes_on : {node : Node} {el : Element} {k : ℕ} {w : List ℕ} → Shows rules limit nodes node el → IsLive has rules el → k < width node →
         AreLetters has w → Before has rules node el k w → GoesOn el w
     goes_on {k = k} {w = w} (shows_text {folds = folds} {t = t} is) (live_text one) lt letters (in_letters {sets = sets} f) = by one.letters one.derives
       where
@@ -133,12 +135,15 @@ module _ (has : ℕ → Bool) (rules : List Rule) where
         let r = all_rest es k w ls d in record { rest = r.rest; letters = r.letters; derives = der.concat r.derives }
     goes_on (shows_alt all) (live_alt ls) lt letters (alt_begun less) = by all ls less
       where
-        by : {ms : List ℕ} {es : Elements} {k : ℕ} → SpellAll rules nodes ms es → AreLive has rules es → k < length ms → GoesOn (e.Alt es) []
+        by : {ms : List ℕ} {es : Elements} {k : ℕ} → SpellAll rules limit nodes ms es → AreLive has rules es → k < length ms → GoesOn (e.Alt es) []
         by spell_none no_live less = absurd (omega (arith, less))
         by (spell_more sp all) (more_live one l ls) less = record { rest = one.word; letters = one.letters; derives = der.alt (this one.derives) }
     goes_on {w = w} (shows_alt {es = es} all) live lt letters (alt_done m same is d) = as_is w (der.alt (some_of has rules es m is d))
-    goes_on {k = k} (shows_rep {a = a} {b = b} sp) (live_rep within one l) lt letters (in_rep {j = j} ds turned) =
-        rep_rest a j b within (turns_within a j k b lt turned) one ds
+    goes_on {k = k} (shows_rep {a = a} {c = c} {b = b} {d = d} least most never sp) (live_rep within one l) lt letters (in_rep {j = j} ds turned) =
+        rep_rest a j b within (turns_within limit j k c b d most lt turned) one ds
+    goes_on {k = k} (shows_turns {a = a} {b = b} {d = d} most some empty sp) (live_rep within one l) lt letters (in_turns {j = j} ds turned) =
+        rep_rest a j b within (turns_within limit j k 0 b d most lt turned) one ds
+    goes_on (shows_reversed less) live lt letters part = absurd (omega (arith, lt))
     goes_on (shows_name is) live lt letters part = absurd (omega (arith, lt))
     goes_on shows_prose live lt letters part = absurd (omega (arith, lt))
     goes_on (shows_opt sp) live lt letters opt_begun = as_is [] der.opt_empty
@@ -148,7 +153,7 @@ module _ (has : ℕ → Bool) (rules : List Rule) where
     -- the part that a called node spells, in its place
     pub record Part (node : Node) (el : Element) (t l : ℕ) (w : List ℕ) : Type 0 where
       pub of : Element
-      pub spelled : Spells rules nodes t of
+      pub spelled : Spells rules limit nodes t of
       pub live : IsLive has rules of
       pub on : (v : List ℕ) → Derives has rules of v → Before has rules node el l (w ++ v)
 
@@ -157,10 +162,10 @@ module _ (has : ℕ → Bool) (rules : List Rule) where
     live_at zero (more_live {el = first} one l ls) is = subst (λ v. IsLive has rules v) (cc is) l
     live_at (suc k) (more_live one l ls) is = live_at k ls is
 
-    pub part_of : {node : Node} {el : Element} {k t l : ℕ} {w : List ℕ} → Calling node k t l → Shows rules nodes node el → IsLive has rules el →
+    pub part_of : {node : Node} {el : Element} {k t l : ℕ} {w : List ℕ} → Calling node k t l → Shows rules limit nodes node el → IsLive has rules el →
         Before has rules node el k w → Part node el t l w
     part_of {w = w} (Calling.member {ms = ms} {k = k} {s = s} is) (shows_concat {es = es} all) (live_concat ls) (in_concat d) =
-        let h = member_at has rules nodes k s all is in
+        let h = member_at has rules limit nodes k s all is in
         let one : suc k ≡ k + 1 = omega arith in
         record {
           of = h.el;
@@ -169,10 +174,14 @@ module _ (has : ℕ → Bool) (rules : List Rule) where
           on = λ v c. subst (λ z. Before has rules (Concat ms) (e.Concat es) z (w ++ v)) one (in_concat (all_snoc has rules es k w d h.is c));
         }
     part_of (Calling.alternative {k = k} {s = s} is) (shows_alt all) (live_alt ls) (alt_begun lt) =
-        let h = member_at has rules nodes k s all is in record { of = h.el; spelled = h.spelled; live = live_at k ls h.is; on = λ v c. alt_done k refl h.is c }
+        let h = member_at has rules limit nodes k s all is in record { of = h.el; spelled = h.spelled; live = live_at k ls h.is; on = λ v c. alt_done k refl h.is c }
     part_of (Calling.alternative {ms = ms} {k = k} is) (shows_alt all) live (alt_done m same found d) = absurd (let lt = get_below ms k is in omega (arith, lt, same))
-    part_of (Calling.turn {a = a} {k = k} {b = b} lt) (shows_rep {el = el} s) (live_rep within one l) (in_rep {j = j} d is) =
+    part_of (Calling.turn {a = a} {k = k} {b = b} lt) (shows_rep {el = el} least most never s) (live_rep within one l) (in_rep {j = j} d is) =
         record { of = el; spelled = s; live = l; on = λ v c. in_rep (times_snoc has rules d c) (turned_more a j k b lt is) }
-    part_of (Calling.turn_uncounted {a = a}) (shows_rep {el = el} s) (live_rep within one l) (in_rep {j = j} d is) =
+    part_of (Calling.turn_uncounted {a = a}) (shows_rep {el = el} least most never s) (live_rep within one l) (in_rep {j = j} d is) =
         record { of = el; spelled = s; live = l; on = λ v c. in_rep (times_snoc has rules d c) (omega (arith, is)) }
+    part_of (Calling.takes {k = k} {b = b} lt) (shows_turns {el = el} most some empty s) (live_rep within one l) (in_turns {j = j} d is) =
+        record { of = el; spelled = s; live = l; on = λ v c. in_turns (times_snoc has rules d c) (turned_more 0 j k b lt is) }
+    part_of Calling.takes_uncounted (shows_turns {el = el} most some empty s) (live_rep within one l) (in_turns {j = j} d is) =
+        record { of = el; spelled = s; live = l; on = λ v c. in_turns (times_snoc has rules d c) (omega (arith, is)) }
     part_of Calling.operand (shows_opt {el = el} s) (live_opt l) opt_begun = record { of = el; spelled = s; live = l; on = λ v c. opt_done c }

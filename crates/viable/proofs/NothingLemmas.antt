@@ -73,7 +73,7 @@ module _ (flat : Flat) (body : ℕ) (whole : slice_get flat.nodes flat.whole ≡
   only_start x (begins st) = (refl, starts_whole refl st)
   only_start x (called h c st) = let was = only_start x h in elim (no_start (calls_body was.1 c) st) [ ]
   only_start x (has_read h r letter lies) = let was = only_start x h in elim (no_read was.1 r) [ ]
-  only_start x (returned h e g c) = let was = only_start x h in elim (no_end was.1 e) [ ]
+  only_start x (returned h e g c takes) = let was = only_start x h in elim (no_end was.1 e) [ ]
 
   pub no_item : (x : List ℕ) (j : ℕ) → 0 < j → HasItem flat x j → ⊥
   no_item x j past item = let is = (only_start x item.held).0 in absurd (omega (arith, past, is))

@@ -1,5 +1,5 @@
 //! From a sound grammar to a flat one of its productive parts.
-ghost use Rattle.std.specs.Prelude.{◌+◌, ◌≤◌, IfOk};
+ghost use Rattle.std.specs.Prelude.{◌≡◌, ◌+◌, ◌≤◌, IfOk};
 ghost use Rattle.abnfread.specs.Element.{bodies};
 ghost use Rattle.abnfread.specs.AbnfViews.{rules_of};
 ghost use Rattle.flatgrammar.specs.Places.{places, sizes};
@@ -13,18 +13,25 @@ use letters::Alphabet;
 use ruletable::Memory;
 use std::alloc::Global;
 
-/// Lowers the productive parts of a grammar to numbered nodes: those that derive some list of letters of the alphabet. The
-/// judged rule derives a list of letters exactly if the set after them holds the whole's end with origin 0; and the set
-/// after the first letters of a list, one or more, is not empty exactly if they begin a list that the rule derives.
+/// Lowers the productive parts of a grammar to numbered nodes, for lines of at most `limit` letters: those that derive some
+/// list of letters of the alphabet. The judged rule derives a list of so many letters exactly if the set after them holds the
+/// whole's end with origin 0; and the set after the first letters of such a list, one or more, is not empty exactly if they
+/// begin a list that the rule derives, of whatever length.
 ///
 /// `Memory` if an allocation fails.
-pub fn lower_viable(alloc: Global, grammar: &SoundAbnf, alphabet: Alphabet) -> Result<Flat, Memory>
+pub fn lower_viable(
+    alloc: Global,
+    grammar: &SoundAbnf,
+    alphabet: Alphabet,
+    limit: usize,
+) -> Result<Flat, Memory>
+    ensures limit { IfOk result (λ flat. flat.limit ≡ limit) }
     ensures tells { IfOk result (λ flat. TellsBeginnings (has alphabet) (rules_of grammar.now.rules) grammar.now.judged flat) }
-    ensures places { IfOk result (λ flat. places flat.nodes ≤ sizes (bodies (rules_of grammar.now.rules)) + 2) }
+    ensures places { IfOk result (λ flat. places flat.nodes ≤ sizes limit (bodies (rules_of grammar.now.rules)) + 2) }
 {
-    let judged = grammar.judged();
+    let _judged = grammar.judged();
     let marks = productive(alloc, grammar, alphabet)?;
     let pruned = prune_rules(alloc, alphabet, grammar.rules(), &marks)?;
-    let flat = lower_rules(alloc, &pruned, judged)?;
+    let flat = lower_rules(alloc, grammar, &pruned, limit)?;
     Ok(flat)
 }

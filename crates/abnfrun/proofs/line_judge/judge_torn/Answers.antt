@@ -1,8 +1,9 @@
 -- The line's longest beginning that is UTF-8 is decoded, and its code points have this answer.
-use Rattle.std.proofs.Common.{◌≡◌, arith, length}
+use Rattle.std.proofs.Common.{◌≡◌, arith, length, length-take-le}
 use Rattle.std.proofs.lemmas.List.{length-map}
 use Rattle.abnfread.specs.AbnfViews.{rules_of}
 use Rattle.abnfrun.proofs.IsAnswerToLemmas.{decoded, torn_answer}
+use Rattle.abnfrun.proofs.IsAnswerWithinLemmas.{points_at_most}
 use Rattle.abnfrun.proofs.line_judge.judge_torn.Goals as goal
 use Rattle.letters.specs.Utf8Text.{number, numbers}
 
@@ -16,3 +17,13 @@ returns c =
     rw (c.torn_by.ensures, count)
     (torn_answer j.viable (rules_of j.grammar.now.rules) j.grammar.now.judged c.args.line.now c.requires.torn c.requires.viable c.utf8_len-len.result points longest spelled
     c.in_ok-said.said c.in_ok-said.ensures)
+
+pub judge_letters-requires-clause-within : goal.judge_letters-requires-clause-within
+judge_letters-requires-clause-within c =
+    let longest = c.utf8_len-len.ensures in
+    let spelled = rw (← c.as_slice.ensures.value) at (decoded _ _ _ c.in_ok-_is_text._is_text longest.text c.in_ok-_is_text.ensures.text c.in_ok-_is_text.ensures.none) in
+    let most = points_at_most spelled in
+    let front = length-take-le c.utf8_len-len.result c.args.line.now longest.within in
+    let size = length-map c.as_slice.result.now number in
+    let short = c.requires.within in
+    omega (arith, most, front, size, longest.within, short)

@@ -1,4 +1,4 @@
-use Rattle.std.proofs.Common.{◌↔◌, IsTrue, length, map, subst}
+use Rattle.std.proofs.Common.{◌↔◌, IsTrue, length, map, subst, arith}
 use Rattle.std.proofs.lemmas.List.{length-map}
 use Rattle.abnfcheck.specs.Derivable.{RuleDerives}
 use Rattle.flatgrammar.specs.Flat.{at}
@@ -20,4 +20,5 @@ returns-clause-derives g c = λ rules judged lowered.
     chain
     (subst (λ v. IsTrue c.in_ok-answer.answer ↔ Holds v (map g.L.Letter.number c.args.line.now) (length c.args.line.now) (at v.whole 1) 0) c.in_ok-tables.ensures.view c.in_ok-answer.ensures.answer)
     (subst (λ n. Holds c.args.flat.now (map g.L.Letter.number c.args.line.now) n (at c.args.flat.now.whole 1) 0 ↔ RuleDerives (has g.L.Letter.ALPHABET) rules judged (map g.L.Letter.number c.args.line.now))
-    (length-map c.args.line.now g.L.Letter.number) (c.items_tell.ensures (has g.L.Letter.ALPHABET) rules judged c.args.flat.now (map g.L.Letter.number c.args.line.now) lowered c.values_are_letters.ensures))
+    (length-map c.args.line.now g.L.Letter.number) (c.items_tell.ensures (has g.L.Letter.ALPHABET) rules judged c.args.flat.now (map g.L.Letter.number c.args.line.now) lowered
+    (let short = c.requires in let size = length-map c.args.line.now g.L.Letter.number in omega (arith, short, size)) c.values_are_letters.ensures))

@@ -2,4 +2,4 @@ use Rattle.flatgrammar.proofs.RuleDerivesLemmas.{exactly}
 use Rattle.flatgrammar.proofs.item_laws.items_tell.Goals as goal
 
 pub returns : goal.returns
-returns c = λ has rules judged flat x lowered letters. exactly has rules judged flat lowered x letters
+returns c = λ has rules judged flat x lowered line letters. exactly has rules judged flat lowered x line letters

@@ -5,5 +5,5 @@ use Rattle.flatgrammar.proofs.flat.Flat.new.Goals as goal
 
 pub invariant_of-result : goal.invariant_of-result
 invariant_of-result c = subst (λ v. AreExact v) (sym c.in_ok-tables.ensures.ok)
-    (tables_exact c.args.nodes c.args.bodies c.in_ok-roots.roots c.in_ok-nulls.nulls c.new.result c.in_ok-blocks.blocks c.args.whole _ _ _ _
+    (tables_exact c.args.nodes c.args.bodies c.in_ok-roots.roots c.in_ok-nulls.nulls c.new.result c.in_ok-blocks.blocks c.args.whole c.args.limit _ _ _ _
     c.deref.ensures.value c.deref-2.ensures.value c.deref-3.ensures.value c.deref-4.ensures.value c.in_ok-roots.ensures c.in_ok-nulls.ensures c.in_ok-blocks.ensures)
