@@ -1,5 +1,5 @@
 //! Cuts the bodies of a grammar's rules into numbered nodes.
-ghost use Rattle.std.specs.Prelude.{◌≡◌, ◌<◌, ◌≤◌, ◌+◌, ◌&&◌, ◌||◌, ℕ, List, ◌++◌, ◌∷◌, [], length, map, get_or, Bool, Some, IfOk};
+ghost use Rattle.std.specs.Prelude.{◌≡◌, ◌<◌, ◌≤◌, ◌+◌, ◌↔◌, ℕ, List, ◌++◌, ◌∷◌, [], length, map, get_or, Bool, Some, IfOk, IsTrue};
 ghost use Rattle.abnfcheck.specs.Derivable.{Within};
 ghost use Rattle.abnfread.specs.Element as e;
 ghost use Rattle.abnfread.specs.Element.{Element, Rule, id_of};
@@ -159,32 +159,16 @@ fn is_empty_repeat(least: u32, most: Option<u32>, empty: bool) -> bool
 
 // Whether there is no byte.
 fn no_bytes(bytes: &[u8]) -> bool
-    ensures yes { result ≡ Bool.true → length bytes.now ≡ 0 }
-    ensures no { result ≡ Bool.false → 0 < length bytes.now }
+    ensures { IsTrue result ↔ (length bytes.now ≡ 0) }
 {
     bytes.is_empty()
 }
 
 // Whether there is no value.
 fn no_values(values: &[u32]) -> bool
-    ensures yes { result ≡ Bool.true → length values.now ≡ 0 }
-    ensures no { result ≡ Bool.false → 0 < length values.now }
+    ensures { IsTrue result ↔ (length values.now ≡ 0) }
 {
     values.is_empty()
-}
-
-// Whether both are true.
-fn both(a: bool, b: bool) -> bool
-    ensures { result ≡ (a && b) }
-{
-    a && b
-}
-
-// Whether one is true.
-fn either(a: bool, b: bool) -> bool
-    ensures { result ≡ (a || b) }
-{
-    a || b
 }
 
 // Whether the rule of that id derives the empty list, by its mark.
@@ -274,8 +258,8 @@ fn number_all(
     for member in members {
         let made = number(alloc, rules, marks, limit, member, nodes)?;
         numbers.push(made.number)?;
-        all = both(all, made.empty);
-        any = either(any, made.empty);
+        all &= made.empty;
+        any |= made.empty;
     }
     Ok(Members { numbers, all, any })
 }
