@@ -23,10 +23,12 @@ example: programs
 	@echo '$$ echo word | bin/abnfi crates/abnfi/data/word.abnf'
 	@echo word | bin/abnfi crates/abnfi/data/word.abnf
 
-# Each folder of examples/, compared with what it must print. The gate's tests hold the same texts.
+# Each folder of examples/, compared with what it must print. The gate's tests hold the same texts. And the examples of the
+# manual pages, as they stand there.
 examples: programs
 	@python3 scripts/example_tests.py check
 	@sh scripts/run_examples.sh
+	@python3 -B scripts/man_examples.py
 
 # The programs and their manual pages, below PREFIX.
 PREFIX ?= /usr/local
