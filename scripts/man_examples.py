@@ -3,7 +3,7 @@
 
 usage: man_examples.py
 
-`The file NAME` begins the words before the text of a file. Lines with `$ ` are commands; what stands behind a command is
+`The file NAME` stands before the text of a file. Lines with `$ ` are commands; what stands behind a command is
 what it prints, on either output. The commands of a page run in one folder, by the programs of bin/.
 """
 import os
@@ -25,7 +25,7 @@ def blocks(page):
     """Yields the lines of each example, with the name of the file that stands in it, if the text before names one."""
     text = page.read_text().partition("\n.SH EXAMPLES\n")[2]
     for found in re.finditer(r"((?:(?!\.nf\n).*\n)*?)\.nf\n\.RS\n((?:.*\n)*?)\.RE\n\.fi\n", text):
-        named = re.findall(r"^The file ([\w.-]+\w)", found.group(1), re.M)
+        named = re.findall(r"\bThe file ([\w.-]+\w)", found.group(1))
         yield named[-1].replace("\\-", "-") if named else None, [plain(it) for it in found.group(2).splitlines()]
 
 
