@@ -1,7 +1,7 @@
 -- What the ABNF tool plans and performs is what is stated.
 -- Serves: run_abnf (right)
-use Rattle.std.proofs.Common.{◌≡◌, ◌≢◌, ℕ, Bool, true, Option, Some, None, List, [], refl, arith, map, length, ◌<◌, ◌∷◌}
-use Rattle.std.specs.Prelude.{Result, Ok, Err}
+use Rattle.std.proofs.Common.{◌≡◌, ◌≢◌, ℕ, true, Option, Some, None, List, [], refl}
+use Rattle.std.specs.Prelude.{Result, Err}
 use Rattle.ruletable.specs.Notes.{Said}
 use Rattle.ruletable.specs.declared.fault.ReadFault.{ReadFault}
 use Rattle.abnfread.specs.AbnfReading.{IsFaultOf}

@@ -1,5 +1,5 @@
 -- What a run of a grammar on an input states.
-use Rattle.std.specs.Prelude.{◌≡◌, ℕ, Bool, true, false, List, [], take}
+use Rattle.std.specs.Prelude.{◌≡◌, ℕ, Bool, true, false, List, take}
 use Rattle.abnfread.specs.Element.{Rule}
 use Rattle.abnfcheck.specs.Beginnings.{IsFurthest}
 use Rattle.abnfcheck.specs.Derivable.{RuleDerives}

@@ -1,6 +1,6 @@
 -- What is stated for a program whose words are right.
 -- Serves: pegi_main, abnfi_main (right)
-use Rattle.std.proofs.Common.{◌≡◌, ℕ, Bool, true, false, Option, Some, None, List, [], refl, inl, inr}
+use Rattle.std.proofs.Common.{◌≡◌, ℕ, Bool, false, Option, Some, None, List, [], refl, inl, inr}
 use Rattle.std.specs.Prelude.{Ok}
 use Rattle.clap.specs.Words.{Kinds, Row}
 use Rattle.commands.specs.Asked.{Ask}
@@ -12,7 +12,7 @@ use Rattle.commands.specs.declared.settings.Asked.{Asked}
 use Rattle.ruletable.proofs.AppendsLemmas.{Appends-same}
 use Rattle.toolrun.specs.Delivery.{Observed}
 use Rattle.toolrun.specs.Input.{Input}
-use Rattle.toolrun.specs.Plan.{IsPlan, stopped}
+use Rattle.toolrun.specs.Plan.{stopped}
 use Rattle.toolrun.specs.Reply.{Reply}
 use Rattle.toolrun.specs.Right.{Comes, IsRight}
 use Rattle.toolrun.specs.Stream.{Stream}

@@ -16,7 +16,7 @@ pub trait Source {
     /// The bytes still to come, where the inner reader tells them.
     ghost remaining: { Self → Option (List ℕ) };
 
-    /// Whether a call has failed.
+    /// Returns whether a call has failed.
     ghost failed: { Self → Bool };
 
     /// Puts the next bytes at the front of `buffer` and answers how many, or fails and takes nothing.
@@ -26,7 +26,7 @@ pub trait Source {
         ensures bytes { ReadConsumes (remaining self.old) (remaining self.new) result buffer.new }
         ensures flag { Flags (failed self.old) (failed self.new) result };
 
-    /// Whether a call has failed.
+    /// Returns whether a call has failed.
     fn has_failed(&self) -> bool
         ensures { result ≡ failed self.now };
 }
@@ -39,7 +39,7 @@ pub struct SourceOf<R> {
 }
 
 impl<R: io::Read> SourceOf<R> {
-    /// A source that has not failed.
+    /// Returns a source that has not failed.
     pub fn new(inner: R) -> SourceOf<R>
         ensures remaining { ⟦<SourceOf<R> as Source>⟧.remaining result ≡ R.remaining inner }
         ensures failed { ⟦<SourceOf<R> as Source>⟧.failed result ≡ false }
@@ -50,7 +50,7 @@ impl<R: io::Read> SourceOf<R> {
         }
     }
 
-    /// The reader, with the bytes that are still to come.
+    /// Returns the reader, with the bytes that are still to come.
     pub fn into_inner(self) -> R
         ensures { R.remaining result ≡ ⟦<SourceOf<R> as Source>⟧.remaining self }
     {

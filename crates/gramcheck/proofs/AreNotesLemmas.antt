@@ -99,8 +99,10 @@ module _ (rules : List Rule) (own : (id : ℕ) (name : List ℕ) → slice_get (
   pub marks-again : (numbers : List ℕ) (again : List Bool) → ids.AreMarks (Contains numbers) (length rules) again → AreMarks (λ rule. Contains (names_at rules numbers) rule.name) rules again
   marks-again numbers again marks = record {
     count = marks.count_is;
-    sound = λ id rule at on. among-contains (names_at rules numbers) rule.name (told id rule at ∙ on);
-    whole = λ id rule at is. sym (told id rule at) ∙ contains-among (names_at rules numbers) rule.name is;
+    exact = λ id rule at. (
+      λ on. among-contains (names_at rules numbers) rule.name (told id rule at ∙ on),
+      λ is. sym (told id rule at) ∙ contains-among (names_at rules numbers) rule.name is,
+    );
   }
     where
       told : (id : ℕ) (rule : Rule) → slice_get rules id ≡ Some rule → is_among Exact (names_at rules numbers) rule.name ≡ get_or again id false
@@ -154,10 +156,12 @@ module _ (rules : List Rule) (start : Option (List ℕ)) (names : Rules (Unit {0
     pub marks-unused : AreMarks (IsUnused start rules) rules (map not used)
     marks-unused = record {
       count = length-map used not ∙ marks.count_is;
-      sound = λ id rule at on.
-          let out : is_among Exact seen rule.name ≡ false = not-true (is_among Exact seen rule.name) (sym (mark-of id rule at) ∙ on) in
-          (seen-used rule.name out, seen-start rule.name out);
-      whole = λ id rule at is. mark-of id rule at ∙ ap not (not-seen rule.name is.0 is.1);
+      exact = λ id rule at. (
+        λ on.
+            let out : is_among Exact seen rule.name ≡ false = not-true (is_among Exact seen rule.name) (sym (mark-of id rule at) ∙ on) in
+            (seen-used rule.name out, seen-start rule.name out),
+        λ is. mark-of id rule at ∙ ap not (not-seen rule.name is.0 is.1),
+      );
     }
 
   -- the names that no rule has

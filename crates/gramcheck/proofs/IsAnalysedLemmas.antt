@@ -40,14 +40,12 @@ module _ (nodes : List Shape) (nulls marks : List Bool) (i : ℕ) (all : i ≡ l
       recursive_sound = left.sound;
       recursive_whole = left.whole;
       looping_count = ap length is ∙ length-map bodies (λ k. get_or marks k false) ∙ are.count;
-      looping_sound = λ id rule at h.
+      looping_exact = λ id rule at.
           let b = body_at id rule at in
-          loops.sound (get_or bodies id 0) rule.body (spelled id rule at)
-          (sym (body_mark bodies marks found id (get_or bodies id 0) is b) ∙ h);
-      looping_whole = λ id rule at d.
-          let b = body_at id rule at in
-          body_mark bodies marks found id (get_or bodies id 0) is b
-          ∙ loops.whole (get_or bodies id 0) rule.body (spelled id rule at) d;
+          let same = body_mark bodies marks found id (get_or bodies id 0) is b in (
+            λ h. loops.sound (get_or bodies id 0) rule.body (spelled id rule at) (sym same ∙ h),
+            λ d. same ∙ loops.whole (get_or bodies id 0) rule.body (spelled id rule at) d,
+          );
       ranked = left.ranked;
     }
       where

@@ -43,12 +43,11 @@ module _ (rules : List Rule) (nodes : List Shape) (bodies : List ℕ) (nulls rec
   pub marks-recursive : ((id : ℕ) (rule : Rule) → slice_get rules id ≡ Some rule → id_of rules rule.name ≡ id) → AreMarks (IsLeftRecursive rules) rules recursive
   marks-recursive own = record {
     count = a.recursive_count;
-    sound = a.recursive_sound;
-    whole = λ id rule there is. a.recursive_whole id rule there (own id rule there) is;
+    exact = λ id rule there. (a.recursive_sound id rule there, a.recursive_whole id rule there (own id rule there));
   }
 
   pub marks-looping : AreMarks (Loops rules) rules looping
-  marks-looping = record { count = a.looping_count; sound = a.looping_sound; whole = a.looping_whole }
+  marks-looping = record { count = a.looping_count; exact = a.looping_exact }
 
 -- none of two lists passes a test
 neither : (p q : Bool) → (p || q) ≡ false → (p ≡ false) × (q ≡ false)

@@ -18,12 +18,11 @@ those-one P (x ∷ xs) ys zs (not_this h d) (not_this g e) = those-one P xs ys z
 marks-tail : (P : Rule → Type 0) (x : Rule) (xs : List Rule) (mark : Bool) (marks : List Bool) → AreMarks P (x ∷ xs) (mark ∷ marks) → AreMarks P xs marks
 marks-tail P x xs mark marks m = record {
   count = omega (arith, m.count);
-  sound = λ id y. m.sound (suc id) y;
-  whole = λ id y. m.whole (suc id) y;
+  exact = λ id y. m.exact (suc id) y;
 }
 
 pub those-chosen : (P : Rule → Type 0) (xs : List Rule) (marks : List Bool) → AreMarks P xs marks → Those P xs (chosen marks xs)
 those-chosen P [] marks m = no_more
 those-chosen P (x ∷ xs) [] m = absurd (omega (arith, m.count))
-those-chosen P (x ∷ xs) (true ∷ marks) m = this_one (m.sound 0 x refl refl) (those-chosen P xs marks (marks-tail P x xs true marks m))
-those-chosen P (x ∷ xs) (false ∷ marks) m = not_this (λ h. both_ways false refl (m.whole 0 x refl h)) (those-chosen P xs marks (marks-tail P x xs false marks m))
+those-chosen P (x ∷ xs) (true ∷ marks) m = this_one ((m.exact 0 x refl).0 refl) (those-chosen P xs marks (marks-tail P x xs true marks m))
+those-chosen P (x ∷ xs) (false ∷ marks) m = not_this (λ h. both_ways false refl ((m.exact 0 x refl).1 h)) (those-chosen P xs marks (marks-tail P x xs false marks m))

@@ -1,5 +1,5 @@
 -- What is known of a grammar's rules and nodes before it is run.
-use Rattle.std.specs.Prelude.{◌≡◌, ℕ, Bool, List, length, slice_get, Some}
+use Rattle.std.specs.Prelude.{◌≡◌, ◌↔◌, ℕ, Bool, List, length, slice_get, Some}
 use Rattle.pegread.specs.Pattern.{Rule}
 use Rattle.gramcheck.specs.Left.{IsLeftRecursive, Loops}
 use Rattle.leastset.specs.NumberMarks.{IsMarked}
@@ -14,7 +14,6 @@ pub record IsAnalysed (rules : List Rule) (nodes : List Shape) (bodies : List �
   pub recursive_sound : (id : ℕ) (rule : Rule) → slice_get rules id ≡ Some rule → IsMarked recursive id → IsLeftRecursive rules rule
   pub recursive_whole : (id : ℕ) (rule : Rule) → slice_get rules id ≡ Some rule → id_of rules rule.name ≡ id → IsLeftRecursive rules rule → IsMarked recursive id
   pub looping_count : length looping ≡ length rules
-  pub looping_sound : (id : ℕ) (rule : Rule) → slice_get rules id ≡ Some rule → IsMarked looping id → Loops rules rule
-  pub looping_whole : (id : ℕ) (rule : Rule) → slice_get rules id ≡ Some rule → Loops rules rule → IsMarked looping id
+  pub looping_exact : (id : ℕ) (rule : Rule) → slice_get rules id ≡ Some rule → (IsMarked looping id ↔ Loops rules rule)
   -- where no rule is left-recursive, each left step lowers the rank
   pub ranked : ((id : ℕ) → IsMarked recursive id → ⊥) → AreRanks rules nodes bodies ranks

@@ -1,6 +1,7 @@
 -- What there is to say of a grammar, in order.
-use Rattle.std.specs.Prelude.{◌≡◌, ℕ, Bool, true, false, List, [], ◌∷◌, ◌++◌, map, length, slice_get, get_or, Option, Some, None, option_to_list, Contains}
+use Rattle.std.specs.Prelude.{◌≡◌, ◌↔◌, ℕ, Bool, true, false, List, [], ◌∷◌, ◌++◌, map, length, slice_get, Option, Some, None, option_to_list, Contains}
 use Rattle.std.specs.List.{flat_map}
+use Rattle.leastset.specs.NumberMarks.{IsMarked}
 use Rattle.ruletable.specs.Notes.{Said, said}
 use Rattle.ruletable.specs.declared.note.NoteKind.TheVariants.{Redefined, ExtendedEarly, Undefined, Prose, Unused, LeftRecursion, Loop}
 use Rattle.ruletable.specs.declared.note.NoteKind.{NoteKind}
@@ -69,5 +70,4 @@ said_refuses note = kind_refuses note.kind
 -- a mark for each rule, set exactly where P holds of it
 pub record AreMarks (P : Rule → Type 0) (rules : List Rule) (marks : List Bool) : Type 0 where
   pub count : length marks ≡ length rules
-  pub sound : (id : ℕ) (rule : Rule) → slice_get rules id ≡ Some rule → get_or marks id false ≡ true → P rule
-  pub whole : (id : ℕ) (rule : Rule) → slice_get rules id ≡ Some rule → P rule → get_or marks id false ≡ true
+  pub exact : (id : ℕ) (rule : Rule) → slice_get rules id ≡ Some rule → (IsMarked marks id ↔ P rule)

@@ -1,6 +1,6 @@
 -- What a class spells: a set of bytes, as a test of the numbers from 0 to 255.
 use Prim.Native.Char.{code}
-use Rattle.std.specs.Prelude.{◌≡◌, ◌≢◌, ℕ, ◌||◌, ◌&&◌, nat_le, nat_lt, not, cond, Bool, false, List, [], ◌∷◌, ◌++◌}
+use Rattle.std.specs.Prelude.{◌≡◌, ℕ, ◌||◌, ◌&&◌, nat_le, nat_lt, not, cond, Bool, false, List, [], ◌∷◌, ◌++◌}
 use Rattle.lexer.specs.SliceEnds.{Lacks}
 use Rattle.pegread.specs.Chars.{Char}
 use Rattle.pegread.specs.Slices.{Closes}
