@@ -1,12 +1,9 @@
 //! Whole runs of the ABNF tool: lines, their answers, notes, and where a run ends.
-ghost use Rattle.std.specs.Prelude.{◌<◌};
 
-use crate::fakes::{Paper, Tape};
-use abnfrun::{one_reply_of_abnf, one_statement_of_abnf, run_abnf};
-use gramtools::{Alphabet, MAX_LIMIT, Mode, Settings, SourceOf, Status};
-use ruletable::SinkOf;
-use std::alloc::Global;
-use std::cell::Cell;
+use crate::fakes::{Ends, run_over, settings_of};
+use abnfrun::{one_reply_of_abnf, one_statement_of_abnf};
+use commands::Program;
+use gramtools::{Alphabet, Mode, Status};
 use std::process::Abort;
 
 // A grammar, the judged rule, how many bytes a line may have, an input, what is to come on both outputs, the status, and how
@@ -264,62 +261,23 @@ static LETTERS: [LettersRow; 5] = [
     },
 ];
 
-fn settings_of(
-    mode: Mode,
-    limit: usize,
-    start: Option<&'static str>,
-    letters: Alphabet,
-) -> Settings<'static> {
-    Settings {
-        mode,
-        limit: limit.max(1).min(MAX_LIMIT),
-        start,
-        raw: false,
-        letters,
-        viable: false,
-    }
-}
-
-// Returns the status of a run, how many bytes are left on its tape, and both papers.
-pub fn run_over<'a>(
-    alloc: Global,
-    grammar: &[u8],
-    settings: &Settings<'_>,
-    tape: Tape<'_>,
-    out: Paper<'a>,
-    err: Paper<'a>,
-) -> (Status, usize, Paper<'a>, Paper<'a>) {
-    let mut reader = SourceOf::new(tape);
-    let mut out = SinkOf::new(out);
-    let mut err = SinkOf::new(err);
-    let status = run_abnf(alloc, grammar, settings, &mut reader, &mut out, &mut err);
-    let left = reader.into_inner().left();
-    (status, left, out.into_inner(), err.into_inner())
-}
-
 // Checks a row by reads and writes of so many bytes.
-pub fn check_row<R: Abort + AllocGlobal>(rt: &R, row: AbnfRow, step: usize)
-    requires { 0 < step }
-{
-    let (grammar, start, limit, input, text, lines, ends, rest) = row;
-    let settings = settings_of(Mode::Run, limit, start, Alphabet::Bytes);
-    let clock = Cell::new(0);
-    let out = Paper::new(rt.alloc(), step, &clock);
-    let err = Paper::new(rt.alloc(), step, &clock);
-    let tape = Tape::new(input, step, false);
-    let (status, left, out, err) = run_over(rt.alloc(), grammar, &settings, tape, out, err);
-    assert!(rt; out.holds(text), "out by {step}");
-    assert!(rt; err.holds(lines), "err by {step}");
-    assert_eq!(rt; status, ends, "status by {step}");
-    assert_eq!(rt; left, rest, "left by {step}");
+pub fn check_row<R: Abort + AllocGlobal>(rt: &R, row: AbnfRow, step: usize) {
+    let settings = settings_of(Mode::Run, row.2, row.1);
+    let ends = Ends::new(row.3, step);
+    let ran = run_over(rt.alloc(), Program::Abnfi, row.0, &settings, &ends);
+    assert!(rt; ran.is(row.4, row.5, row.6), "{:?} by {step}", row.0);
+    assert!(rt; ran.left == row.7, "{:?} by {step}", row.0);
 }
 
 #[test]
 fn lines_are_answered(rt: HostRuntime) {
     for row in &ANSWERED {
-        for step in [1, 2, 3, 7, 4096] {
-            check_row(&rt, *row, step);
-        }
+        check_row(&rt, *row, 1);
+        check_row(&rt, *row, 2);
+        check_row(&rt, *row, 3);
+        check_row(&rt, *row, 7);
+        check_row(&rt, *row, 4096);
     }
 }
 
@@ -329,16 +287,13 @@ fn check_letters<R: Abort + AllocGlobal>(
     row: &LettersRow,
     letters: Alphabet,
     text: &[u8],
-    ends: Status,
+    status: Status,
 ) {
-    let settings = settings_of(Mode::Run, row.limit, None, letters);
-    let clock = Cell::new(0);
-    let out = Paper::new(rt.alloc(), 7, &clock);
-    let err = Paper::new(rt.alloc(), 7, &clock);
-    let tape = Tape::new(row.input, 7, false);
-    let (status, _left, out, err) = run_over(rt.alloc(), row.grammar, &settings, tape, out, err);
-    assert!(rt; out.holds(text) && err.holds(row.lines));
-    assert_eq!(rt; status, ends);
+    let mut settings = settings_of(Mode::Run, row.limit, None);
+    settings.letters = letters;
+    let ends = Ends::new(row.input, 7);
+    let ran = run_over(rt.alloc(), Program::Abnfi, row.grammar, &settings, &ends);
+    assert!(rt; ran.is(text, row.lines, status), "{:?}", row.grammar);
 }
 
 #[test]
@@ -351,55 +306,48 @@ fn lines_are_judged_by_their_letters(rt: HostRuntime) {
 
 #[test]
 fn a_torn_line_is_not_answered(rt: HostRuntime) {
-    let settings = settings_of(Mode::Run, 65536, None, Alphabet::Bytes);
-    let clock = Cell::new(0);
-    let out = Paper::new(rt.alloc(), 7, &clock);
-    let err = Paper::new(rt.alloc(), 7, &clock);
-    let tape = Tape::new(b"ab\nc", 7, true);
-    let (status, left, out, err) = run_over(rt.alloc(), WORD, &settings, tape, out, err);
-    assert!(rt; out.holds(b"yes\n") && err.holds(b"read error\n"));
-    assert!(rt; status == Status::Fault && left == 0);
+    let settings = settings_of(Mode::Run, 65536, None);
+    let mut ends = Ends::new(b"ab\nc", 7);
+    ends.torn = true;
+    let ran = run_over(rt.alloc(), Program::Abnfi, WORD, &settings, &ends);
+    assert!(rt; ran.is(b"yes\n", b"read error\n", Status::Fault) && ran.left == 0);
 }
 
 #[test]
 fn an_output_that_fails_holds_a_beginning_of_the_answers(rt: HostRuntime) {
-    let settings = settings_of(Mode::Run, 65536, None, Alphabet::Bytes);
-    let clock = Cell::new(0);
-    let out = Paper::new(rt.alloc(), 7, &clock).with_room(3);
-    let err = Paper::new(rt.alloc(), 7, &clock);
-    let tape = Tape::new(b"ab\nA1\n\nZ", 7, false);
-    let (status, _left, out, err) = run_over(rt.alloc(), WORD, &settings, tape, out, err);
-    assert!(rt; out.holds(b"yes") && err.holds(b"write error\n"));
-    assert!(rt; status == Status::Fault);
+    let settings = settings_of(Mode::Run, 65536, None);
+    let mut ends = Ends::new(b"ab\nA1\n\nZ", 7);
+    ends.out.room = 3;
+    let ran = run_over(rt.alloc(), Program::Abnfi, WORD, &settings, &ends);
+    assert!(rt; ran.is(b"yes", b"write error\n", Status::Fault));
 }
+
+// A mode, a grammar, what is to come on both outputs, and the status.
+static UNREAD: [(Mode, &[u8], &[u8], &[u8], Status); 2] = [
+    (
+        Mode::Print,
+        b"k = %s\"Ab\"\n  / \"cd\"\nK =/ 2*3%x78",
+        b"k = %s\"Ab\" / \"cd\" / 2*3%x78\n",
+        b"",
+        Status::Done,
+    ),
+    (
+        Mode::Check,
+        b"a = \"x\"\na = \"y\"",
+        b"",
+        b"rule 'a' redefined\n",
+        Status::Refused,
+    ),
+];
 
 #[test]
 fn an_abnf_grammar_is_printed_or_checked_alone(rt: HostRuntime) {
-    let clock = Cell::new(0);
-    let out = Paper::new(rt.alloc(), 7, &clock);
-    let err = Paper::new(rt.alloc(), 7, &clock);
-    let (status, left, out, err) = run_over(
-        rt.alloc(),
-        b"k = %s\"Ab\"\n  / \"cd\"\nK =/ 2*3%x78",
-        &settings_of(Mode::Print, 65536, None, Alphabet::Bytes),
-        Tape::new(b"x\n", 7, false),
-        out,
-        err,
-    );
-    assert!(rt; out.holds(b"k = %s\"Ab\" / \"cd\" / 2*3%x78\n") && err.holds(b""));
-    assert!(rt; status == Status::Done && left == 2);
-    let out = Paper::new(rt.alloc(), 7, &clock);
-    let err = Paper::new(rt.alloc(), 7, &clock);
-    let (status, left, out, err) = run_over(
-        rt.alloc(),
-        b"a = \"x\"\na = \"y\"",
-        &settings_of(Mode::Check, 65536, None, Alphabet::Bytes),
-        Tape::new(b"x\n", 7, false),
-        out,
-        err,
-    );
-    assert!(rt; out.holds(b"") && err.holds(b"rule 'a' redefined\n"));
-    assert!(rt; status == Status::Refused && left == 2);
+    for row in &UNREAD {
+        let settings = settings_of(row.0, 65536, None);
+        let ends = Ends::new(b"x\n", 7);
+        let ran = run_over(rt.alloc(), Program::Abnfi, row.1, &settings, &ends);
+        assert!(rt; ran.is(row.2, row.3, row.4) && ran.left == 2, "{:?}", row.1);
+    }
 }
 
 #[test]

@@ -1,9 +1,8 @@
 //! Whole runs of the ABNF tool that tell of each line that it refuses how far it begins something that is derived.
 
-use crate::abnf_runs::run_over;
-use crate::fakes::{Paper, Tape};
-use gramtools::{Alphabet, DEFAULT_LIMIT, Mode, Settings, Status};
-use std::cell::Cell;
+use crate::fakes::{Ends, run_over, settings_of};
+use commands::Program;
+use gramtools::{Alphabet, DEFAULT_LIMIT, Mode, Status};
 use std::process::Abort;
 use std::test::Fail;
 
@@ -101,21 +100,16 @@ static VIABLE: [ViableRow; 8] = [
 
 // Checks what a run writes, and its status.
 fn check_viable<R: Abort + AllocGlobal>(rt: &R, row: &ViableRow) {
-    let settings = Settings {
-        mode: Mode::Run,
-        limit: DEFAULT_LIMIT,
-        start: row.start,
-        raw: false,
-        letters: row.letters,
-        viable: true,
-    };
-    let clock = Cell::new(0);
-    let out = Paper::new(rt.alloc(), 7, &clock);
-    let err = Paper::new(rt.alloc(), 7, &clock);
-    let tape = Tape::new(row.input, 7, false);
-    let (status, _left, out, err) = run_over(rt.alloc(), row.grammar, &settings, tape, out, err);
-    assert!(rt; out.holds(row.text) && err.holds(row.lines));
-    assert_eq!(rt; status, row.status);
+    let mut settings = settings_of(Mode::Run, DEFAULT_LIMIT, row.start);
+    settings.letters = row.letters;
+    settings.viable = true;
+    let ends = Ends::new(row.input, 7);
+    let ran = run_over(rt.alloc(), Program::Abnfi, row.grammar, &settings, &ends);
+    assert!(rt;
+        ran.is(row.text, row.lines, row.status),
+        "{:?}",
+        row.grammar
+    );
 }
 
 #[test]
@@ -132,27 +126,11 @@ fn a_long_line_is_refused_at_its_last_letter(rt: HostRuntime) -> Result<(), Fail
         line.push(b'a')?;
     }
     line.push(b'1')?;
-    let settings = Settings {
-        mode: Mode::Run,
-        limit: DEFAULT_LIMIT,
-        start: None,
-        raw: false,
-        letters: Alphabet::Bytes,
-        viable: true,
-    };
-    let clock = Cell::new(0);
-    let out = Paper::new(rt.alloc(), 4096, &clock);
-    let err = Paper::new(rt.alloc(), 4096, &clock);
-    let tape = Tape::new(line.as_slice(), 4096, false);
-    let (status, _left, out, err) = run_over(
-        rt.alloc(),
-        b"word = 1*ALPHA",
-        &settings,
-        tape,
-        out,
-        err,
-    );
-    assert!(rt; out.holds(b"no 9999\n") && err.holds(b""));
-    assert_eq!(rt; status, Status::NoMatch);
+    let mut settings = settings_of(Mode::Run, DEFAULT_LIMIT, None);
+    settings.viable = true;
+    let ends = Ends::new(line.as_slice(), 4096);
+    let grammar = b"word = 1*ALPHA";
+    let ran = run_over(rt.alloc(), Program::Abnfi, grammar, &settings, &ends);
+    assert!(rt; ran.is(b"no 9999\n", b"", Status::NoMatch));
     Ok(())
 }

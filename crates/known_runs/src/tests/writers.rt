@@ -1,10 +1,10 @@
 //! Writers that fail at a byte or in a flush, and notes that stand before a run.
 
-use super::{USERNAME, run_over};
-use crate::fakes::{Paper, Tape};
-use gramtools::{Alphabet, DEFAULT_LIMIT, Mode, Settings, Status};
+use super::USERNAME;
+use crate::fakes::{ALL, Ended, Ends, Takes, run_over, settings_of};
+use commands::Program;
+use gramtools::{DEFAULT_LIMIT, Mode, Status};
 use std::alloc::Global;
-use std::cell::Cell;
 use std::process::Abort;
 
 /// A mode, a grammar, an input, and what is to come on both outputs where neither fails.
@@ -16,25 +16,32 @@ type Written = (
     &'static [u8],
 );
 
-/// Runs a row over two papers, and returns its status, how many bytes of the input are left, and the papers.
-fn run_row<'a>(
-    alloc: Global,
-    row: Written,
-    out: Paper<'a>,
-    err: Paper<'a>,
-) -> (Status, usize, Paper<'a>, Paper<'a>) {
-    let (mode, grammar, input, _, _) = row;
-    let settings = Settings {
-        mode,
-        limit: DEFAULT_LIMIT,
-        start: None,
-        raw: false,
-        letters: Alphabet::Bytes,
-        viable: false,
+/// Runs a row with these outputs.
+fn run_row(alloc: Global, row: &Written, out: Takes, err: Takes) -> Ended {
+    let settings = settings_of(row.0, DEFAULT_LIMIT, None);
+    let ends = Ends {
+        input: row.2,
+        step: 3,
+        torn: false,
+        out,
+        err,
     };
-    let tape = Tape::new(input, 3, false);
-    run_over(alloc, grammar, &settings, tape, out, err)
+    run_over(alloc, Program::Pegi, row.1, &settings, &ends)
 }
+
+/// An output that fails once it holds so many bytes.
+fn with_room(room: usize) -> Takes {
+    Takes {
+        room,
+        flushes: true,
+    }
+}
+
+/// An output that cannot be flushed.
+const UNFLUSHED: Takes = Takes {
+    room: usize::MAX,
+    flushes: false,
+};
 
 const PLAIN: Written = (
     Mode::Run,
@@ -61,101 +68,76 @@ const PRINTED: Written = (
     b"",
 );
 
-/// Checks that the output holds a beginning where it fails at a byte, and that this is told behind the notes.
-fn check_failing_out<R: Abort + AllocGlobal>(rt: &R, row: Written, told: &[u8]) {
-    let (_, _, _, whole, _) = row;
+/// A grammar with the same notes that is refused.
+const REFUSED: Written = (
+    Mode::Run,
+    b"S <- S 'a' {x}\nT <- 'b'\nU <- 'c'",
+    b"aaa",
+    b"",
+    b"",
+);
+
+const AGAIN: Written = (Mode::Print, b"S <- 'a'\nS <- 'b'", b"aaa", b"", b"");
+
+/// Checks that the output holds a beginning where it fails at a byte, that this is told behind the notes, and that an
+/// output that failed is not flushed.
+fn check_failing_out<R: Abort + AllocGlobal>(rt: &R, row: &Written, told: &[u8]) {
+    let whole = row.3;
     for room in 0..whole.len() {
-        let clock = Cell::new(0);
-        let out = Paper::new(rt.alloc(), 2, &clock).with_room(room);
-        let err = Paper::new(rt.alloc(), 5, &clock);
-        let (status, _, out, err) = run_row(rt.alloc(), row, out, err);
-        assert_eq!(rt; status, Status::Fault, "room {room}");
-        assert!(rt; out.holds(&whole[..room]), "room {room}");
-        assert!(rt; err.holds(told), "room {room}");
-        assert_eq!(rt; out.flushed(), 0, "a writer that failed is not flushed");
-        assert_eq!(rt; err.flushed(), 1, "room {room}");
+        let ran = run_row(rt.alloc(), row, with_room(room), ALL);
+        assert!(rt; ran.is(&whole[..room], told, Status::Fault), "room {room}");
+        assert!(rt; ran.flushed == (0, 1), "room {room}");
     }
 }
 
 #[test]
 fn an_output_that_fails_holds_a_beginning(rt: HostRuntime) {
-    check_failing_out(&rt, PLAIN, b"write error\n");
-    check_failing_out(&rt, PRINTED, b"write error\n");
+    check_failing_out(&rt, &PLAIN, b"write error\n");
+    check_failing_out(&rt, &PRINTED, b"write error\n");
     let told = b"rule 'T' defined but not used\nrule 'U' defined but not used\nwrite error\n";
-    check_failing_out(&rt, NOTED, told);
+    check_failing_out(&rt, &NOTED, told);
 }
 
-/// Checks that the error output holds a beginning where it fails within the notes, and that nothing else is written or read.
-fn check_failing_notes<R: Abort + AllocGlobal>(rt: &R, row: Written, notes: &[u8]) {
-    let (_, _, input, _, _) = row;
+/// Checks that the error output holds a beginning where it fails within the notes, that nothing else is written or read,
+/// and that it is not flushed.
+fn check_failing_notes<R: Abort + AllocGlobal>(rt: &R, row: &Written, notes: &[u8]) {
     for room in 0..notes.len() {
-        let clock = Cell::new(0);
-        let out = Paper::new(rt.alloc(), 2, &clock);
-        let err = Paper::new(rt.alloc(), 7, &clock).with_room(room);
-        let (status, left, out, err) = run_row(rt.alloc(), row, out, err);
-        assert_eq!(rt; status, Status::Fault, "room {room}");
-        assert_eq!(rt; left, input.len(), "nothing is read, room {room}");
-        assert!(rt; out.holds(b""), "room {room}");
-        assert!(rt; err.holds(&notes[..room]), "room {room}");
-        assert_eq!(rt; out.flushed(), 1, "room {room}");
-        assert_eq!(rt; err.flushed(), 0, "a writer that failed is not flushed");
+        let ran = run_row(rt.alloc(), row, ALL, with_room(room));
+        assert!(rt; ran.is(b"", &notes[..room], Status::Fault), "room {room}");
+        assert!(rt;
+            ran.left == row.2.len() && ran.flushed == (1, 0),
+            "room {room}"
+        );
     }
 }
 
 #[test]
 fn an_error_output_that_fails_within_the_notes_ends_the_run(rt: HostRuntime) {
     let notes = b"rule 'T' defined but not used\nrule 'U' defined but not used\n";
-    check_failing_notes(&rt, NOTED, notes);
-    let refused: Written = (
-        Mode::Run,
-        b"S <- S 'a' {x}\nT <- 'b'\nU <- 'c'",
-        b"aaa",
-        b"",
-        b"",
-    );
-    check_failing_notes(&rt, refused, notes);
-    let again: Written = (Mode::Print, b"S <- 'a'\nS <- 'b'", b"aaa", b"", b"");
-    check_failing_notes(&rt, again, b"rule 'S' redefined\n");
+    check_failing_notes(&rt, &NOTED, notes);
+    check_failing_notes(&rt, &REFUSED, notes);
+    check_failing_notes(&rt, &AGAIN, b"rule 'S' redefined\n");
 }
 
 /// Checks a run whose writers take all: each is flushed once, the output first.
-fn check_flushes<R: Abort + AllocGlobal>(rt: &R, row: Written, ends: Status) {
-    let (_, _, _, text, lines) = row;
-    let clock = Cell::new(0);
-    let out = Paper::new(rt.alloc(), 2, &clock);
-    let err = Paper::new(rt.alloc(), 5, &clock);
-    let (status, _, out, err) = run_row(rt.alloc(), row, out, err);
-    assert_eq!(rt; status, ends);
-    assert!(rt; out.holds(text));
-    assert!(rt; err.holds(lines));
-    assert_eq!(rt; out.flushed(), 1, "the output first");
-    assert_eq!(rt; err.flushed(), 2);
+fn check_flushes<R: Abort + AllocGlobal>(rt: &R, row: &Written, ends: Status) {
+    let ran = run_row(rt.alloc(), row, ALL, ALL);
+    assert!(rt; ran.is(row.3, row.4, ends) && ran.flushed == (1, 2));
 }
 
 /// Checks the run where the output fails in its flush, which is told, and where the error output does.
-fn check_failing_flushes<R: Abort + AllocGlobal>(rt: &R, row: Written, told: &[u8]) {
-    let (_, _, _, text, lines) = row;
-    let clock = Cell::new(0);
-    let out = Paper::new(rt.alloc(), 2, &clock).without_flush();
-    let err = Paper::new(rt.alloc(), 5, &clock);
-    let (status, _, out, err) = run_row(rt.alloc(), row, out, err);
-    assert_eq!(rt; status, Status::Fault);
-    assert!(rt; out.holds(text));
-    assert!(rt; err.holds(told));
-    let clock = Cell::new(0);
-    let out = Paper::new(rt.alloc(), 2, &clock);
-    let err = Paper::new(rt.alloc(), 5, &clock).without_flush();
-    let (status, _, out, err) = run_row(rt.alloc(), row, out, err);
-    assert_eq!(rt; status, Status::Fault);
-    assert!(rt; out.holds(text));
-    assert!(rt; err.holds(lines));
+fn check_failing_flushes<R: Abort + AllocGlobal>(rt: &R, row: &Written, told: &[u8]) {
+    let ran = run_row(rt.alloc(), row, UNFLUSHED, ALL);
+    assert!(rt; ran.is(row.3, told, Status::Fault));
+    let ran = run_row(rt.alloc(), row, ALL, UNFLUSHED);
+    assert!(rt; ran.is(row.3, row.4, Status::Fault));
 }
 
 #[test]
 fn both_outputs_are_flushed_once(rt: HostRuntime) {
-    check_flushes(&rt, PLAIN, Status::Done);
-    check_flushes(&rt, PRINTED, Status::Done);
-    check_flushes(&rt, NOTED, Status::NoMatch);
-    check_failing_flushes(&rt, PLAIN, b"write error\n");
-    check_failing_flushes(&rt, PRINTED, b"write error\n");
+    check_flushes(&rt, &PLAIN, Status::Done);
+    check_flushes(&rt, &PRINTED, Status::Done);
+    check_flushes(&rt, &NOTED, Status::NoMatch);
+    check_failing_flushes(&rt, &PLAIN, b"write error\n");
+    check_failing_flushes(&rt, &PRINTED, b"write error\n");
 }
