@@ -1,6 +1,6 @@
 -- Marks of texts, values and repetitions.
 -- Serves: lower, lower_viable.
-use Rattle.std.proofs.Common.{◌≡◌, ℕ, ◌<◌, Bool, true, false, List, Option, Some, [], ◌∷◌, length, refl, ap, arith}
+use Rattle.std.proofs.Common.{◌≡◌, ◌↔◌, ℕ, ◌<◌, Bool, true, List, Option, Some, [], ◌∷◌, length, refl, ap, arith}
 use Rattle.abnfread.specs.Element as e
 use Rattle.abnfread.specs.Element.{Element, Rule}
 use Rattle.abnfcheck.specs.Derivable.{Within}
@@ -25,11 +25,11 @@ rep_operand rules a b el c lt within t = record {
   no = λ m. rep_never rules a b el lt (t.no m);
 }
 
-pub text_marked : (rules : List Rule) (folds : Bool) (t : List ℕ) (mark : Bool) → (mark ≡ true → length t ≡ 0) → (mark ≡ false → 0 < length t) → Tells rules mark (e.Text folds t)
-text_marked rules folds t mark is isnt = text_tells rules folds t mark (λ m. none t (is m)) (λ m e. let zero_is : length t ≡ 0 = ap length e in let some = isnt m in absurd (omega (arith, zero_is, some)))
+pub text_marked : (rules : List Rule) (folds : Bool) (t : List ℕ) (mark : Bool) → (mark ≡ true) ↔ (length t ≡ 0) → Tells rules mark (e.Text folds t)
+text_marked rules folds t mark is = text_tells rules folds t mark (λ m. none t (is.0 m)) (λ m e. absurd (cc (is.1 (ap length e), m)))
 
-pub values_marked : (rules : List Rule) (vs : List ℕ) (mark : Bool) → (mark ≡ true → length vs ≡ 0) → (mark ≡ false → 0 < length vs) → Tells rules mark (e.Values vs)
-values_marked rules vs mark is isnt = values_tell rules vs mark (λ m. none vs (is m)) (λ m e. let zero_is : length vs ≡ 0 = ap length e in let some = isnt m in absurd (omega (arith, zero_is, some)))
+pub values_marked : (rules : List Rule) (vs : List ℕ) (mark : Bool) → (mark ≡ true) ↔ (length vs ≡ 0) → Tells rules mark (e.Values vs)
+values_marked rules vs mark is = values_tell rules vs mark (λ m. none vs (is.0 m)) (λ m e. absurd (cc (is.1 (ap length e), m)))
 
 -- what no number of turns meets
 pub reversed : (rules : List Rule) (limit : ℕ) (nodes : List Node) (least : ℕ) (most : Option ℕ) (el : Element) → (b : ℕ) × (most ≡ Some b) × (b < least) → Shows rules limit nodes Nothing (e.Rep least most el)

@@ -203,37 +203,6 @@ pub passes_down : (flat : code_flat.Tables) (h n k : ℕ) (items new : List Spot
 passes_down flat h n zero items new lt is made = absurd (omega (arith, lt))
 passes_down flat h n (suc k) items new lt is made = rw (down k) (rw (down k) at (made (passes_to flat h k)) ∙ is)
 
--- what a spot's call adds
-pub call_added : (o : Option (ℕ × ℕ)) (t l : ℕ) (items rest : List ℕ) → o ≡ Some (t, l) → (items ++ t ∷ []) ++ rest ≡ items ++ call_first o rest
-call_added o t l items rest is = rw is (append_assoc items (t ∷ []) rest)
-
-pub no_call_added : (o : Option (ℕ × ℕ)) (items rest : List ℕ) → o ≡ None → items ++ rest ≡ items ++ call_first o rest
-no_call_added o items rest is = rw is refl
-
-pub pass_added : (flat : code_flat.Tables) (h n : ℕ) (o : Option (ℕ × ℕ)) (t l : ℕ) (items rest : List Spot) → o ≡ Some (t, l) → takes_of flat (item_at 0 (spot h n)) ≡ false → null_of flat t ≡ true → (l ≡ n → ⊥) →
-    (items ++ spot h l ∷ []) ++ rest ≡ items ++ pass_first flat h n o rest
-pass_added flat h n o t l items rest is free null moves = rw is (by (takes_of flat (item_at 0 (spot h n))) (null_of flat t) (eqb l n) refl free null)
-  where
-    by : (a b c : Bool) → c ≡ eqb l n → a ≡ false → b ≡ true →
-        (items ++ spot h l ∷ []) ++ rest ≡ items ++ (if a then rest else (if b then (if c then rest else spot h l ∷ rest) else rest))
-    by true b c same plain marked = absurd (cc plain)
-    by false true true same plain marked = absurd (moves (eqb-true l n (sym same)))
-    by false true false same plain marked = append_assoc items (spot h l ∷ []) rest
-    by false false c same plain marked = absurd (cc marked)
-
-pub no_pass_added : (flat : code_flat.Tables) (h n : ℕ) (o : Option (ℕ × ℕ)) (items rest : List Spot) →
-    ((t l : ℕ) → o ≡ Some (t, l) → (takes_of flat (item_at 0 (spot h n)) ≡ true) ⊎ ((null_of flat t ≡ false) ⊎ (l ≡ n))) → items ++ rest ≡ items ++ pass_first flat h n o rest
-no_pass_added flat h n None items rest none = refl
-no_pass_added flat h n (Some (t, l)) items rest none = ⊎_elim (λ taking. rw taking refl)
-    (λ other. by (takes_of flat (item_at 0 (spot h n))) (null_of flat t) (eqb l n) (⊎_elim (λ unmarked. inl unmarked) (λ same. inr (eq-eqb l n same)) other)) (none t l refl)
-  where
-    by : (a b c : Bool) → (b ≡ false) ⊎ (c ≡ true) → items ++ rest ≡ items ++ (if a then rest else (if b then (if c then rest else spot h l ∷ rest) else rest))
-    by true b c other = refl
-    by false true true other = refl
-    by false true false (inl unmarked) = absurd (cc unmarked)
-    by false true false (inr same) = absurd (cc same)
-    by false false c other = refl
-
 get_left : {A : Type 0} (xs ys : List A) (k : ℕ) → k < length xs → slice_get (xs ++ ys) k ≡ slice_get xs k
 get_left [] ys k lt = absurd (omega (arith, lt))
 get_left (x ∷ xs) ys zero lt = refl

@@ -15,8 +15,8 @@ abbrev pub capped_most : ℕ → Option ℕ → Option ℕ
 capped_most limit None = None
 capped_most limit (Some most) = Some (capped limit most)
 
--- On lines within the limit numbers above it make no difference. Where the operand of a repetition derives the empty list, each number of turns
--- from the bounds on is reached by turns that take a letter and others that do not, and the former alone are counted.
+-- On lines within the limit, numbers above it make no difference. Where the operand of a repetition derives the empty list,
+-- only turns that take a letter are counted: the others are there without a letter, as many as are asked for.
 module _ (rules : List Rule) (limit : ℕ) (nodes : List Node) where
   mutual
     -- node s spells an element

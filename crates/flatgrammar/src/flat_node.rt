@@ -105,8 +105,8 @@ pub(crate) fn is_done(node: &Node, step: usize) -> bool
     }
 }
 
-// The operand and the step after a turn, where a step of a repetition goes on to one. Without a bound the turns behind the last that is asked for are
-// not counted.
+// The operand and the step after a turn, if there is a turn at that step. Without a greatest number the turns behind the
+// least are not counted.
 fn turn(least: u32, most: Option<u32>, operand: usize, step: usize) -> Option<(usize, usize)>
     ensures rep { result ≡ callee (Rep least most operand) step }
     ensures turns { least ≡ 0 → result ≡ callee (Turns most operand) step }

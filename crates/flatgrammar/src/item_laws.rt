@@ -7,7 +7,8 @@ ghost use Rattle.flatgrammar.specs.Holds.{Holds};
 ghost use Rattle.flatgrammar.specs.Lowered.{IsLowered};
 ghost use Rattle.flatgrammar.specs.Places.{In, AreDifferent, places};
 
-/// Set n of the items of n letters, of a line within the limit, holds the whole's end exactly where the judged rule derives them.
+/// Set n of the items of n letters, where n is within the limit, holds the whole's end exactly where the judged rule derives
+/// them.
 pub fn items_tell()
     ensures { (has : ℕ → Bool) (rules : List Rule) (judged : ℕ) (flat : Flat) (x : List ℕ) →
         IsLowered rules judged flat →

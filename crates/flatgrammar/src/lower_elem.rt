@@ -1,5 +1,5 @@
 //! Cuts the bodies of a grammar's rules into numbered nodes.
-ghost use Rattle.std.specs.Prelude.{◌≡◌, ◌<◌, ◌≤◌, ◌+◌, ◌&&◌, ◌||◌, ℕ, List, ◌++◌, ◌∷◌, [], length, map, get_or, Bool, Some, IfOk};
+ghost use Rattle.std.specs.Prelude.{◌≡◌, ◌<◌, ◌≤◌, ◌+◌, ◌↔◌, ℕ, List, ◌++◌, ◌∷◌, [], length, map, get_or, Bool, Some, IfOk, IsTrue};
 ghost use Rattle.abnfcheck.specs.Derivable.{Within};
 ghost use Rattle.abnfread.specs.Element as e;
 ghost use Rattle.abnfread.specs.Element.{Element, Rule, id_of};
@@ -93,7 +93,7 @@ struct Members {
     any: bool,
 }
 
-// A number, or one more than the limit where that is less.
+// A number, or one more than the limit where that is less. A line within the limit has fewer turns that take a letter.
 fn capped(limit: usize, n: u32) -> u32
     ensures { result ≡ capped limit n }
 {
@@ -124,10 +124,11 @@ fn is_reversed(least: u32, most: Option<u32>) -> bool
     }
 }
 
-// The node of a repetition, for lines within the limit. Where the operand derives the empty list, the turns that are asked for are there without a letter.
+// The node of a repetition, for lines within the limit. Where the operand derives the empty list, only turns that take a
+// letter are counted, from none on: the others are there without a letter.
 fn repeat(limit: usize, least: u32, most: Option<u32>, made: Made) -> Node
-    ensures shows { (rules : List Rule) (nodes : List flat.Node) (el : Element) → Tells rules made.empty el → Spells rules limit nodes made.number el →
-        Shows rules limit nodes (node_of result) (e.Rep least most el) }
+    ensures shows { (rules : List Rule) (nodes : List flat.Node) (el : Element) →
+        Tells rules made.empty el → Spells rules limit nodes made.number el → Shows rules limit nodes (node_of result) (e.Rep least most el) }
     ensures width { width (node_of result) ≤ capped limit (top least most) + 1 }
 {
     if is_reversed(least, most) {
@@ -158,32 +159,16 @@ fn is_empty_repeat(least: u32, most: Option<u32>, empty: bool) -> bool
 
 // Whether there is no byte.
 fn no_bytes(bytes: &[u8]) -> bool
-    ensures yes { result ≡ Bool.true → length bytes.now ≡ 0 }
-    ensures no { result ≡ Bool.false → 0 < length bytes.now }
+    ensures { IsTrue result ↔ (length bytes.now ≡ 0) }
 {
     bytes.is_empty()
 }
 
 // Whether there is no value.
 fn no_values(values: &[u32]) -> bool
-    ensures yes { result ≡ Bool.true → length values.now ≡ 0 }
-    ensures no { result ≡ Bool.false → 0 < length values.now }
+    ensures { IsTrue result ↔ (length values.now ≡ 0) }
 {
     values.is_empty()
-}
-
-// Whether both are true.
-fn both(a: bool, b: bool) -> bool
-    ensures { result ≡ (a && b) }
-{
-    a && b
-}
-
-// Whether one is true.
-fn either(a: bool, b: bool) -> bool
-    ensures { result ≡ (a || b) }
-{
-    a || b
 }
 
 // Whether the rule of that id derives the empty list, by its mark.
@@ -196,7 +181,8 @@ fn mark(marks: &[bool], id: usize) -> bool
     }
 }
 
-/// Adds the nodes of an element, its operands first, and gives the number of its own, and whether the element derives the empty list.
+/// Adds the nodes of an element, its operands first, and gives the number of its own, and whether the element derives the
+/// empty list.
 #[cycle(numbering)]
 pub(crate) fn number(
     alloc: Global,
@@ -208,7 +194,8 @@ pub(crate) fn number(
 ) -> Result<Made, Memory>
     requires folds { rules.now.names ≡ NameCase.Fold }
     requires marks { NamesTell (rules_of rules.now) marks.now }
-    ensures { IfOk result (λ made. Numbers (rules_of rules.now) limit (nodes_of nodes.old.items) (nodes_of nodes.new.items) made.number made.empty (element_of e.now)) }
+    ensures { IfOk result (λ made. Numbers (rules_of rules.now) limit (nodes_of nodes.old.items) (nodes_of nodes.new.items)
+        made.number made.empty (element_of e.now)) }
 {
     let (node, empty) = match e {
         Elem::Text { folds, text } => (
@@ -262,7 +249,8 @@ fn number_all(
 ) -> Result<Members, Memory>
     requires folds { rules.now.names ≡ NameCase.Fold }
     requires marks { NamesTell (rules_of rules.now) marks.now }
-    ensures { IfOk result (λ made. NumbersAll (rules_of rules.now) limit (nodes_of nodes.old.items) (nodes_of nodes.new.items) made.numbers.items made.all made.any (elements_of members.now)) }
+    ensures { IfOk result (λ made. NumbersAll (rules_of rules.now) limit (nodes_of nodes.old.items) (nodes_of nodes.new.items)
+        made.numbers.items made.all made.any (elements_of members.now)) }
 {
     let mut numbers = Vec::new(alloc);
     let mut all = true;
@@ -270,8 +258,8 @@ fn number_all(
     for member in members {
         let made = number(alloc, rules, marks, limit, member, nodes)?;
         numbers.push(made.number)?;
-        all = both(all, made.empty);
-        any = either(any, made.empty);
+        all &= made.empty;
+        any |= made.empty;
     }
     Ok(Members { numbers, all, any })
 }

@@ -37,8 +37,8 @@ fn null_marks(alloc: Global, grammar: &SoundAbnf) -> Result<Vec<bool>, Memory>
     Ok(marks)
 }
 
-/// Lowers rules to numbered nodes, for lines of at most `limit` letters. The grammar's judged rule is judged, and the same of its rules as of these derive
-/// the empty list. `Memory` if an allocation fails.
+/// Lowers rules to numbered nodes, for lines of at most `limit` letters. There must be as many as the grammar has, and the
+/// same must derive the empty list. The rule that the grammar judges is judged. `Memory` if an allocation fails.
 pub fn lower_rules(
     alloc: Global,
     grammar: &SoundAbnf,
@@ -70,6 +70,7 @@ pub fn lower(alloc: Global, grammar: &SoundAbnf, limit: usize) -> Result<Flat, M
         Holds flat x (length x) (Place.at flat.whole 1) 0 ↔ RuleDerives has (rules_of grammar.now.rules) grammar.now.judged x) }
     ensures places { IfOk result (λ flat. places flat.nodes ≤ sizes limit (bodies (rules_of grammar.now.rules)) + 2) }
 {
+    // The contract of `judged` says that names compare without case.
     let _judged = grammar.judged();
     let flat = lower_rules(alloc, grammar, grammar.rules(), limit)?;
     Ok(flat)

@@ -63,7 +63,7 @@ fn own_calls(alloc: Global, flat: &Tables, node: usize, count: usize) -> Result<
     Ok(calls)
 }
 
-// Adds the spot behind a call of a nullable root, unless it is the spot that calls, or what is called has to take a letter.
+// Adds the spot behind a call of a nullable root, unless that spot calls, or what is called has to take a letter.
 fn add_pass(flat: &Tables, node: usize, step: usize, passes: &mut Vec<Spot>) -> Result<(), Memory>
     ensures { IfOk result (λ _. (rest : List spots.Spot) → passes.new.items ++ rest ≡ passes.old.items ++ pass_first flat.now node step (call_at flat.now (spot node step)) rest) }
 {

@@ -29,6 +29,7 @@ pub fn lower_viable(
     ensures tells { IfOk result (λ flat. TellsBeginnings (has alphabet) (rules_of grammar.now.rules) grammar.now.judged flat) }
     ensures places { IfOk result (λ flat. places flat.nodes ≤ sizes limit (bodies (rules_of grammar.now.rules)) + 2) }
 {
+    // The contract of `judged` says that names compare without case.
     let _judged = grammar.judged();
     let marks = productive(alloc, grammar, alphabet)?;
     let pruned = prune_rules(alloc, alphabet, grammar.rules(), &marks)?;

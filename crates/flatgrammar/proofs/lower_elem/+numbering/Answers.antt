@@ -11,8 +11,8 @@ use Rattle.flatgrammar.proofs.lower_elem.+numbering.Goals.{number-in-Text+in_ok-
 
 pub number-returns : goal.number-returns
 number-returns t c = elim c.match-e.branch [
-  | number-in-Text+in_ok-text_sets-in-Text w ↦ rw (w.in-Text.is, w.node-is, element-Text) (o.leaf _ _ _ _ _ _ _ _ (rw (w.nodes-is, w.node-is) at c.in_ok-n.ensures.nodes) (rw w.nodes-is at c.in_ok-n.ensures.number) (o.as_many _ _ _ (rw w.deref.ensures.value at w.in_ok-text_sets-in-Text.ensures)) (shows_text (rw w.deref.ensures.value at w.in_ok-text_sets-in-Text.ensures)) (r.text_marked _ _ _ _ (rw w.deref-in-Text.ensures.value at w.no_bytes.ensures.yes) (rw w.deref-in-Text.ensures.value at w.no_bytes.ensures.no)))
-  | number-in-Values+in_ok-value_sets-in-Values w ↦ rw (w.in-Values.is, w.node-is, element-Values) (o.leaf _ _ _ _ _ _ _ _ (rw (w.nodes-is, w.node-is) at c.in_ok-n.ensures.nodes) (rw w.nodes-is at c.in_ok-n.ensures.number) (o.as_many _ _ _ (rw w.deref-in-Values.ensures.value at w.in_ok-value_sets-in-Values.ensures)) (shows_values (rw w.deref-in-Values.ensures.value at w.in_ok-value_sets-in-Values.ensures)) (r.values_marked _ _ _ (rw w.deref-in-Values-2.ensures.value at w.no_values.ensures.yes) (rw w.deref-in-Values-2.ensures.value at w.no_values.ensures.no)))
+  | number-in-Text+in_ok-text_sets-in-Text w ↦ rw (w.in-Text.is, w.node-is, element-Text) (o.leaf _ _ _ _ _ _ _ _ (rw (w.nodes-is, w.node-is) at c.in_ok-n.ensures.nodes) (rw w.nodes-is at c.in_ok-n.ensures.number) (o.as_many _ _ _ (rw w.deref.ensures.value at w.in_ok-text_sets-in-Text.ensures)) (shows_text (rw w.deref.ensures.value at w.in_ok-text_sets-in-Text.ensures)) (r.text_marked _ _ _ _ (rw w.deref-in-Text.ensures.value at w.no_bytes.ensures)))
+  | number-in-Values+in_ok-value_sets-in-Values w ↦ rw (w.in-Values.is, w.node-is, element-Values) (o.leaf _ _ _ _ _ _ _ _ (rw (w.nodes-is, w.node-is) at c.in_ok-n.ensures.nodes) (rw w.nodes-is at c.in_ok-n.ensures.number) (o.as_many _ _ _ (rw w.deref-in-Values.ensures.value at w.in_ok-value_sets-in-Values.ensures)) (shows_values (rw w.deref-in-Values.ensures.value at w.in_ok-value_sets-in-Values.ensures)) (r.values_marked _ _ _ (rw w.deref-in-Values-2.ensures.value at w.no_values.ensures)))
   | number-in-Range+in_ok-range_set-in-Range w ↦ rw (w.in-Range.is, w.node-is, element-Range) (o.leaf _ _ _ _ _ _ _ _ (rw (w.nodes-is, w.node-is) at c.in_ok-n.ensures.nodes) (rw w.nodes-is at c.in_ok-n.ensures.number) (rw (w.in_ok-range_set-in-Range.ensures) refl) (rw (w.in_ok-range_set-in-Range.ensures) shows_range) (m.range_tells _ _ _))
   | number-in-Concat+in_ok-made-in-Concat w ↦ rw (w.in-Concat.is, w.node-is, element-Concat) (o.over_all _ _ _ _ _ _ _ _ (rw (w.nodes-is, w.node-is) at c.in_ok-n.ensures.nodes) (rw w.nodes-is at c.in_ok-n.ensures.number) _ _ _ _ _ (rw w.deref-in-Concat.ensures.value at w.in_ok-made-in-Concat.ensures) (λ many. omega (arith, many)) shows_concat (λ all some. m.concat_tells _ _ _ all))
   | number-in-Alt+in_ok-made-in-Alt w ↦ rw (w.in-Alt.is, w.node-is, element-Alt) (o.over_all _ _ _ _ _ _ _ _ (rw (w.nodes-is, w.node-is) at c.in_ok-n.ensures.nodes) (rw w.nodes-is at c.in_ok-n.ensures.number) _ _ _ _ _ (rw w.deref-in-Alt.ensures.value at w.in_ok-made-in-Alt.ensures) (λ many. omega (arith, many)) shows_alt (λ all some. m.alt_tells _ _ _ some))
@@ -26,4 +26,4 @@ pub number_all-loop-member-init : goal.number_all-loop-member-init
 number_all-loop-member-init t c = o.no_members _ _ _ _ c.new-numbers.ensures.items
 
 pub number_all-loop-member-preserved : goal.number_all-loop-member-preserved
-number_all-loop-member-preserved t c = rw (c.in_ok-push.ensures.items, c.both-all.ensures, c.either-any.ensures) (o.next_member _ _ _ _ _ _ _ _ _ _ _ _ _ c.loop-member-test.true c.member-item.is c.loop-member.invariant c.in_ok-made.ensures)
+number_all-loop-member-preserved t c = rw (c.in_ok-push.ensures.items) (o.next_member _ _ _ _ _ _ _ _ _ _ _ _ _ c.loop-member-test.true c.member-item.is c.loop-member.invariant c.in_ok-made.ensures)
