@@ -95,20 +95,25 @@ static ROWS: [Row; 24] = [
     ),
 ];
 
+// Whether the judged rule has this name, if a grammar is sound, or there is none of either.
+fn is_judged(sound: &Option<SoundAbnf>, name: Option<&[u8]>) -> bool {
+    match sound {
+        Some(grammar) => Some(grammar.rules().name(grammar.judged())) == name,
+        None => name.is_none(),
+    }
+}
+
 #[test]
 fn notes_in_order(rt: HostRuntime) -> Result<(), Fail> {
-    for (text, rule, want, judged) in &ROWS {
-        let checked = check_abnf(rt.alloc(), read_abnf(rt.alloc(), text)?, *rule)?;
+    for row in &ROWS {
+        let checked = check_abnf(rt.alloc(), read_abnf(rt.alloc(), row.0)?, row.1)?;
         let notes = text_of(rt.alloc(), &checked.notes)?;
-        assert!(rt; notes.as_slice() == *want, "the notes on {text:?}");
+        assert!(rt; notes.as_slice() == row.2, "the notes on {:?}", row.0);
         assert!(rt;
-            checked.sound.is_some() == judged.is_some(),
-            "whether {text:?} is sound"
+            is_judged(&checked.sound, row.3),
+            "the judged rule of {:?}",
+            row.0
         );
-        if let Some(sound) = &checked.sound {
-            let name = sound.rules().name(sound.judged());
-            assert!(rt; *judged == Some(name), "the judged rule of {text:?}");
-        }
     }
     Ok(())
 }
@@ -141,16 +146,16 @@ static NULLABLE: [(&[u8], bool); 18] = [
     (b"s = WSP / %x5-1", false),
 ];
 
+// Whether the first rule of a text derives the empty string.
+fn is_nullable(alloc: Global, text: &[u8]) -> Result<bool, Fail> {
+    let sound = sound_of(alloc, text)?;
+    Ok(!sound.rules().is_empty() && sound.nullable(0))
+}
+
 #[test]
 fn empty_strings(rt: HostRuntime) -> Result<(), Fail> {
-    for (text, null) in &NULLABLE {
-        let sound = sound_of(rt.alloc(), text)?;
-        if sound.rules().len() > 0 {
-            assert!(rt;
-                sound.nullable(0) == *null,
-                "whether {text:?} derives the empty string"
-            );
-        }
+    for row in &NULLABLE {
+        assert!(rt; is_nullable(rt.alloc(), row.0)? == row.1, "{:?}", row.0);
     }
     Ok(())
 }
@@ -175,17 +180,19 @@ static PRODUCTIVE: [(&[u8], bool, bool); 16] = [
     (b"s = t u\nt = ALPHA\nu = u \"a\" / t", true, true),
 ];
 
+// Whether the first rule of a text derives some list of the letters, with a mark for each rule.
+fn is_productive(alloc: Global, text: &[u8], letters: Alphabet) -> Result<bool, Fail> {
+    let sound = sound_of(alloc, text)?;
+    let marks = productive(alloc, &sound, letters)?;
+    Ok(marks.len() == sound.rules().len() && marks.first() == Some(&true))
+}
+
 #[test]
 fn some_lists(rt: HostRuntime) -> Result<(), Fail> {
-    for (text, by_bytes, by_points) in &PRODUCTIVE {
-        let sound = sound_of(rt.alloc(), text)?;
-        let bytes = productive(rt.alloc(), &sound, Alphabet::Bytes)?;
-        let points = productive(rt.alloc(), &sound, Alphabet::Utf8)?;
-        assert_eq!(rt; bytes.len(), sound.rules().len());
-        assert!(rt;
-            bytes.first() == Some(by_bytes) && points.first() == Some(by_points),
-            "whether {text:?} derives something"
-        );
+    for row in &PRODUCTIVE {
+        let by_bytes = is_productive(rt.alloc(), row.0, Alphabet::Bytes)?;
+        let by_points = is_productive(rt.alloc(), row.0, Alphabet::Utf8)?;
+        assert!(rt; by_bytes == row.1 && by_points == row.2, "{:?}", row.0);
     }
     Ok(())
 }

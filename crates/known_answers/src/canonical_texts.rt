@@ -12,6 +12,13 @@ fn printed(alloc: Global, text: &[u8]) -> Result<Vec<u8>, Fail> {
     Ok(sink.into_inner())
 }
 
+// Whether a text is printed so, and what is printed is printed so again.
+fn is_printed(alloc: Global, text: &[u8], want: &[u8]) -> Result<bool, Fail> {
+    let once = printed(alloc, text)?;
+    let again = printed(alloc, &once)?;
+    Ok(once.as_slice() == want && again.as_slice() == want)
+}
+
 // A text, and how it is printed.
 static ROWS: [(&[u8], &[u8]); 54] = [
     // each form
@@ -82,11 +89,9 @@ static ROWS: [(&[u8], &[u8]); 54] = [
 
 #[test]
 fn prints_canonical_texts(rt: HostRuntime) -> Result<(), Fail> {
-    for (text, want) in &ROWS {
-        let once = printed(rt.alloc(), text)?;
-        assert!(rt; once.as_slice() == *want, "{text:?}");
-        let again = printed(rt.alloc(), &once)?;
-        assert!(rt; again.as_slice() == *want, "{text:?} printed again");
+    for row in &ROWS {
+        let is_so = is_printed(rt.alloc(), row.0, row.1)?;
+        assert!(rt; is_so, "{:?}", row.0);
     }
     is_read_back();
     Ok(())

@@ -12,6 +12,14 @@ fn put_new(cells: &mut Cells, node: usize, place: usize) -> Result<(), Fail> {
     Ok(())
 }
 
+// Whether the cell of a node and a place is there, if it was put, and else is not.
+fn is_kept(cells: &Cells, node: usize, place: usize) -> bool {
+    match cells.get(node, place) {
+        Some(found) => node % 3 == place % 3 && found == Found::Took(node),
+        None => node % 3 != place % 3,
+    }
+}
+
 // Puts a cell for each third node at each of the places, and looks all up.
 fn filled(rt: &impl Abort, cells: &mut Cells, places: usize, nodes: usize) -> Result<(), Fail> {
     cells.reset(nodes);
@@ -24,15 +32,10 @@ fn filled(rt: &impl Abort, cells: &mut Cells, places: usize, nodes: usize) -> Re
             }
         }
     }
-    assert_eq!(rt; cells.len(), count);
+    assert!(rt; cells.len() == count);
     for place in 0..places {
         for node in 0..nodes {
-            let wanted = if node % 3 == place % 3 {
-                Some(Found::Took(node))
-            } else {
-                None
-            };
-            assert!(rt; cells.get(node, place) == wanted);
+            assert!(rt; is_kept(cells, node, place));
         }
     }
     Ok(())
@@ -69,7 +72,7 @@ fn got_or_put(rt: HostRuntime) -> Result<(), Fail> {
     assert!(rt; again == Found::Took(9));
     let other = cells.get_or_put(1, 5, Found::Failed)?;
     assert!(rt; other == Found::Failed);
-    assert_eq!(rt; cells.len(), 2);
+    assert!(rt; cells.len() == 2);
     Ok(())
 }
 
@@ -85,6 +88,6 @@ fn far_apart(rt: HostRuntime) -> Result<(), Fail> {
         assert!(rt; cells.get(step * 11, step * 1000) == Some(Found::Took(step * 11)));
         assert!(rt; cells.get(step * 11, step * 1000 + 1) == None);
     }
-    assert_eq!(rt; cells.len(), 700);
+    assert!(rt; cells.len() == 700);
     Ok(())
 }

@@ -46,18 +46,28 @@ static BROKEN: &[(&[u8], usize)] = &[
     (b"\xE2\x82\xAC\xFF", 3),
 ];
 
+// Whether these are the code points of these numbers.
+fn are_points(points: &[CodePoint], numbers: &[u32]) -> bool {
+    for (i, number) in numbers.iter().enumerate() {
+        match points.get(i) {
+            Some(point) if point.value() == *number => {}
+            _ => return false,
+        }
+    }
+    points.len() == numbers.len()
+}
+
 #[test]
 fn lines_have_the_code_points_of_utf8(rt: HostRuntime) -> Result<(), Fail> {
     let mut points = Vec::new(rt.alloc());
-    for &(line, wanted) in TEXTS {
-        assert!(rt; decode(line, &mut points)?, "{line:?} is UTF-8");
+    for row in TEXTS {
+        assert!(rt; decode(row.0, &mut points)?, "{:?} is UTF-8", row.0);
         assert!(rt;
-            points
-                .iter()
-                .map(|point| point.value())
-                .eq(wanted.iter().copied())
+            are_points(&points, row.1),
+            "the code points of {:?}",
+            row.0
         );
-        assert_eq!(rt; utf8_len(line), line.len());
+        assert!(rt; utf8_len(row.0) == row.0.len(), "{:?}", row.0);
     }
     Ok(())
 }
@@ -65,11 +75,14 @@ fn lines_have_the_code_points_of_utf8(rt: HostRuntime) -> Result<(), Fail> {
 #[test]
 fn a_line_that_is_not_utf8_has_none(rt: HostRuntime) -> Result<(), Fail> {
     let mut points = Vec::new(rt.alloc());
-    for &(line, len) in BROKEN {
+    for row in BROKEN {
         assert!(rt; decode(b"ab", &mut points)? && points.len() == 2);
-        assert!(rt; !decode(line, &mut points)?, "{line:?} is not UTF-8");
-        assert!(rt; points.is_empty());
-        assert_eq!(rt; utf8_len(line), len, "{line:?}");
+        assert!(rt; !decode(row.0, &mut points)?, "{:?} is not UTF-8", row.0);
+        assert!(rt;
+            points.is_empty() && utf8_len(row.0) == row.1,
+            "{:?}",
+            row.0
+        );
     }
     Ok(())
 }
@@ -88,11 +101,20 @@ static NUMBERS: &[(u32, bool, bool)] = &[
     (0xFFFF_FFFF, false, false),
 ];
 
+// Whether a number is that of a code point, which has it.
+fn is_point(number: u32) -> bool {
+    match CodePoint::new(number) {
+        Some(point) => point.value() == number,
+        None => false,
+    }
+}
+
 #[test]
 fn alphabets_have_their_letters(rt: HostRuntime) {
-    for &(value, is_byte, is_point) in NUMBERS {
-        assert!(rt; Alphabet::Bytes.has(value) == is_byte && Alphabet::Utf8.has(value) == is_point);
-        assert!(rt; CodePoint::new(value).map(|point| point.value()) == is_point.then_some(value));
+    for row in NUMBERS {
+        assert!(rt; Alphabet::Bytes.has(row.0) == row.1, "{}", row.0);
+        assert!(rt; Alphabet::Utf8.has(row.0) == row.2, "{}", row.0);
+        assert!(rt; is_point(row.0) == row.2, "{}", row.0);
     }
     assert!(rt; 0xE9u8.value() == 0xE9);
     let bytes = Alphabet::Bytes;

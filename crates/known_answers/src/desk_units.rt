@@ -3,48 +3,21 @@ ghost use Rattle.std.specs.Prelude.{◌≡◌, List, ◌∷◌, false};
 ghost use Rattle.desk.specs.Desk.{Fits};
 ghost use Rattle.desk.specs.declared.frame.Frame.{Frame};
 
-use crate::unit_texts::sound;
+use crate::unit_texts::{end_of, matched, sound};
 use desk::Desk;
 use gramcheck::SoundPeg;
 use pegmatch::{Matcher, Plain, Unit};
-use ruletable::{Memory, SinkOf};
+use ruletable::Memory;
 use std::alloc::Global;
-use std::process::Abort;
 use std::test::Fail;
 
 // Rules that share an action.
 const SHARED: &[u8] = b"S <- A A 'x'\nA <- B B\nB <- {b}";
 
-// A window that is the whole rest: what a match answers, with a cell for each evaluation, and what a success prints.
-fn check<R: Abort + AllocGlobal>(
-    rt: &R,
-    peg: &SoundPeg,
-    window: &[u8],
-    unit: Unit,
-    text: &[u8],
-) -> Result<(), Fail> {
-    let mut desk = Desk::new(rt.alloc());
-    let mut out = SinkOf::new(Vec::new(rt.alloc()));
-    match desk.match_unit(peg, window, false)? {
-        Unit::Took { end, begun } => {
-            assert_eq!(rt; Unit::Took { end, begun }, unit);
-            desk.replay(peg, window, false, &mut out)?;
-            assert_eq!(rt; desk.cells() as u128, begun);
-        }
-        Unit::Failed { begun } => {
-            assert_eq!(rt; Unit::Failed { begun }, unit);
-            assert_eq!(rt; desk.cells() as u128, begun);
-        }
-        Unit::Need => assert!(rt; false, "no answer"),
-    }
-    assert!(rt; out.into_inner().as_slice() == text);
-    Ok(())
-}
-
-// (grammar, window, answer, what is printed)
+// A grammar, a window that is the whole rest, what a match answers, with a cell for each evaluation, and what it prints.
 type Row = (&'static [u8], &'static [u8], Unit, &'static [u8]);
 
-const ROWS: [Row; 8] = [
+static ROWS: [Row; 8] = [
     (
         SHARED,
         b"x",
@@ -90,11 +63,34 @@ const ROWS: [Row; 8] = [
     (b"S <- 'a'* 'a'", b"aa", Unit::Failed { begun: 8 }, b""),
 ];
 
+// Whether a match on a window that is the whole rest answers and prints this, with a cell for each evaluation.
+fn is_matched(
+    alloc: Global,
+    grammar: &[u8],
+    window: &[u8],
+    unit: Unit,
+    text: &[u8],
+) -> Result<bool, Fail> {
+    let peg = sound(alloc, grammar)?;
+    let mut desk = Desk::new(alloc);
+    let (found, printed) = matched(alloc, &mut desk, &peg, window, false)?;
+    let cells = desk.cells() as u128;
+    Ok(found == unit && begun_of(found) == cells && printed.as_slice() == text)
+}
+
+// How many evaluations were begun.
+fn begun_of(unit: Unit) -> u128 {
+    match unit {
+        Unit::Took { begun, .. } | Unit::Failed { begun } => begun,
+        Unit::Need => 0,
+    }
+}
+
 #[test]
 fn each_is_evaluated_once(rt: HostRuntime) -> Result<(), Fail> {
-    for (grammar, window, unit, text) in ROWS {
-        let peg = sound(rt.alloc(), grammar)?;
-        check(&rt, &peg, window, unit, text)?;
+    for row in &ROWS {
+        let is_so = is_matched(rt.alloc(), row.0, row.1, row.2, row.3)?;
+        assert!(rt; is_so, "{:?}", row.0);
     }
     Ok(())
 }
@@ -103,13 +99,8 @@ fn each_is_evaluated_once(rt: HostRuntime) -> Result<(), Fail> {
 fn what_is_only_looked_at_needs_more(rt: HostRuntime) -> Result<(), Fail> {
     let peg = sound(rt.alloc(), b"S <- 'a' !'b'")?;
     let mut desk = Desk::new(rt.alloc());
-    assert_eq!(rt; desk.match_unit(&peg, b"ac", true)?, Unit::Need);
-    assert!(rt;
-        matches!(
-            desk.match_unit(&peg, b"acd", true)?,
-            Unit::Took { end: 1, .. }
-        )
-    );
+    assert!(rt; desk.match_unit(&peg, b"ac", true)? == Unit::Need);
+    assert!(rt; end_of(desk.match_unit(&peg, b"acd", true)?) == Some(1));
     Ok(())
 }
 
@@ -137,11 +128,22 @@ fn a_step_pushes_or_drops_one_frame(rt: HostRuntime) -> Result<(), Fail> {
     let mut desk = Desk::new(rt.alloc());
     desk.begin(&peg)?;
     let counted = count_steps(&mut desk, &peg, b"x")?;
-    assert_eq!(rt; counted, Some((Unit::Took { end: 1, begun: 8 }, 15)));
-    assert_eq!(rt; desk.cells(), 8);
+    assert!(rt; counted == Some((Unit::Took { end: 1, begun: 8 }, 15)));
+    assert!(rt; desk.cells() == 8);
     desk.reset();
-    assert_eq!(rt; desk.cells(), 0);
+    assert!(rt; desk.cells() == 0);
     Ok(())
+}
+
+// Begins with one grammar, and matches by another one.
+fn matched_after(
+    desk: &mut Desk,
+    begun: &SoundPeg,
+    peg: &SoundPeg,
+    window: &[u8],
+) -> Result<Unit, Memory> {
+    desk.begin(begun)?;
+    desk.match_unit(peg, window, false)
 }
 
 #[test]
@@ -149,140 +151,109 @@ fn a_desk_serves_another_grammar_after_it_began(rt: HostRuntime) -> Result<(), F
     let first = sound(rt.alloc(), b"S <- 'x' 'y'")?;
     let second = sound(rt.alloc(), SHARED)?;
     let mut desk = Desk::new(rt.alloc());
-    desk.begin(&first)?;
-    assert_eq!(rt;
-        desk.match_unit(&second, b"x", false)?,
-        Unit::Took { end: 1, begun: 8 }
-    );
-    desk.begin(&second)?;
-    assert_eq!(rt;
-        desk.match_unit(&first, b"xz", false)?,
-        Unit::Failed { begun: 3 }
-    );
+    let unit = Unit::Took { end: 1, begun: 8 };
+    assert!(rt; matched_after(&mut desk, &first, &second, b"x")? == unit);
+    let unit = Unit::Failed { begun: 3 };
+    assert!(rt; matched_after(&mut desk, &second, &first, b"xz")? == unit);
     Ok(())
 }
 
-// Rules A0 to A(count), each made of the next by a body with one byte for its number.
-fn chain(alloc: Global, count: u8, body: &[&[u8]], last: &[u8]) -> Result<Vec<u8>, Fail> {
-    let mut text = Vec::new(alloc);
-    for i in 0..count {
-        text.extend_from_slice(format!(in alloc; "A{i} <-")?.as_bytes())?;
-        let next = i.saturating_add(1);
-        for piece in body {
-            text.extend_from_slice(format!(in alloc; " A{next} ")?.as_bytes())?;
-            text.extend_from_slice(*piece)?;
-        }
-        text.push(b'\n')?;
+// The bytes that number the rules of a chain.
+const DIGITS: &[u8] = b"0123456789ABCDEFGHIJKLMNOPQRSTUVWXYZabcdefghijklmnopqrstuvwxyz";
+
+// Adds a rule of a chain: `#` stands for the byte of its number, and `$` for that of the next.
+fn add_rule(text: &mut Vec<u8>, rule: &[u8], number: usize) -> Result<(), Fail> {
+    for byte in rule {
+        let place = match *byte {
+            b'#' => number,
+            b'$' => number.saturating_add(1),
+            _ => DIGITS.len(),
+        };
+        text.push(*DIGITS.get(place).unwrap_or(byte))?;
     }
-    text.extend_from_slice(format!(in alloc; "A{count} <- ")?.as_bytes())?;
-    text.extend_from_slice(last)?;
+    Ok(())
+}
+
+// So many rules, each made of the next, and a last one.
+fn chain(alloc: Global, count: usize, rule: &[u8], last: &[u8]) -> Result<Vec<u8>, Fail> {
+    let mut text = Vec::new(alloc);
+    for number in 0..count {
+        add_rule(&mut text, rule, number)?;
+    }
+    add_rule(&mut text, last, count)?;
     Ok(text)
 }
 
 #[test]
 fn what_plain_evaluation_doubles_is_evaluated_once(rt: HostRuntime) -> Result<(), Fail> {
-    let deep = chain(rt.alloc(), 60, &[b"'x' /", b"'y'"], b"'a'")?;
-    let peg = sound(rt.alloc(), &deep)?;
-    check(&rt, &peg, b"a", Unit::Failed { begun: 303 }, b"")
+    let deep = chain(rt.alloc(), 60, b"A# <- A$ 'x' / A$ 'y'\n", b"A# <- 'a'")?;
+    let unit = Unit::Failed { begun: 303 };
+    assert!(rt; is_matched(rt.alloc(), &deep, b"a", unit, b"")?);
+    Ok(())
 }
 
 #[test]
 fn an_action_of_few_cells_prints_often(rt: HostRuntime) -> Result<(), Fail> {
-    let twice = chain(rt.alloc(), 12, &[b"", b""], b"{b}")?;
-    let peg = sound(rt.alloc(), &twice)?;
-    let mut text = Vec::new(rt.alloc());
-    for _ in 0..4096u16 {
-        text.extend_from_slice(b"b\n")?;
-    }
-    check(&rt, &peg, b"", Unit::Took { end: 0, begun: 37 }, &text)
-}
-
-// Whether both matchers answer alike and print the same.
-fn alike<R: Abort + AllocGlobal>(rt: &R, peg: &SoundPeg, window: &[u8]) -> Result<(), Fail> {
-    let mut plain = Plain::new(rt.alloc());
-    let mut out = SinkOf::new(Vec::new(rt.alloc()));
-    let unit = match plain.match_unit(peg, window, false)? {
-        Unit::Took { end, begun } => {
-            plain.replay(peg, window, false, &mut out)?;
-            Unit::Took { end, begun }
-        }
-        other => other,
-    };
-    let printed = out.into_inner();
-    check(rt, peg, window, unit, &printed)
-}
-
-// Grammars without repetition, in which nothing is asked twice.
-const TREES: [(&[u8], &[u8]); 3] = [
-    (b"S <- '(' {open} S ')' {shut} / [^()]", b"((x))"),
-    (b"S <- &. A !.\nA <- < 'a' 'b'? > {yytext}", b"ab"),
-    (b"S <- 'x' 'y' / 'x' 'z' {z}", b"xz"),
-];
-
-#[test]
-fn plain_and_desk_answer_alike(rt: HostRuntime) -> Result<(), Fail> {
-    for (grammar, window) in TREES {
-        let peg = sound(rt.alloc(), grammar)?;
-        alike(&rt, &peg, window)?;
-    }
+    let twice = chain(rt.alloc(), 12, b"A# <- A$ A$\n", b"A# <- {b}")?;
+    let text = b"b\n".repeat(rt.alloc(), 4096)?;
+    let unit = Unit::Took { end: 0, begun: 37 };
+    assert!(rt; is_matched(rt.alloc(), &twice, b"", unit, &text)?);
     Ok(())
 }
 
-// What both matchers print of a window that is the whole rest, once they agree on what the start rule gives.
-fn same<R: Abort + AllocGlobal>(rt: &R, peg: &SoundPeg, window: &[u8]) -> Result<(), Fail> {
-    let mut plain = Plain::new(rt.alloc());
-    let mut desk = Desk::new(rt.alloc());
-    let mut first = SinkOf::new(Vec::new(rt.alloc()));
-    let mut second = SinkOf::new(Vec::new(rt.alloc()));
-    match (
-        plain.match_unit(peg, window, false)?,
-        desk.match_unit(peg, window, false)?,
-    ) {
-        (Unit::Took { end, .. }, Unit::Took { end: also, .. }) => {
-            assert_eq!(rt; end, also);
-            plain.replay(peg, window, true, &mut first)?;
-            desk.replay(peg, window, true, &mut second)?;
-        }
-        (Unit::Failed { .. }, Unit::Failed { .. }) => {}
-        _ => assert!(rt; false, "one succeeds, one fails"),
-    }
-    assert!(rt; first.into_inner().as_slice() == second.into_inner().as_slice());
-    Ok(())
+// Whether both matchers take as many bytes and print the same, and, if asked, begin as many evaluations.
+fn agree(alloc: Global, peg: &SoundPeg, window: &[u8], counts: bool) -> Result<bool, Fail> {
+    let mut plain = Plain::new(alloc);
+    let mut desk = Desk::new(alloc);
+    let (unit, text) = matched(alloc, &mut plain, peg, window, !counts)?;
+    let (also, same) = matched(alloc, &mut desk, peg, window, !counts)?;
+    let is_same = end_of(unit) == end_of(also) && text.as_slice() == same.as_slice();
+    Ok(is_same && (!counts || unit == also))
 }
 
-// Grammars in the style of the examples, with repetitions and predicates: (grammar, windows).
-static GRAMMARS: [(&[u8], [&[u8]; 3]); 5] = [
+// Grammars, whether nothing in them is asked twice, and windows: some without repetition, and some in the style of the
+// examples, with repetitions and predicates.
+static GRAMMARS: [(&[u8], bool, &[&[u8]]); 8] = [
+    (b"S <- '(' {open} S ')' {shut} / [^()]", true, &[b"((x))"]),
+    (b"S <- &. A !.\nA <- < 'a' 'b'? > {yytext}", true, &[b"ab"]),
+    (b"S <- 'x' 'y' / 'x' 'z' {z}", true, &[b"xz"]),
     (
         b"L <- W S E {print} / <(!E .)*> E {no yytext}\nS <- P ('+' W P {add} / '-' W P {sub})*\nP <- V ('*' W V {mul})*\n\
           V <- <[0-9]+> W {push yytext} / '(' W S ')' W\nW <- [ \\t]*\nE <- '\\n' / !.",
-        [b"1 + 2*(3-4)\n", b"1 + + 2\n", b"((7))*8"],
+        false,
+        &[b"1 + 2*(3-4)\n", b"1 + + 2\n", b"((7))*8"],
     ),
     (
         b"T <- W V !.\nV <- (O / A / S {yytext} / N) W\nO <- '{' W {o} (S W ':' W V (',' W S W ':' W V)*)? '}' {x}\n\
           A <- '[' W {a} (V (',' W V)*)? ']' {y}\nS <- '\"' <C*> '\"'\nC <- [^\"\\\\] / '\\\\' .\n\
           N <- <'-'? [0-9]+ ('.' [0-9]+)?> {number yytext}\nW <- [ \\n]*",
-        [b"{\"a\": [1, -2.5, \"x\\\"y\"]}", b"[[], {}]", b"[1, 2"],
+        false,
+        &[b"{\"a\": [1, -2.5, \"x\\\"y\"]}", b"[[], {}]", b"[1, 2"],
     ),
     (
         b"S <- <[a-z]+> &([^\\n]* '\\n') {yytext} / ' ' / '\\n'",
-        [b"ab cd\n", b" x", b"ab"],
+        false,
+        &[b"ab cd\n", b" x", b"ab"],
     ),
     (
         b"S <- ({x} 'a')* (<'b'?> {[yytext]})? !'c' .*",
-        [b"aab", b"aac", b"abz"],
+        false,
+        &[b"aab", b"aac", b"abz"],
     ),
     (
         b"S <- (<[a-z]> {yytext} / '.' {no})+ !.",
-        [b"", b"x.z", b"\n"],
+        false,
+        &[b"", b"x.z", b"\n"],
     ),
 ];
 
 #[test]
-fn plain_and_desk_print_the_same(rt: HostRuntime) -> Result<(), Fail> {
-    for (grammar, windows) in GRAMMARS {
-        let peg = sound(rt.alloc(), grammar)?;
-        for window in windows {
-            same(&rt, &peg, window)?;
+fn plain_and_desk_answer_alike(rt: HostRuntime) -> Result<(), Fail> {
+    for row in &GRAMMARS {
+        let peg = sound(rt.alloc(), row.0)?;
+        for window in row.2 {
+            let is_same = agree(rt.alloc(), &peg, window, row.1)?;
+            assert!(rt; is_same, "{:?}", row.0);
         }
     }
     Ok(())

@@ -22,155 +22,224 @@ fn noted(alloc: Global, text: &[u8], start: Option<&str>) -> Result<(Vec<u8>, bo
     Ok((sink.into_inner(), checked.sound.is_some()))
 }
 
-// Grammars, the lines of the notes on them, and whether they are ready to run.
-const NOTED: [(&[u8], &[u8], bool); 34] = [
+// A grammar, the name of its start rule if one is given, the lines of the notes on it, and whether it is ready to run.
+type Row = (&'static [u8], Option<&'static str>, &'static [u8], bool);
+
+static NOTED: [Row; 39] = [
     // nothing to say; names before and after their rules
-    (b"S <-", b"", true),
-    (b"S <- 'a' S / {e}", b"", true),
-    (b"S <- T U\nT <- U 't'?\nU <- 'u' T S", b"", true),
+    (b"S <-", None, b"", true),
+    (b"S <- 'a' S / {e}", None, b"", true),
+    (b"S <- T U\nT <- U 't'?\nU <- 'u' T S", None, b"", true),
     // each note alone
-    (b"S <- 'a'\nS <- 'b'", b"rule 'S' redefined\n", false),
-    (b"S <- T 'a'", b"rule 'T' used but not defined\n", false),
+    (b"S <- 'a'\nS <- 'b'", None, b"rule 'S' redefined\n", false),
+    (
+        b"S <- T 'a'",
+        None,
+        b"rule 'T' used but not defined\n",
+        false,
+    ),
     (
         b"S <- 'a'\nT <- 'b'",
+        None,
         b"rule 'T' defined but not used\n",
         true,
     ),
     (
         b"S <- S 'a' / 'b'",
+        None,
         b"possible infinite left recursion in rule 'S'\n",
         false,
     ),
     (
         b"S <- ('a'?)*",
+        None,
         b"possible infinite loop in rule 'S'\n",
         false,
     ),
     // all notes at once
     (
         b"S <- X L\nL <- L 'b'\nU <- ('c'?)+\nS <- 'a'",
+        None,
         b"rule 'S' redefined\nrule 'X' used but not defined\nrule 'U' defined but not used\npossible infinite left recursion in rule 'L'\npossible infinite loop in rule 'U'\n",
         false,
     ),
     // left recursion past predicates, options, actions and rules that may take nothing
     (
         b"A <- !'x' 'y'? A / 'z'",
+        None,
         b"possible infinite left recursion in rule 'A'\n",
         false,
     ),
     (
         b"A <- {} A 'a' / &. A",
+        None,
         b"possible infinite left recursion in rule 'A'\n",
         false,
     ),
     (
         b"A <- B A / 'z'\nB <- {b} < 'c'* >",
+        None,
         b"possible infinite left recursion in rule 'A'\n",
         false,
     ),
     // within a predicate
     (
         b"A <- !(A 'x') 'z'",
+        None,
         b"possible infinite left recursion in rule 'A'\n",
         false,
     ),
     // no left recursion past what takes a byte, or past a name without a rule
-    (b"A <- 'a' A / 'a'+ A", b"", true),
-    (b"A <- B A / 'z'", b"rule 'B' used but not defined\n", false),
+    (b"A <- 'a' A / 'a'+ A", None, b"", true),
+    (
+        b"A <- B A / 'z'",
+        None,
+        b"rule 'B' used but not defined\n",
+        false,
+    ),
     // through other rules; a rule that only leads to a cycle is not on it
     (
         b"A <- B 'a'\nB <- A / .",
+        None,
         b"possible infinite left recursion in rule 'A'\npossible infinite left recursion in rule 'B'\n",
         false,
     ),
     (
         b"S <- A 'x'\nA <- B\nB <- C 'a'\nC <- B 'b' / S",
+        None,
         b"possible infinite left recursion in rule 'S'\npossible infinite left recursion in rule 'A'\npossible infinite left recursion in rule 'B'\npossible infinite left recursion in rule 'C'\n",
         false,
     ),
     (
         b"A <- B\nB <- C 'a'\nC <- B / D\nD <- 'd'",
+        None,
         b"possible infinite left recursion in rule 'B'\npossible infinite left recursion in rule 'C'\n",
         false,
     ),
     // loops of choices, predicates, sequences and other rules that may take nothing
     (
         b"S <- ('a'? / 'b')+",
+        None,
         b"possible infinite loop in rule 'S'\n",
         false,
     ),
     (
         b"S <- (&'a')*",
+        None,
         b"possible infinite loop in rule 'S'\n",
         false,
     ),
     (
         b"S <- ('' !.)* 'a'",
+        None,
         b"possible infinite loop in rule 'S'\n",
         false,
     ),
-    (b"S <- ('a' '')*", b"", true),
+    (b"S <- ('a' '')*", None, b"", true),
     (
         b"S <- 'a' !(''*)",
+        None,
         b"possible infinite loop in rule 'S'\n",
         false,
     ),
     (
         b"S <- T*\nT <- 'a'?",
+        None,
         b"possible infinite loop in rule 'S'\n",
         false,
     ),
-    (b"S <- T*\nT <- 'a'? 'b'", b"", true),
+    (b"S <- T*\nT <- 'a'? 'b'", None, b"", true),
     // several kinds, each in the order of the rules
     (
         b"A <- ('' / 'b')* C\nD <- 'd'",
+        None,
         b"rule 'C' used but not defined\nrule 'D' defined but not used\npossible infinite loop in rule 'A'\n",
         false,
     ),
     (
         b"S <- 'a'\nT <- ''*",
+        None,
         b"rule 'T' defined but not used\npossible infinite loop in rule 'T'\n",
         false,
     ),
     // undefined names once each, by first use
     (
         b"S <- Y 'a' X Y\nT <- Z X S",
+        None,
         b"rule 'Y' used but not defined\nrule 'X' used but not defined\nrule 'Z' used but not defined\nrule 'T' defined but not used\n",
         false,
     ),
     // redefinitions once a rule, in the order of the rules; a dropped body uses nothing and repeats nothing
     (
         b"S <- T\nT <- 'b'\nT <- 'c'\nS <- 'd'\nT <- 'e'",
+        None,
         b"rule 'S' redefined\nrule 'T' redefined\n",
         false,
     ),
     (
         b"S <- 'a'\nS <- T\nT <- 'b'",
+        None,
         b"rule 'S' redefined\nrule 'T' defined but not used\n",
         false,
     ),
-    (b"S <- 'a'\nS <- S X ''*", b"rule 'S' redefined\n", false),
+    (
+        b"S <- 'a'\nS <- S X ''*",
+        None,
+        b"rule 'S' redefined\n",
+        false,
+    ),
     // a rule that leads to a left-recursive one
     (
         b"S <- A 'x'\nA <- A 'y' / 'z'",
+        None,
         b"possible infinite left recursion in rule 'A'\n",
         false,
     ),
     // a rule that only its own body uses is used; names differ by case
     (
         b"S <- 'a'\nown <- 'b' own\nlone <- <",
+        None,
         b"rule 'lone' defined but not used\n",
         true,
     ),
-    (b"S <- s", b"rule 's' used but not defined\n", false),
+    (b"S <- s", None, b"rule 's' used but not defined\n", false),
+    // given start rules
+    (
+        b"S <- 'a'\nT <- 'b'",
+        Some("T"),
+        b"rule 'S' defined but not used\n",
+        true,
+    ),
+    (b"S <- 'a' T\nT <- 'b'", Some("S"), b"", true),
+    (
+        b"A <- 'a' A B X\nB <- &Y / X+\nC <- .",
+        Some("Y"),
+        b"rule 'Y' used but not defined\nrule 'X' used but not defined\nrule 'C' defined but not used\n",
+        false,
+    ),
+    (
+        b"S <- 'a'",
+        Some("T"),
+        b"rule 'T' used but not defined\nrule 'S' defined but not used\n",
+        false,
+    ),
+    (
+        b"S <- X",
+        Some(""),
+        b"rule '' used but not defined\nrule 'X' used but not defined\nrule 'S' defined but not used\n",
+        false,
+    ),
 ];
 
 #[test]
 fn notes(rt: HostRuntime) -> Result<(), Fail> {
-    for (text, lines, ready) in NOTED {
-        let (found, is_ready) = noted(rt.alloc(), text, None)?;
-        assert!(rt; found.as_slice() == lines);
-        assert!(rt; is_ready == ready);
+    for row in &NOTED {
+        let (lines, is_ready) = noted(rt.alloc(), row.0, row.1)?;
+        assert!(rt;
+            lines.as_slice() == row.2 && is_ready == row.3,
+            "{:?}",
+            row.0
+        );
     }
     Ok(())
 }
@@ -186,50 +255,20 @@ fn lines_on_redefinitions(alloc: Global, text: &[u8]) -> Result<Vec<u8>, Fail> {
     Ok(sink.into_inner())
 }
 
-#[test]
-fn redefinitions_alone(rt: HostRuntime) -> Result<(), Fail> {
-    // whatever else there is to say of the grammar
-    let text = b"S <- X ''*\nT <- T\nT <- 'c'\nS <- 'd'\nT <- 'e'";
-    let lines = lines_on_redefinitions(rt.alloc(), text)?;
-    let want = b"rule 'S' redefined\nrule 'T' redefined\n";
-    assert!(rt; lines.as_slice() == want.as_slice());
-    assert!(rt; lines_on_redefinitions(rt.alloc(), b"S <- X ''*\nT <- T")?.is_empty());
-    Ok(())
-}
+// Grammars, and the notes on what they define again, whatever else there is to say of them.
+static REDEFINED: [(&[u8], &[u8]); 2] = [
+    (
+        b"S <- X ''*\nT <- T\nT <- 'c'\nS <- 'd'\nT <- 'e'",
+        b"rule 'S' redefined\nrule 'T' redefined\n",
+    ),
+    (b"S <- X ''*\nT <- T", b""),
+];
 
 #[test]
-fn names_of_start_rules(rt: HostRuntime) -> Result<(), Fail> {
-    let table: [(&[u8], &str, &[u8], bool); 5] = [
-        (
-            b"S <- 'a'\nT <- 'b'",
-            "T",
-            b"rule 'S' defined but not used\n",
-            true,
-        ),
-        (b"S <- 'a' T\nT <- 'b'", "S", b"", true),
-        (
-            b"A <- 'a' A B X\nB <- &Y / X+\nC <- .",
-            "Y",
-            b"rule 'Y' used but not defined\nrule 'X' used but not defined\nrule 'C' defined but not used\n",
-            false,
-        ),
-        (
-            b"S <- 'a'",
-            "T",
-            b"rule 'T' used but not defined\nrule 'S' defined but not used\n",
-            false,
-        ),
-        (
-            b"S <- X",
-            "",
-            b"rule '' used but not defined\nrule 'X' used but not defined\nrule 'S' defined but not used\n",
-            false,
-        ),
-    ];
-    for (text, start, lines, ready) in table {
-        let (found, is_ready) = noted(rt.alloc(), text, Some(start))?;
-        assert!(rt; found.as_slice() == lines);
-        assert!(rt; is_ready == ready);
+fn redefinitions_alone(rt: HostRuntime) -> Result<(), Fail> {
+    for row in &REDEFINED {
+        let lines = lines_on_redefinitions(rt.alloc(), row.0)?;
+        assert!(rt; lines.as_slice() == row.1, "{:?}", row.0);
     }
     Ok(())
 }
@@ -242,14 +281,10 @@ fn sound(alloc: Global, text: &[u8], start: Option<&str>) -> Result<SoundPeg, Fa
 
 #[test]
 fn start_ids(rt: HostRuntime) -> Result<(), Fail> {
-    let text = b"S <- T U\nT <- U 'b'\nU <- 'c'";
-    let first = sound(rt.alloc(), text, None)?;
-    assert_eq!(rt; first.start(), 0);
-    assert_eq!(rt; first.rules().len(), 3);
-    let second = sound(rt.alloc(), text, Some("T"))?;
-    assert_eq!(rt; second.start(), 1);
-    let third = sound(rt.alloc(), text, Some("U"))?;
-    assert_eq!(rt; third.start(), 2);
+    for (id, start) in [None, Some("T"), Some("U")].iter().enumerate() {
+        let peg = sound(rt.alloc(), b"S <- T U\nT <- U 'b'\nU <- 'c'", *start)?;
+        assert!(rt; peg.start() == id && peg.rules().len() == 3, "{id}");
+    }
     Ok(())
 }
 
@@ -273,54 +308,68 @@ fn parts(node: &Node) -> (u8, usize, &[usize]) {
     }
 }
 
+// The parts of each node of a grammar with all forms.
+static PARTS: [(u8, usize, &[usize]); 20] = [
+    (b'N', 1, &[]),
+    (b'"', 0, &[]),
+    (b'*', 1, &[]),
+    (b'N', 2, &[]),
+    (b'!', 3, &[]),
+    (b',', 0, &[0, 2, 4]),
+    (b'<', 0, &[]),
+    (b'.', 0, &[]),
+    (b'>', 0, &[]),
+    (b'{', 0, &[]),
+    (b',', 0, &[6, 7, 8, 9]),
+    (b'/', 0, &[5, 10]),
+    (b'[', 0, &[]),
+    (b'*', 12, &[]),
+    (b'+', 12, &[]),
+    (b'N', 2, &[]),
+    (b'?', 15, &[]),
+    (b',', 0, &[14, 16]),
+    (b'N', 0, &[]),
+    (b'&', 18, &[]),
+];
+
+// Whether the node of a number has these parts.
+fn has_parts(peg: &SoundPeg, n: usize, wanted: &(u8, usize, &[usize])) -> bool {
+    n < peg.nodes() && parts(peg.node(n)) == *wanted
+}
+
 #[test]
 fn nodes_of_each_form(rt: HostRuntime) -> Result<(), Fail> {
     let text = b"A <- B 'x'* !C / < . > {t}\nB <- [b-d]+ C?\nC <- &A";
     let peg = sound(rt.alloc(), text, None)?;
-    let table: [(u8, usize, &[usize]); 20] = [
-        (b'N', 1, &[]),
-        (b'"', 0, &[]),
-        (b'*', 1, &[]),
-        (b'N', 2, &[]),
-        (b'!', 3, &[]),
-        (b',', 0, &[0, 2, 4]),
-        (b'<', 0, &[]),
-        (b'.', 0, &[]),
-        (b'>', 0, &[]),
-        (b'{', 0, &[]),
-        (b',', 0, &[6, 7, 8, 9]),
-        (b'/', 0, &[5, 10]),
-        (b'[', 0, &[]),
-        (b'*', 12, &[]),
-        (b'+', 12, &[]),
-        (b'N', 2, &[]),
-        (b'?', 15, &[]),
-        (b',', 0, &[14, 16]),
-        (b'N', 0, &[]),
-        (b'&', 18, &[]),
-    ];
-    assert!(rt; peg.nodes() == table.len());
-    for (n, row) in table.into_iter().enumerate() {
-        assert!(rt; parts(peg.node(n)) == row);
+    for (n, row) in PARTS.iter().enumerate() {
+        assert!(rt; has_parts(&peg, n, row), "{n}");
     }
-    assert!(rt; peg.body_node(peg.start()) == 11);
+    assert!(rt; peg.nodes() == 20 && peg.body_node(peg.start()) == 11);
     assert!(rt; matches!(peg.node(1), Node::Bytes(text) if text.as_slice() == b"x".as_slice()));
     assert!(rt; matches!(peg.node(9), Node::Act(text) if text.as_slice() == b"t".as_slice()));
     assert!(rt; matches!(peg.node(12), Node::Set(set) if set.has(b'd') && !set.has(b'a')));
     Ok(())
 }
 
+// Of the nodes T, T?, 'x', T, the sequence, and 'y': one, and one that a step to the left leads to.
+static LEFT: [(usize, usize); 5] = [(4, 1), (1, 0), (0, 5), (4, 2), (3, 5)];
+
+// Whether a node has a greater rank than another one, and no greater than the number of nodes.
+fn is_above(peg: &SoundPeg, node: usize, left: usize) -> bool {
+    if node < peg.nodes() && left < peg.nodes() {
+        let rank = peg.rank(node);
+        return peg.rank(left) < rank && rank <= 6;
+    }
+    false
+}
+
 #[test]
 fn left_steps_lower_the_rank(rt: HostRuntime) -> Result<(), Fail> {
-    // the nodes: T, T?, 'x', T, the sequence, and 'y'
     let peg = sound(rt.alloc(), b"S <- T? 'x' T\nT <- 'y'", None)?;
-    assert_eq!(rt; peg.nodes(), 6);
-    let (name, option, letter) = (peg.rank(0), peg.rank(1), peg.rank(2));
-    let (second, whole, body) = (peg.rank(3), peg.rank(4), peg.rank(5));
-    assert!(rt; whole > option && option > name && name > body);
-    assert!(rt; whole > letter);
-    assert!(rt; second > body);
-    assert!(rt; whole <= 6 && second <= 6);
+    assert!(rt; peg.nodes() == 6);
+    for row in &LEFT {
+        assert!(rt; is_above(&peg, row.0, row.1), "{}", row.0);
+    }
     Ok(())
 }
 

@@ -74,8 +74,8 @@ fn check_lines<R: Abort + AllocGlobal>(
 
 #[test]
 fn answers_lines(rt: HostRuntime) {
-    for &(input, wanted, stop) in &ROWS {
-        check_lines(&rt, false, input, wanted, stop);
+    for row in &ROWS {
+        check_lines(&rt, false, row.0, row.1, row.2);
     }
 }
 

@@ -7,56 +7,59 @@ use std::alloc::{AllocError, AllocGlobal};
 use std::process::Abort;
 use std::test::Fail;
 
+// The steps from each number, and which numbers come back to themselves.
+static CYCLES: [(&[&[usize]], &[bool]); 5] = [
+    // no cycle
+    (&[&[1], &[2], &[]], &[false, false, false]),
+    // a step to itself, and one that leads there
+    (&[&[1], &[1]], &[false, true]),
+    // a cycle of two between two other numbers
+    (&[&[1], &[2], &[1, 3], &[]], &[false, true, true, false]),
+    // a cycle of two that leads to another
+    (&[&[1], &[0, 2], &[3], &[2]], &[true, true, true, true]),
+    // 0 leads to 1 and back, and by two ways to 3
+    (&[&[1, 2], &[3, 0], &[3], &[]], &[true, true, false, false]),
+];
+
 #[test]
 fn finds_cycles(rt: HostRuntime) -> Result<(), Fail> {
-    let table: [(&[&[usize]], &[bool]); 5] = [
-        // no cycle
-        (&[&[1], &[2], &[]], &[false, false, false]),
-        // a step to itself, and one that leads there
-        (&[&[1], &[1]], &[false, true]),
-        // a cycle of two between two other numbers
-        (&[&[1], &[2], &[1, 3], &[]], &[false, true, true, false]),
-        // a cycle of two that leads to another
-        (&[&[1], &[0, 2], &[3], &[2]], &[true, true, true, true]),
-        // 0 leads to 1 and back, and by two ways to 3
-        (&[&[1, 2], &[3, 0], &[3], &[]], &[true, true, false, false]),
-    ];
-    for (steps, marks) in table {
-        assert!(rt; are_within(steps));
-        let found = on_cycle(rt.alloc(), steps)?;
-        assert!(rt; found.marks.as_slice() == marks);
-        assert!(rt; found.ranks.len() == steps.len());
+    for row in &CYCLES {
+        assert!(rt; are_within(row.0));
+        let found = on_cycle(rt.alloc(), row.0)?;
+        assert!(rt; found.marks.as_slice() == row.1 && found.ranks.len() == row.1.len());
     }
     Ok(())
 }
 
+// The needs of each number, the marks of the least set, and its numbers in an order by which they enter.
+static NEEDS: [(&[Need], &[bool], &[usize]); 3] = [
+    // 0 needs nothing, 1 one of 0 and 2, 2 needs 1 and 3, which can never enter
+    (
+        &[
+            Need::All(&[]),
+            Need::One(&[0, 2]),
+            Need::All(&[1, 3]),
+            Need::One(&[]),
+        ],
+        &[true, true, false, false],
+        &[0, 1],
+    ),
+    // two that need each other stay out
+    (&[Need::All(&[1]), Need::One(&[0])], &[false, false], &[]),
+    // a number that is named twice is needed once
+    (
+        &[Need::All(&[1, 1]), Need::All(&[])],
+        &[true, true],
+        &[1, 0],
+    ),
+];
+
 #[test]
 fn finds_least_sets(rt: HostRuntime) -> Result<(), Fail> {
-    let table: [(&[Need], &[bool], &[usize]); 3] = [
-        // 0 needs nothing, 1 one of 0 and 2, 2 needs 1 and 3, which can never enter
-        (
-            &[
-                Need::All(&[]),
-                Need::One(&[0, 2]),
-                Need::All(&[1, 3]),
-                Need::One(&[]),
-            ],
-            &[true, true, false, false],
-            &[0, 1],
-        ),
-        // two that need each other stay out
-        (&[Need::All(&[1]), Need::One(&[0])], &[false, false], &[]),
-        // a number that is named twice is needed once
-        (
-            &[Need::All(&[1, 1]), Need::All(&[])],
-            &[true, true],
-            &[1, 0],
-        ),
-    ];
-    for (needs, marks, order) in table {
-        assert!(rt; are_needs_within(needs));
-        assert!(rt; least(rt.alloc(), needs)?.as_slice() == marks);
-        assert!(rt; derive(rt.alloc(), needs)?.as_slice() == order);
+    for row in &NEEDS {
+        assert!(rt; are_needs_within(row.0));
+        assert!(rt; least(rt.alloc(), row.0)?.as_slice() == row.1);
+        assert!(rt; derive(rt.alloc(), row.0)?.as_slice() == row.2);
     }
     Ok(())
 }
@@ -72,16 +75,19 @@ fn reached_from<R: Abort + AllocGlobal>(
     reached(rt.alloc(), steps, these)
 }
 
+static STEPS: &[&[usize]] = &[&[1], &[0], &[1, 3], &[]];
+
+// Numbers, and the marks of what the steps reach from them.
+static REACHED: [(&[usize], &[bool]); 3] = [
+    (&[], &[false, false, false, false]),
+    (&[0], &[true, true, false, false]),
+    (&[3, 2], &[true, true, true, true]),
+];
+
 #[test]
 fn finds_what_steps_reach(rt: HostRuntime) -> Result<(), Fail> {
-    let steps: &[&[usize]] = &[&[1], &[0], &[1, 3], &[]];
-    let table: [(&[usize], &[bool]); 3] = [
-        (&[], &[false, false, false, false]),
-        (&[0], &[true, true, false, false]),
-        (&[3, 2], &[true, true, true, true]),
-    ];
-    for (these, marks) in table {
-        assert!(rt; reached_from(&rt, steps, these)?.as_slice() == marks);
+    for row in &REACHED {
+        assert!(rt; reached_from(&rt, STEPS, row.0)?.as_slice() == row.1);
     }
     Ok(())
 }

@@ -13,6 +13,13 @@ fn printed(alloc: Global, text: &[u8]) -> Result<Vec<u8>, Fail> {
     Ok(sink.into_inner())
 }
 
+// Whether a text is printed so, and what is printed is printed so again.
+fn is_printed(alloc: Global, text: &[u8], want: &[u8]) -> Result<bool, Fail> {
+    let once = printed(alloc, text)?;
+    let again = printed(alloc, &once)?;
+    Ok(once.as_slice() == want && again.as_slice() == want)
+}
+
 // A text, and how it is printed.
 static ROWS: [(&[u8], &[u8]); 54] = [
     // numbers of a repetition
@@ -212,11 +219,9 @@ prose-val = \"<\" *(%x20-3D / %x3F-7E) \">\"
 
 #[test]
 fn prints_canonical_texts(rt: HostRuntime) -> Result<(), Fail> {
-    for (text, want) in &ROWS {
-        let once = printed(rt.alloc(), text)?;
-        assert!(rt; once.as_slice() == *want, "{text:?}");
-        let again = printed(rt.alloc(), &once)?;
-        assert!(rt; again.as_slice() == *want, "{text:?} printed again");
+    for row in &ROWS {
+        let is_so = is_printed(rt.alloc(), row.0, row.1)?;
+        assert!(rt; is_so, "{:?}", row.0);
     }
     is_abnf_read_back();
     Ok(())
@@ -224,12 +229,6 @@ fn prints_canonical_texts(rt: HostRuntime) -> Result<(), Fail> {
 
 #[test]
 fn prints_the_grammar_of_abnf(rt: HostRuntime) -> Result<(), Fail> {
-    let once = printed(rt.alloc(), ABNF)?;
-    assert!(rt; once.as_slice() == ABNF_PRINTED, "the grammar of ABNF");
-    let again = printed(rt.alloc(), &once)?;
-    assert!(rt;
-        again.as_slice() == ABNF_PRINTED,
-        "the grammar of ABNF printed again"
-    );
+    assert!(rt; is_printed(rt.alloc(), ABNF, ABNF_PRINTED)?);
     Ok(())
 }

@@ -3,19 +3,18 @@ use abnfread::{MAX_REPEAT, MAX_VALUE, read_abnf};
 use lexer::MAX_GRAMMAR;
 use ruletable::{LineRule, ReadFault, line_of};
 use std::alloc::Global;
-use std::process::Abort;
 use std::test::Fail;
 
-// The fault of a text, if it is refused.
-fn fault_of(alloc: Global, text: &[u8]) -> Option<ReadFault> {
+// Whether a text is refused with this fault.
+fn is_refused(alloc: Global, text: &[u8], fault: ReadFault) -> bool {
     match read_abnf(alloc, text) {
-        Ok(_) => None,
-        Err(fault) => Some(fault),
+        Ok(_) => false,
+        Err(found) => found == fault,
     }
 }
 
 // A text, and the line of its first hopeless token.
-static HOPELESS: [(&[u8], usize); 29] = [
+static HOPELESS: [(&[u8], usize); 39] = [
     // white space before a repetition, and behind a repeat
     (b"a = 2\n \"x\"", 2),
     (b"a = \"x\"\"y\"", 1),
@@ -50,16 +49,25 @@ static HOPELESS: [(&[u8], usize); 29] = [
     (b"a = ()\n", 1),
     (b"a = b / / c", 1),
     (b"a = [b\n", 2),
+    // a gap, or none, between repetitions, and a repeat that nothing follows
+    (b"a = *\"x\"2\"y\"", 1),
+    (b"a = 2 \"x\"", 1),
+    (b"a = \"x\"4294967296", 1),
+    (b"a = %x41.42-43", 1),
+    (b"a = \"x\"\n/ \"y\"", 2),
+    (b"a = \"x\"\r\"y\"", 1),
+    // a number over its limit that is not read
+    (b"a = 2 4294967296\"x\"", 1),
+    (b"4294967296", 1),
+    (b"a %d4294967296", 1),
+    (b"a = \"x\"\n%d4294967296", 2),
 ];
 
 #[test]
 fn names_the_line_of_the_hopeless_token(rt: HostRuntime) {
-    for (text, line) in &HOPELESS {
-        let found = fault_of(rt.alloc(), text);
-        assert!(rt;
-            found == Some(ReadFault::Syntax { line: *line }),
-            "{text:?}"
-        );
+    for row in &HOPELESS {
+        let fault = ReadFault::Syntax { line: row.1 };
+        assert!(rt; is_refused(rt.alloc(), row.0, fault), "{:?}", row.0);
     }
 }
 
@@ -67,11 +75,8 @@ fn names_the_line_of_the_hopeless_token(rt: HostRuntime) {
 fn refuses_each_single_byte(rt: HostRuntime) {
     for byte in 0..=255u8 {
         let line = if byte == b'\n' { 2 } else { 1 };
-        let found = fault_of(rt.alloc(), &[byte]);
-        assert!(rt;
-            found == Some(ReadFault::Syntax { line }),
-            "the byte {byte}"
-        );
+        let fault = ReadFault::Syntax { line };
+        assert!(rt; is_refused(rt.alloc(), &[byte], fault), "the byte {byte}");
     }
 }
 
@@ -85,24 +90,33 @@ static BEGINNINGS: [(&[u8], &[usize]); 3] = [
     (b"a = <any text> / b\nb = \"x\"", &[14, 15, 18, 19, 26]),
 ];
 
+// Whether a beginning of a text is read if its length is one of these, and else refused at its last line.
+fn is_told(alloc: Global, text: &[u8], size: usize, lengths: &[usize]) -> bool {
+    let begun = text.get(..size).unwrap_or(text);
+    if lengths.contains(&size) {
+        return read_abnf(alloc, begun).is_ok();
+    }
+    let line = line_of(text, size, LineRule::Lf);
+    is_refused(alloc, begun, ReadFault::Syntax { line })
+}
+
 #[test]
 fn refuses_beginnings_at_their_last_line(rt: HostRuntime) {
-    for (text, lengths) in &BEGINNINGS {
-        for size in 0..=text.len() {
-            let line = line_of(text, size, LineRule::Lf);
-            let found = fault_of(rt.alloc(), &text[..size]);
-            let want = if lengths.contains(&size) {
-                None
-            } else {
-                Some(ReadFault::Syntax { line })
-            };
-            assert!(rt; found == want, "the first {size} bytes of {text:?}");
+    for row in &BEGINNINGS {
+        for size in 0..=row.0.len() {
+            assert!(rt;
+                is_told(rt.alloc(), row.0, size, row.1),
+                "{size} bytes of {:?}",
+                row.0
+            );
         }
     }
 }
 
 // A text, and the line of the number over its limit.
-static LARGE: [(&[u8], usize); 6] = [
+static LARGE: [(&[u8], usize); 8] = [
+    (b"a = %d4294967296", 1),
+    (b"\ns = 4294967296\"a\"", 2),
     (b"a = %x41.100000000", 1),
     (b"a = \"x\"\n  %b1-100000000000000000000000000000000", 2),
     (b"s = 4294967296\"a\"", 1),
@@ -111,30 +125,12 @@ static LARGE: [(&[u8], usize); 6] = [
     (b"s = (4294967296\"a\" [", 1),
 ];
 
-// A text with a number over its limit, and the line of its first hopeless token.
-static HOPELESS_LARGE: [(&[u8], usize); 4] = [
-    (b"a = 2 4294967296\"x\"", 1),
-    (b"4294967296", 1),
-    (b"a %d4294967296", 1),
-    (b"a = \"x\"\n%d4294967296", 2),
-];
-
 #[test]
 fn tells_numbers_over_their_limits(rt: HostRuntime) {
     assert!(rt; MAX_REPEAT == 4294967295 && MAX_VALUE == 4294967295);
-    for (text, line) in &LARGE {
-        let found = fault_of(rt.alloc(), text);
-        assert!(rt;
-            found == Some(ReadFault::NumberTooLarge { line: *line }),
-            "{text:?}"
-        );
-    }
-    for (text, line) in &HOPELESS_LARGE {
-        let found = fault_of(rt.alloc(), text);
-        assert!(rt;
-            found == Some(ReadFault::Syntax { line: *line }),
-            "{text:?}"
-        );
+    for row in &LARGE {
+        let fault = ReadFault::NumberTooLarge { line: row.1 };
+        assert!(rt; is_refused(rt.alloc(), row.0, fault), "{:?}", row.0);
     }
 }
 
@@ -150,17 +146,17 @@ fn opened(alloc: Global, count: usize) -> Result<Vec<u8>, Fail> {
 #[test]
 fn tells_too_many_brackets(rt: HostRuntime) -> Result<(), Fail> {
     let most = opened(rt.alloc(), 200)?;
-    assert!(rt; fault_of(rt.alloc(), &most) == Some(ReadFault::Syntax { line: 2 }));
+    assert!(rt; is_refused(rt.alloc(), &most, ReadFault::Syntax { line: 2 }));
     let over = opened(rt.alloc(), 201)?;
-    assert!(rt; fault_of(rt.alloc(), &over) == Some(ReadFault::Depth { line: 2 }));
+    assert!(rt; is_refused(rt.alloc(), &over, ReadFault::Depth { line: 2 }));
     Ok(())
 }
 
 #[test]
 fn tests_the_length_first(rt: HostRuntime) -> Result<(), Fail> {
     let mut comment = vec![in rt.alloc(); b';'; MAX_GRAMMAR]?;
-    assert!(rt; fault_of(rt.alloc(), &comment) == Some(ReadFault::Syntax { line: 1 }));
+    assert!(rt; is_refused(rt.alloc(), &comment, ReadFault::Syntax { line: 1 }));
     comment.push(b';')?;
-    assert!(rt; fault_of(rt.alloc(), &comment) == Some(ReadFault::TooLong));
+    assert!(rt; is_refused(rt.alloc(), &comment, ReadFault::TooLong));
     Ok(())
 }

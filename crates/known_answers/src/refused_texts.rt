@@ -2,7 +2,6 @@
 use pegread::{Expr, MAX_GRAMMAR, MAX_OPEN, one_tree, read_peg};
 use ruletable::ReadFault;
 use std::alloc::Global;
-use std::process::Abort;
 use std::test::Fail;
 
 // A text, and the line of its first hopeless token.
@@ -27,46 +26,39 @@ static HOPELESS: [(&[u8], usize); 17] = [
     (b"S <- {x} <- {y}", 1),
 ];
 
-// The fault of a text, if it is refused.
-fn fault_of(alloc: Global, text: &[u8]) -> Option<ReadFault> {
+// Whether a text is refused with this fault.
+fn is_refused(alloc: Global, text: &[u8], fault: ReadFault) -> bool {
     match read_peg(alloc, text) {
-        Ok(_) => None,
-        Err(fault) => Some(fault),
+        Ok(_) => false,
+        Err(found) => found == fault,
     }
 }
 
 #[test]
 fn names_the_line_of_the_hopeless_token(rt: HostRuntime) {
-    for (text, line) in &HOPELESS {
-        let found = fault_of(rt.alloc(), text);
-        assert!(rt;
-            found == Some(ReadFault::Syntax { line: *line }),
-            "{text:?}"
-        );
+    for row in &HOPELESS {
+        let fault = ReadFault::Syntax { line: row.1 };
+        assert!(rt; is_refused(rt.alloc(), row.0, fault), "{:?}", row.0);
     }
     one_tree();
 }
 
 #[test]
 fn tells_code_predicates(rt: HostRuntime) {
-    for text in [b"S <- & {x}", b"S <- &\t{x}"] {
-        let found = fault_of(rt.alloc(), text);
-        assert!(rt;
-            found == Some(ReadFault::CodePredicate { line: 1 }),
-            "{text:?}"
-        );
-    }
+    let fault = ReadFault::CodePredicate { line: 1 };
+    assert!(rt; is_refused(rt.alloc(), b"S <- & {x}", fault));
+    assert!(rt; is_refused(rt.alloc(), b"S <- &\t{x}", fault));
 }
 
 #[test]
 fn keeps_the_first_definition(rt: HostRuntime) -> Result<(), Fail> {
     let peg = read_peg(rt.alloc(), b"A<-'a' B<-'b' A<-. B<-. A<-.")?;
-    assert_eq!(rt; peg.redefined.as_slice(), [0, 1, 0].as_slice());
-    assert_eq!(rt; peg.rules.len(), 2);
+    assert!(rt; peg.redefined.as_slice() == [0, 1, 0].as_slice());
+    assert!(rt; peg.rules.len() == 2);
     assert!(rt; matches!(peg.rules.body(0), Expr::Bytes(_)));
     assert!(rt; matches!(peg.rules.body(1), Expr::Bytes(_)));
-    assert_eq!(rt; peg.rules.span(1).start, 7);
-    assert_eq!(rt; peg.rules.span(1).end, 8);
+    let span = peg.rules.span(1);
+    assert!(rt; span.start == 7 && span.end == 8);
     Ok(())
 }
 
@@ -89,18 +81,18 @@ fn nested(alloc: Global, depth: usize, behind: &[u8]) -> Result<Vec<u8>, Fail> {
 fn counts_open_brackets(rt: HostRuntime) -> Result<(), Fail> {
     let alloc = rt.alloc();
     let deep = nested(alloc, MAX_OPEN, b"(a)")?;
-    assert!(rt; fault_of(alloc, &deep) == None);
+    assert!(rt; read_peg(alloc, &deep).is_ok());
     let deeper = nested(alloc, MAX_OPEN + 1, b"\n**")?;
-    assert!(rt; fault_of(alloc, &deeper) == Some(ReadFault::Depth { line: 1 }));
+    assert!(rt; is_refused(alloc, &deeper, ReadFault::Depth { line: 1 }));
     Ok(())
 }
 
 #[test]
 fn tests_the_length_first(rt: HostRuntime) -> Result<(), Fail> {
     let mut spaces = vec![in rt.alloc(); b' '; MAX_GRAMMAR]?;
-    assert!(rt; fault_of(rt.alloc(), &spaces) == Some(ReadFault::Syntax { line: 1 }));
+    assert!(rt; is_refused(rt.alloc(), &spaces, ReadFault::Syntax { line: 1 }));
     spaces.push(b' ')?;
-    assert!(rt; fault_of(rt.alloc(), &spaces) == Some(ReadFault::TooLong));
+    assert!(rt; is_refused(rt.alloc(), &spaces, ReadFault::TooLong));
     Ok(())
 }
 
@@ -109,8 +101,8 @@ fn tests_the_length_first(rt: HostRuntime) -> Result<(), Fail> {
 fn refuses_single_bytes(rt: HostRuntime) {
     for b in 0..=255 {
         let line = if b == b'\n' || b == b'\r' { 2 } else { 1 };
-        let found = fault_of(rt.alloc(), &[b]);
-        assert!(rt; found == Some(ReadFault::Syntax { line }), "byte {b}");
+        let fault = ReadFault::Syntax { line };
+        assert!(rt; is_refused(rt.alloc(), &[b], fault), "byte {b}");
     }
 }
 
@@ -124,18 +116,25 @@ static BEGINNINGS: [(&[u8], &[u8]); 3] = [
     (b"A<-('x')/[b-da^-]*", b"...R....RR.......RR"),
 ];
 
+// Whether the first bytes of a text are read or refused as their mark says.
+fn is_told(alloc: Global, text: &[u8], size: usize, mark: u8) -> bool {
+    let begun = text.get(..size).unwrap_or(text);
+    if mark == b'R' {
+        return read_peg(alloc, begun).is_ok();
+    }
+    is_refused(alloc, begun, ReadFault::Syntax { line: 1 })
+}
+
 // A beginning is refused before its arrow is whole, and within a literal, an action, a class or open brackets.
 #[test]
 fn reads_or_refuses_each_beginning(rt: HostRuntime) {
-    for (text, marks) in &BEGINNINGS {
-        for (size, mark) in marks.iter().enumerate() {
-            let found = fault_of(rt.alloc(), text.get(..size).unwrap_or(text));
-            let want = if *mark == b'R' {
-                None
-            } else {
-                Some(ReadFault::Syntax { line: 1 })
-            };
-            assert!(rt; found == want, "{size} bytes of {text:?}");
+    for row in &BEGINNINGS {
+        for (size, mark) in row.1.iter().enumerate() {
+            assert!(rt;
+                is_told(rt.alloc(), row.0, size, *mark),
+                "{size} bytes of {:?}",
+                row.0
+            );
         }
     }
 }

@@ -51,18 +51,20 @@ fn a_failing_writer_keeps_a_beginning_and_sets_the_flag(rt: HostRuntime) {
     assert!(rt; sink.flush().is_err() && sink.has_failed());
 }
 
+static NOTES: [(NoteKind, &[u8]); 3] = [
+    (NoteKind::Loop, b"x_1"),
+    (NoteKind::ExtendedEarly, b"y-2"),
+    (NoteKind::Prose, b"Z-3"),
+];
+
 #[test]
 fn writes_numbers_pieces_and_notes(rt: HostRuntime) -> Result<(), Fail> {
     let mut sink = SinkOf::new(Vec::new(rt.alloc()));
     write_number(1048577, &mut sink)?;
     write_pieces(&mut sink, &[b"a", b"", b"bcd"])?;
-    for (kind, name) in [
-        (NoteKind::Loop, b"x_1"),
-        (NoteKind::ExtendedEarly, b"y-2"),
-        (NoteKind::Prose, b"Z-3"),
-    ] {
-        let name = name.to_vec(rt.alloc())?;
-        write_note(&Note { kind, name }, &mut sink)?;
+    for row in &NOTES {
+        let name = row.1.to_vec(rt.alloc())?;
+        write_note(&Note { kind: row.0, name }, &mut sink)?;
     }
     assert!(rt; sink.flush().is_ok() && !sink.has_failed());
     let want = b"1048577abcdpossible infinite loop in rule 'x_1'\n\
@@ -91,10 +93,10 @@ static FAULTS: [(ReadFault, &[u8]); 6] = [
 
 #[test]
 fn each_fault_has_its_line(rt: HostRuntime) -> Result<(), Fail> {
-    for (fault, text) in &FAULTS {
+    for row in &FAULTS {
         let mut sink = SinkOf::new(Vec::new(rt.alloc()));
-        write_fault(fault, &mut sink)?;
-        assert!(rt; sink.into_inner().as_slice() == *text, "{text:?}");
+        write_fault(&row.0, &mut sink)?;
+        assert!(rt; sink.into_inner().as_slice() == row.1, "{:?}", row.1);
     }
     Ok(())
 }
@@ -111,17 +113,20 @@ fn two_rules(alloc: Global, names: NameCase) -> Result<RuleTable<u32>, Memory> {
     Ok(table)
 }
 
+// How names are told apart, the id of a name in another case, and what a definition of one gives.
+static NAMES: [(NameCase, Option<usize>, Defined); 2] = [
+    (NameCase::Exact, None, Defined::Added(2)),
+    (NameCase::Fold, Some(1), Defined::Duplicate(0)),
+];
+
 #[test]
 fn finds_and_defines_by_name(rt: HostRuntime) -> Result<(), Fail> {
-    for (names, two, one) in [
-        (NameCase::Exact, None, Defined::Added(2)),
-        (NameCase::Fold, Some(1), Defined::Duplicate(0)),
-    ] {
-        let mut table = two_rules(rt.alloc(), names)?;
-        assert!(rt; table.find(b"one")? == Some(0) && table.find(b"two")? == two);
-        assert_eq!(rt; table.find(b"tw")?, None);
-        assert_eq!(rt; table.define(b"Two", 3, FIRST)?, Defined::Duplicate(1));
-        assert_eq!(rt; table.define(b"ONE", 3, FIRST)?, one);
+    for row in &NAMES {
+        let mut table = two_rules(rt.alloc(), row.0)?;
+        assert!(rt; table.find(b"one")? == Some(0) && table.find(b"two")? == row.1);
+        assert!(rt; table.find(b"tw")? == None);
+        assert!(rt; table.define(b"Two", 3, FIRST)? == Defined::Duplicate(1));
+        assert!(rt; table.define(b"ONE", 3, FIRST)? == row.2);
     }
     Ok(())
 }
@@ -136,6 +141,11 @@ fn reads_each_part(rt: HostRuntime) -> Result<(), Fail> {
     Ok(())
 }
 
+// Whether a byte is in a set and in the union of its runs, or not.
+fn is_member(set: &ByteSet, b: u8, wanted: bool) -> bool {
+    set.has(b) == wanted && union_of_runs(set).has(b) == wanted
+}
+
 #[test]
 fn a_set_has_what_was_added(rt: HostRuntime) {
     let mut set = ByteSet::new();
@@ -144,20 +154,26 @@ fn a_set_has_what_was_added(rt: HostRuntime) {
     set.add_range(9, 8);
     let copy = set.copied();
     set.add_range(60, 70);
+    let rest = set.complement();
     for b in 0u8..=255 {
         let is_one = matches!(b, b'b'..=b'd' | 255);
-        assert!(rt;
-            copy.has(b) == is_one && union_of_runs(&copy).has(b) == is_one,
-            "at {b}"
-        );
-        assert!(rt;
-            set.complement().has(b) != (is_one || matches!(b, 60..=70)),
-            "at {b}"
-        );
+        assert!(rt; is_member(&copy, b, is_one), "at {b}");
+        let is_other = !is_one && !matches!(b, 60..=70);
+        assert!(rt; is_member(&rest, b, is_other), "at {b}");
     }
+}
+
+static RUNS: [Option<(u8, u8)>; 4] = [Some((60, 70)), Some((b'b', b'd')), Some((255, 255)), None];
+
+#[test]
+fn a_set_has_runs(rt: HostRuntime) {
+    let mut set = ByteSet::new();
+    set.add_range(b'b', b'd');
+    set.add_range(255, 255);
+    set.add_range(60, 70);
     let mut runs = set.runs();
-    for want in [Some((60, 70)), Some((b'b', b'd')), Some((255, 255)), None] {
-        assert!(rt; runs.next() == want);
+    for want in &RUNS {
+        assert!(rt; runs.next() == *want);
     }
 }
 
@@ -179,11 +195,12 @@ static LINES: [(usize, usize, usize); 11] = [
 #[test]
 fn lines_end_by_the_rule(rt: HostRuntime) {
     let text = b"a\nb\r\nc\rd\r";
-    for (offset, by_lf, by_any) in &LINES {
-        let found = (
-            line_of(text, *offset, LineRule::Lf),
-            line_of(text, *offset, LineRule::Any),
+    for row in &LINES {
+        assert!(rt; line_of(text, row.0, LineRule::Lf) == row.1, "at {}", row.0);
+        assert!(rt;
+            line_of(text, row.0, LineRule::Any) == row.2,
+            "at {}",
+            row.0
         );
-        assert!(rt; found == (*by_lf, *by_any), "at {offset}");
     }
 }

@@ -41,12 +41,18 @@ static CHARACTERS: [(&[u8], u8, &[u8]); 33] = [
     (b"\\\xff0", 255, b"0"),
 ];
 
+// Whether the first character of a text spells this byte, before this rest.
+fn is_spelled(text: &[u8], byte: u8, rest: &[u8]) -> bool {
+    match next_char(text) {
+        Some((spelled, behind)) => spelled == byte && behind == rest,
+        None => false,
+    }
+}
+
 #[test]
 fn spells_each_escape(rt: HostRuntime) {
-    for (text, byte, rest) in &CHARACTERS {
-        let is_spelled = next_char(text).is_some_and(|(spelled, behind)| spelled == *byte
-            && behind == *rest);
-        assert!(rt; is_spelled, "{text:?}");
+    for row in &CHARACTERS {
+        assert!(rt; is_spelled(row.0, row.1, row.2), "{:?}", row.0);
     }
     assert!(rt; next_char(b"").is_none());
     assert!(rt; next_char(b"\\").is_none());

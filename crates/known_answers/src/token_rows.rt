@@ -1,7 +1,6 @@
 //! Tokens of texts, by hand.
 use lexer::{have_tokens, one_list, tokens};
 use pegread::{Kind, are_marked, tokens_make_up};
-use std::process::Abort;
 
 // A text, and its tokens before the end.
 type Row = (&'static [u8], &'static [(Kind, &'static [u8])]);
@@ -100,31 +99,39 @@ static ROWS: [Row; 22] = [
     ),
 ];
 
-// The text has these tokens, then its end, and nothing behind it.
-fn check_tokens(rt: &impl Abort, text: &[u8], want: &[(Kind, &[u8])]) {
+// Whether the text has these tokens, then its end, and nothing behind it.
+fn has_tokens(text: &[u8], want: &[(Kind, &[u8])]) -> bool {
     let mut found = tokens::<Kind>(text);
-    for (kind, slice) in want {
-        let is_next = found
-            .next()
-            .is_some_and(|token| token.kind == *kind && token.slice == *slice);
-        assert!(rt; is_next, "{slice:?} in {text:?}");
+    for row in want {
+        match found.next() {
+            Some(token) if token.kind == row.0 && token.slice == row.1 => {}
+            _ => return false,
+        }
     }
-    let is_end = found.next().is_some_and(|token| token.kind == Kind::End);
-    assert!(rt; is_end && found.next().is_none(), "the end of {text:?}");
+    match found.next() {
+        Some(token) if token.kind == Kind::End => found.next().is_none(),
+        _ => false,
+    }
 }
 
 #[test]
 fn cuts_texts_into_tokens(rt: HostRuntime) {
-    for (text, want) in &ROWS {
-        check_tokens(&rt, text, want);
+    for row in &ROWS {
+        assert!(rt; has_tokens(row.0, row.1), "{:?}", row.0);
     }
 }
 
+// Where the tokens of a text stand.
+static PLACES: [(usize, usize); 4] = [(1, 3), (6, 8), (8, 11), (12, 12)];
+
 #[test]
 fn places_slices(rt: HostRuntime) {
-    let want = [(1, 3), (6, 8), (8, 11), (12, 12)];
-    for (token, (start, end)) in tokens::<Kind>(b" ab\r\n <-'c' ").zip(want) {
-        assert_eq!(rt; (token.span.start, token.span.end), (start, end));
+    let mut found = tokens::<Kind>(b" ab\r\n <-'c' ");
+    for row in &PLACES {
+        match found.next() {
+            Some(token) => assert!(rt; (token.span.start, token.span.end) == *row),
+            None => assert!(rt; false, "no token"),
+        }
     }
 }
 

@@ -5,11 +5,13 @@ use pegmatch::{Matcher, Plain, Unit, answer_stands, need_stands, one_answer};
 use pegread::read_peg;
 use ruletable::SinkOf;
 use std::alloc::Global;
-use std::process::Abort;
 use std::test::Fail;
 
 // A capture that the second alternative does not see.
 const LETTERS: &[u8] = b"S <- < 'a' > 'b' { yytext } / 'a' { [yytext] }";
+
+// Brackets in one another.
+const BRACKETS: &[u8] = b"S <- '(' {open} S ')' {shut} / [^()]";
 
 /// Returns the grammar of a text, ready to run.
 pub(crate) fn sound(alloc: Global, text: &[u8]) -> Result<SoundPeg, Fail> {
@@ -17,161 +19,144 @@ pub(crate) fn sound(alloc: Global, text: &[u8]) -> Result<SoundPeg, Fail> {
     Ok(checked.sound.ok_or("refused")?)
 }
 
-// Runs one unit on a window that is the whole rest, and says where it ends and what it prints.
-fn check_unit<R: Abort + AllocGlobal>(
-    rt: &R,
-    grammar: &[u8],
+/// What a matcher answers on a window that is the whole rest, and what it prints of a success.
+pub(crate) fn matched<M: Matcher>(
+    alloc: Global,
+    matcher: &mut M,
+    peg: &SoundPeg,
     window: &[u8],
-    end: usize,
-    text: &[u8],
-) -> Result<(), Fail> {
-    let peg = sound(rt.alloc(), grammar)?;
-    let mut plain = Plain::new(rt.alloc());
-    let mut out = SinkOf::new(Vec::new(rt.alloc()));
-    match plain.match_unit(&peg, window, false)? {
-        Unit::Took { end: place, .. } => {
-            assert_eq!(rt; place, end);
-            plain.replay(&peg, window, false, &mut out)?;
-        }
-        _ => assert!(rt; false, "no success"),
+    raw: bool,
+) -> Result<(Unit, Vec<u8>), Fail> {
+    let mut out = SinkOf::new(Vec::new(alloc));
+    let unit = matcher.match_unit(peg, window, false)?;
+    if let Unit::Took { .. } = unit {
+        matcher.replay(peg, window, raw, &mut out)?;
     }
-    assert!(rt; out.into_inner().as_slice() == text);
-    Ok(())
+    Ok((unit, out.into_inner()))
 }
 
-// Whether the start rule fails on a window that is the whole rest.
-fn fails(alloc: Global, grammar: &[u8], window: &[u8]) -> Result<bool, Fail> {
-    let peg = sound(alloc, grammar)?;
-    let mut plain = Plain::new(alloc);
-    let unit = plain.match_unit(&peg, window, false)?;
-    Ok(matches!(unit, Unit::Failed { .. }))
+/// How many bytes a unit takes, if the start rule succeeds.
+pub(crate) fn end_of(unit: Unit) -> Option<usize> {
+    match unit {
+        Unit::Took { end, .. } => Some(end),
+        _ => None,
+    }
 }
 
-// Whether more than this window is needed, where there is more behind it.
-fn needs_more(alloc: Global, grammar: &[u8], window: &[u8]) -> Result<bool, Fail> {
-    let peg = sound(alloc, grammar)?;
-    let mut plain = Plain::new(alloc);
-    let unit = plain.match_unit(&peg, window, !window.is_empty())?;
-    Ok(unit == Unit::Need)
-}
+// A grammar, a window that is the whole rest, whether actions print verbatim, how many bytes the unit takes if the start rule
+// succeeds, and what it prints.
+type Row = (
+    &'static [u8],
+    &'static [u8],
+    bool,
+    Option<usize>,
+    &'static [u8],
+);
 
-#[test]
-fn captures_and_actions_of_a_success_print(rt: HostRuntime) -> Result<(), Fail> {
-    check_unit(&rt, LETTERS, b"abc", 2, b"a\n")
-}
-
-#[test]
-fn a_failed_alternative_leaves_no_capture(rt: HostRuntime) -> Result<(), Fail> {
-    check_unit(&rt, LETTERS, b"ac", 1, b"[]\n")
-}
-
-#[test]
-fn repetition_takes_all_it_can(rt: HostRuntime) -> Result<(), Fail> {
-    check_unit(&rt, b"S <- ('a' {x})* 'b'", b"aaba", 3, b"x\nx\n")?;
-    check_unit(&rt, b"S <- ('a' {x})+", b"aab", 2, b"x\nx\n")?;
-    check_unit(&rt, b"S <- ('a' {x})? 'a' {y}", b"aa", 2, b"x\ny\n")?;
-    // nothing is given back
-    assert!(rt; fails(rt.alloc(), b"S <- 'a'* 'a'", b"aa")?);
-    assert!(rt; fails(rt.alloc(), b"S <- 'a'+", b"b")?);
-    assert!(rt; fails(rt.alloc(), b"S <- 'a'? 'a'", b"a")?);
-    Ok(())
-}
-
-#[test]
-fn predicates_take_and_leave_nothing(rt: HostRuntime) -> Result<(), Fail> {
-    check_unit(
-        &rt,
+static ROWS: [Row; 20] = [
+    // captures and actions of a success print; a failed alternative leaves no capture
+    (LETTERS, b"abc", false, Some(2), b"a\n"),
+    (LETTERS, b"ac", false, Some(1), b"[]\n"),
+    // a repetition takes all it can, and gives nothing back
+    (b"S <- ('a' {x})* 'b'", b"aaba", false, Some(3), b"x\nx\n"),
+    (b"S <- ('a' {x})+", b"aab", false, Some(2), b"x\nx\n"),
+    (b"S <- ('a' {x})? 'a' {y}", b"aa", false, Some(2), b"x\ny\n"),
+    (b"S <- 'a'* 'a'", b"aa", false, None, b""),
+    (b"S <- 'a'+", b"b", false, None, b""),
+    (b"S <- 'a'? 'a'", b"a", false, None, b""),
+    // predicates take and leave nothing
+    (
         b"S <- &('a' <'b'> {x}) 'a' {[yytext]}",
         b"ab",
-        1,
+        false,
+        Some(1),
         b"[]\n",
-    )?;
-    check_unit(
-        &rt,
+    ),
+    (
         b"S <- !('a' <'b'> {x}) 'a' {[yytext]}",
         b"ac",
-        1,
+        false,
+        Some(1),
         b"[]\n",
-    )?;
-    assert!(rt; fails(rt.alloc(), b"S <- &'b' .", b"ab")?);
-    assert!(rt; fails(rt.alloc(), b"S <- !'a' .", b"ab")?);
-    Ok(())
-}
-
-#[test]
-fn a_name_is_the_body_of_its_rule(rt: HostRuntime) -> Result<(), Fail> {
-    let brackets = b"S <- '(' {open} S ')' {shut} / [^()]";
-    check_unit(&rt, brackets, b"((x))", 5, b"open\nopen\nshut\nshut\n")?;
-    assert!(rt; fails(rt.alloc(), brackets, b"((x)")?);
-    Ok(())
-}
-
-#[test]
-fn evaluations_are_counted(rt: HostRuntime) -> Result<(), Fail> {
-    let peg = sound(rt.alloc(), LETTERS)?;
-    let mut plain = Plain::new(rt.alloc());
-    // the choice, both sequences, `<`, and `'a'` twice
-    let unit = plain.match_unit(&peg, b"x", false)?;
-    assert_eq!(rt; unit, Unit::Failed { begun: 6 });
-    Ok(())
-}
-
-#[test]
-fn the_last_byte_of_a_window_with_more_behind_it_is_not_asked(rt: HostRuntime) -> Result<(), Fail> {
-    let peg = sound(rt.alloc(), LETTERS)?;
-    let mut plain = Plain::new(rt.alloc());
-    let short = plain.match_unit(&peg, b"ac", true)?;
-    assert_eq!(rt; short, Unit::Need);
-    let enough = plain.match_unit(&peg, b"acx", true)?;
-    assert_eq!(rt; enough, Unit::Took { end: 1, begun: 9 });
-    Ok(())
-}
-
-#[test]
-fn what_is_only_looked_at_needs_more(rt: HostRuntime) -> Result<(), Fail> {
-    let alloc = rt.alloc();
-    assert!(rt; needs_more(alloc, b"S <- 'a'*", b"aa")?);
-    assert!(rt; needs_more(alloc, b"S <- 'a'*", b"ab")?);
-    assert!(rt; !needs_more(alloc, b"S <- 'a'*", b"abc")?);
-    assert!(rt; needs_more(alloc, b"S <- 'a' !'b'", b"ac")?);
-    assert!(rt; !needs_more(alloc, b"S <- 'a' !'b'", b"acd")?);
-    assert!(rt; needs_more(alloc, b"S <- &'ab' 'a'", b"ab")?);
-    Ok(())
-}
-
-// A grammar, its window, whether its action prints verbatim, and what is printed.
-static TEMPLATES: [(&[u8], &[u8], bool, &[u8]); 6] = [
+    ),
+    (b"S <- &'b' .", b"ab", false, None, b""),
+    (b"S <- !'a' .", b"ab", false, None, b""),
+    // a name is the body of its rule
+    (
+        BRACKETS,
+        b"((x))",
+        false,
+        Some(5),
+        b"open\nopen\nshut\nshut\n",
+    ),
+    (BRACKETS, b"((x)", false, None, b""),
     // `yytextual` is a word of its own, and what is put in is not looked at again
     (
         b"S <- < 'yyleng' > { yytext yyleng yytextual }",
         b"yyleng",
         false,
+        Some(6),
         b"yyleng 6 yytextual\n",
     ),
-    (b"S <- < 'b' > { yytext\t}", b"b", true, b" b\t"),
-    (b"S <- < > {[yytext]}", b"", false, b"[]\n"),
-    (b"S <- < 'x' > {\r\n\t }", b"x", false, b"\n"),
-    (b"S <- < 'x' > {}", b"x", true, b""),
+    (b"S <- < 'b' > { yytext\t}", b"b", true, Some(1), b" b\t"),
+    (b"S <- < > {[yytext]}", b"", false, Some(0), b"[]\n"),
+    (b"S <- < 'x' > {\r\n\t }", b"x", false, Some(1), b"\n"),
+    (b"S <- < 'x' > {}", b"x", true, Some(1), b""),
     (
         b"S <- < '0123456789' > {yyleng-yytext_}",
         b"0123456789",
         false,
+        Some(10),
         b"10-yytext_\n",
     ),
 ];
 
 #[test]
-fn actions_print_their_templates(rt: HostRuntime) -> Result<(), Fail> {
-    for &(grammar, window, raw, text) in &TEMPLATES {
-        let peg = sound(rt.alloc(), grammar)?;
+fn units_take_and_print(rt: HostRuntime) -> Result<(), Fail> {
+    for row in &ROWS {
+        let peg = sound(rt.alloc(), row.0)?;
         let mut plain = Plain::new(rt.alloc());
-        let mut out = SinkOf::new(Vec::new(rt.alloc()));
-        match plain.match_unit(&peg, window, false)? {
-            Unit::Took { .. } => plain.replay(&peg, window, raw, &mut out)?,
-            _ => assert!(rt; false, "no success"),
-        }
-        assert!(rt; out.into_inner().as_slice() == text, "{grammar:?}");
+        let (unit, text) = matched(rt.alloc(), &mut plain, &peg, row.1, row.2)?;
+        assert!(rt; end_of(unit) == row.3, "{:?}", row.0);
+        assert!(rt; text.as_slice() == row.4, "{:?}", row.0);
     }
+    Ok(())
+}
+
+// A grammar, a window with more behind it, and whether more than this window is needed: its last byte is not asked.
+static ASKED: [(&[u8], &[u8], bool); 8] = [
+    (b"S <- 'a'*", b"aa", true),
+    (b"S <- 'a'*", b"ab", true),
+    (b"S <- 'a'*", b"abc", false),
+    (b"S <- 'a' !'b'", b"ac", true),
+    (b"S <- 'a' !'b'", b"acd", false),
+    (b"S <- &'ab' 'a'", b"ab", true),
+    (LETTERS, b"ac", true),
+    (LETTERS, b"acx", false),
+];
+
+// What the start rule gives on a window, with more behind it or not.
+fn asked(alloc: Global, grammar: &[u8], window: &[u8], more: bool) -> Result<Unit, Fail> {
+    let peg = sound(alloc, grammar)?;
+    let mut plain = Plain::new(alloc);
+    Ok(plain.match_unit(&peg, window, more && !window.is_empty())?)
+}
+
+#[test]
+fn what_is_only_looked_at_needs_more(rt: HostRuntime) -> Result<(), Fail> {
+    for row in &ASKED {
+        let unit = asked(rt.alloc(), row.0, row.1, true)?;
+        assert!(rt; (unit == Unit::Need) == row.2, "{:?}", row.0);
+    }
+    Ok(())
+}
+
+#[test]
+fn evaluations_are_counted(rt: HostRuntime) -> Result<(), Fail> {
+    // the choice, both sequences, `<`, and `'a'` twice
+    assert!(rt; asked(rt.alloc(), LETTERS, b"x", false)? == Unit::Failed { begun: 6 });
+    let enough = Unit::Took { end: 1, begun: 9 };
+    assert!(rt; asked(rt.alloc(), LETTERS, b"acx", true)? == enough);
     Ok(())
 }
 
