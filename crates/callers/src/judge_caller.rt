@@ -15,7 +15,7 @@ use std::alloc::Global;
 pub fn derives(alloc: Global, grammar: &SoundAbnf, line: &[u8]) -> Result<bool, Memory>
     ensures { IfOk result (λ yes. IsTrue yes ↔ RuleDerives (has Alphabet.Bytes) (rules_of grammar.now.rules) grammar.now.judged line.now) }
 {
-    let flat = lower(alloc, grammar)?;
+    let flat = lower(alloc, grammar, line.len())?;
     let mut chart = Chart::new(alloc);
     judge(&mut chart, &flat, line)
 }

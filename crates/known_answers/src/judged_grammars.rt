@@ -1,36 +1,40 @@
 //! Lines judged by small grammars, with answers found by hand.
-use abnfread::{core_rules, read_abnf};
+use abnfcheck::check_abnf;
+use abnfread::read_abnf;
 use earley::{Chart, judge};
-use flatgrammar::{Flat, Node, items_at_most, items_tell, lower_rules};
+use flatgrammar::{Flat, Node, items_at_most, items_tell, lower};
 use letters::Letter;
 use ruletable::Memory;
 use std::alloc::Global;
 use std::test::Fail;
 
+// Whether the judged rule derives a line that is not too long.
+fn is_derived(chart: &mut Chart, flat: &Flat, line: &[u8]) -> Result<bool, Memory> {
+    if line.len() > flat.limit() {
+        return Err(Memory);
+    }
+    judge(chart, flat, line)
+}
+
 // Whether each line is judged as it says, by one chart.
 fn are_judged(alloc: Global, flat: &Flat, lines: &[(&str, bool)]) -> Result<bool, Memory> {
     let mut chart = Chart::new(alloc);
     for row in lines {
-        if judge(&mut chart, flat, row.0.as_bytes())? != row.1 {
+        if is_derived(&mut chart, flat, row.0.as_bytes())? != row.1 {
             return Ok(false);
         }
     }
     Ok(true)
 }
 
-// The grammar of a text, whose first rule is judged.
-fn grammar(alloc: Global, text: &str) -> Result<Flat, Memory> {
-    let Ok(abnf) = read_abnf(alloc, text.as_bytes()) else {
-        return Err(Memory);
-    };
-    if abnf.rules.is_empty() {
-        return Err(Memory);
-    }
-    let flat = lower_rules(alloc, &abnf.rules, 0)?;
-    Ok(flat)
+// The flat grammar of a text, whose first rule is judged, for lines of so many letters.
+fn grammar(alloc: Global, text: &str, limit: usize) -> Result<Flat, Fail> {
+    let checked = check_abnf(alloc, read_abnf(alloc, text.as_bytes())?, None)?;
+    let grammar = checked.sound.ok_or("refused")?;
+    Ok(lower(alloc, &grammar, limit)?)
 }
 
-// Grammars with core rules written out, and lines with their answers.
+// Grammars, and lines of at most seven letters with their answers.
 static ROWS: &[(&str, &[(&str, bool)])] = &[
     (
         "word = 1*ALPHA\nALPHA = %x41-5A / %x61-7A\n",
@@ -79,9 +83,11 @@ static ROWS: &[(&str, &[(&str, bool)])] = &[
     // names alone
     ("a = a\n", &[("", false), ("x", false)]),
     ("a = b\nb = A\n", &[("", false), ("x", false)]),
-    // a name that no rule defines, and prose
-    ("a = c\n", &[("", false), ("c", false)]),
-    ("a = <any>\n", &[("", false), ("any", false)]),
+    // a name that no rule defines, and prose, in rules that are not judged
+    (
+        "a = \"x\"\nb = c\nd = <any>\n",
+        &[("x", true), ("c", false), ("any", false)],
+    ),
     // repeats and options
     (
         "a = *(*\"x\")\n",
@@ -130,30 +136,30 @@ static ROWS: &[(&str, &[(&str, bool)])] = &[
 #[test]
 fn answers_of_grammars(rt: HostRuntime) -> Result<(), Fail> {
     for row in ROWS {
-        let flat = grammar(rt.alloc(), row.0)?;
+        let flat = grammar(rt.alloc(), row.0, 7)?;
         assert!(rt; are_judged(rt.alloc(), &flat, row.1)?, "{}", row.0);
     }
     Ok(())
 }
 
-// The bytes that each core rule derives alone, from each low one to the high one beside it.
-static CORE: &[&[(u8, u8)]] = &[
-    &[(0x41, 0x5a), (0x61, 0x7a)],
-    &[(0x30, 0x31)],
-    &[(0x01, 0x7f)],
-    &[(0x0d, 0x0d)],
-    &[],
-    &[(0x00, 0x1f), (0x7f, 0x7f)],
-    &[(0x30, 0x39)],
-    &[(0x22, 0x22)],
-    &[(0x30, 0x39), (0x41, 0x46), (0x61, 0x66)],
-    &[(0x09, 0x09)],
-    &[(0x0a, 0x0a)],
-    &[(0x09, 0x09), (0x20, 0x20)],
-    &[(0x00, 0xff)],
-    &[(0x20, 0x20)],
-    &[(0x21, 0x7e)],
-    &[(0x09, 0x09), (0x20, 0x20)],
+// A core rule as a grammar, and the bytes that it derives alone, from each low one to the high one beside it.
+static CORE: &[(&str, &[(u8, u8)])] = &[
+    ("s = ALPHA\n", &[(0x41, 0x5a), (0x61, 0x7a)]),
+    ("s = BIT\n", &[(0x30, 0x31)]),
+    ("s = CHAR\n", &[(0x01, 0x7f)]),
+    ("s = CR\n", &[(0x0d, 0x0d)]),
+    ("s = CRLF\n", &[]),
+    ("s = CTL\n", &[(0x00, 0x1f), (0x7f, 0x7f)]),
+    ("s = DIGIT\n", &[(0x30, 0x39)]),
+    ("s = DQUOTE\n", &[(0x22, 0x22)]),
+    ("s = HEXDIG\n", &[(0x30, 0x39), (0x41, 0x46), (0x61, 0x66)]),
+    ("s = HTAB\n", &[(0x09, 0x09)]),
+    ("s = LF\n", &[(0x0a, 0x0a)]),
+    ("s = LWSP\n", &[(0x09, 0x09), (0x20, 0x20)]),
+    ("s = OCTET\n", &[(0x00, 0xff)]),
+    ("s = SP\n", &[(0x20, 0x20)]),
+    ("s = VCHAR\n", &[(0x21, 0x7e)]),
+    ("s = WSP\n", &[(0x09, 0x09), (0x20, 0x20)]),
 ];
 
 fn is_in(ranges: &[(u8, u8)], byte: u8) -> bool {
@@ -166,7 +172,7 @@ fn is_in(ranges: &[(u8, u8)], byte: u8) -> bool {
 fn are_bytes_judged(alloc: Global, flat: &Flat, ranges: &[(u8, u8)]) -> Result<bool, Memory> {
     let mut chart = Chart::new(alloc);
     for byte in 0..=255u8 {
-        if judge(&mut chart, flat, &[byte])? != is_in(ranges, byte) {
+        if is_derived(&mut chart, flat, &[byte])? != is_in(ranges, byte) {
             return Ok(false);
         }
     }
@@ -175,12 +181,9 @@ fn are_bytes_judged(alloc: Global, flat: &Flat, ranges: &[(u8, u8)]) -> Result<b
 
 #[test]
 fn core_rules_on_single_bytes(rt: HostRuntime) -> Result<(), Fail> {
-    let core = core_rules(rt.alloc())?;
-    assert!(rt; core.len() == CORE.len());
-    for id in 0..core.len() {
-        let flat = lower_rules(rt.alloc(), &core, id)?;
-        let ranges = CORE.get(id).copied().unwrap_or(&[]);
-        assert!(rt; are_bytes_judged(rt.alloc(), &flat, ranges)?, "{id}");
+    for row in CORE {
+        let flat = grammar(rt.alloc(), row.0, 1)?;
+        assert!(rt; are_bytes_judged(rt.alloc(), &flat, row.1)?, "{}", row.0);
     }
     Ok(())
 }
@@ -190,9 +193,9 @@ const DOUBLES: &str = "a = a a / \"a\" / \"\"\n";
 
 #[test]
 fn sets_are_bounded(rt: HostRuntime) -> Result<(), Fail> {
-    let flat = grammar(rt.alloc(), DOUBLES)?;
+    let flat = grammar(rt.alloc(), DOUBLES, 3)?;
     let mut chart = Chart::new(rt.alloc());
-    assert!(rt; judge(&mut chart, &flat, b"aaa".as_slice())?);
+    assert!(rt; is_derived(&mut chart, &flat, b"aaa".as_slice())?);
     for j in 0..4 {
         let items = chart.items(j);
         assert!(rt; 0 < items && items <= 14 * (j + 1));
@@ -203,15 +206,30 @@ fn sets_are_bounded(rt: HostRuntime) -> Result<(), Fail> {
     Ok(())
 }
 
+// By a limit of 5 letters the grammar has 94 places: 83 of the core rules, 7 of the repetition, 2 of its operand, 2 of the whole.
+#[test]
+fn sets_are_bounded_by_the_limit_of_a_line(rt: HostRuntime) -> Result<(), Fail> {
+    let flat = grammar(rt.alloc(), "s = 100000*\"a\"\n", 5)?;
+    assert!(rt; flat.limit() == 5);
+    let mut chart = Chart::new(rt.alloc());
+    assert!(rt; !is_derived(&mut chart, &flat, b"aaa".as_slice())?);
+    for j in 0..4 {
+        let items = chart.items(j);
+        assert!(rt; 0 < items && items <= 94 * (j + 1));
+    }
+    Ok(())
+}
+
 #[test]
 fn nodes_of_a_grammar(rt: HostRuntime) -> Result<(), Fail> {
-    // the operand's name has no root but the repetition
-    let flat = grammar(rt.alloc(), "a = *b\nb = a\n")?;
-    assert!(rt; flat.nodes() == 4 && flat.whole() == 3);
+    // the operand's name has no root but the repetition, whose turns are counted if they take a letter
+    let flat = grammar(rt.alloc(), "a = *b\nb = a\n", 7)?;
+    assert!(rt; flat.nodes() > 4 && flat.whole() == flat.nodes() - 1);
     assert!(rt; flat.root(0) == Some(1) && flat.root(2) == Some(1));
     assert!(rt; flat.is_nullable(0) && flat.is_nullable(1));
-    if flat.nodes() > 0 {
+    if flat.nodes() > 1 {
         assert!(rt; matches!(flat.node(0), Node::Name(1)));
+        assert!(rt; matches!(flat.node(1), Node::Turns { most: None, operand: 0 }));
     }
     assert!(rt; 65u8.value() == 65);
     Ok(())
@@ -219,12 +237,12 @@ fn nodes_of_a_grammar(rt: HostRuntime) -> Result<(), Fail> {
 
 #[test]
 fn one_chart_for_many_lines(rt: HostRuntime) -> Result<(), Fail> {
-    let flat = grammar(rt.alloc(), DOUBLES)?;
+    let flat = grammar(rt.alloc(), DOUBLES, 7)?;
     let mut chart = Chart::new(rt.alloc());
     let line = b"aaaaaaa";
     for n in 0..1000 {
         let end = n % 8;
-        assert!(rt; judge(&mut chart, &flat, &line[..end])?);
+        assert!(rt; is_derived(&mut chart, &flat, &line[..end])?);
         assert!(rt; chart.items(end + 1) == 0);
     }
     Ok(())

@@ -3,7 +3,7 @@ use abnfcheck::check_abnf;
 use abnfread::read_abnf;
 use earley::{Chart, Verdict, viable};
 use flatgrammar::Flat;
-use letters::{Alphabet, decode};
+use letters::{Alphabet, Letter, decode};
 use ruletable::Memory;
 use std::alloc::Global;
 use std::test::Fail;
@@ -144,7 +144,15 @@ static ROWS: [Row; 16] = [
     ),
 ];
 
-// The flat grammar of a text, without its parts that derive nothing.
+// What is told of a line that is not too long.
+fn told_of<L: Letter>(chart: &mut Chart, flat: &Flat, line: &[L]) -> Result<Verdict, Memory> {
+    if line.len() > flat.limit() {
+        return Err(Memory);
+    }
+    viable(chart, flat, line)
+}
+
+// The flat grammar of a text, without its parts that derive nothing, for lines of at most seven letters.
 fn lowered(
     alloc: Global,
     text: &[u8],
@@ -153,14 +161,14 @@ fn lowered(
 ) -> Result<Flat, Fail> {
     let checked = check_abnf(alloc, read_abnf(alloc, text)?, rule)?;
     let grammar = checked.sound.ok_or("refused")?;
-    Ok(lower_viable(alloc, &grammar, alphabet)?)
+    Ok(lower_viable(alloc, &grammar, alphabet, 7)?)
 }
 
 // Whether each line of bytes is told of as it says, by one chart.
 fn are_told(alloc: Global, flat: &Flat, lines: &[(&str, Verdict)]) -> Result<bool, Memory> {
     let mut chart = Chart::new(alloc);
     for row in lines {
-        if viable(&mut chart, flat, row.0.as_bytes())? != row.1 {
+        if told_of(&mut chart, flat, row.0.as_bytes())? != row.1 {
             return Ok(false);
         }
     }
@@ -203,7 +211,7 @@ fn are_told_by_points(
     let mut points = Vec::new(alloc);
     for row in lines {
         let is_text = decode(row.0, &mut points)?;
-        if !is_text || viable(&mut chart, flat, points.as_slice())? != row.1 {
+        if !is_text || told_of(&mut chart, flat, points.as_slice())? != row.1 {
             return Ok(false);
         }
     }

@@ -118,7 +118,7 @@ static ANSWERED: [AbnfRow; 19] = [
         2,
     ),
     (
-        b"s = 65536\"a\"",
+        b"s = 4294967296\"a\"",
         None,
         65536,
         b"x\n",

@@ -5,7 +5,7 @@ use commands::Program;
 use gramtools::Status;
 use std::test::Fail;
 
-static ROWS: [CommandRow; 20] = [
+static ROWS: [CommandRow; 19] = [
     (
         "word = 1*ALPHA",
         &[],
@@ -94,14 +94,6 @@ static ROWS: [CommandRow; 20] = [
         b"x\n",
         b"",
         b"line 2: syntax error\n",
-        Status::Refused,
-    ),
-    (
-        "s = 65536\"a\"",
-        &[],
-        b"a\n",
-        b"",
-        b"line 1: number too large\n",
         Status::Refused,
     ),
     (

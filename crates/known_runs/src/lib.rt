@@ -15,6 +15,8 @@ mod command_words;
 #[cfg(test)]
 mod fakes;
 #[cfg(test)]
+mod repeat_rows;
+#[cfg(test)]
 mod tests;
 #[cfg(test)]
 mod viable_runs;
