@@ -13,7 +13,7 @@ ghost use Rattle.desk.specs.State.{AreCells};
 ghost use Rattle.desk.specs.Turns.{IsTurn};
 
 use crate::frame::Frame;
-use crate::turn::{Turn, and, leaf_turn, next_turn, not, opt, plus, same, star};
+use crate::turn::{Turn, again, and, leaf_turn, next_turn, not, opt, plus, same, star};
 use cells::{Cells, Found};
 use gramcheck::{Node, SoundPeg};
 use pegmatch::{match_any, match_bytes, match_set};
@@ -322,17 +322,27 @@ pub(crate) fn turn_on(
                 Err(halt) => Err(halt),
             }
         }
-        Node::Star(operand) => match see(peg, window, more, cells, *operand, place) {
-            Ok(found) => Ok(star(cells, found, top.node, *operand, place)),
-            Err(halt) => Err(halt),
-        },
+        Node::Star(operand) => {
+            if top.next > 0 {
+                return Ok(again(cells, top.node, top.end));
+            }
+            match see(peg, window, more, cells, *operand, place) {
+                Ok(found) => Ok(star(cells, found, top.node, *operand, place)),
+                Err(halt) => Err(halt),
+            }
+        }
         Node::Plus {
             operand,
-            star: again,
-        } => match see(peg, window, more, cells, *operand, place) {
-            Ok(found) => Ok(plus(cells, found, *again, *operand, place)),
-            Err(halt) => Err(halt),
-        },
+            star: rest,
+        } => {
+            if top.next > 0 {
+                return Ok(again(cells, *rest, top.end));
+            }
+            match see(peg, window, more, cells, *operand, place) {
+                Ok(found) => Ok(plus(cells, found, *rest, *operand, place)),
+                Err(halt) => Err(halt),
+            }
+        }
         Node::Opt(operand) => match see(peg, window, more, cells, *operand, place) {
             Ok(found) => Ok(opt(found, *operand, place)),
             Err(halt) => Err(halt),

@@ -4,7 +4,7 @@ use Rattle.gramcheck.specs.Nodes.{shape_of}
 use Rattle.gramcheck.proofs.NodeSpellsLemmas.{is_there}
 use Rattle.pegmatch.proofs.NodeShapeLemmas.{shape_at}
 use Rattle.desk.proofs.IsNextLemmas.{at_top}
-use Rattle.desk.proofs.IsOnLemmas.{stays, child, halts, asks_name, name_on, asks_star, star_on, asks_plus, plus_on, asks_opt, opt_on, asks_and, and_on, asks_not, not_on}
+use Rattle.desk.proofs.IsOnLemmas.{stays, child, halts, asks_name, name_on, asks_star, star_on, star_again, asks_plus, plus_on, plus_again, asks_opt, opt_on, asks_and, and_on, asks_not, not_on}
 use Rattle.desk.proofs.ahead.turn_on.Goals as goal
 
 pub node-requires : goal.node-requires
@@ -114,3 +114,9 @@ next_turn-requires-clause-come c = (at_top _ _ _ c.start-start.ensures.sound _ _
 
 pub returns-in_default : goal.returns-in_default
 returns-in_default c = λ below fits. (_, _, stays _ _ _ c.start-start.ensures.sound below _ _ fits, c.next_turn.ensures)
+
+pub returns-then-top-gt0 : goal.returns-then-top-gt0
+returns-then-top-gt0 c = λ below fits. rw c.again.ensures (star_again _ _ _ c.start-start.ensures.sound below _ _ fits _ (shape_at c.args.peg.now.nodes c.args.top.node _ (c.node.ensures ∙ ap Some c.in-Star.is)) c.if-top-gt0.true)
+
+pub returns-then-top-gt0-2 : goal.returns-then-top-gt0-2
+returns-then-top-gt0-2 c = λ below fits. rw c.again-then-top-gt0-2.ensures (plus_again _ _ _ c.start-start.ensures.sound below _ _ fits _ _ (shape_at c.args.peg.now.nodes c.args.top.node _ (c.node.ensures ∙ ap Some c.in-Plus.is)) c.if-top-gt0-2.true)
