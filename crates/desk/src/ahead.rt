@@ -13,6 +13,7 @@ ghost use Rattle.desk.specs.State.{AreCells};
 ghost use Rattle.desk.specs.Turns.{IsTurn};
 
 use crate::frame::Frame;
+use crate::repeat::{repeat_byte, takes_byte};
 use crate::turn::{Turn, again, and, leaf_turn, next_turn, not, opt, plus, same, star};
 use cells::{Cells, Found};
 use gramcheck::{Node, SoundPeg};
@@ -325,6 +326,9 @@ pub(crate) fn turn_on(
         Node::Star(operand) => {
             if top.next > 0 {
                 return Ok(again(cells, top.node, top.end));
+            }
+            if takes_byte(peg.node(*operand)) {
+                return repeat_byte(peg, window, more, cells, *operand, top);
             }
             match see(peg, window, more, cells, *operand, place) {
                 Ok(found) => Ok(star(cells, found, top.node, *operand, place)),
