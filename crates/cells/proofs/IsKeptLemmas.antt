@@ -13,7 +13,7 @@ use Rattle.cells.specs.Links.{IsLast, AreLinked}
 use Rattle.cells.specs.Rows.{row_of, number_of, fold}
 use Rattle.cells.proofs.FoundAtLemmas.{found_at_end, free_none, held_found}
 use Rattle.cells.proofs.PushLemmas.{push_cases, mapped_from}
-use Rattle.cells.proofs.AreLinkedLemmas.{AreLinked-push, AreLinked-same}
+use Rattle.cells.proofs.AreLinkedLemmas.{AreLinked-none, AreLinked-push, AreLinked-same}
 
 some-inj : {A : Type 0} (x y : A) → Some x ≡ Some y → x ≡ y
 some-inj x y e = cc
@@ -76,6 +76,18 @@ IsMap-push xs e m free i j a b ha hb hn hp =
       ]
     ]
 
+-- no cells, and rows that have none
+pub IsKept-none : (stride : ℕ) (cells : List Cell) (rows : List ℕ) → cells ≡ [] → ((b h : ℕ) → slice_get rows b ≡ Some h → h ≡ 0) → IsKept stride 0 cells rows
+IsKept-none stride cells rows is none = rw is (record {
+  linked = AreLinked-none (row_of (length rows) 0 stride) rows none;
+  some = λ h. absurd (omega arith);
+  masked = λ h. h;
+  map = λ i j a b ha hb hn hp. absurd (cc ha);
+  narrow = λ i c h. absurd (cc h);
+  within = λ _ i c h. absurd (cc h);
+  few = omega arith;
+})
+
 pub IsKept-push : (stride mask : ℕ) (cells : List Cell) (rows : List ℕ) (c : Cell) (row : ℕ) → IsKept stride mask cells rows →
     0 < length rows → IsFree (entries_of cells) c.node c.place → (c.node < 4294967295) × (c.place < 4294967295) →
     row ≡ row_of (length rows) mask stride c → IsLast (row_of (length rows) mask stride) cells (length cells) row c.link → length cells < 4294967294 →
@@ -91,7 +103,7 @@ IsKept-push stride mask cells rows c row k some free small is last few low = rec
   few = omega (arith, length-append cells (c ∷ []));
 }
 
-fold-below : (count mask x : ℕ) → x < count → fold count mask x ≡ x
+pub fold-below : (count mask x : ℕ) → x < count → fold count mask x ≡ x
 unfolding fold
 fold-below count mask x h = grind (arith, nat_tests)
 

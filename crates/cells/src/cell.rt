@@ -21,8 +21,15 @@ pub(crate) struct Cell {
     pub(crate) link: u32,
 }
 
-// The end that stands for a failure.
-const FAILED: u32 = 4_294_967_295;
+/// The end that stands for a failure.
+pub(crate) const FAILED: u32 = 4_294_967_295;
+
+/// A node at a place, as a cell keeps them.
+#[derive(Clone, Copy)]
+pub(crate) struct Key {
+    pub(crate) node: u32,
+    pub(crate) place: u32,
+}
 
 /// A number as a cell keeps it; none if it is too great.
 #[inline(always)]

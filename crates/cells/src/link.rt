@@ -2,9 +2,9 @@
 ghost use Rattle.std.specs.Prelude.{◌≡◌, ℕ, ◌<◌, ◌≤◌, ◌^◌, length, slice_get, Some, IfSome, IfNone};
 ghost use Rattle.cells.specs.CellEntries.{IsAt, IsNowhere, entries_of};
 ghost use Rattle.cells.specs.Links.{IsLast, AreLinked};
-ghost use Rattle.cells.specs.Rows.{row_of as the_row_of};
+ghost use Rattle.cells.specs.Rows.{row_of as the_row_of, number_of as number, fold as folded};
 
-use crate::cell::Cell;
+use crate::cell::{Cell, Key};
 use crate::rows::{fold, number_of};
 
 /// One more than the index of the last cell of the row, or 0.
@@ -24,19 +24,19 @@ pub(crate) fn walk(
     heads: &[u32],
     stride: u32,
     mask: usize,
-    node: u32,
-    place: u32,
+    row: usize,
+    key: Key,
 ) -> Option<u32>
-    requires masked { mask < length heads.now }
+    requires within { row < length heads.now }
+    requires row { row ≡ folded (length heads.now) mask (number stride key.node key.place) }
     requires linked { AreLinked (the_row_of (length heads.now) mask stride) cells.now heads.now }
-    ensures found { IfSome result (λ e. IsAt cells.now node place e) }
-    ensures none { IfNone result (IsNowhere cells.now node place) }
+    ensures found { IfSome result (λ e. IsAt cells.now key.node key.place e) }
+    ensures none { IfNone result (IsNowhere cells.now key.node key.place) }
 {
-    let row = fold(heads.len(), mask, number_of(stride, node, place));
     let mut at = last_of(cells, heads, stride, mask, row);
     while at > 0 {
         let cell = cells[at - 1];
-        if cell.node == node && cell.place == place {
+        if cell.node == key.node && cell.place == key.place {
             return Some(cell.end);
         }
         at = cell.link as usize;
@@ -44,33 +44,8 @@ pub(crate) fn walk(
     None
 }
 
-/// The end of the cell of that node and place. The last cell is tried first: it is mostly the one that is sought.
-#[inline(always)]
-pub(crate) fn find(
-    cells: &[Cell],
-    heads: &[u32],
-    stride: u32,
-    mask: usize,
-    node: u32,
-    place: u32,
-) -> Option<u32>
-    requires masked { mask < length heads.now }
-    requires linked { AreLinked (the_row_of (length heads.now) mask stride) cells.now heads.now }
-    ensures found { IfSome result (λ e. IsAt cells.now node place e) }
-    ensures none { IfNone result (IsNowhere cells.now node place) }
-{
-    let count = cells.len();
-    if count > 0 {
-        let last = cells[count - 1];
-        if last.node == node && last.place == place {
-            return Some(last.end);
-        }
-    }
-    walk(cells, heads, stride, mask, node, place)
-}
-
 /// Empties all rows.
-fn wipe(heads: &mut [u32])
+pub(crate) fn wipe(heads: &mut [u32])
     ensures count { length heads.new ≡ length heads.old }
     ensures none { (b h : ℕ) → slice_get heads.new b ≡ Some h → h ≡ 0 }
 {

@@ -1,11 +1,12 @@
 //! The cells as a finite map.
-ghost use Rattle.std.specs.Prelude.{◌≡◌, ◌<◌, ◌≤◌, ◌++◌, ◌∷◌, ◌^◌, [], length, false, None, IfOk, IfSome, OnOk, OnErr};
+ghost use Rattle.std.specs.Prelude.{◌≡◌, ℕ, ◌<◌, ◌≤◌, ◌++◌, ◌∷◌, ◌^◌, [], length, slice_get, false, Some, None, IfOk, IfNone, IfSome, OnOk, OnErr};
 ghost use Rattle.cells.specs.Entries.{found_at, IsKnown};
-ghost use Rattle.cells.specs.CellEntries.{IsFree, IsKept, entry_of, entries_of, found_of};
-ghost use Rattle.cells.specs.Rows.{number_of as number};
+ghost use Rattle.cells.specs.CellEntries.{IsAt, IsFree, IsKept, IsNowhere, entry_of, entries_of, found_of};
+ghost use Rattle.cells.specs.Links.{AreLinked};
+ghost use Rattle.cells.specs.Rows.{number_of as number, fold as folded, row_of};
 
-use crate::cell::{Cell, Found, end_of, found_of_end, narrow};
-use crate::link::{find, last_of, relink, walk};
+use crate::cell::{Cell, FAILED, Found, Key, end_of, found_of_end, narrow};
+use crate::link::{last_of, relink, walk, wipe};
 use crate::rows::{fold, number_of};
 use ruletable::Memory;
 use std::alloc::Global;
@@ -13,6 +14,9 @@ use std::marker::Model;
 
 // The rows of a first growth.
 const FIRST: usize = 256;
+
+// So many rows are emptied one by one; more are dropped, and made again as they are wanted.
+const KEPT: usize = 64;
 
 /// The cells of one unit, seen as the list of their entries in the order in which they were put.
 ///
@@ -113,8 +117,8 @@ fn needs_rows(cells: usize, rows: usize, mask: usize, number: usize) -> bool
 }
 
 // Makes more rows where that is wanted. The result is the mask.
-#[inline(always)]
-fn make_rows(
+#[inline(never)]
+fn more_rows(
     cells: &mut [Cell],
     rows: &mut Vec<u32>,
     stride: u32,
@@ -135,18 +139,50 @@ fn make_rows(
     }
 }
 
+// The row of a number, with more rows where they are wanted.
+#[inline(always)]
+fn row_for(
+    cells: &mut [Cell],
+    rows: &mut Vec<u32>,
+    stride: u32,
+    mask: &mut usize,
+    number: usize,
+) -> Result<usize, Memory>
+    requires { IsKept stride mask.old cells.old rows.old.items }
+    ensures kept { IsKept stride mask.new cells.new rows.new.items }
+    ensures same { entries_of cells.new ≡ entries_of cells.old }
+    ensures row { IfOk result (λ row. row ≡ folded (length rows.new.items) mask.new number) }
+    ensures there { IfOk result (λ row. row < length rows.new.items) }
+    ensures within { OnOk result (mask.new ≡ 0 → number < length rows.new.items) }
+{
+    if number < rows.len() {
+        return Ok(number);
+    }
+    *mask = more_rows(cells, rows, stride, *mask, number)?;
+    Ok(fold(rows.len(), *mask, number))
+}
+
 // The cell of what was found, not linked yet; none if a number is too great.
 #[inline(always)]
 fn cell_of(node: usize, place: usize, found: Found) -> Option<Cell>
     ensures entry { IfSome result (λ c. entry_of c ≡ record { node = node; place = place; found = found }) }
     ensures narrow { IfSome result (λ c. (c.node < 4294967295) × (c.place < 4294967295)) }
 {
-    Some(Cell {
-        node: narrow(node)?,
-        place: narrow(place)?,
-        end: end_of(found)?,
-        link: 0,
-    })
+    if node >= FAILED as usize {
+        return None;
+    }
+    if place >= FAILED as usize {
+        return None;
+    }
+    match end_of(found) {
+        Some(end) => Some(Cell {
+            node: node as u32,
+            place: place as u32,
+            end,
+            link: 0,
+        }),
+        None => None,
+    }
 }
 
 // Adds a cell behind the last one of its row.
@@ -156,10 +192,12 @@ fn add(
     rows: &mut [u32],
     stride: u32,
     mask: usize,
+    row: usize,
     cell: Cell,
 ) -> Result<(), Memory>
     requires kept { IsKept stride mask cells.old.items rows.old }
-    requires some { 0 < length rows.old }
+    requires there { row < length rows.old }
+    requires row { row ≡ folded (length rows.old) mask (number stride cell.node cell.place) }
     requires within { mask ≡ 0 → number stride cell.node cell.place < length rows.old }
     requires free { IsFree (entries_of cells.old.items) cell.node cell.place }
     requires narrow { (cell.node < 4294967295) × (cell.place < 4294967295) }
@@ -170,7 +208,6 @@ fn add(
     if cells.len() >= 4_294_967_294 {
         return Err(Memory);
     }
-    let row = fold(rows.len(), mask, number_of(stride, cell.node, cell.place));
     let link = last_of(cells, rows, stride, mask, row);
     let linked = Cell {
         link: link as u32,
@@ -198,8 +235,8 @@ fn insert(
     ensures unchanged { OnErr result (entries_of cells.new.items ≡ entries_of cells.old.items) }
 {
     let at = number_of(stride, cell.node, cell.place);
-    *mask = make_rows(cells, rows, stride, *mask, at)?;
-    add(cells, rows, stride, *mask, cell)
+    let row = row_for(cells, rows, stride, mask, at)?;
+    add(cells, rows, stride, *mask, row, cell)
 }
 
 // The end that the cell of that pair has, or adds the cell and gives its end.
@@ -218,14 +255,61 @@ fn find_or_insert(
     ensures unchanged { OnErr result (entries_of cells.new.items ≡ entries_of cells.old.items) }
 {
     let at = number_of(stride, cell.node, cell.place);
-    *mask = make_rows(cells, rows, stride, *mask, at)?;
-    if let Some(end) = walk(cells, rows, stride, *mask, cell.node, cell.place) {
+    let row = row_for(cells, rows, stride, mask, at)?;
+    let key = Key {
+        node: cell.node,
+        place: cell.place,
+    };
+    if let Some(end) = walk(cells, rows, stride, *mask, row, key) {
         return Ok(end);
     }
-    match add(cells, rows, stride, *mask, cell) {
+    match add(cells, rows, stride, *mask, row, cell) {
         Ok(()) => Ok(cell.end),
         Err(fault) => Err(fault),
     }
+}
+
+// The end of the cell of that pair, which is sought where its number is no row.
+#[inline(never)]
+fn end_far(cells: &[Cell], rows: &[u32], stride: u32, mask: usize, key: Key) -> Option<u32>
+    requires linked { AreLinked (row_of (length rows.now) mask stride) cells.now rows.now }
+    requires some { 0 < length cells.now → 0 < length rows.now }
+    requires masked { 0 < length rows.now → mask < length rows.now }
+    ensures found { IfSome result (λ e. IsAt cells.now key.node key.place e) }
+    ensures none { IfNone result (IsNowhere cells.now key.node key.place) }
+{
+    if rows.is_empty() {
+        return None;
+    }
+    let row = fold(rows.len(), mask, number_of(stride, key.node, key.place));
+    walk(cells, rows, stride, mask, row, key)
+}
+
+// The end of the cell of that pair. Mostly its number is a row.
+#[inline(always)]
+fn end_at(cells: &[Cell], rows: &[u32], stride: u32, mask: usize, key: Key) -> Option<u32>
+    requires linked { AreLinked (row_of (length rows.now) mask stride) cells.now rows.now }
+    requires some { 0 < length cells.now → 0 < length rows.now }
+    requires masked { 0 < length rows.now → mask < length rows.now }
+    ensures found { IfSome result (λ e. IsAt cells.now key.node key.place e) }
+    ensures none { IfNone result (IsNowhere cells.now key.node key.place) }
+{
+    let row = number_of(stride, key.node, key.place);
+    if row >= rows.len() {
+        return end_far(cells, rows, stride, mask, key);
+    }
+    walk(cells, rows, stride, mask, row, key)
+}
+
+// Empties all rows.
+fn empty(rows: &mut Vec<u32>)
+    ensures none { (b h : ℕ) → slice_get rows.new.items b ≡ Some h → h ≡ 0 }
+{
+    if rows.len() > KEPT {
+        rows.clear();
+        return;
+    }
+    wipe(rows);
 }
 
 impl Cells {
@@ -246,7 +330,7 @@ impl Cells {
         ensures { self.new ≡ [] }
     {
         self.cells.clear();
-        self.rows.clear();
+        empty(&mut self.rows);
         self.stride = match narrow(nodes / 32 + 1) {
             Some(rows) => rows | 1,
             None => 1,
@@ -266,18 +350,37 @@ impl Cells {
     pub fn get(&self, node: usize, place: usize) -> Option<Found>
         ensures { result ≡ found_at self.now node place }
     {
-        if self.rows.is_empty() {
+        let stride = self.stride;
+        if node >= FAILED as usize {
             return None;
         }
-        let Some(node) = narrow(node) else {
+        if place >= FAILED as usize {
             return None;
+        }
+        let key = Key {
+            node: node as u32,
+            place: place as u32,
         };
-        let Some(place) = narrow(place) else {
-            return None;
-        };
-        match find(&self.cells, &self.rows, self.stride, self.mask, node, place) {
+        match end_at(&self.cells, &self.rows, stride, self.mask, key) {
             Some(end) => Some(found_of_end(end)),
             None => None,
+        }
+    }
+
+    /// What the node gave at the place, if its cell there is the last one.
+    #[inline(always)]
+    pub fn last(&self, node: usize, place: usize) -> Option<Found>
+        ensures { IfSome result (λ found. found_at self.now node place ≡ Some found) }
+    {
+        let count = self.cells.len();
+        if count == 0 {
+            return None;
+        }
+        let cell = self.cells[count - 1];
+        if cell.node as usize == node && cell.place as usize == place {
+            Some(found_of_end(cell.end))
+        } else {
+            None
         }
     }
 

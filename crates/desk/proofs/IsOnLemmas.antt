@@ -21,14 +21,14 @@ use Rattle.desk.specs.declared.run.Next.TheVariants as next
 use Rattle.desk.specs.Desk.{counted, Fits, IsNext}
 use Rattle.desk.specs.State as state
 use Rattle.desk.specs.State.{HaveTaken, HaveFailed, IsUnderWay}
-use Rattle.desk.specs.Turns.{same_turn, opt_turn, and_turn, not_turn, star_turn, plus_turn, IsWalk, IsSearch, IsTurn}
+use Rattle.desk.specs.Turns.{same_turn, again_turn, opt_turn, and_turn, not_turn, star_turn, plus_turn, IsWalk, IsSearch, IsTurn}
 use Rattle.desk.specs.Visits.{Asks, asked}
 use Rattle.desk.proofs.AsksLemmas.{IsVisited, is_visited}
 use Rattle.desk.proofs.HaveTakenLemmas.{asks_member, asks_alternative, taken_on, failed_on}
 use Rattle.desk.proofs.IsNextLemmas.{at_top, leaf_next, leaf_need}
 use Rattle.desk.proofs.IsStackLemmas.{come_on}
 use Rattle.desk.proofs.IsStepLemmas.{IsTop}
-use Rattle.desk.proofs.IsTurnLemmas.{name_is_turn, opt_is_turn, and_is_turn, not_is_turn, star_is_turn, plus_is_turn, seq_is_turn, choice_is_turn}
+use Rattle.desk.proofs.IsTurnLemmas.{name_is_turn, opt_is_turn, and_is_turn, not_is_turn, star_then, star_is_turn, plus_then, plus_is_turn, seq_is_turn, choice_is_turn}
 
 -- one way after another
 pub further : (g : Grammar) (x : List ℕ) (more : Bool) (below : List Frame) (old mid new : List Entry) (t : Frame) (i q j r : ℕ) →
@@ -134,6 +134,15 @@ module _ (g : Grammar) (x : List ℕ) (more : Bool) (sound : IsSoundGrammar g) (
       let a = asks_plus m k at in
       let here = seen m t.place a new v s in
       (t.next, t.end, here, plus_is_turn (rules_of g.rules) g.start (shapes_of g.nodes) g.bodies g.ranks x more sound new here.fits.cells.found t.node t.place top.spelled m k v at (seen_is m t.place a new v s))
+
+  -- a repetition whose operand took what is before its end
+  pub star_again : (m : ℕ) (at : slice_get (shapes_of g.nodes) t.node ≡ Some (node.Star m)) → 0 < t.next → On cells (again_turn t.node t.end (found_at cells t.node t.end))
+  star_again m at lt =
+      (t.next, t.end, stays, star_then (rules_of g.rules) g.start (shapes_of g.nodes) g.bodies g.ranks x more sound cells f.cells.found t.node t.place top.spelled m t.end (found_at cells t.node t.end) at (top.come (node.Star m) at lt) refl)
+
+  pub plus_again : (m k : ℕ) (at : slice_get (shapes_of g.nodes) t.node ≡ Some (node.Plus m k)) → 0 < t.next → On cells (again_turn k t.end (found_at cells k t.end))
+  plus_again m k at lt =
+      (t.next, t.end, stays, plus_then (rules_of g.rules) g.start (shapes_of g.nodes) g.bodies g.ranks x more sound cells f.cells.found t.node t.place top.spelled m k t.end (found_at cells k t.end) at (top.come (node.Plus m k) at lt) refl)
 
   -- where the evaluation of what it asks for stops, it stops
   pub halts : (m q : ℕ) → Asks (rules_of g.rules) (shapes_of g.nodes) g.bodies x t.node t.place m q → (new : List Entry) (h : Halt) → IsSeen (rules_of g.rules) g.start (shapes_of g.nodes) g.bodies x more cells new m q (Err h) → IsOn g x more below cells new t (Err h)

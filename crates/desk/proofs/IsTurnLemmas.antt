@@ -18,7 +18,7 @@ use Rattle.desk.specs.declared.turn.Turn.{Turn}
 use Rattle.desk.specs.declared.turn.Turn.TheVariants.{Ask, Answer, Need}
 use Rattle.cells.specs.Entries.{found_at}
 use Rattle.desk.specs.State.{HasCell, HasCome, IsUnderWay, IsFound}
-use Rattle.desk.specs.Turns.{same_turn, opt_turn, and_turn, not_turn, star_turn, plus_turn, IsLeafTurn, IsWalk, IsSearch, IsTurn}
+use Rattle.desk.specs.Turns.{same_turn, again_turn, opt_turn, and_turn, not_turn, star_turn, plus_turn, IsLeafTurn, IsWalk, IsSearch, IsTurn}
 use Rattle.desk.specs.Visits.{AsksBy, Asks}
 use Rattle.desk.proofs.GivesLemmas.{name_gives, opt_gives_takes, opt_gives_none, and_gives_takes, and_gives_fails, not_gives_takes, not_gives_fails, star_gives_none, star_gives_more, star_never_fails, plus_gives_fails, plus_gives_takes, plus_star}
 use Rattle.desk.proofs.HaveTakenLemmas.{ends_alike, nor_both, takes_by, asks_member, asks_alternative, all_fail, fail_closed, all_take, take_closed, first_found, found_closed, none_found, none_closed}
@@ -112,9 +112,9 @@ module _ (rules : List Rule) (start : ℕ) (nodes : List Shape) (bodies ranks x 
   enough_both : (j k : ℕ) → (more ≡ true → j < length x) → (more ≡ true → k < length x) → more ≡ true → max j k < length x
   enough_both j k a b is = omega (arith, a is, b is)
 
-  star_then : (m r : ℕ) (v : Option Found) → slice_get nodes n ≡ Some (node.Star m) → found_at cells m p ≡ Some (Took r) → v ≡ found_at cells n r → Turns (same_turn n r v)
+  pub star_then : (m r : ℕ) (v : Option Found) → slice_get nodes n ≡ Some (node.Star m) → found_at cells m p ≡ Some (Took r) → v ≡ found_at cells n r → Turns (again_turn n r v)
   star_then m r None at g h =
-      (record { shape = node.Star m; at = at; by = inr (refl, takes_by rules start nodes bodies ranks x more sound cells right m p r g) }, sym h, way (node.Star m) 0 r at tt)
+      (record { shape = node.Star m; at = at; by = inr (refl, takes_by rules start nodes bodies ranks x more sound cells right m p r g) }, sym h, way (node.Star m) 1 r at (λ _. g))
   star_then m r (Some Failed) at g h = let f = right n r Failed (sym h) in absurd (star_never_fails rules start nodes bodies ranks x sound n m s r f.looked at f.gives)
   star_then m r (Some (Took z)) at g h =
       let a = right m p (Took r) g in
@@ -132,7 +132,7 @@ module _ (rules : List Rule) (start : ℕ) (nodes : List Shape) (bodies ranks x 
       )
 
   pub star_is_turn : (m : ℕ) (v : Option Found) → slice_get nodes n ≡ Some (node.Star m) → v ≡ found_at cells m p → Turns (star_turn cells n m p v)
-  star_is_turn m None at h = (record { shape = node.Star m; at = at; by = inl (refl, refl) }, sym h, way (node.Star m) 0 p at tt)
+  star_is_turn m None at h = (record { shape = node.Star m; at = at; by = inl (refl, refl) }, sym h, way (node.Star m) 0 p at (λ lt. absurd (omega arith)))
   star_is_turn m (Some Failed) at h =
       let g = right m p Failed (sym h) in (
         record { events = []; looked = g.looked; gives = star_gives_none rules start nodes bodies ranks x sound n m s p g.looked at g.gives; enough = g.enough },
@@ -143,9 +143,9 @@ module _ (rules : List Rule) (start : ℕ) (nodes : List Shape) (bodies ranks x 
       )
   star_is_turn m (Some (Took r)) at h = star_then m r (found_at cells n r) at (sym h) refl
 
-  plus_then : (m i r : ℕ) (v : Option Found) → slice_get nodes n ≡ Some (node.Plus m i) → found_at cells m p ≡ Some (Took r) → v ≡ found_at cells i r → Turns (same_turn i r v)
+  pub plus_then : (m i r : ℕ) (v : Option Found) → slice_get nodes n ≡ Some (node.Plus m i) → found_at cells m p ≡ Some (Took r) → v ≡ found_at cells i r → Turns (again_turn i r v)
   plus_then m i r None at g h =
-      (record { shape = node.Plus m i; at = at; by = inr (refl, takes_by rules start nodes bodies ranks x more sound cells right m p r g) }, sym h, way (node.Plus m i) 0 r at tt)
+      (record { shape = node.Plus m i; at = at; by = inr (refl, takes_by rules start nodes bodies ranks x more sound cells right m p r g) }, sym h, way (node.Plus m i) 1 r at (λ _. g))
   plus_then m i r (Some Failed) at g h =
       let f = right i r Failed (sym h) in
       let star = plus_star rules start nodes bodies ranks x sound n m s i at in
@@ -166,7 +166,7 @@ module _ (rules : List Rule) (start : ℕ) (nodes : List Shape) (bodies ranks x 
       )
 
   pub plus_is_turn : (m i : ℕ) (v : Option Found) → slice_get nodes n ≡ Some (node.Plus m i) → v ≡ found_at cells m p → Turns (plus_turn cells i m p v)
-  plus_is_turn m i None at h = (record { shape = node.Plus m i; at = at; by = inl (refl, refl) }, sym h, way (node.Plus m i) 0 p at tt)
+  plus_is_turn m i None at h = (record { shape = node.Plus m i; at = at; by = inl (refl, refl) }, sym h, way (node.Plus m i) 0 p at (λ lt. absurd (omega arith)))
   plus_is_turn m i (Some Failed) at h =
       let g = right m p Failed (sym h) in (
         record { events = []; looked = g.looked; gives = plus_gives_fails rules start nodes bodies ranks x sound n m s i p g.looked at g.gives; enough = g.enough },

@@ -7,9 +7,12 @@ use Rattle.gramcheck.specs.Nodes.{Shape, shapes_of}
 use Rattle.gramcheck.specs.Outcome.{Outcome}
 use Rattle.pegmatch.specs.Answers.{StartGives}
 use Rattle.cells.specs.declared.cell.Found.{Found}
+use Rattle.cells.specs.declared.cell.Found.TheVariants.{Failed, Took}
 use Rattle.cells.specs.Entries.{Entry, found_at}
 use Rattle.desk.specs.declared.ahead.Halt.{Halt}
 use Rattle.desk.specs.declared.ahead.Halt.TheVariants.{Memory, Short}
+use Rattle.desk.specs.declared.ahead.Seen.{Seen}
+use Rattle.desk.specs.declared.ahead.Seen.TheVariants as seen
 use Rattle.desk.specs.declared.ahead.Sight.{Sight}
 use Rattle.desk.specs.declared.ahead.Sight.TheVariants.{Known, Literal, Operands}
 use Rattle.desk.specs.declared.frame.Frame.{Frame}
@@ -36,6 +39,14 @@ module _ (rules : List Rule) (start : ℕ) (nodes : List Shape) (bodies x : List
   IsSeen (Ok None) = (new ≡ old) × (found_at old n p ≡ None)
   IsSeen (Err Memory) = Unit {0}
   IsSeen (Err Short) = (found_at old n p ≡ None) × IsTurn rules start nodes bodies x more old n p Need
+
+-- what is seen, told in full
+abbrev pub seen_as : Seen → Result (Option Found) Halt
+seen_as seen.Failed = Ok (Some Failed)
+seen_as (seen.Took q) = Ok (Some (Took q))
+seen_as seen.Free = Ok None
+seen_as seen.Memory = Err Memory
+seen_as seen.Short = Err Short
 
 -- a frame that has come to its member i at q
 abbrev pub come_to : Frame → ℕ → ℕ → Frame

@@ -4,3 +4,4 @@ pub mod State
 pub mod Turns
 pub mod Desk
 pub mod Path
+pub mod Repeats

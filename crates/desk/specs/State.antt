@@ -40,8 +40,8 @@ module _ (cells : List Entry) where
   HasCome (Name id) p i q = Unit {0}
   HasCome (Seq ms) p i q = HaveTaken ms p i q
   HasCome (Choice ms) p i q = HaveFailed p ms i
-  HasCome (Star k) p i q = Unit {0}
-  HasCome (Plus k s) p i q = Unit {0}
+  HasCome (Star k) p i q = 0 < i → found_at cells k p ≡ Some (Took q)
+  HasCome (Plus k s) p i q = 0 < i → found_at cells k p ≡ Some (Took q)
   HasCome (Opt k) p i q = Unit {0}
   HasCome (And k) p i q = Unit {0}
   HasCome (Not k) p i q = Unit {0}

@@ -33,15 +33,20 @@ not_turn m p None = Ask m p 0 p
 not_turn m p (Some Failed) = Answer (Took p)
 not_turn m p (Some (Took q)) = Answer Failed
 
+-- what the node that goes on with a repetition gives behind one turn of it, handed on
+abbrev pub again_turn : ℕ → ℕ → Option Found → Turn
+again_turn n q None = Ask n q 1 q
+again_turn n q (Some f) = Answer f
+
 abbrev pub star_turn : List Entry → ℕ → ℕ → ℕ → Option Found → Turn
 star_turn cells n m p None = Ask m p 0 p
 star_turn cells n m p (Some Failed) = Answer (Took p)
-star_turn cells n m p (Some (Took q)) = same_turn n q (found_at cells n q)
+star_turn cells n m p (Some (Took q)) = again_turn n q (found_at cells n q)
 
 abbrev pub plus_turn : List Entry → ℕ → ℕ → ℕ → Option Found → Turn
 plus_turn cells s m p None = Ask m p 0 p
 plus_turn cells s m p (Some Failed) = Answer Failed
-plus_turn cells s m p (Some (Took q)) = same_turn s q (found_at cells s q)
+plus_turn cells s m p (Some (Took q)) = again_turn s q (found_at cells s q)
 
 -- what was found without operands stands, unless the comparison reached the last byte of a window behind which there is more
 abbrev pub IsLeafTurn : Tried → ℕ → Bool → Turn → Type 0

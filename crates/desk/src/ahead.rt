@@ -7,13 +7,14 @@ ghost use Rattle.pegmatch.specs.KeptEvents.{SpellsSome};
 ghost use Rattle.cells.specs.Entries.{Entry, found_at};
 ghost use Rattle.cells.specs.declared.cell.Found.{Found};
 ghost use Rattle.desk.specs.declared.frame.Frame.{Frame};
-ghost use Rattle.desk.specs.Ahead.{IsSight, IsSeen, IsOn};
+ghost use Rattle.desk.specs.Ahead.{IsSight, IsSeen, IsOn, seen_as};
 ghost use Rattle.desk.specs.Desk.{counted, Fits};
 ghost use Rattle.desk.specs.State.{AreCells};
 ghost use Rattle.desk.specs.Turns.{IsTurn};
 
 use crate::frame::Frame;
-use crate::turn::{Turn, and, leaf_turn, next_turn, not, opt, plus, same, star};
+use crate::repeat::{repeat_byte, takes_byte};
+use crate::turn::{Turn, again, and, leaf_turn, next_turn, not, opt, plus, same, star};
 use cells::{Cells, Found};
 use gramcheck::{Node, SoundPeg};
 use pegmatch::{match_any, match_bytes, match_set};
@@ -82,8 +83,44 @@ fn literal_of(peg: &SoundPeg, window: &[u8], more: bool, node: usize, place: usi
     }
 }
 
+/// What is seen of a node at a place, in a tag and a number.
+#[derive(Clone, Copy, PartialEq, Eq, Debug)]
+pub(crate) enum Seen {
+    Failed,
+    Took(usize),
+    Free,
+    Memory,
+    Short,
+}
+
+#[inline(always)]
+fn flat(seen: Result<Option<Found>, Halt>) -> Seen
+    ensures { seen_as result ≡ seen }
+{
+    match seen {
+        Ok(Some(Found::Failed)) => Seen::Failed,
+        Ok(Some(Found::Took(end))) => Seen::Took(end),
+        Ok(None) => Seen::Free,
+        Err(Halt::Memory) => Seen::Memory,
+        Err(Halt::Short) => Seen::Short,
+    }
+}
+
+#[inline(always)]
+fn unfold(seen: Seen) -> Result<Option<Found>, Halt>
+    ensures { result ≡ seen_as seen }
+{
+    match seen {
+        Seen::Failed => Ok(Some(Found::Failed)),
+        Seen::Took(end) => Ok(Some(Found::Took(end))),
+        Seen::Free => Ok(None),
+        Seen::Memory => Err(Halt::Memory),
+        Seen::Short => Err(Halt::Short),
+    }
+}
+
 // The cell of a literal at a place, which it gets where it has none.
-#[inline(never)]
+#[inline(always)]
 fn see_literal(
     peg: &SoundPeg,
     window: &[u8],
@@ -112,8 +149,28 @@ fn see_literal(
     }
 }
 
-// The cell of a node at a place which would look at the last byte of the window, if it has one.
+// The same, apart from the loops that come to it seldom.
 #[inline(never)]
+fn see_literal_apart(
+    peg: &SoundPeg,
+    window: &[u8],
+    more: bool,
+    cells: &mut Cells,
+    node: usize,
+    place: usize,
+) -> Seen
+    requires sound { IsSoundGrammar peg.now }
+    requires spells { SpellsSome (rules_of peg.now.rules) (shapes_of peg.now.nodes) node }
+    requires place { place ≤ length window.now }
+    requires some { more ≡ true → 0 < length window.now }
+    requires right { AreCells (rules_of peg.now.rules) peg.now.start (shapes_of peg.now.nodes) peg.now.bodies window.now more cells.old }
+    ensures { IsSeen (rules_of peg.now.rules) peg.now.start (shapes_of peg.now.nodes) peg.now.bodies window.now more cells.old cells.new node place (seen_as result) }
+{
+    flat(see_literal(peg, window, more, cells, node, place))
+}
+
+// The cell of a node at a place which would look at the last byte of the window, if it has one.
+#[inline(always)]
 fn held_or_short(cells: &Cells, node: usize, place: usize) -> Result<Option<Found>, Halt>
     ensures held { IfOk result (λ seen. (f : Found) × (seen ≡ Some f) × (found_at cells.now node place ≡ Some f)) }
     ensures short { IfErr result (λ halt. (halt ≡ Halt.Short) × (found_at cells.now node place ≡ None)) }
@@ -124,7 +181,17 @@ fn held_or_short(cells: &Cells, node: usize, place: usize) -> Result<Option<Foun
     }
 }
 
-// The cell of a node at a place; one without operands gets its cell where it has none.
+// The same, apart from the loops that come to it seldom.
+#[inline(never)]
+fn held_or_short_apart(cells: &Cells, node: usize, place: usize) -> Seen
+    ensures held { IfOk (seen_as result) (λ seen. (f : Found) × (seen ≡ Some f) × (found_at cells.now node place ≡ Some f)) }
+    ensures short { IfErr (seen_as result) (λ halt. (halt ≡ Halt.Short) × (found_at cells.now node place ≡ None)) }
+{
+    flat(held_or_short(cells, node, place))
+}
+
+// The cell of a node at a place; one without operands gets its cell where it has none. The last cell is tried first: it is
+// that of the node which was asked for last.
 #[inline(always)]
 fn see(
     peg: &SoundPeg,
@@ -141,13 +208,16 @@ fn see(
     requires right { AreCells (rules_of peg.now.rules) peg.now.start (shapes_of peg.now.nodes) peg.now.bodies window.now more cells.old }
     ensures { IsSeen (rules_of peg.now.rules) peg.now.start (shapes_of peg.now.nodes) peg.now.bodies window.now more cells.old cells.new node place result }
 {
+    if let Some(found) = cells.last(node, place) {
+        return Ok(Some(found));
+    }
     match sight_of(peg, window, more, node, place) {
         Sight::Known(Turn::Answer(found)) => match cells.get_or_put(node, place, found) {
             Ok(known) => Ok(Some(known)),
             Err(_) => Err(Halt::Memory),
         },
-        Sight::Known(Turn::Need) => held_or_short(cells, node, place),
-        Sight::Literal => see_literal(peg, window, more, cells, node, place),
+        Sight::Known(Turn::Need) => unfold(held_or_short_apart(cells, node, place)),
+        Sight::Literal => unfold(see_literal_apart(peg, window, more, cells, node, place)),
         _ => match cells.get(node, place) {
             Some(found) => Ok(Some(found)),
             None => Ok(None),
@@ -253,17 +323,30 @@ pub(crate) fn turn_on(
                 Err(halt) => Err(halt),
             }
         }
-        Node::Star(operand) => match see(peg, window, more, cells, *operand, place) {
-            Ok(found) => Ok(star(cells, found, top.node, *operand, place)),
-            Err(halt) => Err(halt),
-        },
+        Node::Star(operand) => {
+            if top.next > 0 {
+                return Ok(again(cells, top.node, top.end));
+            }
+            if takes_byte(peg.node(*operand)) {
+                return repeat_byte(peg, window, more, cells, *operand, top);
+            }
+            match see(peg, window, more, cells, *operand, place) {
+                Ok(found) => Ok(star(cells, found, top.node, *operand, place)),
+                Err(halt) => Err(halt),
+            }
+        }
         Node::Plus {
             operand,
-            star: again,
-        } => match see(peg, window, more, cells, *operand, place) {
-            Ok(found) => Ok(plus(cells, found, *again, *operand, place)),
-            Err(halt) => Err(halt),
-        },
+            star: rest,
+        } => {
+            if top.next > 0 {
+                return Ok(again(cells, *rest, top.end));
+            }
+            match see(peg, window, more, cells, *operand, place) {
+                Ok(found) => Ok(plus(cells, found, *rest, *operand, place)),
+                Err(halt) => Err(halt),
+            }
+        }
         Node::Opt(operand) => match see(peg, window, more, cells, *operand, place) {
             Ok(found) => Ok(opt(found, *operand, place)),
             Err(halt) => Err(halt),

@@ -5,6 +5,7 @@ mod advance;
 mod ahead;
 mod desk;
 mod frame;
+mod repeat;
 mod replay;
 mod run;
 mod track;

@@ -6,7 +6,7 @@ ghost use Rattle.gramcheck.specs.Nodes.{shapes_of};
 ghost use Rattle.pegmatch.specs.KeptEvents.{SpellsSome};
 ghost use Rattle.cells.specs.Entries.{found_at};
 ghost use Rattle.desk.specs.State.{HaveTaken, HaveFailed, IsUnderWay, AreCells};
-ghost use Rattle.desk.specs.Turns.{same_turn, opt_turn, and_turn, not_turn, star_turn, plus_turn, IsLeafTurn, IsWalk, IsSearch, IsTurn};
+ghost use Rattle.desk.specs.Turns.{same_turn, again_turn, opt_turn, and_turn, not_turn, star_turn, plus_turn, IsLeafTurn, IsWalk, IsSearch, IsTurn};
 
 use crate::frame::Frame;
 use cells::{Cells, Found};
@@ -100,6 +100,22 @@ pub(crate) fn not(found: Option<Found>, operand: usize, place: usize) -> Turn
     }
 }
 
+/// What the node that goes on with a repetition gives at the end of one turn of it, handed on.
+#[inline(always)]
+pub(crate) fn again(cells: &Cells, node: usize, end: usize) -> Turn
+    ensures { result ≡ again_turn node end (found_at cells.now node end) }
+{
+    match cells.get(node, end) {
+        None => Turn::Ask {
+            node,
+            place: end,
+            next: 1,
+            end,
+        },
+        Some(found) => Turn::Answer(found),
+    }
+}
+
 /// What a repetition makes of its operand, and of itself where the operand ended.
 #[inline(always)]
 pub(crate) fn star(
@@ -114,7 +130,7 @@ pub(crate) fn star(
     match found {
         None => ask(operand, place),
         Some(Found::Failed) => Turn::Answer(Found::Took(place)),
-        Some(Found::Took(end)) => same(cells.get(node, end), node, end),
+        Some(Found::Took(end)) => again(cells, node, end),
     }
 }
 
@@ -132,7 +148,7 @@ pub(crate) fn plus(
     match found {
         None => ask(operand, place),
         Some(Found::Failed) => Turn::Answer(Found::Failed),
-        Some(Found::Took(end)) => same(cells.get(star, end), star, end),
+        Some(Found::Took(end)) => again(cells, star, end),
     }
 }
 

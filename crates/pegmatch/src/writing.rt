@@ -163,11 +163,9 @@ pub fn capture_after(capture: Capture, event: Kept) -> Capture
     }
 }
 
-/// Writes what an event prints.
-///
-/// # Errors
-/// Where the writer failed; a beginning was written.
-pub fn write_event<W: Sink>(
+// Writes what an event prints, which is mostly an action.
+#[inline(never)]
+fn write_acted<W: Sink>(
     peg: &SoundPeg,
     window: &[u8],
     raw: bool,
@@ -189,6 +187,32 @@ pub fn write_event<W: Sink>(
             }
             _ => unreachable!(),
         },
+        _ => Ok(()),
+    }
+}
+
+/// Writes what an event prints.
+///
+/// # Errors
+/// Where the writer failed; a beginning was written.
+#[inline(always)]
+pub fn write_event<W: Sink>(
+    peg: &SoundPeg,
+    window: &[u8],
+    raw: bool,
+    event: Kept,
+    capture: Capture,
+    out: &mut W,
+) -> Result<(), WriteFault>
+    requires order { capture.from ≤ capture.to }
+    requires within { capture.to ≤ length window.now }
+    requires stands { (e : Event) × StandsFor (shapes_of peg.now.nodes) event e }
+    ensures bytes { (e : Event) → StandsFor (shapes_of peg.now.nodes) event e →
+        Writes (W.contents out.old) (W.contents out.new) (event_text raw e (slice_range window.now capture.from capture.to)) result }
+    ensures flag { Flags (W.failed out.old) (W.failed out.new) result }
+{
+    match event {
+        Kept::Acted(_) => write_acted(peg, window, raw, event, capture, out),
         _ => Ok(()),
     }
 }

@@ -1,4 +1,4 @@
-use Rattle.std.proofs.Common.{◌≡◌, ◌+◌, length, arith}
+use Rattle.std.proofs.Common.{◌≡◌, ◌+◌, ◌<◌, length, arith}
 use Rattle.cells.proofs.IsKeptLemmas.{IsKept-push}
 use Rattle.cells.proofs.map.add.Goals as goal
 
@@ -6,8 +6,8 @@ pub returns-clause-kept : goal.returns-clause-kept
 returns-clause-kept c =
     let o = c.args.cells.now.ok.0 in
     let l : c.len-2.result ≡ length c.args.cells.now.items + 1 = let q = c.in_ok-push.ensures.len in omega arith in
-    let is = rw c.number_of.ensures at c.fold-row.ensures.value in
+    let s : 0 < length c.args.rows.now = omega arith in
     let last = rw c.deref.ensures.value at c.last_of-link.ensures in
     rw (c.in_ok-push.ensures.items, l)
-    (IsKept-push c.args.stride c.args.mask c.args.cells.now.items c.args.rows.now _ c.fold-row.result c.requires.kept c.requires.some c.requires.free c.requires.narrow
-    is last (omega arith) c.requires.within)
+    (IsKept-push c.args.stride c.args.mask c.args.cells.now.items c.args.rows.now _ c.args.row c.requires.kept s c.requires.free c.requires.narrow
+    c.requires.row last (omega arith) c.requires.within)

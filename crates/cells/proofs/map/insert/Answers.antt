@@ -5,10 +5,10 @@ use Rattle.cells.proofs.map.insert.Goals as goal
 
 pub add-requires-clause-free : goal.add-requires-clause-free
 add-requires-clause-free c =
-    let n = c.make_rows.auto.cells in
+    let n = c.row_for.auto.cells in
     let m = c.deref_mut.ensures.len in
-    let whole : take c.args.cells.now.len (c.make_rows.new.cells ++ drop (length c.make_rows.new.cells) c.args.cells.now.items) ≡ c.make_rows.new.cells =
-    take-whole _ c.make_rows.new.cells _ (sym (n ∙ m)) in
+    let whole : take c.args.cells.now.len (c.row_for.new.cells ++ drop (length c.row_for.new.cells) c.args.cells.now.items) ≡ c.row_for.new.cells =
+    take-whole _ c.row_for.new.cells _ (sym (n ∙ m)) in
     let v = c.deref_mut.ensures.value in
-    let same = c.in_ok-mask.ensures.same in
+    let same = c.in_ok-row.ensures.same in
     rw (whole, same, v) c.requires.free

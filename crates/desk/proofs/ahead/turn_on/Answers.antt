@@ -1,10 +1,11 @@
 use Rattle.std.proofs.Common.{ap, Some, ◌∙◌, arith}
 use Rattle.std.proofs.lemmas.List.{length-map}
-use Rattle.gramcheck.specs.Nodes.{shape_of}
+use Rattle.gramcheck.specs.Nodes.{shape_of, shapes_of}
 use Rattle.gramcheck.proofs.NodeSpellsLemmas.{is_there}
 use Rattle.pegmatch.proofs.NodeShapeLemmas.{shape_at}
 use Rattle.desk.proofs.IsNextLemmas.{at_top}
-use Rattle.desk.proofs.IsOnLemmas.{stays, child, halts, asks_name, name_on, asks_star, star_on, asks_plus, plus_on, asks_opt, opt_on, asks_and, and_on, asks_not, not_on}
+use Rattle.desk.proofs.IsOnLemmas.{stays, child, halts, asks_name, name_on, asks_star, star_on, star_again, asks_plus, plus_on, plus_again, asks_opt, opt_on, asks_and, and_on, asks_not, not_on}
+use Rattle.desk.proofs.TowerLemmas.{byte_at}
 use Rattle.desk.proofs.ahead.turn_on.Goals as goal
 
 pub node-requires : goal.node-requires
@@ -114,3 +115,22 @@ next_turn-requires-clause-come c = (at_top _ _ _ c.start-start.ensures.sound _ _
 
 pub returns-in_default : goal.returns-in_default
 returns-in_default c = λ below fits. (_, _, stays _ _ _ c.start-start.ensures.sound below _ _ fits, c.next_turn.ensures)
+
+pub returns-then-top-gt0 : goal.returns-then-top-gt0
+returns-then-top-gt0 c = λ below fits. rw c.again.ensures (star_again _ _ _ c.start-start.ensures.sound below _ _ fits _ (shape_at c.args.peg.now.nodes c.args.top.node _ (c.node.ensures ∙ ap Some c.in-Star.is)) c.if-top-gt0.true)
+
+pub returns-then-top-gt0-2 : goal.returns-then-top-gt0-2
+returns-then-top-gt0-2 c = λ below fits. rw c.again-then-top-gt0-2.ensures (plus_again _ _ _ c.start-start.ensures.sound below _ _ fits _ _ (shape_at c.args.peg.now.nodes c.args.top.node _ (c.node.ensures ∙ ap Some c.in-Plus.is)) c.if-top-gt0-2.true)
+
+pub node-requires-in-Star : goal.node-requires-in-Star
+node-requires-in-Star c =
+    let operand = child _ _ _ c.start-start.ensures.sound _ _ _ c.requires.fits.1 _ _ (asks_star _ _ _ c.start-start.ensures.sound _ _ _ c.requires.fits.1 _ (shape_at c.args.peg.now.nodes c.args.top.node _ (c.node.ensures ∙ ap Some c.in-Star.is))) in
+    let there = is_there _ _ operand.spelled.1 in
+    omega (arith, there, length-map c.args.peg.now.nodes shape_of)
+
+pub repeat_byte-requires-clause-star : goal.repeat_byte-requires-clause-star
+repeat_byte-requires-clause-star c = shape_at c.args.peg.now.nodes c.args.top.node _ (c.node.ensures ∙ ap Some c.in-Star.is)
+
+pub repeat_byte-requires-clause-byte : goal.repeat_byte-requires-clause-byte
+repeat_byte-requires-clause-byte c =
+    byte_at (shapes_of c.args.peg.now.nodes) c.in-Star.operand (shape_of c.node-in-Star.result.now) (shape_at c.args.peg.now.nodes c.in-Star.operand _ c.node-in-Star.ensures) (c.takes_byte.ensures c.if-takes_byte.true)

@@ -1,0 +1,162 @@
+//! A repetition of a node that takes a byte, without a frame for each turn of it.
+ghost use Rattle.std.specs.Prelude.{◌≡◌, ◌<◌, ◌≤◌, List, ◌∷◌, length, slice_get, Some, true, IfOk, IfErr};
+ghost use Rattle.pegread.specs.PegViews.{rules_of};
+ghost use Rattle.gramcheck.specs.Grammar.{IsSoundGrammar};
+ghost use Rattle.gramcheck.specs.Nodes.{Shape, shape_of, shapes_of};
+ghost use Rattle.pegmatch.specs.KeptEvents.{SpellsSome};
+ghost use Rattle.cells.specs.Entries.{Entry};
+ghost use Rattle.desk.specs.declared.frame.Frame.{Frame};
+ghost use Rattle.desk.specs.Ahead.{IsSeen, IsOn};
+ghost use Rattle.desk.specs.Desk.{counted, Fits};
+ghost use Rattle.desk.specs.Repeats.{TakesByte, leaf_of, some_of, HasRun, IsHalted};
+ghost use Rattle.desk.specs.State.{AreCells};
+ghost use Rattle.desk.specs.Turns.{IsLeafTurn, IsTurn};
+
+use crate::ahead::Halt;
+use crate::frame::Frame;
+use crate::turn::Turn;
+use cells::{Cells, Found};
+use gramcheck::{Node, SoundPeg};
+use pegmatch::{Tried, match_any, match_set};
+
+/// Whether a node takes one byte wherever it succeeds, and has no operands.
+#[inline(always)]
+pub(crate) fn takes_byte(node: &Node) -> bool
+    ensures { result ≡ true → TakesByte (shape_of node.now) }
+{
+    match node {
+        Node::Any => true,
+        Node::Set(_) => true,
+        _ => false,
+    }
+}
+
+// What was tried; none where its comparison reaches the last byte of a window behind which there is more.
+#[inline(always)]
+fn enough(tried: Tried, window: &[u8], more: bool) -> Option<Found>
+    ensures { IsLeafTurn tried (length window.now) more (leaf_of result) }
+{
+    if more && tried.looked == window.len() {
+        None
+    } else {
+        Some(tried.found)
+    }
+}
+
+// What a node that takes a byte gives at a place, whatever the cells; none where the window is too short.
+#[inline(always)]
+fn try_byte(peg: &SoundPeg, window: &[u8], more: bool, node: usize, place: usize) -> Option<Found>
+    requires sound { IsSoundGrammar peg.now }
+    requires spells { SpellsSome (rules_of peg.now.rules) (shapes_of peg.now.nodes) node }
+    requires byte { (shape : Shape) → slice_get (shapes_of peg.now.nodes) node ≡ Some shape → TakesByte shape }
+    ensures { (cells : List Entry) → AreCells (rules_of peg.now.rules) peg.now.start (shapes_of peg.now.nodes) peg.now.bodies window.now more cells →
+        IsTurn (rules_of peg.now.rules) peg.now.start (shapes_of peg.now.nodes) peg.now.bodies window.now more cells node place (leaf_of result) }
+{
+    match peg.node(node) {
+        Node::Any => enough(match_any(window, place), window, more),
+        Node::Set(set) => enough(match_set(set, window, place), window, more),
+        _ => unreachable!(),
+    }
+}
+
+// The cell of a node that takes a byte at a place, which it gets where it has none.
+#[inline(always)]
+fn see_byte(
+    peg: &SoundPeg,
+    window: &[u8],
+    more: bool,
+    cells: &mut Cells,
+    node: usize,
+    place: usize,
+) -> Result<Found, Halt>
+    requires sound { IsSoundGrammar peg.now }
+    requires spells { SpellsSome (rules_of peg.now.rules) (shapes_of peg.now.nodes) node }
+    requires byte { (shape : Shape) → slice_get (shapes_of peg.now.nodes) node ≡ Some shape → TakesByte shape }
+    requires right { AreCells (rules_of peg.now.rules) peg.now.start (shapes_of peg.now.nodes) peg.now.bodies window.now more cells.old }
+    ensures { IsSeen (rules_of peg.now.rules) peg.now.start (shapes_of peg.now.nodes) peg.now.bodies window.now more cells.old cells.new node place (some_of result) }
+{
+    match try_byte(peg, window, more, node, place) {
+        Some(found) => match cells.get_or_put(node, place, found) {
+            Ok(known) => Ok(known),
+            Err(_) => Err(Halt::Memory),
+        },
+        None => match cells.get(node, place) {
+            Some(found) => Ok(found),
+            None => Err(Halt::Short),
+        },
+    }
+}
+
+/// How far the turns of a repetition have come, and what it gives there.
+#[derive(Clone, Copy, PartialEq, Eq, Debug)]
+pub(crate) struct Run {
+    at: usize,
+    found: Found,
+}
+
+// Turn after turn, as long as the operand takes a byte and the repetition has no cell behind it.
+#[inline(always)]
+fn run_on(
+    peg: &SoundPeg,
+    window: &[u8],
+    more: bool,
+    cells: &mut Cells,
+    operand: usize,
+    top: Frame,
+) -> Result<Run, Halt>
+    requires star { slice_get (shapes_of peg.now.nodes) top.node ≡ Some (Shape.Star operand) }
+    requires byte { (shape : Shape) → slice_get (shapes_of peg.now.nodes) operand ≡ Some shape → TakesByte shape }
+    requires fits { (below : List Frame) × Fits peg.now window.now more (counted cells.old (top ∷ below)) }
+    ensures run { (below : List Frame) → Fits peg.now window.now more (counted cells.old (top ∷ below)) →
+        IfOk result (λ run. HasRun peg.now window.now more below cells.old cells.new top run.at run.found) }
+    ensures halt { IfErr result (IsHalted peg.now window.now more) }
+{
+    let _start = peg.start();
+    let mut at = top.place;
+    'turns: loop {
+        match see_byte(peg, window, more, cells, operand, at) {
+            Err(halt) => return Err(halt),
+            Ok(Found::Failed) => {
+                return Ok(Run {
+                    at,
+                    found: Found::Took(at),
+                });
+            }
+            Ok(Found::Took(next)) => match cells.get(top.node, next) {
+                Some(found) => return Ok(Run { at, found }),
+                None => at = next,
+            },
+        }
+    }
+}
+
+/// Goes on with a repetition of a node that takes a byte: each turn of it gets its cell, the last one first.
+#[inline(always)]
+pub(crate) fn repeat_byte(
+    peg: &SoundPeg,
+    window: &[u8],
+    more: bool,
+    cells: &mut Cells,
+    operand: usize,
+    top: Frame,
+) -> Result<Turn, Halt>
+    requires star { slice_get (shapes_of peg.now.nodes) top.node ≡ Some (Shape.Star operand) }
+    requires byte { (shape : Shape) → slice_get (shapes_of peg.now.nodes) operand ≡ Some shape → TakesByte shape }
+    requires fits { (below : List Frame) × Fits peg.now window.now more (counted cells.old (top ∷ below)) }
+    ensures { (below : List Frame) → Fits peg.now window.now more (counted cells.old (top ∷ below)) →
+        IsOn peg.now window.now more below cells.old cells.new top result }
+{
+    let _start = peg.start();
+    let run = match run_on(peg, window, more, cells, operand, top) {
+        Ok(run) => run,
+        Err(halt) => return Err(halt),
+    };
+    let mut at = run.at;
+    'back: while at > top.place {
+        match cells.put(top.node, at, run.found) {
+            Ok(()) => at -= 1,
+            Err(_) => return Err(Halt::Memory),
+        }
+    }
+    Ok(Turn::Answer(run.found))
+}
