@@ -1,6 +1,6 @@
 -- The lines of a run are within its limit, and have no more code points than bytes.
 -- Serves: run_abnf (right)
-use Rattle.std.proofs.Common.{◌≡◌, ℕ, ◌+◌, ◌<◌, ◌≤◌, Option, Some, None, List, ◌++◌, length, arith, length-append}
+use Rattle.std.proofs.Common.{ℕ, ◌<◌, ◌≤◌, Option, Some, None, List, length, arith, length-append}
 use Rattle.std.specs.Prelude.{IfSome, Result}
 use Rattle.letters.specs.Utf8Text.{Spells, end, next, Writes}
 use Rattle.lines.specs.InputLines.{Lines, none, one_more, Ends, LinesReply, place_taken}
@@ -9,7 +9,7 @@ use Rattle.lines.specs.declared.line_loop.At.{At}
 use Rattle.ruletable.specs.declared.sink.WriteFault.{WriteFault}
 use Rattle.toolrun.specs.Input.{Input}
 use Rattle.toolrun.specs.Reply.{Reply}
-use Rattle.toolrun.specs.RunSteps.{Replies, RunStates, replied, no_memory}
+use Rattle.toolrun.specs.RunSteps.{Replies, replied, no_memory}
 use Rattle.toolrun.specs.Stopped.{Performs, StopsAs}
 use Rattle.toolrun.specs.Stream.{Stream}
 use Rattle.toolrun.specs.declared.stop.Stop.{Stop}
@@ -44,9 +44,16 @@ module _ (Told Said : List ℕ → Answer → Type 0) (limit : ℕ) (tells : (li
   replies_as : (input : Input) (reply : Reply) → Replies (Lines Told limit input) (Ends Told limit input) (place_taken limit input) reply →
       Replies (Lines Said limit input) (Ends Said limit input) (place_taken limit input) reply
   replies_as input reply r = record {
-    point = r.point; before = r.before; last = r.last; stop = r.stop;
-    steps = lines_as input r.steps; ends = ends_as input r.ends;
-    out = r.out; err = r.err; status = r.status; taken = r.taken;
+    point = r.point;
+    before = r.before;
+    last = r.last;
+    stop = r.stop;
+    steps = lines_as input r.steps;
+    ends = ends_as input r.ends;
+    out = r.out;
+    err = r.err;
+    status = r.status;
+    taken = r.taken;
   }
 
   reply_as : (input : Input) (reply : Reply) → LinesReply Told limit input reply → LinesReply Said limit input reply

@@ -1,6 +1,6 @@
 -- The worklist: what it adds stands in the item set, and a set that is worked on is closed.
 -- Serves: judge.
-use Rattle.std.proofs.Common.{◌≡◌, ℕ, ◌<◌, ◌≤◌, true, false, ◌⊎◌, inl, inr, Bool, Option, Some, None, List, [], length, slice_get, refl, sym, ◌∙◌, ap, subst, arith}
+use Rattle.std.proofs.Common.{◌≡◌, ℕ, ◌<◌, true, false, inl, inr, Bool, Option, Some, None, List, [], length, slice_get, refl, sym, ◌∙◌, ap, subst, arith}
 use Rattle.std.proofs.lemmas.Bool.{false≢true}
 use Rattle.flatgrammar.specs.Flat.{Node, at}
 use Rattle.flatgrammar.specs.Holds.{Holds}
@@ -41,7 +41,7 @@ module _ (flat : code_flat.Tables) (roots : GiveRoots (flat_of flat) flat.roots.
       let c = called_of flat roots item p.root a.step p.call in
       let n = (nulls p.root).0 (mark_is (slice_get flat.nulls.items p.root) p.null) in
       let made : Holds (flat_of flat) x (length sets) (at item.node a.step) item.origin = pass (flat_of flat) x h c.calls
-          (λ t. absurd (false≢true (sym p.free ∙ takes_true flat item.node item.step item.origin t))) (nullable_up c.rooted n) in
+      (λ t. absurd (false≢true (sym p.free ∙ takes_true flat item.node item.step item.origin t))) (nullable_up c.rooted n) in
       subst (λ v. Holds (flat_of flat) x (length sets) (at a.node a.step) v) (sym p.origin)
       (subst (λ v. Holds (flat_of flat) x (length sets) (at v a.step) item.origin) (sym p.node) made)
 

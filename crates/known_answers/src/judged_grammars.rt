@@ -229,7 +229,15 @@ fn nodes_of_a_grammar(rt: HostRuntime) -> Result<(), Fail> {
     assert!(rt; flat.is_nullable(0) && flat.is_nullable(1));
     if flat.nodes() > 1 {
         assert!(rt; matches!(flat.node(0), Node::Name(1)));
-        assert!(rt; matches!(flat.node(1), Node::Turns { most: None, operand: 0 }));
+        assert!(rt;
+            matches!(
+                flat.node(1),
+                Node::Turns {
+                    most: None,
+                    operand: 0
+                }
+            )
+        );
     }
     assert!(rt; 65u8.value() == 65);
     Ok(())

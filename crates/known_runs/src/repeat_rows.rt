@@ -6,14 +6,7 @@ use gramtools::Status;
 use std::test::Fail;
 
 static ROWS: [CommandRow; 11] = [
-    (
-        "s = 65536\"a\"",
-        &[],
-        b"a\n",
-        b"no\n",
-        b"",
-        Status::NoMatch,
-    ),
+    ("s = 65536\"a\"", &[], b"a\n", b"no\n", b"", Status::NoMatch),
     (
         "s = 4294967296\"a\"",
         &[],
@@ -56,14 +49,7 @@ static ROWS: [CommandRow; 11] = [
         Status::NoMatch,
     ),
     // but not where it is the greater one
-    (
-        "s = 3*2[\"a\"]",
-        &[],
-        b"\n",
-        b"no\n",
-        b"",
-        Status::NoMatch,
-    ),
+    ("s = 3*2[\"a\"]", &[], b"\n", b"no\n", b"", Status::NoMatch),
     // a line that is longer than the limit goes on
     (
         "s = 4294967295\"a\"",
