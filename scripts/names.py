@@ -1,8 +1,7 @@
 #!/usr/bin/env python3
 """Lists what breaks the rules of names and sizes, one line each, and fails where something does.
 
-    names.py            the rules of names, and the files that are too long
-    names.py --lines    the lines of more than 120 characters too, a count for each file
+usage: names.py
 """
 import collections
 import os
@@ -122,13 +121,13 @@ def of_long_files(top, files):
 def of_long_lines(top, files):
     """Yields the files that have lines that are too long, each with their count."""
     for path in files:
-        if path.suffix in TEXTS:
+        if path.suffix in TEXTS - {".edit", ".md"}:
             count = sum(len(it) > LONGEST_LINE for it in (top / path).read_text().splitlines())
             if count:
                 yield f"{path}: {count} lines of more than {LONGEST_LINE} characters"
 
 
-def main(arguments):
+def main():
     """Prints what breaks the rules, by rule, and returns 1 where something does."""
     top = pathlib.Path(__file__).resolve().parent.parent
     files = sources(top)
@@ -137,9 +136,8 @@ def main(arguments):
         "the functions that lemma files serve": of_served(top, files),
         "names that stand more than once": of_twins(files),
         f"files of more than {LONGEST_FILE} lines": of_long_files(top, files),
+        f"lines of more than {LONGEST_LINE} characters": of_long_lines(top, files),
     }
-    if "--lines" in arguments:
-        rules[f"lines of more than {LONGEST_LINE} characters"] = of_long_lines(top, files)
     broken = 0
     for rule, found in rules.items():
         found = list(found)
@@ -151,4 +149,4 @@ def main(arguments):
 
 
 if __name__ == "__main__":
-    sys.exit(main(sys.argv[1:]))
+    sys.exit(main())

@@ -32,7 +32,8 @@ def element(r, names, depth):
     if kind == "opt":
         return kind, element(r, names, depth - 1)
     least = r.choice([0, 0, 1, 1, 2, 3] * 3 + LARGE)
-    most = r.choice([None, None, least, min(least + r.randrange(3), LARGE[-1]), 7, least - 1 if least else 0, LARGE[-1]])
+    more = min(least + r.randrange(3), LARGE[-1])
+    most = r.choice([None, None, least, more, 7, least - 1 if least else 0, LARGE[-1]])
     return kind, least, most, element(r, names, depth - 1)
 
 

@@ -1,6 +1,7 @@
 -- What texts, values and ranges derive of what is asked for.
 -- Serves: check_abnf (sound), nullable, productive, lower_viable
-use Rattle.std.proofs.Common.{◌≡◌, ◌↔◌, ℕ, zero, suc, ◌+◌, ◌<◌, ◌==◌, Bool, true, false, List, [], ◌∷◌, length, take, get_or, add-one, refl, sym, ◌∙◌, ap, subst, arith, lt-ltb}
+use Rattle.std.proofs.Common.{◌≡◌, ◌↔◌, ℕ, zero, suc, ◌+◌, ◌<◌, ◌==◌, Bool, true, false, List, [], ◌∷◌, length, take}
+use Rattle.std.proofs.Common.{get_or, add-one, refl, sym, ◌∙◌, ap, subst, arith, lt-ltb}
 use Rattle.std.specs.Prelude.{IsTrue}
 use Rattle.std.proofs.lemmas.Bool.{both_ways, eqb-true}
 use Rattle.std.proofs.lemmas.List.{nil_from_length}
@@ -18,7 +19,11 @@ use Rattle.abnfcheck.specs.RuleMarks.{IsTestOf, Yields}
 -- the empty list
 module _ (has : ℕ → Bool) (rules : List Rule) where
   empty_text : (folds : Bool) (t : List ℕ) → t ≡ [] → Yields has rules Empty (e.Text folds t)
-  empty_text folds t is = record { word = []; asked = refl; derives = subst (λ v. Derives has rules (e.Text folds v) []) (sym is) (der.text der.end) }
+  empty_text folds t is = record {
+    word = [];
+    asked = refl;
+    derives = subst (λ v. Derives has rules (e.Text folds v) []) (sym is) (der.text der.end);
+  }
 
   text_empty : (folds : Bool) (t : List ℕ) → Yields has rules Empty (e.Text folds t) → t ≡ []
   text_empty folds t y = by y.derives y.asked
@@ -31,7 +36,11 @@ module _ (has : ℕ → Bool) (rules : List Rule) where
       by (der.text s) is = none_left s is
 
   empty_values : (vs : List ℕ) → vs ≡ [] → Yields has rules Empty (e.Values vs)
-  empty_values vs is = record { word = []; asked = refl; derives = subst (λ v. Derives has rules (e.Values v) []) (sym is) (der.values tt) }
+  empty_values vs is = record {
+    word = [];
+    asked = refl;
+    derives = subst (λ v. Derives has rules (e.Values v) []) (sym is) (der.values tt);
+  }
 
   values_empty : (vs : List ℕ) → Yields has rules Empty (e.Values vs) → vs ≡ []
   values_empty vs y = by y.derives y.asked
@@ -59,70 +68,113 @@ byte_is_letter : (alphabet : Alphabet) (b : ℕ) → b < 256 → in_alphabet alp
 byte_is_letter Bytes b lt = lt-ltb b 256 lt
 byte_is_letter Utf8 b lt = rw (lt-ltb b 0xD800 (omega (arith, lt))) refl
 
-pub bytes_are_letters : (alphabet : Alphabet) (t : List ℕ) → ((i : ℕ) → get_or t i 0 < 256) → AreLetters (in_alphabet alphabet) t
+pub bytes_are_letters : (alphabet : Alphabet) (t : List ℕ) → ((i : ℕ) → get_or t i 0 < 256)
+    → AreLetters (in_alphabet alphabet) t
 bytes_are_letters alphabet [] bytes = tt
-bytes_are_letters alphabet (b ∷ t) bytes = (byte_is_letter alphabet b (bytes 0), bytes_are_letters alphabet t (λ i. bytes (suc i)))
+bytes_are_letters alphabet (b ∷ t) bytes = (
+  byte_is_letter alphabet b (bytes 0),
+  bytes_are_letters alphabet t (λ i. bytes (suc i)),
+)
 
 -- some list of letters
 module _ (alphabet : Alphabet) (has : ℕ → Bool) (test : has ≡ in_alphabet alphabet) (rules : List Rule) where
-  text_yields : (folds : Bool) (t : List ℕ) → ((i : ℕ) → get_or t i 0 < 256) → Yields has rules (Letters alphabet) (e.Text folds t)
-  text_yields folds t bytes = record { word = t; asked = bytes_are_letters alphabet t bytes; derives = der.text (spelled_itself folds t) }
+  text_yields : (folds : Bool) (t : List ℕ) → ((i : ℕ) → get_or t i 0 < 256)
+      → Yields has rules (Letters alphabet) (e.Text folds t)
+  text_yields folds t bytes = record {
+    word = t;
+    asked = bytes_are_letters alphabet t bytes;
+    derives = der.text (spelled_itself folds t);
+  }
 
-  values_yield : (vs : List ℕ) → AreLetters (in_alphabet alphabet) vs ↔ Yields has rules (Letters alphabet) (e.Values vs)
+  values_yield : (vs : List ℕ) → AreLetters (in_alphabet alphabet) vs
+      ↔ Yields has rules (Letters alphabet) (e.Values vs)
   values_yield vs = (
-    (λ letters. record { word = vs; asked = letters; derives = der.values (subst (λ h. AreLetters h vs) (sym test) letters) }),
+    (λ letters. record {
+      word = vs;
+      asked = letters;
+      derives = der.values (subst (λ h. AreLetters h vs) (sym test) letters);
+    }),
     (λ y. by y.derives),
   )
     where
       by : {w : List ℕ} → Derives has rules (e.Values vs) w → AreLetters (in_alphabet alphabet) vs
       by (der.values letters) = subst (λ h. AreLetters h vs) test letters
 
-  range_yields : (low high : ℕ) → HasLetter (in_alphabet alphabet) low high ↔ Yields has rules (Letters alphabet) (e.Range low high)
+  range_yields : (low high : ℕ) → HasLetter (in_alphabet alphabet) low high
+      ↔ Yields has rules (Letters alphabet) (e.Range low high)
   range_yields low high = (
-    (λ l. record { word = l.letter ∷ []; asked = (l.is, tt); derives = der.range l.from l.to (subst (λ h. h l.letter ≡ true) (sym test) l.is) }),
+    (λ l. record {
+      word = l.letter ∷ [];
+      asked = (l.is, tt);
+      derives = der.range l.from l.to (subst (λ h. h l.letter ≡ true) (sym test) l.is);
+    }),
     (λ y. by y.derives),
   )
     where
       by : {w : List ℕ} → Derives has rules (e.Range low high) w → HasLetter (in_alphabet alphabet) low high
-      by (der.range {c = c} from to letter) = record { letter = c; from = from; to = to; is = subst (λ h. h c ≡ true) test letter }
+      by (der.range {c = c} from to letter) = record {
+        letter = c;
+        from = from;
+        to = to;
+        is = subst (λ h. h c ≡ true) test letter;
+      }
 
 -- what the code tells of them, by the aim
 nothing : (t : List ℕ) → (length t == 0) ≡ true → t ≡ []
 nothing t e = nil_from_length t (eqb-true (length t) 0 e)
 
 module _ (aim : Aim) (is : aim ≡ Empty) (has : ℕ → Bool) (rules : List Rule) where
-  pub empty_text_told : (folds : Bool) (t : List ℕ) (met : Bool) → met ≡ (length t == 0) → IsTrue met ↔ Yields has rules aim (e.Text folds t)
+  pub empty_text_told : (folds : Bool) (t : List ℕ) (met : Bool) → met ≡ (length t == 0) → IsTrue met
+      ↔ Yields has rules aim (e.Text folds t)
   empty_text_told folds t met e =
-      rw is ((λ on. empty_text has rules folds t (nothing t (sym e ∙ on))), (λ y. e ∙ ap (λ (l : List ℕ). length l == 0) (text_empty has rules folds t y)))
+      rw is (
+        (λ on. empty_text has rules folds t (nothing t (sym e ∙ on))),
+        (λ y. e ∙ ap (λ (l : List ℕ). length l == 0) (text_empty has rules folds t y)),
+      )
 
-  pub empty_values_told : (vs : List ℕ) (met : Bool) → met ≡ (length vs == 0) → IsTrue met ↔ Yields has rules aim (e.Values vs)
+  pub empty_values_told : (vs : List ℕ) (met : Bool) → met ≡ (length vs == 0) → IsTrue met
+      ↔ Yields has rules aim (e.Values vs)
   empty_values_told vs met e =
-      rw is ((λ on. empty_values has rules vs (nothing vs (sym e ∙ on))), (λ y. e ∙ ap (λ (l : List ℕ). length l == 0) (values_empty has rules vs y)))
+      rw is (
+        (λ on. empty_values has rules vs (nothing vs (sym e ∙ on))),
+        (λ y. e ∙ ap (λ (l : List ℕ). length l == 0) (values_empty has rules vs y)),
+      )
 
   pub empty_range_told : (low high : ℕ) → IsTrue false ↔ Yields has rules aim (e.Range low high)
-  empty_range_told low high = rw is ((λ on. absurd (both_ways false refl on)), (λ y. absurd (range_not_empty has rules low high y)))
+  empty_range_told low high = rw is (
+    (λ on. absurd (both_ways false refl on)),
+    (λ y. absurd (range_not_empty has rules low high y)),
+  )
 
-module _ (aim : Aim) (alphabet : Alphabet) (is : aim ≡ Letters alphabet) (has : ℕ → Bool) (rules : List Rule) (asked : IsTestOf aim has) where
+module _ (aim : Aim) (alphabet : Alphabet) (is : aim ≡ Letters alphabet) (has : ℕ → Bool) (rules : List Rule)
+    (asked : IsTestOf aim has) where
   test : has ≡ in_alphabet alphabet
   test = subst (λ v. IsTestOf v has) is asked
 
-  pub text_told : (folds : Bool) (t : List ℕ) → ((i : ℕ) → get_or t i 0 < 256) → IsTrue true ↔ Yields has rules aim (e.Text folds t)
+  pub text_told : (folds : Bool) (t : List ℕ) → ((i : ℕ) → get_or t i 0 < 256) → IsTrue true
+      ↔ Yields has rules aim (e.Text folds t)
   text_told folds t bytes = rw is ((λ on. text_yields alphabet has test rules folds t bytes), (λ y. refl))
 
-  pub values_told : (vs : List ℕ) (met : Bool) → (IsTrue met ↔ AreLetters (in_alphabet alphabet) vs) → IsTrue met ↔ Yields has rules aim (e.Values vs)
-  values_told vs met tells = rw is (let y = values_yield alphabet has test rules vs in ((λ on. y.0 (tells.0 on)), (λ d. tells.1 (y.1 d))))
+  pub values_told : (vs : List ℕ) (met : Bool) → (IsTrue met ↔ AreLetters (in_alphabet alphabet) vs) → IsTrue met
+      ↔ Yields has rules aim (e.Values vs)
+  values_told vs met tells = rw is (let y = values_yield alphabet has test rules vs in
+      ((λ on. y.0 (tells.0 on)), (λ d. tells.1 (y.1 d))))
 
-  pub range_told : (low high : ℕ) (met : Bool) → (IsTrue met ↔ HasLetter (in_alphabet alphabet) low high) → IsTrue met ↔ Yields has rules aim (e.Range low high)
-  range_told low high met tells = rw is (let y = range_yields alphabet has test rules low high in ((λ on. y.0 (tells.0 on)), (λ d. tells.1 (y.1 d))))
+  pub range_told : (low high : ℕ) (met : Bool) → (IsTrue met ↔ HasLetter (in_alphabet alphabet) low high) → IsTrue met
+      ↔ Yields has rules aim (e.Range low high)
+  range_told low high met tells = rw is (let y = range_yields alphabet has test rules low high in
+      ((λ on. y.0 (tells.0 on)), (λ d. tells.1 (y.1 d))))
 
 -- values, one after another
 module _ (has : ℕ → Bool) where
-  next_of : (xs : List ℕ) (i d : ℕ) → i < length xs → AreLetters has (take i xs) → has (get_or xs i d) ≡ true → AreLetters has (take (suc i) xs)
+  next_of : (xs : List ℕ) (i d : ℕ) → i < length xs → AreLetters has (take i xs) → has (get_or xs i d) ≡ true
+      → AreLetters has (take (suc i) xs)
   next_of [] i d lt all is = absurd (omega (arith, lt))
   next_of (x ∷ xs) zero d lt all is = (is, tt)
   next_of (x ∷ xs) (suc i) d lt all is = (all.0, next_of xs i d (omega (arith, lt)) all.1 is)
 
-  pub next_value : (xs : List ℕ) (i d : ℕ) → i < length xs → AreLetters has (take i xs) → has (get_or xs i d) ≡ true → AreLetters has (take (i + 1) xs)
+  pub next_value : (xs : List ℕ) (i d : ℕ) → i < length xs → AreLetters has (take i xs) → has (get_or xs i d) ≡ true
+      → AreLetters has (take (i + 1) xs)
   next_value xs i d lt all is = rw (add-one i) (next_of xs i d lt all is)
 
   pub letter_in : (xs : List ℕ) (i d : ℕ) → i < length xs → AreLetters has xs → has (get_or xs i d) ≡ true

@@ -1,13 +1,16 @@
 -- Whether the letters of a line begin a list that a rule derives is decided. So it is known how far they do.
 -- Serves: derivation_is_decided, furthest_is_found
-use Rattle.std.proofs.Common.{◌≡◌, ℕ, zero, suc, ◌+◌, ◌<◌, ◌≤◌, ◌⊎◌, inl, inr, Bool, true, false, ◌&&◌, ◌||◌, eqb, List, [], ◌∷◌, ◌++◌, length, Option, Some, None, refl, sym, ◌∙◌, ap, subst, arith, eqb-true, eq-eqb, ⊎_elim}
+use Rattle.std.proofs.Common.{◌≡◌, ℕ, zero, suc, ◌+◌, ◌<◌, ◌≤◌, ◌⊎◌, inl, inr, Bool, true, false, ◌&&◌, ◌||◌, eqb, List}
+use Rattle.std.proofs.Common.{[], ◌∷◌, ◌++◌, length, Option, Some, None, refl, sym, ◌∙◌, ap, subst, arith, eqb-true}
+use Rattle.std.proofs.Common.{eq-eqb, ⊎_elim}
 use Rattle.std.specs.Prelude.{slice_get, take}
 use Rattle.std.proofs.lemmas.List.{append-nil}
 use Rattle.abnfread.specs.Element.{Rule}
 use Rattle.abnfcheck.specs.Beginnings.{BeginsMember, IsFurthest}
 use Rattle.abnfcheck.specs.Decided.{Says}
 use Rattle.abnfcheck.specs.Derivable.{AreLetters, RuleDerives}
-use Rattle.abnfcheck.proofs.DerivesDecidedLemmas.{and_first, and_second, and_true, or_true, or_first, or_second, order, RulePath, rule_path_is_decided}
+use Rattle.abnfcheck.proofs.DerivesDecidedLemmas.{and_first, and_second, and_true, or_true, or_first, or_second, order}
+use Rattle.abnfcheck.proofs.DerivesDecidedLemmas.{RulePath, rule_path_is_decided}
 use Rattle.abnfcheck.proofs.IsPathLemmas.{IsPath, here, step, join}
 use Rattle.abnfcheck.proofs.LiesLemmas.{OnLine, Lies, only, all_of}
 
@@ -38,7 +41,10 @@ module _ (more : ℕ → Bool) (x : List ℕ) where
 
   move : (i c k : ℕ) → goes i c k ≡ true → OnLine x i c k ⊎ ((more c ≡ true) × (i ≡ length x) × (k ≡ length x))
   move i c k h = ⊎_elim
-      (λ l. inl (that_is c (slice_get x i) (and_first (is_that c (slice_get x i)) (eqb (i + 1) k) l), eqb-true (i + 1) k (and_second (is_that c (slice_get x i)) (eqb (i + 1) k) l)))
+      (λ l. inl (
+        that_is c (slice_get x i) (and_first (is_that c (slice_get x i)) (eqb (i + 1) k) l),
+        eqb-true (i + 1) k (and_second (is_that c (slice_get x i)) (eqb (i + 1) k) l),
+      ))
       (λ r.
       let ends = and_second (more c) (eqb i (length x) && eqb k (length x)) r in
       inr (
@@ -49,7 +55,8 @@ module _ (more : ℕ → Bool) (x : List ℕ) where
       (or_true (is_that c (slice_get x i) && eqb (i + 1) k) (more c && (eqb i (length x) && eqb k (length x))) h)
 
   within : (i c k : ℕ) → goes i c k ≡ true → k ≤ length x
-  within i c k h = ⊎_elim (λ on. let lt = stands_before x i c on.0 in omega (arith, lt, on.1)) (λ end. omega (arith, end.2)) (move i c k h)
+  within i c k h = ⊎_elim (λ on. let lt = stands_before x i c on.0 in omega (arith, lt, on.1))
+      (λ end. omega (arith, end.2)) (move i c k h)
 
   -- a list of letters, cut at the line's end
   record Parts (i : ℕ) (w : List ℕ) : Type 0 where
@@ -60,11 +67,23 @@ module _ (more : ℕ → Bool) (x : List ℕ) where
     parts : front ++ rest ≡ w
 
   parts_of : {i j : ℕ} {w : List ℕ} → IsPath Goes i w j → j ≡ length x → Parts i w
-  parts_of (here {i = i}) e = record { front = []; rest = []; lies = subst (λ v. Lies x i [] v) e here; letters = tt; parts = refl }
+  parts_of (here {i = i}) e = record {
+    front = [];
+    rest = [];
+    lies = subst (λ v. Lies x i [] v) e here;
+    letters = tt;
+    parts = refl;
+  }
   parts_of (step {i = i} {k = k} {c = c} {w = w} is l) e =
       let p = parts_of l e in
       ⊎_elim
-      (λ on. record { front = c ∷ p.front; rest = p.rest; lies = step on p.lies; letters = p.letters; parts = ap (λ v. c ∷ v) p.parts })
+      (λ on. record {
+        front = c ∷ p.front;
+        rest = p.rest;
+        lies = step on p.lies;
+        letters = p.letters;
+        parts = ap (λ v. c ∷ v) p.parts;
+      })
       (λ end.
       let none : p.front ≡ [] = only x (subst (λ v. Lies x v p.front (length x)) end.2 p.lies) here in
       record {
@@ -80,15 +99,18 @@ module _ (more : ℕ → Bool) (x : List ℕ) where
   along here = here
   along (step {i = i} {k = k} {c = c} is l) = step
       (or_first (is_that c (slice_get x i) && eqb (i + 1) k) (more c && (eqb i (length x) && eqb k (length x)))
-      (and_true (is_that c (slice_get x i)) (eqb (i + 1) k) (is_that_one c (slice_get x i) is.0) (eq-eqb (i + 1) k is.1)))
+      (and_true (is_that c (slice_get x i)) (eqb (i + 1) k) (is_that_one c (slice_get x i) is.0)
+      (eq-eqb (i + 1) k is.1)))
       (along l)
 
   behind : (v : List ℕ) → AreLetters more v → IsPath Goes (length x) v (length x)
   behind [] all = here
   behind (c ∷ v) all = step
-      (or_second (is_that c (slice_get x (length x)) && eqb (length x + 1) (length x)) (more c && (eqb (length x) (length x) && eqb (length x) (length x)))
+      (or_second (is_that c (slice_get x (length x)) && eqb (length x + 1) (length x))
+      (more c && (eqb (length x) (length x) && eqb (length x) (length x)))
       (and_true (more c) (eqb (length x) (length x) && eqb (length x) (length x)) all.0
-      (and_true (eqb (length x) (length x)) (eqb (length x) (length x)) (eq-eqb (length x) (length x) refl) (eq-eqb (length x) (length x) refl))))
+      (and_true (eqb (length x) (length x)) (eqb (length x) (length x)) (eq-eqb (length x) (length x) refl)
+      (eq-eqb (length x) (length x) refl))))
       (behind v all.1)
 
   module _ (has : ℕ → Bool) (rules : List Rule) (id : ℕ) where
@@ -105,16 +127,23 @@ module _ (more : ℕ → Bool) (x : List ℕ) where
         record {
           rest = p.rest;
           letters = p.letters;
-          derives = subst (λ v. RuleDerives has rules id (v ++ p.rest)) whole (subst (λ v. RuleDerives has rules id v) (sym p.parts) r.derives);
+          derives = subst (λ v. RuleDerives has rules id (v ++ p.rest)) whole
+              (subst (λ v. RuleDerives has rules id v) (sym p.parts) r.derives);
         }
 
     leads : Longer → RulePath has rules (length x) goes within id 0 (length x)
-    leads l = record { word = x ++ l.rest; path = join Goes (along (all_of x)) (behind l.rest l.letters); derives = l.derives }
+    leads l = record {
+      word = x ++ l.rest;
+      path = join Goes (along (all_of x)) (behind l.rest l.letters);
+      derives = l.derives;
+    }
 
     longer_is_decided : (yes : Bool) × Says Longer yes
-    longer_is_decided = let h = rule_path_is_decided has rules (length x) goes within id 0 (length x) (omega arith) (omega arith) in by h.0 h.1
+    longer_is_decided = let h = rule_path_is_decided has rules (length x) goes within id 0 (length x) (omega arith)
+        (omega arith) in by h.0 h.1
       where
-        by : (said : Bool) → Says (RulePath has rules (length x) goes within id 0 (length x)) said → (yes : Bool) × Says Longer yes
+        by : (said : Bool) → Says (RulePath has rules (length x) goes within id 0 (length x)) said → (yes : Bool)
+            × Says Longer yes
         by true r = (true, longer r)
         by false none = (false, λ l. none (leads l))
 
@@ -129,14 +158,27 @@ module _ (has : ℕ → Bool) (rules : List Rule) (id : ℕ) (x : List ℕ) wher
   pub rule_derives_is_decided : (yes : Bool) × Says (RuleDerives has rules id x) yes
   rule_derives_is_decided = let h = longer_is_decided nothing x has rules id in by h.0 h.1
     where
-      by : (said : Bool) → Says (Longer nothing x has rules id) said → (yes : Bool) × Says (RuleDerives has rules id x) yes
-      by true l = (true, subst (λ v. RuleDerives has rules id v) (ap (λ v. x ++ v) (no_letters l.rest l.letters) ∙ append-nil x) l.derives)
-      by false none = (false, λ d. none (record { rest = []; letters = tt; derives = subst (λ v. RuleDerives has rules id v) (sym (append-nil x)) d }))
+      by : (said : Bool) → Says (Longer nothing x has rules id) said → (yes : Bool)
+          × Says (RuleDerives has rules id x) yes
+      by true l = (
+        true,
+        subst (λ v. RuleDerives has rules id v) (ap (λ v. x ++ v) (no_letters l.rest l.letters)
+            ∙ append-nil x) l.derives,
+      )
+      by false none = (
+        false,
+        λ d. none (record {
+          rest = [];
+          letters = tt;
+          derives = subst (λ v. RuleDerives has rules id v) (sym (append-nil x)) d;
+        }),
+      )
 
   begins_is_decided : (n : ℕ) → (yes : Bool) × Says (BeginsMember has rules id x n) yes
   begins_is_decided n = let h = longer_is_decided has (take n x) has rules id in by h.0 h.1
     where
-      by : (said : Bool) → Says (Longer has (take n x) has rules id) said → (yes : Bool) × Says (BeginsMember has rules id x n) yes
+      by : (said : Bool) → Says (Longer has (take n x) has rules id) said → (yes : Bool)
+          × Says (BeginsMember has rules id x n) yes
       by true l = (true, record { rest = l.rest; letters = l.letters; derives = l.derives })
       by false none = (false, λ b. none (record { rest = b.rest; letters = b.letters; derives = b.derives }))
 
@@ -148,12 +190,14 @@ module _ (has : ℕ → Bool) (rules : List Rule) (id : ℕ) (x : List ℕ) wher
   down zero le above = (0, record { within = le; begins = λ h. absurd (omega (arith, h)); last = above })
   down (suc n) le above = let h = begins_is_decided (suc n) in by h.0 h.1 (λ none. down n (omega (arith, le)) none)
     where
-      by : (said : Bool) → Says (BeginsMember has rules id x (suc n)) said → (NoneAbove n → (k : ℕ) × IsFurthest has rules id x k) →
+      by : (said : Bool) → Says (BeginsMember has rules id x (suc n)) said
+          → (NoneAbove n → (k : ℕ) × IsFurthest has rules id x k) →
           (k : ℕ) × IsFurthest has rules id x k
       by true b go = (suc n, record { within = le; begins = λ h. b; last = above })
       by false none go = go (λ m lt most b. ⊎_elim
           (λ less. above m less most b)
-          (λ same. let is : m ≡ suc n = omega (arith, lt, same) in none (subst (λ v. BeginsMember has rules id x v) is b))
+          (λ same. let is : m ≡ suc n = omega (arith, lt, same) in
+          none (subst (λ v. BeginsMember has rules id x v) is b))
           (order (suc n) m))
 
   pub furthest : (n : ℕ) × IsFurthest has rules id x n

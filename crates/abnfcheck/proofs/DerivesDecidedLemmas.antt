@@ -1,13 +1,16 @@
--- Whether a rule derives letters that lead from a state of a finite automaton to another is decided: elements with two states are marked.
+-- Whether a rule derives letters that lead a finite automaton from one state to another is decided.
 -- Serves: derivation_is_decided, furthest_is_found
-use Rattle.std.proofs.Common.{◌≡◌, ℕ, zero, suc, ◌+◌, ◌-◌, ◌<◌, ◌≤◌, ◌⊎◌, inl, inr, Bool, true, false, ◌&&◌, ◌||◌, cond, eqb, ltb, leb, List, [], ◌∷◌, ◌++◌, Option, Some, None, refl, sym, ◌∙◌, ap, subst, arith, eqb-true, eq-eqb, ltb-true, lt-ltb, leb-true, le-leb, ⊎_elim}
+use Rattle.std.proofs.Common.{◌≡◌, ℕ, zero, suc, ◌+◌, ◌-◌, ◌<◌, ◌≤◌, ◌⊎◌, inl, inr, Bool, true, false, ◌&&◌, ◌||◌, cond}
+use Rattle.std.proofs.Common.{eqb, ltb, leb, List, [], ◌∷◌, ◌++◌, Option, Some, None, refl, sym, ◌∙◌, ap, subst, arith}
+use Rattle.std.proofs.Common.{eqb-true, eq-eqb, ltb-true, lt-ltb, leb-true, le-leb, ⊎_elim}
 use Rattle.std.specs.Prelude.{slice_get}
 use Rattle.ruletable.specs.Rules.{same_name}
 use Rattle.ruletable.specs.declared.table.NameCase.TheVariants.{Fold}
 use Rattle.abnfread.specs.Element as e
 use Rattle.abnfread.specs.Element.{Element, Elements, Rule, bodies, body_of}
 use Rattle.abnfcheck.specs.Derivable as der
-use Rattle.abnfcheck.specs.Derivable.{small, StandsFor, Spelled, AreLetters, Derives, DerivesAll, DerivesSome, DerivesTimes, all_done, then, this, later, no_more, one_more, RuleDerives}
+use Rattle.abnfcheck.specs.Derivable.{small, StandsFor, Spelled, AreLetters, Derives, DerivesAll, DerivesSome}
+use Rattle.abnfcheck.specs.Derivable.{DerivesTimes, all_done, then, this, later, no_more, one_more, RuleDerives}
 use Rattle.abnfcheck.specs.Decided.{Says}
 use Rattle.abnfcheck.proofs.IsPathLemmas.{IsPath, here, step, join, split}
 use Rattle.abnfcheck.proofs.FiniteLeastLemmas.{Listed, first, further, least_is_decided}
@@ -55,7 +58,8 @@ order (suc j) (suc k) = ⊎_elim (λ lt. inl (omega (arith, lt))) (λ le. inr (o
 any_at : (n k : ℕ) (f : ℕ → Bool) → k < n → f k ≡ true → any n f ≡ true
 any_at zero k f lt h = absurd (omega (arith, lt))
 any_at (suc n) k f lt h = ⊎_elim (λ less. or_second (f n) (any n f) (any_at n k f less h))
-    (λ le. let same : k ≡ n = omega (arith, lt, le) in or_first (f n) (any n f) (subst (λ v. f v ≡ true) same h)) (order k n)
+    (λ le. let same : k ≡ n = omega (arith, lt, le) in or_first (f n) (any n f) (subst (λ v. f v ≡ true) same h))
+    (order k n)
 
 -- f at each number below n
 abbrev every : {A : Type 0} → ℕ → (ℕ → A) → List A
@@ -81,7 +85,8 @@ one_side (x ∷ xs) (further h) = ⊎_elim (λ l. inl (further l)) (λ r. inr r)
 
 in_every : {A : Type 0} (n k : ℕ) (f : ℕ → A) → k < n → Listed (f k) (every n f)
 in_every zero k f lt = absurd (omega (arith, lt))
-in_every (suc n) k f lt = ⊎_elim (λ less. further (in_every n k f less)) (λ le. let same : k ≡ n = omega (arith, lt, le) in first (ap f same)) (order k n)
+in_every (suc n) k f lt = ⊎_elim (λ less. further (in_every n k f less))
+    (λ le. let same : k ≡ n = omega (arith, lt, le) in first (ap f same)) (order k n)
 
 from_every : {A : Type 0} (n : ℕ) (f : ℕ → A) (a : A) → Listed a (every n f) → (k : ℕ) × (k < n) × (a ≡ f k)
 from_every zero f a h = elim h [ ]
@@ -91,11 +96,13 @@ from_every (suc n) f a (further h) = let r = from_every n f a h in (r.0, omega (
 in_each : {A : Type 0} (n k : ℕ) (f : ℕ → List A) {a : A} → k < n → Listed a (f k) → Listed a (each n f)
 in_each zero k f lt h = absurd (omega (arith, lt))
 in_each (suc n) k f {a = a} lt h = ⊎_elim (λ less. on_right (f n) (in_each n k f less h))
-    (λ le. let same : k ≡ n = omega (arith, lt, le) in on_left (each n f) (subst (λ v. Listed a (f v)) same h)) (order k n)
+    (λ le. let same : k ≡ n = omega (arith, lt, le) in on_left (each n f) (subst (λ v. Listed a (f v)) same h))
+    (order k n)
 
 from_each : {A : Type 0} (n : ℕ) (f : ℕ → List A) (a : A) → Listed a (each n f) → (k : ℕ) × (k < n) × Listed a (f k)
 from_each zero f a h = elim h [ ]
-from_each (suc n) f a h = ⊎_elim (λ l. (n, omega arith, l)) (λ r. let g = from_each n f a r in (g.0, omega (arith, g.1), g.2)) (one_side (f n) h)
+from_each (suc n) f a h = ⊎_elim (λ l. (n, omega arith, l))
+    (λ r. let g = from_each n f a r in (g.0, omega (arith, g.1), g.2)) (one_side (f n) h)
 
 -- a repetition with a turn less
 abbrev less : Option ℕ → Option ℕ
@@ -139,7 +146,8 @@ data Part : Element → Element → Type 0 where
 
 turns_itself : (a : ℕ) (b : Option ℕ) (d : Element) → Listed (e.Rep a b d) (turns a b d)
 turns_itself a None d = in_every (a + 1) a (λ k. e.Rep k None d) (omega arith)
-turns_itself a (Some b) d = in_each (a + 1) a (λ k. every (b + 1) (λ l. e.Rep k (Some l) d)) (omega arith) (in_every (b + 1) b (λ l. e.Rep a (Some l) d) (omega arith))
+turns_itself a (Some b) d = in_each (a + 1) a (λ k. every (b + 1) (λ l. e.Rep k (Some l) d)) (omega arith)
+    (in_every (b + 1) b (λ l. e.Rep a (Some l) d) (omega arith))
 
 itself : (d : Element) → Listed d (subs d)
 itself (e.Text folds t) = first refl
@@ -159,11 +167,13 @@ rep_part : (a : ℕ) (b : Option ℕ) (d c : Element) → Part (e.Rep a b d) c �
 rep_part a b d c turn = inl refl
 rep_part a b d c turns_left = inr refl
 
-in_turns : (a : ℕ) (b : Option ℕ) (d x c : Element) → Listed x (turns a b d) → Part x c → Listed c (turns a b d) ⊎ (c ≡ d)
+in_turns : (a : ℕ) (b : Option ℕ) (d x c : Element) → Listed x (turns a b d) → Part x c → Listed c (turns a b d)
+    ⊎ (c ≡ d)
 in_turns a None d x c h p =
     let f = from_every (a + 1) (λ k. e.Rep k None d) x h in
     ⊎_elim (λ same. inr same)
-    (λ same. inl (subst (λ v. Listed v (turns a None d)) (sym same) (in_every (a + 1) (f.0 - 1) (λ k. e.Rep k None d) (let lt = f.1 in omega (arith, lt)))))
+    (λ same. inl (subst (λ v. Listed v (turns a None d)) (sym same)
+    (in_every (a + 1) (f.0 - 1) (λ k. e.Rep k None d) (let lt = f.1 in omega (arith, lt)))))
     (rep_part f.0 None d c (subst (λ v. Part v c) f.2 p))
 in_turns a (Some b) d x c h p =
     let g = from_each (a + 1) (λ k. every (b + 1) (λ l. e.Rep k (Some l) d)) x h in
@@ -195,7 +205,8 @@ mutual
   parts_in (e.Concat es) x c h p = concat_parts_in es x c h p
   parts_in (e.Alt es) x c h p = alt_parts_in es x c h p
   parts_in (e.Rep a b d) x c h p = ⊎_elim
-      (λ l. ⊎_elim (λ t. on_left (subs d) t) (λ same. on_right (turns a b d) (subst (λ v. Listed v (subs d)) (sym same) (itself d))) (in_turns a b d x c l p))
+      (λ l. ⊎_elim (λ t. on_left (subs d) t) (λ same. on_right (turns a b d)
+      (subst (λ v. Listed v (subs d)) (sym same) (itself d))) (in_turns a b d x c l p))
       (λ r. on_right (turns a b d) (parts_in d x c r p))
       (one_side (turns a b d) h)
   parts_in (e.Opt d) x c (first same) p = inner (subst (λ v. Part v c) same p)
@@ -226,7 +237,8 @@ mutual
       inner concat_first = further (on_left (subs_concat es) (itself d))
       inner concat_rest = further (on_right (subs d) (itself (e.Concat es)))
   concat_parts_in (e.more d es) x c (further h) p =
-      further (⊎_elim (λ l. on_left (subs_concat es) (parts_in d x c l p)) (λ r. on_right (subs d) (concat_parts_in es x c r p)) (one_side (subs d) h))
+      further (⊎_elim (λ l. on_left (subs_concat es) (parts_in d x c l p))
+      (λ r. on_right (subs d) (concat_parts_in es x c r p)) (one_side (subs d) h))
 
   alt_parts_in : (es : Elements) (x c : Element) → Listed x (subs_alt es) → Part x c → Listed c (subs_alt es)
   alt_parts_in e.none x c (first same) p = none_of (subst (λ v. Part v c) same p)
@@ -240,7 +252,8 @@ mutual
       inner alt_first = further (on_left (subs_alt es) (itself d))
       inner alt_rest = further (on_right (subs d) (itself (e.Alt es)))
   alt_parts_in (e.more d es) x c (further h) p =
-      further (⊎_elim (λ l. on_left (subs_alt es) (parts_in d x c l p)) (λ r. on_right (subs d) (alt_parts_in es x c r p)) (one_side (subs d) h))
+      further (⊎_elim (λ l. on_left (subs_alt es) (parts_in d x c l p))
+      (λ r. on_right (subs d) (alt_parts_in es x c r p)) (one_side (subs d) h))
 
 -- those of all rules
 abbrev universe : List Rule → List Element
@@ -250,19 +263,23 @@ universe (rule ∷ rules) = subs rule.body ++ universe rules
 universe_parts : (rules : List Rule) (x c : Element) → Listed x (universe rules) → Part x c → Listed c (universe rules)
 universe_parts [] x c h p = elim h [ ]
 universe_parts (rule ∷ rules) x c h p =
-    ⊎_elim (λ l. on_left (universe rules) (parts_in rule.body x c l p)) (λ r. on_right (subs rule.body) (universe_parts rules x c r p)) (one_side (subs rule.body) h)
+    ⊎_elim (λ l. on_left (universe rules) (parts_in rule.body x c l p))
+    (λ r. on_right (subs rule.body) (universe_parts rules x c r p)) (one_side (subs rule.body) h)
 
 named_in : (rules : List Rule) (n : List ℕ) (d : Element) → body_of rules n ≡ Some d → Listed d (universe rules)
 named_in [] n d is = absurd (cc is)
 named_in (rule ∷ rules) n d is = by (same_name Fold n rule.name) is (λ rest. named_in rules n d rest)
   where
-    by : (b : Bool) → cond b (Some rule.body) (body_of rules n) ≡ Some d → (body_of rules n ≡ Some d → Listed d (universe rules)) → Listed d (universe (rule ∷ rules))
-    by true is behind = let same : rule.body ≡ d = cc is in on_left (universe rules) (subst (λ v. Listed v (subs rule.body)) same (itself rule.body))
+    by : (b : Bool) → cond b (Some rule.body) (body_of rules n) ≡ Some d
+        → (body_of rules n ≡ Some d → Listed d (universe rules)) → Listed d (universe (rule ∷ rules))
+    by true is behind = let same : rule.body ≡ d = cc is in
+        on_left (universe rules) (subst (λ v. Listed v (subs rule.body)) same (itself rule.body))
     by false is behind = on_right (subs rule.body) (behind is)
 
 body_in : (rules : List Rule) (id : ℕ) (d : Element) → slice_get (bodies rules) id ≡ Some d → Listed d (universe rules)
 body_in [] id d is = absurd (cc is)
-body_in (rule ∷ rules) zero d is = let same : rule.body ≡ d = cc is in on_left (universe rules) (subst (λ v. Listed v (subs rule.body)) same (itself rule.body))
+body_in (rule ∷ rules) zero d is = let same : rule.body ≡ d = cc is in
+    on_left (universe rules) (subst (λ v. Listed v (subs rule.body)) same (itself rule.body))
 body_in (rule ∷ rules) (suc id) d is = on_right (subs rule.body) (body_in rules id d is)
 
 -- an element and two states
@@ -278,19 +295,25 @@ abbrev facts : ℕ → List Element → List Fact
 facts n [] = []
 facts n (d ∷ ds) = each n (λ i. every n (λ j. fact d i j)) ++ facts n ds
 
-in_facts : (n i j : ℕ) (ds : List Element) (d : Element) → i < n → j < n → Listed d ds → Listed (fact d i j) (facts n ds)
+in_facts : (n i j : ℕ) (ds : List Element) (d : Element) → i < n → j < n → Listed d ds
+    → Listed (fact d i j) (facts n ds)
 in_facts n i j [] d lt less h = elim h [ ]
-in_facts n i j (c ∷ ds) d lt less (first same) = on_left (facts n ds) (subst (λ v. Listed (fact d i j) (each n (λ i. every n (λ j. fact v i j)))) same
+in_facts n i j (c ∷ ds) d lt less (first same) =
+    on_left (facts n ds) (subst (λ v. Listed (fact d i j) (each n (λ i. every n (λ j. fact v i j)))) same
     (in_each n i (λ i. every n (λ j. fact d i j)) lt (in_every n j (λ j. fact d i j) less)))
-in_facts n i j (c ∷ ds) d lt less (further h) = on_right (each n (λ i. every n (λ j. fact c i j))) (in_facts n i j ds d lt less h)
+in_facts n i j (c ∷ ds) d lt less (further h) = on_right (each n (λ i. every n (λ j. fact c i j)))
+    (in_facts n i j ds d lt less h)
 
 from_facts : (n : ℕ) (ds : List Element) (f : Fact) → Listed f (facts n ds) → Listed f.el ds × (f.from < n) × (f.to < n)
 from_facts n [] f h = elim h [ ]
 from_facts n (d ∷ ds) f h = ⊎_elim
     (λ l.
     let g = from_each n (λ i. every n (λ j. fact d i j)) f l in
-    let k = from_every n (λ j. fact d g.0 j) f g.2 in
-    (first (ap (λ v. v.el) k.2), subst (λ v. v < n) (sym (ap (λ v. v.from) k.2)) g.1, subst (λ v. v < n) (sym (ap (λ v. v.to) k.2)) k.1))
+    let k = from_every n (λ j. fact d g.0 j) f g.2 in (
+      first (ap (λ v. v.el) k.2),
+      subst (λ v. v < n) (sym (ap (λ v. v.from) k.2)) g.1,
+      subst (λ v. v < n) (sym (ap (λ v. v.to) k.2)) k.1,
+    ))
     (λ r. let g = from_facts n ds f r in (further g.0, g.1, g.2))
     (one_side (each n (λ i. every n (λ j. fact d i j))) h)
 
@@ -323,7 +346,8 @@ stands_below true t c h =
 stands_below false t c h = omega (arith, h)
 
 -- The states are the numbers up to `last`. `goes i c k`: the letter c leads from i to k.
-module _ (has : ℕ → Bool) (rules : List Rule) (last : ℕ) (goes : ℕ → ℕ → ℕ → Bool) (within : (i c k : ℕ) → goes i c k ≡ true → k ≤ last) where
+module _ (has : ℕ → Bool) (rules : List Rule) (last : ℕ) (goes : ℕ → ℕ → ℕ → Bool)
+    (within : (i c k : ℕ) → goes i c k ≡ true → k ≤ last) where
   abbrev Goes : ℕ → ℕ → ℕ → Type 0
   Goes i c k = goes i c k ≡ true
 
@@ -348,10 +372,12 @@ module _ (has : ℕ → Bool) (rules : List Rule) (last : ℕ) (goes : ℕ → �
         holds = and_second (goes i one.0 two.0) (f one.0 two.0) two.1;
       }
 
-  moves_by : (bound i c k : ℕ) (f : ℕ → ℕ → Bool) → c < bound → goes i c k ≡ true → f c k ≡ true → moves bound i f ≡ true
+  moves_by : (bound i c k : ℕ) (f : ℕ → ℕ → Bool) → c < bound → goes i c k ≡ true → f c k ≡ true
+      → moves bound i f ≡ true
   moves_by bound i c k f lt is h =
       any_at bound c (λ c. any (last + 1) (λ k. goes i c k && f c k)) lt
-      (any_at (last + 1) k (λ k. goes i c k && f c k) (let le = within i c k is in omega (arith, le)) (and_true (goes i c k) (f c k) is h))
+      (any_at (last + 1) k (λ k. goes i c k && f c k) (let le = within i c k is in omega (arith, le))
+      (and_true (goes i c k) (f c k) is h))
 
   -- leaves
   abbrev reads_text : Bool → List ℕ → ℕ → ℕ → Bool
@@ -399,12 +425,15 @@ module _ (has : ℕ → Bool) (rules : List Rule) (last : ℕ) (goes : ℕ → �
     path : IsPath Goes f.from word f.to
     derives : Derives has rules f.el word
 
-  text_spans : (folds : Bool) (t : List ℕ) (i j : ℕ) → reads_text folds t i j ≡ true → (w : List ℕ) × IsPath Goes i w j × Spelled folds t w
+  text_spans : (folds : Bool) (t : List ℕ) (i j : ℕ) → reads_text folds t i j ≡ true → (w : List ℕ) × IsPath Goes i w j
+      × Spelled folds t w
   text_spans folds [] i j h = ([], subst (λ v. IsPath Goes i [] v) (eqb-true i j h) here, Spelled.end)
   text_spans folds (t ∷ ts) i j h =
       let m = move_of (t + 33) i (λ c k. stands folds t c && reads_text folds ts k j) h in
-      let one = stands_for folds t m.letter (and_first (stands folds t m.letter) (reads_text folds ts m.next j) m.holds) in
-      let rest = text_spans folds ts m.next j (and_second (stands folds t m.letter) (reads_text folds ts m.next j) m.holds) in
+      let one = stands_for folds t m.letter (and_first (stands folds t m.letter) (reads_text folds ts m.next j)
+      m.holds) in
+      let rest = text_spans folds ts m.next j (and_second (stands folds t m.letter) (reads_text folds ts m.next j)
+      m.holds) in
       (m.letter ∷ rest.0, step m.moved rest.1, Spelled.next one rest.2)
 
   values_span : (vs : List ℕ) (i j : ℕ) → reads_values vs i j ≡ true → IsPath Goes i vs j × AreLetters has vs
@@ -413,14 +442,17 @@ module _ (has : ℕ → Bool) (rules : List Rule) (last : ℕ) (goes : ℕ → �
       let m = move_of (v + 1) i (λ c k. (eqb c v && has v) && reads_values vs k j) h in
       let front = and_first (eqb m.letter v && has v) (reads_values vs m.next j) m.holds in
       let same = eqb-true m.letter v (and_first (eqb m.letter v) (has v) front) in
-      let rest = values_span vs m.next j (and_second (eqb m.letter v && has v) (reads_values vs m.next j) m.holds) in
-      (step (subst (λ c. goes i c m.next ≡ true) same m.moved) rest.0, (and_second (eqb m.letter v) (has v) front, rest.1))
+      let rest = values_span vs m.next j (and_second (eqb m.letter v && has v) (reads_values vs m.next j) m.holds) in (
+        step (subst (λ c. goes i c m.next ≡ true) same m.moved) rest.0,
+        (and_second (eqb m.letter v) (has v) front, rest.1),
+      )
 
   range_spans : (low high i j : ℕ) → reads_range low high i j ≡ true → Spans (fact (e.Range low high) i j)
   range_spans low high i j h =
       let m = move_of (high + 1) i (λ c k. ((leb low c && leb c high) && has c) && eqb k j) h in
       let inside = and_first ((leb low m.letter && leb m.letter high) && has m.letter) (eqb m.next j) m.holds in
-      let ends = eqb-true m.next j (and_second ((leb low m.letter && leb m.letter high) && has m.letter) (eqb m.next j) m.holds) in
+      let ends = eqb-true m.next j (and_second ((leb low m.letter && leb m.letter high) && has m.letter) (eqb m.next j)
+      m.holds) in
       let bounds = and_first (leb low m.letter && leb m.letter high) (has m.letter) inside in
       record {
         word = m.letter ∷ [];
@@ -473,43 +505,77 @@ module _ (has : ℕ → Bool) (rules : List Rule) (last : ℕ) (goes : ℕ → �
           rest = right (fact c f.0 j) (and_second (s (fact d i f.0)) (s (fact c f.0 j)) f.1);
         }
 
-    body_spans : (n : List ℕ) (i j : ℕ) (o : Option Element) → body_of rules n ≡ o → of_body s o i j ≡ true → Spans (fact (e.Name n) i j)
+    body_spans : (n : List ℕ) (i j : ℕ) (o : Option Element) → body_of rules n ≡ o → of_body s o i j ≡ true
+        → Spans (fact (e.Name n) i j)
     body_spans n i j None is h = absurd (cc h)
-    body_spans n i j (Some d) is h = let p = right (fact d i j) h in record { word = p.word; path = p.path; derives = der.name is p.derives }
+    body_spans n i j (Some d) is h = let p = right (fact d i j) h in
+        record { word = p.word; path = p.path; derives = der.name is p.derives }
 
-    rep_spans : (a : ℕ) (b : Option ℕ) (d : Element) (i j : ℕ) → grows s (e.Rep a b d) i j ≡ true → Spans (fact (e.Rep a b d) i j)
+    rep_spans : (a : ℕ) (b : Option ℕ) (d : Element) (i j : ℕ) → grows s (e.Rep a b d) i j ≡ true
+        → Spans (fact (e.Rep a b d) i j)
     rep_spans a b d i j h = ⊎_elim
         (λ none.
         let le = leb-true a 0 (and_first (leb a 0) (eqb i j) none) in
-        record { word = []; path = subst (λ v. IsPath Goes i [] v) (eqb-true i j (and_second (leb a 0) (eqb i j) none)) here; derives = der.rep {k = 0} le (none_within b) no_more })
+        record {
+          word = [];
+          path = subst (λ v. IsPath Goes i [] v) (eqb-true i j
+              (and_second (leb a 0) (eqb i j) none)) here;
+          derives = der.rep {k = 0} le (none_within b) no_more;
+        })
         (λ some.
-        let t = two_of d (e.Rep (a - 1) (less b) d) i j (and_second (may b) (both s d (e.Rep (a - 1) (less b) d) i j) some) in
+        let t = two_of d (e.Rep (a - 1) (less b) d) i j
+        (and_second (may b) (both s d (e.Rep (a - 1) (less b) d) i j) some) in
         let r = turns_of t.rest.derives in
         let low = r.low in
         record {
           word = t.left.word ++ t.rest.word;
           path = join Goes t.left.path t.rest.path;
-          derives = der.rep {k = suc r.count} (omega (arith, low)) (more_within r.count b (and_first (may b) (both s d (e.Rep (a - 1) (less b) d) i j) some) r.high) (one_more t.left.derives r.times);
+          derives = der.rep {k = suc r.count} (omega (arith, low))
+              (more_within r.count b (and_first (may b) (both s d (e.Rep (a - 1) (less b) d) i j) some) r.high)
+              (one_more t.left.derives r.times);
         })
         (or_true (leb a 0 && eqb i j) (may b && both s d (e.Rep (a - 1) (less b) d) i j) h)
 
     grown_spans : (d : Element) (i j : ℕ) → grows s d i j ≡ true → Spans (fact d i j)
-    grown_spans (e.Text folds t) i j h = let r = text_spans folds t i j h in record { word = r.0; path = r.1; derives = der.text r.2 }
-    grown_spans (e.Values vs) i j h = let r = values_span vs i j h in record { word = vs; path = r.0; derives = der.values r.1 }
+    grown_spans (e.Text folds t) i j h = let r = text_spans folds t i j h in
+        record { word = r.0; path = r.1; derives = der.text r.2 }
+    grown_spans (e.Values vs) i j h = let r = values_span vs i j h in
+        record { word = vs; path = r.0; derives = der.values r.1 }
     grown_spans (e.Range low high) i j h = range_spans low high i j h
-    grown_spans (e.Concat e.none) i j h = record { word = []; path = subst (λ v. IsPath Goes i [] v) (eqb-true i j h) here; derives = der.concat all_done }
+    grown_spans (e.Concat e.none) i j h = record {
+      word = [];
+      path = subst (λ v. IsPath Goes i [] v) (eqb-true i j h) here;
+      derives = der.concat all_done;
+    }
     grown_spans (e.Concat (e.more d es)) i j h =
         let t = two_of d (e.Concat es) i j h in
-        record { word = t.left.word ++ t.rest.word; path = join Goes t.left.path t.rest.path; derives = der.concat (then t.left.derives (members_of t.rest.derives)) }
+        record {
+          word = t.left.word ++ t.rest.word;
+          path = join Goes t.left.path t.rest.path;
+          derives = der.concat (then t.left.derives (members_of t.rest.derives));
+        }
     grown_spans (e.Alt e.none) i j h = absurd (cc h)
     grown_spans (e.Alt (e.more d es)) i j h = ⊎_elim
-        (λ l. let p = right (fact d i j) l in record { word = p.word; path = p.path; derives = der.alt (this p.derives) })
-        (λ r. let p = right (fact (e.Alt es) i j) r in record { word = p.word; path = p.path; derives = der.alt (later (alternative_of p.derives)) })
+        (λ l. let p = right (fact d i j) l in record {
+          word = p.word;
+          path = p.path;
+          derives = der.alt (this p.derives);
+        })
+        (λ r. let p = right (fact (e.Alt es) i j) r in
+        record { word = p.word; path = p.path; derives = der.alt (later (alternative_of p.derives)) })
         (or_true (s (fact d i j)) (s (fact (e.Alt es) i j)) h)
     grown_spans (e.Rep a b d) i j h = rep_spans a b d i j h
     grown_spans (e.Opt d) i j h = ⊎_elim
-        (λ none. record { word = []; path = subst (λ v. IsPath Goes i [] v) (eqb-true i j none) here; derives = der.opt_empty })
-        (λ some. let p = right (fact d i j) some in record { word = p.word; path = p.path; derives = der.opt p.derives })
+        (λ none. record {
+          word = [];
+          path = subst (λ v. IsPath Goes i [] v) (eqb-true i j none) here;
+          derives = der.opt_empty;
+        })
+        (λ some. let p = right (fact d i j) some in record {
+          word = p.word;
+          path = p.path;
+          derives = der.opt p.derives;
+        })
         (or_true (eqb i j) (s (fact d i j)) h)
     grown_spans (e.Name n) i j h = body_spans n i j (body_of rules n) refl h
     grown_spans (e.Prose t) i j h = absurd (cc h)
@@ -521,11 +587,15 @@ module _ (has : ℕ → Bool) (rules : List Rule) (last : ℕ) (goes : ℕ → �
   stays here le = le
   stays (step {i = i} {k = k} {c = c} is l) le = stays l (within i c k is)
 
-  module _ (s : Fact → Bool) (closed : (f : Fact) → Listed f (facts (last + 1) (universe rules)) → grow s f ≡ true → s f ≡ true) where
-    comes : (d : Element) (i j : ℕ) → Listed d (universe rules) → i ≤ last → j ≤ last → grows s d i j ≡ true → s (fact d i j) ≡ true
-    comes d i j h a b g = closed (fact d i j) (in_facts (last + 1) i j (universe rules) d (omega (arith, a)) (omega (arith, b)) h) g
+  module _ (s : Fact → Bool) (closed : (f : Fact) → Listed f (facts (last + 1) (universe rules)) → grow s f ≡ true
+      → s f ≡ true) where
+    comes : (d : Element) (i j : ℕ) → Listed d (universe rules) → i ≤ last → j ≤ last → grows s d i j ≡ true
+        → s (fact d i j) ≡ true
+    comes d i j h a b g = closed (fact d i j) (in_facts (last + 1) i j (universe rules) d (omega (arith, a))
+        (omega (arith, b)) h) g
 
-    text_read : {folds : Bool} {t w : List ℕ} (i j : ℕ) → Spelled folds t w → IsPath Goes i w j → reads_text folds t i j ≡ true
+    text_read : {folds : Bool} {t w : List ℕ} (i j : ℕ) → Spelled folds t w → IsPath Goes i w j
+        → reads_text folds t i j ≡ true
     text_read i j Spelled.end l = eq-eqb i j (nowhere l)
     text_read {folds = folds} i j (Spelled.next {t = t} {c = c} {ts = ts} h d) (step {k = k} is l) =
         moves_by (t + 33) i c k (λ c k. stands folds t c && reads_text folds ts k j) (stands_below folds t c h) is
@@ -535,31 +605,43 @@ module _ (has : ℕ → Bool) (rules : List Rule) (last : ℕ) (goes : ℕ → �
     values_read [] i j all l = eq-eqb i j (nowhere l)
     values_read (v ∷ vs) i j all (step {k = k} is l) =
         moves_by (v + 1) i v k (λ c k. (eqb c v && has v) && reads_values vs k j) (omega arith) is
-        (and_true (eqb v v && has v) (reads_values vs k j) (and_true (eqb v v) (has v) (eq-eqb v v refl) all.0) (values_read vs k j all.1 l))
+        (and_true (eqb v v && has v) (reads_values vs k j) (and_true (eqb v v) (has v) (eq-eqb v v refl) all.0)
+        (values_read vs k j all.1 l))
 
-    range_read : (low high i j c : ℕ) → low ≤ c → c ≤ high → has c ≡ true → IsPath Goes i (c ∷ []) j → reads_range low high i j ≡ true
+    range_read : (low high i j c : ℕ) → low ≤ c → c ≤ high → has c ≡ true → IsPath Goes i (c ∷ []) j
+        → reads_range low high i j ≡ true
     range_read low high i j c a b h (step {k = k} is l) =
         moves_by (high + 1) i c k (λ c k. ((leb low c && leb c high) && has c) && eqb k j) (omega (arith, b)) is
         (and_true ((leb low c && leb c high) && has c) (eqb k j)
-        (and_true (leb low c && leb c high) (has c) (and_true (leb low c) (leb c high) (le-leb low c a) (le-leb c high b)) h) (eq-eqb k j (nowhere l)))
+        (and_true (leb low c && leb c high) (has c) (and_true (leb low c) (leb c high) (le-leb low c a)
+        (le-leb c high b)) h) (eq-eqb k j (nowhere l)))
 
-    both_come : (d c : Element) (i m j : ℕ) → m ≤ last → s (fact d i m) ≡ true → s (fact c m j) ≡ true → both s d c i j ≡ true
-    both_come d c i m j le one two = any_at (last + 1) m (λ m. s (fact d i m) && s (fact c m j)) (omega (arith, le)) (and_true (s (fact d i m)) (s (fact c m j)) one two)
+    both_come : (d c : Element) (i m j : ℕ) → m ≤ last → s (fact d i m) ≡ true → s (fact c m j) ≡ true
+        → both s d c i j ≡ true
+    both_come d c i m j le one two = any_at (last + 1) m (λ m. s (fact d i m) && s (fact c m j)) (omega (arith, le))
+        (and_true (s (fact d i m)) (s (fact c m j)) one two)
 
     mutual
-      derived : {d : Element} {w : List ℕ} → Derives has rules d w → (i j : ℕ) → IsPath Goes i w j → Listed d (universe rules) → i ≤ last → j ≤ last → s (fact d i j) ≡ true
+      derived : {d : Element} {w : List ℕ} → Derives has rules d w → (i j : ℕ) → IsPath Goes i w j
+          → Listed d (universe rules) → i ≤ last → j ≤ last → s (fact d i j) ≡ true
       derived (der.text {folds = folds} {t = t} h) i j l at a b = comes (e.Text folds t) i j at a b (text_read i j h l)
       derived (der.values {vs = vs} h) i j l at a b = comes (e.Values vs) i j at a b (values_read vs i j h l)
-      derived (der.range {low = low} {high = high} {c = c} p q h) i j l at a b = comes (e.Range low high) i j at a b (range_read low high i j c p q h l)
+      derived (der.range {low = low} {high = high} {c = c} p q h) i j l at a b =
+          comes (e.Range low high) i j at a b (range_read low high i j c p q h l)
       derived (der.concat d) i j l at a b = all_derived d i j l at a b
       derived (der.alt d) i j l at a b = some_derived d i j l at a b
-      derived (der.rep {a = least} {k = k} {b = most} low high d) i j l at a b = times_derived d i j l least most low high at a b
-      derived (der.opt_empty {e = d}) i j l at a b = comes (e.Opt d) i j at a b (or_first (eqb i j) (s (fact d i j)) (eq-eqb i j (nowhere l)))
+      derived (der.rep {a = least} {k = k} {b = most} low high d) i j l at a b =
+          times_derived d i j l least most low high at a b
+      derived (der.opt_empty {e = d}) i j l at a b =
+          comes (e.Opt d) i j at a b (or_first (eqb i j) (s (fact d i j)) (eq-eqb i j (nowhere l)))
       derived (der.opt {e = d} h) i j l at a b =
-          comes (e.Opt d) i j at a b (or_second (eqb i j) (s (fact d i j)) (derived h i j l (universe_parts rules (e.Opt d) d at operand) a b))
-      derived (der.name {n = n} {e = d} is h) i j l at a b = comes (e.Name n) i j at a b (rw is (derived h i j l (named_in rules n d is) a b))
+          comes (e.Opt d) i j at a b (or_second (eqb i j) (s (fact d i j))
+          (derived h i j l (universe_parts rules (e.Opt d) d at operand) a b))
+      derived (der.name {n = n} {e = d} is h) i j l at a b =
+          comes (e.Name n) i j at a b (rw is (derived h i j l (named_in rules n d is) a b))
 
-      all_derived : {es : Elements} {w : List ℕ} → DerivesAll has rules es w → (i j : ℕ) → IsPath Goes i w j → Listed (e.Concat es) (universe rules) → i ≤ last → j ≤ last →
+      all_derived : {es : Elements} {w : List ℕ} → DerivesAll has rules es w → (i j : ℕ) → IsPath Goes i w j
+          → Listed (e.Concat es) (universe rules) → i ≤ last → j ≤ last →
           s (fact (e.Concat es) i j) ≡ true
       all_derived all_done i j l at a b = comes (e.Concat e.none) i j at a b (eq-eqb i j (nowhere l))
       all_derived (then {e = d} {es = es} {w = w} h hs) i j l at a b =
@@ -567,32 +649,43 @@ module _ (has : ℕ → Bool) (rules : List Rule) (last : ℕ) (goes : ℕ → �
           let mid = stays c.left a in
           comes (e.Concat (e.more d es)) i j at a b (both_come d (e.Concat es) i c.mid j mid
           (derived h i c.mid c.left (universe_parts rules (e.Concat (e.more d es)) d at concat_first) a mid)
-          (all_derived hs c.mid j c.right (universe_parts rules (e.Concat (e.more d es)) (e.Concat es) at concat_rest) mid b))
+          (all_derived hs c.mid j c.right (universe_parts rules (e.Concat (e.more d es)) (e.Concat es) at concat_rest)
+          mid b))
 
-      some_derived : {es : Elements} {w : List ℕ} → DerivesSome has rules es w → (i j : ℕ) → IsPath Goes i w j → Listed (e.Alt es) (universe rules) → i ≤ last → j ≤ last →
+      some_derived : {es : Elements} {w : List ℕ} → DerivesSome has rules es w → (i j : ℕ) → IsPath Goes i w j
+          → Listed (e.Alt es) (universe rules) → i ≤ last → j ≤ last →
           s (fact (e.Alt es) i j) ≡ true
-      some_derived (this {e = d} {es = es} h) i j l at a b = comes (e.Alt (e.more d es)) i j at a b (or_first (s (fact d i j)) (s (fact (e.Alt es) i j))
+      some_derived (this {e = d} {es = es} h) i j l at a b =
+          comes (e.Alt (e.more d es)) i j at a b (or_first (s (fact d i j)) (s (fact (e.Alt es) i j))
           (derived h i j l (universe_parts rules (e.Alt (e.more d es)) d at alt_first) a b))
-      some_derived (later {e = d} {es = es} h) i j l at a b = comes (e.Alt (e.more d es)) i j at a b (or_second (s (fact d i j)) (s (fact (e.Alt es) i j))
+      some_derived (later {e = d} {es = es} h) i j l at a b =
+          comes (e.Alt (e.more d es)) i j at a b (or_second (s (fact d i j)) (s (fact (e.Alt es) i j))
           (some_derived h i j l (universe_parts rules (e.Alt (e.more d es)) (e.Alt es) at alt_rest) a b))
 
-      times_derived : {d : Element} {k : ℕ} {w : List ℕ} → DerivesTimes has rules d k w → (i j : ℕ) → IsPath Goes i w j → (least : ℕ) (most : Option ℕ) → least ≤ k → der.Within k most →
+      times_derived : {d : Element} {k : ℕ} {w : List ℕ} → DerivesTimes has rules d k w → (i j : ℕ) → IsPath Goes i w j
+          → (least : ℕ) (most : Option ℕ) → least ≤ k → der.Within k most →
           Listed (e.Rep least most d) (universe rules) → i ≤ last → j ≤ last → s (fact (e.Rep least most d) i j) ≡ true
       times_derived (no_more {e = d}) i j l least most low high at a b = comes (e.Rep least most d) i j at a b
-          (or_first (leb least 0 && eqb i j) (may most && both s d (e.Rep (least - 1) (less most) d) i j) (and_true (leb least 0) (eqb i j) (le-leb least 0 low) (eq-eqb i j (nowhere l))))
+          (or_first (leb least 0 && eqb i j) (may most && both s d (e.Rep (least - 1) (less most) d) i j)
+          (and_true (leb least 0) (eqb i j) (le-leb least 0 low) (eq-eqb i j (nowhere l))))
       times_derived (one_more {e = d} {k = k} {w = w} h hs) i j l least most low high at a b =
           let c = split Goes w l in
           let mid = stays c.left a in
           let left = less_within k most high in
-          comes (e.Rep least most d) i j at a b (or_second (leb least 0 && eqb i j) (may most && both s d (e.Rep (least - 1) (less most) d) i j)
-          (and_true (may most) (both s d (e.Rep (least - 1) (less most) d) i j) left.0 (both_come d (e.Rep (least - 1) (less most) d) i c.mid j mid
+          comes (e.Rep least most d) i j at a b (or_second (leb least 0 && eqb i j)
+          (may most && both s d (e.Rep (least - 1) (less most) d) i j)
+          (and_true (may most) (both s d (e.Rep (least - 1) (less most) d) i j) left.0
+          (both_come d (e.Rep (least - 1) (less most) d) i c.mid j mid
           (derived h i c.mid c.left (universe_parts rules (e.Rep least most d) d at turn) a mid)
-          (times_derived hs c.mid j c.right (least - 1) (less most) (omega (arith, low)) left.1 (universe_parts rules (e.Rep least most d) (e.Rep (least - 1) (less most) d) at turns_left) mid b))))
+          (times_derived hs c.mid j c.right (least - 1) (less most) (omega (arith, low)) left.1
+          (universe_parts rules (e.Rep least most d) (e.Rep (least - 1) (less most) d) at turns_left) mid b))))
 
   span_is_decided : (f : Fact) → Listed f (facts (last + 1) (universe rules)) → (said : Bool) × Says (Spans f) said
   span_is_decided f at = least_is_decided (facts (last + 1) (universe rules)) grow Spans
       (λ s right f g. grown_spans s right f.el f.from f.to g)
-      (λ s closed f here p. let r = from_facts (last + 1) (universe rules) f here in derived s closed p.derives f.from f.to p.path r.0 (let a = r.1 in omega (arith, a)) (let b = r.2 in omega (arith, b)))
+      (λ s closed f here p. let r = from_facts (last + 1) (universe rules) f here in
+      derived s closed p.derives f.from f.to p.path r.0 (let a = r.1 in omega (arith, a))
+      (let b = r.2 in omega (arith, b)))
       f at
 
   -- some letters that the rule of that id derives lead from i to j
@@ -601,12 +694,25 @@ module _ (has : ℕ → Bool) (rules : List Rule) (last : ℕ) (goes : ℕ → �
     pub path : IsPath Goes i word j
     pub derives : RuleDerives has rules id word
 
-  body_path : (id i j : ℕ) (d : Element) → slice_get (bodies rules) id ≡ Some d → (said : Bool) → Says (Spans (fact d i j)) said → (yes : Bool) × Says (RulePath id i j) yes
-  body_path id i j d is true p = (true, record { word = p.word; path = p.path; derives = record { body = d; is = is; derives = p.derives } })
+  body_path : (id i j : ℕ) (d : Element) → slice_get (bodies rules) id ≡ Some d → (said : Bool)
+      → Says (Spans (fact d i j)) said → (yes : Bool) × Says (RulePath id i j) yes
+  body_path id i j d is true p = (
+    true,
+    record {
+      word = p.word;
+      path = p.path;
+      derives = record { body = d; is = is; derives = p.derives };
+    },
+  )
   body_path id i j d is false p = (
     false,
     λ r. let same : r.derives.body ≡ d = cc (r.derives.is, is) in
-        p (record { word = r.word; path = r.path; derives = subst (λ v. Derives has rules v r.word) same r.derives.derives }),
+        p (record {
+          word = r.word;
+          path = r.path;
+          derives = subst (λ v. Derives has rules v
+              r.word) same r.derives.derives;
+        }),
   )
 
   pub rule_path_is_decided : (id i j : ℕ) → i ≤ last → j ≤ last → (yes : Bool) × Says (RulePath id i j) yes
@@ -618,5 +724,6 @@ module _ (has : ℕ → Bool) (rules : List Rule) (last : ℕ) (goes : ℕ → �
           none_some : {d : Element} → None ≡ Some d → ⊥
           none_some h = absurd (cc h)
       by (Some d) is =
-          let f = span_is_decided (fact d i j) (in_facts (last + 1) i j (universe rules) d (omega (arith, a)) (omega (arith, b)) (body_in rules id d is)) in
+          let f = span_is_decided (fact d i j) (in_facts (last + 1) i j (universe rules) d (omega (arith, a))
+          (omega (arith, b)) (body_in rules id d is)) in
           body_path id i j d is f.0 f.1

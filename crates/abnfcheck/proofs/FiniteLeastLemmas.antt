@@ -1,6 +1,7 @@
 -- Whether a member of a finite list lies in a least set is decided.
 -- Serves: derivation_is_decided.
-use Rattle.std.proofs.Common.{◌≡◌, ℕ, zero, suc, ◌+◌, ◌<◌, ◌≤◌, Bool, true, false, List, [], ◌∷◌, length, refl, sym, ◌∙◌, ap, subst, arith, inl, inr, ◌⊎◌}
+use Rattle.std.proofs.Common.{◌≡◌, ℕ, zero, suc, ◌+◌, ◌<◌, ◌≤◌, Bool, true, false, List, [], ◌∷◌, length, refl, sym}
+use Rattle.std.proofs.Common.{◌∙◌, ap, subst, arith, inl, inr, ◌⊎◌}
 use Rattle.abnfcheck.specs.Decided.{Says}
 
 -- a member of a list
@@ -37,11 +38,13 @@ module _ {A : Type 0} where
 
   -- a larger set has more members, or is the same
   module _ (s t : A → Bool) (within : (x : A) → s x ≡ true → t x ≡ true) where
-    here_too : (y : A) (xs : List A) → t y ≡ s y → ((x : A) → Listed x xs → t x ≡ s x) → (x : A) → Listed x (y ∷ xs) → t x ≡ s x
+    here_too : (y : A) (xs : List A) → t y ≡ s y → ((x : A) → Listed x xs → t x ≡ s x) → (x : A) → Listed x (y ∷ xs)
+        → t x ≡ s x
     here_too y xs same below x (first is) = subst (λ v. t v ≡ s v) (sym is) same
     here_too y xs same below x (further h) = below x h
 
-    same_or_more : (xs : List A) → (((x : A) → Listed x xs → t x ≡ s x) × (count t xs ≡ count s xs)) ⊎ (count s xs < count t xs)
+    same_or_more : (xs : List A) → (((x : A) → Listed x xs → t x ≡ s x) × (count t xs ≡ count s xs))
+        ⊎ (count s xs < count t xs)
     same_or_more [] = inl (λ x h. nobody h, refl)
       where
         nobody : {x : A} → Listed x [] → t x ≡ s x
@@ -70,15 +73,22 @@ module _ {A : Type 0} where
     settles zero = inr (omega arith)
     settles (suc k) = elim (settles k) [
       | inl done ↦ inl done
-      | inr le ↦ elim (same_or_more (at k) (at (suc k)) (stays_in k) all) [ inl same ↦ inl (k, same.0) | inr more ↦ inr (omega (arith, le, more)) ]
+      | inr le ↦ elim (same_or_more (at k) (at (suc k)) (stays_in k) all)
+          [ inl same ↦ inl (k, same.0) | inr more ↦ inr (omega (arith, le, more)) ]
     ]
 
     settled : (j : ℕ) × ((x : A) → Listed x all → at (suc j) x ≡ at j x)
-    settled = elim (settles (suc (length all))) [ inl done ↦ done | inr le ↦ let h = count_below (at (suc (length all))) all in absurd (omega (arith, le, h)) ]
+    settled = elim (settles (suc (length all))) [
+      | inl done ↦ done
+      | inr le ↦ let h =
+          count_below (at (suc (length all))) all in absurd (omega (arith, le, h))
+    ]
 
-    -- P is the least set that `grow` leaves alone: what grows of members is one, and a member lies in each set that doesn't grow
+    -- P is the least set that `grow` leaves alone: what grows of members is one, and a member lies in each set that
+    -- doesn't grow
     module _ (P : A → Type 0) (sound : (s : A → Bool) → ((x : A) → s x ≡ true → P x) → (x : A) → grow s x ≡ true → P x)
-        (least : (s : A → Bool) → ((x : A) → Listed x all → grow s x ≡ true → s x ≡ true) → (x : A) → Listed x all → P x → s x ≡ true) where
+        (least : (s : A → Bool) → ((x : A) → Listed x all → grow s x ≡ true → s x ≡ true) → (x : A) → Listed x all → P x
+        → s x ≡ true) where
       one_more : (x : A) (b : Bool) (g : Bool) → (b ≡ true → P x) → (g ≡ true → P x) → either b g ≡ true → P x
       one_more x true g old new is = old refl
       one_more x false g old new is = new is

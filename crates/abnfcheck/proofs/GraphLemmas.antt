@@ -1,6 +1,7 @@
--- Steps between the ids of names are the uses of rules, and what they reach is what can be reached from the judged rule.
+-- Steps between the ids of names are the uses of rules, and lead to what the judged rule reaches.
 -- Serves: check_abnf (notes, sound)
-use Rattle.std.proofs.Common.{◌≡◌, ℕ, zero, suc, ◌<◌, ◌≤◌, ◌⊎◌, inl, inr, ⊎_elim, Bool, true, false, ◌||◌, List, [], ◌∷◌, ◌++◌, length, Option, Some, refl, sym, ◌∙◌, ap, subst, arith, length-append}
+use Rattle.std.proofs.Common.{◌≡◌, ℕ, zero, suc, ◌<◌, ◌≤◌, ◌⊎◌, inl, inr, ⊎_elim, Bool, true, false, ◌||◌, List, []}
+use Rattle.std.proofs.Common.{◌∷◌, ◌++◌, length, Option, Some, refl, sym, ◌∙◌, ap, subst, arith, length-append}
 use Rattle.std.specs.Prelude.{slice_get, slice_index_or, Contains}
 use Rattle.std.proofs.lemmas.List.{length-map}
 use Rattle.leastset.specs.Reach.{Reaches, here as start, further}
@@ -12,7 +13,8 @@ use Rattle.rulenames.specs.NameUses.{IsPlace, AreIdsOf, no_uses, one_use}
 use Rattle.rulenames.proofs.IsPlaceLemmas.{place_below}
 use Rattle.abnfread.specs.Element as e
 use Rattle.abnfread.specs.Element.{Element, Elements, Rule, bodies, id_of}
-use Rattle.abnfcheck.specs.AbnfGrammar.{Within, WithinSome, itself, of_concat, of_alt, of_rep, of_opt, of_first, of_later, Reachable, judged_rule, by_name}
+use Rattle.abnfcheck.specs.AbnfGrammar.{Within, WithinSome, itself, of_concat, of_alt, of_rep, of_opt, of_first}
+use Rattle.abnfcheck.specs.AbnfGrammar.{of_later, Reachable, judged_rule, by_name}
 use Rattle.abnfcheck.specs.AbnfNotes.{judged_in}
 use Rattle.abnfcheck.specs.AbnfUses.{names_in, names_in_all, names_used, rule_names, Uses, HoldsProse}
 use Rattle.std.specs.Prelude.{option_to_list}
@@ -60,7 +62,8 @@ mutual
 
   name_within_some : (es : Elements) {n : List ℕ} → In n (names_in_all es) → WithinSome es (e.Name n)
   name_within_some e.none i = nothing_in i
-  name_within_some (e.more el es) i = ⊎_elim (λ l. of_first (name_within el l)) (λ r. of_later (name_within_some es r)) (in_either (names_in el) i)
+  name_within_some (e.more el es) i = ⊎_elim (λ l. of_first (name_within el l)) (λ r. of_later (name_within_some es r))
+      (in_either (names_in el) i)
 
 mutual
   within_name : {el : Element} {n : List ℕ} → Within el (e.Name n) → In n (names_in el)
@@ -101,9 +104,11 @@ mutual
   prose_within (e.Text folds text) is = absurd (cc is)
   prose_within (e.Values values) is = absurd (cc is)
   prose_within (e.Range low high) is = absurd (cc is)
-  prose_within (e.Concat es) is = let p = prose_within_some es is in record { text = p.text; within = of_concat p.within }
+  prose_within (e.Concat es) is = let p = prose_within_some es is in
+      record { text = p.text; within = of_concat p.within }
   prose_within (e.Alt es) is = let p = prose_within_some es is in record { text = p.text; within = of_alt p.within }
-  prose_within (e.Rep least most el) is = let p = prose_within el is in record { text = p.text; within = of_rep p.within }
+  prose_within (e.Rep least most el) is = let p = prose_within el is in
+      record { text = p.text; within = of_rep p.within }
   prose_within (e.Opt el) is = let p = prose_within el is in record { text = p.text; within = of_opt p.within }
   prose_within (e.Name name) is = absurd (cc is)
   prose_within (e.Prose text) is = record { text = text; within = itself }
@@ -128,28 +133,33 @@ mutual
   within_some_prose (of_later {e = el} {es = es} w) = or_right (prose_in el) (prose_in_one es) (within_some_prose w)
 
 -- the mark of a rule
-prose_mark : (rules : List Rule) (id : ℕ) (body : Element) (d : Bool) → slice_get (bodies rules) id ≡ Some body → slice_index_or (prose_marks rules) id d ≡ prose_in body
+prose_mark : (rules : List Rule) (id : ℕ) (body : Element) (d : Bool) → slice_get (bodies rules) id ≡ Some body
+    → slice_index_or (prose_marks rules) id d ≡ prose_in body
 prose_mark [] id body d is = absurd (cc is)
 prose_mark (rule ∷ rules) zero body d is = let same : rule.body ≡ body = cc is in ap prose_in same
 prose_mark (rule ∷ rules) (suc id) body d is = prose_mark rules id body d is
 
-pub body_there : (rules : List Rule) (id : ℕ) → id < length rules → (body : Element) × (slice_get (bodies rules) id ≡ Some body)
+pub body_there : (rules : List Rule) (id : ℕ) → id < length rules → (body : Element)
+    × (slice_get (bodies rules) id ≡ Some body)
 body_there [] id lt = absurd (omega (arith, lt))
 body_there (rule ∷ rules) zero lt = (rule.body, refl)
 body_there (rule ∷ rules) (suc id) lt = body_there rules id (omega (arith, lt))
 
-pub body_below : (rules : List Rule) (id : ℕ) (body : Element) → slice_get (bodies rules) id ≡ Some body → id < length rules
+pub body_below : (rules : List Rule) (id : ℕ) (body : Element) → slice_get (bodies rules) id ≡ Some body
+    → id < length rules
 body_below [] id body is = absurd (cc is)
 body_below (rule ∷ rules) zero body is = omega arith
 body_below (rule ∷ rules) (suc id) body is = let lt = body_below rules id body is in omega (arith, lt)
 
-pub marked_prose : (rules : List Rule) (id : ℕ) (d : Bool) → id < length rules → slice_index_or (prose_marks rules) id d ≡ true → HoldsProse rules id
+pub marked_prose : (rules : List Rule) (id : ℕ) (d : Bool) → id < length rules → slice_index_or (prose_marks rules) id d
+    ≡ true → HoldsProse rules id
 marked_prose rules id d lt is =
     let b = body_there rules id lt in
     let p = prose_within b.0 (sym (prose_mark rules id b.0 d b.1) ∙ is) in
     record { body = b.0; text = p.text; body_is = b.1; within = p.within }
 
-pub prose_marked : (rules : List Rule) (id : ℕ) (d : Bool) → HoldsProse rules id → slice_index_or (prose_marks rules) id d ≡ true
+pub prose_marked : (rules : List Rule) (id : ℕ) (d : Bool) → HoldsProse rules id
+    → slice_index_or (prose_marks rules) id d ≡ true
 prose_marked rules id d h = prose_mark rules id h.body d h.body_is ∙ within_prose h.within
 
 -- ids of uses
@@ -158,7 +168,8 @@ record UseOf (names uses : List (List ℕ)) (m : ℕ) : Type 0 where
   among : In name uses
   place : IsPlace Fold name names m
 
-id_use : {names uses : List (List ℕ)} {ids : List ℕ} (m : ℕ) → AreIdsOf Fold names uses ids → Contains ids m → UseOf names uses m
+id_use : {names uses : List (List ℕ)} {ids : List ℕ} (m : ℕ) → AreIdsOf Fold names uses ids → Contains ids m
+    → UseOf names uses m
 id_use m no_uses h = absurd (none_of m h)
 id_use {names = names} m (one_use {used = used} {uses = uses} {id = id} {ids = ids} p rest) h = ⊎_elim
     (λ is. record { name = used; among = in_head; place = subst (λ v. IsPlace Fold used names v) is p })
@@ -170,10 +181,12 @@ record IdOf (names : List (List ℕ)) (ids : List ℕ) (used : List ℕ) : Type 
   among : Contains ids id
   place : IsPlace Fold used names id
 
-use_id : {names uses : List (List ℕ)} {ids : List ℕ} {used : List ℕ} → AreIdsOf Fold names uses ids → In used uses → IdOf names ids used
+use_id : {names uses : List (List ℕ)} {ids : List ℕ} {used : List ℕ} → AreIdsOf Fold names uses ids → In used uses
+    → IdOf names ids used
 use_id no_uses i = elim i [ ]
 use_id (one_use {id = id} {ids = ids} p rest) in_head = record { id = id; among = in_first id ids; place = p }
-use_id (one_use {id = id} {ids = ids} p rest) (in_tail i) = let f = use_id rest i in record { id = f.id; among = in_later id f.id ids f.among; place = f.place }
+use_id (one_use {id = id} {ids = ids} p rest) (in_tail i) = let f = use_id rest i in
+    record { id = f.id; among = in_later id f.id ids f.among; place = f.place }
 
 order : (m n : ℕ) → (m < n) ⊎ (n ≤ m)
 order zero zero = inr (omega arith)
@@ -181,7 +194,8 @@ order zero (suc n) = inl (omega arith)
 order (suc m) zero = inr (omega arith)
 order (suc m) (suc n) = ⊎_elim (λ lt. inl (omega (arith, lt))) (λ le. inr (omega (arith, le))) (order m n)
 
-module _ (rules : List Rule) (given : Option (List ℕ)) (names : List (List ℕ)) (rows : List (List ℕ)) (judged : ℕ) (graph : IsGraph rules given names rows judged) where
+module _ (rules : List Rule) (given : Option (List ℕ)) (names : List (List ℕ)) (rows : List (List ℕ)) (judged : ℕ)
+    (graph : IsGraph rules given names rows judged) where
   abbrev more : List (List ℕ)
   more = news Fold (rule_names rules) (option_to_list given ++ names_used rules)
 
@@ -193,7 +207,8 @@ module _ (rules : List Rule) (given : Option (List ℕ)) (names : List (List ℕ
 
   -- each rule has a name
   pub rows_long : count ≤ length rows
-  rows_long = let a = ap length graph.all ∙ length-append (rule_names rules) more in let b = length-map rules (λ (rule : Rule). rule.name) in let c = graph.are_rows.count in omega (arith, a, b, c)
+  rows_long = let a = ap length graph.all ∙ length-append (rule_names rules) more in let b =
+      length-map rules (λ (rule : Rule). rule.name) in let c = graph.are_rows.count in omega (arith, a, b, c)
 
   empty_row : (user m : ℕ) → count ≤ user → Step rows user m → ⊥
   empty_row user m le step = none_of m (subst (λ v. Contains v m) (graph.are_rows.others user le) step)
@@ -215,13 +230,18 @@ module _ (rules : List Rule) (given : Option (List ℕ)) (names : List (List ℕ
       record { body = b.0; name = u.name; body_is = b.1; within = name_within b.0 u.among; place = u.place }
 
   pub steps_within : AreStepsWithin rows
-  steps_within = record { within = λ n m step. let u = step_use n m step in let lt = place_below Fold u.place in let c = graph.are_rows.count in omega (arith, lt, c) }
+  steps_within =
+      record {
+        within = λ n m step. let u = step_use n m step in
+            let lt = place_below Fold u.place in let c = graph.are_rows.count in omega (arith, lt, c);
+      }
 
   -- a step to a rule's name is a use of the rule
   pub step_uses : (user id : ℕ) → id < count → Step rows user id → Uses rules user id
   step_uses user id lt step =
       let u = step_use user id step in
-      let is : id_of rules u.name ≡ id = ⊎_elim (λ low. low.1) (λ high. absurd (let le = high.0 in omega (arith, lt, le))) (id_at u.place) in
+      let is : id_of rules u.name ≡ id = ⊎_elim (λ low. low.1)
+      (λ high. absurd (let le = high.0 in omega (arith, lt, le))) (id_at u.place) in
       record { body = u.body; name = u.name; body_is = u.body_is; within = u.within; id_is = is }
 
   record StepFor (user id : ℕ) : Type 0 where
@@ -229,7 +249,8 @@ module _ (rules : List Rule) (given : Option (List ℕ)) (names : List (List ℕ
     step : Step rows user target
     is : IsIdAt count target id
 
-  uses_for : (user : ℕ) (body : Element) (name : List ℕ) → slice_get (bodies rules) user ≡ Some body → Within body (e.Name name) → StepFor user (id_of rules name)
+  uses_for : (user : ℕ) (body : Element) (name : List ℕ) → slice_get (bodies rules) user ≡ Some body
+      → Within body (e.Name name) → StepFor user (id_of rules name)
   uses_for user body name at within =
       let f = use_id (graph.are_rows.ids user body at) (within_name within) in
       record { target = f.id; step = f.among; is = id_at f.place }
@@ -237,7 +258,8 @@ module _ (rules : List Rule) (given : Option (List ℕ)) (names : List (List ℕ
   pub uses_step : (user id : ℕ) → id < count → Uses rules user id → Step rows user id
   uses_step user id lt u =
       let s = uses_for user u.body u.name u.body_is u.within in
-      let is : s.target ≡ id = ⊎_elim (λ low. sym low.1 ∙ u.id_is) (λ high. absurd (let same = high.1 in let this = u.id_is in omega (arith, lt, same, this))) s.is in
+      let is : s.target ≡ id = ⊎_elim (λ low. sym low.1 ∙ u.id_is)
+      (λ high. absurd (let same = high.1 in let this = u.id_is in omega (arith, lt, same, this))) s.is in
       subst (λ v. Step rows user v) is s.step
 
   -- the judged rule
@@ -259,8 +281,13 @@ module _ (rules : List Rule) (given : Option (List ℕ)) (names : List (List ℕ
       let old = reached_as n r in
       let u = step_use n m step in
       let lt = user_below n m step in
-      let same : old.id ≡ n = ⊎_elim (λ low. low.1) (λ high. absurd (let le = high.0 in omega (arith, lt, le))) old.is in
-      record { id = id_of rules u.name; is = id_at u.place; reachable = by_name (subst (λ v. Reachable rules judged_rule_id v) same old.reachable) u.body_is u.within }
+      let same : old.id ≡ n = ⊎_elim (λ low. low.1) (λ high. absurd (let le = high.0 in omega (arith, lt, le)))
+      old.is in
+      record {
+        id = id_of rules u.name;
+        is = id_at u.place;
+        reachable = by_name (subst (λ v. Reachable rules judged_rule_id v) same old.reachable) u.body_is u.within;
+      }
 
   pub record ReachedBy (id : ℕ) : Type 0 where
     pub place : ℕ
@@ -272,6 +299,12 @@ module _ (rules : List Rule) (given : Option (List ℕ)) (names : List (List ℕ
   reached_by id (by_name {id = user} {body = body} {name = name} r at within) =
       let old = reached_by user r in
       let lt = body_below rules user body at in
-      let same : old.place ≡ user = ⊎_elim (λ low. sym low.1) (λ high. absurd (let is = high.1 in omega (arith, lt, is))) old.is in
+      let same : old.place ≡ user = ⊎_elim (λ low. sym low.1)
+      (λ high. absurd (let is = high.1 in omega (arith, lt, is))) old.is in
       let s = uses_for user body name at within in
-      record { place = s.target; is = s.is; reaches = further (subst (λ v. Reaches rows judged v) same old.reaches) s.step }
+      record {
+        place = s.target;
+        is = s.is;
+        reaches = further (subst (λ v. Reaches rows judged v) same
+            old.reaches) s.step;
+      }

@@ -20,16 +20,18 @@ mutual
     of_later : {e : Element} {es : Elements} {d : Element} → WithinSome es d → WithinSome (more e es) d
 
 module _ (rules : List Rule) (judged : ℕ) where
-  -- The least set of ids with the judged rule and, with each rule, those of the names in its body. The number of rules stands for a name
-  -- without a rule.
+  -- The least set of ids with the judged rule and, with each rule, those of the names in its body. The number of rules
+  -- stands for a name without a rule.
   pub data Reachable : ℕ → Type 0 where
     judged_rule : Reachable judged
-    by_name : {id : ℕ} {body : Element} {name : List ℕ} → Reachable id → slice_get (bodies rules) id ≡ Some body → Within body (Name name) → Reachable (id_of rules name)
+    by_name : {id : ℕ} {body : Element} {name : List ℕ} → Reachable id → slice_get (bodies rules) id ≡ Some body
+        → Within body (Name name) → Reachable (id_of rules name)
 
   pub record IsSound : Type 0 where
     pub judged_is_rule : judged < length rules
     pub defined : (id : ℕ) → Reachable id → id < length rules
-    pub plain : (id : ℕ) (body : Element) (text : List ℕ) → Reachable id → slice_get (bodies rules) id ≡ Some body → Within body (Prose text) → ⊥
+    pub plain : (id : ℕ) (body : Element) (text : List ℕ) → Reachable id → slice_get (bodies rules) id ≡ Some body
+        → Within body (Prose text) → ⊥
 
 -- the file's rules, then the core rules that it leaves alone, and the id of the judged one
 pub record Grammar : Type 0 where

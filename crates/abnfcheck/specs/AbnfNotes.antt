@@ -1,6 +1,7 @@
 -- The notes on a grammar in ABNF, in order, and what refuses it. Own, but for what RFC 5234, sections 2.1, 3.3 and 4,
 -- says of rule names, `=/` and prose.
-use Rattle.std.specs.Prelude.{◌≡◌, ℕ, suc, ◌<◌, List, [], ◌∷◌, ◌++◌, map, length, Option, Some, None, option_to_list, Contains}
+use Rattle.std.specs.Prelude.{◌≡◌, ℕ, suc, ◌<◌, List, [], ◌∷◌, ◌++◌, map, length, Option, Some, None, option_to_list}
+use Rattle.std.specs.Prelude.{Contains}
 use Rattle.ruletable.specs.Notes.{Said, said}
 use Rattle.ruletable.specs.declared.note.NoteKind.TheVariants as kind
 use Rattle.ruletable.specs.declared.table.NameCase.TheVariants.{Fold}
@@ -13,8 +14,10 @@ module _ (P : ℕ → Type 0) where
   -- the names of those rules of which P holds by their ids, in the order of the rules; i is the id of the first
   pub data Those : ℕ → List Rule → List (List ℕ) → Type 0 where
     no_more : {i : ℕ} → Those i [] []
-    this_one : {i : ℕ} {rule : Rule} {rules : List Rule} {names : List (List ℕ)} → P i → Those (suc i) rules names → Those i (rule ∷ rules) (rule.name ∷ names)
-    not_this : {i : ℕ} {rule : Rule} {rules : List Rule} {names : List (List ℕ)} → (P i → ⊥) → Those (suc i) rules names → Those i (rule ∷ rules) names
+    this_one : {i : ℕ} {rule : Rule} {rules : List Rule} {names : List (List ℕ)} → P i → Those (suc i) rules names
+        → Those i (rule ∷ rules) (rule.name ∷ names)
+    not_this : {i : ℕ} {rule : Rule} {rules : List Rule} {names : List (List ℕ)} → (P i → ⊥) → Those (suc i) rules names
+        → Those i (rule ∷ rules) names
 
 -- the id of the judged rule: of that with the given name, or of the first; the number of rules stands for a name
 -- without a rule
@@ -31,7 +34,8 @@ IsUnused rules judged id = ((user : ℕ) → Uses rules user id → ⊥) × (jud
 -- are defined again; on rules of the file that are extended before they are defined; on names that no rule has, each
 -- once, by first use, where a given name is a use before all others; on rules of the file that hold prose; and on rules
 -- of the file that are not used. Each kind on rules goes by their order.
-pub record AreNotes (file rules : List Rule) (again early : List ℕ) (given : Option (List ℕ)) (notes : List Said) : Type 0 where
+pub record AreNotes (file rules : List Rule) (again early : List ℕ) (given : Option (List ℕ)) (notes : List Said) : Type
+    0 where
   pub redefined : List (List ℕ)
   pub extended : List (List ℕ)
   pub prose : List (List ℕ)

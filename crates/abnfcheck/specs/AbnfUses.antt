@@ -1,7 +1,8 @@
 -- The names that stand in the bodies of rules, in order.
 use Rattle.std.specs.Prelude.{◌≡◌, ℕ, List, [], ◌∷◌, ◌++◌, map, slice_get, Some}
 use Rattle.std.specs.List.{flat_map}
-use Rattle.abnfread.specs.Element.{Element, Elements, Text, Values, Range, Concat, Alt, Rep, Opt, Name, Prose, none, more, Rule, bodies, id_of}
+use Rattle.abnfread.specs.Element.{Element, Elements, Text, Values, Range, Concat, Alt, Rep, Opt, Name, Prose, none}
+use Rattle.abnfread.specs.Element.{more, Rule, bodies, id_of}
 use Rattle.abnfcheck.specs.AbnfGrammar.{Within}
 
 -- the names in an element, from left to right

@@ -9,7 +9,8 @@ pub record BeginsMember (has : ℕ → Bool) (rules : List Rule) (id : ℕ) (x :
   pub letters : AreLetters has rest
   pub derives : RuleDerives has rules id (take n x ++ rest)
 
--- n is the length of the longest viable beginning: of those letters that begin a list that the rule derives; 0 if it derives no list
+-- n is the length of the longest viable beginning: of those letters that begin a list that the rule derives; 0 if it
+-- derives no list
 pub record IsFurthest (has : ℕ → Bool) (rules : List Rule) (id : ℕ) (x : List ℕ) (n : ℕ) : Type 0 where
   pub within : n ≤ length x
   pub begins : 0 < n → BeginsMember has rules id x n

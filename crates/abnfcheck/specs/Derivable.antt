@@ -1,6 +1,8 @@
 -- What an element derives: a list of letters, each a number.
-use Rattle.std.specs.Prelude.{◌≡◌, ℕ, suc, ◌+◌, ◌≤◌, Bool, true, false, ◌&&◌, List, [], ◌∷◌, ◌++◌, slice_get, Option, Some, None, if◌then◌else◌, ltb}
-use Rattle.abnfread.specs.Element.{Element, Elements, Text, Values, Range, Concat, Alt, Rep, Opt, Name, none, more, Rule, bodies, body_of}
+use Rattle.std.specs.Prelude.{◌≡◌, ℕ, suc, ◌+◌, ◌≤◌, Bool, true, false, ◌&&◌, List, [], ◌∷◌, ◌++◌, slice_get, Option}
+use Rattle.std.specs.Prelude.{Some, None, if◌then◌else◌, ltb}
+use Rattle.abnfread.specs.Element.{Element, Elements, Text, Values, Range, Concat, Alt, Rep, Opt, Name, none, more}
+use Rattle.abnfread.specs.Element.{Rule, bodies, body_of}
 
 -- a US-ASCII letter in lower case
 abbrev pub small : ℕ → ℕ
@@ -14,7 +16,8 @@ StandsFor false t c = c ≡ t
 -- the spellings of a text: as long, letter by letter
 pub data Spelled : Bool → List ℕ → List ℕ → Type 0 where
   end : {folds : Bool} → Spelled folds [] []
-  next : {folds : Bool} {t c : ℕ} {ts cs : List ℕ} → StandsFor folds t c → Spelled folds ts cs → Spelled folds (t ∷ ts) (c ∷ cs)
+  next : {folds : Bool} {t c : ℕ} {ts cs : List ℕ} → StandsFor folds t c → Spelled folds ts cs
+      → Spelled folds (t ∷ ts) (c ∷ cs)
 
 -- each of the values is a letter
 abbrev pub AreLetters : (ℕ → Bool) → List ℕ → Type 0
@@ -35,7 +38,8 @@ module _ (has : ℕ → Bool) (rules : List Rule) where
       range : {low high c : ℕ} → low ≤ c → c ≤ high → has c ≡ true → Derives (Range low high) (c ∷ [])
       concat : {es : Elements} {w : List ℕ} → DerivesAll es w → Derives (Concat es) w
       alt : {es : Elements} {w : List ℕ} → DerivesSome es w → Derives (Alt es) w
-      rep : {a k : ℕ} {b : Option ℕ} {e : Element} {w : List ℕ} → a ≤ k → Within k b → DerivesTimes e k w → Derives (Rep a b e) w
+      rep : {a k : ℕ} {b : Option ℕ} {e : Element} {w : List ℕ} → a ≤ k → Within k b → DerivesTimes e k w
+          → Derives (Rep a b e) w
       opt_empty : {e : Element} → Derives (Opt e) []
       opt : {e : Element} {w : List ℕ} → Derives e w → Derives (Opt e) w
       name : {n : List ℕ} {e : Element} {w : List ℕ} → body_of rules n ≡ Some e → Derives e w → Derives (Name n) w
@@ -43,7 +47,8 @@ module _ (has : ℕ → Bool) (rules : List Rule) where
     -- the members one after another
     pub data DerivesAll : Elements → List ℕ → Type 0 where
       all_done : DerivesAll none []
-      then : {e : Element} {es : Elements} {w v : List ℕ} → Derives e w → DerivesAll es v → DerivesAll (more e es) (w ++ v)
+      then : {e : Element} {es : Elements} {w v : List ℕ} → Derives e w → DerivesAll es v
+          → DerivesAll (more e es) (w ++ v)
 
     -- one of the alternatives
     pub data DerivesSome : Elements → List ℕ → Type 0 where
@@ -53,7 +58,8 @@ module _ (has : ℕ → Bool) (rules : List Rule) where
     -- that many members of one set, one after another
     pub data DerivesTimes : Element → ℕ → List ℕ → Type 0 where
       no_more : {e : Element} → DerivesTimes e 0 []
-      one_more : {e : Element} {k : ℕ} {w v : List ℕ} → Derives e w → DerivesTimes e k v → DerivesTimes e (suc k) (w ++ v)
+      one_more : {e : Element} {k : ℕ} {w v : List ℕ} → Derives e w → DerivesTimes e k v
+          → DerivesTimes e (suc k) (w ++ v)
 
 -- the rule of that id derives it
 pub record RuleDerives (has : ℕ → Bool) (rules : List Rule) (id : ℕ) (w : List ℕ) : Type 0 where

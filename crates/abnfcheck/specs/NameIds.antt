@@ -1,5 +1,6 @@
 -- Names by id, and the ids of the names in the rules' bodies. Private helpers alone use it.
-use Rattle.std.specs.Prelude.{◌≡◌, ◌⊎◌, ℕ, ◌<◌, ◌≤◌, List, [], ◌++◌, length, slice_get, Option, Some, None, option_to_list}
+use Rattle.std.specs.Prelude.{◌≡◌, ◌⊎◌, ℕ, ◌<◌, ◌≤◌, List, [], ◌++◌, length, slice_get, Option, Some, None}
+use Rattle.std.specs.Prelude.{option_to_list}
 use Rattle.leastset.specs.StepRows.{row_at}
 use Rattle.ruletable.specs.declared.table.NameCase.TheVariants.{Fold}
 use Rattle.rulenames.specs.FirstUses.{news}
@@ -14,12 +15,14 @@ IsIdAt count place id = ((place < count) × (id ≡ place)) ⊎ ((count ≤ plac
 -- of each of the first rules the ids of the names in its body
 pub record AreRowsTo (rules : List Rule) (names : List (List ℕ)) (rows : List (List ℕ)) (count : ℕ) : Type 0 where
   pub count_is : length rows ≡ count
-  pub ids : (id : ℕ) (body : Element) → id < count → slice_get (bodies rules) id ≡ Some body → AreIdsOf Fold names (names_in body) (row_at rows id)
+  pub ids : (id : ℕ) (body : Element) → id < count → slice_get (bodies rules) id ≡ Some body
+      → AreIdsOf Fold names (names_in body) (row_at rows id)
 
 -- of each rule the ids of the names in its body; the other names have empty rows
 pub record AreRows (rules : List Rule) (names : List (List ℕ)) (rows : List (List ℕ)) : Type 0 where
   pub count : length rows ≡ length names
-  pub ids : (id : ℕ) (body : Element) → slice_get (bodies rules) id ≡ Some body → AreIdsOf Fold names (names_in body) (row_at rows id)
+  pub ids : (id : ℕ) (body : Element) → slice_get (bodies rules) id ≡ Some body
+      → AreIdsOf Fold names (names_in body) (row_at rows id)
   pub others : (id : ℕ) → length rules ≤ id → row_at rows id ≡ []
 
 -- the place of the given name, or the first
@@ -28,7 +31,8 @@ IsJudged None names judged = judged ≡ 0
 IsJudged (Some name) names judged = IsPlace Fold name names judged
 
 -- the names by id, of each rule the ids of the names in its body, and the place of the given name
-pub record IsGraph (rules : List Rule) (given : Option (List ℕ)) (names : List (List ℕ)) (rows : List (List ℕ)) (judged : ℕ) : Type 0 where
+pub record IsGraph (rules : List Rule) (given : Option (List ℕ)) (names : List (List ℕ)) (rows : List (List ℕ))
+    (judged : ℕ) : Type 0 where
   pub all : names ≡ rule_names rules ++ news Fold (rule_names rules) (option_to_list given ++ names_used rules)
   pub are_rows : AreRows rules names rows
   pub is_judged : IsJudged given names judged

@@ -13,7 +13,8 @@ abbrev pub IsUsed : List (List ℕ) → ℕ → ℕ → Type 0
 IsUsed rows judged id = (judged ≡ id) ⊎ ((user : ℕ) × Step rows user id)
 
 -- the marks on the rules of a file
-pub record AreNoteMarks (rules : List Rule) (count : ℕ) (again early : List ℕ) (judged : ℕ) (redefined extended prose unused : List Bool) : Type 0 where
+pub record AreNoteMarks (rules : List Rule) (count : ℕ) (again early : List ℕ) (judged : ℕ)
+    (redefined extended prose unused : List Bool) : Type 0 where
   pub redefined_are : AreMarks (Contains again) count redefined
   pub extended_are : AreMarks (Contains early) count extended
   pub prose_are : AreMarks (HoldsProse rules) count prose

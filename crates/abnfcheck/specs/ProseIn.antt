@@ -1,6 +1,7 @@
 -- Whether prose stands in an element. Private helpers alone use it.
 use Rattle.std.specs.Prelude.{Bool, true, false, ◌||◌, List, map}
-use Rattle.abnfread.specs.Element.{Element, Elements, Text, Values, Range, Concat, Alt, Rep, Opt, Name, Prose, none, more, Rule}
+use Rattle.abnfread.specs.Element.{Element, Elements, Text, Values, Range, Concat, Alt, Rep, Opt, Name, Prose, none}
+use Rattle.abnfread.specs.Element.{more, Rule}
 
 abbrev mutual
   pub prose_in : Element → Bool

@@ -1,6 +1,7 @@
--- Rules that derive the empty list, or some list, and numbered needs by which they are found. But for `AreNullMarks` and `AreProductive`, private
--- helpers alone use it.
-use Rattle.std.specs.Prelude.{◌≡◌, ◌↔◌, ℕ, ◌<◌, ◌≤◌, Bool, List, [], ◌∷◌, ◌++◌, length, leb, ltb, slice_get, Option, Some, None, if◌then◌else◌}
+-- Rules that derive the empty list, or some list, and numbered needs by which they are found. But for `AreNullMarks`
+-- and `AreProductive`, private helpers alone use it.
+use Rattle.std.specs.Prelude.{◌≡◌, ◌↔◌, ℕ, ◌<◌, ◌≤◌, Bool, List, [], ◌∷◌, ◌++◌, length, leb, ltb, slice_get, Option}
+use Rattle.std.specs.Prelude.{Some, None, if◌then◌else◌}
 use Rattle.leastset.specs.Demands.{Demand, All, One, AreNeedsWithin}
 use Rattle.leastset.specs.NumberMarks.{IsMarked}
 use Rattle.letters.specs.Letters.{has as in_alphabet}
@@ -12,13 +13,15 @@ use Rattle.abnfcheck.specs.declared.aim.Aim.TheVariants.{Empty, Letters}
 
 -- exactly those rules are marked that derive the empty list, whatever the letters are
 abbrev pub AreNullMarks : List Rule → List Bool → Type 0
-AreNullMarks rules marks = (has : ℕ → Bool) (id : ℕ) → id < length rules → (IsMarked marks id ↔ RuleDerives has rules id [])
+AreNullMarks rules marks = (has : ℕ → Bool) (id : ℕ) → id < length rules
+    → (IsMarked marks id ↔ RuleDerives has rules id [])
 
 -- there is a mark for each rule, and exactly those are marked that derive some list of letters
 pub record AreProductive (alphabet : Alphabet) (rules : List Rule) (marks : List Bool) : Type 0 where
   pub count : length marks ≡ length rules
   pub tells : (id : ℕ) → id < length rules →
-      (IsMarked marks id ↔ ((w : List ℕ) × AreLetters (in_alphabet alphabet) w × RuleDerives (in_alphabet alphabet) rules id w))
+      (IsMarked marks id ↔ ((w : List ℕ) × AreLetters (in_alphabet alphabet) w
+      × RuleDerives (in_alphabet alphabet) rules id w))
 
 -- the lists that an aim asks for
 abbrev pub IsAim : Aim → List ℕ → Type 0
@@ -62,7 +65,8 @@ module _ (has : ℕ → Bool) (rules : List Rule) (aim : Aim) (needs : List Dema
   mutual
     -- number n is that of the element
     pub data Asks : ℕ → Element → Type 0 where
-      asks : {n : ℕ} {need : Demand} {e : Element} → length rules ≤ n → slice_get needs n ≡ Some need → IsNeedOf need e → Asks n e
+      asks : {n : ℕ} {need : Demand} {e : Element} → length rules ≤ n → slice_get needs n ≡ Some need → IsNeedOf need e
+          → Asks n e
 
     -- the need is met exactly if the element derives a list that is asked for
     pub data IsNeedOf : Demand → Element → Type 0 where
@@ -70,12 +74,14 @@ module _ (has : ℕ → Bool) (rules : List Rule) (aim : Aim) (needs : List Dema
       of_unmet : {e : Element} → (Yields has rules aim e → ⊥) → IsNeedOf (One []) e
       of_concat : {ms : List ℕ} {es : Elements} → AskAll ms es → IsNeedOf (All ms) (Concat es)
       of_alt : {ms : List ℕ} {es : Elements} → AskAll ms es → IsNeedOf (One ms) (Alt es)
-      of_rep : {a m : ℕ} {b : Option ℕ} {e : Element} → 0 < a → Within a b → Asks m e → IsNeedOf (All (m ∷ [])) (Rep a b e)
+      of_rep : {a m : ℕ} {b : Option ℕ} {e : Element} → 0 < a → Within a b → Asks m e
+          → IsNeedOf (All (m ∷ [])) (Rep a b e)
       of_name : {name : List ℕ} → id_of rules name < length rules → IsNeedOf (All (id_of rules name ∷ [])) (Name name)
 
     pub data AskAll : List ℕ → Elements → Type 0 where
       ask_none : AskAll [] none
-      ask_more : {m : ℕ} {ms : List ℕ} {e : Element} {es : Elements} → Asks m e → AskAll ms es → AskAll (m ∷ ms) (more e es)
+      ask_more : {m : ℕ} {ms : List ℕ} {e : Element} {es : Elements} → Asks m e → AskAll ms es
+          → AskAll (m ∷ ms) (more e es)
 
   -- a rule needs the number of its body
   pub record HasBodyNeed (id : ℕ) (body : Element) : Type 0 where
@@ -85,17 +91,20 @@ module _ (has : ℕ → Bool) (rules : List Rule) (aim : Aim) (needs : List Dema
 
   -- the first so many rules do
   abbrev pub HaveBodyNeeds : ℕ → Type 0
-  HaveBodyNeeds count = (id : ℕ) (body : Element) → id < count → slice_get (bodies rules) id ≡ Some body → HasBodyNeed id body
+  HaveBodyNeeds count = (id : ℕ) (body : Element) → id < count → slice_get (bodies rules) id ≡ Some body
+      → HasBodyNeed id body
 
 -- needs were added, and number n is that of the element
-pub record IsNumbered (has : ℕ → Bool) (rules : List Rule) (aim : Aim) (old new : List Demand) (n : ℕ) (e : Element) : Type 0 where
+pub record IsNumbered (has : ℕ → Bool) (rules : List Rule) (aim : Aim) (old new : List Demand) (n : ℕ)
+    (e : Element) : Type 0 where
   pub added : List Demand
   pub grown : new ≡ old ++ added
   pub asked : length rules ≤ length old → Asks has rules aim new n e
   pub within : length rules ≤ length old → AreNeedsWithin old → AreNeedsWithin new
 
 -- needs were added, and each number is that of the member in its place
-pub record AreNumbered (has : ℕ → Bool) (rules : List Rule) (aim : Aim) (old new : List Demand) (ns : List ℕ) (es : Elements) : Type 0 where
+pub record AreNumbered (has : ℕ → Bool) (rules : List Rule) (aim : Aim) (old new : List Demand) (ns : List ℕ)
+    (es : Elements) : Type 0 where
   pub added : List Demand
   pub grown : new ≡ old ++ added
   pub asked : length rules ≤ length old → AskAll has rules aim new ns es

@@ -27,16 +27,17 @@ pub struct Checked<S> {
     pub sound: Option<S>,
 }
 
-/// Checks a grammar in ABNF: what there is to say of it, and where no note refuses it, the grammar ready to judge lines by the
-/// rule with the name `rule`, or else by the first. Names compare without case.
+/// Checks a grammar in ABNF: what there is to say of it, and where no note refuses it, the grammar ready to judge lines
+/// by the rule with the name `rule`, or else by the first. Names compare without case.
 ///
-/// The notes are: rules of the file that `=` defines again; those that `=/` extends before they are defined, where no core rule
-/// has the name; names that no rule has, each once, by first use, where `rule` is a use before all others; rules of the file
-/// with prose; and rules of the file that nothing names and that are not judged. Notes on rules go by the order of the file.
-/// Uses in core rules that the file leaves alone count.
+/// The notes are: rules of the file that `=` defines again; those that `=/` extends before they are defined, where no
+/// core rule has the name; names that no rule has, each once, by first use, where `rule` is a use before all others;
+/// rules of the file with prose; and rules of the file that nothing names and that are not judged. Notes on rules go by
+/// the order of the file. Uses in core rules that the file leaves alone count.
 ///
-/// A redefinition refuses the grammar, and so do prose and a name without a rule if they can be reached from the judged rule.
-/// The other notes never do. A table without rules, which no text reads as, has no judged rule, and is refused without a note.
+/// A redefinition refuses the grammar, and so do prose and a name without a rule if they can be reached from the judged
+/// rule. The other notes never do. A table without rules, which no text reads as, has no judged rule, and is refused
+/// without a note.
 ///
 /// # Errors
 /// `Memory` if an allocation fails; the grammar is dropped then.
@@ -45,12 +46,16 @@ pub fn check_abnf(
     abnf: Abnf,
     rule: Option<&str>,
 ) -> Result<Checked<SoundAbnf>, Memory>
-    ensures notes { IfOk result (λ c. AreNotes (rules_of abnf.rules) (rules_of (joined abnf.rules abnf.core.rules)) abnf.redefined.items abnf.extended.items
+    ensures notes { IfOk result (λ c. AreNotes (rules_of abnf.rules) (rules_of (joined abnf.rules abnf.core.rules))
+        abnf.redefined.items abnf.extended.items
         (option_copied rule.entry) (map said_of c.notes.items)) }
     ensures sound { IfOk result (λ c. MatchOption c.sound
-        (IsRefused (rules_of abnf.rules) (rules_of (joined abnf.rules abnf.core.rules)) abnf.redefined.items (judged_in (option_copied rule.entry) (rules_of (joined abnf.rules abnf.core.rules))))
-        (λ g. (IsRefused (rules_of abnf.rules) (rules_of (joined abnf.rules abnf.core.rules)) abnf.redefined.items (judged_in (option_copied rule.entry) (rules_of (joined abnf.rules abnf.core.rules))) → ⊥)
-        × (g.rules ≡ joined abnf.rules abnf.core.rules) × (g.judged ≡ judged_in (option_copied rule.entry) (rules_of (joined abnf.rules abnf.core.rules))))) }
+        (IsRefused (rules_of abnf.rules) (rules_of (joined abnf.rules abnf.core.rules)) abnf.redefined.items
+        (judged_in (option_copied rule.entry) (rules_of (joined abnf.rules abnf.core.rules))))
+        (λ g. (IsRefused (rules_of abnf.rules) (rules_of (joined abnf.rules abnf.core.rules)) abnf.redefined.items
+        (judged_in (option_copied rule.entry) (rules_of (joined abnf.rules abnf.core.rules))) → ⊥)
+        × (g.rules ≡ joined abnf.rules abnf.core.rules)
+        × (g.judged ≡ judged_in (option_copied rule.entry) (rules_of (joined abnf.rules abnf.core.rules))))) }
 {
     let count = abnf.rules.len();
     let rules = join(alloc, abnf.rules, abnf.core)?;
@@ -85,11 +90,15 @@ fn found_in(
 ) -> Result<Found, Memory>
     requires folds { rules.now.names ≡ NameCase.Fold }
     requires count { count ≤ length rules.now.rules }
-    ensures notes { IfOk result (λ found. (file : List Rule) (more : List (List ℕ)) → length file ≡ count → names_of rules.now ≡ rule_names file ++ more →
-        AreNotes file (rules_of rules.now) redefined.now extended.now (option_copied rule.entry) (map said_of found.notes.items)) }
+    ensures notes { IfOk result (λ found. (file : List Rule) (more : List (List ℕ)) → length file ≡ count
+        → names_of rules.now ≡ rule_names file ++ more →
+        AreNotes file (rules_of rules.now) redefined.now extended.now (option_copied rule.entry)
+        (map said_of found.notes.items)) }
     ensures refused { IfOk result (λ found. (file : List Rule) → length file ≡ count →
-        (found.refused ≡ Bool.true) ↔ IsRefused file (rules_of rules.now) redefined.now (judged_in (option_copied rule.entry) (rules_of rules.now))) }
-    ensures judged { IfOk result (λ found. IsIdAt (length (rules_of rules.now)) found.judged (judged_in (option_copied rule.entry) (rules_of rules.now))) }
+        (found.refused ≡ Bool.true) ↔ IsRefused file (rules_of rules.now) redefined.now
+        (judged_in (option_copied rule.entry) (rules_of rules.now))) }
+    ensures judged { IfOk result (λ found. IsIdAt (length (rules_of rules.now)) found.judged
+        (judged_in (option_copied rule.entry) (rules_of rules.now))) }
 {
     let ids = name_ids(alloc, rules, rule)?;
     let prose = rules_with_prose(alloc, rules)?;

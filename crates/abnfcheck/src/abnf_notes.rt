@@ -45,8 +45,10 @@ pub(crate) fn note_marks(
     requires prose { count ≤ length prose.now }
     requires rows { count ≤ length ids.now.rows.items }
     ensures { IfOk result (λ m. (rules : List Rule) (given : Option (List ℕ)) →
-        IsGraph rules given (names_of ids.now.names) (rows_of ids.now.rows.items) ids.now.judged → prose.now ≡ prose_marks rules →
-        AreNoteMarks rules count redefined.now extended.now (judged_in given rules) m.redefined.items m.extended.items m.prose.items m.unused.items) }
+        IsGraph rules given (names_of ids.now.names) (rows_of ids.now.rows.items) ids.now.judged
+        → prose.now ≡ prose_marks rules →
+        AreNoteMarks rules count redefined.now extended.now (judged_in given rules) m.redefined.items m.extended.items
+        m.prose.items m.unused.items) }
 {
     let redefined = marks_at(alloc, redefined, count)?;
     let extended = marks_at(alloc, extended, count)?;
@@ -74,7 +76,8 @@ pub(crate) fn notes_on(
     requires extended { length marks.now.extended.items ≤ length rules.now.rules }
     requires prose { length marks.now.prose.items ≤ length rules.now.rules }
     requires unused { length marks.now.unused.items ≤ length rules.now.rules }
-    ensures { IfOk result (λ notes. map said_of notes.items ≡ map (said NoteKind.Redefined) (chosen marks.now.redefined.items (names_of rules.now))
+    ensures { IfOk result (λ notes. map said_of notes.items ≡ map (said NoteKind.Redefined)
+        (chosen marks.now.redefined.items (names_of rules.now))
         ++ (map (said NoteKind.ExtendedEarly) (chosen marks.now.extended.items (names_of rules.now))
         ++ (map (said NoteKind.Undefined) (drop (length rules.now.rules) (names_of names.now))
         ++ (map (said NoteKind.Prose) (chosen marks.now.prose.items (names_of rules.now))
@@ -101,8 +104,8 @@ pub(crate) fn notes_on(
     Ok(notes)
 }
 
-/// Returns whether a grammar is refused: a rule of the file is defined again, or from the judged rule a name without a rule, or
-/// prose, can be reached.
+/// Returns whether a grammar is refused: a rule of the file is defined again, or from the judged rule a name without a
+/// rule, or prose, can be reached.
 ///
 /// `Memory` if an allocation fails.
 pub(crate) fn is_refused(
@@ -114,8 +117,10 @@ pub(crate) fn is_refused(
     requires steps { AreStepsWithin (rows_of ids.now.rows.items) }
     requires rows { length prose.now ≤ length ids.now.rows.items }
     ensures { IfOk result (λ refused. (file rules : List Rule) (given : Option (List ℕ)) (again : List ℕ) →
-        IsGraph rules given (names_of ids.now.names) (rows_of ids.now.rows.items) ids.now.judged → prose.now ≡ prose_marks rules →
-        AreMarks (Contains again) (length file) redefined.now → (refused ≡ Bool.true) ↔ IsRefused file rules again (judged_in given rules)) }
+        IsGraph rules given (names_of ids.now.names) (rows_of ids.now.rows.items) ids.now.judged
+        → prose.now ≡ prose_marks rules →
+        AreMarks (Contains again) (length file) redefined.now → (refused ≡ Bool.true)
+        ↔ IsRefused file rules again (judged_in given rules)) }
 {
     if some_set(redefined) {
         return Ok(true);

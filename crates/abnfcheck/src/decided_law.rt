@@ -7,7 +7,8 @@ ghost use Rattle.abnfcheck.specs.Derivable.{RuleDerives};
 
 /// Returns nothing. Its contract is a law: for every list of letters either a rule derives it or it does not.
 pub fn derivation_is_decided()
-    ensures { (has : ℕ → Bool) (rules : List Rule) (id : ℕ) (x : List ℕ) → (yes : Bool) × Says (RuleDerives has rules id x) yes }
+    ensures { (has : ℕ → Bool) (rules : List Rule) (id : ℕ) (x : List ℕ) → (yes : Bool)
+        × Says (RuleDerives has rules id x) yes }
 {}
 
 /// Returns nothing. Its contract is a law: the longest viable beginning of every list of letters has one length.

@@ -29,7 +29,8 @@ pub(crate) struct NameIds {
 fn judged_id(rule: Option<&str>, names: &mut RuleTable<()>) -> Result<usize, Memory>
     requires { names.old.names ≡ NameCase.Fold }
     ensures folds { IfOk result (λ _. names.new.names ≡ Fold) }
-    ensures names { IfOk result (λ _. names_of names.new ≡ names_of names.old ++ news Fold (names_of names.old) (option_to_list (option_copied rule.entry))) }
+    ensures names { IfOk result (λ _. names_of names.new ≡ names_of names.old
+        ++ news Fold (names_of names.old) (option_to_list (option_copied rule.entry))) }
     ensures judged { IfOk result (IsJudged (option_copied rule.entry) (names_of names.new)) }
 {
     match rule {
@@ -46,8 +47,10 @@ fn judged_id(rule: Option<&str>, names: &mut RuleTable<()>) -> Result<usize, Mem
 fn add_names(e: &Elem, names: &mut RuleTable<()>, row: &mut Vec<usize>) -> Result<(), Memory>
     requires { names.old.names ≡ NameCase.Fold }
     ensures folds { IfOk result (λ _. names.new.names ≡ Fold) }
-    ensures scanned { IfOk result (λ _. (known seen uses : List (List ℕ)) → IsScanned Fold known seen uses names.old row.old.items →
-        IsScanned Fold known (seen ++ names_in (element_of e.now)) (uses ++ names_in (element_of e.now)) names.new row.new.items) }
+    ensures scanned { IfOk result (λ _. (known seen uses : List (List ℕ)) → IsScanned Fold known seen uses names.old
+        row.old.items →
+        IsScanned Fold known (seen ++ names_in (element_of e.now)) (uses ++ names_in (element_of e.now)) names.new
+        row.new.items) }
 {
     match e {
         Elem::Name(name) => {
@@ -74,8 +77,10 @@ fn add_all_names(
 ) -> Result<(), Memory>
     requires { names.old.names ≡ NameCase.Fold }
     ensures folds { IfOk result (λ _. names.new.names ≡ Fold) }
-    ensures scanned { IfOk result (λ _. (known seen uses : List (List ℕ)) → IsScanned Fold known seen uses names.old row.old.items →
-        IsScanned Fold known (seen ++ names_in_all (elements_of members.now)) (uses ++ names_in_all (elements_of members.now)) names.new row.new.items) }
+    ensures scanned { IfOk result (λ _. (known seen uses : List (List ℕ)) → IsScanned Fold known seen uses names.old
+        row.old.items →
+        IsScanned Fold known (seen ++ names_in_all (elements_of members.now))
+        (uses ++ names_in_all (elements_of members.now)) names.new row.new.items) }
 {
     for member in members {
         add_names(member, names, row)?;
@@ -90,9 +95,11 @@ fn body_rows(
     names: &mut RuleTable<()>,
 ) -> Result<Vec<Vec<usize>>, Memory>
     requires { names.old.names ≡ NameCase.Fold }
-    ensures names { IfOk result (λ _. (known seen : List (List ℕ)) → names_of names.old ≡ known ++ news Fold known seen →
+    ensures names { IfOk result (λ _. (known seen : List (List ℕ)) → names_of names.old ≡ known
+        ++ news Fold known seen →
         names_of names.new ≡ known ++ news Fold known (seen ++ names_used (rules_of rules.now))) }
-    ensures rows { IfOk result (λ rows. (known seen : List (List ℕ)) → names_of names.old ≡ known ++ news Fold known seen →
+    ensures rows { IfOk result (λ rows. (known seen : List (List ℕ)) → names_of names.old ≡ known
+        ++ news Fold known seen →
         AreRowsTo (rules_of rules.now) (names_of names.new) (rows_of rows.items) (length (rules_of rules.now))) }
 {
     let mut rows = Vec::new(alloc);
@@ -116,8 +123,8 @@ fn pad(alloc: Global, count: usize, rows: &mut Vec<Vec<usize>>) -> Result<(), Me
     Ok(())
 }
 
-/// Returns the names of a grammar, those that no rule has by first use, where a given name is a use before all others, and
-/// of each rule the ids of the names in its body.
+/// Returns the names of a grammar, those that no rule has by first use, where a given name is a use before all others,
+/// and of each rule the ids of the names in its body.
 ///
 /// `Memory` if an allocation fails.
 pub(crate) fn name_ids(
@@ -126,7 +133,8 @@ pub(crate) fn name_ids(
     rule: Option<&str>,
 ) -> Result<NameIds, Memory>
     requires { rules.now.names ≡ NameCase.Fold }
-    ensures { IfOk result (λ ids. IsGraph (rules_of rules.now) (option_copied rule.entry) (names_of ids.names) (rows_of ids.rows.items) ids.judged) }
+    ensures { IfOk result (λ ids. IsGraph (rules_of rules.now) (option_copied rule.entry) (names_of ids.names)
+        (rows_of ids.rows.items) ids.judged) }
 {
     let mut names = names_of_rules(alloc, rules, NameCase::Fold)?;
     let judged = judged_id(rule, &mut names)?;

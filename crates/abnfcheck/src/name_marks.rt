@@ -13,7 +13,8 @@ fn mark_targets(rows: &[Vec<usize>], marks: &mut [bool])
     requires within { AreStepsWithin (rows_of rows.now) }
     requires count { length marks.old ≡ length rows.now }
     ensures count { length marks.new ≡ length marks.old }
-    ensures marks { (id : ℕ) → IsMarked marks.new id ↔ (IsMarked marks.old id ⊎ ((user : ℕ) × Step (rows_of rows.now) user id)) }
+    ensures marks { (id : ℕ) → IsMarked marks.new id
+        ↔ (IsMarked marks.old id ⊎ ((user : ℕ) × Step (rows_of rows.now) user id)) }
 {
     for row in rows {
         mark(row, marks);
@@ -30,7 +31,8 @@ pub(crate) fn used_marks(
 ) -> Result<Vec<bool>, Memory>
     requires { AreStepsWithin (rows_of rows.now) }
     ensures count { IfOk result (λ marks. length marks.items ≡ length rows.now) }
-    ensures marks { IfOk result (λ marks. (id : ℕ) → id < length rows.now → (IsMarked marks.items id ↔ IsUsed (rows_of rows.now) judged id)) }
+    ensures marks { IfOk result (λ marks. (id : ℕ) → id < length rows.now
+        → (IsMarked marks.items id ↔ IsUsed (rows_of rows.now) judged id)) }
 {
     let mut marks = vec![in alloc; false; rows.len()]?;
     if judged < marks.len() {
@@ -64,8 +66,8 @@ fn is_broken(marks: &[bool], prose: &[bool]) -> bool
     false
 }
 
-/// Returns whether a number that stands for no rule, or for one that holds prose, can be reached from the judged one, by steps
-/// or by none.
+/// Returns whether a number that stands for no rule, or for one that holds prose, can be reached from the judged one,
+/// by steps or by none.
 ///
 /// `Memory` if an allocation fails.
 pub(crate) fn reaches_broken(
@@ -76,7 +78,8 @@ pub(crate) fn reaches_broken(
 ) -> Result<bool, Memory>
     requires within { AreStepsWithin (rows_of rows.now) }
     requires judged { judged < length rows.now }
-    ensures { IfOk result (λ broken. (broken ≡ Bool.true) ↔ ((id : ℕ) × ReachesBroken (rows_of rows.now) prose.now judged id)) }
+    ensures { IfOk result (λ broken. (broken ≡ Bool.true)
+        ↔ ((id : ℕ) × ReachesBroken (rows_of rows.now) prose.now judged id)) }
 {
     let steps = slices(alloc, rows)?;
     let marks = reached(alloc, &steps, &[judged])?;

@@ -10,8 +10,8 @@ use letters::Alphabet;
 use ruletable::Memory;
 use std::alloc::Global;
 
-/// Returns a mark for each rule of a grammar, by id: whether the rule derives some list of letters of the alphabet. The time
-/// is linear in the rules and their elements.
+/// Returns a mark for each rule of a grammar, by id: whether the rule derives some list of letters of the alphabet. The
+/// time is linear in the rules and their elements.
 ///
 /// `Memory` if an allocation fails.
 pub fn productive(

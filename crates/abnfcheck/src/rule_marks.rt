@@ -5,7 +5,8 @@ ghost use Rattle.abnfread.specs.Element.{Rule, Text, Values, Range, id_of};
 ghost use Rattle.abnfread.specs.AbnfViews.{element_of, elements_of, rules_of};
 ghost use Rattle.abnfcheck.specs.Derivable.{AreLetters};
 ghost use Rattle.letters.specs.Letters.{has};
-ghost use Rattle.abnfcheck.specs.RuleMarks.{AreMarksFor, AreNullMarks, AreNumbered, HaveBodyNeeds, IsNumbered, IsTestOf, Yields, need_if, need_of_id, need_of_repeat};
+ghost use Rattle.abnfcheck.specs.RuleMarks.{AreMarksFor, AreNullMarks, AreNumbered, HaveBodyNeeds, IsNumbered};
+ghost use Rattle.abnfcheck.specs.RuleMarks.{IsTestOf, Yields, need_if, need_of_id, need_of_repeat};
 
 use crate::aim::Aim;
 use abnfread::Elem;
@@ -50,7 +51,8 @@ fn has_all(alphabet: Alphabet, values: &[u32]) -> bool
 
 // Returns whether a text has a spelling that is asked for.
 fn text_yields(aim: Aim, text: &[u8]) -> bool
-    ensures { (test : ℕ → Bool) (rules : List Rule) (folds : Bool) → IsTestOf aim test → (IsTrue result ↔ Yields test rules aim (Text folds text.now)) }
+    ensures { (test : ℕ → Bool) (rules : List Rule) (folds : Bool) → IsTestOf aim test
+        → (IsTrue result ↔ Yields test rules aim (Text folds text.now)) }
 {
     match aim {
         Aim::Empty => text.is_empty(),
@@ -60,7 +62,8 @@ fn text_yields(aim: Aim, text: &[u8]) -> bool
 
 // Returns whether a list of values is asked for.
 fn values_yield(aim: Aim, values: &[u32]) -> bool
-    ensures { (test : ℕ → Bool) (rules : List Rule) → IsTestOf aim test → (IsTrue result ↔ Yields test rules aim (Values values.now)) }
+    ensures { (test : ℕ → Bool) (rules : List Rule) → IsTestOf aim test
+        → (IsTrue result ↔ Yields test rules aim (Values values.now)) }
 {
     match aim {
         Aim::Empty => values.is_empty(),
@@ -70,7 +73,8 @@ fn values_yield(aim: Aim, values: &[u32]) -> bool
 
 // Returns whether a range has a value that is asked for.
 fn range_yields(aim: Aim, low: u32, high: u32) -> bool
-    ensures { (test : ℕ → Bool) (rules : List Rule) → IsTestOf aim test → (IsTrue result ↔ Yields test rules aim (Range low high)) }
+    ensures { (test : ℕ → Bool) (rules : List Rule) → IsTestOf aim test
+        → (IsTrue result ↔ Yields test rules aim (Range low high)) }
 {
     match aim {
         Aim::Empty => false,
@@ -137,7 +141,8 @@ fn add_needs(
 ) -> Result<usize, Memory>
     requires { rules.now.names ≡ NameCase.Fold }
     ensures { IfOk result (λ n. (test : ℕ → Bool) → IsTestOf aim test →
-        IsNumbered test (rules_of rules.now) aim (owned_demands_of needs.old.items) (owned_demands_of needs.new.items) n (element_of e.now)) }
+        IsNumbered test (rules_of rules.now) aim (owned_demands_of needs.old.items) (owned_demands_of needs.new.items) n
+        (element_of e.now)) }
 {
     let need = match e {
         Elem::Text { text, .. } => need_of(alloc, text_yields(aim, text))?,
@@ -178,7 +183,8 @@ fn add_all_needs(
 ) -> Result<Vec<usize>, Memory>
     requires { rules.now.names ≡ NameCase.Fold }
     ensures { IfOk result (λ ns. (test : ℕ → Bool) → IsTestOf aim test →
-        AreNumbered test (rules_of rules.now) aim (owned_demands_of needs.old.items) (owned_demands_of needs.new.items) ns.items (elements_of members.now)) }
+        AreNumbered test (rules_of rules.now) aim (owned_demands_of needs.old.items) (owned_demands_of needs.new.items)
+        ns.items (elements_of members.now)) }
 {
     let mut numbers = Vec::new(alloc);
     for member in members {
@@ -215,8 +221,8 @@ fn rule_needs(alloc: Global, aim: Aim, rules: &RuleTable<Elem>) -> Result<Vec<Ow
     Ok(needs)
 }
 
-/// Returns marks of the rules that derive what is asked for, by id; what stands behind those of the rules is of no account.
-/// The time is linear in the rules and their elements.
+/// Returns marks of the rules that derive what is asked for, by id; what stands behind those of the rules is of no
+/// account. The time is linear in the rules and their elements.
 ///
 /// `Memory` if an allocation fails.
 pub(crate) fn rule_marks(

@@ -10,8 +10,8 @@ use ruletable::{Memory, RuleTable};
 use std::alloc::Global;
 use std::marker::Model;
 
-/// A grammar by which lines can be judged: the file's rules, then the core rules that it leaves alone, and the judged rule. From that one no name
-/// without a rule can be reached, and no prose.
+/// A grammar by which lines can be judged: the file's rules, then the core rules that it leaves alone, and the judged
+/// rule. From that one no name without a rule can be reached, and no prose.
 #[derive(Drop)]
 pub struct SoundAbnf {
     rules: RuleTable<Elem>,
@@ -32,7 +32,8 @@ impl Model for SoundAbnf {
 
     ghost view = { λ g. record { rules = g.rules; judged = g.judged } };
 
-    ghost invariant = { λ g. IsSoundGrammar (record { rules = g.rules; judged = g.judged }) × AreNullMarks (rules_of g.rules) g.nulls.items };
+    ghost invariant = { λ g. IsSoundGrammar (record { rules = g.rules; judged = g.judged })
+        × AreNullMarks (rules_of g.rules) g.nulls.items };
 }
 
 impl SoundAbnf {
@@ -68,8 +69,8 @@ impl SoundAbnf {
         self.judged
     }
 
-    /// Returns whether the rule with that id derives the empty string. There must be such a rule: each that can be reached from
-    /// the judged rule is there.
+    /// Returns whether the rule with that id derives the empty string. There must be such a rule: each that can be
+    /// reached from the judged rule is there.
     pub fn nullable(&self, id: usize) -> bool
         requires { id < length self.now.rules.rules }
         ensures { (has : ℕ → Bool) → (result ≡ Bool.true) ↔ RuleDerives has (rules_of self.now.rules) id [] }

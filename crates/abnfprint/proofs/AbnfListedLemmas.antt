@@ -5,7 +5,8 @@ use Rattle.ruletable.specs.declared.span.Span.{Span}
 use Rattle.abnfread.specs.AbnfSpelling.{HasGap, HasNoGap}
 use Rattle.abnfread.specs.AbnfWords as words
 use Rattle.abnfread.specs.AbnfWords.{Word, word}
-use Rattle.abnfread.specs.Element.{Element, Elements, Text, Values, Range, Concat, Alt, Rep, Opt, Name, Prose, none, more, Rule}
+use Rattle.abnfread.specs.Element.{Element, Elements, Text, Values, Range, Concat, Alt, Rep, Opt, Name, Prose, none}
+use Rattle.abnfread.specs.Element.{more, Rule}
 use Rattle.abnfprint.specs.CanonicalAbnf.{wraps}
 use Rattle.abnfprint.specs.declared.place.Place.TheVariants.{Alternative, Member, Repeated}
 use Rattle.abnfprint.specs.FormedAbnf.{IsFormed, AreFormed, AreMany}
@@ -43,18 +44,21 @@ abbrev mutual
 
   pub listed_more : Elements → List Word → List Word
   listed_more none ws = ws
-  listed_more (more x xs) ws = word true false words.Slash ∷ within (wraps Alternative x) (listed x) true (listed_more xs ws)
+  listed_more (more x xs) ws = word true false words.Slash ∷ within (wraps Alternative x) (listed x) true
+      (listed_more xs ws)
 
 abbrev pub listed_rules : Bool → List Rule → List Word
 listed_rules g [] = word g false words.End ∷ []
-listed_rules g (rule ∷ rules) = word g true (words.Name rule.name rule.span) ∷ word true false words.Is ∷ listed rule.body true (listed_rules true rules)
+listed_rules g (rule ∷ rules) = word g true (words.Name rule.name rule.span) ∷ word true false words.Is
+    ∷ listed rule.body true (listed_rules true rules)
 
 -- whether white space stands before the first word
 abbrev pub Leads : Bool → List Word → Type 0
 Leads g [] = ⊥
 Leads g (word h f s ∷ ws) = h ≡ g
 
-leads-within : (f : Bool → List Word → List Word) (b g : Bool) (ws : List Word) → ((vs : List Word) → Leads g (f g vs)) → Leads g (within b f g ws)
+leads-within : (f : Bool → List Word → List Word) (b g : Bool) (ws : List Word) → ((vs : List Word) → Leads g (f g vs))
+    → Leads g (within b f g ws)
 leads-within f true g ws h = refl
 leads-within f false g ws h = h ws
 
@@ -64,11 +68,13 @@ mutual
   leads (Alt xs) h g ws = leads-alternatives xs h.0 h.1 g ws
   leads x h g ws = refl
 
-  leads-members : (xs : Elements) → AreMany xs → AreFormed xs → (g : Bool) (ws : List Word) → Leads g (listed_members xs g ws)
+  leads-members : (xs : Elements) → AreMany xs → AreFormed xs → (g : Bool) (ws : List Word)
+      → Leads g (listed_members xs g ws)
   leads-members none m h g ws = absurd m
   leads-members (more x xs) m h g ws = leads-within (listed x) (wraps Member x) g _ (λ vs. leads x h.0 g vs)
 
-  leads-alternatives : (xs : Elements) → AreMany xs → AreFormed xs → (g : Bool) (ws : List Word) → Leads g (listed_alternatives xs g ws)
+  leads-alternatives : (xs : Elements) → AreMany xs → AreFormed xs → (g : Bool) (ws : List Word)
+      → Leads g (listed_alternatives xs g ws)
   leads-alternatives none m h g ws = absurd m
   leads-alternatives (more x xs) m h g ws = leads-within (listed x) (wraps Alternative x) g _ (λ vs. leads x h.0 g vs)
 

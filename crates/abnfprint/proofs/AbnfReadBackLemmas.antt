@@ -20,7 +20,8 @@ use Rattle.abnfprint.proofs.PrintedTextLemmas.{cuts-rules}
 use Rattle.abnfprint.proofs.SameWordLemmas.{rules-again}
 
 -- the canonical text sees no span
-text-same : (rules again : List Rule) → map (λ rule. rule.name) rules ≡ map (λ rule. rule.name) again → map (λ rule. rule.body) rules ≡ map (λ rule. rule.body) again → grammar_text rules ≡ grammar_text again
+text-same : (rules again : List Rule) → map (λ rule. rule.name) rules ≡ map (λ rule. rule.name) again
+    → map (λ rule. rule.body) rules ≡ map (λ rule. rule.body) again → grammar_text rules ≡ grammar_text again
 text-same [] [] n b = refl
 text-same [] (next ∷ again) n b = cc
 text-same (rule ∷ rules) [] n b = cc
@@ -38,10 +39,15 @@ leads-rules : (rules : List Rule) → IsSome rules → Leads false (listed_rules
 leads-rules [] h = absurd h
 leads-rules (rule ∷ rules) h = refl
 
-pub reads-formed : (source : List ℕ) (ds : List Definition) → Reads source ds → IsSome (table_of ds) × AreFormedRules (table_of ds)
-reads-formed source ds h = (table-some ds (some-definitions h.grammar), rules-formed (table_of ds) (table-fit ds (reads-fit h)))
+pub reads-formed : (source : List ℕ) (ds : List Definition) → Reads source ds → IsSome (table_of ds)
+    × AreFormedRules (table_of ds)
+reads-formed source ds h = (
+  table-some ds (some-definitions h.grammar),
+  rules-formed (table_of ds) (table-fit ds (reads-fit h)),
+)
 
-pub read-back : (source : List ℕ) (ds : List Definition) → Reads source ds → length (grammar_text (table_of ds)) ≤ MAX_GRAMMAR → ReadsAs (grammar_text (table_of ds)) (table_of ds)
+pub read-back : (source : List ℕ) (ds : List Definition) → Reads source ds → length (grammar_text (table_of ds))
+    ≤ MAX_GRAMMAR → ReadsAs (grammar_text (table_of ds)) (table_of ds)
 read-back source ds h le =
     let rules = table_of ds in
     let fit = table-fit ds (reads-fit h) in
@@ -56,16 +62,34 @@ read-back source ds h le =
       words = a.words;
       say = a.say;
       grammar = g.grammar;
-      within = record { words = a.words; say = a.say; shallow = same-shallow MAX_OPEN 0 a.same (rules-shallow false rules fit); small = same-small a.same (rules-small false rules fit) };
+      within = record {
+        words = a.words;
+        say = a.say;
+        shallow = same-shallow MAX_OPEN 0 a.same (rules-shallow false rules fit);
+        small =
+            same-small a.same (rules-small false rules fit);
+      };
     } in
     let t = table-again ds [] g.again g.are_again in
-    record { again = g.again; reads = reads; only = λ other k. one-reading (grammar_text rules) other g.again k reads; same = t.same; no_again = t.no_again; no_early = t.no_early 0 }
+    record {
+      again = g.again;
+      reads = reads;
+      only = λ other k. one-reading (grammar_text rules) other g.again k reads;
+      same = t.same;
+      no_again = t.no_again;
+      no_early = t.no_early 0;
+    }
 
-pub prints-itself : (source : List ℕ) (ds again : List Definition) → Reads source ds → Reads (grammar_text (table_of ds)) again → grammar_text (table_of again) ≡ grammar_text (table_of ds)
+pub prints-itself : (source : List ℕ) (ds again : List Definition) → Reads source ds
+    → Reads (grammar_text (table_of ds)) again → grammar_text (table_of again) ≡ grammar_text (table_of ds)
 prints-itself source ds again h k =
     let r = read-back source ds h k.size in
-    ap (λ (es : List Definition). grammar_text (table_of es)) (r.only again k) ∙ sym (spans-unseen (table_of ds) (table_of r.again) r.same)
+    ap (λ (es : List Definition). grammar_text (table_of es)) (r.only again k)
+    ∙ sym (spans-unseen (table_of ds) (table_of r.again) r.same)
 
-pub table-back : (source : List ℕ) (rules : table.Rules Elem) (redefined early : List ℕ) → IsRead source rules redefined early → length (grammar_text (rules_of rules)) ≤ MAX_GRAMMAR → ReadsAs (grammar_text (rules_of rules)) (rules_of rules)
+pub table-back : (source : List ℕ) (rules : table.Rules Elem) (redefined early : List ℕ)
+    → IsRead source rules redefined early → length (grammar_text (rules_of rules)) ≤ MAX_GRAMMAR
+    → ReadsAs (grammar_text (rules_of rules)) (rules_of rules)
 table-back source rules redefined early h =
-    subst (λ (rs : List Rule). length (grammar_text rs) ≤ MAX_GRAMMAR → ReadsAs (grammar_text rs) rs) (sym h.kept.kept) (read-back source h.definitions h.reads)
+    subst (λ (rs : List Rule). length (grammar_text rs) ≤ MAX_GRAMMAR → ReadsAs (grammar_text rs) rs) (sym h.kept.kept)
+    (read-back source h.definitions h.reads)

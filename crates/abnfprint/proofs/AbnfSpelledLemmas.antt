@@ -1,13 +1,17 @@
 -- The words of a canonical text spell its elements.
 -- Serves: print_abnf, is_abnf_read_back
 use Rattle.std.proofs.Common.{◌≡◌, Bool, true, false, List, ◌∷◌, refl, subst}
-use Rattle.abnfread.specs.AbnfSpelling.{concatenation, alternation, OneElement, name, text, values, range, prose, parens, brackets, Repetition, once, repeated, Parts, one, further, Alternatives, only, others, Alternation, alternatives}
+use Rattle.abnfread.specs.AbnfSpelling.{concatenation, alternation, OneElement, name, text, values, range, prose}
+use Rattle.abnfread.specs.AbnfSpelling.{parens, brackets, Repetition, once, repeated, Parts, one, further, Alternatives}
+use Rattle.abnfread.specs.AbnfSpelling.{only, others, Alternation, alternatives}
 use Rattle.abnfread.specs.AbnfWords.{Word, word, Slash}
-use Rattle.abnfread.specs.Element.{Element, Elements, Text, Values, Range, Concat, Alt, Rep, Opt, Name, Prose, none, more}
+use Rattle.abnfread.specs.Element.{Element, Elements, Text, Values, Range, Concat, Alt, Rep, Opt, Name, Prose, none}
+use Rattle.abnfread.specs.Element.{more}
 use Rattle.abnfprint.specs.CanonicalAbnf.{wraps}
 use Rattle.abnfprint.specs.declared.place.Place.TheVariants.{Alternative, Member, Repeated}
 use Rattle.abnfprint.specs.FormedAbnf.{IsFormed, AreFormed, AreMany}
-use Rattle.abnfprint.proofs.AbnfListedLemmas.{wrapped, within, listed, listed_members, listed_alternatives, leads-at, leads-gap, leads-no_gap}
+use Rattle.abnfprint.proofs.AbnfListedLemmas.{wrapped, within, listed, listed_members, listed_alternatives, leads-at}
+use Rattle.abnfprint.proofs.AbnfListedLemmas.{leads-gap, leads-no_gap}
 
 -- the parts of one concatenation, and the element of it
 pub record SpellsOne (s r : List Word) (x : Element) : Type 0 where
@@ -23,7 +27,8 @@ pub record Fits (operand member alternative body : Bool → List Word → List W
   pub whole : (g : Bool) (ws : List Word) → Alternation (body g ws) ws x
 
 abbrev pub Spelled : Element → Type 0
-Spelled x = Fits (within (wraps Repeated x) (listed x)) (within (wraps Member x) (listed x)) (within (wraps Alternative x) (listed x)) (listed x) x
+Spelled x = Fits (within (wraps Repeated x) (listed x)) (within (wraps Member x) (listed x))
+    (within (wraps Alternative x) (listed x)) (listed x) x
 
 single : {s r : List Word} {x : Element} → Repetition s r x → SpellsOne s r x
 single {s} {r} {x} p = record { parts = more x none; same = refl; spelled = one p }
@@ -32,7 +37,8 @@ alone : {s r : List Word} {x : Element} → SpellsOne s r x → Alternation s r 
 alone {s} {r} {x} o = subst (λ (y : Element). Alternation s r y) o.same (alternatives (only o.spelled))
 
 -- one maker a rank
-fits-element : {f : Bool → List Word → List Word} {x : Element} → ((g : Bool) (ws : List Word) → OneElement (f g ws) ws x) → Fits f f f f x
+fits-element : {f : Bool → List Word → List Word} {x : Element}
+    → ((g : Bool) (ws : List Word) → OneElement (f g ws) ws x) → Fits f f f f x
 fits-element p = record {
   element = p;
   repetition = λ g ws. once (p g ws);
@@ -40,7 +46,8 @@ fits-element p = record {
   whole = λ g ws. alone (single (once (p g ws)));
 }
 
-fits-repetition : {f : Bool → List Word → List Word} {x : Element} → ((g : Bool) (ws : List Word) → Repetition (f g ws) ws x) → Fits (wrapped f) f f f x
+fits-repetition : {f : Bool → List Word → List Word} {x : Element}
+    → ((g : Bool) (ws : List Word) → Repetition (f g ws) ws x) → Fits (wrapped f) f f f x
 fits-repetition p = record {
   element = λ g ws. parens (alone (single (p _ _)));
   repetition = p;
@@ -48,7 +55,8 @@ fits-repetition p = record {
   whole = λ g ws. alone (single (p g ws));
 }
 
-fits-one : {f : Bool → List Word → List Word} {x : Element} → ((g : Bool) (ws : List Word) → SpellsOne (f g ws) ws x) → Fits (wrapped f) (wrapped f) f f x
+fits-one : {f : Bool → List Word → List Word} {x : Element} → ((g : Bool) (ws : List Word) → SpellsOne (f g ws) ws x)
+    → Fits (wrapped f) (wrapped f) f f x
 fits-one p = record {
   element = λ g ws. parens (alone (p _ _));
   repetition = λ g ws. once (parens (alone (p _ _)));
@@ -56,7 +64,8 @@ fits-one p = record {
   whole = λ g ws. alone (p g ws);
 }
 
-fits-whole : {f : Bool → List Word → List Word} {x : Element} → ((g : Bool) (ws : List Word) → Alternation (f g ws) ws x) → Fits (wrapped f) (wrapped f) (wrapped f) f x
+fits-whole : {f : Bool → List Word → List Word} {x : Element}
+    → ((g : Bool) (ws : List Word) → Alternation (f g ws) ws x) → Fits (wrapped f) (wrapped f) (wrapped f) f x
 fits-whole p = record {
   element = λ g ws. parens (p _ _);
   repetition = λ g ws. once (parens (p _ _));
@@ -77,7 +86,8 @@ alternation-same (more x (more y xs)) h = refl
 last : {s r : List Word} {x : Element} → SpellsOne s r x → Alternatives s r (more x none)
 last {s} {r} {x} o = subst (λ (y : Element). Alternatives s r (more y none)) o.same (only o.spelled)
 
-and-more : {s m r : List Word} {x : Element} {xs : Elements} → SpellsOne s (word true false Slash ∷ m) x → Alternatives m r xs → Alternatives s r (more x xs)
+and-more : {s m r : List Word} {x : Element} {xs : Elements} → SpellsOne s (word true false Slash ∷ m) x
+    → Alternatives m r xs → Alternatives s r (more x xs)
 and-more {s} {m} {r} {x} {xs} o h = subst (λ (y : Element). Alternatives s r (more y xs)) o.same (others o.spelled h)
 
 -- there is at least one
@@ -94,19 +104,31 @@ mutual
   spelled (Text c t) w = fits-element (λ g ws. text)
   spelled (Values vs) w = fits-element (λ g ws. values)
   spelled (Range a b) w = fits-element (λ g ws. range)
-  spelled (Concat xs) w = fits-one (λ g ws. record { parts = xs; same = concatenation-same xs w.0; spelled = spelled-members xs w.1 (full xs w.0) g ws })
-  spelled (Alt xs) w = fits-whole (λ g ws. subst (λ (x : Element). Alternation (listed_alternatives xs g ws) ws x) (alternation-same xs w.0) (alternatives (spelled-alternatives xs w.1 (full xs w.0) g ws)))
-  spelled (Rep a b x) w = let h = spelled x w.1 in fits-repetition (λ g ws. repeated (leads-no_gap _ (leads-at (wraps Repeated x) x w.1 false ws)) (h.element false ws))
+  spelled (Concat xs) w = fits-one (λ g ws. record {
+    parts = xs;
+    same = concatenation-same xs w.0;
+    spelled = spelled-members xs w.1 (full xs w.0) g ws;
+  })
+  spelled (Alt xs) w = fits-whole (λ g ws. subst (λ (x : Element). Alternation (listed_alternatives xs g ws) ws x)
+      (alternation-same xs w.0) (alternatives (spelled-alternatives xs w.1 (full xs w.0) g ws)))
+  spelled (Rep a b x) w = let h = spelled x w.1 in
+      fits-repetition (λ g ws. repeated (leads-no_gap _ (leads-at (wraps Repeated x) x w.1 false ws))
+      (h.element false ws))
   spelled (Opt x) w = let h = spelled x w in fits-element (λ g ws. brackets (h.whole false _))
   spelled (Name n) w = fits-element (λ g ws. name)
   spelled (Prose t) w = fits-element (λ g ws. prose)
 
-  pub spelled-members : (xs : Elements) → AreFormed xs → IsFull xs → (g : Bool) (ws : List Word) → Parts (listed_members xs g ws) ws xs
+  pub spelled-members : (xs : Elements) → AreFormed xs → IsFull xs → (g : Bool) (ws : List Word)
+      → Parts (listed_members xs g ws) ws xs
   spelled-members none w h g ws = absurd h
   spelled-members (more x none) w h g ws = one ((spelled x w.0).repetition g _)
-  spelled-members (more x (more y xs)) w h g ws = further ((spelled x w.0).repetition g _) (leads-gap _ (leads-at (wraps Member y) y w.1.0 true _)) (spelled-members (more y xs) w.1 tt true ws)
+  spelled-members (more x (more y xs)) w h g ws =
+      further ((spelled x w.0).repetition g _) (leads-gap _ (leads-at (wraps Member y) y w.1.0 true _))
+      (spelled-members (more y xs) w.1 tt true ws)
 
-  pub spelled-alternatives : (xs : Elements) → AreFormed xs → IsFull xs → (g : Bool) (ws : List Word) → Alternatives (listed_alternatives xs g ws) ws xs
+  pub spelled-alternatives : (xs : Elements) → AreFormed xs → IsFull xs → (g : Bool) (ws : List Word)
+      → Alternatives (listed_alternatives xs g ws) ws xs
   spelled-alternatives none w h g ws = absurd h
   spelled-alternatives (more x none) w h g ws = last ((spelled x w.0).one_of g _)
-  spelled-alternatives (more x (more y xs)) w h g ws = and-more ((spelled x w.0).one_of g _) (spelled-alternatives (more y xs) w.1 tt true ws)
+  spelled-alternatives (more x (more y xs)) w h g ws =
+      and-more ((spelled x w.0).one_of g _) (spelled-alternatives (more y xs) w.1 tt true ws)

@@ -1,7 +1,8 @@
 -- The canonical text, on examples whose texts are known.
 use Rattle.std.proofs.Common.{◌≡◌, true, false, Some, None, [], ◌∷◌, refl, codes}
 use Rattle.std.specs.Fmt.{digits}
-use Rattle.abnfread.specs.Element.{Element, Elements, Text, Values, Range, Concat, Alt, Rep, Opt, Name, Prose, none, more}
+use Rattle.abnfread.specs.Element.{Element, Elements, Text, Values, Range, Concat, Alt, Rep, Opt, Name, Prose, none}
+use Rattle.abnfread.specs.Element.{more}
 use Rattle.abnfprint.specs.CanonicalAbnf.{text_of, definition_text}
 
 abbrev a : Element
@@ -24,7 +25,8 @@ exactly-once : text_of (Rep 1 (Some 1) (Concat (two a b))) ≡ codes "1(\"a\" \"
 unfolding digits
 exactly-once = refl
 
-folded : text_of (Alt (two (Text true (codes "X")) (Alt (two (Text true (codes "y")) (Text true (codes "z")))))) ≡ codes "\"X\" / (\"y\" / \"z\")"
+folded : text_of (Alt (two (Text true (codes "X")) (Alt (two (Text true (codes "y")) (Text true (codes "z"))))))
+    ≡ codes "\"X\" / (\"y\" / \"z\")"
 folded = refl
 
 repeated-twice : text_of (Rep 2 (Some 2) (Rep 0 None x)) ≡ codes "2(*x)"
@@ -40,7 +42,8 @@ listed-values = refl
 value-range : text_of (Range 48 57) ≡ codes "%x30-39"
 value-range = refl
 
-bounds : text_of (Concat (more (Rep 2 None x) (more (Rep 2 (Some 10) x) (two (Rep 0 (Some 0) x) (Rep 0 None x))))) ≡ codes "2*x 2*10x 0x *x"
+bounds : text_of (Concat (more (Rep 2 None x) (more (Rep 2 (Some 10) x) (two (Rep 0 (Some 0) x) (Rep 0 None x)))))
+    ≡ codes "2*x 2*10x 0x *x"
 unfolding digits
 bounds = refl
 
@@ -51,7 +54,8 @@ by-case = refl
 within-option : text_of (Opt (Alt (two (Concat (two a (Alt (two b x)))) (Opt x)))) ≡ codes "[\"a\" (\"b\" / x) / [x]]"
 within-option = refl
 
-sequence-member : text_of (Concat (two (Concat (two a b)) (Prose (codes "any octet")))) ≡ codes "(\"a\" \"b\") <any octet>"
+sequence-member : text_of (Concat (two (Concat (two a b)) (Prose (codes "any octet"))))
+    ≡ codes "(\"a\" \"b\") <any octet>"
 sequence-member = refl
 
 choice-repeated : text_of (Rep 1 None (Alt (two (Concat (two a b)) (Rep 2 (Some 2) x)))) ≡ codes "1*(\"a\" \"b\" / 2x)"

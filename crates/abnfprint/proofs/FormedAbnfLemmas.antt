@@ -1,6 +1,7 @@
 -- What a text reads as is formed, and nests no deeper than its limit.
 -- Serves: print_abnf, is_abnf_read_back
-use Rattle.std.proofs.Common.{◌≡◌, ℕ, suc, ◌+◌, ◌≤◌, max, Bool, true, false, Option, List, [], ◌∷◌, ◌++◌, sym, ap, ◌∙◌, subst, arith, append_assoc}
+use Rattle.std.proofs.Common.{◌≡◌, ℕ, suc, ◌+◌, ◌≤◌, max, Bool, true, false, Option, List, [], ◌∷◌, ◌++◌, sym, ap, ◌∙◌}
+use Rattle.std.proofs.Common.{subst, arith, append_assoc}
 use Rattle.std.proofs.lemmas.List.{append_cancel_right}
 use Rattle.ruletable.specs.declared.span.Span.{Span}
 use Rattle.lexer.specs.SliceEnds.{found}
@@ -13,13 +14,17 @@ use Rattle.abnfread.specs.declared.kind.AbnfKind.{AbnfKind}
 use Rattle.abnfread.specs.declared.kind.AbnfKind.TheVariants as kinds
 use Rattle.abnfread.specs.AbnfKinds.{ends_list}
 use Rattle.abnfread.specs.AbnfReading.{Reads}
-use Rattle.abnfread.specs.AbnfSays.{SaysKind, says_name, says_text, says_cased, says_num, says_prose, Says, says, SayAll, AreSmall, open_behind, IsShallow}
+use Rattle.abnfread.specs.AbnfSays.{SaysKind, says_name, says_text, says_cased, says_num, says_prose, Says, says}
+use Rattle.abnfread.specs.AbnfSays.{SayAll, AreSmall, open_behind, IsShallow}
 use Rattle.abnfread.specs.AbnfSlices.{White, First, Run, is_quotable, is_prose, Stands, name, text, cased, prose}
 use Rattle.abnfread.specs.AbnfSpelling as spelling
-use Rattle.abnfread.specs.AbnfSpelling.{concatenation, alternation, OneElement, values, range, parens, brackets, Repetition, once, repeated, Parts, one, further, Alternatives, only, others, Alternation, alternatives, Grammar, last_rule, more_rules}
+use Rattle.abnfread.specs.AbnfSpelling.{concatenation, alternation, OneElement, values, range, parens, brackets}
+use Rattle.abnfread.specs.AbnfSpelling.{Repetition, once, repeated, Parts, one, further, Alternatives, only, others}
+use Rattle.abnfread.specs.AbnfSpelling.{Alternation, alternatives, Grammar, last_rule, more_rules}
 use Rattle.abnfread.specs.AbnfWords as words
 use Rattle.abnfread.specs.AbnfWords.{Said, Word, word}
-use Rattle.abnfread.specs.Element.{Element, Elements, Text, Values, Range, Concat, Alt, Rep, Opt, Name, Prose, none, more, Definition}
+use Rattle.abnfread.specs.Element.{Element, Elements, Text, Values, Range, Concat, Alt, Rep, Opt, Name, Prose, none}
+use Rattle.abnfread.specs.Element.{more, Definition}
 use Rattle.abnfread.specs.MarkedTokens.{Marked, margin, marks}
 use Rattle.abnfread.specs.Numerals.{says_values, last_number, more_numbers, Listed}
 use Rattle.abnfread.proofs.NumeralLemmas.{run-part, heads, tails}
@@ -67,14 +72,17 @@ text-inside : {t r : List ℕ} (s : List ℕ) → QuotedSo t r → t ≡ 34 ∷ 
 text-inside {r = r} s (bare {bs} h) e = between 34 bs s r h (tails e)
 text-inside s (signed h) e = absurd (let k = heads e in omega arith)
 
-cased-inside : {t r : List ℕ} (s : List ℕ) (d : ℕ) → QuotedSo t r → t ≡ 37 ∷ d ∷ 34 ∷ ((s ++ 34 ∷ []) ++ r) → Run is_quotable s []
+cased-inside : {t r : List ℕ} (s : List ℕ) (d : ℕ) → QuotedSo t r → t ≡ 37 ∷ d ∷ 34 ∷ ((s ++ 34 ∷ []) ++ r)
+    → Run is_quotable s []
 cased-inside s d (bare h) e = absurd (let k = heads e in omega arith)
 cased-inside {r = r} s d (signed {bs = bs} h) e = between 34 bs s r h (tails (tails (tails e)))
 
-text-slice : {t r z : List ℕ} (s : List ℕ) → Stands kinds.Text t r → t ≡ z ++ r → z ≡ 34 ∷ (s ++ 34 ∷ []) → Run is_quotable s []
+text-slice : {t r z : List ℕ} (s : List ℕ) → Stands kinds.Text t r → t ≡ z ++ r → z ≡ 34 ∷ (s ++ 34 ∷ [])
+    → Run is_quotable s []
 text-slice {r = r} s h e q = text-inside s (quoted-so h) (e ∙ ap (λ (x : List ℕ). x ++ r) q)
 
-cased-slice : {t r z : List ℕ} (s : List ℕ) (d : ℕ) → Stands kinds.Text t r → t ≡ z ++ r → z ≡ 37 ∷ d ∷ 34 ∷ (s ++ 34 ∷ []) → Run is_quotable s []
+cased-slice : {t r z : List ℕ} (s : List ℕ) (d : ℕ) → Stands kinds.Text t r → t ≡ z ++ r → z ≡ 37 ∷ d ∷ 34
+    ∷ (s ++ 34 ∷ []) → Run is_quotable s []
 cased-slice {r = r} s d h e q = cased-inside s d (quoted-so h) (e ∙ ap (λ (x : List ℕ). x ++ r) q)
 
 prose-slice : {t r z s : List ℕ} → Stands kinds.Prose t r → t ≡ z ++ r → z ≡ 60 ∷ (s ++ 62 ∷ []) → Run is_prose s []
@@ -84,7 +92,8 @@ some-listed : {base : ℕ} {t vs : List ℕ} → Listed base t vs → IsSome vs
 some-listed (last_number d) = tt
 some-listed (more_numbers e d h) = tt
 
-proper : {k : AbnfKind} {z t r : List ℕ} {p : Span} {s : Said} → SaysKind k z p s → First k t r → t ≡ z ++ r → IsProper s
+proper : {k : AbnfKind} {z t r : List ℕ} {p : Span} {s : Said} → SaysKind k z p s → First k t r → t ≡ z ++ r
+    → IsProper s
 proper says_name (found h) e = name-slice h.stands e
 proper (says_text {t = t} q) (found h) e = text-slice t h.stands e q
 proper (says_cased {t = t} {c = c} i q) (found h) e = cased-slice t c h.stands e q
@@ -92,9 +101,11 @@ proper (says_num (says_values t l)) f e = some-listed l
 proper (says_prose q) (found h) e = prose-slice h.stands e q
 proper y f e = tt
 
-tokens-proper : {total : ℕ} {t : List ℕ} {ts : List (Tok AbnfKind)} (src : List ℕ) (m : Option ℕ) (n : ℕ) {ws : List Word} → lexing.AreTokens White First ends_list total t ts → SayAll (marks src m n ts) ws → AreProper ws
+tokens-proper : {total : ℕ} {t : List ℕ} {ts : List (Tok AbnfKind)} (src : List ℕ) (m : Option ℕ) (n : ℕ)
+    {ws : List Word} → lexing.AreTokens White First ends_list total t ts → SayAll (marks src m n ts) ws → AreProper ws
 tokens-proper src m n (last_one {x = tok k z p} h e) (say_more (says y) say_none) = (proper y h.first h.cut, tt)
-tokens-proper src m n (one_more {x = tok k z p} h e l) (say_more (says y) ys) = (proper y h.first h.cut, tokens-proper src m p.end l ys)
+tokens-proper src m n (one_more {x = tok k z p} h e l) (say_more (says y) ys) =
+    (proper y h.first h.cut, tokens-proper src m p.end l ys)
 
 abbrev pub lift : Bool → ℕ → ℕ
 lift true n = suc n
@@ -180,12 +191,29 @@ full-alternatives (only h) = tt
 full-alternatives (others h k) = tt
 
 mutual
-  element-gives : {s r : List Word} {x : Element} → OneElement s r x → (m d : ℕ) → Pass m d s → Gives m d (nest_at Repeated x) (IsFormed x) r
-  element-gives spelling.name m d w = record { formed = w.proper.0; low = (let l = w.shallow.0 in omega arith); rest = behind w }
-  element-gives spelling.text m d w = record { formed = w.proper.0; low = (let l = w.shallow.0 in omega arith); rest = behind w }
-  element-gives values m d w = record { formed = (w.proper.0, w.small.0); low = (let l = w.shallow.0 in omega arith); rest = behind w }
+  element-gives : {s r : List Word} {x : Element} → OneElement s r x → (m d : ℕ) → Pass m d s
+      → Gives m d (nest_at Repeated x) (IsFormed x) r
+  element-gives spelling.name m d w = record {
+    formed = w.proper.0;
+    low = (let l = w.shallow.0 in omega arith);
+    rest = behind w;
+  }
+  element-gives spelling.text m d w = record {
+    formed = w.proper.0;
+    low = (let l = w.shallow.0 in omega arith);
+    rest = behind w;
+  }
+  element-gives values m d w = record {
+    formed = (w.proper.0, w.small.0);
+    low = (let l = w.shallow.0 in omega arith);
+    rest = behind w;
+  }
   element-gives range m d w = record { formed = w.small.0; low = (let l = w.shallow.0 in omega arith); rest = behind w }
-  element-gives spelling.prose m d w = record { formed = w.proper.0; low = (let l = w.shallow.0 in omega arith); rest = behind w }
+  element-gives spelling.prose m d w = record {
+    formed = w.proper.0;
+    low = (let l = w.shallow.0 in omega arith);
+    rest = behind w;
+  }
   element-gives (parens {x = x} h) m d w =
       let g = alternation-gives h m (suc d) (behind w) in
       let l = lift-le (wraps Repeated x) (nest x) in
@@ -196,16 +224,20 @@ mutual
       let k = g.low in
       record { formed = g.formed; low = omega arith; rest = behind g.rest }
 
-  repetition-gives : {s r : List Word} {x : Element} → Repetition s r x → (m d : ℕ) → Pass m d s → Gives m d (nest_at Member x) (IsFormed x) r
+  repetition-gives : {s r : List Word} {x : Element} → Repetition s r x → (m d : ℕ) → Pass m d s
+      → Gives m d (nest_at Member x) (IsFormed x) r
   repetition-gives (once {x = x} h) m d w =
       let g = element-gives h m d w in
       let l = member-repeated x in
       let k = g.low in
       record { formed = g.formed; low = omega arith; rest = g.rest }
-  repetition-gives (repeated n h) m d w = let g = element-gives h m d (behind w) in record { formed = (w.small.0, g.formed); low = g.low; rest = g.rest }
+  repetition-gives (repeated n h) m d w = let g = element-gives h m d (behind w) in
+      record { formed = (w.small.0, g.formed); low = g.low; rest = g.rest }
 
-  parts-give : {s r : List Word} {xs : Elements} → Parts s r xs → (m d : ℕ) → Pass m d s → Gives m d (nest_all Member xs) (AreFormed xs) r
-  parts-give (one h) m d w = let g = repetition-gives h m d w in let k = g.low in record { formed = (g.formed, tt); low = omega arith; rest = g.rest }
+  parts-give : {s r : List Word} {xs : Elements} → Parts s r xs → (m d : ℕ) → Pass m d s
+      → Gives m d (nest_all Member xs) (AreFormed xs) r
+  parts-give (one h) m d w = let g = repetition-gives h m d w in let k = g.low in
+      record { formed = (g.formed, tt); low = omega arith; rest = g.rest }
   parts-give (further h p k) m d w =
       let g = repetition-gives h m d w in
       let i = parts-give k m d g.rest in
@@ -213,7 +245,8 @@ mutual
       let b = i.low in
       record { formed = (g.formed, i.formed); low = omega arith; rest = i.rest }
 
-  alternatives-give : {s r : List Word} {xs : Elements} → Alternatives s r xs → (m d : ℕ) → Pass m d s → Gives m d (nest_all Alternative xs) (AreFormed xs) r
+  alternatives-give : {s r : List Word} {xs : Elements} → Alternatives s r xs → (m d : ℕ) → Pass m d s
+      → Gives m d (nest_all Alternative xs) (AreFormed xs) r
   alternatives-give (only {xs = xs} h) m d w =
       let i = parts-give h m d w in
       let l = concatenation-nest xs in
@@ -227,7 +260,8 @@ mutual
       let b = j.low in
       record { formed = (concatenation-formed xs (full-parts h) i.formed, j.formed); low = omega arith; rest = j.rest }
 
-  alternation-gives : {s r : List Word} {x : Element} → Alternation s r x → (m d : ℕ) → Pass m d s → Gives m d (nest x) (IsFormed x) r
+  alternation-gives : {s r : List Word} {x : Element} → Alternation s r x → (m d : ℕ) → Pass m d s
+      → Gives m d (nest x) (IsFormed x) r
   alternation-gives (alternatives {ys = xs} h) m d w =
       let i = alternatives-give h m d w in
       let l = alternation-nest xs in
@@ -244,13 +278,16 @@ AreFit [] = Unit {0}
 AreFit (d ∷ ds) = IsName d.name × IsFit d.body × AreFit ds
 
 fit : {s r : List Word} {x : Element} → Alternation s r x → Pass MAX_OPEN 0 s → IsFit x × Pass MAX_OPEN 0 r
-fit h w = let g = alternation-gives h MAX_OPEN 0 w in let l = g.low in (record { formed = g.formed; low = omega arith }, g.rest)
+fit h w = let g = alternation-gives h MAX_OPEN 0 w in let l = g.low in
+    (record { formed = g.formed; low = omega arith }, g.rest)
 
 grammar-fit : {ws : List Word} {ds : List Definition} → Grammar ws ds → Pass MAX_OPEN 0 ws → AreFit ds
 grammar-fit (last_rule spelling.defines h) w = let g = fit h (behind (behind w)) in (w.proper.0, g.0, tt)
 grammar-fit (last_rule spelling.extends h) w = let g = fit h (behind (behind w)) in (w.proper.0, g.0, tt)
-grammar-fit (more_rules spelling.defines h k) w = let g = fit h (behind (behind w)) in (w.proper.0, g.0, grammar-fit k g.1)
-grammar-fit (more_rules spelling.extends h k) w = let g = fit h (behind (behind w)) in (w.proper.0, g.0, grammar-fit k g.1)
+grammar-fit (more_rules spelling.defines h k) w = let g = fit h (behind (behind w)) in
+    (w.proper.0, g.0, grammar-fit k g.1)
+grammar-fit (more_rules spelling.extends h k) w = let g = fit h (behind (behind w)) in
+    (w.proper.0, g.0, grammar-fit k g.1)
 
 pub some-definitions : {ws : List Word} {ds : List Definition} → Grammar ws ds → IsSome ds
 some-definitions (last_rule a h) = tt
@@ -262,5 +299,11 @@ reads-fit {source} {ds} h =
     let t = h.are_tokens in
     let w = h.within in
     let same : h.words ≡ w.words = lemmas.one-words Says one-word h.say w.say in
-    let say : SayAll (marks source (margin source t.tokens) 0 t.tokens) w.words = subst (λ (ms : List Marked). SayAll ms w.words) t.same w.say in
-    grammar-fit (subst (λ (ws : List Word). Grammar ws ds) same h.grammar) (record { shallow = w.shallow; small = w.small; proper = tokens-proper source (margin source t.tokens) 0 t.are_tokens say })
+    let say : SayAll (marks source (margin source t.tokens) 0 t.tokens) w.words =
+    subst (λ (ms : List Marked). SayAll ms w.words) t.same w.say in
+    grammar-fit (subst (λ (ws : List Word). Grammar ws ds) same h.grammar)
+    (record {
+      shallow = w.shallow;
+      small = w.small;
+      proper = tokens-proper source (margin source t.tokens) 0 t.are_tokens say;
+    })

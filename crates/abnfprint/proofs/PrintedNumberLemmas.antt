@@ -1,11 +1,14 @@
 -- The digits that a canonical text writes, and that they say the number.
 -- Serves: print_abnf, is_abnf_read_back
-use Rattle.std.proofs.Common.{◌≡◌, ◌≢◌, ℕ, suc, ◌/◌, ◌%◌, ◌^◌, ◌<◌, ◌≤◌, nat_lt, cond, Bool, true, false, Some, None, List, [], ◌∷◌, ◌++◌, length, map, refl, sym, ap, ◌∙◌, arith, inl, inr, decimal, append_assoc}
+use Rattle.std.proofs.Common.{◌≡◌, ◌≢◌, ℕ, suc, ◌/◌, ◌%◌, ◌^◌, ◌<◌, ◌≤◌, nat_lt, cond, Bool, true, false, Some, None}
+use Rattle.std.proofs.Common.{List, [], ◌∷◌, ◌++◌, length, map, refl, sym, ap, ◌∙◌, arith, inl, inr, decimal}
+use Rattle.std.proofs.Common.{append_assoc}
 use Rattle.std.proofs.lemmas.Bool.Decides.{nat_tests, eqb_tells}
 use Rattle.std.proofs.lemmas.Bool.{lt-ltb, ltb-true, ltb-false, le-ltb}
 use Rattle.std.proofs.lemmas.List.{map-append}
 use Rattle.std.proofs.lemmas.Fmt.{decimal_is_IsNumeral}
-use Rattle.std.proofs.lemmas.Int.Digits.{number_digits_of, digits_value_is, all_below_base_digits_of, digits_of_step, length-digits_of_step}
+use Rattle.std.proofs.lemmas.Int.Digits.{number_digits_of, digits_value_is, all_below_base_digits_of, digits_of_step}
+use Rattle.std.proofs.lemmas.Int.Digits.{length-digits_of_step}
 use Rattle.std.specs.Char.{digit_value}
 use Rattle.std.specs.Fmt.{digit_glyph}
 use Rattle.std.specs.Int.Digits.{digits_of, number_from_digits, AllBelowBase}
@@ -23,9 +26,14 @@ digits-run : (base : ℕ) (t : List ℕ) → AllDigits base t → Run (is_digit 
 digits-run base [] h = none
 digits-run base (c ∷ cs) h = more (lt-ltb (digit_value c) base h.0) (digits-run base cs h.1)
 
-pub numeral : (base : ℕ) (t : List ℕ) (n : ℕ) → 0 < length t → AllDigits base t → digits_value base t ≡ n → Numeral base t n
+pub numeral : (base : ℕ) (t : List ℕ) (n : ℕ) → 0 < length t → AllDigits base t → digits_value base t ≡ n
+    → Numeral base t n
 numeral base [] n le h e = absurd (omega arith)
-numeral base (c ∷ cs) n le h e = record { are_digits = digits (lt-ltb (digit_value c) base h.0) (digits-run base cs h.1); value = e }
+numeral base (c ∷ cs) n le h e = record {
+  are_digits = digits (lt-ltb (digit_value c) base h.0) (digits-run base cs
+      h.1);
+  value = e;
+}
 
 pub decimal-numeral : (n : ℕ) → n < 2 ^ 64 → Numeral 10 (decimal n) n
 decimal-numeral n h = let d = decimal_is_IsNumeral n h in numeral 10 (decimal n) n d.0.0 d.0.1 d.1
@@ -45,14 +53,17 @@ glyphs-digits (d ∷ ds) h = (let e = glyph-value d h.0 in let k = h.0 in omega 
 upper-value : (v : ℕ) → digits_value 16 (upper_digits v) ≡ v
 upper-value v =
     let below = all_below_base_digits_of 16 v (omega arith) in
-    digits_value_is 16 (upper_digits v) ∙ ap (number_from_digits 16) (glyphs-values (digits_of 16 v) below) ∙ number_digits_of 16 v (omega arith)
+    digits_value_is 16 (upper_digits v) ∙ ap (number_from_digits 16) (glyphs-values (digits_of 16 v) below)
+    ∙ number_digits_of 16 v (omega arith)
 
 glyphs-length : (ds : List ℕ) → length (map (λ d. digit_glyph true d) ds) ≡ length ds
 glyphs-length [] = refl
 glyphs-length (d ∷ ds) = ap (λ (k : ℕ). suc k) (glyphs-length ds)
 
 upper-numeral : (v : ℕ) → 0 < v → Numeral 16 (upper_digits v) v
-upper-numeral v h = numeral 16 (upper_digits v) v (omega (arith, glyphs-length (digits_of 16 v), length-digits_of_step 16 v (omega arith) h)) (glyphs-digits (digits_of 16 v) (all_below_base_digits_of 16 v (omega arith))) (upper-value v)
+upper-numeral v h = numeral 16 (upper_digits v) v
+    (omega (arith, glyphs-length (digits_of 16 v), length-digits_of_step 16 v (omega arith) h))
+    (glyphs-digits (digits_of 16 v) (all_below_base_digits_of 16 v (omega arith))) (upper-value v)
 
 two-numeral : (v : ℕ) → v < 16 → Numeral 16 (48 ∷ digit_glyph true v ∷ []) v
 two-numeral v h =
@@ -68,7 +79,8 @@ hexadecimal-numeral v = by (nat_lt v 16) refl
 
 -- its last digit
 pub upper-more : (v : ℕ) → 0 < v → upper_digits v ≡ upper_digits (v / 16) ++ digit_glyph true (v % 16) ∷ []
-upper-more v h = ap (λ (ds : List ℕ). map (λ d. digit_glyph true d) ds) (digits_of_step 16 v (omega arith) h) ∙ map-append (λ d. digit_glyph true d) (digits_of 16 (v / 16)) (v % 16 ∷ [])
+upper-more v h = ap (λ (ds : List ℕ). map (λ d. digit_glyph true d) ds) (digits_of_step 16 v (omega arith) h)
+    ∙ map-append (λ d. digit_glyph true d) (digits_of 16 (v / 16)) (v % 16 ∷ [])
 
 pub upper-one : (v : ℕ) → 0 < v → v < 16 → upper_digits v ≡ digit_glyph true v ∷ []
 upper-one v h l =

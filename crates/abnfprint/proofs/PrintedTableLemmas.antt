@@ -1,6 +1,7 @@
 -- The rules that a text's definitions make are formed and not too deep, and a text of them has the same table.
 -- Serves: print_abnf, is_abnf_read_back
-use Rattle.std.proofs.Common.{◌≡◌, ℕ, zero, suc, ◌≤◌, ◌&&◌, cond, Bool, true, false, Option, Some, None, List, [], ◌∷◌, ◌++◌, map, position, slice_get, refl, sym, ap, ◌∙◌, subst, arith, codes}
+use Rattle.std.proofs.Common.{◌≡◌, ℕ, zero, suc, ◌≤◌, ◌&&◌, cond, Bool, true, false, Option, Some, None, List, [], ◌∷◌}
+use Rattle.std.proofs.Common.{◌++◌, map, position, slice_get, refl, sym, ap, ◌∙◌, subst, arith, codes}
 use Rattle.std.proofs.lemmas.List.Elements.{All-cons, All-nil}
 use Rattle.ruletable.specs.Rules.{same_name}
 use Rattle.ruletable.specs.declared.span.Span.{Span}
@@ -11,7 +12,8 @@ use Rattle.abnfread.specs.AbnfMachine.{append}
 use Rattle.abnfread.specs.AbnfSlices as slices
 use Rattle.abnfread.specs.AbnfSlices.{Run, continues_name, is_quotable}
 use Rattle.abnfread.specs.AbnfSpelling.{definition}
-use Rattle.abnfread.specs.AbnfTable.{alternatives_of, joined, body_in, id_in, added, extended, first_body, begun, grown, firsts, agains, earlies}
+use Rattle.abnfread.specs.AbnfTable.{alternatives_of, joined, body_in, id_in, added, extended, first_body, begun, grown}
+use Rattle.abnfread.specs.AbnfTable.{firsts, agains, earlies}
 use Rattle.abnfread.specs.CoreRules.{core_list, core_bodies}
 use Rattle.abnfread.specs.Element.{Element, Elements, Text, Values, Alt, Name, none, more, Rule, bodies, Definition}
 use Rattle.abnfprint.specs.AbnfReadBack.{table_of, SameButSpans}
@@ -29,7 +31,8 @@ append-full : (xs ys : Elements) → IsFull xs → IsFull (append xs ys)
 append-full none ys h = absurd h
 append-full (more x xs) ys h = tt
 
-append-nest : (n : ℕ) (xs ys : Elements) → nest_all Alternative xs ≤ n → nest_all Alternative ys ≤ n → nest_all Alternative (append xs ys) ≤ n
+append-nest : (n : ℕ) (xs ys : Elements) → nest_all Alternative xs ≤ n → nest_all Alternative ys ≤ n
+    → nest_all Alternative (append xs ys) ≤ n
 append-nest n none ys h k = k
 append-nest n (more x xs) ys h k = let ih = append-nest n xs ys (omega arith) k in omega arith
 
@@ -60,7 +63,8 @@ joined-fit x y h k =
     let n = append-nest MAX_OPEN xs ys (omega arith) (omega arith) in
     let o = alternation-nest (append xs ys) in
     record {
-      formed = alternation-formed (append xs ys) (append-full xs ys (alternatives-full x h.formed)) (append-formed xs ys (alternatives-formed x h.formed) (alternatives-formed y k.formed));
+      formed = alternation-formed (append xs ys) (append-full xs ys (alternatives-full x h.formed))
+          (append-formed xs ys (alternatives-formed x h.formed) (alternatives-formed y k.formed));
       low = omega arith;
     }
 
@@ -88,7 +92,8 @@ others-pass false y e = cc
 
 passes : (f : ℕ → Bool) (bs : List ℕ) → all_pass f bs ≡ true → Run f bs []
 passes f [] e = slices.none
-passes f (b ∷ bs) e = slices.more (first-passes (f b) (all_pass f bs) e) (passes f bs (others-pass (f b) (all_pass f bs) e))
+passes f (b ∷ bs) e = slices.more (first-passes (f b) (all_pass f bs) e)
+    (passes f bs (others-pass (f b) (all_pass f bs) e))
 
 name-fit : (b : ℕ) (bs : List ℕ) → IsName (b ∷ bs) → IsFit (Name (b ∷ bs))
 name-fit b bs h = record { formed = h; low = omega arith }
@@ -116,7 +121,13 @@ core-fit = (
       (
         fit-flat _ (value-fit 13 (omega arith)) (omega arith),
         (
-          fit-flat _ (tt, (named refl (passes continues_name (codes "R") refl), (named refl (passes continues_name (codes "F") refl), tt))) (omega arith),
+          fit-flat _ (
+            tt,
+            (
+              named refl (passes continues_name (codes "R") refl),
+              (named refl (passes continues_name (codes "F") refl), tt),
+            ),
+          ) (omega arith),
           (
             fit-flat _ (tt, ((omega arith, omega arith), (value-fit 127 (omega arith), tt))) (omega arith),
             (
@@ -124,13 +135,38 @@ core-fit = (
               (
                 fit-flat _ (value-fit 34 (omega arith)) (omega arith),
                 (
-                  fit-flat _ (tt, (named refl (passes continues_name (codes "IGIT") refl), (text-fit 65 refl, (text-fit 66 refl, (text-fit 67 refl, (text-fit 68 refl, (text-fit 69 refl, (text-fit 70 refl, tt)))))))) (omega arith),
+                  fit-flat _ (
+                    tt,
+                    (
+                      named refl (passes continues_name (codes "IGIT") refl),
+                      (
+                        text-fit 65 refl,
+                        (
+                          text-fit 66 refl,
+                          (
+                            text-fit 67 refl,
+                            (text-fit 68 refl, (text-fit 69 refl, (text-fit 70 refl, tt))),
+                          ),
+                        ),
+                      ),
+                    ),
+                  ) (omega arith),
                   (
                     fit-flat _ (value-fit 9 (omega arith)) (omega arith),
                     (
                       fit-flat _ (value-fit 10 (omega arith)) (omega arith),
                       (
-                        fit-flat _ ((omega arith, tt), (tt, (wsp-formed, ((tt, (named refl (passes continues_name (codes "RLF") refl), (wsp-formed, tt))), tt)))) (omega arith),
+                        fit-flat _ (
+                          (omega arith, tt),
+                          (
+                            tt,
+                            (
+                              wsp-formed,
+                              ((tt, (named refl (passes continues_name (codes "RLF") refl), (wsp-formed, tt))), tt),
+                            ),
+                          ),
+                        )
+                            (omega arith),
                         (
                           fit-flat _ (omega arith, omega arith) (omega arith),
                           (
@@ -138,7 +174,13 @@ core-fit = (
                             (
                               fit-flat _ (omega arith, omega arith) (omega arith),
                               (
-                                fit-flat _ (tt, (named refl (passes continues_name (codes "P") refl), (named refl (passes continues_name (codes "TAB") refl), tt))) (omega arith),
+                                fit-flat _ (
+                                  tt,
+                                  (
+                                    named refl (passes continues_name (codes "P") refl),
+                                    (named refl (passes continues_name (codes "TAB") refl), tt),
+                                  ),
+                                ) (omega arith),
                                 tt,
                               ),
                             ),
@@ -160,17 +202,20 @@ core-fit = (
 core : List ℕ → Option Element
 core = body_in core_list
 
-core-at : (o : Option ℕ) (x : Element) → (elim o [ None ↦ None | Some id ↦ slice_get (bodies core_list) id ]) ≡ Some x → IsFit x
+core-at : (o : Option ℕ) (x : Element) → (elim o [ None ↦ None | Some id ↦ slice_get (bodies core_list) id ]) ≡ Some x
+    → IsFit x
 core-at None x e = cc
 core-at (Some id) x e = body-fit (bodies core_list) id x core-fit e
 
-begun-by : (a : Bool) (o : Option Element) (x : Element) → ((c : Element) → o ≡ Some c → IsFit c) → IsFit x → IsFit (cond a (elim o [ None ↦ x | Some c ↦ joined c x ]) x)
+begun-by : (a : Bool) (o : Option Element) (x : Element) → ((c : Element) → o ≡ Some c → IsFit c) → IsFit x
+    → IsFit (cond a (elim o [ None ↦ x | Some c ↦ joined c x ]) x)
 begun-by true None x f h = h
 begun-by true (Some c) x f h = joined-fit c x (f c refl) h
 begun-by false o x f h = h
 
 begun-fit : (d : Definition) → IsFit d.body → IsFit (first_body (body_in core_list) d)
-begun-fit d h = begun-by d.adds (body_in core_list d.name) d.body (λ c e. core-at (position (λ rule. same_name Fold d.name rule.name) core_list) c e) h
+begun-fit d h = begun-by d.adds (body_in core_list d.name) d.body
+    (λ c e. core-at (position (λ rule. same_name Fold d.name rule.name) core_list) c e) h
 
 added-by : (b : Bool) (x : Element) (xs : List Element) → IsFit x → AreFitBodies xs → AreFitBodies (cond b (x ∷ xs) xs)
 added-by true x xs h k = (h, k)
@@ -188,15 +233,19 @@ abbrev pub AreFitRules : List Rule → Type 0
 AreFitRules [] = Unit {0}
 AreFitRules (rule ∷ rules) = IsName rule.name × IsFit rule.body × AreFitRules rules
 
-firsts-by : (o : Option ℕ) (rule : Rule) (rules others : List Rule) → IsName rule.name → IsFit rule.body → AreFitRules rules → AreFitRules others → AreFitRules (elim o [ None ↦ rule ∷ rules | Some id ↦ others ])
+firsts-by : (o : Option ℕ) (rule : Rule) (rules others : List Rule) → IsName rule.name → IsFit rule.body
+    → AreFitRules rules → AreFitRules others → AreFitRules (elim o [ None ↦ rule ∷ rules | Some id ↦ others ])
 firsts-by None rule rules others n h k l = (n, h, k)
 firsts-by (Some id) rule rules others n h k l = l
 
-firsts-fit : (known : List (List ℕ)) (ds : List Definition) → AreFit ds → AreFitRules (firsts (body_in core_list) known ds)
+firsts-fit : (known : List (List ℕ)) (ds : List Definition) → AreFit ds
+    → AreFitRules (firsts (body_in core_list) known ds)
 firsts-fit known [] h = tt
 firsts-fit known (d ∷ ds) h =
-    firsts-by (id_in known d) (grown ds (begun (body_in core_list) d)) (firsts (body_in core_list) (known ++ d.name ∷ []) ds) (firsts (body_in core_list) known ds) h.0
-    (extended-fit (first_body (body_in core_list) d) (added d.name ds) (begun-fit d h.1) (added-fit d.name ds h.2)) (firsts-fit (known ++ d.name ∷ []) ds h.2) (firsts-fit known ds h.2)
+    firsts-by (id_in known d) (grown ds (begun (body_in core_list) d))
+    (firsts (body_in core_list) (known ++ d.name ∷ []) ds) (firsts (body_in core_list) known ds) h.0
+    (extended-fit (first_body (body_in core_list) d) (added d.name ds) (begun-fit d h.1) (added-fit d.name ds h.2))
+    (firsts-fit (known ++ d.name ∷ []) ds h.2) (firsts-fit known ds h.2)
 
 pub table-fit : (ds : List Definition) → AreFit ds → AreFitRules (table_of ds)
 table-fit ds h = firsts-fit [] ds h
@@ -219,34 +268,63 @@ added-none : {rules : List Rule} {ds : List Definition} (n : List ℕ) → AreAg
 added-none n again_none = refl
 added-none n (again_more h) = added-none n h
 
-new-table : (known : List (List ℕ)) (rule : Rule) (rules : List Rule) (q : Span) (ds : List Definition) → position (same_name Fold rule.name) known ≡ None → added rule.name ds ≡ [] →
-    IsTable (known ++ rule.name ∷ []) rules ds → IsTable known (rule ∷ rules) (definition false rule.name q rule.body ∷ ds)
+new-table : (known : List (List ℕ)) (rule : Rule) (rules : List Rule) (q : Span) (ds : List Definition)
+    → position (same_name Fold rule.name) known ≡ None → added rule.name ds ≡ [] →
+    IsTable (known ++ rule.name ∷ []) rules ds → IsTable known (rule ∷ rules)
+    (definition false rule.name q rule.body ∷ ds)
 new-table known rule rules q ds new nothing t =
     let d = definition false rule.name q rule.body in
     let rest = firsts (body_in core_list) (known ++ rule.name ∷ []) ds in
     let alone = firsts (body_in core_list) known ds in
     let first : grown ds (begun (body_in core_list) d) ≡ record { name = rule.name; body = rule.body; span = q } =
     ap (λ (ys : List Element). record { name = rule.name; body = extended rule.body ys; span = q }) nothing in
-    let whole : firsts (body_in core_list) known (d ∷ ds) ≡ record { name = rule.name; body = rule.body; span = q } ∷ rest =
-    ap (λ (o : Option ℕ). elim o [ None ↦ grown ds (begun (body_in core_list) d) ∷ rest | Some id ↦ alone ]) new ∙ ap (λ (r : Rule). r ∷ rest) first in
+    let whole : firsts (body_in core_list) known (d ∷ ds) ≡ record { name = rule.name; body = rule.body; span = q }
+    ∷ rest =
+    ap (λ (o : Option ℕ). elim o [ None ↦ grown ds (begun (body_in core_list) d) ∷ rest | Some id ↦ alone ]) new
+    ∙ ap (λ (r : Rule). r ∷ rest) first in
     record {
       same = record {
         names = ap (λ (ns : List (List ℕ)). rule.name ∷ ns) t.same.names ∙ sym (ap (map (λ (r : Rule). r.name)) whole);
         bodies = ap (λ (xs : List Element). rule.body ∷ xs) t.same.bodies ∙ sym (ap (map (λ (r : Rule). r.body)) whole);
       };
-      no_again = ap (λ (o : Option ℕ). elim o [ None ↦ agains (body_in core_list) (known ++ rule.name ∷ []) ds | Some id ↦ id ∷ agains (body_in core_list) known ds ]) new ∙ t.no_again;
-      no_early = λ n. ap (λ (o : Option ℕ). elim o [ None ↦ earlies (body_in core_list) (suc n) (known ++ rule.name ∷ []) ds | Some id ↦ earlies (body_in core_list) n known ds ]) new ∙ t.no_early (suc n);
+      no_again = ap (λ (o : Option ℕ). elim o [
+        | None ↦ agains (body_in core_list) (known ++ rule.name ∷ []) ds
+        | Some id ↦ id ∷ agains (body_in core_list) known ds
+      ]) new ∙ t.no_again;
+      no_early = λ n. ap (λ (o : Option ℕ). elim o [
+        | None ↦ earlies (body_in core_list) (suc n)
+            (known ++ rule.name ∷ []) ds
+        | Some id ↦ earlies (body_in core_list) n known ds
+      ]) new ∙ t.no_early (suc n);
     }
 
 table-by : (known : List (List ℕ)) (d : Definition) (ds : List Definition) (o : Option ℕ) → id_in known d ≡ o →
-    ((again : List Definition) → AreAgain (firsts (body_in core_list) (known ++ d.name ∷ []) ds) again → IsTable (known ++ d.name ∷ []) (firsts (body_in core_list) (known ++ d.name ∷ []) ds) again) →
-    ((again : List Definition) → AreAgain (firsts (body_in core_list) known ds) again → IsTable known (firsts (body_in core_list) known ds) again) →
-    (again : List Definition) → AreAgain (elim o [ None ↦ grown ds (begun (body_in core_list) d) ∷ firsts (body_in core_list) (known ++ d.name ∷ []) ds | Some id ↦ firsts (body_in core_list) known ds ]) again →
-    IsTable known (elim o [ None ↦ grown ds (begun (body_in core_list) d) ∷ firsts (body_in core_list) (known ++ d.name ∷ []) ds | Some id ↦ firsts (body_in core_list) known ds ]) again
+    ((again : List Definition) → AreAgain (firsts (body_in core_list) (known ++ d.name ∷ []) ds) again
+    → IsTable (known ++ d.name ∷ []) (firsts (body_in core_list) (known ++ d.name ∷ []) ds) again) →
+    ((again : List Definition) → AreAgain (firsts (body_in core_list) known ds) again
+    → IsTable known (firsts (body_in core_list) known ds) again) →
+    (again : List Definition) → AreAgain (elim o [
+      | None ↦ grown ds (begun (body_in core_list) d)
+          ∷ firsts (body_in core_list) (known ++ d.name ∷ []) ds
+      | Some id ↦ firsts (body_in core_list) known ds
+    ])
+    again →
+    IsTable known (elim o [
+      | None ↦ grown ds (begun (body_in core_list) d)
+          ∷ firsts (body_in core_list) (known ++ d.name ∷ []) ds
+      | Some id ↦ firsts (body_in core_list) known ds
+    ]) again
 table-by known d ds None e f g again (again_more {q = q} {ds = others} k) =
-    new-table known (grown ds (begun (body_in core_list) d)) (firsts (body_in core_list) (known ++ d.name ∷ []) ds) q others e (added-none d.name k) (f others k)
+    new-table known (grown ds (begun (body_in core_list) d)) (firsts (body_in core_list) (known ++ d.name ∷ []) ds) q
+    others e (added-none d.name k) (f others k)
 table-by known d ds (Some id) e f g again h = g again h
 
-pub table-again : (ds : List Definition) (known : List (List ℕ)) (again : List Definition) → AreAgain (firsts (body_in core_list) known ds) again → IsTable known (firsts (body_in core_list) known ds) again
-table-again [] known again again_none = record { same = record { names = refl; bodies = refl }; no_again = refl; no_early = λ n. refl }
-table-again (d ∷ ds) known again h = table-by known d ds (id_in known d) refl (λ a k. table-again ds (known ++ d.name ∷ []) a k) (λ a k. table-again ds known a k) again h
+pub table-again : (ds : List Definition) (known : List (List ℕ)) (again : List Definition)
+    → AreAgain (firsts (body_in core_list) known ds) again → IsTable known (firsts (body_in core_list) known ds) again
+table-again [] known again again_none = record {
+  same = record { names = refl; bodies = refl };
+  no_again = refl;
+  no_early = λ n. refl;
+}
+table-again (d ∷ ds) known again h = table-by known d ds (id_in known d) refl
+    (λ a k. table-again ds (known ++ d.name ∷ []) a k) (λ a k. table-again ds known a k) again h

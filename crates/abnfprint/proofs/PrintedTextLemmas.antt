@@ -1,19 +1,25 @@
 -- The canonical text is cut into tokens that say its words.
 -- Serves: print_abnf, is_abnf_read_back
-use Rattle.std.proofs.Common.{◌≡◌, ℕ, ◌^◌, ◌<◌, ◌≤◌, Bool, true, false, Option, Some, None, MatchOption, List, [], ◌∷◌, ◌++◌, refl, ap, sym, ◌∙◌, subst, arith, append_assoc, codes}
+use Rattle.std.proofs.Common.{◌≡◌, ℕ, ◌^◌, ◌<◌, ◌≤◌, Bool, true, false, Option, Some, None, MatchOption, List, [], ◌∷◌}
+use Rattle.std.proofs.Common.{◌++◌, refl, ap, sym, ◌∙◌, subst, arith, append_assoc, codes}
 use Rattle.ruletable.specs.declared.span.Span.{Span}
 use Rattle.abnfread.specs.declared.number.TheConstants.{MAX_REPEAT}
 use Rattle.abnfread.specs.AbnfWords as words
 use Rattle.abnfread.specs.AbnfWords.{Said, Word, word}
 use Rattle.abnfread.specs.BaseDigits.{is_digit}
-use Rattle.abnfread.specs.Element.{Element, Elements, Text, Values, Range, Concat, Alt, Rep, Opt, Name, Prose, none, more, Rule}
+use Rattle.abnfread.specs.Element.{Element, Elements, Text, Values, Range, Concat, Alt, Rep, Opt, Name, Prose, none}
+use Rattle.abnfread.specs.Element.{more, Rule}
 use Rattle.abnfread.proofs.AbnfFirstLemmas.{letter-digit}
 use Rattle.abnfprint.specs.CanonicalAbnf.{wraps, around, repeat_text, text_of, joined, more_joined, grammar_text}
 use Rattle.abnfprint.specs.declared.place.Place.TheVariants.{Alternative, Member, Repeated}
 use Rattle.abnfprint.specs.FormedAbnf.{IsName, named, IsFormed, AreFormed, AreFormedRules, AreMany}
 use Rattle.abnfprint.proofs.AbnfCutsLemmas.{Cuts, nothing, blanked}
-use Rattle.abnfprint.proofs.AbnfListedLemmas.{nowhere, within, listed, listed_members, listed_alternatives, listed_more, listed_rules}
-use Rattle.abnfprint.proofs.PrintedTokenLemmas.{refuted, Follows, space, line, paren, brack, Anything, NoCount, IsToken, cut, name-token, is-token, slash-token, lparen-token, rparen-token, lbrack-token, rbrack-token, text-token, cased-token, prose-token, values-token, range-token, repeat-token}
+use Rattle.abnfprint.proofs.AbnfListedLemmas.{nowhere, within, listed, listed_members, listed_alternatives, listed_more}
+use Rattle.abnfprint.proofs.AbnfListedLemmas.{listed_rules}
+use Rattle.abnfprint.proofs.PrintedTokenLemmas.{refuted, Follows, space, line, paren, brack, Anything, NoCount, IsToken}
+use Rattle.abnfprint.proofs.PrintedTokenLemmas.{cut, name-token, is-token, slash-token, lparen-token, rparen-token}
+use Rattle.abnfprint.proofs.PrintedTokenLemmas.{lbrack-token, rbrack-token, text-token, cased-token, prose-token}
+use Rattle.abnfprint.proofs.PrintedTokenLemmas.{values-token, range-token, repeat-token}
 
 -- before whatever follows, the text adds the words
 record Adds (s : List ℕ) (f : Bool → List Word → List Word) : Type 0 where
@@ -31,20 +37,29 @@ adds-followed t = record { adds = λ g r ws f c. cut t r f c }
 
 adds-around : {s : List ℕ} {f : Bool → List Word → List Word} (b : Bool) → Adds s f → Adds (around b s) (within b f)
 adds-around {s} {f} true a = record {
-  adds = λ g r ws h c. cut lparen-token ((s ++ 41 ∷ []) ++ r) tt (subst (λ (x : List ℕ). Cuts None false x (f false (word false false words.RParen ∷ ws))) (sym (append_assoc s (41 ∷ []) r))
+  adds = λ g r ws h c. cut lparen-token ((s ++ 41 ∷ []) ++ r) tt
+      (subst (λ (x : List ℕ). Cuts None false x (f false (word false false words.RParen ∷ ws)))
+      (sym (append_assoc s (41 ∷ []) r))
       (a.adds false (41 ∷ r) _ paren (cut rparen-token r tt c)));
 }
 adds-around false a = a
 
-adds-option : {s : List ℕ} {f : Bool → List Word → List Word} → Adds s f → Adds (91 ∷ (s ++ 93 ∷ [])) (λ g ws. word g false words.LBrack ∷ f false (word false false words.RBrack ∷ ws))
+adds-option : {s : List ℕ} {f : Bool → List Word → List Word} → Adds s f
+    → Adds (91 ∷ (s ++ 93 ∷ [])) (λ g ws. word g false words.LBrack ∷ f false (word false false words.RBrack ∷ ws))
 adds-option {s} {f} a = record {
-  adds = λ g r ws h c. cut lbrack-token ((s ++ 93 ∷ []) ++ r) tt (subst (λ (x : List ℕ). Cuts None false x (f false (word false false words.RBrack ∷ ws))) (sym (append_assoc s (93 ∷ []) r))
+  adds = λ g r ws h c. cut lbrack-token ((s ++ 93 ∷ []) ++ r) tt
+      (subst (λ (x : List ℕ). Cuts None false x (f false (word false false words.RBrack ∷ ws)))
+      (sym (append_assoc s (93 ∷ []) r))
       (a.adds false (93 ∷ r) _ brack (cut rbrack-token r tt c)));
 }
 
 -- one text behind another
-adds-both : {s u : List ℕ} {f : Bool → List Word → List Word} {h : List Word → List Word} → ((r : List ℕ) → Follows r → Follows (u ++ r)) → Adds s f → Goes u h → Adds (s ++ u) (λ g ws. f g (h ws))
-adds-both {s} {u} {f} {h} n a b = record { adds = λ g r ws w c. subst (λ (x : List ℕ). Cuts None g x (f g (h ws))) (sym (append_assoc s u r)) (a.adds g (u ++ r) (h ws) (n r w) (b.goes r ws w c)) }
+adds-both : {s u : List ℕ} {f : Bool → List Word → List Word} {h : List Word → List Word}
+    → ((r : List ℕ) → Follows r → Follows (u ++ r)) → Adds s f → Goes u h → Adds (s ++ u) (λ g ws. f g (h ws))
+adds-both {s} {u} {f} {h} n a b = record {
+  adds = λ g r ws w c. subst (λ (x : List ℕ). Cuts None g x (f g (h ws))) (sym
+      (append_assoc s u r)) (a.adds g (u ++ r) (h ws) (n r w) (b.goes r ws w c));
+}
 
 goes-nothing : Goes [] (λ ws. ws)
 goes-nothing = record { goes = λ r ws w c. c }
@@ -52,20 +67,28 @@ goes-nothing = record { goes = λ r ws w c. c }
 goes-member : {s : List ℕ} {f : Bool → List Word → List Word} → Adds s f → Goes (32 ∷ s) (λ ws. f true ws)
 goes-member a = record { goes = λ r ws w c. blanked refl (a.adds true r ws w c) }
 
-goes-alternative : {s : List ℕ} {f : Bool → List Word → List Word} → Adds s f → Goes (32 ∷ 47 ∷ 32 ∷ s) (λ ws. word true false words.Slash ∷ f true ws)
-goes-alternative {s} a = record { goes = λ r ws w c. blanked refl (cut slash-token (32 ∷ (s ++ r)) tt (blanked refl (a.adds true r ws w c))) }
+goes-alternative : {s : List ℕ} {f : Bool → List Word → List Word} → Adds s f
+    → Goes (32 ∷ 47 ∷ 32 ∷ s) (λ ws. word true false words.Slash ∷ f true ws)
+goes-alternative {s} a = record {
+  goes = λ r ws w c. blanked refl (cut slash-token (32 ∷ (s ++ r)) tt
+      (blanked refl (a.adds true r ws w c)));
+}
 
 follows-members : (xs : Elements) (r : List ℕ) → Follows r → Follows (more_joined Member (codes " ") xs ++ r)
 follows-members none r w = w
 follows-members (more x xs) r w = space
 
-follows-alternatives : (xs : Elements) (r : List ℕ) → Follows r → Follows (more_joined Alternative (codes " / ") xs ++ r)
+follows-alternatives : (xs : Elements) (r : List ℕ) → Follows r
+    → Follows (more_joined Alternative (codes " / ") xs ++ r)
 follows-alternatives none r w = w
 follows-alternatives (more x xs) r w = space
 
 -- no count goes on with a name
 name-start : {n : List ℕ} (r : List ℕ) → IsName n → NoCount (n ++ r)
-name-start r (named {b} h k) = (refuted (is_digit 10 b) (λ e. letter-digit b h e), λ e. (let g = rw e at h in let z : false ≡ true = g in cc))
+name-start r (named {b} h k) = (
+  refuted (is_digit 10 b) (λ e. letter-digit b h e),
+  λ e. (let g = rw e at h in let z : false ≡ true = g in cc),
+)
 
 operand-start : (x : Element) (r : List ℕ) → IsFormed x → NoCount (around (wraps Repeated x) (text_of x) ++ r)
 operand-start (Text true t) r h = (refl, omega arith)
@@ -95,8 +118,10 @@ mutual
   adds (Rep a b x) h = record {
     adds = λ g r ws w c. (
         let rest = around (wraps Repeated x) (text_of x) in
-        subst (λ (y : List ℕ). Cuts None g y (word g false (words.Repeat a b) ∷ within (wraps Repeated x) (listed x) false ws)) (sym (append_assoc (repeat_text a b) rest r))
-        (cut (repeat-token a b (let l = h.0.0 in omega arith) (most-fits b h.0.1)) (rest ++ r) (operand-start x r h.1) ((adds-around (wraps Repeated x) (adds x h.1)).adds false r ws w c)));
+        subst (λ (y : List ℕ). Cuts None g y (word g false (words.Repeat a b)
+        ∷ within (wraps Repeated x) (listed x) false ws)) (sym (append_assoc (repeat_text a b) rest r))
+        (cut (repeat-token a b (let l = h.0.0 in omega arith) (most-fits b h.0.1)) (rest ++ r) (operand-start x r h.1)
+        ((adds-around (wraps Repeated x) (adds x h.1)).adds false r ws w c)));
   }
   adds (Opt x) h = adds-option (adds x h)
   adds (Name n) h = adds-followed (name-token nowhere h)
@@ -104,29 +129,42 @@ mutual
 
   adds-members : (xs : Elements) → AreMany xs → AreFormed xs → Adds (joined Member (codes " ") xs) (listed_members xs)
   adds-members none m h = absurd m
-  adds-members (more x xs) m h = adds-both (follows-members xs) (adds-around (wraps Member x) (adds x h.0)) (goes-members xs h.1)
+  adds-members (more x xs) m h = adds-both (follows-members xs) (adds-around (wraps Member x) (adds x h.0))
+      (goes-members xs h.1)
 
   goes-members : (xs : Elements) → AreFormed xs → Goes (more_joined Member (codes " ") xs) (listed_members xs true)
   goes-members none h = goes-nothing
-  goes-members (more x xs) h = goes-member (adds-both (follows-members xs) (adds-around (wraps Member x) (adds x h.0)) (goes-members xs h.1))
+  goes-members (more x xs) h = goes-member (adds-both (follows-members xs) (adds-around (wraps Member x) (adds x h.0))
+      (goes-members xs h.1))
 
-  adds-alternatives : (xs : Elements) → AreMany xs → AreFormed xs → Adds (joined Alternative (codes " / ") xs) (listed_alternatives xs)
+  adds-alternatives : (xs : Elements) → AreMany xs → AreFormed xs → Adds (joined Alternative (codes " / ") xs)
+      (listed_alternatives xs)
   adds-alternatives none m h = absurd m
-  adds-alternatives (more x xs) m h = adds-both (follows-alternatives xs) (adds-around (wraps Alternative x) (adds x h.0)) (goes-alternatives xs h.1)
+  adds-alternatives (more x xs) m h = adds-both (follows-alternatives xs)
+      (adds-around (wraps Alternative x) (adds x h.0)) (goes-alternatives xs h.1)
 
   goes-alternatives : (xs : Elements) → AreFormed xs → Goes (more_joined Alternative (codes " / ") xs) (listed_more xs)
   goes-alternatives none h = goes-nothing
-  goes-alternatives (more x xs) h = goes-alternative (adds-both (follows-alternatives xs) (adds-around (wraps Alternative x) (adds x h.0)) (goes-alternatives xs h.1))
+  goes-alternatives (more x xs) h = goes-alternative
+      (adds-both (follows-alternatives xs) (adds-around (wraps Alternative x) (adds x h.0)) (goes-alternatives xs h.1))
 
-adds-rule : (n : List ℕ) (q : Span) (x : Element) → IsName n → IsFormed x → {g : Bool} (r : List ℕ) (ws : List Word) → Cuts (Some 0) true r ws →
-    Cuts (Some 0) g ((n ++ (codes " = " ++ (text_of x ++ 10 ∷ []))) ++ r) (word g true (words.Name n q) ∷ word true false words.Is ∷ listed x true ws)
+adds-rule : (n : List ℕ) (q : Span) (x : Element) → IsName n → IsFormed x → {g : Bool} (r : List ℕ) (ws : List Word)
+    → Cuts (Some 0) true r ws →
+    Cuts (Some 0) g ((n ++ (codes " = " ++ (text_of x ++ 10 ∷ []))) ++ r)
+    (word g true (words.Name n q) ∷ word true false words.Is ∷ listed x true ws)
 adds-rule n q x h k {g} r ws c =
     let body = (adds x k).adds true (10 ∷ r) ws line (blanked refl c) in
-    let front : Cuts (Some 0) g (n ++ (codes " = " ++ (text_of x ++ 10 ∷ r))) (word g true (words.Name n q) ∷ word true false words.Is ∷ listed x true ws) =
-    cut (name-token q h) (codes " = " ++ (text_of x ++ 10 ∷ r)) space (blanked refl (cut is-token (32 ∷ (text_of x ++ 10 ∷ r)) (omega arith) (blanked refl body))) in
-    subst (λ (y : List ℕ). Cuts (Some 0) g y (word g true (words.Name n q) ∷ word true false words.Is ∷ listed x true ws))
-    (sym (append_assoc n (codes " = " ++ (text_of x ++ 10 ∷ [])) r ∙ ap (λ (y : List ℕ). n ++ (codes " = " ++ y)) (append_assoc (text_of x) (10 ∷ []) r))) front
+    let front : Cuts (Some 0) g (n ++ (codes " = " ++ (text_of x ++ 10 ∷ r)))
+    (word g true (words.Name n q) ∷ word true false words.Is ∷ listed x true ws) =
+    cut (name-token q h) (codes " = " ++ (text_of x ++ 10 ∷ r)) space
+    (blanked refl (cut is-token (32 ∷ (text_of x ++ 10 ∷ r)) (omega arith) (blanked refl body))) in
+    subst (λ (y : List ℕ). Cuts (Some 0) g y (word g true (words.Name n q) ∷ word true false words.Is
+    ∷ listed x true ws))
+    (sym (append_assoc n (codes " = " ++ (text_of x ++ 10 ∷ [])) r ∙ ap (λ (y : List ℕ). n ++ (codes " = " ++ y))
+    (append_assoc (text_of x) (10 ∷ []) r))) front
 
-pub cuts-rules : (g : Bool) (rules : List Rule) → AreFormedRules rules → Cuts (Some 0) g (grammar_text rules) (listed_rules g rules)
+pub cuts-rules : (g : Bool) (rules : List Rule) → AreFormedRules rules
+    → Cuts (Some 0) g (grammar_text rules) (listed_rules g rules)
 cuts-rules g [] h = nothing
-cuts-rules g (rule ∷ rules) h = adds-rule rule.name rule.span rule.body h.0 h.1 (grammar_text rules) (listed_rules true rules) (cuts-rules true rules h.2)
+cuts-rules g (rule ∷ rules) h = adds-rule rule.name rule.span rule.body h.0 h.1 (grammar_text rules)
+    (listed_rules true rules) (cuts-rules true rules h.2)

@@ -37,7 +37,8 @@ pub record IsRead (source : List ℕ) (rules : table.Rules Elem) (redefined earl
 
 -- the rules that a text reads as, its canonical text reads as again, where that is not too long
 abbrev pub ReadBack : Type 0
-ReadBack = (source : List ℕ) (ds : List Definition) → Reads source ds → length (grammar_text (table_of ds)) ≤ MAX_GRAMMAR → ReadsAs (grammar_text (table_of ds)) (table_of ds)
+ReadBack = (source : List ℕ) (ds : List Definition) → Reads source ds → length (grammar_text (table_of ds))
+    ≤ MAX_GRAMMAR → ReadsAs (grammar_text (table_of ds)) (table_of ds)
 
 -- the canonical text tells nothing of spans
 abbrev pub SpansUnseen : Type 0
@@ -45,8 +46,10 @@ SpansUnseen = (rules again : List Rule) → SameButSpans rules again → grammar
 
 -- the canonical text of what a canonical text reads as is that text
 abbrev pub PrintsItself : Type 0
-PrintsItself = (source : List ℕ) (ds again : List Definition) → Reads source ds → Reads (grammar_text (table_of ds)) again → grammar_text (table_of again) ≡ grammar_text (table_of ds)
+PrintsItself = (source : List ℕ) (ds again : List Definition) → Reads source ds
+    → Reads (grammar_text (table_of ds)) again → grammar_text (table_of again) ≡ grammar_text (table_of ds)
 
 -- the rules that a text reads as are formed
 abbrev pub ReadsFormed : Type 0
-ReadsFormed = (source : List ℕ) (ds : List Definition) → Reads source ds → IsSome (table_of ds) × AreFormedRules (table_of ds)
+ReadsFormed = (source : List ℕ) (ds : List Definition) → Reads source ds → IsSome (table_of ds)
+    × AreFormedRules (table_of ds)

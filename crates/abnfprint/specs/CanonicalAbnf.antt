@@ -1,9 +1,11 @@
 -- The canonical text of a grammar in ABNF (RFC 5234, section 4; RFC 7405).
-use Rattle.std.specs.Prelude.{ℕ, ◌==◌, nat_lt, cond, codes, Bool, true, false, List, [], ◌∷◌, ◌++◌, map, decimal, Option, Some, None}
+use Rattle.std.specs.Prelude.{ℕ, ◌==◌, nat_lt, cond, codes, Bool, true, false, List, [], ◌∷◌, ◌++◌, map, decimal}
+use Rattle.std.specs.Prelude.{Option, Some, None}
 use Rattle.std.specs.Fmt.{digit_glyph}
 use Rattle.std.specs.Int.Digits.{digits_of}
 use Rattle.std.specs.List.{flat_map}
-use Rattle.abnfread.specs.Element.{Element, Elements, Text, Values, Range, Concat, Alt, Rep, Opt, Name, Prose, none, more, Rule}
+use Rattle.abnfread.specs.Element.{Element, Elements, Text, Values, Range, Concat, Alt, Rep, Opt, Name, Prose, none}
+use Rattle.abnfread.specs.Element.{more, Rule}
 use Rattle.abnfprint.specs.declared.place.Place.{Place}
 use Rattle.abnfprint.specs.declared.place.Place.TheVariants.{Alternative, Member, Repeated}
 

@@ -3,7 +3,8 @@ use Rattle.std.specs.Prelude.{◌≡◌, ℕ, ◌≤◌, true, List, [], ◌∷�
 use Rattle.std.specs.Char.{is_ascii_alphabetic}
 use Rattle.abnfread.specs.declared.number.TheConstants.{MAX_REPEAT, MAX_VALUE}
 use Rattle.abnfread.specs.AbnfSlices.{Run, continues_name, is_quotable, is_prose}
-use Rattle.abnfread.specs.Element.{Element, Elements, Text, Values, Range, Concat, Alt, Rep, Opt, Name, Prose, none, more, Rule}
+use Rattle.abnfread.specs.Element.{Element, Elements, Text, Values, Range, Concat, Alt, Rep, Opt, Name, Prose, none}
+use Rattle.abnfread.specs.Element.{more, Rule}
 use Rattle.abnfread.specs.Numerals.{IsWithin}
 
 -- a letter, and then letters, digits and `-`

@@ -15,7 +15,8 @@ use ruletable::{Sink, WriteFault, write_pieces, write_whole};
 // An element within another, in parentheses where it needs them.
 #[cycle(printing)]
 fn print_at<W: Sink>(e: &Elem, place: Place, w: &mut W) -> Result<(), WriteFault>
-    ensures bytes { Writes (W.contents w.old) (W.contents w.new) (canon.around (canon.wraps place (element_of e.now)) (canon.text_of (element_of e.now))) result }
+    ensures bytes { Writes (W.contents w.old) (W.contents w.new)
+        (canon.around (canon.wraps place (element_of e.now)) (canon.text_of (element_of e.now))) result }
     ensures flag { Flags (W.failed w.old) (W.failed w.new) result }
 {
     if is_wrapped(e, place) {
@@ -33,7 +34,8 @@ fn print_between<W: Sink>(
     behind: &[u8],
     w: &mut W,
 ) -> Result<(), WriteFault>
-    ensures bytes { Writes (W.contents w.old) (W.contents w.new) (before.now ++ (canon.text_of (element_of e.now) ++ behind.now)) result }
+    ensures bytes { Writes (W.contents w.old) (W.contents w.new)
+        (before.now ++ (canon.text_of (element_of e.now) ++ behind.now)) result }
     ensures flag { Flags (W.failed w.old) (W.failed w.new) result }
 {
     match write_whole(w, before) {
@@ -54,7 +56,8 @@ fn print_repeated<W: Sink>(
     operand: &Elem,
     w: &mut W,
 ) -> Result<(), WriteFault>
-    ensures bytes { Writes (W.contents w.old) (W.contents w.new) (canon.text_of (element.Rep least most (element_of operand.now))) result }
+    ensures bytes { Writes (W.contents w.old) (W.contents w.new)
+        (canon.text_of (element.Rep least most (element_of operand.now))) result }
     ensures flag { Flags (W.failed w.old) (W.failed w.new) result }
 {
     match print_repeat(least, most, w) {
@@ -89,7 +92,8 @@ fn print_elem<W: Sink>(e: &Elem, w: &mut W) -> Result<(), WriteFault>
 // Members or alternatives, with a mark between each two.
 #[cycle(printing)]
 fn print_all<W: Sink>(es: &[Elem], place: Place, mark: &[u8], w: &mut W) -> Result<(), WriteFault>
-    ensures bytes { Writes (W.contents w.old) (W.contents w.new) (canon.joined place mark.now (elements_of es.now)) result }
+    ensures bytes { Writes (W.contents w.old) (W.contents w.new) (canon.joined place mark.now (elements_of es.now))
+        result }
     ensures flag { Flags (W.failed w.old) (W.failed w.new) result }
 {
     for (i, e) in es.iter().enumerate() {
@@ -118,7 +122,8 @@ fn print_mark<W: Sink>(i: usize, mark: &[u8], w: &mut W) -> Result<(), WriteFaul
 
 // A definition: the name, ` = `, the body and LF.
 fn print_definition<W: Sink>(name: &[u8], body: &Elem, w: &mut W) -> Result<(), WriteFault>
-    ensures bytes { Writes (W.contents w.old) (W.contents w.new) (canon.definition_text name.now (element_of body.now)) result }
+    ensures bytes { Writes (W.contents w.old) (W.contents w.new) (canon.definition_text name.now (element_of body.now))
+        result }
     ensures flag { Flags (W.failed w.old) (W.failed w.new) result }
 {
     match write_pieces(w, &[name, b" = "]) {
@@ -141,7 +146,9 @@ fn print_definition<W: Sink>(name: &[u8], body: &Elem, w: &mut W) -> Result<(), 
 pub fn print_abnf<W: Sink>(abnf: &Abnf, w: &mut W) -> Result<(), WriteFault>
     ensures bytes { Writes (W.contents w.old) (W.contents w.new) (canon.grammar_text (rules_of abnf.now.rules)) result }
     ensures flag { Flags (W.failed w.old) (W.failed w.new) result }
-    ensures read_back { (source : List ℕ) → IsRead source abnf.now.rules abnf.now.redefined.items abnf.now.extended.items → length (canon.grammar_text (rules_of abnf.now.rules)) ≤ MAX_GRAMMAR → ReadsAs (canon.grammar_text (rules_of abnf.now.rules)) (rules_of abnf.now.rules) }
+    ensures read_back { (source : List ℕ) → IsRead source abnf.now.rules abnf.now.redefined.items
+        abnf.now.extended.items → length (canon.grammar_text (rules_of abnf.now.rules)) ≤ MAX_GRAMMAR
+        → ReadsAs (canon.grammar_text (rules_of abnf.now.rules)) (rules_of abnf.now.rules) }
 {
     for id in 0..abnf.rules.len() {
         match print_definition(abnf.rules.name(id), abnf.rules.body(id), w) {
@@ -154,8 +161,8 @@ pub fn print_abnf<W: Sink>(abnf: &Abnf, w: &mut W) -> Result<(), WriteFault>
 
 /// Laws of canonical texts. The rules that a text reads as, their canonical text reads as too, but for spans, and as
 /// nothing else; no bracket is too many, and no number too large. The canonical text tells nothing of spans, so that of
-/// a canonical text is itself. And the rules that a text reads as are formed: names are names, texts and prose hold what
-/// they may, no concatenation or alternation has fewer than two parts, and no number is over its limit.
+/// a canonical text is itself. And the rules that a text reads as are formed: names are names, texts and prose hold
+/// what they may, no concatenation or alternation has fewer than two parts, and no number is over its limit.
 pub fn is_abnf_read_back()
     ensures read_back { ReadBack }
     ensures spans { SpansUnseen }

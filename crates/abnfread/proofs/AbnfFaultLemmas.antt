@@ -32,16 +32,21 @@ one-reading text a b r q =
     one-grammar r.grammar (let g = q.grammar in rw words at g)
 
 -- no token of what is read decides
-none-decides : (text : List ℕ) (ds : List Definition) (line : ℕ) (D : List Marked → ℕ → Marked → Type 0) → ((ms : List Marked) (i : ℕ) (m : Marked) → D ms i m → IsHopeless ms i ⊎ IsOver ms i) → Reads text ds → IsDecidedAt text line D → ⊥
+none-decides : (text : List ℕ) (ds : List Definition) (line : ℕ) (D : List Marked → ℕ → Marked → Type 0)
+    → ((ms : List Marked) (i : ℕ) (m : Marked) → D ms i m → IsHopeless ms i ⊎ IsOver ms i) → Reads text ds
+    → IsDecidedAt text line D → ⊥
 none-decides text ds line D f r h =
     let all : h.all ≡ r.tokens = marked-one text h.all r.tokens h.are_tokens r.are_tokens in
     let there : D r.tokens h.number h.token = (let d = h.decides in rw all at d) in
-    lemmas.none-deciding Viable AreWithin (lemmas.viable-take Says Grammar) within-take r.tokens h.number (lemmas.viable-whole Says Grammar ds r.say r.grammar) r.within (f r.tokens h.number h.token there)
+    lemmas.none-deciding Viable AreWithin (lemmas.viable-take Says Grammar) within-take r.tokens h.number
+    (lemmas.viable-whole Says Grammar ds r.say r.grammar) r.within (f r.tokens h.number h.token there)
 
-pub no-fault : (text : List ℕ) (ds : List Definition) (fault : ReadFault) → Reads text ds → IsFaultOf text fault → fault ≡ faults.Memory
+pub no-fault : (text : List ℕ) (ds : List Definition) (fault : ReadFault) → Reads text ds → IsFaultOf text fault
+    → fault ≡ faults.Memory
 no-fault text ds (faults.Syntax line) r f = absurd (none-decides text ds line IsSyntax (λ ms i m h. inl h) r f)
 no-fault text ds (faults.Depth line) r f = absurd (none-decides text ds line IsTooDeep (λ ms i m h. inr h.0) r f)
-no-fault text ds (faults.NumberTooLarge line) r f = absurd (none-decides text ds line IsTooLarge (λ ms i m h. inr h.0) r f)
+no-fault text ds (faults.NumberTooLarge line) r f =
+    absurd (none-decides text ds line IsTooLarge (λ ms i m h. inr h.0) r f)
 no-fault text ds faults.TooLong r f = absurd (let w = r.size in omega arith)
 no-fault text ds faults.Memory r f = refl
 no-fault text ds (faults.CodePredicate line) r f = absurd f

@@ -9,7 +9,9 @@ use Rattle.abnfread.specs.declared.kind.AbnfKind.{AbnfKind}
 use Rattle.abnfread.specs.declared.kind.AbnfKind.TheVariants.{Name, Repeat, Bad, End}
 use Rattle.abnfread.specs.AbnfKinds.{ends_list}
 use Rattle.abnfread.specs.BaseDigits.{is_digit}
-use Rattle.abnfread.specs.AbnfSlices.{Run, none, more, Digits, digits, Dotted, no_dot, dot, Numbers, values, range, Count, exactly, at_least, Piece, blank, crlf, comment, White, Stands, name, is, adds, counted, star, text, cased, num, prose, First}
+use Rattle.abnfread.specs.AbnfSlices.{Run, none, more, Digits, digits, Dotted, no_dot, dot, Numbers, values, range}
+use Rattle.abnfread.specs.AbnfSlices.{Count, exactly, at_least, Piece, blank, crlf, comment, White, Stands, name, is}
+use Rattle.abnfread.specs.AbnfSlices.{adds, counted, star, text, cased, num, prose, First}
 use Rattle.abnfread.proofs.ByteRunLemmas.{run-to}
 use Rattle.abnfread.proofs.AbnfFirstLemmas.{letter-digit, letter-dark, digit-dark, tells-case}
 
@@ -106,12 +108,14 @@ nothing-dark : (m : List ℕ) → Piece [] m → ⊥
 nothing-dark m h = elim h [ ]
 
 pub first-dark : {k : AbnfKind} {t r : List ℕ} → First k t r → (m : List ℕ) → Piece t m → ⊥
-first-dark h = firsts.first-dark Piece Stands Bad End stands-part stands-one piece-end piece-one stands-dark nothing-dark h
+first-dark h = firsts.first-dark Piece Stands Bad End stands-part stands-one piece-end piece-one stands-dark
+    nothing-dark h
 
 pub white-ends : {t r : List ℕ} → White t r → IsEnd t r
 white-ends h = firsts.white-end Piece piece-end piece-one h
 
-pub white-unique : {t m n : List ℕ} → ((r : List ℕ) → Piece m r → ⊥) → ((r : List ℕ) → Piece n r → ⊥) → White t m → White t n → m ≡ n
+pub white-unique : {t m n : List ℕ} → ((r : List ℕ) → Piece m r → ⊥) → ((r : List ℕ) → Piece n r → ⊥) → White t m
+    → White t n → m ≡ n
 white-unique p q h k = firsts.white-one Piece piece-end piece-one p q h k
 
 pub first-ends : {k : AbnfKind} {t r : List ℕ} → First k t r → IsEnd t r
@@ -120,5 +124,6 @@ first-ends h = firsts.first-ends Piece Stands Bad End stands-part h
 pub first-less : {k : AbnfKind} {t r : List ℕ} → ends_list k ≡ false → First k t r → length r < length t
 first-less e h = firsts.first-less Piece Stands Bad End stands-part ends_list refl e h
 
-pub one-next : (j k : AbnfKind) (t a b r s : List ℕ) → White t a → First j a r → White t b → First k b s → (j ≡ k) × (a ≡ b) × (r ≡ s)
+pub one-next : (j k : AbnfKind) (t a b r s : List ℕ) → White t a → First j a r → White t b → First k b s → (j ≡ k)
+    × (a ≡ b) × (r ≡ s)
 one-next = firsts.one-next Piece Stands Bad End stands-part stands-one piece-end piece-one stands-dark nothing-dark

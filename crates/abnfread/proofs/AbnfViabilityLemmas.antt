@@ -7,7 +7,8 @@ use Rattle.abnfread.specs.Element as e
 use Rattle.abnfread.specs.Element.{Element, Elements, none, more, Opt, Definition}
 use Rattle.abnfread.specs.AbnfWords.{Word, word, Name, Is, Text, End}
 use Rattle.abnfread.specs.AbnfSpelling.{Grammar, Begins}
-use Rattle.abnfread.specs.AbnfMachine.{snoc, finish, times, apply, paren, brack, Level, level, Head, ended, fresh, awaits, read, Config, start, named, body, done, step, run}
+use Rattle.abnfread.specs.AbnfMachine.{snoc, finish, times, apply, paren, brack, Level, level, Head, ended, fresh}
+use Rattle.abnfread.specs.AbnfMachine.{awaits, read, Config, start, named, body, done, step, run}
 use Rattle.abnfread.proofs.AbnfMachineLemmas.{grammar-runs}
 use Rattle.abnfread.proofs.AbnfSpellingLemmas.{closer, runs-grammar}
 
@@ -26,17 +27,27 @@ filler = word false false (Text false [])
 
 completes-read : (o : List Level) (h : Head) (bs es : Elements) → Completes (body h o bs es read) (closers o)
 completes-read [] h bs es = record { rules = ended h (finish bs es); runs = refl }
-completes-read (level b f t paren ∷ o) h bs es = let c = completes-read o h b (snoc f (apply t (finish bs es))) in record { rules = c.rules; runs = c.runs }
-completes-read (level b f t brack ∷ o) h bs es = let c = completes-read o h b (snoc f (apply t (Opt (finish bs es)))) in record { rules = c.rules; runs = c.runs }
+completes-read (level b f t paren ∷ o) h bs es = let c = completes-read o h b (snoc f (apply t (finish bs es))) in
+    record { rules = c.rules; runs = c.runs }
+completes-read (level b f t brack ∷ o) h bs es = let c = completes-read o h b (snoc f (apply t (Opt (finish bs es)))) in
+    record { rules = c.rules; runs = c.runs }
 
 nowhere : Span
 nowhere = record { start = 0; end = 0 }
 
 completion : (c : Config) → (s : List Word) × Completes c s
-completion start = (word false true (Name [] nowhere) ∷ word false false Is ∷ filler ∷ word false false End ∷ [], record { rules = _; runs = refl })
-completion (named ds n p) = (word false false Is ∷ filler ∷ word false false End ∷ [], record { rules = _; runs = refl })
-completion (body h o bs es fresh) = let c = completes-read o h bs (snoc es (e.Text false [])) in (filler ∷ closers o, record { rules = c.rules; runs = c.runs })
-completion (body h o bs es (awaits a b)) = let c = completes-read o h bs (snoc es (apply (times a b) (e.Text false []))) in (filler ∷ closers o, record { rules = c.rules; runs = c.runs })
+completion start = (
+  word false true (Name [] nowhere) ∷ word false false Is ∷ filler ∷ word false false End ∷ [],
+  record { rules = _; runs = refl },
+)
+completion (named ds n p) = (
+  word false false Is ∷ filler ∷ word false false End ∷ [],
+  record { rules = _; runs = refl },
+)
+completion (body h o bs es fresh) = let c = completes-read o h bs (snoc es (e.Text false [])) in
+    (filler ∷ closers o, record { rules = c.rules; runs = c.runs })
+completion (body h o bs es (awaits a b)) = let c = completes-read o h bs (snoc es (apply (times a b) (e.Text false [])))
+    in (filler ∷ closers o, record { rules = c.rules; runs = c.runs })
 completion (body h o bs es read) = (closers o, completes-read o h bs es)
 completion (done ds) = ([], record { rules = ds; runs = refl })
 
@@ -44,7 +55,9 @@ completed : (c : Config) → (s : List Word) × (g : List Definition) × (run c 
 completed c = let q = completion c in (q.0, q.1.rules, q.1.runs)
 
 pub runs-begins : (ws : List Word) (c : Config) → run start ws ≡ Some c → Begins ws
-runs-begins = taking.runs-begins step Grammar start done (λ ws g h. grammar-runs h) (λ ws g h. runs-grammar g ws h) completed
+runs-begins = taking.runs-begins step Grammar start done (λ ws g h. grammar-runs h) (λ ws g h. runs-grammar g ws h)
+    completed
 
 pub stops-begins : (ws : List Word) → run start ws ≡ None → Begins ws → ⊥
-stops-begins = taking.stops-begins step Grammar start done (λ ws g h. grammar-runs h) (λ ws g h. runs-grammar g ws h) completed
+stops-begins = taking.stops-begins step Grammar start done (λ ws g h. grammar-runs h) (λ ws g h. runs-grammar g ws h)
+    completed

@@ -1,6 +1,7 @@
 -- The body with which a definition begins a rule.
 -- Serves: read_abnf
-use Rattle.std.proofs.Common.{◌≡◌, ℕ, ◌<◌, Bool, true, false, cond, ◌&&◌, Option, Some, None, List, [], ◌∷◌, ◌++◌, length, position, refl, sym, ap, ◌∙◌, arith}
+use Rattle.std.proofs.Common.{◌≡◌, ℕ, ◌<◌, Bool, true, false, cond, ◌&&◌, Option, Some, None, List, [], ◌∷◌, ◌++◌}
+use Rattle.std.proofs.Common.{length, position, refl, sym, ap, ◌∙◌, arith}
 use Rattle.std.specs.Prelude.{slice_get}
 use Rattle.std.proofs.lemmas.List.Quantifiers.{position-Some}
 use Rattle.ruletable.specs.Rules as table
@@ -21,17 +22,21 @@ use Rattle.abnfread.proofs.ElementListLemmas.{elements_of-push}
 abbrev places : List ℕ → List Rule → Option ℕ
 places n rules = position (λ (rule : Rule). same_name Fold n rule.name) rules
 
-core-place : (core : table.Rules Elem) (n : List ℕ) (o : Option ℕ) → IsCoreTable core → find_in core n ≡ o → places n core_list ≡ o
+core-place : (core : table.Rules Elem) (n : List ℕ) (o : Option ℕ) → IsCoreTable core → find_in core n ≡ o
+    → places n core_list ≡ o
 core-place core n o c h = sym (found-in core n c.names ∙ ap (places n) c.listed) ∙ h
 
 abbrev body_by : Option ℕ → Option Element
 body_by o = elim o [ None ↦ None | Some id ↦ slice_get core_bodies id ]
 
-core-body : (core : table.Rules Elem) (n : List ℕ) (o : Option ℕ) → IsCoreTable core → find_in core n ≡ o → body_in core_list n ≡ body_by o
+core-body : (core : table.Rules Elem) (n : List ℕ) (o : Option ℕ) → IsCoreTable core → find_in core n ≡ o
+    → body_in core_list n ≡ body_by o
 core-body core n o c h = ap body_by (core-place core n o c h)
 
-pub core-within : (core : table.Rules Elem) (n : List ℕ) (id : ℕ) → IsCoreTable core → find_in core n ≡ Some id → id < 16
-core-within core n id c h = (position-Some (λ (rule : Rule). same_name Fold n rule.name) core_list id (record { name = []; body = Prose []; span = nowhere }) (core-place core n (Some id) c h)).0
+pub core-within : (core : table.Rules Elem) (n : List ℕ) (id : ℕ) → IsCoreTable core → find_in core n ≡ Some id
+    → id < 16
+core-within core n id c h = (position-Some (λ (rule : Rule). same_name Fold n rule.name) core_list id
+    (record { name = []; body = Prose []; span = nowhere }) (core-place core n (Some id) c h)).0
 
 module _ (d : CodeDefinition) where
   abbrev name_of : List ℕ
@@ -49,23 +54,32 @@ module _ (d : CodeDefinition) where
     sym (ap (λ (b : Bool). b && early_by (body_in core_list name_of)) e),
   )
 
-  first-by : (o : Option Element) (e : Elem) (early : Bool) → d.adds ≡ true → body_in core_list name_of ≡ o → element_of e ≡ added_by o → early ≡ early_by o → IsFirstBody (definition_from d) e early
+  first-by : (o : Option Element) (e : Elem) (early : Bool) → d.adds ≡ true → body_in core_list name_of ≡ o
+      → element_of e ≡ added_by o → early ≡ early_by o → IsFirstBody (definition_from d) e early
   first-by o e early a h x y = (
-    x ∙ sym (ap added_by h) ∙ sym (ap (λ (b : Bool). cond b (added_by (body_in core_list name_of)) (element_of d.body)) a),
+    x ∙ sym (ap added_by h) ∙ sym (ap (λ (b : Bool). cond b (added_by (body_in core_list name_of))
+        (element_of d.body)) a),
     y ∙ sym (ap early_by h) ∙ sym (ap (λ (b : Bool). b && early_by (body_in core_list name_of)) a),
   )
 
-  pub first-core : (core : table.Rules Elem) (id : ℕ) (c e : Elem) → IsCoreTable core → d.adds ≡ true → find_in core name_of ≡ Some id → slice_get core_bodies id ≡ Some (element_of c) → element_of e ≡ joined (element_of c) (element_of d.body) →
+  pub first-core : (core : table.Rules Elem) (id : ℕ) (c e : Elem) → IsCoreTable core → d.adds ≡ true
+      → find_in core name_of ≡ Some id → slice_get core_bodies id ≡ Some (element_of c)
+      → element_of e ≡ joined (element_of c) (element_of d.body) →
       IsFirstBody (definition_from d) e false
-  first-core core id c e k a h s j = first-by (Some (element_of c)) e false a (core-body core name_of (Some id) k h ∙ s) j refl
+  first-core core id c e k a h s j = first-by (Some (element_of c)) e false a (core-body core name_of (Some id) k h ∙ s)
+      j refl
 
-  pub first-new : (core : table.Rules Elem) → IsCoreTable core → d.adds ≡ true → find_in core name_of ≡ None → IsFirstBody (definition_from d) d.body true
+  pub first-new : (core : table.Rules Elem) → IsCoreTable core → d.adds ≡ true → find_in core name_of ≡ None
+      → IsFirstBody (definition_from d) d.body true
   first-new core k a h = first-by None d.body true a (core-body core name_of None k h) refl refl
 
 -- one alternative more
-pub one-joined : (all new rest left : List Elem) (e : Elem) (whole : Elements) → append (elements_of all) (elements_of left) ≡ whole → left ≡ e ∷ rest → new ≡ all ++ e ∷ [] → append (elements_of new) (elements_of rest) ≡ whole
+pub one-joined : (all new rest left : List Elem) (e : Elem) (whole : Elements)
+    → append (elements_of all) (elements_of left) ≡ whole → left ≡ e ∷ rest → new ≡ all ++ e ∷ []
+    → append (elements_of new) (elements_of rest) ≡ whole
 one-joined all new rest left e whole h p q =
-    ap (λ (xs : Elements). append xs (elements_of rest)) (elements_of-push all new e q) ∙ append_assoc (elements_of all) (more (element_of e) none) (elements_of rest)
+    ap (λ (xs : Elements). append xs (elements_of rest)) (elements_of-push all new e q)
+    ∙ append_assoc (elements_of all) (more (element_of e) none) (elements_of rest)
     ∙ ap (λ (xs : List Elem). append (elements_of all) (elements_of xs)) (sym p) ∙ h
 
 pub length-none : {X : Type 0} (xs : List X) → length xs ≡ 0 → xs ≡ []

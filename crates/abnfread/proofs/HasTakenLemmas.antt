@@ -1,6 +1,8 @@
 -- What the reader's loop has come to, and what it says where it stops.
 -- Serves: read_abnf
-use Rattle.std.proofs.Common.{◌≡◌, ℕ, ◌<◌, ◌≤◌, ◌==◌, not, Bool, true, false, Option, Some, None, List, [], ◌∷◌, ◌++◌, length, take, drop, slice_get, refl, sym, ap, ◌∙◌, append_assoc, append-nil, length-append, arith, Result, Ok, Err}
+use Rattle.std.proofs.Common.{◌≡◌, ℕ, ◌<◌, ◌≤◌, ◌==◌, not, Bool, true, false, Option, Some, None, List, [], ◌∷◌, ◌++◌}
+use Rattle.std.proofs.Common.{length, take, drop, slice_get, refl, sym, ap, ◌∙◌, append_assoc, append-nil}
+use Rattle.std.proofs.Common.{length-append, arith, Result, Ok, Err}
 use Rattle.std.proofs.Math.Seq.{get_or-append_seam}
 use Rattle.std.proofs.lemmas.List.{take-append-drop}
 use Rattle.std.proofs.lemmas.Option.{slice_get-get_or}
@@ -21,10 +23,12 @@ use Rattle.abnfread.specs.declared.reader.Stop.{Stop}
 use Rattle.abnfread.specs.declared.reader.Stop.TheVariants as stops
 use Rattle.abnfread.specs.declared.words.Said.{Said as CodeSaid}
 use Rattle.abnfread.specs.AbnfKinds.{ends_list, is_repeat}
-use Rattle.abnfread.specs.AbnfMachine.{Config, start, named, body, done, ended, finish, fresh, awaits, read, step, run, levels_in}
+use Rattle.abnfread.specs.AbnfMachine.{Config, start, named, body, done, ended, finish, fresh, awaits, read, step, run}
+use Rattle.abnfread.specs.AbnfMachine.{levels_in}
 use Rattle.abnfread.specs.AbnfReader.{said_of, Steps, Takes, Refuses, IsSaid, sample, is_there}
 use Rattle.abnfread.specs.AbnfReading.{Reads, IsDecidedAt, is_bracket, IsSyntax, IsTooDeep, IsTooLarge}
-use Rattle.abnfread.specs.AbnfSays.{SaysKind, says_name, says_lparen, says_lbrack, Says, says, says_end, SayAll, Viable, IsSmall, AreSmall, IsShallow, AreWithin, IsOver}
+use Rattle.abnfread.specs.AbnfSays.{SaysKind, says_name, says_lparen, says_lbrack, Says, says, says_end, SayAll, Viable}
+use Rattle.abnfread.specs.AbnfSays.{IsSmall, AreSmall, IsShallow, AreWithin, IsOver}
 use Rattle.abnfread.specs.AbnfSlices.{White, First}
 use Rattle.abnfread.specs.AbnfSpelling.{Grammar}
 use Rattle.abnfread.specs.AbnfWords as words
@@ -34,7 +38,8 @@ use Rattle.abnfread.specs.MarkedTokens.{Marked, marked, tok_of, is_first, marks,
 use Rattle.abnfread.proofs.AbnfSpellingLemmas.{runs-grammar}
 use Rattle.abnfread.proofs.AbnfViabilityLemmas.{runs-begins, stops-begins}
 use Rattle.abnfread.proofs.NumberStepLemmas.{number-like, there-some, there-none}
-use Rattle.abnfread.proofs.OpenBracketLemmas.{step-opens, shallow-next, deeper-next, shallow-front, levels-within, opens-bracket}
+use Rattle.abnfread.proofs.OpenBracketLemmas.{step-opens, shallow-next, deeper-next, shallow-front, levels-within}
+use Rattle.abnfread.proofs.OpenBracketLemmas.{opens-bracket}
 use Rattle.abnfread.proofs.SaysKindLemmas.{one-word, marked-said, large-number}
 
 -- the tokens so far and those that are left are the text's, and the machine took what those so far say
@@ -74,20 +79,34 @@ pub within-take : (i : ℕ) (ms : List Marked) → AreWithin ms → AreWithin (t
 within-take i ms h = within-front (take i ms) (drop i ms) (rw (take-append-drop i ms) h)
 
 -- before the first token
-pub none-taken : (text : List ℕ) (left : List Marked → Type 0) (c : Config) (all : List Marked) → left all → AreMarked text all → c ≡ start → HasTaken text left c []
-none-taken text left c all are h e = record { rest = all; are_left = are; all = h; words = []; say = say_none; reached = ap Some (sym e); shallow = omega arith; small = tt }
+pub none-taken : (text : List ℕ) (left : List Marked → Type 0) (c : Config) (all : List Marked) → left all
+    → AreMarked text all → c ≡ start → HasTaken text left c []
+none-taken text left c all are h e = record {
+  rest = all;
+  are_left = are;
+  all = h;
+  words = [];
+  say = say_none;
+  reached = ap Some (sym e);
+  shallow = omega arith;
+  small = tt;
+}
 
 get-seam : (ms : List Marked) (m : Marked) (us : List Marked) → slice_get (ms ++ m ∷ us) (length ms) ≡ Some m
-get-seam ms m us = slice_get-get_or (ms ++ m ∷ us) (length ms) m (omega (arith, length-append ms (m ∷ us))) ∙ ap Some (get_or-append_seam ms m us m)
+get-seam ms m us = slice_get-get_or (ms ++ m ∷ us) (length ms) m (omega (arith, length-append ms (m ∷ us)))
+    ∙ ap Some (get_or-append_seam ms m us m)
 
-number-no_bracket : {k : AbnfKind} {z : List ℕ} {p : Span} {s : Said} (g f : Bool) → SaysKind k z p s → (IsSmall s → ⊥) → is_bracket (marked (tok k z p) g f) ≡ false
+number-no_bracket : {k : AbnfKind} {z : List ℕ} {p : Span} {s : Said} (g f : Bool) → SaysKind k z p s → (IsSmall s → ⊥)
+    → is_bracket (marked (tok k z p) g f) ≡ false
 number-no_bracket g f says_name h = refl
 number-no_bracket g f says_end h = refl
 number-no_bracket g f says_lparen h = absurd (h tt)
 number-no_bracket g f says_lbrack h = absurd (h tt)
 number-no_bracket g f _ h = refl
 
-module _ {text : List ℕ} {left : List Marked → Type 0} {c : Config} {ms : List Marked} (h : HasTaken text left c ms) (k : AbnfKind) (z : List ℕ) (p : Span) (g f : Bool) (others : List Marked) (given : h.rest ≡ marked (tok k z p) g f ∷ others) where
+module _ {text : List ℕ} {left : List Marked → Type 0} {c : Config} {ms : List Marked} (h : HasTaken text left c ms)
+    (k : AbnfKind) (z : List ℕ) (p : Span) (g f : Bool) (others : List Marked)
+    (given : h.rest ≡ marked (tok k z p) g f ∷ others) where
   abbrev here : Marked
   here = marked (tok k z p) g f
 
@@ -98,7 +117,9 @@ module _ {text : List ℕ} {left : List Marked → Type 0} {c : Config} {ms : Li
   there-said = marked-said text ms k z p g f others whole
 
   -- one token more
-  pub one-taken : (next : List Marked → Type 0) (d : Config) (a b : Bool) (s : Said) → next others → Says here (word a b s) → IsSmall s → step c (word a b s) ≡ Some d → levels_in d ≤ MAX_OPEN → HasTaken text next d (ms ++ here ∷ [])
+  pub one-taken : (next : List Marked → Type 0) (d : Config) (a b : Bool) (s : Said) → next others
+      → Says here (word a b s) → IsSmall s → step c (word a b s) ≡ Some d → levels_in d ≤ MAX_OPEN
+      → HasTaken text next d (ms ++ here ∷ [])
   one-taken next d a b s are say small steps le = record {
     rest = others;
     are_left = are;
@@ -118,33 +139,53 @@ module _ {text : List ℕ} {left : List Marked → Type 0} {c : Config} {ms : Li
   next-words w vs say all = lemmas.one-words Says one-word all (say-snoc Says h.say say)
 
   module _ (line : ℕ) (size : length text ≤ MAX_GRAMMAR) (there : line ≡ line_at Lf text (start_of (tok_of here))) where
-    decided : (D : List Marked → ℕ → Marked → Type 0) → D (ms ++ here ∷ others) (length ms) here → IsDecidedAt text line D
-    decided D d = record { size = size; all = ms ++ here ∷ others; are_tokens = whole; number = length ms; token = here; there = get-seam ms here others; decides = d; line_is = there }
+    decided : (D : List Marked → ℕ → Marked → Type 0) → D (ms ++ here ∷ others) (length ms) here
+        → IsDecidedAt text line D
+    decided D d = record {
+      size = size;
+      all = ms ++ here ∷ others;
+      are_tokens = whole;
+      number = length ms;
+      token = here;
+      there = get-seam ms here others;
+      decides = d;
+      line_is = there;
+    }
 
     pub hopeless-there : ((w : Word) → Says here w → step c w ≡ None) → IsDecidedAt text line IsSyntax
     hopeless-there stops = decided IsSyntax
-        (lemmas.hopeless-at Viable AreWithin ms here others (lemmas.viable-run Says Grammar step start runs-begins stops-begins one-word c h.say h.reached) within-here
+        (lemmas.hopeless-at Viable AreWithin ms here others
+        (lemmas.viable-run Says Grammar step start runs-begins stops-begins one-word c h.say h.reached) within-here
         (lemmas.not-viable Says Grammar step start runs-begins stops-begins one-word c h.say h.reached here stops))
 
-    over-there : (d : Config) (w : Word) → Says here w → step c w ≡ Some d → (AreWithin (ms ++ here ∷ []) → ⊥) → IsOver (ms ++ here ∷ others) (length ms)
+    over-there : (d : Config) (w : Word) → Says here w → step c w ≡ Some d → (AreWithin (ms ++ here ∷ []) → ⊥)
+        → IsOver (ms ++ here ∷ others) (length ms)
     over-there d w say steps over =
-        lemmas.over-at Viable AreWithin ms here others (lemmas.viable-next Says Grammar step start runs-begins stops-begins one-word c h.say h.reached here w d say steps) within-here over
+        lemmas.over-at Viable AreWithin ms here others
+        (lemmas.viable-next Says Grammar step start runs-begins stops-begins one-word c h.say h.reached here w d say
+        steps) within-here over
 
-    pub too-deep : (d : Config) (a b : Bool) (s : Said) → SaysKind k z p s → Says here (word a b s) → step c (word a b s) ≡ Some d → MAX_OPEN < levels_in d → IsDecidedAt text line IsTooDeep
+    pub too-deep : (d : Config) (a b : Bool) (s : Said) → SaysKind k z p s → Says here (word a b s)
+        → step c (word a b s) ≡ Some d → MAX_OPEN < levels_in d → IsDecidedAt text line IsTooDeep
     too-deep d a b s said say steps lt = decided IsTooDeep (
       over-there d (word a b s) say steps (λ v. deeper-next h.words (word a b s) c d h.reached steps MAX_OPEN lt
           (let e = next-words (word a b s) v.words say v.say in let y = v.shallow in rw e at y)),
-      opens-bracket g f MAX_OPEN (levels_in c) said (levels-within h.words c MAX_OPEN h.reached h.shallow) (let e = step-opens c d a b s steps in rw e at lt),
+      opens-bracket g f MAX_OPEN (levels_in c) said (levels-within h.words c MAX_OPEN h.reached h.shallow)
+          (let e = step-opens c d a b s steps in rw e at lt),
     )
 
-    pub too-large : (a b : Bool) (s : Said) (d : Config) → SaysKind k z p s → Says here (word a b s) → (IsSmall s → ⊥) → step c (word a b s) ≡ Some d → IsDecidedAt text line IsTooLarge
+    pub too-large : (a b : Bool) (s : Said) (d : Config) → SaysKind k z p s → Says here (word a b s) → (IsSmall s → ⊥)
+        → step c (word a b s) ≡ Some d → IsDecidedAt text line IsTooLarge
     too-large a b s d said say large steps = decided IsTooLarge (
-      over-there d (word a b s) say steps (λ v. large (small-last h.words a b s (let e = next-words (word a b s) v.words say v.say in let y = v.small in rw e at y))),
+      over-there d (word a b s) say steps (λ v. large
+          (small-last h.words a b s (let e = next-words (word a b s) v.words say v.say in let y = v.small in
+          rw e at y))),
       number-no_bracket g f said large,
     )
 
 -- what the word of a token is
-pub says-kind : {k : AbnfKind} {z : List ℕ} {p : Span} {g f a b : Bool} {s : Said} → Says (marked (tok k z p) g f) (word a b s) → SaysKind k z p s
+pub says-kind : {k : AbnfKind} {z : List ℕ} {p : Span} {g f a b : Bool} {s : Said}
+    → Says (marked (tok k z p) g f) (word a b s) → SaysKind k z p s
 says-kind (says h) = h
 
 -- the text's tokens end in `End`, which is the first of no line that begins a rule
@@ -159,15 +200,23 @@ end-kind : (k : AbnfKind) → ends_list k ≡ true → k ≡ End
 end-kind End e = refl
 end-kind _ e = cc
 
-ends-one : (text : List ℕ) (m : Option ℕ) (n : ℕ) (k : AbnfKind) (z : List ℕ) (p : Span) → k ≡ End → EndsList (marks text m n (tok k z p ∷ []))
+ends-one : (text : List ℕ) (m : Option ℕ) (n : ℕ) (k : AbnfKind) (z : List ℕ) (p : Span) → k ≡ End
+    → EndsList (marks text m n (tok k z p ∷ []))
 ends-one text m n k z p e = rw e (record { front = []; slice = z; span = p; gap = _; whole = refl })
 
-marks-end : (text : List ℕ) (m : Option ℕ) {total : ℕ} {t : List ℕ} {ts : List (Tok AbnfKind)} (n : ℕ) → lexed.AreTokens White First ends_list total t ts → EndsList (marks text m n ts)
+marks-end : (text : List ℕ) (m : Option ℕ) {total : ℕ} {t : List ℕ} {ts : List (Tok AbnfKind)} (n : ℕ)
+    → lexed.AreTokens White First ends_list total t ts → EndsList (marks text m n ts)
 marks-end text m n (last_one {x = tok k z p} h e) = ends-one text m n k z p (end-kind k e)
 marks-end text m n (one_more {x} h e more) =
     let r = marks-end text m (lexed.end_of x) more in
     let first = marked x (not (start_of x == n)) (is_first text m x) in
-    record { front = first ∷ r.front; slice = r.slice; span = r.span; gap = r.gap; whole = ap (λ (ys : List Marked). first ∷ ys) r.whole }
+    record {
+      front = first ∷ r.front;
+      slice = r.slice;
+      span = r.span;
+      gap = r.gap;
+      whole = ap (λ (ys : List Marked). first ∷ ys) r.whole;
+    }
 
 end-done : (c d : Config) (g : Bool) → step c (word g false words.End) ≡ Some d → (ds : List Definition) × (d ≡ done ds)
 end-done start d g h = absurd (none-some h)
@@ -178,19 +227,25 @@ end-done (named ds n p) d g h = absurd (let k = h in cc)
 end-done (body i o bs es fresh) d g h = absurd (let k = h in cc)
 end-done (body i o bs es (awaits a b)) d true h = absurd (let k = h in cc)
 end-done (body i o bs es (awaits a b)) d false h = absurd (let k = h in cc)
-end-done (body i [] bs es read) d g h = (ended i (finish bs es), let same : d ≡ done (ended i (finish bs es)) = cc in same)
+end-done (body i [] bs es read) d g h = (
+  ended i (finish bs es),
+  let same : d ≡ done (ended i (finish bs es)) = cc in same,
+)
 end-done (body i (l ∷ o) bs es read) d g h = absurd (let k = h in cc)
 end-done (done ds) d g h = absurd (let k = h in cc)
 
-run-end : (x : Option Config) (c : Config) (g : Bool) → run_of step x (word g false words.End ∷ []) ≡ Some c → (ds : List Definition) × (c ≡ done ds)
+run-end : (x : Option Config) (c : Config) (g : Bool) → run_of step x (word g false words.End ∷ []) ≡ Some c
+    → (ds : List Definition) × (c ≡ done ds)
 run-end None c g e = absurd (let k = e in cc)
 run-end (Some d) c g e = end-done d c g (sym (run-snoc step [] (word g false words.End) d d refl) ∙ e)
 
-only-end : {z : List ℕ} {p : Span} {g : Bool} {ws : List Word} → SayAll (marked (tok End z p) g false ∷ []) ws → ws ≡ word g false words.End ∷ []
+only-end : {z : List ℕ} {p : Span} {g : Bool} {ws : List Word} → SayAll (marked (tok End z p) g false ∷ []) ws
+    → ws ≡ word g false words.End ∷ []
 only-end (say_more (says says_end) say_none) = refl
 
 -- no token is left
-module _ {text : List ℕ} {left : List Marked → Type 0} {c : Config} {ms : List Marked} (h : HasTaken text left c ms) (none : h.rest ≡ []) where
+module _ {text : List ℕ} {left : List Marked → Type 0} {c : Config} {ms : List Marked} (h : HasTaken text left c ms)
+    (none : h.rest ≡ []) where
   every : AreMarked text ms
   every = (let a = h.all in simp (none, append-nil) at a)
 
@@ -198,10 +253,13 @@ module _ {text : List ℕ} {left : List Marked → Type 0} {c : Config} {ms : Li
   all-done =
       let e = marks-end text (margin text every.tokens) 0 every.are_tokens in
       let last : ms ≡ e.front ++ marked (tok End e.slice e.span) e.gap false ∷ [] = every.same ∙ e.whole in
-      let s = say-split Says e.front (marked (tok End e.slice e.span) e.gap false ∷ []) (let y = h.say in rw last at y) in
+      let s = say-split Says e.front (marked (tok End e.slice e.span) e.gap false ∷ [])
+      (let y = h.say in rw last at y) in
       said-end s (sym (run-append step s.front s.back start) ∙ ap (run start) (sym s.whole) ∙ h.reached)
     where
-      said-end : {fs : List Marked} {z : List ℕ} {p : Span} {g : Bool} {ws : List Word} (s : Split Says fs (marked (tok End z p) g false ∷ []) ws) → run_of step (run start s.front) s.back ≡ Some c → (ds : List Definition) × (c ≡ done ds)
+      said-end : {fs : List Marked} {z : List ℕ} {p : Span} {g : Bool} {ws : List Word}
+          (s : Split Says fs (marked (tok End z p) g false ∷ []) ws) → run_of step (run start s.front) s.back ≡ Some c
+          → (ds : List Definition) × (c ≡ done ds)
       said-end {g = g} s e = run-end (run start s.front) c g (let q = only-end s.rest in rw q at e)
 
   pub all-read : (ds : List Definition) → c ≡ done ds → length text ≤ MAX_GRAMMAR → Reads text ds
@@ -216,29 +274,40 @@ module _ {text : List ℕ} {left : List Marked → Type 0} {c : Config} {ms : Li
   }
 
 -- what the reader does with the one thing that a token says
-pub taken-said : {A : Type 0} (c : Config) (k : AbnfKind) (z : List ℕ) (p : Span) (g f : Bool) (w : CodeSaid) (s : Said) (r : Result A Stop) (reader : Reader) → SaysKind k z p s → (said_of w ≡ s) × IsSmall s →
+pub taken-said : {A : Type 0} (c : Config) (k : AbnfKind) (z : List ℕ) (p : Span) (g f : Bool) (w : CodeSaid) (s : Said)
+    (r : Result A Stop) (reader : Reader) → SaysKind k z p s → (said_of w ≡ s) × IsSmall s →
     Steps (step c (word g f (said_of w))) r reader → Takes c (marked (tok k z p) g f) r reader
-taken-said c k z p g f w s (Ok u) reader h e steps = (g, f, s, says h, e.1, ap (λ (x : Said). step c (word g f x)) (sym e.0) ∙ steps)
-taken-said c k z p g f w s (Err stops.Hopeless) reader h e steps = λ v y. ap (step c) (one-word (marked (tok k z p) g f) v (word g f s) y (says h)) ∙ ap (λ (x : Said). step c (word g f x)) (sym e.0) ∙ steps
+taken-said c k z p g f w s (Ok u) reader h e steps =
+    (g, f, s, says h, e.1, ap (λ (x : Said). step c (word g f x)) (sym e.0) ∙ steps)
+taken-said c k z p g f w s (Err stops.Hopeless) reader h e steps =
+    λ v y. ap (step c) (one-word (marked (tok k z p) g f) v (word g f s) y (says h))
+    ∙ ap (λ (x : Said). step c (word g f x)) (sym e.0) ∙ steps
 taken-said c k z p g f w s (Err stops.TooLarge) reader h e steps = absurd steps
 taken-said c k z p g f w s (Err stops.Memory) reader h e steps = tt
 
 -- a number over its limit, where a number goes on or not
-module _ (c : Config) (k : AbnfKind) (z : List ℕ) (p : Span) (g f : Bool) (s : Said) (h : SaysKind k z p s) (large : IsSmall s → ⊥) where
-  pub large-taken : is_there (step c (word g f (sample (is_repeat k)))) ≡ true → Refuses c (marked (tok k z p) g f) stops.TooLarge
+module _ (c : Config) (k : AbnfKind) (z : List ℕ) (p : Span) (g f : Bool) (s : Said) (h : SaysKind k z p s)
+    (large : IsSmall s → ⊥) where
+  pub large-taken : is_there (step c (word g f (sample (is_repeat k)))) ≡ true
+      → Refuses c (marked (tok k z p) g f) stops.TooLarge
   large-taken e =
       let d = there-some (step c (word g f s)) (number-like c g f (large-number h large) ∙ e) in
       (g, f, s, d.0, says h, large, d.1)
 
-  pub large-hopeless : is_there (step c (word g f (sample (is_repeat k)))) ≡ false → Refuses c (marked (tok k z p) g f) stops.Hopeless
-  large-hopeless e = λ v y. ap (step c) (one-word (marked (tok k z p) g f) v (word g f s) y (says h)) ∙ there-none (step c (word g f s)) (number-like c g f (large-number h large) ∙ e)
+  pub large-hopeless : is_there (step c (word g f (sample (is_repeat k)))) ≡ false
+      → Refuses c (marked (tok k z p) g f) stops.Hopeless
+  large-hopeless e = λ v y. ap (step c) (one-word (marked (tok k z p) g f) v (word g f s) y (says h))
+      ∙ there-none (step c (word g f s)) (number-like c g f (large-number h large) ∙ e)
 
 -- a token whose word was told is not bad
-pub some-not_bad : {k b : AbnfKind} {r : Result (Option CodeSaid) NumberFault} {w : CodeSaid} → (k ≡ b → r ≡ Ok None) → r ≡ Ok (Some w) → k ≡ b → ⊥
+pub some-not_bad : {k b : AbnfKind} {r : Result (Option CodeSaid) NumberFault} {w : CodeSaid} → (k ≡ b → r ≡ Ok None)
+    → r ≡ Ok (Some w) → k ≡ b → ⊥
 some-not_bad f e q = let n = sym e ∙ f q in cc
 
-pub fault-not_bad : {k b : AbnfKind} {r : Result (Option CodeSaid) NumberFault} {e : NumberFault} → (k ≡ b → r ≡ Ok None) → r ≡ Err e → k ≡ b → ⊥
+pub fault-not_bad : {k b : AbnfKind} {r : Result (Option CodeSaid) NumberFault} {e : NumberFault}
+    → (k ≡ b → r ≡ Ok None) → r ≡ Err e → k ≡ b → ⊥
 fault-not_bad f e q = let n = sym e ∙ f q in cc
 
-pub none-said : (c : Config) (k : AbnfKind) (z : List ℕ) (p : Span) (g f : Bool) → ((s : Said) → SaysKind k z p s → ⊥) → Refuses c (marked (tok k z p) g f) stops.Hopeless
+pub none-said : (c : Config) (k : AbnfKind) (z : List ℕ) (p : Span) (g f : Bool) → ((s : Said) → SaysKind k z p s → ⊥)
+    → Refuses c (marked (tok k z p) g f) stops.Hopeless
 none-said c k z p g f h w (says y) = absurd (h _ y)

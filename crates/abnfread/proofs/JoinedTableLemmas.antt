@@ -1,6 +1,8 @@
 -- The table of definitions, one definition more.
 -- Serves: read_abnf
-use Rattle.std.proofs.Common.{◌≡◌, ℕ, zero, suc, Bool, true, false, cond, Option, Some, None, List, [], ◌∷◌, ◌++◌, length, map, position, get_or, refl, sym, ap, ◌∙◌, append_assoc, append-nil, length-append, arith}
+use Rattle.std.proofs.Common.{◌≡◌, ℕ, zero, suc, Bool, true, false, cond, Option, Some, None, List, [], ◌∷◌, ◌++◌}
+use Rattle.std.proofs.Common.{length, map, position, get_or, refl, sym, ap, ◌∙◌, append_assoc, append-nil}
+use Rattle.std.proofs.Common.{length-append, arith}
 use Rattle.std.specs.Prelude.{slice_get, bytes_eq}
 use Rattle.std.proofs.lemmas.Slice.Eq.{bytes_eq-Decides}
 use Rattle.std.proofs.lemmas.List.{map-append, length-map}
@@ -15,7 +17,8 @@ use Rattle.ruletable.specs.declared.table.NameCase.TheVariants.{Fold}
 use Rattle.abnfread.specs.declared.elem.Elem.{Elem}
 use Rattle.abnfread.specs.declared.reader.Definition.{Definition as CodeDefinition}
 use Rattle.abnfread.specs.AbnfReader.{definition_from}
-use Rattle.abnfread.specs.AbnfTable.{body_in, joined, id_in, begun, firsts, agains, is_early, earlies, IsTableOf, IsFirstBody, IsExtended}
+use Rattle.abnfread.specs.AbnfTable.{body_in, joined, id_in, begun, firsts, agains, is_early, earlies, IsTableOf}
+use Rattle.abnfread.specs.AbnfTable.{IsFirstBody, IsExtended}
 use Rattle.abnfread.specs.CoreRules.{core_list}
 use Rattle.abnfread.specs.Element.{Element, Rule, Definition}
 use Rattle.abnfread.specs.AbnfViews.{element_of, rule_of, rules_of}
@@ -29,24 +32,41 @@ abbrev pub known : table.Rules Elem → List (List ℕ)
 known rules = map name_of (rules_of rules)
 
 -- a table and what is left make up the table of all definitions
-pub record Goes (all : List Definition) (rules : table.Rules Elem) (redefined early : List ℕ) (left : List Definition) : Type 0 where
+pub record Goes (all : List Definition) (rules : table.Rules Elem) (redefined early : List ℕ)
+    (left : List Definition) : Type 0 where
   pub names : rules.names ≡ Fold
   pub kept : take_all core (rules_of rules) left ≡ firsts core [] all
   pub again : redefined ++ agains core (known rules) left ≡ agains core [] all
   pub before : early ++ earlies core (length (rules_of rules)) (known rules) left ≡ earlies core 0 [] all
 
-pub goes-first : (all : List Definition) (rules : table.Rules Elem) (redefined early : List ℕ) → rules.names ≡ Fold → rules.rules ≡ [] → redefined ≡ [] → early ≡ [] → Goes all rules redefined early all
-goes-first all rules redefined early folds none a b = record { names = folds; kept = rw none (take-all core [] all); again = rw (none, a) refl; before = rw (none, b) refl }
+pub goes-first : (all : List Definition) (rules : table.Rules Elem) (redefined early : List ℕ) → rules.names ≡ Fold
+    → rules.rules ≡ [] → redefined ≡ [] → early ≡ [] → Goes all rules redefined early all
+goes-first all rules redefined early folds none a b =
+    record {
+      names = folds;
+      kept = rw none (take-all core [] all);
+      again = rw (none, a) refl;
+      before = rw (none, b) refl;
+    }
 
-pub goes-last : (all : List Definition) (rules : table.Rules Elem) (redefined early : List ℕ) → Goes all rules redefined early [] → IsTableOf all rules redefined early
-goes-last all rules redefined early g = record { names = g.names; kept = g.kept; again = sym (append-nil redefined) ∙ g.again; before = sym (append-nil early) ∙ g.before }
+pub goes-last : (all : List Definition) (rules : table.Rules Elem) (redefined early : List ℕ)
+    → Goes all rules redefined early [] → IsTableOf all rules redefined early
+goes-last all rules redefined early g = record {
+  names = g.names;
+  kept = g.kept;
+  again = sym (append-nil redefined) ∙ g.again;
+  before = sym (append-nil early) ∙ g.before;
+}
 
 -- what each step does, by where the name is found
 abbrev pub taken_by : List Rule → Definition → Option ℕ → Bool → List Rule
 taken_by rules d o a = elim o [ None ↦ rules ++ begun core d ∷ [] | Some id ↦ cond a (map (grow_named d) rules) rules ]
 
 abbrev pub agains_by : List (List ℕ) → Definition → List Definition → Option ℕ → Bool → List ℕ
-agains_by names d ds o a = elim o [ None ↦ agains core (names ++ d.name ∷ []) ds | Some id ↦ cond a (agains core names ds) (id ∷ agains core names ds) ]
+agains_by names d ds o a = elim o [
+  | None ↦ agains core (names ++ d.name ∷ []) ds
+  | Some id ↦ cond a (agains core names ds) (id ∷ agains core names ds)
+]
 
 abbrev pub earlies_by : ℕ → List (List ℕ) → Definition → List Definition → Option ℕ → Bool → List ℕ
 earlies_by n names d ds o b = elim o [
@@ -54,72 +74,103 @@ earlies_by n names d ds o b = elim o [
   | Some id ↦ earlies core n names ds
 ]
 
-module _ (rules : table.Rules Elem) (d : Definition) (ds : List Definition) (folds : rules.names ≡ Fold) (o : Option ℕ) (a : Bool) (found : find_in rules d.name ≡ o) (adds : d.adds ≡ a) where
+module _ (rules : table.Rules Elem) (d : Definition) (ds : List Definition) (folds : rules.names ≡ Fold) (o : Option ℕ)
+    (a : Bool) (found : find_in rules d.name ≡ o) (adds : d.adds ≡ a) where
   known-id : id_in (known rules) d ≡ o
   known-id = position-map name_of (same_name Fold d.name) (rules_of rules) ∙ sym (found-in rules d.name folds) ∙ found
 
   take-by : take_all core (rules_of rules) (d ∷ ds) ≡ take_all core (taken_by (rules_of rules) d o a) ds
-  take-by = ap (λ (x : Option ℕ). take_all core (taken_by (rules_of rules) d x d.adds) ds) known-id ∙ ap (λ (b : Bool). take_all core (taken_by (rules_of rules) d o b) ds) adds
+  take-by = ap (λ (x : Option ℕ). take_all core (taken_by (rules_of rules) d x d.adds) ds) known-id
+      ∙ ap (λ (b : Bool). take_all core (taken_by (rules_of rules) d o b) ds) adds
 
   again-by : agains core (known rules) (d ∷ ds) ≡ agains_by (known rules) d ds o a
-  again-by = ap (λ (x : Option ℕ). agains_by (known rules) d ds x d.adds) known-id ∙ ap (agains_by (known rules) d ds o) adds
+  again-by = ap (λ (x : Option ℕ). agains_by (known rules) d ds x d.adds) known-id
+      ∙ ap (agains_by (known rules) d ds o) adds
 
-  early-by : (n : ℕ) (b : Bool) → is_early core d ≡ b → earlies core n (known rules) (d ∷ ds) ≡ earlies_by n (known rules) d ds o b
-  early-by n b e = ap (λ (x : Option ℕ). earlies_by n (known rules) d ds x (is_early core d)) known-id ∙ ap (earlies_by n (known rules) d ds o) e
+  early-by : (n : ℕ) (b : Bool) → is_early core d ≡ b → earlies core n (known rules) (d ∷ ds)
+      ≡ earlies_by n (known rules) d ds o b
+  early-by n b e = ap (λ (x : Option ℕ). earlies_by n (known rules) d ds x (is_early core d)) known-id
+      ∙ ap (earlies_by n (known rules) d ds o) e
 
-module _ (all : List Definition) (rules : table.Rules Elem) (redefined early : List ℕ) (d : Definition) (ds : List Definition) (g : Goes all rules redefined early (d ∷ ds)) where
+module _ (all : List Definition) (rules : table.Rules Elem) (redefined early : List ℕ) (d : Definition)
+    (ds : List Definition) (g : Goes all rules redefined early (d ∷ ds)) where
   -- a name that is defined again
-  pub goes-again : (id : ℕ) → find_in rules d.name ≡ Some id → d.adds ≡ false → Goes all rules (redefined ++ id ∷ []) early ds
+  pub goes-again : (id : ℕ) → find_in rules d.name ≡ Some id → d.adds ≡ false
+      → Goes all rules (redefined ++ id ∷ []) early ds
   goes-again id f e = record {
     names = g.names;
     kept = sym (take-by rules d ds g.names (Some id) false f e) ∙ g.kept;
-    again = append_assoc redefined (id ∷ []) _ ∙ ap (λ (xs : List ℕ). redefined ++ xs) (sym (again-by rules d ds g.names (Some id) false f e)) ∙ g.again;
-    before = ap (λ (xs : List ℕ). early ++ xs) (sym (early-by rules d ds g.names (Some id) false f e (length (rules_of rules)) (is_early core d) refl)) ∙ g.before;
+    again = append_assoc redefined (id ∷ []) _ ∙ ap (λ (xs : List ℕ). redefined ++ xs)
+        (sym (again-by rules d ds g.names (Some id) false f e)) ∙ g.again;
+    before = ap (λ (xs : List ℕ). early ++ xs) (sym
+        (early-by rules d ds g.names (Some id) false f e (length (rules_of rules)) (is_early core d) refl)) ∙ g.before;
   }
 
   -- alternatives that are added to a rule of the file
-  pub goes-grown : (id : ℕ) (new : table.Rules Elem) → find_in rules d.name ≡ Some id → d.adds ≡ true → new.names ≡ rules.names → rules_of new ≡ map (grow_named d) (rules_of rules) → Goes all new redefined early ds
+  pub goes-grown : (id : ℕ) (new : table.Rules Elem) → find_in rules d.name ≡ Some id → d.adds ≡ true
+      → new.names ≡ rules.names → rules_of new ≡ map (grow_named d) (rules_of rules) → Goes all new redefined early ds
   goes-grown id new f e folds same =
       let names : known new ≡ known rules = ap (map name_of) same ∙ grow-names d (rules_of rules) in
-      let size : length (rules_of new) ≡ length (rules_of rules) = ap length same ∙ length-map (rules_of rules) (grow_named d) in
+      let size : length (rules_of new) ≡ length (rules_of rules) = ap length same
+      ∙ length-map (rules_of rules) (grow_named d) in
       record {
         names = folds ∙ g.names;
-        kept = ap (λ (rs : List Rule). take_all core rs ds) same ∙ sym (take-by rules d ds g.names (Some id) true f e) ∙ g.kept;
-        again = ap (λ (ns : List (List ℕ)). redefined ++ agains core ns ds) names ∙ ap (λ (xs : List ℕ). redefined ++ xs) (sym (again-by rules d ds g.names (Some id) true f e)) ∙ g.again;
-        before = ap (λ (ns : List (List ℕ)). early ++ earlies core (length (rules_of new)) ns ds) names ∙ ap (λ (n : ℕ). early ++ earlies core n (known rules) ds) size
-            ∙ ap (λ (xs : List ℕ). early ++ xs) (sym (early-by rules d ds g.names (Some id) true f e (length (rules_of rules)) (is_early core d) refl)) ∙ g.before;
+        kept = ap (λ (rs : List Rule). take_all core rs ds) same ∙ sym (take-by rules d ds g.names (Some id) true f e)
+            ∙ g.kept;
+        again = ap (λ (ns : List (List ℕ)). redefined ++ agains core ns ds) names
+            ∙ ap (λ (xs : List ℕ). redefined ++ xs) (sym (again-by rules d ds g.names (Some id) true f e)) ∙ g.again;
+        before = ap (λ (ns : List (List ℕ)). early ++ earlies core (length (rules_of new)) ns ds) names
+            ∙ ap (λ (n : ℕ). early ++ earlies core n (known rules) ds) size
+            ∙ ap (λ (xs : List ℕ). early ++ xs) (sym (early-by rules d ds g.names (Some id) true f e
+            (length (rules_of rules)) (is_early core d) refl)) ∙ g.before;
       }
 
   -- a new rule
-  module _ (new : table.Rules Elem) (b : Bool) (is : is_early core d ≡ b) (f : find_in rules d.name ≡ None) (folds : new.names ≡ rules.names) (same : rules_of new ≡ rules_of rules ++ begun core d ∷ []) where
+  module _ (new : table.Rules Elem) (b : Bool) (is : is_early core d ≡ b) (f : find_in rules d.name ≡ None)
+      (folds : new.names ≡ rules.names) (same : rules_of new ≡ rules_of rules ++ begun core d ∷ []) where
     new-names : known new ≡ known rules ++ d.name ∷ []
     new-names = ap (map name_of) same ∙ map-append name_of (rules_of rules) (begun core d ∷ [])
 
     new-size : length (rules_of new) ≡ suc (length (rules_of rules))
     new-size = let e = ap length same in omega (arith, e, length-append (rules_of rules) (begun core d ∷ []))
 
-    pub goes-begun : (others : List ℕ) → others ++ earlies core (suc (length (rules_of rules))) (known rules ++ d.name ∷ []) ds ≡ early ++ earlies_by (length (rules_of rules)) (known rules) d ds None b → Goes all new redefined others ds
+    pub goes-begun : (others : List ℕ) → others ++ earlies core (suc (length (rules_of rules)))
+        (known rules ++ d.name ∷ []) ds ≡ early ++ earlies_by (length (rules_of rules)) (known rules) d ds None b
+        → Goes all new redefined others ds
     goes-begun others e = record {
       names = folds ∙ g.names;
-      kept = ap (λ (rs : List Rule). take_all core rs ds) same ∙ sym (take-by rules d ds g.names None d.adds f refl) ∙ g.kept;
-      again = ap (λ (ns : List (List ℕ)). redefined ++ agains core ns ds) new-names ∙ ap (λ (xs : List ℕ). redefined ++ xs) (sym (again-by rules d ds g.names None d.adds f refl)) ∙ g.again;
-      before = ap (λ (ns : List (List ℕ)). others ++ earlies core (length (rules_of new)) ns ds) new-names ∙ ap (λ (n : ℕ). others ++ earlies core n (known rules ++ d.name ∷ []) ds) new-size ∙ e
-          ∙ ap (λ (xs : List ℕ). early ++ xs) (sym (early-by rules d ds g.names None d.adds f refl (length (rules_of rules)) b is)) ∙ g.before;
+      kept = ap (λ (rs : List Rule). take_all core rs ds) same ∙ sym (take-by rules d ds g.names None d.adds f refl)
+          ∙ g.kept;
+      again = ap (λ (ns : List (List ℕ)). redefined ++ agains core ns ds) new-names
+          ∙ ap (λ (xs : List ℕ). redefined ++ xs) (sym (again-by rules d ds g.names None d.adds f refl)) ∙ g.again;
+      before = ap (λ (ns : List (List ℕ)). others ++ earlies core (length (rules_of new)) ns ds) new-names
+          ∙ ap (λ (n : ℕ). others ++ earlies core n (known rules ++ d.name ∷ []) ds) new-size ∙ e
+          ∙ ap (λ (xs : List ℕ). early ++ xs) (sym (early-by rules d ds g.names None d.adds f refl
+          (length (rules_of rules)) b is)) ∙ g.before;
     }
 
 -- with the extension noted, and without
-pub goes-early : (all : List Definition) (rules new : table.Rules Elem) (redefined early : List ℕ) (d : Definition) (ds : List Definition) (n : ℕ) → Goes all rules redefined early (d ∷ ds) → is_early core d ≡ true → find_in rules d.name ≡ None →
-    new.names ≡ rules.names → rules_of new ≡ rules_of rules ++ begun core d ∷ [] → n ≡ length rules.rules → Goes all new redefined (early ++ n ∷ []) ds
+pub goes-early : (all : List Definition) (rules new : table.Rules Elem) (redefined early : List ℕ) (d : Definition)
+    (ds : List Definition) (n : ℕ) → Goes all rules redefined early (d ∷ ds) → is_early core d ≡ true
+    → find_in rules d.name ≡ None →
+    new.names ≡ rules.names → rules_of new ≡ rules_of rules ++ begun core d ∷ [] → n ≡ length rules.rules
+    → Goes all new redefined (early ++ n ∷ []) ds
 goes-early all rules new redefined early d ds n g is f folds same e =
     goes-begun all rules redefined early d ds g new true is f folds same (early ++ n ∷ [])
-    (append_assoc early (n ∷ []) _ ∙ ap (λ (k : ℕ). early ++ k ∷ earlies core (suc (length (rules_of rules))) (known rules ++ d.name ∷ []) ds) (e ∙ sym (length-map rules.rules rule_of)))
+    (append_assoc early (n ∷ []) _ ∙ ap (λ (k : ℕ). early ++ k ∷ earlies core (suc (length (rules_of rules)))
+    (known rules ++ d.name ∷ []) ds) (e ∙ sym (length-map rules.rules rule_of)))
 
-pub goes-new : (all : List Definition) (rules new : table.Rules Elem) (redefined early : List ℕ) (d : Definition) (ds : List Definition) → Goes all rules redefined early (d ∷ ds) → is_early core d ≡ false → find_in rules d.name ≡ None →
+pub goes-new : (all : List Definition) (rules new : table.Rules Elem) (redefined early : List ℕ) (d : Definition)
+    (ds : List Definition) → Goes all rules redefined early (d ∷ ds) → is_early core d ≡ false
+    → find_in rules d.name ≡ None →
     new.names ≡ rules.names → rules_of new ≡ rules_of rules ++ begun core d ∷ [] → Goes all new redefined early ds
-goes-new all rules new redefined early d ds g is f folds same = goes-begun all rules redefined early d ds g new false is f folds same early refl
+goes-new all rules new redefined early d ds g is f folds same = goes-begun all rules redefined early d ds g new false is
+    f folds same early refl
 
 -- the rule that a definition begins
-pub begun-rules : (d : CodeDefinition) (old new : table.Rules Elem) (e : Elem) (b : Bool) (x : Defined) → find_in old d.name.now ≡ None → IsFirstBody (definition_from d) e b → Defines old new (record { name = d.name.now; body = e; span = d.span }) x →
+pub begun-rules : (d : CodeDefinition) (old new : table.Rules Elem) (e : Elem) (b : Bool) (x : Defined)
+    → find_in old d.name.now ≡ None → IsFirstBody (definition_from d) e b
+    → Defines old new (record { name = d.name.now; body = e; span = d.span }) x →
     (new.names ≡ old.names) × (rules_of new ≡ rules_of old ++ begun core (definition_from d) ∷ [])
 begun-rules d old new e b (Added id) f h k = (
   ap (λ (t : table.Rules Elem). t.names) k.2,
@@ -143,54 +194,73 @@ module _ (d : Definition) where
   abbrev grown_row : table.Rule Elem → Rule
   grown_row row = record { name = row.name; body = joined (element_of row.body) d.body; span = row.span }
 
-  kept-row : (row : table.Rule Elem) → (same_name Fold d.name row.name ≡ true → ⊥) → rule_of row ≡ grow_named d (rule_of row)
-  kept-row row f = sym (ap (λ (c : Bool). cond c (grown_row row) (rule_of row)) (not-true (same_name Fold d.name row.name) f))
+  kept-row : (row : table.Rule Elem) → (same_name Fold d.name row.name ≡ true → ⊥)
+      → rule_of row ≡ grow_named d (rule_of row)
+  kept-row row f = sym (ap (λ (c : Bool). cond c (grown_row row) (rule_of row))
+      (not-true (same_name Fold d.name row.name) f))
 
-  named-row : (row : table.Rule Elem) → same_name Fold d.name row.name ≡ true → grown_row row ≡ grow_named d (rule_of row)
+  named-row : (row : table.Rule Elem) → same_name Fold d.name row.name ≡ true
+      → grown_row row ≡ grow_named d (rule_of row)
   named-row row e = sym (ap (λ (c : Bool). cond c (grown_row row) (rule_of row)) e)
 
-  none-grown : (rows : List (table.Rule Elem)) → ((j : ℕ) (row : table.Rule Elem) → slice_get rows j ≡ Some row → same_name Fold d.name row.name ≡ true → ⊥) → map rule_of rows ≡ map (grow_named d) (map rule_of rows)
+  none-grown : (rows : List (table.Rule Elem)) → ((j : ℕ) (row : table.Rule Elem) → slice_get rows j ≡ Some row
+      → same_name Fold d.name row.name ≡ true → ⊥) → map rule_of rows ≡ map (grow_named d) (map rule_of rows)
   none-grown [] f = refl
   none-grown (row ∷ rows) f =
       ap (λ (r : Rule). r ∷ map rule_of rows) (kept-row row (f 0 row refl))
       ∙ ap (λ (rs : List Rule). grow_named d (rule_of row) ∷ rs) (none-grown rows (λ j r h k. f (suc j) r h k))
 
-  set-grown : (rows : List (table.Rule Elem)) (id : ℕ) (old new : Elem) → slice_get (map row_body rows) id ≡ Some old → element_of new ≡ joined (element_of old) d.body →
-      ((j : ℕ) (row : table.Rule Elem) → slice_get rows j ≡ Some row → same_name Fold d.name row.name ≡ true → j ≡ id) → ((row : table.Rule Elem) → slice_get rows id ≡ Some row → same_name Fold d.name row.name ≡ true) →
+  set-grown : (rows : List (table.Rule Elem)) (id : ℕ) (old new : Elem) → slice_get (map row_body rows) id ≡ Some old
+      → element_of new ≡ joined (element_of old) d.body →
+      ((j : ℕ) (row : table.Rule Elem) → slice_get rows j ≡ Some row → same_name Fold d.name row.name ≡ true → j ≡ id)
+      → ((row : table.Rule Elem) → slice_get rows id ≡ Some row → same_name Fold d.name row.name ≡ true) →
       map rule_of (set_body rows id new) ≡ map (grow_named d) (map rule_of rows)
   set-grown [] id old new h e f t = refl
   set-grown (row ∷ rows) zero old new h e f t =
-      let body : element_of new ≡ joined (element_of row.body) d.body = e ∙ ap (λ (x : Elem). joined (element_of x) d.body) (sym (some-one h)) in
+      let body : element_of new ≡ joined (element_of row.body) d.body = e
+      ∙ ap (λ (x : Elem). joined (element_of x) d.body) (sym (some-one h)) in
       ap (λ (x : Element). record { name = row.name; body = x; span = row.span } ∷ map rule_of rows) body
       ∙ ap (λ (r : Rule). r ∷ map rule_of rows) (named-row row (t row refl))
-      ∙ ap (λ (rs : List Rule). grow_named d (rule_of row) ∷ rs) (none-grown rows (λ j r k s. (let z = f (suc j) r k s in omega (arith, z))))
+      ∙ ap (λ (rs : List Rule). grow_named d (rule_of row) ∷ rs)
+      (none-grown rows (λ j r k s. (let z = f (suc j) r k s in omega (arith, z))))
   set-grown (row ∷ rows) (suc id) old new h e f t =
-      ap (λ (r : Rule). r ∷ map rule_of (set_body rows id new)) (kept-row row (λ s. (let z = f 0 row refl s in omega (arith, z))))
-      ∙ ap (λ (rs : List Rule). grow_named d (rule_of row) ∷ rs) (set-grown rows id old new h e (λ j r k u. (let z = f (suc j) r k u in omega (arith, z))) (λ r k. t r k))
+      ap (λ (r : Rule). r ∷ map rule_of (set_body rows id new))
+      (kept-row row (λ s. (let z = f 0 row refl s in omega (arith, z))))
+      ∙ ap (λ (rs : List Rule). grow_named d (rule_of row) ∷ rs)
+      (set-grown rows id old new h e (λ j r k u. (let z = f (suc j) r k u in omega (arith, z))) (λ r k. t r k))
 
-same-found : (t : table.Rules Elem) (m n : List ℕ) → same_name Fold m n ≡ true → t.names ≡ Fold → find_in t m ≡ find_in t n
+same-found : (t : table.Rules Elem) (m n : List ℕ) → same_name Fold m n ≡ true → t.names ≡ Fold
+    → find_in t m ≡ find_in t n
 same-found t m n e folds =
     let key : key_of Fold m ≡ key_of Fold n = (bytes_eq-Decides (key_of Fold m) (key_of Fold n)).0 e in
-    rw folds (ap (λ (k : List ℕ). position (λ (rule : table.Rule Elem). bytes_eq k (key_of Fold rule.name)) t.rules) key)
+    rw folds (ap (λ (k : List ℕ). position (λ (rule : table.Rule Elem). bytes_eq k (key_of Fold rule.name)) t.rules)
+    key)
 
 -- .. is what adding alternatives does
-pub extended-rules : (d : Definition) (old new : table.Rules Elem) (id : ℕ) → old.names ≡ Fold → HasUniqueNames old → find_in old d.name ≡ Some id → IsExtended old new id d.body → (new.names ≡ old.names) × (rules_of new ≡ map (grow_named d) (rules_of old))
+pub extended-rules : (d : Definition) (old new : table.Rules Elem) (id : ℕ) → old.names ≡ Fold → HasUniqueNames old
+    → find_in old d.name ≡ Some id → IsExtended old new id d.body → (new.names ≡ old.names)
+    × (rules_of new ≡ map (grow_named d) (rules_of old))
 extended-rules d old new id folds unique f x = (
   ap (λ (t : table.Rules Elem). t.names) x.is,
   ap rules_of x.is ∙ set-grown d old.rules id x.body x.joins x.there x.sums
       (λ j row h e. some-one (sym (unique.own j row h) ∙ sym (same-found old d.name row.name e folds) ∙ f))
-      (λ row h. (let at = position-Some (λ (rule : table.Rule Elem). same_name old.names d.name rule.name) old.rules id row f in
-      let there = at.1 in let own : get_or old.rules id row ≡ row = get_or_from_slice_get old.rules id row row h in rw (own, folds) at there)),
+      (λ row h. (let at = position-Some (λ (rule : table.Rule Elem). same_name old.names d.name rule.name) old.rules id
+      row f in
+      let there = at.1 in let own : get_or old.rules id row ≡ row = get_or_from_slice_get old.rules id row row h in
+      rw (own, folds) at there)),
 )
 
 -- a body that is written twice
-set-twice : (rows : List (table.Rule Elem)) (id : ℕ) (x w : Elem) → set_body (set_body rows id x) id w ≡ set_body rows id w
+set-twice : (rows : List (table.Rule Elem)) (id : ℕ) (x w : Elem) → set_body (set_body rows id x) id w
+    ≡ set_body rows id w
 set-twice [] id x w = refl
 set-twice (row ∷ rows) zero x w = refl
 set-twice (row ∷ rows) (suc id) x w = ap (λ (rs : List (table.Rule Elem)). row ∷ rs) (set-twice rows id x w)
 
-pub with-twice : (t : table.Rules Elem) (id : ℕ) (x w : Elem) → table.with_body (table.with_body t id x) id w ≡ table.with_body t id w
-with-twice t id x w = ap (λ (rs : List (table.Rule Elem)). record { names = t.names; rules = rs }) (set-twice t.rules id x w)
+pub with-twice : (t : table.Rules Elem) (id : ℕ) (x w : Elem) → table.with_body (table.with_body t id x) id w
+    ≡ table.with_body t id w
+with-twice t id x w = ap (λ (rs : List (table.Rule Elem)). record { names = t.names; rules = rs })
+    (set-twice t.rules id x w)
 
 pub length-set : (rows : List (table.Rule Elem)) (id : ℕ) (x : Elem) → length (set_body rows id x) ≡ length rows
 length-set [] id x = refl
@@ -198,28 +268,39 @@ length-set (row ∷ rows) zero x = refl
 length-set (row ∷ rows) (suc id) x = ap suc (length-set rows id x)
 
 -- what the code does with one definition
-module _ (all : List Definition) (rules : table.Rules Elem) (redefined early : List ℕ) (given rest : List CodeDefinition) (d : CodeDefinition) (g : Goes all rules redefined early (map definition_from given)) (s : given ≡ d ∷ rest) (o : Option ℕ) (found : o ≡ find_in rules d.name.now) where
+module _ (all : List Definition) (rules : table.Rules Elem) (redefined early : List ℕ)
+    (given rest : List CodeDefinition) (d : CodeDefinition)
+    (g : Goes all rules redefined early (map definition_from given)) (s : given ≡ d ∷ rest) (o : Option ℕ)
+    (found : o ≡ find_in rules d.name.now) where
   one-left : Goes all rules redefined early (definition_from d ∷ map definition_from rest)
   one-left = let h = g in rw s at h
 
-  pub names-again : (id : ℕ) (others : List ℕ) → o ≡ Some id → d.adds ≡ false → others ≡ redefined ++ id ∷ [] → Goes all rules others early (map definition_from rest)
-  names-again id others is e push = rw push (goes-again all rules redefined early (definition_from d) (map definition_from rest) one-left id (sym found ∙ is) e)
+  pub names-again : (id : ℕ) (others : List ℕ) → o ≡ Some id → d.adds ≡ false → others ≡ redefined ++ id ∷ []
+      → Goes all rules others early (map definition_from rest)
+  names-again id others is e push = rw push (goes-again all rules redefined early (definition_from d)
+      (map definition_from rest) one-left id (sym found ∙ is) e)
 
-  pub adds-more : (id : ℕ) (new : table.Rules Elem) → HasUniqueNames rules → o ≡ Some id → d.adds ≡ true → IsExtended rules new id (element_of d.body) → Goes all new redefined early (map definition_from rest)
+  pub adds-more : (id : ℕ) (new : table.Rules Elem) → HasUniqueNames rules → o ≡ Some id → d.adds ≡ true
+      → IsExtended rules new id (element_of d.body) → Goes all new redefined early (map definition_from rest)
   adds-more id new unique is e x =
       let f = sym found ∙ is in
       let both = extended-rules (definition_from d) rules new id g.names unique f x in
-      goes-grown all rules redefined early (definition_from d) (map definition_from rest) one-left id new f e both.0 both.1
+      goes-grown all rules redefined early (definition_from d) (map definition_from rest) one-left id new f e both.0
+      both.1
 
-  module _ (new : table.Rules Elem) (e : Elem) (x : Defined) (is : o ≡ None) (defines : Defines rules new (record { name = d.name.now; body = e; span = d.span }) x) where
-    pub begins-early : (n : ℕ) (others : List ℕ) → IsFirstBody (definition_from d) e true → n ≡ length rules.rules → others ≡ early ++ n ∷ [] → Goes all new redefined others (map definition_from rest)
+  module _ (new : table.Rules Elem) (e : Elem) (x : Defined) (is : o ≡ None)
+      (defines : Defines rules new (record { name = d.name.now; body = e; span = d.span }) x) where
+    pub begins-early : (n : ℕ) (others : List ℕ) → IsFirstBody (definition_from d) e true → n ≡ length rules.rules
+        → others ≡ early ++ n ∷ [] → Goes all new redefined others (map definition_from rest)
     begins-early n others first at push =
         let f = sym found ∙ is in
         let both = begun-rules d rules new e true x f first defines in
-        rw push (goes-early all rules new redefined early (definition_from d) (map definition_from rest) n one-left (sym first.1) f both.0 both.1 at)
+        rw push (goes-early all rules new redefined early (definition_from d) (map definition_from rest) n one-left
+        (sym first.1) f both.0 both.1 at)
 
     pub begins-new : IsFirstBody (definition_from d) e false → Goes all new redefined early (map definition_from rest)
     begins-new first =
         let f = sym found ∙ is in
         let both = begun-rules d rules new e false x f first defines in
-        goes-new all rules new redefined early (definition_from d) (map definition_from rest) one-left (sym first.1) f both.0 both.1
+        goes-new all rules new redefined early (definition_from d) (map definition_from rest) one-left (sym first.1) f
+        both.0 both.1

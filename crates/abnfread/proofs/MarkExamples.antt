@@ -35,5 +35,6 @@ only-white : marks (codes " ") (indent_at (codes " ") 1) 0 (at End 1 1 ∷ []) �
 only-white = refl
 
 -- a slash at the margin
-slash-first : marks (codes "a\n/") (Some 0) 0 (at Name 0 1 ∷ at Slash 2 3 ∷ []) ≡ marked (at Name 0 1) false true ∷ marked (at Slash 2 3) true true ∷ []
+slash-first : marks (codes "a\n/") (Some 0) 0 (at Name 0 1 ∷ at Slash 2 3 ∷ []) ≡ marked (at Name 0 1) false true
+    ∷ marked (at Slash 2 3) true true ∷ []
 slash-first = refl

@@ -66,7 +66,8 @@ pub data Number : Bool → Said → Type 0 where
   values : {vs : List ℕ} → Number false (Values vs)
   range : {a b : ℕ} → Number false (Range a b)
 
-pub number-like : {r : Bool} {s : Said} (c : Config) (g f : Bool) → Number r s → is_there (step c (word g f s)) ≡ is_there (step c (word g f (sample r)))
+pub number-like : {r : Bool} {s : Said} (c : Config) (g f : Bool) → Number r s → is_there (step c (word g f s))
+    ≡ is_there (step c (word g f (sample r)))
 number-like c g f (repeat {a} {b}) = repeat-like a b c g f
 number-like c g f (values {vs}) = values-like vs c g f
 number-like c g f (range {a} {b}) = range-like a b c g f

@@ -1,13 +1,19 @@
 -- The machine's levels are the brackets that the words open.
 -- Serves: read_abnf
-use Rattle.std.proofs.Common.{◌≡◌, ℕ, zero, suc, ◌≤◌, ◌<◌, Bool, true, false, Option, Some, None, List, [], ◌∷◌, ◌++◌, refl, ◌∙◌, ap, arith}
+use Rattle.std.proofs.Common.{◌≡◌, ℕ, zero, suc, ◌≤◌, ◌<◌, Bool, true, false, Option, Some, None, List, [], ◌∷◌, ◌++◌}
+use Rattle.std.proofs.Common.{refl, ◌∙◌, ap, arith}
 use Rattle.ruletable.specs.declared.span.Span.{Span}
 use Rattle.lexer.specs.TokenLists.{tok}
 use Rattle.lexer.proofs.ViabilityLemmas.{run-snoc}
-use Rattle.abnfread.specs.AbnfMachine.{Times, just, times, paren, brack, Level, level, Head, fresh, awaits, read, Config, start, named, body, done, element_step, fresh_step, read_step, first_step, later_step, step, run, levels, levels_in}
+use Rattle.abnfread.specs.AbnfMachine.{Times, just, times, paren, brack, Level, level, Head, fresh, awaits, read}
+use Rattle.abnfread.specs.AbnfMachine.{Config, start, named, body, done, element_step, fresh_step, read_step}
+use Rattle.abnfread.specs.AbnfMachine.{first_step, later_step, step, run, levels, levels_in}
 use Rattle.abnfread.specs.AbnfReading.{is_bracket}
-use Rattle.abnfread.specs.AbnfSays.{SaysKind, says_name, says_is, says_adds, says_slash, says_lparen, says_rparen, says_lbrack, says_rbrack, says_repeat, says_text, says_cased, says_num, says_prose, says_end, open_behind, IsShallow}
-use Rattle.abnfread.specs.AbnfWords.{Said, Name, Is, Adds, Slash, LParen, RParen, LBrack, RBrack, Repeat, Text, Values, Range, Prose, End, Word, word}
+use Rattle.abnfread.specs.AbnfSays.{SaysKind, says_name, says_is, says_adds, says_slash, says_lparen, says_rparen}
+use Rattle.abnfread.specs.AbnfSays.{says_lbrack, says_rbrack, says_repeat, says_text, says_cased, says_num, says_prose}
+use Rattle.abnfread.specs.AbnfSays.{says_end, open_behind, IsShallow}
+use Rattle.abnfread.specs.AbnfWords.{Said, Name, Is, Adds, Slash, LParen, RParen, LBrack, RBrack, Repeat, Text, Values}
+use Rattle.abnfread.specs.AbnfWords.{Range, Prose, End, Word, word}
 use Rattle.abnfread.specs.declared.kind.AbnfKind.{AbnfKind}
 use Rattle.abnfread.specs.Element.{Elements}
 use Rattle.abnfread.specs.MarkedTokens.{marked}
@@ -17,7 +23,8 @@ abbrev LevelsOf : Option Config → ℕ → Type 0
 LevelsOf None n = Unit {0}
 LevelsOf (Some d) n = levels_in d ≡ n
 
-element-levels : (h : Head) (o : List Level) (bs es : Elements) (t : Times) (s : Said) → LevelsOf (element_step h o bs es t s) (open_behind s (levels o))
+element-levels : (h : Head) (o : List Level) (bs es : Elements) (t : Times) (s : Said)
+    → LevelsOf (element_step h o bs es t s) (open_behind s (levels o))
 element-levels h o bs es t (Name n p) = refl
 element-levels h o bs es t (Text c z) = refl
 element-levels h o bs es t (Values vs) = refl
@@ -27,11 +34,13 @@ element-levels h o bs es t LParen = refl
 element-levels h o bs es t LBrack = refl
 element-levels h o bs es t _ = tt
 
-fresh-levels : (h : Head) (o : List Level) (bs es : Elements) (s : Said) → LevelsOf (fresh_step h o bs es s) (open_behind s (levels o))
+fresh-levels : (h : Head) (o : List Level) (bs es : Elements) (s : Said)
+    → LevelsOf (fresh_step h o bs es s) (open_behind s (levels o))
 fresh-levels h o bs es (Repeat a b) = refl
 fresh-levels h o bs es s = element-levels h o bs es just s
 
-read-levels : (h : Head) (o : List Level) (bs es : Elements) (g : Bool) (s : Said) → LevelsOf (read_step h o bs es g s) (open_behind s (levels o))
+read-levels : (h : Head) (o : List Level) (bs es : Elements) (g : Bool) (s : Said)
+    → LevelsOf (read_step h o bs es g s) (open_behind s (levels o))
 read-levels h o bs es g Slash = refl
 read-levels h [] bs es g RParen = tt
 read-levels h (level b f t paren ∷ o) bs es g RParen = refl
@@ -70,15 +79,18 @@ step-levels : (c : Config) (g f : Bool) (s : Said) → LevelsOf (step c (word g 
 step-levels c g true s = first-levels c s
 step-levels c g false s = later-levels c g s
 
-pub step-opens : (c d : Config) (g f : Bool) (s : Said) → step c (word g f s) ≡ Some d → levels_in d ≡ open_behind s (levels_in c)
-step-opens c d g f s h = let l = step-levels c g f s in let k : LevelsOf (Some d) (open_behind s (levels_in c)) = rw h at l in k
+pub step-opens : (c d : Config) (g f : Bool) (s : Said) → step c (word g f s) ≡ Some d
+    → levels_in d ≡ open_behind s (levels_in c)
+step-opens c d g f s h = let l = step-levels c g f s in let k : LevelsOf (Some d) (open_behind s (levels_in c)) =
+    rw h at l in k
 
 -- the brackets that are open behind a list, of those that were before
 abbrev pub open_count : ℕ → List Word → ℕ
 open_count d [] = d
 open_count d (word g f s ∷ ws) = open_count (open_behind s d) ws
 
-onwards : (ws : List Word) (n : ℕ) (d : Config) → ((c : Config) → run c ws ≡ Some d → levels_in d ≡ open_count (levels_in c) ws) → (x : Option Config) → ((c : Config) → x ≡ Some c → levels_in c ≡ n) →
+onwards : (ws : List Word) (n : ℕ) (d : Config) → ((c : Config) → run c ws ≡ Some d
+    → levels_in d ≡ open_count (levels_in c) ws) → (x : Option Config) → ((c : Config) → x ≡ Some c → levels_in c ≡ n) →
     (elim x [ None ↦ None | Some c ↦ run c ws ]) ≡ Some d → levels_in d ≡ open_count n ws
 onwards ws n d f None l h = cc
 onwards ws n d f (Some c) l h = f c h ∙ ap (λ (m : ℕ). open_count m ws) (l c refl)
@@ -86,7 +98,8 @@ onwards ws n d f (Some c) l h = f c h ∙ ap (λ (m : ℕ). open_count m ws) (l 
 -- after a run as many levels stand open as brackets
 run-levels : (ws : List Word) (c d : Config) → run c ws ≡ Some d → levels_in d ≡ open_count (levels_in c) ws
 run-levels [] c d h = ap levels_in (let same : d ≡ c = cc in same)
-run-levels (word g f s ∷ ws) c d h = onwards ws (open_behind s (levels_in c)) d (λ e r. run-levels ws e d r) (step c (word g f s)) (λ e r. step-opens c e g f s r) h
+run-levels (word g f s ∷ ws) c d h = onwards ws (open_behind s (levels_in c)) d (λ e r. run-levels ws e d r)
+    (step c (word g f s)) (λ e r. step-opens c e g f s r) h
 
 shallow-within : (m d : ℕ) (ws : List Word) → IsShallow m d ws → open_count d ws ≤ m
 shallow-within m d [] h = h
@@ -98,7 +111,8 @@ shallow-front m d [] [] h = h
 shallow-front m d [] (word g f s ∷ us) h = h.0
 shallow-front m d (word g f s ∷ ws) us h = (h.0, shallow-front m (open_behind s d) ws us h.1)
 
-shallow-snoc : (m d : ℕ) (ws : List Word) (w : Word) → IsShallow m d ws → open_count d (ws ++ w ∷ []) ≤ m → IsShallow m d (ws ++ w ∷ [])
+shallow-snoc : (m d : ℕ) (ws : List Word) (w : Word) → IsShallow m d ws → open_count d (ws ++ w ∷ []) ≤ m
+    → IsShallow m d (ws ++ w ∷ [])
 shallow-snoc m d [] (word g f s) h le = (h, le)
 shallow-snoc m d (word g f s ∷ ws) w h le = (h.0, shallow-snoc m (open_behind s d) ws w h.1 le)
 
@@ -124,7 +138,8 @@ close-less : (d : ℕ) → open_behind RParen d ≤ d
 close-less zero = omega arith
 close-less (suc d) = omega arith
 
-pub opens-bracket : {k : AbnfKind} {z : List ℕ} {p : Span} {s : Said} (g f : Bool) (m d : ℕ) → SaysKind k z p s → d ≤ m → m < open_behind s d → is_bracket (marked (tok k z p) g f) ≡ true
+pub opens-bracket : {k : AbnfKind} {z : List ℕ} {p : Span} {s : Said} (g f : Bool) (m d : ℕ) → SaysKind k z p s → d ≤ m
+    → m < open_behind s d → is_bracket (marked (tok k z p) g f) ≡ true
 opens-bracket g f m d says_lparen le lt = refl
 opens-bracket g f m d says_lbrack le lt = refl
 opens-bracket g f m d says_rparen le lt = absurd (closes-less RParen m d le lt (close-less d))

@@ -17,7 +17,8 @@ tells-most (decimals e) = omega arith
 tells-most (hexadecimal e) = omega arith
 
 -- the letter of a number, and what stands behind it
-pub letter-told : {z behind tail text : List ℕ} {c d base other : ℕ} → z ≡ 37 ∷ behind → behind ≡ c ∷ tail → Tells c base → z ≡ 37 ∷ d ∷ text → Tells d other → (base ≡ other) × (tail ≡ text)
+pub letter-told : {z behind tail text : List ℕ} {c d base other : ℕ} → z ≡ 37 ∷ behind → behind ≡ c ∷ tail
+    → Tells c base → z ≡ 37 ∷ d ∷ text → Tells d other → (base ≡ other) × (tail ≡ text)
 letter-told {z} {behind} {tail} {text} {c} {d} e f t g u =
     let whole : 37 ∷ c ∷ tail ≡ 37 ∷ d ∷ text = ap (λ (x : List ℕ). 37 ∷ x) (sym f) ∙ sym e ∙ g in
     let letter : c ≡ d = heads (tails whole) in
@@ -32,46 +33,60 @@ same-tails e h = tails (e ∙ h)
 -- a number's slice, cut
 data NumCase (z : List ℕ) : Said → Type 0 where
   values_case : {base c : ℕ} {t vs : List ℕ} → z ≡ 37 ∷ c ∷ t → Tells c base → Listed base t vs → NumCase z (Values vs)
-  range_case : {base c : ℕ} {t ds : List ℕ} (es : List ℕ) → z ≡ 37 ∷ c ∷ t → Tells c base → t ≡ ds ++ 45 ∷ es → Digits base ds [] → NumCase z (Range (digits_value base ds) (digits_value base es))
+  range_case : {base c : ℕ} {t ds : List ℕ} (es : List ℕ) → z ≡ 37 ∷ c ∷ t → Tells c base → t ≡ ds ++ 45 ∷ es
+      → Digits base ds [] → NumCase z (Range (digits_value base ds) (digits_value base es))
 
 num-by : {z : List ℕ} {s : Said} → SaysNum z s → NumCase z s
 num-by (says_values tells k) = values_case refl tells k
 num-by (says_range tells e d f) = range_case _ refl tells e d
 
 -- front are the first digits of a number, and rest stands behind them
-module _ (base : ℕ) (z digits front rest : List ℕ) (told : (b c : ℕ) (text : List ℕ) → z ≡ 37 ∷ c ∷ text → Tells c b → (base ≡ b) × (digits ≡ text)) (w : base ≤ 36)
+module _ (base : ℕ) (z digits front rest : List ℕ) (told : (b c : ℕ) (text : List ℕ) → z ≡ 37 ∷ c ∷ text → Tells c b
+    → (base ≡ b) × (digits ≡ text)) (w : base ≤ 36)
     (cut : digits ≡ front ++ rest) (run : Run (is_digit base) front []) (stop : Stops (is_digit base) rest) where
   values-by : Lacks 45 rest → (s : Said) → NumCase z s → (vs : List ℕ) × (s ≡ Values vs) × Listed base digits vs
-  values-by l s (values_case {base = b} {c} {t} {vs} q tells k) = let same = told b c t q tells in (vs, refl, rw (sym same.0, sym same.1) at k)
+  values-by l s (values_case {base = b} {c} {t} {vs} q tells k) = let same = told b c t q tells in
+      (vs, refl, rw (sym same.0, sym same.1) at k)
   values-by l s (range_case {base = b} {c} {t} {ds} es q tells e d) =
       let same = told b c t q tells in
       let ends = ends-range base digits ds es front rest w (same.1 ∙ e) (rw (sym same.0) at d) cut run stop in
       absurd (no-dash l ends.1)
 
-  range-by : (behind : List ℕ) → rest ≡ 45 ∷ behind → (s : Said) → NumCase z s → s ≡ Range (digits_value base front) (digits_value base behind)
+  range-by : (behind : List ℕ) → rest ≡ 45 ∷ behind → (s : Said) → NumCase z s
+      → s ≡ Range (digits_value base front) (digits_value base behind)
   range-by behind r s (values_case {base = b} {c} {t} {vs} q tells k) =
       let same = told b c t q tells in
-      absurd (listed-no_range base digits front behind w (rw (sym same.0, sym same.1) at k) (cut ∙ ap (λ (x : List ℕ). front ++ x) r) run)
+      absurd (listed-no_range base digits front behind w (rw (sym same.0, sym same.1) at k)
+      (cut ∙ ap (λ (x : List ℕ). front ++ x) r) run)
   range-by behind r s (range_case {base = b} {c} {t} {ds} es q tells e d) =
       let same = told b c t q tells in
       let ends = ends-range base digits ds es front rest w (same.1 ∙ e) (rw (sym same.0) at d) cut run stop in
-      ap (λ (n : ℕ). Range (digits_value n ds) (digits_value n es)) (sym same.0) ∙ ap (λ (x : List ℕ). Range (digits_value base x) (digits_value base es)) ends.0
+      ap (λ (n : ℕ). Range (digits_value n ds) (digits_value n es)) (sym same.0)
+      ∙ ap (λ (x : List ℕ). Range (digits_value base x) (digits_value base es)) ends.0
       ∙ ap (λ (x : List ℕ). Range (digits_value base front) (digits_value base x)) (same-tails ends.1 r)
 
-  pub values-taken : Lacks 45 rest → (xs : List ℕ) → ((vs : List ℕ) → Listed base digits vs → (xs ≡ vs) × All (λ v. v ≤ MAX_VALUE) vs) → (s : Said) → SaysNum z s → (Values xs ≡ s) × IsSmall s
-  values-taken l xs f s h = let v = values-by l s (num-by h) in let r = f v.0 v.2 in (ap Values r.0 ∙ sym v.1, rw (v.1) r.1)
+  pub values-taken : Lacks 45 rest → (xs : List ℕ)
+      → ((vs : List ℕ) → Listed base digits vs → (xs ≡ vs) × All (λ v. v ≤ MAX_VALUE) vs) → (s : Said) → SaysNum z s
+      → (Values xs ≡ s) × IsSmall s
+  values-taken l xs f s h = let v = values-by l s (num-by h) in let r = f v.0 v.2 in
+      (ap Values r.0 ∙ sym v.1, rw (v.1) r.1)
 
-  pub values-large : Lacks 45 rest → ((vs : List ℕ) → Listed base digits vs → All (λ v. v ≤ MAX_VALUE) vs → ⊥) → (s : Said) → SaysNum z s → IsSmall s → ⊥
+  pub values-large : Lacks 45 rest → ((vs : List ℕ) → Listed base digits vs → All (λ v. v ≤ MAX_VALUE) vs → ⊥)
+      → (s : Said) → SaysNum z s → IsSmall s → ⊥
   values-large l f s h small = let v = values-by l s (num-by h) in f v.0 v.2 (rw (v.1) at small)
 
   module _ (behind : List ℕ) (r : rest ≡ 45 ∷ behind) where
-    pub range-taken : (low high : ℕ) → low ≡ digits_value base front → low ≤ MAX_VALUE → high ≡ digits_value base behind → high ≤ MAX_VALUE → (s : Said) → SaysNum z s → (Range low high ≡ s) × IsSmall s
+    pub range-taken : (low high : ℕ) → low ≡ digits_value base front → low ≤ MAX_VALUE → high ≡ digits_value base behind
+        → high ≤ MAX_VALUE → (s : Said) → SaysNum z s → (Range low high ≡ s) × IsSmall s
     range-taken low high a b c d s h =
-        let e = ap (λ (n : ℕ). Range n high) a ∙ ap (λ (n : ℕ). Range (digits_value base front) n) c ∙ sym (range-by behind r s (num-by h)) in
+        let e = ap (λ (n : ℕ). Range n high) a ∙ ap (λ (n : ℕ). Range (digits_value base front) n) c
+        ∙ sym (range-by behind r s (num-by h)) in
         (e, rw (sym e) (b, d))
 
     pub low-large : MAX_VALUE < digits_value base front → (s : Said) → SaysNum z s → IsSmall s → ⊥
-    low-large l s h small = let k = (rw (range-by behind r s (num-by h)) at small) in let v = k.0 in absurd (omega arith)
+    low-large l s h small = let k = (rw (range-by behind r s (num-by h)) at small) in let v = k.0 in
+        absurd (omega arith)
 
     pub high-large : MAX_VALUE < digits_value base behind → (s : Said) → SaysNum z s → IsSmall s → ⊥
-    high-large l s h small = let k = (rw (range-by behind r s (num-by h)) at small) in let v = k.1 in absurd (omega arith)
+    high-large l s h small = let k = (rw (range-by behind r s (num-by h)) at small) in let v = k.1 in
+        absurd (omega arith)

@@ -5,7 +5,8 @@ use Rattle.ruletable.specs.declared.span.Span.{Span}
 use Rattle.abnfread.specs.Element as e
 use Rattle.abnfread.specs.Element.{Element, Elements, none, more, Rep, Opt, Definition}
 use Rattle.abnfread.specs.AbnfSpelling.{concatenation, alternation, definition}
-use Rattle.abnfread.specs.AbnfWords.{Word, word, Said, Name, Is, Adds, Slash, LParen, RParen, LBrack, RBrack, Repeat, Text, Values, Range, Prose, End}
+use Rattle.abnfread.specs.AbnfWords.{Word, word, Said, Name, Is, Adds, Slash, LParen, RParen, LBrack, RBrack, Repeat}
+use Rattle.abnfread.specs.AbnfWords.{Text, Values, Range, Prose, End}
 
 abbrev pub append : Elements → Elements → Elements
 append none ys = ys
@@ -35,7 +36,8 @@ abbrev pub enclosed : Bracket → Element → Element
 enclosed paren x = x
 enclosed brack x = Opt x
 
--- what stands open round a bracket: the alternatives that ended, the parts of the last one, and how often the bracket stands
+-- what stands open round a bracket: the alternatives that ended, the parts of the last one, and how often the bracket
+-- stands
 pub data Level : Type 0 where
   level : Elements → Elements → Times → Bracket → Level
 

@@ -18,7 +18,8 @@ use Rattle.abnfread.specs.declared.reader.Level.{Level as CodeLevel}
 use Rattle.abnfread.specs.declared.reader.At.{At}
 use Rattle.abnfread.specs.declared.reader.At.TheVariants as ats
 use Rattle.abnfread.specs.declared.reader.Reader.{Reader}
-use Rattle.abnfread.specs.AbnfMachine.{Times, just, times, Bracket, paren, brack, Level, level, Head, head, Last, fresh, awaits, read, Config, start, named, body, done, step}
+use Rattle.abnfread.specs.AbnfMachine.{Times, just, times, Bracket, paren, brack, Level, level, Head, head, Last, fresh}
+use Rattle.abnfread.specs.AbnfMachine.{awaits, read, Config, start, named, body, done, step}
 use Rattle.abnfread.specs.AbnfSays.{SaysKind, Says, IsSmall}
 use Rattle.abnfread.specs.AbnfWords as words
 use Rattle.abnfread.specs.AbnfWords.{Said, Word, word}
@@ -59,7 +60,8 @@ bracket_of code_brackets.Paren = paren
 bracket_of code_brackets.Brack = brack
 
 abbrev pub level_of : CodeLevel → Level
-level_of l = level (elements_of l.alternatives.items) (elements_of l.parts.items) (times_of l.times) (bracket_of l.bracket)
+level_of l = level (elements_of l.alternatives.items) (elements_of l.parts.items) (times_of l.times)
+    (bracket_of l.bracket)
 
 -- the innermost first
 abbrev pub levels_of : List CodeLevel → List Level
@@ -125,13 +127,16 @@ abbrev pub is_there : Option Config → Bool
 is_there None = false
 is_there (Some c) = true
 
--- where the token was not taken, nothing that it says goes on, or numbers that go on are too large, unless memory ran out
+-- where the token was not taken, nothing that it says goes on, or numbers that go on are too large, unless memory ran
+-- out
 abbrev pub Refuses : Config → Marked → Stop → Type 0
 Refuses c m stops.Hopeless = (w : Word) → Says m w → step c w ≡ None
-Refuses c m stops.TooLarge = (g : Bool) × (f : Bool) × (s : Said) × (d : Config) × Says m (word g f s) × (IsSmall s → ⊥) × (step c (word g f s) ≡ Some d)
+Refuses c m stops.TooLarge = (g : Bool) × (f : Bool) × (s : Said) × (d : Config) × Says m (word g f s) × (IsSmall s → ⊥)
+    × (step c (word g f s) ≡ Some d)
 Refuses c m stops.Memory = Unit {0}
 
 -- the reader took what the token says, or it stopped
 abbrev pub Takes : {A : Type 0} → Config → Marked → Result A Stop → Reader → Type 0
-Takes c m (Ok u) r = (g : Bool) × (f : Bool) × (s : Said) × Says m (word g f s) × IsSmall s × (step c (word g f s) ≡ Some (config_of r))
+Takes c m (Ok u) r = (g : Bool) × (f : Bool) × (s : Said) × Says m (word g f s) × IsSmall s
+    × (step c (word g f s) ≡ Some (config_of r))
 Takes c m (Err s) r = Refuses c m s

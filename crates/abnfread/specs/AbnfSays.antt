@@ -9,7 +9,8 @@ use Rattle.abnfread.specs.declared.kind.AbnfKind.TheVariants as kinds
 use Rattle.abnfread.specs.declared.number.TheConstants.{MAX_REPEAT, MAX_VALUE}
 use Rattle.abnfread.specs.AbnfSlices.{is_case}
 use Rattle.abnfread.specs.AbnfSpelling as spelling
-use Rattle.abnfread.specs.AbnfWords.{Word, word, Said, Name, Is, Adds, Slash, LParen, RParen, LBrack, RBrack, Repeat, Text, Values, Range, Prose, End}
+use Rattle.abnfread.specs.AbnfWords.{Word, word, Said, Name, Is, Adds, Slash, LParen, RParen, LBrack, RBrack, Repeat}
+use Rattle.abnfread.specs.AbnfWords.{Text, Values, Range, Prose, End}
 use Rattle.abnfread.specs.MarkedTokens.{Marked, marked}
 use Rattle.abnfread.specs.Numerals.{SaysRepeat, SaysNum, IsWithin}
 
@@ -23,7 +24,8 @@ pub data SaysKind : AbnfKind → List ℕ → Span → Said → Type 0 where
   says_rparen : {z : List ℕ} {p : Span} → SaysKind kinds.RParen z p RParen
   says_lbrack : {z : List ℕ} {p : Span} → SaysKind kinds.LBrack z p LBrack
   says_rbrack : {z : List ℕ} {p : Span} → SaysKind kinds.RBrack z p RBrack
-  says_repeat : {z : List ℕ} {p : Span} {a : ℕ} {b : Option ℕ} → SaysRepeat z a b → SaysKind kinds.Repeat z p (Repeat a b)
+  says_repeat : {z : List ℕ} {p : Span} {a : ℕ} {b : Option ℕ} → SaysRepeat z a b
+      → SaysKind kinds.Repeat z p (Repeat a b)
   -- what stands in quotes; letters stand for either case, but for a text behind `%s`
   says_text : {z t : List ℕ} {p : Span} → z ≡ 34 ∷ (t ++ 34 ∷ []) → SaysKind kinds.Text z p (Text true t)
   says_cased : {z t : List ℕ} {p : Span} {c : ℕ} → is_case c ≡ true → z ≡ 37 ∷ c ∷ 34 ∷ (t ++ 34 ∷ []) →
@@ -35,7 +37,8 @@ pub data SaysKind : AbnfKind → List ℕ → Span → Said → Type 0 where
 
 -- the word of a token has its marks
 pub data Says : Marked → Word → Type 0 where
-  says : {k : AbnfKind} {z : List ℕ} {p : Span} {g f : Bool} {s : Said} → SaysKind k z p s → Says (marked (tok k z p) g f) (word g f s)
+  says : {k : AbnfKind} {z : List ℕ} {p : Span} {g f : Bool} {s : Said} → SaysKind k z p s
+      → Says (marked (tok k z p) g f) (word g f s)
 
 -- the words of a list of tokens, one of each
 abbrev pub SayAll : List Marked → List Word → Type 0

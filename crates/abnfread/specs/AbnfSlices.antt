@@ -1,9 +1,11 @@
--- Where a token of a kind ends (RFC 5234, section 4; RFC 7405): each relation holds of a text and of what stands behind the part that begins it.
+-- Where a token of a kind ends (RFC 5234, section 4; RFC 7405): each relation holds of a text and of what stands behind
+-- the part that begins it.
 use Rattle.std.specs.Prelude.{◌≡◌, ◌≢◌, ℕ, ◌||◌, ◌&&◌, ◌==◌, nat_le, not, Bool, true, false, List, [], ◌∷◌}
 use Rattle.std.specs.Char.{is_ascii_alphabetic, is_ascii_alphanumeric}
 use Rattle.lexer.specs.SliceEnds as cuts
 use Rattle.abnfread.specs.declared.kind.AbnfKind.{AbnfKind}
-use Rattle.abnfread.specs.declared.kind.AbnfKind.TheVariants.{Name, Is, Adds, Slash, LParen, RParen, LBrack, RBrack, Repeat, Text, Num, Prose, Bad, End}
+use Rattle.abnfread.specs.declared.kind.AbnfKind.TheVariants.{Name, Is, Adds, Slash, LParen, RParen, LBrack, RBrack}
+use Rattle.abnfread.specs.declared.kind.AbnfKind.TheVariants.{Repeat, Text, Num, Prose, Bad, End}
 use Rattle.abnfread.specs.BaseDigits.{is_digit, Tells}
 
 -- letters, digits and `-`

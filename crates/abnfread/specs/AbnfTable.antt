@@ -1,5 +1,7 @@
--- The table of a list of definitions (RFC 5234, sections 2.2 and 3.3): names compare without case, `=/` adds alternatives, and core rules are there.
-use Rattle.std.specs.Prelude.{◌≡◌, ℕ, suc, Bool, true, false, cond, ◌&&◌, List, [], ◌∷◌, ◌++◌, position, slice_get, Option, Some, None}
+-- The table of a list of definitions (RFC 5234, sections 2.2 and 3.3): names compare without case, `=/` adds
+-- alternatives, and core rules are there.
+use Rattle.std.specs.Prelude.{◌≡◌, ℕ, suc, Bool, true, false, cond, ◌&&◌, List, [], ◌∷◌, ◌++◌, position, slice_get}
+use Rattle.std.specs.Prelude.{Option, Some, None}
 use Rattle.ruletable.specs.Rules as table
 use Rattle.ruletable.specs.Rules.{same_name}
 use Rattle.ruletable.specs.declared.table.NameCase.TheVariants.{Fold}
@@ -21,7 +23,8 @@ joined x y = alternation (append (alternatives_of x) (alternatives_of y))
 
 -- the body of the first rule of that name among these
 abbrev pub body_in : List Rule → List ℕ → Option Element
-body_in rules n = elim (position (λ rule. same_name Fold n rule.name) rules) [ None ↦ None | Some id ↦ slice_get (bodies rules) id ]
+body_in rules n = elim (position (λ rule. same_name Fold n rule.name) rules)
+    [ None ↦ None | Some id ↦ slice_get (bodies rules) id ]
 
 -- the place of the definition's name among these
 abbrev pub id_in : List (List ℕ) → Definition → Option ℕ
@@ -51,12 +54,16 @@ grown ds rule = record { name = rule.name; body = extended rule.body (added rule
 -- the first definition of each name that is not known yet, with what later ones add to it
 abbrev pub firsts : (List ℕ → Option Element) → List (List ℕ) → List Definition → List Rule
 firsts core known [] = []
-firsts core known (d ∷ ds) = elim (id_in known d) [ None ↦ grown ds (begun core d) ∷ firsts core (known ++ d.name ∷ []) ds | Some id ↦ firsts core known ds ]
+firsts core known (d ∷ ds) = elim (id_in known d)
+    [ None ↦ grown ds (begun core d) ∷ firsts core (known ++ d.name ∷ []) ds | Some id ↦ firsts core known ds ]
 
 -- of each further definition by `=` the id of the rule that it names again
 abbrev pub agains : (List ℕ → Option Element) → List (List ℕ) → List Definition → List ℕ
 agains core known [] = []
-agains core known (d ∷ ds) = elim (id_in known d) [ None ↦ agains core (known ++ d.name ∷ []) ds | Some id ↦ cond d.adds (agains core known ds) (id ∷ agains core known ds) ]
+agains core known (d ∷ ds) = elim (id_in known d) [
+  | None ↦ agains core (known ++ d.name ∷ []) ds
+  | Some id ↦ cond d.adds (agains core known ds) (id ∷ agains core known ds)
+]
 
 -- a definition by `=/` that begins a rule, where no core rule has the name
 abbrev pub is_early : (List ℕ → Option Element) → Definition → Bool
@@ -66,13 +73,15 @@ is_early core d = d.adds && elim (core d.name) [ None ↦ true | Some c ↦ fals
 abbrev pub earlies : (List ℕ → Option Element) → ℕ → List (List ℕ) → List Definition → List ℕ
 earlies core n known [] = []
 earlies core n known (d ∷ ds) = elim (id_in known d) [
-  | None ↦ cond (is_early core d) (n ∷ earlies core (suc n) (known ++ d.name ∷ []) ds) (earlies core (suc n) (known ++ d.name ∷ []) ds)
+  | None ↦ cond (is_early core d) (n ∷ earlies core (suc n) (known ++ d.name ∷ []) ds)
+      (earlies core (suc n) (known ++ d.name ∷ []) ds)
   | Some id ↦ earlies core n known ds
 ]
 
--- The file's rules are those that the definitions make, with the core rules behind them. The ids are those of the rules that are defined again, and of
--- those that are extended before they are defined.
-pub record IsTableOf (definitions : List Definition) (rules : table.Rules Elem) (redefined early : List ℕ) : Type 0 where
+-- The file's rules are those that the definitions make, with the core rules behind them. The ids are those of the rules
+-- that are defined again, and of those that are extended before they are defined.
+pub record IsTableOf (definitions : List Definition) (rules : table.Rules Elem) (redefined early : List ℕ) : Type
+    0 where
   pub names : rules.names ≡ Fold
   pub kept : rules_of rules ≡ firsts (body_in core_list) [] definitions
   pub again : redefined ≡ agains (body_in core_list) [] definitions

@@ -4,7 +4,8 @@ use Rattle.ruletable.specs.Rules as table
 use Rattle.abnfread.specs.declared.elem.Elem.{Elem}
 use Rattle.abnfread.specs.declared.elem.Elem.TheOpen.{Elem-F}
 use Rattle.abnfread.specs.declared.elem.Elem.TheFolds.{fold-Elem}
-use Rattle.abnfread.specs.Element.{Element, Elements, Text, Values, Range, Concat, Alt, Rep, Opt, Name, Prose, none, more, Rule}
+use Rattle.abnfread.specs.Element.{Element, Elements, Text, Values, Range, Concat, Alt, Rep, Opt, Name, Prose, none}
+use Rattle.abnfread.specs.Element.{more, Rule}
 
 abbrev pub elements : List Element → Elements
 elements [] = none

@@ -18,7 +18,9 @@ abbrev pub value : ℕ → Element
 value v = Values (v ∷ [])
 
 abbrev pub hexdig : Elements
-hexdig = more (Name (codes "DIGIT")) (more (plain (codes "A")) (more (plain (codes "B")) (more (plain (codes "C")) (more (plain (codes "D")) (pair (plain (codes "E")) (plain (codes "F")))))))
+hexdig = more (Name (codes "DIGIT")) (more (plain (codes "A"))
+    (more (plain (codes "B")) (more (plain (codes "C"))
+    (more (plain (codes "D")) (pair (plain (codes "E")) (plain (codes "F")))))))
 
 abbrev pub lwsp : Element
 lwsp = Rep 0 None (Alt (pair (Name (codes "WSP")) (Concat (pair (Name (codes "CRLF")) (Name (codes "WSP"))))))

@@ -17,4 +17,5 @@ pub record AreLeft (s : AbnfTokenIter) (ms : List Marked) : Type 0 where
 
 -- What a call of `next` gives: whichever tokens are left, it gave the first of them, and left the others.
 abbrev pub TakesFirst : AbnfTokenIter → Option MarkedToken → AbnfTokenIter → Type 0
-TakesFirst s r t = (ms : List Marked) → AreLeft s ms → MatchOption r (ms ≡ []) (λ x. (others : List Marked) × (ms ≡ marked_of x ∷ others) × AreLeft t others)
+TakesFirst s r t = (ms : List Marked) → AreLeft s ms
+    → MatchOption r (ms ≡ []) (λ x. (others : List Marked) × (ms ≡ marked_of x ∷ others) × AreLeft t others)

@@ -1,5 +1,6 @@
 -- The marks of a text's tokens.
-use Rattle.std.specs.Prelude.{◌≡◌, ℕ, ◌+◌, ◌==◌, ◌||◌, ◌&&◌, nat_le, not, Bool, false, List, [], ◌∷◌, length, take, Option, Some, None, if◌then◌else◌}
+use Rattle.std.specs.Prelude.{◌≡◌, ℕ, ◌+◌, ◌==◌, ◌||◌, ◌&&◌, nat_le, not, Bool, false, List, [], ◌∷◌, length, take}
+use Rattle.std.specs.Prelude.{Option, Some, None, if◌then◌else◌}
 use Rattle.lexer.specs.TokenLists as lexing
 use Rattle.lexer.specs.TokenLists.{Tok, kind_of, start_of, end_of}
 use Rattle.abnfread.specs.declared.kind.AbnfKind.{AbnfKind}

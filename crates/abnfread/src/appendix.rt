@@ -2,7 +2,8 @@
 ghost use Rattle.std.specs.Prelude.{◌≡◌, ◌<◌, slice_get, Some, IfOk};
 ghost use Rattle.ruletable.specs.declared.table.NameCase.TheVariants.{Fold};
 ghost use Rattle.abnfread.specs.AbnfMachine.{snoc};
-ghost use Rattle.abnfread.specs.CoreRules.{pair as pair_of, plain, value as value_of, hexdig as hexdig_of, lwsp as lwsp_of, core_list, core_names, core_bodies};
+ghost use Rattle.abnfread.specs.CoreRules.{pair as pair_of, plain, value as value_of, hexdig as hexdig_of};
+ghost use Rattle.abnfread.specs.CoreRules.{lwsp as lwsp_of, core_list, core_names, core_bodies};
 ghost use Rattle.abnfread.specs.Element.{Range, Concat, Alt, Name};
 ghost use Rattle.abnfread.specs.AbnfViews.{element_of, elements_of, rules_of};
 

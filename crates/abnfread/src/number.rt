@@ -47,7 +47,8 @@ impl<T: Drop> From<AllocFailed<T>> for NumberFault {
 pub(crate) fn number_in(base: u8, limit: u32, digits: &[u8]) -> Option<u32>
     requires least { 2 ≤ base }
     requires most { base ≤ 36 }
-    ensures { MatchOption result (limit < digits_value base digits.now) (λ n. (n ≡ digits_value base digits.now) × (n ≤ limit)) }
+    ensures { MatchOption result (limit < digits_value base digits.now)
+        (λ n. (n ≡ digits_value base digits.now) × (n ≤ limit)) }
 {
     let mut number: u64 = 0;
     let mut rest = digits;
@@ -73,7 +74,9 @@ pub(crate) fn split_digits(base: u8, text: &[u8]) -> (&[u8], &[u8])
 
 // The least and the most that a repeat says.
 pub(crate) fn read_repeat(limit: u32, slice: &[u8]) -> Result<(u32, Option<u32>), NumberFault>
-    ensures { (a : ℕ) (b : Option ℕ) → SaysRepeat slice.now a b → MatchResult result (λ r. (r.0 ≡ a) × (r.1 ≡ b) × IsWithin limit a b) (λ f. (f ≡ NumberFault.TooLarge) × (IsWithin limit a b → ⊥)) }
+    ensures { (a : ℕ) (b : Option ℕ) → SaysRepeat slice.now a b
+        → MatchResult result (λ r. (r.0 ≡ a) × (r.1 ≡ b) × IsWithin limit a b)
+        (λ f. (f ≡ NumberFault.TooLarge) × (IsWithin limit a b → ⊥)) }
 {
     let (front, rest) = split_digits(10, slice);
     let Some(least) = number_in(10, limit, front) else {
@@ -100,7 +103,9 @@ pub(crate) fn read_values(
 ) -> Result<Vec<u32>, NumberFault>
     requires least { 2 ≤ base }
     requires most { base ≤ 36 }
-    ensures { (vs : List ℕ) → Listed base text.now vs → MatchResult result (λ r. (r.items ≡ vs) × All (λ v. v ≤ limit) vs) (λ f. f ≡ NumberFault.TooLarge → All (λ v. v ≤ limit) vs → ⊥) }
+    ensures { (vs : List ℕ) → Listed base text.now vs
+        → MatchResult result (λ r. (r.items ≡ vs) × All (λ v. v ≤ limit) vs)
+        (λ f. f ≡ NumberFault.TooLarge → All (λ v. v ≤ limit) vs → ⊥) }
 {
     let mut values = Vec::new(alloc);
     let mut left = Some(text);

@@ -88,17 +88,22 @@ fn take_token<'a>(
 /// Reads a grammar in ABNF (RFC 5234, RFC 7405). Names compare without case. `=/` adds alternatives to a rule of the
 /// file, or to the core rule of that name; else it begins a rule.
 ///
-/// A rule's span is that of the name of its first definition. Where `=` defines a name again, the first definition stands.
+/// A rule's span is that of the name of its first definition. Where `=` defines a name again, the first definition
+/// stands.
 ///
 /// # Errors
 /// - `TooLong`, before all else, for a text of more than `MAX_GRAMMAR` bytes.
-/// - Else the first token decides with which the text is no beginning of a grammar any more (`Syntax`), or which opens one
-///   bracket more than `MAX_OPEN` at once (`Depth`), or which is a number over its limit (`NumberTooLarge`): `MAX_REPEAT`
-///   in a repeat, `MAX_VALUE` in a terminal. The line is that of the token's first byte, where lines end with LF.
+/// - Else the first token decides with which the text is no beginning of a grammar any more (`Syntax`), or which opens
+///   one bracket more than `MAX_OPEN` at once (`Depth`), or which is a number over its limit (`NumberTooLarge`):
+///   `MAX_REPEAT` in a repeat, `MAX_VALUE` in a terminal. The line is that of the token's first byte, where lines end
+///   with LF.
 /// - `Memory` if an allocation fails.
 pub fn read_abnf(alloc: Global, text: &[u8]) -> Result<Abnf, ReadFault>
-    ensures found { IfOk result (λ abnf. (definitions : List Read) × Reads text.now definitions × IsTableOf definitions abnf.rules abnf.redefined.items abnf.extended.items) }
-    ensures only { (definitions : List Read) → Reads text.now definitions → MatchResult result (λ abnf. IsTableOf definitions abnf.rules abnf.redefined.items abnf.extended.items) (λ f. f ≡ ReadFault.Memory) }
+    ensures found { IfOk result (λ abnf. (definitions : List Read) × Reads text.now definitions
+        × IsTableOf definitions abnf.rules abnf.redefined.items abnf.extended.items) }
+    ensures only { (definitions : List Read) → Reads text.now definitions
+        → MatchResult result (λ abnf. IsTableOf definitions abnf.rules abnf.redefined.items abnf.extended.items)
+        (λ f. f ≡ ReadFault.Memory) }
     ensures core { IfOk result (λ abnf. IsCoreTable abnf.core) }
     ensures fault { IfErr result (λ f. IsFaultOf text.now f) }
 {

@@ -1,8 +1,12 @@
 //! Takes a grammar's words one by one.
 ghost use Rattle.std.specs.Prelude.{◌≡◌, ◌∷◌, Bool, List, IfOk, [], Some, MatchOption};
 ghost use Rattle.abnfread.specs.AbnfMachine as machine;
-ghost use Rattle.abnfread.specs.AbnfMachine.{apply, enclosed, finish, ended, snoc, head, level as a_level, levels_in, element_step, fresh_step, read_step, named_step, rule_step, close_step, end_step, first_step, later_step, step};
-ghost use Rattle.abnfread.specs.AbnfReader.{said_of, definition_from, definitions_from, times_of, bracket_of, level_of, levels_of, head_of, ended_of, parts_of, outer_of, body_of, config_of, Steps, sample, is_there};
+ghost use Rattle.abnfread.specs.AbnfMachine.{apply, enclosed, finish, ended, snoc, head, level as a_level, levels_in};
+ghost use Rattle.abnfread.specs.AbnfMachine.{element_step, fresh_step, read_step, named_step, rule_step, close_step};
+ghost use Rattle.abnfread.specs.AbnfMachine.{end_step, first_step, later_step, step};
+ghost use Rattle.abnfread.specs.AbnfReader.{said_of, definition_from, definitions_from, times_of, bracket_of, level_of};
+ghost use Rattle.abnfread.specs.AbnfReader.{levels_of, head_of, ended_of, parts_of, outer_of, body_of, config_of};
+ghost use Rattle.abnfread.specs.AbnfReader.{Steps, sample, is_there};
 ghost use Rattle.abnfread.specs.AbnfSpelling.{concatenation as concatenation_of, alternation as alternation_of};
 ghost use Rattle.abnfread.specs.AbnfWords.{word};
 ghost use Rattle.abnfread.specs.Element.{none, Definition as D};
@@ -94,8 +98,8 @@ pub(crate) enum At {
     Done,
 }
 
-/// Takes words, and makes definitions of them: those that ended, what the last one began with, what stands round its open
-/// brackets, and the alternatives and parts within the innermost one.
+/// Takes words, and makes definitions of them: those that ended, what the last one began with, what stands round its
+/// open brackets, and the alternatives and parts within the innermost one.
 #[derive(Drop)]
 pub(crate) struct Reader<'a> {
     alloc: Global,
@@ -190,7 +194,8 @@ impl<'a> Reader<'a> {
 
     // Adds a repetition.
     fn push_part(&mut self, times: Times, e: Elem) -> Result<(), Stop>
-        ensures { Steps (Some (machine.body (head_of self.old) (outer_of self.old) (ended_of self.old) (snoc (parts_of self.old) (apply (times_of times) (element_of e))) machine.read)) result self.new }
+        ensures { Steps (Some (machine.body (head_of self.old) (outer_of self.old) (ended_of self.old)
+            (snoc (parts_of self.old) (apply (times_of times) (element_of e))) machine.read)) result self.new }
     {
         let part = repeated(self.alloc, times, e)?;
         self.parts.push(part)?;
@@ -200,7 +205,9 @@ impl<'a> Reader<'a> {
 
     // Opens a bracket.
     fn open_bracket(&mut self, times: Times, bracket: Bracket) -> Result<(), Stop>
-        ensures { Steps (Some (machine.body (head_of self.old) (a_level (ended_of self.old) (parts_of self.old) (times_of times) (bracket_of bracket) ∷ outer_of self.old) none none machine.fresh)) result self.new }
+        ensures { Steps (Some (machine.body (head_of self.old)
+            (a_level (ended_of self.old) (parts_of self.old) (times_of times) (bracket_of bracket) ∷ outer_of self.old)
+            none none machine.fresh)) result self.new }
     {
         let alternatives = mem::replace(&mut self.alternatives, Vec::new(self.alloc));
         let parts = mem::replace(&mut self.parts, Vec::new(self.alloc));
@@ -216,7 +223,8 @@ impl<'a> Reader<'a> {
 
     // Takes the element of a repetition.
     fn take_element(&mut self, times: Times, said: Said<'a>) -> Result<(), Stop>
-        ensures { Steps (element_step (head_of self.old) (outer_of self.old) (ended_of self.old) (parts_of self.old) (times_of times) (said_of said.entry)) result self.new }
+        ensures { Steps (element_step (head_of self.old) (outer_of self.old) (ended_of self.old) (parts_of self.old)
+            (times_of times) (said_of said.entry)) result self.new }
     {
         match said {
             Said::Name(name, _) => {
@@ -241,7 +249,8 @@ impl<'a> Reader<'a> {
 
     // Takes a word where a repetition must begin.
     fn take_fresh(&mut self, said: Said<'a>) -> Result<(), Stop>
-        ensures { Steps (fresh_step (head_of self.old) (outer_of self.old) (ended_of self.old) (parts_of self.old) (said_of said.entry)) result self.new }
+        ensures { Steps (fresh_step (head_of self.old) (outer_of self.old) (ended_of self.old) (parts_of self.old)
+            (said_of said.entry)) result self.new }
     {
         match said {
             Said::Repeat(least, most) => {
@@ -254,7 +263,8 @@ impl<'a> Reader<'a> {
 
     // Ends a concatenation at a slash.
     fn end_concatenation(&mut self) -> Result<(), Stop>
-        ensures { Steps (Some (machine.body (head_of self.old) (outer_of self.old) (snoc (ended_of self.old) (concatenation_of (parts_of self.old))) none machine.fresh)) result self.new }
+        ensures { Steps (Some (machine.body (head_of self.old) (outer_of self.old)
+            (snoc (ended_of self.old) (concatenation_of (parts_of self.old))) none machine.fresh)) result self.new }
     {
         let parts = mem::replace(&mut self.parts, Vec::new(self.alloc));
         self.alternatives.push(concatenation(parts))?;
@@ -264,7 +274,8 @@ impl<'a> Reader<'a> {
 
     // Closes a bracket of that form.
     fn close_bracket(&mut self, bracket: Bracket) -> Result<(), Stop>
-        ensures { Steps (close_step (bracket_of bracket) (outer_of self.old) (head_of self.old) (finish (ended_of self.old) (parts_of self.old))) result self.new }
+        ensures { Steps (close_step (bracket_of bracket) (outer_of self.old) (head_of self.old)
+            (finish (ended_of self.old) (parts_of self.old))) result self.new }
     {
         let Some(level) = self.outer.pop() else {
             return Err(Stop::Hopeless);
@@ -281,7 +292,8 @@ impl<'a> Reader<'a> {
 
     // Ends a definition.
     fn end_definition(&mut self) -> Result<(), AllocError>
-        ensures { IfOk result (λ _. definitions_from self.new.definitions.items ≡ ended (head_of self.old) (finish (ended_of self.old) (parts_of self.old))) }
+        ensures { IfOk result (λ _. definitions_from self.new.definitions.items ≡ ended (head_of self.old)
+            (finish (ended_of self.old) (parts_of self.old))) }
     {
         let alternatives = mem::replace(&mut self.alternatives, Vec::new(self.alloc));
         let parts = mem::replace(&mut self.parts, Vec::new(self.alloc));
@@ -297,7 +309,8 @@ impl<'a> Reader<'a> {
 
     // Takes a word behind a repetition.
     fn take_behind(&mut self, gap: bool, said: Said<'a>) -> Result<(), Stop>
-        ensures { Steps (read_step (head_of self.old) (outer_of self.old) (ended_of self.old) (parts_of self.old) gap (said_of said.entry)) result self.new }
+        ensures { Steps (read_step (head_of self.old) (outer_of self.old) (ended_of self.old) (parts_of self.old) gap
+            (said_of said.entry)) result self.new }
     {
         match said {
             Said::Slash => self.end_concatenation(),
@@ -322,7 +335,8 @@ impl<'a> Reader<'a> {
 
     // Begins the body of a definition.
     fn begin_body(&mut self, adds: bool)
-        ensures { config_of self.new ≡ machine.body (head (definitions_from self.old.definitions.items) adds self.old.name.now self.old.span) [] none none machine.fresh }
+        ensures { config_of self.new ≡ machine.body (head (definitions_from self.old.definitions.items) adds
+            self.old.name.now self.old.span) [] none none machine.fresh }
     {
         self.adds = adds;
         self.outer = Vec::new(self.alloc);
@@ -333,7 +347,8 @@ impl<'a> Reader<'a> {
 
     // Takes a word behind the name of a definition.
     fn take_assignment(&mut self, said: Said<'a>) -> Result<(), Stop>
-        ensures { Steps (named_step (definitions_from self.old.definitions.items) self.old.name.now self.old.span (said_of said.entry)) result self.new }
+        ensures { Steps (named_step (definitions_from self.old.definitions.items) self.old.name.now self.old.span
+            (said_of said.entry)) result self.new }
     {
         match said {
             Said::Is => {
@@ -350,7 +365,8 @@ impl<'a> Reader<'a> {
 
     // Takes the first word of a line that begins a rule, behind these definitions.
     fn take_rule(&mut self, said: Said<'a>) -> Result<(), Stop>
-        ensures { Steps (rule_step [] (definitions_from self.old.definitions.items) (said_of said.entry)) result self.new }
+        ensures { Steps (rule_step [] (definitions_from self.old.definitions.items) (said_of said.entry)) result
+            self.new }
     {
         match said {
             Said::Name(name, span) => {
@@ -439,7 +455,8 @@ impl<'a> Reader<'a> {
 
     /// The definitions, behind the end; `None` before it.
     pub(crate) fn into_definitions(self) -> Option<Vec<Definition<'a>>>
-        ensures done { (ds : List D) → config_of self.entry ≡ machine.done ds → MatchOption result ⊥ (λ v. definitions_from v.items ≡ ds) }
+        ensures done { (ds : List D) → config_of self.entry ≡ machine.done ds
+            → MatchOption result ⊥ (λ v. definitions_from v.items ≡ ds) }
     {
         match self.at {
             At::Done => Some(self.definitions),

@@ -3,7 +3,8 @@ ghost use Rattle.std.specs.Prelude.{◌≡◌, ◌≢◌, ℕ, ◌<◌, ◌≤�
 ghost use Rattle.std.specs.Char.{is_ascii_alphabetic, digit_value};
 ghost use Rattle.abnfread.specs.ByteClasses.{test_of};
 ghost use Rattle.abnfread.specs.BaseDigits.{is_digit as is_digit_in, Tells};
-ghost use Rattle.abnfread.specs.AbnfSlices.{is_blank, is_case as is_case_letter, Run, Stops, Lacks, Digits, Dotted, Numbers, Count, Piece, White, Stands, First};
+ghost use Rattle.abnfread.specs.AbnfSlices.{is_blank, is_case as is_case_letter, Run, Stops, Lacks, Digits, Dotted};
+ghost use Rattle.abnfread.specs.AbnfSlices.{Numbers, Count, Piece, White, Stands, First};
 ghost use Rattle.lexer.specs.SliceEnds.{NoPiece, NoToken, Longest};
 
 use crate::kind::AbnfKind;
@@ -76,7 +77,8 @@ pub(crate) fn after_byte(text: &[u8], b: u8) -> Option<&[u8]>
 // What stands behind bytes of a class and a mark of another.
 fn after_closed(class: Class, mark: u8, text: &[u8]) -> Option<&[u8]>
     requires { test_of class mark ≡ false }
-    ensures { MatchOption result ((r : List ℕ) → Run (test_of class) text.now (mark ∷ r) → ⊥) (λ rest. Run (test_of class) text.now (mark ∷ rest.now)) }
+    ensures { MatchOption result ((r : List ℕ) → Run (test_of class) text.now (mark ∷ r) → ⊥)
+        (λ rest. Run (test_of class) text.now (mark ∷ rest.now)) }
 {
     let end = after_run(class, text);
     match after_byte(end, mark) {
@@ -87,7 +89,8 @@ fn after_closed(class: Class, mark: u8, text: &[u8]) -> Option<&[u8]>
 
 // What stands behind the digits.
 fn after_digits(base: u8, text: &[u8]) -> Option<&[u8]>
-    ensures { MatchOption result ((r : List ℕ) → Digits base text.now r → ⊥) (λ rest. Digits base text.now rest.now × Stops (is_digit_in base) rest.now) }
+    ensures { MatchOption result ((r : List ℕ) → Digits base text.now r → ⊥)
+        (λ rest. Digits base text.now rest.now × Stops (is_digit_in base) rest.now) }
 {
     let (first, tail) = text.split_first()?;
     if is_in(Class::Digit(base), *first) {
@@ -116,7 +119,9 @@ fn after_dotted(base: u8, text: &[u8]) -> &[u8]
 // What stands behind numbers of a base.
 fn after_numbers(base: u8, text: &[u8]) -> Option<&[u8]>
     requires { base ≤ 36 }
-    ensures { MatchOption result ((r : List ℕ) → Numbers base text.now r → ⊥) (λ rest. Numbers base text.now rest.now × ((s : List ℕ) → Numbers base text.now s → length rest.now ≤ length s)) }
+    ensures { MatchOption result ((r : List ℕ) → Numbers base text.now r → ⊥)
+        (λ rest. Numbers base text.now rest.now × ((s : List ℕ) → Numbers base text.now s
+        → length rest.now ≤ length s)) }
 {
     let rest = after_digits(base, text)?;
     match after_byte(rest, b'-') {
@@ -148,7 +153,8 @@ fn is_white(b: u8) -> bool
 
 // What stands behind one piece of white space.
 fn after_piece(text: &[u8]) -> Option<&[u8]>
-    ensures { MatchOption result (NoPiece Piece text.now) (λ rest. Piece text.now rest.now × (length rest.now < length text.now)) }
+    ensures { MatchOption result (NoPiece Piece text.now)
+        (λ rest. Piece text.now rest.now × (length rest.now < length text.now)) }
 {
     let (first, tail) = text.split_first()?;
     if is_white(*first) {
@@ -217,7 +223,8 @@ fn equals_token(tail: &[u8]) -> (AbnfKind, &[u8])
 // A text behind `%s` or `%i`.
 fn cased_token(c: u8, tail: &[u8]) -> Option<(AbnfKind, &[u8])>
     requires { is_case_letter c ≡ true }
-    ensures { MatchOption result (NoToken Stands (37 ∷ c ∷ tail.now)) (λ token. Longest Stands token.0 (37 ∷ c ∷ tail.now) token.1.now) }
+    ensures { MatchOption result (NoToken Stands (37 ∷ c ∷ tail.now))
+        (λ token. Longest Stands token.0 (37 ∷ c ∷ tail.now) token.1.now) }
 {
     let quoted = after_byte(tail, b'"')?;
     let rest = after_closed(Class::Quotable, b'"', quoted)?;
@@ -227,7 +234,8 @@ fn cased_token(c: u8, tail: &[u8]) -> Option<(AbnfKind, &[u8])>
 // Numbers behind `%` and a letter.
 fn based_token(c: u8, tail: &[u8]) -> Option<(AbnfKind, &[u8])>
     requires { is_case_letter c ≡ false }
-    ensures { MatchOption result (NoToken Stands (37 ∷ c ∷ tail.now)) (λ token. Longest Stands token.0 (37 ∷ c ∷ tail.now) token.1.now) }
+    ensures { MatchOption result (NoToken Stands (37 ∷ c ∷ tail.now))
+        (λ token. Longest Stands token.0 (37 ∷ c ∷ tail.now) token.1.now) }
 {
     let base = base_of(c)?;
     let rest = after_numbers(base, tail)?;
@@ -236,7 +244,8 @@ fn based_token(c: u8, tail: &[u8]) -> Option<(AbnfKind, &[u8])>
 
 // The token that a `%` begins.
 fn percent_token(tail: &[u8]) -> Option<(AbnfKind, &[u8])>
-    ensures { MatchOption result (NoToken Stands (37 ∷ tail.now)) (λ token. Longest Stands token.0 (37 ∷ tail.now) token.1.now) }
+    ensures { MatchOption result (NoToken Stands (37 ∷ tail.now))
+        (λ token. Longest Stands token.0 (37 ∷ tail.now) token.1.now) }
 {
     let (c, behind) = tail.split_first()?;
     if is_case(*c) {
@@ -250,7 +259,8 @@ fn percent_token(tail: &[u8]) -> Option<(AbnfKind, &[u8])>
 fn marked_token(first: u8, tail: &[u8]) -> Option<(AbnfKind, &[u8])>
     requires letter { is_ascii_alphabetic first ≡ false }
     requires digit { is_digit_in 10 first ≡ false }
-    ensures { MatchOption result (NoToken Stands (first ∷ tail.now)) (λ token. Longest Stands token.0 (first ∷ tail.now) token.1.now) }
+    ensures { MatchOption result (NoToken Stands (first ∷ tail.now))
+        (λ token. Longest Stands token.0 (first ∷ tail.now) token.1.now) }
 {
     match first {
         b'=' => Some(equals_token(tail)),
@@ -269,7 +279,8 @@ fn marked_token(first: u8, tail: &[u8]) -> Option<(AbnfKind, &[u8])>
 
 // The longest token that begins a text.
 fn token_at(first: u8, tail: &[u8]) -> Option<(AbnfKind, &[u8])>
-    ensures { MatchOption result (NoToken Stands (first ∷ tail.now)) (λ token. Longest Stands token.0 (first ∷ tail.now) token.1.now) }
+    ensures { MatchOption result (NoToken Stands (first ∷ tail.now))
+        (λ token. Longest Stands token.0 (first ∷ tail.now) token.1.now) }
 {
     if first.is_ascii_alphabetic() {
         Some((AbnfKind::Name, after_run(Class::Inner, tail)))

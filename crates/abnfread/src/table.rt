@@ -3,7 +3,8 @@ ghost use Rattle.std.specs.Prelude.{◌≡◌, ◌<◌, length, slice_get, Some,
 ghost use Rattle.ruletable.specs.Rules.{bodies_of};
 ghost use Rattle.ruletable.specs.declared.table.NameCase.TheVariants.{Fold};
 ghost use Rattle.abnfread.specs.AbnfReader.{definition_from, definitions_from};
-ghost use Rattle.abnfread.specs.AbnfTable.{alternatives_of as alternatives, joined, IsTableOf, IsCoreTable, IsFirstBody, IsExtended, IsTaken};
+ghost use Rattle.abnfread.specs.AbnfTable.{alternatives_of as alternatives, joined, IsTableOf, IsCoreTable};
+ghost use Rattle.abnfread.specs.AbnfTable.{IsFirstBody, IsExtended, IsTaken};
 ghost use Rattle.abnfread.specs.AbnfViews.{element_of, elements_of};
 
 use crate::appendix::{core_body, core_rules};
@@ -97,7 +98,8 @@ fn first_body(
 
 /// The table of these definitions.
 pub(crate) fn table_of(alloc: Global, definitions: Vec<Definition<'_>>) -> Result<Abnf, Memory>
-    ensures table { IfOk result (λ abnf. IsTableOf (definitions_from definitions.entry.items) abnf.rules abnf.redefined.items abnf.extended.items) }
+    ensures table { IfOk result (λ abnf. IsTableOf (definitions_from definitions.entry.items) abnf.rules
+        abnf.redefined.items abnf.extended.items) }
     ensures core { IfOk result (λ abnf. IsCoreTable abnf.core) }
 {
     let core = core_rules(alloc)?;

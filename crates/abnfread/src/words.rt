@@ -1,5 +1,6 @@
 //! What tokens say to a grammar.
-ghost use Rattle.std.specs.Prelude.{◌≡◌, ◌≢◌, ℕ, ◌≤◌, ◌||◌, ◌==◌, Bool, true, List, ◌∷◌, ◌++◌, [], None, Ok, MatchResult};
+ghost use Rattle.std.specs.Prelude.{◌≡◌, ◌≢◌, ℕ, ◌≤◌, ◌||◌, ◌==◌, Bool, true, List, ◌∷◌, ◌++◌, [], None, Ok};
+ghost use Rattle.std.specs.Prelude.{MatchResult};
 ghost use Rattle.abnfread.specs.declared.kind.AbnfKind.TheVariants.{Bad};
 ghost use Rattle.abnfread.specs.AbnfReader.{said_of, Gives};
 ghost use Rattle.abnfread.specs.AbnfSays.{SaysKind, IsSmall};
@@ -45,7 +46,8 @@ pub(crate) fn said_in<'a>(
     alloc: Global,
     token: Token<'a, AbnfKind>,
 ) -> Result<Option<Said<'a>>, NumberFault>
-    ensures says { (s : words.Said) → SaysKind token.entry.kind token.entry.slice.now token.entry.span s → Gives s result }
+    ensures says { (s : words.Said) → SaysKind token.entry.kind token.entry.slice.now token.entry.span s
+        → Gives s result }
     ensures bad { token.entry.kind ≡ Bad → result ≡ Ok None }
 {
     match token.kind {
@@ -85,7 +87,8 @@ fn inside(slice: &[u8]) -> &[u8]
 // Whether the letters of a text stand for either case, and what stands in its quotes.
 fn quoted(slice: &[u8]) -> (bool, &[u8])
     ensures plain { (text : List ℕ) → slice.now ≡ 34 ∷ (text ++ 34 ∷ []) → (result.0 ≡ true) × (result.1.now ≡ text) }
-    ensures cased { (c : ℕ) (text : List ℕ) → slice.now ≡ 37 ∷ c ∷ 34 ∷ (text ++ 34 ∷ []) → (result.0 ≡ ((c == 105) || (c == 73))) × (result.1.now ≡ text) }
+    ensures cased { (c : ℕ) (text : List ℕ) → slice.now ≡ 37 ∷ c ∷ 34 ∷ (text ++ 34 ∷ [])
+        → (result.0 ≡ ((c == 105) || (c == 73))) × (result.1.now ≡ text) }
 {
     let Some(behind) = after_byte(slice, b'%') else {
         return (true, inside(slice));
@@ -98,7 +101,8 @@ fn quoted(slice: &[u8]) -> (bool, &[u8])
 
 // The base of a number, and what stands behind the letter that tells it.
 fn split_base(slice: &[u8]) -> (u8, &[u8])
-    ensures told { (base c : ℕ) (text : List ℕ) → slice.now ≡ 37 ∷ c ∷ text → Tells c base → (result.0 ≡ base) × (result.1.now ≡ text) }
+    ensures told { (base c : ℕ) (text : List ℕ) → slice.now ≡ 37 ∷ c ∷ text → Tells c base → (result.0 ≡ base)
+        × (result.1.now ≡ text) }
     ensures least { 2 ≤ result.0 }
     ensures most { result.0 ≤ 36 }
 {
@@ -116,7 +120,8 @@ fn split_base(slice: &[u8]) -> (u8, &[u8])
 
 // The values of a number, or its range.
 fn said_number(alloc: Global, slice: &[u8]) -> Result<Said<'_>, NumberFault>
-    ensures { (s : words.Said) → SaysNum slice.now s → MatchResult result (λ w. (said_of w ≡ s) × IsSmall s) (λ f. f ≡ NumberFault.TooLarge → IsSmall s → ⊥) }
+    ensures { (s : words.Said) → SaysNum slice.now s → MatchResult result (λ w. (said_of w ≡ s) × IsSmall s)
+        (λ f. f ≡ NumberFault.TooLarge → IsSmall s → ⊥) }
 {
     let (base, digits) = split_base(slice);
     let (front, rest) = split_digits(base, digits);

@@ -8,7 +8,8 @@ use Rattle.abnfread.specs.AbnfReading.{IsFaultOf}
 use Rattle.abnfread.specs.Element.{Rule}
 use Rattle.abnfread.specs.AbnfViews.{rules_of}
 use Rattle.abnfcheck.specs.AbnfGrammar.{Grammar}
-use Rattle.abnfrun.specs.AbnfAnswers.{AbnfStates, refused, noted, checked, judges, again as again_noted, printed, no_memory}
+use Rattle.abnfrun.specs.AbnfAnswers.{AbnfStates, refused, noted, checked, judges, again as again_noted, printed}
+use Rattle.abnfrun.specs.AbnfAnswers.{no_memory}
 use Rattle.abnfrun.specs.AbnfChecking.{IsChecked}
 use Rattle.abnfrun.specs.AbnfNoted.{rule_given}
 use Rattle.abnfrun.specs.AbnfPrinting.{IsPrintable}
@@ -38,25 +39,31 @@ module _ (text : List ℕ) (settings : Settings) where
   -- a text that was not read
   pub unread-plan : (why : ReadFault) → IsFaultOf text why → Planned [] (Err (unread why))
   unread-plan why faulty =
-      plan_of_unread (AbnfStates text settings) (IsFaultOf text) (λ input why. refused why) (λ input. no_memory) (λ (t : AbnfTask). abnf_does t settings) why faulty
+      plan_of_unread (AbnfStates text settings) (IsFaultOf text) (λ input why. refused why) (λ input. no_memory)
+      (λ (t : AbnfTask). abnf_does t settings) why faulty
 
   -- a grammar that was checked, to judge lines
-  pub run_plan : ((rules : List Rule) (judged : ℕ) (line : List ℕ) → (said : Answer) × AnswersFor rules judged settings line said) →
-      (notes : List Said) (sound : Option Grammar) → settings.mode ≡ Run → IsChecked text (rule_given settings) notes sound →
+  pub run_plan : ((rules : List Rule) (judged : ℕ) (line : List ℕ) → (said : Answer)
+      × AnswersFor rules judged settings line said) →
+      (notes : List Said) (sound : Option Grammar) → settings.mode ≡ Run → IsChecked text (rule_given settings) notes
+      sound →
       Planned (notes_text notes) (run_task sound)
   run_plan decided notes None run c = record {
     stated = λ input reply is. rw is (noted c.definitions notes c.reads c.are_notes c.ready (λ e. absurd (cc)));
     some = λ input. (stopped (Quiet status.Refused), refl);
   }
   run_plan decided notes (Some g) run c = record {
-    stated = λ input reply is. let kept = c.ready.1 in let at = c.ready.2 in judges c.definitions notes reply c.reads c.are_notes c.ready.0 run (rw (kept, at) at is);
+    stated = λ input reply is. let kept = c.ready.1 in let at = c.ready.2 in
+        judges c.definitions notes reply c.reads c.are_notes c.ready.0 run (rw (kept, at) at is);
     some = λ input.
-        let goes = lines_go_on (AnswersFor (rules_of g.rules) g.judged settings) settings.limit input (decided (rules_of g.rules) g.judged) (record { place = 0; count = 0; all = true }) [] none in
+        let goes = lines_go_on (AnswersFor (rules_of g.rules) g.judged settings) settings.limit input
+        (decided (rules_of g.rules) g.judged) (record { place = 0; count = 0; all = true }) [] none in
         (goes.reply, replied goes.reply goes.replies);
   }
 
   -- a grammar that was checked alone
-  pub check_plan : (notes : List Said) (sound : Option Grammar) → settings.mode ≡ Check → IsChecked text (rule_given settings) notes sound →
+  pub check_plan : (notes : List Said) (sound : Option Grammar) → settings.mode ≡ Check
+      → IsChecked text (rule_given settings) notes sound →
       Planned (notes_text notes) (check_task sound)
   check_plan notes None check c = record {
     stated = λ input reply is. rw is (noted c.definitions notes c.reads c.are_notes c.ready (λ e. absurd (cc)));
@@ -68,13 +75,16 @@ module _ (text : List ℕ) (settings : Settings) where
   }
 
   -- a grammar that was read to be printed
-  pub again-plan : (rules : List Rule) (again : List Said) → settings.mode ≡ Print → again ≢ [] → IsPrintable text rules again →
+  pub again-plan : (rules : List Rule) (again : List Said) → settings.mode ≡ Print → again ≢ []
+      → IsPrintable text rules again →
       Planned (notes_text again) (Err (Quiet status.Refused))
   again-plan rules again print some c = record {
     stated = λ input reply is. rw is (again_noted c.definitions again c.reads c.are_again some print);
     some = λ input. (stopped (Quiet status.Refused), refl);
   }
 
-  pub printed-states : (rules : List Rule) → settings.mode ≡ Print → IsPrintable text rules [] → (input : Input) (reply : Reply) →
+  pub printed-states : (rules : List Rule) → settings.mode ≡ Print → IsPrintable text rules []
+      → (input : Input) (reply : Reply) →
       reply ≡ printed_rules rules → AbnfStates text settings input [] reply
-  printed-states rules print c input reply is = let kept = c.kept in rw (is, kept) (printed c.definitions c.reads c.are_again print)
+  printed-states rules print c input reply is = let kept = c.kept in
+      rw (is, kept) (printed c.definitions c.reads c.are_again print)

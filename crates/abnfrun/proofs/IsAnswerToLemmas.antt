@@ -1,6 +1,7 @@
 -- The answer to a line: what it is by the answer to its letters, and that there is exactly one.
 -- Serves: run_abnf (right), one_reply_of_abnf, one_statement_of_abnf
-use Rattle.std.proofs.Common.{◌≡◌, ℕ, suc, zero, ◌<◌, ◌≤◌, ◌⊎◌, inl, inr, Bool, true, false, List, [], length, take, refl, sym, ◌∙◌, ap, subst, arith}
+use Rattle.std.proofs.Common.{◌≡◌, ℕ, suc, zero, ◌<◌, ◌≤◌, ◌⊎◌, inl, inr, Bool, true, false, List, [], length, take}
+use Rattle.std.proofs.Common.{refl, sym, ◌∙◌, ap, subst, arith}
 use Rattle.std.proofs.lemmas.Bool.{cases_lt, false≢true}
 use Rattle.std.proofs.lemmas.List.{take_all}
 use Rattle.abnfread.specs.Element.{Rule}
@@ -8,7 +9,8 @@ use Rattle.abnfcheck.specs.Beginnings.{IsFurthest}
 use Rattle.abnfcheck.specs.Derivable.{RuleDerives}
 use Rattle.abnfrun.specs.AbnfReply.{AreLettersOf, IsAnswerTo, IsMember, Reaches}
 use Rattle.abnfrun.specs.LetterAnswers.{IsAnswerOn, torn}
-use Rattle.abnfrun.proofs.IsAnswerOnLemmas.{DerivationIsDecided, FurthestIsFound, FurthestIsOne, letters_answered, whole_is_furthest}
+use Rattle.abnfrun.proofs.IsAnswerOnLemmas.{DerivationIsDecided, FurthestIsFound, FurthestIsOne, letters_answered}
+use Rattle.abnfrun.proofs.IsAnswerOnLemmas.{whole_is_furthest}
 use Rattle.letters.specs.Letters.{has}
 use Rattle.letters.specs.Utf8Text.{IsLongestText, IsText, Spells, end}
 use Rattle.letters.specs.declared.alphabet.Alphabet.{Alphabet}
@@ -24,14 +26,23 @@ abbrev pub TextIsOne : Type 0
 TextIsOne = (line points others : List ℕ) → Spells points line → Spells others line → points ≡ others
 
 -- what is decoded of a text
-pub decoded : (Spelled Empty Text : Type 0) (is : Bool) → Text → (is ≡ true → Spelled) → (is ≡ false → Empty × (Text → ⊥)) → Spelled
+pub decoded : (Spelled Empty Text : Type 0) (is : Bool) → Text → (is ≡ true → Spelled)
+    → (is ≡ false → Empty × (Text → ⊥)) → Spelled
 decoded Spelled Empty Text true text spelled none = spelled refl
 decoded Spelled Empty Text false text spelled none = absurd ((none refl).1 text)
 
 -- where no longer beginning than that of m bytes is UTF-8
-longest_within : TextIsDecided → (line : List ℕ) (m : ℕ) → m ≤ length line → ((k : ℕ) → m < k → k ≤ length line → IsText (take k line) → ⊥) →
+longest_within : TextIsDecided → (line : List ℕ) (m : ℕ) → m ≤ length line
+    → ((k : ℕ) → m < k → k ≤ length line → IsText (take k line) → ⊥) →
     (k : ℕ) × IsLongestText line k
-longest_within text line zero le none = (0, record { within = le; text = record { points = []; spelled = end }; longest = none })
+longest_within text line zero le none = (
+  0,
+  record {
+    within = le;
+    text = record { points = []; spelled = end };
+    longest = none;
+  },
+)
 longest_within text line (suc m) le none = elim (text (take (suc m) line)) [
   | inl is ↦ (suc m, record { within = le; text = is; longest = none })
   | inr bad ↦ longest_within text line m (omega (arith, le)) (λ k lt high is. elim (cases_lt (suc m) k) [
@@ -42,7 +53,8 @@ longest_within text line (suc m) le none = elim (text (take (suc m) line)) [
 
 -- one longest beginning that is UTF-8
 longest_text : TextIsDecided → (line : List ℕ) → (k : ℕ) × IsLongestText line k
-longest_text text line = longest_within text line (length line) (omega arith) (λ k past high. absurd (omega (arith, past, high)))
+longest_text text line = longest_within text line (length line) (omega arith)
+    (λ k past high. absurd (omega (arith, past, high)))
 
 one_longest : (line : List ℕ) (a b : ℕ) → IsLongestText line a → IsLongestText line b → a ≡ b
 one_longest line a b f g = elim (cases_lt a b) [
@@ -55,7 +67,8 @@ one_longest line a b f g = elim (cases_lt a b) [
 
 -- the letters of a line that is UTF-8
 whole_front : (line points : List ℕ) → Spells points line → Spells points (take (length line) line)
-whole_front line points spelled = subst (λ (l : List ℕ). Spells points l) (sym (take_all (length line) line (omega arith))) spelled
+whole_front line points spelled = subst (λ (l : List ℕ). Spells points l)
+    (sym (take_all (length line) line (omega arith))) spelled
 
 text_letters : (line points : List ℕ) → Spells points line → AreLettersOf Utf8 line points
 text_letters line points spelled = (
@@ -82,34 +95,56 @@ module _ (viable : Bool) (rules : List Rule) (judged : ℕ) (line : List ℕ) wh
   bytes_answer (NoAfter n) h = (h.0, h.1, record { of_line = line; are = refl; furthest = h.2 })
 
   -- a line that is UTF-8
-  no_member : TextIsOne → (points : List ℕ) → Spells points line → (RuleDerives (has Utf8) rules judged points → ⊥) → IsMember Utf8 rules judged line → ⊥
-  no_member one points spelled none m = none (subst (λ (v : List ℕ). RuleDerives (has Utf8) rules judged v) (one line m.0 points m.1 spelled) m.2)
+  no_member : TextIsOne → (points : List ℕ) → Spells points line → (RuleDerives (has Utf8) rules judged points → ⊥)
+      → IsMember Utf8 rules judged line → ⊥
+  no_member one points spelled none m = none (subst (λ (v : List ℕ). RuleDerives (has Utf8) rules judged v)
+      (one line m.0 points m.1 spelled) m.2)
 
-  pub text_answer : TextIsOne → (points : List ℕ) → Spells points line → (said : Answer) → On Utf8 points said → To Utf8 said
+  pub text_answer : TextIsOne → (points : List ℕ) → Spells points line → (said : Answer) → On Utf8 points said
+      → To Utf8 said
   text_answer one points spelled Yes p = (points, spelled, p)
   text_answer one points spelled No h = (h.0, no_member one points spelled h.1)
-  text_answer one points spelled (NoAfter n) h =
-      (h.0, no_member one points spelled h.1, record { of_line = points; are = text_letters line points spelled; furthest = h.2 })
+  text_answer one points spelled (NoAfter n) h = (
+    h.0,
+    no_member one points spelled h.1,
+    record {
+      of_line = points;
+      are = text_letters line points spelled;
+      furthest = h.2;
+    },
+  )
 
   -- a line that is not UTF-8, by the code points of its longest beginning that is
   pub no_text : (IsText line → ⊥) → IsMember Utf8 rules judged line → ⊥
   no_text bad m = bad (record { points = m.0; spelled = m.1 })
 
-  pub torn_answer : (IsText line → ⊥) → viable ≡ true → (k : ℕ) (points : List ℕ) → IsLongestText line k → Spells points (take k line) → (said : Answer) →
+  pub torn_answer : (IsText line → ⊥) → viable ≡ true → (k : ℕ) (points : List ℕ) → IsLongestText line k
+      → Spells points (take k line) → (said : Answer) →
       On Utf8 points said → To Utf8 (torn (length points) said)
-  torn_answer bad asked k points longest spelled Yes p =
-      (asked, no_text bad, record { of_line = points; are = (k, longest, spelled); furthest = whole_is_furthest (has Utf8) rules judged points p })
+  torn_answer bad asked k points longest spelled Yes p = (
+    asked,
+    no_text bad,
+    record {
+      of_line = points;
+      are = (k, longest, spelled);
+      furthest = whole_is_furthest (has Utf8) rules judged points p;
+    },
+  )
   torn_answer bad asked k points longest spelled No h = absurd (false≢true (sym h.0 ∙ asked))
-  torn_answer bad asked k points longest spelled (NoAfter n) h = (asked, no_text bad, record { of_line = points; are = (k, longest, spelled); furthest = h.2 })
+  torn_answer bad asked k points longest spelled (NoAfter n) h =
+      (asked, no_text bad, record { of_line = points; are = (k, longest, spelled); furthest = h.2 })
 
 -- each line has an answer
 pub line_answered : DerivationIsDecided → FurthestIsFound → TextIsDecided → TextIsOne →
-    (letters : Alphabet) (viable : Bool) (rules : List Rule) (judged : ℕ) (line : List ℕ) → (said : Answer) × IsAnswerTo letters viable rules judged line said
+    (letters : Alphabet) (viable : Bool) (rules : List Rule) (judged : ℕ) (line : List ℕ) → (said : Answer)
+    × IsAnswerTo letters viable rules judged line said
 line_answered law found text one Bytes viable rules judged line =
-    let d = letters_answered law found (has Bytes) viable rules judged line in (d.0, bytes_answer viable rules judged line d.0 d.1)
+    let d = letters_answered law found (has Bytes) viable rules judged line in
+    (d.0, bytes_answer viable rules judged line d.0 d.1)
 line_answered law found text one Utf8 viable rules judged line = by viable (text line)
   where
-    by : (viable : Bool) → IsText line ⊎ (IsText line → ⊥) → (said : Answer) × IsAnswerTo Utf8 viable rules judged line said
+    by : (viable : Bool) → IsText line ⊎ (IsText line → ⊥) → (said : Answer) × IsAnswerTo Utf8 viable rules judged line
+        said
     by viable (inl t) =
         let d = letters_answered law found (has Utf8) viable rules judged t.points in
         (d.0, text_answer viable rules judged line one t.points t.spelled d.0 d.1)
@@ -121,17 +156,21 @@ line_answered law found text one Utf8 viable rules judged line = by viable (text
         (torn (length t.points) d.0, torn_answer true rules judged line bad refl k.0 t.points k.1 t.spelled d.0 d.1)
 
 -- and one alone
-module _ (one : TextIsOne) (furthest : FurthestIsOne) (letters : Alphabet) (rules : List Rule) (judged : ℕ) (line : List ℕ) where
+module _ (one : TextIsOne) (furthest : FurthestIsOne) (letters : Alphabet) (rules : List Rule) (judged : ℕ)
+    (line : List ℕ) where
   one_letters : (letters : Alphabet) (x y : List ℕ) → AreLettersOf letters line x → AreLettersOf letters line y → x ≡ y
   one_letters Bytes x y e f = e ∙ sym f
-  one_letters Utf8 x y e f = one (take e.0 line) x y e.2 (subst (λ (k : ℕ). Spells y (take k line)) (one_longest line f.0 e.0 f.1 e.1) f.2)
+  one_letters Utf8 x y e f = one (take e.0 line) x y e.2
+      (subst (λ (k : ℕ). Spells y (take k line)) (one_longest line f.0 e.0 f.1 e.1) f.2)
 
   one_reach : (n m : ℕ) → Reaches letters rules judged line n → Reaches letters rules judged line m → n ≡ m
   one_reach n m r q =
       let same = one_letters letters r.of_line q.of_line r.are q.are in
-      furthest (has letters) rules judged q.of_line n m (subst (λ (v : List ℕ). IsFurthest (has letters) rules judged v n) same r.furthest) q.furthest
+      furthest (has letters) rules judged q.of_line n m
+      (subst (λ (v : List ℕ). IsFurthest (has letters) rules judged v n) same r.furthest) q.furthest
 
-  pub one_answer : (viable : Bool) (a b : Answer) → IsAnswerTo letters viable rules judged line a → IsAnswerTo letters viable rules judged line b → a ≡ b
+  pub one_answer : (viable : Bool) (a b : Answer) → IsAnswerTo letters viable rules judged line a
+      → IsAnswerTo letters viable rules judged line b → a ≡ b
   one_answer viable Yes Yes g h = refl
   one_answer viable Yes No g h = absurd (h.1 g)
   one_answer viable Yes (NoAfter m) g h = absurd (h.1 g)

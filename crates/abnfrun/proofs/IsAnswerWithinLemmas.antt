@@ -30,18 +30,23 @@ points_at_most (next {bytes = bytes} {rest = rest} point writes spells) =
     omega (arith, some, rec, size)
 
 -- what is told of the lines within the limit alone
-module _ (Told Said : List ℕ → Answer → Type 0) (limit : ℕ) (tells : (line : List ℕ) (said : Answer) → length line ≤ limit → Told line said → Said line said) where
+module _ (Told Said : List ℕ → Answer → Type 0) (limit : ℕ)
+    (tells : (line : List ℕ) (said : Answer) → length line ≤ limit → Told line said → Said line said) where
   lines_as : (input : Input) {at : At} {text : List ℕ} → Lines Told limit input at text → Lines Said limit input at text
   lines_as input none = none
-  lines_as input (one_more at before line said lines is told) = one_more at before line said (lines_as input lines) is (tells line said is.within told)
+  lines_as input (one_more at before line said lines is told) = one_more at before line said (lines_as input lines) is
+      (tells line said is.within told)
 
-  ends_as : (input : Input) {at : At} {text : List ℕ} {stop : Stop} → Ends Told limit input at text stop → Ends Said limit input at text stop
+  ends_as : (input : Input) {at : At} {text : List ℕ} {stop : Stop} → Ends Told limit input at text stop
+      → Ends Said limit input at text stop
   ends_as input (Ends.broken fault no_end short) = Ends.broken fault no_end short
   ends_as input (Ends.overlong no_end long) = Ends.overlong no_end long
   ends_as input (Ends.finished fault done) = Ends.finished fault done
-  ends_as input (Ends.last_line said fault some no_end short told) = Ends.last_line said fault some no_end short (tells _ said short told)
+  ends_as input (Ends.last_line said fault some no_end short told) = Ends.last_line said fault some no_end short
+      (tells _ said short told)
 
-  replies_as : (input : Input) (reply : Reply) → Replies (Lines Told limit input) (Ends Told limit input) (place_taken limit input) reply →
+  replies_as : (input : Input) (reply : Reply) → Replies (Lines Told limit input) (Ends Told limit input)
+      (place_taken limit input) reply →
       Replies (Lines Said limit input) (Ends Said limit input) (place_taken limit input) reply
   replies_as input reply r = record {
     point = r.point;
@@ -58,18 +63,28 @@ module _ (Told Said : List ℕ → Answer → Type 0) (limit : ℕ) (tells : (li
 
   reply_as : (input : Input) (reply : Reply) → LinesReply Told limit input reply → LinesReply Said limit input reply
   reply_as input reply (replied r is) = replied r (replies_as input r is)
-  reply_as input reply (no_memory point out whole before is front) = no_memory point out whole (lines_as input before) (replies_as input whole is) front
+  reply_as input reply (no_memory point out whole before is front) = no_memory point out whole (lines_as input before)
+      (replies_as input whole is) front
 
-  stops_as : (input : Input) {taken wrote : List ℕ} {stop : Result Stop WriteFault} → StopsAs (LinesReply Told limit input) taken stop wrote →
+  stops_as : (input : Input) {taken wrote : List ℕ} {stop : Result Stop WriteFault}
+      → StopsAs (LinesReply Told limit input) taken stop wrote →
       StopsAs (LinesReply Said limit input) taken stop wrote
-  stops_as input s = record { stated = s.stated; states = reply_as input s.stated s.states; written = s.written; within = s.within; exact = s.exact }
+  stops_as input s = record {
+    stated = s.stated;
+    states = reply_as input s.stated s.states;
+    written = s.written;
+    within = s.within;
+    exact = s.exact;
+  }
 
-  pub performs_as : (reader out : Stream) (stop : Result Stop WriteFault) → Performs (LinesReply Told limit) reader out stop → Performs (LinesReply Said limit) reader out stop
+  pub performs_as : (reader out : Stream) (stop : Result Stop WriteFault) → Performs (LinesReply Told limit) reader out
+      stop → Performs (LinesReply Said limit) reader out stop
   performs_as reader out stop p = record {
     stopped = some_as reader.old (λ given s. (s.0, s.1, s.2, s.3, stops_as _ s.4)) p.stopped;
     flag = p.flag;
   }
     where
-      some_as : (o : Option (List ℕ)) {P Q : List ℕ → Type 0} → ((given : List ℕ) → P given → Q given) → IfSome o P → IfSome o Q
+      some_as : (o : Option (List ℕ)) {P Q : List ℕ → Type 0} → ((given : List ℕ) → P given → Q given) → IfSome o P
+          → IfSome o Q
       some_as None f h = tt
       some_as (Some given) f h = f given h

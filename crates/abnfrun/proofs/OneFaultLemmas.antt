@@ -27,12 +27,15 @@ record OnePlace (text : List ℕ) (a b : ℕ) (D E : List Marked → ℕ → Mar
   second : E all number token
   lines : a ≡ b
 
-one-place : (text : List ℕ) (a b : ℕ) (D E : List Marked → ℕ → Marked → Type 0) → Decides D → Decides E → IsDecidedAt text a D → IsDecidedAt text b E → OnePlace text a b D E
+one-place : (text : List ℕ) (a b : ℕ) (D E : List Marked → ℕ → Marked → Type 0) → Decides D → Decides E
+    → IsDecidedAt text a D → IsDecidedAt text b E → OnePlace text a b D E
 one-place text a b D E f g h k =
     let all : k.all ≡ h.all = marked-one text k.all h.all k.are_tokens h.are_tokens in
     let there : E h.all k.number k.token = (let d = k.decides in rw all at d) in
-    let number : k.number ≡ h.number = lemmas.one-deciding Viable AreWithin (lemmas.viable-take Says Grammar) within-take h.all k.number h.number (g h.all k.number k.token there) (f h.all h.number h.token h.decides) in
-    let same : Some h.token ≡ Some k.token = sym h.there ∙ ap (λ (i : ℕ). slice_get h.all i) (sym number) ∙ ap (λ (ms : List Marked). slice_get ms k.number) (sym all) ∙ k.there in
+    let number : k.number ≡ h.number = lemmas.one-deciding Viable AreWithin (lemmas.viable-take Says Grammar)
+    within-take h.all k.number h.number (g h.all k.number k.token there) (f h.all h.number h.token h.decides) in
+    let same : Some h.token ≡ Some k.token = sym h.there ∙ ap (λ (i : ℕ). slice_get h.all i) (sym number)
+    ∙ ap (λ (ms : List Marked). slice_get ms k.number) (sym all) ∙ k.there in
     let token : h.token ≡ k.token = cc in
     record {
       all = h.all;
@@ -66,10 +69,12 @@ module _ (text : List ℕ) (a b : ℕ) where
   not-over ms i h k = lemmas.not-both Viable AreWithin (lemmas.viable-take Says Grammar) within-take ms i h k
 
   syntax-deep : IsDecidedAt text a IsSyntax → IsDecidedAt text b IsTooDeep → ⊥
-  syntax-deep h k = let p = one-place text a b IsSyntax IsTooDeep syntax-decides deep-decides h k in let d = p.second in not-over p.all p.number p.first d.0
+  syntax-deep h k = let p = one-place text a b IsSyntax IsTooDeep syntax-decides deep-decides h k in let d = p.second in
+      not-over p.all p.number p.first d.0
 
   syntax-large : IsDecidedAt text a IsSyntax → IsDecidedAt text b IsTooLarge → ⊥
-  syntax-large h k = let p = one-place text a b IsSyntax IsTooLarge syntax-decides large-decides h k in let d = p.second in not-over p.all p.number p.first d.0
+  syntax-large h k = let p = one-place text a b IsSyntax IsTooLarge syntax-decides large-decides h k in let d =
+      p.second in not-over p.all p.number p.first d.0
 
   deep-large : IsDecidedAt text a IsTooDeep → IsDecidedAt text b IsTooLarge → ⊥
   deep-large h k =
@@ -78,7 +83,8 @@ module _ (text : List ℕ) (a b : ℕ) where
       let e : is_bracket p.token ≡ false = (let x = p.second in x.1) in
       cc
 
-pub one-fault : (text : List ℕ) (a b : ReadFault) → IsFaultOf text a → IsFaultOf text b → a ≢ faults.Memory → b ≢ faults.Memory → a ≡ b
+pub one-fault : (text : List ℕ) (a b : ReadFault) → IsFaultOf text a → IsFaultOf text b → a ≢ faults.Memory
+    → b ≢ faults.Memory → a ≡ b
 one-fault text faults.Memory b f g m n = absurd (m refl)
 one-fault text a faults.Memory f g m n = absurd (n refl)
 one-fault text (faults.CodePredicate a) b f g m n = absurd f
@@ -98,4 +104,5 @@ one-fault text (faults.Depth a) (faults.Depth b) f g m n = ap (λ (l : ℕ). fau
 one-fault text (faults.Depth a) (faults.NumberTooLarge b) f g m n = absurd (deep-large text a b f g)
 one-fault text (faults.NumberTooLarge a) (faults.Syntax b) f g m n = absurd (syntax-large text b a g f)
 one-fault text (faults.NumberTooLarge a) (faults.Depth b) f g m n = absurd (deep-large text b a g f)
-one-fault text (faults.NumberTooLarge a) (faults.NumberTooLarge b) f g m n = ap (λ (l : ℕ). faults.NumberTooLarge l) (both-large text a b f g)
+one-fault text (faults.NumberTooLarge a) (faults.NumberTooLarge b) f g m n =
+    ap (λ (l : ℕ). faults.NumberTooLarge l) (both-large text a b f g)

@@ -16,19 +16,27 @@ use Rattle.toolrun.specs.declared.settings.Settings.{Settings}
 -- what is stated for a grammar's text and an input: the notes, and what follows them
 pub data AbnfStates (text : List ℕ) (settings : Settings) (input : Input) : List ℕ → Reply → Type 0 where
   -- the text has a fault, which is told
-  refused : (fault : ReadFault) → IsFaultOf text fault → fault ≢ Memory → AbnfStates text settings input [] (refusal fault)
+  refused : (fault : ReadFault) → IsFaultOf text fault → fault ≢ Memory
+      → AbnfStates text settings input [] (refusal fault)
   -- the text is a grammar that is refused
-  noted : (definitions : List Definition) (notes : List Said) → Reads text definitions → AreNotesOn definitions (rule_given settings) notes →
-      IsRefusedFor definitions (rule_given settings) → settings.mode ≢ Print → AbnfStates text settings input (notes_text notes) (notes_alone 2)
+  noted : (definitions : List Definition) (notes : List Said) → Reads text definitions
+      → AreNotesOn definitions (rule_given settings) notes →
+      IsRefusedFor definitions (rule_given settings) → settings.mode ≢ Print
+      → AbnfStates text settings input (notes_text notes) (notes_alone 2)
   -- it is a grammar that is not refused, and no more is asked
-  checked : (definitions : List Definition) (notes : List Said) → Reads text definitions → AreNotesOn definitions (rule_given settings) notes →
-      (IsRefusedFor definitions (rule_given settings) → ⊥) → settings.mode ≡ Check → AbnfStates text settings input (notes_text notes) (notes_alone 0)
+  checked : (definitions : List Definition) (notes : List Said) → Reads text definitions
+      → AreNotesOn definitions (rule_given settings) notes →
+      (IsRefusedFor definitions (rule_given settings) → ⊥) → settings.mode ≡ Check
+      → AbnfStates text settings input (notes_text notes) (notes_alone 0)
   -- the lines of the input are judged by its judged rule
-  judges : (definitions : List Definition) (notes : List Said) (stated : Reply) → Reads text definitions → AreNotesOn definitions (rule_given settings) notes →
+  judges : (definitions : List Definition) (notes : List Said) (stated : Reply) → Reads text definitions
+      → AreNotesOn definitions (rule_given settings) notes →
       (IsRefusedFor definitions (rule_given settings) → ⊥) → settings.mode ≡ Run →
-      JudgeReply (all_rules definitions) (judged_of definitions (rule_given settings)) settings input stated → AbnfStates text settings input (notes_text notes) stated
+      JudgeReply (all_rules definitions) (judged_of definitions (rule_given settings)) settings input stated
+      → AbnfStates text settings input (notes_text notes) stated
   -- it is only to be printed, but defines a rule again
-  again : (definitions : List Definition) (notes : List Said) → Reads text definitions → AreAgain definitions notes → notes ≢ [] → settings.mode ≡ Print →
+  again : (definitions : List Definition) (notes : List Said) → Reads text definitions → AreAgain definitions notes
+      → notes ≢ [] → settings.mode ≡ Print →
       AbnfStates text settings input (notes_text notes) (notes_alone 2)
   -- it is only to be printed, and defines no rule again
   printed : (definitions : List Definition) → Reads text definitions → AreAgain definitions [] → settings.mode ≡ Print →

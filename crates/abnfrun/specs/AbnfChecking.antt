@@ -8,9 +8,11 @@ use Rattle.abnfcheck.specs.AbnfGrammar.{Grammar}
 use Rattle.abnfrun.specs.AbnfNoted.{all_rules, judged_of, AreNotesOn, IsRefusedFor}
 
 -- the text's grammar with its notes, ready to judge lines where it is not refused
-pub record IsChecked (text : List ℕ) (given : Option (List ℕ)) (notes : List Said) (sound : Option Grammar) : Type 0 where
+pub record IsChecked (text : List ℕ) (given : Option (List ℕ)) (notes : List Said) (sound : Option Grammar) : Type
+    0 where
   pub definitions : List Definition
   pub reads : Reads text definitions
   pub are_notes : AreNotesOn definitions given notes
   pub ready : MatchOption sound (IsRefusedFor definitions given)
-      (λ g. (IsRefusedFor definitions given → ⊥) × (rules_of g.rules ≡ all_rules definitions) × (g.judged ≡ judged_of definitions given))
+      (λ g. (IsRefusedFor definitions given → ⊥) × (rules_of g.rules ≡ all_rules definitions)
+      × (g.judged ≡ judged_of definitions given))

@@ -29,11 +29,13 @@ judged_of definitions given = judged_in given (all_rules definitions)
 -- the notes on the grammar of these definitions
 abbrev pub AreNotesOn : List Definition → Option (List ℕ) → List Said → Type 0
 AreNotesOn definitions given notes =
-    AreNotes (file_rules definitions) (all_rules definitions) (again_in definitions) (earlies (body_in core_list) 0 [] definitions) given notes
+    AreNotes (file_rules definitions) (all_rules definitions) (again_in definitions)
+    (earlies (body_in core_list) 0 [] definitions) given notes
 
 -- the grammar of these definitions is refused
 abbrev pub IsRefusedFor : List Definition → Option (List ℕ) → Type 0
-IsRefusedFor definitions given = IsRefused (file_rules definitions) (all_rules definitions) (again_in definitions) (judged_of definitions given)
+IsRefusedFor definitions given = IsRefused (file_rules definitions) (all_rules definitions) (again_in definitions)
+    (judged_of definitions given)
 
 -- the notes on those rules of a file that are defined again, alone, by the order of the rules
 pub record AreRedefinitions (file : List Rule) (again : List ℕ) (notes : List Said) : Type 0 where

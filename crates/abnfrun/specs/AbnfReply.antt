@@ -20,13 +20,14 @@ use Rattle.toolrun.specs.declared.settings.Settings.{Settings}
 abbrev pub printed_rules : List Rule → Reply
 printed_rules rules = text_alone (grammar_text rules)
 
--- The lines that the judged rule derives (RFC 5234, section 3; RFC 7405, section 2.1). Their letters are bytes, or the code points of UTF-8 (RFC 3629,
--- section 3): then a line that is not UTF-8 is none of them.
+-- The lines that the judged rule derives (RFC 5234, section 3; RFC 7405, section 2.1). Their letters are bytes, or the
+-- code points of UTF-8 (RFC 3629, section 3): then a line that is not UTF-8 is none of them.
 abbrev pub IsMember : Alphabet → List Rule → ℕ → List ℕ → Type 0
 IsMember Bytes rules judged line = RuleDerives (has Bytes) rules judged line
 IsMember Utf8 rules judged line = (points : List ℕ) × Spells points line × RuleDerives (has Utf8) rules judged points
 
--- The letters of a line: its bytes, or the code points of its longest beginning that is UTF-8, which is the whole line if the line is UTF-8.
+-- The letters of a line: its bytes, or the code points of its longest beginning that is UTF-8, which is the whole line
+-- if the line is UTF-8.
 abbrev pub AreLettersOf : Alphabet → List ℕ → List ℕ → Type 0
 AreLettersOf Bytes line x = x ≡ line
 AreLettersOf Utf8 line x = (k : ℕ) × IsLongestText line k × Spells x (take k line)
@@ -37,11 +38,13 @@ pub record Reaches (letters : Alphabet) (rules : List Rule) (judged : ℕ) (line
   pub are : AreLettersOf letters line of_line
   pub furthest : IsFurthest (has letters) rules judged of_line n
 
--- The answer to a line: yes exactly if the judged rule derives it. If viable beginnings are asked for, a no tells the length of the longest one.
+-- The answer to a line: yes exactly if the judged rule derives it. If viable beginnings are asked for, a no tells the
+-- length of the longest one.
 abbrev pub IsAnswerTo : Alphabet → Bool → List Rule → ℕ → List ℕ → Answer → Type 0
 IsAnswerTo letters viable rules judged line Yes = IsMember letters rules judged line
 IsAnswerTo letters viable rules judged line No = (viable ≡ false) × (IsMember letters rules judged line → ⊥)
-IsAnswerTo letters viable rules judged line (NoAfter n) = (viable ≡ true) × (IsMember letters rules judged line → ⊥) × Reaches letters rules judged line n
+IsAnswerTo letters viable rules judged line (NoAfter n) = (viable ≡ true) × (IsMember letters rules judged line → ⊥)
+    × Reaches letters rules judged line n
 
 -- the answers to lines that settings ask for
 abbrev pub AnswersFor : List Rule → ℕ → Settings → List ℕ → Answer → Type 0
@@ -50,7 +53,8 @@ AnswersFor rules judged settings = IsAnswerTo settings.letters settings.viable r
 -- each line of the input is judged by that rule, and no growth is refused
 abbrev pub JudgeReplies : List Rule → ℕ → Settings → Input → Reply → Type 0
 JudgeReplies rules judged settings input reply =
-    Replies (Lines (AnswersFor rules judged settings) settings.limit input) (Ends (AnswersFor rules judged settings) settings.limit input) (place_taken settings.limit input) reply
+    Replies (Lines (AnswersFor rules judged settings) settings.limit input)
+    (Ends (AnswersFor rules judged settings) settings.limit input) (place_taken settings.limit input) reply
 
 -- each line of the input is judged by that rule, or the first ones where a growth is refused
 abbrev pub JudgeReply : List Rule → ℕ → Settings → Input → Reply → Type 0

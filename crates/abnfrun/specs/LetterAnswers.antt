@@ -12,7 +12,8 @@ use Rattle.lines.specs.declared.answers.Answer.TheVariants.{Yes, No, NoAfter}
 abbrev pub IsAnswerOn : (ℕ → Bool) → Bool → List Rule → ℕ → List ℕ → Answer → Type 0
 IsAnswerOn has viable rules judged x Yes = RuleDerives has rules judged x
 IsAnswerOn has viable rules judged x No = (viable ≡ false) × (RuleDerives has rules judged x → ⊥)
-IsAnswerOn has viable rules judged x (NoAfter n) = (viable ≡ true) × (RuleDerives has rules judged x → ⊥) × IsFurthest has rules judged x n
+IsAnswerOn has viable rules judged x (NoAfter n) = (viable ≡ true) × (RuleDerives has rules judged x → ⊥)
+    × IsFurthest has rules judged x n
 
 -- the answer to a line of which these many letters, and no more, are UTF-8, by the answer to them
 abbrev pub torn : ℕ → Answer → Answer
@@ -22,4 +23,5 @@ torn count (NoAfter n) = NoAfter n
 
 -- the answer to a line, if it has at most so many bytes
 abbrev pub IsAnswerWithin : ℕ → Alphabet → Bool → List Rule → ℕ → List ℕ → Answer → Type 0
-IsAnswerWithin limit letters viable rules judged line said = length line ≤ limit → IsAnswerTo letters viable rules judged line said
+IsAnswerWithin limit letters viable rules judged line said = length line ≤ limit
+    → IsAnswerTo letters viable rules judged line said

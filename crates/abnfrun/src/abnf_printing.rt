@@ -25,7 +25,8 @@ pub struct Printable {
 
 /// Returns the notes on the rules that a grammar defines again, alone, by the order of the rules.
 fn redefinitions(alloc: Global, abnf: &Abnf) -> Result<Vec<Note>, Memory>
-    ensures { IfOk result (λ notes. AreRedefinitions (rules_of abnf.now.rules) abnf.now.redefined.items (map said_of notes.items)) }
+    ensures { IfOk result (λ notes. AreRedefinitions (rules_of abnf.now.rules) abnf.now.redefined.items
+        (map said_of notes.items)) }
 {
     let marks = marks_at(alloc, &abnf.redefined, abnf.rules.len())?;
     let mut notes = Vec::new(alloc);

@@ -11,25 +11,25 @@ use ruletable::Sink;
 use std::alloc::Global;
 use toolrun::{Settings, Status, run_tool};
 
-/// Judges the lines that a reader gives by a grammar: writes the answer to each on `out`, and why it stopped on `err`. None
-/// of the three may have failed before.
+/// Judges the lines that a reader gives by a grammar: writes the answer to each on `out`, and why it stopped on `err`.
+/// None of the three may have failed before.
 ///
-/// - The grammar is in ABNF (RFC 5234, RFC 7405). One that has a fault is told by that fault's line, status `Refused`, and
-///   nothing is read.
-/// - If it is to be printed, its canonical text is written on `out`, `Done`; but if it defines a rule again, the notes on
-///   that are written on `err`, `Refused`. Nothing is read, and no other check is made.
-/// - Else the notes on it are written on `err`. If it is refused, or only to be checked, that is all: `Refused`, or `Done`,
+/// - The grammar is in ABNF (RFC 5234, RFC 7405). One that has a fault is told by that fault's line, status `Refused`,
 ///   and nothing is read.
-/// - A line ends before an LF, and a last piece without LF is a line if it is not empty; a CR belongs to its line. It is
-///   answered by `yes` exactly if the judged rule derives it: the rule named in the settings, or else the first. The letters
-///   of a line are its bytes; or, if the settings say so, its code points in UTF-8, and then a line that is not UTF-8 is
-///   not derived. The run ends behind the last line with `Done` if all answers are `yes`, else with `NoMatch`.
-/// - A line that is not derived is answered by `no`. If the settings ask for viable beginnings, it is answered by `no N`: the
-///   first N of its letters, and no more, begin something that the judged rule derives. Of a line that is not UTF-8 these
-///   letters are those of its longest beginning that is.
+/// - If it is to be printed, its canonical text is written on `out`, `Done`; but if it defines a rule again, the notes
+///   on that are written on `err`, `Refused`. Nothing is read, and no other check is made.
+/// - Else the notes on it are written on `err`. If it is refused, or only to be checked, that is all: `Refused`, or
+///   `Done`, and nothing is read.
+/// - A line ends before an LF, and a last piece without LF is a line if it is not empty; a CR belongs to its line. It
+///   is answered by `yes` exactly if the judged rule derives it: the rule named in the settings, or else the first. The
+///   letters of a line are its bytes; or, if the settings say so, its code points in UTF-8, and then a line that is not
+///   UTF-8 is not derived. The run ends behind the last line with `Done` if all answers are `yes`, else with `NoMatch`.
+/// - A line that is not derived is answered by `no`. If the settings ask for viable beginnings, it is answered by `no
+///   N`: the first N of its letters, and no more, begin something that the judged rule derives. Of a line that is not
+///   UTF-8 these letters are those of its longest beginning that is.
 /// - A line of more than `limit` bytes is not answered: `line K longer than L bytes`, `Overlong`; K counts from 1.
-/// - After a fault of the reader a line is judged only if its LF was read: else `read error`, `Fault`. So is an input of
-///   9,223,372,036,854,775,807 bytes taken to end.
+/// - After a fault of the reader a line is judged only if its LF was read: else `read error`, `Fault`. So is an input
+///   of 9,223,372,036,854,775,807 bytes taken to end.
 /// - Where a writer fails, nothing more is written to it, a fault of `out` is told by `write error` on `err`, and the
 ///   status is at least `Fault`. Writers that have not failed are flushed once at the end, `out` first.
 /// - Where a growth is refused, the answers before stand whole: `out of memory`, `NoMemory`.

@@ -33,7 +33,8 @@ fn checked(
     grammar: &[u8],
     rule: Option<&str>,
 ) -> Result<Checked<SoundAbnf>, ReadFault>
-    ensures checked { IfOk result (λ c. IsChecked grammar.now (option_copied rule.entry) (map said_of c.notes.items) c.sound) }
+    ensures checked { IfOk result (λ c. IsChecked grammar.now (option_copied rule.entry) (map said_of c.notes.items)
+        c.sound) }
     ensures fault { IfErr result (λ f. IsFaultOf grammar.now f) }
 {
     let read = read_abnf(alloc, grammar)?;
@@ -66,7 +67,8 @@ fn task_of_check(sound: Option<SoundAbnf>) -> Result<AbnfTask, Stop>
 /// Reads and checks a grammar's text that is to judge lines.
 fn plan_run(alloc: Global, grammar: &[u8], settings: &Settings<'_>) -> Plan<AbnfTask>
     requires { settings.now.mode ≡ Run }
-    ensures { IsPlan (AbnfStates grammar.now settings.now) (notes_text (map said_of result.notes.items)) (does_of (λ t. abnf_does t settings.now) result.task) }
+    ensures { IsPlan (AbnfStates grammar.now settings.now) (notes_text (map said_of result.notes.items))
+        (does_of (λ t. abnf_does t settings.now) result.task) }
 {
     lines_have_answers();
     match checked(alloc, grammar, settings.start) {
@@ -84,7 +86,8 @@ fn plan_run(alloc: Global, grammar: &[u8], settings: &Settings<'_>) -> Plan<Abnf
 /// Reads and checks a grammar's text, and no more.
 fn plan_check(alloc: Global, grammar: &[u8], settings: &Settings<'_>) -> Plan<AbnfTask>
     requires { settings.now.mode ≡ Check }
-    ensures { IsPlan (AbnfStates grammar.now settings.now) (notes_text (map said_of result.notes.items)) (does_of (λ t. abnf_does t settings.now) result.task) }
+    ensures { IsPlan (AbnfStates grammar.now settings.now) (notes_text (map said_of result.notes.items))
+        (does_of (λ t. abnf_does t settings.now) result.task) }
 {
     match checked(alloc, grammar, settings.start) {
         Ok(Checked { notes, sound }) => Plan {
@@ -101,7 +104,8 @@ fn plan_check(alloc: Global, grammar: &[u8], settings: &Settings<'_>) -> Plan<Ab
 /// Reads a grammar's text to print it.
 fn plan_print(alloc: Global, grammar: &[u8], settings: &Settings<'_>) -> Plan<AbnfTask>
     requires { settings.now.mode ≡ Print }
-    ensures { IsPlan (AbnfStates grammar.now settings.now) (notes_text (map said_of result.notes.items)) (does_of (λ t. abnf_does t settings.now) result.task) }
+    ensures { IsPlan (AbnfStates grammar.now settings.now) (notes_text (map said_of result.notes.items))
+        (does_of (λ t. abnf_does t settings.now) result.task) }
 {
     match read_again(alloc, grammar) {
         Ok(Printable { abnf, again }) => {

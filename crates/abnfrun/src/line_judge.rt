@@ -23,8 +23,8 @@ use std::alloc::Global;
 use toolrun::{Settings, Stop};
 use viable::lower_viable;
 
-/// Answers lines by a grammar: whether its judged rule derives them, and how far they begin something that it derives if
-/// that is asked for.
+/// Answers lines by a grammar: whether its judged rule derives them, and how far they begin something that it derives
+/// if that is asked for.
 #[derive(Drop)]
 pub struct LineJudge<'a> {
     grammar: &'a SoundAbnf,
@@ -32,7 +32,8 @@ pub struct LineJudge<'a> {
     viable: bool,
     flat: Flat,
     ghost lowered: { viable ≡ false → ∥ IsLowered (rules_of grammar.now.rules) grammar.now.judged flat ∥₁ },
-    ghost tells: { viable ≡ true → ∥ TellsBeginnings (has letters) (rules_of grammar.now.rules) grammar.now.judged flat ∥₁ },
+    ghost tells: { viable ≡ true → ∥ TellsBeginnings (has letters) (rules_of grammar.now.rules) grammar.now.judged flat
+        ∥₁ },
 }
 
 /// The memory that lines are judged in: the item sets of a line, and its code points.
@@ -60,7 +61,8 @@ fn judge_letters<L: Letter>(
 ) -> Result<Answer, Memory>
     requires letters { judges.now.letters ≡ L.ALPHABET }
     requires within { length line.now ≤ judges.now.flat.limit }
-    ensures { IfOk result (IsAnswerOn (has L.ALPHABET) judges.now.viable (rules_of judges.now.grammar.now.rules) judges.now.grammar.now.judged (map L.number line.now)) }
+    ensures { IfOk result (IsAnswerOn (has L.ALPHABET) judges.now.viable (rules_of judges.now.grammar.now.rules)
+        judges.now.grammar.now.judged (map L.number line.now)) }
 {
     derivation_is_decided();
     furthest_is_found();
@@ -78,7 +80,8 @@ fn judge_letters<L: Letter>(
 fn judge_bytes(judges: &LineJudge<'_>, chart: &mut Chart, line: &[u8]) -> Result<Answer, Memory>
     requires letters { judges.now.letters ≡ Alphabet.Bytes }
     requires within { length line.now ≤ judges.now.flat.limit }
-    ensures { IfOk result (IsAnswerTo Alphabet.Bytes judges.now.viable (rules_of judges.now.grammar.now.rules) judges.now.grammar.now.judged line.now) }
+    ensures { IfOk result (IsAnswerTo Alphabet.Bytes judges.now.viable (rules_of judges.now.grammar.now.rules)
+        judges.now.grammar.now.judged line.now) }
 {
     let said = judge_letters(judges, chart, line)?;
     Ok(said)
@@ -102,7 +105,8 @@ fn judge_torn(judges: &LineJudge<'_>, work: &mut Work, line: &[u8]) -> Result<An
     requires viable { judges.now.viable ≡ true }
     requires torn { IsText line.now → ⊥ }
     requires within { length line.now ≤ judges.now.flat.limit }
-    ensures { IfOk result (IsAnswerTo Alphabet.Utf8 judges.now.viable (rules_of judges.now.grammar.now.rules) judges.now.grammar.now.judged line.now) }
+    ensures { IfOk result (IsAnswerTo Alphabet.Utf8 judges.now.viable (rules_of judges.now.grammar.now.rules)
+        judges.now.grammar.now.judged line.now) }
 {
     let len = utf8_len(line);
     let _is_text = decode(&line[..len], &mut work.points)?;
@@ -114,7 +118,8 @@ fn judge_torn(judges: &LineJudge<'_>, work: &mut Work, line: &[u8]) -> Result<An
 fn judge_points(judges: &LineJudge<'_>, work: &mut Work, line: &[u8]) -> Result<Answer, Memory>
     requires letters { judges.now.letters ≡ Alphabet.Utf8 }
     requires within { length line.now ≤ judges.now.flat.limit }
-    ensures { IfOk result (IsAnswerTo Alphabet.Utf8 judges.now.viable (rules_of judges.now.grammar.now.rules) judges.now.grammar.now.judged line.now) }
+    ensures { IfOk result (IsAnswerTo Alphabet.Utf8 judges.now.viable (rules_of judges.now.grammar.now.rules)
+        judges.now.grammar.now.judged line.now) }
 {
     utf8_is_decided();
     let is_text = decode(line, &mut work.points)?;
@@ -130,7 +135,8 @@ fn judge_points(judges: &LineJudge<'_>, work: &mut Work, line: &[u8]) -> Result<
 }
 
 impl Judge<Work> for LineJudge<'_> {
-    ghost told = { λ j. IsAnswerWithin j.flat.limit j.letters j.viable (rules_of j.grammar.now.rules) j.grammar.now.judged };
+    ghost told = { λ j. IsAnswerWithin j.flat.limit j.letters j.viable (rules_of j.grammar.now.rules)
+        j.grammar.now.judged };
 
     // A line that is too long for the flat grammar is not judged. A run has no such line.
     fn judge(&self, work: &mut Work, line: &[u8]) -> Result<Answer, Memory> {
@@ -148,8 +154,8 @@ impl Judge<Work> for LineJudge<'_> {
     }
 }
 
-/// Lowers a grammar as settings ask for: for lines within their limit, and its productive parts alone if they ask for viable
-/// beginnings. `Memory` if an allocation fails.
+/// Lowers a grammar as settings ask for: for lines within their limit, and its productive parts alone if they ask for
+/// viable beginnings. `Memory` if an allocation fails.
 fn lowered(alloc: Global, grammar: &SoundAbnf, settings: &Settings<'_>) -> Result<Flat, Memory>
     ensures limit { IfOk result (λ flat. flat.limit ≡ settings.now.limit) }
     ensures lowered { IfOk result (λ flat. settings.now.viable ≡ false →
@@ -163,7 +169,8 @@ fn lowered(alloc: Global, grammar: &SoundAbnf, settings: &Settings<'_>) -> Resul
     lower(alloc, grammar, settings.limit)
 }
 
-/// Judges the lines of what a reader gives by a grammar, and writes the answer to each: `yes`, `no`, or `no` and a number.
+/// Judges the lines of what a reader gives by a grammar, and writes the answer to each: `yes`, `no`, or `no` and a
+/// number.
 pub fn judge_lines<R: Source, O: Sink>(
     alloc: Global,
     grammar: &SoundAbnf,

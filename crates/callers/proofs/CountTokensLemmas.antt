@@ -6,7 +6,8 @@ use Rattle.lexer.specs.declared.token_iter.Token.{Token}
 use Rattle.lexer.specs.declared.token_iter.TokenIter.{TokenIter}
 use Rattle.lexer.specs.TokenLists.{Tok, AreTokens, IsAtStart, AreLeft, GivesFirst}
 
-module _ {K : Type 0} (White : List ℕ → List ℕ → Type 0) (First : K → List ℕ → List ℕ → Type 0) (is_end : K → Bool) where
+module _ {K : Type 0} (White : List ℕ → List ℕ → Type 0) (First : K → List ℕ → List ℕ → Type 0)
+    (is_end : K → Bool) where
   pub all-given : (s t u : TokenIter K) (xs : List (Token K)) (ts : List (Tok K)) → AreLeft White First is_end s ts →
       Yields (GivesFirst White First is_end) s xs t → GivesFirst White First is_end t None u → length xs ≡ length ts
   all-given s t u [] ts left at last = let none : ts ≡ [] = last.first ts (rw at at left) in rw none refl
@@ -16,7 +17,8 @@ module _ {K : Type 0} (White : List ℕ → List ℕ → Type 0) (First : K → 
       rw (first.1, rest) refl
 
   -- at its start all are left
-  pub at-start : (s : TokenIter K) (text : List ℕ) (ts : List (Tok K)) → IsAtStart s text → AreTokens White First is_end (length text) text ts →
+  pub at-start : (s : TokenIter K) (text : List ℕ) (ts : List (Tok K)) → IsAtStart s text
+      → AreTokens White First is_end (length text) text ts →
       AreLeft White First is_end s ts
   at-start s text ts (rest, start, ended) are =
       let e : 0 + length text ≡ length text = omega arith in

@@ -14,4 +14,5 @@ TakesUpTo g text (Some end) = (events : List Event) × (looked : ℕ) × StartGi
 abbrev pub IsPrinted : Grammar → List ℕ → Option (List ℕ) → Type 0
 IsPrinted g text None = (looked : ℕ) × StartGives g text Fails looked
 IsPrinted g text (Some printed) =
-    (events : List Event) × (end looked : ℕ) × StartGives g text (Takes end events) looked × (printed ≡ text_of false text events)
+    (events : List Event) × (end looked : ℕ) × StartGives g text (Takes end events) looked
+    × (printed ≡ text_of false text events)

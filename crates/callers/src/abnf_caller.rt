@@ -12,15 +12,16 @@ use std::alloc::Global;
 
 /// Returns how many rules a grammar's text defines, where each name counts once, and the core rules do not.
 pub fn count_abnf_rules(alloc: Global, text: &[u8]) -> Result<usize, ReadFault>
-    ensures count { IfOk result (λ n. (definitions : List Definition) × Reads text.now definitions × (n ≡ length (file_rules definitions))) }
+    ensures count { IfOk result (λ n. (definitions : List Definition) × Reads text.now definitions
+        × (n ≡ length (file_rules definitions))) }
     ensures fault { IfErr result (λ f. IsFaultOf text.now f) }
 {
     let abnf = read_abnf(alloc, text)?;
     Ok(abnf.rules.len())
 }
 
-/// Returns the grammar of a text with its judged rule, which is that of the name, or else the first; none if the grammar is
-/// refused.
+/// Returns the grammar of a text with its judged rule, which is that of the name, or else the first; none if the
+/// grammar is refused.
 pub fn load_abnf(
     alloc: Global,
     text: &[u8],

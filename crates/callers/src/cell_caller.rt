@@ -5,7 +5,8 @@ ghost use Rattle.cells.specs.Entries.{found_at};
 use cells::{Cells, Found};
 use ruletable::Memory;
 
-/// Puts what was found for a pair of a node and a place, unless the pair has a cell, and returns whether its cell holds that.
+/// Puts what was found for a pair of a node and a place, unless the pair has a cell, and returns whether its cell holds
+/// that.
 pub fn keeps_first(
     cells: &mut Cells,
     node: usize,

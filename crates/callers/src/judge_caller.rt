@@ -13,7 +13,8 @@ use std::alloc::Global;
 
 /// Returns whether the judged rule of a grammar derives a line of bytes.
 pub fn derives(alloc: Global, grammar: &SoundAbnf, line: &[u8]) -> Result<bool, Memory>
-    ensures { IfOk result (λ yes. IsTrue yes ↔ RuleDerives (has Alphabet.Bytes) (rules_of grammar.now.rules) grammar.now.judged line.now) }
+    ensures { IfOk result (λ yes. IsTrue yes ↔ RuleDerives (has Alphabet.Bytes) (rules_of grammar.now.rules)
+        grammar.now.judged line.now) }
 {
     let flat = lower(alloc, grammar, line.len())?;
     let mut chart = Chart::new(alloc);

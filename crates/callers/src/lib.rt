@@ -1,4 +1,5 @@
-//! Small callers of the libraries. Each shows how a function is called, and what a proof of one's own has from its contract.
+//! Small callers of the libraries. Each shows how a function is called, and what a proof of one's own has from its
+//! contract.
 #![tactic(auto)]
 
 mod abnf_caller;

@@ -9,7 +9,8 @@ use pegread::{MAX_GRAMMAR, Peg, print_peg, read_peg};
 use ruletable::{ReadFault, SinkOf};
 use std::alloc::Global;
 
-/// Returns the canonical text of a grammar's text; none if that defines a rule again, or its canonical text is too long.
+/// Returns the canonical text of a grammar's text; none if that defines a rule again, or its canonical text is too
+/// long.
 pub fn canonical_text(alloc: Global, text: &[u8]) -> Result<Option<Vec<u8>>, ReadFault>
     ensures same { IfOk result (λ printed. IfSome printed (λ out.
         (definitions : List Rule) × Reads text.now definitions × ReadsAs out.items definitions)) }
@@ -31,8 +32,8 @@ pub fn canonical_text(alloc: Global, text: &[u8]) -> Result<Option<Vec<u8>>, Rea
     Ok(Some(out))
 }
 
-/// Returns the grammar that the canonical text of a grammar's text reads as; none where `canonical_text` returns none. Reading
-/// the canonical text fails only for want of memory.
+/// Returns the grammar that the canonical text of a grammar's text reads as; none where `canonical_text` returns none.
+/// Reading the canonical text fails only for want of memory.
 pub fn read_again(alloc: Global, text: &[u8]) -> Result<Option<Peg>, ReadFault>
     ensures same { IfOk result (λ again. IfSome again (λ peg.
         (definitions : List Rule) × Reads text.now definitions ×

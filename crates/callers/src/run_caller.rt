@@ -45,7 +45,8 @@ pub struct Ran {
 
 /// Runs a grammar of peg(1) on an input in memory.
 pub fn peg_in_memory(alloc: Global, grammar: &[u8], settings: &Settings<'_>, input: &[u8]) -> Ran
-    ensures { IsMemoryRun (States grammar.now settings.now) input.now result.out.items result.err.items (code_of result.status) }
+    ensures { IsMemoryRun (States grammar.now settings.now) input.now result.out.items result.err.items
+        (code_of result.status) }
 {
     let mut reader = Bytes { rest: input };
     let mut out = SinkOf::new(Vec::new(alloc));
@@ -60,7 +61,8 @@ pub fn peg_in_memory(alloc: Global, grammar: &[u8], settings: &Settings<'_>, inp
 
 /// Judges the lines of an input in memory by a grammar in ABNF.
 pub fn abnf_in_memory(alloc: Global, grammar: &[u8], settings: &Settings<'_>, input: &[u8]) -> Ran
-    ensures { IsMemoryRun (AbnfStates grammar.now settings.now) input.now result.out.items result.err.items (code_of result.status) }
+    ensures { IsMemoryRun (AbnfStates grammar.now settings.now) input.now result.out.items result.err.items
+        (code_of result.status) }
 {
     let mut reader = Bytes { rest: input };
     let mut out = SinkOf::new(Vec::new(alloc));

@@ -12,7 +12,8 @@ use std::alloc::Global;
 
 /// Returns how many rules a grammar's text defines, where each name counts once.
 pub fn count_rules(alloc: Global, text: &[u8]) -> Result<usize, ReadFault>
-    ensures count { IfOk result (λ n. (definitions : List Rule) × Reads text.now definitions × (n ≡ length (firsts [] definitions))) }
+    ensures count { IfOk result (λ n. (definitions : List Rule) × Reads text.now definitions
+        × (n ≡ length (firsts [] definitions))) }
     ensures fault { IfErr result (λ f. IsFaultOf text.now f) }
 {
     let peg = read_peg(alloc, text)?;

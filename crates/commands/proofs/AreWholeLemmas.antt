@@ -1,6 +1,8 @@
 -- What holds of the matches of a program's words: a limit in its range, a grammar, and flags.
 -- Serves: parse (whole)
-use Rattle.std.proofs.Common.{◌≡◌, ◌∙◌, ◌⊎◌, ◌<◌, ◌≤◌, ◌&&◌, ◌||◌, ap, subst, sym, refl, inl, inr, arith, true≢false, ℕ, zero, suc, Bool, true, false, not, List, [], ◌∷◌, map, length, Option, Some, None, is_some}
+use Rattle.std.proofs.Common.{◌≡◌, ◌∙◌, ◌⊎◌, ◌<◌, ◌≤◌, ◌&&◌, ◌||◌, ap, subst, sym, refl, inl, inr, arith, true≢false, ℕ}
+use Rattle.std.proofs.Common.{zero, suc, Bool, true, false, not, List, [], ◌∷◌, map, length, Option, Some, None}
+use Rattle.std.proofs.Common.{is_some}
 use Rattle.std.specs.Prelude.{codes, pos}
 use Rattle.std.specs.List.{slice_index_or}
 use Rattle.std.specs.Str.{bytes_eq}
@@ -292,7 +294,8 @@ pegi_is_whole c names e m p =
       limit = limit_is c rs is m p d 1 (record { within = omega arith; at = λ q. refl; only = refl });
       raw = flag_is c rs is m p d 3 (codes "raw") 114 (record { named = λ n. cc; help = refl; version = refl })
           (record { within = omega arith; at = λ q. refl; only = refl });
-      viable = inl (none_is c rs is m p (codes "viable") (record { named = λ n. cc; help = refl; version = refl }) refl);
+      viable = inl (none_is c rs is m p (codes "viable") (record { named = λ n. cc; help = refl; version = refl })
+          refl);
       grammar = grammar_is c rs is m p d 4 (record { within = omega arith; at = λ q. refl; only = refl });
     }
 

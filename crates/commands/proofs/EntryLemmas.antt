@@ -1,6 +1,7 @@
 -- What a parse that succeeds found of one argument of a command that excludes nothing.
 -- Serves: parse (whole)
-use Rattle.std.proofs.Common.{◌≡◌, ◌∙◌, ◌⊎◌, ◌<◌, ◌≤◌, ap, subst, sym, refl, inl, inr, arith, true≢false, ℕ, zero, suc, Bool, true, false, List, [], ◌∷◌, length, Option, Some, None, is_some}
+use Rattle.std.proofs.Common.{◌≡◌, ◌∙◌, ◌⊎◌, ◌<◌, ◌≤◌, ap, subst, sym, refl, inl, inr, arith, true≢false, ℕ, zero, suc}
+use Rattle.std.proofs.Common.{Bool, true, false, List, [], ◌∷◌, length, Option, Some, None, is_some}
 use Rattle.std.specs.Prelude.{codes, find, option_map}
 use Rattle.std.specs.List.{All, slice_index_or}
 use Rattle.std.specs.Str.{bytes_eq}
@@ -8,7 +9,8 @@ use Rattle.std.specs.Borrow.{Bor}
 use Rattle.std.proofs.lemmas.Slice.Eq.{bytes_eq-Decides}
 use Rattle.std.proofs.lemmas.Bool.{cases_lt}
 use Rattle.std.proofs.lemmas.List.Elements.{All-get_or}
-use Rattle.clap.specs.Facts.{Entry, EntryPasses, HasReading, PassesArg, WantsDefault, args_of, groups_of, least_values, parser_of, parser_of_value}
+use Rattle.clap.specs.Facts.{Entry, EntryPasses, HasReading, PassesArg, WantsDefault, args_of, groups_of, least_values}
+use Rattle.clap.specs.Facts.{parser_of, parser_of_value}
 use Rattle.clap.specs.Built.{IsAuto, IsParsedFrom, IsPlain, SameRules}
 use Rattle.clap.specs.Matches.{found_of, matched_of, one_text}
 use Rattle.clap.specs.Values.{Accepts, read_as, reading_of}
@@ -38,7 +40,8 @@ pub record PassesAs (a : Arg) (q : ValueParser) (x : MatchedArg) : Type 0 where
   pub values : All (λ v. Accepts a.ignore_case q v.now) x.vals.items
   pub reading : x.reading ≡ reading_of q
 
-no_group : (c : Command) (e : Entry) (id : List ℕ) → groups_of c ≡ [] → (id ≡ [] → ⊥) → e.0.now ≡ id → EntryPasses c e → e.1.is_group ≡ true → ⊥
+no_group : (c : Command) (e : Entry) (id : List ℕ) → groups_of c ≡ [] → (id ≡ [] → ⊥) → e.0.now ≡ id → EntryPasses c e
+    → e.1.is_group ≡ true → ⊥
 no_group c e id none named key pass g = elim (pass.3 g) [
   | inl empty ↦ named (sym key ∙ empty)
   | inr lots ↦
@@ -61,12 +64,15 @@ passes_as c m p k d alone q parser x found =
     record {
       values = elim got.3.0 [
         | inl g ↦ absurd (alone_group g)
-        | inr vals ↦ λ i v lt. value (slice_index_or x.vals.items i v) (subst (λ (w : List ℕ). PassesArg p.built w (slice_index_or x.vals.items i v).now) key
-            ((subst (λ (y : MatchedArg). All (λ u. PassesArg p.built got.0.0.now u.now) y.vals.items) same vals) i v lt))
+        | inr vals ↦ λ i v lt. value (slice_index_or x.vals.items i v)
+            (subst (λ (w : List ℕ). PassesArg p.built w (slice_index_or x.vals.items i v).now) key
+            ((subst (λ (y : MatchedArg). All (λ u. PassesArg p.built got.0.0.now u.now) y.vals.items) same vals) i v
+            lt))
       ];
       reading = elim got.3.4 [
         | inl g ↦ absurd (alone_group g)
-        | inr how ↦ ap (λ (y : MatchedArg). y.reading) (sym same) ∙ read got.0.1.reading (subst (λ (w : List ℕ). HasReading p.built w got.0.1.reading) key how)
+        | inr how ↦ ap (λ (y : MatchedArg). y.reading) (sym same)
+            ∙ read got.0.1.reading (subst (λ (w : List ℕ). HasReading p.built w got.0.1.reading) key how)
       ];
     }
   where
@@ -75,7 +81,8 @@ passes_as c m p k d alone q parser x found =
     value v pass =
         let s = same_rules_by_id c m p k d alone.within alone.unique alone.own pass.0 pass.1 pass.2 pass.3 pass.4.0 in
         let is_q : parser_of pass.1 ≡ q = ap parser_of_value (s.parser q parser) in
-        let as_q : Accepts pass.1.ignore_case q v.now = subst (λ (w : ValueParser). Accepts pass.1.ignore_case w v.now) is_q pass.4.1 in
+        let as_q : Accepts pass.1.ignore_case q v.now = subst (λ (w : ValueParser). Accepts pass.1.ignore_case w v.now)
+        is_q pass.4.1 in
         subst (λ (b : Bool). Accepts b q v.now) s.ignore_case as_q
 
     read : (r : Reading) → HasReading p.built (slice_index_or (args_of c) k d).id.now r → r ≡ reading_of q
@@ -101,7 +108,8 @@ is_filled c m p k d alone set delim least x found =
       | inr (inl v) ↦ subst (λ (y : MatchedArg). 0 < length y.vals.items) same v
       | inr (inr (inl h)) ↦
           let any = h.1 in
-          let s = same_rules_by_id c m p k d alone.within alone.unique alone.own any.0 any.1 any.2 any.3 (rw key at any.4.0) in
+          let s = same_rules_by_id c m p k d alone.within alone.unique alone.own any.0 any.1 any.2 any.3
+          (rw key at any.4.0) in
           let is_set : any.1.action ≡ Some Set = s.action Set set in
           let bad : Set ≡ Count = rw is_set at any.4.1 in
           cc
@@ -117,22 +125,27 @@ is_filled c m p k d alone set delim least x found =
           ]
     ]
 
-has_entry : (xs : List Entry) (id : List ℕ) (i : ℕ) → i < length xs → ((e : Entry) → bytes_eq (slice_index_or xs i e).0.now id ≡ true)
+has_entry : (xs : List Entry) (id : List ℕ) (i : ℕ) → i < length xs
+    → ((e : Entry) → bytes_eq (slice_index_or xs i e).0.now id ≡ true)
     → is_some (option_map (λ e. e.1) (find (λ e. bytes_eq e.0.now id) xs)) ≡ true
 has_entry [] id i lt h = absurd (omega arith)
 has_entry (x ∷ xs) id zero lt h = rw (h x) refl
 has_entry (x ∷ xs) id (suc i) lt h = go (bytes_eq x.0.now id) refl (has_entry xs id i (omega arith) h)
   where
-    go : (t : Bool) → bytes_eq x.0.now id ≡ t → is_some (option_map (λ e. e.1) (find (λ e. bytes_eq e.0.now id) xs)) ≡ true
+    go : (t : Bool) → bytes_eq x.0.now id ≡ t → is_some (option_map (λ e. e.1) (find (λ e. bytes_eq e.0.now id) xs))
+        ≡ true
         → is_some (option_map (λ e. e.1) (find (λ e. bytes_eq e.0.now id) (x ∷ xs))) ≡ true
     go true e rest = rw e refl
     go false e rest = rw e rest
 
-first_reads : (f : Found) (id : List ℕ) (x : MatchedArg) (how : Reading) (P : Bor (List ℕ) → Type 0) → matched_of f id ≡ Some x → x.reading ≡ how
-    → All P x.vals.items → 0 < length x.vals.items → (v : Bor (List ℕ)) × (one_text f id ≡ Some (read_as how v.now)) × P v
+first_reads : (f : Found) (id : List ℕ) (x : MatchedArg) (how : Reading) (P : Bor (List ℕ) → Type 0)
+    → matched_of f id ≡ Some x → x.reading ≡ how
+    → All P x.vals.items → 0 < length x.vals.items → (v : Bor (List ℕ)) × (one_text f id ≡ Some (read_as how v.now))
+    × P v
 first_reads f id x how P found is all some = go x.vals.items refl all some
   where
-    go : (vs : List (Bor (List ℕ))) → x.vals.items ≡ vs → All P vs → 0 < length vs → (v : Bor (List ℕ)) × (one_text f id ≡ Some (read_as how v.now)) × P v
+    go : (vs : List (Bor (List ℕ))) → x.vals.items ≡ vs → All P vs → 0 < length vs → (v : Bor (List ℕ))
+        × (one_text f id ≡ Some (read_as how v.now)) × P v
     go [] e passes lt = absurd (omega arith)
     go (v ∷ vs) e passes lt = (v, rw (found, e, is) refl, All-get_or P (v ∷ vs) 0 v (omega arith) passes)
 
@@ -141,7 +154,8 @@ pub default_reads : (c : Command) (m : ArgMatches) (p : IsParsedFrom c m) (k : �
     → WantsDefault (slice_index_or (args_of c) k d) → (slice_index_or (args_of c) k d).action ≡ Some Set
     → (slice_index_or (args_of c) k d).val_delim ≡ None → 1 ≤ least_values (slice_index_or (args_of c) k d)
     → (q : ValueParser) → (slice_index_or (args_of c) k d).value_parser ≡ Some q
-    → (v : Bor (List ℕ)) × (one_text (found_of m) (slice_index_or (args_of c) k d).id.now ≡ Some (read_as (reading_of q) v.now))
+    → (v : Bor (List ℕ)) × (one_text (found_of m) (slice_index_or (args_of c) k d).id.now
+    ≡ Some (read_as (reading_of q) v.now))
     × Accepts (slice_index_or (args_of c) k d).ignore_case q v.now
 default_reads c m p k d alone wants set delim least q parser =
     let id = (slice_index_or (args_of c) k d).id.now in
@@ -150,27 +164,31 @@ default_reads c m p k d alone wants set delim least q parser =
   where
     go : (o : Option MatchedArg) → matched_of (found_of m) (slice_index_or (args_of c) k d).id.now ≡ o
         → is_some (matched_of (found_of m) (slice_index_or (args_of c) k d).id.now) ≡ true
-        → (v : Bor (List ℕ)) × (one_text (found_of m) (slice_index_or (args_of c) k d).id.now ≡ Some (read_as (reading_of q) v.now))
+        → (v : Bor (List ℕ)) × (one_text (found_of m) (slice_index_or (args_of c) k d).id.now
+        ≡ Some (read_as (reading_of q) v.now))
         × Accepts (slice_index_or (args_of c) k d).ignore_case q v.now
     go None e some =
         let bad : false ≡ true = rw e at some in
         cc
     go (Some x) e some =
         let taken = passes_as c m p k d alone q parser x e in
-        first_reads (found_of m) _ x (reading_of q) _ e taken.reading taken.values (is_filled c m p k d alone set delim least x e)
+        first_reads (found_of m) _ x (reading_of q) _ e taken.reading taken.values
+        (is_filled c m p k d alone set delim least x e)
 
 -- an argument has no text, or one that its parser takes
 pub some_reads : (c : Command) (m : ArgMatches) (p : IsParsedFrom c m) (k : ℕ) (d : Arg) → IsAlone c k d
     → (q : ValueParser) → (slice_index_or (args_of c) k d).value_parser ≡ Some q
     → (one_text (found_of m) (slice_index_or (args_of c) k d).id.now ≡ None)
-    ⊎ ((v : Bor (List ℕ)) × (one_text (found_of m) (slice_index_or (args_of c) k d).id.now ≡ Some (read_as (reading_of q) v.now))
+    ⊎ ((v : Bor (List ℕ)) × (one_text (found_of m) (slice_index_or (args_of c) k d).id.now
+    ≡ Some (read_as (reading_of q) v.now))
     × Accepts (slice_index_or (args_of c) k d).ignore_case q v.now)
 some_reads c m p k d alone q parser = go (matched_of (found_of m) (slice_index_or (args_of c) k d).id.now) refl
   where
     first : (x : MatchedArg) → matched_of (found_of m) (slice_index_or (args_of c) k d).id.now ≡ Some x
         → (vs : List (Bor (List ℕ))) → x.vals.items ≡ vs
         → (one_text (found_of m) (slice_index_or (args_of c) k d).id.now ≡ None)
-        ⊎ ((v : Bor (List ℕ)) × (one_text (found_of m) (slice_index_or (args_of c) k d).id.now ≡ Some (read_as (reading_of q) v.now))
+        ⊎ ((v : Bor (List ℕ)) × (one_text (found_of m) (slice_index_or (args_of c) k d).id.now
+        ≡ Some (read_as (reading_of q) v.now))
         × Accepts (slice_index_or (args_of c) k d).ignore_case q v.now)
     first x e [] none = inl (rw (e, none) refl)
     first x e (v ∷ vs) is =
@@ -180,7 +198,8 @@ some_reads c m p k d alone q parser = go (matched_of (found_of m) (slice_index_o
 
     go : (o : Option MatchedArg) → matched_of (found_of m) (slice_index_or (args_of c) k d).id.now ≡ o
         → (one_text (found_of m) (slice_index_or (args_of c) k d).id.now ≡ None)
-        ⊎ ((v : Bor (List ℕ)) × (one_text (found_of m) (slice_index_or (args_of c) k d).id.now ≡ Some (read_as (reading_of q) v.now))
+        ⊎ ((v : Bor (List ℕ)) × (one_text (found_of m) (slice_index_or (args_of c) k d).id.now
+        ≡ Some (read_as (reading_of q) v.now))
         × Accepts (slice_index_or (args_of c) k d).ignore_case q v.now)
     go None e = inl (rw e refl)
     go (Some x) e = first x e x.vals.items refl

@@ -1,5 +1,6 @@
 -- What the words of a command line ask for.
-use Rattle.std.specs.Prelude.{◌≡◌, ◌≤◌, ◌⊎◌, ℕ, option_map, Bool, true, false, List, Option, Some, None, codes, if◌then◌else◌, is_some}
+use Rattle.std.specs.Prelude.{◌≡◌, ◌≤◌, ◌⊎◌, ℕ, option_map, Bool, true, false, List, Option, Some, None, codes}
+use Rattle.std.specs.Prelude.{if◌then◌else◌, is_some}
 use Rattle.std.specs.Str.{bytes_eq}
 use Rattle.std.specs.Str.Parse.{IsNumeral, digits_value, without_leading_plus}
 use Rattle.clap.specs.Words.{Row, Text, first_of, first_value, one_of, one_text}
@@ -14,7 +15,8 @@ use Rattle.toolrun.specs.declared.settings.Mode.TheVariants.{Run, Check, Print}
 -- the mode of a name; `run` where none is given
 abbrev pub mode_named : Option (List ℕ) → Mode
 mode_named None = Run
-mode_named (Some name) = if bytes_eq name (codes "check") then Check else (if bytes_eq name (codes "print") then Print else Run)
+mode_named (Some name) = if bytes_eq name (codes "check") then Check else
+    (if bytes_eq name (codes "print") then Print else Run)
 
 -- the alphabet of a name; bytes where none is given
 abbrev pub alphabet_named : Option (List ℕ) → Alphabet

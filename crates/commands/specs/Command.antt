@@ -88,7 +88,8 @@ pegi_app names = with_rule (with_rule (with_options names (new_app (codes "pegi"
 -- `abnfi [-m MODE] [-l N] [-s RULE] [-u MODE] [-w] GRAMMAR`
 abbrev pub abnfi_app : Names → Names → App
 abnfi_app names alphabets =
-    with_rule (with_rule (with_rule (with_options names (new_app (codes "abnfi"))) (letters_rule alphabets)) viable_rule) grammar_rule
+    with_rule (with_rule (with_rule (with_options names (new_app (codes "abnfi"))) (letters_rule alphabets))
+    viable_rule) grammar_rule
 
 -- this is the command of the program
 abbrev pub IsAppOf : Program → App → Type 0

@@ -36,7 +36,8 @@ AskHelp kinds = kinds ≡ DisplayHelp ∷ []
 
 -- where both writers took all, the status is this one, or memory was wanting
 abbrev pub EndsAs : Bool → Bool → Status → Status → Type 0
-EndsAs out_failed err_failed stated status = out_failed ≡ false → err_failed ≡ false → (status ≡ stated) ⊎ (status ≡ NoMemory)
+EndsAs out_failed err_failed stated status = out_failed ≡ false → err_failed ≡ false → (status ≡ stated)
+    ⊎ (status ≡ NoMemory)
 
 -- what holds where something is wrong with the words, and where they ask for help
 abbrev pub Answers : Kinds → Type 0 → Type 0 → Type 0

@@ -62,7 +62,8 @@ pub fn end_unparsed<O: Sink, E: Sink>(
     ensures no_memory { kind_of error.now ≡ ErrorKind.OutOfMemory →
         EndsAs (O.failed out.new) (E.failed err.new) Status.NoMemory result }
     ensures stopped { kind_of error.now ≡ ErrorKind.OutOfMemory → TellsOf Stop.NoMemory (O.contents out.old)
-        (O.contents out.new) (O.failed out.new) (E.contents err.old) (E.contents err.new) (E.failed err.new) (code_of result) }
+        (O.contents out.new) (O.failed out.new) (E.contents err.old) (E.contents err.new) (E.failed err.new)
+        (code_of result) }
     ensures failed { (O.failed out.new ≡ true) ⊎ (E.failed err.new ≡ true) → 4 ≤ code_of result }
 {
     if error.kind() == ErrorKind::OutOfMemory {

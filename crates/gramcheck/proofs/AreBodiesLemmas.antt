@@ -1,6 +1,7 @@
 -- The bodies of a grammar's rules, cut one by one.
 -- Serves: check_peg
-use Rattle.std.proofs.Common.{◌≡◌, ℕ, zero, suc, ◌+◌, List, [], ◌∷◌, ◌++◌, length, map, Some, refl, sym, ap, subst, arith, ⊎_elim, length-append}
+use Rattle.std.proofs.Common.{◌≡◌, ℕ, zero, suc, ◌+◌, List, [], ◌∷◌, ◌++◌, length, map, Some, refl, sym, ap, subst}
+use Rattle.std.proofs.Common.{arith, ⊎_elim, length-append}
 use Rattle.std.specs.Prelude.{slice_get}
 use Rattle.std.proofs.lemmas.Bool.{cases_lt}
 use Rattle.std.proofs.lemmas.Option.{slice_get_within}
@@ -11,7 +12,9 @@ use Rattle.pegread.specs.declared.expr.Expr.{Expr}
 use Rattle.gramcheck.specs.declared.node.Node.{Node}
 use Rattle.gramcheck.specs.Bodies.{AreBodies, AreNamed, IsBuilt}
 use Rattle.gramcheck.specs.Nodes as node
-use Rattle.gramcheck.specs.Nodes.{Shape, shapes_of, id_of, Spells, spells_any, spells_bytes, spells_set, spells_name, spells_seq, spells_choice, spells_star, spells_plus, spells_opt, spells_and, spells_not, spells_act, spells_open, spells_close}
+use Rattle.gramcheck.specs.Nodes.{Shape, shapes_of, id_of, Spells, spells_any, spells_bytes, spells_set, spells_name}
+use Rattle.gramcheck.specs.Nodes.{spells_seq, spells_choice, spells_star, spells_plus, spells_opt, spells_and}
+use Rattle.gramcheck.specs.Nodes.{spells_not, spells_act, spells_open, spells_close}
 use Rattle.gramcheck.specs.Numbering.{Numbers, AreStanding}
 use Rattle.gramcheck.proofs.OwnIdLemmas.{id_most}
 use Rattle.gramcheck.proofs.PushCasesLemmas.{push_cases}
@@ -26,7 +29,8 @@ pub record AreCut (rules : List Rule) (count : ℕ) (nodes : List Shape) (bodies
   pub built : IsBuilt nodes
   pub standing : AreStanding rules nodes
 
-pub none_cut : (rules : List Rule) (nodes : List Node) (bodies : List ℕ) → nodes ≡ [] → bodies ≡ [] → AreCut rules 0 (shapes_of nodes) bodies
+pub none_cut : (rules : List Rule) (nodes : List Node) (bodies : List ℕ) → nodes ≡ [] → bodies ≡ []
+    → AreCut rules 0 (shapes_of nodes) bodies
 none_cut rules nodes bodies no_nodes no_bodies = rw (no_nodes, no_bodies) (record {
   long = refl;
   spelled = λ id m h. absurd (cc h);
@@ -35,7 +39,8 @@ none_cut rules nodes bodies no_nodes no_bodies = rw (no_nodes, no_bodies) (recor
 })
 
 module _ (rules : List Rule) (i : ℕ) (old new : List Shape) (bodies : List ℕ) (n : ℕ) (p : Pattern) where
-  cut_more : AreCut rules i old bodies → slice_get (map (λ rule. rule.body) rules) i ≡ Some p → Numbers rules old new n p → AreCut rules (i + 1) new (bodies ++ n ∷ [])
+  cut_more : AreCut rules i old bodies → slice_get (map (λ rule. rule.body) rules) i ≡ Some p
+      → Numbers rules old new n p → AreCut rules (i + 1) new (bodies ++ n ∷ [])
   cut_more c at g = record {
     long = let l = length-append bodies (n ∷ []) in omega (arith, l, c.long);
     spelled = λ id m h. ⊎_elim
@@ -43,17 +48,29 @@ module _ (rules : List Rule) (i : ℕ) (old new : List Shape) (bodies : List ℕ
         let body = c.spelled id m earlier in
         (body.0, body.1, subst (λ w. Spells rules w m body.0) (sym g.grown) (still_spells rules old g.added body.2)))
         (λ last.
-        let here : i ≡ id = omega (arith, last.0, c.long) in
-        (p, subst (λ v. slice_get (map (λ rule. rule.body) rules) v ≡ Some p) here at, subst (λ v. Spells rules new v p) last.1 g.spelled))
+        let here : i ≡ id = omega (arith, last.0, c.long) in (
+          p,
+          subst (λ v. slice_get (map (λ rule. rule.body) rules) v ≡ Some p) here at,
+          subst (λ v. Spells rules new v p) last.1 g.spelled,
+        ))
         (push_cases bodies n id m h);
     built = g.built c.built;
     standing = λ m lt. ⊎_elim
         (λ earlier.
         let old_one = c.standing m earlier in
-        record { expr = old_one.expr; stands = old_one.stands; spelled = subst (λ w. Spells rules w m old_one.expr) (sym g.grown) (still_spells rules old g.added old_one.spelled) })
+        record {
+          expr = old_one.expr;
+          stands = old_one.stands;
+          spelled = subst (λ w. Spells rules w m old_one.expr) (sym g.grown)
+              (still_spells rules old g.added old_one.spelled);
+        })
         (λ past.
         let part = g.parts m past lt in
-        record { expr = part.part; stands = record { id = i; body = p; rule = at; within = part.within }; spelled = part.spelled })
+        record {
+          expr = part.part;
+          stands = record { id = i; body = p; rule = at; within = part.within };
+          spelled = part.spelled;
+        })
         (cases_lt m (length old));
   }
 
@@ -63,13 +80,17 @@ body_at [] i e h = absurd (cc h)
 body_at (rule ∷ rules) zero e h = let same : rule.body ≡ e = cc h in ap (λ v. Some (pattern_of v)) same
 body_at (rule ∷ rules) (suc i) e h = body_at rules i e h
 
-pub next_cut : (rules : List (table.Rule Expr)) (i : ℕ) (old new : List Node) (bodies : List ℕ) (n : ℕ) (e : Expr) → AreCut (map rule_of rules) i (shapes_of old) bodies →
-    slice_get (map (λ rule. rule.body) rules) i ≡ Some e → Numbers (map rule_of rules) (shapes_of old) (shapes_of new) n (pattern_of e) →
+pub next_cut : (rules : List (table.Rule Expr)) (i : ℕ) (old new : List Node) (bodies : List ℕ) (n : ℕ) (e : Expr)
+    → AreCut (map rule_of rules) i (shapes_of old) bodies →
+    slice_get (map (λ rule. rule.body) rules) i ≡ Some e → Numbers (map rule_of rules) (shapes_of old) (shapes_of new) n
+    (pattern_of e) →
     AreCut (map rule_of rules) (i + 1) (shapes_of new) (bodies ++ n ∷ [])
-next_cut rules i old new bodies n e c at g = cut_more (map rule_of rules) i (shapes_of old) (shapes_of new) bodies n (pattern_of e) c (body_at rules i e at) g
+next_cut rules i old new bodies n e c at g = cut_more (map rule_of rules) i (shapes_of old) (shapes_of new) bodies n
+    (pattern_of e) c (body_at rules i e at) g
 
 -- all rules
-pub bodies_of_cut : (rules : List Rule) (count : ℕ) (nodes : List Shape) (bodies : List ℕ) → AreCut rules count nodes bodies → count ≡ length rules → AreBodies rules nodes bodies
+pub bodies_of_cut : (rules : List Rule) (count : ℕ) (nodes : List Shape) (bodies : List ℕ)
+    → AreCut rules count nodes bodies → count ≡ length rules → AreBodies rules nodes bodies
 bodies_of_cut rules count nodes bodies c all = record { count = omega (arith, c.long); spelled = c.spelled }
 
 -- a node that is a name has the id of one

@@ -1,6 +1,7 @@
 -- The notes on a grammar, from the marks on its rules and the uses of names.
 -- Serves: check_peg, one_list_of_notes, redefinitions
-use Rattle.std.proofs.Common.{◌≡◌, ℕ, suc, ◌==◌, ◌||◌, Bool, true, false, not, cond, List, [], ◌∷◌, ◌++◌, length, map, drop, get_or, Option, Some, None, refl, sym, ap, subst, ◌∙◌, arith, inl, inr}
+use Rattle.std.proofs.Common.{◌≡◌, ℕ, suc, ◌==◌, ◌||◌, Bool, true, false, not, cond, List, [], ◌∷◌, ◌++◌, length, map}
+use Rattle.std.proofs.Common.{drop, get_or, Option, Some, None, refl, sym, ap, subst, ◌∙◌, arith, inl, inr}
 use Rattle.std.specs.Prelude.{position, slice_get, option_to_list, Contains}
 use Rattle.std.specs.Str.{bytes_eq}
 use Rattle.std.specs.List.{list_any}
@@ -31,9 +32,11 @@ use Rattle.gramcheck.proofs.ThoseLemmas.{those-one, those-chosen}
 use Rattle.gramcheck.proofs.RuleNameLemmas.{same-name, own-name, other-name}
 
 -- there is at most one list of notes
-pub notes-one : (rules : List Rule) (again : List (List ℕ)) (start : Option (List ℕ)) (a b : List Said) → AreNotes rules again start a → AreNotes rules again start b → a ≡ b
+pub notes-one : (rules : List Rule) (again : List (List ℕ)) (start : Option (List ℕ)) (a b : List Said)
+    → AreNotes rules again start a → AreNotes rules again start b → a ≡ b
 notes-one rules again start a b g h =
-    let redefined = those-one (λ rule. Contains again rule.name) rules g.redefined h.redefined g.are_redefined h.are_redefined in
+    let redefined = those-one (λ rule. Contains again rule.name) rules g.redefined h.redefined g.are_redefined
+    h.are_redefined in
     let unused = those-one (IsUnused start rules) rules g.unused h.unused g.are_unused h.are_unused in
     let recursive = those-one (IsLeftRecursive rules) rules g.recursive h.recursive g.are_recursive h.are_recursive in
     let looping = those-one (Loops rules) rules g.looping h.looping g.are_looping h.are_looping in
@@ -50,12 +53,14 @@ among-contains (x ∷ names) n h = elim (cases_Bool (bytes_eq n x)) [
 ]
 
 pub contains-among : (names : List (List ℕ)) (n : List ℕ) → Contains names n → is_among Exact names n ≡ true
-contains-among names n c = list_any_at (bytes_eq n) names c.0 n c.1 (subst (λ x. bytes_eq n x ≡ true) (sym c.2) (own-name n))
+contains-among names n c = list_any_at (bytes_eq n) names c.0 n c.1
+    (subst (λ x. bytes_eq n x ≡ true) (sym c.2) (own-name n))
 
 -- the names with these ids
 module _ (rules : List Rule) (id : ℕ) (n : List ℕ) (at : slice_get (rule_names rules) id ≡ Some n)
     (unique : (i : ℕ) → slice_get (rule_names rules) i ≡ Some n → i ≡ id) where
-  at-one : (i : ℕ) (r : Option (List ℕ)) → slice_get (rule_names rules) i ≡ r → is_among Exact (option_to_list r) n ≡ (i == id)
+  at-one : (i : ℕ) (r : Option (List ℕ)) → slice_get (rule_names rules) i ≡ r → is_among Exact (option_to_list r) n
+      ≡ (i == id)
   at-one i None h = elim (eqb_tells i id) [
     | inl e ↦ absurd (let here = subst (λ (k : ℕ). slice_get (rule_names rules) k ≡ None) e.1 h in cc (at, here))
     | inr e ↦ sym (e.0)
@@ -65,7 +70,8 @@ module _ (rules : List Rule) (id : ℕ) (n : List ℕ) (at : slice_get (rule_nam
         let here = subst (λ (k : ℕ). slice_get (rule_names rules) k ≡ Some m) e.1 h in
         let is : n ≡ m = cc (at, here) in
         subst (λ x. bytes_eq n x ≡ true) is (own-name n) ∙ sym (e.0)
-    | inr e ↦ other-name n m (λ is. e.1 (unique i (subst (λ x. slice_get (rule_names rules) i ≡ Some x) (sym is) h))) ∙ sym (e.0)
+    | inr e ↦ other-name n m (λ is. e.1 (unique i (subst (λ x. slice_get (rule_names rules) i ≡ Some x) (sym is) h)))
+        ∙ sym (e.0)
   ]
 
   pub at-ids : (ids : List ℕ) → is_among Exact (names_at rules ids) n ≡ list_any (λ i. i == id) ids
@@ -76,7 +82,8 @@ module _ (rules : List Rule) (id : ℕ) (n : List ℕ) (at : slice_get (rule_nam
       ∙ ap (λ b. (i == id) || b) (at-ids ids)
 
 -- the name of the rule at an id
-name-at : (rules : List Rule) (id : ℕ) (rule : Rule) → slice_get rules id ≡ Some rule → slice_get (rule_names rules) id ≡ Some rule.name
+name-at : (rules : List Rule) (id : ℕ) (rule : Rule) → slice_get rules id ≡ Some rule → slice_get (rule_names rules) id
+    ≡ Some rule.name
 name-at rules id rule at = slice_get-map (λ r. r.name) rules id ∙ ap (option_map (λ (r : Rule). r.name)) at
 
 -- the start rule's name, as a list of at most one
@@ -86,17 +93,22 @@ among-start (Some m) n h = ap (λ x. Some x) (sym (same-name n m (sym (or-false 
 
 -- the names that no rule has are the same with the first rule's name before all uses
 news-start : (start : Option (List ℕ)) (rules : List Rule) (uses : List (List ℕ)) →
-    news Exact (rule_names rules) (option_to_list (start_of start rules) ++ uses) ≡ news Exact (rule_names rules) (option_to_list start ++ uses)
+    news Exact (rule_names rules) (option_to_list (start_of start rules) ++ uses) ≡ news Exact (rule_names rules)
+    (option_to_list start ++ uses)
 news-start (Some name) rules uses = refl
 news-start None [] uses = refl
 news-start None (rule ∷ rules) uses =
-    ap (λ b. cond b (news Exact (rule_names (rule ∷ rules)) uses) (rule.name ∷ news Exact (rule_names (rule ∷ rules) ++ rule.name ∷ []) uses)) (ap (λ b. b || is_among Exact (rule_names rules) rule.name) (own-name rule.name))
+    ap (λ b. cond b (news Exact (rule_names (rule ∷ rules)) uses)
+    (rule.name ∷ news Exact (rule_names (rule ∷ rules) ++ rule.name ∷ []) uses))
+    (ap (λ b. b || is_among Exact (rule_names rules) rule.name) (own-name rule.name))
 
 -- what all uses in a grammar say of its rules
 -- where each rule is the one that its name finds
-module _ (rules : List Rule) (own : (id : ℕ) (name : List ℕ) → slice_get (rule_names rules) id ≡ Some name → position (bytes_eq name) (rule_names rules) ≡ Some id) where
+module _ (rules : List Rule) (own : (id : ℕ) (name : List ℕ) → slice_get (rule_names rules) id ≡ Some name
+    → position (bytes_eq name) (rule_names rules) ≡ Some id) where
   -- the rules that are defined again
-  pub marks-again : (numbers : List ℕ) (again : List Bool) → ids.AreMarks (Contains numbers) (length rules) again → AreMarks (λ rule. Contains (names_at rules numbers) rule.name) rules again
+  pub marks-again : (numbers : List ℕ) (again : List Bool) → ids.AreMarks (Contains numbers) (length rules) again
+      → AreMarks (λ rule. Contains (names_at rules numbers) rule.name) rules again
   marks-again numbers again marks = record {
     count = marks.count_is;
     exact = λ id rule at. (
@@ -105,10 +117,12 @@ module _ (rules : List Rule) (own : (id : ℕ) (name : List ℕ) → slice_get (
     );
   }
     where
-      told : (id : ℕ) (rule : Rule) → slice_get rules id ≡ Some rule → is_among Exact (names_at rules numbers) rule.name ≡ get_or again id false
+      told : (id : ℕ) (rule : Rule) → slice_get rules id ≡ Some rule → is_among Exact (names_at rules numbers) rule.name
+          ≡ get_or again id false
       told id rule at =
           let here = name-at rules id rule at in
-          at-ids rules id rule.name here (λ i other. let a = own i rule.name other in let b = own id rule.name here in cc (a, b)) numbers
+          at-ids rules id rule.name here (λ i other. let a = own i rule.name other in let b = own id rule.name here in
+          cc (a, b)) numbers
           ∙ sym (mark_tests numbers (length rules) again marks id (slice_get_within rules id rule at))
 
 module _ (rules : List Rule) (start : Option (List ℕ)) (names : Rules (Unit {0})) (numbers : List ℕ)
@@ -127,14 +141,17 @@ module _ (rules : List Rule) (start : Option (List ℕ)) (names : Rules (Unit {0
   seen-used n h c =
       both_ways (is_among Exact seen n) h
       (list_any-append (bytes_eq n) (option_to_list (start_of start rules)) (names_used rules)
-      ∙ or_right (is_among Exact (option_to_list (start_of start rules)) n) (is_among Exact (names_used rules) n) (contains-among (names_used rules) n c))
+      ∙ or_right (is_among Exact (option_to_list (start_of start rules)) n) (is_among Exact (names_used rules) n)
+      (contains-among (names_used rules) n c))
 
-  not-seen : (n : List ℕ) → (Contains (names_used rules) n → ⊥) → (start_of start rules ≡ Some n → ⊥) → is_among Exact seen n ≡ false
+  not-seen : (n : List ℕ) → (Contains (names_used rules) n → ⊥) → (start_of start rules ≡ Some n → ⊥)
+      → is_among Exact seen n ≡ false
   not-seen n used first = elim (cases_Bool (is_among Exact seen n)) [
-    | inl e ↦ elim (or_cases _ _ (sym (list_any-append (bytes_eq n) (option_to_list (start_of start rules)) (names_used rules)) ∙ e)) [
-      | inl a ↦ absurd (first (among-start (start_of start rules) n a))
-      | inr b ↦ absurd (used (among-contains (names_used rules) n b))
-    ]
+    | inl e ↦ elim (or_cases _ _ (sym (list_any-append (bytes_eq n) (option_to_list (start_of start rules))
+        (names_used rules)) ∙ e)) [
+          | inl a ↦ absurd (first (among-start (start_of start rules) n a))
+          | inr b ↦ absurd (used (among-contains (names_used rules) n b))
+        ]
     | inr e ↦ e
   ]
 
@@ -143,43 +160,56 @@ module _ (rules : List Rule) (start : Option (List ℕ)) (names : Rules (Unit {0
   not-true false h = refl
 
   -- the marks of the rules that are not used
-  module _ (own : (id : ℕ) (name : List ℕ) → slice_get (rule_names rules) id ≡ Some name → position (bytes_eq name) (rule_names rules) ≡ Some id)
+  module _ (own : (id : ℕ) (name : List ℕ) → slice_get (rule_names rules) id ≡ Some name
+      → position (bytes_eq name) (rule_names rules) ≡ Some id)
       (used : List Bool) (marks : ids.AreMarks (Contains numbers) (length rules) used) where
-    mark-of : (id : ℕ) (rule : Rule) → slice_get rules id ≡ Some rule → get_or (map not used) id false ≡ not (is_among Exact seen rule.name)
+    mark-of : (id : ℕ) (rule : Rule) → slice_get rules id ≡ Some rule → get_or (map not used) id false
+        ≡ not (is_among Exact seen rule.name)
     mark-of id rule at =
         let low = slice_get_within rules id rule at in
         opposite used id (omega (arith, low, marks.count_is))
         ∙ ap not
         (mark_tests numbers (length rules) used marks id low
-        ∙ known_among Exact (rule_names rules) seen seen names numbers rule.name id uses (own id rule.name (name-at rules id rule at)))
+        ∙ known_among Exact (rule_names rules) seen seen names numbers rule.name id uses
+        (own id rule.name (name-at rules id rule at)))
 
     pub marks-unused : AreMarks (IsUnused start rules) rules (map not used)
     marks-unused = record {
       count = length-map used not ∙ marks.count_is;
       exact = λ id rule at. (
         λ on.
-            let out : is_among Exact seen rule.name ≡ false = not-true (is_among Exact seen rule.name) (sym (mark-of id rule at) ∙ on) in
+            let out : is_among Exact seen rule.name ≡ false =
+            not-true (is_among Exact seen rule.name) (sym (mark-of id rule at) ∙ on) in
             (seen-used rule.name out, seen-start rule.name out),
         λ is. mark-of id rule at ∙ ap not (not-seen rule.name is.0 is.1),
       );
     }
 
   -- the names that no rule has
-  pub undefined-names : drop (length rules) (names_of names) ≡ news Exact (rule_names rules) (option_to_list start ++ names_used rules)
+  pub undefined-names : drop (length rules) (names_of names) ≡ news Exact (rule_names rules)
+      (option_to_list start ++ names_used rules)
   undefined-names =
       ap (drop (length rules)) uses.all
-      ∙ ap (λ (k : ℕ). drop k (rule_names rules ++ news Exact (rule_names rules) seen)) (sym (length-map rules (λ rule. rule.name)))
+      ∙ ap (λ (k : ℕ). drop k (rule_names rules ++ news Exact (rule_names rules) seen))
+      (sym (length-map rules (λ rule. rule.name)))
       ∙ drop-append_seam (rule_names rules) (news Exact (rule_names rules) seen)
       ∙ news-start start rules (names_used rules)
 
   -- all notes
-  told-of : (f : List ℕ → Said) (marks : List Bool) → map f (chosen marks (rule_names rules)) ≡ map (λ rule. f rule.name) (chosen marks rules)
-  told-of f marks = ap (map f) (chosen-map (λ rule. rule.name) marks rules) ∙ map-map f (λ rule. rule.name) (chosen marks rules)
+  told-of : (f : List ℕ → Said) (marks : List Bool) → map f (chosen marks (rule_names rules))
+      ≡ map (λ rule. f rule.name) (chosen marks rules)
+  told-of f marks = ap (map f) (chosen-map (λ rule. rule.name) marks rules)
+      ∙ map-map f (λ rule. rule.name) (chosen marks rules)
 
-  pub are-notes : (redefined : List ℕ) (again unused recursive looping : List Bool) (notes : List Said) → AreMarks (λ rule. Contains (names_at rules redefined) rule.name) rules again →
-      AreMarks (IsUnused start rules) rules unused → AreMarks (IsLeftRecursive rules) rules recursive → AreMarks (Loops rules) rules looping →
-      notes ≡ map (said Redefined) (chosen again (rule_names rules)) ++ (map (said Undefined) (drop (length rules) (names_of names)) ++ (map (said Unused) (chosen unused (rule_names rules))
-      ++ (map (said LeftRecursion) (chosen recursive (rule_names rules)) ++ map (said Loop) (chosen looping (rule_names rules))))) →
+  pub are-notes : (redefined : List ℕ) (again unused recursive looping : List Bool) (notes : List Said)
+      → AreMarks (λ rule. Contains (names_at rules redefined) rule.name) rules again →
+      AreMarks (IsUnused start rules) rules unused → AreMarks (IsLeftRecursive rules) rules recursive
+      → AreMarks (Loops rules) rules looping →
+      notes ≡ map (said Redefined) (chosen again (rule_names rules))
+      ++ (map (said Undefined) (drop (length rules) (names_of names))
+      ++ (map (said Unused) (chosen unused (rule_names rules))
+      ++ (map (said LeftRecursion) (chosen recursive (rule_names rules))
+      ++ map (said Loop) (chosen looping (rule_names rules))))) →
       AreNotes rules (names_at rules redefined) start notes
   are-notes redefined again unused recursive looping notes agains outs lefts loops h = record {
     redefined = chosen again rules;
@@ -190,14 +220,23 @@ module _ (rules : List Rule) (start : Option (List ℕ)) (names : Rules (Unit {0
     are_unused = those-chosen _ rules unused outs;
     are_recursive = those-chosen _ rules recursive lefts;
     are_looping = those-chosen _ rules looping loops;
-    all = h ∙ rw (told-of (said Redefined) again, undefined-names, told-of (said Unused) unused, told-of (said LeftRecursion) recursive, told-of (said Loop) looping) refl;
+    all = h ∙ rw (
+      told-of (said Redefined) again,
+      undefined-names,
+      told-of (said Unused) unused,
+      told-of (said LeftRecursion) recursive,
+      told-of (said Loop) looping,
+    ) refl;
   }
 
 -- the notes on rules that are defined again, alone
-pub redefinitions-are : (rules : List Rule) (redefined : List ℕ) (again : List Bool) (notes : List Said) → AreMarks (λ rule. Contains (names_at rules redefined) rule.name) rules again →
-    notes ≡ map (said Redefined) (chosen again (rule_names rules)) → AreRedefinitions rules (names_at rules redefined) notes
+pub redefinitions-are : (rules : List Rule) (redefined : List ℕ) (again : List Bool) (notes : List Said)
+    → AreMarks (λ rule. Contains (names_at rules redefined) rule.name) rules again →
+    notes ≡ map (said Redefined) (chosen again (rule_names rules)) → AreRedefinitions rules (names_at rules redefined)
+    notes
 redefinitions-are rules redefined again notes marks h = record {
   redefined = chosen again rules;
   are_redefined = those-chosen _ rules again marks;
-  all = h ∙ ap (map (said Redefined)) (chosen-map (λ rule. rule.name) again rules) ∙ map-map (said Redefined) (λ rule. rule.name) (chosen again rules);
+  all = h ∙ ap (map (said Redefined)) (chosen-map (λ rule. rule.name) again rules)
+      ∙ map-map (said Redefined) (λ rule. rule.name) (chosen again rules);
 }

@@ -1,6 +1,7 @@
 -- A rule comes back exactly where a node of its name does, and each chain of steps that comes back passes such a node.
 -- Serves: check_peg (notes, ranked)
-use Rattle.std.proofs.Common.{◌≡◌, ℕ, ◌<◌, Bool, true, false, cond, List, [], ◌∷◌, length, replicate, get_or, Contains, refl, sym, ap, subst, arith, ⊎_elim, inl, inr, ◌⊎◌, ◌∙◌, Some, option_to_list}
+use Rattle.std.proofs.Common.{◌≡◌, ℕ, ◌<◌, Bool, true, false, cond, List, [], ◌∷◌, length, replicate, get_or, Contains}
+use Rattle.std.proofs.Common.{refl, sym, ap, subst, arith, ⊎_elim, inl, inr, ◌⊎◌, ◌∙◌, Some, option_to_list}
 use Rattle.std.specs.Prelude.{slice_get}
 use Rattle.std.proofs.lemmas.List.{length-map, length-replicate}
 use Rattle.std.proofs.lemmas.Option.{slice_get_within}

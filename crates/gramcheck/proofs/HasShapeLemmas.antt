@@ -5,7 +5,9 @@ use Rattle.std.specs.Prelude.{slice_get}
 use Rattle.pegread.specs.Pattern as expr
 use Rattle.pegread.specs.Pattern.{Pattern, Patterns, Rule}
 use Rattle.gramcheck.specs.Nodes as node
-use Rattle.gramcheck.specs.Nodes.{Shape, id_of, Spells, spells_any, spells_bytes, spells_set, spells_name, spells_seq, spells_choice, spells_star, spells_plus, spells_opt, spells_and, spells_not, spells_act, spells_open, spells_close, SpellAll}
+use Rattle.gramcheck.specs.Nodes.{Shape, id_of, Spells, spells_any, spells_bytes, spells_set, spells_name, spells_seq}
+use Rattle.gramcheck.specs.Nodes.{spells_choice, spells_star, spells_plus, spells_opt, spells_and, spells_not}
+use Rattle.gramcheck.specs.Nodes.{spells_act, spells_open, spells_close, SpellAll}
 
 module _ (rules : List Rule) (nodes : List Shape) where
   -- p has this shape, and its operands are spelled by the shape's
@@ -17,7 +19,8 @@ module _ (rules : List Rule) (nodes : List Shape) where
   HasShape (node.Seq ms) p = (ps : Patterns) × (p ≡ expr.Seq ps) × SpellAll rules nodes ms ps
   HasShape (node.Choice ms) p = (ps : Patterns) × (p ≡ expr.Choice ps) × SpellAll rules nodes ms ps
   HasShape (node.Star m) p = (q : Pattern) × (p ≡ expr.Star q) × Spells rules nodes m q
-  HasShape (node.Plus m k) p = (q : Pattern) × (p ≡ expr.Plus q) × Spells rules nodes m q × (slice_get nodes k ≡ Some (node.Star m))
+  HasShape (node.Plus m k) p = (q : Pattern) × (p ≡ expr.Plus q) × Spells rules nodes m q
+      × (slice_get nodes k ≡ Some (node.Star m))
   HasShape (node.Opt m) p = (q : Pattern) × (p ≡ expr.Opt q) × Spells rules nodes m q
   HasShape (node.And m) p = (q : Pattern) × (p ≡ expr.And q) × Spells rules nodes m q
   HasShape (node.Not m) p = (q : Pattern) × (p ≡ expr.Not q) × Spells rules nodes m q
@@ -25,19 +28,32 @@ module _ (rules : List Rule) (nodes : List Shape) where
   HasShape node.Open p = p ≡ expr.Open
   HasShape node.Close p = p ≡ expr.Close
 
-  pub has_shape : {n : ℕ} {p : Pattern} → Spells rules nodes n p → (shape : Shape) → slice_get nodes n ≡ Some shape → HasShape shape p
+  pub has_shape : {n : ℕ} {p : Pattern} → Spells rules nodes n p → (shape : Shape) → slice_get nodes n ≡ Some shape
+      → HasShape shape p
   has_shape (spells_any g) shape h = let same : node.Any ≡ shape = cc in subst (λ v. HasShape v expr.Any) same refl
-  has_shape (spells_bytes {bs = bs} g) shape h = let same : node.Bytes bs ≡ shape = cc in subst (λ v. HasShape v (expr.Bytes bs)) same refl
-  has_shape (spells_set {s = s} g) shape h = let same : node.Set s ≡ shape = cc in subst (λ v. HasShape v (expr.Set s)) same refl
+  has_shape (spells_bytes {bs = bs} g) shape h = let same : node.Bytes bs ≡ shape = cc in
+      subst (λ v. HasShape v (expr.Bytes bs)) same refl
+  has_shape (spells_set {s = s} g) shape h = let same : node.Set s ≡ shape = cc in
+      subst (λ v. HasShape v (expr.Set s)) same refl
   has_shape (spells_name {name = word} g) shape h =
-      let same : node.Name (id_of rules word) ≡ shape = cc in subst (λ v. HasShape v (expr.Name word)) same (word, refl, refl)
-  has_shape (spells_seq {ms = ms} {ps = ps} g s) shape h = let same : node.Seq ms ≡ shape = cc in subst (λ v. HasShape v (expr.Seq ps)) same (ps, refl, s)
-  has_shape (spells_choice {ms = ms} {ps = ps} g s) shape h = let same : node.Choice ms ≡ shape = cc in subst (λ v. HasShape v (expr.Choice ps)) same (ps, refl, s)
-  has_shape (spells_star {m = m} {p = q} g s) shape h = let same : node.Star m ≡ shape = cc in subst (λ v. HasShape v (expr.Star q)) same (q, refl, s)
-  has_shape (spells_plus {m = m} {k = k} {p = q} g s a) shape h = let same : node.Plus m k ≡ shape = cc in subst (λ v. HasShape v (expr.Plus q)) same (q, refl, s, a)
-  has_shape (spells_opt {m = m} {p = q} g s) shape h = let same : node.Opt m ≡ shape = cc in subst (λ v. HasShape v (expr.Opt q)) same (q, refl, s)
-  has_shape (spells_and {m = m} {p = q} g s) shape h = let same : node.And m ≡ shape = cc in subst (λ v. HasShape v (expr.And q)) same (q, refl, s)
-  has_shape (spells_not {m = m} {p = q} g s) shape h = let same : node.Not m ≡ shape = cc in subst (λ v. HasShape v (expr.Not q)) same (q, refl, s)
-  has_shape (spells_act {t = t} g) shape h = let same : node.Act t ≡ shape = cc in subst (λ v. HasShape v (expr.Act t)) same refl
+      let same : node.Name (id_of rules word) ≡ shape = cc in subst (λ v. HasShape v (expr.Name word)) same
+      (word, refl, refl)
+  has_shape (spells_seq {ms = ms} {ps = ps} g s) shape h = let same : node.Seq ms ≡ shape = cc in
+      subst (λ v. HasShape v (expr.Seq ps)) same (ps, refl, s)
+  has_shape (spells_choice {ms = ms} {ps = ps} g s) shape h = let same : node.Choice ms ≡ shape = cc in
+      subst (λ v. HasShape v (expr.Choice ps)) same (ps, refl, s)
+  has_shape (spells_star {m = m} {p = q} g s) shape h = let same : node.Star m ≡ shape = cc in
+      subst (λ v. HasShape v (expr.Star q)) same (q, refl, s)
+  has_shape (spells_plus {m = m} {k = k} {p = q} g s a) shape h = let same : node.Plus m k ≡ shape = cc in
+      subst (λ v. HasShape v (expr.Plus q)) same (q, refl, s, a)
+  has_shape (spells_opt {m = m} {p = q} g s) shape h = let same : node.Opt m ≡ shape = cc in
+      subst (λ v. HasShape v (expr.Opt q)) same (q, refl, s)
+  has_shape (spells_and {m = m} {p = q} g s) shape h = let same : node.And m ≡ shape = cc in
+      subst (λ v. HasShape v (expr.And q)) same (q, refl, s)
+  has_shape (spells_not {m = m} {p = q} g s) shape h = let same : node.Not m ≡ shape = cc in
+      subst (λ v. HasShape v (expr.Not q)) same (q, refl, s)
+  has_shape (spells_act {t = t} g) shape h = let same : node.Act t ≡ shape = cc in
+      subst (λ v. HasShape v (expr.Act t)) same refl
   has_shape (spells_open g) shape h = let same : node.Open ≡ shape = cc in subst (λ v. HasShape v expr.Open) same refl
-  has_shape (spells_close g) shape h = let same : node.Close ≡ shape = cc in subst (λ v. HasShape v expr.Close) same refl
+  has_shape (spells_close g) shape h = let same : node.Close ≡ shape = cc in
+      subst (λ v. HasShape v expr.Close) same refl

@@ -1,6 +1,7 @@
 -- Rules that come back to themselves are the left-recursive ones.
 -- Serves: check_peg (notes, ranked)
-use Rattle.std.proofs.Common.{◌≡◌, ℕ, ◌+◌, Bool, true, false, cond, List, [], ◌∷◌, get_or, refl, sym, ap, subst, arith, ◌∙◌, Some, add-one}
+use Rattle.std.proofs.Common.{◌≡◌, ℕ, ◌+◌, Bool, true, false, cond, List, [], ◌∷◌, get_or, refl, sym, ap, subst, arith}
+use Rattle.std.proofs.Common.{◌∙◌, Some, add-one}
 use Rattle.std.specs.Prelude.{slice_get, bytes_eq, option_map}
 use Rattle.std.proofs.lemmas.Option.{slice_get_within, slice_get-get_or, slice_get-map}
 use Rattle.std.proofs.lemmas.Slice.Eq.{bytes_eq-Decides}
@@ -10,7 +11,9 @@ use Rattle.gramcheck.specs.Bodies.{AreBodies, IsBuilt}
 use Rattle.leastset.specs.Leads.{AreCycleMarks, AreRanksBut}
 use Rattle.gramcheck.specs.Left.{LeftChain, IsLeftRecursive}
 use Rattle.gramcheck.specs.Nodes as node
-use Rattle.gramcheck.specs.Nodes.{Shape, id_of, Spells, spells_any, spells_bytes, spells_set, spells_name, spells_seq, spells_choice, spells_star, spells_plus, spells_opt, spells_and, spells_not, spells_act, spells_open, spells_close}
+use Rattle.gramcheck.specs.Nodes.{Shape, id_of, Spells, spells_any, spells_bytes, spells_set, spells_name, spells_seq}
+use Rattle.gramcheck.specs.Nodes.{spells_choice, spells_star, spells_plus, spells_opt, spells_and, spells_not}
+use Rattle.gramcheck.specs.Nodes.{spells_act, spells_open, spells_close}
 use Rattle.gramcheck.specs.Nulls.{AreNullMarks}
 use Rattle.gramcheck.specs.NodeRows.{step_rows, ComesBack, AreComingBack, IsLeft}
 use Rattle.gramcheck.proofs.AreRanksLemmas.{are_ranks}

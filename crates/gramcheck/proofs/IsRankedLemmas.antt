@@ -26,9 +26,12 @@ module _ (rules : List Rule) (nodes : List Shape) (standing : AreStanding rules 
       let lt = used like.0 (subst (StandsIn rules) like.1 one.stands) in
       omega (arith, lt, like.2)
 
-pub is_ranked : (rules : List Rule) (start : ℕ) (nodes : List Shape) (bodies ranks : List ℕ) → start < length rules → AreBodies rules nodes bodies → IsBuilt nodes →
-    AreStanding rules nodes → AreRanks rules nodes bodies ranks → ((word : List ℕ) → StandsIn rules (expr.Name word) → id_of rules word < length rules) →
-    ((id : ℕ) (rule : Rule) → slice_get rules id ≡ Some rule → Loops rules rule → ⊥) → IsRanked rules start nodes bodies ranks
+pub is_ranked : (rules : List Rule) (start : ℕ) (nodes : List Shape) (bodies ranks : List ℕ) → start < length rules
+    → AreBodies rules nodes bodies → IsBuilt nodes →
+    AreStanding rules nodes → AreRanks rules nodes bodies ranks
+    → ((word : List ℕ) → StandsIn rules (expr.Name word) → id_of rules word < length rules) →
+    ((id : ℕ) (rule : Rule) → slice_get rules id ≡ Some rule → Loops rules rule → ⊥)
+    → IsRanked rules start nodes bodies ranks
 is_ranked rules start nodes bodies ranks first are built standing falling used loops = record {
   start_is_rule = first;
   spelled = are;

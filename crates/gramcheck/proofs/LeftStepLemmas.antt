@@ -1,15 +1,20 @@
 -- Left steps between nodes are left steps between the expressions that they spell.
 -- Serves: check_peg (notes)
-use Rattle.std.proofs.Common.{◌≡◌, ℕ, Bool, true, false, cond, List, [], ◌∷◌, get_or, Contains, refl, sym, subst, ⊎_elim, Some, option_to_list, arith}
+use Rattle.std.proofs.Common.{◌≡◌, ℕ, Bool, true, false, cond, List, [], ◌∷◌, get_or, Contains, refl, sym, subst}
+use Rattle.std.proofs.Common.{⊎_elim, Some, option_to_list, arith}
 use Rattle.std.specs.Prelude.{slice_get}
 use Rattle.std.proofs.lemmas.List.{length-map}
 use Rattle.std.proofs.lemmas.Option.{get_or_from_slice_get, slice_get-get_or}
 use Rattle.pegread.specs.Pattern as e
 use Rattle.pegread.specs.Pattern.{Pattern, Patterns, Rule, body_of}
 use Rattle.gramcheck.specs.Bodies.{AreBodies}
-use Rattle.gramcheck.specs.Left.{Among, among_first, among_later, Front, front_first, front_later, LeftStep, to_body, to_alternative, to_member, to_starred, to_repeated, to_optional, to_asserted, to_denied, LeftChain, one_step, more_steps}
+use Rattle.gramcheck.specs.Left.{Among, among_first, among_later, Front, front_first, front_later, LeftStep, to_body}
+use Rattle.gramcheck.specs.Left.{to_alternative, to_member, to_starred, to_repeated, to_optional, to_asserted}
+use Rattle.gramcheck.specs.Left.{to_denied, LeftChain, one_step, more_steps}
 use Rattle.gramcheck.specs.Nodes as node
-use Rattle.gramcheck.specs.Nodes.{Shape, id_of, Spells, spells_any, spells_bytes, spells_set, spells_name, spells_seq, spells_choice, spells_star, spells_plus, spells_opt, spells_and, spells_not, spells_act, spells_open, spells_close, SpellAll, spell_none, spell_more}
+use Rattle.gramcheck.specs.Nodes.{Shape, id_of, Spells, spells_any, spells_bytes, spells_set, spells_name, spells_seq}
+use Rattle.gramcheck.specs.Nodes.{spells_choice, spells_star, spells_plus, spells_opt, spells_and, spells_not}
+use Rattle.gramcheck.specs.Nodes.{spells_act, spells_open, spells_close, SpellAll, spell_none, spell_more}
 use Rattle.gramcheck.specs.Nulls.{AreNullMarks}
 use Rattle.gramcheck.specs.NodeRows.{front, steps_of, step_rows}
 use Rattle.leastset.specs.Leads.{Leads, one, more}

@@ -1,10 +1,15 @@
 -- What an expression gives before it has looked at the input's end is what it gives on every longer input.
 -- Serves: longer_input, longer_input_of_start, shorter_input, shorter_input_of_start
-use Rattle.std.proofs.Common.{◌≡◌, ℕ, zero, suc, ◌+◌, ◌-◌, ◌<◌, ◌≤◌, max, Bool, true, false, ◌&&◌, if◌then◌else◌, ◌==◌, List, [], ◌∷◌, ◌++◌, length, drop, refl, ◌∙◌, ap, arith, length-drop}
+use Rattle.std.proofs.Common.{◌≡◌, ℕ, zero, suc, ◌+◌, ◌-◌, ◌<◌, ◌≤◌, max, Bool, true, false, ◌&&◌, if◌then◌else◌, ◌==◌}
+use Rattle.std.proofs.Common.{List, [], ◌∷◌, ◌++◌, length, drop, refl, ◌∙◌, ap, arith, length-drop}
 use Rattle.std.proofs.lemmas.List.{drop-append-le}
 use Rattle.std.specs.Prelude.{slice_get}
 use Rattle.pegread.specs.Pattern.{Pattern, Patterns, Rule}
-use Rattle.gramcheck.specs.Outcome.{Outcome, Fails, Takes, begins_with, compared, looked_at, Gives, any_takes, any_at_end, set_takes, set_fails, set_at_end, bytes_take, bytes_fail, act, open_at, close_at, name, seq, choice, opt_takes, opt_none, star_none, star_more, plus_fails, plus_takes, and_takes, and_fails, not_takes, not_fails, GivesAll, all_done, one_fails, rest_fails, rest_takes, GivesFirst, all_failed, first_takes, first_fails}
+use Rattle.gramcheck.specs.Outcome.{Outcome, Fails, Takes, begins_with, compared, looked_at, Gives, any_takes}
+use Rattle.gramcheck.specs.Outcome.{any_at_end, set_takes, set_fails, set_at_end, bytes_take, bytes_fail, act, open_at}
+use Rattle.gramcheck.specs.Outcome.{close_at, name, seq, choice, opt_takes, opt_none, star_none, star_more, plus_fails}
+use Rattle.gramcheck.specs.Outcome.{plus_takes, and_takes, and_fails, not_takes, not_fails, GivesAll, all_done}
+use Rattle.gramcheck.specs.Outcome.{one_fails, rest_fails, rest_takes, GivesFirst, all_failed, first_takes, first_fails}
 
 pub slice_get_more : (x y : List ℕ) (p : ℕ) → p < length x → slice_get (x ++ y) p ≡ slice_get x p
 slice_get_more [] y p h = absurd (omega arith)
@@ -19,7 +24,8 @@ pub record Alike (t y bs : List ℕ) : Type 0 where
   pub begins : begins_with (t ++ y) bs ≡ begins_with t bs
   pub compared : compared (t ++ y) bs ≡ compared t bs
 
-pub alike_more : (b : Bool) (t y bs : List ℕ) (n : ℕ) → Alike t y bs → (if b then compared (t ++ y) bs + 1 else n) ≡ (if b then compared t bs + 1 else n)
+pub alike_more : (b : Bool) (t y bs : List ℕ) (n : ℕ) → Alike t y bs → (if b then compared (t ++ y) bs + 1 else n)
+    ≡ (if b then compared t bs + 1 else n)
 alike_more b t y bs n h = ap (λ k. if b then k + 1 else n) h.compared
 
 pub shorter : (b : Bool) (k n : ℕ) → b ≡ true → (if b then k + 1 else 1) < suc n → k < n
@@ -42,8 +48,10 @@ pub looked_below : (p n m k : ℕ) → looked_at p n < k → p < k → m ≡ k -
 looked_below p zero m k h lt is = omega arith
 looked_below p (suc n) m k h lt is = omega arith
 
-bytes_more : (x y bs : List ℕ) (p : ℕ) → p < length x → looked_at p (compared (drop p x) bs) < length x → Alike (drop p x) y bs
-bytes_more x y bs p lt h = compare_more (drop p x) y bs (looked_below p (compared (drop p x) bs) _ (length x) h lt (length-drop p x))
+bytes_more : (x y bs : List ℕ) (p : ℕ) → p < length x → looked_at p (compared (drop p x) bs) < length x
+    → Alike (drop p x) y bs
+bytes_more x y bs p lt h = compare_more (drop p x) y bs
+    (looked_below p (compared (drop p x) bs) _ (length x) h lt (length-drop p x))
 
 -- a success ends no further than it looked, or where it began
 abbrev pub EndsBy : ℕ → Outcome → ℕ → Type 0
@@ -73,7 +81,8 @@ module _ (rules : List Rule) (x : List ℕ) where
     ends_by (set_takes h g) = omega arith
     ends_by (set_fails h g) = tt
     ends_by (set_at_end h) = tt
-    ends_by (bytes_take {bs = bs} {p = p} h) = rw (← begins_compared (drop p x) bs h) (looked_from p (compared (drop p x) bs))
+    ends_by (bytes_take {bs = bs} {p = p} h) = rw (← begins_compared (drop p x) bs h)
+        (looked_from p (compared (drop p x) bs))
     ends_by (bytes_fail h) = tt
     ends_by act = omega arith
     ends_by open_at = omega arith
@@ -109,7 +118,8 @@ module _ (rules : List Rule) (x : List ℕ) where
 
 module _ (rules : List Rule) (x y : List ℕ) where
   mutual
-    pub grows : {e : Pattern} {p k : ℕ} {o : Outcome} → Gives rules x e p o k → p < length x → k < length x → Gives rules (x ++ y) e p o k
+    pub grows : {e : Pattern} {p k : ℕ} {o : Outcome} → Gives rules x e p o k → p < length x → k < length x
+        → Gives rules (x ++ y) e p o k
     grows (any_takes {p = p} h) lt less = any_takes (slice_get_more x y p lt ∙ h)
     grows (any_at_end {p = p} h) lt less = any_at_end (slice_get_more x y p lt ∙ h)
     grows (set_takes {p = p} h g) lt less = set_takes (slice_get_more x y p lt ∙ h) g
@@ -134,21 +144,27 @@ module _ (rules : List Rule) (x y : List ℕ) where
     grows (opt_takes d) lt less = opt_takes (grows d lt less)
     grows (opt_none d) lt less = opt_none (grows d lt less)
     grows (star_none d) lt less = star_none (grows d lt less)
-    grows (star_more d c) lt less = star_more (grows d lt (omega arith)) (grows c (omega (arith, ends_by rules x d)) (omega arith))
+    grows (star_more d c) lt less = star_more (grows d lt (omega arith))
+        (grows c (omega (arith, ends_by rules x d)) (omega arith))
     grows (plus_fails d) lt less = plus_fails (grows d lt less)
-    grows (plus_takes d c) lt less = plus_takes (grows d lt (omega arith)) (grows c (omega (arith, ends_by rules x d)) (omega arith))
+    grows (plus_takes d c) lt less = plus_takes (grows d lt (omega arith))
+        (grows c (omega (arith, ends_by rules x d)) (omega arith))
     grows (and_takes d) lt less = and_takes (grows d lt less)
     grows (and_fails d) lt less = and_fails (grows d lt less)
     grows (not_takes d) lt less = not_takes (grows d lt less)
     grows (not_fails d) lt less = not_fails (grows d lt less)
 
-    pub grows_all : {es : Patterns} {p k : ℕ} {o : Outcome} → GivesAll rules x es p o k → p < length x → k < length x → GivesAll rules (x ++ y) es p o k
+    pub grows_all : {es : Patterns} {p k : ℕ} {o : Outcome} → GivesAll rules x es p o k → p < length x → k < length x
+        → GivesAll rules (x ++ y) es p o k
     grows_all all_done lt less = all_done
     grows_all (one_fails d) lt less = one_fails (grows d lt less)
-    grows_all (rest_fails d c) lt less = rest_fails (grows d lt (omega arith)) (grows_all c (omega (arith, ends_by rules x d)) (omega arith))
-    grows_all (rest_takes d c) lt less = rest_takes (grows d lt (omega arith)) (grows_all c (omega (arith, ends_by rules x d)) (omega arith))
+    grows_all (rest_fails d c) lt less = rest_fails (grows d lt (omega arith))
+        (grows_all c (omega (arith, ends_by rules x d)) (omega arith))
+    grows_all (rest_takes d c) lt less = rest_takes (grows d lt (omega arith))
+        (grows_all c (omega (arith, ends_by rules x d)) (omega arith))
 
-    pub grows_first : {es : Patterns} {p k : ℕ} {o : Outcome} → GivesFirst rules x es p o k → p < length x → k < length x → GivesFirst rules (x ++ y) es p o k
+    pub grows_first : {es : Patterns} {p k : ℕ} {o : Outcome} → GivesFirst rules x es p o k → p < length x
+        → k < length x → GivesFirst rules (x ++ y) es p o k
     grows_first all_failed lt less = all_failed
     grows_first (first_takes d) lt less = first_takes (grows d lt less)
     grows_first (first_fails d c) lt less = first_fails (grows d lt (omega arith)) (grows_first c lt (omega arith))

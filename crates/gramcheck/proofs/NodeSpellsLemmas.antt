@@ -5,10 +5,13 @@ use Rattle.std.specs.Prelude.{Contains}
 use Rattle.std.proofs.lemmas.Option.{slice_get_within}
 use Rattle.pegread.specs.Pattern.{Pattern, Patterns, Rule}
 use Rattle.gramcheck.specs.Nodes as node
-use Rattle.gramcheck.specs.Nodes.{Shape, id_of, Spells, spells_any, spells_bytes, spells_set, spells_name, spells_seq, spells_choice, spells_star, spells_plus, spells_opt, spells_and, spells_not, spells_act, spells_open, spells_close, SpellAll, spell_none, spell_more}
+use Rattle.gramcheck.specs.Nodes.{Shape, id_of, Spells, spells_any, spells_bytes, spells_set, spells_name, spells_seq}
+use Rattle.gramcheck.specs.Nodes.{spells_choice, spells_star, spells_plus, spells_opt, spells_and, spells_not}
+use Rattle.gramcheck.specs.Nodes.{spells_act, spells_open, spells_close, SpellAll, spell_none, spell_more}
 use Rattle.leastset.proofs.ContainsLemmas.{cons_cases}
 use Rattle.leastset.proofs.AtLemmas.{at_append_left}
-use Rattle.gramcheck.specs.Within.{Within, WithinSome, itself, of_seq, of_choice, of_star, of_plus, of_opt, of_and, of_not, of_first, of_later}
+use Rattle.gramcheck.specs.Within.{Within, WithinSome, itself, of_seq, of_choice, of_star, of_plus, of_opt, of_and}
+use Rattle.gramcheck.specs.Within.{of_not, of_first, of_later}
 
 module _ (rules : List Rule) (xs ys : List Shape) where
   mutual
@@ -16,11 +19,16 @@ module _ (rules : List Rule) (xs ys : List Shape) where
     still_spells (spells_any {n = n} g) = spells_any (at_append_left xs ys n node.Any g)
     still_spells (spells_bytes {n = n} {bs = bs} g) = spells_bytes (at_append_left xs ys n (node.Bytes bs) g)
     still_spells (spells_set {n = n} {s = s} g) = spells_set (at_append_left xs ys n (node.Set s) g)
-    still_spells (spells_name {n = n} {name = name} g) = spells_name (at_append_left xs ys n (node.Name (id_of rules name)) g)
-    still_spells (spells_seq {n = n} {ms = ms} g s) = spells_seq (at_append_left xs ys n (node.Seq ms) g) (still_spell_all s)
-    still_spells (spells_choice {n = n} {ms = ms} g s) = spells_choice (at_append_left xs ys n (node.Choice ms) g) (still_spell_all s)
-    still_spells (spells_star {n = n} {m = m} g s) = spells_star (at_append_left xs ys n (node.Star m) g) (still_spells s)
-    still_spells (spells_plus {n = n} {m = m} {k = k} g s a) = spells_plus (at_append_left xs ys n (node.Plus m k) g) (still_spells s) (at_append_left xs ys k (node.Star m) a)
+    still_spells (spells_name {n = n} {name = name} g) =
+        spells_name (at_append_left xs ys n (node.Name (id_of rules name)) g)
+    still_spells (spells_seq {n = n} {ms = ms} g s) = spells_seq (at_append_left xs ys n (node.Seq ms) g)
+        (still_spell_all s)
+    still_spells (spells_choice {n = n} {ms = ms} g s) = spells_choice (at_append_left xs ys n (node.Choice ms) g)
+        (still_spell_all s)
+    still_spells (spells_star {n = n} {m = m} g s) = spells_star (at_append_left xs ys n (node.Star m) g)
+        (still_spells s)
+    still_spells (spells_plus {n = n} {m = m} {k = k} g s a) = spells_plus (at_append_left xs ys n (node.Plus m k) g)
+        (still_spells s) (at_append_left xs ys k (node.Star m) a)
     still_spells (spells_opt {n = n} {m = m} g s) = spells_opt (at_append_left xs ys n (node.Opt m) g) (still_spells s)
     still_spells (spells_and {n = n} {m = m} g s) = spells_and (at_append_left xs ys n (node.And m) g) (still_spells s)
     still_spells (spells_not {n = n} {m = m} g s) = spells_not (at_append_left xs ys n (node.Not m) g) (still_spells s)
@@ -53,11 +61,13 @@ module _ (rules : List Rule) (nodes : List Shape) where
   pub are_there : {ms : List ℕ} {ps : Patterns} (m : ℕ) → SpellAll rules nodes ms ps → Contains ms m → m < length nodes
   are_there m spell_none (k, lt, e) = absurd (omega arith)
   are_there m (spell_more {n = n} {ns = ns} s ss) h =
-      ⊎_elim (λ same. subst (λ v. v < length nodes) same (is_there s)) (λ later. are_there m ss later) (cons_cases n m ns h)
+      ⊎_elim (λ same. subst (λ v. v < length nodes) same (is_there s)) (λ later. are_there m ss later)
+      (cons_cases n m ns h)
 
   -- a part of what a node spells is spelled by a node
   mutual
-    pub part_spelled : {p q : Pattern} → Within p q → (n : ℕ) → Spells rules nodes n p → (m : ℕ) × Spells rules nodes m q
+    pub part_spelled : {p q : Pattern} → Within p q → (n : ℕ) → Spells rules nodes n p → (m : ℕ)
+        × Spells rules nodes m q
     part_spelled itself n s = (n, s)
     part_spelled (of_seq w) n (spells_seq {ms = ms} g ss) = member_spelled w ms ss
     part_spelled (of_choice w) n (spells_choice {ms = ms} g ss) = member_spelled w ms ss
@@ -67,6 +77,7 @@ module _ (rules : List Rule) (nodes : List Shape) where
     part_spelled (of_and w) n (spells_and {m = m} g s) = part_spelled w m s
     part_spelled (of_not w) n (spells_not {m = m} g s) = part_spelled w m s
 
-    pub member_spelled : {ps : Patterns} {q : Pattern} → WithinSome ps q → (ms : List ℕ) → SpellAll rules nodes ms ps → (m : ℕ) × Spells rules nodes m q
+    pub member_spelled : {ps : Patterns} {q : Pattern} → WithinSome ps q → (ms : List ℕ) → SpellAll rules nodes ms ps
+        → (m : ℕ) × Spells rules nodes m q
     member_spelled (of_first w) ms (spell_more {n = n} s ss) = part_spelled w n s
     member_spelled (of_later w) ms (spell_more {ns = ns} s ss) = member_spelled w ns ss

@@ -15,13 +15,21 @@ use Rattle.gramcheck.specs.Uses.{names_used}
 
 -- `S <- &B / 'a' (C S)*` and then `C <- B` use B, C, S and B
 uses_in_order : names_used
-    (record { name = codes "S"; body = Choice (more (And (Name (codes "B"))) (more (Seq (more (Bytes (codes "a")) (more (Star (Seq (more (Name (codes "C")) (more (Name (codes "S")) none)))) none))) none)); span = record { start = 0; end = 1 } }
+    (record {
+      name = codes "S";
+      body = Choice (more (And (Name (codes "B")))
+          (more (Seq (more (Bytes (codes "a")) (more (Star
+          (Seq (more (Name (codes "C")) (more (Name (codes "S")) none))))
+          none))) none));
+      span = record { start = 0; end = 1 };
+    }
     ∷ record { name = codes "C"; body = Name (codes "B"); span = record { start = 30; end = 31 } } ∷ [])
     ≡ codes "B" ∷ codes "C" ∷ codes "S" ∷ codes "B" ∷ []
 uses_in_order = refl
 
 -- of these S and C are rules, so B alone is new, once
-new_names : news Exact (codes "S" ∷ codes "C" ∷ []) (codes "B" ∷ codes "C" ∷ codes "S" ∷ codes "B" ∷ []) ≡ codes "B" ∷ []
+new_names : news Exact (codes "S" ∷ codes "C" ∷ []) (codes "B" ∷ codes "C" ∷ codes "S" ∷ codes "B" ∷ []) ≡ codes "B"
+    ∷ []
 new_names = refl
 
 -- by first use, and not by the alphabet
@@ -36,14 +44,18 @@ no_step : {e : Pattern} → LeftChain (any_rule ∷ []) Any e → ⊥
 no_step (one_step s) = elim s [ ]
 no_step (more_steps c s) = no_step c
 
-start_without_rule : AreNotes (any_rule ∷ []) [] (Some (codes "T")) (said Undefined (codes "T") ∷ said Unused (codes "S") ∷ [])
+start_without_rule : AreNotes (any_rule ∷ []) [] (Some (codes "T"))
+    (said Undefined (codes "T") ∷ said Unused (codes "S") ∷ [])
 start_without_rule = record {
   redefined = [];
   unused = any_rule ∷ [];
   recursive = [];
   looping = [];
   are_redefined = not_this (λ c. omega (arith, c.1)) no_more;
-  are_unused = this_one ((λ c. omega (arith, c.1)), (λ e. both_ways true (ap (λ o. bytes_eq (unwrap_or o []) (codes "T")) e) refl)) no_more;
+  are_unused = this_one (
+    (λ c. omega (arith, c.1)),
+    (λ e. both_ways true (ap (λ o. bytes_eq (unwrap_or o []) (codes "T")) e) refl),
+  ) no_more;
   are_recursive = not_this no_step no_more;
   are_looping = not_this (λ r. elim r [ ]) no_more;
   all = refl;

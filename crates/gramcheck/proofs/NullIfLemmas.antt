@@ -3,8 +3,14 @@
 use Rattle.std.proofs.Common.{◌≡◌, ℕ, ◌+◌, ◌≤◌, List, [], ◌∷◌, length, arith}
 use Rattle.pegread.specs.Pattern.{Pattern, Patterns, Rule}
 use Rattle.pegread.specs.Pattern as expr
-use Rattle.gramcheck.specs.Left.{Nullable, no_bytes, an_act, an_open, a_close, an_and, a_not, an_opt, a_star, a_plus, a_seq, a_choice, a_name, AllNullable, all_none, all_more, SomeNullable, some_first, some_later}
-use Rattle.gramcheck.specs.Outcome.{Event, Outcome, Fails, Takes, Gives, any_takes, any_at_end, set_takes, set_fails, set_at_end, bytes_take, bytes_fail, act, open_at, close_at, name, seq, choice, opt_takes, opt_none, star_none, star_more, plus_fails, plus_takes, and_takes, and_fails, not_takes, not_fails, GivesAll, all_done, one_fails, rest_fails, rest_takes, GivesFirst, all_failed, first_takes, first_fails}
+use Rattle.gramcheck.specs.Left.{Nullable, no_bytes, an_act, an_open, a_close, an_and, a_not, an_opt, a_star, a_plus}
+use Rattle.gramcheck.specs.Left.{a_seq, a_choice, a_name, AllNullable, all_none, all_more, SomeNullable, some_first}
+use Rattle.gramcheck.specs.Left.{some_later}
+use Rattle.gramcheck.specs.Outcome.{Event, Outcome, Fails, Takes, Gives, any_takes, any_at_end, set_takes, set_fails}
+use Rattle.gramcheck.specs.Outcome.{set_at_end, bytes_take, bytes_fail, act, open_at, close_at, name, seq, choice}
+use Rattle.gramcheck.specs.Outcome.{opt_takes, opt_none, star_none, star_more, plus_fails, plus_takes, and_takes}
+use Rattle.gramcheck.specs.Outcome.{and_fails, not_takes, not_fails, GivesAll, all_done, one_fails, rest_fails}
+use Rattle.gramcheck.specs.Outcome.{rest_takes, GivesFirst, all_failed, first_takes, first_fails}
 use Rattle.gramcheck.proofs.RiseLemmas.{Rise-le, within, within_all}
 
 -- N holds where an outcome at p takes nothing
@@ -22,11 +28,13 @@ takes_none rules p (b ∷ bs) is = absurd (omega arith)
 
 module _ (rules : List Rule) (x : List ℕ) where
   -- a success ends between its place and the input's end
-  pub forward : (p q k : ℕ) (e : Pattern) (es : List Event) → Gives rules x e p (Takes q es) k → p ≤ length x → (p ≤ q) × (q ≤ length x)
+  pub forward : (p q k : ℕ) (e : Pattern) (es : List Event) → Gives rules x e p (Takes q es) k → p ≤ length x → (p ≤ q)
+      × (q ≤ length x)
   forward p q k e es d le = let w = within rules x d le in (Rise-le p q es w.0, w.1)
 
   mutual
-    pub null_of : {e : Pattern} {p k : ℕ} {o : Outcome} → Gives rules x e p o k → p ≤ length x → NullIf (Nullable rules e) p o
+    pub null_of : {e : Pattern} {p k : ℕ} {o : Outcome} → Gives rules x e p o k → p ≤ length x
+        → NullIf (Nullable rules e) p o
     null_of (any_takes h) le = λ is. absurd (omega arith)
     null_of (any_at_end h) le = tt
     null_of (set_takes h i) le = λ is. absurd (omega arith)
@@ -37,9 +45,12 @@ module _ (rules : List Rule) (x : List ℕ) where
     null_of act le = λ is. an_act
     null_of open_at le = λ is. an_open
     null_of close_at le = λ is. a_close
-    null_of (name {n = n} {e = e} {p = p} {o = o} h d) le = null_if (Nullable rules e) (Nullable rules (expr.Name n)) p o (λ w. a_name h w) (null_of d le)
-    null_of (seq {es = es} {p = p} {o = o} d) le = null_if (AllNullable rules es) (Nullable rules (expr.Seq es)) p o (λ w. a_seq w) (null_all d le)
-    null_of (choice {es = es} {p = p} {o = o} d) le = null_if (SomeNullable rules es) (Nullable rules (expr.Choice es)) p o (λ w. a_choice w) (null_some d le)
+    null_of (name {n = n} {e = e} {p = p} {o = o} h d) le = null_if (Nullable rules e) (Nullable rules (expr.Name n)) p
+        o (λ w. a_name h w) (null_of d le)
+    null_of (seq {es = es} {p = p} {o = o} d) le = null_if (AllNullable rules es) (Nullable rules (expr.Seq es)) p o
+        (λ w. a_seq w) (null_all d le)
+    null_of (choice {es = es} {p = p} {o = o} d) le = null_if (SomeNullable rules es) (Nullable rules (expr.Choice es))
+        p o (λ w. a_choice w) (null_some d le)
     null_of (opt_takes d) le = λ is. an_opt
     null_of (opt_none d) le = λ is. an_opt
     null_of (star_none d) le = λ is. a_star
@@ -55,7 +66,8 @@ module _ (rules : List Rule) (x : List ℕ) where
     null_of (not_takes d) le = λ is. a_not
     null_of (not_fails d) le = tt
 
-    pub null_all : {es : Patterns} {p k : ℕ} {o : Outcome} → GivesAll rules x es p o k → p ≤ length x → NullIf (AllNullable rules es) p o
+    pub null_all : {es : Patterns} {p k : ℕ} {o : Outcome} → GivesAll rules x es p o k → p ≤ length x
+        → NullIf (AllNullable rules es) p o
     null_all all_done le = λ is. all_none
     null_all (one_fails d) le = tt
     null_all (rest_fails d c) le = tt
@@ -67,8 +79,10 @@ module _ (rules : List Rule) (x : List ℕ) where
         let there : r ≡ q = omega (arith, one.0) in
         all_more (null_of d le here) (null_all c one.1 there)
 
-    pub null_some : {es : Patterns} {p k : ℕ} {o : Outcome} → GivesFirst rules x es p o k → p ≤ length x → NullIf (SomeNullable rules es) p o
+    pub null_some : {es : Patterns} {p k : ℕ} {o : Outcome} → GivesFirst rules x es p o k → p ≤ length x
+        → NullIf (SomeNullable rules es) p o
     null_some all_failed le = tt
     null_some (first_takes d) le = λ is. some_first (null_of d le is)
     null_some (first_fails {e = e} {rest = rest} {p = p} {o = o} d c) le =
-        null_if (SomeNullable rules rest) (SomeNullable rules (expr.more e rest)) p o (λ w. some_later w) (null_some c le)
+        null_if (SomeNullable rules rest) (SomeNullable rules (expr.more e rest)) p o (λ w. some_later w)
+        (null_some c le)

@@ -2,7 +2,11 @@
 -- Serves: exactly_one_outcome, one_outcome, some_outcome
 use Rattle.std.proofs.Common.{◌≡◌, ℕ, List, refl, subst}
 use Rattle.pegread.specs.Pattern.{Pattern, Patterns, Rule, Star}
-use Rattle.gramcheck.specs.Outcome.{Outcome, Fails, Takes, Gives, any_takes, any_at_end, set_takes, set_fails, set_at_end, bytes_take, bytes_fail, act, open_at, close_at, name, seq, choice, opt_takes, opt_none, star_none, star_more, plus_fails, plus_takes, and_takes, and_fails, not_takes, not_fails, GivesAll, all_done, one_fails, rest_fails, rest_takes, GivesFirst, all_failed, first_takes, first_fails}
+use Rattle.gramcheck.specs.Outcome.{Outcome, Fails, Takes, Gives, any_takes, any_at_end, set_takes, set_fails}
+use Rattle.gramcheck.specs.Outcome.{set_at_end, bytes_take, bytes_fail, act, open_at, close_at, name, seq, choice}
+use Rattle.gramcheck.specs.Outcome.{opt_takes, opt_none, star_none, star_more, plus_fails, plus_takes, and_takes}
+use Rattle.gramcheck.specs.Outcome.{and_fails, not_takes, not_fails, GivesAll, all_done, one_fails, rest_fails}
+use Rattle.gramcheck.specs.Outcome.{rest_takes, GivesFirst, all_failed, first_takes, first_fails}
 
 pub record Same (o : Outcome) (k : ℕ) (o' : Outcome) (k' : ℕ) : Type 0 where
   pub outcome : o ≡ o'
@@ -10,7 +14,8 @@ pub record Same (o : Outcome) (k : ℕ) (o' : Outcome) (k' : ℕ) : Type 0 where
 
 module _ (rules : List Rule) (x : List ℕ) where
   mutual
-    pub same : {e : Pattern} {p k k' : ℕ} {o o' : Outcome} → Gives rules x e p o k → Gives rules x e p o' k' → Same o k o' k'
+    pub same : {e : Pattern} {p k k' : ℕ} {o o' : Outcome} → Gives rules x e p o k → Gives rules x e p o' k'
+        → Same o k o' k'
     same (any_takes h) (any_takes h') = record { outcome = refl; looked = refl }
     same (any_takes h) (any_at_end h') = absurd cc
     same (any_at_end h) (any_takes h') = absurd cc
@@ -64,7 +69,8 @@ module _ (rules : List Rule) (x : List ℕ) where
     same (not_fails d) (not_takes d') = absurd (let h = same d d' in cc)
     same (not_fails d) (not_fails d') = record { outcome = refl; looked = (same d d').looked }
 
-    pub same_all : {es : Patterns} {p k k' : ℕ} {o o' : Outcome} → GivesAll rules x es p o k → GivesAll rules x es p o' k' → Same o k o' k'
+    pub same_all : {es : Patterns} {p k k' : ℕ} {o o' : Outcome} → GivesAll rules x es p o k
+        → GivesAll rules x es p o' k' → Same o k o' k'
     same_all all_done all_done = record { outcome = refl; looked = refl }
     same_all (one_fails d) (one_fails d') = same d d'
     same_all (one_fails d) (rest_fails d' c') = absurd (let h = same d d' in cc)
@@ -94,7 +100,8 @@ module _ (rules : List Rule) (x : List ℕ) where
         let g = same_all c (subst (λ v. GivesAll rules x rest v (Takes r' fs') k') is c') in
         record { outcome = cc; looked = cc }
 
-    pub same_first : {es : Patterns} {p k k' : ℕ} {o o' : Outcome} → GivesFirst rules x es p o k → GivesFirst rules x es p o' k' → Same o k o' k'
+    pub same_first : {es : Patterns} {p k k' : ℕ} {o o' : Outcome} → GivesFirst rules x es p o k
+        → GivesFirst rules x es p o' k' → Same o k o' k'
     same_first all_failed all_failed = record { outcome = refl; looked = refl }
     same_first (first_takes d) (first_takes d') = same d d'
     same_first (first_takes d) (first_fails d' c') = absurd (let h = same d d' in cc)

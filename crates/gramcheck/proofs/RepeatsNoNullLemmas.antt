@@ -5,12 +5,18 @@ use Rattle.std.specs.Prelude.{slice_get}
 use Rattle.std.proofs.lemmas.Option.{slice_get_within}
 use Rattle.pegread.specs.Pattern as expr
 use Rattle.pegread.specs.Pattern.{Pattern, Patterns, Rule, body_of}
-use Rattle.gramcheck.specs.Left.{Nullable, no_bytes, an_act, an_open, a_close, an_and, a_not, an_opt, a_star, a_plus, a_seq, a_choice, a_name, AllNullable, all_none, all_more, SomeNullable, some_first, some_later, RepeatsNullable, loop_star, loop_plus, in_star, in_plus, in_opt, in_and, in_not, in_seq, in_choice, SomeRepeats, repeats_first, repeats_later, Loops}
+use Rattle.gramcheck.specs.Left.{Nullable, no_bytes, an_act, an_open, a_close, an_and, a_not, an_opt, a_star, a_plus}
+use Rattle.gramcheck.specs.Left.{a_seq, a_choice, a_name, AllNullable, all_none, all_more, SomeNullable, some_first}
+use Rattle.gramcheck.specs.Left.{some_later, RepeatsNullable, loop_star, loop_plus, in_star, in_plus, in_opt, in_and}
+use Rattle.gramcheck.specs.Left.{in_not, in_seq, in_choice, SomeRepeats, repeats_first, repeats_later, Loops}
 use Rattle.gramcheck.specs.Nodes as node
-use Rattle.gramcheck.specs.Nodes.{Shape, id_of, Spells, spells_any, spells_bytes, spells_set, spells_name, spells_seq, spells_choice, spells_star, spells_plus, spells_opt, spells_and, spells_not, spells_act, spells_open, spells_close, SpellAll, spell_none, spell_more}
+use Rattle.gramcheck.specs.Nodes.{Shape, id_of, Spells, spells_any, spells_bytes, spells_set, spells_name, spells_seq}
+use Rattle.gramcheck.specs.Nodes.{spells_choice, spells_star, spells_plus, spells_opt, spells_and, spells_not}
+use Rattle.gramcheck.specs.Nodes.{spells_act, spells_open, spells_close, SpellAll, spell_none, spell_more}
 use Rattle.gramcheck.specs.Numbering.{AreStanding}
 use Rattle.gramcheck.specs.Ranks.{RepeatsNoNull}
-use Rattle.gramcheck.specs.Within.{Within, WithinSome, itself, of_seq, of_choice, of_star, of_plus, of_opt, of_and, of_not, of_first, of_later, StandsIn}
+use Rattle.gramcheck.specs.Within.{Within, WithinSome, itself, of_seq, of_choice, of_star, of_plus, of_opt, of_and}
+use Rattle.gramcheck.specs.Within.{of_not, of_first, of_later, StandsIn}
 use Rattle.gramcheck.proofs.OwnIdLemmas.{body_at_id}
 use Rattle.gramcheck.proofs.PushCasesLemmas.{mapped_from}
 use Rattle.gramcheck.proofs.HasShapeLemmas.{has_shape}
@@ -39,15 +45,23 @@ module _ (rules : List Rule) where
 -- Two names of undefined rules have one node; of all that a node spells either each is nullable or none.
 module _ (rules : List Rule) (nodes : List Shape) where
   mutual
-    same_null : {q : Pattern} → Nullable rules q → (n : ℕ) → Spells rules nodes n q → (p : Pattern) → Spells rules nodes n p → Nullable rules p
-    same_null no_bytes n (spells_bytes g) p s = subst (Nullable rules) (sym (has_shape rules nodes s (node.Bytes []) g)) no_bytes
-    same_null (an_act {t = t}) n (spells_act g) p s = subst (Nullable rules) (sym (has_shape rules nodes s (node.Act t) g)) an_act
+    same_null : {q : Pattern} → Nullable rules q → (n : ℕ) → Spells rules nodes n q → (p : Pattern)
+        → Spells rules nodes n p → Nullable rules p
+    same_null no_bytes n (spells_bytes g) p s = subst (Nullable rules) (sym (has_shape rules nodes s (node.Bytes []) g))
+        no_bytes
+    same_null (an_act {t = t}) n (spells_act g) p s =
+        subst (Nullable rules) (sym (has_shape rules nodes s (node.Act t) g)) an_act
     same_null an_open n (spells_open g) p s = subst (Nullable rules) (sym (has_shape rules nodes s node.Open g)) an_open
-    same_null a_close n (spells_close g) p s = subst (Nullable rules) (sym (has_shape rules nodes s node.Close g)) a_close
-    same_null an_and n (spells_and {m = m} g t) p s = subst (Nullable rules) (sym ((has_shape rules nodes s (node.And m) g).1)) an_and
-    same_null a_not n (spells_not {m = m} g t) p s = subst (Nullable rules) (sym ((has_shape rules nodes s (node.Not m) g).1)) a_not
-    same_null an_opt n (spells_opt {m = m} g t) p s = subst (Nullable rules) (sym ((has_shape rules nodes s (node.Opt m) g).1)) an_opt
-    same_null a_star n (spells_star {m = m} g t) p s = subst (Nullable rules) (sym ((has_shape rules nodes s (node.Star m) g).1)) a_star
+    same_null a_close n (spells_close g) p s = subst (Nullable rules) (sym (has_shape rules nodes s node.Close g))
+        a_close
+    same_null an_and n (spells_and {m = m} g t) p s =
+        subst (Nullable rules) (sym ((has_shape rules nodes s (node.And m) g).1)) an_and
+    same_null a_not n (spells_not {m = m} g t) p s =
+        subst (Nullable rules) (sym ((has_shape rules nodes s (node.Not m) g).1)) a_not
+    same_null an_opt n (spells_opt {m = m} g t) p s =
+        subst (Nullable rules) (sym ((has_shape rules nodes s (node.Opt m) g).1)) an_opt
+    same_null a_star n (spells_star {m = m} g t) p s =
+        subst (Nullable rules) (sym ((has_shape rules nodes s (node.Star m) g).1)) a_star
     same_null (a_plus d) n (spells_plus {m = m} {k = k} g t a) p s =
         let like = has_shape rules nodes s (node.Plus m k) g in
         subst (Nullable rules) (sym like.1) (a_plus (same_null d m t like.0 like.2))
@@ -60,16 +74,22 @@ module _ (rules : List Rule) (nodes : List Shape) where
     same_null (a_name {n = word} {e = e} h d) n (spells_name g) p s =
         let like = has_shape rules nodes s (node.Name (id_of rules word)) g in
         let body : body_of rules like.0 ≡ Some e =
-        body_at_id rules like.0 ∙ ap (λ id. slice_get (map (λ rule. rule.body) rules) id) like.2 ∙ sym (body_at_id rules word) ∙ h in
+        body_at_id rules like.0 ∙ ap (λ id. slice_get (map (λ rule. rule.body) rules) id) like.2
+        ∙ sym (body_at_id rules word) ∙ h in
         subst (Nullable rules) (sym like.1) (a_name body d)
 
-    all_null : {qs : Patterns} → AllNullable rules qs → (ms : List ℕ) → SpellAll rules nodes ms qs → (ps : Patterns) → SpellAll rules nodes ms ps → AllNullable rules ps
+    all_null : {qs : Patterns} → AllNullable rules qs → (ms : List ℕ) → SpellAll rules nodes ms qs → (ps : Patterns)
+        → SpellAll rules nodes ms ps → AllNullable rules ps
     all_null all_none ms spell_none ps spell_none = all_none
-    all_null (all_more d ds) ms (spell_more {n = m} {ns = ns} t ts) ps (spell_more {p = p} {ps = rest} s ss) = all_more (same_null d m t p s) (all_null ds ns ts rest ss)
+    all_null (all_more d ds) ms (spell_more {n = m} {ns = ns} t ts) ps (spell_more {p = p} {ps = rest} s ss) =
+        all_more (same_null d m t p s) (all_null ds ns ts rest ss)
 
-    some_null : {qs : Patterns} → SomeNullable rules qs → (ms : List ℕ) → SpellAll rules nodes ms qs → (ps : Patterns) → SpellAll rules nodes ms ps → SomeNullable rules ps
-    some_null (some_first d) ms (spell_more {n = m} t ts) ps (spell_more {p = p} s ss) = some_first (same_null d m t p s)
-    some_null (some_later d) ms (spell_more {ns = ns} t ts) ps (spell_more {ps = rest} s ss) = some_later (some_null d ns ts rest ss)
+    some_null : {qs : Patterns} → SomeNullable rules qs → (ms : List ℕ) → SpellAll rules nodes ms qs → (ps : Patterns)
+        → SpellAll rules nodes ms ps → SomeNullable rules ps
+    some_null (some_first d) ms (spell_more {n = m} t ts) ps (spell_more {p = p} s ss) =
+        some_first (same_null d m t p s)
+    some_null (some_later d) ms (spell_more {ns = ns} t ts) ps (spell_more {ps = rest} s ss) =
+        some_later (some_null d ns ts rest ss)
 
 module _ (rules : List Rule) (nodes : List Shape) (bodies : List ℕ) (standing : AreStanding rules nodes)
     (none_loops : (id : ℕ) (rule : Rule) → slice_get rules id ≡ Some rule → Loops rules rule → ⊥) where
@@ -83,9 +103,11 @@ module _ (rules : List Rule) (nodes : List Shape) (bodies : List ℕ) (standing 
     star = λ n m g null.
         let one = standing n (slice_get_within nodes n (node.Star m) g) in
         let like = has_shape rules nodes one.spelled (node.Star m) g in
-        none_repeats one.expr one.stands (subst (RepeatsNullable rules) (sym like.1) (loop_star (same_null rules nodes null.2 m null.1 like.0 like.2)));
+        none_repeats one.expr one.stands (subst (RepeatsNullable rules) (sym like.1)
+        (loop_star (same_null rules nodes null.2 m null.1 like.0 like.2)));
     plus = λ n m k g null.
         let one = standing n (slice_get_within nodes n (node.Plus m k) g) in
         let like = has_shape rules nodes one.spelled (node.Plus m k) g in
-        none_repeats one.expr one.stands (subst (RepeatsNullable rules) (sym like.1) (loop_plus (same_null rules nodes null.2 m null.1 like.0 like.2)));
+        none_repeats one.expr one.stands (subst (RepeatsNullable rules) (sym like.1)
+        (loop_plus (same_null rules nodes null.2 m null.1 like.0 like.2)));
   }

@@ -4,7 +4,11 @@ use Rattle.std.proofs.Common.{◌≡◌, ℕ, ◌≤◌, true, List, [], ◌∷�
 use Rattle.std.proofs.lemmas.Grind.{common_steps}
 use Rattle.std.proofs.lemmas.Option.{slice_get_within}
 use Rattle.pegread.specs.Pattern.{Pattern, Patterns, Rule}
-use Rattle.gramcheck.specs.Outcome.{Event, Opened, Closed, Acted, Outcome, Fails, Takes, begins_with, Gives, any_takes, any_at_end, set_takes, set_fails, set_at_end, bytes_take, bytes_fail, act, open_at, close_at, name, seq, choice, opt_takes, opt_none, star_none, star_more, plus_fails, plus_takes, and_takes, and_fails, not_takes, not_fails, GivesAll, all_done, one_fails, rest_fails, rest_takes, GivesFirst, all_failed, first_takes, first_fails}
+use Rattle.gramcheck.specs.Outcome.{Event, Opened, Closed, Acted, Outcome, Fails, Takes, begins_with, Gives, any_takes}
+use Rattle.gramcheck.specs.Outcome.{any_at_end, set_takes, set_fails, set_at_end, bytes_take, bytes_fail, act, open_at}
+use Rattle.gramcheck.specs.Outcome.{close_at, name, seq, choice, opt_takes, opt_none, star_none, star_more, plus_fails}
+use Rattle.gramcheck.specs.Outcome.{plus_takes, and_takes, and_fails, not_takes, not_fails, GivesAll, all_done}
+use Rattle.gramcheck.specs.Outcome.{one_fails, rest_fails, rest_takes, GivesFirst, all_failed, first_takes, first_fails}
 use Rattle.gramcheck.specs.Rising.{Rise}
 
 begins_within : (x bs : List ℕ) → begins_with x bs ≡ true → length bs ≤ length x
@@ -82,7 +86,8 @@ module _ (rules : List Rule) (x : List ℕ) where
         let g = within_all c h.1 in
         (Rise-append p q r es fs h.0 g.0, g.1)
 
-    pub within_first : {es : Patterns} {p k : ℕ} {o : Outcome} → GivesFirst rules x es p o k → p ≤ length x → IsWithin x p o
+    pub within_first : {es : Patterns} {p k : ℕ} {o : Outcome} → GivesFirst rules x es p o k → p ≤ length x
+        → IsWithin x p o
     within_first all_failed le = tt
     within_first (first_takes d) le = within d le
     within_first (first_fails d c) le = within_first c le

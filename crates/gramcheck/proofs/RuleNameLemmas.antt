@@ -27,6 +27,7 @@ other-name a b n = elim (cases_Bool (bytes_eq a b)) [ inl e ↦ absurd (n (same-
 pub names-same : (t : Rules Expr) → rule_names (rules_of t) ≡ names_of t
 names-same t = map-map (λ (rule : Rule). rule.name) rule_of t.rules
 
-pub own-names : (t : Rules Expr) → HasUniqueNames t → t.names ≡ Exact → (id : ℕ) (name : List ℕ) → slice_get (rule_names (rules_of t)) id ≡ Some name →
+pub own-names : (t : Rules Expr) → HasUniqueNames t → t.names ≡ Exact → (id : ℕ) (name : List ℕ)
+    → slice_get (rule_names (rules_of t)) id ≡ Some name →
     position (bytes_eq name) (rule_names (rules_of t)) ≡ Some id
 own-names t unique exact = rw (names-same t) (rw exact at (own_place t unique))

@@ -1,11 +1,16 @@
 -- What compares no byte from a text's length on is the same on that text alone.
 -- Serves: shorter_input, shorter_input_of_start
-use Rattle.std.proofs.Common.{◌≡◌, ℕ, zero, suc, ◌+◌, ◌<◌, ◌≤◌, Bool, true, false, ◌&&◌, if◌then◌else◌, ◌==◌, List, [], ◌∷◌, ◌++◌, length, drop, None, refl, sym, ◌∙◌, ap, arith, length-drop, ⊎_elim}
+use Rattle.std.proofs.Common.{◌≡◌, ℕ, zero, suc, ◌+◌, ◌<◌, ◌≤◌, Bool, true, false, ◌&&◌, if◌then◌else◌, ◌==◌, List, []}
+use Rattle.std.proofs.Common.{◌∷◌, ◌++◌, length, drop, None, refl, sym, ◌∙◌, ap, arith, length-drop, ⊎_elim}
 use Rattle.std.specs.Prelude.{slice_get}
 use Rattle.std.proofs.lemmas.Bool.{cases_lt}
 use Rattle.std.proofs.Math.ListN.{drop_of_length-le}
 use Rattle.pegread.specs.Pattern.{Pattern, Patterns, Rule}
-use Rattle.gramcheck.specs.Outcome.{Outcome, begins_with, compared, looked_at, Gives, any_takes, any_at_end, set_takes, set_fails, set_at_end, bytes_take, bytes_fail, act, open_at, close_at, name, seq, choice, opt_takes, opt_none, star_none, star_more, plus_fails, plus_takes, and_takes, and_fails, not_takes, not_fails, GivesAll, all_done, one_fails, rest_fails, rest_takes, GivesFirst, all_failed, first_takes, first_fails}
+use Rattle.gramcheck.specs.Outcome.{Outcome, begins_with, compared, looked_at, Gives, any_takes, any_at_end, set_takes}
+use Rattle.gramcheck.specs.Outcome.{set_fails, set_at_end, bytes_take, bytes_fail, act, open_at, close_at, name, seq}
+use Rattle.gramcheck.specs.Outcome.{choice, opt_takes, opt_none, star_none, star_more, plus_fails, plus_takes}
+use Rattle.gramcheck.specs.Outcome.{and_takes, and_fails, not_takes, not_fails, GivesAll, all_done, one_fails}
+use Rattle.gramcheck.specs.Outcome.{rest_fails, rest_takes, GivesFirst, all_failed, first_takes, first_fails}
 use Rattle.gramcheck.proofs.LongerInputLemmas.{Alike, alike_more, shorter, slice_get_more, drop_more, looked_below}
 
 none_before : (x y : List ℕ) (p : ℕ) → slice_get (x ++ y) p ≡ None → slice_get x p ≡ None
@@ -45,7 +50,8 @@ looked_nothing : (p n k : ℕ) → looked_at p n < k → k ≤ p → n ≡ 0
 looked_nothing p zero k h le = refl
 looked_nothing p (suc n) k h le = absurd (omega arith)
 
-bytes_less : (x y bs : List ℕ) (p : ℕ) → looked_at p (compared (drop p (x ++ y)) bs) < length x → AlikeAt (drop p (x ++ y)) (drop p x) bs
+bytes_less : (x y bs : List ℕ) (p : ℕ) → looked_at p (compared (drop p (x ++ y)) bs) < length x
+    → AlikeAt (drop p (x ++ y)) (drop p x) bs
 bytes_less x y bs p h = ⊎_elim
     (λ lt.
     let less = looked_below p (compared (drop p (x ++ y)) bs) _ (length x) h lt (length-drop p x) in
@@ -53,12 +59,14 @@ bytes_less x y bs p h = ⊎_elim
     let same = compare_less (drop p x) y bs (rw more at less) in
     rw more (record { begins = same.begins; compared = same.compared }))
     (λ le.
-    rw (drop_of_length-le x {i = p} le) (compare_none (drop p (x ++ y)) bs (looked_nothing p (compared (drop p (x ++ y)) bs) (length x) h le)))
+    rw (drop_of_length-le x {i = p} le) (compare_none (drop p (x ++ y)) bs
+    (looked_nothing p (compared (drop p (x ++ y)) bs) (length x) h le)))
     (cases_lt p (length x))
 
 module _ (rules : List Rule) (x y : List ℕ) where
   mutual
-    pub shrinks : {e : Pattern} {p k : ℕ} {o : Outcome} → Gives rules (x ++ y) e p o k → k < length x → Gives rules x e p o k
+    pub shrinks : {e : Pattern} {p k : ℕ} {o : Outcome} → Gives rules (x ++ y) e p o k → k < length x
+        → Gives rules x e p o k
     shrinks (any_takes {p = p} {b = b} h) less = any_takes (sym (slice_get_more x y p (omega arith)) ∙ h)
     shrinks (any_at_end {p = p} h) less = any_at_end (none_before x y p h)
     shrinks (set_takes {p = p} h g) less = set_takes (sym (slice_get_more x y p (omega arith)) ∙ h) g
@@ -87,13 +95,15 @@ module _ (rules : List Rule) (x y : List ℕ) where
     shrinks (not_takes d) less = not_takes (shrinks d less)
     shrinks (not_fails d) less = not_fails (shrinks d less)
 
-    pub shrinks_all : {es : Patterns} {p k : ℕ} {o : Outcome} → GivesAll rules (x ++ y) es p o k → k < length x → GivesAll rules x es p o k
+    pub shrinks_all : {es : Patterns} {p k : ℕ} {o : Outcome} → GivesAll rules (x ++ y) es p o k → k < length x
+        → GivesAll rules x es p o k
     shrinks_all all_done less = all_done
     shrinks_all (one_fails d) less = one_fails (shrinks d less)
     shrinks_all (rest_fails d c) less = rest_fails (shrinks d (omega arith)) (shrinks_all c (omega arith))
     shrinks_all (rest_takes d c) less = rest_takes (shrinks d (omega arith)) (shrinks_all c (omega arith))
 
-    pub shrinks_first : {es : Patterns} {p k : ℕ} {o : Outcome} → GivesFirst rules (x ++ y) es p o k → k < length x → GivesFirst rules x es p o k
+    pub shrinks_first : {es : Patterns} {p k : ℕ} {o : Outcome} → GivesFirst rules (x ++ y) es p o k → k < length x
+        → GivesFirst rules x es p o k
     shrinks_first all_failed less = all_failed
     shrinks_first (first_takes d) less = first_takes (shrinks d less)
     shrinks_first (first_fails d c) less = first_fails (shrinks d (omega arith)) (shrinks_first c (omega arith))

@@ -6,10 +6,14 @@ use Rattle.std.proofs.lemmas.Option.{slice_get-get_or, slice_get_within}
 use Rattle.pegread.specs.Pattern.{Pattern, Patterns, Rule, body_of}
 use Rattle.pegread.specs.Pattern as expr
 use Rattle.gramcheck.specs.Left.{Nullable}
-use Rattle.gramcheck.specs.Nodes.{Shape, Spells, spells_any, spells_bytes, spells_set, spells_name, spells_seq, spells_choice, spells_star, spells_plus, spells_opt, spells_and, spells_not, spells_act, spells_open, spells_close, SpellAll, spell_none, spell_more}
+use Rattle.gramcheck.specs.Nodes.{Shape, Spells, spells_any, spells_bytes, spells_set, spells_name, spells_seq}
+use Rattle.gramcheck.specs.Nodes.{spells_choice, spells_star, spells_plus, spells_opt, spells_and, spells_not}
+use Rattle.gramcheck.specs.Nodes.{spells_act, spells_open, spells_close, SpellAll, spell_none, spell_more}
 use Rattle.gramcheck.specs.Outcome as event
-use Rattle.gramcheck.specs.Outcome.{Outcome, Fails, Takes, Gives, RuleGives, act, open_at, close_at, name, seq, choice, GivesAll, all_done, GivesFirst, all_failed}
-use Rattle.gramcheck.specs.Ranks.{NodeStep, to_alternative, to_member, to_starred, to_repeated, to_optional, to_asserted, to_denied, FrontNode, front_first, front_later}
+use Rattle.gramcheck.specs.Outcome.{Outcome, Fails, Takes, Gives, RuleGives, act, open_at, close_at, name, seq, choice}
+use Rattle.gramcheck.specs.Outcome.{GivesAll, all_done, GivesFirst, all_failed}
+use Rattle.gramcheck.specs.Ranks.{NodeStep, to_alternative, to_member, to_starred, to_repeated, to_optional}
+use Rattle.gramcheck.specs.Ranks.{to_asserted, to_denied, FrontNode, front_first, front_later}
 use Rattle.gramcheck.specs.Sound.{IsRanked, GivesOne, StartGivesOne}
 use Rattle.gramcheck.specs.Within.{Within, itself, StandsIn}
 use Rattle.std.proofs.lemmas.List.{length-map}
@@ -17,12 +21,14 @@ use Rattle.gramcheck.proofs.OneOutcomeLemmas.{same}
 use Rattle.gramcheck.proofs.StartRuleLemmas.{same_of_start}
 use Rattle.gramcheck.proofs.MeasureLemmas.{measure, falls, falls_here, falls_ahead}
 use Rattle.leastset.proofs.ContainsLemmas.{in_first, in_later}
-use Rattle.gramcheck.proofs.HasOutcomeLemmas.{Has, HasAll, HasFirst, any_has, set_has, bytes_has, opt_has, and_has, not_has, star_has, plus_has, member_has, alternative_has}
+use Rattle.gramcheck.proofs.HasOutcomeLemmas.{Has, HasAll, HasFirst, any_has, set_has, bytes_has, opt_has, and_has}
+use Rattle.gramcheck.proofs.HasOutcomeLemmas.{not_has, star_has, plus_has, member_has, alternative_has}
 use Rattle.gramcheck.proofs.NodeSpellsLemmas.{is_there, part_spelled}
 use Rattle.gramcheck.proofs.StepsToBodyLemmas.{bound, lower, steps_to_body}
 use Rattle.gramcheck.proofs.NullIfLemmas.{forward, null_of}
 
-module _ (rules : List Rule) (start : ℕ) (nodes : List Shape) (bodies ranks : List ℕ) (sound : IsRanked rules start nodes bodies ranks) (x : List ℕ) where
+module _ (rules : List Rule) (start : ℕ) (nodes : List Shape) (bodies ranks : List ℕ)
+    (sound : IsRanked rules start nodes bodies ranks) (x : List ℕ) where
   abbrev rank : ℕ → ℕ
   rank n = slice_index ranks n
 
@@ -40,17 +46,21 @@ module _ (rules : List Rule) (start : ℕ) (nodes : List Shape) (bodies ranks : 
   Below t = (n p : ℕ) (e : Pattern) → Spells rules nodes n e → p ≤ length x → at p n < t → Has rules x e p
 
   -- an operand that a left step leads to
-  step_has : (t n p m : ℕ) (e : Pattern) → Below t → at p n ≤ t → p ≤ length x → Spells rules nodes m e → NodeStep rules nodes bodies n m → Has rules x e p
+  step_has : (t n p m : ℕ) (e : Pattern) → Below t → at p n ≤ t → p ≤ length x → Spells rules nodes m e
+      → NodeStep rules nodes bodies n m → Has rules x e p
   step_has t n p m e below le high s step =
       let less = falls_here (length x) p (length nodes) (rank m) (rank n) (drops n m step) in
       below m p e s high (omega (arith, less))
 
-  all_has : (t n p : ℕ) → Below t → at p n ≤ t → (ms : List ℕ) (es : Patterns) (q : ℕ) → SpellAll rules nodes ms es → p ≤ q → q ≤ length x →
+  all_has : (t n p : ℕ) → Below t → at p n ≤ t → (ms : List ℕ) (es : Patterns) (q : ℕ) → SpellAll rules nodes ms es
+      → p ≤ q → q ≤ length x →
       (q ≡ p → (m : ℕ) → FrontNode rules nodes bodies ms m → rank m < rank n) → HasAll rules x es q
-  all_has t n p below le ms es q spell_none low high front = record { outcome = Takes q []; looked = 0; gives = all_done }
+  all_has t n p below le ms es q spell_none low high front =
+      record { outcome = Takes q []; looked = 0; gives = all_done }
   all_has t n p below le ms es q (spell_more {n = m} {ns = ns} {p = e} {ps = rest} s ss) low high front =
       let there = is_there rules nodes s in
-      let less = falls (length x) p q (length nodes) (rank m) (rank n) low high (most m there) (λ is. front is m front_first) in
+      let less = falls (length x) p q (length nodes) (rank m) (rank n) low high (most m there)
+      (λ is. front is m front_first) in
       let one = below m q e s high (omega (arith, less)) in
       member_has rules x e rest q one.looked one.outcome one.gives
       (λ r fs d.
@@ -61,7 +71,8 @@ module _ (rules : List Rule) (start : ℕ) (nodes : List Shape) (bodies ranks : 
       let stays : r ≡ q = omega (arith, on.0) in
       front here k (front_later (e, s, null_of rules x d high stays) f)))
 
-  first_has : (t n p : ℕ) → Below t → at p n ≤ t → p ≤ length x → (ms : List ℕ) (es : Patterns) → SpellAll rules nodes ms es →
+  first_has : (t n p : ℕ) → Below t → at p n ≤ t → p ≤ length x → (ms : List ℕ) (es : Patterns)
+      → SpellAll rules nodes ms es →
       ((m : ℕ) → Contains ms m → rank m < rank n) → HasFirst rules x es p
   first_has t n p below le high ms es spell_none all = record { outcome = Fails; looked = 0; gives = all_failed }
   first_has t n p below le high ms es (spell_more {n = m} {ns = ns} {p = e} {ps = rest} s ss) all =
@@ -71,7 +82,8 @@ module _ (rules : List Rule) (start : ℕ) (nodes : List Shape) (bodies ranks : 
       (first_has t n p below le high ns rest ss (λ k h. all k (in_later m k ns h)))
 
   -- an operand that isn't nullable, again and again
-  star_from : (t m : ℕ) (e : Pattern) → Below t → Spells rules nodes m e → (Nullable rules e → ⊥) → (left q : ℕ) → length x - q < left → q ≤ length x → at q m < t → Has rules x (expr.Star e) q
+  star_from : (t m : ℕ) (e : Pattern) → Below t → Spells rules nodes m e → (Nullable rules e → ⊥) → (left q : ℕ)
+      → length x - q < left → q ≤ length x → at q m < t → Has rules x (expr.Star e) q
   star_from t m e below s moving zero q short high lt = absurd (omega arith)
   star_from t m e below s moving (suc left) q short high lt =
       let one = below m q e s high lt in
@@ -80,7 +92,8 @@ module _ (rules : List Rule) (start : ℕ) (nodes : List Shape) (bodies ranks : 
       let on = forward rules x q r one.looked e es d high in
       let moves : r ≡ q → ⊥ = λ is. moving (null_of rules x d high is) in
       let further : q < r = omega (arith, on.0, moves) in
-      let less = falls_ahead (length x) q r (length nodes) (rank m) (rank m) further on.1 (most m (is_there rules nodes s)) in
+      let less = falls_ahead (length x) q r (length nodes) (rank m) (rank m) further on.1
+      (most m (is_there rules nodes s)) in
       star_from t m e below s moving left r (omega (arith, on.1)) on.1 (omega (arith, less)))
 
   -- one node, where all that is below it has an outcome
@@ -101,7 +114,8 @@ module _ (rules : List Rule) (start : ℕ) (nodes : List Shape) (bodies ranks : 
       record { outcome = first.outcome; looked = first.looked; gives = choice first.gives }
   one_has t n p e below le high (spells_star {m = m} {p = f} g s) =
       let less = falls_here (length x) p (length nodes) (rank m) (rank n) (drops n m (to_starred g)) in
-      star_from t m f below s (λ null. sound.moving.star n m g (f, s, null)) (length x - p + 1) p (omega arith) high (omega (arith, less))
+      star_from t m f below s (λ null. sound.moving.star n m g (f, s, null)) (length x - p + 1) p (omega arith) high
+      (omega (arith, less))
   one_has t n p e below le high (spells_plus {m = m} {k = k} {p = f} g s a) =
       let step = drops n m (to_repeated g) in
       let less = falls_here (length x) p (length nodes) (rank m) (rank n) step in
@@ -109,8 +123,10 @@ module _ (rules : List Rule) (start : ℕ) (nodes : List Shape) (bodies ranks : 
       plus_has rules x f p one.looked one.outcome one.gives
       (λ q es d.
       let on = forward rules x p q one.looked f es d high in
-      let next = falls (length x) p q (length nodes) (rank m) (rank n) on.0 on.1 (most m (is_there rules nodes s)) (λ _. step) in
-      star_from t m f below s (λ null. sound.moving.plus n m k g (f, s, null)) (length x - q + 1) q (omega arith) on.1 (omega (arith, next)))
+      let next = falls (length x) p q (length nodes) (rank m) (rank n) on.0 on.1 (most m (is_there rules nodes s))
+      (λ _. step) in
+      star_from t m f below s (λ null. sound.moving.plus n m k g (f, s, null)) (length x - q + 1) q (omega arith) on.1
+      (omega (arith, next)))
   one_has t n p e below le high (spells_opt {m = m} {p = f} g s) =
       let one = step_has t n p m f below le high s (to_optional g) in
       opt_has rules x f p one.looked one.outcome one.gives
@@ -120,9 +136,12 @@ module _ (rules : List Rule) (start : ℕ) (nodes : List Shape) (bodies ranks : 
   one_has t n p e below le high (spells_not {m = m} {p = f} g s) =
       let one = step_has t n p m f below le high s (to_denied g) in
       not_has rules x f p one.looked one.outcome one.gives
-  one_has t n p e below le high (spells_act {t = u} g) = record { outcome = Takes p (event.Acted u ∷ []); looked = 0; gives = act }
-  one_has t n p e below le high (spells_open g) = record { outcome = Takes p (event.Opened p ∷ []); looked = 0; gives = open_at }
-  one_has t n p e below le high (spells_close g) = record { outcome = Takes p (event.Closed p ∷ []); looked = 0; gives = close_at }
+  one_has t n p e below le high (spells_act {t = u} g) =
+      record { outcome = Takes p (event.Acted u ∷ []); looked = 0; gives = act }
+  one_has t n p e below le high (spells_open g) =
+      record { outcome = Takes p (event.Opened p ∷ []); looked = 0; gives = open_at }
+  one_has t n p e below le high (spells_close g) =
+      record { outcome = Takes p (event.Closed p ∷ []); looked = 0; gives = close_at }
 
   all_below : (t : ℕ) → Below t
   all_below zero n p e s le lt = absurd (omega arith)
@@ -154,16 +173,25 @@ module _ (rules : List Rule) (start : ℕ) (nodes : List Shape) (bodies ranks : 
 
   pub start_gives_one : StartGivesOne rules start x
   start_gives_one =
-      let at = slice_get-get_or (map (λ rule. rule.body) rules) start expr.Any (omega (arith, sound.start_is_rule, length-map rules (λ rule. rule.body))) in
-      let stands : StandsIn rules (get_or (map (λ rule. rule.body) rules) start expr.Any) = record { id = start; body = get_or (map (λ rule. rule.body) rules) start expr.Any; rule = at; within = itself } in
+      let at = slice_get-get_or (map (λ rule. rule.body) rules) start expr.Any
+      (omega (arith, sound.start_is_rule, length-map rules (λ rule. rule.body))) in
+      let stands : StandsIn rules (get_or (map (λ rule. rule.body) rules) start expr.Any) =
+      record {
+        id = start;
+        body = get_or (map (λ rule. rule.body) rules) start expr.Any;
+        rule = at;
+        within = itself;
+      } in
       let front : 0 ≤ length x = omega arith in
       let one = standing_ends (get_or (map (λ rule. rule.body) rules) start expr.Any) 0 stands front in
-      let gives : RuleGives rules start x one.outcome one.looked = record { body = get_or (map (λ rule. rule.body) rules) start expr.Any; rule = at; gives = one.gives } in
+      let gives : RuleGives rules start x one.outcome one.looked =
+      record { body = get_or (map (λ rule. rule.body) rules) start expr.Any; rule = at; gives = one.gives } in
       record {
         outcome = one.outcome;
         looked = one.looked;
         gives = gives;
-        only = λ o k d. let is = same_of_start rules start x k one.looked o one.outcome d gives in (is.outcome, is.looked);
+        only = λ o k d. let is = same_of_start rules start x k one.looked o one.outcome d gives in
+            (is.outcome, is.looked);
       }
 
   pub has_of_start : (o : Outcome) × (k : ℕ) × RuleGives rules start x o k

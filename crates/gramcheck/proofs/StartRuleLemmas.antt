@@ -9,17 +9,29 @@ use Rattle.gramcheck.proofs.LongerInputLemmas.{grows}
 use Rattle.gramcheck.proofs.RiseLemmas.{within}
 use Rattle.gramcheck.proofs.ShorterInputLemmas.{shrinks}
 
-pub same_of_start : (rules : List Rule) (start : ℕ) (x : List ℕ) (k j : ℕ) (o c : Outcome) → RuleGives rules start x o k → RuleGives rules start x c j → Same o k c j
+pub same_of_start : (rules : List Rule) (start : ℕ) (x : List ℕ) (k j : ℕ) (o c : Outcome) → RuleGives rules start x o k
+    → RuleGives rules start x c j → Same o k c j
 same_of_start rules start x k j o c d g =
     let is : g.body ≡ d.body = cc (d.rule, g.rule) in
     same rules x d.gives (subst (λ e. Gives rules x e 0 c j) is g.gives)
 
-pub rises_of_start : (rules : List Rule) (start : ℕ) (x : List ℕ) (q k : ℕ) (events : List Event) → RuleGives rules start x (Takes q events) k →
+pub rises_of_start : (rules : List Rule) (start : ℕ) (x : List ℕ) (q k : ℕ) (events : List Event)
+    → RuleGives rules start x (Takes q events) k →
     Rise 0 q events × (q ≤ length x)
 rises_of_start rules start x q k events d = let front : 0 ≤ length x = omega arith in within rules x d.gives front
 
-pub grows_of_start : (rules : List Rule) (start : ℕ) (x y : List ℕ) (k : ℕ) (o : Outcome) → k < length x → RuleGives rules start x o k → RuleGives rules start (x ++ y) o k
-grows_of_start rules start x y k o lt d = record { body = d.body; rule = d.rule; gives = grows rules x y d.gives (omega arith) lt }
+pub grows_of_start : (rules : List Rule) (start : ℕ) (x y : List ℕ) (k : ℕ) (o : Outcome) → k < length x
+    → RuleGives rules start x o k → RuleGives rules start (x ++ y) o k
+grows_of_start rules start x y k o lt d = record {
+  body = d.body;
+  rule = d.rule;
+  gives = grows rules x y d.gives (omega arith) lt;
+}
 
-pub shrinks_of_start : (rules : List Rule) (start : ℕ) (x y : List ℕ) (k : ℕ) (o : Outcome) → k < length x → RuleGives rules start (x ++ y) o k → RuleGives rules start x o k
-shrinks_of_start rules start x y k o lt d = record { body = d.body; rule = d.rule; gives = shrinks rules x y d.gives lt }
+pub shrinks_of_start : (rules : List Rule) (start : ℕ) (x y : List ℕ) (k : ℕ) (o : Outcome) → k < length x
+    → RuleGives rules start (x ++ y) o k → RuleGives rules start x o k
+shrinks_of_start rules start x y k o lt d = record {
+  body = d.body;
+  rule = d.rule;
+  gives = shrinks rules x y d.gives lt;
+}

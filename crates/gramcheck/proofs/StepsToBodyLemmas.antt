@@ -6,7 +6,8 @@ use Rattle.std.proofs.lemmas.Option.{slice_get-get_or, slice_get_within}
 use Rattle.pegread.specs.Pattern.{Pattern, Rule, body_of}
 use Rattle.gramcheck.specs.Nodes as node
 use Rattle.gramcheck.specs.Nodes.{Shape, id_of, Spells}
-use Rattle.gramcheck.specs.Ranks.{NodeStep, to_body, to_alternative, to_member, to_starred, to_repeated, to_optional, to_asserted, to_denied, FrontNode, front_first, front_later}
+use Rattle.gramcheck.specs.Ranks.{NodeStep, to_body, to_alternative, to_member, to_starred, to_repeated, to_optional}
+use Rattle.gramcheck.specs.Ranks.{to_asserted, to_denied, FrontNode, front_first, front_later}
 use Rattle.gramcheck.specs.Sound.{IsRanked}
 use Rattle.gramcheck.proofs.OwnIdLemmas.{body_there}
 use Rattle.leastset.proofs.ContainsLemmas.{in_first, in_later}
@@ -28,20 +29,28 @@ module _ (rules : List Rule) (nodes : List Shape) (bodies : List ℕ) where
   front_contained (front_first {m = m} {ms = ms}) = in_first m ms
   front_contained (front_later {k = k} {m = m} {ms = ms} null f) = in_later k m ms (front_contained f)
 
-module _ (rules : List Rule) (start : ℕ) (nodes : List Shape) (bodies ranks : List ℕ) (sound : IsRanked rules start nodes bodies ranks) where
+module _ (rules : List Rule) (start : ℕ) (nodes : List Shape) (bodies ranks : List ℕ)
+    (sound : IsRanked rules start nodes bodies ranks) where
   low_there : {n m : ℕ} → n < length nodes → m < n → m < length nodes
   low_there lt less = omega arith
 
   pub steps_to : {n m : ℕ} → NodeStep rules nodes bodies n m → m < length nodes
   steps_to (to_body {id = id} {m = m} g b) = is_there rules nodes ((sound.spelled.spelled id m b).2)
-  steps_to (to_alternative {n = n} {m = m} {ms = ms} g h) = low_there (slice_get_within nodes n (node.Choice ms) g) (sound.built.after n m (node.Choice ms) g h)
+  steps_to (to_alternative {n = n} {m = m} {ms = ms} g h) = low_there (slice_get_within nodes n (node.Choice ms) g)
+      (sound.built.after n m (node.Choice ms) g h)
   steps_to (to_member {n = n} {m = m} {ms = ms} g f) =
-      low_there (slice_get_within nodes n (node.Seq ms) g) (sound.built.after n m (node.Seq ms) g (front_contained rules nodes bodies f))
-  steps_to (to_starred {n = n} {m = m} g) = low_there (slice_get_within nodes n (node.Star m) g) (sound.built.after n m (node.Star m) g refl)
-  steps_to (to_repeated {n = n} {m = m} {k = k} g) = low_there (slice_get_within nodes n (node.Plus m k) g) (sound.built.after n m (node.Plus m k) g refl)
-  steps_to (to_optional {n = n} {m = m} g) = low_there (slice_get_within nodes n (node.Opt m) g) (sound.built.after n m (node.Opt m) g refl)
-  steps_to (to_asserted {n = n} {m = m} g) = low_there (slice_get_within nodes n (node.And m) g) (sound.built.after n m (node.And m) g refl)
-  steps_to (to_denied {n = n} {m = m} g) = low_there (slice_get_within nodes n (node.Not m) g) (sound.built.after n m (node.Not m) g refl)
+      low_there (slice_get_within nodes n (node.Seq ms) g)
+      (sound.built.after n m (node.Seq ms) g (front_contained rules nodes bodies f))
+  steps_to (to_starred {n = n} {m = m} g) = low_there (slice_get_within nodes n (node.Star m) g)
+      (sound.built.after n m (node.Star m) g refl)
+  steps_to (to_repeated {n = n} {m = m} {k = k} g) = low_there (slice_get_within nodes n (node.Plus m k) g)
+      (sound.built.after n m (node.Plus m k) g refl)
+  steps_to (to_optional {n = n} {m = m} g) = low_there (slice_get_within nodes n (node.Opt m) g)
+      (sound.built.after n m (node.Opt m) g refl)
+  steps_to (to_asserted {n = n} {m = m} g) = low_there (slice_get_within nodes n (node.And m) g)
+      (sound.built.after n m (node.And m) g refl)
+  steps_to (to_denied {n = n} {m = m} g) = low_there (slice_get_within nodes n (node.Not m) g)
+      (sound.built.after n m (node.Not m) g refl)
 
   abbrev pub rank : ℕ → ℕ
   rank n = slice_index ranks n
@@ -53,7 +62,8 @@ module _ (rules : List Rule) (start : ℕ) (nodes : List Shape) (bodies ranks : 
   bound n lt = sound.falling.bound n (rank n) (rank_at n lt)
 
   pub lower : (n m : ℕ) → NodeStep rules nodes bodies n m → rank m < rank n
-  lower n m step = sound.falling.lower n m (rank n) (rank m) step (rank_at n (steps_from rules nodes bodies step)) (rank_at m (steps_to step))
+  lower n m step = sound.falling.lower n m (rank n) (rank m) step (rank_at n (steps_from rules nodes bodies step))
+      (rank_at m (steps_to step))
 
   -- a node that is a name steps to the node of that name's body
   pub record StepsToBody (n : ℕ) (word : List ℕ) : Type 0 where
@@ -63,7 +73,8 @@ module _ (rules : List Rule) (start : ℕ) (nodes : List Shape) (bodies ranks : 
     pub step : NodeStep rules nodes bodies n node
     pub spelled : Spells rules nodes node body
 
-  pub steps_to_body : (n : ℕ) (word : List ℕ) → slice_get nodes n ≡ Some (node.Name (id_of rules word)) → StepsToBody n word
+  pub steps_to_body : (n : ℕ) (word : List ℕ) → slice_get nodes n ≡ Some (node.Name (id_of rules word))
+      → StepsToBody n word
   steps_to_body n word g =
       let lt = sound.defined n (id_of rules word) g in
       let body = body_there rules word lt in

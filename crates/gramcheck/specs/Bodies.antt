@@ -1,7 +1,8 @@
 -- Nodes that spell the bodies of a grammar's rules, operands before the nodes that they stand in.
 use Rattle.std.specs.Prelude.{◌≡◌, ℕ, ◌<◌, ◌≤◌, List, length, map, slice_get, Some, Contains}
 use Rattle.pegread.specs.Pattern.{Pattern, Rule}
-use Rattle.gramcheck.specs.Nodes.{Shape, Any, Bytes, Set, Name, Seq, Choice, Star, Plus, Opt, And, Not, Act, Open, Close, Spells}
+use Rattle.gramcheck.specs.Nodes.{Shape, Any, Bytes, Set, Name, Seq, Choice, Star, Plus, Opt, And, Not, Act, Open}
+use Rattle.gramcheck.specs.Nodes.{Close, Spells}
 
 -- of each rule the node that spells its body
 pub record AreBodies (rules : List Rule) (nodes : List Shape) (bodies : List ℕ) : Type 0 where

@@ -7,7 +7,8 @@ use Rattle.gramcheck.specs.declared.node.Node.{Node}
 use Rattle.gramcheck.specs.Nodes.{shapes_of}
 use Rattle.gramcheck.specs.Sound.{IsRanked}
 
--- the rules, the id of the start rule, the numbered nodes, of each rule the node that spells its body, and of each node its rank
+-- the rules, the id of the start rule, the numbered nodes, of each rule the node that spells its body, and of each node
+-- its rank
 pub record Grammar : Type 0 where
   pub rules : table.Rules Expr
   pub start : ℕ

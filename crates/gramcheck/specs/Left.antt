@@ -1,10 +1,13 @@
--- Nullable expressions, left steps and left recursion (Ford 2004, section 3, where "nullable" is made conservative), and repeated nullable expressions.
+-- Nullable expressions, left steps and left recursion (Ford 2004, section 3, where "nullable" is made conservative),
+-- and repeated nullable expressions.
 use Rattle.std.specs.Prelude.{◌≡◌, ℕ, List, [], Some}
-use Rattle.pegread.specs.Pattern.{Pattern, Patterns, Rule, body_of, Bytes, Name, Seq, Choice, Star, Plus, Opt, And, Not, Act, Open, Close, none, more}
+use Rattle.pegread.specs.Pattern.{Pattern, Patterns, Rule, body_of, Bytes, Name, Seq, Choice, Star, Plus, Opt, And, Not}
+use Rattle.pegread.specs.Pattern.{Act, Open, Close, none, more}
 
 module _ (rules : List Rule) where
   mutual
-    -- The least set of expressions that may take nothing. A predicate, an action and a capture's ends are among them; the name of no rule isn't.
+    -- The least set of expressions that may take nothing. A predicate, an action and a capture's ends are among them;
+    -- the name of no rule isn't.
     pub data Nullable : Pattern → Type 0 where
       no_bytes : Nullable (Bytes [])
       an_act : {t : List ℕ} → Nullable (Act t)

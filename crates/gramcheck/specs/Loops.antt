@@ -3,7 +3,8 @@ use Rattle.std.specs.Prelude.{◌≡◌, ◌⊎◌, ℕ, ◌<◌, Bool, List, le
 use Rattle.pegread.specs.Pattern.{Pattern, Rule}
 use Rattle.gramcheck.specs.Left.{RepeatsNullable}
 use Rattle.leastset.specs.NumberMarks.{IsMarked}
-use Rattle.gramcheck.specs.Nodes.{Shape, Any, Bytes, Set, Name, Seq, Choice, Star, Plus, Opt, And, Not, Act, Open, Close, Spells}
+use Rattle.gramcheck.specs.Nodes.{Shape, Any, Bytes, Set, Name, Seq, Choice, Star, Plus, Opt, And, Not, Act, Open}
+use Rattle.gramcheck.specs.Nodes.{Close, Spells}
 
 -- what the marks of a node's operands say of it
 abbrev pub LoopsNow : List Bool → List Bool → Shape → Type 0
@@ -25,8 +26,10 @@ LoopsNow nulls marks Close = ⊥
 -- the first nodes are marked as their operands say
 pub record LoopsTo (nodes : List Shape) (nulls : List Bool) (marks : List Bool) (i : ℕ) : Type 0 where
   pub count : length marks ≡ i
-  pub sound : (n : ℕ) (node : Shape) → n < i → slice_get nodes n ≡ Some node → IsMarked marks n → LoopsNow nulls marks node
-  pub whole : (n : ℕ) (node : Shape) → n < i → slice_get nodes n ≡ Some node → LoopsNow nulls marks node → IsMarked marks n
+  pub sound : (n : ℕ) (node : Shape) → n < i → slice_get nodes n ≡ Some node → IsMarked marks n
+      → LoopsNow nulls marks node
+  pub whole : (n : ℕ) (node : Shape) → n < i → slice_get nodes n ≡ Some node → LoopsNow nulls marks node
+      → IsMarked marks n
 
 -- exactly those nodes are marked that spell expressions which repeat a nullable one
 pub record AreLoopMarks (rules : List Rule) (nodes : List Shape) (marks : List Bool) : Type 0 where

@@ -1,11 +1,13 @@
 -- Left steps between numbered nodes as rows of numbers, and rules that come back to themselves by them.
-use Rattle.std.specs.Prelude.{◌≡◌, ◌⊎◌, ◌↔◌, ℕ, ◌<◌, Bool, false, cond, List, [], ◌∷◌, length, map, slice_get, slice_index_or, option_to_list, Some}
+use Rattle.std.specs.Prelude.{◌≡◌, ◌⊎◌, ◌↔◌, ℕ, ◌<◌, Bool, false, cond, List, [], ◌∷◌, length, map, slice_get}
+use Rattle.std.specs.Prelude.{slice_index_or, option_to_list, Some}
 use Rattle.pegread.specs.Pattern.{Rule}
 use Rattle.leastset.specs.Leads.{Leads}
 use Rattle.leastset.specs.NumberMarks.{IsMarked}
 use Rattle.leastset.specs.StepRows.{Step}
 use Rattle.gramcheck.specs.Left.{IsLeftRecursive}
-use Rattle.gramcheck.specs.Nodes.{Shape, Any, Bytes, Set, Name, Seq, Choice, Star, Plus, Opt, And, Not, Act, Open, Close, id_of}
+use Rattle.gramcheck.specs.Nodes.{Shape, Any, Bytes, Set, Name, Seq, Choice, Star, Plus, Opt, And, Not, Act, Open}
+use Rattle.gramcheck.specs.Nodes.{Close, id_of}
 use Rattle.gramcheck.specs.Ranks.{AreRanks}
 
 -- the first members, as far as the first that isn't marked nullable

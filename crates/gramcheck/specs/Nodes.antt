@@ -1,5 +1,6 @@
 -- Numbered nodes that spell expressions.
-use Rattle.std.specs.Prelude.{◌≡◌, ℕ, ◌+◌, Bool, false, List, [], ◌∷◌, map, slice_get, get_or, Some, bytes_eq, if◌then◌else◌}
+use Rattle.std.specs.Prelude.{◌≡◌, ℕ, ◌+◌, Bool, false, List, [], ◌∷◌, map, slice_get, get_or, Some, bytes_eq}
+use Rattle.std.specs.Prelude.{if◌then◌else◌}
 use Rattle.pegread.specs.Pattern as e
 use Rattle.pegread.specs.Pattern.{Pattern, Patterns, Rule}
 use Rattle.gramcheck.specs.declared.node.Node.{Node}
@@ -53,11 +54,15 @@ module _ (rules : List Rule) (nodes : List Shape) where
       spells_any : {n : ℕ} → slice_get nodes n ≡ Some Any → Spells n e.Any
       spells_bytes : {n : ℕ} {bs : List ℕ} → slice_get nodes n ≡ Some (Bytes bs) → Spells n (e.Bytes bs)
       spells_set : {n : ℕ} {s : ℕ → Bool} → slice_get nodes n ≡ Some (Set s) → Spells n (e.Set s)
-      spells_name : {n : ℕ} {name : List ℕ} → slice_get nodes n ≡ Some (Name (id_of rules name)) → Spells n (e.Name name)
-      spells_seq : {n : ℕ} {ms : List ℕ} {ps : Patterns} → slice_get nodes n ≡ Some (Seq ms) → SpellAll ms ps → Spells n (e.Seq ps)
-      spells_choice : {n : ℕ} {ms : List ℕ} {ps : Patterns} → slice_get nodes n ≡ Some (Choice ms) → SpellAll ms ps → Spells n (e.Choice ps)
+      spells_name : {n : ℕ} {name : List ℕ} → slice_get nodes n ≡ Some (Name (id_of rules name))
+          → Spells n (e.Name name)
+      spells_seq : {n : ℕ} {ms : List ℕ} {ps : Patterns} → slice_get nodes n ≡ Some (Seq ms) → SpellAll ms ps
+          → Spells n (e.Seq ps)
+      spells_choice : {n : ℕ} {ms : List ℕ} {ps : Patterns} → slice_get nodes n ≡ Some (Choice ms) → SpellAll ms ps
+          → Spells n (e.Choice ps)
       spells_star : {n m : ℕ} {p : Pattern} → slice_get nodes n ≡ Some (Star m) → Spells m p → Spells n (e.Star p)
-      spells_plus : {n m k : ℕ} {p : Pattern} → slice_get nodes n ≡ Some (Plus m k) → Spells m p → slice_get nodes k ≡ Some (Star m) → Spells n (e.Plus p)
+      spells_plus : {n m k : ℕ} {p : Pattern} → slice_get nodes n ≡ Some (Plus m k) → Spells m p
+          → slice_get nodes k ≡ Some (Star m) → Spells n (e.Plus p)
       spells_opt : {n m : ℕ} {p : Pattern} → slice_get nodes n ≡ Some (Opt m) → Spells m p → Spells n (e.Opt p)
       spells_and : {n m : ℕ} {p : Pattern} → slice_get nodes n ≡ Some (And m) → Spells m p → Spells n (e.And p)
       spells_not : {n m : ℕ} {p : Pattern} → slice_get nodes n ≡ Some (Not m) → Spells m p → Spells n (e.Not p)
@@ -67,4 +72,5 @@ module _ (rules : List Rule) (nodes : List Shape) where
 
     pub data SpellAll : List ℕ → Patterns → Type 0 where
       spell_none : SpellAll [] e.none
-      spell_more : {n : ℕ} {ns : List ℕ} {p : Pattern} {ps : Patterns} → Spells n p → SpellAll ns ps → SpellAll (n ∷ ns) (e.more p ps)
+      spell_more : {n : ℕ} {ns : List ℕ} {p : Pattern} {ps : Patterns} → Spells n p → SpellAll ns ps
+          → SpellAll (n ∷ ns) (e.more p ps)

@@ -5,9 +5,11 @@ use Rattle.leastset.specs.Demands as d
 use Rattle.leastset.specs.Demands.{Demand}
 use Rattle.gramcheck.specs.Left.{Nullable}
 use Rattle.leastset.specs.NumberMarks.{IsMarked}
-use Rattle.gramcheck.specs.Nodes.{Shape, Any, Bytes, Set, Name, Seq, Choice, Star, Plus, Opt, And, Not, Act, Open, Close, Spells}
+use Rattle.gramcheck.specs.Nodes.{Shape, Any, Bytes, Set, Name, Seq, Choice, Star, Plus, Opt, And, Not, Act, Open}
+use Rattle.gramcheck.specs.Nodes.{Close, Spells}
 
--- the nodes of which all or one must be nullable before a node is: all of none where it is at once, one of none where it never is
+-- the nodes of which all or one must be nullable before a node is: all of none where it is at once, one of none where
+-- it never is
 abbrev pub null_demand : List ℕ → Shape → Demand
 null_demand bodies Any = d.One []
 null_demand bodies (Bytes []) = d.All []

@@ -18,7 +18,8 @@ module _ (rules : List Rule) where
     pub within : WithinSome ps part
     pub spelled : Spells rules nodes m part
 
-  -- Nodes were added, operands before the nodes that they stand in. Node n spells an expression, and each new node spells one within it.
+  -- Nodes were added, operands before the nodes that they stand in. Node n spells an expression, and each new node
+  -- spells one within it.
   pub record Numbers (old new : List Shape) (n : ℕ) (p : Pattern) : Type 0 where
     pub added : List Shape
     pub grown : new ≡ old ++ added

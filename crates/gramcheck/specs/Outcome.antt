@@ -1,6 +1,9 @@
--- What an expression gives at a place of the input (Ford 2004, section 3.3, with captures and actions), and how far that looks.
-use Rattle.std.specs.Prelude.{◌≡◌, ℕ, zero, suc, ◌+◌, max, Bool, true, false, ◌&&◌, List, [], ◌∷◌, ◌++◌, length, map, drop, slice_get, Some, None, if◌then◌else◌, ◌==◌}
-use Rattle.pegread.specs.Pattern.{Pattern, Patterns, Any, Bytes, Set, Name, Seq, Choice, Star, Plus, Opt, And, Not, Act, Open, Close, none, more, Rule, body_of}
+-- What an expression gives at a place of the input (Ford 2004, section 3.3, with captures and actions), and how far
+-- that looks.
+use Rattle.std.specs.Prelude.{◌≡◌, ℕ, zero, suc, ◌+◌, max, Bool, true, false, ◌&&◌, List, [], ◌∷◌, ◌++◌, length, map}
+use Rattle.std.specs.Prelude.{drop, slice_get, Some, None, if◌then◌else◌, ◌==◌}
+use Rattle.pegread.specs.Pattern.{Pattern, Patterns, Any, Bytes, Set, Name, Seq, Choice, Star, Plus, Opt, And, Not, Act}
+use Rattle.pegread.specs.Pattern.{Open, Close, none, more, Rule, body_of}
 
 -- what a success leaves behind: a capture's ends, with their places, and the template of an action
 pub data Event : Type 0 where
@@ -35,7 +38,8 @@ module _ (rules : List Rule) (x : List ℕ) where
     pub data Gives : Pattern → ℕ → Outcome → ℕ → Type 0 where
       any_takes : {p b : ℕ} → slice_get x p ≡ Some b → Gives Any p (Takes (p + 1) []) (p + 1)
       any_at_end : {p : ℕ} → slice_get x p ≡ None → Gives Any p Fails 0
-      set_takes : {s : ℕ → Bool} {p b : ℕ} → slice_get x p ≡ Some b → s b ≡ true → Gives (Set s) p (Takes (p + 1) []) (p + 1)
+      set_takes : {s : ℕ → Bool} {p b : ℕ} → slice_get x p ≡ Some b → s b ≡ true
+          → Gives (Set s) p (Takes (p + 1) []) (p + 1)
       set_fails : {s : ℕ → Bool} {p b : ℕ} → slice_get x p ≡ Some b → s b ≡ false → Gives (Set s) p Fails (p + 1)
       set_at_end : {s : ℕ → Bool} {p : ℕ} → slice_get x p ≡ None → Gives (Set s) p Fails 0
       bytes_take : {bs : List ℕ} {p : ℕ} → begins_with (drop p x) bs ≡ true →
@@ -45,10 +49,12 @@ module _ (rules : List Rule) (x : List ℕ) where
       act : {t : List ℕ} {p : ℕ} → Gives (Act t) p (Takes p (Acted t ∷ [])) 0
       open_at : {p : ℕ} → Gives Open p (Takes p (Opened p ∷ [])) 0
       close_at : {p : ℕ} → Gives Close p (Takes p (Closed p ∷ [])) 0
-      name : {n : List ℕ} {e : Pattern} {p k : ℕ} {o : Outcome} → body_of rules n ≡ Some e → Gives e p o k → Gives (Name n) p o k
+      name : {n : List ℕ} {e : Pattern} {p k : ℕ} {o : Outcome} → body_of rules n ≡ Some e → Gives e p o k
+          → Gives (Name n) p o k
       seq : {es : Patterns} {p k : ℕ} {o : Outcome} → GivesAll es p o k → Gives (Seq es) p o k
       choice : {es : Patterns} {p k : ℕ} {o : Outcome} → GivesFirst es p o k → Gives (Choice es) p o k
-      opt_takes : {e : Pattern} {p q k : ℕ} {es : List Event} → Gives e p (Takes q es) k → Gives (Opt e) p (Takes q es) k
+      opt_takes : {e : Pattern} {p q k : ℕ} {es : List Event} → Gives e p (Takes q es) k
+          → Gives (Opt e) p (Takes q es) k
       opt_none : {e : Pattern} {p k : ℕ} → Gives e p Fails k → Gives (Opt e) p (Takes p []) k
       star_none : {e : Pattern} {p k : ℕ} → Gives e p Fails k → Gives (Star e) p (Takes p []) k
       star_more : {e : Pattern} {p q r j k : ℕ} {es fs : List Event} → Gives e p (Takes q es) j →
@@ -56,7 +62,8 @@ module _ (rules : List Rule) (x : List ℕ) where
       plus_fails : {e : Pattern} {p k : ℕ} → Gives e p Fails k → Gives (Plus e) p Fails k
       plus_takes : {e : Pattern} {p q r j k : ℕ} {es fs : List Event} → Gives e p (Takes q es) j →
           Gives (Star e) q (Takes r fs) k → Gives (Plus e) p (Takes r (es ++ fs)) (max j k)
-      and_takes : {e : Pattern} {p q k : ℕ} {es : List Event} → Gives e p (Takes q es) k → Gives (And e) p (Takes p []) k
+      and_takes : {e : Pattern} {p q k : ℕ} {es : List Event} → Gives e p (Takes q es) k
+          → Gives (And e) p (Takes p []) k
       and_fails : {e : Pattern} {p k : ℕ} → Gives e p Fails k → Gives (And e) p Fails k
       not_takes : {e : Pattern} {p k : ℕ} → Gives e p Fails k → Gives (Not e) p (Takes p []) k
       not_fails : {e : Pattern} {p q k : ℕ} {es : List Event} → Gives e p (Takes q es) k → Gives (Not e) p Fails k

@@ -3,7 +3,8 @@ use Rattle.std.specs.Prelude.{ℕ, List, [], ◌∷◌, ◌++◌, map}
 use Rattle.std.specs.List.{flat_map}
 use Rattle.ruletable.specs.Rules.{Rules}
 use Rattle.ruletable.specs.declared.table.NameCase.TheVariants.{Exact}
-use Rattle.pegread.specs.Pattern.{Pattern, Patterns, Any, Bytes, Set, Name, Seq, Choice, Star, Plus, Opt, And, Not, Act, Open, Close, none, more, Rule}
+use Rattle.pegread.specs.Pattern.{Pattern, Patterns, Any, Bytes, Set, Name, Seq, Choice, Star, Plus, Opt, And, Not, Act}
+use Rattle.pegread.specs.Pattern.{Open, Close, none, more, Rule}
 use Rattle.rulenames.specs.NameUses.{IsScanned}
 
 -- the names in an expression, from left to right
@@ -36,6 +37,7 @@ names_used rules = flat_map (λ rule. names_in rule.body) rules
 abbrev pub rule_names : List Rule → List (List ℕ)
 rule_names rules = map (λ rule. rule.name) rules
 
--- the names are the rules' names and behind them those of the used ones that no rule has, and of each use there is the id of its name
+-- the names are the rules' names and behind them those of the used ones that no rule has, and of each use there is the
+-- id of its name
 abbrev pub AreUses : List Rule → List (List ℕ) → Rules (Unit {0}) → List ℕ → Type 0
 AreUses rules used names ids = IsScanned Exact (rule_names rules) used used names ids

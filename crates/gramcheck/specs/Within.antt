@@ -3,7 +3,8 @@ use Rattle.std.specs.Prelude.{◌≡◌, ℕ, List, map, slice_get, Some}
 use Rattle.pegread.specs.Pattern.{Pattern, Patterns, Rule, Seq, Choice, Star, Plus, Opt, And, Not, more}
 
 mutual
-  -- `Within e d`: d is e, or stands within an operand, a member or an alternative of e; of a Plus, within the Star that goes on with its operand
+  -- `Within e d`: d is e, or stands within an operand, a member or an alternative of e; of a Plus, within the Star that
+  -- goes on with its operand
   pub data Within : Pattern → Pattern → Type 0 where
     itself : {e : Pattern} → Within e e
     of_seq : {es : Patterns} {d : Pattern} → WithinSome es d → Within (Seq es) d

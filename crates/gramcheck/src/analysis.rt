@@ -26,14 +26,16 @@ pub(crate) struct Analysis {
     pub(crate) ranks: Vec<usize>,
 }
 
-/// Finds the nullable nodes, the left-recursive rules, the rules that repeat a nullable expression, and ranks of the nodes.
+/// Finds the nullable nodes, the left-recursive rules, the rules that repeat a nullable expression, and ranks of the
+/// nodes.
 ///
 /// `Memory` where a growth was refused.
 pub(crate) fn analysed(alloc: Global, nodes: &[Node], bodies: &[usize]) -> Result<Analysis, Memory>
     requires built { IsBuilt (shapes_of nodes.now) }
     requires bodies { AreBelow bodies.now (length nodes.now) }
     ensures { IfOk result (λ a. (rules : List Rule) → AreBodies rules (shapes_of nodes.now) bodies.now →
-        IsAnalysed rules (shapes_of nodes.now) bodies.now a.nulls.items a.recursive.items a.looping.items a.ranks.items) }
+        IsAnalysed rules (shapes_of nodes.now) bodies.now a.nulls.items a.recursive.items a.looping.items
+        a.ranks.items) }
 {
     let nulls = nullable(alloc, nodes, bodies)?;
     let left = find_left(alloc, nodes, bodies, &nulls)?;

@@ -1,5 +1,6 @@
 //! The checks of a grammar.
-ghost use Rattle.std.specs.Prelude.{◌≡◌, ◌<◌, ◌≢◌, None, Option, List, ℕ, true, false, length, map, IfOk, IfSome, MatchOption, option_copied};
+ghost use Rattle.std.specs.Prelude.{◌≡◌, ◌<◌, ◌≢◌, None, Option, List, ℕ, true, false, length, map, IfOk, IfSome};
+ghost use Rattle.std.specs.Prelude.{MatchOption, option_copied};
 ghost use Rattle.ruletable.specs.Notes.{said_of};
 ghost use Rattle.ruletable.specs.Rules.{find_in};
 ghost use Rattle.pegread.specs.PegViews.{rules_of};
@@ -31,15 +32,18 @@ pub struct Checked<S> {
 /// rule, which is that with the name `start`, or else the first.
 ///
 /// The notes are, each kind by the order of the rules: rules that are defined again; names that no rule has, by first
-/// use, where `start` is a use before all others; rules that are not used, which alone don't refuse the grammar; rules that
-/// may come back to themselves without taking a byte (Ford 2004, section 3.6); and rules that repeat what may take nothing.
+/// use, where `start` is a use before all others; rules that are not used, which alone don't refuse the grammar; rules
+/// that may come back to themselves without taking a byte (Ford 2004, section 3.6); and rules that repeat what may take
+/// nothing.
 ///
 /// # Errors
 /// `Memory` where a growth was refused; the grammar is dropped then.
 pub fn check_peg(alloc: Global, peg: Peg, start: Option<&str>) -> Result<Checked<SoundPeg>, Memory>
-    ensures notes { IfOk result (λ c. AreNotes (rules_of peg.rules) (names_at (rules_of peg.rules) peg.redefined.items) (option_copied start.entry) (map said_of c.notes.items)) }
+    ensures notes { IfOk result (λ c. AreNotes (rules_of peg.rules) (names_at (rules_of peg.rules) peg.redefined.items)
+        (option_copied start.entry) (map said_of c.notes.items)) }
     ensures sound { IfOk result (λ c. MatchOption c.sound (is_refused (map said_of c.notes.items) ≡ true)
-        (λ g. (is_refused (map said_of c.notes.items) ≡ false) × (g.rules ≡ peg.rules) × IsStart (option_copied start.entry) (rules_of peg.rules) g.start)) }
+        (λ g. (is_refused (map said_of c.notes.items) ≡ false) × (g.rules ≡ peg.rules)
+        × IsStart (option_copied start.entry) (rules_of peg.rules) g.start)) }
     ensures ranked { IfOk result (λ c. IfSome c.sound IsSoundGrammar) }
 {
     let rules = peg.rules;
@@ -72,10 +76,13 @@ fn judge(
     start: Option<&str>,
 ) -> Result<Judged, Memory>
     requires { rules.now.names ≡ NameCase.Exact }
-    ensures notes { IfOk result (λ j. AreNotes (rules_of rules.now) (names_at (rules_of rules.now) redefined.now) (option_copied start.entry) (map said_of j.notes.items)) }
-    ensures ranked { IfOk result (λ j. is_refused (map said_of j.notes.items) ≡ false → (first : ℕ) → first < length (rules_of rules.now) →
+    ensures notes { IfOk result (λ j. AreNotes (rules_of rules.now) (names_at (rules_of rules.now) redefined.now)
+        (option_copied start.entry) (map said_of j.notes.items)) }
+    ensures ranked { IfOk result (λ j. is_refused (map said_of j.notes.items) ≡ false → (first : ℕ)
+        → first < length (rules_of rules.now) →
         IsRanked (rules_of rules.now) first (shapes_of j.cut.nodes.items) j.cut.bodies.items j.ranks.items) }
-    ensures given { IfOk result (λ j. is_refused (map said_of j.notes.items) ≡ false → IsGiven (option_copied start.entry) rules.now) }
+    ensures given { IfOk result (λ j. is_refused (map said_of j.notes.items) ≡ false
+        → IsGiven (option_copied start.entry) rules.now) }
 {
     let _ = rules.len();
     let cut = cut_grammar(alloc, rules)?;

@@ -11,7 +11,8 @@ use pegread::Expr;
 use ruletable::{Memory, NameCase, RuleTable};
 use std::alloc::Global;
 
-/// The nodes of a grammar, operands before the nodes that they stand in, and of each rule the number of its body's node.
+/// The nodes of a grammar, operands before the nodes that they stand in, and of each rule the number of its body's
+/// node.
 #[derive(Drop)]
 pub(crate) struct Cut {
     pub(crate) nodes: Vec<Node>,

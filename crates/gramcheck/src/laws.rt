@@ -32,8 +32,8 @@ pub fn events_rise_of_start()
         RuleGives rules start x (Outcome.Takes q events) k → Rise 0 q events × (q ≤ length x) }
 {}
 
-/// What an expression gives before it has looked at the input's last byte, it gives on every input that begins with this
-/// one.
+/// What an expression gives before it has looked at the input's last byte, it gives on every input that begins with
+/// this one.
 pub fn longer_input()
     ensures { (rules : List Rule) (x y : List ℕ) (e : Pattern) (p k : ℕ) (o : Outcome) →
         p < length x → k < length x → Gives rules x e p o k → Gives rules (x ++ y) e p o k }
@@ -46,15 +46,15 @@ pub fn longer_input_of_start()
         k < length x → RuleGives rules start x o k → RuleGives rules start (x ++ y) o k }
 {}
 
-/// What an expression gives before it has looked at the last byte of a text with which the input begins, it gives on that
-/// text alone.
+/// What an expression gives before it has looked at the last byte of a text with which the input begins, it gives on
+/// that text alone.
 pub fn shorter_input()
     ensures { (rules : List Rule) (x y : List ℕ) (e : Pattern) (p k : ℕ) (o : Outcome) →
         k < length x → Gives rules (x ++ y) e p o k → Gives rules x e p o k }
 {}
 
-/// What a start rule gives before it has looked at the last byte of a text with which the input begins, it gives on that
-/// text alone.
+/// What a start rule gives before it has looked at the last byte of a text with which the input begins, it gives on
+/// that text alone.
 pub fn shorter_input_of_start()
     ensures { (rules : List Rule) (start : ℕ) (x y : List ℕ) (k : ℕ) (o : Outcome) →
         k < length x → RuleGives rules start (x ++ y) o k → RuleGives rules start x o k }
@@ -63,7 +63,8 @@ pub fn shorter_input_of_start()
 /// Every expression that stands in a rule's body of a sound grammar gives an outcome at every place of the input.
 pub fn some_outcome()
     ensures { (g : Grammar) (x : List ℕ) (e : Pattern) (p : ℕ) →
-        IsSoundGrammar g → StandsIn (rules_of g.rules) e → p ≤ length x → (o : Outcome) × (k : ℕ) × Gives (rules_of g.rules) x e p o k }
+        IsSoundGrammar g → StandsIn (rules_of g.rules) e → p ≤ length x → (o : Outcome) × (k : ℕ)
+        × Gives (rules_of g.rules) x e p o k }
 {}
 
 /// The start rule of a sound grammar gives an outcome on every input.

@@ -98,7 +98,8 @@ fn named_rules(
     count: usize,
 ) -> Result<Vec<bool>, Memory>
     requires { length marks.now ≡ length nodes.now }
-    ensures { IfOk result (λ found. MarksNames (shapes_of nodes.now) (length nodes.now) marks.now (replicate count Bool.false) found.items) }
+    ensures { IfOk result (λ found. MarksNames (shapes_of nodes.now) (length nodes.now) marks.now
+        (replicate count Bool.false) found.items) }
 {
     let mut found = vec![in alloc; false; count]?;
     mark_names(nodes, marks, &mut found);
@@ -129,7 +130,8 @@ pub(crate) fn find_left(
     requires built { IsBuilt (shapes_of nodes.now) }
     requires bodies { AreBelow bodies.now (length nodes.now) }
     requires count { length nulls.now ≡ length nodes.now }
-    ensures { IfOk result (λ left. (rules : List Rule) → AreBodies rules (shapes_of nodes.now) bodies.now → AreNullMarks rules (shapes_of nodes.now) nulls.now →
+    ensures { IfOk result (λ left. (rules : List Rule) → AreBodies rules (shapes_of nodes.now) bodies.now
+        → AreNullMarks rules (shapes_of nodes.now) nulls.now →
         IsLeft rules (shapes_of nodes.now) bodies.now left.recursive.items left.ranks.items) }
 {
     let steps = steps(alloc, nodes, bodies, nulls)?;

@@ -2,8 +2,8 @@
 
 use ruletable::ByteSet;
 
-/// One node of a grammar: the case of an expression (Ford 2004, section 3, and peg(1)), with the numbers of its operands in
-/// their place.
+/// One node of a grammar: the case of an expression (Ford 2004, section 3, and peg(1)), with the numbers of its
+/// operands in their place.
 #[derive(Drop)]
 pub enum Node {
     /// Any one byte.

@@ -31,7 +31,8 @@ pub(crate) fn notes(
     requires looping { length looping.now ≡ length rules.now.rules }
     ensures { IfOk result (λ notes. AreMarks (IsLeftRecursive (rules_of rules.now)) (rules_of rules.now) recursive.now →
         AreMarks (Loops (rules_of rules.now)) (rules_of rules.now) looping.now →
-        AreNotes (rules_of rules.now) (names_at (rules_of rules.now) redefined.now) (option_copied start.entry) (map said_of notes.items)) }
+        AreNotes (rules_of rules.now) (names_at (rules_of rules.now) redefined.now) (option_copied start.entry)
+        (map said_of notes.items)) }
 {
     let uses = uses_of(alloc, rules, start)?;
     let again = marks_at(alloc, redefined, rules.len())?;
@@ -51,7 +52,8 @@ pub(crate) fn notes(
 /// # Errors
 /// `Memory` where a growth was refused.
 pub fn redefinitions(alloc: Global, peg: &Peg) -> Result<Vec<Note>, Memory>
-    ensures { IfOk result (λ notes. AreRedefinitions (rules_of peg.now.rules) (names_at (rules_of peg.now.rules) peg.now.redefined.items) (map said_of notes.items)) }
+    ensures { IfOk result (λ notes. AreRedefinitions (rules_of peg.now.rules)
+        (names_at (rules_of peg.now.rules) peg.now.redefined.items) (map said_of notes.items)) }
 {
     let again = marks_at(alloc, &peg.redefined, peg.rules.len())?;
     let mut notes = Vec::new(alloc);

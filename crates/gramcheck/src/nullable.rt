@@ -68,7 +68,8 @@ pub(crate) fn nullable(alloc: Global, nodes: &[Node], bodies: &[usize]) -> Resul
     requires built { IsBuilt (shapes_of nodes.now) }
     requires bodies { AreBelow bodies.now (length nodes.now) }
     ensures count { IfOk result (λ marks. length marks.items ≡ length nodes.now) }
-    ensures marks { IfOk result (λ marks. (rules : List Rule) → AreBodies rules (shapes_of nodes.now) bodies.now → AreNullMarks rules (shapes_of nodes.now) marks.items) }
+    ensures marks { IfOk result (λ marks. (rules : List Rule) → AreBodies rules (shapes_of nodes.now) bodies.now
+        → AreNullMarks rules (shapes_of nodes.now) marks.items) }
 {
     let needs = needs(alloc, nodes, bodies)?;
     let marks = least(alloc, &needs)?;

@@ -37,7 +37,8 @@ pub(crate) fn number(
     nodes: &mut Vec<Node>,
 ) -> Result<usize, Memory>
     requires { rules.now.names ≡ NameCase.Exact }
-    ensures { IfOk result (λ n. Numbers (rules_of rules.now) (shapes_of nodes.old.items) (shapes_of nodes.new.items) n (pattern_of e.now)) }
+    ensures { IfOk result (λ n. Numbers (rules_of rules.now) (shapes_of nodes.old.items) (shapes_of nodes.new.items) n
+        (pattern_of e.now)) }
 {
     let node = match e {
         Expr::Any => Node::Any,
@@ -75,7 +76,8 @@ fn number_all(
     nodes: &mut Vec<Node>,
 ) -> Result<Vec<usize>, Memory>
     requires { rules.now.names ≡ NameCase.Exact }
-    ensures { IfOk result (λ ns. NumbersAll (rules_of rules.now) (shapes_of nodes.old.items) (shapes_of nodes.new.items) ns.items (patterns_of members.now)) }
+    ensures { IfOk result (λ ns. NumbersAll (rules_of rules.now) (shapes_of nodes.old.items) (shapes_of nodes.new.items)
+        ns.items (patterns_of members.now)) }
 {
     let mut numbers = Vec::new(alloc);
     for member in members {

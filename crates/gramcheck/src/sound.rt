@@ -36,9 +36,16 @@ impl Model for SoundPeg {
 
     ghost coded = { Prim.hlevel (codes, e.the_row.coded, n.the_row.coded) };
 
-    ghost view = { λ p. record { rules = p.rules; start = p.start; nodes = p.nodes.items; bodies = p.bodies.items; ranks = p.ranks.items } };
+    ghost view = { λ p. record {
+      rules = p.rules;
+      start = p.start;
+      nodes = p.nodes.items;
+      bodies = p.bodies.items;
+      ranks = p.ranks.items;
+    } };
 
-    ghost invariant = { λ p. IsRanked (rules_of p.rules) p.start (shapes_of p.nodes.items) p.bodies.items p.ranks.items };
+    ghost invariant = { λ p. IsRanked (rules_of p.rules) p.start (shapes_of p.nodes.items) p.bodies.items
+        p.ranks.items };
 }
 
 impl SoundPeg {

@@ -23,7 +23,8 @@ pub(crate) struct Uses {
 #[cycle(using_names)]
 fn add_uses(e: &Expr, uses: &mut Uses) -> Result<(), Memory>
     ensures { IfOk result (λ _. (rules : List Rule) (seen : List (List ℕ)) →
-        AreUses rules seen uses.old.names uses.old.ids.items → AreUses rules (seen ++ names_in (pattern_of e.now)) uses.new.names uses.new.ids.items) }
+        AreUses rules seen uses.old.names uses.old.ids.items → AreUses rules (seen ++ names_in (pattern_of e.now))
+        uses.new.names uses.new.ids.items) }
 {
     match e {
         Expr::Name(name) => add_use(name, &mut uses.names, &mut uses.ids),
@@ -47,7 +48,8 @@ fn add_uses(e: &Expr, uses: &mut Uses) -> Result<(), Memory>
 #[cycle(using_names)]
 fn add_all_uses(members: &[Expr], uses: &mut Uses) -> Result<(), Memory>
     ensures { IfOk result (λ _. (rules : List Rule) (seen : List (List ℕ)) →
-        AreUses rules seen uses.old.names uses.old.ids.items → AreUses rules (seen ++ names_in_all (patterns_of members.now)) uses.new.names uses.new.ids.items) }
+        AreUses rules seen uses.old.names uses.old.ids.items
+        → AreUses rules (seen ++ names_in_all (patterns_of members.now)) uses.new.names uses.new.ids.items) }
 {
     for member in members {
         add_uses(member, uses)?;
@@ -57,8 +59,10 @@ fn add_all_uses(members: &[Expr], uses: &mut Uses) -> Result<(), Memory>
 
 // Adds the use of the start rule.
 fn add_start(rules: &RuleTable<Expr>, start: Option<&str>, uses: &mut Uses) -> Result<(), Memory>
-    ensures { IfOk result (λ _. (seen : List (List ℕ)) → AreUses (rules_of rules.now) seen uses.old.names uses.old.ids.items →
-        AreUses (rules_of rules.now) (seen ++ option_to_list (start_of (option_copied start.entry) (rules_of rules.now))) uses.new.names uses.new.ids.items) }
+    ensures { IfOk result (λ _. (seen : List (List ℕ)) → AreUses (rules_of rules.now) seen uses.old.names
+        uses.old.ids.items →
+        AreUses (rules_of rules.now) (seen ++ option_to_list
+        (start_of (option_copied start.entry) (rules_of rules.now))) uses.new.names uses.new.ids.items) }
 {
     match start {
         Some(name) => add_use(name.as_bytes(), &mut uses.names, &mut uses.ids),
@@ -82,7 +86,8 @@ pub(crate) fn uses_of(
 ) -> Result<Uses, Memory>
     requires { rules.now.names ≡ NameCase.Exact }
     ensures { IfOk result (λ uses. AreUses (rules_of rules.now)
-        (option_to_list (start_of (option_copied start.entry) (rules_of rules.now)) ++ names_used (rules_of rules.now)) uses.names uses.ids.items) }
+        (option_to_list (start_of (option_copied start.entry) (rules_of rules.now)) ++ names_used (rules_of rules.now))
+        uses.names uses.ids.items) }
 {
     let names = names_of_rules(alloc, rules, NameCase::Exact)?;
     let mut uses = Uses {

@@ -1,6 +1,7 @@
 -- What came of the start rule on the first piece of a window comes of it on the window.
 -- Serves: run_peg (right)
-use Rattle.std.proofs.Common.{◌≡◌, ◌≢◌, ℕ, ◌<◌, Bool, true, Option, List, ◌++◌, length, refl, sym, subst, arith, length-append}
+use Rattle.std.proofs.Common.{◌≡◌, ◌≢◌, ℕ, ◌<◌, Bool, true, Option, List, ◌++◌, length, refl, sym, subst, arith}
+use Rattle.std.proofs.Common.{length-append}
 use Rattle.std.specs.Prelude.{Result, Ok, Err}
 use Rattle.std.specs.Io.KnownBytes.{Appends}
 use Rattle.ruletable.specs.Writing.{AppendsPart, IsBeginning}
@@ -17,16 +18,20 @@ use Rattle.gramtools.specs.declared.unit.Attempt.TheVariants.{Printed, Failed, T
 use Rattle.gramtools.proofs.TextOfLemmas.{text_same}
 
 module _ (g : Grammar) (front back : List ℕ) (raw : Bool) where
-  gives : (o : Outcome) (looked : ℕ) → looked < length front → StartGives g front o looked → StartGives g (front ++ back) o looked
+  gives : (o : Outcome) (looked : ℕ) → looked < length front → StartGives g front o looked
+      → StartGives g (front ++ back) o looked
   gives o looked lt d = grows_of_start (rules_of g.rules) g.start front back looked o lt d
 
   within : (looked : ℕ) → looked < length front → looked < length (front ++ back)
   within looked lt = omega (arith, length-append front back)
 
-  text_is : (k looked : ℕ) (events : List Event) → StartGives g front (Takes k events) looked → text_of raw (front ++ back) events ≡ text_of raw front events
-  text_is k looked events d = let r = rises_of_start (rules_of g.rules) g.start front k looked events d in text_same raw front back k events r.0 r.1
+  text_is : (k looked : ℕ) (events : List Event) → StartGives g front (Takes k events) looked
+      → text_of raw (front ++ back) events ≡ text_of raw front events
+  text_is k looked events d = let r = rises_of_start (rules_of g.rules) g.start front k looked events d in
+      text_same raw front back k events r.0 r.1
 
-  attempt_longer : (old new : Option (List ℕ)) (r : Result Attempt WriteFault) → IsAttempt g front true raw old new r → r ≢ Ok TooLong →
+  attempt_longer : (old new : Option (List ℕ)) (r : Result Attempt WriteFault) → IsAttempt g front true raw old new r
+      → r ≢ Ok TooLong →
       (more : Bool) → IsAttempt g (front ++ back) more raw old new r
   attempt_longer old new (Ok (Printed k)) (events, looked, d, enough, wrote) other more = (
     events,
@@ -49,11 +54,15 @@ module _ (g : Grammar) (front back : List ℕ) (raw : Bool) where
   )
 
 -- of all bytes that begin with a piece
-pub attempt_behind : (g : Grammar) (front items : List ℕ) (raw : Bool) (old new : Option (List ℕ)) (r : Result Attempt WriteFault) → IsBeginning front items →
+pub attempt_behind : (g : Grammar) (front items : List ℕ) (raw : Bool) (old new : Option (List ℕ))
+    (r : Result Attempt WriteFault) → IsBeginning front items →
     IsAttempt g front true raw old new r → r ≢ Ok TooLong → (more : Bool) → IsAttempt g items more raw old new r
-attempt_behind g front items raw old new r (back, is) a other more = rw is (attempt_longer g front back raw old new r a other more)
+attempt_behind g front items raw old new r (back, is) a other more =
+    rw is (attempt_longer g front back raw old new r a other more)
 
 -- an answer that is there
-pub answered : (g : Grammar) (items : List ℕ) (raw : Bool) (old new : Option (List ℕ)) (r : Result Attempt WriteFault) (more : Bool) →
-    (r ≢ Ok TooLong → (more : Bool) → IsAttempt g items more raw old new r) → r ≢ Ok TooLong → IsAttempt g items more raw old new r
+pub answered : (g : Grammar) (items : List ℕ) (raw : Bool) (old new : Option (List ℕ)) (r : Result Attempt WriteFault)
+    (more : Bool) →
+    (r ≢ Ok TooLong → (more : Bool) → IsAttempt g items more raw old new r) → r ≢ Ok TooLong
+    → IsAttempt g items more raw old new r
 answered g items raw old new r more a other = a other more

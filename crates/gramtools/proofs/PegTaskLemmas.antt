@@ -36,22 +36,27 @@ module _ (text : List ℕ) (settings : Settings) where
   -- a text that was not read
   pub unread-plan : (why : ReadFault) → IsFaultOf text why → Planned [] (Err (unread why))
   unread-plan why faulty =
-      plan_of_unread (States text settings) (IsFaultOf text) (λ input why. refused why) (λ input. no_memory) (λ (t : PegTask). peg_does t settings) why faulty
+      plan_of_unread (States text settings) (IsFaultOf text) (λ input why. refused why) (λ input. no_memory)
+      (λ (t : PegTask). peg_does t settings) why faulty
 
   -- a grammar that was checked, to be run
-  pub run_plan : (notes : List Said) (sound : Option Grammar) → settings.mode ≡ Run → IsChecked text (start_given settings) notes sound →
+  pub run_plan : (notes : List Said) (sound : Option Grammar) → settings.mode ≡ Run
+      → IsChecked text (start_given settings) notes sound →
       Planned (notes_text notes) (run_task sound)
   run_plan notes None run c = record {
     stated = λ input reply is. rw is (noted c.definitions notes c.reads c.are_notes c.ready (λ e. absurd (cc)));
     some = λ input. (stopped (Quiet status.Refused), refl);
   }
   run_plan notes (Some g) run c = record {
-    stated = λ input reply is. let kept = c.ready.1 in runs c.definitions notes g.start reply c.reads c.are_notes c.ready.0 run c.ready.2 (rw kept at is);
-    some = λ input. let goes = units_go_on g settings input c.ready.3 0 [] none in (goes.reply, replied goes.reply goes.replies);
+    stated = λ input reply is. let kept = c.ready.1 in runs c.definitions notes g.start reply c.reads c.are_notes
+        c.ready.0 run c.ready.2 (rw kept at is);
+    some = λ input. let goes = units_go_on g settings input c.ready.3 0 [] none in
+        (goes.reply, replied goes.reply goes.replies);
   }
 
   -- a grammar that was checked alone
-  pub check_plan : (notes : List Said) (sound : Option Grammar) → settings.mode ≡ Check → IsChecked text (start_given settings) notes sound →
+  pub check_plan : (notes : List Said) (sound : Option Grammar) → settings.mode ≡ Check
+      → IsChecked text (start_given settings) notes sound →
       Planned (notes_text notes) (check_task sound)
   check_plan notes None check c = record {
     stated = λ input reply is. rw is (noted c.definitions notes c.reads c.are_notes c.ready (λ e. absurd (cc)));
@@ -63,13 +68,16 @@ module _ (text : List ℕ) (settings : Settings) where
   }
 
   -- a grammar that was read to be printed
-  pub again-plan : (rules : List Rule) (again : List Said) → settings.mode ≡ Print → again ≢ [] → IsPrintable text rules again →
+  pub again-plan : (rules : List Rule) (again : List Said) → settings.mode ≡ Print → again ≢ []
+      → IsPrintable text rules again →
       Planned (notes_text again) (Err (Quiet status.Refused))
   again-plan rules again print some c = record {
     stated = λ input reply is. rw is (again_noted c.definitions again c.reads c.are_again some print);
     some = λ input. (stopped (Quiet status.Refused), refl);
   }
 
-  pub printed-states : (rules : List Rule) → settings.mode ≡ Print → IsPrintable text rules [] → (input : Input) (reply : Reply) →
+  pub printed-states : (rules : List Rule) → settings.mode ≡ Print → IsPrintable text rules []
+      → (input : Input) (reply : Reply) →
       reply ≡ text_alone (grammar_text rules) → States text settings input [] reply
-  printed-states rules print c input reply is = let kept = c.kept in rw (is, kept) (printed c.definitions c.reads c.are_again print)
+  printed-states rules print c input reply is = let kept = c.kept in
+      rw (is, kept) (printed c.definitions c.reads c.are_again print)

@@ -1,6 +1,7 @@
 -- What came of the start rule at the front of a window is a step of the run.
 -- Serves: run_peg (right)
-use Rattle.std.proofs.Common.{◌≡◌, ℕ, zero, suc, ◌<◌, ◌≤◌, Bool, true, false, Option, List, [], length, drop, take, refl, arith, nat_lt, inl, inr, length-drop, length-take, if◌then◌else◌, ◌==◌}
+use Rattle.std.proofs.Common.{◌≡◌, ℕ, zero, suc, ◌<◌, ◌≤◌, Bool, true, false, Option, List, [], length, drop, take}
+use Rattle.std.proofs.Common.{refl, arith, nat_lt, inl, inr, length-drop, length-take, if◌then◌else◌, ◌==◌}
 use Rattle.std.specs.Prelude.{Result, Ok, Err}
 use Rattle.std.proofs.lemmas.Grind.{common_steps}
 use Rattle.std.specs.Io.KnownBytes.{Appends}
@@ -14,7 +15,8 @@ use Rattle.pegmatch.specs.Answers.{StartGives, WasEnough}
 use Rattle.pegmatch.specs.Text.{text_of}
 use Rattle.gramtools.specs.Attempts.{IsAttempt, IsStep, StaysWithin, step_after}
 use Rattle.toolrun.specs.Input.{Input}
-use Rattle.gramtools.specs.Units.{MayRun, GivesAt, IsUnit, Ends, broken, overlong, no_match, finished, empty_before_end, empty_at_end}
+use Rattle.gramtools.specs.Units.{MayRun, GivesAt, IsUnit, Ends, broken, overlong, no_match, finished, empty_before_end}
+use Rattle.gramtools.specs.Units.{empty_at_end}
 use Rattle.toolrun.specs.declared.settings.Settings.{Settings}
 use Rattle.toolrun.specs.declared.status.Status.TheVariants.{Done}
 use Rattle.toolrun.specs.declared.stop.Stop.TheVariants.{Quiet, NoMatch, Broken}
@@ -41,12 +43,14 @@ module _ (g : Grammar) (settings : Settings) (input : Input) (s : ℕ) (inside :
     may_run : MayRun settings input s
     may_run f = let l = length-drop s input.bytes in let lt = may f in omega arith
 
-    gives_at : (o : Outcome) (looked : ℕ) → StartGives g window o looked → WasEnough window more looked → GivesAt (rules_of g.rules) g.start settings input s o
+    gives_at : (o : Outcome) (looked : ℕ) → StartGives g window o looked → WasEnough window more looked
+        → GivesAt (rules_of g.rules) g.start settings input s o
     gives_at o looked d enough =
         let seen_here = seen g rest settings.limit o looked d enough in
         record { may_run = may_run; looked = seen_here.looked; gives = seen_here.gives; within = seen_here.within }
 
-    is_unit : (k : ℕ) (events : List Event) (looked : ℕ) → StartGives g window (Takes k events) looked → WasEnough window more looked →
+    is_unit : (k : ℕ) (events : List Event) (looked : ℕ) → StartGives g window (Takes k events) looked
+        → WasEnough window more looked →
         IsUnit (rules_of g.rules) g.start settings input s k (text_of settings.raw window events)
     is_unit k events looked d enough = record {
       events = events;
@@ -54,21 +58,26 @@ module _ (g : Grammar) (settings : Settings) (input : Input) (s : ℕ) (inside :
       prints = seen_text g rest settings.limit settings.raw k events looked d;
     }
 
-    fails_here : (b : Bool) → (s == length input.bytes) ≡ b → GivesAt (rules_of g.rules) g.start settings input s Fails →
+    fails_here : (b : Bool) → (s == length input.bytes) ≡ b → GivesAt (rules_of g.rules) g.start settings input s
+        Fails →
         Ends (rules_of g.rules) g.start settings input s [] (if b then Quiet Done else NoMatch s)
     fails_here true e d = finished d (grind (arith, common_steps, e))
     fails_here false e d = let h : s < length input.bytes = grind (arith, common_steps, e) in no_match d h
 
-    empty_here : (b : Bool) (text : List ℕ) → (s == length input.bytes) ≡ b → IsUnit (rules_of g.rules) g.start settings input s 0 text →
+    empty_here : (b : Bool) (text : List ℕ) → (s == length input.bytes) ≡ b → IsUnit (rules_of g.rules) g.start settings
+        input s 0 text →
         Ends (rules_of g.rules) g.start settings input s text (if b then Quiet Done else NoMatch s)
     empty_here true text e d = empty_at_end text d (grind (arith, common_steps, e))
-    empty_here false text e d = let h : s < length input.bytes = grind (arith, common_steps, e) in empty_before_end text d h
+    empty_here false text e d = let h : s < length input.bytes = grind (arith, common_steps, e) in
+        empty_before_end text d h
 
-    pub step_is : (old new : Option (List ℕ)) (r : Result Attempt WriteFault) → IsAttempt g window more settings.raw old new r →
+    pub step_is : (old new : Option (List ℕ)) (r : Result Attempt WriteFault) → IsAttempt g window more settings.raw old
+        new r →
         IsStep (rules_of g.rules) g.start settings input s old new (step_after settings.limit s (length input.bytes) r)
     step_is old new (Ok (Printed zero)) (events, looked, d, enough, wrote) =
         inr (_, empty_here (s == length input.bytes) _ refl (is_unit zero events looked d enough), wrote)
-    step_is old new (Ok (Printed (suc n))) (events, looked, d, enough, wrote) = (_, is_unit (suc n) events looked d enough, wrote, omega arith)
+    step_is old new (Ok (Printed (suc n))) (events, looked, d, enough, wrote) =
+        (_, is_unit (suc n) events looked d enough, wrote, omega arith)
     step_is old new (Ok Failed) (looked, d, enough, kept) =
         inr ([], fails_here (s == length input.bytes) refl (gives_at Fails looked d enough), Appends-none old new kept)
     step_is old new (Ok TooLong) (is, d, kept) =
@@ -78,7 +87,8 @@ module _ (g : Grammar) (settings : Settings) (input : Input) (s : ℕ) (inside :
     step_is old new (Ok NoMemory) kept = inl (refl, kept)
     step_is old new (Err fault) (k, events, looked, d, enough, wrote) = (k, _, is_unit k events looked d enough, wrote)
 
-  pub step_fits : (old new : Option (List ℕ)) (r : Result Attempt WriteFault) → IsAttempt g window more settings.raw old new r →
+  pub step_fits : (old new : Option (List ℕ)) (r : Result Attempt WriteFault) → IsAttempt g window more settings.raw old
+      new r →
       StaysWithin (length input.bytes) s (step_after settings.limit s (length input.bytes) r)
   step_fits old new (Ok (Printed zero)) a = tt
   step_fits old new (Ok (Printed (suc n))) (events, looked, d, enough, wrote) =

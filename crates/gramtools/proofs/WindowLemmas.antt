@@ -1,6 +1,7 @@
 -- What a window of at most limit + 1 bytes says of the whole rest.
 -- Serves: run_peg (right)
-use Rattle.std.proofs.Common.{◌≡◌, ℕ, suc, ◌<◌, ◌≤◌, Bool, List, ◌++◌, length, take, drop, sym, ◌∙◌, ap, subst, arith, nat_lt, inl, inr}
+use Rattle.std.proofs.Common.{◌≡◌, ℕ, suc, ◌<◌, ◌≤◌, Bool, List, ◌++◌, length, take, drop, sym, ◌∙◌, ap, subst, arith}
+use Rattle.std.proofs.Common.{nat_lt, inl, inr}
 use Rattle.std.proofs.lemmas.Bool.{cases_lt}
 use Rattle.std.proofs.lemmas.Grind.{common_steps}
 use Rattle.std.proofs.lemmas.List.{take-append-drop, length-take-le, take_all}
@@ -34,14 +35,16 @@ module _ (g : Grammar) (x : List ℕ) (limit : ℕ) where
   full : limit < length x → length window ≡ suc limit
   full h = length-take-le (suc limit) x (omega arith)
 
-  pub seen : (o : Outcome) (looked : ℕ) → StartGives g window o looked → WasEnough window (nat_lt limit (length x)) looked → Seen g x limit o
+  pub seen : (o : Outcome) (looked : ℕ) → StartGives g window o looked → WasEnough window (nat_lt limit (length x))
+      looked → Seen g x limit o
   seen o looked d enough = elim (cases_lt limit (length x)) [
     | inl more ↦
         let lt : looked < length window = enough (grind (arith, common_steps)) in
         let l = full more in
         record {
           looked = looked;
-          gives = subst (λ t. StartGives g t o looked) whole (grows_of_start (rules_of g.rules) g.start window behind looked o lt d);
+          gives = subst (λ t. StartGives g t o looked) whole
+              (grows_of_start (rules_of g.rules) g.start window behind looked o lt d);
           within = omega arith;
         }
     | inr all ↦
@@ -52,7 +55,8 @@ module _ (g : Grammar) (x : List ℕ) (limit : ℕ) where
   ]
 
   -- the text of a success on the window
-  pub seen_text : (raw : Bool) (k : ℕ) (events : List Event) (looked : ℕ) → StartGives g window (Takes k events) looked →
+  pub seen_text : (raw : Bool) (k : ℕ) (events : List Event) (looked : ℕ)
+      → StartGives g window (Takes k events) looked →
       text_of raw window events ≡ text_of raw x events
   seen_text raw k events looked d =
       let r = rises_of_start (rules_of g.rules) g.start window k looked events d in
@@ -67,7 +71,8 @@ module _ (g : Grammar) (x : List ℕ) (limit : ℕ) where
         | inl over ↦ (some.0, some.1, some.2, over)
         | inr le ↦
             let l = full more in
-            let there : StartGives g (window ++ behind) some.0 some.1 = subst (λ t. StartGives g t some.0 some.1) (sym whole) some.2 in
+            let there : StartGives g (window ++ behind) some.0 some.1 =
+            subst (λ t. StartGives g t some.0 some.1) (sym whole) some.2 in
             let here = shrinks_of_start (rules_of g.rules) g.start window behind some.1 some.0 (omega arith) there in
             let same = same_of_start (rules_of g.rules) g.start window some.1 (length window) some.0 o here d in
             absurd (omega (arith, same.looked))

@@ -2,7 +2,8 @@
 ghost use Rattle.std.specs.Prelude.{◌≡◌, ℕ, List, ◌+◌, [], length, false};
 ghost use Rattle.std.specs.Io.KnownBytes.{Consumes};
 ghost use Rattle.ruletable.specs.Writing.{Flags};
-ghost use Rattle.feed.specs.Feed.{IsTrueOfReader, SameLoan, allowance_of, bytes_of, capacity_of, flow_of, input_limit, reader_of};
+ghost use Rattle.feed.specs.Feed.{IsTrueOfReader, SameLoan, allowance_of, bytes_of, capacity_of, flow_of, input_limit};
+ghost use Rattle.feed.specs.Feed.{reader_of};
 ghost use Rattle.pegread.specs.PegViews.{rules_of};
 ghost use Rattle.toolrun.specs.Agrees.{Agrees};
 ghost use Rattle.toolrun.specs.Input.{Input};
@@ -33,9 +34,11 @@ pub fn cut<M: Matcher, R: Source, O: Sink>(
     requires told { IsTrueOfReader R.remaining R.failed feed.old }
     ensures loan { SameLoan feed.old feed.new }
     ensures told { IsTrueOfReader R.remaining R.failed feed.new }
-    ensures units { (seen : List ℕ) × Consumes (R.remaining (reader_of feed.old)) (R.remaining (reader_of feed.new)) seen ×
+    ensures units { (seen : List ℕ) × Consumes (R.remaining (reader_of feed.old)) (R.remaining
+        (reader_of feed.new)) seen ×
         (allowance_of feed.new + length seen ≡ input_limit) ×
-        ((input : Input) → Agrees seen (flow_of feed.new) input → IsCut (rules_of peg.now.rules) peg.now.start settings.now input (length seen)
+        ((input : Input) → Agrees seen (flow_of feed.new) input → IsCut (rules_of peg.now.rules) peg.now.start
+        settings.now input (length seen)
         (O.contents out.old) (O.contents out.new) result) }
     ensures flag { Flags (O.failed out.old) (O.failed out.new) result }
 {

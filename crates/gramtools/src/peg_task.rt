@@ -34,7 +34,8 @@ fn checked(
     grammar: &[u8],
     start: Option<&str>,
 ) -> Result<Checked<SoundPeg>, ReadFault>
-    ensures checked { IfOk result (λ c. IsChecked grammar.now (option_copied start.entry) (map said_of c.notes.items) c.sound) }
+    ensures checked { IfOk result (λ c. IsChecked grammar.now (option_copied start.entry) (map said_of c.notes.items)
+        c.sound) }
     ensures fault { IfErr result (λ f. IsFaultOf grammar.now f) }
 {
     let read = read_peg(alloc, grammar)?;
@@ -67,7 +68,8 @@ fn task_of_check(sound: Option<SoundPeg>) -> Result<PegTask, Stop>
 /// Reads and checks a grammar's text that is to be run.
 fn plan_run(alloc: Global, grammar: &[u8], settings: &Settings<'_>) -> Plan<PegTask>
     requires { settings.now.mode ≡ Run }
-    ensures { IsPlan (States grammar.now settings.now) (notes_text (map said_of result.notes.items)) (does_of (λ t. peg_does t settings.now) result.task) }
+    ensures { IsPlan (States grammar.now settings.now) (notes_text (map said_of result.notes.items))
+        (does_of (λ t. peg_does t settings.now) result.task) }
 {
     match checked(alloc, grammar, settings.start) {
         Ok(Checked { notes, sound }) => Plan {
@@ -84,7 +86,8 @@ fn plan_run(alloc: Global, grammar: &[u8], settings: &Settings<'_>) -> Plan<PegT
 /// Reads and checks a grammar's text, and no more.
 fn plan_check(alloc: Global, grammar: &[u8], settings: &Settings<'_>) -> Plan<PegTask>
     requires { settings.now.mode ≡ Check }
-    ensures { IsPlan (States grammar.now settings.now) (notes_text (map said_of result.notes.items)) (does_of (λ t. peg_does t settings.now) result.task) }
+    ensures { IsPlan (States grammar.now settings.now) (notes_text (map said_of result.notes.items))
+        (does_of (λ t. peg_does t settings.now) result.task) }
 {
     match checked(alloc, grammar, settings.start) {
         Ok(Checked { notes, sound }) => Plan {
@@ -101,7 +104,8 @@ fn plan_check(alloc: Global, grammar: &[u8], settings: &Settings<'_>) -> Plan<Pe
 /// Reads a grammar's text to print it.
 fn plan_print(alloc: Global, grammar: &[u8], settings: &Settings<'_>) -> Plan<PegTask>
     requires { settings.now.mode ≡ Print }
-    ensures { IsPlan (States grammar.now settings.now) (notes_text (map said_of result.notes.items)) (does_of (λ t. peg_does t settings.now) result.task) }
+    ensures { IsPlan (States grammar.now settings.now) (notes_text (map said_of result.notes.items))
+        (does_of (λ t. peg_does t settings.now) result.task) }
 {
     match read_again(alloc, grammar) {
         Ok(Printable { peg, again }) => {

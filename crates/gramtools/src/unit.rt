@@ -2,7 +2,8 @@
 ghost use Rattle.std.specs.Prelude.{◌≡◌, ◌≢◌, ℕ, List, Bool, ◌≤◌, ◌<◌, ◌+◌, ◌++◌, Ok, length, true};
 ghost use Rattle.std.specs.Io.KnownBytes.{Keeps};
 ghost use Rattle.ruletable.specs.Writing.{Flags};
-ghost use Rattle.feed.specs.Feed.{Grows, IsTrueOfReader, SameFeed, SameLoan, allowance_of, bytes_of, capacity_of, flow_of, input_limit};
+ghost use Rattle.feed.specs.Feed.{Grows, IsTrueOfReader, SameFeed, SameLoan, allowance_of, bytes_of, capacity_of};
+ghost use Rattle.feed.specs.Feed.{flow_of, input_limit};
 ghost use Rattle.pegread.specs.PegViews.{rules_of};
 ghost use Rattle.toolrun.specs.Agrees.{Agrees};
 ghost use Rattle.gramtools.specs.Attempts.{IsAttempt, IsStep, IsStepOn, StaysWithin, step_after, stop_at};
@@ -92,8 +93,8 @@ fn step_of(
     }
 }
 
-/// Runs the start rule on the first piece of what a feed holds, where that is most of it but not all. `TooLong` puts the
-/// answer off.
+/// Runs the start rule on the first piece of what a feed holds, where that is most of it but not all. `TooLong` puts
+/// the answer off.
 #[inline(always)]
 fn attempt_front<M: Matcher, R: Source, O: Sink>(
     matcher: &mut M,
@@ -176,7 +177,8 @@ fn unit_at<M: Matcher, R: Source, O: Sink>(
     requires some { more ≡ true → 0 < length (bytes_of feed.old) }
     requires within { start + length (bytes_of feed.old) ≤ input_limit }
     ensures same { SameFeed feed.old feed.new }
-    ensures follows { IsStepOn peg.now (bytes_of feed.old) more settings.now start (O.contents out.old) (O.contents out.new) result }
+    ensures follows { IsStepOn peg.now (bytes_of feed.old) more settings.now start (O.contents out.old)
+        (O.contents out.new) result }
     ensures flag { Flags (O.failed out.old) (O.failed out.new) result }
 {
     let end = start + feed.len();
@@ -200,8 +202,10 @@ pub fn next_unit<M: Matcher, R: Source, O: Sink>(
     ensures loan { SameLoan feed.old feed.new }
     ensures told { IsTrueOfReader R.remaining R.failed feed.new }
     ensures grows { Grows R.remaining feed.old feed.new }
-    ensures follows { (before : List ℕ) (input : Input) → length before ≡ start → Agrees (before ++ bytes_of feed.new) (flow_of feed.new) input →
-        IsStep (rules_of peg.now.rules) peg.now.start settings.now input start (O.contents out.old) (O.contents out.new) result ×
+    ensures follows { (before : List ℕ) (input : Input) → length before ≡ start → Agrees (before
+        ++ bytes_of feed.new) (flow_of feed.new) input →
+        IsStep (rules_of peg.now.rules) peg.now.start settings.now input start (O.contents out.old) (O.contents out.new)
+        result ×
         (length (before ++ bytes_of feed.new) ≡ taken_at settings.now input start) }
     ensures fits { StaysWithin (start + length (bytes_of feed.new)) start result }
     ensures flag { Flags (O.failed out.old) (O.failed out.new) result }

@@ -1,4 +1,5 @@
-//! The checks of whole texts: their notes, the grammars by which lines can be judged, and their rules that derive the empty string.
+//! The checks of whole texts: their notes, the grammars by which lines can be judged, and their rules that derive the
+//! empty string.
 use abnfcheck::{
     SoundAbnf, check_abnf, derivation_is_decided, furthest_is_found, one_list_of_abnf_notes,
     productive,

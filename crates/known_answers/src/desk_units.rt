@@ -14,7 +14,8 @@ use std::test::Fail;
 // Rules that share an action.
 const SHARED: &[u8] = b"S <- A A 'x'\nA <- B B\nB <- {b}";
 
-// A grammar, a window that is the whole rest, what a match answers, with a cell for each evaluation, and what it prints.
+// A grammar, a window that is the whole rest, what a match answers, with a cell for each evaluation, and what it
+// prints.
 type Row = (&'static [u8], &'static [u8], Unit, &'static [u8]);
 
 static ROWS: [Row; 8] = [
@@ -218,8 +219,8 @@ static GRAMMARS: [(&[u8], bool, &[&[u8]]); 8] = [
     (b"S <- &. A !.\nA <- < 'a' 'b'? > {yytext}", true, &[b"ab"]),
     (b"S <- 'x' 'y' / 'x' 'z' {z}", true, &[b"xz"]),
     (
-        b"L <- W S E {print} / <(!E .)*> E {no yytext}\nS <- P ('+' W P {add} / '-' W P {sub})*\nP <- V ('*' W V {mul})*\n\
-          V <- <[0-9]+> W {push yytext} / '(' W S ')' W\nW <- [ \\t]*\nE <- '\\n' / !.",
+        b"L <- W S E {print} / <(!E .)*> E {no yytext}\nS <- P ('+' W P {add} / '-' W P {sub})*\n\
+          P <- V ('*' W V {mul})*\nV <- <[0-9]+> W {push yytext} / '(' W S ')' W\nW <- [ \\t]*\nE <- '\\n' / !.",
         false,
         &[b"1 + 2*(3-4)\n", b"1 + + 2\n", b"((7))*8"],
     ),

@@ -60,7 +60,8 @@ static NOTED: [Row; 39] = [
     (
         b"S <- X L\nL <- L 'b'\nU <- ('c'?)+\nS <- 'a'",
         None,
-        b"rule 'S' redefined\nrule 'X' used but not defined\nrule 'U' defined but not used\npossible infinite left recursion in rule 'L'\npossible infinite loop in rule 'U'\n",
+        b"rule 'S' redefined\nrule 'X' used but not defined\nrule 'U' defined but not used\n\
+          possible infinite left recursion in rule 'L'\npossible infinite loop in rule 'U'\n",
         false,
     ),
     // left recursion past predicates, options, actions and rules that may take nothing
@@ -107,7 +108,8 @@ static NOTED: [Row; 39] = [
     (
         b"S <- A 'x'\nA <- B\nB <- C 'a'\nC <- B 'b' / S",
         None,
-        b"possible infinite left recursion in rule 'S'\npossible infinite left recursion in rule 'A'\npossible infinite left recursion in rule 'B'\npossible infinite left recursion in rule 'C'\n",
+        b"possible infinite left recursion in rule 'S'\npossible infinite left recursion in rule 'A'\n\
+          possible infinite left recursion in rule 'B'\npossible infinite left recursion in rule 'C'\n",
         false,
     ),
     (
@@ -166,7 +168,8 @@ static NOTED: [Row; 39] = [
     (
         b"S <- Y 'a' X Y\nT <- Z X S",
         None,
-        b"rule 'Y' used but not defined\nrule 'X' used but not defined\nrule 'Z' used but not defined\nrule 'T' defined but not used\n",
+        b"rule 'Y' used but not defined\nrule 'X' used but not defined\nrule 'Z' used but not defined\n\
+          rule 'T' defined but not used\n",
         false,
     ),
     // redefinitions once a rule, in the order of the rules; a dropped body uses nothing and repeats nothing

@@ -206,7 +206,8 @@ fn sets_are_bounded(rt: HostRuntime) -> Result<(), Fail> {
     Ok(())
 }
 
-// By a limit of 5 letters the grammar has 94 places: 83 of the core rules, 7 of the repetition, 2 of its operand, 2 of the whole.
+// By a limit of 5 letters the grammar has 94 places: 83 of the core rules, 7 of the repetition, 2 of its operand, 2 of
+// the whole.
 #[test]
 fn sets_are_bounded_by_the_limit_of_a_line(rt: HostRuntime) -> Result<(), Fail> {
     let flat = grammar(rt.alloc(), "s = 100000*\"a\"\n", 5)?;

@@ -34,7 +34,8 @@ impl Judge<u8> for Short {
     fn decided(&self) {}
 }
 
-/// An input, what is written where lines may have 4 bytes and those of at most 2 are answered by yes, and how the run ends.
+/// An input, what is written where lines may have 4 bytes and those of at most 2 are answered by yes, and how the run
+/// ends.
 static ROWS: [(&[u8], &[u8], Stop); 8] = [
     (b"", b"", Stop::Quiet(Status::Done)),
     (b"\n", b"yes\n", Stop::Quiet(Status::Done)),

@@ -43,8 +43,8 @@ pub(crate) fn end_of(unit: Unit) -> Option<usize> {
     }
 }
 
-// A grammar, a window that is the whole rest, whether actions print verbatim, how many bytes the unit takes if the start rule
-// succeeds, and what it prints.
+// A grammar, a window that is the whole rest, whether actions print verbatim, how many bytes the unit takes if the
+// start rule succeeds, and what it prints.
 type Row = (
     &'static [u8],
     &'static [u8],

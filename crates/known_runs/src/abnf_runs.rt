@@ -6,8 +6,8 @@ use commands::Program;
 use gramtools::{Alphabet, Mode, Status};
 use std::process::Abort;
 
-// A grammar, the judged rule, how many bytes a line may have, an input, what is to come on both outputs, the status, and how
-// many bytes of the input are left to the reader.
+// A grammar, the judged rule, how many bytes a line may have, an input, what is to come on both outputs, the status,
+// and how many bytes of the input are left to the reader.
 pub type AbnfRow = (
     &'static [u8],
     Option<&'static str>,

@@ -261,8 +261,8 @@ fn runs_each_row(rt: HostRuntime) -> Result<(), Fail> {
     check_rows(&rt, Program::Pegi, "pegi_rows.peg", &ROWS)
 }
 
-/// What stands before and behind a text that is repeated, how often, how often the text `)` follows, what is told, and the
-/// status.
+/// What stands before and behind a text that is repeated, how often, how often the text `)` follows, what is told, and
+/// the status.
 static LIMITS: [(&str, &str, &str, usize, usize, &[u8], Status); 4] = [
     ("S <- ", "(", "'a'", 200, 200, b"", Status::Done),
     (

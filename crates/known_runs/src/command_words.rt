@@ -156,11 +156,13 @@ fn ends_without_a_run(rt: HostRuntime) -> Result<(), Fail> {
 static INVALID_UTF8: [(Program, &str); 2] = [
     (
         Program::Pegi,
-        "error: invalid UTF-8 was detected in one or more arguments\n\nUsage: pegi [OPTIONS] <GRAMMAR>\n\nFor more information, try '--help'.\n",
+        "error: invalid UTF-8 was detected in one or more arguments\n\n\
+         Usage: pegi [OPTIONS] <GRAMMAR>\n\nFor more information, try '--help'.\n",
     ),
     (
         Program::Abnfi,
-        "error: invalid UTF-8 was detected in one or more arguments\n\nUsage: abnfi [OPTIONS] <GRAMMAR>\n\nFor more information, try '--help'.\n",
+        "error: invalid UTF-8 was detected in one or more arguments\n\n\
+         Usage: abnfi [OPTIONS] <GRAMMAR>\n\nFor more information, try '--help'.\n",
     ),
 ];
 

@@ -10,8 +10,8 @@ mod grammars;
 mod units;
 mod writers;
 
-/// A grammar, how many bytes a unit may look at, an input, what is to come on both outputs, the status, and how many bytes
-/// of the input are left to the reader.
+/// A grammar, how many bytes a unit may look at, an input, what is to come on both outputs, the status, and how many
+/// bytes of the input are left to the reader.
 type Row = (
     &'static [u8],
     usize,

@@ -1,9 +1,12 @@
 -- Lists that share one vector of links, as it grows.
 -- Serves: derive, least
-use Rattle.std.proofs.Common.{◌≡◌, ℕ, zero, suc, ◌+◌, ◌-◌, ◌<◌, ◌≤◌, List, [], ◌∷◌, ◌++◌, length, take, get_or, set, refl, sym, ap, subst, arith, ⊎_elim, ◌∙◌, Some, replicate, append_assoc, add-one, Contains}
+use Rattle.std.proofs.Common.{◌≡◌, ℕ, zero, suc, ◌+◌, ◌-◌, ◌<◌, ◌≤◌, List, [], ◌∷◌, ◌++◌, length, take, get_or, set}
+use Rattle.std.proofs.Common.{refl, sym, ap, subst, arith, ⊎_elim, ◌∙◌, Some, replicate, append_assoc, add-one}
+use Rattle.std.proofs.Common.{Contains}
 use Rattle.std.specs.Prelude.{slice_get}
 use Rattle.std.proofs.lemmas.Bool.{cases_eq, cases_lt}
-use Rattle.std.proofs.lemmas.List.{get_or_past, get_or-set_same, get_or-set_other, length-set, length-replicate, get_or-replicate, append-nil}
+use Rattle.std.proofs.lemmas.List.{get_or_past, get_or-set_same, get_or-set_other, length-set, length-replicate}
+use Rattle.std.proofs.lemmas.List.{get_or-replicate, append-nil}
 use Rattle.std.proofs.Math.Seq.{take-suc}
 use Rattle.std.proofs.lemmas.Option.{slice_get_within}
 use Rattle.leastset.specs.declared.needs.Link.{Link}
@@ -13,7 +16,8 @@ use Rattle.leastset.specs.NeedCounts.{IsQueue, Told}
 use Rattle.leastset.specs.StepRows.{row_at}
 use Rattle.leastset.specs.UserLists.{Chain, end, link, first_of, AreLists, AddsAll, HoldUsersTo, HoldUsers, IsTelling}
 use Rattle.leastset.proofs.ContainsLemmas.{in_first, in_later}
-use Rattle.leastset.proofs.IsDerivedLemmas.{empty_row, added_one, added_none, added_push, users_none, users_next, users_all}
+use Rattle.leastset.proofs.IsDerivedLemmas.{empty_row, added_one, added_none, added_push, users_none, users_next}
+use Rattle.leastset.proofs.IsDerivedLemmas.{users_all}
 use Rattle.leastset.proofs.ToldLemmas.{other_default, told_none, told_push}
 
 get_before : (xs ys : List Link) (k : ℕ) {l : Link} → slice_get xs k ≡ Some l → slice_get (xs ++ ys) k ≡ Some l
@@ -48,7 +52,8 @@ lists_none users count is = record {
     none : (m : ℕ) → first_of users m ≡ 0
     none m = ⊎_elim
         (λ lt. rw is (get_or-replicate count m 0 0 lt))
-        (λ le. let l = ap length is ∙ length-replicate count 0 in get_or_past users.firsts.items m 0 (omega (arith, l, le)))
+        (λ le. let l = ap length is ∙ length-replicate count 0 in
+        get_or_past users.firsts.items m 0 (omega (arith, l, le)))
         (cases_lt m count)
 
 lists_add : (old new : Users) (m n first : ℕ) (rows : List (List ℕ)) → m < length old.firsts.items →
@@ -56,7 +61,8 @@ lists_add : (old new : Users) (m n first : ℕ) (rows : List (List ℕ)) → m <
     first ≡ length old.links.items + 1 → new.firsts.items ≡ set old.firsts.items m first →
     AreLists old rows → AreLists new (set rows m (n ∷ row_at rows m))
 lists_add old new m n first rows lt links is firsts a = record {
-  count = ap length firsts ∙ length-set old.firsts.items m first ∙ a.count ∙ sym (length-set rows m (n ∷ row_at rows m));
+  count = ap length firsts ∙ length-set old.firsts.items m first ∙ a.count
+      ∙ sym (length-set rows m (n ∷ row_at rows m));
   list = λ k. rw (firsts, links) (⊎_elim
       (λ same. rw (
         same,

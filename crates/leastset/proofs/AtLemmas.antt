@@ -1,6 +1,7 @@
 -- What stands at an index of a list.
 -- Serves: on_cycle, least, derive
-use Rattle.std.proofs.Common.{◌≡◌, ◌≢◌, ℕ, zero, suc, ◌+◌, ◌<◌, ◌≤◌, List, [], ◌∷◌, ◌++◌, length, take, drop, set, Contains, refl, sym, ap, arith, ⊎_elim, inl, inr, ◌⊎◌, ◌∙◌, Some}
+use Rattle.std.proofs.Common.{◌≡◌, ◌≢◌, ℕ, zero, suc, ◌+◌, ◌<◌, ◌≤◌, List, [], ◌∷◌, ◌++◌, length, take, drop, set}
+use Rattle.std.proofs.Common.{Contains, refl, sym, ap, arith, ⊎_elim, inl, inr, ◌⊎◌, ◌∙◌, Some}
 use Rattle.leastset.specs.Way.{At}
 use Rattle.leastset.proofs.ContainsLemmas.{in_get, get_in}
 

@@ -1,19 +1,22 @@
 -- The search ends the last part of its path.
 -- Serves: on_cycle (marks)
-use Rattle.std.proofs.Common.{◌≡◌, ◌⊎◌, ℕ, ◌+◌, ◌<◌, ◌≤◌, List, [], ◌∷◌, ◌++◌, length, take, drop, refl, sym, subst, ⊎_elim, inl, inr, arith, length-drop, ◌∙◌}
+use Rattle.std.proofs.Common.{◌≡◌, ◌⊎◌, ℕ, ◌+◌, ◌<◌, ◌≤◌, List, [], ◌∷◌, ◌++◌, length, take, drop, refl, sym, subst}
+use Rattle.std.proofs.Common.{⊎_elim, inl, inr, arith, length-drop, ◌∙◌}
 use Rattle.std.proofs.lemmas.Bool.{cases_eq, cases_lt}
 use Rattle.std.proofs.lemmas.List.{length-take}
 use Rattle.std.proofs.lemmas.Option.{slice_get_within}
 use Rattle.leastset.specs.Leads.{Leads, one, more}
 use Rattle.leastset.specs.NumberMarks.{IsMarked}
 use Rattle.leastset.specs.StepRows.{Step}
-use Rattle.leastset.specs.Way.{Way, At, AreOfOnePart, IsSeen, to_done, to_later, to_same, to_ahead, IsKept, IsWay, Closes}
+use Rattle.leastset.specs.Way.{Way, At, AreOfOnePart, IsSeen, to_done, to_later, to_same, to_ahead, IsKept, IsWay}
+use Rattle.leastset.specs.Way.{Closes}
 use Rattle.leastset.specs.declared.cycles.Part.{Part}
 use Rattle.leastset.specs.declared.cycles.Place.{Place}
 use Rattle.leastset.specs.declared.cycles.Place.TheVariants as place
 use Rattle.leastset.proofs.LeadsLemmas.{joined}
 use Rattle.leastset.proofs.OpensLemmas.{same_way}
-use Rattle.leastset.proofs.AtLemmas.{at_one, at_append_left, at_push, at_push_cases, at_take, take_at, drop_in, in_drop, at_some}
+use Rattle.leastset.proofs.AtLemmas.{at_one, at_append_left, at_push, at_push_cases, at_take, take_at, drop_in, in_drop}
+use Rattle.leastset.proofs.AtLemmas.{at_some}
 
 -- from the last part steps lead to what is done, or into it: behind, or to what is marked
 module _ (rows : List (List ℕ)) (w : Way) (parts' : List Part) (last : Part) (g : IsWay rows w)

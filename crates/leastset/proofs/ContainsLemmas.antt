@@ -1,6 +1,7 @@
 -- Members of lists.
 -- Serves: derive, least, mark, on_cycle, reached, are_below
-use Rattle.std.proofs.Common.{◌≡◌, ℕ, zero, suc, List, [], ◌∷◌, Contains, refl, arith, ap, ⊎_elim, inl, inr, ◌⊎◌, ◌∙◌, Some}
+use Rattle.std.proofs.Common.{◌≡◌, ℕ, zero, suc, List, [], ◌∷◌, Contains, refl, arith, ap, ⊎_elim, inl, inr, ◌⊎◌, ◌∙◌}
+use Rattle.std.proofs.Common.{Some}
 use Rattle.std.specs.Prelude.{slice_get}
 use Rattle.std.proofs.lemmas.Option.{slice_get_within, get_or_from_slice_get, slice_get-get_or}
 

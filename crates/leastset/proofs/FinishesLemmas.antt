@@ -1,6 +1,7 @@
 -- Places set to `Done` one by one.
 -- Serves: on_cycle (marks)
-use Rattle.std.proofs.Common.{◌≡◌, ℕ, ◌+◌, ◌<◌, List, [], ◌∷◌, ◌++◌, length, take, get_or, set, Contains, refl, sym, subst, ⊎_elim, inl, inr, add-one, ◌∙◌}
+use Rattle.std.proofs.Common.{◌≡◌, ℕ, ◌+◌, ◌<◌, List, [], ◌∷◌, ◌++◌, length, take, get_or, set, Contains, refl, sym}
+use Rattle.std.proofs.Common.{subst, ⊎_elim, inl, inr, add-one, ◌∙◌}
 use Rattle.std.proofs.lemmas.Bool.{cases_eq}
 use Rattle.std.proofs.lemmas.List.{length-set}
 use Rattle.std.proofs.lemmas.List.Elements.{Contains-push, Contains-push_cases, Contains-append_left}

@@ -1,16 +1,22 @@
 -- The order is the least set that contains each number whose need it meets.
 -- Serves: derive, least
-use Rattle.std.proofs.Common.{◌≡◌, ℕ, zero, suc, ◌+◌, ◌-◌, ◌<◌, ◌≤◌, List, [], ◌∷◌, ◌++◌, length, take, get_or, set, refl, sym, ap, subst, arith, ⊎_elim, ◌∙◌, Contains, add-one, Some, replicate}
+use Rattle.std.proofs.Common.{◌≡◌, ℕ, zero, suc, ◌+◌, ◌-◌, ◌<◌, ◌≤◌, List, [], ◌∷◌, ◌++◌, length, take, get_or, set}
+use Rattle.std.proofs.Common.{refl, sym, ap, subst, arith, ⊎_elim, ◌∙◌, Contains, add-one, Some, replicate}
 use Rattle.std.specs.Prelude.{slice_get}
 use Rattle.std.proofs.lemmas.Bool.{cases_eq, cases_lt}
-use Rattle.std.proofs.lemmas.List.{get_or_past, get_or-set_same, get_or-set_other, length-set, length-replicate, get_or-replicate, get_or-map, length-map, take-append-le, take_all, get_or_append_left}
+use Rattle.std.proofs.lemmas.List.{get_or_past, get_or-set_same, get_or-set_other, length-set, length-replicate}
+use Rattle.std.proofs.lemmas.List.{get_or-replicate, get_or-map, length-map, take-append-le, take_all}
+use Rattle.std.proofs.lemmas.List.{get_or_append_left}
 use Rattle.std.proofs.lemmas.Option.{slice_get_within, get_or_from_slice_get, slice_get-get_or}
 use Rattle.std.proofs.Math.Seq.{take-suc}
 use Rattle.leastset.proofs.ContainsLemmas.{in_get}
 use Rattle.leastset.specs.Demands.{Demand, All, One, row_of, IsMet, IsDerived}
-use Rattle.leastset.specs.NeedCounts.{once, times, met, count_of, counts_of, left_of, Added, AreUsersTo, AreUsers, IsQueue, Told, IsComing}
+use Rattle.leastset.specs.NeedCounts.{once, times, met, count_of, counts_of, left_of, Added, AreUsersTo, AreUsers}
+use Rattle.leastset.specs.NeedCounts.{IsQueue, Told, IsComing}
 use Rattle.leastset.specs.StepRows.{row_at}
-use Rattle.leastset.proofs.TimesLemmas.{once_same, once_other, times-append, times_in, in_times, times_take, times_earlier, one_place, met_push, met_none, met_mono, met_all, all_met, met_one, one_met}
+use Rattle.leastset.proofs.TimesLemmas.{once_same, once_other, times-append, times_in, in_times, times_take}
+use Rattle.leastset.proofs.TimesLemmas.{times_earlier, one_place, met_push, met_none, met_mono, met_all, all_met}
+use Rattle.leastset.proofs.TimesLemmas.{met_one, one_met}
 
 -- n was put before the row of x
 pub added_one : (rows : List (List ℕ)) (x n : ℕ) → x < length rows →
@@ -19,7 +25,8 @@ added_one rows x n lt = record {
   count = length-set rows x (n ∷ row_at rows x);
   own = λ m low. ⊎_elim
       (λ is.
-      let s = ap (λ v. times v n) (subst (λ v. row_at (set rows x (n ∷ row_at rows x)) v ≡ n ∷ row_at rows x) (sym is) (same x lt)) in
+      let s = ap (λ v. times v n) (subst (λ v. row_at (set rows x (n ∷ row_at rows x)) v ≡ n ∷ row_at rows x) (sym is)
+      (same x lt)) in
       let k = once_same n in
       let e = subst (λ v. once x v ≡ 1) (sym is) (once_same x) in
       let o = ap (λ v. times (row_at rows v) n) is in
@@ -31,7 +38,8 @@ added_one rows x n lt = record {
       (cases_eq m x);
   other = λ m k ne. ⊎_elim
       (λ is.
-      let s = ap (λ v. times v k) (subst (λ v. row_at (set rows x (n ∷ row_at rows x)) v ≡ n ∷ row_at rows x) (sym is) (same x lt)) in
+      let s = ap (λ v. times v k) (subst (λ v. row_at (set rows x (n ∷ row_at rows x)) v ≡ n ∷ row_at rows x) (sym is)
+      (same x lt)) in
       let e = once_other n k (λ v. ne (sym v)) in
       let o = ap (λ v. times (row_at rows v) k) is in
       omega (arith, s, e, o))

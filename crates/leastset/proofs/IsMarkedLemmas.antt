@@ -1,6 +1,8 @@
 -- Marks set one by one.
 -- Serves: mark, marks_of, some_marked, on_cycle (marks), reached
-use Rattle.std.proofs.Common.{◌≡◌, ℕ, zero, suc, ◌+◌, ◌<◌, Bool, true, false, List, [], ◌∷◌, ◌++◌, length, take, get_or, set, Contains, refl, sym, subst, arith, ⊎_elim, inl, inr, add-one, ◌⊎◌, ◌∙◌, replicate, drop}
+use Rattle.std.proofs.Common.{◌≡◌, ℕ, zero, suc, ◌+◌, ◌<◌, Bool, true, false, List, [], ◌∷◌, ◌++◌, length, take, get_or}
+use Rattle.std.proofs.Common.{set, Contains, refl, sym, subst, arith, ⊎_elim, inl, inr, add-one, ◌⊎◌, ◌∙◌, replicate}
+use Rattle.std.proofs.Common.{drop}
 use Rattle.std.proofs.lemmas.Bool.{cases_eq, cases_lt, both_ways}
 use Rattle.std.proofs.lemmas.List.{get_or_past, get_or-set_same, get_or-set_other, length-set}
 use Rattle.std.proofs.lemmas.List.Elements.{Contains-push, Contains-push_cases, Contains-append_left}

@@ -1,12 +1,14 @@
 -- A step back to the path joins parts.
 -- Serves: on_cycle (marks)
-use Rattle.std.proofs.Common.{◌≡◌, ◌⊎◌, ℕ, ◌<◌, ◌≤◌, true, List, [], ◌∷◌, ◌++◌, length, set, sym, subst, ⊎_elim, inl, inr, arith, ◌∙◌}
+use Rattle.std.proofs.Common.{◌≡◌, ◌⊎◌, ℕ, ◌<◌, ◌≤◌, true, List, [], ◌∷◌, ◌++◌, length, set, sym, subst, ⊎_elim, inl}
+use Rattle.std.proofs.Common.{inr, arith, ◌∙◌}
 use Rattle.std.proofs.lemmas.Bool.{cases_eq, cases_lt}
 use Rattle.std.proofs.lemmas.List.{length-set}
 use Rattle.std.proofs.lemmas.Option.{slice_get_within}
 use Rattle.leastset.specs.Leads.{Leads}
 use Rattle.leastset.specs.NumberMarks.{IsMarked}
-use Rattle.leastset.specs.Way.{Way, At, IsSeen, to_done, to_later, to_same, to_ahead, IsKept, IsWay, IsOwing, IsSource, Joins, Meets}
+use Rattle.leastset.specs.Way.{Way, At, IsSeen, to_done, to_later, to_same, to_ahead, IsKept, IsWay, IsOwing, IsSource}
+use Rattle.leastset.specs.Way.{Joins, Meets}
 use Rattle.leastset.specs.declared.cycles.Part.{Part}
 use Rattle.leastset.specs.declared.cycles.Place.TheVariants as place
 use Rattle.leastset.proofs.JoinsLemmas.{last_of}

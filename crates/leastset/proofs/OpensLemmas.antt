@@ -1,17 +1,20 @@
 -- A number appended to the path.
 -- Serves: on_cycle (marks)
-use Rattle.std.proofs.Common.{◌≡◌, ◌≢◌, ◌⊎◌, ℕ, ◌+◌, ◌<◌, ◌≤◌, Bool, List, [], ◌∷◌, ◌++◌, length, set, sym, ap, subst, ⊎_elim, inl, inr, arith, length-append}
+use Rattle.std.proofs.Common.{◌≡◌, ◌≢◌, ◌⊎◌, ℕ, ◌+◌, ◌<◌, ◌≤◌, Bool, List, [], ◌∷◌, ◌++◌, length, set, sym, ap, subst}
+use Rattle.std.proofs.Common.{⊎_elim, inl, inr, arith, length-append}
 use Rattle.std.proofs.lemmas.Bool.{cases_eq, cases_lt}
 use Rattle.std.proofs.lemmas.List.{length-set}
 use Rattle.std.proofs.lemmas.Option.{slice_get_within}
 use Rattle.leastset.proofs.ContainsLemmas.{get_in, in_get}
 use Rattle.leastset.specs.Leads.{Leads, one, more}
 use Rattle.leastset.specs.StepRows.{Step, row_at}
-use Rattle.leastset.specs.Way.{Way, At, IsSeen, to_done, to_later, to_same, to_ahead, IsKept, IsWay, IsOwing, IsSource, Opens}
+use Rattle.leastset.specs.Way.{Way, At, IsSeen, to_done, to_later, to_same, to_ahead, IsKept, IsWay, IsOwing, IsSource}
+use Rattle.leastset.specs.Way.{Opens}
 use Rattle.leastset.specs.declared.cycles.Part.{Part}
 use Rattle.leastset.specs.declared.cycles.Place.{Place}
 use Rattle.leastset.specs.declared.cycles.Place.TheVariants as place
-use Rattle.leastset.proofs.AtLemmas.{at_one, at_append_left, at_append_right, at_append_cases, at_push, at_push_cases, set_same, set_other, set_cases}
+use Rattle.leastset.proofs.AtLemmas.{at_one, at_append_left, at_append_right, at_append_cases, at_push, at_push_cases}
+use Rattle.leastset.proofs.AtLemmas.{set_same, set_other, set_cases}
 
 module _ (rows : List (List ℕ)) where
   pub same_way : (p p' : List Place) (h h' a a' : List ℕ) (q q' : List Part) (m m' : List Bool) → p' ≡ p → h' ≡ h →

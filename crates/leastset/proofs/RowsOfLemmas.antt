@@ -1,6 +1,7 @@
 -- Rows and needs of the code, read as lists.
 -- Serves: least, derive, reached, on_cycle
-use Rattle.std.proofs.Common.{◌≡◌, ℕ, zero, suc, ◌<◌, List, [], ◌∷◌, length, get_or, Contains, Some, refl, sym, ap, arith, Vec, Global}
+use Rattle.std.proofs.Common.{◌≡◌, ℕ, zero, suc, ◌<◌, List, [], ◌∷◌, length, get_or, Contains, Some, refl, sym, ap}
+use Rattle.std.proofs.Common.{arith, Vec, Global}
 use Rattle.std.specs.Prelude.{slice_get}
 use Rattle.std.specs.Borrow.{Bor}
 use Rattle.std.proofs.lemmas.List.{length-map}

@@ -1,13 +1,15 @@
 -- Ranks set as parts end.
 -- Serves: on_cycle (ranks)
-use Rattle.std.proofs.Common.{◌≡◌, ℕ, zero, suc, ◌+◌, ◌<◌, ◌≤◌, List, [], ◌∷◌, ◌++◌, length, take, drop, get_or, set, replicate, Contains, refl, sym, ap, subst, arith, ⊎_elim, inl, inr, add-one, ◌∙◌}
+use Rattle.std.proofs.Common.{◌≡◌, ℕ, zero, suc, ◌+◌, ◌<◌, ◌≤◌, List, [], ◌∷◌, ◌++◌, length, take, drop, get_or, set}
+use Rattle.std.proofs.Common.{replicate, Contains, refl, sym, ap, subst, arith, ⊎_elim, inl, inr, add-one, ◌∙◌}
 use Rattle.std.proofs.lemmas.Bool.{cases_eq, cases_lt}
 use Rattle.std.proofs.lemmas.List.{length-set, get_or-set_same, get_or-set_other, get_or_past}
 use Rattle.std.proofs.lemmas.List.Elements.{Contains-push, Contains-push_cases, Contains-append_left}
 use Rattle.std.proofs.Math.Seq.{take-suc}
 use Rattle.leastset.specs.Leads.{AreRanksBut}
 use Rattle.leastset.specs.NumberMarks.{IsMarked}
-use Rattle.leastset.specs.Way.{Way, At, IsWay, IsThrough, Opens, Meets, Closes, Tally, SetsAll, IsRanked, KeepsDone, Ranks, undone, rank_at}
+use Rattle.leastset.specs.Way.{Way, At, IsWay, IsThrough, Opens, Meets, Closes, Tally, SetsAll, IsRanked, KeepsDone}
+use Rattle.leastset.specs.Way.{Ranks, undone, rank_at}
 use Rattle.leastset.specs.declared.cycles.Part.{Part}
 use Rattle.leastset.specs.declared.cycles.Place.{Place}
 use Rattle.leastset.specs.declared.cycles.Place.TheVariants as place

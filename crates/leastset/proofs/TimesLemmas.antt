@@ -1,6 +1,7 @@
 -- How often numbers stand in lists, and how many entries of a row stand in an order.
 -- Serves: derive, least
-use Rattle.std.proofs.Common.{◌≡◌, ℕ, zero, suc, ◌+◌, ◌≤◌, Bool, true, false, List, [], ◌∷◌, ◌++◌, length, take, drop, Contains, refl, sym, ap, subst, arith, ⊎_elim, inl, inr, ◌⊎◌, ◌∙◌, Some}
+use Rattle.std.proofs.Common.{◌≡◌, ℕ, zero, suc, ◌+◌, ◌≤◌, Bool, true, false, List, [], ◌∷◌, ◌++◌, length, take, drop}
+use Rattle.std.proofs.Common.{Contains, refl, sym, ap, subst, arith, ⊎_elim, inl, inr, ◌⊎◌, ◌∙◌, Some}
 use Rattle.std.specs.Prelude.{slice_get, nat_eq}
 use Rattle.std.proofs.lemmas.Bool.{cases_eq, eq-eqb, eqb-true}
 use Rattle.std.proofs.lemmas.List.{take-append-drop}

@@ -1,12 +1,14 @@
 -- Each turn of the search leaves fewer turns.
 -- Serves: on_cycle (marks)
-use Rattle.std.proofs.Common.{◌≡◌, ◌⊎◌, ℕ, zero, suc, ◌+◌, ◌<◌, ◌≤◌, List, [], ◌∷◌, ◌++◌, length, set, replicate, Bool, false, refl, sym, ap, subst, ⊎_elim, inl, inr, arith, length-append, ◌∙◌}
+use Rattle.std.proofs.Common.{◌≡◌, ◌⊎◌, ℕ, zero, suc, ◌+◌, ◌<◌, ◌≤◌, List, [], ◌∷◌, ◌++◌, length, set, replicate, Bool}
+use Rattle.std.proofs.Common.{false, refl, sym, ap, subst, ⊎_elim, inl, inr, arith, length-append, ◌∙◌}
 use Rattle.std.proofs.lemmas.Bool.{cases_eq}
 use Rattle.std.proofs.lemmas.List.{length-replicate}
 use Rattle.std.proofs.lemmas.Option.{slice_get_within}
 use Rattle.leastset.specs.Leads.{Leads, one, more, AreCycleMarks}
 use Rattle.leastset.specs.StepRows.{row_at, Step}
-use Rattle.leastset.specs.Way.{Way, At, IsWay, IsOwing, Opens, Meets, Closes, GoesOn, IsThrough, ComesToEnd, AreShort, before_step, cost}
+use Rattle.leastset.specs.Way.{Way, At, IsWay, IsOwing, Opens, Meets, Closes, GoesOn, IsThrough, ComesToEnd, AreShort}
+use Rattle.leastset.specs.Way.{before_step, cost}
 use Rattle.leastset.specs.declared.cycles.Part.{Part}
 use Rattle.leastset.specs.declared.cycles.Place.{Place}
 use Rattle.leastset.specs.declared.cycles.Place.TheVariants as place

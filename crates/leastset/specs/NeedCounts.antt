@@ -1,5 +1,6 @@
 -- Numbers that wait for others: how many more each of them needs.
-use Rattle.std.specs.Prelude.{◌≡◌, ◌≢◌, ℕ, zero, suc, ◌+◌, ◌-◌, ◌<◌, ◌≤◌, List, [], ◌∷◌, ◌++◌, length, map, take, nat_eq, slice_get, slice_index_or, if◌then◌else◌, Some, Contains}
+use Rattle.std.specs.Prelude.{◌≡◌, ◌≢◌, ℕ, zero, suc, ◌+◌, ◌-◌, ◌<◌, ◌≤◌, List, [], ◌∷◌, ◌++◌, length, map, take}
+use Rattle.std.specs.Prelude.{nat_eq, slice_get, slice_index_or, if◌then◌else◌, Some, Contains}
 use Rattle.leastset.specs.StepRows.{row_at}
 use Rattle.leastset.specs.Demands.{Demand, All, One, row_of}
 

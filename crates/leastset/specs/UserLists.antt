@@ -1,5 +1,6 @@
 -- Lists that share one vector of links. The private calls of `derive` alone use these words.
-use Rattle.std.specs.Prelude.{◌≡◌, ℕ, ◌+◌, ◌<◌, ◌≤◌, List, [], ◌∷◌, ◌++◌, length, slice_get, slice_index_or, Some, Contains}
+use Rattle.std.specs.Prelude.{◌≡◌, ℕ, ◌+◌, ◌<◌, ◌≤◌, List, [], ◌∷◌, ◌++◌, length, slice_get, slice_index_or, Some}
+use Rattle.std.specs.Prelude.{Contains}
 use Rattle.leastset.specs.declared.needs.Link.{Link}
 use Rattle.leastset.specs.declared.needs.Users.{Users}
 use Rattle.leastset.specs.Demands.{Demand}

@@ -1,5 +1,6 @@
 -- The way that the search has come.
-use Rattle.std.specs.Prelude.{◌≡◌, ◌⊎◌, ◌↔◌, ℕ, ◌+◌, ◌<◌, ◌≤◌, Bool, true, List, [], ◌∷◌, ◌++◌, length, set, take, drop, slice_get, slice_index_or, Some, Contains}
+use Rattle.std.specs.Prelude.{◌≡◌, ◌⊎◌, ◌↔◌, ℕ, ◌+◌, ◌<◌, ◌≤◌, Bool, true, List, [], ◌∷◌, ◌++◌, length, set, take, drop}
+use Rattle.std.specs.Prelude.{slice_get, slice_index_or, Some, Contains}
 use Rattle.leastset.specs.Leads.{Leads}
 use Rattle.leastset.specs.NumberMarks.{IsMarked, MarksThose}
 use Rattle.leastset.specs.StepRows.{Step}

@@ -7,7 +7,9 @@ ghost use Rattle.std.specs.Prelude.{◌≡◌, ℕ, ◌+◌, ◌<◌, ◌≤◌,
 ghost use Rattle.leastset.specs.Leads.{AreCycleMarks, AreRanksBut};
 ghost use Rattle.leastset.specs.NumberMarks.{AreBelow};
 ghost use Rattle.leastset.specs.StepRows.{slices_of, row_at, AreStepsWithin};
-ghost use Rattle.leastset.specs.Way.{Way, way_of, At, Opens, Joins, Meets, Finishes, Closes, GoesOn, IsKept, IsWay, IsOwing, IsSource, IsThrough, IsLast, AreShort, ComesToEnd, before_step, tally_of, SetsAll, Ranks, IsRanked, KeepsDone};
+ghost use Rattle.leastset.specs.Way.{Way, way_of, At, Opens, Joins, Meets, Finishes, Closes, GoesOn, IsKept, IsWay};
+ghost use Rattle.leastset.specs.Way.{IsOwing, IsSource, IsThrough, IsLast, AreShort, ComesToEnd, before_step, tally_of};
+ghost use Rattle.leastset.specs.Way.{SetsAll, Ranks, IsRanked, KeepsDone};
 ghost use Rattle.leastset.specs.declared.cycles.Place.TheVariants as place;
 
 use crate::marks::mark;
@@ -135,7 +137,8 @@ impl Search {
         requires within { target < length (slices_of steps.now) }
         requires way { IsWay (slices_of steps.now) (before_step (way_of self.old) target) }
         requires short { AreShort (way_of self.old) }
-        ensures goes { IfOk result (λ _. GoesOn (slices_of steps.now) (before_step (way_of self.old) target) (way_of self.new)) }
+        ensures goes { IfOk result (λ _. GoesOn (slices_of steps.now) (before_step (way_of self.old) target)
+            (way_of self.new)) }
         ensures keeps { IfOk result (λ _. KeepsDone (way_of self.old) (way_of self.new)) }
         ensures tally { IfOk result (λ _. tally_of self.new ≡ tally_of self.old) }
     {
@@ -223,7 +226,8 @@ impl Search {
         requires within { AreStepsWithin (slices_of steps.now) }
         requires through { IsThrough (slices_of steps.now) (way_of self.old) 0 }
         requires ranked { IsRanked (slices_of steps.now) (way_of self.old) (tally_of self.old) }
-        ensures through { IfOk result (λ _. IsThrough (slices_of steps.now) (way_of self.new) (length (slices_of steps.now))) }
+        ensures through { IfOk result (λ _. IsThrough (slices_of steps.now) (way_of self.new)
+            (length (slices_of steps.now))) }
         ensures ranked { IfOk result (λ _. IsRanked (slices_of steps.now) (way_of self.new) (tally_of self.new)) }
     {
         for n in 0..steps.len() {

@@ -1,6 +1,7 @@
 //! Least sets over numbers: what comes in by needs, what steps reach, and which numbers come back to themselves.
 //!
-//! A table of rows gives each number the numbers that its steps lead to. `docs/crates/leastset.md` quotes the contracts.
+//! A table of rows gives each number the numbers that its steps lead to. `docs/crates/leastset.md` quotes the
+//! contracts.
 #![tactic(auto)]
 
 mod cycles;

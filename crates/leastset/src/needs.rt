@@ -1,6 +1,7 @@
 //! The least set of numbers that contains each number whose need it meets.
 ghost use Rattle.std.specs.Prelude.{◌≡◌, ◌↔◌, ℕ, ◌<◌, Bool, List, [], ◌∷◌, length, map, replicate, IfOk};
-ghost use Rattle.leastset.specs.Demands.{Demand, demand_of, demands_of, row_of, AreNeedsWithin, AreNeedsWithinTo, IsDerived};
+ghost use Rattle.leastset.specs.Demands.{Demand, demand_of, demands_of, row_of, AreNeedsWithin, AreNeedsWithinTo};
+ghost use Rattle.leastset.specs.Demands.{IsDerived};
 ghost use Rattle.leastset.specs.NeedCounts.{count_of, counts_of, AreUsers, IsQueue, Told, IsComing};
 ghost use Rattle.leastset.specs.Least.{AreThoseThatCome, AreMarksOfThose};
 ghost use Rattle.leastset.specs.NumberMarks.{AreBelow};
@@ -170,7 +171,8 @@ fn tell(
     requires m { m < length users.now.firsts.items }
     requires lists { AreListsWithin users.now (length left.old) }
     requires queue { IsQueue left.old order.old.items }
-    ensures { IfOk result (λ _. (rows : List (List ℕ)) → AreLists users.now rows → Told (row_at rows m) left.old order.old.items left.new order.new.items) }
+    ensures { IfOk result (λ _. (rows : List (List ℕ)) → AreLists users.now rows
+        → Told (row_at rows m) left.old order.old.items left.new order.new.items) }
 {
     let mut at = users.firsts[m];
     while at > 0 {
@@ -186,7 +188,8 @@ fn run(users: &Users, left: &mut [usize], order: &mut Vec<usize>) -> Result<(), 
     requires count { length users.now.firsts.items ≡ length left.old }
     requires lists { AreListsWithin users.now (length left.old) }
     requires queue { IsQueue left.old order.old.items }
-    ensures { IfOk result (λ _. (needs : List Demand) (rows : List (List ℕ)) → AreLists users.now rows → AreUsers needs rows → IsComing needs left.old order.old.items 0 → IsDerived needs order.new.items) }
+    ensures { IfOk result (λ _. (needs : List Demand) (rows : List (List ℕ)) → AreLists users.now rows
+        → AreUsers needs rows → IsComing needs left.old order.old.items 0 → IsDerived needs order.new.items) }
 {
     let mut place = 0;
     while place < order.len() {

@@ -1,7 +1,9 @@
 -- The rows of UTF-8, and the library's words for them.
 -- Serves: decode, utf8_len, utf8_is_decided
-use Rattle.std.proofs.Common.{◌≡◌, ◌⊎◌, inl, inr, ℕ, ◌+◌, ◌*◌, ◌/◌, ◌%◌, ◌<◌, ◌≤◌, Bool, true, false, cond, ltb, List, [], ◌∷◌, ◌++◌, length, refl, sym, ap, ◌∙◌, subst, arith}
-use Rattle.std.proofs.lemmas.Bool.{cases_eq, cases_lt, lt-ltb, le-ltb, cond-true, cond-false, and_parts, and_from, false≢true}
+use Rattle.std.proofs.Common.{◌≡◌, ◌⊎◌, inl, inr, ℕ, ◌+◌, ◌*◌, ◌/◌, ◌%◌, ◌<◌, ◌≤◌, Bool, true, false, cond, ltb, List}
+use Rattle.std.proofs.Common.{[], ◌∷◌, ◌++◌, length, refl, sym, ap, ◌∙◌, subst, arith}
+use Rattle.std.proofs.lemmas.Bool.{cases_eq, cases_lt, lt-ltb, le-ltb, cond-true, cond-false, and_parts, and_from}
+use Rattle.std.proofs.lemmas.Bool.{false≢true}
 use Rattle.std.proofs.lemmas.Nat.{mod_below}
 use Rattle.std.specs.Str.{IsUtf8, chars, IsValidUpTo}
 use Rattle.std.proofs.lemmas.Str.{chars-encodes, encodes-chars, encodes_same, scalars-chars}
@@ -60,10 +62,15 @@ writes c top = by (cases_lt c 128) (cases_lt c 2048) (cases_lt c 65536)
   where
     by : (c < 128) ⊎ (128 ≤ c) → (c < 2048) ⊎ (2048 ≤ c) → (c < 65536) ⊎ (65536 ≤ c) → Writes c (encode c)
     by (inl lt) _ _ = rw (encode_one c lt) (one lt)
-    by (inr ge) (inl lt) _ = rw (encode_two c ge lt) (two {c = c} (c / 64) (c % 64) (omega arith) (mod_below c 64 (omega arith)) ge lt)
-    by (inr _) (inr ge) (inl lt) = rw (encode_three c ge lt) (three {c = c} (c / 4096) (c / 64 % 64) (c % 64) (omega arith) (mod_below (c / 64) 64 (omega arith)) (mod_below c 64 (omega arith)) ge lt)
+    by (inr ge) (inl lt) _ = rw (encode_two c ge lt)
+        (two {c = c} (c / 64) (c % 64) (omega arith) (mod_below c 64 (omega arith)) ge lt)
+    by (inr _) (inr ge) (inl lt) = rw (encode_three c ge lt)
+        (three {c = c} (c / 4096) (c / 64 % 64) (c % 64) (omega arith) (mod_below (c / 64) 64 (omega arith))
+        (mod_below c 64 (omega arith)) ge lt)
     by (inr _) (inr _) (inr ge) =
-        rw (encode_four c ge) (four {c = c} (c / 262144) (c / 4096 % 64) (c / 64 % 64) (c % 64) (omega arith) (mod_below (c / 4096) 64 (omega arith)) (mod_below (c / 64) 64 (omega arith)) (mod_below c 64 (omega arith)) ge top)
+        rw (encode_four c ge) (four {c = c} (c / 262144) (c / 4096 % 64) (c / 64 % 64) (c % 64) (omega arith)
+        (mod_below (c / 4096) 64 (omega arith)) (mod_below (c / 64) 64 (omega arith)) (mod_below c 64 (omega arith))
+        ge top)
 
 -- code points that are no surrogates
 pub point : (c : ℕ) → scalar c ≡ true → IsPoint c
@@ -79,7 +86,8 @@ under (inr range) = range.1
 
 pub spells : (cs : List ℕ) → scalars cs ≡ true → Spells cs (encodes cs)
 spells [] is = end
-spells (c ∷ cs) is = let two = and_parts (scalar c) (scalars cs) is in next (point c two.0) (writes c (under (point c two.0))) (spells cs two.1)
+spells (c ∷ cs) is = let two = and_parts (scalar c) (scalars cs) is in
+    next (point c two.0) (writes c (under (point c two.0))) (spells cs two.1)
 
 pub scalars_of : {cs bytes : List ℕ} → Spells cs bytes → scalars cs ≡ true
 scalars_of end = refl
@@ -87,7 +95,8 @@ scalars_of (next {c = c} {cs = cs} p w s) = and_from (scalar c) (scalars cs) (is
 
 pub encodes_of : {cs bytes : List ℕ} → Spells cs bytes → encodes cs ≡ bytes
 encodes_of end = refl
-encodes_of (next {c = c} {cs = cs} {bytes = bytes} {rest = rest} p w s) = ap (λ v. v ++ encodes cs) (written w) ∙ ap (λ v. bytes ++ v) (encodes_of s)
+encodes_of (next {c = c} {cs = cs} {bytes = bytes} {rest = rest} p w s) = ap (λ v. v ++ encodes cs) (written w)
+    ∙ ap (λ v. bytes ++ v) (encodes_of s)
 
 pub text : (bs : List ℕ) → IsUtf8 bs → IsText bs
 text bs u = record { points = u.0; spelled = subst (λ v. Spells u.0 v) u.1.1 (spells u.0 u.1.0) }
@@ -134,7 +143,8 @@ same_or_not (x ∷ xs) (y ∷ ys) = by (cases_eq x y) (same_or_not xs ys)
 pub text_or_not : (line : List ℕ) → IsText line ⊎ (IsText line → ⊥)
 text_or_not line = by (scalars (chars line)) refl (same_or_not (encodes (chars line)) line)
   where
-    by : (b : Bool) → scalars (chars line) ≡ b → (encodes (chars line) ≡ line) ⊎ (encodes (chars line) ≡ line → ⊥) → IsText line ⊎ (IsText line → ⊥)
+    by : (b : Bool) → scalars (chars line) ≡ b → (encodes (chars line) ≡ line) ⊎ (encodes (chars line) ≡ line → ⊥)
+        → IsText line ⊎ (IsText line → ⊥)
     by true all (inl same) = inl (text line (chars line, (all, same)))
     by true all (inr other) = inr (λ t. other (encodes-chars line (utf8 line t)))
     by false some _ = inr (λ t. absurd (false≢true (sym some ∙ scalars-chars line (utf8 line t))))

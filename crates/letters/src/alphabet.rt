@@ -12,7 +12,8 @@ pub enum Alphabet {
 }
 
 impl Alphabet {
-    /// Returns whether a value is that of a letter: 0 to 255 for bytes, for code points 0 to 1,114,111 outside 55,296 to 57,343.
+    /// Returns whether a value is that of a letter: 0 to 255 for bytes, for code points 0 to 1,114,111 outside 55,296
+    /// to 57,343.
     pub fn has(self, value: u32) -> bool
         ensures { result ≡ has self value }
     {

@@ -17,8 +17,8 @@ fn push_points(text: &str, points: &mut Vec<CodePoint>) -> Result<(), Memory>
     Ok(())
 }
 
-/// Returns whether a line is UTF-8 (RFC 3629, section 3: shortest forms, no surrogates). If it is, `points` has its code
-/// points from then on, else nothing.
+/// Returns whether a line is UTF-8 (RFC 3629, section 3: shortest forms, no surrogates). If it is, `points` has its
+/// code points from then on, else nothing.
 ///
 /// `Memory` if an allocation fails; `points` is empty then.
 pub fn decode(line: &[u8], points: &mut Vec<CodePoint>) -> Result<bool, Memory>
@@ -49,7 +49,8 @@ pub fn utf8_len(line: &[u8]) -> usize
     }
 }
 
-/// Returns nothing. Its contract is a law: a line either is UTF-8 or is not, and it has one list of code points at most.
+/// Returns nothing. Its contract is a law: a line either is UTF-8 or is not, and it has one list of code points at
+/// most.
 pub fn utf8_is_decided()
     ensures decided { (line : List ℕ) → IsText line ⊎ (IsText line → ⊥) }
     ensures one { (line points others : List ℕ) → Spells points line → Spells others line → points ≡ others }

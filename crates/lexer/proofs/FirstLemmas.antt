@@ -1,6 +1,7 @@
 -- The first token of a text is found in one way, where two tokens of one place and one end are of one kind.
 -- Serves: Kind::are_cut, AbnfKind::are_cut, read_peg, read_abnf
-use Rattle.std.proofs.Common.{◌≡◌, ℕ, ◌<◌, Bool, true, false, List, [], ◌∷◌, ◌++◌, length, drop, refl, sym, ap, arith, length-append, append_assoc, ◌∙◌}
+use Rattle.std.proofs.Common.{◌≡◌, ℕ, ◌<◌, Bool, true, false, List, [], ◌∷◌, ◌++◌, length, drop, refl, sym, ap, arith}
+use Rattle.std.proofs.Common.{length-append, append_assoc, ◌∙◌}
 use Rattle.std.proofs.lemmas.List.{drop_at}
 use Rattle.lexer.specs.SliceEnds.{IsEnd, IsPart, White, no_more, piece, NoPiece, First, found, bad, at_end}
 
@@ -11,10 +12,17 @@ pub here : {t : List ℕ} → IsEnd t t
 here = record { front = []; whole = refl }
 
 pub both : {t m r : List ℕ} → IsEnd t m → IsEnd m r → IsEnd t r
-both {t} {m} {r} h k = record { front = h.front ++ k.front; whole = h.whole ∙ ap (λ (x : List ℕ). h.front ++ x) k.whole ∙ sym (append_assoc h.front k.front r) }
+both {t} {m} {r} h k = record {
+  front = h.front ++ k.front;
+  whole = h.whole ∙ ap (λ (x : List ℕ). h.front ++ x) k.whole ∙ sym (append_assoc h.front k.front r);
+}
 
 pub less-one : {t r : List ℕ} (b : ℕ) → IsEnd t r → IsPart (b ∷ t) r
-less-one {t} {r} b h = record { part = one b h; less = (let e = ap length h.whole in omega (arith, length-append h.front r)) }
+less-one {t} {r} b h = record {
+  part = one b h;
+  less = (let e = ap length h.whole in
+      omega (arith, length-append h.front r));
+}
 
 pub whole : (t : List ℕ) → IsEnd t []
 whole [] = here
@@ -24,7 +32,13 @@ pub same-end : {t r s : List ℕ} → IsEnd t r → IsEnd t s → length r ≡ l
 same-end {t} {r} {s} h k e =
     let a = drop_at h.front r (length h.front) refl in
     let b = drop_at k.front s (length k.front) refl in
-    let f : length h.front ≡ length k.front = omega (arith, ap length h.whole, ap length k.whole, length-append h.front r, length-append k.front s) in
+    let f : length h.front ≡ length k.front = omega (
+      arith,
+      ap length h.whole,
+      ap length k.whole,
+      length-append h.front r,
+      length-append k.front s,
+    ) in
     sym a ∙ ap (drop (length h.front)) (sym h.whole ∙ k.whole) ∙ ap (λ (n : ℕ). drop n (k.front ++ s)) f ∙ b
 
 module _ (Piece : List ℕ → List ℕ → Type 0)
@@ -47,7 +61,8 @@ module _ {K : Type 0} (Piece : List ℕ → List ℕ → Type 0) (Stands : K →
   first-ends (bad {b} {bs} w f) = whole (b ∷ bs)
   first-ends at_end = here
 
-  pub first-less : (is_end : K → Bool) → is_end end_kind ≡ true → {k : K} {t r : List ℕ} → is_end k ≡ false → First Piece Stands bad_kind end_kind k t r → length r < length t
+  pub first-less : (is_end : K → Bool) → is_end end_kind ≡ true → {k : K} {t r : List ℕ} → is_end k ≡ false
+      → First Piece Stands bad_kind end_kind k t r → length r < length t
   first-less is_end at e (found h) = (part _ _ _ h.stands).less
   first-less is_end at e (bad w f) = omega arith
   first-less is_end at e at_end = cc
@@ -56,11 +71,13 @@ module _ {K : Type 0} (Piece : List ℕ → List ℕ → Type 0) (Stands : K →
   nothing-stands h = let p = part _ _ _ h in let l = p.less in absurd (omega arith)
 
   -- each token that stands there ends where this one does
-  pub alone : {k : K} {t r : List ℕ} → Stands k t r → ((j : K) (s : List ℕ) → Stands j t s → r ≡ s) → First Piece Stands bad_kind end_kind k t r
+  pub alone : {k : K} {t r : List ℕ} → Stands k t r → ((j : K) (s : List ℕ) → Stands j t s → r ≡ s)
+      → First Piece Stands bad_kind end_kind k t r
   alone h f = found (record { stands = h; longest = λ j s x. let e = f j s x in rw e (omega arith) })
 
   module _ (stands_one : (k j : K) (t r : List ℕ) → Stands k t r → Stands j t r → k ≡ j) where
-    pub first-one : {k j : K} {t r s : List ℕ} → First Piece Stands bad_kind end_kind k t r → First Piece Stands bad_kind end_kind j t s → (k ≡ j) × (r ≡ s)
+    pub first-one : {k j : K} {t r s : List ℕ} → First Piece Stands bad_kind end_kind k t r
+        → First Piece Stands bad_kind end_kind j t s → (k ≡ j) × (r ≡ s)
     first-one {r} {s} (found h) (found k) =
         let a = h.longest _ s k.stands in
         let b = k.longest _ r h.stands in
@@ -82,7 +99,8 @@ module _ {K : Type 0} (Piece : List ℕ → List ℕ → Type 0) (Stands : K →
       first-dark (bad w f) m p = w m p
       first-dark at_end m p = nothing_dark m p
 
-      pub one-next : (j k : K) (t a b r s : List ℕ) → White Piece t a → First Piece Stands bad_kind end_kind j a r → White Piece t b → First Piece Stands bad_kind end_kind k b s → (j ≡ k) × (a ≡ b) × (r ≡ s)
+      pub one-next : (j k : K) (t a b r s : List ℕ) → White Piece t a → First Piece Stands bad_kind end_kind j a r
+          → White Piece t b → First Piece Stands bad_kind end_kind k b s → (j ≡ k) × (a ≡ b) × (r ≡ s)
       one-next j k t a b r s v f w g =
           let same : a ≡ b = white-one Piece piece_end piece_one (first-dark f) (first-dark g) v w in
           let o = first-one (rw same at f) g in

@@ -1,6 +1,7 @@
 -- Words begin something exactly if the machine can take them, and one token of a list decides at most.
 -- Serves: one_tree, read_peg, read_abnf
-use Rattle.std.proofs.Common.{◌≡◌, ℕ, ◌+◌, ◌<◌, ◌≤◌, Option, Some, None, List, [], ◌∷◌, ◌++◌, length, take, drop, refl, sym, ◌∙◌, ap, arith, append_assoc, append-nil, length-append, ◌⊎◌, inl, inr}
+use Rattle.std.proofs.Common.{◌≡◌, ℕ, ◌+◌, ◌<◌, ◌≤◌, Option, Some, None, List, [], ◌∷◌, ◌++◌, length, take, drop, refl}
+use Rattle.std.proofs.Common.{sym, ◌∙◌, ap, arith, append_assoc, append-nil, length-append, ◌⊎◌, inl, inr}
 use Rattle.std.proofs.Math.Seq.{take-append_seam}
 use Rattle.std.proofs.lemmas.Bool.{cases_lt}
 use Rattle.std.proofs.lemmas.List.{take-take, take-append-drop, take_at}
@@ -11,7 +12,9 @@ module _ {W C : Type 0} (step : C → W → Option C) where
   run_of None s = None
   run_of (Some c) s = run step c s
 
-  append-on : (p s : List W) → ((d : C) → run step d (p ++ s) ≡ run_of (run step d p) s) → (x : Option C) → (elim x [ None ↦ None | Some d ↦ run step d (p ++ s) ]) ≡ run_of (elim x [ None ↦ None | Some d ↦ run step d p ]) s
+  append-on : (p s : List W) → ((d : C) → run step d (p ++ s) ≡ run_of (run step d p) s) → (x : Option C)
+      → (elim x [ None ↦ None | Some d ↦ run step d (p ++ s) ])
+      ≡ run_of (elim x [ None ↦ None | Some d ↦ run step d p ]) s
   append-on p s f None = refl
   append-on p s f (Some d) = f d
 
@@ -38,7 +41,8 @@ module _ {W C : Type 0} (step : C → W → Option C) where
 
     pub stops-begins : (ws : List W) → run step start ws ≡ None → Begins Spells ws → ⊥
     stops-begins ws h (s, g, k) =
-        let there : Some (done g) ≡ None = sym (spelled (ws ++ s) g k) ∙ run-append ws s start ∙ ap (λ (x : Option C). run_of x s) h in
+        let there : Some (done g) ≡ None = sym (spelled (ws ++ s) g k) ∙ run-append ws s start
+        ∙ ap (λ (x : Option C). run_of x s) h in
         cc
 
 module _ {T : Type 0} (Viable Within : List T → Type 0)
@@ -59,7 +63,11 @@ module _ {T : Type 0} (Viable Within : List T → Type 0)
 
   decides-before : (ts : List T) (i : ℕ) → Decides ts i → Passes (take i ts)
   decides-before ts i (inl h) = (h.before, h.within)
-  decides-before ts i (inr h) = (let same : take i (take (i + 1) ts) ≡ take i ts = take-take i (i + 1) ts (omega arith) in (rw same at (viable-front i (take (i + 1) ts) h.viable)), h.within)
+  decides-before ts i (inr h) = (
+    let same : take i (take (i + 1) ts) ≡ take i ts = take-take i (i
+        + 1) ts (omega arith) in (rw same at (viable-front i (take (i + 1) ts) h.viable)),
+    h.within,
+  )
 
   decides-here : (ts : List T) (i : ℕ) → Decides ts i → Passes (take (i + 1) ts) → ⊥
   decides-here ts i (inl h) p = h.here p.0
@@ -93,25 +101,34 @@ pub record Split {T W : Type 0} (Says : T → W → Type 0) (ts us : List T) (ws
   pub rest : SayAll Says us back
 
 module _ {T W : Type 0} (Says : T → W → Type 0) where
-  pub say-join : {ts us : List T} {vs ws : List W} → SayAll Says ts vs → SayAll Says us ws → SayAll Says (ts ++ us) (vs ++ ws)
+  pub say-join : {ts us : List T} {vs ws : List W} → SayAll Says ts vs → SayAll Says us ws
+      → SayAll Says (ts ++ us) (vs ++ ws)
   say-join say_none k = k
   say-join (say_more h hs) k = say_more h (say-join hs k)
 
   -- one token more
-  pub say-snoc : {ts : List T} {ws : List W} {t : T} {w : W} → SayAll Says ts ws → Says t w → SayAll Says (ts ++ t ∷ []) (ws ++ w ∷ [])
+  pub say-snoc : {ts : List T} {ws : List W} {t : T} {w : W} → SayAll Says ts ws → Says t w
+      → SayAll Says (ts ++ t ∷ []) (ws ++ w ∷ [])
   say-snoc hs h = say-join hs (say_more h say_none)
 
   pub say-split : (ts us : List T) {ws : List W} → SayAll Says (ts ++ us) ws → Split Says ts us ws
   say-split [] us {ws} h = record { front = []; back = ws; whole = refl; first = say_none; rest = h }
   say-split (t ∷ ts) us (say_more {w} h hs) =
       let s = say-split ts us hs in
-      record { front = w ∷ s.front; back = s.back; whole = ap (λ (vs : List W). w ∷ vs) s.whole; first = say_more h s.first; rest = s.rest }
+      record {
+        front = w ∷ s.front;
+        back = s.back;
+        whole = ap (λ (vs : List W). w ∷ vs) s.whole;
+        first = say_more h s.first;
+        rest = s.rest;
+      }
 
   -- where a token says one word at most
   module _ (one-word : (t : T) (v w : W) → Says t v → Says t w → v ≡ w) where
     pub one-words : {ts : List T} {vs ws : List W} → SayAll Says ts vs → SayAll Says ts ws → vs ≡ ws
     one-words say_none say_none = refl
-    one-words (say_more {w = v} {ws = vs} h hs) (say_more {w} k ks) = ap (λ (u : W). u ∷ vs) (one-word _ v w h k) ∙ ap (λ (us : List W). w ∷ us) (one-words hs ks)
+    one-words (say_more {w = v} {ws = vs} h hs) (say_more {w} k ks) = ap (λ (u : W). u ∷ vs) (one-word _ v w h k)
+        ∙ ap (λ (us : List W). w ∷ us) (one-words hs ks)
 
   module _ {G : Type 0} (Spells : List W → G → Type 0) where
     pub begins-front : (ws vs : List W) → Begins Spells (ws ++ vs) → Begins Spells ws
@@ -140,7 +157,11 @@ module _ {T W : Type 0} (Says : T → W → Type 0) where
       viable-run = (ws, say, runs-begins ws c runs)
 
       pub viable-next : (t : T) (w : W) (d : C) → Says t w → step c w ≡ Some d → Viable Says Spells (ts ++ t ∷ [])
-      viable-next t w d says steps = (ws ++ w ∷ [], say-snoc say says, runs-begins (ws ++ w ∷ []) d (run-snoc step ws w start c runs ∙ steps))
+      viable-next t w d says steps = (
+        ws ++ w ∷ [],
+        say-snoc say says,
+        runs-begins (ws ++ w ∷ []) d (run-snoc step ws w start c runs ∙ steps),
+      )
 
       -- a token of which it takes no word then
       pub not-viable : (t : T) → ((w : W) → Says t w → step c w ≡ None) → Viable Says Spells (ts ++ t ∷ []) → ⊥
@@ -157,10 +178,13 @@ module _ {T : Type 0} (Viable Within : List T → Type 0) (ts : List T) (t : T) 
   front-taken = take-append_seam ts (t ∷ us)
 
   next-taken : take (length ts + 1) (ts ++ t ∷ us) ≡ ts ++ t ∷ []
-  next-taken = rw (← append_assoc ts (t ∷ []) us) (take_at (ts ++ t ∷ []) us (length ts + 1) (omega (arith, length-append ts (t ∷ []))))
+  next-taken = rw (← append_assoc ts (t ∷ []) us)
+      (take_at (ts ++ t ∷ []) us (length ts + 1) (omega (arith, length-append ts (t ∷ []))))
 
-  pub hopeless-at : Viable ts → Within ts → (Viable (ts ++ t ∷ []) → ⊥) → IsHopeless Viable Within (ts ++ t ∷ us) (length ts)
+  pub hopeless-at : Viable ts → Within ts → (Viable (ts ++ t ∷ []) → ⊥)
+      → IsHopeless Viable Within (ts ++ t ∷ us) (length ts)
   hopeless-at v w h = record { before = rw front-taken v; here = rw next-taken h; within = rw front-taken w }
 
-  pub over-at : Viable (ts ++ t ∷ []) → Within ts → (Within (ts ++ t ∷ []) → ⊥) → IsOver Viable Within (ts ++ t ∷ us) (length ts)
+  pub over-at : Viable (ts ++ t ∷ []) → Within ts → (Within (ts ++ t ∷ []) → ⊥)
+      → IsOver Viable Within (ts ++ t ∷ us) (length ts)
   over-at v w h = record { viable = rw next-taken v; within = rw front-taken w; over = rw next-taken h }

@@ -28,7 +28,8 @@ module _ {K : Type 0} where
   tok_of t = tok t.kind t.slice.now t.span
 
 module _ {K : Type 0} (White : List ℕ → List ℕ → Type 0) (First : K → List ℕ → List ℕ → Type 0) where
-  -- White space and then the token's slice begin t, and r stands behind it. The whole text has `total` bytes, of which t are the last.
+  -- White space and then the token's slice begin t, and r stands behind it. The whole text has `total` bytes, of which
+  -- t are the last.
   pub record Next (total : ℕ) (t : List ℕ) (x : Tok K) (r : List ℕ) : Type 0 where
     pub token : List ℕ
     pub white : White t token
@@ -38,9 +39,12 @@ module _ {K : Type 0} (White : List ℕ → List ℕ → Type 0) (First : K → 
     pub size : end_of x ≡ start_of x + length (slice_of x)
 
 -- The tokens of t, the end of a text of `total` bytes: as many as there are, and the end.
-pub data AreTokens {K : Type 0} (White : List ℕ → List ℕ → Type 0) (First : K → List ℕ → List ℕ → Type 0) (is_end : K → Bool) (total : ℕ) : List ℕ → List (Tok K) → Type 0 where
-  last_one : {t r : List ℕ} {x : Tok K} → Next White First total t x r → is_end (kind_of x) ≡ true → AreTokens White First is_end total t (x ∷ [])
-  one_more : {t r : List ℕ} {x : Tok K} {ts : List (Tok K)} → Next White First total t x r → is_end (kind_of x) ≡ false → AreTokens White First is_end total r ts → AreTokens White First is_end total t (x ∷ ts)
+pub data AreTokens {K : Type 0} (White : List ℕ → List ℕ → Type 0) (First : K → List ℕ → List ℕ → Type 0)
+    (is_end : K → Bool) (total : ℕ) : List ℕ → List (Tok K) → Type 0 where
+  last_one : {t r : List ℕ} {x : Tok K} → Next White First total t x r → is_end (kind_of x) ≡ true
+      → AreTokens White First is_end total t (x ∷ [])
+  one_more : {t r : List ℕ} {x : Tok K} {ts : List (Tok K)} → Next White First total t x r → is_end (kind_of x) ≡ false
+      → AreTokens White First is_end total r ts → AreTokens White First is_end total t (x ∷ ts)
 
 -- the bytes of the whole text
 abbrev pub total_of : {K : Type 0} → TokenIter K → ℕ
@@ -54,19 +58,23 @@ tokens_bound s = at_most (cond s.ended 0 (length s.rest.now + 1))
 abbrev pub IsAtStart : {K : Type 0} → TokenIter K → List ℕ → Type 0
 IsAtStart s text = (s.rest.now ≡ text) × (s.start ≡ 0) × (s.ended ≡ false)
 
-module _ {K : Type 0} (White : List ℕ → List ℕ → Type 0) (First : K → List ℕ → List ℕ → Type 0) (is_end : K → Bool) where
+module _ {K : Type 0} (White : List ℕ → List ℕ → Type 0) (First : K → List ℕ → List ℕ → Type 0)
+    (is_end : K → Bool) where
   -- what a call of `next` gives
   abbrev pub GivesToken : TokenIter K → Option (Token K) → TokenIter K → Type 0
   GivesToken s r t = (total_of t ≡ total_of s) × MatchOption r ((s.ended ≡ true) × (t.ended ≡ true))
-      (λ x. (s.ended ≡ false) × Next White First (total_of s) s.rest.now (tok_of x) t.rest.now × (t.ended ≡ is_end x.kind))
+      (λ x. (s.ended ≡ false) × Next White First (total_of s) s.rest.now (tok_of x) t.rest.now
+      × (t.ended ≡ is_end x.kind))
 
   -- what is left
   abbrev pub AreLeft : TokenIter K → List (Tok K) → Type 0
   AreLeft s ts = cond s.ended (ts ≡ []) (AreTokens White First is_end (total_of s) s.rest.now ts)
 
-  -- What a call of `next` gives, in the words of the whole list: whichever tokens are left, it gave the first of them, and left the others.
+  -- What a call of `next` gives, in the words of the whole list: whichever tokens are left, it gave the first of them,
+  -- and left the others.
   abbrev pub TakesFirst : TokenIter K → Option (Token K) → TokenIter K → Type 0
-  TakesFirst s r t = (ts : List (Tok K)) → AreLeft s ts → MatchOption r (ts ≡ []) (λ x. (others : List (Tok K)) × (ts ≡ tok_of x ∷ others) × AreLeft t others)
+  TakesFirst s r t = (ts : List (Tok K)) → AreLeft s ts
+      → MatchOption r (ts ≡ []) (λ x. (others : List (Tok K)) × (ts ≡ tok_of x ∷ others) × AreLeft t others)
 
   -- both
   pub record GivesFirst (s : TokenIter K) (r : Option (Token K)) (t : TokenIter K) : Type 0 where

@@ -32,5 +32,6 @@ pub trait Kind: Copy {
         ensures white { (t r : List ℕ) → white t r → IsEnd t r }
         ensures ends { (k : Self) (t r : List ℕ) → first k t r → IsEnd t r }
         ensures less { (k : Self) (t r : List ℕ) → is_end k ≡ false → first k t r → length r < length t }
-        ensures one { (j k : Self) (t a b r s : List ℕ) → white t a → first j a r → white t b → first k b s → (j ≡ k) × (a ≡ b) × (r ≡ s) };
+        ensures one { (j k : Self) (t a b r s : List ℕ) → white t a → first j a r → white t b → first k b s → (j ≡ k)
+            × (a ≡ b) × (r ≡ s) };
 }

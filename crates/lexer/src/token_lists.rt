@@ -14,7 +14,8 @@ pub fn tokens<K: Kind>(text: &[u8]) -> TokenIter<'_, K>
 
 /// A law: a text has at most one list of tokens.
 pub fn one_list<K: Kind>()
-    ensures { (text : List ℕ) → (a b : List (Tok K)) → AreTokens K.white K.first K.is_end (length text) text a → AreTokens K.white K.first K.is_end (length text) text b → a ≡ b }
+    ensures { (text : List ℕ) → (a b : List (Tok K)) → AreTokens K.white K.first K.is_end (length text) text a
+        → AreTokens K.white K.first K.is_end (length text) text b → a ≡ b }
 {
     K::are_cut();
 }

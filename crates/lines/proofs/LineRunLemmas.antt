@@ -28,46 +28,77 @@ module _ (Told : List ℕ → Answer → Type 0) (limit : ℕ) (input : Input) w
   abbrev Runs : ℕ → Option (List ℕ) → Option (List ℕ) → Result Stop WriteFault → Type 0
   Runs taken a b r = HasRun (Lines Told limit input) (Ends Told limit input) (place_taken limit input) taken a b r
 
-  module _ (at : At) (old mid new : Option (List ℕ)) (text : List ℕ) (lines : Lines Told limit input at text) (wrote : Appends old mid text) where
+  module _ (at : At) (old mid new : Option (List ℕ)) (text : List ℕ) (lines : Lines Told limit input at text)
+      (wrote : Appends old mid text) where
     pub one_more_line : (said : Answer) (n : ℕ) → IsStep Told limit input at mid new (Ok (Answers said n)) →
         (longer : List ℕ) × Lines Told limit input (behind at n said) longer × Appends old new longer
     one_more_line said n (line, is, len, says, more) = (
       text ++ answer_text said,
-      subst (λ (k : ℕ). Lines Told limit input (behind at k said) (text ++ answer_text said)) len (one_more at text line said lines is says),
+      subst (λ (k : ℕ). Lines Told limit input (behind at k said) (text ++ answer_text said)) len
+          (one_more at text line said lines is says),
       Appends-join old mid new text (answer_text said) wrote more,
     )
 
-    pub stops_there : (taken : ℕ) (stop : Stop) → IsStep Told limit input at mid new (Ok (Stops stop)) → taken ≡ taken_at limit input at.place → Runs taken old new (Ok stop)
-    stops_there taken stop (inl refused) took =
-        (at, text, [], lines, rw append-nil (Appends-kept old mid new text wrote refused.1), took, inl (refused.0, refl))
-    stops_there taken stop (inr ended) took = (at, text, ended.0, lines, Appends-join old mid new text ended.0 wrote ended.2, took, inr ended.1)
+    pub stops_there : (taken : ℕ) (stop : Stop) → IsStep Told limit input at mid new (Ok (Stops stop))
+        → taken ≡ taken_at limit input at.place → Runs taken old new (Ok stop)
+    stops_there taken stop (inl refused) took = (
+      at,
+      text,
+      [],
+      lines,
+      rw append-nil (Appends-kept old mid new text wrote refused.1),
+      took,
+      inl (refused.0, refl),
+    )
+    stops_there taken stop (inr ended) took = (
+      at,
+      text,
+      ended.0,
+      lines,
+      Appends-join old mid new text ended.0 wrote ended.2,
+      took,
+      inr ended.1,
+    )
 
-    pub fails_there : ((line : List ℕ) → (said : Answer) × Told line said) → (taken : ℕ) (fault : WriteFault) → IsStep Told limit input at mid new (Err fault) →
+    pub fails_there : ((line : List ℕ) → (said : Answer) × Told line said) → (taken : ℕ) (fault : WriteFault)
+        → IsStep Told limit input at mid new (Err fault) →
         taken ≡ taken_at limit input at.place → Runs taken old new (Err fault)
     fails_there decided taken fault (said, part, either) took =
         let goes = answer_goes_on Told limit input decided at text said lines either in (
           text ++ answer_text said,
-          record { reply = goes.reply; replies = goes.replies; front = goes.front; taken = omega (arith, took, goes.taken) },
+          record {
+            reply = goes.reply;
+            replies = goes.replies;
+            front = goes.front;
+            taken = omega (arith, took, goes.taken);
+          },
           AppendsPart-join old mid new text (answer_text said) wrote part,
         )
 
-module _ (Told : List ℕ → Answer → Type 0) (limit : ℕ) (decided : (line : List ℕ) → (said : Answer) × Told line said) where
+module _ (Told : List ℕ → Answer → Type 0) (limit : ℕ) (decided : (line : List ℕ) → (said : Answer)
+    × Told line said) where
   goes_on : (input : Input) (at : At) (text : List ℕ) → Lines Told limit input at text →
-      Begins (Lines Told limit input) (Ends Told limit input) (place_taken limit input) (place_taken limit input at) text
+      Begins (Lines Told limit input) (Ends Told limit input) (place_taken limit input) (place_taken limit input at)
+      text
   goes_on input at text lines = lines_go_on Told limit input decided at text lines
 
   -- the reader is given back as it was after the last line
-  pub lines_were_run : {R : Type 0} (remaining : R → Option (List ℕ)) (failed : R → Bool) (old now final : R) (out : Stream) (left : ℕ) (flow : Flow)
+  pub lines_were_run : {R : Type 0} (remaining : R → Option (List ℕ)) (failed : R → Bool) (old now final : R)
+      (out : Stream) (left : ℕ) (flow : Flow)
       (r : Result Stop WriteFault) → final ≡ now → IsToldBy (remaining now) (failed now) left flow →
       ((seen : List ℕ) × Consumes (remaining old) (remaining now) seen × (left + length seen ≡ input_limit) ×
-      ((input : Input) → Agrees seen flow input → Runs Told limit input (length seen) out.old out.new r)) → Flags out.was out.failed r →
+      ((input : Input) → Agrees seen flow input → Runs Told limit input (length seen) out.old out.new r))
+      → Flags out.was out.failed r →
       Performs (LinesReply Told limit) (passed remaining failed old final) out r
   lines_were_run remaining failed old now final out left flow r is told run flag =
-      ran (Lines Told limit) (Ends Told limit) (place_taken limit) goes_on remaining failed old now final out left flow r is told run flag
+      ran (Lines Told limit) (Ends Told limit) (place_taken limit) goes_on remaining failed old now final out left flow
+      r is told run flag
 
   -- memory was refused before the first line
   pub no_line_was_run : (r0 s0 : Option (List ℕ)) (r_was r_failed o_was : Bool) →
       let r : Result Stop WriteFault = Ok NoMemory in
-      Performs (LinesReply Told limit) (record { old = r0; new = r0; was = r_was; failed = r_failed }) (record { old = s0; new = s0; was = o_was; failed = o_was }) r
+      Performs (LinesReply Told limit) (record { old = r0; new = r0; was = r_was; failed = r_failed })
+      (record { old = s0; new = s0; was = o_was; failed = o_was }) r
   no_line_was_run r0 s0 r_was r_failed o_was =
-      did_not_run (Lines Told limit) (Ends Told limit) (place_taken limit) goes_on (record { place = 0; count = 0; all = true }) (λ input. none) r0 s0 r_was r_failed o_was
+      did_not_run (Lines Told limit) (Ends Told limit) (place_taken limit) goes_on
+      (record { place = 0; count = 0; all = true }) (λ input. none) r0 s0 r_was r_failed o_was

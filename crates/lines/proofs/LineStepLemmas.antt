@@ -1,6 +1,7 @@
 -- The answer to what is held is a step of the run.
 -- Serves: run_lines
-use Rattle.std.proofs.Common.{◌≡◌, ℕ, ◌+◌, ◌&&◌, Option, Some, None, List, [], length, take, drop, refl, ◌∙◌, ap, arith, inl, inr}
+use Rattle.std.proofs.Common.{◌≡◌, ℕ, ◌+◌, ◌&&◌, Option, Some, None, List, [], length, take, drop, refl, ◌∙◌, ap, arith}
+use Rattle.std.proofs.Common.{inl, inr}
 use Rattle.std.specs.Prelude.{Result, Ok, Err}
 use Rattle.std.proofs.lemmas.List.{take_all}
 use Rattle.ruletable.specs.declared.sink.WriteFault.{WriteFault}
@@ -8,7 +9,8 @@ use Rattle.ruletable.proofs.AppendsLemmas.{Appends-same}
 use Rattle.toolrun.specs.Input.{Input}
 use Rattle.toolrun.specs.declared.stop.Stop.TheVariants.{Quiet, LongLine}
 use Rattle.toolrun.specs.declared.stop.Stop.TheVariants as stop
-use Rattle.lines.specs.InputLines.{IsNext, answer_text, says_yes, status_after, Ends, broken, overlong, finished, last_line}
+use Rattle.lines.specs.InputLines.{IsNext, answer_text, says_yes, status_after, Ends, broken, overlong, finished}
+use Rattle.lines.specs.InputLines.{last_line}
 use Rattle.lines.specs.LineSteps.{Answered, IsStep, after_last, after_whole}
 use Rattle.lines.specs.declared.answers.Answer.{Answer}
 use Rattle.lines.specs.declared.line.Line.TheVariants as line
@@ -20,19 +22,24 @@ module _ (Told : List ℕ → Answer → Type 0) (limit : ℕ) (input : Input) (
   rest = drop at.place input.bytes
 
   -- a line and its LF
-  pub whole_is : (n : ℕ) (held : List ℕ) (old new : Option (List ℕ)) (r : Result (Option Answer) WriteFault) → held ≡ take n rest → IsNext limit input at.place (line.Whole n) →
+  pub whole_is : (n : ℕ) (held : List ℕ) (old new : Option (List ℕ)) (r : Result (Option Answer) WriteFault)
+      → held ≡ take n rest → IsNext limit input at.place (line.Whole n) →
       Answered (Told held) old new r → IsStep Told limit input at old new (after_whole n r)
-  whole_is n held old new (Ok (Some said)) is next answered = (take n rest, next.0, next.1, rw is at answered.0, answered.1)
+  whole_is n held old new (Ok (Some said)) is next answered =
+      (take n rest, next.0, next.1, rw is at answered.0, answered.1)
   whole_is n held old new (Ok None) is next kept = inl (refl, kept)
-  whole_is n held old new (Err fault) is next (said, says, part) = (said, part, inl (take n rest, next.0, rw is at says))
+  whole_is n held old new (Err fault) is next (said, says, part) =
+      (said, part, inl (take n rest, next.0, rw is at says))
 
   last_ends : (n : ℕ) (said : Answer) → IsNext limit input at.place (line.Last n) → Told rest said →
       Ends Told limit input at (answer_text said) (Quiet (status_after (at.all && says_yes said)))
   last_ends n said (free, len, some, short, fine) says =
-      last_line said fine (λ e. let l = ap length e in absurd (omega (arith, l, len, some))) free (omega (arith, len, short)) says
+      last_line said fine (λ e. let l = ap length e in absurd (omega (arith, l, len, some))) free
+      (omega (arith, len, short)) says
 
   -- a last line without LF
-  pub last_is : (n : ℕ) (held : List ℕ) (old new : Option (List ℕ)) (r : Result (Option Answer) WriteFault) → held ≡ take n rest → IsNext limit input at.place (line.Last n) →
+  pub last_is : (n : ℕ) (held : List ℕ) (old new : Option (List ℕ)) (r : Result (Option Answer) WriteFault)
+      → held ≡ take n rest → IsNext limit input at.place (line.Last n) →
       Answered (Told held) old new r → IsStep Told limit input at old new (after_last at.all r)
   last_is n held old new (Ok (Some said)) is next answered =
       let all : held ≡ rest = is ∙ take_all n rest (let len = next.1 in omega (arith, len)) in
@@ -43,11 +50,14 @@ module _ (Told : List ℕ → Answer → Type 0) (limit : ℕ) (input : Input) (
       (said, part, inr (_, last_ends n said next (rw all at says)))
 
   -- no line
-  pub long_is : (old : Option (List ℕ)) → IsNext limit input at.place line.Overlong → IsStep Told limit input at old old (Ok (Stops (LongLine (at.count + 1) limit)))
+  pub long_is : (old : Option (List ℕ)) → IsNext limit input at.place line.Overlong
+      → IsStep Told limit input at old old (Ok (Stops (LongLine (at.count + 1) limit)))
   long_is old next = inr ([], overlong next.0 next.1, Appends-same old)
 
-  pub end_is : (old : Option (List ℕ)) → IsNext limit input at.place line.End → IsStep Told limit input at old old (Ok (Stops (Quiet (status_after at.all))))
+  pub end_is : (old : Option (List ℕ)) → IsNext limit input at.place line.End
+      → IsStep Told limit input at old old (Ok (Stops (Quiet (status_after at.all))))
   end_is old next = inr ([], finished next.1 next.0, Appends-same old)
 
-  pub broken_is : (old : Option (List ℕ)) → IsNext limit input at.place line.Broken → IsStep Told limit input at old old (Ok (Stops stop.Broken))
+  pub broken_is : (old : Option (List ℕ)) → IsNext limit input at.place line.Broken
+      → IsStep Told limit input at old old (Ok (Stops stop.Broken))
   broken_is old (free, short, fault) = inr ([], broken fault free short, Appends-same old)

@@ -1,6 +1,7 @@
 -- A run of lines goes on from each place, as each line has an answer.
 -- Serves: run_lines
-use Rattle.std.proofs.Common.{◌≡◌, ◌≢◌, ℕ, suc, zero, ◌+◌, ◌<◌, ◌≤◌, ◌&&◌, Bool, true, false, List, [], ◌∷◌, ◌++◌, length, drop, refl, ap, arith, inl, inr, ◌⊎◌, length-drop, length-append}
+use Rattle.std.proofs.Common.{◌≡◌, ◌≢◌, ℕ, suc, zero, ◌+◌, ◌<◌, ◌≤◌, ◌&&◌, Bool, true, false, List, [], ◌∷◌, ◌++◌}
+use Rattle.std.proofs.Common.{length, drop, refl, ap, arith, inl, inr, ◌⊎◌, length-drop, length-append}
 use Rattle.std.proofs.Math.Nat.{min-le_left, min-le_right, le-min}
 use Rattle.std.proofs.lemmas.Bool.{cases_lt, cases_eq}
 use Rattle.std.proofs.lemmas.List.{take-append-le}
@@ -12,7 +13,8 @@ use Rattle.toolrun.specs.Status.{code_of}
 use Rattle.toolrun.specs.Stop.{message_of, status_of}
 use Rattle.toolrun.specs.declared.stop.Stop.{Stop}
 use Rattle.toolrun.specs.declared.stop.Stop.TheVariants.{Quiet, LongLine, Broken}
-use Rattle.lines.specs.InputLines.{HasNoEnd, answer_text, says_yes, status_after, behind, place_taken, taken_at, IsLine, Lines, one_more, Ends, broken, overlong, finished, last_line}
+use Rattle.lines.specs.InputLines.{HasNoEnd, answer_text, says_yes, status_after, behind, place_taken, taken_at, IsLine}
+use Rattle.lines.specs.InputLines.{Lines, one_more, Ends, broken, overlong, finished, last_line}
 use Rattle.lines.specs.declared.answers.Answer.{Answer}
 use Rattle.lines.specs.declared.line_loop.At.{At}
 
@@ -32,7 +34,8 @@ module _ (Told : List ℕ → Answer → Type 0) (limit : ℕ) (input : Input) w
   rest s = drop s input.bytes
 
   abbrev pub Goes : ℕ → List ℕ → Type 0
-  Goes s text = Begins (Lines Told limit input) (Ends Told limit input) (place_taken limit input) (taken_at limit input s) text
+  Goes s text = Begins (Lines Told limit input) (Ends Told limit input) (place_taken limit input)
+      (taken_at limit input s) text
 
   takes_more : (s t n : ℕ) → s ≤ t → taken_at limit input t ≤ n → taken_at limit input s ≤ n
   takes_more s t n le h =
@@ -41,10 +44,27 @@ module _ (Told : List ℕ → Answer → Type 0) (limit : ℕ) (input : Input) w
       let m : taken_at limit input s ≤ taken_at limit input t = le-min a (omega (arith, b, le)) in
       omega (arith, m, h)
 
-  pub stops : (at : At) (text last : List ℕ) (stop : Stop) → Lines Told limit input at text → Ends Told limit input at last stop → Goes at.place (text ++ last)
+  pub stops : (at : At) (text last : List ℕ) (stop : Stop) → Lines Told limit input at text
+      → Ends Told limit input at last stop → Goes at.place (text ++ last)
   stops at text last stop lines ends = record {
-    reply = record { out = text ++ last; err = message_of stop; status = code_of (status_of stop); taken = taken_at limit input at.place };
-    replies = record { point = at; before = text; last = last; stop = stop; steps = lines; ends = ends; out = refl; err = refl; status = refl; taken = refl };
+    reply = record {
+      out = text ++ last;
+      err = message_of stop;
+      status = code_of (status_of stop);
+      taken = taken_at limit input at.place;
+    };
+    replies = record {
+      point = at;
+      before = text;
+      last = last;
+      stop = stop;
+      steps = lines;
+      ends = ends;
+      out = refl;
+      err = refl;
+      status = refl;
+      taken = refl;
+    };
     front = IsBeginning-same (text ++ last);
     taken = omega arith;
   }
@@ -64,32 +84,50 @@ module _ (Told : List ℕ → Answer → Type 0) (limit : ℕ) (input : Input) w
       omega (arith, l, length-append line (10 ∷ is.after), length-drop s input.bytes)
 
   module _ (decided : (line : List ℕ) → (said : Answer) × Told line said) where
-    ended : (at : At) (text : List ℕ) → Lines Told limit input at text → HasNoEnd (rest at.place) → length (rest at.place) ≤ limit → (fault : Bool) → input.fault ≡ fault →
+    ended : (at : At) (text : List ℕ) → Lines Told limit input at text → HasNoEnd (rest at.place)
+        → length (rest at.place) ≤ limit → (fault : Bool) → input.fault ≡ fault →
         (bytes : List ℕ) → rest at.place ≡ bytes → Goes at.place text
-    ended at text lines free le true is bytes same = begins at.place at.place text [] (omega arith) (stops at text [] Broken lines (broken is free le))
-    ended at text lines free le false is [] same = begins at.place at.place text [] (omega arith) (stops at text [] (Quiet (status_after at.all)) lines (finished is same))
+    ended at text lines free le true is bytes same = begins at.place at.place text [] (omega arith)
+        (stops at text [] Broken lines (broken is free le))
+    ended at text lines free le false is [] same = begins at.place at.place text [] (omega arith)
+        (stops at text [] (Quiet (status_after at.all)) lines (finished is same))
     ended at text lines free le false is (b ∷ bytes) same =
         let d = decided (rest at.place) in
-        begins at.place at.place text (answer_text d.0) (omega arith) (stops at text (answer_text d.0) (Quiet (status_after (at.all && says_yes d.0))) lines (last_line d.0 is (λ e. absurd (cc)) free le d.1))
+        begins at.place at.place text (answer_text d.0) (omega arith)
+        (stops at text (answer_text d.0) (Quiet (status_after (at.all && says_yes d.0))) lines
+        (last_line d.0 is (λ e. absurd (cc)) free le d.1))
 
-    goes : (fuel : ℕ) (at : At) (text : List ℕ) → Lines Told limit input at text → length (rest at.place) < fuel → Goes at.place text
+    goes : (fuel : ℕ) (at : At) (text : List ℕ) → Lines Told limit input at text → length (rest at.place) < fuel
+        → Goes at.place text
     goes zero at text lines room = absurd (omega (arith, room))
     goes (suc fuel) at text lines room = elim (split (rest at.place)) [
       | inl (line, after, cut, one) ↦ elim (cases_lt limit (length line)) [
         | inl over ↦
             let l = ap length cut in
-            begins at.place at.place text [] (omega arith) (stops at text [] (LongLine (at.count + 1) limit) lines (overlong
-            (rw (cut, take-append-le (suc limit) line (10 ∷ after) (omega arith)) (All-take (λ b. b ≢ 10) (suc limit) line one))
+            begins at.place at.place text [] (omega arith)
+            (stops at text [] (LongLine (at.count + 1) limit) lines (overlong
+            (rw (cut, take-append-le (suc limit) line (10 ∷ after) (omega arith))
+            (All-take (λ b. b ≢ 10) (suc limit) line one))
             (omega (arith, l, length-append line (10 ∷ after)))))
         | inr le ↦
             let d = decided line in
             let l = ap length cut in
-            begins at.place (at.place + length line + 1) text (answer_text d.0) (omega arith) (goes fuel (behind at (length line) d.0) (text ++ answer_text d.0)
+            begins at.place (at.place + length line + 1) text (answer_text d.0) (omega arith)
+            (goes fuel (behind at (length line) d.0) (text ++ answer_text d.0)
             (one_more at text line d.0 lines (record { after = after; cut = cut; one = one; within = omega arith }) d.1)
-            (omega (arith, room, l, length-append line (10 ∷ after), length-drop at.place input.bytes, length-drop (at.place + length line + 1) input.bytes)))
+            (omega (
+              arith,
+              room,
+              l,
+              length-append line (10 ∷ after),
+              length-drop at.place input.bytes,
+              length-drop (at.place + length line + 1) input.bytes,
+            )))
       ]
       | inr free ↦ elim (cases_lt limit (length (rest at.place))) [
-        | inl over ↦ begins at.place at.place text [] (omega arith) (stops at text [] (LongLine (at.count + 1) limit) lines (overlong (All-take (λ b. b ≢ 10) (suc limit) (rest at.place) free) over))
+        | inl over ↦ begins at.place at.place text [] (omega arith)
+            (stops at text [] (LongLine (at.count + 1) limit) lines
+            (overlong (All-take (λ b. b ≢ 10) (suc limit) (rest at.place) free) over))
         | inr le ↦ ended at text lines free (omega arith) input.fault refl (rest at.place) refl
       ]
     ]
@@ -99,10 +137,12 @@ module _ (Told : List ℕ → Answer → Type 0) (limit : ℕ) (input : Input) w
 
     -- the text of one more answer, of which only a part may have been written
     pub answer_goes_on : (at : At) (text : List ℕ) (said : Answer) → Lines Told limit input at text →
-        ((line : List ℕ) × IsLine limit input at.place line × Told line said) ⊎ ((why : Stop) × Ends Told limit input at (answer_text said) why) →
+        ((line : List ℕ) × IsLine limit input at.place line × Told line said)
+        ⊎ ((why : Stop) × Ends Told limit input at (answer_text said) why) →
         Goes at.place (text ++ answer_text said)
     answer_goes_on at text said lines (inl (line, is, says)) =
-        let goes = lines_go_on (behind at (length line) said) (text ++ answer_text said) (one_more at text line said lines is says) in record {
+        let goes = lines_go_on (behind at (length line) said) (text ++ answer_text said)
+        (one_more at text line said lines is says) in record {
           reply = goes.reply;
           replies = goes.replies;
           front = goes.front;

@@ -1,6 +1,7 @@
 -- The lines of an input and how a run of them ends are determined, and so is its reply, where each line has one answer.
 -- Serves: one_reply_of_abnf, one_statement_of_abnf
-use Rattle.std.proofs.Common.{◌≡◌, ◌≢◌, ℕ, suc, ◌<◌, ◌≤◌, ◌&&◌, List, [], ◌∷◌, ◌++◌, length, take, drop, get_or, refl, sym, ◌∙◌, ap, subst, arith, inl, inr, length-append, length-take}
+use Rattle.std.proofs.Common.{◌≡◌, ◌≢◌, ℕ, suc, ◌<◌, ◌≤◌, ◌&&◌, List, [], ◌∷◌, ◌++◌, length, take, drop, get_or, refl}
+use Rattle.std.proofs.Common.{sym, ◌∙◌, ap, subst, arith, inl, inr, length-append, length-take}
 use Rattle.std.proofs.Math.Seq.{get_or-append_seam}
 use Rattle.std.proofs.lemmas.Bool.{cases_lt}
 use Rattle.std.proofs.lemmas.List.{get_or-take}
@@ -12,14 +13,16 @@ use Rattle.toolrun.specs.Status.{code_of}
 use Rattle.toolrun.specs.Stop.{message_of, status_of}
 use Rattle.toolrun.specs.declared.stop.Stop.{Stop}
 use Rattle.toolrun.specs.declared.stop.Stop.TheVariants as stop
-use Rattle.lines.specs.InputLines.{HasNoEnd, answer_text, says_yes, status_after, behind, place_taken, IsLine, Lines, none, one_more, Ends, broken, overlong, finished, last_line}
+use Rattle.lines.specs.InputLines.{HasNoEnd, answer_text, says_yes, status_after, behind, place_taken, IsLine, Lines}
+use Rattle.lines.specs.InputLines.{none, one_more, Ends, broken, overlong, finished, last_line}
 use Rattle.lines.specs.declared.answers.Answer.{Answer}
 use Rattle.lines.specs.declared.line_loop.At.{At}
 
 -- what stands before the first LF is one
 one_front : (a b x y : List ℕ) → HasNoEnd a → HasNoEnd b → a ++ 10 ∷ x ≡ b ++ 10 ∷ y → a ≡ b
 one_front [] [] x y h k e = refl
-one_front [] (c ∷ b) x y h k e = absurd (All-head (λ v. v ≢ 10) c b k (let f = ap (λ (l : List ℕ). get_or l 0 0) e in sym f))
+one_front [] (c ∷ b) x y h k e = absurd (All-head (λ v. v ≢ 10) c b k (let f = ap (λ (l : List ℕ). get_or l 0 0) e in
+    sym f))
 one_front (c ∷ a) [] x y h k e = absurd (All-head (λ v. v ≢ 10) c a h (ap (λ (l : List ℕ). get_or l 0 0) e))
 one_front (c ∷ a) (d ∷ b) x y h k e =
     let first : c ≡ d = ap (λ (l : List ℕ). get_or l 0 0) e in
@@ -31,18 +34,23 @@ one_front (c ∷ a) (d ∷ b) x y h k e =
 has_end : (xs line after : List ℕ) → xs ≡ line ++ 10 ∷ after → HasNoEnd xs → ⊥
 has_end xs line after cut h =
     let l = ap length cut in
-    let here : get_or xs (length line) 0 ≡ 10 = ap (λ (t : List ℕ). get_or t (length line) 0) cut ∙ get_or-append_seam line 10 after 0 in
+    let here : get_or xs (length line) 0 ≡ 10 = ap (λ (t : List ℕ). get_or t (length line) 0) cut
+    ∙ get_or-append_seam line 10 after 0 in
     All-get_or (λ v. v ≢ 10) xs (length line) 0 (omega (arith, l, length-append line (10 ∷ after))) h here
 
 -- nor is a front of it that reaches over the LF
-has_end_within : (n : ℕ) (xs line after : List ℕ) → xs ≡ line ++ 10 ∷ after → length line ≤ n → HasNoEnd (take (suc n) xs) → ⊥
+has_end_within : (n : ℕ) (xs line after : List ℕ) → xs ≡ line ++ 10 ∷ after → length line ≤ n
+    → HasNoEnd (take (suc n) xs) → ⊥
 has_end_within n xs line after cut le h =
     let l = ap length cut in
     let here : get_or (take (suc n) xs) (length line) 0 ≡ 10 =
-    get_or-take (suc n) xs (length line) 0 (omega (arith, le)) ∙ ap (λ (t : List ℕ). get_or t (length line) 0) cut ∙ get_or-append_seam line 10 after 0 in
-    All-get_or (λ v. v ≢ 10) (take (suc n) xs) (length line) 0 (omega (arith, l, le, length-take (suc n) xs, length-append line (10 ∷ after))) h here
+    get_or-take (suc n) xs (length line) 0 (omega (arith, le)) ∙ ap (λ (t : List ℕ). get_or t (length line) 0) cut
+    ∙ get_or-append_seam line 10 after 0 in
+    All-get_or (λ v. v ≢ 10) (take (suc n) xs) (length line) 0
+    (omega (arith, l, le, length-take (suc n) xs, length-append line (10 ∷ after))) h here
 
-module _ (Told : List ℕ → Answer → Type 0) (one_answer : (line : List ℕ) (a b : Answer) → Told line a → Told line b → a ≡ b) (limit : ℕ) (input : Input) where
+module _ (Told : List ℕ → Answer → Type 0) (one_answer : (line : List ℕ) (a b : Answer) → Told line a → Told line b
+    → a ≡ b) (limit : ℕ) (input : Input) where
   abbrev LinesTo : At → List ℕ → Type 0
   LinesTo at text = Lines Told limit input at text
 
@@ -62,9 +70,11 @@ module _ (Told : List ℕ → Answer → Type 0) (one_answer : (line : List ℕ)
     texts : text ≡ more
 
   -- both go on by a line
-  same_next : (at other : At) (text more line next : List ℕ) (said told : Answer) → Same at other text more → LineAt at.place line → LineAt other.place next →
+  same_next : (at other : At) (text more line next : List ℕ) (said told : Answer) → Same at other text more
+      → LineAt at.place line → LineAt other.place next →
       Told line said → Told next told →
-      Same (behind at (length line) said) (behind other (length next) told) (text ++ answer_text said) (more ++ answer_text told)
+      Same (behind at (length line) said) (behind other (length next) told) (text ++ answer_text said)
+      (more ++ answer_text told)
   same_next at other text more line next said told same h k s t =
       let place = same.places in
       let words = same.texts in
@@ -73,12 +83,15 @@ module _ (Told : List ℕ → Answer → Type 0) (one_answer : (line : List ℕ)
       record { places = cc; texts = cc }
 
   -- as many lines lead to one place
-  same_place : (at : At) (text : List ℕ) → LinesTo at text → (other : At) (more : List ℕ) → LinesTo other more → at.count ≡ other.count → Same at other text more
+  same_place : (at : At) (text : List ℕ) → LinesTo at text → (other : At) (more : List ℕ) → LinesTo other more
+      → at.count ≡ other.count → Same at other text more
   same_place at text none other more none e = record { places = refl; texts = refl }
   same_place at text none other more (one_more before front line said u is says) e = absurd (omega (arith, e))
   same_place at text (one_more before front line said u is says) other more none e = absurd (omega (arith, e))
-  same_place at text (one_more before front line said u is says) other more (one_more prior begun next told v has tells) e =
-      same_next before prior front begun line next said told (same_place before front u prior begun v (omega (arith, e))) is has says tells
+  same_place at text (one_more before front line said u is says) other more
+      (one_more prior begun next told v has tells) e =
+      same_next before prior front begun line next said told
+      (same_place before front u prior begun v (omega (arith, e))) is has says tells
 
   -- after so many lines there is a further one
   record GoesOn (n : ℕ) : Type 0 where
@@ -99,15 +112,18 @@ module _ (Told : List ℕ → Answer → Type 0) (one_answer : (line : List ℕ)
   -- no run ends where a line and its LF stand
   no_end : (at : At) (line last : List ℕ) (why : Stop) → LineAt at.place line → EndsAt at last why → ⊥
   no_end at line last why is (broken fault free short) = has_end (drop at.place input.bytes) line is.after is.cut free
-  no_end at line last why is (overlong free long) = has_end_within limit (drop at.place input.bytes) line is.after is.cut is.within free
+  no_end at line last why is (overlong free long) = has_end_within limit (drop at.place input.bytes) line is.after
+      is.cut is.within free
   no_end at line last why is (finished fine empty) =
       let l = ap length is.cut in
       let m = ap length empty in
       omega (arith, l, m, length-append line (10 ∷ is.after))
-  no_end at line last why is (last_line said fine some free short says) = has_end (drop at.place input.bytes) line is.after is.cut free
+  no_end at line last why is (last_line said fine some free short says) =
+      has_end (drop at.place input.bytes) line is.after is.cut free
 
   -- nor behind fewer lines than another run answers
-  no_earlier_end : (at other : At) (text more last : List ℕ) (why : Stop) → LinesTo at text → EndsAt at last why → LinesTo other more → at.count < other.count → ⊥
+  no_earlier_end : (at other : At) (text more last : List ℕ) (why : Stop) → LinesTo at text → EndsAt at last why
+      → LinesTo other more → at.count < other.count → ⊥
   no_earlier_end at other text more last why lines ends further lt =
       let g = goes_on at.count other more further lt in
       let same = same_place at text lines g.at g.text g.lines (sym g.count) in
@@ -118,25 +134,36 @@ module _ (Told : List ℕ → Answer → Type 0) (one_answer : (line : List ℕ)
     lasts : last ≡ other
     stops : why ≡ end
 
-  one_end : (at : At) (last other : List ℕ) (why end : Stop) → EndsAt at last why → EndsAt at other end → OneEnd last other why end
-  one_end at last other why end (broken fault free short) (broken fault' free' short') = record { lasts = refl; stops = refl }
+  one_end : (at : At) (last other : List ℕ) (why end : Stop) → EndsAt at last why → EndsAt at other end
+      → OneEnd last other why end
+  one_end at last other why end (broken fault free short) (broken fault' free' short') =
+      record { lasts = refl; stops = refl }
   one_end at last other why end (broken fault free short) (overlong free' long) = absurd (omega (arith, short, long))
   one_end at last other why end (broken fault free short) (finished fine empty) = absurd (cc)
   one_end at last other why end (broken fault free short) (last_line said fine some free' short' says) = absurd (cc)
   one_end at last other why end (overlong free long) (broken fault free' short) = absurd (omega (arith, short, long))
   one_end at last other why end (overlong free long) (overlong free' long') = record { lasts = refl; stops = refl }
-  one_end at last other why end (overlong free long) (finished fine empty) = absurd (let l = ap length empty in omega (arith, l, long))
-  one_end at last other why end (overlong free long) (last_line said fine some free' short says) = absurd (omega (arith, short, long))
+  one_end at last other why end (overlong free long) (finished fine empty) =
+      absurd (let l = ap length empty in omega (arith, l, long))
+  one_end at last other why end (overlong free long) (last_line said fine some free' short says) =
+      absurd (omega (arith, short, long))
   one_end at last other why end (finished fine empty) (broken fault free short) = absurd (cc)
-  one_end at last other why end (finished fine empty) (overlong free long) = absurd (let l = ap length empty in omega (arith, l, long))
+  one_end at last other why end (finished fine empty) (overlong free long) =
+      absurd (let l = ap length empty in omega (arith, l, long))
   one_end at last other why end (finished fine empty) (finished fine' empty') = record { lasts = refl; stops = refl }
   one_end at last other why end (finished fine empty) (last_line said fine' some free short says) = absurd (some empty)
   one_end at last other why end (last_line said fine some free short says) (broken fault free' short') = absurd (cc)
-  one_end at last other why end (last_line said fine some free short says) (overlong free' long) = absurd (omega (arith, short, long))
+  one_end at last other why end (last_line said fine some free short says) (overlong free' long) =
+      absurd (omega (arith, short, long))
   one_end at last other why end (last_line said fine some free short says) (finished fine' empty) = absurd (some empty)
-  one_end at last other why end (last_line said fine some free short says) (last_line told fine' some' free' short' tells) =
+  one_end at last other why end (last_line said fine some free short says)
+      (last_line told fine' some' free' short' tells) =
       let answers : said ≡ told = one_answer (drop at.place input.bytes) said told says tells in
-      record { lasts = ap answer_text answers; stops = ap (λ (v : Answer). stop.Quiet (status_after (at.all && says_yes v))) answers }
+      record {
+        lasts = ap answer_text answers;
+        stops = ap (λ (v : Answer). stop.Quiet
+            (status_after (at.all && says_yes v))) answers;
+      }
 
   abbrev HasReply : Reply → Type 0
   HasReply reply = Replies (Lines Told limit input) (Ends Told limit input) (place_taken limit input) reply
@@ -145,14 +172,16 @@ module _ (Told : List ℕ → Answer → Type 0) (one_answer : (line : List ℕ)
   reply_there : (a b : Reply) (r : HasReply a) (q : HasReply b) → Same r.point q.point r.before q.before → a ≡ b
   reply_there a b r q same =
       let place = same.places in
-      let h = one_end r.point r.last q.last r.stop q.stop r.ends (subst (λ (v : At). EndsAt v q.last q.stop) (sym place) q.ends) in
+      let h = one_end r.point r.last q.last r.stop q.stop r.ends
+      (subst (λ (v : At). EndsAt v q.last q.stop) (sym place) q.ends) in
       let last = h.lasts in
       let why = h.stops in
       let out : a.out ≡ b.out = r.out ∙ ap (λ t. t ++ r.last) same.texts ∙ ap (λ t. q.before ++ t) last ∙ sym q.out in
       let err : a.err ≡ b.err = r.err ∙ ap (λ w. message_of w) why ∙ sym q.err in
       let status : a.status ≡ b.status = r.status ∙ ap (λ w. code_of (status_of w)) why ∙ sym q.status in
       let taken : a.taken ≡ b.taken = r.taken ∙ ap (λ (v : At). place_taken limit input v) place ∙ sym q.taken in
-      let is : record { out = a.out; err = a.err; status = a.status; taken = a.taken } ≡ record { out = b.out; err = b.err; status = b.status; taken = b.taken } = cc in
+      let is : record { out = a.out; err = a.err; status = a.status; taken = a.taken }
+      ≡ record { out = b.out; err = b.err; status = b.status; taken = b.taken } = cc in
       is
 
   -- one reply
@@ -161,6 +190,7 @@ module _ (Told : List ℕ → Answer → Type 0) (one_answer : (line : List ℕ)
     | inl lt ↦ absurd (no_earlier_end r.point q.point r.before q.before r.last r.stop r.steps r.ends q.steps lt)
     | inr ge ↦ elim (cases_lt q.point.count r.point.count) [
       | inl lt ↦ absurd (no_earlier_end q.point r.point q.before r.before q.last q.stop q.steps q.ends r.steps lt)
-      | inr le ↦ reply_there a b r q (same_place r.point r.before r.steps q.point q.before q.steps (omega (arith, ge, le)))
+      | inr le ↦ reply_there a b r q (same_place r.point r.before r.steps q.point q.before q.steps
+          (omega (arith, ge, le)))
     ]
   ]

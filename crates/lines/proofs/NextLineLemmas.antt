@@ -1,6 +1,8 @@
 -- What was found in a window stands in every input of which so much has been seen.
 -- Serves: next_line (follows)
-use Rattle.std.proofs.Common.{◌≡◌, ◌≢◌, ℕ, suc, ◌+◌, ◌<◌, ◌≤◌, ◌==◌, Bool, true, false, Some, None, List, [], ◌∷◌, ◌++◌, length, drop, take, refl, sym, ◌∙◌, ap, arith, append_assoc, length-append, length-take, get_or, drop-cons, if◌then◌else◌}
+use Rattle.std.proofs.Common.{◌≡◌, ◌≢◌, ℕ, suc, ◌+◌, ◌<◌, ◌≤◌, ◌==◌, Bool, true, false, Some, None, List, [], ◌∷◌, ◌++◌}
+use Rattle.std.proofs.Common.{length, drop, take, refl, sym, ◌∙◌, ap, arith, append_assoc, length-append, length-take}
+use Rattle.std.proofs.Common.{get_or, drop-cons, if◌then◌else◌}
 use Rattle.std.proofs.Math.Nat.{min-eq_left, min-eq_right}
 use Rattle.std.proofs.Math.Seq.{take-append_seam, drop-append_seam}
 use Rattle.std.proofs.lemmas.Bool.{eqb-true}
@@ -34,7 +36,8 @@ first_found n xs before found =
     let l = length-take n xs in
     let inside : n < length xs = omega (arith, before.high) in
     let here : get_or xs n 0 ≡ 10 = grind (arith, nat_tests, found) in (
-      sym (take-append-drop n xs) ∙ ap (λ t. take n xs ++ t) (drop-cons xs n 0 inside ∙ ap (λ b. b ∷ drop (suc n) xs) here),
+      sym (take-append-drop n xs) ∙ ap (λ t. take n xs ++ t)
+          (drop-cons xs n 0 inside ∙ ap (λ b. b ∷ drop (suc n) xs) here),
       All-from_get_or (λ b. b ≢ 10) (take n xs) 0 (λ i lt eq.
           let low : i < n = omega arith in
           let same : get_or xs i 0 ≡ 10 = sym (get_or-take n xs i 0 low) ∙ eq in
@@ -43,12 +46,15 @@ first_found n xs before found =
     )
 
 -- what is held is the beginning of the rest
-pub held_front : (before items : List ℕ) (more bytes : List ℕ) (k start : ℕ) → bytes ≡ (before ++ items) ++ more → length before ≡ start → k ≤ length items →
+pub held_front : (before items : List ℕ) (more bytes : List ℕ) (k start : ℕ) → bytes ≡ (before ++ items) ++ more
+    → length before ≡ start → k ≤ length items →
     take k items ≡ take k (drop start bytes)
 held_front before items more bytes k start is here le =
-    rw (is, append_assoc before items more, ← here, drop-append_seam before (items ++ more)) (sym (take-append-le k items more le))
+    rw (is, append_assoc before items more, ← here, drop-append_seam before (items ++ more))
+    (sym (take-append-le k items more le))
 
-module _ {R : Type 0} (f : Feed R) (limit : ℕ) (before : List ℕ) (input : Input) (room : capacity_of f ≡ limit + 1) (fits : length (bytes_of f) ≤ capacity_of f)
+module _ {R : Type 0} (f : Feed R) (limit : ℕ) (before : List ℕ) (input : Input) (room : capacity_of f ≡ limit + 1)
+    (fits : length (bytes_of f) ≤ capacity_of f)
     (agrees : Agrees (before ++ bytes_of f) (flow_of f) input) where
   abbrev items : List ℕ
   items = bytes_of f
@@ -97,7 +103,8 @@ module _ {R : Type 0} (f : Feed R) (limit : ℕ) (before : List ℕ) (input : In
       rw front (
         record {
           after = drop (suc k) items ++ agrees.more;
-          cut = rest_is ∙ ap (λ t. t ++ agrees.more) is.0 ∙ append_assoc (take k items) (10 ∷ drop (suc k) items) agrees.more;
+          cut = rest_is ∙ ap (λ t. t ++ agrees.more) is.0 ∙ append_assoc (take k items) (10 ∷ drop (suc k) items)
+              agrees.more;
           one = is.1;
           within = omega (arith, is.2, high, fits, room);
         },
@@ -119,7 +126,8 @@ module _ {R : Type 0} (f : Feed R) (limit : ℕ) (before : List ℕ) (input : In
         let some : 0 < length items = grind (arith, common_steps, e) in
         (rw same (none_found items none), ap length same, some, short, a.1)
 
-    pub not_found : (held : Held) → IsHeld f held → IsNext limit input (length before) (line_without held (length items))
+    pub not_found : (held : Held) → IsHeld f held → IsNext limit input (length before)
+        (line_without held (length items))
     not_found held.Full full =
         let e : length items ≡ suc limit = omega (arith, full, room) in
         let window : take (suc limit) rest ≡ items = rw (rest_is, ← e) (take-append_seam items agrees.more) in

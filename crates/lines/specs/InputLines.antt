@@ -1,6 +1,7 @@
 -- The lines of an input, the answers to them, and how a run of them ends.
 use Prim.Native.Char.{code}
-use Rattle.std.specs.Prelude.{◌≡◌, ◌≢◌, ℕ, suc, ◌+◌, ◌<◌, ◌≤◌, ◌==◌, ◌&&◌, ⊤, min, Bool, true, false, List, [], ◌∷◌, ◌++◌, length, take, drop, codes, decimal, if◌then◌else◌}
+use Rattle.std.specs.Prelude.{◌≡◌, ◌≢◌, ℕ, suc, ◌+◌, ◌<◌, ◌≤◌, ◌==◌, ◌&&◌, ⊤, min, Bool, true, false, List, [], ◌∷◌}
+use Rattle.std.specs.Prelude.{◌++◌, length, take, drop, codes, decimal, if◌then◌else◌}
 use Rattle.std.specs.List.{All}
 use Rattle.feed.specs.declared.held.Held.{Held}
 use Rattle.feed.specs.declared.held.Held.TheVariants as held
@@ -60,7 +61,8 @@ module _ (limit : ℕ) (input : Input) where
   -- What stands at s. After a fault of the reader a line stands there only with its LF.
   abbrev pub IsNext : ℕ → Line → Type 0
   IsNext s (Whole k) = IsLine s (take k (drop s input.bytes)) × (length (take k (drop s input.bytes)) ≡ k)
-  IsNext s (Last k) = HasNoEnd (drop s input.bytes) × (length (drop s input.bytes) ≡ k) × (0 < k) × (k ≤ limit) × (input.fault ≡ false)
+  IsNext s (Last k) = HasNoEnd (drop s input.bytes) × (length (drop s input.bytes) ≡ k) × (0 < k) × (k ≤ limit)
+      × (input.fault ≡ false)
   IsNext s Overlong = HasNoEnd (take (suc limit) (drop s input.bytes)) × (limit < length (drop s input.bytes))
   IsNext s End = (drop s input.bytes ≡ []) × (input.fault ≡ false)
   IsNext s Broken = HasNoEnd (drop s input.bytes) × (length (drop s input.bytes) ≤ limit) × (input.fault ≡ true)
@@ -82,19 +84,23 @@ module _ (Told : List ℕ → Answer → Type 0) (limit : ℕ) (input : Input) w
   -- the lines up to a place, and their answers
   pub data Lines : At → List ℕ → Type 0 where
     none : Lines (record { place = 0; count = 0; all = true }) []
-    one_more : (at : At) (before line : List ℕ) (said : Answer) → Lines at before → IsLine limit input at.place line → Told line said →
+    one_more : (at : At) (before line : List ℕ) (said : Answer) → Lines at before → IsLine limit input at.place line
+        → Told line said →
         Lines (behind at (length line) said) (before ++ answer_text said)
 
   -- how a run ends there, and the answer to a last line without LF
   pub data Ends (at : At) : List ℕ → Stop → Type 0 where
-    broken : input.fault ≡ true → HasNoEnd (drop at.place input.bytes) → length (drop at.place input.bytes) ≤ limit → Ends at [] stop.Broken
+    broken : input.fault ≡ true → HasNoEnd (drop at.place input.bytes) → length (drop at.place input.bytes) ≤ limit
+        → Ends at [] stop.Broken
     overlong : HasNoEnd (take (suc limit) (drop at.place input.bytes)) → limit < length (drop at.place input.bytes) →
         Ends at [] (stop.LongLine (at.count + 1) limit)
     finished : input.fault ≡ false → drop at.place input.bytes ≡ [] → Ends at [] (stop.Quiet (status_after at.all))
-    last_line : (said : Answer) → input.fault ≡ false → drop at.place input.bytes ≢ [] → HasNoEnd (drop at.place input.bytes) →
+    last_line : (said : Answer) → input.fault ≡ false → drop at.place input.bytes ≢ []
+        → HasNoEnd (drop at.place input.bytes) →
         length (drop at.place input.bytes) ≤ limit → Told (drop at.place input.bytes) said →
         Ends at (answer_text said) (stop.Quiet (status_after (at.all && says_yes said)))
 
 -- what a run of the lines of an input states
 abbrev pub LinesReply : (List ℕ → Answer → Type 0) → ℕ → Input → Reply → Type 0
-LinesReply Told limit input reply = RunStates (Lines Told limit input) (Ends Told limit input) (place_taken limit input) reply
+LinesReply Told limit input reply = RunStates (Lines Told limit input) (Ends Told limit input) (place_taken limit input)
+    reply

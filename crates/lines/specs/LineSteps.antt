@@ -39,7 +39,10 @@ module _ (Told : List ℕ → Answer → Type 0) (limit : ℕ) (input : Input) w
   -- a line was answered, or the run ends here and its last answer was written, or memory was refused and nothing was
   abbrev pub IsStep : At → Option (List ℕ) → Option (List ℕ) → Result Step WriteFault → Type 0
   IsStep at old new (Ok (Answers said n)) =
-      (line : List ℕ) × IsLine limit input at.place line × (length line ≡ n) × Told line said × Appends old new (answer_text said)
-  IsStep at old new (Ok (Stops why)) = ((why ≡ NoMemory) × Keeps old new) ⊎ ((last : List ℕ) × Ends Told limit input at last why × Appends old new last)
+      (line : List ℕ) × IsLine limit input at.place line × (length line ≡ n) × Told line said
+      × Appends old new (answer_text said)
+  IsStep at old new (Ok (Stops why)) = ((why ≡ NoMemory) × Keeps old new)
+      ⊎ ((last : List ℕ) × Ends Told limit input at last why × Appends old new last)
   IsStep at old new (Err fault) = (said : Answer) × AppendsPart old new (answer_text said) ×
-      (((line : List ℕ) × IsLine limit input at.place line × Told line said) ⊎ ((why : Stop) × Ends Told limit input at (answer_text said) why))
+      (((line : List ℕ) × IsLine limit input at.place line × Told line said)
+      ⊎ ((why : Stop) × Ends Told limit input at (answer_text said) why))

@@ -88,7 +88,8 @@ pub fn answer_held<W, J: Judge<W>, R: Source, O: Sink>(
 ) -> Result<Option<Answer>, WriteFault>
     requires { n ≤ length (bytes_of feed.old) }
     ensures same { SameFeed feed.old feed.new }
-    ensures answered { Answered (J.told judge.now (take n (bytes_of feed.old))) (O.contents out.old) (O.contents out.new) result }
+    ensures answered { Answered (J.told judge.now (take n (bytes_of feed.old))) (O.contents out.old)
+        (O.contents out.new) result }
     ensures flag { Flags (O.failed out.old) (O.failed out.new) result }
 {
     let Ok(said) = judge_held(judge, work, feed, n) else {

@@ -41,7 +41,8 @@ pub fn next_line<R: Source>(feed: &mut Feed<'_, R>) -> Line
     ensures told { IsTrueOfReader R.remaining R.failed feed.old → IsTrueOfReader R.remaining R.failed feed.new }
     ensures follows { (limit : ℕ) (before : List ℕ) (input : Input) → capacity_of feed.new ≡ limit + 1 →
         Agrees (before ++ bytes_of feed.new) (flow_of feed.new) input →
-        IsNext limit input (length before) result × (length (before ++ bytes_of feed.new) ≡ taken_at limit input (length before)) }
+        IsNext limit input (length before) result × (length (before ++ bytes_of feed.new) ≡ taken_at limit input
+        (length before)) }
     ensures fits { LiesWithin (length (bytes_of feed.new)) result }
 {
     let held = feed.fill();

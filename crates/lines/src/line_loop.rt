@@ -2,7 +2,8 @@
 ghost use Rattle.std.specs.Prelude.{◌≡◌, ◌&&◌, ◌≤◌, ◌+◌, ℕ, List, [], ◌++◌, length, false};
 ghost use Rattle.std.specs.Io.KnownBytes.{Consumes};
 ghost use Rattle.ruletable.specs.Writing.{Flags};
-ghost use Rattle.feed.specs.Feed.{Grows, IsTrueOfReader, SameLoan, allowance_of, bytes_of, capacity_of, flow_of, input_limit, reader_of};
+ghost use Rattle.feed.specs.Feed.{Grows, IsTrueOfReader, SameLoan, allowance_of, bytes_of, capacity_of, flow_of};
+ghost use Rattle.feed.specs.Feed.{input_limit, reader_of};
 ghost use Rattle.toolrun.specs.Agrees.{Agrees};
 ghost use Rattle.toolrun.specs.Input.{Input};
 ghost use Rattle.toolrun.specs.RunSteps.{HasRun};
@@ -100,7 +101,8 @@ fn next_step<W, J: Judge<W>, R: Source, O: Sink>(
     ensures loan { SameLoan feed.old feed.new }
     ensures told { IsTrueOfReader R.remaining R.failed feed.new }
     ensures grows { Grows R.remaining feed.old feed.new }
-    ensures follows { (before : List ℕ) (input : Input) → length before ≡ at.place → Agrees (before ++ bytes_of feed.new) (flow_of feed.new) input →
+    ensures follows { (before : List ℕ) (input : Input) → length before ≡ at.place → Agrees (before
+        ++ bytes_of feed.new) (flow_of feed.new) input →
         IsStep (J.told judge.now) limit input at (O.contents out.old) (O.contents out.new) result ×
         (length (before ++ bytes_of feed.new) ≡ taken_at limit input at.place) }
     ensures fits { FitsIn (length (bytes_of feed.new)) result }
@@ -132,10 +134,12 @@ fn answer_lines<W, J: Judge<W>, R: Source, O: Sink>(
     requires told { IsTrueOfReader R.remaining R.failed feed.old }
     ensures loan { SameLoan feed.old feed.new }
     ensures told { IsTrueOfReader R.remaining R.failed feed.new }
-    ensures lines { (seen : List ℕ) × Consumes (R.remaining (reader_of feed.old)) (R.remaining (reader_of feed.new)) seen ×
+    ensures lines { (seen : List ℕ) × Consumes (R.remaining (reader_of feed.old)) (R.remaining
+        (reader_of feed.new)) seen ×
         (allowance_of feed.new + length seen ≡ input_limit) ×
         ((input : Input) → Agrees seen (flow_of feed.new) input →
-        HasRun (Lines (J.told judge.now) limit input) (Ends (J.told judge.now) limit input) (place_taken limit input) (length seen)
+        HasRun (Lines (J.told judge.now) limit input) (Ends (J.told judge.now) limit input) (place_taken limit input)
+        (length seen)
         (O.contents out.old) (O.contents out.new) result) }
     ensures flag { Flags (O.failed out.old) (O.failed out.new) result }
 {
@@ -161,16 +165,16 @@ fn answer_lines<W, J: Judge<W>, R: Source, O: Sink>(
     }
 }
 
-/// Judges the lines of what a reader gives, and writes the answer to each: `yes`, `no`, or `no` and a number. The reader
-/// may not have failed before.
+/// Judges the lines of what a reader gives, and writes the answer to each: `yes`, `no`, or `no` and a number. The
+/// reader may not have failed before.
 ///
 /// - A line ends before an LF, and a last piece without LF is a line if it is not empty. A CR belongs to its line.
 /// - The first line of more than `limit` bytes ends the run: `LongLine` with its number from 1 and the limit. So it is
 ///   with more than `limit` bytes without LF.
 /// - After a fault of the reader a line is judged only if its LF was given; then `Broken`.
 /// - Behind the last line the run ends with `Done` if all answers are yes, else with `NoMatch`.
-/// - `NoMemory` if an allocation fails; the answers before stand whole. `WriteFault` if the output fails; then a beginning
-///   is written.
+/// - `NoMemory` if an allocation fails; the answers before stand whole. `WriteFault` if the output fails; then a
+///   beginning is written.
 pub fn run_lines<W, J: Judge<W>, R: Source, O: Sink>(
     alloc: Global,
     judge: &J,

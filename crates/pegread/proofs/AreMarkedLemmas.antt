@@ -1,11 +1,13 @@
--- The slices of identifiers, literals, classes and actions are such by themselves, in the words of specs/: what stands behind a token doesn't count.
+-- What makes the slice of an identifier, literal, class or action is told of the slice alone.
 -- Serves: are_marked, is_read_back, one_tree
-use Rattle.std.proofs.Common.{◌≡◌, ℕ, ◌<◌, List, [], ◌∷◌, ◌++◌, length, refl, sym, ap, ◌∙◌, subst, arith, append_assoc, append-nil}
+use Rattle.std.proofs.Common.{◌≡◌, ℕ, ◌<◌, List, [], ◌∷◌, ◌++◌, length, refl, sym, ap, ◌∙◌, subst, arith, append_assoc}
+use Rattle.std.proofs.Common.{append-nil}
 use Rattle.std.proofs.lemmas.List.{append_cancel_right}
 use Rattle.ruletable.specs.declared.span.Span.{Span}
 use Rattle.pegread.specs.declared.kind.Kind.TheVariants.{Ident, Literal, Class, Action}
 use Rattle.lexer.specs.SliceEnds.{found}
-use Rattle.pegread.specs.Slices.{Names, none, more, Closes, close, escape, plain, Body, last, nested, other, Stands, ident, single, double, class, action, First}
+use Rattle.pegread.specs.Slices.{Names, none, more, Closes, close, escape, plain, Body, last, nested, other, Stands}
+use Rattle.pegread.specs.Slices.{ident, single, double, class, action, First}
 use Rattle.pegread.specs.Literals.{IsLiteral, single_quoted, double_quoted}
 use Rattle.pegread.specs.Classes.{IsClass, bracketed}
 use Rattle.pegread.specs.Names.{IsName, named}
@@ -30,7 +32,8 @@ closes-shorter (escape c) = let x = closes-shorter c in omega arith
 closes-shorter (plain p q c) = let x = closes-shorter c in omega arith
 
 -- a slice that a first byte begins and a mark closes: what stands behind the first byte closes by itself
-token-alone : {mark first : ℕ} {bs r : List ℕ} → Closes mark bs r → (s : List ℕ) → first ∷ bs ≡ s ++ r → (u : List ℕ) × (s ≡ first ∷ u) × Closes mark u []
+token-alone : {mark first : ℕ} {bs r : List ℕ} → Closes mark bs r → (s : List ℕ) → first ∷ bs ≡ s ++ r → (u : List ℕ)
+    × (s ≡ first ∷ u) × Closes mark u []
 token-alone c [] e = absurd (let x = closes-shorter c in omega (arith, ap length e))
 token-alone {first = first} {bs = bs} {r = r} c (b ∷ u) e =
     let same : b ≡ first = cc in
@@ -57,23 +60,30 @@ matched (nested {r} h k) =
     let y = matched k in
     record {
       text = 123 ∷ (x.text ++ y.text);
-      cut = ap (λ (z : List ℕ). 123 ∷ z) (x.cut ∙ ap (λ (z : List ℕ). x.text ++ z) y.cut ∙ sym (append_assoc x.text y.text r));
-      alone = λ s. subst (λ (z : List ℕ). Body (123 ∷ z) s) (sym (append_assoc x.text y.text s)) (nested (x.alone (y.text ++ s)) (y.alone s));
+      cut = ap (λ (z : List ℕ). 123 ∷ z) (x.cut ∙ ap (λ (z : List ℕ). x.text ++ z) y.cut
+          ∙ sym (append_assoc x.text y.text r));
+      alone = λ s. subst (λ (z : List ℕ). Body (123 ∷ z) s) (sym (append_assoc x.text y.text s))
+          (nested (x.alone (y.text ++ s)) (y.alone s));
     }
-matched (other {b} p q h) = let x = matched h in record { text = b ∷ x.text; cut = ap (λ (z : List ℕ). b ∷ z) x.cut; alone = λ s. other p q (x.alone s) }
+matched (other {b} p q h) = let x = matched h in
+    record { text = b ∷ x.text; cut = ap (λ (z : List ℕ). b ∷ z) x.cut; alone = λ s. other p q (x.alone s) }
 
 action-stands : {t r : List ℕ} → Stands Action t r → (s : List ℕ) → t ≡ s ++ r → IsAction s
 action-stands {r = r} (action h) s e =
     let x = matched h in
-    let whole : 123 ∷ x.text ≡ s = append_cancel_right (123 ∷ x.text) s r (sym (ap (λ (z : List ℕ). 123 ∷ z) x.cut) ∙ e) in
+    let whole : 123 ∷ x.text ≡ s = append_cancel_right (123 ∷ x.text) s r
+    (sym (ap (λ (z : List ℕ). 123 ∷ z) x.cut) ∙ e) in
     subst IsAction whole (braced (subst (λ (z : List ℕ). Body z []) (append-nil x.text) (x.alone [])))
 
 body-ends : {t r : List ℕ} → Body t r → (bs : List ℕ) × (t ≡ bs ++ 125 ∷ r)
 body-ends last = ([], refl)
 body-ends (nested {r} u v) =
     let h = body-ends u in
-    let k = body-ends v in
-    (123 ∷ (h.0 ++ 125 ∷ k.0), ap (λ (x : List ℕ). 123 ∷ x) (h.1 ∙ ap (λ (x : List ℕ). h.0 ++ 125 ∷ x) k.1 ∙ sym (append_assoc h.0 (125 ∷ k.0) (125 ∷ r))))
+    let k = body-ends v in (
+      123 ∷ (h.0 ++ 125 ∷ k.0),
+      ap (λ (x : List ℕ). 123 ∷ x) (h.1 ∙ ap (λ (x : List ℕ). h.0 ++ 125 ∷ x) k.1
+          ∙ sym (append_assoc h.0 (125 ∷ k.0) (125 ∷ r))),
+    )
 body-ends (other {b} p q c) = let h = body-ends c in (b ∷ h.0, ap (λ (x : List ℕ). b ∷ x) h.1)
 
 action-braced : {s : List ℕ} → IsAction s → IsBraced s

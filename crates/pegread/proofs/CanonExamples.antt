@@ -3,7 +3,8 @@ use Rattle.std.proofs.Common.{◌≡◌, ◌==◌, ◌||◌, ◌&&◌, nat_le, n
 use Rattle.ruletable.specs.Runs.{runs_after}
 use Rattle.pegread.specs.Canon.{text_of, definition_text}
 use Rattle.pegread.specs.Escapes.{written}
-use Rattle.pegread.specs.Pattern.{Pattern, Any, Bytes, Set, Name, Seq, Choice, Star, Plus, Opt, And, Not, Act, Open, Close, Patterns, none, more}
+use Rattle.pegread.specs.Pattern.{Pattern, Any, Bytes, Set, Name, Seq, Choice, Star, Plus, Opt, And, Not, Act, Open}
+use Rattle.pegread.specs.Pattern.{Close, Patterns, none, more}
 
 abbrev a : Pattern
 a = Bytes (codes "a")

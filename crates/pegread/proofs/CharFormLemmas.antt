@@ -1,8 +1,12 @@
 -- How far the forms of a text's first byte reach, and which of them is the longest.
 -- Serves: next_char, literal_bytes, class_set, spells_one_char, spells_some_char, one_tree, read_peg
-use Rattle.std.proofs.Common.{◌≡◌, ◌≢◌, ℕ, ◌+◌, ◌*◌, ◌-◌, ◌<◌, ◌≤◌, List, [], ◌∷◌, length, refl, subst, arith, ◌⊎◌, inl, inr}
+use Rattle.std.proofs.Common.{◌≡◌, ◌≢◌, ℕ, ◌+◌, ◌*◌, ◌-◌, ◌<◌, ◌≤◌, List, [], ◌∷◌, length, refl, subst, arith, ◌⊎◌, inl}
+use Rattle.std.proofs.Common.{inr}
 use Rattle.std.proofs.lemmas.Bool.{cases_lt}
-use Rattle.pegread.specs.Chars.{Octal, octal_digit, Hex, hex_digit, hex_upper, hex_lower, DigitFirst, digit_first, NoDigit, Letter, letter_a, letter_b, letter_e, letter_f, letter_n, letter_r, letter_t, letter_v, Form, unescaped, letter, octal_three, octal_two, octal_one, hex_two, hex_one, itself, Char}
+use Rattle.pegread.specs.Chars.{Octal, octal_digit, Hex, hex_digit, hex_upper, hex_lower, DigitFirst, digit_first}
+use Rattle.pegread.specs.Chars.{NoDigit, Letter, letter_a, letter_b, letter_e, letter_f, letter_n, letter_r, letter_t}
+use Rattle.pegread.specs.Chars.{letter_v, Form, unescaped, letter, octal_three, octal_two, octal_one, hex_two, hex_one}
+use Rattle.pegread.specs.Chars.{itself, Char}
 
 pub octal-is : {x k : ℕ} → Octal x k → (x ≡ 48 + k) × (k ≤ 7)
 octal-is (octal_digit h) = (refl, h)
@@ -27,9 +31,32 @@ pub record HexValue (x n : ℕ) : Type 0 where
   pub of_lower : 71 ≤ x → x ≡ 87 + n
 
 pub hex-is : {x n : ℕ} → Hex x n → HexValue x n
-hex-is (hex_digit h) = record { in_order = (omega arith, omega arith); gap_below_upper = inl (omega arith); gap_below_lower = inl (omega arith); of_digit = λ _. refl; of_upper = λ a b. absurd (omega arith); of_lower = λ a. absurd (omega arith) }
-hex-is (hex_upper h) = record { in_order = (omega arith, omega arith); gap_below_upper = inr (omega arith); gap_below_lower = inl (omega arith); of_digit = λ a. absurd (omega arith); of_upper = λ a b. omega arith; of_lower = λ a. absurd (omega arith) }
-hex-is (hex_lower h) = record { in_order = (omega arith, omega arith); gap_below_upper = inr (omega arith); gap_below_lower = inr (omega arith); of_digit = λ a. absurd (omega arith); of_upper = λ a b. absurd (omega arith); of_lower = λ a. omega arith }
+hex-is (hex_digit h) = record {
+  in_order = (omega arith, omega arith);
+  gap_below_upper = inl (omega arith);
+  gap_below_lower = inl (omega arith);
+  of_digit = λ _. refl;
+  of_upper = λ a b. absurd (omega arith);
+  of_lower =
+      λ a. absurd (omega arith);
+}
+hex-is (hex_upper h) = record {
+  in_order = (omega arith, omega arith);
+  gap_below_upper = inr (omega arith);
+  gap_below_lower = inl (omega arith);
+  of_digit = λ a. absurd (omega arith);
+  of_upper = λ a b. omega arith;
+  of_lower =
+      λ a. absurd (omega arith);
+}
+hex-is (hex_lower h) = record {
+  in_order = (omega arith, omega arith);
+  gap_below_upper = inr (omega arith);
+  gap_below_lower = inr (omega arith);
+  of_digit = λ a. absurd (omega arith);
+  of_upper = λ a b. absurd (omega arith);
+  of_lower = λ a. omega arith;
+}
 
 one-value : (x m n : ℕ) → HexValue x m → HexValue x n → m ≡ n
 one-value x m n a b = elim (cases_lt x 58) [
@@ -47,10 +74,12 @@ pub hex-digit : (x n : ℕ) → x ≡ 48 + n → n ≤ 9 → Hex x n
 hex-digit x n e h = rw e (hex_digit h)
 
 pub hex-upper : (x n : ℕ) → x ≡ 55 + n → 10 ≤ n → n ≤ 15 → Hex x n
-hex-upper x n e l h = let p : x ≡ 65 + (n - 10) = omega arith in let q : 10 + (n - 10) ≡ n = omega arith in rw p (subst (λ (v : ℕ). Hex (65 + (n - 10)) v) q (hex_upper (omega arith)))
+hex-upper x n e l h = let p : x ≡ 65 + (n - 10) = omega arith in let q : 10 + (n - 10) ≡ n = omega arith in
+    rw p (subst (λ (v : ℕ). Hex (65 + (n - 10)) v) q (hex_upper (omega arith)))
 
 pub hex-lower : (x n : ℕ) → x ≡ 87 + n → 10 ≤ n → n ≤ 15 → Hex x n
-hex-lower x n e l h = let p : x ≡ 97 + (n - 10) = omega arith in let q : 10 + (n - 10) ≡ n = omega arith in rw p (subst (λ (v : ℕ). Hex (97 + (n - 10)) v) q (hex_lower (omega arith)))
+hex-lower x n e l h = let p : x ≡ 97 + (n - 10) = omega arith in let q : 10 + (n - 10) ≡ n = omega arith in
+    rw p (subst (λ (v : ℕ). Hex (97 + (n - 10)) v) q (hex_lower (omega arith)))
 
 pub no-hex : (x : ℕ) → (x < 48) ⊎ (57 < x) → (x < 65) ⊎ (70 < x) → (x < 97) ⊎ (102 < x) → (n : ℕ) → Hex x n → ⊥
 no-hex x d u l n h = let a = hex-is h in omega arith
@@ -129,7 +158,8 @@ module _ where
   form-one_hex d (hex_one h) = omega arith
   form-one_hex d (itself h k) = omega arith
 
-  form-one_octal : {x k c : ℕ} {r s : List ℕ} → Octal x k → NoDigit Octal r → Form (92 ∷ x ∷ r) s c → length r ≤ length s
+  form-one_octal : {x k c : ℕ} {r s : List ℕ} → Octal x k → NoDigit Octal r → Form (92 ∷ x ∷ r) s c
+      → length r ≤ length s
   form-one_octal o d (unescaped h) = absurd (h refl)
   form-one_octal o d (letter h) = omega arith
   form-one_octal o d (octal_three h k i j) = absurd (d.none _ _ (digit_first i))
@@ -139,7 +169,8 @@ module _ where
   form-one_octal o d (hex_one h) = absurd (not-octal_x o)
   form-one_octal o d (itself h k) = omega arith
 
-  form-two_octal : {x y k c : ℕ} {r s : List ℕ} → Octal x k → (3 < k) ⊎ NoDigit Octal r → Form (92 ∷ x ∷ y ∷ r) s c → length r ≤ length s
+  form-two_octal : {x y k c : ℕ} {r s : List ℕ} → Octal x k → (3 < k) ⊎ NoDigit Octal r → Form (92 ∷ x ∷ y ∷ r) s c
+      → length r ≤ length s
   form-two_octal o d (unescaped h) = absurd (h refl)
   form-two_octal o d (letter h) = omega arith
   form-two_octal o (inl g) (octal_three h k i j) = absurd (let e = octal-same o h in omega arith)
@@ -161,22 +192,32 @@ module _ where
   char-itself h d = record { form = itself h d.octal; longest = λ s c f. form-no_digit d f }
 
   pub char-x : {r : List ℕ} → NoDigit Hex r → Char (92 ∷ 120 ∷ r) r 120
-  char-x d = record { form = itself (λ c h. let x = letter-high h in x.1 refl) (no-octal 120 (inr (omega arith))); longest = λ s c f. form-no_hex d f }
+  char-x d = record {
+    form = itself (λ c h. let x = letter-high h in x.1 refl) (no-octal 120 (inr (omega arith)));
+    longest = λ s c f. form-no_hex d f;
+  }
 
   pub char-one_hex : {t r : List ℕ} {m : ℕ} → DigitFirst Hex t r m → NoDigit Hex r → Char (92 ∷ 120 ∷ t) r m
   char-one_hex (digit_first h) d = record { form = hex_one h; longest = λ s c f. form-one_hex d f }
 
-  pub char-two_hex : {t u r : List ℕ} {m n : ℕ} → DigitFirst Hex t u m → DigitFirst Hex u r n → Char (92 ∷ 120 ∷ t) r (16 * m + n)
-  char-two_hex (digit_first h) (digit_first k) = record { form = hex_two h k; longest = λ s c f. (let x = form-length f in omega arith) }
+  pub char-two_hex : {t u r : List ℕ} {m n : ℕ} → DigitFirst Hex t u m → DigitFirst Hex u r n
+      → Char (92 ∷ 120 ∷ t) r (16 * m + n)
+  char-two_hex (digit_first h) (digit_first k) = record {
+    form = hex_two h k;
+    longest = λ s c f. (let x = form-length f in omega arith);
+  }
 
   pub char-one_octal : {x n : ℕ} {r : List ℕ} → Octal x n → NoDigit Octal r → Char (92 ∷ x ∷ r) r n
   char-one_octal h d = record { form = octal_one h; longest = λ s c f. form-one_octal h d f }
 
-  pub char-two_octal : {x m n : ℕ} {t r : List ℕ} → Octal x m → DigitFirst Octal t r n → (3 < m) ⊎ NoDigit Octal r → Char (92 ∷ x ∷ t) r (8 * m + n)
+  pub char-two_octal : {x m n : ℕ} {t r : List ℕ} → Octal x m → DigitFirst Octal t r n → (3 < m) ⊎ NoDigit Octal r
+      → Char (92 ∷ x ∷ t) r (8 * m + n)
   char-two_octal h (digit_first k) d = record { form = octal_two h k; longest = λ s c f. form-two_octal h d f }
 
-  pub char-three_octal : {x k m n : ℕ} {t u r : List ℕ} → Octal x k → k ≤ 3 → DigitFirst Octal t u m → DigitFirst Octal u r n → Char (92 ∷ x ∷ t) r (64 * k + (8 * m + n))
-  char-three_octal h l (digit_first i) (digit_first j) = record { form = octal_three h l i j; longest = λ s c f. (let x = form-length f in omega arith) }
+  pub char-three_octal : {x k m n : ℕ} {t u r : List ℕ} → Octal x k → k ≤ 3 → DigitFirst Octal t u m
+      → DigitFirst Octal u r n → Char (92 ∷ x ∷ t) r (64 * k + (8 * m + n))
+  char-three_octal h l (digit_first i) (digit_first j) =
+      record { form = octal_three h l i j; longest = λ s c f. (let x = form-length f in omega arith) }
 
 -- the same byte by another sum
 pub char-at : {t r : List ℕ} {b c : ℕ} → Char t r b → b ≡ c → Char t r c

@@ -1,10 +1,16 @@
 -- The front of a text spells at most one byte, and one unless the text is empty or a backslash alone.
 -- Serves: spells_one_char, spells_some_char, spells_one_class, spells_some_class, one_tree, read_peg
-use Rattle.std.proofs.Common.{◌≡◌, ◌≢◌, ℕ, ◌+◌, ◌*◌, ◌-◌, ◌<◌, List, [], ◌∷◌, ◌++◌, length, drop, refl, sym, ap, ◌∙◌, arith, ◌⊎◌, inl, inr, length-append}
+use Rattle.std.proofs.Common.{◌≡◌, ◌≢◌, ℕ, ◌+◌, ◌*◌, ◌-◌, ◌<◌, List, [], ◌∷◌, ◌++◌, length, drop, refl, sym, ap, ◌∙◌}
+use Rattle.std.proofs.Common.{arith, ◌⊎◌, inl, inr, length-append}
 use Rattle.std.proofs.lemmas.Bool.{cases_lt, cases_eq}
 use Rattle.std.proofs.lemmas.List.{drop_at}
-use Rattle.pegread.specs.Chars.{Octal, Hex, DigitFirst, digit_first, NoDigit, Letter, letter_a, letter_b, letter_e, letter_f, letter_n, letter_r, letter_t, letter_v, Form, unescaped, letter, octal_three, octal_two, octal_one, hex_two, hex_one, itself, Char, SpellsNone}
-use Rattle.pegread.proofs.CharFormLemmas.{octal-here, octal-same, no-octal, hex-digit, hex-upper, hex-lower, hex-same, no-hex, letter-high, no_digit-empty, no_digit-here, char-plain, char-letter, char-itself, char-x, char-one_hex, char-two_hex, char-one_octal, char-two_octal, char-three_octal}
+use Rattle.pegread.specs.Chars.{Octal, Hex, DigitFirst, digit_first, NoDigit, Letter, letter_a, letter_b, letter_e}
+use Rattle.pegread.specs.Chars.{letter_f, letter_n, letter_r, letter_t, letter_v, Form, unescaped, letter, octal_three}
+use Rattle.pegread.specs.Chars.{octal_two, octal_one, hex_two, hex_one, itself, Char, SpellsNone}
+use Rattle.pegread.proofs.CharFormLemmas.{octal-here, octal-same, no-octal, hex-digit, hex-upper, hex-lower, hex-same}
+use Rattle.pegread.proofs.CharFormLemmas.{no-hex, letter-high, no_digit-empty, no_digit-here, char-plain, char-letter}
+use Rattle.pegread.proofs.CharFormLemmas.{char-itself, char-x, char-one_hex, char-two_hex, char-one_octal}
+use Rattle.pegread.proofs.CharFormLemmas.{char-two_octal, char-three_octal}
 
 letter-same : {l b c : ℕ} → Letter l b → Letter l c → b ≡ c
 letter-same letter_a letter_a = refl
@@ -31,7 +37,8 @@ form-value (letter h) (letter k) e = letter-same h k
 form-value (letter h) (octal_one k) e = absurd (letter-not_octal h k)
 form-value (letter h) (itself k l) e = absurd (k _ h)
 form-value (letter h) k e = absurd (omega arith)
-form-value (octal_three h k i j) (octal_three h' k' i' j') e = (let p = octal-same h h' in let q = octal-same i i' in let r = octal-same j j' in omega arith)
+form-value (octal_three h k i j) (octal_three h' k' i' j') e =
+    (let p = octal-same h h' in let q = octal-same i i' in let r = octal-same j j' in omega arith)
 form-value (octal_three h k i j) (hex_two p q) e = absurd (not-x h)
 form-value (octal_three h k i j) l e = absurd (omega arith)
 form-value (octal_two h k) (octal_two h' k') e = (let p = octal-same h h' in let q = octal-same k k' in omega arith)
@@ -112,17 +119,29 @@ no-char t r b h n = form-some h.form n
 pub octal-tells : (x : ℕ) → ((n : ℕ) × Octal x n) ⊎ ((n : ℕ) → Octal x n → ⊥)
 octal-tells x = elim (cases_lt x 48) [
   | inl h ↦ inr (no-octal x (inl h))
-  | inr h ↦ elim (cases_lt 55 x) [ inl k ↦ inr (no-octal x (inr k)) | inr k ↦ inl (x - 48, octal-here x (x - 48) (omega arith) (omega arith)) ]
+  | inr h ↦ elim (cases_lt 55 x) [
+    | inl k ↦ inr (no-octal x (inr k))
+    | inr k ↦ inl (x - 48, octal-here x (x - 48) (omega arith) (omega arith))
+  ]
 ]
 
 pub hex-tells : (x : ℕ) → ((n : ℕ) × Hex x n) ⊎ ((n : ℕ) → Hex x n → ⊥)
 hex-tells x = elim (cases_lt x 58) [
-  | inl h ↦ elim (cases_lt x 48) [ inl k ↦ inr (no-hex x (inl k) (inl (omega arith)) (inl (omega arith))) | inr k ↦ inl (x - 48, hex-digit x (x - 48) (omega arith) (omega arith)) ]
+  | inl h ↦ elim (cases_lt x 48) [
+    | inl k ↦ inr (no-hex x (inl k) (inl (omega arith)) (inl (omega arith)))
+    | inr k ↦ inl (x - 48, hex-digit x (x - 48) (omega arith) (omega arith))
+  ]
   | inr h ↦ elim (cases_lt x 71) [
-    | inl k ↦ elim (cases_lt x 65) [ inl l ↦ inr (no-hex x (inr h) (inl l) (inl (omega arith))) | inr l ↦ inl (x - 55, hex-upper x (x - 55) (omega arith) (omega arith) (omega arith)) ]
+    | inl k ↦ elim (cases_lt x 65) [
+      | inl l ↦ inr (no-hex x (inr h) (inl l) (inl (omega arith)))
+      | inr l ↦ inl (x - 55, hex-upper x (x - 55) (omega arith) (omega arith) (omega arith))
+    ]
     | inr k ↦ elim (cases_lt x 97) [
       | inl l ↦ inr (no-hex x (inr h) (inr k) (inl l))
-      | inr l ↦ elim (cases_lt 102 x) [ inl m ↦ inr (no-hex x (inr h) (inr k) (inr m)) | inr m ↦ inl (x - 87, hex-lower x (x - 87) (omega arith) (omega arith) (omega arith)) ]
+      | inr l ↦ elim (cases_lt 102 x) [
+        | inl m ↦ inr (no-hex x (inr h) (inr k) (inr m))
+        | inr m ↦ inl (x - 87, hex-lower x (x - 87) (omega arith) (omega arith) (omega arith))
+      ]
     ]
   ]
 ]
@@ -173,7 +192,16 @@ letter-tells l = elim (cases_eq l 97) [
                                           elim (cases_eq l 118) [
                                             | inl e ↦ inl (11, rw e letter_v)
                                             | inr k ↦
-                                                inr (no-letter l (record { bell = a; backspace = b; escape = c; form_feed = d; line_feed = f; carriage_return = g; tab = h; vertical_tab = k }))
+                                                inr (no-letter l (record {
+                                                  bell = a;
+                                                  backspace = b;
+                                                  escape = c;
+                                                  form_feed = d;
+                                                  line_feed = f;
+                                                  carriage_return = g;
+                                                  tab = h;
+                                                  vertical_tab = k;
+                                                }))
                                           ]
                                     ]
                               ]
@@ -183,7 +211,8 @@ letter-tells l = elim (cases_eq l 97) [
       ]
 ]
 
-first-tells : {D : ℕ → ℕ → Type 0} → ((x : ℕ) → ((n : ℕ) × D x n) ⊎ ((n : ℕ) → D x n → ⊥)) → (t : List ℕ) → ((r : List ℕ) × (n : ℕ) × DigitFirst D t r n) ⊎ NoDigit D t
+first-tells : {D : ℕ → ℕ → Type 0} → ((x : ℕ) → ((n : ℕ) × D x n) ⊎ ((n : ℕ) → D x n → ⊥)) → (t : List ℕ)
+    → ((r : List ℕ) × (n : ℕ) × DigitFirst D t r n) ⊎ NoDigit D t
 first-tells f [] = inr no_digit-empty
 first-tells f (x ∷ t) = elim (f x) [ inl h ↦ inl (t, h.0, digit_first h.1) | inr h ↦ inr (no_digit-here h) ]
 
@@ -226,4 +255,5 @@ some-escape x t = elim (cases_eq x 120) [
 pub some-char : (t : List ℕ) → SpellsNone t ⊎ ((r : List ℕ) × (b : ℕ) × Char t r b)
 some-char [] = inl tt
 some-char (b ∷ []) = elim (cases_eq b 92) [ inl e ↦ inl e | inr n ↦ inr ([], b, char-plain n) ]
-some-char (b ∷ c ∷ cs) = inr (elim (cases_eq b 92) [ inl e ↦ rw e (some-escape c cs) | inr n ↦ (c ∷ cs, b, char-plain n) ])
+some-char (b ∷ c ∷ cs) = inr (elim (cases_eq b 92)
+    [ inl e ↦ rw e (some-escape c cs) | inr n ↦ (c ∷ cs, b, char-plain n) ])

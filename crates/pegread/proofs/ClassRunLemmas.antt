@@ -1,6 +1,7 @@
 -- The runs of a set of bytes, and the items that their text is read as.
 -- Serves: is_read_back
-use Rattle.std.proofs.Common.{◌≡◌, ℕ, ◌+◌, ◌<◌, ◌≤◌, ◌==◌, ◌||◌, ◌&&◌, nat_lt, nat_le, Bool, true, false, List, [], ◌∷◌, ◌++◌, map, cond, refl, ap, sym, ◌∙◌, subst, arith, inl, inr}
+use Rattle.std.proofs.Common.{◌≡◌, ℕ, ◌+◌, ◌<◌, ◌≤◌, ◌==◌, ◌||◌, ◌&&◌, nat_lt, nat_le, Bool, true, false, List, [], ◌∷◌}
+use Rattle.std.proofs.Common.{◌++◌, map, cond, refl, ap, sym, ◌∙◌, subst, arith, inl, inr}
 use Rattle.std.specs.List.{flat_map, range_with_len}
 use Rattle.std.proofs.Math.Bool.{or_assoc}
 use Rattle.std.proofs.lemmas.Bool.{cases_Bool, ltb-true, ltb-false, or_parts}
@@ -36,7 +37,8 @@ last-byte x up h = elim (cases_Bool (nat_lt x.1 256)) [
 go-up : (n : ℕ) (xs : List (ℕ × ℕ)) → AreApart n xs → ((b : ℕ) → 256 ≤ b → in_runs xs b ≡ false) → GoUp xs
 go-up n [] a h = tt
 go-up n (x ∷ xs) a h =
-    let none : (b : ℕ) → 256 ≤ b → (in_range x b ≡ false) × (in_runs xs b ≡ false) = λ b l. or_parts (in_range x b) (in_runs xs b) (h b l) in
+    let none : (b : ℕ) → 256 ≤ b → (in_range x b ≡ false) × (in_runs xs b ≡ false) =
+    λ b l. or_parts (in_range x b) (in_runs xs b) (h b l) in
     (a.1, last-byte x a.1 (λ b l. (none b l).0), go-up (x.1 + 2) xs a.2 (λ b l. (none b l).1))
 
 in-same : (xs : List (ℕ × ℕ)) (b : ℕ) → in_ranges xs b ≡ in_runs xs b
@@ -47,17 +49,21 @@ pub runs-up : (f : ℕ → Bool) → GoUp (runs_of f)
 runs-up f = let r = are_runs (bits f) in subst GoUp (sym (runs-same f)) (go-up 0 _ r.apart r.bytes)
 
 in-runs : (f : ℕ → Bool) (b : ℕ) → b < 256 → in_ranges (runs_of f) b ≡ f b
-in-runs f b h = in-same (runs_of f) b ∙ ap (λ xs. in_runs xs b) (runs-same f) ∙ (are_runs (bits f)).members b h ∙ bits-same f b h
+in-runs f b h = in-same (runs_of f) b ∙ ap (λ xs. in_runs xs b) (runs-same f) ∙ (are_runs (bits f)).members b h
+    ∙ bits-same f b h
 
 -- a run of two is read as two items
 abbrev pub items_of : ℕ × ℕ → List (ℕ × ℕ)
 items_of x = cond (x.0 == x.1) ((x.0, x.0) ∷ []) (cond (x.0 + 1 == x.1) ((x.0, x.0) ∷ (x.1, x.1) ∷ []) (x ∷ []))
 
-in-items : (x : ℕ × ℕ) (xs : List (ℕ × ℕ)) (b : ℕ) → x.0 ≤ x.1 → in_ranges (items_of x ++ xs) b ≡ (in_range x b || in_ranges xs b)
+in-items : (x : ℕ × ℕ) (xs : List (ℕ × ℕ)) (b : ℕ) → x.0 ≤ x.1 → in_ranges (items_of x ++ xs) b
+    ≡ (in_range x b || in_ranges xs b)
 in-items x xs b h = elim (eqb_tells x.0 x.1) [
   | inl e ↦ rw (e.0) (ap (λ (v : ℕ). (nat_le x.0 b && nat_le b v) || in_ranges xs b) e.1)
   | inr e ↦ rw (e.0) (elim (eqb_tells (x.0 + 1) x.1) [
-    | inl k ↦ rw (k.0) (ap (λ (v : Bool). v || (in_range (x.1, x.1) b || in_ranges xs b)) (one-alone x.0 b) ∙ sym (or_assoc (b == x.0) (in_range (x.1, x.1) b) (in_ranges xs b)) ∙ ap (λ (v : Bool). v || in_ranges xs b) (sym (one-more x.0 x.1 x.1 b k.1 (omega arith))))
+    | inl k ↦ rw (k.0) (ap (λ (v : Bool). v || (in_range (x.1, x.1) b || in_ranges xs b)) (one-alone x.0 b)
+        ∙ sym (or_assoc (b == x.0) (in_range (x.1, x.1) b) (in_ranges xs b))
+        ∙ ap (λ (v : Bool). v || in_ranges xs b) (sym (one-more x.0 x.1 x.1 b k.1 (omega arith))))
     | inr k ↦ rw (k.0) refl
   ])
 ]

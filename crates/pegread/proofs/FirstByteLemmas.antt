@@ -1,20 +1,32 @@
 -- Which tokens a first byte leaves, and how far each reaches.
 -- Serves: Kind::first_token, is_read_back
-use Rattle.std.proofs.Common.{◌≡◌, ◌≢◌, ℕ, ◌≤◌, ◌-◌, ◌||◌, ◌==◌, cond, Bool, true, false, List, [], ◌∷◌, length, take, drop, refl, sym, arith, ◌⊎◌, inl, inr}
+use Rattle.std.proofs.Common.{◌≡◌, ◌≢◌, ℕ, ◌≤◌, ◌-◌, ◌||◌, ◌==◌, cond, Bool, true, false, List, [], ◌∷◌, length, take}
+use Rattle.std.proofs.Common.{drop, refl, sym, arith, ◌⊎◌, inl, inr}
 use Rattle.pegread.specs.declared.kind.Kind.{Kind}
 use Rattle.pegread.specs.declared.kind.Kind.TheVariants.{Ident, Arrow, Begin, Literal, Class, Action, Bad, End}
 use Rattle.pegread.specs.Kinds.{is_sign, is_closed}
 use Rattle.lexer.specs.SliceEnds.{NoPiece, found, bad, at_end}
-use Rattle.pegread.specs.Slices.{starts_name, Names, Closes, close, escape, plain, Body, last, nested, other, Stands, StandsNone, ident, arrow, begin, single, double, class, action, Piece, First, NoDash}
+use Rattle.pegread.specs.Slices.{starts_name, Names, Closes, close, escape, plain, Body, last, nested, other, Stands}
+use Rattle.pegread.specs.Slices.{StandsNone, ident, arrow, begin, single, double, class, action, Piece, First, NoDash}
 use Rattle.lexer.proofs.FirstLemmas as firsts
 use Rattle.pegread.proofs.SliceLemmas.{stands-part}
 use Rattle.pegread.proofs.SliceFrontLemmas.{Decided, closes-by}
 
 pub closes-one : {mark : ℕ} {t r s : List ℕ} → mark ≢ 92 → Closes mark t r → Closes mark t s → r ≡ s
 unfolding Decided
-closes-one m close d = elim (closes-by d) [ inl x ↦ sym x.1 | inr y ↦ elim y [ inl z ↦ absurd (m z.0) | inr w ↦ absurd (w.0 refl) ] ]
-closes-one m (escape c) d = elim (closes-by d) [ inl x ↦ absurd (m (sym x.0)) | inr y ↦ elim y [ inl z ↦ closes-one m c (let same : z.2 ≡ _ = cc in rw same at z.4) | inr w ↦ absurd (w.1 refl) ] ]
-closes-one m (plain p q c) d = elim (closes-by d) [ inl x ↦ absurd (p x.0) | inr y ↦ elim y [ inl z ↦ absurd (q z.0) | inr w ↦ closes-one m c w.2 ] ]
+closes-one m close d = elim (closes-by d) [
+  | inl x ↦ sym x.1
+  | inr y ↦ elim y [ inl z ↦ absurd (m z.0) | inr w ↦ absurd (w.0 refl) ]
+]
+closes-one m (escape c) d = elim (closes-by d) [
+  | inl x ↦ absurd (m (sym x.0))
+  | inr y ↦ elim y [
+    | inl z ↦ closes-one m c (let same : z.2 ≡ _ = cc in rw same at z.4)
+    | inr w ↦ absurd (w.1 refl)
+  ]
+]
+closes-one m (plain p q c) d = elim (closes-by d)
+    [ inl x ↦ absurd (p x.0) | inr y ↦ elim y [ inl z ↦ absurd (q z.0) | inr w ↦ closes-one m c w.2 ] ]
 
 pub body-one : {t r s : List ℕ} → Body t r → Body t s → r ≡ s
 body-one last last = refl
@@ -52,7 +64,8 @@ lone-ends l (action c) = cc
 lone-ends l _ = refl
 
 -- the byte c is a token, wherever it stands
-pub first-sign : {k : Kind} {b c : ℕ} → b ≡ c → is_lone c ≡ true → ((r : List ℕ) → Stands k (c ∷ r) r) → (r : List ℕ) → First k (b ∷ r) r
+pub first-sign : {k : Kind} {b c : ℕ} → b ≡ c → is_lone c ≡ true → ((r : List ℕ) → Stands k (c ∷ r) r) → (r : List ℕ)
+    → First k (b ∷ r) r
 first-sign e l h r = rw e (alone (h r) (λ _ _ x. lone-ends l x))
 
 single-closes : {k : Kind} {bs s : List ℕ} → Stands k (39 ∷ bs) s → Closes 39 bs s
@@ -85,7 +98,8 @@ begin-longest d (ident h n) = cc
 begin-longest d arrow = absurd (d refl)
 begin-longest d begin = refl
 
-nothing-stands : {k : Kind} {b : ℕ} {bs s : List ℕ} → b ≢ 60 → starts_name b ≡ false → is_sign k ≡ false → is_closed k ≡ false → Stands k (b ∷ bs) s → ⊥
+nothing-stands : {k : Kind} {b : ℕ} {bs s : List ℕ} → b ≢ 60 → starts_name b ≡ false → is_sign k ≡ false
+    → is_closed k ≡ false → Stands k (b ∷ bs) s → ⊥
 nothing-stands a n e f (ident h m) = cc
 nothing-stands a n e f arrow = a refl
 nothing-stands a n e f begin = a refl
@@ -105,7 +119,8 @@ first-single h c = let d = rw h at c in rw h (alone (single d) (λ _ _ x. closes
 first-double : {b : ℕ} {bs r : List ℕ} → b ≡ 34 → Closes b bs r → First Literal (b ∷ bs) r
 first-double h c = let d = rw h at c in rw h (alone (double d) (λ _ _ x. closes-one (omega arith) d (double-closes x)))
 
-pub first-literal : {b : ℕ} {bs r : List ℕ} → (b ≡ 39) ⊎ ((b ≢ 39) × (b ≡ 34)) → Closes b bs r → First Literal (b ∷ bs) r
+pub first-literal : {b : ℕ} {bs r : List ℕ} → (b ≡ 39) ⊎ ((b ≢ 39) × (b ≡ 34)) → Closes b bs r
+    → First Literal (b ∷ bs) r
 first-literal h c = elim h [ inl x ↦ first-single x c | inr y ↦ first-double y.1 c ]
 
 pub first-class : {b : ℕ} {bs r : List ℕ} → b ≡ 91 → Closes 93 bs r → First Class (b ∷ bs) r
@@ -121,8 +136,10 @@ pub first-begin : {bs : List ℕ} → NoDash bs → First Begin (60 ∷ bs) bs
 first-begin d = alone begin (λ _ _ x. begin-longest d x)
 
 module _ {b : ℕ} {t bs : List ℕ} (e : t ≡ b ∷ bs) where
-  pub first-ident : {r : List ℕ} → starts_name b ≡ true → Names bs r → ((s : List ℕ) → Names bs s → length r ≤ length s) → First Ident t r
+  pub first-ident : {r : List ℕ} → starts_name b ≡ true → Names bs r → ((s : List ℕ) → Names bs s → length r ≤ length s)
+      → First Ident t r
   first-ident h n l = rw (e) (found (record { stands = ident h n; longest = λ _ s x. l s (ident-names h x) }))
 
-  pub first-bad : NoPiece Piece t → b ≢ 60 → starts_name b ≡ false → StandsNone is_sign (b ∷ bs) → StandsNone is_closed (b ∷ bs) → First Bad t (take (length t - length t) (drop (length t) t))
+  pub first-bad : NoPiece Piece t → b ≢ 60 → starts_name b ≡ false → StandsNone is_sign (b ∷ bs)
+      → StandsNone is_closed (b ∷ bs) → First Bad t (take (length t - length t) (drop (length t) t))
   first-bad w a n p q = rw (nothing-left t, e) (bad (rw e at w) (λ k s h. nothing-stands a n (p k s h) (q k s h) h))

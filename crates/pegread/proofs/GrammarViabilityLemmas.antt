@@ -9,13 +9,15 @@ use Rattle.pegread.specs.Reading.{AreWithin, IsHopeless, IsTooDeep}
 use Rattle.pegread.specs.Spelling.{Grammar, Begins, Viable}
 use Rattle.pegread.specs.Tokens.{Tok}
 use Rattle.pegread.specs.Words.{Word, Ident, Arrow, Dot, RParen, End, Says, SayAll}
-use Rattle.pegread.specs.Machine.{snoc, finish, Mark, no_mark, not_mark, and_mark, apply, fresh, read, read_name, Level, level, Head, ended, Config, start, named, body, done, end_step, step, run, levels_in}
+use Rattle.pegread.specs.Machine.{snoc, finish, Mark, no_mark, not_mark, and_mark, apply, fresh, read, read_name, Level}
+use Rattle.pegread.specs.Machine.{level, Head, ended, Config, start, named, body, done, end_step, step, run, levels_in}
 use Rattle.pegread.proofs.GrammarMachineLemmas.{grammar-runs}
 use Rattle.pegread.proofs.GrammarSpellingLemmas.{runs-grammar}
 use Rattle.pegread.proofs.SaysLemmas.{one-word}
 use Rattle.pegread.proofs.IsShallowLemmas.{deeper-next}
 
-end-step : (o : List Level) (rules : List Rule) (d : Config) → end_step o rules ≡ Some d → (all : List Rule) × (d ≡ done all)
+end-step : (o : List Level) (rules : List Rule) (d : Config) → end_step o rules ≡ Some d → (all : List Rule)
+    × (d ≡ done all)
 end-step [] rules d h = (rules, cc)
 end-step (l ∷ o) rules d h = cc
 
@@ -41,11 +43,14 @@ closers [] = End ∷ []
 closers (l ∷ o) = RParen ∷ closers o
 
 -- behind a primary the brackets close as where nothing waits
-read-closes : (o : List Level) (h : Head) (bs es : Patterns) (m : Mark) (x : Pattern) → run (body h o bs es m (read x)) (closers o) ≡ run (body h o bs (snoc es (apply m x)) no_mark fresh) (closers o)
+read-closes : (o : List Level) (h : Head) (bs es : Patterns) (m : Mark) (x : Pattern)
+    → run (body h o bs es m (read x)) (closers o) ≡ run (body h o bs (snoc es (apply m x)) no_mark fresh) (closers o)
 read-closes [] h bs es m x = refl
 read-closes (l ∷ o) h bs es m x = refl
 
-name-closes : (o : List Level) (h : Head) (bs es : Patterns) (m : Mark) (n : List ℕ) (p : Span) → run (body h o bs es m (read_name n p)) (closers o) ≡ run (body h o bs (snoc es (apply m (Name n))) no_mark fresh) (closers o)
+name-closes : (o : List Level) (h : Head) (bs es : Patterns) (m : Mark) (n : List ℕ) (p : Span)
+    → run (body h o bs es m (read_name n p)) (closers o) ≡ run (body h o bs (snoc es (apply m (Name n))) no_mark fresh)
+    (closers o)
 name-closes [] h bs es m n p = refl
 name-closes (l ∷ o) h bs es m n p = refl
 
@@ -55,7 +60,8 @@ completes-fresh (level b f m ∷ o) h bs es =
     let c = completes-fresh o h b (snoc f (apply m (finish bs es))) in
     record { rules = c.rules; runs = read-closes o h b f m (finish bs es) ∙ c.runs }
 
-completes-read : (o : List Level) (h : Head) (bs es : Patterns) (m : Mark) (x : Pattern) → Completes (body h o bs es m (read x)) (closers o)
+completes-read : (o : List Level) (h : Head) (bs es : Patterns) (m : Mark) (x : Pattern)
+    → Completes (body h o bs es m (read x)) (closers o)
 completes-read o h bs es m x =
     let c = completes-fresh o h bs (snoc es (apply m x)) in
     record { rules = c.rules; runs = read-closes o h bs es m x ∙ c.runs }
@@ -67,33 +73,42 @@ completion : (c : Config) → (s : List Word) × Completes c s
 completion start = (Ident [] nowhere ∷ Arrow ∷ End ∷ [], record { rules = _; runs = refl })
 completion (named n p) = (Arrow ∷ End ∷ [], record { rules = _; runs = refl })
 completion (body h o bs es no_mark fresh) = (closers o, completes-fresh o h bs es)
-completion (body h o bs es not_mark fresh) = let c = completes-read o h bs es not_mark Any in (Dot ∷ closers o, record { rules = c.rules; runs = c.runs })
-completion (body h o bs es and_mark fresh) = let c = completes-read o h bs es and_mark Any in (Dot ∷ closers o, record { rules = c.rules; runs = c.runs })
+completion (body h o bs es not_mark fresh) = let c = completes-read o h bs es not_mark Any in
+    (Dot ∷ closers o, record { rules = c.rules; runs = c.runs })
+completion (body h o bs es and_mark fresh) = let c = completes-read o h bs es and_mark Any in
+    (Dot ∷ closers o, record { rules = c.rules; runs = c.runs })
 completion (body h o bs es m (read x)) = (closers o, completes-read o h bs es m x)
-completion (body h o bs es m (read_name n p)) = let c = completes-fresh o h bs (snoc es (apply m (Name n))) in (closers o, record { rules = c.rules; runs = name-closes o h bs es m n p ∙ c.runs })
+completion (body h o bs es m (read_name n p)) = let c = completes-fresh o h bs (snoc es (apply m (Name n))) in
+    (closers o, record { rules = c.rules; runs = name-closes o h bs es m n p ∙ c.runs })
 completion (done rules) = ([], record { rules = rules; runs = refl })
 
 completed : (c : Config) → (s : List Word) × (rules : List Rule) × (run c s ≡ Some (done rules))
 completed c = let q = completion c in (q.0, q.1.rules, q.1.runs)
 
 runs-begins : (ws : List Word) (c : Config) → run start ws ≡ Some c → Begins ws
-runs-begins = viability.runs-begins step Grammar start done (λ ws g h. grammar-runs h) (λ ws g h. runs-grammar g ws h) completed
+runs-begins = viability.runs-begins step Grammar start done (λ ws g h. grammar-runs h) (λ ws g h. runs-grammar g ws h)
+    completed
 
 stops-begins : (ws : List Word) → run start ws ≡ None → Begins ws → ⊥
-stops-begins = viability.stops-begins step Grammar start done (λ ws g h. grammar-runs h) (λ ws g h. runs-grammar g ws h) completed
+stops-begins = viability.stops-begins step Grammar start done (λ ws g h. grammar-runs h) (λ ws g h. runs-grammar g ws h)
+    completed
 
 -- the machine took the tokens ts, and came to c
-module _ {ts : List Tok} {ws : List Word} (c : Config) (say : SayAll ts ws) (runs : run start ws ≡ Some c) (within : AreWithin ts) (t : Tok) (us : List Tok) where
+module _ {ts : List Tok} {ws : List Word} (c : Config) (say : SayAll ts ws) (runs : run start ws ≡ Some c)
+    (within : AreWithin ts) (t : Tok) (us : List Tok) where
   -- a token of which it takes no word then
   pub hopeless-next : ((w : Word) → Says t w → step c w ≡ None) → IsHopeless (ts ++ t ∷ us) (length ts)
   hopeless-next stops =
-      viability.hopeless-at Viable AreWithin ts t us (viability.viable-run Says Grammar step start runs-begins stops-begins one-word c say runs) within
+      viability.hopeless-at Viable AreWithin ts t us
+      (viability.viable-run Says Grammar step start runs-begins stops-begins one-word c say runs) within
       (viability.not-viable Says Grammar step start runs-begins stops-begins one-word c say runs t stops)
 
   -- a token of which it takes the word, with too many brackets open then
-  pub too_deep-next : (d : Config) (w : Word) → Says t w → step c w ≡ Some d → MAX_OPEN < levels_in d → IsTooDeep (ts ++ t ∷ us) (length ts)
+  pub too_deep-next : (d : Config) (w : Word) → Says t w → step c w ≡ Some d → MAX_OPEN < levels_in d
+      → IsTooDeep (ts ++ t ∷ us) (length ts)
   too_deep-next d w says steps lt =
-      viability.over-at Viable AreWithin ts t us (viability.viable-next Says Grammar step start runs-begins stops-begins one-word c say runs t w d says steps) within
+      viability.over-at Viable AreWithin ts t us (viability.viable-next Says Grammar step start runs-begins stops-begins
+      one-word c say runs t w d says steps) within
       (deeper-next c d say runs says steps MAX_OPEN lt)
 
   -- of the one word that the token says

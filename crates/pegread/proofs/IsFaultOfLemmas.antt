@@ -45,13 +45,16 @@ record OnePlace (text : List ℕ) (a b : ℕ) (D E : List Tok → ℕ → Type 0
   second : E all number
   lines : a ≡ b
 
-one-place : (text : List ℕ) (a b : ℕ) (D E : List Tok → ℕ → Type 0) → ((ts : List Tok) (i : ℕ) → D ts i → Decides ts i) → ((ts : List Tok) (i : ℕ) → E ts i → Decides ts i) →
+one-place : (text : List ℕ) (a b : ℕ) (D E : List Tok → ℕ → Type 0) → ((ts : List Tok) (i : ℕ) → D ts i → Decides ts i)
+    → ((ts : List Tok) (i : ℕ) → E ts i → Decides ts i) →
     IsDecidedAt text a D → IsDecidedAt text b E → OnePlace text a b D E
 one-place text a b D E f g h k =
     let all : k.all ≡ h.all = tokens-one k.are_tokens h.are_tokens in
     let there : E h.all k.number = rw all at k.decides in
-    let number : k.number ≡ h.number = one-deciding h.all k.number h.number (g h.all k.number there) (f h.all h.number h.decides) in
-    let same : Some h.token ≡ Some k.token = sym h.there ∙ ap (λ (i : ℕ). slice_get h.all i) (sym number) ∙ ap (λ (ts : List Tok). slice_get ts k.number) (sym all) ∙ k.there in
+    let number : k.number ≡ h.number = one-deciding h.all k.number h.number (g h.all k.number there)
+    (f h.all h.number h.decides) in
+    let same : Some h.token ≡ Some k.token = sym h.there ∙ ap (λ (i : ℕ). slice_get h.all i) (sym number)
+    ∙ ap (λ (ts : List Tok). slice_get ts k.number) (sym all) ∙ k.there in
     let token : h.token ≡ k.token = cc in
     record {
       all = h.all;
@@ -87,15 +90,19 @@ module _ (text : List ℕ) (a b : ℕ) where
   both-deep h k = (one-place text a b IsTooDeep IsTooDeep deep-decides deep-decides h k).lines
 
   syntax-code : IsDecidedAt text a IsSyntax → IsDecidedAt text b IsCode → ⊥
-  syntax-code h k = let p = one-place text a b IsSyntax IsCode syntax-decides code-decides h k in let s = p.first in let c = p.second in s.1 c.1
+  syntax-code h k = let p = one-place text a b IsSyntax IsCode syntax-decides code-decides h k in let s = p.first in
+      let c = p.second in s.1 c.1
 
   syntax-deep : IsDecidedAt text a IsSyntax → IsDecidedAt text b IsTooDeep → ⊥
-  syntax-deep h k = let p = one-place text a b IsSyntax IsTooDeep syntax-decides deep-decides h k in let s = p.first in viability.not-both Viable AreWithin viable-take within-take p.all p.number s.0 p.second
+  syntax-deep h k = let p = one-place text a b IsSyntax IsTooDeep syntax-decides deep-decides h k in let s = p.first in
+      viability.not-both Viable AreWithin viable-take within-take p.all p.number s.0 p.second
 
   code-deep : IsDecidedAt text a IsCode → IsDecidedAt text b IsTooDeep → ⊥
-  code-deep h k = let p = one-place text a b IsCode IsTooDeep code-decides deep-decides h k in let c = p.first in viability.not-both Viable AreWithin viable-take within-take p.all p.number c.0 p.second
+  code-deep h k = let p = one-place text a b IsCode IsTooDeep code-decides deep-decides h k in let c = p.first in
+      viability.not-both Viable AreWithin viable-take within-take p.all p.number c.0 p.second
 
-pub one-fault : (text : List ℕ) (a b : ReadFault) → IsFaultOf text a → IsFaultOf text b → a ≢ faults.Memory → b ≢ faults.Memory → a ≡ b
+pub one-fault : (text : List ℕ) (a b : ReadFault) → IsFaultOf text a → IsFaultOf text b → a ≢ faults.Memory
+    → b ≢ faults.Memory → a ≡ b
 one-fault text faults.Memory b f g m n = absurd (m refl)
 one-fault text a faults.Memory f g m n = absurd (n refl)
 one-fault text (faults.NumberTooLarge a) b f g m n = absurd f
@@ -111,20 +118,24 @@ one-fault text (faults.Syntax a) (faults.Syntax b) f g m n = ap (λ (l : ℕ). f
 one-fault text (faults.Syntax a) (faults.CodePredicate b) f g m n = absurd (syntax-code text a b f g)
 one-fault text (faults.Syntax a) (faults.Depth b) f g m n = absurd (syntax-deep text a b f g)
 one-fault text (faults.CodePredicate a) (faults.Syntax b) f g m n = absurd (syntax-code text b a g f)
-one-fault text (faults.CodePredicate a) (faults.CodePredicate b) f g m n = ap (λ (l : ℕ). faults.CodePredicate l) (both-code text a b f g)
+one-fault text (faults.CodePredicate a) (faults.CodePredicate b) f g m n =
+    ap (λ (l : ℕ). faults.CodePredicate l) (both-code text a b f g)
 one-fault text (faults.CodePredicate a) (faults.Depth b) f g m n = absurd (code-deep text a b f g)
 one-fault text (faults.Depth a) (faults.Syntax b) f g m n = absurd (syntax-deep text b a g f)
 one-fault text (faults.Depth a) (faults.CodePredicate b) f g m n = absurd (code-deep text b a g f)
 one-fault text (faults.Depth a) (faults.Depth b) f g m n = ap (λ (l : ℕ). faults.Depth l) (both-deep text a b f g)
 
 -- no token of what is read decides
-read-decides_none : (text : List ℕ) (rules : List Rule) (line : ℕ) (D : List Tok → ℕ → Type 0) → ((ts : List Tok) (i : ℕ) → D ts i → Decides ts i) → Reads text rules → IsDecidedAt text line D → ⊥
+read-decides_none : (text : List ℕ) (rules : List Rule) (line : ℕ) (D : List Tok → ℕ → Type 0)
+    → ((ts : List Tok) (i : ℕ) → D ts i → Decides ts i) → Reads text rules → IsDecidedAt text line D → ⊥
 read-decides_none text rules line D f r h =
     let all : h.all ≡ r.tokens = tokens-one h.are_tokens r.are_tokens in
     let there : D r.tokens h.number = rw all at h.decides in
-    viability.none-deciding Viable AreWithin viable-take within-take r.tokens h.number (viability.viable-whole Says Grammar rules r.say r.grammar) r.shallow (f r.tokens h.number there)
+    viability.none-deciding Viable AreWithin viable-take within-take r.tokens h.number
+    (viability.viable-whole Says Grammar rules r.say r.grammar) r.shallow (f r.tokens h.number there)
 
-pub no-fault : (text : List ℕ) (rules : List Rule) (fault : ReadFault) → Reads text rules → IsFaultOf text fault → fault ≡ faults.Memory
+pub no-fault : (text : List ℕ) (rules : List Rule) (fault : ReadFault) → Reads text rules → IsFaultOf text fault
+    → fault ≡ faults.Memory
 no-fault text rules (faults.Syntax line) r f = absurd (read-decides_none text rules line IsSyntax syntax-decides r f)
 no-fault text rules (faults.CodePredicate line) r f = absurd (read-decides_none text rules line IsCode code-decides r f)
 no-fault text rules (faults.Depth line) r f = absurd (read-decides_none text rules line IsTooDeep deep-decides r f)

@@ -26,12 +26,14 @@ shallow-front m d (tok k z p ∷ ts) us h = (h.0, shallow-front m (open_behind k
 pub shallow-take : (m d i : ℕ) (ts : List Tok) → IsShallow m d ts → IsShallow m d (take i ts)
 shallow-take m d i ts h = shallow-front m d (take i ts) (drop i ts) (rw (take-append-drop i ts) h)
 
-shallow-snoc : (m d : ℕ) (ts : List Tok) (t : Tok) → IsShallow m d ts → open_count d (ts ++ t ∷ []) ≤ m → IsShallow m d (ts ++ t ∷ [])
+shallow-snoc : (m d : ℕ) (ts : List Tok) (t : Tok) → IsShallow m d ts → open_count d (ts ++ t ∷ []) ≤ m
+    → IsShallow m d (ts ++ t ∷ [])
 shallow-snoc m d [] (tok k z p) h le = (h, le)
 shallow-snoc m d (tok k z p ∷ ts) t h le = (h.0, shallow-snoc m (open_behind k d) ts t h.1 le)
 
 -- the machine took one token more
-module _ {ts : List Tok} {ws : List Word} {t : Tok} {w : Word} (c d : Config) (say : SayAll ts ws) (runs : run start ws ≡ Some c) (says : Says t w) (steps : step c w ≡ Some d) where
+module _ {ts : List Tok} {ws : List Word} {t : Tok} {w : Word} (c d : Config) (say : SayAll ts ws)
+    (runs : run start ws ≡ Some c) (says : Says t w) (steps : step c w ≡ Some d) where
   next-levels : levels_in d ≡ open_count 0 (ts ++ t ∷ [])
   next-levels = run-levels start d (say-snoc Says say says) (run-snoc step ws w start c runs ∙ steps)
 

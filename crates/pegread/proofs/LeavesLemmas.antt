@@ -1,6 +1,8 @@
 -- Texts that are written piece by piece.
 -- Serves: print_peg
-use Rattle.std.proofs.Common.{◌≡◌, ℕ, zero, suc, ◌+◌, ◌≤◌, ◌<◌, ◌==◌, cond, Bool, true, false, Option, Some, List, [], ◌∷◌, ◌++◌, length, drop, get_or, slice_get, map, refl, sym, ◌∙◌, ap, subst, append_assoc, arith, add-one, drop-cons}
+use Rattle.std.proofs.Common.{◌≡◌, ℕ, zero, suc, ◌+◌, ◌≤◌, ◌<◌, ◌==◌, cond, Bool, true, false, Option, Some, List, []}
+use Rattle.std.proofs.Common.{◌∷◌, ◌++◌, length, drop, get_or, slice_get, map, refl, sym, ◌∙◌, ap, subst, append_assoc}
+use Rattle.std.proofs.Common.{arith, add-one, drop-cons}
 use Rattle.std.proofs.lemmas.List.{append-nil, drop_all}
 use Rattle.std.proofs.lemmas.Bool.{eqb-true}
 use Rattle.std.specs.Io.KnownBytes.{Appends}
@@ -26,7 +28,8 @@ pub leaves-all : (a : Option (List ℕ)) (whole : List ℕ) → Leaves a a whole
 leaves-all a whole = record { part = []; cut = refl; taken = Appends-same a }
 
 -- a step
-pub leaves-rest : {a b c : Option (List ℕ)} {whole : List ℕ} (x left : List ℕ) → Leaves a b whole (x ++ left) → Appends b c x → Leaves a c whole left
+pub leaves-rest : {a b c : Option (List ℕ)} {whole : List ℕ} (x left : List ℕ) → Leaves a b whole (x ++ left)
+    → Appends b c x → Leaves a c whole left
 leaves-rest {a} {b} {c} x left h s = record {
   part = h.part ++ x;
   cut = h.cut ∙ sym (append_assoc h.part x left);
@@ -34,14 +37,19 @@ leaves-rest {a} {b} {c} x left h s = record {
 }
 
 -- a step that fails
-pub leaves-part : {a b : Option (List ℕ)} {whole : List ℕ} (c : Option (List ℕ)) (x left : List ℕ) → Leaves a b whole (x ++ left) → AppendsPart b c x → AppendsPart a c whole
+pub leaves-part : {a b : Option (List ℕ)} {whole : List ℕ} (c : Option (List ℕ)) (x left : List ℕ)
+    → Leaves a b whole (x ++ left) → AppendsPart b c x → AppendsPart a c whole
 leaves-part {a} {b} {whole} c x left h s =
-    subst (λ (w : List ℕ). AppendsPart a c w) (sym h.cut) (AppendsPart-join a b c h.part (x ++ left) h.taken (AppendsPart-first b c x left s))
+    subst (λ (w : List ℕ). AppendsPart a c w) (sym h.cut)
+    (AppendsPart-join a b c h.part (x ++ left) h.taken (AppendsPart-first b c x left s))
 
 -- the last step, which may fail
-pub leaves-last : {A E : Type 0} {a b : Option (List ℕ)} {whole : List ℕ} (c : Option (List ℕ)) (left : List ℕ) (r : Result A E) → Leaves a b whole left → Writes b c left r → Writes a c whole r
-leaves-last {a = a} {b} {whole} c left (Ok x) h s = subst (λ (w : List ℕ). Appends a c w) (sym h.cut) (Appends-join a b c h.part left h.taken s)
-leaves-last {a = a} {b} {whole} c left (Err x) h s = subst (λ (w : List ℕ). AppendsPart a c w) (sym h.cut) (AppendsPart-join a b c h.part left h.taken s)
+pub leaves-last : {A E : Type 0} {a b : Option (List ℕ)} {whole : List ℕ} (c : Option (List ℕ)) (left : List ℕ)
+    (r : Result A E) → Leaves a b whole left → Writes b c left r → Writes a c whole r
+leaves-last {a = a} {b} {whole} c left (Ok x) h s = subst (λ (w : List ℕ). Appends a c w) (sym h.cut)
+    (Appends-join a b c h.part left h.taken s)
+leaves-last {a = a} {b} {whole} c left (Err x) h s = subst (λ (w : List ℕ). AppendsPart a c w) (sym h.cut)
+    (AppendsPart-join a b c h.part left h.taken s)
 
 pub leaves-none : {a b : Option (List ℕ)} {whole : List ℕ} → Leaves a b whole [] → Appends a b whole
 leaves-none {a} {b} h = subst (λ (w : List ℕ). Appends a b w) (sym (h.cut ∙ append-nil h.part)) h.taken
@@ -49,12 +57,14 @@ leaves-none {a} {b} h = subst (λ (w : List ℕ). Appends a b w) (sym (h.cut ∙
 pub leaves-at : {a b : Option (List ℕ)} {whole x y : List ℕ} → x ≡ y → Leaves a b whole x → Leaves a b whole y
 leaves-at {a} {b} {whole} e h = subst (λ (w : List ℕ). Leaves a b whole w) e h
 
-pub leaves-around : (a : Option (List ℕ)) (b : Bool) (s : List ℕ) → b ≡ true → Leaves a a (around b s) ((40 ∷ []) ++ (s ++ 41 ∷ []))
+pub leaves-around : (a : Option (List ℕ)) (b : Bool) (s : List ℕ) → b ≡ true
+    → Leaves a a (around b s) ((40 ∷ []) ++ (s ++ 41 ∷ []))
 leaves-around a true s h = leaves-all a _
 leaves-around a false s h = cc
 
 -- what is left of a text by items
-pub map-left : {A : Type 0} (f : A → List ℕ) (xs : List A) (i : ℕ) (d : A) → i < length xs → flat_map f (drop i xs) ≡ f (get_or xs i d) ++ flat_map f (drop (i + 1) xs)
+pub map-left : {A : Type 0} (f : A → List ℕ) (xs : List A) (i : ℕ) (d : A) → i < length xs
+    → flat_map f (drop i xs) ≡ f (get_or xs i d) ++ flat_map f (drop (i + 1) xs)
 map-left f xs i d h = rw (add-one, drop-cons xs i d) refl
 
 pub map-end : {A : Type 0} (f : A → List ℕ) (xs : List A) (i : ℕ) → length xs ≤ i → flat_map f (drop i xs) ≡ []
@@ -65,7 +75,8 @@ abbrev pub left_of : Place → List ℕ → ℕ → Patterns → List ℕ
 left_of p mark i es = cond (i == 0) (joined p mark es) (more_joined p mark es)
 
 more-left : (b : Bool) (p : Place) (mark : List ℕ) (e : Pattern) (es : Patterns) →
-    cond b (joined p mark (more e es)) (more_joined p mark (more e es)) ≡ cond b [] mark ++ (around (wraps p e) (text_of e) ++ more_joined p mark es)
+    cond b (joined p mark (more e es)) (more_joined p mark (more e es)) ≡ cond b [] mark
+    ++ (around (wraps p e) (text_of e) ++ more_joined p mark es)
 more-left true p mark e es = refl
 more-left false p mark e es = refl
 
@@ -77,25 +88,33 @@ none-left : (b : Bool) (p : Place) (mark : List ℕ) → cond b (joined p mark n
 none-left true p mark = refl
 none-left false p mark = refl
 
-from-item : {A : Type 0} (xs : List A) (i : ℕ) (x : A) → x ≡ get_or xs i x → i < length xs → drop i xs ≡ x ∷ drop (i + 1) xs
+from-item : {A : Type 0} (xs : List A) (i : ℕ) (x : A) → x ≡ get_or xs i x → i < length xs → drop i xs ≡ x
+    ∷ drop (i + 1) xs
 from-item xs i x same h =
     let e : drop i xs ≡ get_or xs i x ∷ drop (i + 1) xs = rw (add-one, drop-cons xs i x) refl in
     e ∙ ap (λ y. y ∷ drop (i + 1) xs) (sym same)
 
 pub item-left : (p : Place) (mark : List ℕ) (es : List Expr) (i : ℕ) (e : Expr) → e ≡ get_or es i e → i < length es →
-    left_of p mark i (patterns_of (drop i es)) ≡ cond (i == 0) [] mark ++ (around (wraps p (pattern_of e)) (text_of (pattern_of e)) ++ left_of p mark (i + 1) (patterns_of (drop (i + 1) es)))
+    left_of p mark i (patterns_of (drop i es)) ≡ cond (i == 0) [] mark
+    ++ (around (wraps p (pattern_of e)) (text_of (pattern_of e))
+    ++ left_of p mark (i + 1) (patterns_of (drop (i + 1) es)))
 item-left p mark es i e same h =
     let rest = patterns_of (drop (i + 1) es) in
-    ap (λ (ys : List Expr). left_of p mark i (patterns_of ys)) (from-item es i e same h) ∙ more-left (i == 0) p mark (pattern_of e) rest
-    ∙ ap (λ (w : List ℕ). cond (i == 0) [] mark ++ (around (wraps p (pattern_of e)) (text_of (pattern_of e)) ++ w)) (later-left i ((i + 1) == 0) (joined p mark rest) (more_joined p mark rest) refl)
+    ap (λ (ys : List Expr). left_of p mark i (patterns_of ys)) (from-item es i e same h)
+    ∙ more-left (i == 0) p mark (pattern_of e) rest
+    ∙ ap (λ (w : List ℕ). cond (i == 0) [] mark ++ (around (wraps p (pattern_of e)) (text_of (pattern_of e)) ++ w))
+    (later-left i ((i + 1) == 0) (joined p mark rest) (more_joined p mark rest) refl)
 
-pub end-left : (p : Place) (mark : List ℕ) (es : List Expr) (i : ℕ) → length es ≤ i → left_of p mark i (patterns_of (drop i es)) ≡ []
-end-left p mark es i h = ap (λ (ys : List Expr). left_of p mark i (patterns_of ys)) (drop_all i es h) ∙ none-left (i == 0) p mark
+pub end-left : (p : Place) (mark : List ℕ) (es : List Expr) (i : ℕ) → length es ≤ i
+    → left_of p mark i (patterns_of (drop i es)) ≡ []
+end-left p mark es i h = ap (λ (ys : List Expr). left_of p mark i (patterns_of ys)) (drop_all i es h)
+    ∙ none-left (i == 0) p mark
 
 -- what is left of a table's text, from one rule on
 rule-first : (rules : List (table.Rule Expr)) (i : ℕ) (n : List ℕ) (e : Expr) →
     slice_get (map (λ rule. rule.name) rules) i ≡ Some n → slice_get (map (λ rule. rule.body) rules) i ≡ Some e →
-    grammar_text (map rule_of (drop i rules)) ≡ definition_text n (pattern_of e) ++ grammar_text (map rule_of (drop (suc i) rules))
+    grammar_text (map rule_of (drop i rules)) ≡ definition_text n (pattern_of e)
+    ++ grammar_text (map rule_of (drop (suc i) rules))
 rule-first [] i n e h k = cc
 rule-first (rule ∷ rules) zero n e h k =
     let name : rule.name ≡ n = cc in
@@ -105,8 +124,10 @@ rule-first (rule ∷ rules) (suc i) n e h k = rule-first rules i n e h k
 
 pub rule-left : (rules : List (table.Rule Expr)) (i : ℕ) (n : List ℕ) (e : Expr) →
     slice_get (map (λ rule. rule.name) rules) i ≡ Some n → slice_get (map (λ rule. rule.body) rules) i ≡ Some e →
-    grammar_text (map rule_of (drop i rules)) ≡ definition_text n (pattern_of e) ++ grammar_text (map rule_of (drop (i + 1) rules))
+    grammar_text (map rule_of (drop i rules)) ≡ definition_text n (pattern_of e)
+    ++ grammar_text (map rule_of (drop (i + 1) rules))
 rule-left rules i n e h k = rw add-one (rule-first rules i n e h k)
 
-pub rules-end : (rules : List (table.Rule Expr)) (i : ℕ) → length rules ≤ i → grammar_text (map rule_of (drop i rules)) ≡ []
+pub rules-end : (rules : List (table.Rule Expr)) (i : ℕ) → length rules ≤ i → grammar_text (map rule_of (drop i rules))
+    ≡ []
 rules-end rules i h = ap (λ (ys : List (table.Rule Expr)). grammar_text (map rule_of ys)) (drop_all i rules h)

@@ -4,7 +4,8 @@ use Rattle.std.proofs.Common.{Bool, true, false, List, [], ◌∷◌}
 use Rattle.ruletable.specs.declared.span.Span.{Span}
 use Rattle.pegread.specs.declared.place.Place.TheVariants.{Alternative, Member, OfPrefix, OfAmp, OfSuffix}
 use Rattle.pegread.specs.Brackets.{wraps}
-use Rattle.pegread.specs.Pattern.{Pattern, Any, Bytes, Set, Name, Seq, Choice, Star, Plus, Opt, And, Not, Act, Open, Close, Patterns, none, more, Rule}
+use Rattle.pegread.specs.Pattern.{Pattern, Any, Bytes, Set, Name, Seq, Choice, Star, Plus, Opt, And, Not, Act, Open}
+use Rattle.pegread.specs.Pattern.{Close, Patterns, none, more, Rule}
 use Rattle.pegread.specs.Words as words
 use Rattle.pegread.specs.Words.{Word}
 

@@ -1,6 +1,7 @@
 -- Tokens and white space make up their text.
 -- Serves: tokens_make_up
-use Rattle.std.proofs.Common.{◌≡◌, ℕ, ◌+◌, ◌-◌, ◌≤◌, All, true, List, [], ◌∷◌, ◌++◌, length, take, drop, refl, sym, ap, ◌∙◌, subst, arith, append_assoc, append-nil, length-append}
+use Rattle.std.proofs.Common.{◌≡◌, ℕ, ◌+◌, ◌-◌, ◌≤◌, All, true, List, [], ◌∷◌, ◌++◌, length, take, drop, refl, sym, ap}
+use Rattle.std.proofs.Common.{◌∙◌, subst, arith, append_assoc, append-nil, length-append}
 use Rattle.std.proofs.lemmas.List.{drop_at, take_at}
 use Rattle.std.proofs.lemmas.List.Elements.{All-nil, All-cons}
 use Rattle.pegread.specs.declared.kind.Kind.{Kind}
@@ -22,7 +23,13 @@ record CommentPart (t r : List ℕ) : Type 0 where
 
 comment-part : {t r : List ℕ} → Comment t r → CommentPart t r
 comment-part (ended h) = record { part = []; cut = refl; ends = h; alone = λ s e. ended e }
-comment-part (inside {b} p c) = let x = comment-part c in record { part = b ∷ x.part; cut = ap (λ (z : List ℕ). b ∷ z) x.cut; ends = x.ends; alone = λ s e. inside p (x.alone s e) }
+comment-part (inside {b} p c) = let x = comment-part c in
+    record {
+      part = b ∷ x.part;
+      cut = ap (λ (z : List ℕ). b ∷ z) x.cut;
+      ends = x.ends;
+      alone = λ s e. inside p (x.alone s e);
+    }
 
 -- white space that stands alone too
 record WhitePart (t r : List ℕ) : Type 0 where
@@ -37,13 +44,15 @@ line_end-front (b ∷ w) r e h = rw e at h
 
 white-part : {t r : List ℕ} → White t r → WhitePart t r
 white-part no_more = record { part = []; cut = refl; alone = no_more }
-white-part (piece (blank {b} p) h) = let x = white-part h in record { part = b ∷ x.part; cut = ap (λ (z : List ℕ). b ∷ z) x.cut; alone = piece (blank p) x.alone }
+white-part (piece (blank {b} p) h) = let x = white-part h in
+    record { part = b ∷ x.part; cut = ap (λ (z : List ℕ). b ∷ z) x.cut; alone = piece (blank p) x.alone }
 white-part {r} (piece (comment c) h) =
     let x = comment-part c in
     let y = white-part h in
     record {
       part = 35 ∷ (x.part ++ y.part);
-      cut = ap (λ (z : List ℕ). 35 ∷ z) (x.cut ∙ ap (λ (z : List ℕ). x.part ++ z) y.cut ∙ sym (append_assoc x.part y.part r));
+      cut = ap (λ (z : List ℕ). 35 ∷ z) (x.cut ∙ ap (λ (z : List ℕ). x.part ++ z) y.cut
+          ∙ sym (append_assoc x.part y.part r));
       alone = piece (comment (x.alone y.part (line_end-front y.part r y.cut x.ends))) y.alone;
     }
 
@@ -77,13 +86,16 @@ record Placed (text : List ℕ) (front : List ℕ) (x : Tok) (r : List ℕ) : Ty
   whole : text ≡ front_after ++ r
   end : length front_after ≡ end_of x
 
-placed : (text front : List ℕ) {t r : List ℕ} {x : Tok} → text ≡ front ++ t → Next (length text) t x r → Placed text front x r
+placed : (text front : List ℕ) {t r : List ℕ} {x : Tok} → text ≡ front ++ t → Next (length text) t x r
+    → Placed text front x r
 placed text front {r = r} {x = x} e n =
     let w = white-part n.white in
     let before = front ++ w.part in
     let z = slice_of x in
-    let whole : text ≡ before ++ (z ++ r) = e ∙ ap (λ (u : List ℕ). front ++ u) (w.cut ∙ ap (λ (u : List ℕ). w.part ++ u) n.cut) ∙ sym (append_assoc front w.part (z ++ r)) in
-    let sizes : length text ≡ length before + (length z + length r) = ap length whole ∙ length-append before (z ++ r) ∙ ap (λ (k : ℕ). length before + k) (length-append z r) in
+    let whole : text ≡ before ++ (z ++ r) = e ∙ ap (λ (u : List ℕ). front ++ u)
+    (w.cut ∙ ap (λ (u : List ℕ). w.part ++ u) n.cut) ∙ sym (append_assoc front w.part (z ++ r)) in
+    let sizes : length text ≡ length before + (length z + length r) = ap length whole ∙ length-append before (z ++ r)
+    ∙ ap (λ (k : ℕ). length before + k) (length-append z r) in
     let token : length n.token ≡ length z + length r = ap length n.cut ∙ length-append z r in
     let start : start_of x ≡ length before = (let p = n.place in omega arith) in
     let size = n.size in
@@ -92,7 +104,9 @@ placed text front {r = r} {x = x} e n =
       lies = record {
         rises = omega arith;
         within = omega arith;
-        slice = sym (ap (λ (u : List ℕ). take (end_of x - start_of x) u) (ap (drop (start_of x)) whole ∙ drop_at before (z ++ r) (start_of x) (sym start)) ∙ take_at z r (end_of x - start_of x) (omega arith));
+        slice = sym (ap (λ (u : List ℕ). take (end_of x - start_of x) u)
+            (ap (drop (start_of x)) whole ∙ drop_at before (z ++ r) (start_of x) (sym start))
+            ∙ take_at z r (end_of x - start_of x) (omega arith));
       };
       later = omega arith;
       front_after = before ++ z;
@@ -100,13 +114,15 @@ placed text front {r = r} {x = x} e n =
       end = omega (arith, length-append before z);
     }
 
-all-lie : (text front : List ℕ) {t : List ℕ} {ts : List Tok} → text ≡ front ++ t → AreTokens (length text) t ts → All (LiesIn text) ts
+all-lie : (text front : List ℕ) {t : List ℕ} {ts : List Tok} → text ≡ front ++ t → AreTokens (length text) t ts
+    → All (LiesIn text) ts
 all-lie text front e (last_one {x = x} n h) = All-cons (LiesIn text) x [] (placed text front e n).lies (All-nil _)
 all-lie text front e (one_more {x = x} {ts = ts} n h more) =
     let p = placed text front e n in
     All-cons (LiesIn text) x ts p.lies (all-lie text p.front_after p.whole more)
 
-in-order : (text front : List ℕ) {t : List ℕ} {ts : List Tok} → text ≡ front ++ t → AreTokens (length text) t ts → AreInOrder (length front) ts
+in-order : (text front : List ℕ) {t : List ℕ} {ts : List Tok} → text ≡ front ++ t → AreTokens (length text) t ts
+    → AreInOrder (length front) ts
 in-order text front e (last_one {x = x} n h) = ((placed text front e n).later, tt)
 in-order text front e (one_more {x = x} {ts = ts} n h more) =
     let p = placed text front e n in

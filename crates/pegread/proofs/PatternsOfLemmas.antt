@@ -31,5 +31,6 @@ patterns_of-snoc [] e = refl
 patterns_of-snoc (x ∷ xs) e = ap (more (pattern_of x)) (patterns_of-snoc xs e)
 
 -- what a push does
-pub patterns_of-push : (xs ys : List Expr) (e : Expr) → ys ≡ xs ++ e ∷ [] → patterns_of ys ≡ snoc (patterns_of xs) (pattern_of e)
+pub patterns_of-push : (xs ys : List Expr) (e : Expr) → ys ≡ xs ++ e ∷ []
+    → patterns_of ys ≡ snoc (patterns_of xs) (pattern_of e)
 patterns_of-push xs ys e h = ap patterns_of h ∙ patterns_of-snoc xs e

@@ -1,6 +1,8 @@
 -- What the reader's loop has come to, and what it says where it stops.
 -- Serves: read_peg
-use Rattle.std.proofs.Common.{◌≡◌, ℕ, zero, suc, ◌+◌, ◌<◌, ◌≤◌, Bool, true, false, cond, Option, Some, None, List, [], ◌∷◌, ◌++◌, length, map, slice_get, refl, sym, ap, ◌∙◌, append_assoc, append-nil, length-append, arith, Vec, Global, Result, Ok, Err}
+use Rattle.std.proofs.Common.{◌≡◌, ℕ, zero, suc, ◌+◌, ◌<◌, ◌≤◌, Bool, true, false, cond, Option, Some, None, List, []}
+use Rattle.std.proofs.Common.{◌∷◌, ◌++◌, length, map, slice_get, refl, sym, ap, ◌∙◌, append_assoc, append-nil}
+use Rattle.std.proofs.Common.{length-append, arith, Vec, Global, Result, Ok, Err}
 use Rattle.std.proofs.Math.Seq.{get_or-append_seam}
 use Rattle.std.proofs.lemmas.Option.{slice_get-get_or, slice_get-map}
 use Rattle.ruletable.specs.declared.span.Span.{Span}
@@ -43,7 +45,8 @@ use Rattle.pegread.proofs.IsShallowLemmas.{shallow-none, shallow-next}
 use Rattle.pegread.proofs.GrammarSpellingLemmas.{runs-grammar}
 
 -- the tokens so far and those that are left are the text's, and the machine took what those so far say
-pub record HasTaken (text : List ℕ) (left : List Tok → Type 0) (c : Config) (before : Option Kind) (ts : List Tok) : Type 0 where
+pub record HasTaken (text : List ℕ) (left : List Tok → Type 0) (c : Config) (before : Option Kind)
+    (ts : List Tok) : Type 0 where
   pub rest : List Tok
   pub are_left : left rest
   pub all : AreTokens (length text) text (ts ++ rest)
@@ -68,18 +71,22 @@ predicate-not : (b : Option Kind) (k : Kind) → b ≡ Some Amp → k ≡ Action
 predicate-not b k amp action e = let f = rw (amp, action) at e in cc
 
 get-seam : (ts : List Tok) (t : Tok) (us : List Tok) → slice_get (ts ++ t ∷ us) (length ts) ≡ Some t
-get-seam ts t us = slice_get-get_or (ts ++ t ∷ us) (length ts) t (omega (arith, length-append ts (t ∷ us))) ∙ ap Some (get_or-append_seam ts t us t)
+get-seam ts t us = slice_get-get_or (ts ++ t ∷ us) (length ts) t (omega (arith, length-append ts (t ∷ us)))
+    ∙ ap Some (get_or-append_seam ts t us t)
 
-kind-there : (ts : List Tok) (t : Tok) (us : List Tok) → slice_get (map kind_of (ts ++ t ∷ us)) (length ts) ≡ Some (kind_of t)
+kind-there : (ts : List Tok) (t : Tok) (us : List Tok) → slice_get (map kind_of (ts ++ t ∷ us)) (length ts)
+    ≡ Some (kind_of t)
 kind-there ts t us = slice_get-map kind_of (ts ++ t ∷ us) (length ts) ∙ ap (option_map kind_of) (get-seam ts t us)
 
 -- where the last token stands
-last-place : (ts us : List Tok) (k : Kind) → last_kind ts ≡ Some k → (place : ℕ) × (length ts ≡ suc place) × (slice_get (map kind_of (ts ++ us)) place ≡ Some k)
+last-place : (ts us : List Tok) (k : Kind) → last_kind ts ≡ Some k → (place : ℕ) × (length ts ≡ suc place)
+    × (slice_get (map kind_of (ts ++ us)) place ≡ Some k)
 last-place [] us k e = cc
 last-place (t ∷ []) us k e = (0, refl, e)
 last-place (t ∷ u ∷ ts) us k e = let p = last-place (u ∷ ts) us k e in (suc p.0, ap suc p.1, p.2)
 
-place-last : (ts us : List Tok) (k : Kind) (place : ℕ) → length ts ≡ place + 1 → slice_get (map kind_of (ts ++ us)) place ≡ Some k → last_kind ts ≡ Some k
+place-last : (ts us : List Tok) (k : Kind) (place : ℕ) → length ts ≡ place + 1
+    → slice_get (map kind_of (ts ++ us)) place ≡ Some k → last_kind ts ≡ Some k
 place-last [] us k place e h = absurd (omega (arith, e))
 place-last (t ∷ []) us k zero e h = h
 place-last (t ∷ []) us k (suc place) e h = absurd (omega (arith, e))
@@ -91,15 +98,27 @@ only-end : {z : List ℕ} {p : Span} {ws : List Word} → SayAll (tok End z p �
 only-end (say_more says_end say_none) = refl
 
 -- before the first token
-pub none-taken : (text : List ℕ) (left : List Tok → Type 0) (all : List Tok) → left all → AreTokens (length text) text all → HasTaken text left start None []
-none-taken text left all are h = record { rest = all; are_left = are; all = h; words = []; say = say_none; reached = refl; shallow = shallow-none MAX_OPEN; last = refl }
+pub none-taken : (text : List ℕ) (left : List Tok → Type 0) (all : List Tok) → left all
+    → AreTokens (length text) text all → HasTaken text left start None []
+none-taken text left all are h = record {
+  rest = all;
+  are_left = are;
+  all = h;
+  words = [];
+  say = say_none;
+  reached = refl;
+  shallow = shallow-none MAX_OPEN;
+  last = refl;
+}
 
-module _ {text : List ℕ} {left : List Tok → Type 0} {c : Config} {before : Option Kind} {ts : List Tok} (h : HasTaken text left c before ts) (t : Tok) (others : List Tok) (given : h.rest ≡ t ∷ others) where
+module _ {text : List ℕ} {left : List Tok → Type 0} {c : Config} {before : Option Kind} {ts : List Tok}
+    (h : HasTaken text left c before ts) (t : Tok) (others : List Tok) (given : h.rest ≡ t ∷ others) where
   whole : AreTokens (length text) text (ts ++ t ∷ others)
   whole = rw given at h.all
 
   -- one token more
-  pub one-taken : (next : List Tok → Type 0) (d : Config) (w : Word) → next others → Says t w → step c w ≡ Some d → levels_in d ≤ MAX_OPEN → HasTaken text next d (Some (kind_of t)) (ts ++ t ∷ [])
+  pub one-taken : (next : List Tok → Type 0) (d : Config) (w : Word) → next others → Says t w → step c w ≡ Some d
+      → levels_in d ≤ MAX_OPEN → HasTaken text next d (Some (kind_of t)) (ts ++ t ∷ [])
   one-taken next d w are says steps le = record {
     rest = others;
     are_left = are;
@@ -113,10 +132,21 @@ module _ {text : List ℕ} {left : List Tok → Type 0} {c : Config} {before : O
 
   module _ (line : ℕ) (within : length text ≤ MAX_GRAMMAR) (there : line ≡ line_at Any text (start_of t)) where
     decided : (D : List Tok → ℕ → Type 0) → D (ts ++ t ∷ others) (length ts) → IsDecidedAt text line D
-    decided D k = record { within = within; all = ts ++ t ∷ others; are_tokens = whole; number = length ts; token = t; there = get-seam ts t others; decides = k; line_is = there }
+    decided D k = record {
+      within = within;
+      all = ts ++ t ∷ others;
+      are_tokens = whole;
+      number = length ts;
+      token = t;
+      there = get-seam ts t others;
+      decides = k;
+      line_is = there;
+    }
 
-    pub too-deep : (d : Config) (w : Word) → Says t w → step c w ≡ Some d → MAX_OPEN < levels_in d → IsDecidedAt text line IsTooDeep
-    too-deep d w says steps lt = decided IsTooDeep (too_deep-next c h.say h.reached h.shallow t others d w says steps lt)
+    pub too-deep : (d : Config) (w : Word) → Says t w → step c w ≡ Some d → MAX_OPEN < levels_in d
+        → IsDecidedAt text line IsTooDeep
+    too-deep d w says steps lt = decided IsTooDeep
+        (too_deep-next c h.say h.reached h.shallow t others d w says steps lt)
 
     module _ (stops : (w : Word) → Says t w → step c w ≡ None) where
       is-here : IsHopeless (ts ++ t ∷ others) (length ts)
@@ -128,7 +158,12 @@ module _ {text : List ℕ} {left : List Tok → Type 0} {c : Config} {before : O
           behind-amp : (before ≡ Some Amp) × (kind_of t ≡ Action) → IsCodePredicate (ts ++ t ∷ others) (length ts)
           behind-amp (amp, action) =
               let p = last-place ts (t ∷ others) Amp (sym h.last ∙ amp) in
-              record { place = p.0; next = omega (arith, p.1); amp = p.2; action = kind-there ts t others ∙ ap Some action }
+              record {
+                place = p.0;
+                next = omega (arith, p.1);
+                amp = p.2;
+                action = kind-there ts t others ∙ ap Some action;
+              }
 
       no-predicate : is_predicate before (kind_of t) ≡ false → IsCodePredicate (ts ++ t ∷ others) (length ts) → ⊥
       no-predicate e p =
@@ -137,7 +172,8 @@ module _ {text : List ℕ} {left : List Tok → Type 0} {c : Config} {before : O
           let kind : kind_of t ≡ Action = cc in
           predicate-not before (kind_of t) (h.last ∙ amp) kind e
 
-      by-kinds : (b : Bool) → is_predicate before (kind_of t) ≡ b → IsFaultOf text (cond b (CodePredicate line) (Syntax line))
+      by-kinds : (b : Bool) → is_predicate before (kind_of t) ≡ b
+          → IsFaultOf text (cond b (CodePredicate line) (Syntax line))
       by-kinds true e = decided (λ us i. IsHopeless us i × IsCodePredicate us i) (is-here, is-predicate e)
       by-kinds false e = decided (λ us i. IsHopeless us i × (IsCodePredicate us i → ⊥)) (is-here, no-predicate e)
 
@@ -149,16 +185,19 @@ end-kind End e = refl
 end-kind _ e = cc
 
 -- the tokens of a text end in `End`
-tokens-end : {total : ℕ} {t : List ℕ} {ts : List Tok} → AreTokens total t ts → (front : List Tok) × (z : List ℕ) × (p : Span) × (ts ≡ front ++ tok End z p ∷ [])
+tokens-end : {total : ℕ} {t : List ℕ} {ts : List Tok} → AreTokens total t ts → (front : List Tok) × (z : List ℕ)
+    × (p : Span) × (ts ≡ front ++ tok End z p ∷ [])
 tokens-end (last_one {x = tok k z p} n e) = ([], z, p, ap (λ (k : Kind). tok k z p ∷ []) (end-kind k e))
 tokens-end (one_more {x} n e more) = let h = tokens-end more in (x ∷ h.0, h.1, h.2, ap (λ (y : List Tok). x ∷ y) h.3)
 
-run-end : (x : Option Config) (c : Config) → run_of step x (words.End ∷ []) ≡ Some c → (rules : List Rule) × (c ≡ done rules)
+run-end : (x : Option Config) (c : Config) → run_of step x (words.End ∷ []) ≡ Some c → (rules : List Rule)
+    × (c ≡ done rules)
 run-end None c e = cc
 run-end (Some d) c e = end-done d c (sym (run-snoc step [] words.End d d refl) ∙ e)
 
 -- no token is left
-module _ {text : List ℕ} {left : List Tok → Type 0} {c : Config} {before : Option Kind} {ts : List Tok} (h : HasTaken text left c before ts) (none : h.rest ≡ []) where
+module _ {text : List ℕ} {left : List Tok → Type 0} {c : Config} {before : Option Kind} {ts : List Tok}
+    (h : HasTaken text left c before ts) (none : h.rest ≡ []) where
   every : AreTokens (length text) text ts
   every = simp (none, append-nil) at h.all
 
@@ -168,17 +207,27 @@ module _ {text : List ℕ} {left : List Tok → Type 0} {c : Config} {before : O
       let s = say-split Says e.0 (tok End e.1 e.2 ∷ []) (rw e.3 at h.say) in
       said-end s (sym (run-append step s.front s.back start) ∙ ap (run start) (sym s.whole) ∙ h.reached)
     where
-      said-end : {fs : List Tok} {z : List ℕ} {p : Span} {ws : List Word} (s : Split Says fs (tok End z p ∷ []) ws) → run_of step (run start s.front) s.back ≡ Some c → (rules : List Rule) × (c ≡ done rules)
+      said-end : {fs : List Tok} {z : List ℕ} {p : Span} {ws : List Word} (s : Split Says fs (tok End z p ∷ []) ws)
+          → run_of step (run start s.front) s.back ≡ Some c → (rules : List Rule) × (c ≡ done rules)
       said-end s e = run-end (run start s.front) c (rw (only-end s.rest) at e)
 
   pub all-read : (rules : List Rule) → c ≡ done rules → length text ≤ MAX_GRAMMAR → Reads text rules
-  all-read rules e within = record { within = within; tokens = ts; are_tokens = every; words = h.words; say = h.say; grammar = runs-grammar rules h.words (h.reached ∙ ap Some e); shallow = h.shallow }
+  all-read rules e within = record {
+    within = within;
+    tokens = ts;
+    are_tokens = every;
+    words = h.words;
+    say = h.say;
+    grammar = runs-grammar rules h.words (h.reached ∙ ap Some e);
+    shallow = h.shallow;
+  }
 
 -- what is left of the text's tokens
 abbrev pub AreLeft : TokenIter Kind → List Tok → Type 0
 AreLeft = lexed.AreLeft White First is_end
 
-pub done-not : (r : Reader) (rules : List Rule) → config_of r ≡ done rules → ((ds : Vec Definition Global) → r ≡ readers.Done ds → ⊥) → ⊥
+pub done-not : (r : Reader) (rules : List Rule) → config_of r ≡ done rules
+    → ((ds : Vec Definition Global) → r ≡ readers.Done ds → ⊥) → ⊥
 done-not readers.Start rules e f = cc
 done-not (readers.Named n p) rules e f = cc
 done-not (readers.Fresh b) rules e f = cc
@@ -200,7 +249,8 @@ module _ (literal : (total : ℕ) (t r z : List ℕ) (p : Span) → Next total t
   cut-of total t r x n = cut-kind total t r x.slice.now x.kind x.span n
 
 -- the machine's step for the one word of a token is the token's
-pub taken-word : (c : Config) (t : Tok) (w : Word) (r : Result Reader Stop) → Says t w → Steps (step c w) r → Takes c t r
+pub taken-word : (c : Config) (t : Tok) (w : Word) (r : Result Reader Stop) → Says t w → Steps (step c w) r
+    → Takes c t r
 taken-word c t w (Ok r) says s = (w, says, s)
 taken-word c t w (Err stops.Hopeless) says s = λ v h. ap (step c) (one-word t v w h says) ∙ s
 taken-word c t w (Err stops.Memory) says s = tt

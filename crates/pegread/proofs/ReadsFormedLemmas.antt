@@ -13,7 +13,10 @@ use Rattle.pegread.specs.Reading.{Reads}
 use Rattle.lexer.specs.SliceEnds.{no_more, piece}
 use Rattle.pegread.specs.Slices as slices
 use Rattle.pegread.specs.Slices.{White, Comment, Body}
-use Rattle.pegread.specs.Spelling.{sequence, choice, Primary, name, literal, class, dot, action, begin, end_cap, parens, Suffixed, bare, quest, star, plus, Prefixed, plain, bang, amp, Items, no_item, item, Alternatives, only, further, Expression, expression, Grammar, last_definition, more_definitions}
+use Rattle.pegread.specs.Spelling.{sequence, choice, Primary, name, literal, class, dot, action, begin, end_cap, parens}
+use Rattle.pegread.specs.Spelling.{Suffixed, bare, quest, star, plus, Prefixed, plain, bang, amp, Items, no_item, item}
+use Rattle.pegread.specs.Spelling.{Alternatives, only, further, Expression, expression, Grammar, last_definition}
+use Rattle.pegread.specs.Spelling.{more_definitions}
 use Rattle.lexer.specs.TokenLists.{slice_of, last_one, one_more}
 use Rattle.pegread.specs.Tokens.{Tok, Next, AreTokens}
 use Rattle.pegread.specs.Words as words
@@ -104,8 +107,10 @@ proper (says_class y) h w = set-formed y
 proper {n} {t} {r} (says_action {z} {t = s} {p} y) h w = template-formed s (action-token n t r z p h) y
 proper _ h w = tt
 
-tokens-proper : {n : ℕ} {t : List ℕ} {ts : List Tok} {ws : List Word} → AreTokens n t ts → SayAll ts ws → AreBytes t → AreProper ws
-tokens-proper (last_one {r = r} {x} h e) (say_more y say_none) w = (proper y h (are-front (slice_of x) r (next-bytes h w)), tt)
+tokens-proper : {n : ℕ} {t : List ℕ} {ts : List Tok} {ws : List Word} → AreTokens n t ts → SayAll ts ws → AreBytes t
+    → AreProper ws
+tokens-proper (last_one {r = r} {x} h e) (say_more y say_none) w =
+    (proper y h (are-front (slice_of x) r (next-bytes h w)), tt)
 tokens-proper (one_more {r = r} {x} h e k) (say_more y ys) w =
     let here = next-bytes h w in
     (proper y h (are-front (slice_of x) r here), tokens-proper k ys (are-back (slice_of x) r here))
@@ -157,14 +162,18 @@ mutual
 
   items-give : {s r : List Word} {es : Patterns} → Items s r es → AreProper s → GivesAll es r
   items-give no_item w = record { formed = tt; proper = w }
-  items-give (item h k) w = let g = prefixed-gives h w in let i = items-give k g.proper in record { formed = (g.formed, i.formed); proper = i.proper }
+  items-give (item h k) w = let g = prefixed-gives h w in let i = items-give k g.proper in
+      record { formed = (g.formed, i.formed); proper = i.proper }
 
   alternatives-give : {s r : List Word} {bs : Patterns} → Alternatives s r bs → AreProper s → GivesAll bs r
-  alternatives-give (only {xs = es} h) w = let i = items-give h w in record { formed = (sequence-formed es i.formed, tt); proper = i.proper }
-  alternatives-give (further {xs = es} h a) w = let i = items-give h w in let b = alternatives-give a i.proper.1 in record { formed = (sequence-formed es i.formed, b.formed); proper = b.proper }
+  alternatives-give (only {xs = es} h) w = let i = items-give h w in
+      record { formed = (sequence-formed es i.formed, tt); proper = i.proper }
+  alternatives-give (further {xs = es} h a) w = let i = items-give h w in let b = alternatives-give a i.proper.1 in
+      record { formed = (sequence-formed es i.formed, b.formed); proper = b.proper }
 
   expression-gives : {s r : List Word} {x : Pattern} → Expression s r x → AreProper s → Gives x r
-  expression-gives (expression {ys = bs} h) w = let a = alternatives-give h w in record { formed = choice-formed bs (full-alternatives h) a.formed; proper = a.proper }
+  expression-gives (expression {ys = bs} h) w = let a = alternatives-give h w in
+      record { formed = choice-formed bs (full-alternatives h) a.formed; proper = a.proper }
 
 grammar-gives : {ws : List Word} {rules : List Rule} → Grammar ws rules → AreProper ws → AreFormedRules rules
 grammar-gives (last_definition h) w = let g = expression-gives h w.1.1 in (w.0, g.formed, tt)
@@ -174,5 +183,6 @@ some-rules : {ws : List Word} {rules : List Rule} → Grammar ws rules → IsSom
 some-rules (last_definition h) = tt
 some-rules (more_definitions h k) = tt
 
-pub reads-formed : (source : List ℕ) (rules : List Rule) → AreBytes source → Reads source rules → IsSome rules × AreFormedRules rules
+pub reads-formed : (source : List ℕ) (rules : List Rule) → AreBytes source → Reads source rules → IsSome rules
+    × AreFormedRules rules
 reads-formed source rules w h = (some-rules h.grammar, grammar-gives h.grammar (tokens-proper h.are_tokens h.say w))

@@ -5,7 +5,10 @@ use Rattle.ruletable.specs.declared.span.Span.{Span}
 use Rattle.pegread.specs.Canon.{definition_text, grammar_text}
 use Rattle.pegread.specs.Pattern.{Pattern, Patterns, Rule}
 use Rattle.pegread.specs.ReadBack.{SameButSpans}
-use Rattle.pegread.specs.Spelling.{NoAction, Primary, name, literal, class, dot, action, begin, end_cap, parens, Suffixed, bare, quest, star, plus, Prefixed, plain, bang, amp, Items, no_item, item, Alternatives, only, further, Expression, expression, Grammar, last_definition, more_definitions, rule_at}
+use Rattle.pegread.specs.Spelling.{NoAction, Primary, name, literal, class, dot, action, begin, end_cap, parens}
+use Rattle.pegread.specs.Spelling.{Suffixed, bare, quest, star, plus, Prefixed, plain, bang, amp, Items, no_item, item}
+use Rattle.pegread.specs.Spelling.{Alternatives, only, further, Expression, expression, Grammar, last_definition}
+use Rattle.pegread.specs.Spelling.{more_definitions, rule_at}
 use Rattle.pegread.specs.Words as words
 use Rattle.pegread.specs.Words.{Word}
 
@@ -53,8 +56,10 @@ record Passes (Spells : List Word → List Word → Type 0) (w : Word) (s r : Li
   same : SameWords r rest
   spells : Spells s (w ∷ rest)
 
-passes : {Spells : List Word → List Word → Type 0} {w : Word} {s r : List Word} → IsMark w → Also Spells s (w ∷ r) → Passes Spells w s r
-passes {Spells} {w} {s} m a = let b = tail w m a.same in record { rest = b.rest; same = b.same; spells = subst (λ (u : List Word). Spells s u) b.whole a.spells }
+passes : {Spells : List Word → List Word → Type 0} {w : Word} {s r : List Word} → IsMark w → Also Spells s (w ∷ r)
+    → Passes Spells w s r
+passes {Spells} {w} {s} m a = let b = tail w m a.same in
+    record { rest = b.rest; same = b.same; spells = subst (λ (u : List Word). Spells s u) b.whole a.spells }
 
 mutual
   primary-also : {s r t : List Word} {x : Pattern} → Primary s r x → SameWords s t → Also (λ a b. Primary a b x) t r
@@ -66,29 +71,42 @@ mutual
   primary-also action (same_more same_word h) = record { rest = _; same = h; spells = action }
   primary-also begin (same_more same_word h) = record { rest = _; same = h; spells = begin }
   primary-also end_cap (same_more same_word h) = record { rest = _; same = h; spells = end_cap }
-  primary-also (parens k) (same_more same_word h) = let a = passes tt (expression-also k h) in record { rest = a.rest; same = a.same; spells = parens a.spells }
+  primary-also (parens k) (same_more same_word h) = let a = passes tt (expression-also k h) in
+      record { rest = a.rest; same = a.same; spells = parens a.spells }
 
   suffixed-also : {s r t : List Word} {x : Pattern} → Suffixed s r x → SameWords s t → Also (λ a b. Suffixed a b x) t r
   suffixed-also (bare k) h = let a = primary-also k h in record { rest = a.rest; same = a.same; spells = bare a.spells }
-  suffixed-also (quest k) h = let a = passes tt (primary-also k h) in record { rest = a.rest; same = a.same; spells = quest a.spells }
-  suffixed-also (star k) h = let a = passes tt (primary-also k h) in record { rest = a.rest; same = a.same; spells = star a.spells }
-  suffixed-also (plus k) h = let a = passes tt (primary-also k h) in record { rest = a.rest; same = a.same; spells = plus a.spells }
+  suffixed-also (quest k) h = let a = passes tt (primary-also k h) in
+      record { rest = a.rest; same = a.same; spells = quest a.spells }
+  suffixed-also (star k) h = let a = passes tt (primary-also k h) in
+      record { rest = a.rest; same = a.same; spells = star a.spells }
+  suffixed-also (plus k) h = let a = passes tt (primary-also k h) in
+      record { rest = a.rest; same = a.same; spells = plus a.spells }
 
   prefixed-also : {s r t : List Word} {x : Pattern} → Prefixed s r x → SameWords s t → Also (λ a b. Prefixed a b x) t r
-  prefixed-also (plain k) h = let a = suffixed-also k h in record { rest = a.rest; same = a.same; spells = plain a.spells }
-  prefixed-also (bang k) (same_more same_word h) = let a = suffixed-also k h in record { rest = a.rest; same = a.same; spells = bang a.spells }
-  prefixed-also (amp n k) (same_more same_word h) = let a = suffixed-also k h in record { rest = a.rest; same = a.same; spells = amp (no_action h n) a.spells }
+  prefixed-also (plain k) h = let a = suffixed-also k h in
+      record { rest = a.rest; same = a.same; spells = plain a.spells }
+  prefixed-also (bang k) (same_more same_word h) = let a = suffixed-also k h in
+      record { rest = a.rest; same = a.same; spells = bang a.spells }
+  prefixed-also (amp n k) (same_more same_word h) = let a = suffixed-also k h in
+      record { rest = a.rest; same = a.same; spells = amp (no_action h n) a.spells }
 
   items-also : {s r t : List Word} {xs : Patterns} → Items s r xs → SameWords s t → Also (λ a b. Items a b xs) t r
   items-also no_item h = record { rest = _; same = h; spells = no_item }
-  items-also (item k i) h = let a = prefixed-also k h in let b = items-also i a.same in record { rest = b.rest; same = b.same; spells = item a.spells b.spells }
+  items-also (item k i) h = let a = prefixed-also k h in let b = items-also i a.same in
+      record { rest = b.rest; same = b.same; spells = item a.spells b.spells }
 
-  alternatives-also : {s r t : List Word} {xs : Patterns} → Alternatives s r xs → SameWords s t → Also (λ a b. Alternatives a b xs) t r
-  alternatives-also (only k) h = let a = items-also k h in record { rest = a.rest; same = a.same; spells = only a.spells }
-  alternatives-also (further k i) h = let a = passes tt (items-also k h) in let b = alternatives-also i a.same in record { rest = b.rest; same = b.same; spells = further a.spells b.spells }
+  alternatives-also : {s r t : List Word} {xs : Patterns} → Alternatives s r xs → SameWords s t
+      → Also (λ a b. Alternatives a b xs) t r
+  alternatives-also (only k) h = let a = items-also k h in
+      record { rest = a.rest; same = a.same; spells = only a.spells }
+  alternatives-also (further k i) h = let a = passes tt (items-also k h) in let b = alternatives-also i a.same in
+      record { rest = b.rest; same = b.same; spells = further a.spells b.spells }
 
-  expression-also : {s r t : List Word} {x : Pattern} → Expression s r x → SameWords s t → Also (λ a b. Expression a b x) t r
-  expression-also (expression k) h = let a = alternatives-also k h in record { rest = a.rest; same = a.same; spells = expression a.spells }
+  expression-also : {s r t : List Word} {x : Pattern} → Expression s r x → SameWords s t
+      → Also (λ a b. Expression a b x) t r
+  expression-also (expression k) h = let a = alternatives-also k h in
+      record { rest = a.rest; same = a.same; spells = expression a.spells }
 
 -- the words spell these rules, but for their spans
 pub record SpellsAgain (ws : List Word) (rules : List Rule) : Type 0 where
@@ -99,16 +117,19 @@ pub record SpellsAgain (ws : List Word) (rules : List Rule) : Type 0 where
 nothing-same : {r : List Word} → SameWords [] r → r ≡ []
 nothing-same same_none = refl
 
-last-again : {n : List ℕ} {s t : List Word} {x : Pattern} (p q : Span) → Expression s (words.End ∷ []) x → SameWords s t → SpellsAgain (words.Ident n q ∷ words.Arrow ∷ t) (rule_at n p x ∷ [])
+last-again : {n : List ℕ} {s t : List Word} {x : Pattern} (p q : Span) → Expression s (words.End ∷ []) x → SameWords s t
+    → SpellsAgain (words.Ident n q ∷ words.Arrow ∷ t) (rule_at n p x ∷ [])
 last-again {n} {t = t} {x} p q k h =
     let a = passes tt (expression-also k h) in
     record {
       again = rule_at n q x ∷ [];
       same = record { names = refl; bodies = refl };
-      grammar = last_definition (subst (λ (r : List Word). Expression t (words.End ∷ r) x) (nothing-same a.same) a.spells);
+      grammar = last_definition (subst (λ (r : List Word). Expression t (words.End ∷ r) x) (nothing-same a.same)
+          a.spells);
     }
 
-first-again : {n : List ℕ} {t m : List Word} {x : Pattern} {rules : List Rule} (p q : Span) → Expression t m x → SpellsAgain m rules → SpellsAgain (words.Ident n q ∷ words.Arrow ∷ t) (rule_at n p x ∷ rules)
+first-again : {n : List ℕ} {t m : List Word} {x : Pattern} {rules : List Rule} (p q : Span) → Expression t m x
+    → SpellsAgain m rules → SpellsAgain (words.Ident n q ∷ words.Arrow ∷ t) (rule_at n p x ∷ rules)
 first-again {n} {x = x} p q k g = record {
   again = rule_at n q x ∷ g.again;
   same = record { names = ap (λ ns. n ∷ ns) g.same.names; bodies = ap (λ xs. x ∷ xs) g.same.bodies };
@@ -118,11 +139,14 @@ first-again {n} {x = x} p q k g = record {
 pub grammar-again : {ws vs : List Word} {rules : List Rule} → Grammar ws rules → SameWords ws vs → SpellsAgain vs rules
 grammar-again (last_definition {p = p} k) (same_more same_word (same_more same_word h)) = last-again p p k h
 grammar-again (last_definition {p = p} k) (same_more (same_name {q = q}) (same_more same_word h)) = last-again p q k h
-grammar-again (more_definitions {p = p} k g) (same_more same_word (same_more same_word h)) = let a = expression-also k h in first-again p p a.spells (grammar-again g a.same)
-grammar-again (more_definitions {p = p} k g) (same_more (same_name {q = q}) (same_more same_word h)) = let a = expression-also k h in first-again p q a.spells (grammar-again g a.same)
+grammar-again (more_definitions {p = p} k g) (same_more same_word (same_more same_word h)) = let a =
+    expression-also k h in first-again p p a.spells (grammar-again g a.same)
+grammar-again (more_definitions {p = p} k g) (same_more (same_name {q = q}) (same_more same_word h)) = let a =
+    expression-also k h in first-again p q a.spells (grammar-again g a.same)
 
 -- the canonical text sees no span
-text-same : (rules again : List Rule) → map (λ rule. rule.name) rules ≡ map (λ rule. rule.name) again → map (λ rule. rule.body) rules ≡ map (λ rule. rule.body) again → grammar_text rules ≡ grammar_text again
+text-same : (rules again : List Rule) → map (λ rule. rule.name) rules ≡ map (λ rule. rule.name) again
+    → map (λ rule. rule.body) rules ≡ map (λ rule. rule.body) again → grammar_text rules ≡ grammar_text again
 text-same [] [] n b = refl
 text-same [] (next ∷ again) n b = cc
 text-same (rule ∷ rules) [] n b = cc

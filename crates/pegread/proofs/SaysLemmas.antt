@@ -5,7 +5,10 @@ use Rattle.ruletable.specs.declared.span.Span.{Span}
 use Rattle.pegread.specs.declared.kind.Kind.TheVariants as kinds
 use Rattle.lexer.specs.TokenLists.{tok, kind_of}
 use Rattle.pegread.specs.Tokens.{Tok, Next}
-use Rattle.pegread.specs.Words.{Word, Ident, Arrow, Begin, EndCap, Slash, Amp, Bang, Quest, Star, Plus, Dot, LParen, RParen, Literal, Class, Action, End, Says, says_name, says_arrow, says_begin, says_end_cap, says_slash, says_amp, says_bang, says_quest, says_star, says_plus, says_dot, says_lparen, says_rparen, says_literal, says_class, says_action, says_end}
+use Rattle.pegread.specs.Words.{Word, Ident, Arrow, Begin, EndCap, Slash, Amp, Bang, Quest, Star, Plus, Dot, LParen}
+use Rattle.pegread.specs.Words.{RParen, Literal, Class, Action, End, Says, says_name, says_arrow, says_begin}
+use Rattle.pegread.specs.Words.{says_end_cap, says_slash, says_amp, says_bang, says_quest, says_star, says_plus}
+use Rattle.pegread.specs.Words.{says_dot, says_lparen, says_rparen, says_literal, says_class, says_action, says_end}
 use Rattle.pegread.proofs.SpellsSetLemmas.{one-class, some-class}
 use Rattle.pegread.proofs.SpellsBytesLemmas.{one-literal, some-literal, same-inside}
 use Rattle.pegread.proofs.AreMarkedLemmas.{literal-token, class-token, braced-token}
@@ -27,8 +30,10 @@ token-says total t r (tok kinds.Plus z p) n g = (Plus, says_plus)
 token-says total t r (tok kinds.Dot z p) n g = (Dot, says_dot)
 token-says total t r (tok kinds.LParen z p) n g = (LParen, says_lparen)
 token-says total t r (tok kinds.RParen z p) n g = (RParen, says_rparen)
-token-says total t r (tok kinds.Literal z p) n g = let s = some-literal z (literal-token total t r z p n) in (Literal s.0, says_literal s.1)
-token-says total t r (tok kinds.Class z p) n g = let s = some-class z (class-token total t r z p n) in (Class s.0, says_class s.1)
+token-says total t r (tok kinds.Literal z p) n g = let s = some-literal z (literal-token total t r z p n) in
+    (Literal s.0, says_literal s.1)
+token-says total t r (tok kinds.Class z p) n g = let s = some-class z (class-token total t r z p n) in
+    (Class s.0, says_class s.1)
 token-says total t r (tok kinds.Action z p) n g = let s = braced-token total t r z p n in (Action s.0, says_action s.1)
 token-says total t r (tok kinds.Bad z p) n g = absurd (g refl)
 token-says total t r (tok kinds.End z p) n g = (End, says_end)

@@ -1,8 +1,10 @@
 -- How far the relations of specs/Slices.antt reach.
 -- Serves: Kind::after_white, Kind::first_token, is_read_back
-use Rattle.std.proofs.Common.{◌≡◌, ◌≢◌, ℕ, zero, suc, ◌≤◌, true, false, List, [], ◌∷◌, length, refl, arith, ◌⊎◌, inl, inr}
+use Rattle.std.proofs.Common.{◌≡◌, ◌≢◌, ℕ, zero, suc, ◌≤◌, true, false, List, [], ◌∷◌, length, refl, arith, ◌⊎◌, inl}
+use Rattle.std.proofs.Common.{inr}
 use Rattle.lexer.specs.SliceEnds.{piece}
-use Rattle.pegread.specs.Slices.{continues_name, is_blank, ends_line, Names, none, more, Closes, close, escape, plain, Body, last, nested, other, IsLineEnd, Comment, inside, White, blank, comment}
+use Rattle.pegread.specs.Slices.{continues_name, is_blank, ends_line, Names, none, more, Closes, close, escape, plain}
+use Rattle.pegread.specs.Slices.{Body, last, nested, other, IsLineEnd, Comment, inside, White, blank, comment}
 
 -- the text doesn't go on with a byte of a name
 abbrev pub NoMore : List ℕ → Type 0
@@ -23,7 +25,8 @@ pub names-on : {b : ℕ} {t bs r : List ℕ} → t ≡ b ∷ bs → continues_na
 names-on e h n = rw (e) (more h n)
 
 unfoldable pub Decided : ℕ → ℕ → List ℕ → List ℕ → Type 0
-Decided mark b bs r = ((b ≡ mark) × (r ≡ bs)) ⊎ (((b ≡ 92) × (d : ℕ) × (ds : List ℕ) × (bs ≡ d ∷ ds) × Closes mark ds r) ⊎ ((b ≢ mark) × (b ≢ 92) × Closes mark bs r))
+Decided mark b bs r = ((b ≡ mark) × (r ≡ bs)) ⊎ (((b ≡ 92) × (d : ℕ) × (ds : List ℕ) × (bs ≡ d ∷ ds) × Closes mark ds r)
+    ⊎ ((b ≢ mark) × (b ≢ 92) × Closes mark bs r))
 
 -- how a text that begins with b is closed
 pub closes-by : {mark b : ℕ} {bs r : List ℕ} → Closes mark (b ∷ bs) r → Decided mark b bs r
@@ -41,14 +44,22 @@ module _ {mark b : ℕ} {t bs : List ℕ} (e : t ≡ b ∷ bs) where
 
   pub closes-plain-back : {r : List ℕ} → b ≢ mark → b ≢ 92 → Closes mark t r → Closes mark bs r
   unfolding Decided
-  closes-plain-back p q c = elim (closes-by (rw e at c)) [ inl x ↦ absurd (p x.0) | inr y ↦ elim y [ inl z ↦ absurd (q z.0) | inr w ↦ w.2 ] ]
+  closes-plain-back p q c = elim (closes-by (rw e at c))
+      [ inl x ↦ absurd (p x.0) | inr y ↦ elim y [ inl z ↦ absurd (q z.0) | inr w ↦ w.2 ] ]
 
   pub closes-escape : {d : ℕ} {ds r : List ℕ} → b ≡ 92 → bs ≡ d ∷ ds → Closes mark ds r → Closes mark t r
   closes-escape p q c = rw (e, p, q) (escape c)
 
-  pub closes-escape-back : {d : ℕ} {ds r : List ℕ} → b ≢ mark → b ≡ 92 → bs ≡ d ∷ ds → Closes mark t r → Closes mark ds r
+  pub closes-escape-back : {d : ℕ} {ds r : List ℕ} → b ≢ mark → b ≡ 92 → bs ≡ d ∷ ds → Closes mark t r
+      → Closes mark ds r
   unfolding Decided
-  closes-escape-back m p q c = elim (closes-by (rw e at c)) [ inl x ↦ absurd (m x.0) | inr y ↦ elim y [ inl z ↦ (let same : z.2 ≡ _ = cc in rw same at z.4) | inr w ↦ absurd (w.1 p) ] ]
+  closes-escape-back m p q c = elim (closes-by (rw e at c)) [
+    | inl x ↦ absurd (m x.0)
+    | inr y ↦ elim y [
+      | inl z ↦ (let same : z.2 ≡ _ = cc in rw same at z.4)
+      | inr w ↦ absurd (w.1 p)
+    ]
+  ]
 
 -- as many bodies, one after another, as braces are open
 abbrev pub Bodies : ℕ → List ℕ → List ℕ → Type 0
@@ -56,7 +67,8 @@ Bodies zero t r = Body t r
 Bodies (suc d) t r = (m : List ℕ) × Body t m × Bodies d m r
 
 pub BodyCase : ℕ → List ℕ → List ℕ → Type 0
-BodyCase b bs r = ((b ≡ 125) × (r ≡ bs)) ⊎ (((b ≡ 123) × (m : List ℕ) × Body bs m × Body m r) ⊎ ((b ≢ 123) × (b ≢ 125) × Body bs r))
+BodyCase b bs r = ((b ≡ 125) × (r ≡ bs)) ⊎ (((b ≡ 123) × (m : List ℕ) × Body bs m × Body m r)
+    ⊎ ((b ≢ 123) × (b ≢ 125) × Body bs r))
 
 pub body-by : {b : ℕ} {bs r : List ℕ} → Body (b ∷ bs) r → BodyCase b bs r
 unfolding BodyCase
@@ -87,7 +99,10 @@ module _ {b : ℕ} {t bs : List ℕ} (e : t ≡ b ∷ bs) where
 
   body-open-back : {r : List ℕ} → b ≡ 123 → Body t r → (m : List ℕ) × Body bs m × Body m r
   unfolding BodyCase
-  body-open-back p h = elim (body-by (rw e at h)) [ inl x ↦ absurd (let q : b ≡ 125 = x.0 in omega arith) | inr y ↦ elim y [ inl z ↦ (z.1, z.2, z.3) | inr w ↦ absurd (w.0 p) ] ]
+  body-open-back p h = elim (body-by (rw e at h)) [
+    | inl x ↦ absurd (let q : b ≡ 125 = x.0 in omega arith)
+    | inr y ↦ elim y [ inl z ↦ (z.1, z.2, z.3) | inr w ↦ absurd (w.0 p) ]
+  ]
 
   pub bodies-open-back : (r : List ℕ) (d : ℕ) → b ≡ 123 → Bodies d t r → Bodies (suc d) bs r
   bodies-open-back r zero p h = body-open-back p h
@@ -98,7 +113,13 @@ module _ {b : ℕ} {t bs : List ℕ} (e : t ≡ b ∷ bs) where
 
   body-close-back : {r : List ℕ} → b ≡ 125 → Body t r → r ≡ bs
   unfolding BodyCase
-  body-close-back p h = elim (body-by (rw e at h)) [ inl x ↦ x.1 | inr y ↦ elim y [ inl z ↦ absurd (let q : b ≡ 123 = z.0 in omega arith) | inr w ↦ absurd (w.1 p) ] ]
+  body-close-back p h = elim (body-by (rw e at h)) [
+    | inl x ↦ x.1
+    | inr y ↦ elim y [
+      | inl z ↦ absurd (let q : b ≡ 123 = z.0 in omega arith)
+      | inr w ↦ absurd (w.1 p)
+    ]
+  ]
 
   pub bodies-close-back : (r : List ℕ) (d : ℕ) → b ≡ 125 → Bodies (suc d) t r → Bodies d bs r
   bodies-close-back r d p h = let same = body-close-back p h.1 in rw same at h.2
@@ -109,7 +130,8 @@ module _ {b : ℕ} {t bs : List ℕ} (e : t ≡ b ∷ bs) where
 
   body-other-back : {r : List ℕ} → b ≢ 123 → b ≢ 125 → Body t r → Body bs r
   unfolding BodyCase
-  body-other-back p q h = elim (body-by (rw e at h)) [ inl x ↦ absurd (q x.0) | inr y ↦ elim y [ inl z ↦ absurd (p z.0) | inr w ↦ w.2 ] ]
+  body-other-back p q h = elim (body-by (rw e at h))
+      [ inl x ↦ absurd (q x.0) | inr y ↦ elim y [ inl z ↦ absurd (p z.0) | inr w ↦ w.2 ] ]
 
   pub bodies-other-back : (r : List ℕ) (d : ℕ) → b ≢ 123 → b ≢ 125 → Bodies d t r → Bodies d bs r
   bodies-other-back r zero p q h = body-other-back p q h

@@ -10,7 +10,9 @@ use Rattle.lexer.proofs.TokenListLemmas.{end-shorter}
 use Rattle.pegread.specs.declared.kind.Kind.{Kind}
 use Rattle.pegread.specs.declared.kind.Kind.TheVariants.{Ident, Bad, End}
 use Rattle.pegread.specs.Kinds.{is_end}
-use Rattle.pegread.specs.Slices.{starts_name, is_blank, Names, none, more, Closes, close, escape, plain, Body, last, nested, other, Stands, ident, arrow, begin, single, double, class, action, Comment, ended, inside, Piece, blank, comment, White, First}
+use Rattle.pegread.specs.Slices.{starts_name, is_blank, Names, none, more, Closes, close, escape, plain, Body, last}
+use Rattle.pegread.specs.Slices.{nested, other, Stands, ident, arrow, begin, single, double, class, action, Comment}
+use Rattle.pegread.specs.Slices.{ended, inside, Piece, blank, comment, White, First}
 use Rattle.pegread.specs.Tokens.{Tok, AreTokens}
 
 names-end : {t r : List ℕ} → Names t r → IsEnd t r
@@ -106,7 +108,8 @@ first-ends h = firsts.first-ends Piece Stands Bad End stands-part h
 pub first-less : {k : Kind} {t r : List ℕ} → is_end k ≡ false → First k t r → length r < length t
 first-less e h = firsts.first-less Piece Stands Bad End stands-part is_end refl e h
 
-pub one-next : (j k : Kind) (t a b r s : List ℕ) → White t a → First j a r → White t b → First k b s → (j ≡ k) × (a ≡ b) × (r ≡ s)
+pub one-next : (j k : Kind) (t a b r s : List ℕ) → White t a → First j a r → White t b → First k b s → (j ≡ k) × (a ≡ b)
+    × (r ≡ s)
 one-next = firsts.one-next Piece Stands Bad End stands-part stands-one piece-end piece-one stands-dark nothing-dark
 
 pub tokens-one : {total : ℕ} {t : List ℕ} {xs ys : List Tok} → AreTokens total t xs → AreTokens total t ys → xs ≡ ys

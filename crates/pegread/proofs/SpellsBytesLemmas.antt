@@ -1,8 +1,11 @@
 -- A literal spells some bytes, and a slice spells no others.
 -- Serves: literal_bytes, spells_one_literal, spells_some_literal, class_set, are_marked, one_tree, read_peg
-use Rattle.std.proofs.Common.{◌≡◌, ◌≢◌, ℕ, zero, suc, ◌≤◌, List, [], ◌∷◌, ◌++◌, length, take, refl, sym, ap, ◌∙◌, subst, arith, inl, inr, append_assoc, length-append}
+use Rattle.std.proofs.Common.{◌≡◌, ◌≢◌, ℕ, zero, suc, ◌≤◌, List, [], ◌∷◌, ◌++◌, length, take, refl, sym, ap, ◌∙◌, subst}
+use Rattle.std.proofs.Common.{arith, inl, inr, append_assoc, length-append}
 use Rattle.std.proofs.lemmas.List.{append_cancel_right, append-nil, take_at}
-use Rattle.pegread.specs.Chars.{Octal, Hex, Form, unescaped, letter, octal_three, octal_two, octal_one, hex_two, hex_one, itself, Char, SpellsNone, Chars, no_chars, more_chars, Paired, paired_end, paired_escape, paired_plain}
+use Rattle.pegread.specs.Chars.{Octal, Hex, Form, unescaped, letter, octal_three, octal_two, octal_one, hex_two}
+use Rattle.pegread.specs.Chars.{hex_one, itself, Char, SpellsNone, Chars, no_chars, more_chars, Paired, paired_end}
+use Rattle.pegread.specs.Chars.{paired_escape, paired_plain}
 use Rattle.pegread.specs.Literals.{IsLiteral, single_quoted, double_quoted, SpellsBytes}
 use Rattle.pegread.specs.Slices.{Closes, close, escape, plain}
 use Rattle.pegread.proofs.CharFormLemmas.{octal-is, hex-is}
@@ -16,12 +19,16 @@ pub record ClosedBy (mark : ℕ) (t r : List ℕ) : Type 0 where
 
 pub closed-by : {mark : ℕ} {t r : List ℕ} → Closes mark t r → ClosedBy mark t r
 closed-by close = record { inside = []; cut = refl; paired = paired_end }
-closed-by (escape {b} c) = let x = closed-by c in record { inside = 92 ∷ b ∷ x.inside; cut = ap (λ (z : List ℕ). 92 ∷ b ∷ z) x.cut; paired = paired_escape x.paired }
-closed-by (plain {b} p q c) = let x = closed-by c in record { inside = b ∷ x.inside; cut = ap (λ (z : List ℕ). b ∷ z) x.cut; paired = paired_plain q x.paired }
+closed-by (escape {b} c) = let x = closed-by c in
+    record { inside = 92 ∷ b ∷ x.inside; cut = ap (λ (z : List ℕ). 92 ∷ b ∷ z) x.cut; paired = paired_escape x.paired }
+closed-by (plain {b} p q c) = let x = closed-by c in
+    record { inside = b ∷ x.inside; cut = ap (λ (z : List ℕ). b ∷ z) x.cut; paired = paired_plain q x.paired }
 
--- A closed text closes by itself too: what stands behind it doesn't count. So a token's slice is a literal's or a class's in the words of specs/.
+-- A closed text closes by itself too: what stands behind it doesn't count. So a token's slice is a literal's or a
+-- class's in the words of specs/.
 pub closes-alone : {mark : ℕ} {t r : List ℕ} → Closes mark t r → (s : List ℕ) → t ≡ s ++ r → Closes mark s []
-closes-alone {mark} {t} {r} c s e = let x = cut-alone c in subst (λ (z : List ℕ). Closes mark z []) (append_cancel_right x.0 s r (sym x.1 ∙ e)) x.2
+closes-alone {mark} {t} {r} c s e = let x = cut-alone c in
+    subst (λ (z : List ℕ). Closes mark z []) (append_cancel_right x.0 s r (sym x.1 ∙ e)) x.2
   where
     cut-alone : {u v : List ℕ} → Closes mark u v → (w : List ℕ) × (u ≡ w ++ v) × Closes mark w []
     cut-alone close = (mark ∷ [], refl, close)
@@ -45,10 +52,12 @@ hex-no_escape h = let a = hex-is h in omega arith
 form-paired : {t r : List ℕ} {b : ℕ} → Form t r b → Paired t → Paired r
 form-paired (unescaped h) p = paired-behind_plain h p
 form-paired (letter h) p = paired-behind_escape p
-form-paired (octal_three h k i j) p = paired-behind_plain (octal-no_escape j) (paired-behind_plain (octal-no_escape i) (paired-behind_escape p))
+form-paired (octal_three h k i j) p = paired-behind_plain (octal-no_escape j)
+    (paired-behind_plain (octal-no_escape i) (paired-behind_escape p))
 form-paired (octal_two h k) p = paired-behind_plain (octal-no_escape k) (paired-behind_escape p)
 form-paired (octal_one h) p = paired-behind_escape p
-form-paired (hex_two h k) p = paired-behind_plain (hex-no_escape k) (paired-behind_plain (hex-no_escape h) (paired-behind_escape p))
+form-paired (hex_two h k) p = paired-behind_plain (hex-no_escape k)
+    (paired-behind_plain (hex-no_escape h) (paired-behind_escape p))
 form-paired (hex_one h) p = paired-behind_plain (hex-no_escape h) (paired-behind_escape p)
 form-paired (itself h k) p = paired-behind_escape p
 
@@ -66,7 +75,8 @@ chars-within zero [] h p = ([], no_chars)
 chars-within zero (b ∷ bs) h p = absurd (omega arith)
 chars-within (suc n) t h p = elim (some-char t) [
   | inl e ↦ rw (none-paired t e p) ([], no_chars)
-  | inr x ↦ (let k = char-shorter x.2 in let y = chars-within n x.0 (omega arith) (char-paired x.2 p) in (x.1 ∷ y.0, more_chars x.2 y.1))
+  | inr x ↦ (let k = char-shorter x.2 in let y = chars-within n x.0 (omega arith) (char-paired x.2 p) in
+      (x.1 ∷ y.0, more_chars x.2 y.1))
 ]
 
 pub some-chars : (t : List ℕ) → Paired t → (bs : List ℕ) × Chars t bs
@@ -83,7 +93,8 @@ chars-same (more_chars {t} {r} {b = b} h k) (more_chars {r = s} {b = c} h' k') =
     cc
 
 -- one more byte at the end of those before
-pub chars-pushed : {t : List ℕ} (xs ys bs : List ℕ) (b : ℕ) → ys ≡ xs ++ b ∷ [] → Chars t (xs ++ b ∷ bs) → Chars t (ys ++ bs)
+pub chars-pushed : {t : List ℕ} (xs ys bs : List ℕ) (b : ℕ) → ys ≡ xs ++ b ∷ [] → Chars t (xs ++ b ∷ bs)
+    → Chars t (ys ++ bs)
 chars-pushed {t} xs ys bs b e h = rw (e, append_assoc) h
 
 -- no byte is left
@@ -98,7 +109,12 @@ pub record Quoted (slice : List ℕ) : Type 0 where
   pub paired : Paired inside
 
 quoted-by : (mark : ℕ) {bs : List ℕ} → Closes mark bs [] → Quoted (mark ∷ bs)
-quoted-by mark c = let x = closed-by c in record { mark = mark; inside = x.inside; cut = ap (λ (z : List ℕ). mark ∷ z) x.cut; paired = x.paired }
+quoted-by mark c = let x = closed-by c in record {
+  mark = mark;
+  inside = x.inside;
+  cut = ap (λ (z : List ℕ). mark ∷ z) x.cut;
+  paired = x.paired;
+}
 
 pub literal-quoted : {slice : List ℕ} → IsLiteral slice → Quoted slice
 literal-quoted (single_quoted c) = quoted-by 39 c

@@ -5,8 +5,12 @@ use Rattle.pegread.specs.declared.place.Place.TheVariants.{Alternative, Member, 
 use Rattle.pegread.specs.Brackets.{wraps, is_act}
 use Rattle.pegread.specs.Formed.{IsFormed, AreFormed, AreFormedRules, IsNotOne, AreMany, IsSome}
 use Rattle.pegread.specs.Pattern as e
-use Rattle.pegread.specs.Pattern.{Pattern, Any, Bytes, Set, Name, Seq, Choice, Opt, And, Not, Act, Open, Close, Patterns, none, more, Rule}
-use Rattle.pegread.specs.Spelling.{sequence, choice, NoAction, Primary, name, literal, class, dot, action, begin, end_cap, parens, Suffixed, bare, quest, star, plus, Prefixed, plain, bang, amp, Items, no_item, item, Alternatives, only, further, Expression, expression, Grammar, last_definition, more_definitions}
+use Rattle.pegread.specs.Pattern.{Pattern, Any, Bytes, Set, Name, Seq, Choice, Opt, And, Not, Act, Open, Close}
+use Rattle.pegread.specs.Pattern.{Patterns, none, more, Rule}
+use Rattle.pegread.specs.Spelling.{sequence, choice, NoAction, Primary, name, literal, class, dot, action, begin}
+use Rattle.pegread.specs.Spelling.{end_cap, parens, Suffixed, bare, quest, star, plus, Prefixed, plain, bang, amp}
+use Rattle.pegread.specs.Spelling.{Items, no_item, item, Alternatives, only, further, Expression, expression, Grammar}
+use Rattle.pegread.specs.Spelling.{last_definition, more_definitions}
 use Rattle.pegread.specs.Words.{Word, Slash}
 use Rattle.pegread.proofs.ListedWordLemmas.{wrapped, within, listed, listed_members, listed_alternatives, listed_rules}
 
@@ -16,7 +20,8 @@ pub record SpellsOne (s r : List Word) (x : Pattern) : Type 0 where
   pub same : sequence items ≡ x
   pub spelled : Items s r items
 
--- what a pattern's words spell at each place: the operand of a suffix, that of a prefix, a member, an alternative, a body
+-- what a pattern's words spell at each place: the operand of a suffix, that of a prefix, a member, an alternative, a
+-- body
 pub record Fits (suffix prefix member alternative body : List Word → List Word) (x : Pattern) : Type 0 where
   pub primary : (ws : List Word) → Primary (suffix ws) ws x
   pub suffixed : (ws : List Word) → Suffixed (prefix ws) ws x
@@ -25,7 +30,8 @@ pub record Fits (suffix prefix member alternative body : List Word → List Word
   pub whole : (ws : List Word) → Expression (body ws) ws x
 
 abbrev pub Spelled : Pattern → Type 0
-Spelled x = Fits (within (wraps OfSuffix x) (listed x)) (within (wraps OfPrefix x) (listed x)) (within (wraps Member x) (listed x)) (within (wraps Alternative x) (listed x)) (listed x) x
+Spelled x = Fits (within (wraps OfSuffix x) (listed x)) (within (wraps OfPrefix x) (listed x))
+    (within (wraps Member x) (listed x)) (within (wraps Alternative x) (listed x)) (listed x) x
 
 single : {s r : List Word} {x : Pattern} → Prefixed s r x → SpellsOne s r x
 single {s} {r} {x} p = record { items = more x none; same = refl; spelled = item p no_item }
@@ -43,7 +49,8 @@ fits-primary p = record {
   whole = λ ws. alone (single (plain (bare (p ws))));
 }
 
-fits-suffixed : {f : List Word → List Word} {x : Pattern} → ((ws : List Word) → Suffixed (f ws) ws x) → Fits (wrapped f) f f f f x
+fits-suffixed : {f : List Word → List Word} {x : Pattern} → ((ws : List Word) → Suffixed (f ws) ws x)
+    → Fits (wrapped f) f f f f x
 fits-suffixed p = record {
   primary = λ ws. parens (alone (single (plain (p _))));
   suffixed = p;
@@ -52,7 +59,8 @@ fits-suffixed p = record {
   whole = λ ws. alone (single (plain (p ws)));
 }
 
-fits-prefixed : {f : List Word → List Word} {x : Pattern} → ((ws : List Word) → Prefixed (f ws) ws x) → Fits (wrapped f) (wrapped f) f f f x
+fits-prefixed : {f : List Word → List Word} {x : Pattern} → ((ws : List Word) → Prefixed (f ws) ws x)
+    → Fits (wrapped f) (wrapped f) f f f x
 fits-prefixed p = record {
   primary = λ ws. parens (alone (single (p _)));
   suffixed = λ ws. bare (parens (alone (single (p _))));
@@ -61,7 +69,8 @@ fits-prefixed p = record {
   whole = λ ws. alone (single (p ws));
 }
 
-fits-one : {f : List Word → List Word} {x : Pattern} → ((ws : List Word) → SpellsOne (f ws) ws x) → Fits (wrapped f) (wrapped f) (wrapped f) f f x
+fits-one : {f : List Word → List Word} {x : Pattern} → ((ws : List Word) → SpellsOne (f ws) ws x)
+    → Fits (wrapped f) (wrapped f) (wrapped f) f f x
 fits-one p = record {
   primary = λ ws. parens (alone (p _));
   suffixed = λ ws. bare (parens (alone (p _)));
@@ -70,7 +79,8 @@ fits-one p = record {
   whole = λ ws. alone (p ws);
 }
 
-fits-whole : {f : List Word → List Word} {x : Pattern} → ((ws : List Word) → Expression (f ws) ws x) → Fits (wrapped f) (wrapped f) (wrapped f) (wrapped f) f x
+fits-whole : {f : List Word → List Word} {x : Pattern} → ((ws : List Word) → Expression (f ws) ws x)
+    → Fits (wrapped f) (wrapped f) (wrapped f) (wrapped f) f x
 fits-whole p = record {
   primary = λ ws. parens (p _);
   suffixed = λ ws. bare (parens (p _));
@@ -91,12 +101,15 @@ leads Close ws h = tt
 leads x ws h = tt
 
 -- a suffixed expression as the operand of `&`: in parentheses where an action leads it
-suffix-amp : {f : List Word → List Word} {x : Pattern} (b : Bool) (c : Bool) (ws : List Word) → b ≡ c → ((ws : List Word) → Expression (f ws) ws x) → ((ws : List Word) → Suffixed (f ws) ws x) → ((ws : List Word) → c ≡ false → NoAction (f ws)) → NoAction (within b f ws) × Suffixed (within b f ws) ws x
+suffix-amp : {f : List Word → List Word} {x : Pattern} (b : Bool) (c : Bool) (ws : List Word) → b ≡ c
+    → ((ws : List Word) → Expression (f ws) ws x) → ((ws : List Word) → Suffixed (f ws) ws x)
+    → ((ws : List Word) → c ≡ false → NoAction (f ws)) → NoAction (within b f ws) × Suffixed (within b f ws) ws x
 suffix-amp true c ws h w p n = (tt, bare (parens (w _)))
 suffix-amp false c ws h w p n = (n ws (sym h), p ws)
 
 -- the operand of `&`
-pub amp-operand : (x : Pattern) → Spelled x → (ws : List Word) → NoAction (within (wraps OfAmp x) (listed x) ws) × Suffixed (within (wraps OfAmp x) (listed x) ws) ws x
+pub amp-operand : (x : Pattern) → Spelled x → (ws : List Word) → NoAction (within (wraps OfAmp x) (listed x) ws)
+    × Suffixed (within (wraps OfAmp x) (listed x) ws) ws x
 amp-operand (Name n) p ws = (tt, p.suffixed ws)
 amp-operand (Bytes bs) p ws = (tt, p.suffixed ws)
 amp-operand (Set f) p ws = (tt, p.suffixed ws)
@@ -122,7 +135,8 @@ choice-same (more x (more y es)) h = refl
 last : {s r : List Word} {x : Pattern} → SpellsOne s r x → Alternatives s r (more x none)
 last {s} {r} {x} o = subst (λ (y : Pattern). Alternatives s r (more y none)) o.same (only o.spelled)
 
-and-more : {s m r : List Word} {x : Pattern} {bs : Patterns} → SpellsOne s (Slash ∷ m) x → Alternatives m r bs → Alternatives s r (more x bs)
+and-more : {s m r : List Word} {x : Pattern} {bs : Patterns} → SpellsOne s (Slash ∷ m) x → Alternatives m r bs
+    → Alternatives s r (more x bs)
 and-more {s} {m} {r} {x} {bs} o h = subst (λ (y : Pattern). Alternatives s r (more y bs)) o.same (further o.spelled h)
 
 -- there is at least one
@@ -148,19 +162,27 @@ mutual
   spelled (e.Plus x) w = let h = spelled x w in fits-suffixed (λ ws. plus (h.primary _))
   spelled (And x) w = let h = spelled x w in fits-prefixed (λ ws. (let a = amp-operand x h ws in amp a.0 a.1))
   spelled (Not x) w = let h = spelled x w in fits-prefixed (λ ws. bang (h.suffixed ws))
-  spelled (Seq es) w = fits-one (λ ws. record { items = es; same = sequence-same es w.0; spelled = spelled-members es w.1 ws })
-  spelled (Choice es) w = fits-whole (λ ws. subst (λ (x : Pattern). Expression (listed_alternatives es ws) ws x) (choice-same es w.0) (expression (spelled-alternatives es w.1 (full es w.0) ws)))
+  spelled (Seq es) w = fits-one (λ ws. record {
+    items = es;
+    same = sequence-same es w.0;
+    spelled = spelled-members es w.1 ws;
+  })
+  spelled (Choice es) w = fits-whole (λ ws. subst (λ (x : Pattern). Expression (listed_alternatives es ws) ws x)
+      (choice-same es w.0) (expression (spelled-alternatives es w.1 (full es w.0) ws)))
 
   pub spelled-members : (es : Patterns) → AreFormed es → (ws : List Word) → Items (listed_members es ws) ws es
   spelled-members none w ws = no_item
   spelled-members (more x es) w ws = item ((spelled x w.0).prefixed _) (spelled-members es w.1 ws)
 
-  pub spelled-alternatives : (es : Patterns) → AreFormed es → IsFull es → (ws : List Word) → Alternatives (listed_alternatives es ws) ws es
+  pub spelled-alternatives : (es : Patterns) → AreFormed es → IsFull es → (ws : List Word)
+      → Alternatives (listed_alternatives es ws) ws es
   spelled-alternatives none w h ws = absurd h
   spelled-alternatives (more x none) w h ws = last ((spelled x w.0).one _)
-  spelled-alternatives (more x (more y es)) w h ws = and-more ((spelled x w.0).one _) (spelled-alternatives (more y es) w.1 tt ws)
+  spelled-alternatives (more x (more y es)) w h ws =
+      and-more ((spelled x w.0).one _) (spelled-alternatives (more y es) w.1 tt ws)
 
 pub spelled-rules : (rules : List Rule) → IsSome rules → AreFormedRules rules → Grammar (listed_rules rules) rules
 spelled-rules [] h w = absurd h
 spelled-rules (rule ∷ []) h w = last_definition ((spelled rule.body w.1).whole _)
-spelled-rules (rule ∷ next ∷ rules) h w = more_definitions ((spelled rule.body w.1).whole _) (spelled-rules (next ∷ rules) tt w.2)
+spelled-rules (rule ∷ next ∷ rules) h w = more_definitions ((spelled rule.body w.1).whole _)
+    (spelled-rules (next ∷ rules) tt w.2)

@@ -1,11 +1,13 @@
 -- A class spells one set, and a slice spells no other.
 -- Serves: class_set, is_read_back, one_tree, read_peg, spells_one_class, spells_some_class
-use Rattle.std.proofs.Common.{◌≡◌, ℕ, zero, suc, ◌<◌, ◌≤◌, ◌||◌, ◌&&◌, nat_le, not, Bool, true, false, List, [], ◌∷◌, ◌++◌, length, get_or, refl, sym, ap, ◌∙◌, arith, ◌⊎◌, inl, inr}
+use Rattle.std.proofs.Common.{◌≡◌, ℕ, zero, suc, ◌<◌, ◌≤◌, ◌||◌, ◌&&◌, nat_le, not, Bool, true, false, List, [], ◌∷◌}
+use Rattle.std.proofs.Common.{◌++◌, length, get_or, refl, sym, ap, ◌∙◌, arith, ◌⊎◌, inl, inr}
 use Rattle.std.proofs.Math.Path.{fun_ext}
 use Rattle.std.proofs.lemmas.Bool.{cases_eq, cases_lt, lt-ltb, le-ltb}
 use Rattle.std.proofs.lemmas.List.{get_or_past}
 use Rattle.pegread.specs.Chars.{Char, SpellsNone, Paired}
-use Rattle.pegread.specs.Classes.{IsClass, bracketed, GoesOn, Item, item_char, item_range, Ranges, no_items, more_items, in_ranges, bytes_in, complement, NoHat, SpellsSet, positive, negative, SpellsItems}
+use Rattle.pegread.specs.Classes.{IsClass, bracketed, GoesOn, Item, item_char, item_range, Ranges, no_items, more_items}
+use Rattle.pegread.specs.Classes.{in_ranges, bytes_in, complement, NoHat, SpellsSet, positive, negative, SpellsItems}
 use Rattle.pegread.proofs.CharFrontLemmas.{char-one, char-shorter, no-char, some-char}
 use Rattle.pegread.proofs.SpellsBytesLemmas.{closed-by, char-paired, none-paired, paired-behind_plain, same-inside}
 
@@ -83,7 +85,8 @@ ranges-within zero [] h p = ([], no_items)
 ranges-within zero (b ∷ bs) h p = absurd (omega arith)
 ranges-within (suc n) t h p = elim (some-item t p) [
   | inl e ↦ rw e ([], no_items)
-  | inr x ↦ (let k = item-shorter x.3 in let y = ranges-within n x.0 (omega arith) (item-paired x.3 p) in ((x.1, x.2) ∷ y.0, more_items x.3 y.1))
+  | inr x ↦ (let k = item-shorter x.3 in let y = ranges-within n x.0 (omega arith) (item-paired x.3 p) in
+      ((x.1, x.2) ∷ y.0, more_items x.3 y.1))
 ]
 
 some-ranges : (t : List ℕ) → Paired t → (xs : List (ℕ × ℕ)) × Ranges t xs
@@ -96,16 +99,19 @@ pub record Bracketed (slice : List ℕ) : Type 0 where
   pub paired : Paired inside
 
 pub class-bracketed : {slice : List ℕ} → IsClass slice → Bracketed slice
-class-bracketed (bracketed c) = let x = closed-by c in record { inside = x.inside; cut = ap (λ (z : List ℕ). 91 ∷ z) x.cut; paired = x.paired }
+class-bracketed (bracketed c) = let x = closed-by c in
+    record { inside = x.inside; cut = ap (λ (z : List ℕ). 91 ∷ z) x.cut; paired = x.paired }
 
 abbrev HasSet : List ℕ → Type 0
 HasSet slice = (f : ℕ → Bool) × SpellsSet slice f
 
 positive-set : (slice inside : List ℕ) → slice ≡ 91 ∷ (inside ++ 93 ∷ []) → NoHat inside → Paired inside → HasSet slice
-positive-set slice inside e n p = let x = some-ranges inside p in (bytes_in (in_ranges x.0), positive slice e n x.1 (λ b. refl))
+positive-set slice inside e n p = let x = some-ranges inside p in
+    (bytes_in (in_ranges x.0), positive slice e n x.1 (λ b. refl))
 
 negative-set : (slice inside : List ℕ) → slice ≡ 91 ∷ 94 ∷ (inside ++ 93 ∷ []) → Paired inside → HasSet slice
-negative-set slice inside e p = let x = some-ranges inside p in (complement (in_ranges x.0), negative slice e x.1 (λ b. refl))
+negative-set slice inside e p = let x = some-ranges inside p in
+    (complement (in_ranges x.0), negative slice e x.1 (λ b. refl))
 
 set-of : (slice inside : List ℕ) → slice ≡ 91 ∷ (inside ++ 93 ∷ []) → Paired inside → HasSet slice
 set-of slice [] e p = positive-set slice [] e tt p
@@ -125,8 +131,10 @@ one-class slice f g (positive {inside = s} _ e n x p) (positive {inside = t} _ k
     let same : s ≡ t = same-inside 91 93 91 93 s t (sym e ∙ k) in
     let items = ranges-same x (rw (sym same) at y) in
     fun_ext (λ b. p b ∙ ap (λ (z : List (ℕ × ℕ)). bytes_in (in_ranges z) b) items ∙ sym (q b))
-one-class slice f g (positive {inside = s} _ e n x p) (negative {inside = t} _ k y q) = absurd (no-hat n (same-inside 91 93 91 93 s (94 ∷ t) (sym e ∙ k)))
-one-class slice f g (negative {inside = s} _ e x p) (positive {inside = t} _ k m y q) = absurd (no-hat m (same-inside 91 93 91 93 t (94 ∷ s) (sym k ∙ e)))
+one-class slice f g (positive {inside = s} _ e n x p) (negative {inside = t} _ k y q) =
+    absurd (no-hat n (same-inside 91 93 91 93 s (94 ∷ t) (sym e ∙ k)))
+one-class slice f g (negative {inside = s} _ e x p) (positive {inside = t} _ k m y q) =
+    absurd (no-hat m (same-inside 91 93 91 93 t (94 ∷ s) (sym k ∙ e)))
 one-class slice f g (negative {inside = s} _ e x p) (negative {inside = t} _ k y q) =
     let hats : 94 ∷ s ≡ 94 ∷ t = same-inside 91 93 91 93 (94 ∷ s) (94 ∷ t) (sym e ∙ k) in
     let same : s ≡ t = cc in
@@ -143,27 +151,43 @@ module _ where
   or_false false = refl
 
   -- one more range in the set, and one fewer to come
-  pub items-step : {t : List ℕ} (s u : List Bool) (a b : ℕ) (xs : List (ℕ × ℕ)) → ((k : ℕ) → get_or u k false ≡ (get_or s k false || (nat_le a k && nat_le k b))) → SpellsItems t (λ k. get_or s k false || in_ranges ((a, b) ∷ xs) k) → SpellsItems t (λ k. get_or u k false || in_ranges xs k)
-  items-step s u a b xs e h = record { items = h.items; ranges = h.ranges; same = λ k. ap (λ (v : Bool). v || in_ranges xs k) (e k) ∙ or_assoc (get_or s k false) (nat_le a k && nat_le k b) (in_ranges xs k) ∙ h.same k }
+  pub items-step : {t : List ℕ} (s u : List Bool) (a b : ℕ) (xs : List (ℕ × ℕ))
+      → ((k : ℕ) → get_or u k false ≡ (get_or s k false || (nat_le a k && nat_le k b)))
+      → SpellsItems t (λ k. get_or s k false || in_ranges ((a, b) ∷ xs) k)
+      → SpellsItems t (λ k. get_or u k false || in_ranges xs k)
+  items-step s u a b xs e h = record {
+    items = h.items;
+    ranges = h.ranges;
+    same = λ k. ap (λ (v : Bool). v || in_ranges xs k) (e k) ∙ or_assoc (get_or s k false) (nat_le a k && nat_le k b)
+        (in_ranges xs k) ∙ h.same k;
+  }
 
   -- no item is left
-  pub items-ended : {t u : List ℕ} (s : List Bool) → u ≡ [] → ((xs : List (ℕ × ℕ)) → Ranges u xs → SpellsItems t (λ k. get_or s k false || in_ranges xs k)) → SpellsItems t (λ k. get_or s k false)
-  items-ended s e f = let h = f [] (rw e no_items) in record { items = h.items; ranges = h.ranges; same = λ k. or_false (get_or s k false) ∙ h.same k }
+  pub items-ended : {t u : List ℕ} (s : List Bool) → u ≡ []
+      → ((xs : List (ℕ × ℕ)) → Ranges u xs → SpellsItems t (λ k. get_or s k false || in_ranges xs k))
+      → SpellsItems t (λ k. get_or s k false)
+  items-ended s e f = let h = f [] (rw e no_items) in
+      record { items = h.items; ranges = h.ranges; same = λ k. or_false (get_or s k false) ∙ h.same k }
 
-  in-set : (s : List Bool) (f : ℕ → Bool) → length s ≡ 256 → ((b : ℕ) → get_or s b false ≡ f b) → (b : ℕ) → get_or s b false ≡ bytes_in f b
+  in-set : (s : List Bool) (f : ℕ → Bool) → length s ≡ 256 → ((b : ℕ) → get_or s b false ≡ f b) → (b : ℕ)
+      → get_or s b false ≡ bytes_in f b
   in-set s f n e b = elim (cases_lt b 256) [
     | inl h ↦ rw (lt-ltb b 256 h) (e b)
     | inr h ↦ rw (le-ltb b 256 h) (get_or_past s b false (omega arith))
   ]
 
-  out-set : (s u : List Bool) (f : ℕ → Bool) → length u ≡ 256 → ((b : ℕ) → get_or s b false ≡ f b) → ((b : ℕ) → b < 256 → get_or u b false ≡ not (get_or s b false)) → (b : ℕ) → get_or u b false ≡ complement f b
+  out-set : (s u : List Bool) (f : ℕ → Bool) → length u ≡ 256 → ((b : ℕ) → get_or s b false ≡ f b)
+      → ((b : ℕ) → b < 256 → get_or u b false ≡ not (get_or s b false)) → (b : ℕ) → get_or u b false ≡ complement f b
   out-set s u f n e g b = elim (cases_lt b 256) [
     | inl h ↦ rw (lt-ltb b 256 h) (g b h ∙ ap not (e b))
     | inr h ↦ rw (le-ltb b 256 h) (get_or_past u b false (omega arith))
   ]
 
-  pub class-positive : {slice text : List ℕ} (s : List Bool) → slice ≡ 91 ∷ (text ++ 93 ∷ []) → NoHat text → length s ≡ 256 → SpellsItems text (λ b. get_or s b false) → SpellsSet slice (λ b. get_or s b false)
+  pub class-positive : {slice text : List ℕ} (s : List Bool) → slice ≡ 91 ∷ (text ++ 93 ∷ []) → NoHat text
+      → length s ≡ 256 → SpellsItems text (λ b. get_or s b false) → SpellsSet slice (λ b. get_or s b false)
   class-positive s e n l h = positive _ e n h.ranges (in-set s (in_ranges h.items) l h.same)
 
-  pub class-negative : {slice text items : List ℕ} (s u : List Bool) → slice ≡ 91 ∷ (text ++ 93 ∷ []) → text ≡ 94 ∷ items → length u ≡ 256 → SpellsItems items (λ b. get_or s b false) → ((b : ℕ) → b < 256 → get_or u b false ≡ not (get_or s b false)) → SpellsSet slice (λ b. get_or u b false)
+  pub class-negative : {slice text items : List ℕ} (s u : List Bool) → slice ≡ 91 ∷ (text ++ 93 ∷ []) → text ≡ 94
+      ∷ items → length u ≡ 256 → SpellsItems items (λ b. get_or s b false)
+      → ((b : ℕ) → b < 256 → get_or u b false ≡ not (get_or s b false)) → SpellsSet slice (λ b. get_or u b false)
   class-negative s u e k l h g = negative _ (rw k at e) h.ranges (out-set s u (in_ranges h.items) l h.same g)

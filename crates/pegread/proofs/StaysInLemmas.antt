@@ -7,14 +7,19 @@ use Rattle.pegread.specs.declared.kind.Kind.TheVariants as kinds
 use Rattle.pegread.specs.Brackets.{wraps, is_act}
 use Rattle.pegread.specs.Limits.{open_behind, IsShallow}
 use Rattle.pegread.specs.Pattern as e
-use Rattle.pegread.specs.Pattern.{Pattern, Any, Bytes, Set, Name, Seq, Choice, Opt, And, Not, Act, Open, Close, Patterns, none, more, Rule}
-use Rattle.pegread.specs.Spelling.{sequence, choice, NoAction, Primary, name, literal, class, dot, action, begin, end_cap, parens, Suffixed, bare, quest, star, plus, Prefixed, plain, bang, amp, Items, no_item, item, Alternatives, only, further, Expression, expression, Grammar, last_definition, more_definitions}
+use Rattle.pegread.specs.Pattern.{Pattern, Any, Bytes, Set, Name, Seq, Choice, Opt, And, Not, Act, Open, Close}
+use Rattle.pegread.specs.Pattern.{Patterns, none, more, Rule}
+use Rattle.pegread.specs.Spelling.{sequence, choice, NoAction, Primary, name, literal, class, dot, action, begin}
+use Rattle.pegread.specs.Spelling.{end_cap, parens, Suffixed, bare, quest, star, plus, Prefixed, plain, bang, amp}
+use Rattle.pegread.specs.Spelling.{Items, no_item, item, Alternatives, only, further, Expression, expression, Grammar}
+use Rattle.pegread.specs.Spelling.{last_definition, more_definitions}
 use Rattle.lexer.specs.TokenLists.{tok, kind_of}
 use Rattle.pegread.specs.Tokens.{Tok}
 use Rattle.pegread.specs.Words as words
 use Rattle.lexer.specs.Viability.{say_none, say_more}
 use Rattle.pegread.specs.Words.{Word, Says, says_lparen, says_rparen, SayAll}
-use Rattle.pegread.proofs.ListedWordLemmas.{within, listed, listed_members, listed_alternatives, listed_more, listed_rules}
+use Rattle.pegread.proofs.ListedWordLemmas.{within, listed, listed_members, listed_alternatives, listed_more}
+use Rattle.pegread.proofs.ListedWordLemmas.{listed_rules}
 use Rattle.pegread.proofs.SameWordsLemmas.{same_word, same_name, SameWords, same_none, same_more}
 
 -- the brackets that are open behind a word
@@ -35,11 +40,13 @@ behind-said _ d = refl
 
 pub words-stay : (m d : ℕ) {ts : List Tok} {ws : List Word} → SayAll ts ws → IsShallow m d ts → StaysIn m d ws
 words-stay m d say_none h = h
-words-stay m d (say_more {t = tok k z p} {ts = ts} y ys) h = (h.0, words-stay m _ ys (subst (λ (n : ℕ). IsShallow m n ts) (behind-said y d) h.1))
+words-stay m d (say_more {t = tok k z p} {ts = ts} y ys) h =
+    (h.0, words-stay m _ ys (subst (λ (n : ℕ). IsShallow m n ts) (behind-said y d) h.1))
 
 pub tokens-stay : (m d : ℕ) {ts : List Tok} {ws : List Word} → SayAll ts ws → StaysIn m d ws → IsShallow m d ts
 tokens-stay m d say_none h = h
-tokens-stay m d (say_more {t = tok k z p} {ws = ws} y ys) h = (h.0, tokens-stay m _ ys (subst (λ (n : ℕ). StaysIn m n ws) (sym (behind-said y d)) h.1))
+tokens-stay m d (say_more {t = tok k z p} {ws = ws} y ys) h =
+    (h.0, tokens-stay m _ ys (subst (λ (n : ℕ). StaysIn m n ws) (sym (behind-said y d)) h.1))
 
 pub same-stay : (m d : ℕ) {vs ws : List Word} → SameWords vs ws → StaysIn m d vs → StaysIn m d ws
 same-stay m d same_none h = h
@@ -98,11 +105,16 @@ mutual
   listed-keeps (Act t) = record { keeps = λ m d ws h s. (omega arith, s) }
   listed-keeps Open = record { keeps = λ m d ws h s. (omega arith, s) }
   listed-keeps Close = record { keeps = λ m d ws h s. (omega arith, s) }
-  listed-keeps (Opt x) = let k = keeps-within (wraps OfSuffix x) (listed-keeps x) in record { keeps = λ m d ws h s. k.keeps m d _ h (omega arith, s) }
-  listed-keeps (e.Star x) = let k = keeps-within (wraps OfSuffix x) (listed-keeps x) in record { keeps = λ m d ws h s. k.keeps m d _ h (omega arith, s) }
-  listed-keeps (e.Plus x) = let k = keeps-within (wraps OfSuffix x) (listed-keeps x) in record { keeps = λ m d ws h s. k.keeps m d _ h (omega arith, s) }
-  listed-keeps (And x) = let k = keeps-within (wraps OfAmp x) (listed-keeps x) in record { keeps = λ m d ws h s. (omega arith, k.keeps m d ws h s) }
-  listed-keeps (Not x) = let k = keeps-within (wraps OfPrefix x) (listed-keeps x) in record { keeps = λ m d ws h s. (omega arith, k.keeps m d ws h s) }
+  listed-keeps (Opt x) = let k = keeps-within (wraps OfSuffix x) (listed-keeps x) in
+      record { keeps = λ m d ws h s. k.keeps m d _ h (omega arith, s) }
+  listed-keeps (e.Star x) = let k = keeps-within (wraps OfSuffix x) (listed-keeps x) in
+      record { keeps = λ m d ws h s. k.keeps m d _ h (omega arith, s) }
+  listed-keeps (e.Plus x) = let k = keeps-within (wraps OfSuffix x) (listed-keeps x) in
+      record { keeps = λ m d ws h s. k.keeps m d _ h (omega arith, s) }
+  listed-keeps (And x) = let k = keeps-within (wraps OfAmp x) (listed-keeps x) in
+      record { keeps = λ m d ws h s. (omega arith, k.keeps m d ws h s) }
+  listed-keeps (Not x) = let k = keeps-within (wraps OfPrefix x) (listed-keeps x) in
+      record { keeps = λ m d ws h s. (omega arith, k.keeps m d ws h s) }
   listed-keeps (Seq es) = members-keep es
   listed-keeps (Choice es) = alternatives-keep es
 
@@ -180,7 +192,8 @@ amp-suffix (e.Plus x) = lift-le (is_act x) (nest (e.Plus x))
 amp-suffix x = omega arith
 
 mutual
-  primary-holds : {s r : List Word} {x : Pattern} → Primary s r x → (m d : ℕ) → StaysIn m d s → Holds m d (nest_at OfSuffix x) r
+  primary-holds : {s r : List Word} {x : Pattern} → Primary s r x → (m d : ℕ) → StaysIn m d s
+      → Holds m d (nest_at OfSuffix x) r
   primary-holds name m d w = record { low = omega arith; rest = w.1 }
   primary-holds literal m d w = record { low = omega arith; rest = w.1 }
   primary-holds class m d w = record { low = omega arith; rest = w.1 }
@@ -188,10 +201,12 @@ mutual
   primary-holds action m d w = record { low = omega arith; rest = w.1 }
   primary-holds begin m d w = record { low = omega arith; rest = w.1 }
   primary-holds end_cap m d w = record { low = omega arith; rest = w.1 }
-  primary-holds (parens {x = x} h) m d w = let g = expression-holds h m (suc d) w.1 in let l = lift-le (wraps OfSuffix x) (nest x) in record { low = omega arith; rest = g.rest.1 }
+  primary-holds (parens {x = x} h) m d w = let g = expression-holds h m (suc d) w.1 in let l =
+      lift-le (wraps OfSuffix x) (nest x) in record { low = omega arith; rest = g.rest.1 }
 
   -- one that begins with no action
-  amp-holds : {s r : List Word} {x : Pattern} → NoAction s → Primary s r x → (m d : ℕ) → StaysIn m d s → Holds m d (lift (is_act x) (nest_at OfSuffix x)) r
+  amp-holds : {s r : List Word} {x : Pattern} → NoAction s → Primary s r x → (m d : ℕ) → StaysIn m d s
+      → Holds m d (lift (is_act x) (nest_at OfSuffix x)) r
   amp-holds n name m d w = record { low = omega arith; rest = w.1 }
   amp-holds n literal m d w = record { low = omega arith; rest = w.1 }
   amp-holds n class m d w = record { low = omega arith; rest = w.1 }
@@ -199,37 +214,52 @@ mutual
   amp-holds n action m d w = absurd n
   amp-holds n begin m d w = record { low = omega arith; rest = w.1 }
   amp-holds n end_cap m d w = record { low = omega arith; rest = w.1 }
-  amp-holds n (parens {x = x} h) m d w = let g = expression-holds h m (suc d) w.1 in let l = act-suffix x in record { low = omega arith; rest = g.rest.1 }
+  amp-holds n (parens {x = x} h) m d w = let g = expression-holds h m (suc d) w.1 in let l = act-suffix x in
+      record { low = omega arith; rest = g.rest.1 }
 
-  suffixed-holds : {s r : List Word} {x : Pattern} → Suffixed s r x → (m d : ℕ) → StaysIn m d s → Holds m d (nest_at OfPrefix x) r
-  suffixed-holds (bare {x = x} h) m d w = let g = primary-holds h m d w in let l = prefix-suffix x in record { low = omega arith; rest = g.rest }
+  suffixed-holds : {s r : List Word} {x : Pattern} → Suffixed s r x → (m d : ℕ) → StaysIn m d s
+      → Holds m d (nest_at OfPrefix x) r
+  suffixed-holds (bare {x = x} h) m d w = let g = primary-holds h m d w in let l = prefix-suffix x in
+      record { low = omega arith; rest = g.rest }
   suffixed-holds (quest h) m d w = let g = primary-holds h m d w in record { low = g.low; rest = g.rest.1 }
   suffixed-holds (star h) m d w = let g = primary-holds h m d w in record { low = g.low; rest = g.rest.1 }
   suffixed-holds (plus h) m d w = let g = primary-holds h m d w in record { low = g.low; rest = g.rest.1 }
 
-  operand-holds : {s r : List Word} {x : Pattern} → NoAction s → Suffixed s r x → (m d : ℕ) → StaysIn m d s → Holds m d (nest_at OfAmp x) r
-  operand-holds n (bare {x = x} h) m d w = let g = amp-holds n h m d w in let l = amp-suffix x in record { low = omega arith; rest = g.rest }
+  operand-holds : {s r : List Word} {x : Pattern} → NoAction s → Suffixed s r x → (m d : ℕ) → StaysIn m d s
+      → Holds m d (nest_at OfAmp x) r
+  operand-holds n (bare {x = x} h) m d w = let g = amp-holds n h m d w in let l = amp-suffix x in
+      record { low = omega arith; rest = g.rest }
   operand-holds n (quest h) m d w = let g = amp-holds n h m d w in record { low = g.low; rest = g.rest.1 }
   operand-holds n (star h) m d w = let g = amp-holds n h m d w in record { low = g.low; rest = g.rest.1 }
   operand-holds n (plus h) m d w = let g = amp-holds n h m d w in record { low = g.low; rest = g.rest.1 }
 
-  prefixed-holds : {s r : List Word} {x : Pattern} → Prefixed s r x → (m d : ℕ) → StaysIn m d s → Holds m d (nest_at Member x) r
-  prefixed-holds (plain {x = x} h) m d w = let g = suffixed-holds h m d w in let l = member-prefix x in record { low = omega arith; rest = g.rest }
+  prefixed-holds : {s r : List Word} {x : Pattern} → Prefixed s r x → (m d : ℕ) → StaysIn m d s
+      → Holds m d (nest_at Member x) r
+  prefixed-holds (plain {x = x} h) m d w = let g = suffixed-holds h m d w in let l = member-prefix x in
+      record { low = omega arith; rest = g.rest }
   prefixed-holds (bang h) m d w = let g = suffixed-holds h m d w.1 in record { low = g.low; rest = g.rest }
   prefixed-holds (amp n h) m d w = let g = operand-holds n h m d w.1 in record { low = g.low; rest = g.rest }
 
-  items-hold : {s r : List Word} {es : Patterns} → Items s r es → (m d : ℕ) → StaysIn m d s → Holds m d (nest_all Member es) r
+  items-hold : {s r : List Word} {es : Patterns} → Items s r es → (m d : ℕ) → StaysIn m d s
+      → Holds m d (nest_all Member es) r
   items-hold (no_item {r}) m d w = let l = stays-low m d r w in record { low = omega arith; rest = w }
-  items-hold (item h k) m d w = let g = prefixed-holds h m d w in let i = items-hold k m d g.rest in let a = g.low in let b = i.low in record { low = omega arith; rest = i.rest }
+  items-hold (item h k) m d w = let g = prefixed-holds h m d w in let i = items-hold k m d g.rest in let a = g.low in
+      let b = i.low in record { low = omega arith; rest = i.rest }
 
-  alternatives-hold : {s r : List Word} {bs : Patterns} → Alternatives s r bs → (m d : ℕ) → StaysIn m d s → Holds m d (nest_all Alternative bs) r
-  alternatives-hold (only {xs = es} h) m d w = let i = items-hold h m d w in let l = sequence-nest es in record { low = omega arith; rest = i.rest }
-  alternatives-hold (further {xs = es} h a) m d w = let i = items-hold h m d w in let l = sequence-nest es in let b = alternatives-hold a m d i.rest.1 in record { low = omega arith; rest = b.rest }
+  alternatives-hold : {s r : List Word} {bs : Patterns} → Alternatives s r bs → (m d : ℕ) → StaysIn m d s
+      → Holds m d (nest_all Alternative bs) r
+  alternatives-hold (only {xs = es} h) m d w = let i = items-hold h m d w in let l = sequence-nest es in
+      record { low = omega arith; rest = i.rest }
+  alternatives-hold (further {xs = es} h a) m d w = let i = items-hold h m d w in let l = sequence-nest es in let b =
+      alternatives-hold a m d i.rest.1 in record { low = omega arith; rest = b.rest }
 
-  expression-holds : {s r : List Word} {x : Pattern} → Expression s r x → (m d : ℕ) → StaysIn m d s → Holds m d (nest x) r
-  expression-holds (expression {ys = bs} h) m d w = let a = alternatives-hold h m d w in let l = choice-nest bs in record { low = omega arith; rest = a.rest }
+  expression-holds : {s r : List Word} {x : Pattern} → Expression s r x → (m d : ℕ) → StaysIn m d s
+      → Holds m d (nest x) r
+  expression-holds (expression {ys = bs} h) m d w = let a = alternatives-hold h m d w in let l = choice-nest bs in
+      record { low = omega arith; rest = a.rest }
 
-pub stays-again : {ws : List Word} {rules : List Rule} (m : ℕ) → Grammar ws rules → StaysIn m 0 ws → StaysIn m 0 (listed_rules rules)
+pub stays-again : {ws : List Word} {rules : List Rule} (m : ℕ) → Grammar ws rules → StaysIn m 0 ws
+    → StaysIn m 0 (listed_rules rules)
 stays-again m (last_definition {x = x} h) w =
     let g = expression-holds h m 0 w.1.1 in
     (omega arith, (omega arith, (listed-keeps x).keeps m 0 (words.End ∷ []) g.low (omega arith, omega arith)))

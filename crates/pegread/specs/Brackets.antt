@@ -28,7 +28,8 @@ abbrev pub is_act : Pattern → Bool
 is_act (Act t) = true
 is_act _ = false
 
--- an action, or a repetition or option of one: right behind an `&` its text would begin with an action, and be a predicate in C
+-- an action, or a repetition or option of one: right behind an `&` its text would begin with an action, and be a
+-- predicate in C
 abbrev pub leads_with_act : Pattern → Bool
 leads_with_act (Star e) = is_act e
 leads_with_act (Plus e) = is_act e

@@ -6,7 +6,8 @@ use Rattle.pegread.specs.declared.place.Place.{Place}
 use Rattle.pegread.specs.declared.place.Place.TheVariants.{Alternative, Member, OfPrefix, OfAmp, OfSuffix}
 use Rattle.pegread.specs.Brackets.{wraps, around}
 use Rattle.pegread.specs.Escapes.{escaped, class_text}
-use Rattle.pegread.specs.Pattern.{Pattern, Any, Bytes, Set, Name, Seq, Choice, Star, Plus, Opt, And, Not, Act, Open, Close, Patterns, none, more, Rule}
+use Rattle.pegread.specs.Pattern.{Pattern, Any, Bytes, Set, Name, Seq, Choice, Star, Plus, Opt, And, Not, Act, Open}
+use Rattle.pegread.specs.Pattern.{Close, Patterns, none, more, Rule}
 
 abbrev mutual
   -- the text of a pattern as a rule's body, where it needs no parentheses

@@ -39,14 +39,16 @@ pub data Letter : ℕ → ℕ → Type 0 where
   -- `\v`, vertical tab
   letter_v : Letter (code "v") 11
 
--- A way to spell a byte at the front of a text: the text, what stands behind the spelling, and the byte. One text may have several: see Char. The table of forms is a rule of our own, as a whole.
+-- A way to spell a byte at the front of a text: the text, what stands behind the spelling, and the byte. One text may
+-- have several: see Char. The table of forms is a rule of our own, as a whole.
 pub data Form : List ℕ → List ℕ → ℕ → Type 0 where
   -- any byte but a backslash, for itself
   unescaped : {b : ℕ} {r : List ℕ} → b ≢ code "\\" → Form (b ∷ r) r b
   -- a backslash and one of the letters
   letter : {l b : ℕ} {r : List ℕ} → Letter l b → Form (code "\\" ∷ l ∷ r) r b
   -- a backslash and three octal digits, the first at most 3
-  octal_three : {x y z k m n : ℕ} {r : List ℕ} → Octal x k → k ≤ 3 → Octal y m → Octal z n → Form (code "\\" ∷ x ∷ y ∷ z ∷ r) r (64 * k + (8 * m + n))
+  octal_three : {x y z k m n : ℕ} {r : List ℕ} → Octal x k → k ≤ 3 → Octal y m → Octal z n
+      → Form (code "\\" ∷ x ∷ y ∷ z ∷ r) r (64 * k + (8 * m + n))
   -- a backslash and two octal digits
   octal_two : {x y m n : ℕ} {r : List ℕ} → Octal x m → Octal y n → Form (code "\\" ∷ x ∷ y ∷ r) r (8 * m + n)
   -- a backslash and one octal digit
@@ -55,10 +57,12 @@ pub data Form : List ℕ → List ℕ → ℕ → Type 0 where
   hex_two : {x y m n : ℕ} {r : List ℕ} → Hex x m → Hex y n → Form (code "\\" ∷ code "x" ∷ x ∷ y ∷ r) r (16 * m + n)
   -- `\x` and one hexadecimal digit
   hex_one : {x m : ℕ} {r : List ℕ} → Hex x m → Form (code "\\" ∷ code "x" ∷ x ∷ r) r m
-  -- a backslash and any other byte, for that byte: a quote, a bracket or a backslash, but also a digit 8, or an `x` that no digit follows
+  -- a backslash and any other byte, for that byte: a quote, a bracket or a backslash, but also a digit 8, or an `x`
+  -- that no digit follows
   itself : {b : ℕ} {r : List ℕ} → ((c : ℕ) → Letter b c → ⊥) → ((n : ℕ) → Octal b n → ⊥) → Form (code "\\" ∷ b ∷ r) r b
 
--- The byte spelled at the front of a text. Of the forms that stand there the longest is taken, a rule of our own: `\101` is one byte, `\400` is `\40` and then a `0`.
+-- The byte spelled at the front of a text. Of the forms that stand there the longest is taken, a rule of our own:
+-- `\101` is one byte, `\400` is `\40` and then a `0`.
 pub record Char (t r : List ℕ) (b : ℕ) : Type 0 where
   pub form : Form t r b
   pub longest : (s : List ℕ) (c : ℕ) → Form t s c → length r ≤ length s

@@ -5,7 +5,8 @@ use Rattle.lexer.specs.SliceEnds.{Lacks}
 use Rattle.pegread.specs.Chars.{Char}
 use Rattle.pegread.specs.Slices.{Closes}
 
--- the slice of a class: a bracket, and what follows up to the next closing bracket that no escape takes, which ends it. It ends there also after a `-`, a rule of our own: no plain `]` ends a range.
+-- the slice of a class: a bracket, and what follows up to the next closing bracket that no escape takes, which ends it.
+-- It ends there also after a `-`, a rule of our own: no plain `]` ends a range.
 pub data IsClass : List ℕ → Type 0 where
   bracketed : {bs : List ℕ} → Closes (code "]") bs [] → IsClass (code "[" ∷ bs)
 
@@ -15,7 +16,8 @@ GoesOn [] = ⊥
 GoesOn (b ∷ []) = ⊥
 GoesOn (b ∷ c ∷ cs) = b ≡ code "-"
 
--- An item at the front of a class's inside: the text, what stands behind the item, and the item's first and last byte. The inside is without the brackets, so a `-` that ends it makes no range, a rule of our own.
+-- An item at the front of a class's inside: the text, what stands behind the item, and the item's first and last byte.
+-- The inside is without the brackets, so a `-` that ends it makes no range, a rule of our own.
 pub data Item : List ℕ → List ℕ → ℕ → ℕ → Type 0 where
   -- one character, a `-` too
   item_char : {t r : List ℕ} {a : ℕ} → Char t r a → (GoesOn r → ⊥) → Item t r a a
@@ -51,9 +53,12 @@ NoHat = Lacks (code "^")
 -- a class's slice, and its set
 pub data SpellsSet : List ℕ → (ℕ → Bool) → Type 0 where
   -- the bytes of its items
-  positive : {inside : List ℕ} {f : ℕ → Bool} {xs : List (ℕ × ℕ)} (slice : List ℕ) → slice ≡ code "[" ∷ (inside ++ code "]" ∷ []) → NoHat inside → Ranges inside xs → ((b : ℕ) → f b ≡ bytes_in (in_ranges xs) b) → SpellsSet slice f
+  positive : {inside : List ℕ} {f : ℕ → Bool} {xs : List (ℕ × ℕ)} (slice : List ℕ) → slice ≡ code "["
+      ∷ (inside ++ code "]" ∷ []) → NoHat inside → Ranges inside xs → ((b : ℕ) → f b ≡ bytes_in (in_ranges xs) b)
+      → SpellsSet slice f
   -- all other bytes, where a plain `^` directly follows the bracket
-  negative : {inside : List ℕ} {f : ℕ → Bool} {xs : List (ℕ × ℕ)} (slice : List ℕ) → slice ≡ code "[" ∷ code "^" ∷ (inside ++ code "]" ∷ []) → Ranges inside xs → ((b : ℕ) → f b ≡ complement (in_ranges xs) b) → SpellsSet slice f
+  negative : {inside : List ℕ} {f : ℕ → Bool} {xs : List (ℕ × ℕ)} (slice : List ℕ) → slice ≡ code "[" ∷ code "^"
+      ∷ (inside ++ code "]" ∷ []) → Ranges inside xs → ((b : ℕ) → f b ≡ complement (in_ranges xs) b) → SpellsSet slice f
 
 -- the ranges that an inside spells, and the test of their numbers
 pub record SpellsItems (inside : List ℕ) (f : ℕ → Bool) : Type 0 where

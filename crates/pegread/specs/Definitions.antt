@@ -18,7 +18,11 @@ firsts known (d ∷ ds) = elim (id_in known d.name) [ None ↦ d ∷ firsts (kno
 -- of each other definition the id of the rule whose name it has, in order
 abbrev pub agains : List Rule → List Rule → List ℕ
 agains known [] = []
-agains known (d ∷ ds) = elim (id_in known d.name) [ None ↦ agains (known ++ d ∷ []) ds | Some id ↦ id ∷ agains known ds ]
+agains known (d ∷ ds) = elim (id_in known d.name) [
+  | None ↦ agains (known ++ d ∷ []) ds
+  | Some id ↦ id
+      ∷ agains known ds
+]
 
 -- the rules are the first definitions of each name, and the ids are those that are defined again
 pub record IsTableOf (definitions : List Rule) (rules : table.Rules Expr) (redefined : List ℕ) : Type 0 where

@@ -2,7 +2,8 @@
 use Prim.Native.Char.{code}
 use Rattle.std.specs.Prelude.{◌≡◌, ℕ, ◌<◌, ◌≤◌, Bool, false, List, [], ◌∷◌, ◌++◌}
 use Rattle.pegread.specs.Names.{IsName}
-use Rattle.pegread.specs.Pattern.{Pattern, Any, Bytes, Set, Name, Seq, Choice, Star, Plus, Opt, And, Not, Act, Open, Close, Patterns, none, more, Rule}
+use Rattle.pegread.specs.Pattern.{Pattern, Any, Bytes, Set, Name, Seq, Choice, Star, Plus, Opt, And, Not, Act, Open}
+use Rattle.pegread.specs.Pattern.{Close, Patterns, none, more, Rule}
 use Rattle.pegread.specs.Slices.{Body}
 
 -- numbers from 0 to 255

@@ -1,7 +1,8 @@
 -- Kinds of tokens.
 use Rattle.std.specs.Prelude.{Bool, true, false}
 use Rattle.pegread.specs.declared.kind.Kind.{Kind}
-use Rattle.pegread.specs.declared.kind.Kind.TheVariants.{EndCap, Slash, Amp, Bang, Quest, Star, Plus, Dot, LParen, RParen, Literal, Class, Action, End}
+use Rattle.pegread.specs.declared.kind.Kind.TheVariants.{EndCap, Slash, Amp, Bang, Quest, Star, Plus, Dot, LParen}
+use Rattle.pegread.specs.declared.kind.Kind.TheVariants.{RParen, Literal, Class, Action, End}
 
 -- whether the list of a text's tokens ends with it
 abbrev pub is_end : Kind → Bool

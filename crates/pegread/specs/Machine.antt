@@ -3,9 +3,11 @@ use Rattle.std.specs.Prelude.{ℕ, suc, Option, Some, None, List, [], ◌∷◌,
 use Rattle.lexer.specs.Viability as viability
 use Rattle.ruletable.specs.declared.span.Span.{Span}
 use Rattle.pegread.specs.Pattern as e
-use Rattle.pegread.specs.Pattern.{Pattern, Any, Bytes, Set, Name, Opt, And, Not, Act, Open, Close, Patterns, none, more, Rule}
+use Rattle.pegread.specs.Pattern.{Pattern, Any, Bytes, Set, Name, Opt, And, Not, Act, Open, Close, Patterns, none, more}
+use Rattle.pegread.specs.Pattern.{Rule}
 use Rattle.pegread.specs.Spelling.{sequence, choice, rule_at}
-use Rattle.pegread.specs.Words.{Word, Ident, Arrow, Begin, EndCap, Slash, Amp, Bang, Quest, Star, Plus, Dot, LParen, RParen, Literal, Class, Action, End}
+use Rattle.pegread.specs.Words.{Word, Ident, Arrow, Begin, EndCap, Slash, Amp, Bang, Quest, Star, Plus, Dot, LParen}
+use Rattle.pegread.specs.Words.{RParen, Literal, Class, Action, End}
 
 -- one list of members behind another
 abbrev pub append : Patterns → Patterns → Patterns
@@ -50,7 +52,8 @@ pub data Head : Type 0 where
 abbrev pub ended : Head → Pattern → List Rule
 ended (head rules n p) x = rules ++ rule_at n p x ∷ []
 
--- nothing yet; the first definition's name; a definition, with the levels round its open brackets, the innermost first, and the innermost expression; the whole
+-- nothing yet; the first definition's name; a definition, with the levels round its open brackets, the innermost first,
+-- and the innermost expression; the whole
 pub data Config : Type 0 where
   start : Config
   named : List ℕ → Span → Config

@@ -4,7 +4,8 @@ use Rattle.ruletable.specs.Rules as table
 use Rattle.pegread.specs.declared.expr.Expr.{Expr}
 use Rattle.pegread.specs.declared.expr.Expr.TheOpen.{Expr-F}
 use Rattle.pegread.specs.declared.expr.Expr.TheFolds.{fold-Expr}
-use Rattle.pegread.specs.Pattern.{Pattern, Any, Bytes, Set, Name, Seq, Choice, Star, Plus, Opt, And, Not, Act, Open, Close, Patterns, none, more, Rule}
+use Rattle.pegread.specs.Pattern.{Pattern, Any, Bytes, Set, Name, Seq, Choice, Star, Plus, Opt, And, Not, Act, Open}
+use Rattle.pegread.specs.Pattern.{Close, Patterns, none, more, Rule}
 
 abbrev pub patterns : List Pattern → Patterns
 patterns [] = none

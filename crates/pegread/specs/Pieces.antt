@@ -4,10 +4,12 @@ use Rattle.pegread.specs.Slices.{White}
 use Rattle.lexer.specs.TokenLists.{slice_of, start_of, end_of}
 use Rattle.pegread.specs.Tokens.{Tok}
 
--- The text is white space and the first token's slice, white space and the second token's slice, and so on; the last slice is empty, and ends it.
+-- The text is white space and the first token's slice, white space and the second token's slice, and so on; the last
+-- slice is empty, and ends it.
 pub data MakeUp : List Tok → List ℕ → Type 0 where
   made_last : {x : Tok} {t : List ℕ} → White t [] → slice_of x ≡ [] → MakeUp (x ∷ []) t
-  made_more : {x : Tok} {ts : List Tok} {t w m : List ℕ} → t ≡ w ++ (slice_of x ++ m) → White w [] → MakeUp ts m → MakeUp (x ∷ ts) t
+  made_more : {x : Tok} {ts : List Tok} {t w m : List ℕ} → t ≡ w ++ (slice_of x ++ m) → White w [] → MakeUp ts m
+      → MakeUp (x ∷ ts) t
 
 -- the token's slice is the text's part from the start of its span up to the end
 pub record LiesIn (text : List ℕ) (x : Tok) : Type 0 where

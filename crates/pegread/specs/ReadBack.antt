@@ -31,7 +31,8 @@ pub record IsRead (source : List ℕ) (rules : table.Rules Expr) (redefined : Li
 
 -- what a text reads as, its canonical text reads as again, where that is not too long
 abbrev pub ReadBack : Type 0
-ReadBack = (source : List ℕ) (rules : List Rule) → AreBytes source → Reads source rules → length (grammar_text rules) ≤ MAX_GRAMMAR → ReadsAs (grammar_text rules) rules
+ReadBack = (source : List ℕ) (rules : List Rule) → AreBytes source → Reads source rules → length (grammar_text rules)
+    ≤ MAX_GRAMMAR → ReadsAs (grammar_text rules) rules
 
 -- the canonical text tells nothing of spans
 abbrev pub SpansUnseen : Type 0
@@ -39,8 +40,10 @@ SpansUnseen = (rules again : List Rule) → SameButSpans rules again → grammar
 
 -- the canonical text of what a canonical text reads as is that text
 abbrev pub PrintsItself : Type 0
-PrintsItself = (source : List ℕ) (rules again : List Rule) → AreBytes source → Reads source rules → Reads (grammar_text rules) again → grammar_text again ≡ grammar_text rules
+PrintsItself = (source : List ℕ) (rules again : List Rule) → AreBytes source → Reads source rules
+    → Reads (grammar_text rules) again → grammar_text again ≡ grammar_text rules
 
 -- what a text reads as is formed
 abbrev pub ReadsFormed : Type 0
-ReadsFormed = (source : List ℕ) (rules : List Rule) → AreBytes source → Reads source rules → IsSome rules × AreFormedRules rules
+ReadsFormed = (source : List ℕ) (rules : List Rule) → AreBytes source → Reads source rules → IsSome rules
+    × AreFormedRules rules

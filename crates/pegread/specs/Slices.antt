@@ -4,7 +4,8 @@ use Rattle.std.specs.Prelude.{◌≡◌, ◌≢◌, ℕ, ◌||◌, ◌==◌, Boo
 use Rattle.std.specs.Char.{is_ascii_alphabetic, is_ascii_alphanumeric}
 use Rattle.lexer.specs.SliceEnds as ends
 use Rattle.pegread.specs.declared.kind.Kind.{Kind}
-use Rattle.pegread.specs.declared.kind.Kind.TheVariants.{Ident, Arrow, Begin, EndCap, Slash, Amp, Bang, Quest, Star, Plus, Dot, LParen, RParen, Literal, Class, Action, Bad, End}
+use Rattle.pegread.specs.declared.kind.Kind.TheVariants.{Ident, Arrow, Begin, EndCap, Slash, Amp, Bang, Quest, Star}
+use Rattle.pegread.specs.declared.kind.Kind.TheVariants.{Plus, Dot, LParen, RParen, Literal, Class, Action, Bad, End}
 
 -- letters and `_`
 abbrev pub starts_name : ℕ → Bool
@@ -86,6 +87,7 @@ pub data Stands : Kind → List ℕ → List ℕ → Type 0 where
 abbrev pub StandsNone : (Kind → Bool) → List ℕ → Type 0
 StandsNone f t = (kind : Kind) (r : List ℕ) → Stands kind t r → f kind ≡ false
 
--- the first token of a text that no white space begins: the longest that stands there, or Bad where none does, or the end
+-- the first token of a text that no white space begins: the longest that stands there, or Bad where none does, or the
+-- end
 abbrev pub First : Kind → List ℕ → List ℕ → Type 0
 First = ends.First Piece Stands Bad End

@@ -1,11 +1,14 @@
--- Which words spell which grammars (peg(1) manual). A relation on two lists holds of a list and of what stands behind the part that is spelled.
+-- Which words spell which grammars (peg(1) manual). A relation on two lists holds of a list and of what stands behind
+-- the part that is spelled.
 use Rattle.std.specs.Prelude.{ℕ, Bool, List, [], ◌∷◌}
 use Rattle.lexer.specs.Viability as viability
 use Rattle.ruletable.specs.declared.span.Span.{Span}
 use Rattle.pegread.specs.Pattern as e
-use Rattle.pegread.specs.Pattern.{Pattern, Any, Bytes, Set, Name, Seq, Choice, Opt, And, Not, Act, Open, Close, Patterns, none, more, Rule}
+use Rattle.pegread.specs.Pattern.{Pattern, Any, Bytes, Set, Name, Seq, Choice, Opt, And, Not, Act, Open, Close}
+use Rattle.pegread.specs.Pattern.{Patterns, none, more, Rule}
 use Rattle.pegread.specs.Tokens.{Tok}
-use Rattle.pegread.specs.Words.{Word, Ident, Arrow, Begin, EndCap, Slash, Amp, Bang, Quest, Star, Plus, Dot, LParen, RParen, Literal, Class, Action, End, Says}
+use Rattle.pegread.specs.Words.{Word, Ident, Arrow, Begin, EndCap, Slash, Amp, Bang, Quest, Star, Plus, Dot, LParen}
+use Rattle.pegread.specs.Words.{RParen, Literal, Class, Action, End, Says}
 
 -- a sequence of one member is that member
 abbrev pub sequence : Patterns → Pattern
@@ -57,7 +60,8 @@ mutual
   -- one or more sequences with slashes between
   pub data Alternatives : List Word → List Word → Patterns → Type 0 where
     only : {s r : List Word} {xs : Patterns} → Items s r xs → Alternatives s r (more (sequence xs) none)
-    further : {s m r : List Word} {xs ys : Patterns} → Items s (Slash ∷ m) xs → Alternatives m r ys → Alternatives s r (more (sequence xs) ys)
+    further : {s m r : List Word} {xs ys : Patterns} → Items s (Slash ∷ m) xs → Alternatives m r ys
+        → Alternatives s r (more (sequence xs) ys)
 
   pub data Expression : List Word → List Word → Pattern → Type 0 where
     expression : {s r : List Word} {ys : Patterns} → Alternatives s r ys → Expression s r (choice ys)
@@ -66,10 +70,13 @@ mutual
 abbrev pub rule_at : List ℕ → Span → Pattern → Rule
 rule_at n p x = record { name = n; body = x; span = p }
 
--- The whole list spells the definitions: one or more, and the end. Each is a name, an arrow and an expression, and its span is that of its name.
+-- The whole list spells the definitions: one or more, and the end. Each is a name, an arrow and an expression, and its
+-- span is that of its name.
 pub data Grammar : List Word → List Rule → Type 0 where
-  last_definition : {n : List ℕ} {p : Span} {s : List Word} {x : Pattern} → Expression s (End ∷ []) x → Grammar (Ident n p ∷ Arrow ∷ s) (rule_at n p x ∷ [])
-  more_definitions : {n : List ℕ} {p : Span} {s m : List Word} {x : Pattern} {rules : List Rule} → Expression s m x → Grammar m rules →
+  last_definition : {n : List ℕ} {p : Span} {s : List Word} {x : Pattern} → Expression s (End ∷ []) x
+      → Grammar (Ident n p ∷ Arrow ∷ s) (rule_at n p x ∷ [])
+  more_definitions : {n : List ℕ} {p : Span} {s m : List Word} {x : Pattern} {rules : List Rule} → Expression s m x
+      → Grammar m rules →
       Grammar (Ident n p ∷ Arrow ∷ s) (rule_at n p x ∷ rules)
 
 -- some words that go on with these spell a grammar

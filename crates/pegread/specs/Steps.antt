@@ -17,7 +17,9 @@ use Rattle.pegread.specs.Spelling.{sequence, rule_at}
 use Rattle.pegread.specs.Words as words
 use Rattle.pegread.specs.Words.{Word, Says}
 use Rattle.pegread.specs.Tokens.{Tok}
-use Rattle.pegread.specs.Machine.{Config, start, named, body, done, Head, head, Level, level, Last, fresh, read, read_name, Mark, no_mark, not_mark, and_mark, fresh_step, read_step, name_step, close_step, end_step, ended, finish, snoc, apply, step}
+use Rattle.pegread.specs.Machine.{Config, start, named, body, done, Head, head, Level, level, Last, fresh, read}
+use Rattle.pegread.specs.Machine.{read_name, Mark, no_mark, not_mark, and_mark, fresh_step, read_step, name_step}
+use Rattle.pegread.specs.Machine.{close_step, end_step, ended, finish, snoc, apply, step}
 use Rattle.pegread.specs.PegViews.{pattern_of, patterns_of}
 
 -- what the code's word stands for
@@ -63,7 +65,8 @@ abbrev pub head_of : Body → Head
 head_of b = head (rules_from b.definitions.items) b.name.now b.span
 
 abbrev pub config_with : Body → Last → Config
-config_with b l = body (head_of b) (levels_of b.outer.items) (patterns_of b.level.alternatives.items) (patterns_of b.level.items.items) (mark_of b.level.prefix) l
+config_with b l = body (head_of b) (levels_of b.outer.items) (patterns_of b.level.alternatives.items)
+    (patterns_of b.level.items.items) (mark_of b.level.prefix) l
 
 -- what the reader has come to
 abbrev pub config_of : Reader → Config
@@ -89,7 +92,8 @@ abbrev pub with_mark : Config → Mark → Config
 with_mark (body h o bs es m l) n = body h o bs es n l
 with_mark c n = c
 
--- the machine's step where neither a suffix may stand nor a prefix waits: a prefix, a slash, a closing bracket or the end
+-- the machine's step where neither a suffix may stand nor a prefix waits: a prefix, a slash, a closing bracket or the
+-- end
 abbrev pub unmarked_step : Head → List Level → Patterns → Patterns → Word → Option Config
 unmarked_step h o bs es words.Bang = Some (body h o bs es not_mark fresh)
 unmarked_step h o bs es words.Amp = Some (body h o bs es and_mark fresh)
@@ -100,31 +104,39 @@ unmarked_step h o bs es _ = None
 
 -- the machine's step from the body, where no suffix may stand
 abbrev pub step_fresh : Body → Word → Option Config
-step_fresh b w = fresh_step (head_of b) (levels_of b.outer.items) (patterns_of b.level.alternatives.items) (patterns_of b.level.items.items) (mark_of b.level.prefix) w
+step_fresh b w = fresh_step (head_of b) (levels_of b.outer.items) (patterns_of b.level.alternatives.items)
+    (patterns_of b.level.items.items) (mark_of b.level.prefix) w
 
 -- and where no prefix waits, whatever the body says
 abbrev pub step_unmarked : Body → Word → Option Config
-step_unmarked b w = unmarked_step (head_of b) (levels_of b.outer.items) (patterns_of b.level.alternatives.items) (patterns_of b.level.items.items) w
+step_unmarked b w = unmarked_step (head_of b) (levels_of b.outer.items) (patterns_of b.level.alternatives.items)
+    (patterns_of b.level.items.items) w
 
 -- behind a primary
 abbrev pub step_read : Body → Pattern → Word → Option Config
-step_read b x w = read_step (head_of b) (levels_of b.outer.items) (patterns_of b.level.alternatives.items) (patterns_of b.level.items.items) (mark_of b.level.prefix) x w
+step_read b x w = read_step (head_of b) (levels_of b.outer.items) (patterns_of b.level.alternatives.items)
+    (patterns_of b.level.items.items) (mark_of b.level.prefix) x w
 
 -- behind a name
 abbrev pub step_name : Body → List ℕ → Span → Word → Option Config
-step_name b n p w = name_step (head_of b) (levels_of b.outer.items) (patterns_of b.level.alternatives.items) (patterns_of b.level.items.items) (mark_of b.level.prefix) n p w
+step_name b n p w = name_step (head_of b) (levels_of b.outer.items) (patterns_of b.level.alternatives.items)
+    (patterns_of b.level.items.items) (mark_of b.level.prefix) n p w
 
 -- the body has one item more, and no prefix waits
 abbrev pub AddsItem : Body → Body → Pattern → Type 0
-AddsItem a b x = config_with b fresh ≡ body (head_of a) (levels_of a.outer.items) (patterns_of a.level.alternatives.items) (snoc (patterns_of a.level.items.items) (apply (mark_of a.level.prefix) x)) no_mark fresh
+AddsItem a b x = config_with b fresh ≡ body (head_of a) (levels_of a.outer.items)
+    (patterns_of a.level.alternatives.items) (snoc (patterns_of a.level.items.items) (apply (mark_of a.level.prefix) x))
+    no_mark fresh
 
 -- a bracket opened
 abbrev pub IsOpened : Body → Body → Type 0
-IsOpened a b = config_with b fresh ≡ body (head_of a) (level_of a.level ∷ levels_of a.outer.items) none none no_mark fresh
+IsOpened a b = config_with b fresh ≡ body (head_of a) (level_of a.level ∷ levels_of a.outer.items) none none no_mark
+    fresh
 
 -- the items became an alternative, and those of the next begin
 abbrev pub HasNewSequence : Body → Body → Type 0
-HasNewSequence a b = config_with b fresh ≡ body (head_of a) (levels_of a.outer.items) (snoc (patterns_of a.level.alternatives.items) (sequence (patterns_of a.level.items.items))) none no_mark fresh
+HasNewSequence a b = config_with b fresh ≡ body (head_of a) (levels_of a.outer.items)
+    (snoc (patterns_of a.level.alternatives.items) (sequence (patterns_of a.level.items.items))) none no_mark fresh
 
 -- where the reader stopped, nothing that the token says goes on, unless memory ran out
 abbrev pub StopsAt : Config → Tok → Stop → Type 0

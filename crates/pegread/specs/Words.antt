@@ -9,7 +9,8 @@ use Rattle.pegread.specs.Tokens.{Tok}
 use Rattle.pegread.specs.Literals.{SpellsBytes}
 use Rattle.pegread.specs.Classes.{SpellsSet}
 
--- a token as far as a grammar goes: its kind, with a name and where it stands, a literal's bytes, a class's members, or an action's template
+-- a token as far as a grammar goes: its kind, with a name and where it stands, a literal's bytes, a class's members, or
+-- an action's template
 pub data Word : Type 0 where
   Ident : List ℕ → Span → Word
   Arrow : Word

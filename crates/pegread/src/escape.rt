@@ -45,7 +45,8 @@ fn hex_escape(text: &[u8]) -> (u8, &[u8])
     }
 }
 
-// What a backslash, the octal digit of that value and the text behind it spell: a third digit counts only where the first is at most 3.
+// What a backslash, the octal digit of that value and the text behind it spell: a third digit counts only where the
+// first is at most 3.
 fn octal_escape(first: u8, text: &[u8]) -> (u8, &[u8])
     requires { first ≤ 7 }
     ensures { Char (code "\\" ∷ (code "0" + first) ∷ text.now) result.1.now result.0 }

@@ -1,7 +1,7 @@
 //! What a grammar of peg(1) is cut into.
 
-/// What a token is (peg(1) manual, "PEG GRAMMARS"). White space, which is space, tab, LF, CR and comments from `#` to the
-/// end of the line, only separates tokens.
+/// What a token is (peg(1) manual, "PEG GRAMMARS"). White space, which is space, tab, LF, CR and comments from `#` to
+/// the end of the line, only separates tokens.
 #[derive(Clone, Copy, Debug, PartialEq, Eq)]
 pub enum Kind {
     /// A name: a letter or `_`, then letters, digits and `_`.

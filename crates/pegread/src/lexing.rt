@@ -2,7 +2,8 @@
 ghost use Rattle.std.specs.Prelude.{◌≡◌, ℕ, ◌≤◌, List, ◌∷◌, length, MatchOption};
 ghost use Rattle.lexer.specs.SliceEnds.{NoPiece};
 ghost use Rattle.pegread.specs.Chars.{code};
-ghost use Rattle.pegread.specs.Slices.{starts_name, continues_name, is_blank, ends_line, Names, Closes, Body, Comment, Piece, White, First, StandsNone};
+ghost use Rattle.pegread.specs.Slices.{starts_name, continues_name, is_blank, ends_line, Names, Closes, Body, Comment};
+ghost use Rattle.pegread.specs.Slices.{Piece, White, First, StandsNone};
 ghost use Rattle.pegread.specs.Kinds.{is_sign, is_closed};
 
 use crate::kind::Kind;
@@ -131,7 +132,8 @@ fn angle_token(tail: &[u8]) -> (Kind, &[u8])
 
 // The kind of token that the byte is, whatever stands behind it.
 fn sign_kind(b: u8) -> Option<Kind>
-    ensures { MatchOption result ((r : List ℕ) → StandsNone is_sign (b ∷ r)) (λ kind. (r : List ℕ) → First kind (b ∷ r) r) }
+    ensures { MatchOption result ((r : List ℕ) → StandsNone is_sign (b ∷ r))
+        (λ kind. (r : List ℕ) → First kind (b ∷ r) r) }
 {
     match b {
         b'>' => Some(Kind::EndCap),
@@ -150,7 +152,8 @@ fn sign_kind(b: u8) -> Option<Kind>
 
 // The token that a mark of its own closes: its kind, and what stands behind it.
 fn closed_token(first: u8, tail: &[u8]) -> Option<(Kind, &[u8])>
-    ensures { MatchOption result (StandsNone is_closed (first ∷ tail.now)) (λ token. First token.0 (first ∷ tail.now) token.1.now) }
+    ensures { MatchOption result (StandsNone is_closed (first ∷ tail.now))
+        (λ token. First token.0 (first ∷ tail.now) token.1.now) }
 {
     if first == b'\'' || first == b'"' {
         Some((Kind::Literal, after_mark(tail, first)?))

@@ -15,7 +15,8 @@ use ruletable::{Sink, WriteFault, write_pieces, write_whole};
 // An expression within another, in parentheses where it needs them.
 #[cycle(printing)]
 fn print_at<W: Sink>(e: &Expr, place: Place, w: &mut W) -> Result<(), WriteFault>
-    ensures bytes { Writes (W.contents w.old) (W.contents w.new) (around (wraps place (pattern_of e.now)) (canon.text_of (pattern_of e.now))) result }
+    ensures bytes { Writes (W.contents w.old) (W.contents w.new)
+        (around (wraps place (pattern_of e.now)) (canon.text_of (pattern_of e.now))) result }
     ensures flag { Flags (W.failed w.old) (W.failed w.new) result }
 {
     if !is_wrapped(e, place) {
@@ -34,7 +35,9 @@ fn print_at<W: Sink>(e: &Expr, place: Place, w: &mut W) -> Result<(), WriteFault
 // An operand and its suffix.
 #[cycle(printing)]
 fn print_suffixed<W: Sink>(operand: &Expr, mark: &[u8], w: &mut W) -> Result<(), WriteFault>
-    ensures bytes { Writes (W.contents w.old) (W.contents w.new) (around (wraps Place.OfSuffix (pattern_of operand.now)) (canon.text_of (pattern_of operand.now)) ++ mark.now) result }
+    ensures bytes { Writes (W.contents w.old) (W.contents w.new)
+        (around (wraps Place.OfSuffix (pattern_of operand.now)) (canon.text_of (pattern_of operand.now)) ++ mark.now)
+        result }
     ensures flag { Flags (W.failed w.old) (W.failed w.new) result }
 {
     match print_at(operand, Place::OfSuffix, w) {
@@ -51,7 +54,8 @@ fn print_prefixed<W: Sink>(
     place: Place,
     w: &mut W,
 ) -> Result<(), WriteFault>
-    ensures bytes { Writes (W.contents w.old) (W.contents w.new) (mark.now ++ around (wraps place (pattern_of operand.now)) (canon.text_of (pattern_of operand.now))) result }
+    ensures bytes { Writes (W.contents w.old) (W.contents w.new)
+        (mark.now ++ around (wraps place (pattern_of operand.now)) (canon.text_of (pattern_of operand.now))) result }
     ensures flag { Flags (W.failed w.old) (W.failed w.new) result }
 {
     match write_whole(w, mark) {
@@ -87,7 +91,8 @@ fn print_expr<W: Sink>(e: &Expr, w: &mut W) -> Result<(), WriteFault>
 // Members or alternatives, with a mark between each two.
 #[cycle(printing)]
 fn print_all<W: Sink>(es: &[Expr], place: Place, mark: &[u8], w: &mut W) -> Result<(), WriteFault>
-    ensures bytes { Writes (W.contents w.old) (W.contents w.new) (canon.joined place mark.now (patterns_of es.now)) result }
+    ensures bytes { Writes (W.contents w.old) (W.contents w.new) (canon.joined place mark.now (patterns_of es.now))
+        result }
     ensures flag { Flags (W.failed w.old) (W.failed w.new) result }
 {
     for (i, e) in es.iter().enumerate() {
@@ -116,7 +121,8 @@ fn print_mark<W: Sink>(i: usize, mark: &[u8], w: &mut W) -> Result<(), WriteFaul
 
 // A definition: the name, the arrow, the body and LF.
 fn print_definition<W: Sink>(name: &[u8], body: &Expr, w: &mut W) -> Result<(), WriteFault>
-    ensures bytes { Writes (W.contents w.old) (W.contents w.new) (canon.definition_text name.now (pattern_of body.now)) result }
+    ensures bytes { Writes (W.contents w.old) (W.contents w.new) (canon.definition_text name.now (pattern_of body.now))
+        result }
     ensures flag { Flags (W.failed w.old) (W.failed w.new) result }
 {
     match write_pieces(w, &[name, b" <- "]) {
@@ -129,16 +135,18 @@ fn print_definition<W: Sink>(name: &[u8], body: &Expr, w: &mut W) -> Result<(), 
     }
 }
 
-/// Writes a grammar's canonical text: each rule in order, with no parentheses but those that it needs. `WriteFault` where
-/// the writer fails; then a beginning of the text is written.
+/// Writes a grammar's canonical text: each rule in order, with no parentheses but those that it needs. `WriteFault`
+/// where the writer fails; then a beginning of the text is written.
 ///
-/// Where the grammar was read from some text, no name is defined again, and the canonical text has at most `MAX_GRAMMAR`
-/// bytes, that text reads as the same rules, but for their spans, and as nothing else. It takes no memory, and recurses no
-/// deeper than the expressions.
+/// Where the grammar was read from some text, no name is defined again, and the canonical text has at most
+/// `MAX_GRAMMAR` bytes, that text reads as the same rules, but for their spans, and as nothing else. It takes no
+/// memory, and recurses no deeper than the expressions.
 pub fn print_peg<W: Sink>(peg: &Peg, w: &mut W) -> Result<(), WriteFault>
     ensures bytes { Writes (W.contents w.old) (W.contents w.new) (canon.grammar_text (rules_of peg.now.rules)) result }
     ensures flag { Flags (W.failed w.old) (W.failed w.new) result }
-    ensures read_back { (source : List ℕ) → IsRead source peg.now.rules peg.now.redefined.items → length (canon.grammar_text (rules_of peg.now.rules)) ≤ MAX_GRAMMAR → ReadsAs (canon.grammar_text (rules_of peg.now.rules)) (rules_of peg.now.rules) }
+    ensures read_back { (source : List ℕ) → IsRead source peg.now.rules peg.now.redefined.items
+        → length (canon.grammar_text (rules_of peg.now.rules)) ≤ MAX_GRAMMAR
+        → ReadsAs (canon.grammar_text (rules_of peg.now.rules)) (rules_of peg.now.rules) }
 {
     for id in 0..peg.rules.len() {
         match print_definition(peg.rules.name(id), peg.rules.body(id), w) {
@@ -149,10 +157,10 @@ pub fn print_peg<W: Sink>(peg: &Peg, w: &mut W) -> Result<(), WriteFault>
     Ok(())
 }
 
-/// Laws of canonical texts. What a text reads as, its canonical text reads as too, but for spans, and as nothing else; no
-/// bracket is too many. The canonical text tells nothing of spans, so that of a canonical text is itself. And what a text
-/// reads as is formed: names are names, the braces of templates match, no sequence has one member, and no choice fewer than
-/// two alternatives.
+/// Laws of canonical texts. What a text reads as, its canonical text reads as too, but for spans, and as nothing else;
+/// no bracket is too many. The canonical text tells nothing of spans, so that of a canonical text is itself. And what a
+/// text reads as is formed: names are names, the braces of templates match, no sequence has one member, and no choice
+/// fewer than two alternatives.
 pub fn is_read_back()
     ensures read_back { ReadBack }
     ensures spans { SpansUnseen }

@@ -5,7 +5,8 @@ ghost use Rattle.ruletable.specs.Runs.{test_of};
 ghost use Rattle.ruletable.specs.Writing.{Writes, Flags};
 ghost use Rattle.pegread.specs.Canon as canon;
 ghost use Rattle.pegread.specs.Chars.{code};
-ghost use Rattle.pegread.specs.Escapes.{letter_for as the_letter, is_unprintable as unprintable, written, escaped, shown, run_text, runs_text, class_text};
+ghost use Rattle.pegread.specs.Escapes.{letter_for as the_letter, is_unprintable as unprintable, written, escaped};
+ghost use Rattle.pegread.specs.Escapes.{shown, run_text, runs_text, class_text};
 ghost use Rattle.pegread.specs.Pattern as patterns;
 
 use ruletable::{ByteSet, Sink, WriteFault, write_pieces, write_whole};
@@ -88,7 +89,8 @@ fn print_bytes<W: Sink>(bytes: &[u8], w: &mut W) -> Result<(), WriteFault>
 }
 
 pub(crate) fn print_literal<W: Sink>(bytes: &[u8], w: &mut W) -> Result<(), WriteFault>
-    ensures bytes { Writes (W.contents w.old) (W.contents w.new) (canon.text_of (patterns.Pattern.Bytes bytes.now)) result }
+    ensures bytes { Writes (W.contents w.old) (W.contents w.new) (canon.text_of (patterns.Pattern.Bytes bytes.now))
+        result }
     ensures flag { Flags (W.failed w.old) (W.failed w.new) result }
 {
     match write_whole(w, b"\"") {
@@ -146,7 +148,8 @@ fn print_runs<W: Sink>(set: &ByteSet, w: &mut W) -> Result<(), WriteFault>
 
 // A class of these runs, behind its opening mark.
 fn print_class<W: Sink>(mark: &[u8], set: &ByteSet, w: &mut W) -> Result<(), WriteFault>
-    ensures bytes { Writes (W.contents w.old) (W.contents w.new) (mark.now ++ (runs_text (test_of set.now) ++ code "]" ∷ [])) result }
+    ensures bytes { Writes (W.contents w.old) (W.contents w.new)
+        (mark.now ++ (runs_text (test_of set.now) ++ code "]" ∷ [])) result }
     ensures flag { Flags (W.failed w.old) (W.failed w.new) result }
 {
     match write_whole(w, mark) {
@@ -170,7 +173,8 @@ pub(crate) fn print_set<W: Sink>(set: &ByteSet, w: &mut W) -> Result<(), WriteFa
 }
 
 pub(crate) fn print_action<W: Sink>(template: &[u8], w: &mut W) -> Result<(), WriteFault>
-    ensures bytes { Writes (W.contents w.old) (W.contents w.new) (canon.text_of (patterns.Pattern.Act template.now)) result }
+    ensures bytes { Writes (W.contents w.old) (W.contents w.new) (canon.text_of (patterns.Pattern.Act template.now))
+        result }
     ensures flag { Flags (W.failed w.old) (W.failed w.new) result }
 {
     write_pieces(w, &[b"{", template, b"}"])

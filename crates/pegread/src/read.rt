@@ -1,5 +1,6 @@
 //! Reads a grammar's text.
-ghost use Rattle.std.specs.Prelude.{◌≡◌, ◌≢◌, ℕ, ◌<◌, ◌≤◌, ◌++◌, ◌∷◌, Bool, List, length, slice_get, take as first, Some, IfOk, IfErr, MatchResult};
+ghost use Rattle.std.specs.Prelude.{◌≡◌, ◌≢◌, ℕ, ◌<◌, ◌≤◌, ◌++◌, ◌∷◌, Bool, List, length, slice_get, take as first};
+ghost use Rattle.std.specs.Prelude.{Some, IfOk, IfErr, MatchResult};
 ghost use Rattle.ruletable.specs.declared.span.Span.{Span};
 ghost use Rattle.pegread.specs.Definitions.{IsTableOf};
 ghost use Rattle.pegread.specs.Marks.{IsCut};
@@ -23,8 +24,8 @@ use std::alloc::Global;
 
 /// Reads a grammar in the syntax of the peg(1) manual, "PEG GRAMMARS".
 ///
-/// A rule's span is that of its name. Where a name is defined again, its first definition stands, and `redefined` has the
-/// id of its rule once for each further one.
+/// A rule's span is that of its name. Where a name is defined again, its first definition stands, and `redefined` has
+/// the id of its rule once for each further one.
 ///
 /// # Errors
 /// - `TooLong`, before all else, for a text of more than `MAX_GRAMMAR` bytes.
@@ -33,8 +34,10 @@ use std::alloc::Global;
 ///   for any other. The line is that of the token's first byte, where lines end with LF, CR LF or CR.
 /// - `Memory` where a growth was refused.
 pub fn read_peg(alloc: Global, text: &[u8]) -> Result<Peg, ReadFault>
-    ensures found { IfOk result (λ peg. (definitions : List Rule) × Reads text.now definitions × IsTableOf definitions peg.rules peg.redefined.items) }
-    ensures only { (definitions : List Rule) → Reads text.now definitions → MatchResult result (λ peg. IsTableOf definitions peg.rules peg.redefined.items) (λ f. f ≡ ReadFault.Memory) }
+    ensures found { IfOk result (λ peg. (definitions : List Rule) × Reads text.now definitions
+        × IsTableOf definitions peg.rules peg.redefined.items) }
+    ensures only { (definitions : List Rule) → Reads text.now definitions
+        → MatchResult result (λ peg. IsTableOf definitions peg.rules peg.redefined.items) (λ f. f ≡ ReadFault.Memory) }
     ensures fault { IfErr result (λ f. IsFaultOf text.now f) }
 {
     if text.len() > MAX_GRAMMAR {
@@ -130,7 +133,8 @@ fn peg_of(alloc: Global, definitions: Vec<Definition<'_>>) -> Result<Peg, Memory
 /// words spell at most one grammar.
 pub fn one_tree()
     ensures silent { (z : List ℕ) (p : Span) (w : Word) → Says (tok Kind.Bad z p) w → ⊥ }
-    ensures says { (total : ℕ) (t r : List ℕ) (x : Tok) → Next total t x r → kind_of x ≢ Kind.Bad → (w : Word) × Says x w }
+    ensures says { (total : ℕ) (t r : List ℕ) (x : Tok) → Next total t x r → kind_of x ≢ Kind.Bad → (w : Word)
+        × Says x w }
     ensures words { (ts : List Tok) (vs ws : List Word) → SayAll ts vs → SayAll ts ws → vs ≡ ws }
     ensures tree { (ws : List Word) → (a b : List Rule) → Grammar ws a → Grammar ws b → a ≡ b }
 {}

@@ -1,10 +1,13 @@
 //! Takes a grammar's words one by one.
 ghost use Rattle.std.specs.Prelude.{◌≡◌, ◌++◌, ◌∷◌, [], IfOk};
 ghost use Rattle.pegread.specs.Spelling.{sequence as sequence_of, choice as choice_of};
-ghost use Rattle.pegread.specs.Machine.{step, close_step, finish, ended, apply, levels_in, snoc, level as a_level, body as a_body, head, no_mark, fresh as is_fresh};
+ghost use Rattle.pegread.specs.Machine.{step, close_step, finish, ended, apply, levels_in, snoc, level as a_level};
+ghost use Rattle.pegread.specs.Machine.{body as a_body, head, no_mark, fresh as is_fresh};
 ghost use Rattle.pegread.specs.Pattern.{none, Name};
 ghost use Rattle.pegread.specs.PegViews.{pattern_of, patterns_of};
-ghost use Rattle.pegread.specs.Steps.{Steps, config_of, config_with, with_mark, head_of, level_of, levels_of, mark_of, rules_from, word_of, step_fresh, step_unmarked, step_read, step_name, AddsItem, IsOpened, HasNewSequence};
+ghost use Rattle.pegread.specs.Steps.{Steps, config_of, config_with, with_mark, head_of, level_of, levels_of, mark_of};
+ghost use Rattle.pegread.specs.Steps.{rules_from, word_of, step_fresh, step_unmarked, step_read, step_name, AddsItem};
+ghost use Rattle.pegread.specs.Steps.{IsOpened, HasNewSequence};
 
 use crate::expr::Expr;
 use crate::words::Word;
@@ -64,8 +67,8 @@ pub(crate) struct Level {
     prefix: Prefix,
 }
 
-/// The definitions that ended, the name of the one that goes on and where it stands, the expressions round open brackets,
-/// and the innermost one.
+/// The definitions that ended, the name of the one that goes on and where it stands, the expressions round open
+/// brackets, and the innermost one.
 #[derive(Drop)]
 pub(crate) struct Body<'a> {
     definitions: Vec<Definition<'a>>,
@@ -157,7 +160,8 @@ fn new_body<'a>(
     name: &'a [u8],
     span: Span,
 ) -> Body<'a>
-    ensures { config_with result is_fresh ≡ a_body (head (rules_from definitions.entry.items) name.now span) [] none none no_mark is_fresh }
+    ensures { config_with result is_fresh ≡ a_body (head (rules_from definitions.entry.items) name.now span) [] none
+        none no_mark is_fresh }
 {
     Body {
         definitions,
@@ -190,7 +194,8 @@ fn with_item(alloc: Global, body: Body<'_>, item: Expr) -> Result<Body<'_>, Allo
 }
 
 fn level_with_item(alloc: Global, level: Level, item: Expr) -> Result<Level, AllocError>
-    ensures { IfOk result (λ l. level_of l ≡ a_level (patterns_of level.alternatives.items) (snoc (patterns_of level.items.items) (apply (mark_of level.prefix) (pattern_of item))) no_mark) }
+    ensures { IfOk result (λ l. level_of l ≡ a_level (patterns_of level.alternatives.items)
+        (snoc (patterns_of level.items.items) (apply (mark_of level.prefix) (pattern_of item))) no_mark) }
 {
     let Level {
         alternatives,
@@ -278,7 +283,9 @@ fn with_sequence(alloc: Global, body: Body<'_>) -> Result<Body<'_>, AllocError>
 }
 
 fn level_with_sequence(alloc: Global, level: Level) -> Result<Level, AllocError>
-    ensures { IfOk result (λ l. level_of l ≡ a_level (snoc (patterns_of level.alternatives.items) (sequence_of (patterns_of level.items.items))) none (mark_of level.prefix)) }
+    ensures { IfOk result (λ l. level_of l ≡ a_level
+        (snoc (patterns_of level.alternatives.items) (sequence_of (patterns_of level.items.items))) none
+        (mark_of level.prefix)) }
 {
     let Level {
         mut alternatives,
@@ -295,7 +302,8 @@ fn level_with_sequence(alloc: Global, level: Level) -> Result<Level, AllocError>
 
 // Closes a bracket.
 fn close_bracket(body: Body<'_>) -> Result<Reader<'_>, Stop>
-    ensures { Steps (close_step (levels_of body.entry.outer.items) (head_of body.entry) (finish (patterns_of body.entry.level.alternatives.items) (patterns_of body.entry.level.items.items))) result }
+    ensures { Steps (close_step (levels_of body.entry.outer.items) (head_of body.entry)
+        (finish (patterns_of body.entry.level.alternatives.items) (patterns_of body.entry.level.items.items))) result }
 {
     let Body {
         definitions,
@@ -322,7 +330,8 @@ fn close_bracket(body: Body<'_>) -> Result<Reader<'_>, Stop>
 
 // Ends the definition that goes on.
 fn end_definition(body: Body<'_>) -> Result<Vec<Definition<'_>>, AllocError>
-    ensures { IfOk result (λ ds. rules_from ds.items ≡ ended (head_of body.entry) (finish (patterns_of body.entry.level.alternatives.items) (patterns_of body.entry.level.items.items))) }
+    ensures { IfOk result (λ ds. rules_from ds.items ≡ ended (head_of body.entry)
+        (finish (patterns_of body.entry.level.alternatives.items) (patterns_of body.entry.level.items.items))) }
 {
     let Body {
         mut definitions,

@@ -20,7 +20,8 @@ pub fn are_marked()
     ensures action { (total : ℕ) (t r z : List ℕ) (p : Span) → Next total t (tok Action z p) r → IsBraced z }
 {}
 
-/// A law: a text is its tokens' slices with white space between them, in order, and each slice lies where its span says.
+/// A law: a text is its tokens' slices with white space between them, in order, and each slice lies where its span
+/// says.
 pub fn tokens_make_up()
     ensures pieces { (text : List ℕ) (ts : List Tok) → AreTokens (length text) text ts → MakeUp ts text }
     ensures slices { (text : List ℕ) (ts : List Tok) → AreTokens (length text) text ts → All (LiesIn text) ts }

@@ -13,8 +13,8 @@ use lexer::{Token, inside};
 use ruletable::{ByteSet, Memory, Span};
 use std::alloc::Global;
 
-/// A token as far as a grammar goes: its kind, with a name and where it stands, a literal's bytes, a class's members, or an
-/// action's template.
+/// A token as far as a grammar goes: its kind, with a name and where it stands, a literal's bytes, a class's members,
+/// or an action's template.
 #[derive(Drop)]
 pub(crate) enum Word<'a> {
     Ident(&'a [u8], Span),
@@ -42,7 +42,8 @@ pub(crate) enum Word<'a> {
 /// `Memory` where a growth was refused.
 pub(crate) fn word_in(alloc: Global, token: Token<'_, Kind>) -> Result<Option<Word<'_>>, Memory>
     requires { IsCut token.kind token.slice.now }
-    ensures { IfOk result (λ said. MatchOption said ((w : words.Word) → Says (tok_of token.entry) w → ⊥) (λ w. Says (tok_of token.entry) (word_of w))) }
+    ensures { IfOk result (λ said. MatchOption said ((w : words.Word) → Says (tok_of token.entry) w → ⊥)
+        (λ w. Says (tok_of token.entry) (word_of w))) }
 {
     match token.kind {
         Kind::Ident => Ok(Some(Word::Ident(token.slice, token.span))),

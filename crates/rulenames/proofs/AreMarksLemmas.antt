@@ -1,6 +1,7 @@
 -- Marks on the ids of a list, and their opposites.
 -- Serves: marks_at, check_peg, redefinitions, check_abnf (notes), run_abnf (right)
-use Rattle.std.proofs.Common.{◌≡◌, ℕ, zero, suc, ◌<◌, ◌==◌, inl, inr, ⊎_elim, Bool, true, false, not, ◌||◌, List, [], ◌∷◌, length, map, get_or, refl, sym, ◌∙◌, ap, subst, arith}
+use Rattle.std.proofs.Common.{◌≡◌, ℕ, zero, suc, ◌<◌, ◌==◌, inl, inr, ⊎_elim, Bool, true, false, not, ◌||◌, List, []}
+use Rattle.std.proofs.Common.{◌∷◌, length, map, get_or, refl, sym, ◌∙◌, ap, subst, arith}
 use Rattle.std.specs.Prelude.{Contains}
 use Rattle.std.specs.List.{list_any}
 use Rattle.std.proofs.lemmas.Bool.{both_ways, cases_Bool}
@@ -20,14 +21,20 @@ in_any : (ids : List ℕ) (id : ℕ) → Contains ids id → list_any (λ other.
 in_any [] id h = absurd (none_of id h)
 in_any (x ∷ ids) id h = elim (eqb_tells x id) [
   | inl e ↦ ap (λ b. b || list_any (λ other. other == id) ids) e.0
-  | inr e ↦ ap (λ b. b || list_any (λ other. other == id) ids) e.0 ∙ in_any ids id (⊎_elim (λ same. absurd (e.1 same)) (λ later. later) (cons_cases x id ids h))
+  | inr e ↦ ap (λ b. b || list_any (λ other. other == id) ids) e.0
+      ∙ in_any ids id (⊎_elim (λ same. absurd (e.1 same)) (λ later. later) (cons_cases x id ids h))
 ]
 
-pub ids_marked : (ids : List ℕ) (count : ℕ) (marks : List Bool) → length marks ≡ count → ((id : ℕ) → id < count → get_or marks id false ≡ list_any (λ other. other == id) ids) →
+pub ids_marked : (ids : List ℕ) (count : ℕ) (marks : List Bool) → length marks ≡ count
+    → ((id : ℕ) → id < count → get_or marks id false ≡ list_any (λ other. other == id) ids) →
     AreMarks (Contains ids) count marks
-ids_marked ids count marks is h = record { count_is = is; exact = λ id lt. ((λ on. any_in ids id (sym (h id lt) ∙ on)), (λ among. h id lt ∙ in_any ids id among)) }
+ids_marked ids count marks is h = record {
+  count_is = is;
+  exact = λ id lt. ((λ on. any_in ids id (sym (h id lt) ∙ on)), (λ among. h id lt ∙ in_any ids id among));
+}
 
-pub mark_tests : (ids : List ℕ) (count : ℕ) (marks : List Bool) → AreMarks (Contains ids) count marks → (id : ℕ) → id < count → get_or marks id false ≡ list_any (λ other. other == id) ids
+pub mark_tests : (ids : List ℕ) (count : ℕ) (marks : List Bool) → AreMarks (Contains ids) count marks → (id : ℕ)
+    → id < count → get_or marks id false ≡ list_any (λ other. other == id) ids
 mark_tests ids count marks m id lt = elim (cases_Bool (get_or marks id false)) [
   | inl on ↦ on ∙ sym (in_any ids id ((m.exact id lt).0 on))
   | inr off ↦ elim (cases_Bool (list_any (λ other. other == id) ids)) [
@@ -37,7 +44,8 @@ mark_tests ids count marks m id lt = elim (cases_Bool (get_or marks id false)) [
 ]
 
 -- the opposite of a mark
-pub opposite : (marks : List Bool) (id : ℕ) → id < length marks → get_or (map not marks) id false ≡ not (get_or marks id false)
+pub opposite : (marks : List Bool) (id : ℕ) → id < length marks → get_or (map not marks) id false
+    ≡ not (get_or marks id false)
 opposite [] id lt = absurd (omega (arith, lt))
 opposite (mark ∷ marks) zero lt = refl
 opposite (mark ∷ marks) (suc id) lt = opposite marks id (omega (arith, lt))

@@ -1,6 +1,7 @@
 -- Tables of names, with one name more.
 -- Serves: add_name, names_of_rules, lower_viable
-use Rattle.std.proofs.Common.{◌≡◌, ℕ, zero, suc, ◌+◌, ◌<◌, cond, List, [], ◌∷◌, ◌++◌, map, take, position, Some, refl, sym, ◌∙◌, ap, subst, arith, append-nil, add-one}
+use Rattle.std.proofs.Common.{◌≡◌, ℕ, zero, suc, ◌+◌, ◌<◌, cond, List, [], ◌∷◌, ◌++◌, map, take, position, Some, refl}
+use Rattle.std.proofs.Common.{sym, ◌∙◌, ap, subst, arith, append-nil, add-one}
 use Rattle.std.specs.Prelude.{slice_get}
 use Rattle.std.proofs.Math.Seq.{take-suc}
 use Rattle.std.proofs.lemmas.Bool.{both_ways}
@@ -17,32 +18,39 @@ use Rattle.rulenames.specs.NameUses.{IsAdded, IsPlace}
 use Rattle.rulenames.proofs.IsPlaceLemmas.{place_among, place_last, place_of, position-none}
 
 -- where a table finds a name
-pub found_in : {T : Type 0} (names : Rules T) (name : List ℕ) → find_in names name ≡ position (same_name names.names name) (names_of names)
+pub found_in : {T : Type 0} (names : Rules T) (name : List ℕ)
+    → find_in names name ≡ position (same_name names.names name) (names_of names)
 found_in names name = sym (position-map (λ rule. rule.name) (same_name names.names name) names.rules)
 
 -- a name is added, or was there
-pub added_by : (old new : Rules (Unit {0})) (rule : table.Rule (Unit {0})) (id : ℕ) → Defines old new rule (Added id) → IsAdded old new rule.name id
+pub added_by : (old new : Rules (Unit {0})) (rule : table.Rule (Unit {0})) (id : ℕ) → Defines old new rule (Added id)
+    → IsAdded old new rule.name id
 added_by old new rule id d =
     let none = position-none (same_name old.names rule.name) (names_of old) (sym (found_in old rule.name) ∙ d.0) in
-    let all : names_of new ≡ names_of old ++ rule.name ∷ [] = ap names_of d.2 ∙ map-append (λ r. r.name) old.rules (rule ∷ []) in
+    let all : names_of new ≡ names_of old ++ rule.name ∷ [] = ap names_of d.2
+    ∙ map-append (λ r. r.name) old.rules (rule ∷ []) in
     record {
       case = ap (λ t. t.names) d.2;
       all = all ∙ ap (λ b. names_of old ++ cond b [] (rule.name ∷ [])) (sym none);
       at = subst (λ l. IsPlace old.names rule.name l id) (sym all)
-          (subst (λ v. IsPlace old.names rule.name (names_of old ++ rule.name ∷ []) v) (length-map old.rules (λ r. r.name) ∙ sym d.1) (place_last old.names rule.name (names_of old) none));
+          (subst (λ v. IsPlace old.names rule.name (names_of old ++ rule.name ∷ []) v)
+          (length-map old.rules (λ r. r.name) ∙ sym d.1) (place_last old.names rule.name (names_of old) none));
     }
 
-pub kept_by : (old new : Rules (Unit {0})) (name : List ℕ) (id : ℕ) → find_in old name ≡ Some id → new ≡ old → IsAdded old new name id
+pub kept_by : (old new : Rules (Unit {0})) (name : List ℕ) (id : ℕ) → find_in old name ≡ Some id → new ≡ old
+    → IsAdded old new name id
 kept_by old new name id found same =
     let p = place_of old.names name (names_of old) id (sym (found_in old name) ∙ found) in
     record {
       case = ap (λ t. t.names) same;
-      all = ap names_of same ∙ sym (append-nil (names_of old)) ∙ ap (λ b. names_of old ++ cond b [] (name ∷ [])) (sym (place_among old.names p));
+      all = ap names_of same ∙ sym (append-nil (names_of old)) ∙ ap (λ b. names_of old ++ cond b [] (name ∷ []))
+          (sym (place_among old.names p));
       at = subst (λ t. IsPlace old.names name (names_of t) id) (sym same) p;
     }
 
 -- the rule of a name
-rule_named : {T : Type 0} (rules : List (table.Rule T)) (id : ℕ) (name : List ℕ) → slice_get (map (λ rule. rule.name) rules) id ≡ Some name →
+rule_named : {T : Type 0} (rules : List (table.Rule T)) (id : ℕ) (name : List ℕ)
+    → slice_get (map (λ rule. rule.name) rules) id ≡ Some name →
     (rule : table.Rule T) × (slice_get rules id ≡ Some rule) × (rule.name ≡ name)
 rule_named [] id name h = absurd (cc h)
 rule_named (rule ∷ rules) zero name h = (rule, refl, cc h)
@@ -50,19 +58,23 @@ rule_named (rule ∷ rules) (suc id) name h = rule_named rules id name h
 
 module _ {T : Type 0} (t : Rules T) (unique : HasUniqueNames t) where
   -- each name of a table is found where it stands
-  pub own_place : (id : ℕ) (name : List ℕ) → slice_get (names_of t) id ≡ Some name → position (same_name t.names name) (names_of t) ≡ Some id
+  pub own_place : (id : ℕ) (name : List ℕ) → slice_get (names_of t) id ≡ Some name
+      → position (same_name t.names name) (names_of t) ≡ Some id
   own_place id name at =
       let r = rule_named t.rules id name at in
       sym (found_in t name) ∙ subst (λ n. find_in t n ≡ Some id) r.2 (unique.own id r.0 r.1)
 
   -- the names in order make a table of them all
-  pub name_next : {B : Type 0} (case : NameCase) → t.names ≡ case → (names new : Rules B) (i : ℕ) (rule : table.Rule B) (done : Defined) → names.names ≡ case →
-      names_of names ≡ take i (names_of t) → slice_get (names_of t) i ≡ Some rule.name → Defines names new rule done → (new.names ≡ case) × (names_of new ≡ take (i + 1) (names_of t))
+  pub name_next : {B : Type 0} (case : NameCase) → t.names ≡ case → (names new : Rules B) (i : ℕ) (rule : table.Rule B)
+      (done : Defined) → names.names ≡ case →
+      names_of names ≡ take i (names_of t) → slice_get (names_of t) i ≡ Some rule.name → Defines names new rule done
+      → (new.names ≡ case) × (names_of new ≡ take (i + 1) (names_of t))
   name_next case same names new i rule (Added id) compares so_far at d = (
     ap (λ n. n.names) d.2 ∙ compares,
     ap names_of d.2 ∙ map-append (λ r. r.name) names.rules (rule ∷ []) ∙ ap (λ l. l ++ rule.name ∷ []) so_far
         ∙ ap (λ x. take i (names_of t) ++ x ∷ []) (sym (get_or_from_slice_get (names_of t) i rule.name [] at))
-        ∙ sym (ap (λ (k : ℕ). take k (names_of t)) (add-one i) ∙ take-suc (names_of t) i [] (slice_get_within (names_of t) i rule.name at)),
+        ∙ sym (ap (λ (k : ℕ). take k (names_of t)) (add-one i)
+        ∙ take-suc (names_of t) i [] (slice_get_within (names_of t) i rule.name at)),
   )
   name_next case same names new i rule (Duplicate id) compares so_far at d =
       let here = rw (compares, so_far) at (sym (found_in names rule.name) ∙ d.0) in

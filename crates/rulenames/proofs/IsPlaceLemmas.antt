@@ -1,6 +1,7 @@
 -- Where a list has a name first.
 -- Serves: add_name, add_use, names_of_rules, check_peg, check_abnf (notes, sound)
-use Rattle.std.proofs.Common.{◌≡◌, ℕ, zero, suc, ◌<◌, ◌==◌, inl, inr, Bool, true, false, ◌||◌, cond, not, nat_lt, List, [], ◌∷◌, ◌++◌, length, get_or, position, Some, None, refl, sym, ◌∙◌, ap, arith}
+use Rattle.std.proofs.Common.{◌≡◌, ℕ, zero, suc, ◌<◌, ◌==◌, inl, inr, Bool, true, false, ◌||◌, cond, not, nat_lt, List}
+use Rattle.std.proofs.Common.{[], ◌∷◌, ◌++◌, length, get_or, position, Some, None, refl, sym, ◌∙◌, ap, arith}
 use Rattle.std.specs.List.{list_any, prefix_len}
 use Rattle.std.proofs.lemmas.Bool.{cases_Bool}
 use Rattle.std.proofs.lemmas.Bool.Decides.{eqb_tells, nat_tests}
@@ -13,7 +14,8 @@ use Rattle.rulenames.specs.FirstUses.{is_among}
 use Rattle.rulenames.specs.NameUses.{IsPlace, here, there}
 
 -- an element passes exactly where there is a first one that does
-any-counted : {X : Type 0} (p : X → Bool) (xs : List X) → list_any p xs ≡ nat_lt (prefix_len (λ x. not (p x)) xs) (length xs)
+any-counted : {X : Type 0} (p : X → Bool) (xs : List X) → list_any p xs ≡ nat_lt (prefix_len (λ x. not (p x)) xs)
+    (length xs)
 any-counted p [] = grind (arith, nat_tests)
 any-counted p (x ∷ xs) = elim (cases_Bool (p x)) [
   | inl e ↦ rw e (grind (arith, nat_tests))
@@ -40,7 +42,8 @@ unequal i j differ = elim (eqb_tells i j) [ inl e ↦ absurd (differ e.1) | inr 
 
 one_less : (i j : ℕ) → (suc i == suc j) ≡ (i == j)
 one_less i j = elim (eqb_tells i j) [
-  | inl e ↦ (elim (eqb_tells (suc i) (suc j)) [ inl more ↦ more.0 | inr other ↦ absurd (other.1 (ap suc e.1)) ]) ∙ sym e.0
+  | inl e ↦ (elim (eqb_tells (suc i) (suc j)) [ inl more ↦ more.0 | inr other ↦ absurd (other.1 (ap suc e.1)) ])
+      ∙ sym e.0
   | inr e ↦ unequal (suc i) (suc j) (λ is. e.1 (omega (arith, is))) ∙ sym e.0
 ]
 
@@ -53,16 +56,22 @@ module _ (case : NameCase) where
   as_same a b c is = ap (bytes_eq (key_of case c)) ((bytes_eq-Decides (key_of case a) (key_of case b)).0 is)
 
   turned : (a b : List ℕ) → same_name case a b ≡ true → same_name case b a ≡ true
-  turned a b is = (bytes_eq-Decides (key_of case b) (key_of case a)).1 (sym ((bytes_eq-Decides (key_of case a) (key_of case b)).0 is))
+  turned a b is = (bytes_eq-Decides (key_of case b) (key_of case a)).1
+      (sym ((bytes_eq-Decides (key_of case a) (key_of case b)).0 is))
 
   either_way : (a b : List ℕ) → same_name case a b ≡ same_name case b a
   either_way a b = elim (cases_Bool (same_name case a b)) [
     | inl e ↦ e ∙ sym (turned a b e)
-    | inr e ↦ elim (cases_Bool (same_name case b a)) [ inl back ↦ turned b a back ∙ sym back | inr other ↦ e ∙ sym other ]
+    | inr e ↦ elim (cases_Bool (same_name case b a)) [
+      | inl back ↦ turned b a back ∙ sym back
+      | inr other ↦ e
+          ∙ sym other
+    ]
   ]
 
   -- places
-  pub place_append : {name : List ℕ} {xs : List (List ℕ)} {i : ℕ} (ys : List (List ℕ)) → IsPlace case name xs i → IsPlace case name (xs ++ ys) i
+  pub place_append : {name : List ℕ} {xs : List (List ℕ)} {i : ℕ} (ys : List (List ℕ)) → IsPlace case name xs i
+      → IsPlace case name (xs ++ ys) i
   place_append ys (here is) = here is
   place_append ys (there other p) = there other (place_append ys p)
 
@@ -72,24 +81,33 @@ module _ (case : NameCase) where
 
   pub place_among : {name : List ℕ} {xs : List (List ℕ)} {i : ℕ} → IsPlace case name xs i → is_among case xs name ≡ true
   place_among {name = name} (here {first = first} {names = names} is) = ap (λ b. b || is_among case names name) is
-  place_among {name = name} (there {first = first} {names = names} other p) = or_else (same_name case name first) (is_among case names name) (place_among p)
+  place_among {name = name} (there {first = first} {names = names} other p) =
+      or_else (same_name case name first) (is_among case names name) (place_among p)
 
-  pub place_last : (name : List ℕ) (xs : List (List ℕ)) → is_among case xs name ≡ false → IsPlace case name (xs ++ name ∷ []) (length xs)
+  pub place_last : (name : List ℕ) (xs : List (List ℕ)) → is_among case xs name ≡ false
+      → IsPlace case name (xs ++ name ∷ []) (length xs)
   place_last name [] none = here (own_name name)
-  place_last name (x ∷ xs) none = let two = neither (same_name case name x) (is_among case xs name) none in there two.0 (place_last name xs two.1)
+  place_last name (x ∷ xs) none = let two = neither (same_name case name x) (is_among case xs name) none in
+      there two.0 (place_last name xs two.1)
 
-  place_by : (name : List ℕ) (xs : List (List ℕ)) (i : ℕ) → i < length xs → same_name case name (get_or xs i []) ≡ true →
+  place_by : (name : List ℕ) (xs : List (List ℕ)) (i : ℕ) → i < length xs → same_name case name (get_or xs i [])
+      ≡ true →
       ((j : ℕ) → j < i → same_name case name (get_or xs j []) ≡ false) → IsPlace case name xs i
   place_by name [] i lt is before = absurd (omega (arith, lt))
   place_by name (x ∷ xs) zero lt is before = here is
-  place_by name (x ∷ xs) (suc i) lt is before = there (before 0 (omega arith)) (place_by name xs i (omega (arith, lt)) is (λ j less. before (suc j) (omega (arith, less))))
+  place_by name (x ∷ xs) (suc i) lt is before = there (before 0 (omega arith))
+      (place_by name xs i (omega (arith, lt)) is (λ j less. before (suc j) (omega (arith, less))))
 
-  pub place_of : (name : List ℕ) (xs : List (List ℕ)) (i : ℕ) → position (same_name case name) xs ≡ Some i → IsPlace case name xs i
+  pub place_of : (name : List ℕ) (xs : List (List ℕ)) (i : ℕ) → position (same_name case name) xs ≡ Some i
+      → IsPlace case name xs i
   place_of name xs i h = let p = position-Some (same_name case name) xs i [] h in place_by name xs i p.0 p.1 p.2
 
   -- names that compare alike have one place, and others have not
-  pub same_place : (a b : List ℕ) {xs : List (List ℕ)} {i j : ℕ} → IsPlace case a xs i → IsPlace case b xs j → (i == j) ≡ same_name case b a
+  pub same_place : (a b : List ℕ) {xs : List (List ℕ)} {i j : ℕ} → IsPlace case a xs i → IsPlace case b xs j
+      → (i == j) ≡ same_name case b a
   same_place a b (here {first = first} is) (here other) = sym (as_same a first b is ∙ other)
-  same_place a b (here {first = first} is) (there {i = j} other p) = unequal 0 (suc j) (λ e. omega (arith, e)) ∙ sym (as_same a first b is ∙ other)
-  same_place a b (there {first = first} {i = i} other p) (here is) = unequal (suc i) 0 (λ e. omega (arith, e)) ∙ sym (either_way b a ∙ as_same b first a is ∙ other)
+  same_place a b (here {first = first} is) (there {i = j} other p) = unequal 0 (suc j) (λ e. omega (arith, e))
+      ∙ sym (as_same a first b is ∙ other)
+  same_place a b (there {first = first} {i = i} other p) (here is) = unequal (suc i) 0 (λ e. omega (arith, e))
+      ∙ sym (either_way b a ∙ as_same b first a is ∙ other)
   same_place a b (there {i = i} other p) (there {i = j} unlike q) = one_less i j ∙ same_place a b p q

@@ -11,4 +11,5 @@ is_among case names name = list_any (same_name case name) names
 -- the names of a list that are not known, each once, in the order and the spelling in which they come first
 abbrev pub news : NameCase → List (List ℕ) → List (List ℕ) → List (List ℕ)
 news case known [] = []
-news case known (name ∷ names) = cond (is_among case known name) (news case known names) (name ∷ news case (known ++ name ∷ []) names)
+news case known (name ∷ names) = cond (is_among case known name) (news case known names)
+    (name ∷ news case (known ++ name ∷ []) names)

@@ -6,8 +6,10 @@ use Rattle.rulenames.specs.FirstUses.{news}
 
 -- the place of the first name of a list that is the name, as names compare
 pub data IsPlace (case : NameCase) (name : List ℕ) : List (List ℕ) → ℕ → Type 0 where
-  here : {first : List ℕ} {names : List (List ℕ)} → same_name case name first ≡ true → IsPlace case name (first ∷ names) 0
-  there : {first : List ℕ} {names : List (List ℕ)} {i : ℕ} → same_name case name first ≡ false → IsPlace case name names i → IsPlace case name (first ∷ names) (suc i)
+  here : {first : List ℕ} {names : List (List ℕ)} → same_name case name first ≡ true
+      → IsPlace case name (first ∷ names) 0
+  there : {first : List ℕ} {names : List (List ℕ)} {i : ℕ} → same_name case name first ≡ false
+      → IsPlace case name names i → IsPlace case name (first ∷ names) (suc i)
 
 -- the table has the name, which was added if it was not there, at that id
 pub record IsAdded (old new : Rules (Unit {0})) (name : List ℕ) (id : ℕ) : Type 0 where
@@ -18,10 +20,12 @@ pub record IsAdded (old new : Rules (Unit {0})) (name : List ℕ) (id : ℕ) : T
 -- of each use the id of its name
 pub data AreIdsOf (case : NameCase) (names : List (List ℕ)) : List (List ℕ) → List ℕ → Type 0 where
   no_uses : AreIdsOf case names [] []
-  one_use : {used : List ℕ} {uses : List (List ℕ)} {id : ℕ} {ids : List ℕ} → IsPlace case used names id → AreIdsOf case names uses ids → AreIdsOf case names (used ∷ uses) (id ∷ ids)
+  one_use : {used : List ℕ} {uses : List (List ℕ)} {id : ℕ} {ids : List ℕ} → IsPlace case used names id
+      → AreIdsOf case names uses ids → AreIdsOf case names (used ∷ uses) (id ∷ ids)
 
 -- the names are those known, and behind them the new ones among those seen; of each of these uses the row has the id
-pub record IsScanned (case : NameCase) (known seen uses : List (List ℕ)) (names : Rules (Unit {0})) (row : List ℕ) : Type 0 where
+pub record IsScanned (case : NameCase) (known seen uses : List (List ℕ)) (names : Rules (Unit {0}))
+    (row : List ℕ) : Type 0 where
   pub compares : names.names ≡ case
   pub all : names_of names ≡ known ++ news case known seen
   pub ids : AreIdsOf case (names_of names) uses row

@@ -1,4 +1,5 @@
-//! What the checks of each grammar language share: the names of a grammar by id, marks on ids, and notes on what is marked.
+//! What the checks of each grammar language share: the names of a grammar by id, marks on ids, and notes on what is
+//! marked.
 #![tactic(auto)]
 
 mod id_marks;

@@ -19,7 +19,8 @@ pub fn note_marked<T>(
     notes: &mut Vec<Note>,
 ) -> Result<(), Memory>
     requires { length marks.now ≤ length rules.now.rules }
-    ensures { IfOk result (λ _. map said_of notes.new.items ≡ map said_of notes.old.items ++ map (said kind) (chosen marks.now (names_of rules.now))) }
+    ensures { IfOk result (λ _. map said_of notes.new.items ≡ map said_of notes.old.items
+        ++ map (said kind) (chosen marks.now (names_of rules.now))) }
 {
     for id in 0..marks.len() {
         if marks[id] {
@@ -40,7 +41,8 @@ pub fn note_undefined(
     count: usize,
     notes: &mut Vec<Note>,
 ) -> Result<(), Memory>
-    ensures { IfOk result (λ _. map said_of notes.new.items ≡ map said_of notes.old.items ++ map (said NoteKind.Undefined) (drop count (names_of names.now))) }
+    ensures { IfOk result (λ _. map said_of notes.new.items ≡ map said_of notes.old.items
+        ++ map (said NoteKind.Undefined) (drop count (names_of names.now))) }
 {
     for id in count..names.len() {
         let name = Vec::from_slice(alloc, names.name(id))?;

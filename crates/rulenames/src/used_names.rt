@@ -52,7 +52,8 @@ pub fn add_name(name: &[u8], names: &mut RuleTable<()>) -> Result<usize, Memory>
 /// `Memory` if an allocation fails.
 pub fn add_use(name: &[u8], names: &mut RuleTable<()>, row: &mut Vec<usize>) -> Result<(), Memory>
     ensures case { IfOk result (λ _. names.new.names ≡ names.old.names) }
-    ensures scanned { IfOk result (λ _. (case : NameCase) (known seen uses : List (List ℕ)) → IsScanned case known seen uses names.old row.old.items →
+    ensures scanned { IfOk result (λ _. (case : NameCase) (known seen uses : List (List ℕ))
+        → IsScanned case known seen uses names.old row.old.items →
         IsScanned case known (seen ++ name.now ∷ []) (uses ++ name.now ∷ []) names.new row.new.items) }
 {
     let id = add_name(name, names)?;

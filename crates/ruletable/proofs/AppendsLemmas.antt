@@ -1,6 +1,7 @@
 -- How steps of a writer join, and how those of a reader do.
 -- Serves: write_pieces, write_whole
-use Rattle.std.proofs.Common.{◌≡◌, ℕ, ◌+◌, Option, Some, None, List, [], ◌∷◌, ◌++◌, length, take, drop, refl, sym, ◌∙◌, ap, append_assoc, arith, ◌<◌, suc, zero, get_or}
+use Rattle.std.proofs.Common.{◌≡◌, ℕ, ◌+◌, Option, Some, None, List, [], ◌∷◌, ◌++◌, length, take, drop, refl, sym, ◌∙◌}
+use Rattle.std.proofs.Common.{ap, append_assoc, arith, ◌<◌, suc, zero, get_or}
 use Rattle.std.specs.List.{flat_map}
 use Rattle.std.proofs.Math.Seq.{take-add}
 use Rattle.std.proofs.lemmas.List.{take-append-drop, append-nil}
@@ -31,7 +32,8 @@ pub Appends-same : (a : Option (List ℕ)) → Appends a a []
 Appends-same None = tt
 Appends-same (Some a) = sym (append-nil a)
 
-pub Consumes-join : (a b c : Option (List ℕ)) (xs ys : List ℕ) → Consumes a b xs → Consumes b c ys → Consumes a c (xs ++ ys)
+pub Consumes-join : (a b c : Option (List ℕ)) (xs ys : List ℕ) → Consumes a b xs → Consumes b c ys
+    → Consumes a c (xs ++ ys)
 Consumes-join None b c xs ys f s = tt
 Consumes-join (Some a) None c xs ys f s = absurd f
 Consumes-join (Some a) (Some b) None xs ys f s = absurd s
@@ -40,7 +42,8 @@ Consumes-join (Some a) (Some b) (Some c) xs ys f s = rw (f, s, append_assoc)
 -- the first `at` bytes, and then n more
 pub Appends-more : (a b c : Option (List ℕ)) (at n : ℕ) (bytes : List ℕ) →
     Appends a b (take at bytes) → Appends b c (take n (drop at bytes)) → Appends a c (take (at + n) bytes)
-Appends-more a b c at n bytes f s = rw (take-add at n bytes) (Appends-join a b c (take at bytes) (take n (drop at bytes)) f s)
+Appends-more a b c at n bytes f s = rw (take-add at n bytes)
+    (Appends-join a b c (take at bytes) (take n (drop at bytes)) f s)
 
 -- beginnings
 pub IsBeginning-take : (n : ℕ) (xs : List ℕ) → IsBeginning (take n xs) xs
@@ -55,14 +58,16 @@ IsBeginning-nil xs = (xs, refl)
 pub IsBeginning-join : (part whole more : List ℕ) → IsBeginning part whole → IsBeginning part (whole ++ more)
 IsBeginning-join part whole more h = (h.0 ++ more, ap (λ w. w ++ more) h.1 ∙ append_assoc part h.0 more)
 
-pub IsBeginning-after : (front part whole : List ℕ) → IsBeginning part whole → IsBeginning (front ++ part) (front ++ whole)
+pub IsBeginning-after : (front part whole : List ℕ) → IsBeginning part whole
+    → IsBeginning (front ++ part) (front ++ whole)
 IsBeginning-after front part whole h = (h.0, ap (λ w. front ++ w) h.1 ∙ sym (append_assoc front part h.0))
 
 pub IsBeginning-trans : (a b c : List ℕ) → IsBeginning a b → IsBeginning b c → IsBeginning a c
 IsBeginning-trans a b c f s = (f.0 ++ s.0, s.1 ∙ ap (λ w. w ++ s.0) f.1 ∙ append_assoc a f.0 s.0)
 
 -- a whole step, and then a part of the next one
-pub AppendsPart-join : (a b c : Option (List ℕ)) (xs ys : List ℕ) → Appends a b xs → AppendsPart b c ys → AppendsPart a c (xs ++ ys)
+pub AppendsPart-join : (a b c : Option (List ℕ)) (xs ys : List ℕ) → Appends a b xs → AppendsPart b c ys
+    → AppendsPart a c (xs ++ ys)
 AppendsPart-join a b c xs ys f s = (xs ++ s.0, IsBeginning-after xs s.0 ys s.1, Appends-join a b c xs s.0 f s.2)
 
 -- a part of the first of two steps
@@ -70,7 +75,8 @@ pub AppendsPart-first : (a b : Option (List ℕ)) (xs ys : List ℕ) → Appends
 AppendsPart-first a b xs ys s = (s.0, IsBeginning-join s.0 xs ys s.1, s.2)
 
 -- a whole step, and then one that may fail
-pub Writes-then : {A E : Type 0} (a b c : Option (List ℕ)) (xs ys : List ℕ) (r : Result A E) → Appends a b xs → Writes b c ys r → Writes a c (xs ++ ys) r
+pub Writes-then : {A E : Type 0} (a b c : Option (List ℕ)) (xs ys : List ℕ) (r : Result A E) → Appends a b xs
+    → Writes b c ys r → Writes a c (xs ++ ys) r
 Writes-then a b c xs ys (Ok x) f s = Appends-join a b c xs ys f s
 Writes-then a b c xs ys (Err e) f s = AppendsPart-join a b c xs ys f s
 
@@ -80,12 +86,15 @@ pub flat_map-at : {X A : Type 0} (f : X → List A) (xs : List X) (i : ℕ) (d :
 flat_map-at f [] i d h = absurd (omega arith)
 flat_map-at f (x ∷ xs) zero d h = refl
 flat_map-at f (x ∷ xs) (suc i) d h =
-    let rest : flat_map f xs ≡ (flat_map f (take i xs) ++ f (get_or xs i d)) ++ flat_map f (drop (suc i) xs) = flat_map-at f xs i d (omega arith) in
+    let rest : flat_map f xs ≡ (flat_map f (take i xs) ++ f (get_or xs i d)) ++ flat_map f (drop (suc i) xs) =
+    flat_map-at f xs i d (omega arith) in
     simp (rest, append_assoc)
 
 -- the pieces before one, and a part of it
-pub AppendsPart-at : {X : Type 0} (f : X → List ℕ) (xs : List X) (i : ℕ) (d : X) (a b c : Option (List ℕ)) → i < length xs →
+pub AppendsPart-at : {X : Type 0} (f : X → List ℕ) (xs : List X) (i : ℕ) (d : X) (a b c : Option (List ℕ))
+    → i < length xs →
     Appends a b (flat_map f (take i xs)) → AppendsPart b c (f (get_or xs i d)) → AppendsPart a c (flat_map f xs)
 AppendsPart-at f xs i d a b c h front part =
-    rw (flat_map-at f xs i d h) (AppendsPart-first a c (flat_map f (take i xs) ++ f (get_or xs i d)) (flat_map f (drop (suc i) xs))
+    rw (flat_map-at f xs i d h) (AppendsPart-first a c (flat_map f (take i xs) ++ f (get_or xs i d))
+    (flat_map f (drop (suc i) xs))
     (AppendsPart-join a b c (flat_map f (take i xs)) (f (get_or xs i d)) front part))

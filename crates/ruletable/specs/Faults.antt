@@ -1,7 +1,8 @@
 -- The line that each fault of a grammar's text has on the error output.
 use Rattle.std.specs.Prelude.{ℕ, List, ◌++◌, codes, decimal}
 use Rattle.ruletable.specs.declared.fault.ReadFault.{ReadFault}
-use Rattle.ruletable.specs.declared.fault.ReadFault.TheVariants.{Syntax, Depth, CodePredicate, TooLong, Memory, NumberTooLarge}
+use Rattle.ruletable.specs.declared.fault.ReadFault.TheVariants.{Syntax, Depth, CodePredicate, TooLong, Memory}
+use Rattle.ruletable.specs.declared.fault.ReadFault.TheVariants.{NumberTooLarge}
 
 -- `line N: ` and what is wrong there
 abbrev pub at_line : ℕ → List ℕ → List ℕ

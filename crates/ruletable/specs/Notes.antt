@@ -2,7 +2,8 @@
 use Rattle.std.specs.Prelude.{ℕ, List, ◌++◌, codes}
 use Rattle.ruletable.specs.declared.note.Note.{Note}
 use Rattle.ruletable.specs.declared.note.NoteKind.{NoteKind}
-use Rattle.ruletable.specs.declared.note.NoteKind.TheVariants.{Redefined, ExtendedEarly, Undefined, Prose, Unused, LeftRecursion, Loop}
+use Rattle.ruletable.specs.declared.note.NoteKind.TheVariants.{Redefined, ExtendedEarly, Undefined, Prose, Unused}
+use Rattle.ruletable.specs.declared.note.NoteKind.TheVariants.{LeftRecursion, Loop}
 
 -- what a note says: its kind, and the name of which it speaks
 pub record Said : Type 0 where

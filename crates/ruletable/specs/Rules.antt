@@ -1,5 +1,6 @@
 -- What contracts see of a table of rules: a list of rules in order of definition, no two of one name.
-use Rattle.std.specs.Prelude.{◌≡◌, ℕ, zero, suc, Bool, bytes_eq, List, [], ◌∷◌, ◌++◌, length, map, position, slice_get, Option, None, Some, Contains, ◌<◌}
+use Rattle.std.specs.Prelude.{◌≡◌, ℕ, zero, suc, Bool, bytes_eq, List, [], ◌∷◌, ◌++◌, length, map, position, slice_get}
+use Rattle.std.specs.Prelude.{Option, None, Some, Contains, ◌<◌}
 use Rattle.std.specs.Str.{str_to_ascii_lowercase}
 use Rattle.ruletable.specs.declared.span.Span.{Span}
 use Rattle.ruletable.specs.declared.table.Defined.{Defined}
@@ -46,7 +47,8 @@ pub record HasUniqueNames {E : Type 0} (table : Rules E) : Type 0 where
 -- a new name adds its rule as the last one, and a name that is there changes nothing
 abbrev pub Defines : {E : Type 0} → Rules E → Rules E → Rule E → Defined → Type 0
 Defines old new rule (Added id) =
-    (find_in old rule.name ≡ None) × (id ≡ length old.rules) × (new ≡ record { names = old.names; rules = old.rules ++ rule ∷ [] })
+    (find_in old rule.name ≡ None) × (id ≡ length old.rules)
+    × (new ≡ record { names = old.names; rules = old.rules ++ rule ∷ [] })
 Defines old new rule (Duplicate id) = (find_in old rule.name ≡ Some id) × (new ≡ old)
 
 -- the rules, with w as the body of the rule with that id

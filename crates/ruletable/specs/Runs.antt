@@ -1,5 +1,6 @@
 -- The runs of a set of bytes: the maximal ranges of its members.
-use Rattle.std.specs.Prelude.{◌≡◌, ℕ, zero, suc, ◌+◌, ◌-◌, ◌<◌, ◌≤◌, ◌==◌, ◌||◌, ◌&&◌, nat_le, not, Bool, true, false, if◌then◌else◌, List, [], ◌∷◌, Option, None, Some, get_or}
+use Rattle.std.specs.Prelude.{◌≡◌, ℕ, zero, suc, ◌+◌, ◌-◌, ◌<◌, ◌≤◌, ◌==◌, ◌||◌, ◌&&◌, nat_le, not, Bool, true, false}
+use Rattle.std.specs.Prelude.{if◌then◌else◌, List, [], ◌∷◌, Option, None, Some, get_or}
 
 -- the set's test of a number
 abbrev pub test_of : List Bool → ℕ → Bool
@@ -37,7 +38,8 @@ abbrev pub AreApart : ℕ → List (ℕ × ℕ) → Type 0
 AreApart n [] = Unit {0}
 AreApart n (run ∷ runs) = (n ≤ run.0) × (run.0 ≤ run.1) × AreApart (run.1 + 2) runs
 
--- the maximal ranges of a set's bytes, in ascending order: ranges with a number left out between each two, which hold the set's bytes and nothing else
+-- the maximal ranges of a set's bytes, in ascending order: ranges with a number left out between each two, which hold
+-- the set's bytes and nothing else
 pub record AreRuns (set : List Bool) (runs : List (ℕ × ℕ)) : Type 0 where
   pub apart : AreApart 0 runs
   pub members : (b : ℕ) → b < 256 → in_runs runs b ≡ get_or set b false

@@ -1,5 +1,6 @@
 //! Sets of bytes.
-ghost use Rattle.std.specs.Prelude.{◌≡◌, ℕ, ◌<◌, ◌||◌, ◌&&◌, ◌==◌, nat_le, not, Bool, true, false, List, length, get_or};
+ghost use Rattle.std.specs.Prelude.{◌≡◌, ℕ, ◌<◌, ◌||◌, ◌&&◌, ◌==◌, nat_le, not, Bool, true, false, List, length};
+ghost use Rattle.std.specs.Prelude.{get_or};
 ghost use Rattle.ruletable.specs.Runs.{AreRuns, IsFirst, runs_of, test_of};
 
 use crate::runs::Runs;
@@ -78,7 +79,8 @@ impl ByteSet {
     /// Makes each byte from `first` to `last` a member. Where `first` is greater than `last`, the set stays as it is.
     pub fn add_range(&mut self, first: u8, last: u8)
         ensures count { length self.new ≡ length self.old }
-        ensures members { (k : ℕ) → get_or self.new k false ≡ (get_or self.old k false || (nat_le first k && nat_le k last)) }
+        ensures members { (k : ℕ) → get_or self.new k false
+            ≡ (get_or self.old k false || (nat_le first k && nat_le k last)) }
     {
         for b in first..=last {
             self.put(b);

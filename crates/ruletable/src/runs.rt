@@ -6,7 +6,8 @@ ghost use Rattle.ruletable.specs.Runs.{runs_of, test_of};
 use crate::byte_set::ByteSet;
 use std::marker::Model;
 
-/// The maximal ranges of a set's members that are still to come, each with its first and its last byte, in ascending order.
+/// The maximal ranges of a set's members that are still to come, each with its first and its last byte, in ascending
+/// order.
 #[derive(Drop)]
 pub struct Runs<'a> {
     set: &'a ByteSet,

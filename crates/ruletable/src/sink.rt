@@ -95,7 +95,8 @@ impl<T: io::Write> Sink for SinkOf<T> {
     }
 }
 
-/// Writes all of `bytes`, in as many calls as it takes. `WriteFault` where the writer fails; then a beginning is written.
+/// Writes all of `bytes`, in as many calls as it takes. `WriteFault` where the writer fails; then a beginning is
+/// written.
 pub fn write_whole<W: Sink>(w: &mut W, bytes: &[u8]) -> Result<(), WriteFault>
     ensures bytes { Writes (W.contents w.old) (W.contents w.new) bytes.now result }
     ensures flag { Flags (W.failed w.old) (W.failed w.new) result }

@@ -100,7 +100,8 @@ impl<E> RuleTable<E> {
     pub fn define(&mut self, name: &[u8], body: E, span: Span) -> Result<Defined, Memory>
     where
         E: Drop,
-        ensures defines { IfOk result (Defines self.old self.new (record { name = name.now; body = body; span = span })) }
+        ensures defines { IfOk result (Defines self.old self.new
+            (record { name = name.now; body = body; span = span })) }
         ensures unchanged { OnErr result (self.new ≡ self.old) }
     {
         let alloc = *self.rows.allocator();

@@ -1,6 +1,8 @@
 -- How inputs agree with what was seen, as more is seen and as a window slides.
 -- Serves: run_peg (right)
-use Rattle.std.proofs.Common.{◌≡◌, ℕ, ◌+◌, ◌<◌, ◌≤◌, Bool, true, false, Option, Some, None, List, [], ◌++◌, length, take, drop, refl, sym, ◌∙◌, ap, subst, arith, inl, inr, nat_lt, append_assoc, length-append, length-take, if◌then◌else◌}
+use Rattle.std.proofs.Common.{◌≡◌, ℕ, ◌+◌, ◌<◌, ◌≤◌, Bool, true, false, Option, Some, None, List, [], ◌++◌, length}
+use Rattle.std.proofs.Common.{take, drop, refl, sym, ◌∙◌, ap, subst, arith, inl, inr, nat_lt, append_assoc}
+use Rattle.std.proofs.Common.{length-append, length-take, if◌then◌else◌}
 use Rattle.std.proofs.Math.Seq.{take-append-add}
 use Rattle.std.proofs.lemmas.Bool.{cases_lt}
 use Rattle.std.proofs.lemmas.Grind.{common_steps}
@@ -15,14 +17,17 @@ use Rattle.toolrun.specs.Agrees.{Agrees}
 use Rattle.toolrun.specs.Input.{Input, input_from, bounded}
 
 -- what is seen when more was read
-module _ {R : Type 0} (remaining : R → Option (List ℕ)) (old new : Feed R) (grows : Grows remaining old new) (before : List ℕ) where
+module _ {R : Type 0} (remaining : R → Option (List ℕ)) (old new : Feed R) (grows : Grows remaining old new)
+    (before : List ℕ) where
   longer : (before ++ bytes_of old) ++ grows.more ≡ before ++ bytes_of new
   longer = append_assoc before (bytes_of old) grows.more ∙ ap (λ t. before ++ t) (sym grows.bytes)
 
-  pub earlier : (input : Input) → Agrees (before ++ bytes_of new) (flow_of new) input → Agrees (before ++ bytes_of old) (flow_of old) input
+  pub earlier : (input : Input) → Agrees (before ++ bytes_of new) (flow_of new) input
+      → Agrees (before ++ bytes_of old) (flow_of old) input
   earlier input agrees = record {
     more = grows.more ++ agrees.more;
-    bytes = agrees.bytes ∙ ap (λ t. t ++ agrees.more) (sym longer) ∙ append_assoc (before ++ bytes_of old) grows.more agrees.more;
+    bytes = agrees.bytes ∙ ap (λ t. t ++ agrees.more) (sym longer) ∙ append_assoc (before ++ bytes_of old) grows.more
+        agrees.more;
     ended = λ e. elim grows.stays [
       | inl was ↦ absurd (cc)
       | inr same ↦ let a = agrees.ended (same.0 ∙ e) in (rw (same.1, a.0) refl, a.1)
@@ -33,29 +38,37 @@ module _ {R : Type 0} (remaining : R → Option (List ℕ)) (old new : Feed R) (
     ];
   }
 
-  pub seen_more : (first : Option (List ℕ)) → Consumes first (remaining (reader_of old)) (before ++ bytes_of old) → Consumes first (remaining (reader_of new)) (before ++ bytes_of new)
+  pub seen_more : (first : Option (List ℕ)) → Consumes first (remaining (reader_of old)) (before ++ bytes_of old)
+      → Consumes first (remaining (reader_of new)) (before ++ bytes_of new)
   seen_more first c =
       subst (λ (t : List ℕ). Consumes first (remaining (reader_of new)) t) longer
-      (Consumes-join first (remaining (reader_of old)) (remaining (reader_of new)) (before ++ bytes_of old) grows.more c grows.gives)
+      (Consumes-join first (remaining (reader_of old)) (remaining (reader_of new)) (before ++ bytes_of old) grows.more c
+      grows.gives)
 
 -- what is seen when the window slides
 pub slides : (before items : List ℕ) (n : ℕ) → (before ++ take n items) ++ drop n items ≡ before ++ items
-slides before items n = append_assoc before (take n items) (drop n items) ∙ ap (λ t. before ++ t) (take-append-drop n items)
+slides before items n = append_assoc before (take n items) (drop n items)
+    ∙ ap (λ t. before ++ t) (take-append-drop n items)
 
-pub slides-len : (before items : List ℕ) (n start : ℕ) → length before ≡ start → n ≤ length items → length (before ++ take n items) ≡ start + n
+pub slides-len : (before items : List ℕ) (n start : ℕ) → length before ≡ start → n ≤ length items
+    → length (before ++ take n items) ≡ start + n
 slides-len before items n start e h = simp (length-append, length-take) (omega arith)
 
 below_limit : (given : List ℕ) → length given < input_limit → bounded given ≡ record { bytes = given; fault = false }
 below_limit given h =
     let e : nat_lt (length given) input_limit ≡ true = grind (arith, common_steps) in
-    ap (λ b. if b then record { bytes = given; fault = false } else record { bytes = take input_limit given; fault = true }) e
+    ap (λ b. if b then record { bytes = given; fault = false } else
+    record { bytes = take input_limit given; fault = true }) e
 
-at_limit : (given : List ℕ) → input_limit ≤ length given → bounded given ≡ record { bytes = take input_limit given; fault = true }
+at_limit : (given : List ℕ) → input_limit ≤ length given
+    → bounded given ≡ record { bytes = take input_limit given; fault = true }
 at_limit given h =
     let e : nat_lt (length given) input_limit ≡ false = grind (arith, common_steps) in
-    ap (λ b. if b then record { bytes = given; fault = false } else record { bytes = take input_limit given; fault = true }) e
+    ap (λ b. if b then record { bytes = given; fault = false } else
+    record { bytes = take input_limit given; fault = true }) e
 
-module _ (xs seen rest : List ℕ) (left : ℕ) (flow : Flow) (is : xs ≡ seen ++ rest) (count : left + length seen ≡ input_limit)
+module _ (xs seen rest : List ℕ) (left : ℕ) (flow : Flow) (is : xs ≡ seen ++ rest)
+    (count : left + length seen ≡ input_limit)
     (ended : flow ≡ Ended → (rest ≡ []) × (0 < left)) (broken : flow ≡ Broken → left ≡ 0) where
   whole : length xs ≡ length seen + length rest
   whole = ap length is ∙ length-append seen rest
@@ -71,7 +84,8 @@ module _ (xs seen rest : List ℕ) (left : ℕ) (flow : Flow) (is : xs ≡ seen 
   cut_is : take input_limit xs ≡ seen ++ take left rest
   cut_is =
       let e : length seen + left ≡ input_limit = omega (arith, count) in
-      subst (λ (n : ℕ). take n xs ≡ seen ++ take left rest) e (ap (take (length seen + left)) is ∙ take-append-add seen rest left)
+      subst (λ (n : ℕ). take n xs ≡ seen ++ take left rest) e
+      (ap (take (length seen + left)) is ∙ take-append-add seen rest left)
 
   cut_agrees : input_limit ≤ length xs → Agrees seen flow (record { bytes = take input_limit xs; fault = true })
   cut_agrees above = record {
@@ -88,14 +102,18 @@ module _ (xs seen rest : List ℕ) (left : ℕ) (flow : Flow) (is : xs ≡ seen 
   ]
 
 -- the input of a run agrees with what was seen of it
-pub agrees_of : (xs seen : List ℕ) (new : Option (List ℕ)) (failed : Bool) (left : ℕ) (flow : Flow) → Consumes (Some xs) new seen → left + length seen ≡ input_limit →
+pub agrees_of : (xs seen : List ℕ) (new : Option (List ℕ)) (failed : Bool) (left : ℕ) (flow : Flow)
+    → Consumes (Some xs) new seen → left + length seen ≡ input_limit →
     IsToldBy new failed left flow → Agrees seen flow (input_from xs seen failed)
 agrees_of xs seen None failed left flow c count fed = absurd c
-agrees_of xs seen (Some rest) false left Open c count fed = given_agrees xs seen rest left Open c count (λ e. absurd (cc)) (λ e. absurd (cc))
+agrees_of xs seen (Some rest) false left Open c count fed = given_agrees xs seen rest left Open c count
+    (λ e. absurd (cc)) (λ e. absurd (cc))
 agrees_of xs seen (Some rest) true left Open c count fed = absurd (cc)
-agrees_of xs seen (Some rest) false left Ended c count (fine, end, some) = given_agrees xs seen rest left Ended c count (λ e. (end, some)) (λ e. absurd (cc))
+agrees_of xs seen (Some rest) false left Ended c count (fine, end, some) = given_agrees xs seen rest left Ended c count
+    (λ e. (end, some)) (λ e. absurd (cc))
 agrees_of xs seen (Some rest) true left Ended c count (fine, end, some) = absurd (cc)
 agrees_of xs seen (Some rest) false left Broken c count (inl bad) = absurd (cc)
-agrees_of xs seen (Some rest) false left Broken c count (inr (fine, zero)) = given_agrees xs seen rest left Broken c count (λ e. absurd (cc)) (λ e. zero)
+agrees_of xs seen (Some rest) false left Broken c count (inr (fine, zero)) =
+    given_agrees xs seen rest left Broken c count (λ e. absurd (cc)) (λ e. zero)
 agrees_of xs seen (Some rest) true left Broken c count fed =
     record { more = []; bytes = sym (append-nil seen); ended = λ e. absurd (cc); broken = λ e. (refl, refl) }

@@ -7,7 +7,8 @@ use Rattle.std.specs.Io.KnownBytes.{Appends, Keeps}
 use Rattle.ruletable.specs.Writing.{Flags}
 use Rattle.ruletable.specs.Writing.{IsBeginning, Writes}
 use Rattle.ruletable.specs.declared.sink.WriteFault.{WriteFault}
-use Rattle.ruletable.proofs.AppendsLemmas.{Appends-join, Appends-kept, IsBeginning-same, IsBeginning-join, IsBeginning-after}
+use Rattle.ruletable.proofs.AppendsLemmas.{Appends-join, Appends-kept, IsBeginning-same, IsBeginning-join}
+use Rattle.ruletable.proofs.AppendsLemmas.{IsBeginning-after}
 use Rattle.toolrun.specs.declared.stop.Stop.{Stop}
 use Rattle.toolrun.specs.Stop.{write_error}
 use Rattle.toolrun.specs.Stop.{message_of, status_of}
@@ -23,7 +24,8 @@ record First (e0 e1 : Option (List ℕ)) (failed : Bool) (text : List ℕ) : Typ
   whole : failed ≡ false → told ≡ text
   part : IsBeginning told text
 
-first : {A E : Type 0} (e0 e1 : Option (List ℕ)) (failed : Bool) (text : List ℕ) (r : Result A E) → Writes e0 e1 text r → Flags false failed r → First e0 e1 failed text
+first : {A E : Type 0} (e0 e1 : Option (List ℕ)) (failed : Bool) (text : List ℕ) (r : Result A E) → Writes e0 e1 text r
+    → Flags false failed r → First e0 e1 failed text
 first e0 e1 failed text (Ok x) w f = record { told = text; taken = w; whole = λ _. refl; part = IsBeginning-same text }
 first e0 e1 failed text (Err x) w f = record { told = w.0; taken = w.2; whole = λ isnt. absurd (cc); part = w.1 }
 
@@ -38,7 +40,8 @@ module _ (out_was out_now err_told err_flushed err_now : Bool) (e0 e1 : Option (
   clean isnt = not_true err_told err_now (λ e. stays (flushes.err_stays e)) isnt
 
   -- where the output's flush failed: all of the text was told before, or the error output had failed
-  told_before : (text : List ℕ) (bad : out_now ≡ true) → out_was ≡ false → (f : First e0 e1 err_told text) → (b : Bool) → err_told ≡ b →
+  told_before : (text : List ℕ) (bad : out_now ≡ true) → out_was ≡ false → (f : First e0 e1 err_told text) → (b : Bool)
+      → err_told ≡ b →
       (front : List ℕ) × ((front ≡ []) ⊎ (front ≡ text)) × IsBeginning (f.told ++ more) (front ++ write_error) ×
       (err_now ≡ false → f.told ++ more ≡ front ++ write_error)
   told_before text bad was f true e = (
@@ -58,7 +61,10 @@ module _ (out_was out_now err_told err_flushed err_now : Bool) (e0 e1 : Option (
   reports_stop : (text : List ℕ) (stated : ℕ) → out_was ≡ false → (f : First e0 e1 err_told text) →
       (out_now ≡ false → err_now ≡ false → code ≡ stated) → Reports [] text stated out_now err_now (f.told ++ more) code
   reports_stop text stated was f same = record {
-    whole = λ out_ok err_ok. (rw (flushes.quiet (out_ok ∙ sym was), append-nil) (f.whole (clean err_ok)), same out_ok err_ok);
+    whole = λ out_ok err_ok. (
+      rw (flushes.quiet (out_ok ∙ sym was), append-nil) (f.whole (clean err_ok)),
+      same out_ok err_ok,
+    );
     part = λ out_ok. rw (flushes.quiet (out_ok ∙ sym was), append-nil) f.part;
     before = λ out_bad. told_before text out_bad was f err_told refl;
     status = high;
@@ -92,11 +98,13 @@ finishes (Ok stop) out_was out_now err_told err_flushed err_now e0 e1 e2 e3 r co
     let f = first e0 e1 err_told (message_of stop) r w flag in (
       f.told ++ m.0,
       Appends-kept e0 e2 e3 (f.told ++ m.0) (Appends-join e0 e1 e2 f.told m.0 f.taken m.1) kept,
-      reports_stop out_was out_now err_told err_flushed err_now e0 e1 m.0 code m.2 stays high (message_of stop) (code_of (status_of stop)) was f same,
+      reports_stop out_was out_now err_told err_flushed err_now e0 e1 m.0 code m.2 stays high (message_of stop)
+          (code_of (status_of stop)) was f same,
     )
 finishes (Err fault) out_was out_now err_told err_flushed err_now e0 e1 e2 e3 r code was w flag m kept stays high same =
     let f = first e0 e1 err_told write_error r w flag in (
       f.told ++ m.0,
       Appends-kept e0 e2 e3 (f.told ++ m.0) (Appends-join e0 e1 e2 f.told m.0 f.taken m.1) kept,
-      λ text stated. reports_fault out_was out_now err_told err_flushed err_now e0 e1 m.0 code m.2 stays high text stated was f,
+      λ text stated. reports_fault out_was out_now err_told err_flushed err_now e0 e1 m.0 code m.2 stays high text
+          stated was f,
     )

@@ -14,7 +14,8 @@ module _ (States : Input → List ℕ → Reply → Type 0) (IsFault : ReadFault
     (refuses : (input : Input) (why : ReadFault) → IsFault why → why ≢ fault.Memory → States input [] (refusal why))
     (no_memory : (input : Input) → States input [] (without_memory [] 0))
     {T : Type 0} (Does : T → Input → Reply → Type 0) where
-  refused-plan : (why : ReadFault) → IsFault why → why ≢ fault.Memory → IsPlan States [] (does_of Does (Err (Refused why)))
+  refused-plan : (why : ReadFault) → IsFault why → why ≢ fault.Memory
+      → IsPlan States [] (does_of Does (Err (Refused why)))
   refused-plan why faulty other = record {
     stated = λ input reply is. rw is (refuses input why faulty other);
     some = λ input. (stopped (Refused why), refl);
@@ -25,5 +26,8 @@ module _ (States : Input → List ℕ → Reply → Type 0) (IsFault : ReadFault
   unread-plan (fault.Depth line) faulty = refused-plan (fault.Depth line) faulty (λ e. absurd (cc))
   unread-plan (fault.CodePredicate line) faulty = refused-plan (fault.CodePredicate line) faulty (λ e. absurd (cc))
   unread-plan fault.TooLong faulty = refused-plan fault.TooLong faulty (λ e. absurd (cc))
-  unread-plan fault.Memory faulty = record { stated = λ input reply is. rw is (no_memory input); some = λ input. (stopped NoMemory, refl) }
+  unread-plan fault.Memory faulty = record {
+    stated = λ input reply is. rw is (no_memory input);
+    some = λ input. (stopped NoMemory, refl);
+  }
   unread-plan (fault.NumberTooLarge line) faulty = refused-plan (fault.NumberTooLarge line) faulty (λ e. absurd (cc))

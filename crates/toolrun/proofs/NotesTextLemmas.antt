@@ -1,6 +1,7 @@
 -- The text of notes.
 -- Serves: run_tool, run_peg, run_abnf (right)
-use Rattle.std.proofs.Common.{◌≡◌, ◌≢◌, ℕ, List, [], ◌∷◌, ◌++◌, map, refl, ap, zero, suc, get_or, take, length, ◌<◌, sym, ◌∙◌, append_assoc, append-nil, arith}
+use Rattle.std.proofs.Common.{◌≡◌, ◌≢◌, ℕ, List, [], ◌∷◌, ◌++◌, map, refl, ap, zero, suc, get_or, take, length, ◌<◌}
+use Rattle.std.proofs.Common.{sym, ◌∙◌, append_assoc, append-nil, arith}
 use Rattle.std.specs.List.{flat_map}
 use Rattle.ruletable.specs.Notes.{note_text, said_of}
 use Rattle.ruletable.specs.declared.note.Note.{Note}
@@ -16,7 +17,9 @@ some_said [] some e = absurd (omega (arith, some))
 some_said (note ∷ notes) some e = absurd (cc)
 
 -- one piece more
-pub flat_map-next : {X A : Type 0} (f : X → List A) (xs : List X) (i : ℕ) (x : X) → x ≡ get_or xs i x → i < length xs → flat_map f (take (suc i) xs) ≡ flat_map f (take i xs) ++ f x
+pub flat_map-next : {X A : Type 0} (f : X → List A) (xs : List X) (i : ℕ) (x : X) → x ≡ get_or xs i x → i < length xs
+    → flat_map f (take (suc i) xs) ≡ flat_map f (take i xs) ++ f x
 flat_map-next f [] i x is lt = absurd (omega (arith, lt))
 flat_map-next f (y ∷ ys) zero x is lt = ap (λ (z : _). f z ++ []) (sym is) ∙ append-nil (f x)
-flat_map-next f (y ∷ ys) (suc i) x is lt = ap (λ (t : List _). f y ++ t) (flat_map-next f ys i x is (omega arith)) ∙ sym (append_assoc (f y) (flat_map f (take i ys)) (f x))
+flat_map-next f (y ∷ ys) (suc i) x is lt = ap (λ (t : List _). f y ++ t) (flat_map-next f ys i x is (omega arith))
+    ∙ sym (append_assoc (f y) (flat_map f (take i ys)) (f x))

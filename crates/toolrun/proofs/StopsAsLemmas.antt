@@ -21,8 +21,10 @@ use Rattle.toolrun.specs.declared.stop.Stop.{Stop}
 use Rattle.toolrun.specs.declared.stop.Stop.TheVariants.{NoMemory}
 use Rattle.toolrun.proofs.AgreesLemmas.{agrees_of}
 
--- A run in steps: what is written before each point, how it ends there, what is taken by then, and that it goes on from each.
-module _ {Point : Type 0} (Before : Input → Point → List ℕ → Type 0) (Ends : Input → Point → List ℕ → Stop → Type 0) (taken_at : Input → Point → ℕ)
+-- A run in steps: what is written before each point, how it ends there, what is taken by then, and that it goes on from
+-- each.
+module _ {Point : Type 0} (Before : Input → Point → List ℕ → Type 0) (Ends : Input → Point → List ℕ → Stop → Type 0)
+    (taken_at : Input → Point → ℕ)
     (goes_on : (input : Input) (point : Point) (text : List ℕ) → Before input point text →
     Begins (Before input) (Ends input) (taken_at input) (taken_at input point) text) where
   abbrev pub Does : Input → Reply → Type 0
@@ -33,7 +35,8 @@ module _ {Point : Type 0} (Before : Input → Point → List ℕ → Type 0) (En
 
   module _ (input : Input) where
     -- what a run of all steps says, in one piece
-    run_stops : (a b : Option (List ℕ)) (taken : List ℕ) (r : Result Stop WriteFault) → Runs input (length taken) a b r →
+    run_stops : (a b : Option (List ℕ)) (taken : List ℕ) (r : Result Stop WriteFault)
+        → Runs input (length taken) a b r →
         (wrote : List ℕ) × Appends a b wrote × StopsAs (Does input) taken r wrote
     run_stops a b taken (Ok stop) (point, text, last, steps, wrote, took, inl refused) =
         let goes = goes_on input point text steps in (
@@ -48,7 +51,12 @@ module _ {Point : Type 0} (Before : Input → Point → List ℕ → Type 0) (En
           },
         )
     run_stops a b taken (Ok stop) (point, text, last, steps, wrote, took, inr ends) =
-        let reply : Reply = record { out = text ++ last; err = message_of stop; status = code_of (status_of stop); taken = taken_at input point } in (
+        let reply : Reply = record {
+          out = text ++ last;
+          err = message_of stop;
+          status = code_of (status_of stop);
+          taken = taken_at input point;
+        } in (
           text ++ last,
           wrote,
           record {
@@ -97,10 +105,12 @@ module _ {Point : Type 0} (Before : Input → Point → List ℕ → Type 0) (En
         }
 
   -- the steps were run, on every input that begins with what was seen
-  were_run : (old new a b : Option (List ℕ)) (failed : Bool) (left : ℕ) (flow : Flow) (r : Result Stop WriteFault) → IsToldBy new failed left flow →
+  were_run : (old new a b : Option (List ℕ)) (failed : Bool) (left : ℕ) (flow : Flow) (r : Result Stop WriteFault)
+      → IsToldBy new failed left flow →
       ((seen : List ℕ) × Consumes old new seen × (left + length seen ≡ input_limit) ×
       ((input : Input) → Agrees seen flow input → Runs input (length seen) a b r)) →
-      IfSome old (λ xs. (taken wrote : List ℕ) × Consumes old new taken × Appends a b wrote × StopsAs (Does (input_from xs taken failed)) taken r wrote)
+      IfSome old (λ xs. (taken wrote : List ℕ) × Consumes old new taken × Appends a b wrote
+      × StopsAs (Does (input_from xs taken failed)) taken r wrote)
   were_run None new a b failed left flow r told run = tt
   were_run (Some xs) new a b failed left flow r told (seen, gives, count, run) =
       let input : Input = input_from xs seen failed in
@@ -108,23 +118,35 @@ module _ {Point : Type 0} (Before : Input → Point → List ℕ → Type 0) (En
       (seen, w.0, gives, w.1, w.2)
 
   -- the reader is given back as it was after the last step
-  pub ran : {R : Type 0} (remaining : R → Option (List ℕ)) (failed : R → Bool) (old now final : R) (out : Stream) (left : ℕ) (flow : Flow)
+  pub ran : {R : Type 0} (remaining : R → Option (List ℕ)) (failed : R → Bool) (old now final : R) (out : Stream)
+      (left : ℕ) (flow : Flow)
       (r : Result Stop WriteFault) → final ≡ now → IsToldBy (remaining now) (failed now) left flow →
       ((seen : List ℕ) × Consumes (remaining old) (remaining now) seen × (left + length seen ≡ input_limit) ×
-      ((input : Input) → Agrees seen flow input → Runs input (length seen) out.old out.new r)) → Flags out.was out.failed r →
+      ((input : Input) → Agrees seen flow input → Runs input (length seen) out.old out.new r))
+      → Flags out.was out.failed r →
       Performs Does (passed remaining failed old final) out r
   ran remaining failed old now final out left flow r is told run flag =
-      rw is (record { stopped = were_run (remaining old) (remaining now) out.old out.new (failed now) left flow r told run; flag = flag })
+      rw is (record {
+        stopped = were_run (remaining old) (remaining now) out.old out.new (failed
+            now) left flow r told run;
+        flag = flag;
+      })
 
   -- memory was refused before anything was read
-  nothing_was : (first : Point) → ((input : Input) → Before input first []) → (old a : Option (List ℕ)) (failed : Bool) →
+  nothing_was : (first : Point) → ((input : Input) → Before input first [])
+      → (old a : Option (List ℕ)) (failed : Bool) →
       let r : Result Stop WriteFault = Ok NoMemory in
-      IfSome old (λ xs. (taken wrote : List ℕ) × Consumes old old taken × Appends a a wrote × StopsAs (Does (input_from xs taken failed)) taken r wrote)
+      IfSome old (λ xs. (taken wrote : List ℕ) × Consumes old old taken × Appends a a wrote
+      × StopsAs (Does (input_from xs taken failed)) taken r wrote)
   nothing_was first start None a failed = tt
   nothing_was first start (Some xs) a failed =
-      let input : Input = input_from xs [] failed in ([], [], refl, Appends-same a, nothing_stops input first (start input))
+      let input : Input = input_from xs [] failed in
+      ([], [], refl, Appends-same a, nothing_stops input first (start input))
 
-  pub did_not_run : (first : Point) → ((input : Input) → Before input first []) → (r0 s0 : Option (List ℕ)) (r_was r_failed o_was : Bool) →
+  pub did_not_run : (first : Point) → ((input : Input) → Before input first [])
+      → (r0 s0 : Option (List ℕ)) (r_was r_failed o_was : Bool) →
       let r : Result Stop WriteFault = Ok NoMemory in
-      Performs Does (record { old = r0; new = r0; was = r_was; failed = r_failed }) (record { old = s0; new = s0; was = o_was; failed = o_was }) r
-  did_not_run first start r0 s0 r_was r_failed o_was = record { stopped = nothing_was first start r0 s0 r_failed; flag = refl }
+      Performs Does (record { old = r0; new = r0; was = r_was; failed = r_failed })
+      (record { old = s0; new = s0; was = o_was; failed = o_was }) r
+  did_not_run first start r0 s0 r_was r_failed o_was =
+      record { stopped = nothing_was first start r0 s0 r_failed; flag = refl }

@@ -14,11 +14,14 @@ pub record Observed : Type 0 where
   pub err_failed : Bool
   pub status : ℕ
 
--- The error output holds the notes and the text, or a beginning of that where it failed. Where the output failed, it holds `write error` behind the notes or behind all of the text, or a beginning of that where it failed too.
-pub record Reports (notes text : List ℕ) (stated : ℕ) (out_failed err_failed : Bool) (err : List ℕ) (code : ℕ) : Type 0 where
+-- The error output holds the notes and the text, or a beginning of that where it failed. Where the output failed, it
+-- holds `write error` behind the notes or behind all of the text, or a beginning of that where it failed too.
+pub record Reports (notes text : List ℕ) (stated : ℕ) (out_failed err_failed : Bool) (err : List ℕ) (code : ℕ) : Type
+    0 where
   pub whole : out_failed ≡ false → err_failed ≡ false → (err ≡ notes ++ text) × (code ≡ stated)
   pub part : out_failed ≡ false → IsBeginning err (notes ++ text)
-  pub before : out_failed ≡ true → (front : List ℕ) × ((front ≡ notes) ⊎ (front ≡ notes ++ text)) × IsBeginning err (front ++ write_error) ×
+  pub before : out_failed ≡ true → (front : List ℕ) × ((front ≡ notes) ⊎ (front ≡ notes ++ text))
+      × IsBeginning err (front ++ write_error) ×
       (err_failed ≡ false → err ≡ front ++ write_error)
   pub status : (out_failed ≡ true) ⊎ (err_failed ≡ true) → 4 ≤ code
 

@@ -23,4 +23,5 @@ ending_of (Err fault) = Fault
 abbrev pub Finishes : Result Stop WriteFault → Bool → Bool → List ℕ → ℕ → Type 0
 Finishes (Ok stop) out_failed err_failed told code =
     Reports [] (message_of stop) (code_of (status_of stop)) out_failed err_failed told code
-Finishes (Err fault) out_failed err_failed told code = (text : List ℕ) (stated : ℕ) → Reports [] text stated out_failed err_failed told code
+Finishes (Err fault) out_failed err_failed told code = (text : List ℕ) (stated : ℕ)
+    → Reports [] text stated out_failed err_failed told code

@@ -16,6 +16,7 @@ does_of Does (Ok task) input reply = Does task input reply
 does_of Does (Err stop) input reply = reply ≡ stopped stop
 
 -- Behind these notes what is done is what is stated, and for each input something is.
-pub record IsPlan (States : Input → List ℕ → Reply → Type 0) (notes : List ℕ) (Does : Input → Reply → Type 0) : Type 0 where
+pub record IsPlan (States : Input → List ℕ → Reply → Type 0) (notes : List ℕ) (Does : Input → Reply → Type 0) : Type
+    0 where
   pub stated : (input : Input) (reply : Reply) → Does input reply → States input notes reply
   pub some : (input : Input) → (reply : Reply) × Does input reply

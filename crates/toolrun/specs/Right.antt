@@ -6,7 +6,8 @@ use Rattle.toolrun.specs.Input.{Input, input_from}
 use Rattle.toolrun.specs.Reply.{Reply}
 use Rattle.toolrun.specs.Stream.{Stream}
 
--- The run was right: both outputs and the status are what is stated, and the bytes taken are the input's, or a beginning where a writer failed or memory was refused.
+-- The run was right: both outputs and the status are what is stated, and the bytes taken are the input's, or a
+-- beginning where a writer failed or memory was refused.
 pub record IsRight (States : Input → List ℕ → Reply → Type 0) (given : List ℕ) (run : Observed) : Type 0 where
   pub notes : List ℕ
   pub stated : Reply
@@ -18,7 +19,8 @@ pub record IsRight (States : Input → List ℕ → Reply → Type 0) (given : L
 -- where the reader tells its bytes, the run was right
 abbrev pub Comes : (Input → List ℕ → Reply → Type 0) → Stream → Stream → Stream → ℕ → Type 0
 Comes States reader out err code =
-    IfSome reader.old (λ given. (taken wrote told : List ℕ) × Consumes reader.old reader.new taken × Appends out.old out.new wrote × Appends err.old err.new told ×
+    IfSome reader.old (λ given. (taken wrote told : List ℕ) × Consumes reader.old reader.new taken
+    × Appends out.old out.new wrote × Appends err.old err.new told ×
     IsRight States given (record {
       taken = taken;
       read_failed = reader.failed;

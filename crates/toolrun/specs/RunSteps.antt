@@ -11,7 +11,8 @@ use Rattle.toolrun.specs.declared.stop.Stop.TheVariants.{NoMemory}
 
 -- Before says what is written on the way to a point, Ends what is written last where a run ends there, and taken_at how
 -- many bytes of input are taken where the last step is begun there.
-module _ {Point : Type 0} (Before : Point → List ℕ → Type 0) (Ends : Point → List ℕ → Stop → Type 0) (taken_at : Point → ℕ) where
+module _ {Point : Type 0} (Before : Point → List ℕ → Type 0) (Ends : Point → List ℕ → Stop → Type 0)
+    (taken_at : Point → ℕ) where
   -- all steps in turn, and how the run ends
   pub record Replies (reply : Reply) : Type 0 where
     pub point : Point
@@ -28,7 +29,8 @@ module _ {Point : Type 0} (Before : Point → List ℕ → Type 0) (Ends : Point
   -- a run states its reply, or the text of the first steps where a growth is refused
   pub data RunStates : Reply → Type 0 where
     replied : (reply : Reply) → Replies reply → RunStates reply
-    no_memory : (point : Point) (out : List ℕ) (reply : Reply) → Before point out → Replies reply → IsBeginning out reply.out →
+    no_memory : (point : Point) (out : List ℕ) (reply : Reply) → Before point out → Replies reply
+        → IsBeginning out reply.out →
         RunStates (without_memory out reply.taken)
 
   -- a reply that begins with the text, where no fewer bytes are taken
@@ -38,8 +40,10 @@ module _ {Point : Type 0} (Before : Point → List ℕ → Type 0) (Ends : Point
     pub front : IsBeginning text reply.out
     pub taken : least ≤ reply.taken
 
-  -- After so many bytes were taken: the text of steps and of a last one, after which the run ends so or memory is refused; or a beginning of the text that a reply begins with.
+  -- After so many bytes were taken: the text of steps and of a last one, after which the run ends so or memory is
+  -- refused; or a beginning of the text that a reply begins with.
   abbrev pub HasRun : ℕ → Option (List ℕ) → Option (List ℕ) → Result Stop WriteFault → Type 0
-  HasRun taken old new (Ok stop) = (point : Point) × (text last : List ℕ) × Before point text × Appends old new (text ++ last) ×
+  HasRun taken old new (Ok stop) = (point : Point) × (text last : List ℕ) × Before point text
+      × Appends old new (text ++ last) ×
       (taken ≡ taken_at point) × (((stop ≡ NoMemory) × (last ≡ [])) ⊎ Ends point last stop)
   HasRun taken old new (Err fault) = (text : List ℕ) × Begins taken text × AppendsPart old new text

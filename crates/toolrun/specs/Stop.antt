@@ -6,7 +6,8 @@ use Rattle.ruletable.specs.declared.fault.ReadFault.TheVariants as fault
 use Rattle.toolrun.specs.declared.status.Status.{Status}
 use Rattle.toolrun.specs.declared.status.Status.TheVariants as status
 use Rattle.toolrun.specs.declared.stop.Stop.{Stop}
-use Rattle.toolrun.specs.declared.stop.Stop.TheVariants.{Quiet, NoMatch, LongUnit, LongLine, Broken, NoMemory, Refused, Unreadable}
+use Rattle.toolrun.specs.declared.stop.Stop.TheVariants.{Quiet, NoMatch, LongUnit, LongLine, Broken, NoMemory, Refused}
+use Rattle.toolrun.specs.declared.stop.Stop.TheVariants.{Unreadable}
 
 abbrev pub status_of : Stop → Status
 status_of (Quiet status) = status
@@ -31,7 +32,8 @@ unread (fault.NumberTooLarge line) = Refused (fault.NumberTooLarge line)
 abbrev pub message_of : Stop → List ℕ
 message_of (Quiet status) = []
 message_of (NoMatch s) = codes "no match at byte " ++ decimal s ++ codes "\n"
-message_of (LongUnit s limit) = codes "unit at byte " ++ decimal s ++ codes " longer than " ++ decimal limit ++ codes " bytes\n"
+message_of (LongUnit s limit) = codes "unit at byte " ++ decimal s ++ codes " longer than " ++ decimal limit
+    ++ codes " bytes\n"
 message_of (LongLine n limit) = codes "line " ++ decimal n ++ codes " longer than " ++ decimal limit ++ codes " bytes\n"
 message_of Broken = codes "read error\n"
 message_of NoMemory = codes "out of memory\n"

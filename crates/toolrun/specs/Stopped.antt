@@ -14,15 +14,18 @@ use Rattle.toolrun.specs.declared.stop.Stop.TheVariants.{NoMemory, Quiet}
 
 -- the text was written, and the run is done; or a beginning of it was written where the writer failed
 abbrev pub Prints : Option (List ℕ) → Option (List ℕ) → List ℕ → Result Stop WriteFault → Type 0
-Prints old new text r = MatchResult r (λ stop. (stop ≡ Quiet Done) × Appends old new text) (λ _. AppendsPart old new text)
+Prints old new text r = MatchResult r (λ stop. (stop ≡ Quiet Done) × Appends old new text)
+    (λ _. AppendsPart old new text)
 
 -- what is stated has been written, or a beginning of it where the writer failed
 abbrev pub IsWritten : Result Stop WriteFault → Reply → List ℕ → Type 0
-IsWritten (Ok stop) stated wrote = (wrote ≡ stated.out) × (stated.err ≡ message_of stop) × (stated.status ≡ code_of (status_of stop))
+IsWritten (Ok stop) stated wrote = (wrote ≡ stated.out) × (stated.err ≡ message_of stop)
+    × (stated.status ≡ code_of (status_of stop))
 IsWritten (Err fault) stated wrote = IsBeginning wrote stated.out
 
 -- What a run that stopped so states, and how much of it has been written and taken.
-pub record StopsAs (States : Reply → Type 0) (taken : List ℕ) (stop : Result Stop WriteFault) (wrote : List ℕ) : Type 0 where
+pub record StopsAs (States : Reply → Type 0) (taken : List ℕ) (stop : Result Stop WriteFault) (wrote : List ℕ) : Type
+    0 where
   pub stated : Reply
   pub states : States stated
   pub written : IsWritten stop stated wrote
@@ -31,6 +34,7 @@ pub record StopsAs (States : Reply → Type 0) (taken : List ℕ) (stop : Result
 
 -- Where the reader tells its bytes, the run stopped as one that states this.
 pub record Performs (Does : Input → Reply → Type 0) (reader out : Stream) (stop : Result Stop WriteFault) : Type 0 where
-  pub stopped : IfSome reader.old (λ given. (taken wrote : List ℕ) × Consumes reader.old reader.new taken × Appends out.old out.new wrote ×
+  pub stopped : IfSome reader.old (λ given. (taken wrote : List ℕ) × Consumes reader.old reader.new taken
+      × Appends out.old out.new wrote ×
       StopsAs (Does (input_from given taken reader.failed)) taken stop wrote)
   pub flag : Flags out.was out.failed stop

@@ -20,7 +20,8 @@ use feed::Source;
 use ruletable::{Note, Sink, WriteFault};
 use std::alloc::Global;
 
-/// What is to be done for a grammar's text: the notes are written, and then the task is performed, or the run stops at once.
+/// What is to be done for a grammar's text: the notes are written, and then the task is performed, or the run stops at
+/// once.
 #[derive(Drop)]
 pub struct Plan<T> {
     pub notes: Vec<Note>,
@@ -37,7 +38,8 @@ pub trait Tool: Drop {
 
     /// Reads and checks a grammar's text, or reads it to be printed.
     fn plan(alloc: Global, grammar: &[u8], settings: &Settings<'_>) -> Plan<Self>
-        ensures { IsPlan (states grammar.now settings.now) (notes_text (map said_of result.notes.items)) (does_of (λ t. does t settings.now) result.task) };
+        ensures { IsPlan (states grammar.now settings.now) (notes_text (map said_of result.notes.items))
+            (does_of (λ t. does t settings.now) result.task) };
 
     /// Performs the task. `WriteFault` where the output fails; then a beginning is written.
     fn perform<R: Source, O: Sink>(
@@ -49,7 +51,8 @@ pub trait Tool: Drop {
     ) -> Result<Stop, WriteFault>
         requires reader_is_fresh { R.failed reader.old ≡ false }
         requires out_is_fresh { O.failed out.old ≡ false }
-        ensures { Performs (does self.now settings.now) (passed R.remaining R.failed reader.old reader.new) (passed O.contents O.failed out.old out.new) result };
+        ensures { Performs (does self.now settings.now) (passed R.remaining R.failed reader.old reader.new)
+            (passed O.contents O.failed out.old out.new) result };
 }
 
 /// Performs the task of a plan, or stops at once.
@@ -62,7 +65,8 @@ fn act<T: Tool, R: Source, O: Sink>(
 ) -> Result<Stop, WriteFault>
     requires reader_is_fresh { R.failed reader.old ≡ false }
     requires out_is_fresh { O.failed out.old ≡ false }
-    ensures { Performs (does_of (λ t. T.does t settings.now) task.now) (passed R.remaining R.failed reader.old reader.new) (passed O.contents O.failed out.old out.new) result }
+    ensures { Performs (does_of (λ t. T.does t settings.now) task.now)
+        (passed R.remaining R.failed reader.old reader.new) (passed O.contents O.failed out.old out.new) result }
 {
     match task {
         Ok(task) => task.perform(alloc, settings, reader, out),

@@ -98,8 +98,8 @@ fn an_output_that_fails_holds_a_beginning(rt: HostRuntime) {
     check_failing_out(&rt, &NOTED, told);
 }
 
-/// Checks that the error output holds a beginning where it fails within the notes, that nothing else is written or read,
-/// and that it is not flushed.
+/// Checks that the error output holds a beginning where it fails within the notes, that nothing else is written or
+/// read, and that it is not flushed.
 fn check_failing_notes<R: Abort + AllocGlobal>(rt: &R, row: &Written, notes: &[u8]) {
     for room in 0..notes.len() {
         let ran = run_row(rt.alloc(), row, ALL, with_room(room));

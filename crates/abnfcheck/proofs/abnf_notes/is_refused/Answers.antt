@@ -8,7 +8,8 @@ use Rattle.abnfcheck.proofs.abnf_notes.is_refused.Goals as goal
 
 pub returns-then-some_set : goal.returns-then-some_set
 returns-then-some_set c = λ file rules given again graph prose marks. (
-  (λ _. let s = c.some_set.ensures.0 c.if-some_set.true in refused_again rules given _ _ _ graph file again _ marks s.0 s.1),
+  (λ _. let s = c.some_set.ensures.0 c.if-some_set.true in refused_again rules given _ _ _ graph file again _ marks s.0
+      s.1),
   (λ _. refl),
 )
 
@@ -26,5 +27,6 @@ pub returns : goal.returns
 returns c = λ file rules given again graph prose marks.
     let tells = rw (c.deref.ensures.value, prose) at c.in_ok-broken.ensures in (
       (λ is. let b = tells.0 is in refused_broken rules given _ _ _ graph file again _ marks b.0 b.1),
-      (λ h. tells.1 (broken_refused rules given _ _ _ graph file again _ marks (λ id on. let yes = c.some_set.ensures.1 (id, on) in let no = c.if-some_set.false in cc (yes, no)) h)),
+      (λ h. tells.1 (broken_refused rules given _ _ _ graph file again _ marks
+          (λ id on. let yes = c.some_set.ensures.1 (id, on) in let no = c.if-some_set.false in cc (yes, no)) h)),
     )

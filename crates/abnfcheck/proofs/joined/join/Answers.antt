@@ -6,16 +6,21 @@ pub loop-id-init : goal.loop-id-init
 loop-id-init c = record { so_far = refl; ahead = refl; count = refl }
 
 pub take_body-body-requires : goal.take_body-body-requires
-take_body-body-requires c = let lt = c.loop-id-test.true in let l = c.loop-id.invariant.count in let n = c.len-id-end.ensures.len in omega (arith, lt, l, n)
+take_body-body-requires c = let lt = c.loop-id-test.true in let l = c.loop-id.invariant.count in let n =
+    c.len-id-end.ensures.len in omega (arith, lt, l, n)
 
 pub name-requires : goal.name-requires
-name-requires c = let lt = c.loop-id-test.true in let l = c.loop-id.invariant.count in let n = c.len-id-end.ensures.len in let t = o.length_taken c.take_body-body.ensures.rest in omega (arith, lt, l, n, t)
+name-requires c = let lt = c.loop-id-test.true in let l = c.loop-id.invariant.count in let n =
+    c.len-id-end.ensures.len in let t = o.length_taken c.take_body-body.ensures.rest in omega (arith, lt, l, n, t)
 
 pub span-requires : goal.span-requires
-span-requires c = let lt = c.loop-id-test.true in let l = c.loop-id.invariant.count in let n = c.len-id-end.ensures.len in let t = o.length_taken c.take_body-body.ensures.rest in omega (arith, lt, l, n, t)
+span-requires c = let lt = c.loop-id-test.true in let l = c.loop-id.invariant.count in let n =
+    c.len-id-end.ensures.len in let t = o.length_taken c.take_body-body.ensures.rest in omega (arith, lt, l, n, t)
 
 pub loop-id-preserved : goal.loop-id-preserved
-loop-id-preserved c = o.join_next _ _ _ _ _ _ _ _ _ _ _ c.loop-id.invariant c.take_body-body.ensures.body c.take_body-body.ensures.rest c.name.ensures c.span.ensures c.in_ok-define.ensures.defines
+loop-id-preserved c = o.join_next _ _ _ _ _ _ _ _ _ _ _ c.loop-id.invariant c.take_body-body.ensures.body
+    c.take_body-body.ensures.rest c.name.ensures c.span.ensures c.in_ok-define.ensures.defines
 
 pub returns : goal.returns
-returns c = o.all_joined _ _ _ _ _ c.loop-id.invariant (let le = c.loop-id.auto.id-end in let n = c.len-id-end.ensures.len in let over = c.loop-id-test.false in omega (arith, le, n, over))
+returns c = o.all_joined _ _ _ _ _ c.loop-id.invariant (let le = c.loop-id.auto.id-end in let n =
+    c.len-id-end.ensures.len in let over = c.loop-id-test.false in omega (arith, le, n, over))

@@ -10,5 +10,6 @@ abbrev pub invariant-add_all_names-loop-member : goal.invariant-add_all_names-lo
 invariant-add_all_names-loop-member l = record {
   folds : l.names.names ≡ Fold;
   scanned : (known seen uses : List (List ℕ)) → IsScanned Fold known seen uses l.initial.names l.initial.row.items →
-      IsScanned Fold known (seen ++ names_in_all (elements_of (take l.member-index l.members))) (uses ++ names_in_all (elements_of (take l.member-index l.members))) l.names l.row.items;
+      IsScanned Fold known (seen ++ names_in_all (elements_of (take l.member-index l.members)))
+      (uses ++ names_in_all (elements_of (take l.member-index l.members))) l.names l.row.items;
 }

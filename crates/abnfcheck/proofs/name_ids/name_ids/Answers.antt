@@ -13,7 +13,8 @@ use Rattle.abnfcheck.proofs.name_ids.name_ids.Goals as goal
 pub pad-requires : goal.pad-requires
 pad-requires c =
     let rules = rules_of c.args.rules.now in
-    let first = first_known (rule_names rules) (option_to_list (option_copied c.args.rule)) (names_of c.in_ok-names.names) (names_of c.judged_id.new.names)
+    let first = first_known (rule_names rules) (option_to_list (option_copied c.args.rule))
+    (names_of c.in_ok-names.names) (names_of c.judged_id.new.names)
     (c.in_ok-names.ensures.names ∙ sym (names_same c.args.rules.now.rules)) c.in_ok-judged.ensures.names in
     let fit = rows_fit rules _ _ _ (c.in_ok-rows.ensures.names _ _ first) (c.in_ok-rows.ensures.rows _ _ first) in
     let l = length-rows c.in_ok-rows.rows.items in
@@ -24,9 +25,12 @@ pad-requires c =
 pub returns : goal.returns
 returns c =
     let rules = rules_of c.args.rules.now in
-    let first = first_known (rule_names rules) (option_to_list (option_copied c.args.rule)) (names_of c.in_ok-names.names) (names_of c.judged_id.new.names)
+    let first = first_known (rule_names rules) (option_to_list (option_copied c.args.rule))
+    (names_of c.in_ok-names.names) (names_of c.judged_id.new.names)
     (c.in_ok-names.ensures.names ∙ sym (names_same c.args.rules.now.rules)) c.in_ok-judged.ensures.names in
-    graph_from rules (option_copied c.args.rule) (names_of c.judged_id.new.names) (names_of c.body_rows.new.names) (rows_of c.in_ok-rows.rows.items) (rows_of c.pad.new.rows.items) c.in_ok-judged.judged
+    graph_from rules (option_copied c.args.rule) (names_of c.judged_id.new.names) (names_of c.body_rows.new.names)
+    (rows_of c.in_ok-rows.rows.items) (rows_of c.pad.new.rows.items) c.in_ok-judged.judged
     first c.in_ok-judged.ensures.judged (c.in_ok-rows.ensures.names _ _ first) (c.in_ok-rows.ensures.rows _ _ first)
-    (length-rows c.pad.new.rows.items ∙ c.in_ok-pad.ensures.count ∙ c.len.ensures.len ∙ sym (length-map c.body_rows.new.names.rules (λ rule. rule.name)))
+    (length-rows c.pad.new.rows.items ∙ c.in_ok-pad.ensures.count ∙ c.len.ensures.len
+    ∙ sym (length-map c.body_rows.new.names.rules (λ rule. rule.name)))
     c.in_ok-pad.ensures.rows

@@ -19,5 +19,6 @@ loop-row-preserved c =
     let row = row_items _ _ _ c.loop-row-test.true c.row-item.is ∙ sym c.deref.ensures.value in
     record {
       count = c.mark.ensures.count ∙ c.loop-row.invariant.count;
-      marks = targets_next (rows_of c.args.rows.now) c.loop-row.row-index c.deref.result.now _ _ _ row c.loop-row.invariant.marks c.mark.ensures;
+      marks = targets_next (rows_of c.args.rows.now) c.loop-row.row-index c.deref.result.now _ _ _ row
+          c.loop-row.invariant.marks c.mark.ensures;
     }

@@ -7,5 +7,6 @@ use Rattle.abnfcheck.proofs.name_marks.mark_targets.Given as goal
 abbrev pub invariant-loop-row : goal.invariant-loop-row
 invariant-loop-row l = record {
   count : length l.marks ≡ length l.initial.marks;
-  marks : (id : ℕ) → IsMarked l.marks id ↔ (IsMarked l.initial.marks id ⊎ ((user : ℕ) × (user < l.row-index) × Step (rows_of l.rows) user id));
+  marks : (id : ℕ) → IsMarked l.marks id ↔ (IsMarked l.initial.marks id
+      ⊎ ((user : ℕ) × (user < l.row-index) × Step (rows_of l.rows) user id));
 }

@@ -5,4 +5,5 @@ use Rattle.abnfcheck.specs.ProseIn.{prose_in_one}
 use Rattle.abnfcheck.proofs.prose.+looking.Given as goal
 
 abbrev pub invariant-one_has_prose-loop-member : goal.invariant-one_has_prose-loop-member
-invariant-one_has_prose-loop-member l = prose_in_one (elements_of l.members) ≡ prose_in_one (elements_of (drop l.member-index l.members))
+invariant-one_has_prose-loop-member l = prose_in_one (elements_of l.members)
+    ≡ prose_in_one (elements_of (drop l.member-index l.members))

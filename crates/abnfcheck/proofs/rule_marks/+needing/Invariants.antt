@@ -8,4 +8,5 @@ use Rattle.abnfcheck.proofs.rule_marks.+needing.Given as goal
 abbrev pub invariant-add_all_needs-loop-member : goal.invariant-add_all_needs-loop-member
 invariant-add_all_needs-loop-member l =
     (has : ℕ → Bool) → IsTestOf l.aim has →
-    AreNumbered has (rules_of l.rules) l.aim (owned_demands_of l.initial.needs.items) (owned_demands_of l.needs.items) l.numbers.items (elements_of (take l.member-index l.members))
+    AreNumbered has (rules_of l.rules) l.aim (owned_demands_of l.initial.needs.items) (owned_demands_of l.needs.items)
+    l.numbers.items (elements_of (take l.member-index l.members))

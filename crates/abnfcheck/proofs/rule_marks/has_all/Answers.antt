@@ -8,9 +8,11 @@ use Rattle.abnfcheck.proofs.rule_marks.has_all.Goals as goal
 pub returns-then-not-has : goal.returns-then-not-has
 returns-then-not-has c = (
   (λ on. absurd (both_ways false refl on)),
-  (λ all. sym c.if-not-has.true ∙ (c.has.ensures ∙ letter_in (has c.args.alphabet) c.args.values.now c.loop-value.value-index 0 c.loop-value-test.true all)),
+  (λ all. sym c.if-not-has.true ∙ (c.has.ensures ∙ letter_in (has c.args.alphabet) c.args.values.now
+      c.loop-value.value-index 0 c.loop-value-test.true all)),
 )
 
 pub loop-value-preserved : goal.loop-value-preserved
 loop-value-preserved c =
-    next_value (has c.args.alphabet) c.args.values.now c.loop-value.value-index 0 c.loop-value-test.true c.loop-value.invariant (sym c.has.ensures ∙ c.if-not-has.false)
+    next_value (has c.args.alphabet) c.args.values.now c.loop-value.value-index 0 c.loop-value-test.true
+    c.loop-value.invariant (sym c.has.ensures ∙ c.if-not-has.false)

@@ -9,17 +9,22 @@ use Rattle.abnfcheck.proofs.rule_marks.rule_marks.Goals as goal
 
 -- what is lent asks for the same
 lent_needs : (c : goal.After-deref-2) → demands_of c.deref-2.result.now ≡ owned_demands_of c.in_ok-needs.needs.items
-lent_needs c = ap demands_of c.deref-2.ensures.value ∙ c.in_ok-borrowed.ensures ∙ ap owned_demands_of c.deref.ensures.value
+lent_needs c = ap demands_of c.deref-2.ensures.value ∙ c.in_ok-borrowed.ensures
+    ∙ ap owned_demands_of c.deref.ensures.value
 
 pub least-requires : goal.least-requires
 least-requires c = subst AreNeedsWithin (sym (lent_needs c)) c.in_ok-needs.ensures.within
 
 pub returns-clause-marks : goal.returns-clause-marks
-returns-clause-marks c = marks_for c.args.aim (rules_of c.args.rules.now) _ _ c.in_ok-needs.ensures.bodies (subst (λ v. AreMarksOfThose v c.in_ok-marks.marks.items) (ap demands_of c.deref-2.ensures.value ∙ c.in_ok-borrowed.ensures ∙ ap owned_demands_of c.deref.ensures.value) c.in_ok-marks.ensures.marks)
+returns-clause-marks c = marks_for c.args.aim (rules_of c.args.rules.now) _ _ c.in_ok-needs.ensures.bodies
+    (subst (λ v. AreMarksOfThose v c.in_ok-marks.marks.items)
+    (ap demands_of c.deref-2.ensures.value ∙ c.in_ok-borrowed.ensures ∙ ap owned_demands_of c.deref.ensures.value)
+    c.in_ok-marks.ensures.marks)
 
 pub returns-clause-count : goal.returns-clause-count
 returns-clause-count c =
-    let e = ap length (ap demands_of c.deref-2.ensures.value ∙ c.in_ok-borrowed.ensures ∙ ap owned_demands_of c.deref.ensures.value) in
+    let e = ap length (ap demands_of c.deref-2.ensures.value ∙ c.in_ok-borrowed.ensures
+    ∙ ap owned_demands_of c.deref.ensures.value) in
     let l = length-map c.deref-2.result.now demand_of in
     let n = c.in_ok-marks.ensures.count in
     let f = c.in_ok-needs.ensures.fits in

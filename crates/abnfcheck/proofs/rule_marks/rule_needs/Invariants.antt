@@ -7,4 +7,5 @@ use Rattle.abnfcheck.proofs.ElementNeedsLemmas.{AreRuleNeeds}
 use Rattle.abnfcheck.proofs.rule_marks.rule_needs.Given as goal
 
 abbrev pub invariant-loop-id : goal.invariant-loop-id
-invariant-loop-id l = (has : ℕ → Bool) → IsTestOf l.aim has → AreRuleNeeds has (rules_of l.rules) l.aim (owned_demands_of l.needs.items) l.id
+invariant-loop-id l = (has : ℕ → Bool) → IsTestOf l.aim has → AreRuleNeeds has (rules_of l.rules) l.aim
+    (owned_demands_of l.needs.items) l.id

@@ -6,6 +6,7 @@ use Rattle.abnfprint.proofs.print.+printing.Given as goal
 
 abbrev pub invariant-print_all-loop-i : goal.invariant-print_all-loop-i
 invariant-print_all-loop-i g l = record {
-  left : Leaves (g.W.Sink.contents l.fn.w) (g.W.Sink.contents l.w) (joined l.place l.mark (elements_of l.es)) (left_of l.place l.mark l.i (elements_of (drop l.i l.es)));
+  left : Leaves (g.W.Sink.contents l.fn.w) (g.W.Sink.contents l.w) (joined l.place l.mark (elements_of l.es))
+      (left_of l.place l.mark l.i (elements_of (drop l.i l.es)));
   flag : g.W.Sink.failed l.w ≡ g.W.Sink.failed l.fn.w;
 }

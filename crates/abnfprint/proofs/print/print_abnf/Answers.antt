@@ -1,5 +1,6 @@
 use Rattle.std.proofs.Common.{rules, arith}
-use Rattle.abnfprint.proofs.LeftTextLemmas.{leaves-all, leaves-rest, leaves-part, leaves-none, leaves-at, rule-left, rules-end}
+use Rattle.abnfprint.proofs.LeftTextLemmas.{leaves-all, leaves-rest, leaves-part, leaves-none, leaves-at, rule-left}
+use Rattle.abnfprint.proofs.LeftTextLemmas.{rules-end}
 use Rattle.abnfprint.proofs.AbnfReadBackLemmas.{table-back}
 use Rattle.abnfprint.proofs.print.print_abnf.Goals as goal
 
@@ -8,19 +9,23 @@ loop-id-init g c = record { left = leaves-all _ _; flag = search rules }
 
 pub loop-id-preserved : goal.loop-id-preserved
 loop-id-preserved g c = record {
-  left = leaves-rest _ _ (leaves-at (rule-left c.args.abnf.now.rules.rules c.loop-id.id c.name.result.now c.body.result.now c.name.ensures c.body.ensures) c.loop-id.invariant.left) c.in-Ok.ensures.bytes;
+  left = leaves-rest _ _ (leaves-at (rule-left c.args.abnf.now.rules.rules c.loop-id.id c.name.result.now
+      c.body.result.now c.name.ensures c.body.ensures) c.loop-id.invariant.left) c.in-Ok.ensures.bytes;
   flag = search rules;
 }
 
 pub returns-in-Err-clause-bytes : goal.returns-in-Err-clause-bytes
-returns-in-Err-clause-bytes g c = leaves-part _ _ _ (leaves-at (rule-left c.args.abnf.now.rules.rules c.loop-id.id c.name.result.now c.body.result.now c.name.ensures c.body.ensures) c.loop-id.invariant.left) c.in-Err.ensures.bytes
+returns-in-Err-clause-bytes g c = leaves-part _ _ _
+    (leaves-at (rule-left c.args.abnf.now.rules.rules c.loop-id.id c.name.result.now c.body.result.now c.name.ensures
+    c.body.ensures) c.loop-id.invariant.left) c.in-Err.ensures.bytes
 
 pub returns-in-Err-clause-read_back : goal.returns-in-Err-clause-read_back
 returns-in-Err-clause-read_back g c = λ source h le. table-back source _ _ _ h le
 
 pub returns : goal.returns
 returns g c = record {
-  bytes = leaves-none (leaves-at (rules-end c.args.abnf.now.rules.rules c.loop-id.id (let e = c.len-id-end.ensures.len in let f = c.loop-id-test.false in omega arith)) c.loop-id.invariant.left);
+  bytes = leaves-none (leaves-at (rules-end c.args.abnf.now.rules.rules c.loop-id.id
+      (let e = c.len-id-end.ensures.len in let f = c.loop-id-test.false in omega arith)) c.loop-id.invariant.left);
   flag = search rules;
   read_back = λ source h le. table-back source _ _ _ h le;
 }

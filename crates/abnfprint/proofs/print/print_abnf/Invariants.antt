@@ -6,6 +6,7 @@ use Rattle.abnfprint.proofs.print.print_abnf.Given as goal
 
 abbrev pub invariant-loop-id : goal.invariant-loop-id
 invariant-loop-id g l = record {
-  left : Leaves (g.W.Sink.contents l.fn.w) (g.W.Sink.contents l.w) (grammar_text (rules_of l.abnf.rules)) (grammar_text (map rule_of (drop l.id l.abnf.rules.rules)));
+  left : Leaves (g.W.Sink.contents l.fn.w) (g.W.Sink.contents l.w) (grammar_text (rules_of l.abnf.rules))
+      (grammar_text (map rule_of (drop l.id l.abnf.rules.rules)));
   flag : g.W.Sink.failed l.w ≡ g.W.Sink.failed l.fn.w;
 }

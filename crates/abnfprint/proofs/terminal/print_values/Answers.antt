@@ -1,14 +1,20 @@
 use Rattle.std.proofs.Common.{rules, codes}
 use Rattle.ruletable.proofs.AppendsLemmas.{AppendsPart-first}
 use Rattle.abnfprint.specs.CanonicalAbnf.{values_text}
-use Rattle.abnfprint.proofs.LeftTextLemmas.{leaves-all, leaves-rest, leaves-part, leaves-none, leaves-at, value-left, values-end}
+use Rattle.abnfprint.proofs.LeftTextLemmas.{leaves-all, leaves-rest, leaves-part, leaves-none, leaves-at, value-left}
+use Rattle.abnfprint.proofs.LeftTextLemmas.{values-end}
 use Rattle.abnfprint.proofs.terminal.print_values.Goals as goal
 
 pub returns-in-Err-clause-bytes : goal.returns-in-Err-clause-bytes
-returns-in-Err-clause-bytes g c = AppendsPart-first _ _ (codes "%x") (values_text c.args.values.now) c.in-Err.ensures.bytes
+returns-in-Err-clause-bytes g c = AppendsPart-first _ _ (codes "%x") (values_text c.args.values.now)
+    c.in-Err.ensures.bytes
 
 pub loop-i-init : goal.loop-i-init
-loop-i-init g c = record { left = leaves-rest (codes "%x") (values_text c.args.values.now) (leaves-all _ _) c.in-Ok.ensures.bytes; flag = search rules }
+loop-i-init g c = record {
+  left = leaves-rest (codes "%x") (values_text c.args.values.now) (leaves-all _
+      _) c.in-Ok.ensures.bytes;
+  flag = search rules;
+}
 
 pub loop-i-preserved : goal.loop-i-preserved
 loop-i-preserved g c =
@@ -23,4 +29,8 @@ returns-in-Err-print_marked-clause-bytes g c =
     leaves-part _ _ _ here (rw dot at c.in-Err-print_marked.ensures.bytes)
 
 pub returns : goal.returns
-returns g c = record { bytes = leaves-none (leaves-at (values-end c.args.values.now c.loop-i.i c.loop-i-test.false) c.loop-i.invariant.left); flag = search rules }
+returns g c = record {
+  bytes = leaves-none (leaves-at (values-end c.args.values.now c.loop-i.i c.loop-i-test.false)
+      c.loop-i.invariant.left);
+  flag = search rules;
+}

@@ -6,6 +6,7 @@ use Rattle.abnfprint.proofs.terminal.print_values.Given as goal
 
 abbrev pub invariant-loop-i : goal.invariant-loop-i
 invariant-loop-i g l = record {
-  left : Leaves (g.W.Sink.contents l.fn.w) (g.W.Sink.contents l.w) (text_of (Values l.values)) (values_left l.i (drop l.i l.values));
+  left : Leaves (g.W.Sink.contents l.fn.w) (g.W.Sink.contents l.w) (text_of (Values l.values))
+      (values_left l.i (drop l.i l.values));
   flag : g.W.Sink.failed l.w ≡ g.W.Sink.failed l.fn.w;
 }

@@ -9,5 +9,12 @@ pub returns : goal.returns
 returns c = λ ts h. record {
   tokens = ts;
   left = rw c.new.ensures.inner (left-at_start White First ends_list c.tokens.result c.tokens.ensures h);
-  same = rw (c.new.ensures.text, c.new.ensures.margin, c.new.ensures.end, c.indent_at.ensures, margin-is c.args.text.now c.after_white.result.now ts h c.after_white.ensures.white c.after_white.ensures.all) refl;
+  same = rw (
+    c.new.ensures.text,
+    c.new.ensures.margin,
+    c.new.ensures.end,
+    c.indent_at.ensures,
+    margin-is c.args.text.now c.after_white.result.now ts h c.after_white.ensures.white c.after_white.ensures.all,
+  )
+      refl;
 }

@@ -15,5 +15,8 @@ returns-in-None-after_digits c =
 
 pub returns-in-None : goal.returns-in-None
 returns-in-None c =
-    let d = c.in_ok-rest.ensures in
-    (values d.0 c.after_dotted.ensures.dotted, λ s h. dotted-longest c.requires d.0 d.1 c.in-None.ensures c.after_dotted.ensures.dotted c.after_dotted.ensures.longest h)
+    let d = c.in_ok-rest.ensures in (
+      values d.0 c.after_dotted.ensures.dotted,
+      λ s h. dotted-longest c.requires d.0 d.1 c.in-None.ensures c.after_dotted.ensures.dotted
+          c.after_dotted.ensures.longest h,
+    )

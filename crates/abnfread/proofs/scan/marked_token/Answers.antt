@@ -5,10 +5,12 @@ use Rattle.abnfread.proofs.AbnfFirstLemmas.{longest-star, longest-text, no-text,
 use Rattle.abnfread.proofs.scan.marked_token.Goals as goal
 
 pub returns-in_err-after_closed-in-34 : goal.returns-in_err-after_closed-in-34
-returns-in_err-after_closed-in-34 c = let h : NoToken Stands (c.args.first ∷ c.args.tail.now) = no-text c.in-34.is c.in_err-after_closed-in-34.ensures in search (rules, h)
+returns-in_err-after_closed-in-34 c = let h : NoToken Stands (c.args.first ∷ c.args.tail.now) =
+    no-text c.in-34.is c.in_err-after_closed-in-34.ensures in search (rules, h)
 
 pub returns-in_err-after_closed-in-60 : goal.returns-in_err-after_closed-in-60
-returns-in_err-after_closed-in-60 c = let h : NoToken Stands (c.args.first ∷ c.args.tail.now) = no-prose c.in-60.is c.in_err-after_closed-in-60.ensures in search (rules, h)
+returns-in_err-after_closed-in-60 c = let h : NoToken Stands (c.args.first ∷ c.args.tail.now) =
+    no-prose c.in-60.is c.in_err-after_closed-in-60.ensures in search (rules, h)
 
 pub returns-in-42 : goal.returns-in-42
 returns-in-42 c = longest-star c.in-42.is c.after_run.ensures.run c.after_run.ensures.all

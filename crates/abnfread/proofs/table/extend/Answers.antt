@@ -19,6 +19,7 @@ returns c =
       body = c.take_body-old.result;
       joins = c.in_ok-new.new;
       there = c.take_body-old.ensures.body;
-      is = ap (λ (x : table.Rules Elem). table.with_body x c.args.id c.in_ok-new.new) t.is ∙ with-twice c.args.rules.now c.args.id t.body c.in_ok-new.new;
+      is = ap (λ (x : table.Rules Elem). table.with_body x c.args.id c.in_ok-new.new) t.is
+          ∙ with-twice c.args.rules.now c.args.id t.body c.in_ok-new.new;
       sums = c.in_ok-new.ensures;
     }

@@ -6,4 +6,5 @@ use Rattle.abnfread.proofs.table.join.Given as goal
 
 -- the alternatives so far and those that are left are all
 abbrev pub invariant-loop-e : goal.invariant-loop-e
-invariant-loop-e l = append (elements_of l.all.items) (elements_of l.e-iterator.rest.items) ≡ append (alternatives_of (element_of l.fn.old)) (alternatives_of (element_of l.fn.new))
+invariant-loop-e l = append (elements_of l.all.items) (elements_of l.e-iterator.rest.items)
+    ≡ append (alternatives_of (element_of l.fn.old)) (alternatives_of (element_of l.fn.new))

@@ -11,4 +11,5 @@ of_num (says_num h) = h
 
 pub returns-in_ok-said_number-in-Num-clause-says :
     goal.returns-in_ok-said_number-in-Num-clause-says
-returns-in_ok-said_number-in-Num-clause-says c s says = c.in_ok-said_number-in-Num.ensures s (of_num (rw c.in-Num.is at says))
+returns-in_ok-said_number-in-Num-clause-says c s says =
+    c.in_ok-said_number-in-Num.ensures s (of_num (rw c.in-Num.is at says))

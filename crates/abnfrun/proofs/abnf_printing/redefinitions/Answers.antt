@@ -6,6 +6,7 @@ use Rattle.abnfrun.proofs.abnf_printing.redefinitions.Goals as goal
 
 pub returns : goal.returns
 returns c =
-    are_redefined c.args.abnf.now.rules c.args.abnf.now.redefined.items c.in_ok-marks.marks.items (map said_of c.note_marked.new.notes.items)
+    are_redefined c.args.abnf.now.rules c.args.abnf.now.redefined.items c.in_ok-marks.marks.items
+    (map said_of c.note_marked.new.notes.items)
     (rw (c.deref.ensures.value, c.len.ensures.len) at c.in_ok-marks.ensures)
     (rw (c.deref-2.ensures.value, c.new-notes.ensures.items) at c.in_ok-note_marked.ensures)

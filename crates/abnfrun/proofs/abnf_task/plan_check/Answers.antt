@@ -6,7 +6,9 @@ use Rattle.abnfrun.proofs.abnf_task.plan_check.Goals as goal
 
 pub returns-in-Ok : goal.returns-in-Ok
 returns-in-Ok c = rw c.task_of_check.ensures
-    (check_plan c.args.grammar.now c.args.settings.now (map said_of c.in-Ok.field-0.notes.items) c.in-Ok.field-0.sound c.requires c.in-Ok.ensures.checked)
+    (check_plan c.args.grammar.now c.args.settings.now (map said_of c.in-Ok.field-0.notes.items) c.in-Ok.field-0.sound
+    c.requires c.in-Ok.ensures.checked)
 
 pub returns-in-Err : goal.returns-in-Err
-returns-in-Err c = rw (c.new.ensures.items, c.stop_unread.ensures) (unread-plan c.args.grammar.now c.args.settings.now c.in-Err.fault c.in-Err.ensures.fault)
+returns-in-Err c = rw (c.new.ensures.items, c.stop_unread.ensures)
+    (unread-plan c.args.grammar.now c.args.settings.now c.in-Err.fault c.in-Err.ensures.fault)

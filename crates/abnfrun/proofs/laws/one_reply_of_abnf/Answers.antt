@@ -6,4 +6,5 @@ use Rattle.lines.proofs.LinesReplyLemmas.{one_lines_reply}
 pub returns : goal.returns
 returns c = λ rules judged settings input a b.
     one_lines_reply (AnswersFor rules judged settings)
-    (λ line. one_answer c.utf8_is_decided.ensures.one c.furthest_is_found.ensures.one settings.letters rules judged line settings.viable) settings.limit input a b
+    (λ line. one_answer c.utf8_is_decided.ensures.one c.furthest_is_found.ensures.one settings.letters rules judged line
+    settings.viable) settings.limit input a b

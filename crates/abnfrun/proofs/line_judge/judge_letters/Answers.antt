@@ -8,29 +8,37 @@ use Rattle.letters.specs.Letters.{has}
 pub returns-in-Yes : goal.returns-in-Yes
 returns-in-Yes g c =
     let j = c.args.judges.now in
-    rw c.in-Yes.is at (verdict_says (has g.L.Letter.ALPHABET) (rules_of j.grammar.now.rules) j.grammar.now.judged (map g.L.Letter.number c.args.line.now)
-    c.derivation_is_decided.ensures c.furthest_is_found.ensures.found c.furthest_is_found.ensures.one j.flat c.in_ok-viable.field-0
-    (rw c.requires.letters at (j.tells c.if-judges.true)) (c.in_ok-viable.ensures.verdict (rules_of j.grammar.now.rules) j.grammar.now.judged))
+    rw c.in-Yes.is at (verdict_says (has g.L.Letter.ALPHABET) (rules_of j.grammar.now.rules) j.grammar.now.judged
+    (map g.L.Letter.number c.args.line.now)
+    c.derivation_is_decided.ensures c.furthest_is_found.ensures.found c.furthest_is_found.ensures.one j.flat
+    c.in_ok-viable.field-0
+    (rw c.requires.letters at (j.tells c.if-judges.true))
+    (c.in_ok-viable.ensures.verdict (rules_of j.grammar.now.rules) j.grammar.now.judged))
 
 pub returns-in-No : goal.returns-in-No
 returns-in-No g c =
     let j = c.args.judges.now in
-    let told = rw c.in-No.is at (verdict_says (has g.L.Letter.ALPHABET) (rules_of j.grammar.now.rules) j.grammar.now.judged (map g.L.Letter.number c.args.line.now)
-    c.derivation_is_decided.ensures c.furthest_is_found.ensures.found c.furthest_is_found.ensures.one j.flat c.in_ok-viable.field-0
-    (rw c.requires.letters at (j.tells c.if-judges.true)) (c.in_ok-viable.ensures.verdict (rules_of j.grammar.now.rules) j.grammar.now.judged)) in
+    let told = rw c.in-No.is at (verdict_says (has g.L.Letter.ALPHABET) (rules_of j.grammar.now.rules)
+    j.grammar.now.judged (map g.L.Letter.number c.args.line.now)
+    c.derivation_is_decided.ensures c.furthest_is_found.ensures.found c.furthest_is_found.ensures.one j.flat
+    c.in_ok-viable.field-0
+    (rw c.requires.letters at (j.tells c.if-judges.true))
+    (c.in_ok-viable.ensures.verdict (rules_of j.grammar.now.rules) j.grammar.now.judged)) in
     (c.if-judges.true, told.0, told.1)
 
 pub returns-then-yes : goal.returns-then-yes
 returns-then-yes g c =
     let j = c.args.judges.now in
-    rw c.if-yes.true at (judge_says (has g.L.Letter.ALPHABET) (rules_of j.grammar.now.rules) j.grammar.now.judged (map g.L.Letter.number c.args.line.now)
+    rw c.if-yes.true at (judge_says (has g.L.Letter.ALPHABET) (rules_of j.grammar.now.rules) j.grammar.now.judged
+    (map g.L.Letter.number c.args.line.now)
     c.derivation_is_decided.ensures j.flat c.in_ok-yes.yes (j.lowered c.if-judges.false)
     (c.in_ok-yes.ensures.derives (rules_of j.grammar.now.rules) j.grammar.now.judged))
 
 pub returns-else-yes : goal.returns-else-yes
 returns-else-yes g c =
     let j = c.args.judges.now in
-    let told = rw c.if-yes.false at (judge_says (has g.L.Letter.ALPHABET) (rules_of j.grammar.now.rules) j.grammar.now.judged (map g.L.Letter.number c.args.line.now)
+    let told = rw c.if-yes.false at (judge_says (has g.L.Letter.ALPHABET) (rules_of j.grammar.now.rules)
+    j.grammar.now.judged (map g.L.Letter.number c.args.line.now)
     c.derivation_is_decided.ensures j.flat c.in_ok-yes.yes (j.lowered c.if-judges.false)
     (c.in_ok-yes.ensures.derives (rules_of j.grammar.now.rules) j.grammar.now.judged)) in
     (c.if-judges.false, told)

@@ -12,7 +12,8 @@ returns-in_default g c =
     let s = c.args.settings.now in
     let rules = rules_of c.args.grammar.now.rules in
     let judged = c.args.grammar.now.judged in
-    no_line_was_run (AnswersFor rules judged s) s.limit (c.lines_have_answers.ensures s.letters s.viable rules judged) _ _ _ _ _
+    no_line_was_run (AnswersFor rules judged s) s.limit (c.lines_have_answers.ensures s.letters s.viable rules judged) _
+    _ _ _ _
 
 pub returns : goal.returns
 returns g c =
@@ -20,4 +21,5 @@ returns g c =
     let rules = rules_of c.args.grammar.now.rules in
     let judged = c.args.grammar.now.judged in
     performs_as (IsAnswerWithin c.in-Ok.flat.limit s.letters s.viable rules judged) (AnswersFor rules judged s) s.limit
-    (λ line said short told. told (subst (λ n. length line ≤ n) (sym c.in-Ok.ensures.limit) short)) _ _ _ c.run_lines.ensures
+    (λ line said short told. told (subst (λ n. length line ≤ n) (sym c.in-Ok.ensures.limit) short)) _ _ _
+    c.run_lines.ensures

@@ -10,8 +10,10 @@ use Rattle.letters.specs.Utf8Text.{number, numbers}
 pub returns-then-is_text : goal.returns-then-is_text
 returns-then-is_text c =
     let j = c.args.judges.now in
-    text_answer j.viable (rules_of j.grammar.now.rules) j.grammar.now.judged c.args.line.now c.utf8_is_decided.ensures.one (numbers c.as_slice.result.now)
-    (rw c.as_slice.ensures.value (c.in_ok-is_text.ensures.text c.if-is_text.true)) c.in_ok-said.said c.in_ok-said.ensures
+    text_answer j.viable (rules_of j.grammar.now.rules) j.grammar.now.judged c.args.line.now
+    c.utf8_is_decided.ensures.one (numbers c.as_slice.result.now)
+    (rw c.as_slice.ensures.value (c.in_ok-is_text.ensures.text c.if-is_text.true)) c.in_ok-said.said
+    c.in_ok-said.ensures
 
 pub judge_letters-requires-clause-within : goal.judge_letters-requires-clause-within
 judge_letters-requires-clause-within c =

@@ -8,6 +8,7 @@ pub returns-in-Ok-clause-loaded : goal.returns-in-Ok-clause-loaded
 returns-in-Ok-clause-loaded c =
     let abnf = c.in_ok-abnf.abnf in
     let checked = c.in-Ok.checked in
-    let k = is_checked c.args.text.now (option_copied c.args.rule) abnf.rules abnf.core abnf.redefined.items abnf.extended.items (map said_of checked.notes.items)
+    let k = is_checked c.args.text.now (option_copied c.args.rule) abnf.rules abnf.core abnf.redefined.items
+    abnf.extended.items (map said_of checked.notes.items)
     checked.sound c.in_ok-abnf.ensures.found c.in_ok-abnf.ensures.core c.in-Ok.ensures.notes c.in-Ok.ensures.sound in
     record { definitions = k.definitions; reads = k.reads; ready = k.ready }

@@ -9,5 +9,6 @@ returns-clause-same c =
     let found = c.in_ok-abnf.ensures.found in
     let text : c.into_inner-out.result.items ≡ grammar_text (rules_of c.in_ok-abnf.abnf.rules) = search rules in
     let within : length c.into_inner-out.result.items ≤ MAX_GRAMMAR = search rules in
-    let back = c.in-Ok.ensures.read_back c.args.text.now (record { definitions = found.0; reads = found.1; kept = found.2 }) (rw (text) at within) in
+    let back = c.in-Ok.ensures.read_back c.args.text.now
+    (record { definitions = found.0; reads = found.1; kept = found.2 }) (rw (text) at within) in
     (found.0, found.1, rw (← text, found.2.kept) at back)

@@ -12,5 +12,6 @@ pub returns-clause-fault : goal.returns-clause-fault
 returns-clause-fault c =
     let same = rw c.in-Some.is at c.in_ok-canonical.ensures.same in
     let back = same.2 in
-    let wants : c.in-Err.fault ≡ fault.Memory = c.in-Err.ensures.only back.again (rw (c.deref.ensures.value) back.reads) in
+    let wants : c.in-Err.fault ≡ fault.Memory = c.in-Err.ensures.only back.again
+    (rw (c.deref.ensures.value) back.reads) in
     rw wants tt

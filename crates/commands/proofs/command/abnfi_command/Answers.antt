@@ -19,7 +19,8 @@ pub returns-in_err-with_letters : goal.returns-in_err-with_letters
 returns-in_err-with_letters c =
     let options = c.in_ok-with_options.ensures.options in
     let letters = c.letters_arg-letters.ensures.rule in
-    let fault = err_from_is_err_and c.from_residual-in_err-with_letters.result c.from_residual-in_err-with_letters.ensures.1 in
+    let fault = err_from_is_err_and c.from_residual-in_err-with_letters.result
+    c.from_residual-in_err-with_letters.ensures.1 in
     record {
       app = (abnfi_app options.0 letters.0, (options.0, options.1, letters.0, letters.1, refl), rw fault.1 tt);
     }
@@ -28,7 +29,8 @@ pub returns-in_err-with_viable : goal.returns-in_err-with_viable
 returns-in_err-with_viable c =
     let options = c.in_ok-with_options.ensures.options in
     let letters = c.letters_arg-letters.ensures.rule in
-    let fault = err_from_is_err_and c.from_residual-in_err-with_viable.result c.from_residual-in_err-with_viable.ensures.1 in
+    let fault = err_from_is_err_and c.from_residual-in_err-with_viable.result
+    c.from_residual-in_err-with_viable.ensures.1 in
     record {
       app = (abnfi_app options.0 letters.0, (options.0, options.1, letters.0, letters.1, refl), rw fault.1 tt);
     }
@@ -40,12 +42,14 @@ returns c =
     let zero = ap app_of_fields c.after_help-plain.ensures ∙ ap app_of_fields c.about.ensures ∙ c.new.ensures.app in
     let base = options.2 ∙ ap (with_options options.0) zero in
     let two = c.in_ok-with_letters.ensures.shape c.letters_arg-letters.ensures.local ∙ ap₂ with_rule base letters.2 in
-    let three = c.in_ok-with_viable.ensures.shape c.viable_arg.ensures.local ∙ ap₂ with_rule two c.viable_arg.ensures.rule in
+    let three = c.in_ok-with_viable.ensures.shape c.viable_arg.ensures.local
+    ∙ ap₂ with_rule two c.viable_arg.ensures.rule in
     record {
       app = (
         abnfi_app options.0 letters.0,
         (options.0, options.1, letters.0, letters.1, refl),
         IfOk-weaker c.arg-3.result _ _
-            (λ r h. h.shape c.grammar_arg.ensures.local ∙ ap₂ with_rule three c.grammar_arg.ensures.rule) c.arg-3.ensures,
+            (λ r h. h.shape c.grammar_arg.ensures.local ∙ ap₂ with_rule three c.grammar_arg.ensures.rule)
+            c.arg-3.ensures,
       );
     }

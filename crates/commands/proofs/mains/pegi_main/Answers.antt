@@ -1,4 +1,5 @@
--- With a job the tool is run on its grammar; without one the end says what the words came to, and the reader is as it was.
+-- With a job the tool is run on its grammar; without one the end says what the words came to, and the reader is as it
+-- was.
 use Rattle.std.proofs.Common.{rules, map, string_bytes, Global}
 use Rattle.gramtools.specs.Answers.{States}
 use Rattle.clap.specs.Words.{fault_of, matches_of}
@@ -22,10 +23,12 @@ returns-in-Ok g c =
       right = (
         job.0,
         job.1,
-        λ none. job_comes States (matches_of job.0 words) (record { settings = c.in-Ok.job.settings; path = job.2.1.0 }) job.2.1.1 c.as_slice.result.now
+        λ none. job_comes States (matches_of job.0 words) (record { settings = c.in-Ok.job.settings; path = job.2.1.0 })
+            job.2.1.1 c.as_slice.result.now
             (passed g.I.Source.remaining g.I.Source.failed c.args.reader.now c.run_peg.new.reader)
             (passed g.O.Sink.contents g.O.Sink.failed c.args.out.now c.run_peg.new.out)
-            (passed g.E.Sink.contents g.E.Sink.failed c.args.err.now c.run_peg.new.err) (code_of c.run_peg.result) c.run_peg.ensures.right,
+            (passed g.E.Sink.contents g.E.Sink.failed c.args.err.now c.run_peg.new.err) (code_of c.run_peg.result)
+            c.run_peg.ensures.right,
       );
     }
 
@@ -44,9 +47,12 @@ returns-in-Err g c =
       right = (
         job.0,
         job.1,
-        λ none. unready_comes States (matches_of job.0 words) (g.I.Source.remaining c.args.reader.now) (g.I.Source.failed c.args.reader.now)
-            (g.I.Source.failed c.args.reader.now) (passed g.O.Sink.contents g.O.Sink.failed c.args.out.now c.end_unready.new.out)
-            (passed g.E.Sink.contents g.E.Sink.failed c.args.err.now c.end_unready.new.err) (code_of c.end_unready.result) c.in-Err.why kinds none job.2
+        λ none. unready_comes States (matches_of job.0 words) (g.I.Source.remaining c.args.reader.now)
+            (g.I.Source.failed c.args.reader.now)
+            (g.I.Source.failed c.args.reader.now) (passed g.O.Sink.contents g.O.Sink.failed c.args.out.now
+            c.end_unready.new.out)
+            (passed g.E.Sink.contents g.E.Sink.failed c.args.err.now c.end_unready.new.err)
+            (code_of c.end_unready.result) c.in-Err.why kinds none job.2
             c.end_unready.ensures.stopped,
       );
     }

@@ -8,5 +8,7 @@ use Rattle.gramcheck.proofs.check.check_peg.Goals as goal
 pub new-sound-requires : goal.new-sound-requires
 new-sound-requires c =
     let told : false ≡ is_refused (map said_of c.deref-2.result.now) = c.if-refused.ensures in
-    let passes : is_refused (map said_of c.in_ok-judged.judged.notes.items) ≡ false = rw c.deref-2.ensures.value at (sym told) in
-    c.in_ok-judged.ensures.ranked passes c.in_ok-first.first (start-below _ (rules_of c.args.peg.rules) c.in_ok-first.first c.in_ok-first.ensures)
+    let passes : is_refused (map said_of c.in_ok-judged.judged.notes.items) ≡ false =
+    rw c.deref-2.ensures.value at (sym told) in
+    c.in_ok-judged.ensures.ranked passes c.in_ok-first.first
+    (start-below _ (rules_of c.args.peg.rules) c.in_ok-first.first c.in_ok-first.ensures)

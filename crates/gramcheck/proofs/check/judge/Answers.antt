@@ -13,15 +13,19 @@ module _ (c : goal.After-drop-found-4) where
   abbrev rules : List Rule
   rules = rules_of c.args.rules.now
 
-  found : IsAnalysed rules (shapes_of c.in_ok-cut.cut.nodes.items) c.in_ok-cut.cut.bodies.items c.in_ok-found.found.nulls.items c.in_ok-found.found.recursive.items
+  found : IsAnalysed rules (shapes_of c.in_ok-cut.cut.nodes.items) c.in_ok-cut.cut.bodies.items
+      c.in_ok-found.found.nulls.items c.in_ok-found.found.recursive.items
       c.in_ok-found.found.looping.items c.in_ok-found.found.ranks.items
   found =
-      let h = c.in_ok-found.ensures rules (rw (c.deref.ensures.value, c.deref-2.ensures.value) c.in_ok-cut.ensures.bodies) in
+      let h = c.in_ok-found.ensures rules (rw (c.deref.ensures.value, c.deref-2.ensures.value)
+      c.in_ok-cut.ensures.bodies) in
       rw (c.deref.ensures.value, c.deref-2.ensures.value) at h
 
-  notes : AreNotes rules (names_at rules c.args.redefined.now) (option_copied c.args.start) (map said_of c.in_ok-notes.notes.items)
+  notes : AreNotes rules (names_at rules c.args.redefined.now) (option_copied c.args.start)
+      (map said_of c.in_ok-notes.notes.items)
   notes = c.in_ok-notes.ensures
-      (rw c.deref-3.ensures.value (marks-recursive rules _ _ _ _ _ _ found (own-ids c.args.rules.now c.requires c.len.ensures.unique)))
+      (rw c.deref-3.ensures.value (marks-recursive rules _ _ _ _ _ _ found
+      (own-ids c.args.rules.now c.requires c.len.ensures.unique)))
       (rw c.deref-4.ensures.value (marks-looping rules _ _ _ _ _ _ found))
 
 pub returns-clause-notes : goal.returns-clause-notes
@@ -29,7 +33,9 @@ returns-clause-notes c = notes c
 
 pub returns-clause-ranked : goal.returns-clause-ranked
 returns-clause-ranked c = λ passes first lt.
-    ranked (rules c) _ _ _ (notes c) passes _ _ _ _ _ _ (found c) c.in_ok-cut.ensures.bodies c.in_ok-cut.ensures.built c.in_ok-cut.ensures.standing first lt
+    ranked (rules c) _ _ _ (notes c) passes _ _ _ _ _ _ (found c) c.in_ok-cut.ensures.bodies c.in_ok-cut.ensures.built
+    c.in_ok-cut.ensures.standing first lt
 
 pub returns-clause-given : goal.returns-clause-given
-returns-clause-given c = λ passes. is-given c.args.rules.now c.requires (option_copied c.args.start) (λ word e. start-known (rules c) _ _ _ (notes c) passes word e)
+returns-clause-given c = λ passes. is-given c.args.rules.now c.requires (option_copied c.args.start)
+    (λ word e. start-known (rules c) _ _ _ (notes c) passes word e)

@@ -8,7 +8,8 @@ pub loop-id-init : goal.loop-id-init
 loop-id-init c = none_cut _ _ _ c.new-nodes.ensures.items c.new-bodies.ensures.items
 
 pub loop-id-preserved : goal.loop-id-preserved
-loop-id-preserved c = rw (c.in_ok-push.ensures.items) (next_cut _ _ _ _ _ _ _ c.loop-id.invariant c.body.ensures c.in_ok-n.ensures)
+loop-id-preserved c = rw (c.in_ok-push.ensures.items)
+    (next_cut _ _ _ _ _ _ _ c.loop-id.invariant c.body.ensures c.in_ok-n.ensures)
 
 pub returns-clause-bodies : goal.returns-clause-bodies
 returns-clause-bodies c =

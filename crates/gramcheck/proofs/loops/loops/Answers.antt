@@ -19,5 +19,6 @@ repeats-repeats-requires-clause-marks c = λ m h.
 
 pub loop-n-preserved : goal.loop-n-preserved
 loop-n-preserved c = rw (c.in_ok-push.ensures).items
-    (o.loops_next _ _ _ _ _ _ c.requires.built c.loop-n.invariant (t.node_at _ _ _ c.loop-n-test.true c.index-nodes-n.is)
+    (o.loops_next _ _ _ _ _ _ c.requires.built c.loop-n.invariant
+    (t.node_at _ _ _ c.loop-n-test.true c.index-nodes-n.is)
     (rw c.deref.ensures.value at c.repeats-repeats.ensures))

@@ -12,7 +12,10 @@ returns c =
     let t = c.args.peg.now.rules in
     let count : length (rules_of t) ≡ c.len.result = length-map t.rules rule_of ∙ sym c.len.ensures.len in
     let own = own-names t c.len.ensures.unique c.args.peg.now.exact in
-    let told = rw (c.deref-2.ensures.value, c.new-notes.ensures.items, sym (names-same t)) at c.in_ok-note_marked.ensures in
-    redefinitions-are (rules_of t) c.args.peg.now.redefined.items c.in_ok-again.again.items (map said_of c.note_marked.new.notes.items)
-    (marks-again (rules_of t) own c.args.peg.now.redefined.items c.in_ok-again.again.items (rw (c.deref.ensures.value, sym count) at c.in_ok-again.ensures))
+    let told = rw (c.deref-2.ensures.value, c.new-notes.ensures.items, sym (names-same t)) at
+    c.in_ok-note_marked.ensures in
+    redefinitions-are (rules_of t) c.args.peg.now.redefined.items c.in_ok-again.again.items
+    (map said_of c.note_marked.new.notes.items)
+    (marks-again (rules_of t) own c.args.peg.now.redefined.items c.in_ok-again.again.items
+    (rw (c.deref.ensures.value, sym count) at c.in_ok-again.ensures))
     told

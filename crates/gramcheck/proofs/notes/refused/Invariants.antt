@@ -6,4 +6,5 @@ use Rattle.gramcheck.specs.GrammarNotes.{said_refuses}
 use Rattle.gramcheck.proofs.notes.refused.Given as goal
 
 abbrev pub invariant-loop-note : goal.invariant-loop-note
-invariant-loop-note l = list_any said_refuses (map said_of l.notes) ≡ list_any said_refuses (map said_of (drop l.note-index l.notes))
+invariant-loop-note l = list_any said_refuses (map said_of l.notes) ≡ list_any said_refuses
+    (map said_of (drop l.note-index l.notes))

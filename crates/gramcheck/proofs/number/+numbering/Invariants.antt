@@ -6,4 +6,5 @@ use Rattle.gramcheck.proofs.number.+numbering.Given as goal
 
 abbrev pub invariant-number_all-loop-member : goal.invariant-number_all-loop-member
 invariant-number_all-loop-member l =
-    NumbersAll (rules_of l.rules) (shapes_of l.initial.nodes.items) (shapes_of l.nodes.items) l.numbers.items (patterns_of (take l.member-index l.members))
+    NumbersAll (rules_of l.rules) (shapes_of l.initial.nodes.items) (shapes_of l.nodes.items) l.numbers.items
+    (patterns_of (take l.member-index l.members))

@@ -9,13 +9,15 @@ use Rattle.gramcheck.proofs.uses.uses_of.Goals as goal
 
 pub loop-id-init : goal.loop-id-init
 loop-id-init c =
-    rw append-nil (c.in_ok-add_start.ensures [] (rw c.new.ensures.items (uses-none c.args.rules.now c.in_ok-names.names c.in_ok-names.ensures.case c.in_ok-names.ensures.names)))
+    rw append-nil (c.in_ok-add_start.ensures [] (rw c.new.ensures.items
+    (uses-none c.args.rules.now c.in_ok-names.names c.in_ok-names.ensures.case c.in_ok-names.ensures.names)))
 
 pub loop-id-preserved : goal.loop-id-preserved
 loop-id-preserved c =
     rw (
       used-next c.args.rules.now.rules c.loop-id.id c.body.result.now c.body.ensures,
-      ← append_assoc (option_to_list (start_of (option_copied c.args.start) (rules_of c.args.rules.now))) (names_used (take c.loop-id.id (rules_of c.args.rules.now)))
+      ← append_assoc (option_to_list (start_of (option_copied c.args.start) (rules_of c.args.rules.now)))
+          (names_used (take c.loop-id.id (rules_of c.args.rules.now)))
           (names_in (pattern_of c.body.result.now)),
     )
     (c.in_ok-add_uses.ensures (rules_of c.args.rules.now) _ c.loop-id.invariant)

@@ -7,5 +7,7 @@ use Rattle.gramcheck.specs.Uses.{AreUses, names_used}
 use Rattle.gramcheck.proofs.uses.uses_of.Given as goal
 
 abbrev pub invariant-loop-id : goal.invariant-loop-id
-invariant-loop-id l = AreUses (rules_of l.rules) (option_to_list (start_of (option_copied l.fn.start) (rules_of l.rules)) ++ names_used (take l.id (rules_of l.rules)))
+invariant-loop-id l = AreUses (rules_of l.rules)
+    (option_to_list (start_of (option_copied l.fn.start) (rules_of l.rules))
+    ++ names_used (take l.id (rules_of l.rules)))
     l.uses.names l.uses.ids.items

@@ -29,19 +29,31 @@ loop-n-preserved g c =
       capacity = c.skip.ensures.capacity ∙ grew.capacity ∙ c.loop-n.invariant.capacity;
       within = let kept = ap length c.skip.ensures.bytes in
           let more = ap length grew.bytes in
-          omega (arith, kept, length-drop n items, c.skip.ensures.allowance, grew.allowance, more, length-append c.loop-n.feed.ring.items grew.more, c.loop-n.invariant.within, le);
+          omega (
+            arith,
+            kept,
+            length-drop n items,
+            c.skip.ensures.allowance,
+            grew.allowance,
+            more,
+            length-append c.loop-n.feed.ring.items grew.more,
+            c.loop-n.invariant.within,
+            le,
+          );
       told = rw (c.skip.ensures.reader, c.skip.ensures.allowance, c.skip.ensures.flow) c.in-Ok-Takes.ensures.told;
       loan = c.skip.ensures.loan ∙ c.in-Ok-Takes.ensures.loan ∙ c.loop-n.invariant.loan;
       flag = search rules;
       written = (
         so_far.0 ++ take n items,
         slides-len so_far.0 items n c.loop-n.start so_far.1 le,
-        rw (c.skip.ensures.reader, c.skip.ensures.bytes, slides so_far.0 items n) (seen_more _ _ _ grew so_far.0 _ so_far.2),
+        rw (c.skip.ensures.reader, c.skip.ensures.bytes, slides so_far.0 items n)
+            (seen_more _ _ _ grew so_far.0 _ so_far.2),
         λ input b.
             let a = rw (c.skip.ensures.bytes, slides so_far.0 items n, c.skip.ensures.flow) at b in
             let front = so_far.3 input (earlier _ _ _ grew so_far.0 input a) in
             let step = c.in-Ok-Takes.ensures.follows so_far.0 input so_far.1 a in
-            one_more_unit _ _ _ input _ _ _ c.loop-n.start front.0 0 front.1 front.2 n (rw c.in-Ok-Takes.field-0-is at step.0),
+            one_more_unit _ _ _ input _ _ _ c.loop-n.start front.0 0 front.1 front.2 n
+            (rw c.in-Ok-Takes.field-0-is at step.0),
       );
     }
 
@@ -53,11 +65,20 @@ returns-in-Ok-Stops-clause-units g c =
       so_far.0 ++ items,
       seen_more _ _ _ grew so_far.0 _ so_far.2,
       let more = ap length grew.bytes in
-          omega (arith, length-append so_far.0 items, so_far.1, grew.allowance, more, length-append c.loop-n.feed.ring.items grew.more, c.loop-n.invariant.within),
+          omega (
+            arith,
+            length-append so_far.0 items,
+            so_far.1,
+            grew.allowance,
+            more,
+            length-append c.loop-n.feed.ring.items grew.more,
+            c.loop-n.invariant.within,
+          ),
       λ input a.
           let front = so_far.3 input (earlier _ _ _ grew so_far.0 input a) in
           let step = c.in-Ok-Stops.ensures.follows so_far.0 input so_far.1 a in
-          stops_there _ _ _ input _ _ _ c.loop-n.start front.0 (length (so_far.0 ++ items)) front.1 front.2 c.in-Ok-Stops.stop (rw c.in-Ok-Stops.field-0-is at step.0) step.1,
+          stops_there _ _ _ input _ _ _ c.loop-n.start front.0 (length (so_far.0 ++ items)) front.1 front.2
+          c.in-Ok-Stops.stop (rw c.in-Ok-Stops.field-0-is at step.0) step.1,
     )
 
 pub returns-in-Err-clause-units : goal.returns-in-Err-clause-units
@@ -68,9 +89,18 @@ returns-in-Err-clause-units g c =
       so_far.0 ++ items,
       seen_more _ _ _ grew so_far.0 _ so_far.2,
       let more = ap length grew.bytes in
-          omega (arith, length-append so_far.0 items, so_far.1, grew.allowance, more, length-append c.loop-n.feed.ring.items grew.more, c.loop-n.invariant.within),
+          omega (
+            arith,
+            length-append so_far.0 items,
+            so_far.1,
+            grew.allowance,
+            more,
+            length-append c.loop-n.feed.ring.items grew.more,
+            c.loop-n.invariant.within,
+          ),
       λ input a.
           let front = so_far.3 input (earlier _ _ _ grew so_far.0 input a) in
           let step = c.in-Err.ensures.follows so_far.0 input so_far.1 a in
-          fails_there _ _ _ input _ _ _ c.loop-n.start front.0 (length (so_far.0 ++ items)) front.1 front.2 c.in-Err.fault step.0 step.1,
+          fails_there _ _ _ input _ _ _ c.loop-n.start front.0 (length (so_far.0 ++ items)) front.1 front.2
+          c.in-Err.fault step.0 step.1,
     )

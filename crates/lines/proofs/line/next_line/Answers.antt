@@ -16,9 +16,12 @@ returns-in-Some-clause-fits g c = let is = c.in-Some.ensures in let high = is.0.
 pub returns-in-None-clause-follows : goal.returns-in-None-clause-follows
 returns-in-None-clause-follows g c = λ limit before input room a.
     let feed = c.fill-held.new.self in (
-      rw (c.without_lf.ensures, c.len-len.ensures.len) (not_found feed limit before input room c.fill-held.ensures.within a c.in-None.ensures c.fill-held.result c.fill-held.ensures.held),
+      rw (c.without_lf.ensures, c.len-len.ensures.len)
+          (not_found feed limit before input room c.fill-held.ensures.within a c.in-None.ensures c.fill-held.result
+          c.fill-held.ensures.held),
       taken feed limit before input room c.fill-held.ensures.within a c.fill-held.result c.fill-held.ensures.held,
     )
 
 pub returns-in-None-clause-fits : goal.returns-in-None-clause-fits
-returns-in-None-clause-fits g c = rw (c.without_lf.ensures, c.len-len.ensures.len) (without_fits c.fill-held.result (length c.fill-held.new.self.ring.items))
+returns-in-None-clause-fits g c = rw (c.without_lf.ensures, c.len-len.ensures.len)
+    (without_fits c.fill-held.result (length c.fill-held.new.self.ring.items))

@@ -1,5 +1,6 @@
 -- One more line, or the end.
-use Rattle.std.proofs.Common.{ℕ, [], ◌+◌, ◌++◌, ◌≤◌, ◌∙◌, length, take, refl, ap, rules, arith, length-append, length-drop}
+use Rattle.std.proofs.Common.{ℕ, [], ◌+◌, ◌++◌, ◌≤◌, ◌∙◌, length, take, refl, ap, rules, arith, length-append}
+use Rattle.std.proofs.Common.{length-drop}
 use Rattle.ruletable.proofs.AppendsLemmas.{Appends-same}
 use Rattle.feed.proofs.GrowsLemmas.{Consumes-same}
 use Rattle.toolrun.proofs.AgreesLemmas.{earlier, seen_more, slides, slides-len}
@@ -31,19 +32,31 @@ loop-said-preserved g c =
       counted = omega (arith, c.loop-said.invariant.counted);
       within = let kept = ap length c.skip.ensures.bytes in
           let more = ap length grew.bytes in
-          omega (arith, kept, length-drop n items, c.skip.ensures.allowance, grew.allowance, more, length-append c.loop-said.feed.ring.items grew.more, c.loop-said.invariant.within, le);
+          omega (
+            arith,
+            kept,
+            length-drop n items,
+            c.skip.ensures.allowance,
+            grew.allowance,
+            more,
+            length-append c.loop-said.feed.ring.items grew.more,
+            c.loop-said.invariant.within,
+            le,
+          );
       told = rw (c.skip.ensures.reader, c.skip.ensures.allowance, c.skip.ensures.flow) c.in-Ok-Answers.ensures.told;
       loan = c.skip.ensures.loan ∙ c.in-Ok-Answers.ensures.loan ∙ c.loop-said.invariant.loan;
       flag = search rules;
       written = (
         so_far.0 ++ take n items,
         (let e = slides-len so_far.0 items n c.loop-said.at.place so_far.1 le in omega (arith, e)),
-        rw (c.skip.ensures.reader, c.skip.ensures.bytes, slides so_far.0 items n) (seen_more _ _ _ grew so_far.0 _ so_far.2),
+        rw (c.skip.ensures.reader, c.skip.ensures.bytes, slides so_far.0 items n)
+            (seen_more _ _ _ grew so_far.0 _ so_far.2),
         λ input b.
             let a = rw (c.skip.ensures.bytes, slides so_far.0 items n, c.skip.ensures.flow) at b in
             let front = so_far.3 input (earlier _ _ _ grew so_far.0 input a) in
             let step = c.in-Ok-Answers.ensures.follows so_far.0 input so_far.1 a in
-            rw c.still_all.ensures (one_more_line (g.J.Judge.told c.args.judge.now) c.args.limit input c.loop-said.at _ _ _ front.0 front.1 front.2
+            rw c.still_all.ensures (one_more_line (g.J.Judge.told c.args.judge.now) c.args.limit input c.loop-said.at _
+            _ _ front.0 front.1 front.2
             c.in-Ok-Answers.said c.in-Ok-Answers.len (rw c.in-Ok-Answers.field-0-is at step.0)),
       );
     }
@@ -56,11 +69,20 @@ returns-in-Ok-Stops-clause-lines g c =
       so_far.0 ++ items,
       seen_more _ _ _ grew so_far.0 _ so_far.2,
       let more = ap length grew.bytes in
-          omega (arith, length-append so_far.0 items, so_far.1, grew.allowance, more, length-append c.loop-said.feed.ring.items grew.more, c.loop-said.invariant.within),
+          omega (
+            arith,
+            length-append so_far.0 items,
+            so_far.1,
+            grew.allowance,
+            more,
+            length-append c.loop-said.feed.ring.items grew.more,
+            c.loop-said.invariant.within,
+          ),
       λ input a.
           let front = so_far.3 input (earlier _ _ _ grew so_far.0 input a) in
           let step = c.in-Ok-Stops.ensures.follows so_far.0 input so_far.1 a in
-          stops_there (g.J.Judge.told c.args.judge.now) c.args.limit input c.loop-said.at _ _ _ front.0 front.1 front.2 (length (so_far.0 ++ items))
+          stops_there (g.J.Judge.told c.args.judge.now) c.args.limit input c.loop-said.at _ _ _ front.0 front.1 front.2
+          (length (so_far.0 ++ items))
           c.in-Ok-Stops.stop (rw c.in-Ok-Stops.field-0-is at step.0) step.1,
     )
 
@@ -72,10 +94,19 @@ returns-in-Err-clause-lines g c =
       so_far.0 ++ items,
       seen_more _ _ _ grew so_far.0 _ so_far.2,
       let more = ap length grew.bytes in
-          omega (arith, length-append so_far.0 items, so_far.1, grew.allowance, more, length-append c.loop-said.feed.ring.items grew.more, c.loop-said.invariant.within),
+          omega (
+            arith,
+            length-append so_far.0 items,
+            so_far.1,
+            grew.allowance,
+            more,
+            length-append c.loop-said.feed.ring.items grew.more,
+            c.loop-said.invariant.within,
+          ),
       λ input a.
           let front = so_far.3 input (earlier _ _ _ grew so_far.0 input a) in
           let step = c.in-Err.ensures.follows so_far.0 input so_far.1 a in
-          fails_there (g.J.Judge.told c.args.judge.now) c.args.limit input c.loop-said.at _ _ _ front.0 front.1 front.2 c.decided.ensures (length (so_far.0 ++ items))
+          fails_there (g.J.Judge.told c.args.judge.now) c.args.limit input c.loop-said.at _ _ _ front.0 front.1 front.2
+          c.decided.ensures (length (so_far.0 ++ items))
           c.in-Err.fault step.0 step.1,
     )

@@ -11,16 +11,19 @@ items_set-requires c =
     paired-behind_plain (omega arith) (rw (c.in-Some.ensures) at text)
 
 pub items_set-requires-in-None : goal.items_set-requires-in-None
-items_set-requires-in-None c = let q = class-bracketed c.requires in rw (c.inside-text.ensures 91 93 q.inside q.cut) q.paired
+items_set-requires-in-None c = let q = class-bracketed c.requires in rw (c.inside-text.ensures 91 93 q.inside q.cut)
+    q.paired
 
 pub returns-in-Some : goal.returns-in-Some
 returns-in-Some c =
     let q = class-bracketed c.requires in
     let e = c.inside-text.ensures 91 93 q.inside q.cut in
-    class-negative _ _ (rw (sym e) at q.cut) c.in-Some.ensures c.complement.ensures.count c.items_set.ensures.items c.complement.ensures.members
+    class-negative _ _ (rw (sym e) at q.cut) c.in-Some.ensures c.complement.ensures.count c.items_set.ensures.items
+    c.complement.ensures.members
 
 pub returns-in-None : goal.returns-in-None
 returns-in-None c =
     let q = class-bracketed c.requires in
     let e = c.inside-text.ensures 91 93 q.inside q.cut in
-    class-positive _ (rw (sym e) at q.cut) c.in-None.ensures c.items_set-in-None.ensures.count c.items_set-in-None.ensures.items
+    class-positive _ (rw (sym e) at q.cut) c.in-None.ensures c.items_set-in-None.ensures.count
+    c.items_set-in-None.ensures.items

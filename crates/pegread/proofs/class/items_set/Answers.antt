@@ -9,7 +9,8 @@ loop-item-smaller c = item-smaller c.in-Some.ensures
 pub loop-item-preserved : goal.loop-item-preserved
 loop-item-preserved c = record {
   paired = item-paired c.in-Some.ensures c.loop-item.invariant.paired;
-  spells = λ xs h. items-step _ _ _ _ xs c.add_range.ensures.members (c.loop-item.invariant.spells _ (more_items c.in-Some.ensures h));
+  spells = λ xs h. items-step _ _ _ _ xs c.add_range.ensures.members
+      (c.loop-item.invariant.spells _ (more_items c.in-Some.ensures h));
   count = c.add_range.ensures.count ∙ c.loop-item.invariant.count;
 }
 

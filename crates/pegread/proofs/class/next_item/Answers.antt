@@ -31,6 +31,7 @@ pub returns-in_default : goal.returns-in_default
 returns-in_default c =
     item_char c.in_ok-first.ensures (elim c.in_default.branch [
       | in_default-via-in-Some+else-not-is_empty w ↦ λ goes.
-          goes-some w.in-Some.end.now (nil_from_length _ (grind (arith, nat_tests, w.if-not-is_empty.ensures))) (rw w.in-Some.ensures at goes)
+          goes-some w.in-Some.end.now (nil_from_length _ (grind (arith, nat_tests, w.if-not-is_empty.ensures)))
+          (rw w.in-Some.ensures at goes)
       | in_default-via-in_default w ↦ λ goes. lacks-ends c.in_ok-first.rest.now w.in_default.ensures goes
     ])

@@ -5,10 +5,12 @@ use Rattle.pegread.proofs.SliceFrontLemmas.{blank-on, comment-off}
 use Rattle.pegread.proofs.lexing.after_blanks.Goals as goal
 
 pub loop-first-preserved-then-is_white : goal.loop-first-preserved-then-is_white
-loop-first-preserved-then-is_white c = λ r h. c.loop-first.invariant r (blank-on c.in-Some.ensures.cases.0 (search rules) h)
+loop-first-preserved-then-is_white c = λ r h. c.loop-first.invariant r
+    (blank-on c.in-Some.ensures.cases.0 (search rules) h)
 
 pub loop-first-preserved : goal.loop-first-preserved
-loop-first-preserved c = λ r h. c.loop-first.invariant r (comment-off c.in-Some.ensures.cases.0 c.if-first-eq35.true c.after_comment-rest.ensures.comment h)
+loop-first-preserved c = λ r h. c.loop-first.invariant r
+    (comment-off c.in-Some.ensures.cases.0 c.if-first-eq35.true c.after_comment-rest.ensures.comment h)
 
 pub returns-else-first-eq35-clause-white : goal.returns-else-first-eq35-clause-white
 returns-else-first-eq35-clause-white c = c.loop-first.invariant _ no_more

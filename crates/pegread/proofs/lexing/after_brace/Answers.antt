@@ -1,5 +1,6 @@
 use Rattle.std.proofs.Common.{arith, add-one, ◌≡◌, ◌-◌, suc}
-use Rattle.pegread.proofs.SliceFrontLemmas.{body-last, bodies-open, bodies-open-back, bodies-close, bodies-close-back, bodies-other, bodies-other-back, no-bodies}
+use Rattle.pegread.proofs.SliceFrontLemmas.{body-last, bodies-open, bodies-open-back, bodies-close, bodies-close-back}
+use Rattle.pegread.proofs.SliceFrontLemmas.{bodies-other, bodies-other-back, no-bodies}
 use Rattle.pegread.proofs.lexing.after_brace.Goals as goal
 
 pub returns-then-depth-eq0 : goal.returns-then-depth-eq0
@@ -25,7 +26,8 @@ loop-first-preserved-else-depth-eq0 c =
     record {
       room = let h = c.loop-first.invariant.room in let f = e.1 in omega arith;
       closes = λ r h. c.loop-first.invariant.closes r (rw positive (bodies-close e.0 r _ c.if-first-eq125.true h));
-      only = λ r h. bodies-close-back e.0 r _ c.if-first-eq125.true (let k = c.loop-first.invariant.only r h in rw positive at k);
+      only = λ r h. bodies-close-back e.0 r _ c.if-first-eq125.true (let k = c.loop-first.invariant.only r h in
+          rw positive at k);
     }
 
 pub loop-first-preserved : goal.loop-first-preserved
@@ -33,8 +35,10 @@ loop-first-preserved c =
     let e = c.in-Some.ensures.cases in
     record {
       room = let h = c.loop-first.invariant.room in let f = e.1 in omega arith;
-      closes = λ r h. c.loop-first.invariant.closes r (bodies-other e.0 r _ c.if-first-eq123.false c.if-first-eq125.false h);
-      only = λ r h. bodies-other-back e.0 r _ c.if-first-eq123.false c.if-first-eq125.false (c.loop-first.invariant.only r h);
+      closes = λ r h. c.loop-first.invariant.closes r
+          (bodies-other e.0 r _ c.if-first-eq123.false c.if-first-eq125.false h);
+      only = λ r h. bodies-other-back e.0 r _ c.if-first-eq123.false c.if-first-eq125.false
+          (c.loop-first.invariant.only r h);
     }
 
 pub returns : goal.returns

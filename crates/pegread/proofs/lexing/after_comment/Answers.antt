@@ -10,7 +10,9 @@ loop-first-preserved c = record {
 }
 
 pub returns-then-is_newline-clause-comment : goal.returns-then-is_newline-clause-comment
-returns-then-is_newline-clause-comment c = c.loop-first.invariant.ends _ (ended (rw c.in-Some.ensures.cases.0 (search rules)))
+returns-then-is_newline-clause-comment c = c.loop-first.invariant.ends _
+    (ended (rw c.in-Some.ensures.cases.0 (search rules)))
 
 pub returns-in_default-clause-comment : goal.returns-in_default-clause-comment
-returns-in_default-clause-comment c = c.loop-first.invariant.ends _ (ended (line_end-nothing _ c.in_default.ensures.cases))
+returns-in_default-clause-comment c = c.loop-first.invariant.ends _
+    (ended (line_end-nothing _ c.in_default.ensures.cases))

@@ -1,4 +1,5 @@
-use Rattle.pegread.proofs.SliceFrontLemmas.{closes-end, closes-plain, closes-plain-back, closes-escape, closes-escape-back}
+use Rattle.pegread.proofs.SliceFrontLemmas.{closes-end, closes-plain, closes-plain-back, closes-escape}
+use Rattle.pegread.proofs.SliceFrontLemmas.{closes-escape-back}
 use Rattle.pegread.proofs.lexing.after_mark.Goals as goal
 
 pub returns-then-first-mark : goal.returns-then-first-mark

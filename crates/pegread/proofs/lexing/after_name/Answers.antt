@@ -10,7 +10,8 @@ pub returns-then-not-is_inner-clause-names : goal.returns-then-not-is_inner-clau
 returns-then-not-is_inner-clause-names c = c.loop-first.invariant _ none
 
 pub returns-then-not-is_inner-clause-longest : goal.returns-then-not-is_inner-clause-longest
-returns-then-not-is_inner-clause-longest c = λ r n. names-longest (c.loop-first.invariant _ none) (rw c.in-Some.ensures.cases.0 (search rules)) n
+returns-then-not-is_inner-clause-longest c = λ r n. names-longest (c.loop-first.invariant _ none)
+    (rw c.in-Some.ensures.cases.0 (search rules)) n
 
 pub returns-in_default-clause-names : goal.returns-in_default-clause-names
 returns-in_default-clause-names c = c.loop-first.invariant _ none

@@ -9,4 +9,9 @@ pub returns : goal.returns
 returns c =
     let q = literal-quoted c.requires in
     let e = c.inside.ensures q.mark q.mark q.inside q.cut in
-    IfOk-weaker c.text_bytes.result _ _ (λ bytes h. record { mark = q.mark; inside = q.inside; cut = q.cut; chars = rw e at h }) c.text_bytes.ensures
+    IfOk-weaker c.text_bytes.result _ _ (λ bytes h. record {
+      mark = q.mark;
+      inside = q.inside;
+      cut = q.cut;
+      chars = rw e at h;
+    }) c.text_bytes.ensures

@@ -5,7 +5,8 @@ use Rattle.pegread.proofs.literal.text_bytes.Goals as goal
 pub loop-byte-preserved : goal.loop-byte-preserved
 loop-byte-preserved c = record {
   paired = char-paired c.in-Some.ensures c.loop-byte.invariant.paired;
-  chars = λ bs h. chars-pushed _ _ bs _ c.in_ok-push.ensures.items (c.loop-byte.invariant.chars _ (more_chars c.in-Some.ensures h));
+  chars = λ bs h. chars-pushed _ _ bs _ c.in_ok-push.ensures.items
+      (c.loop-byte.invariant.chars _ (more_chars c.in-Some.ensures h));
 }
 
 pub returns : goal.returns

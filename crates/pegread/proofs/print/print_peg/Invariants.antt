@@ -6,6 +6,7 @@ use Rattle.pegread.proofs.print.print_peg.Given as goal
 
 abbrev pub invariant-loop-id : goal.invariant-loop-id
 invariant-loop-id g l = record {
-  left : Leaves (g.W.Sink.contents l.fn.w) (g.W.Sink.contents l.w) (grammar_text (rules_of l.peg.rules)) (grammar_text (map rule_of (drop l.id l.peg.rules.rules)));
+  left : Leaves (g.W.Sink.contents l.fn.w) (g.W.Sink.contents l.w) (grammar_text (rules_of l.peg.rules))
+      (grammar_text (map rule_of (drop l.id l.peg.rules.rules)));
   flag : g.W.Sink.failed l.w ≡ g.W.Sink.failed l.fn.w;
 }

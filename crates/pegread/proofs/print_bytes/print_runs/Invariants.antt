@@ -7,6 +7,7 @@ use Rattle.pegread.proofs.print_bytes.print_runs.Given as goal
 
 abbrev pub invariant-loop-first : goal.invariant-loop-first
 invariant-loop-first g l = record {
-  left : Leaves (g.W.Sink.contents l.fn.w) (g.W.Sink.contents l.w) (runs_text (test_of l.set)) (flat_map run_text l.first-iterator);
+  left : Leaves (g.W.Sink.contents l.fn.w) (g.W.Sink.contents l.w) (runs_text (test_of l.set))
+      (flat_map run_text l.first-iterator);
   flag : g.W.Sink.failed l.w ≡ g.W.Sink.failed l.fn.w;
 }

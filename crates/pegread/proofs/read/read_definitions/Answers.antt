@@ -5,17 +5,20 @@ use Rattle.lexer.specs.TokenLists.{tok_of}
 use Rattle.lexer.proofs.TokenListLemmas.{left-at_start}
 use Rattle.pegread.specs.Kinds.{is_end}
 use Rattle.pegread.specs.Slices.{White, First}
-use Rattle.pegread.proofs.ReadDefinitionsLemmas.{none-taken, one-taken, too-deep, hopeless-there, all-done, all-read, AreLeft, done-not, cut-of}
+use Rattle.pegread.proofs.ReadDefinitionsLemmas.{none-taken, one-taken, too-deep, hopeless-there, all-done, all-read}
+use Rattle.pegread.proofs.ReadDefinitionsLemmas.{AreLeft, done-not, cut-of}
 use Rattle.pegread.proofs.read.read_definitions.Goals as goal
 
 pub loop-token-init : goal.loop-token-init
 loop-token-init c =
     let all = c.have_tokens.ensures in
     none-taken c.args.text.now (AreLeft c.into_iter-token-iterator.result) all.0
-    (rw c.into_iter-token-iterator.ensures.into_iter_gives (left-at_start White First is_end c.tokens-token-items.result c.tokens-token-items.ensures all.1)) all.1
+    (rw c.into_iter-token-iterator.ensures.into_iter_gives
+    (left-at_start White First is_end c.tokens-token-items.result c.tokens-token-items.ensures all.1)) all.1
 
 pub take_token-requires : goal.take_token-requires
-take_token-requires c = cut-of c.are_marked.ensures.literal c.are_marked.ensures.class c.are_marked.ensures.action _ _ _ c.in-Some.token c.in-Some.ensures.steps.step.1.1
+take_token-requires c = cut-of c.are_marked.ensures.literal c.are_marked.ensures.class c.are_marked.ensures.action _ _ _
+    c.in-Some.token c.in-Some.ensures.steps.step.1.1
 
 pub returns-then-open_brackets-gt-MAX_OPEN-clause-fault :
     goal.returns-then-open_brackets-gt-MAX_OPEN-clause-fault
@@ -23,7 +26,8 @@ returns-then-open_brackets-gt-MAX_OPEN-clause-fault c =
     let h = c.loop-token.invariant in
     let given = c.in-Some.ensures.steps.first h.rest h.are_left in
     let took = c.in-Ok.ensures in
-    too-deep h (tok_of c.in-Some.token) given.0 given.1 c.line_of.result c.requires c.line_of.ensures (config_of c.in-Ok.next) took.0 took.1 took.2
+    too-deep h (tok_of c.in-Some.token) given.0 given.1 c.line_of.result c.requires c.line_of.ensures
+    (config_of c.in-Ok.next) took.0 took.1 took.2
     (omega (arith, c.open_brackets.ensures, c.if-open_brackets-gt-MAX_OPEN.true))
 
 pub loop-token-preserved : goal.loop-token-preserved
@@ -31,7 +35,8 @@ loop-token-preserved c =
     let h = c.loop-token.invariant in
     let given = c.in-Some.ensures.steps.first h.rest h.are_left in
     let took = c.in-Ok.ensures in
-    let next = one-taken h (tok_of c.in-Some.token) given.0 given.1 (AreLeft c.next.new.self) (config_of c.in-Ok.next) took.0 given.2 took.1 took.2
+    let next = one-taken h (tok_of c.in-Some.token) given.0 given.1 (AreLeft c.next.new.self) (config_of c.in-Ok.next)
+    took.0 given.2 took.1 took.2
     (omega (arith, c.open_brackets.ensures, c.if-open_brackets-gt-MAX_OPEN.false)) in
     rw (map-append tok_of c.loop-token.yielded (c.in-Some.token ∷ [])) next
 
@@ -40,7 +45,8 @@ returns-in-Err-Hopeless-clause-fault c =
     let h = c.loop-token.invariant in
     let given = c.in-Some.ensures.steps.first h.rest h.are_left in
     let stops = rw c.in-Err-Hopeless.field-0-is at c.in-Err-Hopeless.ensures in
-    rw c.hopeless.ensures (hopeless-there h (tok_of c.in-Some.token) given.0 given.1 c.line_of-in-Err-Hopeless.result c.requires c.line_of-in-Err-Hopeless.ensures stops)
+    rw c.hopeless.ensures (hopeless-there h (tok_of c.in-Some.token) given.0 given.1 c.line_of-in-Err-Hopeless.result
+    c.requires c.line_of-in-Err-Hopeless.ensures stops)
 
 pub unreachable-requires : goal.unreachable-requires
 unreachable-requires c =

@@ -16,4 +16,8 @@ returns-in-Ok-clause-only c = λ definitions reads.
     rw same c.in-Ok.ensures
 
 pub peg_of-requires : goal.peg_of-requires
-peg_of-requires c = omega (arith, grammar-some c.in_ok-definitions.ensures.found.grammar, length-map c.in_ok-definitions.definitions.items rule_from)
+peg_of-requires c = omega (
+  arith,
+  grammar-some c.in_ok-definitions.ensures.found.grammar,
+  length-map c.in_ok-definitions.definitions.items rule_from,
+)

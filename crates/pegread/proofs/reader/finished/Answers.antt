@@ -8,4 +8,5 @@ use Rattle.pegread.proofs.reader.finished.Goals as goal
 
 pub returns : goal.returns
 returns c =
-    c.choice.ensures ∙ ap choice (patterns_of-push _ _ _ c.in_ok-push.ensures.items ∙ ap (λ (t : Pattern). snoc (patterns_of c.args.alternatives.items) t) c.sequence.ensures)
+    c.choice.ensures ∙ ap choice (patterns_of-push _ _ _ c.in_ok-push.ensures.items
+    ∙ ap (λ (t : Pattern). snoc (patterns_of c.args.alternatives.items) t) c.sequence.ensures)

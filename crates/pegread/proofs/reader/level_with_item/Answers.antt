@@ -9,4 +9,5 @@ pub returns : goal.returns
 returns c =
     let l = c.args.level in
     ap (λ (es : Patterns). level (patterns_of l.alternatives.items) es no_mark)
-    (patterns_of-push _ _ _ c.in_ok-push.ensures.items ∙ ap (λ (x : Pattern). snoc (patterns_of l.items.items) x) c.in_ok-prefixed.ensures)
+    (patterns_of-push _ _ _ c.in_ok-push.ensures.items ∙ ap (λ (x : Pattern). snoc (patterns_of l.items.items) x)
+    c.in_ok-prefixed.ensures)

@@ -7,5 +7,6 @@ use Rattle.pegread.proofs.reader.level_with_sequence.Goals as goal
 
 pub returns : goal.returns
 returns c =
-    let pushed = patterns_of-push _ _ _ c.in_ok-push.ensures.items ∙ ap (λ (x : Pattern). snoc (patterns_of c.args.level.alternatives.items) x) c.sequence.ensures in
+    let pushed = patterns_of-push _ _ _ c.in_ok-push.ensures.items
+    ∙ ap (λ (x : Pattern). snoc (patterns_of c.args.level.alternatives.items) x) c.sequence.ensures in
     rw (pushed, c.new.ensures.items) refl

@@ -1,6 +1,8 @@
 -- Each kind of token says its word.
 use Rattle.std.proofs.Common.{◌≡◌, ℕ, List, [], ◌∷◌, ◌++◌, sym, ◌∙◌, subst}
-use Rattle.pegread.specs.Words.{says_name, says_arrow, says_begin, says_end_cap, says_slash, says_amp, says_bang, says_quest, says_star, says_plus, says_dot, says_lparen, says_rparen, says_end, says_literal, says_class, says_action}
+use Rattle.pegread.specs.Words.{says_name, says_arrow, says_begin, says_end_cap, says_slash, says_amp, says_bang}
+use Rattle.pegread.specs.Words.{says_quest, says_star, says_plus, says_dot, says_lparen, says_rparen, says_end}
+use Rattle.pegread.specs.Words.{says_literal, says_class, says_action}
 use Rattle.pegread.proofs.words.word_in.Goals as goal
 
 pub returns-in-Ident : goal.returns-in-Ident
@@ -55,4 +57,5 @@ pub returns-in_ok-template-in-Action : goal.returns-in_ok-template-in-Action
 returns-in_ok-template-in-Action c =
     let braced = rw c.in-Action.is at c.requires in
     let same = c.in_ok-template-in-Action.ensures.items ∙ c.inside.ensures 123 125 braced.0 braced.1 in
-    rw c.in-Action.is (says_action (subst (λ (t : List ℕ). c.args.token.slice.now ≡ 123 ∷ (t ++ 125 ∷ [])) (sym same) braced.1))
+    rw c.in-Action.is (says_action (subst (λ (t : List ℕ). c.args.token.slice.now ≡ 123 ∷ (t ++ 125 ∷ [])) (sym same)
+    braced.1))

@@ -8,5 +8,6 @@ use Rattle.rulenames.proofs.marked_notes.note_undefined.Goals as goal
 
 pub loop-id-preserved : goal.loop-id-preserved
 loop-id-preserved c =
-    note-next (said kind.Undefined) (names_of c.args.names.now) c.loop-id.id c.name.result.now c.loop-id.notes.items c.push.new.self.items _ _ c.name.ensures c.in_ok-push.ensures.items
+    note-next (said kind.Undefined) (names_of c.args.names.now) c.loop-id.id c.name.result.now c.loop-id.notes.items
+    c.push.new.self.items _ _ c.name.ensures c.in_ok-push.ensures.items
     (ap (said kind.Undefined) c.in_ok-name.ensures.items) c.loop-id.invariant

@@ -7,4 +7,5 @@ use Rattle.rulenames.proofs.marked_notes.note_undefined.Given as goal
 
 abbrev pub invariant-loop-id : goal.invariant-loop-id
 invariant-loop-id l =
-    map said_of l.notes.items ++ map (said kind.Undefined) (drop l.id (names_of l.names)) ≡ map said_of l.initial.notes.items ++ map (said kind.Undefined) (drop l.count (names_of l.names))
+    map said_of l.notes.items ++ map (said kind.Undefined) (drop l.id (names_of l.names))
+    ≡ map said_of l.initial.notes.items ++ map (said kind.Undefined) (drop l.count (names_of l.names))

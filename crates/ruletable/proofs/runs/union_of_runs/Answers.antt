@@ -5,12 +5,14 @@ use Rattle.ruletable.specs.Runs.{in_runs}
 use Rattle.ruletable.proofs.runs.union_of_runs.Goals as goal
 
 pub loop-first-init : goal.loop-first-init
-loop-first-init c = λ b. rw (c.new-union.ensures.empty b) (ap (λ runs. in_runs runs b) (c.into_iter-first-iterator.ensures.into_iter_gives ∙ c.runs-first-items.ensures.runs))
+loop-first-init c = λ b. rw (c.new-union.ensures.empty b)
+    (ap (λ runs. in_runs runs b) (c.into_iter-first-iterator.ensures.into_iter_gives ∙ c.runs-first-items.ensures.runs))
 
 pub loop-first-preserved : goal.loop-first-preserved
 loop-first-preserved c = λ b.
     ap (λ t. t || in_runs c.next.new.self b) (c.add_range.ensures.members b)
-    ∙ or_assoc (get_or c.loop-first.union b false) (nat_le c.in-Some.first b && nat_le b c.in-Some.last) (in_runs c.next.new.self b)
+    ∙ or_assoc (get_or c.loop-first.union b false) (nat_le c.in-Some.first b && nat_le b c.in-Some.last)
+    (in_runs c.next.new.self b)
     ∙ ap (λ runs. get_or c.loop-first.union b false || in_runs runs b) (sym c.in-Some.ensures.steps)
     ∙ c.loop-first.invariant b
 

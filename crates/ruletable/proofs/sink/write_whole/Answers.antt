@@ -7,7 +7,8 @@ use Rattle.ruletable.proofs.sink.write_whole.Goals as goal
 pub loop-at-preserved : goal.loop-at-preserved
 loop-at-preserved g c = record {
   within = search rules;
-  taken = Appends-more _ _ _ c.loop-at.at c.in-Ok.n c.args.bytes.now c.loop-at.invariant.taken (rw take_rest at c.in-Ok.ensures.bytes);
+  taken = Appends-more _ _ _ c.loop-at.at c.in-Ok.n c.args.bytes.now c.loop-at.invariant.taken
+      (rw take_rest at c.in-Ok.ensures.bytes);
   flag = search rules;
 }
 

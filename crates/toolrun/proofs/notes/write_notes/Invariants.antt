@@ -7,6 +7,7 @@ use Rattle.toolrun.proofs.notes.write_notes.Given as goal
 
 abbrev pub invariant-loop-note : goal.invariant-loop-note
 invariant-loop-note g l = record {
-  taken : Appends (g.W.Sink.contents l.fn.w) (g.W.Sink.contents l.w) (flat_map (λ n. note_text (said_of n)) (take l.note-index l.notes));
+  taken : Appends (g.W.Sink.contents l.fn.w) (g.W.Sink.contents l.w)
+      (flat_map (λ n. note_text (said_of n)) (take l.note-index l.notes));
   flag : g.W.Sink.failed l.w ≡ g.W.Sink.failed l.fn.w;
 }

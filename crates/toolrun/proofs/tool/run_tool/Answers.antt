@@ -13,7 +13,8 @@ pub returns-then-is_err : goal.returns-then-is_err
 returns-then-is_err g c = record {
   right =
       let failed : is_err c.write_notes.result ≡ true = sym c.if-is_err.ensures.value in
-      cut_short (g.T.Tool.states c.args.grammar.now c.args.settings.now) (notes_text (map said_of c.plan-plan.result.notes.items))
+      cut_short (g.T.Tool.states c.args.grammar.now c.args.settings.now)
+      (notes_text (map said_of c.plan-plan.result.notes.items))
       (does_of (λ t. g.T.Tool.does t c.args.settings.now) c.plan-plan.result.task) c.plan-plan.ensures
       (passed g.R.Source.remaining g.R.Source.failed c.args.reader.now c.args.reader.now)
       (passed g.O.Sink.contents g.O.Sink.failed c.args.out.now c.close.new.out)
@@ -27,7 +28,8 @@ pub returns : goal.returns
 returns g c = record {
   right =
       let fine : is_err c.write_notes.result ≡ false = sym c.if-is_err.ensures.value in
-      run_is_right (g.T.Tool.states c.args.grammar.now c.args.settings.now) (notes_text (map said_of c.plan-plan.result.notes.items))
+      run_is_right (g.T.Tool.states c.args.grammar.now c.args.settings.now)
+      (notes_text (map said_of c.plan-plan.result.notes.items))
       (does_of (λ t. g.T.Tool.does t c.args.settings.now) c.plan-plan.result.task) c.plan-plan.ensures
       (passed g.R.Source.remaining g.R.Source.failed c.args.reader.now c.act-stop.new.reader)
       (passed g.O.Sink.contents g.O.Sink.failed c.args.out.now c.act-stop.new.out)

@@ -9,5 +9,6 @@ returns c =
     let r = c.args.self.now in
     let taken = ap (λ (v : Vec Elem Global). v.items) c.replace-parts.ensures.value in
     let rest = ap (λ (v : Vec Elem Global). v.items) c.replace-parts.ensures.after ∙ c.new.ensures.items in
-    body-alternative (head_of r) (outer_of r) r.alternatives.items c.push.new.self.items r.parts.items c.replace-parts.result.items c.replace-parts.new.dest.items _
+    body-alternative (head_of r) (outer_of r) r.alternatives.items c.push.new.self.items r.parts.items
+    c.replace-parts.result.items c.replace-parts.new.dest.items _
     c.in_ok-push.ensures.items c.concatenation.ensures taken rest

@@ -5,4 +5,5 @@ use Rattle.abnfread.proofs.reader.Reader.push_part.Goals as goal
 pub returns : goal.returns
 returns c =
     let r = c.args.self.now in
-    body-part (head_of r) (outer_of r) (ended_of r) r.parts.items c.push.new.self.items _ _ c.in_ok-push.ensures.items c.in_ok-part.ensures
+    body-part (head_of r) (outer_of r) (ended_of r) r.parts.items c.push.new.self.items _ _ c.in_ok-push.ensures.items
+    c.in_ok-part.ensures

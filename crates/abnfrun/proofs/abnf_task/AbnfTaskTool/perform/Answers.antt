@@ -6,7 +6,8 @@ use Rattle.abnfrun.proofs.abnf_task.AbnfTaskTool.perform.Goals as goal
 
 pub returns-in-Prints : goal.returns-in-Prints
 returns-in-Prints g c = rw c.in-Prints.is
-    (was_printed (grammar_text (rules_of c.in-Prints.abnf.rules)) _ _ _ _ _ _ _ c.print_rules.result c.print_rules.ensures.prints c.print_rules.ensures.flag)
+    (was_printed (grammar_text (rules_of c.in-Prints.abnf.rules)) _ _ _ _ _ _ _ c.print_rules.result
+    c.print_rules.ensures.prints c.print_rules.ensures.flag)
 
 pub returns-in-Judges : goal.returns-in-Judges
 returns-in-Judges g c = rw c.in-Judges.is c.judge_lines.ensures

@@ -5,5 +5,6 @@ use Rattle.abnfrun.proofs.line_judge.LineJudgeJudgeWork.decided.Goals as goal
 pub returns : goal.returns
 returns c line =
     let j = c.args.self.now in
-    let some = c.lines_have_answers.ensures j.letters j.viable (rules_of j.grammar.now.rules) j.grammar.now.judged line in
+    let some = c.lines_have_answers.ensures j.letters j.viable (rules_of j.grammar.now.rules) j.grammar.now.judged
+    line in
     (some.0, λ short. some.1)

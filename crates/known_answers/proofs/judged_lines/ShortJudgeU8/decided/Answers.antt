@@ -5,5 +5,8 @@ use Rattle.lines.specs.declared.answers.Answer.TheVariants as answer
 
 pub returns : goal.returns
 returns c = λ line.
-    let short = c.args.self.now in
-    (if ltb short.most (length line) then (if short.counts then answer.NoAfter (length line - short.most) else answer.No) else answer.Yes, refl)
+    let short = c.args.self.now in (
+      if ltb short.most (length line) then (if short.counts then answer.NoAfter (length line - short.most) else
+          answer.No) else answer.Yes,
+      refl,
+    )

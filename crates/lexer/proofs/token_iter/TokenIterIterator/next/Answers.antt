@@ -29,5 +29,12 @@ returns-clause-steps g c =
     let f = laws.ends _ _ _ c.first_token-kind.ensures in
     let a = end-shorter w in
     let b = end-shorter f in
-    gives-first g.K.Kind.white g.K.Kind.first g.K.Kind.is_end laws.one
-    (omega arith, (c.if-self.false, next-made g.K.Kind.white g.K.Kind.first g.K.Kind.is_end c.args.self.now.start w f c.after_white-text.ensures.white c.first_token-kind.ensures, c.is_last-self.ensures))
+    gives-first g.K.Kind.white g.K.Kind.first g.K.Kind.is_end laws.one (
+      omega arith,
+      (
+        c.if-self.false,
+        next-made g.K.Kind.white g.K.Kind.first g.K.Kind.is_end c.args.self.now.start w f
+            c.after_white-text.ensures.white c.first_token-kind.ensures,
+        c.is_last-self.ensures,
+      ),
+    )

@@ -9,13 +9,15 @@ loop-b-init c = record {
   upto = inr refl;
   count = refl;
   members = λ k.
-      sym (or-false (get_or c.args.self.now k false)) ∙ ap (λ t. get_or c.args.self.now k false || t) (sym (range-none c.args.first k));
+      sym (or-false (get_or c.args.self.now k false)) ∙ ap (λ t. get_or c.args.self.now k false || t)
+      (sym (range-none c.args.first k));
 }
 
 pub returns-clause-members : goal.returns-clause-members
 returns-clause-members c k =
     c.loop-b.invariant.members k
-    ∙ ap (λ t. get_or c.args.self.now k false || t) (range-past c.args.first c.args.last c.loop-b.b k c.loop-b.invariant.upto c.loop-b-test.false)
+    ∙ ap (λ t. get_or c.args.self.now k false || t)
+    (range-past c.args.first c.args.last c.loop-b.b k c.loop-b.invariant.upto c.loop-b-test.false)
 
 pub returns-2-clause-members : goal.returns-2-clause-members
 returns-2-clause-members c k =
@@ -23,4 +25,5 @@ returns-2-clause-members c k =
     c.put.ensures.members k
     ∙ ap (λ t. t || (k == c.loop-b.b)) (c.loop-b.invariant.members k)
     ∙ or_assoc (get_or c.args.self.now k false) (nat_le c.args.first k && nat_lt k c.loop-b.b) (k == c.loop-b.b)
-    ∙ ap (λ t. get_or c.args.self.now k false || t) (range-more c.args.first c.loop-b.b k c.loop-b.auto.b ∙ ap (λ n. nat_le c.args.first k && nat_le k n) end)
+    ∙ ap (λ t. get_or c.args.self.now k false || t) (range-more c.args.first c.loop-b.b k c.loop-b.auto.b
+    ∙ ap (λ n. nat_le c.args.first k && nat_le k n) end)

@@ -24,7 +24,8 @@ last_of c = elim c.match-self.branch [
 pub returns-clause-steps : goal.returns-clause-steps
 returns-clause-steps c =
     rw (← c.self.view_is, c.in_ok-self.was)
-    (after-step (test_of c.self.inside.set.now) c.in_ok-self.field-0 c.in_ok-first.first c.match-self.last c.first_from-self-inside.result
+    (after-step (test_of c.self.inside.set.now) c.in_ok-self.field-0 c.in_ok-first.first c.match-self.last
+    c.first_from-self-inside.result
     c.in_ok-first.ensures c.first_from-self-inside.ensures (last_of c))
 
 pub returns-clause-goes : goal.returns-clause-goes

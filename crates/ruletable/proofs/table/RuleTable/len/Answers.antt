@@ -4,4 +4,5 @@ use Rattle.ruletable.proofs.table.RuleTable.len.Goals as goal
 
 pub returns-clause-unique : goal.returns-clause-unique
 returns-clause-unique g c =
-    rw (← c.self.view_is) (HasUniqueNames-rules c.self.inside.names c.self.inside.rows.entries c.self.invariant c.len.ensures.unique)
+    rw (← c.self.view_is) (HasUniqueNames-rules c.self.inside.names c.self.inside.rows.entries c.self.invariant
+    c.len.ensures.unique)

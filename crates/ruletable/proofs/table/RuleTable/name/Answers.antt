@@ -4,4 +4,6 @@ use Rattle.ruletable.proofs.table.RuleTable.name.Goals as goal
 
 pub returns : goal.returns
 returns g c =
-    rw (← c.self.view_is, c.as_slice.ensures.value) (part_at (λ rule. rule.name) c.self.inside.rows.entries c.args.id _ _ c.get_index.ensures.entry c.unwrap.ensures)
+    rw (← c.self.view_is, c.as_slice.ensures.value)
+    (part_at (λ rule. rule.name) c.self.inside.rows.entries c.args.id _ _ c.get_index.ensures.entry
+    c.unwrap.ensures)
