@@ -1,6 +1,6 @@
 -- The turns of a repetition of a node that takes a byte, as frames that would stand for them.
 -- Serves: Desk::match_unit.
-use Rattle.std.proofs.Common.{◌≡◌, ℕ, ◌+◌, ◌-◌, ◌<◌, ◌≤◌, Bool, true, List, [], ◌∷◌, ◌++◌, length, get_or, Option, Some, None, Result, Ok, Err, refl, sym, ◌∙◌, subst, arith}
+use Rattle.std.proofs.Common.{◌≡◌, ℕ, ◌+◌, ◌-◌, ◌<◌, ◌≤◌, Bool, List, [], ◌∷◌, ◌++◌, length, get_or, Option, Some, None, Result, Ok, Err, refl, sym, ◌∙◌, subst, arith}
 use Rattle.std.specs.Prelude.{slice_get}
 use Rattle.std.proofs.lemmas.Option.{slice_get-get_or}
 use Rattle.pegread.specs.PegViews.{rules_of}
@@ -10,9 +10,7 @@ use Rattle.gramcheck.specs.Nodes.{Shape, shape_of, shapes_of}
 use Rattle.gramcheck.specs.declared.node.Node.{Node}
 use Rattle.gramcheck.specs.declared.node.Node.TheVariants as code
 use Rattle.ruletable.specs.declared.byte_set.ByteSet.{ByteSet}
-use Rattle.gramcheck.specs.Outcome.{Outcome}
 use Rattle.gramcheck.proofs.NodeSpellsLemmas.{is_there}
-use Rattle.pegmatch.specs.Answers.{StartGives}
 use Rattle.cells.specs.Entries.{Entry, found_at}
 use Rattle.cells.specs.declared.cell.Found.{Found}
 use Rattle.cells.specs.declared.cell.Found.TheVariants.{Failed, Took}
@@ -21,7 +19,7 @@ use Rattle.desk.specs.declared.ahead.Halt.{Halt}
 use Rattle.desk.specs.declared.ahead.Halt.TheVariants.{Memory, Short}
 use Rattle.desk.specs.declared.frame.Frame.{Frame}
 use Rattle.desk.specs.declared.turn.Turn.{Turn}
-use Rattle.desk.specs.declared.turn.Turn.TheVariants.{Ask, Answer}
+use Rattle.desk.specs.declared.turn.Turn.TheVariants.{Answer}
 use Rattle.desk.specs.Desk.{beginning, counted, Fits, left}
 use Rattle.desk.specs.Path.{EndsBy}
 use Rattle.desk.specs.Repeats.{TakesByte, Tower, ground, floor, IsHalted, IsRunning, HasRun}
@@ -29,7 +27,7 @@ use Rattle.desk.specs.Turns.{again_turn, star_turn, IsTurn}
 use Rattle.desk.specs.Visits.{Asks}
 use Rattle.desk.proofs.AsksLemmas.{IsVisited}
 use Rattle.desk.proofs.IsNextLemmas.{at_top, pushed_next, dropped_next}
-use Rattle.desk.proofs.IsOnLemmas.{child, seen, seen_is, short, asks_star, star_on}
+use Rattle.desk.proofs.IsOnLemmas.{child, seen_is, short, asks_star, star_on}
 use Rattle.desk.proofs.IsPutLemmas.{is_put}
 use Rattle.desk.proofs.IsTurnLemmas.{star_then}
 use Rattle.desk.proofs.IsWayLemmas.{ends_by}

@@ -1,5 +1,5 @@
 use Rattle.std.proofs.Common.{◌∙◌}
-use Rattle.pegmatch.proofs.IsPrintedLemmas.{written_start, written_next, written_part, written_all, next_event}
+use Rattle.pegmatch.proofs.IsPrintedLemmas.{written_next, written_part, written_all, next_event}
 use Rattle.pegmatch.proofs.replay.write_events.Goals as goal
 
 pub write_event-requires-clause-stands : goal.write_event-requires-clause-stands

@@ -1,4 +1,4 @@
-use Rattle.std.proofs.Common.{arith, ◌+◌, sym, ◌∙◌, refl, [], ap}
+use Rattle.std.proofs.Common.{arith, ◌+◌, sym, ◌∙◌}
 use Rattle.pegmatch.proofs.FilledRunLemmas.{word_kept, no_word}
 use Rattle.pegmatch.proofs.FilledLemmas.{written_next, written_fault, written_last}
 use Rattle.pegmatch.proofs.writing.write_filled.Goals as goal

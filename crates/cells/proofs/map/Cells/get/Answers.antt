@@ -1,4 +1,4 @@
-use Rattle.std.proofs.Common.{◌≡◌, inl, inr}
+use Rattle.std.proofs.Common.{inl, inr}
 use Rattle.cells.specs.CellEntries.{IsFree, IsAt, IsNowhere, entries_of, found_of}
 use Rattle.cells.proofs.FoundAtLemmas.{free_none, held_found}
 use Rattle.cells.proofs.IsKeptLemmas.{holds_at, holds_only, free_nowhere, nowhere_great}
