@@ -8,8 +8,9 @@ use Rattle.abnfread.specs.Element as e
 use Rattle.abnfread.specs.Element.{Element, Elements, none, more, Rule, body_of}
 use Rattle.abnfcheck.specs.Derivable as der
 use Rattle.abnfcheck.specs.Derivable.{AreLetters, Derives, DerivesAll, DerivesSome, DerivesTimes, Spelled, all_done, then, this, later, no_more, one_more}
-use Rattle.flatgrammar.specs.Flat.{Node, Set, Has, Exactly, Between, Letters, Concat, Alt, Rep, Turns, Opt, top, Begins, IsDone, Reading, Calling}
+use Rattle.flatgrammar.specs.Flat.{Node, Set, Has, Exactly, Between, Letters, Concat, Alt, Rep, Turns, Opt, top, Begins, IsDone, Reading, Calling, IsTaking, is_taking}
 use Rattle.flatgrammar.specs.Flat.{capped}
+use Rattle.flatgrammar.proofs.CappedMostLemmas.{free_within, counted_within}
 use Rattle.flatgrammar.specs.NullElements.{IsNeverEmpty}
 use Rattle.flatgrammar.specs.Lowered.{letter_set, capped_most, Spells, Shows, shows_text, shows_values, shows_range, shows_concat, shows_alt, shows_rep, shows_turns, shows_opt, SpellAll, spell_none, spell_more}
 
@@ -67,6 +68,32 @@ abbrev pub Turned : ℕ → Option ℕ → ℕ → ℕ → Type 0
 Turned least None j k = k ≡ min j least
 Turned least (Some most) j k = k ≡ j
 
+-- turns that are not counted take a letter each
+abbrev pub Few : Option ℕ → ℕ → List ℕ → Type 0
+Few None j w = j ≤ length w
+Few (Some most) j w = Unit {0}
+
+few_none : (b : Option ℕ) → Few b 0 []
+few_none None = omega arith
+few_none (Some b) = tt
+
+none_within : (b : Option ℕ) → der.Within 0 b
+none_within None = tt
+none_within (Some b) = omega arith
+
+pub few_counted : (b : Option ℕ) (j k : ℕ) (w : List ℕ) → k < top 0 b → Few b j w
+few_counted None j k w lt = absurd (omega (arith, lt))
+few_counted (Some b) j k w lt = tt
+
+-- a further turn is within the bounds of the element
+pub next_within : (limit a j k : ℕ) (b d : Option ℕ) → d ≡ capped_most limit b → j ≤ limit → k < top a d → Turned a d j k → der.Within (suc j) b
+next_within limit a j k b None is under lt turned = free_within limit j b is under
+next_within limit a j k b (Some n) is under lt turned = counted_within limit j k n b is lt turned
+
+pub next_counted : (limit j k : ℕ) (b d : Option ℕ) → d ≡ capped_most limit b → k < top 0 d → Turned 0 d j k → der.Within (suc j) b
+next_counted limit j k b None is lt turned = absurd (omega (arith, lt))
+next_counted limit j k b (Some n) is lt turned = counted_within limit j k n b is lt turned
+
 pub turned_none : (a : ℕ) (b : Option ℕ) → Turned a b 0 0
 turned_none a None = omega arith
 turned_none a (Some b) = refl
@@ -110,17 +137,19 @@ module _ (has : ℕ → Bool) (rules : List Rule) where
     alt_begun : {ms : List ℕ} {es : Elements} {k : ℕ} → k < length ms → Before (Alt ms) (e.Alt es) k []
     alt_done : {ms : List ℕ} {es : Elements} {el : Element} {k : ℕ} {w : List ℕ} (m : ℕ) → k ≡ length ms + m → nth es m ≡ Some el → Derives has rules el w →
         Before (Alt ms) (e.Alt es) k w
-    in_turns : {m j k : ℕ} {c : ℕ} {b d : Option ℕ} {el : Element} {w : List ℕ} → DerivesTimes has rules el j w → Turned 0 b j k → Before (Turns b m) (e.Rep c d el) k w
-    in_rep : {a c m j k : ℕ} {b d : Option ℕ} {el : Element} {w : List ℕ} → DerivesTimes has rules el j w → Turned a b j k → Before (Rep a b m) (e.Rep c d el) k w
+    in_turns : {m j k : ℕ} {c : ℕ} {b d : Option ℕ} {el : Element} {w : List ℕ} → DerivesTimes has rules el j w → Turned 0 b j k → Few b j w → der.Within j d →
+        Before (Turns b m) (e.Rep c d el) k w
+    in_rep : {a c m j k : ℕ} {b d : Option ℕ} {el : Element} {w : List ℕ} → DerivesTimes has rules el j w → Turned a b j k → der.Within j d →
+        Before (Rep a b m) (e.Rep c d el) k w
     opt_begun : {m : ℕ} {el : Element} → Before (Opt m) (e.Opt el) 0 []
     opt_done : {m : ℕ} {el : Element} {w : List ℕ} → Derives has rules el w → Before (Opt m) (e.Opt el) 2 w
     opt_passed : {m : ℕ} {el : Element} → Before (Opt m) (e.Opt el) 1 []
 
   start_part_rep : (a c m : ℕ) (b d : Option ℕ) (el : Element) → Before (Rep a b m) (e.Rep c d el) 0 []
-  start_part_rep a c m b d el = in_rep no_more (turned_none a b)
+  start_part_rep a c m b d el = in_rep no_more (turned_none a b) (none_within d)
 
   start_part_turns : (c m : ℕ) (b d : Option ℕ) (el : Element) → Before (Turns b m) (e.Rep c d el) 0 []
-  start_part_turns c m b d el = in_turns no_more (turned_none 0 b)
+  start_part_turns c m b d el = in_turns no_more (turned_none 0 b) (few_none b) (none_within d)
 
   pub read_part : {node : Node} {el : Element} {k l : ℕ} {set : Set} {w : List ℕ} (c : ℕ) → Reading node k set l → Has set c → Before node el k w → Before node el l (w ++ c ∷ [])
   read_part c (Reading.letter {sets = sets} {k = k} is) h (in_letters {el = el} {w = w} f) =
@@ -160,24 +189,33 @@ module _ (has : ℕ → Bool) (rules : List Rule) where
     member_at zero t (spell_more {m = m} {el = el} s all) is = record { el = el; is = refl; spelled = (let same : m ≡ t = cc in subst (λ v. Spells rules limit nodes v el) same s) }
     member_at (suc k) t (spell_more s all) is = let h = member_at k t all is in record { el = h.el; is = h.is; spelled = h.spelled }
 
-    pub call_part : {node : Node} {el : Element} {k t l : ℕ} {w v : List ℕ} → Calling node k t l → Shows rules limit nodes node el → Before node el k w →
+    pub call_part : {node : Node} {el : Element} {k t l : ℕ} {w v : List ℕ} → Calling node k t l → Shows rules limit nodes node el → Before node el k w → length w ≤ limit → (IsTaking node → 0 < length v) →
         ((el' : Element) → Spells rules limit nodes t el' → Derives has rules el' v) → Before node el l (w ++ v)
-    call_part {v = v} (Calling.member {k = k} {s = s} is) (shows_concat {ms = ms} {es = es} all) (in_concat {w = w} d) from =
+    call_part {v = v} (Calling.member {k = k} {s = s} is) (shows_concat {ms = ms} {es = es} all) (in_concat {w = w} d) short some from =
         let h = member_at k s all is in
         let one : suc k ≡ k + 1 = omega arith in
         subst (λ z. Before (Concat ms) (e.Concat es) z (w ++ v)) one (in_concat (all_snoc es k w d h.is (from h.el h.spelled)))
-    call_part (Calling.alternative {k = k} {s = s} is) (shows_alt all) (alt_begun lt) from =
+    call_part (Calling.alternative {k = k} {s = s} is) (shows_alt all) (alt_begun lt) short some from =
         let h = member_at k s all is in alt_done k refl h.is (from h.el h.spelled)
-    call_part (Calling.alternative {ms = ms} {k = k} is) (shows_alt all) (alt_done m same at d) from = absurd (omega (arith, get_below ms k is))
-    call_part (Calling.turn {a = a} {k = k} {b = b} lt) (shows_rep {el = el} low high never s) (in_rep {j = j} d is) from =
-        in_rep (times_snoc d (from el s)) (turned_more a j k b lt is)
-    call_part (Calling.turn_uncounted {a = a}) (shows_rep {el = el} low high never s) (in_rep {j = j} d is) from =
-        let enough : a ≡ min (suc j) a = omega arith in in_rep (times_snoc d (from el s)) enough
-    call_part (Calling.takes {k = k} {b = b} lt) (shows_turns {el = el} high within empty s) (in_turns {j = j} d is) from =
-        in_turns (times_snoc d (from el s)) (turned_more 0 j k b lt is)
-    call_part Calling.takes_uncounted (shows_turns {el = el} high within empty s) (in_turns {j = j} d is) from =
-        let enough : 0 ≡ min (suc j) 0 = omega arith in in_turns (times_snoc d (from el s)) enough
-    call_part Calling.operand (shows_opt {el = el} s) opt_begun from = opt_done (from el s)
+    call_part (Calling.alternative {ms = ms} {k = k} is) (shows_alt all) (alt_done m same at d) short some from = absurd (omega (arith, get_below ms k is))
+    call_part {w = w} (Calling.turn {a = a} {k = k} {b = d} lt) (shows_rep {b = b} {el = el} low high never s) (in_rep {j = j} ds is within) short some from =
+        let few = turns_most never ds in
+        let under : j ≤ limit = omega (arith, few, short) in
+        in_rep (times_snoc ds (from el s)) (turned_more a j k d lt is) (next_within limit a j k b d high under lt is)
+    call_part {w = w} (Calling.turn_uncounted {a = a}) (shows_rep {b = b} {el = el} low high never s) (in_rep {j = j} ds is within) short some from =
+        let few = turns_most never ds in
+        let under : j ≤ limit = omega (arith, few, short) in
+        let enough : a ≡ min (suc j) a = omega arith in
+        in_rep (times_snoc ds (from el s)) enough (free_within limit j b high under)
+    call_part {w = w} {v = v} (Calling.takes {k = k} {b = d} lt) (shows_turns {b = b} {el = el} high bounds empty s) (in_turns {j = j} ds is few within) short some from =
+        in_turns (times_snoc ds (from el s)) (turned_more 0 j k d lt is) (few_counted d (suc j) k (w ++ v) lt) (next_counted limit j k b d high lt is)
+    call_part {w = w} {v = v} Calling.takes_uncounted (shows_turns {b = b} {el = el} high bounds empty s) (in_turns {j = j} ds is few within) short some from =
+        let enough : 0 ≡ min (suc j) 0 = omega arith in
+        let long = length-append w v in
+        let one = some is_taking in
+        let more : suc j ≤ length (w ++ v) = omega (arith, long, one, few) in
+        in_turns (times_snoc ds (from el s)) enough more (free_within limit j b high (omega (arith, few, short)))
+    call_part Calling.operand (shows_opt {el = el} s) opt_begun short some from = opt_done (from el s)
 
     pub end_part : {node : Node} {el : Element} {k : ℕ} {w : List ℕ} → IsDone node k → Shows rules limit nodes node el → AreLetters has w → length w ≤ limit → Before node el k w → Derives has rules el w
     end_part (IsDone.letters {sets = sets} at) (shows_text {folds = folds} {t = t} is) letters short (in_letters {w = w} f) =
@@ -197,33 +235,21 @@ module _ (has : ℕ → Bool) (rules : List Rule) where
     end_part (IsDone.alt lt) (shows_alt all) letters short (alt_begun less) = absurd (omega arith)
     end_part (IsDone.alt {k = k} lt) (shows_alt {es = es} all) letters short (alt_done {el = el} m same is d) =
         der.alt (some_of es m is d)
-    end_part (IsDone.rep {a = c} {k = k} {b = d} low high) (shows_rep {a = a} {b = b} least most never s) letters short (in_rep {j = j} ds is) =
+    end_part (IsDone.rep {a = c} {k = k} {b = d} low high) (shows_rep {a = a} least most never s) letters short (in_rep {j = j} ds is within) =
         let h = turned_enough c j k d low high is in
         let few = turns_most never ds in
         let under : j ≤ limit = omega (arith, few, short) in
-        der.rep (uncapped a c j least under h.0) (uncapped_most b d j most under h.1) ds
+        der.rep (uncapped a c j least under h.0) within ds
       where
         uncapped : (a c j : ℕ) → c ≡ capped limit a → j ≤ limit → c ≤ j → a ≤ j
         uncapped a c j is under le = omega (arith, is, under, le)
-
-        uncapped_most : (b d : Option ℕ) (j : ℕ) → d ≡ capped_most limit b → j ≤ limit → der.Within j d → der.Within j b
-        uncapped_most None d j is under within = tt
-        uncapped_most (Some b) None j is under within = absurd (cc is)
-        uncapped_most (Some b) (Some d) j is under within = let same : d ≡ capped limit b = cc is in omega (arith, same, within)
-    end_part (IsDone.turns {k = k} {b = d} high) (shows_turns {a = a} {b = b} {el = el} most within empty s) letters short (in_turns {j = j} {w = w} ds is) =
-        enough a b d j k within most high is ds
+    end_part (IsDone.turns high) (shows_turns {a = a} {b = b} {el = el} most bounds empty s) letters short (in_turns {j = j} {w = w} ds is few within) =
+        by (cases_lt j a)
       where
-        enough : (a : ℕ) (b d : Option ℕ) (j k : ℕ) → der.Within a b → d ≡ capped_most limit b → k ≤ top 0 d → Turned 0 d j k → DerivesTimes has rules el j w → Derives has rules (e.Rep a b el) w
-        enough a None d j k within most high is ds = der.rep {k = a + j} (omega arith) tt (padded a (empty has) ds)
-        enough a (Some b) None j k within most high is ds = absurd (cc most)
-        enough a (Some b) (Some d) j k within most high is ds =
-            let same : d ≡ capped limit b = cc most in
-            by (cases_lt j a)
-          where
-            by : ((j < a) ⊎ (a ≤ j)) → Derives has rules (e.Rep a (Some b) el) w
-            by (inl less) =
-                let all : a - j + j ≡ a = omega (arith, less) in
-                der.rep {k = a} (omega arith) within (subst (λ v. DerivesTimes has rules el v w) all (padded (a - j) (empty has) ds))
-            by (inr le) = let same : d ≡ capped limit b = cc most in der.rep {k = j} le (omega (arith, high, is, same)) ds
+        by : ((j < a) ⊎ (a ≤ j)) → Derives has rules (e.Rep a b el) w
+        by (inl less) =
+            let all : a - j + j ≡ a = omega (arith, less) in
+            der.rep {k = a} (omega arith) bounds (subst (λ v. DerivesTimes has rules el v w) all (padded (a - j) (empty has) ds))
+        by (inr le) = der.rep {k = j} le within ds
     end_part IsDone.opt (shows_opt s) letters short (opt_done d) = der.opt d
     end_part IsDone.opt_empty (shows_opt s) letters short opt_passed = der.opt_empty

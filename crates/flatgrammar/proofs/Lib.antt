@@ -1,6 +1,7 @@
 pub mod AreExactLemmas
 pub mod BeforeLemmas
 pub mod CallOfLemmas
+pub mod CappedMostLemmas
 pub mod FlatCutLemmas
 pub mod FlatNullableLemmas
 pub mod FlatNumbersLemmas

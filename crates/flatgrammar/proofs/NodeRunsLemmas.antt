@@ -9,11 +9,11 @@ use Rattle.abnfcheck.specs.Derivable as der
 use Rattle.abnfcheck.specs.Derivable.{AreLetters, Derives, DerivesAll, DerivesSome, DerivesTimes, all_done, then, this, later, no_more, one_more}
 use Rattle.flatgrammar.specs.Flat.{Node, Flat, Letters, Concat, Alt, Rep, Place, at, Set, IsTaking, Takes, in_turns, Reading, Calling, IsDone, Begins, Starts, starts, name_starts, Ends, ends, name_ends, reads, Calls, calls}
 use Rattle.flatgrammar.specs.Holds.{Holds, called, has_read, returned}
-use Rattle.flatgrammar.specs.Flat.{capped}
 use Rattle.flatgrammar.specs.Lowered.{capped_most, Spells, spells, shows_text, shows_values, shows_range, shows_concat, shows_alt, shows_rep, shows_turns, shows_reversed, shows_opt, shows_name, SpellAll, spell_none, spell_more, AreBodies}
 use Rattle.flatgrammar.proofs.RuleNodeLemmas.{body_at_id, node_of_rule}
 use Rattle.abnfcheck.proofs.IsPathLemmas.{here, step, split}
 use Rattle.abnfcheck.proofs.LiesLemmas.{OnLine, Lies}
+use Rattle.flatgrammar.proofs.CappedMostLemmas.{most_is}
 use Rattle.flatgrammar.proofs.OnLineLemmas.{short, lies_count}
 use Rattle.flatgrammar.proofs.BeforeLemmas.{Fit, fit_none, fit_more, text_fits, values_fit, Turned, turned_none, turns_most}
 
@@ -85,7 +85,7 @@ module _ (limit : ℕ) where
   cap_within None None k is under within = tt
   cap_within None (Some d) k is under within = absurd (cc is)
   cap_within (Some b) None k is under within = tt
-  cap_within (Some b) (Some d) k is under within = let same : d ≡ capped limit b = cc is in omega (arith, same, within, under)
+  cap_within (Some b) (Some d) k is under within = let one : Some b ≡ Some d = most_is limit (Some b) d is in let same : b ≡ d = cc one in omega (arith, same, within)
 
   pub take_on : (t k : ℕ) (b d : Option ℕ) (m f : ℕ) → d ≡ capped_most limit b → t + 1 ≤ limit → der.Within (t + suc k) b → Turned 0 d t f → TurnOn d m t f
   take_on t k b None m f is under within turned =
@@ -94,8 +94,9 @@ module _ (limit : ℕ) where
       record { to = 0; calling = subst (λ v. Calling (Node.Turns None m) v m 0) zero_is Calling.takes_uncounted; turned = after; within = tt }
   take_on t k None (Some d) m f is under within turned = absurd (cc is)
   take_on t k (Some b) (Some d) m f is under within turned =
-      let same : d ≡ capped limit b = cc is in
-      record { to = f + 1; calling = Calling.takes (omega (arith, same, under, within, turned)); turned = omega (arith, turned); within = omega (arith, same, under, within) }
+      let one : Some b ≡ Some d = most_is limit (Some b) d is in
+      let same : b ≡ d = cc one in
+      record { to = f + 1; calling = Calling.takes (omega (arith, same, within, turned)); turned = omega (arith, turned); within = omega (arith, same, within) }
 
 module _ (has : ℕ → Bool) (rules : List Rule) (limit : ℕ) (flat : Flat)
     (bodies : AreBodies rules limit flat.nodes flat.bodies) (x : List ℕ) (line : length x ≤ limit) where

@@ -1,16 +1,16 @@
 -- What an item says is derived.
 -- Serves: items_tell, lower, judge.
-use Rattle.std.proofs.Common.{◌≡◌, ℕ, List, [], ◌∷◌, ◌++◌, refl, subst, ◌≤◌, length, arith}
+use Rattle.std.proofs.Common.{◌≡◌, ℕ, List, [], ◌∷◌, ◌++◌, refl, sym, subst, ◌<◌, ◌≤◌, length, arith}
 use Rattle.std.specs.Prelude.{slice_get, Bool, Some}
 use Rattle.abnfread.specs.Element.{Element, Rule}
 use Rattle.abnfcheck.specs.Derivable as der
 use Rattle.abnfcheck.specs.Derivable.{AreLetters, Derives}
-use Rattle.flatgrammar.specs.Flat.{Node, Flat, Place, at, Name, Set, Has, Reading, Calling, IsDone, Begins, Starts, starts, name_starts, Ends, ends, name_ends, Reads, reads, Calls, calls}
+use Rattle.flatgrammar.specs.Flat.{Node, Flat, Place, at, Name, Set, Has, Reading, Calling, IsDone, Begins, Starts, starts, name_starts, Ends, ends, name_ends, Reads, reads, Calls, calls, IsTaking, Takes, in_turns}
 use Rattle.flatgrammar.specs.Holds.{Holds, begins, called, has_read, returned}
 use Rattle.flatgrammar.specs.Lowered.{Spells, spells, Shows, shows_name, AreBodies}
 use Rattle.abnfcheck.proofs.IsPathLemmas.{here, step, join}
 use Rattle.abnfcheck.proofs.LiesLemmas.{OnLine, Lies, are_letters}
-use Rattle.flatgrammar.proofs.OnLineLemmas.{short}
+use Rattle.flatgrammar.proofs.OnLineLemmas.{short, lies_count}
 use Rattle.flatgrammar.proofs.RuleNodeLemmas.{body_of_number}
 use Rattle.flatgrammar.proofs.BeforeLemmas.{Before, start_part, read_part, call_part, end_part}
 
@@ -45,9 +45,11 @@ module _ (has : ℕ → Bool) (rules : List Rule) (limit : ℕ) (flat : Flat)
   read_on c w (reads {k = k} {l = l} {set = set} {node = node'} is r) h part = λ node el is' shown.
       let same : node' ≡ node = cc in read_part has rules c (subst (λ v. Reading v k set l) same r) h (part node el is' shown)
 
-  pub call_on : {q r : Place} {t : ℕ} (w v : List ℕ) → Calls flat q t r → PartOf q w → ((el : Element) → Spells rules limit flat.nodes t el → Derives has rules el v) → PartOf r (w ++ v)
-  call_on w v (calls {k = k} {t = t} {l = l} {node = node'} is c) part from = λ node el is' shown.
-      let same : node' ≡ node = cc in call_part has rules limit flat.nodes (subst (λ v. Calling v k t l) same c) shown (part node el is' shown) from
+  pub call_on : {q r : Place} {t : ℕ} (w v : List ℕ) → Calls flat q t r → PartOf q w → length w ≤ limit → (Takes flat q → 0 < length v) →
+      ((el : Element) → Spells rules limit flat.nodes t el → Derives has rules el v) → PartOf r (w ++ v)
+  call_on w v (calls {k = k} {t = t} {l = l} {node = node'} is c) part short some from = λ node el is' shown.
+      let same : node' ≡ node = cc in call_part has rules limit flat.nodes (subst (λ v. Calling v k t l) same c) shown (part node el is' shown) short
+      (λ t. some (in_turns is (subst (λ v. IsTaking v) (sym same) t))) from
 
   module _ (x : List ℕ) (letters : AreLetters has x) (within : length x ≤ limit) where
     pub record Reached (i j : ℕ) (p : Place) : Type 0 where
@@ -67,5 +69,6 @@ module _ (has : ℕ → Bool) (rules : List Rule) (limit : ℕ) (flat : Flat)
         record {
           word = outer.word ++ inner.word;
           lies = join (OnLine x) outer.lies inner.lies;
-          part = call_on outer.word inner.word c outer.part (ends_derive e (are_letters x has letters inner.lies) (let few = short x inner.lies in omega (arith, few, within)) inner.part);
+          part = call_on outer.word inner.word c outer.part (let few = short x outer.lies in omega (arith, few, within))
+              (λ t. let lt = takes t in let long = lies_count x inner.lies in omega (arith, lt, long)) (ends_derive e (are_letters x has letters inner.lies) (let few = short x inner.lies in omega (arith, few, within)) inner.part);
         }

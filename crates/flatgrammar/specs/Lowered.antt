@@ -1,5 +1,5 @@
 -- The nodes of a lowered grammar spell its rules.
-use Rattle.std.specs.Prelude.{◌≡◌, ℕ, ◌<◌, Bool, true, false, List, [], ◌∷◌, length, map, slice_get, Option, Some, None}
+use Rattle.std.specs.Prelude.{◌≡◌, ℕ, ◌<◌, Bool, true, false, List, [], ◌∷◌, length, map, slice_get, Option, Some, None, leb, if◌then◌else◌}
 use Rattle.abnfcheck.specs.Derivable.{Within}
 use Rattle.abnfread.specs.Element as e
 use Rattle.abnfread.specs.Element.{Element, Elements, Rule, id_of}
@@ -11,9 +11,10 @@ abbrev pub letter_set : Bool → ℕ → Set
 letter_set true c = EitherCase c
 letter_set false c = Exactly c
 
+-- a greatest number, if it is within the limit
 abbrev pub capped_most : ℕ → Option ℕ → Option ℕ
 capped_most limit None = None
-capped_most limit (Some most) = Some (capped limit most)
+capped_most limit (Some most) = if leb most limit then Some most else None
 
 -- On lines within the limit, numbers above it make no difference. Where the operand of a repetition derives the empty list,
 -- only turns that take a letter are counted: the others are there without a letter, as many as are asked for.

@@ -93,7 +93,7 @@ struct Members {
     any: bool,
 }
 
-// A number, or one more than the limit where that is less. A line within the limit has fewer turns that take a letter.
+// A number, or one more than the limit where that is less.
 fn capped(limit: usize, n: u32) -> u32
     ensures { result ≡ capped limit n }
 {
@@ -103,13 +103,13 @@ fn capped(limit: usize, n: u32) -> u32
     }
 }
 
-// A number that may be missing, likewise.
+// A greatest number, if it is within the limit. No line within it has more turns that take a letter.
 fn capped_most(limit: usize, most: Option<u32>) -> Option<u32>
     ensures { result ≡ capped_most limit most }
 {
     match most {
-        Some(most) => Some(capped(limit, most)),
-        None => None,
+        Some(most) if most as usize <= limit => Some(most),
+        _ => None,
     }
 }
 

@@ -16,6 +16,7 @@ use Rattle.flatgrammar.specs.Holds.{Holds, begins, called, has_read, returned}
 use Rattle.flatgrammar.specs.Lowered.{Spells, spells, Shows, shows_name, shows_concat, spell_none, spell_more, IsLowered}
 use Rattle.flatgrammar.specs.Places.{width}
 use Rattle.flatgrammar.specs.ToldBeginnings.{HasItem}
+use Rattle.flatgrammar.proofs.OnLineLemmas.{short}
 use Rattle.flatgrammar.proofs.PlacesLemmas.{holds_place, calling_within}
 use Rattle.flatgrammar.proofs.ReachedLemmas.{Reached, sound}
 use Rattle.flatgrammar.proofs.RuleNodeLemmas.{body_of_number}
@@ -130,7 +131,8 @@ module _ (has : ℕ → Bool) (rules : List Rule) (judged : ℕ) (flat : Flat) (
       by (spells {node = node} is shown) =
           let same : outer ≡ node = cc (at_u, is) in
           let call = subst (λ v. Calling v k callee l) same c in
-          let part = part_of has rules flat.limit flat.nodes call shown context.alive (reached.part node context.el is shown) in
+          let part = part_of has rules flat.limit flat.nodes call shown context.alive (reached.part node context.el is shown)
+          (let few = short x reached.lies in omega (arith, few, line)) in
           let inside = into st part.spelled part.live in
           record {
             el = inside.of;

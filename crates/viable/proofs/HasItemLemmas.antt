@@ -10,13 +10,14 @@ use Rattle.abnfcheck.specs.Derivable as der
 use Rattle.abnfcheck.specs.Derivable.{AreLetters, Derives, DerivesAll, DerivesSome, DerivesTimes, all_done, then, this, later, no_more, one_more, RuleDerives}
 use Rattle.abnfcheck.proofs.IsPathLemmas.{here, step, split}
 use Rattle.abnfcheck.proofs.LiesLemmas.{OnLine, Lies, all_of}
-use Rattle.flatgrammar.specs.Flat.{Node, Flat, Letters, Concat, Alt, Rep, Place, at, Set, Has, Reading, Calling, Begins, Starts, starts, name_starts, reads, calls, capped}
+use Rattle.flatgrammar.specs.Flat.{Node, Flat, Letters, Concat, Alt, Rep, Place, at, Set, Has, Reading, Calling, Begins, Starts, starts, name_starts, reads, calls}
 use Rattle.flatgrammar.specs.Holds.{Holds, begins, called, has_read}
 use Rattle.flatgrammar.specs.Lowered.{capped_most, Spells, spells, shows_text, shows_values, shows_range, shows_concat, shows_alt, shows_rep, shows_turns, shows_reversed, shows_opt, shows_name, SpellAll, spell_none, spell_more, AreBodies, IsLowered}
 use Rattle.flatgrammar.specs.ToldBeginnings.{HasItem}
 use Rattle.flatgrammar.proofs.BeforeLemmas.{Fit, fit_none, fit_more, text_fits, values_fit, Turned, turned_none}
 use Rattle.flatgrammar.specs.NullElements.{IsNeverEmpty}
 use Rattle.flatgrammar.proofs.NodeRunsLemmas.{next_of, turn_on, take_on, within_same, fewer, run, call_step, plain}
+use Rattle.flatgrammar.proofs.CappedMostLemmas.{most_is}
 use Rattle.flatgrammar.proofs.OnLineLemmas.{lies_count}
 use Rattle.flatgrammar.proofs.RuleNodeLemmas.{body_at_id, node_of_rule}
 
@@ -51,7 +52,7 @@ module _ (has : ℕ → Bool) (rules : List Rule) (limit : ℕ) (flat : Flat)
   room t k None None is le within = tt
   room t k None (Some d) is le within = absurd (cc is)
   room t k (Some b) None is le within = tt
-  room t k (Some b) (Some d) is le within = let same : d ≡ capped limit b = cc is in omega (arith, same, le, within)
+  room t k (Some b) (Some d) is le within = let one : Some b ≡ Some d = most_is limit (Some b) d is in let same : b ≡ d = cc one in omega (arith, same, within)
 
   some_letter : {el : Element} {w : List ℕ} → IsNeverEmpty rules el → Derives has rules el w → 0 < length w
   some_letter {w = []} never d = absurd (never has d)

@@ -1,6 +1,6 @@
 -- Elements whose parts are productive: what lies before a step of a node goes on to what the element derives.
 -- Serves: lower_viable.
-use Rattle.std.proofs.Common.{◌≡◌, ℕ, zero, suc, ◌+◌, ◌-◌, ◌<◌, ◌≤◌, ◌⊎◌, inl, inr, Bool, Option, Some, None, List, [], ◌∷◌, ◌++◌, length, take, drop, refl, sym, subst, arith, append_assoc}
+use Rattle.std.proofs.Common.{◌≡◌, ℕ, zero, suc, ◌+◌, ◌-◌, ◌<◌, ◌≤◌, min, ◌⊎◌, inl, inr, Bool, Option, Some, None, List, [], ◌∷◌, ◌++◌, length, take, drop, refl, sym, subst, arith, append_assoc, length-append}
 use Rattle.std.proofs.lemmas.Bool.{cases_lt}
 use Rattle.std.proofs.lemmas.List.{append-nil}
 use Rattle.abnfread.specs.Element as e
@@ -8,10 +8,11 @@ use Rattle.abnfread.specs.Element.{Element, Elements, none, more, Rule}
 use Rattle.abnfcheck.specs.Derivable as der
 use Rattle.abnfcheck.specs.Derivable.{AreLetters, Derives, DerivesAll, DerivesTimes, all_done, then, this, no_more, one_more}
 use Rattle.abnfcheck.proofs.YieldsLemmas.{letters_both}
-use Rattle.flatgrammar.specs.Flat.{Node, Concat, Set, Between, Calling, top, capped}
-use Rattle.flatgrammar.specs.Lowered.{capped_most, Spells, Shows, shows_text, shows_values, shows_range, shows_concat, shows_alt, shows_rep, shows_turns, shows_reversed, shows_opt, shows_name, shows_prose, SpellAll, spell_none, spell_more}
+use Rattle.flatgrammar.specs.Flat.{Node, Concat, Set, Turns, Between, Calling}
+use Rattle.flatgrammar.specs.Lowered.{Spells, Shows, shows_text, shows_values, shows_range, shows_concat, shows_alt, shows_rep, shows_turns, shows_reversed, shows_opt, shows_name, shows_prose, SpellAll, spell_none, spell_more}
 use Rattle.flatgrammar.specs.Places.{width}
-use Rattle.flatgrammar.proofs.BeforeLemmas.{Fit, fit_none, fit_more, fit_text, fit_values, text_fits, values_fit, first, nth, Turned, turned_more, all_snoc, times_snoc, some_of, Before, in_letters, in_concat, alt_begun, alt_done, in_rep, in_turns, opt_begun, opt_done, opt_passed, member_at, get_below}
+use Rattle.flatgrammar.proofs.CappedMostLemmas.{free_within}
+use Rattle.flatgrammar.proofs.BeforeLemmas.{Fit, fit_none, fit_more, fit_text, fit_values, text_fits, values_fit, first, nth, turned_more, turns_most, few_counted, next_within, next_counted, all_snoc, times_snoc, some_of, Before, in_letters, in_concat, alt_begun, alt_done, in_rep, in_turns, opt_begun, opt_done, opt_passed, member_at, get_below}
 use Rattle.viable.specs.Pruned.{IsProductive}
 
 -- each part of an element is productive
@@ -99,12 +100,6 @@ module _ (has : ℕ → Bool) (rules : List Rule) where
           record { rest = r.rest; letters = r.letters; derives = der.rep {k = a} (omega arith) low (subst (λ v. DerivesTimes has rules el v (w ++ r.rest)) all r.derives) }
       by (inr le) = as_is w (der.rep {k = j} le high d)
 
-  -- the bound of a node's turns is that of the element, or less
-  turns_within : (limit j k c : ℕ) (b d : Option ℕ) → d ≡ capped_most limit b → k < top c d + 1 → Turned c d j k → der.Within j b
-  turns_within limit j k c None d is lt turned = tt
-  turns_within limit j k c (Some b) None is lt turned = absurd (cc is)
-  turns_within limit j k c (Some b) (Some d) is lt turned = let same : d ≡ capped limit b = cc is in omega (arith, same, lt, turned)
-
   range_of : (low high : ℕ) (w : List ℕ) → AreLetters has w → Fit (Between low high ∷ []) w → Derives has rules (e.Range low high) w
   range_of low high w letters (fit_more h fit_none) = der.range h.0 h.1 letters.0
 
@@ -139,10 +134,10 @@ module _ (has : ℕ → Bool) (rules : List Rule) where
         by spell_none no_live less = absurd (omega (arith, less))
         by (spell_more sp all) (more_live one l ls) less = record { rest = one.word; letters = one.letters; derives = der.alt (this one.derives) }
     goes_on {w = w} (shows_alt {es = es} all) live lt letters (alt_done m same is d) = as_is w (der.alt (some_of has rules es m is d))
-    goes_on {k = k} (shows_rep {a = a} {c = c} {b = b} {d = d} least most never sp) (live_rep within one l) lt letters (in_rep {j = j} ds turned) =
-        rep_rest a j b within (turns_within limit j k c b d most lt turned) one ds
-    goes_on {k = k} (shows_turns {a = a} {b = b} {d = d} most some empty sp) (live_rep within one l) lt letters (in_turns {j = j} ds turned) =
-        rep_rest a j b within (turns_within limit j k 0 b d most lt turned) one ds
+    goes_on (shows_rep {a = a} {b = b} least most never sp) (live_rep within one l) lt letters (in_rep {j = j} ds turned inside) =
+        rep_rest a j b within inside one ds
+    goes_on (shows_turns {a = a} {b = b} most some empty sp) (live_rep within one l) lt letters (in_turns {j = j} ds turned few inside) =
+        rep_rest a j b within inside one ds
     goes_on (shows_reversed less) live lt letters part = absurd (omega (arith, lt))
     goes_on (shows_name is) live lt letters part = absurd (omega (arith, lt))
     goes_on shows_prose live lt letters part = absurd (omega (arith, lt))
@@ -163,8 +158,8 @@ module _ (has : ℕ → Bool) (rules : List Rule) where
     live_at (suc k) (more_live one l ls) is = live_at k ls is
 
     pub part_of : {node : Node} {el : Element} {k t l : ℕ} {w : List ℕ} → Calling node k t l → Shows rules limit nodes node el → IsLive has rules el →
-        Before has rules node el k w → Part node el t l w
-    part_of {w = w} (Calling.member {ms = ms} {k = k} {s = s} is) (shows_concat {es = es} all) (live_concat ls) (in_concat d) =
+        Before has rules node el k w → length w ≤ limit → Part node el t l w
+    part_of {w = w} (Calling.member {ms = ms} {k = k} {s = s} is) (shows_concat {es = es} all) (live_concat ls) (in_concat d) short =
         let h = member_at has rules limit nodes k s all is in
         let one : suc k ≡ k + 1 = omega arith in
         record {
@@ -173,15 +168,33 @@ module _ (has : ℕ → Bool) (rules : List Rule) where
           live = live_at k ls h.is;
           on = λ v c. subst (λ z. Before has rules (Concat ms) (e.Concat es) z (w ++ v)) one (in_concat (all_snoc has rules es k w d h.is c));
         }
-    part_of (Calling.alternative {k = k} {s = s} is) (shows_alt all) (live_alt ls) (alt_begun lt) =
+    part_of (Calling.alternative {k = k} {s = s} is) (shows_alt all) (live_alt ls) (alt_begun lt) short =
         let h = member_at has rules limit nodes k s all is in record { of = h.el; spelled = h.spelled; live = live_at k ls h.is; on = λ v c. alt_done k refl h.is c }
-    part_of (Calling.alternative {ms = ms} {k = k} is) (shows_alt all) live (alt_done m same found d) = absurd (let lt = get_below ms k is in omega (arith, lt, same))
-    part_of (Calling.turn {a = a} {k = k} {b = b} lt) (shows_rep {el = el} least most never s) (live_rep within one l) (in_rep {j = j} d is) =
-        record { of = el; spelled = s; live = l; on = λ v c. in_rep (times_snoc has rules d c) (turned_more a j k b lt is) }
-    part_of (Calling.turn_uncounted {a = a}) (shows_rep {el = el} least most never s) (live_rep within one l) (in_rep {j = j} d is) =
-        record { of = el; spelled = s; live = l; on = λ v c. in_rep (times_snoc has rules d c) (omega (arith, is)) }
-    part_of (Calling.takes {k = k} {b = b} lt) (shows_turns {el = el} most some empty s) (live_rep within one l) (in_turns {j = j} d is) =
-        record { of = el; spelled = s; live = l; on = λ v c. in_turns (times_snoc has rules d c) (turned_more 0 j k b lt is) }
-    part_of Calling.takes_uncounted (shows_turns {el = el} most some empty s) (live_rep within one l) (in_turns {j = j} d is) =
-        record { of = el; spelled = s; live = l; on = λ v c. in_turns (times_snoc has rules d c) (omega (arith, is)) }
-    part_of Calling.operand (shows_opt {el = el} s) (live_opt l) opt_begun = record { of = el; spelled = s; live = l; on = λ v c. opt_done c }
+    part_of (Calling.alternative {ms = ms} {k = k} is) (shows_alt all) live (alt_done m same found d) short = absurd (let lt = get_below ms k is in omega (arith, lt, same))
+    part_of (Calling.turn {a = a} {k = k} {b = d} lt) (shows_rep {b = b} {el = el} least most never s) (live_rep within one l) (in_rep {j = j} ds is inside) short =
+        let few = turns_most has rules never ds in
+        let under : j ≤ limit = omega (arith, few, short) in
+        record { of = el; spelled = s; live = l; on = λ v c. in_rep (times_snoc has rules ds c) (turned_more a j k d lt is) (next_within limit a j k b d most under lt is) }
+    part_of (Calling.turn_uncounted {a = a}) (shows_rep {b = b} {el = el} least most never s) (live_rep within one l) (in_rep {j = j} ds is inside) short =
+        let few = turns_most has rules never ds in
+        let under : j ≤ limit = omega (arith, few, short) in
+        record { of = el; spelled = s; live = l; on = λ v c. in_rep (times_snoc has rules ds c) (omega (arith, is)) (free_within limit j b most under) }
+    part_of {w = w} (Calling.takes {k = k} {b = d} lt) (shows_turns {b = b} {el = el} most some empty s) (live_rep within one l) (in_turns {j = j} ds is few inside) short =
+        record {
+          of = el;
+          spelled = s;
+          live = l;
+          on = λ v c. in_turns (times_snoc has rules ds c) (turned_more 0 j k d lt is) (few_counted d (suc j) k (w ++ v) lt) (next_counted limit j k b d most lt is);
+        }
+    part_of {w = w} (Calling.takes_uncounted {m = m}) (shows_turns {a = a} {b = b} {el = el} most some empty s) (live_rep within one l) (in_turns {j = j} ds is few inside) short =
+        record { of = el; spelled = s; live = l; on = on }
+      where
+        -- a turn without a letter is none
+        on : (v : List ℕ) → Derives has rules el v → Before has rules (Turns None m) (e.Rep a b el) 0 (w ++ v)
+        on [] c = subst (λ u. Before has rules (Turns None m) (e.Rep a b el) 0 u) (sym (append-nil w)) (in_turns ds is few inside)
+        on (x ∷ v) c =
+            let long = length-append w (x ∷ v) in
+            let more : suc j ≤ length (w ++ x ∷ v) = omega (arith, long, few) in
+            let enough : 0 ≡ min (suc j) 0 = omega arith in
+            in_turns (times_snoc has rules ds c) enough more (free_within limit j b most (omega (arith, few, short)))
+    part_of Calling.operand (shows_opt {el = el} s) (live_opt l) opt_begun short = record { of = el; spelled = s; live = l; on = λ v c. opt_done c }
