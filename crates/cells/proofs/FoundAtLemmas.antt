@@ -1,6 +1,7 @@
 -- What `found_at` says of the entries of a list.
 -- Serves: Cells::get, Cells::put, Desk::step.
-use Rattle.std.proofs.Common.{◌≡◌, ℕ, zero, suc, Bool, true, false, ◌&&◌, ◌==◌, if◌then◌else◌, List, [], ◌∷◌, ◌++◌, Option, Some, None, refl, ap}
+use Rattle.std.proofs.Common.{◌≡◌, ℕ, zero, suc, Bool, true, false, ◌&&◌, ◌==◌, if◌then◌else◌, List, [], ◌∷◌, ◌++◌}
+use Rattle.std.proofs.Common.{Option, Some, None, refl, ap}
 use Rattle.std.specs.Prelude.{slice_get}
 use Rattle.std.proofs.lemmas.Bool.{eqb-true, eq-eqb, and_parts, and_from}
 use Rattle.cells.specs.declared.cell.Found.{Found}
@@ -12,7 +13,8 @@ abbrev pub is_of : Entry → ℕ → ℕ → Bool
 is_of c n p = (c.node == n) && (c.place == p)
 
 pub is_own : (c : Entry) (n p : ℕ) → is_of c n p ≡ true → (c.node ≡ n) × (c.place ≡ p)
-is_own c n p h = let both = and_parts (c.node == n) (c.place == p) h in (eqb-true c.node n both.0, eqb-true c.place p both.1)
+is_own c n p h = let both = and_parts (c.node == n) (c.place == p) h in
+    (eqb-true c.node n both.0, eqb-true c.place p both.1)
 
 pub own : (c : Entry) → is_of c c.node c.place ≡ true
 own c = and_from (c.node == c.node) (c.place == c.place) (eq-eqb c.node c.node refl) (eq-eqb c.place c.place refl)
@@ -20,14 +22,16 @@ own c = and_from (c.node == c.node) (c.place == c.place) (eq-eqb c.node c.node r
 some-inj : {A : Type 0} (x y : A) → Some x ≡ Some y → x ≡ y
 some-inj x y e = cc
 
-of_pair : (c : Entry) (n p : ℕ) (f : Found) → c.node ≡ n → c.place ≡ p → Some c.found ≡ Some f → c ≡ record { node = n; place = p; found = f }
+of_pair : (c : Entry) (n p : ℕ) (f : Found) → c.node ≡ n → c.place ≡ p → Some c.found ≡ Some f
+    → c ≡ record { node = n; place = p; found = f }
 of_pair c n p f at stands is = let same : c.found ≡ f = cc is in rw (← at, ← stands, ← same) refl
 
 pub found_holds : (es : List Entry) (n p : ℕ) (f : Found) → found_at es n p ≡ Some f → Holds es n p f
 found_holds [] n p f is = absurd (cc is)
 found_holds (c ∷ es) n p f is = by (is_of c n p) refl is (λ h. found_holds es n p f h)
   where
-    by : (v : Bool) → is_of c n p ≡ v → (if v then Some c.found else found_at es n p) ≡ Some f → (found_at es n p ≡ Some f → Holds es n p f) →
+    by : (v : Bool) → is_of c n p ≡ v → (if v then Some c.found else found_at es n p) ≡ Some f
+        → (found_at es n p ≡ Some f → Holds es n p f) →
         Holds (c ∷ es) n p f
     by true same is rec = let both = is_own c n p same in (0, ap Some (of_pair c n p f both.0 both.1 is))
     by false same is rec = let h = rec is in (suc h.0, h.1)
@@ -41,7 +45,8 @@ none_at (c ∷ es) n p f zero is h = by (is_of c n p) own_pair is
     same = some-inj c (record { node = n; place = p; found = f }) h
 
     own_pair : is_of c n p ≡ true
-    own_pair = and_from (c.node == n) (c.place == p) (eq-eqb c.node n (ap (λ x. x.node) same)) (eq-eqb c.place p (ap (λ x. x.place) same))
+    own_pair = and_from (c.node == n) (c.place == p) (eq-eqb c.node n (ap (λ x. x.node) same))
+        (eq-eqb c.place p (ap (λ x. x.place) same))
 
     by : (v : Bool) → v ≡ true → (if v then Some c.found else found_at es n p) ≡ None → ⊥
     by true of is = absurd (cc is)
@@ -56,7 +61,8 @@ pub none_free : (es : List Entry) (n p : ℕ) → found_at es n p ≡ None → I
 none_free es n p is f h = none_at es n p f h.0 is h.1
 
 -- what an entry of the pair holds, where all entries of the pair hold the same
-pub held_found : (es : List Entry) (n p : ℕ) (f : Found) → Holds es n p f → ((o : Found) → Holds es n p o → Some f ≡ Some o) → Some f ≡ found_at es n p
+pub held_found : (es : List Entry) (n p : ℕ) (f : Found) → Holds es n p f
+    → ((o : Found) → Holds es n p o → Some f ≡ Some o) → Some f ≡ found_at es n p
 held_found es n p f held only = by (found_at es n p) refl
   where
     by : (v : Option Found) → found_at es n p ≡ v → Some f ≡ v
@@ -71,7 +77,8 @@ free_none es n p free = by (found_at es n p) refl
     by (Some f) is = absurd (free f (found_holds es n p f is))
 
 -- a cell more, for a pair that had none
-pub found_at_end : (es : List Entry) (n p : ℕ) (f : Found) → found_at es n p ≡ None → found_at (es ++ record { node = n; place = p; found = f } ∷ []) n p ≡ Some f
+pub found_at_end : (es : List Entry) (n p : ℕ) (f : Found) → found_at es n p ≡ None
+    → found_at (es ++ record { node = n; place = p; found = f } ∷ []) n p ≡ Some f
 found_at_end [] n p f none = rw (own (record { node = n; place = p; found = f })) refl
 found_at_end (c ∷ es) n p f none = by (is_of c n p) none (found_at_end es n p f)
   where

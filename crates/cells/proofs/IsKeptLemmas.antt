@@ -1,6 +1,7 @@
 -- What holds of the fields after each change, and what a look-up says of the entries.
 -- Serves: Cells::get, Cells::put.
-use Rattle.std.proofs.Common.{◌≡◌, ℕ, ◌+◌, ◌<◌, ◌≤◌, ◌⊎◌, inl, inr, List, [], ◌∷◌, ◌++◌, length, set, take, Some, None, refl, ap, sym, ◌∙◌, arith, length-append, length-set, take_all}
+use Rattle.std.proofs.Common.{◌≡◌, ℕ, ◌+◌, ◌<◌, ◌≤◌, ◌⊎◌, inl, inr, List, [], ◌∷◌, ◌++◌, length, set, take, Some, None}
+use Rattle.std.proofs.Common.{refl, ap, sym, ◌∙◌, arith, length-append, length-set, take_all}
 use Rattle.std.proofs.lemmas.List.{length-map, map-append, take-append-le}
 use Rattle.std.proofs.lemmas.Bool.Decides.{nat_tests}
 use Rattle.std.specs.Prelude.{slice_get, option_map}
@@ -18,7 +19,8 @@ use Rattle.cells.proofs.AreLinkedLemmas.{AreLinked-none, AreLinked-push, AreLink
 some-inj : {A : Type 0} (x y : A) → Some x ≡ Some y → x ≡ y
 some-inj x y e = cc
 
-entry_at : (cells : List Cell) (i : ℕ) (c : Cell) → slice_get cells i ≡ Some c → slice_get (entries_of cells) i ≡ Some (entry_of c)
+entry_at : (cells : List Cell) (i : ℕ) (c : Cell) → slice_get cells i ≡ Some c → slice_get (entries_of cells) i
+    ≡ Some (entry_of c)
 entry_at cells i c h = slice_get-map entry_of cells i ∙ ap (option_map entry_of) h
 
 entry_is : (c : Cell) (n p e : ℕ) (o : Found) → c.node ≡ n → c.place ≡ p → c.end ≡ e → found_of e ≡ o →
@@ -26,9 +28,11 @@ entry_is : (c : Cell) (n p e : ℕ) (o : Found) → c.node ≡ n → c.place ≡
 entry_is c n p e o hn hp he ho = rw (← hn, ← hp, ← ho, ← he) refl
 
 one_outcome : (cells : List Cell) (n p e : ℕ) (o : Found) → IsMap (entries_of cells) → IsAt cells n p e →
-    (d : Cell) (j : ℕ) → slice_get cells j ≡ Some d → d.node ≡ n → d.place ≡ p → found_of d.end ≡ o → Some (found_of e) ≡ Some o
+    (d : Cell) (j : ℕ) → slice_get cells j ≡ Some d → d.node ≡ n → d.place ≡ p → found_of d.end ≡ o
+    → Some (found_of e) ≡ Some o
 one_outcome cells n p e o m a d j hd hn hp ho =
-    let same : a.0 ≡ j = m a.0 j (entry_of a.1) (entry_of d) (entry_at cells a.0 a.1 a.2) (entry_at cells j d hd) (a.3 ∙ sym hn) (a.4 ∙ sym hp) in
+    let same : a.0 ≡ j = m a.0 j (entry_of a.1) (entry_of d) (entry_at cells a.0 a.1 a.2) (entry_at cells j d hd)
+    (a.3 ∙ sym hn) (a.4 ∙ sym hp) in
     let d_is : a.1 ≡ d = some-inj _ _ (sym a.2 ∙ ap (slice_get cells) same ∙ hd) in
     ap Some (ap found_of (sym a.5 ∙ ap (λ x. x.end) d_is) ∙ ho)
 
@@ -47,7 +51,8 @@ free_nowhere cells n p w o h =
     w h.0 m.0 m.1 (ap (λ x. x.node) m.2) (ap (λ x. x.place) m.2)
 
 -- too great a number has no cell
-pub nowhere_great : (cells : List Cell) (n p : ℕ) → ((i : ℕ) (c : Cell) → slice_get cells i ≡ Some c → (c.node < 4294967295) × (c.place < 4294967295)) →
+pub nowhere_great : (cells : List Cell) (n p : ℕ)
+    → ((i : ℕ) (c : Cell) → slice_get cells i ≡ Some c → (c.node < 4294967295) × (c.place < 4294967295)) →
     (4294967295 ≤ n) ⊎ (4294967295 ≤ p) → IsNowhere cells n p
 nowhere_great cells n p small great i c h hn hp =
     let s = small i c h in
@@ -55,12 +60,14 @@ nowhere_great cells n p small great i c h hn hp =
     let s1 : c.place < 4294967295 = s.1 in
     elim great [ inl g ↦ omega arith | inr g ↦ omega arith ]
 
-pub nowhere_none : (cells : List Cell) (rows : ℕ) (n p : ℕ) → (0 < length cells → 0 < rows) → rows ≡ 0 → IsNowhere cells n p
+pub nowhere_none : (cells : List Cell) (rows : ℕ) (n p : ℕ) → (0 < length cells → 0 < rows) → rows ≡ 0
+    → IsNowhere cells n p
 nowhere_none cells rows n p some none i c h hn hp =
     let w : i < length cells = slice_get_within cells i c h in
     let k : 0 < rows = some (omega arith) in omega arith
 
-held : (a e : Entry) → a.node ≡ e.node → a.place ≡ e.place → a ≡ record { node = e.node; place = e.place; found = a.found }
+held : (a e : Entry) → a.node ≡ e.node → a.place ≡ e.place
+    → a ≡ record { node = e.node; place = e.place; found = a.found }
 held a e hn hp = rw (← hn, ← hp) refl
 
 IsMap-push : (xs : List Entry) (e : Entry) → IsMap xs → IsFree xs e.node e.place → IsMap (xs ++ e ∷ [])
@@ -68,16 +75,25 @@ IsMap-push xs e m free i j a b ha hb hn hp =
     elim (push_cases xs e i a ha) [
       | inl ga ↦ elim (push_cases xs e j b hb) [
         | inl gb ↦ m i j a b ga gb hn hp
-        | inr q ↦ absurd (free a.found (i, ga ∙ ap Some (held a e (hn ∙ ap (λ x. x.node) (sym q.1)) (hp ∙ ap (λ x. x.place) (sym q.1)))))
+        | inr q ↦ absurd (free a.found (
+          i,
+          ga ∙ ap Some (held a e (hn ∙ ap (λ x. x.node) (sym q.1))
+              (hp ∙ ap (λ x. x.place) (sym q.1))),
+        ))
       ]
       | inr q ↦ elim (push_cases xs e j b hb) [
-        | inl gb ↦ absurd (free b.found (j, gb ∙ ap Some (held b e (sym hn ∙ ap (λ x. x.node) (sym q.1)) (sym hp ∙ ap (λ x. x.place) (sym q.1)))))
+        | inl gb ↦ absurd (free b.found (
+          j,
+          gb ∙ ap Some (held b e (sym hn ∙ ap (λ x. x.node) (sym q.1))
+              (sym hp ∙ ap (λ x. x.place) (sym q.1))),
+        ))
         | inr r ↦ q.0 ∙ sym r.0
       ]
     ]
 
 -- no cells, and rows that have none
-pub IsKept-none : (stride : ℕ) (cells : List Cell) (rows : List ℕ) → cells ≡ [] → ((b h : ℕ) → slice_get rows b ≡ Some h → h ≡ 0) → IsKept stride 0 cells rows
+pub IsKept-none : (stride : ℕ) (cells : List Cell) (rows : List ℕ) → cells ≡ []
+    → ((b h : ℕ) → slice_get rows b ≡ Some h → h ≡ 0) → IsKept stride 0 cells rows
 IsKept-none stride cells rows is none = rw is (record {
   linked = AreLinked-none (row_of (length rows) 0 stride) rows none;
   some = λ h. absurd (omega arith);
@@ -88,12 +104,16 @@ IsKept-none stride cells rows is none = rw is (record {
   few = omega arith;
 })
 
-pub IsKept-push : (stride mask : ℕ) (cells : List Cell) (rows : List ℕ) (c : Cell) (row : ℕ) → IsKept stride mask cells rows →
+pub IsKept-push : (stride mask : ℕ) (cells : List Cell) (rows : List ℕ) (c : Cell) (row : ℕ)
+    → IsKept stride mask cells rows →
     0 < length rows → IsFree (entries_of cells) c.node c.place → (c.node < 4294967295) × (c.place < 4294967295) →
-    row ≡ row_of (length rows) mask stride c → IsLast (row_of (length rows) mask stride) cells (length cells) row c.link → length cells < 4294967294 →
-    (mask ≡ 0 → number_of stride c.node c.place < length rows) → IsKept stride mask (cells ++ c ∷ []) (set rows row (length cells + 1))
+    row ≡ row_of (length rows) mask stride c → IsLast (row_of (length rows) mask stride) cells (length cells) row c.link
+    → length cells < 4294967294 →
+    (mask ≡ 0 → number_of stride c.node c.place < length rows)
+    → IsKept stride mask (cells ++ c ∷ []) (set rows row (length cells + 1))
 IsKept-push stride mask cells rows c row k some free small is last few low = record {
-  linked = rw (length-set rows row (length cells + 1), is) (AreLinked-push (row_of (length rows) mask stride) cells rows c k.linked (rw (← is) last));
+  linked = rw (length-set rows row (length cells + 1), is)
+      (AreLinked-push (row_of (length rows) mask stride) cells rows c k.linked (rw (← is) last));
   some = λ _. rw (length-set rows row (length cells + 1)) some;
   masked = λ _. rw (length-set rows row (length cells + 1)) (k.masked some);
   map = rw (map-append entry_of cells (c ∷ [])) (IsMap-push (entries_of cells) (entry_of c) k.map free);
@@ -108,15 +128,18 @@ unfolding fold
 fold-below count mask x h = grind (arith, nat_tests)
 
 -- more rows where no number is folded
-pub IsKept-more : (stride : ℕ) (cells : List Cell) (rows more : List ℕ) → ((b h : ℕ) → slice_get more b ≡ Some h → h ≡ 0) → IsKept stride 0 cells rows →
+pub IsKept-more : (stride : ℕ) (cells : List Cell) (rows more : List ℕ)
+    → ((b h : ℕ) → slice_get more b ≡ Some h → h ≡ 0) → IsKept stride 0 cells rows →
     0 < length (rows ++ more) → IsKept stride 0 cells (rows ++ more)
 IsKept-more stride cells rows more none k some =
     let size : length (rows ++ more) ≡ length rows + length more = length-append rows more in
     record {
       linked = AreLinked-same (row_of (length rows) 0 stride) (row_of (length (rows ++ more)) 0 stride) cells rows more
           (λ i c h. let w : number_of stride c.node c.place < length rows = k.within refl i c h in
-          fold-below (length (rows ++ more)) 0 (number_of stride c.node c.place) (omega arith) ∙ sym (fold-below (length rows) 0 (number_of stride c.node c.place) w))
-          (λ i c h. rw (fold-below (length rows) 0 (number_of stride c.node c.place) (k.within refl i c h)) (k.within refl i c h))
+          fold-below (length (rows ++ more)) 0 (number_of stride c.node c.place) (omega arith)
+          ∙ sym (fold-below (length rows) 0 (number_of stride c.node c.place) w))
+          (λ i c h. rw (fold-below (length rows) 0 (number_of stride c.node c.place) (k.within refl i c h))
+          (k.within refl i c h))
           none
           k.linked;
       some = λ _. some;
@@ -128,8 +151,10 @@ IsKept-more stride cells rows more none k some =
     }
 
 -- other links and rows, where numbers are folded
-pub IsKept-relinked : (stride mask now_mask : ℕ) (cells now_cells : List Cell) (rows now_rows : List ℕ) → IsKept stride mask cells rows →
-    AreLinked (row_of (length now_rows) now_mask stride) now_cells now_rows → entries_of now_cells ≡ entries_of cells → 0 < now_mask → now_mask < length now_rows →
+pub IsKept-relinked : (stride mask now_mask : ℕ) (cells now_cells : List Cell) (rows now_rows : List ℕ)
+    → IsKept stride mask cells rows →
+    AreLinked (row_of (length now_rows) now_mask stride) now_cells now_rows → entries_of now_cells ≡ entries_of cells
+    → 0 < now_mask → now_mask < length now_rows →
     IsKept stride now_mask now_cells now_rows
 IsKept-relinked stride mask now_mask cells now_cells rows now_rows k linked same some masked = record {
   linked = linked;
@@ -137,7 +162,8 @@ IsKept-relinked stride mask now_mask cells now_cells rows now_rows k linked same
   masked = λ _. masked;
   map = rw same k.map;
   narrow = λ i c h.
-      let b = mapped_from entry_of cells i (entry_of c) (ap (λ xs. slice_get xs i) (sym same) ∙ entry_at now_cells i c h) in
+      let b = mapped_from entry_of cells i (entry_of c)
+      (ap (λ xs. slice_get xs i) (sym same) ∙ entry_at now_cells i c h) in
       let n : b.0.node ≡ c.node = ap (λ x. x.node) b.2 in
       let p : b.0.place ≡ c.place = ap (λ x. x.place) b.2 in
       let s = k.narrow i b.0 b.1 in
@@ -147,7 +173,8 @@ IsKept-relinked stride mask now_mask cells now_cells rows now_rows k linked same
   within = λ z. absurd (omega arith);
   few =
       let f : length cells < 4294967295 = k.few in
-      let e : length now_cells ≡ length cells = sym (length-map now_cells entry_of) ∙ ap length same ∙ length-map cells entry_of in
+      let e : length now_cells ≡ length cells = sym (length-map now_cells entry_of) ∙ ap length same
+      ∙ length-map cells entry_of in
       omega arith;
 }
 
@@ -160,13 +187,17 @@ pub free-is : (entries : List Entry) (e : Entry) (n p : ℕ) (o : Found) → e �
 free-is entries e n p o h free = rw h free
 
 -- a pair that had a cell
-pub known_old : (cells : List Cell) (old : List Entry) (n p e : ℕ) (f : Found) → IsMap (entries_of cells) → entries_of cells ≡ old → IsAt cells n p e →
+pub known_old : (cells : List Cell) (old : List Entry) (n p e : ℕ) (f : Found) → IsMap (entries_of cells)
+    → entries_of cells ≡ old → IsAt cells n p e →
     IsKnown old (entries_of cells) n p f (found_of e)
-known_old cells old n p e f m same at =
-    (sym (held_found (entries_of cells) n p (found_of e) (holds_at cells n p e at) (holds_only cells n p e m at)), inl same)
+known_old cells old n p e f m same at = (
+  sym (held_found (entries_of cells) n p (found_of e) (holds_at cells n p e at) (holds_only cells n p e m at)),
+  inl same,
+)
 
 -- a pair that has one since
-pub known_new : (old new : List Entry) (n p : ℕ) (f : Found) → IsFree old n p → new ≡ old ++ record { node = n; place = p; found = f } ∷ [] →
+pub known_new : (old new : List Entry) (n p : ℕ) (f : Found) → IsFree old n p → new ≡ old
+    ++ record { node = n; place = p; found = f } ∷ [] →
     IsKnown old new n p f f
 known_new old new n p f free is =
     let none : found_at old n p ≡ None = sym (free_none old n p free) in

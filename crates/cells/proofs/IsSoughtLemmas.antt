@@ -1,6 +1,7 @@
 -- A walk along a row's links, from its last cell back.
 -- Serves: Cells::get.
-use Rattle.std.proofs.Common.{◌≡◌, ℕ, ◌-◌, ◌<◌, ◌≤◌, ◌⊎◌, inl, inr, List, Some, length, get_or, ap, ap₂, sym, ◌∙◌, arith}
+use Rattle.std.proofs.Common.{◌≡◌, ℕ, ◌-◌, ◌<◌, ◌≤◌, ◌⊎◌, inl, inr, List, Some, length, get_or, ap, ap₂, sym, ◌∙◌}
+use Rattle.std.proofs.Common.{arith}
 use Rattle.std.specs.Prelude.{slice_get}
 use Rattle.std.proofs.lemmas.Option.{slice_get_within, slice_get-get_or}
 use Rattle.cells.specs.declared.cell.Cell.{Cell}
@@ -13,11 +14,13 @@ pub record IsSought (row : Cell → ℕ) (cells : List Cell) (n p b at : ℕ) : 
   pub here : 0 < at → IsIn row cells b (at - 1)
   pub after : (j : ℕ) (c : Cell) → at ≤ j → slice_get cells j ≡ Some c → c.node ≡ n → c.place ≡ p → ⊥
 
-pub same_row : (count mask stride n p : ℕ) (c : Cell) → c.node ≡ n → c.place ≡ p → row_of count mask stride c ≡ fold count mask (number_of stride n p)
+pub same_row : (count mask stride n p : ℕ) (c : Cell) → c.node ≡ n → c.place ≡ p → row_of count mask stride c
+    ≡ fold count mask (number_of stride n p)
 same_row count mask stride n p c e f = ap (fold count mask) (ap₂ (number_of stride) e f)
 
 pub sought-start : (row : Cell → ℕ) (cells : List Cell) (n p b at : ℕ) →
-    ((c : Cell) → c.node ≡ n → c.place ≡ p → row c ≡ b) → IsLast row cells (length cells) b at → IsSought row cells n p b at
+    ((c : Cell) → c.node ≡ n → c.place ≡ p → row c ≡ b) → IsLast row cells (length cells) b at
+    → IsSought row cells n p b at
 sought-start row cells n p b at same l = record {
   within = l.within;
   here = l.here;
@@ -48,7 +51,8 @@ sought-next row cells rows n p b at c same l s h e other =
             elim (le_cases j at h) [
               | inl m ↦ last.after j d g m a (same d f q ∙ sym in_row)
               | inr m ↦ elim m [
-                | inl m ↦ let d_is : d ≡ c = some-inj d c (sym a ∙ ap (slice_get cells) m ∙ e) in other (ap (λ x. x.node) (sym d_is) ∙ f) (ap (λ x. x.place) (sym d_is) ∙ q)
+                | inl m ↦ let d_is : d ≡ c = some-inj d c (sym a ∙ ap (slice_get cells) m ∙ e) in
+                    other (ap (λ x. x.node) (sym d_is) ∙ f) (ap (λ x. x.place) (sym d_is) ∙ q)
                 | inr m ↦ s.after j d m a f q
               ]
             ];
@@ -57,11 +61,15 @@ sought-next row cells rows n p b at c same l s h e other =
 
 -- the same, of a cell that was read
 pub sought-step : (count mask stride : ℕ) (cells : List Cell) (rows : List ℕ) (n p b at : ℕ) (d : Cell) →
-    b ≡ fold count mask (number_of stride n p) → AreLinked (row_of count mask stride) cells rows → IsSought (row_of count mask stride) cells n p b at →
-    0 < at → ((get_or cells (at - 1) d).node ≡ n × ((get_or cells (at - 1) d).place ≡ p → ⊥)) ⊎ ((get_or cells (at - 1) d).node ≡ n → ⊥) →
-    ((get_or cells (at - 1) d).link < at) × IsSought (row_of count mask stride) cells n p b (get_or cells (at - 1) d).link
+    b ≡ fold count mask (number_of stride n p) → AreLinked (row_of count mask stride) cells rows
+    → IsSought (row_of count mask stride) cells n p b at →
+    0 < at → ((get_or cells (at - 1) d).node ≡ n × ((get_or cells (at - 1) d).place ≡ p → ⊥))
+    ⊎ ((get_or cells (at - 1) d).node ≡ n → ⊥) →
+    ((get_or cells (at - 1) d).link < at) × IsSought (row_of count mask stride) cells n p b
+    (get_or cells (at - 1) d).link
 sought-step count mask stride cells rows n p b at d is l s h other =
     let w : at ≤ length cells = s.within in
-    sought-next (row_of count mask stride) cells rows n p b at (get_or cells (at - 1) d) (λ c e f. same_row count mask stride n p c e f ∙ sym is) l s h
+    sought-next (row_of count mask stride) cells rows n p b at (get_or cells (at - 1) d)
+    (λ c e f. same_row count mask stride n p c e f ∙ sym is) l s h
     (slice_get-get_or cells (at - 1) d (omega arith))
     (elim other [ inl o ↦ λ _ f. o.1 f | inr o ↦ λ e _. o e ])

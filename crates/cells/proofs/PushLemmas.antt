@@ -1,6 +1,7 @@
 -- Elements of a list that grows at its end.
 -- Serves: Cells::put.
-use Rattle.std.proofs.Common.{◌≡◌, ℕ, zero, suc, ◌≤◌, List, [], ◌∷◌, ◌++◌, length, map, set, Some, refl, ap, ⊎_elim, inl, inr, ◌⊎◌, arith}
+use Rattle.std.proofs.Common.{◌≡◌, ℕ, zero, suc, ◌≤◌, List, [], ◌∷◌, ◌++◌, length, map, set, Some, refl, ap, ⊎_elim}
+use Rattle.std.proofs.Common.{inl, inr, ◌⊎◌, arith}
 use Rattle.std.specs.Prelude.{slice_get}
 
 module _ {A : Type 0} where
@@ -13,7 +14,8 @@ module _ {A : Type 0} where
   keeps (x ∷ xs) ys zero a h = h
   keeps (x ∷ xs) ys (suc n) a h = keeps xs ys n a h
 
-  pub push_cases : (xs : List A) (a : A) (n : ℕ) (b : A) → slice_get (xs ++ a ∷ []) n ≡ Some b → (slice_get xs n ≡ Some b) ⊎ ((n ≡ length xs) × (a ≡ b))
+  pub push_cases : (xs : List A) (a : A) (n : ℕ) (b : A) → slice_get (xs ++ a ∷ []) n ≡ Some b
+      → (slice_get xs n ≡ Some b) ⊎ ((n ≡ length xs) × (a ≡ b))
   push_cases [] a zero b h = inr (refl, cc h)
   push_cases [] a (suc n) b h = absurd (cc h)
   push_cases (x ∷ xs) a zero b h = inl h
@@ -32,10 +34,12 @@ module _ {A : Type 0} where
       (slice_get xs i ≡ Some x) ⊎ ((length xs ≤ i) × ((j : ℕ) × (slice_get ys j ≡ Some x)))
   more_cases [] ys i x h = inr (omega arith, (i, h))
   more_cases (y ∷ xs) ys zero x h = inl h
-  more_cases (y ∷ xs) ys (suc i) x h = ⊎_elim (λ k. inl k) (λ k. inr (let w : length xs ≤ i = k.0 in omega arith, k.1)) (more_cases xs ys i x h)
+  more_cases (y ∷ xs) ys (suc i) x h = ⊎_elim (λ k. inl k) (λ k. inr (let w : length xs ≤ i = k.0 in omega arith, k.1))
+      (more_cases xs ys i x h)
 
 -- an element of a mapped list is made of the list's own
-pub mapped_from : {A B : Type 0} (f : A → B) (xs : List A) (i : ℕ) (b : B) → slice_get (map f xs) i ≡ Some b → (a : A) × (slice_get xs i ≡ Some a) × (f a ≡ b)
+pub mapped_from : {A B : Type 0} (f : A → B) (xs : List A) (i : ℕ) (b : B) → slice_get (map f xs) i ≡ Some b → (a : A)
+    × (slice_get xs i ≡ Some a) × (f a ≡ b)
 mapped_from f [] i b h = absurd (cc h)
 mapped_from f (x ∷ xs) zero b h = (x, refl, cc h)
 mapped_from f (x ∷ xs) (suc i) b h = mapped_from f xs i b h

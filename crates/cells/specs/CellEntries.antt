@@ -44,5 +44,6 @@ pub record IsKept (stride mask : ℕ) (cells : List Cell) (rows : List ℕ) : Ty
   pub masked : 0 < length rows → mask < length rows
   pub map : IsMap (entries_of cells)
   pub narrow : (i : ℕ) (c : Cell) → slice_get cells i ≡ Some c → (c.node < 4294967295) × (c.place < 4294967295)
-  pub within : mask ≡ 0 → (i : ℕ) (c : Cell) → slice_get cells i ≡ Some c → number_of stride c.node c.place < length rows
+  pub within : mask ≡ 0 → (i : ℕ) (c : Cell) → slice_get cells i ≡ Some c → number_of stride c.node c.place
+      < length rows
   pub few : length cells < 4294967295

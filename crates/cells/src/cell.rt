@@ -11,8 +11,8 @@ pub enum Found {
     Took(usize),
 }
 
-/// A cell in 16 bytes: its node, its place, the end of its success or `FAILED`, and its link: one more than the index of
-/// the last cell before it in the same row, or 0.
+/// A cell in 16 bytes: its node, its place, the end of its success or `FAILED`, and its link: one more than the index
+/// of the last cell before it in the same row, or 0.
 #[derive(Clone, Copy)]
 pub(crate) struct Cell {
     pub(crate) node: u32,

@@ -1,5 +1,6 @@
 //! The cells as a finite map.
-ghost use Rattle.std.specs.Prelude.{◌≡◌, ℕ, ◌<◌, ◌≤◌, ◌++◌, ◌∷◌, ◌^◌, [], length, slice_get, false, Some, None, IfOk, IfNone, IfSome, OnOk, OnErr};
+ghost use Rattle.std.specs.Prelude.{◌≡◌, ℕ, ◌<◌, ◌≤◌, ◌++◌, ◌∷◌, ◌^◌, [], length, slice_get, false, Some, None, IfOk};
+ghost use Rattle.std.specs.Prelude.{IfNone, IfSome, OnOk, OnErr};
 ghost use Rattle.cells.specs.Entries.{found_at, IsKnown};
 ghost use Rattle.cells.specs.CellEntries.{IsAt, IsFree, IsKept, IsNowhere, entry_of, entries_of, found_of};
 ghost use Rattle.cells.specs.Links.{AreLinked};
@@ -20,8 +21,8 @@ const KEPT: usize = 64;
 
 /// The cells of one unit, seen as the list of their entries in the order in which they were put.
 ///
-/// A cell takes 16 bytes, and each row takes 4 more; 32 neighbouring nodes share a row of each place. Numbers from 4,294,967,295 on, and more cells than that, are refused as want of
-/// memory.
+/// A cell takes 16 bytes, and each row takes 4 more; 32 neighbouring nodes share a row of each place. Numbers from
+/// 4,294,967,295 on, and more cells than that, are refused as want of memory.
 #[derive(Drop)]
 pub struct Cells {
     cells: Vec<Cell>,
@@ -106,8 +107,8 @@ fn grow(
     Ok(folded)
 }
 
-// Whether more rows are to be made before one more cell of that number comes in: where the number is no row, and no number
-// is folded or there are more than two cells a row.
+// Whether more rows are to be made before one more cell of that number comes in: where the number is no row, and no
+// number is folded or there are more than two cells a row.
 #[inline(always)]
 fn needs_rows(cells: usize, rows: usize, mask: usize, number: usize) -> bool
     ensures some { result ≡ false → 0 < rows }
@@ -251,7 +252,8 @@ fn find_or_insert(
     requires kept { IsKept stride mask.old cells.old.items rows.old.items }
     requires narrow { (cell.node < 4294967295) × (cell.place < 4294967295) }
     ensures kept { IsKept stride mask.new cells.new.items rows.new.items }
-    ensures known { IfOk result (λ e. IsKnown (entries_of cells.old.items) (entries_of cells.new.items) cell.node cell.place (found_of cell.end) (found_of e)) }
+    ensures known { IfOk result (λ e. IsKnown (entries_of cells.old.items) (entries_of cells.new.items) cell.node
+        cell.place (found_of cell.end) (found_of e)) }
     ensures unchanged { OnErr result (entries_of cells.new.items ≡ entries_of cells.old.items) }
 {
     let at = number_of(stride, cell.node, cell.place);

@@ -1,6 +1,7 @@
 -- There are no more cells and frames than nodes at places.
 -- Serves: Desk::step, Desk::match_unit, Desk::replay.
-use Rattle.std.proofs.Common.{◌≡◌, ◌⊎◌, inl, inr, ℕ, zero, suc, ◌+◌, ◌*◌, ◌<◌, ◌≤◌, Bool, true, false, if◌then◌else◌, List, [], ◌∷◌, length, Option, Some, None, refl, sym, ◌∙◌, ap, subst, arith}
+use Rattle.std.proofs.Common.{◌≡◌, ◌⊎◌, inl, inr, ℕ, zero, suc, ◌+◌, ◌*◌, ◌<◌, ◌≤◌, Bool, true, false, if◌then◌else◌}
+use Rattle.std.proofs.Common.{List, [], ◌∷◌, length, Option, Some, None, refl, sym, ◌∙◌, ap, subst, arith}
 use Rattle.std.proofs.Math.Nat.{mul-le-mul_right}
 use Rattle.std.proofs.lemmas.Bool.{cases_lt, cases_order}
 use Rattle.cells.specs.Entries.{Entry}
@@ -46,7 +47,8 @@ pub at_most : (xs ys : List ℕ) → Differ xs → ((a : ℕ) → In a xs → In
 at_most [] ys different among = omega arith
 at_most (x ∷ xs) ys different among =
     let w = without x ys (among x (now refl)) in
-    let rest = at_most xs w.rest different.1 (λ a h. w.keeps a (λ same. different.0 (subst (λ v. In v xs) same h)) (among a (on h))) in
+    let rest = at_most xs w.rest different.1 (λ a h. w.keeps a (λ same. different.0 (subst (λ v. In v xs) same h))
+    (among a (on h))) in
     omega (arith, rest, w.shorter)
 
 abbrev pub down : ℕ → List ℕ
@@ -83,7 +85,8 @@ code_below w n p b lt less = let far : (n + 1) * w ≤ b * w = mul-le-mul_right 
 some_none : {f : Found} → Some f ≡ None → ⊥
 some_none h = cc h
 
-at_pair : (cells : List Entry) (n p m q : ℕ) (v : Option Found) → n ≡ m → p ≡ q → found_at cells m q ≡ v → found_at cells n p ≡ v
+at_pair : (cells : List Entry) (n p m q : ℕ) (v : Option Found) → n ≡ m → p ≡ q → found_at cells m q ≡ v
+    → found_at cells n p ≡ v
 at_pair cells n p m q v is same h = rw (is, same) h
 
 module _ (w : ℕ) where
@@ -117,16 +120,19 @@ module _ (w : ℕ) where
   pub cell_of : {a : ℕ} (cells : List Entry) → In a (cell_codes cells) → CellOf cells a
   cell_of [] h = elim h [ ]
   cell_of (c ∷ cells) (now is) = record { node = c.node; place = c.place; has = (c.found, rw (own c) refl); is = is }
-  cell_of (c ∷ cells) (on h) = let l = cell_of cells h in record { node = l.node; place = l.place; has = has_later c cells l.node l.place l.has; is = l.is }
+  cell_of (c ∷ cells) (on h) = let l = cell_of cells h in
+      record { node = l.node; place = l.place; has = has_later c cells l.node l.place l.has; is = l.is }
 
   -- a pair without a cell is not among the cells
-  pub not_among : (cells : List Entry) (n p : ℕ) → ((m q : ℕ) → HasCell cells m q → q < w) → p < w → found_at cells n p ≡ None → In (code w n p) (cell_codes cells) → ⊥
+  pub not_among : (cells : List Entry) (n p : ℕ) → ((m q : ℕ) → HasCell cells m q → q < w) → p < w
+      → found_at cells n p ≡ None → In (code w n p) (cell_codes cells) → ⊥
   not_among cells n p low lt none h =
       let c = cell_of cells h in
       let same = code_same w n p c.node c.place lt (low c.node c.place c.has) c.is in
       some_none (sym (at_pair cells n p c.node c.place (Some c.has.0) same.0 same.1 c.has.1) ∙ none)
 
-  pub cells_differ : (cells : List Entry) → ((m q : ℕ) → HasCell cells m q → q < w) → AreDifferent cells → Differ (cell_codes cells)
+  pub cells_differ : (cells : List Entry) → ((m q : ℕ) → HasCell cells m q → q < w) → AreDifferent cells
+      → Differ (cell_codes cells)
   cells_differ [] low d = tt
   cells_differ (c ∷ cells) low d =
       let later = λ (m q : ℕ) (h : HasCell cells m q). low m q (has_later c cells m q h) in (
@@ -136,10 +142,12 @@ module _ (w : ℕ) where
 
 -- numbers below a bound that differ are no more than it
 pub at_most_below : (ks : List ℕ) (b : ℕ) → Differ ks → ((a : ℕ) → In a ks → a < b) → length ks ≤ b
-at_most_below ks b d low = let h = at_most ks (down b) d (λ a i. in_down b a (low a i)) in omega (arith, length_down b, h)
+at_most_below ks b d low = let h = at_most ks (down b) d (λ a i. in_down b a (low a i)) in
+    omega (arith, length_down b, h)
 
 -- cells are no more than nodes at places
-pub cells_at_most : (cells : List Entry) (n k : ℕ) → AreDifferent cells → ((m q : ℕ) → HasCell cells m q → (m < n) × (q ≤ k)) → length cells ≤ n * (k + 1)
+pub cells_at_most : (cells : List Entry) (n k : ℕ) → AreDifferent cells
+    → ((m q : ℕ) → HasCell cells m q → (m < n) × (q ≤ k)) → length cells ≤ n * (k + 1)
 cells_at_most cells n k d low =
     let codes = cells_differ (k + 1) cells (λ m q h. let l = low m q h in omega (arith, l.1)) d in
     let most = at_most_below (cell_codes (k + 1) cells) (n * (k + 1)) codes

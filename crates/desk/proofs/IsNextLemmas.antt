@@ -1,6 +1,7 @@
 -- What a turn of a match makes of cells and frames: a leaf's cell is a frame that is pushed and dropped.
 -- Serves: Desk::match_unit.
-use Rattle.std.proofs.Common.{◌≡◌, ℕ, ◌+◌, Bool, List, [], ◌∷◌, ◌++◌, length, Option, Some, None, refl, sym, ◌∙◌, ap, subst, arith, length-append}
+use Rattle.std.proofs.Common.{◌≡◌, ℕ, ◌+◌, Bool, List, [], ◌∷◌, ◌++◌, length, Option, Some, None, refl, sym, ◌∙◌, ap}
+use Rattle.std.proofs.Common.{subst, arith, length-append}
 use Rattle.pegread.specs.PegViews.{rules_of}
 use Rattle.gramcheck.specs.Grammar.{Grammar, IsSoundGrammar}
 use Rattle.gramcheck.specs.Nodes.{shapes_of}
@@ -15,7 +16,8 @@ use Rattle.desk.specs.Turns.{IsTurn}
 use Rattle.desk.proofs.IsStepLemmas.{IsTop, is_top, pushed, dropped, ended, reaches, need_given, step_less}
 
 module _ (g : Grammar) (x : List ℕ) (more : Bool) (sound : IsSoundGrammar g) where
-  step_next : (old : View) (cells : List Entry) (top : Frame) (below : List Frame) → Fits g x more old → IsStep g x more old (counted cells (top ∷ below)) None → IsNext g x more old cells below (next.More top)
+  step_next : (old : View) (cells : List Entry) (top : Frame) (below : List Frame) → Fits g x more old
+      → IsStep g x more old (counted cells (top ∷ below)) None → IsNext g x more old cells below (next.More top)
   step_next old cells top below f s = (s.0, step_less g x more sound old (counted cells (top ∷ below)) None f s refl)
 
   module _ (cells : List Entry) (t : Frame) (fs : List Frame) (f : Fits g x more (counted cells (t ∷ fs))) where
@@ -26,7 +28,8 @@ module _ (g : Grammar) (x : List ℕ) (more : Bool) (sound : IsSoundGrammar g) w
     pub at_top : IsTop g x more sound here t
     at_top = is_top g x more sound here t fs f refl
 
-    module _ (m q i r : ℕ) (turn : IsTurn (rules_of g.rules) g.start (shapes_of g.nodes) g.bodies x more cells t.node t.place (Ask m q i r)) where
+    module _ (m q i r : ℕ) (turn : IsTurn (rules_of g.rules) g.start (shapes_of g.nodes) g.bodies x more cells t.node
+        t.place (Ask m q i r)) where
       abbrev come : Frame
       come = record { node = t.node; place = t.place; next = i; end = r }
 
@@ -39,20 +42,28 @@ module _ (g : Grammar) (x : List ℕ) (more : Bool) (sound : IsSoundGrammar g) w
       pub leaf_top : IsTop g x more sound mid (beginning m q)
       leaf_top = is_top g x more sound mid (beginning m q) (come ∷ fs) push.0 refl
 
-      pub pushed_next : (top : Frame) (below : List Frame) → top ≡ beginning m q → below ≡ come ∷ fs → IsNext g x more here cells below (next.More top)
+      pub pushed_next : (top : Frame) (below : List Frame) → top ≡ beginning m q → below ≡ come ∷ fs
+          → IsNext g x more here cells below (next.More top)
       pushed_next top below is now = rw (is, now) (step_next here cells (beginning m q) (come ∷ fs) f push)
 
-      pub leaf_need : IsTurn (rules_of g.rules) g.start (shapes_of g.nodes) g.bodies x more cells m q Need → (cells' : List Entry) (below : List Frame) →
+      pub leaf_need : IsTurn (rules_of g.rules) g.start (shapes_of g.nodes) g.bodies x more cells m q Need
+          → (cells' : List Entry) (below : List Frame) →
           IsNext g x more here cells' below next.Need
       leaf_need need cells' below =
           let r = reaches g x more sound mid (beginning m q) (come ∷ fs) refl need in
           (need.0, need_given g x more sound mid push.0 r)
 
-      module _ (h : Found) (cells' : List Entry) (leaf : IsTurn (rules_of g.rules) g.start (shapes_of g.nodes) g.bodies x more cells m q (Answer h))
+      module _ (h : Found) (cells' : List Entry) (leaf : IsTurn (rules_of g.rules) g.start (shapes_of g.nodes) g.bodies
+          x more cells m q (Answer h))
           (put : cells' ≡ cells ++ record { node = m; place = q; found = h } ∷ []) where
         drop_leaf : IsStep g x more mid (counted cells' (come ∷ fs)) None
-        drop_leaf = dropped g x more sound mid (counted cells' (come ∷ fs)) (beginning m q) (come ∷ fs) h push.0 refl leaf put refl
-            (let b = ap length put in omega (arith, length-append cells (record { node = m; place = q; found = h } ∷ []))) come fs refl
+        drop_leaf = dropped g x more sound mid (counted cells' (come ∷ fs)) (beginning m q) (come ∷ fs) h push.0 refl
+            leaf put refl
+            (let b = ap length put in omega (
+              arith,
+              length-append cells (record { node = m; place = q; found = h }
+                  ∷ []),
+            )) come fs refl
 
         pub leaf_next : IsNext g x more here cells' fs (next.More come)
         leaf_next =
@@ -60,16 +71,21 @@ module _ (g : Grammar) (x : List ℕ) (more : Bool) (sound : IsSoundGrammar g) w
             let two = step_less g x more sound mid (counted cells' (come ∷ fs)) None push.0 drop_leaf refl in
             (drop_leaf.0, omega (arith, one, two))
 
-    pub top_need : IsTurn (rules_of g.rules) g.start (shapes_of g.nodes) g.bodies x more cells t.node t.place Need → (cells' : List Entry) (below : List Frame) →
+    pub top_need : IsTurn (rules_of g.rules) g.start (shapes_of g.nodes) g.bodies x more cells t.node t.place Need
+        → (cells' : List Entry) (below : List Frame) →
         IsNext g x more here cells' below next.Need
     top_need need cells' below =
         let r = reaches g x more sound here t fs refl need in
         (need.0, need_given g x more sound here f r)
 
-    module _ (h : Found) (cells' : List Entry) (turn : IsTurn (rules_of g.rules) g.start (shapes_of g.nodes) g.bodies x more cells t.node t.place (Answer h))
+    module _ (h : Found) (cells' : List Entry) (turn : IsTurn (rules_of g.rules) g.start (shapes_of g.nodes) g.bodies x
+        more cells t.node t.place (Answer h))
         (put : cells' ≡ cells ++ record { node = t.node; place = t.place; found = h } ∷ []) where
       same_count : length cells' + length fs ≡ length cells + length (t ∷ fs)
-      same_count = let b = ap length put in omega (arith, length-append cells (record { node = t.node; place = t.place; found = h } ∷ []))
+      same_count = let b = ap length put in omega (
+        arith,
+        length-append cells (record { node = t.node; place = t.place; found = h } ∷ []),
+      )
 
       pub dropped_next : (u : Frame) (us : List Frame) → fs ≡ u ∷ us → IsNext g x more here cells' us (next.More u)
       dropped_next u us there =
@@ -82,7 +98,8 @@ module _ (g : Grammar) (x : List ℕ) (more : Bool) (sound : IsSoundGrammar g) w
           (subst (λ v. IsDone g x more (counted cells' v)) (none ∙ sym now) e.done, e.answers)
 
 -- what a match found is what it ends with
-pub matched_outcome : (g : Grammar) (x : List ℕ) (more : Bool) (d : View) (v : Option Found) (b : ℕ) → IsMatched g x more d v → b ≡ d.begun → IsOutcome g x more d (unit_of_match v b)
+pub matched_outcome : (g : Grammar) (x : List ℕ) (more : Bool) (d : View) (v : Option Found) (b : ℕ)
+    → IsMatched g x more d v → b ≡ d.begun → IsOutcome g x more d (unit_of_match v b)
 matched_outcome g x more d None b m is = m
 matched_outcome g x more d (Some Failed) b m is = (m.0, m.1, is)
 matched_outcome g x more d (Some (Took end)) b m is = (m.0, m.1, is)

@@ -1,6 +1,7 @@
 -- What an evaluation does next where nodes without operands are evaluated at once.
 -- Serves: Desk::match_unit.
-use Rattle.std.proofs.Common.{◌≡◌, inl, inr, ℕ, ◌+◌, ◌<◌, ◌≤◌, Bool, true, List, ◌∷◌, length, get_or, Option, Some, None, Result, Ok, Err, refl, sym, subst, arith}
+use Rattle.std.proofs.Common.{◌≡◌, inl, inr, ℕ, ◌+◌, ◌<◌, ◌≤◌, Bool, true, List, ◌∷◌, length, get_or, Option, Some}
+use Rattle.std.proofs.Common.{None, Result, Ok, Err, refl, sym, subst, arith}
 use Rattle.std.specs.Prelude.{slice_get}
 use Rattle.pegread.specs.PegViews.{rules_of}
 use Rattle.gramcheck.specs.Grammar.{Grammar, IsSoundGrammar}
@@ -21,42 +22,61 @@ use Rattle.desk.specs.declared.run.Next.TheVariants as next
 use Rattle.desk.specs.Desk.{counted, Fits, IsNext}
 use Rattle.desk.specs.State as state
 use Rattle.desk.specs.State.{HaveTaken, HaveFailed, IsUnderWay}
-use Rattle.desk.specs.Turns.{same_turn, again_turn, opt_turn, and_turn, not_turn, star_turn, plus_turn, IsWalk, IsSearch, IsTurn}
+use Rattle.desk.specs.Turns.{same_turn, again_turn, opt_turn, and_turn, not_turn, star_turn, plus_turn, IsWalk}
+use Rattle.desk.specs.Turns.{IsSearch, IsTurn}
 use Rattle.desk.specs.Visits.{Asks, asked}
 use Rattle.desk.proofs.AsksLemmas.{IsVisited, is_visited}
 use Rattle.desk.proofs.HaveTakenLemmas.{asks_member, asks_alternative, taken_on, failed_on}
 use Rattle.desk.proofs.IsNextLemmas.{at_top, leaf_next, leaf_need}
 use Rattle.desk.proofs.IsStackLemmas.{come_on}
 use Rattle.desk.proofs.IsStepLemmas.{IsTop}
-use Rattle.desk.proofs.IsTurnLemmas.{name_is_turn, opt_is_turn, and_is_turn, not_is_turn, star_then, star_is_turn, plus_then, plus_is_turn, seq_is_turn, choice_is_turn}
+use Rattle.desk.proofs.IsTurnLemmas.{name_is_turn, opt_is_turn, and_is_turn, not_is_turn, star_then, star_is_turn}
+use Rattle.desk.proofs.IsTurnLemmas.{plus_then, plus_is_turn, seq_is_turn, choice_is_turn}
 
 -- one way after another
-pub further : (g : Grammar) (x : List ℕ) (more : Bool) (below : List Frame) (old mid new : List Entry) (t : Frame) (i q j r : ℕ) →
-    HasCome g x more below old mid t i q → HasCome g x more below mid new (come_to t i q) j r → HasCome g x more below old new t j r
+pub further : (g : Grammar) (x : List ℕ) (more : Bool) (below : List Frame) (old mid new : List Entry) (t : Frame)
+    (i q j r : ℕ) →
+    HasCome g x more below old mid t i q → HasCome g x more below mid new (come_to t i q) j r
+    → HasCome g x more below old new t j r
 further g x more below old mid new t i q j r a b = record { fits = b.fits; less = omega (arith, a.less, b.less) }
 
-module _ (g : Grammar) (x : List ℕ) (more : Bool) (sound : IsSoundGrammar g) (below : List Frame) (cells : List Entry) (t : Frame) (f : Fits g x more (counted cells (t ∷ below))) where
+module _ (g : Grammar) (x : List ℕ) (more : Bool) (sound : IsSoundGrammar g) (below : List Frame) (cells : List Entry)
+    (t : Frame) (f : Fits g x more (counted cells (t ∷ below))) where
   -- it has come as far as it had
   pub stays : HasCome g x more below cells cells t t.next t.end
   stays = record { fits = f; less = omega arith }
 
-  come_by : (shape : Shape) (j r : ℕ) → slice_get (shapes_of g.nodes) t.node ≡ Some shape → state.HasCome cells shape t.place j r → IsUnderWay (rules_of g.rules) g.start (shapes_of g.nodes) g.bodies x more cells t.node t.place j r
-  come_by shape j r at h other there = let same : shape ≡ other = cc in subst (λ v. state.HasCome cells v t.place j r) same h
+  come_by : (shape : Shape) (j r : ℕ) → slice_get (shapes_of g.nodes) t.node ≡ Some shape
+      → state.HasCome cells shape t.place j r → IsUnderWay (rules_of g.rules) g.start (shapes_of g.nodes) g.bodies x
+      more cells t.node t.place j r
+  come_by shape j r at h other there = let same : shape ≡ other = cc in subst (λ v. state.HasCome cells v t.place j r)
+      same h
 
-  pub comes : (j r : ℕ) → IsUnderWay (rules_of g.rules) g.start (shapes_of g.nodes) g.bodies x more cells t.node t.place j r → HasCome g x more below cells cells t j r
+  pub comes : (j r : ℕ) → IsUnderWay (rules_of g.rules) g.start (shapes_of g.nodes) g.bodies x more cells t.node t.place
+      j r → HasCome g x more below cells cells t j r
   comes j r come = record {
-    fits = record { stack = come_on (rules_of g.rules) g.start (shapes_of g.nodes) g.bodies g.ranks x more sound f.stack j r come; cells = f.cells; different = f.different; count = refl };
+    fits = record {
+      stack = come_on (rules_of g.rules) g.start (shapes_of
+          g.nodes) g.bodies g.ranks x more sound f.stack j r come;
+      cells = f.cells;
+      different = f.different;
+      count =
+          refl;
+    };
     less = omega arith;
   }
 
   module _ (m q : ℕ) (a : Asks (rules_of g.rules) (shapes_of g.nodes) g.bodies x t.node t.place m q) where
     pub child : IsVisited (rules_of g.rules) g.start (shapes_of g.nodes) g.bodies g.ranks x sound m q
-    child = is_visited (rules_of g.rules) g.start (shapes_of g.nodes) g.bodies g.ranks x sound (asked (at_top g x more sound cells t below f).visits a)
+    child = is_visited (rules_of g.rules) g.start (shapes_of g.nodes) g.bodies g.ranks x sound
+        (asked (at_top g x more sound cells t below f).visits a)
 
-    ask : found_at cells m q ≡ None → IsTurn (rules_of g.rules) g.start (shapes_of g.nodes) g.bodies x more cells t.node t.place (Ask m q t.next t.end)
+    ask : found_at cells m q ≡ None → IsTurn (rules_of g.rules) g.start (shapes_of g.nodes) g.bodies x more cells t.node
+        t.place (Ask m q t.next t.end)
     ask none = (a, none, (at_top g x more sound cells t below f).come)
 
-    pub seen : (new : List Entry) (v : Option Found) → IsSeen (rules_of g.rules) g.start (shapes_of g.nodes) g.bodies x more cells new m q (Ok v) → HasCome g x more below cells new t t.next t.end
+    pub seen : (new : List Entry) (v : Option Found) → IsSeen (rules_of g.rules) g.start (shapes_of g.nodes) g.bodies x
+        more cells new m q (Ok v) → HasCome g x more below cells new t t.next t.end
     seen new None s = rw s.0 stays
     seen new (Some h) s = elim s.1 [
       | inl same ↦ rw same stays
@@ -65,11 +85,13 @@ module _ (g : Grammar) (x : List ℕ) (more : Bool) (sound : IsSoundGrammar g) (
           record { fits = n.0; less = omega (arith, n.1) }
     ]
 
-    pub seen_is : (new : List Entry) (v : Option Found) → IsSeen (rules_of g.rules) g.start (shapes_of g.nodes) g.bodies x more cells new m q (Ok v) → v ≡ found_at new m q
+    pub seen_is : (new : List Entry) (v : Option Found) → IsSeen (rules_of g.rules) g.start (shapes_of g.nodes) g.bodies
+        x more cells new m q (Ok v) → v ≡ found_at new m q
     seen_is new None s = rw s.0 (sym s.1)
     seen_is new (Some h) s = sym s.0
 
-    pub short : (new : List Entry) → IsSeen (rules_of g.rules) g.start (shapes_of g.nodes) g.bodies x more cells new m q (Err Short) → (more ≡ true) × ((o : Outcome) × StartGives g x o (length x))
+    pub short : (new : List Entry) → IsSeen (rules_of g.rules) g.start (shapes_of g.nodes) g.bodies x more cells new m q
+        (Err Short) → (more ≡ true) × ((o : Outcome) × StartGives g x o (length x))
     short new s = leaf_need g x more sound cells t below f m q t.next t.end (ask s.0) s.1 cells below
 
   abbrev Sees : List Entry → ℕ → Option Found → Type 0
@@ -81,71 +103,137 @@ module _ (g : Grammar) (x : List ℕ) (more : Bool) (sound : IsSoundGrammar g) (
   top : IsTop g x more sound (counted cells (t ∷ below)) t
   top = at_top g x more sound cells t below f
 
-  pub asks_name : (id m : ℕ) (at : slice_get (shapes_of g.nodes) t.node ≡ Some (node.Name id)) (body : slice_get g.bodies id ≡ Some m) → Asks (rules_of g.rules) (shapes_of g.nodes) g.bodies x t.node t.place m t.place
+  pub asks_name : (id m : ℕ) (at : slice_get (shapes_of g.nodes) t.node ≡ Some (node.Name id))
+      (body : slice_get g.bodies id ≡ Some m) → Asks (rules_of g.rules) (shapes_of g.nodes) g.bodies x t.node t.place m
+      t.place
   asks_name id m at body = record { shape = node.Name id; at = at; by = (body, refl) }
 
-  pub name_on : (id m : ℕ) (at : slice_get (shapes_of g.nodes) t.node ≡ Some (node.Name id)) (body : slice_get g.bodies id ≡ Some m) (new : List Entry) (v : Option Found) → Sees new m v → On new (same_turn m t.place v)
+  pub name_on : (id m : ℕ) (at : slice_get (shapes_of g.nodes) t.node ≡ Some (node.Name id))
+      (body : slice_get g.bodies id ≡ Some m) (new : List Entry) (v : Option Found) → Sees new m v
+      → On new (same_turn m t.place v)
   name_on id m at body new v s =
       let a = asks_name id m at body in
-      let here = seen m t.place a new v s in
-      (t.next, t.end, here, name_is_turn (rules_of g.rules) g.start (shapes_of g.nodes) g.bodies g.ranks x more sound new here.fits.cells.found t.node t.place top.spelled id m v at body (seen_is m t.place a new v s))
+      let here = seen m t.place a new v s in (
+        t.next,
+        t.end,
+        here,
+        name_is_turn (rules_of g.rules) g.start (shapes_of
+            g.nodes) g.bodies g.ranks x more sound new here.fits.cells.found t.node t.place top.spelled id m v at body
+            (seen_is m t.place a new v s),
+      )
 
-  pub asks_opt : (m : ℕ) (at : slice_get (shapes_of g.nodes) t.node ≡ Some (node.Opt m)) → Asks (rules_of g.rules) (shapes_of g.nodes) g.bodies x t.node t.place m t.place
+  pub asks_opt : (m : ℕ) (at : slice_get (shapes_of g.nodes) t.node ≡ Some (node.Opt m))
+      → Asks (rules_of g.rules) (shapes_of g.nodes) g.bodies x t.node t.place m t.place
   asks_opt m at = record { shape = node.Opt m; at = at; by = (refl, refl) }
 
-  pub opt_on : (m : ℕ) (at : slice_get (shapes_of g.nodes) t.node ≡ Some (node.Opt m)) (new : List Entry) (v : Option Found) → Sees new m v → On new (opt_turn m t.place v)
+  pub opt_on : (m : ℕ) (at : slice_get (shapes_of g.nodes) t.node ≡ Some (node.Opt m)) (new : List Entry)
+      (v : Option Found) → Sees new m v → On new (opt_turn m t.place v)
   opt_on m at new v s =
       let a = asks_opt m at in
-      let here = seen m t.place a new v s in
-      (t.next, t.end, here, opt_is_turn (rules_of g.rules) g.start (shapes_of g.nodes) g.bodies g.ranks x more sound new here.fits.cells.found t.node t.place top.spelled m v at (seen_is m t.place a new v s))
+      let here = seen m t.place a new v s in (
+        t.next,
+        t.end,
+        here,
+        opt_is_turn (rules_of g.rules) g.start (shapes_of
+            g.nodes) g.bodies g.ranks x more sound new here.fits.cells.found t.node t.place top.spelled m v at
+            (seen_is m t.place a new v s),
+      )
 
-  pub asks_and : (m : ℕ) (at : slice_get (shapes_of g.nodes) t.node ≡ Some (node.And m)) → Asks (rules_of g.rules) (shapes_of g.nodes) g.bodies x t.node t.place m t.place
+  pub asks_and : (m : ℕ) (at : slice_get (shapes_of g.nodes) t.node ≡ Some (node.And m))
+      → Asks (rules_of g.rules) (shapes_of g.nodes) g.bodies x t.node t.place m t.place
   asks_and m at = record { shape = node.And m; at = at; by = (refl, refl) }
 
-  pub and_on : (m : ℕ) (at : slice_get (shapes_of g.nodes) t.node ≡ Some (node.And m)) (new : List Entry) (v : Option Found) → Sees new m v → On new (and_turn m t.place v)
+  pub and_on : (m : ℕ) (at : slice_get (shapes_of g.nodes) t.node ≡ Some (node.And m)) (new : List Entry)
+      (v : Option Found) → Sees new m v → On new (and_turn m t.place v)
   and_on m at new v s =
       let a = asks_and m at in
-      let here = seen m t.place a new v s in
-      (t.next, t.end, here, and_is_turn (rules_of g.rules) g.start (shapes_of g.nodes) g.bodies g.ranks x more sound new here.fits.cells.found t.node t.place top.spelled m v at (seen_is m t.place a new v s))
+      let here = seen m t.place a new v s in (
+        t.next,
+        t.end,
+        here,
+        and_is_turn (rules_of g.rules) g.start (shapes_of
+            g.nodes) g.bodies g.ranks x more sound new here.fits.cells.found t.node t.place top.spelled m v at
+            (seen_is m t.place a new v s),
+      )
 
-  pub asks_not : (m : ℕ) (at : slice_get (shapes_of g.nodes) t.node ≡ Some (node.Not m)) → Asks (rules_of g.rules) (shapes_of g.nodes) g.bodies x t.node t.place m t.place
+  pub asks_not : (m : ℕ) (at : slice_get (shapes_of g.nodes) t.node ≡ Some (node.Not m))
+      → Asks (rules_of g.rules) (shapes_of g.nodes) g.bodies x t.node t.place m t.place
   asks_not m at = record { shape = node.Not m; at = at; by = (refl, refl) }
 
-  pub not_on : (m : ℕ) (at : slice_get (shapes_of g.nodes) t.node ≡ Some (node.Not m)) (new : List Entry) (v : Option Found) → Sees new m v → On new (not_turn m t.place v)
+  pub not_on : (m : ℕ) (at : slice_get (shapes_of g.nodes) t.node ≡ Some (node.Not m)) (new : List Entry)
+      (v : Option Found) → Sees new m v → On new (not_turn m t.place v)
   not_on m at new v s =
       let a = asks_not m at in
-      let here = seen m t.place a new v s in
-      (t.next, t.end, here, not_is_turn (rules_of g.rules) g.start (shapes_of g.nodes) g.bodies g.ranks x more sound new here.fits.cells.found t.node t.place top.spelled m v at (seen_is m t.place a new v s))
+      let here = seen m t.place a new v s in (
+        t.next,
+        t.end,
+        here,
+        not_is_turn (rules_of g.rules) g.start (shapes_of
+            g.nodes) g.bodies g.ranks x more sound new here.fits.cells.found t.node t.place top.spelled m v at
+            (seen_is m t.place a new v s),
+      )
 
-  pub asks_star : (m : ℕ) (at : slice_get (shapes_of g.nodes) t.node ≡ Some (node.Star m)) → Asks (rules_of g.rules) (shapes_of g.nodes) g.bodies x t.node t.place m t.place
+  pub asks_star : (m : ℕ) (at : slice_get (shapes_of g.nodes) t.node ≡ Some (node.Star m))
+      → Asks (rules_of g.rules) (shapes_of g.nodes) g.bodies x t.node t.place m t.place
   asks_star m at = record { shape = node.Star m; at = at; by = inl (refl, refl) }
 
-  pub star_on : (m : ℕ) (at : slice_get (shapes_of g.nodes) t.node ≡ Some (node.Star m)) (new : List Entry) (v : Option Found) → Sees new m v → On new (star_turn new t.node m t.place v)
+  pub star_on : (m : ℕ) (at : slice_get (shapes_of g.nodes) t.node ≡ Some (node.Star m)) (new : List Entry)
+      (v : Option Found) → Sees new m v → On new (star_turn new t.node m t.place v)
   star_on m at new v s =
       let a = asks_star m at in
-      let here = seen m t.place a new v s in
-      (t.next, t.end, here, star_is_turn (rules_of g.rules) g.start (shapes_of g.nodes) g.bodies g.ranks x more sound new here.fits.cells.found t.node t.place top.spelled m v at (seen_is m t.place a new v s))
+      let here = seen m t.place a new v s in (
+        t.next,
+        t.end,
+        here,
+        star_is_turn (rules_of g.rules) g.start (shapes_of
+            g.nodes) g.bodies g.ranks x more sound new here.fits.cells.found t.node t.place top.spelled m v at
+            (seen_is m t.place a new v s),
+      )
 
-  pub asks_plus : (m k : ℕ) (at : slice_get (shapes_of g.nodes) t.node ≡ Some (node.Plus m k)) → Asks (rules_of g.rules) (shapes_of g.nodes) g.bodies x t.node t.place m t.place
+  pub asks_plus : (m k : ℕ) (at : slice_get (shapes_of g.nodes) t.node ≡ Some (node.Plus m k))
+      → Asks (rules_of g.rules) (shapes_of g.nodes) g.bodies x t.node t.place m t.place
   asks_plus m k at = record { shape = node.Plus m k; at = at; by = inl (refl, refl) }
 
-  pub plus_on : (m k : ℕ) (at : slice_get (shapes_of g.nodes) t.node ≡ Some (node.Plus m k)) (new : List Entry) (v : Option Found) → Sees new m v → On new (plus_turn new k m t.place v)
+  pub plus_on : (m k : ℕ) (at : slice_get (shapes_of g.nodes) t.node ≡ Some (node.Plus m k)) (new : List Entry)
+      (v : Option Found) → Sees new m v → On new (plus_turn new k m t.place v)
   plus_on m k at new v s =
       let a = asks_plus m k at in
-      let here = seen m t.place a new v s in
-      (t.next, t.end, here, plus_is_turn (rules_of g.rules) g.start (shapes_of g.nodes) g.bodies g.ranks x more sound new here.fits.cells.found t.node t.place top.spelled m k v at (seen_is m t.place a new v s))
+      let here = seen m t.place a new v s in (
+        t.next,
+        t.end,
+        here,
+        plus_is_turn (rules_of g.rules) g.start (shapes_of
+            g.nodes) g.bodies g.ranks x more sound new here.fits.cells.found t.node t.place top.spelled m k v at
+            (seen_is m t.place a new v s),
+      )
 
   -- a repetition whose operand took what is before its end
-  pub star_again : (m : ℕ) (at : slice_get (shapes_of g.nodes) t.node ≡ Some (node.Star m)) → 0 < t.next → On cells (again_turn t.node t.end (found_at cells t.node t.end))
-  star_again m at lt =
-      (t.next, t.end, stays, star_then (rules_of g.rules) g.start (shapes_of g.nodes) g.bodies g.ranks x more sound cells f.cells.found t.node t.place top.spelled m t.end (found_at cells t.node t.end) at (top.come (node.Star m) at lt) refl)
+  pub star_again : (m : ℕ) (at : slice_get (shapes_of g.nodes) t.node ≡ Some (node.Star m)) → 0 < t.next
+      → On cells (again_turn t.node t.end (found_at cells t.node t.end))
+  star_again m at lt = (
+    t.next,
+    t.end,
+    stays,
+    star_then (rules_of g.rules) g.start (shapes_of
+        g.nodes) g.bodies g.ranks x more sound cells f.cells.found t.node t.place top.spelled m t.end
+        (found_at cells t.node t.end) at (top.come (node.Star m) at lt) refl,
+  )
 
-  pub plus_again : (m k : ℕ) (at : slice_get (shapes_of g.nodes) t.node ≡ Some (node.Plus m k)) → 0 < t.next → On cells (again_turn k t.end (found_at cells k t.end))
-  plus_again m k at lt =
-      (t.next, t.end, stays, plus_then (rules_of g.rules) g.start (shapes_of g.nodes) g.bodies g.ranks x more sound cells f.cells.found t.node t.place top.spelled m k t.end (found_at cells k t.end) at (top.come (node.Plus m k) at lt) refl)
+  pub plus_again : (m k : ℕ) (at : slice_get (shapes_of g.nodes) t.node ≡ Some (node.Plus m k)) → 0 < t.next
+      → On cells (again_turn k t.end (found_at cells k t.end))
+  plus_again m k at lt = (
+    t.next,
+    t.end,
+    stays,
+    plus_then (rules_of g.rules) g.start (shapes_of
+        g.nodes) g.bodies g.ranks x more sound cells f.cells.found t.node t.place top.spelled m k t.end
+        (found_at cells k t.end) at (top.come (node.Plus m k) at lt) refl,
+  )
 
   -- where the evaluation of what it asks for stops, it stops
-  pub halts : (m q : ℕ) → Asks (rules_of g.rules) (shapes_of g.nodes) g.bodies x t.node t.place m q → (new : List Entry) (h : Halt) → IsSeen (rules_of g.rules) g.start (shapes_of g.nodes) g.bodies x more cells new m q (Err h) → IsOn g x more below cells new t (Err h)
+  pub halts : (m q : ℕ) → Asks (rules_of g.rules) (shapes_of g.nodes) g.bodies x t.node t.place m q
+      → (new : List Entry) (h : Halt) → IsSeen (rules_of g.rules) g.start (shapes_of g.nodes) g.bodies x more cells new
+      m q (Err h) → IsOn g x more below cells new t (Err h)
   halts m q a new Memory s = tt
   halts m q a new Short s = short m q a new s
 
@@ -154,60 +242,96 @@ module _ (g : Grammar) (x : List ℕ) (more : Bool) (sound : IsSoundGrammar g) (
       taken : HaveTaken cells ms t.place t.next t.end
       taken = top.come (node.Seq ms) at
 
-      pub asks_next : t.next < length ms → Asks (rules_of g.rules) (shapes_of g.nodes) g.bodies x t.node t.place (get_or ms t.next 0) t.end
-      asks_next lt = record { shape = node.Seq ms; at = at; by = asks_member (rules_of g.rules) g.start (shapes_of g.nodes) g.bodies g.ranks x more sound cells f.cells.found taken lt }
+      pub asks_next : t.next < length ms → Asks (rules_of g.rules) (shapes_of g.nodes) g.bodies x t.node t.place
+          (get_or ms t.next 0) t.end
+      asks_next lt = record {
+        shape = node.Seq ms;
+        at = at;
+        by = asks_member (rules_of g.rules) g.start (shapes_of g.nodes) g.bodies g.ranks x more sound cells
+            f.cells.found taken lt;
+      }
 
-      walks : (v : Turn) → IsWalk cells ms t.place v → IsTurn (rules_of g.rules) g.start (shapes_of g.nodes) g.bodies x more cells t.node t.place v
-      walks v w = seq_is_turn (rules_of g.rules) g.start (shapes_of g.nodes) g.bodies g.ranks x more sound cells f.cells.found t.node t.place top.spelled ms v at some w
+      walks : (v : Turn) → IsWalk cells ms t.place v → IsTurn (rules_of g.rules) g.start (shapes_of g.nodes) g.bodies x
+          more cells t.node t.place v
+      walks v w = seq_is_turn (rules_of g.rules) g.start (shapes_of g.nodes) g.bodies g.ranks x more sound cells
+          f.cells.found t.node t.place top.spelled ms v at some w
 
-      pub next_free : t.next < length ms → found_at cells (get_or ms t.next 0) t.end ≡ None → IsTurn (rules_of g.rules) g.start (shapes_of g.nodes) g.bodies x more cells t.node t.place (Ask (get_or ms t.next 0) t.end t.next t.end)
+      pub next_free : t.next < length ms → found_at cells (get_or ms t.next 0) t.end ≡ None
+          → IsTurn (rules_of g.rules) g.start (shapes_of g.nodes) g.bodies x more cells t.node t.place
+          (Ask (get_or ms t.next 0) t.end t.next t.end)
       next_free lt none = walks (Ask (get_or ms t.next 0) t.end t.next t.end) (taken, lt, refl, refl, none)
 
-      pub next_fails : t.next < length ms → found_at cells (get_or ms t.next 0) t.end ≡ Some Failed → IsTurn (rules_of g.rules) g.start (shapes_of g.nodes) g.bodies x more cells t.node t.place (Answer Failed)
+      pub next_fails : t.next < length ms → found_at cells (get_or ms t.next 0) t.end ≡ Some Failed
+          → IsTurn (rules_of g.rules) g.start (shapes_of g.nodes) g.bodies x more cells t.node t.place (Answer Failed)
       next_fails lt fails = walks (Answer Failed) (t.next, t.end, taken, lt, fails)
 
-      pub next_takes : t.next < length ms → (r : ℕ) → found_at cells (get_or ms t.next 0) t.end ≡ Some (Took r) → HasCome g x more below cells cells t (t.next + 1) r
-      next_takes lt r takes = comes (t.next + 1) r (come_by (node.Seq ms) (t.next + 1) r at (taken_on cells ms t.place t.next t.end r (Took r) taken lt (sym takes) refl))
+      pub next_takes : t.next < length ms → (r : ℕ) → found_at cells (get_or ms t.next 0) t.end ≡ Some (Took r)
+          → HasCome g x more below cells cells t (t.next + 1) r
+      next_takes lt r takes = comes (t.next + 1) r (come_by (node.Seq ms) (t.next + 1) r at
+          (taken_on cells ms t.place t.next t.end r (Took r) taken lt (sym takes) refl))
 
-      pub all_taken : length ms ≤ t.next → IsTurn (rules_of g.rules) g.start (shapes_of g.nodes) g.bodies x more cells t.node t.place (Answer (Took t.end))
+      pub all_taken : length ms ≤ t.next → IsTurn (rules_of g.rules) g.start (shapes_of g.nodes) g.bodies x more cells
+          t.node t.place (Answer (Took t.end))
       all_taken le = walks (Answer (Took t.end)) (t.next, taken, le)
 
     module _ (at : slice_get (shapes_of g.nodes) t.node ≡ Some (node.Choice ms)) where
       failed : HaveFailed cells t.place ms t.next
       failed = top.come (node.Choice ms) at
 
-      pub asks_other : t.next < length ms → Asks (rules_of g.rules) (shapes_of g.nodes) g.bodies x t.node t.place (get_or ms t.next 0) t.place
-      asks_other lt = record { shape = node.Choice ms; at = at; by = (asks_alternative (rules_of g.rules) g.start (shapes_of g.nodes) g.bodies g.ranks x more sound cells f.cells.found failed lt, refl) }
+      pub asks_other : t.next < length ms → Asks (rules_of g.rules) (shapes_of g.nodes) g.bodies x t.node t.place
+          (get_or ms t.next 0) t.place
+      asks_other lt = record {
+        shape = node.Choice ms;
+        at = at;
+        by = (
+          asks_alternative (rules_of g.rules) g.start (shapes_of
+              g.nodes) g.bodies g.ranks x more sound cells f.cells.found failed lt,
+          refl,
+        );
+      }
 
-      searches : (v : Turn) → IsSearch cells ms t.place v → IsTurn (rules_of g.rules) g.start (shapes_of g.nodes) g.bodies x more cells t.node t.place v
-      searches v w = choice_is_turn (rules_of g.rules) g.start (shapes_of g.nodes) g.bodies g.ranks x more sound cells f.cells.found t.node t.place top.spelled ms v at some w
+      searches : (v : Turn) → IsSearch cells ms t.place v → IsTurn (rules_of g.rules) g.start (shapes_of g.nodes)
+          g.bodies x more cells t.node t.place v
+      searches v w = choice_is_turn (rules_of g.rules) g.start (shapes_of g.nodes) g.bodies g.ranks x more sound cells
+          f.cells.found t.node t.place top.spelled ms v at some w
 
       pub other_free : t.next < length ms → found_at cells (get_or ms t.next 0) t.place ≡ None →
-          IsTurn (rules_of g.rules) g.start (shapes_of g.nodes) g.bodies x more cells t.node t.place (Ask (get_or ms t.next 0) t.place t.next t.place)
+          IsTurn (rules_of g.rules) g.start (shapes_of g.nodes) g.bodies x more cells t.node t.place
+          (Ask (get_or ms t.next 0) t.place t.next t.place)
       other_free lt none = searches (Ask (get_or ms t.next 0) t.place t.next t.place) (failed, lt, refl, refl, none)
 
-      pub other_takes : t.next < length ms → (r : ℕ) → found_at cells (get_or ms t.next 0) t.place ≡ Some (Took r) → IsTurn (rules_of g.rules) g.start (shapes_of g.nodes) g.bodies x more cells t.node t.place (Answer (Took r))
+      pub other_takes : t.next < length ms → (r : ℕ) → found_at cells (get_or ms t.next 0) t.place ≡ Some (Took r)
+          → IsTurn (rules_of g.rules) g.start (shapes_of g.nodes) g.bodies x more cells t.node t.place (Answer (Took r))
       other_takes lt r takes = searches (Answer (Took r)) (t.next, failed, lt, takes)
 
-      pub other_fails : t.next < length ms → (q : ℕ) → found_at cells (get_or ms t.next 0) t.place ≡ Some Failed → HasCome g x more below cells cells t (t.next + 1) q
-      other_fails lt q fails = comes (t.next + 1) q (come_by (node.Choice ms) (t.next + 1) q at (failed_on cells ms t.place t.next Failed failed lt (sym fails) refl))
+      pub other_fails : t.next < length ms → (q : ℕ) → found_at cells (get_or ms t.next 0) t.place ≡ Some Failed
+          → HasCome g x more below cells cells t (t.next + 1) q
+      other_fails lt q fails = comes (t.next + 1) q
+          (come_by (node.Choice ms) (t.next + 1) q at (failed_on cells ms t.place t.next Failed failed lt (sym fails)
+          refl))
 
-      pub all_failed : length ms ≤ t.next → IsTurn (rules_of g.rules) g.start (shapes_of g.nodes) g.bodies x more cells t.node t.place (Answer Failed)
+      pub all_failed : length ms ≤ t.next → IsTurn (rules_of g.rules) g.start (shapes_of g.nodes) g.bodies x more cells
+          t.node t.place (Answer Failed)
       all_failed le = searches (Answer Failed) (t.next, failed, le)
 
 -- what goes on from where the last frame has come goes on from where it was
-pub next_from : (g : Grammar) (x : List ℕ) (more : Bool) (below : List Frame) (old mid new : List Entry) (fs : List Frame) (t u : Frame) (i q : ℕ) → HasCome g x more below old mid t i q →
-    IsNext g x more (counted mid (come_to t i q ∷ below)) new fs (next.More u) → IsNext g x more (counted old (t ∷ below)) new fs (next.More u)
+pub next_from : (g : Grammar) (x : List ℕ) (more : Bool) (below : List Frame) (old mid new : List Entry)
+    (fs : List Frame) (t u : Frame) (i q : ℕ) → HasCome g x more below old mid t i q →
+    IsNext g x more (counted mid (come_to t i q ∷ below)) new fs (next.More u)
+    → IsNext g x more (counted old (t ∷ below)) new fs (next.More u)
 next_from g x more below old mid new fs t u i q h n = (n.0, omega (arith, n.1, h.less))
 
 -- A turn of the loop over members or alternatives: the frame has come to i at q, over the cells in between.
-module _ (g : Grammar) (x : List ℕ) (more : Bool) (sound : IsSoundGrammar g) (below : List Frame) (old mid : List Entry) (top : Frame) (i q : ℕ) (h : HasCome g x more below old mid top i q)
+module _ (g : Grammar) (x : List ℕ) (more : Bool) (sound : IsSoundGrammar g) (below : List Frame) (old mid : List Entry)
+    (top : Frame) (i q : ℕ) (h : HasCome g x more below old mid top i q)
     (some : more ≡ true → 0 < length x) (ms : List ℕ) (lt : i < length ms) where
   abbrev come : Frame
   come = come_to top i q
 
-  halted : (m p : ℕ) → Asks (rules_of g.rules) (shapes_of g.nodes) g.bodies x come.node come.place m p → (new : List Entry) (s : Halt) →
-      IsSeen (rules_of g.rules) g.start (shapes_of g.nodes) g.bodies x more mid new m p (Err s) → IsOn g x more below old new top (Err s)
+  halted : (m p : ℕ) → Asks (rules_of g.rules) (shapes_of g.nodes) g.bodies x come.node come.place m p
+      → (new : List Entry) (s : Halt) →
+      IsSeen (rules_of g.rules) g.start (shapes_of g.nodes) g.bodies x more mid new m p (Err s)
+      → IsOn g x more below old new top (Err s)
   halted m p a new Memory s = tt
   halted m p a new Short s = short g x more sound below mid come h.fits m p a new s
 
@@ -227,17 +351,28 @@ module _ (g : Grammar) (x : List ℕ) (more : Bool) (sound : IsSoundGrammar g) (
     was : (new : List Entry) (v : Option Found) → SeesNext new (Ok v) → found_at new (get_or ms i 0) q ≡ v
     was new v s = sym (seen_is g x more sound below mid come h.fits (get_or ms i 0) q asked_next new v s)
 
-    pub member_free : (new : List Entry) → SeesNext new (Ok None) → IsOn g x more below old new top (Ok (Ask (get_or ms i 0) q i q))
+    pub member_free : (new : List Entry) → SeesNext new (Ok None)
+        → IsOn g x more below old new top (Ok (Ask (get_or ms i 0) q i q))
     member_free new s =
-        let n = came new None s in
-        (i, q, further g x more below old mid new top i q i q h n, next_free g x more sound below new come n.fits some ms at lt (was new None s))
+        let n = came new None s in (
+          i,
+          q,
+          further g x more below old mid new top i q i q h n,
+          next_free g x more sound below new come n.fits some ms at lt (was new None s),
+        )
 
-    pub member_fails : (new : List Entry) → SeesNext new (Ok (Some Failed)) → IsOn g x more below old new top (Ok (Answer Failed))
+    pub member_fails : (new : List Entry) → SeesNext new (Ok (Some Failed))
+        → IsOn g x more below old new top (Ok (Answer Failed))
     member_fails new s =
-        let n = came new (Some Failed) s in
-        (i, q, further g x more below old mid new top i q i q h n, next_fails g x more sound below new come n.fits some ms at lt (was new (Some Failed) s))
+        let n = came new (Some Failed) s in (
+          i,
+          q,
+          further g x more below old mid new top i q i q h n,
+          next_fails g x more sound below new come n.fits some ms at lt (was new (Some Failed) s),
+        )
 
-    pub member_takes : (new : List Entry) (r : ℕ) → SeesNext new (Ok (Some (Took r))) → HasCome g x more below old new top (i + 1) r
+    pub member_takes : (new : List Entry) (r : ℕ) → SeesNext new (Ok (Some (Took r)))
+        → HasCome g x more below old new top (i + 1) r
     member_takes new r s =
         let n = came new (Some (Took r)) s in
         let on = next_takes g x more sound below new come n.fits some ms at lt r (was new (Some (Took r)) s) in
@@ -250,33 +385,48 @@ module _ (g : Grammar) (x : List ℕ) (more : Bool) (sound : IsSoundGrammar g) (
     asked_other : Asks (rules_of g.rules) (shapes_of g.nodes) g.bodies x come.node come.place (get_or ms i 0) top.place
     asked_other = asks_other g x more sound below mid come h.fits some ms at lt
 
-    pub other_child : IsVisited (rules_of g.rules) g.start (shapes_of g.nodes) g.bodies g.ranks x sound (get_or ms i 0) top.place
+    pub other_child : IsVisited (rules_of g.rules) g.start (shapes_of g.nodes) g.bodies g.ranks x sound (get_or ms i 0)
+        top.place
     other_child = child g x more sound below mid come h.fits (get_or ms i 0) top.place asked_other
 
     abbrev SeesOther : List Entry → Result (Option Found) Halt → Type 0
-    SeesOther new r = IsSeen (rules_of g.rules) g.start (shapes_of g.nodes) g.bodies x more mid new (get_or ms i 0) top.place r
+    SeesOther new r = IsSeen (rules_of g.rules) g.start (shapes_of g.nodes) g.bodies x more mid new (get_or ms i 0)
+        top.place r
 
     came_other : (new : List Entry) (v : Option Found) → SeesOther new (Ok v) → HasCome g x more below mid new come i q
     came_other new v s = seen g x more sound below mid come h.fits (get_or ms i 0) top.place asked_other new v s
 
-    was_other : (new : List Entry) (v : Option Found) → SeesOther new (Ok v) → found_at new (get_or ms i 0) top.place ≡ v
+    was_other : (new : List Entry) (v : Option Found) → SeesOther new (Ok v)
+        → found_at new (get_or ms i 0) top.place ≡ v
     was_other new v s = sym (seen_is g x more sound below mid come h.fits (get_or ms i 0) top.place asked_other new v s)
 
-    pub alternative_free : (new : List Entry) → SeesOther new (Ok None) → IsOn g x more below old new top (Ok (Ask (get_or ms i 0) top.place i top.place))
+    pub alternative_free : (new : List Entry) → SeesOther new (Ok None)
+        → IsOn g x more below old new top (Ok (Ask (get_or ms i 0) top.place i top.place))
     alternative_free new s =
-        let n = came_other new None s in
-        (i, q, further g x more below old mid new top i q i q h n, other_free g x more sound below new come n.fits some ms at lt (was_other new None s))
+        let n = came_other new None s in (
+          i,
+          q,
+          further g x more below old mid new top i q i q h n,
+          other_free g x more sound below new come n.fits some ms at lt (was_other new None s),
+        )
 
-    pub alternative_takes : (new : List Entry) (r : ℕ) → SeesOther new (Ok (Some (Took r))) → IsOn g x more below old new top (Ok (Answer (Took r)))
+    pub alternative_takes : (new : List Entry) (r : ℕ) → SeesOther new (Ok (Some (Took r)))
+        → IsOn g x more below old new top (Ok (Answer (Took r)))
     alternative_takes new r s =
-        let n = came_other new (Some (Took r)) s in
-        (i, q, further g x more below old mid new top i q i q h n, other_takes g x more sound below new come n.fits some ms at lt r (was_other new (Some (Took r)) s))
+        let n = came_other new (Some (Took r)) s in (
+          i,
+          q,
+          further g x more below old mid new top i q i q h n,
+          other_takes g x more sound below new come n.fits some ms at lt r (was_other new (Some (Took r)) s),
+        )
 
-    pub alternative_fails : (new : List Entry) → SeesOther new (Ok (Some Failed)) → HasCome g x more below old new top (i + 1) q
+    pub alternative_fails : (new : List Entry) → SeesOther new (Ok (Some Failed))
+        → HasCome g x more below old new top (i + 1) q
     alternative_fails new s =
         let n = came_other new (Some Failed) s in
         let on = other_fails g x more sound below new come n.fits some ms at lt q (was_other new (Some Failed) s) in
         further g x more below old new new top i q (i + 1) q (further g x more below old mid new top i q i q h n) on
 
-    pub alternative_halts : (new : List Entry) (s : Halt) → SeesOther new (Err s) → IsOn g x more below old new top (Err s)
+    pub alternative_halts : (new : List Entry) (s : Halt) → SeesOther new (Err s)
+        → IsOn g x more below old new top (Err s)
     alternative_halts new s e = halted (get_or ms i 0) top.place asked_other new s e

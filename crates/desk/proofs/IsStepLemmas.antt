@@ -1,6 +1,8 @@
 -- What a step makes of a desk.
 -- Serves: Desk::begin, Desk::step, Desk::match_unit.
-use Rattle.std.proofs.Common.{◌≡◌, inl, inr, ℕ, suc, ◌+◌, ◌-◌, ◌*◌, ◌^◌, ◌<◌, ◌≤◌, Bool, false, get_or, Result, Ok, Err, OnOk, IfOk, is_err, List, [], ◌∷◌, ◌++◌, length, Option, Some, None, refl, sym, ◌∙◌, ap, subst, arith, length-append}
+use Rattle.std.proofs.Common.{◌≡◌, inl, inr, ℕ, suc, ◌+◌, ◌-◌, ◌*◌, ◌^◌, ◌<◌, ◌≤◌, Bool, false, get_or, Result, Ok, Err}
+use Rattle.std.proofs.Common.{OnOk, IfOk, is_err, List, [], ◌∷◌, ◌++◌, length, Option, Some, None, refl, sym, ◌∙◌, ap}
+use Rattle.std.proofs.Common.{subst, arith, length-append}
 use Rattle.std.specs.Prelude.{slice_get}
 use Rattle.std.proofs.Math.Nat.{mul-le-mul_left}
 use Rattle.pegread.specs.Pattern.{Rule}
@@ -20,7 +22,8 @@ use Rattle.pegmatch.specs.declared.matcher.Unit.TheVariants as unit
 use Rattle.desk.specs.declared.frame.Frame.{Frame}
 use Rattle.desk.specs.declared.turn.Turn.TheVariants.{Ask, Answer, Need}
 use Rattle.cells.specs.Entries.{found_at}
-use Rattle.desk.specs.Desk.{View, beginning, Fits, HasFrames, IsDone, Drops, Reaches, Ends, IsStep, IsOutcome, told, unit_of}
+use Rattle.desk.specs.Desk.{View, beginning, Fits, HasFrames, IsDone, Drops, Reaches, Ends, IsStep, IsOutcome, told}
+use Rattle.desk.specs.Desk.{unit_of}
 use Rattle.desk.specs.State.{IsPut, IsUnderWay, IsStack}
 use Rattle.desk.specs.Turns.{IsTurn}
 use Rattle.desk.specs.Visits.{NodeGives, Visits}
@@ -31,7 +34,8 @@ use Rattle.desk.proofs.LookedLemmas.{ends_within}
 use Rattle.desk.proofs.VisitsLemmas.{visits_within}
 use Rattle.desk.proofs.IsPutLemmas.{is_put, different_put}
 use Rattle.desk.proofs.NodeGivesLemmas.{gives_as, same_node}
-use Rattle.desk.proofs.IsStackLemmas.{top_visits, top_is_open, stack_push, stack_pop, cells_put, alone, all_visited, stack_begin, no_cells, under_way}
+use Rattle.desk.proofs.IsStackLemmas.{top_visits, top_is_open, stack_push, stack_pop, cells_put, alone, all_visited}
+use Rattle.desk.proofs.IsStackLemmas.{stack_begin, no_cells, under_way}
 
 -- what is counted has room
 pub room : (a b n : ℕ) → a < 2 ^ 64 → b < 2 ^ 64 → n ≤ a * (b + 1) → n + 1 < 2 ^ 128
@@ -43,10 +47,12 @@ pub some_frame : (fs : List Frame) → (fs ≡ [] → ⊥) → (u : Frame) × (u
 some_frame [] h = absurd (h refl)
 some_frame (u ∷ us) h = (u, us, refl)
 
-less : (b old new below frames frames' : ℕ) → new ≤ b → new ≡ old + 1 → frames ≡ suc below → frames' ≡ suc (suc below) → 2 * (b + 1 - new) + frames' < 2 * (b + 1 - old) + frames
+less : (b old new below frames frames' : ℕ) → new ≤ b → new ≡ old + 1 → frames ≡ suc below → frames' ≡ suc (suc below)
+    → 2 * (b + 1 - new) + frames' < 2 * (b + 1 - old) + frames
 less b old new below frames frames' most is before now = omega arith
 
-same_less : (b old new frames frames' : ℕ) → new ≡ old → frames ≡ suc frames' → 2 * (b + 1 - new) + frames' < 2 * (b + 1 - old) + frames
+same_less : (b old new frames frames' : ℕ) → new ≡ old → frames ≡ suc frames' → 2 * (b + 1 - new) + frames'
+    < 2 * (b + 1 - old) + frames
 same_less b old new frames frames' is before = omega arith
 
 pub ok_of : {A E P : Type 0} (r : Result A E) → is_err r ≡ false → OnOk r P → P
@@ -58,11 +64,17 @@ pub read_top : (fs below : List Frame) (t u : Frame) → fs ≡ t ∷ below → 
 read_top fs below t u is same = rw same is
 
 -- a node that gives the start rule's outcome
-pub start_gives : (g : Grammar) (x : List ℕ) → IsSoundGrammar g → (root k : ℕ) (o : Outcome) → slice_get g.bodies g.start ≡ Some root →
+pub start_gives : (g : Grammar) (x : List ℕ) → IsSoundGrammar g → (root k : ℕ) (o : Outcome)
+    → slice_get g.bodies g.start ≡ Some root →
     NodeGives (rules_of g.rules) (shapes_of g.nodes) g.bodies x root 0 o k → StartGives g x o k
 start_gives g x sound root k o at d =
     let there = sound.spelled.spelled g.start root at in
-    record { body = there.0; rule = there.1; gives = gives_as (rules_of g.rules) (shapes_of g.nodes) sound.defined g.bodies x there.2 d }
+    record {
+      body = there.0;
+      rule = there.1;
+      gives = gives_as (rules_of g.rules) (shapes_of
+          g.nodes) sound.defined g.bodies x there.2 d;
+    }
 
 module _ (g : Grammar) (x : List ℕ) (more : Bool) (sound : IsSoundGrammar g) where
   abbrev Rs : List Rule
@@ -79,7 +91,8 @@ module _ (g : Grammar) (x : List ℕ) (more : Bool) (sound : IsSoundGrammar g) w
     pub come : IsUnderWay Rs g.start Ns g.bodies x more d.cells t.node t.place t.next t.end
     pub none : found_at d.cells t.node t.place ≡ None
 
-  stacked : (d : View) (t : Frame) (fs : List Frame) → Fits g x more d → d.frames ≡ t ∷ fs → IsStack Rs g.start Ns g.bodies x more d.cells (t ∷ fs)
+  stacked : (d : View) (t : Frame) (fs : List Frame) → Fits g x more d → d.frames ≡ t ∷ fs
+      → IsStack Rs g.start Ns g.bodies x more d.cells (t ∷ fs)
   stacked d t fs f is = subst (λ v. IsStack Rs g.start Ns g.bodies x more d.cells v) is f.stack
 
   pub is_top : (d : View) (t : Frame) (fs : List Frame) → Fits g x more d → d.frames ≡ t ∷ fs → IsTop d t
@@ -91,20 +104,29 @@ module _ (g : Grammar) (x : List ℕ) (more : Bool) (sound : IsSoundGrammar g) w
       record { visits = visits; spelled = v.spelled; high = v.high; come = o.come; none = o.none }
 
   pub fits_at_most : (d : View) → Fits g x more d → d.begun ≤ length Ns * (length x + 1)
-  fits_at_most d f = let most = all_at_most Rs g.start Ns g.bodies g.ranks x more sound d.cells d.frames f.cells f.different f.stack in omega (arith, f.count, most)
+  fits_at_most d f = let most = all_at_most Rs g.start Ns g.bodies g.ranks x more sound d.cells d.frames f.cells
+      f.different f.stack in omega (arith, f.count, most)
 
   -- what fits has right frames
   pub frames_of : (d : View) → Fits g x more d → HasFrames g x more d
   frames_of d f =
       let most = fits_at_most d f in
       let size = length-map g.nodes shape_of in
-      record { pairs = under_way Rs g.start Ns g.bodies g.ranks x more sound f.stack; few = rw (← size) (omega (arith, most, f.count)) }
+      record {
+        pairs = under_way Rs g.start Ns g.bodies g.ranks x more sound f.stack;
+        few = rw (← size) (omega (arith, most, f.count));
+      }
 
   -- the node of the start rule's body
   start_node : (root : ℕ) × (slice_get g.bodies g.start ≡ Some root)
-  start_node = (get_or g.bodies g.start 0, slice_get-get_or g.bodies g.start 0 (omega (arith, sound.start_is_rule, sound.spelled.count)))
+  start_node = (
+    get_or g.bodies g.start 0,
+    slice_get-get_or g.bodies g.start 0 (omega
+        (arith, sound.start_is_rule, sound.spelled.count)),
+  )
 
-  start_as : (root k : ℕ) (o : Outcome) → slice_get g.bodies g.start ≡ Some root → StartGives g x o k → NodeGives Rs Ns g.bodies x root 0 o k
+  start_as : (root k : ℕ) (o : Outcome) → slice_get g.bodies g.start ≡ Some root → StartGives g x o k
+      → NodeGives Rs Ns g.bodies x root 0 o k
   start_as root k o at gives =
       let there = sound.spelled.spelled g.start root at in
       let same : there.0 ≡ gives.body = cc (there.1, gives.rule) in
@@ -112,9 +134,11 @@ module _ (g : Grammar) (x : List ℕ) (more : Bool) (sound : IsSoundGrammar g) w
 
   pub pushed : (old new : View) (t : Frame) (fs : List Frame) (m q i r : ℕ) → Fits g x more old → old.frames ≡ t ∷ fs →
       IsTurn Rs g.start Ns g.bodies x more old.cells t.node t.place (Ask m q i r) → new.cells ≡ old.cells →
-      new.frames ≡ beginning m q ∷ (record { node = t.node; place = t.place; next = i; end = r } ∷ fs) → new.begun ≡ old.begun + 1 → IsStep g x more old new None
+      new.frames ≡ beginning m q ∷ (record { node = t.node; place = t.place; next = i; end = r } ∷ fs)
+      → new.begun ≡ old.begun + 1 → IsStep g x more old new None
   pushed old new t fs m q i r f is turn cells frames begun =
-      let stack = stack_push Rs g.start Ns g.bodies g.ranks x more sound old.cells t fs m q i r (stacked old t fs f is) turn in
+      let stack = stack_push Rs g.start Ns g.bodies g.ranks x more sound old.cells t fs m q i r (stacked old t fs f is)
+      turn in
       let lengths = ap length frames in
       let before = ap length is in (
         record {
@@ -138,10 +162,12 @@ module _ (g : Grammar) (x : List ℕ) (more : Bool) (sound : IsSoundGrammar g) w
       )
 
   module _ (old new : View) (t : Frame) (fs : List Frame) (h : Found) (f : Fits g x more old) (is : old.frames ≡ t ∷ fs)
-      (turn : IsTurn Rs g.start Ns g.bodies x more old.cells t.node t.place (Answer h)) (cells : new.cells ≡ old.cells ++ record { node = t.node; place = t.place; found = h } ∷ [])
+      (turn : IsTurn Rs g.start Ns g.bodies x more old.cells t.node t.place (Answer h))
+      (cells : new.cells ≡ old.cells ++ record { node = t.node; place = t.place; found = h } ∷ [])
       (frames : new.frames ≡ fs) (begun : new.begun ≡ old.begun) where
     put : IsPut old.cells new.cells t.node t.place h
-    put = is_put old.cells new.cells (record { node = t.node; place = t.place; found = h }) (is_top old t fs f is).none cells
+    put = is_put old.cells new.cells (record { node = t.node; place = t.place; found = h }) (is_top old t fs f is).none
+        cells
 
     longer : length new.cells ≡ length old.cells + 1
     longer = ap length cells ∙ length-append old.cells (record { node = t.node; place = t.place; found = h } ∷ [])
@@ -155,9 +181,12 @@ module _ (g : Grammar) (x : List ℕ) (more : Bool) (sound : IsSoundGrammar g) w
         let before = ap length is in
         let top = is_top old t fs f is in
         record {
-          stack = rw frames (stack_pop Rs g.start Ns g.bodies g.ranks x more sound old.cells new.cells t fs h (stacked old t fs f is) put);
-          cells = cells_put Rs g.start Ns g.bodies g.ranks x more sound old.cells new.cells t.node t.place h f.cells top.visits turn put;
-          different = rw cells (different_put old.cells (record { node = t.node; place = t.place; found = h }) f.different top.none);
+          stack = rw frames (stack_pop Rs g.start Ns g.bodies g.ranks x more sound old.cells new.cells t fs h
+              (stacked old t fs f is) put);
+          cells = cells_put Rs g.start Ns g.bodies g.ranks x more sound old.cells new.cells t.node t.place h f.cells
+              top.visits turn put;
+          different = rw cells (different_put old.cells (record { node = t.node; place = t.place; found = h })
+              f.different top.none);
           count = omega (arith, begun, f.count, lengths, before, longer);
         }
 
@@ -166,10 +195,12 @@ module _ (g : Grammar) (x : List ℕ) (more : Bool) (sound : IsSoundGrammar g) w
 
     pub ended : new.frames ≡ [] → Ends g x more old new h
     ended none =
-        let s : IsStack Rs g.start Ns g.bodies x more old.cells (t ∷ []) = stacked old t [] f (is ∙ ap (λ v. t ∷ v) (sym frames ∙ none)) in
+        let s : IsStack Rs g.start Ns g.bodies x more old.cells (t ∷ []) =
+        stacked old t [] f (is ∙ ap (λ v. t ∷ v) (sym frames ∙ none)) in
         let root = alone Rs g.start Ns g.bodies g.ranks x more sound old.cells t s in
         let now = still_fits in
-        let here : found_at new.cells t.node 0 ≡ Some h = subst (λ v. found_at new.cells t.node v ≡ Some h) root.1 put.here in
+        let here : found_at new.cells t.node 0 ≡ Some h = subst (λ v. found_at new.cells t.node v ≡ Some h) root.1
+        put.here in
         let found = now.cells.found t.node 0 h here in
         let lengths = ap length none in
         record {
@@ -177,22 +208,39 @@ module _ (g : Grammar) (x : List ℕ) (more : Bool) (sound : IsSoundGrammar g) w
           done = record {
             frames = none;
             visited = now.cells.visited;
-            whole = λ n p v. all_visited Rs g.start Ns g.bodies g.ranks x more sound new.cells t.node now.cells root.0 (h, here) v;
+            whole = λ n p v. all_visited Rs g.start Ns g.bodies g.ranks x more sound new.cells t.node now.cells root.0
+                (h, here) v;
             found = now.cells.found;
             different = now.different;
             count = omega (arith, now.count, lengths);
           };
-          answers = record { events = found.events; looked = found.looked; gives = start_gives g x sound t.node found.looked _ root.0 found.gives; enough = found.enough };
+          answers = record {
+            events = found.events;
+            looked = found.looked;
+            gives = start_gives g x sound t.node found.looked _ root.0 found.gives;
+            enough = found.enough;
+          };
         }
 
-  pub ended_step : (old new : View) (h : Found) (b : ℕ) → Ends g x more old new h → b ≡ new.begun → IsStep g x more old new (Some (unit_of h b))
+  pub ended_step : (old new : View) (h : Found) (b : ℕ) → Ends g x more old new h → b ≡ new.begun
+      → IsStep g x more old new (Some (unit_of h b))
   ended_step old new Failed b e is = (e, is)
   ended_step old new (Took end) b e is = (e, is)
 
-  pub reaches : (d : View) (t : Frame) (fs : List Frame) → d.frames ≡ t ∷ fs → IsTurn Rs g.start Ns g.bodies x more d.cells t.node t.place Need → Reaches g x more d
-  reaches d t fs is turn = record { behind = turn.0; top = t; below = fs; is = is; own = turn.1; outcome = turn.2.0; gives = turn.2.1 }
+  pub reaches : (d : View) (t : Frame) (fs : List Frame) → d.frames ≡ t ∷ fs
+      → IsTurn Rs g.start Ns g.bodies x more d.cells t.node t.place Need → Reaches g x more d
+  reaches d t fs is turn = record {
+    behind = turn.0;
+    top = t;
+    below = fs;
+    is = is;
+    own = turn.1;
+    outcome = turn.2.0;
+    gives = turn.2.1;
+  }
 
-  pub fits_begin : (root : ℕ) (d : View) → slice_get g.bodies g.start ≡ Some root → d.cells ≡ [] → d.frames ≡ beginning root 0 ∷ [] → d.begun ≡ 1 → Fits g x more d
+  pub fits_begin : (root : ℕ) (d : View) → slice_get g.bodies g.start ≡ Some root → d.cells ≡ []
+      → d.frames ≡ beginning root 0 ∷ [] → d.begun ≡ 1 → Fits g x more d
   fits_begin root d at cells frames begun = record {
     stack = rw (cells, frames) (stack_begin Rs g.start Ns g.bodies g.ranks x more sound root at);
     cells = rw cells (no_cells Rs g.start Ns g.bodies g.ranks x more sound);
@@ -216,17 +264,20 @@ module _ (g : Grammar) (x : List ℕ) (more : Bool) (sound : IsSoundGrammar g) w
   no_frames d none = record { pairs = rw none tt; few = rw none (omega arith) }
 
   -- after a step the frames are right
-  pub step_frames : (old new : View) (v : Option UnitAnswer) → Fits g x more old → IsStep g x more old new v → HasFrames g x more new
+  pub step_frames : (old new : View) (v : Option UnitAnswer) → Fits g x more old → IsStep g x more old new v
+      → HasFrames g x more new
   step_frames old new None f s = frames_of new s.0
   step_frames old new (Some (unit.Took end begun)) f s = no_frames new s.0.done.frames
   step_frames old new (Some (unit.Failed begun)) f s = no_frames new s.0.done.frames
   step_frames old new (Some unit.Need) f s = rw s.0 (frames_of old f)
 
-  pub frames_of_step : {E : Type 0} (old new : View) (r : Result (Option UnitAnswer) E) → Fits g x more old → IfOk r (IsStep g x more old new) → OnOk r (HasFrames g x more new)
+  pub frames_of_step : {E : Type 0} (old new : View) (r : Result (Option UnitAnswer) E) → Fits g x more old
+      → IfOk r (IsStep g x more old new) → OnOk r (HasFrames g x more new)
   frames_of_step old new (Ok v) f s = step_frames old new v f s
   frames_of_step old new (Err e) f s = tt
 
-  pub step_outcome : (old new : View) (v : Option UnitAnswer) (u : UnitAnswer) → Fits g x more old → IsStep g x more old new v → v ≡ Some u → IsOutcome g x more new u
+  pub step_outcome : (old new : View) (v : Option UnitAnswer) (u : UnitAnswer) → Fits g x more old
+      → IsStep g x more old new v → v ≡ Some u → IsOutcome g x more new u
   step_outcome old new v u f s is = by u (subst (λ w. IsStep g x more old new w) is s)
     where
       by : (u : UnitAnswer) → IsStep g x more old new (Some u) → IsOutcome g x more new u
@@ -235,23 +286,28 @@ module _ (g : Grammar) (x : List ℕ) (more : Bool) (sound : IsSoundGrammar g) w
       by unit.Need e = (e.1.behind, need_given old f e.1)
 
   pub step_less : (old new : View) (v : Option UnitAnswer) → Fits g x more old → IsStep g x more old new v → v ≡ None →
-      2 * (length Ns * (length x + 1) + 1 - new.begun) + length new.frames < 2 * (length Ns * (length x + 1) + 1 - old.begun) + length old.frames
+      2 * (length Ns * (length x + 1) + 1 - new.begun) + length new.frames
+      < 2 * (length Ns * (length x + 1) + 1 - old.begun) + length old.frames
   step_less old new v f s is = by (subst (λ w. IsStep g x more old new w) is s)
     where
-      by : IsStep g x more old new None → 2 * (length Ns * (length x + 1) + 1 - new.begun) + length new.frames < 2 * (length Ns * (length x + 1) + 1 - old.begun) + length old.frames
+      by : IsStep g x more old new None → 2 * (length Ns * (length x + 1) + 1 - new.begun) + length new.frames
+          < 2 * (length Ns * (length x + 1) + 1 - old.begun) + length old.frames
       by (fits, some, what) = elim what [
         | inl p ↦
             let most = fits_at_most new fits in
             let before = ap length p.was in
             let now = ap length p.is in
-            less (length Ns * (length x + 1)) old.begun new.begun (length p.below) (length old.frames) (length new.frames) most p.begun before now
+            less (length Ns * (length x + 1)) old.begun new.begun (length p.below) (length old.frames)
+            (length new.frames) most p.begun before now
         | inr h ↦
             let before = ap length h.1.was in
-            same_less (length Ns * (length x + 1)) old.begun new.begun (length old.frames) (length new.frames) h.1.begun before
+            same_less (length Ns * (length x + 1)) old.begun new.begun (length old.frames) (length new.frames) h.1.begun
+            before
       ]
 
   -- no more are begun than nodes at places up to where the start rule looked
-  pub done_at_most : (d : View) (o : Outcome) (k : ℕ) → IsDone g x more d → StartGives g x o k → d.begun ≤ length Ns * (k + 1)
+  pub done_at_most : (d : View) (o : Outcome) (k : ℕ) → IsDone g x more d → StartGives g x o k
+      → d.begun ≤ length Ns * (k + 1)
   done_at_most d o k done gives =
       let root = start_node in
       let node : NodeGives Rs Ns g.bodies x root.0 0 o k = start_as root.0 k o root.1 gives in
@@ -262,7 +318,10 @@ module _ (g : Grammar) (x : List ℕ) (more : Bool) (sound : IsSoundGrammar g) w
       ((visited_there Rs g.start Ns g.bodies g.ranks x more sound m q v).0, omega (arith, within.near))) in
       omega (arith, done.count, most)
 
-  pub told_at_most : (d : View) (u : UnitAnswer) → IsOutcome g x more d u → (o : Outcome) (k : ℕ) → StartGives g x o k → told u ≤ length g.nodes * (k + 1)
-  told_at_most d (unit.Took end begun) h o k gives = rw (h.2, ← length-map g.nodes shape_of) (done_at_most d o k h.0 gives)
-  told_at_most d (unit.Failed begun) h o k gives = rw (h.2, ← length-map g.nodes shape_of) (done_at_most d o k h.0 gives)
+  pub told_at_most : (d : View) (u : UnitAnswer) → IsOutcome g x more d u → (o : Outcome) (k : ℕ) → StartGives g x o k
+      → told u ≤ length g.nodes * (k + 1)
+  told_at_most d (unit.Took end begun) h o k gives =
+      rw (h.2, ← length-map g.nodes shape_of) (done_at_most d o k h.0 gives)
+  told_at_most d (unit.Failed begun) h o k gives =
+      rw (h.2, ← length-map g.nodes shape_of) (done_at_most d o k h.0 gives)
   told_at_most d unit.Need h o k gives = omega arith

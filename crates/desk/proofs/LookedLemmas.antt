@@ -1,9 +1,14 @@
 -- An evaluation looks no further than the input's end.
 -- Serves: Desk::match_unit.
-use Rattle.std.proofs.Common.{ℕ, zero, suc, ◌+◌, ◌-◌, ◌≤◌, Bool, true, false, if◌then◌else◌, ◌==◌, List, [], ◌∷◌, length, drop, arith, length-drop}
+use Rattle.std.proofs.Common.{ℕ, zero, suc, ◌+◌, ◌-◌, ◌≤◌, Bool, true, false, if◌then◌else◌, ◌==◌, List, [], ◌∷◌}
+use Rattle.std.proofs.Common.{length, drop, arith, length-drop}
 use Rattle.std.proofs.lemmas.Option.{slice_get_within}
 use Rattle.pegread.specs.Pattern.{Pattern, Patterns, Rule}
-use Rattle.gramcheck.specs.Outcome.{Outcome, compared, looked_at, Gives, any_takes, any_at_end, set_takes, set_fails, set_at_end, bytes_take, bytes_fail, act, open_at, close_at, name, seq, choice, opt_takes, opt_none, star_none, star_more, plus_fails, plus_takes, and_takes, and_fails, not_takes, not_fails, GivesAll, all_done, one_fails, rest_fails, rest_takes, GivesFirst, all_failed, first_takes, first_fails}
+use Rattle.gramcheck.specs.Outcome.{Outcome, compared, looked_at, Gives, any_takes, any_at_end, set_takes, set_fails}
+use Rattle.gramcheck.specs.Outcome.{set_at_end, bytes_take, bytes_fail, act, open_at, close_at, name, seq, choice}
+use Rattle.gramcheck.specs.Outcome.{opt_takes, opt_none, star_none, star_more, plus_fails, plus_takes, and_takes}
+use Rattle.gramcheck.specs.Outcome.{and_fails, not_takes, not_fails, GivesAll, all_done, one_fails, rest_fails}
+use Rattle.gramcheck.specs.Outcome.{rest_takes, GivesFirst, all_failed, first_takes, first_fails}
 
 by_test : (v : Bool) (k n : ℕ) → k ≤ n → (if v then k + 1 else 1) ≤ suc n
 by_test true k n h = omega arith
@@ -20,7 +25,8 @@ looked_below p (suc n) l h = omega arith
 
 module _ (rules : List Rule) (x : List ℕ) where
   bytes_within : (bs : List ℕ) (p : ℕ) → looked_at p (compared (drop p x) bs) ≤ length x
-  bytes_within bs p = looked_below p (compared (drop p x) bs) (length x) (omega (arith, compared_within (drop p x) bs, length-drop p x))
+  bytes_within bs p = looked_below p (compared (drop p x) bs) (length x)
+      (omega (arith, compared_within (drop p x) bs, length-drop p x))
 
   mutual
     pub ends_within : {e : Pattern} {p k : ℕ} {o : Outcome} → Gives rules x e p o k → k ≤ length x

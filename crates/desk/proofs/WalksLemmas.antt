@@ -1,6 +1,8 @@
 -- A walk's frames: their depth, the events still to come, and the steps that are left.
 -- Serves: Desk::replay.
-use Rattle.std.proofs.Common.{◌≡◌, inl, inr, ℕ, zero, suc, ◌+◌, ◌-◌, ◌*◌, ◌^◌, ◌<◌, ◌≤◌, Bool, true, false, if◌then◌else◌, List, [], ◌∷◌, ◌++◌, length, Option, Some, None, refl, ◌∙◌, ap, subst, arith, append_assoc}
+use Rattle.std.proofs.Common.{◌≡◌, inl, inr, ℕ, zero, suc, ◌+◌, ◌-◌, ◌*◌, ◌^◌, ◌<◌, ◌≤◌, Bool, true, false}
+use Rattle.std.proofs.Common.{if◌then◌else◌, List, [], ◌∷◌, ◌++◌, length, Option, Some, None, refl, ◌∙◌, ap, subst}
+use Rattle.std.proofs.Common.{arith, append_assoc}
 use Rattle.std.specs.Prelude.{slice_get}
 use Rattle.std.proofs.Math.Nat.{mul-le-mul_right, pow-le-pow_right, one-le-pow}
 use Rattle.std.proofs.lemmas.Grind.{pow_more}
@@ -14,7 +16,8 @@ use Rattle.desk.specs.declared.way.Way.TheVariants.{Leave, Emit, TurnTo, GoInto}
 use Rattle.pegmatch.specs.declared.event.Kept.{Kept}
 use Rattle.cells.specs.Entries.{found_at}
 use Rattle.desk.specs.Desk.{beginning}
-use Rattle.desk.specs.Path.{IsLeft, IsWay, pair_height, frame_height, AreHigher, Walks, no_walk, walk, arity, arity_of, arities, todo, Begins, Goes}
+use Rattle.desk.specs.Path.{IsLeft, IsWay, pair_height, frame_height, AreHigher, Walks, no_walk, walk, arity, arity_of}
+use Rattle.desk.specs.Path.{arities, todo, Begins, Goes}
 use Rattle.desk.specs.State.{HasCell}
 use Rattle.desk.proofs.CodeLemmas.{In, now, on, in_cases, Differ, at_most, code, code_same, cell_codes, length_codes}
 use Rattle.desk.proofs.IsPutLemmas.{is_of, is_own}
@@ -24,7 +27,8 @@ in_cells : (w : ℕ) (cells : List Entry) (n p : ℕ) → HasCell cells n p → 
 in_cells w [] n p h = absurd (cc h.1)
 in_cells w (c ∷ cells) n p h = by (is_of c n p) refl h.1 (λ k. in_cells w cells n p (h.0, k))
   where
-    by : (v : Bool) → is_of c n p ≡ v → (if v then Some c.found else found_at cells n p) ≡ Some h.0 → (found_at cells n p ≡ Some h.0 → In (code w n p) (cell_codes w cells)) →
+    by : (v : Bool) → is_of c n p ≡ v → (if v then Some c.found else found_at cells n p) ≡ Some h.0
+        → (found_at cells n p ≡ Some h.0 → In (code w n p) (cell_codes w cells)) →
         In (code w n p) (code w c.node c.place ∷ cell_codes w cells)
     by true v k rec = let is = is_own c n p v in now (rw (is.0, is.1) refl)
     by false v k rec = on (rec k)
@@ -61,7 +65,8 @@ module _ (rules : List Rule) (nodes : List Shape) (bodies ranks x : List ℕ) (c
   all_low no_walk = tt
   all_low (walk l h w) = (l.high, all_low w)
 
-  not_below : (f : Frame) → f.place ≤ length x → (fs : List Frame) → Low fs → AreHigher rules nodes bodies ranks x cells (high f) fs → In (code Width f.node f.place) (codes fs) → ⊥
+  not_below : (f : Frame) → f.place ≤ length x → (fs : List Frame) → Low fs → AreHigher rules nodes bodies ranks x cells
+      (high f) fs → In (code Width f.node f.place) (codes fs) → ⊥
   not_below f low [] ls higher i = elim i [ ]
   not_below f low (g ∷ fs) ls higher i = elim (in_cases i) [
     | inl same ↦
@@ -74,7 +79,8 @@ module _ (rules : List Rule) (nodes : List Shape) (bodies ranks x : List ℕ) (c
   all_differ no_walk = tt
   all_differ (walk {f = f} {fs = fs} l h w) = (not_below f l.high fs (all_low w) h, all_differ w)
 
-  all_cells : {fs : List Frame} {es : List Event} → Walks rules nodes bodies ranks x cells fs es → (a : ℕ) → In a (codes fs) → In a (cell_codes Width cells)
+  all_cells : {fs : List Frame} {es : List Event} → Walks rules nodes bodies ranks x cells fs es → (a : ℕ)
+      → In a (codes fs) → In a (cell_codes Width cells)
   all_cells no_walk a i = elim i [ ]
   all_cells (walk {f = f} l h w) a i = elim (in_cases i) [
     | inl same ↦ rw same (in_cells Width cells f.node f.place l.has)
@@ -82,16 +88,19 @@ module _ (rules : List Rule) (nodes : List Shape) (bodies ranks x : List ℕ) (c
   ]
 
   -- a walk is no deeper than there are cells
-  pub depth : (fs : List Frame) (es : List Event) → Walks rules nodes bodies ranks x cells fs es → length fs ≤ length cells
+  pub depth : (fs : List Frame) (es : List Event) → Walks rules nodes bodies ranks x cells fs es
+      → length fs ≤ length cells
   depth fs es w =
       let most = at_most (codes fs) (cell_codes Width cells) (all_differ w) (all_cells w) in
       omega (arith, most, length_of fs, length_codes Width cells [])
 
-  higher_more : (b c : ℕ) (fs : List Frame) → c < b → AreHigher rules nodes bodies ranks x cells b fs → AreHigher rules nodes bodies ranks x cells c fs
+  higher_more : (b c : ℕ) (fs : List Frame) → c < b → AreHigher rules nodes bodies ranks x cells b fs
+      → AreHigher rules nodes bodies ranks x cells c fs
   higher_more b c [] lt h = tt
   higher_more b c (f ∷ fs) lt h = (omega (arith, h.0), higher_more b c fs lt h.1)
 
-  arity_low : (shapes : List Shape) (n : ℕ) → arity_of rules nodes bodies ranks x cells (slice_get shapes n) + 2 ≤ arities rules nodes bodies ranks x cells shapes
+  arity_low : (shapes : List Shape) (n : ℕ) → arity_of rules nodes bodies ranks x cells (slice_get shapes n) + 2
+      ≤ arities rules nodes bodies ranks x cells shapes
   arity_low [] n = omega arith
   arity_low (a ∷ shapes) zero = let two = least shapes in omega (arith, two)
     where
@@ -104,10 +113,13 @@ module _ (rules : List Rule) (nodes : List Shape) (bodies ranks x : List ℕ) (c
   Base = arities rules nodes bodies ranks x cells nodes
 
   -- what a frame that begins adds is less than one turn of a higher one
-  begins_less : (m q h : ℕ) → pair_height rules nodes bodies ranks x cells m q < h → todo rules nodes bodies ranks x cells (beginning m q) * Base ^ pair_height rules nodes bodies ranks x cells m q < Base ^ h
+  begins_less : (m q h : ℕ) → pair_height rules nodes bodies ranks x cells m q < h
+      → todo rules nodes bodies ranks x cells (beginning m q) * Base ^ pair_height rules nodes bodies ranks x cells m q
+      < Base ^ h
   begins_less m q h lt =
       let low = arity_low nodes m in
-      power_less Base (pair_height rules nodes bodies ranks x cells m q) h (todo rules nodes bodies ranks x cells (beginning m q)) (omega arith) lt (omega arith)
+      power_less Base (pair_height rules nodes bodies ranks x cells m q) h
+      (todo rules nodes bodies ranks x cells (beginning m q)) (omega arith) lt (omega arith)
 
   positive : (h : ℕ) → 1 ≤ Base ^ h
   positive h = let low = arity_low nodes 0 in one-le-pow h Base (omega arith)
@@ -124,10 +136,12 @@ module _ (rules : List Rule) (nodes : List Shape) (bodies ranks x : List ℕ) (c
     pub higher : AreHigher rules nodes bodies ranks x cells (high f) fs
     pub rest : Walks rules nodes bodies ranks x cells fs later
 
-  last_of : {f : Frame} {fs : List Frame} {all : List Event} → Walks rules nodes bodies ranks x cells (f ∷ fs) all → LastOf f fs all
+  last_of : {f : Frame} {fs : List Frame} {all : List Event} → Walks rules nodes bodies ranks x cells (f ∷ fs) all
+      → LastOf f fs all
   last_of (walk {es = es} {gs = gs} l h w) = record { now = es; later = gs; is = refl; left = l; higher = h; rest = w }
 
-  pub last : (f : Frame) (fs : List Frame) (all : List Event) → Walks rules nodes bodies ranks x cells (f ∷ fs) all → LastOf f fs all
+  pub last : (f : Frame) (fs : List Frame) (all : List Event) → Walks rules nodes bodies ranks x cells (f ∷ fs) all
+      → LastOf f fs all
   last f fs all w = last_of w
 
   abbrev GoesTo : List Frame → Option Kept → List Event → List Frame → Type 0
@@ -135,12 +149,19 @@ module _ (rules : List Rule) (nodes : List Shape) (bodies ranks x : List ℕ) (c
 
   module _ (f : Frame) (fs : List Frame) (all : List Event) (l : LastOf f fs all) where
     some_weight : 1 ≤ todo rules nodes bodies ranks x cells f * Base ^ high f
-    some_weight = let a = one_turn (todo rules nodes bodies ranks x cells f) (Base ^ high f) (omega arith) in let b = positive (high f) in omega (arith, a, b)
+    some_weight = let a = one_turn (todo rules nodes bodies ranks x cells f) (Base ^ high f) (omega arith) in let b =
+        positive (high f) in omega (arith, a, b)
 
     pub leaves : IsWay rules nodes bodies ranks x cells f l.now Leave → GoesTo (f ∷ fs) None all fs
-    leaves way = record { later = l.later; walks = l.rest; tells = l.is ∙ ap (λ v. v ++ l.later) way; less = let s = some_weight in omega (arith, s) }
+    leaves way = record {
+      later = l.later;
+      walks = l.rest;
+      tells = l.is ∙ ap (λ v. v ++ l.later) way;
+      less = let s = some_weight in omega (arith, s);
+    }
 
-    pub emits : (mark : Kept) → IsWay rules nodes bodies ranks x cells f l.now (Emit mark) → GoesTo (f ∷ fs) (Some mark) all fs
+    pub emits : (mark : Kept) → IsWay rules nodes bodies ranks x cells f l.now (Emit mark)
+        → GoesTo (f ∷ fs) (Some mark) all fs
     emits mark way = record {
       later = l.later;
       walks = l.rest;
@@ -148,10 +169,12 @@ module _ (rules : List Rule) (nodes : List Shape) (bodies ranks x : List ℕ) (c
       less = let s = some_weight in omega (arith, s);
     }
 
-    pub turns : (m q : ℕ) → IsWay rules nodes bodies ranks x cells f l.now (TurnTo m q) → GoesTo (f ∷ fs) None all (beginning m q ∷ fs)
+    pub turns : (m q : ℕ) → IsWay rules nodes bodies ranks x cells f l.now (TurnTo m q)
+        → GoesTo (f ∷ fs) None all (beginning m q ∷ fs)
     turns m q way = record {
       later = all;
-      walks = rw l.is (walk way.0 (higher_more (high f) (pair_height rules nodes bodies ranks x cells m q) fs way.1 l.higher) l.rest);
+      walks = rw l.is (walk way.0 (higher_more (high f) (pair_height rules nodes bodies ranks x cells m q) fs way.1
+          l.higher) l.rest);
       tells = refl;
       less =
           let a = begins_less m q (high f) way.1 in
@@ -165,53 +188,86 @@ module _ (rules : List Rule) (nodes : List Shape) (bodies ranks x : List ℕ) (c
       later = all;
       walks =
           let come : Frame = record { node = f.node; place = f.place; next = i; end = r } in
-          let higher : AreHigher rules nodes bodies ranks x cells (pair_height rules nodes bodies ranks x cells m q) (come ∷ fs) =
+          let higher : AreHigher rules nodes bodies ranks x cells (pair_height rules nodes bodies ranks x cells m q)
+          (come ∷ fs) =
           (way.5, higher_more (high f) (pair_height rules nodes bodies ranks x cells m q) fs way.5 l.higher) in
-          rw (l.is ∙ ap (λ v. v ++ l.later) way.2 ∙ append_assoc way.0 way.1 l.later) (walk {fs = come ∷ fs} way.3 higher (walk way.4 l.higher l.rest));
+          rw (l.is ∙ ap (λ v. v ++ l.later) way.2 ∙ append_assoc way.0 way.1 l.later)
+          (walk {fs = come ∷ fs} way.3 higher (walk way.4 l.higher l.rest));
       tells = refl;
       less =
           let a = begins_less m q (high f) way.5 in
           let shape = way.6 in
-          let is : arity_of rules nodes bodies ranks x cells (slice_get nodes f.node) ≡ arity rules nodes bodies ranks x cells shape.0 = ap (λ v. arity_of rules nodes bodies ranks x cells v) shape.1 in
-          let count : todo rules nodes bodies ranks x cells f ≡ (arity_of rules nodes bodies ranks x cells (slice_get nodes f.node) - i + 1) + 1 = omega (arith, is, shape.2, shape.3) in
+          let is : arity_of rules nodes bodies ranks x cells (slice_get nodes f.node) ≡ arity rules nodes bodies ranks x
+          cells shape.0 = ap (λ v. arity_of rules nodes bodies ranks x cells v) shape.1 in
+          let count : todo rules nodes bodies ranks x cells f
+          ≡ (arity_of rules nodes bodies ranks x cells (slice_get nodes f.node) - i + 1) + 1 =
+          omega (arith, is, shape.2, shape.3) in
           let split = ap (λ v. v * Base ^ high f) count in
           omega (arith, a, split);
     }
 
 module _ (rules : List Rule) (nodes : List Shape) (bodies ranks x : List ℕ) (cells : List Entry) where
   -- a step that tells nothing, and then a beginning
-  pub goes_then : (fs mid new : List Frame) (all : List Event) (mark : Option Kept) (g : Goes rules nodes bodies ranks x cells fs None all mid) →
-      Begins rules nodes bodies ranks x cells mid mark g.later new → Goes rules nodes bodies ranks x cells fs mark all new
-  goes_then fs mid new all None g b = record { later = b.later; walks = b.walks; tells = g.tells ∙ b.tells; less = omega (arith, g.less, b.most) }
+  pub goes_then : (fs mid new : List Frame) (all : List Event) (mark : Option Kept)
+      (g : Goes rules nodes bodies ranks x cells fs None all mid) →
+      Begins rules nodes bodies ranks x cells mid mark g.later new → Goes rules nodes bodies ranks x cells fs mark
+      all new
+  goes_then fs mid new all None g b = record {
+    later = b.later;
+    walks = b.walks;
+    tells = g.tells ∙ b.tells;
+    less = omega (arith, g.less, b.most);
+  }
   goes_then fs mid new all (Some m) g b =
-      record { later = b.later; walks = b.walks; tells = (b.tells.0, b.tells.1, g.tells ∙ b.tells.2); less = omega (arith, g.less, b.most) }
+      record {
+        later = b.later;
+        walks = b.walks;
+        tells = (b.tells.0, b.tells.1, g.tells ∙ b.tells.2);
+        less = omega (arith, g.less, b.most);
+      }
 
-  of_goes : (fs new : List Frame) (all : List Event) (mark : Option Kept) → Goes rules nodes bodies ranks x cells fs mark all new → Begins rules nodes bodies ranks x cells fs mark all new
+  of_goes : (fs new : List Frame) (all : List Event) (mark : Option Kept) → Goes rules nodes bodies ranks x cells fs
+      mark all new → Begins rules nodes bodies ranks x cells fs mark all new
   of_goes fs new all mark g = record { later = g.later; walks = g.walks; tells = g.tells; most = omega (arith, g.less) }
 
-  pub begins_pushed : (fs new : List Frame) (all : List Event) → Walks rules nodes bodies ranks x cells fs all → new ≡ fs → Begins rules nodes bodies ranks x cells fs None all new
+  pub begins_pushed : (fs new : List Frame) (all : List Event) → Walks rules nodes bodies ranks x cells fs all
+      → new ≡ fs → Begins rules nodes bodies ranks x cells fs None all new
   begins_pushed fs new all w is = record { later = all; walks = rw is w; tells = refl; most = rw is (omega arith) }
 
-  module _ (f : Frame) (fs : List Frame) (all : List Event) (w : Walks rules nodes bodies ranks x cells (f ∷ fs) all) where
-    pub begins_left : ((es : List Event) → IsLeft rules nodes bodies ranks x cells f es → IsWay rules nodes bodies ranks x cells f es Leave) → Begins rules nodes bodies ranks x cells (f ∷ fs) None all fs
-    begins_left way = let l = last rules nodes bodies ranks x cells f fs all w in of_goes (f ∷ fs) fs all None (leaves rules nodes bodies ranks x cells f fs all l (way l.now l.left))
+  module _ (f : Frame) (fs : List Frame) (all : List Event)
+      (w : Walks rules nodes bodies ranks x cells (f ∷ fs) all) where
+    pub begins_left : ((es : List Event) → IsLeft rules nodes bodies ranks x cells f es
+        → IsWay rules nodes bodies ranks x cells f es Leave) → Begins rules nodes bodies ranks x cells (f ∷ fs) None
+        all fs
+    begins_left way = let l = last rules nodes bodies ranks x cells f fs all w in
+        of_goes (f ∷ fs) fs all None (leaves rules nodes bodies ranks x cells f fs all l (way l.now l.left))
 
-    pub begins_told : (mark : Kept) → ((es : List Event) → IsLeft rules nodes bodies ranks x cells f es → IsWay rules nodes bodies ranks x cells f es (Emit mark)) →
+    pub begins_told : (mark : Kept) → ((es : List Event) → IsLeft rules nodes bodies ranks x cells f es
+        → IsWay rules nodes bodies ranks x cells f es (Emit mark)) →
         Begins rules nodes bodies ranks x cells (f ∷ fs) (Some mark) all fs
-    begins_told mark way = let l = last rules nodes bodies ranks x cells f fs all w in of_goes (f ∷ fs) fs all (Some mark) (emits rules nodes bodies ranks x cells f fs all l mark (way l.now l.left))
+    begins_told mark way = let l = last rules nodes bodies ranks x cells f fs all w in
+        of_goes (f ∷ fs) fs all (Some mark) (emits rules nodes bodies ranks x cells f fs all l mark (way l.now l.left))
 
 -- where a frame is gone into there is room for one more
-pub room_into : (rules : List Rule) (nodes : List Shape) (bodies ranks x : List ℕ) (cells : List Entry) (f : Frame) (fs : List Frame) (all : List Event) (way : Way) (room : ℕ) →
-    (l : LastOf rules nodes bodies ranks x cells f fs all) → IsWay rules nodes bodies ranks x cells f l.now way → length cells ≤ room → (m q i r : ℕ) → way ≡ GoInto m q i r → length (f ∷ fs) < room
+pub room_into : (rules : List Rule) (nodes : List Shape) (bodies ranks x : List ℕ) (cells : List Entry) (f : Frame)
+    (fs : List Frame) (all : List Event) (way : Way) (room : ℕ) →
+    (l : LastOf rules nodes bodies ranks x cells f fs all) → IsWay rules nodes bodies ranks x cells f l.now way
+    → length cells ≤ room → (m q i r : ℕ) → way ≡ GoInto m q i r → length (f ∷ fs) < room
 room_into rules nodes bodies ranks x cells f fs all way room l is le m q i r same =
-    let g = goes_into rules nodes bodies ranks x cells f fs all l m q i r (subst (λ w. IsWay rules nodes bodies ranks x cells f l.now w) same is) in
+    let g = goes_into rules nodes bodies ranks x cells f fs all l m q i r
+    (subst (λ w. IsWay rules nodes bodies ranks x cells f l.now w) same is) in
     let deep = depth rules nodes bodies ranks x cells _ g.later g.walks in
     omega (arith, deep)
 
-pub last_at : (rules : List Rule) (nodes : List Shape) (bodies ranks x : List ℕ) (cells : List Entry) (frames : List Frame) (f : Frame) (fs : List Frame) (all : List Event) → frames ≡ f ∷ fs →
+pub last_at : (rules : List Rule) (nodes : List Shape) (bodies ranks x : List ℕ) (cells : List Entry)
+    (frames : List Frame) (f : Frame) (fs : List Frame) (all : List Event) → frames ≡ f ∷ fs →
     Walks rules nodes bodies ranks x cells frames all → LastOf rules nodes bodies ranks x cells f fs all
-last_at rules nodes bodies ranks x cells frames f fs all is w = last rules nodes bodies ranks x cells f fs all (subst (λ v. Walks rules nodes bodies ranks x cells v all) is w)
+last_at rules nodes bodies ranks x cells frames f fs all is w = last rules nodes bodies ranks x cells f fs all
+    (subst (λ v. Walks rules nodes bodies ranks x cells v all) is w)
 
-pub goes_at : (rules : List Rule) (nodes : List Shape) (bodies ranks x : List ℕ) (cells : List Entry) (frames : List Frame) (f : Frame) (fs : List Frame) (all : List Event) (mark : Option Kept) (new : List Frame) → frames ≡ f ∷ fs →
-    Goes rules nodes bodies ranks x cells (f ∷ fs) mark all new → Goes rules nodes bodies ranks x cells frames mark all new
+pub goes_at : (rules : List Rule) (nodes : List Shape) (bodies ranks x : List ℕ) (cells : List Entry)
+    (frames : List Frame) (f : Frame) (fs : List Frame) (all : List Event) (mark : Option Kept) (new : List Frame)
+    → frames ≡ f ∷ fs →
+    Goes rules nodes bodies ranks x cells (f ∷ fs) mark all new → Goes rules nodes bodies ranks x cells frames mark
+    all new
 goes_at rules nodes bodies ranks x cells frames f fs all mark new is g = rw is g

@@ -1,5 +1,6 @@
 -- What an evaluation does next where nodes without operands are evaluated at once.
-use Rattle.std.specs.Prelude.{◌≡◌, ◌⊎◌, ℕ, ◌≤◌, Bool, true, List, [], ◌∷◌, ◌++◌, length, Option, Some, None, Result, Ok, Err}
+use Rattle.std.specs.Prelude.{◌≡◌, ◌⊎◌, ℕ, ◌≤◌, Bool, true, List, [], ◌∷◌, ◌++◌, length, Option, Some, None, Result, Ok}
+use Rattle.std.specs.Prelude.{Err}
 use Rattle.pegread.specs.Pattern.{Rule}
 use Rattle.pegread.specs.PegViews.{rules_of}
 use Rattle.gramcheck.specs.Grammar.{Grammar}
@@ -25,16 +26,19 @@ use Rattle.desk.specs.Turns.{IsTurn}
 -- What is known of node n at p before its cell is looked up: it is what it gives, whatever the cells.
 module _ (rules : List Rule) (start : ℕ) (nodes : List Shape) (bodies x : List ℕ) (more : Bool) (n p : ℕ) where
   abbrev pub IsSight : Sight → Type 0
-  IsSight (Known turn) = (cells : List Entry) → AreCells rules start nodes bodies x more cells → IsTurn rules start nodes bodies x more cells n p turn
+  IsSight (Known turn) = (cells : List Entry) → AreCells rules start nodes bodies x more cells
+      → IsTurn rules start nodes bodies x more cells n p turn
   IsSight Literal = Unit {0}
   IsSight Operands = Unit {0}
 
--- What is seen of node n at p: what its cell holds, which a node without operands gets where it has none; or that it has none; or that
--- its own comparison reaches the last byte of a window behind which there is more.
-module _ (rules : List Rule) (start : ℕ) (nodes : List Shape) (bodies x : List ℕ) (more : Bool) (old new : List Entry) (n p : ℕ) where
+-- What is seen of node n at p: what its cell holds, which a node without operands gets where it has none; or that it
+-- has none; or that its own comparison reaches the last byte of a window behind which there is more.
+module _ (rules : List Rule) (start : ℕ) (nodes : List Shape) (bodies x : List ℕ) (more : Bool) (old new : List Entry)
+    (n p : ℕ) where
   abbrev pub IsSeen : Result (Option Found) Halt → Type 0
   IsSeen (Ok (Some f)) =
-      (found_at new n p ≡ Some f) × ((new ≡ old) ⊎ ((found_at old n p ≡ None) × (new ≡ old ++ record { node = n; place = p; found = f } ∷ []) ×
+      (found_at new n p ≡ Some f) × ((new ≡ old) ⊎ ((found_at old n p ≡ None)
+      × (new ≡ old ++ record { node = n; place = p; found = f } ∷ []) ×
       IsTurn rules start nodes bodies x more old n p (Answer f)))
   IsSeen (Ok None) = (new ≡ old) × (found_at old n p ≡ None)
   IsSeen (Err Memory) = Unit {0}
@@ -59,6 +63,7 @@ module _ (g : Grammar) (x : List ℕ) (more : Bool) (below : List Frame) (old ne
     pub less : left g x more (counted new (come_to top i q ∷ below)) ≤ left g x more (counted old (top ∷ below))
 
   abbrev pub IsOn : Result Turn Halt → Type 0
-  IsOn (Ok turn) = (i q : ℕ) × HasCome i q × IsTurn (rules_of g.rules) g.start (shapes_of g.nodes) g.bodies x more new top.node top.place turn
+  IsOn (Ok turn) = (i q : ℕ) × HasCome i q × IsTurn (rules_of g.rules) g.start (shapes_of g.nodes) g.bodies x more new
+      top.node top.place turn
   IsOn (Err Memory) = Unit {0}
   IsOn (Err Short) = (more ≡ true) × ((o : Outcome) × StartGives g x o (length x))

@@ -1,5 +1,6 @@
 -- What contracts see of a desk.
-use Rattle.std.specs.Prelude.{◌≡◌, ◌⊎◌, ℕ, ◌+◌, ◌-◌, ◌*◌, ◌<◌, ◌≤◌, Bool, true, List, [], ◌∷◌, length, Option, Some, None}
+use Rattle.std.specs.Prelude.{◌≡◌, ◌⊎◌, ℕ, ◌+◌, ◌-◌, ◌*◌, ◌<◌, ◌≤◌, Bool, true, List, [], ◌∷◌, length, Option, Some}
+use Rattle.std.specs.Prelude.{None}
 use Rattle.pegread.specs.PegViews.{rules_of}
 use Rattle.gramcheck.specs.Grammar.{Grammar}
 use Rattle.gramcheck.specs.Nodes.{shapes_of}
@@ -81,9 +82,11 @@ module _ (g : Grammar) (x : List ℕ) (more : Bool) where
   -- The cells are exactly the pairs that are visited, each with its outcome, and as many as were begun.
   pub record IsDone (d : View) : Type 0 where
     pub frames : d.frames ≡ []
-    pub visited : (n p : ℕ) (f : Found) → found_at d.cells n p ≡ Some f → Visits (rules_of g.rules) (shapes_of g.nodes) g.bodies x g.start n p
+    pub visited : (n p : ℕ) (f : Found) → found_at d.cells n p ≡ Some f → Visits (rules_of g.rules) (shapes_of g.nodes)
+        g.bodies x g.start n p
     pub whole : (n p : ℕ) → Visits (rules_of g.rules) (shapes_of g.nodes) g.bodies x g.start n p → HasCell d.cells n p
-    pub found : (n p : ℕ) (f : Found) → found_at d.cells n p ≡ Some f → IsFound (rules_of g.rules) g.start (shapes_of g.nodes) g.bodies x more n p f
+    pub found : (n p : ℕ) (f : Found) → found_at d.cells n p ≡ Some f
+        → IsFound (rules_of g.rules) g.start (shapes_of g.nodes) g.bodies x more n p f
     pub different : AreDifferent d.cells
     pub count : d.begun ≡ length d.cells
 
@@ -112,7 +115,8 @@ module _ (g : Grammar) (x : List ℕ) (more : Bool) where
 
   -- what a step does
   abbrev pub IsStep : View → View → Option UnitAnswer → Type 0
-  IsStep old new None = Fits new × ((f : Frame) × (fs : List Frame) × (new.frames ≡ f ∷ fs)) × (Pushes old new ⊎ ((f : Found) × Drops old new f))
+  IsStep old new None = Fits new × ((f : Frame) × (fs : List Frame) × (new.frames ≡ f ∷ fs))
+      × (Pushes old new ⊎ ((f : Found) × Drops old new f))
   IsStep old new (Some (Took end begun)) = Ends old new (found.Took end) × (begun ≡ new.begun)
   IsStep old new (Some (Failed begun)) = Ends old new found.Failed × (begun ≡ new.begun)
   IsStep old new (Some Need) = (new ≡ old) × Reaches old
@@ -121,10 +125,11 @@ module _ (g : Grammar) (x : List ℕ) (more : Bool) where
   abbrev pub left : View → ℕ
   left d = 2 * (length (shapes_of g.nodes) * (length x + 1) + 1 - d.begun) + length d.frames
 
-  -- what a turn of a match does, with these cells and these frames below the last one: it goes on with this frame; or all is
-  -- evaluated; or the start rule looks at the last byte of a window behind which there is more
+  -- what a turn of a match does, with these cells and these frames below the last one: it goes on with this frame; or
+  -- all is evaluated; or the start rule looks at the last byte of a window behind which there is more
   abbrev pub IsNext : View → List Entry → List Frame → Next → Type 0
-  IsNext old cells below (next.More top) = Fits (counted cells (top ∷ below)) × (left (counted cells (top ∷ below)) < left old)
+  IsNext old cells below (next.More top) = Fits (counted cells (top ∷ below))
+      × (left (counted cells (top ∷ below)) < left old)
   IsNext old cells below (next.Ended f) = IsDone (counted cells below) × Answers f
   IsNext old cells below next.Need = (more ≡ true) × ((o : Outcome) × StartGives g x o (length x))
 
@@ -133,7 +138,8 @@ module _ (g : Grammar) (x : List ℕ) (more : Bool) where
   IsMatched d (Some f) = IsDone d × Answers f
   IsMatched d None = (more ≡ true) × ((o : Outcome) × StartGives g x o (length x))
 
-  -- what a match ends with: all is evaluated; or the start rule looks at the last byte of a window behind which there is more
+  -- what a match ends with: all is evaluated; or the start rule looks at the last byte of a window behind which there
+  -- is more
   abbrev pub IsOutcome : View → UnitAnswer → Type 0
   IsOutcome d (Took end begun) = IsDone d × Answers (found.Took end) × (begun ≡ d.begun)
   IsOutcome d (Failed begun) = IsDone d × Answers found.Failed × (begun ≡ d.begun)

@@ -1,7 +1,9 @@
 -- A success's events in path order, from cells.
-use Rattle.std.specs.Prelude.{◌≡◌, ◌⊎◌, ℕ, ◌+◌, ◌-◌, ◌*◌, ◌^◌, ◌<◌, ◌≤◌, List, [], ◌∷◌, ◌++◌, length, drop, get_or, slice_get, slice_index, Option, Some, None, if◌then◌else◌, ◌==◌, nat_lt}
+use Rattle.std.specs.Prelude.{◌≡◌, ◌⊎◌, ℕ, ◌+◌, ◌-◌, ◌*◌, ◌^◌, ◌<◌, ◌≤◌, List, [], ◌∷◌, ◌++◌, length, drop, get_or}
+use Rattle.std.specs.Prelude.{slice_get, slice_index, Option, Some, None, if◌then◌else◌, ◌==◌, nat_lt}
 use Rattle.pegread.specs.Pattern.{Patterns, Rule}
-use Rattle.gramcheck.specs.Nodes.{Shape, Any, Bytes, Set, Name, Seq, Choice, Star, Plus, Opt, And, Not, Act, Open, Close, SpellAll}
+use Rattle.gramcheck.specs.Nodes.{Shape, Any, Bytes, Set, Name, Seq, Choice, Star, Plus, Opt, And, Not, Act, Open}
+use Rattle.gramcheck.specs.Nodes.{Close, SpellAll}
 use Rattle.gramcheck.specs.Outcome.{Event, Takes, GivesAll}
 use Rattle.pegmatch.specs.KeptEvents.{SpellsSome, StandsFor}
 use Rattle.cells.specs.declared.cell.Found.{Found}
@@ -30,7 +32,8 @@ abbrev pub star_way : ℕ → ℕ → ℕ → ℕ → ℕ → Option Found → W
 star_way s m p i q v = if i == 0 then into m p 1 v else TurnTo s q
 
 abbrev pub seq_way : List Entry → List ℕ → ℕ → ℕ → Way
-seq_way cells ms i q = if nat_lt i (length ms) then into (get_or ms i 0) q (i + 1) (found_at cells (get_or ms i 0) q) else Leave
+seq_way cells ms i q = if nat_lt i (length ms) then into (get_or ms i 0) q (i + 1) (found_at cells (get_or ms i 0) q)
+    else Leave
 
 abbrev pub to_first : Way → ℕ → ℕ → Option Found → Way
 to_first rest m p None = rest
@@ -108,7 +111,8 @@ module _ (rules : List Rule) (nodes : List Shape) (bodies ranks x : List ℕ) (c
   LeftBy (Seq ms) n p i q es = HaveTaken cells ms p i q × AllTaking (drop i ms) q es
   LeftBy (Choice ms) n p i q es = Taking n p es
   LeftBy (Star m) n p i q es = ((i ≡ 0) × Taking n p es) ⊎ ((i ≡ 1) × Asks rules nodes bodies x n p n q × Taking n q es)
-  LeftBy (Plus m s) n p i q es = ((i ≡ 0) × Taking n p es) ⊎ ((i ≡ 1) × Asks rules nodes bodies x n p s q × Taking s q es)
+  LeftBy (Plus m s) n p i q es = ((i ≡ 0) × Taking n p es)
+      ⊎ ((i ≡ 1) × Asks rules nodes bodies x n p s q × Taking s q es)
   LeftBy (Opt m) n p i q es = Taking n p es
   LeftBy (And m) n p i q es = Taking n p es
   LeftBy (Not m) n p i q es = Taking n p es
@@ -136,8 +140,10 @@ module _ (rules : List Rule) (nodes : List Shape) (bodies ranks x : List ℕ) (c
   IsWay f es (Emit mark) = (e : Event) × StandsFor nodes mark e × (es ≡ e ∷ [])
   IsWay f es (TurnTo m q) = IsLeft (beginning m q) es × (pair_height m q < pair_height f.node f.place)
   IsWay f es (GoInto m q i r) =
-      (now later : List Event) × (es ≡ now ++ later) × IsLeft (beginning m q) now × IsLeft (record { node = f.node; place = f.place; next = i; end = r }) later ×
-      (pair_height m q < pair_height f.node f.place) × ((shape : Shape) × (slice_get nodes f.node ≡ Some shape) × (i ≡ f.next + 1) × (i ≤ arity shape))
+      (now later : List Event) × (es ≡ now ++ later) × IsLeft (beginning m q) now
+      × IsLeft (record { node = f.node; place = f.place; next = i; end = r }) later ×
+      (pair_height m q < pair_height f.node f.place)
+      × ((shape : Shape) × (slice_get nodes f.node ≡ Some shape) × (i ≡ f.next + 1) × (i ≤ arity shape))
 
   abbrev pub frame_height : Frame → ℕ
   frame_height f = pair_height f.node f.place
@@ -150,7 +156,8 @@ module _ (rules : List Rule) (nodes : List Shape) (bodies ranks x : List ℕ) (c
   -- frames, the last first, each lower than those below it, and the events still to come
   pub data Walks : List Frame → List Event → Type 0 where
     no_walk : Walks [] []
-    walk : {f : Frame} {fs : List Frame} {es gs : List Event} → IsLeft f es → AreHigher (frame_height f) fs → Walks fs gs → Walks (f ∷ fs) (es ++ gs)
+    walk : {f : Frame} {fs : List Frame} {es gs : List Event} → IsLeft f es → AreHigher (frame_height f) fs
+        → Walks fs gs → Walks (f ∷ fs) (es ++ gs)
 
   abbrev pub arity_of : Option Shape → ℕ
   arity_of None = 0
@@ -169,7 +176,8 @@ module _ (rules : List Rule) (nodes : List Shape) (bodies ranks x : List ℕ) (c
   weight [] = 0
   weight (f ∷ fs) = todo f * arities nodes ^ frame_height f + weight fs
 
-  -- frames of which the last one begins, gone on with at once or not at all: the event that is told, and those still to come
+  -- frames of which the last one begins, gone on with at once or not at all: the event that is told, and those still to
+  -- come
   pub record Begins (fs : List Frame) (mark : Option Kept) (all : List Event) (new : List Frame) : Type 0 where
     pub later : List Event
     pub walks : Walks new later

@@ -2,7 +2,8 @@
 use Rattle.std.specs.Prelude.{◌≡◌, ℕ, ◌+◌, ◌≤◌, Bool, true, List, ◌∷◌, length, Option, Some, None, Result, Ok, Err}
 use Rattle.pegread.specs.PegViews.{rules_of}
 use Rattle.gramcheck.specs.Grammar.{Grammar}
-use Rattle.gramcheck.specs.Nodes.{Shape, Any, Bytes, Set, Name, Seq, Choice, Star, Plus, Opt, And, Not, Act, Open, Close, shapes_of}
+use Rattle.gramcheck.specs.Nodes.{Shape, Any, Bytes, Set, Name, Seq, Choice, Star, Plus, Opt, And, Not, Act, Open}
+use Rattle.gramcheck.specs.Nodes.{Close, shapes_of}
 use Rattle.gramcheck.specs.Outcome.{Outcome}
 use Rattle.pegmatch.specs.Answers.{StartGives}
 use Rattle.cells.specs.declared.cell.Found.{Found}
@@ -46,7 +47,8 @@ some_of (Err h) = Err h
 -- frames above the last one, `top`: each has taken a byte and waits for the next, which begins where it ended
 pub data Tower (top : Frame) (below : List Frame) : Frame → List Frame → Type 0 where
   ground : Tower top below top below
-  floor : {f : Frame} {fs : List Frame} {q : ℕ} → Tower top below f fs → q ≡ f.place + 1 → Tower top below (beginning f.node q) (come_to f 1 q ∷ fs)
+  floor : {f : Frame} {fs : List Frame} {q : ℕ} → Tower top below f fs → q ≡ f.place + 1
+      → Tower top below (beginning f.node q) (come_to f 1 q ∷ fs)
 
 -- why a match stops there
 abbrev pub IsHalted : Grammar → List ℕ → Bool → Halt → Type 0

@@ -1,7 +1,8 @@
 -- What a desk holds on its way: the cells of what was evaluated, and the frames of what is under way.
 use Rattle.std.specs.Prelude.{◌≡◌, ◌⊎◌, ℕ, zero, suc, ◌<◌, Bool, true, List, [], ◌∷◌, length, slice_get, Some, None}
 use Rattle.pegread.specs.Pattern.{Rule}
-use Rattle.gramcheck.specs.Nodes.{Shape, Any, Bytes, Set, Name, Seq, Choice, Star, Plus, Opt, And, Not, Act, Open, Close}
+use Rattle.gramcheck.specs.Nodes.{Shape, Any, Bytes, Set, Name, Seq, Choice, Star, Plus, Opt, And, Not, Act, Open}
+use Rattle.gramcheck.specs.Nodes.{Close}
 use Rattle.gramcheck.specs.Outcome.{Event}
 use Rattle.cells.specs.declared.cell.Found.{Found}
 use Rattle.cells.specs.declared.cell.Found.TheVariants.{Failed, Took}
@@ -25,12 +26,14 @@ module _ (cells : List Entry) where
   -- the first i members have cells, and take what is between p and q
   pub data HaveTaken : List ℕ → ℕ → ℕ → ℕ → Type 0 where
     none_taken : {ms : List ℕ} {p : ℕ} → HaveTaken ms p zero p
-    one_taken : {m i p r q : ℕ} {ms : List ℕ} → found_at cells m p ≡ Some (Took r) → HaveTaken ms r i q → HaveTaken (m ∷ ms) p (suc i) q
+    one_taken : {m i p r q : ℕ} {ms : List ℕ} → found_at cells m p ≡ Some (Took r) → HaveTaken ms r i q
+        → HaveTaken (m ∷ ms) p (suc i) q
 
   -- the first i alternatives have cells, and fail
   pub data HaveFailed (p : ℕ) : List ℕ → ℕ → Type 0 where
     none_failed : {ms : List ℕ} → HaveFailed p ms zero
-    one_failed : {m i : ℕ} {ms : List ℕ} → found_at cells m p ≡ Some Failed → HaveFailed p ms i → HaveFailed p (m ∷ ms) (suc i)
+    one_failed : {m i : ℕ} {ms : List ℕ} → found_at cells m p ≡ Some Failed → HaveFailed p ms i
+        → HaveFailed p (m ∷ ms) (suc i)
 
   -- how far the evaluation of a node of this shape at p has come
   abbrev pub HasCome : Shape → ℕ → ℕ → ℕ → Type 0
@@ -58,11 +61,13 @@ HasNoFrame (f ∷ fs) n p = (f.node ≡ n → f.place ≡ p → ⊥) × HasNoFra
 abbrev pub AreUnderWay : List Rule → ℕ → List Shape → List ℕ → List ℕ → List Entry → List Frame → Type 0
 AreUnderWay rules start nodes bodies x cells [] = Unit {0}
 AreUnderWay rules start nodes bodies x cells (f ∷ fs) =
-    Visits rules nodes bodies x start f.node f.place × (found_at cells f.node f.place ≡ None) × HasNoFrame fs f.node f.place ×
+    Visits rules nodes bodies x start f.node f.place × (found_at cells f.node f.place ≡ None)
+    × HasNoFrame fs f.node f.place ×
     AreUnderWay rules start nodes bodies x cells fs
 
 module _ (rules : List Rule) (start : ℕ) (nodes : List Shape) (bodies x : List ℕ) (more : Bool) where
-  -- what was found is the outcome of the node, which did not look at the last byte of a window that is not the whole rest
+  -- what was found is the outcome of the node, which did not look at the last byte of a window that is not the whole
+  -- rest
   pub record IsFound (n p : ℕ) (f : Found) : Type 0 where
     pub events : List Event
     pub looked : ℕ
@@ -90,4 +95,5 @@ module _ (rules : List Rule) (start : ℕ) (nodes : List Shape) (bodies x : List
     pub record AreCells : Type 0 where
       pub visited : (n p : ℕ) (f : Found) → found_at cells n p ≡ Some f → Visits rules nodes bodies x start n p
       pub found : (n p : ℕ) (f : Found) → found_at cells n p ≡ Some f → IsFound n p f
-      pub closed : (n p m q : ℕ) (f : Found) → found_at cells n p ≡ Some f → Asks rules nodes bodies x n p m q → HasCell cells m q
+      pub closed : (n p m q : ℕ) (f : Found) → found_at cells n p ≡ Some f → Asks rules nodes bodies x n p m q
+          → HasCell cells m q

@@ -30,7 +30,8 @@ pub(crate) fn advance(
 ) -> Result<(), Memory>
     requires { (top : Frame) × (below : List Frame) × (frames.old ≡ top ∷ below) }
     ensures { (top : Frame) (below : List Frame) → frames.old ≡ top ∷ below →
-        OnOk result (frames.new ≡ begun_at node place ∷ (record { node = top.node; place = top.place; next = next; end = end } ∷ below)) }
+        OnOk result (frames.new ≡ begun_at node place
+        ∷ (record { node = top.node; place = top.place; next = next; end = end } ∷ below)) }
 {
     frames.come_on(next, end);
     frames.push(beginning(node, place))

@@ -49,7 +49,8 @@ fn sight_of(peg: &SoundPeg, window: &[u8], more: bool, node: usize, place: usize
     requires spells { SpellsSome (rules_of peg.now.rules) (shapes_of peg.now.nodes) node }
     requires place { place ≤ length window.now }
     requires some { more ≡ true → 0 < length window.now }
-    ensures { IsSight (rules_of peg.now.rules) peg.now.start (shapes_of peg.now.nodes) peg.now.bodies window.now more node place result }
+    ensures { IsSight (rules_of peg.now.rules) peg.now.start (shapes_of peg.now.nodes) peg.now.bodies window.now more
+        node place result }
 {
     match peg.node(node) {
         Node::Any => Sight::Known(leaf_turn(match_any(window, place), window, more)),
@@ -74,8 +75,10 @@ fn literal_of(peg: &SoundPeg, window: &[u8], more: bool, node: usize, place: usi
     requires spells { SpellsSome (rules_of peg.now.rules) (shapes_of peg.now.nodes) node }
     requires place { place ≤ length window.now }
     requires some { more ≡ true → 0 < length window.now }
-    ensures { IfSome result (λ turn. (cells : List Entry) → AreCells (rules_of peg.now.rules) peg.now.start (shapes_of peg.now.nodes) peg.now.bodies window.now more cells →
-        IsTurn (rules_of peg.now.rules) peg.now.start (shapes_of peg.now.nodes) peg.now.bodies window.now more cells node place turn) }
+    ensures { IfSome result (λ turn. (cells : List Entry) → AreCells (rules_of peg.now.rules) peg.now.start
+        (shapes_of peg.now.nodes) peg.now.bodies window.now more cells →
+        IsTurn (rules_of peg.now.rules) peg.now.start (shapes_of peg.now.nodes) peg.now.bodies window.now more cells
+        node place turn) }
 {
     match peg.node(node) {
         Node::Bytes(bytes) => Some(leaf_turn(match_bytes(bytes, window, place), window, more)),
@@ -133,8 +136,10 @@ fn see_literal(
     requires spells { SpellsSome (rules_of peg.now.rules) (shapes_of peg.now.nodes) node }
     requires place { place ≤ length window.now }
     requires some { more ≡ true → 0 < length window.now }
-    requires right { AreCells (rules_of peg.now.rules) peg.now.start (shapes_of peg.now.nodes) peg.now.bodies window.now more cells.old }
-    ensures { IsSeen (rules_of peg.now.rules) peg.now.start (shapes_of peg.now.nodes) peg.now.bodies window.now more cells.old cells.new node place result }
+    requires right { AreCells (rules_of peg.now.rules) peg.now.start (shapes_of peg.now.nodes) peg.now.bodies window.now
+        more cells.old }
+    ensures { IsSeen (rules_of peg.now.rules) peg.now.start (shapes_of peg.now.nodes) peg.now.bodies window.now more
+        cells.old cells.new node place result }
 {
     if let Some(found) = cells.get(node, place) {
         return Ok(Some(found));
@@ -163,8 +168,10 @@ fn see_literal_apart(
     requires spells { SpellsSome (rules_of peg.now.rules) (shapes_of peg.now.nodes) node }
     requires place { place ≤ length window.now }
     requires some { more ≡ true → 0 < length window.now }
-    requires right { AreCells (rules_of peg.now.rules) peg.now.start (shapes_of peg.now.nodes) peg.now.bodies window.now more cells.old }
-    ensures { IsSeen (rules_of peg.now.rules) peg.now.start (shapes_of peg.now.nodes) peg.now.bodies window.now more cells.old cells.new node place (seen_as result) }
+    requires right { AreCells (rules_of peg.now.rules) peg.now.start (shapes_of peg.now.nodes) peg.now.bodies window.now
+        more cells.old }
+    ensures { IsSeen (rules_of peg.now.rules) peg.now.start (shapes_of peg.now.nodes) peg.now.bodies window.now more
+        cells.old cells.new node place (seen_as result) }
 {
     flat(see_literal(peg, window, more, cells, node, place))
 }
@@ -184,14 +191,15 @@ fn held_or_short(cells: &Cells, node: usize, place: usize) -> Result<Option<Foun
 // The same, apart from the loops that come to it seldom.
 #[inline(never)]
 fn held_or_short_apart(cells: &Cells, node: usize, place: usize) -> Seen
-    ensures held { IfOk (seen_as result) (λ seen. (f : Found) × (seen ≡ Some f) × (found_at cells.now node place ≡ Some f)) }
+    ensures held { IfOk (seen_as result) (λ seen. (f : Found) × (seen ≡ Some f)
+        × (found_at cells.now node place ≡ Some f)) }
     ensures short { IfErr (seen_as result) (λ halt. (halt ≡ Halt.Short) × (found_at cells.now node place ≡ None)) }
 {
     flat(held_or_short(cells, node, place))
 }
 
-// The cell of a node at a place; one without operands gets its cell where it has none. The last cell is tried first: it is
-// that of the node which was asked for last.
+// The cell of a node at a place; one without operands gets its cell where it has none. The last cell is tried first: it
+// is that of the node which was asked for last.
 #[inline(always)]
 fn see(
     peg: &SoundPeg,
@@ -205,8 +213,10 @@ fn see(
     requires spells { SpellsSome (rules_of peg.now.rules) (shapes_of peg.now.nodes) node }
     requires place { place ≤ length window.now }
     requires some { more ≡ true → 0 < length window.now }
-    requires right { AreCells (rules_of peg.now.rules) peg.now.start (shapes_of peg.now.nodes) peg.now.bodies window.now more cells.old }
-    ensures { IsSeen (rules_of peg.now.rules) peg.now.start (shapes_of peg.now.nodes) peg.now.bodies window.now more cells.old cells.new node place result }
+    requires right { AreCells (rules_of peg.now.rules) peg.now.start (shapes_of peg.now.nodes) peg.now.bodies window.now
+        more cells.old }
+    ensures { IsSeen (rules_of peg.now.rules) peg.now.start (shapes_of peg.now.nodes) peg.now.bodies window.now more
+        cells.old cells.new node place result }
 {
     if let Some(found) = cells.last(node, place) {
         return Ok(Some(found));
@@ -296,8 +306,8 @@ fn first_on(
     Ok(Turn::Answer(Found::Failed))
 }
 
-/// What the evaluation of a frame's node at its place does next. A node without operands that it asks for gets its cell at
-/// once.
+/// What the evaluation of a frame's node at its place does next. A node without operands that it asks for gets its cell
+/// at once.
 #[inline(always)]
 pub(crate) fn turn_on(
     peg: &SoundPeg,

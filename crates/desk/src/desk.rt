@@ -1,5 +1,6 @@
 //! The matcher that evaluates each node at each place at most once.
-ghost use Rattle.std.specs.Prelude.{◌≡◌, ℕ, ◌+◌, ◌*◌, ◌<◌, ◌≤◌, Bool, List, [], ◌∷◌, length, true, slice_get, Some, IfOk, OnOk, OnErr, Err};
+ghost use Rattle.std.specs.Prelude.{◌≡◌, ℕ, ◌+◌, ◌*◌, ◌<◌, ◌≤◌, Bool, List, [], ◌∷◌, length, true, slice_get, Some};
+ghost use Rattle.std.specs.Prelude.{IfOk, OnOk, OnErr, Err};
 ghost use Rattle.gramcheck.specs.Grammar.{Grammar, IsSoundGrammar};
 ghost use Rattle.gramcheck.specs.Nodes.{shapes_of};
 ghost use Rattle.gramcheck.specs.Outcome.{Event, Outcome};
@@ -7,7 +8,8 @@ ghost use Rattle.pegmatch.specs.Text.{text_of};
 ghost use Rattle.pegmatch.specs.declared.matcher.ReplayFault.{ReplayFault};
 ghost use Rattle.pegmatch.specs.Answers.{StartGives, IsAnswer, HoldsSuccess, Replays};
 ghost use Rattle.desk.specs.declared.frame.Frame.{Frame};
-ghost use Rattle.desk.specs.Desk.{empty, beginning as begun_at, Fits, HasFrames, IsStep, IsOutcome, Holds, told, unit_of, unit_of_match};
+ghost use Rattle.desk.specs.Desk.{empty, beginning as begun_at, Fits, HasFrames, IsStep, IsOutcome, Holds, told};
+ghost use Rattle.desk.specs.Desk.{unit_of, unit_of_match};
 
 use crate::advance::{advance, beginning};
 use crate::frame::Frames;
@@ -80,8 +82,14 @@ fn step_on(
 ) -> Result<Option<Unit>, Memory>
     requires some { more ≡ true → 0 < length window.now }
     requires frame { (top : Frame) × (below : List Frame) × (frames.old ≡ top ∷ below) }
-    requires fits { Fits peg.now window.now more (record { cells = cells.old; frames = frames.old; begun = begun.old }) }
-    ensures { IfOk result (IsStep peg.now window.now more (record { cells = cells.old; frames = frames.old; begun = begun.old }) (record { cells = cells.new; frames = frames.new; begun = begun.new })) }
+    requires fits { Fits peg.now window.now more (record {
+      cells = cells.old;
+      frames = frames.old;
+      begun = begun.old;
+    }) }
+    ensures { IfOk result (IsStep peg.now window.now more
+        (record { cells = cells.old; frames = frames.old; begun = begun.old })
+        (record { cells = cells.new; frames = frames.new; begun = begun.new })) }
 {
     let _start = peg.start();
     let top = frames.top();
@@ -202,7 +210,8 @@ impl Matcher for Desk {
         requires some { more ≡ true → 0 < length window.now }
         ensures answer { IfOk result (IsAnswer peg.now window.now more (Holds self.new peg.now window.now)) }
         ensures outcome { IfOk result (IsOutcome peg.now window.now more self.new) }
-        ensures bounded { IfOk result (λ unit. (o : Outcome) (k : ℕ) → StartGives peg.now window.now o k → told unit ≤ length peg.now.nodes * (k + 1)) }
+        ensures bounded { IfOk result (λ unit. (o : Outcome) (k : ℕ) → StartGives peg.now window.now o k
+            → told unit ≤ length peg.now.nodes * (k + 1)) }
         ensures empty { OnErr result (self.new ≡ empty) }
     {
         let root = peg.body_node(peg.start());
@@ -228,7 +237,8 @@ impl Matcher for Desk {
     ) -> Result<(), ReplayFault>
         requires { HoldsSuccess peg.now window.now (Holds self.old peg.now window.now) }
         ensures text { (events : List Event) → Holds self.old peg.now window.now events →
-            Replays (W.contents out.old) (W.contents out.new) (W.failed out.old) (W.failed out.new) (text_of raw window.now events) result }
+            Replays (W.contents out.old) (W.contents out.new) (W.failed out.old) (W.failed out.new)
+            (text_of raw window.now events) result }
         ensures empty { result ≡ Err ReplayFault.Memory → self.new ≡ empty }
     {
         let replayed = replay_cells(peg, window, raw, &self.cells, &mut self.track, out);

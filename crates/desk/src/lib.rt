@@ -1,4 +1,5 @@
-//! The packrat matcher: it evaluates each node at each place at most once, with frames of its own in place of recursion.
+//! The packrat matcher: it evaluates each node at each place at most once, with frames of its own in place of
+//! recursion.
 #![tactic(auto)]
 
 mod advance;

@@ -49,8 +49,10 @@ fn try_byte(peg: &SoundPeg, window: &[u8], more: bool, node: usize, place: usize
     requires sound { IsSoundGrammar peg.now }
     requires spells { SpellsSome (rules_of peg.now.rules) (shapes_of peg.now.nodes) node }
     requires byte { (shape : Shape) → slice_get (shapes_of peg.now.nodes) node ≡ Some shape → TakesByte shape }
-    ensures { (cells : List Entry) → AreCells (rules_of peg.now.rules) peg.now.start (shapes_of peg.now.nodes) peg.now.bodies window.now more cells →
-        IsTurn (rules_of peg.now.rules) peg.now.start (shapes_of peg.now.nodes) peg.now.bodies window.now more cells node place (leaf_of result) }
+    ensures { (cells : List Entry) → AreCells (rules_of peg.now.rules) peg.now.start (shapes_of
+        peg.now.nodes) peg.now.bodies window.now more cells →
+        IsTurn (rules_of peg.now.rules) peg.now.start (shapes_of peg.now.nodes) peg.now.bodies window.now more cells
+        node place (leaf_of result) }
 {
     match peg.node(node) {
         Node::Any => enough(match_any(window, place), window, more),
@@ -72,8 +74,10 @@ fn see_byte(
     requires sound { IsSoundGrammar peg.now }
     requires spells { SpellsSome (rules_of peg.now.rules) (shapes_of peg.now.nodes) node }
     requires byte { (shape : Shape) → slice_get (shapes_of peg.now.nodes) node ≡ Some shape → TakesByte shape }
-    requires right { AreCells (rules_of peg.now.rules) peg.now.start (shapes_of peg.now.nodes) peg.now.bodies window.now more cells.old }
-    ensures { IsSeen (rules_of peg.now.rules) peg.now.start (shapes_of peg.now.nodes) peg.now.bodies window.now more cells.old cells.new node place (some_of result) }
+    requires right { AreCells (rules_of peg.now.rules) peg.now.start (shapes_of peg.now.nodes) peg.now.bodies window.now
+        more cells.old }
+    ensures { IsSeen (rules_of peg.now.rules) peg.now.start (shapes_of peg.now.nodes) peg.now.bodies window.now more
+        cells.old cells.new node place (some_of result) }
 {
     match try_byte(peg, window, more, node, place) {
         Some(found) => match cells.get_or_put(node, place, found) {

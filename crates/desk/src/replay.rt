@@ -28,10 +28,14 @@ fn write_walk<W: Sink>(
     track: &mut Track,
     out: &mut W,
 ) -> Result<(), WriteFault>
-    requires cells { (more : Bool) × AreCells (rules_of peg.now.rules) peg.now.start (shapes_of peg.now.nodes) peg.now.bodies window.now more cells.now }
-    requires walks { (all : List Event) × (Walks (rules_of peg.now.rules) (shapes_of peg.now.nodes) peg.now.bodies peg.now.ranks window.now cells.now track.old.frames all × Rise 0 (length window.now) all) }
+    requires cells { (more : Bool) × AreCells (rules_of peg.now.rules) peg.now.start (shapes_of peg.now.nodes)
+        peg.now.bodies window.now more cells.now }
+    requires walks { (all : List Event) × (Walks (rules_of peg.now.rules) (shapes_of peg.now.nodes) peg.now.bodies
+        peg.now.ranks window.now cells.now track.old.frames all × Rise 0 (length window.now) all) }
     requires room { length cells.now ≤ track.old.room }
-    ensures bytes { (all : List Event) → Walks (rules_of peg.now.rules) (shapes_of peg.now.nodes) peg.now.bodies peg.now.ranks window.now cells.now track.old.frames all → Rise 0 (length window.now) all →
+    ensures bytes { (all : List Event) → Walks (rules_of peg.now.rules) (shapes_of
+        peg.now.nodes) peg.now.bodies peg.now.ranks window.now cells.now track.old.frames all
+        → Rise 0 (length window.now) all →
         Writes (W.contents out.old) (W.contents out.new) (text_of raw window.now all) result }
     ensures flag { Flags (W.failed out.old) (W.failed out.new) result }
 {
@@ -64,7 +68,8 @@ pub(crate) fn replay_cells<W: Sink>(
 ) -> Result<(), ReplayFault>
     requires { (d : View) × ((events : List Event) × ((d.cells ≡ cells.now) × Holds d peg.now window.now events)) }
     ensures { (d : View) (events : List Event) → d.cells ≡ cells.now → Holds d peg.now window.now events →
-        Replays (W.contents out.old) (W.contents out.new) (W.failed out.old) (W.failed out.new) (text_of raw window.now events) result }
+        Replays (W.contents out.old) (W.contents out.new) (W.failed out.old) (W.failed out.new)
+        (text_of raw window.now events) result }
 {
     let root = peg.body_node(peg.start());
     if track.reserve(cells.len()).is_err() {

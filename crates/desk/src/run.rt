@@ -66,8 +66,8 @@ fn go_on(
     }
 }
 
-/// Matches from the start rule's body on until all is evaluated, and says what the start rule gives; none where the window
-/// is too short.
+/// Matches from the start rule's body on until all is evaluated, and says what the start rule gives; none where the
+/// window is too short.
 pub(crate) fn match_on(
     peg: &SoundPeg,
     window: &[u8],

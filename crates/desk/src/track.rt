@@ -75,7 +75,8 @@ impl Track {
     /// The last frame comes further.
     pub(crate) fn come_on(&mut self, next: usize, end: usize)
         requires { (top : Frame) × (below : List Frame) × (self.old.frames ≡ top ∷ below) }
-        ensures frames { (top : Frame) (below : List Frame) → self.old.frames ≡ top ∷ below → self.new.frames ≡ come_to top next end ∷ below }
+        ensures frames { (top : Frame) (below : List Frame) → self.old.frames ≡ top ∷ below
+            → self.new.frames ≡ come_to top next end ∷ below }
         ensures room { self.new.room ≡ self.old.room }
     {
         let last = self.frames.len() - 1;

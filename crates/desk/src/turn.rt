@@ -6,7 +6,8 @@ ghost use Rattle.gramcheck.specs.Nodes.{shapes_of};
 ghost use Rattle.pegmatch.specs.KeptEvents.{SpellsSome};
 ghost use Rattle.cells.specs.Entries.{found_at};
 ghost use Rattle.desk.specs.State.{HaveTaken, HaveFailed, IsUnderWay, AreCells};
-ghost use Rattle.desk.specs.Turns.{same_turn, again_turn, opt_turn, and_turn, not_turn, star_turn, plus_turn, IsLeafTurn, IsWalk, IsSearch, IsTurn};
+ghost use Rattle.desk.specs.Turns.{same_turn, again_turn, opt_turn, and_turn, not_turn, star_turn, plus_turn};
+ghost use Rattle.desk.specs.Turns.{IsLeafTurn, IsWalk, IsSearch, IsTurn};
 
 use crate::frame::Frame;
 use cells::{Cells, Found};
@@ -134,7 +135,8 @@ pub(crate) fn star(
     }
 }
 
-/// What a repetition of at least once makes of its operand, and of the node that goes on with it where the operand ended.
+/// What a repetition of at least once makes of its operand, and of the node that goes on with it where the operand
+/// ended.
 #[inline(always)]
 pub(crate) fn plus(
     cells: &Cells,
@@ -210,9 +212,12 @@ pub(crate) fn next_turn(
     requires spells { SpellsSome (rules_of peg.now.rules) (shapes_of peg.now.nodes) frame.node }
     requires place { frame.place ≤ length window.now }
     requires some { more ≡ true → 0 < length window.now }
-    requires right { AreCells (rules_of peg.now.rules) peg.now.start (shapes_of peg.now.nodes) peg.now.bodies window.now more cells.now }
-    requires come { IsUnderWay (rules_of peg.now.rules) peg.now.start (shapes_of peg.now.nodes) peg.now.bodies window.now more cells.now frame.node frame.place frame.next frame.end }
-    ensures { IsTurn (rules_of peg.now.rules) peg.now.start (shapes_of peg.now.nodes) peg.now.bodies window.now more cells.now frame.node frame.place result }
+    requires right { AreCells (rules_of peg.now.rules) peg.now.start (shapes_of peg.now.nodes) peg.now.bodies window.now
+        more cells.now }
+    requires come { IsUnderWay (rules_of peg.now.rules) peg.now.start (shapes_of peg.now.nodes) peg.now.bodies
+        window.now more cells.now frame.node frame.place frame.next frame.end }
+    ensures { IsTurn (rules_of peg.now.rules) peg.now.start (shapes_of peg.now.nodes) peg.now.bodies window.now more
+        cells.now frame.node frame.place result }
 {
     let place = frame.place;
     let turned = match peg.node(frame.node) {

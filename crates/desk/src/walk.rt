@@ -24,9 +24,12 @@ fn begin_at(peg: &SoundPeg, track: &mut Track, node: usize, place: usize) -> Opt
     requires sound { IsSoundGrammar peg.now }
     requires spells { SpellsSome (rules_of peg.now.rules) (shapes_of peg.now.nodes) node }
     requires room { length track.old.frames < track.old.room }
-    ensures begins { (cells : List Entry) (x : List ℕ) (more : Bool) (all : List Event) → AreCells (rules_of peg.now.rules) peg.now.start (shapes_of peg.now.nodes) peg.now.bodies x more cells →
-        Walks (rules_of peg.now.rules) (shapes_of peg.now.nodes) peg.now.bodies peg.now.ranks x cells (begun_at node place ∷ track.old.frames) all →
-        Begins (rules_of peg.now.rules) (shapes_of peg.now.nodes) peg.now.bodies peg.now.ranks x cells (begun_at node place ∷ track.old.frames) result all track.new.frames }
+    ensures begins { (cells : List Entry) (x : List ℕ) (more : Bool) (all : List Event) → AreCells (rules_of
+        peg.now.rules) peg.now.start (shapes_of peg.now.nodes) peg.now.bodies x more cells →
+        Walks (rules_of peg.now.rules) (shapes_of peg.now.nodes) peg.now.bodies peg.now.ranks x cells
+        (begun_at node place ∷ track.old.frames) all →
+        Begins (rules_of peg.now.rules) (shapes_of peg.now.nodes) peg.now.bodies peg.now.ranks x cells
+        (begun_at node place ∷ track.old.frames) result all track.new.frames }
     ensures room { track.old.room ≤ track.new.room }
 {
     match way_at_once(peg, node, place) {
@@ -42,12 +45,16 @@ fn begin_at(peg: &SoundPeg, track: &mut Track, node: usize, place: usize) -> Opt
 // Goes on with the last frame, and tells an event that comes next.
 #[inline(always)]
 pub(crate) fn go(peg: &SoundPeg, window: &[u8], cells: &Cells, track: &mut Track) -> Option<Kept>
-    requires cells { (more : Bool) × AreCells (rules_of peg.now.rules) peg.now.start (shapes_of peg.now.nodes) peg.now.bodies window.now more cells.now }
+    requires cells { (more : Bool) × AreCells (rules_of peg.now.rules) peg.now.start (shapes_of peg.now.nodes)
+        peg.now.bodies window.now more cells.now }
     requires top { (top : Frame) × (below : List Frame) × (track.old.frames ≡ top ∷ below) }
-    requires walks { (all : List Event) × Walks (rules_of peg.now.rules) (shapes_of peg.now.nodes) peg.now.bodies peg.now.ranks window.now cells.now track.old.frames all }
+    requires walks { (all : List Event) × Walks (rules_of peg.now.rules) (shapes_of peg.now.nodes) peg.now.bodies
+        peg.now.ranks window.now cells.now track.old.frames all }
     requires room { length cells.now ≤ track.old.room }
-    ensures goes { (all : List Event) → Walks (rules_of peg.now.rules) (shapes_of peg.now.nodes) peg.now.bodies peg.now.ranks window.now cells.now track.old.frames all →
-        Goes (rules_of peg.now.rules) (shapes_of peg.now.nodes) peg.now.bodies peg.now.ranks window.now cells.now track.old.frames result all track.new.frames }
+    ensures goes { (all : List Event) → Walks (rules_of peg.now.rules) (shapes_of
+        peg.now.nodes) peg.now.bodies peg.now.ranks window.now cells.now track.old.frames all →
+        Goes (rules_of peg.now.rules) (shapes_of peg.now.nodes) peg.now.bodies peg.now.ranks window.now cells.now
+        track.old.frames result all track.new.frames }
     ensures room { track.old.room ≤ track.new.room }
 {
     let _start = peg.start();

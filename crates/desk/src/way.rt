@@ -28,7 +28,8 @@ pub(crate) enum Way {
         node: usize,
         place: usize,
     },
-    /// The events of this node at this place come first; then it goes on, so many members done, and those before ending there.
+    /// The events of this node at this place come first; then it goes on, so many members done, and those before ending
+    /// there.
     GoInto {
         node: usize,
         place: usize,
@@ -83,7 +84,8 @@ fn behind(place: usize, bytes: usize) -> Option<usize>
 #[inline(always)]
 fn end_at_once(peg: &SoundPeg, node: usize, place: usize) -> Option<usize>
     requires { node < length peg.now.nodes }
-    ensures { IfSome result (λ end. (shape : Shape) × (slice_get (shapes_of peg.now.nodes) node ≡ Some shape) × EndsBy shape place end) }
+    ensures { IfSome result (λ end. (shape : Shape) × (slice_get (shapes_of peg.now.nodes) node ≡ Some shape)
+        × EndsBy shape place end) }
 {
     match peg.node(node) {
         Node::Any => behind(place, 1),
@@ -103,7 +105,8 @@ fn end_at_once(peg: &SoundPeg, node: usize, place: usize) -> Option<usize>
 fn success_of(peg: &SoundPeg, cells: &Cells, node: usize, place: usize) -> Option<Found>
     requires sound { IsSoundGrammar peg.now }
     requires there { node < length peg.now.nodes }
-    ensures { (x : List ℕ) (more : Bool) (end : ℕ) → AreCells (rules_of peg.now.rules) peg.now.start (shapes_of peg.now.nodes) peg.now.bodies x more cells.now →
+    ensures { (x : List ℕ) (more : Bool) (end : ℕ) → AreCells (rules_of peg.now.rules) peg.now.start (shapes_of
+        peg.now.nodes) peg.now.bodies x more cells.now →
         found_at cells.now node place ≡ Some (Found.Took end) → result ≡ Some (Found.Took end) }
 {
     match end_at_once(peg, node, place) {
@@ -116,8 +119,10 @@ fn success_of(peg: &SoundPeg, cells: &Cells, node: usize, place: usize) -> Optio
 fn seq(peg: &SoundPeg, cells: &Cells, members: &[usize], next: usize, end: usize) -> Way
     requires sound { IsSoundGrammar peg.now }
     requires there { (i : ℕ) → i < length members.now → get_or members.now i 0 < length peg.now.nodes }
-    ensures { (x : List ℕ) (more : Bool) → AreCells (rules_of peg.now.rules) peg.now.start (shapes_of peg.now.nodes) peg.now.bodies x more cells.now →
-        (next < length members.now → (r : ℕ) × (found_at cells.now (get_or members.now next 0) end ≡ Some (Found.Took r))) → result ≡ seq_way cells.now members.now next end }
+    ensures { (x : List ℕ) (more : Bool) → AreCells (rules_of peg.now.rules) peg.now.start (shapes_of
+        peg.now.nodes) peg.now.bodies x more cells.now →
+        (next < length members.now → (r : ℕ) × (found_at cells.now (get_or members.now next 0) end
+        ≡ Some (Found.Took r))) → result ≡ seq_way cells.now members.now next end }
 {
     if next >= members.len() {
         return Way::Leave;
@@ -153,9 +158,11 @@ fn choice(cells: &Cells, alternatives: &[usize], place: usize) -> Way
 pub(crate) fn next_way(peg: &SoundPeg, cells: &Cells, frame: Frame) -> Way
     requires sound { IsSoundGrammar peg.now }
     requires there { frame.node < length peg.now.nodes }
-    ensures { (x : List ℕ) (more : Bool) (es : List Event) → AreCells (rules_of peg.now.rules) peg.now.start (shapes_of peg.now.nodes) peg.now.bodies x more cells.now →
+    ensures { (x : List ℕ) (more : Bool) (es : List Event) → AreCells (rules_of peg.now.rules) peg.now.start (shapes_of
+        peg.now.nodes) peg.now.bodies x more cells.now →
         IsLeft (rules_of peg.now.rules) (shapes_of peg.now.nodes) peg.now.bodies peg.now.ranks x cells.now frame es →
-        IsWay (rules_of peg.now.rules) (shapes_of peg.now.nodes) peg.now.bodies peg.now.ranks x cells.now frame es result }
+        IsWay (rules_of peg.now.rules) (shapes_of peg.now.nodes) peg.now.bodies peg.now.ranks x cells.now frame es
+        result }
 {
     let place = frame.place;
     let way = match peg.node(frame.node) {
@@ -211,9 +218,12 @@ fn leave_if(leaves: bool) -> Option<Way>
 pub(crate) fn way_at_once(peg: &SoundPeg, node: usize, place: usize) -> Option<Way>
     requires sound { IsSoundGrammar peg.now }
     requires spells { SpellsSome (rules_of peg.now.rules) (shapes_of peg.now.nodes) node }
-    ensures { IfSome result (λ way. (cells : List Entry) (x : List ℕ) (more : Bool) (es : List Event) → AreCells (rules_of peg.now.rules) peg.now.start (shapes_of peg.now.nodes) peg.now.bodies x more cells →
-        IsLeft (rules_of peg.now.rules) (shapes_of peg.now.nodes) peg.now.bodies peg.now.ranks x cells (beginning node place) es →
-        IsWay (rules_of peg.now.rules) (shapes_of peg.now.nodes) peg.now.bodies peg.now.ranks x cells (beginning node place) es way) }
+    ensures { IfSome result (λ way. (cells : List Entry) (x : List ℕ) (more : Bool) (es : List Event)
+        → AreCells (rules_of peg.now.rules) peg.now.start (shapes_of peg.now.nodes) peg.now.bodies x more cells →
+        IsLeft (rules_of peg.now.rules) (shapes_of peg.now.nodes) peg.now.bodies peg.now.ranks x cells
+        (beginning node place) es →
+        IsWay (rules_of peg.now.rules) (shapes_of peg.now.nodes) peg.now.bodies peg.now.ranks x cells
+        (beginning node place) es way) }
 {
     match peg.node(node) {
         Node::Any => Some(Way::Leave),

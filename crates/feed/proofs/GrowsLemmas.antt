@@ -1,6 +1,7 @@
 -- How a feed grows, call by call.
 -- Serves: Feed::fill, run_peg (right)
-use Rattle.std.proofs.Common.{◌≡◌, ℕ, zero, ◌+◌, List, [], ◌++◌, length, refl, sym, ◌∙◌, ap, append_assoc, arith, Option, Some, None, inl, inr, length-append}
+use Rattle.std.proofs.Common.{◌≡◌, ℕ, zero, ◌+◌, List, [], ◌++◌, length, refl, sym, ◌∙◌, ap, append_assoc, arith}
+use Rattle.std.proofs.Common.{Option, Some, None, inl, inr, length-append}
 use Rattle.std.proofs.lemmas.List.{append-nil}
 use Rattle.std.specs.Io.KnownBytes.{Consumes}
 use Rattle.ruletable.proofs.AppendsLemmas.{Consumes-join}
@@ -37,7 +38,8 @@ module _ {R : Type 0} (remaining : R → Option (List ℕ)) where
   Grows-join e f g is first then = record {
     more = first.more ++ then.more;
     bytes = then.bytes ∙ ap (λ t. t ++ then.more) first.bytes ∙ append_assoc (bytes_of e) first.more then.more;
-    gives = Consumes-join (remaining (reader_of e)) (remaining (reader_of f)) (remaining (reader_of g)) first.more then.more first.gives then.gives;
+    gives = Consumes-join (remaining (reader_of e)) (remaining (reader_of f)) (remaining (reader_of g)) first.more
+        then.more first.gives then.gives;
     allowance = omega (arith, first.allowance, then.allowance, length-append first.more then.more);
     capacity = then.capacity ∙ first.capacity;
     stays = elim first.stays [ inl was ↦ inl was | inr same ↦ inl (sym same.0 ∙ is) ];

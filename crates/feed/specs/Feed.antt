@@ -56,7 +56,8 @@ IsToldBy remaining failed allowance Broken = (failed ≡ true) ⊎ ((failed ≡ 
 
 -- A feed says of its reader what that told.
 abbrev pub IsTrueOfReader : {R : Type 0} → (R → Option (List ℕ)) → (R → Bool) → Feed R → Type 0
-IsTrueOfReader remaining failed f = IsToldBy (remaining (reader_of f)) (failed (reader_of f)) (allowance_of f) (flow_of f)
+IsTrueOfReader remaining failed f = IsToldBy (remaining (reader_of f)) (failed (reader_of f)) (allowance_of f)
+    (flow_of f)
 
 -- Why a feed holds no more: it is full, or the reader ended or broke before.
 abbrev pub IsHeld : {R : Type 0} → Feed R → Held → Type 0

@@ -5,7 +5,8 @@ ghost use Rattle.std.specs.List.{refill};
 ghost use Rattle.circular_buffer.specs.Buffer.{buffer};
 ghost use Rattle.memchr.specs.Find.{IsFirstByte, is_byte};
 ghost use Rattle.ruletable.specs.Writing.{IsBeginning};
-ghost use Rattle.feed.specs.Feed.{Grows, IsHeld, IsTrueOfReader, SameLoan, allowance_of, bytes_of, capacity_of, flow_of, input_limit, loan_of, reader_of};
+ghost use Rattle.feed.specs.Feed.{Grows, IsHeld, IsTrueOfReader, SameLoan, allowance_of, bytes_of, capacity_of};
+ghost use Rattle.feed.specs.Feed.{flow_of, input_limit, loan_of, reader_of};
 ghost use Rattle.feed.specs.Window.{LendsWindow};
 
 use crate::held::{Flow, Held};
@@ -29,8 +30,8 @@ pub struct Feed<'a, R> {
 }
 
 impl<'a, R: Source> Feed<'a, R> {
-    /// Makes the room for a window of at most `limit` + 1 bytes. It is made before the reader is lent, so that a refused
-    /// allocation leaves the reader as it was.
+    /// Makes the room for a window of at most `limit` + 1 bytes. It is made before the reader is lent, so that a
+    /// refused allocation leaves the reader as it was.
     pub fn room(alloc: Global, limit: usize) -> Result<HeapCircularBuffer<u8>, Memory>
         requires { limit ≤ 16777216 }
         ensures { IfOk result (λ ring. ring ≡ buffer [] (limit + 1)) }
@@ -92,8 +93,8 @@ impl<'a, R: Source> Feed<'a, R> {
         }
     }
 
-    /// Reads once where there is little room. A function pays for its locals at each call, so a large buffer is not made
-    /// here.
+    /// Reads once where there is little room. A function pays for its locals at each call, so a large buffer is not
+    /// made here.
     #[inline(always)]
     fn pull_few(&mut self)
         requires room { length (bytes_of self.old) < capacity_of self.old }
@@ -121,8 +122,8 @@ impl<'a, R: Source> Feed<'a, R> {
         self.pull(&mut many);
     }
 
-    /// Reads until the window is full, the reader ends or fails, and returns which. It asks for no more bytes than there is
-    /// room for, and for none after the end, a fault or the greatest length of an input.
+    /// Reads until the window is full, the reader ends or fails, and returns which. It asks for no more bytes than
+    /// there is room for, and for none after the end, a fault or the greatest length of an input.
     #[inline(always)]
     pub fn fill(&mut self) -> Held
         ensures loan { SameLoan self.old self.new }
@@ -186,7 +187,8 @@ impl<'a, R: Source> Feed<'a, R> {
     pub fn window(&mut self) -> &mut [u8]
         ensures* lends { sem 𝓛 (LendsWindow R.row self.entry result) }
         ensures value { result.now ≡ bytes_of self.old }
-        ensures same { (ws : List ℕ) → length ws ≡ length (bytes_of self.old) → refill (length (bytes_of self.old)) (bytes_of self.old) ws ≡ ws }
+        ensures same { (ws : List ℕ) → length ws ≡ length (bytes_of self.old)
+            → refill (length (bytes_of self.old)) (bytes_of self.old) ws ≡ ws }
     {
         self.ring.make_contiguous()
     }

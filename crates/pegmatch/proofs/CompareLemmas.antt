@@ -1,10 +1,12 @@
 -- Comparing a literal with a text, byte by byte.
 -- Serves: match_bytes
-use Rattle.std.proofs.Common.{◌≡◌, ◌≢◌, ℕ, suc, ◌+◌, ◌<◌, ◌≤◌, true, false, List, [], ◌∷◌, length, get_or, drop, refl, arith, add-one, drop-cons}
+use Rattle.std.proofs.Common.{◌≡◌, ◌≢◌, ℕ, suc, ◌+◌, ◌<◌, ◌≤◌, true, false, List, [], ◌∷◌, length, get_or, drop, refl}
+use Rattle.std.proofs.Common.{arith, add-one, drop-cons}
 use Rattle.std.proofs.lemmas.Grind.{common_steps}
 use Rattle.gramcheck.specs.Outcome.{begins_with, compared}
 
-same_head : (a b : ℕ) (t l : List ℕ) → a ≡ b → (begins_with (a ∷ t) (b ∷ l) ≡ begins_with t l) × (compared (a ∷ t) (b ∷ l) ≡ compared t l + 1)
+same_head : (a b : ℕ) (t l : List ℕ) → a ≡ b → (begins_with (a ∷ t) (b ∷ l) ≡ begins_with t l)
+    × (compared (a ∷ t) (b ∷ l) ≡ compared t l + 1)
 same_head a b t l h = (grind (arith, common_steps), grind (arith, common_steps))
 
 other_head : (a b : ℕ) (t l : List ℕ) → a ≢ b → (begins_with (a ∷ t) (b ∷ l) ≡ false) × (compared (a ∷ t) (b ∷ l) ≡ 1)
@@ -22,7 +24,8 @@ other_byte t l i ht hl h = rw (drop-cons t i 0, drop-cons l i 0) (other_head _ _
 
 pub text_ends : (t l : List ℕ) (i : ℕ) → length t ≤ i → i < length l →
     (begins_with (drop i t) (drop i l) ≡ false) × (compared (drop i t) (drop i l) ≡ 0)
-text_ends t l i ht hl = let none : drop i t ≡ [] = grind (arith, common_steps) in rw (none, drop-cons l i 0) (refl, refl)
+text_ends t l i ht hl = let none : drop i t ≡ [] = grind (arith, common_steps) in
+    rw (none, drop-cons l i 0) (refl, refl)
 
 pub literal_ends : (t l : List ℕ) (i : ℕ) → length l ≤ i →
     (begins_with (drop i t) (drop i l) ≡ true) × (compared (drop i t) (drop i l) ≡ 0)

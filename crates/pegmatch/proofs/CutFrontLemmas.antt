@@ -1,6 +1,7 @@
 -- Cutting blanks from both ends of a text.
 -- Serves: write_event
-use Rattle.std.proofs.Common.{◌≡◌, ℕ, suc, ◌+◌, ◌<◌, true, false, List, ◌∷◌, length, get_or, take, drop, reverse, refl, sym, add-one, drop-cons}
+use Rattle.std.proofs.Common.{◌≡◌, ℕ, suc, ◌+◌, ◌<◌, true, false, List, ◌∷◌, length, get_or, take, drop, reverse, refl}
+use Rattle.std.proofs.Common.{sym, add-one, drop-cons}
 use Rattle.std.proofs.Math.Seq.{take-suc}
 use Rattle.std.proofs.lemmas.List.{reverse-append}
 use Rattle.pegmatch.specs.Text.{is_blank, cut_front}
@@ -11,10 +12,12 @@ cut_blank t b h = rw h refl
 cut_other : (t : List ℕ) (b : ℕ) → is_blank b ≡ false → cut_front (b ∷ t) ≡ b ∷ t
 cut_other t b h = rw h refl
 
-pub front_blank : (t : List ℕ) (i : ℕ) → i < length t → is_blank (get_or t i 0) ≡ true → cut_front (drop (i + 1) t) ≡ cut_front (drop i t)
+pub front_blank : (t : List ℕ) (i : ℕ) → i < length t → is_blank (get_or t i 0) ≡ true → cut_front (drop (i + 1) t)
+    ≡ cut_front (drop i t)
 front_blank t i lt h = rw (drop-cons t i 0, add-one i) (sym (cut_blank (drop (suc i) t) (get_or t i 0) h))
 
-pub front_other : (t : List ℕ) (i : ℕ) → i < length t → is_blank (get_or t i 0) ≡ false → drop i t ≡ cut_front (drop i t)
+pub front_other : (t : List ℕ) (i : ℕ) → i < length t → is_blank (get_or t i 0) ≡ false
+    → drop i t ≡ cut_front (drop i t)
 front_other t i lt h = rw (drop-cons t i 0) (sym (cut_other (drop (suc i) t) (get_or t i 0) h))
 
 last_first : (t : List ℕ) (j : ℕ) → j < length t → reverse (take (suc j) t) ≡ get_or t j 0 ∷ reverse (take j t)

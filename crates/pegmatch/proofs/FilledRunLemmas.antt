@@ -1,6 +1,7 @@
 -- Filling a template, run by run.
 -- Serves: write_event
-use Rattle.std.proofs.Common.{◌≡◌, ℕ, suc, zero, ◌+◌, ◌-◌, ◌<◌, ◌≤◌, true, false, List, [], ◌∷◌, ◌++◌, length, get_or, drop, refl, sym, ap, arith, add-one, drop-cons, ◌∙◌, append_assoc, append-nil}
+use Rattle.std.proofs.Common.{◌≡◌, ℕ, suc, zero, ◌+◌, ◌-◌, ◌<◌, ◌≤◌, true, false, List, [], ◌∷◌, ◌++◌, length, get_or}
+use Rattle.std.proofs.Common.{drop, refl, sym, ap, arith, add-one, drop-cons, ◌∙◌, append_assoc, append-nil}
 use Rattle.std.specs.Prelude.{slice_range}
 use Rattle.std.specs.List.{flat_map}
 use Rattle.std.proofs.lemmas.Grind.{common_steps}
@@ -26,11 +27,13 @@ lead (r ∷ run) pieces = Word (r ∷ run) ∷ pieces
 abbrev Apart : List Piece → Type 0
 Apart pieces = (r : ℕ) → joined r pieces ≡ Word (r ∷ []) ∷ pieces
 
-joined-lead : (r : ℕ) (run : List ℕ) (pieces : List Piece) → Apart pieces → joined r (lead run pieces) ≡ lead (r ∷ run) pieces
+joined-lead : (r : ℕ) (run : List ℕ) (pieces : List Piece) → Apart pieces → joined r (lead run pieces)
+    ≡ lead (r ∷ run) pieces
 joined-lead r [] pieces h = h r
 joined-lead r (s ∷ run) pieces h = refl
 
-pieces_of_run : (run rest : List ℕ) → AreWord run → Apart (pieces_of rest) → pieces_of (run ++ rest) ≡ lead run (pieces_of rest)
+pieces_of_run : (run rest : List ℕ) → AreWord run → Apart (pieces_of rest) → pieces_of (run ++ rest)
+    ≡ lead run (pieces_of rest)
 pieces_of_run [] rest w h = refl
 pieces_of_run (r ∷ run) rest w h = rw (w.0, pieces_of_run run rest w.1 h) (joined-lead r run (pieces_of rest) h)
 
@@ -58,7 +61,8 @@ filled_other c run rest b w h =
     let apart : Apart (pieces_of (b ∷ rest)) = rw other (λ r. refl) in
     ap (put c) (pieces_of_run run (b ∷ rest) w apart ∙ ap (lead run) other) ∙ put-lead c run (Other b ∷ pieces_of rest)
 
-pub one_more : (t : List ℕ) (f i : ℕ) → f ≤ i → i < length t → slice_range t f (i + 1) ≡ slice_range t f i ++ get_or t i 0 ∷ []
+pub one_more : (t : List ℕ) (f i : ℕ) → f ≤ i → i < length t → slice_range t f (i + 1) ≡ slice_range t f i
+    ++ get_or t i 0 ∷ []
 one_more t f i le lt =
     let size : i + 1 - f ≡ suc (i - f) = omega arith in
     let long : i - f < length (drop f t) = grind (arith, common_steps) in
@@ -71,17 +75,20 @@ empty_range t i = let size : i - i ≡ zero = omega arith in rw size refl
 pub no_word : (t : List ℕ) (i : ℕ) → AreWord (slice_range t i i)
 no_word t i = rw (empty_range t i) tt
 
-pub word_kept : (t : List ℕ) (f i : ℕ) → f ≤ i → i < length t → AreWord (slice_range t f i) → is_word (get_or t i 0) ≡ true →
+pub word_kept : (t : List ℕ) (f i : ℕ) → f ≤ i → i < length t → AreWord (slice_range t f i)
+    → is_word (get_or t i 0) ≡ true →
     AreWord (slice_range t f (i + 1))
 word_kept t f i le lt w h = rw (one_more t f i le lt) (AreWord-more _ _ w h)
 
 -- the byte at i is no word byte: the run before it is put, and then it
-pub other_put : (t c o o1 o2 whole : List ℕ) (f i : ℕ) → f ≤ i → i < length t → AreWord (slice_range t f i) → is_word (get_or t i 0) ≡ false →
+pub other_put : (t c o o1 o2 whole : List ℕ) (f i : ℕ) → f ≤ i → i < length t → AreWord (slice_range t f i)
+    → is_word (get_or t i 0) ≡ false →
     o ++ filled (drop f t) c ≡ whole →
     o1 ≡ o ++ filled_piece c (Word (slice_range t f i)) → o2 ≡ o1 ++ get_or t i 0 ∷ [] →
     o2 ++ filled (drop (i + 1) t) c ≡ whole
 other_put t c o o1 o2 whole f i le lt w h is is1 is2 =
-    let cut : drop f t ≡ slice_range t f i ++ get_or t i 0 ∷ drop (i + 1) t = drop_split t f i le ∙ ap (λ v. slice_range t f i ++ v) (rw (add-one i) (drop-cons t i 0 lt)) in
+    let cut : drop f t ≡ slice_range t f i ++ get_or t i 0 ∷ drop (i + 1) t = drop_split t f i le
+    ∙ ap (λ v. slice_range t f i ++ v) (rw (add-one i) (drop-cons t i 0 lt)) in
     let run = filled_other c (slice_range t f i) (drop (i + 1) t) (get_or t i 0) w h in
     rw (is2, is1, append_assoc, append_assoc) (ap (λ v. o ++ v) (sym (ap (λ v. filled v c) cut ∙ run)) ∙ is)
 

@@ -1,6 +1,7 @@
 -- What is printed event by event.
 -- Serves: Plain::replay, Desk::replay
-use Rattle.std.proofs.Common.{◌≡◌, ℕ, ◌+◌, ◌<◌, ◌≤◌, Bool, List, [], ◌∷◌, ◌++◌, length, get_or, drop, Option, Some, None, refl, sym, ◌∙◌, ap, subst, arith, append_assoc, append-nil, add-one, drop-cons}
+use Rattle.std.proofs.Common.{◌≡◌, ℕ, ◌+◌, ◌<◌, ◌≤◌, Bool, List, [], ◌∷◌, ◌++◌, length, get_or, drop, Option, Some}
+use Rattle.std.proofs.Common.{None, refl, sym, ◌∙◌, ap, subst, arith, append_assoc, append-nil, add-one, drop-cons}
 use Rattle.std.specs.Prelude.{slice_range, slice_get}
 use Rattle.std.specs.Io.KnownBytes.{Appends}
 use Rattle.std.proofs.lemmas.Grind.{common_steps}
@@ -18,12 +19,24 @@ use Rattle.pegmatch.specs.declared.event.Kept.{Kept}
 use Rattle.pegmatch.specs.declared.writing.Capture.{Capture}
 
 module _ (raw : Bool) (x : List ℕ) (all later : List Event) where
-  closing : (capture : Capture) (q : ℕ) (done : List ℕ) (s : Option ℕ) → capture.start ≡ s → IsPrinted raw x all (event.Closed q ∷ later) capture done → IsPrinted raw x all later (closed_at capture q s) (done ++ [])
+  closing : (capture : Capture) (q : ℕ) (done : List ℕ) (s : Option ℕ) → capture.start ≡ s
+      → IsPrinted raw x all (event.Closed q ∷ later) capture done → IsPrinted raw x all later (closed_at capture q s)
+      (done ++ [])
   closing capture q done None is p =
-      let text = subst (λ v. done ++ text_after raw x (event.Closed q ∷ later) v (slice_range x capture.from capture.to) ≡ text_of raw x all) is p.text in
-      record { low = q; begun = rw is tt; order = p.order; within = p.within; rise = p.rise.1; text = rw is (ap (λ v. v ++ text_after raw x later None (slice_range x capture.from capture.to)) (append-nil done) ∙ text) }
+      let text = subst (λ v. done ++ text_after raw x (event.Closed q ∷ later) v (slice_range x capture.from capture.to)
+      ≡ text_of raw x all) is p.text in
+      record {
+        low = q;
+        begun = rw is tt;
+        order = p.order;
+        within = p.within;
+        rise = p.rise.1;
+        text = rw is (ap (λ v. v ++ text_after raw x later None (slice_range x capture.from capture.to))
+            (append-nil done) ∙ text);
+      }
   closing capture q done (Some from) is p =
-      let text = subst (λ v. done ++ text_after raw x (event.Closed q ∷ later) v (slice_range x capture.from capture.to) ≡ text_of raw x all) is p.text in
+      let text = subst (λ v. done ++ text_after raw x (event.Closed q ∷ later) v (slice_range x capture.from capture.to)
+      ≡ text_of raw x all) is p.text in
       let begun : from ≤ p.low = rw is at p.begun in
       let after : from ≤ q = omega (arith, begun, p.rise.0) in
       record {
@@ -36,8 +49,10 @@ module _ (raw : Bool) (x : List ℕ) (all later : List Event) where
       }
 
   -- an event is printed
-  pub after_event : (nodes : List Shape) {kept : Kept} {e : Event} (capture : Capture) (done : List ℕ) → StandsFor nodes kept e → IsPrinted raw x all (e ∷ later) capture done →
-      IsPrinted raw x all later (capture_by capture kept) (done ++ event_text raw e (slice_range x capture.from capture.to))
+  pub after_event : (nodes : List Shape) {kept : Kept} {e : Event} (capture : Capture) (done : List ℕ)
+      → StandsFor nodes kept e → IsPrinted raw x all (e ∷ later) capture done →
+      IsPrinted raw x all later (capture_by capture kept)
+      (done ++ event_text raw e (slice_range x capture.from capture.to))
   after_event nodes capture done (opened {p = p}) h =
       record {
         low = p;
@@ -45,7 +60,8 @@ module _ (raw : Bool) (x : List ℕ) (all later : List Event) where
         order = h.order;
         within = h.within;
         rise = h.rise.1;
-        text = ap (λ v. v ++ text_after raw x later (Some p) (slice_range x capture.from capture.to)) (append-nil done) ∙ h.text;
+        text = ap (λ v. v ++ text_after raw x later (Some p) (slice_range x capture.from capture.to)) (append-nil done)
+            ∙ h.text;
       }
   after_event nodes capture done (closed {p = q}) h = closing capture q done capture.start refl h
   after_event nodes capture done (acted {t = t} g) h =
@@ -55,48 +71,58 @@ module _ (raw : Bool) (x : List ℕ) (all later : List Event) where
         order = h.order;
         within = h.within;
         rise = h.rise;
-        text = append_assoc done (printed raw t (slice_range x capture.from capture.to)) (text_after raw x later capture.start (slice_range x capture.from capture.to)) ∙ h.text;
+        text = append_assoc done (printed raw t (slice_range x capture.from capture.to))
+            (text_after raw x later capture.start (slice_range x capture.from capture.to)) ∙ h.text;
       }
 
 -- of all events some were printed, and the others, `later`, are still to come
-pub record HasPrinted (raw : Bool) (x : List ℕ) (all later : List Event) (old new : Option (List ℕ)) (capture : Capture) : Type 0 where
+pub record HasPrinted (raw : Bool) (x : List ℕ) (all later : List Event) (old new : Option (List ℕ))
+    (capture : Capture) : Type 0 where
   pub done : List ℕ
   pub appends : Appends old new done
   pub printed : IsPrinted raw x all later capture done
 
 module _ (raw : Bool) (x : List ℕ) (all : List Event) (old : Option (List ℕ)) where
-  pub printed_start : Rise 0 (length x) all → HasPrinted raw x all all old old (record { start = None; from = 0; to = 0 })
+  pub printed_start : Rise 0 (length x) all → HasPrinted raw x all all old old
+      (record { start = None; from = 0; to = 0 })
   printed_start r = record {
     done = [];
     appends = Appends-same old;
     printed = record { low = 0; begun = tt; order = omega arith; within = omega arith; rise = r; text = refl };
   }
 
-  module _ (nodes : List Shape) (mid new : Option (List ℕ)) (capture : Capture) (kept : Kept) (e : Event) (later : List Event) (s : StandsFor nodes kept e)
+  module _ (nodes : List Shape) (mid new : Option (List ℕ)) (capture : Capture) (kept : Kept) (e : Event)
+      (later : List Event) (s : StandsFor nodes kept e)
       (h : HasPrinted raw x all (e ∷ later) old mid capture) where
-    next_printed : IsPrinted raw x all later (capture_by capture kept) (h.done ++ event_text raw e (slice_range x capture.from capture.to))
+    next_printed : IsPrinted raw x all later (capture_by capture kept)
+        (h.done ++ event_text raw e (slice_range x capture.from capture.to))
     next_printed = after_event raw x all later nodes capture h.done s h.printed
 
-    pub printed_next : Appends mid new (event_text raw e (slice_range x capture.from capture.to)) → HasPrinted raw x all later old new (capture_by capture kept)
+    pub printed_next : Appends mid new (event_text raw e (slice_range x capture.from capture.to))
+        → HasPrinted raw x all later old new (capture_by capture kept)
     printed_next one = record {
       done = h.done ++ event_text raw e (slice_range x capture.from capture.to);
       appends = Appends-join old mid new h.done _ h.appends one;
       printed = next_printed;
     }
 
-    pub printed_part : AppendsPart mid new (event_text raw e (slice_range x capture.from capture.to)) → AppendsPart old new (text_of raw x all)
+    pub printed_part : AppendsPart mid new (event_text raw e (slice_range x capture.from capture.to))
+        → AppendsPart old new (text_of raw x all)
     printed_part part =
         let both = AppendsPart-join old mid new h.done _ h.appends part in
         subst (λ v. AppendsPart old new v) next_printed.text (AppendsPart-first old new _ _ both)
 
-  pub printed_all : (new : Option (List ℕ)) (capture : Capture) (later : List Event) → later ≡ [] → HasPrinted raw x all later old new capture →
+  pub printed_all : (new : Option (List ℕ)) (capture : Capture) (later : List Event) → later ≡ []
+      → HasPrinted raw x all later old new capture →
       Appends old new (text_of raw x all)
   printed_all new capture later none h =
-      let text = subst (λ v. h.done ++ text_after raw x v capture.start (slice_range x capture.from capture.to) ≡ text_of raw x all) none h.printed.text in
+      let text = subst (λ v. h.done ++ text_after raw x v capture.start (slice_range x capture.from capture.to)
+      ≡ text_of raw x all) none h.printed.text in
       subst (λ v. Appends old new v) (sym (append-nil h.done) ∙ text) h.appends
 
 -- of kept events some were printed, and the others stand from index i on
-pub record HaveWritten (raw : Bool) (nodes : List Shape) (x : List ℕ) (all : List Event) (kept : List Kept) (i : ℕ) (old new : Option (List ℕ)) (capture : Capture) : Type 0 where
+pub record HaveWritten (raw : Bool) (nodes : List Shape) (x : List ℕ) (all : List Event) (kept : List Kept) (i : ℕ)
+    (old new : Option (List ℕ)) (capture : Capture) : Type 0 where
   pub later : List Event
   pub left : StandFor nodes (drop i kept) later
   pub written : HasPrinted raw x all later old new capture
@@ -109,15 +135,23 @@ pub record FirstStands (nodes : List Shape) (k : Kept) (rest : List Kept) (event
   pub stands : StandsFor nodes k event
   pub stand : StandFor nodes rest others
 
-first_stands : (nodes : List Shape) {kept : List Kept} {events : List Event} → StandFor nodes kept events → (k : Kept) (rest : List Kept) → kept ≡ k ∷ rest →
+first_stands : (nodes : List Shape) {kept : List Kept} {events : List Event} → StandFor nodes kept events
+    → (k : Kept) (rest : List Kept) → kept ≡ k ∷ rest →
     FirstStands nodes k rest events
 first_stands nodes no_event k rest is = absurd (cc is)
 first_stands nodes (one_event {k = l} {e = e} {kept = ls} {events = es} h s) k rest is =
     let same : l ≡ k = cc is in
     let others : ls ≡ rest = cc is in
-    record { event = e; others = es; is = refl; stands = subst (λ v. StandsFor nodes v e) same h; stand = subst (λ v. StandFor nodes v es) others s }
+    record {
+      event = e;
+      others = es;
+      is = refl;
+      stands = subst (λ v. StandsFor nodes v e) same h;
+      stand = subst (λ v. StandFor nodes v es) others s;
+    }
 
-none_stand : (nodes : List Shape) {kept : List Kept} {events : List Event} → StandFor nodes kept events → kept ≡ [] → events ≡ []
+none_stand : (nodes : List Shape) {kept : List Kept} {events : List Event} → StandFor nodes kept events → kept ≡ []
+    → events ≡ []
 none_stand nodes no_event is = refl
 none_stand nodes (one_event h s) is = absurd (cc is)
 
@@ -141,35 +175,46 @@ same_stands (acted {t = t} g) s =
     ap event.Acted template ∙ sym h.2
 
 -- kept events stand for no other events
-pub same_events : (nodes : List Shape) {kept : List Kept} {events other : List Event} → StandFor nodes kept events → StandFor nodes kept other → events ≡ other
+pub same_events : (nodes : List Shape) {kept : List Kept} {events other : List Event} → StandFor nodes kept events
+    → StandFor nodes kept other → events ≡ other
 same_events nodes no_event s = sym (none_stand nodes s refl)
 same_events nodes (one_event {k = k} {e = e} {kept = ks} {events = es} h r) s =
     let f = first_stands nodes s k ks refl in
     ap (λ v. v ∷ es) (same_stands h f.stands) ∙ ap (λ v. f.event ∷ v) (same_events nodes r f.stand) ∙ sym f.is
 
-module _ (raw : Bool) (nodes : List Shape) (x : List ℕ) (all : List Event) (kept : List Kept) (old : Option (List ℕ)) where
-  pub written_start : StandFor nodes kept all → Rise 0 (length x) all → HaveWritten raw nodes x all kept 0 old old (record { start = None; from = 0; to = 0 })
+module _ (raw : Bool) (nodes : List Shape) (x : List ℕ) (all : List Event) (kept : List Kept)
+    (old : Option (List ℕ)) where
+  pub written_start : StandFor nodes kept all → Rise 0 (length x) all → HaveWritten raw nodes x all kept 0 old old
+      (record { start = None; from = 0; to = 0 })
   written_start s r = record { later = all; left = s; written = printed_start raw x all old r }
 
-  pub written_all : (i : ℕ) (new : Option (List ℕ)) (capture : Capture) → length kept ≤ i → HaveWritten raw nodes x all kept i old new capture → Appends old new (text_of raw x all)
+  pub written_all : (i : ℕ) (new : Option (List ℕ)) (capture : Capture) → length kept ≤ i
+      → HaveWritten raw nodes x all kept i old new capture → Appends old new (text_of raw x all)
   written_all i new capture long h =
       let empty : drop i kept ≡ [] = grind (arith, common_steps) in
       printed_all raw x all old new capture h.later (none_stand nodes h.left empty) h.written
 
-  module _ (i : ℕ) (d : Kept) (lt : i < length kept) (mid : Option (List ℕ)) (capture : Capture) (h : HaveWritten raw nodes x all kept i old mid capture) where
+  module _ (i : ℕ) (d : Kept) (lt : i < length kept) (mid : Option (List ℕ)) (capture : Capture)
+      (h : HaveWritten raw nodes x all kept i old mid capture) where
     pub next_event : FirstStands nodes (get_or kept i d) (drop (i + 1) kept) h.later
-    next_event = first_stands nodes h.left (get_or kept i d) (drop (i + 1) kept) (rw (drop-cons kept i d, add-one i) refl)
+    next_event = first_stands nodes h.left (get_or kept i d) (drop (i + 1) kept)
+        (rw (drop-cons kept i d, add-one i) refl)
 
     here : HasPrinted raw x all (next_event.event ∷ next_event.others) old mid capture
     here = subst (λ v. HasPrinted raw x all v old mid capture) next_event.is h.written
 
-    pub written_next : (new : Option (List ℕ)) → Appends mid new (event_text raw next_event.event (slice_range x capture.from capture.to)) →
+    pub written_next : (new : Option (List ℕ)) → Appends mid new
+        (event_text raw next_event.event (slice_range x capture.from capture.to)) →
         HaveWritten raw nodes x all kept (i + 1) old new (capture_by capture (get_or kept i d))
     written_next new one = record {
       later = next_event.others;
       left = next_event.stand;
-      written = printed_next raw x all old nodes mid new capture (get_or kept i d) next_event.event next_event.others next_event.stands here one;
+      written = printed_next raw x all old nodes mid new capture (get_or kept i d) next_event.event next_event.others
+          next_event.stands here one;
     }
 
-    pub written_part : (new : Option (List ℕ)) → AppendsPart mid new (event_text raw next_event.event (slice_range x capture.from capture.to)) → AppendsPart old new (text_of raw x all)
-    written_part new part = printed_part raw x all old nodes mid new capture (get_or kept i d) next_event.event next_event.others next_event.stands here part
+    pub written_part : (new : Option (List ℕ)) → AppendsPart mid new
+        (event_text raw next_event.event (slice_range x capture.from capture.to))
+        → AppendsPart old new (text_of raw x all)
+    written_part new part = printed_part raw x all old nodes mid new capture (get_or kept i d) next_event.event
+        next_event.others next_event.stands here part

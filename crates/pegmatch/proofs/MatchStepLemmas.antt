@@ -1,12 +1,16 @@
 -- How the steps of the matcher make up what an expression gives.
 -- Serves: Plain::match_unit, match_any, match_bytes, match_set
-use Rattle.std.proofs.Common.{◌≡◌, ℕ, ◌+◌, ◌<◌, ◌≤◌, max, true, false, List, [], ◌∷◌, ◌++◌, length, drop, refl, sym, ◌∙◌, ap, subst, arith, append_assoc, append-nil, add-one, drop-cons, take, Bool, get_or}
+use Rattle.std.proofs.Common.{◌≡◌, ℕ, ◌+◌, ◌<◌, ◌≤◌, max, true, false, List, [], ◌∷◌, ◌++◌, length, drop, refl, sym}
+use Rattle.std.proofs.Common.{◌∙◌, ap, subst, arith, append_assoc, append-nil, add-one, drop-cons, take, Bool, get_or}
 use Rattle.std.proofs.Math.Seq.{take-append_seam}
 use Rattle.std.proofs.lemmas.Grind.{common_steps}
 use Rattle.std.proofs.lemmas.Option.{slice_get-get_or, slice_get_past}
 use Rattle.pegread.specs.Pattern.{Pattern, Patterns, none, more, Rule, Any, Bytes, Set}
 use Rattle.gramcheck.specs.Nodes.{Shape, Spells, SpellAll, spell_none, spell_more}
-use Rattle.gramcheck.specs.Outcome.{Outcome, Fails, Takes, Gives, any_takes, any_at_end, set_takes, set_fails, set_at_end, bytes_take, bytes_fail, GivesAll, all_done, one_fails, rest_fails, rest_takes, seq, choice, GivesFirst, all_failed, first_takes, first_fails, begins_with, compared, looked_at}
+use Rattle.gramcheck.specs.Outcome.{Outcome, Fails, Takes, Gives, any_takes, any_at_end, set_takes, set_fails}
+use Rattle.gramcheck.specs.Outcome.{set_at_end, bytes_take, bytes_fail, GivesAll, all_done, one_fails, rest_fails}
+use Rattle.gramcheck.specs.Outcome.{rest_takes, seq, choice, GivesFirst, all_failed, first_takes, first_fails}
+use Rattle.gramcheck.specs.Outcome.{begins_with, compared, looked_at}
 use Rattle.gramcheck.specs.Outcome as event
 use Rattle.pegmatch.specs.KeptEvents.{StandFor, no_event, one_event, MatchesBy, IsMatch}
 use Rattle.pegmatch.specs.declared.event.Kept.{Kept}
@@ -19,7 +23,8 @@ after events Fails = Fails
 after events (Takes end more_events) = Takes end (events ++ more_events)
 
 -- What the members from here on give is, after these events, what they all give.
-pub record GoesOn (rules : List Rule) (x : List ℕ) (all : Patterns) (p : ℕ) (rest : Patterns) (q : ℕ) (events : List event.Event) (looked : ℕ) : Type 0 where
+pub record GoesOn (rules : List Rule) (x : List ℕ) (all : Patterns) (p : ℕ) (rest : Patterns) (q : ℕ)
+    (events : List event.Event) (looked : ℕ) : Type 0 where
   pub on : (o : Outcome) (k : ℕ) → GivesAll rules x rest q o k → GivesAll rules x all p (after events o) (max looked k)
 
 -- What the alternatives from here on give is what they all give.
@@ -41,7 +46,8 @@ module _ (rules : List Rule) (x : List ℕ) where
   goes_on_start all p = record { on = λ o k d. rw (after-nil o, max-zero k) d }
 
   next_member : (e : Pattern) (rest : Patterns) (q r j k : ℕ) (es : List event.Event) (o : Outcome) →
-      Gives rules x e q (Takes r es) j → GivesAll rules x rest r o k → GivesAll rules x (more e rest) q (after es o) (max j k)
+      Gives rules x e q (Takes r es) j → GivesAll rules x rest r o k → GivesAll rules x (more e rest) q (after es o)
+      (max j k)
   next_member e rest q r j k es Fails d c = rest_fails d c
   next_member e rest q r j k es (Takes s fs) d c = rest_takes d c
 
@@ -50,7 +56,8 @@ module _ (rules : List Rule) (x : List ℕ) where
   after-append es fs (Takes s gs) = simp append_assoc
 
   pub goes_on_step : (all : Patterns) (p : ℕ) (e : Pattern) (rest : Patterns) (q r j k : ℕ) (es fs : List event.Event) →
-      GoesOn rules x all p (more e rest) q es j → Gives rules x e q (Takes r fs) k → GoesOn rules x all p rest r (es ++ fs) (max j k)
+      GoesOn rules x all p (more e rest) q es j → Gives rules x e q (Takes r fs) k
+      → GoesOn rules x all p rest r (es ++ fs) (max j k)
   goes_on_step all p e rest q r j k es fs h d = record {
     on = λ o m c. subst (λ v. GivesAll rules x all p v (max (max j k) m)) (after-append es fs o)
         (subst (λ v. GivesAll rules x all p (after es (after fs o)) v) (max-assoc j k m)
@@ -67,7 +74,8 @@ module _ (rules : List Rule) (x : List ℕ) where
       let d = h.on _ _ (all_done {p = q}) in
       let is : max j 0 ≡ j = omega arith in
       let same : es ++ [] ≡ es = simp append-nil in
-      subst (λ v. GivesAll rules x all p (Takes q v) j) same (subst (λ v. GivesAll rules x all p (Takes q (es ++ [])) v) is d)
+      subst (λ v. GivesAll rules x all p (Takes q v) j) same
+      (subst (λ v. GivesAll rules x all p (Takes q (es ++ [])) v) is d)
 
   pub tries_on_step : (all : Patterns) (e : Pattern) (rest : Patterns) (p j k : ℕ) →
       TriesOn rules x all (more e rest) p j → Gives rules x e p Fails k → TriesOn rules x all rest p (max j k)
@@ -76,7 +84,8 @@ module _ (rules : List Rule) (x : List ℕ) where
   }
 
   pub tries_on_takes : (all : Patterns) (e : Pattern) (rest : Patterns) (p q j k : ℕ) (es : List event.Event) →
-      TriesOn rules x all (more e rest) p j → Gives rules x e p (Takes q es) k → GivesFirst rules x all p (Takes q es) (max j k)
+      TriesOn rules x all (more e rest) p j → Gives rules x e p (Takes q es) k
+      → GivesFirst rules x all p (Takes q es) (max j k)
   tries_on_takes all e rest p q j k es h d = h.on _ _ (first_takes d)
 
   pub tries_on_ends : (all : Patterns) (p j : ℕ) → TriesOn rules x all none p j → GivesFirst rules x all p Fails j
@@ -90,10 +99,12 @@ module _ (rules : List Rule) (x : List ℕ) where
   pub any_missing : (p : ℕ) → length x ≤ p → Gives rules x Any p Fails 0
   any_missing p h = any_at_end (slice_get_past x p h)
 
-  pub set_found : (s : ℕ → Bool) (p b : ℕ) → p < length x → b ≡ get_or x p 0 → s b ≡ true → Gives rules x (Set s) p (Takes (p + 1) []) (p + 1)
+  pub set_found : (s : ℕ → Bool) (p b : ℕ) → p < length x → b ≡ get_or x p 0 → s b ≡ true
+      → Gives rules x (Set s) p (Takes (p + 1) []) (p + 1)
   set_found s p b h is member = let here = slice_get-get_or x p 0 h in set_takes (rw is here) member
 
-  pub set_other : (s : ℕ → Bool) (p b : ℕ) → p < length x → b ≡ get_or x p 0 → s b ≡ false → Gives rules x (Set s) p Fails (p + 1)
+  pub set_other : (s : ℕ → Bool) (p b : ℕ) → p < length x → b ≡ get_or x p 0 → s b ≡ false
+      → Gives rules x (Set s) p Fails (p + 1)
   set_other s p b h is other = let here = slice_get-get_or x p 0 h in set_fails (rw is here) other
 
   pub set_missing : (s : ℕ → Bool) (p : ℕ) → length x ≤ p → Gives rules x (Set s) p Fails 0
@@ -106,7 +117,8 @@ module _ (rules : List Rule) (x : List ℕ) where
       let k : n ≡ looked_at p (compared (drop p x) bs) = cc in
       rw k (bytes_take h)
 
-  pub bytes_missing : (bs rest : List ℕ) (p n m : ℕ) (b : Bool) → rest ≡ drop p x → b ≡ begins_with rest bs → b ≡ false →
+  pub bytes_missing : (bs rest : List ℕ) (p n m : ℕ) (b : Bool) → rest ≡ drop p x → b ≡ begins_with rest bs
+      → b ≡ false →
       m ≡ compared rest bs → n ≡ looked_at p m → Gives rules x (Bytes bs) p Fails n
   bytes_missing bs rest p n m b same begins missing far is =
       let h : begins_with (drop p x) bs ≡ false = cc in
@@ -119,7 +131,8 @@ StandFor-append nodes no_event r = r
 StandFor-append nodes (one_event h s) r = one_event h (StandFor-append nodes s r)
 
 -- The members before i took what is between p and q, and added these events.
-pub record HaveTaken (rules : List Rule) (nodes : List Shape) (x ns : List ℕ) (p i q : ℕ) (old new : List Kept) (looked : ℕ) (es : Patterns) : Type 0 where
+pub record HaveTaken (rules : List Rule) (nodes : List Shape) (x ns : List ℕ) (p i q : ℕ) (old new : List Kept)
+    (looked : ℕ) (es : Patterns) : Type 0 where
   pub added : List Kept
   pub events : List event.Event
   pub rest : Patterns
@@ -129,7 +142,8 @@ pub record HaveTaken (rules : List Rule) (nodes : List Shape) (x ns : List ℕ) 
   pub goes : GoesOn rules x es p rest q events looked
 
 -- The alternatives before i failed, and left no event.
-pub record HaveFailed (rules : List Rule) (nodes : List Shape) (x ns : List ℕ) (p i : ℕ) (old new : List Kept) (looked : ℕ) (es : Patterns) : Type 0 where
+pub record HaveFailed (rules : List Rule) (nodes : List Shape) (x ns : List ℕ) (p i : ℕ) (old new : List Kept)
+    (looked : ℕ) (es : Patterns) : Type 0 where
   pub rest : Patterns
   pub is : new ≡ old
   pub spelled : SpellAll rules nodes (drop i ns) rest
@@ -139,14 +153,16 @@ module _ (rules : List Rule) (nodes : List Shape) (x ns : List ℕ) where
   -- the first number spells the first pattern, and the others the others
   abbrev Spelled : List ℕ → Patterns → Type 0
   Spelled [] es = es ≡ none
-  Spelled (m ∷ ms) es = (e : Pattern) × (rest : Patterns) × (es ≡ more e rest) × Spells rules nodes m e × SpellAll rules nodes ms rest
+  Spelled (m ∷ ms) es = (e : Pattern) × (rest : Patterns) × (es ≡ more e rest) × Spells rules nodes m e
+      × SpellAll rules nodes ms rest
 
   spelled : {ms : List ℕ} {es : Patterns} → SpellAll rules nodes ms es → Spelled ms es
   spelled spell_none = refl
   spelled (spell_more s ss) = (_, _, refl, s, ss)
 
   next_spelled : (i : ℕ) (es : Patterns) → i < length ns → SpellAll rules nodes (drop i ns) es →
-      (e : Pattern) × (rest : Patterns) × (es ≡ more e rest) × Spells rules nodes (get_or ns i 0) e × SpellAll rules nodes (drop (i + 1) ns) rest
+      (e : Pattern) × (rest : Patterns) × (es ≡ more e rest) × Spells rules nodes (get_or ns i 0) e
+      × SpellAll rules nodes (drop (i + 1) ns) rest
   next_spelled i es h s = let s' = rw (drop-cons ns i 0) at s in rw (add-one i) (spelled s')
 
   none_spelled : (i : ℕ) (es : Patterns) → length ns ≤ i → SpellAll rules nodes (drop i ns) es → es ≡ none
@@ -155,7 +171,8 @@ module _ (rules : List Rule) (nodes : List Shape) (x ns : List ℕ) where
       let s' = rw empty at s in
       spelled s'
 
-  pub none_taken : (p : ℕ) (old : List Kept) (es : Patterns) → SpellAll rules nodes ns es → HaveTaken rules nodes x ns p 0 p old old 0 es
+  pub none_taken : (p : ℕ) (old : List Kept) (es : Patterns) → SpellAll rules nodes ns es
+      → HaveTaken rules nodes x ns p 0 p old old 0 es
   none_taken p old es s = record {
     added = [];
     events = [];
@@ -213,7 +230,12 @@ module _ (rules : List Rule) (nodes : List Shape) (x ns : List ℕ) where
       let s = next_spelled i t.rest h t.spelled in
       let m : MatchesBy nodes (Gives rules x s.0 p) Found.Failed tried.looked mid new = rw found at match s.0 s.3 in
       let tries' = rw s.2 at t.tries in
-      rw looked (record { rest = s.1; is = m.1 ∙ t.is; spelled = s.4; tries = tries_on_step rules x es s.0 s.1 p j tried.looked tries' m.0 })
+      rw looked (record {
+        rest = s.1;
+        is = m.1 ∙ t.is;
+        spelled = s.4;
+        tries = tries_on_step rules x es s.0 s.1 p j tried.looked tries' m.0;
+      })
 
   pub one_found : (p i q : ℕ) (old mid new : List Kept) (tried : Tried) (j k : ℕ) (es : Patterns) →
       i < length ns → HaveFailed rules nodes x ns p i old mid j es →
@@ -222,10 +244,16 @@ module _ (rules : List Rule) (nodes : List Shape) (x ns : List ℕ) where
   one_found p i q old mid new tried j k es h t match found looked =
       let s = next_spelled i t.rest h t.spelled in
       let m : MatchesBy nodes (Gives rules x s.0 p) (Found.Took q) tried.looked mid new = rw found at match s.0 s.3 in
-      let tries' = rw s.2 at t.tries in
-      (m.0, m.1, m.2, rw looked (tries_on_takes rules x es s.0 s.1 p q j tried.looked _ tries' m.3), m.4 ∙ ap (λ v. v ++ m.0) t.is)
+      let tries' = rw s.2 at t.tries in (
+        m.0,
+        m.1,
+        m.2,
+        rw looked (tries_on_takes rules x es s.0 s.1 p q j tried.looked _ tries' m.3),
+        m.4 ∙ ap (λ v. v ++ m.0) t.is,
+      )
 
-  pub all_tried : (p i k : ℕ) (old new : List Kept) (es : Patterns) → length ns ≤ i → HaveFailed rules nodes x ns p i old new k es →
+  pub all_tried : (p i k : ℕ) (old new : List Kept) (es : Patterns) → length ns ≤ i
+      → HaveFailed rules nodes x ns p i old new k es →
       GivesFirst rules x es p Fails k × (new ≡ old)
   all_tried p i k old new es h t =
       let tries' = rw (none_spelled i t.rest h t.spelled) at t.tries in

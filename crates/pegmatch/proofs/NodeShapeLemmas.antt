@@ -1,6 +1,7 @@
 -- What the shape of a node says of the expression that it spells.
 -- Serves: Plain::match_unit, write_event
-use Rattle.std.proofs.Common.{◌≡◌, ℕ, ◌<◌, List, [], ◌∷◌, ◌++◌, length, map, refl, sym, ap, ◌∙◌, Some, arith, append-nil, option_map, Vec, Global}
+use Rattle.std.proofs.Common.{◌≡◌, ℕ, ◌<◌, List, [], ◌∷◌, ◌++◌, length, map, refl, sym, ap, ◌∙◌, Some, arith}
+use Rattle.std.proofs.Common.{append-nil, option_map, Vec, Global}
 use Rattle.std.proofs.lemmas.List.{length-map}
 use Rattle.std.specs.Prelude.{slice_get}
 use Rattle.std.proofs.lemmas.Option.{slice_get-map, slice_get_within}
@@ -9,23 +10,28 @@ use Rattle.pegread.specs.Pattern.{Pattern, Rule}
 use Rattle.gramcheck.specs.declared.node.Node.{Node}
 use Rattle.gramcheck.specs.Nodes as shape
 use Rattle.gramcheck.specs.Nodes.{Shape, shape_of, shapes_of, Spells}
-use Rattle.gramcheck.specs.Outcome.{Outcome, Fails, Takes, Gives, GivesAll, GivesFirst, name, seq, choice, act, open_at, close_at}
+use Rattle.gramcheck.specs.Outcome.{Outcome, Fails, Takes, Gives, GivesAll, GivesFirst, name, seq, choice, act, open_at}
+use Rattle.gramcheck.specs.Outcome.{close_at}
 use Rattle.gramcheck.proofs.OwnIdLemmas.{body_at_id}
 use Rattle.gramcheck.proofs.HasShapeLemmas.{has_shape}
-use Rattle.pegmatch.specs.KeptEvents.{no_event, one_event, opened, closed, acted, quiet_outcome, MatchesBy, IsMatch, IsMatchOver, IsMatchOfAll, IsMatchOfFirst}
+use Rattle.pegmatch.specs.KeptEvents.{no_event, one_event, opened, closed, acted, quiet_outcome, MatchesBy, IsMatch}
+use Rattle.pegmatch.specs.KeptEvents.{IsMatchOver, IsMatchOfAll, IsMatchOfFirst}
 use Rattle.pegmatch.specs.declared.event.Kept.{Kept}
 use Rattle.cells.specs.declared.cell.Found.{Found}
 use Rattle.pegmatch.specs.declared.leaves.Tried.{Tried}
 
-pub shape_at : (nodes : List Node) (n : ℕ) (node : Node) → slice_get nodes n ≡ Some node → slice_get (shapes_of nodes) n ≡ Some (shape_of node)
+pub shape_at : (nodes : List Node) (n : ℕ) (node : Node) → slice_get nodes n ≡ Some node → slice_get (shapes_of nodes) n
+    ≡ Some (shape_of node)
 shape_at nodes n node is = slice_get-map shape_of nodes n ∙ ap (λ v. option_map shape_of v) is
 
 module _ (rules : List Rule) (nodes : List Shape) where
   -- whatever one gives, so does the other
-  map_by : (F G : Outcome → ℕ → Type 0) → ((o : Outcome) (k : ℕ) → F o k → G o k) → (found : Found) (k : ℕ) (old new : List Kept) →
+  map_by : (F G : Outcome → ℕ → Type 0) → ((o : Outcome) (k : ℕ) → F o k → G o k)
+      → (found : Found) (k : ℕ) (old new : List Kept) →
       MatchesBy nodes F found k old new → MatchesBy nodes G found k old new
   map_by F G f Found.Failed k old new (d, is) = (f Fails k d, is)
-  map_by F G f (Found.Took q) k old new (added, events, stand, d, is) = (added, events, stand, f (Takes q events) k d, is)
+  map_by F G f (Found.Took q) k old new (added, events, stand, d, is) =
+      (added, events, stand, f (Takes q events) k d, is)
 
   module _ (x : List ℕ) (n p : ℕ) where
     -- a node that leaves no event
@@ -35,17 +41,20 @@ module _ (rules : List Rule) (nodes : List Shape) where
     quiet_by c (Found.Took q) k old d = ([], [], no_event, d, sym (append-nil old))
 
     -- a node whose shape spells one expression alone
-    pub quiet_match : (b : Pattern) (tried : Tried) (old : List Kept) → ((c : Pattern) → Spells rules nodes n c → c ≡ b) →
+    pub quiet_match : (b : Pattern) (tried : Tried) (old : List Kept)
+        → ((c : Pattern) → Spells rules nodes n c → c ≡ b) →
         Gives rules x b p (quiet_outcome tried.found) tried.looked → IsMatch rules nodes x n p tried old old
     quiet_match b tried old spelt d = λ c s. rw (spelt c s) (quiet_by b tried.found tried.looked old d)
 
-    pub name_match : (id m : ℕ) (body : Pattern) (tried : Tried) (old new : List Kept) → slice_get nodes n ≡ Some (shape.Name id) →
+    pub name_match : (id m : ℕ) (body : Pattern) (tried : Tried) (old new : List Kept)
+        → slice_get nodes n ≡ Some (shape.Name id) →
         slice_get (map (λ rule. rule.body) rules) id ≡ Some body → Spells rules nodes m body →
         IsMatch rules nodes x m p tried old new → IsMatch rules nodes x n p tried old new
     name_match id m body tried old new at there spelled h = λ c s.
         let is = has_shape rules nodes s (shape.Name id) at in
         let found = body_at_id rules is.0 ∙ ap (λ v. slice_get (map (λ rule. rule.body) rules) v) is.2 ∙ there in
-        rw is.1 (map_by (Gives rules x body p) (Gives rules x (e.Name is.0) p) (λ o k d. name found d) tried.found tried.looked old new (h body spelled))
+        rw is.1 (map_by (Gives rules x body p) (Gives rules x (e.Name is.0) p) (λ o k d. name found d) tried.found
+        tried.looked old new (h body spelled))
 
     -- a node with one operand
     pub over_match : (form : Pattern → Pattern) (m : ℕ) (tried : Tried) (old new : List Kept) →
@@ -57,41 +66,49 @@ module _ (rules : List Rule) (nodes : List Shape) where
         IsMatchOfAll rules nodes x ms p tried old new → IsMatch rules nodes x n p tried old new
     all_match ms tried old new at h = λ c s.
         let is = has_shape rules nodes s (shape.Seq ms) at in
-        rw is.1 (map_by (GivesAll rules x is.0 p) (Gives rules x (e.Seq is.0) p) (λ o k d. seq d) tried.found tried.looked old new (h is.0 is.2))
+        rw is.1 (map_by (GivesAll rules x is.0 p) (Gives rules x (e.Seq is.0) p) (λ o k d. seq d) tried.found
+        tried.looked old new (h is.0 is.2))
 
     pub first_match : (ms : List ℕ) (tried : Tried) (old new : List Kept) → slice_get nodes n ≡ Some (shape.Choice ms) →
         IsMatchOfFirst rules nodes x ms p tried old new → IsMatch rules nodes x n p tried old new
     first_match ms tried old new at h = λ c s.
         let is = has_shape rules nodes s (shape.Choice ms) at in
-        rw is.1 (map_by (GivesFirst rules x is.0 p) (Gives rules x (e.Choice is.0) p) (λ o k d. choice d) tried.found tried.looked old new (h is.0 is.2))
+        rw is.1 (map_by (GivesFirst rules x is.0 p) (Gives rules x (e.Choice is.0) p) (λ o k d. choice d) tried.found
+        tried.looked old new (h is.0 is.2))
 
     -- a success that takes nothing and keeps one event
     abbrev pub kept_one : Tried
     kept_one = record { found = Found.Took p; looked = 0 }
 
-    pub act_match : (t : List ℕ) (tried : Tried) (old new : List Kept) → slice_get nodes n ≡ Some (shape.Act t) → tried ≡ kept_one →
+    pub act_match : (t : List ℕ) (tried : Tried) (old new : List Kept) → slice_get nodes n ≡ Some (shape.Act t)
+        → tried ≡ kept_one →
         new ≡ old ++ Kept.Acted n ∷ [] → IsMatch rules nodes x n p tried old new
-    act_match t tried old new at is put = λ c s. rw (is, has_shape rules nodes s (shape.Act t) at) (_, _, one_event (acted at) no_event, act, put)
+    act_match t tried old new at is put = λ c s. rw (is, has_shape rules nodes s (shape.Act t) at)
+        (_, _, one_event (acted at) no_event, act, put)
 
     pub open_match : (tried : Tried) (old new : List Kept) → slice_get nodes n ≡ Some shape.Open → tried ≡ kept_one →
         new ≡ old ++ Kept.Opened p ∷ [] → IsMatch rules nodes x n p tried old new
-    open_match tried old new at is put = λ c s. rw (is, has_shape rules nodes s shape.Open at) (_, _, one_event opened no_event, open_at, put)
+    open_match tried old new at is put = λ c s. rw (is, has_shape rules nodes s shape.Open at)
+        (_, _, one_event opened no_event, open_at, put)
 
     pub close_match : (tried : Tried) (old new : List Kept) → slice_get nodes n ≡ Some shape.Close → tried ≡ kept_one →
         new ≡ old ++ Kept.Closed p ∷ [] → IsMatch rules nodes x n p tried old new
-    close_match tried old new at is put = λ c s. rw (is, has_shape rules nodes s shape.Close at) (_, _, one_event closed no_event, close_at, put)
+    close_match tried old new at is put = λ c s. rw (is, has_shape rules nodes s shape.Close at)
+        (_, _, one_event closed no_event, close_at, put)
 
 pub node_within : (nodes : List Node) (n : ℕ) (s : Shape) → slice_get (shapes_of nodes) n ≡ Some s → n < length nodes
 node_within nodes n s is = let less = slice_get_within (shapes_of nodes) n s is in grind (arith, less, length-map)
 
 -- a node that has the shape of an action is an action
-pub node_acts : (nodes : List Node) (n : ℕ) (t : List ℕ) (node : Node) → slice_get (shapes_of nodes) n ≡ Some (shape.Act t) →
+pub node_acts : (nodes : List Node) (n : ℕ) (t : List ℕ) (node : Node) → slice_get (shapes_of nodes) n
+    ≡ Some (shape.Act t) →
     slice_get nodes n ≡ Some node → ((template : Vec ℕ Global) → node ≡ Node.Act template → ⊥) → ⊥
 node_acts nodes n t node is at other =
     let here = shape_at nodes n node at in
     let same : shape_of node ≡ shape.Act t = cc in
     no_other node same other
   where
-    no_other : (node : Node) → shape_of node ≡ shape.Act t → ((template : Vec ℕ Global) → node ≡ Node.Act template → ⊥) → ⊥
+    no_other : (node : Node) → shape_of node ≡ shape.Act t
+        → ((template : Vec ℕ Global) → node ≡ Node.Act template → ⊥) → ⊥
     no_other (Node.Act template) is other = other template refl
     no_other _ is other = cc

@@ -8,7 +8,8 @@ use Rattle.pegmatch.specs.Text.{Word, Other, pieces_of, text_of}
 runs_are_maximal : pieces_of (codes "a1_ b") ≡ Word (codes "a1_") ∷ (Other 32 ∷ (Word (codes "b") ∷ []))
 runs_are_maximal = refl
 
--- `{ yytext yyleng yytextual }` with the capture `yyleng`: a longer run stands, and what is put in is not looked at again
+-- `{ yytext yyleng yytextual }` with the capture `yyleng`: a longer run stands, and what is put in is not looked at
+-- again
 words : text_of false (codes "yyleng") (Opened 0 ∷ (Closed 6 ∷ (Acted (codes " yytext yyleng yytextual ") ∷ []))) ≡
     codes "yyleng " ++ ((decimal 6 ++ codes " yytextual") ++ codes "\n")
 words = simp (append_assoc, append-nil)
@@ -30,11 +31,13 @@ close_alone : text_of true (codes "ab") (Closed 2 ∷ (Acted (codes "[yytext]") 
 close_alone = refl
 
 -- a second close uses the same start
-second_close : text_of true (codes "abc") (Opened 0 ∷ (Closed 1 ∷ (Closed 3 ∷ (Acted (codes "yytext") ∷ [])))) ≡ codes "abc"
+second_close : text_of true (codes "abc") (Opened 0 ∷ (Closed 1 ∷ (Closed 3 ∷ (Acted (codes "yytext") ∷ []))))
+    ≡ codes "abc"
 second_close = refl
 
 -- C in a template stands as it is, but for the words: `{ putchar(yytext[0]); }`
-code_stands : text_of false (codes "h") (Opened 0 ∷ (Closed 1 ∷ (Acted (codes " putchar(yytext[0]); ") ∷ []))) ≡ codes "putchar(h[0]);\n"
+code_stands : text_of false (codes "h") (Opened 0 ∷ (Closed 1 ∷ (Acted (codes " putchar(yytext[0]); ") ∷ [])))
+    ≡ codes "putchar(h[0]);\n"
 code_stands = refl
 
 -- raw: the template as it is, and no LF

@@ -11,14 +11,17 @@ use Rattle.pegmatch.specs.declared.event.Kept.{Kept}
 use Rattle.cells.specs.declared.cell.Found.{Found}
 use Rattle.pegmatch.specs.declared.leaves.Tried.{Tried}
 
-some_outcome : (nodes : List Shape) (rules : List Rule) (x : List ℕ) (e : Pattern) (found : Found) (k : ℕ) (old new : List Kept) →
+some_outcome : (nodes : List Shape) (rules : List Rule) (x : List ℕ) (e : Pattern) (found : Found) (k : ℕ)
+    (old new : List Kept) →
     MatchesBy nodes (Gives rules x e 0) found k old new → (o : Outcome) × Gives rules x e 0 o k
 some_outcome nodes rules x e Found.Failed k old new (d, is) = (_, d)
 some_outcome nodes rules x e (Found.Took q) k old new (added, events, stand, d, is) = (_, d)
 
 -- whatever was found, the rule gives an outcome that looks as far
-pub rule_gives : (rules : List Rule) (nodes : List Shape) (start root : ℕ) (bodies ranks : List ℕ) (x : List ℕ) (tried : Tried) (n : ℕ) (old new : List Kept) →
-    tried.looked ≡ n → IsRanked rules start nodes bodies ranks → slice_get bodies start ≡ Some root → IsMatch rules nodes x root 0 tried old new →
+pub rule_gives : (rules : List Rule) (nodes : List Shape) (start root : ℕ) (bodies ranks : List ℕ) (x : List ℕ)
+    (tried : Tried) (n : ℕ) (old new : List Kept) →
+    tried.looked ≡ n → IsRanked rules start nodes bodies ranks → slice_get bodies start ≡ Some root
+    → IsMatch rules nodes x root 0 tried old new →
     (o : Outcome) × RuleGives rules start x o n
 rule_gives rules nodes start root bodies ranks x tried n old new is sound at match =
     let s = sound.spelled.spelled start root at in

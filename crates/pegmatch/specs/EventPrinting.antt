@@ -25,7 +25,8 @@ capture_by capture (Closed q) = closed_at capture q capture.start
 capture_by capture (Acted n) = capture
 
 -- what was written so far, and what the events still to come print, make up the whole text
-pub record IsPrinted (raw : Bool) (x : List ℕ) (all later : List Event) (capture : Capture) (done : List ℕ) : Type 0 where
+pub record IsPrinted (raw : Bool) (x : List ℕ) (all later : List Event) (capture : Capture) (done : List ℕ) : Type
+    0 where
   pub low : ℕ
   pub begun : IfSome capture.start (λ p. p ≤ low)
   pub order : capture.from ≤ capture.to

@@ -39,32 +39,38 @@ SpellsSome rules nodes n = (e : Pattern) × Spells rules nodes n e
 abbrev pub MatchesBy : List Shape → (Outcome → ℕ → Type 0) → Found → ℕ → List Kept → List Kept → Type 0
 MatchesBy nodes Gives' Found.Failed looked old new = Gives' Fails looked × (new ≡ old)
 MatchesBy nodes Gives' (Found.Took end) looked old new =
-    (added : List Kept) × (events : List event.Event) × StandFor nodes added events × Gives' (Takes end events) looked × (new ≡ old ++ added)
+    (added : List Kept) × (events : List event.Event) × StandFor nodes added events × Gives' (Takes end events) looked
+    × (new ≡ old ++ added)
 
 -- What was found for a node at a place is what the expression that it spells gives there.
 abbrev pub IsMatch : List Rule → List Shape → List ℕ → ℕ → ℕ → Tried → List Kept → List Kept → Type 0
 IsMatch rules nodes x n p tried old new =
     (e : Pattern) → Spells rules nodes n e → MatchesBy nodes (Gives rules x e p) tried.found tried.looked old new
 
--- likewise for a node that repeats the operand, makes it optional or looks ahead at it: `form` makes its expression of the operand's
-abbrev pub IsMatchOver : (Pattern → Pattern) → List Rule → List Shape → List ℕ → ℕ → ℕ → Tried → List Kept → List Kept → Type 0
+-- likewise for a node that repeats the operand, makes it optional or looks ahead at it: `form` makes its expression of
+-- the operand's
+abbrev pub IsMatchOver : (Pattern → Pattern) → List Rule → List Shape → List ℕ → ℕ → ℕ → Tried → List Kept → List Kept
+    → Type 0
 IsMatchOver form rules nodes x m p tried old new =
     (e : Pattern) → Spells rules nodes m e → MatchesBy nodes (Gives rules x (form e) p) tried.found tried.looked old new
 
 -- What was found for a node at a place is what its expression gives there, with some events.
 abbrev pub IsSeen : List Rule → List Shape → List ℕ → ℕ → ℕ → Tried → Type 0
 IsSeen rules nodes x n p tried =
-    (e : Pattern) → Spells rules nodes n e → (events : List event.Event) × Gives rules x e p (outcome_of tried.found events) tried.looked
+    (e : Pattern) → Spells rules nodes n e → (events : List event.Event)
+    × Gives rules x e p (outcome_of tried.found events) tried.looked
 
 -- what was found for the members of a sequence
 abbrev pub IsMatchOfAll : List Rule → List Shape → List ℕ → List ℕ → ℕ → Tried → List Kept → List Kept → Type 0
 IsMatchOfAll rules nodes x ns p tried old new =
-    (es : Patterns) → SpellAll rules nodes ns es → MatchesBy nodes (GivesAll rules x es p) tried.found tried.looked old new
+    (es : Patterns) → SpellAll rules nodes ns es → MatchesBy nodes (GivesAll rules x es p) tried.found tried.looked
+    old new
 
 -- likewise for the alternatives of a choice
 abbrev pub IsMatchOfFirst : List Rule → List Shape → List ℕ → List ℕ → ℕ → Tried → List Kept → List Kept → Type 0
 IsMatchOfFirst rules nodes x ns p tried old new =
-    (es : Patterns) → SpellAll rules nodes ns es → MatchesBy nodes (GivesFirst rules x es p) tried.found tried.looked old new
+    (es : Patterns) → SpellAll rules nodes ns es → MatchesBy nodes (GivesFirst rules x es p) tried.found tried.looked
+    old new
 
 -- A success ends in the input.
 abbrev pub EndsWithin : Found → ℕ → Type 0

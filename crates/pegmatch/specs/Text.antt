@@ -1,6 +1,8 @@
--- What the events of a success print: captures and templates (peg(1), 'yytext'; where the manual is vague the rules are this project's own).
+-- What the events of a success print: captures and templates (peg(1), 'yytext'; where the manual is vague the rules are
+-- this project's own).
 use Prim.Native.Char.{code}
-use Rattle.std.specs.Prelude.{ℕ, Bool, ◌||◌, ◌&&◌, List, [], ◌∷◌, ◌++◌, reverse, length, Option, Some, None, if◌then◌else◌, nat_le, ◌==◌, slice_range, codes}
+use Rattle.std.specs.Prelude.{ℕ, Bool, ◌||◌, ◌&&◌, List, [], ◌∷◌, ◌++◌, reverse, length, Option, Some, None}
+use Rattle.std.specs.Prelude.{if◌then◌else◌, nat_le, ◌==◌, slice_range, codes}
 use Rattle.std.specs.List.{flat_map}
 use Rattle.std.specs.Str.{bytes_eq}
 use Rattle.std.specs.Fmt.{decimal}
@@ -11,7 +13,8 @@ between low high b = nat_le low b && nat_le b high
 
 -- a letter, a digit or an underscore
 abbrev pub is_word : ℕ → Bool
-is_word b = between (code "a") (code "z") b || between (code "A") (code "Z") b || between (code "0") (code "9") b || (b == code "_")
+is_word b = between (code "a") (code "z") b || between (code "A") (code "Z") b || between (code "0") (code "9") b
+    || (b == code "_")
 
 -- A piece of a template: a maximal run of word bytes, or one other byte.
 pub data Piece : Type 0 where

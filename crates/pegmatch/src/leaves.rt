@@ -20,7 +20,8 @@ pub struct Tried {
 pub fn match_any(window: &[u8], place: usize) -> Tried
     ensures within { EndsWithin result.found (length window.now) }
     ensures looked { result.looked ≤ length window.now }
-    ensures value { (rules : List Rule) → Gives rules window.now Pattern.Any place (quiet_outcome result.found) result.looked }
+    ensures value { (rules : List Rule) → Gives rules window.now Pattern.Any place (quiet_outcome result.found)
+        result.looked }
 {
     if place < window.len() {
         Tried {
@@ -39,7 +40,8 @@ pub fn match_any(window: &[u8], place: usize) -> Tried
 pub fn match_set(set: &ByteSet, window: &[u8], place: usize) -> Tried
     ensures within { EndsWithin result.found (length window.now) }
     ensures looked { result.looked ≤ length window.now }
-    ensures value { (rules : List Rule) → Gives rules window.now (Pattern.Set (λ b. get_or set.now b false)) place (quiet_outcome result.found) result.looked }
+    ensures value { (rules : List Rule) → Gives rules window.now (Pattern.Set (λ b. get_or set.now b false)) place
+        (quiet_outcome result.found) result.looked }
 {
     if place >= window.len() {
         return Tried {
@@ -66,7 +68,8 @@ pub fn match_bytes(bytes: &[u8], window: &[u8], place: usize) -> Tried
     requires { place ≤ length window.now }
     ensures within { EndsWithin result.found (length window.now) }
     ensures looked { result.looked ≤ length window.now }
-    ensures value { (rules : List Rule) → Gives rules window.now (Pattern.Bytes bytes.now) place (quiet_outcome result.found) result.looked }
+    ensures value { (rules : List Rule) → Gives rules window.now (Pattern.Bytes bytes.now) place
+        (quiet_outcome result.found) result.looked }
 {
     let comparison = compare(&window[place..], bytes);
     let looked = looked_after(place, comparison.compared);

@@ -63,5 +63,6 @@ pub trait Matcher {
     ) -> Result<(), ReplayFault>
         requires { HoldsSuccess peg.now window.now (holds self.old peg.now window.now) }
         ensures { (events : List Event) → holds self.old peg.now window.now events →
-            Replays (W.contents out.old) (W.contents out.new) (W.failed out.old) (W.failed out.new) (text_of raw window.now events) result };
+            Replays (W.contents out.old) (W.contents out.new) (W.failed out.old) (W.failed out.new)
+            (text_of raw window.now events) result };
 }

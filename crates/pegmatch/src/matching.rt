@@ -5,7 +5,8 @@ ghost use Rattle.pegread.specs.PegViews.{rules_of};
 ghost use Rattle.gramcheck.specs.Grammar.{IsSoundGrammar};
 ghost use Rattle.gramcheck.specs.Nodes.{Shape, shapes_of};
 ghost use Rattle.gramcheck.specs.Ranks.{IsNullNode};
-ghost use Rattle.pegmatch.specs.KeptEvents.{SpellsSome, IsMatch, IsMatchOfAll, IsMatchOfFirst, IsMatchOver, IsSeen, EndsWithin};
+ghost use Rattle.pegmatch.specs.KeptEvents.{SpellsSome, IsMatch, IsMatchOfAll, IsMatchOfFirst, IsMatchOver, IsSeen};
+ghost use Rattle.pegmatch.specs.KeptEvents.{EndsWithin};
 
 use crate::compare::further;
 use crate::event::Kept;
@@ -31,7 +32,8 @@ pub(crate) fn match_node(
     requires place { place ≤ length window.now }
     ensures within { IfOk result (λ tried. EndsWithin tried.found (length window.now)) }
     ensures looked { IfOk result (λ tried. tried.looked ≤ length window.now) }
-    ensures value { IfOk result (λ tried. IsMatch (rules_of peg.now.rules) (shapes_of peg.now.nodes) window.now n place tried events.old.items events.new.items) }
+    ensures value { IfOk result (λ tried. IsMatch (rules_of peg.now.rules) (shapes_of peg.now.nodes) window.now n place
+        tried events.old.items events.new.items) }
     ensures counted { begun.old ≤ begun.new }
     ensures some { 1 ≤ begun.new }
 {
@@ -74,7 +76,8 @@ fn match_all(
     requires place { place ≤ length window.now }
     ensures within { IfOk result (λ tried. EndsWithin tried.found (length window.now)) }
     ensures looked { IfOk result (λ tried. tried.looked ≤ length window.now) }
-    ensures value { IfOk result (λ tried. IsMatchOfAll (rules_of peg.now.rules) (shapes_of peg.now.nodes) window.now members.now place tried events.old.items events.new.items) }
+    ensures value { IfOk result (λ tried. IsMatchOfAll (rules_of peg.now.rules) (shapes_of peg.now.nodes) window.now
+        members.now place tried events.old.items events.new.items) }
     ensures counted { begun.old ≤ begun.new }
 {
     let mark = events.len();
@@ -117,7 +120,8 @@ fn match_first(
     requires place { place ≤ length window.now }
     ensures within { IfOk result (λ tried. EndsWithin tried.found (length window.now)) }
     ensures looked { IfOk result (λ tried. tried.looked ≤ length window.now) }
-    ensures value { IfOk result (λ tried. IsMatchOfFirst (rules_of peg.now.rules) (shapes_of peg.now.nodes) window.now alternatives.now place tried events.old.items events.new.items) }
+    ensures value { IfOk result (λ tried. IsMatchOfFirst (rules_of peg.now.rules) (shapes_of peg.now.nodes) window.now
+        alternatives.now place tried events.old.items events.new.items) }
     ensures counted { begun.old ≤ begun.new }
 {
     let mut looked = 0;
@@ -153,7 +157,8 @@ fn match_star(
     requires place { place ≤ length window.now }
     ensures within { IfOk result (λ tried. EndsWithin tried.found (length window.now)) }
     ensures looked { IfOk result (λ tried. tried.looked ≤ length window.now) }
-    ensures value { IfOk result (λ tried. IsMatchOver Pattern.Star (rules_of peg.now.rules) (shapes_of peg.now.nodes) window.now operand place tried events.old.items events.new.items) }
+    ensures value { IfOk result (λ tried. IsMatchOver Pattern.Star (rules_of peg.now.rules) (shapes_of peg.now.nodes)
+        window.now operand place tried events.old.items events.new.items) }
     ensures counted { begun.old ≤ begun.new }
 {
     let mut end = place;
@@ -188,7 +193,8 @@ fn match_plus(
     requires place { place ≤ length window.now }
     ensures within { IfOk result (λ tried. EndsWithin tried.found (length window.now)) }
     ensures looked { IfOk result (λ tried. tried.looked ≤ length window.now) }
-    ensures value { IfOk result (λ tried. IsMatchOver Pattern.Plus (rules_of peg.now.rules) (shapes_of peg.now.nodes) window.now operand place tried events.old.items events.new.items) }
+    ensures value { IfOk result (λ tried. IsMatchOver Pattern.Plus (rules_of peg.now.rules) (shapes_of peg.now.nodes)
+        window.now operand place tried events.old.items events.new.items) }
     ensures counted { begun.old ≤ begun.new }
 {
     let first = match_node(peg, window, operand, place, events, begun)?;
@@ -219,7 +225,8 @@ fn match_opt(
     requires place { place ≤ length window.now }
     ensures within { IfOk result (λ tried. EndsWithin tried.found (length window.now)) }
     ensures looked { IfOk result (λ tried. tried.looked ≤ length window.now) }
-    ensures value { IfOk result (λ tried. IsMatchOver Pattern.Opt (rules_of peg.now.rules) (shapes_of peg.now.nodes) window.now operand place tried events.old.items events.new.items) }
+    ensures value { IfOk result (λ tried. IsMatchOver Pattern.Opt (rules_of peg.now.rules) (shapes_of peg.now.nodes)
+        window.now operand place tried events.old.items events.new.items) }
     ensures counted { begun.old ≤ begun.new }
 {
     let tried = match_node(peg, window, operand, place, events, begun)?;
@@ -247,7 +254,8 @@ fn match_and(
     requires place { place ≤ length window.now }
     ensures within { IfOk result (λ tried. EndsWithin tried.found (length window.now)) }
     ensures looked { IfOk result (λ tried. tried.looked ≤ length window.now) }
-    ensures value { IfOk result (λ tried. IsMatchOver Pattern.And (rules_of peg.now.rules) (shapes_of peg.now.nodes) window.now operand place tried events.old.items events.new.items) }
+    ensures value { IfOk result (λ tried. IsMatchOver Pattern.And (rules_of peg.now.rules) (shapes_of peg.now.nodes)
+        window.now operand place tried events.old.items events.new.items) }
     ensures counted { begun.old ≤ begun.new }
 {
     let tried = look_ahead(peg, window, operand, place, events, begun)?;
@@ -276,7 +284,8 @@ fn match_not(
     requires place { place ≤ length window.now }
     ensures within { IfOk result (λ tried. EndsWithin tried.found (length window.now)) }
     ensures looked { IfOk result (λ tried. tried.looked ≤ length window.now) }
-    ensures value { IfOk result (λ tried. IsMatchOver Pattern.Not (rules_of peg.now.rules) (shapes_of peg.now.nodes) window.now operand place tried events.old.items events.new.items) }
+    ensures value { IfOk result (λ tried. IsMatchOver Pattern.Not (rules_of peg.now.rules) (shapes_of peg.now.nodes)
+        window.now operand place tried events.old.items events.new.items) }
     ensures counted { begun.old ≤ begun.new }
 {
     let tried = look_ahead(peg, window, operand, place, events, begun)?;
@@ -305,7 +314,8 @@ fn look_ahead(
     requires place { place ≤ length window.now }
     ensures within { IfOk result (λ tried. EndsWithin tried.found (length window.now)) }
     ensures looked { IfOk result (λ tried. tried.looked ≤ length window.now) }
-    ensures value { IfOk result (λ tried. IsSeen (rules_of peg.now.rules) (shapes_of peg.now.nodes) window.now operand place tried) }
+    ensures value { IfOk result (λ tried. IsSeen (rules_of peg.now.rules) (shapes_of peg.now.nodes) window.now operand
+        place tried) }
     ensures counted { begun.old ≤ begun.new }
     ensures dropped { OnOk result (events.new.items ≡ events.old.items) }
 {

@@ -94,7 +94,8 @@ impl Matcher for Plain {
     ) -> Result<(), ReplayFault>
         requires { HoldsSuccess peg.now window.now (StandFor (shapes_of peg.now.nodes) self.old) }
         ensures text { (events : List Event) → StandFor (shapes_of peg.now.nodes) self.old events →
-            Replays (W.contents out.old) (W.contents out.new) (W.failed out.old) (W.failed out.new) (text_of raw window.now events) result }
+            Replays (W.contents out.old) (W.contents out.new) (W.failed out.old) (W.failed out.new)
+            (text_of raw window.now events) result }
         ensures kept { self.new ≡ self.old }
     {
         events_rise_of_start();

@@ -20,8 +20,10 @@ pub(crate) fn write_events<W: Sink>(
     raw: bool,
     out: &mut W,
 ) -> Result<(), WriteFault>
-    requires { (meant : List Event) × StandFor (shapes_of peg.now.nodes) events.now meant × Rise 0 (length window.now) meant }
-    ensures bytes { (meant : List Event) → StandFor (shapes_of peg.now.nodes) events.now meant → Rise 0 (length window.now) meant →
+    requires { (meant : List Event) × StandFor (shapes_of peg.now.nodes) events.now meant
+        × Rise 0 (length window.now) meant }
+    ensures bytes { (meant : List Event) → StandFor (shapes_of peg.now.nodes) events.now meant → Rise 0 (length
+        window.now) meant →
         Writes (W.contents out.old) (W.contents out.new) (text_of raw window.now meant) result }
     ensures flag { Flags (W.failed out.old) (W.failed out.new) result }
 {

@@ -20,7 +20,8 @@ fn is_word_byte(b: u8) -> bool
 
 // Writes a run of word bytes, or what stands in its place.
 fn write_run<W: Sink>(out: &mut W, run: &[u8], capture: &[u8]) -> Result<(), WriteFault>
-    ensures bytes { Writes (W.contents out.old) (W.contents out.new) (filled_piece capture.now (Piece.Word run.now)) result }
+    ensures bytes { Writes (W.contents out.old) (W.contents out.new) (filled_piece capture.now (Piece.Word run.now))
+        result }
     ensures flag { Flags (W.failed out.old) (W.failed out.new) result }
 {
     if run == b"yytext".as_slice() {
@@ -40,7 +41,8 @@ fn write_run_and<W: Sink>(
     capture: &[u8],
     byte: u8,
 ) -> Result<(), WriteFault>
-    ensures bytes { Writes (W.contents out.old) (W.contents out.new) (filled_piece capture.now (Piece.Word run.now) ++ byte ∷ []) result }
+    ensures bytes { Writes (W.contents out.old) (W.contents out.new) (filled_piece capture.now (Piece.Word run.now)
+        ++ byte ∷ []) result }
     ensures flag { Flags (W.failed out.old) (W.failed out.new) result }
 {
     match write_run(out, run, capture) {
@@ -177,7 +179,8 @@ fn write_acted<W: Sink>(
     requires within { capture.to ≤ length window.now }
     requires stands { (e : Event) × StandsFor (shapes_of peg.now.nodes) event e }
     ensures bytes { (e : Event) → StandsFor (shapes_of peg.now.nodes) event e →
-        Writes (W.contents out.old) (W.contents out.new) (event_text raw e (slice_range window.now capture.from capture.to)) result }
+        Writes (W.contents out.old) (W.contents out.new)
+        (event_text raw e (slice_range window.now capture.from capture.to)) result }
     ensures flag { Flags (W.failed out.old) (W.failed out.new) result }
 {
     match event {
@@ -208,7 +211,8 @@ pub fn write_event<W: Sink>(
     requires within { capture.to ≤ length window.now }
     requires stands { (e : Event) × StandsFor (shapes_of peg.now.nodes) event e }
     ensures bytes { (e : Event) → StandsFor (shapes_of peg.now.nodes) event e →
-        Writes (W.contents out.old) (W.contents out.new) (event_text raw e (slice_range window.now capture.from capture.to)) result }
+        Writes (W.contents out.old) (W.contents out.new)
+        (event_text raw e (slice_range window.now capture.from capture.to)) result }
     ensures flag { Flags (W.failed out.old) (W.failed out.new) result }
 {
     match event {

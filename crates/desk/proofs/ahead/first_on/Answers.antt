@@ -1,31 +1,49 @@
-use Rattle.desk.proofs.IsOnLemmas.{stays, other_child, alternative_free, alternative_takes, alternative_fails, alternative_halts, all_failed}
+use Rattle.desk.proofs.IsOnLemmas.{stays, other_child, alternative_free, alternative_takes, alternative_fails}
+use Rattle.desk.proofs.IsOnLemmas.{alternative_halts, all_failed}
 use Rattle.desk.proofs.ahead.first_on.Goals as goal
 
 pub loop-i-init : goal.loop-i-init
 loop-i-init c = λ below fits. stays _ _ _ c.start-start.ensures.sound _ _ _ fits
 
 pub see-requires-clause-spells : goal.see-requires-clause-spells
-see-requires-clause-spells c = (other_child _ _ _ c.start-start.ensures.sound c.requires.fits.0 _ _ _ _ _ (c.loop-i.invariant c.requires.fits.0 c.requires.fits.1) c.requires.some _ c.loop-i-test.true c.requires.alternatives).spelled
+see-requires-clause-spells c = (other_child _ _ _ c.start-start.ensures.sound c.requires.fits.0 _ _ _ _ _
+    (c.loop-i.invariant c.requires.fits.0 c.requires.fits.1) c.requires.some _ c.loop-i-test.true
+    c.requires.alternatives).spelled
 
 pub see-requires-clause-place : goal.see-requires-clause-place
-see-requires-clause-place c = (other_child _ _ _ c.start-start.ensures.sound c.requires.fits.0 _ _ _ _ _ (c.loop-i.invariant c.requires.fits.0 c.requires.fits.1) c.requires.some _ c.loop-i-test.true c.requires.alternatives).high
+see-requires-clause-place c = (other_child _ _ _ c.start-start.ensures.sound c.requires.fits.0 _ _ _ _ _
+    (c.loop-i.invariant c.requires.fits.0 c.requires.fits.1) c.requires.some _ c.loop-i-test.true
+    c.requires.alternatives).high
 
 pub see-requires-clause-right : goal.see-requires-clause-right
 see-requires-clause-right c = (c.loop-i.invariant c.requires.fits.0 c.requires.fits.1).fits.cells
 
 pub returns-in-Ok-None : goal.returns-in-Ok-None
-returns-in-Ok-None c = λ below fits. alternative_free _ _ _ c.start-start.ensures.sound below _ _ _ _ _ (c.loop-i.invariant below fits) c.requires.some _ c.loop-i-test.true c.requires.alternatives _ (rw c.in-Ok-None.field-0-is at c.in-Ok-None.ensures)
+returns-in-Ok-None c = λ below fits. alternative_free _ _ _ c.start-start.ensures.sound below _ _ _ _ _
+    (c.loop-i.invariant below fits) c.requires.some _ c.loop-i-test.true c.requires.alternatives _
+    (rw c.in-Ok-None.field-0-is at c.in-Ok-None.ensures)
 
 pub returns-in-Ok-Some-Took : goal.returns-in-Ok-Some-Took
-returns-in-Ok-Some-Took c = λ below fits. alternative_takes _ _ _ c.start-start.ensures.sound below _ _ _ _ _ (c.loop-i.invariant below fits) c.requires.some _ c.loop-i-test.true c.requires.alternatives _ _ (rw (c.in-Ok-Some-Took.field-0-is, c.in-Ok-Some-Took.field-0-0-is) at c.in-Ok-Some-Took.ensures)
+returns-in-Ok-Some-Took c = λ below fits. alternative_takes _ _ _ c.start-start.ensures.sound below _ _ _ _ _
+    (c.loop-i.invariant below fits) c.requires.some _ c.loop-i-test.true c.requires.alternatives _ _
+    (rw (c.in-Ok-Some-Took.field-0-is, c.in-Ok-Some-Took.field-0-0-is) at c.in-Ok-Some-Took.ensures)
 
 pub loop-i-preserved : goal.loop-i-preserved
-loop-i-preserved c = λ below fits. alternative_fails _ _ _ c.start-start.ensures.sound below _ _ _ _ _ (c.loop-i.invariant below fits) c.requires.some _ c.loop-i-test.true c.requires.alternatives _ (rw (c.in-Ok-Some-Failed.field-0-is, c.in-Ok-Some-Failed.field-0-0-is) at c.in-Ok-Some-Failed.ensures)
+loop-i-preserved c = λ below fits. alternative_fails _ _ _ c.start-start.ensures.sound below _ _ _ _ _
+    (c.loop-i.invariant below fits) c.requires.some _ c.loop-i-test.true c.requires.alternatives _
+    (rw (c.in-Ok-Some-Failed.field-0-is, c.in-Ok-Some-Failed.field-0-0-is) at c.in-Ok-Some-Failed.ensures)
 
 pub returns-in-Err : goal.returns-in-Err
-returns-in-Err c = λ below fits. alternative_halts _ _ _ c.start-start.ensures.sound below _ _ _ _ _ (c.loop-i.invariant below fits) c.requires.some _ c.loop-i-test.true c.requires.alternatives c.see.new.cells c.in-Err.halt c.in-Err.ensures
+returns-in-Err c = λ below fits. alternative_halts _ _ _ c.start-start.ensures.sound below _ _ _ _ _
+    (c.loop-i.invariant below fits) c.requires.some _ c.loop-i-test.true c.requires.alternatives c.see.new.cells
+    c.in-Err.halt c.in-Err.ensures
 
 pub returns : goal.returns
 returns c = λ below fits.
-    let here = c.loop-i.invariant below fits in
-    (_, _, here, all_failed _ _ _ c.start-start.ensures.sound below _ _ here.fits c.requires.some _ c.requires.alternatives c.loop-i-test.false)
+    let here = c.loop-i.invariant below fits in (
+      _,
+      _,
+      here,
+      all_failed _ _ _ c.start-start.ensures.sound below _ _ here.fits c.requires.some _ c.requires.alternatives
+          c.loop-i-test.false,
+    )

@@ -7,15 +7,18 @@ use Rattle.desk.proofs.desk.step_on.Goals as goal
 
 pub next_turn-requires-clause-spells : goal.next_turn-requires-clause-spells
 next_turn-requires-clause-spells c =
-    (is_top _ _ _ c.start-start.ensures.sound _ _ _ c.requires.fits (read_top _ _ _ _ c.requires.frame.2 (c.top-top.ensures _ _ c.requires.frame.2))).spelled
+    (is_top _ _ _ c.start-start.ensures.sound _ _ _ c.requires.fits
+    (read_top _ _ _ _ c.requires.frame.2 (c.top-top.ensures _ _ c.requires.frame.2))).spelled
 
 pub next_turn-requires-clause-place : goal.next_turn-requires-clause-place
 next_turn-requires-clause-place c =
-    (is_top _ _ _ c.start-start.ensures.sound _ _ _ c.requires.fits (read_top _ _ _ _ c.requires.frame.2 (c.top-top.ensures _ _ c.requires.frame.2))).high
+    (is_top _ _ _ c.start-start.ensures.sound _ _ _ c.requires.fits
+    (read_top _ _ _ _ c.requires.frame.2 (c.top-top.ensures _ _ c.requires.frame.2))).high
 
 pub put-requires : goal.put-requires
 put-requires c =
-    (is_top _ _ _ c.start-start.ensures.sound _ _ _ c.requires.fits (read_top _ _ _ _ c.requires.frame.2 (c.top-top.ensures _ _ c.requires.frame.2))).none
+    (is_top _ _ _ c.start-start.ensures.sound _ _ _ c.requires.fits
+    (read_top _ _ _ _ c.requires.frame.2 (c.top-top.ensures _ _ c.requires.frame.2))).none
 
 pub one_more-requires : goal.one_more-requires
 one_more-requires c =
@@ -25,17 +28,22 @@ one_more-requires c =
 pub returns-in_ok-advance-in-Ask : goal.returns-in_ok-advance-in-Ask
 returns-in_ok-advance-in-Ask c =
     let is = read_top _ _ _ _ c.requires.frame.2 (c.top-top.ensures _ _ c.requires.frame.2) in
-    pushed _ _ _ c.start-start.ensures.sound _ _ _ _ _ _ _ _ c.requires.fits is c.in-Ask.ensures refl (c.in_ok-advance-in-Ask.ensures _ _ is) c.one_more.ensures
+    pushed _ _ _ c.start-start.ensures.sound _ _ _ _ _ _ _ _ c.requires.fits is c.in-Ask.ensures refl
+    (c.in_ok-advance-in-Ask.ensures _ _ is) c.one_more.ensures
 
 pub returns-then-is_empty : goal.returns-then-is_empty
 returns-then-is_empty c =
     let is = read_top _ _ _ _ c.requires.frame.2 (c.top-top.ensures _ _ c.requires.frame.2) in
     rw c.ended.ensures
-    (ended_step _ _ _ c.start-start.ensures.sound _ _ _ _ (ended _ _ _ c.start-start.ensures.sound _ _ _ _ _ c.requires.fits is c.in-Answer.ensures c.in_ok-put-in-Answer.ensures.added (c.pop.ensures _ _ is) refl
+    (ended_step _ _ _ c.start-start.ensures.sound _ _ _ _
+    (ended _ _ _ c.start-start.ensures.sound _ _ _ _ _ c.requires.fits is c.in-Answer.ensures
+    c.in_ok-put-in-Answer.ensures.added (c.pop.ensures _ _ is) refl
     (c.is_empty.ensures.0 c.if-is_empty.true)) refl)
 
 pub returns-else-is_empty : goal.returns-else-is_empty
 returns-else-is_empty c =
     let is = read_top _ _ _ _ c.requires.frame.2 (c.top-top.ensures _ _ c.requires.frame.2) in
-    let some = some_frame c.pop.new.self (λ none. both_ways c.is_empty.result c.if-is_empty.false (c.is_empty.ensures.1 none)) in
-    dropped _ _ _ c.start-start.ensures.sound _ _ _ _ _ c.requires.fits is c.in-Answer.ensures c.in_ok-put-in-Answer.ensures.added (c.pop.ensures _ _ is) refl _ _ some.2
+    let some = some_frame c.pop.new.self (λ none. both_ways c.is_empty.result c.if-is_empty.false
+    (c.is_empty.ensures.1 none)) in
+    dropped _ _ _ c.start-start.ensures.sound _ _ _ _ _ c.requires.fits is c.in-Answer.ensures
+    c.in_ok-put-in-Answer.ensures.added (c.pop.ensures _ _ is) refl _ _ some.2

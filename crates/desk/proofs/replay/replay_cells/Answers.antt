@@ -26,19 +26,33 @@ pub write_walk-requires-clause-walks : goal.write_walk-requires-clause-walks
 write_walk-requires-clause-walks g c =
     let at = rw c.start.ensures.id at c.body_node-root.ensures in
     let frames : c.push.new.self.frames ≡ beginning c.body_node-root.result 0 ∷ [] =
-    c.push.ensures.frames ∙ ap (λ fs. c.beginning.result ∷ fs) c.reserve.ensures.frames ∙ ap (λ b. b ∷ []) c.beginning.ensures in
-    (c.requires.1.0, (held_walk _ _ _ c.start.ensures.sound _ _ c.requires.1.1.1 c.requires.1.1.0 _ at _ frames, held_rise c.args.peg.now _ _ _ c.requires.1.1.1))
+    c.push.ensures.frames ∙ ap (λ fs. c.beginning.result ∷ fs) c.reserve.ensures.frames
+    ∙ ap (λ b. b ∷ []) c.beginning.ensures in (
+      c.requires.1.0,
+      (
+        held_walk _ _ _ c.start.ensures.sound _ _ c.requires.1.1.1 c.requires.1.1.0 _ at _ frames,
+        held_rise c.args.peg.now _ _ _ c.requires.1.1.1,
+      ),
+    )
 
 pub returns-in-Ok : goal.returns-in-Ok
 returns-in-Ok g c = λ d events is holds.
     let at = rw c.start.ensures.id at c.body_node-root.ensures in
     let frames : c.push.new.self.frames ≡ beginning c.body_node-root.result 0 ∷ [] =
-    c.push.ensures.frames ∙ ap (λ fs. c.beginning.result ∷ fs) c.reserve.ensures.frames ∙ ap (λ b. b ∷ []) c.beginning.ensures in
-    (c.in-Ok.ensures.bytes events (held_walk _ _ _ c.start.ensures.sound _ _ holds is _ at _ frames) (held_rise c.args.peg.now _ _ _ holds), c.in-Ok.ensures.flag)
+    c.push.ensures.frames ∙ ap (λ fs. c.beginning.result ∷ fs) c.reserve.ensures.frames
+    ∙ ap (λ b. b ∷ []) c.beginning.ensures in (
+      c.in-Ok.ensures.bytes events (held_walk _ _ _ c.start.ensures.sound _ _ holds is _ at _ frames) (held_rise
+          c.args.peg.now _ _ _ holds),
+      c.in-Ok.ensures.flag,
+    )
 
 pub returns-in-Err : goal.returns-in-Err
 returns-in-Err g c = λ d events is holds.
     let at = rw c.start.ensures.id at c.body_node-root.ensures in
     let frames : c.push.new.self.frames ≡ beginning c.body_node-root.result 0 ∷ [] =
-    c.push.ensures.frames ∙ ap (λ fs. c.beginning.result ∷ fs) c.reserve.ensures.frames ∙ ap (λ b. b ∷ []) c.beginning.ensures in
-    (c.in-Err.ensures.bytes events (held_walk _ _ _ c.start.ensures.sound _ _ holds is _ at _ frames) (held_rise c.args.peg.now _ _ _ holds), c.in-Err.ensures.flag)
+    c.push.ensures.frames ∙ ap (λ fs. c.beginning.result ∷ fs) c.reserve.ensures.frames
+    ∙ ap (λ b. b ∷ []) c.beginning.ensures in (
+      c.in-Err.ensures.bytes events (held_walk _ _ _ c.start.ensures.sound _ _ holds is _ at _ frames) (held_rise
+          c.args.peg.now _ _ _ holds),
+      c.in-Err.ensures.flag,
+    )

@@ -65,15 +65,21 @@ returns-in-TurnTo-clause-goes c = λ all walks.
     let is = read_top _ _ _ _ c.requires.top.2 (c.top-top.ensures _ _ c.requires.top.2) in
     let last = last_at _ _ _ _ _ _ _ _ _ _ is walks in
     let way = c.in-TurnTo.ensures _ _ _ c.requires.cells.1 last.left in
-    let g : Goes (rules_of c.args.peg.now.rules) (shapes_of c.args.peg.now.nodes) c.args.peg.now.bodies c.args.peg.now.ranks c.args.window.now c.args.cells.now (c.top-top.result ∷ c.requires.top.1) None all (beginning c.in-TurnTo.node c.in-TurnTo.place ∷ c.pop-in-TurnTo.new.self.frames) =
+    let g : Goes (rules_of c.args.peg.now.rules) (shapes_of c.args.peg.now.nodes) c.args.peg.now.bodies
+    c.args.peg.now.ranks c.args.window.now c.args.cells.now (c.top-top.result ∷ c.requires.top.1) None all
+    (beginning c.in-TurnTo.node c.in-TurnTo.place ∷ c.pop-in-TurnTo.new.self.frames) =
     rw (c.pop-in-TurnTo.ensures.frames _ _ is) (turns _ _ _ _ _ _ _ _ all last _ _ way) in
-    goes_at _ _ _ _ _ _ _ _ _ _ _ _ is (goes_then _ _ _ _ _ _ _ _ _ _ _ g (c.begin_at.ensures.begins _ _ _ _ c.requires.cells.1 g.walks))
+    goes_at _ _ _ _ _ _ _ _ _ _ _ _ is (goes_then _ _ _ _ _ _ _ _ _ _ _ g
+    (c.begin_at.ensures.begins _ _ _ _ c.requires.cells.1 g.walks))
 
 pub returns-in-GoInto-clause-goes : goal.returns-in-GoInto-clause-goes
 returns-in-GoInto-clause-goes c = λ all walks.
     let is = read_top _ _ _ _ c.requires.top.2 (c.top-top.ensures _ _ c.requires.top.2) in
     let last = last_at _ _ _ _ _ _ _ _ _ _ is walks in
     let way = c.in-GoInto.ensures _ _ _ c.requires.cells.1 last.left in
-    let g : Goes (rules_of c.args.peg.now.rules) (shapes_of c.args.peg.now.nodes) c.args.peg.now.bodies c.args.peg.now.ranks c.args.window.now c.args.cells.now (c.top-top.result ∷ c.requires.top.1) None all (beginning c.in-GoInto.node c.in-GoInto.place ∷ c.come_on.new.self.frames) =
+    let g : Goes (rules_of c.args.peg.now.rules) (shapes_of c.args.peg.now.nodes) c.args.peg.now.bodies
+    c.args.peg.now.ranks c.args.window.now c.args.cells.now (c.top-top.result ∷ c.requires.top.1) None all
+    (beginning c.in-GoInto.node c.in-GoInto.place ∷ c.come_on.new.self.frames) =
     rw (c.come_on.ensures.frames _ _ is) (goes_into _ _ _ _ _ _ _ _ all last _ _ _ _ way) in
-    goes_at _ _ _ _ _ _ _ _ _ _ _ _ is (goes_then _ _ _ _ _ _ _ _ _ _ _ g (c.begin_at-in-GoInto.ensures.begins _ _ _ _ c.requires.cells.1 g.walks))
+    goes_at _ _ _ _ _ _ _ _ _ _ _ _ is (goes_then _ _ _ _ _ _ _ _ _ _ _ g
+    (c.begin_at-in-GoInto.ensures.begins _ _ _ _ c.requires.cells.1 g.walks))

@@ -5,13 +5,17 @@ use Rattle.desk.proofs.IsWayLemmas.{ends_told}
 use Rattle.desk.proofs.way.end_at_once.Goals as goal
 
 pub returns-in-Any : goal.returns-in-Any
-returns-in-Any c = ends_told (shapes_of c.args.peg.now.nodes) c.args.node c.args.place _ _ _ (shape_at c.args.peg.now.nodes c.args.node _ (c.node.ensures ∙ ap Some c.in-Any.is)) c.behind.ensures (λ e h. h)
+returns-in-Any c = ends_told (shapes_of c.args.peg.now.nodes) c.args.node c.args.place _ _ _
+    (shape_at c.args.peg.now.nodes c.args.node _ (c.node.ensures ∙ ap Some c.in-Any.is)) c.behind.ensures (λ e h. h)
 
 pub returns-in-Set : goal.returns-in-Set
-returns-in-Set c = ends_told (shapes_of c.args.peg.now.nodes) c.args.node c.args.place _ _ _ (shape_at c.args.peg.now.nodes c.args.node _ (c.node.ensures ∙ ap Some c.in-Set.is)) c.behind-in-Set.ensures (λ e h. h)
+returns-in-Set c = ends_told (shapes_of c.args.peg.now.nodes) c.args.node c.args.place _ _ _
+    (shape_at c.args.peg.now.nodes c.args.node _ (c.node.ensures ∙ ap Some c.in-Set.is)) c.behind-in-Set.ensures
+    (λ e h. h)
 
 pub returns-in-Bytes : goal.returns-in-Bytes
-returns-in-Bytes c = ends_told (shapes_of c.args.peg.now.nodes) c.args.node c.args.place _ _ _ (shape_at c.args.peg.now.nodes c.args.node _ (c.node.ensures ∙ ap Some c.in-Bytes.is)) c.behind-in-Bytes.ensures
+returns-in-Bytes c = ends_told (shapes_of c.args.peg.now.nodes) c.args.node c.args.place _ _ _
+    (shape_at c.args.peg.now.nodes c.args.node _ (c.node.ensures ∙ ap Some c.in-Bytes.is)) c.behind-in-Bytes.ensures
     (λ e h. omega (arith, h, c.len.ensures, c.in-Bytes.bytes.ok.0))
 
 pub returns-in-And : goal.returns-in-And

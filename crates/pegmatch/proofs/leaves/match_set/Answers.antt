@@ -6,7 +6,9 @@ pub returns-then-place-window-clause-value : goal.returns-then-place-window-clau
 returns-then-place-window-clause-value c = λ rules. set_missing rules _ _ _ c.if-place-window.true
 
 pub returns-then-has-clause-value : goal.returns-then-has-clause-value
-returns-then-has-clause-value c = λ rules. set_found rules _ _ _ _ c.if-place-window.false refl (sym c.has.ensures ∙ c.if-has.true)
+returns-then-has-clause-value c = λ rules. set_found rules _ _ _ _ c.if-place-window.false refl
+    (sym c.has.ensures ∙ c.if-has.true)
 
 pub returns-else-has-clause-value : goal.returns-else-has-clause-value
-returns-else-has-clause-value c = λ rules. set_other rules _ _ _ _ c.if-place-window.false refl (sym c.has.ensures ∙ c.if-has.false)
+returns-else-has-clause-value c = λ rules. set_other rules _ _ _ _ c.if-place-window.false refl
+    (sym c.has.ensures ∙ c.if-has.false)

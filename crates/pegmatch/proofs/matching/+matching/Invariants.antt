@@ -38,11 +38,13 @@ abbrev pub invariant-match_all-loop-member : goal.invariant-match_all-loop-membe
 invariant-match_all-loop-member l = record {
   low : l.fn.place ≤ l.end;
   within : l.end ≤ length l.window;
-  front : l.end ≡ l.fn.place → IsFront (rules_of l.peg.rules) (shapes_of l.peg.nodes) l.peg.bodies l.members l.member-index;
+  front : l.end ≡ l.fn.place → IsFront (rules_of l.peg.rules) (shapes_of l.peg.nodes) l.peg.bodies l.members
+      l.member-index;
   looked : l.looked ≤ length l.window;
   counted : l.initial.begun ≤ l.begun;
   taken : (es : Patterns) → SpellAll (rules_of l.peg.rules) (shapes_of l.peg.nodes) l.members es →
-      HaveTaken (rules_of l.peg.rules) (shapes_of l.peg.nodes) l.window l.members l.fn.place l.member-index l.end l.initial.events.items l.events.items l.looked es;
+      HaveTaken (rules_of l.peg.rules) (shapes_of l.peg.nodes) l.window l.members l.fn.place l.member-index l.end
+      l.initial.events.items l.events.items l.looked es;
 }
 
 abbrev pub invariant-match_first-loop-alternative : goal.invariant-match_first-loop-alternative
@@ -50,7 +52,8 @@ invariant-match_first-loop-alternative l = record {
   looked : l.looked ≤ length l.window;
   counted : l.initial.begun ≤ l.begun;
   failed : (es : Patterns) → SpellAll (rules_of l.peg.rules) (shapes_of l.peg.nodes) l.alternatives es →
-      HaveFailed (rules_of l.peg.rules) (shapes_of l.peg.nodes) l.window l.alternatives l.place l.alternative-index l.initial.events.items l.events.items l.looked es;
+      HaveFailed (rules_of l.peg.rules) (shapes_of l.peg.nodes) l.window l.alternatives l.place l.alternative-index
+      l.initial.events.items l.events.items l.looked es;
 }
 
 abbrev pub invariant-match_star-loop-tried : goal.invariant-match_star-loop-tried
@@ -60,7 +63,8 @@ invariant-match_star-loop-tried l = record {
   looked : l.looked ≤ length l.window;
   counted : l.initial.begun ≤ l.begun;
   turned : (e : Pattern) → Spells (rules_of l.peg.rules) (shapes_of l.peg.nodes) l.operand e →
-      HaveTurned (rules_of l.peg.rules) (shapes_of l.peg.nodes) l.window e l.fn.place l.end l.initial.events.items l.events.items l.looked;
+      HaveTurned (rules_of l.peg.rules) (shapes_of l.peg.nodes) l.window e l.fn.place l.end l.initial.events.items
+      l.events.items l.looked;
 }
 
 abbrev pub decreases-match_star-loop-tried : goal.decreases-match_star-loop-tried

@@ -13,7 +13,8 @@ loop-event-preserved g c = record {
   written = λ all s r.
       let h = c.loop-event.invariant.written all s r in
       let n = next_event _ _ _ all _ _ _ _ c.loop-event-test.true _ _ h in
-      rw c.capture_after-capture.ensures (written_next _ _ _ all _ _ _ _ c.loop-event-test.true _ _ h _ (c.in-Ok.ensures.bytes n.event n.stands));
+      rw c.capture_after-capture.ensures (written_next _ _ _ all _ _ _ _ c.loop-event-test.true _ _ h _
+      (c.in-Ok.ensures.bytes n.event n.stands));
   flag = c.in-Ok.ensures.flag ∙ c.loop-event.invariant.flag;
 }
 
@@ -24,4 +25,5 @@ returns-in-Err-clause-bytes g c = λ all s r.
     written_part _ _ _ all _ _ _ _ c.loop-event-test.true _ _ h _ (c.in-Err.ensures.bytes n.event n.stands)
 
 pub returns-clause-bytes : goal.returns-clause-bytes
-returns-clause-bytes g c = λ all s r. written_all _ _ _ all _ _ _ _ _ c.loop-event-test.false (c.loop-event.invariant.written all s r)
+returns-clause-bytes g c = λ all s r. written_all _ _ _ all _ _ _ _ _ c.loop-event-test.false
+    (c.loop-event.invariant.written all s r)

@@ -9,6 +9,7 @@ use Rattle.pegmatch.proofs.replay.write_events.Given as goal
 abbrev pub invariant-loop-event : goal.invariant-loop-event
 invariant-loop-event g l = record {
   written : (all : List Event) → StandFor (shapes_of l.peg.nodes) l.events all → Rise 0 (length l.window) all →
-      HaveWritten l.raw (shapes_of l.peg.nodes) l.window all l.events l.event-index (g.W.Sink.contents l.initial.out) (g.W.Sink.contents l.out) l.capture;
+      HaveWritten l.raw (shapes_of l.peg.nodes) l.window all l.events l.event-index (g.W.Sink.contents l.initial.out)
+      (g.W.Sink.contents l.out) l.capture;
   flag : g.W.Sink.failed l.out ≡ g.W.Sink.failed l.initial.out;
 }

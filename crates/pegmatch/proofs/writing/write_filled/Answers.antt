@@ -6,7 +6,8 @@ use Rattle.pegmatch.proofs.writing.write_filled.Goals.{then-not-is_word_byte+in-
 
 pub returns-in-Err-clause-bytes : goal.returns-in-Err-clause-bytes
 returns-in-Err-clause-bytes g c =
-    written_fault _ _ _ _ c.loop-i.invariant.order _ _ _ c.loop-i-test.true c.loop-i.invariant.word (sym c.is_word_byte.ensures ∙ c.if-not-is_word_byte.true) c.loop-i.invariant.text c.in-Err.ensures.bytes
+    written_fault _ _ _ _ c.loop-i.invariant.order _ _ _ c.loop-i-test.true c.loop-i.invariant.word
+    (sym c.is_word_byte.ensures ∙ c.if-not-is_word_byte.true) c.loop-i.invariant.text c.in-Err.ensures.bytes
 
 pub loop-i-preserved : goal.loop-i-preserved
 loop-i-preserved g c =
@@ -16,7 +17,8 @@ loop-i-preserved g c =
         within = omega arith;
         word = rw w.from-is (no_word c.args.template.now (c.loop-i.i + 1));
         text = rw (w.from-is, w.out-is)
-            (written_next _ _ _ _ c.loop-i.invariant.order _ _ _ c.loop-i-test.true c.loop-i.invariant.word (sym c.is_word_byte.ensures ∙ w.if-not-is_word_byte.true)
+            (written_next _ _ _ _ c.loop-i.invariant.order _ _ _ c.loop-i-test.true c.loop-i.invariant.word
+            (sym c.is_word_byte.ensures ∙ w.if-not-is_word_byte.true)
             c.loop-i.invariant.text w.in-Ok.ensures.bytes);
         flag = rw w.out-is (w.in-Ok.ensures.flag ∙ c.loop-i.invariant.flag);
       }
@@ -31,4 +33,5 @@ loop-i-preserved g c =
     ]
 
 pub returns-clause-bytes : goal.returns-clause-bytes
-returns-clause-bytes g c = written_last _ _ _ _ c.loop-i.invariant.order _ _ _ _ c.loop-i.invariant.within c.loop-i-test.false c.loop-i.invariant.word c.loop-i.invariant.text c.write_run.ensures.bytes
+returns-clause-bytes g c = written_last _ _ _ _ c.loop-i.invariant.order _ _ _ _ c.loop-i.invariant.within
+    c.loop-i-test.false c.loop-i.invariant.word c.loop-i.invariant.text c.write_run.ensures.bytes

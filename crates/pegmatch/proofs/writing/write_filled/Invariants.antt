@@ -10,6 +10,7 @@ invariant-loop-i g l = record {
   order : l.from ≤ l.i;
   within : l.i ≤ length l.template;
   word : AreWord (slice_range l.template l.from l.i);
-  text : (done : List ℕ) × Appends (g.W.Sink.contents l.initial.out) (g.W.Sink.contents l.out) done × (done ++ filled (drop l.from l.template) l.capture ≡ filled l.template l.capture);
+  text : (done : List ℕ) × Appends (g.W.Sink.contents l.initial.out) (g.W.Sink.contents l.out) done
+      × (done ++ filled (drop l.from l.template) l.capture ≡ filled l.template l.capture);
   flag : g.W.Sink.failed l.out ≡ g.W.Sink.failed l.initial.out;
 }

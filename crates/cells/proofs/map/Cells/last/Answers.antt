@@ -13,13 +13,16 @@ returns-then-cell-place c =
     let at : IsAt c.self.inside.cells.items c.args.node c.args.place c.index-cell.result.now.end = (
       c.len-count.result - 1,
       c.index-cell.result.now,
-      slice_get-get_or c.self.inside.cells.items (c.len-count.result - 1) c.index-cell.result.now low ∙ ap Some (sym c.index-cell.ensures),
+      slice_get-get_or c.self.inside.cells.items (c.len-count.result - 1) c.index-cell.result.now low
+          ∙ ap Some (sym c.index-cell.ensures),
       c.if-cell-node.true,
       c.if-cell-place.true,
       refl,
     ) in
     let is : Some c.found_of_end.result ≡ found_at c.args.self.now c.args.node c.args.place =
-    rw (← c.self.view_is, c.found_of_end.ensures) (held_found (entries_of c.self.inside.cells.items) c.args.node c.args.place (found_of c.index-cell.result.now.end)
+    rw (← c.self.view_is, c.found_of_end.ensures) (held_found (entries_of c.self.inside.cells.items) c.args.node
+    c.args.place (found_of c.index-cell.result.now.end)
     (holds_at c.self.inside.cells.items c.args.node c.args.place c.index-cell.result.now.end at)
-    (holds_only c.self.inside.cells.items c.args.node c.args.place c.index-cell.result.now.end c.self.invariant.map at)) in
+    (holds_only c.self.inside.cells.items c.args.node c.args.place c.index-cell.result.now.end c.self.invariant.map
+    at)) in
     sym is

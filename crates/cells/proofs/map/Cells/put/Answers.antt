@@ -5,5 +5,6 @@ use Rattle.cells.proofs.map.Cells.put.Goals as goal
 
 pub insert-requires-clause-free : goal.insert-requires-clause-free
 insert-requires-clause-free c =
-    free-is (entries_of c.self.inside.cells.items) (entry_of c.in-Some.cell) c.args.node c.args.place c.args.found c.in-Some.ensures.entry
+    free-is (entries_of c.self.inside.cells.items) (entry_of c.in-Some.cell) c.args.node c.args.place c.args.found
+    c.in-Some.ensures.entry
     (none_free (entries_of c.self.inside.cells.items) c.args.node c.args.place (rw c.self.view_is c.requires))

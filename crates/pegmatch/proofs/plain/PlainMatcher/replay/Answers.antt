@@ -17,6 +17,12 @@ returns-clause-text g c = λ events s.
     let r = c.events_rise_of_start.ensures _ _ _ _ _ _ h.3 in
     let rise = subst (Rise 0 (length c.args.window.now)) (same_events _ h.4 s) (Rise-upper 0 _ _ h.0 r.0 r.1) in
     elim c.match-write_events.branch [
-      | in-Ok w ↦ rw w.result-is (w.in-Ok.ensures.bytes events (rw (c.deref.ensures.value, c.self.view_is) s) rise, w.in-Ok.ensures.flag)
-      | in-Err w ↦ rw w.result-is (w.in-Err.ensures.bytes events (rw (c.deref.ensures.value, c.self.view_is) s) rise, w.in-Err.ensures.flag)
+      | in-Ok w ↦ rw w.result-is (
+        w.in-Ok.ensures.bytes events (rw (c.deref.ensures.value, c.self.view_is) s) rise,
+        w.in-Ok.ensures.flag,
+      )
+      | in-Err w ↦ rw w.result-is (
+        w.in-Err.ensures.bytes events (rw (c.deref.ensures.value, c.self.view_is) s) rise,
+        w.in-Err.ensures.flag,
+      )
     ]
