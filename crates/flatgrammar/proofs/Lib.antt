@@ -4,8 +4,10 @@ pub mod CallOfLemmas
 pub mod FlatCutLemmas
 pub mod FlatNullableLemmas
 pub mod FlatNumbersLemmas
+pub mod HeadBlockLemmas
 pub mod IdOfLemmas
 pub mod InLemmas
+pub mod InnerLemmas
 pub mod IsEmptyRepeatLemmas
 pub mod LoweredLemmas
 pub mod NamesTellLemmas
@@ -13,7 +15,6 @@ pub mod NodeRunsLemmas
 pub mod NodeStepsLemmas
 pub mod NullNeedsLemmas
 pub mod OnLineLemmas
-pub mod OwnBlockLemmas
 pub mod PlacesLemmas
 pub mod ReachedLemmas
 pub mod RootLemmas

@@ -3,6 +3,7 @@ use Rattle.std.specs.Prelude.{◌≡◌, ℕ, ◌<◌, ◌⊎◌, true, false, L
 use Rattle.flatgrammar.specs.declared.flat_item.Item.{Item}
 use Rattle.flatgrammar.specs.declared.block.Spot.{Spot}
 use Rattle.flatgrammar.specs.declared.block.Block as code_block
+use Rattle.flatgrammar.specs.declared.inner.Inner.{Inner}
 use Rattle.flatgrammar.specs.declared.tables.Tables as code_flat
 use Rattle.flatgrammar.specs.NodeSteps.{flat_of}
 use Rattle.flatgrammar.specs.TableViews.{call_of, count_in, null_of, whole_root, takes_of, GiveRoots, AreNulls}
@@ -10,6 +11,9 @@ use Rattle.flatgrammar.specs.Places.{In, AreDifferent}
 
 abbrev pub item_at : ℕ → Spot → Item
 item_at j p = record { node = p.node; step = p.step; origin = j }
+
+abbrev pub spot : ℕ → ℕ → Spot
+spot n k = record { node = n; step = k }
 
 pub record Block : Type 0 where
   pub spots : List Spot  -- where something begins
@@ -76,13 +80,28 @@ pub record AreTables (flat : code_flat.Tables) : Type 0 where
   pub outer : (a : Item) (t l : ℕ) → IsLate flat a → call_of flat a ≡ Some (t, l) → IsHead flat t
   pub whole : (t : ℕ) → whole_root flat ≡ Some t → IsHead flat t
 
--- each block has all roots that its spots call
-abbrev pub AreCalls : code_flat.Tables → Type 0
-AreCalls flat = (h t : ℕ) → IsCalling flat (block_of flat h).spots t → In t (block_of flat h).calls
+abbrev pub inner_in : Option (Option Inner) → Option Inner
+inner_in None = None
+inner_in (Some inner) = inner
+
+-- the place that alone calls a node, where another node of the same block begins
+abbrev pub inner_of : code_flat.Tables → ℕ → Option Inner
+inner_of flat t = inner_in (slice_get flat.inners.items t)
+
+-- that spot of the head's block alone calls the node, and goes on elsewhere
+pub record IsAlone (flat : code_flat.Tables) (t : ℕ) (inner : Inner) : Type 0 where
+  pub stands : In (spot inner.node inner.step) (block_of flat inner.head).spots
+  pub begins : inner.step < begin_count flat inner.node
+  pub call : call_at flat (spot inner.node inner.step) ≡ Some (t, inner.next)
+  pub moves : inner.next ≡ inner.step → ⊥
+  pub only : (n k l : ℕ) → call_at flat (spot n k) ≡ Some (t, l) → (inner.node ≡ n) × (inner.step ≡ k)
+
+abbrev pub AreAlone : code_flat.Tables → Type 0
+AreAlone flat = (t : ℕ) (inner : Inner) → inner_of flat t ≡ Some inner → IsAlone flat t inner
 
 -- the tables of a flat grammar tell what they are for
 pub record AreExact (tables : code_flat.Tables) : Type 0 where
   pub roots : GiveRoots (flat_of tables) tables.roots.items
   pub nulls : AreNulls (flat_of tables) tables.nulls.items
   pub blocks : AreTables tables
-  pub calls : AreCalls tables
+  pub inners : AreAlone tables

@@ -2,21 +2,24 @@
 ghost use Rattle.std.specs.Prelude.{◌≡◌, ◌↔◌, ◌+◌, ◌^◌, ◌<◌, IsTrue};
 ghost use Rattle.flatgrammar.specs.NodeSteps.{IfSomeSet};
 ghost use Rattle.flatgrammar.specs.TableViews.{call_of, done_of, null_of, takes_of, read_of, whole_root};
-ghost use Rattle.flatgrammar.specs.Blocks.{block_of};
+ghost use Rattle.flatgrammar.specs.Blocks.{block_of, inner_of};
 
 use crate::block::{Block, Spot};
 use crate::flat_item::Item;
 use crate::flat_node;
 use crate::flat_node::{Node, callee, is_done, takes};
+use crate::inner::{Inner, inner_at};
 
 /// Holds the nodes of a lowered grammar, of each rule the node of its body, of each node its root, a mark of what is nullable
-/// and its block, the whole's node, and how many letters a line may have.
+/// the place that alone calls it, if it stands in the block of another, and its block, the whole's node, and how many letters
+/// a line may have.
 #[derive(Drop)]
 pub struct Tables {
     pub nodes: Vec<Node>,
     pub bodies: Vec<usize>,
     pub roots: Vec<Option<usize>>,
     pub nulls: Vec<bool>,
+    pub inners: Vec<Option<Inner>>,
     pub blocks: Vec<Block>,
     pub whole: usize,
     pub limit: usize,
@@ -92,6 +95,13 @@ pub fn passes(flat: &Tables, head: usize) -> &[Spot]
         Some(block) => &block.passes,
         None => &[],
     }
+}
+
+/// Returns the place that alone calls a root, if the root stands in the block of another.
+pub fn sole_caller(flat: &Tables, root: usize) -> Option<Inner>
+    ensures { result ≡ inner_of flat.now root }
+{
+    inner_at(&flat.inners, root)
 }
 
 /// Returns the root of the whole.
