@@ -14,7 +14,7 @@ use Rattle.earley.specs.declared.front.Front.{Front}
 use Rattle.earley.specs.FrontViews.{view, views, IsOn, IsAsked, expand}
 use Rattle.earley.proofs.ItemLemmas.{item_same}
 use Rattle.flatgrammar.proofs.CallOfLemmas.{some_same}
-use Rattle.flatgrammar.specs.Blocks.{item_at, Block, block_of, AreCalls}
+use Rattle.flatgrammar.specs.Blocks.{item_at, Block, block_of}
 use Rattle.earley.proofs.AddsLemmas.{adds_both, adds_as, adds_none}
 use Rattle.flatgrammar.proofs.InLemmas.{in_left, at_end, before_end}
 use Rattle.earley.proofs.BlockLemmas.{in_right, either, from_map}
@@ -214,10 +214,3 @@ asked_one flat item root next old new is p = adds_as (λ t. t ≡ root) (IsAsked
 pub length_views : (flat : code_flat.Tables) (j : ℕ) (fronts : List Front) → length (views flat j fronts) ≡ length fronts
 length_views flat j [] = refl
 length_views flat j (f ∷ fronts) = ap suc (length_views flat (suc j) fronts)
-
--- a block of which no spot calls the root
-pub none_called : (flat : code_flat.Tables) (root h j : ℕ) (old : List Item) → AreCalls flat → (In root (block_of flat h).calls → ⊥) →
-    Adds (IsResumed flat root (map (item_at j) (block_of flat h).spots)) old old
-none_called flat root h j old are never = adds_none (IsResumed flat root (map (item_at j) (block_of flat h).spots)) old (λ a r.
-    let m = from_map j r.from (block_of flat h).spots r.waits in
-    absurd (never (are h root (record { from = m.spot; stands = m.stands; next = a.step; call = subst (λ v. call_of flat v ≡ Some (root, a.step)) m.is r.call }))))

@@ -41,7 +41,7 @@ module _ (flat : code_flat.Tables) (roots : GiveRoots (flat_of flat) flat.roots.
       let c = called_of flat roots item p.root a.step p.call in
       let n = (nulls p.root).0 (mark_is (slice_get flat.nulls.items p.root) p.null) in
       let made : Holds (flat_of flat) x (length sets) (at item.node a.step) item.origin = pass (flat_of flat) x h c.calls
-          (λ t. absurd (false≢true (sym p.free ∙ takes_true flat item.node item.step item.origin t))) (nullable_up c.rooted n) in
+      (λ t. absurd (false≢true (sym p.free ∙ takes_true flat item.node item.step item.origin t))) (nullable_up c.rooted n) in
       subst (λ v. Holds (flat_of flat) x (length sets) (at a.node a.step) v) (sym p.origin)
       (subst (λ v. Holds (flat_of flat) x (length sets) (at v a.step) item.origin) (sym p.node) made)
 

@@ -7,7 +7,7 @@ ghost use Rattle.flatgrammar.specs.NodeSteps.{flat_of};
 ghost use Rattle.flatgrammar.specs.TableViews.{GiveRoots, AreNulls};
 ghost use Rattle.earley.specs.Charts.{IsAfter, IsExact};
 ghost use Rattle.earley.specs.ChartSets.{chart_of, set_at, IsSet, AreSized};
-ghost use Rattle.flatgrammar.specs.Blocks.{AreExact, block_of, item_at, AreTables, AreCalls};
+ghost use Rattle.flatgrammar.specs.Blocks.{AreExact, block_of, item_at, AreTables, AreAlone};
 ghost use Rattle.earley.specs.ItemSets.{Adds};
 ghost use Rattle.earley.specs.Waiting.{AreWaiting};
 ghost use Rattle.earley.specs.FrontViews.{expand, full, view, views, IsWholeAt};
@@ -225,7 +225,7 @@ fn fill_fronts<L: Letter>(
     requires roots { GiveRoots (flat_of flat.now) flat.now.roots.items }
     requires nulls { AreNulls (flat_of flat.now) flat.now.nulls.items }
     requires tables { AreTables flat.now }
-    requires calls { AreCalls flat.now }
+    requires alone { AreAlone flat.now }
     requires no_heads { heads.old ≡ [] }
     requires no_items { items.old ≡ [] }
     ensures size { IfOk result (λ sets. length sets.items ≡ length line.now + 1) }
