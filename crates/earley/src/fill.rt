@@ -6,7 +6,7 @@ ghost use Rattle.flatgrammar.specs.TableViews.{GiveRoots, AreNulls, null_of, cal
 ghost use Rattle.earley.specs.Closed.{Hold, HoldAll, Keeps, IsClosed};
 ghost use Rattle.earley.specs.Worklist.{IsPassed};
 ghost use Rattle.earley.specs.ItemSets.{Adds, IsResumed, waiting_in, IsCompleted};
-ghost use Rattle.flatgrammar.specs.Blocks.{block_of, item_at, begin_count, IsHead, IsLate, AreTables, AreAlone};
+ghost use Rattle.flatgrammar.specs.Blocks.{block_of, item_at, begin_count, IsHead, IsLate, AreTables, AreAlone, inner_of};
 ghost use Rattle.earley.specs.Waiting.{Chain, AreWaiting, AreWaitingAll, BeginHere, BeginAll};
 ghost use Rattle.flatgrammar.specs.declared.flat_item.Item as code_item;
 ghost use Rattle.earley.specs.FrontViews.{expand, full, view, views, IsAsked, IsOn, IsFurther, IsGoing};
@@ -140,7 +140,8 @@ fn go_back(
     home: usize,
     set: &mut Items,
 ) -> Result<(), Memory>
-    requires { AreWaiting flat.now (view flat.now origin front.now) front.now.heads.items front.now.firsts.items front.now.waits.items }
+    requires own { inner_of flat.now root ≡ None }
+    requires waiting { AreWaiting flat.now (view flat.now origin front.now) front.now.heads.items front.now.firsts.items front.now.waits.items }
     ensures { IfOk result (λ done. Adds (IsResumed flat.now root (view flat.now origin front.now)) set.old set.new) }
 {
     match home_of(&front.heads, home, root) {
@@ -164,20 +165,21 @@ fn go_on(
     requires waiting { AreWaiting flat.now (view flat.now origin front.now) front.now.heads.items front.now.firsts.items front.now.waits.items }
     ensures { IfOk result (λ done. Adds (IsResumed flat.now root (view flat.now origin front.now)) set.old set.new) }
 {
-    if let Some(inner) = sole_caller(flat, root) {
-        if let Some(index) = home_of(&front.heads, home, inner.head) {
-            set.add(
-                Item {
-                    node: inner.node,
-                    step: inner.next,
-                    origin,
-                },
-                index,
-            )?;
-            return Ok(());
-        }
+    let Some(inner) = sole_caller(flat, root) else {
+        return go_back(flat, root, front, origin, home, set);
+    };
+    if let Some(index) = home_of(&front.heads, home, inner.head) {
+        set.add(
+            Item {
+                node: inner.node,
+                step: inner.next,
+                origin,
+            },
+            index,
+        )?;
+        return Ok(());
     }
-    go_back(flat, root, front, origin, home, set)
+    resume_all(flat, root, front, origin, set)
 }
 
 /// Adds what goes on from earlier sets where an item is done.

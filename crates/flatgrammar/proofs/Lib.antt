@@ -21,5 +21,6 @@ pub mod RootLemmas
 pub mod RuleDerivesLemmas
 pub mod RuleNodeLemmas
 pub mod SpellAllLemmas
+pub mod SpotListLemmas
 pub mod TellsLemmas
 pub mod WalkLemmas

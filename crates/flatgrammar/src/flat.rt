@@ -12,6 +12,7 @@ use crate::head_block::head_blocks;
 use crate::inner::find_inners;
 use crate::nulls::find_nulls;
 use crate::roots::find_roots;
+use crate::spot_list::spot_lists;
 use crate::tables::Tables;
 use ruletable::Memory;
 use std::alloc::Global;
@@ -65,6 +66,7 @@ impl Flat {
             nulls,
             inners: Vec::new(alloc),
             blocks: Vec::new(alloc),
+            lists: Vec::new(alloc),
             whole,
             limit,
         };
@@ -72,6 +74,8 @@ impl Flat {
         let blocks = head_blocks(alloc, &tables, &inners)?;
         tables.inners = inners;
         tables.blocks = blocks;
+        let lists = spot_lists(alloc, &tables)?;
+        tables.lists = lists;
         let tables = Rc::new(alloc, tables)?;
         Ok(Flat { tables })
     }

@@ -13,6 +13,7 @@ mod lower_elem;
 mod lowered;
 mod nulls;
 mod roots;
+mod spot_list;
 mod tables;
 
 pub use block::{Block, Spot};
@@ -22,6 +23,8 @@ pub use flat_node::{Node, Set};
 pub use inner::Inner;
 pub use item_laws::{items_at_most, items_tell};
 pub use lowered::{lower, lower_rules};
+pub use spot_list::SpotList;
 pub use tables::{
-    Tables, call, calls, done, null, passes, reads, sole_caller, spots, takes_letter, whole_root,
+    Tables, asking, call, calls, done, null, passes, readers, reads, sole_caller, spots,
+    takes_letter, whole_root,
 };

@@ -1,7 +1,7 @@
 use Rattle.std.proofs.Common.{◌+◌, map, ap, ◌∙◌, sym, subst}
 use Rattle.std.proofs.lemmas.List.{length-map}
 use Rattle.flatgrammar.specs.NodeSteps.{flat_of}
-use Rattle.flatgrammar.specs.Blocks.{AreAlone}
+use Rattle.flatgrammar.specs.Blocks.{AreAlone, AreSpotLists}
 use Rattle.earley.specs.Charts.{IsExact}
 use Rattle.earley.specs.ChartSets.{set_at, IsSet}
 use Rattle.earley.specs.FrontViews.{views}
@@ -22,3 +22,6 @@ returns-clause-sets g c = λ j.
 
 pub fill_fronts-requires-clause-alone : goal.fill_fronts-requires-clause-alone
 fill_fronts-requires-clause-alone g c = subst (λ v. AreAlone v) (sym c.deref.ensures) c.requires.exact.inners
+
+pub fill_fronts-requires-clause-lists : goal.fill_fronts-requires-clause-lists
+fill_fronts-requires-clause-lists g c = subst (λ v. AreSpotLists v) (sym c.deref.ensures) c.requires.exact.lists
