@@ -14,10 +14,11 @@ use Rattle.earley.specs.declared.front.Front.{Front}
 use Rattle.earley.specs.FrontViews.{view, views, IsOn, IsAsked, expand}
 use Rattle.earley.proofs.ItemLemmas.{item_same}
 use Rattle.flatgrammar.proofs.CallOfLemmas.{some_same}
-use Rattle.flatgrammar.specs.Blocks.{item_at, Block, block_of, AreCalls}
+use Rattle.flatgrammar.specs.Blocks.{item_at, Block, block_of, readers_of, AreSpotLists}
+use Rattle.flatgrammar.proofs.SpotListLemmas.{readers_pick}
 use Rattle.earley.proofs.AddsLemmas.{adds_both, adds_as, adds_none}
 use Rattle.flatgrammar.proofs.InLemmas.{in_left, at_end, before_end}
-use Rattle.earley.proofs.BlockLemmas.{in_right, either, from_map}
+use Rattle.earley.proofs.BlockLemmas.{in_right, either, in_map, from_map}
 
 pub take_one : {A : Type 0} (xs : List A) (k : ℕ) (d : A) → k < length xs → take (k + 1) xs ≡ take k xs ++ slice_index_or xs k d ∷ []
 take_one [] k d lt = absurd (omega arith)
@@ -164,6 +165,25 @@ module _ (flat : code_flat.Tables) (c : ℕ) where
       (reads_both flat c (expand blocks j (take k hs)) (map (item_at j) (blocks (slice_index_or hs k d)).spots) old mid new p
       (subst (λ v. Adds (IsRead flat c (map (item_at j) v)) mid new) is q))
 
+module _ (flat : code_flat.Tables) (c : ℕ) (old new : List Item) where
+  -- places that do not read the letter may be left out
+  reads_fewer : (few all : List Item) → ((a : Item) → In a few → In a all) → ((a : Item) → In a all → IfSomeSet (read_of flat a) c → In a few) →
+      Adds (IsRead flat c few) old new → Adds (IsRead flat c all) old new
+  reads_fewer few all stand reading = adds_as (IsRead flat c few) (IsRead flat c all) old new
+      (λ a r. record { by = r.by; stands = stand r.by r.stands; reads = r.reads; node = r.node; step = r.step; origin = r.origin })
+      (λ a r. record { by = r.by; stands = reading r.by r.stands r.reads; reads = r.reads; node = r.node; step = r.step; origin = r.origin })
+
+  -- of a block the places that are tried on the letter are enough
+  pub block_reads : (lists : AreSpotLists flat) (head j : ℕ) → Adds (IsRead flat c (map (item_at j) (readers_of flat head c))) old new →
+      Adds (IsRead flat c (map (item_at j) (block_of flat head).spots)) old new
+  block_reads lists head j =
+      let picks = readers_pick flat head c lists in
+      reads_fewer (map (item_at j) (readers_of flat head c)) (map (item_at j) (block_of flat head).spots)
+      (λ a i. let m = from_map j a (readers_of flat head c) i in subst (λ v. In v (map (item_at j) (block_of flat head).spots)) (sym m.is) (in_map j m.spot (block_of flat head).spots (picks.0 m.spot m.stands)))
+      (λ a i r. let m = from_map j a (block_of flat head).spots i in
+      subst (λ v. In v (map (item_at j) (readers_of flat head c))) (sym m.is)
+      (in_map j m.spot (readers_of flat head c) (picks.1 m.spot m.stands (subst (λ v. IfSomeSet (read_of flat v) c) m.is r))))
+
 pub get_views : (flat : code_flat.Tables) (j : ℕ) (fronts : List Front) (k : ℕ) (front : Front) → slice_get fronts k ≡ Some front → slice_get (views flat j fronts) k ≡ Some (view flat (j + k) front)
 get_views flat j [] k front is = absurd cc
 get_views flat j (f ∷ fronts) zero front is = let same : f ≡ front = cc in let z : j ≡ j + 0 = omega arith in ap (λ v. Some (view flat j v)) same ∙ ap (λ v. Some (view flat v front)) z
@@ -214,10 +234,3 @@ asked_one flat item root next old new is p = adds_as (λ t. t ≡ root) (IsAsked
 pub length_views : (flat : code_flat.Tables) (j : ℕ) (fronts : List Front) → length (views flat j fronts) ≡ length fronts
 length_views flat j [] = refl
 length_views flat j (f ∷ fronts) = ap suc (length_views flat (suc j) fronts)
-
--- a block of which no spot calls the root
-pub none_called : (flat : code_flat.Tables) (root h j : ℕ) (old : List Item) → AreCalls flat → (In root (block_of flat h).calls → ⊥) →
-    Adds (IsResumed flat root (map (item_at j) (block_of flat h).spots)) old old
-none_called flat root h j old are never = adds_none (IsResumed flat root (map (item_at j) (block_of flat h).spots)) old (λ a r.
-    let m = from_map j r.from (block_of flat h).spots r.waits in
-    absurd (never (are h root (record { from = m.spot; stands = m.stands; next = a.step; call = subst (λ v. call_of flat v ≡ Some (root, a.step)) m.is r.call }))))

@@ -1,4 +1,5 @@
 pub mod AddsLemmas
+pub mod AloneLemmas
 pub mod BlockLemmas
 pub mod ChartSetsLemmas
 pub mod ExpandLemmas

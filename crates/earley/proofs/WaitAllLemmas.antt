@@ -1,6 +1,6 @@
 -- Lists of what waits for heads.
 -- Serves: judge.
-use Rattle.std.proofs.Common.{◌≡◌, ℕ, zero, suc, ◌+◌, ◌-◌, ◌<◌, ◌≤◌, ◌⊎◌, inl, inr, Some, List, [], ◌∷◌, ◌++◌, length, take, set, slice_get, slice_index_or, refl, sym, ◌∙◌, ap, subst, arith, append_assoc}
+use Rattle.std.proofs.Common.{◌≡◌, ℕ, zero, suc, ◌+◌, ◌-◌, ◌<◌, ◌≤◌, ◌⊎◌, inl, inr, Some, None, map, List, [], ◌∷◌, ◌++◌, length, take, set, slice_get, slice_index_or, refl, sym, ◌∙◌, ap, subst, arith, append_assoc}
 use Rattle.std.proofs.lemmas.Option.{slice_get_within}
 use Rattle.std.proofs.lemmas.List.{append-nil}
 use Rattle.flatgrammar.specs.Places.{In, now, on}
@@ -14,6 +14,8 @@ use Rattle.earley.specs.ItemSets.{Adds, IsResumed}
 use Rattle.earley.specs.declared.front.Front.{Front}
 use Rattle.earley.specs.FrontViews.{view}
 use Rattle.earley.specs.Waiting.{Chain, ended, linked, IsListed, AreWaiting, AreWaitingAll}
+use Rattle.flatgrammar.specs.Blocks.{item_at, block_of, inner_of, lists_of, AreSpotLists}
+use Rattle.earley.proofs.BlockLemmas.{in_right, either, in_map, from_map}
 use Rattle.earley.proofs.AddsLemmas.{adds_none, adds_both, adds_as}
 use Rattle.earley.proofs.ExpandLemmas.{take_one}
 use Rattle.flatgrammar.proofs.FlatCutLemmas.{push_cases}
@@ -121,12 +123,12 @@ module _ (flat : code_flat.Tables) (heads : List ℕ) where
   -- an item that calls none of the heads
   pub waiting_none : (seen : List Item) (item : Item) (firsts : List ℕ) (waits : List Wait) → ((h t l : ℕ) → slice_get heads h ≡ Some t → call_of flat item ≡ Some (t, l) → ⊥) →
       AreWaiting flat seen heads firsts waits → AreWaiting flat (seen ++ item ∷ []) heads firsts waits
-  waiting_none seen item firsts waits never are h t is =
-      let l = are h t is in
+  waiting_none seen item firsts waits never are h t is own =
+      let l = are h t is own in
       record { items = l.items; chain = l.chain; all = λ a r. by a (seen_less t seen item a r); only = λ a i. seen_more t seen item a (l.only a i) }
     where
-      by : (a : Item) → IsResumed flat t seen a ⊎ ((call_of flat item ≡ Some (t, a.step)) × (a.node ≡ item.node) × (a.origin ≡ item.origin)) → In a (are h t is).items
-      by a (inl r) = (are h t is).all a r
+      by : (a : Item) → IsResumed flat t seen a ⊎ ((call_of flat item ≡ Some (t, a.step)) × (a.node ≡ item.node) × (a.origin ≡ item.origin)) → In a (are h t is own).items
+      by a (inl r) = (are h t is own).all a r
       by a (inr c) = absurd (never h t a.step is c.0)
 
   -- an item that calls the head of an index
@@ -134,11 +136,11 @@ module _ (flat : code_flat.Tables) (heads : List ℕ) where
       slice_get heads index ≡ Some root → ((i : ℕ) → slice_get heads i ≡ Some root → i ≡ index) → index < length firsts →
       w.item ≡ record { node = item.node; step = step; origin = item.origin } → w.next ≡ slice_index_or firsts index 0 →
       AreWaiting flat seen heads firsts waits → AreWaiting flat (seen ++ item ∷ []) heads (set firsts index (length waits + 1)) (waits ++ w ∷ [])
-  waiting_more seen item firsts waits index root step w call at_index only within w_item w_next are h t is = by (equal_or h index)
+  waiting_more seen item firsts waits index root step w call at_index only within w_item w_next are h t is own = by (equal_or h index)
     where
       here : (h ≡ index) → (t ≡ root) → IsListed (waits ++ w ∷ []) (length waits + 1) (IsResumed flat t (seen ++ item ∷ []))
       here same t_is =
-          let l = are h t is in
+          let l = are h t is own in
           let next_is : w.next ≡ slice_index_or firsts h 0 = w_next ∙ ap (λ n. slice_index_or firsts n 0) (sym same) in
           let le = chain_within l.chain in
           record {
@@ -149,8 +151,8 @@ module _ (flat : code_flat.Tables) (heads : List ℕ) where
             only = λ a i. from a l.items (λ b g. l.only b g) i;
           }
         where
-          to : (a : Item) → IsResumed flat t seen a ⊎ ((call_of flat item ≡ Some (t, a.step)) × (a.node ≡ item.node) × (a.origin ≡ item.origin)) → In a (w.item ∷ (are h t is).items)
-          to a (inl r) = on ((are h t is).all a r)
+          to : (a : Item) → IsResumed flat t seen a ⊎ ((call_of flat item ≡ Some (t, a.step)) × (a.node ≡ item.node) × (a.origin ≡ item.origin)) → In a (w.item ∷ (are h t is own).items)
+          to a (inl r) = on ((are h t is own).all a r)
           to a (inr c) =
               let s : step ≡ a.step = ap (λ v. v.1) (some_same (sym call ∙ c.0)) in
               now (item_same a item.node step item.origin c.1 (sym s) c.2 ∙ sym w_item)
@@ -177,17 +179,17 @@ module _ (flat : code_flat.Tables) (heads : List ℕ) where
           ap (λ n. slice_index_or (set firsts index (length waits + 1)) n 0) same ∙ set_at firsts index (length waits + 1) 0 within in
           subst (λ n. IsListed (waits ++ w ∷ []) n (IsResumed flat t (seen ++ item ∷ []))) (sym value) (here same t_is)
       by (inr other) =
-          let l = are h t is in
+          let l = are h t is own in
           subst (λ n. IsListed (waits ++ w ∷ []) n (IsResumed flat t (seen ++ item ∷ []))) (sym (set_beside firsts index h (length waits + 1) 0 other))
           (record { items = l.items; chain = chain_more (w ∷ []) l.chain; all = λ a r. to a (seen_less t seen item a r); only = λ a i. seen_more t seen item a (l.only a i) })
         where
-          to : (a : Item) → IsResumed flat t seen a ⊎ ((call_of flat item ≡ Some (t, a.step)) × (a.node ≡ item.node) × (a.origin ≡ item.origin)) → In a (are h t is).items
-          to a (inl r) = (are h t is).all a r
+          to : (a : Item) → IsResumed flat t seen a ⊎ ((call_of flat item ≡ Some (t, a.step)) × (a.node ≡ item.node) × (a.origin ≡ item.origin)) → In a (are h t is own).items
+          to a (inl r) = (are h t is own).all a r
           to a (inr c) = let t_is : root ≡ t = ap (λ v. v.0) (some_same (sym call ∙ c.0)) in absurd (other (only h (is ∙ ap (λ v. Some v) (sym t_is))))
 
   -- nothing waits at first
   pub waiting_start : (firsts : List ℕ) (waits : List Wait) → ((h : ℕ) → slice_index_or firsts h 0 ≡ 0) → AreWaiting flat [] heads firsts waits
-  waiting_start firsts waits zeros h t is = record {
+  waiting_start firsts waits zeros h t is own = record {
     items = [];
     chain = subst (λ n. Chain waits n []) (sym (zeros h)) ended;
     all = λ a r. elim r.waits [ ];
@@ -204,3 +206,32 @@ module _ (flat : code_flat.Tables) (heads : List ℕ) where
 
   pub waiting_same : (firsts : List ℕ) (waits : List Wait) (seen : List Item) → AreWaiting flat seen heads firsts waits → AreWaiting flat (seen ++ []) heads firsts waits
   waiting_same firsts waits seen h = subst (λ v. AreWaiting flat v heads firsts waits) (sym (append-nil seen)) h
+
+  -- places that call none of the heads may be left out
+  pub waiting_fewer : (seen few all : List Item) (firsts : List ℕ) (waits : List Wait) → ((a : Item) → In a few → In a all) →
+      ((a : Item) (t l : ℕ) → In a all → call_of flat a ≡ Some (t, l) → inner_of flat t ≡ None → In a few) →
+      AreWaiting flat (seen ++ few) heads firsts waits → AreWaiting flat (seen ++ all) heads firsts waits
+  waiting_fewer seen few all firsts waits stand called are h t is own =
+      let l = are h t is own in
+      record { items = l.items; chain = l.chain; all = λ a r. l.all a (to a r (either seen r.waits)); only = λ a i. from a (l.only a i) }
+    where
+      to : (a : Item) (r : IsResumed flat t (seen ++ all) a) → In r.from seen ⊎ In r.from all → IsResumed flat t (seen ++ few) a
+      to a r (inl i) = record { from = r.from; waits = in_left few i; call = r.call; node = r.node; origin = r.origin }
+      to a r (inr i) = record { from = r.from; waits = in_right seen (called r.from t a.step i r.call own); call = r.call; node = r.node; origin = r.origin }
+
+      from : (a : Item) → IsResumed flat t (seen ++ few) a → IsResumed flat t (seen ++ all) a
+      from a r = record { from = r.from; waits = by (either seen r.waits); call = r.call; node = r.node; origin = r.origin }
+        where
+          by : In r.from seen ⊎ In r.from few → In r.from (seen ++ all)
+          by (inl i) = in_left all i
+          by (inr i) = in_right seen (stand r.from i)
+
+  -- of a block the places that call a root with a block of its own are enough
+  pub waiting_callers : (lists : AreSpotLists flat) (head j : ℕ) (seen : List Item) (firsts : List ℕ) (waits : List Wait) →
+      AreWaiting flat (seen ++ map (item_at j) (lists_of flat head).callers) heads firsts waits → AreWaiting flat (seen ++ map (item_at j) (block_of flat head).spots) heads firsts waits
+  waiting_callers lists head j seen firsts waits are =
+      waiting_fewer seen (map (item_at j) (lists_of flat head).callers) (map (item_at j) (block_of flat head).spots) firsts waits
+      (λ a i. let m = from_map j a (lists_of flat head).callers i in subst (λ v. In v (map (item_at j) (block_of flat head).spots)) (sym m.is) (in_map j m.spot (block_of flat head).spots ((lists head).0.0 m.spot m.stands)))
+      (λ a t l i call own. let m = from_map j a (block_of flat head).spots i in
+      subst (λ v. In v (map (item_at j) (lists_of flat head).callers)) (sym m.is)
+      (in_map j m.spot (lists_of flat head).callers ((lists head).0.1 m.spot m.stands (t, l, subst (λ v. call_of flat v ≡ Some (t, l)) m.is call, own)))) are

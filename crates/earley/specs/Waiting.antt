@@ -1,7 +1,9 @@
 -- What waits for the heads of a set, as lists of links.
-use Rattle.std.specs.Prelude.{◌≡◌, ℕ, suc, ◌≤◌, List, [], ◌∷◌, Some, slice_get, slice_index_or}
+use Rattle.std.specs.Prelude.{◌≡◌, ℕ, suc, ◌<◌, ◌≤◌, List, [], ◌∷◌, Some, None, slice_get, slice_index_or}
 use Rattle.flatgrammar.specs.declared.flat_item.Item.{Item}
 use Rattle.flatgrammar.specs.declared.tables.Tables as code_flat
+use Rattle.flatgrammar.specs.TableViews.{call_of}
+use Rattle.flatgrammar.specs.Blocks.{begin_count, inner_of}
 use Rattle.flatgrammar.specs.Places.{In}
 use Rattle.earley.specs.declared.front.Front.{Front}
 use Rattle.earley.specs.declared.wait.Wait.{Wait}
@@ -20,9 +22,16 @@ pub record IsListed (waits : List Wait) (first : ℕ) (Q : Item → Type 0) : Ty
   pub all : (a : Item) → Q a → In a items
   pub only : (a : Item) → In a items → Q a
 
--- for each head, what goes on behind those of the places that call it
+-- for each head that no one place alone calls, what goes on behind those of the places that call it
 abbrev pub AreWaiting : code_flat.Tables → List Item → List ℕ → List ℕ → List Wait → Type 0
-AreWaiting flat places heads firsts waits = (h t : ℕ) → slice_get heads h ≡ Some t → IsListed waits (slice_index_or firsts h 0) (IsResumed flat t places)
+AreWaiting flat places heads firsts waits = (h t : ℕ) → slice_get heads h ≡ Some t → inner_of flat t ≡ None → IsListed waits (slice_index_or firsts h 0) (IsResumed flat t places)
 
 abbrev pub AreWaitingAll : code_flat.Tables → List Front → Type 0
 AreWaitingAll flat fronts = (k : ℕ) (f : Front) → slice_get fronts k ≡ Some f → AreWaiting flat (view flat k f) f.heads.items f.firsts.items f.waits.items
+
+-- what begins in a set and goes on elsewhere began there
+abbrev pub BeginHere : code_flat.Tables → ℕ → List Item → Type 0
+BeginHere flat j set = (a : Item) (t l : ℕ) → In a set → a.step < begin_count flat a.node → call_of flat a ≡ Some (t, l) → (l ≡ a.step → ⊥) → a.origin ≡ j
+
+abbrev pub BeginAll : code_flat.Tables → List Front → Type 0
+BeginAll flat fronts = (k : ℕ) (f : Front) → slice_get fronts k ≡ Some f → BeginHere flat k (view flat k f)

@@ -7,7 +7,7 @@ ghost use Rattle.flatgrammar.specs.NodeSteps.{flat_of};
 ghost use Rattle.flatgrammar.specs.TableViews.{GiveRoots, AreNulls};
 ghost use Rattle.earley.specs.Charts.{IsAfter, IsExact};
 ghost use Rattle.earley.specs.ChartSets.{chart_of, set_at, IsSet, AreSized};
-ghost use Rattle.flatgrammar.specs.Blocks.{AreExact, block_of, item_at, AreTables, AreCalls};
+ghost use Rattle.flatgrammar.specs.Blocks.{AreExact, block_of, item_at, AreTables, AreAlone, AreSpotLists};
 ghost use Rattle.earley.specs.ItemSets.{Adds};
 ghost use Rattle.earley.specs.Waiting.{AreWaiting};
 ghost use Rattle.earley.specs.FrontViews.{expand, full, view, views, IsWholeAt};
@@ -137,7 +137,8 @@ fn follow<L: Letter>(
     sets: &[Front],
     items: &mut Items,
 ) -> Result<(), Memory>
-    requires { length sets.now ≤ length line.now }
+    requires length { length sets.now ≤ length line.now }
+    requires lists { AreSpotLists flat.now }
     ensures { IfOk result (λ done. Adds (IsAfter flat.now (map L.number line.now) (views flat.now 0 sets.now)) items.old items.new) }
 {
     if sets.len() > 0 {
@@ -184,6 +185,7 @@ fn close(
     items: &mut Items,
     memory: Front,
 ) -> Result<Front, Memory>
+    requires { AreSpotLists flat.now }
     ensures heads { IfOk result (λ front. front.heads.items ≡ heads.old) }
     ensures items { IfOk result (λ front. front.items.items ≡ items.old) }
     ensures size { IfOk result (λ front. (j : ℕ) → front.size ≡ length (view flat.now j front)) }
@@ -225,7 +227,8 @@ fn fill_fronts<L: Letter>(
     requires roots { GiveRoots (flat_of flat.now) flat.now.roots.items }
     requires nulls { AreNulls (flat_of flat.now) flat.now.nulls.items }
     requires tables { AreTables flat.now }
-    requires calls { AreCalls flat.now }
+    requires alone { AreAlone flat.now }
+    requires lists { AreSpotLists flat.now }
     requires no_heads { heads.old ≡ [] }
     requires no_items { items.old ≡ [] }
     ensures size { IfOk result (λ sets. length sets.items ≡ length line.now + 1) }

@@ -6,16 +6,18 @@ ghost use Rattle.flatgrammar.specs.TableViews.{GiveRoots, AreNulls, null_of, cal
 ghost use Rattle.earley.specs.Closed.{Hold, HoldAll, Keeps, IsClosed};
 ghost use Rattle.earley.specs.Worklist.{IsPassed};
 ghost use Rattle.earley.specs.ItemSets.{Adds, IsResumed, waiting_in, IsCompleted};
-ghost use Rattle.flatgrammar.specs.Blocks.{block_of, item_at, begin_count, IsHead, IsLate, AreTables, AreCalls};
-ghost use Rattle.earley.specs.Waiting.{Chain, AreWaiting, AreWaitingAll};
+ghost use Rattle.flatgrammar.specs.Blocks.{block_of, item_at, begin_count, IsHead, IsLate, AreTables, AreAlone, inner_of};
+ghost use Rattle.earley.specs.Waiting.{Chain, AreWaiting, AreWaitingAll, BeginHere, BeginAll};
 ghost use Rattle.flatgrammar.specs.declared.flat_item.Item as code_item;
 ghost use Rattle.earley.specs.FrontViews.{expand, full, view, views, IsAsked, IsOn, IsFurther, IsGoing};
 
-use crate::front::{Front, is_among};
+use crate::front::Front;
 use crate::heads::Heads;
 use crate::items::Items;
 use crate::wait::{Wait, first_at};
-use flatgrammar::{Item, Spot, Tables, call, calls, done, null, passes, spots, takes_letter};
+use flatgrammar::{
+    Item, Spot, Tables, call, calls, done, null, passes, sole_caller, spots, takes_letter,
+};
 use letters::Letter;
 use ruletable::Memory;
 
@@ -73,24 +75,6 @@ fn resume_spots(
     Ok(())
 }
 
-/// Adds what goes on where the block of a head waited for a root.
-fn resume_block(
-    flat: &Tables,
-    root: usize,
-    head: usize,
-    origin: usize,
-    set: &mut Items,
-) -> Result<(), Memory>
-    requires { AreCalls flat.now }
-    ensures { IfOk result (λ done. Adds (IsResumed flat.now root (map (item_at origin) (block_of flat.now head).spots)) set.old set.new) }
-{
-    if is_among(calls(flat, head), root) {
-        resume_spots(flat, root, spots(flat, head), origin, set)?;
-        return Ok(());
-    }
-    Ok(())
-}
-
 /// Adds what goes on where the blocks of heads waited for a root.
 fn resume_heads(
     flat: &Tables,
@@ -99,11 +83,10 @@ fn resume_heads(
     origin: usize,
     set: &mut Items,
 ) -> Result<(), Memory>
-    requires { AreCalls flat.now }
     ensures { IfOk result (λ done. Adds (IsResumed flat.now root (expand (block_of flat.now) origin heads.now)) set.old set.new) }
 {
     for head in heads {
-        resume_block(flat, root, *head, origin, set)?;
+        resume_spots(flat, root, spots(flat, *head), origin, set)?;
     }
     Ok(())
 }
@@ -116,7 +99,6 @@ fn resume_all(
     origin: usize,
     set: &mut Items,
 ) -> Result<(), Memory>
-    requires { AreCalls flat.now }
     ensures { IfOk result (λ done. Adds (IsResumed flat.now root (view flat.now origin front.now)) set.old set.new) }
 {
     resume_heads(flat, root, &front.heads, origin, set)?;
@@ -124,7 +106,7 @@ fn resume_all(
     Ok(())
 }
 
-/// Returns the index of a head. The home is looked at first.
+/// Returns the home, if it is the index of that head.
 fn home_of(heads: &[usize], home: usize, head: usize) -> Option<usize>
     ensures { IfSome result (λ index. slice_get heads.now index ≡ Some head) }
 {
@@ -149,8 +131,8 @@ fn go_along(waits: &[Wait], first: usize, set: &mut Items) -> Result<(), Memory>
     Ok(())
 }
 
-/// Adds what goes on from a set where a root is done.
-fn go_on(
+/// Adds what goes on from a set where a root is done, as it is listed there.
+fn go_back(
     flat: &Tables,
     root: usize,
     front: &Front,
@@ -158,7 +140,7 @@ fn go_on(
     home: usize,
     set: &mut Items,
 ) -> Result<(), Memory>
-    requires calls { AreCalls flat.now }
+    requires own { inner_of flat.now root ≡ None }
     requires waiting { AreWaiting flat.now (view flat.now origin front.now) front.now.heads.items front.now.firsts.items front.now.waits.items }
     ensures { IfOk result (λ done. Adds (IsResumed flat.now root (view flat.now origin front.now)) set.old set.new) }
 {
@@ -169,6 +151,37 @@ fn go_on(
     Ok(())
 }
 
+/// Adds what goes on from a set where a root is done. If one place alone calls the root, that place goes on.
+fn go_on(
+    flat: &Tables,
+    root: usize,
+    front: &Front,
+    origin: usize,
+    home: usize,
+    set: &mut Items,
+) -> Result<(), Memory>
+    requires alone { AreAlone flat.now }
+    requires begun { BeginHere flat.now origin (view flat.now origin front.now) }
+    requires waiting { AreWaiting flat.now (view flat.now origin front.now) front.now.heads.items front.now.firsts.items front.now.waits.items }
+    ensures { IfOk result (λ done. Adds (IsResumed flat.now root (view flat.now origin front.now)) set.old set.new) }
+{
+    let Some(inner) = sole_caller(flat, root) else {
+        return go_back(flat, root, front, origin, home, set);
+    };
+    if let Some(index) = home_of(&front.heads, home, inner.head) {
+        set.add(
+            Item {
+                node: inner.node,
+                step: inner.next,
+                origin,
+            },
+            index,
+        )?;
+        return Ok(());
+    }
+    resume_all(flat, root, front, origin, set)
+}
+
 /// Adds what goes on from earlier sets where an item is done.
 fn complete(
     flat: &Tables,
@@ -177,7 +190,8 @@ fn complete(
     home: usize,
     set: &mut Items,
 ) -> Result<(), Memory>
-    requires calls { AreCalls flat.now }
+    requires alone { AreAlone flat.now }
+    requires begun { BeginAll flat.now sets.now }
     requires waiting { AreWaitingAll flat.now sets.now }
     ensures { IfOk result (λ done. Adds (IsCompleted flat.now (views flat.now 0 sets.now) [] item) set.old set.new) }
 {
@@ -226,7 +240,8 @@ fn advance(
     home: usize,
     set: &mut Items,
 ) -> Result<(), Memory>
-    requires calls { AreCalls flat.now }
+    requires alone { AreAlone flat.now }
+    requires begun { BeginAll flat.now sets.now }
     requires waiting { AreWaitingAll flat.now sets.now }
     ensures { IfOk result (λ done. Adds (IsFurther flat.now (views flat.now 0 sets.now) item) set.old set.new) }
 {
@@ -271,7 +286,8 @@ fn work(
     heads: &mut Heads,
     items: &mut Items,
 ) -> Result<(), Memory>
-    requires calls { AreCalls flat.now }
+    requires alone { AreAlone flat.now }
+    requires begun { BeginAll flat.now sets.now }
     requires waiting { AreWaitingAll flat.now sets.now }
     ensures heads { IfOk result (λ done. Adds (IsAsked flat.now item) heads.old heads.new) }
     ensures items { IfOk result (λ done. Adds (IsFurther flat.now (views flat.now 0 sets.now) item) items.old items.new) }
@@ -309,7 +325,7 @@ pub(crate) fn fill<L: Letter>(
     requires roots { GiveRoots (flat_of flat.now) flat.now.roots.items }
     requires nulls { AreNulls (flat_of flat.now) flat.now.nulls.items }
     requires tables { AreTables flat.now }
-    requires calls { AreCalls flat.now }
+    requires alone { AreAlone flat.now }
     requires waiting { AreWaitingAll flat.now sets.now }
     requires earlier { HoldAll (flat_of flat.now) (map L.number line.now) (views flat.now 0 sets.now) }
     requires begun { IsGoing flat.now (map L.number line.now) (views flat.now 0 sets.now) 0 0 heads.old items.old }

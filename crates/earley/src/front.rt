@@ -1,6 +1,4 @@
 //! Item sets as they are kept.
-ghost use Rattle.std.specs.Prelude.{◌≡◌, ◌↔◌, IsTrue};
-ghost use Rattle.flatgrammar.specs.Places.{In};
 
 use crate::wait::Wait;
 use flatgrammar::Item;
@@ -17,16 +15,4 @@ pub(crate) struct Front {
     pub(crate) firsts: Vec<usize>,
     pub(crate) waits: Vec<Wait>,
     pub(crate) size: usize,
-}
-
-/// Tells whether a head stands in a list.
-pub(crate) fn is_among(heads: &[usize], head: usize) -> bool
-    ensures { IsTrue result ↔ In head heads.now }
-{
-    for other in heads {
-        if *other == head {
-            return true;
-        }
-    }
-    false
 }

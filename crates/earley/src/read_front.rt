@@ -4,12 +4,12 @@ ghost use Rattle.flatgrammar.specs.NodeSteps.{IfSomeSet};
 ghost use Rattle.earley.specs.ItemSets.{Adds};
 ghost use Rattle.earley.specs.ReadItems.{IsRead};
 ghost use Rattle.flatgrammar.specs.TableViews.{read_of};
-ghost use Rattle.flatgrammar.specs.Blocks.{block_of, item_at};
+ghost use Rattle.flatgrammar.specs.Blocks.{block_of, item_at, AreSpotLists};
 ghost use Rattle.earley.specs.FrontViews.{expand, view};
 
 use crate::front::Front;
 use crate::items::Items;
-use flatgrammar::{Item, Spot, Tables, reads, spots};
+use flatgrammar::{Item, Spot, Tables, readers, reads};
 use letters::Letter;
 use ruletable::Memory;
 
@@ -93,11 +93,12 @@ fn read_heads(
     origin: usize,
     set: &mut Items,
 ) -> Result<(), Memory>
+    requires { AreSpotLists flat.now }
     ensures { IfOk result (λ done. Adds (IsRead flat.now value (expand (block_of flat.now) origin heads.now)) set.old set.new) }
 {
     let mut home = 0usize;
     for head in heads {
-        read_spots(flat, value, spots(flat, *head), origin, home, set)?;
+        read_spots(flat, value, readers(flat, *head, value), origin, home, set)?;
         home = home.wrapping_add(1);
     }
     Ok(())
@@ -111,6 +112,7 @@ pub(crate) fn read<L: Letter>(
     origin: usize,
     set: &mut Items,
 ) -> Result<(), Memory>
+    requires { AreSpotLists flat.now }
     ensures { IfOk result (λ done. Adds (IsRead flat.now (L.number letter) (view flat.now origin from.now)) set.old set.new) }
 {
     let value = letter.value();

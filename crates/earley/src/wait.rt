@@ -1,13 +1,13 @@
 //! What waits for the heads of a set.
 ghost use Rattle.std.specs.Prelude.{◌≡◌, ◌++◌, ◌∷◌, ℕ, List, [], length, map, slice_index_or, IfOk};
-ghost use Rattle.flatgrammar.specs.Blocks.{block_of, item_at};
+ghost use Rattle.flatgrammar.specs.Blocks.{block_of, item_at, AreSpotLists};
 ghost use Rattle.flatgrammar.specs.declared.flat_item.Item as code_item;
 ghost use Rattle.earley.specs.FrontViews.{expand, full};
 ghost use Rattle.earley.specs.Waiting.{AreWaiting};
 
 use crate::heads::Heads;
 use crate::items::Items;
-use flatgrammar::{Item, Spot, Tables, call, spots};
+use flatgrammar::{Item, Spot, Tables, asking, call};
 use ruletable::Memory;
 
 /// What goes on where a head is done: the item, its home, and one more than the index of the next one of that head, or 0.
@@ -103,7 +103,8 @@ fn wait_heads(
     firsts: &mut Vec<usize>,
     waits: &mut Vec<Wait>,
 ) -> Result<(), Memory>
-    requires { length firsts.old.items ≡ length heads.now }
+    requires long { length firsts.old.items ≡ length heads.now }
+    requires lists { AreSpotLists flat.now }
     ensures long { length firsts.new.items ≡ length firsts.old.items }
     ensures more { IfOk result (λ done. (seen : List code_item.Item) → AreWaiting flat.now seen heads.now firsts.old.items waits.old.items →
         AreWaiting flat.now (seen ++ expand (block_of flat.now) origin list.now) heads.now firsts.new.items waits.new.items) }
@@ -113,7 +114,7 @@ fn wait_heads(
         wait_spots(
             flat,
             heads,
-            spots(flat, *head),
+            asking(flat, *head),
             (origin, home),
             firsts,
             waits,
@@ -152,6 +153,7 @@ pub(crate) fn wait_all(
     firsts: &mut Vec<usize>,
     waits: &mut Vec<Wait>,
 ) -> Result<(), Memory>
+    requires { AreSpotLists flat.now }
     ensures { IfOk result (λ done. AreWaiting flat.now (full (block_of flat.now) origin heads.now items.now) heads.now firsts.new.items waits.new.items) }
 {
     empty_firsts(heads.len(), firsts)?;

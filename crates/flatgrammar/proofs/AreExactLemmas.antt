@@ -1,33 +1,93 @@
 -- The tables of a flat grammar are exact.
 -- Serves: lower, judge.
-use Rattle.std.proofs.Common.{◌≡◌, ℕ, Bool, Option, List, Vec, Global, slice_get, subst}
+use Rattle.std.proofs.Common.{◌≡◌, ◌⊎◌, inl, inr, ℕ, Bool, Option, List, Vec, Global, subst}
 use Rattle.flatgrammar.specs.declared.flat_node.Node as code_node
+use Rattle.flatgrammar.specs.declared.block.Spot.{Spot}
 use Rattle.flatgrammar.specs.declared.block.Block as code_block
+use Rattle.flatgrammar.specs.declared.inner.Inner.{Inner}
+use Rattle.flatgrammar.specs.declared.spot_list.SpotList.{SpotList}
 use Rattle.flatgrammar.specs.declared.tables.Tables as code_flat
 use Rattle.flatgrammar.specs.FlatViews.{nodes_of}
 use Rattle.flatgrammar.specs.NodeSteps.{flat_of}
+use Rattle.flatgrammar.specs.Places.{In}
 use Rattle.flatgrammar.specs.Roots.{AreRoots}
 use Rattle.flatgrammar.specs.TableViews.{GiveRoots, AreNulls}
-use Rattle.flatgrammar.specs.Blocks.{block_in, AreExact}
-use Rattle.flatgrammar.specs.OwnBlocks.{own_block}
-use Rattle.flatgrammar.proofs.OwnBlockLemmas.{single_tables, single_calls}
+use Rattle.flatgrammar.specs.Blocks.{Block, AreSpotLists, AreExact}
+use Rattle.flatgrammar.specs.Inners.{AreInners}
+use Rattle.flatgrammar.specs.HeadBlocks.{IsCalled, IsPast, SomeOf, Grows, AreHeadBlocks}
+use Rattle.flatgrammar.proofs.HeadBlockLemmas.{head_tables, inners_alone}
 
-abbrev pub tables : Vec code_node.Node Global → Vec ℕ Global → Vec (Option ℕ) Global → Vec Bool Global → Vec code_block.Block Global → ℕ → ℕ → code_flat.Tables
-tables nodes bodies roots nulls blocks whole limit = record { nodes = nodes; bodies = bodies; roots = roots; nulls = nulls; blocks = blocks; whole = whole; limit = limit }
+abbrev pub tables : Vec code_node.Node Global → Vec ℕ Global → Vec (Option ℕ) Global → Vec Bool Global → Vec (Option Inner) Global → Vec code_block.Block Global → Vec SpotList Global → ℕ → ℕ → code_flat.Tables
+tables nodes bodies roots nulls inners blocks lists whole limit =
+    record { nodes = nodes; bodies = bodies; roots = roots; nulls = nulls; inners = inners; blocks = blocks; lists = lists; whole = whole; limit = limit }
 
-module _ (nodes : Vec code_node.Node Global) (bodies : Vec ℕ Global) (roots : Vec (Option ℕ) Global) (nulls : Vec Bool Global) (none blocks : Vec code_block.Block Global) (whole limit : ℕ)
+module _ (nodes : Vec code_node.Node Global) (bodies : Vec ℕ Global) (roots : Vec (Option ℕ) Global) (nulls : Vec Bool Global) (nobody inners : Vec (Option Inner) Global)
+    (none blocks : Vec code_block.Block Global) (unlisted lists : Vec SpotList Global) (whole limit : ℕ)
     (ns ms : List code_node.Node) (bs cs : List ℕ) (is_ns : ns ≡ nodes.items) (is_bs : bs ≡ bodies.items) (is_ms : ms ≡ nodes.items) (is_cs : cs ≡ bodies.items)
     (are_roots : AreRoots (nodes_of ns) bs roots.items) (are_nulls : (w l : ℕ) → AreNulls (record { nodes = nodes_of ms; bodies = cs; whole = w; limit = l }) nulls.items)
-    (own : (h : ℕ) → block_in (slice_get blocks.items h) ≡ own_block (tables nodes bodies roots nulls none whole limit) h) where
-  gives : GiveRoots (flat_of (tables nodes bodies roots nulls blocks whole limit)) roots.items
+    (are_inners : AreInners (tables nodes bodies roots nulls nobody none unlisted whole limit) inners.items)
+    (made : AreHeadBlocks (tables nodes bodies roots nulls nobody none unlisted whole limit) inners.items blocks.items)
+    (are_lists : AreSpotLists (tables nodes bodies roots nulls inners blocks lists whole limit)) where
+  gives : GiveRoots (flat_of (tables nodes bodies roots nulls inners blocks lists whole limit)) roots.items
   gives = let r = subst (λ v. AreRoots (nodes_of nodes.items) v roots.items) is_bs (subst (λ v. AreRoots (nodes_of v) bs roots.items) is_ns are_roots) in
       λ s t. ((λ is. r.sound s t is), (λ root. r.whole s t root))
 
-  pub tables_exact : AreExact (tables nodes bodies roots nulls blocks whole limit)
+  -- inner nodes and blocks look at nodes, roots and marks alone
+  same_inners : AreInners (tables nodes bodies roots nulls inners blocks lists whole limit) inners.items
+  same_inners t i is = let one = are_inners t i is in record {
+    above = one.above;
+    within = one.within;
+    begins = one.begins;
+    call = one.call;
+    moves = one.moves;
+    home = one.home;
+    whole = one.whole;
+    only = one.only;
+  }
+
+  same_grows : (P : Spot → Type 0) (old new : Block) → Grows (tables nodes bodies roots nulls nobody none unlisted whole limit) inners.items P old new →
+      Grows (tables nodes bodies roots nulls inners blocks lists whole limit) inners.items P old new
+  same_grows P old new g = record {
+    spots = g.spots;
+    calls = λ t. ((λ h. to_call t (((g.calls t).0) h)), (λ h. (g.calls t).1 (from_call t h)));
+    passes = λ r. ((λ h. to_pass r (((g.passes r).0) h)), (λ h. (g.passes r).1 (from_pass r h)));
+    different = g.different;
+  }
+    where
+      to_call : (t : ℕ) → In t old.calls ⊎ SomeOf P (λ p. IsCalled (tables nodes bodies roots nulls nobody none unlisted whole limit) inners.items p t) →
+          In t old.calls ⊎ SomeOf P (λ p. IsCalled (tables nodes bodies roots nulls inners blocks lists whole limit) inners.items p t)
+      to_call t (inl h) = inl h
+      to_call t (inr s) = inr (record { spot = s.spot; stands = s.stands; is = record { next = s.is.next; call = s.is.call; own = s.is.own } })
+
+      from_call : (t : ℕ) → In t old.calls ⊎ SomeOf P (λ p. IsCalled (tables nodes bodies roots nulls inners blocks lists whole limit) inners.items p t) →
+          In t old.calls ⊎ SomeOf P (λ p. IsCalled (tables nodes bodies roots nulls nobody none unlisted whole limit) inners.items p t)
+      from_call t (inl h) = inl h
+      from_call t (inr s) = inr (record { spot = s.spot; stands = s.stands; is = record { next = s.is.next; call = s.is.call; own = s.is.own } })
+
+      to_pass : (r : Spot) → In r old.passes ⊎ SomeOf P (λ p. IsPast (tables nodes bodies roots nulls nobody none unlisted whole limit) p r) →
+          In r old.passes ⊎ SomeOf P (λ p. IsPast (tables nodes bodies roots nulls inners blocks lists whole limit) p r)
+      to_pass r (inl h) = inl h
+      to_pass r (inr s) = inr (record {
+        spot = s.spot;
+        stands = s.stands;
+        is = record { root = s.is.root; call = s.is.call; null = s.is.null; free = s.is.free; node = s.is.node; moves = s.is.moves };
+      })
+
+      from_pass : (r : Spot) → In r old.passes ⊎ SomeOf P (λ p. IsPast (tables nodes bodies roots nulls inners blocks lists whole limit) p r) →
+          In r old.passes ⊎ SomeOf P (λ p. IsPast (tables nodes bodies roots nulls nobody none unlisted whole limit) p r)
+      from_pass r (inl h) = inl h
+      from_pass r (inr s) = inr (record {
+        spot = s.spot;
+        stands = s.stands;
+        is = record { root = s.is.root; call = s.is.call; null = s.is.null; free = s.is.free; node = s.is.node; moves = s.is.moves };
+      })
+
+  pub tables_exact : AreExact (tables nodes bodies roots nulls inners blocks lists whole limit)
   tables_exact = record {
     roots = gives;
     nulls = subst (λ v. AreNulls (record { nodes = nodes_of nodes.items; bodies = v; whole = whole; limit = limit }) nulls.items) is_cs
         (subst (λ v. AreNulls (record { nodes = nodes_of v; bodies = cs; whole = whole; limit = limit }) nulls.items) is_ms (are_nulls whole limit));
-    blocks = single_tables (tables nodes bodies roots nulls blocks whole limit) gives own;
-    calls = single_calls (tables nodes bodies roots nulls blocks whole limit) gives own;
+    blocks = head_tables (tables nodes bodies roots nulls inners blocks lists whole limit) gives inners.items same_inners (λ h. same_grows _ _ _ (made h));
+    inners = λ t i is. inners_alone (tables nodes bodies roots nulls inners blocks lists whole limit) gives inners.items same_inners (λ h. same_grows _ _ _ (made h)) t i is;
+    lists = are_lists;
   }

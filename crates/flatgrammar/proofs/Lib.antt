@@ -5,8 +5,10 @@ pub mod CappedMostLemmas
 pub mod FlatCutLemmas
 pub mod FlatNullableLemmas
 pub mod FlatNumbersLemmas
+pub mod HeadBlockLemmas
 pub mod IdOfLemmas
 pub mod InLemmas
+pub mod InnerLemmas
 pub mod IsEmptyRepeatLemmas
 pub mod LoweredLemmas
 pub mod NamesTellLemmas
@@ -14,12 +16,12 @@ pub mod NodeRunsLemmas
 pub mod NodeStepsLemmas
 pub mod NullNeedsLemmas
 pub mod OnLineLemmas
-pub mod OwnBlockLemmas
 pub mod PlacesLemmas
 pub mod ReachedLemmas
 pub mod RootLemmas
 pub mod RuleDerivesLemmas
 pub mod RuleNodeLemmas
 pub mod SpellAllLemmas
+pub mod SpotListLemmas
 pub mod TellsLemmas
 pub mod WalkLemmas

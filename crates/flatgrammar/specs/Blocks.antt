@@ -1,15 +1,21 @@
 -- What the prediction of a root implies, as a table made once: the places where it and the nodes that it alone calls begin.
 use Rattle.std.specs.Prelude.{◌≡◌, ℕ, ◌<◌, ◌⊎◌, true, false, List, [], slice_get, Option, Some, None}
+use Rattle.std.proofs.Common.{Vec, Global}
 use Rattle.flatgrammar.specs.declared.flat_item.Item.{Item}
 use Rattle.flatgrammar.specs.declared.block.Spot.{Spot}
 use Rattle.flatgrammar.specs.declared.block.Block as code_block
+use Rattle.flatgrammar.specs.declared.inner.Inner.{Inner}
+use Rattle.flatgrammar.specs.declared.spot_list.SpotList.{SpotList}
 use Rattle.flatgrammar.specs.declared.tables.Tables as code_flat
-use Rattle.flatgrammar.specs.NodeSteps.{flat_of}
-use Rattle.flatgrammar.specs.TableViews.{call_of, count_in, null_of, whole_root, takes_of, GiveRoots, AreNulls}
+use Rattle.flatgrammar.specs.NodeSteps.{flat_of, IfSomeSet}
+use Rattle.flatgrammar.specs.TableViews.{call_of, count_in, null_of, whole_root, takes_of, read_of, GiveRoots, AreNulls}
 use Rattle.flatgrammar.specs.Places.{In, AreDifferent}
 
 abbrev pub item_at : ℕ → Spot → Item
 item_at j p = record { node = p.node; step = p.step; origin = j }
+
+abbrev pub spot : ℕ → ℕ → Spot
+spot n k = record { node = n; step = k }
 
 pub record Block : Type 0 where
   pub spots : List Spot  -- where something begins
@@ -76,13 +82,75 @@ pub record AreTables (flat : code_flat.Tables) : Type 0 where
   pub outer : (a : Item) (t l : ℕ) → IsLate flat a → call_of flat a ≡ Some (t, l) → IsHead flat t
   pub whole : (t : ℕ) → whole_root flat ≡ Some t → IsHead flat t
 
--- each block has all roots that its spots call
-abbrev pub AreCalls : code_flat.Tables → Type 0
-AreCalls flat = (h t : ℕ) → IsCalling flat (block_of flat h).spots t → In t (block_of flat h).calls
+abbrev pub inner_in : Option (Option Inner) → Option Inner
+inner_in None = None
+inner_in (Some inner) = inner
+
+-- the place that alone calls a node, where another node of the same block begins
+abbrev pub inner_of : code_flat.Tables → ℕ → Option Inner
+inner_of flat t = inner_in (slice_get flat.inners.items t)
+
+-- that spot of the head's block alone calls the node, and goes on elsewhere
+pub record IsAlone (flat : code_flat.Tables) (t : ℕ) (inner : Inner) : Type 0 where
+  pub stands : In (spot inner.node inner.step) (block_of flat inner.head).spots
+  pub begins : inner.step < begin_count flat inner.node
+  pub call : call_at flat (spot inner.node inner.step) ≡ Some (t, inner.next)
+  pub moves : inner.next ≡ inner.step → ⊥
+  pub only : (n k l : ℕ) → call_at flat (spot n k) ≡ Some (t, l) → (inner.node ≡ n) × (inner.step ≡ k)
+
+abbrev pub AreAlone : code_flat.Tables → Type 0
+AreAlone flat = (t : ℕ) (inner : Inner) → inner_of flat t ≡ Some inner → IsAlone flat t inner
+
+-- a spot calls a root with a block of its own
+abbrev pub Asks : code_flat.Tables → Spot → Type 0
+Asks flat p = (t : ℕ) × (l : ℕ) × (call_at flat p ≡ Some (t, l)) × (inner_of flat t ≡ None)
+
+-- a spot reads a letter
+abbrev pub Reads : code_flat.Tables → ℕ → Spot → Type 0
+Reads flat c p = IfSomeSet (read_of flat (item_at 0 p)) c
+
+abbrev pub ReadsAny : code_flat.Tables → Spot → Type 0
+ReadsAny flat p = (c : ℕ) × Reads flat c p
+
+-- a list has spots alone, and all of Q
+abbrev pub Picks : (Spot → Type 0) → List Spot → List Spot → Type 0
+Picks Q spots list = ((p : Spot) → In p list → In p spots) × ((p : Spot) → In p spots → Q p → In p list)
+
+-- lists by letter
+abbrev pub AreByLetter : code_flat.Tables → List Spot → List (Vec Spot Global) → Type 0
+AreByLetter flat spots lists = (c : ℕ) (list : Vec Spot Global) → slice_get lists c ≡ Some list → Picks (Reads flat c) spots list.items
+
+pub record Lists : Type 0 where
+  pub callers : List Spot
+  pub readers : List Spot
+  pub by_letter : List (Vec Spot Global)
+
+abbrev pub lists_in : Option SpotList → Lists
+lists_in None = record { callers = []; readers = []; by_letter = [] }
+lists_in (Some list) = record { callers = list.callers.items; readers = list.readers.items; by_letter = list.by_letter.items }
+
+abbrev pub IsSpotList : code_flat.Tables → List Spot → Lists → Type 0
+IsSpotList flat spots lists = Picks (Asks flat) spots lists.callers × Picks (ReadsAny flat) spots lists.readers × AreByLetter flat spots lists.by_letter
+
+abbrev pub lists_of : code_flat.Tables → ℕ → Lists
+lists_of flat h = lists_in (slice_get flat.lists.items h)
+
+abbrev pub list_or : Option (Vec Spot Global) → List Spot → List Spot
+list_or None all = all
+list_or (Some list) all = list.items
+
+-- of a block's spots those that are tried on a letter
+abbrev pub readers_of : code_flat.Tables → ℕ → ℕ → List Spot
+readers_of flat h c = list_or (slice_get (lists_of flat h).by_letter c) (lists_of flat h).readers
+
+-- each block has its lists
+abbrev pub AreSpotLists : code_flat.Tables → Type 0
+AreSpotLists flat = (h : ℕ) → IsSpotList flat (block_of flat h).spots (lists_of flat h)
 
 -- the tables of a flat grammar tell what they are for
 pub record AreExact (tables : code_flat.Tables) : Type 0 where
   pub roots : GiveRoots (flat_of tables) tables.roots.items
   pub nulls : AreNulls (flat_of tables) tables.nulls.items
   pub blocks : AreTables tables
-  pub calls : AreCalls tables
+  pub inners : AreAlone tables
+  pub lists : AreSpotLists tables

@@ -1,14 +1,15 @@
 pub mod Blocks
 pub mod Flat
 pub mod FlatViews
+pub mod HeadBlocks
 pub mod Holds
+pub mod Inners
 pub mod Lowered
 pub mod NodeSteps
 pub mod NullElements
 pub mod NullNeeds
 pub mod Nullable
 pub mod Numbers
-pub mod OwnBlocks
 pub mod Places
 pub mod Roots
 pub mod TableViews

@@ -59,6 +59,28 @@ callee (Opt m) k = if eqb k 0 then Some (m, 2) else None
 callee (Name r) k = None
 callee Nothing k = None
 
+-- the steps below this may call something
+abbrev pub call_count : Node → ℕ
+call_count (Letters sets) = 0
+call_count (Concat ms) = length ms
+call_count (Alt ms) = length ms
+call_count (Rep a b m) = 0
+call_count (Turns b m) = 0
+call_count (Opt m) = 1
+call_count (Name r) = 0
+call_count Nothing = 0
+
+-- what each turn calls
+abbrev pub turned : Node → Option ℕ
+turned (Letters sets) = None
+turned (Concat ms) = None
+turned (Alt ms) = None
+turned (Rep a b m) = Some m
+turned (Turns b m) = Some m
+turned (Opt m) = None
+turned (Name r) = None
+turned Nothing = None
+
 -- the set that a step reads
 abbrev pub read_at : Node → ℕ → Option Set
 read_at (Letters sets) k = slice_get sets k

@@ -8,9 +8,11 @@ ghost use Rattle.flatgrammar.specs.Numbers.{AreOrdered};
 ghost use Rattle.flatgrammar.specs.Roots.{Root};
 
 use crate::flat_node::Node;
+use crate::head_block::head_blocks;
+use crate::inner::find_inners;
 use crate::nulls::find_nulls;
-use crate::own_block::own_blocks;
 use crate::roots::find_roots;
+use crate::spot_list::spot_lists;
 use crate::tables::Tables;
 use ruletable::Memory;
 use std::alloc::Global;
@@ -62,12 +64,18 @@ impl Flat {
             bodies,
             roots,
             nulls,
+            inners: Vec::new(alloc),
             blocks: Vec::new(alloc),
+            lists: Vec::new(alloc),
             whole,
             limit,
         };
-        let blocks = own_blocks(alloc, &tables)?;
+        let inners = find_inners(alloc, &tables)?;
+        let blocks = head_blocks(alloc, &tables, &inners)?;
+        tables.inners = inners;
         tables.blocks = blocks;
+        let lists = spot_lists(alloc, &tables)?;
+        tables.lists = lists;
         let tables = Rc::new(alloc, tables)?;
         Ok(Flat { tables })
     }

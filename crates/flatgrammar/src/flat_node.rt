@@ -3,7 +3,7 @@ ghost use Rattle.std.specs.Prelude.{◌≡◌, ◌↔◌, ◌+◌, ◌^◌, ◌<
 ghost use Rattle.abnfcheck.specs.Derivable.{small};
 ghost use Rattle.flatgrammar.specs.Flat.{Has, Rep, Turns};
 ghost use Rattle.flatgrammar.specs.FlatViews.{set_of, node_of};
-ghost use Rattle.flatgrammar.specs.NodeSteps.{begin_count, is_done, callee, takes, read_at, IfSomeSet};
+ghost use Rattle.flatgrammar.specs.NodeSteps.{begin_count, is_done, callee, call_count, turned, takes, read_at, IfSomeSet};
 
 /// A set of letters.
 #[derive(Clone, Copy, Debug, PartialEq, Eq)]
@@ -151,6 +151,27 @@ pub(crate) fn callee(node: &Node, step: usize) -> Option<(usize, usize)>
         Node::Turns { most, operand } => turn(0, *most, *operand, step),
         Node::Opt(operand) => { if step == 0 { Some((*operand, 2)) } else { None } }
         Node::Letters(_) | Node::Name(_) | Node::Nothing => None,
+    }
+}
+
+/// How many of a node's first steps may call something, its turns left out.
+pub(crate) fn call_count(node: &Node) -> usize
+    ensures { result ≡ call_count (node_of node.now) }
+{
+    match node {
+        Node::Concat(members) | Node::Alt(members) => members.len(),
+        Node::Opt(_) => 1,
+        _ => 0,
+    }
+}
+
+/// The operand whose turns a node repeats.
+pub(crate) fn turned(node: &Node) -> Option<usize>
+    ensures { result ≡ turned (node_of node.now) }
+{
+    match node {
+        Node::Rep { operand, .. } | Node::Turns { operand, .. } => Some(*operand),
+        _ => None,
     }
 }
 

@@ -2,21 +2,29 @@
 #![tactic(auto)]
 
 mod block;
+mod callers;
 mod flat;
 mod flat_item;
 mod flat_node;
+mod head_block;
+mod inner;
 mod item_laws;
 mod lower_elem;
 mod lowered;
 mod nulls;
-mod own_block;
 mod roots;
+mod spot_list;
 mod tables;
 
 pub use block::{Block, Spot};
 pub use flat::Flat;
 pub use flat_item::Item;
 pub use flat_node::{Node, Set};
+pub use inner::Inner;
 pub use item_laws::{items_at_most, items_tell};
 pub use lowered::{lower, lower_rules};
-pub use tables::{Tables, call, calls, done, null, passes, reads, spots, takes_letter, whole_root};
+pub use spot_list::SpotList;
+pub use tables::{
+    Tables, asking, call, calls, done, null, passes, readers, reads, sole_caller, spots,
+    takes_letter, whole_root,
+};

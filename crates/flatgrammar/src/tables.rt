@@ -2,22 +2,27 @@
 ghost use Rattle.std.specs.Prelude.{◌≡◌, ◌↔◌, ◌+◌, ◌^◌, ◌<◌, IsTrue};
 ghost use Rattle.flatgrammar.specs.NodeSteps.{IfSomeSet};
 ghost use Rattle.flatgrammar.specs.TableViews.{call_of, done_of, null_of, takes_of, read_of, whole_root};
-ghost use Rattle.flatgrammar.specs.Blocks.{block_of};
+ghost use Rattle.flatgrammar.specs.Blocks.{block_of, inner_of, lists_of, readers_of as the_readers_of};
 
 use crate::block::{Block, Spot};
 use crate::flat_item::Item;
 use crate::flat_node;
 use crate::flat_node::{Node, callee, is_done, takes};
+use crate::inner::{Inner, inner_at};
+use crate::spot_list::SpotList;
 
 /// Holds the nodes of a lowered grammar, of each rule the node of its body, of each node its root, a mark of what is nullable
-/// and its block, the whole's node, and how many letters a line may have.
+/// the place that alone calls it, if it stands in the block of another, its block and the lists of its block, the whole's node,
+/// and how many letters a line may have.
 #[derive(Drop)]
 pub struct Tables {
     pub nodes: Vec<Node>,
     pub bodies: Vec<usize>,
     pub roots: Vec<Option<usize>>,
     pub nulls: Vec<bool>,
+    pub inners: Vec<Option<Inner>>,
     pub blocks: Vec<Block>,
+    pub lists: Vec<SpotList>,
     pub whole: usize,
     pub limit: usize,
 }
@@ -74,6 +79,29 @@ pub fn spots(flat: &Tables, head: usize) -> &[Spot]
     }
 }
 
+/// Returns of the spots of a root's block those that call a root with a block of its own.
+pub fn asking(flat: &Tables, head: usize) -> &[Spot]
+    ensures { result.now ≡ (lists_of flat.now head).callers }
+{
+    match flat.lists.get(head) {
+        Some(list) => &list.callers,
+        None => &[],
+    }
+}
+
+/// Returns of the spots of a root's block at least those that read a letter.
+pub fn readers(flat: &Tables, head: usize, value: u32) -> &[Spot]
+    ensures { result.now ≡ the_readers_of flat.now head value }
+{
+    let Some(list) = flat.lists.get(head) else {
+        return &[];
+    };
+    match list.by_letter.get(value as usize) {
+        Some(readers) => readers,
+        None => &list.readers,
+    }
+}
+
 /// Returns the roots that the spots of a root's block call.
 pub fn calls(flat: &Tables, head: usize) -> &[usize]
     ensures { result.now ≡ (block_of flat.now head).calls }
@@ -92,6 +120,13 @@ pub fn passes(flat: &Tables, head: usize) -> &[Spot]
         Some(block) => &block.passes,
         None => &[],
     }
+}
+
+/// Returns the place that alone calls a root, if the root stands in the block of another.
+pub fn sole_caller(flat: &Tables, root: usize) -> Option<Inner>
+    ensures { result ≡ inner_of flat.now root }
+{
+    inner_at(&flat.inners, root)
 }
 
 /// Returns the root of the whole.

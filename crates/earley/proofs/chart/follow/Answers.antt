@@ -9,7 +9,7 @@ use Rattle.earley.proofs.chart.follow.Goals as goal
 pub returns-in_ok-read : goal.returns-in_ok-read
 returns-in_ok-read g c =
     let some = c.if-sets-gt0.true in
-    let room = c.requires in
+    let room = c.requires.length in
     let below : length c.args.sets.now - 1 < length c.args.sets.now = omega (arith, some) in
     let within : length c.args.sets.now - 1 < length c.args.line.now = omega (arith, some, room) in
     let zero : 0 + (length c.args.sets.now - 1) ≡ length c.args.sets.now - 1 = omega arith in

@@ -1,6 +1,7 @@
 use Rattle.std.proofs.Common.{◌+◌, map, ap, ◌∙◌, sym, subst}
 use Rattle.std.proofs.lemmas.List.{length-map}
 use Rattle.flatgrammar.specs.NodeSteps.{flat_of}
+use Rattle.flatgrammar.specs.Blocks.{AreAlone, AreSpotLists}
 use Rattle.earley.specs.Charts.{IsExact}
 use Rattle.earley.specs.ChartSets.{set_at, IsSet}
 use Rattle.earley.specs.FrontViews.{views}
@@ -18,3 +19,9 @@ returns-clause-sets g c = λ j.
     (chart_set c.args.tables.value (map g.L.Letter.number c.args.line.now) c.in_ok-fronts.fronts.items
     (c.in_ok-fronts.ensures.size ∙ ap (λ v. v + 1) (sym (length-map c.args.line.now g.L.Letter.number)))
     (subst (λ v. IsExact v (map g.L.Letter.number c.args.line.now) (views v 0 c.in_ok-fronts.fronts.items)) c.deref.ensures c.in_ok-fronts.ensures.exact) j)
+
+pub fill_fronts-requires-clause-alone : goal.fill_fronts-requires-clause-alone
+fill_fronts-requires-clause-alone g c = subst (λ v. AreAlone v) (sym c.deref.ensures) c.requires.exact.inners
+
+pub fill_fronts-requires-clause-lists : goal.fill_fronts-requires-clause-lists
+fill_fronts-requires-clause-lists g c = subst (λ v. AreSpotLists v) (sym c.deref.ensures) c.requires.exact.lists

@@ -5,6 +5,7 @@ use Rattle.earley.specs.ItemSets.{Adds}
 use Rattle.flatgrammar.specs.Blocks.{block_of, item_at}
 use Rattle.earley.specs.FrontViews.{views, IsAsked, IsFurther}
 use Rattle.earley.proofs.FillLemmas.{measure, more_keeps, item_more, head_more, full_held, all_different, all_closed}
+use Rattle.earley.proofs.AloneLemmas.{begin_all}
 use Rattle.earley.proofs.ExpandLemmas.{length_views}
 use Rattle.flatgrammar.proofs.CallOfLemmas.{past_get}
 use Rattle.earley.proofs.ItemRowsLemmas.{index_get}
@@ -73,3 +74,6 @@ returns-else-head_index-len-clause-closed g c =
     (let test = c.if-item_index-len.false in let len = c.len.ensures in omega (arith, test, len))
     (let test = c.if-head_index-len.false in let len = c.len-else-item_index-len.ensures in omega (arith, test, len))
     (past_get (views c.args.flat.now 0 c.args.sets.now) (length (views c.args.flat.now 0 c.args.sets.now)) (omega arith))
+
+pub work-requires-clause-begun : goal.work-requires-clause-begun
+work-requires-clause-begun g c = begin_all c.args.flat.now (map g.L.Letter.number c.args.line.now) c.args.sets.now c.requires.earlier

@@ -1,19 +1,8 @@
-use Rattle.std.proofs.Common.{◌≡◌, Some, subst, slice_get, slice_index_or}
-use Rattle.earley.specs.Waiting.{Chain}
-use Rattle.earley.proofs.WaitAllLemmas.{listed_adds}
+use Rattle.std.proofs.Common.{◌≡◌, Some, slice_get, subst, sym, ◌∙◌}
+use Rattle.earley.proofs.AloneLemmas.{alone_adds}
 use Rattle.earley.proofs.fill.go_on.Goals as goal
 
-pub go_along-requires : goal.go_along-requires
-go_along-requires c =
-    let at = subst (λ v. slice_get v c.in-Some.index ≡ Some c.args.root) c.deref.ensures.value c.in-Some.ensures in
-    let l = c.requires.waiting c.in-Some.index c.args.root at in
-    let first : c.first_at.result ≡ slice_index_or c.args.front.now.firsts.items c.in-Some.index 0 = rw (← c.deref-in-Some-2.ensures.value) c.first_at.ensures in
-    (l.items, rw (c.deref-in-Some.ensures.value, first) l.chain)
-
-pub returns-in_ok-go_along-in-Some : goal.returns-in_ok-go_along-in-Some
-returns-in_ok-go_along-in-Some c =
-    let at = subst (λ v. slice_get v c.in-Some.index ≡ Some c.args.root) c.deref.ensures.value c.in-Some.ensures in
-    let l = c.requires.waiting c.in-Some.index c.args.root at in
-    let first : c.first_at.result ≡ slice_index_or c.args.front.now.firsts.items c.in-Some.index 0 = rw (← c.deref-in-Some-2.ensures.value) c.first_at.ensures in
-    let chain : Chain c.deref-in-Some.result.now c.first_at.result l.items = rw (c.deref-in-Some.ensures.value, first) l.chain in
-    listed_adds l (c.in_ok-go_along-in-Some.ensures l.items chain)
+pub returns-in-Some-home_of : goal.returns-in-Some-home_of
+returns-in-Some-home_of c =
+    alone_adds c.args.flat.now c.args.root c.in-Some.inner c.args.front.now c.args.origin c.in-Some-home_of.index _ _ (c.requires.alone c.args.root c.in-Some.inner (sym c.sole_caller.ensures ∙ c.in-Some.is))
+    (subst (λ v. slice_get v c.in-Some-home_of.index ≡ Some c.in-Some.inner.head) c.deref.ensures.value c.in-Some-home_of.ensures) c.requires.begun c.in_ok-add.ensures

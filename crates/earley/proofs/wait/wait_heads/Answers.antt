@@ -1,16 +1,18 @@
-use Rattle.std.proofs.Common.{◌∙◌, ◌++◌, ap, sym, subst, map, take, arith}
+use Rattle.std.proofs.Common.{◌∙◌, ◌++◌, ap, sym, subst, map, take, arith, slice_index_or}
 use Rattle.flatgrammar.specs.Blocks.{block_of, item_at}
 use Rattle.earley.specs.FrontViews.{expand}
 use Rattle.earley.specs.Waiting.{AreWaiting}
 use Rattle.earley.proofs.ExpandLemmas.{take_one, take_past, expand_end}
-use Rattle.earley.proofs.WaitAllLemmas.{waiting_then}
+use Rattle.earley.proofs.WaitAllLemmas.{waiting_then, waiting_callers}
 use Rattle.earley.proofs.wait.wait_heads.Goals as goal
 
 pub loop-head-preserved : goal.loop-head-preserved
 loop-head-preserved c = record {
   long = c.wait_spots.ensures.long ∙ c.loop-head.invariant.long;
   more = waiting_then c.args.flat.now c.args.heads.now (expand (block_of c.args.flat.now) c.args.origin (take c.loop-head.head-index c.args.list.now)) _ _ _ _ _ _ _ _
-      (ap (λ v. expand (block_of c.args.flat.now) c.args.origin v) (take_one c.args.list.now c.loop-head.head-index 0 c.loop-head-test.true) ∙ expand_end (block_of c.args.flat.now) c.args.origin (take c.loop-head.head-index c.args.list.now) _ ∙ ap (λ v. expand (block_of c.args.flat.now) c.args.origin (take c.loop-head.head-index c.args.list.now) ++ map (item_at c.args.origin) v) (sym c.spots.ensures)) c.loop-head.invariant.more c.in_ok-wait_spots.ensures.more;
+      (ap (λ v. expand (block_of c.args.flat.now) c.args.origin v) (take_one c.args.list.now c.loop-head.head-index 0 c.loop-head-test.true) ∙ expand_end (block_of c.args.flat.now) c.args.origin (take c.loop-head.head-index c.args.list.now) _) c.loop-head.invariant.more
+      (λ seen are. waiting_callers c.args.flat.now c.args.heads.now c.requires.lists (slice_index_or c.args.list.now c.loop-head.head-index 0) c.args.origin seen _ _
+      (subst (λ v. AreWaiting c.args.flat.now (seen ++ map (item_at c.args.origin) v) c.args.heads.now c.wait_spots.new.firsts.items c.wait_spots.new.waits.items) c.asking.ensures (c.in_ok-wait_spots.ensures.more seen are)));
 }
 
 pub returns-clause-more : goal.returns-clause-more

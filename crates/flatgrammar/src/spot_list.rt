@@ -1,0 +1,148 @@
+//! Of the spots of a block those that call, and those that read.
+ghost use Rattle.std.specs.Prelude.{ℕ, Some, IsTrue, IfOk, slice_get};
+ghost use Rattle.flatgrammar.specs.Blocks.{block_of, Asks, Reads, ReadsAny, Picks, AreByLetter, lists_in, IsSpotList};
+
+use crate::block::Spot;
+use crate::flat_item::Item;
+use crate::flat_node::Node;
+use crate::tables::{Tables, call, reads, sole_caller, spots};
+use ruletable::Memory;
+use std::alloc::Global;
+
+// As many reading spots are walked without a table by letter.
+const FEW: usize = 8;
+
+/// Holds of the spots of a block those that call a root with a block of its own, and those that read: all, and where they are
+/// many those of each letter below 256.
+#[derive(Drop)]
+pub struct SpotList {
+    pub callers: Vec<Spot>,
+    pub readers: Vec<Spot>,
+    pub by_letter: Vec<Vec<Spot>>,
+}
+
+// Tells whether a spot calls a root with a block of its own.
+fn asks(flat: &Tables, spot: Spot) -> bool
+    ensures { Asks flat.now spot → IsTrue result }
+{
+    let item = Item {
+        node: spot.node,
+        step: spot.step,
+        origin: 0,
+    };
+    match call(flat, item) {
+        None => false,
+        Some((root, _)) => match sole_caller(flat, root) {
+            None => true,
+            Some(_) => false,
+        },
+    }
+}
+
+// Tells whether a spot may read a letter.
+fn reads_any(flat: &Tables, spot: Spot) -> bool
+    ensures { ReadsAny flat.now spot → IsTrue result }
+{
+    match flat.nodes.get(spot.node) {
+        Some(Node::Letters(_)) => true,
+        _ => false,
+    }
+}
+
+// Tells whether a spot reads that letter.
+fn reads_it(flat: &Tables, spot: Spot, value: u32) -> bool
+    ensures { Reads flat.now value spot → IsTrue result }
+{
+    let item = Item {
+        node: spot.node,
+        step: spot.step,
+        origin: 0,
+    };
+    reads(flat, item, value)
+}
+
+// Returns those that call a root with a block of its own.
+fn callers_of(alloc: Global, flat: &Tables, from: &[Spot]) -> Result<Vec<Spot>, Memory>
+    ensures { IfOk result (λ list. Picks (Asks flat.now) from.now list.items) }
+{
+    let mut list = Vec::new(alloc);
+    for spot in from {
+        if asks(flat, *spot) {
+            list.push(*spot)?;
+        }
+    }
+    Ok(list)
+}
+
+// Returns those that may read a letter.
+fn readers_of(alloc: Global, flat: &Tables, from: &[Spot]) -> Result<Vec<Spot>, Memory>
+    ensures { IfOk result (λ list. Picks (ReadsAny flat.now) from.now list.items) }
+{
+    let mut list = Vec::new(alloc);
+    for spot in from {
+        if reads_any(flat, *spot) {
+            list.push(*spot)?;
+        }
+    }
+    Ok(list)
+}
+
+// Returns those that read a letter.
+fn readers_of_letter(
+    alloc: Global,
+    flat: &Tables,
+    from: &[Spot],
+    value: u32,
+) -> Result<Vec<Spot>, Memory>
+    ensures { IfOk result (λ list. Picks (Reads flat.now value) from.now list.items) }
+{
+    let mut list = Vec::new(alloc);
+    for spot in from {
+        if reads_it(flat, *spot, value) {
+            list.push(*spot)?;
+        }
+    }
+    Ok(list)
+}
+
+// Returns for each letter below 256 those that read it.
+fn by_letter(alloc: Global, flat: &Tables, from: &[Spot]) -> Result<Vec<Vec<Spot>>, Memory>
+    ensures { IfOk result (λ lists. AreByLetter flat.now from.now lists.items) }
+{
+    let mut lists = Vec::new(alloc);
+    for value in 0..256u32 {
+        let list = readers_of_letter(alloc, flat, from, value)?;
+        lists.push(list)?;
+    }
+    Ok(lists)
+}
+
+// Returns the lists of a block.
+fn list_of(alloc: Global, flat: &Tables, from: &[Spot]) -> Result<SpotList, Memory>
+    ensures { IfOk result (λ list. IsSpotList flat.now from.now (lists_in (Some list))) }
+{
+    let callers = callers_of(alloc, flat, from)?;
+    let readers = readers_of(alloc, flat, from)?;
+    let by_letter = if readers.len() > FEW {
+        by_letter(alloc, flat, from)?
+    } else {
+        Vec::new(alloc)
+    };
+    Ok(SpotList {
+        callers,
+        readers,
+        by_letter,
+    })
+}
+
+/// Returns of each block its lists.
+pub(crate) fn spot_lists(alloc: Global, flat: &Tables) -> Result<Vec<SpotList>, Memory>
+    ensures { IfOk result (λ lists. (h : ℕ) → IsSpotList flat.now (block_of flat.now h).spots (lists_in (slice_get lists.items h))) }
+{
+    let mut lists = Vec::new(alloc);
+    for head in 0..flat.blocks.len() {
+        let list = list_of(alloc, flat, spots(flat, head))?;
+        lists.push(list)?;
+    }
+    Ok(lists)
+}
