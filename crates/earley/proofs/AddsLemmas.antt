@@ -7,7 +7,13 @@ use Rattle.earley.specs.ItemSets.{Adds}
 use Rattle.flatgrammar.proofs.InLemmas.{in_left, at_end, before_end, different_end}
 
 pub adds_none : {A : Type 0} (Q : A → Type 0) (old : List A) → ((a : A) → Q a → In a old) → Adds Q old old
-adds_none {A = A} Q old held = record { added = []; is = sym (append-nil old); all = held; only = λ a h. inl h; different = λ d. d }
+adds_none {A = A} Q old held = record {
+  added = [];
+  is = sym (append-nil old);
+  all = held;
+  only = λ a h. inl h;
+  different = λ d. d;
+}
 
 pub adds_one : {A : Type 0} (b : A) (old : List A) → (In b old → ⊥) → Adds (λ a. a ≡ b) old (old ++ b ∷ [])
 adds_one {A = A} b old apart = record {
@@ -41,8 +47,15 @@ adds_both {A = A} P Q R old mid new p q cases left right = record {
     by_only a (inl h) = by_mid a (p.only a h)
     by_only a (inr h) = inr (right a h)
 
-pub adds_as : {A : Type 0} (P Q : A → Type 0) (old new : List A) → ((a : A) → P a → Q a) → ((a : A) → Q a → P a) → Adds P old new → Adds Q old new
-adds_as {A = A} P Q old new to back p = record { added = p.added; is = p.is; all = λ a h. p.all a (back a h); only = λ a h. by a (p.only a h); different = p.different }
+pub adds_as : {A : Type 0} (P Q : A → Type 0) (old new : List A) → ((a : A) → P a → Q a) → ((a : A) → Q a → P a)
+    → Adds P old new → Adds Q old new
+adds_as {A = A} P Q old new to back p = record {
+  added = p.added;
+  is = p.is;
+  all = λ a h. p.all a (back a h);
+  only = λ a h. by a (p.only a h);
+  different = p.different;
+}
   where
     by : (a : A) → In a old ⊎ P a → In a old ⊎ Q a
     by a (inl h) = inl h

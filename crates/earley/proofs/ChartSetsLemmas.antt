@@ -1,6 +1,8 @@
 -- The sets of a chart are the item sets of its line.
 -- Serves: judge, Chart::items.
-use Rattle.std.proofs.Common.{◌≡◌, ℕ, zero, suc, ◌+◌, ◌*◌, ◌<◌, ◌≤◌, ◌⊎◌, inl, inr, Option, Some, None, List, [], ◌∷◌, ◌++◌, length, length-append, map, take, slice_get, slice_index_or, refl, sym, ◌∙◌, ap, subst, arith, ⊎_elim, Global}
+use Rattle.std.proofs.Common.{◌≡◌, ℕ, zero, suc, ◌+◌, ◌*◌, ◌<◌, ◌≤◌, ◌⊎◌, inl, inr, Option, Some, None, List, [], ◌∷◌}
+use Rattle.std.proofs.Common.{◌++◌, length, length-append, map, take, slice_get, slice_index_or, refl, sym, ◌∙◌, ap}
+use Rattle.std.proofs.Common.{subst, arith, ⊎_elim, Global}
 use Rattle.std.proofs.lemmas.List.{length-map}
 use Rattle.std.specs.declared.rc.Rc.{Rc}
 use Rattle.flatgrammar.specs.Flat.{Flat, Place, at}
@@ -28,12 +30,14 @@ holds_within (called h c st) = holds_within h
 holds_within {x = x} (has_read {j = j} h r letter lies) = let lt = get_below x j letter in omega (arith, lt)
 holds_within (returned h e g c takes) = holds_within h
 
-index_map : {A B : Type 0} (f : A → B) (xs : List A) (j : ℕ) (a : A) (d : B) → slice_get xs j ≡ Some a → slice_index_or (map f xs) j d ≡ f a
+index_map : {A B : Type 0} (f : A → B) (xs : List A) (j : ℕ) (a : A) (d : B) → slice_get xs j ≡ Some a
+    → slice_index_or (map f xs) j d ≡ f a
 index_map f [] j a d is = absurd (cc is)
 index_map f (x ∷ xs) zero a d is = let same : x ≡ a = cc is in ap f same
 index_map f (x ∷ xs) (suc j) a d is = index_map f xs j a d is
 
-index_past : {A B : Type 0} (f : A → B) (xs : List A) (j : ℕ) (d : B) → length xs ≤ j → slice_index_or (map f xs) j d ≡ d
+index_past : {A B : Type 0} (f : A → B) (xs : List A) (j : ℕ) (d : B) → length xs ≤ j
+    → slice_index_or (map f xs) j d ≡ d
 index_past f [] j d le = refl
 index_past f (x ∷ xs) zero d le = absurd (omega (arith, le))
 index_past f (x ∷ xs) (suc j) d le = index_past f xs j d (omega (arith, le))
@@ -48,7 +52,8 @@ paired a [] h = elim h [ ]
 paired a (b ∷ set) (now same) = now (ap pair same)
 paired a (b ∷ set) (on h) = on (paired a set h)
 
-module _ (tables : code_flat.Tables) (x : List ℕ) (fronts : List Front) (size : length fronts ≡ length x + 1) (exact : IsExact tables x (views tables 0 fronts)) where
+module _ (tables : code_flat.Tables) (x : List ℕ) (fronts : List Front) (size : length fronts ≡ length x + 1)
+    (exact : IsExact tables x (views tables 0 fronts)) where
   filled_set : (j : ℕ) (set : List Item) → IsExactSet tables x j set → IsSet (flat_of tables) x j (map pair set)
   filled_set j set e = record {
     held = λ p i h. held p i (in_map (p, i) set h);
@@ -60,7 +65,9 @@ module _ (tables : code_flat.Tables) (x : List ℕ) (fronts : List Front) (size 
       held p i f =
           let place : p ≡ at f.item.node f.item.step = ap (λ v. v.0) f.is in
           let origin : i ≡ f.item.origin = ap (λ v. v.1) f.is in
-          subst (λ v. Holds (flat_of tables) x j v i) (sym place) (subst (λ v. Holds (flat_of tables) x j (at f.item.node f.item.step) v) (sym origin) (e.held f.item f.stands))
+          subst (λ v. Holds (flat_of tables) x j v i) (sym place)
+          (subst (λ v. Holds (flat_of tables) x j (at f.item.node f.item.step) v) (sym origin)
+          (e.held f.item f.stands))
 
       all : (p : Place) (i : ℕ) → In (item_of p i) set → In {A = Place × ℕ} (p, i) (map pair set)
       all (at s k) i h = paired (record { node = s; step = k; origin = i }) set h
@@ -77,51 +84,70 @@ module _ (tables : code_flat.Tables) (x : List ℕ) (fronts : List Front) (size 
 
   pub chart_set : (j : ℕ) → IsSet (flat_of tables) x j (set_at (map (λ set. map pair set) (views tables 0 fronts)) j)
   chart_set j = ⊎_elim
-      (λ h. subst (λ v. IsSet (flat_of tables) x j v) (sym (index_map (λ set. map pair set) (views tables 0 fronts) j h.0 [] h.1)) (filled_set j h.0 (exact j h.0 h.1)))
+      (λ h. subst (λ v. IsSet (flat_of tables) x j v)
+      (sym (index_map (λ set. map pair set) (views tables 0 fronts) j h.0 [] h.1))
+      (filled_set j h.0 (exact j h.0 h.1)))
       (λ past. let count = length_views tables 0 fronts in
-      subst (λ v. IsSet (flat_of tables) x j v) (sym (index_past (λ set. map pair set) (views tables 0 fronts) j [] past)) (no_set j (omega (arith, past, count, size))))
+      subst (λ v. IsSet (flat_of tables) x j v) (sym
+      (index_past (λ set. map pair set) (views tables 0 fronts) j [] past))
+      (no_set j (omega (arith, past, count, size))))
       (there_or_past (views tables 0 fronts) j)
 
-pub set_bound : (flat : Flat) (x : List ℕ) (j : ℕ) (set : List (Place × ℕ)) → IsSet flat x j set → length set ≤ places flat.nodes * (j + 1)
+pub set_bound : (flat : Flat) (x : List ℕ) (j : ℕ) (set : List (Place × ℕ)) → IsSet flat x j set
+    → length set ≤ places flat.nodes * (j + 1)
 set_bound flat x j set e = items_at_most flat x j set e.different e.held
 
 -- sizes
-size_at : (tables : code_flat.Tables) (fronts : List Front) (j : ℕ) (f : Front) → slice_get fronts j ≡ Some f → f.size ≡ length (view tables j f) →
+size_at : (tables : code_flat.Tables) (fronts : List Front) (j : ℕ) (f : Front) → slice_get fronts j ≡ Some f
+    → f.size ≡ length (view tables j f) →
     f.size ≡ length (set_at (map (λ set. map pair set) (views tables 0 fronts)) j)
 size_at tables fronts j f is same =
     let zero_is : 0 + j ≡ j = omega arith in
     let there = get_views tables 0 fronts j f is ∙ ap (λ v. Some (view tables v f)) zero_is in
-    same ∙ (sym (length-map (view tables j f) pair) ∙ ap (λ v. length v) (sym (index_map (λ set. map pair set) (views tables 0 fronts) j (view tables j f) [] there)))
+    same ∙ (sym (length-map (view tables j f) pair)
+    ∙ ap (λ v. length v) (sym (index_map (λ set. map pair set) (views tables 0 fronts) j (view tables j f) []
+    there)))
 
-pub sized : (tables : Rc code_flat.Tables Global) (fronts : List Front) → ((j : ℕ) (f : Front) → slice_get fronts j ≡ Some f → f.size ≡ length (view tables.value j f)) →
+pub sized : (tables : Rc code_flat.Tables Global) (fronts : List Front)
+    → ((j : ℕ) (f : Front) → slice_get fronts j ≡ Some f → f.size ≡ length (view tables.value j f)) →
     AreSized (Some tables) fronts
 sized tables fronts same = record { size = λ j f is. size_at tables.value fronts j f is (same j f is) }
 
-pub none_sized : (tables : Option (Rc code_flat.Tables Global)) (fronts : List Front) → fronts ≡ [] → AreSized tables fronts
+pub none_sized : (tables : Option (Rc code_flat.Tables Global)) (fronts : List Front) → fronts ≡ []
+    → AreSized tables fronts
 none_sized tables fronts none = rw none (record { size = λ j f is. absurd (cc is) })
 
 -- the size of a set that is there, and of one that is not
-pub size_past : (tables : Option (Rc code_flat.Tables Global)) (fronts : List Front) (j : ℕ) → length fronts ≤ j → length (set_at (chart_of tables fronts) j) ≡ 0
+pub size_past : (tables : Option (Rc code_flat.Tables Global)) (fronts : List Front) (j : ℕ) → length fronts ≤ j
+    → length (set_at (chart_of tables fronts) j) ≡ 0
 size_past None fronts j le = refl
 size_past (Some t) fronts j le =
     let count = length_views t.value 0 fronts in
     ap (λ v. length v) (index_past (λ set. map pair set) (views t.value 0 fronts) j [] (omega (arith, le, count)))
 
 -- one set more
-pub sized_push : (tables : code_flat.Tables) (fronts : List Front) (front : Front) → ((j : ℕ) (f : Front) → slice_get fronts j ≡ Some f → f.size ≡ length (view tables j f)) →
-    ((j : ℕ) → front.size ≡ length (view tables j front)) → (j : ℕ) (f : Front) → slice_get (fronts ++ front ∷ []) j ≡ Some f → f.size ≡ length (view tables j f)
-sized_push tables fronts front all last j f is = ⊎_elim (λ was. all j f was) (λ h. subst (λ v. v.size ≡ length (view tables j v)) h.1 (last j)) (push_cases fronts front j f is)
+pub sized_push : (tables : code_flat.Tables) (fronts : List Front) (front : Front)
+    → ((j : ℕ) (f : Front) → slice_get fronts j ≡ Some f → f.size ≡ length (view tables j f)) →
+    ((j : ℕ) → front.size ≡ length (view tables j front)) → (j : ℕ) (f : Front) → slice_get (fronts ++ front ∷ []) j
+    ≡ Some f → f.size ≡ length (view tables j f)
+sized_push tables fronts front all last j f is =
+    ⊎_elim (λ was. all j f was) (λ h. subst (λ v. v.size ≡ length (view tables j v)) h.1 (last j))
+    (push_cases fronts front j f is)
 
 -- one block more
-pub size_more : (blocks : ℕ → Block) (j : ℕ) (heads : List ℕ) (k d : ℕ) (spots : List Spot) → k < length heads → spots ≡ (blocks (slice_index_or heads k d)).spots →
+pub size_more : (blocks : ℕ → Block) (j : ℕ) (heads : List ℕ) (k d : ℕ) (spots : List Spot) → k < length heads
+    → spots ≡ (blocks (slice_index_or heads k d)).spots →
     length (expand blocks j (take (k + 1) heads)) ≡ length (expand blocks j (take k heads)) + length spots
 size_more blocks j heads k d spots lt is =
     ap (λ v. length (expand blocks j v)) (take_one heads k d lt) ∙
     (ap (λ v. length v) (expand_end blocks j (take k heads) (slice_index_or heads k d)) ∙
     (length-append (expand blocks j (take k heads)) (map (item_at j) (blocks (slice_index_or heads k d)).spots) ∙
-    ap (λ v. length (expand blocks j (take k heads)) + v) (length-map (blocks (slice_index_or heads k d)).spots (item_at j) ∙ ap (λ v. length v) (sym is))))
+    ap (λ v. length (expand blocks j (take k heads)) + v)
+    (length-map (blocks (slice_index_or heads k d)).spots (item_at j) ∙ ap (λ v. length v) (sym is))))
 
-pub size_here : (tables : code_flat.Tables) (j : ℕ) (hs : List ℕ) (is : List Item) (heads : List ℕ) (items : List Item) (n : ℕ) → hs ≡ heads → is ≡ items → n ≡ length (full (block_of tables) j hs is) →
+pub size_here : (tables : code_flat.Tables) (j : ℕ) (hs : List ℕ) (is : List Item) (heads : List ℕ) (items : List Item)
+    (n : ℕ) → hs ≡ heads → is ≡ items → n ≡ length (full (block_of tables) j hs is) →
     n ≡ length (full (block_of tables) j heads items)
 size_here tables j hs is heads items n same other size =
-    size ∙ (ap (λ v. length (full (block_of tables) j v is)) same ∙ ap (λ v. length (full (block_of tables) j heads v)) other)
+    size ∙ (ap (λ v. length (full (block_of tables) j v is)) same ∙ ap (λ v. length (full (block_of tables) j heads v))
+    other)

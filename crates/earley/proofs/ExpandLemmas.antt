@@ -1,6 +1,8 @@
 -- Loops that add what one entry after another asks for.
 -- Serves: judge.
-use Rattle.std.proofs.Common.{◌≡◌, ℕ, zero, suc, ◌+◌, ◌<◌, ◌≤◌, ◌⊎◌, inl, inr, List, [], ◌∷◌, ◌++◌, true, false, Some, None, length, map, take, slice_get, slice_index_or, refl, sym, ◌∙◌, ap, subst, arith, append_assoc}
+use Rattle.std.proofs.Common.{◌≡◌, ℕ, zero, suc, ◌+◌, ◌<◌, ◌≤◌, ◌⊎◌, inl, inr, List, [], ◌∷◌, ◌++◌, true, false, Some}
+use Rattle.std.proofs.Common.{None, length, map, take, slice_get, slice_index_or, refl, sym, ◌∙◌, ap, subst, arith}
+use Rattle.std.proofs.Common.{append_assoc}
 use Rattle.std.proofs.lemmas.List.{append-nil}
 use Rattle.flatgrammar.specs.Places.{In, now, on}
 use Rattle.flatgrammar.specs.declared.flat_item.Item.{Item}
@@ -20,10 +22,12 @@ use Rattle.earley.proofs.AddsLemmas.{adds_both, adds_as, adds_none}
 use Rattle.flatgrammar.proofs.InLemmas.{in_left, at_end, before_end}
 use Rattle.earley.proofs.BlockLemmas.{in_right, either, in_map, from_map}
 
-pub take_one : {A : Type 0} (xs : List A) (k : ℕ) (d : A) → k < length xs → take (k + 1) xs ≡ take k xs ++ slice_index_or xs k d ∷ []
+pub take_one : {A : Type 0} (xs : List A) (k : ℕ) (d : A) → k < length xs → take (k + 1) xs ≡ take k xs
+    ++ slice_index_or xs k d ∷ []
 take_one [] k d lt = absurd (omega arith)
 take_one (x ∷ xs) zero d lt = refl
-take_one (x ∷ xs) (suc k) d lt = (let e : suc k + 1 ≡ suc (k + 1) = omega arith in ap (λ v. take v (x ∷ xs)) e) ∙ ap (λ v. x ∷ v) (take_one xs k d (omega (arith, lt)))
+take_one (x ∷ xs) (suc k) d lt = (let e : suc k + 1 ≡ suc (k + 1) = omega arith in ap (λ v. take v (x ∷ xs)) e)
+    ∙ ap (λ v. x ∷ v) (take_one xs k d (omega (arith, lt)))
 
 pub take_past : {A : Type 0} (xs : List A) (k : ℕ) → length xs ≤ k → take k xs ≡ xs
 take_past [] zero le = refl
@@ -35,14 +39,19 @@ pub map_end : {A B : Type 0} (f : A → B) (xs : List A) (x : A) → map f (xs +
 map_end f [] x = refl
 map_end f (y ∷ xs) x = ap (λ v. f y ∷ v) (map_end f xs x)
 
-pub expand_end : (blocks : ℕ → Block) (j : ℕ) (heads : List ℕ) (h : ℕ) → expand blocks j (heads ++ h ∷ []) ≡ expand blocks j heads ++ map (item_at j) (blocks h).spots
+pub expand_end : (blocks : ℕ → Block) (j : ℕ) (heads : List ℕ) (h : ℕ) → expand blocks j (heads ++ h ∷ [])
+    ≡ expand blocks j heads ++ map (item_at j) (blocks h).spots
 expand_end blocks j [] h = append-nil (map (item_at j) (blocks h).spots)
 expand_end blocks j (g ∷ heads) h =
-    ap (λ v. map (item_at j) (blocks g).spots ++ v) (expand_end blocks j heads h) ∙ sym (append_assoc (map (item_at j) (blocks g).spots) (expand blocks j heads) (map (item_at j) (blocks h).spots))
+    ap (λ v. map (item_at j) (blocks g).spots ++ v) (expand_end blocks j heads h)
+    ∙ sym (append_assoc (map (item_at j) (blocks g).spots) (expand blocks j heads)
+    (map (item_at j) (blocks h).spots))
 
-pub in_more : {A : Type 0} (ws : List A) (w : A) (old mid new : List A) → Adds (λ a. In a ws) old mid → Adds (λ a. a ≡ w) mid new → Adds (λ a. In a (ws ++ w ∷ [])) old new
+pub in_more : {A : Type 0} (ws : List A) (w : A) (old mid new : List A) → Adds (λ a. In a ws) old mid
+    → Adds (λ a. a ≡ w) mid new → Adds (λ a. In a (ws ++ w ∷ [])) old new
 in_more ws w old mid new p q = adds_both (λ a. In a ws) (λ a. a ≡ w) (λ a. In a (ws ++ w ∷ [])) old mid new p q
-    (λ a h. before_end a w ws h) (λ a h. in_left (w ∷ []) h) (λ a h. subst (λ v. In v (ws ++ w ∷ [])) (sym h) (at_end w ws))
+    (λ a h. before_end a w ws h) (λ a h. in_left (w ∷ []) h)
+    (λ a h. subst (λ v. In v (ws ++ w ∷ [])) (sym h) (at_end w ws))
 
 pub in_none : {A : Type 0} (old : List A) → Adds (λ a. In a []) old old
 in_none old = adds_none (λ a. In a []) old (λ a h. nobody a h)
@@ -60,12 +69,16 @@ module _ (flat : code_flat.Tables) (root : ℕ) where
       nobody : (a b : Item) → In b [] → In a old
       nobody a b h = elim h [ ]
 
-  pub resumed_both : (ws vs : List Item) (old mid new : List Item) → Adds (IsResumed flat root ws) old mid → Adds (IsResumed flat root vs) mid new →
+  pub resumed_both : (ws vs : List Item) (old mid new : List Item) → Adds (IsResumed flat root ws) old mid
+      → Adds (IsResumed flat root vs) mid new →
       Adds (IsResumed flat root (ws ++ vs)) old new
-  resumed_both ws vs old mid new p q = adds_both (IsResumed flat root ws) (IsResumed flat root vs) (IsResumed flat root (ws ++ vs)) old mid new p q
-      (λ a r. cases a r (either ws r.waits)) (λ a r. from ws (ws ++ vs) a r (in_left vs r.waits)) (λ a r. from vs (ws ++ vs) a r (in_right ws r.waits))
+  resumed_both ws vs old mid new p q = adds_both (IsResumed flat root ws) (IsResumed flat root vs)
+      (IsResumed flat root (ws ++ vs)) old mid new p q
+      (λ a r. cases a r (either ws r.waits)) (λ a r. from ws (ws ++ vs) a r (in_left vs r.waits))
+      (λ a r. from vs (ws ++ vs) a r (in_right ws r.waits))
     where
-      cases : (a : Item) (r : IsResumed flat root (ws ++ vs) a) → In r.from ws ⊎ In r.from vs → IsResumed flat root ws a ⊎ IsResumed flat root vs a
+      cases : (a : Item) (r : IsResumed flat root (ws ++ vs) a) → In r.from ws ⊎ In r.from vs → IsResumed flat root ws a
+          ⊎ IsResumed flat root vs a
       cases a r (inl h) = inl (from (ws ++ vs) ws a r h)
       cases a r (inr h) = inr (from (ws ++ vs) vs a r h)
 
@@ -79,158 +92,257 @@ module _ (flat : code_flat.Tables) (c : ℕ) where
       nobody : (a b : Item) → In b [] → In a old
       nobody a b h = elim h [ ]
 
-  pub reads_both : (ws vs : List Item) (old mid new : List Item) → Adds (IsRead flat c ws) old mid → Adds (IsRead flat c vs) mid new →
+  pub reads_both : (ws vs : List Item) (old mid new : List Item) → Adds (IsRead flat c ws) old mid
+      → Adds (IsRead flat c vs) mid new →
       Adds (IsRead flat c (ws ++ vs)) old new
-  reads_both ws vs old mid new p q = adds_both (IsRead flat c ws) (IsRead flat c vs) (IsRead flat c (ws ++ vs)) old mid new p q
-      (λ a r. cases a r (either ws r.stands)) (λ a r. by ws (ws ++ vs) a r (in_left vs r.stands)) (λ a r. by vs (ws ++ vs) a r (in_right ws r.stands))
+  reads_both ws vs old mid new p q = adds_both (IsRead flat c ws) (IsRead flat c vs) (IsRead flat c (ws ++ vs)) old mid
+      new p q
+      (λ a r. cases a r (either ws r.stands)) (λ a r. by ws (ws ++ vs) a r (in_left vs r.stands))
+      (λ a r. by vs (ws ++ vs) a r (in_right ws r.stands))
     where
-      cases : (a : Item) (r : IsRead flat c (ws ++ vs) a) → In r.by ws ⊎ In r.by vs → IsRead flat c ws a ⊎ IsRead flat c vs a
+      cases : (a : Item) (r : IsRead flat c (ws ++ vs) a) → In r.by ws ⊎ In r.by vs → IsRead flat c ws a
+          ⊎ IsRead flat c vs a
       cases a r (inl h) = inl (by (ws ++ vs) ws a r h)
       cases a r (inr h) = inr (by (ws ++ vs) vs a r h)
 
 module _ (flat : code_flat.Tables) (root : ℕ) where
   pub resumed_one : (item : Item) (step : ℕ) (old new : List Item) → call_of flat item ≡ Some (root, step) →
-      Adds (λ a. a ≡ record { node = item.node; step = step; origin = item.origin }) old new → Adds (IsResumed flat root (item ∷ [])) old new
-  resumed_one item step old new is p = adds_as (λ a. a ≡ record { node = item.node; step = step; origin = item.origin }) (IsResumed flat root (item ∷ [])) old new
-      (λ a h. record { from = item; waits = now refl; call = is ∙ ap (λ v. Some (root, v)) (sym (ap (λ v. v.step) h)); node = ap (λ v. v.node) h; origin = ap (λ v. v.origin) h })
+      Adds (λ a. a ≡ record { node = item.node; step = step; origin = item.origin }) old new
+      → Adds (IsResumed flat root (item ∷ [])) old new
+  resumed_one item step old new is p = adds_as (λ a. a ≡ record { node = item.node; step = step; origin = item.origin })
+      (IsResumed flat root (item ∷ [])) old new
+      (λ a h. record {
+        from = item;
+        waits = now refl;
+        call = is ∙ ap (λ v. Some (root, v)) (sym (ap (λ v. v.step) h));
+        node = ap (λ v. v.node) h;
+        origin = ap (λ v. v.origin) h;
+      })
       (λ a r. back a r r.waits) p
     where
-      back : (a : Item) (r : IsResumed flat root (item ∷ []) a) → In r.from (item ∷ []) → a ≡ record { node = item.node; step = step; origin = item.origin }
+      back : (a : Item) (r : IsResumed flat root (item ∷ []) a) → In r.from (item ∷ [])
+          → a ≡ record { node = item.node; step = step; origin = item.origin }
       back a r (now same) =
-          let call : call_of flat item ≡ Some (root, a.step) = subst (λ v. call_of flat v ≡ Some (root, a.step)) same r.call in
+          let call : call_of flat item ≡ Some (root, a.step) = subst (λ v. call_of flat v ≡ Some (root, a.step)) same
+          r.call in
           let pair = some_same (sym call ∙ is) in
-          item_same a item.node step item.origin (r.node ∙ ap (λ v. v.node) same) (ap (λ v. v.1) pair) (r.origin ∙ ap (λ v. v.origin) same)
+          item_same a item.node step item.origin (r.node ∙ ap (λ v. v.node) same) (ap (λ v. v.1) pair)
+          (r.origin ∙ ap (λ v. v.origin) same)
       back a r (on h) = elim h [ ]
 
-  pub resumed_not : (item : Item) (old : List Item) → ((step : ℕ) → call_of flat item ≡ Some (root, step) → ⊥) → Adds (IsResumed flat root (item ∷ [])) old old
+  pub resumed_not : (item : Item) (old : List Item) → ((step : ℕ) → call_of flat item ≡ Some (root, step) → ⊥)
+      → Adds (IsResumed flat root (item ∷ [])) old old
   resumed_not item old never = adds_none (IsResumed flat root (item ∷ [])) old (λ a r. nobody a r r.waits)
     where
       nobody : (a : Item) (r : IsResumed flat root (item ∷ []) a) → In r.from (item ∷ []) → In a old
       nobody a r (now same) = absurd (never a.step (subst (λ v. call_of flat v ≡ Some (root, a.step)) same r.call))
       nobody a r (on h) = elim h [ ]
 
-  pub resumed_more : (ws : List Item) (k : ℕ) (d : Item) (old mid new : List Item) → k < length ws → Adds (IsResumed flat root (take k ws)) old mid →
-      Adds (IsResumed flat root (slice_index_or ws k d ∷ [])) mid new → Adds (IsResumed flat root (take (k + 1) ws)) old new
+  pub resumed_more : (ws : List Item) (k : ℕ) (d : Item) (old mid new : List Item) → k < length ws
+      → Adds (IsResumed flat root (take k ws)) old mid →
+      Adds (IsResumed flat root (slice_index_or ws k d ∷ [])) mid new → Adds (IsResumed flat root (take (k + 1) ws))
+      old new
   resumed_more ws k d old mid new lt p q =
-      subst (λ v. Adds (IsResumed flat root v) old new) (sym (take_one ws k d lt)) (resumed_both flat root (take k ws) (slice_index_or ws k d ∷ []) old mid new p q)
+      subst (λ v. Adds (IsResumed flat root v) old new) (sym (take_one ws k d lt))
+      (resumed_both flat root (take k ws) (slice_index_or ws k d ∷ []) old mid new p q)
 
-  pub resumed_spots_more : (j : ℕ) (ws : List Spot) (k : ℕ) (d : Spot) (old mid new : List Item) → k < length ws → Adds (IsResumed flat root (map (item_at j) (take k ws))) old mid →
-      Adds (IsResumed flat root (item_at j (slice_index_or ws k d) ∷ [])) mid new → Adds (IsResumed flat root (map (item_at j) (take (k + 1) ws))) old new
+  pub resumed_spots_more : (j : ℕ) (ws : List Spot) (k : ℕ) (d : Spot) (old mid new : List Item) → k < length ws
+      → Adds (IsResumed flat root (map (item_at j) (take k ws))) old mid →
+      Adds (IsResumed flat root (item_at j (slice_index_or ws k d) ∷ [])) mid new
+      → Adds (IsResumed flat root (map (item_at j) (take (k + 1) ws))) old new
   resumed_spots_more j ws k d old mid new lt p q =
-      subst (λ v. Adds (IsResumed flat root v) old new) (sym (ap (λ v. map (item_at j) v) (take_one ws k d lt) ∙ map_end (item_at j) (take k ws) (slice_index_or ws k d)))
+      subst (λ v. Adds (IsResumed flat root v) old new)
+      (sym (ap (λ v. map (item_at j) v) (take_one ws k d lt)
+      ∙ map_end (item_at j) (take k ws) (slice_index_or ws k d)))
       (resumed_both flat root (map (item_at j) (take k ws)) (item_at j (slice_index_or ws k d) ∷ []) old mid new p q)
 
-  pub resumed_heads_more : (blocks : ℕ → Block) (j : ℕ) (hs : List ℕ) (k d : ℕ) (spots : List Spot) (old mid new : List Item) → k < length hs →
-      spots ≡ (blocks (slice_index_or hs k d)).spots → Adds (IsResumed flat root (expand blocks j (take k hs))) old mid →
-      Adds (IsResumed flat root (map (item_at j) spots)) mid new → Adds (IsResumed flat root (expand blocks j (take (k + 1) hs))) old new
+  pub resumed_heads_more : (blocks : ℕ → Block) (j : ℕ) (hs : List ℕ) (k d : ℕ) (spots : List Spot)
+      (old mid new : List Item) → k < length hs →
+      spots ≡ (blocks (slice_index_or hs k d)).spots → Adds (IsResumed flat root (expand blocks j (take k hs))) old
+      mid →
+      Adds (IsResumed flat root (map (item_at j) spots)) mid new
+      → Adds (IsResumed flat root (expand blocks j (take (k + 1) hs))) old new
   resumed_heads_more blocks j hs k d spots old mid new lt is p q =
-      subst (λ v. Adds (IsResumed flat root v) old new) (sym (ap (λ v. expand blocks j v) (take_one hs k d lt) ∙ expand_end blocks j (take k hs) (slice_index_or hs k d)))
-      (resumed_both flat root (expand blocks j (take k hs)) (map (item_at j) (blocks (slice_index_or hs k d)).spots) old mid new p
+      subst (λ v. Adds (IsResumed flat root v) old new)
+      (sym (ap (λ v. expand blocks j v) (take_one hs k d lt)
+      ∙ expand_end blocks j (take k hs) (slice_index_or hs k d)))
+      (resumed_both flat root (expand blocks j (take k hs)) (map (item_at j) (blocks (slice_index_or hs k d)).spots) old
+      mid new p
       (subst (λ v. Adds (IsResumed flat root (map (item_at j) v)) mid new) is q))
 
 module _ (flat : code_flat.Tables) (c : ℕ) where
   pub reads_one : (item : Item) (old new : List Item) → IfSomeSet (read_of flat item) c →
-      Adds (λ a. a ≡ record { node = item.node; step = item.step + 1; origin = item.origin }) old new → Adds (IsRead flat c (item ∷ [])) old new
-  reads_one item old new reads p = adds_as (λ a. a ≡ record { node = item.node; step = item.step + 1; origin = item.origin }) (IsRead flat c (item ∷ [])) old new
-      (λ a h. record { by = item; stands = now refl; reads = reads; node = ap (λ v. v.node) h; step = ap (λ v. v.step) h; origin = ap (λ v. v.origin) h })
+      Adds (λ a. a ≡ record { node = item.node; step = item.step + 1; origin = item.origin }) old new
+      → Adds (IsRead flat c (item ∷ [])) old new
+  reads_one item old new reads p = adds_as (λ a. a
+      ≡ record { node = item.node; step = item.step + 1; origin = item.origin }) (IsRead flat c (item ∷ [])) old new
+      (λ a h. record {
+        by = item;
+        stands = now refl;
+        reads = reads;
+        node = ap (λ v. v.node) h;
+        step = ap (λ v. v.step) h;
+        origin = ap (λ v. v.origin) h;
+      })
       (λ a r. back a r r.stands) p
     where
-      back : (a : Item) (r : IsRead flat c (item ∷ []) a) → In r.by (item ∷ []) → a ≡ record { node = item.node; step = item.step + 1; origin = item.origin }
-      back a r (now same) = item_same a item.node (item.step + 1) item.origin (r.node ∙ ap (λ v. v.node) same) (r.step ∙ ap (λ v. v.step + 1) same) (r.origin ∙ ap (λ v. v.origin) same)
+      back : (a : Item) (r : IsRead flat c (item ∷ []) a) → In r.by (item ∷ [])
+          → a ≡ record { node = item.node; step = item.step + 1; origin = item.origin }
+      back a r (now same) = item_same a item.node (item.step + 1) item.origin (r.node ∙ ap (λ v. v.node) same)
+          (r.step ∙ ap (λ v. v.step + 1) same) (r.origin ∙ ap (λ v. v.origin) same)
       back a r (on h) = elim h [ ]
 
-  pub reads_not : (item : Item) (old : List Item) → (IfSomeSet (read_of flat item) c → ⊥) → Adds (IsRead flat c (item ∷ [])) old old
+  pub reads_not : (item : Item) (old : List Item) → (IfSomeSet (read_of flat item) c → ⊥)
+      → Adds (IsRead flat c (item ∷ [])) old old
   reads_not item old never = adds_none (IsRead flat c (item ∷ [])) old (λ a r. nobody a r r.stands)
     where
       nobody : (a : Item) (r : IsRead flat c (item ∷ []) a) → In r.by (item ∷ []) → In a old
       nobody a r (now same) = absurd (never (subst (λ v. IfSomeSet (read_of flat v) c) same r.reads))
       nobody a r (on h) = elim h [ ]
 
-  pub reads_more : (ws : List Item) (k : ℕ) (d : Item) (old mid new : List Item) → k < length ws → Adds (IsRead flat c (take k ws)) old mid →
+  pub reads_more : (ws : List Item) (k : ℕ) (d : Item) (old mid new : List Item) → k < length ws
+      → Adds (IsRead flat c (take k ws)) old mid →
       Adds (IsRead flat c (slice_index_or ws k d ∷ [])) mid new → Adds (IsRead flat c (take (k + 1) ws)) old new
   reads_more ws k d old mid new lt p q =
-      subst (λ v. Adds (IsRead flat c v) old new) (sym (take_one ws k d lt)) (reads_both flat c (take k ws) (slice_index_or ws k d ∷ []) old mid new p q)
+      subst (λ v. Adds (IsRead flat c v) old new) (sym (take_one ws k d lt))
+      (reads_both flat c (take k ws) (slice_index_or ws k d ∷ []) old mid new p q)
 
-  pub reads_spots_more : (j : ℕ) (ws : List Spot) (k : ℕ) (d : Spot) (old mid new : List Item) → k < length ws → Adds (IsRead flat c (map (item_at j) (take k ws))) old mid →
-      Adds (IsRead flat c (item_at j (slice_index_or ws k d) ∷ [])) mid new → Adds (IsRead flat c (map (item_at j) (take (k + 1) ws))) old new
+  pub reads_spots_more : (j : ℕ) (ws : List Spot) (k : ℕ) (d : Spot) (old mid new : List Item) → k < length ws
+      → Adds (IsRead flat c (map (item_at j) (take k ws))) old mid →
+      Adds (IsRead flat c (item_at j (slice_index_or ws k d) ∷ [])) mid new
+      → Adds (IsRead flat c (map (item_at j) (take (k + 1) ws))) old new
   reads_spots_more j ws k d old mid new lt p q =
-      subst (λ v. Adds (IsRead flat c v) old new) (sym (ap (λ v. map (item_at j) v) (take_one ws k d lt) ∙ map_end (item_at j) (take k ws) (slice_index_or ws k d)))
+      subst (λ v. Adds (IsRead flat c v) old new) (sym (ap (λ v. map (item_at j) v) (take_one ws k d lt)
+      ∙ map_end (item_at j) (take k ws) (slice_index_or ws k d)))
       (reads_both flat c (map (item_at j) (take k ws)) (item_at j (slice_index_or ws k d) ∷ []) old mid new p q)
 
-  pub reads_heads_more : (blocks : ℕ → Block) (j : ℕ) (hs : List ℕ) (k d : ℕ) (spots : List Spot) (old mid new : List Item) → k < length hs →
+  pub reads_heads_more : (blocks : ℕ → Block) (j : ℕ) (hs : List ℕ) (k d : ℕ) (spots : List Spot)
+      (old mid new : List Item) → k < length hs →
       spots ≡ (blocks (slice_index_or hs k d)).spots → Adds (IsRead flat c (expand blocks j (take k hs))) old mid →
-      Adds (IsRead flat c (map (item_at j) spots)) mid new → Adds (IsRead flat c (expand blocks j (take (k + 1) hs))) old new
+      Adds (IsRead flat c (map (item_at j) spots)) mid new → Adds (IsRead flat c (expand blocks j (take (k + 1) hs)))
+      old new
   reads_heads_more blocks j hs k d spots old mid new lt is p q =
-      subst (λ v. Adds (IsRead flat c v) old new) (sym (ap (λ v. expand blocks j v) (take_one hs k d lt) ∙ expand_end blocks j (take k hs) (slice_index_or hs k d)))
-      (reads_both flat c (expand blocks j (take k hs)) (map (item_at j) (blocks (slice_index_or hs k d)).spots) old mid new p
+      subst (λ v. Adds (IsRead flat c v) old new) (sym (ap (λ v. expand blocks j v) (take_one hs k d lt)
+      ∙ expand_end blocks j (take k hs) (slice_index_or hs k d)))
+      (reads_both flat c (expand blocks j (take k hs)) (map (item_at j) (blocks (slice_index_or hs k d)).spots) old mid
+      new p
       (subst (λ v. Adds (IsRead flat c (map (item_at j) v)) mid new) is q))
 
 module _ (flat : code_flat.Tables) (c : ℕ) (old new : List Item) where
   -- places that do not read the letter may be left out
-  reads_fewer : (few all : List Item) → ((a : Item) → In a few → In a all) → ((a : Item) → In a all → IfSomeSet (read_of flat a) c → In a few) →
+  reads_fewer : (few all : List Item) → ((a : Item) → In a few → In a all)
+      → ((a : Item) → In a all → IfSomeSet (read_of flat a) c → In a few) →
       Adds (IsRead flat c few) old new → Adds (IsRead flat c all) old new
   reads_fewer few all stand reading = adds_as (IsRead flat c few) (IsRead flat c all) old new
-      (λ a r. record { by = r.by; stands = stand r.by r.stands; reads = r.reads; node = r.node; step = r.step; origin = r.origin })
-      (λ a r. record { by = r.by; stands = reading r.by r.stands r.reads; reads = r.reads; node = r.node; step = r.step; origin = r.origin })
+      (λ a r. record {
+        by = r.by;
+        stands = stand r.by r.stands;
+        reads = r.reads;
+        node = r.node;
+        step = r.step;
+        origin = r.origin;
+      })
+      (λ a r. record {
+        by = r.by;
+        stands = reading r.by r.stands r.reads;
+        reads = r.reads;
+        node = r.node;
+        step = r.step;
+        origin = r.origin;
+      })
 
   -- of a block the places that are tried on the letter are enough
-  pub block_reads : (lists : AreSpotLists flat) (head j : ℕ) → Adds (IsRead flat c (map (item_at j) (readers_of flat head c))) old new →
+  pub block_reads : (lists : AreSpotLists flat) (head j : ℕ)
+      → Adds (IsRead flat c (map (item_at j) (readers_of flat head c))) old new →
       Adds (IsRead flat c (map (item_at j) (block_of flat head).spots)) old new
   block_reads lists head j =
       let picks = readers_pick flat head c lists in
       reads_fewer (map (item_at j) (readers_of flat head c)) (map (item_at j) (block_of flat head).spots)
-      (λ a i. let m = from_map j a (readers_of flat head c) i in subst (λ v. In v (map (item_at j) (block_of flat head).spots)) (sym m.is) (in_map j m.spot (block_of flat head).spots (picks.0 m.spot m.stands)))
+      (λ a i. let m = from_map j a (readers_of flat head c) i in
+      subst (λ v. In v (map (item_at j) (block_of flat head).spots)) (sym m.is)
+      (in_map j m.spot (block_of flat head).spots (picks.0 m.spot m.stands)))
       (λ a i r. let m = from_map j a (block_of flat head).spots i in
       subst (λ v. In v (map (item_at j) (readers_of flat head c))) (sym m.is)
-      (in_map j m.spot (readers_of flat head c) (picks.1 m.spot m.stands (subst (λ v. IfSomeSet (read_of flat v) c) m.is r))))
+      (in_map j m.spot (readers_of flat head c) (picks.1 m.spot m.stands
+      (subst (λ v. IfSomeSet (read_of flat v) c) m.is r))))
 
-pub get_views : (flat : code_flat.Tables) (j : ℕ) (fronts : List Front) (k : ℕ) (front : Front) → slice_get fronts k ≡ Some front → slice_get (views flat j fronts) k ≡ Some (view flat (j + k) front)
+pub get_views : (flat : code_flat.Tables) (j : ℕ) (fronts : List Front) (k : ℕ) (front : Front)
+    → slice_get fronts k ≡ Some front → slice_get (views flat j fronts) k ≡ Some (view flat (j + k) front)
 get_views flat j [] k front is = absurd cc
-get_views flat j (f ∷ fronts) zero front is = let same : f ≡ front = cc in let z : j ≡ j + 0 = omega arith in ap (λ v. Some (view flat j v)) same ∙ ap (λ v. Some (view flat v front)) z
-get_views flat j (f ∷ fronts) (suc k) front is = let z : suc j + k ≡ j + suc k = omega arith in get_views flat (suc j) fronts k front is ∙ ap (λ v. Some (view flat v front)) z
+get_views flat j (f ∷ fronts) zero front is = let same : f ≡ front = cc in let z : j ≡ j + 0 = omega arith in
+    ap (λ v. Some (view flat j v)) same ∙ ap (λ v. Some (view flat v front)) z
+get_views flat j (f ∷ fronts) (suc k) front is = let z : suc j + k ≡ j + suc k = omega arith in
+    get_views flat (suc j) fronts k front is ∙ ap (λ v. Some (view flat v front)) z
 
-pub none_views : (flat : code_flat.Tables) (j : ℕ) (fronts : List Front) (k : ℕ) → slice_get fronts k ≡ None → slice_get (views flat j fronts) k ≡ None
+pub none_views : (flat : code_flat.Tables) (j : ℕ) (fronts : List Front) (k : ℕ) → slice_get fronts k ≡ None
+    → slice_get (views flat j fronts) k ≡ None
 none_views flat j [] k is = refl
 none_views flat j (f ∷ fronts) zero is = absurd cc
 none_views flat j (f ∷ fronts) (suc k) is = none_views flat (suc j) fronts k is
 
-pub completed_on : (flat : code_flat.Tables) (fronts : List Front) (item : Item) (front : Front) (old new : List Item) → done_of flat item ≡ true → slice_get fronts item.origin ≡ Some front →
-    Adds (IsResumed flat item.node (view flat item.origin front)) old new → Adds (IsCompleted flat (views flat 0 fronts) [] item) old new
+pub completed_on : (flat : code_flat.Tables) (fronts : List Front) (item : Item) (front : Front) (old new : List Item)
+    → done_of flat item ≡ true → slice_get fronts item.origin ≡ Some front →
+    Adds (IsResumed flat item.node (view flat item.origin front)) old new
+    → Adds (IsCompleted flat (views flat 0 fronts) [] item) old new
 completed_on flat fronts item front old new done is p =
     let z : 0 + item.origin ≡ item.origin = omega arith in
-    let at_origin : slice_get (views flat 0 fronts) item.origin ≡ Some (view flat item.origin front) = get_views flat 0 fronts item.origin front is ∙ ap (λ v. Some (view flat v front)) z in
-    let waits : waiting_in (views flat 0 fronts) [] item.origin ≡ view flat item.origin front = ap (λ v. waiting_or [] v) at_origin in
-    adds_as (IsResumed flat item.node (view flat item.origin front)) (IsCompleted flat (views flat 0 fronts) [] item) old new
+    let at_origin : slice_get (views flat 0 fronts) item.origin ≡ Some (view flat item.origin front) =
+    get_views flat 0 fronts item.origin front is ∙ ap (λ v. Some (view flat v front)) z in
+    let waits : waiting_in (views flat 0 fronts) [] item.origin ≡ view flat item.origin front =
+    ap (λ v. waiting_or [] v) at_origin in
+    adds_as (IsResumed flat item.node (view flat item.origin front)) (IsCompleted flat (views flat 0 fronts) [] item)
+    old new
     (λ a r. record { done = done; resumed = subst (λ v. IsResumed flat item.node v a) (sym waits) r })
     (λ a c. subst (λ v. IsResumed flat item.node v a) waits c.resumed) p
 
-pub completed_undone : (flat : code_flat.Tables) (sets : List (List Item)) (item : Item) (old : List Item) → (done_of flat item ≡ true → ⊥) → Adds (IsCompleted flat sets [] item) old old
+pub completed_undone : (flat : code_flat.Tables) (sets : List (List Item)) (item : Item) (old : List Item)
+    → (done_of flat item ≡ true → ⊥) → Adds (IsCompleted flat sets [] item) old old
 completed_undone flat sets item old never = adds_none (IsCompleted flat sets [] item) old (λ a c. absurd (never c.done))
 
-pub completed_here : (flat : code_flat.Tables) (fronts : List Front) (item : Item) (old : List Item) → slice_get fronts item.origin ≡ None → Adds (IsCompleted flat (views flat 0 fronts) [] item) old old
+pub completed_here : (flat : code_flat.Tables) (fronts : List Front) (item : Item) (old : List Item)
+    → slice_get fronts item.origin ≡ None → Adds (IsCompleted flat (views flat 0 fronts) [] item) old old
 completed_here flat fronts item old is = adds_none (IsCompleted flat (views flat 0 fronts) [] item) old
-    (λ a c. nobody a c.resumed.from (subst (λ v. In c.resumed.from (waiting_or [] v)) (none_views flat 0 fronts item.origin is) c.resumed.waits))
+    (λ a c. nobody a c.resumed.from (subst (λ v. In c.resumed.from (waiting_or [] v))
+    (none_views flat 0 fronts item.origin is) c.resumed.waits))
   where
     nobody : (a b : Item) → In b [] → In a old
     nobody a b h = elim h [ ]
 
-pub one_on : (flat : code_flat.Tables) (item : Item) (root next : ℕ) (old new : List Item) → call_of flat item ≡ Some (root, next) → null_of flat root ≡ true → takes_of flat item ≡ false → (next ≡ item.step → ⊥) →
-    Adds (λ a. a ≡ record { node = item.node; step = next; origin = item.origin }) old new → Adds (IsOn flat item) old new
-one_on flat item root next old new is marked free moves p = adds_as (λ a. a ≡ record { node = item.node; step = next; origin = item.origin }) (IsOn flat item) old new
+pub one_on : (flat : code_flat.Tables) (item : Item) (root next : ℕ) (old new : List Item)
+    → call_of flat item ≡ Some (root, next) → null_of flat root ≡ true → takes_of flat item ≡ false
+    → (next ≡ item.step → ⊥) →
+    Adds (λ a. a ≡ record { node = item.node; step = next; origin = item.origin }) old new
+    → Adds (IsOn flat item) old new
+one_on flat item root next old new is marked free moves p =
+    adds_as (λ a. a ≡ record { node = item.node; step = next; origin = item.origin }) (IsOn flat item) old new
     (λ a h. record {
-      passed = record { root = root; call = is ∙ ap (λ v. Some (root, v)) (sym (ap (λ v. v.step) h)); null = marked; free = free; node = ap (λ v. v.node) h; origin = ap (λ v. v.origin) h };
+      passed = record {
+        root = root;
+        call = is ∙ ap (λ v. Some (root, v)) (sym (ap (λ v. v.step) h));
+        null = marked;
+        free = free;
+        node = ap (λ v. v.node) h;
+        origin = ap (λ v. v.origin) h;
+      };
       moves = λ same. moves (sym (ap (λ v. v.step) h) ∙ same);
     })
-    (λ a h. item_same a item.node next item.origin h.passed.node (ap (λ v. v.1) (some_same (sym h.passed.call ∙ is))) h.passed.origin) p
+    (λ a h. item_same a item.node next item.origin h.passed.node (ap (λ v. v.1) (some_same (sym h.passed.call ∙ is)))
+    h.passed.origin) p
 
-pub none_on : (flat : code_flat.Tables) (item : Item) (old : List Item) → ((root next : ℕ) → call_of flat item ≡ Some (root, next) → null_of flat root ≡ true → takes_of flat item ≡ false → (next ≡ item.step → ⊥) → ⊥) →
+pub none_on : (flat : code_flat.Tables) (item : Item) (old : List Item)
+    → ((root next : ℕ) → call_of flat item ≡ Some (root, next) → null_of flat root ≡ true → takes_of flat item ≡ false
+    → (next ≡ item.step → ⊥) → ⊥) →
     Adds (IsOn flat item) old old
-none_on flat item old never = adds_none (IsOn flat item) old (λ a h. absurd (never h.passed.root a.step h.passed.call h.passed.null h.passed.free h.moves))
+none_on flat item old never = adds_none (IsOn flat item) old
+    (λ a h. absurd (never h.passed.root a.step h.passed.call h.passed.null h.passed.free h.moves))
 
-pub asked_one : (flat : code_flat.Tables) (item : Item) (root next : ℕ) (old new : List ℕ) → call_of flat item ≡ Some (root, next) → Adds (λ t. t ≡ root) old new → Adds (IsAsked flat item) old new
+pub asked_one : (flat : code_flat.Tables) (item : Item) (root next : ℕ) (old new : List ℕ)
+    → call_of flat item ≡ Some (root, next) → Adds (λ t. t ≡ root) old new → Adds (IsAsked flat item) old new
 asked_one flat item root next old new is p = adds_as (λ t. t ≡ root) (IsAsked flat item) old new
-    (λ t h. record { next = next; call = is ∙ ap (λ v. Some (v, next)) (sym h) }) (λ t h. ap (λ v. v.0) (some_same (sym h.call ∙ is))) p
+    (λ t h. record { next = next; call = is ∙ ap (λ v. Some (v, next)) (sym h) })
+    (λ t h. ap (λ v. v.0) (some_same (sym h.call ∙ is))) p
 
-pub length_views : (flat : code_flat.Tables) (j : ℕ) (fronts : List Front) → length (views flat j fronts) ≡ length fronts
+pub length_views : (flat : code_flat.Tables) (j : ℕ) (fronts : List Front) → length (views flat j fronts)
+    ≡ length fronts
 length_views flat j [] = refl
 length_views flat j (f ∷ fronts) = ap suc (length_views flat (suc j) fronts)

@@ -1,6 +1,7 @@
 -- The table of heads grows with them.
 -- Serves: judge.
-use Rattle.std.proofs.Common.{◌≡◌, ℕ, zero, suc, ◌<◌, ◌⊎◌, inl, inr, List, [], ◌∷◌, ◌++◌, length, set, Some, refl, ap, ◌∙◌, arith, slice_get}
+use Rattle.std.proofs.Common.{◌≡◌, ℕ, zero, suc, ◌<◌, ◌⊎◌, inl, inr, List, [], ◌∷◌, ◌++◌, length, set, Some, refl, ap}
+use Rattle.std.proofs.Common.{◌∙◌, arith, slice_get}
 use Rattle.flatgrammar.specs.Places.{In}
 use Rattle.flatgrammar.proofs.FlatCutLemmas.{push_cases}
 use Rattle.earley.specs.HeadTables.{IsTable}
@@ -22,9 +23,12 @@ set_other (x ∷ xs) (suc i) (suc j) v other = set_other xs i j v (λ same. othe
 pub table_more : (list table more : List ℕ) → IsTable list table → IsTable list (table ++ more)
 table_more list table more is i h e = keeps_get table more h i (is i h e)
 
-pub table_push : (list table : List ℕ) (head : ℕ) → IsTable list table → (In head list → ⊥) → head < length table → IsTable (list ++ head ∷ []) (set table head (length list))
+pub table_push : (list table : List ℕ) (head : ℕ) → IsTable list table → (In head list → ⊥) → head < length table
+    → IsTable (list ++ head ∷ []) (set table head (length list))
 table_push list table head is apart lt i h e = by (push_cases list head i h e)
   where
-    by : (slice_get list i ≡ Some h) ⊎ ((i ≡ length list) × (head ≡ h)) → slice_get (set table head (length list)) h ≡ Some i
-    by (inl f) = set_other table head h (length list) (λ same. apart (get_in head list i (f ∙ ap (λ v. Some v) same))) ∙ is i h f
+    by : (slice_get list i ≡ Some h) ⊎ ((i ≡ length list) × (head ≡ h)) → slice_get (set table head (length list)) h
+        ≡ Some i
+    by (inl f) = set_other table head h (length list) (λ same. apart (get_in head list i (f ∙ ap (λ v. Some v) same)))
+        ∙ is i h f
     by (inr m) = rw (← m.1, m.0) (set_here table head (length list) lt)

@@ -1,6 +1,7 @@
 -- The worklist: what it adds stands in the item set, and a set that is worked on is closed.
 -- Serves: judge.
-use Rattle.std.proofs.Common.{◌≡◌, ℕ, ◌<◌, true, false, inl, inr, Bool, Option, Some, None, List, [], length, slice_get, refl, sym, ◌∙◌, ap, subst, arith}
+use Rattle.std.proofs.Common.{◌≡◌, ℕ, ◌<◌, true, false, inl, inr, Bool, Option, Some, None, List, [], length, slice_get}
+use Rattle.std.proofs.Common.{refl, sym, ◌∙◌, ap, subst, arith}
 use Rattle.std.proofs.lemmas.Bool.{false≢true}
 use Rattle.flatgrammar.specs.Flat.{Node, at}
 use Rattle.flatgrammar.specs.Holds.{Holds}
@@ -21,7 +22,8 @@ use Rattle.earley.specs.Worklist.{IsPassed, IsWorked}
 use Rattle.flatgrammar.proofs.CallOfLemmas.{get_map, below_get, called_of, takes_true}
 use Rattle.flatgrammar.proofs.NodeStepsLemmas.{done_is}
 
-nullable_up : {nodes : List Node} {bodies : List ℕ} {s t : ℕ} → Root nodes bodies s t → Nullable nodes bodies t → Nullable nodes bodies s
+nullable_up : {nodes : List Node} {bodies : List ℕ} {s t : ℕ} → Root nodes bodies s t → Nullable nodes bodies t
+    → Nullable nodes bodies s
 nullable_up (own is differs) n = n
 nullable_up (named is at_r r) n = Nullable.named is at_r (nullable_up r n)
 
@@ -33,30 +35,43 @@ mark_is : (o : Option Bool) → null_in o ≡ true → o ≡ Some true
 mark_is None h = absurd cc
 mark_is (Some marked) h = ap Some h
 
-module _ (flat : code_flat.Tables) (roots : GiveRoots (flat_of flat) flat.roots.items) (nulls : AreNulls (flat_of flat) flat.nulls.items)
+module _ (flat : code_flat.Tables) (roots : GiveRoots (flat_of flat) flat.roots.items)
+    (nulls : AreNulls (flat_of flat) flat.nulls.items)
     (x : List ℕ) (sets : List (List Item)) (earlier : HoldAll (flat_of flat) x sets) where
-  pub passed_holds : (item a : Item) → Holds (flat_of flat) x (length sets) (at item.node item.step) item.origin → IsPassed flat item a →
+  pub passed_holds : (item a : Item) → Holds (flat_of flat) x (length sets) (at item.node item.step) item.origin
+      → IsPassed flat item a →
       Holds (flat_of flat) x (length sets) (at a.node a.step) a.origin
   passed_holds item a h p =
       let c = called_of flat roots item p.root a.step p.call in
       let n = (nulls p.root).0 (mark_is (slice_get flat.nulls.items p.root) p.null) in
-      let made : Holds (flat_of flat) x (length sets) (at item.node a.step) item.origin = pass (flat_of flat) x h c.calls
-      (λ t. absurd (false≢true (sym p.free ∙ takes_true flat item.node item.step item.origin t))) (nullable_up c.rooted n) in
+      let made : Holds (flat_of flat) x (length sets) (at item.node a.step) item.origin =
+      pass (flat_of flat) x h c.calls
+      (λ t. absurd (false≢true (sym p.free ∙ takes_true flat item.node item.step item.origin t)))
+      (nullable_up c.rooted n) in
       subst (λ v. Holds (flat_of flat) x (length sets) (at a.node a.step) v) (sym p.origin)
       (subst (λ v. Holds (flat_of flat) x (length sets) (at v a.step) item.origin) (sym p.node) made)
 
   pub nothing : Hold (flat_of flat) x (length sets) []
   nothing a h = elim h [ ]
 
-  done_null : (t k : ℕ) (o : Option code_node.Node) → slice_get flat.nodes.items t ≡ o → done_in o k ≡ true → Passes (flat_of flat).nodes (flat_of flat).bodies t k → Nullable (flat_of flat).nodes (flat_of flat).bodies t
+  done_null : (t k : ℕ) (o : Option code_node.Node) → slice_get flat.nodes.items t ≡ o → done_in o k ≡ true
+      → Passes (flat_of flat).nodes (flat_of flat).bodies t k → Nullable (flat_of flat).nodes (flat_of flat).bodies t
   done_null t k None is h passes = absurd cc
-  done_null t k (Some node) is h passes = Nullable.done passes (get_map node_of flat.nodes.items t is) (done_is (node_of node) k h)
+  done_null t k (Some node) is h passes = Nullable.done passes (get_map node_of flat.nodes.items t is)
+      (done_is (node_of node) k h)
 
-  module _ (set : List Item) (hold : Hold (flat_of flat) x (length sets) set) (worked : IsWorked flat sets set set) where
-    back : (by a : Item) → In by set → (o : Option (List Item)) → slice_get sets by.origin ≡ o → done_in (slice_get flat.nodes.items by.node) by.step ≡ true →
-        (r : IsResumed flat by.node (waiting_or set o) a) → (takes_of flat r.from ≡ true → by.origin < length sets) → In a set
+  module _ (set : List Item) (hold : Hold (flat_of flat) x (length sets) set)
+      (worked : IsWorked flat sets set set) where
+    back : (by a : Item) → In by set → (o : Option (List Item)) → slice_get sets by.origin ≡ o
+        → done_in (slice_get flat.nodes.items by.node) by.step ≡ true →
+        (r : IsResumed flat by.node (waiting_or set o) a) → (takes_of flat r.from ≡ true → by.origin < length sets)
+        → In a set
     back by a stands (Some old) is d r later =
-        worked by stands a (inr (record { done = d; resumed = subst (λ v. IsResumed flat by.node (waiting_or [] v) a) (sym is) r }))
+        worked by stands a (inr (record {
+          done = d;
+          resumed = subst (λ v. IsResumed flat by.node (waiting_or [] v)
+              a) (sym is) r;
+        }))
     back by a stands None is d r later =
         let h = hold by stands in
         let one = holds_origin (flat_of flat) h in
@@ -64,7 +79,14 @@ module _ (flat : code_flat.Tables) (roots : GiveRoots (flat_of flat) flat.roots.
         let same : by.origin ≡ length sets = omega (arith, one, two) in
         let n = done_null by.node by.step (slice_get flat.nodes.items by.node) refl d (stays (flat_of flat) x h same) in
         let free = untrue (takes_of flat r.from) (λ t. let lt = later t in omega (arith, lt, same)) in
-        worked r.from r.waits a (inl (inr (record { root = by.node; call = r.call; null = ap null_in ((nulls by.node).1 n); free = free; node = r.node; origin = r.origin })))
+        worked r.from r.waits a (inl (inr (record {
+          root = by.node;
+          call = r.call;
+          null = ap null_in ((nulls by.node).1 n);
+          free = free;
+          node = r.node;
+          origin = r.origin;
+        })))
 
     pub worked_closed : IsClosed flat sets set
     worked_closed a n = by n.next

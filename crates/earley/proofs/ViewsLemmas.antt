@@ -1,6 +1,7 @@
 -- A chart of heads and items, set by set.
 -- Serves: judge.
-use Rattle.std.proofs.Common.{◌≡◌, ℕ, suc, ◌+◌, ◌<◌, ◌≤◌, ◌⊎◌, inl, inr, Option, Some, None, List, [], ◌∷◌, ◌++◌, length, map, take, slice_get, slice_index_or, refl, sym, ◌∙◌, ap, subst, arith}
+use Rattle.std.proofs.Common.{◌≡◌, ℕ, suc, ◌+◌, ◌<◌, ◌≤◌, ◌⊎◌, inl, inr, Option, Some, None, List, [], ◌∷◌, ◌++◌}
+use Rattle.std.proofs.Common.{length, map, take, slice_get, slice_index_or, refl, sym, ◌∙◌, ap, subst, arith}
 use Rattle.flatgrammar.specs.Flat.{at}
 use Rattle.flatgrammar.specs.Holds.{Holds, begins}
 use Rattle.flatgrammar.specs.Places.{In, AreDifferent}
@@ -28,14 +29,17 @@ use Rattle.earley.proofs.ExpandLemmas.{length_views, take_one, take_past, map_en
 use Rattle.earley.proofs.AddsLemmas.{adds_as, adds_none}
 use Rattle.earley.proofs.ItemLemmas.{item_same}
 
-pub views_more : (flat : code_flat.Tables) (j : ℕ) (fronts : List Front) (front : Front) → views flat j (fronts ++ front ∷ []) ≡ views flat j fronts ++ view flat (j + length fronts) front ∷ []
+pub views_more : (flat : code_flat.Tables) (j : ℕ) (fronts : List Front) (front : Front)
+    → views flat j (fronts ++ front ∷ []) ≡ views flat j fronts ++ view flat (j + length fronts) front ∷ []
 views_more flat j [] front = let z : j ≡ j + 0 = omega arith in ap (λ v. view flat v front ∷ []) z
 views_more flat j (f ∷ fronts) front =
     let z : suc j + length fronts ≡ j + suc (length fronts) = omega arith in
-    ap (λ v. view flat j f ∷ v) (views_more flat (suc j) fronts front) ∙ ap (λ v. view flat j f ∷ (views flat (suc j) fronts ++ view flat v front ∷ [])) z
+    ap (λ v. view flat j f ∷ v) (views_more flat (suc j) fronts front)
+    ∙ ap (λ v. view flat j f ∷ (views flat (suc j) fronts ++ view flat v front ∷ [])) z
 
 -- what was read begins nothing
-read_late : (flat : code_flat.Tables) (c k : ℕ) (o : Option code_node.Node) → IfSomeSet (read_in o k) c → k + 1 < count_in o → ⊥
+read_late : (flat : code_flat.Tables) (c k : ℕ) (o : Option code_node.Node) → IfSomeSet (read_in o k) c
+    → k + 1 < count_in o → ⊥
 read_late flat c k None h lt = elim h [ ]
 read_late flat c k (Some (vn.Letters sets)) h lt = absurd (omega (arith, lt))
 read_late flat c k (Some (vn.Concat ms)) h lt = elim h [ ]
@@ -46,13 +50,15 @@ read_late flat c k (Some (vn.Opt m)) h lt = elim h [ ]
 read_late flat c k (Some (vn.Name r)) h lt = elim h [ ]
 read_late flat c k (Some vn.Nothing) h lt = elim h [ ]
 
-after_late : (flat : code_flat.Tables) (x : List ℕ) (sets : List (List Item)) (a : Item) → IsAfter flat x sets a → a.step < begin_count flat a.node → ⊥
+after_late : (flat : code_flat.Tables) (x : List ℕ) (sets : List (List Item)) (a : Item) → IsAfter flat x sets a
+    → a.step < begin_count flat a.node → ⊥
 after_late flat x sets a h lt =
     let r = h.read in
     read_late flat h.letter r.by.step (slice_get flat.nodes.items r.by.node) r.reads
     (subst (λ v. v < begin_count flat r.by.node) r.step (subst (λ v. a.step < begin_count flat v) r.node lt))
 
-module _ (flat : code_flat.Tables) (roots : GiveRoots (flat_of flat) flat.roots.items) (nulls : AreNulls (flat_of flat) flat.nulls.items) (tables : AreTables flat)
+module _ (flat : code_flat.Tables) (roots : GiveRoots (flat_of flat) flat.roots.items)
+    (nulls : AreNulls (flat_of flat) flat.nulls.items) (tables : AreTables flat)
     (x : List ℕ) (sets : List (List Item)) (built : IsBuilt flat x sets) (heads : List ℕ) (items : List Item)
     (begun : Adds (IsWholeAt flat (length sets)) [] heads) (after : Adds (IsAfter flat x sets) [] items) where
   whole_at : (h : ℕ) → In h heads → IsWholeAt flat (length sets) h
@@ -88,15 +94,19 @@ module _ (flat : code_flat.Tables) (roots : GiveRoots (flat_of flat) flat.roots.
     opened = record { calls = λ h i t c. nothing_in i; passes = λ h i r p. nothing_in i };
   }
     where
-      predicted : (h : ℕ) → IsWholeAt flat (length sets) h → (k : ℕ) → k < begin_count flat h → Holds (flat_of flat) x (length sets) (at h k) (length sets)
+      predicted : (h : ℕ) → IsWholeAt flat (length sets) h → (k : ℕ) → k < begin_count flat h
+          → Holds (flat_of flat) x (length sets) (at h k) (length sets)
       predicted h w k lt =
-          let root = (roots flat.whole h).0 (root_is flat roots x sets built.held (slice_get flat.roots.items flat.whole) h w.1) in
-          let made : Holds (flat_of flat) x 0 (at h k) 0 = begins (begun_starts flat roots h k flat.whole (slice_get flat.nodes.items h) refl lt root) in
+          let root = (roots flat.whole h).0 (root_is flat roots x sets built.held
+          (slice_get flat.roots.items flat.whole) h w.1) in
+          let made : Holds (flat_of flat) x 0 (at h k) 0 =
+          begins (begun_starts flat roots h k flat.whole (slice_get flat.nodes.items h) refl lt root) in
           subst (λ v. Holds (flat_of flat) x v (at h k) v) (sym w.0) made
 
       below : (h : ℕ) → IsWholeAt flat (length sets) h → h < length flat.nodes.items
       below h w =
-          let root = (roots flat.whole h).0 (root_is flat roots x sets built.held (slice_get flat.roots.items flat.whole) h w.1) in
+          let root = (roots flat.whole h).0 (root_is flat roots x sets built.held
+          (slice_get flat.roots.items flat.whole) h w.1) in
           let stands = root_stands root in
           subst (λ v. h < v) (size_map node_of flat.nodes.items) (get_below (flat_of flat).nodes h stands.1)
 
@@ -106,24 +116,32 @@ module _ (flat : code_flat.Tables) (roots : GiveRoots (flat_of flat) flat.roots.
       let spot = tables.whole w.1.root w.1.is a.step w.1.begun.1 in
       let is = item_same a w.1.root a.step (length sets) w.1.begun.0 refl (w.1.begun.2 ∙ sym w.0) in
       subst (λ v. In v (full (block_of flat) (length sets) heads items)) (sym is)
-      (in_left items (in_expand (block_of flat) (length sets) w.1.root heads (record { node = w.1.root; step = a.step }) at_root spot))
+      (in_left items (in_expand (block_of flat) (length sets) w.1.root heads (record { node = w.1.root; step = a.step })
+      at_root spot))
   first_in a (inr r) = in_right (expand (block_of flat) (length sets) heads) (after.all a r)
 
-  pub front_built : (new : List Item) → Hold (flat_of flat) x (length sets) new → AreDifferent new → Keeps (full (block_of flat) (length sets) heads items) new → IsClosed flat sets new →
+  pub front_built : (new : List Item) → Hold (flat_of flat) x (length sets) new → AreDifferent new
+      → Keeps (full (block_of flat) (length sets) heads items) new → IsClosed flat sets new →
       IsBuilt flat x (sets ++ new ∷ [])
-  front_built new hold different keeps closed = built_more flat roots x sets built new hold different closed (λ a f. keeps a (first_in a f))
+  front_built new hold different keeps closed = built_more flat roots x sets built new hold different closed
+      (λ a f. keeps a (first_in a f))
 
-pub begun_here : (flat : code_flat.Tables) (j root : ℕ) (old new : List ℕ) → j ≡ 0 → whole_root flat ≡ Some root → Adds (λ t. t ≡ root) old new → Adds (IsWholeAt flat j) old new
-begun_here flat j root old new none is p = adds_as (λ t. t ≡ root) (IsWholeAt flat j) old new (λ t h. (none, is ∙ ap Some (sym h))) (λ t w. some_same (sym w.1 ∙ is)) p
+pub begun_here : (flat : code_flat.Tables) (j root : ℕ) (old new : List ℕ) → j ≡ 0 → whole_root flat ≡ Some root
+    → Adds (λ t. t ≡ root) old new → Adds (IsWholeAt flat j) old new
+begun_here flat j root old new none is p = adds_as (λ t. t ≡ root) (IsWholeAt flat j) old new
+    (λ t h. (none, is ∙ ap Some (sym h))) (λ t w. some_same (sym w.1 ∙ is)) p
 
-pub begun_not : (flat : code_flat.Tables) (j : ℕ) (old : List ℕ) → ((t : ℕ) → IsWholeAt flat j t → ⊥) → Adds (IsWholeAt flat j) old old
+pub begun_not : (flat : code_flat.Tables) (j : ℕ) (old : List ℕ) → ((t : ℕ) → IsWholeAt flat j t → ⊥)
+    → Adds (IsWholeAt flat j) old old
 begun_not flat j old never = adds_none (IsWholeAt flat j) old (λ t w. absurd (never t w))
 
 module _ (flat : code_flat.Tables) (x : List ℕ) (sets : List (List Item)) (old new : List Item) where
-  pub after_last : (k c : ℕ) (last : List Item) → length sets ≡ k + 1 → slice_get sets k ≡ Some last → slice_get x k ≡ Some c → Adds (IsRead flat c last) old new →
+  pub after_last : (k c : ℕ) (last : List Item) → length sets ≡ k + 1 → slice_get sets k ≡ Some last
+      → slice_get x k ≡ Some c → Adds (IsRead flat c last) old new →
       Adds (IsAfter flat x sets) old new
   after_last k c last size set letter p = adds_as (IsRead flat c last) (IsAfter flat x sets) old new
-      (λ a r. record { at = k; letter = c; last = last; size = size; set = set; letter_is = letter; read = r }) (λ a h. by a h) p
+      (λ a r. record { at = k; letter = c; last = last; size = size; set = set; letter_is = letter; read = r })
+      (λ a h. by a h) p
     where
       by : (a : Item) → IsAfter flat x sets a → IsRead flat c last a
       by a h =
@@ -135,43 +153,62 @@ module _ (flat : code_flat.Tables) (x : List ℕ) (sets : List (List Item)) (old
   pub after_none : length sets ≡ 0 → Adds (IsAfter flat x sets) old old
   after_none none = adds_none (IsAfter flat x sets) old (λ a h. absurd (omega (arith, h.size, none)))
 
-module _ (flat : code_flat.Tables) (roots : GiveRoots (flat_of flat) flat.roots.items) (nulls : AreNulls (flat_of flat) flat.nulls.items) (tables : AreTables flat)
-    (x : List ℕ) (fronts one two three : List Front) (is_one : one ≡ fronts) (is_two : two ≡ fronts) (is_three : three ≡ fronts)
+module _ (flat : code_flat.Tables) (roots : GiveRoots (flat_of flat) flat.roots.items)
+    (nulls : AreNulls (flat_of flat) flat.nulls.items) (tables : AreTables flat)
+    (x : List ℕ) (fronts one two three : List Front) (is_one : one ≡ fronts) (is_two : two ≡ fronts)
+    (is_three : three ≡ fronts)
     (no_heads : List ℕ) (no_items : List Item) (empty_heads : no_heads ≡ []) (empty_items : no_items ≡ [])
     (built : IsBuilt flat x (views flat 0 fronts)) (heads : List ℕ) (items : List Item)
-    (begun : Adds (IsWholeAt flat (length one)) no_heads heads) (after : Adds (IsAfter flat x (views flat 0 two)) no_items items) where
+    (begun : Adds (IsWholeAt flat (length one)) no_heads heads)
+    (after : Adds (IsAfter flat x (views flat 0 two)) no_items items) where
   built_three : IsBuilt flat x (views flat 0 three)
   built_three = subst (λ v. IsBuilt flat x (views flat 0 v)) (sym is_three) built
 
   begun_three : Adds (IsWholeAt flat (length (views flat 0 three))) [] heads
   begun_three =
-      let size : length one ≡ length (views flat 0 three) = ap (λ v. length v) (is_one ∙ sym is_three) ∙ sym (length_views flat 0 three) in
-      subst (λ v. Adds (IsWholeAt flat v) [] heads) size (subst (λ v. Adds (IsWholeAt flat (length one)) v heads) empty_heads begun)
+      let size : length one ≡ length (views flat 0 three) = ap (λ v. length v) (is_one ∙ sym is_three)
+      ∙ sym (length_views flat 0 three) in
+      subst (λ v. Adds (IsWholeAt flat v) [] heads) size
+      (subst (λ v. Adds (IsWholeAt flat (length one)) v heads) empty_heads begun)
 
   after_three : Adds (IsAfter flat x (views flat 0 three)) [] items
-  after_three = subst (λ v. Adds (IsAfter flat x (views flat 0 v)) [] items) (is_two ∙ sym is_three) (subst (λ v. Adds (IsAfter flat x (views flat 0 two)) v items) empty_items after)
+  after_three = subst (λ v. Adds (IsAfter flat x (views flat 0 v)) [] items) (is_two ∙ sym is_three)
+      (subst (λ v. Adds (IsAfter flat x (views flat 0 two)) v items) empty_items after)
 
   pub going_from : IsGoing flat x (views flat 0 three) 0 0 heads items
-  going_from = going_first flat roots nulls tables x (views flat 0 three) built_three heads items begun_three after_three
+  going_from = going_first flat roots nulls tables x (views flat 0 three) built_three heads items begun_three
+      after_three
 
-  pub built_from : (front : Front) → Hold (flat_of flat) x (length (views flat 0 three)) (full (block_of flat) (length (views flat 0 three)) front.heads.items front.items.items) →
+  pub built_from : (front : Front) → Hold (flat_of flat) x (length (views flat 0 three))
+      (full (block_of flat) (length (views flat 0 three)) front.heads.items front.items.items) →
       AreDifferent (full (block_of flat) (length (views flat 0 three)) front.heads.items front.items.items) →
-      Keeps (full (block_of flat) (length (views flat 0 three)) heads items) (full (block_of flat) (length (views flat 0 three)) front.heads.items front.items.items) →
-      IsClosed flat (views flat 0 three) (full (block_of flat) (length (views flat 0 three)) front.heads.items front.items.items) → IsBuilt flat x (views flat 0 (fronts ++ front ∷ []))
+      Keeps (full (block_of flat) (length (views flat 0 three)) heads items)
+      (full (block_of flat) (length (views flat 0 three)) front.heads.items front.items.items) →
+      IsClosed flat (views flat 0 three) (full (block_of flat) (length (views flat 0 three)) front.heads.items
+      front.items.items) → IsBuilt flat x (views flat 0 (fronts ++ front ∷ []))
   built_from front hold different keeps closed =
-      let more = front_built flat roots nulls tables x (views flat 0 three) built_three heads items begun_three after_three
-      (full (block_of flat) (length (views flat 0 three)) front.heads.items front.items.items) hold different keeps closed in
-      let number : length (views flat 0 three) ≡ 0 + length three = (let size = length_views flat 0 three in omega (arith, size)) in
+      let more = front_built flat roots nulls tables x (views flat 0 three) built_three heads items begun_three
+      after_three
+      (full (block_of flat) (length (views flat 0 three)) front.heads.items front.items.items) hold different keeps
+      closed in
+      let number : length (views flat 0 three) ≡ 0 + length three =
+      (let size = length_views flat 0 three in omega (arith, size)) in
       subst (λ v. IsBuilt flat x (views flat 0 (v ++ front ∷ []))) is_three
       (subst (λ v. IsBuilt flat x v) (sym (views_more flat 0 three front))
-      (subst (λ n. IsBuilt flat x (views flat 0 three ++ full (block_of flat) n front.heads.items front.items.items ∷ [])) number more))
+      (subst (λ n. IsBuilt flat x (views flat 0 three ++ full (block_of flat) n front.heads.items front.items.items
+      ∷ [])) number more))
 
-  pub built_by : (front : Front) (heads' : List ℕ) (items' : List Item) → front.heads.items ≡ heads' → front.items.items ≡ items' →
-      Hold (flat_of flat) x (length (views flat 0 three)) (full (block_of flat) (length (views flat 0 three)) heads' items') →
+  pub built_by : (front : Front) (heads' : List ℕ) (items' : List Item) → front.heads.items ≡ heads'
+      → front.items.items ≡ items' →
+      Hold (flat_of flat) x (length (views flat 0 three))
+      (full (block_of flat) (length (views flat 0 three)) heads' items') →
       AreDifferent (full (block_of flat) (length (views flat 0 three)) heads' items') →
-      Keeps (full (block_of flat) (length (views flat 0 three)) heads items) (full (block_of flat) (length (views flat 0 three)) heads' items') →
-      IsClosed flat (views flat 0 three) (full (block_of flat) (length (views flat 0 three)) heads' items') → IsBuilt flat x (views flat 0 (fronts ++ front ∷ []))
-  built_by front heads' items' h i hold different keeps closed = built_from front (rw (h, i) hold) (rw (h, i) different) (rw (h, i) keeps) (rw (h, i) closed)
+      Keeps (full (block_of flat) (length (views flat 0 three)) heads items)
+      (full (block_of flat) (length (views flat 0 three)) heads' items') →
+      IsClosed flat (views flat 0 three) (full (block_of flat) (length (views flat 0 three)) heads' items')
+      → IsBuilt flat x (views flat 0 (fronts ++ front ∷ []))
+  built_by front heads' items' h i hold different keeps closed = built_from front (rw (h, i) hold) (rw (h, i) different)
+      (rw (h, i) keeps) (rw (h, i) closed)
 
 -- looking for an item, one entry after another
 not_more : (item : Item) (ws : List Item) (w : Item) → (In item ws → ⊥) → (item ≡ w → ⊥) → In item (ws ++ w ∷ []) → ⊥
@@ -181,32 +218,46 @@ not_more item ws w none differs h = by (before_end item w ws h)
     by (inl g) = none g
     by (inr same) = differs same
 
-pub spots_none : (j : ℕ) (item : Item) (spots : List Spot) (k : ℕ) (d : Spot) → k < length spots → (In item (map (item_at j) (take k spots)) → ⊥) → (item ≡ item_at j (slice_index_or spots k d) → ⊥) →
+pub spots_none : (j : ℕ) (item : Item) (spots : List Spot) (k : ℕ) (d : Spot) → k < length spots
+    → (In item (map (item_at j) (take k spots)) → ⊥) → (item ≡ item_at j (slice_index_or spots k d) → ⊥) →
     In item (map (item_at j) (take (k + 1) spots)) → ⊥
 spots_none j item spots k d lt none differs h =
     not_more item (map (item_at j) (take k spots)) (item_at j (slice_index_or spots k d)) none differs
-    (subst (λ v. In item v) (ap (λ v. map (item_at j) v) (take_one spots k d lt) ∙ map_end (item_at j) (take k spots) (slice_index_or spots k d)) h)
+    (subst (λ v. In item v) (ap (λ v. map (item_at j) v) (take_one spots k d lt)
+    ∙ map_end (item_at j) (take k spots) (slice_index_or spots k d)) h)
 
-pub spots_some : (j : ℕ) (item : Item) (spots : List Spot) (k : ℕ) (d : Spot) → k < length spots → item ≡ item_at j (slice_index_or spots k d) → In item (map (item_at j) spots)
-spots_some j item spots k d lt same = subst (λ v. In v (map (item_at j) spots)) (sym same) (in_map j (slice_index_or spots k d) spots (at_index_in spots k d lt))
+pub spots_some : (j : ℕ) (item : Item) (spots : List Spot) (k : ℕ) (d : Spot) → k < length spots
+    → item ≡ item_at j (slice_index_or spots k d) → In item (map (item_at j) spots)
+spots_some j item spots k d lt same = subst (λ v. In v (map (item_at j) spots)) (sym same)
+    (in_map j (slice_index_or spots k d) spots (at_index_in spots k d lt))
 
-pub heads_none : (blocks : ℕ → Block) (j : ℕ) (item : Item) (heads : List ℕ) (k d : ℕ) (spots : List Spot) → k < length heads → spots ≡ (blocks (slice_index_or heads k d)).spots →
-    (In item (expand blocks j (take k heads)) → ⊥) → (In item (map (item_at j) spots) → ⊥) → In item (expand blocks j (take (k + 1) heads)) → ⊥
+pub heads_none : (blocks : ℕ → Block) (j : ℕ) (item : Item) (heads : List ℕ) (k d : ℕ) (spots : List Spot)
+    → k < length heads → spots ≡ (blocks (slice_index_or heads k d)).spots →
+    (In item (expand blocks j (take k heads)) → ⊥) → (In item (map (item_at j) spots) → ⊥)
+    → In item (expand blocks j (take (k + 1) heads)) → ⊥
 heads_none blocks j item heads k d spots lt is none differs h =
-    by (either (expand blocks j (take k heads)) (subst (λ v. In item v) (ap (λ v. expand blocks j v) (take_one heads k d lt) ∙ expand_end blocks j (take k heads) (slice_index_or heads k d)) h))
+    by (either (expand blocks j (take k heads)) (subst (λ v. In item v)
+    (ap (λ v. expand blocks j v) (take_one heads k d lt)
+    ∙ expand_end blocks j (take k heads) (slice_index_or heads k d)) h))
   where
-    by : In item (expand blocks j (take k heads)) ⊎ In item (map (item_at j) (blocks (slice_index_or heads k d)).spots) → ⊥
+    by : In item (expand blocks j (take k heads)) ⊎ In item
+        (map (item_at j) (blocks (slice_index_or heads k d)).spots) → ⊥
     by (inl g) = none g
     by (inr g) = differs (subst (λ v. In item (map (item_at j) v)) (sym is) g)
 
-pub heads_some : (blocks : ℕ → Block) (j : ℕ) (item : Item) (heads : List ℕ) (k d : ℕ) (spots : List Spot) → k < length heads → spots ≡ (blocks (slice_index_or heads k d)).spots →
+pub heads_some : (blocks : ℕ → Block) (j : ℕ) (item : Item) (heads : List ℕ) (k d : ℕ) (spots : List Spot)
+    → k < length heads → spots ≡ (blocks (slice_index_or heads k d)).spots →
     In item (map (item_at j) spots) → In item (expand blocks j heads)
 heads_some blocks j item heads k d spots lt is h =
     let f = from_map j item (blocks (slice_index_or heads k d)).spots (subst (λ v. In item (map (item_at j) v)) is h) in
-    subst (λ v. In v (expand blocks j heads)) (sym f.is) (in_expand blocks j (slice_index_or heads k d) heads f.spot (at_index_in heads k d lt) f.stands)
+    subst (λ v. In v (expand blocks j heads)) (sym f.is)
+    (in_expand blocks j (slice_index_or heads k d) heads f.spot (at_index_in heads k d lt) f.stands)
 
-pub heads_all : (blocks : ℕ → Block) (j : ℕ) (item : Item) (heads : List ℕ) (k : ℕ) → length heads ≤ k → (In item (expand blocks j (take k heads)) → ⊥) → In item (expand blocks j heads) → ⊥
-heads_all blocks j item heads k le none h = none (subst (λ v. In item (expand blocks j v)) (sym (take_past heads k le)) h)
+pub heads_all : (blocks : ℕ → Block) (j : ℕ) (item : Item) (heads : List ℕ) (k : ℕ) → length heads ≤ k
+    → (In item (expand blocks j (take k heads)) → ⊥) → In item (expand blocks j heads) → ⊥
+heads_all blocks j item heads k le none h = none
+    (subst (λ v. In item (expand blocks j v)) (sym (take_past heads k le)) h)
 
-pub spots_all : (j : ℕ) (item : Item) (spots : List Spot) (k : ℕ) → length spots ≤ k → (In item (map (item_at j) (take k spots)) → ⊥) → In item (map (item_at j) spots) → ⊥
+pub spots_all : (j : ℕ) (item : Item) (spots : List Spot) (k : ℕ) → length spots ≤ k
+    → (In item (map (item_at j) (take k spots)) → ⊥) → In item (map (item_at j) spots) → ⊥
 spots_all j item spots k le none h = none (subst (λ v. In item (map (item_at j) v)) (sym (take_past spots k le)) h)

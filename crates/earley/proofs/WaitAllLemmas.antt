@@ -1,6 +1,8 @@
 -- Lists of what waits for heads.
 -- Serves: judge.
-use Rattle.std.proofs.Common.{◌≡◌, ℕ, zero, suc, ◌+◌, ◌-◌, ◌<◌, ◌≤◌, ◌⊎◌, inl, inr, Some, None, map, List, [], ◌∷◌, ◌++◌, length, take, set, slice_get, slice_index_or, refl, sym, ◌∙◌, ap, subst, arith, append_assoc}
+use Rattle.std.proofs.Common.{◌≡◌, ℕ, zero, suc, ◌+◌, ◌-◌, ◌<◌, ◌≤◌, ◌⊎◌, inl, inr, Some, None, map, List, [], ◌∷◌}
+use Rattle.std.proofs.Common.{◌++◌, length, take, set, slice_get, slice_index_or, refl, sym, ◌∙◌, ap, subst, arith}
+use Rattle.std.proofs.Common.{append_assoc}
 use Rattle.std.proofs.lemmas.Option.{slice_get_within}
 use Rattle.std.proofs.lemmas.List.{append-nil}
 use Rattle.flatgrammar.specs.Places.{In, now, on}
@@ -24,11 +26,14 @@ use Rattle.earley.proofs.ItemRowsLemmas.{keeps_get, end_get, or_get}
 
 pub chain_within : {waits : List Wait} {f : ℕ} {es : List Item} → Chain waits f es → f ≤ length waits
 chain_within ended = omega arith
-chain_within {waits = waits} (linked {k = k} {w = w} is le rest) = let lt = slice_get_within waits k w is in omega (arith, lt)
+chain_within {waits = waits} (linked {k = k} {w = w} is le rest) = let lt = slice_get_within waits k w is in
+    omega (arith, lt)
 
-pub chain_more : {waits : List Wait} {f : ℕ} {es : List Item} (more : List Wait) → Chain waits f es → Chain (waits ++ more) f es
+pub chain_more : {waits : List Wait} {f : ℕ} {es : List Item} (more : List Wait) → Chain waits f es
+    → Chain (waits ++ more) f es
 chain_more more ended = ended
-chain_more {waits = waits} more (linked {k = k} {w = w} is le rest) = linked (keeps_get waits more k w is) le (chain_more more rest)
+chain_more {waits = waits} more (linked {k = k} {w = w} is le rest) =
+    linked (keeps_get waits more k w is) le (chain_more more rest)
 
 pub record Next (waits : List Wait) (at : ℕ) (es : List Item) (d : Wait) : Type 0 where
   pub rest : List Item
@@ -36,16 +41,19 @@ pub record Next (waits : List Wait) (at : ℕ) (es : List Item) (d : Wait) : Typ
   pub chain : Chain waits (slice_index_or waits (at - 1) d).next rest
   pub less : (slice_index_or waits (at - 1) d).next < at
 
-pub chain_next : {waits : List Wait} {at : ℕ} {es : List Item} (d : Wait) → Chain waits at es → 0 < at → Next waits at es d
+pub chain_next : {waits : List Wait} {at : ℕ} {es : List Item} (d : Wait) → Chain waits at es → 0 < at
+    → Next waits at es d
 chain_next d ended pos = absurd (omega (arith, pos))
 chain_next {waits = waits} d (linked {k = k} {w = w} {items = items} is le rest) pos =
     let down : suc k - 1 ≡ k = omega arith in
-    let same : slice_index_or waits (suc k - 1) d ≡ w = or_get waits (suc k - 1) d w (ap (λ n. slice_get waits n) down ∙ is) in
+    let same : slice_index_or waits (suc k - 1) d ≡ w =
+    or_get waits (suc k - 1) d w (ap (λ n. slice_get waits n) down ∙ is) in
     record {
       rest = items;
       is = ap (λ v. v.item ∷ items) (sym same);
       chain = subst (λ v. Chain waits v.next items) (sym same) rest;
-      less = (let n : (slice_index_or waits (suc k - 1) d).next ≡ w.next = ap (λ v. v.next) same in omega (arith, n, le));
+      less = (let n : (slice_index_or waits (suc k - 1) d).next ≡ w.next = ap (λ v. v.next) same in
+          omega (arith, n, le));
     }
 
 chain_none : {waits : List Wait} {at : ℕ} {es : List Item} → Chain waits at es → at ≤ 0 → es ≡ []
@@ -58,26 +66,34 @@ pub record IsAlong (waits : List Wait) (at : ℕ) (es : List Item) (old new : Li
   pub chain : Chain waits at rest
   pub whole : (last : List Item) → Adds (λ a. In a rest) new last → Adds (λ a. In a es) old last
 
-pub along_start : (waits : List Wait) (first : ℕ) (es old : List Item) → Chain waits first es → IsAlong waits first es old old
+pub along_start : (waits : List Wait) (first : ℕ) (es old : List Item) → Chain waits first es
+    → IsAlong waits first es old old
 along_start waits first es old c = record { rest = es; chain = c; whole = λ last adds. adds }
 
-pub along_next : (waits : List Wait) (at : ℕ) (es old new more : List Item) (d : Wait) → IsAlong waits at es old new → 0 < at →
-    Adds (λ a. a ≡ (slice_index_or waits (at - 1) d).item) new more → IsAlong waits (slice_index_or waits (at - 1) d).next es old more
+pub along_next : (waits : List Wait) (at : ℕ) (es old new more : List Item) (d : Wait) → IsAlong waits at es old new
+    → 0 < at →
+    Adds (λ a. a ≡ (slice_index_or waits (at - 1) d).item) new more
+    → IsAlong waits (slice_index_or waits (at - 1) d).next es old more
 along_next waits at es old new more d along pos adds =
     let n = chain_next d along.chain pos in
     record {
       rest = n.rest;
       chain = n.chain;
-      whole = λ last rest. along.whole last (adds_both (λ a. a ≡ (slice_index_or waits (at - 1) d).item) (λ a. In a n.rest) (λ a. In a along.rest) new more last adds rest
-          (λ a h. by a n.rest (subst (λ v. In a v) n.is h)) (λ a same. subst (λ v. In a v) (sym n.is) (now same)) (λ a h. subst (λ v. In a v) (sym n.is) (on h)));
+      whole = λ last rest. along.whole last (adds_both (λ a. a ≡ (slice_index_or waits (at - 1) d).item)
+          (λ a. In a n.rest) (λ a. In a along.rest) new more last adds rest
+          (λ a h. by a n.rest (subst (λ v. In a v) n.is h)) (λ a same. subst (λ v. In a v) (sym n.is) (now same))
+          (λ a h. subst (λ v. In a v) (sym n.is) (on h)));
     }
   where
-    by : (a : Item) (rest : List Item) → In a ((slice_index_or waits (at - 1) d).item ∷ rest) → (a ≡ (slice_index_or waits (at - 1) d).item) ⊎ In a rest
+    by : (a : Item) (rest : List Item) → In a ((slice_index_or waits (at - 1) d).item ∷ rest)
+        → (a ≡ (slice_index_or waits (at - 1) d).item) ⊎ In a rest
     by a rest (now same) = inl same
     by a rest (on h) = inr h
 
-pub along_end : (waits : List Wait) (at : ℕ) (es old new : List Item) → IsAlong waits at es old new → at ≤ 0 → Adds (λ a. In a es) old new
-along_end waits at es old new along le = along.whole new (adds_none (λ a. In a along.rest) new (λ a h. elim (subst (λ v. In a v) (chain_none along.chain le) h) [ ]))
+pub along_end : (waits : List Wait) (at : ℕ) (es old new : List Item) → IsAlong waits at es old new → at ≤ 0
+    → Adds (λ a. In a es) old new
+along_end waits at es old new along le = along.whole new
+    (adds_none (λ a. In a along.rest) new (λ a h. elim (subst (λ v. In a v) (chain_none along.chain le) h) [ ]))
 
 set_at : (xs : List ℕ) (i v d : ℕ) → i < length xs → slice_index_or (set xs i v) i d ≡ v
 set_at [] i v d lt = absurd (omega (arith, lt))
@@ -91,73 +107,109 @@ set_beside (x ∷ xs) zero (suc j) v d other = refl
 set_beside (x ∷ xs) (suc i) zero v d other = refl
 set_beside (x ∷ xs) (suc i) (suc j) v d other = set_beside xs i j v d (λ same. other (ap suc same))
 
-pub taken : {A : Type 0} (xs ys : List A) (k : ℕ) (d : A) → xs ≡ ys → k < length xs → take (k + 1) ys ≡ take k ys ++ slice_index_or xs k d ∷ []
+pub taken : {A : Type 0} (xs ys : List A) (k : ℕ) (d : A) → xs ≡ ys → k < length xs → take (k + 1) ys ≡ take k ys
+    ++ slice_index_or xs k d ∷ []
 taken xs ys k d same lt = subst (λ v. take (k + 1) v ≡ take k v ++ slice_index_or xs k d ∷ []) same (take_one xs k d lt)
 
 -- the walk along a head's list adds what goes on where it is done
-pub listed_adds : {waits : List Wait} {first : ℕ} {Q : Item → Type 0} {old new : List Item} (l : IsListed waits first Q) → Adds (λ a. In a l.items) old new → Adds Q old new
-listed_adds {Q = Q} {old = old} {new = new} l adds = adds_as (λ a. In a l.items) Q old new (λ a h. l.only a h) (λ a h. l.all a h) adds
+pub listed_adds : {waits : List Wait} {first : ℕ} {Q : Item → Type 0} {old new : List Item} (l : IsListed waits first Q)
+    → Adds (λ a. In a l.items) old new → Adds Q old new
+listed_adds {Q = Q} {old = old} {new = new} l adds = adds_as (λ a. In a l.items) Q old new (λ a h. l.only a h)
+    (λ a h. l.all a h) adds
 
 -- one more set
 pub waiting_push : (flat : code_flat.Tables) (fronts : List Front) (front : Front) → AreWaitingAll flat fronts →
-    AreWaiting flat (view flat (length fronts) front) front.heads.items front.firsts.items front.waits.items → AreWaitingAll flat (fronts ++ front ∷ [])
+    AreWaiting flat (view flat (length fronts) front) front.heads.items front.firsts.items front.waits.items
+    → AreWaitingAll flat (fronts ++ front ∷ [])
 waiting_push flat fronts front are last k f is = by (push_cases fronts front k f is)
   where
-    by : (slice_get fronts k ≡ Some f) ⊎ ((k ≡ length fronts) × (front ≡ f)) → AreWaiting flat (view flat k f) f.heads.items f.firsts.items f.waits.items
+    by : (slice_get fronts k ≡ Some f) ⊎ ((k ≡ length fronts) × (front ≡ f))
+        → AreWaiting flat (view flat k f) f.heads.items f.firsts.items f.waits.items
     by (inl old) = are k f old
     by (inr new) =
         subst (λ v. AreWaiting flat (view flat k v) v.heads.items v.firsts.items v.waits.items) new.1
-        (subst (λ n. AreWaiting flat (view flat n front) front.heads.items front.firsts.items front.waits.items) (sym new.0) last)
+        (subst (λ n. AreWaiting flat (view flat n front) front.heads.items front.firsts.items front.waits.items)
+        (sym new.0) last)
 
 module _ (flat : code_flat.Tables) (heads : List ℕ) where
-  seen_more : (t : ℕ) (seen : List Item) (item a : Item) → IsResumed flat t seen a → IsResumed flat t (seen ++ item ∷ []) a
-  seen_more t seen item a r = record { from = r.from; waits = in_left (item ∷ []) r.waits; call = r.call; node = r.node; origin = r.origin }
+  seen_more : (t : ℕ) (seen : List Item) (item a : Item) → IsResumed flat t seen a
+      → IsResumed flat t (seen ++ item ∷ []) a
+  seen_more t seen item a r = record {
+    from = r.from;
+    waits = in_left (item ∷ []) r.waits;
+    call = r.call;
+    node = r.node;
+    origin = r.origin;
+  }
 
-  seen_less : (t : ℕ) (seen : List Item) (item a : Item) → IsResumed flat t (seen ++ item ∷ []) a → IsResumed flat t seen a ⊎ ((call_of flat item ≡ Some (t, a.step)) × (a.node ≡ item.node) × (a.origin ≡ item.origin))
+  seen_less : (t : ℕ) (seen : List Item) (item a : Item) → IsResumed flat t (seen ++ item ∷ []) a
+      → IsResumed flat t seen a ⊎ ((call_of flat item ≡ Some (t, a.step)) × (a.node ≡ item.node)
+      × (a.origin ≡ item.origin))
   seen_less t seen item a r = by (before_end r.from item seen r.waits)
     where
-      by : In r.from seen ⊎ (r.from ≡ item) → IsResumed flat t seen a ⊎ ((call_of flat item ≡ Some (t, a.step)) × (a.node ≡ item.node) × (a.origin ≡ item.origin))
+      by : In r.from seen ⊎ (r.from ≡ item) → IsResumed flat t seen a
+          ⊎ ((call_of flat item ≡ Some (t, a.step)) × (a.node ≡ item.node) × (a.origin ≡ item.origin))
       by (inl h) = inl (record { from = r.from; waits = h; call = r.call; node = r.node; origin = r.origin })
-      by (inr same) = inr (subst (λ v. call_of flat v ≡ Some (t, a.step)) same r.call, r.node ∙ ap (λ v. v.node) same, r.origin ∙ ap (λ v. v.origin) same)
+      by (inr same) = inr (
+        subst (λ v. call_of flat v ≡ Some (t, a.step)) same r.call,
+        r.node ∙ ap (λ v. v.node) same,
+        r.origin ∙ ap (λ v. v.origin) same,
+      )
 
   -- an item that calls none of the heads
-  pub waiting_none : (seen : List Item) (item : Item) (firsts : List ℕ) (waits : List Wait) → ((h t l : ℕ) → slice_get heads h ≡ Some t → call_of flat item ≡ Some (t, l) → ⊥) →
+  pub waiting_none : (seen : List Item) (item : Item) (firsts : List ℕ) (waits : List Wait)
+      → ((h t l : ℕ) → slice_get heads h ≡ Some t → call_of flat item ≡ Some (t, l) → ⊥) →
       AreWaiting flat seen heads firsts waits → AreWaiting flat (seen ++ item ∷ []) heads firsts waits
   waiting_none seen item firsts waits never are h t is own =
       let l = are h t is own in
-      record { items = l.items; chain = l.chain; all = λ a r. by a (seen_less t seen item a r); only = λ a i. seen_more t seen item a (l.only a i) }
+      record {
+        items = l.items;
+        chain = l.chain;
+        all = λ a r. by a (seen_less t seen item a r);
+        only = λ a i. seen_more t seen item a (l.only a i);
+      }
     where
-      by : (a : Item) → IsResumed flat t seen a ⊎ ((call_of flat item ≡ Some (t, a.step)) × (a.node ≡ item.node) × (a.origin ≡ item.origin)) → In a (are h t is own).items
+      by : (a : Item) → IsResumed flat t seen a ⊎ ((call_of flat item ≡ Some (t, a.step)) × (a.node ≡ item.node)
+          × (a.origin ≡ item.origin)) → In a (are h t is own).items
       by a (inl r) = (are h t is own).all a r
       by a (inr c) = absurd (never h t a.step is c.0)
 
   -- an item that calls the head of an index
-  pub waiting_more : (seen : List Item) (item : Item) (firsts : List ℕ) (waits : List Wait) (index root step : ℕ) (w : Wait) → call_of flat item ≡ Some (root, step) →
-      slice_get heads index ≡ Some root → ((i : ℕ) → slice_get heads i ≡ Some root → i ≡ index) → index < length firsts →
+  pub waiting_more : (seen : List Item) (item : Item) (firsts : List ℕ) (waits : List Wait) (index root step : ℕ)
+      (w : Wait) → call_of flat item ≡ Some (root, step) →
+      slice_get heads index ≡ Some root → ((i : ℕ) → slice_get heads i ≡ Some root → i ≡ index)
+      → index < length firsts →
       w.item ≡ record { node = item.node; step = step; origin = item.origin } → w.next ≡ slice_index_or firsts index 0 →
-      AreWaiting flat seen heads firsts waits → AreWaiting flat (seen ++ item ∷ []) heads (set firsts index (length waits + 1)) (waits ++ w ∷ [])
-  waiting_more seen item firsts waits index root step w call at_index only within w_item w_next are h t is own = by (equal_or h index)
+      AreWaiting flat seen heads firsts waits → AreWaiting flat (seen ++ item ∷ []) heads
+      (set firsts index (length waits + 1)) (waits ++ w ∷ [])
+  waiting_more seen item firsts waits index root step w call at_index only within w_item w_next are h t is own =
+      by (equal_or h index)
     where
-      here : (h ≡ index) → (t ≡ root) → IsListed (waits ++ w ∷ []) (length waits + 1) (IsResumed flat t (seen ++ item ∷ []))
+      here : (h ≡ index) → (t ≡ root) → IsListed (waits ++ w ∷ []) (length waits + 1)
+          (IsResumed flat t (seen ++ item ∷ []))
       here same t_is =
           let l = are h t is own in
           let next_is : w.next ≡ slice_index_or firsts h 0 = w_next ∙ ap (λ n. slice_index_or firsts n 0) (sym same) in
           let le = chain_within l.chain in
           record {
             items = w.item ∷ l.items;
-            chain = subst (λ n. Chain (waits ++ w ∷ []) n (w.item ∷ l.items)) (let n : suc (length waits) ≡ length waits + 1 = omega arith in n)
-                (linked (end_get waits w) (omega (arith, next_is, le)) (subst (λ n. Chain (waits ++ w ∷ []) n l.items) (sym next_is) (chain_more (w ∷ []) l.chain)));
+            chain = subst (λ n. Chain (waits ++ w ∷ []) n (w.item ∷ l.items))
+                (let n : suc (length waits) ≡ length waits + 1 = omega arith in n)
+                (linked (end_get waits w) (omega (arith, next_is, le))
+                (subst (λ n. Chain (waits ++ w ∷ []) n l.items) (sym next_is) (chain_more (w ∷ []) l.chain)));
             all = λ a r. to a (seen_less t seen item a r);
             only = λ a i. from a l.items (λ b g. l.only b g) i;
           }
         where
-          to : (a : Item) → IsResumed flat t seen a ⊎ ((call_of flat item ≡ Some (t, a.step)) × (a.node ≡ item.node) × (a.origin ≡ item.origin)) → In a (w.item ∷ (are h t is own).items)
+          to : (a : Item) → IsResumed flat t seen a ⊎ ((call_of flat item ≡ Some (t, a.step)) × (a.node ≡ item.node)
+              × (a.origin ≡ item.origin)) → In a (w.item ∷ (are h t is own).items)
           to a (inl r) = on ((are h t is own).all a r)
           to a (inr c) =
               let s : step ≡ a.step = ap (λ v. v.1) (some_same (sym call ∙ c.0)) in
               now (item_same a item.node step item.origin c.1 (sym s) c.2 ∙ sym w_item)
 
-          from : (a : Item) (items : List Item) → ((b : Item) → In b items → IsResumed flat t seen b) → In a (w.item ∷ items) → IsResumed flat t (seen ++ item ∷ []) a
+          from : (a : Item) (items : List Item) → ((b : Item) → In b items → IsResumed flat t seen b)
+              → In a (w.item ∷ items) → IsResumed flat t (seen ++ item ∷ []) a
           from a items each (on i) = seen_more t seen item a (each a i)
           from a items each (now a_is) =
               let is_a = a_is ∙ w_item in
@@ -172,23 +224,34 @@ module _ (flat : code_flat.Tables) (heads : List ℕ) where
               pair_same : {a b c d : ℕ} → a ≡ b → c ≡ d → ◌≡◌ {A = ℕ × ℕ} (a, c) (b, d)
               pair_same p q = rw (p, q) refl
 
-      by : (h ≡ index) ⊎ (h ≡ index → ⊥) → IsListed (waits ++ w ∷ []) (slice_index_or (set firsts index (length waits + 1)) h 0) (IsResumed flat t (seen ++ item ∷ []))
+      by : (h ≡ index) ⊎ (h ≡ index → ⊥) → IsListed (waits ++ w ∷ [])
+          (slice_index_or (set firsts index (length waits + 1)) h 0) (IsResumed flat t (seen ++ item ∷ []))
       by (inl same) =
           let t_is : t ≡ root = some_same (sym is ∙ (ap (λ n. slice_get heads n) same ∙ at_index)) in
           let value : slice_index_or (set firsts index (length waits + 1)) h 0 ≡ length waits + 1 =
-          ap (λ n. slice_index_or (set firsts index (length waits + 1)) n 0) same ∙ set_at firsts index (length waits + 1) 0 within in
+          ap (λ n. slice_index_or (set firsts index (length waits + 1)) n 0) same
+          ∙ set_at firsts index (length waits + 1) 0 within in
           subst (λ n. IsListed (waits ++ w ∷ []) n (IsResumed flat t (seen ++ item ∷ []))) (sym value) (here same t_is)
       by (inr other) =
           let l = are h t is own in
-          subst (λ n. IsListed (waits ++ w ∷ []) n (IsResumed flat t (seen ++ item ∷ []))) (sym (set_beside firsts index h (length waits + 1) 0 other))
-          (record { items = l.items; chain = chain_more (w ∷ []) l.chain; all = λ a r. to a (seen_less t seen item a r); only = λ a i. seen_more t seen item a (l.only a i) })
+          subst (λ n. IsListed (waits ++ w ∷ []) n (IsResumed flat t (seen ++ item ∷ [])))
+          (sym (set_beside firsts index h (length waits + 1) 0 other))
+          (record {
+            items = l.items;
+            chain = chain_more (w ∷ []) l.chain;
+            all = λ a r. to a (seen_less t seen item a r);
+            only = λ a i. seen_more t seen item a (l.only a i);
+          })
         where
-          to : (a : Item) → IsResumed flat t seen a ⊎ ((call_of flat item ≡ Some (t, a.step)) × (a.node ≡ item.node) × (a.origin ≡ item.origin)) → In a (are h t is own).items
+          to : (a : Item) → IsResumed flat t seen a ⊎ ((call_of flat item ≡ Some (t, a.step)) × (a.node ≡ item.node)
+              × (a.origin ≡ item.origin)) → In a (are h t is own).items
           to a (inl r) = (are h t is own).all a r
-          to a (inr c) = let t_is : root ≡ t = ap (λ v. v.0) (some_same (sym call ∙ c.0)) in absurd (other (only h (is ∙ ap (λ v. Some v) (sym t_is))))
+          to a (inr c) = let t_is : root ≡ t = ap (λ v. v.0) (some_same (sym call ∙ c.0)) in
+              absurd (other (only h (is ∙ ap (λ v. Some v) (sym t_is))))
 
   -- nothing waits at first
-  pub waiting_start : (firsts : List ℕ) (waits : List Wait) → ((h : ℕ) → slice_index_or firsts h 0 ≡ 0) → AreWaiting flat [] heads firsts waits
+  pub waiting_start : (firsts : List ℕ) (waits : List Wait) → ((h : ℕ) → slice_index_or firsts h 0 ≡ 0)
+      → AreWaiting flat [] heads firsts waits
   waiting_start firsts waits zeros h t is own = record {
     items = [];
     chain = subst (λ n. Chain waits n []) (sym (zeros h)) ended;
@@ -202,36 +265,63 @@ module _ (flat : code_flat.Tables) (heads : List ℕ) where
       ((seen : List Item) → AreWaiting flat seen heads f1 w1 → AreWaiting flat (seen ++ ys) heads f2 w2) →
       (seen : List Item) → AreWaiting flat seen heads f0 w0 → AreWaiting flat (seen ++ zs) heads f2 w2
   waiting_then xs ys zs f0 f1 f2 w0 w1 w2 is p q seen h =
-      subst (λ v. AreWaiting flat (seen ++ v) heads f2 w2) (sym is) (subst (λ v. AreWaiting flat v heads f2 w2) (append_assoc seen xs ys) (q (seen ++ xs) (p seen h)))
+      subst (λ v. AreWaiting flat (seen ++ v) heads f2 w2) (sym is)
+      (subst (λ v. AreWaiting flat v heads f2 w2) (append_assoc seen xs ys) (q (seen ++ xs) (p seen h)))
 
-  pub waiting_same : (firsts : List ℕ) (waits : List Wait) (seen : List Item) → AreWaiting flat seen heads firsts waits → AreWaiting flat (seen ++ []) heads firsts waits
+  pub waiting_same : (firsts : List ℕ) (waits : List Wait) (seen : List Item) → AreWaiting flat seen heads firsts waits
+      → AreWaiting flat (seen ++ []) heads firsts waits
   waiting_same firsts waits seen h = subst (λ v. AreWaiting flat v heads firsts waits) (sym (append-nil seen)) h
 
   -- places that call none of the heads may be left out
-  pub waiting_fewer : (seen few all : List Item) (firsts : List ℕ) (waits : List Wait) → ((a : Item) → In a few → In a all) →
+  pub waiting_fewer : (seen few all : List Item) (firsts : List ℕ) (waits : List Wait)
+      → ((a : Item) → In a few → In a all) →
       ((a : Item) (t l : ℕ) → In a all → call_of flat a ≡ Some (t, l) → inner_of flat t ≡ None → In a few) →
       AreWaiting flat (seen ++ few) heads firsts waits → AreWaiting flat (seen ++ all) heads firsts waits
   waiting_fewer seen few all firsts waits stand called are h t is own =
       let l = are h t is own in
-      record { items = l.items; chain = l.chain; all = λ a r. l.all a (to a r (either seen r.waits)); only = λ a i. from a (l.only a i) }
+      record {
+        items = l.items;
+        chain = l.chain;
+        all = λ a r. l.all a (to a r (either seen r.waits));
+        only = λ a i. from a (l.only a i);
+      }
     where
-      to : (a : Item) (r : IsResumed flat t (seen ++ all) a) → In r.from seen ⊎ In r.from all → IsResumed flat t (seen ++ few) a
+      to : (a : Item) (r : IsResumed flat t (seen ++ all) a) → In r.from seen ⊎ In r.from all
+          → IsResumed flat t (seen ++ few) a
       to a r (inl i) = record { from = r.from; waits = in_left few i; call = r.call; node = r.node; origin = r.origin }
-      to a r (inr i) = record { from = r.from; waits = in_right seen (called r.from t a.step i r.call own); call = r.call; node = r.node; origin = r.origin }
+      to a r (inr i) = record {
+        from = r.from;
+        waits = in_right seen (called r.from t a.step i r.call own);
+        call = r.call;
+        node = r.node;
+        origin = r.origin;
+      }
 
       from : (a : Item) → IsResumed flat t (seen ++ few) a → IsResumed flat t (seen ++ all) a
-      from a r = record { from = r.from; waits = by (either seen r.waits); call = r.call; node = r.node; origin = r.origin }
+      from a r = record {
+        from = r.from;
+        waits = by (either seen r.waits);
+        call = r.call;
+        node = r.node;
+        origin = r.origin;
+      }
         where
           by : In r.from seen ⊎ In r.from few → In r.from (seen ++ all)
           by (inl i) = in_left all i
           by (inr i) = in_right seen (stand r.from i)
 
   -- of a block the places that call a root with a block of its own are enough
-  pub waiting_callers : (lists : AreSpotLists flat) (head j : ℕ) (seen : List Item) (firsts : List ℕ) (waits : List Wait) →
-      AreWaiting flat (seen ++ map (item_at j) (lists_of flat head).callers) heads firsts waits → AreWaiting flat (seen ++ map (item_at j) (block_of flat head).spots) heads firsts waits
+  pub waiting_callers : (lists : AreSpotLists flat) (head j : ℕ) (seen : List Item) (firsts : List ℕ)
+      (waits : List Wait) →
+      AreWaiting flat (seen ++ map (item_at j) (lists_of flat head).callers) heads firsts waits
+      → AreWaiting flat (seen ++ map (item_at j) (block_of flat head).spots) heads firsts waits
   waiting_callers lists head j seen firsts waits are =
-      waiting_fewer seen (map (item_at j) (lists_of flat head).callers) (map (item_at j) (block_of flat head).spots) firsts waits
-      (λ a i. let m = from_map j a (lists_of flat head).callers i in subst (λ v. In v (map (item_at j) (block_of flat head).spots)) (sym m.is) (in_map j m.spot (block_of flat head).spots ((lists head).0.0 m.spot m.stands)))
+      waiting_fewer seen (map (item_at j) (lists_of flat head).callers) (map (item_at j) (block_of flat head).spots)
+      firsts waits
+      (λ a i. let m = from_map j a (lists_of flat head).callers i in
+      subst (λ v. In v (map (item_at j) (block_of flat head).spots)) (sym m.is)
+      (in_map j m.spot (block_of flat head).spots ((lists head).0.0 m.spot m.stands)))
       (λ a t l i call own. let m = from_map j a (block_of flat head).spots i in
       subst (λ v. In v (map (item_at j) (lists_of flat head).callers)) (sym m.is)
-      (in_map j m.spot (lists_of flat head).callers ((lists head).0.1 m.spot m.stands (t, l, subst (λ v. call_of flat v ≡ Some (t, l)) m.is call, own)))) are
+      (in_map j m.spot (lists_of flat head).callers
+      ((lists head).0.1 m.spot m.stands (t, l, subst (λ v. call_of flat v ≡ Some (t, l)) m.is call, own)))) are

@@ -31,4 +31,5 @@ pub record IsSet (flat : Flat) (x : List ℕ) (j : ℕ) (set : List (Place × �
 
 -- each set has its size beside it
 pub record AreSized (tables : Option (Rc code_flat.Tables Global)) (fronts : List Front) : Type 0 where
-  pub size : (j : ℕ) (front : Front) → slice_get fronts j ≡ Some front → front.size ≡ length (set_at (chart_of tables fronts) j)
+  pub size : (j : ℕ) (front : Front) → slice_get fronts j ≡ Some front
+      → front.size ≡ length (set_at (chart_of tables fronts) j)

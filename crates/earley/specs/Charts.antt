@@ -15,9 +15,11 @@ abbrev pub item_of : Place → ℕ → Item
 item_of (at s k) i = record { node = s; step = k; origin = i }
 
 pub record IsChart (flat : code_flat.Tables) (x : List ℕ) (sets : List (List Item)) : Type 0 where
-  pub begun : (set : List Item) → slice_get sets 0 ≡ Some set → (p : Place) → Starts (flat_of flat) flat.whole p → In (item_of p 0) set
+  pub begun : (set : List Item) → slice_get sets 0 ≡ Some set → (p : Place) → Starts (flat_of flat) flat.whole p
+      → In (item_of p 0) set
   pub closed : (j : ℕ) (set : List Item) → slice_get sets j ≡ Some set → IsClosed flat (take j sets) set
-  pub read : (j c : ℕ) (set next : List Item) → slice_get sets j ≡ Some set → slice_get sets (j + 1) ≡ Some next → slice_get x j ≡ Some c →
+  pub read : (j c : ℕ) (set next : List Item) → slice_get sets j ≡ Some set → slice_get sets (j + 1) ≡ Some next
+      → slice_get x j ≡ Some c →
       (a : Item) → IsRead flat c set a → In a next
 
 -- the items where the whole begins

@@ -53,10 +53,12 @@ abbrev pub IsFurther : code_flat.Tables → List (List Item) → Item → Item �
 IsFurther flat sets item a = IsOn flat item a ⊎ IsCompleted flat sets [] item a
 
 -- a set on which the worklist has come to items ii and heads hi
-pub record IsGoing (flat : code_flat.Tables) (x : List ℕ) (sets : List (List Item)) (ii hi : ℕ) (heads : List ℕ) (items : List Item) : Type 0 where
+pub record IsGoing (flat : code_flat.Tables) (x : List ℕ) (sets : List (List Item)) (ii hi : ℕ) (heads : List ℕ)
+    (items : List Item) : Type 0 where
   pub within_items : ii ≤ length items
   pub within_heads : hi ≤ length heads
-  pub predicted : (h : ℕ) → In h heads → (k : ℕ) → k < begin_count flat h → Holds (flat_of flat) x (length sets) (at h k) (length sets)
+  pub predicted : (h : ℕ) → In h heads → (k : ℕ) → k < begin_count flat h
+      → Holds (flat_of flat) x (length sets) (at h k) (length sets)
   pub below : (h : ℕ) → In h heads → h < length flat.nodes.items
   pub are_heads : (h : ℕ) → In h heads → IsHead flat h
   pub held : Hold (flat_of flat) x (length sets) items

@@ -18,5 +18,7 @@ pub record IsLast (row : Item → ℕ) (list : List Item) (k b at : ℕ) : Type 
 pub record AreLinked (row : Item → ℕ) (list : List Item) (links rows : List ℕ) : Type 0 where
   pub long : length list ≤ length links
   pub some : 0 < length list → 0 < length rows
-  pub before : (i l : ℕ) (a : Item) → slice_get list i ≡ Some a → slice_get links i ≡ Some l → IsLast row list i (row a) l
-  pub last : (j h : ℕ) (a : Item) → slice_get list j ≡ Some a → slice_get rows (row a) ≡ Some h → (j < h) × IsIn row list (row a) (h - 1)
+  pub before : (i l : ℕ) (a : Item) → slice_get list i ≡ Some a → slice_get links i ≡ Some l
+      → IsLast row list i (row a) l
+  pub last : (j h : ℕ) (a : Item) → slice_get list j ≡ Some a → slice_get rows (row a) ≡ Some h → (j < h)
+      × IsIn row list (row a) (h - 1)

@@ -41,12 +41,14 @@ pub record IsPredicted (flat : code_flat.Tables) (j : ℕ) (item : Item) (a : It
   pub begun : IsBegun root (count_in (slice_get flat.nodes.items root)) j a
 
 -- the items that go on where one is done
-pub record IsCompleted (flat : code_flat.Tables) (sets : List (List Item)) (seen : List Item) (item : Item) (a : Item) : Type 0 where
+pub record IsCompleted (flat : code_flat.Tables) (sets : List (List Item)) (seen : List Item) (item : Item)
+    (a : Item) : Type 0 where
   pub done : done_of flat item ≡ true
   pub resumed : IsResumed flat item.node (waiting_in sets seen item.origin) a
 
 -- of them, those that go on: behind a turn that takes a letter one goes on only in a later set
-pub record IsGoingOn (flat : code_flat.Tables) (sets : List (List Item)) (seen : List Item) (item : Item) (a : Item) : Type 0 where
+pub record IsGoingOn (flat : code_flat.Tables) (sets : List (List Item)) (seen : List Item) (item : Item)
+    (a : Item) : Type 0 where
   pub completed : IsCompleted flat sets seen item a
   pub later : takes_of flat completed.resumed.from ≡ true → item.origin < length sets
 
@@ -54,7 +56,8 @@ abbrev pub IsNextOf : code_flat.Tables → List (List Item) → List Item → It
 IsNextOf flat sets seen item a = IsPredicted flat (length sets) item a ⊎ IsGoingOn flat sets seen item a
 
 -- the items that the front of a set asks for
-pub record IsNext (flat : code_flat.Tables) (sets : List (List Item)) (seen : List Item) (front : List Item) (a : Item) : Type 0 where
+pub record IsNext (flat : code_flat.Tables) (sets : List (List Item)) (seen : List Item) (front : List Item)
+    (a : Item) : Type 0 where
   pub by : Item
   pub stands : In by front
   pub next : IsNextOf flat sets seen by a

@@ -13,7 +13,8 @@ use Rattle.earley.specs.FrontViews.{view}
 -- the items of a list of links, which begins one before that index
 pub data Chain (waits : List Wait) : ℕ → List Item → Type 0 where
   ended : Chain waits 0 []
-  linked : {k : ℕ} {w : Wait} {items : List Item} → slice_get waits k ≡ Some w → w.next ≤ k → Chain waits w.next items → Chain waits (suc k) (w.item ∷ items)
+  linked : {k : ℕ} {w : Wait} {items : List Item} → slice_get waits k ≡ Some w → w.next ≤ k → Chain waits w.next items
+      → Chain waits (suc k) (w.item ∷ items)
 
 -- the list has those of Q
 pub record IsListed (waits : List Wait) (first : ℕ) (Q : Item → Type 0) : Type 0 where
@@ -24,14 +25,17 @@ pub record IsListed (waits : List Wait) (first : ℕ) (Q : Item → Type 0) : Ty
 
 -- for each head that no one place alone calls, what goes on behind those of the places that call it
 abbrev pub AreWaiting : code_flat.Tables → List Item → List ℕ → List ℕ → List Wait → Type 0
-AreWaiting flat places heads firsts waits = (h t : ℕ) → slice_get heads h ≡ Some t → inner_of flat t ≡ None → IsListed waits (slice_index_or firsts h 0) (IsResumed flat t places)
+AreWaiting flat places heads firsts waits = (h t : ℕ) → slice_get heads h ≡ Some t → inner_of flat t ≡ None
+    → IsListed waits (slice_index_or firsts h 0) (IsResumed flat t places)
 
 abbrev pub AreWaitingAll : code_flat.Tables → List Front → Type 0
-AreWaitingAll flat fronts = (k : ℕ) (f : Front) → slice_get fronts k ≡ Some f → AreWaiting flat (view flat k f) f.heads.items f.firsts.items f.waits.items
+AreWaitingAll flat fronts = (k : ℕ) (f : Front) → slice_get fronts k ≡ Some f
+    → AreWaiting flat (view flat k f) f.heads.items f.firsts.items f.waits.items
 
 -- what begins in a set and goes on elsewhere began there
 abbrev pub BeginHere : code_flat.Tables → ℕ → List Item → Type 0
-BeginHere flat j set = (a : Item) (t l : ℕ) → In a set → a.step < begin_count flat a.node → call_of flat a ≡ Some (t, l) → (l ≡ a.step → ⊥) → a.origin ≡ j
+BeginHere flat j set = (a : Item) (t l : ℕ) → In a set → a.step < begin_count flat a.node → call_of flat a ≡ Some (t, l)
+    → (l ≡ a.step → ⊥) → a.origin ≡ j
 
 abbrev pub BeginAll : code_flat.Tables → List Front → Type 0
 BeginAll flat fronts = (k : ℕ) (f : Front) → slice_get fronts k ≡ Some f → BeginHere flat k (view flat k f)

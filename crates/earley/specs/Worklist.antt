@@ -17,7 +17,8 @@ pub record IsPassed (flat : code_flat.Tables) (item : Item) (a : Item) : Type 0 
 
 -- those that an item adds: where what it calls begins, what goes on at once, and what goes on from earlier sets
 abbrev pub IsWork : code_flat.Tables → List (List Item) → Item → Item → Type 0
-IsWork flat sets item a = (IsPredicted flat (length sets) item a ⊎ IsPassed flat item a) ⊎ IsCompleted flat sets [] item a
+IsWork flat sets item a = (IsPredicted flat (length sets) item a ⊎ IsPassed flat item a)
+    ⊎ IsCompleted flat sets [] item a
 
 -- all that the items of a front ask for is there
 abbrev pub IsWorked : code_flat.Tables → List (List Item) → List Item → List Item → Type 0

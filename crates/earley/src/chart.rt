@@ -1,5 +1,6 @@
 //! Charts of item sets, and the line judge.
-ghost use Rattle.std.specs.Prelude.{◌≡◌, ◌↔◌, ◌+◌, ◌*◌, ◌≤◌, ℕ, List, [], Some, IsTrue, IfOk, OnErr, length, map, slice_get};
+ghost use Rattle.std.specs.Prelude.{◌≡◌, ◌↔◌, ◌+◌, ◌*◌, ◌≤◌, ℕ, List, [], Some, IsTrue, IfOk, OnErr, length, map};
+ghost use Rattle.std.specs.Prelude.{slice_get};
 ghost use Rattle.abnfread.specs.Element.{Rule};
 ghost use Rattle.abnfcheck.specs.Derivable.{RuleDerives};
 ghost use Rattle.flatgrammar.specs.Lowered.{IsLowered};
@@ -109,7 +110,8 @@ impl Chart {
 
     // Keeps the sets of a line, with the tables that they were filled by, and what is kept for the next line.
     fn keep(&mut self, tables: Rc<Tables>, fronts: Vec<Front>, kept: Kept)
-        requires { (j : ℕ) (f : front.Front) → slice_get fronts.items j ≡ Some f → f.size ≡ length (view tables.value j f) }
+        requires { (j : ℕ) (f : front.Front) → slice_get fronts.items j ≡ Some f
+            → f.size ≡ length (view tables.value j f) }
         ensures { self.new ≡ chart_of (Some tables) fronts.items }
     {
         self.tables = Some(tables);
@@ -139,7 +141,8 @@ fn follow<L: Letter>(
 ) -> Result<(), Memory>
     requires length { length sets.now ≤ length line.now }
     requires lists { AreSpotLists flat.now }
-    ensures { IfOk result (λ done. Adds (IsAfter flat.now (map L.number line.now) (views flat.now 0 sets.now)) items.old items.new) }
+    ensures { IfOk result (λ done. Adds (IsAfter flat.now (map L.number line.now) (views flat.now 0 sets.now)) items.old
+        items.new) }
 {
     if sets.len() > 0 {
         let last = sets.len() - 1;
@@ -189,7 +192,8 @@ fn close(
     ensures heads { IfOk result (λ front. front.heads.items ≡ heads.old) }
     ensures items { IfOk result (λ front. front.items.items ≡ items.old) }
     ensures size { IfOk result (λ front. (j : ℕ) → front.size ≡ length (view flat.now j front)) }
-    ensures waiting { IfOk result (λ front. AreWaiting flat.now (view flat.now number front) front.heads.items front.firsts.items front.waits.items) }
+    ensures waiting { IfOk result (λ front. AreWaiting flat.now (view flat.now number front) front.heads.items
+        front.firsts.items front.waits.items) }
     ensures no_heads { IfOk result (λ front. heads.new ≡ []) }
     ensures no_items { IfOk result (λ front. items.new ≡ []) }
 {
@@ -232,7 +236,8 @@ fn fill_fronts<L: Letter>(
     requires no_heads { heads.old ≡ [] }
     requires no_items { items.old ≡ [] }
     ensures size { IfOk result (λ sets. length sets.items ≡ length line.now + 1) }
-    ensures sized { IfOk result (λ sets. (j : ℕ) (f : front.Front) → slice_get sets.items j ≡ Some f → f.size ≡ length (view flat.now j f)) }
+    ensures sized { IfOk result (λ sets. (j : ℕ) (f : front.Front) → slice_get sets.items j ≡ Some f
+        → f.size ≡ length (view flat.now j f)) }
     ensures exact { IfOk result (λ sets. IsExact flat.now (map L.number line.now) (views flat.now 0 sets.items)) }
 {
     let alloc = *spare.allocator();
@@ -288,7 +293,8 @@ fn stands(flat: &Tables, front: &Front, number: usize, item: Item) -> bool
 fn is_yes<L: Letter>(flat: &Tables, fronts: &[Front], line: &[L]) -> bool
     requires size { length fronts.now ≡ length line.now + 1 }
     requires exact { IsExact flat.now (map L.number line.now) (views flat.now 0 fronts.now) }
-    ensures { IsTrue result ↔ Holds (flat_of flat.now) (map L.number line.now) (length line.now) (Place.at flat.now.whole 1) 0 }
+    ensures { IsTrue result ↔ Holds (flat_of flat.now) (map L.number line.now) (length line.now)
+        (Place.at flat.now.whole 1) 0 }
 {
     let whole = Item {
         node: flat.whole,
@@ -308,8 +314,10 @@ fn judge_by<L: Letter>(
 ) -> Result<bool, Memory>
     requires exact { AreExact tables.value }
     requires empty { chart.old ≡ [] }
-    ensures sets { IfOk result (λ _. (j : ℕ) → IsSet (flat_of tables.value) (map L.number line.now) j (set_at chart.new j)) }
-    ensures answer { IfOk result (λ yes. IsTrue yes ↔ Holds (flat_of tables.value) (map L.number line.now) (length line.now) (Place.at (flat_of tables.value).whole 1) 0) }
+    ensures sets { IfOk result (λ _. (j : ℕ) → IsSet (flat_of tables.value) (map L.number line.now) j
+        (set_at chart.new j)) }
+    ensures answer { IfOk result (λ yes. IsTrue yes ↔ Holds (flat_of tables.value) (map L.number line.now)
+        (length line.now) (Place.at (flat_of tables.value).whole 1) 0) }
     ensures empty { OnErr result (chart.new ≡ []) }
 {
     let mut kept = kept;
@@ -327,16 +335,17 @@ fn judge_by<L: Letter>(
     Ok(answer)
 }
 
-/// Fills the chart with the item sets of a line, and tells whether the judged rule derives the line, by the alphabet of its
-/// letters: a value that is no letter derives nothing, and a range derives those of its values that are letters. The line
-/// may have at most `flat.limit()` letters.
+/// Fills the chart with the item sets of a line, and tells whether the judged rule derives the line, by the alphabet of
+/// its letters: a value that is no letter derives nothing, and a range derives those of its values that are letters.
+/// The line may have at most `flat.limit()` letters.
 ///
 /// `Memory` if an allocation fails; the chart is empty then.
 pub fn judge<L: Letter>(chart: &mut Chart, flat: &Flat, line: &[L]) -> Result<bool, Memory>
     requires { length line.now ≤ flat.now.limit }
     ensures sets { IfOk result (λ _. (j : ℕ) → IsSet flat.now (map L.number line.now) j (set_at chart.new j)) }
     ensures bound { IfOk result (λ _. (j : ℕ) → length (set_at chart.new j) ≤ places flat.now.nodes * (j + 1)) }
-    ensures answer { IfOk result (λ yes. IsTrue yes ↔ Holds flat.now (map L.number line.now) (length line.now) (Place.at flat.now.whole 1) 0) }
+    ensures answer { IfOk result (λ yes. IsTrue yes ↔ Holds flat.now (map L.number line.now) (length line.now)
+        (Place.at flat.now.whole 1) 0) }
     ensures derives { IfOk result (λ yes. (rules : List Rule) (judged : ℕ) → IsLowered rules judged flat.now →
         IsTrue yes ↔ RuleDerives (has L.ALPHABET) rules judged (map L.number line.now)) }
     ensures empty { OnErr result (chart.new ≡ []) }

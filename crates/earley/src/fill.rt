@@ -1,12 +1,14 @@
 //! Fills an item set.
-ghost use Rattle.std.specs.Prelude.{◌≡◌, ◌↔◌, ◌+◌, ◌^◌, ◌<◌, ◌≤◌, true, IsTrue, IfOk, IfSome, length, map, slice_get, Some, None, List, [], ◌∷◌, ℕ};
+ghost use Rattle.std.specs.Prelude.{◌≡◌, ◌↔◌, ◌+◌, ◌^◌, ◌<◌, ◌≤◌, true, IsTrue, IfOk, IfSome, length, map, slice_get};
+ghost use Rattle.std.specs.Prelude.{Some, None, List, [], ◌∷◌, ℕ};
 ghost use Rattle.flatgrammar.specs.Places.{In, AreDifferent};
 ghost use Rattle.flatgrammar.specs.NodeSteps.{flat_of};
 ghost use Rattle.flatgrammar.specs.TableViews.{GiveRoots, AreNulls, null_of, call_of, done_of, takes_of};
 ghost use Rattle.earley.specs.Closed.{Hold, HoldAll, Keeps, IsClosed};
 ghost use Rattle.earley.specs.Worklist.{IsPassed};
 ghost use Rattle.earley.specs.ItemSets.{Adds, IsResumed, waiting_in, IsCompleted};
-ghost use Rattle.flatgrammar.specs.Blocks.{block_of, item_at, begin_count, IsHead, IsLate, AreTables, AreAlone, inner_of};
+ghost use Rattle.flatgrammar.specs.Blocks.{block_of, item_at, begin_count, IsHead, IsLate, AreTables, AreAlone};
+ghost use Rattle.flatgrammar.specs.Blocks.{inner_of};
 ghost use Rattle.earley.specs.Waiting.{Chain, AreWaiting, AreWaitingAll, BeginHere, BeginAll};
 ghost use Rattle.flatgrammar.specs.declared.flat_item.Item as code_item;
 ghost use Rattle.earley.specs.FrontViews.{expand, full, view, views, IsAsked, IsOn, IsFurther, IsGoing};
@@ -83,7 +85,8 @@ fn resume_heads(
     origin: usize,
     set: &mut Items,
 ) -> Result<(), Memory>
-    ensures { IfOk result (λ done. Adds (IsResumed flat.now root (expand (block_of flat.now) origin heads.now)) set.old set.new) }
+    ensures { IfOk result (λ done. Adds (IsResumed flat.now root (expand (block_of flat.now) origin heads.now)) set.old
+        set.new) }
 {
     for head in heads {
         resume_spots(flat, root, spots(flat, *head), origin, set)?;
@@ -120,7 +123,8 @@ fn home_of(heads: &[usize], home: usize, head: usize) -> Option<usize>
 /// Adds what is listed from a link on.
 fn go_along(waits: &[Wait], first: usize, set: &mut Items) -> Result<(), Memory>
     requires { (items : List code_item.Item) × (Chain waits.now first items) }
-    ensures { IfOk result (λ done. (items : List code_item.Item) → Chain waits.now first items → Adds (λ a. In a items) set.old set.new) }
+    ensures { IfOk result (λ done. (items : List code_item.Item) → Chain waits.now first items
+        → Adds (λ a. In a items) set.old set.new) }
 {
     let mut at = first;
     while at > 0 {
@@ -141,7 +145,8 @@ fn go_back(
     set: &mut Items,
 ) -> Result<(), Memory>
     requires own { inner_of flat.now root ≡ None }
-    requires waiting { AreWaiting flat.now (view flat.now origin front.now) front.now.heads.items front.now.firsts.items front.now.waits.items }
+    requires waiting { AreWaiting flat.now (view flat.now origin front.now) front.now.heads.items front.now.firsts.items
+        front.now.waits.items }
     ensures { IfOk result (λ done. Adds (IsResumed flat.now root (view flat.now origin front.now)) set.old set.new) }
 {
     match home_of(&front.heads, home, root) {
@@ -162,7 +167,8 @@ fn go_on(
 ) -> Result<(), Memory>
     requires alone { AreAlone flat.now }
     requires begun { BeginHere flat.now origin (view flat.now origin front.now) }
-    requires waiting { AreWaiting flat.now (view flat.now origin front.now) front.now.heads.items front.now.firsts.items front.now.waits.items }
+    requires waiting { AreWaiting flat.now (view flat.now origin front.now) front.now.heads.items front.now.firsts.items
+        front.now.waits.items }
     ensures { IfOk result (λ done. Adds (IsResumed flat.now root (view flat.now origin front.now)) set.old set.new) }
 {
     let Some(inner) = sole_caller(flat, root) else {
@@ -290,7 +296,8 @@ fn work(
     requires begun { BeginAll flat.now sets.now }
     requires waiting { AreWaitingAll flat.now sets.now }
     ensures heads { IfOk result (λ done. Adds (IsAsked flat.now item) heads.old heads.new) }
-    ensures items { IfOk result (λ done. Adds (IsFurther flat.now (views flat.now 0 sets.now) item) items.old items.new) }
+    ensures items { IfOk result (λ done. Adds (IsFurther flat.now (views flat.now 0 sets.now) item) items.old
+        items.new) }
 {
     ask(flat, item, heads)?;
     advance(flat, sets, item, home, items)?;
@@ -307,7 +314,8 @@ fn open(
     items: &mut Items,
 ) -> Result<(), Memory>
     ensures heads { IfOk result (λ done. Adds (λ t. In t (block_of flat.now head).calls) heads.old heads.new) }
-    ensures items { IfOk result (λ done. Adds (λ a. In a (map (item_at origin) (block_of flat.now head).passes)) items.old items.new) }
+    ensures items { IfOk result (λ done. Adds (λ a. In a (map (item_at origin) (block_of flat.now head).passes))
+        items.old items.new) }
 {
     note_all(calls(flat, head), heads)?;
     add_all(passes(flat, head), origin, home, items)?;
@@ -329,10 +337,15 @@ pub(crate) fn fill<L: Letter>(
     requires waiting { AreWaitingAll flat.now sets.now }
     requires earlier { HoldAll (flat_of flat.now) (map L.number line.now) (views flat.now 0 sets.now) }
     requires begun { IsGoing flat.now (map L.number line.now) (views flat.now 0 sets.now) 0 0 heads.old items.old }
-    ensures held { IfOk result (λ done. Hold (flat_of flat.now) (map L.number line.now) (length (views flat.now 0 sets.now)) (full (block_of flat.now) (length (views flat.now 0 sets.now)) heads.new items.new)) }
-    ensures different { IfOk result (λ done. AreDifferent (full (block_of flat.now) (length (views flat.now 0 sets.now)) heads.new items.new)) }
-    ensures keeps { IfOk result (λ done. Keeps (full (block_of flat.now) (length (views flat.now 0 sets.now)) heads.old items.old) (full (block_of flat.now) (length (views flat.now 0 sets.now)) heads.new items.new)) }
-    ensures closed { IfOk result (λ done. IsClosed flat.now (views flat.now 0 sets.now) (full (block_of flat.now) (length (views flat.now 0 sets.now)) heads.new items.new)) }
+    ensures held { IfOk result (λ done. Hold (flat_of flat.now) (map L.number line.now)
+        (length (views flat.now 0 sets.now)) (full (block_of flat.now) (length (views flat.now 0 sets.now)) heads.new
+        items.new)) }
+    ensures different { IfOk result (λ done. AreDifferent
+        (full (block_of flat.now) (length (views flat.now 0 sets.now)) heads.new items.new)) }
+    ensures keeps { IfOk result (λ done. Keeps (full (block_of flat.now) (length (views flat.now 0 sets.now)) heads.old
+        items.old) (full (block_of flat.now) (length (views flat.now 0 sets.now)) heads.new items.new)) }
+    ensures closed { IfOk result (λ done. IsClosed flat.now (views flat.now 0 sets.now)
+        (full (block_of flat.now) (length (views flat.now 0 sets.now)) heads.new items.new)) }
 {
     let mut item_index = 0;
     let mut head_index = 0;

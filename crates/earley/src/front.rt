@@ -3,8 +3,8 @@
 use crate::wait::Wait;
 use flatgrammar::Item;
 
-/// Holds an item set: the heads, which are the roots that were predicted in it and whose blocks stand in it, and the items
-/// beside their blocks. `size` is the number of its items, those of the blocks counted.
+/// Holds an item set: the heads, which are the roots that were predicted in it and whose blocks stand in it, and the
+/// items beside their blocks. `size` is the number of its items, those of the blocks counted.
 ///
 /// `firsts` and `waits` list for each head what goes on where it is done.
 #[derive(Drop)]

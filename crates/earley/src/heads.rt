@@ -11,7 +11,8 @@ use std::mem;
 
 /// The heads of a set, in the order in which they were noted, seen as a list.
 ///
-/// Each has its index in a table by head. The table may say anything of what is no head, so that emptying takes no time.
+/// Each has its index in a table by head. The table may say anything of what is no head, so that emptying takes no
+/// time.
 #[derive(Drop)]
 pub(crate) struct Heads {
     list: Vec<usize>,

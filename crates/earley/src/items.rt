@@ -16,8 +16,8 @@ const FIRST: usize = 64;
 
 /// The items of a set beside its blocks, in the order in which they were added, seen as a list.
 ///
-/// Items of one row are linked, the last one first. The rows and links may hold anything where there is no item, so that
-/// emptying takes no time.
+/// Items of one row are linked, the last one first. The rows and links may hold anything where there is no item, so
+/// that emptying takes no time.
 #[derive(Drop)]
 pub(crate) struct Items {
     list: Vec<Item>,
@@ -90,7 +90,8 @@ fn stands(list: &[Item], links: &[usize], count: usize, last: usize, item: Item)
 fn set_link(links: &mut Vec<usize>, index: usize, link: usize) -> Result<(), Memory>
     requires { index ≤ length links.old.items }
     ensures here { IfOk result (λ done. slice_get links.new.items index ≡ Some link) }
-    ensures others { (i l : ℕ) → i < index → slice_get links.new.items i ≡ Some l → slice_get links.old.items i ≡ Some l }
+    ensures others { (i l : ℕ) → i < index → slice_get links.new.items i ≡ Some l → slice_get links.old.items i
+        ≡ Some l }
     ensures long { length links.old.items ≤ length links.new.items }
 {
     if index < links.len() {
@@ -111,7 +112,8 @@ fn push(
 ) -> Result<(), Memory>
     requires linked { AreLinked (the_row_of (length rows.old)) list.old.items links.old.items rows.old }
     requires some { 0 < length rows.old }
-    requires last { IsLast (the_row_of (length rows.old)) list.old.items (length list.old.items) (the_row_of (length rows.old) item) last }
+    requires last { IsLast (the_row_of (length rows.old)) list.old.items (length list.old.items)
+        (the_row_of (length rows.old) item) last }
     ensures linked { AreLinked (the_row_of (length rows.new)) list.new.items links.new.items rows.new }
     ensures pushed { IfOk result (λ done. list.new.items ≡ list.old.items ++ item ∷ []) }
 {

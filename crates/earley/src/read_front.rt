@@ -1,5 +1,6 @@
 //! What a set has after a letter.
-ghost use Rattle.std.specs.Prelude.{◌≡◌, ◌↔◌, ◌+◌, ◌^◌, ◌<◌, ◌≤◌, ℕ, true, IsTrue, IfOk, length, map, slice_get, [], ◌∷◌};
+ghost use Rattle.std.specs.Prelude.{◌≡◌, ◌↔◌, ◌+◌, ◌^◌, ◌<◌, ◌≤◌, ℕ, true, IsTrue, IfOk, length, map, slice_get, []};
+ghost use Rattle.std.specs.Prelude.{◌∷◌};
 ghost use Rattle.flatgrammar.specs.NodeSteps.{IfSomeSet};
 ghost use Rattle.earley.specs.ItemSets.{Adds};
 ghost use Rattle.earley.specs.ReadItems.{IsRead};
@@ -94,7 +95,8 @@ fn read_heads(
     set: &mut Items,
 ) -> Result<(), Memory>
     requires { AreSpotLists flat.now }
-    ensures { IfOk result (λ done. Adds (IsRead flat.now value (expand (block_of flat.now) origin heads.now)) set.old set.new) }
+    ensures { IfOk result (λ done. Adds (IsRead flat.now value (expand (block_of flat.now) origin heads.now)) set.old
+        set.new) }
 {
     let mut home = 0usize;
     for head in heads {
@@ -113,7 +115,8 @@ pub(crate) fn read<L: Letter>(
     set: &mut Items,
 ) -> Result<(), Memory>
     requires { AreSpotLists flat.now }
-    ensures { IfOk result (λ done. Adds (IsRead flat.now (L.number letter) (view flat.now origin from.now)) set.old set.new) }
+    ensures { IfOk result (λ done. Adds (IsRead flat.now (L.number letter) (view flat.now origin from.now)) set.old
+        set.new) }
 {
     let value = letter.value();
     read_heads(flat, value, &from.heads, origin, set)?;

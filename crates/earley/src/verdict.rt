@@ -36,16 +36,17 @@ fn furthest(chart: &Chart, end: usize) -> usize
     last
 }
 
-/// Fills the chart with the item sets of a line, and tells whether the judged rule derives the line, or else its longest
-/// viable beginning. The flat grammar is that of `lower_viable` for the alphabet of the letters. The line may have at most
-/// `flat.limit()` letters.
+/// Fills the chart with the item sets of a line, and tells whether the judged rule derives the line, or else its
+/// longest viable beginning. The flat grammar is that of `lower_viable` for the alphabet of the letters. The line may
+/// have at most `flat.limit()` letters.
 ///
 /// `Memory` if an allocation fails; the chart is empty then.
 pub fn viable<L: Letter>(chart: &mut Chart, flat: &Flat, line: &[L]) -> Result<Verdict, Memory>
     requires { length line.now ≤ flat.now.limit }
     ensures sets { IfOk result (λ _. (j : ℕ) → IsSet flat.now (map L.number line.now) j (set_at chart.new j)) }
     ensures bound { IfOk result (λ _. (j : ℕ) → length (set_at chart.new j) ≤ places flat.now.nodes * (j + 1)) }
-    ensures verdict { IfOk result (λ told. (rules : List Rule) (judged : ℕ) → TellsBeginnings (has L.ALPHABET) rules judged flat.now →
+    ensures verdict { IfOk result (λ told. (rules : List Rule) (judged : ℕ)
+        → TellsBeginnings (has L.ALPHABET) rules judged flat.now →
         IsVerdict (has L.ALPHABET) rules judged (map L.number line.now) told) }
     ensures empty { OnErr result (chart.new ≡ []) }
 {

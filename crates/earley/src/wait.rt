@@ -10,7 +10,8 @@ use crate::items::Items;
 use flatgrammar::{Item, Spot, Tables, asking, call};
 use ruletable::Memory;
 
-/// What goes on where a head is done: the item, its home, and one more than the index of the next one of that head, or 0.
+/// What goes on where a head is done: the item, its home, and one more than the index of the next one of that head, or
+/// 0.
 #[derive(Clone, Copy)]
 pub(crate) struct Wait {
     pub(crate) item: Item,
@@ -49,7 +50,8 @@ fn wait_one(
 ) -> Result<(), Memory>
     requires { length firsts.old.items ≡ length heads.now }
     ensures long { length firsts.new.items ≡ length firsts.old.items }
-    ensures more { IfOk result (λ done. (seen : List code_item.Item) → AreWaiting flat.now seen heads.now firsts.old.items waits.old.items →
+    ensures more { IfOk result (λ done. (seen : List code_item.Item)
+        → AreWaiting flat.now seen heads.now firsts.old.items waits.old.items →
         AreWaiting flat.now (seen ++ item ∷ []) heads.now firsts.new.items waits.new.items) }
 {
     let Some((root, step)) = call(flat, item) else {
@@ -80,7 +82,8 @@ fn wait_spots(
 ) -> Result<(), Memory>
     requires { length firsts.old.items ≡ length heads.now }
     ensures long { length firsts.new.items ≡ length firsts.old.items }
-    ensures more { IfOk result (λ done. (seen : List code_item.Item) → AreWaiting flat.now seen heads.now firsts.old.items waits.old.items →
+    ensures more { IfOk result (λ done. (seen : List code_item.Item)
+        → AreWaiting flat.now seen heads.now firsts.old.items waits.old.items →
         AreWaiting flat.now (seen ++ map (item_at place.0) from.now) heads.now firsts.new.items waits.new.items) }
 {
     for spot in from {
@@ -106,8 +109,10 @@ fn wait_heads(
     requires long { length firsts.old.items ≡ length heads.now }
     requires lists { AreSpotLists flat.now }
     ensures long { length firsts.new.items ≡ length firsts.old.items }
-    ensures more { IfOk result (λ done. (seen : List code_item.Item) → AreWaiting flat.now seen heads.now firsts.old.items waits.old.items →
-        AreWaiting flat.now (seen ++ expand (block_of flat.now) origin list.now) heads.now firsts.new.items waits.new.items) }
+    ensures more { IfOk result (λ done. (seen : List code_item.Item)
+        → AreWaiting flat.now seen heads.now firsts.old.items waits.old.items →
+        AreWaiting flat.now (seen ++ expand (block_of flat.now) origin list.now) heads.now firsts.new.items
+        waits.new.items) }
 {
     let mut home = 0usize;
     for head in list {
@@ -133,7 +138,8 @@ fn wait_items(
     waits: &mut Vec<Wait>,
 ) -> Result<(), Memory>
     requires { length firsts.old.items ≡ length heads.now }
-    ensures { IfOk result (λ done. (seen : List code_item.Item) → AreWaiting flat.now seen heads.now firsts.old.items waits.old.items →
+    ensures { IfOk result (λ done. (seen : List code_item.Item) → AreWaiting flat.now seen heads.now firsts.old.items
+        waits.old.items →
         AreWaiting flat.now (seen ++ items.now) heads.now firsts.new.items waits.new.items) }
 {
     let mut home = 0usize;
@@ -154,7 +160,8 @@ pub(crate) fn wait_all(
     waits: &mut Vec<Wait>,
 ) -> Result<(), Memory>
     requires { AreSpotLists flat.now }
-    ensures { IfOk result (λ done. AreWaiting flat.now (full (block_of flat.now) origin heads.now items.now) heads.now firsts.new.items waits.new.items) }
+    ensures { IfOk result (λ done. AreWaiting flat.now (full (block_of flat.now) origin heads.now items.now) heads.now
+        firsts.new.items waits.new.items) }
 {
     empty_firsts(heads.len(), firsts)?;
     waits.clear();

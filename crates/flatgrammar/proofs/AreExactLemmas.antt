@@ -17,19 +17,35 @@ use Rattle.flatgrammar.specs.Inners.{AreInners}
 use Rattle.flatgrammar.specs.HeadBlocks.{IsCalled, IsPast, SomeOf, Grows, AreHeadBlocks}
 use Rattle.flatgrammar.proofs.HeadBlockLemmas.{head_tables, inners_alone}
 
-abbrev pub tables : Vec code_node.Node Global → Vec ℕ Global → Vec (Option ℕ) Global → Vec Bool Global → Vec (Option Inner) Global → Vec code_block.Block Global → Vec SpotList Global → ℕ → ℕ → code_flat.Tables
+abbrev pub tables : Vec code_node.Node Global → Vec ℕ Global → Vec (Option ℕ) Global → Vec Bool Global
+    → Vec (Option Inner) Global → Vec code_block.Block Global → Vec SpotList Global → ℕ → ℕ → code_flat.Tables
 tables nodes bodies roots nulls inners blocks lists whole limit =
-    record { nodes = nodes; bodies = bodies; roots = roots; nulls = nulls; inners = inners; blocks = blocks; lists = lists; whole = whole; limit = limit }
+    record {
+      nodes = nodes;
+      bodies = bodies;
+      roots = roots;
+      nulls = nulls;
+      inners = inners;
+      blocks = blocks;
+      lists = lists;
+      whole = whole;
+      limit = limit;
+    }
 
-module _ (nodes : Vec code_node.Node Global) (bodies : Vec ℕ Global) (roots : Vec (Option ℕ) Global) (nulls : Vec Bool Global) (nobody inners : Vec (Option Inner) Global)
+module _ (nodes : Vec code_node.Node Global) (bodies : Vec ℕ Global) (roots : Vec (Option ℕ) Global)
+    (nulls : Vec Bool Global) (nobody inners : Vec (Option Inner) Global)
     (none blocks : Vec code_block.Block Global) (unlisted lists : Vec SpotList Global) (whole limit : ℕ)
-    (ns ms : List code_node.Node) (bs cs : List ℕ) (is_ns : ns ≡ nodes.items) (is_bs : bs ≡ bodies.items) (is_ms : ms ≡ nodes.items) (is_cs : cs ≡ bodies.items)
-    (are_roots : AreRoots (nodes_of ns) bs roots.items) (are_nulls : (w l : ℕ) → AreNulls (record { nodes = nodes_of ms; bodies = cs; whole = w; limit = l }) nulls.items)
+    (ns ms : List code_node.Node) (bs cs : List ℕ) (is_ns : ns ≡ nodes.items) (is_bs : bs ≡ bodies.items)
+    (is_ms : ms ≡ nodes.items) (is_cs : cs ≡ bodies.items)
+    (are_roots : AreRoots (nodes_of ns) bs roots.items)
+    (are_nulls : (w l : ℕ) → AreNulls (record { nodes = nodes_of ms; bodies = cs; whole = w; limit = l })
+    nulls.items)
     (are_inners : AreInners (tables nodes bodies roots nulls nobody none unlisted whole limit) inners.items)
     (made : AreHeadBlocks (tables nodes bodies roots nulls nobody none unlisted whole limit) inners.items blocks.items)
     (are_lists : AreSpotLists (tables nodes bodies roots nulls inners blocks lists whole limit)) where
   gives : GiveRoots (flat_of (tables nodes bodies roots nulls inners blocks lists whole limit)) roots.items
-  gives = let r = subst (λ v. AreRoots (nodes_of nodes.items) v roots.items) is_bs (subst (λ v. AreRoots (nodes_of v) bs roots.items) is_ns are_roots) in
+  gives = let r = subst (λ v. AreRoots (nodes_of nodes.items) v roots.items) is_bs
+      (subst (λ v. AreRoots (nodes_of v) bs roots.items) is_ns are_roots) in
       λ s t. ((λ is. r.sound s t is), (λ root. r.whole s t root))
 
   -- inner nodes and blocks look at nodes, roots and marks alone
@@ -45,7 +61,8 @@ module _ (nodes : Vec code_node.Node Global) (bodies : Vec ℕ Global) (roots : 
     only = one.only;
   }
 
-  same_grows : (P : Spot → Type 0) (old new : Block) → Grows (tables nodes bodies roots nulls nobody none unlisted whole limit) inners.items P old new →
+  same_grows : (P : Spot → Type 0) (old new : Block)
+      → Grows (tables nodes bodies roots nulls nobody none unlisted whole limit) inners.items P old new →
       Grows (tables nodes bodies roots nulls inners blocks lists whole limit) inners.items P old new
   same_grows P old new g = record {
     spots = g.spots;
@@ -54,40 +71,73 @@ module _ (nodes : Vec code_node.Node Global) (bodies : Vec ℕ Global) (roots : 
     different = g.different;
   }
     where
-      to_call : (t : ℕ) → In t old.calls ⊎ SomeOf P (λ p. IsCalled (tables nodes bodies roots nulls nobody none unlisted whole limit) inners.items p t) →
-          In t old.calls ⊎ SomeOf P (λ p. IsCalled (tables nodes bodies roots nulls inners blocks lists whole limit) inners.items p t)
+      to_call : (t : ℕ) → In t old.calls ⊎ SomeOf P
+          (λ p. IsCalled (tables nodes bodies roots nulls nobody none unlisted whole limit) inners.items p t) →
+          In t old.calls ⊎ SomeOf P (λ p. IsCalled (tables nodes bodies roots nulls inners blocks lists whole limit)
+          inners.items p t)
       to_call t (inl h) = inl h
-      to_call t (inr s) = inr (record { spot = s.spot; stands = s.stands; is = record { next = s.is.next; call = s.is.call; own = s.is.own } })
+      to_call t (inr s) = inr (record {
+        spot = s.spot;
+        stands = s.stands;
+        is = record { next = s.is.next; call = s.is.call; own = s.is.own };
+      })
 
-      from_call : (t : ℕ) → In t old.calls ⊎ SomeOf P (λ p. IsCalled (tables nodes bodies roots nulls inners blocks lists whole limit) inners.items p t) →
-          In t old.calls ⊎ SomeOf P (λ p. IsCalled (tables nodes bodies roots nulls nobody none unlisted whole limit) inners.items p t)
+      from_call : (t : ℕ) → In t old.calls ⊎ SomeOf P
+          (λ p. IsCalled (tables nodes bodies roots nulls inners blocks lists whole limit) inners.items p t) →
+          In t old.calls ⊎ SomeOf P (λ p. IsCalled (tables nodes bodies roots nulls nobody none unlisted whole limit)
+          inners.items p t)
       from_call t (inl h) = inl h
-      from_call t (inr s) = inr (record { spot = s.spot; stands = s.stands; is = record { next = s.is.next; call = s.is.call; own = s.is.own } })
+      from_call t (inr s) = inr (record {
+        spot = s.spot;
+        stands = s.stands;
+        is = record { next = s.is.next; call = s.is.call; own = s.is.own };
+      })
 
-      to_pass : (r : Spot) → In r old.passes ⊎ SomeOf P (λ p. IsPast (tables nodes bodies roots nulls nobody none unlisted whole limit) p r) →
+      to_pass : (r : Spot) → In r old.passes ⊎ SomeOf P
+          (λ p. IsPast (tables nodes bodies roots nulls nobody none unlisted whole limit) p r) →
           In r old.passes ⊎ SomeOf P (λ p. IsPast (tables nodes bodies roots nulls inners blocks lists whole limit) p r)
       to_pass r (inl h) = inl h
       to_pass r (inr s) = inr (record {
         spot = s.spot;
         stands = s.stands;
-        is = record { root = s.is.root; call = s.is.call; null = s.is.null; free = s.is.free; node = s.is.node; moves = s.is.moves };
+        is = record {
+          root = s.is.root;
+          call = s.is.call;
+          null = s.is.null;
+          free = s.is.free;
+          node = s.is.node;
+          moves = s.is.moves;
+        };
       })
 
-      from_pass : (r : Spot) → In r old.passes ⊎ SomeOf P (λ p. IsPast (tables nodes bodies roots nulls inners blocks lists whole limit) p r) →
-          In r old.passes ⊎ SomeOf P (λ p. IsPast (tables nodes bodies roots nulls nobody none unlisted whole limit) p r)
+      from_pass : (r : Spot) → In r old.passes ⊎ SomeOf P
+          (λ p. IsPast (tables nodes bodies roots nulls inners blocks lists whole limit) p r) →
+          In r old.passes ⊎ SomeOf P (λ p. IsPast (tables nodes bodies roots nulls nobody none unlisted whole limit)
+          p r)
       from_pass r (inl h) = inl h
       from_pass r (inr s) = inr (record {
         spot = s.spot;
         stands = s.stands;
-        is = record { root = s.is.root; call = s.is.call; null = s.is.null; free = s.is.free; node = s.is.node; moves = s.is.moves };
+        is = record {
+          root = s.is.root;
+          call = s.is.call;
+          null = s.is.null;
+          free = s.is.free;
+          node = s.is.node;
+          moves = s.is.moves;
+        };
       })
 
   pub tables_exact : AreExact (tables nodes bodies roots nulls inners blocks lists whole limit)
   tables_exact = record {
     roots = gives;
-    nulls = subst (λ v. AreNulls (record { nodes = nodes_of nodes.items; bodies = v; whole = whole; limit = limit }) nulls.items) is_cs
-        (subst (λ v. AreNulls (record { nodes = nodes_of v; bodies = cs; whole = whole; limit = limit }) nulls.items) is_ms (are_nulls whole limit));
-    blocks = head_tables (tables nodes bodies roots nulls inners blocks lists whole limit) gives inners.items same_inners (λ h. same_grows _ _ _ (made h));
-    inners = λ t i is. inners_alone (tables nodes bodies roots nulls inners blocks lists whole limit) gives inners.items same_inners (λ h. same_grows _ _ _ (made h)) t i is;
+    nulls = subst (λ v. AreNulls (record { nodes = nodes_of nodes.items; bodies = v; whole = whole; limit = limit })
+        nulls.items) is_cs
+        (subst (λ v. AreNulls (record { nodes = nodes_of v; bodies = cs; whole = whole; limit = limit }) nulls.items)
+        is_ms (are_nulls whole limit));
+    blocks = head_tables (tables nodes bodies roots nulls inners blocks lists whole limit) gives inners.items
+        same_inners (λ h. same_grows _ _ _ (made h));
+    inners = λ t i is. inners_alone (tables nodes bodies roots nulls inners blocks lists whole limit) gives inners.items
+        same_inners (λ h. same_grows _ _ _ (made h)) t i is;
     lists = are_lists;
   }

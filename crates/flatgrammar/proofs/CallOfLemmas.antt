@@ -1,15 +1,18 @@
 -- Roots that items call, by the tables.
 -- Serves: lower, judge.
-use Rattle.std.proofs.Common.{◌≡◌, ℕ, zero, suc, ◌+◌, ◌-◌, ◌<◌, ◌≤◌, true, ◌⊎◌, inl, inr, Option, Some, None, List, [], ◌∷◌, length, map, slice_get, refl, ap, subst, arith, lt-ltb, le-leb, eq-eqb, le-ltb}
+use Rattle.std.proofs.Common.{◌≡◌, ℕ, zero, suc, ◌+◌, ◌-◌, ◌<◌, ◌≤◌, true, ◌⊎◌, inl, inr, Option, Some, None, List, []}
+use Rattle.std.proofs.Common.{◌∷◌, length, map, slice_get, refl, ap, subst, arith, lt-ltb, le-leb, eq-eqb, le-ltb}
 use Rattle.std.proofs.lemmas.Bool.{cases_lt}
-use Rattle.flatgrammar.specs.Flat.{Node, Flat, Place, at, Begins, IsDone, Calling, IsTaking, Starts, starts, name_starts, Ends, ends, name_ends, Calls, calls, Takes, in_turns}
+use Rattle.flatgrammar.specs.Flat.{Node, Flat, Place, at, Begins, IsDone, Calling, IsTaking, Starts, starts}
+use Rattle.flatgrammar.specs.Flat.{name_starts, Ends, ends, name_ends, Calls, calls, Takes, in_turns}
 use Rattle.flatgrammar.specs.declared.flat_item.Item.{Item}
 use Rattle.flatgrammar.specs.declared.flat_node.Node as code_node
 use Rattle.flatgrammar.specs.declared.tables.Tables as code_flat
 use Rattle.flatgrammar.specs.FlatViews.{node_of}
 use Rattle.flatgrammar.specs.NodeSteps as meaning
 use Rattle.flatgrammar.specs.NodeSteps.{flat_of, is_done, callee, takes, begin_count}
-use Rattle.flatgrammar.specs.TableViews.{root_in, rooted, called_by, call_of, done_in, count_in, takes_in, takes_of, GiveRoots}
+use Rattle.flatgrammar.specs.TableViews.{root_in, rooted, called_by, call_of, done_in, count_in, takes_in, takes_of}
+use Rattle.flatgrammar.specs.TableViews.{GiveRoots}
 use Rattle.flatgrammar.specs.Blocks as blocks
 use Rattle.flatgrammar.specs.Roots.{Root, own, named}
 use Rattle.flatgrammar.proofs.NodeStepsLemmas.{callee_calling, done_is, begins_is, taking_takes, takes_taking}
@@ -45,7 +48,8 @@ calling_late (Calling.takes below) moves lt = absurd (omega (arith, lt))
 calling_late Calling.takes_uncounted moves lt = moves refl
 calling_late Calling.operand moves lt = absurd (omega (arith, lt))
 
-pub root_stands : {nodes : List Node} {bodies : List ℕ} {s t : ℕ} → Root nodes bodies s t → (node : Node) × (slice_get nodes t ≡ Some node)
+pub root_stands : {nodes : List Node} {bodies : List ℕ} {s t : ℕ} → Root nodes bodies s t → (node : Node)
+    × (slice_get nodes t ≡ Some node)
 root_stands (own {node = node} is differs) = (node, is)
 root_stands (named is at_r r) = root_stands r
 
@@ -88,7 +92,8 @@ pub record Unmapped {A B : Type 0} (f : A → B) (xs : List A) (k : ℕ) (y : B)
   pub at : slice_get xs k ≡ Some from
   pub is : f from ≡ y
 
-pub get_unmap : {A B : Type 0} (f : A → B) (xs : List A) (k : ℕ) (y : B) → slice_get (map f xs) k ≡ Some y → Unmapped f xs k y
+pub get_unmap : {A B : Type 0} (f : A → B) (xs : List A) (k : ℕ) (y : B) → slice_get (map f xs) k ≡ Some y
+    → Unmapped f xs k y
 get_unmap f [] k y h = absurd cc
 get_unmap f (x ∷ xs) zero y h = let same : f x ≡ y = cc in record { from = x; at = refl; is = same }
 get_unmap f (x ∷ xs) (suc k) y h = let u = get_unmap f xs k y h in record { from = u.from; at = u.at; is = u.is }
@@ -98,7 +103,8 @@ get_below [] k is = absurd cc
 get_below (x ∷ xs) zero is = omega arith
 get_below (x ∷ xs) (suc k) is = omega (arith, get_below xs k is)
 
-pub get_map : {A B : Type 0} (f : A → B) (xs : List A) (k : ℕ) {y : A} → slice_get xs k ≡ Some y → slice_get (map f xs) k ≡ Some (f y)
+pub get_map : {A B : Type 0} (f : A → B) (xs : List A) (k : ℕ) {y : A} → slice_get xs k ≡ Some y
+    → slice_get (map f xs) k ≡ Some (f y)
 get_map f [] k is = absurd cc
 get_map f (x ∷ xs) zero {y = y} is = let same : x ≡ y = cc in ap (λ v. Some (f v)) same
 get_map f (x ∷ xs) (suc k) is = get_map f xs k is
@@ -108,35 +114,44 @@ below_get [] k is = omega arith
 below_get (x ∷ xs) zero is = absurd cc
 below_get (x ∷ xs) (suc k) is = let le = below_get xs k is in omega (arith, le)
 
-starts_at_root : {flat : Flat} {s t k : ℕ} {node : Node} → Root flat.nodes flat.bodies s t → slice_get flat.nodes t ≡ Some node → Begins node k → Starts flat s (at t k)
+starts_at_root : {flat : Flat} {s t k : ℕ} {node : Node} → Root flat.nodes flat.bodies s t
+    → slice_get flat.nodes t ≡ Some node → Begins node k → Starts flat s (at t k)
 starts_at_root (own is differs) at_t b = starts at_t b
 starts_at_root (named is at_r root) at_t b = name_starts is at_r (starts_at_root root at_t b)
 
-ends_at_root : {flat : Flat} {s t k : ℕ} {node : Node} → Root flat.nodes flat.bodies s t → slice_get flat.nodes t ≡ Some node → IsDone node k → Ends flat (at t k) s
+ends_at_root : {flat : Flat} {s t k : ℕ} {node : Node} → Root flat.nodes flat.bodies s t
+    → slice_get flat.nodes t ≡ Some node → IsDone node k → Ends flat (at t k) s
 ends_at_root (own is differs) at_t d = ends at_t d
 ends_at_root (named is at_r root) at_t d = name_ends is at_r (ends_at_root root at_t d)
 
 -- the two words for a turn that takes a letter
-takes_by : (nodes : List code_node.Node) (n : ℕ) (o : Option code_node.Node) {node : Node} → slice_get nodes n ≡ o → slice_get (map node_of nodes) n ≡ Some node → IsTaking node → takes_in o ≡ true
+takes_by : (nodes : List code_node.Node) (n : ℕ) (o : Option code_node.Node) {node : Node} → slice_get nodes n ≡ o
+    → slice_get (map node_of nodes) n ≡ Some node → IsTaking node → takes_in o ≡ true
 takes_by nodes n None is at_n t = absurd (past nodes n is at_n)
   where
-    past : (nodes : List code_node.Node) (n : ℕ) {node : Node} → slice_get nodes n ≡ None → slice_get (map node_of nodes) n ≡ Some node → ⊥
+    past : (nodes : List code_node.Node) (n : ℕ) {node : Node} → slice_get nodes n ≡ None
+        → slice_get (map node_of nodes) n ≡ Some node → ⊥
     past [] n is at_n = absurd (cc at_n)
     past (x ∷ nodes) zero is at_n = absurd (cc is)
     past (x ∷ nodes) (suc n) is at_n = past nodes n is at_n
 takes_by nodes n (Some c) {node = node} is at_n t =
-    let same : node ≡ node_of c = cc (at_n, get_map node_of nodes n is) in subst (λ v. takes v ≡ true) same (taking_takes t)
+    let same : node ≡ node_of c = cc (at_n, get_map node_of nodes n is) in
+    subst (λ v. takes v ≡ true) same (taking_takes t)
 
-pub takes_true : (flat : code_flat.Tables) (n k i : ℕ) → Takes (flat_of flat) (at n k) → takes_of flat (record { node = n; step = k; origin = i }) ≡ true
+pub takes_true : (flat : code_flat.Tables) (n k i : ℕ) → Takes (flat_of flat) (at n k)
+    → takes_of flat (record { node = n; step = k; origin = i }) ≡ true
 takes_true flat n k i (in_turns is t) = takes_by flat.nodes.items n (slice_get flat.nodes.items n) refl is t
 
-true_by : (nodes : List code_node.Node) (bodies : List ℕ) (whole limit n k : ℕ) (o : Option code_node.Node) → slice_get nodes n ≡ o → takes_in o ≡ true →
+true_by : (nodes : List code_node.Node) (bodies : List ℕ) (whole limit n k : ℕ) (o : Option code_node.Node)
+    → slice_get nodes n ≡ o → takes_in o ≡ true →
     Takes (record { nodes = map node_of nodes; bodies = bodies; whole = whole; limit = limit }) (at n k)
 true_by nodes bodies whole limit n k None is h = absurd cc
 true_by nodes bodies whole limit n k (Some c) is h = in_turns (get_map node_of nodes n is) (takes_taking (node_of c) h)
 
-pub true_takes : (flat : code_flat.Tables) (n k i : ℕ) → takes_of flat (record { node = n; step = k; origin = i }) ≡ true → Takes (flat_of flat) (at n k)
-true_takes flat n k i h = true_by flat.nodes.items flat.bodies.items flat.whole flat.limit n k (slice_get flat.nodes.items n) refl h
+pub true_takes : (flat : code_flat.Tables) (n k i : ℕ) → takes_of flat (record { node = n; step = k; origin = i })
+    ≡ true → Takes (flat_of flat) (at n k)
+true_takes flat n k i h = true_by flat.nodes.items flat.bodies.items flat.whole flat.limit n k
+    (slice_get flat.nodes.items n) refl h
 
 module _ (flat : code_flat.Tables) (roots : GiveRoots (flat_of flat) flat.roots.items) where
   -- the node that a place calls, with its root
@@ -145,7 +160,8 @@ module _ (flat : code_flat.Tables) (roots : GiveRoots (flat_of flat) flat.roots.
     pub calls : Calls (flat_of flat) (at a.node a.step) callee (at a.node next)
     pub rooted : Root (flat_of flat).nodes (flat_of flat).bodies callee root
 
-  rooted_called : (a : Item) (s l root next : ℕ) (o : Option (Option ℕ)) → slice_get flat.roots.items s ≡ o → root_in o l ≡ Some (root, next) →
+  rooted_called : (a : Item) (s l root next : ℕ) (o : Option (Option ℕ)) → slice_get flat.roots.items s ≡ o
+      → root_in o l ≡ Some (root, next) →
       Calls (flat_of flat) (at a.node a.step) s (at a.node l) → Called a root next
   rooted_called a s l root next None is h c = absurd cc
   rooted_called a s l root next (Some None) is h c = absurd cc
@@ -153,35 +169,46 @@ module _ (flat : code_flat.Tables) (roots : GiveRoots (flat_of flat) flat.roots.
       let pair = pair_same h in
       let r_is : r ≡ root = ap (λ v. v.0) pair in
       let l_is : l ≡ next = ap (λ v. v.1) pair in
-      record { callee = s; calls = subst (λ v. Calls (flat_of flat) (at a.node a.step) s (at a.node v)) l_is c; rooted = subst (λ v. Root (flat_of flat).nodes (flat_of flat).bodies s v) r_is ((roots s r).0 is) }
+      record {
+        callee = s;
+        calls = subst (λ v. Calls (flat_of flat) (at a.node a.step) s (at a.node v)) l_is c;
+        rooted = subst (λ v. Root (flat_of flat).nodes (flat_of flat).bodies s v) r_is ((roots s r).0 is);
+      }
     where
       pair_same : {a b : ℕ × ℕ} → Some a ≡ Some b → a ≡ b
       pair_same h = cc
 
-  callee_called : (a : Item) (node : code_node.Node) (root next : ℕ) (o : Option (ℕ × ℕ)) → slice_get flat.nodes.items a.node ≡ Some node → callee (node_of node) a.step ≡ o →
+  callee_called : (a : Item) (node : code_node.Node) (root next : ℕ) (o : Option (ℕ × ℕ))
+      → slice_get flat.nodes.items a.node ≡ Some node → callee (node_of node) a.step ≡ o →
       rooted flat.roots.items o ≡ Some (root, next) → Called a root next
   callee_called a node root next None at_a is h = absurd cc
   callee_called a node root next (Some (s, l)) at_a is h =
       rooted_called a s l root next (slice_get flat.roots.items s) refl h
       (calls (get_map node_of flat.nodes.items a.node at_a) (callee_calling (node_of node) a.step s l is))
 
-  node_called : (a : Item) (root next : ℕ) (o : Option code_node.Node) → slice_get flat.nodes.items a.node ≡ o → called_by flat.roots.items o a.step ≡ Some (root, next) → Called a root next
+  node_called : (a : Item) (root next : ℕ) (o : Option code_node.Node) → slice_get flat.nodes.items a.node ≡ o
+      → called_by flat.roots.items o a.step ≡ Some (root, next) → Called a root next
   node_called a root next None is h = absurd cc
   node_called a root next (Some node) is h = callee_called a node root next (callee (node_of node) a.step) is refl h
 
   pub called_of : (a : Item) (root next : ℕ) → call_of flat a ≡ Some (root, next) → Called a root next
   called_of a root next h = node_called a root next (slice_get flat.nodes.items a.node) refl h
 
-  pub begun_starts : (root k s : ℕ) (o : Option code_node.Node) → slice_get flat.nodes.items root ≡ o → k < count_in o → Root (flat_of flat).nodes (flat_of flat).bodies s root → Starts (flat_of flat) s (at root k)
+  pub begun_starts : (root k s : ℕ) (o : Option code_node.Node) → slice_get flat.nodes.items root ≡ o → k < count_in o
+      → Root (flat_of flat).nodes (flat_of flat).bodies s root → Starts (flat_of flat) s (at root k)
   begun_starts root k s None is lt r = absurd (omega arith)
-  begun_starts root k s (Some node) is lt r = starts_at_root r (get_map node_of flat.nodes.items root is) (begins_is (node_of node) k lt)
+  begun_starts root k s (Some node) is lt r = starts_at_root r (get_map node_of flat.nodes.items root is)
+      (begins_is (node_of node) k lt)
 
-  pub done_ends : (t k s : ℕ) (o : Option code_node.Node) → slice_get flat.nodes.items t ≡ o → done_in o k ≡ true → Root (flat_of flat).nodes (flat_of flat).bodies s t → Ends (flat_of flat) (at t k) s
+  pub done_ends : (t k s : ℕ) (o : Option code_node.Node) → slice_get flat.nodes.items t ≡ o → done_in o k ≡ true
+      → Root (flat_of flat).nodes (flat_of flat).bodies s t → Ends (flat_of flat) (at t k) s
   done_ends t k s None is h r = absurd cc
-  done_ends t k s (Some node) is h r = ends_at_root r (get_map node_of flat.nodes.items t is) (done_is (node_of node) k h)
+  done_ends t k s (Some node) is h r = ends_at_root r (get_map node_of flat.nodes.items t is)
+      (done_is (node_of node) k h)
 
 module _ (flat : code_flat.Tables) where
-  pub calls_late : {s : ℕ} {q r : Place} → Calls (flat_of flat) q s r → (place_step r ≡ place_step q → ⊥) → place_step r < blocks.begin_count flat (place_node q) → ⊥
+  pub calls_late : {s : ℕ} {q r : Place} → Calls (flat_of flat) q s r → (place_step r ≡ place_step q → ⊥)
+      → place_step r < blocks.begin_count flat (place_node q) → ⊥
   calls_late (calls {s = s} {l = l} {node = node} is c) moves lt =
       let u = get_unmap node_of flat.nodes.items s node is in
       calling_late c moves (subst (λ v. l < meaning.begin_count v) u.is (subst (λ v. l < count_in v) u.at lt))

@@ -1,6 +1,7 @@
 -- The greatest number of a repetition, if it is within the limit.
 -- Serves: items_tell, lower, judge, lower_viable.
-use Rattle.std.proofs.Common.{◌≡◌, ℕ, suc, ◌<◌, ◌≤◌, Bool, true, false, leb, Option, Some, None, if◌then◌else◌, sym, refl, arith, ◌⊎◌, inl, inr, le-leb}
+use Rattle.std.proofs.Common.{◌≡◌, ℕ, suc, ◌<◌, ◌≤◌, Bool, true, false, leb, Option, Some, None, if◌then◌else◌, sym}
+use Rattle.std.proofs.Common.{refl, arith, ◌⊎◌, inl, inr, le-leb}
 use Rattle.std.proofs.lemmas.Bool.{cases_lt}
 use Rattle.abnfcheck.specs.Derivable.{Within}
 use Rattle.flatgrammar.specs.Lowered.{capped_most}
@@ -32,4 +33,5 @@ module _ (limit : ℕ) where
 
   pub counted_within : (j k n : ℕ) (b : Option ℕ) → Some n ≡ capped_most limit b → k < n → k ≡ j → Within (suc j) b
   counted_within j k n None is lt same = tt
-  counted_within j k n (Some m) is lt same = let one : Some m ≡ Some n = most_is (Some m) n is in let there : m ≡ n = cc one in omega (arith, there, lt, same)
+  counted_within j k n (Some m) is lt same = let one : Some m ≡ Some n = most_is (Some m) n is in let there : m ≡ n =
+      cc one in omega (arith, there, lt, same)

@@ -1,7 +1,8 @@
 -- Items whose origin is their own set pass no letter, and a nullable node is passed in any set.
 -- Serves: judge.
 use Rattle.std.proofs.Common.{◌≡◌, ℕ, Some, List, slice_get, subst, arith}
-use Rattle.flatgrammar.specs.Flat.{Flat, Node, Place, at, Begins, IsTaking, Takes, in_turns, Starts, starts, name_starts, Ends, ends, name_ends, Calls, calls}
+use Rattle.flatgrammar.specs.Flat.{Flat, Node, Place, at, Begins, IsTaking, Takes, in_turns, Starts, starts}
+use Rattle.flatgrammar.specs.Flat.{name_starts, Ends, ends, name_ends, Calls, calls}
 use Rattle.flatgrammar.specs.Holds.{Holds, begins, called, has_read, returned}
 use Rattle.flatgrammar.specs.Nullable.{Passes, begun, stepped, Nullable, done, named}
 use Rattle.flatgrammar.proofs.PlacesLemmas.{holds_origin}
@@ -18,7 +19,8 @@ module _ (flat : Flat) where
   ends_null (ends is d) passes = done passes is d
   ends_null (name_ends is at_r e) passes = named is at_r (ends_null e passes)
 
-  calls_pass : {s : ℕ} {q r : Place} → Calls flat q s r → (Takes flat q → ⊥) → PassesAt q → Nullable flat.nodes flat.bodies s → PassesAt r
+  calls_pass : {s : ℕ} {q r : Place} → Calls flat q s r → (Takes flat q → ⊥) → PassesAt q
+      → Nullable flat.nodes flat.bodies s → PassesAt r
   calls_pass (calls is c) free passes null = stepped passes is c (λ t. free (in_turns is t)) null
 
   module _ (x : List ℕ) where
@@ -32,7 +34,8 @@ module _ (flat : Flat) where
         let two = holds_origin flat g in
         let inner : k ≡ j = omega (arith, one, two, same) in
         let outer : i ≡ k = omega (arith, one, two, same) in
-        calls_pass c (λ t. let lt = takes t in absurd (omega (arith, lt, inner))) (stays g outer) (ends_null e (stays h inner))
+        calls_pass c (λ t. let lt = takes t in absurd (omega (arith, lt, inner))) (stays g outer)
+        (ends_null e (stays h inner))
 
     -- from a start to an end of a node, within set j
     pub record Through (s j : ℕ) : Type 0 where
@@ -49,11 +52,14 @@ module _ (flat : Flat) where
       begins : Begins node from
       run : Holds flat x j (at s from) j → Holds flat x j (at s k) j
 
-    over : {i j s : ℕ} {q r : Place} → Calls flat q s r → (Takes flat q → ⊥) → Through s j → Holds flat x j q i → Holds flat x j r i
+    over : {i j s : ℕ} {q r : Place} → Calls flat q s r → (Takes flat q → ⊥) → Through s j → Holds flat x j q i
+        → Holds flat x j r i
     over c free t h = returned (t.run (called h c t.start)) t.end h c (λ takes. elim (free takes) [ ])
 
-    free_at : {s k : ℕ} {node : Node} → slice_get flat.nodes s ≡ Some node → (IsTaking node → ⊥) → Takes flat (at s k) → ⊥
-    free_at is free (in_turns {node = node'} is' t) = free (let same : node' ≡ _ = cc (is, is') in subst IsTaking same t)
+    free_at : {s k : ℕ} {node : Node} → slice_get flat.nodes s ≡ Some node → (IsTaking node → ⊥)
+        → Takes flat (at s k) → ⊥
+    free_at is free (in_turns {node = node'} is' t) =
+        free (let same : node' ≡ _ = cc (is, is') in subst IsTaking same t)
 
     mutual
       passed : {s k : ℕ} → Passes flat.nodes flat.bodies s k → (j : ℕ) → Begun s k j
@@ -61,7 +67,13 @@ module _ (flat : Flat) where
       passed (stepped p is c free null) j =
           let b = passed p j in
           let t = through null j in
-          record { from = b.from; node = b.node; is = b.is; begins = b.begins; run = λ h. over (calls is c) (free_at is free) t (b.run h) }
+          record {
+            from = b.from;
+            node = b.node;
+            is = b.is;
+            begins = b.begins;
+            run = λ h. over (calls is c) (free_at is free) t (b.run h);
+          }
 
       pub through : {s : ℕ} → Nullable flat.nodes flat.bodies s → (j : ℕ) → Through s j
       through (done {s = s} {k = k} p is d) j =
@@ -69,8 +81,15 @@ module _ (flat : Flat) where
           record { from = at s b.from; to = at s k; start = starts b.is b.begins; end = ends is d; run = b.run }
       through (named is at_r null) j =
           let t = through null j in
-          record { from = t.from; to = t.to; start = name_starts is at_r t.start; end = name_ends is at_r t.end; run = t.run }
+          record {
+            from = t.from;
+            to = t.to;
+            start = name_starts is at_r t.start;
+            end = name_ends is at_r t.end;
+            run = t.run;
+          }
 
     -- a nullable node that is called is passed at once, but by a turn that takes a letter
-    pub pass : {i j s : ℕ} {q r : Place} → Holds flat x j q i → Calls flat q s r → (Takes flat q → ⊥) → Nullable flat.nodes flat.bodies s → Holds flat x j r i
+    pub pass : {i j s : ℕ} {q r : Place} → Holds flat x j q i → Calls flat q s r → (Takes flat q → ⊥)
+        → Nullable flat.nodes flat.bodies s → Holds flat x j r i
     pass {j = j} h c free null = over c free (through null j) h

@@ -1,6 +1,7 @@
 -- Blocks of heads, spot by spot, and that they are tables.
 -- Serves: lower, judge.
-use Rattle.std.proofs.Common.{◌≡◌, ◌↔◌, ℕ, zero, suc, ◌+◌, ◌++◌, ◌<◌, ◌≤◌, ◌⊎◌, inl, inr, true, false, Option, Some, None, List, [], ◌∷◌, length, set, slice_get, refl, sym, ◌∙◌, ap, subst, arith}
+use Rattle.std.proofs.Common.{◌≡◌, ◌↔◌, ℕ, zero, suc, ◌+◌, ◌++◌, ◌<◌, ◌≤◌, ◌⊎◌, inl, inr, true, false, Option, Some}
+use Rattle.std.proofs.Common.{None, List, [], ◌∷◌, length, set, slice_get, refl, sym, ◌∙◌, ap, subst, arith}
 use Rattle.std.proofs.lemmas.Bool.{cases_lt}
 use Rattle.flatgrammar.specs.Places.{In, AreDifferent}
 use Rattle.flatgrammar.specs.declared.block.Spot.{Spot}
@@ -11,7 +12,8 @@ use Rattle.flatgrammar.specs.declared.tables.Tables as code_flat
 use Rattle.flatgrammar.specs.declared.flat_node.Node as code_node
 use Rattle.flatgrammar.specs.TableViews.{call_of, count_in, whole_root, GiveRoots, null_of, takes_of}
 use Rattle.flatgrammar.specs.NodeSteps.{flat_of}
-use Rattle.flatgrammar.specs.Blocks.{Block, spot, item_at, inner_in, begin_count, call_at, Inside, IsPassing, IsBlock, block_in, block_of, IsHead, IsLate, AreTables, IsAlone}
+use Rattle.flatgrammar.specs.Blocks.{Block, spot, item_at, inner_in, begin_count, call_at, Inside, IsPassing, IsBlock}
+use Rattle.flatgrammar.specs.Blocks.{block_in, block_of, IsHead, IsLate, AreTables, IsAlone}
 use Rattle.flatgrammar.specs.Inners.{inner_at, home_or, home_in, AreInners}
 use Rattle.flatgrammar.specs.HeadBlocks.{IsCalled, IsPast, SomeOf, Grows, BeginsAt, IsAtHome, AreHeadBlocks}
 use Rattle.flatgrammar.proofs.CallOfLemmas.{past_get, called_of, calls_late, equal_or, some_same}
@@ -19,8 +21,12 @@ use Rattle.flatgrammar.proofs.InLemmas.{in_left, at_end, before_end, different_e
 use Rattle.flatgrammar.proofs.InnerLemmas.{set_same, set_other}
 
 -- a list with one more
-pub one_more : {A : Type 0} (xs ys : List A) (x : A) (Q : A → Type 0) → ys ≡ xs ++ x ∷ [] → ((a : A) → Q a ↔ (a ≡ x)) → (a : A) → In a ys ↔ (In a xs ⊎ Q a)
-one_more xs ys x Q is q a = ((λ h. to (before_end a x xs (subst (λ v. In a v) is h))), (λ h. subst (λ v. In a v) (sym is) (from h)))
+pub one_more : {A : Type 0} (xs ys : List A) (x : A) (Q : A → Type 0) → ys ≡ xs ++ x ∷ [] → ((a : A) → Q a ↔ (a ≡ x))
+    → (a : A) → In a ys ↔ (In a xs ⊎ Q a)
+one_more xs ys x Q is q a = (
+  (λ h. to (before_end a x xs (subst (λ v. In a v) is h))),
+  (λ h. subst (λ v. In a v) (sym is) (from h)),
+)
   where
     to : In a xs ⊎ (a ≡ x) → In a xs ⊎ Q a
     to (inl h) = inl h
@@ -38,13 +44,19 @@ no_more xs Q never a = ((λ h. inl h), (λ h. from h))
     from (inr h) = absurd (never a h)
 
 module _ (flat : code_flat.Tables) (inners : List (Option Inner)) where
-  pub called_one : (p : Spot) (t l : ℕ) → call_at flat p ≡ Some (t, l) → inner_at inners t ≡ None → (u : ℕ) → IsCalled flat inners p u ↔ (u ≡ t)
+  pub called_one : (p : Spot) (t l : ℕ) → call_at flat p ≡ Some (t, l) → inner_at inners t ≡ None → (u : ℕ)
+      → IsCalled flat inners p u ↔ (u ≡ t)
   called_one p t l call own u = (
     (λ c. ap (λ v. v.0) (some_same (sym c.call ∙ call))),
-    (λ same. record { next = l; call = call ∙ ap (λ v. Some (v, l)) (sym same); own = subst (λ v. inner_at inners v ≡ None) (sym same) own }),
+    (λ same. record {
+      next = l;
+      call = call ∙ ap (λ v. Some (v, l)) (sym same);
+      own = subst (λ v. inner_at inners v ≡ None) (sym same) own;
+    }),
   )
 
-  pub passed_one : (p : Spot) (t l : ℕ) → call_at flat p ≡ Some (t, l) → null_of flat t ≡ true → takes_of flat (item_at 0 p) ≡ false → (l ≡ p.step → ⊥) →
+  pub passed_one : (p : Spot) (t l : ℕ) → call_at flat p ≡ Some (t, l) → null_of flat t ≡ true
+      → takes_of flat (item_at 0 p) ≡ false → (l ≡ p.step → ⊥) →
       (r : Spot) → IsPast flat p r ↔ (r ≡ spot p.node l)
   passed_one p t l call null free moves r = (
     (λ c. same_spot c.node (ap (λ v. v.1) (some_same (sym c.call ∙ call)))),
@@ -82,7 +94,8 @@ module _ (flat : code_flat.Tables) (inners : List (Option Inner)) where
   back e = (e.1, e.0)
 
   -- one more spot
-  pub grows_one : (p : Spot) (old new : Block) → new.spots ≡ old.spots ++ p ∷ [] → ((t : ℕ) → In t new.calls ↔ (In t old.calls ⊎ IsCalled flat inners p t)) →
+  pub grows_one : (p : Spot) (old new : Block) → new.spots ≡ old.spots ++ p ∷ []
+      → ((t : ℕ) → In t new.calls ↔ (In t old.calls ⊎ IsCalled flat inners p t)) →
       ((r : Spot) → In r new.passes ↔ (In r old.passes ⊎ IsPast flat p r)) → Grows flat inners (λ q. q ≡ p) old new
   grows_one p old new is calls passes = record {
     spots = one_more old.spots new.spots p (λ q. q ≡ p) is (λ q. ((λ h. h), (λ h. h)));
@@ -100,12 +113,14 @@ module _ (flat : code_flat.Tables) (inners : List (Option Inner)) where
   }
 
   -- further spots
-  pub grows_then : (P Q R : Spot → Type 0) (a b c : Block) → ((p : Spot) → R p ↔ (P p ⊎ Q p)) → ((p : Spot) → P p → Q p → ⊥) → Grows flat inners P a b → Grows flat inners Q b c → Grows flat inners R a c
+  pub grows_then : (P Q R : Spot → Type 0) (a b c : Block) → ((p : Spot) → R p ↔ (P p ⊎ Q p))
+      → ((p : Spot) → P p → Q p → ⊥) → Grows flat inners P a b → Grows flat inners Q b c → Grows flat inners R a c
   grows_then P Q R a b c parts apart g h = record {
     spots = λ p. thrice (g.spots p) (h.spots p) (parts p);
     calls = λ t. thrice (g.calls t) (h.calls t) (some_parts (λ p. IsCalled flat inners p t));
     passes = λ r. thrice (g.passes r) (h.passes r) (some_parts (λ p. IsPast flat p r));
-    different = λ d far. h.different (g.different d (λ p is. far p ((parts p).1 (inl is)))) (λ p is i. between p is (((g.spots p).0) i) far);
+    different = λ d far. h.different (g.different d (λ p is. far p ((parts p).1 (inl is))))
+        (λ p is i. between p is (((g.spots p).0) i) far);
   }
     where
       thrice : {X Y Z V W U : Type 0} → Y ↔ (X ⊎ V) → Z ↔ (Y ⊎ W) → U ↔ (V ⊎ W) → Z ↔ (X ⊎ U)
@@ -142,9 +157,11 @@ module _ (flat : code_flat.Tables) (inners : List (Option Inner)) where
       between p q (inl i) far = far p ((parts p).1 (inr q)) i
       between p q (inr is) far = apart p is q
 
-  pub grows_as : (P Q : Spot → Type 0) (a b : Block) → ((p : Spot) → P p ↔ Q p) → Grows flat inners P a b → Grows flat inners Q a b
+  pub grows_as : (P Q : Spot → Type 0) (a b : Block) → ((p : Spot) → P p ↔ Q p) → Grows flat inners P a b
+      → Grows flat inners Q a b
   grows_as P Q a b same g =
-      grows_then P (λ p. ⊥) Q a b b (λ p. ((λ q. inl ((same p).1 q)), (λ s. from p s))) (λ p h none. none) g (grows_none (λ p. ⊥) b (λ p none. none))
+      grows_then P (λ p. ⊥) Q a b b (λ p. ((λ q. inl ((same p).1 q)), (λ s. from p s))) (λ p h none. none) g
+      (grows_none (λ p. ⊥) b (λ p none. none))
     where
       from : (p : Spot) → P p ⊎ ⊥ → Q p
       from p (inl h) = (same p).0 h
@@ -152,58 +169,88 @@ module _ (flat : code_flat.Tables) (inners : List (Option Inner)) where
 
   -- the first steps of a node, one more
   pub node_none : (n : ℕ) (block : Block) → Grows flat inners (λ p. (p.node ≡ n) × (p.step < 0)) block block
-  node_none n block = grows_none (λ p. (p.node ≡ n) × (p.step < 0)) block (λ p h. let lt = h.1 in absurd (omega (arith, lt)))
+  node_none n block = grows_none (λ p. (p.node ≡ n) × (p.step < 0)) block
+      (λ p h. let lt = h.1 in absurd (omega (arith, lt)))
 
-  pub node_more : (n k : ℕ) (a b c : Block) → Grows flat inners (λ p. (p.node ≡ n) × (p.step < k)) a b → Grows flat inners (λ q. q ≡ spot n k) b c →
+  pub node_more : (n k : ℕ) (a b c : Block) → Grows flat inners (λ p. (p.node ≡ n) × (p.step < k)) a b
+      → Grows flat inners (λ q. q ≡ spot n k) b c →
       Grows flat inners (λ p. (p.node ≡ n) × (p.step < k + 1)) a c
   node_more n k a b c g h =
-      grows_then (λ p. (p.node ≡ n) × (p.step < k)) (λ q. q ≡ spot n k) (λ p. (p.node ≡ n) × (p.step < k + 1)) a b c (λ p. ((λ r. to p r (cases_lt p.step k)), (λ s. from p s)))
+      grows_then (λ p. (p.node ≡ n) × (p.step < k)) (λ q. q ≡ spot n k) (λ p. (p.node ≡ n) × (p.step < k + 1)) a b c
+      (λ p. ((λ r. to p r (cases_lt p.step k)), (λ s. from p s)))
       (λ p r same. let lt = r.1 in let e : p.step ≡ k = ap (λ v. v.step) same in absurd (omega (arith, lt, e))) g h
     where
-      to : (p : Spot) → (p.node ≡ n) × (p.step < k + 1) → (p.step < k) ⊎ (k ≤ p.step) → ((p.node ≡ n) × (p.step < k)) ⊎ (p ≡ spot n k)
+      to : (p : Spot) → (p.node ≡ n) × (p.step < k + 1) → (p.step < k) ⊎ (k ≤ p.step) → ((p.node ≡ n) × (p.step < k))
+          ⊎ (p ≡ spot n k)
       to p r (inl lt) = inl (r.0, lt)
-      to p r (inr le) = let lt = r.1 in let e : p.step ≡ k = omega (arith, lt, le) in inr (ap (λ v. spot v p.step) r.0 ∙ ap (λ v. spot n v) e)
+      to p r (inr le) = let lt = r.1 in let e : p.step ≡ k = omega (arith, lt, le) in
+          inr (ap (λ v. spot v p.step) r.0 ∙ ap (λ v. spot n v) e)
 
       from : (p : Spot) → ((p.node ≡ n) × (p.step < k)) ⊎ (p ≡ spot n k) → (p.node ≡ n) × (p.step < k + 1)
       from p (inl r) = let lt = r.1 in (r.0, omega (arith, lt))
       from p (inr same) = let e : p.step ≡ k = ap (λ v. v.step) same in (ap (λ v. v.node) same, omega (arith, e))
 
-  pub node_done : (n k : ℕ) (a b : Block) → k ≡ begin_count flat n → Grows flat inners (λ p. (p.node ≡ n) × (p.step < k)) a b → Grows flat inners (BeginsAt flat n) a b
+  pub node_done : (n k : ℕ) (a b : Block) → k ≡ begin_count flat n
+      → Grows flat inners (λ p. (p.node ≡ n) × (p.step < k)) a b → Grows flat inners (BeginsAt flat n) a b
   node_done n k a b is g = subst (λ v. Grows flat inners (λ p. (p.node ≡ n) × (p.step < v)) a b) is g
 
   -- the blocks of the first nodes
-  pub blocks_none : (blocks : List code_block.Block) → ((h : ℕ) → block_in (slice_get blocks h) ≡ block_in None) → (h : ℕ) →
+  pub blocks_none : (blocks : List code_block.Block) → ((h : ℕ) → block_in (slice_get blocks h) ≡ block_in None)
+      → (h : ℕ) →
       Grows flat inners (λ p. (p.node < 0) × IsAtHome flat inners h p) (block_in None) (block_in (slice_get blocks h))
-  blocks_none blocks empty h = subst (λ v. Grows flat inners (λ p. (p.node < 0) × IsAtHome flat inners h p) (block_in None) v) (sym (empty h))
-      (grows_none (λ p. (p.node < 0) × IsAtHome flat inners h p) (block_in None) (λ p r. let lt = r.0 in absurd (omega (arith, lt))))
+  blocks_none blocks empty h = subst (λ v. Grows flat inners (λ p. (p.node < 0) × IsAtHome flat inners h p)
+      (block_in None) v) (sym (empty h))
+      (grows_none (λ p. (p.node < 0) × IsAtHome flat inners h p) (block_in None)
+      (λ p r. let lt = r.0 in absurd (omega (arith, lt))))
 
-  pub blocks_more : (n g : ℕ) (blocks : List code_block.Block) (old new : code_block.Block) → g ≡ home_in inners n → g < length blocks → slice_get blocks g ≡ Some old →
+  pub blocks_more : (n g : ℕ) (blocks : List code_block.Block) (old new : code_block.Block) → g ≡ home_in inners n
+      → g < length blocks → slice_get blocks g ≡ Some old →
       Grows flat inners (BeginsAt flat n) (block_in (Some old)) (block_in (Some new)) →
-      ((h : ℕ) → Grows flat inners (λ p. (p.node < n) × IsAtHome flat inners h p) (block_in None) (block_in (slice_get blocks h))) →
-      (h : ℕ) → Grows flat inners (λ p. (p.node < n + 1) × IsAtHome flat inners h p) (block_in None) (block_in (slice_get (set blocks g new) h))
+      ((h : ℕ) → Grows flat inners (λ p. (p.node < n) × IsAtHome flat inners h p) (block_in None)
+      (block_in (slice_get blocks h))) →
+      (h : ℕ) → Grows flat inners (λ p. (p.node < n + 1) × IsAtHome flat inners h p) (block_in None)
+      (block_in (slice_get (set blocks g new) h))
   blocks_more n g blocks old new home lt at grows are h = by (equal_or h g)
     where
-      by : (h ≡ g) ⊎ (h ≡ g → ⊥) → Grows flat inners (λ p. (p.node < n + 1) × IsAtHome flat inners h p) (block_in None) (block_in (slice_get (set blocks g new) h))
+      by : (h ≡ g) ⊎ (h ≡ g → ⊥) → Grows flat inners (λ p. (p.node < n + 1) × IsAtHome flat inners h p) (block_in None)
+          (block_in (slice_get (set blocks g new) h))
       by (inl same) =
-          let here : slice_get (set blocks g new) h ≡ Some new = ap (λ v. slice_get (set blocks g new) v) same ∙ set_same blocks g new lt in
+          let here : slice_get (set blocks g new) h ≡ Some new = ap (λ v. slice_get (set blocks g new) v) same
+          ∙ set_same blocks g new lt in
           let was : slice_get blocks h ≡ Some old = ap (λ v. slice_get blocks v) same ∙ at in
-          subst (λ v. Grows flat inners (λ p. (p.node < n + 1) × IsAtHome flat inners h p) (block_in None) (block_in v)) (sym here)
-          (grows_then (λ p. (p.node < n) × IsAtHome flat inners h p) (BeginsAt flat n) (λ p. (p.node < n + 1) × IsAtHome flat inners h p) (block_in None) (block_in (Some old)) (block_in (Some new))
-          (λ p. ((λ r. to p r (cases_lt p.node n)), (λ s. from p s))) (λ p r b. let less = r.0 in let e = b.0 in absurd (omega (arith, less, e)))
-          (subst (λ v. Grows flat inners (λ p. (p.node < n) × IsAtHome flat inners h p) (block_in None) (block_in v)) was (are h)) grows)
+          subst (λ v. Grows flat inners (λ p. (p.node < n + 1) × IsAtHome flat inners h p) (block_in None) (block_in v))
+          (sym here)
+          (grows_then (λ p. (p.node < n) × IsAtHome flat inners h p) (BeginsAt flat n)
+          (λ p. (p.node < n + 1) × IsAtHome flat inners h p) (block_in None) (block_in (Some old))
+          (block_in (Some new))
+          (λ p. ((λ r. to p r (cases_lt p.node n)), (λ s. from p s))) (λ p r b. let less = r.0 in let e = b.0 in
+          absurd (omega (arith, less, e)))
+          (subst (λ v. Grows flat inners (λ p. (p.node < n) × IsAtHome flat inners h p) (block_in None) (block_in v))
+          was (are h)) grows)
         where
-          to : (p : Spot) → (p.node < n + 1) × IsAtHome flat inners h p → (p.node < n) ⊎ (n ≤ p.node) → ((p.node < n) × IsAtHome flat inners h p) ⊎ BeginsAt flat n p
+          to : (p : Spot) → (p.node < n + 1) × IsAtHome flat inners h p → (p.node < n) ⊎ (n ≤ p.node)
+              → ((p.node < n) × IsAtHome flat inners h p) ⊎ BeginsAt flat n p
           to p r (inl less) = inl (less, r.1)
-          to p r (inr le) = let less = r.0 in let e : p.node ≡ n = omega (arith, less, le) in inr (e, subst (λ v. p.step < begin_count flat v) e r.1.1)
+          to p r (inr le) = let less = r.0 in let e : p.node ≡ n = omega (arith, less, le) in
+              inr (e, subst (λ v. p.step < begin_count flat v) e r.1.1)
 
-          from : (p : Spot) → ((p.node < n) × IsAtHome flat inners h p) ⊎ BeginsAt flat n p → (p.node < n + 1) × IsAtHome flat inners h p
+          from : (p : Spot) → ((p.node < n) × IsAtHome flat inners h p) ⊎ BeginsAt flat n p → (p.node < n + 1)
+              × IsAtHome flat inners h p
           from p (inl r) = let less = r.0 in (omega (arith, less), r.1)
-          from p (inr b) = let e = b.0 in
-              (omega (arith, e), (ap (λ v. home_in inners v) e ∙ (sym home ∙ sym same), subst (λ v. p.step < begin_count flat v) (sym e) b.1))
+          from p (inr b) = let e = b.0 in (
+            omega (arith, e),
+            (
+              ap (λ v. home_in inners v) e ∙ (sym home ∙ sym same),
+              subst (λ v. p.step < begin_count flat v) (sym e) b.1,
+            ),
+          )
       by (inr other) =
-          subst (λ v. Grows flat inners (λ p. (p.node < n + 1) × IsAtHome flat inners h p) (block_in None) (block_in v)) (sym (set_other blocks g h new other))
-          (grows_as (λ p. (p.node < n) × IsAtHome flat inners h p) (λ p. (p.node < n + 1) × IsAtHome flat inners h p) (block_in None) (block_in (slice_get blocks h))
-          (λ p. ((λ r. let less = r.0 in (omega (arith, less), r.1)), (λ r. (to p r (cases_lt p.node n), r.1)))) (are h))
+          subst (λ v. Grows flat inners (λ p. (p.node < n + 1) × IsAtHome flat inners h p) (block_in None) (block_in v))
+          (sym (set_other blocks g h new other))
+          (grows_as (λ p. (p.node < n) × IsAtHome flat inners h p) (λ p. (p.node < n + 1) × IsAtHome flat inners h p)
+          (block_in None) (block_in (slice_get blocks h))
+          (λ p. ((λ r. let less = r.0 in (omega (arith, less), r.1)), (λ r. (to p r (cases_lt p.node n), r.1))))
+          (are h))
         where
           to : (p : Spot) → (p.node < n + 1) × IsAtHome flat inners h p → (p.node < n) ⊎ (n ≤ p.node) → p.node < n
           to p r (inl less) = less
@@ -213,9 +260,11 @@ module _ (flat : code_flat.Tables) (inners : List (Option Inner)) where
               absurd (other (sym r.1.0 ∙ (ap (λ v. home_in inners v) e ∙ sym home)))
 
   pub blocks_done : (n : ℕ) (blocks : List code_block.Block) → length flat.nodes.items ≤ n →
-      ((h : ℕ) → Grows flat inners (λ p. (p.node < n) × IsAtHome flat inners h p) (block_in None) (block_in (slice_get blocks h))) → AreHeadBlocks flat inners blocks
+      ((h : ℕ) → Grows flat inners (λ p. (p.node < n) × IsAtHome flat inners h p) (block_in None)
+      (block_in (slice_get blocks h))) → AreHeadBlocks flat inners blocks
   blocks_done n blocks le are h =
-      grows_as (λ p. (p.node < n) × IsAtHome flat inners h p) (IsAtHome flat inners h) (block_in None) (block_in (slice_get blocks h)) (λ p. ((λ r. r.1), (λ r. (to p r.1, r)))) (are h)
+      grows_as (λ p. (p.node < n) × IsAtHome flat inners h p) (IsAtHome flat inners h) (block_in None)
+      (block_in (slice_get blocks h)) (λ p. ((λ r. r.1), (λ r. (to p r.1, r)))) (are h)
     where
       none : (o : Option code_node.Node) → o ≡ None → (k : ℕ) → k < count_in o → ⊥
       none None is k lt = absurd (omega (arith, lt))
@@ -226,19 +275,23 @@ module _ (flat : code_flat.Tables) (inners : List (Option Inner)) where
         where
           by : (p.node < n) ⊎ (n ≤ p.node) → p.node < n
           by (inl less) = less
-          by (inr more) = absurd (none (slice_get flat.nodes.items p.node) (past_get flat.nodes.items p.node (omega (arith, le, more))) p.step lt)
+          by (inr more) = absurd (none (slice_get flat.nodes.items p.node)
+              (past_get flat.nodes.items p.node (omega (arith, le, more))) p.step lt)
 
   -- a node's head is within the nodes
-  pub home_within : (n : ℕ) → ((t : ℕ) (inner : Inner) → inner_at inners t ≡ Some inner → inner.head < length flat.nodes.items) → n < length flat.nodes.items → home_in inners n < length flat.nodes.items
+  pub home_within : (n : ℕ) → ((t : ℕ) (inner : Inner) → inner_at inners t ≡ Some inner
+      → inner.head < length flat.nodes.items) → n < length flat.nodes.items → home_in inners n < length flat.nodes.items
   home_within n are lt = by (inner_at inners n) refl
     where
       by : (o : Option Inner) → inner_at inners n ≡ o → home_or o n < length flat.nodes.items
       by None is = lt
       by (Some i) is = are n i is
 
-module _ (flat : code_flat.Tables) (roots : GiveRoots (flat_of flat) flat.roots.items) (inners : List (Option Inner)) (are : AreInners flat inners)
+module _ (flat : code_flat.Tables) (roots : GiveRoots (flat_of flat) flat.roots.items) (inners : List (Option Inner))
+    (are : AreInners flat inners)
     (made : (h : ℕ) → Grows flat inners (IsAtHome flat inners h) (block_in None) (block_of flat h)) where
-  stands : (h : ℕ) (p : Spot) → home_in inners p.node ≡ h → p.step < begin_count flat p.node → In p (block_of flat h).spots
+  stands : (h : ℕ) (p : Spot) → home_in inners p.node ≡ h → p.step < begin_count flat p.node
+      → In p (block_of flat h).spots
   stands h p home lt = ((made h).spots p).1 (inr (home, lt))
 
   at_home : (h : ℕ) (p : Spot) → In p (block_of flat h).spots → IsAtHome flat inners h p
@@ -262,51 +315,81 @@ module _ (flat : code_flat.Tables) (roots : GiveRoots (flat_of flat) flat.roots.
   chain zero t k le lt =
       let past : inner_at inners t ≡ None = ap (λ v. inner_in v) (past_get inners t (omega (arith, le))) in
       subst (λ v. Inside flat v (spot t k)) (sym (home_own t past)) (Inside.begun lt)
-  chain (suc fuel) t k le lt = by (inner_at inners t) refl (λ i is. let up = (are t i is).above in chain fuel i.node i.step (omega (arith, le, up)) (are t i is).begins)
+  chain (suc fuel) t k le lt = by (inner_at inners t) refl
+      (λ i is. let up = (are t i is).above in chain fuel i.node i.step (omega (arith, le, up)) (are t i is).begins)
     where
-      by : (o : Option Inner) → inner_at inners t ≡ o → ((i : Inner) → inner_at inners t ≡ Some i → Inside flat (home_in inners i.node) (spot i.node i.step)) → Inside flat (home_in inners t) (spot t k)
+      by : (o : Option Inner) → inner_at inners t ≡ o
+          → ((i : Inner) → inner_at inners t ≡ Some i → Inside flat (home_in inners i.node) (spot i.node i.step))
+          → Inside flat (home_in inners t) (spot t k)
       by None is rec = subst (λ v. Inside flat v (spot t k)) (sym (home_own t is)) (Inside.begun lt)
-      by (Some i) is rec = subst (λ v. Inside flat v (spot t k)) (sym (home_up t i is)) (Inside.called (rec i is) (are t i is).call lt)
+      by (Some i) is rec = subst (λ v. Inside flat v (spot t k)) (sym (home_up t i is))
+          (Inside.called (rec i is) (are t i is).call lt)
 
   called_in : (h : ℕ) (from : Spot) (t l : ℕ) → In from (block_of flat h).spots → call_at flat from ≡ Some (t, l) →
       In t (block_of flat h).calls ⊎ ((k : ℕ) → k < begin_count flat t → In (spot t k) (block_of flat h).spots)
   called_in h from t l lies call = by (inner_at inners t) refl
     where
-      by : (o : Option Inner) → inner_at inners t ≡ o → In t (block_of flat h).calls ⊎ ((k : ℕ) → k < begin_count flat t → In (spot t k) (block_of flat h).spots)
-      by None is = inl (((made h).calls t).1 (inr (record { spot = from; stands = at_home h from lies; is = record { next = l; call = call; own = is } })))
+      by : (o : Option Inner) → inner_at inners t ≡ o → In t (block_of flat h).calls
+          ⊎ ((k : ℕ) → k < begin_count flat t → In (spot t k) (block_of flat h).spots)
+      by None is = inl (((made h).calls t).1 (inr (record {
+        spot = from;
+        stands = at_home h from lies;
+        is = record { next = l; call = call; own = is };
+      })))
       by (Some i) is =
           let only = (are t i is).only from.node from.step l call in
-          inr (λ k lt. stands h (spot t k) (home_up t i is ∙ (ap (λ v. home_in inners v) only.0 ∙ (at_home h from lies).0)) lt)
+          inr (λ k lt. stands h (spot t k) (home_up t i is
+          ∙ (ap (λ v. home_in inners v) only.0 ∙ (at_home h from lies).0)) lt)
 
-  calling_from : (h t : ℕ) → In t (block_of flat h).calls → SomeOf (IsAtHome flat inners h) (λ p. IsCalled flat inners p t)
+  calling_from : (h t : ℕ) → In t (block_of flat h).calls
+      → SomeOf (IsAtHome flat inners h) (λ p. IsCalled flat inners p t)
   calling_from h t i = by (((made h).calls t).0 i)
     where
-      by : In t [] ⊎ SomeOf (IsAtHome flat inners h) (λ p. IsCalled flat inners p t) → SomeOf (IsAtHome flat inners h) (λ p. IsCalled flat inners p t)
+      by : In t [] ⊎ SomeOf (IsAtHome flat inners h) (λ p. IsCalled flat inners p t)
+          → SomeOf (IsAtHome flat inners h) (λ p. IsCalled flat inners p t)
       by (inl none) = elim none [ ]
       by (inr s) = s
 
-  passing_from : (h : ℕ) (r : Spot) → In r (block_of flat h).passes → SomeOf (IsAtHome flat inners h) (λ p. IsPast flat p r)
+  passing_from : (h : ℕ) (r : Spot) → In r (block_of flat h).passes
+      → SomeOf (IsAtHome flat inners h) (λ p. IsPast flat p r)
   passing_from h r i = by (((made h).passes r).0 i)
     where
-      by : In r [] ⊎ SomeOf (IsAtHome flat inners h) (λ p. IsPast flat p r) → SomeOf (IsAtHome flat inners h) (λ p. IsPast flat p r)
+      by : In r [] ⊎ SomeOf (IsAtHome flat inners h) (λ p. IsPast flat p r)
+          → SomeOf (IsAtHome flat inners h) (λ p. IsPast flat p r)
       by (inl none) = elim none [ ]
       by (inr s) = s
 
   head_block : (h : ℕ) → IsHead flat h → IsBlock flat h (block_of flat h)
   head_block h head = record {
     begun = head;
-    inside = λ p i. let at = at_home h p i in subst (λ v. Inside flat v p) at.0 (chain (length inners) p.node p.step (omega arith) at.1);
+    inside = λ p i. let at = at_home h p i in subst (λ v. Inside flat v p) at.0
+        (chain (length inners) p.node p.step (omega arith) at.1);
     called = λ t c. called_in h c.from t c.next c.stands c.call;
-    calls = λ t i. let s = calling_from h t i in record { from = s.spot; stands = stands h s.spot s.stands.0 s.stands.1; next = s.is.next; call = s.is.call };
+    calls = λ t i. let s = calling_from h t i in record {
+      from = s.spot;
+      stands = stands h s.spot s.stands.0 s.stands.1;
+      next = s.is.next;
+      call = s.is.call;
+    };
     passed = λ r p. passed r p (equal_or r.step p.from.step);
     passes = λ r i. let s = passing_from h r i in
-        record { from = s.spot; stands = stands h s.spot s.stands.0 s.stands.1; root = s.is.root; call = s.is.call; null = s.is.null; free = s.is.free; node = s.is.node };
+        record {
+          from = s.spot;
+          stands = stands h s.spot s.stands.0 s.stands.1;
+          root = s.is.root;
+          call = s.is.call;
+          null = s.is.null;
+          free = s.is.free;
+          node = s.is.node;
+        };
     late = λ r i lt. let s = passing_from h r i in
-        calls_late flat (called_of flat roots (item_at 0 s.spot) s.is.root r.step s.is.call).calls s.is.moves (subst (λ v. r.step < begin_count flat v) s.is.node lt);
+        calls_late flat (called_of flat roots (item_at 0 s.spot) s.is.root r.step s.is.call).calls s.is.moves
+        (subst (λ v. r.step < begin_count flat v) s.is.node lt);
     different = (made h).different tt (λ p is i. elim i [ ]);
   }
     where
-      passed : (r : Spot) (p : IsPassing flat (block_of flat h).spots r) → (r.step ≡ p.from.step) ⊎ (r.step ≡ p.from.step → ⊥) → In r (block_of flat h).passes ⊎ In r (block_of flat h).spots
+      passed : (r : Spot) (p : IsPassing flat (block_of flat h).spots r) → (r.step ≡ p.from.step)
+          ⊎ (r.step ≡ p.from.step → ⊥) → In r (block_of flat h).passes ⊎ In r (block_of flat h).spots
       passed r p (inl same) =
           let is : r ≡ p.from = ap (λ v. spot v r.step) p.node ∙ ap (λ v. spot p.from.node v) same in
           inr (subst (λ v. In v (block_of flat h).spots) (sym is) p.stands)
@@ -323,10 +406,12 @@ module _ (flat : code_flat.Tables) (roots : GiveRoots (flat_of flat) flat.roots.
       by None is late = is_head t is
       by (Some i) is (inl over) =
           let only = (are t i is).only a.node a.step l call in
-          absurd (over (subst (λ v. a.step < begin_count flat v) only.0 (subst (λ v. v < begin_count flat i.node) only.1 (are t i is).begins)))
+          absurd (over (subst (λ v. a.step < begin_count flat v) only.0
+          (subst (λ v. v < begin_count flat i.node) only.1 (are t i is).begins)))
       by (Some i) is (inr back) =
           let only = (are t i is).only a.node a.step l call in
-          let here : call_at flat (spot i.node i.step) ≡ call_of flat a = ap (λ v. call_at flat (spot v i.step)) only.0 ∙ ap (λ v. call_at flat (spot a.node v)) only.1 in
+          let here : call_at flat (spot i.node i.step) ≡ call_of flat a = ap (λ v. call_at flat (spot v i.step)) only.0
+          ∙ ap (λ v. call_at flat (spot a.node v)) only.1 in
           let next : i.next ≡ a.step = ap (λ v. v.1) (some_same (sym (are t i is).call ∙ (here ∙ back.1))) in
           absurd ((are t i is).moves (next ∙ sym only.1))
 

@@ -1,6 +1,7 @@
 -- The ids of names, in whatever case.
 -- Serves: lower.
-use Rattle.std.proofs.Common.{◌≡◌, ℕ, ◌+◌, ◌≤◌, Bool, true, false, cond, nat_lt, List, length, map, Option, Some, None, refl, sym, ◌∙◌, arith}
+use Rattle.std.proofs.Common.{◌≡◌, ℕ, ◌+◌, ◌≤◌, Bool, true, false, cond, nat_lt, List, length, map, Option, Some, None}
+use Rattle.std.proofs.Common.{refl, sym, ◌∙◌, arith}
 use Rattle.std.specs.Prelude.{unwrap_or}
 use Rattle.std.specs.List.{position_or_len}
 use Rattle.std.proofs.lemmas.Bool.Decides.{nat_tests}
@@ -13,7 +14,8 @@ use Rattle.abnfread.specs.declared.elem.Elem.{Elem}
 use Rattle.abnfread.specs.Element.{id_of}
 use Rattle.abnfread.specs.AbnfViews.{rule_of, rules_of}
 
-first_id : (rules : List (table.Rule Elem)) (name : List ℕ) → id_of (map rule_of rules) name ≡ position_or_len (λ rule. same_name Fold name rule.name) rules
+first_id : (rules : List (table.Rule Elem)) (name : List ℕ) → id_of (map rule_of rules) name ≡ position_or_len
+    (λ rule. same_name Fold name rule.name) rules
 first_id rules name =
     is_position_or_len (λ rs. id_of (map rule_of rs) name) (λ rule. same_name Fold name rule.name) refl
     (λ rule rs. step (same_name Fold name rule.name) (id_of (map rule_of rs) name)) rules
@@ -27,9 +29,11 @@ place_or : (b : Bool) (k n : ℕ) → (b ≡ false → k ≡ n) → unwrap_or (c
 place_or true k n h = refl
 place_or false k n h = sym (h refl)
 
-pub id_found : (rules : table.Rules Elem) (name : List ℕ) (found : Option ℕ) (count : ℕ) → rules.names ≡ Fold → found ≡ find_in rules name → count ≡ length rules.rules →
+pub id_found : (rules : table.Rules Elem) (name : List ℕ) (found : Option ℕ) (count : ℕ) → rules.names ≡ Fold
+    → found ≡ find_in rules name → count ≡ length rules.rules →
     unwrap_or found count ≡ id_of (rules_of rules) name
 id_found rules name found count folds is all =
     let first = position_or_len (λ rule. same_name Fold name rule.name) rules.rules in
     let most : first ≤ length rules.rules = prefix_len-le-length _ rules.rules in
-    rw (is, all, folds) (place_or (nat_lt first (length rules.rules)) first (length rules.rules) (λ past. grind (arith, nat_tests)) ∙ sym (first_id rules.rules name))
+    rw (is, all, folds) (place_or (nat_lt first (length rules.rules)) first (length rules.rules)
+    (λ past. grind (arith, nat_tests)) ∙ sym (first_id rules.rules name))

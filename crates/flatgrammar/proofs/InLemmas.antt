@@ -1,6 +1,7 @@
 -- Members of a list by their index.
 -- Serves: judge.
-use Rattle.std.proofs.Common.{◌≡◌, ℕ, zero, suc, ◌+◌, ◌<◌, ◌≤◌, ◌⊎◌, inl, inr, List, [], ◌∷◌, ◌++◌, length, take, slice_index_or, refl, sym, subst, arith}
+use Rattle.std.proofs.Common.{◌≡◌, ℕ, zero, suc, ◌+◌, ◌<◌, ◌≤◌, ◌⊎◌, inl, inr, List, [], ◌∷◌, ◌++◌, length, take}
+use Rattle.std.proofs.Common.{slice_index_or, refl, sym, subst, arith}
 use Rattle.flatgrammar.specs.Places.{In, now, on, AreDifferent}
 
 pub at_index_in : {A : Type 0} (xs : List A) (k : ℕ) (d : A) → k < length xs → In (slice_index_or xs k d) xs
@@ -9,7 +10,8 @@ at_index_in (x ∷ xs) zero d lt = now refl
 at_index_in (x ∷ xs) (suc k) d lt = let less : k < length xs = omega arith in on (at_index_in xs k d less)
 
 -- a member of one more
-pub among_more : {A : Type 0} (a : A) (xs : List A) (k : ℕ) (d : A) → k < length xs → In a (take (suc k) xs) → In a (take k xs) ⊎ (a ≡ slice_index_or xs k d)
+pub among_more : {A : Type 0} (a : A) (xs : List A) (k : ℕ) (d : A) → k < length xs → In a (take (suc k) xs)
+    → In a (take k xs) ⊎ (a ≡ slice_index_or xs k d)
 among_more a [] k d lt h = absurd (omega arith)
 among_more a (x ∷ xs) zero d lt (now same) = inr same
 among_more a (x ∷ xs) zero d lt (on h) = elim h [ ]
@@ -20,7 +22,8 @@ among_more a (x ∷ xs) (suc k) d lt (on h) = by (let less : k < length xs = ome
     by (inl g) = inl (on g)
     by (inr same) = inr same
 
-pub none_more : {A : Type 0} (a : A) (xs : List A) (k : ℕ) (d : A) → k < length xs → (In a (take k xs) → ⊥) → (a ≡ slice_index_or xs k d → ⊥) → In a (take (k + 1) xs) → ⊥
+pub none_more : {A : Type 0} (a : A) (xs : List A) (k : ℕ) (d : A) → k < length xs → (In a (take k xs) → ⊥)
+    → (a ≡ slice_index_or xs k d → ⊥) → In a (take (k + 1) xs) → ⊥
 none_more a xs k d lt apart differs h =
     let one : k + 1 ≡ suc k = omega arith in
     by (among_more a xs k d lt (subst (λ v. In a (take v xs)) one h))

@@ -1,6 +1,8 @@
 -- Nodes that one place alone calls.
 -- Serves: lower, judge.
-use Rattle.std.proofs.Common.{◌≡◌, ℕ, zero, suc, ◌+◌, ◌<◌, ◌≤◌, ◌⊎◌, inl, inr, Option, Some, None, List, [], ◌∷◌, length, set, slice_get, slice_index_or, IfSome, ltb, eqb, eqb-true, Bool, true, false, if◌then◌else◌, refl, sym, ◌∙◌, ap, subst, arith}
+use Rattle.std.proofs.Common.{◌≡◌, ℕ, zero, suc, ◌+◌, ◌<◌, ◌≤◌, ◌⊎◌, inl, inr, Option, Some, None, List, [], ◌∷◌}
+use Rattle.std.proofs.Common.{length, set, slice_get, slice_index_or, IfSome, ltb, eqb, eqb-true, Bool, true, false}
+use Rattle.std.proofs.Common.{if◌then◌else◌, refl, sym, ◌∙◌, ap, subst, arith}
 use Rattle.std.proofs.lemmas.Bool.{cases_lt}
 use Rattle.flatgrammar.specs.Flat.{Node, Letters, Concat, Alt, Rep, Turns, Opt, Name, Nothing}
 use Rattle.flatgrammar.specs.FlatViews.{node_of}
@@ -19,17 +21,20 @@ callee_cases : (node : Node) (k s l : ℕ) → callee node k ≡ Some (s, l) →
 callee_cases (Letters sets) k s l is = absurd cc
 callee_cases (Concat ms) k s l is = by (slice_get ms k) refl is
   where
-    by : (o : Option ℕ) → slice_get ms k ≡ o → with_next o (k + 1) ≡ Some (s, l) → (k < length ms) ⊎ (turned (Concat ms) ≡ Some s)
+    by : (o : Option ℕ) → slice_get ms k ≡ o → with_next o (k + 1) ≡ Some (s, l) → (k < length ms)
+        ⊎ (turned (Concat ms) ≡ Some s)
     by None at h = absurd cc
     by (Some m) at h = inl (get_below ms k at)
 callee_cases (Alt ms) k s l is = by (slice_get ms k) refl is
   where
-    by : (o : Option ℕ) → slice_get ms k ≡ o → with_next o (length ms + k) ≡ Some (s, l) → (k < length ms) ⊎ (turned (Alt ms) ≡ Some s)
+    by : (o : Option ℕ) → slice_get ms k ≡ o → with_next o (length ms + k) ≡ Some (s, l) → (k < length ms)
+        ⊎ (turned (Alt ms) ≡ Some s)
     by None at h = absurd cc
     by (Some m) at h = inl (get_below ms k at)
 callee_cases (Rep a None m) k s l is = inr (by (ltb k a) (eqb k a) is)
   where
-    by : (c d : Bool) → if◌then◌else◌ {A = Option (ℕ × ℕ)} c (Some (m, k + 1)) (if◌then◌else◌ {A = Option (ℕ × ℕ)} d (Some (m, a)) None) ≡ Some (s, l) → Some m ≡ Some s
+    by : (c d : Bool) → if◌then◌else◌ {A = Option (ℕ × ℕ)} c (Some (m, k + 1))
+        (if◌then◌else◌ {A = Option (ℕ × ℕ)} d (Some (m, a)) None) ≡ Some (s, l) → Some m ≡ Some s
     by true d h = ap (λ v. Some v) (ap (λ v. v.0) (some_same h))
     by false true h = ap (λ v. Some v) (ap (λ v. v.0) (some_same h))
     by false false h = absurd cc
@@ -57,8 +62,10 @@ callee_cases (Name r) k s l is = absurd cc
 callee_cases Nothing k s l is = absurd cc
 
 -- what a place calls is the root of a first step's member, or of the operand of turns
-pub called_cases : (flat : code_flat.Tables) (node : code_node.Node) (n k t l : ℕ) → slice_get flat.nodes.items n ≡ Some node → call_at flat (spot n k) ≡ Some (t, l) →
-    (k < call_count (node_of node)) ⊎ ((m : ℕ) × (turned (node_of node) ≡ Some m) × (root_in (slice_get flat.roots.items m) l ≡ Some (t, l)))
+pub called_cases : (flat : code_flat.Tables) (node : code_node.Node) (n k t l : ℕ) → slice_get flat.nodes.items n
+    ≡ Some node → call_at flat (spot n k) ≡ Some (t, l) →
+    (k < call_count (node_of node)) ⊎ ((m : ℕ) × (turned (node_of node) ≡ Some m)
+    × (root_in (slice_get flat.roots.items m) l ≡ Some (t, l)))
 called_cases flat node n k t l at call =
     by (callee (node_of node) k) refl (subst (λ v. called_by flat.roots.items v k ≡ Some (t, l)) at call)
   where
@@ -67,32 +74,39 @@ called_cases flat node n k t l at call =
     next (Some None) m h = absurd cc
     next (Some (Some r)) m h = ap (λ v. Some (v, l)) (ap (λ v. v.0) (some_same h))
 
-    or : (s m : ℕ) → root_in (slice_get flat.roots.items s) m ≡ Some (t, l) → (k < call_count (node_of node)) ⊎ (turned (node_of node) ≡ Some s) →
-        (k < call_count (node_of node)) ⊎ ((m : ℕ) × (turned (node_of node) ≡ Some m) × (root_in (slice_get flat.roots.items m) l ≡ Some (t, l)))
+    or : (s m : ℕ) → root_in (slice_get flat.roots.items s) m ≡ Some (t, l) → (k < call_count (node_of node))
+        ⊎ (turned (node_of node) ≡ Some s) →
+        (k < call_count (node_of node)) ⊎ ((m : ℕ) × (turned (node_of node) ≡ Some m)
+        × (root_in (slice_get flat.roots.items m) l ≡ Some (t, l)))
     or s m h (inl lt) = inl lt
     or s m h (inr is) = inr (s, is, next (slice_get flat.roots.items s) m h)
 
     by : (o : Option (ℕ × ℕ)) → callee (node_of node) k ≡ o → rooted flat.roots.items o ≡ Some (t, l) →
-        (k < call_count (node_of node)) ⊎ ((m : ℕ) × (turned (node_of node) ≡ Some m) × (root_in (slice_get flat.roots.items m) l ≡ Some (t, l)))
+        (k < call_count (node_of node)) ⊎ ((m : ℕ) × (turned (node_of node) ≡ Some m)
+        × (root_in (slice_get flat.roots.items m) l ≡ Some (t, l)))
     by None is h = absurd cc
     by (Some (s, m)) is h = or s m h (callee_cases (node_of node) k s m is)
 
 -- a node that is not there calls nothing
-pub none_called : (flat : code_flat.Tables) (n k t l : ℕ) → slice_get flat.nodes.items n ≡ None → call_at flat (spot n k) ≡ Some (t, l) → ⊥
+pub none_called : (flat : code_flat.Tables) (n k t l : ℕ) → slice_get flat.nodes.items n ≡ None
+    → call_at flat (spot n k) ≡ Some (t, l) → ⊥
 none_called flat n k t l at call = never (subst (λ v. called_by flat.roots.items v k ≡ Some (t, l)) at call)
   where
     never : ◌≡◌ {A = Option (ℕ × ℕ)} None (Some (t, l)) → ⊥
     never h = absurd cc
 
 -- the value at an index
-pub read_at : {A : Type 0} (xs : List A) (k : ℕ) (v : A) → k < length xs → v ≡ slice_index_or xs k v → slice_get xs k ≡ Some v
+pub read_at : {A : Type 0} (xs : List A) (k : ℕ) (v : A) → k < length xs → v ≡ slice_index_or xs k v
+    → slice_get xs k ≡ Some v
 read_at [] k v lt is = absurd (omega (arith, lt))
 read_at (x ∷ xs) zero v lt is = ap (λ w. Some w) (sym is)
 read_at (x ∷ xs) (suc k) v lt is = read_at xs k v (let less : k < length xs = omega (arith, lt) in less) is
 
-pub allowed_at : (flat : code_flat.Tables) (callers : List Caller) (t : ℕ) (caller : Caller) → AreCallers flat callers → t < length callers → caller ≡ slice_index_or callers t caller →
+pub allowed_at : (flat : code_flat.Tables) (callers : List Caller) (t : ℕ) (caller : Caller) → AreCallers flat callers
+    → t < length callers → caller ≡ slice_index_or callers t caller →
     (n k l : ℕ) → call_at flat (spot n k) ≡ Some (t, l) → allows caller n k
-allowed_at flat callers t caller are lt is n k l call = subst (λ v. allows_in v n k) (read_at callers t caller lt is) (are n k t l call)
+allowed_at flat callers t caller are lt is n k l call = subst (λ v. allows_in v n k) (read_at callers t caller lt is)
+    (are n k t l call)
 
 pub set_same : {A : Type 0} (xs : List A) (i : ℕ) (v : A) → i < length xs → slice_get (set xs i v) i ≡ Some v
 set_same [] i v lt = absurd (omega (arith, lt))
@@ -106,7 +120,8 @@ set_other (x ∷ xs) zero (suc j) v other = refl
 set_other (x ∷ xs) (suc i) zero v other = refl
 set_other (x ∷ xs) (suc i) (suc j) v other = set_other xs i j v (λ same. other (ap suc same))
 
-module _ (flat : code_flat.Tables) (inners : List (Option Inner)) (n : ℕ) (inner : Option Inner) (lt : n < length inners) where
+module _ (flat : code_flat.Tables) (inners : List (Option Inner)) (n : ℕ) (inner : Option Inner)
+    (lt : n < length inners) where
   -- what is said of a node looks only at nodes above
   inner_set : (t : ℕ) (i : Inner) → n ≤ t → IsInner flat inners t i → IsInner flat (set inners n inner) t i
   inner_set t i le is =
@@ -119,10 +134,12 @@ module _ (flat : code_flat.Tables) (inners : List (Option Inner)) (n : ℕ) (inn
         moves = is.moves;
         whole = is.whole;
         only = is.only;
-        home = is.home ∙ sym (ap (λ v. home_or (inner_in v) i.node) (set_other inners n i.node inner (λ same. absurd (omega (arith, same, up, le)))));
+        home = is.home ∙ sym (ap (λ v. home_or (inner_in v) i.node)
+            (set_other inners n i.node inner (λ same. absurd (omega (arith, same, up, le)))));
       }
 
-  pub inners_set : (m : ℕ) → m ≡ n + 1 → ((t : ℕ) → t < m → inner_at inners t ≡ None) → AreInners flat inners → IfSome inner (λ i. IsInner flat inners n i) →
+  pub inners_set : (m : ℕ) → m ≡ n + 1 → ((t : ℕ) → t < m → inner_at inners t ≡ None) → AreInners flat inners
+      → IfSome inner (λ i. IsInner flat inners n i) →
       AreInners flat (set inners n inner)
   inners_set m m_is low are here t i is = by (equal_or t n)
     where
@@ -135,11 +152,15 @@ module _ (flat : code_flat.Tables) (inners : List (Option Inner)) (n : ℕ) (inn
 
       by : (t ≡ n) ⊎ (t ≡ n → ⊥) → IsInner flat (set inners n inner) t i
       by (inl same) =
-          let at : inner ≡ Some i = ap (λ v. inner_in v) (sym (set_same inners n inner lt)) ∙ (ap (λ v. inner_at (set inners n inner) v) (sym same) ∙ is) in
-          subst (λ v. IsInner flat (set inners n inner) v i) (sym same) (inner_set n i (omega arith) (subst (λ v. IfSome v (λ j. IsInner flat inners n j)) at here))
+          let at : inner ≡ Some i = ap (λ v. inner_in v) (sym (set_same inners n inner lt))
+          ∙ (ap (λ v. inner_at (set inners n inner) v) (sym same) ∙ is) in
+          subst (λ v. IsInner flat (set inners n inner) v i) (sym same)
+          (inner_set n i (omega arith) (subst (λ v. IfSome v (λ j. IsInner flat inners n j)) at here))
       by (inr other) =
           let at : inner_at inners t ≡ Some i = ap (λ v. inner_in v) (sym (set_other inners n t inner other)) ∙ is in
           inner_set t i (high (cases_lt t m) at) (are t i at)
 
-  pub low_set : (m : ℕ) → m ≡ n + 1 → ((t : ℕ) → t < m → inner_at inners t ≡ None) → (t : ℕ) → t < n → inner_at (set inners n inner) t ≡ None
-  low_set m m_is low t less = ap (λ v. inner_in v) (set_other inners n t inner (λ same. absurd (omega (arith, same, less)))) ∙ low t (omega (arith, less, m_is))
+  pub low_set : (m : ℕ) → m ≡ n + 1 → ((t : ℕ) → t < m → inner_at inners t ≡ None) → (t : ℕ) → t < n
+      → inner_at (set inners n inner) t ≡ None
+  low_set m m_is low t less = ap (λ v. inner_in v)
+      (set_other inners n t inner (λ same. absurd (omega (arith, same, less)))) ∙ low t (omega (arith, less, m_is))

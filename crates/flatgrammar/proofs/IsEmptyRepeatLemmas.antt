@@ -13,24 +13,31 @@ none : (xs : List ℕ) → length xs ≡ 0 → xs ≡ []
 none [] is = refl
 none (x ∷ xs) is = absurd (omega (arith, is))
 
-pub rep_zero : (rules : List Rule) (a : ℕ) (b : Option ℕ) (el : Element) (z : Bool) → z ≡ true → a ≡ 0 → Within a b → Tells rules z (e.Rep a b el)
+pub rep_zero : (rules : List Rule) (a : ℕ) (b : Option ℕ) (el : Element) (z : Bool) → z ≡ true → a ≡ 0 → Within a b
+    → Tells rules z (e.Rep a b el)
 rep_zero rules a b el z is zero_is within = record {
   yes = λ m. rep_empty rules a b el within (λ lt. absurd (omega (arith, lt, zero_is)));
   no = λ m. absurd (cc (m, is));
 }
 
-pub rep_operand : (rules : List Rule) (a : ℕ) (b : Option ℕ) (el : Element) (c : Bool) → 0 < a → Within a b → Tells rules c el → Tells rules c (e.Rep a b el)
+pub rep_operand : (rules : List Rule) (a : ℕ) (b : Option ℕ) (el : Element) (c : Bool) → 0 < a → Within a b
+    → Tells rules c el → Tells rules c (e.Rep a b el)
 rep_operand rules a b el c lt within t = record {
   yes = λ m. rep_empty rules a b el within (λ more. t.yes m);
   no = λ m. rep_never rules a b el lt (t.no m);
 }
 
-pub text_marked : (rules : List Rule) (folds : Bool) (t : List ℕ) (mark : Bool) → (mark ≡ true) ↔ (length t ≡ 0) → Tells rules mark (e.Text folds t)
-text_marked rules folds t mark is = text_tells rules folds t mark (λ m. none t (is.0 m)) (λ m e. absurd (cc (is.1 (ap length e), m)))
+pub text_marked : (rules : List Rule) (folds : Bool) (t : List ℕ) (mark : Bool) → (mark ≡ true) ↔ (length t ≡ 0)
+    → Tells rules mark (e.Text folds t)
+text_marked rules folds t mark is = text_tells rules folds t mark (λ m. none t (is.0 m))
+    (λ m e. absurd (cc (is.1 (ap length e), m)))
 
-pub values_marked : (rules : List Rule) (vs : List ℕ) (mark : Bool) → (mark ≡ true) ↔ (length vs ≡ 0) → Tells rules mark (e.Values vs)
-values_marked rules vs mark is = values_tell rules vs mark (λ m. none vs (is.0 m)) (λ m e. absurd (cc (is.1 (ap length e), m)))
+pub values_marked : (rules : List Rule) (vs : List ℕ) (mark : Bool) → (mark ≡ true) ↔ (length vs ≡ 0)
+    → Tells rules mark (e.Values vs)
+values_marked rules vs mark is = values_tell rules vs mark (λ m. none vs (is.0 m))
+    (λ m e. absurd (cc (is.1 (ap length e), m)))
 
 -- what no number of turns meets
-pub reversed : (rules : List Rule) (limit : ℕ) (nodes : List Node) (least : ℕ) (most : Option ℕ) (el : Element) → (b : ℕ) × (most ≡ Some b) × (b < least) → Shows rules limit nodes Nothing (e.Rep least most el)
+pub reversed : (rules : List Rule) (limit : ℕ) (nodes : List Node) (least : ℕ) (most : Option ℕ) (el : Element)
+    → (b : ℕ) × (most ≡ Some b) × (b < least) → Shows rules limit nodes Nothing (e.Rep least most el)
 reversed rules limit nodes least most el h = rw h.1 (shows_reversed h.2)

@@ -1,7 +1,10 @@
 -- The functions of a node are its relations.
 -- Serves: judge.
-use Rattle.std.proofs.Common.{ltb-true, leb-true, eqb-true, ◌≡◌, ℕ, zero, suc, ◌+◌, ◌-◌, ◌<◌, ◌≤◌, Bool, true, false, ◌&&◌, ◌||◌, eqb, ltb, leb, if◌then◌else◌, Option, Some, None, length, slice_get, refl, sym, ap, subst, arith}
-use Rattle.flatgrammar.specs.Flat.{Node, Letters, Concat, Alt, Rep, Turns, Opt, Name, Nothing, IsTaking, is_taking, Begins, IsDone, Calling}
+use Rattle.std.proofs.Common.{ltb-true, leb-true, eqb-true, ◌≡◌, ℕ, zero, suc, ◌+◌, ◌-◌, ◌<◌, ◌≤◌, Bool, true, false}
+use Rattle.std.proofs.Common.{◌&&◌, ◌||◌, eqb, ltb, leb, if◌then◌else◌, Option, Some, None, length, slice_get, refl}
+use Rattle.std.proofs.Common.{sym, ap, subst, arith}
+use Rattle.flatgrammar.specs.Flat.{Node, Letters, Concat, Alt, Rep, Turns, Opt, Name, Nothing, IsTaking, is_taking}
+use Rattle.flatgrammar.specs.Flat.{Begins, IsDone, Calling}
 use Rattle.flatgrammar.specs.NodeSteps.{begin_count, is_done, callee, takes, with_next}
 
 pub record Next (o : Option ℕ) (l t m : ℕ) : Type 0 where
@@ -10,7 +13,8 @@ pub record Next (o : Option ℕ) (l t m : ℕ) : Type 0 where
 
 with_next_is : (o : Option ℕ) (l t m : ℕ) → with_next o l ≡ Some (t, m) → Next o l t m
 with_next_is None l t m h = absurd cc
-with_next_is (Some s) l t m h = let pair : (s, l) ≡ (t, m) = some_same h in record { is = ap (λ v. Some v.0) pair; next = ap (λ v. v.1) pair }
+with_next_is (Some s) l t m h = let pair : (s, l) ≡ (t, m) = some_same h in
+    record { is = ap (λ v. Some v.0) pair; next = ap (λ v. v.1) pair }
   where
     some_same : {a b : ℕ × ℕ} → Some a ≡ Some b → a ≡ b
     some_same h = cc
@@ -29,48 +33,66 @@ eqb_same a b h = eqb-true a b h
 
 pub callee_calling : (node : Node) (k t l : ℕ) → callee node k ≡ Some (t, l) → Calling node k t l
 callee_calling (Letters sets) k t l h = absurd cc
-callee_calling (Concat ms) k t l h = let n = with_next_is (slice_get ms k) (k + 1) t l h in subst (λ v. Calling (Concat ms) k t v) n.next (Calling.member n.is)
-callee_calling (Alt ms) k t l h = let n = with_next_is (slice_get ms k) (length ms + k) t l h in subst (λ v. Calling (Alt ms) k t v) n.next (Calling.alternative n.is)
+callee_calling (Concat ms) k t l h = let n = with_next_is (slice_get ms k) (k + 1) t l h in
+    subst (λ v. Calling (Concat ms) k t v) n.next (Calling.member n.is)
+callee_calling (Alt ms) k t l h = let n = with_next_is (slice_get ms k) (length ms + k) t l h in
+    subst (λ v. Calling (Alt ms) k t v) n.next (Calling.alternative n.is)
 callee_calling (Rep a None m) k t l h = by (ltb k a) refl h
   where
-    last : (b : Bool) → eqb k a ≡ b → ◌≡◌ {A = Option (ℕ × ℕ)} (if b then Some (m, a) else None) (Some (t, l)) → Calling (Rep a None m) k t l
+    last : (b : Bool) → eqb k a ≡ b → ◌≡◌ {A = Option (ℕ × ℕ)} (if b then Some (m, a) else None) (Some (t, l))
+        → Calling (Rep a None m) k t l
     last true is h =
         let pair = pair_same h in
-        subst (λ v. Calling (Rep a None m) k v l) (ap (λ v. v.0) pair) (subst (λ v. Calling (Rep a None m) k m v) (ap (λ v. v.1) pair) (subst (λ v. Calling (Rep a None m) v m a) (sym (eqb_same k a is)) Calling.turn_uncounted))
+        subst (λ v. Calling (Rep a None m) k v l) (ap (λ v. v.0) pair)
+        (subst (λ v. Calling (Rep a None m) k m v) (ap (λ v. v.1) pair)
+        (subst (λ v. Calling (Rep a None m) v m a) (sym (eqb_same k a is)) Calling.turn_uncounted))
     last false is h = absurd cc
 
-    by : (b : Bool) → ltb k a ≡ b → ◌≡◌ {A = Option (ℕ × ℕ)} (if b then Some (m, k + 1) else (if eqb k a then Some (m, a) else None)) (Some (t, l)) → Calling (Rep a None m) k t l
+    by : (b : Bool) → ltb k a ≡ b → ◌≡◌ {A = Option (ℕ × ℕ)}
+        (if b then Some (m, k + 1) else (if eqb k a then Some (m, a) else None)) (Some (t, l))
+        → Calling (Rep a None m) k t l
     by true is h =
         let pair = pair_same h in
-        subst (λ v. Calling (Rep a None m) k v l) (ap (λ v. v.0) pair) (subst (λ v. Calling (Rep a None m) k m v) (ap (λ v. v.1) pair) (Calling.turn (ltb_less k a is)))
+        subst (λ v. Calling (Rep a None m) k v l) (ap (λ v. v.0) pair)
+        (subst (λ v. Calling (Rep a None m) k m v) (ap (λ v. v.1) pair) (Calling.turn (ltb_less k a is)))
     by false is h = last (eqb k a) refl h
 callee_calling (Rep a (Some b) m) k t l h = by (ltb k b) refl h
   where
-    by : (c : Bool) → ltb k b ≡ c → ◌≡◌ {A = Option (ℕ × ℕ)} (if c then Some (m, k + 1) else None) (Some (t, l)) → Calling (Rep a (Some b) m) k t l
+    by : (c : Bool) → ltb k b ≡ c → ◌≡◌ {A = Option (ℕ × ℕ)} (if c then Some (m, k + 1) else None) (Some (t, l))
+        → Calling (Rep a (Some b) m) k t l
     by true is h =
         let pair = pair_same h in
-        subst (λ v. Calling (Rep a (Some b) m) k v l) (ap (λ v. v.0) pair) (subst (λ v. Calling (Rep a (Some b) m) k m v) (ap (λ v. v.1) pair) (Calling.turn (ltb_less k b is)))
+        subst (λ v. Calling (Rep a (Some b) m) k v l) (ap (λ v. v.0) pair)
+        (subst (λ v. Calling (Rep a (Some b) m) k m v) (ap (λ v. v.1) pair) (Calling.turn (ltb_less k b is)))
     by false is h = absurd cc
 callee_calling (Turns None m) k t l h = by (eqb k 0) refl h
   where
-    by : (c : Bool) → eqb k 0 ≡ c → ◌≡◌ {A = Option (ℕ × ℕ)} (if c then Some (m, 0) else None) (Some (t, l)) → Calling (Turns None m) k t l
+    by : (c : Bool) → eqb k 0 ≡ c → ◌≡◌ {A = Option (ℕ × ℕ)} (if c then Some (m, 0) else None) (Some (t, l))
+        → Calling (Turns None m) k t l
     by true is h =
         let pair = pair_same h in
-        subst (λ v. Calling (Turns None m) k v l) (ap (λ v. v.0) pair) (subst (λ v. Calling (Turns None m) k m v) (ap (λ v. v.1) pair) (subst (λ v. Calling (Turns None m) v m 0) (sym (eqb_same k 0 is)) Calling.takes_uncounted))
+        subst (λ v. Calling (Turns None m) k v l) (ap (λ v. v.0) pair)
+        (subst (λ v. Calling (Turns None m) k m v) (ap (λ v. v.1) pair)
+        (subst (λ v. Calling (Turns None m) v m 0) (sym (eqb_same k 0 is)) Calling.takes_uncounted))
     by false is h = absurd cc
 callee_calling (Turns (Some b) m) k t l h = by (ltb k b) refl h
   where
-    by : (c : Bool) → ltb k b ≡ c → ◌≡◌ {A = Option (ℕ × ℕ)} (if c then Some (m, k + 1) else None) (Some (t, l)) → Calling (Turns (Some b) m) k t l
+    by : (c : Bool) → ltb k b ≡ c → ◌≡◌ {A = Option (ℕ × ℕ)} (if c then Some (m, k + 1) else None) (Some (t, l))
+        → Calling (Turns (Some b) m) k t l
     by true is h =
         let pair = pair_same h in
-        subst (λ v. Calling (Turns (Some b) m) k v l) (ap (λ v. v.0) pair) (subst (λ v. Calling (Turns (Some b) m) k m v) (ap (λ v. v.1) pair) (Calling.takes (ltb_less k b is)))
+        subst (λ v. Calling (Turns (Some b) m) k v l) (ap (λ v. v.0) pair)
+        (subst (λ v. Calling (Turns (Some b) m) k m v) (ap (λ v. v.1) pair) (Calling.takes (ltb_less k b is)))
     by false is h = absurd cc
 callee_calling (Opt m) k t l h = by (eqb k 0) refl h
   where
-    by : (c : Bool) → eqb k 0 ≡ c → ◌≡◌ {A = Option (ℕ × ℕ)} (if c then Some (m, 2) else None) (Some (t, l)) → Calling (Opt m) k t l
+    by : (c : Bool) → eqb k 0 ≡ c → ◌≡◌ {A = Option (ℕ × ℕ)} (if c then Some (m, 2) else None) (Some (t, l))
+        → Calling (Opt m) k t l
     by true is h =
         let pair = pair_same h in
-        subst (λ v. Calling (Opt m) k v l) (ap (λ v. v.0) pair) (subst (λ v. Calling (Opt m) k m v) (ap (λ v. v.1) pair) (subst (λ v. Calling (Opt m) v m 2) (sym (eqb_same k 0 is)) Calling.operand))
+        subst (λ v. Calling (Opt m) k v l) (ap (λ v. v.0) pair)
+        (subst (λ v. Calling (Opt m) k m v) (ap (λ v. v.1) pair)
+        (subst (λ v. Calling (Opt m) v m 2) (sym (eqb_same k 0 is)) Calling.operand))
     by false is h = absurd cc
 callee_calling (Name r) k t l h = absurd cc
 callee_calling Nothing k t l h = absurd cc
@@ -89,7 +111,8 @@ done_is (Alt ms) k h =
     let same : length ms + (k - length ms) ≡ k = omega arith in
     subst (λ v. IsDone (Alt ms) v) same (IsDone.alt lt)
 done_is (Rep a None m) k h = let same = eqb_same k a h in IsDone.rep (omega arith) (omega arith)
-done_is (Rep a (Some b) m) k h = let both = and_both (leb a k) (leb k b) h in IsDone.rep (leb_le a k both.0) (leb_le k b both.1)
+done_is (Rep a (Some b) m) k h = let both = and_both (leb a k) (leb k b) h in
+    IsDone.rep (leb_le a k both.0) (leb_le k b both.1)
 done_is (Turns None m) k h = let same = eqb_same k 0 h in IsDone.turns (omega (arith, same))
 done_is (Turns (Some b) m) k h = IsDone.turns (leb_le k b h)
 done_is (Opt m) k h = by (eqb k 1) refl h
@@ -101,13 +124,16 @@ done_is (Name r) k h = absurd cc
 done_is Nothing k h = absurd cc
 
 pub begins_is : (node : Node) (k : ℕ) → k < begin_count node → Begins node k
-begins_is (Letters sets) k lt = let zero_is : 0 ≡ k = omega arith in subst (λ v. Begins (Letters sets) v) zero_is Begins.letters
-begins_is (Concat ms) k lt = let zero_is : 0 ≡ k = omega arith in subst (λ v. Begins (Concat ms) v) zero_is Begins.concat
+begins_is (Letters sets) k lt = let zero_is : 0 ≡ k = omega arith in subst (λ v. Begins (Letters sets) v) zero_is
+    Begins.letters
+begins_is (Concat ms) k lt = let zero_is : 0 ≡ k = omega arith in
+    subst (λ v. Begins (Concat ms) v) zero_is Begins.concat
 begins_is (Alt ms) k lt = Begins.alt lt
 begins_is (Rep a b m) k lt = let zero_is : 0 ≡ k = omega arith in subst (λ v. Begins (Rep a b m) v) zero_is Begins.rep
 begins_is (Turns b m) k lt = let zero_is : 0 ≡ k = omega arith in subst (λ v. Begins (Turns b m) v) zero_is Begins.turns
 begins_is (Opt m) zero lt = Begins.opt
-begins_is (Opt m) (suc k) lt = let one_is : 1 ≡ suc k = omega arith in subst (λ v. Begins (Opt m) v) one_is Begins.opt_empty
+begins_is (Opt m) (suc k) lt = let one_is : 1 ≡ suc k = omega arith in
+    subst (λ v. Begins (Opt m) v) one_is Begins.opt_empty
 begins_is (Name r) k lt = absurd (omega arith)
 begins_is Nothing k lt = absurd (omega arith)
 

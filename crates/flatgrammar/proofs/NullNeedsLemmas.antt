@@ -1,12 +1,15 @@
 -- A node is nullable exactly if its number is in the least set of the needs.
 -- Serves: lower, judge.
-use Rattle.std.proofs.Common.{◌≡◌, ℕ, zero, suc, ◌+◌, ◌<◌, ◌≤◌, ◌⊎◌, inl, inr, Bool, true, false, leb, cond, List, [], ◌∷◌, length, map, Option, Some, None, refl, sym, ◌∙◌, ap, subst, arith, leb-true, le-leb, ⊎_elim}
+use Rattle.std.proofs.Common.{◌≡◌, ℕ, zero, suc, ◌+◌, ◌<◌, ◌≤◌, ◌⊎◌, inl, inr, Bool, true, false, leb, cond, List, []}
+use Rattle.std.proofs.Common.{◌∷◌, length, map, Option, Some, None, refl, sym, ◌∙◌, ap, subst, arith, leb-true, le-leb}
+use Rattle.std.proofs.Common.{⊎_elim}
 use Rattle.std.specs.Prelude.{slice_get, slice_index_or, Contains}
 use Rattle.std.proofs.lemmas.List.{length-map}
 use Rattle.leastset.specs.Demands.{Demand, All, One, row_of, AreNeedsWithin}
 use Rattle.leastset.specs.Least.{Comes, by_all, by_one, AreMarksOfThose}
 use Rattle.leastset.specs.NumberMarks.{IsMarked}
-use Rattle.flatgrammar.specs.Flat.{Node, Set, Letters, Concat, Alt, Rep, Turns, Opt, Name, Nothing, IsTaking, top, Begins, IsDone, Calling}
+use Rattle.flatgrammar.specs.Flat.{Node, Set, Letters, Concat, Alt, Rep, Turns, Opt, Name, Nothing, IsTaking, top}
+use Rattle.flatgrammar.specs.Flat.{Begins, IsDone, Calling}
 use Rattle.flatgrammar.specs.Nullable.{Passes, begun, stepped, Nullable, done, named}
 use Rattle.flatgrammar.specs.NullNeeds.{need_of, need_of_sets, need_of_turns, need_of_repeat, need_of_body}
 use Rattle.flatgrammar.specs.Numbers.{IsOperand, AreOrdered}
@@ -30,7 +33,8 @@ from_place (x ∷ xs) (suc k) m lt is = from_place xs k m (omega (arith, lt)) is
 pub standing : (xs : List ℕ) (m : ℕ) → Contains xs m → (k : ℕ) × (slice_get xs k ≡ Some m)
 standing xs m h = (h.0, from_place xs h.0 m h.1 h.2)
 
-get_mapped : {A B : Type 0} (f : A → B) (xs : List A) (k : ℕ) (x : A) → slice_get xs k ≡ Some x → slice_get (map f xs) k ≡ Some (f x)
+get_mapped : {A B : Type 0} (f : A → B) (xs : List A) (k : ℕ) (x : A) → slice_get xs k ≡ Some x
+    → slice_get (map f xs) k ≡ Some (f x)
 get_mapped f [] k x is = absurd (cc is)
 get_mapped f (y ∷ xs) zero x is = let same : y ≡ x = cc is in ap (λ v. Some (f v)) same
 get_mapped f (y ∷ xs) (suc k) x is = get_mapped f xs k x is
@@ -40,10 +44,12 @@ record Mapped {A B : Type 0} (f : A → B) (xs : List A) (k : ℕ) (y : B) : Typ
   at : slice_get xs k ≡ Some from
   is : f from ≡ y
 
-get_unmapped : {A B : Type 0} (f : A → B) (xs : List A) (k : ℕ) (y : B) → slice_get (map f xs) k ≡ Some y → Mapped f xs k y
+get_unmapped : {A B : Type 0} (f : A → B) (xs : List A) (k : ℕ) (y : B) → slice_get (map f xs) k ≡ Some y
+    → Mapped f xs k y
 get_unmapped f [] k y is = absurd (cc is)
 get_unmapped f (x ∷ xs) zero y is = let same : f x ≡ y = cc is in record { from = x; at = refl; is = same }
-get_unmapped f (x ∷ xs) (suc k) y is = let m = get_unmapped f xs k y is in record { from = m.from; at = m.at; is = m.is }
+get_unmapped f (x ∷ xs) (suc k) y is = let m = get_unmapped f xs k y is in
+    record { from = m.from; at = m.at; is = m.is }
 
 nothing_in : {m : ℕ} → Contains [] m → ⊥
 nothing_in h = let lt = h.1 in absurd (omega (arith, lt))
@@ -63,36 +69,44 @@ module _ (nodes : List Node) (bodies : List ℕ) where
   node_needs = map (need_of bodies) nodes
 
   -- the needs name nodes
-  pub needs_within : AreOrdered nodes → ((id m : ℕ) → slice_get bodies id ≡ Some m → m < length nodes) → AreNeedsWithin node_needs
+  pub needs_within : AreOrdered nodes → ((id m : ℕ) → slice_get bodies id ≡ Some m → m < length nodes)
+      → AreNeedsWithin node_needs
   needs_within ordered below = record {
     within = λ n m need is h. let u = get_unmapped (need_of bodies) nodes n need is in
-        subst (λ v. m < v) (sym (length-map nodes (need_of bodies))) (by n m u.from u.at (subst (λ v. Contains (row_of v) m) (sym u.is) h));
+        subst (λ v. m < v) (sym (length-map nodes (need_of bodies)))
+        (by n m u.from u.at (subst (λ v. Contains (row_of v) m) (sym u.is) h));
   }
     where
       before : (n m : ℕ) (node : Node) → slice_get nodes n ≡ Some node → IsOperand node m → m < length nodes
-      before n m node at h = let one = ordered.before n m node at h in let two = get_below nodes n at in omega (arith, one, two)
+      before n m node at h = let one = ordered.before n m node at h in let two = get_below nodes n at in
+          omega (arith, one, two)
 
       of_sets : (m : ℕ) (sets : List Set) → Contains (row_of (need_of_sets sets)) m → m < length nodes
       of_sets m [] h = absurd (nothing_in h)
       of_sets m (set ∷ sets) h = absurd (nothing_in h)
 
-      one_of : (m d : ℕ) (b : Bool) → d < length nodes → Contains (row_of (cond b (All (d ∷ [])) (One []))) m → m < length nodes
+      one_of : (m d : ℕ) (b : Bool) → d < length nodes → Contains (row_of (cond b (All (d ∷ [])) (One []))) m
+          → m < length nodes
       one_of m d true lt h = subst (λ v. v < length nodes) (only_in d m h) lt
       one_of m d false lt h = absurd (nothing_in h)
 
-      of_turns : (m a d : ℕ) (b : Option ℕ) → d < length nodes → Contains (row_of (need_of_turns a b d)) m → m < length nodes
+      of_turns : (m a d : ℕ) (b : Option ℕ) → d < length nodes → Contains (row_of (need_of_turns a b d)) m
+          → m < length nodes
       of_turns m a d None lt h = subst (λ v. v < length nodes) (only_in d m h) lt
       of_turns m a d (Some b) lt h = one_of m d (leb a b) lt h
 
-      of_repeat : (m a d : ℕ) (b : Option ℕ) (c : Bool) → d < length nodes → Contains (row_of (cond c (All []) (need_of_turns a b d))) m → m < length nodes
+      of_repeat : (m a d : ℕ) (b : Option ℕ) (c : Bool) → d < length nodes
+          → Contains (row_of (cond c (All []) (need_of_turns a b d))) m → m < length nodes
       of_repeat m a d b true lt h = absurd (nothing_in h)
       of_repeat m a d b false lt h = of_turns m a d b lt h
 
-      of_body : (m id : ℕ) (o : Option ℕ) → slice_get bodies id ≡ o → Contains (row_of (need_of_body o)) m → m < length nodes
+      of_body : (m id : ℕ) (o : Option ℕ) → slice_get bodies id ≡ o → Contains (row_of (need_of_body o)) m
+          → m < length nodes
       of_body m id None is h = absurd (nothing_in h)
       of_body m id (Some t) is h = subst (λ v. v < length nodes) (only_in t m h) (below id t is)
 
-      by : (n m : ℕ) (node : Node) → slice_get nodes n ≡ Some node → Contains (row_of (need_of bodies node)) m → m < length nodes
+      by : (n m : ℕ) (node : Node) → slice_get nodes n ≡ Some node → Contains (row_of (need_of bodies node)) m
+          → m < length nodes
       by n m (Letters sets) at h = of_sets m sets h
       by n m (Concat ms) at h = before n m (Concat ms) at (standing ms m h)
       by n m (Alt ms) at h = before n m (Alt ms) at (standing ms m h)
@@ -110,23 +124,30 @@ module _ (nodes : List Node) (bodies : List ℕ) where
     from_start node at b free (suc k) each =
         let last = each k (omega arith) in
         let one : k + 1 ≡ suc k = omega arith in
-        subst (λ v. Passes nodes bodies n v) one (stepped (from_start node at b free k (λ j lt. each j (omega (arith, lt)))) at last.1 free last.2)
+        subst (λ v. Passes nodes bodies n v) one (stepped
+        (from_start node at b free k (λ j lt. each j (omega (arith, lt)))) at last.1 free last.2)
 
-    all_null : (ms : List ℕ) → slice_get nodes n ≡ Some (Concat ms) → ((m : ℕ) → Contains ms m → Nullable nodes bodies m) → Nullable nodes bodies n
-    all_null ms at each = done (from_start (Concat ms) at Begins.concat (λ t. elim t [ ]) (length ms) (λ j lt. let m = there ms j lt in (m.0, Calling.member m.1, each m.0 (contained ms j m.0 m.1)))) at (IsDone.concat refl)
+    all_null : (ms : List ℕ) → slice_get nodes n ≡ Some (Concat ms)
+        → ((m : ℕ) → Contains ms m → Nullable nodes bodies m) → Nullable nodes bodies n
+    all_null ms at each = done (from_start (Concat ms) at Begins.concat (λ t. elim t [ ]) (length ms)
+        (λ j lt. let m = there ms j lt in (m.0, Calling.member m.1, each m.0 (contained ms j m.0 m.1)))) at
+        (IsDone.concat refl)
       where
         there : (xs : List ℕ) (k : ℕ) → k < length xs → (m : ℕ) × (slice_get xs k ≡ Some m)
         there [] k lt = absurd (omega (arith, lt))
         there (x ∷ xs) zero lt = (x, refl)
         there (x ∷ xs) (suc k) lt = there xs k (omega (arith, lt))
 
-    some_null : (ms : List ℕ) → slice_get nodes n ≡ Some (Alt ms) → (k m : ℕ) → slice_get ms k ≡ Some m → Nullable nodes bodies m → Nullable nodes bodies n
+    some_null : (ms : List ℕ) → slice_get nodes n ≡ Some (Alt ms) → (k m : ℕ) → slice_get ms k ≡ Some m
+        → Nullable nodes bodies m → Nullable nodes bodies n
     some_null ms at k m is null =
         let lt = get_below ms k is in
         done (stepped (begun at (Begins.alt lt)) at (Calling.alternative is) (λ t. elim t [ ]) null) at (IsDone.alt lt)
 
-    turns_null : (a d : ℕ) (b : Option ℕ) → slice_get nodes n ≡ Some (Rep a b d) → a ≤ top a b → Nullable nodes bodies d → Nullable nodes bodies n
-    turns_null a d b at le null = done (from_start (Rep a b d) at Begins.rep (λ t. elim t [ ]) a (λ j lt. (d, Calling.turn (omega (arith, lt, le)), null))) at (IsDone.rep (omega arith) le)
+    turns_null : (a d : ℕ) (b : Option ℕ) → slice_get nodes n ≡ Some (Rep a b d) → a ≤ top a b → Nullable nodes bodies d
+        → Nullable nodes bodies n
+    turns_null a d b at le null = done (from_start (Rep a b d) at Begins.rep (λ t. elim t [ ]) a
+        (λ j lt. (d, Calling.turn (omega (arith, lt, le)), null))) at (IsDone.rep (omega arith) le)
 
     no_turn_null : (a d : ℕ) (b : Option ℕ) → slice_get nodes n ≡ Some (Rep a b d) → a ≤ 0 → Nullable nodes bodies n
     no_turn_null a d b at le = done (begun at Begins.rep) at (IsDone.rep le (omega arith))
@@ -136,21 +157,25 @@ module _ (nodes : List Node) (bodies : List ℕ) where
   Tells (All row) = (m : ℕ) → Contains row m → Nullable nodes bodies m
   Tells (One row) = (m : ℕ) × Contains row m × Nullable nodes bodies m
 
-  null_of_need : (n : ℕ) (node : Node) → slice_get nodes n ≡ Some node → Tells (need_of bodies node) → Nullable nodes bodies n
+  null_of_need : (n : ℕ) (node : Node) → slice_get nodes n ≡ Some node → Tells (need_of bodies node)
+      → Nullable nodes bodies n
   null_of_need n (Letters sets) at h = by sets at h
     where
-      by : (sets : List Set) → slice_get nodes n ≡ Some (Letters sets) → Tells (need_of_sets sets) → Nullable nodes bodies n
+      by : (sets : List Set) → slice_get nodes n ≡ Some (Letters sets) → Tells (need_of_sets sets)
+          → Nullable nodes bodies n
       by [] at h = done (begun at Begins.letters) at (IsDone.letters refl)
       by (set ∷ sets) at h = absurd (nothing_in h.1)
   null_of_need n (Concat ms) at h = all_null n ms at h
   null_of_need n (Alt ms) at h = let s = standing ms h.0 h.1 in some_null n ms at s.0 h.0 s.1 h.2
   null_of_need n (Rep a b d) at h = by (leb a 0) refl h
     where
-      counted : (most : ℕ) (c : Bool) → leb a most ≡ c → slice_get nodes n ≡ Some (Rep a (Some most) d) → Tells (cond c (All (d ∷ [])) (One [])) → Nullable nodes bodies n
+      counted : (most : ℕ) (c : Bool) → leb a most ≡ c → slice_get nodes n ≡ Some (Rep a (Some most) d)
+          → Tells (cond c (All (d ∷ [])) (One [])) → Nullable nodes bodies n
       counted most true le at h = turns_null n a d (Some most) at (leb-true a most le) (h d (alone_in d))
       counted most false le at h = absurd (nothing_in h.1)
 
-      turns : (b : Option ℕ) → slice_get nodes n ≡ Some (Rep a b d) → Tells (need_of_turns a b d) → Nullable nodes bodies n
+      turns : (b : Option ℕ) → slice_get nodes n ≡ Some (Rep a b d) → Tells (need_of_turns a b d)
+          → Nullable nodes bodies n
       turns None at h = turns_null n a d None at (omega arith) (h d (alone_in d))
       turns (Some most) at h = counted most (leb a most) refl at h
 
@@ -198,7 +223,8 @@ module _ (nodes : List Node) (bodies : List ℕ) where
   step_rests (Calling.member {ms = ms} {k = k} {s = s} is) rests comes = λ j m lt at. by j m at (cases_last j k lt)
     where
       cases_last : (j k : ℕ) → j < k + 1 → (j < k) ⊎ (j ≡ k)
-      cases_last j k lt = ⊎_elim (λ less. inl less) (λ le. let same : j ≡ k = omega (arith, lt, le) in inr same) (order j k)
+      cases_last j k lt = ⊎_elim (λ less. inl less) (λ le. let same : j ≡ k = omega (arith, lt, le) in inr same)
+          (order j k)
         where
           order : (j k : ℕ) → (j < k) ⊎ (k ≤ j)
           order zero zero = inr (omega arith)
@@ -232,14 +258,16 @@ module _ (nodes : List Node) (bodies : List ℕ) where
     letters_come [] at same = free (need_at (Letters []) at)
     letters_come (set ∷ sets) at same = absurd (omega (arith, same))
 
-    turns_come : (a d k : ℕ) (b : Option ℕ) → slice_get nodes n ≡ Some (Rep a b d) → a ≤ k → k ≤ top a b → ((k ≡ 0) ⊎ Comes node_needs d) → Comes node_needs n
+    turns_come : (a d k : ℕ) (b : Option ℕ) → slice_get nodes n ≡ Some (Rep a b d) → a ≤ k → k ≤ top a b
+        → ((k ≡ 0) ⊎ Comes node_needs d) → Comes node_needs n
     turns_come a d k b at low high rests = by (leb a 0) refl
       where
         at_need : slice_get node_needs n ≡ Some (need_of_repeat a b d)
         at_need = need_at (Rep a b d) at
 
         operand : (leb a 0 ≡ false) → ((k ≡ 0) ⊎ Comes node_needs d) → Comes node_needs d
-        operand more (inl zero_is) = let le : a ≤ 0 = omega (arith, low, zero_is) in let yes = le-leb a 0 le in absurd (cc (yes, more))
+        operand more (inl zero_is) = let le : a ≤ 0 = omega (arith, low, zero_is) in let yes = le-leb a 0 le in
+            absurd (cc (yes, more))
         operand more (inr c) = c
 
         counted : (b : Option ℕ) → k ≤ top a b → need_of_turns a b d ≡ All (d ∷ [])
@@ -248,13 +276,16 @@ module _ (nodes : List Node) (bodies : List ℕ) where
 
         by : (c : Bool) → leb a 0 ≡ c → Comes node_needs n
         by true le = free (at_need ∙ ap (λ v. Some (cond v (All []) (need_of_turns a b d))) le)
-        by false more = single d (at_need ∙ (ap (λ v. Some (cond v (All []) (need_of_turns a b d))) more ∙ ap Some (counted b high))) (operand more rests)
+        by false more = single d (at_need ∙ (ap (λ v. Some (cond v (All []) (need_of_turns a b d))) more
+            ∙ ap Some (counted b high))) (operand more rests)
 
-    alt_comes : (ms : List ℕ) (k : ℕ) → slice_get nodes n ≡ Some (Alt ms) → Rests (Alt ms) (length ms + k) → Comes node_needs n
+    alt_comes : (ms : List ℕ) (k : ℕ) → slice_get nodes n ≡ Some (Alt ms) → Rests (Alt ms) (length ms + k)
+        → Comes node_needs n
     alt_comes ms k at (inl lt) = absurd (omega (arith, lt))
     alt_comes ms k at (inr r) = by_one (need_at (Alt ms) at) (contained ms r.0 r.1 r.2) r.3
 
-    done_comes : {node : Node} {k : ℕ} → IsDone node k → slice_get nodes n ≡ Some node → Rests node k → Comes node_needs n
+    done_comes : {node : Node} {k : ℕ} → IsDone node k → slice_get nodes n ≡ Some node → Rests node k
+        → Comes node_needs n
     done_comes (IsDone.letters {sets = sets} same) at rests = letters_come sets at (sym rests ∙ same)
     done_comes (IsDone.concat {ms = ms} {k = k} same) at rests = by_all (need_at (Concat ms) at) (λ m h.
         let s = standing ms m h in let lt = get_below ms s.0 s.1 in rests s.0 m (omega (arith, lt, same)) s.1)
@@ -267,10 +298,12 @@ module _ (nodes : List Node) (bodies : List ℕ) where
   mutual
     pub null_comes : {n : ℕ} → Nullable nodes bodies n → Comes node_needs n
     null_comes (done {s = n} {k = k} p at d) = done_comes n d at (passes_rest p at)
-    null_comes (named {s = n} {t = t} {r = r} at is null) = single n t (need_at n (Name r) at ∙ ap (λ v. Some (need_of_body v)) is) (null_comes null)
+    null_comes (named {s = n} {t = t} {r = r} at is null) =
+        single n t (need_at n (Name r) at ∙ ap (λ v. Some (need_of_body v)) is) (null_comes null)
 
     passes_rest : {n k : ℕ} {node : Node} → Passes nodes bodies n k → slice_get nodes n ≡ Some node → Rests node k
-    passes_rest {k = k} {node = node} (begun {node = d} is b) at = let same : d ≡ node = cc (is, at) in subst (λ v. Rests v k) same (begin_rests b)
+    passes_rest {k = k} {node = node} (begun {node = d} is b) at = let same : d ≡ node = cc (is, at) in
+        subst (λ v. Rests v k) same (begin_rests b)
     passes_rest {node = node} (stepped {l = l} {node = d} p is c plain null) at =
         let same : d ≡ node = cc (is, at) in
         subst (λ v. Rests v l) same (step_rests c (passes_rest p is) (null_comes null))
@@ -285,5 +318,9 @@ module _ (nodes : List Node) (bodies : List ℕ) where
   at_marked (m ∷ marks) zero is = ap Some is
   at_marked (m ∷ marks) (suc t) is = at_marked marks t is
 
-  pub nulls_are : (marks : List Bool) → AreMarksOfThose node_needs marks → (whole limit : ℕ) → AreNulls (record { nodes = nodes; bodies = bodies; whole = whole; limit = limit }) marks
-  nulls_are marks are whole limit = λ t. ((λ is. comes_null ((are t).0 (marked_at marks t is))), (λ null. at_marked marks t ((are t).1 (null_comes null))))
+  pub nulls_are : (marks : List Bool) → AreMarksOfThose node_needs marks → (whole limit : ℕ)
+      → AreNulls (record { nodes = nodes; bodies = bodies; whole = whole; limit = limit }) marks
+  nulls_are marks are whole limit = λ t. (
+    (λ is. comes_null ((are t).0 (marked_at marks t is))),
+    (λ null. at_marked marks t ((are t).1 (null_comes null))),
+  )

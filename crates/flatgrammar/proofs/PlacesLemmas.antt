@@ -1,9 +1,11 @@
 -- A list of different items is no longer than places and origins allow.
 -- Serves: items_at_most, judge, lower_viable.
-use Rattle.std.proofs.Common.{◌≡◌, ℕ, zero, suc, ◌+◌, ◌*◌, ◌<◌, ◌≤◌, List, [], ◌∷◌, ◌++◌, length, refl, sym, ◌∙◌, ap, subst, arith, length-append, suc-mul, ◌⊎◌, inl, inr}
+use Rattle.std.proofs.Common.{◌≡◌, ℕ, zero, suc, ◌+◌, ◌*◌, ◌<◌, ◌≤◌, List, [], ◌∷◌, ◌++◌, length, refl, sym, ◌∙◌, ap}
+use Rattle.std.proofs.Common.{subst, arith, length-append, suc-mul, ◌⊎◌, inl, inr}
 use Rattle.std.proofs.lemmas.Bool.{cases_lt}
 use Rattle.std.specs.Prelude.{slice_get, Some}
-use Rattle.flatgrammar.specs.Flat.{Node, Flat, Place, at, Set, Begins, Reading, Calling, Starts, starts, name_starts, reads, calls}
+use Rattle.flatgrammar.specs.Flat.{Node, Flat, Place, at, Set, Begins, Reading, Calling, Starts, starts, name_starts}
+use Rattle.flatgrammar.specs.Flat.{reads, calls}
 use Rattle.flatgrammar.specs.Holds.{Holds, begins, called, has_read, returned}
 use Rattle.flatgrammar.proofs.BeforeLemmas.{get_below}
 use Rattle.flatgrammar.specs.Places.{width, places, In, now, on, AreDifferent}
@@ -34,7 +36,8 @@ pub at_most : {A : Type 0} (xs ys : List A) → AreDifferent xs → ((a : A) →
 at_most [] ys different among = omega arith
 at_most (x ∷ xs) ys different among =
     let w = without x ys (among x (now refl)) in
-    let rest = at_most xs w.rest different.1 (λ a h. w.keeps a (λ same. different.0 (subst (λ v. In v xs) same h)) (among a (on h))) in
+    let rest = at_most xs w.rest different.1 (λ a h. w.keeps a (λ same. different.0 (subst (λ v. In v xs) same h))
+    (among a (on h))) in
     omega (arith, rest, w.shorter)
 
 in_left : {A : Type 0} {a : A} {xs : List A} (ys : List A) → In a xs → In a (xs ++ ys)
@@ -69,16 +72,24 @@ places_from s (node ∷ nodes) = every (width node) (λ k. at s k) ++ places_fro
 length_places : (s : ℕ) (nodes : List Node) → length (places_from s nodes) ≡ places nodes
 length_places s [] = refl
 length_places s (node ∷ nodes) =
-    omega (arith, length-append (every (width node) (λ k. at s k)) (places_from (suc s) nodes), length_every (width node) (λ k. at s k), length_places (suc s) nodes)
+    omega (
+      arith,
+      length-append (every (width node) (λ k. at s k)) (places_from (suc s) nodes),
+      length_every (width node) (λ k. at s k),
+      length_places (suc s) nodes,
+    )
 
-in_places : (s i k : ℕ) (nodes : List Node) {node : Node} → slice_get nodes i ≡ Some node → k < width node → In (at (s + i) k) (places_from s nodes)
+in_places : (s i k : ℕ) (nodes : List Node) {node : Node} → slice_get nodes i ≡ Some node → k < width node
+    → In (at (s + i) k) (places_from s nodes)
 in_places s i k [] is lt = absurd cc
 in_places s zero k (n ∷ nodes) {node = node} is lt =
     let same : node ≡ n = cc in let zero_is : s ≡ s + 0 = omega arith in
-    in_left (places_from (suc s) nodes) (subst (λ v. In (at v k) (every (width n) (λ u. at s u))) zero_is (in_every (width n) k (λ u. at s u) (subst (λ v. k < width v) same lt)))
+    in_left (places_from (suc s) nodes) (subst (λ v. In (at v k) (every (width n) (λ u. at s u))) zero_is
+    (in_every (width n) k (λ u. at s u) (subst (λ v. k < width v) same lt)))
 in_places s (suc i) k (n ∷ nodes) is lt =
     let one : suc s + i ≡ s + suc i = omega arith in
-    in_right (every (width n) (λ u. at s u)) (subst (λ v. In (at v k) (places_from (suc s) nodes)) one (in_places (suc s) i k nodes is lt))
+    in_right (every (width n) (λ u. at s u)) (subst (λ v. In (at v k) (places_from (suc s) nodes)) one
+    (in_places (suc s) i k nodes is lt))
 
 abbrev pairs : {A : Type 0} → ℕ → List A → List (A × ℕ)
 pairs n [] = []
@@ -97,7 +108,8 @@ length_pairs {A = A} n (x ∷ xs) =
 
 in_pairs : {A : Type 0} (n i : ℕ) (x : A) (xs : List A) → i < n → In x xs → In (x, i) (pairs n xs)
 in_pairs n i x [] lt h = elim h [ ]
-in_pairs {A = A} n i x (y ∷ xs) lt (now is) = in_left (pairs n xs) (subst (λ v. In {A = A × ℕ} (v, i) (every n (λ u. (y, u)))) (sym is) (in_every n i (λ u. (y, u)) lt))
+in_pairs {A = A} n i x (y ∷ xs) lt (now is) = in_left (pairs n xs)
+    (subst (λ v. In {A = A × ℕ} (v, i) (every n (λ u. (y, u)))) (sym is) (in_every n i (λ u. (y, u)) lt))
 in_pairs n i x (y ∷ xs) lt (on h) = in_right (every n (λ u. (y, u))) (in_pairs n i x xs lt h)
 
 module _ (flat : Flat) where
@@ -148,10 +160,12 @@ module _ (flat : Flat) where
       subst (λ v. In (at v k) (places_from 0 flat.nodes)) zero_is (in_places 0 s k flat.nodes h.1 h.2)
 
   -- a list of different items of set j
-  pub items_at_most : (x : List ℕ) (j : ℕ) (set : List (Place × ℕ)) → AreDifferent set → ((p : Place) (i : ℕ) → In (p, i) set → Holds flat x j p i) →
+  pub items_at_most : (x : List ℕ) (j : ℕ) (set : List (Place × ℕ)) → AreDifferent set
+      → ((p : Place) (i : ℕ) → In (p, i) set → Holds flat x j p i) →
       length set ≤ places flat.nodes * (j + 1)
   items_at_most x j set different sound =
       let among = at_most set (pairs (j + 1) (places_from 0 flat.nodes)) different
-      (λ a h. let g = sound a.0 a.1 h in let lt : a.1 < j + 1 = omega (arith, holds_origin g) in in_pairs (j + 1) a.1 a.0 (places_from 0 flat.nodes) lt (place_in a.0 (holds_place g))) in
+      (λ a h. let g = sound a.0 a.1 h in let lt : a.1 < j + 1 = omega (arith, holds_origin g) in
+      in_pairs (j + 1) a.1 a.0 (places_from 0 flat.nodes) lt (place_in a.0 (holds_place g))) in
       let size = length_pairs (j + 1) (places_from 0 flat.nodes) in
       rw (← length_places 0 flat.nodes) (rw (← size) among)

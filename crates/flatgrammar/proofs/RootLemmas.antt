@@ -1,6 +1,7 @@
 -- The roots that were found are those of the nodes.
 -- Serves: lower, Flat::root.
-use Rattle.std.proofs.Common.{◌≡◌, ℕ, zero, suc, ◌+◌, ◌<◌, List, [], ◌∷◌, ◌++◌, length, map, take, drop, get_or, Option, Some, None, refl, sym, ◌∙◌, ap, subst, arith, ⊎_elim, add-one, length-append}
+use Rattle.std.proofs.Common.{◌≡◌, ℕ, zero, suc, ◌+◌, ◌<◌, List, [], ◌∷◌, ◌++◌, length, map, take, drop, get_or, Option}
+use Rattle.std.proofs.Common.{Some, None, refl, sym, ◌∙◌, ap, subst, arith, ⊎_elim, add-one, length-append}
 use Rattle.std.specs.Prelude.{slice_get}
 use Rattle.std.proofs.lemmas.List.{length-map, map-append}
 use Rattle.std.proofs.lemmas.Option.{slice_get_within}
@@ -12,7 +13,8 @@ use Rattle.flatgrammar.specs.declared.flat_node.Node as declared
 use Rattle.flatgrammar.specs.declared.roots.Way.{Way}
 use Rattle.flatgrammar.specs.declared.roots.Way.TheVariants.{On, Found}
 use Rattle.flatgrammar.specs.FlatViews.{node_of, nodes_of}
-use Rattle.flatgrammar.specs.Ways.{way_to, first_way, root_of, AreFirst, IsFound, IsOnWithin, LeadsTo, arrived, leads_on, AreWays}
+use Rattle.flatgrammar.specs.Ways.{way_to, first_way, root_of, AreFirst, IsFound, IsOnWithin, LeadsTo, arrived}
+use Rattle.flatgrammar.specs.Ways.{leads_on, AreWays}
 use Rattle.flatgrammar.proofs.FlatCutLemmas.{push_cases}
 use Rattle.flatgrammar.proofs.WalkLemmas.{differ, found_same}
 
@@ -30,7 +32,8 @@ to_found (Some b) u h = other (sym h)
 own_same : {s u : ℕ} → Found (Some s) ≡ Found (Some u) → u ≡ s
 own_same h = cc h
 
-first_on : (bodies : List ℕ) (s t : ℕ) (node : Node) → first_way bodies s node ≡ On t → (r : ℕ) × (node ≡ Name r) × (slice_get bodies r ≡ Some t)
+first_on : (bodies : List ℕ) (s t : ℕ) (node : Node) → first_way bodies s node ≡ On t → (r : ℕ) × (node ≡ Name r)
+    × (slice_get bodies r ≡ Some t)
 first_on bodies s t (Letters sets) h = absurd (other h)
 first_on bodies s t (Concat ms) h = absurd (other h)
 first_on bodies s t (Alt ms) h = absurd (other h)
@@ -40,7 +43,8 @@ first_on bodies s t (Opt m) h = absurd (other h)
 first_on bodies s t (Name r) h = (r, refl, to_on (slice_get bodies r) t h)
 first_on bodies s t Nothing h = absurd (other h)
 
-first_found : (bodies : List ℕ) (s u : ℕ) (node : Node) → first_way bodies s node ≡ Found (Some u) → (u ≡ s) × ((r : ℕ) → node ≡ Name r → ⊥)
+first_found : (bodies : List ℕ) (s u : ℕ) (node : Node) → first_way bodies s node ≡ Found (Some u) → (u ≡ s)
+    × ((r : ℕ) → node ≡ Name r → ⊥)
 first_found bodies s u (Letters sets) h = (own_same h, λ r e. absurd (cc e))
 first_found bodies s u (Concat ms) h = (own_same h, λ r e. absurd (cc e))
 first_found bodies s u (Alt ms) h = (own_same h, λ r e. absurd (cc e))
@@ -50,7 +54,8 @@ first_found bodies s u (Opt m) h = (own_same h, λ r e. absurd (cc e))
 first_found bodies s u (Name r) h = absurd (to_found (slice_get bodies r) u h)
 first_found bodies s u Nothing h = (own_same h, λ r e. absurd (cc e))
 
-first_own : (bodies : List ℕ) (s : ℕ) (node : Node) → ((r : ℕ) → node ≡ Name r → ⊥) → first_way bodies s node ≡ Found (Some s)
+first_own : (bodies : List ℕ) (s : ℕ) (node : Node) → ((r : ℕ) → node ≡ Name r → ⊥) → first_way bodies s node
+    ≡ Found (Some s)
 first_own bodies s (Letters sets) h = refl
 first_own bodies s (Concat ms) h = refl
 first_own bodies s (Alt ms) h = refl
@@ -65,12 +70,14 @@ there [] k lt = absurd (omega arith)
 there (x ∷ xs) zero lt = (x, refl)
 there (x ∷ xs) (suc k) lt = there xs k (omega arith)
 
-mapped : {A B : Type 0} (f : A → B) (xs : List A) (k : ℕ) (a : A) → slice_get xs k ≡ Some a → slice_get (map f xs) k ≡ Some (f a)
+mapped : {A B : Type 0} (f : A → B) (xs : List A) (k : ℕ) (a : A) → slice_get xs k ≡ Some a
+    → slice_get (map f xs) k ≡ Some (f a)
 mapped f [] k a is = absurd (cc is)
 mapped f (x ∷ xs) zero a is = let same : x ≡ a = cc is in ap (λ v. Some (f v)) same
 mapped f (x ∷ xs) (suc k) a is = mapped f xs k a is
 
-mapped_from : {A B : Type 0} (f : A → B) (xs : List A) (i : ℕ) (b : B) → slice_get (map f xs) i ≡ Some b → (a : A) × (slice_get xs i ≡ Some a) × (f a ≡ b)
+mapped_from : {A B : Type 0} (f : A → B) (xs : List A) (i : ℕ) (b : B) → slice_get (map f xs) i ≡ Some b → (a : A)
+    × (slice_get xs i ≡ Some a) × (f a ≡ b)
 mapped_from f [] i b h = absurd (cc h)
 mapped_from f (x ∷ xs) zero b h = (x, refl, cc h)
 mapped_from f (x ∷ xs) (suc i) b h = mapped_from f xs i b h
@@ -80,14 +87,16 @@ way_same h = cc h
 
 module _ (nodes : List Node) (bodies : List ℕ) (firsts : List Way) (first : AreFirst nodes bodies firsts) where
   -- the node of a way
-  node_there : (s : ℕ) (w : Way) → slice_get firsts s ≡ Some w → (node : Node) × (slice_get nodes s ≡ Some node) × (first_way bodies s node ≡ w)
+  node_there : (s : ℕ) (w : Way) → slice_get firsts s ≡ Some w → (node : Node) × (slice_get nodes s ≡ Some node)
+      × (first_way bodies s node ≡ w)
   node_there s w is =
       let lt = slice_get_within firsts s w is in
       let count = first.count in
       let node = there nodes s (omega (arith, lt, count)) in
       (node.0, node.1, way_same (sym (first.each s node.0 node.1) ∙ is))
 
-  named_by : (s t : ℕ) → slice_get firsts s ≡ Some (On t) → (r : ℕ) × (slice_get nodes s ≡ Some (Name r)) × (slice_get bodies r ≡ Some t)
+  named_by : (s t : ℕ) → slice_get firsts s ≡ Some (On t) → (r : ℕ) × (slice_get nodes s ≡ Some (Name r))
+      × (slice_get bodies r ≡ Some t)
   named_by s t is =
       let node = node_there s (On t) is in
       let by = first_on bodies s t node.0 node.2 in
@@ -101,14 +110,18 @@ module _ (nodes : List Node) (bodies : List ℕ) (firsts : List Way) (first : Ar
   is_root (leads_on {s = s} {t = t} is l) = let by = named_by s t is in named by.1 by.2 (is_root l)
 
   pub leads_to : {s u : ℕ} → Root nodes bodies s u → LeadsTo firsts s u
-  leads_to (own {s = s} {node = node} is none) = arrived (first.each s node is ∙ ap (λ v. Some v) (first_own bodies s node none))
-  leads_to (named {s = s} {r = r} is at root) = leads_on (first.each s (Name r) is ∙ ap (λ v. Some (way_to v)) at) (leads_to root)
+  leads_to (own {s = s} {node = node} is none) = arrived
+      (first.each s node is ∙ ap (λ v. Some v) (first_own bodies s node none))
+  leads_to (named {s = s} {r = r} is at root) = leads_on (first.each s (Name r) is ∙ ap (λ v. Some (way_to v)) at)
+      (leads_to root)
 
   pub first_within : ((id m : ℕ) → slice_get bodies id ≡ Some m → m < length nodes) → IsOnWithin firsts
-  first_within within s t is = let by = named_by s t is in let lt = within by.0 t by.2 in let count = first.count in omega (arith, lt, count)
+  first_within within s t is = let by = named_by s t is in let lt = within by.0 t by.2 in let count = first.count in
+      omega (arith, lt, count)
 
   module _ (ways : List Way) (are : AreWays firsts ways) (all : (s : ℕ) → s < length ways → IsFound ways s) where
-    told : (s u : ℕ) (w : Way) → slice_get ways s ≡ Some w → root_of w ≡ Some u → slice_get ways s ≡ Some (Found (Some u))
+    told : (s u : ℕ) (w : Way) → slice_get ways s ≡ Some w → root_of w ≡ Some u
+        → slice_get ways s ≡ Some (Found (Some u))
     told s u (On t) is h = absurd (cc h)
     told s u (Found r) is h = is ∙ ap (λ v. Some (Found v)) h
 
@@ -122,28 +135,35 @@ module _ (nodes : List Node) (bodies : List ℕ) (firsts : List Way) (first : Ar
         (λ before. absurd (differ (sym is ∙ before)))
         (λ on.
         let same : on.0 ≡ t = cc (on.1, is) in
-        let root : h.0 ≡ Some u = found_same (sym (subst (λ v. slice_get ways v ≡ Some (Found h.0)) same on.2) ∙ found_one l) in
+        let root : h.0 ≡ Some u = found_same (sym (subst (λ v. slice_get ways v ≡ Some (Found h.0)) same on.2)
+        ∙ found_one l) in
         h.1 ∙ ap (λ v. Some (Found v)) root)
         (are.found s h.0 h.1)
 
     pub are_roots : AreRoots nodes bodies (map root_of ways)
     are_roots = record {
       count = length-map ways root_of ∙ are.count ∙ first.count;
-      sound = λ s t h. let from = mapped_from root_of ways s (Some t) h in is_root (are.sound s t (told s t from.0 from.1 from.2));
+      sound = λ s t h. let from = mapped_from root_of ways s (Some t) h in
+          is_root (are.sound s t (told s t from.0 from.1 from.2));
       whole = λ s t root. mapped root_of ways s (Found (Some t)) (found_one (leads_to root));
     }
 
-pub firsts_within : (nodes : List declared.Node) (bodies : List ℕ) (firsts : List Way) → AreFirst (nodes_of nodes) bodies firsts →
+pub firsts_within : (nodes : List declared.Node) (bodies : List ℕ) (firsts : List Way)
+    → AreFirst (nodes_of nodes) bodies firsts →
     ((id m : ℕ) → slice_get bodies id ≡ Some m → m < length nodes) → IsOnWithin firsts
 firsts_within nodes bodies firsts first within =
-    let count = length-map nodes node_of in first_within (nodes_of nodes) bodies firsts first (λ id m h. let lt = within id m h in omega (arith, lt, count))
+    let count = length-map nodes node_of in first_within (nodes_of nodes) bodies firsts first
+    (λ id m h. let lt = within id m h in omega (arith, lt, count))
 
 -- what is left of a vector whose slice was written
-written : {A : Type 0} (new old : List A) (n : ℕ) → length new ≡ length old → n ≡ length old → take n (new ++ drop (length new) old) ≡ new
+written : {A : Type 0} (new old : List A) (n : ℕ) → length new ≡ length old → n ≡ length old
+    → take n (new ++ drop (length new) old) ≡ new
 written new old n e is = grind (arith, common_steps)
 
-pub roots_found : (nodes : List Node) (bodies : List ℕ) (firsts before ways seen : List Way) (n : ℕ) (roots : List (Option ℕ)) → AreFirst nodes bodies firsts → before ≡ firsts →
-    AreWays before ways → ((s : ℕ) → s < length ways → IsFound ways s) → n ≡ length firsts → seen ≡ take n (ways ++ drop (length ways) firsts) → roots ≡ map root_of seen → AreRoots nodes bodies roots
+pub roots_found : (nodes : List Node) (bodies : List ℕ) (firsts before ways seen : List Way) (n : ℕ)
+    (roots : List (Option ℕ)) → AreFirst nodes bodies firsts → before ≡ firsts →
+    AreWays before ways → ((s : ℕ) → s < length ways → IsFound ways s) → n ≡ length firsts
+    → seen ≡ take n (ways ++ drop (length ways) firsts) → roots ≡ map root_of seen → AreRoots nodes bodies roots
 roots_found nodes bodies firsts before ways seen n roots first same are all size is_seen is =
     let w = subst (λ v. AreWays v ways) same are in
     rw (is, is_seen, written ways firsts n w.count size) (are_roots nodes bodies firsts first ways w all)
@@ -161,10 +181,12 @@ at_end : {A : Type 0} (xs : List A) (a : A) → slice_get (xs ++ a ∷ []) (leng
 at_end [] a = refl
 at_end (x ∷ xs) a = at_end xs a
 
-first_push : (nodes : List Node) (bodies : List ℕ) (ways : List Way) (node : Node) (s : ℕ) → s ≡ length nodes → AreFirst nodes bodies ways →
+first_push : (nodes : List Node) (bodies : List ℕ) (ways : List Way) (node : Node) (s : ℕ) → s ≡ length nodes
+    → AreFirst nodes bodies ways →
     AreFirst (nodes ++ node ∷ []) bodies (ways ++ first_way bodies s node ∷ [])
 first_push nodes bodies ways node s is g = record {
-  count = (let a = length-append nodes (node ∷ []) in let b = length-append ways (first_way bodies s node ∷ []) in let c = g.count in omega (arith, a, b, c));
+  count = (let a = length-append nodes (node ∷ []) in let b = length-append ways (first_way bodies s node ∷ []) in
+      let c = g.count in omega (arith, a, b, c));
   each = λ k n h. ⊎_elim
       (λ before. keeps ways (first_way bodies s node ∷ []) k (g.each k n before))
       (λ last.
@@ -176,13 +198,17 @@ first_push nodes bodies ways node s is g = record {
       (push_cases nodes node k n h);
 }
 
-pub first_next : (nodes : List declared.Node) (bodies : List ℕ) (ways : List Way) (node d : declared.Node) (i : ℕ) → i < length nodes → node ≡ get_or nodes i d →
-    AreFirst (nodes_of (take i nodes)) bodies ways → AreFirst (nodes_of (take (i + 1) nodes)) bodies (ways ++ first_way bodies i (node_of node) ∷ [])
+pub first_next : (nodes : List declared.Node) (bodies : List ℕ) (ways : List Way) (node d : declared.Node) (i : ℕ)
+    → i < length nodes → node ≡ get_or nodes i d →
+    AreFirst (nodes_of (take i nodes)) bodies ways → AreFirst (nodes_of (take (i + 1) nodes)) bodies
+    (ways ++ first_way bodies i (node_of node) ∷ [])
 first_next nodes bodies ways node d i lt is g =
     let taken : nodes_of (take (i + 1) nodes) ≡ nodes_of (take i nodes) ++ node_of node ∷ [] =
-    ap (λ k. nodes_of (take k nodes)) (add-one i) ∙ ap nodes_of (take-suc nodes i d lt) ∙ map-append node_of (take i nodes) (get_or nodes i d ∷ []) ∙
+    ap (λ k. nodes_of (take k nodes)) (add-one i) ∙ ap nodes_of (take-suc nodes i d lt)
+    ∙ map-append node_of (take i nodes) (get_or nodes i d ∷ []) ∙
     ap (λ w. nodes_of (take i nodes) ++ node_of w ∷ []) (sym is) in
-    let size : i ≡ length (nodes_of (take i nodes)) = sym (length-map (take i nodes) node_of ∙ length_take i nodes lt) in
+    let size : i ≡ length (nodes_of (take i nodes)) =
+    sym (length-map (take i nodes) node_of ∙ length_take i nodes lt) in
     rw taken (first_push (nodes_of (take i nodes)) bodies ways (node_of node) i size g)
   where
     length_take : (i : ℕ) (xs : List declared.Node) → i < length xs → length (take i xs) ≡ i

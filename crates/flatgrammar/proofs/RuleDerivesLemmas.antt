@@ -14,8 +14,10 @@ use Rattle.flatgrammar.proofs.BeforeLemmas.{Before, in_concat}
 use Rattle.flatgrammar.proofs.ReachedLemmas.{sound}
 use Rattle.flatgrammar.proofs.NodeRunsLemmas.{run, call_step, plain}
 
-module _ (has : ℕ → Bool) (rules : List Rule) (judged : ℕ) (flat : Flat) (lowered : IsLowered rules judged flat) (x : List ℕ) (line : length x ≤ flat.limit) where
-  ended : (ms : List ℕ) (el : Element) (w : List ℕ) → Before has rules (Concat ms) (e.Concat (e.more el e.none)) 1 w → Derives has rules el w
+module _ (has : ℕ → Bool) (rules : List Rule) (judged : ℕ) (flat : Flat) (lowered : IsLowered rules judged flat)
+    (x : List ℕ) (line : length x ≤ flat.limit) where
+  ended : (ms : List ℕ) (el : Element) (w : List ℕ) → Before has rules (Concat ms) (e.Concat (e.more el e.none)) 1 w
+      → Derives has rules el w
   ended ms el w (in_concat d) = one d
     where
       one : {w : List ℕ} → DerivesAll has rules (e.more el e.none) w → Derives has rules el w
@@ -25,16 +27,24 @@ module _ (has : ℕ → Bool) (rules : List Rule) (judged : ℕ) (flat : Flat) (
   derived letters h =
       let body = lowered.spelled.spelled judged lowered.body lowered.body_is in
       let reached = sound has rules flat.limit flat lowered.spelled x letters line h in
-      let part = reached.part (Concat (lowered.body ∷ [])) (e.Concat (e.more body.0 e.none)) lowered.whole (shows_concat (spell_more body.2 spell_none)) in
+      let part = reached.part (Concat (lowered.body ∷ [])) (e.Concat (e.more body.0 e.none)) lowered.whole
+      (shows_concat (spell_more body.2 spell_none)) in
       let d = ended (lowered.body ∷ []) body.0 reached.word part in
-      record { body = body.0; is = body.1; derives = subst (λ v. Derives has rules body.0 v) (only x reached.lies (all_of x)) d }
+      record {
+        body = body.0;
+        is = body.1;
+        derives = subst (λ v. Derives has rules body.0 v) (only x reached.lies
+            (all_of x)) d;
+      }
 
   pub holds : RuleDerives has rules judged x → Holds flat x (length x) (at flat.whole 1) 0
   holds d =
       let h = node_of_rule rules flat.limit flat.nodes flat.bodies lowered.spelled judged d.body d.is in
       let same : h.node ≡ lowered.body = cc (h.at, lowered.body_is) in
-      call_step has rules flat.limit flat lowered.spelled x line (calls lowered.whole (Calling.member refl)) (plain has rules flat.limit flat lowered.spelled x line lowered.whole (λ t. elim t [ ]))
-      (run has rules flat.limit flat lowered.spelled x line d.derives lowered.body 0 (length x) (subst (λ v. Spells rules flat.limit flat.nodes v d.body) same h.spelled) (all_of x))
+      call_step has rules flat.limit flat lowered.spelled x line (calls lowered.whole (Calling.member refl))
+      (plain has rules flat.limit flat lowered.spelled x line lowered.whole (λ t. elim t [ ]))
+      (run has rules flat.limit flat lowered.spelled x line d.derives lowered.body 0 (length x)
+      (subst (λ v. Spells rules flat.limit flat.nodes v d.body) same h.spelled) (all_of x))
       0 (begins (starts lowered.whole Begins.concat))
 
   pub exactly : AreLetters has x → Holds flat x (length x) (at flat.whole 1) 0 ↔ RuleDerives has rules judged x

@@ -1,6 +1,7 @@
 -- Names, the bodies of their rules, and the nodes of these.
 -- Serves: items_tell, lower, judge.
-use Rattle.std.proofs.Common.{◌≡◌, ℕ, zero, suc, ◌+◌, ◌<◌, Bool, true, false, cond, List, [], ◌∷◌, length, Option, Some, refl, ◌∙◌, subst, arith, add-one}
+use Rattle.std.proofs.Common.{◌≡◌, ℕ, zero, suc, ◌+◌, ◌<◌, Bool, true, false, cond, List, [], ◌∷◌, length, Option, Some}
+use Rattle.std.proofs.Common.{refl, ◌∙◌, subst, arith, add-one}
 use Rattle.std.specs.Prelude.{slice_get}
 use Rattle.std.proofs.lemmas.List.{length-map}
 use Rattle.ruletable.specs.Rules.{same_name}
@@ -14,9 +15,11 @@ use Rattle.flatgrammar.proofs.BeforeLemmas.{get_below}
 pub body_at_id : (rules : List Rule) (name : List ℕ) → body_of rules name ≡ slice_get (bodies rules) (id_of rules name)
 body_at_id [] name = refl
 body_at_id (rule ∷ rules) name =
-    here_or_later (same_name Fold name rule.name) rule.body (bodies rules) (id_of rules name) (body_of rules name) (body_at_id rules name)
+    here_or_later (same_name Fold name rule.name) rule.body (bodies rules) (id_of rules name) (body_of rules name)
+    (body_at_id rules name)
   where
-    here_or_later : (b : Bool) (body : Element) (bodies : List Element) (k : ℕ) (later : Option Element) → later ≡ slice_get bodies k →
+    here_or_later : (b : Bool) (body : Element) (bodies : List Element) (k : ℕ) (later : Option Element)
+        → later ≡ slice_get bodies k →
         cond b (Some body) later ≡ slice_get (body ∷ bodies) (cond b 0 (k + 1))
     here_or_later true body bodies k later h = refl
     here_or_later false body bodies k later h = rw add-one h
@@ -27,13 +30,16 @@ there (x ∷ xs) zero lt = (x, refl)
 there (x ∷ xs) (suc k) lt = there xs k (omega arith)
 
 -- the node of a rule's body
-pub record HasNode (rules : List Rule) (limit : ℕ) (nodes : List Node) (numbers : List ℕ) (r : ℕ) (el : Element) : Type 0 where
+pub record HasNode (rules : List Rule) (limit : ℕ) (nodes : List Node) (numbers : List ℕ) (r : ℕ) (el : Element) : Type
+    0 where
   pub node : ℕ
   pub at : slice_get numbers r ≡ Some node
   pub spelled : Spells rules limit nodes node el
 
-module _ (rules : List Rule) (limit : ℕ) (nodes : List Node) (numbers : List ℕ) (are : AreBodies rules limit nodes numbers) where
-  pub node_of_rule : (r : ℕ) (el : Element) → slice_get (bodies rules) r ≡ Some el → HasNode rules limit nodes numbers r el
+module _ (rules : List Rule) (limit : ℕ) (nodes : List Node) (numbers : List ℕ)
+    (are : AreBodies rules limit nodes numbers) where
+  pub node_of_rule : (r : ℕ) (el : Element) → slice_get (bodies rules) r ≡ Some el
+      → HasNode rules limit nodes numbers r el
   node_of_rule r el is =
       let below = get_below (bodies rules) r is in
       let count = length-map rules (λ rule. rule.body) in
@@ -43,7 +49,8 @@ module _ (rules : List Rule) (limit : ℕ) (nodes : List Node) (numbers : List �
       record { node = number.0; at = number.1; spelled = subst (λ v. Spells rules limit nodes number.0 v) same body.2 }
 
   -- the body that a node's number spells is the name's
-  pub body_of_number : (n : List ℕ) (r t : ℕ) → r ≡ id_of rules n → slice_get numbers r ≡ Some t → (el : Element) × (body_of rules n ≡ Some el) × Spells rules limit nodes t el
+  pub body_of_number : (n : List ℕ) (r t : ℕ) → r ≡ id_of rules n → slice_get numbers r ≡ Some t → (el : Element)
+      × (body_of rules n ≡ Some el) × Spells rules limit nodes t el
   body_of_number n r t is at =
       let body = are.spelled r t at in
       (body.0, (body_at_id rules n ∙ subst (λ v. slice_get (bodies rules) v ≡ Some body.0) is body.1), body.2)

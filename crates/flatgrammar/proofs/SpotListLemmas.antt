@@ -1,6 +1,7 @@
 -- Lists of spots that call or read.
 -- Serves: lower, judge.
-use Rattle.std.proofs.Common.{◌≡◌, ℕ, zero, suc, ◌+◌, ◌++◌, ◌<◌, ◌≤◌, ◌⊎◌, inl, inr, Option, Some, None, List, [], ◌∷◌, length, take, slice_get, slice_index_or, Vec, Global, refl, sym, ◌∙◌, ap, subst, arith}
+use Rattle.std.proofs.Common.{◌≡◌, ℕ, zero, suc, ◌+◌, ◌++◌, ◌<◌, ◌≤◌, ◌⊎◌, inl, inr, Option, Some, None, List, [], ◌∷◌}
+use Rattle.std.proofs.Common.{length, take, slice_get, slice_index_or, Vec, Global, refl, sym, ◌∙◌, ap, subst, arith}
 use Rattle.std.proofs.lemmas.Bool.{cases_lt}
 use Rattle.flatgrammar.specs.Places.{In, now, on}
 use Rattle.flatgrammar.specs.declared.block.Spot.{Spot}
@@ -12,8 +13,10 @@ use Rattle.flatgrammar.proofs.CallOfLemmas.{past_get}
 use Rattle.flatgrammar.proofs.FlatCutLemmas.{push_cases}
 use Rattle.flatgrammar.proofs.InLemmas.{in_left, at_end, before_end, among_more, in_front, from_front, at_index_in}
 
-taken : {a : Spot} (k : ℕ) (xs : List Spot) (d : Spot) → k < length xs → In a (take (k + 1) xs) → In a (take k xs) ⊎ (a ≡ slice_index_or xs k d)
-taken {a = a} k xs d lt h = let one : k + 1 ≡ suc k = omega arith in among_more a xs k d lt (subst (λ v. In a (take v xs)) one h)
+taken : {a : Spot} (k : ℕ) (xs : List Spot) (d : Spot) → k < length xs → In a (take (k + 1) xs) → In a (take k xs)
+    ⊎ (a ≡ slice_index_or xs k d)
+taken {a = a} k xs d lt h = let one : k + 1 ≡ suc k = omega arith in
+    among_more a xs k d lt (subst (λ v. In a (take v xs)) one h)
 
 longer : (a : Spot) (k : ℕ) (xs : List Spot) → In a (take k xs) → In a (take (k + 1) xs)
 longer a k xs h = let one : suc k ≡ k + 1 = omega arith in subst (λ v. In a (take v xs)) one (by k xs h)
@@ -26,7 +29,8 @@ longer a k xs h = let one : suc k ≡ k + 1 = omega arith in subst (λ v. In a (
     by (suc k) (x ∷ xs) (on h) = on (by k xs h)
 
 last_in : (k : ℕ) (xs : List Spot) (d : Spot) → k < length xs → In (slice_index_or xs k d) (take (k + 1) xs)
-last_in k xs d lt = let one : suc k ≡ k + 1 = omega arith in subst (λ v. In (slice_index_or xs k d) (take v xs)) one (by k xs lt)
+last_in k xs d lt = let one : suc k ≡ k + 1 = omega arith in subst (λ v. In (slice_index_or xs k d) (take v xs)) one
+    (by k xs lt)
   where
     by : (k : ℕ) (xs : List Spot) → k < length xs → In (slice_index_or xs k d) (take (suc k) xs)
     by zero [] lt = absurd (omega (arith, lt))
@@ -35,7 +39,8 @@ last_in k xs d lt = let one : suc k ≡ k + 1 = omega arith in subst (λ v. In (
     by (suc k) (x ∷ xs) lt = on (by k xs (let less : k < length xs = omega (arith, lt) in less))
 
 -- one more spot, taken or left
-pub pick_one : (Q : Spot → Type 0) (spots list new : List Spot) (k : ℕ) (d : Spot) → k < length spots → new ≡ list ++ slice_index_or spots k d ∷ [] →
+pub pick_one : (Q : Spot → Type 0) (spots list new : List Spot) (k : ℕ) (d : Spot) → k < length spots → new ≡ list
+    ++ slice_index_or spots k d ∷ [] →
     Picks Q (take k spots) list → Picks Q (take (k + 1) spots) new
 pick_one Q spots list new k d lt pushed picks = (
   (λ q h. from q (before_end q (slice_index_or spots k d) list (subst (λ v. In q v) pushed h))),
@@ -46,29 +51,39 @@ pick_one Q spots list new k d lt pushed picks = (
     from q (inl h) = longer q k spots (picks.0 q h)
     from q (inr same) = subst (λ v. In v (take (k + 1) spots)) (sym same) (last_in k spots d lt)
 
-    to : (q : Spot) → In q (take k spots) ⊎ (q ≡ slice_index_or spots k d) → Q q → In q (list ++ slice_index_or spots k d ∷ [])
+    to : (q : Spot) → In q (take k spots) ⊎ (q ≡ slice_index_or spots k d) → Q q
+        → In q (list ++ slice_index_or spots k d ∷ [])
     to q (inl h) is_q = in_left (slice_index_or spots k d ∷ []) (picks.1 q h is_q)
-    to q (inr same) is_q = subst (λ v. In v (list ++ slice_index_or spots k d ∷ [])) (sym same) (at_end (slice_index_or spots k d) list)
+    to q (inr same) is_q = subst (λ v. In v (list ++ slice_index_or spots k d ∷ [])) (sym same)
+        (at_end (slice_index_or spots k d) list)
 
-pub leave_one : (Q : Spot → Type 0) (spots list new : List Spot) (k : ℕ) (d : Spot) → k < length spots → new ≡ list → (Q (slice_index_or spots k d) → ⊥) →
+pub leave_one : (Q : Spot → Type 0) (spots list new : List Spot) (k : ℕ) (d : Spot) → k < length spots → new ≡ list
+    → (Q (slice_index_or spots k d) → ⊥) →
     Picks Q (take k spots) list → Picks Q (take (k + 1) spots) new
 leave_one Q spots list new k d lt is never picks =
-    subst (λ v. Picks Q (take (k + 1) spots) v) (sym is) ((λ q h. longer q k spots (picks.0 q h)), (λ q h is_q. to q (taken k spots d lt h) is_q))
+    subst (λ v. Picks Q (take (k + 1) spots) v) (sym is)
+    ((λ q h. longer q k spots (picks.0 q h)), (λ q h is_q. to q (taken k spots d lt h) is_q))
   where
     to : (q : Spot) → In q (take k spots) ⊎ (q ≡ slice_index_or spots k d) → Q q → In q list
     to q (inl h) is_q = picks.1 q h is_q
     to q (inr same) is_q = absurd (never (subst (λ v. Q v) same is_q))
 
-pub picked_all : (Q : Spot → Type 0) (spots list : List Spot) (k : ℕ) → length spots ≤ k → Picks Q (take k spots) list → Picks Q spots list
-picked_all Q spots list k le picks = ((λ p h. from_front p spots k (picks.0 p h)), (λ p h is_q. picks.1 p (in_front p spots k le h) is_q))
+pub picked_all : (Q : Spot → Type 0) (spots list : List Spot) (k : ℕ) → length spots ≤ k → Picks Q (take k spots) list
+    → Picks Q spots list
+picked_all Q spots list k le picks = (
+  (λ p h. from_front p spots k (picks.0 p h)),
+  (λ p h is_q. picks.1 p (in_front p spots k le h) is_q),
+)
 
-pub letter_more : (flat : code_flat.Tables) (spots : List Spot) (lists : List (Vec Spot Global)) (list : Vec Spot Global) → AreByLetter flat spots lists →
+pub letter_more : (flat : code_flat.Tables) (spots : List Spot) (lists : List (Vec Spot Global))
+    (list : Vec Spot Global) → AreByLetter flat spots lists →
     Picks (Reads flat (length lists)) spots list.items → AreByLetter flat spots (lists ++ list ∷ [])
 letter_more flat spots lists list are one c l is = by (push_cases lists list c l is)
   where
     by : (slice_get lists c ≡ Some l) ⊎ ((c ≡ length lists) × (list ≡ l)) → Picks (Reads flat c) spots l.items
     by (inl was) = are c l was
-    by (inr last) = subst (λ v. Picks (Reads flat v) spots l.items) (sym last.0) (subst (λ v. Picks (Reads flat (length lists)) spots v.items) last.1 one)
+    by (inr last) = subst (λ v. Picks (Reads flat v) spots l.items) (sym last.0)
+        (subst (λ v. Picks (Reads flat (length lists)) spots v.items) last.1 one)
 
 get_left : {A : Type 0} (xs ys : List A) (k : ℕ) → k < length xs → slice_get (xs ++ ys) k ≡ slice_get xs k
 get_left [] ys k lt = absurd (omega (arith, lt))
@@ -80,19 +95,25 @@ get_end [] a = refl
 get_end (x ∷ xs) a = get_end xs a
 
 pub lists_more : (flat : code_flat.Tables) (lists : List SpotList) (list : SpotList) (n : ℕ) → length lists ≡ n →
-    ((h : ℕ) → h < n → IsSpotList flat (block_of flat h).spots (lists_in (slice_get lists h))) → IsSpotList flat (block_of flat n).spots (lists_in (Some list)) →
+    ((h : ℕ) → h < n → IsSpotList flat (block_of flat h).spots (lists_in (slice_get lists h)))
+    → IsSpotList flat (block_of flat n).spots (lists_in (Some list)) →
     (h : ℕ) → h < n + 1 → IsSpotList flat (block_of flat h).spots (lists_in (slice_get (lists ++ list ∷ []) h))
 lists_more flat lists list n count are one h lt = by (cases_lt h n)
   where
     by : (h < n) ⊎ (n ≤ h) → IsSpotList flat (block_of flat h).spots (lists_in (slice_get (lists ++ list ∷ []) h))
-    by (inl less) = subst (λ v. IsSpotList flat (block_of flat h).spots (lists_in v)) (sym (get_left lists (list ∷ []) h (omega (arith, less, count)))) (are h less)
+    by (inl less) = subst (λ v. IsSpotList flat (block_of flat h).spots (lists_in v))
+        (sym (get_left lists (list ∷ []) h (omega (arith, less, count)))) (are h less)
     by (inr le) =
         let same : h ≡ n = omega (arith, lt, le) in
-        let here : slice_get (lists ++ list ∷ []) h ≡ Some list = ap (λ v. slice_get (lists ++ list ∷ []) v) (same ∙ sym count) ∙ get_end lists list in
-        subst (λ v. IsSpotList flat (block_of flat h).spots (lists_in v)) (sym here) (subst (λ v. IsSpotList flat (block_of flat v).spots (lists_in (Some list))) (sym same) one)
+        let here : slice_get (lists ++ list ∷ []) h ≡ Some list = ap (λ v. slice_get (lists ++ list ∷ []) v)
+        (same ∙ sym count) ∙ get_end lists list in
+        subst (λ v. IsSpotList flat (block_of flat h).spots (lists_in v)) (sym here)
+        (subst (λ v. IsSpotList flat (block_of flat v).spots (lists_in (Some list))) (sym same) one)
 
-pub lists_all : (flat : code_flat.Tables) (lists : List SpotList) (n : ℕ) → length lists ≡ n → length flat.blocks.items ≤ n →
-    ((h : ℕ) → h < n → IsSpotList flat (block_of flat h).spots (lists_in (slice_get lists h))) → (h : ℕ) → IsSpotList flat (block_of flat h).spots (lists_in (slice_get lists h))
+pub lists_all : (flat : code_flat.Tables) (lists : List SpotList) (n : ℕ) → length lists ≡ n → length flat.blocks.items
+    ≤ n →
+    ((h : ℕ) → h < n → IsSpotList flat (block_of flat h).spots (lists_in (slice_get lists h))) → (h : ℕ)
+    → IsSpotList flat (block_of flat h).spots (lists_in (slice_get lists h))
 lists_all flat lists n count all are h = by (cases_lt h n)
   where
     by : (h < n) ⊎ (n ≤ h) → IsSpotList flat (block_of flat h).spots (lists_in (slice_get lists h))
@@ -101,12 +122,15 @@ lists_all flat lists n count all are h = by (cases_lt h n)
         let none : slice_get lists h ≡ None = past_get lists h (omega (arith, le, count)) in
         let empty : slice_get flat.blocks.items h ≡ None = past_get flat.blocks.items h (omega (arith, le, all)) in
         subst (λ v. IsSpotList flat (block_in v).spots (lists_in (slice_get lists h))) (sym empty)
-        (subst (λ v. IsSpotList flat [] (lists_in v)) (sym none) (((λ p i. i), (λ p i q. i)), ((λ p i. i), (λ p i q. i)), (λ c list is. absurd cc)))
+        (subst (λ v. IsSpotList flat [] (lists_in v)) (sym none)
+        (((λ p i. i), (λ p i q. i)), ((λ p i. i), (λ p i q. i)), (λ c list is. absurd cc)))
 
 -- the spots that are tried on a letter are all that read it
-pub readers_pick : (flat : code_flat.Tables) (h c : ℕ) → AreSpotLists flat → Picks (Reads flat c) (block_of flat h).spots (readers_of flat h c)
+pub readers_pick : (flat : code_flat.Tables) (h c : ℕ) → AreSpotLists flat
+    → Picks (Reads flat c) (block_of flat h).spots (readers_of flat h c)
 readers_pick flat h c are = by (slice_get (lists_of flat h).by_letter c) refl
   where
-    by : (o : Option (Vec Spot Global)) → slice_get (lists_of flat h).by_letter c ≡ o → Picks (Reads flat c) (block_of flat h).spots (list_or o (lists_of flat h).readers)
+    by : (o : Option (Vec Spot Global)) → slice_get (lists_of flat h).by_letter c ≡ o
+        → Picks (Reads flat c) (block_of flat h).spots (list_or o (lists_of flat h).readers)
     by None is = ((λ p i. (are h).1.0 p i), (λ p i q. (are h).1.1 p i (c, q)))
     by (Some list) is = (are h).2 c list is

@@ -1,4 +1,5 @@
--- What the prediction of a root implies, as a table made once: the places where it and the nodes that it alone calls begin.
+-- What the prediction of a root implies, as a table made once: the places where it and the nodes that it alone calls
+-- begin.
 use Rattle.std.specs.Prelude.{◌≡◌, ℕ, ◌<◌, ◌⊎◌, true, false, List, [], slice_get, Option, Some, None}
 use Rattle.std.proofs.Common.{Vec, Global}
 use Rattle.flatgrammar.specs.declared.flat_item.Item.{Item}
@@ -39,7 +40,8 @@ call_at flat p = call_of flat (item_at 0 p)
 -- the spots that begin wherever a root is predicted
 pub data Inside (flat : code_flat.Tables) (h : ℕ) : Spot → Type 0 where
   begun : {k : ℕ} → k < begin_count flat h → Inside flat h (record { node = h; step = k })
-  called : {p : Spot} {t l k : ℕ} → Inside flat h p → call_at flat p ≡ Some (t, l) → k < begin_count flat t → Inside flat h (record { node = t; step = k })
+  called : {p : Spot} {t l k : ℕ} → Inside flat h p → call_at flat p ≡ Some (t, l) → k < begin_count flat t
+      → Inside flat h (record { node = t; step = k })
 
 pub record IsPassing (flat : code_flat.Tables) (spots : List Spot) (r : Spot) : Type 0 where
   pub from : Spot
@@ -59,7 +61,8 @@ pub record IsCalling (flat : code_flat.Tables) (spots : List Spot) (t : ℕ) : T
 pub record IsBlock (flat : code_flat.Tables) (h : ℕ) (b : Block) : Type 0 where
   pub begun : (k : ℕ) → k < begin_count flat h → In (record { node = h; step = k }) b.spots
   pub inside : (p : Spot) → In p b.spots → Inside flat h p
-  pub called : (t : ℕ) → IsCalling flat b.spots t → In t b.calls ⊎ ((k : ℕ) → k < begin_count flat t → In (record { node = t; step = k }) b.spots)
+  pub called : (t : ℕ) → IsCalling flat b.spots t → In t b.calls
+      ⊎ ((k : ℕ) → k < begin_count flat t → In (record { node = t; step = k }) b.spots)
   pub calls : (t : ℕ) → In t b.calls → IsCalling flat b.spots t
   pub passed : (r : Spot) → IsPassing flat b.spots r → In r b.passes ⊎ In r b.spots
   pub passes : (r : Spot) → In r b.passes → IsPassing flat b.spots r
@@ -77,7 +80,8 @@ IsLate flat a = (a.step < begin_count flat a.node → ⊥) ⊎ ((t : ℕ) × (ca
 -- the tables of a grammar
 pub record AreTables (flat : code_flat.Tables) : Type 0 where
   pub block : (h : ℕ) → IsHead flat h → IsBlock flat h (block_of flat h)
-  pub apart : (g h : ℕ) → IsHead flat g → IsHead flat h → (p : Spot) → In p (block_of flat g).spots → In p (block_of flat h).spots → g ≡ h
+  pub apart : (g h : ℕ) → IsHead flat g → IsHead flat h → (p : Spot) → In p (block_of flat g).spots
+      → In p (block_of flat h).spots → g ≡ h
   pub inner : (h t : ℕ) → IsHead flat h → In t (block_of flat h).calls → IsHead flat t
   pub outer : (a : Item) (t l : ℕ) → IsLate flat a → call_of flat a ≡ Some (t, l) → IsHead flat t
   pub whole : (t : ℕ) → whole_root flat ≡ Some t → IsHead flat t
@@ -118,7 +122,8 @@ Picks Q spots list = ((p : Spot) → In p list → In p spots) × ((p : Spot) �
 
 -- lists by letter
 abbrev pub AreByLetter : code_flat.Tables → List Spot → List (Vec Spot Global) → Type 0
-AreByLetter flat spots lists = (c : ℕ) (list : Vec Spot Global) → slice_get lists c ≡ Some list → Picks (Reads flat c) spots list.items
+AreByLetter flat spots lists = (c : ℕ) (list : Vec Spot Global) → slice_get lists c ≡ Some list
+    → Picks (Reads flat c) spots list.items
 
 pub record Lists : Type 0 where
   pub callers : List Spot
@@ -127,10 +132,15 @@ pub record Lists : Type 0 where
 
 abbrev pub lists_in : Option SpotList → Lists
 lists_in None = record { callers = []; readers = []; by_letter = [] }
-lists_in (Some list) = record { callers = list.callers.items; readers = list.readers.items; by_letter = list.by_letter.items }
+lists_in (Some list) = record {
+  callers = list.callers.items;
+  readers = list.readers.items;
+  by_letter = list.by_letter.items;
+}
 
 abbrev pub IsSpotList : code_flat.Tables → List Spot → Lists → Type 0
-IsSpotList flat spots lists = Picks (Asks flat) spots lists.callers × Picks (ReadsAny flat) spots lists.readers × AreByLetter flat spots lists.by_letter
+IsSpotList flat spots lists = Picks (Asks flat) spots lists.callers × Picks (ReadsAny flat) spots lists.readers
+    × AreByLetter flat spots lists.by_letter
 
 abbrev pub lists_of : code_flat.Tables → ℕ → Lists
 lists_of flat h = lists_in (slice_get flat.lists.items h)

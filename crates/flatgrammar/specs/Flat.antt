@@ -85,17 +85,21 @@ module _ (flat : Flat) where
   -- a name starts and ends where its body does
   pub data Starts : ℕ → Place → Type 0 where
     starts : {s k : ℕ} {node : Node} → slice_get flat.nodes s ≡ Some node → Begins node k → Starts s (at s k)
-    name_starts : {s t r : ℕ} {p : Place} → slice_get flat.nodes s ≡ Some (Name r) → slice_get flat.bodies r ≡ Some t → Starts t p → Starts s p
+    name_starts : {s t r : ℕ} {p : Place} → slice_get flat.nodes s ≡ Some (Name r) → slice_get flat.bodies r ≡ Some t
+        → Starts t p → Starts s p
 
   pub data Ends : Place → ℕ → Type 0 where
     ends : {s k : ℕ} {node : Node} → slice_get flat.nodes s ≡ Some node → IsDone node k → Ends (at s k) s
-    name_ends : {s t r : ℕ} {p : Place} → slice_get flat.nodes s ≡ Some (Name r) → slice_get flat.bodies r ≡ Some t → Ends p t → Ends p s
+    name_ends : {s t r : ℕ} {p : Place} → slice_get flat.nodes s ≡ Some (Name r) → slice_get flat.bodies r ≡ Some t
+        → Ends p t → Ends p s
 
   pub data Reads : Place → Set → Place → Type 0 where
-    reads : {s k l : ℕ} {set : Set} {node : Node} → slice_get flat.nodes s ≡ Some node → Reading node k set l → Reads (at s k) set (at s l)
+    reads : {s k l : ℕ} {set : Set} {node : Node} → slice_get flat.nodes s ≡ Some node → Reading node k set l
+        → Reads (at s k) set (at s l)
 
   pub data Calls : Place → ℕ → Place → Type 0 where
-    calls : {s k t l : ℕ} {node : Node} → slice_get flat.nodes s ≡ Some node → Calling node k t l → Calls (at s k) t (at s l)
+    calls : {s k t l : ℕ} {node : Node} → slice_get flat.nodes s ≡ Some node → Calling node k t l
+        → Calls (at s k) t (at s l)
 
   -- a place in such a node
   pub data Takes : Place → Type 0 where

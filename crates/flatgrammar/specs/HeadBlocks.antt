@@ -30,7 +30,8 @@ pub record SomeOf (P Q : Spot → Type 0) : Type 0 where
   pub is : Q spot
 
 -- new has what old has, and the spots of P with what they ask for
-pub record Grows (flat : code_flat.Tables) (inners : List (Option Inner)) (P : Spot → Type 0) (old new : Block) : Type 0 where
+pub record Grows (flat : code_flat.Tables) (inners : List (Option Inner)) (P : Spot → Type 0) (old new : Block) : Type
+    0 where
   pub spots : (p : Spot) → In p new.spots ↔ (In p old.spots ⊎ P p)
   pub calls : (t : ℕ) → In t new.calls ↔ (In t old.calls ⊎ SomeOf P (λ p. IsCalled flat inners p t))
   pub passes : (r : Spot) → In r new.passes ↔ (In r old.passes ⊎ SomeOf P (λ p. IsPast flat p r))
@@ -45,4 +46,5 @@ abbrev pub IsAtHome : code_flat.Tables → List (Option Inner) → ℕ → Spot 
 IsAtHome flat inners h p = (home_in inners p.node ≡ h) × (p.step < begin_count flat p.node)
 
 abbrev pub AreHeadBlocks : code_flat.Tables → List (Option Inner) → List code_block.Block → Type 0
-AreHeadBlocks flat inners blocks = (h : ℕ) → Grows flat inners (IsAtHome flat inners h) (block_in None) (block_in (slice_get blocks h))
+AreHeadBlocks flat inners blocks = (h : ℕ) → Grows flat inners (IsAtHome flat inners h) (block_in None)
+    (block_in (slice_get blocks h))

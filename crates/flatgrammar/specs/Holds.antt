@@ -7,5 +7,7 @@ module _ (flat : Flat) (x : List ℕ) where
   pub data Holds : ℕ → Place → ℕ → Type 0 where
     begins : {p : Place} → Starts flat flat.whole p → Holds 0 p 0
     called : {i j s : ℕ} {p q r : Place} → Holds j q i → Calls flat q s r → Starts flat s p → Holds j p j
-    has_read : {i j c : ℕ} {q r : Place} {set : Set} → Holds j q i → Reads flat q set r → slice_get x j ≡ Some c → Has set c → Holds (j + 1) r i
-    returned : {i j k s : ℕ} {q r p : Place} → Holds j p k → Ends flat p s → Holds k q i → Calls flat q s r → (Takes flat q → k < j) → Holds j r i
+    has_read : {i j c : ℕ} {q r : Place} {set : Set} → Holds j q i → Reads flat q set r → slice_get x j ≡ Some c
+        → Has set c → Holds (j + 1) r i
+    returned : {i j k s : ℕ} {q r p : Place} → Holds j p k → Ends flat p s → Holds k q i → Calls flat q s r
+        → (Takes flat q → k < j) → Holds j r i

@@ -1,9 +1,11 @@
 -- The nodes of a lowered grammar spell its rules.
-use Rattle.std.specs.Prelude.{◌≡◌, ℕ, ◌<◌, Bool, true, false, List, [], ◌∷◌, length, map, slice_get, Option, Some, None, leb, if◌then◌else◌}
+use Rattle.std.specs.Prelude.{◌≡◌, ℕ, ◌<◌, Bool, true, false, List, [], ◌∷◌, length, map, slice_get, Option, Some, None}
+use Rattle.std.specs.Prelude.{leb, if◌then◌else◌}
 use Rattle.abnfcheck.specs.Derivable.{Within}
 use Rattle.abnfread.specs.Element as e
 use Rattle.abnfread.specs.Element.{Element, Elements, Rule, id_of}
-use Rattle.flatgrammar.specs.Flat.{Node, Flat, Set, Exactly, EitherCase, Between, Letters, Concat, Alt, Rep, Turns, Opt, Name, Nothing, capped}
+use Rattle.flatgrammar.specs.Flat.{Node, Flat, Set, Exactly, EitherCase, Between, Letters, Concat, Alt, Rep, Turns, Opt}
+use Rattle.flatgrammar.specs.Flat.{Name, Nothing, capped}
 use Rattle.flatgrammar.specs.NullElements.{IsEmpty, IsNeverEmpty}
 
 -- the letters that may stand for one of a text
@@ -16,8 +18,8 @@ abbrev pub capped_most : ℕ → Option ℕ → Option ℕ
 capped_most limit None = None
 capped_most limit (Some most) = if leb most limit then Some most else None
 
--- On lines within the limit, numbers above it make no difference. Where the operand of a repetition derives the empty list,
--- only turns that take a letter are counted: the others are there without a letter, as many as are asked for.
+-- On lines within the limit, numbers above it make no difference. Where the operand of a repetition derives the empty
+-- list, only turns that take a letter are counted: the others are there without a letter, as many as are asked for.
 module _ (rules : List Rule) (limit : ℕ) (nodes : List Node) where
   mutual
     -- node s spells an element
@@ -26,14 +28,17 @@ module _ (rules : List Rule) (limit : ℕ) (nodes : List Node) where
 
     -- a name that no rule has is the number of rules
     pub data Shows : Node → Element → Type 0 where
-      shows_text : {folds : Bool} {t : List ℕ} {sets : List Set} → sets ≡ map (letter_set folds) t → Shows (Letters sets) (e.Text folds t)
+      shows_text : {folds : Bool} {t : List ℕ} {sets : List Set} → sets ≡ map (letter_set folds) t
+          → Shows (Letters sets) (e.Text folds t)
       shows_values : {vs : List ℕ} {sets : List Set} → sets ≡ map Exactly vs → Shows (Letters sets) (e.Values vs)
       shows_range : {low high : ℕ} → Shows (Letters (Between low high ∷ [])) (e.Range low high)
       shows_concat : {ms : List ℕ} {es : Elements} → SpellAll ms es → Shows (Concat ms) (e.Concat es)
       shows_alt : {ms : List ℕ} {es : Elements} → SpellAll ms es → Shows (Alt ms) (e.Alt es)
-      shows_rep : {a c m : ℕ} {b d : Option ℕ} {el : Element} → c ≡ capped limit a → d ≡ capped_most limit b → IsNeverEmpty rules el → Spells m el →
+      shows_rep : {a c m : ℕ} {b d : Option ℕ} {el : Element} → c ≡ capped limit a → d ≡ capped_most limit b
+          → IsNeverEmpty rules el → Spells m el →
           Shows (Rep c d m) (e.Rep a b el)
-      shows_turns : {a m : ℕ} {b d : Option ℕ} {el : Element} → d ≡ capped_most limit b → Within a b → IsEmpty rules el → Spells m el →
+      shows_turns : {a m : ℕ} {b d : Option ℕ} {el : Element} → d ≡ capped_most limit b → Within a b → IsEmpty rules el
+          → Spells m el →
           Shows (Turns d m) (e.Rep a b el)
       shows_reversed : {a b : ℕ} {el : Element} → b < a → Shows Nothing (e.Rep a (Some b) el)
       shows_opt : {m : ℕ} {el : Element} → Spells m el → Shows (Opt m) (e.Opt el)
@@ -42,12 +47,14 @@ module _ (rules : List Rule) (limit : ℕ) (nodes : List Node) where
 
     pub data SpellAll : List ℕ → Elements → Type 0 where
       spell_none : SpellAll [] e.none
-      spell_more : {m : ℕ} {ms : List ℕ} {el : Element} {es : Elements} → Spells m el → SpellAll ms es → SpellAll (m ∷ ms) (e.more el es)
+      spell_more : {m : ℕ} {ms : List ℕ} {el : Element} {es : Elements} → Spells m el → SpellAll ms es
+          → SpellAll (m ∷ ms) (e.more el es)
 
 -- of each rule the node that spells its body
 pub record AreBodies (rules : List Rule) (limit : ℕ) (nodes : List Node) (bodies : List ℕ) : Type 0 where
   pub count : length bodies ≡ length rules
-  pub spelled : (id m : ℕ) → slice_get bodies id ≡ Some m → (el : Element) × (slice_get (e.bodies rules) id ≡ Some el) × Spells rules limit nodes m el
+  pub spelled : (id m : ℕ) → slice_get bodies id ≡ Some m → (el : Element) × (slice_get (e.bodies rules) id ≡ Some el)
+      × Spells rules limit nodes m el
 
 -- the nodes spell the rules' bodies, and the whole is the judged rule's body alone
 pub record IsLowered (rules : List Rule) (judged : ℕ) (flat : Flat) : Type 0 where

@@ -1,12 +1,18 @@
 -- The relations of a node as functions.
-use Rattle.std.specs.Prelude.{ℕ, ◌+◌, ◌-◌, Bool, true, false, ◌&&◌, ◌||◌, eqb, ltb, leb, length, slice_get, Option, Some, None, if◌then◌else◌}
+use Rattle.std.specs.Prelude.{ℕ, ◌+◌, ◌-◌, Bool, true, false, ◌&&◌, ◌||◌, eqb, ltb, leb, length, slice_get, Option}
+use Rattle.std.specs.Prelude.{Some, None, if◌then◌else◌}
 use Rattle.flatgrammar.specs.FlatViews.{nodes_of}
 use Rattle.flatgrammar.specs.declared.tables.Tables as code_flat
 use Rattle.flatgrammar.specs.Flat.{Node, Set, Has, Flat, Letters, Concat, Alt, Rep, Turns, Opt, Name, Nothing}
 
 -- the grammar of the tables
 abbrev pub flat_of : code_flat.Tables → Flat
-flat_of flat = record { nodes = nodes_of flat.nodes.items; bodies = flat.bodies.items; whole = flat.whole; limit = flat.limit }
+flat_of flat = record {
+  nodes = nodes_of flat.nodes.items;
+  bodies = flat.bodies.items;
+  whole = flat.whole;
+  limit = flat.limit;
+}
 
 -- the steps below this are those where the node begins
 abbrev pub begin_count : Node → ℕ

@@ -27,7 +27,8 @@ module _ (rules : List Rule) where
 -- of each rule a mark that tells whether it derives the empty list
 pub record AreNullRules (rules : List Rule) (marks : List Bool) : Type 0 where
   pub count : length marks ≡ length rules
-  pub each : (id : ℕ) (mark : Bool) → slice_get marks id ≡ Some mark → (has : ℕ → Bool) → (mark ≡ true) ↔ RuleDerives has rules id []
+  pub each : (id : ℕ) (mark : Bool) → slice_get marks id ≡ Some mark → (has : ℕ → Bool) → (mark ≡ true)
+      ↔ RuleDerives has rules id []
 
 -- as many rules, of which the same derive the empty list
 pub record AreNullAlike (rules others : List Rule) : Type 0 where

@@ -7,7 +7,8 @@ module _ (nodes : List Node) (bodies : List ℕ) where
     -- from a node's beginning to one of its steps; a turn that takes a letter is no way
     pub data Passes : ℕ → ℕ → Type 0 where
       begun : {s k : ℕ} {node : Node} → slice_get nodes s ≡ Some node → Begins node k → Passes s k
-      stepped : {s k t l : ℕ} {node : Node} → Passes s k → slice_get nodes s ≡ Some node → Calling node k t l → (IsTaking node → ⊥) → Nullable t → Passes s l
+      stepped : {s k t l : ℕ} {node : Node} → Passes s k → slice_get nodes s ≡ Some node → Calling node k t l
+          → (IsTaking node → ⊥) → Nullable t → Passes s l
 
     -- to where it is done
     pub data Nullable : ℕ → Type 0 where

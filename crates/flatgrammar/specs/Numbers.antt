@@ -49,6 +49,7 @@ module _ (rules : List Rule) (limit : ℕ) where
   -- the bodies of the first rules are cut into nodes
   pub record AreCut (count : ℕ) (nodes : List Node) (numbers : List ℕ) : Type 0 where
     pub long : length numbers ≡ count
-    pub spelled : (id m : ℕ) → slice_get numbers id ≡ Some m → (el : Element) × (slice_get (bodies rules) id ≡ Some el) × Spells rules limit nodes m el
+    pub spelled : (id m : ℕ) → slice_get numbers id ≡ Some m → (el : Element) × (slice_get (bodies rules) id ≡ Some el)
+        × Spells rules limit nodes m el
     pub sized : places nodes ≤ sizes limit (take count (bodies rules))
     pub ordered : AreOrdered nodes

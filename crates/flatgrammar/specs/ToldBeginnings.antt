@@ -12,9 +12,11 @@ pub record HasItem (flat : Flat) (x : List ℕ) (j : ℕ) : Type 0 where
   pub origin : ℕ
   pub held : Holds flat x j place origin
 
--- On lines within the limit: the set after a list of letters holds the whole's end with origin 0 exactly if the rule derives
--- the list; and the set after its first n letters, one or more, is not empty exactly if they begin a list that the rule
--- derives, of whatever length.
+-- On lines within the limit: the set after a list of letters holds the whole's end with origin 0 exactly if the rule
+-- derives the list; and the set after its first n letters, one or more, is not empty exactly if they begin a list that
+-- the rule derives, of whatever length.
 pub record TellsBeginnings (has : ℕ → Bool) (rules : List Rule) (id : ℕ) (flat : Flat) : Type 0 where
-  pub tells : (x : List ℕ) → length x ≤ flat.limit → AreLetters has x → Holds flat x (length x) (at flat.whole 1) 0 ↔ RuleDerives has rules id x
-  pub viable : (x : List ℕ) (n : ℕ) → length x ≤ flat.limit → AreLetters has x → 0 < n → n ≤ length x → HasItem flat x n ↔ BeginsMember has rules id x n
+  pub tells : (x : List ℕ) → length x ≤ flat.limit → AreLetters has x → Holds flat x (length x) (at flat.whole 1) 0
+      ↔ RuleDerives has rules id x
+  pub viable : (x : List ℕ) (n : ℕ) → length x ≤ flat.limit → AreLetters has x → 0 < n → n ≤ length x → HasItem flat x n
+      ↔ BeginsMember has rules id x n

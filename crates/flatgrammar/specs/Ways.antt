@@ -54,10 +54,12 @@ module _ (old : List Way) where
     pub kept : (s : ℕ) (r : Option ℕ) → slice_get old s ≡ Some (Found r) → slice_get new s ≡ Some (Found r)
     pub ahead : (s t : ℕ) → slice_get new s ≡ Some (On t) → slice_get old s ≡ Some (On t)
     pub found : (s : ℕ) (r : Option ℕ) → slice_get new s ≡ Some (Found r) →
-        (slice_get old s ≡ Some (Found r)) ⊎ ((t : ℕ) × (slice_get old s ≡ Some (On t)) × (slice_get new t ≡ Some (Found r)))
+        (slice_get old s ≡ Some (Found r)) ⊎ ((t : ℕ) × (slice_get old s ≡ Some (On t))
+        × (slice_get new t ≡ Some (Found r)))
     pub sound : (s u : ℕ) → slice_get new s ≡ Some (Found (Some u)) → LeadsTo s u
 
-  -- A walk from a node came to s: each node on its path led on, to one on the path or to s. The others are as they were.
+  -- A walk from a node came to s: each node on its path led on, to one on the path or to s. The others are as they
+  -- were.
   pub record IsWalk (start s : ℕ) (path : List ℕ) (ways : List Way) : Type 0 where
     pub count : length ways ≡ length old
     pub within : s < length ways

@@ -60,7 +60,8 @@ fn mark_many(callers: &mut [Caller], root: usize)
 fn mark_place(flat: &Tables, node: usize, step: usize, callers: &mut [Caller])
     ensures count { length callers.new ≡ length callers.old }
     ensures still { StillAllow callers.old callers.new }
-    ensures here { (t l : ℕ) → call_at flat.now (spot node step) ≡ Some (t, l) → allows_in (slice_get callers.new t) node step }
+    ensures here { (t l : ℕ) → call_at flat.now (spot node step) ≡ Some (t, l)
+        → allows_in (slice_get callers.new t) node step }
 {
     let item = Item {
         node,
@@ -76,7 +77,8 @@ fn mark_place(flat: &Tables, node: usize, step: usize, callers: &mut [Caller])
 fn mark_places(flat: &Tables, node: usize, count: usize, callers: &mut [Caller])
     ensures count { length callers.new ≡ length callers.old }
     ensures still { StillAllow callers.old callers.new }
-    ensures here { (k t l : ℕ) → k < count → call_at flat.now (spot node k) ≡ Some (t, l) → allows_in (slice_get callers.new t) node k }
+    ensures here { (k t l : ℕ) → k < count → call_at flat.now (spot node k) ≡ Some (t, l)
+        → allows_in (slice_get callers.new t) node k }
 {
     for step in 0..count {
         mark_place(flat, node, step, callers);
@@ -87,7 +89,8 @@ fn mark_places(flat: &Tables, node: usize, count: usize, callers: &mut [Caller])
 fn mark_turns(flat: &Tables, operand: usize, callers: &mut [Caller])
     ensures count { length callers.new ≡ length callers.old }
     ensures still { StillAllow callers.old callers.new }
-    ensures here { (t l m n k : ℕ) → root_in (slice_get flat.now.roots.items operand) m ≡ Some (t, l) → allows_in (slice_get callers.new t) n k }
+    ensures here { (t l m n k : ℕ) → root_in (slice_get flat.now.roots.items operand) m ≡ Some (t, l)
+        → allows_in (slice_get callers.new t) n k }
 {
     if let Some(Some(root)) = flat.roots.get(operand) {
         mark_many(callers, *root);
@@ -98,7 +101,8 @@ fn mark_turns(flat: &Tables, operand: usize, callers: &mut [Caller])
 fn mark_node(flat: &Tables, node: usize, callers: &mut [Caller])
     ensures count { length callers.new ≡ length callers.old }
     ensures still { StillAllow callers.old callers.new }
-    ensures here { (k t l : ℕ) → call_at flat.now (spot node k) ≡ Some (t, l) → allows_in (slice_get callers.new t) node k }
+    ensures here { (k t l : ℕ) → call_at flat.now (spot node k) ≡ Some (t, l)
+        → allows_in (slice_get callers.new t) node k }
 {
     if let Some(at) = flat.nodes.get(node) {
         mark_places(flat, node, call_count(at), callers);

@@ -19,11 +19,11 @@ use std::alloc::Global;
 use std::marker::Model;
 use std::rc::Rc;
 
-/// A grammar as numbered nodes: of each rule the node of its body, and the whole, a concatenation of the judged rule's body
-/// alone. It serves lines of at most `limit` letters.
+/// A grammar as numbered nodes: of each rule the node of its body, and the whole, a concatenation of the judged rule's
+/// body alone. It serves lines of at most `limit` letters.
 ///
-/// It keeps what judging looks up by node: where a node starts and ends, whether it is nullable, and what its prediction
-/// implies.
+/// It keeps what judging looks up by node: where a node starts and ends, whether it is nullable, and what its
+/// prediction implies.
 #[derive(Drop)]
 pub struct Flat {
     tables: Rc<Tables>,

@@ -3,7 +3,8 @@ ghost use Rattle.std.specs.Prelude.{◌≡◌, ◌↔◌, ◌+◌, ◌^◌, ◌<
 ghost use Rattle.abnfcheck.specs.Derivable.{small};
 ghost use Rattle.flatgrammar.specs.Flat.{Has, Rep, Turns};
 ghost use Rattle.flatgrammar.specs.FlatViews.{set_of, node_of};
-ghost use Rattle.flatgrammar.specs.NodeSteps.{begin_count, is_done, callee, call_count, turned, takes, read_at, IfSomeSet};
+ghost use Rattle.flatgrammar.specs.NodeSteps.{begin_count, is_done, callee, call_count, turned, takes, read_at};
+ghost use Rattle.flatgrammar.specs.NodeSteps.{IfSomeSet};
 
 /// A set of letters.
 #[derive(Clone, Copy, Debug, PartialEq, Eq)]
@@ -105,8 +106,8 @@ pub(crate) fn is_done(node: &Node, step: usize) -> bool
     }
 }
 
-// The operand and the step after a turn, if there is a turn at that step. Without a greatest number the turns behind the
-// least are not counted.
+// The operand and the step after a turn, if there is a turn at that step. Without a greatest number the turns behind
+// the least are not counted.
 fn turn(least: u32, most: Option<u32>, operand: usize, step: usize) -> Option<(usize, usize)>
     ensures rep { result ≡ callee (Rep least most operand) step }
     ensures turns { least ≡ 0 → result ≡ callee (Turns most operand) step }

@@ -21,7 +21,8 @@ fn add_call(
     spot: Spot,
     calls: &mut Vec<usize>,
 ) -> Result<(), Memory>
-    ensures { IfOk result (λ _. (t : ℕ) → In t calls.new.items ↔ (In t calls.old.items ⊎ IsCalled flat.now inners.now spot t)) }
+    ensures { IfOk result (λ _. (t : ℕ) → In t calls.new.items
+        ↔ (In t calls.old.items ⊎ IsCalled flat.now inners.now spot t)) }
 {
     let item = Item {
         node: spot.node,
@@ -40,9 +41,11 @@ fn add_call(
     }
 }
 
-// Adds the spot behind a call of a nullable root, unless it is the spot that calls, or what is called has to take a letter.
+// Adds the spot behind a call of a nullable root, unless it is the spot that calls, or what is called has to take a
+// letter.
 fn add_pass(flat: &Tables, spot: Spot, passes: &mut Vec<Spot>) -> Result<(), Memory>
-    ensures { IfOk result (λ _. (r : spots.Spot) → In r passes.new.items ↔ (In r passes.old.items ⊎ IsPast flat.now spot r)) }
+    ensures { IfOk result (λ _. (r : spots.Spot) → In r passes.new.items
+        ↔ (In r passes.old.items ⊎ IsPast flat.now spot r)) }
 {
     let item = Item {
         node: spot.node,
@@ -72,7 +75,8 @@ fn add_spot(
     spot: Spot,
     block: &mut Block,
 ) -> Result<(), Memory>
-    ensures { IfOk result (λ _. Grows flat.now inners.now (λ p. p ≡ spot) (block_in (Some block.old)) (block_in (Some block.new))) }
+    ensures { IfOk result (λ _. Grows flat.now inners.now (λ p. p ≡ spot) (block_in (Some block.old))
+        (block_in (Some block.new))) }
 {
     block.spots.push(spot)?;
     add_call(flat, inners, spot, &mut block.calls)?;
@@ -87,7 +91,8 @@ fn add_node(
     node: usize,
     block: &mut Block,
 ) -> Result<(), Memory>
-    ensures { IfOk result (λ _. Grows flat.now inners.now (BeginsAt flat.now node) (block_in (Some block.old)) (block_in (Some block.new))) }
+    ensures { IfOk result (λ _. Grows flat.now inners.now (BeginsAt flat.now node) (block_in (Some block.old))
+        (block_in (Some block.new))) }
 {
     for step in 0..count(flat, node) {
         add_spot(flat, inners, Spot { node, step }, block)?;
@@ -117,7 +122,8 @@ pub(crate) fn head_blocks(
     flat: &Tables,
     inners: &[Option<Inner>],
 ) -> Result<Vec<Block>, Memory>
-    requires { (t : ℕ) (inner : inner.Inner) → the_inner inners.now t ≡ Some inner → inner.head < length flat.now.nodes.items }
+    requires { (t : ℕ) (inner : inner.Inner) → the_inner inners.now t ≡ Some inner
+        → inner.head < length flat.now.nodes.items }
     ensures { IfOk result (λ blocks. AreHeadBlocks flat.now inners.now blocks.items) }
 {
     let mut blocks = empty_blocks(alloc, flat.nodes.len())?;

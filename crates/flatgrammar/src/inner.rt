@@ -11,8 +11,8 @@ use crate::tables::{Tables, call, whole_root};
 use ruletable::Memory;
 use std::alloc::Global;
 
-/// The place that alone calls a node, where another node begins: the head in whose block it stands, the node and the step
-/// of the place, and the step after it.
+/// The place that alone calls a node, where another node begins: the head in whose block it stands, the node and the
+/// step of the place, and the step after it.
 #[derive(Clone, Copy)]
 pub struct Inner {
     pub head: usize,

@@ -7,8 +7,8 @@ ghost use Rattle.flatgrammar.specs.Holds.{Holds};
 ghost use Rattle.flatgrammar.specs.Lowered.{IsLowered};
 ghost use Rattle.flatgrammar.specs.Places.{In, AreDifferent, places};
 
-/// Set n of the items of n letters, where n is within the limit, holds the whole's end exactly where the judged rule derives
-/// them.
+/// Set n of the items of n letters, where n is within the limit, holds the whole's end exactly where the judged rule
+/// derives them.
 pub fn items_tell()
     ensures { (has : ℕ → Bool) (rules : List Rule) (judged : ℕ) (flat : Flat) (x : List ℕ) →
         IsLowered rules judged flat →
@@ -20,5 +20,6 @@ pub fn items_tell()
 /// Different items of set j are at most as many as places and origins allow.
 pub fn items_at_most()
     ensures { (flat : Flat) (x : List ℕ) (j : ℕ) (set : List (Place × ℕ)) → AreDifferent set →
-        ((p : Place) (i : ℕ) → In {A = Place × ℕ} (p, i) set → Holds flat x j p i) → length set ≤ places flat.nodes * (j + 1) }
+        ((p : Place) (i : ℕ) → In {A = Place × ℕ} (p, i) set → Holds flat x j p i)
+        → length set ≤ places flat.nodes * (j + 1) }
 {}

@@ -1,5 +1,6 @@
 //! Cuts the bodies of a grammar's rules into numbered nodes.
-ghost use Rattle.std.specs.Prelude.{◌≡◌, ◌<◌, ◌≤◌, ◌+◌, ◌↔◌, ℕ, List, ◌++◌, ◌∷◌, [], length, map, get_or, Bool, Some, IfOk, IsTrue};
+ghost use Rattle.std.specs.Prelude.{◌≡◌, ◌<◌, ◌≤◌, ◌+◌, ◌↔◌, ℕ, List, ◌++◌, ◌∷◌, [], length, map, get_or, Bool, Some};
+ghost use Rattle.std.specs.Prelude.{IfOk, IsTrue};
 ghost use Rattle.abnfcheck.specs.Derivable.{Within};
 ghost use Rattle.abnfread.specs.Element as e;
 ghost use Rattle.abnfread.specs.Element.{Element, Rule, id_of};
@@ -124,11 +125,12 @@ fn is_reversed(least: u32, most: Option<u32>) -> bool
     }
 }
 
-// The node of a repetition, for lines within the limit. Where the operand derives the empty list, only turns that take a
-// letter are counted, from none on: the others are there without a letter.
+// The node of a repetition, for lines within the limit. Where the operand derives the empty list, only turns that take
+// a letter are counted, from none on: the others are there without a letter.
 fn repeat(limit: usize, least: u32, most: Option<u32>, made: Made) -> Node
     ensures shows { (rules : List Rule) (nodes : List flat.Node) (el : Element) →
-        Tells rules made.empty el → Spells rules limit nodes made.number el → Shows rules limit nodes (node_of result) (e.Rep least most el) }
+        Tells rules made.empty el → Spells rules limit nodes made.number el → Shows rules limit nodes (node_of result)
+        (e.Rep least most el) }
     ensures width { width (node_of result) ≤ capped limit (top least most) + 1 }
 {
     if is_reversed(least, most) {
@@ -181,8 +183,8 @@ fn mark(marks: &[bool], id: usize) -> bool
     }
 }
 
-/// Adds the nodes of an element, its operands first, and gives the number of its own, and whether the element derives the
-/// empty list.
+/// Adds the nodes of an element, its operands first, and gives the number of its own, and whether the element derives
+/// the empty list.
 #[cycle(numbering)]
 pub(crate) fn number(
     alloc: Global,
@@ -194,7 +196,8 @@ pub(crate) fn number(
 ) -> Result<Made, Memory>
     requires folds { rules.now.names ≡ NameCase.Fold }
     requires marks { NamesTell (rules_of rules.now) marks.now }
-    ensures { IfOk result (λ made. Numbers (rules_of rules.now) limit (nodes_of nodes.old.items) (nodes_of nodes.new.items)
+    ensures { IfOk result (λ made. Numbers (rules_of rules.now) limit (nodes_of nodes.old.items)
+        (nodes_of nodes.new.items)
         made.number made.empty (element_of e.now)) }
 {
     let (node, empty) = match e {
@@ -249,7 +252,8 @@ fn number_all(
 ) -> Result<Members, Memory>
     requires folds { rules.now.names ≡ NameCase.Fold }
     requires marks { NamesTell (rules_of rules.now) marks.now }
-    ensures { IfOk result (λ made. NumbersAll (rules_of rules.now) limit (nodes_of nodes.old.items) (nodes_of nodes.new.items)
+    ensures { IfOk result (λ made. NumbersAll (rules_of rules.now) limit (nodes_of nodes.old.items)
+        (nodes_of nodes.new.items)
         made.numbers.items made.all made.any (elements_of members.now)) }
 {
     let mut numbers = Vec::new(alloc);
@@ -275,7 +279,8 @@ pub(crate) fn number_bodies(
     requires folds { rules.now.names ≡ NameCase.Fold }
     requires marks { NamesTell (rules_of rules.now) marks.now }
     requires none { nodes.old.items ≡ [] }
-    ensures { IfOk result (λ bodies. AreCut (rules_of rules.now) limit (length rules.now.rules) (nodes_of nodes.new.items) bodies.items) }
+    ensures { IfOk result (λ bodies. AreCut (rules_of rules.now) limit (length rules.now.rules)
+        (nodes_of nodes.new.items) bodies.items) }
 {
     let mut bodies = Vec::new(alloc);
     for id in 0..rules.len() {

@@ -37,8 +37,8 @@ fn null_marks(alloc: Global, grammar: &SoundAbnf) -> Result<Vec<bool>, Memory>
     Ok(marks)
 }
 
-/// Lowers rules to numbered nodes, for lines of at most `limit` letters. There must be as many as the grammar has, and the
-/// same must derive the empty list. The rule that the grammar judges is judged. `Memory` if an allocation fails.
+/// Lowers rules to numbered nodes, for lines of at most `limit` letters. There must be as many as the grammar has, and
+/// the same must derive the empty list. The rule that the grammar judges is judged. `Memory` if an allocation fails.
 pub fn lower_rules(
     alloc: Global,
     grammar: &SoundAbnf,
@@ -61,13 +61,14 @@ pub fn lower_rules(
     Ok(flat)
 }
 
-/// Lowers a grammar to numbered nodes, for lines of at most `limit` letters. The judged rule derives a list of so many letters
-/// exactly if the set after them holds the whole's end with origin 0. `Memory` if an allocation fails.
+/// Lowers a grammar to numbered nodes, for lines of at most `limit` letters. The judged rule derives a list of so many
+/// letters exactly if the set after them holds the whole's end with origin 0. `Memory` if an allocation fails.
 pub fn lower(alloc: Global, grammar: &SoundAbnf, limit: usize) -> Result<Flat, Memory>
     ensures limit { IfOk result (λ flat. flat.limit ≡ limit) }
     ensures lowered { IfOk result (IsLowered (rules_of grammar.now.rules) grammar.now.judged) }
     ensures tells { IfOk result (λ flat. (has : ℕ → Bool) (x : List ℕ) → length x ≤ limit → AreLetters has x →
-        Holds flat x (length x) (Place.at flat.whole 1) 0 ↔ RuleDerives has (rules_of grammar.now.rules) grammar.now.judged x) }
+        Holds flat x (length x) (Place.at flat.whole 1) 0 ↔ RuleDerives has (rules_of grammar.now.rules)
+        grammar.now.judged x) }
     ensures places { IfOk result (λ flat. places flat.nodes ≤ sizes limit (bodies (rules_of grammar.now.rules)) + 2) }
 {
     // The contract of `judged` says that names compare without case.

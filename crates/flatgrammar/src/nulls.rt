@@ -13,8 +13,8 @@ use ruletable::Memory;
 use std::alloc::Global;
 use std::slice::from_ref;
 
-// Returns what a repetition needs to be nullable: nothing if it may have no turn, else its operand, and more turns than it
-// may have are never there.
+// Returns what a repetition needs to be nullable: nothing if it may have no turn, else its operand, and more turns than
+// it may have are never there.
 fn repeat_need(least: u32, most: Option<u32>, operand: &usize) -> Need<'_>
     ensures { demand_of result ≡ need_of_repeat least most operand.now }
 {
@@ -81,7 +81,9 @@ pub(crate) fn find_nulls(
 ) -> Result<Vec<bool>, Memory>
     requires ordered { AreOrdered (nodes_of nodes.now) }
     requires within { (id m : ℕ) → slice_get bodies.now id ≡ Some m → m < length nodes.now }
-    ensures { IfOk result (λ nulls. (whole limit : ℕ) → AreNulls (record { nodes = nodes_of nodes.now; bodies = bodies.now; whole = whole; limit = limit }) nulls.items) }
+    ensures { IfOk result (λ nulls. (whole limit : ℕ)
+        → AreNulls (record { nodes = nodes_of nodes.now; bodies = bodies.now; whole = whole; limit = limit })
+        nulls.items) }
 {
     let needs = needs(alloc, nodes, bodies)?;
     let marks = least(alloc, &needs)?;

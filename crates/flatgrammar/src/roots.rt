@@ -2,7 +2,8 @@
 ghost use Rattle.std.specs.Prelude.{◌≡◌, ℕ, ◌<◌, List, [], length, map, slice_get, Some, Contains, IfOk};
 ghost use Rattle.flatgrammar.specs.Roots.{AreRoots};
 ghost use Rattle.flatgrammar.specs.FlatViews.{node_of, nodes_of};
-ghost use Rattle.flatgrammar.specs.Ways.{first_way, root_of, AreFirst, AreWays, IsWalk, IsFound, IsOnWithin, set_all, Settles};
+ghost use Rattle.flatgrammar.specs.Ways.{first_way, root_of, AreFirst, AreWays, IsWalk, IsFound, IsOnWithin, set_all};
+ghost use Rattle.flatgrammar.specs.Ways.{Settles};
 
 use crate::flat_node::Node;
 use ruletable::Memory;
@@ -41,7 +42,8 @@ fn first_ways(alloc: Global, nodes: &[Node], bodies: &[usize]) -> Result<Vec<Way
     Ok(ways)
 }
 
-// Follows the ways from `start` up to a node whose root is known. The nodes on the path count as without a root, so a path that comes back to itself ends.
+// Follows the ways from `start` up to a node whose root is known. The nodes on the path count as without a root, so a
+// path that comes back to itself ends.
 fn walk(start: usize, ways: &mut [Way], path: &mut Vec<usize>) -> Result<usize, Memory>
     requires start { start < length ways.old }
     requires within { IsOnWithin ways.old }

@@ -12,8 +12,8 @@ use std::alloc::Global;
 // As many reading spots are walked without a table by letter.
 const FEW: usize = 8;
 
-/// Holds of the spots of a block those that call a root with a block of its own, and those that read: all, and where they are
-/// many those of each letter below 256.
+/// Holds of the spots of a block those that call a root with a block of its own, and those that read: all, and where
+/// they are many those of each letter below 256.
 #[derive(Drop)]
 pub struct SpotList {
     pub callers: Vec<Spot>,
@@ -137,7 +137,8 @@ fn list_of(alloc: Global, flat: &Tables, from: &[Spot]) -> Result<SpotList, Memo
 
 /// Returns of each block its lists.
 pub(crate) fn spot_lists(alloc: Global, flat: &Tables) -> Result<Vec<SpotList>, Memory>
-    ensures { IfOk result (λ lists. (h : ℕ) → IsSpotList flat.now (block_of flat.now h).spots (lists_in (slice_get lists.items h))) }
+    ensures { IfOk result (λ lists. (h : ℕ) → IsSpotList flat.now (block_of flat.now h).spots
+        (lists_in (slice_get lists.items h))) }
 {
     let mut lists = Vec::new(alloc);
     for head in 0..flat.blocks.len() {

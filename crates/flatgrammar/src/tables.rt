@@ -11,9 +11,9 @@ use crate::flat_node::{Node, callee, is_done, takes};
 use crate::inner::{Inner, inner_at};
 use crate::spot_list::SpotList;
 
-/// Holds the nodes of a lowered grammar, of each rule the node of its body, of each node its root, a mark of what is nullable
-/// the place that alone calls it, if it stands in the block of another, its block and the lists of its block, the whole's node,
-/// and how many letters a line may have.
+/// Holds the nodes of a lowered grammar, of each rule the node of its body, of each node its root, a mark of what is
+/// nullable the place that alone calls it, if it stands in the block of another, its block and the lists of its block,
+/// the whole's node, and how many letters a line may have.
 #[derive(Drop)]
 pub struct Tables {
     pub nodes: Vec<Node>,

@@ -3,7 +3,8 @@
 use Rattle.std.proofs.Common.{◌≡◌, ℕ, Bool, List, [], ◌∷◌, refl}
 use Rattle.abnfread.specs.Element.{Element, Elements, Rule}
 use Rattle.abnfcheck.specs.Derivable as der
-use Rattle.abnfcheck.specs.Derivable.{Derives, DerivesAll, DerivesSome, DerivesTimes, all_done, then, this, later, no_more, one_more, RuleDerives}
+use Rattle.abnfcheck.specs.Derivable.{Derives, DerivesAll, DerivesSome, DerivesTimes, all_done, then, this, later}
+use Rattle.abnfcheck.specs.Derivable.{no_more, one_more, RuleDerives}
 
 module _ (has test : ℕ → Bool) (rules : List Rule) where
   mutual
@@ -28,7 +29,8 @@ module _ (has test : ℕ → Bool) (rules : List Rule) where
     some_empty (this d) is = this (empty d is)
     some_empty (later d) is = later (some_empty d is)
 
-    times_empty : {el : Element} {k : ℕ} {w : List ℕ} → DerivesTimes has rules el k w → w ≡ [] → DerivesTimes test rules el k w
+    times_empty : {el : Element} {k : ℕ} {w : List ℕ} → DerivesTimes has rules el k w → w ≡ []
+        → DerivesTimes test rules el k w
     times_empty no_more is = no_more
     times_empty (one_more {w = []} d ds) is = one_more (empty d refl) (times_empty ds is)
     times_empty (one_more {w = c ∷ w} d ds) is = absurd (cc is)

@@ -1,6 +1,7 @@
 -- The items of the pruned rules tell what the rules derive, and what begins it.
 -- Serves: lower_viable.
-use Rattle.std.proofs.Common.{◌≡◌, ◌↔◌, ℕ, zero, suc, ◌<◌, ◌≤◌, Bool, List, [], ◌∷◌, length, take, Some, refl, sym, ◌∙◌, ap, subst, arith}
+use Rattle.std.proofs.Common.{◌≡◌, ◌↔◌, ℕ, zero, suc, ◌<◌, ◌≤◌, Bool, List, [], ◌∷◌, length, take, Some, refl, sym, ◌∙◌}
+use Rattle.std.proofs.Common.{ap, subst, arith}
 use Rattle.std.specs.Prelude.{slice_get}
 use Rattle.std.proofs.lemmas.List.{length-map}
 use Rattle.abnfread.specs.Element as e
@@ -16,12 +17,15 @@ use Rattle.flatgrammar.specs.ToldBeginnings.{HasItem, TellsBeginnings}
 use Rattle.flatgrammar.proofs.BeforeLemmas.{get_below}
 use Rattle.flatgrammar.proofs.RuleDerivesLemmas.{exactly}
 use Rattle.flatgrammar.proofs.RuleNodeLemmas.{body_at_id, there}
-use Rattle.viable.specs.Pruned.{IsProductive, Keeps, keep_text, keep_values, keep_range, keep_concat, keep_alt, keep_rep, empty_rep, keep_opt, empty_opt, keep_name, KeepsAll, keep_none, keep_more, KeepsSome, some_none, kept, dropped, IsLeftBody, left_body, no_body, ArePruned}
+use Rattle.viable.specs.Pruned.{IsProductive, Keeps, keep_text, keep_values, keep_range, keep_concat, keep_alt}
+use Rattle.viable.specs.Pruned.{keep_rep, empty_rep, keep_opt, empty_opt, keep_name, KeepsAll, keep_none, keep_more}
+use Rattle.viable.specs.Pruned.{KeepsSome, some_none, kept, dropped, IsLeftBody, left_body, no_body, ArePruned}
 use Rattle.viable.proofs.AreNullAlikeLemmas.{any_letters}
 use Rattle.viable.proofs.ContextLemmas.{AreLiveBodies, items_go_on}
 use Rattle.viable.proofs.HasItemLemmas.{has_item}
 use Rattle.viable.proofs.KeepsLemmas.{LeftBody, no_prose, keeps_productive, forth, back, sized}
-use Rattle.viable.proofs.LiveLemmas.{IsLive, live_text, live_values, live_range, live_concat, live_alt, live_rep, live_opt, live_name, AreLive, no_live, more_live}
+use Rattle.viable.proofs.LiveLemmas.{IsLive, live_text, live_values, live_range, live_concat, live_alt, live_rep}
+use Rattle.viable.proofs.LiveLemmas.{live_opt, live_name, AreLive, no_live, more_live}
 use Rattle.viable.proofs.NothingLemmas.{no_item}
 
 letters_take : (has : ℕ → Bool) (n : ℕ) (x : List ℕ) → AreLetters has x → AreLetters has (take n x)
@@ -58,7 +62,8 @@ module _ (has : ℕ → Bool) (rules left : List Rule) (pruned : ArePruned has r
   at_id : (n : List ℕ) → body_of left n ≡ slice_get (bodies left) (id_of rules n)
   at_id n = body_at_id left n ∙ ap (λ v. slice_get (bodies left) v) (pruned.ids n)
 
-  names : (n : List ℕ) (el : Element) → body_of rules n ≡ Some el → IsProductive has rules el → LeftBody has rules left n el
+  names : (n : List ℕ) (el : Element) → body_of rules n ≡ Some el → IsProductive has rules el
+      → LeftBody has rules left n el
   names n el is p =
       let d = body_left (id_of rules n) el (sym (body_at_id rules n) ∙ is) in
       record { body = d.0; keeps = keeps_body d.2 p; is = at_id n ∙ d.1 }
@@ -70,7 +75,8 @@ module _ (has : ℕ → Bool) (rules left : List Rule) (pruned : ArePruned has r
       record { body = d.0; is = d.1; derives = forth has rules left names r.derives letters k }
 
   rule_back : {id : ℕ} {w : List ℕ} → RuleDerives has left id w → RuleDerives has rules id w
-  rule_back {id = id} {w = w} r = let el = body_was id r.body r.is in record { body = el.0; is = el.1; derives = by el.2 r.derives }
+  rule_back {id = id} {w = w} r = let el = body_was id r.body r.is in
+      record { body = el.0; is = el.1; derives = by el.2 r.derives }
     where
       by : {el d : Element} → IsLeftBody has rules el d → Derives has left d w → Derives has rules el w
       by (left_body k) d = back has rules left names d k
@@ -79,7 +85,11 @@ module _ (has : ℕ → Bool) (rules left : List Rule) (pruned : ArePruned has r
   -- what is kept has productive parts alone
   still_productive : {el d : Element} → Keeps has rules el d → IsProductive has left d
   still_productive k =
-      let p = keeps_productive has rules k in record { word = p.word; letters = p.letters; derives = forth has rules left names p.derives p.letters k }
+      let p = keeps_productive has rules k in record {
+        word = p.word;
+        letters = p.letters;
+        derives = forth has rules left names p.derives p.letters k;
+      }
 
   mutual
     lives : {el d : Element} → Keeps has rules el d → IsLive has left d
@@ -103,7 +113,8 @@ module _ (has : ℕ → Bool) (rules left : List Rule) (pruned : ArePruned has r
     some_live (kept k ks) = more_live (still_productive k) (lives k) (some_live ks)
     some_live (dropped not ks) = some_live ks
 
-  live_bodies : (judged : ℕ) {el d : Element} → slice_get (bodies left) judged ≡ Some d → Keeps has rules el d → AreLiveBodies has left judged
+  live_bodies : (judged : ℕ) {el d : Element} → slice_get (bodies left) judged ≡ Some d → Keeps has rules el d
+      → AreLiveBodies has left judged
   live_bodies judged {el = el} {d = d} is k = record {
     named = λ n b found p. let was = body_was (id_of rules n) b (sym (at_id n) ∙ found) in by was.2 p;
     whole = λ b here. let same : d ≡ b = cc (is, here) in
@@ -115,7 +126,8 @@ module _ (has : ℕ → Bool) (rules left : List Rule) (pruned : ArePruned has r
       by (no_body not) p = absurd (no_prose has left p.derives)
 
   module _ (judged : ℕ) (flat : Flat) (lowered : IsLowered left judged flat) where
-    forth_member : (x : List ℕ) (n : ℕ) → AreLetters has x → BeginsMember has rules judged x n → BeginsMember has left judged x n
+    forth_member : (x : List ℕ) (n : ℕ) → AreLetters has x → BeginsMember has rules judged x n
+        → BeginsMember has left judged x n
     forth_member x n letters b = record {
       rest = b.rest;
       letters = b.letters;
@@ -125,22 +137,27 @@ module _ (has : ℕ → Bool) (rules left : List Rule) (pruned : ArePruned has r
     back_member : (x : List ℕ) (n : ℕ) → BeginsMember has left judged x n → BeginsMember has rules judged x n
     back_member x n b = record { rest = b.rest; letters = b.letters; derives = rule_back b.derives }
 
-    is_nothing : {m : ℕ} {t : List ℕ} → Spells left flat.limit flat.nodes m (e.Prose t) → slice_get flat.nodes m ≡ Some Nothing
+    is_nothing : {m : ℕ} {t : List ℕ} → Spells left flat.limit flat.nodes m (e.Prose t)
+        → slice_get flat.nodes m ≡ Some Nothing
     is_nothing (spells is shows_prose) = is
 
-    viable : (x : List ℕ) (n : ℕ) → length x ≤ flat.limit → AreLetters has x → 0 < n → n ≤ length x → HasItem flat x n ↔ BeginsMember has rules judged x n
+    viable : (x : List ℕ) (n : ℕ) → length x ≤ flat.limit → AreLetters has x → 0 < n → n ≤ length x → HasItem flat x n
+        ↔ BeginsMember has rules judged x n
     viable x n line letters past le = by was.2 body.2 body.1
       where
-        body : (d : Element) × (slice_get (bodies left) judged ≡ Some d) × Spells left flat.limit flat.nodes lowered.body d
+        body : (d : Element) × (slice_get (bodies left) judged ≡ Some d)
+            × Spells left flat.limit flat.nodes lowered.body d
         body = lowered.spelled.spelled judged lowered.body lowered.body_is
 
         was : (el : Element) × (slice_get (bodies rules) judged ≡ Some el) × IsLeftBody has rules el body.0
         was = body_was judged body.0 body.1
 
-        by : {el d : Element} → IsLeftBody has rules el d → Spells left flat.limit flat.nodes lowered.body d → slice_get (bodies left) judged ≡ Some d →
+        by : {el d : Element} → IsLeftBody has rules el d → Spells left flat.limit flat.nodes lowered.body d
+            → slice_get (bodies left) judged ≡ Some d →
             HasItem flat x n ↔ BeginsMember has rules judged x n
         by (left_body k) sp is = (
-          (λ h. back_member x n (items_go_on has left judged flat lowered (live_bodies judged is k) x line letters n h)),
+          (λ h. back_member x n (items_go_on has left judged flat lowered (live_bodies judged is k) x line letters n
+              h)),
           (λ b. has_item has left judged flat lowered x line n le (forth_member x n letters b)),
         )
         by (no_body not) sp is = (
@@ -167,12 +184,14 @@ null_alike has rules left pruned = record {
 }
 
 -- the bodies have no more places
-body_sized : (has : ℕ → Bool) (rules : List Rule) (limit : ℕ) {el d : Element} → IsLeftBody has rules el d → size limit d ≤ size limit el
+body_sized : (has : ℕ → Bool) (rules : List Rule) (limit : ℕ) {el d : Element} → IsLeftBody has rules el d
+    → size limit d ≤ size limit el
 body_sized has rules limit (left_body k) = sized has rules limit k
 body_sized has rules limit (no_body not) = omega arith
 
 sizes_less : (limit : ℕ) (els ds : List Element) → length ds ≡ length els →
-    ((id : ℕ) (el d : Element) → slice_get els id ≡ Some el → slice_get ds id ≡ Some d → size limit d ≤ size limit el) → sizes limit ds ≤ sizes limit els
+    ((id : ℕ) (el d : Element) → slice_get els id ≡ Some el → slice_get ds id ≡ Some d → size limit d ≤ size limit el)
+    → sizes limit ds ≤ sizes limit els
 sizes_less limit [] [] count each = omega arith
 sizes_less limit [] (d ∷ ds) count each = absurd (omega (arith, count))
 sizes_less limit (el ∷ els) [] count each = omega arith
@@ -181,9 +200,11 @@ sizes_less limit (el ∷ els) (d ∷ ds) count each =
     let rest = sizes_less limit els ds (omega (arith, count)) (λ id c b was is. each (suc id) c b was is) in
     omega (arith, first, rest)
 
-pub places_left : (has : ℕ → Bool) (rules left : List Rule) (limit : ℕ) → ArePruned has rules left → sizes limit (bodies left) ≤ sizes limit (bodies rules)
+pub places_left : (has : ℕ → Bool) (rules left : List Rule) (limit : ℕ) → ArePruned has rules left
+    → sizes limit (bodies left) ≤ sizes limit (bodies rules)
 places_left has rules left limit pruned =
     let all = length-map rules (λ rule. rule.body) in
     let same = length-map left (λ rule. rule.body) in
     let count = pruned.count in
-    sizes_less limit (bodies rules) (bodies left) (omega (arith, all, same, count)) (λ id el d was is. body_sized has rules limit (pruned.left_of id el d was is))
+    sizes_less limit (bodies rules) (bodies left) (omega (arith, all, same, count))
+    (λ id el d was is. body_sized has rules limit (pruned.left_of id el d was is))

@@ -1,6 +1,7 @@
 -- Whatever stands in an item set goes on to a list that the judged rule derives.
 -- Serves: lower_viable.
-use Rattle.std.proofs.Common.{◌≡◌, ℕ, zero, suc, ◌+◌, ◌<◌, ◌≤◌, Bool, Some, List, [], ◌∷◌, ◌++◌, length, take, sym, ◌∙◌, ap, subst, arith, append_assoc}
+use Rattle.std.proofs.Common.{◌≡◌, ℕ, zero, suc, ◌+◌, ◌<◌, ◌≤◌, Bool, Some, List, [], ◌∷◌, ◌++◌, length, take, sym, ◌∙◌}
+use Rattle.std.proofs.Common.{ap, subst, arith, append_assoc}
 use Rattle.std.specs.Prelude.{slice_get}
 use Rattle.std.proofs.lemmas.List.{append-nil}
 use Rattle.abnfread.specs.Element as e
@@ -11,9 +12,11 @@ use Rattle.abnfcheck.specs.Derivable.{AreLetters, Derives, DerivesAll, all_done,
 use Rattle.abnfcheck.proofs.IsPathLemmas.{here, step}
 use Rattle.abnfcheck.proofs.LiesLemmas.{Lies, are_letters}
 use Rattle.abnfcheck.proofs.YieldsLemmas.{letters_both}
-use Rattle.flatgrammar.specs.Flat.{Node, Flat, Name, Place, at, Calling, Starts, starts, name_starts, reads, Calls, calls}
+use Rattle.flatgrammar.specs.Flat.{Node, Flat, Name, Place, at, Calling, Starts, starts, name_starts, reads, Calls}
+use Rattle.flatgrammar.specs.Flat.{calls}
 use Rattle.flatgrammar.specs.Holds.{Holds, begins, called, has_read, returned}
-use Rattle.flatgrammar.specs.Lowered.{Spells, spells, Shows, shows_name, shows_concat, spell_none, spell_more, IsLowered}
+use Rattle.flatgrammar.specs.Lowered.{Spells, spells, Shows, shows_name, shows_concat, spell_none, spell_more}
+use Rattle.flatgrammar.specs.Lowered.{IsLowered}
 use Rattle.flatgrammar.specs.Places.{width}
 use Rattle.flatgrammar.specs.ToldBeginnings.{HasItem}
 use Rattle.flatgrammar.proofs.OnLineLemmas.{short}
@@ -26,20 +29,24 @@ use Rattle.viable.proofs.LiveLemmas.{IsLive, live_concat, live_name, no_live, mo
 lies_take : (x : List ℕ) (i j : ℕ) (w : List ℕ) → Lies x i w j → take j x ≡ take i x ++ w
 lies_take x i j [] here = sym (append-nil (take i x))
 lies_take x i j (c ∷ w) (step on l) =
-    lies_take x (i + 1) j w (subst (λ k. Lies x k w j) (sym on.1) l) ∙ (ap (λ v. v ++ w) (one x i c on.0) ∙ append_assoc (take i x) (c ∷ []) w)
+    lies_take x (i + 1) j w (subst (λ k. Lies x k w j) (sym on.1) l)
+    ∙ (ap (λ v. v ++ w) (one x i c on.0) ∙ append_assoc (take i x) (c ∷ []) w)
   where
     one : (x : List ℕ) (i c : ℕ) → slice_get x i ≡ Some c → take (i + 1) x ≡ take i x ++ c ∷ []
     one [] i c is = absurd (cc is)
     one (b ∷ x) zero c is = let same : b ≡ c = cc is in ap (λ v. v ∷ []) same
-    one (b ∷ x) (suc i) c is = let on : suc i + 1 ≡ suc (i + 1) = omega arith in ap (λ k. take k (b ∷ x)) on ∙ ap (λ v. b ∷ v) (one x i c is)
+    one (b ∷ x) (suc i) c is = let on : suc i + 1 ≡ suc (i + 1) = omega arith in ap (λ k. take k (b ∷ x)) on
+        ∙ ap (λ v. b ∷ v) (one x i c is)
 
-joined : (x : List ℕ) (i j : ℕ) (w v f z : List ℕ) → Lies x i w j → (take i x ++ ((w ++ v) ++ f)) ++ z ≡ (take j x ++ v) ++ (f ++ z)
+joined : (x : List ℕ) (i j : ℕ) (w v f z : List ℕ) → Lies x i w j → (take i x ++ ((w ++ v) ++ f)) ++ z ≡ (take j x ++ v)
+    ++ (f ++ z)
 joined x i j w v f z l = rw (lies_take x i j w l) (same (take i x) w v f z)
   where
     same : (a w v f z : List ℕ) → (a ++ ((w ++ v) ++ f)) ++ z ≡ ((a ++ w) ++ v) ++ (f ++ z)
     same a w v f z =
         ap (λ u. (a ++ u) ++ z) (append_assoc w v f) ∙ (ap (λ u. u ++ z) (sym (append_assoc a w (v ++ f))) ∙
-        (append_assoc (a ++ w) (v ++ f) z ∙ (ap (λ u. (a ++ w) ++ u) (append_assoc v f z) ∙ sym (append_assoc (a ++ w) v (f ++ z)))))
+        (append_assoc (a ++ w) (v ++ f) z ∙ (ap (λ u. (a ++ w) ++ u) (append_assoc v f z)
+        ∙ sym (append_assoc (a ++ w) v (f ++ z)))))
 
 joined_one : (x : List ℕ) (i j : ℕ) (w f z : List ℕ) → Lies x i w j → (take i x ++ (w ++ f)) ++ z ≡ take j x ++ (f ++ z)
 joined_one x i j w f z l = rw (lies_take x i j w l) (same (take i x) w f z)
@@ -50,9 +57,11 @@ joined_one x i j w f z l = rw (lies_take x i j w l) (same (take i x) w f z)
 -- the bodies of productive names, and that of the judged rule, have productive parts alone
 pub record AreLiveBodies (has : ℕ → Bool) (rules : List Rule) (judged : ℕ) : Type 0 where
   pub named : (n : List ℕ) (el : Element) → body_of rules n ≡ Some el → IsProductive has rules el → IsLive has rules el
-  pub whole : (el : Element) → slice_get (bodies rules) judged ≡ Some el → IsProductive has rules el × IsLive has rules el
+  pub whole : (el : Element) → slice_get (bodies rules) judged ≡ Some el → IsProductive has rules el
+      × IsLive has rules el
 
-module _ (has : ℕ → Bool) (rules : List Rule) (judged : ℕ) (flat : Flat) (lowered : IsLowered rules judged flat) (live : AreLiveBodies has rules judged) (x : List ℕ) (line : length x ≤ flat.limit)
+module _ (has : ℕ → Bool) (rules : List Rule) (judged : ℕ) (flat : Flat) (lowered : IsLowered rules judged flat)
+    (live : AreLiveBodies has rules judged) (x : List ℕ) (line : length x ≤ flat.limit)
     (letters : AreLetters has x) where
   moved : {v w : List ℕ} → v ≡ w → RuleDerives has rules judged v → RuleDerives has rules judged w
   moved same d = subst (λ z. RuleDerives has rules judged z) same d
@@ -62,7 +71,8 @@ module _ (has : ℕ → Bool) (rules : List Rule) (judged : ℕ) (flat : Flat) (
     tail_letters : AreLetters has tail
     derived : RuleDerives has rules judged ((take i x ++ v) ++ tail)
 
-  -- node s spells an element in whose place whatever it derives from i on goes on to a list that the judged rule derives
+  -- node s spells an element in whose place whatever it derives from i on goes on to a list that the judged rule
+  -- derives
   record Context (i s : ℕ) : Type 0 where
     el : Element
     spelled : Spells rules flat.limit flat.nodes s el
@@ -79,31 +89,45 @@ module _ (has : ℕ → Bool) (rules : List Rule) (judged : ℕ) (flat : Flat) (
     alive : IsLive has rules of
     up : (v : List ℕ) → Derives has rules of v → Derives has rules el v
 
-  into : {s t k : ℕ} {el : Element} → Starts flat s (at t k) → Spells rules flat.limit flat.nodes s el → IsLive has rules el → Into el t
+  into : {s t k : ℕ} {el : Element} → Starts flat s (at t k) → Spells rules flat.limit flat.nodes s el
+      → IsLive has rules el → Into el t
   into {el = el} (starts is b) sp l = record { of = el; spelled = sp; alive = l; up = λ v d. d }
   into {t = t} {el = el} (name_starts {t = t'} {r = r} is at_r st) (spells {node = node} is' shown) l =
-      by (let same : node ≡ Name r = cc (is, is') in subst (λ v. Shows rules flat.limit flat.nodes v el) same shown) l (λ body spelled alive. into {el = body} st spelled alive)
+      by (let same : node ≡ Name r = cc (is, is') in subst (λ v. Shows rules flat.limit flat.nodes v el) same shown) l
+      (λ body spelled alive. into {el = body} st spelled alive)
     where
-      inner : {n : List ℕ} (body : Element) → body_of rules n ≡ Some body → IsProductive has rules (e.Name n) → IsLive has rules body
+      inner : {n : List ℕ} (body : Element) → body_of rules n ≡ Some body → IsProductive has rules (e.Name n)
+          → IsLive has rules body
       inner {n = n} body is p = of p.letters p.derives
         where
           of : {w : List ℕ} → AreLetters has w → Derives has rules (e.Name n) w → IsLive has rules body
           of all (der.name {e = other} {w = w} found d) =
               let same : other ≡ body = cc (found, is) in
-              live.named n body is (record { word = w; letters = all; derives = subst (λ v. Derives has rules v w) same d })
+              live.named n body is (record {
+                word = w;
+                letters = all;
+                derives = subst (λ v. Derives has rules v w) same d;
+              })
 
       by : {el : Element} → Shows rules flat.limit flat.nodes (Name r) el → IsLive has rules el →
-          ((body : Element) → Spells rules flat.limit flat.nodes t' body → IsLive has rules body → Into body t) → Into el t
+          ((body : Element) → Spells rules flat.limit flat.nodes t' body → IsLive has rules body → Into body t)
+          → Into el t
       by (shows_name {n = n} found) (live_name p) rec =
           let body = body_of_number rules flat.limit flat.nodes flat.bodies lowered.spelled n r t' found at_r in
           let inside = rec body.0 body.2 (inner body.0 body.1 p) in
-          record { of = inside.of; spelled = inside.spelled; alive = inside.alive; up = λ v d. der.name body.1 (inside.up v d) }
+          record {
+            of = inside.of;
+            spelled = inside.spelled;
+            alive = inside.alive;
+            up = λ v d. der.name body.1 (inside.up v d);
+          }
 
   begun_context : {p : Place} → Starts flat flat.whole p → ContextAt 0 p
   begun_context {p = at t k} st =
       let body = lowered.spelled.spelled judged lowered.body lowered.body_is in
       let alive = live.whole body.0 body.1 in
-      let inside = into st (spells lowered.whole (shows_concat (spell_more body.2 spell_none))) (live_concat (more_live alive.0 alive.1 no_live)) in
+      let inside = into st (spells lowered.whole (shows_concat (spell_more body.2 spell_none)))
+      (live_concat (more_live alive.0 alive.1 no_live)) in
       record {
         el = inside.of;
         spelled = inside.spelled;
@@ -111,7 +135,11 @@ module _ (has : ℕ → Bool) (rules : List Rule) (judged : ℕ) (flat : Flat) (
         on = λ v all d. record {
           tail = [];
           tail_letters = tt;
-          derived = record { body = body.0; is = body.1; derives = subst (λ u. Derives has rules body.0 u) (sym (append-nil v)) (one (inside.up v d)) };
+          derived = record {
+            body = body.0;
+            is = body.1;
+            derives = subst (λ u. Derives has rules body.0 u) (sym (append-nil v)) (one (inside.up v d));
+          };
         };
       }
     where
@@ -121,8 +149,10 @@ module _ (has : ℕ → Bool) (rules : List Rule) (judged : ℕ) (flat : Flat) (
       one : {el : Element} {w : List ℕ} → Derives has rules (e.Concat (more el none)) w → Derives has rules el w
       one (der.concat d) = alone d
 
-  called_context : {i j s : ℕ} {p q r : Place} → Holds flat x j q i → Calls flat q s r → Starts flat s p → ContextAt i q → ContextAt j p
-  called_context {i = i} {j = j} {p = at t m} h (calls {s = u} {k = k} {t = callee} {l = l} {node = outer} at_u c) st context = by context.spelled
+  called_context : {i j s : ℕ} {p q r : Place} → Holds flat x j q i → Calls flat q s r → Starts flat s p → ContextAt i q
+      → ContextAt j p
+  called_context {i = i} {j = j} {p = at t m} h (calls {s = u} {k = k} {t = callee} {l = l} {node = outer} at_u c) st
+      context = by context.spelled
     where
       reached : Reached has rules flat.limit flat lowered.spelled x letters line i j (at u k)
       reached = sound has rules flat.limit flat lowered.spelled x letters line h
@@ -131,7 +161,8 @@ module _ (has : ℕ → Bool) (rules : List Rule) (judged : ℕ) (flat : Flat) (
       by (spells {node = node} is shown) =
           let same : outer ≡ node = cc (at_u, is) in
           let call = subst (λ v. Calling v k callee l) same c in
-          let part = part_of has rules flat.limit flat.nodes call shown context.alive (reached.part node context.el is shown)
+          let part = part_of has rules flat.limit flat.nodes call shown context.alive
+          (reached.part node context.el is shown)
           (let few = short x reached.lies in omega (arith, few, line)) in
           let inside = into st part.spelled part.live in
           record {
@@ -141,12 +172,15 @@ module _ (has : ℕ → Bool) (rules : List Rule) (judged : ℕ) (flat : Flat) (
             on = λ v all d.
                 let before = part.on v (inside.up v d) in
                 let both = letters_both has reached.word v (are_letters x has letters reached.lies) all in
-                let f = goes_on has rules flat.limit flat.nodes shown context.alive (calling_within flat call) both before in
-                let on = context.on ((reached.word ++ v) ++ f.rest) (letters_both has (reached.word ++ v) f.rest both f.letters) f.derives in
+                let f = goes_on has rules flat.limit flat.nodes shown context.alive (calling_within flat call) both
+                before in
+                let on = context.on ((reached.word ++ v) ++ f.rest)
+                (letters_both has (reached.word ++ v) f.rest both f.letters) f.derives in
                 record {
                   tail = f.rest ++ on.tail;
                   tail_letters = letters_both has f.rest on.tail f.letters on.tail_letters;
-                  derived = moved {v = (take i x ++ ((reached.word ++ v) ++ f.rest)) ++ on.tail} {w = (take j x ++ v) ++ (f.rest ++ on.tail)}
+                  derived = moved {v = (take i x ++ ((reached.word ++ v) ++ f.rest)) ++ on.tail}
+                      {w = (take j x ++ v) ++ (f.rest ++ on.tail)}
                       (joined x i j reached.word v f.rest on.tail reached.lies) on.derived;
                 };
           }
@@ -177,11 +211,14 @@ module _ (has : ℕ → Bool) (rules : List Rule) (judged : ℕ) (flat : Flat) (
               let same : place.0 ≡ node = cc (place.1, is) in
               let lt = subst (λ v. k < width v) same place.2 in
               let all = are_letters x has letters reached.lies in
-              let f = goes_on has rules flat.limit flat.nodes shown there.alive lt all (reached.part node there.el is shown) in
-              let on = there.on (reached.word ++ f.rest) (letters_both has reached.word f.rest all f.letters) f.derives in
+              let f = goes_on has rules flat.limit flat.nodes shown there.alive lt all
+              (reached.part node there.el is shown) in
+              let on = there.on (reached.word ++ f.rest) (letters_both has reached.word f.rest all f.letters)
+              f.derives in
               record {
                 rest = f.rest ++ on.tail;
                 letters = letters_both has f.rest on.tail f.letters on.tail_letters;
-                derives = moved {v = (take i x ++ (reached.word ++ f.rest)) ++ on.tail} {w = take j x ++ (f.rest ++ on.tail)}
+                derives = moved {v = (take i x ++ (reached.word ++ f.rest)) ++ on.tail}
+                    {w = take j x ++ (f.rest ++ on.tail)}
                     (joined_one x i j reached.word f.rest on.tail reached.lies) on.derived;
               }

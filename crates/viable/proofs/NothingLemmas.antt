@@ -2,7 +2,8 @@
 -- Serves: lower_viable.
 use Rattle.std.proofs.Common.{◌≡◌, ℕ, ◌<◌, List, [], ◌∷◌, Some, refl, sym, ap, ◌∙◌, subst, arith}
 use Rattle.std.specs.Prelude.{slice_get}
-use Rattle.flatgrammar.specs.Flat.{Flat, Node, Nothing, Concat, Place, at, Set, Begins, IsDone, Reading, Calling, Starts, starts, name_starts, Ends, ends, name_ends, Reads, reads, Calls, calls}
+use Rattle.flatgrammar.specs.Flat.{Flat, Node, Nothing, Concat, Place, at, Set, Begins, IsDone, Reading, Calling}
+use Rattle.flatgrammar.specs.Flat.{Starts, starts, name_starts, Ends, ends, name_ends, Reads, reads, Calls, calls}
 use Rattle.flatgrammar.specs.Holds.{Holds, begins, called, has_read, returned}
 use Rattle.flatgrammar.specs.ToldBeginnings.{HasItem}
 
@@ -15,7 +16,8 @@ step_in (at s k) = k
 some_same : {a b : Node} → Some a ≡ Some b → a ≡ b
 some_same is = cc is
 
-module _ (flat : Flat) (body : ℕ) (whole : slice_get flat.nodes flat.whole ≡ Some (Concat (body ∷ []))) (nothing : slice_get flat.nodes body ≡ Some Nothing) where
+module _ (flat : Flat) (body : ℕ) (whole : slice_get flat.nodes flat.whole ≡ Some (Concat (body ∷ [])))
+    (nothing : slice_get flat.nodes body ≡ Some Nothing) where
   the_whole : {s : ℕ} {node : Node} → s ≡ flat.whole → slice_get flat.nodes s ≡ Some node → node ≡ Concat (body ∷ [])
   the_whole same is = some_same (sym is ∙ (ap (λ v. slice_get flat.nodes v) same ∙ whole))
 
@@ -26,7 +28,8 @@ module _ (flat : Flat) (body : ℕ) (whole : slice_get flat.nodes flat.whole ≡
       by b = elim b [ ]
 
   no_start : {s : ℕ} {p : Place} → s ≡ body → Starts flat s p → ⊥
-  no_start same (starts {s = s} is b) = none_begins (some_same (sym is ∙ (ap (λ v. slice_get flat.nodes v) same ∙ nothing))) b
+  no_start same (starts {s = s} is b) = none_begins
+      (some_same (sym is ∙ (ap (λ v. slice_get flat.nodes v) same ∙ nothing))) b
   no_start same (name_starts {s = s} is there st) = absurd (cc (is, ap (λ v. slice_get flat.nodes v) same, nothing))
 
   not_done : {node : Node} {k : ℕ} → node ≡ Concat (body ∷ []) → k ≡ 0 → IsDone node k → ⊥
@@ -43,7 +46,8 @@ module _ (flat : Flat) (body : ℕ) (whole : slice_get flat.nodes flat.whole ≡
   called_body {k = k} {t = t} {l = l} same zero c = by zero (subst (λ v. Calling v k t l) same c)
     where
       by : {k t l : ℕ} → k ≡ 0 → Calling (Concat (body ∷ [])) k t l → t ≡ body
-      by zero (Calling.member {k = k} {s = s} is) = let first : slice_get (body ∷ []) 0 ≡ Some s = subst (λ v. slice_get (body ∷ []) v ≡ Some s) zero is in cc first
+      by zero (Calling.member {k = k} {s = s} is) = let first : slice_get (body ∷ []) 0 ≡ Some s =
+          subst (λ v. slice_get (body ∷ []) v ≡ Some s) zero is in cc first
 
   calls_body : {s : ℕ} {q r : Place} → q ≡ at flat.whole 0 → Calls flat q s r → s ≡ body
   calls_body same (calls is c) = called_body (the_whole (ap node_in same) is) (ap step_in same) c

@@ -1,6 +1,7 @@
 -- Elements and rules without the parts that derive no list of letters.
 use Rattle.std.specs.Prelude.{◌≡◌, ℕ, Bool, List, length, slice_get, Option, Some, None, Vec}
-use Rattle.abnfread.specs.Element.{Element, Elements, Text, Values, Range, Concat, Alt, Rep, Opt, Name, Prose, none, more, Rule, bodies, id_of}
+use Rattle.abnfread.specs.Element.{Element, Elements, Text, Values, Range, Concat, Alt, Rep, Opt, Name, Prose, none}
+use Rattle.abnfread.specs.Element.{more, Rule, bodies, id_of}
 use Rattle.abnfread.specs.AbnfViews.{element_of, elements_of}
 use Rattle.abnfread.specs.declared.elem.Elem.{Elem}
 use Rattle.abnfcheck.specs.Derivable.{AreLetters, Derives, DerivesAll, Within}
@@ -64,7 +65,8 @@ module _ (has : ℕ → Bool) (rules : List Rule) where
 pub record ArePruned (has : ℕ → Bool) (rules left : List Rule) : Type 0 where
   pub count : length left ≡ length rules
   pub ids : (n : List ℕ) → id_of left n ≡ id_of rules n
-  pub left_of : (id : ℕ) (e d : Element) → slice_get (bodies rules) id ≡ Some e → slice_get (bodies left) id ≡ Some d → IsLeftBody has rules e d
+  pub left_of : (id : ℕ) (e d : Element) → slice_get (bodies rules) id ≡ Some e → slice_get (bodies left) id ≡ Some d
+      → IsLeftBody has rules e d
 
 abbrev pub some_element : Option Elem → Option Element
 some_element None = None

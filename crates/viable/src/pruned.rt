@@ -8,7 +8,8 @@ ghost use Rattle.abnfcheck.specs.RuleMarks.{AreProductive};
 ghost use Rattle.leastset.specs.NumberMarks.{IsMarked};
 ghost use Rattle.letters.specs.Letters.{has};
 ghost use Rattle.letters.specs.declared.alphabet.Alphabet.{Alphabet};
-ghost use Rattle.viable.specs.Pruned.{Keeps, KeepsSome, IsLeft, AreLeft, IsLeftBody, ArePruned, some_element, some_elements};
+ghost use Rattle.viable.specs.Pruned.{Keeps, KeepsSome, IsLeft, AreLeft, IsLeftBody, ArePruned, some_element};
+ghost use Rattle.viable.specs.Pruned.{some_elements};
 
 use abnfread::Elem;
 use letters::Alphabet;
@@ -17,7 +18,8 @@ use std::alloc::Global;
 
 // Returns what is left of a text: the text, since bytes are letters of each alphabet.
 fn prune_text(alloc: Global, folds: bool, text: &[u8]) -> Result<Elem, Memory>
-    ensures { IfOk result (λ left. (alphabet : Alphabet) (rules : List Rule) → Keeps (has alphabet) rules (e.Text folds text.now) (element_of left)) }
+    ensures { IfOk result (λ left. (alphabet : Alphabet) (rules : List Rule)
+        → Keeps (has alphabet) rules (e.Text folds text.now) (element_of left)) }
 {
     let text = Vec::from_slice(alloc, text)?;
     Ok(Elem::Text { folds, text })
@@ -25,7 +27,8 @@ fn prune_text(alloc: Global, folds: bool, text: &[u8]) -> Result<Elem, Memory>
 
 // Returns what is left of a list of values: itself, if each is that of a letter.
 fn prune_values(alloc: Global, alphabet: Alphabet, values: &[u32]) -> Result<Option<Elem>, Memory>
-    ensures { IfOk result (λ left. (rules : List Rule) → IsLeft (has alphabet) rules (e.Values values.now) (some_element left)) }
+    ensures { IfOk result (λ left. (rules : List Rule) → IsLeft (has alphabet) rules (e.Values values.now)
+        (some_element left)) }
 {
     let mut copied = Vec::new(alloc);
     for value in values {
@@ -204,7 +207,8 @@ fn prune_all(
 ) -> Result<Option<Vec<Elem>>, Memory>
     requires folds { rules.now.names ≡ NameCase.Fold }
     requires marks { AreProductive alphabet (rules_of rules.now) marks.now }
-    ensures { IfOk result (λ left. AreLeft (has alphabet) (rules_of rules.now) (elements_of members.now) (some_elements left)) }
+    ensures { IfOk result (λ left. AreLeft (has alphabet) (rules_of rules.now) (elements_of members.now)
+        (some_elements left)) }
 {
     let mut kept = Vec::new(alloc);
     for member in members {
@@ -227,7 +231,8 @@ fn prune_some(
 ) -> Result<Vec<Elem>, Memory>
     requires folds { rules.now.names ≡ NameCase.Fold }
     requires marks { AreProductive alphabet (rules_of rules.now) marks.now }
-    ensures { IfOk result (λ left. KeepsSome (has alphabet) (rules_of rules.now) (elements_of alternatives.now) (elements_of left.items)) }
+    ensures { IfOk result (λ left. KeepsSome (has alphabet) (rules_of rules.now) (elements_of alternatives.now)
+        (elements_of left.items)) }
 {
     let mut kept = Vec::new(alloc);
     for alternative in alternatives {
@@ -249,7 +254,8 @@ fn prune_body(
 ) -> Result<Elem, Memory>
     requires folds { rules.now.names ≡ NameCase.Fold }
     requires marks { AreProductive alphabet (rules_of rules.now) marks.now }
-    ensures { IfOk result (λ left. IsLeftBody (has alphabet) (rules_of rules.now) (element_of body.now) (element_of left)) }
+    ensures { IfOk result (λ left. IsLeftBody (has alphabet) (rules_of rules.now) (element_of body.now)
+        (element_of left)) }
 {
     match prune(alloc, alphabet, rules, marks, body)? {
         Some(left) => Ok(left),
@@ -257,8 +263,8 @@ fn prune_body(
     }
 }
 
-/// Returns the rules with what is left of their bodies, from the marks of the productive rules. `Memory` if an allocation
-/// fails.
+/// Returns the rules with what is left of their bodies, from the marks of the productive rules. `Memory` if an
+/// allocation fails.
 pub(crate) fn prune_rules(
     alloc: Global,
     alphabet: Alphabet,

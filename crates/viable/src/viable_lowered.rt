@@ -13,10 +13,10 @@ use letters::Alphabet;
 use ruletable::Memory;
 use std::alloc::Global;
 
-/// Lowers the productive parts of a grammar to numbered nodes, for lines of at most `limit` letters: those that derive some
-/// list of letters of the alphabet. The judged rule derives a list of so many letters exactly if the set after them holds the
-/// whole's end with origin 0; and the set after the first letters of such a list, one or more, is not empty exactly if they
-/// begin a list that the rule derives, of whatever length.
+/// Lowers the productive parts of a grammar to numbered nodes, for lines of at most `limit` letters: those that derive
+/// some list of letters of the alphabet. The judged rule derives a list of so many letters exactly if the set after
+/// them holds the whole's end with origin 0; and the set after the first letters of such a list, one or more, is not
+/// empty exactly if they begin a list that the rule derives, of whatever length.
 ///
 /// `Memory` if an allocation fails.
 pub fn lower_viable(
@@ -26,7 +26,8 @@ pub fn lower_viable(
     limit: usize,
 ) -> Result<Flat, Memory>
     ensures limit { IfOk result (λ flat. flat.limit ≡ limit) }
-    ensures tells { IfOk result (λ flat. TellsBeginnings (has alphabet) (rules_of grammar.now.rules) grammar.now.judged flat) }
+    ensures tells { IfOk result (λ flat. TellsBeginnings (has alphabet) (rules_of grammar.now.rules) grammar.now.judged
+        flat) }
     ensures places { IfOk result (λ flat. places flat.nodes ≤ sizes limit (bodies (rules_of grammar.now.rules)) + 2) }
 {
     // The contract of `judged` says that names compare without case.

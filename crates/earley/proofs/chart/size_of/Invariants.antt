@@ -4,4 +4,5 @@ use Rattle.earley.specs.FrontViews.{expand}
 use Rattle.earley.proofs.chart.size_of.Given as goal
 
 abbrev pub invariant-loop-head : goal.invariant-loop-head
-invariant-loop-head l = (j : ℕ) → l.size ≡ length l.items + length (expand (block_of l.flat) j (take l.head-index l.heads))
+invariant-loop-head l = (j : ℕ) → l.size ≡ length l.items
+    + length (expand (block_of l.flat) j (take l.head-index l.heads))

@@ -8,5 +8,7 @@ use Rattle.earley.proofs.fill.add_all.Goals as goal
 
 pub loop-spot-preserved : goal.loop-spot-preserved
 loop-spot-preserved c = subst (λ v. Adds {A = Item} (λ a. In a v) c.args.set.now c.add.new.self)
-    (sym (ap (λ v. map (item_at c.args.origin) v) (take_one c.args.spots.now c.loop-spot.spot-index _ c.loop-spot-test.true) ∙ map_end (item_at c.args.origin) (take c.loop-spot.spot-index c.args.spots.now) _))
-    (in_more (map (item_at c.args.origin) (take c.loop-spot.spot-index c.args.spots.now)) _ _ _ _ c.loop-spot.invariant c.in_ok-add.ensures)
+    (sym (ap (λ v. map (item_at c.args.origin) v) (take_one c.args.spots.now c.loop-spot.spot-index _
+    c.loop-spot-test.true) ∙ map_end (item_at c.args.origin) (take c.loop-spot.spot-index c.args.spots.now) _))
+    (in_more (map (item_at c.args.origin) (take c.loop-spot.spot-index c.args.spots.now)) _ _ _ _ c.loop-spot.invariant
+    c.in_ok-add.ensures)

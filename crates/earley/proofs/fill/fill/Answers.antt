@@ -13,67 +13,98 @@ use Rattle.earley.proofs.fill.fill.Goals as goal
 
 pub loop-item_index-smaller-then-item_index-len : goal.loop-item_index-smaller-then-item_index-len
 loop-item_index-smaller-then-item_index-len g c =
-    measure c.args.flat.now c.requires.roots c.requires.nulls c.requires.tables (map g.L.Letter.number c.args.line.now) (views c.args.flat.now 0 c.args.sets.now) c.requires.earlier
-    c.loop-item_index.item_index c.loop-item_index.head_index (c.loop-item_index.item_index + 1) c.loop-item_index.head_index c.loop-item_index.heads c.loop-item_index.items c.loop-item_index.invariant.going
+    measure c.args.flat.now c.requires.roots c.requires.nulls c.requires.tables (map g.L.Letter.number c.args.line.now)
+    (views c.args.flat.now 0 c.args.sets.now) c.requires.earlier
+    c.loop-item_index.item_index c.loop-item_index.head_index (c.loop-item_index.item_index + 1)
+    c.loop-item_index.head_index c.loop-item_index.heads c.loop-item_index.items c.loop-item_index.invariant.going
     (omega arith) (inl (let test = c.if-item_index-len.true in let len = c.len.ensures in omega (arith, test, len)))
 
 pub loop-item_index-preserved-then-item_index-len :
     goal.loop-item_index-preserved-then-item_index-len
 loop-item_index-preserved-then-item_index-len g c =
-    let below : c.loop-item_index.item_index < length c.loop-item_index.items = (let test = c.if-item_index-len.true in let len = c.len.ensures in omega (arith, test, len)) in
+    let below : c.loop-item_index.item_index < length c.loop-item_index.items =
+    (let test = c.if-item_index-len.true in let len = c.len.ensures in omega (arith, test, len)) in
     let item_is = index_get c.loop-item_index.items c.loop-item_index.item_index c.at-item.result c.at-item.ensures in
-    let asked = subst (λ v. Adds (IsAsked c.args.flat.now v) c.loop-item_index.heads c.work.new.heads) item_is c.in_ok-work.ensures.heads in
-    let further = subst (λ v. Adds (IsFurther c.args.flat.now (views c.args.flat.now 0 c.args.sets.now) v) c.loop-item_index.items c.work.new.items) item_is c.in_ok-work.ensures.items in
+    let asked = subst (λ v. Adds (IsAsked c.args.flat.now v) c.loop-item_index.heads c.work.new.heads) item_is
+    c.in_ok-work.ensures.heads in
+    let further = subst (λ v. Adds (IsFurther c.args.flat.now (views c.args.flat.now 0 c.args.sets.now) v)
+    c.loop-item_index.items c.work.new.items) item_is c.in_ok-work.ensures.items in
     record {
-      going = item_more c.args.flat.now c.requires.roots c.requires.nulls c.requires.tables (map g.L.Letter.number c.args.line.now) (views c.args.flat.now 0 c.args.sets.now) c.requires.earlier
-          c.loop-item_index.item_index c.loop-item_index.head_index c.loop-item_index.heads c.loop-item_index.items c.loop-item_index.invariant.going c.at-item.result
+      going = item_more c.args.flat.now c.requires.roots c.requires.nulls c.requires.tables
+          (map g.L.Letter.number c.args.line.now) (views c.args.flat.now 0 c.args.sets.now) c.requires.earlier
+          c.loop-item_index.item_index c.loop-item_index.head_index c.loop-item_index.heads c.loop-item_index.items
+          c.loop-item_index.invariant.going c.at-item.result
           c.work.new.heads c.work.new.items below asked further;
-      keeps = λ a h. more_keeps c.args.flat.now c.requires.roots c.requires.nulls c.requires.tables (map g.L.Letter.number c.args.line.now) (views c.args.flat.now 0 c.args.sets.now) c.requires.earlier
-          (length (views c.args.flat.now 0 c.args.sets.now)) c.loop-item_index.heads c.work.new.heads c.loop-item_index.items c.work.new.items asked further a (c.loop-item_index.invariant.keeps a h);
+      keeps = λ a h. more_keeps c.args.flat.now c.requires.roots c.requires.nulls c.requires.tables
+          (map g.L.Letter.number c.args.line.now) (views c.args.flat.now 0 c.args.sets.now) c.requires.earlier
+          (length (views c.args.flat.now 0 c.args.sets.now)) c.loop-item_index.heads c.work.new.heads
+          c.loop-item_index.items c.work.new.items asked further a (c.loop-item_index.invariant.keeps a h);
     }
 
 pub loop-item_index-smaller : goal.loop-item_index-smaller
 loop-item_index-smaller g c =
-    measure c.args.flat.now c.requires.roots c.requires.nulls c.requires.tables (map g.L.Letter.number c.args.line.now) (views c.args.flat.now 0 c.args.sets.now) c.requires.earlier
-    c.loop-item_index.item_index c.loop-item_index.head_index c.loop-item_index.item_index (c.loop-item_index.head_index + 1) c.loop-item_index.heads c.loop-item_index.items c.loop-item_index.invariant.going
-    (omega arith) (inr (let test = c.if-head_index-len.true in let len = c.len-else-item_index-len.ensures in omega (arith, test, len)))
+    measure c.args.flat.now c.requires.roots c.requires.nulls c.requires.tables (map g.L.Letter.number c.args.line.now)
+    (views c.args.flat.now 0 c.args.sets.now) c.requires.earlier
+    c.loop-item_index.item_index c.loop-item_index.head_index c.loop-item_index.item_index
+    (c.loop-item_index.head_index + 1) c.loop-item_index.heads c.loop-item_index.items
+    c.loop-item_index.invariant.going
+    (omega arith) (inr (let test = c.if-head_index-len.true in let len = c.len-else-item_index-len.ensures in
+    omega (arith, test, len)))
 
 pub loop-item_index-preserved : goal.loop-item_index-preserved
 loop-item_index-preserved g c =
-    let below : c.loop-item_index.head_index < length c.loop-item_index.heads = (let test = c.if-head_index-len.true in let len = c.len-else-item_index-len.ensures in omega (arith, test, len)) in
+    let below : c.loop-item_index.head_index < length c.loop-item_index.heads =
+    (let test = c.if-head_index-len.true in let len = c.len-else-item_index-len.ensures in
+    omega (arith, test, len)) in
     let head_is = index_get c.loop-item_index.heads c.loop-item_index.head_index c.at-head.result c.at-head.ensures in
-    let called = subst (λ v. Adds {A = ℕ} (λ t. In t (block_of c.args.flat.now v).calls) c.loop-item_index.heads c.open.new.heads) head_is c.in_ok-open.ensures.heads in
-    let passed = subst (λ n. Adds {A = Item} (λ a. In a (map (item_at n) (block_of c.args.flat.now (slice_index_or c.loop-item_index.heads c.loop-item_index.head_index c.at-head.result)).passes))
+    let called = subst (λ v. Adds {A = ℕ} (λ t. In t (block_of c.args.flat.now v).calls) c.loop-item_index.heads
+    c.open.new.heads) head_is c.in_ok-open.ensures.heads in
+    let passed = subst (λ n. Adds {A = Item} (λ a. In a
+    (map (item_at n) (block_of c.args.flat.now (slice_index_or c.loop-item_index.heads c.loop-item_index.head_index
+    c.at-head.result)).passes))
     c.loop-item_index.items c.open.new.items) (sym (length_views c.args.flat.now 0 c.args.sets.now))
-    (subst (λ v. Adds {A = Item} (λ a. In a (map (item_at (length c.args.sets.now)) (block_of c.args.flat.now v).passes)) c.loop-item_index.items c.open.new.items) head_is
+    (subst (λ v. Adds {A = Item} (λ a. In a (map (item_at (length c.args.sets.now))
+    (block_of c.args.flat.now v).passes)) c.loop-item_index.items c.open.new.items) head_is
     c.in_ok-open.ensures.items) in
     record {
-      going = head_more c.args.flat.now c.requires.roots c.requires.nulls c.requires.tables (map g.L.Letter.number c.args.line.now) (views c.args.flat.now 0 c.args.sets.now) c.requires.earlier
-          c.loop-item_index.item_index c.loop-item_index.head_index c.loop-item_index.heads c.loop-item_index.items c.loop-item_index.invariant.going c.at-head.result
+      going = head_more c.args.flat.now c.requires.roots c.requires.nulls c.requires.tables
+          (map g.L.Letter.number c.args.line.now) (views c.args.flat.now 0 c.args.sets.now) c.requires.earlier
+          c.loop-item_index.item_index c.loop-item_index.head_index c.loop-item_index.heads c.loop-item_index.items
+          c.loop-item_index.invariant.going c.at-head.result
           c.open.new.heads c.open.new.items below called passed;
-      keeps = λ a h. more_keeps c.args.flat.now c.requires.roots c.requires.nulls c.requires.tables (map g.L.Letter.number c.args.line.now) (views c.args.flat.now 0 c.args.sets.now) c.requires.earlier
-          (length (views c.args.flat.now 0 c.args.sets.now)) c.loop-item_index.heads c.open.new.heads c.loop-item_index.items c.open.new.items called passed a
+      keeps = λ a h. more_keeps c.args.flat.now c.requires.roots c.requires.nulls c.requires.tables
+          (map g.L.Letter.number c.args.line.now) (views c.args.flat.now 0 c.args.sets.now) c.requires.earlier
+          (length (views c.args.flat.now 0 c.args.sets.now)) c.loop-item_index.heads c.open.new.heads
+          c.loop-item_index.items c.open.new.items called passed a
           (c.loop-item_index.invariant.keeps a h);
     }
 
 pub returns-else-head_index-len-clause-held : goal.returns-else-head_index-len-clause-held
 returns-else-head_index-len-clause-held g c =
-    full_held c.args.flat.now c.requires.roots c.requires.nulls c.requires.tables (map g.L.Letter.number c.args.line.now) (views c.args.flat.now 0 c.args.sets.now) c.requires.earlier
-    c.loop-item_index.item_index c.loop-item_index.head_index c.loop-item_index.heads c.loop-item_index.items c.loop-item_index.invariant.going
+    full_held c.args.flat.now c.requires.roots c.requires.nulls c.requires.tables
+    (map g.L.Letter.number c.args.line.now) (views c.args.flat.now 0 c.args.sets.now) c.requires.earlier
+    c.loop-item_index.item_index c.loop-item_index.head_index c.loop-item_index.heads c.loop-item_index.items
+    c.loop-item_index.invariant.going
 
 pub returns-else-head_index-len-clause-different :
     goal.returns-else-head_index-len-clause-different
 returns-else-head_index-len-clause-different g c =
-    all_different c.args.flat.now c.requires.roots c.requires.nulls c.requires.tables (map g.L.Letter.number c.args.line.now) (views c.args.flat.now 0 c.args.sets.now) c.requires.earlier
-    c.loop-item_index.item_index c.loop-item_index.head_index c.loop-item_index.heads c.loop-item_index.items c.loop-item_index.invariant.going
+    all_different c.args.flat.now c.requires.roots c.requires.nulls c.requires.tables
+    (map g.L.Letter.number c.args.line.now) (views c.args.flat.now 0 c.args.sets.now) c.requires.earlier
+    c.loop-item_index.item_index c.loop-item_index.head_index c.loop-item_index.heads c.loop-item_index.items
+    c.loop-item_index.invariant.going
 
 pub returns-else-head_index-len-clause-closed : goal.returns-else-head_index-len-clause-closed
 returns-else-head_index-len-clause-closed g c =
-    all_closed c.args.flat.now c.requires.roots c.requires.nulls c.requires.tables (map g.L.Letter.number c.args.line.now) (views c.args.flat.now 0 c.args.sets.now) c.requires.earlier
-    c.loop-item_index.item_index c.loop-item_index.head_index c.loop-item_index.heads c.loop-item_index.items c.loop-item_index.invariant.going
+    all_closed c.args.flat.now c.requires.roots c.requires.nulls c.requires.tables
+    (map g.L.Letter.number c.args.line.now) (views c.args.flat.now 0 c.args.sets.now) c.requires.earlier
+    c.loop-item_index.item_index c.loop-item_index.head_index c.loop-item_index.heads c.loop-item_index.items
+    c.loop-item_index.invariant.going
     (let test = c.if-item_index-len.false in let len = c.len.ensures in omega (arith, test, len))
     (let test = c.if-head_index-len.false in let len = c.len-else-item_index-len.ensures in omega (arith, test, len))
-    (past_get (views c.args.flat.now 0 c.args.sets.now) (length (views c.args.flat.now 0 c.args.sets.now)) (omega arith))
+    (past_get (views c.args.flat.now 0 c.args.sets.now) (length (views c.args.flat.now 0 c.args.sets.now))
+    (omega arith))
 
 pub work-requires-clause-begun : goal.work-requires-clause-begun
-work-requires-clause-begun g c = begin_all c.args.flat.now (map g.L.Letter.number c.args.line.now) c.args.sets.now c.requires.earlier
+work-requires-clause-begun g c = begin_all c.args.flat.now (map g.L.Letter.number c.args.line.now) c.args.sets.now
+    c.requires.earlier

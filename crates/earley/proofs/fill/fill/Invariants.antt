@@ -8,9 +8,12 @@ use Rattle.earley.proofs.fill.fill.Given as goal
 
 abbrev pub invariant-loop-item_index : goal.invariant-loop-item_index
 invariant-loop-item_index g l = record {
-  going : IsGoing l.flat (map g.L.Letter.number l.line) (views l.flat 0 l.sets) l.item_index l.head_index l.heads l.items;
-  keeps : Keeps (full (block_of l.flat) (length (views l.flat 0 l.sets)) l.initial.heads l.initial.items) (full (block_of l.flat) (length (views l.flat 0 l.sets)) l.heads l.items);
+  going : IsGoing l.flat (map g.L.Letter.number l.line) (views l.flat 0 l.sets) l.item_index l.head_index l.heads
+      l.items;
+  keeps : Keeps (full (block_of l.flat) (length (views l.flat 0 l.sets)) l.initial.heads l.initial.items)
+      (full (block_of l.flat) (length (views l.flat 0 l.sets)) l.heads l.items);
 }
 
 abbrev pub decreases-loop-item_index : goal.decreases-loop-item_index
-decreases-loop-item_index g l = places (flat_of l.flat).nodes * (length (views l.flat 0 l.sets) + 1) + length l.flat.nodes.items - (l.item_index + l.head_index)
+decreases-loop-item_index g l = places (flat_of l.flat).nodes * (length (views l.flat 0 l.sets) + 1)
+    + length l.flat.nodes.items - (l.item_index + l.head_index)

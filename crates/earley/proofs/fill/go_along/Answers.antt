@@ -16,7 +16,9 @@ pub loop-at-smaller : goal.loop-at-smaller
 loop-at-smaller c = (chain_next _ (c.loop-at.invariant c.requires.0 c.requires.1).chain c.loop-at-test.true).less
 
 pub loop-at-preserved : goal.loop-at-preserved
-loop-at-preserved c es chain = along_next c.args.waits.now c.loop-at.at es _ _ _ _ (c.loop-at.invariant es chain) c.loop-at-test.true c.in_ok-add.ensures
+loop-at-preserved c es chain = along_next c.args.waits.now c.loop-at.at es _ _ _ _ (c.loop-at.invariant es chain)
+    c.loop-at-test.true c.in_ok-add.ensures
 
 pub returns : goal.returns
-returns c es chain = along_end c.args.waits.now c.loop-at.at es _ _ (c.loop-at.invariant es chain) (let test = c.loop-at-test.false in omega (arith, test))
+returns c es chain = along_end c.args.waits.now c.loop-at.at es _ _ (c.loop-at.invariant es chain)
+    (let test = c.loop-at-test.false in omega (arith, test))

@@ -5,5 +5,6 @@ use Rattle.earley.proofs.ExpandLemmas.{in_more, take_one}
 use Rattle.earley.proofs.fill.note_all.Goals as goal
 
 pub loop-head-preserved : goal.loop-head-preserved
-loop-head-preserved c = subst (λ v. Adds {A = ℕ} (λ t. In t v) c.args.heads.now c.note.new.self) (sym (take_one c.args.calls.now c.loop-head.head-index 0 c.loop-head-test.true))
+loop-head-preserved c = subst (λ v. Adds {A = ℕ} (λ t. In t v) c.args.heads.now c.note.new.self)
+    (sym (take_one c.args.calls.now c.loop-head.head-index 0 c.loop-head-test.true))
     (in_more (take c.loop-head.head-index c.args.calls.now) _ _ _ _ c.loop-head.invariant c.in_ok-note.ensures)

@@ -6,6 +6,10 @@ use Rattle.earley.proofs.ExpandLemmas.{resumed_both}
 use Rattle.earley.proofs.fill.resume_all.Goals as goal
 
 pub returns : goal.returns
-returns c = resumed_both c.args.flat.now c.args.root (expand (block_of c.args.flat.now) c.args.origin c.args.front.now.heads.items) c.args.front.now.items.items c.args.set.now c.resume_heads.new.set c.resume.new.set
-    (subst (λ v. Adds (IsResumed c.args.flat.now c.args.root (expand (block_of c.args.flat.now) c.args.origin v)) c.args.set.now c.resume_heads.new.set) c.deref.ensures.value c.in_ok-resume_heads.ensures)
-    (subst (λ v. Adds (IsResumed c.args.flat.now c.args.root v) c.resume_heads.new.set c.resume.new.set) c.deref-2.ensures.value c.in_ok-resume.ensures)
+returns c = resumed_both c.args.flat.now c.args.root
+    (expand (block_of c.args.flat.now) c.args.origin c.args.front.now.heads.items) c.args.front.now.items.items
+    c.args.set.now c.resume_heads.new.set c.resume.new.set
+    (subst (λ v. Adds (IsResumed c.args.flat.now c.args.root (expand (block_of c.args.flat.now) c.args.origin v))
+    c.args.set.now c.resume_heads.new.set) c.deref.ensures.value c.in_ok-resume_heads.ensures)
+    (subst (λ v. Adds (IsResumed c.args.flat.now c.args.root v) c.resume_heads.new.set c.resume.new.set)
+    c.deref-2.ensures.value c.in_ok-resume.ensures)

@@ -4,10 +4,13 @@ use Rattle.earley.proofs.ExpandLemmas.{resumed_one, resumed_not}
 use Rattle.earley.proofs.fill.resume_one.Goals as goal
 
 pub returns-in_ok-add : goal.returns-in_ok-add
-returns-in_ok-add c = resumed_one c.args.flat.now c.args.root c.args.item c.in-Some.step _ _ (sym c.call.ensures ∙ (c.in-Some.is ∙ ap (λ v. Some (v, c.in-Some.step)) c.if-called-root.true)) c.in_ok-add.ensures
+returns-in_ok-add c = resumed_one c.args.flat.now c.args.root c.args.item c.in-Some.step _ _
+    (sym c.call.ensures ∙ (c.in-Some.is ∙ ap (λ v. Some (v, c.in-Some.step)) c.if-called-root.true)) c.in_ok-add.ensures
 
 pub returns-else-called-root : goal.returns-else-called-root
-returns-else-called-root c = resumed_not c.args.flat.now c.args.root c.args.item _ (λ step is. c.if-called-root.false (ap (λ v. v.0) (some_same (sym c.in-Some.is ∙ (c.call.ensures ∙ is)))))
+returns-else-called-root c = resumed_not c.args.flat.now c.args.root c.args.item _
+    (λ step is. c.if-called-root.false (ap (λ v. v.0) (some_same (sym c.in-Some.is ∙ (c.call.ensures ∙ is)))))
 
 pub returns-in_default : goal.returns-in_default
-returns-in_default c = resumed_not c.args.flat.now c.args.root c.args.item _ (λ step is. c.in_default.not-Some _ (c.call.ensures ∙ is))
+returns-in_default c = resumed_not c.args.flat.now c.args.root c.args.item _
+    (λ step is. c.in_default.not-Some _ (c.call.ensures ∙ is))

@@ -5,20 +5,31 @@ use Rattle.earley.proofs.items.push.Goals as goal
 
 pub returns-in_err-push-clause-linked : goal.returns-in_err-push-clause-linked
 returns-in_err-push-clause-linked c =
-    let count : c.len-index.result ≡ length c.args.list.now.items = (let e = c.len-index.ensures in let o = c.args.list.now.ok.0 in omega (arith, e, o)) in
+    let count : c.len-index.result ≡ length c.args.list.now.items =
+    (let e = c.len-index.ensures in let o = c.args.list.now.ok.0 in omega (arith, e, o)) in
     let long = c.in_ok-set_link.ensures.long in
     let was = c.requires.linked.long in
-    rw (c.in_err-push.ensures.items) (linked_same (row_of (length c.args.rows.now)) c.args.list.now.items c.args.links.now.items c.set_link.new.links.items c.args.rows.now c.requires.linked
+    rw (c.in_err-push.ensures.items) (linked_same (row_of (length c.args.rows.now)) c.args.list.now.items
+    c.args.links.now.items c.set_link.new.links.items c.args.rows.now c.requires.linked
     (omega (arith, long, was)) (λ i l lt g. c.in_ok-set_link.ensures.others i l (omega (arith, lt, count)) g))
 
 pub returns-clause-linked : goal.returns-clause-linked
 returns-clause-linked c =
-    let count : c.len-index.result ≡ length c.args.list.now.items = (let e = c.len-index.ensures in let o = c.args.list.now.ok.0 in omega (arith, e, o)) in
+    let count : c.len-index.result ≡ length c.args.list.now.items =
+    (let e = c.len-index.ensures in let o = c.args.list.now.ok.0 in omega (arith, e, o)) in
     let long = c.in_ok-set_link.ensures.long in
     let was = c.requires.linked.long in
-    let links = linked_same (row_of (length c.args.rows.now)) c.args.list.now.items c.args.links.now.items c.set_link.new.links.items c.args.rows.now c.requires.linked
+    let links = linked_same (row_of (length c.args.rows.now)) c.args.list.now.items c.args.links.now.items
+    c.set_link.new.links.items c.args.rows.now c.requires.linked
     (omega (arith, long, was)) (λ i l lt g. c.in_ok-set_link.ensures.others i l (omega (arith, lt, count)) g) in
-    let here = subst (λ n. slice_get c.set_link.new.links.items n ≡ Some c.args.last) count c.in_ok-set_link.ensures.here in
-    rw (c.in_ok-push.ensures.items, count, c.row_of-row.ensures.value, length-set c.args.rows.now (row_of (length c.args.rows.now) c.args.item) (length c.args.list.now.items + 1))
-    (linked_push (row_of (length c.args.rows.now)) c.args.list.now.items c.set_link.new.links.items c.args.rows.now c.args.item c.args.last links here c.requires.last c.requires.some
+    let here = subst (λ n. slice_get c.set_link.new.links.items n ≡ Some c.args.last) count
+    c.in_ok-set_link.ensures.here in
+    rw (
+      c.in_ok-push.ensures.items,
+      count,
+      c.row_of-row.ensures.value,
+      length-set c.args.rows.now (row_of (length c.args.rows.now) c.args.item) (length c.args.list.now.items + 1),
+    )
+    (linked_push (row_of (length c.args.rows.now)) c.args.list.now.items c.set_link.new.links.items c.args.rows.now
+    c.args.item c.args.last links here c.requires.last c.requires.some
     (sym (length-set c.args.rows.now (row_of (length c.args.rows.now) c.args.item) (length c.args.list.now.items + 1))))

@@ -11,8 +11,10 @@ loop-i-preserved c =
     let some = c.loop-i.invariant.some in
     record {
       linked = rw (rows, c.row_of-row.ensures.value)
-          (linked_next (row_of (length c.loop-i.rows)) c.args.list.now c.loop-i.links c.loop-i.rows c.loop-i.i c.last_of-last.result _
-          (get_index c.args.list.now c.loop-i.i (record { node = 0; step = 0; origin = 0 }) c.loop-i-test.true) long c.loop-i.invariant.linked
+          (linked_next (row_of (length c.loop-i.rows)) c.args.list.now c.loop-i.links c.loop-i.rows c.loop-i.i
+          c.last_of-last.result _
+          (get_index c.args.list.now c.loop-i.i (record { node = 0; step = 0; origin = 0 }) c.loop-i-test.true) long
+          c.loop-i.invariant.linked
           (rw c.row_of-row.ensures.value at c.last_of-last.ensures) some);
       long = omega (arith, links, long);
       some = omega (arith, rows, some);

@@ -8,7 +8,12 @@ use Rattle.earley.proofs.read_front.read.Goals as goal
 
 pub returns : goal.returns
 returns g c =
-    subst (λ n. Adds (IsRead c.args.flat.now n (view c.args.flat.now c.args.origin c.args.from.now)) c.args.set.now c.read_items.new.set) c.value-value.ensures.number
-    (reads_both c.args.flat.now c.value-value.result (expand (block_of c.args.flat.now) c.args.origin c.args.from.now.heads.items) c.args.from.now.items.items c.args.set.now c.read_heads.new.set c.read_items.new.set
-    (subst (λ v. Adds (IsRead c.args.flat.now c.value-value.result (expand (block_of c.args.flat.now) c.args.origin v)) c.args.set.now c.read_heads.new.set) c.deref.ensures.value c.in_ok-read_heads.ensures)
-    (subst (λ v. Adds (IsRead c.args.flat.now c.value-value.result v) c.read_heads.new.set c.read_items.new.set) c.deref-2.ensures.value c.in_ok-read_items.ensures))
+    subst (λ n. Adds (IsRead c.args.flat.now n (view c.args.flat.now c.args.origin c.args.from.now)) c.args.set.now
+    c.read_items.new.set) c.value-value.ensures.number
+    (reads_both c.args.flat.now c.value-value.result
+    (expand (block_of c.args.flat.now) c.args.origin c.args.from.now.heads.items) c.args.from.now.items.items
+    c.args.set.now c.read_heads.new.set c.read_items.new.set
+    (subst (λ v. Adds (IsRead c.args.flat.now c.value-value.result (expand (block_of c.args.flat.now) c.args.origin v))
+    c.args.set.now c.read_heads.new.set) c.deref.ensures.value c.in_ok-read_heads.ensures)
+    (subst (λ v. Adds (IsRead c.args.flat.now c.value-value.result v) c.read_heads.new.set c.read_items.new.set)
+    c.deref-2.ensures.value c.in_ok-read_items.ensures))

@@ -6,4 +6,5 @@ use Rattle.earley.specs.FrontViews.{expand}
 use Rattle.earley.proofs.read_front.read_heads.Given as goal
 
 abbrev pub invariant-loop-head : goal.invariant-loop-head
-invariant-loop-head l = Adds (IsRead l.flat l.value (expand (block_of l.flat) l.origin (take l.head-index l.heads))) l.initial.set l.set
+invariant-loop-head l = Adds (IsRead l.flat l.value (expand (block_of l.flat) l.origin (take l.head-index l.heads)))
+    l.initial.set l.set

@@ -2,4 +2,5 @@ use Rattle.earley.proofs.ExpandLemmas.{reads_one}
 use Rattle.earley.proofs.read_front.read_one.Goals as goal
 
 pub returns-in_ok-add : goal.returns-in_ok-add
-returns-in_ok-add c = reads_one c.args.flat.now c.args.value c.args.item _ _ (c.reads.ensures.value.0 c.if-reads.true) c.in_ok-add.ensures
+returns-in_ok-add c = reads_one c.args.flat.now c.args.value c.args.item _ _ (c.reads.ensures.value.0 c.if-reads.true)
+    c.in_ok-add.ensures

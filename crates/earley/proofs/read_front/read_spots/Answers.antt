@@ -2,4 +2,5 @@ use Rattle.earley.proofs.ExpandLemmas.{reads_spots_more}
 use Rattle.earley.proofs.read_front.read_spots.Goals as goal
 
 pub loop-spot-preserved : goal.loop-spot-preserved
-loop-spot-preserved c = reads_spots_more c.args.flat.now c.args.value c.args.origin c.args.from.now c.loop-spot.spot-index _ _ _ _ c.loop-spot-test.true c.loop-spot.invariant c.in_ok-read_one.ensures
+loop-spot-preserved c = reads_spots_more c.args.flat.now c.args.value c.args.origin c.args.from.now
+    c.loop-spot.spot-index _ _ _ _ c.loop-spot-test.true c.loop-spot.invariant c.in_ok-read_one.ensures

@@ -5,4 +5,5 @@ use Rattle.flatgrammar.specs.Blocks.{item_at}
 use Rattle.earley.proofs.read_front.read_spots.Given as goal
 
 abbrev pub invariant-loop-spot : goal.invariant-loop-spot
-invariant-loop-spot l = Adds (IsRead l.flat l.value (map (item_at l.origin) (take l.spot-index l.from))) l.initial.set l.set
+invariant-loop-spot l = Adds (IsRead l.flat l.value (map (item_at l.origin) (take l.spot-index l.from))) l.initial.set
+    l.set

@@ -9,14 +9,22 @@ use Rattle.earley.proofs.wait.wait_heads.Goals as goal
 pub loop-head-preserved : goal.loop-head-preserved
 loop-head-preserved c = record {
   long = c.wait_spots.ensures.long ∙ c.loop-head.invariant.long;
-  more = waiting_then c.args.flat.now c.args.heads.now (expand (block_of c.args.flat.now) c.args.origin (take c.loop-head.head-index c.args.list.now)) _ _ _ _ _ _ _ _
-      (ap (λ v. expand (block_of c.args.flat.now) c.args.origin v) (take_one c.args.list.now c.loop-head.head-index 0 c.loop-head-test.true) ∙ expand_end (block_of c.args.flat.now) c.args.origin (take c.loop-head.head-index c.args.list.now) _) c.loop-head.invariant.more
-      (λ seen are. waiting_callers c.args.flat.now c.args.heads.now c.requires.lists (slice_index_or c.args.list.now c.loop-head.head-index 0) c.args.origin seen _ _
-      (subst (λ v. AreWaiting c.args.flat.now (seen ++ map (item_at c.args.origin) v) c.args.heads.now c.wait_spots.new.firsts.items c.wait_spots.new.waits.items) c.asking.ensures (c.in_ok-wait_spots.ensures.more seen are)));
+  more = waiting_then c.args.flat.now c.args.heads.now
+      (expand (block_of c.args.flat.now) c.args.origin (take c.loop-head.head-index c.args.list.now)) _ _ _ _ _ _ _ _
+      (ap (λ v. expand (block_of c.args.flat.now) c.args.origin v)
+      (take_one c.args.list.now c.loop-head.head-index 0 c.loop-head-test.true)
+      ∙ expand_end (block_of c.args.flat.now) c.args.origin (take c.loop-head.head-index c.args.list.now) _)
+      c.loop-head.invariant.more
+      (λ seen are. waiting_callers c.args.flat.now c.args.heads.now c.requires.lists
+      (slice_index_or c.args.list.now c.loop-head.head-index 0) c.args.origin seen _ _
+      (subst (λ v. AreWaiting c.args.flat.now (seen ++ map (item_at c.args.origin) v) c.args.heads.now
+      c.wait_spots.new.firsts.items c.wait_spots.new.waits.items) c.asking.ensures
+      (c.in_ok-wait_spots.ensures.more seen are)));
 }
 
 pub returns-clause-more : goal.returns-clause-more
 returns-clause-more c seen h =
     let test = c.loop-head-test.false in
-    subst (λ v. AreWaiting c.args.flat.now (seen ++ expand (block_of c.args.flat.now) c.args.origin v) c.args.heads.now c.loop-head.firsts.items c.loop-head.waits.items)
+    subst (λ v. AreWaiting c.args.flat.now (seen ++ expand (block_of c.args.flat.now) c.args.origin v) c.args.heads.now
+    c.loop-head.firsts.items c.loop-head.waits.items)
     (take_past c.args.list.now c.loop-head.head-index (omega (arith, test))) (c.loop-head.invariant.more seen h)

@@ -9,5 +9,6 @@ abbrev pub invariant-loop-head : goal.invariant-loop-head
 invariant-loop-head l = record {
   long : length l.firsts.items ≡ length l.initial.firsts.items;
   more : (seen : List Item) → AreWaiting l.flat seen l.heads l.initial.firsts.items l.initial.waits.items →
-      AreWaiting l.flat (seen ++ expand (block_of l.flat) l.origin (take l.head-index l.list)) l.heads l.firsts.items l.waits.items;
+      AreWaiting l.flat (seen ++ expand (block_of l.flat) l.origin (take l.head-index l.list)) l.heads l.firsts.items
+      l.waits.items;
 }

@@ -8,5 +8,6 @@ abbrev pub invariant-loop-spot : goal.invariant-loop-spot
 invariant-loop-spot l = record {
   long : length l.firsts.items ≡ length l.initial.firsts.items;
   more : (seen : List Item) → AreWaiting l.flat seen l.heads l.initial.firsts.items l.initial.waits.items →
-      AreWaiting l.flat (seen ++ map (item_at l.place.0) (take l.spot-index l.from)) l.heads l.firsts.items l.waits.items;
+      AreWaiting l.flat (seen ++ map (item_at l.place.0) (take l.spot-index l.from)) l.heads l.firsts.items
+      l.waits.items;
 }

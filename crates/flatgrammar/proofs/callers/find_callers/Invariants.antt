@@ -4,4 +4,5 @@ use Rattle.flatgrammar.specs.Inners.{allows_in}
 use Rattle.flatgrammar.proofs.callers.find_callers.Given as goal
 
 abbrev pub invariant-loop-node : goal.invariant-loop-node
-invariant-loop-node l = (n k t m : ℕ) → n < l.node → call_at l.flat (spot n k) ≡ Some (t, m) → allows_in (slice_get l.callers.items t) n k
+invariant-loop-node l = (n k t m : ℕ) → n < l.node → call_at l.flat (spot n k) ≡ Some (t, m)
+    → allows_in (slice_get l.callers.items t) n k

@@ -7,5 +7,6 @@ abbrev pub invariant-loop-step : goal.invariant-loop-step
 invariant-loop-step l = record {
   count : length l.callers ≡ length l.initial.callers;
   still : StillAllow l.initial.callers l.callers;
-  here : (k t m : ℕ) → k < l.step → call_at l.flat (spot l.node k) ≡ Some (t, m) → allows_in (slice_get l.callers t) l.node k;
+  here : (k t m : ℕ) → k < l.step → call_at l.flat (spot l.node k) ≡ Some (t, m)
+      → allows_in (slice_get l.callers t) l.node k;
 }

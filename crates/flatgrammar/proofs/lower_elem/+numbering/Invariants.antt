@@ -6,4 +6,5 @@ use Rattle.flatgrammar.proofs.lower_elem.+numbering.Given as goal
 
 abbrev pub invariant-number_all-loop-member : goal.invariant-number_all-loop-member
 invariant-number_all-loop-member l =
-    NumbersAll (rules_of l.rules) l.limit (nodes_of l.initial.nodes.items) (nodes_of l.nodes.items) l.numbers.items l.all l.any (elements_of (take l.member-index l.members))
+    NumbersAll (rules_of l.rules) l.limit (nodes_of l.initial.nodes.items) (nodes_of l.nodes.items) l.numbers.items
+    l.all l.any (elements_of (take l.member-index l.members))

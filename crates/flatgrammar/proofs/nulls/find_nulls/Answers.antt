@@ -14,4 +14,5 @@ least-requires c =
 
 pub returns : goal.returns
 returns c = λ whole limit. nulls_are (nodes_of c.args.nodes.now) c.args.bodies.now c.in_ok-marks.marks.items
-    (subst (λ v. AreMarksOfThose v c.in_ok-marks.marks.items) (ap (λ v. demands_of v) c.deref.ensures.value ∙ c.in_ok-needs.ensures) c.in_ok-marks.ensures.marks) whole limit
+    (subst (λ v. AreMarksOfThose v c.in_ok-marks.marks.items) (ap (λ v. demands_of v) c.deref.ensures.value
+    ∙ c.in_ok-needs.ensures) c.in_ok-marks.ensures.marks) whole limit

@@ -6,4 +6,7 @@ pub loop-start-init : goal.loop-start-init
 loop-start-init c = (o.ways_same _, λ s lt. absurd (omega (arith, lt)))
 
 pub loop-start-preserved : goal.loop-start-preserved
-loop-start-preserved c = (o.ways_on _ _ _ c.loop-start.invariant.0 c.in_ok-settle.ensures.ways, o.settled_more _ _ _ _ c.loop-start.invariant.0 c.loop-start.invariant.1 c.in_ok-settle.ensures)
+loop-start-preserved c = (
+  o.ways_on _ _ _ c.loop-start.invariant.0 c.in_ok-settle.ensures.ways,
+  o.settled_more _ _ _ _ c.loop-start.invariant.0 c.loop-start.invariant.1 c.in_ok-settle.ensures,
+)

@@ -6,6 +6,10 @@ use Rattle.flatgrammar.proofs.spot_list.readers_of.Goals.{then-reads_any+in_ok-p
 
 pub loop-spot-preserved : goal.loop-spot-preserved
 loop-spot-preserved c = elim c.if-reads_any.branch [
-  | then-reads_any+in_ok-push w ↦ pick_one (ReadsAny c.args.flat.now) c.args.from.now c.loop-spot.list.items _ c.loop-spot.spot-index _ c.loop-spot-test.true (ap (λ v. v.items) w.list-is ∙ w.in_ok-push.ensures.items) c.loop-spot.invariant
-  | else-reads_any w ↦ leave_one (ReadsAny c.args.flat.now) c.args.from.now c.loop-spot.list.items _ c.loop-spot.spot-index _ c.loop-spot-test.true (ap (λ v. v.items) w.list-is) (λ is. let t = c.reads_any.ensures is in let f = w.if-reads_any.false in absurd (cc (t, f))) c.loop-spot.invariant
+  | then-reads_any+in_ok-push w ↦ pick_one (ReadsAny c.args.flat.now) c.args.from.now c.loop-spot.list.items _
+      c.loop-spot.spot-index _ c.loop-spot-test.true (ap (λ v. v.items) w.list-is ∙ w.in_ok-push.ensures.items)
+      c.loop-spot.invariant
+  | else-reads_any w ↦ leave_one (ReadsAny c.args.flat.now) c.args.from.now c.loop-spot.list.items _
+      c.loop-spot.spot-index _ c.loop-spot-test.true (ap (λ v. v.items) w.list-is)
+      (λ is. let t = c.reads_any.ensures is in let f = w.if-reads_any.false in absurd (cc (t, f))) c.loop-spot.invariant
 ]

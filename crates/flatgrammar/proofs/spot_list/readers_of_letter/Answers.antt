@@ -6,6 +6,10 @@ use Rattle.flatgrammar.proofs.spot_list.readers_of_letter.Goals.{then-reads_it+i
 
 pub loop-spot-preserved : goal.loop-spot-preserved
 loop-spot-preserved c = elim c.if-reads_it.branch [
-  | then-reads_it+in_ok-push w ↦ pick_one (Reads c.args.flat.now c.args.value) c.args.from.now c.loop-spot.list.items _ c.loop-spot.spot-index _ c.loop-spot-test.true (ap (λ v. v.items) w.list-is ∙ w.in_ok-push.ensures.items) c.loop-spot.invariant
-  | else-reads_it w ↦ leave_one (Reads c.args.flat.now c.args.value) c.args.from.now c.loop-spot.list.items _ c.loop-spot.spot-index _ c.loop-spot-test.true (ap (λ v. v.items) w.list-is) (λ is. let t = c.reads_it.ensures is in let f = w.if-reads_it.false in absurd (cc (t, f))) c.loop-spot.invariant
+  | then-reads_it+in_ok-push w ↦ pick_one (Reads c.args.flat.now c.args.value) c.args.from.now c.loop-spot.list.items _
+      c.loop-spot.spot-index _ c.loop-spot-test.true (ap (λ v. v.items) w.list-is ∙ w.in_ok-push.ensures.items)
+      c.loop-spot.invariant
+  | else-reads_it w ↦ leave_one (Reads c.args.flat.now c.args.value) c.args.from.now c.loop-spot.list.items _
+      c.loop-spot.spot-index _ c.loop-spot-test.true (ap (λ v. v.items) w.list-is)
+      (λ is. let t = c.reads_it.ensures is in let f = w.if-reads_it.false in absurd (cc (t, f))) c.loop-spot.invariant
 ]

@@ -6,8 +6,10 @@ use Rattle.viable.proofs.pruned.+pruning.Given as goal
 
 abbrev pub invariant-prune_all-loop-member : goal.invariant-prune_all-loop-member
 invariant-prune_all-loop-member l =
-    KeepsAll (has l.alphabet) (rules_of l.rules) (elements_of (take l.member-index l.members)) (elements_of l.kept.items)
+    KeepsAll (has l.alphabet) (rules_of l.rules) (elements_of (take l.member-index l.members))
+    (elements_of l.kept.items)
 
 abbrev pub invariant-prune_some-loop-alternative : goal.invariant-prune_some-loop-alternative
 invariant-prune_some-loop-alternative l =
-    KeepsSome (has l.alphabet) (rules_of l.rules) (elements_of (take l.alternative-index l.alternatives)) (elements_of l.kept.items)
+    KeepsSome (has l.alphabet) (rules_of l.rules) (elements_of (take l.alternative-index l.alternatives))
+    (elements_of l.kept.items)

@@ -9,4 +9,5 @@ returns-then-has_between c rules = rw element-Range (keep_range (c.has_between.e
 
 pub returns-else-has_between : goal.returns-else-has_between
 returns-else-has_between c rules =
-    o.no_range (has c.args.alphabet) rules c.args.low c.args.high (λ some. absurd (cc (c.if-has_between.false, c.has_between.ensures.1 some)))
+    o.no_range (has c.args.alphabet) rules c.args.low c.args.high
+    (λ some. absurd (cc (c.if-has_between.false, c.has_between.ensures.1 some)))

@@ -6,4 +6,5 @@ use Rattle.viable.proofs.pruned.prune_text.Goals as goal
 
 pub returns : goal.returns
 returns c alphabet rules =
-    rw (element-Text, c.in_ok-text.ensures.items) (keep_text (bytes_are_letters alphabet c.args.text.now (λ i. let f = c.type_inv.text i in omega (arith, f.fits))))
+    rw (element-Text, c.in_ok-text.ensures.items) (keep_text
+    (bytes_are_letters alphabet c.args.text.now (λ i. let f = c.type_inv.text i in omega (arith, f.fits))))
