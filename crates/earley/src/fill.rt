@@ -209,21 +209,35 @@ fn complete(
     Ok(())
 }
 
-/// Predicts the root that an item calls.
-fn ask(flat: &Tables, item: Item, heads: &mut Heads) -> Result<(), Memory>
+/// Predicts the root that an item calls, which is given.
+fn ask(
+    flat: &Tables,
+    item: Item,
+    called: Option<(usize, usize)>,
+    heads: &mut Heads,
+) -> Result<(), Memory>
+    requires { called ≡ call_of flat.now item }
     ensures { IfOk result (λ done. Adds (IsAsked flat.now item) heads.old heads.new) }
 {
-    if let Some((root, _)) = call(flat, item) {
+    let (_flat, _item) = (flat, item);
+    if let Some((root, _)) = called {
         heads.note(root)?;
     }
     Ok(())
 }
 
-/// Adds the item after one that calls a nullable root, but for a turn that takes a letter.
-fn pass(flat: &Tables, item: Item, home: usize, set: &mut Items) -> Result<(), Memory>
+/// Adds the item after one that calls a nullable root, which is given, but for a turn that takes a letter.
+fn pass(
+    flat: &Tables,
+    item: Item,
+    called: Option<(usize, usize)>,
+    home: usize,
+    set: &mut Items,
+) -> Result<(), Memory>
+    requires { called ≡ call_of flat.now item }
     ensures { IfOk result (λ done. Adds (IsOn flat.now item) set.old set.new) }
 {
-    if let Some((root, step)) = call(flat, item) {
+    if let Some((root, step)) = called {
         if null(flat, root) && !takes_letter(flat, item) && step != item.step {
             set.add(
                 Item {
@@ -243,15 +257,17 @@ fn advance(
     flat: &Tables,
     sets: &[Front],
     item: Item,
+    called: Option<(usize, usize)>,
     home: usize,
     set: &mut Items,
 ) -> Result<(), Memory>
+    requires called { called ≡ call_of flat.now item }
     requires alone { AreAlone flat.now }
     requires begun { BeginAll flat.now sets.now }
     requires waiting { AreWaitingAll flat.now sets.now }
     ensures { IfOk result (λ done. Adds (IsFurther flat.now (views flat.now 0 sets.now) item) set.old set.new) }
 {
-    pass(flat, item, home, set)?;
+    pass(flat, item, called, home, set)?;
     complete(flat, sets, item, home, set)?;
     Ok(())
 }
@@ -299,8 +315,9 @@ fn work(
     ensures items { IfOk result (λ done. Adds (IsFurther flat.now (views flat.now 0 sets.now) item) items.old
         items.new) }
 {
-    ask(flat, item, heads)?;
-    advance(flat, sets, item, home, items)?;
+    let called = call(flat, item);
+    ask(flat, item, called, heads)?;
+    advance(flat, sets, item, called, home, items)?;
     Ok(())
 }
 

@@ -10,7 +10,7 @@ use ruletable::Memory;
 use std::alloc::Global;
 
 // As many reading spots are walked without a table by letter.
-const FEW: usize = 8;
+const FEW: usize = 4;
 
 /// Holds of the spots of a block those that call a root with a block of its own, and those that read: all, and where
 /// they are many those of each letter below 256.
