@@ -1,5 +1,5 @@
-/* Judges lines by libmarpa, the engine in C below Perl's Marpa::R2, and prints nanoseconds a byte, the least of five
-   rounds. marpa_rules.py writes what it reads. The first argument is the shared object of Marpa::R2. */
+/* Judges lines by libmarpa, the engine in C of Debian's libmarpa-r2-perl, and prints nanoseconds a byte, the least of
+   five rounds. marpa_rules.py writes what it reads. The first argument is its shared object. */
 #include <dlfcn.h>
 #include <stdio.h>
 #include <stdlib.h>

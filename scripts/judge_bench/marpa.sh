@@ -1,6 +1,5 @@
 #!/bin/sh
-# marpa.sh [NAME ..]: judges the lines of each benchmark by libmarpa, the engine in C of Marpa::R2 (Debian:
-# libmarpa-r2-perl).
+# marpa.sh [NAME ..]: judges the lines of each benchmark by libmarpa, the engine in C of Debian's libmarpa-r2-perl.
 # The trees of a line are asked for in the first round alone, which is not timed: there each line must be derived.
 set -e
 here=$(cd "$(dirname "$0")" && pwd)
