@@ -4,5 +4,5 @@ pub mod AllRulesLemmas
 pub mod AreRedefinitionsLemmas
 pub mod IsAnswerOnLemmas
 pub mod IsAnswerToLemmas
-pub mod IsAnswerWithinLemmas
 pub mod OneFaultLemmas
+pub mod SpellsLengthLemmas

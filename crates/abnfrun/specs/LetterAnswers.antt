@@ -1,10 +1,8 @@
--- The answer to a list of letters, and to a line that is not too long. It serves private helpers alone.
-use Rattle.std.specs.Prelude.{◌≡◌, ℕ, ◌≤◌, Bool, true, false, List, length}
+-- The answer to a list of letters.
+use Rattle.std.specs.Prelude.{◌≡◌, ℕ, Bool, true, false, List}
 use Rattle.abnfread.specs.Element.{Rule}
 use Rattle.abnfcheck.specs.Beginnings.{IsFurthest}
 use Rattle.abnfcheck.specs.Derivable.{RuleDerives}
-use Rattle.abnfrun.specs.AbnfReply.{IsAnswerTo}
-use Rattle.letters.specs.declared.alphabet.Alphabet.{Alphabet}
 use Rattle.lines.specs.declared.answers.Answer.{Answer}
 use Rattle.lines.specs.declared.answers.Answer.TheVariants.{Yes, No, NoAfter}
 
@@ -20,8 +18,3 @@ abbrev pub torn : ℕ → Answer → Answer
 torn count Yes = NoAfter count
 torn count No = No
 torn count (NoAfter n) = NoAfter n
-
--- the answer to a line, if it has at most so many bytes
-abbrev pub IsAnswerWithin : ℕ → Alphabet → Bool → List Rule → ℕ → List ℕ → Answer → Type 0
-IsAnswerWithin limit letters viable rules judged line said = length line ≤ limit
-    → IsAnswerTo letters viable rules judged line said

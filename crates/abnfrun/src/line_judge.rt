@@ -3,7 +3,7 @@ ghost use Rattle.std.specs.Prelude.{◌≡◌, ◌≤◌, ℕ, Bool, List, false
 ghost use Rattle.abnfread.specs.Element.{Rule};
 ghost use Rattle.abnfread.specs.AbnfViews.{rules_of};
 ghost use Rattle.abnfrun.specs.AbnfReply.{IsAnswerTo, JudgeReply};
-ghost use Rattle.abnfrun.specs.LetterAnswers.{IsAnswerOn, IsAnswerWithin, torn};
+ghost use Rattle.abnfrun.specs.LetterAnswers.{IsAnswerOn, torn};
 ghost use Rattle.flatgrammar.specs.Lowered.{IsLowered};
 ghost use Rattle.flatgrammar.specs.ToldBeginnings.{TellsBeginnings};
 ghost use Rattle.letters.specs.Letters.{has};
@@ -135,14 +135,10 @@ fn judge_points(judges: &LineJudge<'_>, work: &mut Work, line: &[u8]) -> Result<
 }
 
 impl Judge<Work> for LineJudge<'_> {
-    ghost told = { λ j. IsAnswerWithin j.flat.limit j.letters j.viable (rules_of j.grammar.now.rules)
-        j.grammar.now.judged };
+    ghost told = { λ j. IsAnswerTo j.letters j.viable (rules_of j.grammar.now.rules) j.grammar.now.judged };
+    ghost served = { λ j. j.flat.limit };
 
-    // A line that is too long for the flat grammar is not judged. A run has no such line.
     fn judge(&self, work: &mut Work, line: &[u8]) -> Result<Answer, Memory> {
-        if line.len() > self.flat.limit() {
-            return Ok(Answer::No);
-        }
         match self.letters {
             Alphabet::Bytes => judge_bytes(self, &mut work.chart, line),
             Alphabet::Utf8 => judge_points(self, work, line),

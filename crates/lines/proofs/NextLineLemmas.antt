@@ -1,5 +1,5 @@
 -- What was found in a window stands in every input of which so much has been seen.
--- Serves: next_line (follows)
+-- Serves: next_line (follows, fits, short)
 use Rattle.std.proofs.Common.{◌≡◌, ◌≢◌, ℕ, suc, ◌+◌, ◌<◌, ◌≤◌, ◌==◌, Bool, true, false, Some, None, List, [], ◌∷◌, ◌++◌}
 use Rattle.std.proofs.Common.{length, drop, take, refl, sym, ◌∙◌, ap, arith, append_assoc, length-append, length-take}
 use Rattle.std.proofs.Common.{get_or, drop-cons, if◌then◌else◌}
@@ -18,7 +18,7 @@ use Rattle.feed.specs.declared.held.Held.{Held}
 use Rattle.feed.specs.declared.held.Held.TheVariants as held
 use Rattle.toolrun.specs.Agrees.{Agrees}
 use Rattle.toolrun.specs.Input.{Input}
-use Rattle.lines.specs.InputLines.{HasNoEnd, IsNext, LiesWithin, line_without, taken_at}
+use Rattle.lines.specs.InputLines.{HasNoEnd, IsNext, IsShort, LiesWithin, line_without, taken_at}
 use Rattle.lines.specs.declared.line.Line.TheVariants as line
 
 nil_of : (xs : List ℕ) → length xs ≡ 0 → xs ≡ []
@@ -149,3 +149,14 @@ pub without_fits : (held : Held) (len : ℕ) → LiesWithin len (line_without he
 without_fits held.Full len = tt
 without_fits held.End len = last_fits len (len == 0)
 without_fits held.Fault len = tt
+
+-- a last piece leaves room for a byte
+last_short : (room len : ℕ) (b : Bool) → len < room → IsShort room (if b then line.End else line.Last len)
+last_short room len true lt = tt
+last_short room len false lt = lt
+
+pub without_short : {R : Type 0} (f : Feed R) (held : Held) → IsHeld f held →
+    IsShort (capacity_of f) (line_without held (length (bytes_of f)))
+without_short f held.Full full = tt
+without_short f held.End ended = last_short (capacity_of f) (length (bytes_of f)) (length (bytes_of f) == 0) ended.1
+without_short f held.Fault broken = tt

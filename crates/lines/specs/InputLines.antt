@@ -73,6 +73,12 @@ LiesWithin len (Whole k) = k < len
 LiesWithin len (Last k) = k ≤ len
 LiesWithin len _ = ⊤
 
+-- a line has fewer bytes than there is room for
+abbrev pub IsShort : ℕ → Line → Type 0
+IsShort room (Whole k) = k < room
+IsShort room (Last k) = k < room
+IsShort room _ = ⊤
+
 -- what stands at the front where so many bytes and no LF are held
 abbrev pub line_without : Held → ℕ → Line
 line_without held.Full len = Overlong

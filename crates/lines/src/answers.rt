@@ -25,9 +25,12 @@ pub enum Answer {
 pub trait Judge<W> {
     /// Which answer is that of a line.
     ghost told: { Self → List ℕ → Answer → Type 0 };
+    /// How many bytes a line may have that is answered.
+    ghost served: { Self → ℕ };
 
     /// Returns the line's answer. `Memory` if an allocation fails.
     fn judge(&self, work: &mut W, line: &[u8]) -> Result<Answer, Memory>
+        requires { length line.now ≤ served self.now }
         ensures { IfOk result (told self.now line.now) };
 
     /// A law: each line has an answer. It does nothing.
@@ -42,7 +45,8 @@ fn judge_held<W, J: Judge<W>, R: Source>(
     feed: &mut Feed<'_, R>,
     n: usize,
 ) -> Result<Answer, Memory>
-    requires { n ≤ length (bytes_of feed.old) }
+    requires held { n ≤ length (bytes_of feed.old) }
+    requires served { n ≤ J.served judge.now }
     ensures same { SameFeed feed.old feed.new }
     ensures answer { IfOk result (J.told judge.now (take n (bytes_of feed.old))) }
 {
@@ -86,7 +90,8 @@ pub fn answer_held<W, J: Judge<W>, R: Source, O: Sink>(
     n: usize,
     out: &mut O,
 ) -> Result<Option<Answer>, WriteFault>
-    requires { n ≤ length (bytes_of feed.old) }
+    requires held { n ≤ length (bytes_of feed.old) }
+    requires served { n ≤ J.served judge.now }
     ensures same { SameFeed feed.old feed.new }
     ensures answered { Answered (J.told judge.now (take n (bytes_of feed.old))) (O.contents out.old)
         (O.contents out.new) result }

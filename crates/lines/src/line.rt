@@ -3,7 +3,7 @@ ghost use Rattle.std.specs.Prelude.{◌≡◌, ℕ, List, ◌+◌, ◌≤◌, �
 ghost use Rattle.feed.specs.Feed.{Grows, IsTrueOfReader, SameLoan, bytes_of, capacity_of, flow_of};
 ghost use Rattle.toolrun.specs.Agrees.{Agrees};
 ghost use Rattle.toolrun.specs.Input.{Input};
-ghost use Rattle.lines.specs.InputLines.{IsNext, LiesWithin, line_without, taken_at};
+ghost use Rattle.lines.specs.InputLines.{IsNext, IsShort, LiesWithin, line_without, taken_at};
 
 use feed::{Feed, Held, Source};
 
@@ -34,7 +34,7 @@ fn without_lf(held: Held, len: usize) -> Line
 }
 
 /// Reads until the window is full, the input ends or a read fails, and returns what stands at its front. The window has
-/// room for one byte more than a line may have.
+/// room for one byte more than a line may have; a line that is returned has fewer bytes than there is room for.
 pub fn next_line<R: Source>(feed: &mut Feed<'_, R>) -> Line
     ensures loan { SameLoan feed.old feed.new }
     ensures grows { Grows R.remaining feed.old feed.new }
@@ -44,6 +44,7 @@ pub fn next_line<R: Source>(feed: &mut Feed<'_, R>) -> Line
         IsNext limit input (length before) result × (length (before ++ bytes_of feed.new) ≡ taken_at limit input
         (length before)) }
     ensures fits { LiesWithin (length (bytes_of feed.new)) result }
+    ensures short { IsShort (capacity_of feed.new) result }
 {
     let held = feed.fill();
     let len = feed.len();

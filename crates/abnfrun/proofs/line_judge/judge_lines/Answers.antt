@@ -1,9 +1,6 @@
 -- Memory was refused before the first line, or the lines were judged.
 use Rattle.abnfread.specs.AbnfViews.{rules_of}
 use Rattle.abnfrun.specs.AbnfReply.{AnswersFor}
-use Rattle.abnfrun.specs.LetterAnswers.{IsAnswerWithin}
-use Rattle.abnfrun.proofs.IsAnswerWithinLemmas.{performs_as}
-use Rattle.std.proofs.Common.{◌≤◌, length, subst, sym}
 use Rattle.lines.proofs.LineRunLemmas.{no_line_was_run}
 use Rattle.abnfrun.proofs.line_judge.judge_lines.Goals as goal
 
@@ -14,12 +11,3 @@ returns-in_default g c =
     let judged = c.args.grammar.now.judged in
     no_line_was_run (AnswersFor rules judged s) s.limit (c.lines_have_answers.ensures s.letters s.viable rules judged) _
     _ _ _ _
-
-pub returns : goal.returns
-returns g c =
-    let s = c.args.settings.now in
-    let rules = rules_of c.args.grammar.now.rules in
-    let judged = c.args.grammar.now.judged in
-    performs_as (IsAnswerWithin c.in-Ok.flat.limit s.letters s.viable rules judged) (AnswersFor rules judged s) s.limit
-    (λ line said short told. told (subst (λ n. length line ≤ n) (sym c.in-Ok.ensures.limit) short)) _ _ _
-    c.run_lines.ensures

@@ -3,7 +3,7 @@ use Rattle.abnfread.specs.AbnfViews.{rules_of}
 use Rattle.std.proofs.Common.{arith}
 use Rattle.std.proofs.lemmas.List.{length-map}
 use Rattle.abnfrun.proofs.IsAnswerToLemmas.{text_answer}
-use Rattle.abnfrun.proofs.IsAnswerWithinLemmas.{points_at_most}
+use Rattle.abnfrun.proofs.SpellsLengthLemmas.{points_at_most}
 use Rattle.abnfrun.proofs.line_judge.judge_points.Goals as goal
 use Rattle.letters.specs.Utf8Text.{number, numbers}
 

@@ -3,7 +3,7 @@ use Rattle.std.proofs.Common.{◌≡◌, arith, length, length-take-le}
 use Rattle.std.proofs.lemmas.List.{length-map}
 use Rattle.abnfread.specs.AbnfViews.{rules_of}
 use Rattle.abnfrun.proofs.IsAnswerToLemmas.{decoded, torn_answer}
-use Rattle.abnfrun.proofs.IsAnswerWithinLemmas.{points_at_most}
+use Rattle.abnfrun.proofs.SpellsLengthLemmas.{points_at_most}
 use Rattle.abnfrun.proofs.line_judge.judge_torn.Goals as goal
 use Rattle.letters.specs.Utf8Text.{number, numbers}
 

@@ -1,6 +1,6 @@
 -- What was found in the window, or was not.
 use Rattle.std.proofs.Common.{length, arith}
-use Rattle.lines.proofs.NextLineLemmas.{taken, found, not_found, without_fits}
+use Rattle.lines.proofs.NextLineLemmas.{taken, found, not_found, without_fits, without_short}
 use Rattle.lines.proofs.line.next_line.Goals as goal
 
 pub returns-in-Some-clause-follows : goal.returns-in-Some-clause-follows
@@ -12,6 +12,12 @@ returns-in-Some-clause-follows g c = λ limit before input room a.
 
 pub returns-in-Some-clause-fits : goal.returns-in-Some-clause-fits
 returns-in-Some-clause-fits g c = let is = c.in-Some.ensures in let high = is.0.high in omega (arith, high)
+
+pub returns-in-Some-clause-short : goal.returns-in-Some-clause-short
+returns-in-Some-clause-short g c =
+    let is = c.in-Some.ensures in
+    let high = is.0.high in
+    omega (arith, high, c.fill-held.ensures.within)
 
 pub returns-in-None-clause-follows : goal.returns-in-None-clause-follows
 returns-in-None-clause-follows g c = λ limit before input room a.
@@ -25,3 +31,7 @@ returns-in-None-clause-follows g c = λ limit before input room a.
 pub returns-in-None-clause-fits : goal.returns-in-None-clause-fits
 returns-in-None-clause-fits g c = rw (c.without_lf.ensures, c.len-len.ensures.len)
     (without_fits c.fill-held.result (length c.fill-held.new.self.ring.items))
+
+pub returns-in-None-clause-short : goal.returns-in-None-clause-short
+returns-in-None-clause-short g c = rw (c.without_lf.ensures, c.len-len.ensures.len)
+    (without_short c.fill-held.new.self c.fill-held.result c.fill-held.ensures.held)

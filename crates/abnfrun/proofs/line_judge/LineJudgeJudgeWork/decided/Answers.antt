@@ -3,8 +3,6 @@ use Rattle.abnfread.specs.AbnfViews.{rules_of}
 use Rattle.abnfrun.proofs.line_judge.LineJudgeJudgeWork.decided.Goals as goal
 
 pub returns : goal.returns
-returns c line =
+returns c =
     let j = c.args.self.now in
-    let some = c.lines_have_answers.ensures j.letters j.viable (rules_of j.grammar.now.rules) j.grammar.now.judged
-    line in
-    (some.0, λ short. some.1)
+    c.lines_have_answers.ensures j.letters j.viable (rules_of j.grammar.now.rules) j.grammar.now.judged
