@@ -1,23 +1,27 @@
 -- The events of a success in path order, form by form.
 -- Serves: Desk::replay.
-use Rattle.std.proofs.Common.{◌≡◌, inl, inr, ℕ, suc, ◌+◌, ◌<◌, ◌≤◌, Bool, true, nat_lt, List, [], ◌∷◌, ◌++◌, length}
+use Rattle.std.proofs.Common.{◌≡◌, inl, inr, ℕ, suc, ◌+◌, ◌<◌, ◌≤◌, Bool, nat_lt, List, [], ◌∷◌, ◌++◌, length}
 use Rattle.std.proofs.Common.{drop, get_or, Option, Some, None, refl, sym, ◌∙◌, subst, arith, add-one, drop-cons}
 use Rattle.std.proofs.Common.{IfSome}
 use Rattle.std.specs.Prelude.{slice_get}
 use Rattle.std.proofs.lemmas.Bool.{cases_Bool, ltb-true, ltb-false}
 use Rattle.std.proofs.lemmas.Grind.{common_steps}
+use Rattle.std.proofs.lemmas.Option.{slice_get-get_or}
 use Rattle.pegread.specs.Pattern as expr
 use Rattle.pegread.specs.Pattern.{Pattern, Patterns, Rule, body_of}
 use Rattle.gramcheck.specs.Nodes as node
-use Rattle.gramcheck.specs.Nodes.{Shape, Spells, spells_star, SpellAll, spell_none, spell_more}
+use Rattle.gramcheck.specs.Nodes.{Shape, Spells, spells_seq, spells_star, SpellAll, spell_none, spell_more}
 use Rattle.gramcheck.specs.Outcome as event
 use Rattle.gramcheck.specs.Outcome.{Event, Outcome, Fails, Takes, Gives, any_takes, set_takes, bytes_take, act, open_at}
 use Rattle.gramcheck.specs.Outcome.{close_at, name, seq, choice, opt_takes, opt_none, star_none, star_more, plus_takes}
 use Rattle.gramcheck.specs.Outcome.{and_takes, not_takes, GivesAll, all_done, rest_takes, GivesFirst, first_takes}
 use Rattle.gramcheck.specs.Outcome.{first_fails}
+use Rattle.gramcheck.specs.Printing.{Prints}
 use Rattle.gramcheck.specs.Sound.{IsRanked}
 use Rattle.gramcheck.proofs.OneOutcomeLemmas.{same}
 use Rattle.gramcheck.proofs.HasShapeLemmas.{has_shape}
+use Rattle.gramcheck.proofs.NodeSpellsLemmas.{is_there}
+use Rattle.gramcheck.proofs.PrintsLemmas.{gives_no_events}
 use Rattle.cells.specs.declared.cell.Found.{Found}
 use Rattle.cells.specs.declared.cell.Found.TheVariants.{Failed, Took}
 use Rattle.cells.specs.Entries.{Entry}
@@ -28,7 +32,7 @@ use Rattle.pegmatch.specs.declared.event.Kept.TheVariants.{Opened, Closed, Acted
 use Rattle.cells.specs.Entries.{found_at}
 use Rattle.desk.specs.Desk.{beginning}
 use Rattle.pegmatch.specs.KeptEvents.{opened, closed, acted}
-use Rattle.desk.specs.Path.{IsQuiet, EndsBy, opt_way, into, star_way, seq_way, choice_way, Taking, AllTaking, LeftBy}
+use Rattle.desk.specs.Path.{EndsBy, opt_way, into, star_way, seq_way, choice_way, Taking, AllTaking, LeftBy}
 use Rattle.desk.specs.Path.{IsLeft, IsWay, pair_height}
 use Rattle.desk.specs.State.{HasCell, HaveTaken, none_taken, AreCells}
 use Rattle.desk.specs.Visits.{NodeGives, NodeTakes, Asks, AsksAlternative, alternative_here, alternative_later}
@@ -36,12 +40,6 @@ use Rattle.desk.proofs.AsksLemmas.{leads, falls}
 use Rattle.desk.proofs.GivesLemmas.{is_name}
 use Rattle.desk.proofs.NodeGivesLemmas.{gives_as}
 use Rattle.desk.proofs.HaveTakenLemmas.{taken_next, asks_member}
-
--- where it is to be left, it is left for that reason
-pub leave_by : (r : Option Way) (b : Bool) (Q : Way → Type 0) → IfSome r (λ w. (b ≡ true) × (w ≡ Leave))
-    → (b ≡ true → Q Leave) → IfSome r Q
-leave_by None b Q h f = tt
-leave_by (Some w) b Q h f = rw h.1 (f h.0)
 
 -- where a node's success ends, if it is told
 pub ends_told : (nodes : List Shape) (n p k : ℕ) (shape : Shape) (r : Option ℕ) → slice_get nodes n ≡ Some shape
@@ -99,6 +97,37 @@ module _ (rules : List Rule) (start : ℕ) (nodes : List Shape) (bodies ranks x 
     high = high;
     left = fresh_by n p es t;
   }
+
+  -- what a node takes that begins
+  takes_by : (n p : ℕ) (es : List Event) (shape : Shape) → slice_get nodes n ≡ Some shape
+      → LeftBy rules nodes bodies ranks x cells shape n p 0 p es → Takings n p es
+  takes_by n p es node.Any h t = t
+  takes_by n p es (node.Bytes bs) h t = t
+  takes_by n p es (node.Set s) h t = t
+  takes_by n p es (node.Name id) h t = t
+  takes_by n p es (node.Seq ms) h t =
+      let all = t.1 in record {
+        end = all.end;
+        looked = all.looked;
+        gives = record { expr = expr.Seq all.exprs; spelled = spells_seq h all.spelled; gives = seq all.gives };
+      }
+  takes_by n p es (node.Choice ms) h t = t
+  takes_by n p es (node.Star m) h t = elim t [ inl b ↦ b.1 | inr b ↦ absurd (let one = b.0 in omega (arith, one)) ]
+  takes_by n p es (node.Plus m s) h t = elim t [ inl b ↦ b.1 | inr b ↦ absurd (let one = b.0 in omega (arith, one)) ]
+  takes_by n p es (node.Opt m) h t = t
+  takes_by n p es (node.And m) h t = t
+  takes_by n p es (node.Not m) h t = t
+  takes_by n p es (node.Act u) h t = t
+  takes_by n p es node.Open h t = t
+  takes_by n p es node.Close h t = t
+
+  -- a node that does not print has no events
+  pub silent_leaves : (n p : ℕ) (es : List Event) → Lefts (beginning n p) es
+      → ((e : Pattern) → Spells rules nodes n e → Prints rules e → ⊥) → Ways (beginning n p) es Leave
+  silent_leaves n p es l quiet =
+      let at = slice_get-get_or nodes n node.Any (is_there rules nodes l.spelled.1) in
+      let t = takes_by n p es (get_or nodes n node.Any) at (l.left (get_or nodes n node.Any) at) in
+      gives_no_events rules x t.gives.gives (quiet t.gives.expr t.gives.spelled)
 
   any_quiet : {p k end : ℕ} {es : List Event} → Gives rules x expr.Any p (Takes end es) k → es ≡ []
   any_quiet (any_takes h) = refl
@@ -174,46 +203,6 @@ module _ (rules : List Rule) (start : ℕ) (nodes : List Shape) (bodies ranks x 
   ends_by m p e r node.Close at is h = let g = right.found m p (Took r) h in
       is ∙ sym (close_end (subst (λ v. Gives rules x v p (Takes r g.events) g.looked)
       (has_shape rules nodes g.gives.spelled node.Close at) g.gives.gives))
-
-  -- an expression prints nothing wherever it succeeds
-  abbrev Hushed : Pattern → Type 0
-  Hushed e = (p k end : ℕ) (es : List Event) → Gives rules x e p (Takes end es) k → es ≡ []
-
-  hushed : (m : ℕ) (e : Pattern) → Spells rules nodes m e → (shape : Shape) → slice_get nodes m ≡ Some shape
-      → IsQuiet shape → Hushed e
-  hushed m e s node.Any at q = λ p k end es d. any_quiet
-      (subst (λ v. Gives rules x v p (Takes end es) k) (has_shape rules nodes s node.Any at) d)
-  hushed m e s (node.Bytes bs) at q = λ p k end es d. bytes_quiet
-      (subst (λ v. Gives rules x v p (Takes end es) k) (has_shape rules nodes s (node.Bytes bs) at) d)
-  hushed m e s (node.Set b) at q = λ p k end es d. set_quiet
-      (subst (λ v. Gives rules x v p (Takes end es) k) (has_shape rules nodes s (node.Set b) at) d)
-  hushed m e s (node.Name id) at q = absurd q
-  hushed m e s (node.Seq ms) at q = absurd q
-  hushed m e s (node.Choice ms) at q = absurd q
-  hushed m e s (node.Star k) at q = absurd q
-  hushed m e s (node.Plus k i) at q = absurd q
-  hushed m e s (node.Opt k) at q = absurd q
-  hushed m e s (node.And i) at q = λ p k end es d. and_quiet
-      (subst (λ v. Gives rules x v p (Takes end es) k) ((has_shape rules nodes s (node.And i) at).1) d)
-  hushed m e s (node.Not i) at q = λ p k end es d. not_quiet
-      (subst (λ v. Gives rules x v p (Takes end es) k) ((has_shape rules nodes s (node.Not i) at).1) d)
-  hushed m e s (node.Act t) at q = absurd q
-  hushed m e s node.Open at q = absurd q
-  hushed m e s node.Close at q = absurd q
-
-  star_hushed : {e : Pattern} {p k end : ℕ} {es : List Event} → Hushed e → Gives rules x (expr.Star e) p (Takes end es)
-      k → es ≡ []
-  star_hushed h (star_none d) = refl
-  star_hushed h (star_more d c) = rw (h _ _ _ _ d, star_hushed h c) refl
-
-  plus_hushed : {e : Pattern} {p k end : ℕ} {es : List Event} → Hushed e → Gives rules x (expr.Plus e) p (Takes end es)
-      k → es ≡ []
-  plus_hushed h (plus_takes d c) = rw (h _ _ _ _ d, star_hushed h c) refl
-
-  opt_hushed : {e : Pattern} {p k end : ℕ} {es : List Event} → Hushed e → Gives rules x (expr.Opt e) p (Takes end es) k
-      → es ≡ []
-  opt_hushed h (opt_takes d) = h _ _ _ _ d
-  opt_hushed h (opt_none d) = refl
 
   act_one : {t : List ℕ} {p k end : ℕ} {es : List Event} → Gives rules x (expr.Act t) p (Takes end es) k
       → es ≡ event.Acted t ∷ []
@@ -573,35 +562,6 @@ module _ (rules : List Rule) (start : ℕ) (nodes : List Shape) (bodies ranks x 
       | inl b ↦ subst (λ w. Ways f es (star_way s m f.place w f.end v)) (sym b.0) (plus_begins m s v at h b.0 b.1)
       | inr b ↦ subst (λ w. Ways f es (star_way s m f.place w f.end v)) (sym b.0) (turns_to s f.end b.1 b.2)
     ]
-
-    module _ (m : ℕ) (shape : Shape) (operand : slice_get nodes m ≡ Some shape) (quiet : IsQuiet shape)
-        (fresh_frame : f.next ≡ 0) where
-      pub star_leaves : slice_get nodes f.node ≡ Some (node.Star m) → Ways f es Leave
-      star_leaves at = elim (l.left (node.Star m) at) [
-        | inl b ↦
-            let t = b.1 in
-            let like = has_shape rules nodes t.gives.spelled (node.Star m) at in
-            star_hushed (hushed m like.0 like.2 shape operand quiet)
-            (subst (λ v. Gives rules x v f.place (Takes t.end es) t.looked) like.1 t.gives.gives)
-        | inr b ↦ absurd (let one : f.next ≡ 1 = b.0 in omega arith)
-      ]
-
-      pub plus_leaves : (s : ℕ) → slice_get nodes f.node ≡ Some (node.Plus m s) → Ways f es Leave
-      plus_leaves s at = elim (l.left (node.Plus m s) at) [
-        | inl b ↦
-            let t = b.1 in
-            let like = has_shape rules nodes t.gives.spelled (node.Plus m s) at in
-            plus_hushed (hushed m like.0 like.2 shape operand quiet)
-            (subst (λ v. Gives rules x v f.place (Takes t.end es) t.looked) like.1 t.gives.gives)
-        | inr b ↦ absurd (let one : f.next ≡ 1 = b.0 in omega arith)
-      ]
-
-      pub opt_leaves : slice_get nodes f.node ≡ Some (node.Opt m) → Ways f es Leave
-      opt_leaves at =
-          let t = l.left (node.Opt m) at in
-          let like = has_shape rules nodes t.gives.spelled (node.Opt m) at in
-          opt_hushed (hushed m like.0 like.2 shape operand quiet)
-          (subst (λ v. Gives rules x v f.place (Takes t.end es) t.looked) like.1 t.gives.gives)
 
     seq_goes : (ms : List ℕ) (v : Option Found) → slice_get nodes f.node ≡ Some (node.Seq ms) → f.next < length ms
         → HaveTaken cells ms f.place f.next f.end →

@@ -49,23 +49,6 @@ abbrev pub Tells : List Shape → Option Kept → List Event → List Event → 
 Tells nodes None all later = all ≡ later
 Tells nodes (Some mark) all later = (e : Event) × StandsFor nodes mark e × (all ≡ e ∷ later)
 
--- a node of this shape prints nothing wherever it succeeds
-abbrev pub IsQuiet : Shape → Type 0
-IsQuiet Any = Unit {0}
-IsQuiet (Bytes bs) = Unit {0}
-IsQuiet (Set s) = Unit {0}
-IsQuiet (Name id) = ⊥
-IsQuiet (Seq ms) = ⊥
-IsQuiet (Choice ms) = ⊥
-IsQuiet (Star m) = ⊥
-IsQuiet (Plus m s) = ⊥
-IsQuiet (Opt m) = ⊥
-IsQuiet (And m) = Unit {0}
-IsQuiet (Not m) = Unit {0}
-IsQuiet (Act t) = ⊥
-IsQuiet Open = ⊥
-IsQuiet Close = ⊥
-
 -- where a success of a node of this shape at p ends, whatever the input
 abbrev pub EndsBy : Shape → ℕ → ℕ → Type 0
 EndsBy Any p e = e ≡ p + 1

@@ -2,14 +2,14 @@
 ghost use Rattle.std.specs.Prelude.{◌≡◌, ℕ, ◌+◌, ◌<◌, Bool, true, List, length, get_or, slice_get, Some, IfSome};
 ghost use Rattle.pegread.specs.PegViews.{rules_of};
 ghost use Rattle.gramcheck.specs.Grammar.{IsSoundGrammar};
-ghost use Rattle.gramcheck.specs.Nodes.{Shape, shape_of, shapes_of};
+ghost use Rattle.gramcheck.specs.Nodes.{Shape, shapes_of};
 ghost use Rattle.pegmatch.specs.KeptEvents.{SpellsSome};
 ghost use Rattle.gramcheck.specs.Outcome.{Event};
 ghost use Rattle.cells.specs.declared.cell.Found.{Found};
 ghost use Rattle.cells.specs.Entries.{Entry, found_at};
 ghost use Rattle.desk.specs.Desk.{beginning};
 ghost use Rattle.desk.specs.State.{HaveFailed, AreCells};
-ghost use Rattle.desk.specs.Path.{EndsBy, IsLeft, IsQuiet, IsWay, opt_way, star_way, seq_way, choice_way};
+ghost use Rattle.desk.specs.Path.{EndsBy, IsLeft, IsWay, opt_way, star_way, seq_way, choice_way};
 
 use crate::frame::Frame;
 use cells::{Cells, Found};
@@ -190,30 +190,8 @@ pub(crate) fn next_way(peg: &SoundPeg, cells: &Cells, frame: Frame) -> Way
     way
 }
 
-// Whether a node prints nothing wherever it succeeds: it has no operands and is no mark, or it is a predicate.
-#[inline(always)]
-fn is_quiet(node: &Node) -> bool
-    ensures { result ≡ true → IsQuiet (shape_of node.now) }
-{
-    match node {
-        Node::Any => true,
-        Node::Bytes(_) => true,
-        Node::Set(_) => true,
-        Node::And(_) => true,
-        Node::Not(_) => true,
-        _ => false,
-    }
-}
-
-// To leave, where that is so.
-#[inline(always)]
-fn leave_if(leaves: bool) -> Option<Way>
-    ensures { IfSome result (λ way. (leaves ≡ true) × (way ≡ Way.Leave)) }
-{
-    if leaves { Some(Way::Leave) } else { None }
-}
-
-/// Where the events of a node that begins at a place go on, if that needs no cell.
+/// Returns where the events of a node that begins at a place go on, if that needs no cell: it is silent, an action or an
+/// end of a capture.
 #[inline(always)]
 pub(crate) fn way_at_once(peg: &SoundPeg, node: usize, place: usize) -> Option<Way>
     requires sound { IsSoundGrammar peg.now }
@@ -225,18 +203,13 @@ pub(crate) fn way_at_once(peg: &SoundPeg, node: usize, place: usize) -> Option<W
         IsWay (rules_of peg.now.rules) (shapes_of peg.now.nodes) peg.now.bodies peg.now.ranks x cells
         (beginning node place) es way) }
 {
+    if peg.is_silent(node) {
+        return Some(Way::Leave);
+    }
     match peg.node(node) {
-        Node::Any => Some(Way::Leave),
-        Node::Bytes(_) => Some(Way::Leave),
-        Node::Set(_) => Some(Way::Leave),
-        Node::And(_) => Some(Way::Leave),
-        Node::Not(_) => Some(Way::Leave),
         Node::Act(_) => Some(Way::Emit(Kept::Acted(node))),
         Node::Open => Some(Way::Emit(Kept::Opened(place))),
         Node::Close => Some(Way::Emit(Kept::Closed(place))),
-        Node::Star(operand) => leave_if(is_quiet(peg.node(*operand))),
-        Node::Plus { operand, .. } => leave_if(is_quiet(peg.node(*operand))),
-        Node::Opt(operand) => leave_if(is_quiet(peg.node(*operand))),
         _ => None,
     }
 }

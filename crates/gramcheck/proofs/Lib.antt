@@ -22,6 +22,7 @@ pub mod OneOutcomeLemmas
 mod OutcomeExamples
 pub mod OwnIdLemmas
 pub mod PatternOfLemmas
+pub mod PrintsLemmas
 pub mod PushCasesLemmas
 pub mod RepeatsNoNullLemmas
 pub mod RiseLemmas

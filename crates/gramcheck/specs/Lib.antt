@@ -11,6 +11,7 @@ pub mod Nodes
 pub mod Nulls
 pub mod Numbering
 pub mod Outcome
+pub mod Printing
 pub mod Ranks
 pub mod Rising
 pub mod Sound

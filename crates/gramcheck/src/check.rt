@@ -14,6 +14,7 @@ ghost use Rattle.gramcheck.specs.Sound.{IsRanked};
 use crate::analysis::analysed;
 use crate::cut::{Cut, cut_grammar};
 use crate::notes::{notes, refused};
+use crate::printing::print_marks;
 use crate::sound::SoundPeg;
 use pegread::{Expr, Peg};
 use ruletable::{Memory, NameCase, Note, RuleTable};
@@ -53,7 +54,9 @@ pub fn check_peg(alloc: Global, peg: Peg, start: Option<&str>) -> Result<Checked
         return Ok(Checked { notes, sound: None });
     }
     let first = start_id(&rules, start)?;
-    let sound = SoundPeg::new(rules, first, judged.cut, judged.ranks);
+    let cut = judged.cut;
+    let printing = print_marks(alloc, &cut.nodes, &cut.bodies)?;
+    let sound = SoundPeg::new(rules, first, cut, judged.ranks, printing);
     Ok(Checked {
         notes,
         sound: Some(sound),

@@ -11,6 +11,7 @@ mod node;
 mod notes;
 mod nullable;
 mod number;
+mod printing;
 mod ranked_laws;
 mod sound;
 mod uses;

@@ -1,8 +1,10 @@
 //! Sound grammars.
-ghost use Rattle.std.specs.Prelude.{◌≡◌, ◌<◌, length, slice_get, Some};
+ghost use Rattle.std.specs.Prelude.{◌≡◌, ◌↔◌, ◌<◌, length, slice_get, true, Some};
+ghost use Rattle.pegread.specs.Pattern.{Pattern};
 ghost use Rattle.pegread.specs.PegViews.{rules_of};
 ghost use Rattle.gramcheck.specs.Grammar.{IsSoundGrammar};
-ghost use Rattle.gramcheck.specs.Nodes.{shapes_of};
+ghost use Rattle.gramcheck.specs.Nodes.{shapes_of, Spells};
+ghost use Rattle.gramcheck.specs.Printing.{ArePrintMarks, Prints};
 ghost use Rattle.gramcheck.specs.Sound.{IsRanked};
 
 use crate::cut::Cut;
@@ -21,11 +23,14 @@ pub struct SoundPeg {
     nodes: Vec<Node>,
     bodies: Vec<usize>,
     ranks: Vec<usize>,
+    // of each node whether it may print
+    printing: Vec<bool>,
 }
 
 impl Model for SoundPeg {
     ghost use Rattle.gramcheck.specs.Grammar.{Grammar};
     ghost use Rattle.gramcheck.specs.Nodes.{shapes_of};
+    ghost use Rattle.gramcheck.specs.Printing.{ArePrintMarks};
     ghost use Rattle.gramcheck.specs.Sound.{IsRanked};
     ghost use Rattle.gramcheck.specs.contracts.node.Node as n;
     ghost use Rattle.pegread.specs.PegViews.{rules_of};
@@ -44,14 +49,21 @@ impl Model for SoundPeg {
       ranks = p.ranks.items;
     } };
 
-    ghost invariant = { λ p. IsRanked (rules_of p.rules) p.start (shapes_of p.nodes.items) p.bodies.items
-        p.ranks.items };
+    ghost invariant = { λ p. IsRanked (rules_of p.rules) p.start (shapes_of p.nodes.items) p.bodies.items p.ranks.items
+        × ArePrintMarks (rules_of p.rules) (shapes_of p.nodes.items) p.printing.items };
 }
 
 impl SoundPeg {
-    /// Returns the grammar of these rules, nodes and ranks.
-    pub(crate) fn new(rules: RuleTable<Expr>, start: usize, cut: Cut, ranks: Vec<usize>) -> SoundPeg
-        requires { IsRanked (rules_of rules) start (shapes_of cut.nodes.items) cut.bodies.items ranks.items }
+    /// Returns the grammar of these rules, nodes and ranks, with the marks of the nodes that may print.
+    pub(crate) fn new(
+        rules: RuleTable<Expr>,
+        start: usize,
+        cut: Cut,
+        ranks: Vec<usize>,
+        printing: Vec<bool>,
+    ) -> SoundPeg
+        requires ranked { IsRanked (rules_of rules) start (shapes_of cut.nodes.items) cut.bodies.items ranks.items }
+        requires printing { ArePrintMarks (rules_of rules) (shapes_of cut.nodes.items) printing.items }
         ensures rules { result.rules ≡ rules }
         ensures start { result.start ≡ start }
         ensures sound { IsSoundGrammar result }
@@ -62,6 +74,7 @@ impl SoundPeg {
             nodes: cut.nodes,
             bodies: cut.bodies,
             ranks,
+            printing,
         }
     }
 
@@ -110,5 +123,19 @@ impl SoundPeg {
         ensures { slice_get self.now.ranks n ≡ Some result }
     {
         self.ranks[n]
+    }
+
+    /// Tells whether the node of that number is silent: whether no action and no end of a capture is in it, in its
+    /// operands or in the rules that these name, but for those of predicates. A success of a silent node leaves no event
+    /// behind. The number must be less than `nodes()`.
+    pub fn is_silent(&self, n: usize) -> bool
+        requires { n < length self.now.nodes }
+        ensures { (e : Pattern) → Spells (rules_of self.now.rules) (shapes_of self.now.nodes) n e →
+            (result ≡ true) ↔ (Prints (rules_of self.now.rules) e → ⊥) }
+    {
+        match self.printing.get(n) {
+            Some(mark) => !*mark,
+            None => true,
+        }
     }
 }

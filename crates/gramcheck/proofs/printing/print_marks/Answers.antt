@@ -1,0 +1,21 @@
+use Rattle.std.proofs.Common.{◌∙◌, ap, sym, subst}
+use Rattle.std.proofs.lemmas.List.{length-map}
+use Rattle.leastset.specs.Demands.{AreNeedsWithin, demands_of}
+use Rattle.leastset.specs.Least.{AreMarksOfThose}
+use Rattle.gramcheck.specs.Nodes.{shape_of, shapes_of}
+use Rattle.gramcheck.proofs.PrintsLemmas.{print_within, marks_those_that_print}
+use Rattle.gramcheck.proofs.printing.print_marks.Goals as goal
+
+pub least-requires : goal.least-requires
+least-requires c =
+    let is = ap demands_of c.deref.ensures.value ∙ c.in_ok-needs.ensures in
+    subst AreNeedsWithin (sym is)
+    (print_within c.args.bodies.now (shapes_of c.args.nodes.now) _
+    (sym (length-map c.args.nodes.now shape_of)) c.requires.built
+    c.requires.bodies)
+
+pub returns : goal.returns
+returns c = λ rules are.
+    let is = ap demands_of c.deref.ensures.value ∙ c.in_ok-needs.ensures in
+    marks_those_that_print rules _ _ are _ (subst
+    (λ v. AreMarksOfThose v c.in_ok-marks.marks.items) is c.in_ok-marks.ensures.marks)
