@@ -9,8 +9,7 @@ use Rattle.lexer.specs.SliceEnds.{NoPiece, found, bad, at_end}
 use Rattle.pegread.specs.Slices.{starts_name, Names, Closes, close, escape, plain, Body, last, nested, other, Stands}
 use Rattle.pegread.specs.Slices.{StandsNone, ident, arrow, begin, single, double, class, action, Piece, First, NoDash}
 use Rattle.lexer.proofs.FirstLemmas as firsts
-use Rattle.pegread.proofs.SliceLemmas.{stands-part}
-use Rattle.pegread.proofs.SliceFrontLemmas.{Decided, closes-by}
+use Rattle.pegread.proofs.SliceLemmas.{stands-part, Decided, closes-by}
 
 pub closes-one : {mark : ℕ} {t r s : List ℕ} → mark ≢ 92 → Closes mark t r → Closes mark t s → r ≡ s
 unfolding Decided

@@ -22,7 +22,7 @@ use Rattle.pegread.specs.Tokens.{Tok, Next, AreTokens}
 use Rattle.pegread.specs.Words as words
 use Rattle.lexer.specs.Viability.{say_none, say_more}
 use Rattle.pegread.specs.Words.{Word, Says, says_name, says_literal, says_class, says_action, SayAll}
-use Rattle.pegread.proofs.SpellsOneLemmas.{IsFull}
+use Rattle.pegread.proofs.ListedRulesLemmas.{IsFull}
 use Rattle.pegread.proofs.AreMarkedLemmas.{name-token, action-token}
 
 -- what a word is known to tell
