@@ -91,8 +91,8 @@ pub stacks_next : (row : List ℕ) (i x : ℕ) (a b c : List Bool) (s t u : List
 stacks_next row i x a b c s t u lt is g h =
     rw (add-one i, take-suc row i 0, sym is) (stacks_push (take i row) x a b c s t u g h)
 
-pub falls : (ss : List ℕ) (n u a : ℕ) → a ≡ u + length ss → a < u + length (ss ++ n ∷ [])
-falls ss n u a e = let l = length-append ss (n ∷ []) in omega (arith, l, e)
+pub stack_falls : (ss : List ℕ) (n u a : ℕ) → a ≡ u + length ss → a < u + length (ss ++ n ∷ [])
+stack_falls ss n u a e = let l = length-append ss (n ∷ []) in omega (arith, l, e)
 
 module _ (rows : List (List ℕ)) (these : List ℕ) where
   -- these alone are marked and stacked

@@ -14,7 +14,7 @@ use Rattle.pegread.specs.Classes.{bytes_in, complement, NoHat, SpellsSet, positi
 use Rattle.pegread.specs.Escapes.{shown, run_text, runs_text, class_text}
 use Rattle.pegread.specs.Formed.{IsByteSet}
 use Rattle.pegread.specs.Slices.{Closes, close, plain}
-use Rattle.pegread.proofs.ByteShapeLemmas.{Shape, as_is, lettered, backslashed, octals, char, closes-on, IsBare}
+use Rattle.pegread.proofs.ByteShapeLemmas.{Shape, as_is, lettered, backslashed, octals, shape-char, closes-on, IsBare}
 use Rattle.pegread.proofs.ByteShapeLemmas.{shown-shape}
 
 -- each range goes up, and is of bytes
@@ -115,7 +115,7 @@ read-one : {a : ℕ} {s : List ℕ} (u : List ℕ) {xs : List (ℕ × ℕ)} → 
     → IsRead ((a, a) ∷ xs) (s ++ u)
 read-one {s = s} u v w = record {
   leads = shape-leads u v;
-  ranges = more_items (item_char (char u v) (leads-no_range u w.leads)) w.ranges;
+  ranges = more_items (item_char (shape-char u v) (leads-no_range u w.leads)) w.ranges;
   closes = λ r m y. subst (λ (z : List ℕ). Closes 93 z m) (sym (append_assoc s u r))
       (closes-on bare-closes (inr (omega arith)) v (w.closes r m y));
 }
@@ -124,7 +124,7 @@ read-range : {a b : ℕ} {s t : List ℕ} (u : List ℕ) {xs : List (ℕ × ℕ)
     → IsRead xs u → IsRead ((a, b) ∷ xs) (s ++ (45 ∷ (t ++ u)))
 read-range {s = s} {t = t} u v k w = record {
   leads = shape-leads (45 ∷ (t ++ u)) v;
-  ranges = more_items (item_range (char (45 ∷ (t ++ u)) v) (char u k)) w.ranges;
+  ranges = more_items (item_range (shape-char (45 ∷ (t ++ u)) v) (shape-char u k)) w.ranges;
   closes = λ r m y. subst (λ (z : List ℕ). Closes 93 z m)
       (sym (append_assoc s (45 ∷ (t ++ u)) r ∙ ap (λ (z : List ℕ). s ++ (45 ∷ z)) (append_assoc t u r)))
       (closes-on bare-closes (inr (omega arith)) v (plain (omega arith) (omega arith)

@@ -112,19 +112,19 @@ step-opens : {t : Tok} {w : Word} (c d : Config) → Says t w → step c w ≡ S
 step-opens {t} {w} c d s h = (let l = step-levels c w in let k : LevelsOf (Some d) (behind_word w (levels_in c)) =
     rw h at l in k) ∙ word-opens (levels_in c) s
 
-onwards : (ts : List Tok) (ws : List Word) (n : ℕ) (d : Config)
+levels-onwards : (ts : List Tok) (ws : List Word) (n : ℕ) (d : Config)
     → ((c : Config) → run c ws ≡ Some d → levels_in d ≡ open_count (levels_in c) ts) → (x : Option Config)
     → ((c : Config) → x ≡ Some c → levels_in c ≡ n) → (elim x [ None ↦ None | Some c ↦ run c ws ]) ≡ Some d
     → levels_in d ≡ open_count n ts
-onwards ts ws n d f None l h = cc
-onwards ts ws n d f (Some c) l h = f c h ∙ ap (λ (m : ℕ). open_count m ts) (l c refl)
+levels-onwards ts ws n d f None l h = cc
+levels-onwards ts ws n d f (Some c) l h = f c h ∙ ap (λ (m : ℕ). open_count m ts) (l c refl)
 
 -- after a run as many levels stand open as brackets
 pub run-levels : {ts : List Tok} {ws : List Word} (c d : Config) → SayAll ts ws → run c ws ≡ Some d
     → levels_in d ≡ open_count (levels_in c) ts
 run-levels c d say_none h = ap levels_in (let same : d ≡ c = cc in same)
 run-levels c d (say_more {t} {w} {ts} {ws} s all) h =
-    onwards ts ws (open_behind (kind_of t) (levels_in c)) d (λ e r. run-levels e d all r) (step c w)
+    levels-onwards ts ws (open_behind (kind_of t) (levels_in c)) d (λ e r. run-levels e d all r) (step c w)
     (λ e r. step-opens c e s r) h
 
 pub shallow-none : (m : ℕ) → IsShallow m 0 []

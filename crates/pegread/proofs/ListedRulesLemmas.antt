@@ -78,11 +78,11 @@ abbrev pub Spelled : Pattern → Type 0
 Spelled x = Fits (within (wraps OfSuffix x) (listed x)) (within (wraps OfPrefix x) (listed x))
     (within (wraps Member x) (listed x)) (within (wraps Alternative x) (listed x)) (listed x) x
 
-single : {s r : List Word} {x : Pattern} → Prefixed s r x → SpellsOne s r x
-single {s} {r} {x} p = record { items = more x none; same = refl; spelled = item p no_item }
+spells-single : {s r : List Word} {x : Pattern} → Prefixed s r x → SpellsOne s r x
+spells-single {s} {r} {x} p = record { items = more x none; same = refl; spelled = item p no_item }
 
-alone : {s r : List Word} {x : Pattern} → SpellsOne s r x → Expression s r x
-alone {s} {r} {x} o = subst (λ (y : Pattern). Expression s r y) o.same (expression (only o.spelled))
+expression-alone : {s r : List Word} {x : Pattern} → SpellsOne s r x → Expression s r x
+expression-alone {s} {r} {x} o = subst (λ (y : Pattern). Expression s r y) o.same (expression (only o.spelled))
 
 -- one maker a rank
 fits-primary : {f : List Word → List Word} {x : Pattern} → ((ws : List Word) → Primary (f ws) ws x) → Fits f f f f f x
@@ -90,38 +90,38 @@ fits-primary p = record {
   primary = p;
   suffixed = λ ws. bare (p ws);
   prefixed = λ ws. plain (bare (p ws));
-  one = λ ws. single (plain (bare (p ws)));
-  whole = λ ws. alone (single (plain (bare (p ws))));
+  one = λ ws. spells-single (plain (bare (p ws)));
+  whole = λ ws. expression-alone (spells-single (plain (bare (p ws))));
 }
 
 fits-suffixed : {f : List Word → List Word} {x : Pattern} → ((ws : List Word) → Suffixed (f ws) ws x)
     → Fits (wrapped f) f f f f x
 fits-suffixed p = record {
-  primary = λ ws. parens (alone (single (plain (p _))));
+  primary = λ ws. parens (expression-alone (spells-single (plain (p _))));
   suffixed = p;
   prefixed = λ ws. plain (p ws);
-  one = λ ws. single (plain (p ws));
-  whole = λ ws. alone (single (plain (p ws)));
+  one = λ ws. spells-single (plain (p ws));
+  whole = λ ws. expression-alone (spells-single (plain (p ws)));
 }
 
 fits-prefixed : {f : List Word → List Word} {x : Pattern} → ((ws : List Word) → Prefixed (f ws) ws x)
     → Fits (wrapped f) (wrapped f) f f f x
 fits-prefixed p = record {
-  primary = λ ws. parens (alone (single (p _)));
-  suffixed = λ ws. bare (parens (alone (single (p _))));
+  primary = λ ws. parens (expression-alone (spells-single (p _)));
+  suffixed = λ ws. bare (parens (expression-alone (spells-single (p _))));
   prefixed = p;
-  one = λ ws. single (p ws);
-  whole = λ ws. alone (single (p ws));
+  one = λ ws. spells-single (p ws);
+  whole = λ ws. expression-alone (spells-single (p ws));
 }
 
 fits-one : {f : List Word → List Word} {x : Pattern} → ((ws : List Word) → SpellsOne (f ws) ws x)
     → Fits (wrapped f) (wrapped f) (wrapped f) f f x
 fits-one p = record {
-  primary = λ ws. parens (alone (p _));
-  suffixed = λ ws. bare (parens (alone (p _)));
-  prefixed = λ ws. plain (bare (parens (alone (p _))));
+  primary = λ ws. parens (expression-alone (p _));
+  suffixed = λ ws. bare (parens (expression-alone (p _)));
+  prefixed = λ ws. plain (bare (parens (expression-alone (p _))));
   one = p;
-  whole = λ ws. alone (p ws);
+  whole = λ ws. expression-alone (p ws);
 }
 
 fits-whole : {f : List Word → List Word} {x : Pattern} → ((ws : List Word) → Expression (f ws) ws x)
@@ -130,20 +130,21 @@ fits-whole p = record {
   primary = λ ws. parens (p _);
   suffixed = λ ws. bare (parens (p _));
   prefixed = λ ws. plain (bare (parens (p _)));
-  one = λ ws. single (plain (bare (parens (p _))));
+  one = λ ws. spells-single (plain (bare (parens (p _))));
   whole = p;
 }
 
 -- an operand of a suffix that is no action begins with none
-leads : (x : Pattern) (ws : List Word) → is_act x ≡ false → NoAction (within (wraps OfSuffix x) (listed x) ws)
-leads (Name n) ws h = tt
-leads (Bytes bs) ws h = tt
-leads (Set f) ws h = tt
-leads Any ws h = tt
-leads (Act t) ws h = cc
-leads Open ws h = tt
-leads Close ws h = tt
-leads x ws h = tt
+operand-no_action : (x : Pattern) (ws : List Word) → is_act x ≡ false
+    → NoAction (within (wraps OfSuffix x) (listed x) ws)
+operand-no_action (Name n) ws h = tt
+operand-no_action (Bytes bs) ws h = tt
+operand-no_action (Set f) ws h = tt
+operand-no_action Any ws h = tt
+operand-no_action (Act t) ws h = cc
+operand-no_action Open ws h = tt
+operand-no_action Close ws h = tt
+operand-no_action x ws h = tt
 
 -- a suffixed expression as the operand of `&`: in parentheses where an action leads it
 suffix-amp : {f : List Word → List Word} {x : Pattern} (b : Bool) (c : Bool) (ws : List Word) → b ≡ c
@@ -162,9 +163,9 @@ amp-operand Any p ws = (tt, p.suffixed ws)
 amp-operand (Act t) p ws = (tt, bare (parens (p.whole _)))
 amp-operand Open p ws = (tt, p.suffixed ws)
 amp-operand Close p ws = (tt, p.suffixed ws)
-amp-operand (Opt x) p ws = suffix-amp (is_act x) _ ws refl p.whole p.suffixed (λ us h. leads x _ h)
-amp-operand (e.Star x) p ws = suffix-amp (is_act x) _ ws refl p.whole p.suffixed (λ us h. leads x _ h)
-amp-operand (e.Plus x) p ws = suffix-amp (is_act x) _ ws refl p.whole p.suffixed (λ us h. leads x _ h)
+amp-operand (Opt x) p ws = suffix-amp (is_act x) _ ws refl p.whole p.suffixed (λ us h. operand-no_action x _ h)
+amp-operand (e.Star x) p ws = suffix-amp (is_act x) _ ws refl p.whole p.suffixed (λ us h. operand-no_action x _ h)
+amp-operand (e.Plus x) p ws = suffix-amp (is_act x) _ ws refl p.whole p.suffixed (λ us h. operand-no_action x _ h)
 amp-operand x p ws = (tt, p.suffixed ws)
 
 sequence-same : (es : Patterns) → IsNotOne es → sequence es ≡ Seq es
@@ -177,8 +178,8 @@ choice-same none h = absurd h
 choice-same (more x none) h = absurd h
 choice-same (more x (more y es)) h = refl
 
-last : {s r : List Word} {x : Pattern} → SpellsOne s r x → Alternatives s r (more x none)
-last {s} {r} {x} o = subst (λ (y : Pattern). Alternatives s r (more y none)) o.same (only o.spelled)
+alternatives-last : {s r : List Word} {x : Pattern} → SpellsOne s r x → Alternatives s r (more x none)
+alternatives-last {s} {r} {x} o = subst (λ (y : Pattern). Alternatives s r (more y none)) o.same (only o.spelled)
 
 and-more : {s m r : List Word} {x : Pattern} {bs : Patterns} → SpellsOne s (Slash ∷ m) x → Alternatives m r bs
     → Alternatives s r (more x bs)
@@ -189,45 +190,47 @@ abbrev pub IsFull : Patterns → Type 0
 IsFull none = ⊥
 IsFull (more x es) = Unit {0}
 
-full : (es : Patterns) → AreMany es → IsFull es
-full none h = h
-full (more x es) h = tt
+many-full : (es : Patterns) → AreMany es → IsFull es
+many-full none h = h
+many-full (more x es) h = tt
 
 mutual
-  pub spelled : (x : Pattern) → IsFormed x → Spelled x
-  spelled (Name n) w = fits-primary (λ ws. name)
-  spelled (Bytes bs) w = fits-primary (λ ws. literal)
-  spelled (Set f) w = fits-primary (λ ws. class)
-  spelled Any w = fits-primary (λ ws. dot)
-  spelled (Act t) w = fits-primary (λ ws. action)
-  spelled Open w = fits-primary (λ ws. begin)
-  spelled Close w = fits-primary (λ ws. end_cap)
-  spelled (Opt x) w = let h = spelled x w in fits-suffixed (λ ws. quest (h.primary _))
-  spelled (e.Star x) w = let h = spelled x w in fits-suffixed (λ ws. star (h.primary _))
-  spelled (e.Plus x) w = let h = spelled x w in fits-suffixed (λ ws. plus (h.primary _))
-  spelled (And x) w = let h = spelled x w in fits-prefixed (λ ws. (let a = amp-operand x h ws in amp a.0 a.1))
-  spelled (Not x) w = let h = spelled x w in fits-prefixed (λ ws. bang (h.suffixed ws))
-  spelled (Seq es) w = fits-one (λ ws. record {
+  pub pattern-spelled : (x : Pattern) → IsFormed x → Spelled x
+  pattern-spelled (Name n) w = fits-primary (λ ws. name)
+  pattern-spelled (Bytes bs) w = fits-primary (λ ws. literal)
+  pattern-spelled (Set f) w = fits-primary (λ ws. class)
+  pattern-spelled Any w = fits-primary (λ ws. dot)
+  pattern-spelled (Act t) w = fits-primary (λ ws. action)
+  pattern-spelled Open w = fits-primary (λ ws. begin)
+  pattern-spelled Close w = fits-primary (λ ws. end_cap)
+  pattern-spelled (Opt x) w = let h = pattern-spelled x w in fits-suffixed (λ ws. quest (h.primary _))
+  pattern-spelled (e.Star x) w = let h = pattern-spelled x w in fits-suffixed (λ ws. star (h.primary _))
+  pattern-spelled (e.Plus x) w = let h = pattern-spelled x w in fits-suffixed (λ ws. plus (h.primary _))
+  pattern-spelled (And x) w =
+      let h = pattern-spelled x w in
+      fits-prefixed (λ ws. (let a = amp-operand x h ws in amp a.0 a.1))
+  pattern-spelled (Not x) w = let h = pattern-spelled x w in fits-prefixed (λ ws. bang (h.suffixed ws))
+  pattern-spelled (Seq es) w = fits-one (λ ws. record {
     items = es;
     same = sequence-same es w.0;
     spelled = spelled-members es w.1 ws;
   })
-  spelled (Choice es) w = fits-whole (λ ws. subst (λ (x : Pattern). Expression (listed_alternatives es ws) ws x)
-      (choice-same es w.0) (expression (spelled-alternatives es w.1 (full es w.0) ws)))
+  pattern-spelled (Choice es) w = fits-whole (λ ws. subst (λ (x : Pattern). Expression (listed_alternatives es ws) ws x)
+      (choice-same es w.0) (expression (spelled-alternatives es w.1 (many-full es w.0) ws)))
 
   pub spelled-members : (es : Patterns) → AreFormed es → (ws : List Word) → Items (listed_members es ws) ws es
   spelled-members none w ws = no_item
-  spelled-members (more x es) w ws = item ((spelled x w.0).prefixed _) (spelled-members es w.1 ws)
+  spelled-members (more x es) w ws = item ((pattern-spelled x w.0).prefixed _) (spelled-members es w.1 ws)
 
   pub spelled-alternatives : (es : Patterns) → AreFormed es → IsFull es → (ws : List Word)
       → Alternatives (listed_alternatives es ws) ws es
   spelled-alternatives none w h ws = absurd h
-  spelled-alternatives (more x none) w h ws = last ((spelled x w.0).one _)
+  spelled-alternatives (more x none) w h ws = alternatives-last ((pattern-spelled x w.0).one _)
   spelled-alternatives (more x (more y es)) w h ws =
-      and-more ((spelled x w.0).one _) (spelled-alternatives (more y es) w.1 tt ws)
+      and-more ((pattern-spelled x w.0).one _) (spelled-alternatives (more y es) w.1 tt ws)
 
 pub spelled-rules : (rules : List Rule) → IsSome rules → AreFormedRules rules → Grammar (listed_rules rules) rules
 spelled-rules [] h w = absurd h
-spelled-rules (rule ∷ []) h w = last_definition ((spelled rule.body w.1).whole _)
-spelled-rules (rule ∷ next ∷ rules) h w = more_definitions ((spelled rule.body w.1).whole _)
+spelled-rules (rule ∷ []) h w = last_definition ((pattern-spelled rule.body w.1).whole _)
+spelled-rules (rule ∷ next ∷ rules) h w = more_definitions ((pattern-spelled rule.body w.1).whole _)
     (spelled-rules (next ∷ rules) tt w.2)

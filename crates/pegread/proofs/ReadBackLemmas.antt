@@ -28,7 +28,7 @@ use Rattle.pegread.specs.Formed.{AreBytes}
 use Rattle.pegread.specs.ReadBack.{ReadsAs, IsRead}
 use Rattle.pegread.specs.Reading.{Reads}
 use Rattle.pegread.specs.PegViews.{rules_of}
-use Rattle.pegread.proofs.CutsLemmas.{placed, cuts-rules}
+use Rattle.pegread.proofs.CutsLemmas.{cuts-placed, cuts-rules}
 use Rattle.pegread.proofs.IsFaultOfLemmas.{one-reading}
 use Rattle.pegread.proofs.ReadsFormedLemmas.{reads-formed}
 use Rattle.pegread.proofs.IsTableOfLemmas.{none-again}
@@ -274,7 +274,7 @@ pub read-back : (source : List ℕ) (rules : List Rule) → AreBytes source → 
     → length (grammar_text rules) ≤ MAX_GRAMMAR → ReadsAs (grammar_text rules) rules
 read-back source rules w h le =
     let f = reads-formed source rules w h in
-    let p = placed (length (grammar_text rules)) (omega arith) (cuts-rules rules f.1) in
+    let p = cuts-placed (length (grammar_text rules)) (omega arith) (cuts-rules rules f.1) in
     let g = grammar-again (spelled-rules rules f.0 f.1) p.same in
     let reads : Reads (grammar_text rules) g.again = record {
       within = le;

@@ -4,7 +4,7 @@ use Rattle.std.proofs.Common.{◌≡◌, ◌≢◌, ℕ, ◌≤◌, ◌<◌, tru
 use Rattle.std.proofs.Common.{suc, ◌++◌, ◌⊎◌, inl, inr}
 use Rattle.std.proofs.lemmas.Bool.Decides.{nat_tests}
 use Rattle.lexer.specs.SliceEnds.{IsEnd, IsPart, NoPiece, piece}
-use Rattle.lexer.proofs.FirstLemmas.{one, here, both, less-one}
+use Rattle.lexer.proofs.FirstLemmas.{end-more, end-here, end-both, less-one}
 use Rattle.lexer.proofs.TokenListLemmas.{end-shorter}
 use Rattle.pegread.specs.declared.kind.Kind.{Kind}
 use Rattle.pegread.specs.declared.kind.Kind.TheVariants.{Ident, Bad, End}
@@ -18,27 +18,27 @@ use Rattle.lexer.proofs.FirstLemmas as firsts
 use Rattle.lexer.proofs.TokenListLemmas as lists
 
 names-end : {t r : List ℕ} → Names t r → IsEnd t r
-names-end none = here
-names-end (more h n) = one _ (names-end n)
+names-end none = end-here
+names-end (more h n) = end-more _ (names-end n)
 
 closes-end : {m : ℕ} {t r : List ℕ} → Closes m t r → IsEnd t r
-closes-end close = one _ here
-closes-end (escape c) = one _ (one _ (closes-end c))
-closes-end (plain p q c) = one _ (closes-end c)
+closes-end close = end-more _ end-here
+closes-end (escape c) = end-more _ (end-more _ (closes-end c))
+closes-end (plain p q c) = end-more _ (closes-end c)
 
 body-end : {t r : List ℕ} → Body t r → IsEnd t r
-body-end last = one _ here
-body-end (nested h k) = one _ (both (body-end h) (body-end k))
-body-end (other p q h) = one _ (body-end h)
+body-end last = end-more _ end-here
+body-end (nested h k) = end-more _ (end-both (body-end h) (body-end k))
+body-end (other p q h) = end-more _ (body-end h)
 
 pub stands-part : (k : Kind) (t r : List ℕ) → Stands k t r → IsPart t r
 stands-part k t r (ident h n) = less-one _ (names-end n)
-stands-part k t r arrow = less-one _ (one _ here)
+stands-part k t r arrow = less-one _ (end-more _ end-here)
 stands-part k t r (single c) = less-one _ (closes-end c)
 stands-part k t r (double c) = less-one _ (closes-end c)
 stands-part k t r (class c) = less-one _ (closes-end c)
 stands-part k t r (action c) = less-one _ (body-end c)
-stands-part k t r _ = less-one _ here
+stands-part k t r _ = less-one _ end-here
 
 pub stands-no_end : {t r : List ℕ} → Stands End t r → ⊥
 stands-no_end h = elim h [ ]
@@ -59,8 +59,8 @@ stands-one : (k j : Kind) (t r : List ℕ) → Stands k t r → Stands j t r →
 stands-one k j t r x y = kinds-one refl x y
 
 comment-end : {t r : List ℕ} → Comment t r → IsEnd t r
-comment-end (ended h) = here
-comment-end (inside p h) = one _ (comment-end h)
+comment-end (ended h) = end-here
+comment-end (inside p h) = end-more _ (comment-end h)
 
 comment-one : {t m n : List ℕ} → Comment t m → Comment t n → m ≡ n
 comment-one (ended h) (ended k) = refl
@@ -69,8 +69,8 @@ comment-one (inside p h) (ended k) = cc
 comment-one (inside p h) (inside q k) = comment-one h k
 
 piece-end : (t r : List ℕ) → Piece t r → IsEnd t r
-piece-end t r (blank e) = one _ here
-piece-end t r (comment h) = one _ (comment-end h)
+piece-end t r (blank e) = end-more _ end-here
+piece-end t r (comment h) = end-more _ (comment-end h)
 
 piece-one : (t m n : List ℕ) → Piece t m → Piece t n → m ≡ n
 piece-one t m n (blank e) (blank f) = refl

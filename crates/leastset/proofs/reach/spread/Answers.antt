@@ -32,7 +32,7 @@ mark_all-requires-in-Some c = λ m h.
     omega (arith, lt, k)
 
 pub loop-n-smaller : goal.loop-n-smaller
-loop-n-smaller c = rw (c.in-Some.ensures).items (s.falls _ _ _ _ (c.in_ok-mark_all-2.ensures).left)
+loop-n-smaller c = rw (c.in-Some.ensures).items (s.stack_falls _ _ _ _ (c.in_ok-mark_all-2.ensures).left)
 
 pub loop-n-preserved : goal.loop-n-preserved
 loop-n-preserved c =
