@@ -82,13 +82,13 @@ module _ (settings : Settings) (start : ℕ) (before items : List ℕ) (flow : F
   seen_len : length (before ++ items) ≡ start + length items
   seen_len = omega (arith, length-append before items, here)
 
-  inside : start ≤ length input.bytes
-  inside = omega (arith, bytes_len)
+  start_inside : start ≤ length input.bytes
+  start_inside = omega (arith, bytes_len)
 
   -- a full window
   module _ (full : length items ≡ suc settings.limit) where
-    long : settings.limit < length rest
-    long = let l = ap length rest_is in omega (arith, l, full, length-append items agrees.more)
+    rest_long : settings.limit < length rest
+    rest_long = let l = ap length rest_is in omega (arith, l, full, length-append items agrees.more)
 
     window_is : items ≡ take (suc settings.limit) rest
     window_is = rw (rest_is, ← full) (sym (take-append_seam items agrees.more))
@@ -105,7 +105,7 @@ module _ (settings : Settings) (start : ℕ) (before items : List ℕ) (flow : F
         IsStep (rules_of g.rules) g.start settings input start old new r
         × (length (before ++ items) ≡ taken_at settings input start)
     full_step g sound old new r (attempted, a, e) =
-        let more : true ≡ nat_lt settings.limit (length rest) = let l = long in grind (arith, common_steps, l) in
+        let more : true ≡ nat_lt settings.limit (length rest) = let l = rest_long in grind (arith, common_steps, l) in
         let there : IsAttempt g (take (suc settings.limit) rest) (nat_lt settings.limit (length rest)) settings.raw old
         new attempted =
         subst (λ (b : Bool). IsAttempt g (take (suc settings.limit) rest) b settings.raw old new attempted) more
@@ -114,7 +114,7 @@ module _ (settings : Settings) (start : ℕ) (before items : List ℕ) (flow : F
         (not-equal start (start + length items) (omega (arith, full))
         ∙ sym (not-equal start (length input.bytes) (omega (arith, bytes_len, full)))) in (
           subst (λ v. IsStep (rules_of g.rules) g.start settings input start old new v) (sym (e ∙ same))
-              (step_is g settings input start inside sound (λ _. long) old new attempted there),
+              (step_is g settings input start start_inside sound (λ _. rest_long) old new attempted there),
           taken_full,
         )
 
@@ -123,11 +123,11 @@ module _ (settings : Settings) (start : ℕ) (before items : List ℕ) (flow : F
     end_len : length input.bytes ≡ start + length items
     end_len = let l = ap length none in omega (arith, l, bytes_len)
 
-    held : rest ≡ items
-    held = rest_is ∙ ap (λ t. items ++ t) none ∙ append-nil items
+    rest_held : rest ≡ items
+    rest_held = rest_is ∙ ap (λ t. items ++ t) none ∙ append-nil items
 
     short_rest : length rest ≤ settings.limit
-    short_rest = rw held short
+    short_rest = rw rest_held short
 
     pub taken_end : length (before ++ items) ≡ taken_at settings input start
     taken_end =
@@ -145,7 +145,7 @@ module _ (settings : Settings) (start : ℕ) (before items : List ℕ) (flow : F
       let last = agrees.ended ended in
       let l = short_rest last.0 short in
       let more : false ≡ nat_lt settings.limit (length rest) = grind (arith, common_steps, l) in
-      let window : items ≡ take (suc settings.limit) rest = sym (held last.0 short)
+      let window : items ≡ take (suc settings.limit) rest = sym (rest_held last.0 short)
       ∙ sym (take_all (suc settings.limit) rest (omega (arith, l))) in
       let there : IsAttempt g (take (suc settings.limit) rest) (nat_lt settings.limit (length rest)) settings.raw old
       new attempted =
@@ -154,7 +154,8 @@ module _ (settings : Settings) (start : ℕ) (before items : List ℕ) (flow : F
       let same = same_step settings.limit start (start + length items) (length input.bytes) attempted
       (ap (λ n. start == n) (sym (end_len last.0 short))) in (
         subst (λ v. IsStep (rules_of g.rules) g.start settings input start old new v) (sym (e ∙ same))
-            (step_is g settings input start inside sound (λ f. absurd (let o = last.1 in cc)) old new attempted there),
+            (step_is g settings input start start_inside sound (λ f. absurd (let o = last.1 in cc)) old new attempted
+            there),
         taken_end last.0 short,
       )
 
@@ -164,7 +165,7 @@ module _ (settings : Settings) (start : ℕ) (before items : List ℕ) (flow : F
       × (length (before ++ items) ≡ taken_at settings input start)
   broken_step broken short g old r is =
       let last = agrees.broken broken in (
-        rw is (inr (step_broken g settings input start inside old last.1 (short_rest last.0 short))),
+        rw is (inr (step_broken g settings input start start_inside old last.1 (short_rest last.0 short))),
         taken_end last.0 short,
       )
 

@@ -19,14 +19,15 @@ use Rattle.toolrun.specs.Input.{Input, input_from, bounded}
 -- what is seen when more was read
 module _ {R : Type 0} (remaining : R → Option (List ℕ)) (old new : Feed R) (grows : Grows remaining old new)
     (before : List ℕ) where
-  longer : (before ++ bytes_of old) ++ grows.more ≡ before ++ bytes_of new
-  longer = append_assoc before (bytes_of old) grows.more ∙ ap (λ t. before ++ t) (sym grows.bytes)
+  bytes_longer : (before ++ bytes_of old) ++ grows.more ≡ before ++ bytes_of new
+  bytes_longer = append_assoc before (bytes_of old) grows.more ∙ ap (λ t. before ++ t) (sym grows.bytes)
 
-  pub earlier : (input : Input) → Agrees (before ++ bytes_of new) (flow_of new) input
+  pub agrees_earlier : (input : Input) → Agrees (before ++ bytes_of new) (flow_of new) input
       → Agrees (before ++ bytes_of old) (flow_of old) input
-  earlier input agrees = record {
+  agrees_earlier input agrees = record {
     more = grows.more ++ agrees.more;
-    bytes = agrees.bytes ∙ ap (λ t. t ++ agrees.more) (sym longer) ∙ append_assoc (before ++ bytes_of old) grows.more
+    bytes = agrees.bytes ∙ ap (λ t. t ++ agrees.more) (sym bytes_longer)
+        ∙ append_assoc (before ++ bytes_of old) grows.more
         agrees.more;
     ended = λ e. elim grows.stays [
       | inl was ↦ absurd (cc)
@@ -41,13 +42,13 @@ module _ {R : Type 0} (remaining : R → Option (List ℕ)) (old new : Feed R) (
   pub seen_more : (first : Option (List ℕ)) → Consumes first (remaining (reader_of old)) (before ++ bytes_of old)
       → Consumes first (remaining (reader_of new)) (before ++ bytes_of new)
   seen_more first c =
-      subst (λ (t : List ℕ). Consumes first (remaining (reader_of new)) t) longer
+      subst (λ (t : List ℕ). Consumes first (remaining (reader_of new)) t) bytes_longer
       (Consumes-join first (remaining (reader_of old)) (remaining (reader_of new)) (before ++ bytes_of old) grows.more c
       grows.gives)
 
 -- what is seen when the window slides
-pub slides : (before items : List ℕ) (n : ℕ) → (before ++ take n items) ++ drop n items ≡ before ++ items
-slides before items n = append_assoc before (take n items) (drop n items)
+pub slides-bytes : (before items : List ℕ) (n : ℕ) → (before ++ take n items) ++ drop n items ≡ before ++ items
+slides-bytes before items n = append_assoc before (take n items) (drop n items)
     ∙ ap (λ t. before ++ t) (take-append-drop n items)
 
 pub slides-len : (before items : List ℕ) (n start : ℕ) → length before ≡ start → n ≤ length items
@@ -70,15 +71,15 @@ at_limit given h =
 module _ (xs seen rest : List ℕ) (left : ℕ) (flow : Flow) (is : xs ≡ seen ++ rest)
     (count : left + length seen ≡ input_limit)
     (ended : flow ≡ Ended → (rest ≡ []) × (0 < left)) (broken : flow ≡ Broken → left ≡ 0) where
-  whole : length xs ≡ length seen + length rest
-  whole = ap length is ∙ length-append seen rest
+  length_whole : length xs ≡ length seen + length rest
+  length_whole = ap length is ∙ length-append seen rest
 
   all_agrees : length xs < input_limit → Agrees seen flow (record { bytes = xs; fault = false })
   all_agrees below = record {
     more = rest;
     bytes = is;
     ended = λ e. ((ended e).0, refl);
-    broken = λ e. absurd (let zero = broken e in omega (arith, zero, count, whole, below));
+    broken = λ e. absurd (let zero = broken e in omega (arith, zero, count, length_whole, below));
   }
 
   cut_is : take input_limit xs ≡ seen ++ take left rest
@@ -91,7 +92,8 @@ module _ (xs seen rest : List ℕ) (left : ℕ) (flow : Flow) (is : xs ≡ seen 
   cut_agrees above = record {
     more = take left rest;
     bytes = cut_is;
-    ended = λ e. absurd (let end = ended e in let l = ap length end.0 in omega (arith, l, end.1, count, whole, above));
+    ended = λ e. absurd
+        (let end = ended e in let l = ap length end.0 in omega (arith, l, end.1, count, length_whole, above));
     broken = λ e. (rw (broken e) refl, refl);
   }
 
