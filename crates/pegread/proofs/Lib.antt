@@ -14,7 +14,7 @@ pub mod GrammarViabilityLemmas
 pub mod IsFaultOfLemmas
 pub mod IsShallowLemmas
 pub mod IsTableOfLemmas
-pub mod LeavesLemmas
+pub mod LeftOfLemmas
 mod ListedRulesLemmas
 mod PatternsOfLemmas
 pub mod ReadBackLemmas
