@@ -40,7 +40,7 @@ loop-n-preserved c =
     let l = t.length-slices c.args.steps.now in
     let below : c.in-Some.n < length c.args.steps.now = omega (arith, top, l) in
     let row = t.slice_now _ _ below in
-    s.spreading_next _ _ _ _ _ _ _ _ (c.in-Some.ensures).items c.loop-n.invariant (rw row c.in_ok-mark_all-2.ensures)
+    s.spreading_next _ _ _ _ (c.in-Some.ensures).items c.loop-n.invariant (rw row c.in_ok-mark_all-2.ensures)
 
 pub returns-clause-marks : goal.returns-clause-marks
 returns-clause-marks c = s.spreading_done _ _ _ _ (let e = (c.in_default.ensures).cases.0 in
