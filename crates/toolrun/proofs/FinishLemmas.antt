@@ -89,23 +89,24 @@ module _ (out_was out_now err_told err_flushed err_now : Bool) (e0 e1 : Option (
         status = high;
       }
 
-pub finish_tells : {A E : Type 0} (stop : Result Stop WriteFault) (out_was out_now err_told err_flushed err_now : Bool)
-    (e0 e1 e2 e3 : Option (List ℕ)) (r : Result A E) (code : ℕ) →
+pub finish_tells : {A E : Type 0} (stop : Result Stop WriteFault)
+    {out_was out_now err_told err_flushed err_now : Bool} (e0 e1 e2 e3 : Option (List ℕ))
+    (r : Result A E) (code : ℕ) →
     Flags false out_was stop → Writes e0 e1 (told_of stop) r → Flags false err_told r →
     ((more : List ℕ) × Appends e1 e2 more × Flushes out_was out_now err_told err_flushed more) →
     Keeps e2 e3 → (err_flushed ≡ true → err_now ≡ true) → ((out_now ≡ true) ⊎ (err_now ≡ true) → 4 ≤ code) →
     (out_now ≡ false → err_now ≡ false → code ≡ code_of (ending_of stop)) →
     (told : List ℕ) × Appends e0 e3 told × Finishes stop out_now err_now told code
-finish_tells (Ok stop) out_was out_now err_told err_flushed err_now e0 e1 e2 e3 r code was w flag m kept stays high
-    same =
+finish_tells (Ok stop) {out_was} {out_now} {err_told} {err_flushed} {err_now} e0 e1 e2 e3 r code
+    was w flag m kept stays high same =
     let f = first_told e0 e1 err_told (message_of stop) r w flag in (
       f.told ++ m.0,
       Appends-kept e0 e2 e3 (f.told ++ m.0) (Appends-join e0 e1 e2 f.told m.0 f.taken m.1) kept,
       reports_stop out_was out_now err_told err_flushed err_now e0 e1 m.0 code m.2 stays high (message_of stop)
           (code_of (status_of stop)) was f same,
     )
-finish_tells (Err fault) out_was out_now err_told err_flushed err_now e0 e1 e2 e3 r code was w flag m kept stays high
-    same =
+finish_tells (Err fault) {out_was} {out_now} {err_told} {err_flushed} {err_now} e0 e1 e2 e3 r code
+    was w flag m kept stays high same =
     let f = first_told e0 e1 err_told write_error r w flag in (
       f.told ++ m.0,
       Appends-kept e0 e2 e3 (f.told ++ m.0) (Appends-join e0 e1 e2 f.told m.0 f.taken m.1) kept,
