@@ -17,6 +17,15 @@ MIRRORS = {"Answers.antt", "Invariants.antt", "Proof.antt", "Lib.antt"}
 NOUNS = {"Nothing", "Spelling", "String"}
 # Participles that do not end in `ed`.
 PARTICIPLES = {"Begun", "Chosen", "Kept", "Left", "Made", "Read", "Said", "Taken", "Told", "Written"}
+# Crates whose lemmas all have names of two words or more.
+NAMED = {
+    "commands", "feed", "gramtools", "leastset", "letters", "lexer", "pegi", "pegread", "rulenames", "ruletable",
+    "toolrun",
+}
+# What begins a block: its lines stand further in.
+BLOCK = re.compile(r"(?:(?:pub|unfoldable) )*(?:(abbrev) )?(?:pub )?(?:(data|record)|module|mutual)\b(?! *\{)")
+# A name of one word, and what it says, which may begin on the next line.
+ONE_WORD = re.compile(r"(?:(?:private|pub|unfoldable) )*([a-z][A-Za-z0-9]*)(?: :(?: |$)|$)")
 # Folders that hold no sources.
 BUILT = {".git", "__pycache__", "bin", "out"}
 TEXTS = {".antt", ".edit", ".md", ".py", ".rt", ".sh"}
@@ -98,6 +107,40 @@ def of_served(top, files):
                 yield f"{path}:2: `{name}` is no function"
 
 
+def lemmas_of_one_word(lines):
+    """Yields the names of one word that lemmas have, each with its line. Fields, constructors, what an `abbrev` block
+    defines and what is local to a lemma are no lemmas."""
+    blocks = []
+    for number, line in enumerate(lines, 1):
+        text = line.lstrip()
+        if not text or text.startswith("--"):
+            continue
+        indent = len(line) - len(text)
+        while blocks and indent <= blocks[-1][0]:
+            blocks.pop()
+        has_lemmas = not blocks or blocks[-1][1]
+        block = BLOCK.match(text)
+        if block:
+            blocks.append((indent, not block.group(1) and not block.group(2)))
+        elif text == "where" or (text.endswith(" where") and has_lemmas):
+            blocks.append((indent, False))
+        elif has_lemmas:
+            found = ONE_WORD.match(text)
+            if found and (":" in text or number < len(lines) and lines[number].lstrip().startswith(":")):
+                yield number, found.group(1)
+
+
+def of_short_names(top, files):
+    """Yields the lemmas whose name has one word, where the crate has none."""
+    for path in files:
+        parts = path.parts
+        if parts[0] != "crates" or parts[1] not in NAMED or parts[2] != "proofs" or path.name in MIRRORS:
+            continue
+        if path.suffix == ".antt":
+            for number, name in lemmas_of_one_word((top / path).read_text().splitlines()):
+                yield f"{path}:{number}: `{name}` is one word"
+
+
 def of_twins(files):
     """Yields the names that more than one file of lemmas or definitions has."""
     places = collections.defaultdict(list)
@@ -139,6 +182,7 @@ def main():
     rules = {
         "names of lemma files": of_lemma_names(files, definitions(top, files)),
         "the functions that lemma files serve": of_served(top, files),
+        "lemmas whose name is one word": of_short_names(top, files),
         "names that stand more than once": of_twins(files),
         f"files of more than {LONGEST_FILE} lines": of_long_files(top, files),
         f"lines of more than {LONGEST_LINE} characters": of_long_lines(top, files),

@@ -13,7 +13,7 @@ use Rattle.ruletable.specs.Rules.{same_name}
 use Rattle.ruletable.specs.declared.table.NameCase.TheVariants.{Fold}
 use Rattle.rulenames.specs.FirstUses.{news}
 use Rattle.rulenames.specs.IdMarks.{chosen, AreMarks}
-use Rattle.rulenames.proofs.AreMarksLemmas.{opposite}
+use Rattle.rulenames.proofs.AreMarksLemmas.{marks-opposite}
 use Rattle.rulenames.proofs.ChosenLemmas.{chosen_none}
 use Rattle.abnfread.specs.Element.{Rule, id_of}
 use Rattle.abnfcheck.specs.AbnfGrammar.{Reachable, judged_rule, by_name, IsSound}
@@ -96,7 +96,7 @@ module _ (rules : List Rule) (given : Option (List ℕ)) (names : List (List ℕ
       below id lt = omega (arith, lt, fits, all)
 
       at : (id : ℕ) → id < count → get_or (map not (take count used)) id false ≡ not (get_or used id false)
-      at id lt = opposite (take count used) id (let l = count_of in omega (arith, lt, l))
+      at id lt = marks-opposite (take count used) id (let l = count_of in omega (arith, lt, l))
           ∙ ap not (get_or-take count used id false lt)
 
       no : (id : ℕ) → id < count → IsMarked (map not (take count used)) id → IsMarked used id → ⊥

@@ -9,12 +9,12 @@ use std::process::ExitCode;
 use std::rt::Env;
 use std::{env, io};
 
-/// The program's words, its own name first.
+/// Returns the program's words, its own name first.
 fn words_of(rt: &(impl Env + AllocGlobal)) -> io::Result<Vec<String>> {
     Ok(env::args(rt)?.collect(rt.alloc())?)
 }
 
-/// The end of a program that found no memory for its words or for the buffers of its streams.
+/// Ends a program that found no memory for its words or for the buffers of its streams.
 fn without_memory(rt: &impl Eprint) -> ExitCode {
     let _ = rt.eprintln("out of memory");
     ExitCode::from(Status::NoMemory.code())

@@ -4,7 +4,7 @@ use Rattle.std.proofs.Common.{◌≡◌, ℕ, ◌<◌, Bool, true, false, List, 
 use Rattle.std.specs.Char.{is_ascii_alphabetic}
 use Rattle.lexer.specs.SliceEnds.{IsEnd, IsPart}
 use Rattle.lexer.proofs.FirstLemmas as firsts
-use Rattle.lexer.proofs.FirstLemmas.{one, here, both, less-one}
+use Rattle.lexer.proofs.FirstLemmas.{end-more, end-here, end-both, less-one}
 use Rattle.abnfread.specs.declared.kind.AbnfKind.{AbnfKind}
 use Rattle.abnfread.specs.declared.kind.AbnfKind.TheVariants.{Name, Repeat, Bad, End}
 use Rattle.abnfread.specs.AbnfKinds.{ends_list}
@@ -16,38 +16,38 @@ use Rattle.abnfread.proofs.ByteRunLemmas.{run-to}
 use Rattle.abnfread.proofs.AbnfFirstLemmas.{letter-digit, letter-dark, digit-dark, tells-case}
 
 pub run-end : {f : ℕ → Bool} {t r : List ℕ} → Run f t r → IsEnd t r
-run-end none = here
-run-end (more e h) = one _ (run-end h)
+run-end none = end-here
+run-end (more e h) = end-more _ (run-end h)
 
 -- up to a byte, and with it
 behind : {t r : List ℕ} (c : ℕ) → IsEnd t (c ∷ r) → IsEnd t r
-behind c h = both h (one c here)
+behind c h = end-both h (end-more c end-here)
 
 digits-end : {base : ℕ} {t r : List ℕ} → Digits base t r → IsEnd t r
-digits-end (digits e h) = one _ (run-end h)
+digits-end (digits e h) = end-more _ (run-end h)
 
 dotted-end : {base : ℕ} {t r : List ℕ} → Dotted base t r → IsEnd t r
-dotted-end no_dot = here
-dotted-end (dot d h) = one _ (both (digits-end d) (dotted-end h))
+dotted-end no_dot = end-here
+dotted-end (dot d h) = end-more _ (end-both (digits-end d) (dotted-end h))
 
 numbers-end : {base : ℕ} {t r : List ℕ} → Numbers base t r → IsEnd t r
-numbers-end (values d h) = both (digits-end d) (dotted-end h)
-numbers-end (range d h) = both (behind 45 (digits-end d)) (digits-end h)
+numbers-end (values d h) = end-both (digits-end d) (dotted-end h)
+numbers-end (range d h) = end-both (behind 45 (digits-end d)) (digits-end h)
 
 count-end : {t r : List ℕ} → Count t r → IsEnd t r
 count-end (exactly h) = run-end h
-count-end (at_least h k) = both (behind 42 (run-end h)) (run-end k)
+count-end (at_least h k) = end-both (behind 42 (run-end h)) (run-end k)
 
 stands-part : (k : AbnfKind) (t r : List ℕ) → Stands k t r → IsPart t r
 stands-part k t r (name e h) = less-one _ (run-end h)
-stands-part k t r adds = less-one _ (one _ here)
+stands-part k t r adds = less-one _ (end-more _ end-here)
 stands-part k t r (counted e h) = less-one _ (count-end h)
 stands-part k t r (star h) = less-one _ (run-end h)
 stands-part k t r (text h) = less-one _ (behind 34 (run-end h))
-stands-part k t r (cased e h) = less-one _ (one _ (one _ (behind 34 (run-end h))))
-stands-part k t r (num e h) = less-one _ (one _ (numbers-end h))
+stands-part k t r (cased e h) = less-one _ (end-more _ (end-more _ (behind 34 (run-end h))))
+stands-part k t r (num e h) = less-one _ (end-more _ (numbers-end h))
 stands-part k t r (prose h) = less-one _ (behind 62 (run-end h))
-stands-part k t r _ = less-one _ here
+stands-part k t r _ = less-one _ end-here
 
 letter-kind : {k : AbnfKind} {b : ℕ} {bs r : List ℕ} → is_ascii_alphabetic b ≡ true → Stands k (b ∷ bs) r → k ≡ Name
 letter-kind e (name h n) = refl
@@ -76,9 +76,9 @@ stands-one : (k j : AbnfKind) (t r : List ℕ) → Stands k t r → Stands j t r
 stands-one k j t r x y = kinds-one refl x y
 
 piece-end : (t r : List ℕ) → Piece t r → IsEnd t r
-piece-end t r (blank e) = one _ here
-piece-end t r crlf = one _ (one _ here)
-piece-end t r (comment h s) = one _ (run-end h)
+piece-end t r (blank e) = end-more _ end-here
+piece-end t r crlf = end-more _ (end-more _ end-here)
+piece-end t r (comment h s) = end-more _ (run-end h)
 
 piece-one : (t m n : List ℕ) → Piece t m → Piece t n → m ≡ n
 piece-one t m n (blank e) (blank f) = refl

@@ -82,8 +82,8 @@ record IsBare (a : Arg) : Type 0 where
   ifs : a.default_vals_ifs.items ≡ []
   delim : a.val_delim ≡ None
 
-bare : (a : Arg) → is_simple_arg a ≡ true → is_free_arg a ≡ true → IsBare a
-bare a simple free =
+arg_bare : (a : Arg) → is_simple_arg a ≡ true → is_free_arg a ≡ true → IsBare a
+arg_bare a simple free =
     let p = both _ _ simple in
     let q = both _ _ p.1 in
     let r = both _ _ q.1 in
@@ -106,13 +106,13 @@ record IsCommand (c : Command) (rs : List Rule) : Type 0 where
   globals : (out-Command c).has_globals ≡ false
   negates : (out-Command c).subcommand_negates_reqs ≡ false
 
-count : (xs : List Arg) (rs : List Rule) → map rule_of xs ≡ rs → length xs ≡ length rs
-count xs rs e = sym (length-map xs rule_of) ∙ ap length e
+rules_count : (xs : List Arg) (rs : List Rule) → map rule_of xs ≡ rs → length xs ≡ length rs
+rules_count xs rs e = sym (length-map xs rule_of) ∙ ap length e
 
 rule_at : (xs : List Arg) (rs : List Rule) → map rule_of xs ≡ rs → (k : ℕ) (d : Arg) → k < length rs
     → rule_of (slice_index_or xs k d) ≡ slice_index_or rs k (rule_of d)
 rule_at xs rs e k d lt =
-    let long : k < length xs = subst (λ n. k < n) (sym (count xs rs e)) lt in
+    let long : k < length xs = subst (λ n. k < n) (sym (rules_count xs rs e)) lt in
     sym (get_or-map rule_of xs k d (rule_of d) long) ∙ ap (λ qs. slice_index_or qs k (rule_of d)) e
 
 bare_at : (xs : List Arg) (rs : List Rule) → map rule_of xs ≡ rs → are_bare rs ≡ true → (k : ℕ) (d : Arg)
@@ -120,7 +120,7 @@ bare_at : (xs : List Arg) (rs : List Rule) → map rule_of xs ≡ rs → are_bar
 bare_at xs rs e all k d lt =
     let is = rule_at xs rs e k d lt in
     let both_true = bare_rule rs all k (rule_of d) lt in
-    bare (slice_index_or xs k d) (ap (λ (r : Rule). r.is_simple) is ∙ both_true.0)
+    arg_bare (slice_index_or xs k d) (ap (λ (r : Rule). r.is_simple) is ∙ both_true.0)
     (ap (λ (r : Rule). r.is_free) is ∙ both_true.1)
 
 is_command : (c : Command) (app : App) → app_of c ≡ app → app.top.is_plain ≡ true
@@ -134,7 +134,7 @@ is_command c app e plain negates all =
       bare_rules = all;
       plain = (
         λ k d lt.
-            let few = subst (λ n. k < n) (count (args_of c) app.top.rules list) lt in
+            let few = subst (λ n. k < n) (rules_count (args_of c) app.top.rules list) lt in
             (bare_at (args_of c) app.top.rules list all k d few).plain,
         fields.groups,
       );
@@ -167,7 +167,7 @@ arg_of c rs is k d r has own =
     let rule : rule_of (slice_index_or (args_of c) k d) ≡ r =
     rule_at (args_of c) rs is.list k d has.within ∙ has.at (rule_of d) in
     let own_id : (slice_index_or (args_of c) k d).id.now ≡ r.id = ap (λ (q : Rule). q.id) rule in
-    let long = count (args_of c) rs is.list in
+    let long = rules_count (args_of c) rs is.list in
     record {
       rule = rule;
       bare = bare_at (args_of c) rs is.list is.bare_rules k d has.within;
@@ -274,7 +274,7 @@ none_is : (c : Command) (rs : List Rule) → IsCommand c rs → (m : ArgMatches)
     → one_text (found_of m) id ≡ None
 none_is c rs is m p id own none = none_found c m p is.plain is.globals id own.named own.help own.version
     (λ j e low same.
-    let few : j < length rs = subst (λ n. j < n) (count (args_of c) rs is.list) low in
+    let few : j < length rs = subst (λ n. j < n) (rules_count (args_of c) rs is.list) low in
     lacks_at rs id none j (rule_of e) few
     (sym (ap (λ t. bytes_eq t id) (ap (λ (q : Rule). q.id) (rule_at (args_of c) rs is.list j e few))) ∙ same))
 
@@ -282,7 +282,7 @@ none_is c rs is m p id own none = none_found c m p is.plain is.globals id own.na
 
 -- some argument of a command that has some
 first_arg : (c : Command) (rs : List Rule) → IsCommand c rs → 0 < length rs → Arg
-first_arg c rs is some = head_of (args_of c) (subst (λ n. 0 < n) (sym (count (args_of c) rs is.list)) some)
+first_arg c rs is some = head_of (args_of c) (subst (λ n. 0 < n) (sym (rules_count (args_of c) rs is.list)) some)
 
 pegi_is_whole : (c : Command) (names : Names) → app_of c ≡ pegi_app names → (m : ArgMatches)
     → IsParsedFrom c m → AreWhole (found_of m)

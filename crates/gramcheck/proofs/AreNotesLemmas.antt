@@ -21,7 +21,7 @@ use Rattle.ruletable.specs.declared.table.NameCase.TheVariants.{Exact}
 use Rattle.rulenames.specs.FirstUses.{is_among, news}
 use Rattle.rulenames.specs.IdMarks as ids
 use Rattle.rulenames.specs.IdMarks.{chosen}
-use Rattle.rulenames.proofs.AreMarksLemmas.{mark_tests, opposite}
+use Rattle.rulenames.proofs.AreMarksLemmas.{mark_tests, marks-opposite}
 use Rattle.rulenames.proofs.ChosenLemmas.{chosen-map}
 use Rattle.rulenames.proofs.IsScannedLemmas.{known_among}
 use Rattle.pegread.specs.Pattern.{Rule}
@@ -167,7 +167,7 @@ module _ (rules : List Rule) (start : Option (List ℕ)) (names : Rules (Unit {0
         ≡ not (is_among Exact seen rule.name)
     mark-of id rule at =
         let low = slice_get_within rules id rule at in
-        opposite used id (omega (arith, low, marks.count_is))
+        marks-opposite used id (omega (arith, low, marks.count_is))
         ∙ ap not
         (mark_tests numbers (length rules) used marks id low
         ∙ known_among Exact (rule_names rules) seen seen names numbers rule.name id uses

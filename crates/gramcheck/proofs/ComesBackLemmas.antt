@@ -13,7 +13,7 @@ use Rattle.gramcheck.specs.NodeRows.{front, steps_of, step_rows, AreNameSteps, C
 use Rattle.leastset.specs.Leads.{Leads, one, more, AreCycleMarks}
 use Rattle.leastset.specs.StepRows.{Step, AreStepsWithin}
 use Rattle.leastset.proofs.IsMarkedLemmas.{none_set}
-use Rattle.leastset.proofs.LeadsLemmas.{joined}
+use Rattle.leastset.proofs.LeadsLemmas.{leads_joined}
 use Rattle.leastset.proofs.TurnsLemmas.{row_within}
 use Rattle.leastset.proofs.ContainsLemmas.{none_of, only_one, in_first, in_later, cons_cases, in_get}
 use Rattle.gramcheck.proofs.BodyOfLemmas.{name_body}
@@ -124,7 +124,7 @@ module _ (bodies : List ℕ) (nulls : List Bool) (nodes : List Shape) (built : I
       p.before)
       (λ after. ⊎_elim
       (λ here. subst (λ v. Leads (step_rows bodies nulls nodes) p.body v) (sym here) after)
-      (λ before. joined (step_rows bodies nulls nodes) after before)
+      (λ before. leads_joined (step_rows bodies nulls nodes) after before)
       p.before)
       p.after in (
         p.is_name.id,
@@ -168,7 +168,7 @@ module _ (rows : List (List ℕ)) where
         }
 
     name_back : (id : ℕ) (c : ComesBack rows nodes bodies id) → Leads rows c.name c.name
-    name_back id c = joined rows (one (a.step id c.name c.body c.named c.starts)) c.leads
+    name_back id c = leads_joined rows (one (a.step id c.name c.body c.named c.starts)) c.leads
 
     pub coming_back : (count : ℕ) (size : ℕ) (marks fresh found : List Bool) → length bodies ≡ count →
         length nodes ≡ size → fresh ≡ replicate count false → AreCycleMarks rows marks →

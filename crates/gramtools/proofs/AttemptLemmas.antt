@@ -18,12 +18,12 @@ use Rattle.gramtools.specs.declared.unit.Attempt.TheVariants.{Printed, Failed, T
 use Rattle.gramtools.proofs.TextOfLemmas.{text_same}
 
 module _ (g : Grammar) (front back : List ℕ) (raw : Bool) where
-  gives : (o : Outcome) (looked : ℕ) → looked < length front → StartGives g front o looked
+  gives_longer : (o : Outcome) (looked : ℕ) → looked < length front → StartGives g front o looked
       → StartGives g (front ++ back) o looked
-  gives o looked lt d = grows_of_start (rules_of g.rules) g.start front back looked o lt d
+  gives_longer o looked lt d = grows_of_start (rules_of g.rules) g.start front back looked o lt d
 
-  within : (looked : ℕ) → looked < length front → looked < length (front ++ back)
-  within looked lt = omega (arith, length-append front back)
+  within_longer : (looked : ℕ) → looked < length front → looked < length (front ++ back)
+  within_longer looked lt = omega (arith, length-append front back)
 
   text_is : (k looked : ℕ) (events : List Event) → StartGives g front (Takes k events) looked
       → text_of raw (front ++ back) events ≡ text_of raw front events
@@ -36,20 +36,20 @@ module _ (g : Grammar) (front back : List ℕ) (raw : Bool) where
   attempt_longer old new (Ok (Printed k)) (events, looked, d, enough, wrote) other more = (
     events,
     looked,
-    gives (Takes k events) looked (enough refl) d,
-    λ is. within looked (enough refl),
+    gives_longer (Takes k events) looked (enough refl) d,
+    λ is. within_longer looked (enough refl),
     subst (λ (t : List ℕ). Appends old new t) (sym (text_is k looked events d)) wrote,
   )
   attempt_longer old new (Ok Failed) (looked, d, enough, kept) other more =
-      (looked, gives Fails looked (enough refl) d, λ is. within looked (enough refl), kept)
+      (looked, gives_longer Fails looked (enough refl) d, λ is. within_longer looked (enough refl), kept)
   attempt_longer old new (Ok TooLong) a other more = absurd (other refl)
   attempt_longer old new (Ok NoMemory) kept other more = kept
   attempt_longer old new (Err fault) (k, events, looked, d, enough, wrote) other more = (
     k,
     events,
     looked,
-    gives (Takes k events) looked (enough refl) d,
-    λ is. within looked (enough refl),
+    gives_longer (Takes k events) looked (enough refl) d,
+    λ is. within_longer looked (enough refl),
     subst (λ (t : List ℕ). AppendsPart old new t) (sym (text_is k looked events d)) wrote,
   )
 
@@ -59,10 +59,3 @@ pub attempt_behind : (g : Grammar) (front items : List ℕ) (raw : Bool) (old ne
     IsAttempt g front true raw old new r → r ≢ Ok TooLong → (more : Bool) → IsAttempt g items more raw old new r
 attempt_behind g front items raw old new r (back, is) a other more =
     rw is (attempt_longer g front back raw old new r a other more)
-
--- an answer that is there
-pub answered : (g : Grammar) (items : List ℕ) (raw : Bool) (old new : Option (List ℕ)) (r : Result Attempt WriteFault)
-    (more : Bool) →
-    (r ≢ Ok TooLong → (more : Bool) → IsAttempt g items more raw old new r) → r ≢ Ok TooLong
-    → IsAttempt g items more raw old new r
-answered g items raw old new r more a other = a other more

@@ -25,6 +25,7 @@ use Rattle.gramtools.specs.declared.unit.Attempt.{Attempt}
 use Rattle.gramtools.specs.declared.unit.Attempt.TheVariants.{Printed, Failed, TooLong, NoMemory}
 use Rattle.gramtools.specs.declared.unit.Step.{Step}
 use Rattle.gramtools.specs.declared.unit.Step.TheVariants.{Stops}
+use Rattle.toolrun.proofs.AgreesLemmas.{bytes_len, rest_held, rest_is, taken_end, taken_full, window_is}
 use Rattle.gramtools.proofs.StepLemmas.{step_broken, step_is}
 
 -- whether a place is the end depends on whether the lengths tell so
@@ -68,73 +69,46 @@ module _ (settings : Settings) (start : ℕ) (before items : List ℕ) (flow : F
   abbrev rest : List ℕ
   rest = drop start input.bytes
 
-  bytes_are : input.bytes ≡ before ++ (items ++ agrees.more)
-  bytes_are = agrees.bytes ∙ append_assoc before items agrees.more
-
-  rest_is : rest ≡ items ++ agrees.more
-  rest_is = rw (bytes_are, ← here) (drop-append_seam before (items ++ agrees.more))
-
-  bytes_len : length input.bytes ≡ start + (length items + length agrees.more)
-  bytes_len =
-      let l = ap length bytes_are in
-      omega (arith, l, here, length-append before (items ++ agrees.more), length-append items agrees.more)
-
-  seen_len : length (before ++ items) ≡ start + length items
-  seen_len = omega (arith, length-append before items, here)
-
-  inside : start ≤ length input.bytes
-  inside = omega (arith, bytes_len)
+  start_inside : start ≤ length input.bytes
+  start_inside = let l = bytes_len before items here agrees in omega (arith, l)
 
   -- a full window
   module _ (full : length items ≡ suc settings.limit) where
-    long : settings.limit < length rest
-    long = let l = ap length rest_is in omega (arith, l, full, length-append items agrees.more)
-
-    window_is : items ≡ take (suc settings.limit) rest
-    window_is = rw (rest_is, ← full) (sym (take-append_seam items agrees.more))
-
-    taken_full : length (before ++ items) ≡ taken_at settings input start
-    taken_full =
-        let le : start + settings.limit + 1 ≤ length input.bytes = omega (arith, bytes_len, full) in
-        let e = min-eq_right le in
-        let l : length (before ++ items) ≡ start + settings.limit + 1 = omega (arith, seen_len, full) in
-        l ∙ sym e
+    rest_long : settings.limit < length rest
+    rest_long =
+        let l = ap length (rest_is before items here agrees) in
+        omega (arith, l, full, length-append items agrees.more)
 
     full_step : (g : Grammar) → IsSoundGrammar g → (old new : Option (List ℕ)) (r : Result Step WriteFault)
         → IsStepOn g items true settings start old new r →
         IsStep (rules_of g.rules) g.start settings input start old new r
         × (length (before ++ items) ≡ taken_at settings input start)
     full_step g sound old new r (attempted, a, e) =
-        let more : true ≡ nat_lt settings.limit (length rest) = let l = long in grind (arith, common_steps, l) in
+        let more : true ≡ nat_lt settings.limit (length rest) = let l = rest_long in grind (arith, common_steps, l) in
         let there : IsAttempt g (take (suc settings.limit) rest) (nat_lt settings.limit (length rest)) settings.raw old
         new attempted =
         subst (λ (b : Bool). IsAttempt g (take (suc settings.limit) rest) b settings.raw old new attempted) more
-        (subst (λ (w : List ℕ). IsAttempt g w true settings.raw old new attempted) window_is a) in
+        (subst (λ (w : List ℕ). IsAttempt g w true settings.raw old new attempted)
+        (sym (window_is before items here agrees (suc settings.limit) full)) a) in
         let same = same_step settings.limit start (start + length items) (length input.bytes) attempted
         (not-equal start (start + length items) (omega (arith, full))
-        ∙ sym (not-equal start (length input.bytes) (omega (arith, bytes_len, full)))) in (
+        ∙ sym (not-equal start (length input.bytes)
+        (let l = bytes_len before items here agrees in omega (arith, l, full)))) in (
           subst (λ v. IsStep (rules_of g.rules) g.start settings input start old new v) (sym (e ∙ same))
-              (step_is g settings input start inside sound (λ _. long) old new attempted there),
-          taken_full,
+              (step_is g settings input start start_inside sound (λ _. rest_long) old new attempted there),
+          taken_full before items here agrees settings.limit (omega (arith, full)),
         )
 
   -- all that was left
   module _ (none : agrees.more ≡ []) (short : length items ≤ settings.limit) where
     end_len : length input.bytes ≡ start + length items
-    end_len = let l = ap length none in omega (arith, l, bytes_len)
-
-    held : rest ≡ items
-    held = rest_is ∙ ap (λ t. items ++ t) none ∙ append-nil items
+    end_len = let l = ap length none in let k = bytes_len before items here agrees in omega (arith, l, k)
 
     short_rest : length rest ≤ settings.limit
-    short_rest = rw held short
+    short_rest = rw (rest_held before items here agrees none) short
 
-    pub taken_end : length (before ++ items) ≡ taken_at settings input start
-    taken_end =
-        let le : length input.bytes ≤ start + settings.limit + 1 = omega (arith, end_len, short) in
-        let e = min-eq_left le in
-        let l : length (before ++ items) ≡ length input.bytes = omega (arith, seen_len, end_len) in
-        l ∙ sym e
+    pub taken_to_end : length (before ++ items) ≡ taken_at settings input start
+    taken_to_end = taken_end before items here agrees settings.limit none (omega (arith, short))
 
   end_step : flow ≡ Ended → length items ≤ settings.limit → (g : Grammar) → IsSoundGrammar g
       → (old new : Option (List ℕ)) (r : Result Step WriteFault) →
@@ -145,7 +119,7 @@ module _ (settings : Settings) (start : ℕ) (before items : List ℕ) (flow : F
       let last = agrees.ended ended in
       let l = short_rest last.0 short in
       let more : false ≡ nat_lt settings.limit (length rest) = grind (arith, common_steps, l) in
-      let window : items ≡ take (suc settings.limit) rest = sym (held last.0 short)
+      let window : items ≡ take (suc settings.limit) rest = sym (rest_held before items here agrees last.0)
       ∙ sym (take_all (suc settings.limit) rest (omega (arith, l))) in
       let there : IsAttempt g (take (suc settings.limit) rest) (nat_lt settings.limit (length rest)) settings.raw old
       new attempted =
@@ -154,8 +128,9 @@ module _ (settings : Settings) (start : ℕ) (before items : List ℕ) (flow : F
       let same = same_step settings.limit start (start + length items) (length input.bytes) attempted
       (ap (λ n. start == n) (sym (end_len last.0 short))) in (
         subst (λ v. IsStep (rules_of g.rules) g.start settings input start old new v) (sym (e ∙ same))
-            (step_is g settings input start inside sound (λ f. absurd (let o = last.1 in cc)) old new attempted there),
-        taken_end last.0 short,
+            (step_is g settings input start start_inside sound (λ f. absurd (let o = last.1 in cc)) old new attempted
+            there),
+        taken_to_end last.0 short,
       )
 
   pub broken_step : flow ≡ Broken → length items ≤ settings.limit → (g : Grammar) → (old : Option (List ℕ))
@@ -164,8 +139,8 @@ module _ (settings : Settings) (start : ℕ) (before items : List ℕ) (flow : F
       × (length (before ++ items) ≡ taken_at settings input start)
   broken_step broken short g old r is =
       let last = agrees.broken broken in (
-        rw is (inr (step_broken g settings input start inside old last.1 (short_rest last.0 short))),
-        taken_end last.0 short,
+        rw is (inr (step_broken g settings input start start_inside old last.1 (short_rest last.0 short))),
+        taken_to_end last.0 short,
       )
 
 -- what is held stays so as it is looked at

@@ -68,9 +68,9 @@ module _ (g : Grammar) (settings : Settings) (input : Input) where
     taken = refl;
   }
 
-  stops : (s : ℕ) (text last : List ℕ) (stop : Stop) → UnitsTo s text → EndsAt s last stop
+  goes_to_stop : (s : ℕ) (text last : List ℕ) (stop : Stop) → UnitsTo s text → EndsAt s last stop
       → Goes g settings input s (text ++ last)
-  stops s text last stop units ends = record {
+  goes_to_stop s text last stop units ends = record {
     reply = reply_of s (text ++ last) stop;
     replies = replies_there s text last stop units ends;
     front = IsBeginning-same (text ++ last);
@@ -85,9 +85,9 @@ module _ (g : Grammar) (settings : Settings) (input : Input) where
       omega (arith, m, h)
 
   -- a reply that goes on from the text begins with it
-  begins : (s t : ℕ) (text more : List ℕ) → s ≤ t → Goes g settings input t (text ++ more)
+  goes_before : (s t : ℕ) (text more : List ℕ) → s ≤ t → Goes g settings input t (text ++ more)
       → Goes g settings input s text
-  begins s t text more le h = record {
+  goes_before s t text more le h = record {
     reply = h.reply;
     replies = h.replies;
     front = IsBeginning-trans text (text ++ more) h.reply.out (more, refl) h.front;
@@ -104,18 +104,19 @@ module _ (g : Grammar) (settings : Settings) (input : Input) where
   units_inside s text none = omega arith
   units_inside s text (one_more t k front more units unit some) = unit_inside t k more (units_inside t front units) unit
 
-  empty : (s : ℕ) (text last : List ℕ) → UnitsTo s text → s ≤ length input.bytes → UnitAt s 0 last
+  goes_at_empty : (s : ℕ) (text last : List ℕ) → UnitsTo s text → s ≤ length input.bytes → UnitAt s 0 last
       → Goes g settings input s (text ++ last)
-  empty s text last units inside unit = elim (cases_eq s (length input.bytes)) [
-    | inl at_end ↦ stops s text last (Quiet Done) units (empty_at_end last unit at_end)
-    | inr before ↦ stops s text last (NoMatch s) units (empty_before_end last unit (omega arith))
+  goes_at_empty s text last units inside unit = elim (cases_eq s (length input.bytes)) [
+    | inl at_end ↦ goes_to_stop s text last (Quiet Done) units (empty_at_end last unit at_end)
+    | inr before ↦ goes_to_stop s text last (NoMatch s) units (empty_before_end last unit (omega arith))
   ]
 
-  fails : (s : ℕ) (text : List ℕ) → UnitsTo s text → s ≤ length input.bytes
+  goes_at_failure : (s : ℕ) (text : List ℕ) → UnitsTo s text → s ≤ length input.bytes
       → GivesAt (rules_of g.rules) g.start settings input s Fails → Goes g settings input s text
-  fails s text units inside d = elim (cases_eq s (length input.bytes)) [
-    | inl at_end ↦ begins s s text [] (omega arith) (stops s text [] (Quiet Done) units (finished d at_end))
-    | inr before ↦ begins s s text [] (omega arith) (stops s text [] (NoMatch s) units (no_match d (omega arith)))
+  goes_at_failure s text units inside d = elim (cases_eq s (length input.bytes)) [
+    | inl at_end ↦ goes_before s s text [] (omega arith) (goes_to_stop s text [] (Quiet Done) units (finished d at_end))
+    | inr before ↦ goes_before s s text [] (omega arith)
+        (goes_to_stop s text [] (NoMatch s) units (no_match d (omega arith)))
   ]
 
   may_run : (s : ℕ) (b : Bool) → b ≡ input.fault → (MayRun settings input s)
@@ -132,15 +133,15 @@ module _ (g : Grammar) (settings : Settings) (input : Input) where
   goes_within : (fuel s : ℕ) (text : List ℕ) → GoesFrom fuel → UnitsTo s text → s ≤ length input.bytes
       → length input.bytes < s + suc fuel →
       (o : Outcome) → GivesAt (rules_of g.rules) g.start settings input s o → Goes g settings input s text
-  goes_within fuel s text later units inside room Fails d = fails s text units inside d
+  goes_within fuel s text later units inside room Fails d = goes_at_failure s text units inside d
   goes_within fuel s text later units inside room (Takes zero events) d =
       let last : List ℕ = text_of settings.raw (rest s) events in
-      begins s s text last (omega arith) (empty s text last units inside
+      goes_before s s text last (omega arith) (goes_at_empty s text last units inside
       (record { events = events; gives = d; prints = refl }))
   goes_within fuel s text later units inside room (Takes (suc k) events) d =
       let more : List ℕ = text_of settings.raw (rest s) events in
       let unit : UnitAt s (suc k) more = record { events = events; gives = d; prints = refl } in
-      begins s (s + suc k) text more (omega arith) (later (s + suc k) (text ++ more)
+      goes_before s (s + suc k) text more (omega arith) (later (s + suc k) (text ++ more)
       (one_more s (suc k) text more units unit (omega arith)) (unit_inside s (suc k) more inside unit)
       (omega arith))
 
@@ -151,26 +152,27 @@ module _ (g : Grammar) (settings : Settings) (input : Input) where
     goes_on fuel s text later units inside room may =
         let some = has_of_start (rules_of g.rules) g.start (shapes_of g.nodes) g.bodies g.ranks sound (rest s) in
         elim (cases_lt settings.limit some.1) [
-          | inl over ↦ begins s s text [] (omega arith)
-              (stops s text [] (LongUnit s settings.limit) units (overlong some.0 some.1 may some.2 over))
+          | inl over ↦ goes_before s s text [] (omega arith)
+              (goes_to_stop s text [] (LongUnit s settings.limit) units (overlong some.0 some.1 may some.2 over))
           | inr le ↦ goes_within fuel s text later units inside room some.0
               (record { may_run = may; looked = some.1; gives = some.2; within = le })
         ]
 
-    goes : (fuel : ℕ) → GoesFrom fuel
-    goes zero s text units inside room = absurd (omega arith)
-    goes (suc fuel) s text units inside room = elim (may_run s input.fault refl) [
-      | inr cut ↦ begins s s text [] (omega arith) (stops s text [] Broken units (broken cut.0 cut.1))
-      | inl may ↦ goes_on fuel s text (goes fuel) units inside room may
+    goes_with_fuel : (fuel : ℕ) → GoesFrom fuel
+    goes_with_fuel zero s text units inside room = absurd (omega arith)
+    goes_with_fuel (suc fuel) s text units inside room = elim (may_run s input.fault refl) [
+      | inr cut ↦ goes_before s s text [] (omega arith) (goes_to_stop s text [] Broken units (broken cut.0 cut.1))
+      | inl may ↦ goes_on fuel s text (goes_with_fuel fuel) units inside room may
     ]
 
     pub units_go_on : (s : ℕ) (text : List ℕ) → UnitsTo s text → Goes g settings input s text
-    units_go_on s text units = goes (suc (length input.bytes)) s text units (units_inside s text units) (omega arith)
+    units_go_on s text units =
+        goes_with_fuel (suc (length input.bytes)) s text units (units_inside s text units) (omega arith)
 
     -- and the text of one more unit, of any length
     pub unit_goes_on : (s k : ℕ) (text last : List ℕ) → UnitsTo s text → UnitAt s k last
         → Goes g settings input s (text ++ last)
-    unit_goes_on s zero text last units unit = empty s text last units (units_inside s text units) unit
+    unit_goes_on s zero text last units unit = goes_at_empty s text last units (units_inside s text units) unit
     unit_goes_on s (suc k) text last units unit =
         let goes = units_go_on (s + suc k) (text ++ last) (one_more s (suc k) text last units unit (omega arith)) in
         record {

@@ -22,7 +22,7 @@ use Rattle.toolrun.specs.declared.status.Status.TheVariants.{Done}
 use Rattle.toolrun.specs.declared.stop.Stop.TheVariants.{Quiet, NoMatch, Broken}
 use Rattle.gramtools.specs.declared.unit.Attempt.{Attempt}
 use Rattle.gramtools.specs.declared.unit.Attempt.TheVariants.{Printed, Failed, TooLong, NoMemory}
-use Rattle.gramtools.proofs.WindowLemmas.{seen, seen_text, seen_long}
+use Rattle.gramtools.proofs.WindowLemmas.{window_seen, seen_text, seen_long}
 
 module _ (g : Grammar) (settings : Settings) (input : Input) (s : ℕ) (inside : s ≤ length input.bytes) where
   abbrev rest : List ℕ
@@ -46,7 +46,7 @@ module _ (g : Grammar) (settings : Settings) (input : Input) (s : ℕ) (inside :
     gives_at : (o : Outcome) (looked : ℕ) → StartGives g window o looked → WasEnough window more looked
         → GivesAt (rules_of g.rules) g.start settings input s o
     gives_at o looked d enough =
-        let seen_here = seen g rest settings.limit o looked d enough in
+        let seen_here = window_seen g rest settings.limit o looked d enough in
         record { may_run = may_run; looked = seen_here.looked; gives = seen_here.gives; within = seen_here.within }
 
     is_unit : (k : ℕ) (events : List Event) (looked : ℕ) → StartGives g window (Takes k events) looked

@@ -29,21 +29,22 @@ module _ (g : Grammar) (x : List ℕ) (limit : ℕ) where
   abbrev behind : List ℕ
   behind = drop (suc limit) x
 
-  whole : window ++ behind ≡ x
-  whole = take-append-drop (suc limit) x
+  window_whole : window ++ behind ≡ x
+  window_whole = take-append-drop (suc limit) x
 
-  full : limit < length x → length window ≡ suc limit
-  full h = length-take-le (suc limit) x (omega arith)
+  window_full : limit < length x → length window ≡ suc limit
+  window_full h = length-take-le (suc limit) x (omega arith)
 
-  pub seen : (o : Outcome) (looked : ℕ) → StartGives g window o looked → WasEnough window (nat_lt limit (length x))
+  pub window_seen : (o : Outcome) (looked : ℕ) → StartGives g window o looked
+      → WasEnough window (nat_lt limit (length x))
       looked → Seen g x limit o
-  seen o looked d enough = elim (cases_lt limit (length x)) [
+  window_seen o looked d enough = elim (cases_lt limit (length x)) [
     | inl more ↦
         let lt : looked < length window = enough (grind (arith, common_steps)) in
-        let l = full more in
+        let l = window_full more in
         record {
           looked = looked;
-          gives = subst (λ t. StartGives g t o looked) whole
+          gives = subst (λ t. StartGives g t o looked) window_whole
               (grows_of_start (rules_of g.rules) g.start window behind looked o lt d);
           within = omega arith;
         }
@@ -60,7 +61,7 @@ module _ (g : Grammar) (x : List ℕ) (limit : ℕ) where
       text_of raw window events ≡ text_of raw x events
   seen_text raw k events looked d =
       let r = rises_of_start (rules_of g.rules) g.start window k looked events d in
-      sym (text_same raw window behind k events r.0 r.1) ∙ ap (λ t. text_of raw t events) whole
+      sym (text_same raw window behind k events r.0 r.1) ∙ ap (λ t. text_of raw t events) window_whole
 
   -- what compares the last byte of a full window looks at more than the limit on the rest
   pub seen_long : IsSoundGrammar g → (o : Outcome) → limit < length x → StartGives g window o (length window) →
@@ -70,9 +71,9 @@ module _ (g : Grammar) (x : List ℕ) (limit : ℕ) where
       elim (cases_lt limit some.1) [
         | inl over ↦ (some.0, some.1, some.2, over)
         | inr le ↦
-            let l = full more in
+            let l = window_full more in
             let there : StartGives g (window ++ behind) some.0 some.1 =
-            subst (λ t. StartGives g t some.0 some.1) (sym whole) some.2 in
+            subst (λ t. StartGives g t some.0 some.1) (sym window_whole) some.2 in
             let here = shrinks_of_start (rules_of g.rules) g.start window behind some.1 some.0 (omega arith) there in
             let same = same_of_start (rules_of g.rules) g.start window some.1 (length window) some.0 o here d in
             absurd (omega (arith, same.looked))

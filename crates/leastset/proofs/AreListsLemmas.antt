@@ -158,43 +158,44 @@ telling_none links at row left order list q = record {
 }
 
 -- telling one more
-pub telling_next : (links : List Link) (l : Link) (at : ℕ) (row a o b p c q : List ℕ) → 0 < at →
+pub telling_next : {links : List Link} {l : Link} {at : ℕ} {row a o b p c q : List ℕ} → 0 < at →
     slice_get links (at - 1) ≡ Some l → IsTelling links at row a o b p → Told (l.user ∷ []) b p c q →
     IsTelling links l.next row a o c q
-telling_next links l at row a o b p c q lt here t s = let g = goes_on links l lt here t.list in record {
-  front = t.front ++ l.user ∷ [];
-  rest = g.0;
-  is = t.is ∙ ap (λ v. t.front ++ v) g.1 ∙ sym (append_assoc t.front (l.user ∷ []) g.0);
-  list = g.3;
-  told = told_push t.front l.user a o b p c q t.told s;
-}
+telling_next {links} {l} {at} {row} {a} {o} {b} {p} {c} {q} lt here t s =
+    let g = goes_on links l lt here t.list in record {
+      front = t.front ++ l.user ∷ [];
+      rest = g.0;
+      is = t.is ∙ ap (λ v. t.front ++ v) g.1 ∙ sym (append_assoc t.front (l.user ∷ []) g.0);
+      list = g.3;
+      told = told_push t.front l.user a o b p c q t.told s;
+    }
 
 chain_end : (links : List Link) (at : ℕ) (ns : List ℕ) → at ≤ 0 → Chain links at ns → ns ≡ []
 chain_end links at ns le end = refl
 chain_end links at ns le (link {k = k} here low rest) = absurd (omega (arith, le))
 
 -- at the end of the list the whole row was told
-pub telling_done : (links : List Link) (at : ℕ) (row a o b p : List ℕ) → at ≤ 0 → IsTelling links at row a o b p →
+pub telling_done : {links : List Link} {at : ℕ} {row a o b p : List ℕ} → at ≤ 0 → IsTelling links at row a o b p →
     Told row a o b p
-telling_done links at row a o b p le t =
+telling_done {links} {at} {row} {a} {o} {b} {p} le t =
     let none : t.rest ≡ [] = chain_end links at t.rest le t.list in
     subst (λ v. Told v a o b p) (sym (t.is ∙ ap (λ v. t.front ++ v) none ∙ append-nil t.front)) t.told
 
 -- the list that is told goes on with a link
-pub telling_within : (links : List Link) (at : ℕ) (row a o b p : List ℕ) → IsTelling links at row a o b p →
+pub telling_within : {links : List Link} {at : ℕ} {row a o b p : List ℕ} → IsTelling links at row a o b p →
     at ≤ length links
-telling_within links at row a o b p t = first_within links t.list
+telling_within {links} t = first_within links t.list
 
-pub telling_falls : (links : List Link) (l : Link) (at : ℕ) (row a o b p : List ℕ) → 0 < at →
+pub telling_falls : {links : List Link} {l : Link} {at : ℕ} {row a o b p : List ℕ} → 0 < at →
     slice_get links (at - 1) ≡ Some l → IsTelling links at row a o b p → l.next < at
-telling_falls links l at row a o b p lt here t = (goes_on links l lt here t.list).2
+telling_falls {links} {l} lt here t = (goes_on links l lt here t.list).2
 
 in_middle : (front ns : List ℕ) (n : ℕ) → Contains (front ++ n ∷ ns) n
 in_middle [] ns n = in_first n ns
 in_middle (m ∷ front) ns n = in_later m n (front ++ n ∷ ns) (in_middle front ns n)
 
 -- the user of that link stands in the row
-pub telling_user : (links : List Link) (l : Link) (at : ℕ) (row a o b p : List ℕ) → 0 < at →
+pub telling_user : {links : List Link} {l : Link} {at : ℕ} {row a o b p : List ℕ} → 0 < at →
     slice_get links (at - 1) ≡ Some l → IsTelling links at row a o b p → Contains row l.user
-telling_user links l at row a o b p lt here t = let g = goes_on links l lt here t.list in
+telling_user {links} {l} lt here t = let g = goes_on links l lt here t.list in
     subst (λ v. Contains v l.user) (sym (t.is ∙ ap (λ v. t.front ++ v) g.1)) (in_middle t.front g.0 l.user)

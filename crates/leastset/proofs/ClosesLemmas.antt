@@ -13,7 +13,7 @@ use Rattle.leastset.specs.Way.{Closes}
 use Rattle.leastset.specs.declared.cycles.Part.{Part}
 use Rattle.leastset.specs.declared.cycles.Place.{Place}
 use Rattle.leastset.specs.declared.cycles.Place.TheVariants as place
-use Rattle.leastset.proofs.LeadsLemmas.{joined}
+use Rattle.leastset.proofs.LeadsLemmas.{leads_joined}
 use Rattle.leastset.proofs.OpensLemmas.{same_way}
 use Rattle.leastset.proofs.AtLemmas.{at_one, at_append_left, at_push, at_push_cases, at_take, take_at, drop_in, in_drop}
 use Rattle.leastset.proofs.AtLemmas.{at_some}
@@ -66,9 +66,9 @@ stays_in rows places P n closed first m (more {n = z} chain step) =
     ⊎_elim (λ done. inl (closed z m done step)) (λ p. inr p) (stays_in rows places P n closed first z chain)
 
 module _ (rows : List (List ℕ)) (w : Way) (parts' : List Part) (last : Part) (w' : Way) where
-  pub shut : IsWay rows w → w.parts ≡ parts' ++ last ∷ [] → length w.ahead ≤ last.rest → w'.parts ≡ parts' →
+  pub closed_is_way : IsWay rows w → w.parts ≡ parts' ++ last ∷ [] → length w.ahead ≤ last.rest → w'.parts ≡ parts' →
       Closes last.first (record w { parts = parts' }) w' → IsWay rows w'
-  shut g split none_ahead e c =
+  closed_is_way g split none_ahead e c =
       same_way rows w'.places w'.places
       (take f w.path) w'.path w.ahead w'.ahead parts' w'.parts w'.marks w'.marks refl c.path c.ahead e refl
       (record {
@@ -207,10 +207,11 @@ module _ (rows : List (List ℕ)) (w : Way) (parts' : List Part) (last : Part) (
           one_part i j le l s at below above = let low = latest l s at in omega (arith, low, below, le)
 
           by : (i j n m : ℕ) → i < j → f ≤ i → At w.path i n → At w.path j m → Leads rows n n
-          by i j n m lt le a b = joined rows (k.forth i j n m lt a b) (k.back i j n m lt a b (one_part i j le))
+          by i j n m lt le a b = leads_joined rows (k.forth i j n m lt a b) (k.back i j n m lt a b (one_part i j le))
 
           back_by : (i j n m : ℕ) → i < j → f ≤ i → At w.path i n → At w.path j m → Leads rows m m
-          back_by i j n m lt le a b = joined rows (k.back i j n m lt a b (one_part i j le)) (k.forth i j n m lt a b)
+          back_by i j n m lt le a b =
+              leads_joined rows (k.back i j n m lt a b (one_part i j le)) (k.forth i j n m lt a b)
 
       go : (j m : ℕ) → j < f → IsSeen rows w j m →
           IsSeen rows (record {

@@ -56,8 +56,3 @@ others_left parts left s m l size e =
     let n : length parts ≡ length l.others + 1 = ap length l.is ∙ length-append l.others (s ∷ []) in
     let k : m - 1 ≡ length l.others = omega (arith, size, n) in
     e ∙ (ap (λ v. take v parts) k ∙ (ap (λ v. take (length l.others) v) l.is ∙ take_all l.others (s ∷ [])))
-
--- the last part is the last
-pub is_last : (x parts : List Part) (s : Part) → Some s ≡ slice_get x (length x - 1) → x ≡ parts → IsLast parts s
-is_last x parts s at is = let e = last_out x parts (take (length parts - 1) parts) s (length parts) at is refl refl in
-    record { others = take (length parts - 1) parts; is = e }

@@ -34,13 +34,6 @@ pub set_marked : (marks : List Bool) (i m : ℕ) → IsMarked (set marks i true)
 set_marked marks i m h = ⊎_elim (λ is. inl is)
     (λ ne. inr (sym (get_or-set_other marks i m true false ne) ∙ h)) (cases_eq m i)
 
-pub is_marked : (marks : List Bool) (m : ℕ) → IsMarked marks m ⊎ (IsMarked marks m → ⊥)
-is_marked marks m = cases (get_or marks m false) refl
-  where
-    cases : (b : Bool) → get_or marks m false ≡ b → IsMarked marks m ⊎ (IsMarked marks m → ⊥)
-    cases true e = inl e
-    cases false e = inr (λ h. both_ways (get_or marks m false) e h)
-
 pub those_none : (marks : List Bool) → MarksThose [] marks marks
 those_none marks = record { count = refl; kept = λ m h. h; all = λ m h. absurd (none_of m h); only = λ m h. inl h }
 
@@ -71,6 +64,6 @@ those_alone these a b count is g = record {
 }
 
 -- what is left of a vector whose slice was written
-pub written : {A : Type 0} (new old : List A) (n : ℕ) → length new ≡ length old → n ≡ length old →
+pub take_written : {A : Type 0} (new old : List A) (n : ℕ) → length new ≡ length old → n ≡ length old →
     take n (new ++ drop (length new) old) ≡ new
-written new old n e is = grind (arith, common_steps)
+take_written new old n e is = grind (arith, common_steps)

@@ -8,13 +8,6 @@ use Rattle.leastset.specs.Way.{At, Drops, Joins}
 use Rattle.leastset.specs.declared.cycles.Part.{Part}
 use Rattle.leastset.proofs.AtLemmas.{at_one, at_push}
 
-pub drops_none : (place : ℕ) (parts : List Part) → Drops place parts parts
-drops_none place parts = record { gone = []; is = sym (append_nil parts); past = λ k s h. absurd (cc h) }
-  where
-    append_nil : (xs : List Part) → xs ++ [] ≡ xs
-    append_nil [] = refl
-    append_nil (x ∷ xs) = ap (λ v. x ∷ v) (append_nil xs)
-
 pub drops_one : (place : ℕ) (parts a b : List Part) (s : Part) → a ≡ b ++ s ∷ [] → place < s.first →
     Drops place parts a → Drops place parts b
 drops_one place parts a b s is lt d = record {
@@ -48,26 +41,6 @@ pub drops_next : (place : ℕ) (parts x a b : List Part) (s : Part) (m : ℕ) �
     Drops place parts a → Drops place parts b
 drops_next place parts x a b s m at is size rest lt d =
     drops_one place parts a b s (last_out x a b s m at is size rest) lt d
-
--- no part that begins behind the place is last
-pub joins_at : (place : ℕ) (parts x a : List Part) (s : Part) → Some s ≡ slice_get x (length x - 1) → x ≡ a →
-    s.first ≤ place → Drops place parts a → Joins place parts a
-joins_at place parts x a s at is le d = record {
-  drops = d;
-  last = λ ps t e.
-      let here : At a (length a - 1) s = subst (λ v. At v (length v - 1) s) is (sym at) in
-      let size : length a ≡ length ps + 1 = ap length e ∙ length-append ps (t ∷ []) in
-      let k : length a - 1 ≡ length ps = omega (arith, size) in
-      let there : At a (length ps) s = subst (λ v. At a v s) k here in
-      let same = at_one (ps ++ t ∷ []) (length ps) s t (subst (λ v. At v (length ps) s) e there) (at_push ps t) in
-      subst (λ v. v.first ≤ place) same le;
-}
-
-pub joins_empty : (place : ℕ) (parts a : List Part) → length a ≡ 0 → Drops place parts a → Joins place parts a
-joins_empty place parts a none d = record {
-  drops = d;
-  last = λ ps t e. let size = ap length e ∙ length-append ps (t ∷ []) in absurd (omega (arith, size, none));
-}
 
 list_last : (ys : List Part) (y : Part) → (ps : List Part) × (z : Part) × (y ∷ ys ≡ ps ++ z ∷ [])
 list_last [] y = ([], y, refl)

@@ -33,14 +33,14 @@ module _ (needs : List Demand) (order : List ℕ) (d : IsDerived needs order) wh
       in_all : (i m : ℕ) → Contains (take (suc i) order) m → Contains order m
       in_all i m h = taken_in (suc i) m order h
 
-  stands : {n : ℕ} → Comes needs n → Contains order n
-  stands (by_all {n = n} {row = row} at all) = d.closed n (All row) at (λ m h. stands (all m h))
-  stands (by_one {n = n} {m = m} {row = row} at h c) = d.closed n (One row) at (m, h, stands c)
+  comes_contained : {n : ℕ} → Comes needs n → Contains order n
+  comes_contained (by_all {n = n} {row = row} at all) = d.closed n (All row) at (λ m h. comes_contained (all m h))
+  comes_contained (by_one {n = n} {m = m} {row = row} at h c) = d.closed n (One row) at (m, h, comes_contained c)
 
   pub those_that_come : AreThoseThatCome needs order
   those_that_come = λ n. (
     λ h. comes_to (length order) n (rw (take_all (length order) order (omega arith)) h),
-    λ c. stands c,
+    λ c. comes_contained c,
   )
 
   pub marks_of_those : (marks : List Bool) → AreMarksOf order marks → AreMarksOfThose needs marks

@@ -12,7 +12,7 @@ use Rattle.leastset.specs.Way.{Joins, Meets}
 use Rattle.leastset.specs.declared.cycles.Part.{Part}
 use Rattle.leastset.specs.declared.cycles.Place.TheVariants as place
 use Rattle.leastset.proofs.JoinsLemmas.{last_of}
-use Rattle.leastset.proofs.LeadsLemmas.{joined}
+use Rattle.leastset.proofs.LeadsLemmas.{leads_joined}
 use Rattle.leastset.proofs.IsMarkedLemmas.{marked_here, marked_set, set_marked}
 use Rattle.leastset.proofs.OpensLemmas.{all_lead, same_way}
 use Rattle.leastset.proofs.AtLemmas.{at_one, at_append_left, at_append_cases, at_push, only_at}
@@ -34,12 +34,12 @@ module _ (rows : List (List ℕ)) (w : Way) (t p : ℕ) (parts' : List Part) whe
       forth = k.forth;
       back = λ i j n m lt g h same. ⊎_elim
           (λ behind. ⊎_elim
-          (λ before. joined rows (lead j m h)
+          (λ before. leads_joined rows (lead j m h)
           (k.back i p n t before g at_t (λ l s at below above. same l s (stays l s at above) below
           (omega (arith, above, behind)))))
           (λ le. ⊎_elim
           (λ is. subst (λ v. Leads rows m v) (at_one w.path i t n (subst (λ v. At w.path v t) is at_t) g) (lead j m h))
-          (λ ne. joined rows (lead j m h) (k.forth p i t n (omega (arith, le, ne)) at_t g))
+          (λ ne. leads_joined rows (lead j m h) (k.forth p i t n (omega (arith, le, ne)) at_t g))
           (cases_eq p i))
           (cases_lt i p))
           (λ le. k.back i j n m lt g h (λ l s at below above. same l s
@@ -124,16 +124,17 @@ module _ (rows : List (List ℕ)) (w : Way) (t p : ℕ) (parts' : List Part) whe
           to_same i h (marked_set w.marks t m in_it marked) (λ l s at. same l s (was l s at))
       go j m (to_ahead a h below) = to_ahead a h (λ l s at. below l s (was l s at))
 
-  pub met : (w' : Way) → IsOwing rows w t → IsSource rows w t → At w.places t (place.On p) → w'.parts ≡ parts' →
+  pub met_is_way : (w' : Way) → IsOwing rows w t → IsSource rows w t → At w.places t (place.On p) → w'.parts ≡ parts' →
       Meets p t w w' → IsWay rows w'
-  met w' o source is_on e m =
+  met_is_way w' o source is_on e m =
       same_way rows next.places w'.places next.path w'.path next.ahead w'.ahead next.parts w'.parts next.marks w'.marks
       m.places m.path m.ahead e m.marks
       (met_next o source is_on (subst (λ v. Joins p w.parts v) e m.parts))
 
 -- a step to what is done
-pub skipped : (rows : List (List ℕ)) (w : Way) (t : ℕ) → IsOwing rows w t → At w.places t place.Done → IsWay rows w
-skipped rows w t o is_done = record {
+pub skipped_is_way : (rows : List (List ℕ)) (w : Way) (t : ℕ) → IsOwing rows w t → At w.places t place.Done
+    → IsWay rows w
+skipped_is_way rows w t o is_done = record {
   kept = o.kept;
   seen = λ j n m h step. ⊎_elim (λ s. s)
       (λ is. to_done (subst (λ v. At w.places v place.Done) (sym is) is_done)) (o.seen j n m h step);

@@ -233,8 +233,8 @@ module _ (rows : List (List ℕ)) where
             (λ new. let e = ap (λ (v : Part). v.first) new.1 in absurd (omega (arith, e, le, lt)))
             (at_push_cases w.parts part l s at))
 
-    pub opened : (w' : Way) → IsOwing rows w t → ((i n : ℕ) → At w.path i n → Leads rows n t) →
+    pub opened_is_way : (w' : Way) → IsOwing rows w t → ((i n : ℕ) → At w.path i n → Leads rows n t) →
         At w.places t place.New → Opens t (row_at rows t) w w' → IsWay rows w'
-    opened w' o lead is_new p =
+    opened_is_way w' o lead is_new p =
         same_way next.places w'.places next.path w'.path next.ahead w'.ahead next.parts w'.parts next.marks w'.marks
         p.places p.path p.ahead p.parts p.marks (opened_next o lead is_new)

@@ -85,14 +85,14 @@ stacks_push row x a b c s t u g h = record {
   left = h.left ∙ g.left;
 }
 
-pub stacks_next : (row : List ℕ) (i x : ℕ) (a b c : List Bool) (s t u : List ℕ) → i < length row → x ≡ get_or row i 0 →
+pub stacks_next : (row : List ℕ) (i x : ℕ) {a b c : List Bool} {s t u : List ℕ} → i < length row → x ≡ get_or row i 0 →
     Stacks (take i row) a s b t → Stacks (x ∷ []) b t c u →
     Stacks (take (i + 1) row) a s c u
-stacks_next row i x a b c s t u lt is g h =
+stacks_next row i x {a} {b} {c} {s} {t} {u} lt is g h =
     rw (add-one i, take-suc row i 0, sym is) (stacks_push (take i row) x a b c s t u g h)
 
-pub falls : (ss : List ℕ) (n u a : ℕ) → a ≡ u + length ss → a < u + length (ss ++ n ∷ [])
-falls ss n u a e = let l = length-append ss (n ∷ []) in omega (arith, l, e)
+pub stack_falls : (ss : List ℕ) (n u a : ℕ) → a ≡ u + length ss → a < u + length (ss ++ n ∷ [])
+stack_falls ss n u a e = let l = length-append ss (n ∷ []) in omega (arith, l, e)
 
 module _ (rows : List (List ℕ)) (these : List ℕ) where
   -- these alone are marked and stacked
@@ -113,9 +113,9 @@ module _ (rows : List (List ℕ)) (these : List ℕ) where
       on n h = ⊎_elim (λ old. absurd (none_set count n (subst (λ v. IsMarked v n) fresh old)))
           (λ new. new.1) (g.only n h)
 
-  pub spreading_next : (n : ℕ) (a b : List Bool) (old o stack : List ℕ) → old ≡ o ++ n ∷ [] →
+  pub spreading_next : (n : ℕ) {a b : List Bool} {old : List ℕ} (o : List ℕ) {stack : List ℕ} → old ≡ o ++ n ∷ [] →
       IsSpreading rows these a old → Stacks (row_at rows n) a o b stack → IsSpreading rows these b stack
-  spreading_next n a b old o stack is k g = record {
+  spreading_next n {a} {b} {old} o {stack} is k g = record {
     count = g.count ∙ k.count;
     first = λ m h. g.kept m (k.first m h);
     marked = λ m h. ⊎_elim (λ below. g.kept m (k.marked m (lower m below))) (λ new. g.all m new) (g.stacked m h);

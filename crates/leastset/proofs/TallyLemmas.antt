@@ -17,7 +17,7 @@ use Rattle.leastset.proofs.ClosesLemmas.{last_step}
 use Rattle.leastset.proofs.IsMarkedLemmas.{marked_set}
 use Rattle.leastset.proofs.ContainsLemmas.{none_of}
 use Rattle.leastset.proofs.AtLemmas.{at_one, at_some, at_push, drop_in, in_drop, set_cases, set_other}
-use Rattle.leastset.proofs.TurnsLemmas.{row_within, replicated}
+use Rattle.leastset.proofs.TurnsLemmas.{row_within, replicate_is_new}
 
 pub sets_none : (v : ℕ) (ranks : List ℕ) → SetsAll [] v ranks ranks
 sets_none v ranks = record { count = refl; all = λ n h. absurd (none_of n h); other = λ n h. refl }
@@ -99,16 +99,6 @@ open_keeps w w' t row is_new p = record {
   marks = λ n h. subst (λ v. IsMarked v n) (sym p.marks) h;
 }
 
-pub meet_keeps : (w w' : Way) (t p : ℕ) → t < length w.marks → Meets p t w w' → KeepsDone w w'
-meet_keeps w w' t p lt m = record {
-  back = λ n h. subst (λ v. At v n place.Done) m.places h;
-  there = λ n h. subst (λ v. At v n place.Done) (sym m.places) h;
-  marks = λ n h. subst (λ v. IsMarked v n) (sym m.marks) (marked_set w.marks t n lt h);
-}
-
-pub same_keeps : (w : Way) → KeepsDone w w
-same_keeps w = record { back = λ n h. h; there = λ n h. h; marks = λ n h. h }
-
 pub ranked_kept : (rows : List (List ℕ)) (w w' : Way) (t t' : Tally) → length w'.places ≡ length w.places →
     t'.ranks ≡ t.ranks → t'.parts ≡ t.parts → KeepsDone w w' → IsRanked rows w t → IsRanked rows w' t'
 ranked_kept rows w w' t t' size same same_parts k r = record {
@@ -175,9 +165,10 @@ module _ (rows : List (List ℕ)) (w : Way) (parts' : List Part) (last : Part) (
           (c.places.all s.0 (drop_in last.first w.path last.first s.0 (omega arith) s.1))
 
 -- a part that is done leaves room for one more
-pub room : (rows : List (List ℕ)) (w : Way) (t : Tally) (i n : ℕ) → IsWay rows w → IsRanked rows w t → At w.path i n →
+pub ranks_have_room : (rows : List (List ℕ)) (w : Way) (t : Tally) (i n : ℕ) → IsWay rows w → IsRanked rows w t
+    → At w.path i n →
     t.parts < length t.ranks
-room rows w t i n g r h = let some = undone_some w.places n i (g.kept.here i n h) in let b = r.bound in
+ranks_have_room rows w t i n g r h = let some = undone_some w.places n i (g.kept.here i n h) in let b = r.bound in
     let c = r.count in omega (arith, some, b, c)
 
 undone_all : (count : ℕ) → undone (replicate count place.New) ≡ count
@@ -194,7 +185,7 @@ ranked_none rows w t count size fresh same none = record {
 }
   where
     never : (n : ℕ) → At w.places n place.Done → ⊥
-    never n h = let e = replicated count n place.Done (subst (λ v. At v n place.Done) fresh h) in cc e
+    never n h = let e = replicate_is_new count n place.Done (subst (λ v. At v n place.Done) fresh h) in cc e
 
 -- all numbers are done
 pub all_ranked : (rows : List (List ℕ)) (w : Way) (t : Tally) → IsThrough rows w (length rows) → IsRanked rows w t →

@@ -12,10 +12,10 @@ use Rattle.leastset.specs.Way.{before_step, cost}
 use Rattle.leastset.specs.declared.cycles.Part.{Part}
 use Rattle.leastset.specs.declared.cycles.Place.{Place}
 use Rattle.leastset.specs.declared.cycles.Place.TheVariants as place
-use Rattle.leastset.proofs.ClosesLemmas.{shut}
+use Rattle.leastset.proofs.ClosesLemmas.{closed_is_way}
 use Rattle.leastset.proofs.IsMarkedLemmas.{none_set}
-use Rattle.leastset.proofs.MeetsLemmas.{met, skipped}
-use Rattle.leastset.proofs.OpensLemmas.{opened, owing_of, owing_none, source_of, all_lead}
+use Rattle.leastset.proofs.MeetsLemmas.{met_is_way, skipped_is_way}
+use Rattle.leastset.proofs.OpensLemmas.{opened_is_way, owing_of, owing_none, source_of, all_lead}
 use Rattle.leastset.proofs.AtLemmas.{at_some, at_one, set_cases, set_same}
 
 cost_open : (places : List Place) (rows : List (List ℕ)) (n i : ℕ) → At places n place.New → n < length rows →
@@ -60,7 +60,7 @@ module _ (rows : List (List ℕ)) (w : Way) (t : ℕ) (w' : Way) where
   pub on_new : t < length rows → IsWay rows (before_step w t) → AreShort w → At w.places t place.New →
       Opens t (row_at rows t) w w' → GoesOn rows (before_step w t) w'
   on_new lt g s is_new p = record {
-    way = opened rows w t w' o (all_lead rows w t o.kept (source_of rows w t g s.short)) is_new p;
+    way = opened_is_way rows w t w' o (all_lead rows w t o.kept (source_of rows w t g s.short)) is_new p;
     fresh = still_new p;
     fewer =
         let c = cost_open w.places rows t (length w.path) is_new lt in
@@ -78,7 +78,7 @@ module _ (rows : List (List ℕ)) (w : Way) (t : ℕ) (w' : Way) where
   pub on_path : (p : ℕ) → IsWay rows (before_step w t) → AreShort w → At w.places t (place.On p) → Meets p t w w' →
       GoesOn rows (before_step w t) w'
   on_path p g s is_on m = record {
-    way = met rows w t p w'.parts w' (owing_of rows w t g s.short) (source_of rows w t g s.short) is_on refl m;
+    way = met_is_way rows w t p w'.parts w' (owing_of rows w t g s.short) (source_of rows w t g s.short) is_on refl m;
     fresh = λ n h. subst (λ v. At v n place.New) m.places h;
     fewer =
         let e = ap (λ v. cost v rows) m.places in
@@ -90,7 +90,7 @@ module _ (rows : List (List ℕ)) (w : Way) (t : ℕ) (w' : Way) where
 
   pub on_done : IsWay rows (before_step w t) → AreShort w → At w.places t place.Done → GoesOn rows (before_step w t) w
   on_done g s is_done = record {
-    way = skipped rows w t (owing_of rows w t g s.short) is_done;
+    way = skipped_is_way rows w t (owing_of rows w t g s.short) is_done;
     fresh = λ n h. h;
     fewer = let b = length-append w.ahead (t ∷ []) in omega (arith, b);
   }
@@ -99,7 +99,7 @@ pub on_end : (rows : List (List ℕ)) (w : Way) (parts' : List Part) (last : Par
     w.parts ≡ parts' ++ last ∷ [] → length w.ahead ≤ last.rest → w'.parts ≡ parts' →
     Closes last.first (record w { parts = parts' }) w' → GoesOn rows w w'
 on_end rows w parts' last w' g split none_ahead e c = record {
-  way = shut rows w parts' last w' g split none_ahead e c;
+  way = closed_is_way rows w parts' last w' g split none_ahead e c;
   fresh = fresh;
   fewer =
       let k = cost_le w'.places w.places rows c.places.count fresh in
@@ -169,7 +169,7 @@ through_done rows w n p lt g h not = record {
 pub opened_first : (rows : List (List ℕ)) (w w' : Way) (n : ℕ) → IsThrough rows w n → At w.places n place.New →
     Opens n (row_at rows n) w w' → IsWay rows w'
 opened_first rows w w' n g is_new p =
-    opened rows w n w' (owing_none rows w n g.way)
+    opened_is_way rows w n w' (owing_none rows w n g.way)
     (λ i m h. absurd (empty_path rows w g.way g.parts m i (g.way.kept.here i m h))) is_new p
 
 chain_step : (rows : List (List ℕ)) {n m : ℕ} → Leads rows n m → (k : ℕ) × Step rows n k
@@ -181,10 +181,10 @@ row_within [] n k step = absurd (let lt = step.1 in omega (arith, lt))
 row_within (row ∷ rows) zero k step = omega arith
 row_within (row ∷ rows) (suc n) k step = let lt = row_within rows n k step in omega (arith, lt)
 
-pub replicated : (count n : ℕ) (p : Place) → At (replicate count place.New) n p → p ≡ place.New
-replicated zero n p h = absurd (cc h)
-replicated (suc count) zero p h = cc h
-replicated (suc count) (suc n) p h = replicated count n p h
+pub replicate_is_new : (count n : ℕ) (p : Place) → At (replicate count place.New) n p → p ≡ place.New
+replicate_is_new zero n p h = absurd (cc h)
+replicate_is_new (suc count) zero p h = cc h
+replicate_is_new (suc count) (suc n) p h = replicate_is_new count n p h
 
 -- all numbers are done
 pub all_through : (rows : List (List ℕ)) (w : Way) → IsThrough rows w (length rows) → AreCycleMarks rows w.marks
@@ -233,7 +233,7 @@ none_through rows count size = record {
 }
   where
     all_new : (count n : ℕ) (p : Place) → At (replicate count place.New) n p → (p ≡ place.New → ⊥) → ⊥
-    all_new count n p h not = not (replicated count n p h)
+    all_new count n p h not = not (replicate_is_new count n p h)
 
 pub none_through_of : (rows : List (List ℕ)) (count : ℕ) (places : List Place) (path ahead : List ℕ)
     (parts : List Part) (marks : List Bool) → count ≡ length rows →

@@ -35,19 +35,19 @@ unfolding encode
 encode_four c le = above c 128 _ _ (omega (arith, le)) ∙ (above c 2048 _ _ (omega (arith, le)) ∙ above c 65536 _ _ le)
 
 -- what a row says is what the kit writes
-pub written : {c : ℕ} {bytes : List ℕ} → Writes c bytes → encode c ≡ bytes
-written (one {c = c} lt) = encode_one c lt
-written (two {c = c} a b is lb low high) =
+pub encode_of : {c : ℕ} {bytes : List ℕ} → Writes c bytes → encode c ≡ bytes
+encode_of (one {c = c} lt) = encode_one c lt
+encode_of (two {c = c} a b is lb low high) =
     let high_bits : c / 64 ≡ a = omega (arith, is, lb) in
     let low_bits : c % 64 ≡ b = omega (arith, is, lb) in
     encode_two c low high ∙ rw (high_bits, low_bits) refl
-written (three {c = c} a b d is lb ld low high) =
+encode_of (three {c = c} a b d is lb ld low high) =
     let first : c / 4096 ≡ a = omega (arith, is, lb, ld) in
     let rest : c / 64 ≡ a * 64 + b = omega (arith, is, lb, ld) in
     let second : (a * 64 + b) % 64 ≡ b = omega (arith, lb) in
     let third : c % 64 ≡ d = omega (arith, is, lb, ld) in
     encode_three c low high ∙ rw (first, rest, second, third) refl
-written (four {c = c} a b d e is lb ld le low high) =
+encode_of (four {c = c} a b d e is lb ld le low high) =
     let first : c / 262144 ≡ a = omega (arith, is, lb, ld, le) in
     let rest : c / 4096 ≡ a * 64 + b = omega (arith, is, lb, ld, le) in
     let second : (a * 64 + b) % 64 ≡ b = omega (arith, lb) in
@@ -57,8 +57,8 @@ written (four {c = c} a b d e is lb ld le low high) =
     encode_four c low ∙ rw (first, rest, second, more, third, fourth) refl
 
 -- and the other way round
-pub writes : (c : ℕ) → c < 0x110000 → Writes c (encode c)
-writes c top = by (cases_lt c 128) (cases_lt c 2048) (cases_lt c 65536)
+pub encode_writes : (c : ℕ) → c < 0x110000 → Writes c (encode c)
+encode_writes c top = by (cases_lt c 128) (cases_lt c 2048) (cases_lt c 65536)
   where
     by : (c < 128) ⊎ (128 ≤ c) → (c < 2048) ⊎ (2048 ≤ c) → (c < 65536) ⊎ (65536 ≤ c) → Writes c (encode c)
     by (inl lt) _ _ = rw (encode_one c lt) (one lt)
@@ -73,21 +73,21 @@ writes c top = by (cases_lt c 128) (cases_lt c 2048) (cases_lt c 65536)
         ge top)
 
 -- code points that are no surrogates
-pub point : (c : ℕ) → scalar c ≡ true → IsPoint c
-point c is = scalar_cases c is
+pub is_point : (c : ℕ) → scalar c ≡ true → IsPoint c
+is_point c is = scalar_cases c is
 
 pub is_scalar : (c : ℕ) → IsPoint c → scalar c ≡ true
 is_scalar c (inl lt) = below c 55296 _ _ lt
 is_scalar c (inr range) = grind (arith, range)
 
-pub under : {c : ℕ} → IsPoint c → c < 0x110000
-under (inl lt) = omega (arith, lt)
-under (inr range) = range.1
+pub point_under : {c : ℕ} → IsPoint c → c < 0x110000
+point_under (inl lt) = omega (arith, lt)
+point_under (inr range) = range.1
 
-pub spells : (cs : List ℕ) → scalars cs ≡ true → Spells cs (encodes cs)
-spells [] is = end
-spells (c ∷ cs) is = let two = and_parts (scalar c) (scalars cs) is in
-    next (point c two.0) (writes c (under (point c two.0))) (spells cs two.1)
+pub encodes_spell : (cs : List ℕ) → scalars cs ≡ true → Spells cs (encodes cs)
+encodes_spell [] is = end
+encodes_spell (c ∷ cs) is = let two = and_parts (scalar c) (scalars cs) is in
+    next (is_point c two.0) (encode_writes c (point_under (is_point c two.0))) (encodes_spell cs two.1)
 
 pub scalars_of : {cs bytes : List ℕ} → Spells cs bytes → scalars cs ≡ true
 scalars_of end = refl
@@ -95,33 +95,33 @@ scalars_of (next {c = c} {cs = cs} p w s) = and_from (scalar c) (scalars cs) (is
 
 pub encodes_of : {cs bytes : List ℕ} → Spells cs bytes → encodes cs ≡ bytes
 encodes_of end = refl
-encodes_of (next {c = c} {cs = cs} {bytes = bytes} {rest = rest} p w s) = ap (λ v. v ++ encodes cs) (written w)
+encodes_of (next {c = c} {cs = cs} {bytes = bytes} {rest = rest} p w s) = ap (λ v. v ++ encodes cs) (encode_of w)
     ∙ ap (λ v. bytes ++ v) (encodes_of s)
 
-pub text : (bs : List ℕ) → IsUtf8 bs → IsText bs
-text bs u = record { points = u.0; spelled = subst (λ v. Spells u.0 v) u.1.1 (spells u.0 u.1.0) }
+pub is_text : (bs : List ℕ) → IsUtf8 bs → IsText bs
+is_text bs u = record { points = u.0; spelled = subst (λ v. Spells u.0 v) u.1.1 (encodes_spell u.0 u.1.0) }
 
-pub utf8 : (bs : List ℕ) → IsText bs → IsUtf8 bs
-utf8 bs t = (t.points, (scalars_of t.spelled, encodes_of t.spelled))
+pub is_utf8 : (bs : List ℕ) → IsText bs → IsUtf8 bs
+is_utf8 bs t = (t.points, (scalars_of t.spelled, encodes_of t.spelled))
 
 -- the characters of a text spell it
 pub spelled_by : (line text points : List ℕ) → text ≡ line → IsUtf8 line → points ≡ chars text → Spells points line
 spelled_by line text points same u is =
     let found : points ≡ u.0 = is ∙ (ap chars (same ∙ sym u.1.1) ∙ chars-encodes u.0 u.1.0) in
-    rw found (subst (λ v. Spells u.0 v) u.1.1 (spells u.0 u.1.0))
+    rw found (subst (λ v. Spells u.0 v) u.1.1 (encodes_spell u.0 u.1.0))
 
 pub longest_all : (line : List ℕ) → IsUtf8 line → IsLongestText line (length line)
 longest_all line u = record {
   within = omega arith;
-  text = text _ (subst IsUtf8 (sym (take_all (length line) line (omega arith))) u);
+  text = is_text _ (subst IsUtf8 (sym (take_all (length line) line (omega arith))) u);
   longest = λ m past le t. absurd (omega (arith, past, le));
 }
 
 pub longest_front : (line : List ℕ) (n : ℕ) → IsValidUpTo line n → IsLongestText line n
 longest_front line n v = record {
   within = (let s = v.short in omega (arith, s));
-  text = text _ v.front;
-  longest = λ m past le t. v.longest m past (utf8 _ t);
+  text = is_text _ v.front;
+  longest = λ m past le t. v.longest m past (is_utf8 _ t);
 }
 
 -- a line has one list of code points at most
@@ -145,6 +145,6 @@ text_or_not line = by (scalars (chars line)) refl (same_or_not (encodes (chars l
   where
     by : (b : Bool) → scalars (chars line) ≡ b → (encodes (chars line) ≡ line) ⊎ (encodes (chars line) ≡ line → ⊥)
         → IsText line ⊎ (IsText line → ⊥)
-    by true all (inl same) = inl (text line (chars line, (all, same)))
-    by true all (inr other) = inr (λ t. other (encodes-chars line (utf8 line t)))
-    by false some _ = inr (λ t. absurd (false≢true (sym some ∙ scalars-chars line (utf8 line t))))
+    by true all (inl same) = inl (is_text line (chars line, (all, same)))
+    by true all (inr other) = inr (λ t. other (encodes-chars line (is_utf8 line t)))
+    by false some _ = inr (λ t. absurd (false≢true (sym some ∙ scalars-chars line (is_utf8 line t))))

@@ -5,28 +5,28 @@ use Rattle.std.proofs.Common.{length-append, append_assoc, ◌∙◌}
 use Rattle.std.proofs.lemmas.List.{drop_at}
 use Rattle.lexer.specs.SliceEnds.{IsEnd, IsPart, White, no_more, piece, NoPiece, First, found, bad, at_end}
 
-pub one : {t r : List ℕ} (b : ℕ) → IsEnd t r → IsEnd (b ∷ t) r
-one b h = record { front = b ∷ h.front; whole = ap (λ (x : List ℕ). b ∷ x) h.whole }
+pub end-more : {t r : List ℕ} (b : ℕ) → IsEnd t r → IsEnd (b ∷ t) r
+end-more b h = record { front = b ∷ h.front; whole = ap (λ (x : List ℕ). b ∷ x) h.whole }
 
-pub here : {t : List ℕ} → IsEnd t t
-here = record { front = []; whole = refl }
+pub end-here : {t : List ℕ} → IsEnd t t
+end-here = record { front = []; whole = refl }
 
-pub both : {t m r : List ℕ} → IsEnd t m → IsEnd m r → IsEnd t r
-both {t} {m} {r} h k = record {
+pub end-both : {t m r : List ℕ} → IsEnd t m → IsEnd m r → IsEnd t r
+end-both {t} {m} {r} h k = record {
   front = h.front ++ k.front;
   whole = h.whole ∙ ap (λ (x : List ℕ). h.front ++ x) k.whole ∙ sym (append_assoc h.front k.front r);
 }
 
 pub less-one : {t r : List ℕ} (b : ℕ) → IsEnd t r → IsPart (b ∷ t) r
 less-one {t} {r} b h = record {
-  part = one b h;
+  part = end-more b h;
   less = (let e = ap length h.whole in
       omega (arith, length-append h.front r));
 }
 
-pub whole : (t : List ℕ) → IsEnd t []
-whole [] = here
-whole (b ∷ bs) = one b (whole bs)
+pub end-whole : (t : List ℕ) → IsEnd t []
+end-whole [] = end-here
+end-whole (b ∷ bs) = end-more b (end-whole bs)
 
 pub same-end : {t r s : List ℕ} → IsEnd t r → IsEnd t s → length r ≡ length s → r ≡ s
 same-end {t} {r} {s} h k e =
@@ -45,8 +45,8 @@ module _ (Piece : List ℕ → List ℕ → Type 0)
     (piece_end : (t r : List ℕ) → Piece t r → IsEnd t r)
     (piece_one : (t m n : List ℕ) → Piece t m → Piece t n → m ≡ n) where
   pub white-end : {t r : List ℕ} → White Piece t r → IsEnd t r
-  white-end no_more = here
-  white-end (piece p w) = both (piece_end _ _ p) (white-end w)
+  white-end no_more = end-here
+  white-end (piece p w) = end-both (piece_end _ _ p) (white-end w)
 
   pub white-one : {t m n : List ℕ} → NoPiece Piece m → NoPiece Piece n → White Piece t m → White Piece t n → m ≡ n
   white-one p q no_more no_more = refl
@@ -58,8 +58,8 @@ module _ {K : Type 0} (Piece : List ℕ → List ℕ → Type 0) (Stands : K →
     (part : (k : K) (t r : List ℕ) → Stands k t r → IsPart t r) where
   pub first-ends : {k : K} {t r : List ℕ} → First Piece Stands bad_kind end_kind k t r → IsEnd t r
   first-ends (found h) = (part _ _ _ h.stands).part
-  first-ends (bad {b} {bs} w f) = whole (b ∷ bs)
-  first-ends at_end = here
+  first-ends (bad {b} {bs} w f) = end-whole (b ∷ bs)
+  first-ends at_end = end-here
 
   pub first-less : (is_end : K → Bool) → is_end end_kind ≡ true → {k : K} {t r : List ℕ} → is_end k ≡ false
       → First Piece Stands bad_kind end_kind k t r → length r < length t
@@ -71,9 +71,9 @@ module _ {K : Type 0} (Piece : List ℕ → List ℕ → Type 0) (Stands : K →
   nothing-stands h = let p = part _ _ _ h in let l = p.less in absurd (omega arith)
 
   -- each token that stands there ends where this one does
-  pub alone : {k : K} {t r : List ℕ} → Stands k t r → ((j : K) (s : List ℕ) → Stands j t s → r ≡ s)
+  pub first-alone : {k : K} {t r : List ℕ} → Stands k t r → ((j : K) (s : List ℕ) → Stands j t s → r ≡ s)
       → First Piece Stands bad_kind end_kind k t r
-  alone h f = found (record { stands = h; longest = λ j s x. let e = f j s x in rw e (omega arith) })
+  first-alone h f = found (record { stands = h; longest = λ j s x. let e = f j s x in rw e (omega arith) })
 
   module _ (stands_one : (k j : K) (t r : List ℕ) → Stands k t r → Stands j t r → k ≡ j) where
     pub first-one : {k j : K} {t r s : List ℕ} → First Piece Stands bad_kind end_kind k t r

@@ -27,7 +27,7 @@ pub trait Kind: Copy {
         requires { dark text.now }
         ensures { first result.0 text.now result.1.now };
 
-    /// A law: what stands behind white space and a token is found in one way.
+    /// Says that what stands behind white space and a token is found in one way.
     fn are_cut()
         ensures white { (t r : List ℕ) → white t r → IsEnd t r }
         ensures ends { (k : Self) (t r : List ℕ) → first k t r → IsEnd t r }

@@ -12,7 +12,7 @@ pub fn tokens<K: Kind>(text: &[u8]) -> TokenIter<'_, K>
     TokenIter::new(text)
 }
 
-/// A law: a text has at most one list of tokens.
+/// Says that a text has at most one list of tokens.
 pub fn one_list<K: Kind>()
     ensures { (text : List ℕ) → (a b : List (Tok K)) → AreTokens K.white K.first K.is_end (length text) text a
         → AreTokens K.white K.first K.is_end (length text) text b → a ≡ b }
@@ -20,7 +20,7 @@ pub fn one_list<K: Kind>()
     K::are_cut();
 }
 
-/// A law: a text has a list of tokens. It goes over them, and takes no memory.
+/// Says that a text has a list of tokens. It goes over them, and takes no memory.
 pub fn have_tokens<K: Kind>(text: &[u8])
     ensures { (ts : List (Tok K)) × AreTokens K.white K.first K.is_end (length text.now) text.now ts }
 {

@@ -16,7 +16,7 @@ use Rattle.toolrun.specs.Stopped.{Performs}
 use Rattle.toolrun.specs.Stream.{Stream, passed}
 use Rattle.toolrun.specs.declared.stop.Stop.{Stop}
 use Rattle.toolrun.specs.declared.stop.Stop.TheVariants.{NoMemory}
-use Rattle.toolrun.proofs.StopsAsLemmas.{ran, did_not_run}
+use Rattle.toolrun.proofs.StopsAsLemmas.{run_performs, did_not_run}
 use Rattle.lines.specs.InputLines.{Ends, Lines, LinesReply, answer_text, behind, none, one_more, place_taken, taken_at}
 use Rattle.lines.specs.LineSteps.{IsStep}
 use Rattle.lines.specs.declared.answers.Answer.{Answer}
@@ -91,8 +91,8 @@ module _ (Told : List ℕ → Answer → Type 0) (limit : ℕ) (decided : (line 
       → Flags out.was out.failed r →
       Performs (LinesReply Told limit) (passed remaining failed old final) out r
   lines_were_run remaining failed old now final out left flow r is told run flag =
-      ran (Lines Told limit) (Ends Told limit) (place_taken limit) goes_on remaining failed old now final out left flow
-      r is told run flag
+      run_performs (Lines Told limit) (Ends Told limit) (place_taken limit) goes_on remaining failed old now final out
+      left flow r is told run flag
 
   -- memory was refused before the first line
   pub no_line_was_run : (r0 s0 : Option (List ℕ)) (r_was r_failed o_was : Bool) →

@@ -18,6 +18,7 @@ use Rattle.feed.specs.declared.held.Held.{Held}
 use Rattle.feed.specs.declared.held.Held.TheVariants as held
 use Rattle.toolrun.specs.Agrees.{Agrees}
 use Rattle.toolrun.specs.Input.{Input}
+use Rattle.toolrun.proofs.AgreesLemmas.{rest_held, rest_is, taken_end, taken_full, window_is}
 use Rattle.lines.specs.InputLines.{HasNoEnd, IsNext, IsShort, LiesWithin, line_without, taken_at}
 use Rattle.lines.specs.declared.line.Line.TheVariants as line
 
@@ -62,35 +63,14 @@ module _ {R : Type 0} (f : Feed R) (limit : ℕ) (before : List ℕ) (input : In
   abbrev rest : List ℕ
   rest = drop (length before) input.bytes
 
-  bytes_are : input.bytes ≡ before ++ (items ++ agrees.more)
-  bytes_are = agrees.bytes ∙ append_assoc before items agrees.more
-
-  rest_is : rest ≡ items ++ agrees.more
-  rest_is = rw bytes_are (drop-append_seam before (items ++ agrees.more))
-
-  bytes_len : length input.bytes ≡ length before + (length items + length agrees.more)
-  bytes_len =
-      let l = ap length bytes_are in
-      omega (arith, l, length-append before (items ++ agrees.more), length-append items agrees.more)
-
-  seen_len : length (before ++ items) ≡ length before + length items
-  seen_len = length-append before items
-
   abbrev Taken : Type 0
   Taken = length (before ++ items) ≡ taken_at limit input (length before)
 
   taken_all : agrees.more ≡ [] → Taken
-  taken_all none =
-      let m = ap length none in
-      let le : length input.bytes ≤ length before + limit + 1 = omega (arith, bytes_len, m, fits, room) in
-      let l : length (before ++ items) ≡ length input.bytes = omega (arith, seen_len, bytes_len, m) in
-      l ∙ sym (min-eq_left le)
+  taken_all none = taken_end before items refl agrees limit none (omega (arith, fits, room))
 
   pub taken : (held : Held) → IsHeld f held → Taken
-  taken held.Full full =
-      let le : length before + limit + 1 ≤ length input.bytes = omega (arith, bytes_len, full, room) in
-      let l : length (before ++ items) ≡ length before + limit + 1 = omega (arith, seen_len, full, room) in
-      l ∙ sym (min-eq_right le)
+  taken held.Full full = taken_full before items refl agrees limit (omega (arith, full, room))
   taken held.End ended = taken_all (agrees.ended ended.0).0
   taken held.Fault broken = taken_all (agrees.broken broken.0).0
 
@@ -99,12 +79,13 @@ module _ {R : Type 0} (f : Feed R) (limit : ℕ) (before : List ℕ) (input : In
   found k (first, here) =
       let high : k < length items = omega (arith, first.high) in
       let is = first_found k items first here in
-      let front : take k rest ≡ take k items = rw rest_is (take-append-le k items agrees.more (omega (arith, high))) in
+      let front : take k rest ≡ take k items = rw (rest_is before items refl agrees)
+      (take-append-le k items agrees.more (omega (arith, high))) in
       rw front (
         record {
           after = drop (suc k) items ++ agrees.more;
-          cut = rest_is ∙ ap (λ t. t ++ agrees.more) is.0 ∙ append_assoc (take k items) (10 ∷ drop (suc k) items)
-              agrees.more;
+          cut = rest_is before items refl agrees ∙ ap (λ t. t ++ agrees.more) is.0
+              ∙ append_assoc (take k items) (10 ∷ drop (suc k) items) agrees.more;
           one = is.1;
           within = omega (arith, is.2, high, fits, room);
         },
@@ -113,16 +94,14 @@ module _ {R : Type 0} (f : Feed R) (limit : ℕ) (before : List ℕ) (input : In
 
   -- none was
   module _ (none : IsFirstByte (is_byte 10) items None) where
-    held_rest : agrees.more ≡ [] → rest ≡ items
-    held_rest e = rest_is ∙ ap (λ t. items ++ t) e ∙ append-nil items
-
     last_piece : (b : Bool) → (length items == 0) ≡ b → flow_of f ≡ Ended → length items ≤ limit →
         IsNext limit input (length before) (if b then line.End else line.Last (length items))
     last_piece true e ended short =
-        let a = agrees.ended ended in (held_rest a.0 ∙ nil_of items (eqb-true (length items) 0 e), a.1)
+        let a = agrees.ended ended in
+        (rest_held before items refl agrees a.0 ∙ nil_of items (eqb-true (length items) 0 e), a.1)
     last_piece false e ended short =
         let a = agrees.ended ended in
-        let same = held_rest a.0 in
+        let same = rest_held before items refl agrees a.0 in
         let some : 0 < length items = grind (arith, common_steps, e) in
         (rw same (none_found items none), ap length same, some, short, a.1)
 
@@ -130,13 +109,13 @@ module _ {R : Type 0} (f : Feed R) (limit : ℕ) (before : List ℕ) (input : In
         (line_without held (length items))
     not_found held.Full full =
         let e : length items ≡ suc limit = omega (arith, full, room) in
-        let window : take (suc limit) rest ≡ items = rw (rest_is, ← e) (take-append_seam items agrees.more) in
-        let l = ap length rest_is in
+        let window : take (suc limit) rest ≡ items = window_is before items refl agrees (suc limit) e in
+        let l = ap length (rest_is before items refl agrees) in
         (rw window (none_found items none), omega (arith, e, l, length-append items agrees.more))
     not_found held.End ended = last_piece (length items == 0) refl ended.0 (let lt = ended.1 in omega (arith, lt, room))
     not_found held.Fault broken =
         let a = agrees.broken broken.0 in
-        let same = held_rest a.0 in
+        let same = rest_held before items refl agrees a.0 in
         let lt = broken.1 in
         (rw same (none_found items none), rw same (omega (arith, lt, room)), a.1)
 

@@ -53,11 +53,11 @@ record Matched (t r : List ℕ) : Type 0 where
   cut : t ≡ text ++ r
   alone : (s : List ℕ) → Body (text ++ s) s
 
-matched : {t r : List ℕ} → Body t r → Matched t r
-matched last = record { text = 125 ∷ []; cut = refl; alone = λ s. last }
-matched (nested {r} h k) =
-    let x = matched h in
-    let y = matched k in
+body-matched : {t r : List ℕ} → Body t r → Matched t r
+body-matched last = record { text = 125 ∷ []; cut = refl; alone = λ s. last }
+body-matched (nested {r} h k) =
+    let x = body-matched h in
+    let y = body-matched k in
     record {
       text = 123 ∷ (x.text ++ y.text);
       cut = ap (λ (z : List ℕ). 123 ∷ z) (x.cut ∙ ap (λ (z : List ℕ). x.text ++ z) y.cut
@@ -65,12 +65,12 @@ matched (nested {r} h k) =
       alone = λ s. subst (λ (z : List ℕ). Body (123 ∷ z) s) (sym (append_assoc x.text y.text s))
           (nested (x.alone (y.text ++ s)) (y.alone s));
     }
-matched (other {b} p q h) = let x = matched h in
+body-matched (other {b} p q h) = let x = body-matched h in
     record { text = b ∷ x.text; cut = ap (λ (z : List ℕ). b ∷ z) x.cut; alone = λ s. other p q (x.alone s) }
 
 action-stands : {t r : List ℕ} → Stands Action t r → (s : List ℕ) → t ≡ s ++ r → IsAction s
 action-stands {r = r} (action h) s e =
-    let x = matched h in
+    let x = body-matched h in
     let whole : 123 ∷ x.text ≡ s = append_cancel_right (123 ∷ x.text) s r
     (sym (ap (λ (z : List ℕ). 123 ∷ z) x.cut) ∙ e) in
     subst IsAction whole (braced (subst (λ (z : List ℕ). Body z []) (append-nil x.text) (x.alone [])))

@@ -39,25 +39,25 @@ module _ {P : ℕ → Type 0} where
   letter-case c l d o s true h k w = subst (λ (y : ℕ). Shape P y (92 ∷ l ∷ [])) (sym (eqb-true c d h)) (lettered k)
   letter-case c l d o s false h k w = w
 
-  letters : (c : ℕ) (s : List ℕ) → Shape P c s → Shape P c (with_letter (letter_for c) s)
-  letters c s w =
+  letters-shape : (c : ℕ) (s : List ℕ) → Shape P c s → Shape P c (with_letter (letter_for c) s)
+  letters-shape c s w =
       letter-case c _ 7 _ s (c == 7) refl letter_a (letter-case c _ 8 _ s (c == 8) refl letter_b
       (letter-case c _ 27 _ s (c == 27) refl letter_e (letter-case c _ 12 _ s (c == 12) refl letter_f
       (letter-case c _ 10 _ s (c == 10) refl letter_n
       (letter-case c _ 13 _ s (c == 13) refl letter_r
       (letter-case c _ 9 _ s (c == 9) refl letter_t (letter-case c _ 11 _ s (c == 11) refl letter_v w)))))))
 
-  unlettered : (c : ℕ) (as_octal marked : Bool) → c < 256 → (marked ≡ true → IsMarked c)
+  unlettered-shape : (c : ℕ) (as_octal marked : Bool) → c < 256 → (marked ≡ true → IsMarked c)
       → (as_octal ≡ false → marked ≡ false → P c × (c ≢ 92))
       → Shape P c (cond as_octal (octal_of c) (cond marked (92 ∷ c ∷ []) (c ∷ [])))
-  unlettered c true marked h m p = octal-shape c h
-  unlettered c false true h m p = backslashed {b = c} (m refl)
-  unlettered c false false h m p = let q = p refl refl in as_is q.0 q.1
+  unlettered-shape c true marked h m p = octal-shape c h
+  unlettered-shape c false true h m p = backslashed {b = c} (m refl)
+  unlettered-shape c false false h m p = let q = p refl refl in as_is q.0 q.1
 
-  shape : (c : ℕ) (as_octal marked : Bool) → c < 256 → (marked ≡ true → IsMarked c)
+  written-shape : (c : ℕ) (as_octal marked : Bool) → c < 256 → (marked ≡ true → IsMarked c)
       → (as_octal ≡ false → marked ≡ false → P c × (c ≢ 92)) → Shape P c (written c as_octal marked)
   unfolding written
-  shape c as_octal marked h m p = letters c _ (unlettered c as_octal marked h m p)
+  written-shape c as_octal marked h m p = letters-shape c _ (unlettered-shape c as_octal marked h m p)
 
 -- a byte that stands for itself in a literal
 abbrev pub IsPlain : ℕ → Type 0
@@ -70,7 +70,7 @@ literal-marked c h = elim (or_cases (c == 34) (c == 92) h) [
 ]
 
 pub escaped-shape : (c : ℕ) → c < 256 → Shape IsPlain c (escaped c)
-escaped-shape c h = shape c (is_unprintable c) ((c == 34) || (c == 92)) h (literal-marked c)
+escaped-shape c h = written-shape c (is_unprintable c) ((c == 34) || (c == 92)) h (literal-marked c)
     (λ o m. (let x = or_parts (c == 34) (c == 92) m in (eqb-false c 34 x.0, eqb-false c 92 x.1)))
 
 -- a byte that stands for itself in a class
@@ -96,25 +96,25 @@ class-plain c o m =
     ((eqb-false c 93 x.1, eqb-false c 45 b.1, eqb-false c 94 a.1), eqb-false c 92 y.1)
 
 pub shown-shape : (c : ℕ) → c < 256 → Shape IsBare c (shown c)
-shown-shape c h = shape c (is_unprintable c || (c == 45) || (c == 94)) ((c == 91) || (c == 92) || (c == 93)) h
+shown-shape c h = written-shape c (is_unprintable c || (c == 45) || (c == 94)) ((c == 91) || (c == 92) || (c == 93)) h
     (class-marked c) (class-plain c)
 
 low-letter : (l : ℕ) → l < 97 → (c : ℕ) → Letter l c → ⊥
 low-letter l h c k = let x = letter-high k in omega arith
 
 -- a byte's text is read as the byte, whatever stands behind
-pub char : {P : ℕ → Type 0} {c : ℕ} {s : List ℕ} (u : List ℕ) → Shape P c s → Char (s ++ u) u c
-char u (as_is p q) = char-plain q
-char u (lettered h) = char-letter h
-char u (backslashed {b} h) = char-itself (low-letter b h.0) (record { octal = no-octal b h.1; hex = omega arith })
-char u (octals h k i j) = char-three_octal h k (digit_first i) (digit_first j)
+pub shape-char : {P : ℕ → Type 0} {c : ℕ} {s : List ℕ} (u : List ℕ) → Shape P c s → Char (s ++ u) u c
+shape-char u (as_is p q) = char-plain q
+shape-char u (lettered h) = char-letter h
+shape-char u (backslashed {b} h) = char-itself (low-letter b h.0) (record { octal = no-octal b h.1; hex = omega arith })
+shape-char u (octals h k i j) = char-three_octal h k (digit_first i) (digit_first j)
 
-chars : (bs : List ℕ) → AreBytes bs → Chars (flat_map escaped bs) bs
-chars [] w = no_chars
-chars (c ∷ bs) w = more_chars (char (flat_map escaped bs) (escaped-shape c w.0)) (chars bs w.1)
+escaped-chars : (bs : List ℕ) → AreBytes bs → Chars (flat_map escaped bs) bs
+escaped-chars [] w = no_chars
+escaped-chars (c ∷ bs) w = more_chars (shape-char (flat_map escaped bs) (escaped-shape c w.0)) (escaped-chars bs w.1)
 
 pub bytes-spelled : (bs : List ℕ) → AreBytes bs → SpellsBytes (34 ∷ (flat_map escaped bs ++ 34 ∷ [])) bs
-bytes-spelled bs w = record { mark = 34; inside = flat_map escaped bs; cut = refl; chars = chars bs w }
+bytes-spelled bs w = record { mark = 34; inside = flat_map escaped bs; cut = refl; chars = escaped-chars bs w }
 
 digit-on : {x k mark : ℕ} {u m : List ℕ} → (mark < 48) ⊎ (55 < mark) → Octal x k → Closes mark u m
     → Closes mark (x ∷ u) m

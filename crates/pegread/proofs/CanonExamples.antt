@@ -25,12 +25,12 @@ abbrev two : Pattern → Pattern → Patterns
 two e f = more e (more f none)
 
 module _ where
-  body : text_of (Seq (two (Seq (two a b)) c)) ≡ codes "(\"a\" \"b\") c"
+  sequence-in_sequence : text_of (Seq (two (Seq (two a b)) c)) ≡ codes "(\"a\" \"b\") c"
   unfolding written
-  body = refl
+  sequence-in_sequence = refl
 
-  stars : text_of (Star (Star c)) ≡ codes "(c*)*"
-  stars = refl
+  star-of_star : text_of (Star (Star c)) ≡ codes "(c*)*"
+  star-of_star = refl
 
   star-denied : text_of (Not (Star c)) ≡ codes "!c*"
   star-denied = refl
@@ -56,8 +56,8 @@ module _ where
   act-denied : text_of (Not x) ≡ codes "!{x}"
   act-denied = refl
 
-  captured : text_of (Seq (more Open (more Any (more Close (more x none))))) ≡ codes "< . > {x}"
-  captured = refl
+  capture-text : text_of (Seq (more Open (more Any (more Close (more x none))))) ≡ codes "< . > {x}"
+  capture-text = refl
 
   choice-member : text_of (Seq (two (Choice (two c Any)) c)) ≡ codes "(c / .) c"
   choice-member = refl
@@ -83,9 +83,10 @@ module _ where
   unfolding written
   choice-repeated = refl
 
-  escapes : text_of (Bytes (0 ∷ 34 ∷ 10 ∷ 92 ∷ 39 ∷ 127 ∷ 200 ∷ 93 ∷ [])) ≡ codes "\"\\000\\\"\\n\\\\'\\177\\310]\""
+  escapes-text : text_of (Bytes (0 ∷ 34 ∷ 10 ∷ 92 ∷ 39 ∷ 127 ∷ 200 ∷ 93 ∷ []))
+      ≡ codes "\"\\000\\\"\\n\\\\'\\177\\310]\""
   unfolding written
-  escapes = refl
+  escapes-text = refl
 
   all-but-a : text_of (Set (λ n. nat_lt n 256 && not (n == 97))) ≡ codes "[^a]"
   unfolding written runs_after
@@ -99,10 +100,11 @@ module _ where
   unfolding written runs_after
   run-of-three = refl
 
-  marks : text_of (Set (λ n. (nat_le 43 n && nat_le n 45) || (nat_le 91 n && nat_le n 94))) ≡ codes "[+-\\055\\[-\\136]"
+  marks-escaped : text_of (Set (λ n. (nat_le 43 n && nat_le n 45) || (nat_le 91 n && nat_le n 94)))
+      ≡ codes "[+-\\055\\[-\\136]"
   unfolding written runs_after
-  marks = refl
+  marks-escaped = refl
 
-  empties : text_of (Seq (two (Set (λ n. nat_lt n 0)) (Set (λ n. nat_lt n 256)))) ≡ codes "[] [^]"
+  empty-sets : text_of (Seq (two (Set (λ n. nat_lt n 0)) (Set (λ n. nat_lt n 256)))) ≡ codes "[] [^]"
   unfolding written runs_after
-  empties = refl
+  empty-sets = refl

@@ -12,8 +12,8 @@ use Rattle.pegread.proofs.CharFormLemmas.{char-two_octal, char-three_octal}
 use Rattle.pegread.proofs.CharFrontLemmas.{no-letter}
 
 module _ where
-  escape : Char (codes "\\e") [] 27
-  escape = char-letter letter_e
+  escape-letter : Char (codes "\\e") [] 27
+  escape-letter = char-letter letter_e
 
   three_octal : Char (codes "\\1012") (codes "2") 65
   three_octal = char-three_octal (octal_digit {d = 1} (omega arith)) (omega arith)
@@ -60,43 +60,45 @@ module _ where
   no_hex : Char (codes "\\x") [] 120
   no_hex = char-x no_digit-empty
 
-  newline : SpellsBytes (codes "'\\n'") (10 ∷ [])
-  newline = record { mark = 39; inside = codes "\\n"; cut = refl; chars = more_chars (char-letter letter_n) no_chars }
+  newline-literal : SpellsBytes (codes "'\\n'") (10 ∷ [])
+  newline-literal =
+      record { mark = 39; inside = codes "\\n"; cut = refl; chars = more_chars (char-letter letter_n) no_chars }
 
 module _ where
   -- one character, as it is
-  one : {b : ℕ} {r : List ℕ} → b ≢ 92 → (GoesOn r → ⊥) → Item (b ∷ r) r b b
-  one h n = item_char (char-plain h) n
+  plain-item : {b : ℕ} {r : List ℕ} → b ≢ 92 → (GoesOn r → ⊥) → Item (b ∷ r) r b b
+  plain-item h n = item_char (char-plain h) n
 
   -- a range from one character to another
-  range : {a b : ℕ} {r : List ℕ} → a ≢ 92 → b ≢ 92 → Item (a ∷ 45 ∷ b ∷ r) r a b
-  range h k = item_range (char-plain h) (char-plain k)
+  plain-range : {a b : ℕ} {r : List ℕ} → a ≢ 92 → b ≢ 92 → Item (a ∷ 45 ∷ b ∷ r) r a b
+  plain-range h k = item_range (char-plain h) (char-plain k)
 
   -- behind a range, a `-` is one character
   dash_behind_range : Ranges (codes "a-c-e") ((97, 99) ∷ (45, 45) ∷ (101, 101) ∷ [])
-  dash_behind_range = more_items (range (omega arith) (omega arith))
-      (more_items (one (omega arith) (λ g. g)) (more_items (one (omega arith) (λ g. g)) no_items))
+  dash_behind_range = more_items (plain-range (omega arith) (omega arith))
+      (more_items (plain-item (omega arith) (λ g. g)) (more_items (plain-item (omega arith) (λ g. g)) no_items))
 
   -- at the end too
   dash_at_end : Ranges (codes "a-") ((97, 97) ∷ (45, 45) ∷ [])
-  dash_at_end = more_items (one (omega arith) (λ g. g)) (more_items (one (omega arith) (λ g. g)) no_items)
+  dash_at_end = more_items (plain-item (omega arith) (λ g. g)) (more_items (plain-item (omega arith) (λ g. g)) no_items)
 
   -- and at the start
   dash_at_start : Ranges (codes "-a") ((45, 45) ∷ (97, 97) ∷ [])
-  dash_at_start = more_items (one (omega arith) (λ g. g)) (more_items (one (omega arith) (λ g. g)) no_items)
+  dash_at_start =
+      more_items (plain-item (omega arith) (λ g. g)) (more_items (plain-item (omega arith) (λ g. g)) no_items)
 
   dash_first : Ranges (codes "--a") ((45, 97) ∷ [])
-  dash_first = more_items (range (omega arith) (omega arith)) no_items
+  dash_first = more_items (plain-range (omega arith) (omega arith)) no_items
 
   dash_last : Ranges (codes "+--") ((43, 45) ∷ [])
-  dash_last = more_items (range (omega arith) (omega arith)) no_items
+  dash_last = more_items (plain-range (omega arith) (omega arith)) no_items
 
   -- a range whose first exceeds its last has no number
-  reversed : (b : ℕ) → in_ranges ((97, 93) ∷ []) b ≡ false
-  reversed b = grind (arith, nat_tests)
+  reversed-empty : (b : ℕ) → in_ranges ((97, 93) ∷ []) b ≡ false
+  reversed-empty b = grind (arith, nat_tests)
 
-  every : SpellsSet (codes "[^]") (complement (in_ranges []))
-  every = negative {xs = []} _ refl no_items (λ b. refl)
+  every-byte : SpellsSet (codes "[^]") (complement (in_ranges []))
+  every-byte = negative {xs = []} _ refl no_items (λ b. refl)
 
   none_at_all : SpellsSet (codes "[]") (bytes_in (in_ranges []))
   none_at_all = positive {inside = []} {xs = []} _ refl tt no_items (λ b. refl)
@@ -104,7 +106,8 @@ module _ where
   -- a `^` that doesn't follow the bracket is one character
   hat_behind : SpellsSet (codes "[a^]") (bytes_in (in_ranges ((97, 97) ∷ (94, 94) ∷ [])))
   hat_behind = positive {inside = codes "a^"} _ refl (omega arith)
-      (more_items (one (omega arith) (λ g. g)) (more_items (one (omega arith) (λ g. g)) no_items)) (λ b. refl)
+      (more_items (plain-item (omega arith) (λ g. g)) (more_items (plain-item (omega arith) (λ g. g)) no_items))
+      (λ b. refl)
 
   numbers_in : (bytes_in (in_ranges ((97, 97) ∷ (94, 94) ∷ [])) 94 ≡ true)
       × (bytes_in (in_ranges ((97, 97) ∷ (94, 94) ∷ [])) 95 ≡ false) × (complement (in_ranges []) 255 ≡ true)

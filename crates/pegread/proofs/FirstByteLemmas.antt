@@ -9,8 +9,7 @@ use Rattle.lexer.specs.SliceEnds.{NoPiece, found, bad, at_end}
 use Rattle.pegread.specs.Slices.{starts_name, Names, Closes, close, escape, plain, Body, last, nested, other, Stands}
 use Rattle.pegread.specs.Slices.{StandsNone, ident, arrow, begin, single, double, class, action, Piece, First, NoDash}
 use Rattle.lexer.proofs.FirstLemmas as firsts
-use Rattle.pegread.proofs.SliceLemmas.{stands-part}
-use Rattle.pegread.proofs.SliceFrontLemmas.{Decided, closes-by}
+use Rattle.pegread.proofs.SliceLemmas.{stands-part, Decided, closes-by}
 
 pub closes-one : {mark : ℕ} {t r s : List ℕ} → mark ≢ 92 → Closes mark t r → Closes mark t s → r ≡ s
 unfolding Decided
@@ -38,8 +37,8 @@ body-one (other p q h) (nested u v) = absurd (p refl)
 body-one (other p q h) (other p' q' u) = body-one h u
 
 -- each token that stands there ends where this one does
-alone : {k : Kind} {t r : List ℕ} → Stands k t r → ((j : Kind) (s : List ℕ) → Stands j t s → r ≡ s) → First k t r
-alone h f = firsts.alone Piece Stands Bad End stands-part h f
+first-alone : {k : Kind} {t r : List ℕ} → Stands k t r → ((j : Kind) (s : List ℕ) → Stands j t s → r ≡ s) → First k t r
+first-alone h f = firsts.first-alone Piece Stands Bad End stands-part h f
 
 -- whether the byte begins an arrow or what a mark closes
 abbrev begins_longer : ℕ → Bool
@@ -66,7 +65,7 @@ lone-ends l _ = refl
 -- the byte c is a token, wherever it stands
 pub first-sign : {k : Kind} {b c : ℕ} → b ≡ c → is_lone c ≡ true → ((r : List ℕ) → Stands k (c ∷ r) r) → (r : List ℕ)
     → First k (b ∷ r) r
-first-sign e l h r = rw e (alone (h r) (λ _ _ x. lone-ends l x))
+first-sign e l h r = rw e (first-alone (h r) (λ _ _ x. lone-ends l x))
 
 single-closes : {k : Kind} {bs s : List ℕ} → Stands k (39 ∷ bs) s → Closes 39 bs s
 single-closes (ident h n) = cc
@@ -114,26 +113,30 @@ nothing-left : (t : List ℕ) → take (length t - length t) (drop (length t) t)
 nothing-left t = grind (arith)
 
 first-single : {b : ℕ} {bs r : List ℕ} → b ≡ 39 → Closes b bs r → First Literal (b ∷ bs) r
-first-single h c = let d = rw h at c in rw h (alone (single d) (λ _ _ x. closes-one (omega arith) d (single-closes x)))
+first-single h c =
+    let d = rw h at c in
+    rw h (first-alone (single d) (λ _ _ x. closes-one (omega arith) d (single-closes x)))
 
 first-double : {b : ℕ} {bs r : List ℕ} → b ≡ 34 → Closes b bs r → First Literal (b ∷ bs) r
-first-double h c = let d = rw h at c in rw h (alone (double d) (λ _ _ x. closes-one (omega arith) d (double-closes x)))
+first-double h c =
+    let d = rw h at c in
+    rw h (first-alone (double d) (λ _ _ x. closes-one (omega arith) d (double-closes x)))
 
 pub first-literal : {b : ℕ} {bs r : List ℕ} → (b ≡ 39) ⊎ ((b ≢ 39) × (b ≡ 34)) → Closes b bs r
     → First Literal (b ∷ bs) r
 first-literal h c = elim h [ inl x ↦ first-single x c | inr y ↦ first-double y.1 c ]
 
 pub first-class : {b : ℕ} {bs r : List ℕ} → b ≡ 91 → Closes 93 bs r → First Class (b ∷ bs) r
-first-class h c = rw h (alone (class c) (λ _ _ x. closes-one (omega arith) c (class-closes x)))
+first-class h c = rw h (first-alone (class c) (λ _ _ x. closes-one (omega arith) c (class-closes x)))
 
 pub first-action : {b : ℕ} {bs r : List ℕ} → b ≡ 123 → Body bs r → First Action (b ∷ bs) r
-first-action h c = rw h (alone (action c) (λ _ _ x. body-one c (action-body x)))
+first-action h c = rw h (first-alone (action c) (λ _ _ x. body-one c (action-body x)))
 
 pub first-arrow : {bs ds : List ℕ} → bs ≡ 45 ∷ ds → First Arrow (60 ∷ bs) ds
 first-arrow e = rw e (found (record { stands = arrow; longest = λ _ s x. arrow-longest x }))
 
 pub first-begin : {bs : List ℕ} → NoDash bs → First Begin (60 ∷ bs) bs
-first-begin d = alone begin (λ _ _ x. begin-longest d x)
+first-begin d = first-alone begin (λ _ _ x. begin-longest d x)
 
 module _ {b : ℕ} {t bs : List ℕ} (e : t ≡ b ∷ bs) where
   pub first-ident : {r : List ℕ} → starts_name b ≡ true → Names bs r → ((s : List ℕ) → Names bs s → length r ≤ length s)

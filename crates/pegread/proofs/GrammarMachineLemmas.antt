@@ -123,11 +123,12 @@ name-joins h o bs es m n p (Bang ∷ s) i = refl
 name-joins h o bs es m n p (Amp ∷ s) i = refl
 name-joins h o bs es m n p _ i = absurd i
 
-joins : {h : Head} {o : List Level} {bs es : Patterns} {c : Config} (s : List Word) → Settled h o bs es c → IsStart s
+settled-joins : {h : Head} {o : List Level} {bs es : Patterns} {c : Config} (s : List Word) → Settled h o bs es c
+    → IsStart s
     → run c s ≡ run (body h o bs es no_mark fresh) s
-joins s at_fresh i = refl
-joins s (at_last is_read) i = read-joins _ _ _ _ _ _ s i
-joins s (at_last is_name) i = name-joins _ _ _ _ _ _ _ s i ∙ read-joins _ _ _ _ _ _ s i
+settled-joins s at_fresh i = refl
+settled-joins s (at_last is_read) i = read-joins _ _ _ _ _ _ s i
+settled-joins s (at_last is_name) i = name-joins _ _ _ _ _ _ _ s i ∙ read-joins _ _ _ _ _ _ s i
 
 -- what a settled configuration does at the words that end a sequence
 slash-goes : {h : Head} {o : List Level} {bs es : Patterns} {c : Config} (s : List Word) → Settled h o bs es c
@@ -247,7 +248,7 @@ mutual
       record {
         to = q.to;
         settled = (let same = append_assoc es (more x none) fs in rw same at q.settled);
-        runs = joins s k (prefixed-starts y) ∙ p.runs ∙ q.runs;
+        runs = settled-joins s k (prefixed-starts y) ∙ p.runs ∙ q.runs;
       }
 
   pass-alternatives : (h : Head) (o : List Level) (bs : Patterns) {s r : List Word} {cs : Patterns}

@@ -181,15 +181,15 @@ back-read g h o bs es m x Plus t k = (t, e.Plus x, plused, k)
 back-read g h o bs es m x w t k = (w ∷ t, x, no_suffix, back-fresh g h o bs (snoc es (apply m x)) no_mark w t k)
 
 -- a definition and what follows it
-defined : {g : List Rule} {t : List Word} (ds : List Rule) (n : List ℕ) (p : Span)
+marked-defines : {g : List Rule} {t : List Word} (ds : List Rule) (n : List ℕ) (p : Span)
     → Marked (Close g (head ds n p) []) no_mark none none t → (rules : List Rule)
     × Grammar (Ident n p ∷ Arrow ∷ t) rules × (g ≡ ds ++ rules)
-defined {g} {t} ds n p (r, cs, tail, inl x) = (
+marked-defines {g} {t} ds n p (r, cs, tail, inl x) = (
   rule_at n p (choice cs) ∷ [],
   last_definition (expression (let w = all-alternatives tail in rw x.0 at w)),
   x.1,
 )
-defined {g} {t} ds n p (r, cs, tail, inr (rules, grammar, same)) = (
+marked-defines {g} {t} ds n p (r, cs, tail, inr (rules, grammar, same)) = (
   rule_at n p (choice cs) ∷ rules,
   more_definitions (expression (all-alternatives tail)) grammar,
   same ∙ list_assoc ds (rule_at n p (choice cs) ∷ []) rules,
@@ -198,34 +198,35 @@ defined {g} {t} ds n p (r, cs, tail, inr (rules, grammar, same)) = (
 back-name : (g : List Rule) (h : Head) (o : List Level) (bs es : Patterns) (m : Mark) (n : List ℕ) (p : Span) (w : Word)
     (t : List Word) → RestOf g (name_step h o bs es m n p w) t → After (Close g h o) m bs es (Name n) (w ∷ t)
     ⊎ Defines g h o bs es m n p (w ∷ t)
-back-name g h [] bs es no_mark n p Arrow t k = inr (defined (ended h (finish bs es)) n p k)
+back-name g h [] bs es no_mark n p Arrow t k = inr (marked-defines (ended h (finish bs es)) n p k)
 back-name g h [] bs es not_mark n p Arrow t k = absurd k
 back-name g h [] bs es and_mark n p Arrow t k = absurd k
 back-name g h (l ∷ o) bs es m n p Arrow t k = absurd k
 back-name g h o bs es m n p w t k = inl (back-read g h o bs es m (Name n) w t k)
 
-back : (g : List Rule) (c : Config) (w : Word) (t : List Word) → RestOf g (step c w) t → Rest g c (w ∷ t)
-back g start (Ident n p) t k = k
-back g start _ t k = absurd k
-back g (named n p) Arrow t k = let d = defined [] n p k in rw (d.2) d.1
-back g (named n p) _ t k = absurd k
-back g (body h o bs es m fresh) w t k = back-fresh g h o bs es m w t k
-back g (body h o bs es m (read x)) w t k = back-read g h o bs es m x w t k
-back g (body h o bs es m (read_name n p)) w t k = back-name g h o bs es m n p w t k
-back g (done ds) w t k = absurd k
+step-back : (g : List Rule) (c : Config) (w : Word) (t : List Word) → RestOf g (step c w) t → Rest g c (w ∷ t)
+step-back g start (Ident n p) t k = k
+step-back g start _ t k = absurd k
+step-back g (named n p) Arrow t k = let d = marked-defines [] n p k in rw (d.2) d.1
+step-back g (named n p) _ t k = absurd k
+step-back g (body h o bs es m fresh) w t k = back-fresh g h o bs es m w t k
+step-back g (body h o bs es m (read x)) w t k = back-read g h o bs es m x w t k
+step-back g (body h o bs es m (read_name n p)) w t k = back-name g h o bs es m n p w t k
+step-back g (done ds) w t k = absurd k
 
 at_end : (g : List Rule) (c : Config) → c ≡ done g → Rest g c []
 at_end g c same = rw same (refl, refl)
 
-onwards : (g : List Rule) (s : List Word) → ((d : Config) → run d s ≡ Some (done g) → Rest g d s) → (x : Option Config)
+rest-onwards : (g : List Rule) (s : List Word) → ((d : Config) → run d s ≡ Some (done g) → Rest g d s)
+    → (x : Option Config)
     → (elim x [ None ↦ None | Some d ↦ run d s ]) ≡ Some (done g) → RestOf g x s
-onwards g s f None same = cc
-onwards g s f (Some d) same = f d same
+rest-onwards g s f None same = cc
+rest-onwards g s f (Some d) same = f d same
 
 -- what the machine takes on the way to definitions completes the configuration to them
 run-rest : (g : List Rule) (s : List Word) (c : Config) → run c s ≡ Some (done g) → Rest g c s
 run-rest g [] c h = at_end g c (let same : c ≡ done g = cc in same)
-run-rest g (w ∷ s) c h = back g c w s (onwards g s (λ d. run-rest g s d) (step c w) h)
+run-rest g (w ∷ s) c h = step-back g c w s (rest-onwards g s (λ d. run-rest g s d) (step c w) h)
 
 pub runs-grammar : (rules : List Rule) (ws : List Word) → run start ws ≡ Some (done rules) → Grammar ws rules
 runs-grammar rules ws h = run-rest rules ws start h

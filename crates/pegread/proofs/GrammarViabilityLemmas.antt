@@ -14,6 +14,7 @@ use Rattle.pegread.specs.Machine.{level, Head, ended, Config, start, named, body
 use Rattle.pegread.proofs.GrammarMachineLemmas.{grammar-runs}
 use Rattle.pegread.proofs.GrammarSpellingLemmas.{runs-grammar}
 use Rattle.pegread.proofs.SaysLemmas.{one-word}
+use Rattle.pegread.proofs.ListedRulesLemmas.{nowhere}
 use Rattle.pegread.proofs.IsShallowLemmas.{deeper-next}
 
 end-step : (o : List Level) (rules : List Rule) (d : Config) → end_step o rules ≡ Some d → (all : List Rule)
@@ -66,32 +67,29 @@ completes-read o h bs es m x =
     let c = completes-fresh o h bs (snoc es (apply m x)) in
     record { rules = c.rules; runs = read-closes o h bs es m x ∙ c.runs }
 
-nowhere : Span
-nowhere = record { start = 0; end = 0 }
-
-completion : (c : Config) → (s : List Word) × Completes c s
-completion start = (Ident [] nowhere ∷ Arrow ∷ End ∷ [], record { rules = _; runs = refl })
-completion (named n p) = (Arrow ∷ End ∷ [], record { rules = _; runs = refl })
-completion (body h o bs es no_mark fresh) = (closers o, completes-fresh o h bs es)
-completion (body h o bs es not_mark fresh) = let c = completes-read o h bs es not_mark Any in
+config-completes : (c : Config) → (s : List Word) × Completes c s
+config-completes start = (Ident [] nowhere ∷ Arrow ∷ End ∷ [], record { rules = _; runs = refl })
+config-completes (named n p) = (Arrow ∷ End ∷ [], record { rules = _; runs = refl })
+config-completes (body h o bs es no_mark fresh) = (closers o, completes-fresh o h bs es)
+config-completes (body h o bs es not_mark fresh) = let c = completes-read o h bs es not_mark Any in
     (Dot ∷ closers o, record { rules = c.rules; runs = c.runs })
-completion (body h o bs es and_mark fresh) = let c = completes-read o h bs es and_mark Any in
+config-completes (body h o bs es and_mark fresh) = let c = completes-read o h bs es and_mark Any in
     (Dot ∷ closers o, record { rules = c.rules; runs = c.runs })
-completion (body h o bs es m (read x)) = (closers o, completes-read o h bs es m x)
-completion (body h o bs es m (read_name n p)) = let c = completes-fresh o h bs (snoc es (apply m (Name n))) in
+config-completes (body h o bs es m (read x)) = (closers o, completes-read o h bs es m x)
+config-completes (body h o bs es m (read_name n p)) = let c = completes-fresh o h bs (snoc es (apply m (Name n))) in
     (closers o, record { rules = c.rules; runs = name-closes o h bs es m n p ∙ c.runs })
-completion (done rules) = ([], record { rules = rules; runs = refl })
+config-completes (done rules) = ([], record { rules = rules; runs = refl })
 
-completed : (c : Config) → (s : List Word) × (rules : List Rule) × (run c s ≡ Some (done rules))
-completed c = let q = completion c in (q.0, q.1.rules, q.1.runs)
+run-completes : (c : Config) → (s : List Word) × (rules : List Rule) × (run c s ≡ Some (done rules))
+run-completes c = let q = config-completes c in (q.0, q.1.rules, q.1.runs)
 
 runs-begins : (ws : List Word) (c : Config) → run start ws ≡ Some c → Begins ws
 runs-begins = viability.runs-begins step Grammar start done (λ ws g h. grammar-runs h) (λ ws g h. runs-grammar g ws h)
-    completed
+    run-completes
 
 stops-begins : (ws : List Word) → run start ws ≡ None → Begins ws → ⊥
 stops-begins = viability.stops-begins step Grammar start done (λ ws g h. grammar-runs h) (λ ws g h. runs-grammar g ws h)
-    completed
+    run-completes
 
 -- the machine took the tokens ts, and came to c
 module _ {ts : List Tok} {ws : List Word} (c : Config) (say : SayAll ts ws) (runs : run start ws ≡ Some c)

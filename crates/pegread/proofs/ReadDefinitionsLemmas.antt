@@ -113,8 +113,8 @@ none-taken text left all are h = record {
 
 module _ {text : List ℕ} {left : List Tok → Type 0} {c : Config} {before : Option Kind} {ts : List Tok}
     (h : HasTaken text left c before ts) (t : Tok) (others : List Tok) (given : h.rest ≡ t ∷ others) where
-  whole : AreTokens (length text) text (ts ++ t ∷ others)
-  whole = rw given at h.all
+  tokens-whole : AreTokens (length text) text (ts ++ t ∷ others)
+  tokens-whole = rw given at h.all
 
   -- one token more
   pub one-taken : (next : List Tok → Type 0) (d : Config) (w : Word) → next others → Says t w → step c w ≡ Some d
@@ -122,7 +122,7 @@ module _ {text : List ℕ} {left : List Tok → Type 0} {c : Config} {before : O
   one-taken next d w are says steps le = record {
     rest = others;
     are_left = are;
-    all = rw (append_assoc ts (t ∷ []) others) whole;
+    all = rw (append_assoc ts (t ∷ []) others) tokens-whole;
     words = h.words ++ w ∷ [];
     say = say-snoc Says h.say says;
     reached = run-snoc step h.words w start c h.reached ∙ steps;
@@ -131,11 +131,11 @@ module _ {text : List ℕ} {left : List Tok → Type 0} {c : Config} {before : O
   }
 
   module _ (line : ℕ) (within : length text ≤ MAX_GRAMMAR) (there : line ≡ line_at Any text (start_of t)) where
-    decided : (D : List Tok → ℕ → Type 0) → D (ts ++ t ∷ others) (length ts) → IsDecidedAt text line D
-    decided D k = record {
+    fault-decided : (D : List Tok → ℕ → Type 0) → D (ts ++ t ∷ others) (length ts) → IsDecidedAt text line D
+    fault-decided D k = record {
       within = within;
       all = ts ++ t ∷ others;
-      are_tokens = whole;
+      are_tokens = tokens-whole;
       number = length ts;
       token = t;
       there = get-seam ts t others;
@@ -145,7 +145,7 @@ module _ {text : List ℕ} {left : List Tok → Type 0} {c : Config} {before : O
 
     pub too-deep : (d : Config) (w : Word) → Says t w → step c w ≡ Some d → MAX_OPEN < levels_in d
         → IsDecidedAt text line IsTooDeep
-    too-deep d w says steps lt = decided IsTooDeep
+    too-deep d w says steps lt = fault-decided IsTooDeep
         (too_deep-next c h.say h.reached h.shallow t others d w says steps lt)
 
     module _ (stops : (w : Word) → Says t w → step c w ≡ None) where
@@ -174,8 +174,8 @@ module _ {text : List ℕ} {left : List Tok → Type 0} {c : Config} {before : O
 
       by-kinds : (b : Bool) → is_predicate before (kind_of t) ≡ b
           → IsFaultOf text (cond b (CodePredicate line) (Syntax line))
-      by-kinds true e = decided (λ us i. IsHopeless us i × IsCodePredicate us i) (is-here, is-predicate e)
-      by-kinds false e = decided (λ us i. IsHopeless us i × (IsCodePredicate us i → ⊥)) (is-here, no-predicate e)
+      by-kinds true e = fault-decided (λ us i. IsHopeless us i × IsCodePredicate us i) (is-here, is-predicate e)
+      by-kinds false e = fault-decided (λ us i. IsHopeless us i × (IsCodePredicate us i → ⊥)) (is-here, no-predicate e)
 
       pub hopeless-there : IsFaultOf text (hopeless_fault before (kind_of t) line)
       hopeless-there = by-kinds (is_predicate before (kind_of t)) refl
@@ -198,12 +198,12 @@ run-end (Some d) c e = end-done d c (sym (run-snoc step [] words.End d d refl) �
 -- no token is left
 module _ {text : List ℕ} {left : List Tok → Type 0} {c : Config} {before : Option Kind} {ts : List Tok}
     (h : HasTaken text left c before ts) (none : h.rest ≡ []) where
-  every : AreTokens (length text) text ts
-  every = simp (none, append-nil) at h.all
+  tokens-every : AreTokens (length text) text ts
+  tokens-every = simp (none, append-nil) at h.all
 
   pub all-done : (rules : List Rule) × (c ≡ done rules)
   all-done =
-      let e = tokens-end every in
+      let e = tokens-end tokens-every in
       let s = say-split Says e.0 (tok End e.1 e.2 ∷ []) (rw e.3 at h.say) in
       said-end s (sym (run-append step s.front s.back start) ∙ ap (run start) (sym s.whole) ∙ h.reached)
     where
@@ -215,7 +215,7 @@ module _ {text : List ℕ} {left : List Tok → Type 0} {c : Config} {before : O
   all-read rules e within = record {
     within = within;
     tokens = ts;
-    are_tokens = every;
+    are_tokens = tokens-every;
     words = h.words;
     say = h.say;
     grammar = runs-grammar rules h.words (h.reached ∙ ap Some e);

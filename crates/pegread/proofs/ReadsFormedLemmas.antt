@@ -22,7 +22,7 @@ use Rattle.pegread.specs.Tokens.{Tok, Next, AreTokens}
 use Rattle.pegread.specs.Words as words
 use Rattle.lexer.specs.Viability.{say_none, say_more}
 use Rattle.pegread.specs.Words.{Word, Says, says_name, says_literal, says_class, says_action, SayAll}
-use Rattle.pegread.proofs.SpellsOneLemmas.{IsFull}
+use Rattle.pegread.proofs.ListedRulesLemmas.{IsFull}
 use Rattle.pegread.proofs.AreMarkedLemmas.{name-token, action-token}
 
 -- what a word is known to tell
@@ -100,20 +100,20 @@ template-formed t (braced {bs} h) e = let same : bs ≡ t ++ 125 ∷ [] = cc in 
 next-bytes : {n : ℕ} {t r : List ℕ} {x : Tok} → Next n t x r → AreBytes t → AreBytes (slice_of x ++ r)
 next-bytes h w = subst AreBytes h.cut (white-bytes h.white w)
 
-proper : {n : ℕ} {t r : List ℕ} {x : Tok} {w : Word} → Says x w → Next n t x r → AreBytes (slice_of x) → IsProper w
-proper {n} {t} {r} (says_name {z} {p}) h w = name-token n t r z p h
-proper (says_literal y) h w = chars-bytes y.chars (are-front y.inside (y.mark ∷ []) (subst AreBytes y.cut w).1)
-proper (says_class y) h w = set-formed y
-proper {n} {t} {r} (says_action {z} {t = s} {p} y) h w = template-formed s (action-token n t r z p h) y
-proper _ h w = tt
+word-proper : {n : ℕ} {t r : List ℕ} {x : Tok} {w : Word} → Says x w → Next n t x r → AreBytes (slice_of x) → IsProper w
+word-proper {n} {t} {r} (says_name {z} {p}) h w = name-token n t r z p h
+word-proper (says_literal y) h w = chars-bytes y.chars (are-front y.inside (y.mark ∷ []) (subst AreBytes y.cut w).1)
+word-proper (says_class y) h w = set-formed y
+word-proper {n} {t} {r} (says_action {z} {t = s} {p} y) h w = template-formed s (action-token n t r z p h) y
+word-proper _ h w = tt
 
 tokens-proper : {n : ℕ} {t : List ℕ} {ts : List Tok} {ws : List Word} → AreTokens n t ts → SayAll ts ws → AreBytes t
     → AreProper ws
 tokens-proper (last_one {r = r} {x} h e) (say_more y say_none) w =
-    (proper y h (are-front (slice_of x) r (next-bytes h w)), tt)
+    (word-proper y h (are-front (slice_of x) r (next-bytes h w)), tt)
 tokens-proper (one_more {r = r} {x} h e k) (say_more y ys) w =
     let here = next-bytes h w in
-    (proper y h (are-front (slice_of x) r here), tokens-proper k ys (are-back (slice_of x) r here))
+    (word-proper y h (are-front (slice_of x) r here), tokens-proper k ys (are-back (slice_of x) r here))
 
 sequence-formed : (es : Patterns) → AreFormed es → IsFormed (sequence es)
 sequence-formed none w = (tt, tt)

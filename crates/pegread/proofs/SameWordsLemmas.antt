@@ -46,9 +46,9 @@ record Tail (w : Word) (r t : List Word) : Type 0 where
   whole : t ≡ w ∷ rest
   same : SameWords r rest
 
-tail : (w : Word) {r t : List Word} → IsMark w → SameWords (w ∷ r) t → Tail w r t
-tail w m (same_more same_word h) = record { rest = _; whole = refl; same = h }
-tail (words.Ident n p) m (same_more same_name h) = absurd m
+same-tail : (w : Word) {r t : List Word} → IsMark w → SameWords (w ∷ r) t → Tail w r t
+same-tail w m (same_more same_word h) = record { rest = _; whole = refl; same = h }
+same-tail (words.Ident n p) m (same_more same_name h) = absurd m
 
 -- what stands behind begins with that word
 record Passes (Spells : List Word → List Word → Type 0) (w : Word) (s r : List Word) : Type 0 where
@@ -56,9 +56,9 @@ record Passes (Spells : List Word → List Word → Type 0) (w : Word) (s r : Li
   same : SameWords r rest
   spells : Spells s (w ∷ rest)
 
-passes : {Spells : List Word → List Word → Type 0} {w : Word} {s r : List Word} → IsMark w → Also Spells s (w ∷ r)
+also-passes : {Spells : List Word → List Word → Type 0} {w : Word} {s r : List Word} → IsMark w → Also Spells s (w ∷ r)
     → Passes Spells w s r
-passes {Spells} {w} {s} m a = let b = tail w m a.same in
+also-passes {Spells} {w} {s} m a = let b = same-tail w m a.same in
     record { rest = b.rest; same = b.same; spells = subst (λ (u : List Word). Spells s u) b.whole a.spells }
 
 mutual
@@ -71,16 +71,16 @@ mutual
   primary-also action (same_more same_word h) = record { rest = _; same = h; spells = action }
   primary-also begin (same_more same_word h) = record { rest = _; same = h; spells = begin }
   primary-also end_cap (same_more same_word h) = record { rest = _; same = h; spells = end_cap }
-  primary-also (parens k) (same_more same_word h) = let a = passes tt (expression-also k h) in
+  primary-also (parens k) (same_more same_word h) = let a = also-passes tt (expression-also k h) in
       record { rest = a.rest; same = a.same; spells = parens a.spells }
 
   suffixed-also : {s r t : List Word} {x : Pattern} → Suffixed s r x → SameWords s t → Also (λ a b. Suffixed a b x) t r
   suffixed-also (bare k) h = let a = primary-also k h in record { rest = a.rest; same = a.same; spells = bare a.spells }
-  suffixed-also (quest k) h = let a = passes tt (primary-also k h) in
+  suffixed-also (quest k) h = let a = also-passes tt (primary-also k h) in
       record { rest = a.rest; same = a.same; spells = quest a.spells }
-  suffixed-also (star k) h = let a = passes tt (primary-also k h) in
+  suffixed-also (star k) h = let a = also-passes tt (primary-also k h) in
       record { rest = a.rest; same = a.same; spells = star a.spells }
-  suffixed-also (plus k) h = let a = passes tt (primary-also k h) in
+  suffixed-also (plus k) h = let a = also-passes tt (primary-also k h) in
       record { rest = a.rest; same = a.same; spells = plus a.spells }
 
   prefixed-also : {s r t : List Word} {x : Pattern} → Prefixed s r x → SameWords s t → Also (λ a b. Prefixed a b x) t r
@@ -100,7 +100,7 @@ mutual
       → Also (λ a b. Alternatives a b xs) t r
   alternatives-also (only k) h = let a = items-also k h in
       record { rest = a.rest; same = a.same; spells = only a.spells }
-  alternatives-also (further k i) h = let a = passes tt (items-also k h) in let b = alternatives-also i a.same in
+  alternatives-also (further k i) h = let a = also-passes tt (items-also k h) in let b = alternatives-also i a.same in
       record { rest = b.rest; same = b.same; spells = further a.spells b.spells }
 
   expression-also : {s r t : List Word} {x : Pattern} → Expression s r x → SameWords s t
@@ -120,7 +120,7 @@ nothing-same same_none = refl
 last-again : {n : List ℕ} {s t : List Word} {x : Pattern} (p q : Span) → Expression s (words.End ∷ []) x → SameWords s t
     → SpellsAgain (words.Ident n q ∷ words.Arrow ∷ t) (rule_at n p x ∷ [])
 last-again {n} {t = t} {x} p q k h =
-    let a = passes tt (expression-also k h) in
+    let a = also-passes tt (expression-also k h) in
     record {
       again = rule_at n q x ∷ [];
       same = record { names = refl; bodies = refl };

@@ -129,8 +129,8 @@ fn peg_of(alloc: Global, definitions: Vec<Definition<'_>>) -> Result<Peg, Memory
     Ok(Peg { rules, redefined })
 }
 
-/// A law: a bad token says nothing, every other token of a text says a word, tokens say at most one list of words, and
-/// words spell at most one grammar.
+/// Says that a bad token says nothing, every other token of a text says a word, tokens say at most one list of words,
+/// and words spell at most one grammar.
 pub fn one_tree()
     ensures silent { (z : List ℕ) (p : Span) (w : Word) → Says (tok Kind.Bad z p) w → ⊥ }
     ensures says { (total : ℕ) (t r : List ℕ) (x : Tok) → Next total t x r → kind_of x ≢ Kind.Bad → (w : Word)

@@ -10,8 +10,8 @@ ghost use Rattle.pegread.specs.Pieces.{MakeUp, LiesIn, AreInOrder};
 ghost use Rattle.lexer.specs.TokenLists.{tok};
 ghost use Rattle.pegread.specs.Tokens.{AreTokens, Next, Tok};
 
-/// A law: the slice of a name, a literal, a class or an action is one by itself, whatever stands behind it. That of an
-/// action is some text between two braces.
+/// Says that the slice of a name, a literal, a class or an action is one by itself, whatever stands behind it. That of
+/// an action is some text between two braces.
 pub fn are_marked()
     ensures name { (total : ℕ) (t r z : List ℕ) (p : Span) → Next total t (tok Ident z p) r → IsName z }
     ensures literal { (total : ℕ) (t r z : List ℕ) (p : Span) → Next total t (tok Literal z p) r → IsLiteral z }
@@ -20,7 +20,7 @@ pub fn are_marked()
     ensures action { (total : ℕ) (t r z : List ℕ) (p : Span) → Next total t (tok Action z p) r → IsBraced z }
 {}
 
-/// A law: a text is its tokens' slices with white space between them, in order, and each slice lies where its span
+/// Says that a text is its tokens' slices with white space between them, in order, and each slice lies where its span
 /// says.
 pub fn tokens_make_up()
     ensures pieces { (text : List ℕ) (ts : List Tok) → AreTokens (length text) text ts → MakeUp ts text }

@@ -44,8 +44,8 @@ mark_tests ids count marks m id lt = elim (cases_Bool (get_or marks id false)) [
 ]
 
 -- the opposite of a mark
-pub opposite : (marks : List Bool) (id : ℕ) → id < length marks → get_or (map not marks) id false
+pub marks-opposite : (marks : List Bool) (id : ℕ) → id < length marks → get_or (map not marks) id false
     ≡ not (get_or marks id false)
-opposite [] id lt = absurd (omega (arith, lt))
-opposite (mark ∷ marks) zero lt = refl
-opposite (mark ∷ marks) (suc id) lt = opposite marks id (omega (arith, lt))
+marks-opposite [] id lt = absurd (omega (arith, lt))
+marks-opposite (mark ∷ marks) zero lt = refl
+marks-opposite (mark ∷ marks) (suc id) lt = marks-opposite marks id (omega (arith, lt))

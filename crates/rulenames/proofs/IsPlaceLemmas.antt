@@ -29,22 +29,22 @@ position-none p xs h = any-counted p xs ∙ by (nat_lt (prefix_len (λ x. not (p
     by true e = absurd (cc e)
     by false e = refl
 
-neither : (b c : Bool) → (b || c) ≡ false → (b ≡ false) × (c ≡ false)
-neither true c is = absurd (cc is)
-neither false c is = (refl, is)
+or-neither : (b c : Bool) → (b || c) ≡ false → (b ≡ false) × (c ≡ false)
+or-neither true c is = absurd (cc is)
+or-neither false c is = (refl, is)
 
 or_else : (b c : Bool) → c ≡ true → (b || c) ≡ true
 or_else true c is = refl
 or_else false c is = is
 
-unequal : (i j : ℕ) → (i ≡ j → ⊥) → (i == j) ≡ false
-unequal i j differ = elim (eqb_tells i j) [ inl e ↦ absurd (differ e.1) | inr e ↦ e.0 ]
+unequal-false : (i j : ℕ) → (i ≡ j → ⊥) → (i == j) ≡ false
+unequal-false i j differ = elim (eqb_tells i j) [ inl e ↦ absurd (differ e.1) | inr e ↦ e.0 ]
 
 one_less : (i j : ℕ) → (suc i == suc j) ≡ (i == j)
 one_less i j = elim (eqb_tells i j) [
   | inl e ↦ (elim (eqb_tells (suc i) (suc j)) [ inl more ↦ more.0 | inr other ↦ absurd (other.1 (ap suc e.1)) ])
       ∙ sym e.0
-  | inr e ↦ unequal (suc i) (suc j) (λ is. e.1 (omega (arith, is))) ∙ sym e.0
+  | inr e ↦ unequal-false (suc i) (suc j) (λ is. e.1 (omega (arith, is))) ∙ sym e.0
 ]
 
 module _ (case : NameCase) where
@@ -55,15 +55,15 @@ module _ (case : NameCase) where
   as_same : (a b c : List ℕ) → same_name case a b ≡ true → same_name case c a ≡ same_name case c b
   as_same a b c is = ap (bytes_eq (key_of case c)) ((bytes_eq-Decides (key_of case a) (key_of case b)).0 is)
 
-  turned : (a b : List ℕ) → same_name case a b ≡ true → same_name case b a ≡ true
-  turned a b is = (bytes_eq-Decides (key_of case b) (key_of case a)).1
+  same_name-turned : (a b : List ℕ) → same_name case a b ≡ true → same_name case b a ≡ true
+  same_name-turned a b is = (bytes_eq-Decides (key_of case b) (key_of case a)).1
       (sym ((bytes_eq-Decides (key_of case a) (key_of case b)).0 is))
 
   either_way : (a b : List ℕ) → same_name case a b ≡ same_name case b a
   either_way a b = elim (cases_Bool (same_name case a b)) [
-    | inl e ↦ e ∙ sym (turned a b e)
+    | inl e ↦ e ∙ sym (same_name-turned a b e)
     | inr e ↦ elim (cases_Bool (same_name case b a)) [
-      | inl back ↦ turned b a back ∙ sym back
+      | inl back ↦ same_name-turned b a back ∙ sym back
       | inr other ↦ e
           ∙ sym other
     ]
@@ -87,7 +87,7 @@ module _ (case : NameCase) where
   pub place_last : (name : List ℕ) (xs : List (List ℕ)) → is_among case xs name ≡ false
       → IsPlace case name (xs ++ name ∷ []) (length xs)
   place_last name [] none = here (own_name name)
-  place_last name (x ∷ xs) none = let two = neither (same_name case name x) (is_among case xs name) none in
+  place_last name (x ∷ xs) none = let two = or-neither (same_name case name x) (is_among case xs name) none in
       there two.0 (place_last name xs two.1)
 
   place_by : (name : List ℕ) (xs : List (List ℕ)) (i : ℕ) → i < length xs → same_name case name (get_or xs i [])
@@ -106,8 +106,8 @@ module _ (case : NameCase) where
   pub same_place : (a b : List ℕ) {xs : List (List ℕ)} {i j : ℕ} → IsPlace case a xs i → IsPlace case b xs j
       → (i == j) ≡ same_name case b a
   same_place a b (here {first = first} is) (here other) = sym (as_same a first b is ∙ other)
-  same_place a b (here {first = first} is) (there {i = j} other p) = unequal 0 (suc j) (λ e. omega (arith, e))
+  same_place a b (here {first = first} is) (there {i = j} other p) = unequal-false 0 (suc j) (λ e. omega (arith, e))
       ∙ sym (as_same a first b is ∙ other)
-  same_place a b (there {first = first} {i = i} other p) (here is) = unequal (suc i) 0 (λ e. omega (arith, e))
+  same_place a b (there {first = first} {i = i} other p) (here is) = unequal-false (suc i) 0 (λ e. omega (arith, e))
       ∙ sym (either_way b a ∙ as_same b first a is ∙ other)
   same_place a b (there {i = i} other p) (there {i = j} unlike q) = one_less i j ∙ same_place a b p q

@@ -132,10 +132,10 @@ range-past first last b k (inl h) past = absurd (omega arith)
 range-past first last b k (inr e) past = grind (arith, nat_tests)
 
 -- each bit turned
-turned : (x : ℕ) → x < 2 → ((1 + x) % 2 == 1) ≡ not (x == 1)
-turned zero h = refl
-turned (suc zero) h = refl
-turned (suc (suc x)) h = absurd (omega arith)
+next-is_odd : (x : ℕ) → x < 2 → ((1 + x) % 2 == 1) ≡ not (x == 1)
+next-is_odd zero h = refl
+next-is_odd (suc zero) h = refl
+next-is_odd (suc (suc x)) h = absurd (omega arith)
 
 module _ (words : List ℕ) where
   abbrev other : ℕ → ℕ
@@ -160,5 +160,5 @@ module _ (words : List ℕ) where
       ∙ ap (λ w. bit_at w (k % 64) == 1) (get_or-others (k / 64) q)
       ∙ ap (λ n. n == 1) (bit_at_xor (2 ^ 64 - 1) (get_or words (k / 64) 0) (k % 64)
       ∙ ap (λ n. (n + x) % 2) (bit_at_ones 64 (k % 64) i))
-      ∙ turned x (bit_at-lt (get_or words (k / 64) 0) (k % 64))
+      ∙ next-is_odd x (bit_at-lt (get_or words (k / 64) 0) (k % 64))
       ∙ ap not (sym (get_or-members_of words k h))

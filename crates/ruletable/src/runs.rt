@@ -50,7 +50,7 @@ impl<'a> Iterator for Runs<'a> {
     }
 }
 
-/// A law: a set is made of its runs. It goes over them, and puts the bytes of each into a new set.
+/// Says that a set is made of its runs. It goes over them, and puts the bytes of each into a new set.
 pub fn union_of_runs(set: &ByteSet) -> ByteSet
     ensures { (b : ℕ) → b < 256 → get_or result b false ≡ get_or set.now b false }
 {

@@ -1,9 +1,10 @@
 -- How inputs agree with what was seen, as more is seen and as a window slides.
 -- Serves: run_peg (right)
-use Rattle.std.proofs.Common.{◌≡◌, ℕ, ◌+◌, ◌<◌, ◌≤◌, Bool, true, false, Option, Some, None, List, [], ◌++◌, length}
-use Rattle.std.proofs.Common.{take, drop, refl, sym, ◌∙◌, ap, subst, arith, inl, inr, nat_lt, append_assoc}
+use Rattle.std.proofs.Common.{◌≡◌, ℕ, suc, ◌+◌, ◌<◌, ◌≤◌, min, Bool, true, false, Option, Some, None, List, [], ◌++◌}
+use Rattle.std.proofs.Common.{length, take, drop, refl, sym, ◌∙◌, ap, subst, arith, inl, inr, nat_lt, append_assoc}
 use Rattle.std.proofs.Common.{length-append, length-take, if◌then◌else◌}
-use Rattle.std.proofs.Math.Seq.{take-append-add}
+use Rattle.std.proofs.Math.Nat.{min-eq_left, min-eq_right}
+use Rattle.std.proofs.Math.Seq.{take-append-add, take-append_seam, drop-append_seam}
 use Rattle.std.proofs.lemmas.Bool.{cases_lt}
 use Rattle.std.proofs.lemmas.Grind.{common_steps}
 use Rattle.std.proofs.lemmas.List.{append-nil, take-append-drop}
@@ -19,14 +20,15 @@ use Rattle.toolrun.specs.Input.{Input, input_from, bounded}
 -- what is seen when more was read
 module _ {R : Type 0} (remaining : R → Option (List ℕ)) (old new : Feed R) (grows : Grows remaining old new)
     (before : List ℕ) where
-  longer : (before ++ bytes_of old) ++ grows.more ≡ before ++ bytes_of new
-  longer = append_assoc before (bytes_of old) grows.more ∙ ap (λ t. before ++ t) (sym grows.bytes)
+  bytes_longer : (before ++ bytes_of old) ++ grows.more ≡ before ++ bytes_of new
+  bytes_longer = append_assoc before (bytes_of old) grows.more ∙ ap (λ t. before ++ t) (sym grows.bytes)
 
-  pub earlier : (input : Input) → Agrees (before ++ bytes_of new) (flow_of new) input
+  pub agrees_earlier : (input : Input) → Agrees (before ++ bytes_of new) (flow_of new) input
       → Agrees (before ++ bytes_of old) (flow_of old) input
-  earlier input agrees = record {
+  agrees_earlier input agrees = record {
     more = grows.more ++ agrees.more;
-    bytes = agrees.bytes ∙ ap (λ t. t ++ agrees.more) (sym longer) ∙ append_assoc (before ++ bytes_of old) grows.more
+    bytes = agrees.bytes ∙ ap (λ t. t ++ agrees.more) (sym bytes_longer)
+        ∙ append_assoc (before ++ bytes_of old) grows.more
         agrees.more;
     ended = λ e. elim grows.stays [
       | inl was ↦ absurd (cc)
@@ -41,18 +43,54 @@ module _ {R : Type 0} (remaining : R → Option (List ℕ)) (old new : Feed R) (
   pub seen_more : (first : Option (List ℕ)) → Consumes first (remaining (reader_of old)) (before ++ bytes_of old)
       → Consumes first (remaining (reader_of new)) (before ++ bytes_of new)
   seen_more first c =
-      subst (λ (t : List ℕ). Consumes first (remaining (reader_of new)) t) longer
+      subst (λ (t : List ℕ). Consumes first (remaining (reader_of new)) t) bytes_longer
       (Consumes-join first (remaining (reader_of old)) (remaining (reader_of new)) (before ++ bytes_of old) grows.more c
       grows.gives)
 
 -- what is seen when the window slides
-pub slides : (before items : List ℕ) (n : ℕ) → (before ++ take n items) ++ drop n items ≡ before ++ items
-slides before items n = append_assoc before (take n items) (drop n items)
+pub slides-bytes : (before items : List ℕ) (n : ℕ) → (before ++ take n items) ++ drop n items ≡ before ++ items
+slides-bytes before items n = append_assoc before (take n items) (drop n items)
     ∙ ap (λ t. before ++ t) (take-append-drop n items)
 
 pub slides-len : (before items : List ℕ) (n start : ℕ) → length before ≡ start → n ≤ length items
     → length (before ++ take n items) ≡ start + n
 slides-len before items n start e h = simp (length-append, length-take) (omega arith)
+
+-- what is held at a place, and what an input has from there on
+module _ {start : ℕ} (before items : List ℕ) {flow : Flow} {input : Input} (here : length before ≡ start)
+    (agrees : Agrees (before ++ items) flow input) where
+  bytes_are : input.bytes ≡ before ++ (items ++ agrees.more)
+  bytes_are = agrees.bytes ∙ append_assoc before items agrees.more
+
+  pub rest_is : drop start input.bytes ≡ items ++ agrees.more
+  rest_is = rw (bytes_are, ← here) (drop-append_seam before (items ++ agrees.more))
+
+  pub rest_held : agrees.more ≡ [] → drop start input.bytes ≡ items
+  rest_held none = rest_is ∙ ap (λ t. items ++ t) none ∙ append-nil items
+
+  pub window_is : (n : ℕ) → length items ≡ n → take n (drop start input.bytes) ≡ items
+  window_is n full = rw (rest_is, ← full) (take-append_seam items agrees.more)
+
+  pub bytes_len : length input.bytes ≡ start + (length items + length agrees.more)
+  bytes_len =
+      let l = ap length bytes_are in
+      omega (arith, l, here, length-append before (items ++ agrees.more), length-append items agrees.more)
+
+  -- as many bytes were taken as a limit of n asks for
+  pub taken_full : (n : ℕ) → length items ≡ n + 1 → length (before ++ items) ≡ min (length input.bytes) (start + n + 1)
+  taken_full n full =
+      let le : start + n + 1 ≤ length input.bytes = omega (arith, bytes_len, full) in
+      let l : length (before ++ items) ≡ start + n + 1 = omega (arith, length-append before items, here, full) in
+      l ∙ sym (min-eq_right le)
+
+  pub taken_end : (n : ℕ) → agrees.more ≡ [] → length items ≤ n + 1
+      → length (before ++ items) ≡ min (length input.bytes) (start + n + 1)
+  taken_end n none short =
+      let m = ap length none in
+      let le : length input.bytes ≤ start + n + 1 = omega (arith, bytes_len, m, short) in
+      let l : length (before ++ items) ≡ length input.bytes =
+      omega (arith, length-append before items, here, bytes_len, m) in
+      l ∙ sym (min-eq_left le)
 
 below_limit : (given : List ℕ) → length given < input_limit → bounded given ≡ record { bytes = given; fault = false }
 below_limit given h =
@@ -70,15 +108,15 @@ at_limit given h =
 module _ (xs seen rest : List ℕ) (left : ℕ) (flow : Flow) (is : xs ≡ seen ++ rest)
     (count : left + length seen ≡ input_limit)
     (ended : flow ≡ Ended → (rest ≡ []) × (0 < left)) (broken : flow ≡ Broken → left ≡ 0) where
-  whole : length xs ≡ length seen + length rest
-  whole = ap length is ∙ length-append seen rest
+  length_whole : length xs ≡ length seen + length rest
+  length_whole = ap length is ∙ length-append seen rest
 
   all_agrees : length xs < input_limit → Agrees seen flow (record { bytes = xs; fault = false })
   all_agrees below = record {
     more = rest;
     bytes = is;
     ended = λ e. ((ended e).0, refl);
-    broken = λ e. absurd (let zero = broken e in omega (arith, zero, count, whole, below));
+    broken = λ e. absurd (let zero = broken e in omega (arith, zero, count, length_whole, below));
   }
 
   cut_is : take input_limit xs ≡ seen ++ take left rest
@@ -91,7 +129,8 @@ module _ (xs seen rest : List ℕ) (left : ℕ) (flow : Flow) (is : xs ≡ seen 
   cut_agrees above = record {
     more = take left rest;
     bytes = cut_is;
-    ended = λ e. absurd (let end = ended e in let l = ap length end.0 in omega (arith, l, end.1, count, whole, above));
+    ended = λ e. absurd
+        (let end = ended e in let l = ap length end.0 in omega (arith, l, end.1, count, length_whole, above));
     broken = λ e. (rw (broken e) refl, refl);
   }
 

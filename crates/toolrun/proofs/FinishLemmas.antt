@@ -24,10 +24,12 @@ record First (e0 e1 : Option (List ℕ)) (failed : Bool) (text : List ℕ) : Typ
   whole : failed ≡ false → told ≡ text
   part : IsBeginning told text
 
-first : {A E : Type 0} (e0 e1 : Option (List ℕ)) (failed : Bool) (text : List ℕ) (r : Result A E) → Writes e0 e1 text r
+first_told : {A E : Type 0} (e0 e1 : Option (List ℕ)) (failed : Bool) (text : List ℕ) (r : Result A E)
+    → Writes e0 e1 text r
     → Flags false failed r → First e0 e1 failed text
-first e0 e1 failed text (Ok x) w f = record { told = text; taken = w; whole = λ _. refl; part = IsBeginning-same text }
-first e0 e1 failed text (Err x) w f = record { told = w.0; taken = w.2; whole = λ isnt. absurd (cc); part = w.1 }
+first_told e0 e1 failed text (Ok x) w f =
+    record { told = text; taken = w; whole = λ _. refl; part = IsBeginning-same text }
+first_told e0 e1 failed text (Err x) w f = record { told = w.0; taken = w.2; whole = λ isnt. absurd (cc); part = w.1 }
 
 not_true : (b c : Bool) → (b ≡ true → c ≡ true) → c ≡ false → b ≡ false
 not_true true c h isnt = let e : c ≡ true = h refl in absurd (cc)
@@ -36,8 +38,8 @@ not_true false c h isnt = refl
 module _ (out_was out_now err_told err_flushed err_now : Bool) (e0 e1 : Option (List ℕ)) (more : List ℕ) (code : ℕ)
     (flushes : Flushes out_was out_now err_told err_flushed more) (stays : err_flushed ≡ true → err_now ≡ true)
     (high : (out_now ≡ true) ⊎ (err_now ≡ true) → 4 ≤ code) where
-  clean : err_now ≡ false → err_told ≡ false
-  clean isnt = not_true err_told err_now (λ e. stays (flushes.err_stays e)) isnt
+  told_clean : err_now ≡ false → err_told ≡ false
+  told_clean isnt = not_true err_told err_now (λ e. stays (flushes.err_stays e)) isnt
 
   -- where the output's flush failed: all of the text was told before, or the error output had failed
   told_before : (text : List ℕ) (bad : out_now ≡ true) → out_was ≡ false → (f : First e0 e1 err_told text) → (b : Bool)
@@ -48,7 +50,7 @@ module _ (out_was out_now err_told err_flushed err_now : Bool) (e0 e1 : Option (
     text,
     inr refl,
     rw (flushes.silent e, append-nil) (IsBeginning-join f.told text write_error f.part),
-    λ err_ok. let fine : err_told ≡ false = clean err_ok in absurd (cc),
+    λ err_ok. let fine : err_told ≡ false = told_clean err_ok in absurd (cc),
   )
   told_before text bad was f false e = (
     text,
@@ -62,7 +64,7 @@ module _ (out_was out_now err_told err_flushed err_now : Bool) (e0 e1 : Option (
       (out_now ≡ false → err_now ≡ false → code ≡ stated) → Reports [] text stated out_now err_now (f.told ++ more) code
   reports_stop text stated was f same = record {
     whole = λ out_ok err_ok. (
-      rw (flushes.quiet (out_ok ∙ sym was), append-nil) (f.whole (clean err_ok)),
+      rw (flushes.quiet (out_ok ∙ sym was), append-nil) (f.whole (told_clean err_ok)),
       same out_ok err_ok,
     );
     part = λ out_ok. rw (flushes.quiet (out_ok ∙ sym was), append-nil) f.part;
@@ -82,27 +84,30 @@ module _ (out_was out_now err_told err_flushed err_now : Bool) (e0 e1 : Option (
           [],
           inl refl,
           rw (flushes.quiet (bad ∙ sym was), append-nil) f.part,
-          λ err_ok. rw (flushes.quiet (bad ∙ sym was), append-nil) (f.whole (clean err_ok)),
+          λ err_ok. rw (flushes.quiet (bad ∙ sym was), append-nil) (f.whole (told_clean err_ok)),
         );
         status = high;
       }
 
-pub finishes : {A E : Type 0} (stop : Result Stop WriteFault) (out_was out_now err_told err_flushed err_now : Bool)
-    (e0 e1 e2 e3 : Option (List ℕ)) (r : Result A E) (code : ℕ) →
+pub finish_tells : {A E : Type 0} (stop : Result Stop WriteFault)
+    {out_was out_now err_told err_flushed err_now : Bool} (e0 e1 e2 e3 : Option (List ℕ))
+    (r : Result A E) (code : ℕ) →
     Flags false out_was stop → Writes e0 e1 (told_of stop) r → Flags false err_told r →
     ((more : List ℕ) × Appends e1 e2 more × Flushes out_was out_now err_told err_flushed more) →
     Keeps e2 e3 → (err_flushed ≡ true → err_now ≡ true) → ((out_now ≡ true) ⊎ (err_now ≡ true) → 4 ≤ code) →
     (out_now ≡ false → err_now ≡ false → code ≡ code_of (ending_of stop)) →
     (told : List ℕ) × Appends e0 e3 told × Finishes stop out_now err_now told code
-finishes (Ok stop) out_was out_now err_told err_flushed err_now e0 e1 e2 e3 r code was w flag m kept stays high same =
-    let f = first e0 e1 err_told (message_of stop) r w flag in (
+finish_tells (Ok stop) {out_was} {out_now} {err_told} {err_flushed} {err_now} e0 e1 e2 e3 r code
+    was w flag m kept stays high same =
+    let f = first_told e0 e1 err_told (message_of stop) r w flag in (
       f.told ++ m.0,
       Appends-kept e0 e2 e3 (f.told ++ m.0) (Appends-join e0 e1 e2 f.told m.0 f.taken m.1) kept,
       reports_stop out_was out_now err_told err_flushed err_now e0 e1 m.0 code m.2 stays high (message_of stop)
           (code_of (status_of stop)) was f same,
     )
-finishes (Err fault) out_was out_now err_told err_flushed err_now e0 e1 e2 e3 r code was w flag m kept stays high same =
-    let f = first e0 e1 err_told write_error r w flag in (
+finish_tells (Err fault) {out_was} {out_now} {err_told} {err_flushed} {err_now} e0 e1 e2 e3 r code
+    was w flag m kept stays high same =
+    let f = first_told e0 e1 err_told write_error r w flag in (
       f.told ++ m.0,
       Appends-kept e0 e2 e3 (f.told ++ m.0) (Appends-join e0 e1 e2 f.told m.0 f.taken m.1) kept,
       λ text stated. reports_fault out_was out_now err_told err_flushed err_now e0 e1 m.0 code m.2 stays high text

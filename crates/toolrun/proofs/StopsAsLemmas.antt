@@ -118,14 +118,14 @@ module _ {Point : Type 0} (Before : Input → Point → List ℕ → Type 0) (En
       (seen, w.0, gives, w.1, w.2)
 
   -- the reader is given back as it was after the last step
-  pub ran : {R : Type 0} (remaining : R → Option (List ℕ)) (failed : R → Bool) (old now final : R) (out : Stream)
-      (left : ℕ) (flow : Flow)
+  pub run_performs : {R : Type 0} (remaining : R → Option (List ℕ)) (failed : R → Bool) (old now final : R)
+      (out : Stream) (left : ℕ) (flow : Flow)
       (r : Result Stop WriteFault) → final ≡ now → IsToldBy (remaining now) (failed now) left flow →
       ((seen : List ℕ) × Consumes (remaining old) (remaining now) seen × (left + length seen ≡ input_limit) ×
       ((input : Input) → Agrees seen flow input → Runs input (length seen) out.old out.new r))
       → Flags out.was out.failed r →
       Performs Does (passed remaining failed old final) out r
-  ran remaining failed old now final out left flow r is told run flag =
+  run_performs remaining failed old now final out left flow r is told run flag =
       rw is (record {
         stopped = were_run (remaining old) (remaining now) out.old out.new (failed
             now) left flow r told run;

@@ -1,6 +1,6 @@
 use Rattle.std.proofs.Common.{rules}
 use Rattle.ruletable.proofs.AppendsLemmas.{AppendsPart-first, Writes-then}
-use Rattle.abnfprint.proofs.LeftTextLemmas.{leaves-all, leaves-rest, leaves-part, leaves-none, leaves-at, leaves-last}
+use Rattle.ruletable.proofs.LeavesLemmas.{leaves-all, leaves-rest, leaves-part, leaves-none, leaves-at, leaves-last}
 use Rattle.abnfprint.proofs.LeftTextLemmas.{item-left, end-left}
 use Rattle.abnfprint.proofs.print.+printing.Goals as goal
 

@@ -1,7 +1,8 @@
 use Rattle.std.proofs.Common.{◌≡◌, drop}
 use Rattle.abnfread.specs.AbnfViews.{elements_of}
 use Rattle.abnfprint.specs.CanonicalAbnf.{joined}
-use Rattle.abnfprint.proofs.LeftTextLemmas.{Leaves, left_of}
+use Rattle.ruletable.proofs.LeavesLemmas.{Leaves}
+use Rattle.abnfprint.proofs.LeftTextLemmas.{left_of}
 use Rattle.abnfprint.proofs.print.+printing.Given as goal
 
 abbrev pub invariant-print_all-loop-i : goal.invariant-print_all-loop-i

@@ -1,6 +1,6 @@
 use Rattle.std.proofs.Common.{rules, arith}
-use Rattle.abnfprint.proofs.LeftTextLemmas.{leaves-all, leaves-rest, leaves-part, leaves-none, leaves-at, rule-left}
-use Rattle.abnfprint.proofs.LeftTextLemmas.{rules-end}
+use Rattle.ruletable.proofs.LeavesLemmas.{leaves-all, leaves-rest, leaves-part, leaves-none, leaves-at}
+use Rattle.abnfprint.proofs.LeftTextLemmas.{rule-left, rules-end}
 use Rattle.abnfprint.proofs.AbnfReadBackLemmas.{table-back}
 use Rattle.abnfprint.proofs.print.print_abnf.Goals as goal
 

@@ -1,7 +1,7 @@
 use Rattle.std.proofs.Common.{◌≡◌, drop, map}
 use Rattle.abnfread.specs.AbnfViews.{rule_of, rules_of}
 use Rattle.abnfprint.specs.CanonicalAbnf.{grammar_text}
-use Rattle.abnfprint.proofs.LeftTextLemmas.{Leaves}
+use Rattle.ruletable.proofs.LeavesLemmas.{Leaves}
 use Rattle.abnfprint.proofs.print.print_abnf.Given as goal
 
 abbrev pub invariant-loop-id : goal.invariant-loop-id

@@ -1,7 +1,7 @@
 use Rattle.std.proofs.Common.{◌≡◌, ℕ, List, [], ◌∷◌, ◌++◌, append_assoc, codes}
 use Rattle.abnfread.specs.AbnfViews.{element_of}
 use Rattle.abnfprint.specs.CanonicalAbnf.{text_of}
-use Rattle.abnfprint.proofs.LeftTextLemmas.{leaves-all, leaves-rest, leaves-part, leaves-last, leaves-at}
+use Rattle.ruletable.proofs.LeavesLemmas.{leaves-all, leaves-rest, leaves-part, leaves-last, leaves-at}
 use Rattle.abnfprint.proofs.print.print_definition.Goals as goal
 
 -- the name and `=` are one piece

@@ -1,8 +1,8 @@
 use Rattle.std.proofs.Common.{rules, codes}
 use Rattle.ruletable.proofs.AppendsLemmas.{AppendsPart-first}
 use Rattle.abnfprint.specs.CanonicalAbnf.{values_text}
-use Rattle.abnfprint.proofs.LeftTextLemmas.{leaves-all, leaves-rest, leaves-part, leaves-none, leaves-at, value-left}
-use Rattle.abnfprint.proofs.LeftTextLemmas.{values-end}
+use Rattle.ruletable.proofs.LeavesLemmas.{leaves-all, leaves-rest, leaves-part, leaves-none, leaves-at}
+use Rattle.abnfprint.proofs.LeftTextLemmas.{value-left, values-end}
 use Rattle.abnfprint.proofs.terminal.print_values.Goals as goal
 
 pub returns-in-Err-clause-bytes : goal.returns-in-Err-clause-bytes

@@ -1,7 +1,8 @@
 use Rattle.std.proofs.Common.{◌≡◌, drop}
 use Rattle.abnfread.specs.Element.{Values}
 use Rattle.abnfprint.specs.CanonicalAbnf.{text_of}
-use Rattle.abnfprint.proofs.LeftTextLemmas.{Leaves, values_left}
+use Rattle.ruletable.proofs.LeavesLemmas.{Leaves}
+use Rattle.abnfprint.proofs.LeftTextLemmas.{values_left}
 use Rattle.abnfprint.proofs.terminal.print_values.Given as goal
 
 abbrev pub invariant-loop-i : goal.invariant-loop-i

@@ -1,7 +1,7 @@
 -- What the getters read of matches in which all is there.
 use Rattle.std.proofs.Common.{map}
 use Rattle.clap.specs.Words.{found_of, matches_of}
-use Rattle.commands.proofs.AskLemmas.{ask}
+use Rattle.commands.proofs.AskLemmas.{words_ask}
 use Rattle.commands.proofs.settings.read_words.Goals as goal
 
 pub returns : goal.returns
@@ -14,7 +14,7 @@ returns g c =
         said.1,
         (
           said.2.0,
-          ask (found_of c.in-Ok.matches) (matches_of said.0 (map g.S.AsStr.text c.args.words.now)) said.2.1
+          words_ask (found_of c.in-Ok.matches) (matches_of said.0 (map g.S.AsStr.text c.args.words.now)) said.2.1
               c.in-Ok.ensures.whole (record { settings = c.settings_of-settings.result; path = c.unwrap-path.result })
               c.get_str.result settings.mode settings.limit settings.start settings.raw
               settings.letters settings.viable c.get_str.ensures

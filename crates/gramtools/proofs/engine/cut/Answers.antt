@@ -3,7 +3,7 @@ use Rattle.std.proofs.Common.{[], ◌++◌, ◌≤◌, ◌∙◌, length, take, 
 use Rattle.ruletable.proofs.AppendsLemmas.{Appends-same}
 use Rattle.feed.proofs.GrowsLemmas.{Consumes-same}
 use Rattle.gramtools.specs.Units.{none}
-use Rattle.toolrun.proofs.AgreesLemmas.{earlier, seen_more, slides, slides-len}
+use Rattle.toolrun.proofs.AgreesLemmas.{agrees_earlier, seen_more, slides-bytes, slides-len}
 use Rattle.gramtools.proofs.CutLemmas.{one_more_unit, stops_there, fails_there}
 use Rattle.gramtools.proofs.engine.cut.Goals as goal
 
@@ -46,11 +46,11 @@ loop-n-preserved g c =
       written = (
         so_far.0 ++ take n items,
         slides-len so_far.0 items n c.loop-n.start so_far.1 le,
-        rw (c.skip.ensures.reader, c.skip.ensures.bytes, slides so_far.0 items n)
+        rw (c.skip.ensures.reader, c.skip.ensures.bytes, slides-bytes so_far.0 items n)
             (seen_more _ _ _ grew so_far.0 _ so_far.2),
         λ input b.
-            let a = rw (c.skip.ensures.bytes, slides so_far.0 items n, c.skip.ensures.flow) at b in
-            let front = so_far.3 input (earlier _ _ _ grew so_far.0 input a) in
+            let a = rw (c.skip.ensures.bytes, slides-bytes so_far.0 items n, c.skip.ensures.flow) at b in
+            let front = so_far.3 input (agrees_earlier _ _ _ grew so_far.0 input a) in
             let step = c.in-Ok-Takes.ensures.follows so_far.0 input so_far.1 a in
             one_more_unit _ _ _ input _ _ _ c.loop-n.start front.0 0 front.1 front.2 n
             (rw c.in-Ok-Takes.field-0-is at step.0),
@@ -75,7 +75,7 @@ returns-in-Ok-Stops-clause-units g c =
             c.loop-n.invariant.within,
           ),
       λ input a.
-          let front = so_far.3 input (earlier _ _ _ grew so_far.0 input a) in
+          let front = so_far.3 input (agrees_earlier _ _ _ grew so_far.0 input a) in
           let step = c.in-Ok-Stops.ensures.follows so_far.0 input so_far.1 a in
           stops_there _ _ _ input _ _ _ c.loop-n.start front.0 (length (so_far.0 ++ items)) front.1 front.2
           c.in-Ok-Stops.stop (rw c.in-Ok-Stops.field-0-is at step.0) step.1,
@@ -99,7 +99,7 @@ returns-in-Err-clause-units g c =
             c.loop-n.invariant.within,
           ),
       λ input a.
-          let front = so_far.3 input (earlier _ _ _ grew so_far.0 input a) in
+          let front = so_far.3 input (agrees_earlier _ _ _ grew so_far.0 input a) in
           let step = c.in-Err.ensures.follows so_far.0 input so_far.1 a in
           fails_there _ _ _ input _ _ _ c.loop-n.start front.0 (length (so_far.0 ++ items)) front.1 front.2
           c.in-Err.fault step.0 step.1,

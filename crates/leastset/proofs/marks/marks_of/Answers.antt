@@ -17,6 +17,6 @@ returns c =
     let same = ap length c.deref_mut.ensures.value in
     let k = c.mark.ensures.count in
     let ok = c.in_ok-marks.marks.ok.0 in
-    let new = m.written c.mark.new.marks c.in_ok-marks.marks.items c.in_ok-marks.marks.len
+    let new = m.take_written c.mark.new.marks c.in_ok-marks.marks.items c.in_ok-marks.marks.len
     (omega (arith, k, same)) (omega (arith, ok)) in
     rw new (record { count = k ∙ l; marks = m.those_alone _ _ _ _ fresh c.mark.ensures })

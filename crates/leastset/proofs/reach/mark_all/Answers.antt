@@ -13,4 +13,4 @@ pub loop-m-init : goal.loop-m-init
 loop-m-init c = s.stacks_none _ _
 
 pub loop-m-preserved : goal.loop-m-preserved
-loop-m-preserved c = s.stacks_next _ _ _ _ _ _ _ _ _ c.loop-m-test.true refl c.loop-m.invariant c.in_ok-mark_one.ensures
+loop-m-preserved c = s.stacks_next _ _ _ c.loop-m-test.true refl c.loop-m.invariant c.in_ok-mark_one.ensures

@@ -32,7 +32,7 @@ mark_all-requires-in-Some c = λ m h.
     omega (arith, lt, k)
 
 pub loop-n-smaller : goal.loop-n-smaller
-loop-n-smaller c = rw (c.in-Some.ensures).items (s.falls _ _ _ _ (c.in_ok-mark_all-2.ensures).left)
+loop-n-smaller c = rw (c.in-Some.ensures).items (s.stack_falls _ _ _ _ (c.in_ok-mark_all-2.ensures).left)
 
 pub loop-n-preserved : goal.loop-n-preserved
 loop-n-preserved c =
@@ -40,7 +40,7 @@ loop-n-preserved c =
     let l = t.length-slices c.args.steps.now in
     let below : c.in-Some.n < length c.args.steps.now = omega (arith, top, l) in
     let row = t.slice_now _ _ below in
-    s.spreading_next _ _ _ _ _ _ _ _ (c.in-Some.ensures).items c.loop-n.invariant (rw row c.in_ok-mark_all-2.ensures)
+    s.spreading_next _ _ _ _ (c.in-Some.ensures).items c.loop-n.invariant (rw row c.in_ok-mark_all-2.ensures)
 
 pub returns-clause-marks : goal.returns-clause-marks
 returns-clause-marks c = s.spreading_done _ _ _ _ (let e = (c.in_default.ensures).cases.0 in

@@ -3,7 +3,7 @@ use Rattle.std.proofs.Common.{ℕ, [], ◌+◌, ◌++◌, ◌≤◌, ◌∙◌, 
 use Rattle.std.proofs.Common.{length-drop}
 use Rattle.ruletable.proofs.AppendsLemmas.{Appends-same}
 use Rattle.feed.proofs.GrowsLemmas.{Consumes-same}
-use Rattle.toolrun.proofs.AgreesLemmas.{earlier, seen_more, slides, slides-len}
+use Rattle.toolrun.proofs.AgreesLemmas.{agrees_earlier, seen_more, slides-bytes, slides-len}
 use Rattle.lines.specs.InputLines.{none}
 use Rattle.lines.proofs.LineRunLemmas.{one_more_line, stops_there, fails_there}
 use Rattle.lines.proofs.line_loop.answer_lines.Goals as goal
@@ -49,11 +49,11 @@ loop-said-preserved g c =
       written = (
         so_far.0 ++ take n items,
         (let e = slides-len so_far.0 items n c.loop-said.at.place so_far.1 le in omega (arith, e)),
-        rw (c.skip.ensures.reader, c.skip.ensures.bytes, slides so_far.0 items n)
+        rw (c.skip.ensures.reader, c.skip.ensures.bytes, slides-bytes so_far.0 items n)
             (seen_more _ _ _ grew so_far.0 _ so_far.2),
         λ input b.
-            let a = rw (c.skip.ensures.bytes, slides so_far.0 items n, c.skip.ensures.flow) at b in
-            let front = so_far.3 input (earlier _ _ _ grew so_far.0 input a) in
+            let a = rw (c.skip.ensures.bytes, slides-bytes so_far.0 items n, c.skip.ensures.flow) at b in
+            let front = so_far.3 input (agrees_earlier _ _ _ grew so_far.0 input a) in
             let step = c.in-Ok-Answers.ensures.follows so_far.0 input so_far.1 a in
             rw c.still_all.ensures (one_more_line (g.J.Judge.told c.args.judge.now) c.args.limit input c.loop-said.at _
             _ _ front.0 front.1 front.2
@@ -79,7 +79,7 @@ returns-in-Ok-Stops-clause-lines g c =
             c.loop-said.invariant.within,
           ),
       λ input a.
-          let front = so_far.3 input (earlier _ _ _ grew so_far.0 input a) in
+          let front = so_far.3 input (agrees_earlier _ _ _ grew so_far.0 input a) in
           let step = c.in-Ok-Stops.ensures.follows so_far.0 input so_far.1 a in
           stops_there (g.J.Judge.told c.args.judge.now) c.args.limit input c.loop-said.at _ _ _ front.0 front.1 front.2
           (length (so_far.0 ++ items))
@@ -104,7 +104,7 @@ returns-in-Err-clause-lines g c =
             c.loop-said.invariant.within,
           ),
       λ input a.
-          let front = so_far.3 input (earlier _ _ _ grew so_far.0 input a) in
+          let front = so_far.3 input (agrees_earlier _ _ _ grew so_far.0 input a) in
           let step = c.in-Err.ensures.follows so_far.0 input so_far.1 a in
           fails_there (g.J.Judge.told c.args.judge.now) c.args.limit input c.loop-said.at _ _ _ front.0 front.1 front.2
           c.decided.ensures (length (so_far.0 ++ items))

@@ -1,7 +1,6 @@
 use Rattle.std.proofs.Common.{rules}
 use Rattle.lexer.specs.SliceEnds.{no_more}
-use Rattle.pegread.proofs.SliceLemmas.{none-dark, byte-dark}
-use Rattle.pegread.proofs.SliceFrontLemmas.{blank-on, comment-off}
+use Rattle.pegread.proofs.SliceLemmas.{none-dark, byte-dark, blank-on, comment-off}
 use Rattle.pegread.proofs.lexing.after_blanks.Goals as goal
 
 pub loop-first-preserved-then-is_white : goal.loop-first-preserved-then-is_white

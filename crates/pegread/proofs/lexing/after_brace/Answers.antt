@@ -1,6 +1,6 @@
 use Rattle.std.proofs.Common.{arith, add-one, ◌≡◌, ◌-◌, suc}
-use Rattle.pegread.proofs.SliceFrontLemmas.{body-last, bodies-open, bodies-open-back, bodies-close, bodies-close-back}
-use Rattle.pegread.proofs.SliceFrontLemmas.{bodies-other, bodies-other-back, no-bodies}
+use Rattle.pegread.proofs.SliceLemmas.{body-last, bodies-open, bodies-open-back, bodies-close, bodies-close-back}
+use Rattle.pegread.proofs.SliceLemmas.{bodies-other, bodies-other-back, no-bodies}
 use Rattle.pegread.proofs.lexing.after_brace.Goals as goal
 
 pub returns-then-depth-eq0 : goal.returns-then-depth-eq0

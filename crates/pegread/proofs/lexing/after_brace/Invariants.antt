@@ -1,6 +1,6 @@
 use Rattle.std.proofs.Common.{List, ℕ, length, ◌+◌, ◌≤◌}
 use Rattle.pegread.specs.Slices.{Body}
-use Rattle.pegread.proofs.SliceFrontLemmas.{Bodies}
+use Rattle.pegread.proofs.SliceLemmas.{Bodies}
 use Rattle.pegread.proofs.lexing.after_brace.Given as goal
 
 -- what closes the open braces of the rest closes the whole, and the other way round

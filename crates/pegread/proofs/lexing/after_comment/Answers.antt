@@ -1,6 +1,6 @@
 use Rattle.std.proofs.Common.{rules, arith}
 use Rattle.pegread.specs.Slices.{ended}
-use Rattle.pegread.proofs.SliceFrontLemmas.{comment-on, line_end-nothing}
+use Rattle.pegread.proofs.SliceLemmas.{comment-on, line_end-nothing}
 use Rattle.pegread.proofs.lexing.after_comment.Goals as goal
 
 pub loop-first-preserved : goal.loop-first-preserved

@@ -1,9 +1,9 @@
-use Rattle.pegread.proofs.SliceFrontLemmas.{closes-end, closes-plain, closes-plain-back, closes-escape}
-use Rattle.pegread.proofs.SliceFrontLemmas.{closes-escape-back}
+use Rattle.pegread.proofs.SliceLemmas.{closes-here, closes-plain, closes-plain-back, closes-escape}
+use Rattle.pegread.proofs.SliceLemmas.{closes-escape-back}
 use Rattle.pegread.proofs.lexing.after_mark.Goals as goal
 
 pub returns-then-first-mark : goal.returns-then-first-mark
-returns-then-first-mark c = (c.loop-first.invariant _).0 (closes-end c.in-Some.ensures.cases.0 c.if-first-mark.true)
+returns-then-first-mark c = (c.loop-first.invariant _).0 (closes-here c.in-Some.ensures.cases.0 c.if-first-mark.true)
 
 pub loop-first-preserved-then-first-eq92 : goal.loop-first-preserved-then-first-eq92
 loop-first-preserved-then-first-eq92 c = λ r.

@@ -1,6 +1,6 @@
 use Rattle.std.proofs.Common.{rules}
 use Rattle.pegread.specs.Slices.{none}
-use Rattle.pegread.proofs.SliceFrontLemmas.{names-on, names-longest}
+use Rattle.pegread.proofs.SliceLemmas.{names-on, names-longest}
 use Rattle.pegread.proofs.lexing.after_name.Goals as goal
 
 pub loop-first-preserved : goal.loop-first-preserved

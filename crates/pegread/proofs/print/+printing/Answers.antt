@@ -3,8 +3,8 @@ use Rattle.ruletable.proofs.AppendsLemmas.{AppendsPart-first, Writes-then}
 use Rattle.pegread.specs.Brackets.{wraps}
 use Rattle.pegread.specs.Canon.{text_of}
 use Rattle.pegread.specs.PegViews.{pattern_of}
-use Rattle.pegread.proofs.LeavesLemmas.{leaves-all, leaves-rest, leaves-part, leaves-none, leaves-at, leaves-around}
-use Rattle.pegread.proofs.LeavesLemmas.{leaves-last, item-left, end-left}
+use Rattle.ruletable.proofs.LeavesLemmas.{leaves-all, leaves-rest, leaves-part, leaves-none, leaves-at, leaves-last}
+use Rattle.pegread.proofs.LeftOfLemmas.{leaves-around, item-left, end-left}
 use Rattle.pegread.proofs.print.+printing.Goals as goal
 
 pub print_prefixed-returns-in-Err-clause-bytes : goal.print_prefixed-returns-in-Err-clause-bytes

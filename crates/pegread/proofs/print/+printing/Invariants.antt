@@ -1,7 +1,8 @@
 use Rattle.std.proofs.Common.{◌≡◌, drop}
 use Rattle.pegread.specs.Canon.{joined}
 use Rattle.pegread.specs.PegViews.{patterns_of}
-use Rattle.pegread.proofs.LeavesLemmas.{Leaves, left_of}
+use Rattle.ruletable.proofs.LeavesLemmas.{Leaves}
+use Rattle.pegread.proofs.LeftOfLemmas.{left_of}
 use Rattle.pegread.proofs.print.+printing.Given as goal
 
 abbrev pub invariant-print_all-loop-i : goal.invariant-print_all-loop-i

@@ -1,7 +1,7 @@
 use Rattle.std.proofs.Common.{◌≡◌, ℕ, List, [], ◌∷◌, ◌++◌, append_assoc, codes}
 use Rattle.pegread.specs.Canon.{text_of}
 use Rattle.pegread.specs.PegViews.{pattern_of}
-use Rattle.pegread.proofs.LeavesLemmas.{leaves-all, leaves-rest, leaves-part, leaves-last, leaves-at}
+use Rattle.ruletable.proofs.LeavesLemmas.{leaves-all, leaves-rest, leaves-part, leaves-last, leaves-at}
 use Rattle.pegread.proofs.print.print_definition.Goals as goal
 
 -- the name and the arrow are one piece

@@ -1,6 +1,6 @@
 use Rattle.std.proofs.Common.{rules, arith}
-use Rattle.pegread.proofs.LeavesLemmas.{leaves-all, leaves-rest, leaves-part, leaves-none, leaves-at, rule-left}
-use Rattle.pegread.proofs.LeavesLemmas.{rules-end}
+use Rattle.ruletable.proofs.LeavesLemmas.{leaves-all, leaves-rest, leaves-part, leaves-none, leaves-at}
+use Rattle.pegread.proofs.LeftOfLemmas.{rule-left, rules-end}
 use Rattle.pegread.proofs.ReadBackLemmas.{table-back}
 use Rattle.pegread.proofs.print.print_peg.Goals as goal
 

@@ -1,7 +1,7 @@
 use Rattle.std.proofs.Common.{◌≡◌, drop, map}
 use Rattle.pegread.specs.Canon.{grammar_text}
 use Rattle.pegread.specs.PegViews.{rule_of, rules_of}
-use Rattle.pegread.proofs.LeavesLemmas.{Leaves}
+use Rattle.ruletable.proofs.LeavesLemmas.{Leaves}
 use Rattle.pegread.proofs.print.print_peg.Given as goal
 
 abbrev pub invariant-loop-id : goal.invariant-loop-id

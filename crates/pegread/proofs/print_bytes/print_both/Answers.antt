@@ -1,6 +1,6 @@
 use Rattle.std.proofs.Common.{◌++◌}
 use Rattle.pegread.specs.Escapes.{shown}
-use Rattle.pegread.proofs.LeavesLemmas.{leaves-all, leaves-rest, leaves-part, leaves-last}
+use Rattle.ruletable.proofs.LeavesLemmas.{leaves-all, leaves-rest, leaves-part, leaves-last}
 use Rattle.pegread.proofs.print_bytes.print_both.Goals as goal
 
 pub returns-in-Err-clause-bytes : goal.returns-in-Err-clause-bytes

@@ -1,6 +1,7 @@
 use Rattle.std.proofs.Common.{rules}
 use Rattle.pegread.specs.Escapes.{escaped}
-use Rattle.pegread.proofs.LeavesLemmas.{leaves-all, leaves-rest, leaves-part, leaves-none, leaves-at, map-left, map-end}
+use Rattle.ruletable.proofs.LeavesLemmas.{leaves-all, leaves-rest, leaves-part, leaves-none, leaves-at}
+use Rattle.pegread.proofs.LeftOfLemmas.{map-left, map-end}
 use Rattle.pegread.proofs.print_bytes.print_bytes.Goals as goal
 
 pub loop-b-init : goal.loop-b-init

@@ -1,7 +1,7 @@
 use Rattle.std.proofs.Common.{◌≡◌, drop}
 use Rattle.std.specs.List.{flat_map}
 use Rattle.pegread.specs.Escapes.{escaped}
-use Rattle.pegread.proofs.LeavesLemmas.{Leaves}
+use Rattle.ruletable.proofs.LeavesLemmas.{Leaves}
 use Rattle.pegread.proofs.print_bytes.print_bytes.Given as goal
 
 abbrev pub invariant-loop-b : goal.invariant-loop-b

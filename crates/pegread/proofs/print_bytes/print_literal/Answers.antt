@@ -1,7 +1,7 @@
 use Rattle.std.proofs.Common.{◌∷◌, [], ◌++◌}
 use Rattle.std.specs.List.{flat_map}
 use Rattle.pegread.specs.Escapes.{escaped}
-use Rattle.pegread.proofs.LeavesLemmas.{leaves-all, leaves-rest, leaves-part, leaves-last}
+use Rattle.ruletable.proofs.LeavesLemmas.{leaves-all, leaves-rest, leaves-part, leaves-last}
 use Rattle.pegread.proofs.print_bytes.print_literal.Goals as goal
 
 pub returns-in-Err-clause-bytes : goal.returns-in-Err-clause-bytes

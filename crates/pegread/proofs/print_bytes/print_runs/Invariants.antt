@@ -2,7 +2,7 @@ use Rattle.std.proofs.Common.{◌≡◌}
 use Rattle.std.specs.List.{flat_map}
 use Rattle.ruletable.specs.Runs.{test_of}
 use Rattle.pegread.specs.Escapes.{runs_text, run_text}
-use Rattle.pegread.proofs.LeavesLemmas.{Leaves}
+use Rattle.ruletable.proofs.LeavesLemmas.{Leaves}
 use Rattle.pegread.proofs.print_bytes.print_runs.Given as goal
 
 abbrev pub invariant-loop-first : goal.invariant-loop-first

@@ -44,7 +44,7 @@ pub close-requires-clause-room : goal.close-requires-clause-room
 close-requires-clause-room c =
     let at = s.at_some c.args.self.now.path.items c.args.last.first
     (g.first_within _ (way_of c.args.self.now) _ c.requires.way c.requires.last) in
-    y.room _ _ _ _ at.0 c.requires.way c.requires.ranked at.1
+    y.ranks_have_room _ _ _ _ at.0 c.requires.way c.requires.ranked at.1
 
 pub returns-in_ok-look-clause-ranked : goal.returns-in_ok-look-clause-ranked
 returns-in_ok-look-clause-ranked c =
