@@ -6,14 +6,14 @@ use Rattle.std.proofs.Common.{decimal, MatchOption}
 use Rattle.std.proofs.lemmas.Bool.{eqb-true}
 use Rattle.std.specs.Str.Parse.{digits_value}
 use Rattle.ruletable.specs.declared.span.Span.{Span}
-use Rattle.lexer.specs.SliceEnds.{Longest, found}
+use Rattle.lexer.specs.SliceEnds.{Lacks, Longest, found}
 use Rattle.abnfread.specs.declared.kind.AbnfKind.{AbnfKind}
 use Rattle.abnfread.specs.declared.kind.AbnfKind.TheVariants as kinds
 use Rattle.abnfread.specs.AbnfKinds.{ends_list}
 use Rattle.abnfread.specs.AbnfSays.{says_name, says_is, says_slash, says_lparen, says_rparen, says_lbrack, says_rbrack}
 use Rattle.abnfread.specs.AbnfSays.{says_repeat, says_text, says_cased, says_num, says_prose}
 use Rattle.abnfread.specs.AbnfSlices.{continues_name, is_quotable, is_prose, is_blank, is_inside, Run, none, more}
-use Rattle.abnfread.specs.AbnfSlices.{Stops, Lacks, Digits, digits, Dotted, no_dot, dot, Stands, slash, lparen, rparen}
+use Rattle.abnfread.specs.AbnfSlices.{Stops, Digits, digits, Dotted, no_dot, dot, Stands, slash, lparen, rparen}
 use Rattle.abnfread.specs.AbnfSlices.{lbrack, rbrack, First, exactly, values}
 use Rattle.abnfread.specs.AbnfWords as words
 use Rattle.abnfread.specs.AbnfWords.{Said, Word, word}

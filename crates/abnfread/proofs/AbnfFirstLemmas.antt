@@ -5,12 +5,12 @@ use Rattle.std.proofs.Common.{refl, sym, arith, ◌⊎◌, inl, inr, ◌∙◌, 
 use Rattle.std.specs.Char.{is_ascii_alphabetic}
 use Rattle.std.proofs.lemmas.Bool.Decides.{nat_tests}
 use Rattle.std.proofs.lemmas.Bool.{eqb-true, or_cases}
-use Rattle.lexer.specs.SliceEnds.{NoPiece, Longest, NoToken, found, bad, at_end}
+use Rattle.lexer.specs.SliceEnds.{Lacks, NoPiece, Longest, NoToken, found, bad, at_end}
 use Rattle.abnfread.specs.declared.kind.AbnfKind.{AbnfKind}
 use Rattle.abnfread.specs.declared.kind.AbnfKind.TheVariants.{Name, Is, Adds, Repeat, Text, Num, Prose, Bad, End}
 use Rattle.abnfread.specs.BaseDigits.{is_digit, Tells, binary, decimals, hexadecimal}
 use Rattle.abnfread.specs.AbnfSlices.{continues_name, is_quotable, is_prose, is_case, is_blank, is_inside, Run, Stops}
-use Rattle.abnfread.specs.AbnfSlices.{Lacks, Numbers, Count, Piece, blank, crlf, comment, Stands, name, is, adds, slash}
+use Rattle.abnfread.specs.AbnfSlices.{Numbers, Count, Piece, blank, crlf, comment, Stands, name, is, adds, slash}
 use Rattle.abnfread.specs.AbnfSlices.{lparen, rparen, lbrack, rbrack, counted, star, text, cased, num, prose, First}
 use Rattle.abnfread.proofs.ByteRunLemmas.{run-longest}
 

@@ -10,10 +10,11 @@ use Rattle.std.specs.Char.{digit_value}
 use Rattle.std.specs.Str.Parse.{digits_value, digits_value_after}
 use Rattle.std.proofs.lemmas.Nat.{mul-le}
 use Rattle.std.proofs.lemmas.List.{take_at, append_cancel_right}
+use Rattle.lexer.specs.SliceEnds.{Lacks}
 use Rattle.abnfread.specs.BaseDigits.{is_digit}
 use Rattle.abnfread.specs.Numerals.{SaysRepeat, says_exactly, says_between, most, Listed, last_number, more_numbers}
 use Rattle.abnfread.specs.Numerals.{IsWithin}
-use Rattle.abnfread.specs.AbnfSlices.{Run, none, more, Stops, Lacks, Digits, digits}
+use Rattle.abnfread.specs.AbnfSlices.{Run, none, more, Stops, Digits, digits}
 use Rattle.abnfread.proofs.ByteRunLemmas.{run-to, no-digit}
 
 -- a run is a part of the text that is one by itself

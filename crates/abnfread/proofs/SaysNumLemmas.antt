@@ -2,9 +2,10 @@
 -- Serves: read_abnf
 use Rattle.std.proofs.Common.{◌≡◌, ℕ, ◌≤◌, ◌<◌, List, [], ◌∷◌, ◌++◌, refl, sym, ◌∙◌, ap, arith, All}
 use Rattle.std.specs.Str.Parse.{digits_value}
+use Rattle.lexer.specs.SliceEnds.{Lacks}
 use Rattle.abnfread.specs.declared.number.TheConstants.{MAX_VALUE}
 use Rattle.abnfread.specs.AbnfSays.{IsSmall}
-use Rattle.abnfread.specs.AbnfSlices.{Run, Stops, Lacks, Digits}
+use Rattle.abnfread.specs.AbnfSlices.{Run, Stops, Digits}
 use Rattle.abnfread.specs.AbnfWords.{Said, Values, Range}
 use Rattle.abnfread.specs.BaseDigits.{is_digit, Tells, binary, decimals, hexadecimal}
 use Rattle.abnfread.specs.Numerals.{SaysNum, says_values, says_range, Listed}
