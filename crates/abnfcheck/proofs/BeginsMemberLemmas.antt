@@ -4,12 +4,13 @@ use Rattle.std.proofs.Common.{◌≡◌, ℕ, zero, suc, ◌+◌, ◌<◌, ◌�
 use Rattle.std.proofs.Common.{[], ◌∷◌, ◌++◌, length, Option, Some, None, refl, sym, ◌∙◌, ap, subst, arith, eqb-true}
 use Rattle.std.proofs.Common.{eq-eqb, ⊎_elim}
 use Rattle.std.specs.Prelude.{slice_get, take}
+use Rattle.std.proofs.lemmas.Bool.{cases_lt}
 use Rattle.std.proofs.lemmas.List.{append-nil}
 use Rattle.abnfread.specs.Element.{Rule}
 use Rattle.abnfcheck.specs.Beginnings.{BeginsMember, IsFurthest}
 use Rattle.abnfcheck.specs.Decided.{Says}
 use Rattle.abnfcheck.specs.Derivable.{AreLetters, RuleDerives}
-use Rattle.abnfcheck.proofs.DerivesDecidedLemmas.{and_first, and_second, and_true, or_true, or_first, or_second, order}
+use Rattle.abnfcheck.proofs.DerivesDecidedLemmas.{and_first, and_second, and_true, or_true, or_first, or_second}
 use Rattle.abnfcheck.proofs.DerivesDecidedLemmas.{RulePath, rule_path_is_decided}
 use Rattle.abnfcheck.proofs.IsPathLemmas.{IsPath, here, step, join}
 use Rattle.abnfcheck.proofs.LiesLemmas.{OnLine, Lies, only, all_of}
@@ -198,7 +199,7 @@ module _ (has : ℕ → Bool) (rules : List Rule) (id : ℕ) (x : List ℕ) wher
           (λ less. above m less most b)
           (λ same. let is : m ≡ suc n = omega (arith, lt, same) in
           none (subst (λ v. BeginsMember has rules id x v) is b))
-          (order (suc n) m))
+          (cases_lt (suc n) m))
 
   pub furthest : (n : ℕ) × IsFurthest has rules id x n
   furthest = down (length x) (omega arith) (λ m lt most b. absurd (omega (arith, lt, most)))
@@ -209,5 +210,5 @@ module _ (has : ℕ → Bool) (rules : List Rule) (id : ℕ) (x : List ℕ) wher
   pub one_furthest : (a b : ℕ) → IsFurthest has rules id x a → IsFurthest has rules id x b → a ≡ b
   one_furthest a b f g = ⊎_elim
       (λ lt. absurd (not_further a b f g lt))
-      (λ le. ⊎_elim (λ lt. absurd (not_further b a g f lt)) (λ same. omega (arith, le, same)) (order b a))
-      (order a b)
+      (λ le. ⊎_elim (λ lt. absurd (not_further b a g f lt)) (λ same. omega (arith, le, same)) (cases_lt b a))
+      (cases_lt a b)

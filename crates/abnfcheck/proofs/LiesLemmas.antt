@@ -37,10 +37,10 @@ module _ (x : List ℕ) where
   are_letters has all here = tt
   are_letters has all (step {i = i} {c = c} is l) = (letter_at has x i c all is.0, are_letters has all l)
 
-shifted : (b : ℕ) (x : List ℕ) {i j : ℕ} {w : List ℕ} → Lies x i w j → Lies (b ∷ x) (suc i) w (suc j)
-shifted b x here = here
-shifted b x (step {i = i} {k = k} is l) = step (is.0, omega (arith, is.1)) (shifted b x l)
+lies_shifted : (b : ℕ) (x : List ℕ) {i j : ℕ} {w : List ℕ} → Lies x i w j → Lies (b ∷ x) (suc i) w (suc j)
+lies_shifted b x here = here
+lies_shifted b x (step {i = i} {k = k} is l) = step (is.0, omega (arith, is.1)) (lies_shifted b x l)
 
 pub all_of : (x : List ℕ) → Lies x 0 x (length x)
 all_of [] = here
-all_of (b ∷ x) = step (refl, omega arith) (shifted b x (all_of x))
+all_of (b ∷ x) = step (refl, omega arith) (lies_shifted b x (all_of x))

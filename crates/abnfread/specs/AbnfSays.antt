@@ -29,7 +29,8 @@ pub data SaysKind : AbnfKind → List ℕ → Span → Said → Type 0 where
       → SaysKind kinds.Repeat z p (Repeat a b)
   -- what stands in quotes; letters stand for either case, but for a text behind `%s`
   says_text : {z t : List ℕ} {p : Span} → z ≡ code "\"" ∷ (t ++ code "\"" ∷ []) → SaysKind kinds.Text z p (Text true t)
-  says_cased : {z t : List ℕ} {p : Span} {c : ℕ} → is_case c ≡ true → z ≡ code "%" ∷ c ∷ code "\"" ∷ (t ++ code "\"" ∷ [])
+  says_cased : {z t : List ℕ} {p : Span} {c : ℕ} → is_case c ≡ true
+      → z ≡ code "%" ∷ c ∷ code "\"" ∷ (t ++ code "\"" ∷ [])
       → SaysKind kinds.Text z p (Text ((c == code "i") || (c == code "I")) t)
   says_num : {z : List ℕ} {p : Span} {s : Said} → SaysNum z s → SaysKind kinds.Num z p s
   -- what stands in angle brackets

@@ -1,7 +1,7 @@
 -- Where a token of a kind ends (RFC 5234, section 4; RFC 7405): each relation holds of a text and of what stands behind
 -- the part that begins it.
 use Prim.Native.Char.{code}
-use Rattle.std.specs.Prelude.{◌≡◌, ◌≢◌, ℕ, ◌||◌, ◌&&◌, ◌==◌, nat_le, not, Bool, true, false, List, [], ◌∷◌}
+use Rattle.std.specs.Prelude.{◌≡◌, ℕ, ◌||◌, ◌&&◌, ◌==◌, nat_le, not, Bool, true, false, List, [], ◌∷◌}
 use Rattle.std.specs.Char.{is_ascii_alphabetic, is_ascii_alphanumeric}
 use Rattle.lexer.specs.SliceEnds as cuts
 use Rattle.abnfread.specs.declared.kind.AbnfKind.{AbnfKind}

@@ -180,21 +180,12 @@ pub(crate) fn after_blanks(text: &[u8]) -> &[u8]
 pub(crate) fn base_of(c: u8) -> Option<u8>
     ensures { MatchOption result ((base : ℕ) → Tells c base → ⊥) (λ base. Tells c base × (2 ≤ base) × (base ≤ 36)) }
 {
-    if is_letter(c, b'b', b'B') {
-        Some(2)
-    } else if is_letter(c, b'd', b'D') {
-        Some(10)
-    } else if is_letter(c, b'x', b'X') {
-        Some(16)
-    } else {
-        None
+    match c {
+        b'b' | b'B' => Some(2),
+        b'd' | b'D' => Some(10),
+        b'x' | b'X' => Some(16),
+        _ => None,
     }
-}
-
-fn is_letter(c: u8, lower: u8, upper: u8) -> bool
-    ensures { result ≡ ((c == lower) || (c == upper)) }
-{
-    c == lower || c == upper
 }
 
 fn is_case(c: u8) -> bool

@@ -37,7 +37,7 @@ pub(crate) enum Said<'a> {
     End,
 }
 
-/// What a token says; `None` for `Bad`, which says nothing.
+/// Returns what a token says, and `None` for `Bad`, which says nothing.
 ///
 /// # Errors
 /// - `TooLarge` for a number over its limit.
