@@ -16,7 +16,8 @@ use Rattle.flatgrammar.specs.Holds.{Holds, called, has_read, returned}
 use Rattle.flatgrammar.specs.Lowered.{capped_most, Spells, spells, shows_text, shows_values, shows_range, shows_concat}
 use Rattle.flatgrammar.specs.Lowered.{shows_alt, shows_rep, shows_turns, shows_reversed, shows_opt, shows_name}
 use Rattle.flatgrammar.specs.Lowered.{SpellAll, spell_none, spell_more, AreBodies}
-use Rattle.flatgrammar.proofs.RuleNodeLemmas.{body_at_id, node_of_rule}
+use Rattle.abnfcheck.proofs.RuleIdLemmas.{body_at_id}
+use Rattle.flatgrammar.proofs.RuleNodeLemmas.{node_of_rule}
 use Rattle.abnfcheck.proofs.IsPathLemmas.{here, step, split}
 use Rattle.abnfcheck.proofs.LiesLemmas.{OnLine, Lies}
 use Rattle.flatgrammar.proofs.CappedMostLemmas.{most_is}

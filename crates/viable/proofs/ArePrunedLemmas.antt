@@ -16,7 +16,8 @@ use Rattle.flatgrammar.specs.Places.{size, sizes}
 use Rattle.flatgrammar.specs.ToldBeginnings.{HasItem, TellsBeginnings}
 use Rattle.flatgrammar.proofs.BeforeLemmas.{get_below}
 use Rattle.flatgrammar.proofs.RuleDerivesLemmas.{exactly}
-use Rattle.flatgrammar.proofs.RuleNodeLemmas.{body_at_id, there}
+use Rattle.abnfcheck.proofs.RuleIdLemmas.{body_at_id}
+use Rattle.flatgrammar.proofs.RuleNodeLemmas.{there}
 use Rattle.viable.specs.Pruned.{IsProductive, Keeps, keep_text, keep_values, keep_range, keep_concat, keep_alt}
 use Rattle.viable.specs.Pruned.{keep_rep, empty_rep, keep_opt, empty_opt, keep_name, KeepsAll, keep_none, keep_more}
 use Rattle.viable.specs.Pruned.{KeepsSome, some_none, kept, dropped, IsLeftBody, left_body, no_body, ArePruned}

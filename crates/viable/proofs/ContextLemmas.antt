@@ -38,9 +38,10 @@ lies_take x i j (c ∷ w) (step on l) =
     one (b ∷ x) (suc i) c is = let on : suc i + 1 ≡ suc (i + 1) = omega arith in ap (λ k. take k (b ∷ x)) on
         ∙ ap (λ v. b ∷ v) (one x i c is)
 
-joined : (x : List ℕ) (i j : ℕ) (w v f z : List ℕ) → Lies x i w j → (take i x ++ ((w ++ v) ++ f)) ++ z ≡ (take j x ++ v)
+lies_joined : (x : List ℕ) (i j : ℕ) (w v f z : List ℕ) → Lies x i w j
+    → (take i x ++ ((w ++ v) ++ f)) ++ z ≡ (take j x ++ v)
     ++ (f ++ z)
-joined x i j w v f z l = rw (lies_take x i j w l) (same (take i x) w v f z)
+lies_joined x i j w v f z l = rw (lies_take x i j w l) (same (take i x) w v f z)
   where
     same : (a w v f z : List ℕ) → (a ++ ((w ++ v) ++ f)) ++ z ≡ ((a ++ w) ++ v) ++ (f ++ z)
     same a w v f z =
@@ -181,7 +182,7 @@ module _ (has : ℕ → Bool) (rules : List Rule) (judged : ℕ) (flat : Flat) (
                   tail_letters = letters_both has f.rest on.tail f.letters on.tail_letters;
                   derived = moved {v = (take i x ++ ((reached.word ++ v) ++ f.rest)) ++ on.tail}
                       {w = (take j x ++ v) ++ (f.rest ++ on.tail)}
-                      (joined x i j reached.word v f.rest on.tail reached.lies) on.derived;
+                      (lies_joined x i j reached.word v f.rest on.tail reached.lies) on.derived;
                 };
           }
 

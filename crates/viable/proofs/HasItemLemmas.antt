@@ -24,17 +24,18 @@ use Rattle.flatgrammar.specs.NullElements.{IsNeverEmpty}
 use Rattle.flatgrammar.proofs.NodeRunsLemmas.{next_of, turn_on, take_on, within_same, fewer, run, call_step, plain}
 use Rattle.flatgrammar.proofs.CappedMostLemmas.{most_is}
 use Rattle.flatgrammar.proofs.OnLineLemmas.{lies_count}
-use Rattle.flatgrammar.proofs.RuleNodeLemmas.{body_at_id, node_of_rule}
+use Rattle.abnfcheck.proofs.RuleIdLemmas.{body_at_id}
+use Rattle.flatgrammar.proofs.RuleNodeLemmas.{node_of_rule}
 
 -- one list ends within another
-splits : (w v u r : List ℕ) → w ++ v ≡ u ++ r → ((m : List ℕ) × (u ≡ w ++ m) × (v ≡ m ++ r))
+append_splits : (w v u r : List ℕ) → w ++ v ≡ u ++ r → ((m : List ℕ) × (u ≡ w ++ m) × (v ≡ m ++ r))
     ⊎ ((m : List ℕ) × (w ≡ u ++ m))
-splits [] v u r h = inl (u, refl, h)
-splits (c ∷ w) v [] r h = inr (c ∷ w, refl)
-splits (c ∷ w) v (b ∷ u) r h =
+append_splits [] v u r h = inl (u, refl, h)
+append_splits (c ∷ w) v [] r h = inr (c ∷ w, refl)
+append_splits (c ∷ w) v (b ∷ u) r h =
     let same : c ≡ b = cc h in
     let rest : w ++ v ≡ u ++ r = cc h in
-    ⊎_elim (λ a. inl (a.0, cc (same, a.1), a.2)) (λ a. inr (a.0, cc (same, a.1))) (splits w v u r rest)
+    ⊎_elim (λ a. inl (a.0, cc (same, a.1), a.2)) (λ a. inr (a.0, cc (same, a.1))) (append_splits w v u r rest)
 
 module _ (has : ℕ → Bool) (rules : List Rule) (limit : ℕ) (flat : Flat)
     (bodies : AreBodies rules limit flat.nodes flat.bodies) (x : List ℕ) (line : length x ≤ limit) where
@@ -136,7 +137,7 @@ module _ (has : ℕ → Bool) (rules : List Rule) (limit : ℕ) (flat : Flat)
         (run has rules limit flat bodies x line d m i at_mid.mid sp at_mid.left) o h in
         reach_all ds all s ms is (k + 1) at_mid.mid j o le n.rest behind.0 r behind.2 at_mid.right once)
         (λ inside. reach d m i j le sp u inside.0 inside.1 l (λ p st. called h (calls is (Calling.member n.is)) st))
-        (splits w v u r cut)
+        (append_splits w v u r cut)
 
     reach_some : {es : Elements} {v left : List ℕ} → DerivesSome has rules es v
         → SpellAll rules limit flat.nodes left es →
@@ -171,7 +172,7 @@ module _ (has : ℕ → Bool) (rules : List Rule) (limit : ℕ) (flat : Flat)
         reach_times ds s c m b d most is sp never (suc t) n.to at_mid.mid j o le n.turned (within_same t k b within)
         (omega (arith, few, long, some)) behind.0 r behind.2 at_mid.right once)
         (λ inside. reach e m i j le sp u inside.0 inside.1 l (λ p st. called h (calls is n.calling) st))
-        (splits w v u r cut)
+        (append_splits w v u r cut)
 
     reach_turns : {el : Element} {count : ℕ} {v : List ℕ} → DerivesTimes has rules el count v
         → (s m : ℕ) (b d : Option ℕ) → d ≡ capped_most limit b → slice_get flat.nodes s ≡ Some (Node.Turns d m) →
@@ -198,7 +199,7 @@ module _ (has : ℕ → Bool) (rules : List Rule) (limit : ℕ) (flat : Flat)
         (omega (arith, few, long)) behind.0 r behind.2 at_mid.right once)
         (λ inside. reach e m i j le sp (a ∷ u) inside.0 inside.1 (step at_i l)
         (λ p st. called h (calls is n.calling) st))
-        (splits (c ∷ w) v (a ∷ u) r cut)
+        (append_splits (c ∷ w) v (a ∷ u) r cut)
 
 front_at : (x : List ℕ) (j i : ℕ) {c : ℕ} → slice_get (take j x) i ≡ Some c → slice_get x i ≡ Some c
 front_at x zero i is = absurd (cc is)

@@ -19,7 +19,7 @@ use Rattle.abnfcheck.specs.RuleMarks as marks
 use Rattle.abnfcheck.proofs.YieldsLemmas.{letters_parts}
 use Rattle.leastset.specs.NumberMarks.{IsMarked}
 use Rattle.flatgrammar.proofs.BeforeLemmas.{get_below}
-use Rattle.flatgrammar.proofs.RuleNodeLemmas.{body_at_id}
+use Rattle.abnfcheck.proofs.RuleIdLemmas.{body_at_id}
 use Rattle.viable.specs.Pruned.{IsProductive, AreAllProductive, Keeps, keep_values, empty_rep, keep_alt, KeepsAll}
 use Rattle.viable.specs.Pruned.{keep_none, keep_more, KeepsSome, some_none, kept, dropped}
 use Rattle.viable.proofs.KeepsLemmas.{keeps_productive}
