@@ -13,7 +13,7 @@ use Rattle.abnfcheck.specs.Derivable as der
 use Rattle.abnfcheck.specs.Derivable.{small, StandsFor, Spelled, AreLetters, Derives, DerivesAll, DerivesSome}
 use Rattle.abnfcheck.specs.Derivable.{DerivesTimes, all_done, then, this, later, no_more, one_more, RuleDerives}
 use Rattle.abnfcheck.specs.Decided.{Says}
-use Rattle.abnfcheck.proofs.IsPathLemmas.{IsPath, here, step, join, split}
+use Rattle.abnfcheck.proofs.IsPathLemmas.{IsPath, here, step, paths_join, path_splits}
 use Rattle.abnfcheck.proofs.FiniteLeastLemmas.{Listed, first, further, least_is_decided}
 
 -- tests
@@ -524,7 +524,7 @@ module _ (has : ℕ → Bool) (rules : List Rule) (last : ℕ) (goes : ℕ → �
         let low = r.low in
         record {
           word = t.left.word ++ t.rest.word;
-          path = join Goes t.left.path t.rest.path;
+          path = paths_join Goes t.left.path t.rest.path;
           derives = der.rep {k = suc r.count} (omega (arith, low))
               (more_within r.count b (and_first (may b) (both s d (e.Rep (a - 1) (less b) d) i j) some) r.high)
               (one_more t.left.derives r.times);
@@ -546,7 +546,7 @@ module _ (has : ℕ → Bool) (rules : List Rule) (last : ℕ) (goes : ℕ → �
         let t = two_of d (e.Concat es) i j h in
         record {
           word = t.left.word ++ t.rest.word;
-          path = join Goes t.left.path t.rest.path;
+          path = paths_join Goes t.left.path t.rest.path;
           derives = der.concat (then t.left.derives (members_of t.rest.derives));
         }
     grown_spans (e.Alt e.none) i j h = absurd (cc h)
@@ -575,12 +575,12 @@ module _ (has : ℕ → Bool) (rules : List Rule) (last : ℕ) (goes : ℕ → �
     grown_spans (e.Name n) i j h = body_spans n i j (body_of rules n) refl h
     grown_spans (e.Prose t) i j h = absurd (cc h)
 
-  nowhere : {i j : ℕ} → IsPath Goes i [] j → i ≡ j
-  nowhere here = refl
+  empty_path_stays : {i j : ℕ} → IsPath Goes i [] j → i ≡ j
+  empty_path_stays here = refl
 
-  stays : {i j : ℕ} {w : List ℕ} → IsPath Goes i w j → i ≤ last → j ≤ last
-  stays here le = le
-  stays (step {i = i} {k = k} {c = c} is l) le = stays l (within i c k is)
+  path_stays : {i j : ℕ} {w : List ℕ} → IsPath Goes i w j → i ≤ last → j ≤ last
+  path_stays here le = le
+  path_stays (step {i = i} {k = k} {c = c} is l) le = path_stays l (within i c k is)
 
   module _ (s : Fact → Bool) (closed : (f : Fact) → Listed f (facts (last + 1) (universe rules)) → grow s f ≡ true
       → s f ≡ true) where
@@ -591,13 +591,13 @@ module _ (has : ℕ → Bool) (rules : List Rule) (last : ℕ) (goes : ℕ → �
 
     text_read : {folds : Bool} {t w : List ℕ} (i j : ℕ) → Spelled folds t w → IsPath Goes i w j
         → reads_text folds t i j ≡ true
-    text_read i j Spelled.end l = eq-eqb i j (nowhere l)
+    text_read i j Spelled.end l = eq-eqb i j (empty_path_stays l)
     text_read {folds = folds} i j (Spelled.next {t = t} {c = c} {ts = ts} h d) (step {k = k} is l) =
         moves_by (t + 33) i c k (λ c k. stands folds t c && reads_text folds ts k j) (stands_below folds t c h) is
         (and_true (stands folds t c) (reads_text folds ts k j) (stands_true folds t c h) (text_read k j d l))
 
     values_read : (vs : List ℕ) (i j : ℕ) → AreLetters has vs → IsPath Goes i vs j → reads_values vs i j ≡ true
-    values_read [] i j all l = eq-eqb i j (nowhere l)
+    values_read [] i j all l = eq-eqb i j (empty_path_stays l)
     values_read (v ∷ vs) i j all (step {k = k} is l) =
         moves_by (v + 1) i v k (λ c k. (eqb c v && has v) && reads_values vs k j) (omega arith) is
         (and_true (eqb v v && has v) (reads_values vs k j) (and_true (eqb v v) (has v) (eq-eqb v v refl) all.0)
@@ -609,7 +609,7 @@ module _ (has : ℕ → Bool) (rules : List Rule) (last : ℕ) (goes : ℕ → �
         moves_by (high + 1) i c k (λ c k. ((leb low c && leb c high) && has c) && eqb k j) (omega (arith, b)) is
         (and_true ((leb low c && leb c high) && has c) (eqb k j)
         (and_true (leb low c && leb c high) (has c) (and_true (leb low c) (leb c high) (le-leb low c a)
-        (le-leb c high b)) h) (eq-eqb k j (nowhere l)))
+        (le-leb c high b)) h) (eq-eqb k j (empty_path_stays l)))
 
     both_come : (d c : Element) (i m j : ℕ) → m ≤ last → s (fact d i m) ≡ true → s (fact c m j) ≡ true
         → both s d c i j ≡ true
@@ -628,7 +628,7 @@ module _ (has : ℕ → Bool) (rules : List Rule) (last : ℕ) (goes : ℕ → �
       derived (der.rep {a = least} {k = k} {b = most} low high d) i j l at a b =
           times_derived d i j l least most low high at a b
       derived (der.opt_empty {e = d}) i j l at a b =
-          comes (e.Opt d) i j at a b (or_first (eqb i j) (s (fact d i j)) (eq-eqb i j (nowhere l)))
+          comes (e.Opt d) i j at a b (or_first (eqb i j) (s (fact d i j)) (eq-eqb i j (empty_path_stays l)))
       derived (der.opt {e = d} h) i j l at a b =
           comes (e.Opt d) i j at a b (or_second (eqb i j) (s (fact d i j))
           (derived h i j l (universe_parts rules (e.Opt d) d at operand) a b))
@@ -638,10 +638,10 @@ module _ (has : ℕ → Bool) (rules : List Rule) (last : ℕ) (goes : ℕ → �
       all_derived : {es : Elements} {w : List ℕ} → DerivesAll has rules es w → (i j : ℕ) → IsPath Goes i w j
           → Listed (e.Concat es) (universe rules) → i ≤ last → j ≤ last →
           s (fact (e.Concat es) i j) ≡ true
-      all_derived all_done i j l at a b = comes (e.Concat e.none) i j at a b (eq-eqb i j (nowhere l))
+      all_derived all_done i j l at a b = comes (e.Concat e.none) i j at a b (eq-eqb i j (empty_path_stays l))
       all_derived (then {e = d} {es = es} {w = w} h hs) i j l at a b =
-          let c = split Goes w l in
-          let mid = stays c.left a in
+          let c = path_splits Goes w l in
+          let mid = path_stays c.left a in
           comes (e.Concat (e.more d es)) i j at a b (both_come d (e.Concat es) i c.mid j mid
           (derived h i c.mid c.left (universe_parts rules (e.Concat (e.more d es)) d at concat_first) a mid)
           (all_derived hs c.mid j c.right (universe_parts rules (e.Concat (e.more d es)) (e.Concat es) at concat_rest)
@@ -662,10 +662,10 @@ module _ (has : ℕ → Bool) (rules : List Rule) (last : ℕ) (goes : ℕ → �
           Listed (e.Rep least most d) (universe rules) → i ≤ last → j ≤ last → s (fact (e.Rep least most d) i j) ≡ true
       times_derived (no_more {e = d}) i j l least most low high at a b = comes (e.Rep least most d) i j at a b
           (or_first (leb least 0 && eqb i j) (may most && both s d (e.Rep (least - 1) (less most) d) i j)
-          (and_true (leb least 0) (eqb i j) (le-leb least 0 low) (eq-eqb i j (nowhere l))))
+          (and_true (leb least 0) (eqb i j) (le-leb least 0 low) (eq-eqb i j (empty_path_stays l))))
       times_derived (one_more {e = d} {k = k} {w = w} h hs) i j l least most low high at a b =
-          let c = split Goes w l in
-          let mid = stays c.left a in
+          let c = path_splits Goes w l in
+          let mid = path_stays c.left a in
           let left = less_within k most high in
           comes (e.Rep least most d) i j at a b (or_second (leb least 0 && eqb i j)
           (may most && both s d (e.Rep (least - 1) (less most) d) i j)

@@ -100,35 +100,36 @@ many-is_full none h = h
 many-is_full (more x xs) h = tt
 
 mutual
-  pub spelled : (x : Element) → IsFormed x → Spelled x
-  spelled (Text c t) w = fits-element (λ g ws. text)
-  spelled (Values vs) w = fits-element (λ g ws. values)
-  spelled (Range a b) w = fits-element (λ g ws. range)
-  spelled (Concat xs) w = fits-one (λ g ws. record {
+  pub formed-spelled : (x : Element) → IsFormed x → Spelled x
+  formed-spelled (Text c t) w = fits-element (λ g ws. text)
+  formed-spelled (Values vs) w = fits-element (λ g ws. values)
+  formed-spelled (Range a b) w = fits-element (λ g ws. range)
+  formed-spelled (Concat xs) w = fits-one (λ g ws. record {
     parts = xs;
     same = concatenation-same xs w.0;
     spelled = spelled-members xs w.1 (many-is_full xs w.0) g ws;
   })
-  spelled (Alt xs) w = fits-whole (λ g ws. subst (λ (x : Element). Alternation (listed_alternatives xs g ws) ws x)
+  formed-spelled (Alt xs) w = fits-whole (λ g ws.
+      subst (λ (x : Element). Alternation (listed_alternatives xs g ws) ws x)
       (alternation-same xs w.0) (alternatives (spelled-alternatives xs w.1 (many-is_full xs w.0) g ws)))
-  spelled (Rep a b x) w = let h = spelled x w.1 in
+  formed-spelled (Rep a b x) w = let h = formed-spelled x w.1 in
       fits-repetition (λ g ws. repeated (leads-no_gap _ (leads-at (wraps Repeated x) x w.1 false ws))
       (h.element false ws))
-  spelled (Opt x) w = let h = spelled x w in fits-element (λ g ws. brackets (h.whole false _))
-  spelled (Name n) w = fits-element (λ g ws. name)
-  spelled (Prose t) w = fits-element (λ g ws. prose)
+  formed-spelled (Opt x) w = let h = formed-spelled x w in fits-element (λ g ws. brackets (h.whole false _))
+  formed-spelled (Name n) w = fits-element (λ g ws. name)
+  formed-spelled (Prose t) w = fits-element (λ g ws. prose)
 
   pub spelled-members : (xs : Elements) → AreFormed xs → IsFull xs → (g : Bool) (ws : List Word)
       → Parts (listed_members xs g ws) ws xs
   spelled-members none w h g ws = absurd h
-  spelled-members (more x none) w h g ws = one ((spelled x w.0).repetition g _)
+  spelled-members (more x none) w h g ws = one ((formed-spelled x w.0).repetition g _)
   spelled-members (more x (more y xs)) w h g ws =
-      further ((spelled x w.0).repetition g _) (leads-gap _ (leads-at (wraps Member y) y w.1.0 true _))
+      further ((formed-spelled x w.0).repetition g _) (leads-gap _ (leads-at (wraps Member y) y w.1.0 true _))
       (spelled-members (more y xs) w.1 tt true ws)
 
   pub spelled-alternatives : (xs : Elements) → AreFormed xs → IsFull xs → (g : Bool) (ws : List Word)
       → Alternatives (listed_alternatives xs g ws) ws xs
   spelled-alternatives none w h g ws = absurd h
-  spelled-alternatives (more x none) w h g ws = alternatives-last ((spelled x w.0).one_of g _)
+  spelled-alternatives (more x none) w h g ws = alternatives-last ((formed-spelled x w.0).one_of g _)
   spelled-alternatives (more x (more y xs)) w h g ws =
-      and-more ((spelled x w.0).one_of g _) (spelled-alternatives (more y xs) w.1 tt true ws)
+      and-more ((formed-spelled x w.0).one_of g _) (spelled-alternatives (more y xs) w.1 tt true ws)

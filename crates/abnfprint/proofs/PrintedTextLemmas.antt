@@ -109,54 +109,56 @@ most-fits None h = tt
 most-fits (Some n) h = omega arith
 
 mutual
-  adds : (x : Element) → IsFormed x → Adds (text_of x) (listed x)
-  adds (Text true t) h = adds-token (text-token t h)
-  adds (Text false t) h = adds-token (cased-token t h)
-  adds (Values []) h = absurd h.0
-  adds (Values (v ∷ vs)) h = adds-followed (values-token v vs)
-  adds (Range a b) h = adds-followed (range-token a b)
-  adds (Concat xs) h = adds-members xs h.0 h.1
-  adds (Alt xs) h = adds-alternatives xs h.0 h.1
-  adds (Rep a b x) h = record {
+  text-adds : (x : Element) → IsFormed x → Adds (text_of x) (listed x)
+  text-adds (Text true t) h = adds-token (text-token t h)
+  text-adds (Text false t) h = adds-token (cased-token t h)
+  text-adds (Values []) h = absurd h.0
+  text-adds (Values (v ∷ vs)) h = adds-followed (values-token v vs)
+  text-adds (Range a b) h = adds-followed (range-token a b)
+  text-adds (Concat xs) h = adds-members xs h.0 h.1
+  text-adds (Alt xs) h = adds-alternatives xs h.0 h.1
+  text-adds (Rep a b x) h = record {
     adds = λ g r ws w c. (
         let rest = around (wraps Repeated x) (text_of x) in
         subst (λ (y : List ℕ). Cuts None g y (word g false (words.Repeat a b)
         ∷ within (wraps Repeated x) (listed x) false ws)) (sym (append_assoc (repeat_text a b) rest r))
         (token-cut (repeat-token a b (let l = h.0.0 in omega arith) (most-fits b h.0.1)) (rest ++ r)
         (operand-start x r h.1)
-        ((adds-around (wraps Repeated x) (adds x h.1)).adds false r ws w c)));
+        ((adds-around (wraps Repeated x) (text-adds x h.1)).adds false r ws w c)));
   }
-  adds (Opt x) h = adds-option (adds x h)
-  adds (Name n) h = adds-followed (name-token nowhere h)
-  adds (Prose t) h = adds-token (prose-token t h)
+  text-adds (Opt x) h = adds-option (text-adds x h)
+  text-adds (Name n) h = adds-followed (name-token nowhere h)
+  text-adds (Prose t) h = adds-token (prose-token t h)
 
   adds-members : (xs : Elements) → AreMany xs → AreFormed xs → Adds (joined Member (codes " ") xs) (listed_members xs)
   adds-members none m h = absurd m
-  adds-members (more x xs) m h = adds-both (follows-members xs) (adds-around (wraps Member x) (adds x h.0))
+  adds-members (more x xs) m h = adds-both (follows-members xs) (adds-around (wraps Member x) (text-adds x h.0))
       (goes-members xs h.1)
 
   goes-members : (xs : Elements) → AreFormed xs → Goes (more_joined Member (codes " ") xs) (listed_members xs true)
   goes-members none h = goes-nothing
-  goes-members (more x xs) h = goes-member (adds-both (follows-members xs) (adds-around (wraps Member x) (adds x h.0))
+  goes-members (more x xs) h =
+      goes-member (adds-both (follows-members xs) (adds-around (wraps Member x) (text-adds x h.0))
       (goes-members xs h.1))
 
   adds-alternatives : (xs : Elements) → AreMany xs → AreFormed xs → Adds (joined Alternative (codes " / ") xs)
       (listed_alternatives xs)
   adds-alternatives none m h = absurd m
   adds-alternatives (more x xs) m h = adds-both (follows-alternatives xs)
-      (adds-around (wraps Alternative x) (adds x h.0)) (goes-alternatives xs h.1)
+      (adds-around (wraps Alternative x) (text-adds x h.0)) (goes-alternatives xs h.1)
 
   goes-alternatives : (xs : Elements) → AreFormed xs → Goes (more_joined Alternative (codes " / ") xs) (listed_more xs)
   goes-alternatives none h = goes-nothing
   goes-alternatives (more x xs) h = goes-alternative
-      (adds-both (follows-alternatives xs) (adds-around (wraps Alternative x) (adds x h.0)) (goes-alternatives xs h.1))
+      (adds-both (follows-alternatives xs) (adds-around (wraps Alternative x) (text-adds x h.0))
+      (goes-alternatives xs h.1))
 
 adds-rule : (n : List ℕ) (q : Span) (x : Element) → IsName n → IsFormed x → {g : Bool} (r : List ℕ) (ws : List Word)
     → Cuts (Some 0) true r ws →
     Cuts (Some 0) g ((n ++ (codes " = " ++ (text_of x ++ 10 ∷ []))) ++ r)
     (word g true (words.Name n q) ∷ word true false words.Is ∷ listed x true ws)
 adds-rule n q x h k {g} r ws c =
-    let body = (adds x k).adds true (10 ∷ r) ws line (blanked refl c) in
+    let body = (text-adds x k).adds true (10 ∷ r) ws line (blanked refl c) in
     let front : Cuts (Some 0) g (n ++ (codes " = " ++ (text_of x ++ 10 ∷ r)))
     (word g true (words.Name n q) ∷ word true false words.Is ∷ listed x true ws) =
     token-cut (name-token q h) (codes " = " ++ (text_of x ++ 10 ∷ r)) space

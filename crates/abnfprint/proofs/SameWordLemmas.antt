@@ -11,7 +11,7 @@ use Rattle.abnfread.specs.AbnfWords.{Said, Word, word}
 use Rattle.abnfread.specs.Element.{Element, Elements, Rule, Definition}
 use Rattle.abnfprint.specs.FormedAbnf.{AreFormedRules, IsSome}
 use Rattle.abnfprint.proofs.AbnfListedLemmas.{listed, listed_rules}
-use Rattle.abnfprint.proofs.AbnfSpelledLemmas.{spelled}
+use Rattle.abnfprint.proofs.AbnfSpelledLemmas.{formed-spelled}
 
 pub data SameSaid : Said → Said → Type 0 where
   same_said : {s : Said} → SameSaid s s
@@ -142,12 +142,12 @@ pub rules-again : (g : Bool) (rules : List Rule) {vs : List Word} → IsSome rul
     → SameWords (listed_rules g rules) vs → SpellsAgain vs rules
 rules-again g [] n w h = absurd n
 rules-again g (rule ∷ []) n w (same_more same_said (same_more same_said h)) =
-    last-again g rule rule.span ((spelled rule.body w.1).whole _ _) h
+    last-again g rule rule.span ((formed-spelled rule.body w.1).whole _ _) h
 rules-again g (rule ∷ []) n w (same_more (same_name {q = q}) (same_more same_said h)) =
-    last-again g rule q ((spelled rule.body w.1).whole _ _) h
+    last-again g rule q ((formed-spelled rule.body w.1).whole _ _) h
 rules-again g (rule ∷ next ∷ rules) n w (same_more same_said (same_more same_said h)) =
-    let a = alternation-also ((spelled rule.body w.1).whole true (listed_rules true (next ∷ rules))) h in
+    let a = alternation-also ((formed-spelled rule.body w.1).whole true (listed_rules true (next ∷ rules))) h in
     first-again g rule (next ∷ rules) rule.span a.spells (rules-again true (next ∷ rules) tt w.2 a.same)
 rules-again g (rule ∷ next ∷ rules) n w (same_more (same_name {q = q}) (same_more same_said h)) =
-    let a = alternation-also ((spelled rule.body w.1).whole true (listed_rules true (next ∷ rules))) h in
+    let a = alternation-also ((formed-spelled rule.body w.1).whole true (listed_rules true (next ∷ rules))) h in
     first-again g rule (next ∷ rules) q a.spells (rules-again true (next ∷ rules) tt w.2 a.same)

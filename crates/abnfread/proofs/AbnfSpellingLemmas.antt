@@ -98,17 +98,17 @@ module _ (K : Element → List Word → Type 0) (bs es : Elements) where
       goes (parts n (further y k ys)) z in rw same t
 
   -- behind a repetition another one begins, with white space between
-  join : {s : List Word} → HasGap s → Begun K bs es s → Going K bs es s
-  join n (m, x, y, (r, ys, tail, k)) = (r, ys, join-tail n y tail, k)
+  going-joined : {s : List Word} → HasGap s → Begun K bs es s → Going K bs es s
+  going-joined n (m, x, y, (r, ys, tail, k)) = (r, ys, join-tail n y tail, k)
 
   -- the alternation ends here
   ends-here : (s : List Word) → K (finish bs es) s → Going K bs es s
   ends-here s k = (s, snoc bs (concatenation es), ends no_part, k)
 
   -- a slash ends the concatenation
-  slashed : (g : Bool) {s : List Word} → Begun K (snoc bs (concatenation es)) none s
+  going-slashed : (g : Bool) {s : List Word} → Begun K (snoc bs (concatenation es)) none s
       → Going K bs es (word g false Slash ∷ s)
-  slashed g {s} (m, x, y, (r, ys, tail, k)) =
+  going-slashed g {s} (m, x, y, (r, ys, tail, k)) =
       let a = all-alternatives (snoc bs (concatenation es)) y tail in
       let same : ys ≡ append bs (more (concatenation es) a.0) = a.2 ∙ append_assoc bs (more (concatenation es) none)
       a.0 in
@@ -118,9 +118,9 @@ module _ (K : Element → List Word → Type 0) (bs es : Elements) where
   just-one : {s : List Word} → Entered K bs es just s → Begun K bs es s
   just-one (m, x, y, k) = (m, x, once y, k)
 
-  counted : (g : Bool) (a : ℕ) (b : Option ℕ) {s : List Word} → HasNoGap s → Entered K bs es (times a b) s
+  begun-counted : (g : Bool) (a : ℕ) (b : Option ℕ) {s : List Word} → HasNoGap s → Entered K bs es (times a b) s
       → Begun K bs es (word g false (Repeat a b) ∷ s)
-  counted g a b n (m, x, y, k) = (m, Rep a b x, repeated n y, k)
+  begun-counted g a b n (m, x, y, k) = (m, Rep a b x, repeated n y, k)
 
 back-element : (d : List Definition) (h : Head) (o : List Level) (bs es : Elements) (t : Times) (g : Bool) (q : Said)
     (s : List Word) → RestOf d (element_step h o bs es t q) s → Entered (Close d h o) bs es t (word g false q ∷ s)
@@ -147,12 +147,12 @@ back-element d h o bs es t g End s k = absurd k
 
 back-fresh : (d : List Definition) (h : Head) (o : List Level) (bs es : Elements) (g : Bool) (q : Said) (s : List Word)
     → RestOf d (fresh_step h o bs es q) s → Begun (Close d h o) bs es (word g false q ∷ s)
-back-fresh d h o bs es g (Repeat a b) s k = counted (Close d h o) bs es g a b k.0 k.1
+back-fresh d h o bs es g (Repeat a b) s k = begun-counted (Close d h o) bs es g a b k.0 k.1
 back-fresh d h o bs es g q s k = just-one (Close d h o) bs es (back-element d h o bs es just g q s k)
 
 back-gapped : (d : List Definition) (h : Head) (o : List Level) (bs es : Elements) (g : Bool) (q : Said) (s : List Word)
     → RestOf d (read_step h o bs es g q) s → Going (Close d h o) bs es (word g false q ∷ s)
-back-gapped d h o bs es g Slash s k = slashed (Close d h o) bs es g k
+back-gapped d h o bs es g Slash s k = going-slashed (Close d h o) bs es g k
 back-gapped d h [] bs es g RParen s k = absurd k
 back-gapped d h (level b f t paren ∷ o) bs es g RParen s k = ends-here (Close d h (level b f t paren ∷ o)) bs es
     (word g false RParen ∷ s) (s, g, refl, k)
@@ -164,7 +164,7 @@ back-gapped d h (level b f t brack ∷ o) bs es g RBrack s k = ends-here (Close 
 back-gapped d h [] bs es g End s k = ends-here (Close d h []) bs es (word g false End ∷ s)
     (inl (g, ap (λ (y : List Word). word g false End ∷ y) k.0, k.1))
 back-gapped d h (l ∷ o) bs es g End s k = absurd k
-back-gapped d h o bs es true q s k = join (Close d h o) bs es refl (back-fresh d h o bs es true q s k)
+back-gapped d h o bs es true q s k = going-joined (Close d h o) bs es refl (back-fresh d h o bs es true q s k)
 back-gapped d h o bs es false q s k = absurd k
 
 -- a rule's body and what follows

@@ -51,9 +51,9 @@ module _ (has : ℕ → Bool) (rules : List Rule) where
       by (der.range {c = c} from to is) = not (record { letter = c; from = from; to = to; is = is })
 
   -- repetitions
-  pub reversed : (a : ℕ) (b : Option ℕ) (el : Element) → (der.Within a b → ⊥)
+  pub reversed_unproductive : (a : ℕ) (b : Option ℕ) (el : Element) → (der.Within a b → ⊥)
       → IsProductive has rules (e.Rep a b el) → ⊥
-  reversed a b el not p = by p.derives
+  reversed_unproductive a b el not p = by p.derives
     where
       less : (k : ℕ) (b : Option ℕ) → a ≤ k → der.Within k b → der.Within a b
       less k None low high = tt
