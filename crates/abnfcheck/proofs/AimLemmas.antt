@@ -120,15 +120,15 @@ module _ (alphabet : Alphabet) (has : ℕ → Bool) (test : has ≡ in_alphabet 
       }
 
 -- what the code tells of them, by the aim
-nothing : (t : List ℕ) → (length t == 0) ≡ true → t ≡ []
-nothing t e = nil_from_length t (eqb-true (length t) 0 e)
+length_zero_is_empty : (t : List ℕ) → (length t == 0) ≡ true → t ≡ []
+length_zero_is_empty t e = nil_from_length t (eqb-true (length t) 0 e)
 
 module _ (aim : Aim) (is : aim ≡ Empty) (has : ℕ → Bool) (rules : List Rule) where
   pub empty_text_told : (folds : Bool) (t : List ℕ) (met : Bool) → met ≡ (length t == 0) → IsTrue met
       ↔ Yields has rules aim (e.Text folds t)
   empty_text_told folds t met e =
       rw is (
-        (λ on. empty_text has rules folds t (nothing t (sym e ∙ on))),
+        (λ on. empty_text has rules folds t (length_zero_is_empty t (sym e ∙ on))),
         (λ y. e ∙ ap (λ (l : List ℕ). length l == 0) (text_empty has rules folds t y)),
       )
 
@@ -136,7 +136,7 @@ module _ (aim : Aim) (is : aim ≡ Empty) (has : ℕ → Bool) (rules : List Rul
       ↔ Yields has rules aim (e.Values vs)
   empty_values_told vs met e =
       rw is (
-        (λ on. empty_values has rules vs (nothing vs (sym e ∙ on))),
+        (λ on. empty_values has rules vs (length_zero_is_empty vs (sym e ∙ on))),
         (λ y. e ∙ ap (λ (l : List ℕ). length l == 0) (values_empty has rules vs y)),
       )
 

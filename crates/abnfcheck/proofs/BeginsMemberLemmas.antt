@@ -4,15 +4,16 @@ use Rattle.std.proofs.Common.{◌≡◌, ℕ, zero, suc, ◌+◌, ◌<◌, ◌�
 use Rattle.std.proofs.Common.{[], ◌∷◌, ◌++◌, length, Option, Some, None, refl, sym, ◌∙◌, ap, subst, arith, eqb-true}
 use Rattle.std.proofs.Common.{eq-eqb, ⊎_elim}
 use Rattle.std.specs.Prelude.{slice_get, take}
+use Rattle.std.proofs.lemmas.Bool.{cases_lt}
 use Rattle.std.proofs.lemmas.List.{append-nil}
 use Rattle.abnfread.specs.Element.{Rule}
 use Rattle.abnfcheck.specs.Beginnings.{BeginsMember, IsFurthest}
 use Rattle.abnfcheck.specs.Decided.{Says}
 use Rattle.abnfcheck.specs.Derivable.{AreLetters, RuleDerives}
-use Rattle.abnfcheck.proofs.DerivesDecidedLemmas.{and_first, and_second, and_true, or_true, or_first, or_second, order}
+use Rattle.abnfcheck.proofs.DerivesDecidedLemmas.{and_first, and_second, and_true, or_true, or_first, or_second}
 use Rattle.abnfcheck.proofs.DerivesDecidedLemmas.{RulePath, rule_path_is_decided}
-use Rattle.abnfcheck.proofs.IsPathLemmas.{IsPath, here, step, join}
-use Rattle.abnfcheck.proofs.LiesLemmas.{OnLine, Lies, only, all_of}
+use Rattle.abnfcheck.proofs.IsPathLemmas.{IsPath, here, step, paths_join}
+use Rattle.abnfcheck.proofs.LiesLemmas.{OnLine, Lies, lies_one_word, all_of}
 
 abbrev is_that : ℕ → Option ℕ → Bool
 is_that c None = false
@@ -39,8 +40,8 @@ module _ (more : ℕ → Bool) (x : List ℕ) where
   abbrev Goes : ℕ → ℕ → ℕ → Type 0
   Goes i c k = goes i c k ≡ true
 
-  move : (i c k : ℕ) → goes i c k ≡ true → OnLine x i c k ⊎ ((more c ≡ true) × (i ≡ length x) × (k ≡ length x))
-  move i c k h = ⊎_elim
+  goes_moves : (i c k : ℕ) → goes i c k ≡ true → OnLine x i c k ⊎ ((more c ≡ true) × (i ≡ length x) × (k ≡ length x))
+  goes_moves i c k h = ⊎_elim
       (λ l. inl (
         that_is c (slice_get x i) (and_first (is_that c (slice_get x i)) (eqb (i + 1) k) l),
         eqb-true (i + 1) k (and_second (is_that c (slice_get x i)) (eqb (i + 1) k) l),
@@ -54,9 +55,9 @@ module _ (more : ℕ → Bool) (x : List ℕ) where
       ))
       (or_true (is_that c (slice_get x i) && eqb (i + 1) k) (more c && (eqb i (length x) && eqb k (length x))) h)
 
-  within : (i c k : ℕ) → goes i c k ≡ true → k ≤ length x
-  within i c k h = ⊎_elim (λ on. let lt = stands_before x i c on.0 in omega (arith, lt, on.1))
-      (λ end. omega (arith, end.2)) (move i c k h)
+  goes_within : (i c k : ℕ) → goes i c k ≡ true → k ≤ length x
+  goes_within i c k h = ⊎_elim (λ on. let lt = stands_before x i c on.0 in omega (arith, lt, on.1))
+      (λ end. omega (arith, end.2)) (goes_moves i c k h)
 
   -- a list of letters, cut at the line's end
   record Parts (i : ℕ) (w : List ℕ) : Type 0 where
@@ -85,7 +86,7 @@ module _ (more : ℕ → Bool) (x : List ℕ) where
         parts = ap (λ v. c ∷ v) p.parts;
       })
       (λ end.
-      let none : p.front ≡ [] = only x (subst (λ v. Lies x v p.front (length x)) end.2 p.lies) here in
+      let none : p.front ≡ [] = lies_one_word x (subst (λ v. Lies x v p.front (length x)) end.2 p.lies) here in
       record {
         front = [];
         rest = c ∷ p.rest;
@@ -93,25 +94,25 @@ module _ (more : ℕ → Bool) (x : List ℕ) where
         letters = (end.0, p.letters);
         parts = ap (λ v. c ∷ v) (subst (λ v. v ++ p.rest ≡ w) none p.parts);
       })
-      (move i c k is)
+      (goes_moves i c k is)
 
-  along : {i j : ℕ} {w : List ℕ} → Lies x i w j → IsPath Goes i w j
-  along here = here
-  along (step {i = i} {k = k} {c = c} is l) = step
+  lies_path : {i j : ℕ} {w : List ℕ} → Lies x i w j → IsPath Goes i w j
+  lies_path here = here
+  lies_path (step {i = i} {k = k} {c = c} is l) = step
       (or_first (is_that c (slice_get x i) && eqb (i + 1) k) (more c && (eqb i (length x) && eqb k (length x)))
       (and_true (is_that c (slice_get x i)) (eqb (i + 1) k) (is_that_one c (slice_get x i) is.0)
       (eq-eqb (i + 1) k is.1)))
-      (along l)
+      (lies_path l)
 
-  behind : (v : List ℕ) → AreLetters more v → IsPath Goes (length x) v (length x)
-  behind [] all = here
-  behind (c ∷ v) all = step
+  letters_path : (v : List ℕ) → AreLetters more v → IsPath Goes (length x) v (length x)
+  letters_path [] all = here
+  letters_path (c ∷ v) all = step
       (or_second (is_that c (slice_get x (length x)) && eqb (length x + 1) (length x))
       (more c && (eqb (length x) (length x) && eqb (length x) (length x)))
       (and_true (more c) (eqb (length x) (length x) && eqb (length x) (length x)) all.0
       (and_true (eqb (length x) (length x)) (eqb (length x) (length x)) (eq-eqb (length x) (length x) refl)
       (eq-eqb (length x) (length x) refl))))
-      (behind v all.1)
+      (letters_path v all.1)
 
   module _ (has : ℕ → Bool) (rules : List Rule) (id : ℕ) where
     -- the rule derives x with some letters of `more` behind it
@@ -120,10 +121,10 @@ module _ (more : ℕ → Bool) (x : List ℕ) where
       letters : AreLetters more rest
       derives : RuleDerives has rules id (x ++ rest)
 
-    longer : RulePath has rules (length x) goes within id 0 (length x) → Longer
+    longer : RulePath has rules (length x) goes goes_within id 0 (length x) → Longer
     longer r =
         let p = parts_of r.path refl in
-        let whole : p.front ≡ x = only x p.lies (all_of x) in
+        let whole : p.front ≡ x = lies_one_word x p.lies (all_of x) in
         record {
           rest = p.rest;
           letters = p.letters;
@@ -131,18 +132,18 @@ module _ (more : ℕ → Bool) (x : List ℕ) where
               (subst (λ v. RuleDerives has rules id v) (sym p.parts) r.derives);
         }
 
-    leads : Longer → RulePath has rules (length x) goes within id 0 (length x)
+    leads : Longer → RulePath has rules (length x) goes goes_within id 0 (length x)
     leads l = record {
       word = x ++ l.rest;
-      path = join Goes (along (all_of x)) (behind l.rest l.letters);
+      path = paths_join Goes (lies_path (all_of x)) (letters_path l.rest l.letters);
       derives = l.derives;
     }
 
     longer_is_decided : (yes : Bool) × Says Longer yes
-    longer_is_decided = let h = rule_path_is_decided has rules (length x) goes within id 0 (length x) (omega arith)
+    longer_is_decided = let h = rule_path_is_decided has rules (length x) goes goes_within id 0 (length x) (omega arith)
         (omega arith) in by h.0 h.1
       where
-        by : (said : Bool) → Says (RulePath has rules (length x) goes within id 0 (length x)) said → (yes : Bool)
+        by : (said : Bool) → Says (RulePath has rules (length x) goes goes_within id 0 (length x)) said → (yes : Bool)
             × Says Longer yes
         by true r = (true, longer r)
         by false none = (false, λ l. none (leads l))
@@ -186,9 +187,10 @@ module _ (has : ℕ → Bool) (rules : List Rule) (id : ℕ) (x : List ℕ) wher
   abbrev NoneAbove : ℕ → Type 0
   NoneAbove n = (m : ℕ) → n < m → m ≤ length x → BeginsMember has rules id x m → ⊥
 
-  down : (n : ℕ) → n ≤ length x → NoneAbove n → (k : ℕ) × IsFurthest has rules id x k
-  down zero le above = (0, record { within = le; begins = λ h. absurd (omega (arith, h)); last = above })
-  down (suc n) le above = let h = begins_is_decided (suc n) in by h.0 h.1 (λ none. down n (omega (arith, le)) none)
+  furthest_below : (n : ℕ) → n ≤ length x → NoneAbove n → (k : ℕ) × IsFurthest has rules id x k
+  furthest_below zero le above = (0, record { within = le; begins = λ h. absurd (omega (arith, h)); last = above })
+  furthest_below (suc n) le above =
+      let h = begins_is_decided (suc n) in by h.0 h.1 (λ none. furthest_below n (omega (arith, le)) none)
     where
       by : (said : Bool) → Says (BeginsMember has rules id x (suc n)) said
           → (NoneAbove n → (k : ℕ) × IsFurthest has rules id x k) →
@@ -198,10 +200,10 @@ module _ (has : ℕ → Bool) (rules : List Rule) (id : ℕ) (x : List ℕ) wher
           (λ less. above m less most b)
           (λ same. let is : m ≡ suc n = omega (arith, lt, same) in
           none (subst (λ v. BeginsMember has rules id x v) is b))
-          (order (suc n) m))
+          (cases_lt (suc n) m))
 
-  pub furthest : (n : ℕ) × IsFurthest has rules id x n
-  furthest = down (length x) (omega arith) (λ m lt most b. absurd (omega (arith, lt, most)))
+  pub furthest_found : (n : ℕ) × IsFurthest has rules id x n
+  furthest_found = furthest_below (length x) (omega arith) (λ m lt most b. absurd (omega (arith, lt, most)))
 
   not_further : (a b : ℕ) → IsFurthest has rules id x a → IsFurthest has rules id x b → a < b → ⊥
   not_further a b f g lt = f.last b lt g.within (g.begins (omega (arith, lt)))
@@ -209,5 +211,5 @@ module _ (has : ℕ → Bool) (rules : List Rule) (id : ℕ) (x : List ℕ) wher
   pub one_furthest : (a b : ℕ) → IsFurthest has rules id x a → IsFurthest has rules id x b → a ≡ b
   one_furthest a b f g = ⊎_elim
       (λ lt. absurd (not_further a b f g lt))
-      (λ le. ⊎_elim (λ lt. absurd (not_further b a g f lt)) (λ same. omega (arith, le, same)) (order b a))
-      (order a b)
+      (λ le. ⊎_elim (λ lt. absurd (not_further b a g f lt)) (λ same. omega (arith, le, same)) (cases_lt b a))
+      (cases_lt a b)

@@ -4,6 +4,7 @@ use Rattle.std.proofs.Common.{◌≡◌, ℕ, zero, suc, ◌+◌, ◌-◌, ◌<�
 use Rattle.std.proofs.Common.{eqb, ltb, leb, List, [], ◌∷◌, ◌++◌, Option, Some, None, refl, sym, ◌∙◌, ap, subst, arith}
 use Rattle.std.proofs.Common.{eqb-true, eq-eqb, ltb-true, lt-ltb, leb-true, le-leb, ⊎_elim}
 use Rattle.std.specs.Prelude.{slice_get}
+use Rattle.std.proofs.lemmas.Bool.{cases_lt}
 use Rattle.ruletable.specs.Rules.{same_name}
 use Rattle.ruletable.specs.declared.table.NameCase.TheVariants.{Fold}
 use Rattle.abnfread.specs.Element as e
@@ -12,7 +13,7 @@ use Rattle.abnfcheck.specs.Derivable as der
 use Rattle.abnfcheck.specs.Derivable.{small, StandsFor, Spelled, AreLetters, Derives, DerivesAll, DerivesSome}
 use Rattle.abnfcheck.specs.Derivable.{DerivesTimes, all_done, then, this, later, no_more, one_more, RuleDerives}
 use Rattle.abnfcheck.specs.Decided.{Says}
-use Rattle.abnfcheck.proofs.IsPathLemmas.{IsPath, here, step, join, split}
+use Rattle.abnfcheck.proofs.IsPathLemmas.{IsPath, here, step, paths_join, path_splits}
 use Rattle.abnfcheck.proofs.FiniteLeastLemmas.{Listed, first, further, least_is_decided}
 
 -- tests
@@ -49,17 +50,11 @@ any_found : (n : ℕ) (f : ℕ → Bool) → any n f ≡ true → (k : ℕ) × (
 any_found zero f h = absurd (cc h)
 any_found (suc n) f h = ⊎_elim (λ is. (n, is)) (λ rest. any_found n f rest) (or_true (f n) (any n f) h)
 
-pub order : (j k : ℕ) → (j < k) ⊎ (k ≤ j)
-order zero zero = inr (omega arith)
-order zero (suc k) = inl (omega arith)
-order (suc j) zero = inr (omega arith)
-order (suc j) (suc k) = ⊎_elim (λ lt. inl (omega (arith, lt))) (λ le. inr (omega (arith, le))) (order j k)
-
 any_at : (n k : ℕ) (f : ℕ → Bool) → k < n → f k ≡ true → any n f ≡ true
 any_at zero k f lt h = absurd (omega (arith, lt))
 any_at (suc n) k f lt h = ⊎_elim (λ less. or_second (f n) (any n f) (any_at n k f less h))
     (λ le. let same : k ≡ n = omega (arith, lt, le) in or_first (f n) (any n f) (subst (λ v. f v ≡ true) same h))
-    (order k n)
+    (cases_lt k n)
 
 -- f at each number below n
 abbrev every : {A : Type 0} → ℕ → (ℕ → A) → List A
@@ -86,7 +81,7 @@ one_side (x ∷ xs) (further h) = ⊎_elim (λ l. inl (further l)) (λ r. inr r)
 in_every : {A : Type 0} (n k : ℕ) (f : ℕ → A) → k < n → Listed (f k) (every n f)
 in_every zero k f lt = absurd (omega (arith, lt))
 in_every (suc n) k f lt = ⊎_elim (λ less. further (in_every n k f less))
-    (λ le. let same : k ≡ n = omega (arith, lt, le) in first (ap f same)) (order k n)
+    (λ le. let same : k ≡ n = omega (arith, lt, le) in first (ap f same)) (cases_lt k n)
 
 from_every : {A : Type 0} (n : ℕ) (f : ℕ → A) (a : A) → Listed a (every n f) → (k : ℕ) × (k < n) × (a ≡ f k)
 from_every zero f a h = elim h [ ]
@@ -97,7 +92,7 @@ in_each : {A : Type 0} (n k : ℕ) (f : ℕ → List A) {a : A} → k < n → Li
 in_each zero k f lt h = absurd (omega (arith, lt))
 in_each (suc n) k f {a = a} lt h = ⊎_elim (λ less. on_right (f n) (in_each n k f less h))
     (λ le. let same : k ≡ n = omega (arith, lt, le) in on_left (each n f) (subst (λ v. Listed a (f v)) same h))
-    (order k n)
+    (cases_lt k n)
 
 from_each : {A : Type 0} (n : ℕ) (f : ℕ → List A) (a : A) → Listed a (each n f) → (k : ℕ) × (k < n) × Listed a (f k)
 from_each zero f a h = elim h [ ]
@@ -149,18 +144,18 @@ turns_itself a None d = in_every (a + 1) a (λ k. e.Rep k None d) (omega arith)
 turns_itself a (Some b) d = in_each (a + 1) a (λ k. every (b + 1) (λ l. e.Rep k (Some l) d)) (omega arith)
     (in_every (b + 1) b (λ l. e.Rep a (Some l) d) (omega arith))
 
-itself : (d : Element) → Listed d (subs d)
-itself (e.Text folds t) = first refl
-itself (e.Values vs) = first refl
-itself (e.Range low high) = first refl
-itself (e.Concat e.none) = first refl
-itself (e.Concat (e.more d es)) = first refl
-itself (e.Alt e.none) = first refl
-itself (e.Alt (e.more d es)) = first refl
-itself (e.Rep a b d) = on_left (subs d) (turns_itself a b d)
-itself (e.Opt d) = first refl
-itself (e.Name n) = first refl
-itself (e.Prose t) = first refl
+listed_itself : (d : Element) → Listed d (subs d)
+listed_itself (e.Text folds t) = first refl
+listed_itself (e.Values vs) = first refl
+listed_itself (e.Range low high) = first refl
+listed_itself (e.Concat e.none) = first refl
+listed_itself (e.Concat (e.more d es)) = first refl
+listed_itself (e.Alt e.none) = first refl
+listed_itself (e.Alt (e.more d es)) = first refl
+listed_itself (e.Rep a b d) = on_left (subs d) (turns_itself a b d)
+listed_itself (e.Opt d) = first refl
+listed_itself (e.Name n) = first refl
+listed_itself (e.Prose t) = first refl
 
 -- the parts of a repetition
 rep_part : (a : ℕ) (b : Option ℕ) (d c : Element) → Part (e.Rep a b d) c → (c ≡ d) ⊎ (c ≡ e.Rep (a - 1) (less b) d)
@@ -206,13 +201,13 @@ mutual
   parts_in (e.Alt es) x c h p = alt_parts_in es x c h p
   parts_in (e.Rep a b d) x c h p = ⊎_elim
       (λ l. ⊎_elim (λ t. on_left (subs d) t) (λ same. on_right (turns a b d)
-      (subst (λ v. Listed v (subs d)) (sym same) (itself d))) (in_turns a b d x c l p))
+      (subst (λ v. Listed v (subs d)) (sym same) (listed_itself d))) (in_turns a b d x c l p))
       (λ r. on_right (turns a b d) (parts_in d x c r p))
       (one_side (turns a b d) h)
   parts_in (e.Opt d) x c (first same) p = inner (subst (λ v. Part v c) same p)
     where
       inner : {c : Element} → Part (e.Opt d) c → Listed c (subs (e.Opt d))
-      inner operand = further (itself d)
+      inner operand = further (listed_itself d)
   parts_in (e.Opt d) x c (further h) p = further (parts_in d x c h p)
   parts_in (e.Name n) x c (first same) p = none_of (subst (λ v. Part v c) same p)
     where
@@ -234,8 +229,8 @@ mutual
   concat_parts_in (e.more d es) x c (first same) p = inner (subst (λ v. Part v c) same p)
     where
       inner : {c : Element} → Part (e.Concat (e.more d es)) c → Listed c (subs_concat (e.more d es))
-      inner concat_first = further (on_left (subs_concat es) (itself d))
-      inner concat_rest = further (on_right (subs d) (itself (e.Concat es)))
+      inner concat_first = further (on_left (subs_concat es) (listed_itself d))
+      inner concat_rest = further (on_right (subs d) (listed_itself (e.Concat es)))
   concat_parts_in (e.more d es) x c (further h) p =
       further (⊎_elim (λ l. on_left (subs_concat es) (parts_in d x c l p))
       (λ r. on_right (subs d) (concat_parts_in es x c r p)) (one_side (subs d) h))
@@ -249,8 +244,8 @@ mutual
   alt_parts_in (e.more d es) x c (first same) p = inner (subst (λ v. Part v c) same p)
     where
       inner : {c : Element} → Part (e.Alt (e.more d es)) c → Listed c (subs_alt (e.more d es))
-      inner alt_first = further (on_left (subs_alt es) (itself d))
-      inner alt_rest = further (on_right (subs d) (itself (e.Alt es)))
+      inner alt_first = further (on_left (subs_alt es) (listed_itself d))
+      inner alt_rest = further (on_right (subs d) (listed_itself (e.Alt es)))
   alt_parts_in (e.more d es) x c (further h) p =
       further (⊎_elim (λ l. on_left (subs_alt es) (parts_in d x c l p))
       (λ r. on_right (subs d) (alt_parts_in es x c r p)) (one_side (subs d) h))
@@ -273,13 +268,13 @@ named_in (rule ∷ rules) n d is = by (same_name Fold n rule.name) is (λ rest. 
     by : (b : Bool) → cond b (Some rule.body) (body_of rules n) ≡ Some d
         → (body_of rules n ≡ Some d → Listed d (universe rules)) → Listed d (universe (rule ∷ rules))
     by true is behind = let same : rule.body ≡ d = cc is in
-        on_left (universe rules) (subst (λ v. Listed v (subs rule.body)) same (itself rule.body))
+        on_left (universe rules) (subst (λ v. Listed v (subs rule.body)) same (listed_itself rule.body))
     by false is behind = on_right (subs rule.body) (behind is)
 
 body_in : (rules : List Rule) (id : ℕ) (d : Element) → slice_get (bodies rules) id ≡ Some d → Listed d (universe rules)
 body_in [] id d is = absurd (cc is)
 body_in (rule ∷ rules) zero d is = let same : rule.body ≡ d = cc is in
-    on_left (universe rules) (subst (λ v. Listed v (subs rule.body)) same (itself rule.body))
+    on_left (universe rules) (subst (λ v. Listed v (subs rule.body)) same (listed_itself rule.body))
 body_in (rule ∷ rules) (suc id) d is = on_right (subs rule.body) (body_in rules id d is)
 
 -- an element and two states
@@ -529,7 +524,7 @@ module _ (has : ℕ → Bool) (rules : List Rule) (last : ℕ) (goes : ℕ → �
         let low = r.low in
         record {
           word = t.left.word ++ t.rest.word;
-          path = join Goes t.left.path t.rest.path;
+          path = paths_join Goes t.left.path t.rest.path;
           derives = der.rep {k = suc r.count} (omega (arith, low))
               (more_within r.count b (and_first (may b) (both s d (e.Rep (a - 1) (less b) d) i j) some) r.high)
               (one_more t.left.derives r.times);
@@ -551,7 +546,7 @@ module _ (has : ℕ → Bool) (rules : List Rule) (last : ℕ) (goes : ℕ → �
         let t = two_of d (e.Concat es) i j h in
         record {
           word = t.left.word ++ t.rest.word;
-          path = join Goes t.left.path t.rest.path;
+          path = paths_join Goes t.left.path t.rest.path;
           derives = der.concat (then t.left.derives (members_of t.rest.derives));
         }
     grown_spans (e.Alt e.none) i j h = absurd (cc h)
@@ -580,12 +575,12 @@ module _ (has : ℕ → Bool) (rules : List Rule) (last : ℕ) (goes : ℕ → �
     grown_spans (e.Name n) i j h = body_spans n i j (body_of rules n) refl h
     grown_spans (e.Prose t) i j h = absurd (cc h)
 
-  nowhere : {i j : ℕ} → IsPath Goes i [] j → i ≡ j
-  nowhere here = refl
+  empty_path_stays : {i j : ℕ} → IsPath Goes i [] j → i ≡ j
+  empty_path_stays here = refl
 
-  stays : {i j : ℕ} {w : List ℕ} → IsPath Goes i w j → i ≤ last → j ≤ last
-  stays here le = le
-  stays (step {i = i} {k = k} {c = c} is l) le = stays l (within i c k is)
+  path_stays : {i j : ℕ} {w : List ℕ} → IsPath Goes i w j → i ≤ last → j ≤ last
+  path_stays here le = le
+  path_stays (step {i = i} {k = k} {c = c} is l) le = path_stays l (within i c k is)
 
   module _ (s : Fact → Bool) (closed : (f : Fact) → Listed f (facts (last + 1) (universe rules)) → grow s f ≡ true
       → s f ≡ true) where
@@ -596,13 +591,13 @@ module _ (has : ℕ → Bool) (rules : List Rule) (last : ℕ) (goes : ℕ → �
 
     text_read : {folds : Bool} {t w : List ℕ} (i j : ℕ) → Spelled folds t w → IsPath Goes i w j
         → reads_text folds t i j ≡ true
-    text_read i j Spelled.end l = eq-eqb i j (nowhere l)
+    text_read i j Spelled.end l = eq-eqb i j (empty_path_stays l)
     text_read {folds = folds} i j (Spelled.next {t = t} {c = c} {ts = ts} h d) (step {k = k} is l) =
         moves_by (t + 33) i c k (λ c k. stands folds t c && reads_text folds ts k j) (stands_below folds t c h) is
         (and_true (stands folds t c) (reads_text folds ts k j) (stands_true folds t c h) (text_read k j d l))
 
     values_read : (vs : List ℕ) (i j : ℕ) → AreLetters has vs → IsPath Goes i vs j → reads_values vs i j ≡ true
-    values_read [] i j all l = eq-eqb i j (nowhere l)
+    values_read [] i j all l = eq-eqb i j (empty_path_stays l)
     values_read (v ∷ vs) i j all (step {k = k} is l) =
         moves_by (v + 1) i v k (λ c k. (eqb c v && has v) && reads_values vs k j) (omega arith) is
         (and_true (eqb v v && has v) (reads_values vs k j) (and_true (eqb v v) (has v) (eq-eqb v v refl) all.0)
@@ -614,7 +609,7 @@ module _ (has : ℕ → Bool) (rules : List Rule) (last : ℕ) (goes : ℕ → �
         moves_by (high + 1) i c k (λ c k. ((leb low c && leb c high) && has c) && eqb k j) (omega (arith, b)) is
         (and_true ((leb low c && leb c high) && has c) (eqb k j)
         (and_true (leb low c && leb c high) (has c) (and_true (leb low c) (leb c high) (le-leb low c a)
-        (le-leb c high b)) h) (eq-eqb k j (nowhere l)))
+        (le-leb c high b)) h) (eq-eqb k j (empty_path_stays l)))
 
     both_come : (d c : Element) (i m j : ℕ) → m ≤ last → s (fact d i m) ≡ true → s (fact c m j) ≡ true
         → both s d c i j ≡ true
@@ -633,7 +628,7 @@ module _ (has : ℕ → Bool) (rules : List Rule) (last : ℕ) (goes : ℕ → �
       derived (der.rep {a = least} {k = k} {b = most} low high d) i j l at a b =
           times_derived d i j l least most low high at a b
       derived (der.opt_empty {e = d}) i j l at a b =
-          comes (e.Opt d) i j at a b (or_first (eqb i j) (s (fact d i j)) (eq-eqb i j (nowhere l)))
+          comes (e.Opt d) i j at a b (or_first (eqb i j) (s (fact d i j)) (eq-eqb i j (empty_path_stays l)))
       derived (der.opt {e = d} h) i j l at a b =
           comes (e.Opt d) i j at a b (or_second (eqb i j) (s (fact d i j))
           (derived h i j l (universe_parts rules (e.Opt d) d at operand) a b))
@@ -643,10 +638,10 @@ module _ (has : ℕ → Bool) (rules : List Rule) (last : ℕ) (goes : ℕ → �
       all_derived : {es : Elements} {w : List ℕ} → DerivesAll has rules es w → (i j : ℕ) → IsPath Goes i w j
           → Listed (e.Concat es) (universe rules) → i ≤ last → j ≤ last →
           s (fact (e.Concat es) i j) ≡ true
-      all_derived all_done i j l at a b = comes (e.Concat e.none) i j at a b (eq-eqb i j (nowhere l))
+      all_derived all_done i j l at a b = comes (e.Concat e.none) i j at a b (eq-eqb i j (empty_path_stays l))
       all_derived (then {e = d} {es = es} {w = w} h hs) i j l at a b =
-          let c = split Goes w l in
-          let mid = stays c.left a in
+          let c = path_splits Goes w l in
+          let mid = path_stays c.left a in
           comes (e.Concat (e.more d es)) i j at a b (both_come d (e.Concat es) i c.mid j mid
           (derived h i c.mid c.left (universe_parts rules (e.Concat (e.more d es)) d at concat_first) a mid)
           (all_derived hs c.mid j c.right (universe_parts rules (e.Concat (e.more d es)) (e.Concat es) at concat_rest)
@@ -667,10 +662,10 @@ module _ (has : ℕ → Bool) (rules : List Rule) (last : ℕ) (goes : ℕ → �
           Listed (e.Rep least most d) (universe rules) → i ≤ last → j ≤ last → s (fact (e.Rep least most d) i j) ≡ true
       times_derived (no_more {e = d}) i j l least most low high at a b = comes (e.Rep least most d) i j at a b
           (or_first (leb least 0 && eqb i j) (may most && both s d (e.Rep (least - 1) (less most) d) i j)
-          (and_true (leb least 0) (eqb i j) (le-leb least 0 low) (eq-eqb i j (nowhere l))))
+          (and_true (leb least 0) (eqb i j) (le-leb least 0 low) (eq-eqb i j (empty_path_stays l))))
       times_derived (one_more {e = d} {k = k} {w = w} h hs) i j l least most low high at a b =
-          let c = split Goes w l in
-          let mid = stays c.left a in
+          let c = path_splits Goes w l in
+          let mid = path_stays c.left a in
           let left = less_within k most high in
           comes (e.Rep least most d) i j at a b (or_second (leb least 0 && eqb i j)
           (may most && both s d (e.Rep (least - 1) (less most) d) i j)

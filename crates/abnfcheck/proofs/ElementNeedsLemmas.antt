@@ -107,11 +107,11 @@ within_push xs need w below = record {
 -- one more element: its need behind those that were there
 module _ (has : ℕ → Bool) (rules : List Rule) (aim : Aim) (old now new : List Demand) (need : Demand) (n : ℕ)
     (el : Element) (is : new ≡ now ++ need ∷ []) (at : n ≡ length now) where
-  numbered : (added : List Demand) → now ≡ old ++ added
+  need_numbered : (added : List Demand) → now ≡ old ++ added
       → (length rules ≤ length old → IsNeedOf has rules aim now need el)
       → (length rules ≤ length old → AreNeedsWithin old → AreNeedsWithin now) →
       IsNumbered has rules aim old new n el
-  numbered added grown of within = record {
+  need_numbered added grown of within = record {
     added = added ++ need ∷ [];
     grown = is ∙ ap (λ l. l ++ need ∷ []) grown ∙ append_assoc old added (need ∷ []);
     asked = λ fits. subst (λ v. Asks has rules aim v n el) (sym is)
@@ -126,19 +126,22 @@ module _ (has : ℕ → Bool) (rules : List Rule) (aim : Aim) (old now new : Lis
       longer fits = let l = ap length grown ∙ length-append old added in omega (arith, fits, l)
 
 module _ (has : ℕ → Bool) (rules : List Rule) (aim : Aim) (need : OwnedNeed) (n : ℕ) (el : Element) where
-  pub leaf : (old new : List OwnedNeed) → new ≡ old ++ need ∷ [] → n ≡ length old
+  pub leaf_numbered : (old new : List OwnedNeed) → new ≡ old ++ need ∷ [] → n ≡ length old
       → IsNeedOf has rules aim (owned_demands_of old) (owned_demand_of need) el
       → IsNumbered has rules aim (owned_demands_of old) (owned_demands_of new) n el
-  leaf old new is at of = numbered has rules aim (owned_demands_of old) (owned_demands_of old) (owned_demands_of new)
+  leaf_numbered old new is at of =
+      need_numbered has rules aim (owned_demands_of old) (owned_demands_of old) (owned_demands_of new)
       (owned_demand_of need) n el (ap owned_demands_of is ∙ map-append owned_demand_of old (need ∷ []))
       (at ∙ sym (length-map old owned_demand_of))
       [] (sym (append-nil (owned_demands_of old))) (λ fits. of) (λ fits w. w)
 
-  pub over : (old now new : List OwnedNeed) → new ≡ now ++ need ∷ [] → n ≡ length now → (m : ℕ) (d : Element)
+  pub operand_numbered : (old now new : List OwnedNeed) → new ≡ now ++ need ∷ [] → n ≡ length now
+      → (m : ℕ) (d : Element)
       → IsNumbered has rules aim (owned_demands_of old) (owned_demands_of now) m d →
       (Asks has rules aim (owned_demands_of now) m d → IsNeedOf has rules aim (owned_demands_of now)
       (owned_demand_of need) el) → IsNumbered has rules aim (owned_demands_of old) (owned_demands_of new) n el
-  over old now new is at m d g of = numbered has rules aim (owned_demands_of old) (owned_demands_of now)
+  operand_numbered old now new is at m d g of =
+      need_numbered has rules aim (owned_demands_of old) (owned_demands_of now)
       (owned_demands_of new) (owned_demand_of need) n el
       (ap owned_demands_of is ∙ map-append owned_demand_of now (need ∷ [])) (at ∙ sym (length-map now owned_demand_of))
       g.added g.grown (λ fits. of (g.asked fits)) g.within
@@ -147,7 +150,7 @@ module _ (has : ℕ → Bool) (rules : List Rule) (aim : Aim) (need : OwnedNeed)
       → (ms : List ℕ) (es : Elements) → AreNumbered has rules aim (owned_demands_of old) (owned_demands_of now) ms es →
       (AskAll has rules aim (owned_demands_of now) ms es → IsNeedOf has rules aim (owned_demands_of now)
       (owned_demand_of need) el) → IsNumbered has rules aim (owned_demands_of old) (owned_demands_of new) n el
-  over_all old now new is at ms es g of = numbered has rules aim (owned_demands_of old) (owned_demands_of now)
+  over_all old now new is at ms es g of = need_numbered has rules aim (owned_demands_of old) (owned_demands_of now)
       (owned_demands_of new) (owned_demand_of need) n el
       (ap owned_demands_of is ∙ map-append owned_demand_of now (need ∷ [])) (at ∙ sym (length-map now owned_demand_of))
       g.added g.grown (λ fits. of (g.asked fits)) g.within

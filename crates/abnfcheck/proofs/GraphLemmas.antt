@@ -3,6 +3,7 @@
 use Rattle.std.proofs.Common.{◌≡◌, ℕ, zero, suc, ◌<◌, ◌≤◌, ◌⊎◌, inl, inr, ⊎_elim, Bool, true, false, ◌||◌, List, []}
 use Rattle.std.proofs.Common.{◌∷◌, ◌++◌, length, Option, Some, refl, sym, ◌∙◌, ap, subst, arith, length-append}
 use Rattle.std.specs.Prelude.{slice_get, slice_index_or, Contains}
+use Rattle.std.proofs.lemmas.Bool.{cases_lt}
 use Rattle.std.proofs.lemmas.List.{length-map}
 use Rattle.leastset.specs.Reach.{Reaches, here as start, further}
 use Rattle.leastset.specs.StepRows.{Step, AreStepsWithin}
@@ -188,12 +189,6 @@ use_id (one_use {id = id} {ids = ids} p rest) in_head = record { id = id; among 
 use_id (one_use {id = id} {ids = ids} p rest) (in_tail i) = let f = use_id rest i in
     record { id = f.id; among = in_later id f.id ids f.among; place = f.place }
 
-order : (m n : ℕ) → (m < n) ⊎ (n ≤ m)
-order zero zero = inr (omega arith)
-order zero (suc n) = inl (omega arith)
-order (suc m) zero = inr (omega arith)
-order (suc m) (suc n) = ⊎_elim (λ lt. inl (omega (arith, lt))) (λ le. inr (omega (arith, le))) (order m n)
-
 module _ (rules : List Rule) (given : Option (List ℕ)) (names : List (List ℕ)) (rows : List (List ℕ)) (judged : ℕ)
     (graph : IsGraph rules given names rows judged) where
   abbrev more : List (List ℕ)
@@ -214,7 +209,7 @@ module _ (rules : List Rule) (given : Option (List ℕ)) (names : List (List ℕ
   empty_row user m le step = none_of m (subst (λ v. Contains v m) (graph.are_rows.others user le) step)
 
   pub user_below : (user m : ℕ) → Step rows user m → user < count
-  user_below user m step = ⊎_elim (λ lt. lt) (λ le. absurd (empty_row user m le step)) (order user count)
+  user_below user m step = ⊎_elim (λ lt. lt) (λ le. absurd (empty_row user m le step)) (cases_lt user count)
 
   record StepUse (user m : ℕ) : Type 0 where
     body : Element

@@ -11,5 +11,5 @@ mod JoinedRulesLemmas
 pub mod LiesLemmas
 mod NameIdsLemmas
 mod NameMarksLemmas
-mod RuleIdLemmas
+pub mod RuleIdLemmas
 pub mod YieldsLemmas

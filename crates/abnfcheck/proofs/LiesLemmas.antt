@@ -14,19 +14,19 @@ abbrev pub Lies : List ℕ → ℕ → List ℕ → ℕ → Type 0
 Lies x i w j = IsPath (OnLine x) i w j
 
 module _ (x : List ℕ) where
-  ahead : {i j : ℕ} {w : List ℕ} → Lies x i w j → i ≤ j
-  ahead here = omega arith
-  ahead (step is l) = omega (arith, is.1, ahead l)
+  lies_ahead : {i j : ℕ} {w : List ℕ} → Lies x i w j → i ≤ j
+  lies_ahead here = omega arith
+  lies_ahead (step is l) = omega (arith, is.1, lies_ahead l)
 
   same_span : {i j m k : ℕ} {w v : List ℕ} → Lies x i w j → Lies x m v k → i ≡ m → j ≡ k → w ≡ v
   same_span here here s e = refl
-  same_span here (step is l) s e = absurd (omega (arith, is.1, ahead l))
-  same_span (step is l) here s e = absurd (omega (arith, is.1, ahead l))
+  same_span here (step is l) s e = absurd (omega (arith, is.1, lies_ahead l))
+  same_span (step is l) here s e = absurd (omega (arith, is.1, lies_ahead l))
   same_span (step {c = c} {w = w} is l) (step {c = d} {w = v} at m) s e =
       let same : c ≡ d = cc (is.0, at.0) in let rest = same_span l m (omega (arith, is.1, at.1)) e in cc
 
-  pub only : {i j : ℕ} {w v : List ℕ} → Lies x i w j → Lies x i v j → w ≡ v
-  only l m = same_span l m refl refl
+  pub lies_one_word : {i j : ℕ} {w v : List ℕ} → Lies x i w j → Lies x i v j → w ≡ v
+  lies_one_word l m = same_span l m refl refl
 
   letter_at : (has : ℕ → Bool) (x : List ℕ) (i c : ℕ) → AreLetters has x → slice_get x i ≡ Some c → has c ≡ true
   letter_at has [] i c all is = absurd cc
@@ -37,10 +37,10 @@ module _ (x : List ℕ) where
   are_letters has all here = tt
   are_letters has all (step {i = i} {c = c} is l) = (letter_at has x i c all is.0, are_letters has all l)
 
-shifted : (b : ℕ) (x : List ℕ) {i j : ℕ} {w : List ℕ} → Lies x i w j → Lies (b ∷ x) (suc i) w (suc j)
-shifted b x here = here
-shifted b x (step {i = i} {k = k} is l) = step (is.0, omega (arith, is.1)) (shifted b x l)
+lies_shifted : (b : ℕ) (x : List ℕ) {i j : ℕ} {w : List ℕ} → Lies x i w j → Lies (b ∷ x) (suc i) w (suc j)
+lies_shifted b x here = here
+lies_shifted b x (step {i = i} {k = k} is l) = step (is.0, omega (arith, is.1)) (lies_shifted b x l)
 
 pub all_of : (x : List ℕ) → Lies x 0 x (length x)
 all_of [] = here
-all_of (b ∷ x) = step (refl, omega arith) (shifted b x (all_of x))
+all_of (b ∷ x) = step (refl, omega arith) (lies_shifted b x (all_of x))

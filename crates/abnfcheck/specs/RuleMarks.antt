@@ -1,5 +1,5 @@
 -- Rules that derive the empty list, or some list, and numbered needs by which they are found. But for `AreNullMarks`
--- and `AreProductive`, private helpers alone use it.
+-- and `AreProductive`, private helpers alone use it, those of flatgrammar too.
 use Rattle.std.specs.Prelude.{◌≡◌, ◌↔◌, ℕ, ◌<◌, ◌≤◌, Bool, List, [], ◌∷◌, ◌++◌, length, leb, ltb, slice_get, Option}
 use Rattle.std.specs.Prelude.{Some, None, if◌then◌else◌}
 use Rattle.leastset.specs.Demands.{Demand, All, One, AreNeedsWithin}

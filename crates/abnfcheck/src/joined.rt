@@ -17,7 +17,7 @@ fn take_body(alloc: Global, rules: &mut RuleTable<Elem>, id: usize) -> Elem
     mem::replace(rules.body_mut(id), Elem::Prose(Vec::new(alloc)))
 }
 
-/// The file's rules, then the core rules that it leaves alone.
+/// Returns the file's rules, then the core rules that it leaves alone.
 ///
 /// `Memory` where a growth was refused.
 pub fn join(

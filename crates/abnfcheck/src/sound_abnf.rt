@@ -54,14 +54,14 @@ impl SoundAbnf {
         })
     }
 
-    /// The file's rules, then the core rules that it leaves alone.
+    /// Returns the file's rules, then the core rules that it leaves alone.
     pub fn rules(&self) -> &RuleTable<Elem>
         ensures { result.now ≡ self.now.rules }
     {
         &self.rules
     }
 
-    /// The id of the judged rule. The clause `sound` says what a grammar by which lines can be judged is.
+    /// Returns the id of the judged rule. The clause `sound` says what a grammar by which lines can be judged is.
     pub fn judged(&self) -> usize
         ensures id { result ≡ self.now.judged }
         ensures sound { IsSoundGrammar self.now }

@@ -44,8 +44,8 @@ pub data Cuts : Option ℕ → Bool → List ℕ → List Word → Type 0 where
       ((p : Span) → SaysLike k s p w) → Cuts None false r ws → Cuts i g t (word g (begins_rule (Some 0) i) w ∷ ws)
 
 -- a word that has no span
-pub plainly : {k : AbnfKind} {z : List ℕ} {w : Said} → ((p : Span) → SaysKind k z p w) → (p : Span) → SaysLike k z p w
-plainly f p = record { said = _; same = same_said; says = f p }
+pub says-like : {k : AbnfKind} {z : List ℕ} {w : Said} → ((p : Span) → SaysKind k z p w) → (p : Span) → SaysLike k z p w
+says-like f p = record { said = _; same = same_said; says = f p }
 
 -- the tokens behind the place n, where the text t begins, and the words that they say
 pub record Placed (text : List ℕ) (n : ℕ) (t : List ℕ) (ws : List Word) : Type 0 where
@@ -122,19 +122,20 @@ behind-later m n h = grind (arith, nat_tests)
 behind-here : (m : ℕ) → not (m == m) ≡ false
 behind-here m = grind (arith, nat_tests)
 
-pub placed : (text front u : List ℕ) (n : ℕ) {i : Option ℕ} {g : Bool} {t : List ℕ} {ws : List Word} → text ≡ front ++ t
+pub cuts-placed : (text front u : List ℕ) (n : ℕ) {i : Option ℕ} {g : Bool} {t : List ℕ} {ws : List Word}
+    → text ≡ front ++ t
     → indent_from (Some 0) front ≡ i → n ≤ length front →
     not (length front == n) ≡ g → ((r : List ℕ) → White t r → White u r) → Cuts i g t ws → Placed text n u ws
-placed text front u n whole before le gap f nothing =
+cuts-placed text front u n whole before le gap f nothing =
     marked-so gap refl (end-placed text front u n (sym (ap length whole ∙ ap length (append-nil front))) (f [] no_more))
-placed text front u n whole before le gap f (blanked {i} {b = b} {t} h c) =
-    placed text (front ++ b ∷ []) u n (whole ∙ sym (append_assoc front (b ∷ []) t))
+cuts-placed text front u n whole before le gap f (blanked {i} {b = b} {t} h c) =
+    cuts-placed text (front ++ b ∷ []) u n (whole ∙ sym (append_assoc front (b ∷ []) t))
     (indent-append (Some 0) front (b ∷ []) ∙ ap (λ (x : Option ℕ). indented x b) before)
     (omega (arith, length-append front (b ∷ []))) (ap (λ (m : ℕ). not (m == n)) (length-append front (b ∷ []))
     ∙ behind-later (length front) n le)
     (λ r w. f r (piece (blank h) w)) c
-placed text front u n whole before le gap f (next {k} {i} {t = t} {s} {r} x e h d y c) =
-    let rest = placed text (front ++ s) r (length front + length s) (whole ∙ ap (λ (z : List ℕ). front ++ z) e
+cuts-placed text front u n whole before le gap f (next {k} {i} {t = t} {s} {r} x e h d y c) =
+    let rest = cuts-placed text (front ++ s) r (length front + length s) (whole ∙ ap (λ (z : List ℕ). front ++ z) e
     ∙ sym (append_assoc front s r))
     (indent-append (Some 0) front s ∙ d.ends (indent_from (Some 0) front)) (omega (arith, length-append front s))
     (ap (λ (m : ℕ). not (m == length front + length s)) (length-append front s) ∙ behind-here (length front + length s))
@@ -164,7 +165,7 @@ first-margin text (x ∷ xs) (say_more (says y) z) (same_more a b) l =
 
 pub said-text : {text : List ℕ} {ws : List Word} → Leads false ws → Cuts (Some 0) false text ws → AreSaid text ws
 said-text {text} {ws} l c =
-    let p = placed text [] text 0 refl refl (omega arith) refl (λ r w. w) c in
+    let p = cuts-placed text [] text 0 refl refl (omega arith) refl (λ r w. w) c in
     let m = first-margin text p.tokens p.say p.same l in
     record {
       tokens = marks text (Some 0) 0 p.tokens;
@@ -212,8 +213,8 @@ dark-on (more {b} {bs} e h) = ap (λ (x : Option ℕ). indent_from x bs) (dark-l
     ∙ dark-on h
 
 -- no blank, and no LF behind it
-pub dark : (b : ℕ) (bs : List ℕ) → is_blank b ≡ false → Run is_inside bs [] → IsDark (b ∷ bs)
-dark b bs e h = record {
+pub run-dark : (b : ℕ) (bs : List ℕ) → is_blank b ≡ false → Run is_inside bs [] → IsDark (b ∷ bs)
+run-dark b bs e h = record {
   ends = λ i. ap (λ (x : Option ℕ). indent_from x bs) (dark-first i (b == 32) (b == 9) (b == 10)
       e) ∙ dark-on h;
 }

@@ -63,23 +63,24 @@ leads-within f true g ws h = refl
 leads-within f false g ws h = h ws
 
 mutual
-  pub leads : (x : Element) → IsFormed x → (g : Bool) (ws : List Word) → Leads g (listed x g ws)
-  leads (Concat xs) h g ws = leads-members xs h.0 h.1 g ws
-  leads (Alt xs) h g ws = leads-alternatives xs h.0 h.1 g ws
-  leads x h g ws = refl
+  pub listed-leads : (x : Element) → IsFormed x → (g : Bool) (ws : List Word) → Leads g (listed x g ws)
+  listed-leads (Concat xs) h g ws = leads-members xs h.0 h.1 g ws
+  listed-leads (Alt xs) h g ws = leads-alternatives xs h.0 h.1 g ws
+  listed-leads x h g ws = refl
 
   leads-members : (xs : Elements) → AreMany xs → AreFormed xs → (g : Bool) (ws : List Word)
       → Leads g (listed_members xs g ws)
   leads-members none m h g ws = absurd m
-  leads-members (more x xs) m h g ws = leads-within (listed x) (wraps Member x) g _ (λ vs. leads x h.0 g vs)
+  leads-members (more x xs) m h g ws = leads-within (listed x) (wraps Member x) g _ (λ vs. listed-leads x h.0 g vs)
 
   leads-alternatives : (xs : Elements) → AreMany xs → AreFormed xs → (g : Bool) (ws : List Word)
       → Leads g (listed_alternatives xs g ws)
   leads-alternatives none m h g ws = absurd m
-  leads-alternatives (more x xs) m h g ws = leads-within (listed x) (wraps Alternative x) g _ (λ vs. leads x h.0 g vs)
+  leads-alternatives (more x xs) m h g ws =
+      leads-within (listed x) (wraps Alternative x) g _ (λ vs. listed-leads x h.0 g vs)
 
 pub leads-at : (b : Bool) (x : Element) → IsFormed x → (g : Bool) (ws : List Word) → Leads g (within b (listed x) g ws)
-leads-at b x h g ws = leads-within (listed x) b g ws (λ vs. leads x h g vs)
+leads-at b x h g ws = leads-within (listed x) b g ws (λ vs. listed-leads x h g vs)
 
 pub leads-gap : (ws : List Word) → Leads true ws → HasGap ws
 leads-gap [] h = h

@@ -30,11 +30,11 @@ abbrev pub Spelled : Element → Type 0
 Spelled x = Fits (within (wraps Repeated x) (listed x)) (within (wraps Member x) (listed x))
     (within (wraps Alternative x) (listed x)) (listed x) x
 
-single : {s r : List Word} {x : Element} → Repetition s r x → SpellsOne s r x
-single {s} {r} {x} p = record { parts = more x none; same = refl; spelled = one p }
+repetition-spells_one : {s r : List Word} {x : Element} → Repetition s r x → SpellsOne s r x
+repetition-spells_one {s} {r} {x} p = record { parts = more x none; same = refl; spelled = one p }
 
-alone : {s r : List Word} {x : Element} → SpellsOne s r x → Alternation s r x
-alone {s} {r} {x} o = subst (λ (y : Element). Alternation s r y) o.same (alternatives (only o.spelled))
+spells-alternation : {s r : List Word} {x : Element} → SpellsOne s r x → Alternation s r x
+spells-alternation {s} {r} {x} o = subst (λ (y : Element). Alternation s r y) o.same (alternatives (only o.spelled))
 
 -- one maker a rank
 fits-element : {f : Bool → List Word → List Word} {x : Element}
@@ -42,26 +42,26 @@ fits-element : {f : Bool → List Word → List Word} {x : Element}
 fits-element p = record {
   element = p;
   repetition = λ g ws. once (p g ws);
-  one_of = λ g ws. single (once (p g ws));
-  whole = λ g ws. alone (single (once (p g ws)));
+  one_of = λ g ws. repetition-spells_one (once (p g ws));
+  whole = λ g ws. spells-alternation (repetition-spells_one (once (p g ws)));
 }
 
 fits-repetition : {f : Bool → List Word → List Word} {x : Element}
     → ((g : Bool) (ws : List Word) → Repetition (f g ws) ws x) → Fits (wrapped f) f f f x
 fits-repetition p = record {
-  element = λ g ws. parens (alone (single (p _ _)));
+  element = λ g ws. parens (spells-alternation (repetition-spells_one (p _ _)));
   repetition = p;
-  one_of = λ g ws. single (p g ws);
-  whole = λ g ws. alone (single (p g ws));
+  one_of = λ g ws. repetition-spells_one (p g ws);
+  whole = λ g ws. spells-alternation (repetition-spells_one (p g ws));
 }
 
 fits-one : {f : Bool → List Word → List Word} {x : Element} → ((g : Bool) (ws : List Word) → SpellsOne (f g ws) ws x)
     → Fits (wrapped f) (wrapped f) f f x
 fits-one p = record {
-  element = λ g ws. parens (alone (p _ _));
-  repetition = λ g ws. once (parens (alone (p _ _)));
+  element = λ g ws. parens (spells-alternation (p _ _));
+  repetition = λ g ws. once (parens (spells-alternation (p _ _)));
   one_of = p;
-  whole = λ g ws. alone (p g ws);
+  whole = λ g ws. spells-alternation (p g ws);
 }
 
 fits-whole : {f : Bool → List Word → List Word} {x : Element}
@@ -69,7 +69,7 @@ fits-whole : {f : Bool → List Word → List Word} {x : Element}
 fits-whole p = record {
   element = λ g ws. parens (p _ _);
   repetition = λ g ws. once (parens (p _ _));
-  one_of = λ g ws. single (once (parens (p _ _)));
+  one_of = λ g ws. repetition-spells_one (once (parens (p _ _)));
   whole = p;
 }
 
@@ -83,8 +83,8 @@ alternation-same none h = absurd h
 alternation-same (more x none) h = absurd h
 alternation-same (more x (more y xs)) h = refl
 
-last : {s r : List Word} {x : Element} → SpellsOne s r x → Alternatives s r (more x none)
-last {s} {r} {x} o = subst (λ (y : Element). Alternatives s r (more y none)) o.same (only o.spelled)
+alternatives-last : {s r : List Word} {x : Element} → SpellsOne s r x → Alternatives s r (more x none)
+alternatives-last {s} {r} {x} o = subst (λ (y : Element). Alternatives s r (more y none)) o.same (only o.spelled)
 
 and-more : {s m r : List Word} {x : Element} {xs : Elements} → SpellsOne s (word true false Slash ∷ m) x
     → Alternatives m r xs → Alternatives s r (more x xs)
@@ -95,40 +95,41 @@ abbrev pub IsFull : Elements → Type 0
 IsFull none = ⊥
 IsFull (more x xs) = Unit {0}
 
-full : (xs : Elements) → AreMany xs → IsFull xs
-full none h = h
-full (more x xs) h = tt
+many-is_full : (xs : Elements) → AreMany xs → IsFull xs
+many-is_full none h = h
+many-is_full (more x xs) h = tt
 
 mutual
-  pub spelled : (x : Element) → IsFormed x → Spelled x
-  spelled (Text c t) w = fits-element (λ g ws. text)
-  spelled (Values vs) w = fits-element (λ g ws. values)
-  spelled (Range a b) w = fits-element (λ g ws. range)
-  spelled (Concat xs) w = fits-one (λ g ws. record {
+  pub formed-spelled : (x : Element) → IsFormed x → Spelled x
+  formed-spelled (Text c t) w = fits-element (λ g ws. text)
+  formed-spelled (Values vs) w = fits-element (λ g ws. values)
+  formed-spelled (Range a b) w = fits-element (λ g ws. range)
+  formed-spelled (Concat xs) w = fits-one (λ g ws. record {
     parts = xs;
     same = concatenation-same xs w.0;
-    spelled = spelled-members xs w.1 (full xs w.0) g ws;
+    spelled = spelled-members xs w.1 (many-is_full xs w.0) g ws;
   })
-  spelled (Alt xs) w = fits-whole (λ g ws. subst (λ (x : Element). Alternation (listed_alternatives xs g ws) ws x)
-      (alternation-same xs w.0) (alternatives (spelled-alternatives xs w.1 (full xs w.0) g ws)))
-  spelled (Rep a b x) w = let h = spelled x w.1 in
+  formed-spelled (Alt xs) w = fits-whole (λ g ws.
+      subst (λ (x : Element). Alternation (listed_alternatives xs g ws) ws x)
+      (alternation-same xs w.0) (alternatives (spelled-alternatives xs w.1 (many-is_full xs w.0) g ws)))
+  formed-spelled (Rep a b x) w = let h = formed-spelled x w.1 in
       fits-repetition (λ g ws. repeated (leads-no_gap _ (leads-at (wraps Repeated x) x w.1 false ws))
       (h.element false ws))
-  spelled (Opt x) w = let h = spelled x w in fits-element (λ g ws. brackets (h.whole false _))
-  spelled (Name n) w = fits-element (λ g ws. name)
-  spelled (Prose t) w = fits-element (λ g ws. prose)
+  formed-spelled (Opt x) w = let h = formed-spelled x w in fits-element (λ g ws. brackets (h.whole false _))
+  formed-spelled (Name n) w = fits-element (λ g ws. name)
+  formed-spelled (Prose t) w = fits-element (λ g ws. prose)
 
   pub spelled-members : (xs : Elements) → AreFormed xs → IsFull xs → (g : Bool) (ws : List Word)
       → Parts (listed_members xs g ws) ws xs
   spelled-members none w h g ws = absurd h
-  spelled-members (more x none) w h g ws = one ((spelled x w.0).repetition g _)
+  spelled-members (more x none) w h g ws = one ((formed-spelled x w.0).repetition g _)
   spelled-members (more x (more y xs)) w h g ws =
-      further ((spelled x w.0).repetition g _) (leads-gap _ (leads-at (wraps Member y) y w.1.0 true _))
+      further ((formed-spelled x w.0).repetition g _) (leads-gap _ (leads-at (wraps Member y) y w.1.0 true _))
       (spelled-members (more y xs) w.1 tt true ws)
 
   pub spelled-alternatives : (xs : Elements) → AreFormed xs → IsFull xs → (g : Bool) (ws : List Word)
       → Alternatives (listed_alternatives xs g ws) ws xs
   spelled-alternatives none w h g ws = absurd h
-  spelled-alternatives (more x none) w h g ws = last ((spelled x w.0).one_of g _)
+  spelled-alternatives (more x none) w h g ws = alternatives-last ((formed-spelled x w.0).one_of g _)
   spelled-alternatives (more x (more y xs)) w h g ws =
-      and-more ((spelled x w.0).one_of g _) (spelled-alternatives (more y xs) w.1 tt true ws)
+      and-more ((formed-spelled x w.0).one_of g _) (spelled-alternatives (more y xs) w.1 tt true ws)

@@ -25,9 +25,10 @@ exactly-once : text_of (Rep 1 (Some 1) (Concat (two a b))) ≡ codes "1(\"a\" \"
 unfolding digits
 exactly-once = refl
 
-folded : text_of (Alt (two (Text true (codes "X")) (Alt (two (Text true (codes "y")) (Text true (codes "z"))))))
+nested-alternatives : text_of (Alt (two (Text true (codes "X")) (Alt (two (Text true (codes "y")) (Text true
+    (codes "z"))))))
     ≡ codes "\"X\" / (\"y\" / \"z\")"
-folded = refl
+nested-alternatives = refl
 
 repeated-twice : text_of (Rep 2 (Some 2) (Rep 0 None x)) ≡ codes "2(*x)"
 unfolding digits
@@ -42,10 +43,11 @@ listed-values = refl
 value-range : text_of (Range 48 57) ≡ codes "%x30-39"
 value-range = refl
 
-bounds : text_of (Concat (more (Rep 2 None x) (more (Rep 2 (Some 10) x) (two (Rep 0 (Some 0) x) (Rep 0 None x)))))
+repeats-bounds : text_of (Concat (more (Rep 2 None x) (more (Rep 2 (Some 10) x) (two (Rep 0 (Some 0) x)
+    (Rep 0 None x)))))
     ≡ codes "2*x 2*10x 0x *x"
 unfolding digits
-bounds = refl
+repeats-bounds = refl
 
 by-case : text_of (Rep 3 (Some 4) (Text false (codes "a B"))) ≡ codes "3*4%s\"a B\""
 unfolding digits

@@ -27,7 +27,7 @@ use Rattle.abnfread.specs.Element.{Element, Elements, Text, Values, Range, Conca
 use Rattle.abnfread.specs.Element.{more, Definition}
 use Rattle.abnfread.specs.MarkedTokens.{Marked, margin, marks}
 use Rattle.abnfread.specs.Numerals.{says_values, last_number, more_numbers, Listed}
-use Rattle.abnfread.proofs.NumeralLemmas.{run-part, heads, tails}
+use Rattle.abnfread.proofs.NumeralLemmas.{run-part, heads-equal, tails-equal}
 use Rattle.abnfread.proofs.SaysKindLemmas.{one-word}
 use Rattle.abnfprint.specs.CanonicalAbnf.{wraps}
 use Rattle.abnfprint.specs.declared.place.Place.{Place}
@@ -53,8 +53,8 @@ name-slice {r = r} {z} (name {b} a h) e =
     subst IsName (append_cancel_right (b ∷ q.0) z r (ap (λ (x : List ℕ). b ∷ x) (sym q.1) ∙ e)) (named a q.2)
 
 -- what stands between two marks
-between : {f : ℕ → Bool} (c : ℕ) (bs t r : List ℕ) → Run f bs (c ∷ r) → bs ≡ (t ++ c ∷ []) ++ r → Run f t []
-between {f} c bs t r h e =
+run-between : {f : ℕ → Bool} (c : ℕ) (bs t r : List ℕ) → Run f bs (c ∷ r) → bs ≡ (t ++ c ∷ []) ++ r → Run f t []
+run-between {f} c bs t r h e =
     let q = run-part h in
     let same : q.0 ++ (c ∷ r) ≡ t ++ (c ∷ r) = sym q.1 ∙ e ∙ append_assoc t (c ∷ []) r in
     subst (λ (x : List ℕ). Run f x []) (append_cancel_right q.0 t (c ∷ r) same) q.2
@@ -69,13 +69,13 @@ quoted-so (text h) = bare h
 quoted-so (cased i h) = signed h
 
 text-inside : {t r : List ℕ} (s : List ℕ) → QuotedSo t r → t ≡ 34 ∷ ((s ++ 34 ∷ []) ++ r) → Run is_quotable s []
-text-inside {r = r} s (bare {bs} h) e = between 34 bs s r h (tails e)
-text-inside s (signed h) e = absurd (let k = heads e in omega arith)
+text-inside {r = r} s (bare {bs} h) e = run-between 34 bs s r h (tails-equal e)
+text-inside s (signed h) e = absurd (let k = heads-equal e in omega arith)
 
 cased-inside : {t r : List ℕ} (s : List ℕ) (d : ℕ) → QuotedSo t r → t ≡ 37 ∷ d ∷ 34 ∷ ((s ++ 34 ∷ []) ++ r)
     → Run is_quotable s []
-cased-inside s d (bare h) e = absurd (let k = heads e in omega arith)
-cased-inside {r = r} s d (signed {bs = bs} h) e = between 34 bs s r h (tails (tails (tails e)))
+cased-inside s d (bare h) e = absurd (let k = heads-equal e in omega arith)
+cased-inside {r = r} s d (signed {bs = bs} h) e = run-between 34 bs s r h (tails-equal (tails-equal (tails-equal e)))
 
 text-slice : {t r z : List ℕ} (s : List ℕ) → Stands kinds.Text t r → t ≡ z ++ r → z ≡ 34 ∷ (s ++ 34 ∷ [])
     → Run is_quotable s []
@@ -86,26 +86,27 @@ cased-slice : {t r z : List ℕ} (s : List ℕ) (d : ℕ) → Stands kinds.Text 
 cased-slice {r = r} s d h e q = cased-inside s d (quoted-so h) (e ∙ ap (λ (x : List ℕ). x ++ r) q)
 
 prose-slice : {t r z s : List ℕ} → Stands kinds.Prose t r → t ≡ z ++ r → z ≡ 60 ∷ (s ++ 62 ∷ []) → Run is_prose s []
-prose-slice {r = r} {s = s} (prose {bs} h) e q = between 62 bs s r h (tails (e ∙ ap (λ (x : List ℕ). x ++ r) q))
+prose-slice {r =
+    r} {s = s} (prose {bs} h) e q = run-between 62 bs s r h (tails-equal (e ∙ ap (λ (x : List ℕ). x ++ r) q))
 
 some-listed : {base : ℕ} {t vs : List ℕ} → Listed base t vs → IsSome vs
 some-listed (last_number d) = tt
 some-listed (more_numbers e d h) = tt
 
-proper : {k : AbnfKind} {z t r : List ℕ} {p : Span} {s : Said} → SaysKind k z p s → First k t r → t ≡ z ++ r
+says-proper : {k : AbnfKind} {z t r : List ℕ} {p : Span} {s : Said} → SaysKind k z p s → First k t r → t ≡ z ++ r
     → IsProper s
-proper says_name (found h) e = name-slice h.stands e
-proper (says_text {t = t} q) (found h) e = text-slice t h.stands e q
-proper (says_cased {t = t} {c = c} i q) (found h) e = cased-slice t c h.stands e q
-proper (says_num (says_values t l)) f e = some-listed l
-proper (says_prose q) (found h) e = prose-slice h.stands e q
-proper y f e = tt
+says-proper says_name (found h) e = name-slice h.stands e
+says-proper (says_text {t = t} q) (found h) e = text-slice t h.stands e q
+says-proper (says_cased {t = t} {c = c} i q) (found h) e = cased-slice t c h.stands e q
+says-proper (says_num (says_values t l)) f e = some-listed l
+says-proper (says_prose q) (found h) e = prose-slice h.stands e q
+says-proper y f e = tt
 
 tokens-proper : {total : ℕ} {t : List ℕ} {ts : List (Tok AbnfKind)} (src : List ℕ) (m : Option ℕ) (n : ℕ)
     {ws : List Word} → lexing.AreTokens White First ends_list total t ts → SayAll (marks src m n ts) ws → AreProper ws
-tokens-proper src m n (last_one {x = tok k z p} h e) (say_more (says y) say_none) = (proper y h.first h.cut, tt)
+tokens-proper src m n (last_one {x = tok k z p} h e) (say_more (says y) say_none) = (says-proper y h.first h.cut, tt)
 tokens-proper src m n (one_more {x = tok k z p} h e l) (say_more (says y) ys) =
-    (proper y h.first h.cut, tokens-proper src m p.end l ys)
+    (says-proper y h.first h.cut, tokens-proper src m p.end l ys)
 
 abbrev pub lift : Bool → ℕ → ℕ
 lift true n = suc n
@@ -173,8 +174,9 @@ record Pass (m d : ℕ) (ws : List Word) : Type 0 where
   small : AreSmall ws
   proper : AreProper ws
 
-behind : {m d : ℕ} {g f : Bool} {s : Said} {ws : List Word} → Pass m d (word g f s ∷ ws) → Pass m (open_behind s d) ws
-behind p = record { shallow = p.shallow.1; small = p.small.1; proper = p.proper.1 }
+pass-behind : {m d : ℕ} {g f : Bool} {s : Said} {ws : List Word} → Pass m d (word g f s ∷ ws)
+    → Pass m (open_behind s d) ws
+pass-behind p = record { shallow = p.shallow.1; small = p.small.1; proper = p.proper.1 }
 
 -- what passing words spell is formed and nests so deep, and they leave passing words
 record Gives (m d n : ℕ) (Formed : Type 0) (r : List Word) : Type 0 where
@@ -196,33 +198,34 @@ mutual
   element-gives spelling.name m d w = record {
     formed = w.proper.0;
     low = (let l = w.shallow.0 in omega arith);
-    rest = behind w;
+    rest = pass-behind w;
   }
   element-gives spelling.text m d w = record {
     formed = w.proper.0;
     low = (let l = w.shallow.0 in omega arith);
-    rest = behind w;
+    rest = pass-behind w;
   }
   element-gives values m d w = record {
     formed = (w.proper.0, w.small.0);
     low = (let l = w.shallow.0 in omega arith);
-    rest = behind w;
+    rest = pass-behind w;
   }
-  element-gives range m d w = record { formed = w.small.0; low = (let l = w.shallow.0 in omega arith); rest = behind w }
+  element-gives range m d w =
+      record { formed = w.small.0; low = (let l = w.shallow.0 in omega arith); rest = pass-behind w }
   element-gives spelling.prose m d w = record {
     formed = w.proper.0;
     low = (let l = w.shallow.0 in omega arith);
-    rest = behind w;
+    rest = pass-behind w;
   }
   element-gives (parens {x = x} h) m d w =
-      let g = alternation-gives h m (suc d) (behind w) in
+      let g = alternation-gives h m (suc d) (pass-behind w) in
       let l = lift-le (wraps Repeated x) (nest x) in
       let k = g.low in
-      record { formed = g.formed; low = omega arith; rest = behind g.rest }
+      record { formed = g.formed; low = omega arith; rest = pass-behind g.rest }
   element-gives (brackets {x = x} h) m d w =
-      let g = alternation-gives h m (suc d) (behind w) in
+      let g = alternation-gives h m (suc d) (pass-behind w) in
       let k = g.low in
-      record { formed = g.formed; low = omega arith; rest = behind g.rest }
+      record { formed = g.formed; low = omega arith; rest = pass-behind g.rest }
 
   repetition-gives : {s r : List Word} {x : Element} → Repetition s r x → (m d : ℕ) → Pass m d s
       → Gives m d (nest_at Member x) (IsFormed x) r
@@ -231,7 +234,7 @@ mutual
       let l = member-repeated x in
       let k = g.low in
       record { formed = g.formed; low = omega arith; rest = g.rest }
-  repetition-gives (repeated n h) m d w = let g = element-gives h m d (behind w) in
+  repetition-gives (repeated n h) m d w = let g = element-gives h m d (pass-behind w) in
       record { formed = (w.small.0, g.formed); low = g.low; rest = g.rest }
 
   parts-give : {s r : List Word} {xs : Elements} → Parts s r xs → (m d : ℕ) → Pass m d s
@@ -255,7 +258,7 @@ mutual
   alternatives-give (others {xs = xs} h k) m d w =
       let i = parts-give h m d w in
       let l = concatenation-nest xs in
-      let j = alternatives-give k m d (behind i.rest) in
+      let j = alternatives-give k m d (pass-behind i.rest) in
       let a = i.low in
       let b = j.low in
       record { formed = (concatenation-formed xs (full-parts h) i.formed, j.formed); low = omega arith; rest = j.rest }
@@ -277,16 +280,18 @@ abbrev pub AreFit : List Definition → Type 0
 AreFit [] = Unit {0}
 AreFit (d ∷ ds) = IsName d.name × IsFit d.body × AreFit ds
 
-fit : {s r : List Word} {x : Element} → Alternation s r x → Pass MAX_OPEN 0 s → IsFit x × Pass MAX_OPEN 0 r
-fit h w = let g = alternation-gives h MAX_OPEN 0 w in let l = g.low in
+alternation-fit : {s r : List Word} {x : Element} → Alternation s r x → Pass MAX_OPEN 0 s → IsFit x × Pass MAX_OPEN 0 r
+alternation-fit h w = let g = alternation-gives h MAX_OPEN 0 w in let l = g.low in
     (record { formed = g.formed; low = omega arith }, g.rest)
 
 grammar-fit : {ws : List Word} {ds : List Definition} → Grammar ws ds → Pass MAX_OPEN 0 ws → AreFit ds
-grammar-fit (last_rule spelling.defines h) w = let g = fit h (behind (behind w)) in (w.proper.0, g.0, tt)
-grammar-fit (last_rule spelling.extends h) w = let g = fit h (behind (behind w)) in (w.proper.0, g.0, tt)
-grammar-fit (more_rules spelling.defines h k) w = let g = fit h (behind (behind w)) in
+grammar-fit (last_rule spelling.defines h) w =
+    let g = alternation-fit h (pass-behind (pass-behind w)) in (w.proper.0, g.0, tt)
+grammar-fit (last_rule spelling.extends h) w =
+    let g = alternation-fit h (pass-behind (pass-behind w)) in (w.proper.0, g.0, tt)
+grammar-fit (more_rules spelling.defines h k) w = let g = alternation-fit h (pass-behind (pass-behind w)) in
     (w.proper.0, g.0, grammar-fit k g.1)
-grammar-fit (more_rules spelling.extends h k) w = let g = fit h (behind (behind w)) in
+grammar-fit (more_rules spelling.extends h k) w = let g = alternation-fit h (pass-behind (pass-behind w)) in
     (w.proper.0, g.0, grammar-fit k g.1)
 
 pub some-definitions : {ws : List Word} {ds : List Definition} → Grammar ws ds → IsSome ds

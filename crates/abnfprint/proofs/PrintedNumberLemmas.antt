@@ -26,17 +26,17 @@ digits-run : (base : ℕ) (t : List ℕ) → AllDigits base t → Run (is_digit 
 digits-run base [] h = none
 digits-run base (c ∷ cs) h = more (lt-ltb (digit_value c) base h.0) (digits-run base cs h.1)
 
-pub numeral : (base : ℕ) (t : List ℕ) (n : ℕ) → 0 < length t → AllDigits base t → digits_value base t ≡ n
+pub digits-numeral : (base : ℕ) (t : List ℕ) (n : ℕ) → 0 < length t → AllDigits base t → digits_value base t ≡ n
     → Numeral base t n
-numeral base [] n le h e = absurd (omega arith)
-numeral base (c ∷ cs) n le h e = record {
+digits-numeral base [] n le h e = absurd (omega arith)
+digits-numeral base (c ∷ cs) n le h e = record {
   are_digits = digits (lt-ltb (digit_value c) base h.0) (digits-run base cs
       h.1);
   value = e;
 }
 
 pub decimal-numeral : (n : ℕ) → n < 2 ^ 64 → Numeral 10 (decimal n) n
-decimal-numeral n h = let d = decimal_is_IsNumeral n h in numeral 10 (decimal n) n d.0.0 d.0.1 d.1
+decimal-numeral n h = let d = decimal_is_IsNumeral n h in digits-numeral 10 (decimal n) n d.0.0 d.0.1 d.1
 
 -- the digit of a number below 16
 glyph-value : (d : ℕ) → d < 16 → digit_value (digit_glyph true d) ≡ d
@@ -61,14 +61,14 @@ glyphs-length [] = refl
 glyphs-length (d ∷ ds) = ap (λ (k : ℕ). suc k) (glyphs-length ds)
 
 upper-numeral : (v : ℕ) → 0 < v → Numeral 16 (upper_digits v) v
-upper-numeral v h = numeral 16 (upper_digits v) v
+upper-numeral v h = digits-numeral 16 (upper_digits v) v
     (omega (arith, glyphs-length (digits_of 16 v), length-digits_of_step 16 v (omega arith) h))
     (glyphs-digits (digits_of 16 v) (all_below_base_digits_of 16 v (omega arith))) (upper-value v)
 
 two-numeral : (v : ℕ) → v < 16 → Numeral 16 (48 ∷ digit_glyph true v ∷ []) v
 two-numeral v h =
     let e = glyph-value v h in
-    numeral 16 (48 ∷ digit_glyph true v ∷ []) v (omega arith) (omega arith, (omega arith, tt)) (omega arith)
+    digits-numeral 16 (48 ∷ digit_glyph true v ∷ []) v (omega arith) (omega arith, (omega arith, tt)) (omega arith)
 
 pub hexadecimal-numeral : (v : ℕ) → Numeral 16 (hexadecimal v) v
 hexadecimal-numeral v = by (nat_lt v 16) refl

@@ -90,10 +90,10 @@ others-pass : (x y : Bool) → x && y ≡ true → y ≡ true
 others-pass true y e = e
 others-pass false y e = cc
 
-passes : (f : ℕ → Bool) (bs : List ℕ) → all_pass f bs ≡ true → Run f bs []
-passes f [] e = slices.none
-passes f (b ∷ bs) e = slices.more (first-passes (f b) (all_pass f bs) e)
-    (passes f bs (others-pass (f b) (all_pass f bs) e))
+all_pass-run : (f : ℕ → Bool) (bs : List ℕ) → all_pass f bs ≡ true → Run f bs []
+all_pass-run f [] e = slices.none
+all_pass-run f (b ∷ bs) e = slices.more (first-passes (f b) (all_pass f bs) e)
+    (all_pass-run f bs (others-pass (f b) (all_pass f bs) e))
 
 name-fit : (b : ℕ) (bs : List ℕ) → IsName (b ∷ bs) → IsFit (Name (b ∷ bs))
 name-fit b bs h = record { formed = h; low = omega arith }
@@ -106,7 +106,7 @@ value-fit : (v : ℕ) → v ≤ MAX_VALUE → IsFormed (Values (v ∷ []))
 value-fit v h = (tt, All-cons (λ x. x ≤ MAX_VALUE) v [] h (All-nil _))
 
 wsp-formed : IsFormed (Name (codes "WSP"))
-wsp-formed = named refl (passes continues_name (codes "SP") refl)
+wsp-formed = named refl (all_pass-run continues_name (codes "SP") refl)
 
 fit-flat : (x : Element) → IsFormed x → nest x ≤ 1 → IsFit x
 fit-flat x h l = record { formed = h; low = omega arith }
@@ -124,8 +124,8 @@ core-fit = (
           fit-flat _ (
             tt,
             (
-              named refl (passes continues_name (codes "R") refl),
-              (named refl (passes continues_name (codes "F") refl), tt),
+              named refl (all_pass-run continues_name (codes "R") refl),
+              (named refl (all_pass-run continues_name (codes "F") refl), tt),
             ),
           ) (omega arith),
           (
@@ -138,7 +138,7 @@ core-fit = (
                   fit-flat _ (
                     tt,
                     (
-                      named refl (passes continues_name (codes "IGIT") refl),
+                      named refl (all_pass-run continues_name (codes "IGIT") refl),
                       (
                         text-fit 65 refl,
                         (
@@ -162,7 +162,16 @@ core-fit = (
                             tt,
                             (
                               wsp-formed,
-                              ((tt, (named refl (passes continues_name (codes "RLF") refl), (wsp-formed, tt))), tt),
+                              (
+                                (
+                                  tt,
+                                  (
+                                    named refl (all_pass-run continues_name (codes "RLF") refl),
+                                    (wsp-formed, tt),
+                                  ),
+                                ),
+                                tt,
+                              ),
                             ),
                           ),
                         )
@@ -177,8 +186,8 @@ core-fit = (
                                 fit-flat _ (
                                   tt,
                                   (
-                                    named refl (passes continues_name (codes "P") refl),
-                                    (named refl (passes continues_name (codes "TAB") refl), tt),
+                                    named refl (all_pass-run continues_name (codes "P") refl),
+                                    (named refl (all_pass-run continues_name (codes "TAB") refl), tt),
                                   ),
                                 ) (omega arith),
                                 tt,

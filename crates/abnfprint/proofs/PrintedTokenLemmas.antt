@@ -6,14 +6,14 @@ use Rattle.std.proofs.Common.{decimal, MatchOption}
 use Rattle.std.proofs.lemmas.Bool.{eqb-true}
 use Rattle.std.specs.Str.Parse.{digits_value}
 use Rattle.ruletable.specs.declared.span.Span.{Span}
-use Rattle.lexer.specs.SliceEnds.{Longest, found}
+use Rattle.lexer.specs.SliceEnds.{Lacks, Longest, found}
 use Rattle.abnfread.specs.declared.kind.AbnfKind.{AbnfKind}
 use Rattle.abnfread.specs.declared.kind.AbnfKind.TheVariants as kinds
 use Rattle.abnfread.specs.AbnfKinds.{ends_list}
 use Rattle.abnfread.specs.AbnfSays.{says_name, says_is, says_slash, says_lparen, says_rparen, says_lbrack, says_rbrack}
 use Rattle.abnfread.specs.AbnfSays.{says_repeat, says_text, says_cased, says_num, says_prose}
 use Rattle.abnfread.specs.AbnfSlices.{continues_name, is_quotable, is_prose, is_blank, is_inside, Run, none, more}
-use Rattle.abnfread.specs.AbnfSlices.{Stops, Lacks, Digits, digits, Dotted, no_dot, dot, Stands, slash, lparen, rparen}
+use Rattle.abnfread.specs.AbnfSlices.{Stops, Digits, digits, Dotted, no_dot, dot, Stands, slash, lparen, rparen}
 use Rattle.abnfread.specs.AbnfSlices.{lbrack, rbrack, First, exactly, values}
 use Rattle.abnfread.specs.AbnfWords as words
 use Rattle.abnfread.specs.AbnfWords.{Said, Word, word}
@@ -29,13 +29,14 @@ use Rattle.abnfread.proofs.ByteRunLemmas.{numbers-range, range-longest, count-st
 use Rattle.abnfread.proofs.NumeralLemmas.{run-before, digits-run}
 use Rattle.abnfprint.specs.CanonicalAbnf.{hexadecimal, dotted, values_text, least_text, repeat_text, quoted}
 use Rattle.abnfprint.specs.FormedAbnf.{IsName, named}
-use Rattle.abnfprint.proofs.AbnfCutsLemmas.{SaysLike, IsDark, Cuts, next, plainly, inside-of, run-map, run-both, dark}
+use Rattle.abnfprint.proofs.AbnfCutsLemmas.{SaysLike, IsDark, Cuts, next, says-like, inside-of, run-map, run-both}
+use Rattle.abnfprint.proofs.AbnfCutsLemmas.{run-dark}
 use Rattle.abnfprint.proofs.PrintedNumberLemmas.{decimal-numeral, hexadecimal-numeral}
 use Rattle.abnfprint.proofs.SameWordLemmas.{same_name}
 
-pub refuted : (x : Bool) → (x ≡ true → ⊥) → x ≡ false
-refuted true f = absurd (f refl)
-refuted false f = refl
+pub refuted-false : (x : Bool) → (x ≡ true → ⊥) → x ≡ false
+refuted-false true f = absurd (f refl)
+refuted-false false f = refl
 
 -- what stands behind a name, a text or a number of a canonical text
 pub data Follows : List ℕ → Type 0 where
@@ -75,7 +76,7 @@ digits-inside : {base : ℕ} {ds : List ℕ} → base ≤ 36 → Digits base ds 
 digits-inside {base} w h = run-map (inside-of (is_digit base) (no-digit base 10 36 refl w)) (digits-run h)
 
 digit-light : (b : ℕ) → is_digit 10 b ≡ true → is_blank b ≡ false
-digit-light b h = refuted (is_blank b) (λ e. digit-dark b h e)
+digit-light b h = refuted-false (is_blank b) (λ e. digit-dark b h e)
 
 -- anything may stand behind it
 abbrev pub Anything : List ℕ → Type 0
@@ -93,17 +94,18 @@ pub record IsToken (Behind : List ℕ → Type 0) (z : List ℕ) (w : Said) : Ty
   pub darkens : IsDark z
   pub like : (p : Span) → SaysLike kind z p w
 
-pub cut : {Behind : List ℕ → Type 0} {z : List ℕ} {w : Said} {i : Option ℕ} {g : Bool} {ws : List Word}
+pub token-cut : {Behind : List ℕ → Type 0} {z : List ℕ} {w : Said} {i : Option ℕ} {g : Bool} {ws : List Word}
     → IsToken Behind z w → (r : List ℕ) → Behind r → Cuts None false r ws →
     Cuts i g (z ++ r) (word g (begins_rule (Some 0) i) w ∷ ws)
-cut t r h c = next (t.first r h) refl t.goes_on t.darkens t.like c
+token-cut t r h c = next (t.first r h) refl t.goes_on t.darkens t.like c
 
 pub name-token : {n : List ℕ} (q : Span) → IsName n → IsToken Follows n (words.Name n q)
 name-token q (named {b} {bs} h k) = record {
   kind = kinds.Name;
   first = λ r f. found (longest-name h (run-before r k) (stops-name f));
   goes_on = refl;
-  darkens = dark b bs (refuted (is_blank b) (λ e. letter-dark b h e)) (run-map (inside-of continues_name refl) k);
+  darkens = run-dark b bs (refuted-false (is_blank b) (λ e. letter-dark b h e)) (run-map
+      (inside-of continues_name refl) k);
   like = λ p. record { said = words.Name (b ∷ bs) p; same = same_name; says = says_name };
 }
 
@@ -112,8 +114,8 @@ is-token = record {
   kind = kinds.Is;
   first = λ r h. found (longest-is h);
   goes_on = refl;
-  darkens = dark 61 [] refl none;
-  like = plainly (λ p. says_is);
+  darkens = run-dark 61 [] refl none;
+  like = says-like (λ p. says_is);
 }
 
 pub slash-token : IsToken Anything (47 ∷ []) words.Slash
@@ -121,8 +123,8 @@ slash-token = record {
   kind = kinds.Slash;
   first = λ r h. found (longest-sign refl refl refl refl slash);
   goes_on = refl;
-  darkens = dark 47 [] refl none;
-  like = plainly (λ p. says_slash);
+  darkens = run-dark 47 [] refl none;
+  like = says-like (λ p. says_slash);
 }
 
 pub lparen-token : IsToken Anything (40 ∷ []) words.LParen
@@ -130,8 +132,8 @@ lparen-token = record {
   kind = kinds.LParen;
   first = λ r h. found (longest-sign refl refl refl refl lparen);
   goes_on = refl;
-  darkens = dark 40 [] refl none;
-  like = plainly (λ p. says_lparen);
+  darkens = run-dark 40 [] refl none;
+  like = says-like (λ p. says_lparen);
 }
 
 pub rparen-token : IsToken Anything (41 ∷ []) words.RParen
@@ -139,8 +141,8 @@ rparen-token = record {
   kind = kinds.RParen;
   first = λ r h. found (longest-sign refl refl refl refl rparen);
   goes_on = refl;
-  darkens = dark 41 [] refl none;
-  like = plainly (λ p. says_rparen);
+  darkens = run-dark 41 [] refl none;
+  like = says-like (λ p. says_rparen);
 }
 
 pub lbrack-token : IsToken Anything (91 ∷ []) words.LBrack
@@ -148,8 +150,8 @@ lbrack-token = record {
   kind = kinds.LBrack;
   first = λ r h. found (longest-sign refl refl refl refl lbrack);
   goes_on = refl;
-  darkens = dark 91 [] refl none;
-  like = plainly (λ p. says_lbrack);
+  darkens = run-dark 91 [] refl none;
+  like = says-like (λ p. says_lbrack);
 }
 
 pub rbrack-token : IsToken Anything (93 ∷ []) words.RBrack
@@ -157,13 +159,14 @@ rbrack-token = record {
   kind = kinds.RBrack;
   first = λ r h. found (longest-sign refl refl refl refl rbrack);
   goes_on = refl;
-  darkens = dark 93 [] refl none;
-  like = plainly (λ p. says_rbrack);
+  darkens = run-dark 93 [] refl none;
+  like = says-like (λ p. says_rbrack);
 }
 
 -- what a mark closes
-closed : {f : ℕ → Bool} (c : ℕ) (t r : List ℕ) → Run f t [] → Run f ((t ++ c ∷ []) ++ r) (c ∷ r)
-closed {f} c t r h = subst (λ (x : List ℕ). Run f x (c ∷ r)) (sym (append_assoc t (c ∷ []) r)) (run-before (c ∷ r) h)
+run-closed : {f : ℕ → Bool} (c : ℕ) (t r : List ℕ) → Run f t [] → Run f ((t ++ c ∷ []) ++ r) (c ∷ r)
+run-closed {f} c t r h =
+    subst (λ (x : List ℕ). Run f x (c ∷ r)) (sym (append_assoc t (c ∷ []) r)) (run-before (c ∷ r) h)
 
 quoted-inside : {t : List ℕ} → Run is_quotable t [] → Run is_inside (t ++ 34 ∷ []) []
 quoted-inside h = run-both (run-map (inside-of is_quotable refl) h) (more refl none)
@@ -171,28 +174,28 @@ quoted-inside h = run-both (run-map (inside-of is_quotable refl) h) (more refl n
 pub text-token : (t : List ℕ) → Run is_quotable t [] → IsToken Anything (quoted t) (words.Text true t)
 text-token t h = record {
   kind = kinds.Text;
-  first = λ r x. found (longest-text refl (closed 34 t r h));
+  first = λ r x. found (longest-text refl (run-closed 34 t r h));
   goes_on = refl;
-  darkens = dark 34 (t ++ 34 ∷ []) refl (quoted-inside h);
-  like = plainly (λ p. says_text refl);
+  darkens = run-dark 34 (t ++ 34 ∷ []) refl (quoted-inside h);
+  like = says-like (λ p. says_text refl);
 }
 
 pub cased-token : (t : List ℕ) → Run is_quotable t [] → IsToken Anything (37 ∷ 115 ∷ quoted t) (words.Text false t)
 cased-token t h = record {
   kind = kinds.Text;
-  first = λ r x. found (longest-cased refl refl (closed 34 t r h));
+  first = λ r x. found (longest-cased refl refl (run-closed 34 t r h));
   goes_on = refl;
-  darkens = dark 37 (115 ∷ quoted t) refl (more refl (more refl (quoted-inside h)));
-  like = plainly (λ p. says_cased {c = 115} refl refl);
+  darkens = run-dark 37 (115 ∷ quoted t) refl (more refl (more refl (quoted-inside h)));
+  like = says-like (λ p. says_cased {c = 115} refl refl);
 }
 
 pub prose-token : (t : List ℕ) → Run is_prose t [] → IsToken Anything (60 ∷ (t ++ 62 ∷ [])) (words.Prose t)
 prose-token t h = record {
   kind = kinds.Prose;
-  first = λ r x. found (longest-prose refl (closed 62 t r h));
+  first = λ r x. found (longest-prose refl (run-closed 62 t r h));
   goes_on = refl;
-  darkens = dark 60 (t ++ 62 ∷ []) refl (run-both (run-map (inside-of is_prose refl) h) (more refl none));
-  like = plainly (λ p. says_prose refl);
+  darkens = run-dark 60 (t ++ 62 ∷ []) refl (run-both (run-map (inside-of is_prose refl) h) (more refl none));
+  like = says-like (λ p. says_prose refl);
 }
 
 -- further values
@@ -251,8 +254,8 @@ values-token v vs = record {
       found (longest-num refl (sixteen refl) (values own d.dots)
       (λ s x. dotted-longest (omega arith) own d.stops d.no_dash d.dots d.farthest x)));
   goes_on = refl;
-  darkens = dark 37 (120 ∷ values_text (v ∷ vs)) refl (more refl (run-both (hex-inside v) (dotted-inside vs)));
-  like = plainly (λ p. says_num (says_values (sixteen refl) (values-listed v vs)));
+  darkens = run-dark 37 (120 ∷ values_text (v ∷ vs)) refl (more refl (run-both (hex-inside v) (dotted-inside vs)));
+  like = says-like (λ p. says_num (says_values (sixteen refl) (values-listed v vs)));
 }
 
 pub range-token : (a b : ℕ) → IsToken Follows (37 ∷ 120 ∷ (hexadecimal a ++ 45 ∷ hexadecimal b)) (words.Range a b)
@@ -267,9 +270,9 @@ range-token a b = record {
       found (longest-num refl (sixteen refl) (numbers-range low refl high)
       (λ s x. range-longest (omega arith) low refl refl high (stops-hex f) x)));
   goes_on = refl;
-  darkens = dark 37 (120 ∷ (hexadecimal a ++ 45 ∷ hexadecimal b)) refl
+  darkens = run-dark 37 (120 ∷ (hexadecimal a ++ 45 ∷ hexadecimal b)) refl
       (more refl (run-both (hex-inside a) (more refl (hex-inside b))));
-  like = plainly (λ p. says_num (range-said a b));
+  like = says-like (λ p. says_num (range-said a b));
 }
   where
     range-said : (a b : ℕ) → SaysNum (37 ∷ 120 ∷ (hexadecimal a ++ 45 ∷ hexadecimal b)) (words.Range a b)
@@ -288,7 +291,7 @@ record IsCount (z : List ℕ) (a : ℕ) (b : Option ℕ) : Type 0 where
   says : SaysRepeat z a b
 
 digits-dark : {ds : List ℕ} (es : List ℕ) → Digits 10 ds [] → Run is_inside es [] → IsDark (ds ++ es)
-digits-dark es (digits {b} {bs} e h) k = dark b (bs ++ es) (digit-light b e)
+digits-dark es (digits {b} {bs} e h) k = run-dark b (bs ++ es) (digit-light b e)
     (run-both (run-map (inside-of (is_digit 10) refl) h) k)
 
 exactly-longest : {ds : List ℕ} (r : List ℕ) → Digits 10 ds [] → NoCount r → Longest Stands kinds.Repeat (ds ++ r) r
@@ -307,7 +310,7 @@ between-longest {es = es} r (digits {bs} e h) k n =
 star-count : {es : List ℕ} → Run (is_digit 10) es [] → IsCount (42 ∷ es) 0 (most es)
 star-count {es} k = record {
   longest = λ r n. longest-star refl (run-before r k) n.0;
-  darkens = dark 42 es refl (run-map (inside-of (is_digit 10) refl) k);
+  darkens = run-dark 42 es refl (run-map (inside-of (is_digit 10) refl) k);
   says = says_between {ds = []} refl none k;
 }
 
@@ -365,5 +368,5 @@ repeat-token a b h k =
       first = λ r n. found (c.longest r n);
       goes_on = refl;
       darkens = c.darkens;
-      like = plainly (λ p. says_repeat c.says);
+      like = says-like (λ p. says_repeat c.says);
     }

@@ -11,7 +11,7 @@ use Rattle.abnfread.specs.AbnfWords.{Said, Word, word}
 use Rattle.abnfread.specs.Element.{Element, Elements, Rule, Definition}
 use Rattle.abnfprint.specs.FormedAbnf.{AreFormedRules, IsSome}
 use Rattle.abnfprint.proofs.AbnfListedLemmas.{listed, listed_rules}
-use Rattle.abnfprint.proofs.AbnfSpelledLemmas.{spelled}
+use Rattle.abnfprint.proofs.AbnfSpelledLemmas.{formed-spelled}
 
 pub data SameSaid : Said → Said → Type 0 where
   same_said : {s : Said} → SameSaid s s
@@ -46,9 +46,10 @@ record Tail (w : Word) (r t : List Word) : Type 0 where
   whole : t ≡ w ∷ rest
   same : SameWords r rest
 
-tail : (g f : Bool) (s : Said) {r t : List Word} → IsMark s → SameWords (word g f s ∷ r) t → Tail (word g f s) r t
-tail g f s m (same_more same_said h) = record { rest = _; whole = refl; same = h }
-tail g f (words.Name n p) m (same_more same_name h) = absurd m
+same_words-tail : (g f : Bool) (s : Said) {r t : List Word} → IsMark s → SameWords (word g f s ∷ r) t
+    → Tail (word g f s) r t
+same_words-tail g f s m (same_more same_said h) = record { rest = _; whole = refl; same = h }
+same_words-tail g f (words.Name n p) m (same_more same_name h) = absurd m
 
 -- what stands behind begins with that word
 record Passes (Spells : List Word → List Word → Type 0) (w : Word) (s r : List Word) : Type 0 where
@@ -56,9 +57,9 @@ record Passes (Spells : List Word → List Word → Type 0) (w : Word) (s r : Li
   same : SameWords r rest
   spells : Spells s (w ∷ rest)
 
-passes : {Spells : List Word → List Word → Type 0} {g f : Bool} {w : Said} {s r : List Word} → IsMark w
+also-passes : {Spells : List Word → List Word → Type 0} {g f : Bool} {w : Said} {s r : List Word} → IsMark w
     → Also Spells s (word g f w ∷ r) → Passes Spells (word g f w) s r
-passes {Spells} {g} {f} {w} {s} m a = let b = tail g f w m a.same in
+also-passes {Spells} {g} {f} {w} {s} m a = let b = same_words-tail g f w m a.same in
     record { rest = b.rest; same = b.same; spells = subst (λ (u : List Word). Spells s u) b.whole a.spells }
 
 mutual
@@ -70,9 +71,9 @@ mutual
   element-also values (same_more same_said h) = record { rest = _; same = h; spells = values }
   element-also range (same_more same_said h) = record { rest = _; same = h; spells = range }
   element-also prose (same_more same_said h) = record { rest = _; same = h; spells = prose }
-  element-also (parens k) (same_more same_said h) = let a = passes tt (alternation-also k h) in
+  element-also (parens k) (same_more same_said h) = let a = also-passes tt (alternation-also k h) in
       record { rest = a.rest; same = a.same; spells = parens a.spells }
-  element-also (brackets k) (same_more same_said h) = let a = passes tt (alternation-also k h) in
+  element-also (brackets k) (same_more same_said h) = let a = also-passes tt (alternation-also k h) in
       record { rest = a.rest; same = a.same; spells = brackets a.spells }
 
   repetition-also : {s r t : List Word} {x : Element} → Repetition s r x → SameWords s t
@@ -91,7 +92,7 @@ mutual
       → Also (λ a b. Alternatives a b xs) t r
   alternatives-also (only k) h = let a = parts-also k h in
       record { rest = a.rest; same = a.same; spells = only a.spells }
-  alternatives-also (others k i) h = let a = passes tt (parts-also k h) in let b = alternatives-also i a.same in
+  alternatives-also (others k i) h = let a = also-passes tt (parts-also k h) in let b = alternatives-also i a.same in
       record { rest = b.rest; same = b.same; spells = others a.spells b.spells }
 
   alternation-also : {s r t : List Word} {x : Element} → Alternation s r x → SameWords s t
@@ -119,7 +120,7 @@ last-again : (g : Bool) (rule : Rule) (q : Span) {t : List Word}
     SameWords (listed rule.body true (word true false words.End ∷ [])) t
     → SpellsAgain (word g true (words.Name rule.name q) ∷ word true false words.Is ∷ t) (rule ∷ [])
 last-again g rule q {t} k h =
-    let a = passes tt (alternation-also k h) in
+    let a = also-passes tt (alternation-also k h) in
     record {
       again = definition false rule.name q rule.body ∷ [];
       are_again = again_more again_none;
@@ -141,12 +142,12 @@ pub rules-again : (g : Bool) (rules : List Rule) {vs : List Word} → IsSome rul
     → SameWords (listed_rules g rules) vs → SpellsAgain vs rules
 rules-again g [] n w h = absurd n
 rules-again g (rule ∷ []) n w (same_more same_said (same_more same_said h)) =
-    last-again g rule rule.span ((spelled rule.body w.1).whole _ _) h
+    last-again g rule rule.span ((formed-spelled rule.body w.1).whole _ _) h
 rules-again g (rule ∷ []) n w (same_more (same_name {q = q}) (same_more same_said h)) =
-    last-again g rule q ((spelled rule.body w.1).whole _ _) h
+    last-again g rule q ((formed-spelled rule.body w.1).whole _ _) h
 rules-again g (rule ∷ next ∷ rules) n w (same_more same_said (same_more same_said h)) =
-    let a = alternation-also ((spelled rule.body w.1).whole true (listed_rules true (next ∷ rules))) h in
+    let a = alternation-also ((formed-spelled rule.body w.1).whole true (listed_rules true (next ∷ rules))) h in
     first-again g rule (next ∷ rules) rule.span a.spells (rules-again true (next ∷ rules) tt w.2 a.same)
 rules-again g (rule ∷ next ∷ rules) n w (same_more (same_name {q = q}) (same_more same_said h)) =
-    let a = alternation-also ((spelled rule.body w.1).whole true (listed_rules true (next ∷ rules))) h in
+    let a = alternation-also ((formed-spelled rule.body w.1).whole true (listed_rules true (next ∷ rules))) h in
     first-again g rule (next ∷ rules) q a.spells (rules-again true (next ∷ rules) tt w.2 a.same)

@@ -1,4 +1,5 @@
 -- The canonical text of a grammar in ABNF (RFC 5234, section 4; RFC 7405).
+use Prim.Native.Char.{code}
 use Rattle.std.specs.Prelude.{ℕ, ◌==◌, nat_lt, cond, codes, Bool, true, false, List, [], ◌∷◌, ◌++◌, map, decimal}
 use Rattle.std.specs.Prelude.{Option, Some, None}
 use Rattle.std.specs.Fmt.{digit_glyph}
@@ -28,7 +29,7 @@ wraps p x = nat_lt (rank x) (least p)
 
 -- a text, in parentheses or not
 abbrev pub around : Bool → List ℕ → List ℕ
-around true s = 40 ∷ (s ++ 41 ∷ [])
+around true s = code "(" ∷ (s ++ code ")" ∷ [])
 around false s = s
 
 -- upper-case hexadecimal digits without leading zeros, and none for 0
@@ -37,11 +38,11 @@ upper_digits v = map (λ d. digit_glyph true d) (digits_of 16 v)
 
 -- a value in upper-case hexadecimal digits, at least two
 abbrev pub hexadecimal : ℕ → List ℕ
-hexadecimal v = cond (nat_lt v 16) (48 ∷ digit_glyph true v ∷ []) (upper_digits v)
+hexadecimal v = cond (nat_lt v 16) (code "0" ∷ digit_glyph true v ∷ []) (upper_digits v)
 
 -- further values, each behind a dot
 abbrev pub dotted : List ℕ → List ℕ
-dotted vs = flat_map (λ v. 46 ∷ hexadecimal v) vs
+dotted vs = flat_map (λ v. code "." ∷ hexadecimal v) vs
 
 -- values with dots between
 abbrev pub values_text : List ℕ → List ℕ
@@ -55,24 +56,24 @@ least_text a = cond (a == 0) [] (decimal a)
 -- one number if both are the same, else each on its side of the star
 abbrev pub repeat_text : ℕ → Option ℕ → List ℕ
 repeat_text a None = least_text a ++ codes "*"
-repeat_text a (Some b) = cond (a == b) (decimal a) (least_text a ++ 42 ∷ decimal b)
+repeat_text a (Some b) = cond (a == b) (decimal a) (least_text a ++ code "*" ∷ decimal b)
 
 abbrev pub quoted : List ℕ → List ℕ
-quoted t = 34 ∷ (t ++ 34 ∷ [])
+quoted t = code "\"" ∷ (t ++ code "\"" ∷ [])
 
 abbrev mutual
   -- the text of an element as a rule's body, where it needs no parentheses
   pub text_of : Element → List ℕ
   text_of (Text true t) = quoted t
-  text_of (Text false t) = 37 ∷ 115 ∷ quoted t
-  text_of (Values vs) = 37 ∷ 120 ∷ values_text vs
-  text_of (Range a b) = 37 ∷ 120 ∷ (hexadecimal a ++ 45 ∷ hexadecimal b)
+  text_of (Text false t) = code "%" ∷ code "s" ∷ quoted t
+  text_of (Values vs) = code "%" ∷ code "x" ∷ values_text vs
+  text_of (Range a b) = code "%" ∷ code "x" ∷ (hexadecimal a ++ code "-" ∷ hexadecimal b)
   text_of (Concat xs) = joined Member (codes " ") xs
   text_of (Alt xs) = joined Alternative (codes " / ") xs
   text_of (Rep a b x) = repeat_text a b ++ around (wraps Repeated x) (text_of x)
-  text_of (Opt x) = 91 ∷ (text_of x ++ 93 ∷ [])
+  text_of (Opt x) = code "[" ∷ (text_of x ++ code "]" ∷ [])
   text_of (Name n) = n
-  text_of (Prose t) = 60 ∷ (t ++ 62 ∷ [])
+  text_of (Prose t) = code "<" ∷ (t ++ code ">" ∷ [])
 
   -- members or alternatives, with a mark between each two
   pub joined : Place → List ℕ → Elements → List ℕ
@@ -86,7 +87,7 @@ abbrev mutual
 
 -- a definition: the name, ` = `, the body and LF
 abbrev pub definition_text : List ℕ → Element → List ℕ
-definition_text n x = n ++ (codes " = " ++ (text_of x ++ 10 ∷ []))
+definition_text n x = n ++ (codes " = " ++ (text_of x ++ code "\n" ∷ []))
 
 abbrev pub rule_text : Rule → List ℕ
 rule_text rule = definition_text rule.name rule.body

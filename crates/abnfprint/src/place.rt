@@ -36,7 +36,7 @@ fn least(place: Place) -> u8
     }
 }
 
-/// Whether parentheses stand round the element there.
+/// Returns whether parentheses stand round the element there.
 pub(crate) fn is_wrapped(e: &Elem, place: Place) -> bool
     ensures { result ≡ canon.wraps place (element_of e.now) }
 {

@@ -5,12 +5,12 @@ use Rattle.std.proofs.Common.{refl, sym, arith, ◌⊎◌, inl, inr, ◌∙◌, 
 use Rattle.std.specs.Char.{is_ascii_alphabetic}
 use Rattle.std.proofs.lemmas.Bool.Decides.{nat_tests}
 use Rattle.std.proofs.lemmas.Bool.{eqb-true, or_cases}
-use Rattle.lexer.specs.SliceEnds.{NoPiece, Longest, NoToken, found, bad, at_end}
+use Rattle.lexer.specs.SliceEnds.{Lacks, NoPiece, Longest, NoToken, found, bad, at_end}
 use Rattle.abnfread.specs.declared.kind.AbnfKind.{AbnfKind}
 use Rattle.abnfread.specs.declared.kind.AbnfKind.TheVariants.{Name, Is, Adds, Repeat, Text, Num, Prose, Bad, End}
 use Rattle.abnfread.specs.BaseDigits.{is_digit, Tells, binary, decimals, hexadecimal}
 use Rattle.abnfread.specs.AbnfSlices.{continues_name, is_quotable, is_prose, is_case, is_blank, is_inside, Run, Stops}
-use Rattle.abnfread.specs.AbnfSlices.{Lacks, Numbers, Count, Piece, blank, crlf, comment, Stands, name, is, adds, slash}
+use Rattle.abnfread.specs.AbnfSlices.{Numbers, Count, Piece, blank, crlf, comment, Stands, name, is, adds, slash}
 use Rattle.abnfread.specs.AbnfSlices.{lparen, rparen, lbrack, rbrack, counted, star, text, cased, num, prose, First}
 use Rattle.abnfread.proofs.ByteRunLemmas.{run-longest}
 
@@ -25,9 +25,9 @@ letter-dark b e f = absurd (grind (arith, nat_tests))
 pub digit-dark : (b : ℕ) → is_digit 10 b ≡ true → is_blank b ≡ true → ⊥
 digit-dark b e f = absurd (grind (arith, nat_tests))
 
-pub longest : {k : AbnfKind} {t r : List ℕ} → Stands k t r
+pub stands-longest : {k : AbnfKind} {t r : List ℕ} → Stands k t r
     → ((j : AbnfKind) (s : List ℕ) → Stands j t s → length r ≤ length s) → Longest Stands k t r
-longest h f = record { stands = h; longest = f }
+stands-longest h f = record { stands = h; longest = f }
 
 name-run : {k : AbnfKind} {b : ℕ} {bs s : List ℕ} → is_ascii_alphabetic b ≡ true → Stands k (b ∷ bs) s
     → Run continues_name bs s
@@ -37,7 +37,7 @@ name-run e _ = cc
 
 pub longest-name : {b : ℕ} {bs r : List ℕ} → is_ascii_alphabetic b ≡ true → Run continues_name bs r
     → Stops continues_name r → Longest Stands Name (b ∷ bs) r
-longest-name e h stop = longest (name e h) (λ j s x. run-longest h stop (name-run e x))
+longest-name e h stop = stands-longest (name e h) (λ j s x. run-longest h stop (name-run e x))
 
 digit-count : {k : AbnfKind} {b : ℕ} {bs s : List ℕ} → is_digit 10 b ≡ true → Stands k (b ∷ bs) s → Count bs s
 digit-count {b = b} e (name h n) = absurd (letter-digit b h e)
@@ -46,7 +46,7 @@ digit-count e _ = cc
 
 pub longest-count : {b : ℕ} {bs r : List ℕ} → is_digit 10 b ≡ true → Count bs r
     → ((s : List ℕ) → Count bs s → length r ≤ length s) → Longest Stands Repeat (b ∷ bs) r
-longest-count e h f = longest (counted e h) (λ j s x. f s (digit-count e x))
+longest-count e h f = stands-longest (counted e h) (λ j s x. f s (digit-count e x))
 
 star-run : {k : AbnfKind} {bs s : List ℕ} → Stands k (42 ∷ bs) s → Run (is_digit 10) bs s
 star-run (name h n) = cc
@@ -55,7 +55,7 @@ star-run (star h) = h
 
 pub longest-star : {b : ℕ} {bs r : List ℕ} → b ≡ 42 → Run (is_digit 10) bs r → Stops (is_digit 10) r
     → Longest Stands Repeat (b ∷ bs) r
-longest-star e h stop = rw e (longest (star h) (λ j s x. run-longest h stop (star-run x)))
+longest-star e h stop = rw e (stands-longest (star h) (λ j s x. run-longest h stop (star-run x)))
 
 equals-longest : {k : AbnfKind} {bs s : List ℕ} → Stands k (61 ∷ 47 ∷ bs) s → length bs ≤ length s
 equals-longest (name h n) = cc
@@ -70,10 +70,10 @@ equals-lone l is = refl
 equals-lone l adds = absurd (l refl)
 
 pub longest-adds : {bs m : List ℕ} → bs ≡ 47 ∷ m → Longest Stands Adds (61 ∷ bs) m
-longest-adds e = rw e (longest adds (λ j s x. equals-longest x))
+longest-adds e = rw e (stands-longest adds (λ j s x. equals-longest x))
 
 pub longest-is : {bs : List ℕ} → Lacks 47 bs → Longest Stands Is (61 ∷ bs) bs
-longest-is l = longest is (λ j s x. let e = equals-lone l x in rw e (omega arith))
+longest-is l = stands-longest is (λ j s x. let e = equals-lone l x in rw e (omega arith))
 
 -- a byte that is a token, wherever it stands
 abbrev is_sign : ℕ → Bool
@@ -92,7 +92,7 @@ sign-ends e l d _ = cc
 
 pub longest-sign : {k : AbnfKind} {b c : ℕ} {bs : List ℕ} → b ≡ c → is_sign c ≡ true → is_ascii_alphabetic c ≡ false
     → is_digit 10 c ≡ false → Stands k (c ∷ bs) bs → Longest Stands k (b ∷ bs) bs
-longest-sign e g l d h = rw e (longest h (λ j s x. let f = sign-ends g l d x in rw f (omega arith)))
+longest-sign e g l d h = rw e (stands-longest h (λ j s x. let f = sign-ends g l d x in rw f (omega arith)))
 
 -- what a mark closes
 quoted-run : {k : AbnfKind} {bs s : List ℕ} → Stands k (34 ∷ bs) s → Run is_quotable bs (34 ∷ s)
@@ -111,14 +111,14 @@ closed-longest : {f : ℕ → Bool} {c : ℕ} {t r s : List ℕ} → f c ≡ fal
 closed-longest p h k = let l = run-longest h p k in omega arith
 
 pub longest-text : {b : ℕ} {bs r : List ℕ} → b ≡ 34 → Run is_quotable bs (34 ∷ r) → Longest Stands Text (b ∷ bs) r
-longest-text e h = rw e (longest (text h) (λ j s x. closed-longest refl h (quoted-run x)))
+longest-text e h = rw e (stands-longest (text h) (λ j s x. closed-longest refl h (quoted-run x)))
 
 pub no-text : {b : ℕ} {bs : List ℕ} → b ≡ 34 → ((r : List ℕ) → Run is_quotable bs (34 ∷ r) → ⊥)
     → NoToken Stands (b ∷ bs)
 no-text e f = rw e (λ k r x. f r (quoted-run x))
 
 pub longest-prose : {b : ℕ} {bs r : List ℕ} → b ≡ 60 → Run is_prose bs (62 ∷ r) → Longest Stands Prose (b ∷ bs) r
-longest-prose e h = rw e (longest (prose h) (λ j s x. closed-longest refl h (prose-run x)))
+longest-prose e h = rw e (stands-longest (prose h) (λ j s x. closed-longest refl h (prose-run x)))
 
 pub no-prose : {b : ℕ} {bs : List ℕ} → b ≡ 60 → ((r : List ℕ) → Run is_prose bs (62 ∷ r) → ⊥) → NoToken Stands (b ∷ bs)
 no-prose e f = rw e (λ k r x. f r (prose-run x))
@@ -173,7 +173,7 @@ based-numbers e x = elim (percent-by x) [ inl h ↦ (let f = h.0 in cc) | inr h 
 
 pub longest-cased : {c : ℕ} {bs m r : List ℕ} → is_case c ≡ true → bs ≡ 34 ∷ m → Run is_quotable m (34 ∷ r)
     → Longest Stands Text (37 ∷ c ∷ bs) r
-longest-cased {c} {bs} {m} {r} e q h = rw q (longest (cased e h)
+longest-cased {c} {bs} {m} {r} e q h = rw q (stands-longest (cased e h)
     (λ j s x. (let k = cased-run e x in let same : m ≡ k.0 = (let z = k.1 in cc) in
     closed-longest refl h (rw (sym same) at k.2))))
 
@@ -190,7 +190,8 @@ no-quote e l k r x = let h = cased-run e x in lacks-quote h.1 l
 
 pub longest-num : {c base : ℕ} {bs r : List ℕ} → is_case c ≡ false → Tells c base → Numbers base bs r
     → ((s : List ℕ) → Numbers base bs s → length r ≤ length s) → Longest Stands Num (37 ∷ c ∷ bs) r
-longest-num e t h f = longest (num t h) (λ j s x. (let k = based-numbers e x in f s (rw (tells-one k.1 t) at k.2)))
+longest-num e t h f =
+    stands-longest (num t h) (λ j s x. (let k = based-numbers e x in f s (rw (tells-one k.1 t) at k.2)))
 
 pub no-num : {c base : ℕ} {bs : List ℕ} → is_case c ≡ false → Tells c base → ((r : List ℕ) → Numbers base bs r → ⊥)
     → NoToken Stands (37 ∷ c ∷ bs)

@@ -27,10 +27,10 @@ abbrev a : Said
 a = Name (97 ∷ []) nowhere
 
 -- `a = "x" / "x"`
-two : run start (head a ∷ far Is ∷ far x ∷ far Slash ∷ far x ∷ near End ∷ [])
+two-alternatives : run start (head a ∷ far Is ∷ far x ∷ far Slash ∷ far x ∷ near End ∷ [])
     ≡ Some (done (definition false (97 ∷ []) nowhere
     (e.Alt (more (e.Text false (120 ∷ [])) (more (e.Text false (120 ∷ [])) none))) ∷ []))
-two = refl
+two-alternatives = refl
 
 -- a rule's name that is not the first of such a line
 not-first : run start (far a ∷ []) ≡ None

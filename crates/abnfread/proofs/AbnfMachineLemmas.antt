@@ -159,10 +159,10 @@ mutual
       → Over h o x (run (body h o none none fresh) s) r
   pass-alternation h o (alternatives y) = pass-alternatives h o none y
 
-assigned : (ds : List Definition) (n : List ℕ) (p : Span) {w : Word} {a : Bool} (s : List Word) → Assigns w a
+assigned-body : (ds : List Definition) (n : List ℕ) (p : Span) {w : Word} {a : Bool} (s : List Word) → Assigns w a
     → run (named ds n p) (w ∷ s) ≡ run (body (head ds a n p) [] none none fresh) s
-assigned ds n p s defines = refl
-assigned ds n p s extends = refl
+assigned-body ds n p s defines = refl
+assigned-body ds n p s extends = refl
 
 -- a rule begins behind these
 abbrev Enters : List Definition → Config → Type 0
@@ -173,11 +173,11 @@ pass-rules : (ds : List Definition) (c : Config) → Enters ds c → {s : List W
     → Grammar s rules → run c s ≡ Some (done (ds ++ rules))
 pass-rules ds c enter (last_rule {g} {a = a} {n} {p} {w = v} {s = s} w y) =
     let q = pass-alternation (head ds a n p) [] y in
-    enter g n p (v ∷ s) ∙ assigned ds n p s w ∙ q.runs
+    enter g n p (v ∷ s) ∙ assigned-body ds n p s w ∙ q.runs
     ∙ ap (λ (x : Element). Some (done (ds ++ definition a n p x ∷ []))) q.whole
 pass-rules ds c enter (more_rules {g} {a} {n} {p} {w = v} {s = s} {ds = rules} w y zs) =
     let q = pass-alternation (head ds a n p) [] y in
-    enter g n p (v ∷ s) ∙ assigned ds n p s w ∙ q.runs ∙ pass-rules (ended (head ds a n p) (finish q.bs q.es))
+    enter g n p (v ∷ s) ∙ assigned-body ds n p s w ∙ q.runs ∙ pass-rules (ended (head ds a n p) (finish q.bs q.es))
     (body (head ds a n p) [] q.bs q.es read) (λ g n p s. refl) zs
     ∙ ap (λ (x : Element). Some (done ((ds ++ definition a n p x ∷ []) ++ rules))) q.whole
     ∙ ap (λ (y : List Definition). Some (done y)) (list_assoc ds (definition a n p _ ∷ []) rules)

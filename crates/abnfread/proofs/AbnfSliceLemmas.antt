@@ -20,8 +20,8 @@ run-end none = end-here
 run-end (more e h) = end-more _ (run-end h)
 
 -- up to a byte, and with it
-behind : {t r : List ℕ} (c : ℕ) → IsEnd t (c ∷ r) → IsEnd t r
-behind c h = end-both h (end-more c end-here)
+is_end-behind : {t r : List ℕ} (c : ℕ) → IsEnd t (c ∷ r) → IsEnd t r
+is_end-behind c h = end-both h (end-more c end-here)
 
 digits-end : {base : ℕ} {t r : List ℕ} → Digits base t r → IsEnd t r
 digits-end (digits e h) = end-more _ (run-end h)
@@ -32,21 +32,21 @@ dotted-end (dot d h) = end-more _ (end-both (digits-end d) (dotted-end h))
 
 numbers-end : {base : ℕ} {t r : List ℕ} → Numbers base t r → IsEnd t r
 numbers-end (values d h) = end-both (digits-end d) (dotted-end h)
-numbers-end (range d h) = end-both (behind 45 (digits-end d)) (digits-end h)
+numbers-end (range d h) = end-both (is_end-behind 45 (digits-end d)) (digits-end h)
 
 count-end : {t r : List ℕ} → Count t r → IsEnd t r
 count-end (exactly h) = run-end h
-count-end (at_least h k) = end-both (behind 42 (run-end h)) (run-end k)
+count-end (at_least h k) = end-both (is_end-behind 42 (run-end h)) (run-end k)
 
 stands-part : (k : AbnfKind) (t r : List ℕ) → Stands k t r → IsPart t r
 stands-part k t r (name e h) = less-one _ (run-end h)
 stands-part k t r adds = less-one _ (end-more _ end-here)
 stands-part k t r (counted e h) = less-one _ (count-end h)
 stands-part k t r (star h) = less-one _ (run-end h)
-stands-part k t r (text h) = less-one _ (behind 34 (run-end h))
-stands-part k t r (cased e h) = less-one _ (end-more _ (end-more _ (behind 34 (run-end h))))
+stands-part k t r (text h) = less-one _ (is_end-behind 34 (run-end h))
+stands-part k t r (cased e h) = less-one _ (end-more _ (end-more _ (is_end-behind 34 (run-end h))))
 stands-part k t r (num e h) = less-one _ (end-more _ (numbers-end h))
-stands-part k t r (prose h) = less-one _ (behind 62 (run-end h))
+stands-part k t r (prose h) = less-one _ (is_end-behind 62 (run-end h))
 stands-part k t r _ = less-one _ end-here
 
 letter-kind : {k : AbnfKind} {b : ℕ} {bs r : List ℕ} → is_ascii_alphabetic b ≡ true → Stands k (b ∷ bs) r → k ≡ Name

@@ -78,9 +78,9 @@ all-alternatives cs y (goes no_part z) = (_, others (one y) z, refl)
 all-alternatives cs y (goes (parts n ys) z) = (_, others (further y n ys) z, refl)
 
 -- an alternation begins where nothing stands
-whole : (K : Element → List Word → Type 0) {s : List Word} → Begun K none none s → (r : List Word) × (x : Element)
+begun-whole : (K : Element → List Word → Type 0) {s : List Word} → Begun K none none s → (r : List Word) × (x : Element)
     × Alternation s r x × K x r
-whole K (m, x, y, (r, ys, tail, k)) =
+begun-whole K (m, x, y, (r, ys, tail, k)) =
     let a = all-alternatives none y tail in
     let same : ys ≡ a.0 = a.2 in
     (r, alternation ys, rw (sym same) at (alternatives a.1), k)
@@ -98,17 +98,17 @@ module _ (K : Element → List Word → Type 0) (bs es : Elements) where
       goes (parts n (further y k ys)) z in rw same t
 
   -- behind a repetition another one begins, with white space between
-  join : {s : List Word} → HasGap s → Begun K bs es s → Going K bs es s
-  join n (m, x, y, (r, ys, tail, k)) = (r, ys, join-tail n y tail, k)
+  going-joined : {s : List Word} → HasGap s → Begun K bs es s → Going K bs es s
+  going-joined n (m, x, y, (r, ys, tail, k)) = (r, ys, join-tail n y tail, k)
 
   -- the alternation ends here
   ends-here : (s : List Word) → K (finish bs es) s → Going K bs es s
   ends-here s k = (s, snoc bs (concatenation es), ends no_part, k)
 
   -- a slash ends the concatenation
-  slashed : (g : Bool) {s : List Word} → Begun K (snoc bs (concatenation es)) none s
+  going-slashed : (g : Bool) {s : List Word} → Begun K (snoc bs (concatenation es)) none s
       → Going K bs es (word g false Slash ∷ s)
-  slashed g {s} (m, x, y, (r, ys, tail, k)) =
+  going-slashed g {s} (m, x, y, (r, ys, tail, k)) =
       let a = all-alternatives (snoc bs (concatenation es)) y tail in
       let same : ys ≡ append bs (more (concatenation es) a.0) = a.2 ∙ append_assoc bs (more (concatenation es) none)
       a.0 in
@@ -118,9 +118,9 @@ module _ (K : Element → List Word → Type 0) (bs es : Elements) where
   just-one : {s : List Word} → Entered K bs es just s → Begun K bs es s
   just-one (m, x, y, k) = (m, x, once y, k)
 
-  counted : (g : Bool) (a : ℕ) (b : Option ℕ) {s : List Word} → HasNoGap s → Entered K bs es (times a b) s
+  begun-counted : (g : Bool) (a : ℕ) (b : Option ℕ) {s : List Word} → HasNoGap s → Entered K bs es (times a b) s
       → Begun K bs es (word g false (Repeat a b) ∷ s)
-  counted g a b n (m, x, y, k) = (m, Rep a b x, repeated n y, k)
+  begun-counted g a b n (m, x, y, k) = (m, Rep a b x, repeated n y, k)
 
 back-element : (d : List Definition) (h : Head) (o : List Level) (bs es : Elements) (t : Times) (g : Bool) (q : Said)
     (s : List Word) → RestOf d (element_step h o bs es t q) s → Entered (Close d h o) bs es t (word g false q ∷ s)
@@ -130,11 +130,11 @@ back-element d h o bs es t g (Values vs) s k = (s, e.Values vs, values, k)
 back-element d h o bs es t g (Range a b) s k = (s, e.Range a b, range, k)
 back-element d h o bs es t g (Prose z) s k = (s, e.Prose z, prose, k)
 back-element d h o bs es t g LParen s k =
-    let w = whole (Close d h (level bs es t paren ∷ o)) k in
+    let w = begun-whole (Close d h (level bs es t paren ∷ o)) k in
     let c = w.3 in
     (c.0, w.1, parens (let a = w.2 in rw c.2 at a), c.3)
 back-element d h o bs es t g LBrack s k =
-    let w = whole (Close d h (level bs es t brack ∷ o)) k in
+    let w = begun-whole (Close d h (level bs es t brack ∷ o)) k in
     let c = w.3 in
     (c.0, Opt w.1, brackets (let a = w.2 in rw c.2 at a), c.3)
 back-element d h o bs es t g Is s k = absurd k
@@ -147,12 +147,12 @@ back-element d h o bs es t g End s k = absurd k
 
 back-fresh : (d : List Definition) (h : Head) (o : List Level) (bs es : Elements) (g : Bool) (q : Said) (s : List Word)
     → RestOf d (fresh_step h o bs es q) s → Begun (Close d h o) bs es (word g false q ∷ s)
-back-fresh d h o bs es g (Repeat a b) s k = counted (Close d h o) bs es g a b k.0 k.1
+back-fresh d h o bs es g (Repeat a b) s k = begun-counted (Close d h o) bs es g a b k.0 k.1
 back-fresh d h o bs es g q s k = just-one (Close d h o) bs es (back-element d h o bs es just g q s k)
 
 back-gapped : (d : List Definition) (h : Head) (o : List Level) (bs es : Elements) (g : Bool) (q : Said) (s : List Word)
     → RestOf d (read_step h o bs es g q) s → Going (Close d h o) bs es (word g false q ∷ s)
-back-gapped d h o bs es g Slash s k = slashed (Close d h o) bs es g k
+back-gapped d h o bs es g Slash s k = going-slashed (Close d h o) bs es g k
 back-gapped d h [] bs es g RParen s k = absurd k
 back-gapped d h (level b f t paren ∷ o) bs es g RParen s k = ends-here (Close d h (level b f t paren ∷ o)) bs es
     (word g false RParen ∷ s) (s, g, refl, k)
@@ -164,14 +164,15 @@ back-gapped d h (level b f t brack ∷ o) bs es g RBrack s k = ends-here (Close 
 back-gapped d h [] bs es g End s k = ends-here (Close d h []) bs es (word g false End ∷ s)
     (inl (g, ap (λ (y : List Word). word g false End ∷ y) k.0, k.1))
 back-gapped d h (l ∷ o) bs es g End s k = absurd k
-back-gapped d h o bs es true q s k = join (Close d h o) bs es refl (back-fresh d h o bs es true q s k)
+back-gapped d h o bs es true q s k = going-joined (Close d h o) bs es refl (back-fresh d h o bs es true q s k)
 back-gapped d h o bs es false q s k = absurd k
 
 -- a rule's body and what follows
-defined : {g : List Definition} {s : List Word} (ds : List Definition) (a : Bool) (n : List ℕ) (p : Span) (w : Word)
+begun-defines : {g : List Definition} {s : List Word} (ds : List Definition) (a : Bool) (n : List ℕ) (p : Span)
+    (w : Word)
     → Assigns w a → Begun (Close g (head ds a n p) []) none none s → (rules : List Definition)
     × ((i : Bool) → Grammar (word i true (Name n p) ∷ w ∷ s) rules) × (g ≡ ds ++ rules)
-defined {g} {s} ds a n p w y k = go (whole (Close g (head ds a n p) []) k)
+begun-defines {g} {s} ds a n p w y k = go (begun-whole (Close g (head ds a n p) []) k)
   where
     go : (r : List Word) × (x : Element) × Alternation s r x × Close g (head ds a n p) [] x r
         → (rules : List Definition) × ((i : Bool) → Grammar (word i true (Name n p) ∷ w ∷ s) rules) × (g ≡ ds ++ rules)
@@ -184,8 +185,8 @@ defined {g} {s} ds a n p w y k = go (whole (Close g (head ds a n p) []) k)
 
 back-named : (d ds : List Definition) (n : List ℕ) (p : Span) (g : Bool) (q : Said) (s : List Word)
     → RestOf d (named_step ds n p q) s → Rest d (named ds n p) (word g false q ∷ s)
-back-named d ds n p g Is s k = defined ds false n p (word g false Is) defines k
-back-named d ds n p g Adds s k = defined ds true n p (word g false Adds) extends k
+back-named d ds n p g Is s k = begun-defines ds false n p (word g false Is) defines k
+back-named d ds n p g Adds s k = begun-defines ds true n p (word g false Adds) extends k
 back-named d ds n p g _ s k = absurd k
 
 back-rule : (d : List Definition) (h : Head) (o : List Level) (bs es : Elements) (g : Bool) (q : Said) (s : List Word)
@@ -201,33 +202,34 @@ back-start : (d : List Definition) (g : Bool) (q : Said) (s : List Word) → Res
 back-start d g (Name n p) s (rules, grammar, same) = rw same (grammar g)
 back-start d g _ s k = absurd k
 
-back : (d : List Definition) (c : Config) (w : Word) (s : List Word) → RestOf d (step c w) s → Rest d c (w ∷ s)
-back d start (word g true q) s k = back-start d g q s k
-back d (named ds n p) (word g true q) s k = absurd k
-back d (body h o bs es fresh) (word g true q) s k = absurd k
-back d (body h o bs es (awaits a b)) (word g true q) s k = absurd k
-back d (body h o bs es read) (word g true q) s k = back-rule d h o bs es g q s k
-back d (done ds) (word g true q) s k = absurd k
-back d start (word g false q) s k = absurd k
-back d (named ds n p) (word g false q) s k = back-named d ds n p g q s k
-back d (body h o bs es fresh) (word g false q) s k = back-fresh d h o bs es g q s k
-back d (body h o bs es (awaits a b)) (word false false q) s k = (refl, back-element d h o bs es (times a b) false q s k)
-back d (body h o bs es (awaits a b)) (word true false q) s k = absurd k
-back d (body h o bs es read) (word g false q) s k = back-gapped d h o bs es g q s k
-back d (done ds) (word g false q) s k = absurd k
+step-back : (d : List Definition) (c : Config) (w : Word) (s : List Word) → RestOf d (step c w) s → Rest d c (w ∷ s)
+step-back d start (word g true q) s k = back-start d g q s k
+step-back d (named ds n p) (word g true q) s k = absurd k
+step-back d (body h o bs es fresh) (word g true q) s k = absurd k
+step-back d (body h o bs es (awaits a b)) (word g true q) s k = absurd k
+step-back d (body h o bs es read) (word g true q) s k = back-rule d h o bs es g q s k
+step-back d (done ds) (word g true q) s k = absurd k
+step-back d start (word g false q) s k = absurd k
+step-back d (named ds n p) (word g false q) s k = back-named d ds n p g q s k
+step-back d (body h o bs es fresh) (word g false q) s k = back-fresh d h o bs es g q s k
+step-back d (body h o bs es (awaits a b)) (word false false q) s k =
+    (refl, back-element d h o bs es (times a b) false q s k)
+step-back d (body h o bs es (awaits a b)) (word true false q) s k = absurd k
+step-back d (body h o bs es read) (word g false q) s k = back-gapped d h o bs es g q s k
+step-back d (done ds) (word g false q) s k = absurd k
 
 at_end : (g : List Definition) (c : Config) → c ≡ done g → Rest g c []
 at_end g c same = rw same (refl, refl)
 
-onwards : (g : List Definition) (s : List Word) → ((d : Config) → run d s ≡ Some (done g) → Rest g d s)
+rest-of_option : (g : List Definition) (s : List Word) → ((d : Config) → run d s ≡ Some (done g) → Rest g d s)
     → (x : Option Config) → (elim x [ None ↦ None | Some d ↦ run d s ]) ≡ Some (done g) → RestOf g x s
-onwards g s f None same = cc
-onwards g s f (Some d) same = f d same
+rest-of_option g s f None same = cc
+rest-of_option g s f (Some d) same = f d same
 
 -- what the machine takes on the way to definitions completes the configuration to them
 run-rest : (g : List Definition) (s : List Word) (c : Config) → run c s ≡ Some (done g) → Rest g c s
 run-rest g [] c h = at_end g c (let same : c ≡ done g = cc in same)
-run-rest g (w ∷ s) c h = back g c w s (onwards g s (λ d. run-rest g s d) (step c w) h)
+run-rest g (w ∷ s) c h = step-back g c w s (rest-of_option g s (λ d. run-rest g s d) (step c w) h)
 
 pub runs-grammar : (rules : List Definition) (ws : List Word) → run start ws ≡ Some (done rules) → Grammar ws rules
 runs-grammar rules ws h = run-rest rules ws start h

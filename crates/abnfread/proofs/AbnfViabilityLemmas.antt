@@ -35,29 +35,30 @@ completes-read (level b f t brack ∷ o) h bs es = let c = completes-read o h b 
 nowhere : Span
 nowhere = record { start = 0; end = 0 }
 
-completion : (c : Config) → (s : List Word) × Completes c s
-completion start = (
+any-completes : (c : Config) → (s : List Word) × Completes c s
+any-completes start = (
   word false true (Name [] nowhere) ∷ word false false Is ∷ filler ∷ word false false End ∷ [],
   record { rules = _; runs = refl },
 )
-completion (named ds n p) = (
+any-completes (named ds n p) = (
   word false false Is ∷ filler ∷ word false false End ∷ [],
   record { rules = _; runs = refl },
 )
-completion (body h o bs es fresh) = let c = completes-read o h bs (snoc es (e.Text false [])) in
+any-completes (body h o bs es fresh) = let c = completes-read o h bs (snoc es (e.Text false [])) in
     (filler ∷ closers o, record { rules = c.rules; runs = c.runs })
-completion (body h o bs es (awaits a b)) = let c = completes-read o h bs (snoc es (apply (times a b) (e.Text false [])))
+any-completes (body h o bs es (awaits a b)) =
+    let c = completes-read o h bs (snoc es (apply (times a b) (e.Text false [])))
     in (filler ∷ closers o, record { rules = c.rules; runs = c.runs })
-completion (body h o bs es read) = (closers o, completes-read o h bs es)
-completion (done ds) = ([], record { rules = ds; runs = refl })
+any-completes (body h o bs es read) = (closers o, completes-read o h bs es)
+any-completes (done ds) = ([], record { rules = ds; runs = refl })
 
-completed : (c : Config) → (s : List Word) × (g : List Definition) × (run c s ≡ Some (done g))
-completed c = let q = completion c in (q.0, q.1.rules, q.1.runs)
+run-completed : (c : Config) → (s : List Word) × (g : List Definition) × (run c s ≡ Some (done g))
+run-completed c = let q = any-completes c in (q.0, q.1.rules, q.1.runs)
 
 pub runs-begins : (ws : List Word) (c : Config) → run start ws ≡ Some c → Begins ws
 runs-begins = taking.runs-begins step Grammar start done (λ ws g h. grammar-runs h) (λ ws g h. runs-grammar g ws h)
-    completed
+    run-completed
 
 pub stops-begins : (ws : List Word) → run start ws ≡ None → Begins ws → ⊥
 stops-begins = taking.stops-begins step Grammar start done (λ ws g h. grammar-runs h) (λ ws g h. runs-grammar g ws h)
-    completed
+    run-completed

@@ -4,8 +4,9 @@ use Rattle.std.proofs.Common.{◌≡◌, ℕ, ◌<◌, ◌≤◌, Bool, true, fa
 use Rattle.std.proofs.Common.{inl, inr}
 use Rattle.std.proofs.lemmas.Bool.Decides.{nat_tests}
 use Rattle.std.specs.Char.{digit_value}
+use Rattle.lexer.specs.SliceEnds.{Lacks}
 use Rattle.abnfread.specs.BaseDigits.{is_digit}
-use Rattle.abnfread.specs.AbnfSlices.{Run, none, more, Stops, Lacks, Digits, digits, Dotted, no_dot, dot, Numbers}
+use Rattle.abnfread.specs.AbnfSlices.{Run, none, more, Stops, Digits, digits, Dotted, no_dot, dot, Numbers}
 use Rattle.abnfread.specs.AbnfSlices.{values, range, Count, exactly, at_least}
 
 pub stops-nothing : (f : ℕ → Bool) (t : List ℕ) → length t ≡ 0 → Stops f t

@@ -32,9 +32,9 @@ abbrev StandNowhere : List Rule → Type 0
 StandNowhere [] = Unit {0}
 StandNowhere (rule ∷ rules) = (rule.span ≡ nowhere) × StandNowhere rules
 
-alike : (rule : Rule) {n : List ℕ} {x : Element} {p : Span} → n ≡ rule.name → x ≡ rule.body → p ≡ rule.span
+rules-alike : (rule : Rule) {n : List ℕ} {x : Element} {p : Span} → n ≡ rule.name → x ≡ rule.body → p ≡ rule.span
     → record { name = n; body = x; span = p } ≡ rule
-alike rule n b s = rw (n, b, s) refl
+rules-alike rule n b s = rw (n, b, s) refl
 
 row-at : (rules : List Rule) (i : ℕ) (n : List ℕ) (x : Element) → StandNowhere rules
     → slice_get (map (λ rule. rule.name) rules) i ≡ Some n → slice_get (map (λ rule. rule.body) rules) i ≡ Some x →
@@ -44,7 +44,7 @@ row-at [] i n x w h k = absurd (none-some h)
     none-some : {a : List ℕ} → None ≡ Some a → ⊥
     none-some e = cc
 row-at (rule ∷ rules) zero n x w h k = ap (λ (r : Rule). r ∷ [])
-    (alike rule (sym (some-one h)) (sym (some-one k)) (sym w.0))
+    (rules-alike rule (sym (some-one h)) (sym (some-one k)) (sym w.0))
 row-at (rule ∷ rules) (suc i) n x w h k = ap (λ (rs : List Rule). rule ∷ rs) (row-at rules i n x w.1 h k)
 
 core-nowhere : StandNowhere core_list

@@ -110,11 +110,11 @@ module _ {text : List ℕ} {left : List Marked → Type 0} {c : Config} {ms : Li
   abbrev here : Marked
   here = marked (tok k z p) g f
 
-  whole : AreMarked text (ms ++ here ∷ others)
-  whole = (let a = h.all in rw given at a)
+  whole-marked : AreMarked text (ms ++ here ∷ others)
+  whole-marked = (let a = h.all in rw given at a)
 
   pub there-said : IsSaid k z p
-  there-said = marked-said text ms k z p g f others whole
+  there-said = marked-said text ms k z p g f others whole-marked
 
   -- one token more
   pub one-taken : (next : List Marked → Type 0) (d : Config) (a b : Bool) (s : Said) → next others
@@ -123,7 +123,7 @@ module _ {text : List ℕ} {left : List Marked → Type 0} {c : Config} {ms : Li
   one-taken next d a b s are say small steps le = record {
     rest = others;
     are_left = are;
-    all = rw (append_assoc ms (here ∷ []) others) whole;
+    all = rw (append_assoc ms (here ∷ []) others) whole-marked;
     words = h.words ++ word a b s ∷ [];
     say = say-snoc Says h.say say;
     reached = run-snoc step h.words (word a b s) start c h.reached ∙ steps;
@@ -144,7 +144,7 @@ module _ {text : List ℕ} {left : List Marked → Type 0} {c : Config} {ms : Li
     decided D d = record {
       size = size;
       all = ms ++ here ∷ others;
-      are_tokens = whole;
+      are_tokens = whole-marked;
       number = length ms;
       token = here;
       there = get-seam ms here others;
@@ -246,13 +246,13 @@ only-end (say_more (says says_end) say_none) = refl
 -- no token is left
 module _ {text : List ℕ} {left : List Marked → Type 0} {c : Config} {ms : List Marked} (h : HasTaken text left c ms)
     (none : h.rest ≡ []) where
-  every : AreMarked text ms
-  every = (let a = h.all in simp (none, append-nil) at a)
+  every-marked : AreMarked text ms
+  every-marked = (let a = h.all in simp (none, append-nil) at a)
 
   pub all-done : (ds : List Definition) × (c ≡ done ds)
   all-done =
-      let e = marks-end text (margin text every.tokens) 0 every.are_tokens in
-      let last : ms ≡ e.front ++ marked (tok End e.slice e.span) e.gap false ∷ [] = every.same ∙ e.whole in
+      let e = marks-end text (margin text every-marked.tokens) 0 every-marked.are_tokens in
+      let last : ms ≡ e.front ++ marked (tok End e.slice e.span) e.gap false ∷ [] = every-marked.same ∙ e.whole in
       let s = say-split Says e.front (marked (tok End e.slice e.span) e.gap false ∷ [])
       (let y = h.say in rw last at y) in
       said-end s (sym (run-append step s.front s.back start) ∙ ap (run start) (sym s.whole) ∙ h.reached)
@@ -266,7 +266,7 @@ module _ {text : List ℕ} {left : List Marked → Type 0} {c : Config} {ms : Li
   all-read ds e size = record {
     size = size;
     tokens = ms;
-    are_tokens = every;
+    are_tokens = every-marked;
     words = h.words;
     say = h.say;
     grammar = runs-grammar ds h.words (h.reached ∙ ap Some e);

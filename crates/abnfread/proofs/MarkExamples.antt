@@ -13,14 +13,14 @@ at k a b = tok k [] (record { start = a; end = b })
 abbrev indented : List ℕ
 indented = codes "  s = t\n     / u\n  t = v\n"
 
-continues : begins_rule (indent_at indented 2) (indent_at indented 13) ≡ false
-continues = refl
+deeper-continues : begins_rule (indent_at indented 2) (indent_at indented 13) ≡ false
+deeper-continues = refl
 
-begins : begins_rule (indent_at indented 2) (indent_at indented 19) ≡ true
-begins = refl
+same_margin-begins : begins_rule (indent_at indented 2) (indent_at indented 19) ≡ true
+same_margin-begins = refl
 
-inside : indent_at indented 15 ≡ None
-inside = refl
+inside-no_indent : indent_at indented 15 ≡ None
+inside-no_indent = refl
 
 -- a comment's line does not count, nor does a blank one
 margin-behind : margin (codes ";c\n \t\n a=b") (at Name 7 8 ∷ []) ≡ Some 1

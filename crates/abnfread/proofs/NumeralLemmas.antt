@@ -10,10 +10,11 @@ use Rattle.std.specs.Char.{digit_value}
 use Rattle.std.specs.Str.Parse.{digits_value, digits_value_after}
 use Rattle.std.proofs.lemmas.Nat.{mul-le}
 use Rattle.std.proofs.lemmas.List.{take_at, append_cancel_right}
+use Rattle.lexer.specs.SliceEnds.{Lacks}
 use Rattle.abnfread.specs.BaseDigits.{is_digit}
 use Rattle.abnfread.specs.Numerals.{SaysRepeat, says_exactly, says_between, most, Listed, last_number, more_numbers}
 use Rattle.abnfread.specs.Numerals.{IsWithin}
-use Rattle.abnfread.specs.AbnfSlices.{Run, none, more, Stops, Lacks, Digits, digits}
+use Rattle.abnfread.specs.AbnfSlices.{Run, none, more, Stops, Digits, digits}
 use Rattle.abnfread.proofs.ByteRunLemmas.{run-to, no-digit}
 
 -- a run is a part of the text that is one by itself
@@ -231,11 +232,11 @@ nothing-not : {c : ℕ} {xs : List ℕ} → [] ≡ c ∷ xs → ⊥
 nothing-not e = cc
 
 -- the first bytes, and the rests
-pub heads : {a b : ℕ} {xs ys : List ℕ} → a ∷ xs ≡ b ∷ ys → a ≡ b
-heads e = cc
+pub heads-equal : {a b : ℕ} {xs ys : List ℕ} → a ∷ xs ≡ b ∷ ys → a ≡ b
+heads-equal e = cc
 
-pub tails : {a b : ℕ} {xs ys : List ℕ} → a ∷ xs ≡ b ∷ ys → xs ≡ ys
-tails e = cc
+pub tails-equal : {a b : ℕ} {xs ys : List ℕ} → a ∷ xs ≡ b ∷ ys → xs ≡ ys
+tails-equal e = cc
 
 star-nothing : {xs : List ℕ} → 42 ∷ xs ≡ [] → ⊥
 star-nothing e = cc
@@ -244,7 +245,7 @@ dot-nothing : {xs : List ℕ} → 46 ∷ xs ≡ [] → ⊥
 dot-nothing e = cc
 
 dot-dash : {xs ys : List ℕ} → 46 ∷ xs ≡ 45 ∷ ys → ⊥
-dot-dash e = let h = heads e in absurd (omega arith)
+dot-dash e = let h = heads-equal e in absurd (omega arith)
 
 -- a text says at most one repeat, and one list of numbers
 pub one-repeat : {t : List ℕ} {a c : ℕ} {b d : Option ℕ} → SaysRepeat t a b → SaysRepeat t c d → (a ≡ c) × (b ≡ d)
@@ -254,7 +255,7 @@ one-repeat {t} {d = d} (says_exactly h) k =
     (sym r.0, elim r.1 [ inl x ↦ sym x.1 | inr x ↦ absurd (star-nothing x.1) ])
 one-repeat {t} (says_between {ds} {es} e h j) k =
     let r = repeat-by t ds (42 ∷ es) k e h refl in
-    (sym r.0, elim r.1 [ inl x ↦ absurd (nothing-not x.0) | inr x ↦ ap most (sym (tails x.1)) ∙ sym x.2 ])
+    (sym r.0, elim r.1 [ inl x ↦ absurd (nothing-not x.0) | inr x ↦ ap most (sym (tails-equal x.1)) ∙ sym x.2 ])
 
 pub one-listed : (base : ℕ) (t : List ℕ) {vs ws : List ℕ} → base ≤ 36 → Listed base t vs → Listed base t ws → vs ≡ ws
 unfolding ListedCase
@@ -268,7 +269,7 @@ one-listed base t w (more_numbers {ds} {r = rest} {vs} e d h) k =
     let r = listed-by base t ds (46 ∷ rest) w k e (digits-run d) (no-digit base 46 36 refl w) in
     elim r.2 [
       | inl x ↦ absurd (nothing-not x.0)
-      | inr x ↦ (let same : x.0 ≡ rest = tails x.1 in
+      | inr x ↦ (let same : x.0 ≡ rest = tails-equal x.1 in
           ap (λ (xs : List ℕ). digits_value base ds ∷ xs) (one-listed base rest w h (rw same at x.2)) ∙ sym r.1)
     ]
 

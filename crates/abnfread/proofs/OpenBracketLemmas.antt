@@ -89,16 +89,16 @@ abbrev pub open_count : ℕ → List Word → ℕ
 open_count d [] = d
 open_count d (word g f s ∷ ws) = open_count (open_behind s d) ws
 
-onwards : (ws : List Word) (n : ℕ) (d : Config) → ((c : Config) → run c ws ≡ Some d
+levels-of_option : (ws : List Word) (n : ℕ) (d : Config) → ((c : Config) → run c ws ≡ Some d
     → levels_in d ≡ open_count (levels_in c) ws) → (x : Option Config) → ((c : Config) → x ≡ Some c → levels_in c ≡ n) →
     (elim x [ None ↦ None | Some c ↦ run c ws ]) ≡ Some d → levels_in d ≡ open_count n ws
-onwards ws n d f None l h = cc
-onwards ws n d f (Some c) l h = f c h ∙ ap (λ (m : ℕ). open_count m ws) (l c refl)
+levels-of_option ws n d f None l h = cc
+levels-of_option ws n d f (Some c) l h = f c h ∙ ap (λ (m : ℕ). open_count m ws) (l c refl)
 
 -- after a run as many levels stand open as brackets
 run-levels : (ws : List Word) (c d : Config) → run c ws ≡ Some d → levels_in d ≡ open_count (levels_in c) ws
 run-levels [] c d h = ap levels_in (let same : d ≡ c = cc in same)
-run-levels (word g f s ∷ ws) c d h = onwards ws (open_behind s (levels_in c)) d (λ e r. run-levels ws e d r)
+run-levels (word g f s ∷ ws) c d h = levels-of_option ws (open_behind s (levels_in c)) d (λ e r. run-levels ws e d r)
     (step c (word g f s)) (λ e r. step-opens c e g f s r) h
 
 shallow-within : (m d : ℕ) (ws : List Word) → IsShallow m d ws → open_count d ws ≤ m

@@ -27,7 +27,8 @@ use Rattle.abnfread.specs.Numerals.{more_numbers}
 use Rattle.abnfread.proofs.AbnfFirstLemmas.{tells-one}
 use Rattle.abnfread.proofs.ByteRunLemmas.{no-digit}
 use Rattle.abnfread.proofs.NumberStepLemmas as numbers
-use Rattle.abnfread.proofs.NumeralLemmas.{heads, tails, run-part, digits-run, one-repeat, one-listed, ends-range}
+use Rattle.abnfread.proofs.NumeralLemmas.{heads-equal, tails-equal, run-part, digits-run, one-repeat, one-listed}
+use Rattle.abnfread.proofs.NumeralLemmas.{ends-range}
 use Rattle.abnfread.proofs.NumeralLemmas.{listed-no_range}
 use Rattle.abnfread.proofs.SaysNumLemmas.{tells-most}
 
@@ -40,7 +41,7 @@ one-num (says_range {t} {ds} {es} d e f g) (says_values a h) =
 one-num (says_range {base} {t} {ds} {es} a e f g) (says_range {base = b} {ds = us} {es = vs} d i j k) =
     let ends = ends-range base t us vs ds (45 ∷ es) (tells-most a) i (rw (tells-one d a) at j) e (digits-run f)
     (no-digit base 45 36 refl (tells-most a)) in
-    let behind : vs ≡ es = tails ends.1 in
+    let behind : vs ≡ es = tails-equal ends.1 in
     ap (λ (n : ℕ). Range (digits_value n ds) (digits_value n es)) (sym (tells-one d a))
     ∙ ap (λ (x : List ℕ). Range (digits_value b x) (digits_value b es)) (sym ends.0)
     ∙ ap (λ (x : List ℕ). Range (digits_value b us) (digits_value b x)) (sym behind)
@@ -57,16 +58,16 @@ one-said says_rbrack says_rbrack = refl
 one-said (says_repeat {a} {b} h) (says_repeat {a = c} {b = d} k) = let e = one-repeat h k in ap (λ n. Repeat n b) e.0
     ∙ ap (Repeat c) e.1
 one-said (says_text {t = a} e) (says_text {t = b} f) =
-    ap (Text true) (append_cancel_right a b (34 ∷ []) (tails (sym e ∙ f)))
-one-said (says_text e) (says_cased i f) = absurd (let h = heads (sym e ∙ f) in omega arith)
-one-said (says_cased i f) (says_text e) = absurd (let h = heads (sym e ∙ f) in omega arith)
+    ap (Text true) (append_cancel_right a b (34 ∷ []) (tails-equal (sym e ∙ f)))
+one-said (says_text e) (says_cased i f) = absurd (let h = heads-equal (sym e ∙ f) in omega arith)
+one-said (says_cased i f) (says_text e) = absurd (let h = heads-equal (sym e ∙ f) in omega arith)
 one-said (says_cased {t = a} {c} i e) (says_cased {t = b} {c = d} j f) =
-    let k = tails (sym e ∙ f) in
-    ap (λ (n : ℕ). Text ((n == 105) || (n == 73)) a) (heads k)
-    ∙ ap (Text ((d == 105) || (d == 73))) (append_cancel_right a b (34 ∷ []) (tails (tails k)))
+    let k = tails-equal (sym e ∙ f) in
+    ap (λ (n : ℕ). Text ((n == 105) || (n == 73)) a) (heads-equal k)
+    ∙ ap (Text ((d == 105) || (d == 73))) (append_cancel_right a b (34 ∷ []) (tails-equal (tails-equal k)))
 one-said (says_num h) (says_num k) = one-num h k
 one-said (says_prose {t = a} e) (says_prose {t = b} f) =
-    ap Prose (append_cancel_right a b (62 ∷ []) (tails (sym e ∙ f)))
+    ap Prose (append_cancel_right a b (62 ∷ []) (tails-equal (sym e ∙ f)))
 one-said says_end says_end = refl
 
 pub one-word : (m : Marked) (v w : Word) → Says m v → Says m w → v ≡ w

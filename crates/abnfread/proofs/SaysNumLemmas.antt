@@ -2,14 +2,15 @@
 -- Serves: read_abnf
 use Rattle.std.proofs.Common.{◌≡◌, ℕ, ◌≤◌, ◌<◌, List, [], ◌∷◌, ◌++◌, refl, sym, ◌∙◌, ap, arith, All}
 use Rattle.std.specs.Str.Parse.{digits_value}
+use Rattle.lexer.specs.SliceEnds.{Lacks}
 use Rattle.abnfread.specs.declared.number.TheConstants.{MAX_VALUE}
 use Rattle.abnfread.specs.AbnfSays.{IsSmall}
-use Rattle.abnfread.specs.AbnfSlices.{Run, Stops, Lacks, Digits}
+use Rattle.abnfread.specs.AbnfSlices.{Run, Stops, Digits}
 use Rattle.abnfread.specs.AbnfWords.{Said, Values, Range}
 use Rattle.abnfread.specs.BaseDigits.{is_digit, Tells, binary, decimals, hexadecimal}
 use Rattle.abnfread.specs.Numerals.{SaysNum, says_values, says_range, Listed}
 use Rattle.abnfread.proofs.AbnfFirstLemmas.{tells-one}
-use Rattle.abnfread.proofs.NumeralLemmas.{heads, tails, ends-range, listed-no_range}
+use Rattle.abnfread.proofs.NumeralLemmas.{heads-equal, tails-equal, ends-range, listed-no_range}
 
 pub tells-most : {c base : ℕ} → Tells c base → base ≤ 36
 tells-most (binary e) = omega arith
@@ -21,14 +22,14 @@ pub letter-told : {z behind tail text : List ℕ} {c d base other : ℕ} → z �
     → Tells c base → z ≡ 37 ∷ d ∷ text → Tells d other → (base ≡ other) × (tail ≡ text)
 letter-told {z} {behind} {tail} {text} {c} {d} e f t g u =
     let whole : 37 ∷ c ∷ tail ≡ 37 ∷ d ∷ text = ap (λ (x : List ℕ). 37 ∷ x) (sym f) ∙ sym e ∙ g in
-    let letter : c ≡ d = heads (tails whole) in
-    (tells-one t (rw (sym letter) at u), tails (tails whole))
+    let letter : c ≡ d = heads-equal (tails-equal whole) in
+    (tells-one t (rw (sym letter) at u), tails-equal (tails-equal whole))
 
 no-dash : {rest es : List ℕ} → Lacks 45 rest → 45 ∷ es ≡ rest → ⊥
 no-dash l e = let k = rw (sym e) at l in k refl
 
 same-tails : {rest es fs : List ℕ} → 45 ∷ es ≡ rest → rest ≡ 45 ∷ fs → es ≡ fs
-same-tails e h = tails (e ∙ h)
+same-tails e h = tails-equal (e ∙ h)
 
 -- a number's slice, cut
 data NumCase (z : List ℕ) : Said → Type 0 where

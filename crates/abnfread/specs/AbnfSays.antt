@@ -1,4 +1,5 @@
 -- What tokens say, and how large and how deep that may be.
+use Prim.Native.Char.{code}
 use Rattle.std.specs.Prelude.{◌≡◌, ℕ, zero, suc, ◌≤◌, ◌||◌, ◌==◌, Bool, true, Option, List, [], ◌∷◌, ◌++◌, All}
 use Rattle.ruletable.specs.declared.span.Span.{Span}
 use Rattle.lexer.specs.TokenLists.{tok}
@@ -27,12 +28,13 @@ pub data SaysKind : AbnfKind → List ℕ → Span → Said → Type 0 where
   says_repeat : {z : List ℕ} {p : Span} {a : ℕ} {b : Option ℕ} → SaysRepeat z a b
       → SaysKind kinds.Repeat z p (Repeat a b)
   -- what stands in quotes; letters stand for either case, but for a text behind `%s`
-  says_text : {z t : List ℕ} {p : Span} → z ≡ 34 ∷ (t ++ 34 ∷ []) → SaysKind kinds.Text z p (Text true t)
-  says_cased : {z t : List ℕ} {p : Span} {c : ℕ} → is_case c ≡ true → z ≡ 37 ∷ c ∷ 34 ∷ (t ++ 34 ∷ []) →
-      SaysKind kinds.Text z p (Text ((c == 105) || (c == 73)) t)
+  says_text : {z t : List ℕ} {p : Span} → z ≡ code "\"" ∷ (t ++ code "\"" ∷ []) → SaysKind kinds.Text z p (Text true t)
+  says_cased : {z t : List ℕ} {p : Span} {c : ℕ} → is_case c ≡ true
+      → z ≡ code "%" ∷ c ∷ code "\"" ∷ (t ++ code "\"" ∷ [])
+      → SaysKind kinds.Text z p (Text ((c == code "i") || (c == code "I")) t)
   says_num : {z : List ℕ} {p : Span} {s : Said} → SaysNum z s → SaysKind kinds.Num z p s
   -- what stands in angle brackets
-  says_prose : {z t : List ℕ} {p : Span} → z ≡ 60 ∷ (t ++ 62 ∷ []) → SaysKind kinds.Prose z p (Prose t)
+  says_prose : {z t : List ℕ} {p : Span} → z ≡ code "<" ∷ (t ++ code ">" ∷ []) → SaysKind kinds.Prose z p (Prose t)
   says_end : {z : List ℕ} {p : Span} → SaysKind kinds.End z p End
 
 -- the word of a token has its marks

@@ -1,6 +1,7 @@
 -- Where a token of a kind ends (RFC 5234, section 4; RFC 7405): each relation holds of a text and of what stands behind
 -- the part that begins it.
-use Rattle.std.specs.Prelude.{◌≡◌, ◌≢◌, ℕ, ◌||◌, ◌&&◌, ◌==◌, nat_le, not, Bool, true, false, List, [], ◌∷◌}
+use Prim.Native.Char.{code}
+use Rattle.std.specs.Prelude.{◌≡◌, ℕ, ◌||◌, ◌&&◌, ◌==◌, nat_le, not, Bool, true, false, List, [], ◌∷◌}
 use Rattle.std.specs.Char.{is_ascii_alphabetic, is_ascii_alphanumeric}
 use Rattle.lexer.specs.SliceEnds as cuts
 use Rattle.abnfread.specs.declared.kind.AbnfKind.{AbnfKind}
@@ -10,26 +11,26 @@ use Rattle.abnfread.specs.BaseDigits.{is_digit, Tells}
 
 -- letters, digits and `-`
 abbrev pub continues_name : ℕ → Bool
-continues_name b = is_ascii_alphanumeric b || (b == 45)
+continues_name b = is_ascii_alphanumeric b || (b == code "-")
 
 -- what may stand in quotes, %x20-21 and %x23-7E, and what in angle brackets, %x20-3D and %x3F-7E
 abbrev pub is_quotable : ℕ → Bool
-is_quotable b = nat_le 32 b && nat_le b 126 && not (b == 34)
+is_quotable b = nat_le (code " ") b && nat_le b (code "~") && not (b == code "\"")
 
 abbrev pub is_prose : ℕ → Bool
-is_prose b = nat_le 32 b && nat_le b 126 && not (b == 62)
+is_prose b = nat_le (code " ") b && nat_le b (code "~") && not (b == code ">")
 
 -- the letter, of either case, that says whether a text's case counts: `s` or `i`
 abbrev pub is_case : ℕ → Bool
-is_case c = (c == 115) || (c == 83) || (c == 105) || (c == 73)
+is_case c = (c == code "s") || (c == code "S") || (c == code "i") || (c == code "I")
 
 -- space, tab and LF
 abbrev pub is_blank : ℕ → Bool
-is_blank b = (b == 32) || (b == 9) || (b == 10)
+is_blank b = (b == code " ") || (b == code "\t") || (b == code "\n")
 
 -- all but LF
 abbrev pub is_inside : ℕ → Bool
-is_inside b = not (b == 10)
+is_inside b = not (b == code "\n")
 
 -- bytes that pass, any number of them
 pub data Run (f : ℕ → Bool) : List ℕ → List ℕ → Type 0 where
@@ -41,11 +42,6 @@ abbrev pub Stops : (ℕ → Bool) → List ℕ → Type 0
 Stops f [] = Unit {0}
 Stops f (b ∷ bs) = f b ≡ false
 
--- the text doesn't begin with that byte
-abbrev pub Lacks : ℕ → List ℕ → Type 0
-Lacks c [] = Unit {0}
-Lacks c (b ∷ bs) = b ≢ c
-
 -- one digit of the base, and further ones
 pub data Digits (base : ℕ) : List ℕ → List ℕ → Type 0 where
   digits : {b : ℕ} {bs r : List ℕ} → is_digit base b ≡ true → Run (is_digit base) bs r → Digits base (b ∷ bs) r
@@ -53,23 +49,23 @@ pub data Digits (base : ℕ) : List ℕ → List ℕ → Type 0 where
 -- a dot and digits, any number of times
 pub data Dotted (base : ℕ) : List ℕ → List ℕ → Type 0 where
   no_dot : {r : List ℕ} → Dotted base r r
-  dot : {bs m r : List ℕ} → Digits base bs m → Dotted base m r → Dotted base (46 ∷ bs) r
+  dot : {bs m r : List ℕ} → Digits base bs m → Dotted base m r → Dotted base (code "." ∷ bs) r
 
 -- numbers of the base, one and any number of others with dots between, or two with `-` between
 pub data Numbers (base : ℕ) : List ℕ → List ℕ → Type 0 where
   values : {bs m r : List ℕ} → Digits base bs m → Dotted base m r → Numbers base bs r
-  range : {bs m r : List ℕ} → Digits base bs (45 ∷ m) → Digits base m r → Numbers base bs r
+  range : {bs m r : List ℕ} → Digits base bs (code "-" ∷ m) → Digits base m r → Numbers base bs r
 
 -- digits, or digits on both sides of a star, as many as one likes
 pub data Count : List ℕ → List ℕ → Type 0 where
   exactly : {bs r : List ℕ} → Run (is_digit 10) bs r → Count bs r
-  at_least : {bs m r : List ℕ} → Run (is_digit 10) bs (42 ∷ m) → Run (is_digit 10) m r → Count bs r
+  at_least : {bs m r : List ℕ} → Run (is_digit 10) bs (code "*" ∷ m) → Run (is_digit 10) m r → Count bs r
 
 -- a piece of white space: a blank, CR LF, or a comment, which ends before LF or at the end of the text
 pub data Piece : List ℕ → List ℕ → Type 0 where
   blank : {b : ℕ} {r : List ℕ} → is_blank b ≡ true → Piece (b ∷ r) r
-  crlf : {r : List ℕ} → Piece (13 ∷ 10 ∷ r) r
-  comment : {bs r : List ℕ} → Run is_inside bs r → Stops is_inside r → Piece (59 ∷ bs) r
+  crlf : {r : List ℕ} → Piece (code "\r" ∷ code "\n" ∷ r) r
+  comment : {bs r : List ℕ} → Run is_inside bs r → Stops is_inside r → Piece (code ";" ∷ bs) r
 
 abbrev pub White : List ℕ → List ℕ → Type 0
 White = cuts.White Piece
@@ -77,20 +73,21 @@ White = cuts.White Piece
 -- A token of the kind begins the text, and r is what stands behind it.
 pub data Stands : AbnfKind → List ℕ → List ℕ → Type 0 where
   name : {b : ℕ} {bs r : List ℕ} → is_ascii_alphabetic b ≡ true → Run continues_name bs r → Stands Name (b ∷ bs) r
-  is : {r : List ℕ} → Stands Is (61 ∷ r) r
-  adds : {r : List ℕ} → Stands Adds (61 ∷ 47 ∷ r) r
-  slash : {r : List ℕ} → Stands Slash (47 ∷ r) r
-  lparen : {r : List ℕ} → Stands LParen (40 ∷ r) r
-  rparen : {r : List ℕ} → Stands RParen (41 ∷ r) r
-  lbrack : {r : List ℕ} → Stands LBrack (91 ∷ r) r
-  rbrack : {r : List ℕ} → Stands RBrack (93 ∷ r) r
+  is : {r : List ℕ} → Stands Is (code "=" ∷ r) r
+  adds : {r : List ℕ} → Stands Adds (code "=" ∷ code "/" ∷ r) r
+  slash : {r : List ℕ} → Stands Slash (code "/" ∷ r) r
+  lparen : {r : List ℕ} → Stands LParen (code "(" ∷ r) r
+  rparen : {r : List ℕ} → Stands RParen (code ")" ∷ r) r
+  lbrack : {r : List ℕ} → Stands LBrack (code "[" ∷ r) r
+  rbrack : {r : List ℕ} → Stands RBrack (code "]" ∷ r) r
   -- a number alone; a star with a number before it, behind it, both or neither
   counted : {b : ℕ} {bs r : List ℕ} → is_digit 10 b ≡ true → Count bs r → Stands Repeat (b ∷ bs) r
-  star : {bs r : List ℕ} → Run (is_digit 10) bs r → Stands Repeat (42 ∷ bs) r
-  text : {bs r : List ℕ} → Run is_quotable bs (34 ∷ r) → Stands Text (34 ∷ bs) r
-  cased : {c : ℕ} {bs r : List ℕ} → is_case c ≡ true → Run is_quotable bs (34 ∷ r) → Stands Text (37 ∷ c ∷ 34 ∷ bs) r
-  num : {base c : ℕ} {bs r : List ℕ} → Tells c base → Numbers base bs r → Stands Num (37 ∷ c ∷ bs) r
-  prose : {bs r : List ℕ} → Run is_prose bs (62 ∷ r) → Stands Prose (60 ∷ bs) r
+  star : {bs r : List ℕ} → Run (is_digit 10) bs r → Stands Repeat (code "*" ∷ bs) r
+  text : {bs r : List ℕ} → Run is_quotable bs (code "\"" ∷ r) → Stands Text (code "\"" ∷ bs) r
+  cased : {c : ℕ} {bs r : List ℕ} → is_case c ≡ true → Run is_quotable bs (code "\"" ∷ r)
+      → Stands Text (code "%" ∷ c ∷ code "\"" ∷ bs) r
+  num : {base c : ℕ} {bs r : List ℕ} → Tells c base → Numbers base bs r → Stands Num (code "%" ∷ c ∷ bs) r
+  prose : {bs r : List ℕ} → Run is_prose bs (code ">" ∷ r) → Stands Prose (code "<" ∷ bs) r
 
 abbrev pub First : AbnfKind → List ℕ → List ℕ → Type 0
 First = cuts.First Piece Stands Bad End

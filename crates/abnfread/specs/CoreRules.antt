@@ -1,4 +1,5 @@
 -- The core rules (RFC 5234, appendix B.1).
+use Prim.Native.Char.{code}
 use Rattle.std.specs.Prelude.{ℕ, true, codes, List, [], ◌∷◌, map, None}
 use Rattle.ruletable.specs.declared.span.Span.{Span}
 use Rattle.abnfread.specs.Element.{Element, Elements, Text, Values, Range, Concat, Alt, Rep, Name, none, more, Rule}
@@ -30,20 +31,20 @@ core_rule n x = record { name = n; body = x; span = nowhere }
 
 abbrev pub core_list : List Rule
 core_list =
-    core_rule (codes "ALPHA") (Alt (pair (Range 65 90) (Range 97 122)))
+    core_rule (codes "ALPHA") (Alt (pair (Range (code "A") (code "Z")) (Range (code "a") (code "z"))))
     ∷ core_rule (codes "BIT") (Alt (pair (plain (codes "0")) (plain (codes "1"))))
     ∷ core_rule (codes "CHAR") (Range 1 127)
-    ∷ core_rule (codes "CR") (value 13)
+    ∷ core_rule (codes "CR") (value (code "\r"))
     ∷ core_rule (codes "CRLF") (Concat (pair (Name (codes "CR")) (Name (codes "LF"))))
     ∷ core_rule (codes "CTL") (Alt (pair (Range 0 31) (value 127)))
-    ∷ core_rule (codes "DIGIT") (Range 48 57)
-    ∷ core_rule (codes "DQUOTE") (value 34)
+    ∷ core_rule (codes "DIGIT") (Range (code "0") (code "9"))
+    ∷ core_rule (codes "DQUOTE") (value (code "\""))
     ∷ core_rule (codes "HEXDIG") (Alt hexdig)
-    ∷ core_rule (codes "HTAB") (value 9)
-    ∷ core_rule (codes "LF") (value 10)
+    ∷ core_rule (codes "HTAB") (value (code "\t"))
+    ∷ core_rule (codes "LF") (value (code "\n"))
     ∷ core_rule (codes "LWSP") lwsp
     ∷ core_rule (codes "OCTET") (Range 0 255)
-    ∷ core_rule (codes "SP") (value 32)
+    ∷ core_rule (codes "SP") (value (code " "))
     ∷ core_rule (codes "VCHAR") (Range 33 126)
     ∷ core_rule (codes "WSP") (Alt (pair (Name (codes "SP")) (Name (codes "HTAB"))))
     ∷ []

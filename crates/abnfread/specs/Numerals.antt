@@ -1,4 +1,5 @@
 -- What repeats and numbers say.
+use Prim.Native.Char.{code}
 use Rattle.std.specs.Prelude.{◌≡◌, ℕ, ◌≤◌, List, [], ◌∷◌, ◌++◌, Option, Some, None, MatchOption}
 use Rattle.std.specs.Str.Parse.{digits_value}
 use Rattle.abnfread.specs.BaseDigits.{is_digit, Tells}
@@ -13,20 +14,20 @@ most (b ∷ bs) = Some (digits_value 10 (b ∷ bs))
 -- the slice of a repeat: a number alone is both the least and the most
 pub data SaysRepeat : List ℕ → ℕ → Option ℕ → Type 0 where
   says_exactly : {t : List ℕ} → Digits 10 t [] → SaysRepeat t (digits_value 10 t) (Some (digits_value 10 t))
-  says_between : {t ds es : List ℕ} → t ≡ ds ++ 42 ∷ es → Run (is_digit 10) ds [] → Run (is_digit 10) es []
+  says_between : {t ds es : List ℕ} → t ≡ ds ++ code "*" ∷ es → Run (is_digit 10) ds [] → Run (is_digit 10) es []
       → SaysRepeat t (digits_value 10 ds) (most es)
 
 -- numbers with dots between
 pub data Listed (base : ℕ) : List ℕ → List ℕ → Type 0 where
   last_number : {t : List ℕ} → Digits base t [] → Listed base t (digits_value base t ∷ [])
-  more_numbers : {t ds r vs : List ℕ} → t ≡ ds ++ 46 ∷ r → Digits base ds [] → Listed base r vs
+  more_numbers : {t ds r vs : List ℕ} → t ≡ ds ++ code "." ∷ r → Digits base ds [] → Listed base r vs
       → Listed base t (digits_value base ds ∷ vs)
 
 -- the slice of a number
 pub data SaysNum : List ℕ → Said → Type 0 where
-  says_values : {base c : ℕ} {t vs : List ℕ} → Tells c base → Listed base t vs → SaysNum (37 ∷ c ∷ t) (Values vs)
-  says_range : {base c : ℕ} {t ds es : List ℕ} → Tells c base → t ≡ ds ++ 45 ∷ es → Digits base ds []
-      → Digits base es [] → SaysNum (37 ∷ c ∷ t) (Range (digits_value base ds) (digits_value base es))
+  says_values : {base c : ℕ} {t vs : List ℕ} → Tells c base → Listed base t vs → SaysNum (code "%" ∷ c ∷ t) (Values vs)
+  says_range : {base c : ℕ} {t ds es : List ℕ} → Tells c base → t ≡ ds ++ code "-" ∷ es → Digits base ds []
+      → Digits base es [] → SaysNum (code "%" ∷ c ∷ t) (Range (digits_value base ds) (digits_value base es))
 
 -- neither number of a repeat is over the limit
 abbrev pub IsWithin : ℕ → ℕ → Option ℕ → Type 0

@@ -52,7 +52,7 @@ fn core_name(id: usize) -> &'static [u8]
     }
 }
 
-/// The body of the core rule with that id.
+/// Returns the body of the core rule with that id.
 pub(crate) fn core_body(alloc: Global, id: usize) -> Result<Elem, Memory>
     requires { id < 16 }
     ensures { IfOk result (λ e. slice_get core_bodies id ≡ Some (element_of e)) }

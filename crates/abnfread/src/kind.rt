@@ -1,6 +1,6 @@
 //! What a grammar in ABNF is cut into.
 ghost use Rattle.std.specs.Prelude.{◌≡◌};
-ghost use Rattle.abnfread.specs.AbnfKinds.{ends_list, is_repeat as repeats};
+ghost use Rattle.abnfread.specs.AbnfKinds.{is_repeat as repeats};
 
 /// What a token is (RFC 5234, section 4).
 #[derive(Clone, Copy, Debug, PartialEq, Eq)]
@@ -35,13 +35,7 @@ pub enum AbnfKind {
     End,
 }
 
-pub(crate) fn is_end(kind: AbnfKind) -> bool
-    ensures { result ≡ ends_list kind }
-{
-    matches!(kind, AbnfKind::End)
-}
-
-/// Whether it is a repeat.
+/// Returns whether it is a repeat.
 pub(crate) fn is_repeat(kind: AbnfKind) -> bool
     ensures { result ≡ repeats kind }
 {

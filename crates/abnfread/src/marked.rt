@@ -9,7 +9,9 @@ use crate::kind::AbnfKind;
 use crate::marks::AbnfTokenIter;
 use lexer::{Kind, tokens};
 
-/// The tokens of a grammar's text, with their marks. It takes no memory, and what the tokens lend is the text's.
+/// Returns the tokens of a grammar's text, with their marks.
+///
+/// It takes no memory, and what the tokens lend is the text's.
 pub fn abnf_tokens(text: &[u8]) -> AbnfTokenIter<'_>
     ensures { (ts : List (Tok AbnfKind)) → AreTokens text.now ts
         → AreLeft result (marks text.now (margin text.now ts) 0 ts) }

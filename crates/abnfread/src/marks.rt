@@ -3,8 +3,8 @@ ghost use Rattle.std.specs.Prelude.{◌≡◌, length};
 ghost use Rattle.lexer.specs.TokenLists.{total_of};
 
 use crate::indent::{begins_rule, indent_at};
-use crate::kind::{AbnfKind, is_end};
-use lexer::{Token, TokenIter};
+use crate::kind::AbnfKind;
+use lexer::{Kind, Token, TokenIter};
 
 /// A token with its marks.
 #[derive(Clone, Copy, Debug)]
@@ -56,7 +56,7 @@ impl<'a> Iterator for AbnfTokenIter<'a> {
     fn next(&mut self) -> Option<MarkedToken<'a>> {
         let token = self.inner.next()?;
         let gap = token.span.start != self.end;
-        let first = !is_end(token.kind)
+        let first = !token.kind.is_last()
             && begins_rule(self.margin, indent_at(self.text, token.span.start));
         self.end = token.span.end;
         Some(MarkedToken { token, gap, first })

@@ -5,7 +5,8 @@ ghost use Rattle.abnfread.specs.BaseDigits.{is_digit as is_digit_in};
 ghost use Rattle.abnfread.specs.Numerals.{SaysRepeat, IsWithin, Listed};
 ghost use Rattle.abnfread.specs.AbnfSlices.{Run, Stops};
 
-use crate::scan::{Class, after_byte, after_run, digit};
+use crate::scan::{Class, after_run, digit};
+use lexer::after_byte;
 use std::alloc::{AllocError, AllocFailed, Global};
 
 /// The largest number of a repetition.

@@ -175,7 +175,7 @@ fn bracketed(alloc: Global, bracket: Bracket, e: Elem) -> Result<Elem, AllocErro
 }
 
 impl<'a> Reader<'a> {
-    /// A reader that has taken no word.
+    /// Returns a reader that has taken no word.
     pub(crate) fn new(alloc: Global) -> Reader<'a>
         ensures { config_of result ≡ machine.start }
     {
@@ -428,7 +428,7 @@ impl<'a> Reader<'a> {
         }
     }
 
-    /// Whether a number with these marks goes on, a repeat or not.
+    /// Returns whether a number with these marks goes on, a repeat or not.
     pub(crate) fn takes_number(&self, repeat: bool, gap: bool, first: bool) -> bool
         ensures { result ≡ is_there (step (config_of self.now) (word gap first (sample repeat))) }
     {
@@ -443,7 +443,7 @@ impl<'a> Reader<'a> {
         }
     }
 
-    /// How many brackets are open.
+    /// Returns how many brackets are open.
     pub(crate) fn open_brackets(&self) -> usize
         ensures { result ≡ levels_in (config_of self.now) }
     {
@@ -453,7 +453,7 @@ impl<'a> Reader<'a> {
         }
     }
 
-    /// The definitions, behind the end; `None` before it.
+    /// Returns the definitions behind the end, and `None` before it.
     pub(crate) fn into_definitions(self) -> Option<Vec<Definition<'a>>>
         ensures done { (ds : List D) → config_of self.entry ≡ machine.done ds
             → MatchOption result ⊥ (λ v. definitions_from v.items ≡ ds) }

@@ -3,11 +3,12 @@ ghost use Rattle.std.specs.Prelude.{◌≡◌, ◌≢◌, ℕ, ◌<◌, ◌≤�
 ghost use Rattle.std.specs.Char.{is_ascii_alphabetic, digit_value};
 ghost use Rattle.abnfread.specs.ByteClasses.{test_of};
 ghost use Rattle.abnfread.specs.BaseDigits.{is_digit as is_digit_in, Tells};
-ghost use Rattle.abnfread.specs.AbnfSlices.{is_blank, is_case as is_case_letter, Run, Stops, Lacks, Digits, Dotted};
+ghost use Rattle.abnfread.specs.AbnfSlices.{is_blank, is_case as is_case_letter, Run, Stops, Digits, Dotted};
 ghost use Rattle.abnfread.specs.AbnfSlices.{Numbers, Count, Piece, White, Stands, First};
 ghost use Rattle.lexer.specs.SliceEnds.{NoPiece, NoToken, Longest};
 
 use crate::kind::AbnfKind;
+use lexer::after_byte;
 
 /// Bytes that stand together.
 #[derive(Clone, Copy, Debug)]
@@ -64,14 +65,6 @@ pub(crate) fn after_run(class: Class, text: &[u8]) -> &[u8]
         rest = tail;
     }
     rest
-}
-
-// What stands behind a byte.
-pub(crate) fn after_byte(text: &[u8], b: u8) -> Option<&[u8]>
-    ensures { MatchOption result (Lacks b text.now) (λ rest. text.now ≡ b ∷ rest.now) }
-{
-    let (first, tail) = text.split_first()?;
-    if *first == b { Some(tail) } else { None }
 }
 
 // What stands behind bytes of a class and a mark of another.
@@ -187,21 +180,12 @@ pub(crate) fn after_blanks(text: &[u8]) -> &[u8]
 pub(crate) fn base_of(c: u8) -> Option<u8>
     ensures { MatchOption result ((base : ℕ) → Tells c base → ⊥) (λ base. Tells c base × (2 ≤ base) × (base ≤ 36)) }
 {
-    if is_letter(c, b'b', b'B') {
-        Some(2)
-    } else if is_letter(c, b'd', b'D') {
-        Some(10)
-    } else if is_letter(c, b'x', b'X') {
-        Some(16)
-    } else {
-        None
+    match c {
+        b'b' | b'B' => Some(2),
+        b'd' | b'D' => Some(10),
+        b'x' | b'X' => Some(16),
+        _ => None,
     }
-}
-
-fn is_letter(c: u8, lower: u8, upper: u8) -> bool
-    ensures { result ≡ ((c == lower) || (c == upper)) }
-{
-    c == lower || c == upper
 }
 
 fn is_case(c: u8) -> bool

@@ -96,7 +96,7 @@ fn first_body(
     }
 }
 
-/// The table of these definitions.
+/// Returns the table of these definitions.
 pub(crate) fn table_of(alloc: Global, definitions: Vec<Definition<'_>>) -> Result<Abnf, Memory>
     ensures table { IfOk result (λ abnf. IsTableOf (definitions_from definitions.entry.items) abnf.rules
         abnf.redefined.items abnf.extended.items) }

@@ -13,8 +13,8 @@ use crate::kind::AbnfKind;
 use crate::number::{
     MAX_REPEAT, MAX_VALUE, NumberFault, number_in, read_repeat, read_values, split_digits,
 };
-use crate::scan::{after_byte, base_of};
-use lexer::Token;
+use crate::scan::base_of;
+use lexer::{Token, after_byte, inside};
 use ruletable::Span;
 use std::alloc::Global;
 
@@ -37,7 +37,7 @@ pub(crate) enum Said<'a> {
     End,
 }
 
-/// What a token says; `None` for `Bad`, which says nothing.
+/// Returns what a token says, and `None` for `Bad`, which says nothing.
 ///
 /// # Errors
 /// - `TooLarge` for a number over its limit.
@@ -72,16 +72,6 @@ pub(crate) fn said_in<'a>(
         AbnfKind::Bad => Ok(None),
         AbnfKind::End => Ok(Some(Said::End)),
     }
-}
-
-// What stands between the first and the last byte of a slice.
-fn inside(slice: &[u8]) -> &[u8]
-    ensures { (first last : ℕ) (text : List ℕ) → slice.now ≡ first ∷ (text ++ last ∷ []) → result.now ≡ text }
-{
-    if slice.len() < 2 {
-        return slice;
-    }
-    &slice[1..slice.len() - 1]
 }
 
 // Whether the letters of a text stand for either case, and what stands in its quotes.

@@ -6,7 +6,6 @@ pub mod FlatCutLemmas
 pub mod FlatNullableLemmas
 pub mod FlatNumbersLemmas
 pub mod HeadBlockLemmas
-pub mod IdOfLemmas
 pub mod InLemmas
 pub mod InnerLemmas
 pub mod IsEmptyRepeatLemmas

@@ -12,7 +12,8 @@ use Rattle.flatgrammar.specs.NullElements.{AreNullRules, AreNullAlike}
 use Rattle.flatgrammar.specs.Numbers.{NamesTell}
 use Rattle.flatgrammar.proofs.BeforeLemmas.{get_below}
 use Rattle.flatgrammar.proofs.FlatCutLemmas.{push_cases}
-use Rattle.flatgrammar.proofs.RuleNodeLemmas.{body_at_id, there}
+use Rattle.abnfcheck.proofs.RuleIdLemmas.{body_at_id}
+use Rattle.flatgrammar.proofs.RuleNodeLemmas.{there}
 
 get_here : (marks : List Bool) (k : ℕ) (mark : Bool) → slice_get marks k ≡ Some mark → get_or marks k false ≡ mark
 get_here [] k mark is = absurd (cc is)

@@ -16,8 +16,9 @@ use Rattle.flatgrammar.specs.Holds.{Holds, called, has_read, returned}
 use Rattle.flatgrammar.specs.Lowered.{capped_most, Spells, spells, shows_text, shows_values, shows_range, shows_concat}
 use Rattle.flatgrammar.specs.Lowered.{shows_alt, shows_rep, shows_turns, shows_reversed, shows_opt, shows_name}
 use Rattle.flatgrammar.specs.Lowered.{SpellAll, spell_none, spell_more, AreBodies}
-use Rattle.flatgrammar.proofs.RuleNodeLemmas.{body_at_id, node_of_rule}
-use Rattle.abnfcheck.proofs.IsPathLemmas.{here, step, split}
+use Rattle.abnfcheck.proofs.RuleIdLemmas.{body_at_id}
+use Rattle.flatgrammar.proofs.RuleNodeLemmas.{node_of_rule}
+use Rattle.abnfcheck.proofs.IsPathLemmas.{here, step, path_splits}
 use Rattle.abnfcheck.proofs.LiesLemmas.{OnLine, Lies}
 use Rattle.flatgrammar.proofs.CappedMostLemmas.{most_is}
 use Rattle.flatgrammar.proofs.OnLineLemmas.{short, lies_count}
@@ -261,7 +262,7 @@ module _ (has : ℕ → Bool) (rules : List Rule) (limit : ℕ) (flat : Flat)
         subst (λ v. Holds flat x i (at s v) o) same h
     run_all (then {w = w} d ds) (spell_more {m = m} {ms = rest} sp all) s ms is k i j left l = λ o h.
         let n = next_of ms k left in
-        let cut = split (OnLine x) w l in
+        let cut = path_splits (OnLine x) w l in
         let once = call_step (calls is (Calling.member n.is)) (plain is (λ t. elim t [ ]))
         (run d m i cut.mid sp cut.left) o h in
         let on = run_all ds all s ms is (k + 1) cut.mid j n.rest cut.right o once in
@@ -292,7 +293,7 @@ module _ (has : ℕ → Bool) (rules : List Rule) (limit : ℕ) (flat : Flat)
         record { to = f; turned = subst (λ v. Turned a b v f) same turned; steps = λ o h. h }
     run_times (one_more {k = k} {w = w} d ds) s a m b is sp t f i j turned within l =
         let n = turn_on a b m t f turned (within_less t k b within) in
-        let cut = split (OnLine x) w l in
+        let cut = path_splits (OnLine x) w l in
         let once = call_step (calls is n.calling) (plain is (λ t. elim t [ ])) (run d m i cut.mid sp cut.left) in
         let on = run_times ds s a m b is sp (suc t) n.to cut.mid j n.turned (within_same t k b within) cut.right in
         let same : suc t + k ≡ t + suc k = omega arith in
@@ -314,7 +315,7 @@ module _ (has : ℕ → Bool) (rules : List Rule) (limit : ℕ) (flat : Flat)
         let all = length-append w v in
         let one : t + 1 ≤ limit = omega (arith, all, under) in
         let n = take_on limit t k b d m f most one within turned in
-        let cut = split (OnLine x) (c ∷ w) l in
+        let cut = path_splits (OnLine x) (c ∷ w) l in
         let ahead = lies_count x cut.left in
         let once = call_step (calls is n.calling) (λ t. let lt : i < cut.mid = omega (arith, ahead) in lt)
         (run e m i cut.mid sp cut.left) in

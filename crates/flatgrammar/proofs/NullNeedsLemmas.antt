@@ -11,7 +11,8 @@ use Rattle.leastset.specs.NumberMarks.{IsMarked}
 use Rattle.flatgrammar.specs.Flat.{Node, Set, Letters, Concat, Alt, Rep, Turns, Opt, Name, Nothing, IsTaking, top}
 use Rattle.flatgrammar.specs.Flat.{Begins, IsDone, Calling}
 use Rattle.flatgrammar.specs.Nullable.{Passes, begun, stepped, Nullable, done, named}
-use Rattle.flatgrammar.specs.NullNeeds.{need_of, need_of_sets, need_of_turns, need_of_repeat, need_of_body}
+use Rattle.abnfcheck.specs.RuleMarks.{need_of_turns, need_of_repeat}
+use Rattle.flatgrammar.specs.NullNeeds.{need_of, need_of_sets, need_of_body}
 use Rattle.flatgrammar.specs.Numbers.{IsOperand, AreOrdered}
 use Rattle.flatgrammar.specs.TableViews.{AreNulls}
 use Rattle.flatgrammar.proofs.BeforeLemmas.{get_below}

@@ -10,7 +10,7 @@ use Rattle.flatgrammar.specs.Flat.{starts, name_starts, Ends, ends, name_ends, R
 use Rattle.flatgrammar.specs.Flat.{Takes, in_turns}
 use Rattle.flatgrammar.specs.Holds.{Holds, begins, called, has_read, returned}
 use Rattle.flatgrammar.specs.Lowered.{Spells, spells, Shows, shows_name, AreBodies}
-use Rattle.abnfcheck.proofs.IsPathLemmas.{here, step, join}
+use Rattle.abnfcheck.proofs.IsPathLemmas.{here, step, paths_join}
 use Rattle.abnfcheck.proofs.LiesLemmas.{OnLine, Lies, are_letters}
 use Rattle.flatgrammar.proofs.OnLineLemmas.{short, lies_count}
 use Rattle.flatgrammar.proofs.RuleNodeLemmas.{body_of_number}
@@ -78,7 +78,7 @@ module _ (has : ℕ → Bool) (rules : List Rule) (limit : ℕ) (flat : Flat)
         let g = sound h in
         record {
           word = g.word ++ c ∷ [];
-          lies = join (OnLine x) g.lies (step (is, refl) here);
+          lies = paths_join (OnLine x) g.lies (step (is, refl) here);
           part = read_on c g.word r lies_in g.part;
         }
     sound (returned h e g c takes) =
@@ -86,7 +86,7 @@ module _ (has : ℕ → Bool) (rules : List Rule) (limit : ℕ) (flat : Flat)
         let outer = sound g in
         record {
           word = outer.word ++ inner.word;
-          lies = join (OnLine x) outer.lies inner.lies;
+          lies = paths_join (OnLine x) outer.lies inner.lies;
           part = call_on outer.word inner.word c outer.part (let few = short x outer.lies in omega (arith, few, within))
               (λ t. let lt = takes t in let long = lies_count x inner.lies in omega (arith, lt, long))
               (ends_derive e (are_letters x has letters inner.lies)

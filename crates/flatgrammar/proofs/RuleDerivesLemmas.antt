@@ -9,7 +9,7 @@ use Rattle.flatgrammar.specs.Flat.{Flat, Concat, at, Calling, Begins, starts, ca
 use Rattle.flatgrammar.specs.Holds.{Holds, begins}
 use Rattle.flatgrammar.specs.Lowered.{Spells, shows_concat, spell_none, spell_more, IsLowered}
 use Rattle.flatgrammar.proofs.RuleNodeLemmas.{node_of_rule}
-use Rattle.abnfcheck.proofs.LiesLemmas.{only, all_of}
+use Rattle.abnfcheck.proofs.LiesLemmas.{lies_one_word, all_of}
 use Rattle.flatgrammar.proofs.BeforeLemmas.{Before, in_concat}
 use Rattle.flatgrammar.proofs.ReachedLemmas.{sound}
 use Rattle.flatgrammar.proofs.NodeRunsLemmas.{run, call_step, plain}
@@ -33,7 +33,7 @@ module _ (has : ℕ → Bool) (rules : List Rule) (judged : ℕ) (flat : Flat) (
       record {
         body = body.0;
         is = body.1;
-        derives = subst (λ v. Derives has rules body.0 v) (only x reached.lies
+        derives = subst (λ v. Derives has rules body.0 v) (lies_one_word x reached.lies
             (all_of x)) d;
       }
 

@@ -7,22 +7,10 @@ use Rattle.std.proofs.lemmas.List.{length-map}
 use Rattle.ruletable.specs.Rules.{same_name}
 use Rattle.ruletable.specs.declared.table.NameCase.TheVariants.{Fold}
 use Rattle.abnfread.specs.Element.{Element, Rule, bodies, body_of, id_of}
+use Rattle.abnfcheck.proofs.RuleIdLemmas.{body_at_id}
 use Rattle.flatgrammar.specs.Flat.{Node}
 use Rattle.flatgrammar.specs.Lowered.{Spells, AreBodies}
 use Rattle.flatgrammar.proofs.BeforeLemmas.{get_below}
-
--- the body of a name stands at its id
-pub body_at_id : (rules : List Rule) (name : List ℕ) → body_of rules name ≡ slice_get (bodies rules) (id_of rules name)
-body_at_id [] name = refl
-body_at_id (rule ∷ rules) name =
-    here_or_later (same_name Fold name rule.name) rule.body (bodies rules) (id_of rules name) (body_of rules name)
-    (body_at_id rules name)
-  where
-    here_or_later : (b : Bool) (body : Element) (bodies : List Element) (k : ℕ) (later : Option Element)
-        → later ≡ slice_get bodies k →
-        cond b (Some body) later ≡ slice_get (body ∷ bodies) (cond b 0 (k + 1))
-    here_or_later true body bodies k later h = refl
-    here_or_later false body bodies k later h = rw add-one h
 
 pub there : {A : Type 0} (xs : List A) (k : ℕ) → k < length xs → (y : A) × (slice_get xs k ≡ Some y)
 there [] k lt = absurd (omega arith)

@@ -1,19 +1,12 @@
 -- What a node needs to be nullable.
-use Rattle.std.specs.Prelude.{ℕ, List, [], ◌∷◌, Option, Some, None, leb, slice_get, if◌then◌else◌}
+use Rattle.std.specs.Prelude.{ℕ, List, [], ◌∷◌, Option, Some, None, slice_get}
 use Rattle.leastset.specs.Demands.{Demand, All, One}
+use Rattle.abnfcheck.specs.RuleMarks.{need_of_repeat}
 use Rattle.flatgrammar.specs.Flat.{Node, Set, Letters, Concat, Alt, Rep, Turns, Opt, Name, Nothing}
 
 abbrev pub need_of_sets : List Set → Demand
 need_of_sets [] = All []
 need_of_sets (set ∷ sets) = One []
-
--- from the first turn on, if a turn is asked for
-abbrev pub need_of_turns : ℕ → Option ℕ → ℕ → Demand
-need_of_turns least None m = All (m ∷ [])
-need_of_turns least (Some most) m = if leb least most then All (m ∷ []) else One []
-
-abbrev pub need_of_repeat : ℕ → Option ℕ → ℕ → Demand
-need_of_repeat least most m = if leb least 0 then All [] else need_of_turns least most m
 
 abbrev pub need_of_body : Option ℕ → Demand
 need_of_body None = One []

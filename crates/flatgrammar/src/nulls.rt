@@ -1,9 +1,10 @@
 //! Which nodes are nullable: they are passed without a letter.
 ghost use Rattle.std.specs.Prelude.{◌≡◌, ℕ, ◌<◌, length, map, slice_get, Some, IfOk};
 ghost use Rattle.leastset.specs.Demands.{demand_of, demands_of};
+ghost use Rattle.abnfcheck.specs.RuleMarks.{need_of_repeat};
 ghost use Rattle.flatgrammar.specs.Flat.{Flat};
 ghost use Rattle.flatgrammar.specs.FlatViews.{node_of, nodes_of};
-ghost use Rattle.flatgrammar.specs.NullNeeds.{need_of, need_of_repeat, need_of_body};
+ghost use Rattle.flatgrammar.specs.NullNeeds.{need_of, need_of_body};
 ghost use Rattle.flatgrammar.specs.Numbers.{AreOrdered};
 ghost use Rattle.flatgrammar.specs.TableViews.{AreNulls};
 

@@ -16,7 +16,8 @@ use Rattle.flatgrammar.specs.Places.{size, sizes}
 use Rattle.flatgrammar.specs.ToldBeginnings.{HasItem, TellsBeginnings}
 use Rattle.flatgrammar.proofs.BeforeLemmas.{get_below}
 use Rattle.flatgrammar.proofs.RuleDerivesLemmas.{exactly}
-use Rattle.flatgrammar.proofs.RuleNodeLemmas.{body_at_id, there}
+use Rattle.abnfcheck.proofs.RuleIdLemmas.{body_at_id}
+use Rattle.flatgrammar.proofs.RuleNodeLemmas.{there}
 use Rattle.viable.specs.Pruned.{IsProductive, Keeps, keep_text, keep_values, keep_range, keep_concat, keep_alt}
 use Rattle.viable.specs.Pruned.{keep_rep, empty_rep, keep_opt, empty_opt, keep_name, KeepsAll, keep_none, keep_more}
 use Rattle.viable.specs.Pruned.{KeepsSome, some_none, kept, dropped, IsLeftBody, left_body, no_body, ArePruned}
@@ -62,9 +63,9 @@ module _ (has : ℕ → Bool) (rules left : List Rule) (pruned : ArePruned has r
   at_id : (n : List ℕ) → body_of left n ≡ slice_get (bodies left) (id_of rules n)
   at_id n = body_at_id left n ∙ ap (λ v. slice_get (bodies left) v) (pruned.ids n)
 
-  names : (n : List ℕ) (el : Element) → body_of rules n ≡ Some el → IsProductive has rules el
+  name_left : (n : List ℕ) (el : Element) → body_of rules n ≡ Some el → IsProductive has rules el
       → LeftBody has rules left n el
-  names n el is p =
+  name_left n el is p =
       let d = body_left (id_of rules n) el (sym (body_at_id rules n) ∙ is) in
       record { body = d.0; keeps = keeps_body d.2 p; is = at_id n ∙ d.1 }
 
@@ -72,14 +73,14 @@ module _ (has : ℕ → Bool) (rules left : List Rule) (pruned : ArePruned has r
   rule_forth {id = id} {w = w} letters r =
       let d = body_left id r.body r.is in
       let k = keeps_body d.2 (record { word = w; letters = letters; derives = r.derives }) in
-      record { body = d.0; is = d.1; derives = forth has rules left names r.derives letters k }
+      record { body = d.0; is = d.1; derives = forth has rules left name_left r.derives letters k }
 
   rule_back : {id : ℕ} {w : List ℕ} → RuleDerives has left id w → RuleDerives has rules id w
   rule_back {id = id} {w = w} r = let el = body_was id r.body r.is in
       record { body = el.0; is = el.1; derives = by el.2 r.derives }
     where
       by : {el d : Element} → IsLeftBody has rules el d → Derives has left d w → Derives has rules el w
-      by (left_body k) d = back has rules left names d k
+      by (left_body k) d = back has rules left name_left d k
       by (no_body not) d = absurd (no_prose has left d)
 
   -- what is kept has productive parts alone
@@ -88,7 +89,7 @@ module _ (has : ℕ → Bool) (rules left : List Rule) (pruned : ArePruned has r
       let p = keeps_productive has rules k in record {
         word = p.word;
         letters = p.letters;
-        derives = forth has rules left names p.derives p.letters k;
+        derives = forth has rules left name_left p.derives p.letters k;
       }
 
   mutual

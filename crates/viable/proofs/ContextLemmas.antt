@@ -38,9 +38,10 @@ lies_take x i j (c ∷ w) (step on l) =
     one (b ∷ x) (suc i) c is = let on : suc i + 1 ≡ suc (i + 1) = omega arith in ap (λ k. take k (b ∷ x)) on
         ∙ ap (λ v. b ∷ v) (one x i c is)
 
-joined : (x : List ℕ) (i j : ℕ) (w v f z : List ℕ) → Lies x i w j → (take i x ++ ((w ++ v) ++ f)) ++ z ≡ (take j x ++ v)
+lies_joined : (x : List ℕ) (i j : ℕ) (w v f z : List ℕ) → Lies x i w j
+    → (take i x ++ ((w ++ v) ++ f)) ++ z ≡ (take j x ++ v)
     ++ (f ++ z)
-joined x i j w v f z l = rw (lies_take x i j w l) (same (take i x) w v f z)
+lies_joined x i j w v f z l = rw (lies_take x i j w l) (same (take i x) w v f z)
   where
     same : (a w v f z : List ℕ) → (a ++ ((w ++ v) ++ f)) ++ z ≡ ((a ++ w) ++ v) ++ (f ++ z)
     same a w v f z =
@@ -63,8 +64,8 @@ pub record AreLiveBodies (has : ℕ → Bool) (rules : List Rule) (judged : ℕ)
 module _ (has : ℕ → Bool) (rules : List Rule) (judged : ℕ) (flat : Flat) (lowered : IsLowered rules judged flat)
     (live : AreLiveBodies has rules judged) (x : List ℕ) (line : length x ≤ flat.limit)
     (letters : AreLetters has x) where
-  moved : {v w : List ℕ} → v ≡ w → RuleDerives has rules judged v → RuleDerives has rules judged w
-  moved same d = subst (λ z. RuleDerives has rules judged z) same d
+  derives_moved : {v w : List ℕ} → v ≡ w → RuleDerives has rules judged v → RuleDerives has rules judged w
+  derives_moved same d = subst (λ z. RuleDerives has rules judged z) same d
 
   record BeginsAfter (i : ℕ) (v : List ℕ) : Type 0 where
     tail : List ℕ
@@ -89,12 +90,12 @@ module _ (has : ℕ → Bool) (rules : List Rule) (judged : ℕ) (flat : Flat) (
     alive : IsLive has rules of
     up : (v : List ℕ) → Derives has rules of v → Derives has rules el v
 
-  into : {s t k : ℕ} {el : Element} → Starts flat s (at t k) → Spells rules flat.limit flat.nodes s el
+  goes_into : {s t k : ℕ} {el : Element} → Starts flat s (at t k) → Spells rules flat.limit flat.nodes s el
       → IsLive has rules el → Into el t
-  into {el = el} (starts is b) sp l = record { of = el; spelled = sp; alive = l; up = λ v d. d }
-  into {t = t} {el = el} (name_starts {t = t'} {r = r} is at_r st) (spells {node = node} is' shown) l =
+  goes_into {el = el} (starts is b) sp l = record { of = el; spelled = sp; alive = l; up = λ v d. d }
+  goes_into {t = t} {el = el} (name_starts {t = t'} {r = r} is at_r st) (spells {node = node} is' shown) l =
       by (let same : node ≡ Name r = cc (is, is') in subst (λ v. Shows rules flat.limit flat.nodes v el) same shown) l
-      (λ body spelled alive. into {el = body} st spelled alive)
+      (λ body spelled alive. goes_into {el = body} st spelled alive)
     where
       inner : {n : List ℕ} (body : Element) → body_of rules n ≡ Some body → IsProductive has rules (e.Name n)
           → IsLive has rules body
@@ -126,7 +127,7 @@ module _ (has : ℕ → Bool) (rules : List Rule) (judged : ℕ) (flat : Flat) (
   begun_context {p = at t k} st =
       let body = lowered.spelled.spelled judged lowered.body lowered.body_is in
       let alive = live.whole body.0 body.1 in
-      let inside = into st (spells lowered.whole (shows_concat (spell_more body.2 spell_none)))
+      let inside = goes_into st (spells lowered.whole (shows_concat (spell_more body.2 spell_none)))
       (live_concat (more_live alive.0 alive.1 no_live)) in
       record {
         el = inside.of;
@@ -164,7 +165,7 @@ module _ (has : ℕ → Bool) (rules : List Rule) (judged : ℕ) (flat : Flat) (
           let part = part_of has rules flat.limit flat.nodes call shown context.alive
           (reached.part node context.el is shown)
           (let few = short x reached.lies in omega (arith, few, line)) in
-          let inside = into st part.spelled part.live in
+          let inside = goes_into st part.spelled part.live in
           record {
             el = inside.of;
             spelled = inside.spelled;
@@ -179,23 +180,23 @@ module _ (has : ℕ → Bool) (rules : List Rule) (judged : ℕ) (flat : Flat) (
                 record {
                   tail = f.rest ++ on.tail;
                   tail_letters = letters_both has f.rest on.tail f.letters on.tail_letters;
-                  derived = moved {v = (take i x ++ ((reached.word ++ v) ++ f.rest)) ++ on.tail}
+                  derived = derives_moved {v = (take i x ++ ((reached.word ++ v) ++ f.rest)) ++ on.tail}
                       {w = (take j x ++ v) ++ (f.rest ++ on.tail)}
-                      (joined x i j reached.word v f.rest on.tail reached.lies) on.derived;
+                      (lies_joined x i j reached.word v f.rest on.tail reached.lies) on.derived;
                 };
           }
 
-  context : {i j : ℕ} {p : Place} → Holds flat x j p i → ContextAt i p
-  context (begins st) = begun_context st
-  context (called h c st) = called_context h c st (context h)
-  context (has_read h (reads is r) letter lies) = context h
-  context (returned h e g (calls is c) takes) = context g
+  context_at : {i j : ℕ} {p : Place} → Holds flat x j p i → ContextAt i p
+  context_at (begins st) = begun_context st
+  context_at (called h c st) = called_context h c st (context_at h)
+  context_at (has_read h (reads is r) letter lies) = context_at h
+  context_at (returned h e g (calls is c) takes) = context_at g
 
   pub items_go_on : (j : ℕ) → HasItem flat x j → BeginsMember has rules judged x j
   items_go_on j h = by h.place h.origin h.held
     where
       by : (p : Place) (i : ℕ) → Holds flat x j p i → BeginsMember has rules judged x j
-      by (at s k) i held = own (context held).spelled
+      by (at s k) i held = own (context_at held).spelled
         where
           place : (node : Node) × (slice_get flat.nodes s ≡ Some node) × (k < width node)
           place = holds_place flat held
@@ -204,7 +205,7 @@ module _ (has : ℕ → Bool) (rules : List Rule) (judged : ℕ) (flat : Flat) (
           reached = sound has rules flat.limit flat lowered.spelled x letters line held
 
           there : Context i s
-          there = context held
+          there = context_at held
 
           own : Spells rules flat.limit flat.nodes s there.el → BeginsMember has rules judged x j
           own (spells {node = node} is shown) =
@@ -218,7 +219,7 @@ module _ (has : ℕ → Bool) (rules : List Rule) (judged : ℕ) (flat : Flat) (
               record {
                 rest = f.rest ++ on.tail;
                 letters = letters_both has f.rest on.tail f.letters on.tail_letters;
-                derives = moved {v = (take i x ++ (reached.word ++ f.rest)) ++ on.tail}
+                derives = derives_moved {v = (take i x ++ (reached.word ++ f.rest)) ++ on.tail}
                     {w = take j x ++ (f.rest ++ on.tail)}
                     (joined_one x i j reached.word f.rest on.tail reached.lies) on.derived;
               }

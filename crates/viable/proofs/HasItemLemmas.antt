@@ -10,7 +10,7 @@ use Rattle.abnfcheck.specs.Beginnings.{BeginsMember}
 use Rattle.abnfcheck.specs.Derivable as der
 use Rattle.abnfcheck.specs.Derivable.{AreLetters, Derives, DerivesAll, DerivesSome, DerivesTimes, all_done, then, this}
 use Rattle.abnfcheck.specs.Derivable.{later, no_more, one_more, RuleDerives}
-use Rattle.abnfcheck.proofs.IsPathLemmas.{here, step, split}
+use Rattle.abnfcheck.proofs.IsPathLemmas.{here, step, path_splits}
 use Rattle.abnfcheck.proofs.LiesLemmas.{OnLine, Lies, all_of}
 use Rattle.flatgrammar.specs.Flat.{Node, Flat, Letters, Concat, Alt, Rep, Place, at, Set, Has, Reading, Calling, Begins}
 use Rattle.flatgrammar.specs.Flat.{Starts, starts, name_starts, reads, calls}
@@ -24,24 +24,25 @@ use Rattle.flatgrammar.specs.NullElements.{IsNeverEmpty}
 use Rattle.flatgrammar.proofs.NodeRunsLemmas.{next_of, turn_on, take_on, within_same, fewer, run, call_step, plain}
 use Rattle.flatgrammar.proofs.CappedMostLemmas.{most_is}
 use Rattle.flatgrammar.proofs.OnLineLemmas.{lies_count}
-use Rattle.flatgrammar.proofs.RuleNodeLemmas.{body_at_id, node_of_rule}
+use Rattle.abnfcheck.proofs.RuleIdLemmas.{body_at_id}
+use Rattle.flatgrammar.proofs.RuleNodeLemmas.{node_of_rule}
 
 -- one list ends within another
-splits : (w v u r : List ℕ) → w ++ v ≡ u ++ r → ((m : List ℕ) × (u ≡ w ++ m) × (v ≡ m ++ r))
+append_splits : (w v u r : List ℕ) → w ++ v ≡ u ++ r → ((m : List ℕ) × (u ≡ w ++ m) × (v ≡ m ++ r))
     ⊎ ((m : List ℕ) × (w ≡ u ++ m))
-splits [] v u r h = inl (u, refl, h)
-splits (c ∷ w) v [] r h = inr (c ∷ w, refl)
-splits (c ∷ w) v (b ∷ u) r h =
+append_splits [] v u r h = inl (u, refl, h)
+append_splits (c ∷ w) v [] r h = inr (c ∷ w, refl)
+append_splits (c ∷ w) v (b ∷ u) r h =
     let same : c ≡ b = cc h in
     let rest : w ++ v ≡ u ++ r = cc h in
-    ⊎_elim (λ a. inl (a.0, cc (same, a.1), a.2)) (λ a. inr (a.0, cc (same, a.1))) (splits w v u r rest)
+    ⊎_elim (λ a. inl (a.0, cc (same, a.1), a.2)) (λ a. inr (a.0, cc (same, a.1))) (append_splits w v u r rest)
 
 module _ (has : ℕ → Bool) (rules : List Rule) (limit : ℕ) (flat : Flat)
     (bodies : AreBodies rules limit flat.nodes flat.bodies) (x : List ℕ) (line : length x ≤ limit) where
-  ended : {i o : ℕ} {p : Place} (u r : List ℕ) (j : ℕ) → [] ≡ u ++ r → Lies x i u j → Holds flat x i p o
+  ended_item : {i o : ℕ} {p : Place} (u r : List ℕ) (j : ℕ) → [] ≡ u ++ r → Lies x i u j → Holds flat x i p o
       → HasItem flat x j
-  ended {i = i} {o = o} {p = p} [] r j same here h = record { place = p; origin = o; held = h }
-  ended (c ∷ u) r j same l h = absurd (cc same)
+  ended_item {i = i} {o = o} {p = p} [] r j same here h = record { place = p; origin = o; held = h }
+  ended_item (c ∷ u) r j same l h = absurd (cc same)
 
   reach_letters : (s : ℕ) (sets : List Set) → slice_get flat.nodes s ≡ Some (Letters sets)
       → {left : List Set} {v : List ℕ} → Fit left v →
@@ -59,12 +60,12 @@ module _ (has : ℕ → Bool) (rules : List Rule) (limit : ℕ) (flat : Flat)
       reach_letters s sets is f (k + 1) after j o n.rest u r rest l once
 
   -- a further turn is counted, since those before took a letter each
-  room : (t k : ℕ) (b d : Option ℕ) → d ≡ capped_most limit b → t ≤ limit → der.Within (t + suc k) b
+  turn_room : (t k : ℕ) (b d : Option ℕ) → d ≡ capped_most limit b → t ≤ limit → der.Within (t + suc k) b
       → der.Within (suc t) d
-  room t k None None is le within = tt
-  room t k None (Some d) is le within = absurd (cc is)
-  room t k (Some b) None is le within = tt
-  room t k (Some b) (Some d) is le within = let one : Some b ≡ Some d = most_is limit (Some b) d is in
+  turn_room t k None None is le within = tt
+  turn_room t k None (Some d) is le within = absurd (cc is)
+  turn_room t k (Some b) None is le within = tt
+  turn_room t k (Some b) (Some d) is le within = let one : Some b ≡ Some d = most_is limit (Some b) d is in
       let same : b ≡ d = cc one in omega (arith, same, within)
 
   some_letter : {el : Element} {w : List ℕ} → IsNeverEmpty rules el → Derives has rules el w → 0 < length w
@@ -111,7 +112,7 @@ module _ (has : ℕ → Bool) (rules : List Rule) (limit : ℕ) (flat : Flat)
         none_within None = tt
         none_within (Some d) = omega arith
     reach der.opt_empty s i j le (spells is (shows_opt sp)) u r cut l begin =
-        ended u r j cut l (begin (at s 1) (starts is Begins.opt_empty))
+        ended_item u r j cut l (begin (at s 1) (starts is Begins.opt_empty))
     reach (der.opt d) s i j le (spells is (shows_opt {m = m} sp)) u r cut l begin =
         reach d m i j le sp u r cut l (λ p st. called (begin (at s 0) (starts is Begins.opt))
         (calls is Calling.operand) st)
@@ -125,18 +126,18 @@ module _ (has : ℕ → Bool) (rules : List Rule) (limit : ℕ) (flat : Flat)
         (s : ℕ) (ms : List ℕ) → slice_get flat.nodes s ≡ Some (Concat ms) → (k i j o : ℕ) → j ≤ length x
         → drop k ms ≡ left → (u r : List ℕ) → v ≡ u ++ r → Lies x i u j →
         Holds flat x i (at s k) o → HasItem flat x j
-    reach_all all_done spell_none s ms is k i j o le left u r cut l h = ended u r j cut l h
+    reach_all all_done spell_none s ms is k i j o le left u r cut l h = ended_item u r j cut l h
     reach_all (then {w = w} {v = v} d ds) (spell_more {m = m} sp all) s ms is k i j o le left u r cut l h =
         let n = next_of ms k left in
         ⊎_elim
         (λ behind.
-        let at_mid = split (OnLine x) w (subst (λ z. Lies x i z j) behind.1 l) in
+        let at_mid = path_splits (OnLine x) w (subst (λ z. Lies x i z j) behind.1 l) in
         let once = call_step has rules limit flat bodies x line (calls is (Calling.member n.is))
         (plain has rules limit flat bodies x line is (λ t. elim t [ ]))
         (run has rules limit flat bodies x line d m i at_mid.mid sp at_mid.left) o h in
         reach_all ds all s ms is (k + 1) at_mid.mid j o le n.rest behind.0 r behind.2 at_mid.right once)
         (λ inside. reach d m i j le sp u inside.0 inside.1 l (λ p st. called h (calls is (Calling.member n.is)) st))
-        (splits w v u r cut)
+        (append_splits w v u r cut)
 
     reach_some : {es : Elements} {v left : List ℕ} → DerivesSome has rules es v
         → SpellAll rules limit flat.nodes left es →
@@ -155,14 +156,14 @@ module _ (has : ℕ → Bool) (rules : List Rule) (limit : ℕ) (flat : Flat)
         Spells rules limit flat.nodes m el → IsNeverEmpty rules el → (t f i j o : ℕ) → j ≤ length x → Turned c d t f
         → der.Within (t + count) b → t ≤ i →
         (u r : List ℕ) → v ≡ u ++ r → Lies x i u j → Holds flat x i (at s f) o → HasItem flat x j
-    reach_times no_more s c m b d most is sp never t f i j o le turned within few u r cut l h = ended u r j cut l h
+    reach_times no_more s c m b d most is sp never t f i j o le turned within few u r cut l h = ended_item u r j cut l h
     reach_times (one_more {k = k} {w = w} {v = v} e ds) s c m b d most is sp never t f i j o le turned within few u r
         cut l h =
         let on = lies_count x l in
-        let n = turn_on c d m t f turned (room t k b d most (omega (arith, few, on, le, line)) within) in
+        let n = turn_on c d m t f turned (turn_room t k b d most (omega (arith, few, on, le, line)) within) in
         ⊎_elim
         (λ behind.
-        let at_mid = split (OnLine x) w (subst (λ z. Lies x i z j) behind.1 l) in
+        let at_mid = path_splits (OnLine x) w (subst (λ z. Lies x i z j) behind.1 l) in
         let long = lies_count x at_mid.left in
         let some = some_letter never e in
         let once = call_step has rules limit flat bodies x line (calls is n.calling)
@@ -171,14 +172,14 @@ module _ (has : ℕ → Bool) (rules : List Rule) (limit : ℕ) (flat : Flat)
         reach_times ds s c m b d most is sp never (suc t) n.to at_mid.mid j o le n.turned (within_same t k b within)
         (omega (arith, few, long, some)) behind.0 r behind.2 at_mid.right once)
         (λ inside. reach e m i j le sp u inside.0 inside.1 l (λ p st. called h (calls is n.calling) st))
-        (splits w v u r cut)
+        (append_splits w v u r cut)
 
     reach_turns : {el : Element} {count : ℕ} {v : List ℕ} → DerivesTimes has rules el count v
         → (s m : ℕ) (b d : Option ℕ) → d ≡ capped_most limit b → slice_get flat.nodes s ≡ Some (Node.Turns d m) →
         Spells rules limit flat.nodes m el → (t f i j o : ℕ) → j ≤ length x → Turned 0 d t f → der.Within t d
         → der.Within (t + count) b → t ≤ i →
         (u r : List ℕ) → v ≡ u ++ r → Lies x i u j → Holds flat x i (at s f) o → HasItem flat x j
-    reach_turns no_more s m b d most is sp t f i j o le turned counted within few u r cut l h = ended u r j cut l h
+    reach_turns no_more s m b d most is sp t f i j o le turned counted within few u r cut l h = ended_item u r j cut l h
     reach_turns (one_more {k = k} {w = []} e ds) s m b d most is sp t f i j o le turned counted within few u r cut l h =
         reach_turns ds s m b d most is sp t f i j o le turned counted (fewer t k b within) few u r cut l h
     reach_turns (one_more {w = c ∷ w} e ds) s m b d most is sp t f i j o le turned counted within few u r cut here h =
@@ -189,7 +190,7 @@ module _ (has : ℕ → Bool) (rules : List Rule) (limit : ℕ) (flat : Flat)
         let n = take_on limit t k b d m f most (omega (arith, few, on, le, line)) within turned in
         ⊎_elim
         (λ behind.
-        let at_mid = split (OnLine x) (c ∷ w) (subst (λ z. Lies x i z j) behind.1 (step at_i l)) in
+        let at_mid = path_splits (OnLine x) (c ∷ w) (subst (λ z. Lies x i z j) behind.1 (step at_i l)) in
         let long = lies_count x at_mid.left in
         let once = call_step has rules limit flat bodies x line (calls is n.calling)
         (λ t. let lt : i < at_mid.mid = omega (arith, long) in lt)
@@ -198,7 +199,7 @@ module _ (has : ℕ → Bool) (rules : List Rule) (limit : ℕ) (flat : Flat)
         (omega (arith, few, long)) behind.0 r behind.2 at_mid.right once)
         (λ inside. reach e m i j le sp (a ∷ u) inside.0 inside.1 (step at_i l)
         (λ p st. called h (calls is n.calling) st))
-        (splits (c ∷ w) v (a ∷ u) r cut)
+        (append_splits (c ∷ w) v (a ∷ u) r cut)
 
 front_at : (x : List ℕ) (j i : ℕ) {c : ℕ} → slice_get (take j x) i ≡ Some c → slice_get x i ≡ Some c
 front_at x zero i is = absurd (cc is)

@@ -21,10 +21,10 @@ module _ (has : ℕ → Bool) (rules : List Rule) where
   pub no_prose : {t w : List ℕ} → Derives has rules (e.Prose t) w → ⊥
   no_prose d = elim d [ ]
 
-  times : (el : Element) (k : ℕ) → IsProductive has rules el → (w : List ℕ) × AreLetters has w
+  times_derived : (el : Element) (k : ℕ) → IsProductive has rules el → (w : List ℕ) × AreLetters has w
       × DerivesTimes has rules el k w
-  times el zero p = ([], tt, no_more)
-  times el (suc k) p = let rest = times el k p in
+  times_derived el zero p = ([], tt, no_more)
+  times_derived el (suc k) p = let rest = times_derived el k p in
       (p.word ++ rest.0, letters_both has p.word rest.0 p.letters rest.1, one_more p.derives rest.2)
 
   mutual
@@ -43,7 +43,7 @@ module _ (has : ℕ → Bool) (rules : List Rule) where
         let p = keeps_all_productive ks in record { word = p.word; letters = p.letters; derives = der.concat p.derives }
     keeps_productive (keep_alt p ks) = p
     keeps_productive (keep_rep {a = a} {e = el} within k) =
-        let p = times el a (keeps_productive k) in record {
+        let p = times_derived el a (keeps_productive k) in record {
           word = p.0;
           letters = p.1;
           derives = der.rep {k = a} (omega arith) within p.2;
@@ -120,9 +120,9 @@ module _ (has : ℕ → Bool) (rules left : List Rule)
         let both = letters_parts has w v letters in one_more (forth d both.0 keeps) (forth_times rest both.1 keeps)
 
   -- the body of a productive name
-  named : (n : List ℕ) → IsProductive has rules (e.Name n) → (el : Element) × (body_of rules n ≡ Some el)
+  named_productive : (n : List ℕ) → IsProductive has rules (e.Name n) → (el : Element) × (body_of rules n ≡ Some el)
       × IsProductive has rules el
-  named n p = by p.letters p.derives
+  named_productive n p = by p.letters p.derives
     where
       by : {w : List ℕ} → AreLetters has w → Derives has rules (e.Name n) w → (el : Element)
           × (body_of rules n ≡ Some el) × IsProductive has rules el
@@ -141,7 +141,7 @@ module _ (has : ℕ → Bool) (rules left : List Rule)
     back der.opt_empty (keep_opt k) = der.opt_empty
     back (der.opt d) (keep_opt k) = der.opt (back d k)
     back (der.name {n = n} {e = el} found d) (keep_name p) =
-        let body = named n p in
+        let body = named_productive n p in
         let b = names n body.0 body.1 body.2 in
         let same : b.body ≡ el = cc (b.is, found) in
         der.name body.1 (back d (subst (λ v. Keeps has rules body.0 v) same b.keeps))

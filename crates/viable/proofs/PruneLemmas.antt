@@ -19,7 +19,7 @@ use Rattle.abnfcheck.specs.RuleMarks as marks
 use Rattle.abnfcheck.proofs.YieldsLemmas.{letters_parts}
 use Rattle.leastset.specs.NumberMarks.{IsMarked}
 use Rattle.flatgrammar.proofs.BeforeLemmas.{get_below}
-use Rattle.flatgrammar.proofs.RuleNodeLemmas.{body_at_id}
+use Rattle.abnfcheck.proofs.RuleIdLemmas.{body_at_id}
 use Rattle.viable.specs.Pruned.{IsProductive, AreAllProductive, Keeps, keep_values, empty_rep, keep_alt, KeepsAll}
 use Rattle.viable.specs.Pruned.{keep_none, keep_more, KeepsSome, some_none, kept, dropped}
 use Rattle.viable.proofs.KeepsLemmas.{keeps_productive}
@@ -51,9 +51,9 @@ module _ (has : ℕ → Bool) (rules : List Rule) where
       by (der.range {c = c} from to is) = not (record { letter = c; from = from; to = to; is = is })
 
   -- repetitions
-  pub reversed : (a : ℕ) (b : Option ℕ) (el : Element) → (der.Within a b → ⊥)
+  pub reversed_unproductive : (a : ℕ) (b : Option ℕ) (el : Element) → (der.Within a b → ⊥)
       → IsProductive has rules (e.Rep a b el) → ⊥
-  reversed a b el not p = by p.derives
+  reversed_unproductive a b el not p = by p.derives
     where
       less : (k : ℕ) (b : Option ℕ) → a ≤ k → der.Within k b → der.Within a b
       less k None low high = tt

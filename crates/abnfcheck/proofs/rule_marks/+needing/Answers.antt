@@ -21,15 +21,15 @@ use Rattle.abnfcheck.proofs.rule_marks.+needing.Goals as goal
 pub add_needs-returns : goal.add_needs-returns
 add_needs-returns t c = elim c.match-e.branch [
   | add_needs-in-Text+in_ok-need-in-Text w ↦ λ has test. rw (w.in-Text.is, element-Text)
-      (o.leaf has _ _ _ _ _ _ _ (rw (w.needs-is, w.need-is) at c.in_ok-n.ensures.needs)
+      (o.leaf_numbered has _ _ _ _ _ _ _ (rw (w.needs-is, w.need-is) at c.in_ok-n.ensures.needs)
       (rw w.needs-is at c.in_ok-n.ensures.number) (rw w.in_ok-need-in-Text.ensures
       (y.text_need has _ _ _ _ _ _ _ w.deref.ensures.value w.text_yields.ensures test)))
   | add_needs-in-Values+in_ok-need-in-Values w ↦ λ has test. rw (w.in-Values.is, element-Values)
-      (o.leaf has _ _ _ _ _ _ _ (rw (w.needs-is, w.need-is) at c.in_ok-n.ensures.needs)
+      (o.leaf_numbered has _ _ _ _ _ _ _ (rw (w.needs-is, w.need-is) at c.in_ok-n.ensures.needs)
       (rw w.needs-is at c.in_ok-n.ensures.number) (rw w.in_ok-need-in-Values.ensures
       (y.values_need has _ _ _ _ _ _ w.deref-in-Values.ensures.value w.values_yield.ensures test)))
   | add_needs-in-Range+in_ok-need-in-Range w ↦ λ has test. rw (w.in-Range.is, element-Range)
-      (o.leaf has _ _ _ _ _ _ _ (rw (w.needs-is, w.need-is) at c.in_ok-n.ensures.needs)
+      (o.leaf_numbered has _ _ _ _ _ _ _ (rw (w.needs-is, w.need-is) at c.in_ok-n.ensures.needs)
       (rw w.needs-is at c.in_ok-n.ensures.number) (rw w.in_ok-need-in-Range.ensures
       (y.range_need has _ _ _ _ _ _ w.range_yields.ensures test)))
   | add_needs-in-Concat+in_ok-add_all_needs-in-Concat w ↦ λ has test. rw (w.in-Concat.is, element-Concat)
@@ -41,15 +41,15 @@ add_needs-returns t c = elim c.match-e.branch [
       (rw w.needs-is at c.in_ok-n.ensures.number) _ _
       (rw w.deref-in-Alt.ensures.value at (w.in_ok-add_all_needs-in-Alt.ensures has test)) of_alt)
   | add_needs-in-Rep+in_ok-operand-in-Rep+in_ok-need-in-Rep w ↦ λ has test. rw (w.in-Rep.is, element-Rep)
-      (o.over has _ _ _ _ _ _ _ _ (rw (w.needs-is, w.need-is) at c.in_ok-n.ensures.needs)
+      (o.operand_numbered has _ _ _ _ _ _ _ _ (rw (w.needs-is, w.need-is) at c.in_ok-n.ensures.needs)
       (rw w.needs-is at c.in_ok-n.ensures.number) _ _
       (rw w.deref-in-Rep.ensures at (w.in_ok-operand-in-Rep.ensures has test))
       (λ asked. rw w.in_ok-need-in-Rep.ensures (y.repeat_need has _ _ _ _ _ _ _ asked)))
   | add_needs-in-Opt+in_ok-need-in-Opt w ↦ λ has test. rw (w.in-Opt.is, element-Opt)
-      (o.leaf has _ _ _ _ _ _ _ (rw (w.needs-is, w.need-is) at c.in_ok-n.ensures.needs)
+      (o.leaf_numbered has _ _ _ _ _ _ _ (rw (w.needs-is, w.need-is) at c.in_ok-n.ensures.needs)
       (rw w.needs-is at c.in_ok-n.ensures.number) (rw w.in_ok-need-in-Opt.ensures (y.option_need has _ _ _ _)))
   | add_needs-in-Name+in_ok-rule_id-in-Name+in_ok-need-in-Name w ↦ λ has test. rw (w.in-Name.is, element-Name)
-      (o.leaf has _ _ _ _ _ _ _ (rw (w.needs-is, w.need-is) at c.in_ok-n.ensures.needs)
+      (o.leaf_numbered has _ _ _ _ _ _ _ (rw (w.needs-is, w.need-is) at c.in_ok-n.ensures.needs)
       (rw w.needs-is at c.in_ok-n.ensures.number) (rw
       (rw (
         w.len.ensures.len,
@@ -58,7 +58,7 @@ add_needs-returns t c = elim c.match-e.branch [
         sym (length-map c.args.rules.now.rules rule_of),
       ) at w.in_ok-need-in-Name.ensures) (y.named_need has _ _ _ _)))
   | add_needs-in-Prose+in_ok-need-in-Prose w ↦ λ has test. rw (w.in-Prose.is, element-Prose)
-      (o.leaf has _ _ _ _ _ _ _ (rw (w.needs-is, w.need-is) at c.in_ok-n.ensures.needs)
+      (o.leaf_numbered has _ _ _ _ _ _ _ (rw (w.needs-is, w.need-is) at c.in_ok-n.ensures.needs)
       (rw w.needs-is at c.in_ok-n.ensures.number) (rw w.in_ok-need-in-Prose.ensures (y.prose_need has _ _ _ _)))
 ]
 

@@ -1,12 +1,15 @@
-use Rattle.std.proofs.Common.{rules, arith}
+use Rattle.std.proofs.Common.{⊎_elim, refl, arith}
 use Rattle.abnfread.specs.BaseDigits.{binary, decimals, hexadecimal}
 use Rattle.abnfread.proofs.scan.base_of.Goals as goal
 
-pub returns-then-is_letter : goal.returns-then-is_letter
-returns-then-is_letter c = (binary (search rules), omega arith, omega arith)
+pub returns-in-98 : goal.returns-in-98
+returns-in-98 c =
+    (binary {c = c.args.c} (⊎_elim (λ is. rw is refl) (λ is. rw is refl) c.in-98.is), omega arith, omega arith)
 
-pub returns-then-is_letter-2 : goal.returns-then-is_letter-2
-returns-then-is_letter-2 c = (decimals (search rules), omega arith, omega arith)
+pub returns-in-100 : goal.returns-in-100
+returns-in-100 c =
+    (decimals {c = c.args.c} (⊎_elim (λ is. rw is refl) (λ is. rw is refl) c.in-100.is), omega arith, omega arith)
 
-pub returns-then-is_letter-3 : goal.returns-then-is_letter-3
-returns-then-is_letter-3 c = (hexadecimal (search rules), omega arith, omega arith)
+pub returns-in-120 : goal.returns-in-120
+returns-in-120 c =
+    (hexadecimal {c = c.args.c} (⊎_elim (λ is. rw is refl) (λ is. rw is refl) c.in-120.is), omega arith, omega arith)

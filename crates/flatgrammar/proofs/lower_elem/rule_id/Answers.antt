@@ -1,5 +1,5 @@
 use Rattle.std.proofs.Common.{◌∙◌}
-use Rattle.flatgrammar.proofs.IdOfLemmas.{id_found}
+use Rattle.abnfcheck.proofs.RuleIdLemmas.{id_found}
 use Rattle.flatgrammar.proofs.lower_elem.rule_id.Goals as goal
 
 pub returns : goal.returns

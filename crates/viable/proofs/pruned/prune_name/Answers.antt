@@ -2,7 +2,7 @@ use Rattle.std.proofs.Common.{◌∙◌, subst, sym}
 use Rattle.abnfread.proofs.ElementLemmas.{element-Name}
 use Rattle.abnfread.specs.AbnfViews.{rules_of}
 use Rattle.leastset.specs.NumberMarks.{IsMarked}
-use Rattle.flatgrammar.proofs.IdOfLemmas.{id_found}
+use Rattle.abnfcheck.proofs.RuleIdLemmas.{id_found}
 use Rattle.viable.specs.Pruned.{keep_name}
 use Rattle.viable.proofs.PruneLemmas as o
 use Rattle.viable.proofs.pruned.prune_name.Goals as goal

@@ -5,7 +5,7 @@ use Rattle.viable.proofs.pruned.prune_repeat.Goals as goal
 
 pub returns-then-not-is_within : goal.returns-then-not-is_within
 returns-then-not-is_within c test rules el left =
-    o.reversed test rules c.args.least c.args.most el
+    o.reversed_unproductive test rules c.args.least c.args.most el
     (λ within. absurd (cc (c.if-not-is_within.true, c.is_within.ensures.1 within)))
 
 pub returns-in_ok-operand-in-Some : goal.returns-in_ok-operand-in-Some
