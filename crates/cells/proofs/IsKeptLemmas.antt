@@ -16,14 +16,14 @@ use Rattle.cells.proofs.FoundAtLemmas.{found_at_end, free_none, held_found}
 use Rattle.cells.proofs.PushLemmas.{push_cases, mapped_from}
 use Rattle.cells.proofs.AreLinkedLemmas.{AreLinked-none, AreLinked-push, AreLinked-same}
 
-some-inj : {A : Type 0} (x y : A) → Some x ≡ Some y → x ≡ y
+pub some-inj : {A : Type 0} (x y : A) → Some x ≡ Some y → x ≡ y
 some-inj x y e = cc
 
-entry_at : (cells : List Cell) (i : ℕ) (c : Cell) → slice_get cells i ≡ Some c → slice_get (entries_of cells) i
+pub entry_at : (cells : List Cell) (i : ℕ) (c : Cell) → slice_get cells i ≡ Some c → slice_get (entries_of cells) i
     ≡ Some (entry_of c)
 entry_at cells i c h = slice_get-map entry_of cells i ∙ ap (option_map entry_of) h
 
-entry_is : (c : Cell) (n p e : ℕ) (o : Found) → c.node ≡ n → c.place ≡ p → c.end ≡ e → found_of e ≡ o →
+pub entry_is : (c : Cell) (n p e : ℕ) (o : Found) → c.node ≡ n → c.place ≡ p → c.end ≡ e → found_of e ≡ o →
     entry_of c ≡ record { node = n; place = p; found = o }
 entry_is c n p e o hn hp he ho = rw (← hn, ← hp, ← ho, ← he) refl
 

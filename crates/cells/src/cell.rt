@@ -31,7 +31,7 @@ pub(crate) struct Key {
     pub(crate) place: u32,
 }
 
-/// A number as a cell keeps it; none if it is too great.
+/// Returns a number as a cell keeps it; none if it is too great.
 #[inline(always)]
 pub(crate) fn narrow(n: usize) -> Option<u32>
     ensures same { IfSome result (λ m. (m ≡ n) × (m < 4294967295)) }
@@ -44,7 +44,7 @@ pub(crate) fn narrow(n: usize) -> Option<u32>
     }
 }
 
-/// The end that a cell keeps of what was found; none if it is too great.
+/// Returns the end that a cell keeps of what was found; none if it is too great.
 #[inline(always)]
 pub(crate) fn end_of(found: Found) -> Option<u32>
     ensures { IfSome result (λ e. found_of e ≡ found) }
@@ -55,7 +55,7 @@ pub(crate) fn end_of(found: Found) -> Option<u32>
     }
 }
 
-/// The found that an end stands for.
+/// Returns what was found, of the end that stands for it.
 #[inline(always)]
 pub(crate) fn found_of_end(end: u32) -> Found
     ensures { result ≡ found_of end }

@@ -7,7 +7,7 @@ ghost use Rattle.cells.specs.Rows.{row_of as the_row_of, number_of as number, fo
 use crate::cell::{Cell, Key};
 use crate::rows::{fold, number_of};
 
-/// One more than the index of the last cell of the row, or 0.
+/// Returns one more than the index of the last cell of the row, or 0.
 #[inline(always)]
 pub(crate) fn last_of(cells: &[Cell], heads: &[u32], stride: u32, mask: usize, row: usize) -> usize
     requires row { row < length heads.now }
@@ -17,7 +17,7 @@ pub(crate) fn last_of(cells: &[Cell], heads: &[u32], stride: u32, mask: usize, r
     heads[row] as usize
 }
 
-/// The end of the cell of that node and place, sought among the cells of its row.
+/// Returns the end of the cell of that node and place, sought among the cells of its row.
 #[inline(always)]
 pub(crate) fn walk(
     cells: &[Cell],

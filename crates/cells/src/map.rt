@@ -1,7 +1,7 @@
 //! The cells as a finite map.
 ghost use Rattle.std.specs.Prelude.{◌≡◌, ℕ, ◌<◌, ◌≤◌, ◌++◌, ◌∷◌, ◌^◌, [], length, slice_get, false, Some, None, IfOk};
 ghost use Rattle.std.specs.Prelude.{IfNone, IfSome, OnOk, OnErr};
-ghost use Rattle.cells.specs.Entries.{found_at, IsKnown};
+ghost use Rattle.cells.specs.Entries.{found_at, EndsWith, IsKnown};
 ghost use Rattle.cells.specs.CellEntries.{IsAt, IsFree, IsKept, IsNowhere, entry_of, entries_of, found_of};
 ghost use Rattle.cells.specs.Links.{AreLinked};
 ghost use Rattle.cells.specs.Rows.{number_of as number, fold as folded, row_of};
@@ -315,7 +315,7 @@ fn empty(rows: &mut Vec<u32>)
 }
 
 impl Cells {
-    /// No cells; it takes no memory.
+    /// Returns no cells; it takes no memory.
     pub fn new(alloc: Global) -> Cells
         ensures { result ≡ [] }
     {
@@ -340,14 +340,14 @@ impl Cells {
         self.mask = 0;
     }
 
-    /// The number of cells.
+    /// Returns the number of cells.
     pub fn len(&self) -> usize
         ensures { result ≡ length self.now }
     {
         self.cells.len()
     }
 
-    /// What the node gave at the place, if it has a cell there.
+    /// Returns what the node gave at the place, if it has a cell there.
     #[inline(always)]
     pub fn get(&self, node: usize, place: usize) -> Option<Found>
         ensures { result ≡ found_at self.now node place }
@@ -369,10 +369,12 @@ impl Cells {
         }
     }
 
-    /// What the node gave at the place, if its cell there is the last one.
+    /// Returns what the node gave at the place, if its cell there is the last one.
     #[inline(always)]
     pub fn last(&self, node: usize, place: usize) -> Option<Found>
-        ensures { IfSome result (λ found. found_at self.now node place ≡ Some found) }
+        ensures found { IfSome result (λ found. found_at self.now node place ≡ Some found) }
+        ensures last { IfSome result (λ found. EndsWith self.now node place found) }
+        ensures none { IfNone result ((found : Found) → EndsWith self.now node place found → ⊥) }
     {
         let count = self.cells.len();
         if count == 0 {
@@ -405,7 +407,7 @@ impl Cells {
         )
     }
 
-    /// What the node has at the place: what its cell there holds, or else `found`, for which a cell is added.
+    /// Returns what the node has at the place: what its cell there holds, or else `found`, for which a cell is added.
     ///
     /// # Errors
     /// `Memory` where a growth was refused; no cell is added.

@@ -6,7 +6,7 @@ ghost use Rattle.desk.specs.declared.frame.Frame.{Frame};
 use crate::frame::{Frame, Frames};
 use ruletable::Memory;
 
-/// The frame of a node at a place that begins.
+/// Returns the frame of a node at a place that begins.
 #[inline(always)]
 pub(crate) fn beginning(node: usize, place: usize) -> Frame
     ensures { result ≡ begun_at node place }
@@ -19,7 +19,7 @@ pub(crate) fn beginning(node: usize, place: usize) -> Frame
     }
 }
 
-/// The last frame comes further, and asks for a node at a place.
+/// Brings the last frame further; it asks for a node at a place.
 #[inline(always)]
 pub(crate) fn advance(
     frames: &mut Frames,

@@ -118,7 +118,7 @@ fn step_on(
 }
 
 impl Desk {
-    /// An empty desk; it takes no memory.
+    /// Returns an empty desk; it takes no memory.
     pub fn new(alloc: Global) -> Desk
         ensures { result ≡ empty }
     {
@@ -130,7 +130,7 @@ impl Desk {
         }
     }
 
-    /// The number of its cells.
+    /// Returns the number of its cells.
     pub fn cells(&self) -> usize
         ensures { result ≡ length self.now.cells }
     {

@@ -45,7 +45,7 @@ impl Frames {
         self.frames.clear();
     }
 
-    /// The number of frames.
+    /// Returns the number of frames.
     pub(crate) fn len(&self) -> usize
         ensures { result ≡ length self.now }
     {
@@ -59,7 +59,7 @@ impl Frames {
         self.frames.is_empty()
     }
 
-    /// The last frame.
+    /// Returns the last frame.
     #[inline(always)]
     pub(crate) fn top(&self) -> Frame
         requires { (top : Frame) × (below : List Frame) × (self.now ≡ top ∷ below) }
@@ -68,7 +68,7 @@ impl Frames {
         self.frames[self.frames.len() - 1]
     }
 
-    /// A frame more.
+    /// Adds a frame.
     #[inline(always)]
     pub(crate) fn push(&mut self, frame: Frame) -> Result<(), Memory>
         ensures { OnOk result (self.new ≡ frame ∷ self.old) }
@@ -86,7 +86,7 @@ impl Frames {
         self.frames.pop()
     }
 
-    /// Without the last frame.
+    /// Drops the last frame.
     #[inline(always)]
     pub(crate) fn pop(&mut self)
         ensures { (top : Frame) (below : List Frame) → self.old ≡ top ∷ below → self.new ≡ below }
@@ -94,7 +94,7 @@ impl Frames {
         self.frames.pop();
     }
 
-    /// The last frame comes further.
+    /// Brings the last frame further.
     #[inline(always)]
     pub(crate) fn come_on(&mut self, next: usize, end: usize)
         requires { (top : Frame) × (below : List Frame) × (self.old ≡ top ∷ below) }

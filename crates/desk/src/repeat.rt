@@ -19,7 +19,7 @@ use cells::{Cells, Found};
 use gramcheck::{Node, SoundPeg};
 use pegmatch::{Tried, match_any, match_set};
 
-/// Whether a node takes one byte wherever it succeeds, and has no operands.
+/// Returns whether a node takes one byte wherever it succeeds, and has no operands.
 #[inline(always)]
 pub(crate) fn takes_byte(node: &Node) -> bool
     ensures { result ≡ true → TakesByte (shape_of node.now) }

@@ -94,7 +94,7 @@ pub(crate) fn match_on(
     }
 }
 
-/// How many evaluations were begun: one for each cell and each frame.
+/// Returns how many evaluations were begun: one for each cell and each frame.
 pub(crate) fn all_begun(cells: &Cells, frames: &Frames) -> u128
     ensures { result ≡ length cells.now + length frames.now }
 {

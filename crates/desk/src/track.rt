@@ -24,7 +24,7 @@ impl Model for Track {
 }
 
 impl Track {
-    /// No frames; it takes no memory.
+    /// Returns no frames; it takes no memory.
     pub(crate) fn new(alloc: Global) -> Track
         ensures { result.frames ≡ [] }
     {
@@ -52,7 +52,7 @@ impl Track {
         self.frames.is_empty()
     }
 
-    /// The last frame.
+    /// Returns the last frame.
     pub(crate) fn top(&self) -> Frame
         requires { (top : Frame) × (below : List Frame) × (self.now.frames ≡ top ∷ below) }
         ensures { (top : Frame) (below : List Frame) → self.now.frames ≡ top ∷ below → result ≡ top }
@@ -60,7 +60,7 @@ impl Track {
         self.frames[self.frames.len() - 1]
     }
 
-    /// A frame more; there must be room for it.
+    /// Adds a frame; there must be room for it.
     pub(crate) fn push(&mut self, frame: Frame)
         requires { length self.old.frames < self.old.room }
         ensures frames { self.new.frames ≡ frame ∷ self.old.frames }
@@ -72,7 +72,7 @@ impl Track {
         }
     }
 
-    /// The last frame comes further.
+    /// Brings the last frame further.
     pub(crate) fn come_on(&mut self, next: usize, end: usize)
         requires { (top : Frame) × (below : List Frame) × (self.old.frames ≡ top ∷ below) }
         ensures frames { (top : Frame) (below : List Frame) → self.old.frames ≡ top ∷ below
@@ -85,7 +85,7 @@ impl Track {
         frame.end = end;
     }
 
-    /// Without the last frame.
+    /// Drops the last frame.
     pub(crate) fn pop(&mut self)
         ensures frames { (top : Frame) (below : List Frame) → self.old.frames ≡ top ∷ below → self.new.frames ≡ below }
         ensures room { self.new.room ≡ self.old.room }

@@ -42,7 +42,7 @@ fn ask(node: usize, place: usize) -> Turn
     }
 }
 
-/// What was tried, where its comparison does not reach the last byte of a window behind which there is more.
+/// Returns what was tried, where its comparison does not reach the last byte of a window behind which there is more.
 #[inline(always)]
 pub(crate) fn leaf_turn(tried: Tried, window: &[u8], more: bool) -> Turn
     ensures { IsLeafTurn tried (length window.now) more result }
@@ -54,7 +54,7 @@ pub(crate) fn leaf_turn(tried: Tried, window: &[u8], more: bool) -> Turn
     }
 }
 
-/// What a node gives at a place, handed on.
+/// Hands on what a node gives at a place.
 #[inline(always)]
 pub(crate) fn same(found: Option<Found>, node: usize, place: usize) -> Turn
     ensures { result ≡ same_turn node place found }
@@ -65,7 +65,7 @@ pub(crate) fn same(found: Option<Found>, node: usize, place: usize) -> Turn
     }
 }
 
-/// What an option makes of its operand.
+/// Returns what an option makes of its operand.
 #[inline(always)]
 pub(crate) fn opt(found: Option<Found>, operand: usize, place: usize) -> Turn
     ensures { result ≡ opt_turn operand place found }
@@ -77,7 +77,7 @@ pub(crate) fn opt(found: Option<Found>, operand: usize, place: usize) -> Turn
     }
 }
 
-/// What a predicate `&` makes of its operand.
+/// Returns what a predicate `&` makes of its operand.
 #[inline(always)]
 pub(crate) fn and(found: Option<Found>, operand: usize, place: usize) -> Turn
     ensures { result ≡ and_turn operand place found }
@@ -89,7 +89,7 @@ pub(crate) fn and(found: Option<Found>, operand: usize, place: usize) -> Turn
     }
 }
 
-/// What a predicate `!` makes of its operand.
+/// Returns what a predicate `!` makes of its operand.
 #[inline(always)]
 pub(crate) fn not(found: Option<Found>, operand: usize, place: usize) -> Turn
     ensures { result ≡ not_turn operand place found }
@@ -101,7 +101,7 @@ pub(crate) fn not(found: Option<Found>, operand: usize, place: usize) -> Turn
     }
 }
 
-/// What the node that goes on with a repetition gives at the end of one turn of it, handed on.
+/// Hands on what the node that goes on with a repetition gives at the end of one turn of it.
 #[inline(always)]
 pub(crate) fn again(cells: &Cells, node: usize, end: usize) -> Turn
     ensures { result ≡ again_turn node end (found_at cells.now node end) }
@@ -117,7 +117,7 @@ pub(crate) fn again(cells: &Cells, node: usize, end: usize) -> Turn
     }
 }
 
-/// What a repetition makes of its operand, and of itself where the operand ended.
+/// Returns what a repetition makes of its operand, and of itself where the operand ended.
 #[inline(always)]
 pub(crate) fn star(
     cells: &Cells,
@@ -135,8 +135,8 @@ pub(crate) fn star(
     }
 }
 
-/// What a repetition of at least once makes of its operand, and of the node that goes on with it where the operand
-/// ended.
+/// Returns what a repetition of at least once makes of its operand, and of the node that goes on with it where the
+/// operand ended.
 #[inline(always)]
 pub(crate) fn plus(
     cells: &Cells,
@@ -199,7 +199,7 @@ fn first(cells: &Cells, alternatives: &[usize], next: usize, place: usize) -> Tu
     Turn::Answer(Found::Failed)
 }
 
-/// What the evaluation of a frame's node at its place does next.
+/// Returns what the evaluation of a frame's node at its place does next.
 #[inline(always)]
 pub(crate) fn next_turn(
     peg: &SoundPeg,

@@ -76,7 +76,7 @@ fn add_start(rules: &RuleTable<Expr>, start: Option<&str>, uses: &mut Uses) -> R
     }
 }
 
-/// All uses in a grammar: that of its start rule, and then those in the rules' bodies.
+/// Returns all uses in a grammar: that of its start rule, and then those in the rules' bodies.
 ///
 /// `Memory` where a growth was refused.
 pub(crate) fn uses_of(
