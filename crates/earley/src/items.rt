@@ -93,6 +93,7 @@ fn stands(list: &[Item], links: &[usize], count: usize, last: usize, item: Item)
 }
 
 // Sets the link of an index, which is at most one past the last.
+#[inline(always)]
 fn set_link(links: &mut Vec<usize>, index: usize, link: usize) -> Result<(), Memory>
     requires { index ≤ length links.old.items }
     ensures here { IfOk result (λ done. slice_get links.new.items index ≡ Some link) }
@@ -109,6 +110,7 @@ fn set_link(links: &mut Vec<usize>, index: usize, link: usize) -> Result<(), Mem
 }
 
 // Adds an item to its row, whose last one is given.
+#[inline(always)]
 fn push(
     list: &mut Vec<Item>,
     links: &mut Vec<usize>,
@@ -132,6 +134,7 @@ fn push(
 }
 
 // Adds an item unless it is there.
+#[inline(always)]
 fn insert(
     list: &mut Vec<Item>,
     links: &mut Vec<usize>,
@@ -217,6 +220,7 @@ fn is_near(list: &[Item], rows: &[usize], item: Item) -> bool
 }
 
 // Adds an item unless it is there, and links all.
+#[inline(always)]
 fn link(
     list: &mut Vec<Item>,
     links: &mut Vec<usize>,
@@ -229,11 +233,15 @@ fn link(
         → AreLinked (the_row_of (length rows.new.items)) list.new.items links.new.items rows.new.items }
     ensures added { IfOk result (λ done. Adds (λ a. a ≡ item) list.old.items list.new.items) }
 {
+    if list.len() > FEW && list.len() < rows.len() / 2 {
+        return insert(list, links, rows, item);
+    }
     prepare(list, links, rows)?;
     insert(list, links, rows, item)
 }
 
 // Adds an item unless it is there.
+#[inline(always)]
 fn put(
     list: &mut Vec<Item>,
     links: &mut Vec<usize>,
