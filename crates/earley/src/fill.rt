@@ -1,6 +1,6 @@
 //! Fills an item set.
 ghost use Rattle.std.specs.Prelude.{◌≡◌, ◌↔◌, ◌+◌, ◌^◌, ◌<◌, ◌≤◌, true, IsTrue, IfOk, IfSome, length, map, slice_get};
-ghost use Rattle.std.specs.Prelude.{Some, None, List, [], ◌∷◌, ℕ};
+ghost use Rattle.std.specs.Prelude.{Some, None, List, [], ◌∷◌, ◌++◌, ℕ};
 ghost use Rattle.flatgrammar.specs.Places.{In, AreDifferent};
 ghost use Rattle.flatgrammar.specs.NodeSteps.{flat_of};
 ghost use Rattle.flatgrammar.specs.TableViews.{GiveRoots, AreNulls, null_of, call_of, done_of, takes_of};
@@ -11,11 +11,14 @@ ghost use Rattle.flatgrammar.specs.Blocks.{block_of, item_at, begin_count, IsHea
 ghost use Rattle.flatgrammar.specs.Blocks.{inner_of};
 ghost use Rattle.earley.specs.Waiting.{Chain, AreWaiting, AreWaitingAll, BeginHere, BeginAll};
 ghost use Rattle.flatgrammar.specs.declared.flat_item.Item as code_item;
+ghost use Rattle.flatgrammar.specs.declared.tables.Tables as code_flat;
+ghost use Rattle.earley.specs.Chosen.{items_of, Calls, ReadsSome, AreChosen};
 ghost use Rattle.earley.specs.FrontViews.{expand, full, view, views, IsAsked, IsOn, IsFurther, IsGoing};
 
 use crate::front::Front;
 use crate::heads::Heads;
 use crate::items::Items;
+use crate::later::{Homed, Later, keep_caller, keep_reader};
 use crate::wait::{Wait, first_at};
 use flatgrammar::{
     Item, Spot, Tables, call, calls, done, null, passes, sole_caller, spots, takes_letter,
@@ -210,16 +213,10 @@ fn complete(
 }
 
 /// Predicts the root that an item calls, which is given.
-fn ask(
-    flat: &Tables,
-    item: Item,
-    called: Option<(usize, usize)>,
-    heads: &mut Heads,
-) -> Result<(), Memory>
-    requires { called ≡ call_of flat.now item }
-    ensures { IfOk result (λ done. Adds (IsAsked flat.now item) heads.old heads.new) }
+fn ask(called: Option<(usize, usize)>, heads: &mut Heads) -> Result<(), Memory>
+    ensures { IfOk result (λ done. (flat : code_flat.Tables) (item : code_item.Item) → called ≡ call_of flat item
+        → Adds (IsAsked flat item) heads.old heads.new) }
 {
-    let (_flat, _item) = (flat, item);
     if let Some((root, _)) = called {
         heads.note(root)?;
     }
@@ -303,21 +300,29 @@ fn add_all(spots: &[Spot], origin: usize, home: usize, set: &mut Items) -> Resul
 fn work(
     flat: &Tables,
     sets: &[Front],
-    item: Item,
-    home: usize,
+    at: Homed,
     heads: &mut Heads,
     items: &mut Items,
+    later: &mut Later,
 ) -> Result<(), Memory>
     requires alone { AreAlone flat.now }
     requires begun { BeginAll flat.now sets.now }
     requires waiting { AreWaitingAll flat.now sets.now }
-    ensures heads { IfOk result (λ done. Adds (IsAsked flat.now item) heads.old heads.new) }
-    ensures items { IfOk result (λ done. Adds (IsFurther flat.now (views flat.now 0 sets.now) item) items.old
+    ensures heads { IfOk result (λ done. Adds (IsAsked flat.now at.item) heads.old heads.new) }
+    ensures items { IfOk result (λ done. Adds (IsFurther flat.now (views flat.now 0 sets.now) at.item) items.old
         items.new) }
+    ensures callers { IfOk result (λ done. (seen : List code_item.Item)
+        → AreChosen (Calls flat.now) seen (items_of later.old.callers.items)
+        → AreChosen (Calls flat.now) (seen ++ at.item ∷ []) (items_of later.new.callers.items)) }
+    ensures readers { IfOk result (λ done. (seen : List code_item.Item)
+        → AreChosen (ReadsSome flat.now) seen (items_of later.old.readers.items)
+        → AreChosen (ReadsSome flat.now) (seen ++ at.item ∷ []) (items_of later.new.readers.items)) }
 {
-    let called = call(flat, item);
-    ask(flat, item, called, heads)?;
-    advance(flat, sets, item, called, home, items)?;
+    let called = call(flat, at.item);
+    ask(called, heads)?;
+    keep_caller(at, called, &mut later.callers)?;
+    keep_reader(flat, at, &mut later.readers)?;
+    advance(flat, sets, at.item, called, at.home, items)?;
     Ok(())
 }
 
@@ -346,6 +351,7 @@ pub(crate) fn fill<L: Letter>(
     sets: &[Front],
     heads: &mut Heads,
     items: &mut Items,
+    later: &mut Later,
 ) -> Result<(), Memory>
     requires roots { GiveRoots (flat_of flat.now) flat.now.roots.items }
     requires nulls { AreNulls (flat_of flat.now) flat.now.nulls.items }
@@ -363,14 +369,19 @@ pub(crate) fn fill<L: Letter>(
         items.old) (full (block_of flat.now) (length (views flat.now 0 sets.now)) heads.new items.new)) }
     ensures closed { IfOk result (λ done. IsClosed flat.now (views flat.now 0 sets.now)
         (full (block_of flat.now) (length (views flat.now 0 sets.now)) heads.new items.new)) }
+    ensures callers { IfOk result (λ done. AreChosen (Calls flat.now) items.new (items_of later.new.callers.items)) }
+    ensures readers { IfOk result (λ done. AreChosen (ReadsSome flat.now) items.new
+        (items_of later.new.readers.items)) }
 {
+    later.callers.clear();
+    later.readers.clear();
     let mut item_index = 0;
     let mut head_index = 0;
     loop {
         if item_index < items.len() {
             let item = items.at(item_index);
             let home = items.home(item_index);
-            work(flat, sets, item, home, heads, items)?;
+            work(flat, sets, Homed { item, home }, heads, items, later)?;
             item_index += 1;
         } else if head_index < heads.len() {
             let head = heads.at(head_index);

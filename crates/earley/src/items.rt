@@ -320,13 +320,6 @@ impl Items {
         }
     }
 
-    /// Returns the homes that it had, in exchange for memory.
-    pub(crate) fn take_homes(&mut self, memory: Vec<usize>) -> Vec<usize>
-        ensures { self.new ≡ self.old }
-    {
-        mem::replace(&mut self.homes, memory)
-    }
-
     /// Adds an item unless it is there. `Memory` if an allocation fails.
     #[inline(always)]
     pub(crate) fn add(&mut self, item: Item, home: usize) -> Result<(), Memory>
