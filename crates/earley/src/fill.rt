@@ -21,7 +21,7 @@ use crate::items::Items;
 use crate::later::{Homed, Later, keep_caller, keep_reader};
 use crate::wait::{Wait, first_at};
 use flatgrammar::{
-    Item, Spot, Tables, call, calls, done, null, passes, sole_caller, spots, takes_letter,
+    Deed, Item, Spot, Tables, call, calls, deed_of, null, passes, sole_caller, spots,
 };
 use letters::Letter;
 use ruletable::Memory;
@@ -191,20 +191,22 @@ fn go_on(
     resume_all(flat, root, front, origin, set)
 }
 
-/// Adds what goes on from earlier sets where an item is done.
+/// Adds what goes on from earlier sets where an item is done, which is given.
 fn complete(
     flat: &Tables,
     sets: &[Front],
     item: Item,
+    done: bool,
     home: usize,
     set: &mut Items,
 ) -> Result<(), Memory>
+    requires done { done ≡ done_of flat.now item }
     requires alone { AreAlone flat.now }
     requires begun { BeginAll flat.now sets.now }
     requires waiting { AreWaitingAll flat.now sets.now }
     ensures { IfOk result (λ done. Adds (IsCompleted flat.now (views flat.now 0 sets.now) [] item) set.old set.new) }
 {
-    if done(flat, item) {
+    if done {
         if let Some(front) = sets.get(item.origin) {
             go_on(flat, item.node, front, item.origin, home, set)?;
         }
@@ -223,19 +225,21 @@ fn ask(called: Option<(usize, usize)>, heads: &mut Heads) -> Result<(), Memory>
     Ok(())
 }
 
-/// Adds the item after one that calls a nullable root, which is given, but for a turn that takes a letter.
+/// Adds the item after one that calls a nullable root, which is given, but for a turn that takes a letter, as is given.
 fn pass(
     flat: &Tables,
     item: Item,
     called: Option<(usize, usize)>,
+    takes: bool,
     home: usize,
     set: &mut Items,
 ) -> Result<(), Memory>
-    requires { called ≡ call_of flat.now item }
+    requires called { called ≡ call_of flat.now item }
+    requires takes { takes ≡ takes_of flat.now item }
     ensures { IfOk result (λ done. Adds (IsOn flat.now item) set.old set.new) }
 {
     if let Some((root, step)) = called {
-        if null(flat, root) && !takes_letter(flat, item) && step != item.step {
+        if !takes && null(flat, root) && step != item.step {
             set.add(
                 Item {
                     node: item.node,
@@ -249,23 +253,24 @@ fn pass(
     Ok(())
 }
 
-/// Adds what goes on where an item stands.
+/// Adds what goes on where an item stands. What its place does is given.
 fn advance(
     flat: &Tables,
     sets: &[Front],
-    item: Item,
-    called: Option<(usize, usize)>,
-    home: usize,
+    at: Homed,
+    deed: Deed,
     set: &mut Items,
 ) -> Result<(), Memory>
-    requires called { called ≡ call_of flat.now item }
+    requires called { deed.called ≡ call_of flat.now at.item }
+    requires done { deed.done ≡ done_of flat.now at.item }
+    requires takes { deed.takes ≡ takes_of flat.now at.item }
     requires alone { AreAlone flat.now }
     requires begun { BeginAll flat.now sets.now }
     requires waiting { AreWaitingAll flat.now sets.now }
-    ensures { IfOk result (λ done. Adds (IsFurther flat.now (views flat.now 0 sets.now) item) set.old set.new) }
+    ensures { IfOk result (λ done. Adds (IsFurther flat.now (views flat.now 0 sets.now) at.item) set.old set.new) }
 {
-    pass(flat, item, called, home, set)?;
-    complete(flat, sets, item, home, set)?;
+    pass(flat, at.item, deed.called, deed.takes, at.home, set)?;
+    complete(flat, sets, at.item, deed.done, at.home, set)?;
     Ok(())
 }
 
@@ -318,11 +323,11 @@ fn work(
         → AreChosen (ReadsSome flat.now) seen (items_of later.old.readers.items)
         → AreChosen (ReadsSome flat.now) (seen ++ at.item ∷ []) (items_of later.new.readers.items)) }
 {
-    let called = call(flat, at.item);
-    ask(called, heads)?;
-    keep_caller(at, called, &mut later.callers)?;
-    keep_reader(flat, at, &mut later.readers)?;
-    advance(flat, sets, at.item, called, at.home, items)?;
+    let deed = deed_of(flat, at.item);
+    ask(deed.called, heads)?;
+    keep_caller(at, deed.called, &mut later.callers)?;
+    keep_reader(at, deed.reads, &mut later.readers)?;
+    advance(flat, sets, at, deed, items)?;
     Ok(())
 }
 

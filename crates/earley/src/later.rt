@@ -5,7 +5,7 @@ ghost use Rattle.flatgrammar.specs.declared.flat_item.Item as code_item;
 ghost use Rattle.flatgrammar.specs.declared.tables.Tables as code_flat;
 ghost use Rattle.earley.specs.Chosen.{items_of, Calls, ReadsSome, AreChosen};
 
-use flatgrammar::{Item, Node, Tables};
+use flatgrammar::Item;
 use ruletable::Memory;
 use std::alloc::Global;
 
@@ -33,16 +33,6 @@ impl Later {
     }
 }
 
-// Tells whether an item may read a letter.
-fn may_read(flat: &Tables, item: Item) -> bool
-    ensures { ReadsSome flat.now item → IsTrue result }
-{
-    match flat.nodes.get(item.node) {
-        Some(Node::Letters(sets)) => item.step < sets.len(),
-        _ => false,
-    }
-}
-
 /// Adds an item if it calls; what it calls is given.
 pub(crate) fn keep_caller(
     at: Homed,
@@ -62,13 +52,13 @@ pub(crate) fn keep_caller(
     }
 }
 
-/// Adds an item if it may read a letter.
-pub(crate) fn keep_reader(flat: &Tables, at: Homed, readers: &mut Vec<Homed>) -> Result<(), Memory>
-    ensures { IfOk result (λ done. (seen : List code_item.Item)
-        → AreChosen (ReadsSome flat.now) seen (items_of readers.old.items)
-        → AreChosen (ReadsSome flat.now) (seen ++ at.item ∷ []) (items_of readers.new.items)) }
+/// Adds an item if it may read a letter, as is given.
+pub(crate) fn keep_reader(at: Homed, reads: bool, readers: &mut Vec<Homed>) -> Result<(), Memory>
+    ensures { IfOk result (λ done. (flat : code_flat.Tables) (seen : List code_item.Item)
+        → (ReadsSome flat at.item → IsTrue reads) → AreChosen (ReadsSome flat) seen (items_of readers.old.items)
+        → AreChosen (ReadsSome flat) (seen ++ at.item ∷ []) (items_of readers.new.items)) }
 {
-    if may_read(flat, at.item) {
+    if reads {
         readers.push(at)?;
     }
     Ok(())

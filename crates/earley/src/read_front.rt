@@ -40,12 +40,7 @@ fn read_one(
 }
 
 /// Adds what items read.
-fn read_items(
-    flat: &Tables,
-    value: u32,
-    from: &[Homed],
-    set: &mut Items,
-) -> Result<(), Memory>
+fn read_items(flat: &Tables, value: u32, from: &[Homed], set: &mut Items) -> Result<(), Memory>
     ensures { IfOk result (λ done. Adds (IsRead flat.now value (items_of from.now)) set.old set.new) }
 {
     for at in from {

@@ -1,5 +1,5 @@
 //! Numbered nodes.
-ghost use Rattle.std.specs.Prelude.{◌≡◌, ◌↔◌, ◌+◌, ◌^◌, ◌<◌, IsTrue};
+ghost use Rattle.std.specs.Prelude.{◌≡◌, ◌↔◌, ◌+◌, ◌^◌, ◌<◌, ℕ, IsTrue};
 ghost use Rattle.abnfcheck.specs.Derivable.{small};
 ghost use Rattle.flatgrammar.specs.Flat.{Has, Rep, Turns};
 ghost use Rattle.flatgrammar.specs.FlatViews.{set_of, node_of};
@@ -79,6 +79,7 @@ pub(crate) fn begins(node: &Node) -> usize
 }
 
 /// Whether a node is done at a step.
+#[inline(always)]
 pub(crate) fn is_done(node: &Node, step: usize) -> bool
     ensures { result ≡ is_done (node_of node.now) step }
 {
@@ -108,6 +109,7 @@ pub(crate) fn is_done(node: &Node, step: usize) -> bool
 
 // The operand and the step after a turn, if there is a turn at that step. Without a greatest number the turns behind
 // the least are not counted.
+#[inline(always)]
 fn turn(least: u32, most: Option<u32>, operand: usize, step: usize) -> Option<(usize, usize)>
     ensures rep { result ≡ callee (Rep least most operand) step }
     ensures turns { least ≡ 0 → result ≡ callee (Turns most operand) step }
@@ -126,6 +128,7 @@ fn turn(least: u32, most: Option<u32>, operand: usize, step: usize) -> Option<(u
 }
 
 /// The node that a step calls, and the step after it.
+#[inline(always)]
 pub(crate) fn callee(node: &Node, step: usize) -> Option<(usize, usize)>
     ensures { result ≡ callee (node_of node.now) step }
 {
@@ -177,11 +180,23 @@ pub(crate) fn turned(node: &Node) -> Option<usize>
 }
 
 /// Whether each turn of a node takes a letter.
+#[inline(always)]
 pub(crate) fn takes(node: &Node) -> bool
     ensures { result ≡ takes (node_of node.now) }
 {
     match node {
         Node::Turns { .. } => true,
+        _ => false,
+    }
+}
+
+/// Whether a step may read a letter.
+#[inline(always)]
+pub(crate) fn may_read(node: &Node, step: usize) -> bool
+    ensures { (c : ℕ) → IfSomeSet (read_at (node_of node.now) step) c → IsTrue result }
+{
+    match node {
+        Node::Letters(sets) => step < sets.len(),
         _ => false,
     }
 }
