@@ -7,7 +7,8 @@ use flatgrammar::Item;
 /// Holds an item set: the heads, which are the roots that were predicted in it and whose blocks stand in it, and the
 /// items beside their blocks. `size` is the number of its items, those of the blocks counted.
 ///
-/// `readers` are those of the items that may read a letter. `firsts` and `waits` list for each head what goes on where it is done.
+/// `readers` are at least those of the items that read a letter. `firsts` and `waits` list for each head what goes on
+/// where it is done.
 #[derive(Drop)]
 pub(crate) struct Front {
     pub(crate) heads: Vec<usize>,

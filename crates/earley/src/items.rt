@@ -332,6 +332,7 @@ impl Items {
     }
 
     // Adds an item unless it is there.
+    #[inline(always)]
     fn look(&mut self, item: Item, home: usize) -> Result<(), Memory>
         ensures { IfOk result (λ done. Adds (λ a. a ≡ item) self.old self.new) }
     {

@@ -39,8 +39,8 @@ pub(crate) fn keep_caller(
     called: Option<(usize, usize)>,
     callers: &mut Vec<Homed>,
 ) -> Result<(), Memory>
-    ensures { IfOk result (λ done. (flat : code_flat.Tables) (seen : List code_item.Item) → called ≡ call_of flat at.item
-        → AreChosen (Calls flat) seen (items_of callers.old.items)
+    ensures { IfOk result (λ done. (flat : code_flat.Tables) (seen : List code_item.Item)
+        → called ≡ call_of flat at.item → AreChosen (Calls flat) seen (items_of callers.old.items)
         → AreChosen (Calls flat) (seen ++ at.item ∷ []) (items_of callers.new.items)) }
 {
     match called {

@@ -28,6 +28,7 @@ pub struct Tables {
 }
 
 /// Returns the root that an item's place calls, and the step after it.
+#[inline(always)]
 pub fn call(flat: &Tables, item: Item) -> Option<(usize, usize)>
     ensures { result ≡ call_of flat.now item }
 {
@@ -59,8 +60,8 @@ pub fn takes_letter(flat: &Tables, item: Item) -> bool
     }
 }
 
-/// What an item's place does: the root that it calls with the step after it, whether its node is done there, whether what
-/// it calls has to take a letter, and whether it may read a letter.
+/// What an item's place does: the root that it calls with the step after it, whether its node is done there, whether
+/// what it calls has to take a letter, and whether it may read a letter.
 #[derive(Clone, Copy)]
 pub struct Deed {
     pub called: Option<(usize, usize)>,

@@ -1,4 +1,5 @@
-use Rattle.std.proofs.Common.{map, take, ℕ, ◌+◌, ◌<◌, ◌++◌, ◌∷◌, [], length, subst, sym, arith, slice_index_or, inl, inr}
+use Rattle.std.proofs.Common.{map, take, ℕ, ◌+◌, ◌<◌, ◌++◌, ◌∷◌, [], length, subst, sym, arith, slice_index_or, inl}
+use Rattle.std.proofs.Common.{inr}
 use Rattle.flatgrammar.specs.Places.{In}
 use Rattle.flatgrammar.specs.declared.flat_item.Item.{Item}
 use Rattle.earley.specs.ItemSets.{Adds}

@@ -7,7 +7,8 @@ use Rattle.earley.proofs.later.keep_caller.Goals as goal
 pub returns-in_ok-push-in-Some : goal.returns-in_ok-push-in-Some
 returns-in_ok-push-in-Some c flat seen is are =
     subst (λ v. AreChosen (Calls flat) (seen ++ c.args.at.item ∷ []) v)
-    (sym (ap (λ v. items_of v) c.in_ok-push-in-Some.ensures.items ∙ map_end (λ h. h.item) c.args.callers.now.items c.args.at))
+    (sym (ap (λ v. items_of v) c.in_ok-push-in-Some.ensures.items
+    ∙ map_end (λ h. h.item) c.args.callers.now.items c.args.at))
     (chosen_more (Calls flat) seen (items_of c.args.callers.now.items) c.args.at.item are)
 
 pub returns-in-None : goal.returns-in-None
