@@ -13,7 +13,7 @@ use std::marker::Model;
 use std::mem;
 
 // So many items are looked through one by one. They have no rows.
-const FEW: usize = 8;
+const FEW: usize = 16;
 
 // The rows of a first growth.
 const FIRST: usize = 64;
