@@ -230,7 +230,7 @@ module _ (flat : code_flat.Tables) (c : ℕ) where
 
 module _ (flat : code_flat.Tables) (c : ℕ) (old new : List Item) where
   -- places that do not read the letter may be left out
-  reads_fewer : (few all : List Item) → ((a : Item) → In a few → In a all)
+  pub reads_fewer : (few all : List Item) → ((a : Item) → In a few → In a all)
       → ((a : Item) → In a all → IfSomeSet (read_of flat a) c → In a few) →
       Adds (IsRead flat c few) old new → Adds (IsRead flat c all) old new
   reads_fewer few all stand reading = adds_as (IsRead flat c few) (IsRead flat c all) old new

@@ -29,7 +29,7 @@ use Rattle.earley.proofs.BlockLemmas.{in_right, either, in_expand, from_expand, 
 use Rattle.earley.proofs.BlockLemmas.{full_different, in_map, from_map}
 use Rattle.earley.proofs.ItemLemmas.{item_same}
 
-front_same : {A : Type 0} (k : ℕ) (old added new : List A) → new ≡ old ++ added → k ≤ length old
+pub front_same : {A : Type 0} (k : ℕ) (old added new : List A) → new ≡ old ++ added → k ≤ length old
     → take k new ≡ take k old
 front_same k old added new is le = ap (λ v. take k v) is ∙ take-append-le k old added le
 

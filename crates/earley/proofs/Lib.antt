@@ -1,5 +1,6 @@
 pub mod AddsLemmas
 pub mod AloneLemmas
+pub mod AreChosenLemmas
 pub mod BlockLemmas
 pub mod ChartSetsLemmas
 pub mod ExpandLemmas

@@ -1,5 +1,6 @@
 pub mod ChartSets
 pub mod Charts
+pub mod Chosen
 pub mod Closed
 pub mod FrontViews
 pub mod HeadTables

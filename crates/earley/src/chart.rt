@@ -11,6 +11,7 @@ ghost use Rattle.earley.specs.ChartSets.{chart_of, set_at, IsSet, AreSized};
 ghost use Rattle.flatgrammar.specs.Blocks.{AreExact, block_of, item_at, AreTables, AreAlone, AreSpotLists};
 ghost use Rattle.earley.specs.ItemSets.{Adds};
 ghost use Rattle.earley.specs.Waiting.{AreWaiting};
+ghost use Rattle.earley.specs.Chosen.{items_of, Calls, ReadsSome, AreChosen, AreReadersAll};
 ghost use Rattle.earley.specs.FrontViews.{expand, full, view, views, IsWholeAt};
 ghost use Rattle.flatgrammar.specs.Places.{In, places};
 ghost use Rattle.flatgrammar.specs.Flat.{Place};
@@ -23,6 +24,7 @@ use crate::front::Front;
 use crate::heads::Heads;
 use crate::item::{holds, same};
 use crate::items::Items;
+use crate::later::Later;
 use crate::letter_law::values_are_letters;
 use crate::read_front::read;
 use crate::wait::wait_all;
@@ -48,6 +50,7 @@ pub struct Chart {
 struct Kept {
     heads: Heads,
     items: Items,
+    later: Later,
     spare: Vec<Front>,
 }
 
@@ -57,6 +60,7 @@ impl Kept {
         Kept {
             heads: Heads::new(alloc),
             items: Items::new(alloc),
+            later: Later::new(alloc),
             spare: Vec::new(alloc),
         }
     }
@@ -141,6 +145,7 @@ fn follow<L: Letter>(
 ) -> Result<(), Memory>
     requires length { length sets.now ≤ length line.now }
     requires lists { AreSpotLists flat.now }
+    requires readers { AreReadersAll flat.now sets.now }
     ensures { IfOk result (λ done. Adds (IsAfter flat.now (map L.number line.now) (views flat.now 0 sets.now)) items.old
         items.new) }
 {
@@ -172,7 +177,7 @@ fn memory_of(alloc: Global, spare: &mut Vec<Front>) -> Front {
         None => Front {
             heads: Vec::new(alloc),
             items: Vec::new(alloc),
-            homes: Vec::new(alloc),
+            readers: Vec::new(alloc),
             firsts: Vec::new(alloc),
             waits: Vec::new(alloc),
             size: 0,
@@ -186,34 +191,39 @@ fn close(
     number: usize,
     heads: &mut Heads,
     items: &mut Items,
+    later: &mut Later,
     memory: Front,
 ) -> Result<Front, Memory>
-    requires { AreSpotLists flat.now }
+    requires lists { AreSpotLists flat.now }
+    requires callers { AreChosen (Calls flat.now) items.old (items_of later.old.callers.items) }
+    requires readers { AreChosen (ReadsSome flat.now) items.old (items_of later.old.readers.items) }
     ensures heads { IfOk result (λ front. front.heads.items ≡ heads.old) }
     ensures items { IfOk result (λ front. front.items.items ≡ items.old) }
     ensures size { IfOk result (λ front. (j : ℕ) → front.size ≡ length (view flat.now j front)) }
     ensures waiting { IfOk result (λ front. AreWaiting flat.now (view flat.now number front) front.heads.items
         front.firsts.items front.waits.items) }
+    ensures readers { IfOk result (λ front. AreChosen (ReadsSome flat.now) front.items.items
+        (items_of front.readers.items)) }
     ensures no_heads { IfOk result (λ front. heads.new ≡ []) }
     ensures no_items { IfOk result (λ front. items.new ≡ []) }
 {
     let Front {
         heads: heads_memory,
         items: items_memory,
-        homes,
+        readers,
         mut firsts,
         mut waits,
         size: _,
     } = memory;
-    wait_all(flat, heads, items, number, &mut firsts, &mut waits)?;
-    let homes = items.take_homes(homes);
+    wait_all(flat, heads, &later.callers, number, &mut firsts, &mut waits)?;
+    let readers = mem::replace(&mut later.readers, readers);
     let heads = heads.take(heads_memory);
     let items = items.take(items_memory);
     let size = size_of(flat, &heads, &items)?;
     Ok(Front {
         heads,
         items,
-        homes,
+        readers,
         firsts,
         waits,
         size,
@@ -226,6 +236,7 @@ fn fill_fronts<L: Letter>(
     line: &[L],
     heads: &mut Heads,
     items: &mut Items,
+    later: &mut Later,
     spare: &mut Vec<Front>,
 ) -> Result<Vec<Front>, Memory>
     requires roots { GiveRoots (flat_of flat.now) flat.now.roots.items }
@@ -245,8 +256,9 @@ fn fill_fronts<L: Letter>(
     while sets.len() <= line.len() {
         begin(flat, &sets, heads)?;
         follow(flat, line, &sets, items)?;
-        fill(flat, line, &sets, heads, items)?;
-        let front = close(flat, sets.len(), heads, items, memory_of(alloc, spare))?;
+        fill(flat, line, &sets, heads, items, later)?;
+        let memory = memory_of(alloc, spare);
+        let front = close(flat, sets.len(), heads, items, later, memory)?;
         sets.push(front)?;
     }
     Ok(sets)
@@ -328,6 +340,7 @@ fn judge_by<L: Letter>(
         line,
         &mut kept.heads,
         &mut kept.items,
+        &mut kept.later,
         &mut kept.spare,
     )?;
     let answer = is_yes(&tables, &fronts, line);

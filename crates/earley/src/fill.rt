@@ -1,6 +1,6 @@
 //! Fills an item set.
 ghost use Rattle.std.specs.Prelude.{◌≡◌, ◌↔◌, ◌+◌, ◌^◌, ◌<◌, ◌≤◌, true, IsTrue, IfOk, IfSome, length, map, slice_get};
-ghost use Rattle.std.specs.Prelude.{Some, None, List, [], ◌∷◌, ℕ};
+ghost use Rattle.std.specs.Prelude.{Some, None, List, [], ◌∷◌, ◌++◌, ℕ};
 ghost use Rattle.flatgrammar.specs.Places.{In, AreDifferent};
 ghost use Rattle.flatgrammar.specs.NodeSteps.{flat_of};
 ghost use Rattle.flatgrammar.specs.TableViews.{GiveRoots, AreNulls, null_of, call_of, done_of, takes_of};
@@ -11,14 +11,17 @@ ghost use Rattle.flatgrammar.specs.Blocks.{block_of, item_at, begin_count, IsHea
 ghost use Rattle.flatgrammar.specs.Blocks.{inner_of};
 ghost use Rattle.earley.specs.Waiting.{Chain, AreWaiting, AreWaitingAll, BeginHere, BeginAll};
 ghost use Rattle.flatgrammar.specs.declared.flat_item.Item as code_item;
+ghost use Rattle.flatgrammar.specs.declared.tables.Tables as code_flat;
+ghost use Rattle.earley.specs.Chosen.{items_of, Calls, ReadsSome, AreChosen};
 ghost use Rattle.earley.specs.FrontViews.{expand, full, view, views, IsAsked, IsOn, IsFurther, IsGoing};
 
 use crate::front::Front;
 use crate::heads::Heads;
 use crate::items::Items;
+use crate::later::{Homed, Later, keep_caller, keep_reader};
 use crate::wait::{Wait, first_at};
 use flatgrammar::{
-    Item, Spot, Tables, call, calls, done, null, passes, sole_caller, spots, takes_letter,
+    Deed, Item, Spot, Tables, call, calls, deed_of, null, passes, sole_caller, spots,
 };
 use letters::Letter;
 use ruletable::Memory;
@@ -188,20 +191,22 @@ fn go_on(
     resume_all(flat, root, front, origin, set)
 }
 
-/// Adds what goes on from earlier sets where an item is done.
+/// Adds what goes on from earlier sets where an item is done, which is given.
 fn complete(
     flat: &Tables,
     sets: &[Front],
     item: Item,
+    done: bool,
     home: usize,
     set: &mut Items,
 ) -> Result<(), Memory>
+    requires done { done ≡ done_of flat.now item }
     requires alone { AreAlone flat.now }
     requires begun { BeginAll flat.now sets.now }
     requires waiting { AreWaitingAll flat.now sets.now }
     ensures { IfOk result (λ done. Adds (IsCompleted flat.now (views flat.now 0 sets.now) [] item) set.old set.new) }
 {
-    if done(flat, item) {
+    if done {
         if let Some(front) = sets.get(item.origin) {
             go_on(flat, item.node, front, item.origin, home, set)?;
         }
@@ -210,35 +215,31 @@ fn complete(
 }
 
 /// Predicts the root that an item calls, which is given.
-fn ask(
-    flat: &Tables,
-    item: Item,
-    called: Option<(usize, usize)>,
-    heads: &mut Heads,
-) -> Result<(), Memory>
-    requires { called ≡ call_of flat.now item }
-    ensures { IfOk result (λ done. Adds (IsAsked flat.now item) heads.old heads.new) }
+fn ask(called: Option<(usize, usize)>, heads: &mut Heads) -> Result<(), Memory>
+    ensures { IfOk result (λ done. (flat : code_flat.Tables) (item : code_item.Item) → called ≡ call_of flat item
+        → Adds (IsAsked flat item) heads.old heads.new) }
 {
-    let (_flat, _item) = (flat, item);
     if let Some((root, _)) = called {
         heads.note(root)?;
     }
     Ok(())
 }
 
-/// Adds the item after one that calls a nullable root, which is given, but for a turn that takes a letter.
+/// Adds the item after one that calls a nullable root, which is given, but for a turn that takes a letter, as is given.
 fn pass(
     flat: &Tables,
     item: Item,
     called: Option<(usize, usize)>,
+    takes: bool,
     home: usize,
     set: &mut Items,
 ) -> Result<(), Memory>
-    requires { called ≡ call_of flat.now item }
+    requires called { called ≡ call_of flat.now item }
+    requires takes { takes ≡ takes_of flat.now item }
     ensures { IfOk result (λ done. Adds (IsOn flat.now item) set.old set.new) }
 {
     if let Some((root, step)) = called {
-        if null(flat, root) && !takes_letter(flat, item) && step != item.step {
+        if !takes && null(flat, root) && step != item.step {
             set.add(
                 Item {
                     node: item.node,
@@ -252,23 +253,24 @@ fn pass(
     Ok(())
 }
 
-/// Adds what goes on where an item stands.
+/// Adds what goes on where an item stands. What its place does is given.
 fn advance(
     flat: &Tables,
     sets: &[Front],
-    item: Item,
-    called: Option<(usize, usize)>,
-    home: usize,
+    at: Homed,
+    deed: Deed,
     set: &mut Items,
 ) -> Result<(), Memory>
-    requires called { called ≡ call_of flat.now item }
+    requires called { deed.called ≡ call_of flat.now at.item }
+    requires done { deed.done ≡ done_of flat.now at.item }
+    requires takes { deed.takes ≡ takes_of flat.now at.item }
     requires alone { AreAlone flat.now }
     requires begun { BeginAll flat.now sets.now }
     requires waiting { AreWaitingAll flat.now sets.now }
-    ensures { IfOk result (λ done. Adds (IsFurther flat.now (views flat.now 0 sets.now) item) set.old set.new) }
+    ensures { IfOk result (λ done. Adds (IsFurther flat.now (views flat.now 0 sets.now) at.item) set.old set.new) }
 {
-    pass(flat, item, called, home, set)?;
-    complete(flat, sets, item, home, set)?;
+    pass(flat, at.item, deed.called, deed.takes, at.home, set)?;
+    complete(flat, sets, at.item, deed.done, at.home, set)?;
     Ok(())
 }
 
@@ -303,21 +305,29 @@ fn add_all(spots: &[Spot], origin: usize, home: usize, set: &mut Items) -> Resul
 fn work(
     flat: &Tables,
     sets: &[Front],
-    item: Item,
-    home: usize,
+    at: Homed,
     heads: &mut Heads,
     items: &mut Items,
+    later: &mut Later,
 ) -> Result<(), Memory>
     requires alone { AreAlone flat.now }
     requires begun { BeginAll flat.now sets.now }
     requires waiting { AreWaitingAll flat.now sets.now }
-    ensures heads { IfOk result (λ done. Adds (IsAsked flat.now item) heads.old heads.new) }
-    ensures items { IfOk result (λ done. Adds (IsFurther flat.now (views flat.now 0 sets.now) item) items.old
+    ensures heads { IfOk result (λ done. Adds (IsAsked flat.now at.item) heads.old heads.new) }
+    ensures items { IfOk result (λ done. Adds (IsFurther flat.now (views flat.now 0 sets.now) at.item) items.old
         items.new) }
+    ensures callers { IfOk result (λ done. (seen : List code_item.Item)
+        → AreChosen (Calls flat.now) seen (items_of later.old.callers.items)
+        → AreChosen (Calls flat.now) (seen ++ at.item ∷ []) (items_of later.new.callers.items)) }
+    ensures readers { IfOk result (λ done. (seen : List code_item.Item)
+        → AreChosen (ReadsSome flat.now) seen (items_of later.old.readers.items)
+        → AreChosen (ReadsSome flat.now) (seen ++ at.item ∷ []) (items_of later.new.readers.items)) }
 {
-    let called = call(flat, item);
-    ask(flat, item, called, heads)?;
-    advance(flat, sets, item, called, home, items)?;
+    let deed = deed_of(flat, at.item);
+    ask(deed.called, heads)?;
+    keep_caller(at, deed.called, &mut later.callers)?;
+    keep_reader(at, deed.reads, &mut later.readers)?;
+    advance(flat, sets, at, deed, items)?;
     Ok(())
 }
 
@@ -346,6 +356,7 @@ pub(crate) fn fill<L: Letter>(
     sets: &[Front],
     heads: &mut Heads,
     items: &mut Items,
+    later: &mut Later,
 ) -> Result<(), Memory>
     requires roots { GiveRoots (flat_of flat.now) flat.now.roots.items }
     requires nulls { AreNulls (flat_of flat.now) flat.now.nulls.items }
@@ -363,14 +374,19 @@ pub(crate) fn fill<L: Letter>(
         items.old) (full (block_of flat.now) (length (views flat.now 0 sets.now)) heads.new items.new)) }
     ensures closed { IfOk result (λ done. IsClosed flat.now (views flat.now 0 sets.now)
         (full (block_of flat.now) (length (views flat.now 0 sets.now)) heads.new items.new)) }
+    ensures callers { IfOk result (λ done. AreChosen (Calls flat.now) items.new (items_of later.new.callers.items)) }
+    ensures readers { IfOk result (λ done. AreChosen (ReadsSome flat.now) items.new
+        (items_of later.new.readers.items)) }
 {
+    later.callers.clear();
+    later.readers.clear();
     let mut item_index = 0;
     let mut head_index = 0;
     loop {
         if item_index < items.len() {
             let item = items.at(item_index);
             let home = items.home(item_index);
-            work(flat, sets, item, home, heads, items)?;
+            work(flat, sets, Homed { item, home }, heads, items, later)?;
             item_index += 1;
         } else if head_index < heads.len() {
             let head = heads.at(head_index);

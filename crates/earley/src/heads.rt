@@ -31,6 +31,7 @@ impl Model for Heads {
 }
 
 // Returns the index of a head in the list.
+#[inline(always)]
 fn index_of(list: &[usize], table: &[usize], head: usize) -> Option<usize>
     requires { IsTable list.now table.now }
     ensures found { IfSome result (λ index. slice_get list.now index ≡ Some head) }
@@ -112,6 +113,7 @@ impl Heads {
     }
 
     /// Returns the index of a head.
+    #[inline(always)]
     pub(crate) fn find(&self, head: usize) -> Option<usize>
         ensures found { IfSome result (λ index. slice_get self.now index ≡ Some head) }
         ensures within { IfSome result (λ index. index < length self.now) }
@@ -122,6 +124,7 @@ impl Heads {
     }
 
     /// Adds a head unless it is there. `Memory` if an allocation fails.
+    #[inline(always)]
     pub(crate) fn note(&mut self, head: usize) -> Result<(), Memory>
         ensures { IfOk result (λ done. Adds (λ a. a ≡ head) self.old self.new) }
     {

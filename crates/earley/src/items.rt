@@ -3,21 +3,25 @@ ghost use Rattle.std.specs.Prelude.{◌≡◌, ◌↔◌, ◌<◌, ◌≤◌, �
 ghost use Rattle.flatgrammar.specs.Places.{In};
 ghost use Rattle.earley.specs.ItemSets.{Adds};
 ghost use Rattle.earley.specs.ItemRows.{row_of as the_row_of, IsLast, AreLinked};
+ghost use Rattle.earley.specs.declared.items.TheConstants.{FEW};
 
-use crate::item::same;
+use crate::item::{holds, same};
 use flatgrammar::Item;
 use ruletable::Memory;
 use std::alloc::Global;
 use std::marker::Model;
 use std::mem;
 
+// So many items are looked through one by one. They have no rows.
+const FEW: usize = 16;
+
 // The rows of a first growth.
 const FIRST: usize = 64;
 
 /// The items of a set beside its blocks, in the order in which they were added, seen as a list.
 ///
-/// Items of one row are linked, the last one first. The rows and links may hold anything where there is no item, so
-/// that emptying takes no time.
+/// Where there are more than a few, items of one row are linked, the last one first. The rows and links may hold
+/// anything where there is no item, so that emptying takes no time.
 #[derive(Drop)]
 pub(crate) struct Items {
     list: Vec<Item>,
@@ -30,15 +34,17 @@ pub(crate) struct Items {
 }
 
 impl Model for Items {
-    ghost use Rattle.std.specs.Prelude.{List, length};
+    ghost use Rattle.std.specs.Prelude.{List, length, ◌<◌};
     ghost use Rattle.flatgrammar.specs.declared.flat_item.Item.{Item};
     ghost use Rattle.earley.specs.ItemRows.{row_of, AreLinked};
+    ghost use Rattle.earley.specs.declared.items.TheConstants.{FEW};
 
     ghost Value = { List Item };
 
     ghost view = { λ s. s.list.items };
 
-    ghost invariant = { λ s. AreLinked (row_of (length s.rows.items)) s.list.items s.links.items s.rows.items };
+    ghost invariant = { λ s. FEW < length s.list.items
+        → AreLinked (row_of (length s.rows.items)) s.list.items s.links.items s.rows.items };
 }
 
 // The row of an item among that many.
@@ -87,6 +93,7 @@ fn stands(list: &[Item], links: &[usize], count: usize, last: usize, item: Item)
 }
 
 // Sets the link of an index, which is at most one past the last.
+#[inline(always)]
 fn set_link(links: &mut Vec<usize>, index: usize, link: usize) -> Result<(), Memory>
     requires { index ≤ length links.old.items }
     ensures here { IfOk result (λ done. slice_get links.new.items index ≡ Some link) }
@@ -103,6 +110,7 @@ fn set_link(links: &mut Vec<usize>, index: usize, link: usize) -> Result<(), Mem
 }
 
 // Adds an item to its row, whose last one is given.
+#[inline(always)]
 fn push(
     list: &mut Vec<Item>,
     links: &mut Vec<usize>,
@@ -126,6 +134,7 @@ fn push(
 }
 
 // Adds an item unless it is there.
+#[inline(always)]
 fn insert(
     list: &mut Vec<Item>,
     links: &mut Vec<usize>,
@@ -170,6 +179,91 @@ fn widen(list: &[Item], links: &mut [usize], rows: &mut Vec<usize>) -> Result<()
     let count = rows.len().saturating_mul(2);
     rows.resize(count, 0)?;
     relink(list, links, rows);
+    Ok(())
+}
+
+// Links the items if they are few, and sees to it that there are twice as many rows as items.
+fn prepare(list: &[Item], links: &mut Vec<usize>, rows: &mut Vec<usize>) -> Result<(), Memory>
+    requires { FEW < length list.now
+        → AreLinked (the_row_of (length rows.old.items)) list.now links.old.items rows.old.items }
+    ensures still { FEW < length list.now
+        → AreLinked (the_row_of (length rows.new.items)) list.now links.new.items rows.new.items }
+    ensures linked { IfOk result
+        (λ done. AreLinked (the_row_of (length rows.new.items)) list.now links.new.items rows.new.items) }
+    ensures some { IfOk result (λ done. 0 < length rows.new.items) }
+{
+    if list.len() <= FEW {
+        links.resize(list.len(), 0)?;
+        if rows.is_empty() {
+            rows.resize(FIRST, 0)?;
+        }
+        relink(list, links, rows);
+    } else if list.len() >= rows.len() / 2 {
+        widen(list, links, rows)?;
+    }
+    Ok(())
+}
+
+// Tells of some items of a list that they stand there. It takes one look.
+#[inline(always)]
+fn is_near(list: &[Item], rows: &[usize], item: Item) -> bool
+    ensures { IsTrue result → In item list.now }
+{
+    if rows.is_empty() {
+        return false;
+    }
+    let last = rows[row_of(rows.len(), item)];
+    if last == 0 || last > list.len() {
+        return false;
+    }
+    same(list[last - 1], item)
+}
+
+// Adds an item unless it is there, and links all.
+#[inline(always)]
+fn link(
+    list: &mut Vec<Item>,
+    links: &mut Vec<usize>,
+    rows: &mut Vec<usize>,
+    item: Item,
+) -> Result<(), Memory>
+    requires { FEW < length list.old.items
+        → AreLinked (the_row_of (length rows.old.items)) list.old.items links.old.items rows.old.items }
+    ensures linked { FEW < length list.new.items
+        → AreLinked (the_row_of (length rows.new.items)) list.new.items links.new.items rows.new.items }
+    ensures added { IfOk result (λ done. Adds (λ a. a ≡ item) list.old.items list.new.items) }
+{
+    if list.len() > FEW && list.len() < rows.len() / 2 {
+        return insert(list, links, rows, item);
+    }
+    prepare(list, links, rows)?;
+    insert(list, links, rows, item)
+}
+
+// Adds an item unless it is there.
+#[inline(always)]
+fn put(
+    list: &mut Vec<Item>,
+    links: &mut Vec<usize>,
+    rows: &mut Vec<usize>,
+    item: Item,
+) -> Result<(), Memory>
+    requires { FEW < length list.old.items
+        → AreLinked (the_row_of (length rows.old.items)) list.old.items links.old.items rows.old.items }
+    ensures linked { FEW < length list.new.items
+        → AreLinked (the_row_of (length rows.new.items)) list.new.items links.new.items rows.new.items }
+    ensures added { IfOk result (λ done. Adds (λ a. a ≡ item) list.old.items list.new.items) }
+{
+    if list.len() > FEW {
+        return link(list, links, rows, item);
+    }
+    if holds(list, item) {
+        return Ok(());
+    }
+    if list.len() == FEW {
+        return link(list, links, rows, item);
+    }
+    list.push(item)?;
     Ok(())
 }
 
@@ -226,25 +320,24 @@ impl Items {
         }
     }
 
-    /// Returns the homes that it had, in exchange for memory.
-    pub(crate) fn take_homes(&mut self, memory: Vec<usize>) -> Vec<usize>
-        ensures { self.new ≡ self.old }
-    {
-        mem::replace(&mut self.homes, memory)
-    }
-
     /// Adds an item unless it is there. `Memory` if an allocation fails.
+    #[inline(always)]
     pub(crate) fn add(&mut self, item: Item, home: usize) -> Result<(), Memory>
         ensures { IfOk result (λ done. Adds (λ a. a ≡ item) self.old self.new) }
     {
-        if self.rows.is_empty() {
-            self.rows.resize(FIRST, 0)?;
+        if self.list.len() > FEW && is_near(&self.list, &self.rows, item) {
+            return Ok(());
         }
+        self.look(item, home)
+    }
+
+    // Adds an item unless it is there.
+    #[inline(always)]
+    fn look(&mut self, item: Item, home: usize) -> Result<(), Memory>
+        ensures { IfOk result (λ done. Adds (λ a. a ≡ item) self.old self.new) }
+    {
         let index = self.list.len();
-        if index >= self.rows.len() {
-            widen(&self.list, &mut self.links, &mut self.rows)?;
-        }
-        insert(&mut self.list, &mut self.links, &mut self.rows, item)?;
+        put(&mut self.list, &mut self.links, &mut self.rows, item)?;
         if index < self.list.len() {
             set_home(&mut self.homes, index, home)?;
         }

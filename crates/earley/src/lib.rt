@@ -7,6 +7,7 @@ mod front;
 mod heads;
 mod item;
 mod items;
+mod later;
 mod letter_law;
 mod read_front;
 mod verdict;

@@ -4,12 +4,14 @@ ghost use Rattle.std.specs.Prelude.{◌∷◌};
 ghost use Rattle.flatgrammar.specs.NodeSteps.{IfSomeSet};
 ghost use Rattle.earley.specs.ItemSets.{Adds};
 ghost use Rattle.earley.specs.ReadItems.{IsRead};
+ghost use Rattle.earley.specs.Chosen.{items_of, ReadsSome, AreChosen};
 ghost use Rattle.flatgrammar.specs.TableViews.{read_of};
 ghost use Rattle.flatgrammar.specs.Blocks.{block_of, item_at, AreSpotLists};
 ghost use Rattle.earley.specs.FrontViews.{expand, view};
 
 use crate::front::Front;
 use crate::items::Items;
+use crate::later::Homed;
 use flatgrammar::{Item, Spot, Tables, readers, reads};
 use letters::Letter;
 use ruletable::Memory;
@@ -38,23 +40,11 @@ fn read_one(
 }
 
 /// Adds what items read.
-fn read_items(
-    flat: &Tables,
-    value: u32,
-    from: &[Item],
-    homes: &[usize],
-    set: &mut Items,
-) -> Result<(), Memory>
-    ensures { IfOk result (λ done. Adds (IsRead flat.now value from.now) set.old set.new) }
+fn read_items(flat: &Tables, value: u32, from: &[Homed], set: &mut Items) -> Result<(), Memory>
+    ensures { IfOk result (λ done. Adds (IsRead flat.now value (items_of from.now)) set.old set.new) }
 {
-    let mut index = 0usize;
-    for item in from {
-        let home = match homes.get(index) {
-            Some(home) => *home,
-            None => 0,
-        };
-        read_one(flat, value, *item, home, set)?;
-        index = index.wrapping_add(1);
+    for at in from {
+        read_one(flat, value, at.item, at.home, set)?;
     }
     Ok(())
 }
@@ -114,12 +104,13 @@ pub(crate) fn read<L: Letter>(
     origin: usize,
     set: &mut Items,
 ) -> Result<(), Memory>
-    requires { AreSpotLists flat.now }
+    requires lists { AreSpotLists flat.now }
+    requires readers { AreChosen (ReadsSome flat.now) from.now.items.items (items_of from.now.readers.items) }
     ensures { IfOk result (λ done. Adds (IsRead flat.now (L.number letter) (view flat.now origin from.now)) set.old
         set.new) }
 {
     let value = letter.value();
     read_heads(flat, value, &from.heads, origin, set)?;
-    read_items(flat, value, &from.items, &from.homes, set)?;
+    read_items(flat, value, &from.readers, set)?;
     Ok(())
 }

@@ -4,9 +4,10 @@ ghost use Rattle.flatgrammar.specs.Blocks.{block_of, item_at, AreSpotLists};
 ghost use Rattle.flatgrammar.specs.declared.flat_item.Item as code_item;
 ghost use Rattle.earley.specs.FrontViews.{expand, full};
 ghost use Rattle.earley.specs.Waiting.{AreWaiting};
+ghost use Rattle.earley.specs.Chosen.{items_of, Calls, AreChosen};
 
 use crate::heads::Heads;
-use crate::items::Items;
+use crate::later::Homed;
 use flatgrammar::{Item, Spot, Tables, asking, call};
 use ruletable::Memory;
 
@@ -133,39 +134,39 @@ fn wait_heads(
 fn wait_items(
     flat: &Tables,
     heads: &Heads,
-    items: &Items,
+    callers: &[Homed],
     firsts: &mut Vec<usize>,
     waits: &mut Vec<Wait>,
 ) -> Result<(), Memory>
     requires { length firsts.old.items ≡ length heads.now }
     ensures { IfOk result (λ done. (seen : List code_item.Item) → AreWaiting flat.now seen heads.now firsts.old.items
         waits.old.items →
-        AreWaiting flat.now (seen ++ items.now) heads.now firsts.new.items waits.new.items) }
+        AreWaiting flat.now (seen ++ items_of callers.now) heads.now firsts.new.items waits.new.items) }
 {
-    let mut home = 0usize;
-    for item in items.list() {
-        wait_one(flat, heads, *item, items.home(home), firsts, waits)?;
-        home = home.wrapping_add(1);
+    for at in callers {
+        wait_one(flat, heads, at.item, at.home, firsts, waits)?;
     }
     Ok(())
 }
 
-/// Lists for each head what goes on where it is done.
+/// Lists for each head what goes on where it is done. Of the items those that call are given.
 pub(crate) fn wait_all(
     flat: &Tables,
     heads: &Heads,
-    items: &Items,
+    callers: &[Homed],
     origin: usize,
     firsts: &mut Vec<usize>,
     waits: &mut Vec<Wait>,
 ) -> Result<(), Memory>
     requires { AreSpotLists flat.now }
-    ensures { IfOk result (λ done. AreWaiting flat.now (full (block_of flat.now) origin heads.now items.now) heads.now
-        firsts.new.items waits.new.items) }
+    ensures { IfOk result (λ done. (items : List code_item.Item)
+        → AreChosen (Calls flat.now) items (items_of callers.now)
+        → AreWaiting flat.now (full (block_of flat.now) origin heads.now items) heads.now firsts.new.items
+        waits.new.items) }
 {
     empty_firsts(heads.len(), firsts)?;
     waits.clear();
     wait_heads(flat, heads, heads.list(), origin, firsts, waits)?;
-    wait_items(flat, heads, items, firsts, waits)?;
+    wait_items(flat, heads, callers, firsts, waits)?;
     Ok(())
 }

@@ -1,5 +1,5 @@
 //! Numbered nodes.
-ghost use Rattle.std.specs.Prelude.{◌≡◌, ◌↔◌, ◌+◌, ◌^◌, ◌<◌, IsTrue};
+ghost use Rattle.std.specs.Prelude.{◌≡◌, ◌↔◌, ◌+◌, ◌^◌, ◌<◌, ℕ, IsTrue};
 ghost use Rattle.abnfcheck.specs.Derivable.{small};
 ghost use Rattle.flatgrammar.specs.Flat.{Has, Rep, Turns};
 ghost use Rattle.flatgrammar.specs.FlatViews.{set_of, node_of};
@@ -55,7 +55,7 @@ fn small(value: u32) -> u32
     }
 }
 
-/// Whether a set holds a letter.
+/// Tells whether a set holds a letter.
 pub(crate) fn has(set: &Set, value: u32) -> bool
     ensures { IsTrue result ↔ Has (set_of set.now) value }
 {
@@ -66,7 +66,7 @@ pub(crate) fn has(set: &Set, value: u32) -> bool
     }
 }
 
-/// In how many steps a node begins: those from 0 on.
+/// Returns in how many steps a node begins: those from 0 on.
 pub(crate) fn begins(node: &Node) -> usize
     ensures { result ≡ begin_count (node_of node.now) }
 {
@@ -78,7 +78,8 @@ pub(crate) fn begins(node: &Node) -> usize
     }
 }
 
-/// Whether a node is done at a step.
+/// Tells whether a node is done at a step.
+#[inline(always)]
 pub(crate) fn is_done(node: &Node, step: usize) -> bool
     ensures { result ≡ is_done (node_of node.now) step }
 {
@@ -108,6 +109,7 @@ pub(crate) fn is_done(node: &Node, step: usize) -> bool
 
 // The operand and the step after a turn, if there is a turn at that step. Without a greatest number the turns behind
 // the least are not counted.
+#[inline(always)]
 fn turn(least: u32, most: Option<u32>, operand: usize, step: usize) -> Option<(usize, usize)>
     ensures rep { result ≡ callee (Rep least most operand) step }
     ensures turns { least ≡ 0 → result ≡ callee (Turns most operand) step }
@@ -125,7 +127,8 @@ fn turn(least: u32, most: Option<u32>, operand: usize, step: usize) -> Option<(u
     }
 }
 
-/// The node that a step calls, and the step after it.
+/// Returns the node that a step calls, and the step after it.
+#[inline(always)]
 pub(crate) fn callee(node: &Node, step: usize) -> Option<(usize, usize)>
     ensures { result ≡ callee (node_of node.now) step }
 {
@@ -155,7 +158,7 @@ pub(crate) fn callee(node: &Node, step: usize) -> Option<(usize, usize)>
     }
 }
 
-/// How many of a node's first steps may call something, its turns left out.
+/// Returns how many of a node's first steps may call something, its turns left out.
 pub(crate) fn call_count(node: &Node) -> usize
     ensures { result ≡ call_count (node_of node.now) }
 {
@@ -166,7 +169,7 @@ pub(crate) fn call_count(node: &Node) -> usize
     }
 }
 
-/// The operand whose turns a node repeats.
+/// Returns the operand whose turns a node repeats.
 pub(crate) fn turned(node: &Node) -> Option<usize>
     ensures { result ≡ turned (node_of node.now) }
 {
@@ -176,7 +179,8 @@ pub(crate) fn turned(node: &Node) -> Option<usize>
     }
 }
 
-/// Whether each turn of a node takes a letter.
+/// Tells whether each turn of a node takes a letter.
+#[inline(always)]
 pub(crate) fn takes(node: &Node) -> bool
     ensures { result ≡ takes (node_of node.now) }
 {
@@ -186,7 +190,18 @@ pub(crate) fn takes(node: &Node) -> bool
     }
 }
 
-/// Whether a step reads a letter.
+/// Tells whether a step may read a letter.
+#[inline(always)]
+pub(crate) fn may_read(node: &Node, step: usize) -> bool
+    ensures { (c : ℕ) → IfSomeSet (read_at (node_of node.now) step) c → IsTrue result }
+{
+    match node {
+        Node::Letters(sets) => step < sets.len(),
+        _ => false,
+    }
+}
+
+/// Tells whether a step reads a letter.
 pub(crate) fn reads(node: &Node, step: usize, value: u32) -> bool
     ensures value { IsTrue result ↔ IfSomeSet (read_at (node_of node.now) step) value }
     ensures fits { IsTrue result → step + 1 < 2 ^ 64 }

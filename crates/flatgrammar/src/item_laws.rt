@@ -7,8 +7,8 @@ ghost use Rattle.flatgrammar.specs.Holds.{Holds};
 ghost use Rattle.flatgrammar.specs.Lowered.{IsLowered};
 ghost use Rattle.flatgrammar.specs.Places.{In, AreDifferent, places};
 
-/// Set n of the items of n letters, where n is within the limit, holds the whole's end exactly where the judged rule
-/// derives them.
+/// Returns nothing. Its contract is a law: set n of the items of n letters, where n is within the limit, holds the
+/// whole's end exactly where the judged rule derives them.
 pub fn items_tell()
     ensures { (has : ℕ → Bool) (rules : List Rule) (judged : ℕ) (flat : Flat) (x : List ℕ) →
         IsLowered rules judged flat →
@@ -17,7 +17,7 @@ pub fn items_tell()
         Holds flat x (length x) (Place.at flat.whole 1) 0 ↔ RuleDerives has rules judged x }
 {}
 
-/// Different items of set j are at most as many as places and origins allow.
+/// Returns nothing. Its contract is a law: different items of set j are at most as many as places and origins allow.
 pub fn items_at_most()
     ensures { (flat : Flat) (x : List ℕ) (j : ℕ) (set : List (Place × ℕ)) → AreDifferent set →
         ((p : Place) (i : ℕ) → In {A = Place × ℕ} (p, i) set → Holds flat x j p i)

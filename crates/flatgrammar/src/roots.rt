@@ -110,7 +110,7 @@ fn found_roots(alloc: Global, ways: &[Way]) -> Result<Vec<Option<usize>>, Memory
     Ok(roots)
 }
 
-/// Of each node the root: the node where it starts and ends. Each node is passed once.
+/// Returns of each node the root: the node where it starts and ends. Each node is passed once.
 pub(crate) fn find_roots(
     alloc: Global,
     nodes: &[Node],

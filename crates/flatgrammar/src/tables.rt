@@ -1,18 +1,18 @@
 //! The tables of a lowered grammar, by node.
-ghost use Rattle.std.specs.Prelude.{◌≡◌, ◌↔◌, ◌+◌, ◌^◌, ◌<◌, IsTrue};
+ghost use Rattle.std.specs.Prelude.{◌≡◌, ◌↔◌, ◌+◌, ◌^◌, ◌<◌, ℕ, IsTrue};
 ghost use Rattle.flatgrammar.specs.NodeSteps.{IfSomeSet};
-ghost use Rattle.flatgrammar.specs.TableViews.{call_of, done_of, null_of, takes_of, read_of, whole_root};
+ghost use Rattle.flatgrammar.specs.TableViews.{call_of, done_of, null_of, takes_of, read_of, rooted, whole_root};
 ghost use Rattle.flatgrammar.specs.Blocks.{block_of, inner_of, lists_of, readers_of as the_readers_of};
 
 use crate::block::{Block, Spot};
 use crate::flat_item::Item;
 use crate::flat_node;
-use crate::flat_node::{Node, callee, is_done, takes};
+use crate::flat_node::{Node, callee, is_done, may_read, takes};
 use crate::inner::{Inner, inner_at};
 use crate::spot_list::SpotList;
 
 /// Holds the nodes of a lowered grammar, of each rule the node of its body, of each node its root, a mark of what is
-/// nullable the place that alone calls it, if it stands in the block of another, its block and the lists of its block,
+/// nullable, the place that alone calls it if it stands in the block of another, its block and the lists of its block,
 /// the whole's node, and how many letters a line may have.
 #[derive(Drop)]
 pub struct Tables {
@@ -28,6 +28,7 @@ pub struct Tables {
 }
 
 /// Returns the root that an item's place calls, and the step after it.
+#[inline(always)]
 pub fn call(flat: &Tables, item: Item) -> Option<(usize, usize)>
     ensures { result ≡ call_of flat.now item }
 {
@@ -59,6 +60,52 @@ pub fn takes_letter(flat: &Tables, item: Item) -> bool
     }
 }
 
+/// What an item's place does: the root that it calls with the step after it, whether its node is done there, whether
+/// what it calls has to take a letter, and whether it may read a letter.
+#[derive(Clone, Copy)]
+pub struct Deed {
+    pub called: Option<(usize, usize)>,
+    pub done: bool,
+    pub takes: bool,
+    pub reads: bool,
+}
+
+// Returns the root of a called node, and the step after it.
+#[inline(always)]
+fn rooted(flat: &Tables, called: Option<(usize, usize)>) -> Option<(usize, usize)>
+    ensures { result ≡ rooted flat.now.roots.items called }
+{
+    let (node, next) = called?;
+    match flat.roots.get(node) {
+        Some(Some(found)) => Some((*found, next)),
+        _ => None,
+    }
+}
+
+/// Returns what an item's place does. It looks the node up once.
+#[inline(always)]
+pub fn deed_of(flat: &Tables, item: Item) -> Deed
+    ensures called { result.called ≡ call_of flat.now item }
+    ensures done { result.done ≡ done_of flat.now item }
+    ensures takes { result.takes ≡ takes_of flat.now item }
+    ensures reads { (c : ℕ) → IfSomeSet (read_of flat.now item) c → IsTrue result.reads }
+{
+    match flat.nodes.get(item.node) {
+        None => Deed {
+            called: None,
+            done: false,
+            takes: false,
+            reads: false,
+        },
+        Some(node) => Deed {
+            called: rooted(flat, callee(node, item.step)),
+            done: is_done(node, item.step),
+            takes: takes(node),
+            reads: may_read(node, item.step),
+        },
+    }
+}
+
 /// Tells whether a root is nullable.
 pub fn null(flat: &Tables, root: usize) -> bool
     ensures { result ≡ null_of flat.now root }
@@ -79,7 +126,7 @@ pub fn spots(flat: &Tables, head: usize) -> &[Spot]
     }
 }
 
-/// Returns of the spots of a root's block those that call a root with a block of its own.
+/// Returns of the spots of a root's block at least those that call a root with a block of its own.
 pub fn asking(flat: &Tables, head: usize) -> &[Spot]
     ensures { result.now ≡ (lists_of flat.now head).callers }
 {
@@ -102,7 +149,7 @@ pub fn readers(flat: &Tables, head: usize, value: u32) -> &[Spot]
     }
 }
 
-/// Returns the roots that the spots of a root's block call.
+/// Returns the roots with blocks of their own that the spots of a root's block call.
 pub fn calls(flat: &Tables, head: usize) -> &[usize]
     ensures { result.now ≡ (block_of flat.now head).calls }
 {

@@ -2,8 +2,10 @@ use Rattle.std.proofs.Common.{◌≡◌, ℕ, Some, slice_get, ◌+◌, ◌≤�
 use Rattle.std.proofs.Common.{length-append}
 use Rattle.earley.specs.declared.front.Front.{Front}
 use Rattle.earley.specs.Charts.{IsBuilt}
+use Rattle.earley.specs.Chosen.{AreReadersAll}
 use Rattle.earley.specs.FrontViews.{view, views}
 use Rattle.earley.specs.Waiting.{AreWaiting, AreWaitingAll}
+use Rattle.earley.proofs.AreChosenLemmas.{chosen_readers_push}
 use Rattle.earley.proofs.WaitAllLemmas.{waiting_push}
 use Rattle.earley.proofs.IsBuiltLemmas.{built_exact}
 use Rattle.earley.proofs.ViewsLemmas.{going_from, built_by}
@@ -23,6 +25,10 @@ fill-requires-clause-begun g c =
 pub fill-requires-clause-waiting : goal.fill-requires-clause-waiting
 fill-requires-clause-waiting g c = subst (λ v. AreWaitingAll c.args.flat.now v)
     (sym c.deref-in-loop-alloc-2.ensures.value) c.loop-alloc.invariant.waiting
+
+pub follow-requires-clause-readers : goal.follow-requires-clause-readers
+follow-requires-clause-readers g c = subst (λ v. AreReadersAll c.args.flat.now v)
+    (sym c.deref-in-loop-alloc.ensures.value) c.loop-alloc.invariant.readers
 
 pub loop-alloc-preserved : goal.loop-alloc-preserved
 loop-alloc-preserved g c =
@@ -55,6 +61,9 @@ loop-alloc-preserved g c =
           front.waits.items)
           (let count : c.len-in-loop-alloc.result ≡ length c.loop-alloc.sets.items =
           (let e = c.len-in-loop-alloc.ensures in omega (arith, e, ok)) in count) c.in_ok-front.ensures.waiting));
+      readers = subst (λ v. AreReadersAll c.args.flat.now v) (sym c.in_ok-push.ensures.items)
+          (chosen_readers_push c.args.flat.now c.loop-alloc.sets.items front c.loop-alloc.invariant.readers
+          c.in_ok-front.ensures.readers);
       sized = subst (λ v. (j : ℕ) (f : Front) → slice_get v j ≡ Some f → f.size ≡ length (view c.args.flat.now j f))
           (sym c.in_ok-push.ensures.items)
           (sized_push c.args.flat.now c.loop-alloc.sets.items front c.loop-alloc.invariant.sized

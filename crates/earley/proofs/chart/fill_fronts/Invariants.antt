@@ -1,5 +1,6 @@
 use Rattle.std.proofs.Common.{◌≡◌, ℕ, [], ◌+◌, ◌-◌, ◌≤◌, Some, length, map, slice_get}
 use Rattle.earley.specs.Charts.{IsBuilt}
+use Rattle.earley.specs.Chosen.{AreReadersAll}
 use Rattle.earley.specs.Waiting.{AreWaitingAll}
 use Rattle.earley.specs.FrontViews.{view, views}
 use Rattle.earley.specs.declared.front.Front.{Front}
@@ -12,6 +13,7 @@ invariant-loop-alloc g l = record {
   no_heads : l.heads ≡ [];
   no_items : l.items ≡ [];
   waiting : AreWaitingAll l.flat l.sets.items;
+  readers : AreReadersAll l.flat l.sets.items;
   sized : (j : ℕ) (f : Front) → slice_get l.sets.items j ≡ Some f → f.size ≡ length (view l.flat j f);
 }
 

@@ -5,7 +5,7 @@ use Rattle.std.proofs.Common.{[], inl, inr}
 use Rattle.earley.proofs.fill.advance.Goals as goal
 
 pub returns : goal.returns
-returns c = adds_both (IsOn c.args.flat.now c.args.item)
-    (IsCompleted c.args.flat.now (views c.args.flat.now 0 c.args.sets.now) [] c.args.item)
-    (IsFurther c.args.flat.now (views c.args.flat.now 0 c.args.sets.now) c.args.item) _ _ _ c.in_ok-pass.ensures
+returns c = adds_both (IsOn c.args.flat.now c.args.at.item)
+    (IsCompleted c.args.flat.now (views c.args.flat.now 0 c.args.sets.now) [] c.args.at.item)
+    (IsFurther c.args.flat.now (views c.args.flat.now 0 c.args.sets.now) c.args.at.item) _ _ _ c.in_ok-pass.ensures
     c.in_ok-complete.ensures (λ a h. h) (λ a h. inl h) (λ a h. inr h)

@@ -6,7 +6,7 @@ use Rattle.earley.proofs.fill.complete.Goals as goal
 
 pub returns-in_ok-go_on : goal.returns-in_ok-go_on
 returns-in_ok-go_on c = completed_on c.args.flat.now c.args.sets.now c.args.item c.in-Some.front.now _ _
-    (sym c.done.ensures ∙ c.if-done.true) (let h = c.in-Some.ensures.lookup in
+    (sym c.requires.done ∙ c.if-done.true) (let h = c.in-Some.ensures.lookup in
     get_is c.args.sets.now c.args.item.origin c.in-Some.front.now
     (ltb-true c.args.item.origin (length c.args.sets.now) (sym h.0)) h.1) c.in_ok-go_on.ensures
 

@@ -1,11 +1,14 @@
-use Rattle.std.proofs.Common.{map, ℕ, ◌+◌, ◌<◌, length, subst, sym, arith, slice_index_or, inl, inr}
+use Rattle.std.proofs.Common.{map, take, ℕ, ◌+◌, ◌<◌, ◌++◌, ◌∷◌, [], length, subst, sym, arith, slice_index_or, inl}
+use Rattle.std.proofs.Common.{inr}
 use Rattle.flatgrammar.specs.Places.{In}
 use Rattle.flatgrammar.specs.declared.flat_item.Item.{Item}
 use Rattle.earley.specs.ItemSets.{Adds}
 use Rattle.flatgrammar.specs.Blocks.{block_of, item_at}
+use Rattle.earley.specs.Chosen.{items_of, Calls, ReadsSome, AreChosen}
 use Rattle.earley.specs.FrontViews.{views, IsAsked, IsFurther}
 use Rattle.earley.proofs.FillLemmas.{measure, more_keeps, item_more, head_more, full_held, all_different, all_closed}
 use Rattle.earley.proofs.AloneLemmas.{begin_all}
+use Rattle.earley.proofs.AreChosenLemmas.{chosen_next, chosen_still, chosen_end}
 use Rattle.earley.proofs.ExpandLemmas.{length_views}
 use Rattle.flatgrammar.proofs.CallOfLemmas.{past_get}
 use Rattle.earley.proofs.ItemRowsLemmas.{index_get}
@@ -39,6 +42,18 @@ loop-item_index-preserved-then-item_index-len g c =
           (map g.L.Letter.number c.args.line.now) (views c.args.flat.now 0 c.args.sets.now) c.requires.earlier
           (length (views c.args.flat.now 0 c.args.sets.now)) c.loop-item_index.heads c.work.new.heads
           c.loop-item_index.items c.work.new.items asked further a (c.loop-item_index.invariant.keeps a h);
+      callers = chosen_next (Calls c.args.flat.now) c.loop-item_index.items c.work.new.items
+          (items_of c.work.new.later.callers.items) c.loop-item_index.item_index further c.at-item.result below
+          (subst (λ v. AreChosen (Calls c.args.flat.now) (take c.loop-item_index.item_index c.loop-item_index.items
+          ++ v ∷ []) (items_of c.work.new.later.callers.items)) item_is
+          (c.in_ok-work.ensures.callers (take c.loop-item_index.item_index c.loop-item_index.items)
+          c.loop-item_index.invariant.callers));
+      readers = chosen_next (ReadsSome c.args.flat.now) c.loop-item_index.items c.work.new.items
+          (items_of c.work.new.later.readers.items) c.loop-item_index.item_index further c.at-item.result below
+          (subst (λ v. AreChosen (ReadsSome c.args.flat.now) (take c.loop-item_index.item_index c.loop-item_index.items
+          ++ v ∷ []) (items_of c.work.new.later.readers.items)) item_is
+          (c.in_ok-work.ensures.readers (take c.loop-item_index.item_index c.loop-item_index.items)
+          c.loop-item_index.invariant.readers));
     }
 
 pub loop-item_index-smaller : goal.loop-item_index-smaller
@@ -77,6 +92,12 @@ loop-item_index-preserved g c =
           (length (views c.args.flat.now 0 c.args.sets.now)) c.loop-item_index.heads c.open.new.heads
           c.loop-item_index.items c.open.new.items called passed a
           (c.loop-item_index.invariant.keeps a h);
+      callers = chosen_still (Calls c.args.flat.now) c.loop-item_index.items c.open.new.items
+          (items_of c.loop-item_index.later.callers.items) c.loop-item_index.item_index passed
+          c.loop-item_index.invariant.going.within_items c.loop-item_index.invariant.callers;
+      readers = chosen_still (ReadsSome c.args.flat.now) c.loop-item_index.items c.open.new.items
+          (items_of c.loop-item_index.later.readers.items) c.loop-item_index.item_index passed
+          c.loop-item_index.invariant.going.within_items c.loop-item_index.invariant.readers;
     }
 
 pub returns-else-head_index-len-clause-held : goal.returns-else-head_index-len-clause-held
@@ -104,6 +125,18 @@ returns-else-head_index-len-clause-closed g c =
     (let test = c.if-head_index-len.false in let len = c.len-else-item_index-len.ensures in omega (arith, test, len))
     (past_get (views c.args.flat.now 0 c.args.sets.now) (length (views c.args.flat.now 0 c.args.sets.now))
     (omega arith))
+
+pub returns-else-head_index-len-clause-callers : goal.returns-else-head_index-len-clause-callers
+returns-else-head_index-len-clause-callers g c = chosen_end (Calls c.args.flat.now) c.loop-item_index.items
+    (items_of c.loop-item_index.later.callers.items) c.loop-item_index.item_index
+    (let test = c.if-item_index-len.false in let len = c.len.ensures in omega (arith, test, len))
+    c.loop-item_index.invariant.callers
+
+pub returns-else-head_index-len-clause-readers : goal.returns-else-head_index-len-clause-readers
+returns-else-head_index-len-clause-readers g c = chosen_end (ReadsSome c.args.flat.now) c.loop-item_index.items
+    (items_of c.loop-item_index.later.readers.items) c.loop-item_index.item_index
+    (let test = c.if-item_index-len.false in let len = c.len.ensures in omega (arith, test, len))
+    c.loop-item_index.invariant.readers
 
 pub work-requires-clause-begun : goal.work-requires-clause-begun
 work-requires-clause-begun g c = begin_all c.args.flat.now (map g.L.Letter.number c.args.line.now) c.args.sets.now

@@ -1,9 +1,10 @@
 use Rattle.std.proofs.Common.{subst}
+use Rattle.earley.specs.Chosen.{items_of}
 use Rattle.earley.specs.ItemSets.{Adds}
 use Rattle.earley.specs.ReadItems.{IsRead}
 use Rattle.flatgrammar.specs.Blocks.{block_of}
 use Rattle.earley.specs.FrontViews.{expand, view}
-use Rattle.earley.proofs.ExpandLemmas.{reads_both}
+use Rattle.earley.proofs.ExpandLemmas.{reads_both, reads_fewer}
 use Rattle.earley.proofs.read_front.read.Goals as goal
 
 pub returns : goal.returns
@@ -15,5 +16,8 @@ returns g c =
     c.args.set.now c.read_heads.new.set c.read_items.new.set
     (subst (λ v. Adds (IsRead c.args.flat.now c.value-value.result (expand (block_of c.args.flat.now) c.args.origin v))
     c.args.set.now c.read_heads.new.set) c.deref.ensures.value c.in_ok-read_heads.ensures)
-    (subst (λ v. Adds (IsRead c.args.flat.now c.value-value.result v) c.read_heads.new.set c.read_items.new.set)
-    c.deref-2.ensures.value c.in_ok-read_items.ensures))
+    (reads_fewer c.args.flat.now c.value-value.result c.read_heads.new.set c.read_items.new.set
+    (items_of c.args.from.now.readers.items) c.args.from.now.items.items c.requires.readers.stand
+    (λ a i r. c.requires.readers.chosen a i (c.value-value.result, r))
+    (subst (λ v. Adds (IsRead c.args.flat.now c.value-value.result (items_of v)) c.read_heads.new.set
+    c.read_items.new.set) c.deref-2.ensures.value c.in_ok-read_items.ensures)))

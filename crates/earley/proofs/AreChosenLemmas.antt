@@ -1,0 +1,78 @@
+-- Of the items of a set those that are chosen, item by item.
+-- Serves: judge.
+use Rattle.std.proofs.Common.{◌≡◌, ℕ, ◌+◌, ◌<◌, ◌≤◌, ◌⊎◌, inl, inr, List, [], ◌∷◌, ◌++◌, Some, length, take, arith}
+use Rattle.std.proofs.Common.{slice_get, slice_index_or, map, ap, sym, ◌∙◌, subst}
+use Rattle.flatgrammar.specs.Places.{In}
+use Rattle.flatgrammar.specs.declared.flat_item.Item.{Item}
+use Rattle.flatgrammar.specs.declared.tables.Tables as code_flat
+use Rattle.flatgrammar.proofs.FlatCutLemmas.{push_cases}
+use Rattle.flatgrammar.proofs.InLemmas.{in_left, at_end, before_end}
+use Rattle.earley.specs.declared.front.Front.{Front}
+use Rattle.earley.specs.declared.later.Homed.{Homed}
+use Rattle.earley.specs.Chosen.{items_of, ReadsSome, AreChosen, AreReadersAll}
+use Rattle.earley.specs.ItemSets.{Adds}
+use Rattle.earley.specs.ReadItems.{IsRead}
+use Rattle.earley.proofs.ExpandLemmas.{take_one, take_past, map_end, reads_both}
+use Rattle.earley.proofs.FillLemmas.{front_same}
+
+pub chosen_readers_push : (flat : code_flat.Tables) (fronts : List Front) (front : Front) → AreReadersAll flat fronts
+    → AreChosen (ReadsSome flat) front.items.items (items_of front.readers.items)
+    → AreReadersAll flat (fronts ++ front ∷ [])
+chosen_readers_push flat fronts front are last k f is = by (push_cases fronts front k f is)
+  where
+    by : (slice_get fronts k ≡ Some f) ⊎ ((k ≡ length fronts) × (front ≡ f))
+        → AreChosen (ReadsSome flat) f.items.items (items_of f.readers.items)
+    by (inl old) = are k f old
+    by (inr new) = subst (λ v. AreChosen (ReadsSome flat) v.items.items (items_of v.readers.items)) new.1 last
+
+-- one more is read
+pub reads_homed_more : (flat : code_flat.Tables) (c : ℕ) (ws : List Homed) (k : ℕ) (d : Homed) (old mid new : List Item)
+    → k < length ws → Adds (IsRead flat c (items_of (take k ws))) old mid →
+    Adds (IsRead flat c ((slice_index_or ws k d).item ∷ [])) mid new → Adds (IsRead flat c (items_of (take (k + 1) ws)))
+    old new
+reads_homed_more flat c ws k d old mid new lt p q =
+    subst (λ v. Adds (IsRead flat c v) old new) (sym (ap (λ v. items_of v) (take_one ws k d lt)
+    ∙ map_end (λ h. h.item) (take k ws) (slice_index_or ws k d)))
+    (reads_both flat c (items_of (take k ws)) ((slice_index_or ws k d).item ∷ []) old mid new p q)
+
+module _ (Q : Item → Type 0) where
+  pub chosen_none : AreChosen Q [] []
+  chosen_none = record { stand = λ a h. h; chosen = λ a h q. h }
+
+  pub chosen_more : (all few : List Item) (b : Item) → AreChosen Q all few → AreChosen Q (all ++ b ∷ []) (few ++ b ∷ [])
+  chosen_more all few b are = record {
+    stand = λ a h. up a (before_end a b few h);
+    chosen = λ a h q. down a q (before_end a b all h);
+  }
+    where
+      up : (a : Item) → In a few ⊎ (a ≡ b) → In a (all ++ b ∷ [])
+      up a (inl i) = in_left (b ∷ []) (are.stand a i)
+      up a (inr same) = subst (λ v. In v (all ++ b ∷ [])) (sym same) (at_end b all)
+
+      down : (a : Item) → Q a → In a all ⊎ (a ≡ b) → In a (few ++ b ∷ [])
+      down a q (inl i) = in_left (b ∷ []) (are.chosen a i q)
+      down a q (inr same) = subst (λ v. In v (few ++ b ∷ [])) (sym same) (at_end b few)
+
+  pub chosen_past : (all few : List Item) (b : Item) → (Q b → ⊥) → AreChosen Q all few → AreChosen Q (all ++ b ∷ []) few
+  chosen_past all few b none are = record {
+    stand = λ a h. in_left (b ∷ []) (are.stand a h);
+    chosen = λ a h q. down a q (before_end a b all h);
+  }
+    where
+      down : (a : Item) → Q a → In a all ⊎ (a ≡ b) → In a few
+      down a q (inl i) = are.chosen a i q
+      down a q (inr same) = absurd (none (subst Q same q))
+
+  module _ {P : Item → Type 0} (items new few : List Item) (k : ℕ) (adds : Adds P items new) where
+    -- the items that were worked on, and one more
+    pub chosen_next : (d : Item) → k < length items → AreChosen Q (take k items ++ slice_index_or items k d ∷ []) few
+        → AreChosen Q (take (k + 1) new) few
+    chosen_next d lt = subst (λ v. AreChosen Q v few)
+        (sym (front_same (k + 1) items adds.added new adds.is (omega (arith, lt)) ∙ take_one items k d lt))
+
+    pub chosen_still : k ≤ length items → AreChosen Q (take k items) few → AreChosen Q (take k new) few
+    chosen_still le = subst (λ v. AreChosen Q v few) (sym (front_same k items adds.added new adds.is le))
+
+  pub chosen_end : (items few : List Item) (k : ℕ) → length items ≤ k → AreChosen Q (take k items) few
+      → AreChosen Q items few
+  chosen_end items few k le = subst (λ v. AreChosen Q v few) (take_past items k le)

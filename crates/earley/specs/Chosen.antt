@@ -1,0 +1,31 @@
+-- Of the items of a set those that call, and those that may read a letter.
+use Rattle.std.specs.Prelude.{◌≡◌, ℕ, List, map, Some, slice_get}
+use Rattle.flatgrammar.specs.NodeSteps.{IfSomeSet}
+use Rattle.flatgrammar.specs.Places.{In}
+use Rattle.flatgrammar.specs.TableViews.{call_of, read_of}
+use Rattle.flatgrammar.specs.declared.flat_item.Item.{Item}
+use Rattle.flatgrammar.specs.declared.tables.Tables as code_flat
+use Rattle.earley.specs.declared.front.Front.{Front}
+use Rattle.earley.specs.declared.later.Homed.{Homed}
+
+-- the items without their homes
+abbrev pub items_of : List Homed → List Item
+items_of list = map (λ h. h.item) list
+
+-- an item calls a root
+abbrev pub Calls : code_flat.Tables → Item → Type 0
+Calls flat a = (t : ℕ) × (l : ℕ) × (call_of flat a ≡ Some (t, l))
+
+-- an item reads some letter
+abbrev pub ReadsSome : code_flat.Tables → Item → Type 0
+ReadsSome flat a = (c : ℕ) × IfSomeSet (read_of flat a) c
+
+-- of all items a few, among them all of Q
+pub record AreChosen (Q : Item → Type 0) (all few : List Item) : Type 0 where
+  pub stand : (a : Item) → In a few → In a all
+  pub chosen : (a : Item) → In a all → Q a → In a few
+
+-- each set has its readers beside it
+abbrev pub AreReadersAll : code_flat.Tables → List Front → Type 0
+AreReadersAll flat fronts = (k : ℕ) (f : Front) → slice_get fronts k ≡ Some f
+    → AreChosen (ReadsSome flat) f.items.items (items_of f.readers.items)

@@ -1,0 +1,65 @@
+//! What the items of a set do later: those that call, and those that read.
+ghost use Rattle.std.specs.Prelude.{◌≡◌, ◌++◌, ◌∷◌, List, [], IsTrue, IfOk};
+ghost use Rattle.flatgrammar.specs.TableViews.{call_of};
+ghost use Rattle.flatgrammar.specs.declared.flat_item.Item as code_item;
+ghost use Rattle.flatgrammar.specs.declared.tables.Tables as code_flat;
+ghost use Rattle.earley.specs.Chosen.{items_of, Calls, ReadsSome, AreChosen};
+
+use flatgrammar::Item;
+use ruletable::Memory;
+use std::alloc::Global;
+
+/// An item with the index of the head that it belongs to in the set of its origin, which is not relied on.
+#[derive(Clone, Copy)]
+pub(crate) struct Homed {
+    pub(crate) item: Item,
+    pub(crate) home: usize,
+}
+
+/// Holds of the items of a set those that call, and those that may read a letter.
+#[derive(Drop)]
+pub(crate) struct Later {
+    pub(crate) callers: Vec<Homed>,
+    pub(crate) readers: Vec<Homed>,
+}
+
+impl Later {
+    /// Returns no items. It takes no memory.
+    pub(crate) fn new(alloc: Global) -> Later {
+        Later {
+            callers: Vec::new(alloc),
+            readers: Vec::new(alloc),
+        }
+    }
+}
+
+/// Adds an item if it calls; what it calls is given.
+pub(crate) fn keep_caller(
+    at: Homed,
+    called: Option<(usize, usize)>,
+    callers: &mut Vec<Homed>,
+) -> Result<(), Memory>
+    ensures { IfOk result (λ done. (flat : code_flat.Tables) (seen : List code_item.Item)
+        → called ≡ call_of flat at.item → AreChosen (Calls flat) seen (items_of callers.old.items)
+        → AreChosen (Calls flat) (seen ++ at.item ∷ []) (items_of callers.new.items)) }
+{
+    match called {
+        Some(_) => {
+            callers.push(at)?;
+            Ok(())
+        }
+        None => Ok(()),
+    }
+}
+
+/// Adds an item if it may read a letter, as is given.
+pub(crate) fn keep_reader(at: Homed, reads: bool, readers: &mut Vec<Homed>) -> Result<(), Memory>
+    ensures { IfOk result (λ done. (flat : code_flat.Tables) (seen : List code_item.Item)
+        → (ReadsSome flat at.item → IsTrue reads) → AreChosen (ReadsSome flat) seen (items_of readers.old.items)
+        → AreChosen (ReadsSome flat) (seen ++ at.item ∷ []) (items_of readers.new.items)) }
+{
+    if reads {
+        readers.push(at)?;
+    }
+    Ok(())
+}
