@@ -190,8 +190,8 @@ pub(crate) fn next_way(peg: &SoundPeg, cells: &Cells, frame: Frame) -> Way
     way
 }
 
-/// Returns where the events of a node that begins at a place go on, if that needs no cell: it is silent, an action or an
-/// end of a capture.
+/// Returns where the events of a node that begins at a place go on, if that needs no cell: it is silent, an action or
+/// an end of a capture.
 #[inline(always)]
 pub(crate) fn way_at_once(peg: &SoundPeg, node: usize, place: usize) -> Option<Way>
     requires sound { IsSoundGrammar peg.now }
