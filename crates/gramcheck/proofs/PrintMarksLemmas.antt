@@ -1,5 +1,4 @@
--- The least set of nodes of which one must print is that of the nodes whose expressions may print; other expressions
--- leave no events behind.
+-- The marked nodes are those whose expressions may print, and other expressions leave no events behind.
 -- Serves: check_peg, is_silent, replay
 use Rattle.std.proofs.Common.{◌≡◌, ℕ, List, [], ◌∷◌, ◌++◌, length, Contains, refl, sym, ap, subst, ◌∙◌, arith}
 use Rattle.std.proofs.Common.{⊎_elim, Bool}
