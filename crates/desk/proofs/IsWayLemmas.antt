@@ -21,7 +21,7 @@ use Rattle.gramcheck.specs.Sound.{IsRanked}
 use Rattle.gramcheck.proofs.OneOutcomeLemmas.{same}
 use Rattle.gramcheck.proofs.HasShapeLemmas.{has_shape}
 use Rattle.gramcheck.proofs.NodeSpellsLemmas.{is_there}
-use Rattle.gramcheck.proofs.PrintsLemmas.{gives_no_events}
+use Rattle.gramcheck.proofs.PrintMarksLemmas.{gives_no_events}
 use Rattle.cells.specs.declared.cell.Found.{Found}
 use Rattle.cells.specs.declared.cell.Found.TheVariants.{Failed, Took}
 use Rattle.cells.specs.Entries.{Entry}

@@ -190,8 +190,8 @@ pub(crate) fn next_way(peg: &SoundPeg, cells: &Cells, frame: Frame) -> Way
     way
 }
 
-/// Returns where the events of a node that begins at a place go on, if that needs no cell: it is silent, an action or an
-/// end of a capture.
+/// Returns where the events of a node that begins at a place go on, if that needs no cell: it is silent, an action or
+/// an end of a capture.
 #[inline(always)]
 pub(crate) fn way_at_once(peg: &SoundPeg, node: usize, place: usize) -> Option<Way>
     requires sound { IsSoundGrammar peg.now }
@@ -203,13 +203,15 @@ pub(crate) fn way_at_once(peg: &SoundPeg, node: usize, place: usize) -> Option<W
         IsWay (rules_of peg.now.rules) (shapes_of peg.now.nodes) peg.now.bodies peg.now.ranks x cells
         (beginning node place) es way) }
 {
-    if peg.is_silent(node) {
-        return Some(Way::Leave);
-    }
     match peg.node(node) {
         Node::Act(_) => Some(Way::Emit(Kept::Acted(node))),
         Node::Open => Some(Way::Emit(Kept::Opened(place))),
         Node::Close => Some(Way::Emit(Kept::Closed(place))),
-        _ => None,
+        _ => {
+            if peg.is_silent(node) {
+                return Some(Way::Leave);
+            }
+            None
+        }
     }
 }

@@ -22,7 +22,7 @@ pub mod OneOutcomeLemmas
 mod OutcomeExamples
 pub mod OwnIdLemmas
 pub mod PatternOfLemmas
-pub mod PrintsLemmas
+pub mod PrintMarksLemmas
 pub mod PushCasesLemmas
 pub mod RepeatsNoNullLemmas
 pub mod RiseLemmas

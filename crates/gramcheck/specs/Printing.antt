@@ -10,8 +10,8 @@ use Rattle.gramcheck.specs.Nodes.{Shape, Spells}
 
 module _ (rules : List Rule) where
   mutual
-    -- The expression is an action or an end of a capture, or has one among its operands or in the body of a rule that it
-    -- names. What a predicate looks at leaves no event behind.
+    -- The expression is an action or an end of a capture, or has one among its operands or in the body of a rule that
+    -- it names. What a predicate looks at leaves no event behind.
     pub data Prints : Pattern → Type 0 where
       by_act : {t : List ℕ} → Prints (Act t)
       by_open : Prints Open

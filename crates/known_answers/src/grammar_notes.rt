@@ -340,12 +340,18 @@ fn has_parts(peg: &SoundPeg, n: usize, wanted: &(u8, usize, &[usize])) -> bool {
     n < peg.nodes() && parts(peg.node(n)) == *wanted
 }
 
+// Whether the node of a number is silent but for the ends of the capture, the action, and what goes through these.
+fn is_silent_there(peg: &SoundPeg, n: usize) -> bool {
+    n < peg.nodes() && peg.is_silent(n) != matches!(n, 6 | 8 | 9 | 10 | 11 | 18)
+}
+
 #[test]
 fn nodes_of_each_form(rt: HostRuntime) -> Result<(), Fail> {
     let text = b"A <- B 'x'* !C / < . > {t}\nB <- [b-d]+ C?\nC <- &A";
     let peg = sound(rt.alloc(), text, None)?;
     for (n, row) in PARTS.iter().enumerate() {
         assert!(rt; has_parts(&peg, n, row), "{n}");
+        assert!(rt; is_silent_there(&peg, n), "{n} prints");
     }
     assert!(rt; peg.nodes() == 20 && peg.body_node(peg.start()) == 11);
     assert!(rt; matches!(peg.node(1), Node::Bytes(text) if text.as_slice() == b"x".as_slice()));

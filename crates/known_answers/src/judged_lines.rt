@@ -20,6 +20,7 @@ struct Short {
 impl Judge<u8> for Short {
     ghost told = { λ short line said. said ≡ (if ltb short.most (length line)
         then (if short.counts then answer.NoAfter (length line - short.most) else answer.No) else answer.Yes) };
+
     ghost served = { λ _. 4 };
 
     fn judge(&self, _work: &mut u8, line: &[u8]) -> Result<Answer, Memory> {

@@ -8,7 +8,7 @@ use Rattle.gramcheck.specs.Checked.{is_refused}
 use Rattle.gramcheck.specs.Nodes.{shape_of, shapes_of}
 use Rattle.gramcheck.specs.Sound.{IsRanked}
 use Rattle.gramcheck.proofs.JudgeLemmas.{start-below}
-use Rattle.gramcheck.proofs.PrintsLemmas.{bodies_below}
+use Rattle.gramcheck.proofs.PrintMarksLemmas.{bodies_below}
 use Rattle.gramcheck.proofs.check.check_peg.Goals as goal
 
 module _ (c : goal.After-deref-4) where

@@ -3,7 +3,7 @@ use Rattle.std.proofs.lemmas.List.{length-map}
 use Rattle.leastset.specs.Demands.{AreNeedsWithin, demands_of}
 use Rattle.leastset.specs.Least.{AreMarksOfThose}
 use Rattle.gramcheck.specs.Nodes.{shape_of, shapes_of}
-use Rattle.gramcheck.proofs.PrintsLemmas.{print_within, marks_those_that_print}
+use Rattle.gramcheck.proofs.PrintMarksLemmas.{print_within, marks_those_that_print}
 use Rattle.gramcheck.proofs.printing.print_marks.Goals as goal
 
 pub least-requires : goal.least-requires

@@ -1,6 +1,5 @@
--- The least set of nodes of which one must print is that of the nodes whose expressions may print; other expressions
--- leave no events behind.
--- Serves: check_peg, SoundPeg::is_silent
+-- The marked nodes are those whose expressions may print, and other expressions leave no events behind.
+-- Serves: check_peg, is_silent, replay
 use Rattle.std.proofs.Common.{◌≡◌, ℕ, List, [], ◌∷◌, ◌++◌, length, Contains, refl, sym, ap, subst, ◌∙◌, arith}
 use Rattle.std.proofs.Common.{⊎_elim, Bool}
 use Rattle.std.proofs.Common.{inl, inr, ◌⊎◌, Some, option_to_list}
@@ -206,7 +205,8 @@ module _ (rules : List Rule) (x : List ℕ) where
 
   mutual
     -- an expression that does not print leaves none behind
-    pub gives_no_events : {e : Pattern} {p k : ℕ} {o : Outcome} → Gives rules x e p o k → (Prints rules e → ⊥) → IsBare o
+    pub gives_no_events : {e : Pattern} {p k : ℕ} {o : Outcome} → Gives rules x e p o k → (Prints rules e → ⊥)
+        → IsBare o
     gives_no_events (gives.any_takes h) quiet = refl
     gives_no_events (gives.any_at_end h) quiet = tt
     gives_no_events (gives.set_takes h g) quiet = refl
