@@ -306,68 +306,6 @@ fn first_on(
     Ok(Turn::Answer(Found::Failed))
 }
 
-// On through the turns of a repetition.
-#[inline(always)]
-fn repeat_on(
-    peg: &SoundPeg,
-    window: &[u8],
-    more: bool,
-    cells: &mut Cells,
-    operand: usize,
-    top: Frame,
-) -> Result<Turn, Halt>
-    requires star { slice_get (shapes_of peg.now.nodes) top.node ≡ Some (Shape.Star operand) }
-    requires some { more ≡ true → 0 < length window.now }
-    requires fits { (below : List Frame) × Fits peg.now window.now more (counted cells.old (top ∷ below)) }
-    ensures { (below : List Frame) → Fits peg.now window.now more (counted cells.old (top ∷ below)) →
-        IsOn peg.now window.now more below cells.old cells.new top result }
-{
-    let _start = peg.start();
-    if top.next > 0 {
-        return Ok(again(cells, top.node, top.end));
-    }
-    if takes_byte(peg.node(operand)) {
-        return repeat_byte(peg, window, more, cells, operand, top);
-    }
-    match see(peg, window, more, cells, operand, top.place) {
-        Ok(found) => Ok(star(cells, found, top.node, operand, top.place)),
-        Err(halt) => Err(halt),
-    }
-}
-
-// On with an option or a predicate, or with what next_turn answers for.
-#[inline(always)]
-fn option_on(
-    peg: &SoundPeg,
-    window: &[u8],
-    more: bool,
-    cells: &mut Cells,
-    top: Frame,
-) -> Result<Turn, Halt>
-    requires some { more ≡ true → 0 < length window.now }
-    requires fits { (below : List Frame) × Fits peg.now window.now more (counted cells.old (top ∷ below)) }
-    ensures { (below : List Frame) → Fits peg.now window.now more (counted cells.old (top ∷ below)) →
-        IsOn peg.now window.now more below cells.old cells.new top result }
-{
-    let _start = peg.start();
-    let place = top.place;
-    match peg.node(top.node) {
-        Node::Opt(operand) => match see(peg, window, more, cells, *operand, place) {
-            Ok(found) => Ok(opt(found, *operand, place)),
-            Err(halt) => Err(halt),
-        },
-        Node::And(operand) => match see(peg, window, more, cells, *operand, place) {
-            Ok(found) => Ok(and(found, *operand, place)),
-            Err(halt) => Err(halt),
-        },
-        Node::Not(operand) => match see(peg, window, more, cells, *operand, place) {
-            Ok(found) => Ok(not(found, *operand, place)),
-            Err(halt) => Err(halt),
-        },
-        _ => Ok(next_turn(peg, window, more, cells, top)),
-    }
-}
-
 /// Returns what the evaluation of a frame's node at its place does next. A node without operands that it asks for gets
 /// its cell at once.
 #[inline(always)]
@@ -395,7 +333,18 @@ pub(crate) fn turn_on(
                 Err(halt) => Err(halt),
             }
         }
-        Node::Star(operand) => repeat_on(peg, window, more, cells, *operand, top),
+        Node::Star(operand) => {
+            if top.next > 0 {
+                return Ok(again(cells, top.node, top.end));
+            }
+            if takes_byte(peg.node(*operand)) {
+                return repeat_byte(peg, window, more, cells, *operand, top);
+            }
+            match see(peg, window, more, cells, *operand, place) {
+                Ok(found) => Ok(star(cells, found, top.node, *operand, place)),
+                Err(halt) => Err(halt),
+            }
+        }
         Node::Plus {
             operand,
             star: rest,
@@ -408,6 +357,18 @@ pub(crate) fn turn_on(
                 Err(halt) => Err(halt),
             }
         }
-        _ => option_on(peg, window, more, cells, top),
+        Node::Opt(operand) => match see(peg, window, more, cells, *operand, place) {
+            Ok(found) => Ok(opt(found, *operand, place)),
+            Err(halt) => Err(halt),
+        },
+        Node::And(operand) => match see(peg, window, more, cells, *operand, place) {
+            Ok(found) => Ok(and(found, *operand, place)),
+            Err(halt) => Err(halt),
+        },
+        Node::Not(operand) => match see(peg, window, more, cells, *operand, place) {
+            Ok(found) => Ok(not(found, *operand, place)),
+            Err(halt) => Err(halt),
+        },
+        _ => Ok(next_turn(peg, window, more, cells, top)),
     }
 }

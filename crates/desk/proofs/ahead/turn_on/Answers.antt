@@ -1,11 +1,12 @@
 use Rattle.std.proofs.Common.{ap, Some, ◌∙◌, arith}
 use Rattle.std.proofs.lemmas.List.{length-map}
-use Rattle.gramcheck.specs.Nodes.{shape_of}
+use Rattle.gramcheck.specs.Nodes.{shape_of, shapes_of}
 use Rattle.gramcheck.proofs.NodeSpellsLemmas.{is_there}
 use Rattle.pegmatch.proofs.NodeShapeLemmas.{shape_at}
 use Rattle.desk.proofs.IsNextLemmas.{at_top}
-use Rattle.desk.proofs.IsOnLemmas.{child, halts, asks_name, name_on, asks_plus}
-use Rattle.desk.proofs.IsOnLemmas.{plus_on, plus_again}
+use Rattle.desk.proofs.IsOnLemmas.{stays, child, halts, asks_name, name_on, asks_star, star_on, star_again, asks_plus}
+use Rattle.desk.proofs.IsOnLemmas.{plus_on, plus_again, asks_opt, opt_on, asks_and, and_on, asks_not, not_on}
+use Rattle.desk.proofs.TowerLemmas.{byte_at}
 use Rattle.desk.proofs.ahead.turn_on.Goals as goal
 
 pub node-requires : goal.node-requires
@@ -38,10 +39,6 @@ see-requires-clause-spells c =
 pub see-requires-clause-place : goal.see-requires-clause-place
 see-requires-clause-place c = (at_top _ _ _ c.start-start.ensures.sound _ _ _ c.requires.fits.1).high
 
-pub repeat_on-requires-clause-star : goal.repeat_on-requires-clause-star
-repeat_on-requires-clause-star c = shape_at c.args.peg.now.nodes c.args.top.node _
-    (c.node.ensures ∙ ap Some c.in-Star.is)
-
 pub returns-in-Ok : goal.returns-in-Ok
 returns-in-Ok c = λ below fits. rw c.same.ensures
     (name_on _ _ _ c.start-start.ensures.sound below _ _ fits _ _
@@ -55,10 +52,25 @@ returns-in-Err c = λ below fits.
     (shape_at c.args.peg.now.nodes c.args.top.node _ (c.node.ensures ∙ ap Some c.in-Name.is))
     c.body_node-body.ensures) c.see.new.cells c.in-Err.halt c.in-Err.ensures
 
-pub returns-then-top-gt0 : goal.returns-then-top-gt0
-returns-then-top-gt0 c = λ below fits. rw c.again.ensures
-    (plus_again _ _ _ c.start-start.ensures.sound below _ _ fits _ _
-    (shape_at c.args.peg.now.nodes c.args.top.node _ (c.node.ensures ∙ ap Some c.in-Plus.is)) c.if-top-gt0.true)
+pub see-requires-in-Star-clause-spells : goal.see-requires-in-Star-clause-spells
+see-requires-in-Star-clause-spells c = (child _ _ _ c.start-start.ensures.sound _ _ _ c.requires.fits.1 _ _
+    (asks_star _ _ _ c.start-start.ensures.sound _ _ _ c.requires.fits.1 _
+    (shape_at c.args.peg.now.nodes c.args.top.node _ (c.node.ensures ∙ ap Some c.in-Star.is)))).spelled
+
+pub see-requires-in-Star-clause-place : goal.see-requires-in-Star-clause-place
+see-requires-in-Star-clause-place c = (at_top _ _ _ c.start-start.ensures.sound _ _ _ c.requires.fits.1).high
+
+pub returns-in-Ok-see : goal.returns-in-Ok-see
+returns-in-Ok-see c = λ below fits. rw c.star.ensures
+    (star_on _ _ _ c.start-start.ensures.sound below _ _ fits _
+    (shape_at c.args.peg.now.nodes c.args.top.node _ (c.node.ensures ∙ ap Some c.in-Star.is)) _ _ c.in-Ok-see.ensures)
+
+pub returns-in-Err-see : goal.returns-in-Err-see
+returns-in-Err-see c = λ below fits.
+    halts _ _ _ c.start-start.ensures.sound below _ _ fits _ _
+    (asks_star _ _ _ c.start-start.ensures.sound below _ _ fits _
+    (shape_at c.args.peg.now.nodes c.args.top.node _ (c.node.ensures ∙ ap Some c.in-Star.is)))
+    c.see-in-Star.new.cells c.in-Err-see.halt c.in-Err-see.ensures
 
 pub see-requires-in-Plus-clause-spells : goal.see-requires-in-Plus-clause-spells
 see-requires-in-Plus-clause-spells c = (child _ _ _ c.start-start.ensures.sound _ _ _ c.requires.fits.1 _ _
@@ -68,14 +80,114 @@ see-requires-in-Plus-clause-spells c = (child _ _ _ c.start-start.ensures.sound 
 pub see-requires-in-Plus-clause-place : goal.see-requires-in-Plus-clause-place
 see-requires-in-Plus-clause-place c = (at_top _ _ _ c.start-start.ensures.sound _ _ _ c.requires.fits.1).high
 
-pub returns-in-Ok-see : goal.returns-in-Ok-see
-returns-in-Ok-see c = λ below fits. rw c.plus.ensures
+pub returns-in-Ok-see-2 : goal.returns-in-Ok-see-2
+returns-in-Ok-see-2 c = λ below fits. rw c.plus.ensures
     (plus_on _ _ _ c.start-start.ensures.sound below _ _ fits _ _
-    (shape_at c.args.peg.now.nodes c.args.top.node _ (c.node.ensures ∙ ap Some c.in-Plus.is)) _ _ c.in-Ok-see.ensures)
+    (shape_at c.args.peg.now.nodes c.args.top.node _ (c.node.ensures ∙ ap Some c.in-Plus.is)) _ _ c.in-Ok-see-2.ensures)
 
-pub returns-in-Err-see : goal.returns-in-Err-see
-returns-in-Err-see c = λ below fits.
+pub returns-in-Err-see-2 : goal.returns-in-Err-see-2
+returns-in-Err-see-2 c = λ below fits.
     halts _ _ _ c.start-start.ensures.sound below _ _ fits _ _
     (asks_plus _ _ _ c.start-start.ensures.sound below _ _ fits _ _
     (shape_at c.args.peg.now.nodes c.args.top.node _ (c.node.ensures ∙ ap Some c.in-Plus.is)))
-    c.see-in-Plus.new.cells c.in-Err-see.halt c.in-Err-see.ensures
+    c.see-in-Plus.new.cells c.in-Err-see-2.halt c.in-Err-see-2.ensures
+
+pub see-requires-in-Opt-clause-spells : goal.see-requires-in-Opt-clause-spells
+see-requires-in-Opt-clause-spells c = (child _ _ _ c.start-start.ensures.sound _ _ _ c.requires.fits.1 _ _
+    (asks_opt _ _ _ c.start-start.ensures.sound _ _ _ c.requires.fits.1 _
+    (shape_at c.args.peg.now.nodes c.args.top.node _ (c.node.ensures ∙ ap Some c.in-Opt.is)))).spelled
+
+pub see-requires-in-Opt-clause-place : goal.see-requires-in-Opt-clause-place
+see-requires-in-Opt-clause-place c = (at_top _ _ _ c.start-start.ensures.sound _ _ _ c.requires.fits.1).high
+
+pub returns-in-Ok-see-3 : goal.returns-in-Ok-see-3
+returns-in-Ok-see-3 c = λ below fits. rw c.opt.ensures
+    (opt_on _ _ _ c.start-start.ensures.sound below _ _ fits _
+    (shape_at c.args.peg.now.nodes c.args.top.node _ (c.node.ensures ∙ ap Some c.in-Opt.is)) _ _ c.in-Ok-see-3.ensures)
+
+pub returns-in-Err-see-3 : goal.returns-in-Err-see-3
+returns-in-Err-see-3 c = λ below fits.
+    halts _ _ _ c.start-start.ensures.sound below _ _ fits _ _
+    (asks_opt _ _ _ c.start-start.ensures.sound below _ _ fits _
+    (shape_at c.args.peg.now.nodes c.args.top.node _ (c.node.ensures ∙ ap Some c.in-Opt.is))) c.see-in-Opt.new.cells
+    c.in-Err-see-3.halt c.in-Err-see-3.ensures
+
+pub see-requires-in-And-clause-spells : goal.see-requires-in-And-clause-spells
+see-requires-in-And-clause-spells c = (child _ _ _ c.start-start.ensures.sound _ _ _ c.requires.fits.1 _ _
+    (asks_and _ _ _ c.start-start.ensures.sound _ _ _ c.requires.fits.1 _
+    (shape_at c.args.peg.now.nodes c.args.top.node _ (c.node.ensures ∙ ap Some c.in-And.is)))).spelled
+
+pub see-requires-in-And-clause-place : goal.see-requires-in-And-clause-place
+see-requires-in-And-clause-place c = (at_top _ _ _ c.start-start.ensures.sound _ _ _ c.requires.fits.1).high
+
+pub returns-in-Ok-see-4 : goal.returns-in-Ok-see-4
+returns-in-Ok-see-4 c = λ below fits. rw c.and.ensures
+    (and_on _ _ _ c.start-start.ensures.sound below _ _ fits _
+    (shape_at c.args.peg.now.nodes c.args.top.node _ (c.node.ensures ∙ ap Some c.in-And.is)) _ _ c.in-Ok-see-4.ensures)
+
+pub returns-in-Err-see-4 : goal.returns-in-Err-see-4
+returns-in-Err-see-4 c = λ below fits.
+    halts _ _ _ c.start-start.ensures.sound below _ _ fits _ _
+    (asks_and _ _ _ c.start-start.ensures.sound below _ _ fits _
+    (shape_at c.args.peg.now.nodes c.args.top.node _ (c.node.ensures ∙ ap Some c.in-And.is))) c.see-in-And.new.cells
+    c.in-Err-see-4.halt c.in-Err-see-4.ensures
+
+pub see-requires-in-Not-clause-spells : goal.see-requires-in-Not-clause-spells
+see-requires-in-Not-clause-spells c = (child _ _ _ c.start-start.ensures.sound _ _ _ c.requires.fits.1 _ _
+    (asks_not _ _ _ c.start-start.ensures.sound _ _ _ c.requires.fits.1 _
+    (shape_at c.args.peg.now.nodes c.args.top.node _ (c.node.ensures ∙ ap Some c.in-Not.is)))).spelled
+
+pub see-requires-in-Not-clause-place : goal.see-requires-in-Not-clause-place
+see-requires-in-Not-clause-place c = (at_top _ _ _ c.start-start.ensures.sound _ _ _ c.requires.fits.1).high
+
+pub returns-in-Ok-see-5 : goal.returns-in-Ok-see-5
+returns-in-Ok-see-5 c = λ below fits. rw c.not.ensures
+    (not_on _ _ _ c.start-start.ensures.sound below _ _ fits _
+    (shape_at c.args.peg.now.nodes c.args.top.node _ (c.node.ensures ∙ ap Some c.in-Not.is)) _ _ c.in-Ok-see-5.ensures)
+
+pub returns-in-Err-see-5 : goal.returns-in-Err-see-5
+returns-in-Err-see-5 c = λ below fits.
+    halts _ _ _ c.start-start.ensures.sound below _ _ fits _ _
+    (asks_not _ _ _ c.start-start.ensures.sound below _ _ fits _
+    (shape_at c.args.peg.now.nodes c.args.top.node _ (c.node.ensures ∙ ap Some c.in-Not.is))) c.see-in-Not.new.cells
+    c.in-Err-see-5.halt c.in-Err-see-5.ensures
+
+pub next_turn-requires-clause-spells : goal.next_turn-requires-clause-spells
+next_turn-requires-clause-spells c = (at_top _ _ _ c.start-start.ensures.sound _ _ _ c.requires.fits.1).spelled
+
+pub next_turn-requires-clause-place : goal.next_turn-requires-clause-place
+next_turn-requires-clause-place c = (at_top _ _ _ c.start-start.ensures.sound _ _ _ c.requires.fits.1).high
+
+pub next_turn-requires-clause-come : goal.next_turn-requires-clause-come
+next_turn-requires-clause-come c = (at_top _ _ _ c.start-start.ensures.sound _ _ _ c.requires.fits.1).come
+
+pub returns-in_default : goal.returns-in_default
+returns-in_default c = λ below fits. (_, _, stays _ _ _ c.start-start.ensures.sound below _ _ fits, c.next_turn.ensures)
+
+pub returns-then-top-gt0 : goal.returns-then-top-gt0
+returns-then-top-gt0 c = λ below fits. rw c.again.ensures
+    (star_again _ _ _ c.start-start.ensures.sound below _ _ fits _
+    (shape_at c.args.peg.now.nodes c.args.top.node _ (c.node.ensures ∙ ap Some c.in-Star.is)) c.if-top-gt0.true)
+
+pub returns-then-top-gt0-2 : goal.returns-then-top-gt0-2
+returns-then-top-gt0-2 c = λ below fits. rw c.again-then-top-gt0-2.ensures
+    (plus_again _ _ _ c.start-start.ensures.sound below _ _ fits _ _
+    (shape_at c.args.peg.now.nodes c.args.top.node _ (c.node.ensures ∙ ap Some c.in-Plus.is)) c.if-top-gt0-2.true)
+
+pub node-requires-in-Star : goal.node-requires-in-Star
+node-requires-in-Star c =
+    let operand = child _ _ _ c.start-start.ensures.sound _ _ _ c.requires.fits.1 _ _
+    (asks_star _ _ _ c.start-start.ensures.sound _ _ _ c.requires.fits.1 _
+    (shape_at c.args.peg.now.nodes c.args.top.node _ (c.node.ensures ∙ ap Some c.in-Star.is))) in
+    let there = is_there _ _ operand.spelled.1 in
+    omega (arith, there, length-map c.args.peg.now.nodes shape_of)
+
+pub repeat_byte-requires-clause-star : goal.repeat_byte-requires-clause-star
+repeat_byte-requires-clause-star c = shape_at c.args.peg.now.nodes c.args.top.node _
+    (c.node.ensures ∙ ap Some c.in-Star.is)
+
+pub repeat_byte-requires-clause-byte : goal.repeat_byte-requires-clause-byte
+repeat_byte-requires-clause-byte c =
+    byte_at (shapes_of c.args.peg.now.nodes) c.in-Star.operand (shape_of c.node-in-Star.result.now)
+    (shape_at c.args.peg.now.nodes c.in-Star.operand _ c.node-in-Star.ensures)
+    (c.takes_byte.ensures c.if-takes_byte.true)
