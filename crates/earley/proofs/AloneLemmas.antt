@@ -4,12 +4,10 @@ use Rattle.std.proofs.Common.{◌≡◌, ℕ, ◌+◌, ◌<◌, ◌⊎◌, inl, 
 use Rattle.std.proofs.Common.{subst, arith}
 use Rattle.flatgrammar.specs.Flat.{Node, Set, Place, at, Reading, Reads, reads, Calls, calls}
 use Rattle.flatgrammar.specs.Holds.{Holds, begins, called, has_read, returned}
-use Rattle.flatgrammar.specs.Places.{In}
 use Rattle.flatgrammar.specs.FlatViews.{node_of}
 use Rattle.flatgrammar.specs.NodeSteps as meaning
 use Rattle.flatgrammar.specs.NodeSteps.{flat_of, callee}
 use Rattle.flatgrammar.specs.declared.flat_item.Item.{Item}
-use Rattle.flatgrammar.specs.declared.flat_node.Node as code_node
 use Rattle.flatgrammar.specs.declared.inner.Inner.{Inner}
 use Rattle.flatgrammar.specs.declared.tables.Tables as code_flat
 use Rattle.flatgrammar.specs.TableViews.{root_in, rooted, called_by, call_of, count_in}

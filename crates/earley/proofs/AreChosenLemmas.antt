@@ -1,7 +1,7 @@
 -- Of the items of a set those that are chosen, item by item.
 -- Serves: judge.
 use Rattle.std.proofs.Common.{◌≡◌, ℕ, ◌+◌, ◌<◌, ◌≤◌, ◌⊎◌, inl, inr, List, [], ◌∷◌, ◌++◌, Some, length, take, arith}
-use Rattle.std.proofs.Common.{slice_get, slice_index_or, map, ap, sym, ◌∙◌, subst}
+use Rattle.std.proofs.Common.{slice_get, slice_index_or, ap, sym, ◌∙◌, subst}
 use Rattle.flatgrammar.specs.Places.{In}
 use Rattle.flatgrammar.specs.declared.flat_item.Item.{Item}
 use Rattle.flatgrammar.specs.declared.tables.Tables as code_flat

@@ -331,6 +331,14 @@ impl Items {
         self.look(item, home)
     }
 
+    /// Adds an item unless it is there, which is seldom. `Memory` if an allocation fails.
+    #[inline(never)]
+    pub(crate) fn add_new(&mut self, item: Item, home: usize) -> Result<(), Memory>
+        ensures { IfOk result (λ done. Adds (λ a. a ≡ item) self.old self.new) }
+    {
+        self.look(item, home)
+    }
+
     // Adds an item unless it is there.
     #[inline(always)]
     fn look(&mut self, item: Item, home: usize) -> Result<(), Memory>

@@ -27,7 +27,7 @@ fn read_one(
     ensures { IfOk result (λ done. Adds (IsRead flat.now value (item ∷ [])) set.old set.new) }
 {
     if reads(flat, item, value) {
-        set.add(
+        set.add_new(
             Item {
                 node: item.node,
                 step: item.step + 1,

@@ -1,5 +1,4 @@
-use Rattle.std.proofs.Common.{◌≡◌, ◌-◌, ◌<◌, ◌≤◌, Some, ap, sym, subst, ◌∙◌, arith, slice_index_or, length}
-use Rattle.flatgrammar.specs.Places.{In}
+use Rattle.std.proofs.Common.{◌-◌, Some, ap, ◌∙◌, arith, slice_index_or}
 use Rattle.earley.proofs.ItemRowsLemmas.{get_in, get_index}
 use Rattle.earley.proofs.items.is_near.Goals as goal
 

@@ -1,4 +1,4 @@
-use Rattle.std.proofs.Common.{◌∙◌, ◌++◌, ap, sym, subst, map, take, arith, slice_index_or}
+use Rattle.std.proofs.Common.{◌∙◌, ◌++◌, ap, subst, map, take, arith, slice_index_or}
 use Rattle.flatgrammar.specs.Blocks.{block_of, item_at}
 use Rattle.earley.specs.FrontViews.{expand}
 use Rattle.earley.specs.Waiting.{AreWaiting}
