@@ -16,8 +16,8 @@ TOP = pathlib.Path(__file__).resolve().parent.parent
 OTHERS = r"ensures|invariant|loop|safe|ends|requires of [\w.]+"
 # Traits whose methods need no edit of their own.
 PLAIN_TRAITS = ("From", "Model", "Display", "Drop")
-# Crates that show how to call the others: no one calls them, so they need no edits.
-EXAMPLES = ("callers",)
+# Crates that show how to call the others, or that tests alone call: they need no edits.
+EXAMPLES = ("callers", "fakes")
 # Functions of which no wrong body can be written: they lend a field of a type of which no other value is at hand, or
 # make a value of which there is only one that takes no memory.
 EXEMPT = ("abnfcheck: SoundAbnf.rules", "earley: Chart.new", "flatgrammar: Flat.share",

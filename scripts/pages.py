@@ -20,8 +20,8 @@ from contract_index import OWNER, TOP, definitions, functions, head_end, owner_o
 from crates import in_order
 
 PAGES = TOP / "docs" / "crates"
-# Crates that no one calls: they show how to call the others, or test them.
-NO_LIBRARY = ("callers", "known_answers", "known_runs")
+# Crates that show how to call the others, or test them.
+NO_LIBRARY = ("callers", "fakes", "known_answers", "known_runs")
 BLOCK = re.compile(r"<!-- (contracts:[^>]*|callers|laws|definitions) -->\n.*?<!-- end -->", re.S)
 EXPORT = re.compile(r"^pub use (\w+)::(?:(\w+(?: as \w+)?);|\{(.*?)\};)", re.M | re.S)
 DECLARED = r"^pub (?:struct|enum|trait|const|static) {}\b"

@@ -1,53 +1,38 @@
 //! The public calls, on examples whose answers are known from outside.
-ghost use Rattle.std.specs.Prelude.{Some};
 
+use fakes::{Paper, Takes};
 use ruletable::{
     ByteSet, Defined, LineRule, Memory, NameCase, Note, NoteKind, ReadFault, RuleTable, Sink,
     SinkOf, Span, line_of, union_of_runs, write_fault, write_note, write_number, write_pieces,
     write_whole,
 };
 use std::alloc::Global;
-use std::io;
-use std::io::Write;
+use std::cell::Cell;
 use std::test::Fail;
 
-// A writer that takes two bytes a call, and three in all. Then it fails, or takes nothing.
-#[derive(Drop)]
-struct Paper {
-    taken: Vec<u8>,
-    fails: bool,
-}
-
-impl Write for Paper {
-    ghost contents = { λ p. Some p.taken.items };
-
-    fn write(&mut self, buf: &[u8]) -> io::Result<usize> {
-        let n = 3usize
-            .saturating_sub(self.taken.len())
-            .min(2)
-            .min(buf.len());
-        if n == 0 && self.fails {
-            return Err(io::Error::other("no more room"));
-        }
-        self.taken.extend_from_slice(&buf[..n])?;
-        Ok(n)
-    }
-
-    fn flush(&mut self) -> io::Result<()> {
-        Err(io::Error::other("no flush"))
-    }
-}
+// How a writer of three bytes ends: it fails, or it takes nothing more. It cannot be flushed.
+static WRITERS: [Takes; 2] = [
+    Takes {
+        room: 3,
+        fails: true,
+        flushes: false,
+    },
+    Takes {
+        room: 3,
+        fails: false,
+        flushes: false,
+    },
+];
 
 #[test]
 fn a_failing_writer_keeps_a_beginning_and_sets_the_flag(rt: HostRuntime) {
-    for fails in [true, false] {
-        let taken = Vec::new(rt.alloc());
-        let mut sink = SinkOf::new(Paper { taken, fails });
+    let clock = Cell::new(0);
+    for takes in &WRITERS {
+        let mut sink = SinkOf::new(Paper::new(rt.alloc(), 2, &clock, *takes));
         assert!(rt; write_whole(&mut sink, b"abcde").is_err() && sink.has_failed());
         assert!(rt; sink.into_inner().taken.as_slice() == b"abc".as_slice());
     }
-    let taken = Vec::new(rt.alloc());
-    let mut sink = SinkOf::new(Paper { taken, fails: true });
+    let mut sink = SinkOf::new(Paper::new(rt.alloc(), 2, &clock, WRITERS[0]));
     assert!(rt; sink.flush().is_err() && sink.has_failed());
 }
 

@@ -1,6 +1,6 @@
 //! Whole runs of the ABNF tool: lines, their answers, notes, and where a run ends.
 
-use crate::fakes::{Ends, run_over, settings_of};
+use crate::ends::{Ends, run_over, settings_of};
 use abnfrun::{one_reply_of_abnf, one_statement_of_abnf};
 use commands::Program;
 use gramtools::{Alphabet, Mode, Status};

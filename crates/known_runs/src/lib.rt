@@ -13,7 +13,7 @@ mod command_rows;
 #[cfg(test)]
 mod command_words;
 #[cfg(test)]
-mod fakes;
+mod ends;
 #[cfg(test)]
 mod repeat_rows;
 #[cfg(test)]

@@ -1,6 +1,6 @@
 //! Whole runs, over readers and writers in memory that give and take a few bytes a call.
 
-use crate::fakes::{Ends, run_over, settings_of};
+use crate::ends::{Ends, run_over, settings_of};
 use commands::Program;
 use gramtools::{Mode, Status, one_reply, one_statement};
 use std::process::Abort;

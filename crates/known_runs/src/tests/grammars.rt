@@ -1,6 +1,6 @@
 //! Runs that read nothing: grammars that are refused, checked alone or printed, and what is said of them.
 
-use crate::fakes::{Ends, run_over, settings_of};
+use crate::ends::{Ends, run_over, settings_of};
 use commands::Program;
 use gramtools::{DEFAULT_LIMIT, Mode, Settings, Status};
 use std::alloc::Global;

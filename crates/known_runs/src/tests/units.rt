@@ -1,7 +1,7 @@
 //! Units of an input: what they print, where the run ends, and how many bytes it takes.
 
 use super::{Row, USERNAME, check_rows};
-use crate::fakes::{Ends, run_over, settings_of};
+use crate::ends::{Ends, run_over, settings_of};
 use commands::Program;
 use gramtools::{DEFAULT_LIMIT, Mode, Settings, Status};
 use std::test::Fail;

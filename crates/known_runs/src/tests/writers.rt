@@ -1,8 +1,9 @@
 //! Writers that fail at a byte or in a flush, and notes that stand before a run.
 
 use super::USERNAME;
-use crate::fakes::{ALL, Ended, Ends, Takes, run_over, settings_of};
+use crate::ends::{Ended, Ends, run_over, settings_of};
 use commands::Program;
+use fakes::{ALL, Takes};
 use gramtools::{DEFAULT_LIMIT, Mode, Status};
 use std::alloc::Global;
 use std::process::Abort;
@@ -31,16 +32,13 @@ fn run_row(alloc: Global, row: &Written, out: Takes, err: Takes) -> Ended {
 
 /// An output that fails once it holds so many bytes.
 fn with_room(room: usize) -> Takes {
-    Takes {
-        room,
-        flushes: true,
-    }
+    Takes { room, ..ALL }
 }
 
 /// An output that cannot be flushed.
 const UNFLUSHED: Takes = Takes {
-    room: usize::MAX,
     flushes: false,
+    ..ALL
 };
 
 const PLAIN: Written = (
