@@ -16,6 +16,7 @@ pub struct Comments;
 
 impl Judge<()> for Comments {
     ghost told = { λ _ line said. IsCommentAnswer line said };
+
     ghost served = { λ _. 65536 };
 
     fn judge(&self, _work: &mut (), line: &[u8]) -> Result<Answer, Memory> {
