@@ -136,6 +136,7 @@ fn judge_points(judges: &LineJudge<'_>, work: &mut Work, line: &[u8]) -> Result<
 
 impl Judge<Work> for LineJudge<'_> {
     ghost told = { λ j. IsAnswerTo j.letters j.viable (rules_of j.grammar.now.rules) j.grammar.now.judged };
+
     ghost served = { λ j. j.flat.limit };
 
     fn judge(&self, work: &mut Work, line: &[u8]) -> Result<Answer, Memory> {
