@@ -1,9 +1,6 @@
 -- The line's bytes are its letters.
-use Rattle.std.proofs.Common.{◌↔◌, ℕ, Bool, List, Result, Ok, Err, IfOk, IsTrue, map-id}
-use Rattle.abnfcheck.specs.Derivable.{RuleDerives}
+use Rattle.std.proofs.Common.{Bool, Result, Ok, Err, IfOk, map-id}
 use Rattle.abnfread.specs.AbnfViews.{rules_of}
-use Rattle.letters.specs.Letters.{has}
-use Rattle.letters.specs.declared.alphabet.Alphabet.TheVariants.{Bytes}
 use Rattle.callers.proofs.judge_caller.derives.Goals as goal
 
 told_as : {E : Type 0} (r : Result Bool E) (P Q : Bool → Type 0) → ((b : Bool) → P b → Q b) → IfOk r P → IfOk r Q
