@@ -11,5 +11,6 @@ pub returns : goal.returns
 returns c =
     let rules = rules_of c.args.grammar.now.rules in
     let judged = c.args.grammar.now.judged in
-    told_as c.judge.result _ _
-    (λ yes told. rw (map-id c.args.line.now) at (told rules judged c.in_ok-flat.ensures.lowered)) c.judge.ensures.derives
+    let lowered = c.in_ok-flat.ensures.lowered in
+    told_as c.judge.result _ _ (λ yes told. rw (map-id c.args.line.now) at (told rules judged lowered))
+    c.judge.ensures.derives
