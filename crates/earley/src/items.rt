@@ -305,13 +305,6 @@ impl Items {
         self.list[index]
     }
 
-    /// Returns the items.
-    pub(crate) fn list(&self) -> &[Item]
-        ensures { result.now ≡ self.now }
-    {
-        &self.list
-    }
-
     /// Returns the home of the item at that index.
     pub(crate) fn home(&self, index: usize) -> usize {
         match self.homes.get(index) {

@@ -1,5 +1,5 @@
 //! Numbered nodes.
-ghost use Rattle.std.specs.Prelude.{◌≡◌, ◌↔◌, ◌+◌, ◌^◌, ◌<◌, ℕ, IsTrue};
+ghost use Rattle.std.specs.Prelude.{◌≡◌, ◌≢◌, ◌↔◌, ◌+◌, ◌^◌, ◌<◌, None, IsTrue};
 ghost use Rattle.abnfcheck.specs.Derivable.{small};
 ghost use Rattle.flatgrammar.specs.Flat.{Has, Rep, Turns};
 ghost use Rattle.flatgrammar.specs.FlatViews.{set_of, node_of};
@@ -193,7 +193,7 @@ pub(crate) fn takes(node: &Node) -> bool
 /// Tells whether a step may read a letter.
 #[inline(always)]
 pub(crate) fn may_read(node: &Node, step: usize) -> bool
-    ensures { (c : ℕ) → IfSomeSet (read_at (node_of node.now) step) c → IsTrue result }
+    ensures { IsTrue result ↔ (read_at (node_of node.now) step ≢ None) }
 {
     match node {
         Node::Letters(sets) => step < sets.len(),

@@ -25,6 +25,6 @@ pub use item_laws::{items_at_most, items_tell};
 pub use lowered::{lower, lower_rules};
 pub use spot_list::SpotList;
 pub use tables::{
-    Deed, Tables, asking, call, calls, deed_of, done, null, passes, readers, reads, sole_caller,
-    spots, takes_letter, whole_root,
+    Deed, Tables, asking, call, calls, deed_of, null, passes, readers, reads, sole_caller, spots,
+    takes_letter, whole_root,
 };

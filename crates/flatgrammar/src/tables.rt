@@ -1,5 +1,5 @@
 //! The tables of a lowered grammar, by node.
-ghost use Rattle.std.specs.Prelude.{◌≡◌, ◌↔◌, ◌+◌, ◌^◌, ◌<◌, ℕ, IsTrue};
+ghost use Rattle.std.specs.Prelude.{◌≡◌, ◌≢◌, ◌↔◌, ◌+◌, ◌^◌, ◌<◌, None, IsTrue};
 ghost use Rattle.flatgrammar.specs.NodeSteps.{IfSomeSet};
 ghost use Rattle.flatgrammar.specs.TableViews.{call_of, done_of, null_of, takes_of, read_of, rooted, whole_root};
 ghost use Rattle.flatgrammar.specs.Blocks.{block_of, inner_of, lists_of, readers_of as the_readers_of};
@@ -27,27 +27,25 @@ pub struct Tables {
     pub limit: usize,
 }
 
+// Returns the root of a called node, and the step after it.
+#[inline(always)]
+fn rooted(flat: &Tables, called: Option<(usize, usize)>) -> Option<(usize, usize)>
+    ensures { result ≡ rooted flat.now.roots.items called }
+{
+    let (node, next) = called?;
+    match flat.roots.get(node) {
+        Some(Some(found)) => Some((*found, next)),
+        _ => None,
+    }
+}
+
 /// Returns the root that an item's place calls, and the step after it.
 #[inline(always)]
 pub fn call(flat: &Tables, item: Item) -> Option<(usize, usize)>
     ensures { result ≡ call_of flat.now item }
 {
     let node = flat.nodes.get(item.node)?;
-    let (called, next) = callee(node, item.step)?;
-    match flat.roots.get(called) {
-        Some(Some(root)) => Some((*root, next)),
-        _ => None,
-    }
-}
-
-/// Tells whether an item's node is done at its step.
-pub fn done(flat: &Tables, item: Item) -> bool
-    ensures { result ≡ done_of flat.now item }
-{
-    match flat.nodes.get(item.node) {
-        None => false,
-        Some(node) => is_done(node, item.step),
-    }
+    rooted(flat, callee(node, item.step))
 }
 
 /// Tells whether what an item's place calls has to take a letter.
@@ -70,25 +68,13 @@ pub struct Deed {
     pub reads: bool,
 }
 
-// Returns the root of a called node, and the step after it.
-#[inline(always)]
-fn rooted(flat: &Tables, called: Option<(usize, usize)>) -> Option<(usize, usize)>
-    ensures { result ≡ rooted flat.now.roots.items called }
-{
-    let (node, next) = called?;
-    match flat.roots.get(node) {
-        Some(Some(found)) => Some((*found, next)),
-        _ => None,
-    }
-}
-
 /// Returns what an item's place does. It looks the node up once.
 #[inline(always)]
 pub fn deed_of(flat: &Tables, item: Item) -> Deed
     ensures called { result.called ≡ call_of flat.now item }
     ensures done { result.done ≡ done_of flat.now item }
     ensures takes { result.takes ≡ takes_of flat.now item }
-    ensures reads { (c : ℕ) → IfSomeSet (read_of flat.now item) c → IsTrue result.reads }
+    ensures reads { IsTrue result.reads ↔ (read_of flat.now item ≢ None) }
 {
     match flat.nodes.get(item.node) {
         None => Deed {

@@ -1,5 +1,5 @@
 -- The marked nodes are those whose expressions may print, and other expressions leave no events behind.
--- Serves: check_peg, is_silent, replay
+-- Serves: check_peg, is_silent, replay, silent_leaves_no_event
 use Rattle.std.proofs.Common.{◌≡◌, ℕ, List, [], ◌∷◌, ◌++◌, length, Contains, refl, sym, ap, subst, ◌∙◌, arith}
 use Rattle.std.proofs.Common.{⊎_elim, Bool}
 use Rattle.std.proofs.Common.{inl, inr, ◌⊎◌, Some, option_to_list}

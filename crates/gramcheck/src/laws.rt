@@ -1,9 +1,10 @@
 //! Laws of what expressions give at a place, and start rules at the front of an input.
-ghost use Rattle.std.specs.Prelude.{◌≡◌, ℕ, ◌<◌, ◌≤◌, ◌++◌, List, length};
+ghost use Rattle.std.specs.Prelude.{◌≡◌, ℕ, ◌<◌, ◌≤◌, ◌++◌, List, [], length};
 ghost use Rattle.pegread.specs.Pattern.{Pattern, Rule};
 ghost use Rattle.pegread.specs.PegViews.{rules_of};
 ghost use Rattle.gramcheck.specs.Grammar.{Grammar, IsSoundGrammar};
 ghost use Rattle.gramcheck.specs.Outcome.{Event, Outcome, Gives, RuleGives};
+ghost use Rattle.gramcheck.specs.Printing.{Prints};
 ghost use Rattle.gramcheck.specs.Rising.{Rise};
 ghost use Rattle.gramcheck.specs.Within.{StandsIn};
 
@@ -24,6 +25,12 @@ pub fn one_outcome_of_start()
 pub fn events_rise()
     ensures { (rules : List Rule) (x : List ℕ) (e : Pattern) (p q k : ℕ) (events : List Event) →
         p ≤ length x → Gives rules x e p (Outcome.Takes q events) k → Rise p q events × (q ≤ length x) }
+{}
+
+/// An expression that may not print leaves no event behind, wherever it succeeds.
+pub fn silent_leaves_no_event()
+    ensures { (rules : List Rule) (x : List ℕ) (e : Pattern) (p q k : ℕ) (events : List Event) →
+        (Prints rules e → ⊥) → Gives rules x e p (Outcome.Takes q events) k → events ≡ [] }
 {}
 
 /// The places of the events of a start rule's success stand in order, and it ends within the input.

@@ -19,8 +19,8 @@ mod uses;
 pub use check::{Checked, check_peg};
 pub use laws::{
     events_rise, events_rise_of_start, longer_input, longer_input_of_start, one_outcome,
-    one_outcome_of_start, shorter_input, shorter_input_of_start, some_outcome,
-    some_outcome_of_start,
+    one_outcome_of_start, shorter_input, shorter_input_of_start, silent_leaves_no_event,
+    some_outcome, some_outcome_of_start,
 };
 pub use node::Node;
 pub use notes::{one_list_of_notes, redefinitions};

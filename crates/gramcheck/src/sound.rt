@@ -126,8 +126,8 @@ impl SoundPeg {
     }
 
     /// Tells whether the node of that number is silent: whether no action and no end of a capture is in it, in its
-    /// operands or in the rules that these name, but for those of predicates. A success of a silent node leaves no
-    /// event behind. The number must be less than `nodes()`.
+    /// operands or in the rules that these name, but for those of predicates. The law
+    /// `silent_leaves_no_event` says what that means for a success. The number must be less than `nodes()`.
     pub fn is_silent(&self, n: usize) -> bool
         requires { n < length self.now.nodes }
         ensures { (e : Pattern) → Spells (rules_of self.now.rules) (shapes_of self.now.nodes) n e →

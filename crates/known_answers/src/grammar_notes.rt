@@ -4,7 +4,7 @@ use gramcheck::{
     Node, SoundPeg, check_peg, events_rise, events_rise_of_start, exactly_one_outcome,
     exactly_one_outcome_of_start, longer_input, longer_input_of_start, one_list_of_notes,
     one_outcome, one_outcome_of_start, ranks_fall, shorter_input, shorter_input_of_start,
-    some_outcome, some_outcome_of_ranked, some_outcome_of_start,
+    silent_leaves_no_event, some_outcome, some_outcome_of_ranked, some_outcome_of_start,
 };
 use pegread::read_peg;
 use ruletable::{SinkOf, write_note};
@@ -393,6 +393,7 @@ fn laws_return() {
     longer_input_of_start();
     shorter_input();
     shorter_input_of_start();
+    silent_leaves_no_event();
     ranks_fall();
     some_outcome();
     some_outcome_of_start();
