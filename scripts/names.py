@@ -17,11 +17,6 @@ MIRRORS = {"Answers.antt", "Invariants.antt", "Proof.antt", "Lib.antt"}
 NOUNS = {"Nothing", "Spelling", "String"}
 # Participles that do not end in `ed`.
 PARTICIPLES = {"Begun", "Chosen", "Kept", "Left", "Made", "Read", "Said", "Taken", "Told", "Written"}
-# Crates whose lemmas all have names of two words or more.
-NAMED = {
-    "commands", "feed", "gramtools", "leastset", "letters", "lexer", "pegi", "pegread", "rulenames", "ruletable",
-    "toolrun",
-}
 # What begins a block: its lines stand further in.
 BLOCK = re.compile(r"(?:(?:pub|unfoldable) )*(?:(abbrev) )?(?:pub )?(?:(data|record)|module|mutual)\b(?! *\{)")
 # A name of one word, and what it says, which may begin on the next line.
@@ -131,10 +126,10 @@ def lemmas_of_one_word(lines):
 
 
 def of_short_names(top, files):
-    """Yields the lemmas whose name has one word, where the crate has none."""
+    """Yields the lemmas whose name has one word."""
     for path in files:
         parts = path.parts
-        if parts[0] != "crates" or parts[1] not in NAMED or parts[2] != "proofs" or path.name in MIRRORS:
+        if parts[0] != "crates" or len(parts) < 4 or parts[2] != "proofs" or path.name in MIRRORS:
             continue
         if path.suffix == ".antt":
             for number, name in lemmas_of_one_word((top / path).read_text().splitlines()):

@@ -148,21 +148,21 @@ module _ (aim : Aim) (is : aim ≡ Empty) (has : ℕ → Bool) (rules : List Rul
 
 module _ (aim : Aim) (alphabet : Alphabet) (is : aim ≡ Letters alphabet) (has : ℕ → Bool) (rules : List Rule)
     (asked : IsTestOf aim has) where
-  test : has ≡ in_alphabet alphabet
-  test = subst (λ v. IsTestOf v has) is asked
+  test_of_alphabet : has ≡ in_alphabet alphabet
+  test_of_alphabet = subst (λ v. IsTestOf v has) is asked
 
   pub text_told : (folds : Bool) (t : List ℕ) → ((i : ℕ) → get_or t i 0 < 256) → IsTrue true
       ↔ Yields has rules aim (e.Text folds t)
-  text_told folds t bytes = rw is ((λ on. text_yields alphabet has test rules folds t bytes), (λ y. refl))
+  text_told folds t bytes = rw is ((λ on. text_yields alphabet has test_of_alphabet rules folds t bytes), (λ y. refl))
 
   pub values_told : (vs : List ℕ) (met : Bool) → (IsTrue met ↔ AreLetters (in_alphabet alphabet) vs) → IsTrue met
       ↔ Yields has rules aim (e.Values vs)
-  values_told vs met tells = rw is (let y = values_yield alphabet has test rules vs in
+  values_told vs met tells = rw is (let y = values_yield alphabet has test_of_alphabet rules vs in
       ((λ on. y.0 (tells.0 on)), (λ d. tells.1 (y.1 d))))
 
   pub range_told : (low high : ℕ) (met : Bool) → (IsTrue met ↔ HasLetter (in_alphabet alphabet) low high) → IsTrue met
       ↔ Yields has rules aim (e.Range low high)
-  range_told low high met tells = rw is (let y = range_yields alphabet has test rules low high in
+  range_told low high met tells = rw is (let y = range_yields alphabet has test_of_alphabet rules low high in
       ((λ on. y.0 (tells.0 on)), (λ d. tells.1 (y.1 d))))
 
 -- values, one after another

@@ -121,8 +121,8 @@ module _ (more : ℕ → Bool) (x : List ℕ) where
       letters : AreLetters more rest
       derives : RuleDerives has rules id (x ++ rest)
 
-    longer : RulePath has rules (length x) goes goes_within id 0 (length x) → Longer
-    longer r =
+    longer_member : RulePath has rules (length x) goes goes_within id 0 (length x) → Longer
+    longer_member r =
         let p = parts_of r.path refl in
         let whole : p.front ≡ x = lies_one_word x p.lies (all_of x) in
         record {
@@ -132,8 +132,8 @@ module _ (more : ℕ → Bool) (x : List ℕ) where
               (subst (λ v. RuleDerives has rules id v) (sym p.parts) r.derives);
         }
 
-    leads : Longer → RulePath has rules (length x) goes goes_within id 0 (length x)
-    leads l = record {
+    path_of_longer : Longer → RulePath has rules (length x) goes goes_within id 0 (length x)
+    path_of_longer l = record {
       word = x ++ l.rest;
       path = paths_join Goes (lies_path (all_of x)) (letters_path l.rest l.letters);
       derives = l.derives;
@@ -145,8 +145,8 @@ module _ (more : ℕ → Bool) (x : List ℕ) where
       where
         by : (said : Bool) → Says (RulePath has rules (length x) goes goes_within id 0 (length x)) said → (yes : Bool)
             × Says Longer yes
-        by true r = (true, longer r)
-        by false none = (false, λ l. none (leads l))
+        by true r = (true, longer_member r)
+        by false none = (false, λ l. none (path_of_longer l))
 
 abbrev nothing : ℕ → Bool
 nothing c = false

@@ -584,9 +584,9 @@ module _ (has : ℕ → Bool) (rules : List Rule) (last : ℕ) (goes : ℕ → �
 
   module _ (s : Fact → Bool) (closed : (f : Fact) → Listed f (facts (last + 1) (universe rules)) → grow s f ≡ true
       → s f ≡ true) where
-    comes : (d : Element) (i j : ℕ) → Listed d (universe rules) → i ≤ last → j ≤ last → grows s d i j ≡ true
+    grown_in_set : (d : Element) (i j : ℕ) → Listed d (universe rules) → i ≤ last → j ≤ last → grows s d i j ≡ true
         → s (fact d i j) ≡ true
-    comes d i j h a b g = closed (fact d i j) (in_facts (last + 1) i j (universe rules) d (omega (arith, a))
+    grown_in_set d i j h a b g = closed (fact d i j) (in_facts (last + 1) i j (universe rules) d (omega (arith, a))
         (omega (arith, b)) h) g
 
     text_read : {folds : Bool} {t w : List ℕ} (i j : ℕ) → Spelled folds t w → IsPath Goes i w j
@@ -617,33 +617,35 @@ module _ (has : ℕ → Bool) (rules : List Rule) (last : ℕ) (goes : ℕ → �
         (and_true (s (fact d i m)) (s (fact c m j)) one two)
 
     mutual
-      derived : {d : Element} {w : List ℕ} → Derives has rules d w → (i j : ℕ) → IsPath Goes i w j
+      derived_in_set : {d : Element} {w : List ℕ} → Derives has rules d w → (i j : ℕ) → IsPath Goes i w j
           → Listed d (universe rules) → i ≤ last → j ≤ last → s (fact d i j) ≡ true
-      derived (der.text {folds = folds} {t = t} h) i j l at a b = comes (e.Text folds t) i j at a b (text_read i j h l)
-      derived (der.values {vs = vs} h) i j l at a b = comes (e.Values vs) i j at a b (values_read vs i j h l)
-      derived (der.range {low = low} {high = high} {c = c} p q h) i j l at a b =
-          comes (e.Range low high) i j at a b (range_read low high i j c p q h l)
-      derived (der.concat d) i j l at a b = all_derived d i j l at a b
-      derived (der.alt d) i j l at a b = some_derived d i j l at a b
-      derived (der.rep {a = least} {k = k} {b = most} low high d) i j l at a b =
+      derived_in_set (der.text {folds = folds} {t = t} h) i j l at a b =
+          grown_in_set (e.Text folds t) i j at a b (text_read i j h l)
+      derived_in_set (der.values {vs = vs} h) i j l at a b =
+          grown_in_set (e.Values vs) i j at a b (values_read vs i j h l)
+      derived_in_set (der.range {low = low} {high = high} {c = c} p q h) i j l at a b =
+          grown_in_set (e.Range low high) i j at a b (range_read low high i j c p q h l)
+      derived_in_set (der.concat d) i j l at a b = all_derived d i j l at a b
+      derived_in_set (der.alt d) i j l at a b = some_derived d i j l at a b
+      derived_in_set (der.rep {a = least} {k = k} {b = most} low high d) i j l at a b =
           times_derived d i j l least most low high at a b
-      derived (der.opt_empty {e = d}) i j l at a b =
-          comes (e.Opt d) i j at a b (or_first (eqb i j) (s (fact d i j)) (eq-eqb i j (empty_path_stays l)))
-      derived (der.opt {e = d} h) i j l at a b =
-          comes (e.Opt d) i j at a b (or_second (eqb i j) (s (fact d i j))
-          (derived h i j l (universe_parts rules (e.Opt d) d at operand) a b))
-      derived (der.name {n = n} {e = d} is h) i j l at a b =
-          comes (e.Name n) i j at a b (rw is (derived h i j l (named_in rules n d is) a b))
+      derived_in_set (der.opt_empty {e = d}) i j l at a b =
+          grown_in_set (e.Opt d) i j at a b (or_first (eqb i j) (s (fact d i j)) (eq-eqb i j (empty_path_stays l)))
+      derived_in_set (der.opt {e = d} h) i j l at a b =
+          grown_in_set (e.Opt d) i j at a b (or_second (eqb i j) (s (fact d i j))
+          (derived_in_set h i j l (universe_parts rules (e.Opt d) d at operand) a b))
+      derived_in_set (der.name {n = n} {e = d} is h) i j l at a b =
+          grown_in_set (e.Name n) i j at a b (rw is (derived_in_set h i j l (named_in rules n d is) a b))
 
       all_derived : {es : Elements} {w : List ℕ} → DerivesAll has rules es w → (i j : ℕ) → IsPath Goes i w j
           → Listed (e.Concat es) (universe rules) → i ≤ last → j ≤ last →
           s (fact (e.Concat es) i j) ≡ true
-      all_derived all_done i j l at a b = comes (e.Concat e.none) i j at a b (eq-eqb i j (empty_path_stays l))
+      all_derived all_done i j l at a b = grown_in_set (e.Concat e.none) i j at a b (eq-eqb i j (empty_path_stays l))
       all_derived (then {e = d} {es = es} {w = w} h hs) i j l at a b =
           let c = path_splits Goes w l in
           let mid = path_stays c.left a in
-          comes (e.Concat (e.more d es)) i j at a b (both_come d (e.Concat es) i c.mid j mid
-          (derived h i c.mid c.left (universe_parts rules (e.Concat (e.more d es)) d at concat_first) a mid)
+          grown_in_set (e.Concat (e.more d es)) i j at a b (both_come d (e.Concat es) i c.mid j mid
+          (derived_in_set h i c.mid c.left (universe_parts rules (e.Concat (e.more d es)) d at concat_first) a mid)
           (all_derived hs c.mid j c.right (universe_parts rules (e.Concat (e.more d es)) (e.Concat es) at concat_rest)
           mid b))
 
@@ -651,27 +653,27 @@ module _ (has : ℕ → Bool) (rules : List Rule) (last : ℕ) (goes : ℕ → �
           → Listed (e.Alt es) (universe rules) → i ≤ last → j ≤ last →
           s (fact (e.Alt es) i j) ≡ true
       some_derived (this {e = d} {es = es} h) i j l at a b =
-          comes (e.Alt (e.more d es)) i j at a b (or_first (s (fact d i j)) (s (fact (e.Alt es) i j))
-          (derived h i j l (universe_parts rules (e.Alt (e.more d es)) d at alt_first) a b))
+          grown_in_set (e.Alt (e.more d es)) i j at a b (or_first (s (fact d i j)) (s (fact (e.Alt es) i j))
+          (derived_in_set h i j l (universe_parts rules (e.Alt (e.more d es)) d at alt_first) a b))
       some_derived (later {e = d} {es = es} h) i j l at a b =
-          comes (e.Alt (e.more d es)) i j at a b (or_second (s (fact d i j)) (s (fact (e.Alt es) i j))
+          grown_in_set (e.Alt (e.more d es)) i j at a b (or_second (s (fact d i j)) (s (fact (e.Alt es) i j))
           (some_derived h i j l (universe_parts rules (e.Alt (e.more d es)) (e.Alt es) at alt_rest) a b))
 
       times_derived : {d : Element} {k : ℕ} {w : List ℕ} → DerivesTimes has rules d k w → (i j : ℕ) → IsPath Goes i w j
           → (least : ℕ) (most : Option ℕ) → least ≤ k → der.Within k most →
           Listed (e.Rep least most d) (universe rules) → i ≤ last → j ≤ last → s (fact (e.Rep least most d) i j) ≡ true
-      times_derived (no_more {e = d}) i j l least most low high at a b = comes (e.Rep least most d) i j at a b
+      times_derived (no_more {e = d}) i j l least most low high at a b = grown_in_set (e.Rep least most d) i j at a b
           (or_first (leb least 0 && eqb i j) (may most && both s d (e.Rep (least - 1) (less most) d) i j)
           (and_true (leb least 0) (eqb i j) (le-leb least 0 low) (eq-eqb i j (empty_path_stays l))))
       times_derived (one_more {e = d} {k = k} {w = w} h hs) i j l least most low high at a b =
           let c = path_splits Goes w l in
           let mid = path_stays c.left a in
           let left = less_within k most high in
-          comes (e.Rep least most d) i j at a b (or_second (leb least 0 && eqb i j)
+          grown_in_set (e.Rep least most d) i j at a b (or_second (leb least 0 && eqb i j)
           (may most && both s d (e.Rep (least - 1) (less most) d) i j)
           (and_true (may most) (both s d (e.Rep (least - 1) (less most) d) i j) left.0
           (both_come d (e.Rep (least - 1) (less most) d) i c.mid j mid
-          (derived h i c.mid c.left (universe_parts rules (e.Rep least most d) d at turn) a mid)
+          (derived_in_set h i c.mid c.left (universe_parts rules (e.Rep least most d) d at turn) a mid)
           (times_derived hs c.mid j c.right (least - 1) (less most) (omega (arith, low)) left.1
           (universe_parts rules (e.Rep least most d) (e.Rep (least - 1) (less most) d) at turns_left) mid b))))
 
@@ -679,7 +681,7 @@ module _ (has : ℕ → Bool) (rules : List Rule) (last : ℕ) (goes : ℕ → �
   span_is_decided f at = least_is_decided (facts (last + 1) (universe rules)) grow Spans
       (λ s right f g. grown_spans s right f.el f.from f.to g)
       (λ s closed f here p. let r = from_facts (last + 1) (universe rules) f here in
-      derived s closed p.derives f.from f.to p.path r.0 (let a = r.1 in omega (arith, a))
+      derived_in_set s closed p.derives f.from f.to p.path r.0 (let a = r.1 in omega (arith, a))
       (let b = r.2 in omega (arith, b)))
       f at
 

@@ -69,16 +69,16 @@ module _ {A : Type 0} where
     stays_in : (k : ℕ) (x : A) → at k x ≡ true → at (suc k) x ≡ true
     stays_in k x is = rw is refl
 
-    settles : (k : ℕ) → ((j : ℕ) × ((x : A) → Listed x all → at (suc j) x ≡ at j x)) ⊎ (k ≤ count (at k) all)
-    settles zero = inr (omega arith)
-    settles (suc k) = elim (settles k) [
+    settles_by : (k : ℕ) → ((j : ℕ) × ((x : A) → Listed x all → at (suc j) x ≡ at j x)) ⊎ (k ≤ count (at k) all)
+    settles_by zero = inr (omega arith)
+    settles_by (suc k) = elim (settles_by k) [
       | inl done ↦ inl done
       | inr le ↦ elim (same_or_more (at k) (at (suc k)) (stays_in k) all)
           [ inl same ↦ inl (k, same.0) | inr more ↦ inr (omega (arith, le, more)) ]
     ]
 
-    settled : (j : ℕ) × ((x : A) → Listed x all → at (suc j) x ≡ at j x)
-    settled = elim (settles (suc (length all))) [
+    has_settled : (j : ℕ) × ((x : A) → Listed x all → at (suc j) x ≡ at j x)
+    has_settled = elim (settles_by (suc (length all))) [
       | inl done ↦ done
       | inr le ↦ let h =
           count_below (at (suc (length all))) all in absurd (omega (arith, le, h))
@@ -93,20 +93,21 @@ module _ {A : Type 0} where
       one_more x true g old new is = old refl
       one_more x false g old new is = new is
 
-      members : (k : ℕ) (x : A) → at k x ≡ true → P x
-      members zero x is = absurd (cc is)
-      members (suc k) x is = one_more x (at k x) (grow (at k) x) (members k x) (sound (at k) (members k) x) is
+      members_hold : (k : ℕ) (x : A) → at k x ≡ true → P x
+      members_hold zero x is = absurd (cc is)
+      members_hold (suc k) x is =
+          one_more x (at k x) (grow (at k) x) (members_hold k x) (sound (at k) (members_hold k) x) is
 
-      grown : (b g : Bool) → either b g ≡ b → g ≡ true → b ≡ true
-      grown true g same is = refl
-      grown false g same is = sym same ∙ is
+      grown_stays : (b g : Bool) → either b g ≡ b → g ≡ true → b ≡ true
+      grown_stays true g same is = refl
+      grown_stays false g same is = sym same ∙ is
 
-      closed : (x : A) → Listed x all → grow (at settled.0) x ≡ true → at settled.0 x ≡ true
-      closed x here is = grown (at settled.0 x) (grow (at settled.0) x) (settled.1 x here) is
+      is_closed : (x : A) → Listed x all → grow (at has_settled.0) x ≡ true → at has_settled.0 x ≡ true
+      is_closed x here is = grown_stays (at has_settled.0 x) (grow (at has_settled.0) x) (has_settled.1 x here) is
 
-      by_mark : (x : A) → Listed x all → (b : Bool) → at settled.0 x ≡ b → (said : Bool) × Says (P x) said
-      by_mark x here true is = (true, members settled.0 x is)
-      by_mark x here false is = (false, λ p. let h = least (at settled.0) closed x here p in absurd (cc (h, is)))
+      by_mark : (x : A) → Listed x all → (b : Bool) → at has_settled.0 x ≡ b → (said : Bool) × Says (P x) said
+      by_mark x here true is = (true, members_hold has_settled.0 x is)
+      by_mark x here false is = (false, λ p. let h = least (at has_settled.0) is_closed x here p in absurd (cc (h, is)))
 
       pub least_is_decided : (x : A) → Listed x all → (said : Bool) × Says (P x) said
-      least_is_decided x here = by_mark x here (at settled.0 x) refl
+      least_is_decided x here = by_mark x here (at has_settled.0 x) refl

@@ -120,8 +120,8 @@ module _ (has : ℕ → Bool) (rules : List Rule) (aim : Aim) where
         by true le = of_met (no_turn b (leb-true a 0 le))
         by false few = turns b (more_than few)
 
-    named : {n w : List ℕ} → Derives has rules (e.Name n) w → id_of rules n < length rules
-    named (der.name {n = n} {e = body} found d) = body_below rules (id_of rules n) body
+    name_is_rule : {n w : List ℕ} → Derives has rules (e.Name n) w → id_of rules n < length rules
+    name_is_rule (der.name {n = n} {e = body} found d) = body_below rules (id_of rules n) body
         (sym (body_at_id rules n) ∙ found)
 
     pub named_need : (name : List ℕ) → IsNeedOf has rules aim needs (need_of_id (length rules) (id_of rules name))
@@ -132,7 +132,7 @@ module _ (has : ℕ → Bool) (rules : List Rule) (aim : Aim) where
             → IsNeedOf has rules aim needs (cond c (All (id_of rules name ∷ [])) (One [])) (e.Name name)
         by true lt = of_name (ltb-true (id_of rules name) (length rules) lt)
         by false ge = of_unmet (λ y. both_ways false refl
-            (sym ge ∙ lt-ltb (id_of rules name) (length rules) (named y.derives)))
+            (sym ge ∙ lt-ltb (id_of rules name) (length rules) (name_is_rule y.derives)))
 
   module _ (needs : List Demand) (have : HaveBodyNeeds has rules aim needs (length rules)) where
     -- a number is that of an element, or of a rule's body
@@ -170,23 +170,26 @@ module _ (has : ℕ → Bool) (rules : List Rule) (aim : Aim) where
     times_give (suc k) d = let ds = times_give k d in
         (d.word ++ ds.0, aim_both aim d.word ds.0 d.asked ds.1, one_more d.derives ds.2)
 
-    told : {need : Demand} {el : Element} → IsNeedOf has rules aim needs need el → Tells need → Yields has rules aim el
-    told (of_met y) h = y
-    told (of_unmet bad) h = absurd (none_of h.0 h.1)
-    told (of_concat all) h = let s = all_give h all in record { word = s.0; asked = s.1; derives = der.concat s.2 }
-    told (of_alt all) h = let s = some_gives h.0 h.1 h.2 all in
+    told_of_need : {need : Demand} {el : Element} → IsNeedOf has rules aim needs need el → Tells need
+        → Yields has rules aim el
+    told_of_need (of_met y) h = y
+    told_of_need (of_unmet bad) h = absurd (none_of h.0 h.1)
+    told_of_need (of_concat all) h =
+        let s = all_give h all in record { word = s.0; asked = s.1; derives = der.concat s.2 }
+    told_of_need (of_alt all) h = let s = some_gives h.0 h.1 h.2 all in
         record { word = s.0; asked = s.1; derives = der.alt s.2 }
-    told (of_rep {a = a} {m = m} {e = el} some within asked) h =
+    told_of_need (of_rep {a = a} {m = m} {e = el} some within asked) h =
         let s = times_give a (h m (in_first m []) el (inl asked)) in
         record { word = s.0; asked = s.1; derives = der.rep {k = a} (omega arith) within s.2 }
-    told (of_name {name = name} lt) h =
+    told_of_need (of_name {name = name} lt) h =
         let b = body_there rules (id_of rules name) lt in
         let d = h (id_of rules name) (in_first (id_of rules name) []) b.0 (inr b.1) in
         record { word = d.word; asked = d.asked; derives = der.name (body_at_id rules name ∙ b.1) d.derives }
 
     -- what a number of the least set means derives a list that is asked for
     by_need : (n : ℕ) (need : Demand) → slice_get needs n ≡ Some need → Tells need → Gives n
-    by_need n need at h el (inl (asks le is of)) = told of (let same : need ≡ _ = cc (at, is) in subst Tells same h)
+    by_need n need at h el (inl (asks le is of)) =
+        told_of_need of (let same : need ≡ _ = cc (at, is) in subst Tells same h)
     by_need n need at h el (inr body) =
         let b = have n el (body_below rules n el body) body in
         let same : need ≡ All (b.number ∷ []) = (let is = b.need_is in cc (at, is)) in
@@ -197,25 +200,26 @@ module _ (has : ℕ → Bool) (rules : List Rule) (aim : Aim) where
     comes_yields (by_one {n = n} {m = m} {row = row} at h c) = by_need n (One row) at (m, h, comes_yields c)
 
     -- and what derives one is in the least set
-    free : (n : ℕ) → slice_get needs n ≡ Some (All []) → Comes needs n
-    free n at = by_all at (λ m h. absurd (none_of m h))
+    free_comes : (n : ℕ) → slice_get needs n ≡ Some (All []) → Comes needs n
+    free_comes n at = by_all at (λ m h. absurd (none_of m h))
 
-    single : (n m : ℕ) → slice_get needs n ≡ Some (All (m ∷ [])) → Comes needs m → Comes needs n
-    single n m at c = by_all at (λ k h. subst (λ v. Comes needs v) (only_one m k h) c)
+    single_comes : (n m : ℕ) → slice_get needs n ≡ Some (All (m ∷ [])) → Comes needs m → Comes needs n
+    single_comes n m at c = by_all at (λ k h. subst (λ v. Comes needs v) (only_one m k h) c)
 
     mutual
       yields_comes : {n : ℕ} {el : Element} {w : List ℕ} → Asks has rules aim needs n el → Derives has rules el w
           → IsAim aim w → Comes needs n
-      yields_comes (asks {n = n} le at (of_met y)) d good = free n at
+      yields_comes (asks {n = n} le at (of_met y)) d good = free_comes n at
       yields_comes {w = w} (asks le at (of_unmet bad)) d good =
           absurd (bad (record { word = w; asked = good; derives = d }))
       yields_comes (asks le at (of_concat all)) (der.concat ds) good = by_all at (all_come all ds good)
       yields_comes (asks le at (of_alt all)) (der.alt ds) good = let s = some_comes all ds good in by_one at s.1 s.2
       yields_comes (asks {n = n} le at (of_rep {m = m} some within asked)) (der.rep low most ds) good =
-          single n m at (times_come asked ds good (omega (arith, some, low)))
+          single_comes n m at (times_come asked ds good (omega (arith, some, low)))
       yields_comes (asks {n = n} le at (of_name lt)) (der.name {n = name} {e = body} found d) good =
           let b = have (id_of rules name) body lt (sym (body_at_id rules name) ∙ found) in
-          single n (id_of rules name) at (single (id_of rules name) b.number b.need_is (yields_comes b.asked d good))
+          single_comes n (id_of rules name) at (single_comes (id_of rules name) b.number b.need_is
+              (yields_comes b.asked d good))
 
       all_come : {es : Elements} {w : List ℕ} {ms : List ℕ} → AskAll has rules aim needs ms es
           → DerivesAll has rules es w → IsAim aim w → (m : ℕ) → Contains ms m → Comes needs m
@@ -246,7 +250,7 @@ module _ (has : ℕ → Bool) (rules : List Rule) (aim : Aim) where
           let y = comes_yields ((are id).0 on) b.0 (inr b.1) in
           (y.word, y.asked, record { body = b.0; is = b.1; derives = y.derives })),
       (λ r. let b = have id r.2.body lt r.2.is in (are id).1
-          (single id b.number b.need_is (yields_comes b.asked r.2.derives r.1))),
+          (single_comes id b.number b.need_is (yields_comes b.asked r.2.derives r.1))),
     )
 
 pub marks_for : (aim : Aim) (rules : List Rule) (needs : List Demand) (marks : List Bool) →

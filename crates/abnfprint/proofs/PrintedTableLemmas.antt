@@ -208,8 +208,8 @@ core-fit = (
   ),
 )
 
-core : List ℕ → Option Element
-core = body_in core_list
+core_body : List ℕ → Option Element
+core_body = body_in core_list
 
 core-at : (o : Option ℕ) (x : Element) → (elim o [ None ↦ None | Some id ↦ slice_get (bodies core_list) id ]) ≡ Some x
     → IsFit x

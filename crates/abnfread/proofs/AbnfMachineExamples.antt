@@ -7,8 +7,8 @@ use Rattle.abnfread.specs.AbnfWords.{Word, word, Said, Name, Is, Slash, LParen, 
 use Rattle.abnfread.specs.AbnfSpelling.{definition}
 use Rattle.abnfread.specs.AbnfMachine.{start, done, run}
 
-nowhere : Span
-nowhere = record { start = 0; end = 0 }
+no_span : Span
+no_span = record { start = 0; end = 0 }
 
 -- a word with no white space before it, with some, and the first of a line that begins a rule
 abbrev near : Said → Word
@@ -24,11 +24,11 @@ abbrev x : Said
 x = Text false (120 ∷ [])
 
 abbrev a : Said
-a = Name (97 ∷ []) nowhere
+a = Name (97 ∷ []) no_span
 
 -- `a = "x" / "x"`
 two-alternatives : run start (head a ∷ far Is ∷ far x ∷ far Slash ∷ far x ∷ near End ∷ [])
-    ≡ Some (done (definition false (97 ∷ []) nowhere
+    ≡ Some (done (definition false (97 ∷ []) no_span
     (e.Alt (more (e.Text false (120 ∷ [])) (more (e.Text false (120 ∷ [])) none))) ∷ []))
 two-alternatives = refl
 

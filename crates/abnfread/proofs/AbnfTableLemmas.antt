@@ -70,32 +70,32 @@ position-rest f x xs e h =
     ap (λ (b : Bool). cond b (Some n) None) l
 
 module _ (d : Definition) (ds : List Definition) where
-  picked : Bool → Rule → Rule
-  picked b rule = with_body rule (extended rule.body (cond b (d.body ∷ added rule.name ds) (added rule.name ds)))
+  picked_rule : Bool → Rule → Rule
+  picked_rule b rule = with_body rule (extended rule.body (cond b (d.body ∷ added rule.name ds) (added rule.name ds)))
 
   -- a rule that the definition names, or does not
-  grown-at : (b : Bool) (rule : Rule) → picked b rule
+  grown-at : (b : Bool) (rule : Rule) → picked_rule b rule
       ≡ grown ds (cond b (with_body rule (joined rule.body d.body)) rule)
-  unfolding picked
+  unfolding picked_rule
   grown-at true rule = refl
   grown-at false rule = refl
 
   adds-one : d.adds ≡ true → (rule : Rule) → grown (d ∷ ds) rule ≡ grown ds (grow_named d rule)
-  unfolding picked
-  adds-one k rule = ap (λ (a : Bool). picked (a && same_name Fold d.name rule.name) rule) k
+  unfolding picked_rule
+  adds-one k rule = ap (λ (a : Bool). picked_rule (a && same_name Fold d.name rule.name) rule) k
       ∙ grown-at (same_name Fold d.name rule.name) rule
 
   drops-one : d.adds ≡ false → (rule : Rule) → grown (d ∷ ds) rule ≡ grown ds rule
-  unfolding picked
-  drops-one k rule = ap (λ (a : Bool). picked (a && same_name Fold d.name rule.name) rule) k
+  unfolding picked_rule
+  drops-one k rule = ap (λ (a : Bool). picked_rule (a && same_name Fold d.name rule.name) rule) k
 
   and-false : (a b : Bool) → b ≡ false → (a && b) ≡ false
   and-false true b h = h
   and-false false b h = refl
 
   passes-by : (rule : Rule) → same_name Fold d.name rule.name ≡ false → grown (d ∷ ds) rule ≡ grown ds rule
-  unfolding picked
-  passes-by rule h = ap (λ (b : Bool). picked b rule) (and-false d.adds (same_name Fold d.name rule.name) h)
+  unfolding picked_rule
+  passes-by rule h = ap (λ (b : Bool). picked_rule b rule) (and-false d.adds (same_name Fold d.name rule.name) h)
 
   passes-first : (rule : Rule) (rules : List Rule)
       → (id_in (map name_of rules) d ≡ None → map (grown (d ∷ ds)) rules ≡ map (grown ds) rules) → (b : Bool)

@@ -32,12 +32,12 @@ completes-read (level b f t paren ∷ o) h bs es = let c = completes-read o h b 
 completes-read (level b f t brack ∷ o) h bs es = let c = completes-read o h b (snoc f (apply t (Opt (finish bs es)))) in
     record { rules = c.rules; runs = c.runs }
 
-nowhere : Span
-nowhere = record { start = 0; end = 0 }
+no_span : Span
+no_span = record { start = 0; end = 0 }
 
 any-completes : (c : Config) → (s : List Word) × Completes c s
 any-completes start = (
-  word false true (Name [] nowhere) ∷ word false false Is ∷ filler ∷ word false false End ∷ [],
+  word false true (Name [] no_span) ∷ word false false Is ∷ filler ∷ word false false End ∷ [],
   record { rules = _; runs = refl },
 )
 any-completes (named ds n p) = (

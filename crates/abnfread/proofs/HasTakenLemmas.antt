@@ -139,9 +139,9 @@ module _ {text : List ℕ} {left : List Marked → Type 0} {c : Config} {ms : Li
   next-words w vs say all = lemmas.one-words Says one-word all (say-snoc Says h.say say)
 
   module _ (line : ℕ) (size : length text ≤ MAX_GRAMMAR) (there : line ≡ line_at Lf text (start_of (tok_of here))) where
-    decided : (D : List Marked → ℕ → Marked → Type 0) → D (ms ++ here ∷ others) (length ms) here
+    is_decided : (D : List Marked → ℕ → Marked → Type 0) → D (ms ++ here ∷ others) (length ms) here
         → IsDecidedAt text line D
-    decided D d = record {
+    is_decided D d = record {
       size = size;
       all = ms ++ here ∷ others;
       are_tokens = whole-marked;
@@ -153,7 +153,7 @@ module _ {text : List ℕ} {left : List Marked → Type 0} {c : Config} {ms : Li
     }
 
     pub hopeless-there : ((w : Word) → Says here w → step c w ≡ None) → IsDecidedAt text line IsSyntax
-    hopeless-there stops = decided IsSyntax
+    hopeless-there stops = is_decided IsSyntax
         (lemmas.hopeless-at Viable AreWithin ms here others
         (lemmas.viable-run Says Grammar step start runs-begins stops-begins one-word c h.say h.reached) within-here
         (lemmas.not-viable Says Grammar step start runs-begins stops-begins one-word c h.say h.reached here stops))
@@ -167,7 +167,7 @@ module _ {text : List ℕ} {left : List Marked → Type 0} {c : Config} {ms : Li
 
     pub too-deep : (d : Config) (a b : Bool) (s : Said) → SaysKind k z p s → Says here (word a b s)
         → step c (word a b s) ≡ Some d → MAX_OPEN < levels_in d → IsDecidedAt text line IsTooDeep
-    too-deep d a b s said say steps lt = decided IsTooDeep (
+    too-deep d a b s said say steps lt = is_decided IsTooDeep (
       over-there d (word a b s) say steps (λ v. deeper-next h.words (word a b s) c d h.reached steps MAX_OPEN lt
           (let e = next-words (word a b s) v.words say v.say in let y = v.shallow in rw e at y)),
       opens-bracket g f MAX_OPEN (levels_in c) said (levels-within h.words c MAX_OPEN h.reached h.shallow)
@@ -176,7 +176,7 @@ module _ {text : List ℕ} {left : List Marked → Type 0} {c : Config} {ms : Li
 
     pub too-large : (a b : Bool) (s : Said) (d : Config) → SaysKind k z p s → Says here (word a b s) → (IsSmall s → ⊥)
         → step c (word a b s) ≡ Some d → IsDecidedAt text line IsTooLarge
-    too-large a b s d said say large steps = decided IsTooLarge (
+    too-large a b s d said say large steps = is_decided IsTooLarge (
       over-there d (word a b s) say steps (λ v. large
           (small-last h.words a b s (let e = next-words (word a b s) v.words say v.say in let y = v.small in
           rw e at y))),

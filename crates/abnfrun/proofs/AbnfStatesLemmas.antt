@@ -70,21 +70,22 @@ module _ (settings : Settings) (input : Input) where
     reads : Reads text definitions
     states : StatesOf definitions notes reply
 
-  parts : (text notes : List ℕ) (reply : Reply) → AbnfStates text settings input notes reply → reply.status ≢ 5
+  parts_of_states : (text notes : List ℕ) (reply : Reply) → AbnfStates text settings input notes reply
+      → reply.status ≢ 5
       → IsRefusal text notes reply ⊎ IsRead text notes reply
-  parts text notes reply (refused fault f m) ample =
+  parts_of_states text notes reply (refused fault f m) ample =
       inl (record { fault = fault; is_fault = f; other = m; none = refl; told = refl })
-  parts text notes reply (noted ds said r are bad mode) ample =
+  parts_of_states text notes reply (noted ds said r are bad mode) ample =
       inr (record { definitions = ds; reads = r; states = is_noted said are bad mode })
-  parts text notes reply (checked ds said r are fine mode) ample =
+  parts_of_states text notes reply (checked ds said r are fine mode) ample =
       inr (record { definitions = ds; reads = r; states = is_checked said are fine mode })
-  parts text notes reply (judges ds said stated r are fine mode run) ample =
+  parts_of_states text notes reply (judges ds said stated r are fine mode run) ample =
       inr (record { definitions = ds; reads = r; states = is_judged said stated are fine mode run })
-  parts text notes reply (again ds said r are some mode) ample =
+  parts_of_states text notes reply (again ds said r are some mode) ample =
       inr (record { definitions = ds; reads = r; states = is_again said are some mode })
-  parts text notes reply (printed ds r are mode) ample =
+  parts_of_states text notes reply (printed ds r are mode) ample =
       inr (record { definitions = ds; reads = r; states = is_printed are mode })
-  parts text notes reply no_memory ample = absurd (ample refl)
+  parts_of_states text notes reply no_memory ample = absurd (ample refl)
 
   module _ (one : AnswersAreOne settings) (definitions : List Definition) where
     one_text : (a b : List Said) → AreNotesOn definitions (rule_given settings) a
@@ -159,5 +160,5 @@ pub one_statement : TextIsOne → FurthestIsOne → (text : List ℕ) (settings 
     → (notes ≡ others) × (a ≡ b)
 one_statement one furthest text settings input notes others a b g h m n =
     one_in settings input (λ rules judged line. one_answer one furthest settings.letters rules judged line
-    settings.viable) text notes others a b (parts settings input text notes a g m)
-    (parts settings input text others b h n) m n
+    settings.viable) text notes others a b (parts_of_states settings input text notes a g m)
+    (parts_of_states settings input text others b h n) m n

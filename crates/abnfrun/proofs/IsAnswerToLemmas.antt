@@ -26,10 +26,10 @@ abbrev pub TextIsOne : Type 0
 TextIsOne = (line points others : List ℕ) → Spells points line → Spells others line → points ≡ others
 
 -- what is decoded of a text
-pub decoded : (Spelled Empty Text : Type 0) (is : Bool) → Text → (is ≡ true → Spelled)
+pub decoded_as : (Spelled Empty Text : Type 0) (is : Bool) → Text → (is ≡ true → Spelled)
     → (is ≡ false → Empty × (Text → ⊥)) → Spelled
-decoded Spelled Empty Text true text spelled none = spelled refl
-decoded Spelled Empty Text false text spelled none = absurd ((none refl).1 text)
+decoded_as Spelled Empty Text true text spelled none = spelled refl
+decoded_as Spelled Empty Text false text spelled none = absurd ((none refl).1 text)
 
 -- where no longer beginning than that of m bytes is UTF-8
 longest_within : TextIsDecided → (line : List ℕ) (m : ℕ) → m ≤ length line

@@ -10,7 +10,7 @@ use Rattle.std.proofs.Math.ListN.{replicate}
 use Rattle.cells.specs.Rows.{row_of}
 use Rattle.cells.specs.declared.cell.Cell.{Cell}
 use Rattle.cells.specs.Links.{IsIn, IsLast, AreLinked}
-use Rattle.cells.proofs.PushLemmas.{at_end, keeps, more_cases, push_cases, set_cases}
+use Rattle.cells.proofs.PushLemmas.{at_end, keeps_after_push, more_cases, push_cases, set_cases}
 
 -- a row of which no cell is
 IsLast-none : (row : Cell → ℕ) (cells : List Cell) (b : ℕ)
@@ -31,7 +31,7 @@ AreLinked-none row rows none = record {
 
 IsIn-push : (row : Cell → ℕ) (cells : List Cell) (c : Cell) (b j : ℕ) → IsIn row cells b j
     → IsIn row (cells ++ c ∷ []) b j
-IsIn-push row cells c b j i = (i.0, keeps cells (c ∷ []) j i.0 i.1, i.2)
+IsIn-push row cells c b j i = (i.0, keeps_after_push cells (c ∷ []) j i.0 i.1, i.2)
 
 pub IsLast-push : (row : Cell → ℕ) (cells : List Cell) (c : Cell) (k b at : ℕ) → k ≤ length cells
     → IsLast row cells k b at →
@@ -126,8 +126,8 @@ AreLinked-same row row' cells rows more same inside none l = record {
 }
 
 -- rows that have no cells
-pub zeros : (n : ℕ) (b h : ℕ) → slice_get (replicate n 0) b ≡ Some h → h ≡ 0
-zeros n b h e =
+pub replicate_is_zero : (n : ℕ) (b h : ℕ) → slice_get (replicate n 0) b ≡ Some h → h ≡ 0
+replicate_is_zero n b h e =
     let xs : List ℕ = replicate n 0 in
     let w : b < length xs = slice_get_within xs b h e in
     let s : length xs ≡ n = length-replicate n 0 in

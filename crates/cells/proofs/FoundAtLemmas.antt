@@ -16,8 +16,8 @@ pub is_own : (c : Entry) (n p : ℕ) → is_of c n p ≡ true → (c.node ≡ n)
 is_own c n p h = let both = and_parts (c.node == n) (c.place == p) h in
     (eqb-true c.node n both.0, eqb-true c.place p both.1)
 
-pub own : (c : Entry) → is_of c c.node c.place ≡ true
-own c = and_from (c.node == c.node) (c.place == c.place) (eq-eqb c.node c.node refl) (eq-eqb c.place c.place refl)
+pub is_of_own : (c : Entry) → is_of c c.node c.place ≡ true
+is_of_own c = and_from (c.node == c.node) (c.place == c.place) (eq-eqb c.node c.node refl) (eq-eqb c.place c.place refl)
 
 some-inj : {A : Type 0} (x y : A) → Some x ≡ Some y → x ≡ y
 some-inj x y e = cc
@@ -79,7 +79,7 @@ free_none es n p free = by (found_at es n p) refl
 -- a cell more, for a pair that had none
 pub found_at_end : (es : List Entry) (n p : ℕ) (f : Found) → found_at es n p ≡ None
     → found_at (es ++ record { node = n; place = p; found = f } ∷ []) n p ≡ Some f
-found_at_end [] n p f none = rw (own (record { node = n; place = p; found = f })) refl
+found_at_end [] n p f none = rw (is_of_own (record { node = n; place = p; found = f })) refl
 found_at_end (c ∷ es) n p f none = by (is_of c n p) none (found_at_end es n p f)
   where
     by : (v : Bool) → (if v then Some c.found else found_at es n p) ≡ None →

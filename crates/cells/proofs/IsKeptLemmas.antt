@@ -66,9 +66,9 @@ nowhere_none cells rows n p some none i c h hn hp =
     let w : i < length cells = slice_get_within cells i c h in
     let k : 0 < rows = some (omega arith) in omega arith
 
-held : (a e : Entry) → a.node ≡ e.node → a.place ≡ e.place
+same_entry : (a e : Entry) → a.node ≡ e.node → a.place ≡ e.place
     → a ≡ record { node = e.node; place = e.place; found = a.found }
-held a e hn hp = rw (← hn, ← hp) refl
+same_entry a e hn hp = rw (← hn, ← hp) refl
 
 IsMap-push : (xs : List Entry) (e : Entry) → IsMap xs → IsFree xs e.node e.place → IsMap (xs ++ e ∷ [])
 IsMap-push xs e m free i j a b ha hb hn hp =
@@ -77,14 +77,14 @@ IsMap-push xs e m free i j a b ha hb hn hp =
         | inl gb ↦ m i j a b ga gb hn hp
         | inr q ↦ absurd (free a.found (
           i,
-          ga ∙ ap Some (held a e (hn ∙ ap (λ x. x.node) (sym q.1))
+          ga ∙ ap Some (same_entry a e (hn ∙ ap (λ x. x.node) (sym q.1))
               (hp ∙ ap (λ x. x.place) (sym q.1))),
         ))
       ]
       | inr q ↦ elim (push_cases xs e j b hb) [
         | inl gb ↦ absurd (free b.found (
           j,
-          gb ∙ ap Some (held b e (sym hn ∙ ap (λ x. x.node) (sym q.1))
+          gb ∙ ap Some (same_entry b e (sym hn ∙ ap (λ x. x.node) (sym q.1))
               (sym hp ∙ ap (λ x. x.place) (sym q.1))),
         ))
         | inr r ↦ q.0 ∙ sym r.0

@@ -9,10 +9,10 @@ module _ {A : Type 0} where
   at_end [] a = refl
   at_end (x ∷ xs) a = at_end xs a
 
-  pub keeps : (xs ys : List A) (n : ℕ) (a : A) → slice_get xs n ≡ Some a → slice_get (xs ++ ys) n ≡ Some a
-  keeps [] ys n a h = absurd (cc h)
-  keeps (x ∷ xs) ys zero a h = h
-  keeps (x ∷ xs) ys (suc n) a h = keeps xs ys n a h
+  pub keeps_after_push : (xs ys : List A) (n : ℕ) (a : A) → slice_get xs n ≡ Some a → slice_get (xs ++ ys) n ≡ Some a
+  keeps_after_push [] ys n a h = absurd (cc h)
+  keeps_after_push (x ∷ xs) ys zero a h = h
+  keeps_after_push (x ∷ xs) ys (suc n) a h = keeps_after_push xs ys n a h
 
   pub push_cases : (xs : List A) (a : A) (n : ℕ) (b : A) → slice_get (xs ++ a ∷ []) n ≡ Some b
       → (slice_get xs n ≡ Some b) ⊎ ((n ≡ length xs) × (a ≡ b))

@@ -11,7 +11,7 @@ use Rattle.gramcheck.specs.Ranks.{to_member, to_starred, to_repeated, to_optiona
 use Rattle.gramcheck.specs.Sound.{IsRanked}
 use Rattle.leastset.proofs.ContainsLemmas.{in_first, in_later}
 use Rattle.gramcheck.proofs.HasShapeLemmas.{has_shape}
-use Rattle.gramcheck.proofs.NullIfLemmas.{forward, null_of}
+use Rattle.gramcheck.proofs.NullIfLemmas.{takes_forward, null_of}
 use Rattle.pegmatch.proofs.OperandLemmas.{at, falls_to}
 use Rattle.pegmatch.specs.KeptEvents.{SpellsSome}
 use Rattle.desk.specs.Visits.{NodeTakes, AsksMember, member_here, member_later, AsksAlternative, alternative_here}
@@ -31,9 +31,9 @@ module _ (rules : List Rule) (start : ℕ) (nodes : List Shape) (bodies ranks x 
     pub high : r ≤ length x
     pub null : r ≡ p → IsNullNode rules nodes bodies k
 
-  pub onward : (k p r : ℕ) → p ≤ length x → NodeTakes rules nodes bodies x k p r → Onward k p r
-  onward k p r le t =
-      let on = forward rules x p r t.looked t.gives.expr t.events t.gives.gives le in
+  pub goes_onward : (k p r : ℕ) → p ≤ length x → NodeTakes rules nodes bodies x k p r → Onward k p r
+  goes_onward k p r le t =
+      let on = takes_forward rules x p r t.looked t.gives.expr t.events t.gives.gives le in
       record {
         low = on.0;
         high = on.1;
@@ -56,7 +56,7 @@ module _ (rules : List Rule) (start : ℕ) (nodes : List Shape) (bodies ranks x 
   member_leads member_here ps (spell_more {p = e} s ss) le =
       record { spelled = (e, s); low = omega arith; high = le; front = λ is. front_first }
   member_leads (member_later {k = k} {m = m} {p = p} {r = r} {q = q} t a) ps (spell_more {ps = rest} s ss) le =
-      let on = onward k p r le t in
+      let on = goes_onward k p r le t in
       let later = member_leads a rest ss on.high in
       record {
         spelled = later.spelled;
@@ -73,8 +73,8 @@ module _ (rules : List Rule) (start : ℕ) (nodes : List Shape) (bodies ranks x 
       let later = alternative_leads a rest ss in (later.0, in_later k m ms later.1)
 
   module _ (n p m q : ℕ) (s : SpellsSome rules nodes n) (le : p ≤ length x) where
-    here : SpellsSome rules nodes m → q ≡ p → NodeStep rules nodes bodies n m → LeadsTo n p m q
-    here t is step = record { spelled = t; low = omega arith; high = omega arith; left = λ _. step }
+    leads_here : SpellsSome rules nodes m → q ≡ p → NodeStep rules nodes bodies n m → LeadsTo n p m q
+    leads_here t is step = record { spelled = t; low = omega arith; high = omega arith; left = λ _. step }
 
     leads_by : (shape : Shape) → slice_get nodes n ≡ Some shape → AsksBy rules nodes bodies x shape n p m q
         → LeadsTo n p m q
@@ -83,7 +83,7 @@ module _ (rules : List Rule) (start : ℕ) (nodes : List Shape) (bodies ranks x 
     leads_by (node.Set b) h a = absurd a
     leads_by (node.Name id) h a =
         let there = sound.spelled.spelled id m a.0 in
-        here (there.0, there.2) a.1 (to_body h a.0)
+        leads_here (there.0, there.2) a.1 (to_body h a.0)
     leads_by (node.Seq ms) h a =
         let like = has_shape rules nodes s.1 (node.Seq ms) h in
         let l = member_leads a like.0 like.2 le in
@@ -91,14 +91,14 @@ module _ (rules : List Rule) (start : ℕ) (nodes : List Shape) (bodies ranks x 
     leads_by (node.Choice ms) h a =
         let like = has_shape rules nodes s.1 (node.Choice ms) h in
         let l = alternative_leads a.0 like.0 like.2 in
-        here l.0 a.1 (to_alternative h l.1)
+        leads_here l.0 a.1 (to_alternative h l.1)
     leads_by (node.Star k) h a =
         let like = has_shape rules nodes s.1 (node.Star k) h in
         elim a [
-          | inl o ↦ here (like.0, subst (λ v. Spells rules nodes v like.0) (sym o.0) like.2) o.1
+          | inl o ↦ leads_here (like.0, subst (λ v. Spells rules nodes v like.0) (sym o.0) like.2) o.1
               (to_starred (subst (λ v. slice_get nodes n ≡ Some (node.Star v)) (sym o.0) h))
           | inr o ↦
-              let on = onward k p q le o.1 in
+              let on = goes_onward k p q le o.1 in
               record {
                 spelled = subst (SpellsSome rules nodes) (sym o.0) s;
                 low = on.low;
@@ -109,10 +109,10 @@ module _ (rules : List Rule) (start : ℕ) (nodes : List Shape) (bodies ranks x 
     leads_by (node.Plus k i) h a =
         let like = has_shape rules nodes s.1 (node.Plus k i) h in
         elim a [
-          | inl o ↦ here (like.0, subst (λ v. Spells rules nodes v like.0) (sym o.0) like.2) o.1
+          | inl o ↦ leads_here (like.0, subst (λ v. Spells rules nodes v like.0) (sym o.0) like.2) o.1
               (to_repeated (subst (λ v. slice_get nodes n ≡ Some (node.Plus v i)) (sym o.0) h))
           | inr o ↦
-              let on = onward k p q le o.1 in
+              let on = goes_onward k p q le o.1 in
               record {
                 spelled = subst (SpellsSome rules nodes) (sym o.0) (expr.Star like.0, spells_star like.3 like.2);
                 low = on.low;
@@ -122,33 +122,33 @@ module _ (rules : List Rule) (start : ℕ) (nodes : List Shape) (bodies ranks x 
         ]
     leads_by (node.Opt k) h a =
         let like = has_shape rules nodes s.1 (node.Opt k) h in
-        here (like.0, subst (λ v. Spells rules nodes v like.0) (sym a.0) like.2) a.1
+        leads_here (like.0, subst (λ v. Spells rules nodes v like.0) (sym a.0) like.2) a.1
         (to_optional (subst (λ v. slice_get nodes n ≡ Some (node.Opt v)) (sym a.0) h))
     leads_by (node.And k) h a =
         let like = has_shape rules nodes s.1 (node.And k) h in
-        here (like.0, subst (λ v. Spells rules nodes v like.0) (sym a.0) like.2) a.1
+        leads_here (like.0, subst (λ v. Spells rules nodes v like.0) (sym a.0) like.2) a.1
         (to_asserted (subst (λ v. slice_get nodes n ≡ Some (node.And v)) (sym a.0) h))
     leads_by (node.Not k) h a =
         let like = has_shape rules nodes s.1 (node.Not k) h in
-        here (like.0, subst (λ v. Spells rules nodes v like.0) (sym a.0) like.2) a.1
+        leads_here (like.0, subst (λ v. Spells rules nodes v like.0) (sym a.0) like.2) a.1
         (to_denied (subst (λ v. slice_get nodes n ≡ Some (node.Not v)) (sym a.0) h))
     leads_by (node.Act t) h a = absurd a
     leads_by node.Open h a = absurd a
     leads_by node.Close h a = absurd a
 
-  pub leads : (n p m q : ℕ) → SpellsSome rules nodes n → p ≤ length x → Asks rules nodes bodies x n p m q
+  pub leads_to : (n p m q : ℕ) → SpellsSome rules nodes n → p ≤ length x → Asks rules nodes bodies x n p m q
       → LeadsTo n p m q
-  leads n p m q s le a = leads_by n p m q s le a.shape a.at a.by
+  leads_to n p m q s le a = leads_by n p m q s le a.shape a.at a.by
 
   -- the measure of a pair
   abbrev pub height : ℕ → ℕ → ℕ
   height n p = at nodes ranks (length x) p n
 
   -- what is asked for is lower
-  pub falls : (n p m q : ℕ) → SpellsSome rules nodes n → p ≤ length x → Asks rules nodes bodies x n p m q
+  pub height_falls : (n p m q : ℕ) → SpellsSome rules nodes n → p ≤ length x → Asks rules nodes bodies x n p m q
       → height m q < height n p
-  falls n p m q s le a =
-      let l = leads n p m q s le a in
+  height_falls n p m q s le a =
+      let l = leads_to n p m q s le a in
       falls_to rules start nodes bodies ranks sound (length x) n m p q l.spelled l.low l.high l.left
 
   -- a pair that is visited
@@ -161,5 +161,5 @@ module _ (rules : List Rule) (start : ℕ) (nodes : List Shape) (bodies ranks x 
       record { spelled = (there.0, there.2); high = omega arith }
   is_visited (asked {n = n} {p = p} {m = m} {q = q} v a) =
       let i = is_visited v in
-      let l = leads n p m q i.spelled i.high a in
+      let l = leads_to n p m q i.spelled i.high a in
       record { spelled = l.spelled; high = l.high }

@@ -9,7 +9,7 @@ use Rattle.desk.specs.declared.frame.Frame.{Frame}
 use Rattle.cells.specs.declared.cell.Found.{Found}
 use Rattle.cells.specs.Entries.{found_at, AreDifferent}
 use Rattle.desk.specs.State.{HasCell}
-use Rattle.desk.proofs.IsPutLemmas.{is_of, own}
+use Rattle.cells.proofs.FoundAtLemmas.{is_of, is_of_own}
 
 pub data In : ℕ → List ℕ → Type 0 where
   now : {a b : ℕ} {xs : List ℕ} → a ≡ b → In a (b ∷ xs)
@@ -28,14 +28,15 @@ record Without (x : ℕ) (ys : List ℕ) : Type 0 where
   pub shorter : length ys ≡ suc (length rest)
   pub keeps : (a : ℕ) → (a ≡ x → ⊥) → In a ys → In a rest
 
-without : (x : ℕ) (ys : List ℕ) → In x ys → Without x ys
-without x ys (now {xs = xs} same) = record { rest = xs; shorter = refl; keeps = λ a differs h. left a differs same h }
+list_without : (x : ℕ) (ys : List ℕ) → In x ys → Without x ys
+list_without x ys (now {xs = xs} same) =
+    record { rest = xs; shorter = refl; keeps = λ a differs h. left a differs same h }
   where
     left : {b : ℕ} (a : ℕ) → (a ≡ x → ⊥) → x ≡ b → In a (b ∷ xs) → In a xs
     left a differs same (now h) = absurd (differs (h ∙ sym same))
     left a differs same (on h) = h
-without x ys (on {b = b} {xs = xs} h) =
-    let w = without x xs h in
+list_without x ys (on {b = b} {xs = xs} h) =
+    let w = list_without x xs h in
     record { rest = b ∷ w.rest; shorter = ap suc w.shorter; keeps = λ a differs g. kept w a differs g }
   where
     kept : (w : Without x xs) (a : ℕ) → (a ≡ x → ⊥) → In a (b ∷ xs) → In a (b ∷ w.rest)
@@ -46,7 +47,7 @@ without x ys (on {b = b} {xs = xs} h) =
 pub at_most : (xs ys : List ℕ) → Differ xs → ((a : ℕ) → In a xs → In a ys) → length xs ≤ length ys
 at_most [] ys different among = omega arith
 at_most (x ∷ xs) ys different among =
-    let w = without x ys (among x (now refl)) in
+    let w = list_without x ys (among x (now refl)) in
     let rest = at_most xs w.rest different.1 (λ a h. w.keeps a (λ same. different.0 (subst (λ v. In v xs) same h))
     (among a (on h))) in
     omega (arith, rest, w.shorter)
@@ -119,7 +120,8 @@ module _ (w : ℕ) where
 
   pub cell_of : {a : ℕ} (cells : List Entry) → In a (cell_codes cells) → CellOf cells a
   cell_of [] h = elim h [ ]
-  cell_of (c ∷ cells) (now is) = record { node = c.node; place = c.place; has = (c.found, rw (own c) refl); is = is }
+  cell_of (c ∷ cells) (now is) =
+      record { node = c.node; place = c.place; has = (c.found, rw (is_of_own c) refl); is = is }
   cell_of (c ∷ cells) (on h) = let l = cell_of cells h in
       record { node = l.node; place = l.place; has = has_later c cells l.node l.place l.has; is = l.is }
 
@@ -136,7 +138,7 @@ module _ (w : ℕ) where
   cells_differ [] low d = tt
   cells_differ (c ∷ cells) low d =
       let later = λ (m q : ℕ) (h : HasCell cells m q). low m q (has_later c cells m q h) in (
-        not_among cells c.node c.place later (low c.node c.place (c.found, rw (own c) refl)) d.0,
+        not_among cells c.node c.place later (low c.node c.place (c.found, rw (is_of_own c) refl)) d.0,
         cells_differ cells later d.1,
       )
 

@@ -47,8 +47,8 @@ module _ (rules : List Rule) (nodes : List Shape) (bodies ranks x : List ℕ) (c
   module _ (mid new : Option (List ℕ)) (capture : Capture) (frames frames' : List Frame) (kept : Kept)
       (h : HasWritten rules nodes bodies ranks x cells raw all old mid capture frames)
       (g : Goes rules nodes bodies ranks x cells frames (Some kept) h.later frames') where
-    here : HasPrinted raw x all (g.tells.0 ∷ g.later) old mid capture
-    here = subst (λ v. HasPrinted raw x all v old mid capture) g.tells.2 h.printed
+    printed_here : HasPrinted raw x all (g.tells.0 ∷ g.later) old mid capture
+    printed_here = subst (λ v. HasPrinted raw x all v old mid capture) g.tells.2 h.printed
 
     pub written_some : Appends mid new (event_text raw g.tells.0 (slice_range x capture.from capture.to)) →
         HasWritten rules nodes bodies ranks x cells raw all old new (capture_by capture kept) frames'
@@ -56,12 +56,13 @@ module _ (rules : List Rule) (nodes : List Shape) (bodies ranks x : List ℕ) (c
         record {
           later = g.later;
           walks = g.walks;
-          printed = printed_next raw x all old nodes mid new capture kept g.tells.0 g.later g.tells.1 here one;
+          printed = printed_next raw x all old nodes mid new capture kept g.tells.0 g.later g.tells.1 printed_here one;
         }
 
     pub written_part : AppendsPart mid new (event_text raw g.tells.0 (slice_range x capture.from capture.to))
         → AppendsPart old new (text_of raw x all)
-    written_part part = printed_part raw x all old nodes mid new capture kept g.tells.0 g.later g.tells.1 here part
+    written_part part =
+        printed_part raw x all old nodes mid new capture kept g.tells.0 g.later g.tells.1 printed_here part
 
   pub written_all : (new : Option (List ℕ)) (capture : Capture) (frames : List Frame) → frames ≡ [] →
       HasWritten rules nodes bodies ranks x cells raw all old new capture frames → Appends old new (text_of raw x all)

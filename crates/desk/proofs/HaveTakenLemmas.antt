@@ -60,19 +60,19 @@ module _ (rules : List Rule) (start : ℕ) (nodes : List Shape) (bodies ranks x 
       → Gives rules x e p o k
   as_own s d = gives_as rules nodes sound.defined bodies x s d
 
-  alike : {n p k j : ℕ} {o c : Outcome} → NodeGives rules nodes bodies x n p o k
+  gives_alike : {n p k j : ℕ} {o c : Outcome} → NodeGives rules nodes bodies x n p o k
       → NodeGives rules nodes bodies x n p c j → Same o k c j
-  alike d c = same_node rules nodes sound.defined bodies x d c
+  gives_alike d c = same_node rules nodes sound.defined bodies x d c
 
   -- a cell's success and the success of its node end alike
   pub ends_alike : (n p r q : ℕ) → found_at cells n p ≡ Some (Took r) → NodeTakes rules nodes bodies x n p q → q ≡ r
-  ends_alike n p r q h t = let s = alike t.gives (right n p (Took r) h).gives in cc s.outcome
+  ends_alike n p r q h t = let s = gives_alike t.gives (right n p (Took r) h).gives in cc s.outcome
 
   pub not_both : (n p r : ℕ) → found_at cells n p ≡ Some (Took r) → NodeFails rules nodes bodies x n p → ⊥
-  not_both n p r h f = let s = alike f.gives (right n p (Took r) h).gives in cc s.outcome
+  not_both n p r h f = let s = gives_alike f.gives (right n p (Took r) h).gives in cc s.outcome
 
   pub nor_both : (n p q : ℕ) → found_at cells n p ≡ Some Failed → NodeTakes rules nodes bodies x n p q → ⊥
-  nor_both n p q h t = let s = alike t.gives (right n p Failed h).gives in cc s.outcome
+  nor_both n p q h t = let s = gives_alike t.gives (right n p Failed h).gives in cc s.outcome
 
   pub takes_by : (n p r : ℕ) → found_at cells n p ≡ Some (Took r) → NodeTakes rules nodes bodies x n p r
   takes_by n p r h = let f = right n p (Took r) h in record { events = f.events; looked = f.looked; gives = f.gives }

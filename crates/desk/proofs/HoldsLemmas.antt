@@ -19,7 +19,7 @@ use Rattle.desk.specs.Visits.{first, asked}
 use Rattle.gramcheck.specs.Rising.{Rise}
 use Rattle.gramcheck.proofs.RiseLemmas.{Rise-upper}
 use Rattle.gramcheck.proofs.StartRuleLemmas.{rises_of_start}
-use Rattle.desk.proofs.IsWayLemmas.{fresh}
+use Rattle.desk.proofs.IsWayLemmas.{lefts_of_fresh}
 
 pub some_cell : (cells : List Entry) (n p : ℕ) → HasCell cells n p → 1 ≤ length cells
 some_cell [] n p h = absurd (cc h.1)
@@ -43,7 +43,7 @@ module _ (g : Grammar) (x : List ℕ) (events : List Event) (sound : IsSoundGram
   walk_begins =
       let there = sound.spelled.spelled g.start root at in
       let same : there.0 ≡ h.gives.body = cc (there.1, h.gives.rule) in
-      let left = fresh (rules_of g.rules) g.start (shapes_of g.nodes) g.bodies g.ranks x h.more sound d.cells
+      let left = lefts_of_fresh (rules_of g.rules) g.start (shapes_of g.nodes) g.bodies g.ranks x h.more sound d.cells
       (cells_of_done g x h.more d h.done) root 0 events root_cell (omega arith)
       (record {
         end = h.end;

@@ -13,7 +13,8 @@ use Rattle.desk.specs.declared.turn.Turn.TheVariants.{Ask, Answer, Need}
 use Rattle.cells.specs.declared.cell.Found.TheVariants.{Failed, Took}
 use Rattle.desk.specs.Desk.{View, beginning, counted, Fits, IsDone, IsStep, IsNext, IsMatched, IsOutcome, unit_of_match}
 use Rattle.desk.specs.Turns.{IsTurn}
-use Rattle.desk.proofs.IsStepLemmas.{IsTop, is_top, pushed, dropped, ended, reaches, need_given, step_less}
+use Rattle.desk.proofs.IsStepLemmas.{IsTop, is_top, pushed_step, dropped_step, ended_here}
+use Rattle.desk.proofs.IsStepLemmas.{reaches_end, need_given, step_less}
 
 module _ (g : Grammar) (x : List ℕ) (more : Bool) (sound : IsSoundGrammar g) where
   step_next : (old : View) (cells : List Entry) (top : Frame) (below : List Frame) → Fits g x more old
@@ -36,28 +37,29 @@ module _ (g : Grammar) (x : List ℕ) (more : Bool) (sound : IsSoundGrammar g) w
       abbrev pub mid : View
       mid = counted cells (beginning m q ∷ (come ∷ fs))
 
-      push : IsStep g x more here mid None
-      push = pushed g x more sound here mid t fs m q i r f refl turn refl refl (omega arith)
+      push_step : IsStep g x more here mid None
+      push_step = pushed_step g x more sound here mid t fs m q i r f refl turn refl refl (omega arith)
 
       pub leaf_top : IsTop g x more sound mid (beginning m q)
-      leaf_top = is_top g x more sound mid (beginning m q) (come ∷ fs) push.0 refl
+      leaf_top = is_top g x more sound mid (beginning m q) (come ∷ fs) push_step.0 refl
 
       pub pushed_next : (top : Frame) (below : List Frame) → top ≡ beginning m q → below ≡ come ∷ fs
           → IsNext g x more here cells below (next.More top)
-      pushed_next top below is now = rw (is, now) (step_next here cells (beginning m q) (come ∷ fs) f push)
+      pushed_next top below is now = rw (is, now) (step_next here cells (beginning m q) (come ∷ fs) f push_step)
 
       pub leaf_need : IsTurn (rules_of g.rules) g.start (shapes_of g.nodes) g.bodies x more cells m q Need
           → (cells' : List Entry) (below : List Frame) →
           IsNext g x more here cells' below next.Need
       leaf_need need cells' below =
-          let r = reaches g x more sound mid (beginning m q) (come ∷ fs) refl need in
-          (need.0, need_given g x more sound mid push.0 r)
+          let r = reaches_end g x more sound mid (beginning m q) (come ∷ fs) refl need in
+          (need.0, need_given g x more sound mid push_step.0 r)
 
       module _ (h : Found) (cells' : List Entry) (leaf : IsTurn (rules_of g.rules) g.start (shapes_of g.nodes) g.bodies
           x more cells m q (Answer h))
           (put : cells' ≡ cells ++ record { node = m; place = q; found = h } ∷ []) where
         drop_leaf : IsStep g x more mid (counted cells' (come ∷ fs)) None
-        drop_leaf = dropped g x more sound mid (counted cells' (come ∷ fs)) (beginning m q) (come ∷ fs) h push.0 refl
+        drop_leaf =
+            dropped_step g x more sound mid (counted cells' (come ∷ fs)) (beginning m q) (come ∷ fs) h push_step.0 refl
             leaf put refl
             (let b = ap length put in omega (
               arith,
@@ -67,15 +69,15 @@ module _ (g : Grammar) (x : List ℕ) (more : Bool) (sound : IsSoundGrammar g) w
 
         pub leaf_next : IsNext g x more here cells' fs (next.More come)
         leaf_next =
-            let one = step_less g x more sound here mid None f push refl in
-            let two = step_less g x more sound mid (counted cells' (come ∷ fs)) None push.0 drop_leaf refl in
+            let one = step_less g x more sound here mid None f push_step refl in
+            let two = step_less g x more sound mid (counted cells' (come ∷ fs)) None push_step.0 drop_leaf refl in
             (drop_leaf.0, omega (arith, one, two))
 
     pub top_need : IsTurn (rules_of g.rules) g.start (shapes_of g.nodes) g.bodies x more cells t.node t.place Need
         → (cells' : List Entry) (below : List Frame) →
         IsNext g x more here cells' below next.Need
     top_need need cells' below =
-        let r = reaches g x more sound here t fs refl need in
+        let r = reaches_end g x more sound here t fs refl need in
         (need.0, need_given g x more sound here f r)
 
     module _ (h : Found) (cells' : List Entry) (turn : IsTurn (rules_of g.rules) g.start (shapes_of g.nodes) g.bodies x
@@ -89,12 +91,13 @@ module _ (g : Grammar) (x : List ℕ) (more : Bool) (sound : IsSoundGrammar g) w
 
       pub dropped_next : (u : Frame) (us : List Frame) → fs ≡ u ∷ us → IsNext g x more here cells' us (next.More u)
       dropped_next u us there =
-          let s = dropped g x more sound here (counted cells' fs) t fs h f refl turn put refl same_count u us there in
+          let s = dropped_step g x more sound here (counted cells' fs) t fs h f refl turn put refl same_count u us
+              there in
           step_next here cells' u us f (subst (λ v. IsStep g x more here (counted cells' v) None) there s)
 
       pub ended_next : (below : List Frame) → fs ≡ [] → below ≡ [] → IsNext g x more here cells' below (next.Ended h)
       ended_next below none now =
-          let e = ended g x more sound here (counted cells' fs) t fs h f refl turn put refl same_count none in
+          let e = ended_here g x more sound here (counted cells' fs) t fs h f refl turn put refl same_count none in
           (subst (λ v. IsDone g x more (counted cells' v)) (none ∙ sym now) e.done, e.answers)
 
 -- what a match found is what it ends with

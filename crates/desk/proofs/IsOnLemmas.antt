@@ -34,17 +34,17 @@ use Rattle.desk.proofs.IsTurnLemmas.{name_is_turn, opt_is_turn, and_is_turn, not
 use Rattle.desk.proofs.IsTurnLemmas.{plus_then, plus_is_turn, seq_is_turn, choice_is_turn}
 
 -- one way after another
-pub further : (g : Grammar) (x : List ℕ) (more : Bool) (below : List Frame) (old mid new : List Entry) (t : Frame)
+pub come_further : (g : Grammar) (x : List ℕ) (more : Bool) (below : List Frame) (old mid new : List Entry) (t : Frame)
     (i q j r : ℕ) →
     HasCome g x more below old mid t i q → HasCome g x more below mid new (come_to t i q) j r
     → HasCome g x more below old new t j r
-further g x more below old mid new t i q j r a b = record { fits = b.fits; less = omega (arith, a.less, b.less) }
+come_further g x more below old mid new t i q j r a b = record { fits = b.fits; less = omega (arith, a.less, b.less) }
 
 module _ (g : Grammar) (x : List ℕ) (more : Bool) (sound : IsSoundGrammar g) (below : List Frame) (cells : List Entry)
     (t : Frame) (f : Fits g x more (counted cells (t ∷ below))) where
   -- it has come as far as it had
-  pub stays : HasCome g x more below cells cells t t.next t.end
-  stays = record { fits = f; less = omega arith }
+  pub come_stays : HasCome g x more below cells cells t t.next t.end
+  come_stays = record { fits = f; less = omega arith }
 
   come_by : (shape : Shape) (j r : ℕ) → slice_get (shapes_of g.nodes) t.node ≡ Some shape
       → state.HasCome cells shape t.place j r → IsUnderWay (rules_of g.rules) g.start (shapes_of g.nodes) g.bodies x
@@ -52,9 +52,10 @@ module _ (g : Grammar) (x : List ℕ) (more : Bool) (sound : IsSoundGrammar g) (
   come_by shape j r at h other there = let same : shape ≡ other = cc in subst (λ v. state.HasCome cells v t.place j r)
       same h
 
-  pub comes : (j r : ℕ) → IsUnderWay (rules_of g.rules) g.start (shapes_of g.nodes) g.bodies x more cells t.node t.place
+  pub way_has_come : (j r : ℕ)
+      → IsUnderWay (rules_of g.rules) g.start (shapes_of g.nodes) g.bodies x more cells t.node t.place
       j r → HasCome g x more below cells cells t j r
-  comes j r come = record {
+  way_has_come j r come = record {
     fits = record {
       stack = come_on (rules_of g.rules) g.start (shapes_of
           g.nodes) g.bodies g.ranks x more sound f.stack j r come;
@@ -67,21 +68,23 @@ module _ (g : Grammar) (x : List ℕ) (more : Bool) (sound : IsSoundGrammar g) (
   }
 
   module _ (m q : ℕ) (a : Asks (rules_of g.rules) (shapes_of g.nodes) g.bodies x t.node t.place m q) where
-    pub child : IsVisited (rules_of g.rules) g.start (shapes_of g.nodes) g.bodies g.ranks x sound m q
-    child = is_visited (rules_of g.rules) g.start (shapes_of g.nodes) g.bodies g.ranks x sound
+    pub child_visited : IsVisited (rules_of g.rules) g.start (shapes_of g.nodes) g.bodies g.ranks x sound m q
+    child_visited = is_visited (rules_of g.rules) g.start (shapes_of g.nodes) g.bodies g.ranks x sound
         (asked (at_top g x more sound cells t below f).visits a)
 
-    ask : found_at cells m q ≡ None → IsTurn (rules_of g.rules) g.start (shapes_of g.nodes) g.bodies x more cells t.node
+    turn_asks : found_at cells m q ≡ None
+        → IsTurn (rules_of g.rules) g.start (shapes_of g.nodes) g.bodies x more cells t.node
         t.place (Ask m q t.next t.end)
-    ask none = (a, none, (at_top g x more sound cells t below f).come)
+    turn_asks none = (a, none, (at_top g x more sound cells t below f).come)
 
-    pub seen : (new : List Entry) (v : Option Found) → IsSeen (rules_of g.rules) g.start (shapes_of g.nodes) g.bodies x
+    pub seen_comes : (new : List Entry) (v : Option Found)
+        → IsSeen (rules_of g.rules) g.start (shapes_of g.nodes) g.bodies x
         more cells new m q (Ok v) → HasCome g x more below cells new t t.next t.end
-    seen new None s = rw s.0 stays
-    seen new (Some h) s = elim s.1 [
-      | inl same ↦ rw same stays
+    seen_comes new None s = rw s.0 come_stays
+    seen_comes new (Some h) s = elim s.1 [
+      | inl same ↦ rw same come_stays
       | inr put ↦
-          let n = leaf_next g x more sound cells t below f m q t.next t.end (ask put.0) h new put.2 put.1 in
+          let n = leaf_next g x more sound cells t below f m q t.next t.end (turn_asks put.0) h new put.2 put.1 in
           record { fits = n.0; less = omega (arith, n.1) }
     ]
 
@@ -90,9 +93,10 @@ module _ (g : Grammar) (x : List ℕ) (more : Bool) (sound : IsSoundGrammar g) (
     seen_is new None s = rw s.0 (sym s.1)
     seen_is new (Some h) s = sym s.0
 
-    pub short : (new : List Entry) → IsSeen (rules_of g.rules) g.start (shapes_of g.nodes) g.bodies x more cells new m q
+    pub seen_short : (new : List Entry)
+        → IsSeen (rules_of g.rules) g.start (shapes_of g.nodes) g.bodies x more cells new m q
         (Err Short) → (more ≡ true) × ((o : Outcome) × StartGives g x o (length x))
-    short new s = leaf_need g x more sound cells t below f m q t.next t.end (ask s.0) s.1 cells below
+    seen_short new s = leaf_need g x more sound cells t below f m q t.next t.end (turn_asks s.0) s.1 cells below
 
   abbrev Sees : List Entry → ℕ → Option Found → Type 0
   Sees new m v = IsSeen (rules_of g.rules) g.start (shapes_of g.nodes) g.bodies x more cells new m t.place (Ok v)
@@ -100,8 +104,8 @@ module _ (g : Grammar) (x : List ℕ) (more : Bool) (sound : IsSoundGrammar g) (
   abbrev On : List Entry → Turn → Type 0
   On new v = IsOn g x more below cells new t (Ok v)
 
-  top : IsTop g x more sound (counted cells (t ∷ below)) t
-  top = at_top g x more sound cells t below f
+  top_of_frames : IsTop g x more sound (counted cells (t ∷ below)) t
+  top_of_frames = at_top g x more sound cells t below f
 
   pub asks_name : (id m : ℕ) (at : slice_get (shapes_of g.nodes) t.node ≡ Some (node.Name id))
       (body : slice_get g.bodies id ≡ Some m) → Asks (rules_of g.rules) (shapes_of g.nodes) g.bodies x t.node t.place m
@@ -113,12 +117,13 @@ module _ (g : Grammar) (x : List ℕ) (more : Bool) (sound : IsSoundGrammar g) (
       → On new (same_turn m t.place v)
   name_on id m at body new v s =
       let a = asks_name id m at body in
-      let here = seen m t.place a new v s in (
+      let here = seen_comes m t.place a new v s in (
         t.next,
         t.end,
         here,
         name_is_turn (rules_of g.rules) g.start (shapes_of
-            g.nodes) g.bodies g.ranks x more sound new here.fits.cells.found t.node t.place top.spelled id m v at body
+            g.nodes) g.bodies g.ranks x more sound new here.fits.cells.found t.node t.place top_of_frames.spelled id m
+                v at body
             (seen_is m t.place a new v s),
       )
 
@@ -130,12 +135,12 @@ module _ (g : Grammar) (x : List ℕ) (more : Bool) (sound : IsSoundGrammar g) (
       (v : Option Found) → Sees new m v → On new (opt_turn m t.place v)
   opt_on m at new v s =
       let a = asks_opt m at in
-      let here = seen m t.place a new v s in (
+      let here = seen_comes m t.place a new v s in (
         t.next,
         t.end,
         here,
         opt_is_turn (rules_of g.rules) g.start (shapes_of
-            g.nodes) g.bodies g.ranks x more sound new here.fits.cells.found t.node t.place top.spelled m v at
+            g.nodes) g.bodies g.ranks x more sound new here.fits.cells.found t.node t.place top_of_frames.spelled m v at
             (seen_is m t.place a new v s),
       )
 
@@ -147,12 +152,12 @@ module _ (g : Grammar) (x : List ℕ) (more : Bool) (sound : IsSoundGrammar g) (
       (v : Option Found) → Sees new m v → On new (and_turn m t.place v)
   and_on m at new v s =
       let a = asks_and m at in
-      let here = seen m t.place a new v s in (
+      let here = seen_comes m t.place a new v s in (
         t.next,
         t.end,
         here,
         and_is_turn (rules_of g.rules) g.start (shapes_of
-            g.nodes) g.bodies g.ranks x more sound new here.fits.cells.found t.node t.place top.spelled m v at
+            g.nodes) g.bodies g.ranks x more sound new here.fits.cells.found t.node t.place top_of_frames.spelled m v at
             (seen_is m t.place a new v s),
       )
 
@@ -164,12 +169,12 @@ module _ (g : Grammar) (x : List ℕ) (more : Bool) (sound : IsSoundGrammar g) (
       (v : Option Found) → Sees new m v → On new (not_turn m t.place v)
   not_on m at new v s =
       let a = asks_not m at in
-      let here = seen m t.place a new v s in (
+      let here = seen_comes m t.place a new v s in (
         t.next,
         t.end,
         here,
         not_is_turn (rules_of g.rules) g.start (shapes_of
-            g.nodes) g.bodies g.ranks x more sound new here.fits.cells.found t.node t.place top.spelled m v at
+            g.nodes) g.bodies g.ranks x more sound new here.fits.cells.found t.node t.place top_of_frames.spelled m v at
             (seen_is m t.place a new v s),
       )
 
@@ -181,12 +186,12 @@ module _ (g : Grammar) (x : List ℕ) (more : Bool) (sound : IsSoundGrammar g) (
       (v : Option Found) → Sees new m v → On new (star_turn new t.node m t.place v)
   star_on m at new v s =
       let a = asks_star m at in
-      let here = seen m t.place a new v s in (
+      let here = seen_comes m t.place a new v s in (
         t.next,
         t.end,
         here,
         star_is_turn (rules_of g.rules) g.start (shapes_of
-            g.nodes) g.bodies g.ranks x more sound new here.fits.cells.found t.node t.place top.spelled m v at
+            g.nodes) g.bodies g.ranks x more sound new here.fits.cells.found t.node t.place top_of_frames.spelled m v at
             (seen_is m t.place a new v s),
       )
 
@@ -198,12 +203,13 @@ module _ (g : Grammar) (x : List ℕ) (more : Bool) (sound : IsSoundGrammar g) (
       (v : Option Found) → Sees new m v → On new (plus_turn new k m t.place v)
   plus_on m k at new v s =
       let a = asks_plus m k at in
-      let here = seen m t.place a new v s in (
+      let here = seen_comes m t.place a new v s in (
         t.next,
         t.end,
         here,
         plus_is_turn (rules_of g.rules) g.start (shapes_of
-            g.nodes) g.bodies g.ranks x more sound new here.fits.cells.found t.node t.place top.spelled m k v at
+            g.nodes) g.bodies g.ranks x more sound new here.fits.cells.found t.node t.place top_of_frames.spelled m k v
+                at
             (seen_is m t.place a new v s),
       )
 
@@ -213,10 +219,10 @@ module _ (g : Grammar) (x : List ℕ) (more : Bool) (sound : IsSoundGrammar g) (
   star_again m at lt = (
     t.next,
     t.end,
-    stays,
+    come_stays,
     star_then (rules_of g.rules) g.start (shapes_of
-        g.nodes) g.bodies g.ranks x more sound cells f.cells.found t.node t.place top.spelled m t.end
-        (found_at cells t.node t.end) at (top.come (node.Star m) at lt) refl,
+        g.nodes) g.bodies g.ranks x more sound cells f.cells.found t.node t.place top_of_frames.spelled m t.end
+        (found_at cells t.node t.end) at (top_of_frames.come (node.Star m) at lt) refl,
   )
 
   pub plus_again : (m k : ℕ) (at : slice_get (shapes_of g.nodes) t.node ≡ Some (node.Plus m k)) → 0 < t.next
@@ -224,23 +230,23 @@ module _ (g : Grammar) (x : List ℕ) (more : Bool) (sound : IsSoundGrammar g) (
   plus_again m k at lt = (
     t.next,
     t.end,
-    stays,
+    come_stays,
     plus_then (rules_of g.rules) g.start (shapes_of
-        g.nodes) g.bodies g.ranks x more sound cells f.cells.found t.node t.place top.spelled m k t.end
-        (found_at cells k t.end) at (top.come (node.Plus m k) at lt) refl,
+        g.nodes) g.bodies g.ranks x more sound cells f.cells.found t.node t.place top_of_frames.spelled m k t.end
+        (found_at cells k t.end) at (top_of_frames.come (node.Plus m k) at lt) refl,
   )
 
   -- where the evaluation of what it asks for stops, it stops
-  pub halts : (m q : ℕ) → Asks (rules_of g.rules) (shapes_of g.nodes) g.bodies x t.node t.place m q
+  pub halts_on : (m q : ℕ) → Asks (rules_of g.rules) (shapes_of g.nodes) g.bodies x t.node t.place m q
       → (new : List Entry) (h : Halt) → IsSeen (rules_of g.rules) g.start (shapes_of g.nodes) g.bodies x more cells new
       m q (Err h) → IsOn g x more below cells new t (Err h)
-  halts m q a new Memory s = tt
-  halts m q a new Short s = short m q a new s
+  halts_on m q a new Memory s = tt
+  halts_on m q a new Short s = seen_short m q a new s
 
   module _ (some : more ≡ true → 0 < length x) (ms : List ℕ) where
     module _ (at : slice_get (shapes_of g.nodes) t.node ≡ Some (node.Seq ms)) where
-      taken : HaveTaken cells ms t.place t.next t.end
-      taken = top.come (node.Seq ms) at
+      members_taken : HaveTaken cells ms t.place t.next t.end
+      members_taken = top_of_frames.come (node.Seq ms) at
 
       pub asks_next : t.next < length ms → Asks (rules_of g.rules) (shapes_of g.nodes) g.bodies x t.node t.place
           (get_or ms t.next 0) t.end
@@ -248,35 +254,37 @@ module _ (g : Grammar) (x : List ℕ) (more : Bool) (sound : IsSoundGrammar g) (
         shape = node.Seq ms;
         at = at;
         by = asks_member (rules_of g.rules) g.start (shapes_of g.nodes) g.bodies g.ranks x more sound cells
-            f.cells.found taken lt;
+            f.cells.found members_taken lt;
       }
 
-      walks : (v : Turn) → IsWalk cells ms t.place v → IsTurn (rules_of g.rules) g.start (shapes_of g.nodes) g.bodies x
+      walk_is_turn : (v : Turn) → IsWalk cells ms t.place v
+          → IsTurn (rules_of g.rules) g.start (shapes_of g.nodes) g.bodies x
           more cells t.node t.place v
-      walks v w = seq_is_turn (rules_of g.rules) g.start (shapes_of g.nodes) g.bodies g.ranks x more sound cells
-          f.cells.found t.node t.place top.spelled ms v at some w
+      walk_is_turn v w = seq_is_turn (rules_of g.rules) g.start (shapes_of g.nodes) g.bodies g.ranks x more sound cells
+          f.cells.found t.node t.place top_of_frames.spelled ms v at some w
 
       pub next_free : t.next < length ms → found_at cells (get_or ms t.next 0) t.end ≡ None
           → IsTurn (rules_of g.rules) g.start (shapes_of g.nodes) g.bodies x more cells t.node t.place
           (Ask (get_or ms t.next 0) t.end t.next t.end)
-      next_free lt none = walks (Ask (get_or ms t.next 0) t.end t.next t.end) (taken, lt, refl, refl, none)
+      next_free lt none =
+          walk_is_turn (Ask (get_or ms t.next 0) t.end t.next t.end) (members_taken, lt, refl, refl, none)
 
       pub next_fails : t.next < length ms → found_at cells (get_or ms t.next 0) t.end ≡ Some Failed
           → IsTurn (rules_of g.rules) g.start (shapes_of g.nodes) g.bodies x more cells t.node t.place (Answer Failed)
-      next_fails lt fails = walks (Answer Failed) (t.next, t.end, taken, lt, fails)
+      next_fails lt fails = walk_is_turn (Answer Failed) (t.next, t.end, members_taken, lt, fails)
 
       pub next_takes : t.next < length ms → (r : ℕ) → found_at cells (get_or ms t.next 0) t.end ≡ Some (Took r)
           → HasCome g x more below cells cells t (t.next + 1) r
-      next_takes lt r takes = comes (t.next + 1) r (come_by (node.Seq ms) (t.next + 1) r at
-          (taken_on cells ms t.place t.next t.end r (Took r) taken lt (sym takes) refl))
+      next_takes lt r takes = way_has_come (t.next + 1) r (come_by (node.Seq ms) (t.next + 1) r at
+          (taken_on cells ms t.place t.next t.end r (Took r) members_taken lt (sym takes) refl))
 
       pub all_taken : length ms ≤ t.next → IsTurn (rules_of g.rules) g.start (shapes_of g.nodes) g.bodies x more cells
           t.node t.place (Answer (Took t.end))
-      all_taken le = walks (Answer (Took t.end)) (t.next, taken, le)
+      all_taken le = walk_is_turn (Answer (Took t.end)) (t.next, members_taken, le)
 
     module _ (at : slice_get (shapes_of g.nodes) t.node ≡ Some (node.Choice ms)) where
-      failed : HaveFailed cells t.place ms t.next
-      failed = top.come (node.Choice ms) at
+      members_failed : HaveFailed cells t.place ms t.next
+      members_failed = top_of_frames.come (node.Choice ms) at
 
       pub asks_other : t.next < length ms → Asks (rules_of g.rules) (shapes_of g.nodes) g.bodies x t.node t.place
           (get_or ms t.next 0) t.place
@@ -285,34 +293,37 @@ module _ (g : Grammar) (x : List ℕ) (more : Bool) (sound : IsSoundGrammar g) (
         at = at;
         by = (
           asks_alternative (rules_of g.rules) g.start (shapes_of
-              g.nodes) g.bodies g.ranks x more sound cells f.cells.found failed lt,
+              g.nodes) g.bodies g.ranks x more sound cells f.cells.found members_failed lt,
           refl,
         );
       }
 
-      searches : (v : Turn) → IsSearch cells ms t.place v → IsTurn (rules_of g.rules) g.start (shapes_of g.nodes)
+      search_is_turn : (v : Turn) → IsSearch cells ms t.place v → IsTurn (rules_of g.rules) g.start (shapes_of g.nodes)
           g.bodies x more cells t.node t.place v
-      searches v w = choice_is_turn (rules_of g.rules) g.start (shapes_of g.nodes) g.bodies g.ranks x more sound cells
-          f.cells.found t.node t.place top.spelled ms v at some w
+      search_is_turn v w =
+          choice_is_turn (rules_of g.rules) g.start (shapes_of g.nodes) g.bodies g.ranks x more sound cells
+          f.cells.found t.node t.place top_of_frames.spelled ms v at some w
 
       pub other_free : t.next < length ms → found_at cells (get_or ms t.next 0) t.place ≡ None →
           IsTurn (rules_of g.rules) g.start (shapes_of g.nodes) g.bodies x more cells t.node t.place
           (Ask (get_or ms t.next 0) t.place t.next t.place)
-      other_free lt none = searches (Ask (get_or ms t.next 0) t.place t.next t.place) (failed, lt, refl, refl, none)
+      other_free lt none =
+          search_is_turn (Ask (get_or ms t.next 0) t.place t.next t.place) (members_failed, lt, refl, refl, none)
 
       pub other_takes : t.next < length ms → (r : ℕ) → found_at cells (get_or ms t.next 0) t.place ≡ Some (Took r)
           → IsTurn (rules_of g.rules) g.start (shapes_of g.nodes) g.bodies x more cells t.node t.place (Answer (Took r))
-      other_takes lt r takes = searches (Answer (Took r)) (t.next, failed, lt, takes)
+      other_takes lt r takes = search_is_turn (Answer (Took r)) (t.next, members_failed, lt, takes)
 
       pub other_fails : t.next < length ms → (q : ℕ) → found_at cells (get_or ms t.next 0) t.place ≡ Some Failed
           → HasCome g x more below cells cells t (t.next + 1) q
-      other_fails lt q fails = comes (t.next + 1) q
-          (come_by (node.Choice ms) (t.next + 1) q at (failed_on cells ms t.place t.next Failed failed lt (sym fails)
+      other_fails lt q fails = way_has_come (t.next + 1) q
+          (come_by (node.Choice ms) (t.next + 1) q at (failed_on cells ms t.place t.next Failed members_failed lt
+              (sym fails)
           refl))
 
       pub all_failed : length ms ≤ t.next → IsTurn (rules_of g.rules) g.start (shapes_of g.nodes) g.bodies x more cells
           t.node t.place (Answer Failed)
-      all_failed le = searches (Answer Failed) (t.next, failed, le)
+      all_failed le = search_is_turn (Answer Failed) (t.next, members_failed, le)
 
 -- what goes on from where the last frame has come goes on from where it was
 pub next_from : (g : Grammar) (x : List ℕ) (more : Bool) (below : List Frame) (old mid new : List Entry)
@@ -328,58 +339,59 @@ module _ (g : Grammar) (x : List ℕ) (more : Bool) (sound : IsSoundGrammar g) (
   abbrev come : Frame
   come = come_to top i q
 
-  halted : (m p : ℕ) → Asks (rules_of g.rules) (shapes_of g.nodes) g.bodies x come.node come.place m p
+  next_halted : (m p : ℕ) → Asks (rules_of g.rules) (shapes_of g.nodes) g.bodies x come.node come.place m p
       → (new : List Entry) (s : Halt) →
       IsSeen (rules_of g.rules) g.start (shapes_of g.nodes) g.bodies x more mid new m p (Err s)
       → IsOn g x more below old new top (Err s)
-  halted m p a new Memory s = tt
-  halted m p a new Short s = short g x more sound below mid come h.fits m p a new s
+  next_halted m p a new Memory s = tt
+  next_halted m p a new Short s = seen_short g x more sound below mid come h.fits m p a new s
 
   module _ (at : slice_get (shapes_of g.nodes) top.node ≡ Some (node.Seq ms)) where
     asked_next : Asks (rules_of g.rules) (shapes_of g.nodes) g.bodies x come.node come.place (get_or ms i 0) q
     asked_next = asks_next g x more sound below mid come h.fits some ms at lt
 
     pub next_child : IsVisited (rules_of g.rules) g.start (shapes_of g.nodes) g.bodies g.ranks x sound (get_or ms i 0) q
-    next_child = child g x more sound below mid come h.fits (get_or ms i 0) q asked_next
+    next_child = child_visited g x more sound below mid come h.fits (get_or ms i 0) q asked_next
 
     abbrev SeesNext : List Entry → Result (Option Found) Halt → Type 0
     SeesNext new r = IsSeen (rules_of g.rules) g.start (shapes_of g.nodes) g.bodies x more mid new (get_or ms i 0) q r
 
-    came : (new : List Entry) (v : Option Found) → SeesNext new (Ok v) → HasCome g x more below mid new come i q
-    came new v s = seen g x more sound below mid come h.fits (get_or ms i 0) q asked_next new v s
+    next_came : (new : List Entry) (v : Option Found) → SeesNext new (Ok v) → HasCome g x more below mid new come i q
+    next_came new v s = seen_comes g x more sound below mid come h.fits (get_or ms i 0) q asked_next new v s
 
-    was : (new : List Entry) (v : Option Found) → SeesNext new (Ok v) → found_at new (get_or ms i 0) q ≡ v
-    was new v s = sym (seen_is g x more sound below mid come h.fits (get_or ms i 0) q asked_next new v s)
+    next_was : (new : List Entry) (v : Option Found) → SeesNext new (Ok v) → found_at new (get_or ms i 0) q ≡ v
+    next_was new v s = sym (seen_is g x more sound below mid come h.fits (get_or ms i 0) q asked_next new v s)
 
     pub member_free : (new : List Entry) → SeesNext new (Ok None)
         → IsOn g x more below old new top (Ok (Ask (get_or ms i 0) q i q))
     member_free new s =
-        let n = came new None s in (
+        let n = next_came new None s in (
           i,
           q,
-          further g x more below old mid new top i q i q h n,
-          next_free g x more sound below new come n.fits some ms at lt (was new None s),
+          come_further g x more below old mid new top i q i q h n,
+          next_free g x more sound below new come n.fits some ms at lt (next_was new None s),
         )
 
     pub member_fails : (new : List Entry) → SeesNext new (Ok (Some Failed))
         → IsOn g x more below old new top (Ok (Answer Failed))
     member_fails new s =
-        let n = came new (Some Failed) s in (
+        let n = next_came new (Some Failed) s in (
           i,
           q,
-          further g x more below old mid new top i q i q h n,
-          next_fails g x more sound below new come n.fits some ms at lt (was new (Some Failed) s),
+          come_further g x more below old mid new top i q i q h n,
+          next_fails g x more sound below new come n.fits some ms at lt (next_was new (Some Failed) s),
         )
 
     pub member_takes : (new : List Entry) (r : ℕ) → SeesNext new (Ok (Some (Took r)))
         → HasCome g x more below old new top (i + 1) r
     member_takes new r s =
-        let n = came new (Some (Took r)) s in
-        let on = next_takes g x more sound below new come n.fits some ms at lt r (was new (Some (Took r)) s) in
-        further g x more below old new new top i q (i + 1) r (further g x more below old mid new top i q i q h n) on
+        let n = next_came new (Some (Took r)) s in
+        let on = next_takes g x more sound below new come n.fits some ms at lt r (next_was new (Some (Took r)) s) in
+        come_further g x more below old new new top i q (i + 1) r
+            (come_further g x more below old mid new top i q i q h n) on
 
     pub member_halts : (new : List Entry) (s : Halt) → SeesNext new (Err s) → IsOn g x more below old new top (Err s)
-    member_halts new s e = halted (get_or ms i 0) q asked_next new s e
+    member_halts new s e = next_halted (get_or ms i 0) q asked_next new s e
 
   module _ (at : slice_get (shapes_of g.nodes) top.node ≡ Some (node.Choice ms)) where
     asked_other : Asks (rules_of g.rules) (shapes_of g.nodes) g.bodies x come.node come.place (get_or ms i 0) top.place
@@ -387,14 +399,14 @@ module _ (g : Grammar) (x : List ℕ) (more : Bool) (sound : IsSoundGrammar g) (
 
     pub other_child : IsVisited (rules_of g.rules) g.start (shapes_of g.nodes) g.bodies g.ranks x sound (get_or ms i 0)
         top.place
-    other_child = child g x more sound below mid come h.fits (get_or ms i 0) top.place asked_other
+    other_child = child_visited g x more sound below mid come h.fits (get_or ms i 0) top.place asked_other
 
     abbrev SeesOther : List Entry → Result (Option Found) Halt → Type 0
     SeesOther new r = IsSeen (rules_of g.rules) g.start (shapes_of g.nodes) g.bodies x more mid new (get_or ms i 0)
         top.place r
 
     came_other : (new : List Entry) (v : Option Found) → SeesOther new (Ok v) → HasCome g x more below mid new come i q
-    came_other new v s = seen g x more sound below mid come h.fits (get_or ms i 0) top.place asked_other new v s
+    came_other new v s = seen_comes g x more sound below mid come h.fits (get_or ms i 0) top.place asked_other new v s
 
     was_other : (new : List Entry) (v : Option Found) → SeesOther new (Ok v)
         → found_at new (get_or ms i 0) top.place ≡ v
@@ -406,7 +418,7 @@ module _ (g : Grammar) (x : List ℕ) (more : Bool) (sound : IsSoundGrammar g) (
         let n = came_other new None s in (
           i,
           q,
-          further g x more below old mid new top i q i q h n,
+          come_further g x more below old mid new top i q i q h n,
           other_free g x more sound below new come n.fits some ms at lt (was_other new None s),
         )
 
@@ -416,7 +428,7 @@ module _ (g : Grammar) (x : List ℕ) (more : Bool) (sound : IsSoundGrammar g) (
         let n = came_other new (Some (Took r)) s in (
           i,
           q,
-          further g x more below old mid new top i q i q h n,
+          come_further g x more below old mid new top i q i q h n,
           other_takes g x more sound below new come n.fits some ms at lt r (was_other new (Some (Took r)) s),
         )
 
@@ -425,8 +437,9 @@ module _ (g : Grammar) (x : List ℕ) (more : Bool) (sound : IsSoundGrammar g) (
     alternative_fails new s =
         let n = came_other new (Some Failed) s in
         let on = other_fails g x more sound below new come n.fits some ms at lt q (was_other new (Some Failed) s) in
-        further g x more below old new new top i q (i + 1) q (further g x more below old mid new top i q i q h n) on
+        come_further g x more below old new new top i q (i + 1) q
+            (come_further g x more below old mid new top i q i q h n) on
 
     pub alternative_halts : (new : List Entry) (s : Halt) → SeesOther new (Err s)
         → IsOn g x more below old new top (Err s)
-    alternative_halts new s e = halted (get_or ms i 0) top.place asked_other new s e
+    alternative_halts new s e = next_halted (get_or ms i 0) top.place asked_other new s e

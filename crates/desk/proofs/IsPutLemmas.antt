@@ -2,22 +2,11 @@
 -- Serves: Desk::step, Desk::match_unit.
 use Rattle.std.proofs.Common.{◌≡◌, ◌⊎◌, inl, inr, ℕ, Bool, true, false, ◌&&◌, ◌==◌, if◌then◌else◌, List, [], ◌∷◌, ◌++◌}
 use Rattle.std.proofs.Common.{Option, Some, None, refl, sym, ◌∙◌}
-use Rattle.std.proofs.lemmas.Bool.{cases_Bool, eqb-true, eq-eqb, and_parts, and_from}
+use Rattle.std.proofs.lemmas.Bool.{cases_Bool, eq-eqb, and_from}
 use Rattle.cells.specs.declared.cell.Found.{Found}
-use Rattle.cells.specs.Entries.{Entry}
-use Rattle.cells.specs.Entries.{found_at, AreDifferent}
+use Rattle.cells.specs.Entries.{Entry, found_at, AreDifferent}
+use Rattle.cells.proofs.FoundAtLemmas.{is_of, is_own}
 use Rattle.desk.specs.State.{IsPut}
-
--- whether the cell is of that node and place
-abbrev pub is_of : Entry → ℕ → ℕ → Bool
-is_of c n p = (c.node == n) && (c.place == p)
-
-pub is_own : (c : Entry) (n p : ℕ) → is_of c n p ≡ true → (c.node ≡ n) × (c.place ≡ p)
-is_own c n p h = let both = and_parts (c.node == n) (c.place == p) h in
-    (eqb-true c.node n both.0, eqb-true c.place p both.1)
-
-pub own : (c : Entry) → is_of c c.node c.place ≡ true
-own c = and_from (c.node == c.node) (c.place == c.place) (eq-eqb c.node c.node refl) (eq-eqb c.place c.place refl)
 
 pub kept_at : (cells : List Entry) (c : Entry) (m q : ℕ) (h : Found) → found_at cells m q ≡ Some h
     → found_at (cells ++ c ∷ []) m q ≡ Some h
@@ -32,7 +21,7 @@ kept_at (d ∷ cells) c m q h is = by (is_of d m q) is (λ k. kept_at cells c m 
 
 pub here_at : (cells : List Entry) (c : Entry) → found_at cells c.node c.place ≡ None
     → found_at (cells ++ c ∷ []) c.node c.place ≡ Some c.found
-here_at [] c is = rw (own c) refl
+here_at [] c is = rw (is_of_own c) refl
 here_at (d ∷ cells) c is = by (is_of d c.node c.place) is (λ k. here_at cells c k)
   where
     by : (v : Bool) → (if v then Some d.found else found_at cells c.node c.place) ≡ None →

@@ -15,25 +15,25 @@ use Rattle.desk.specs.State.{HasCell, IsPut, none_taken, none_failed, HasCome, I
 use Rattle.desk.specs.State.{bottom, above, AreCells, HasNoFrame, AreUnderWay}
 use Rattle.desk.specs.Turns.{IsTurn}
 use Rattle.desk.specs.Visits.{Asks, Visits, first, asked}
-use Rattle.desk.proofs.AsksLemmas.{height, falls, is_visited}
+use Rattle.desk.proofs.AsksLemmas.{height, height_falls, is_visited}
 use Rattle.desk.proofs.HaveTakenLemmas.{still_taken, still_failed}
 
 -- an evaluation that begins
-begun : (cells : List Entry) (shape : Shape) (p : ℕ) → HasCome cells shape p 0 p
-begun cells node.Any p = tt
-begun cells (node.Bytes bs) p = tt
-begun cells (node.Set s) p = tt
-begun cells (node.Name id) p = tt
-begun cells (node.Seq ms) p = none_taken
-begun cells (node.Choice ms) p = none_failed
-begun cells (node.Star k) p = λ lt. absurd (omega arith)
-begun cells (node.Plus k s) p = λ lt. absurd (omega arith)
-begun cells (node.Opt k) p = tt
-begun cells (node.And k) p = tt
-begun cells (node.Not k) p = tt
-begun cells (node.Act t) p = tt
-begun cells node.Open p = tt
-begun cells node.Close p = tt
+begun_has_come : (cells : List Entry) (shape : Shape) (p : ℕ) → HasCome cells shape p 0 p
+begun_has_come cells node.Any p = tt
+begun_has_come cells (node.Bytes bs) p = tt
+begun_has_come cells (node.Set s) p = tt
+begun_has_come cells (node.Name id) p = tt
+begun_has_come cells (node.Seq ms) p = none_taken
+begun_has_come cells (node.Choice ms) p = none_failed
+begun_has_come cells (node.Star k) p = λ lt. absurd (omega arith)
+begun_has_come cells (node.Plus k s) p = λ lt. absurd (omega arith)
+begun_has_come cells (node.Opt k) p = tt
+begun_has_come cells (node.And k) p = tt
+begun_has_come cells (node.Not k) p = tt
+begun_has_come cells (node.Act t) p = tt
+begun_has_come cells node.Open p = tt
+begun_has_come cells node.Close p = tt
 
 still_come : (old new : List Entry) → ((m q : ℕ) (h : Found) → found_at old m q ≡ Some h → found_at new m q ≡ Some h)
     → (shape : Shape) (p i q : ℕ) → HasCome old shape p i q → HasCome new shape p i q
@@ -82,7 +82,7 @@ module _ (rules : List Rule) (start : ℕ) (nodes : List Shape) (bodies ranks x 
   are_above (bottom o at is) = tt
   are_above (above {h = h} {f = f} {fs = fs} o a s) =
       let v = is_visited rules start nodes bodies ranks x sound (stack_visits s) in
-      let less = falls rules start nodes bodies ranks x sound f.node f.place h.node h.place v.spelled v.high a in
+      let less = height_falls rules start nodes bodies ranks x sound f.node f.place h.node h.place v.spelled v.high a in
       (less, above_more (high f) (high h) fs (omega arith) (are_above s))
 
   no_frame_of : (n p : ℕ) (fs : List Frame) → AreAbove (height rules start nodes bodies ranks x sound n p) fs
@@ -125,9 +125,9 @@ module _ (rules : List Rule) (start : ℕ) (nodes : List Shape) (bodies ranks x 
       above (still_open old new n p h put g less.0 o) a (still_stack old new n p h put less.1 s)
 
   -- the frames below one
-  below : {cells : List Entry} {f : Frame} {fs : List Frame} → Stack cells (f ∷ fs) → Stack cells fs
-  below (bottom o at is) = no_frame
-  below (above o a s) = s
+  stack_below : {cells : List Entry} {f : Frame} {fs : List Frame} → Stack cells (f ∷ fs) → Stack cells fs
+  stack_below (bottom o at is) = no_frame
+  stack_below (above o a s) = s
 
   top_open : {cells : List Entry} {f : Frame} {fs : List Frame} → Stack cells (f ∷ fs)
       → IsOpen rules start nodes bodies x more cells f
@@ -150,13 +150,13 @@ module _ (rules : List Rule) (start : ℕ) (nodes : List Shape) (bodies ranks x 
       → IsTurn rules start nodes bodies x more cells f.node f.place (Ask m q i r) →
       Stack cells (record { node = m; place = q; next = 0; end = q }
       ∷ (record { node = f.node; place = f.place; next = i; end = r } ∷ fs))
-  stack_push cells f fs m q i r s t = above (record { none = t.1; come = λ shape at. begun cells shape q }) t.0
+  stack_push cells f fs m q i r s t = above (record { none = t.1; come = λ shape at. begun_has_come cells shape q }) t.0
       (come_on s i r t.2)
 
   -- the last frame is dropped, and has its cell
   pub stack_pop : (old new : List Entry) (f : Frame) (fs : List Frame) (h : Found) → Stack old (f ∷ fs)
       → IsPut old new f.node f.place h → Stack new fs
-  stack_pop old new f fs h s put = still_stack old new f.node f.place h put (are_above s) (below s)
+  stack_pop old new f fs h s put = still_stack old new f.node f.place h put (are_above s) (stack_below s)
 
   -- all cells are right with one more
   pub cells_put : (old new : List Entry) (n p : ℕ) (h : Found) → AreCells rules start nodes bodies x more old
@@ -187,9 +187,9 @@ module _ (rules : List Rule) (start : ℕ) (nodes : List Shape) (bodies ranks x 
   }
 
   -- the first frame, once it is alone
-  pub alone : (cells : List Entry) (f : Frame) → Stack cells (f ∷ []) → (slice_get bodies start ≡ Some f.node)
+  pub alone_is_start : (cells : List Entry) (f : Frame) → Stack cells (f ∷ []) → (slice_get bodies start ≡ Some f.node)
       × (f.place ≡ 0)
-  alone cells f s = by s
+  alone_is_start cells f s = by s
     where
       by : {f : Frame} → Stack cells (f ∷ []) → (slice_get bodies start ≡ Some f.node) × (f.place ≡ 0)
       by (bottom o at is) = (at, is)
@@ -207,7 +207,7 @@ module _ (rules : List Rule) (start : ℕ) (nodes : List Shape) (bodies ranks x 
   -- the first frame of all
   pub stack_begin : (root : ℕ) → slice_get bodies start ≡ Some root
       → Stack [] (record { node = root; place = 0; next = 0; end = 0 } ∷ [])
-  stack_begin root at = bottom (record { none = refl; come = λ shape h. begun [] shape 0 }) at refl
+  stack_begin root at = bottom (record { none = refl; come = λ shape h. begun_has_come [] shape 0 }) at refl
 
   pub no_cells : AreCells rules start nodes bodies x more []
   no_cells = record {

@@ -34,12 +34,13 @@ use Rattle.desk.proofs.LookedLemmas.{ends_within}
 use Rattle.desk.proofs.VisitsLemmas.{visits_within}
 use Rattle.desk.proofs.IsPutLemmas.{is_put, different_put}
 use Rattle.desk.proofs.NodeGivesLemmas.{gives_as, same_node}
-use Rattle.desk.proofs.IsStackLemmas.{top_visits, top_is_open, stack_push, stack_pop, cells_put, alone, all_visited}
+use Rattle.desk.proofs.IsStackLemmas.{top_visits, top_is_open, stack_push, stack_pop}
+use Rattle.desk.proofs.IsStackLemmas.{cells_put, alone_is_start, all_visited}
 use Rattle.desk.proofs.IsStackLemmas.{stack_begin, no_cells, under_way}
 
 -- what is counted has room
-pub room : (a b n : ℕ) → a < 2 ^ 64 → b < 2 ^ 64 → n ≤ a * (b + 1) → n + 1 < 2 ^ 128
-room a b n lt less h =
+pub room_for_one : (a b n : ℕ) → a < 2 ^ 64 → b < 2 ^ 64 → n ≤ a * (b + 1) → n + 1 < 2 ^ 128
+room_for_one a b n lt less h =
     let one : a * (b + 1) ≤ a * (2 ^ 64) = mul-le-mul_left a (omega arith) in
     omega arith
 
@@ -47,9 +48,10 @@ pub some_frame : (fs : List Frame) → (fs ≡ [] → ⊥) → (u : Frame) × (u
 some_frame [] h = absurd (h refl)
 some_frame (u ∷ us) h = (u, us, refl)
 
-less : (b old new below frames frames' : ℕ) → new ≤ b → new ≡ old + 1 → frames ≡ suc below → frames' ≡ suc (suc below)
+less_by_push : (b old new below frames frames' : ℕ) → new ≤ b → new ≡ old + 1 → frames ≡ suc below
+    → frames' ≡ suc (suc below)
     → 2 * (b + 1 - new) + frames' < 2 * (b + 1 - old) + frames
-less b old new below frames frames' most is before now = omega arith
+less_by_push b old new below frames frames' most is before now = omega arith
 
 same_less : (b old new frames frames' : ℕ) → new ≡ old → frames ≡ suc frames' → 2 * (b + 1 - new) + frames'
     < 2 * (b + 1 - old) + frames
@@ -91,13 +93,13 @@ module _ (g : Grammar) (x : List ℕ) (more : Bool) (sound : IsSoundGrammar g) w
     pub come : IsUnderWay Rs g.start Ns g.bodies x more d.cells t.node t.place t.next t.end
     pub none : found_at d.cells t.node t.place ≡ None
 
-  stacked : (d : View) (t : Frame) (fs : List Frame) → Fits g x more d → d.frames ≡ t ∷ fs
+  is_stacked : (d : View) (t : Frame) (fs : List Frame) → Fits g x more d → d.frames ≡ t ∷ fs
       → IsStack Rs g.start Ns g.bodies x more d.cells (t ∷ fs)
-  stacked d t fs f is = subst (λ v. IsStack Rs g.start Ns g.bodies x more d.cells v) is f.stack
+  is_stacked d t fs f is = subst (λ v. IsStack Rs g.start Ns g.bodies x more d.cells v) is f.stack
 
   pub is_top : (d : View) (t : Frame) (fs : List Frame) → Fits g x more d → d.frames ≡ t ∷ fs → IsTop d t
   is_top d t fs f is =
-      let s = stacked d t fs f is in
+      let s = is_stacked d t fs f is in
       let visits = top_visits Rs g.start Ns g.bodies g.ranks x more sound d.cells t fs s in
       let v = is_visited Rs g.start Ns g.bodies g.ranks x sound visits in
       let o = top_is_open Rs g.start Ns g.bodies g.ranks x more sound d.cells t fs s in
@@ -132,12 +134,14 @@ module _ (g : Grammar) (x : List ℕ) (more : Bool) (sound : IsSoundGrammar g) w
       let same : there.0 ≡ gives.body = cc (there.1, gives.rule) in
       record { expr = gives.body; spelled = subst (Spells Rs Ns root) same there.2; gives = gives.gives }
 
-  pub pushed : (old new : View) (t : Frame) (fs : List Frame) (m q i r : ℕ) → Fits g x more old → old.frames ≡ t ∷ fs →
+  pub pushed_step : (old new : View) (t : Frame) (fs : List Frame) (m q i r : ℕ) → Fits g x more old
+      → old.frames ≡ t ∷ fs →
       IsTurn Rs g.start Ns g.bodies x more old.cells t.node t.place (Ask m q i r) → new.cells ≡ old.cells →
       new.frames ≡ beginning m q ∷ (record { node = t.node; place = t.place; next = i; end = r } ∷ fs)
       → new.begun ≡ old.begun + 1 → IsStep g x more old new None
-  pushed old new t fs m q i r f is turn cells frames begun =
-      let stack = stack_push Rs g.start Ns g.bodies g.ranks x more sound old.cells t fs m q i r (stacked old t fs f is)
+  pushed_step old new t fs m q i r f is turn cells frames begun =
+      let stack = stack_push Rs g.start Ns g.bodies g.ranks x more sound old.cells t fs m q i r
+          (is_stacked old t fs f is)
       turn in
       let lengths = ap length frames in
       let before = ap length is in (
@@ -165,15 +169,18 @@ module _ (g : Grammar) (x : List ℕ) (more : Bool) (sound : IsSoundGrammar g) w
       (turn : IsTurn Rs g.start Ns g.bodies x more old.cells t.node t.place (Answer h))
       (cells : new.cells ≡ old.cells ++ record { node = t.node; place = t.place; found = h } ∷ [])
       (frames : new.frames ≡ fs) (begun : new.begun ≡ old.begun) where
-    put : IsPut old.cells new.cells t.node t.place h
-    put = is_put old.cells new.cells (record { node = t.node; place = t.place; found = h }) (is_top old t fs f is).none
+    put_once : IsPut old.cells new.cells t.node t.place h
+    put_once =
+        is_put old.cells new.cells (record { node = t.node; place = t.place; found = h }) (is_top old t fs f is).none
         cells
 
-    longer : length new.cells ≡ length old.cells + 1
-    longer = ap length cells ∙ length-append old.cells (record { node = t.node; place = t.place; found = h } ∷ [])
+    longer_by_one : length new.cells ≡ length old.cells + 1
+    longer_by_one =
+        ap length cells ∙ length-append old.cells (record { node = t.node; place = t.place; found = h } ∷ [])
 
-    pub drops : Drops old new h
-    drops = record { top = t; was = is ∙ ap (λ v. t ∷ v) (sym frames); cells = put; grown = longer; begun = begun }
+    pub drops_top : Drops old new h
+    drops_top = record { top = t; was = is ∙ ap (λ v. t ∷ v) (sym frames); cells = put_once; grown = longer_by_one;
+        begun = begun }
 
     pub still_fits : Fits g x more new
     still_fits =
@@ -182,29 +189,29 @@ module _ (g : Grammar) (x : List ℕ) (more : Bool) (sound : IsSoundGrammar g) w
         let top = is_top old t fs f is in
         record {
           stack = rw frames (stack_pop Rs g.start Ns g.bodies g.ranks x more sound old.cells new.cells t fs h
-              (stacked old t fs f is) put);
+              (is_stacked old t fs f is) put_once);
           cells = cells_put Rs g.start Ns g.bodies g.ranks x more sound old.cells new.cells t.node t.place h f.cells
-              top.visits turn put;
+              top.visits turn put_once;
           different = rw cells (different_put old.cells (record { node = t.node; place = t.place; found = h })
               f.different top.none);
-          count = omega (arith, begun, f.count, lengths, before, longer);
+          count = omega (arith, begun, f.count, lengths, before, longer_by_one);
         }
 
-    pub dropped : (u : Frame) (us : List Frame) → new.frames ≡ u ∷ us → IsStep g x more old new None
-    dropped u us there = (still_fits, (u, us, there), inr (h, drops))
+    pub dropped_step : (u : Frame) (us : List Frame) → new.frames ≡ u ∷ us → IsStep g x more old new None
+    dropped_step u us there = (still_fits, (u, us, there), inr (h, drops_top))
 
-    pub ended : new.frames ≡ [] → Ends g x more old new h
-    ended none =
+    pub ended_here : new.frames ≡ [] → Ends g x more old new h
+    ended_here none =
         let s : IsStack Rs g.start Ns g.bodies x more old.cells (t ∷ []) =
-        stacked old t [] f (is ∙ ap (λ v. t ∷ v) (sym frames ∙ none)) in
-        let root = alone Rs g.start Ns g.bodies g.ranks x more sound old.cells t s in
+        is_stacked old t [] f (is ∙ ap (λ v. t ∷ v) (sym frames ∙ none)) in
+        let root = alone_is_start Rs g.start Ns g.bodies g.ranks x more sound old.cells t s in
         let now = still_fits in
         let here : found_at new.cells t.node 0 ≡ Some h = subst (λ v. found_at new.cells t.node v ≡ Some h) root.1
-        put.here in
+        put_once.here in
         let found = now.cells.found t.node 0 h here in
         let lengths = ap length none in
         record {
-          drops = drops;
+          drops = drops_top;
           done = record {
             frames = none;
             visited = now.cells.visited;
@@ -227,9 +234,9 @@ module _ (g : Grammar) (x : List ℕ) (more : Bool) (sound : IsSoundGrammar g) w
   ended_step old new Failed b e is = (e, is)
   ended_step old new (Took end) b e is = (e, is)
 
-  pub reaches : (d : View) (t : Frame) (fs : List Frame) → d.frames ≡ t ∷ fs
+  pub reaches_end : (d : View) (t : Frame) (fs : List Frame) → d.frames ≡ t ∷ fs
       → IsTurn Rs g.start Ns g.bodies x more d.cells t.node t.place Need → Reaches g x more d
-  reaches d t fs is turn = record {
+  reaches_end d t fs is turn = record {
     behind = turn.0;
     top = t;
     below = fs;
@@ -297,7 +304,7 @@ module _ (g : Grammar) (x : List ℕ) (more : Bool) (sound : IsSoundGrammar g) w
             let most = fits_at_most new fits in
             let before = ap length p.was in
             let now = ap length p.is in
-            less (length Ns * (length x + 1)) old.begun new.begun (length p.below) (length old.frames)
+            less_by_push (length Ns * (length x + 1)) old.begun new.begun (length p.below) (length old.frames)
             (length new.frames) most p.begun before now
         | inr h ↦
             let before = ap length h.1.was in

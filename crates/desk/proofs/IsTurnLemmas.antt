@@ -39,9 +39,9 @@ module _ (rules : List Rule) (start : ℕ) (nodes : List Shape) (bodies ranks x 
   abbrev Finds : Found → Type 0
   Finds f = IsFound rules start nodes bodies x more n p f
 
-  way : (shape : Shape) (i q : ℕ) → slice_get nodes n ≡ Some shape → HasCome cells shape p i q
+  is_under_way : (shape : Shape) (i q : ℕ) → slice_get nodes n ≡ Some shape → HasCome cells shape p i q
       → IsUnderWay rules start nodes bodies x more cells n p i q
-  way shape i q at w = λ other h. let same : shape ≡ other = cc in subst (λ v. HasCome cells v p i q) same w
+  is_under_way shape i q at w = λ other h. let same : shape ≡ other = cc in subst (λ v. HasCome cells v p i q) same w
 
   asks_as : (shape : Shape) (m q : ℕ) → slice_get nodes n ≡ Some shape → Asks rules nodes bodies x n p m q
       → AsksBy rules nodes bodies x shape n p m q
@@ -87,7 +87,7 @@ module _ (rules : List Rule) (start : ℕ) (nodes : List Shape) (bodies ranks x 
   name_is_turn id m None at body h = (
     record { shape = node.Name id; at = at; by = (body, refl) },
     sym h,
-    way (node.Name id) 0 p at tt,
+    is_under_way (node.Name id) 0 p at tt,
   )
   name_is_turn id m (Some f) at body h =
       let g = right m p f (sym h) in (
@@ -107,7 +107,7 @@ module _ (rules : List Rule) (start : ℕ) (nodes : List Shape) (bodies ranks x 
   opt_is_turn m None at h = (
     record { shape = node.Opt m; at = at; by = (refl, refl) },
     sym h,
-    way (node.Opt m) 0 p at tt,
+    is_under_way (node.Opt m) 0 p at tt,
   )
   opt_is_turn m (Some Failed) at h =
       let g = right m p Failed (sym h) in (
@@ -136,7 +136,7 @@ module _ (rules : List Rule) (start : ℕ) (nodes : List Shape) (bodies ranks x 
   and_is_turn m None at h = (
     record { shape = node.And m; at = at; by = (refl, refl) },
     sym h,
-    way (node.And m) 0 p at tt,
+    is_under_way (node.And m) 0 p at tt,
   )
   and_is_turn m (Some Failed) at h =
       let g = right m p Failed (sym h) in (
@@ -165,7 +165,7 @@ module _ (rules : List Rule) (start : ℕ) (nodes : List Shape) (bodies ranks x 
   not_is_turn m None at h = (
     record { shape = node.Not m; at = at; by = (refl, refl) },
     sym h,
-    way (node.Not m) 0 p at tt,
+    is_under_way (node.Not m) 0 p at tt,
   )
   not_is_turn m (Some Failed) at h =
       let g = right m p Failed (sym h) in (
@@ -205,7 +205,7 @@ module _ (rules : List Rule) (start : ℕ) (nodes : List Shape) (bodies ranks x 
       );
     },
     sym h,
-    way (node.Star m) 1 r at (λ _. g),
+    is_under_way (node.Star m) 1 r at (λ _. g),
   )
   star_then m r (Some Failed) at g h = let f = right n r Failed (sym h) in
       absurd (star_never_fails rules start nodes bodies ranks x sound n m s r f.looked at f.gives)
@@ -233,7 +233,7 @@ module _ (rules : List Rule) (start : ℕ) (nodes : List Shape) (bodies ranks x 
   star_is_turn m None at h = (
     record { shape = node.Star m; at = at; by = inl (refl, refl) },
     sym h,
-    way (node.Star m) 0 p at (λ lt. absurd (omega arith)),
+    is_under_way (node.Star m) 0 p at (λ lt. absurd (omega arith)),
   )
   star_is_turn m (Some Failed) at h =
       let g = right m p Failed (sym h) in (
@@ -263,7 +263,7 @@ module _ (rules : List Rule) (start : ℕ) (nodes : List Shape) (bodies ranks x 
       );
     },
     sym h,
-    way (node.Plus m i) 1 r at (λ _. g),
+    is_under_way (node.Plus m i) 1 r at (λ _. g),
   )
   plus_then m i r (Some Failed) at g h =
       let f = right i r Failed (sym h) in
@@ -293,7 +293,7 @@ module _ (rules : List Rule) (start : ℕ) (nodes : List Shape) (bodies ranks x 
   plus_is_turn m i None at h = (
     record { shape = node.Plus m i; at = at; by = inl (refl, refl) },
     sym h,
-    way (node.Plus m i) 0 p at (λ lt. absurd (omega arith)),
+    is_under_way (node.Plus m i) 0 p at (λ lt. absurd (omega arith)),
   )
   plus_is_turn m i (Some Failed) at h =
       let g = right m p Failed (sym h) in (
@@ -317,7 +317,7 @@ module _ (rules : List Rule) (start : ℕ) (nodes : List Shape) (bodies ranks x 
       let a = asks_member rules start nodes bodies ranks x more sound cells right w.0 w.1 in (
         record { shape = node.Seq ms; at = at; by = rw (w.2, w.3) a },
         w.4,
-        way (node.Seq ms) i r at w.0,
+        is_under_way (node.Seq ms) i r at w.0,
       )
   seq_is_turn ms (Answer Failed) at some w =
       let like = has_shape rules nodes s.1 (node.Seq ms) at in
@@ -359,7 +359,7 @@ module _ (rules : List Rule) (start : ℕ) (nodes : List Shape) (bodies ranks x 
       let a = asks_alternative rules start nodes bodies ranks x more sound cells right w.0 w.1 in (
         record { shape = node.Choice ms; at = at; by = (rw w.2 a, w.3) },
         w.4,
-        way (node.Choice ms) i r at w.0,
+        is_under_way (node.Choice ms) i r at w.0,
       )
   choice_is_turn ms (Answer Failed) at some w =
       let like = has_shape rules nodes s.1 (node.Choice ms) at in

@@ -18,7 +18,7 @@ use Rattle.gramcheck.specs.Outcome.{and_takes, not_takes, GivesAll, all_done, re
 use Rattle.gramcheck.specs.Outcome.{first_fails}
 use Rattle.gramcheck.specs.Printing.{Prints}
 use Rattle.gramcheck.specs.Sound.{IsRanked}
-use Rattle.gramcheck.proofs.OneOutcomeLemmas.{same}
+use Rattle.gramcheck.proofs.OneOutcomeLemmas.{gives_same}
 use Rattle.gramcheck.proofs.HasShapeLemmas.{has_shape}
 use Rattle.gramcheck.proofs.NodeSpellsLemmas.{is_there}
 use Rattle.gramcheck.proofs.PrintMarksLemmas.{gives_no_events}
@@ -36,7 +36,7 @@ use Rattle.desk.specs.Path.{EndsBy, opt_way, into, star_way, seq_way, choice_way
 use Rattle.desk.specs.Path.{IsLeft, IsWay, pair_height}
 use Rattle.desk.specs.State.{HasCell, HaveTaken, none_taken, AreCells}
 use Rattle.desk.specs.Visits.{NodeGives, NodeTakes, Asks, AsksAlternative, alternative_here, alternative_later}
-use Rattle.desk.proofs.AsksLemmas.{leads, falls}
+use Rattle.desk.proofs.AsksLemmas.{leads_to, height_falls}
 use Rattle.desk.proofs.GivesLemmas.{is_name}
 use Rattle.desk.proofs.NodeGivesLemmas.{gives_as}
 use Rattle.desk.proofs.HaveTakenLemmas.{taken_next, asks_member}
@@ -90,8 +90,9 @@ module _ (rules : List Rule) (start : ℕ) (nodes : List Shape) (bodies ranks x 
   fresh_by n p es t node.Open h = t
   fresh_by n p es t node.Close h = t
 
-  pub fresh : (n p : ℕ) (es : List Event) → HasCell cells n p → p ≤ length x → Takings n p es → Lefts (beginning n p) es
-  fresh n p es has high t = record {
+  pub lefts_of_fresh : (n p : ℕ) (es : List Event) → HasCell cells n p → p ≤ length x → Takings n p es
+      → Lefts (beginning n p) es
+  lefts_of_fresh n p es has high t = record {
     has = has;
     spelled = (t.gives.expr, t.gives.spelled);
     high = high;
@@ -220,21 +221,23 @@ module _ (rules : List Rule) (start : ℕ) (nodes : List Shape) (bodies ranks x 
 
   fails_not : {m p end k : ℕ} {now : List Event} {e : Pattern} → found_at cells m p ≡ Some Failed
       → Spells rules nodes m e → Gives rules x e p (Takes end now) k → ⊥
-  fails_not {m = m} {p = p} h s d = let w = same rules x d (as_own s (right.found m p Failed h).gives) in cc w.outcome
+  fails_not {m = m} {p = p} h s d =
+      let w = gives_same rules x d (as_own s (right.found m p Failed h).gives) in cc w.outcome
 
   takes_not : {m p r k : ℕ} {e : Pattern} → found_at cells m p ≡ Some (Took r) → Spells rules nodes m e
       → Gives rules x e p Fails k → ⊥
-  takes_not {m = m} {p = p} {r = r} h s d = let w = same rules x d (as_own s (right.found m p (Took r) h).gives) in
+  takes_not {m = m} {p = p} {r = r} h s d =
+      let w = gives_same rules x d (as_own s (right.found m p (Took r) h).gives) in
       cc w.outcome
 
   ends_so : {m p r end k : ℕ} {now : List Event} {e : Pattern} → found_at cells m p ≡ Some (Took r)
       → Spells rules nodes m e → Gives rules x e p (Takes end now) k → end ≡ r
-  ends_so {m = m} {p = p} {r = r} h s d = let w = same rules x d (as_own s (right.found m p (Took r) h).gives) in
+  ends_so {m = m} {p = p} {r = r} h s d = let w = gives_same rules x d (as_own s (right.found m p (Took r) h).gives) in
       cc w.outcome
 
-  taking : {m p end k : ℕ} {now : List Event} {e : Pattern} → Spells rules nodes m e
+  is_taking : {m p end k : ℕ} {now : List Event} {e : Pattern} → Spells rules nodes m e
       → Gives rules x e p (Takes end now) k → Takings m p now
-  taking {end = end} {k = k} {e = e} s d = record {
+  is_taking {end = end} {k = k} {e = e} s d = record {
     end = end;
     looked = k;
     gives = record { expr = e; spelled = s; gives = d };
@@ -243,7 +246,7 @@ module _ (rules : List Rule) (start : ℕ) (nodes : List Shape) (bodies ranks x 
   of_name : {m p end k : ℕ} {es word : List _} {e : Pattern} → body_of rules word ≡ Some e → Spells rules nodes m e
       → Gives rules x (expr.Name word) p (Takes end es) k → Takings m p es
   of_name {p = p} {end = end} {k = k} {es = es} {e = e} b s (name {e = d} h g) = let is : d ≡ e = cc in
-      taking s (subst (λ v. Gives rules x v p (Takes end es) k) is g)
+      is_taking s (subst (λ v. Gives rules x v p (Takes end es) k) is g)
 
   opt_failed : {m p end k : ℕ} {es : List Event} {e : Pattern} → Spells rules nodes m e
       → found_at cells m p ≡ Some Failed → Gives rules x (expr.Opt e) p (Takes end es) k → es ≡ []
@@ -252,7 +255,7 @@ module _ (rules : List Rule) (start : ℕ) (nodes : List Shape) (bodies ranks x 
 
   opt_took : {m p r end k : ℕ} {es : List Event} {e : Pattern} → Spells rules nodes m e
       → found_at cells m p ≡ Some (Took r) → Gives rules x (expr.Opt e) p (Takes end es) k → Takings m p es
-  opt_took s h (opt_takes d) = taking s d
+  opt_took s h (opt_takes d) = is_taking s d
   opt_took s h (opt_none d) = absurd (takes_not h s d)
 
   -- the operand's events, and those of what goes on with it
@@ -277,8 +280,8 @@ module _ (rules : List Rule) (start : ℕ) (nodes : List Shape) (bodies ranks x 
         now = now;
         later = later;
         is = refl;
-        here = taking s d;
-        there = subst (λ v. Takings n v later) (ends_so h s d) (taking sn c);
+        here = is_taking s d;
+        there = subst (λ v. Takings n v later) (ends_so h s d) (is_taking sn c);
       }
 
   plus_failed : {m p end k : ℕ} {es : List Event} {e : Pattern} → Spells rules nodes m e
@@ -293,8 +296,8 @@ module _ (rules : List Rule) (start : ℕ) (nodes : List Shape) (bodies ranks x 
         now = now;
         later = later;
         is = refl;
-        here = taking s d;
-        there = subst (λ v. Takings n v later) (ends_so h s d) (taking sn c);
+        here = is_taking s d;
+        there = subst (λ v. Takings n v later) (ends_so h s d) (is_taking sn c);
       }
 
   AllTakes : List ℕ → ℕ → List Event → Type 0
@@ -318,7 +321,7 @@ module _ (rules : List Rule) (start : ℕ) (nodes : List Shape) (bodies ranks x 
     now = now;
     later = later;
     is = refl;
-    here = taking s d;
+    here = is_taking s d;
     ends = λ z h. ends_so h s d;
     fails = λ h. fails_not h s d;
     there = record { exprs = rest; end = r; looked = k; spelled = ss; gives = c };
@@ -342,7 +345,7 @@ module _ (rules : List Rule) (start : ℕ) (nodes : List Shape) (bodies ranks x 
     node = m;
     is = rw h refl;
     asked = alternative_here;
-    here = taking s d;
+    here = is_taking s d;
   }
 
   chosen_later : (m p j : ℕ) (ms : List ℕ) (es : List Event) (e : Pattern) → Spells rules nodes m e
@@ -359,37 +362,38 @@ module _ (rules : List Rule) (start : ℕ) (nodes : List Shape) (bodies ranks x 
         here = l.here;
       }
 
-  chosen : (ms : List ℕ) (p end k : ℕ) (ps : Patterns) (es : List Event) → SpellAll rules nodes ms ps
+  is_chosen : (ms : List ℕ) (p end k : ℕ) (ps : Patterns) (es : List Event) → SpellAll rules nodes ms ps
       → GivesFirst rules x ps p (Takes end es) k →
       ((m : ℕ) → AsksAlternative rules nodes bodies x p ms m → HasCell cells m p) → Chosen ms p es
-  chosen [] p end k ps es spell_none d has = elim d [ ]
-  chosen (m ∷ ms) p end k ps es (spell_more {p = e} s ss) (first_takes d) has = let h = has m alternative_here in
+  is_chosen [] p end k ps es spell_none d has = elim d [ ]
+  is_chosen (m ∷ ms) p end k ps es (spell_more {p = e} s ss) (first_takes d) has = let h = has m alternative_here in
       chosen_here m p end k ms es e s d h.0 h.1
-  chosen (m ∷ ms) p end l ps es (spell_more {p = e} {ps = rest} s ss) (first_fails {j = j} {k = k} d c) has =
+  is_chosen (m ∷ ms) p end l ps es (spell_more {p = e} {ps = rest} s ss) (first_fails {j = j} {k = k} d c) has =
       let h = has m alternative_here in
       let more_has = λ (i : ℕ) (a : AsksAlternative rules nodes bodies x p ms i). has i
       (alternative_later (record { looked = j; gives = record { expr = e; spelled = s; gives = d } }) a) in
-      chosen_later m p j ms es e s d (chosen ms p end k rest es ss c more_has) h.0 h.1
+      chosen_later m p j ms es e s d (is_chosen ms p end k rest es ss c more_has) h.0 h.1
 
   of_choice : (ms : List ℕ) (p end k : ℕ) (ps : Patterns) (es : List Event) → SpellAll rules nodes ms ps
       → Gives rules x (expr.Choice ps) p (Takes end es) k →
       ((m : ℕ) → AsksAlternative rules nodes bodies x p ms m → HasCell cells m p) → Chosen ms p es
-  of_choice ms p end k ps es ss (choice d) has = chosen ms p end k ps es ss d has
+  of_choice ms p end k ps es ss (choice d) has = is_chosen ms p end k ps es ss d has
 
   -- what comes next of a frame's events
   module _ (f : Frame) (es : List Event) (l : Lefts f es) where
     asked_left : (m q : ℕ) (now : List Event) → Asks rules nodes bodies x f.node f.place m q → Takings m q now
         → Lefts (beginning m q) now
     asked_left m q now a t =
-        let to = leads rules start nodes bodies ranks x sound f.node f.place m q l.spelled l.high a in
-        fresh m q now (right.closed f.node f.place m q l.has.0 l.has.1 a) to.high t
+        let to = leads_to rules start nodes bodies ranks x sound f.node f.place m q l.spelled l.high a in
+        lefts_of_fresh m q now (right.closed f.node f.place m q l.has.0 l.has.1 a) to.high t
 
-    lower : (m q : ℕ) → Asks rules nodes bodies x f.node f.place m q → pair_height rules nodes bodies ranks x cells m q
+    asked_lower : (m q : ℕ) → Asks rules nodes bodies x f.node f.place m q
+        → pair_height rules nodes bodies ranks x cells m q
         < pair_height rules nodes bodies ranks x cells f.node f.place
-    lower m q a = falls rules start nodes bodies ranks x sound f.node f.place m q l.spelled l.high a
+    asked_lower m q a = height_falls rules start nodes bodies ranks x sound f.node f.place m q l.spelled l.high a
 
     turns_to : (m q : ℕ) → Asks rules nodes bodies x f.node f.place m q → Takings m q es → Ways f es (TurnTo m q)
-    turns_to m q a t = (asked_left m q es a t, lower m q a)
+    turns_to m q a t = (asked_left m q es a t, asked_lower m q a)
 
     -- what was asked for has a cell
     asked_cell : (m q : ℕ) → Asks rules nodes bodies x f.node f.place m q → found_at cells m q ≡ None → ⊥
@@ -483,10 +487,10 @@ module _ (rules : List Rule) (start : ℕ) (nodes : List Shape) (bodies ranks x 
         one.here)
 
     -- what is left of the frame once it has come further
-    come : (shape : Shape) (i r : ℕ) (later : List Event) → slice_get nodes f.node ≡ Some shape
+    lefts_of_come : (shape : Shape) (i r : ℕ) (later : List Event) → slice_get nodes f.node ≡ Some shape
         → LeftBy rules nodes bodies ranks x cells shape f.node f.place i r later →
         Lefts (record { node = f.node; place = f.place; next = i; end = r }) later
-    come shape i r later at left = record {
+    lefts_of_come shape i r later at left = record {
       has = l.has;
       spelled = l.spelled;
       high = l.high;
@@ -519,8 +523,8 @@ module _ (rules : List Rule) (start : ℕ) (nodes : List Shape) (bodies ranks x 
           parts.later,
           parts.is,
           asked_left m f.place parts.now first_asks parts.here,
-          come (node.Star m) 1 r parts.later at (inr (refl, then_asks, parts.there)),
-          lower m f.place first_asks,
+          lefts_of_come (node.Star m) 1 r parts.later at (inr (refl, then_asks, parts.there)),
+          asked_lower m f.place first_asks,
           (node.Star m, at, omega arith, omega arith),
         )
 
@@ -544,8 +548,8 @@ module _ (rules : List Rule) (start : ℕ) (nodes : List Shape) (bodies ranks x 
           parts.later,
           parts.is,
           asked_left m f.place parts.now first_asks parts.here,
-          come (node.Plus m s) 1 r parts.later at (inr (refl, then_asks, parts.there)),
-          lower m f.place first_asks,
+          lefts_of_come (node.Plus m s) 1 r parts.later at (inr (refl, then_asks, parts.there)),
+          asked_lower m f.place first_asks,
           (node.Plus m s, at, omega arith, omega arith),
         )
 
@@ -585,12 +589,12 @@ module _ (rules : List Rule) (start : ℕ) (nodes : List Shape) (bodies ranks x 
           parts.later,
           parts.is,
           asked_left (get_or ms f.next 0) f.end parts.now asks parts.here,
-          come (node.Seq ms) (f.next + 1) r parts.later at (
+          lefts_of_come (node.Seq ms) (f.next + 1) r parts.later at (
             rw (add-one f.next) (taken_next cells taken r lt (sym g)),
             subst (λ w. AllTaking rules nodes bodies ranks x cells (drop (f.next + 1) ms) w parts.later)
                 (parts.ends r (sym g)) parts.there,
           ),
-          lower (get_or ms f.next 0) f.end asks,
+          asked_lower (get_or ms f.next 0) f.end asks,
           (node.Seq ms, at, refl, omega arith),
         )
 

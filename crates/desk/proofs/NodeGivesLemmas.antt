@@ -11,7 +11,7 @@ use Rattle.gramcheck.specs.Nodes.{Shape, id_of, Spells, spells_any, spells_bytes
 use Rattle.gramcheck.specs.Nodes.{spells_choice, spells_star, spells_plus, spells_opt, spells_and, spells_not}
 use Rattle.gramcheck.specs.Nodes.{spells_act, spells_open, spells_close, SpellAll, spell_none, spell_more}
 use Rattle.gramcheck.specs.Outcome.{Outcome, Gives}
-use Rattle.gramcheck.proofs.OneOutcomeLemmas.{same, Same}
+use Rattle.gramcheck.proofs.OneOutcomeLemmas.{gives_same, Same}
 use Rattle.gramcheck.proofs.RuleNameLemmas.{same-name}
 use Rattle.gramcheck.proofs.HasShapeLemmas.{has_shape}
 use Rattle.desk.specs.Visits.{NodeGives}
@@ -73,4 +73,4 @@ module _ (rules : List Rule) (nodes : List Shape) (defined : (n id : ℕ) → sl
 
   pub same_node : (bodies x : List ℕ) {n p k j : ℕ} {o c : Outcome} → NodeGives rules nodes bodies x n p o k
       → NodeGives rules nodes bodies x n p c j → Same o k c j
-  same_node bodies x d c = same rules x d.gives (gives_as bodies x d.spelled c)
+  same_node bodies x d c = gives_same rules x d.gives (gives_as bodies x d.spelled c)

@@ -28,7 +28,7 @@ use Rattle.desk.specs.Turns.{again_turn, star_turn, IsTurn}
 use Rattle.desk.specs.Visits.{Asks}
 use Rattle.desk.proofs.AsksLemmas.{IsVisited}
 use Rattle.desk.proofs.IsNextLemmas.{at_top, pushed_next, dropped_next}
-use Rattle.desk.proofs.IsOnLemmas.{child, seen_is, short, asks_star, star_on}
+use Rattle.desk.proofs.IsOnLemmas.{child_visited, seen_is, seen_short, asks_star, star_on}
 use Rattle.desk.proofs.IsPutLemmas.{is_put}
 use Rattle.desk.proofs.IsTurnLemmas.{star_then}
 use Rattle.desk.proofs.IsWayLemmas.{ends_by}
@@ -105,36 +105,38 @@ module _ (g : Grammar) (x : List ℕ) (more : Bool) (sound : IsSoundGrammar g) (
   star_of t = rw (tower_node t) star
 
   module _ (cells : List Entry) (at : ℕ) (r : Running cells at) where
-    asks : Asks (rules_of g.rules) (shapes_of g.nodes) g.bodies x r.frame.node r.frame.place m r.frame.place
-    asks = asks_star g x more sound r.frames cells r.frame r.fits m (star_of r.tower)
+    asks_operand : Asks (rules_of g.rules) (shapes_of g.nodes) g.bodies x r.frame.node r.frame.place m r.frame.place
+    asks_operand = asks_star g x more sound r.frames cells r.frame r.fits m (star_of r.tower)
 
-    operand : IsVisited (rules_of g.rules) g.start (shapes_of g.nodes) g.bodies g.ranks x sound m r.frame.place
-    operand = child g x more sound r.frames cells r.frame r.fits m r.frame.place asks
+    operand_visited : IsVisited (rules_of g.rules) g.start (shapes_of g.nodes) g.bodies g.ranks x sound m r.frame.place
+    operand_visited = child_visited g x more sound r.frames cells r.frame r.fits m r.frame.place asks_operand
 
     pub run_child : IsVisited (rules_of g.rules) g.start (shapes_of g.nodes) g.bodies g.ranks x sound m at
     run_child = subst (λ v. IsVisited (rules_of g.rules) g.start (shapes_of g.nodes) g.bodies g.ranks x sound m v)
-        r.here operand
+        r.here operand_visited
 
     abbrev pub Sees : List Entry → Result (Option Found) Halt → Type 0
     Sees new s = IsSeen (rules_of g.rules) g.start (shapes_of g.nodes) g.bodies x more cells new m at s
 
-    sees : (new : List Entry) (s : Result (Option Found) Halt) → Sees new s
+    sees_is_seen : (new : List Entry) (s : Result (Option Found) Halt) → Sees new s
         → IsSeen (rules_of g.rules) g.start (shapes_of g.nodes) g.bodies x more cells new m r.frame.place s
-    sees new s h = subst (λ v. IsSeen (rules_of g.rules) g.start (shapes_of g.nodes) g.bodies x more cells new m v s)
+    sees_is_seen new s h =
+        subst (λ v. IsSeen (rules_of g.rules) g.start (shapes_of g.nodes) g.bodies x more cells new m v s)
         (sym r.here) h
 
     pub run_halts : (new : List Entry) (h : Halt) → Sees new (Err h) → IsHalted g x more h
     run_halts new Memory s = tt
-    run_halts new Short s = short g x more sound r.frames cells r.frame r.fits m r.frame.place asks new
-        (sees new (Err Short) s)
+    run_halts new Short s = seen_short g x more sound r.frames cells r.frame r.fits m r.frame.place asks_operand new
+        (sees_is_seen new (Err Short) s)
 
-    on : (new : List Entry) (v : Option Found) → Sees new (Ok v) → IsOn g x more r.frames cells new r.frame
+    star_is_on : (new : List Entry) (v : Option Found) → Sees new (Ok v) → IsOn g x more r.frames cells new r.frame
         (Ok (star_turn new r.frame.node m r.frame.place v))
-    on new v s = star_on g x more sound r.frames cells r.frame r.fits m (star_of r.tower) new v (sees new (Ok v) s)
+    star_is_on new v s =
+        star_on g x more sound r.frames cells r.frame r.fits m (star_of r.tower) new v (sees_is_seen new (Ok v) s)
 
-    ran : (new : List Entry) (i q : ℕ) (found : Found) → HasCome g x more r.frames cells new r.frame i q
+    has_run : (new : List Entry) (i q : ℕ) (found : Found) → HasCome g x more r.frames cells new r.frame i q
         → Turns new r.frame.node r.frame.place (Answer found) → Ran new at found
-    ran new i q found come turn = record {
+    has_run new i q found come turn = record {
       frame = r.frame;
       frames = r.frames;
       tower = r.tower;
@@ -149,27 +151,28 @@ module _ (g : Grammar) (x : List ℕ) (more : Bool) (sound : IsSoundGrammar g) (
 
     pub run_fails : (new : List Entry) → Sees new (Ok (Some Failed)) → Ran new at (Took at)
     run_fails new s =
-        let o = on new (Some Failed) s in
-        let h : Ran new at (Took r.frame.place) = ran new o.0 o.1 (Took r.frame.place) o.2 o.3 in
+        let o = star_is_on new (Some Failed) s in
+        let h : Ran new at (Took r.frame.place) = has_run new o.0 o.1 (Took r.frame.place) o.2 o.3 in
         subst (λ v. Ran new at (Took v)) r.here h
 
     module _ (new : List Entry) (next : ℕ) (s : Sees new (Ok (Some (Took next)))) where
-      turned : (v : Option Found) → found_at new top.node next ≡ v → (i q : ℕ)
+      again_turned : (v : Option Found) → found_at new top.node next ≡ v → (i q : ℕ)
           × HasCome g x more r.frames cells new r.frame i q
           × Turns new r.frame.node r.frame.place (again_turn r.frame.node next v)
-      turned v is =
-          let o = on new (Some (Took next)) s in
+      again_turned v is =
+          let o = star_is_on new (Some (Took next)) s in
           let same : found_at new r.frame.node next ≡ v = rw (tower_node r.tower) is in
           (o.0, o.1, o.2, subst (λ w. Turns new r.frame.node r.frame.place (again_turn r.frame.node next w)) same o.3)
 
       pub run_holds : (found : Found) → found_at new top.node next ≡ Some found → Ran new at found
-      run_holds found is = let o = turned (Some found) is in ran new o.0 o.1 found o.2 o.3
+      run_holds found is = let o = again_turned (Some found) is in has_run new o.0 o.1 found o.2 o.3
 
       pub next_is : ((shape : Shape) → slice_get (shapes_of g.nodes) m ≡ Some shape → TakesByte shape) → next ≡ at + 1
       next_is byte =
-          let o = turned (found_at new top.node next) refl in
-          let come = seen_is g x more sound r.frames cells r.frame r.fits m r.frame.place asks new (Some (Took next))
-          (sees new (Ok (Some (Took next))) s) in
+          let o = again_turned (found_at new top.node next) refl in
+          let come = seen_is g x more sound r.frames cells r.frame r.fits m r.frame.place asks_operand new
+              (Some (Took next))
+          (sees_is_seen new (Ok (Some (Took next))) s) in
           let there : m < length (shapes_of g.nodes) = is_there (rules_of g.rules) (shapes_of g.nodes)
           run_child.spelled.1 in
           let shape = get_or (shapes_of g.nodes) m node.Any in
@@ -182,7 +185,7 @@ module _ (g : Grammar) (x : List ℕ) (more : Bool) (sound : IsSoundGrammar g) (
 
       pub run_goes : next ≡ at + 1 → found_at new top.node next ≡ None → Running new next
       run_goes is none =
-          let o = turned None none in
+          let o = again_turned None none in
           let n = pushed_next g x more sound new (come_to r.frame o.0 o.1) r.frames o.2.fits r.frame.node next 1 next
           o.3 (beginning r.frame.node next) (come_to r.frame 1 next ∷ r.frames) refl refl in
           record {

@@ -20,7 +20,7 @@ use Rattle.desk.specs.Path.{IsLeft, IsWay, pair_height, frame_height, AreHigher,
 use Rattle.desk.specs.Path.{arities, todo, Begins, Goes}
 use Rattle.desk.specs.State.{HasCell}
 use Rattle.desk.proofs.CodeLemmas.{In, now, on, in_cases, Differ, at_most, code, code_same, cell_codes, length_codes}
-use Rattle.desk.proofs.IsPutLemmas.{is_of, is_own}
+use Rattle.cells.proofs.FoundAtLemmas.{is_of, is_own}
 
 -- the number of a cell is among those of the cells
 in_cells : (w : ℕ) (cells : List Entry) (n p : ℕ) → HasCell cells n p → In (code w n p) (cell_codes w cells)
@@ -88,9 +88,9 @@ module _ (rules : List Rule) (nodes : List Shape) (bodies ranks x : List ℕ) (c
   ]
 
   -- a walk is no deeper than there are cells
-  pub depth : (fs : List Frame) (es : List Event) → Walks rules nodes bodies ranks x cells fs es
+  pub depth_at_most : (fs : List Frame) (es : List Event) → Walks rules nodes bodies ranks x cells fs es
       → length fs ≤ length cells
-  depth fs es w =
+  depth_at_most fs es w =
       let most = at_most (codes fs) (cell_codes Width cells) (all_differ w) (all_cells w) in
       omega (arith, most, length_of fs, length_codes Width cells [])
 
@@ -121,8 +121,8 @@ module _ (rules : List Rule) (nodes : List Shape) (bodies ranks x : List ℕ) (c
       power_less Base (pair_height rules nodes bodies ranks x cells m q) h
       (todo rules nodes bodies ranks x cells (beginning m q)) (omega arith) lt (omega arith)
 
-  positive : (h : ℕ) → 1 ≤ Base ^ h
-  positive h = let low = arity_low nodes 0 in one-le-pow h Base (omega arith)
+  power_positive : (h : ℕ) → 1 ≤ Base ^ h
+  power_positive h = let low = arity_low nodes 0 in one-le-pow h Base (omega arith)
 
   one_turn : (t p : ℕ) → 1 ≤ t → p ≤ t * p
   one_turn t p h = let one : 1 * p ≤ t * p = mul-le-mul_right p h in omega (arith, one)
@@ -140,9 +140,10 @@ module _ (rules : List Rule) (nodes : List Shape) (bodies ranks x : List ℕ) (c
       → LastOf f fs all
   last_of (walk {es = es} {gs = gs} l h w) = record { now = es; later = gs; is = refl; left = l; higher = h; rest = w }
 
-  pub last : (f : Frame) (fs : List Frame) (all : List Event) → Walks rules nodes bodies ranks x cells (f ∷ fs) all
+  pub last_frame : (f : Frame) (fs : List Frame) (all : List Event)
+      → Walks rules nodes bodies ranks x cells (f ∷ fs) all
       → LastOf f fs all
-  last f fs all w = last_of w
+  last_frame f fs all w = last_of w
 
   abbrev GoesTo : List Frame → Option Kept → List Event → List Frame → Type 0
   GoesTo fs mark all new = Goes rules nodes bodies ranks x cells fs mark all new
@@ -150,28 +151,28 @@ module _ (rules : List Rule) (nodes : List Shape) (bodies ranks x : List ℕ) (c
   module _ (f : Frame) (fs : List Frame) (all : List Event) (l : LastOf f fs all) where
     some_weight : 1 ≤ todo rules nodes bodies ranks x cells f * Base ^ high f
     some_weight = let a = one_turn (todo rules nodes bodies ranks x cells f) (Base ^ high f) (omega arith) in let b =
-        positive (high f) in omega (arith, a, b)
+        power_positive (high f) in omega (arith, a, b)
 
-    pub leaves : IsWay rules nodes bodies ranks x cells f l.now Leave → GoesTo (f ∷ fs) None all fs
-    leaves way = record {
+    pub walk_leaves : IsWay rules nodes bodies ranks x cells f l.now Leave → GoesTo (f ∷ fs) None all fs
+    walk_leaves way = record {
       later = l.later;
       walks = l.rest;
       tells = l.is ∙ ap (λ v. v ++ l.later) way;
       less = let s = some_weight in omega (arith, s);
     }
 
-    pub emits : (mark : Kept) → IsWay rules nodes bodies ranks x cells f l.now (Emit mark)
+    pub walk_emits : (mark : Kept) → IsWay rules nodes bodies ranks x cells f l.now (Emit mark)
         → GoesTo (f ∷ fs) (Some mark) all fs
-    emits mark way = record {
+    walk_emits mark way = record {
       later = l.later;
       walks = l.rest;
       tells = (way.0, way.1, l.is ∙ ap (λ v. v ++ l.later) way.2);
       less = let s = some_weight in omega (arith, s);
     }
 
-    pub turns : (m q : ℕ) → IsWay rules nodes bodies ranks x cells f l.now (TurnTo m q)
+    pub walk_turns : (m q : ℕ) → IsWay rules nodes bodies ranks x cells f l.now (TurnTo m q)
         → GoesTo (f ∷ fs) None all (beginning m q ∷ fs)
-    turns m q way = record {
+    walk_turns m q way = record {
       later = all;
       walks = rw l.is (walk way.0 (higher_more (high f) (pair_height rules nodes bodies ranks x cells m q) fs way.1
           l.higher) l.rest);
@@ -239,14 +240,15 @@ module _ (rules : List Rule) (nodes : List Shape) (bodies ranks x : List ℕ) (c
     pub begins_left : ((es : List Event) → IsLeft rules nodes bodies ranks x cells f es
         → IsWay rules nodes bodies ranks x cells f es Leave) → Begins rules nodes bodies ranks x cells (f ∷ fs) None
         all fs
-    begins_left way = let l = last rules nodes bodies ranks x cells f fs all w in
-        of_goes (f ∷ fs) fs all None (leaves rules nodes bodies ranks x cells f fs all l (way l.now l.left))
+    begins_left way = let l = last_frame rules nodes bodies ranks x cells f fs all w in
+        of_goes (f ∷ fs) fs all None (walk_leaves rules nodes bodies ranks x cells f fs all l (way l.now l.left))
 
     pub begins_told : (mark : Kept) → ((es : List Event) → IsLeft rules nodes bodies ranks x cells f es
         → IsWay rules nodes bodies ranks x cells f es (Emit mark)) →
         Begins rules nodes bodies ranks x cells (f ∷ fs) (Some mark) all fs
-    begins_told mark way = let l = last rules nodes bodies ranks x cells f fs all w in
-        of_goes (f ∷ fs) fs all (Some mark) (emits rules nodes bodies ranks x cells f fs all l mark (way l.now l.left))
+    begins_told mark way = let l = last_frame rules nodes bodies ranks x cells f fs all w in
+        of_goes (f ∷ fs) fs all (Some mark) (walk_emits rules nodes bodies ranks x cells f fs all l mark
+            (way l.now l.left))
 
 -- where a frame is gone into there is room for one more
 pub room_into : (rules : List Rule) (nodes : List Shape) (bodies ranks x : List ℕ) (cells : List Entry) (f : Frame)
@@ -256,13 +258,13 @@ pub room_into : (rules : List Rule) (nodes : List Shape) (bodies ranks x : List 
 room_into rules nodes bodies ranks x cells f fs all way room l is le m q i r same =
     let g = goes_into rules nodes bodies ranks x cells f fs all l m q i r
     (subst (λ w. IsWay rules nodes bodies ranks x cells f l.now w) same is) in
-    let deep = depth rules nodes bodies ranks x cells _ g.later g.walks in
+    let deep = depth_at_most rules nodes bodies ranks x cells _ g.later g.walks in
     omega (arith, deep)
 
 pub last_at : (rules : List Rule) (nodes : List Shape) (bodies ranks x : List ℕ) (cells : List Entry)
     (frames : List Frame) (f : Frame) (fs : List Frame) (all : List Event) → frames ≡ f ∷ fs →
     Walks rules nodes bodies ranks x cells frames all → LastOf rules nodes bodies ranks x cells f fs all
-last_at rules nodes bodies ranks x cells frames f fs all is w = last rules nodes bodies ranks x cells f fs all
+last_at rules nodes bodies ranks x cells frames f fs all is w = last_frame rules nodes bodies ranks x cells f fs all
     (subst (λ v. Walks rules nodes bodies ranks x cells v all) is w)
 
 pub goes_at : (rules : List Rule) (nodes : List Shape) (bodies ranks x : List ℕ) (cells : List Entry)

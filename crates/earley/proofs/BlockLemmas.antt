@@ -23,10 +23,10 @@ pub in_right : {A : Type 0} {a : A} (xs : List A) {ys : List A} → In a ys → 
 in_right [] h = h
 in_right (x ∷ xs) h = on (in_right xs h)
 
-pub either : {A : Type 0} {a : A} (xs : List A) {ys : List A} → In a (xs ++ ys) → In a xs ⊎ In a ys
-either [] h = inr h
-either (x ∷ xs) (now same) = inl (now same)
-either (x ∷ xs) (on h) = by (either xs h)
+pub in_either : {A : Type 0} {a : A} (xs : List A) {ys : List A} → In a (xs ++ ys) → In a xs ⊎ In a ys
+in_either [] h = inr h
+in_either (x ∷ xs) (now same) = inl (now same)
+in_either (x ∷ xs) (on h) = by (in_either xs h)
   where
     by : {A : Type 0} {a x : A} {xs ys : List A} → In a xs ⊎ In a ys → In a (x ∷ xs) ⊎ In a ys
     by (inl g) = inl (on g)
@@ -66,7 +66,7 @@ in_expand blocks j h (g ∷ heads) p (on at_h) lies = in_right (map (item_at j) 
 pub from_expand : (blocks : ℕ → Block) (j : ℕ) (heads : List ℕ) (a : Item) → In a (expand blocks j heads)
     → Expanded blocks j heads a
 from_expand blocks j [] a h = elim h [ ]
-from_expand blocks j (g ∷ heads) a h = by (either (map (item_at j) (blocks g).spots) h)
+from_expand blocks j (g ∷ heads) a h = by (in_either (map (item_at j) (blocks g).spots) h)
     (λ r. from_expand blocks j heads a r)
   where
     by : In a (map (item_at j) (blocks g).spots) ⊎ In a (expand blocks j heads)
@@ -174,7 +174,7 @@ different_both : {A : Type 0} (xs ys : List A) → AreDifferent xs → AreDiffer
     → AreDifferent (xs ++ ys)
 different_both [] ys dx dy apart = dy
 different_both (x ∷ xs) ys dx dy apart =
-    ((λ h. by (either xs h)), different_both xs ys dx.1 dy (λ a g h. apart a (on g) h))
+    ((λ h. by (in_either xs h)), different_both xs ys dx.1 dy (λ a g h. apart a (on g) h))
   where
     by : In x xs ⊎ In x ys → ⊥
     by (inl g) = dx.0 g

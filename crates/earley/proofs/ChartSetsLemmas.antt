@@ -47,10 +47,10 @@ there_or_past [] j = inr (omega arith)
 there_or_past (x ∷ xs) zero = inl (x, refl)
 there_or_past (x ∷ xs) (suc j) = ⊎_elim (λ h. inl h) (λ le. inr (omega (arith, le))) (there_or_past xs j)
 
-paired : (a : Item) (set : List Item) → In a set → In (pair a) (map pair set)
-paired a [] h = elim h [ ]
-paired a (b ∷ set) (now same) = now (ap pair same)
-paired a (b ∷ set) (on h) = on (paired a set h)
+pair_stands : (a : Item) (set : List Item) → In a set → In (pair a) (map pair set)
+pair_stands a [] h = elim h [ ]
+pair_stands a (b ∷ set) (now same) = now (ap pair same)
+pair_stands a (b ∷ set) (on h) = on (pair_stands a set h)
 
 module _ (tables : code_flat.Tables) (x : List ℕ) (fronts : List Front) (size : length fronts ≡ length x + 1)
     (exact : IsExact tables x (views tables 0 fronts)) where
@@ -70,7 +70,7 @@ module _ (tables : code_flat.Tables) (x : List ℕ) (fronts : List Front) (size 
           (e.held f.item f.stands))
 
       all : (p : Place) (i : ℕ) → In (item_of p i) set → In {A = Place × ℕ} (p, i) (map pair set)
-      all (at s k) i h = paired (record { node = s; step = k; origin = i }) set h
+      all (at s k) i h = pair_stands (record { node = s; step = k; origin = i }) set h
 
   no_set : (j : ℕ) → length x + 1 ≤ j → IsSet (flat_of tables) x j []
   no_set j past = record {
@@ -108,10 +108,10 @@ size_at tables fronts j f is same =
     ∙ ap (λ v. length v) (sym (index_map (λ set. map pair set) (views tables 0 fronts) j (view tables j f) []
     there)))
 
-pub sized : (tables : Rc code_flat.Tables Global) (fronts : List Front)
+pub are_sized : (tables : Rc code_flat.Tables Global) (fronts : List Front)
     → ((j : ℕ) (f : Front) → slice_get fronts j ≡ Some f → f.size ≡ length (view tables.value j f)) →
     AreSized (Some tables) fronts
-sized tables fronts same = record { size = λ j f is. size_at tables.value fronts j f is (same j f is) }
+are_sized tables fronts same = record { size = λ j f is. size_at tables.value fronts j f is (same j f is) }
 
 pub none_sized : (tables : Option (Rc code_flat.Tables Global)) (fronts : List Front) → fronts ≡ []
     → AreSized tables fronts

@@ -20,7 +20,7 @@ use Rattle.flatgrammar.specs.Blocks.{item_at, Block, block_of, readers_of, AreSp
 use Rattle.flatgrammar.proofs.SpotListLemmas.{readers_pick}
 use Rattle.earley.proofs.AddsLemmas.{adds_both, adds_as, adds_none}
 use Rattle.flatgrammar.proofs.InLemmas.{in_left, at_end, before_end}
-use Rattle.earley.proofs.BlockLemmas.{in_right, either, in_map, from_map}
+use Rattle.earley.proofs.BlockLemmas.{in_right, in_either, in_map, from_map}
 
 pub take_one : {A : Type 0} (xs : List A) (k : ℕ) (d : A) → k < length xs → take (k + 1) xs ≡ take k xs
     ++ slice_index_or xs k d ∷ []
@@ -60,8 +60,8 @@ in_none old = adds_none (λ a. In a []) old (λ a h. nobody a h)
     nobody a h = elim h [ ]
 
 module _ (flat : code_flat.Tables) (root : ℕ) where
-  from : (ws vs : List Item) (a : Item) (r : IsResumed flat root ws a) → In r.from vs → IsResumed flat root vs a
-  from ws vs a r h = record { from = r.from; waits = h; call = r.call; node = r.node; origin = r.origin }
+  resumed_from : (ws vs : List Item) (a : Item) (r : IsResumed flat root ws a) → In r.from vs → IsResumed flat root vs a
+  resumed_from ws vs a r h = record { from = r.from; waits = h; call = r.call; node = r.node; origin = r.origin }
 
   pub resumed_none : (old : List Item) → Adds (IsResumed flat root []) old old
   resumed_none old = adds_none (IsResumed flat root []) old (λ a r. nobody a r.from r.waits)
@@ -74,17 +74,18 @@ module _ (flat : code_flat.Tables) (root : ℕ) where
       Adds (IsResumed flat root (ws ++ vs)) old new
   resumed_both ws vs old mid new p q = adds_both (IsResumed flat root ws) (IsResumed flat root vs)
       (IsResumed flat root (ws ++ vs)) old mid new p q
-      (λ a r. cases a r (either ws r.waits)) (λ a r. from ws (ws ++ vs) a r (in_left vs r.waits))
-      (λ a r. from vs (ws ++ vs) a r (in_right ws r.waits))
+      (λ a r. cases a r (in_either ws r.waits)) (λ a r. resumed_from ws (ws ++ vs) a r (in_left vs r.waits))
+      (λ a r. resumed_from vs (ws ++ vs) a r (in_right ws r.waits))
     where
       cases : (a : Item) (r : IsResumed flat root (ws ++ vs) a) → In r.from ws ⊎ In r.from vs → IsResumed flat root ws a
           ⊎ IsResumed flat root vs a
-      cases a r (inl h) = inl (from (ws ++ vs) ws a r h)
-      cases a r (inr h) = inr (from (ws ++ vs) vs a r h)
+      cases a r (inl h) = inl (resumed_from (ws ++ vs) ws a r h)
+      cases a r (inr h) = inr (resumed_from (ws ++ vs) vs a r h)
 
 module _ (flat : code_flat.Tables) (c : ℕ) where
-  by : (ws vs : List Item) (a : Item) (r : IsRead flat c ws a) → In r.by vs → IsRead flat c vs a
-  by ws vs a r h = record { by = r.by; stands = h; reads = r.reads; node = r.node; step = r.step; origin = r.origin }
+  read_by : (ws vs : List Item) (a : Item) (r : IsRead flat c ws a) → In r.by vs → IsRead flat c vs a
+  read_by ws vs a r h =
+      record { by = r.by; stands = h; reads = r.reads; node = r.node; step = r.step; origin = r.origin }
 
   pub reads_none : (old : List Item) → Adds (IsRead flat c []) old old
   reads_none old = adds_none (IsRead flat c []) old (λ a r. nobody a r.by r.stands)
@@ -97,13 +98,13 @@ module _ (flat : code_flat.Tables) (c : ℕ) where
       Adds (IsRead flat c (ws ++ vs)) old new
   reads_both ws vs old mid new p q = adds_both (IsRead flat c ws) (IsRead flat c vs) (IsRead flat c (ws ++ vs)) old mid
       new p q
-      (λ a r. cases a r (either ws r.stands)) (λ a r. by ws (ws ++ vs) a r (in_left vs r.stands))
-      (λ a r. by vs (ws ++ vs) a r (in_right ws r.stands))
+      (λ a r. cases a r (in_either ws r.stands)) (λ a r. read_by ws (ws ++ vs) a r (in_left vs r.stands))
+      (λ a r. read_by vs (ws ++ vs) a r (in_right ws r.stands))
     where
       cases : (a : Item) (r : IsRead flat c (ws ++ vs) a) → In r.by ws ⊎ In r.by vs → IsRead flat c ws a
           ⊎ IsRead flat c vs a
-      cases a r (inl h) = inl (by (ws ++ vs) ws a r h)
-      cases a r (inr h) = inr (by (ws ++ vs) vs a r h)
+      cases a r (inl h) = inl (read_by (ws ++ vs) ws a r h)
+      cases a r (inr h) = inr (read_by (ws ++ vs) vs a r h)
 
 module _ (flat : code_flat.Tables) (root : ℕ) where
   pub resumed_one : (item : Item) (step : ℕ) (old new : List Item) → call_of flat item ≡ Some (root, step) →

@@ -23,9 +23,9 @@ use Rattle.earley.specs.FrontViews.{expand, full, AreBlocks, IsAsked, IsOn, IsFu
 use Rattle.earley.proofs.SetAtMostLemmas.{set_at_most}
 use Rattle.flatgrammar.proofs.CallOfLemmas.{equal_or, root_stands, calls_late, called_of, get_below}
 use Rattle.earley.proofs.FollowLemmas.{predicted_holds, completed_holds}
-use Rattle.earley.proofs.IsWorkedLemmas.{passed_holds, nothing, worked_closed}
+use Rattle.earley.proofs.IsWorkedLemmas.{passed_holds, none_hold, worked_closed}
 use Rattle.flatgrammar.proofs.InLemmas.{in_left, among_more, at_index_in, in_front}
-use Rattle.earley.proofs.BlockLemmas.{in_right, either, in_expand, from_expand, blocks_worked, inside_holds}
+use Rattle.earley.proofs.BlockLemmas.{in_right, in_either, in_expand, from_expand, blocks_worked, inside_holds}
 use Rattle.earley.proofs.BlockLemmas.{full_different, in_map, from_map}
 use Rattle.earley.proofs.ItemLemmas.{item_same}
 
@@ -52,7 +52,7 @@ module _ (flat : code_flat.Tables) where
   full_keeps : (j : ℕ) (heads heads' : List ℕ) (items items' : List Item) → ((h : ℕ) → In h heads → In h heads')
       → ((a : Item) → In a items → In a items') →
       Keeps (full (block_of flat) j heads items) (full (block_of flat) j heads' items')
-  full_keeps j heads heads' items items' more more' a h = by (either (expand (block_of flat) j heads) h)
+  full_keeps j heads heads' items items' more more' a h = by (in_either (expand (block_of flat) j heads) h)
     where
       by : In a (expand (block_of flat) j heads) ⊎ In a items → In a (full (block_of flat) j heads' items')
       by (inl g) =
@@ -78,7 +78,7 @@ module _ (flat : code_flat.Tables) (roots : GiveRoots (flat_of flat) flat.roots.
       item.origin → call_of flat item ≡ Some (t, l) → k < begin_count flat t →
       Holds (flat_of flat) x (length sets) (at t k) (length sets)
   asked_predicted item t l k h call lt =
-      predicted_holds flat roots x sets [] earlier (nothing flat roots nulls x sets earlier) item
+      predicted_holds flat roots x sets [] earlier (none_hold flat roots nulls x sets earlier) item
       (record { node = t; step = k; origin = length sets }) h
       (record { root = t; next = l; call = call; begun = (refl, lt, refl) })
 
@@ -115,18 +115,18 @@ module _ (flat : code_flat.Tables) (roots : GiveRoots (flat_of flat) flat.roots.
   further_beside item a (inr c) same lt = completed_beside item a c same
 
   -- who waits in an earlier set
-  early : (o : ℕ) (found : Option (List Item)) {b : Item} → slice_get sets o ≡ found → In b (waiting_or [] found)
+  waits_early : (o : ℕ) (found : Option (List Item)) {b : Item} → slice_get sets o ≡ found → In b (waiting_or [] found)
       → o < length sets
-  early o None is h = elim h [ ]
-  early o (Some set) is h = get_below sets o is
+  waits_early o None is h = elim h [ ]
+  waits_early o (Some set) is h = get_below sets o is
 
   further_holds : (item a : Item) → Holds (flat_of flat) x (length sets) (at item.node item.step) item.origin
       → IsFurther flat sets item a →
       Holds (flat_of flat) x (length sets) (at a.node a.step) a.origin
   further_holds item a h (inl o) = passed_holds flat roots nulls x sets earlier item a h o.passed
   further_holds item a h (inr c) = completed_holds flat roots x sets [] earlier
-      (nothing flat roots nulls x sets earlier) item a h c
-      (λ t. early item.origin (slice_get sets item.origin) refl c.resumed.waits)
+      (none_hold flat roots nulls x sets earlier) item a h c
+      (λ t. waits_early item.origin (slice_get sets item.origin) refl c.resumed.waits)
 
   module _ (ii hi : ℕ) (heads : List ℕ) (items : List Item) (g : IsGoing flat x sets ii hi heads items) where
     spot_holds : (h : ℕ) (p : Spot) → In h heads → In p (block_of flat h).spots
@@ -135,7 +135,7 @@ module _ (flat : code_flat.Tables) (roots : GiveRoots (flat_of flat) flat.roots.
         ((tables.block h (g.are_heads h at_h)).inside p lies)
 
     pub full_held : Hold (flat_of flat) x (length sets) (full (block_of flat) (length sets) heads items)
-    full_held a h = by (either (expand (block_of flat) (length sets) heads) h)
+    full_held a h = by (in_either (expand (block_of flat) (length sets) heads) h)
       where
         by : In a (expand (block_of flat) (length sets) heads) ⊎ In a items
             → Holds (flat_of flat) x (length sets) (at a.node a.step) a.origin
@@ -164,8 +164,8 @@ module _ (flat : code_flat.Tables) (roots : GiveRoots (flat_of flat) flat.roots.
             begins in
             g.beside a h (ap (λ v. v.origin) e.is) lt
 
-    pub room : length items ≤ places (flat_of flat).nodes * (length sets + 1)
-    room = set_at_most (flat_of flat) x (length sets) items g.items_different g.held
+    pub item_room : length items ≤ places (flat_of flat).nodes * (length sets + 1)
+    item_room = set_at_most (flat_of flat) x (length sets) items g.items_different g.held
 
     pub head_room : length heads ≤ length flat.nodes.items
     head_room =
@@ -185,8 +185,9 @@ module _ (flat : code_flat.Tables) (roots : GiveRoots (flat_of flat) flat.roots.
       this_late : IsLate flat (slice_index_or items ii d)
       this_late = g.late (slice_index_or items ii d) (at_index_in items ii d below)
 
-      kept : Keeps (full (block_of flat) (length sets) heads items) (full (block_of flat) (length sets) heads' items')
-      kept = full_keeps flat (length sets) heads heads' items items' (λ h i. longer_in asked i)
+      keeps_full : Keeps (full (block_of flat) (length sets) heads items)
+          (full (block_of flat) (length sets) heads' items')
+      keeps_full = full_keeps flat (length sets) heads heads' items items' (λ h i. longer_in asked i)
           (λ a i. longer_in further i)
 
       this_worked : (b : Item) → IsWork flat sets (slice_index_or items ii d) b
@@ -228,7 +229,8 @@ module _ (flat : code_flat.Tables) (roots : GiveRoots (flat_of flat) flat.roots.
         worked = λ a i b w. worked a b (among_more a items ii d below (subst (λ v. In a v) front i)) w;
         opened = record {
           calls = λ h i t c. longer_in asked (g.opened.calls h (subst (λ v. In h v) same_heads i) t c);
-          passes = λ h i r p. kept (item_at (length sets) r) (g.opened.passes h (subst (λ v. In h v) same_heads i) r p);
+          passes = λ h i r p. keeps_full (item_at (length sets) r)
+              (g.opened.passes h (subst (λ v. In h v) same_heads i) r p);
         };
       }
         where
@@ -270,7 +272,7 @@ module _ (flat : code_flat.Tables) (roots : GiveRoots (flat_of flat) flat.roots.
 
           worked : (a b : Item) → In a (take ii items) ⊎ (a ≡ slice_index_or items ii d) → IsWork flat sets a b
               → In b (full (block_of flat) (length sets) heads' items')
-          worked a b (inl i) w = kept b (g.worked a i b w)
+          worked a b (inl i) w = keeps_full b (g.worked a i b w)
           worked a b (inr same) w = this_worked b (subst (λ v. IsWork flat sets v b) same w)
 
     -- one head more
@@ -393,7 +395,7 @@ module _ (flat : code_flat.Tables) (roots : GiveRoots (flat_of flat) flat.roots.
       where
         worked : IsWorked flat sets (full (block_of flat) (length sets) heads items)
             (full (block_of flat) (length sets) heads items)
-        worked a h b w = by (either (expand (block_of flat) (length sets) heads) h)
+        worked a h b w = by (in_either (expand (block_of flat) (length sets) heads) h)
           where
             by : In a (expand (block_of flat) (length sets) heads) ⊎ In a items
                 → In b (full (block_of flat) (length sets) heads items)
@@ -405,12 +407,12 @@ module _ (flat : code_flat.Tables) (roots : GiveRoots (flat_of flat) flat.roots.
             by (inr i) = g.worked a (in_front a items ii items_done i) b w
 
   -- the measure
-  pub measure : (ii hi ii' hi' : ℕ) (heads : List ℕ) (items : List Item) → IsGoing flat x sets ii hi heads items
+  pub measure_falls : (ii hi ii' hi' : ℕ) (heads : List ℕ) (items : List Item) → IsGoing flat x sets ii hi heads items
       → ii + hi < ii' + hi' → (ii < length items) ⊎ (hi < length heads) →
       places (flat_of flat).nodes * (length sets + 1) + length flat.nodes.items - (ii' + hi')
       < places (flat_of flat).nodes * (length sets + 1) + length flat.nodes.items - (ii + hi)
-  measure ii hi ii' hi' heads items g more some =
-      let one = room ii hi heads items g in
+  measure_falls ii hi ii' hi' heads items g more some =
+      let one = item_room ii hi heads items g in
       let two = head_room ii hi heads items g in
       let three = g.within_items in
       let four = g.within_heads in

@@ -30,11 +30,12 @@ module _ (flat : code_flat.Tables) (roots : GiveRoots (flat_of flat) flat.roots.
         subst (λ v. Holds (flat_of flat) x (length sets) (at a.node a.step) v) o
         (subst (λ v. Holds (flat_of flat) x (length sets) (at v a.step) (length sets)) n made)
 
-    waited : (item from : Item) (o : Option (List Item)) → slice_get sets item.origin ≡ o → In from (waiting_or seen o)
+    waited_holds : (item from : Item) (o : Option (List Item)) → slice_get sets item.origin ≡ o
+        → In from (waiting_or seen o)
         → item.origin ≤ length sets →
         Holds (flat_of flat) x item.origin (at from.node from.step) from.origin
-    waited item from (Some set) is h le = earlier item.origin set is from h
-    waited item from None is h le =
+    waited_holds item from (Some set) is h le = earlier item.origin set is from h
+    waited_holds item from None is h le =
         let past = below_get sets item.origin is in
         let same : length sets ≡ item.origin = omega (arith, past, le) in
         subst (λ v. Holds (flat_of flat) x v (at from.node from.step) from.origin) same (hold from h)
@@ -48,7 +49,7 @@ module _ (flat : code_flat.Tables) (roots : GiveRoots (flat_of flat) flat.roots.
         let c = called_of flat roots r.from item.node a.step r.call in
         let e = done_ends flat roots item.node item.step c.callee (slice_get flat.nodes.items item.node) refl p.done
         c.rooted in
-        let w = waited item r.from (slice_get sets item.origin) refl r.waits (holds_origin (flat_of flat) h) in
+        let w = waited_holds item r.from (slice_get sets item.origin) refl r.waits (holds_origin (flat_of flat) h) in
         let made : Holds (flat_of flat) x (length sets) (at r.from.node a.step) r.from.origin =
         returned h e w c.calls (λ t. later (takes_true flat r.from.node r.from.step r.from.origin t)) in
         subst (λ v. Holds (flat_of flat) x (length sets) (at a.node a.step) v) (sym r.origin)

@@ -19,7 +19,7 @@ use Rattle.flatgrammar.specs.declared.flat_node.Node as code_node
 use Rattle.earley.proofs.AddsLemmas.{adds_as}
 use Rattle.flatgrammar.proofs.CallOfLemmas.{begun_starts, get_map}
 use Rattle.flatgrammar.specs.Holds.{Holds, begins, has_read}
-use Rattle.earley.proofs.IsChartLemmas.{contains, whole_in}
+use Rattle.earley.proofs.IsChartLemmas.{chart_contains, whole_in}
 
 record AtEnd {A : Type 0} (xs : List A) (y : A) (k : ℕ) (z : A) : Type 0 where
   is : y ≡ z
@@ -56,7 +56,7 @@ module _ (flat : code_flat.Tables) (roots : GiveRoots (flat_of flat) flat.roots.
   pub built_exact : (sets : List (List Item)) → IsBuilt flat x sets → IsExact flat x sets
   built_exact sets b j set is = record {
     held = b.held j set is;
-    all = λ p i h. contains flat roots x sets b.chart h set is;
+    all = λ p i h. chart_contains flat roots x sets b.chart h set is;
     different = b.different j set is;
   }
 

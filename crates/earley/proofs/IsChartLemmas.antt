@@ -221,16 +221,18 @@ module _ (flat : code_flat.Tables) (roots : GiveRoots (flat_of flat) flat.roots.
         origin = refl;
       })
 
-  pub contains : {j i : ℕ} {p : Place} → Holds (flat_of flat) x j p i → (set : List Item) → slice_get sets j ≡ Some set
+  pub chart_contains : {j i : ℕ} {p : Place} → Holds (flat_of flat) x j p i → (set : List Item)
+      → slice_get sets j ≡ Some set
       → In (item_of p i) set
-  contains (begins st) set is = chart.begun set is _ st
-  contains (called {i = i} {j = j} h c st) set is = predicted_in i j set is (contains h set is) c st
-  contains (has_read {i = i} {j = j} {c = c} h r letter lies) set is =
+  chart_contains (begins st) set is = chart.begun set is _ st
+  chart_contains (called {i = i} {j = j} h c st) set is = predicted_in i j set is (chart_contains h set is) c st
+  chart_contains (has_read {i = i} {j = j} {c = c} h r letter lies) set is =
       let below : j < length sets = omega (arith, get_below sets (j + 1) is) in
       let before = get_there sets j below in
-      read_in_next i j c before.what set before.is is letter lies r (contains h before.what before.is)
-  contains (returned {i = i} {j = j} {k = k} h e g c takes) set is =
+      read_in_next i j c before.what set before.is is letter lies r (chart_contains h before.what before.is)
+  chart_contains (returned {i = i} {j = j} {k = k} h e g c takes) set is =
       let le = holds_origin (flat_of flat) h in
       let below : k < length sets = omega (arith, get_below sets j is, le) in
       let before = get_there sets k below in
-      resumed_in i j k set before.what is before.is le (contains h set is) e (contains g before.what before.is) c takes
+      resumed_in i j k set before.what is before.is le (chart_contains h set is) e
+          (chart_contains g before.what before.is) c takes

@@ -8,7 +8,7 @@ use Rattle.flatgrammar.specs.Holds.{Holds}
 use Rattle.flatgrammar.specs.Nullable.{Passes, Nullable}
 use Rattle.flatgrammar.specs.Places.{In}
 use Rattle.flatgrammar.proofs.PlacesLemmas.{holds_origin}
-use Rattle.flatgrammar.proofs.FlatNullableLemmas.{stays, pass}
+use Rattle.flatgrammar.proofs.FlatNullableLemmas.{passes_where_begun, passes_at_once}
 use Rattle.flatgrammar.specs.declared.flat_item.Item.{Item}
 use Rattle.flatgrammar.specs.declared.flat_node.Node as code_node
 use Rattle.flatgrammar.specs.declared.tables.Tables as code_flat
@@ -27,9 +27,9 @@ nullable_up : {nodes : List Node} {bodies : List ℕ} {s t : ℕ} → Root nodes
 nullable_up (own is differs) n = n
 nullable_up (named is at_r r) n = Nullable.named is at_r (nullable_up r n)
 
-untrue : (b : Bool) → (b ≡ true → ⊥) → b ≡ false
-untrue true h = absurd (h refl)
-untrue false h = refl
+not_true : (b : Bool) → (b ≡ true → ⊥) → b ≡ false
+not_true true h = absurd (h refl)
+not_true false h = refl
 
 mark_is : (o : Option Bool) → null_in o ≡ true → o ≡ Some true
 mark_is None h = absurd cc
@@ -45,14 +45,14 @@ module _ (flat : code_flat.Tables) (roots : GiveRoots (flat_of flat) flat.roots.
       let c = called_of flat roots item p.root a.step p.call in
       let n = (nulls p.root).0 (mark_is (slice_get flat.nulls.items p.root) p.null) in
       let made : Holds (flat_of flat) x (length sets) (at item.node a.step) item.origin =
-      pass (flat_of flat) x h c.calls
+      passes_at_once (flat_of flat) x h c.calls
       (λ t. absurd (false≢true (sym p.free ∙ takes_true flat item.node item.step item.origin t)))
       (nullable_up c.rooted n) in
       subst (λ v. Holds (flat_of flat) x (length sets) (at a.node a.step) v) (sym p.origin)
       (subst (λ v. Holds (flat_of flat) x (length sets) (at v a.step) item.origin) (sym p.node) made)
 
-  pub nothing : Hold (flat_of flat) x (length sets) []
-  nothing a h = elim h [ ]
+  pub none_hold : Hold (flat_of flat) x (length sets) []
+  none_hold a h = elim h [ ]
 
   done_null : (t k : ℕ) (o : Option code_node.Node) → slice_get flat.nodes.items t ≡ o → done_in o k ≡ true
       → Passes (flat_of flat).nodes (flat_of flat).bodies t k → Nullable (flat_of flat).nodes (flat_of flat).bodies t
@@ -62,23 +62,24 @@ module _ (flat : code_flat.Tables) (roots : GiveRoots (flat_of flat) flat.roots.
 
   module _ (set : List Item) (hold : Hold (flat_of flat) x (length sets) set)
       (worked : IsWorked flat sets set set) where
-    back : (by a : Item) → In by set → (o : Option (List Item)) → slice_get sets by.origin ≡ o
+    goes_back : (by a : Item) → In by set → (o : Option (List Item)) → slice_get sets by.origin ≡ o
         → done_in (slice_get flat.nodes.items by.node) by.step ≡ true →
         (r : IsResumed flat by.node (waiting_or set o) a) → (takes_of flat r.from ≡ true → by.origin < length sets)
         → In a set
-    back by a stands (Some old) is d r later =
+    goes_back by a stands (Some old) is d r later =
         worked by stands a (inr (record {
           done = d;
           resumed = subst (λ v. IsResumed flat by.node (waiting_or [] v)
               a) (sym is) r;
         }))
-    back by a stands None is d r later =
+    goes_back by a stands None is d r later =
         let h = hold by stands in
         let one = holds_origin (flat_of flat) h in
         let two = below_get sets by.origin is in
         let same : by.origin ≡ length sets = omega (arith, one, two) in
-        let n = done_null by.node by.step (slice_get flat.nodes.items by.node) refl d (stays (flat_of flat) x h same) in
-        let free = untrue (takes_of flat r.from) (λ t. let lt = later t in omega (arith, lt, same)) in
+        let n = done_null by.node by.step (slice_get flat.nodes.items by.node) refl d
+            (passes_where_begun (flat_of flat) x h same) in
+        let free = not_true (takes_of flat r.from) (λ t. let lt = later t in omega (arith, lt, same)) in
         worked r.from r.waits a (inl (inr (record {
           root = by.node;
           call = r.call;
@@ -93,4 +94,5 @@ module _ (flat : code_flat.Tables) (roots : GiveRoots (flat_of flat) flat.roots.
       where
         by : IsNextOf flat sets set n.by a → In a set
         by (inl p) = worked n.by n.stands a (inl (inl p))
-        by (inr c) = back n.by a n.stands (slice_get sets n.by.origin) refl c.completed.done c.completed.resumed c.later
+        by (inr c) =
+            goes_back n.by a n.stands (slice_get sets n.by.origin) refl c.completed.done c.completed.resumed c.later

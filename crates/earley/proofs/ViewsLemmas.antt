@@ -22,7 +22,7 @@ use Rattle.flatgrammar.specs.Blocks.{item_at, Block, begin_count, block_of, AreT
 use Rattle.earley.specs.FrontViews.{expand, full, view, views, IsGoing, IsWholeAt}
 use Rattle.flatgrammar.proofs.CallOfLemmas.{begun_starts, root_stands, get_below, some_same}
 use Rattle.earley.proofs.IsBuiltLemmas.{after_holds, root_is, built_more}
-use Rattle.earley.proofs.BlockLemmas.{in_expand, in_right, in_map, from_map, either}
+use Rattle.earley.proofs.BlockLemmas.{in_expand, in_right, in_map, from_map, in_either}
 use Rattle.flatgrammar.proofs.InLemmas.{in_left, before_end, at_index_in}
 use Rattle.earley.proofs.FillLemmas.{size_map}
 use Rattle.earley.proofs.ExpandLemmas.{length_views, take_one, take_past, map_end, expand_end}
@@ -236,7 +236,7 @@ pub heads_none : (blocks : ℕ → Block) (j : ℕ) (item : Item) (heads : List 
     (In item (expand blocks j (take k heads)) → ⊥) → (In item (map (item_at j) spots) → ⊥)
     → In item (expand blocks j (take (k + 1) heads)) → ⊥
 heads_none blocks j item heads k d spots lt is none differs h =
-    by (either (expand blocks j (take k heads)) (subst (λ v. In item v)
+    by (in_either (expand blocks j (take k heads)) (subst (λ v. In item v)
     (ap (λ v. expand blocks j v) (take_one heads k d lt)
     ∙ expand_end blocks j (take k heads) (slice_index_or heads k d)) h))
   where

@@ -17,7 +17,7 @@ use Rattle.earley.specs.declared.front.Front.{Front}
 use Rattle.earley.specs.FrontViews.{view}
 use Rattle.earley.specs.Waiting.{Chain, ended, linked, IsListed, AreWaiting, AreWaitingAll}
 use Rattle.flatgrammar.specs.Blocks.{item_at, block_of, inner_of, lists_of, AreSpotLists}
-use Rattle.earley.proofs.BlockLemmas.{in_right, either, in_map, from_map}
+use Rattle.earley.proofs.BlockLemmas.{in_right, in_either, in_map, from_map}
 use Rattle.earley.proofs.AddsLemmas.{adds_none, adds_both, adds_as}
 use Rattle.earley.proofs.ExpandLemmas.{take_one}
 use Rattle.flatgrammar.proofs.FlatCutLemmas.{push_cases}
@@ -107,9 +107,11 @@ set_beside (x ∷ xs) zero (suc j) v d other = refl
 set_beside (x ∷ xs) (suc i) zero v d other = refl
 set_beside (x ∷ xs) (suc i) (suc j) v d other = set_beside xs i j v d (λ same. other (ap suc same))
 
-pub taken : {A : Type 0} (xs ys : List A) (k : ℕ) (d : A) → xs ≡ ys → k < length xs → take (k + 1) ys ≡ take k ys
+pub take_one_more : {A : Type 0} (xs ys : List A) (k : ℕ) (d : A) → xs ≡ ys → k < length xs
+    → take (k + 1) ys ≡ take k ys
     ++ slice_index_or xs k d ∷ []
-taken xs ys k d same lt = subst (λ v. take (k + 1) v ≡ take k v ++ slice_index_or xs k d ∷ []) same (take_one xs k d lt)
+take_one_more xs ys k d same lt =
+    subst (λ v. take (k + 1) v ≡ take k v ++ slice_index_or xs k d ∷ []) same (take_one xs k d lt)
 
 -- the walk along a head's list adds what goes on where it is done
 pub listed_adds : {waits : List Wait} {first : ℕ} {Q : Item → Type 0} {old new : List Item} (l : IsListed waits first Q)
@@ -282,7 +284,7 @@ module _ (flat : code_flat.Tables) (heads : List ℕ) where
       record {
         items = l.items;
         chain = l.chain;
-        all = λ a r. l.all a (to a r (either seen r.waits));
+        all = λ a r. l.all a (to a r (in_either seen r.waits));
         only = λ a i. from a (l.only a i);
       }
     where
@@ -300,7 +302,7 @@ module _ (flat : code_flat.Tables) (heads : List ℕ) where
       from : (a : Item) → IsResumed flat t (seen ++ few) a → IsResumed flat t (seen ++ all) a
       from a r = record {
         from = r.from;
-        waits = by (either seen r.waits);
+        waits = by (in_either seen r.waits);
         call = r.call;
         node = r.node;
         origin = r.origin;

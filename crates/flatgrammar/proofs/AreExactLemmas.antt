@@ -43,8 +43,8 @@ module _ (nodes : Vec code_node.Node Global) (bodies : Vec ℕ Global) (roots : 
     (are_inners : AreInners (tables nodes bodies roots nulls nobody none unlisted whole limit) inners.items)
     (made : AreHeadBlocks (tables nodes bodies roots nulls nobody none unlisted whole limit) inners.items blocks.items)
     (are_lists : AreSpotLists (tables nodes bodies roots nulls inners blocks lists whole limit)) where
-  gives : GiveRoots (flat_of (tables nodes bodies roots nulls inners blocks lists whole limit)) roots.items
-  gives = let r = subst (λ v. AreRoots (nodes_of nodes.items) v roots.items) is_bs
+  gives_roots : GiveRoots (flat_of (tables nodes bodies roots nulls inners blocks lists whole limit)) roots.items
+  gives_roots = let r = subst (λ v. AreRoots (nodes_of nodes.items) v roots.items) is_bs
       (subst (λ v. AreRoots (nodes_of v) bs roots.items) is_ns are_roots) in
       λ s t. ((λ is. r.sound s t is), (λ root. r.whole s t root))
 
@@ -130,14 +130,15 @@ module _ (nodes : Vec code_node.Node Global) (bodies : Vec ℕ Global) (roots : 
 
   pub tables_exact : AreExact (tables nodes bodies roots nulls inners blocks lists whole limit)
   tables_exact = record {
-    roots = gives;
+    roots = gives_roots;
     nulls = subst (λ v. AreNulls (record { nodes = nodes_of nodes.items; bodies = v; whole = whole; limit = limit })
         nulls.items) is_cs
         (subst (λ v. AreNulls (record { nodes = nodes_of v; bodies = cs; whole = whole; limit = limit }) nulls.items)
         is_ms (are_nulls whole limit));
-    blocks = head_tables (tables nodes bodies roots nulls inners blocks lists whole limit) gives inners.items
+    blocks = head_tables (tables nodes bodies roots nulls inners blocks lists whole limit) gives_roots inners.items
         same_inners (λ h. same_grows _ _ _ (made h));
-    inners = λ t i is. inners_alone (tables nodes bodies roots nulls inners blocks lists whole limit) gives inners.items
+    inners = λ t i is. inners_alone (tables nodes bodies roots nulls inners blocks lists whole limit) gives_roots
+        inners.items
         same_inners (λ h. same_grows _ _ _ (made h)) t i is;
     lists = are_lists;
   }

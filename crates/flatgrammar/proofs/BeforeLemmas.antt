@@ -189,13 +189,14 @@ module _ (has : ℕ → Bool) (rules : List Rule) where
       let rest = turns_most never ds in let all = length-append w v in omega (arith, rest, all)
 
   -- where an element derives the empty list, more turns of it change nothing
-  pub padded : {el : Element} {w : List ℕ} {k : ℕ} (n : ℕ) → Derives has rules el [] → DerivesTimes has rules el k w
+  pub padded_times : {el : Element} {w : List ℕ} {k : ℕ} (n : ℕ) → Derives has rules el []
+      → DerivesTimes has rules el k w
       → DerivesTimes has rules el (n + k) w
-  padded {el = el} {w = w} {k = k} zero empty d = let same : k ≡ zero + k = omega arith in
+  padded_times {el = el} {w = w} {k = k} zero empty d = let same : k ≡ zero + k = omega arith in
       subst (λ v. DerivesTimes has rules el v w) same d
-  padded {el = el} {w = w} {k = k} (suc n) empty d =
+  padded_times {el = el} {w = w} {k = k} (suc n) empty d =
       let same : suc (n + k) ≡ suc n + k = omega arith in subst (λ v. DerivesTimes has rules el v w) same
-      (one_more empty (padded n empty d))
+      (one_more empty (padded_times n empty d))
 
   module _ (limit : ℕ) (nodes : List Node) where
     pub start_part : {node : Node} {el : Element} {k : ℕ} → Begins node k → Shows rules limit nodes node el
@@ -305,7 +306,7 @@ module _ (has : ℕ → Bool) (rules : List Rule) where
         by (inl less) =
             let all : a - j + j ≡ a = omega (arith, less) in
             der.rep {k = a} (omega arith) bounds (subst (λ v. DerivesTimes has rules el v w) all
-            (padded (a - j) (empty has) ds))
+            (padded_times (a - j) (empty has) ds))
         by (inr le) = der.rep {k = j} le within ds
     end_part IsDone.opt (shows_opt s) letters short (opt_done d) = der.opt d
     end_part IsDone.opt_empty (shows_opt s) letters short opt_passed = der.opt_empty

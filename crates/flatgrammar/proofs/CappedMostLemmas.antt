@@ -6,8 +6,8 @@ use Rattle.std.proofs.lemmas.Bool.{cases_lt}
 use Rattle.abnfcheck.specs.Derivable.{Within}
 use Rattle.flatgrammar.specs.Lowered.{capped_most}
 
-above : (limit m : ℕ) → leb m limit ≡ false → limit < m
-above limit m unmet = by (cases_lt limit m)
+above_limit : (limit m : ℕ) → leb m limit ≡ false → limit < m
+above_limit limit m unmet = by (cases_lt limit m)
   where
     by : (limit < m) ⊎ (m ≤ limit) → limit < m
     by (inl lt) = lt
@@ -29,7 +29,7 @@ module _ (limit : ℕ) where
     where
       by : (c : Bool) → leb m limit ≡ c → None ≡ (if c then Some m else None) → suc j ≤ m
       by true met is = absurd (cc is)
-      by false unmet is = let lt = above limit m unmet in omega (arith, lt, le)
+      by false unmet is = let lt = above_limit limit m unmet in omega (arith, lt, le)
 
   pub counted_within : (j k n : ℕ) (b : Option ℕ) → Some n ≡ capped_most limit b → k < n → k ≡ j → Within (suc j) b
   counted_within j k n None is lt same = tt

@@ -25,17 +25,17 @@ module _ (flat : Flat) where
 
   module _ (x : List ℕ) where
     -- what stands in the set where it began
-    pub stays : {i j : ℕ} {p : Place} → Holds flat x j p i → i ≡ j → PassesAt p
-    stays (begins st) same = starts_pass st
-    stays (called h c st) same = starts_pass st
-    stays (has_read h r letter lies) same = absurd (omega (arith, holds_origin flat h, same))
-    stays (returned {i = i} {j = j} {k = k} h e g c takes) same =
+    pub passes_where_begun : {i j : ℕ} {p : Place} → Holds flat x j p i → i ≡ j → PassesAt p
+    passes_where_begun (begins st) same = starts_pass st
+    passes_where_begun (called h c st) same = starts_pass st
+    passes_where_begun (has_read h r letter lies) same = absurd (omega (arith, holds_origin flat h, same))
+    passes_where_begun (returned {i = i} {j = j} {k = k} h e g c takes) same =
         let one = holds_origin flat h in
         let two = holds_origin flat g in
         let inner : k ≡ j = omega (arith, one, two, same) in
         let outer : i ≡ k = omega (arith, one, two, same) in
-        calls_pass c (λ t. let lt = takes t in absurd (omega (arith, lt, inner))) (stays g outer)
-        (ends_null e (stays h inner))
+        calls_pass c (λ t. let lt = takes t in absurd (omega (arith, lt, inner))) (passes_where_begun g outer)
+        (ends_null e (passes_where_begun h inner))
 
     -- from a start to an end of a node, within set j
     pub record Through (s j : ℕ) : Type 0 where
@@ -52,9 +52,9 @@ module _ (flat : Flat) where
       begins : Begins node from
       run : Holds flat x j (at s from) j → Holds flat x j (at s k) j
 
-    over : {i j s : ℕ} {q r : Place} → Calls flat q s r → (Takes flat q → ⊥) → Through s j → Holds flat x j q i
+    goes_over : {i j s : ℕ} {q r : Place} → Calls flat q s r → (Takes flat q → ⊥) → Through s j → Holds flat x j q i
         → Holds flat x j r i
-    over c free t h = returned (t.run (called h c t.start)) t.end h c (λ takes. elim (free takes) [ ])
+    goes_over c free t h = returned (t.run (called h c t.start)) t.end h c (λ takes. elim (free takes) [ ])
 
     free_at : {s k : ℕ} {node : Node} → slice_get flat.nodes s ≡ Some node → (IsTaking node → ⊥)
         → Takes flat (at s k) → ⊥
@@ -62,25 +62,26 @@ module _ (flat : Flat) where
         free (let same : node' ≡ _ = cc (is, is') in subst IsTaking same t)
 
     mutual
-      passed : {s k : ℕ} → Passes flat.nodes flat.bodies s k → (j : ℕ) → Begun s k j
-      passed (begun {k = k} {node = node} is b) j = record { from = k; node = node; is = is; begins = b; run = λ h. h }
-      passed (stepped p is c free null) j =
-          let b = passed p j in
-          let t = through null j in
+      passed_begun : {s k : ℕ} → Passes flat.nodes flat.bodies s k → (j : ℕ) → Begun s k j
+      passed_begun (begun {k = k} {node = node} is b) j =
+          record { from = k; node = node; is = is; begins = b; run = λ h. h }
+      passed_begun (stepped p is c free null) j =
+          let b = passed_begun p j in
+          let t = goes_through null j in
           record {
             from = b.from;
             node = b.node;
             is = b.is;
             begins = b.begins;
-            run = λ h. over (calls is c) (free_at is free) t (b.run h);
+            run = λ h. goes_over (calls is c) (free_at is free) t (b.run h);
           }
 
-      pub through : {s : ℕ} → Nullable flat.nodes flat.bodies s → (j : ℕ) → Through s j
-      through (done {s = s} {k = k} p is d) j =
-          let b = passed p j in
+      pub goes_through : {s : ℕ} → Nullable flat.nodes flat.bodies s → (j : ℕ) → Through s j
+      goes_through (done {s = s} {k = k} p is d) j =
+          let b = passed_begun p j in
           record { from = at s b.from; to = at s k; start = starts b.is b.begins; end = ends is d; run = b.run }
-      through (named is at_r null) j =
-          let t = through null j in
+      goes_through (named is at_r null) j =
+          let t = goes_through null j in
           record {
             from = t.from;
             to = t.to;
@@ -90,6 +91,6 @@ module _ (flat : Flat) where
           }
 
     -- a nullable node that is called is passed at once, but by a turn that takes a letter
-    pub pass : {i j s : ℕ} {q r : Place} → Holds flat x j q i → Calls flat q s r → (Takes flat q → ⊥)
+    pub passes_at_once : {i j s : ℕ} {q r : Place} → Holds flat x j q i → Calls flat q s r → (Takes flat q → ⊥)
         → Nullable flat.nodes flat.bodies s → Holds flat x j r i
-    pass {j = j} h c free null = over c free (through null j) h
+    passes_at_once {j = j} h c free null = goes_over c free (goes_through null j) h

@@ -25,9 +25,9 @@ pub at_end : {A : Type 0} (xs : List A) (a : A) → slice_get (xs ++ a ∷ []) (
 at_end [] a = refl
 at_end (x ∷ xs) a = at_end xs a
 
-pub pushed : (nodes more : List declared.Node) (v : declared.Node) → more ≡ nodes ++ v ∷ []
+pub nodes_pushed : (nodes more : List declared.Node) (v : declared.Node) → more ≡ nodes ++ v ∷ []
     → nodes_of more ≡ nodes_of nodes ++ node_of v ∷ []
-pushed nodes more v is = ap nodes_of is ∙ map-append node_of nodes (v ∷ [])
+nodes_pushed nodes more v is = ap nodes_of is ∙ map-append node_of nodes (v ∷ [])
 
 -- one more node, whose operands are all there
 pub ordered_push : (nodes : List Node) (node : Node) → AreOrdered nodes
@@ -51,7 +51,7 @@ module _ (rules : List Rule) (limit : ℕ) (nodes more : List declared.Node) (v 
   one_more first added grown ordered sized shown told =
       let number : n ≡ length (nodes_of nodes) = is ∙ sym (length-map nodes node_of) in
       let at = at_end (nodes_of nodes) (node_of v) in
-      rw (pushed nodes more v is_more) (record {
+      rw (nodes_pushed nodes more v is_more) (record {
         added = added ++ node_of v ∷ [];
         grown = ap (λ w. w ++ node_of v ∷ []) grown ∙ append_assoc first added (node_of v ∷ []);
         spelled = spells (subst (λ k. slice_get (nodes_of nodes ++ node_of v ∷ []) k ≡ Some (node_of v)) (sym number)
@@ -63,17 +63,19 @@ module _ (rules : List Rule) (limit : ℕ) (nodes more : List declared.Node) (v 
       })
 
   -- a node without operands
-  pub leaf : width (node_of v) ≡ size limit el → Shows rules limit (nodes_of nodes) (node_of v) el
+  pub leaf_numbers : width (node_of v) ≡ size limit el → Shows rules limit (nodes_of nodes) (node_of v) el
       → Tells rules empty el → Numbers rules limit (nodes_of nodes) (nodes_of more) n empty el
-  leaf wide shown told = one_more (nodes_of nodes) [] (sym (append-nil (nodes_of nodes))) (λ o. o) (omega (arith, wide))
+  leaf_numbers wide shown told =
+      one_more (nodes_of nodes) [] (sym (append-nil (nodes_of nodes))) (λ o. o) (omega (arith, wide))
       shown told
 
   -- a node over one operand
-  pub over : (first : List Node) (k : ℕ) (c : Bool) (d : Element) → Numbers rules limit first (nodes_of nodes) k c d
+  pub numbers_over : (first : List Node) (k : ℕ) (c : Bool) (d : Element)
+      → Numbers rules limit first (nodes_of nodes) k c d
       → width (node_of v) + size limit d ≤ size limit el →
       (Tells rules c d → Spells rules limit (nodes_of nodes) k d → Shows rules limit (nodes_of nodes) (node_of v) el)
       → (Tells rules c d → Tells rules empty el) → Numbers rules limit first (nodes_of more) n empty el
-  over first k c d g wide shown told = let sized = g.sized in
+  numbers_over first k c d g wide shown told = let sized = g.sized in
       one_more first g.added g.grown g.ordered (omega (arith, sized, wide)) (shown g.tells g.spelled) (told g.tells)
 
   -- a node over members

@@ -87,11 +87,11 @@ module _ (flat : code_flat.Tables) (inners : List (Option Inner)) where
       from (inl h) = inl h
       from (inr h) = inr (e.1 h)
 
-  both : {A B C : Type 0} → A ↔ B → B ↔ C → A ↔ C
-  both e f = ((λ h. f.0 (e.0 h)), (λ h. e.1 (f.1 h)))
+  iff_both : {A B C : Type 0} → A ↔ B → B ↔ C → A ↔ C
+  iff_both e f = ((λ h. f.0 (e.0 h)), (λ h. e.1 (f.1 h)))
 
-  back : {A B : Type 0} → A ↔ B → B ↔ A
-  back e = (e.1, e.0)
+  iff_back : {A B : Type 0} → A ↔ B → B ↔ A
+  iff_back e = (e.1, e.0)
 
   -- one more spot
   pub grows_one : (p : Spot) (old new : Block) → new.spots ≡ old.spots ++ p ∷ []
@@ -99,8 +99,8 @@ module _ (flat : code_flat.Tables) (inners : List (Option Inner)) where
       ((r : Spot) → In r new.passes ↔ (In r old.passes ⊎ IsPast flat p r)) → Grows flat inners (λ q. q ≡ p) old new
   grows_one p old new is calls passes = record {
     spots = one_more old.spots new.spots p (λ q. q ≡ p) is (λ q. ((λ h. h), (λ h. h)));
-    calls = λ t. both (calls t) (or_of (back (one_of p (λ q. IsCalled flat inners q t))));
-    passes = λ r. both (passes r) (or_of (back (one_of p (λ q. IsPast flat q r))));
+    calls = λ t. iff_both (calls t) (or_of (iff_back (one_of p (λ q. IsCalled flat inners q t))));
+    passes = λ r. iff_both (passes r) (or_of (iff_back (one_of p (λ q. IsPast flat q r))));
     different = λ d apart. subst (λ v. AreDifferent v) (sym is) (different_end p old.spots (apart p refl) d);
   }
 
@@ -290,9 +290,9 @@ module _ (flat : code_flat.Tables) (inners : List (Option Inner)) where
 module _ (flat : code_flat.Tables) (roots : GiveRoots (flat_of flat) flat.roots.items) (inners : List (Option Inner))
     (are : AreInners flat inners)
     (made : (h : ℕ) → Grows flat inners (IsAtHome flat inners h) (block_in None) (block_of flat h)) where
-  stands : (h : ℕ) (p : Spot) → home_in inners p.node ≡ h → p.step < begin_count flat p.node
+  spot_stands : (h : ℕ) (p : Spot) → home_in inners p.node ≡ h → p.step < begin_count flat p.node
       → In p (block_of flat h).spots
-  stands h p home lt = ((made h).spots p).1 (inr (home, lt))
+  spot_stands h p home lt = ((made h).spots p).1 (inr (home, lt))
 
   at_home : (h : ℕ) (p : Spot) → In p (block_of flat h).spots → IsAtHome flat inners h p
   at_home h p i = by (((made h).spots p).0 i)
@@ -308,15 +308,17 @@ module _ (flat : code_flat.Tables) (roots : GiveRoots (flat_of flat) flat.roots.
   home_own t is = ap (λ v. home_or v t) is
 
   is_head : (t : ℕ) → inner_at inners t ≡ None → IsHead flat t
-  is_head t is k lt = stands t (spot t k) (home_own t is) lt
+  is_head t is k lt = spot_stands t (spot t k) (home_own t is) lt
 
   -- wherever the head of a node is predicted, the node begins
-  chain : (fuel t k : ℕ) → length inners ≤ t + fuel → k < begin_count flat t → Inside flat (home_in inners t) (spot t k)
-  chain zero t k le lt =
+  inside_home : (fuel t k : ℕ) → length inners ≤ t + fuel → k < begin_count flat t
+      → Inside flat (home_in inners t) (spot t k)
+  inside_home zero t k le lt =
       let past : inner_at inners t ≡ None = ap (λ v. inner_in v) (past_get inners t (omega (arith, le))) in
       subst (λ v. Inside flat v (spot t k)) (sym (home_own t past)) (Inside.begun lt)
-  chain (suc fuel) t k le lt = by (inner_at inners t) refl
-      (λ i is. let up = (are t i is).above in chain fuel i.node i.step (omega (arith, le, up)) (are t i is).begins)
+  inside_home (suc fuel) t k le lt = by (inner_at inners t) refl
+      (λ i is. let up = (are t i is).above in inside_home fuel i.node i.step (omega (arith, le, up))
+          (are t i is).begins)
     where
       by : (o : Option Inner) → inner_at inners t ≡ o
           → ((i : Inner) → inner_at inners t ≡ Some i → Inside flat (home_in inners i.node) (spot i.node i.step))
@@ -338,7 +340,7 @@ module _ (flat : code_flat.Tables) (roots : GiveRoots (flat_of flat) flat.roots.
       })))
       by (Some i) is =
           let only = (are t i is).only from.node from.step l call in
-          inr (λ k lt. stands h (spot t k) (home_up t i is
+          inr (λ k lt. spot_stands h (spot t k) (home_up t i is
           ∙ (ap (λ v. home_in inners v) only.0 ∙ (at_home h from lies).0)) lt)
 
   calling_from : (h t : ℕ) → In t (block_of flat h).calls
@@ -363,11 +365,11 @@ module _ (flat : code_flat.Tables) (roots : GiveRoots (flat_of flat) flat.roots.
   head_block h head = record {
     begun = head;
     inside = λ p i. let at = at_home h p i in subst (λ v. Inside flat v p) at.0
-        (chain (length inners) p.node p.step (omega arith) at.1);
+        (inside_home (length inners) p.node p.step (omega arith) at.1);
     called = λ t c. called_in h c.from t c.next c.stands c.call;
     calls = λ t i. let s = calling_from h t i in record {
       from = s.spot;
-      stands = stands h s.spot s.stands.0 s.stands.1;
+      stands = spot_stands h s.spot s.stands.0 s.stands.1;
       next = s.is.next;
       call = s.is.call;
     };
@@ -375,7 +377,7 @@ module _ (flat : code_flat.Tables) (roots : GiveRoots (flat_of flat) flat.roots.
     passes = λ r i. let s = passing_from h r i in
         record {
           from = s.spot;
-          stands = stands h s.spot s.stands.0 s.stands.1;
+          stands = spot_stands h s.spot s.stands.0 s.stands.1;
           root = s.is.root;
           call = s.is.call;
           null = s.is.null;
@@ -434,7 +436,7 @@ module _ (flat : code_flat.Tables) (roots : GiveRoots (flat_of flat) flat.roots.
 
   pub inners_alone : (t : ℕ) (i : Inner) → inner_at inners t ≡ Some i → IsAlone flat t i
   inners_alone t i is = let one = are t i is in record {
-    stands = stands i.head (spot i.node i.step) (sym one.home) one.begins;
+    stands = spot_stands i.head (spot i.node i.step) (sym one.home) one.begins;
     begins = one.begins;
     call = one.call;
     moves = one.moves;

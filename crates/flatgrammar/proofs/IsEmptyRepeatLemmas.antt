@@ -9,9 +9,9 @@ use Rattle.flatgrammar.specs.Flat.{Node, Nothing}
 use Rattle.flatgrammar.specs.Lowered.{Shows, shows_reversed}
 use Rattle.flatgrammar.proofs.TellsLemmas.{rep_empty, rep_never, text_tells, values_tell}
 
-none : (xs : List ℕ) → length xs ≡ 0 → xs ≡ []
-none [] is = refl
-none (x ∷ xs) is = absurd (omega (arith, is))
+empty_of_length : (xs : List ℕ) → length xs ≡ 0 → xs ≡ []
+empty_of_length [] is = refl
+empty_of_length (x ∷ xs) is = absurd (omega (arith, is))
 
 pub rep_zero : (rules : List Rule) (a : ℕ) (b : Option ℕ) (el : Element) (z : Bool) → z ≡ true → a ≡ 0 → Within a b
     → Tells rules z (e.Rep a b el)
@@ -29,15 +29,16 @@ rep_operand rules a b el c lt within t = record {
 
 pub text_marked : (rules : List Rule) (folds : Bool) (t : List ℕ) (mark : Bool) → (mark ≡ true) ↔ (length t ≡ 0)
     → Tells rules mark (e.Text folds t)
-text_marked rules folds t mark is = text_tells rules folds t mark (λ m. none t (is.0 m))
+text_marked rules folds t mark is = text_tells rules folds t mark (λ m. empty_of_length t (is.0 m))
     (λ m e. absurd (cc (is.1 (ap length e), m)))
 
 pub values_marked : (rules : List Rule) (vs : List ℕ) (mark : Bool) → (mark ≡ true) ↔ (length vs ≡ 0)
     → Tells rules mark (e.Values vs)
-values_marked rules vs mark is = values_tell rules vs mark (λ m. none vs (is.0 m))
+values_marked rules vs mark is = values_tell rules vs mark (λ m. empty_of_length vs (is.0 m))
     (λ m e. absurd (cc (is.1 (ap length e), m)))
 
 -- what no number of turns meets
-pub reversed : (rules : List Rule) (limit : ℕ) (nodes : List Node) (least : ℕ) (most : Option ℕ) (el : Element)
+pub reversed_is_nothing : (rules : List Rule) (limit : ℕ) (nodes : List Node) (least : ℕ) (most : Option ℕ)
+    (el : Element)
     → (b : ℕ) × (most ≡ Some b) × (b < least) → Shows rules limit nodes Nothing (e.Rep least most el)
-reversed rules limit nodes least most el h = rw h.1 (shows_reversed h.2)
+reversed_is_nothing rules limit nodes least most el h = rw h.1 (shows_reversed h.2)

@@ -17,7 +17,7 @@ use Rattle.flatgrammar.specs.declared.flat_node.Node as declared
 use Rattle.flatgrammar.specs.declared.flat_node.Node.TheVariants as code
 use Rattle.flatgrammar.specs.Numbers.{AreCut, AreOrdered}
 use Rattle.flatgrammar.specs.FlatViews.{node_of, nodes_of}
-use Rattle.flatgrammar.proofs.FlatNumbersLemmas.{at_end, pushed, ordered_push}
+use Rattle.flatgrammar.proofs.FlatNumbersLemmas.{at_end, nodes_pushed, ordered_push}
 use Rattle.flatgrammar.proofs.SpellAllLemmas.{still_spells, places_push, spells_below}
 
 take_all : {A : Type 0} (xs : List A) (n : ℕ) → n ≡ length xs → take n xs ≡ xs
@@ -31,13 +31,14 @@ module _ (rules : List Rule) (limit : ℕ) (judged count n b d : ℕ) (old new :
     (cut : AreCut rules limit count (nodes_of old) numbers) (all : count ≡ length rules)
     (is_new : new ≡ old ++ code.Concat members ∷ []) (alone : members.items ≡ b ∷ [])
     (nodes : f.nodes ≡ nodes_of new) where
-  shapes : f.nodes ≡ nodes_of old ++ flat.Concat (b ∷ []) ∷ []
-  shapes = nodes ∙ pushed old new (code.Concat members) is_new ∙ ap (λ v. nodes_of old ++ flat.Concat v ∷ []) alone
+  shapes_of_whole : f.nodes ≡ nodes_of old ++ flat.Concat (b ∷ []) ∷ []
+  shapes_of_whole =
+      nodes ∙ nodes_pushed old new (code.Concat members) is_new ∙ ap (λ v. nodes_of old ++ flat.Concat v ∷ []) alone
 
-  pub lowered : f.limit ≡ limit → b ≡ get_or numbers judged d → judged < length rules → n ≡ length old
+  pub is_lowered : f.limit ≡ limit → b ≡ get_or numbers judged d → judged < length rules → n ≡ length old
       → f.bodies ≡ numbers → f.whole ≡ n → IsLowered rules judged f
-  lowered is_limit body within last is_bodies is_whole = record {
-    spelled = rw (is_bodies, shapes, is_limit) (record {
+  is_lowered is_limit body within last is_bodies is_whole = record {
+    spelled = rw (is_bodies, shapes_of_whole, is_limit) (record {
       count = cut.long ∙ all;
       spelled = λ id m h. let g = cut.spelled id m h in
           (g.0, g.1, still_spells rules limit (nodes_of old) (flat.Concat (b ∷ []) ∷ []) g.2);
@@ -45,32 +46,33 @@ module _ (rules : List Rule) (limit : ℕ) (judged count n b d : ℕ) (old new :
     body = b;
     body_is = rw is_bodies (let long = cut.long in slice_get-get_or numbers judged d (omega (arith, within, all, long))
         ∙ ap (λ v. Some v) (sym body));
-    whole = rw (is_whole, shapes) (
+    whole = rw (is_whole, shapes_of_whole) (
         let here : n ≡ length (nodes_of old) = last ∙ sym (length-map old node_of) in
         subst (λ k. slice_get (nodes_of old ++ flat.Concat (b ∷ []) ∷ []) k ≡ Some (flat.Concat (b ∷ []))) (sym here)
         (at_end (nodes_of old) (flat.Concat (b ∷ []))));
   }
 
-  pub sized : places f.nodes ≤ sizes limit (bodies rules) + 2
-  sized =
+  pub places_sized : places f.nodes ≤ sizes limit (bodies rules) + 2
+  places_sized =
       let whole = places_push (nodes_of old) (flat.Concat (b ∷ [])) in
       let before = cut.sized in
       let size = length-map rules (λ rule. rule.body) in
       let taken : sizes limit (take count (bodies rules)) ≡ sizes limit (bodies rules) =
       ap (sizes limit) (take_all (bodies rules) count (omega (arith, all, size))) in
-      rw shapes (omega (arith, whole, before, taken))
+      rw shapes_of_whole (omega (arith, whole, before, taken))
 
 -- the whole stands behind its one member
-pub ordered : (rules : List Rule) (limit judged count b d : ℕ) (old new : List declared.Node) (members : Vec ℕ Global)
+pub are_ordered : (rules : List Rule) (limit judged count b d : ℕ) (old new : List declared.Node)
+    (members : Vec ℕ Global)
     (numbers : List ℕ) → AreCut rules limit count (nodes_of old) numbers → count ≡ length rules →
     new ≡ old ++ code.Concat members ∷ [] → members.items ≡ b ∷ [] → b ≡ get_or numbers judged d → judged < length rules
     → AreOrdered (nodes_of new)
-ordered rules limit judged count b d old new members numbers cut all is_new alone body within =
+are_ordered rules limit judged count b d old new members numbers cut all is_new alone body within =
     let long = cut.long in
     let there : slice_get numbers judged ≡ Some b = slice_get-get_or numbers judged d (omega (arith, within, all, long))
     ∙ ap (λ v. Some v) (sym body) in
     let lt = spells_below rules limit (nodes_of old) (cut.spelled judged b there).2 in
-    subst (λ v. AreOrdered v) (sym (pushed old new (code.Concat members) is_new))
+    subst (λ v. AreOrdered v) (sym (nodes_pushed old new (code.Concat members) is_new))
     (ordered_push (nodes_of old) (flat.Concat members.items) cut.ordered
     (λ m h. by m h.0 (subst (λ v. slice_get v h.0 ≡ Some m) alone h.1) lt))
   where
@@ -79,17 +81,18 @@ ordered rules limit judged count b d old new members numbers cut all is_new alon
     by m (suc k) is lt = absurd (cc is)
 
 -- the bodies are there
-pub within : (rules : List Rule) (limit count : ℕ) (old new : List declared.Node) (node : declared.Node)
+pub bodies_within : (rules : List Rule) (limit count : ℕ) (old new : List declared.Node) (node : declared.Node)
     (numbers : List ℕ) → AreCut rules limit count (nodes_of old) numbers → new ≡ old ++ node ∷ [] →
     (id m : ℕ) → slice_get numbers id ≡ Some m → m < length new
-within rules limit count old new node numbers cut is_new id m h =
+bodies_within rules limit count old new node numbers cut is_new id m h =
     let lt = spells_below rules limit (nodes_of old) (cut.spelled id m h).2 in
     let long = length-map old node_of in
     let more = length-append old (node ∷ []) in
     subst (λ v. m < length v) (sym is_new) (let short : m < length (old ++ node ∷ []) = omega (arith, lt, long, more) in
     short)
 
-pub tells : (rules : List Rule) (judged : ℕ) (f : Flat) → IsLowered rules judged f → (has : ℕ → Bool) (x : List ℕ)
+pub lowered_tells : (rules : List Rule) (judged : ℕ) (f : Flat) → IsLowered rules judged f
+    → (has : ℕ → Bool) (x : List ℕ)
     → length x ≤ f.limit → AreLetters has x →
     Holds f x (length x) (flat.at f.whole 1) 0 ↔ RuleDerives has rules judged x
-tells rules judged f low has x line letters = judge.exactly has rules judged f low x line letters
+lowered_tells rules judged f low has x line letters = judge.derives_exactly has rules judged f low x line letters

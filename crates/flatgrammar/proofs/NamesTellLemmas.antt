@@ -13,7 +13,7 @@ use Rattle.flatgrammar.specs.Numbers.{NamesTell}
 use Rattle.flatgrammar.proofs.BeforeLemmas.{get_below}
 use Rattle.flatgrammar.proofs.FlatCutLemmas.{push_cases}
 use Rattle.abnfcheck.proofs.RuleIdLemmas.{body_at_id}
-use Rattle.flatgrammar.proofs.RuleNodeLemmas.{there}
+use Rattle.flatgrammar.proofs.RuleNodeLemmas.{get_there}
 
 get_here : (marks : List Bool) (k : ℕ) (mark : Bool) → slice_get marks k ≡ Some mark → get_or marks k false ≡ mark
 get_here [] k mark is = absurd (cc is)
@@ -48,7 +48,7 @@ names_tell rules others marks are alike n = record {
         let long = length-map others (λ rule. rule.body) in
         let one = alike.count in
         let two = are.count in
-        let at = there marks (id_of others n) (omega (arith, below, long, one, two)) in
+        let at = get_there marks (id_of others n) (omega (arith, below, long, one, two)) in
         let yes = (are.each (id_of others n) at.0 at.1 has).1 ((alike.alike has (id_of others n)).0 d) in
         let no = sym (get_here marks (id_of others n) at.0 at.1) ∙ m in
         absurd (cc (yes, no))

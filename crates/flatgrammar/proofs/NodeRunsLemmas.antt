@@ -21,7 +21,7 @@ use Rattle.flatgrammar.proofs.RuleNodeLemmas.{node_of_rule}
 use Rattle.abnfcheck.proofs.IsPathLemmas.{here, step, path_splits}
 use Rattle.abnfcheck.proofs.LiesLemmas.{OnLine, Lies}
 use Rattle.flatgrammar.proofs.CappedMostLemmas.{most_is}
-use Rattle.flatgrammar.proofs.OnLineLemmas.{short, lies_count}
+use Rattle.flatgrammar.proofs.OnLineLemmas.{short_on_line, lies_count}
 use Rattle.flatgrammar.proofs.BeforeLemmas.{Fit, fit_none, fit_more, text_fits, values_fit, Turned, turned_none}
 use Rattle.flatgrammar.proofs.BeforeLemmas.{turns_most}
 
@@ -93,9 +93,9 @@ pub record TurnOn (d : Option ℕ) (m t f : ℕ) : Type 0 where
   pub turned : Turned 0 d (suc t) to
   pub within : der.Within (suc t) d
 
-pub fewer : (t k : ℕ) (b : Option ℕ) → der.Within (t + suc k) b → der.Within (t + k) b
-fewer t k None h = tt
-fewer t k (Some b) h = omega (arith, h)
+pub fewer_within : (t k : ℕ) (b : Option ℕ) → der.Within (t + suc k) b → der.Within (t + k) b
+fewer_within t k None h = tt
+fewer_within t k (Some b) h = omega (arith, h)
 
 turns_done : (count f m : ℕ) (d : Option ℕ) → der.Within count d → Turned 0 d count f → IsDone (Node.Turns d m) f
 turns_done count f m None within is = IsDone.turns (omega (arith, is))
@@ -149,15 +149,15 @@ module _ (has : ℕ → Bool) (rules : List Rule) (limit : ℕ) (flat : Flat)
   call_step c takes run = λ o h. returned (run.run (called h c run.start)) run.end h c takes
 
   -- a node of another kind asks for nothing
-  pub plain : {A : Type 0} {s k : ℕ} {node : Node} → slice_get flat.nodes s ≡ Some node → (IsTaking node → ⊥)
+  pub plain_node : {A : Type 0} {s k : ℕ} {node : Node} → slice_get flat.nodes s ≡ Some node → (IsTaking node → ⊥)
       → Takes flat (at s k) → A
-  plain is none (in_turns {node = node'} is' t) =
+  plain_node is none (in_turns {node = node'} is' t) =
       absurd (none (let same : node' ≡ _ = cc (is, is') in subst IsTaking same t))
 
   -- a node that begins at step k and is done at step l
-  through : {s k l i j : ℕ} {node : Node} → slice_get flat.nodes s ≡ Some node → Begins node k → IsDone node l
+  runs_through : {s k l i j : ℕ} {node : Node} → slice_get flat.nodes s ≡ Some node → Begins node k → IsDone node l
       → Steps (at s k) i (at s l) j → Runs s i j
-  through {s = s} {k = k} {l = l} {i = i} is b d steps =
+  runs_through {s = s} {k = k} {l = l} {i = i} is b d steps =
       record { from = at s k; to = at s l; start = starts is b; end = ends is d; run = steps i }
 
   read_all : (s : ℕ) (sets : List Set) → slice_get flat.nodes s ≡ Some (Letters sets) → {left : List Set} {w : List ℕ}
@@ -177,7 +177,7 @@ module _ (has : ℕ → Bool) (rules : List Rule) (limit : ℕ) (flat : Flat)
       → Lies x i w j → Runs s i j
   run_letters {s = s} {i = i} {j = j} {sets = sets} is f l =
       let same : 0 + length sets ≡ length sets = omega arith in
-      through is Begins.letters (IsDone.letters same) (read_all s sets is f 0 i j refl l)
+      runs_through is Begins.letters (IsDone.letters same) (read_all s sets is f 0 i j refl l)
 
   record Chosen (s i j : ℕ) (ms : List ℕ) : Type 0 where
     one : ℕ
@@ -198,38 +198,40 @@ module _ (has : ℕ → Bool) (rules : List Rule) (limit : ℕ) (flat : Flat)
     steps : Steps (at s f) i (at s to) j
 
   mutual
-    pub run : {el : Element} {w : List ℕ} → Derives has rules el w → (s i j : ℕ) → Spells rules limit flat.nodes s el
+    pub node_runs : {el : Element} {w : List ℕ} → Derives has rules el w → (s i j : ℕ)
+        → Spells rules limit flat.nodes s el
         → Lies x i w j → Runs s i j
-    run (der.text {w = w} d) s i j (spells is (shows_text same)) l =
+    node_runs (der.text {w = w} d) s i j (spells is (shows_text same)) l =
         run_letters is (subst (λ v. Fit v w) (sym same) (text_fits d)) l
-    run (der.values {vs = vs} letters) s i j (spells is (shows_values same)) l =
+    node_runs (der.values {vs = vs} letters) s i j (spells is (shows_values same)) l =
         run_letters is (subst (λ v. Fit v vs) (sym same) (values_fit vs)) l
-    run (der.range low high letter) s i j (spells is shows_range) l = run_letters is (fit_more (low, high) fit_none) l
-    run (der.concat d) s i j (spells is (shows_concat {ms = ms} all)) l =
+    node_runs (der.range low high letter) s i j (spells is shows_range) l =
+        run_letters is (fit_more (low, high) fit_none) l
+    node_runs (der.concat d) s i j (spells is (shows_concat {ms = ms} all)) l =
         let same : 0 + length ms ≡ length ms = omega arith in
-        through is Begins.concat (IsDone.concat same) (run_all d all s ms is 0 i j refl l)
-    run (der.alt d) s i j (spells is (shows_alt {ms = ms} all)) l =
-        let h = run_some d all s ms is 0 i j refl l in through is (Begins.alt h.below) (IsDone.alt h.below) h.steps
-    run (der.rep {a = a} {k = k} {b = b} {w = w} low within d) s i j
+        runs_through is Begins.concat (IsDone.concat same) (run_all d all s ms is 0 i j refl l)
+    node_runs (der.alt d) s i j (spells is (shows_alt {ms = ms} all)) l =
+        let h = run_some d all s ms is 0 i j refl l in runs_through is (Begins.alt h.below) (IsDone.alt h.below) h.steps
+    node_runs (der.rep {a = a} {k = k} {b = b} {w = w} low within d) s i j
         (spells is (shows_rep {c = c} {m = m} {d = d'} least most never sp)) l =
         let few = turns_most has rules never d in
-        let all = short x l in
+        let all = short_on_line x l in
         let under : k ≤ limit = omega (arith, few, all, line) in
         let low' : c ≤ k = omega (arith, least, low) in
         let within' = cap_within limit b d' k most under within in
         let h = run_times d s c m d' is sp 0 0 i j (turned_none c d') (within_start k d' within') l in
-        through is Begins.rep (rep_done c k h.to m d' low' within' h.turned) h.steps
+        runs_through is Begins.rep (rep_done c k h.to m d' low' within' h.turned) h.steps
       where
         within_start : (k : ℕ) (b : Option ℕ) → der.Within k b → der.Within (0 + k) b
         within_start k None h = tt
         within_start k (Some b) h = omega arith
-    run (der.rep low within d) s i j (spells is (shows_reversed lt)) l = absurd (omega (arith, low, within, lt))
-    run (der.rep {a = a} {k = k} {b = b} {w = w} low within d) s i j
+    node_runs (der.rep low within d) s i j (spells is (shows_reversed lt)) l = absurd (omega (arith, low, within, lt))
+    node_runs (der.rep {a = a} {k = k} {b = b} {w = w} low within d) s i j
         (spells is (shows_turns {m = m} {b = b'} {d = d'} most some empty sp)) l =
-        let all = short x l in
+        let all = short_on_line x l in
         let h = run_turns d s m b' d' is most sp 0 0 i j (turned_none 0 d') (start_cap d') (start_most k b' within)
         (omega (arith, all, line)) l in
-        through is Begins.turns (turns_done h.count h.to m d' h.within h.turned) h.steps
+        runs_through is Begins.turns (turns_done h.count h.to m d' h.within h.turned) h.steps
       where
         start_cap : (d : Option ℕ) → der.Within 0 d
         start_cap None = tt
@@ -238,14 +240,15 @@ module _ (has : ℕ → Bool) (rules : List Rule) (limit : ℕ) (flat : Flat)
         start_most : (k : ℕ) (b : Option ℕ) → der.Within k b → der.Within (0 + k) b
         start_most k None h = tt
         start_most k (Some b) h = omega (arith, h)
-    run der.opt_empty s i j (spells is (shows_opt sp)) here = through is Begins.opt_empty IsDone.opt_empty (λ o h. h)
-    run (der.opt d) s i j (spells is (shows_opt {m = m} sp)) l =
-        through is Begins.opt IsDone.opt (call_step (calls is Calling.operand) (plain is (λ t. elim t [ ]))
-        (run d m i j sp l))
-    run (der.name {e = el} found d) s i j (spells is (shows_name {n = n} {r = r} number_is)) l =
+    node_runs der.opt_empty s i j (spells is (shows_opt sp)) here =
+        runs_through is Begins.opt_empty IsDone.opt_empty (λ o h. h)
+    node_runs (der.opt d) s i j (spells is (shows_opt {m = m} sp)) l =
+        runs_through is Begins.opt IsDone.opt (call_step (calls is Calling.operand) (plain_node is (λ t. elim t [ ]))
+        (node_runs d m i j sp l))
+    node_runs (der.name {e = el} found d) s i j (spells is (shows_name {n = n} {r = r} number_is)) l =
         let h = node_of_rule rules limit flat.nodes flat.bodies bodies r el
         (subst (λ v. slice_get (e.bodies rules) v ≡ Some el) (sym number_is) (sym (body_at_id rules n) ∙ found)) in
-        let inner = run d h.node i j h.spelled l in
+        let inner = node_runs d h.node i j h.spelled l in
         record {
           from = inner.from;
           to = inner.to;
@@ -263,8 +266,8 @@ module _ (has : ℕ → Bool) (rules : List Rule) (limit : ℕ) (flat : Flat)
     run_all (then {w = w} d ds) (spell_more {m = m} {ms = rest} sp all) s ms is k i j left l = λ o h.
         let n = next_of ms k left in
         let cut = path_splits (OnLine x) w l in
-        let once = call_step (calls is (Calling.member n.is)) (plain is (λ t. elim t [ ]))
-        (run d m i cut.mid sp cut.left) o h in
+        let once = call_step (calls is (Calling.member n.is)) (plain_node is (λ t. elim t [ ]))
+        (node_runs d m i cut.mid sp cut.left) o h in
         let on = run_all ds all s ms is (k + 1) cut.mid j n.rest cut.right o once in
         let same : k + 1 + length rest ≡ k + suc (length rest) = omega arith in
         subst (λ v. Holds flat x j (at s v) o) same on
@@ -278,8 +281,8 @@ module _ (has : ℕ → Bool) (rules : List Rule) (limit : ℕ) (flat : Flat)
         record {
           one = k;
           below = n.below;
-          steps = call_step (calls is (Calling.alternative n.is)) (plain is
-              (λ t. elim t [ ])) (run d m i j sp l);
+          steps = call_step (calls is (Calling.alternative n.is)) (plain_node is
+              (λ t. elim t [ ])) (node_runs d m i j sp l);
         }
     run_some (later d) (spell_more sp all) s ms is k i j left l =
         let n = next_of ms k left in run_some d all s ms is (k + 1) i j n.rest l
@@ -294,7 +297,8 @@ module _ (has : ℕ → Bool) (rules : List Rule) (limit : ℕ) (flat : Flat)
     run_times (one_more {k = k} {w = w} d ds) s a m b is sp t f i j turned within l =
         let n = turn_on a b m t f turned (within_less t k b within) in
         let cut = path_splits (OnLine x) w l in
-        let once = call_step (calls is n.calling) (plain is (λ t. elim t [ ])) (run d m i cut.mid sp cut.left) in
+        let once = call_step (calls is n.calling) (plain_node is (λ t. elim t [ ]))
+            (node_runs d m i cut.mid sp cut.left) in
         let on = run_times ds s a m b is sp (suc t) n.to cut.mid j n.turned (within_same t k b within) cut.right in
         let same : suc t + k ≡ t + suc k = omega arith in
         record {
@@ -310,7 +314,7 @@ module _ (has : ℕ → Bool) (rules : List Rule) (limit : ℕ) (flat : Flat)
     run_turns no_more s m b d is most sp t f i j turned counted within under here =
         record { count = t; to = f; turned = turned; within = counted; steps = λ o h. h }
     run_turns (one_more {k = k} {w = []} e ds) s m b d is most sp t f i j turned counted within under l =
-        run_turns ds s m b d is most sp t f i j turned counted (fewer t k b within) under l
+        run_turns ds s m b d is most sp t f i j turned counted (fewer_within t k b within) under l
     run_turns (one_more {k = k} {w = c ∷ w} {v = v} e ds) s m b d is most sp t f i j turned counted within under l =
         let all = length-append w v in
         let one : t + 1 ≤ limit = omega (arith, all, under) in
@@ -318,7 +322,7 @@ module _ (has : ℕ → Bool) (rules : List Rule) (limit : ℕ) (flat : Flat)
         let cut = path_splits (OnLine x) (c ∷ w) l in
         let ahead = lies_count x cut.left in
         let once = call_step (calls is n.calling) (λ t. let lt : i < cut.mid = omega (arith, ahead) in lt)
-        (run e m i cut.mid sp cut.left) in
+        (node_runs e m i cut.mid sp cut.left) in
         let on = run_turns ds s m b d is most sp (suc t) n.to cut.mid j n.turned n.within (within_same t k b within)
         (omega (arith, all, under)) cut.right in
         record {

@@ -23,18 +23,18 @@ at_place [] k m is = refl
 at_place (x ∷ xs) zero m is = let same : x ≡ m = cc is in same
 at_place (x ∷ xs) (suc k) m is = at_place xs k m is
 
-pub contained : (xs : List ℕ) (k m : ℕ) → slice_get xs k ≡ Some m → Contains xs m
-contained xs k m is = (k, get_below xs k is, at_place xs k m is)
+pub contained_at : (xs : List ℕ) (k m : ℕ) → slice_get xs k ≡ Some m → Contains xs m
+contained_at xs k m is = (k, get_below xs k is, at_place xs k m is)
 
 from_place : (xs : List ℕ) (k m : ℕ) → k < length xs → slice_index_or xs k m ≡ m → slice_get xs k ≡ Some m
 from_place [] k m lt is = absurd (omega (arith, lt))
 from_place (x ∷ xs) zero m lt is = ap Some is
 from_place (x ∷ xs) (suc k) m lt is = from_place xs k m (omega (arith, lt)) is
 
-pub standing : (xs : List ℕ) (m : ℕ) → Contains xs m → (k : ℕ) × (slice_get xs k ≡ Some m)
-standing xs m h = (h.0, from_place xs h.0 m h.1 h.2)
+pub place_of_contained : (xs : List ℕ) (m : ℕ) → Contains xs m → (k : ℕ) × (slice_get xs k ≡ Some m)
+place_of_contained xs m h = (h.0, from_place xs h.0 m h.1 h.2)
 
-get_mapped : {A B : Type 0} (f : A → B) (xs : List A) (k : ℕ) (x : A) → slice_get xs k ≡ Some x
+pub get_mapped : {A B : Type 0} (f : A → B) (xs : List A) (k : ℕ) (x : A) → slice_get xs k ≡ Some x
     → slice_get (map f xs) k ≡ Some (f x)
 get_mapped f [] k x is = absurd (cc is)
 get_mapped f (y ∷ xs) zero x is = let same : y ≡ x = cc is in ap (λ v. Some (f v)) same
@@ -109,8 +109,8 @@ module _ (nodes : List Node) (bodies : List ℕ) where
       by : (n m : ℕ) (node : Node) → slice_get nodes n ≡ Some node → Contains (row_of (need_of bodies node)) m
           → m < length nodes
       by n m (Letters sets) at h = of_sets m sets h
-      by n m (Concat ms) at h = before n m (Concat ms) at (standing ms m h)
-      by n m (Alt ms) at h = before n m (Alt ms) at (standing ms m h)
+      by n m (Concat ms) at h = before n m (Concat ms) at (place_of_contained ms m h)
+      by n m (Alt ms) at h = before n m (Alt ms) at (place_of_contained ms m h)
       by n m (Rep a b d) at h = of_repeat m a d b (leb a 0) (before n d (Rep a b d) at refl) h
       by n m (Turns b d) at h = absurd (nothing_in h)
       by n m (Opt d) at h = absurd (nothing_in h)
@@ -131,7 +131,7 @@ module _ (nodes : List Node) (bodies : List ℕ) where
     all_null : (ms : List ℕ) → slice_get nodes n ≡ Some (Concat ms)
         → ((m : ℕ) → Contains ms m → Nullable nodes bodies m) → Nullable nodes bodies n
     all_null ms at each = done (from_start (Concat ms) at Begins.concat (λ t. elim t [ ]) (length ms)
-        (λ j lt. let m = there ms j lt in (m.0, Calling.member m.1, each m.0 (contained ms j m.0 m.1)))) at
+        (λ j lt. let m = there ms j lt in (m.0, Calling.member m.1, each m.0 (contained_at ms j m.0 m.1)))) at
         (IsDone.concat refl)
       where
         there : (xs : List ℕ) (k : ℕ) → k < length xs → (m : ℕ) × (slice_get xs k ≡ Some m)
@@ -167,7 +167,7 @@ module _ (nodes : List Node) (bodies : List ℕ) where
       by [] at h = done (begun at Begins.letters) at (IsDone.letters refl)
       by (set ∷ sets) at h = absurd (nothing_in h.1)
   null_of_need n (Concat ms) at h = all_null n ms at h
-  null_of_need n (Alt ms) at h = let s = standing ms h.0 h.1 in some_null n ms at s.0 h.0 s.1 h.2
+  null_of_need n (Alt ms) at h = let s = place_of_contained ms h.0 h.1 in some_null n ms at s.0 h.0 s.1 h.2
   null_of_need n (Rep a b d) at h = by (leb a 0) refl h
     where
       counted : (most : ℕ) (c : Bool) → leb a most ≡ c → slice_get nodes n ≡ Some (Rep a (Some most) d)
@@ -249,14 +249,14 @@ module _ (nodes : List Node) (bodies : List ℕ) where
     need_at : (node : Node) → slice_get nodes n ≡ Some node → slice_get node_needs n ≡ Some (need_of bodies node)
     need_at node at = get_mapped (need_of bodies) nodes n node at
 
-    free : slice_get node_needs n ≡ Some (All []) → Comes node_needs n
-    free is = by_all is (λ m h. absurd (nothing_in h))
+    free_comes : slice_get node_needs n ≡ Some (All []) → Comes node_needs n
+    free_comes is = by_all is (λ m h. absurd (nothing_in h))
 
-    single : (d : ℕ) → slice_get node_needs n ≡ Some (All (d ∷ [])) → Comes node_needs d → Comes node_needs n
-    single d is c = by_all is (λ m h. subst (λ v. Comes node_needs v) (only_in d m h) c)
+    single_comes : (d : ℕ) → slice_get node_needs n ≡ Some (All (d ∷ [])) → Comes node_needs d → Comes node_needs n
+    single_comes d is c = by_all is (λ m h. subst (λ v. Comes node_needs v) (only_in d m h) c)
 
     letters_come : (sets : List Set) → slice_get nodes n ≡ Some (Letters sets) → 0 ≡ length sets → Comes node_needs n
-    letters_come [] at same = free (need_at (Letters []) at)
+    letters_come [] at same = free_comes (need_at (Letters []) at)
     letters_come (set ∷ sets) at same = absurd (omega (arith, same))
 
     turns_come : (a d k : ℕ) (b : Option ℕ) → slice_get nodes n ≡ Some (Rep a b d) → a ≤ k → k ≤ top a b
@@ -276,31 +276,31 @@ module _ (nodes : List Node) (bodies : List ℕ) where
         counted (Some most) high = rw (le-leb a most (omega (arith, low, high))) refl
 
         by : (c : Bool) → leb a 0 ≡ c → Comes node_needs n
-        by true le = free (at_need ∙ ap (λ v. Some (cond v (All []) (need_of_turns a b d))) le)
-        by false more = single d (at_need ∙ (ap (λ v. Some (cond v (All []) (need_of_turns a b d))) more
+        by true le = free_comes (at_need ∙ ap (λ v. Some (cond v (All []) (need_of_turns a b d))) le)
+        by false more = single_comes d (at_need ∙ (ap (λ v. Some (cond v (All []) (need_of_turns a b d))) more
             ∙ ap Some (counted b high))) (operand more rests)
 
     alt_comes : (ms : List ℕ) (k : ℕ) → slice_get nodes n ≡ Some (Alt ms) → Rests (Alt ms) (length ms + k)
         → Comes node_needs n
     alt_comes ms k at (inl lt) = absurd (omega (arith, lt))
-    alt_comes ms k at (inr r) = by_one (need_at (Alt ms) at) (contained ms r.0 r.1 r.2) r.3
+    alt_comes ms k at (inr r) = by_one (need_at (Alt ms) at) (contained_at ms r.0 r.1 r.2) r.3
 
     done_comes : {node : Node} {k : ℕ} → IsDone node k → slice_get nodes n ≡ Some node → Rests node k
         → Comes node_needs n
     done_comes (IsDone.letters {sets = sets} same) at rests = letters_come sets at (sym rests ∙ same)
     done_comes (IsDone.concat {ms = ms} {k = k} same) at rests = by_all (need_at (Concat ms) at) (λ m h.
-        let s = standing ms m h in let lt = get_below ms s.0 s.1 in rests s.0 m (omega (arith, lt, same)) s.1)
+        let s = place_of_contained ms m h in let lt = get_below ms s.0 s.1 in rests s.0 m (omega (arith, lt, same)) s.1)
     done_comes (IsDone.alt {ms = ms} {k = k} lt) at rests = alt_comes ms k at rests
     done_comes (IsDone.rep {a = a} {m = d} {k = k} {b = b} low high) at rests = turns_come a d k b at low high rests
-    done_comes (IsDone.turns {m = d} {b = b} high) at rests = free (need_at (Turns b d) at)
-    done_comes (IsDone.opt {m = d}) at rests = free (need_at (Opt d) at)
-    done_comes (IsDone.opt_empty {m = d}) at rests = free (need_at (Opt d) at)
+    done_comes (IsDone.turns {m = d} {b = b} high) at rests = free_comes (need_at (Turns b d) at)
+    done_comes (IsDone.opt {m = d}) at rests = free_comes (need_at (Opt d) at)
+    done_comes (IsDone.opt_empty {m = d}) at rests = free_comes (need_at (Opt d) at)
 
   mutual
     pub null_comes : {n : ℕ} → Nullable nodes bodies n → Comes node_needs n
     null_comes (done {s = n} {k = k} p at d) = done_comes n d at (passes_rest p at)
     null_comes (named {s = n} {t = t} {r = r} at is null) =
-        single n t (need_at n (Name r) at ∙ ap (λ v. Some (need_of_body v)) is) (null_comes null)
+        single_comes n t (need_at n (Name r) at ∙ ap (λ v. Some (need_of_body v)) is) (null_comes null)
 
     passes_rest : {n k : ℕ} {node : Node} → Passes nodes bodies n k → slice_get nodes n ≡ Some node → Rests node k
     passes_rest {k = k} {node = node} (begun {node = d} is b) at = let same : d ≡ node = cc (is, at) in

@@ -15,9 +15,9 @@ module _ (x : List ℕ) where
   lies_most (step {i = i} is l) le = lies_most l (let lt = get_below x i is.0 in omega (arith, lt, is.1))
 
   -- no longer than the line
-  pub short : {i j : ℕ} {w : List ℕ} → Lies x i w j → length w ≤ length x
-  short here = omega arith
-  short (step {i = i} is l) =
+  pub short_on_line : {i j : ℕ} {w : List ℕ} → Lies x i w j → length w ≤ length x
+  short_on_line here = omega arith
+  short_on_line (step {i = i} is l) =
       let lt = get_below x i is.0 in
       let most = lies_most l (omega (arith, lt, is.1)) in
       let count = lies_count l in

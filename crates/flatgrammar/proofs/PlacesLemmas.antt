@@ -16,15 +16,15 @@ record Without {A : Type 0} (x : A) (ys : List A) : Type 0 where
   shorter : length ys ≡ suc (length rest)
   keeps : (a : A) → (a ≡ x → ⊥) → In a ys → In a rest
 
-without : {A : Type 0} (x : A) (ys : List A) → In x ys → Without x ys
-without x [] h = elim h [ ]
-without x (y ∷ ys) (now is) = record { rest = ys; shorter = refl; keeps = λ a differs h. kept a differs h }
+list_without : {A : Type 0} (x : A) (ys : List A) → In x ys → Without x ys
+list_without x [] h = elim h [ ]
+list_without x (y ∷ ys) (now is) = record { rest = ys; shorter = refl; keeps = λ a differs h. kept a differs h }
   where
     kept : (a : _) → (a ≡ x → ⊥) → In a (y ∷ ys) → In a ys
     kept a differs (now same) = absurd (differs (same ∙ sym is))
     kept a differs (on h) = h
-without x (y ∷ ys) (on h) =
-    let w = without x ys h in
+list_without x (y ∷ ys) (on h) =
+    let w = list_without x ys h in
     record { rest = y ∷ w.rest; shorter = ap suc w.shorter; keeps = λ a differs g. kept w a differs g }
   where
     kept : (w : Without x ys) (a : _) → (a ≡ x → ⊥) → In a (y ∷ ys) → In a (y ∷ w.rest)
@@ -35,7 +35,7 @@ without x (y ∷ ys) (on h) =
 pub at_most : {A : Type 0} (xs ys : List A) → AreDifferent xs → ((a : A) → In a xs → In a ys) → length xs ≤ length ys
 at_most [] ys different among = omega arith
 at_most (x ∷ xs) ys different among =
-    let w = without x ys (among x (now refl)) in
+    let w = list_without x ys (among x (now refl)) in
     let rest = at_most xs w.rest different.1 (λ a h. w.keeps a (λ same. different.0 (subst (λ v. In v xs) same h))
     (among a (on h))) in
     omega (arith, rest, w.shorter)

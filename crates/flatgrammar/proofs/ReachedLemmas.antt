@@ -12,7 +12,7 @@ use Rattle.flatgrammar.specs.Holds.{Holds, begins, called, has_read, returned}
 use Rattle.flatgrammar.specs.Lowered.{Spells, spells, Shows, shows_name, AreBodies}
 use Rattle.abnfcheck.proofs.IsPathLemmas.{here, step, paths_join}
 use Rattle.abnfcheck.proofs.LiesLemmas.{OnLine, Lies, are_letters}
-use Rattle.flatgrammar.proofs.OnLineLemmas.{short, lies_count}
+use Rattle.flatgrammar.proofs.OnLineLemmas.{short_on_line, lies_count}
 use Rattle.flatgrammar.proofs.RuleNodeLemmas.{body_of_number}
 use Rattle.flatgrammar.proofs.BeforeLemmas.{Before, start_part, read_part, call_part, end_part}
 
@@ -28,10 +28,11 @@ module _ (has : ℕ → Bool) (rules : List Rule) (limit : ℕ) (flat : Flat)
       let same : node' ≡ node = cc in start_part has rules limit flat.nodes (subst (λ v. Begins v k) same b) shown
   starts_empty (name_starts is at_r st) = starts_empty st
 
-  pub named : {s t r : ℕ} {w : List ℕ} {el : Element} → slice_get flat.nodes s ≡ Some (Name r) → slice_get flat.bodies r
+  pub named_derives : {s t r : ℕ} {w : List ℕ} {el : Element} → slice_get flat.nodes s ≡ Some (Name r)
+      → slice_get flat.bodies r
       ≡ Some t → Spells rules limit flat.nodes s el →
       ((body : Element) → Spells rules limit flat.nodes t body → Derives has rules body w) → Derives has rules el w
-  named {t = t} {r = r} {w = w} is at_r (spells {node = node} {el = el} is' shown) from =
+  named_derives {t = t} {r = r} {w = w} is at_r (spells {node = node} {el = el} is' shown) from =
       by (let same : node ≡ Name r = cc in subst (λ v. Shows rules limit flat.nodes v el) same shown)
     where
       by : {el : Element} → Shows rules limit flat.nodes (Name r) el → Derives has rules el w
@@ -49,7 +50,8 @@ module _ (has : ℕ → Bool) (rules : List Rule) (limit : ℕ) (flat : Flat)
           let same : node' ≡ node = cc in
           end_part has rules limit flat.nodes (subst (λ v. IsDone v k) same d) shown letters short
           (part node el is' shown)
-  ends_derive (name_ends is at_r e) letters short part = λ el sp. named is at_r sp (ends_derive e letters short part)
+  ends_derive (name_ends is at_r e) letters short part =
+      λ el sp. named_derives is at_r sp (ends_derive e letters short part)
 
   read_on : {q r : Place} {set : Set} (c : ℕ) (w : List ℕ) → Reads flat q set r → Has set c → PartOf q w
       → PartOf r (w ++ c ∷ [])
@@ -71,24 +73,25 @@ module _ (has : ℕ → Bool) (rules : List Rule) (limit : ℕ) (flat : Flat)
       pub lies : Lies x i word j
       pub part : PartOf p word
 
-    pub sound : {i j : ℕ} {p : Place} → Holds flat x j p i → Reached i j p
-    sound (begins st) = record { word = []; lies = here; part = starts_empty st }
-    sound (called h c st) = record { word = []; lies = here; part = starts_empty st }
-    sound (has_read {c = c} h r is lies_in) =
-        let g = sound h in
+    pub holds_reached : {i j : ℕ} {p : Place} → Holds flat x j p i → Reached i j p
+    holds_reached (begins st) = record { word = []; lies = here; part = starts_empty st }
+    holds_reached (called h c st) = record { word = []; lies = here; part = starts_empty st }
+    holds_reached (has_read {c = c} h r is lies_in) =
+        let g = holds_reached h in
         record {
           word = g.word ++ c ∷ [];
           lies = paths_join (OnLine x) g.lies (step (is, refl) here);
           part = read_on c g.word r lies_in g.part;
         }
-    sound (returned h e g c takes) =
-        let inner = sound h in
-        let outer = sound g in
+    holds_reached (returned h e g c takes) =
+        let inner = holds_reached h in
+        let outer = holds_reached g in
         record {
           word = outer.word ++ inner.word;
           lies = paths_join (OnLine x) outer.lies inner.lies;
-          part = call_on outer.word inner.word c outer.part (let few = short x outer.lies in omega (arith, few, within))
+          part = call_on outer.word inner.word c outer.part (let few = short_on_line x outer.lies in omega
+              (arith, few, within))
               (λ t. let lt = takes t in let long = lies_count x inner.lies in omega (arith, lt, long))
               (ends_derive e (are_letters x has letters inner.lies)
-              (let few = short x inner.lies in omega (arith, few, within)) inner.part);
+              (let few = short_on_line x inner.lies in omega (arith, few, within)) inner.part);
         }

@@ -16,32 +16,35 @@ use Rattle.flatgrammar.specs.FlatViews.{node_of, nodes_of}
 use Rattle.flatgrammar.specs.Ways.{way_to, first_way, root_of, AreFirst, IsFound, IsOnWithin, LeadsTo, arrived}
 use Rattle.flatgrammar.specs.Ways.{leads_on, AreWays}
 use Rattle.flatgrammar.proofs.FlatCutLemmas.{push_cases}
-use Rattle.flatgrammar.proofs.WalkLemmas.{differ, found_same}
+use Rattle.flatgrammar.proofs.NullNeedsLemmas.{get_mapped}
+use Rattle.flatgrammar.proofs.RuleNodeLemmas.{get_there}
+use Rattle.flatgrammar.proofs.SpellAllLemmas.{get_kept}
+use Rattle.flatgrammar.proofs.WalkLemmas.{ways_differ, found_same}
 
-other : {t : ℕ} {r : Option ℕ} → Found r ≡ On t → ⊥
-other h = absurd (cc h)
+other_way : {t : ℕ} {r : Option ℕ} → Found r ≡ On t → ⊥
+other_way h = absurd (cc h)
 
 to_on : (o : Option ℕ) (t : ℕ) → way_to o ≡ On t → o ≡ Some t
-to_on None t h = absurd (other h)
+to_on None t h = absurd (other_way h)
 to_on (Some b) t h = let same : b ≡ t = cc h in ap (λ v. Some v) same
 
 to_found : (o : Option ℕ) (u : ℕ) → way_to o ≡ Found (Some u) → ⊥
 to_found None u h = absurd (cc h)
-to_found (Some b) u h = other (sym h)
+to_found (Some b) u h = other_way (sym h)
 
 own_same : {s u : ℕ} → Found (Some s) ≡ Found (Some u) → u ≡ s
 own_same h = cc h
 
 first_on : (bodies : List ℕ) (s t : ℕ) (node : Node) → first_way bodies s node ≡ On t → (r : ℕ) × (node ≡ Name r)
     × (slice_get bodies r ≡ Some t)
-first_on bodies s t (Letters sets) h = absurd (other h)
-first_on bodies s t (Concat ms) h = absurd (other h)
-first_on bodies s t (Alt ms) h = absurd (other h)
-first_on bodies s t (Rep a b m) h = absurd (other h)
-first_on bodies s t (Turns b m) h = absurd (other h)
-first_on bodies s t (Opt m) h = absurd (other h)
+first_on bodies s t (Letters sets) h = absurd (other_way h)
+first_on bodies s t (Concat ms) h = absurd (other_way h)
+first_on bodies s t (Alt ms) h = absurd (other_way h)
+first_on bodies s t (Rep a b m) h = absurd (other_way h)
+first_on bodies s t (Turns b m) h = absurd (other_way h)
+first_on bodies s t (Opt m) h = absurd (other_way h)
 first_on bodies s t (Name r) h = (r, refl, to_on (slice_get bodies r) t h)
-first_on bodies s t Nothing h = absurd (other h)
+first_on bodies s t Nothing h = absurd (other_way h)
 
 first_found : (bodies : List ℕ) (s u : ℕ) (node : Node) → first_way bodies s node ≡ Found (Some u) → (u ≡ s)
     × ((r : ℕ) → node ≡ Name r → ⊥)
@@ -65,17 +68,6 @@ first_own bodies s (Opt m) h = refl
 first_own bodies s (Name r) h = absurd (h r refl)
 first_own bodies s Nothing h = refl
 
-there : {A : Type 0} (xs : List A) (k : ℕ) → k < length xs → (y : A) × (slice_get xs k ≡ Some y)
-there [] k lt = absurd (omega arith)
-there (x ∷ xs) zero lt = (x, refl)
-there (x ∷ xs) (suc k) lt = there xs k (omega arith)
-
-mapped : {A B : Type 0} (f : A → B) (xs : List A) (k : ℕ) (a : A) → slice_get xs k ≡ Some a
-    → slice_get (map f xs) k ≡ Some (f a)
-mapped f [] k a is = absurd (cc is)
-mapped f (x ∷ xs) zero a is = let same : x ≡ a = cc is in ap (λ v. Some (f v)) same
-mapped f (x ∷ xs) (suc k) a is = mapped f xs k a is
-
 mapped_from : {A B : Type 0} (f : A → B) (xs : List A) (i : ℕ) (b : B) → slice_get (map f xs) i ≡ Some b → (a : A)
     × (slice_get xs i ≡ Some a) × (f a ≡ b)
 mapped_from f [] i b h = absurd (cc h)
@@ -92,7 +84,7 @@ module _ (nodes : List Node) (bodies : List ℕ) (firsts : List Way) (first : Ar
   node_there s w is =
       let lt = slice_get_within firsts s w is in
       let count = first.count in
-      let node = there nodes s (omega (arith, lt, count)) in
+      let node = get_there nodes s (omega (arith, lt, count)) in
       (node.0, node.1, way_same (sym (first.each s node.0 node.1) ∙ is))
 
   named_by : (s t : ℕ) → slice_get firsts s ≡ Some (On t) → (r : ℕ) × (slice_get nodes s ≡ Some (Name r))
@@ -120,10 +112,10 @@ module _ (nodes : List Node) (bodies : List ℕ) (firsts : List Way) (first : Ar
       omega (arith, lt, count)
 
   module _ (ways : List Way) (are : AreWays firsts ways) (all : (s : ℕ) → s < length ways → IsFound ways s) where
-    told : (s u : ℕ) (w : Way) → slice_get ways s ≡ Some w → root_of w ≡ Some u
+    root_told : (s u : ℕ) (w : Way) → slice_get ways s ≡ Some w → root_of w ≡ Some u
         → slice_get ways s ≡ Some (Found (Some u))
-    told s u (On t) is h = absurd (cc h)
-    told s u (Found r) is h = is ∙ ap (λ v. Some (Found v)) h
+    root_told s u (On t) is h = absurd (cc h)
+    root_told s u (Found r) is h = is ∙ ap (λ v. Some (Found v)) h
 
     found_one : {s u : ℕ} → LeadsTo firsts s u → slice_get ways s ≡ Some (Found (Some u))
     found_one (arrived {s = s} {u = u} is) = are.kept s (Some u) is
@@ -132,7 +124,7 @@ module _ (nodes : List Node) (bodies : List ℕ) (firsts : List Way) (first : Ar
         let count = are.count in
         let h = all s (omega (arith, lt, count)) in
         ⊎_elim
-        (λ before. absurd (differ (sym is ∙ before)))
+        (λ before. absurd (ways_differ (sym is ∙ before)))
         (λ on.
         let same : on.0 ≡ t = cc (on.1, is) in
         let root : h.0 ≡ Some u = found_same (sym (subst (λ v. slice_get ways v ≡ Some (Found h.0)) same on.2)
@@ -144,8 +136,8 @@ module _ (nodes : List Node) (bodies : List ℕ) (firsts : List Way) (first : Ar
     are_roots = record {
       count = length-map ways root_of ∙ are.count ∙ first.count;
       sound = λ s t h. let from = mapped_from root_of ways s (Some t) h in
-          is_root (are.sound s t (told s t from.0 from.1 from.2));
-      whole = λ s t root. mapped root_of ways s (Found (Some t)) (found_one (leads_to root));
+          is_root (are.sound s t (root_told s t from.0 from.1 from.2));
+      whole = λ s t root. get_mapped root_of ways s (Found (Some t)) (found_one (leads_to root));
     }
 
 pub firsts_within : (nodes : List declared.Node) (bodies : List ℕ) (firsts : List Way)
@@ -156,9 +148,9 @@ firsts_within nodes bodies firsts first within =
     (λ id m h. let lt = within id m h in omega (arith, lt, count))
 
 -- what is left of a vector whose slice was written
-written : {A : Type 0} (new old : List A) (n : ℕ) → length new ≡ length old → n ≡ length old
+slice_written : {A : Type 0} (new old : List A) (n : ℕ) → length new ≡ length old → n ≡ length old
     → take n (new ++ drop (length new) old) ≡ new
-written new old n e is = grind (arith, common_steps)
+slice_written new old n e is = grind (arith, common_steps)
 
 pub roots_found : (nodes : List Node) (bodies : List ℕ) (firsts before ways seen : List Way) (n : ℕ)
     (roots : List (Option ℕ)) → AreFirst nodes bodies firsts → before ≡ firsts →
@@ -166,16 +158,11 @@ pub roots_found : (nodes : List Node) (bodies : List ℕ) (firsts before ways se
     → seen ≡ take n (ways ++ drop (length ways) firsts) → roots ≡ map root_of seen → AreRoots nodes bodies roots
 roots_found nodes bodies firsts before ways seen n roots first same are all size is_seen is =
     let w = subst (λ v. AreWays v ways) same are in
-    rw (is, is_seen, written ways firsts n w.count size) (are_roots nodes bodies firsts first ways w all)
+    rw (is, is_seen, slice_written ways firsts n w.count size) (are_roots nodes bodies firsts first ways w all)
 
 -- the loop that makes the first ways
 pub first_none : (bodies : List ℕ) (ways : List Way) → ways ≡ [] → AreFirst [] bodies ways
 first_none bodies ways is = rw is (record { count = refl; each = λ s node h. absurd (cc h) })
-
-keeps : {A : Type 0} (xs ys : List A) (n : ℕ) {a : A} → slice_get xs n ≡ Some a → slice_get (xs ++ ys) n ≡ Some a
-keeps [] ys n h = absurd (cc h)
-keeps (x ∷ xs) ys zero h = h
-keeps (x ∷ xs) ys (suc n) h = keeps xs ys n h
 
 at_end : {A : Type 0} (xs : List A) (a : A) → slice_get (xs ++ a ∷ []) (length xs) ≡ Some a
 at_end [] a = refl
@@ -188,7 +175,7 @@ first_push nodes bodies ways node s is g = record {
   count = (let a = length-append nodes (node ∷ []) in let b = length-append ways (first_way bodies s node ∷ []) in
       let c = g.count in omega (arith, a, b, c));
   each = λ k n h. ⊎_elim
-      (λ before. keeps ways (first_way bodies s node ∷ []) k (g.each k n before))
+      (λ before. get_kept ways (first_way bodies s node ∷ []) k (g.each k n before))
       (λ last.
       let here : length ways ≡ k = (let c = g.count in omega (arith, c, last.0)) in
       let same : s ≡ k = is ∙ sym last.0 in

@@ -12,10 +12,10 @@ use Rattle.flatgrammar.specs.Flat.{Node}
 use Rattle.flatgrammar.specs.Lowered.{Spells, AreBodies}
 use Rattle.flatgrammar.proofs.BeforeLemmas.{get_below}
 
-pub there : {A : Type 0} (xs : List A) (k : ℕ) → k < length xs → (y : A) × (slice_get xs k ≡ Some y)
-there [] k lt = absurd (omega arith)
-there (x ∷ xs) zero lt = (x, refl)
-there (x ∷ xs) (suc k) lt = there xs k (omega arith)
+pub get_there : {A : Type 0} (xs : List A) (k : ℕ) → k < length xs → (y : A) × (slice_get xs k ≡ Some y)
+get_there [] k lt = absurd (omega arith)
+get_there (x ∷ xs) zero lt = (x, refl)
+get_there (x ∷ xs) (suc k) lt = get_there xs k (omega arith)
 
 -- the node of a rule's body
 pub record HasNode (rules : List Rule) (limit : ℕ) (nodes : List Node) (numbers : List ℕ) (r : ℕ) (el : Element) : Type
@@ -31,7 +31,7 @@ module _ (rules : List Rule) (limit : ℕ) (nodes : List Node) (numbers : List �
   node_of_rule r el is =
       let below = get_below (bodies rules) r is in
       let count = length-map rules (λ rule. rule.body) in
-      let number = there numbers r (omega (arith, below, count, are.count)) in
+      let number = get_there numbers r (omega (arith, below, count, are.count)) in
       let body = are.spelled r number.0 number.1 in
       let same : body.0 ≡ el = cc (body.1, is) in
       record { node = number.0; at = number.1; spelled = subst (λ v. Spells rules limit nodes number.0 v) same body.2 }

@@ -11,15 +11,15 @@ use Rattle.flatgrammar.specs.Places.{width, places}
 use Rattle.flatgrammar.specs.Numbers.{IsOperand}
 use Rattle.flatgrammar.proofs.BeforeLemmas.{get_below}
 
-pub keeps : {A : Type 0} (xs ys : List A) (n : ℕ) {a : A} → slice_get xs n ≡ Some a → slice_get (xs ++ ys) n ≡ Some a
-keeps [] ys n h = absurd (cc h)
-keeps (x ∷ xs) ys zero h = h
-keeps (x ∷ xs) ys (suc n) h = keeps xs ys n h
+pub get_kept : {A : Type 0} (xs ys : List A) (n : ℕ) {a : A} → slice_get xs n ≡ Some a → slice_get (xs ++ ys) n ≡ Some a
+get_kept [] ys n h = absurd (cc h)
+get_kept (x ∷ xs) ys zero h = h
+get_kept (x ∷ xs) ys (suc n) h = get_kept xs ys n h
 
 module _ (rules : List Rule) (limit : ℕ) (xs ys : List Node) where
   mutual
     pub still_spells : {s : ℕ} {el : Element} → Spells rules limit xs s el → Spells rules limit (xs ++ ys) s el
-    still_spells (spells {s = s} is shown) = spells (keeps xs ys s is) (still_shows shown)
+    still_spells (spells {s = s} is shown) = spells (get_kept xs ys s is) (still_shows shown)
 
     pub still_shows : {node : Node} {el : Element} → Shows rules limit xs node el → Shows rules limit (xs ++ ys) node el
     still_shows (shows_text is) = shows_text is

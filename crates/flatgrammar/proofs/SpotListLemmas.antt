@@ -13,13 +13,13 @@ use Rattle.flatgrammar.proofs.CallOfLemmas.{past_get}
 use Rattle.flatgrammar.proofs.FlatCutLemmas.{push_cases}
 use Rattle.flatgrammar.proofs.InLemmas.{in_left, at_end, before_end, among_more, in_front, from_front, at_index_in}
 
-taken : {a : Spot} (k : ℕ) (xs : List Spot) (d : Spot) → k < length xs → In a (take (k + 1) xs) → In a (take k xs)
+taken_more : {a : Spot} (k : ℕ) (xs : List Spot) (d : Spot) → k < length xs → In a (take (k + 1) xs) → In a (take k xs)
     ⊎ (a ≡ slice_index_or xs k d)
-taken {a = a} k xs d lt h = let one : k + 1 ≡ suc k = omega arith in
+taken_more {a = a} k xs d lt h = let one : k + 1 ≡ suc k = omega arith in
     among_more a xs k d lt (subst (λ v. In a (take v xs)) one h)
 
-longer : (a : Spot) (k : ℕ) (xs : List Spot) → In a (take k xs) → In a (take (k + 1) xs)
-longer a k xs h = let one : suc k ≡ k + 1 = omega arith in subst (λ v. In a (take v xs)) one (by k xs h)
+take_one_longer : (a : Spot) (k : ℕ) (xs : List Spot) → In a (take k xs) → In a (take (k + 1) xs)
+take_one_longer a k xs h = let one : suc k ≡ k + 1 = omega arith in subst (λ v. In a (take v xs)) one (by k xs h)
   where
     by : (k : ℕ) (xs : List Spot) → In a (take k xs) → In a (take (suc k) xs)
     by zero [] h = elim h [ ]
@@ -44,11 +44,11 @@ pub pick_one : (Q : Spot → Type 0) (spots list new : List Spot) (k : ℕ) (d :
     Picks Q (take k spots) list → Picks Q (take (k + 1) spots) new
 pick_one Q spots list new k d lt pushed picks = (
   (λ q h. from q (before_end q (slice_index_or spots k d) list (subst (λ v. In q v) pushed h))),
-  (λ q h is_q. subst (λ v. In q v) (sym pushed) (to q (taken k spots d lt h) is_q)),
+  (λ q h is_q. subst (λ v. In q v) (sym pushed) (to q (taken_more k spots d lt h) is_q)),
 )
   where
     from : (q : Spot) → In q list ⊎ (q ≡ slice_index_or spots k d) → In q (take (k + 1) spots)
-    from q (inl h) = longer q k spots (picks.0 q h)
+    from q (inl h) = take_one_longer q k spots (picks.0 q h)
     from q (inr same) = subst (λ v. In v (take (k + 1) spots)) (sym same) (last_in k spots d lt)
 
     to : (q : Spot) → In q (take k spots) ⊎ (q ≡ slice_index_or spots k d) → Q q
@@ -62,7 +62,7 @@ pub leave_one : (Q : Spot → Type 0) (spots list new : List Spot) (k : ℕ) (d 
     Picks Q (take k spots) list → Picks Q (take (k + 1) spots) new
 leave_one Q spots list new k d lt is never picks =
     subst (λ v. Picks Q (take (k + 1) spots) v) (sym is)
-    ((λ q h. longer q k spots (picks.0 q h)), (λ q h is_q. to q (taken k spots d lt h) is_q))
+    ((λ q h. take_one_longer q k spots (picks.0 q h)), (λ q h is_q. to q (taken_more k spots d lt h) is_q))
   where
     to : (q : Spot) → In q (take k spots) ⊎ (q ≡ slice_index_or spots k d) → Q q → In q list
     to q (inl h) is_q = picks.1 q h is_q

@@ -13,8 +13,8 @@ use Rattle.flatgrammar.specs.declared.roots.Way.TheVariants.{On, Found}
 use Rattle.flatgrammar.specs.Ways.{IsFound, IsOnWithin, set_all, LeadsTo, arrived, leads_on, AreWays, IsWalk, Settles}
 
 -- one way is not another
-pub differ : {t : ℕ} {r : Option ℕ} → Some (On t) ≡ Some (Found r) → ⊥
-differ h = absurd (cc h)
+pub ways_differ : {t : ℕ} {r : Option ℕ} → Some (On t) ≡ Some (Found r) → ⊥
+ways_differ h = absurd (cc h)
 
 pub found_same : {r q : Option ℕ} → Some (Found r) ≡ Some (Found q) → r ≡ q
 found_same h = cc h
@@ -89,7 +89,7 @@ pub ahead_falls : (ways : List Way) (s t : ℕ) (r : Option ℕ) → slice_get w
     → ahead (set ways s (Found r)) < ahead ways
 ahead_falls [] s t r is = absurd (cc is)
 ahead_falls (On u ∷ ways) zero t r is = omega arith
-ahead_falls (Found q ∷ ways) zero t r is = absurd (differ (sym is))
+ahead_falls (Found q ∷ ways) zero t r is = absurd (ways_differ (sym is))
 ahead_falls (On u ∷ ways) (suc s) t r is = let rest = ahead_falls ways s t r is in omega (arith, rest)
 ahead_falls (Found q ∷ ways) (suc s) t r is = ahead_falls ways s t r is
 
@@ -108,13 +108,13 @@ module _ (old : List Way) (start : ℕ) where
 
   module _ (s t : ℕ) (path : List ℕ) (ways : List Way) (w : IsWalk old start s path ways)
       (is : slice_get ways s ≡ Some (On t)) where
-    was : slice_get old s ≡ Some (On t)
-    was = ⊎_elim (λ h. absurd (differ (sym is ∙ w.marked s h))) (λ same. sym same ∙ is) (w.others s)
+    way_was : slice_get old s ≡ Some (On t)
+    way_was = ⊎_elim (λ h. absurd (ways_differ (sym is ∙ w.marked s h))) (λ same. sym same ∙ is) (w.others s)
 
     pub walk_on : IsOnWithin old → IsWalk old start t (path ++ s ∷ []) (set ways s (Found None))
     walk_on within = record {
       count = length-set ways s (Found None) ∙ w.count;
-      within = (let lt = within s t was in let a = w.count in let b = length-set ways s (Found None) in
+      within = (let lt = within s t way_was in let a = w.count in let b = length-set ways s (Found None) in
           omega (arith, lt, a, b));
       from = ⊎_elim (λ h. inl (Contains-append_left path (s ∷ []) start h))
           (λ same. inl (subst (λ v. Contains (path ++ s ∷ []) v) (sym same) (Contains-push path s))) w.from;
@@ -126,7 +126,7 @@ module _ (old : List Way) (start : ℕ) where
             ⊎_elim (λ h. inl (Contains-append_left path (s ∷ []) g.0 h)) (λ same. inl
                 (subst (λ v. Contains (path ++ s ∷ []) v) (sym same) (Contains-push path s))) g.2,
           ))
-          (λ same. (t, subst (λ v. slice_get old v ≡ Some (On t)) same was, inr refl))
+          (λ same. (t, subst (λ v. slice_get old v ≡ Some (On t)) same way_was, inr refl))
           (Contains-push_cases path s p h);
       marked = λ p h. ⊎_elim
           (λ same. subst (λ v. slice_get (set ways s (Found None)) v ≡ Some (Found None)) (sym same)
@@ -140,8 +140,8 @@ module _ (old : List Way) (start : ℕ) where
           (λ same. inr (set_other ways s p (Found None) ne ∙ same)) (w.others p))
           (cases_eq p s);
       leads = λ p u h l. ⊎_elim
-          (λ old_one. w.leads p u old_one (leads_on was l))
-          (λ same. subst (λ v. LeadsTo old v u) same (leads_on was l))
+          (λ old_one. w.leads p u old_one (leads_on way_was l))
+          (λ same. subst (λ v. LeadsTo old v u) same (leads_on way_was l))
           (Contains-push_cases path s p h);
     }
 
@@ -167,13 +167,13 @@ module _ (old : List Way) (start : ℕ) where
         (λ same. arrived (sym same ∙ (is ∙ ap (λ v. Some (Found v)) known)))
         (w.others s)
 
-    pub settles : Settles old start new
-    settles = record {
+    pub walk_settles : Settles old start new
+    walk_settles = record {
       ways = record {
         count = length-set_all path (Found r) ways ∙ w.count;
-        kept = λ p q h. ⊎_elim (λ on. let g = w.led p on in absurd (differ (sym g.1 ∙ h))) (λ same. same ∙ h)
+        kept = λ p q h. ⊎_elim (λ on. let g = w.led p on in absurd (ways_differ (sym g.1 ∙ h))) (λ same. same ∙ h)
             (off_path p);
-        ahead = λ p t h. ⊎_elim (λ on. absurd (differ (sym h ∙ on_path p on))) (λ same. sym same ∙ h) (off_path p);
+        ahead = λ p t h. ⊎_elim (λ on. absurd (ways_differ (sym h ∙ on_path p on))) (λ same. sym same ∙ h) (off_path p);
         found = λ p q h. ⊎_elim
             (λ on.
             let g = w.led p on in
@@ -245,13 +245,13 @@ pub path_there : {old : List Way} {start s : ℕ} {path : List ℕ} {ways : List
     → (p : ℕ) → Contains path p → p < length ways
 path_there {ways = ways} w p h = slice_get_within ways p (Found None) (w.marked p h)
 
-pub settled : (old : List Way) (start s : ℕ) (path : List ℕ) (ways new : List Way) (d way : Way)
+pub is_settled : (old : List Way) (start s : ℕ) (path : List ℕ) (ways new : List Way) (d way : Way)
     → IsWalk old start s path ways → IsFound ways s → way ≡ get_or ways s d →
     new ≡ set_all path way ways → Settles old start new
-settled old start s path ways new d way w found is sets =
+is_settled old start s path ways new d way w found is sets =
     let at = slice_get-get_or ways s d w.within in
     let same : way ≡ Found found.0 = cc (is, at, found.1) in
-    rw (sets, same) (settles old start s path ways w found.0 found.1)
+    rw (sets, same) (walk_settles old start s path ways w found.0 found.1)
 
 pub settled_more : (old mid new : List Way) (i : ℕ) → AreWays old mid → ((s : ℕ) → s < i → IsFound mid s)
     → Settles mid i new → (s : ℕ) → s < i + 1 → IsFound new s

@@ -93,10 +93,10 @@ module _ (bodies : List ℕ) (nulls : List Bool) (nodes : List Shape) (built : I
     pub before : (name ≡ n) ⊎ Leads (step_rows bodies nulls nodes) n name
     pub after : (body ≡ m) ⊎ Leads (step_rows bodies nulls nodes) body m
 
-  passes : (n m : ℕ) → Leads (step_rows bodies nulls nodes) n m → (m < n) ⊎ Passes n m
-  passes n m (one h) = ⊎_elim (λ lt. inl lt)
+  chain_passes : (n m : ℕ) → Leads (step_rows bodies nulls nodes) n m → (m < n) ⊎ Passes n m
+  chain_passes n m (one h) = ⊎_elim (λ lt. inl lt)
       (λ is. inr (record { name = n; body = m; is_name = is; before = inl refl; after = inl refl })) (step_down n m h)
-  passes n m (more {n = j} d h) = ⊎_elim
+  chain_passes n m (more {n = j} d h) = ⊎_elim
       (λ lt. ⊎_elim
       (λ lower. inl (omega (arith, lt, lower)))
       (λ is. inr (record { name = j; body = m; is_name = is; before = inr d; after = inl refl }))
@@ -109,11 +109,11 @@ module _ (bodies : List ℕ) (nulls : List Bool) (nodes : List Shape) (built : I
         after = ⊎_elim (λ is. inr (one (subst (λ v. Step (step_rows bodies nulls nodes) v m) (sym is) h)))
             (λ e. inr (more e h)) p.after;
       }))
-      (passes n j d)
+      (chain_passes n j d)
 
-  pub turns : (n : ℕ) → Leads (step_rows bodies nulls nodes) n n →
+  pub chain_turns : (n : ℕ) → Leads (step_rows bodies nulls nodes) n n →
       (id : ℕ) × ComesBack (step_rows bodies nulls nodes) nodes bodies id
-  turns n d = ⊎_elim
+  chain_turns n d = ⊎_elim
       (λ lt. absurd (omega (arith, lt)))
       (λ p.
       let back = ⊎_elim
@@ -136,7 +136,7 @@ module _ (bodies : List ℕ) (nulls : List Bool) (nodes : List Shape) (built : I
           leads = back;
         },
       ))
-      (passes n n d)
+      (chain_passes n n d)
 
 -- from a name steps lead to its rule's body alone
 pub name_steps : (bodies : List ℕ) (nulls : List Bool) (nodes : List Shape) →
@@ -149,16 +149,16 @@ name_steps bodies nulls nodes = record {
 
 module _ (rows : List (List ℕ)) where
   -- the first step of a chain
-  first : {n k : ℕ} → Leads rows n k → (m : ℕ) × Step rows n m × ((m ≡ k) ⊎ Leads rows m k)
-  first (one {m = m} step) = (m, step, inl refl)
-  first (more {n = j} {m = k} chain step) =
-      let f = first chain in
+  first_step : {n k : ℕ} → Leads rows n k → (m : ℕ) × Step rows n m × ((m ≡ k) ⊎ Leads rows m k)
+  first_step (one {m = m} step) = (m, step, inl refl)
+  first_step (more {n = j} {m = k} chain step) =
+      let f = first_step chain in
       (f.0, f.1, inr (⊎_elim (λ is. one (subst (λ v. Step rows v k) (sym is) step)) (λ leads. more leads step) f.2))
 
   module _ (nodes : List Shape) (bodies : List ℕ) (a : AreNameSteps rows nodes bodies) where
     back_of : (id n : ℕ) → slice_get nodes n ≡ Some (node.Name id) → Leads rows n n → ComesBack rows nodes bodies id
     back_of id n at leads =
-        let f = first leads in
+        let f = first_step leads in
         record {
           body = f.0;
           name = n;

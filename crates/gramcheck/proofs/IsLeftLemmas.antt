@@ -18,7 +18,7 @@ use Rattle.gramcheck.specs.Nulls.{AreNullMarks}
 use Rattle.gramcheck.specs.NodeRows.{step_rows, ComesBack, AreComingBack, IsLeft}
 use Rattle.gramcheck.proofs.AreRanksLemmas.{are_ranks}
 use Rattle.gramcheck.proofs.LeftStepLemmas.{chain_leads, leads_chain}
-use Rattle.gramcheck.proofs.ComesBackLemmas.{turns}
+use Rattle.gramcheck.proofs.ComesBackLemmas.{chain_turns}
 
 -- the rule at a name's id has that name
 name_at : (rules : List Rule) (name : List ℕ) (rule : Rule) →
@@ -34,22 +34,22 @@ name_at (first ∷ rules) name rule h = cases (bytes_eq first.name name) refl h 
     cases false u k f = f (rw add-one at k)
 
 -- the name that a node of that id spells
-named : (rules : List Rule) (nodes : List Shape) (n id : ℕ) (p : Pattern) → Spells rules nodes n p →
+name_spelled : (rules : List Rule) (nodes : List Shape) (n id : ℕ) (p : Pattern) → Spells rules nodes n p →
     slice_get nodes n ≡ Some (node.Name id) → (name : List ℕ) × (p ≡ e.Name name) × (id_of rules name ≡ id)
-named rules nodes n id p (spells_any g) h = absurd (cc (g, h))
-named rules nodes n id p (spells_bytes g) h = absurd (cc (g, h))
-named rules nodes n id p (spells_set g) h = absurd (cc (g, h))
-named rules nodes n id p (spells_name {name = name} g) h = (name, refl, cc (g, h))
-named rules nodes n id p (spells_seq g s) h = absurd (cc (g, h))
-named rules nodes n id p (spells_choice g s) h = absurd (cc (g, h))
-named rules nodes n id p (spells_star g s) h = absurd (cc (g, h))
-named rules nodes n id p (spells_plus g s a) h = absurd (cc (g, h))
-named rules nodes n id p (spells_opt g s) h = absurd (cc (g, h))
-named rules nodes n id p (spells_and g s) h = absurd (cc (g, h))
-named rules nodes n id p (spells_not g s) h = absurd (cc (g, h))
-named rules nodes n id p (spells_act g) h = absurd (cc (g, h))
-named rules nodes n id p (spells_open g) h = absurd (cc (g, h))
-named rules nodes n id p (spells_close g) h = absurd (cc (g, h))
+name_spelled rules nodes n id p (spells_any g) h = absurd (cc (g, h))
+name_spelled rules nodes n id p (spells_bytes g) h = absurd (cc (g, h))
+name_spelled rules nodes n id p (spells_set g) h = absurd (cc (g, h))
+name_spelled rules nodes n id p (spells_name {name = name} g) h = (name, refl, cc (g, h))
+name_spelled rules nodes n id p (spells_seq g s) h = absurd (cc (g, h))
+name_spelled rules nodes n id p (spells_choice g s) h = absurd (cc (g, h))
+name_spelled rules nodes n id p (spells_star g s) h = absurd (cc (g, h))
+name_spelled rules nodes n id p (spells_plus g s a) h = absurd (cc (g, h))
+name_spelled rules nodes n id p (spells_opt g s) h = absurd (cc (g, h))
+name_spelled rules nodes n id p (spells_and g s) h = absurd (cc (g, h))
+name_spelled rules nodes n id p (spells_not g s) h = absurd (cc (g, h))
+name_spelled rules nodes n id p (spells_act g) h = absurd (cc (g, h))
+name_spelled rules nodes n id p (spells_open g) h = absurd (cc (g, h))
+name_spelled rules nodes n id p (spells_close g) h = absurd (cc (g, h))
 
 name_node : (rules : List Rule) (nodes : List Shape) (n : ℕ) (name : List ℕ) → Spells rules nodes n (e.Name name) →
     slice_get nodes n ≡ Some (node.Name (id_of rules name))
@@ -71,7 +71,7 @@ module _ (rules : List Rule) (nodes : List Shape) (bodies : List ℕ) (nulls : L
   is_left id rule at b =
       let c = leads_chain rules nodes bodies nulls are marked b.leads rule.body
       (body_spelled id b.body rule at b.starts) in
-      let k = named rules nodes b.name id c.pattern c.spells b.named in
+      let k = name_spelled rules nodes b.name id c.pattern c.spells b.named in
       let own = name_at rules k.0 rule (subst (λ v. slice_get rules v ≡ Some rule) (sym k.2) at) in
       subst (λ v. LeftChain rules rule.body v) (k.1 ∙ ap e.Name (sym own)) c.chain
 
@@ -100,5 +100,5 @@ module _ (rules : List Rule) (nodes : List Shape) (bodies : List ℕ) (nulls : L
     sound = λ id rule at h. is_left id rule at ((back.marks id).0 h);
     whole = λ id rule at own d. (back.marks id).1 (left_is id rule at own d);
     ranked = λ off. are_ranks bodies nulls nodes rules marked marks ranks falls
-        (λ n h. let t = turns bodies nulls nodes built n ((cycles n).0 h) in off t.0 ((back.marks t.0).1 t.1));
+        (λ n h. let t = chain_turns bodies nulls nodes built n ((cycles n).0 h) in off t.0 ((back.marks t.0).1 t.1));
   }

@@ -54,19 +54,19 @@ module _ (rules : List Rule) (nodes : List Shape) (bodies : List ℕ) (nulls rec
   marks-looping = record { count = a.looping_count; exact = a.looping_exact }
 
 -- none of two lists passes a test
-neither : (p q : Bool) → (p || q) ≡ false → (p ≡ false) × (q ≡ false)
-neither true q h = cc
-neither false q h = (refl, h)
+neither_true : (p q : Bool) → (p || q) ≡ false → (p ≡ false) × (q ≡ false)
+neither_true true q h = cc
+neither_true false q h = (refl, h)
 
-quiet : {X : Type 0} (p : X → Bool) (xs ys : List X) → list_any p (xs ++ ys) ≡ false → (list_any p xs ≡ false)
+neither_any : {X : Type 0} (p : X → Bool) (xs ys : List X) → list_any p (xs ++ ys) ≡ false → (list_any p xs ≡ false)
     × (list_any p ys ≡ false)
-quiet p xs ys h = neither (list_any p xs) (list_any p ys) (sym (list_any-append p xs ys) ∙ h)
+neither_any p xs ys h = neither_true (list_any p xs) (list_any p ys) (sym (list_any-append p xs ys) ∙ h)
 
 -- where each of them would refuse, there are none
 none-mapped : {X : Type 0} (f : X → Said) (xs : List X) → ((x : X) → said_refuses (f x) ≡ true)
     → list_any said_refuses (map f xs) ≡ false → xs ≡ []
 none-mapped f [] h e = refl
-none-mapped f (x ∷ xs) h e = absurd (let two = neither (said_refuses (f x)) (list_any said_refuses (map f xs)) e in
+none-mapped f (x ∷ xs) h e = absurd (let two = neither_true (said_refuses (f x)) (list_any said_refuses (map f xs)) e in
     let is = h x in cc)
 
 those-none : {A : Type 0} (P : A → Type 0) (xs : List A) → Those P xs [] → (id : ℕ) (x : A) → slice_get xs id ≡ Some x
@@ -145,37 +145,40 @@ module _ (rules : List Rule) (again : List (List ℕ)) (start : Option (List ℕ
     no_recursive : are.recursive ≡ []
     no_looping : are.looping ≡ []
 
-  parts : Passes
-  parts =
-      let one = quiet said_refuses (map (λ (rule : Rule). said Redefined rule.name) are.redefined) _
+  passes_parts : Passes
+  passes_parts =
+      let one = neither_any said_refuses (map (λ (rule : Rule). said Redefined rule.name) are.redefined) _
       (sym (ap (list_any said_refuses) are.all) ∙ passes) in
-      let two = quiet said_refuses (map (said Undefined) undefined) _ one.1 in
-      let three = quiet said_refuses (map (λ (rule : Rule). said Unused rule.name) are.unused) _ two.1 in
-      let four = quiet said_refuses (map (λ (rule : Rule). said LeftRecursion rule.name) are.recursive) _ three.1 in
+      let two = neither_any said_refuses (map (said Undefined) undefined) _ one.1 in
+      let three = neither_any said_refuses (map (λ (rule : Rule). said Unused rule.name) are.unused) _ two.1 in
+      let four = neither_any said_refuses (map (λ (rule : Rule). said LeftRecursion rule.name) are.recursive) _ three.1
+          in
       record {
         no_undefined = none-mapped (said Undefined) undefined (λ x. refl) two.0;
         no_recursive = none-mapped (λ (rule : Rule). said LeftRecursion rule.name) are.recursive (λ x. refl) four.0;
         no_looping = none-mapped (λ (rule : Rule). said Loop rule.name) are.looping (λ x. refl) four.1;
       }
 
-  known : (word : List ℕ) → Contains (option_to_list start ++ names_used rules) word → id_of rules word < length rules
-  known word c = named-id rules word (among-contains (rule_names rules) word
-      (news-none (rule_names rules) (option_to_list start ++ names_used rules) parts.no_undefined word c))
+  names_known : (word : List ℕ) → Contains (option_to_list start ++ names_used rules) word
+      → id_of rules word < length rules
+  names_known word c = named-id rules word (among-contains (rule_names rules) word
+      (news-none (rule_names rules) (option_to_list start ++ names_used rules) passes_parts.no_undefined word c))
 
   pub all-used : (word : List ℕ) → StandsIn rules (expr.Name word) → id_of rules word < length rules
-  all-used word s = known word (Contains-append_right (option_to_list start) (names_used rules) word
+  all-used word s = names_known word (Contains-append_right (option_to_list start) (names_used rules) word
       (stands-used rules word s))
 
   pub start-known : (word : List ℕ) → start ≡ Some word → id_of rules word < length rules
-  start-known word e = known word (Contains-append_left (option_to_list start) (names_used rules) word
+  start-known word e = names_known word (Contains-append_left (option_to_list start) (names_used rules) word
       (rw e (0, omega arith, refl)))
 
   pub none-recursive : (id : ℕ) (rule : Rule) → slice_get rules id ≡ Some rule → IsLeftRecursive rules rule → ⊥
   none-recursive id rule there h = those-none (IsLeftRecursive rules) rules
-      (let e = parts.no_recursive in rw e at are.are_recursive) id rule there h
+      (let e = passes_parts.no_recursive in rw e at are.are_recursive) id rule there h
 
   pub none-looping : (id : ℕ) (rule : Rule) → slice_get rules id ≡ Some rule → Loops rules rule → ⊥
-  none-looping id rule there h = those-none (Loops rules) rules (let e = parts.no_looping in rw e at are.are_looping) id
+  none-looping id rule there h =
+      those-none (Loops rules) rules (let e = passes_parts.no_looping in rw e at are.are_looping) id
       rule there h
 
   module _ (nodes : List Shape) (bodies : List ℕ) (nulls recursive looping : List Bool) (ranks : List ℕ)
@@ -191,8 +194,9 @@ module _ (rules : List Rule) (again : List (List ℕ)) (start : Option (List ℕ
         }) lt in
         none-recursive id _ there (a.recursive_sound id _ there m)
 
-    pub ranked : (first : ℕ) → first < length rules → IsRanked rules first nodes bodies ranks
-    ranked first lt = is_ranked rules first nodes bodies ranks lt spelled built standing (a.ranked not-marked) all-used
+    pub ranked_first : (first : ℕ) → first < length rules → IsRanked rules first nodes bodies ranks
+    ranked_first first lt =
+        is_ranked rules first nodes bodies ranks lt spelled built standing (a.ranked not-marked) all-used
         none-looping
 
 -- the rules of a table

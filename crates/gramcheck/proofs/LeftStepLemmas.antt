@@ -58,9 +58,9 @@ module _ (rules : List Rule) (nodes : List Shape) (bodies : List ℕ) (nulls : L
     pub within : Contains ms node
     pub spells : Spells rules nodes node q
 
-  among : {ps : Patterns} {q : Pattern} → Among rules ps q → (ms : List ℕ) → SpellAll rules nodes ms ps → Has ms q
-  among among_first ms (spell_more {n = n} {ns = ns} s ss) = record { node = n; within = in_first n ns; spells = s }
-  among (among_later a) ms (spell_more {n = n} {ns = ns} s ss) = let h = among a ns ss in
+  among_has : {ps : Patterns} {q : Pattern} → Among rules ps q → (ms : List ℕ) → SpellAll rules nodes ms ps → Has ms q
+  among_has among_first ms (spell_more {n = n} {ns = ns} s ss) = record { node = n; within = in_first n ns; spells = s }
+  among_has (among_later a) ms (spell_more {n = n} {ns = ns} s ss) = let h = among_has a ns ss in
       record { node = h.node; within = in_later n h.node ns h.within; spells = h.spells }
 
   in_front : {ps : Patterns} {q : Pattern} → Front rules ps q → (ms : List ℕ) →
@@ -75,20 +75,20 @@ module _ (rules : List Rule) (nodes : List Shape) (bodies : List ℕ) (nulls : L
       Spells rules nodes m p → Meets n p
   to_one n m a g h s = record { node = m; step = step_at bodies nulls nodes n m a g h; spells = s }
 
-  pub forward : {p q : Pattern} → LeftStep rules p q → (n : ℕ) → Spells rules nodes n p → Meets n q
-  forward (to_body {n = name} {e = p} b) n (spells_name g) =
+  pub step_forward : {p q : Pattern} → LeftStep rules p q → (n : ℕ) → Spells rules nodes n p → Meets n q
+  step_forward (to_body {n = name} {e = p} b) n (spells_name g) =
       let m = body_node rules nodes bodies are name p b in
       to_one n m.0 (node.Name (id_of rules name)) g
       (subst (λ o. Contains (option_to_list o) m.0) (sym m.1) (in_first m.0 [])) m.2
-  forward (to_alternative a) n (spells_choice {ms = ms} g ss) = let h = among a ms ss in
+  step_forward (to_alternative a) n (spells_choice {ms = ms} g ss) = let h = among_has a ms ss in
       to_one n h.node (node.Choice ms) g h.within h.spells
-  forward (to_member a) n (spells_seq {ms = ms} g ss) = let h = in_front a ms ss in
+  step_forward (to_member a) n (spells_seq {ms = ms} g ss) = let h = in_front a ms ss in
       to_one n h.node (node.Seq ms) g h.within h.spells
-  forward to_starred n (spells_star {m = m} g s) = to_one n m (node.Star m) g (in_first m []) s
-  forward to_repeated n (spells_plus {m = m} {k = i} g s a) = to_one n m (node.Plus m i) g (in_first m []) s
-  forward to_optional n (spells_opt {m = m} g s) = to_one n m (node.Opt m) g (in_first m []) s
-  forward to_asserted n (spells_and {m = m} g s) = to_one n m (node.And m) g (in_first m []) s
-  forward to_denied n (spells_not {m = m} g s) = to_one n m (node.Not m) g (in_first m []) s
+  step_forward to_starred n (spells_star {m = m} g s) = to_one n m (node.Star m) g (in_first m []) s
+  step_forward to_repeated n (spells_plus {m = m} {k = i} g s a) = to_one n m (node.Plus m i) g (in_first m []) s
+  step_forward to_optional n (spells_opt {m = m} g s) = to_one n m (node.Opt m) g (in_first m []) s
+  step_forward to_asserted n (spells_and {m = m} g s) = to_one n m (node.And m) g (in_first m []) s
+  step_forward to_denied n (spells_not {m = m} g s) = to_one n m (node.Not m) g (in_first m []) s
 
   -- the expression that a node of a step spells, and the left step to it
   pub record Comes (p : Pattern) (m : ℕ) : Type 0 where
@@ -128,9 +128,9 @@ module _ (rules : List Rule) (nodes : List Shape) (bodies : List ℕ) (nulls : L
       (λ k. later_front n m p ns ps (get_or nulls n false) refl s (λ h'. is_front ss m h') k)
       (cons_cases n m _ h)
 
-  from : (n m : ℕ) (a : Shape) → slice_get nodes n ≡ Some a → Step (step_rows bodies nulls nodes) n m →
+  row_step : (n m : ℕ) (a : Shape) → slice_get nodes n ≡ Some a → Step (step_rows bodies nulls nodes) n m →
       Contains (steps_of bodies nulls a) m
-  from n m a g h = step_from bodies nulls nodes n m a g h
+  row_step n m a g h = step_from bodies nulls nodes n m a g h
 
   from_one : {p q : Pattern} (n m k : ℕ) (a : Shape) → slice_get nodes n ≡ Some a →
       Step (step_rows bodies nulls nodes) n m → (Contains (steps_of bodies nulls a) m → Contains (k ∷ []) m) →
@@ -139,31 +139,32 @@ module _ (rules : List Rule) (nodes : List Shape) (bodies : List ℕ) (nulls : L
       record {
         pattern = q;
         step = step;
-        spells = subst (λ v. Spells rules nodes v q) (only_one k m (only (from n m a g h))) s;
+        spells = subst (λ v. Spells rules nodes v q) (only_one k m (only (row_step n m a g h))) s;
       }
 
-  pub backward : {n : ℕ} {p : Pattern} → Spells rules nodes n p → (m : ℕ) →
+  pub step_backward : {n : ℕ} {p : Pattern} → Spells rules nodes n p → (m : ℕ) →
       Step (step_rows bodies nulls nodes) n m → Comes p m
-  backward (spells_any {n = n} g) m h = absurd (none_of m (from n m node.Any g h))
-  backward (spells_bytes {n = n} {bs = bs} g) m h = absurd (none_of m (from n m (node.Bytes bs) g h))
-  backward (spells_set {n = n} {s = s} g) m h = absurd (none_of m (from n m (node.Set s) g h))
-  backward (spells_name {n = n} {name = name} g) m h =
+  step_backward (spells_any {n = n} g) m h = absurd (none_of m (row_step n m node.Any g h))
+  step_backward (spells_bytes {n = n} {bs = bs} g) m h = absurd (none_of m (row_step n m (node.Bytes bs) g h))
+  step_backward (spells_set {n = n} {s = s} g) m h = absurd (none_of m (row_step n m (node.Set s) g h))
+  step_backward (spells_name {n = n} {name = name} g) m h =
       let b = node_body rules nodes bodies are name m
-      (name_body bodies (id_of rules name) m (from n m (node.Name (id_of rules name)) g h)) in
+      (name_body bodies (id_of rules name) m (row_step n m (node.Name (id_of rules name)) g h)) in
       record { pattern = b.0; step = to_body b.1; spells = b.2 }
-  backward (spells_seq {n = n} {ms = ms} g ss) m h = let a = is_front ss m (from n m (node.Seq ms) g h) in
+  step_backward (spells_seq {n = n} {ms = ms} g ss) m h = let a = is_front ss m (row_step n m (node.Seq ms) g h) in
       record { pattern = a.pattern; step = to_member a.front; spells = a.spells }
-  backward (spells_choice {n = n} {ms = ms} g ss) m h = let a = is_among ss m (from n m (node.Choice ms) g h) in
+  step_backward (spells_choice {n = n} {ms = ms} g ss) m h =
+      let a = is_among ss m (row_step n m (node.Choice ms) g h) in
       record { pattern = a.pattern; step = to_alternative a.among; spells = a.spells }
-  backward (spells_star {n = n} {m = k} {p = p} g s) m h = from_one n m k (node.Star k) g h (λ w. w) to_starred s
-  backward (spells_plus {n = n} {m = k} {k = i} {p = p} g s a) m h =
+  step_backward (spells_star {n = n} {m = k} {p = p} g s) m h = from_one n m k (node.Star k) g h (λ w. w) to_starred s
+  step_backward (spells_plus {n = n} {m = k} {k = i} {p = p} g s a) m h =
       from_one n m k (node.Plus k i) g h (λ w. w) to_repeated s
-  backward (spells_opt {n = n} {m = k} {p = p} g s) m h = from_one n m k (node.Opt k) g h (λ w. w) to_optional s
-  backward (spells_and {n = n} {m = k} {p = p} g s) m h = from_one n m k (node.And k) g h (λ w. w) to_asserted s
-  backward (spells_not {n = n} {m = k} {p = p} g s) m h = from_one n m k (node.Not k) g h (λ w. w) to_denied s
-  backward (spells_act {n = n} {t = t} g) m h = absurd (none_of m (from n m (node.Act t) g h))
-  backward (spells_open {n = n} g) m h = absurd (none_of m (from n m node.Open g h))
-  backward (spells_close {n = n} g) m h = absurd (none_of m (from n m node.Close g h))
+  step_backward (spells_opt {n = n} {m = k} {p = p} g s) m h = from_one n m k (node.Opt k) g h (λ w. w) to_optional s
+  step_backward (spells_and {n = n} {m = k} {p = p} g s) m h = from_one n m k (node.And k) g h (λ w. w) to_asserted s
+  step_backward (spells_not {n = n} {m = k} {p = p} g s) m h = from_one n m k (node.Not k) g h (λ w. w) to_denied s
+  step_backward (spells_act {n = n} {t = t} g) m h = absurd (none_of m (row_step n m (node.Act t) g h))
+  step_backward (spells_open {n = n} g) m h = absurd (none_of m (row_step n m node.Open g h))
+  step_backward (spells_close {n = n} g) m h = absurd (none_of m (row_step n m node.Close g h))
 
   -- chains of both kinds
   pub record IsLed (n : ℕ) (q : Pattern) : Type 0 where
@@ -177,18 +178,18 @@ module _ (rules : List Rule) (nodes : List Shape) (bodies : List ℕ) (nulls : L
     pub spells : Spells rules nodes m pattern
 
   pub chain_leads : {p q : Pattern} → LeftChain rules p q → (n : ℕ) → Spells rules nodes n p → IsLed n q
-  chain_leads (one_step d) n s = let h = forward d n s in
+  chain_leads (one_step d) n s = let h = step_forward d n s in
       record { node = h.node; leads = one h.step; spells = h.spells }
   chain_leads (more_steps c d) n s =
       let h = chain_leads c n s in
-      let k = forward d h.node h.spells in
+      let k = step_forward d h.node h.spells in
       record { node = k.node; leads = more h.leads k.step; spells = k.spells }
 
   pub leads_chain : {n m : ℕ} → Leads (step_rows bodies nulls nodes) n m → (p : Pattern) →
       Spells rules nodes n p → Chains p m
-  leads_chain {m = m} (one h) p s = let a = backward s m h in
+  leads_chain {m = m} (one h) p s = let a = step_backward s m h in
       record { pattern = a.pattern; chain = one_step a.step; spells = a.spells }
   leads_chain {m = m} (more d h) p s =
       let a = leads_chain d p s in
-      let b = backward a.spells m h in
+      let b = step_backward a.spells m h in
       record { pattern = b.pattern; chain = more_steps a.chain b.step; spells = b.spells }

@@ -28,13 +28,13 @@ pub alike_more : (b : Bool) (t y bs : List ℕ) (n : ℕ) → Alike t y bs → (
     ≡ (if b then compared t bs + 1 else n)
 alike_more b t y bs n h = ap (λ k. if b then k + 1 else n) h.compared
 
-pub shorter : (b : Bool) (k n : ℕ) → b ≡ true → (if b then k + 1 else 1) < suc n → k < n
-shorter b k n is h = let g = rw is at h in omega (arith, g)
+pub shorter_compare : (b : Bool) (k n : ℕ) → b ≡ true → (if b then k + 1 else 1) < suc n → k < n
+shorter_compare b k n is h = let g = rw is at h in omega (arith, g)
 
 alike_step : (v : Bool) (c b : ℕ) (t y bs : List ℕ) → (c == b) ≡ v → compared (c ∷ t) (b ∷ bs) < suc (length t) →
     (compared t bs < length t → Alike t y bs) → Alike (c ∷ t) y (b ∷ bs)
 alike_step true c b t y bs is h ih =
-    let g = ih (shorter (c == b) (compared t bs) (length t) is h) in
+    let g = ih (shorter_compare (c == b) (compared t bs) (length t) is h) in
     record { begins = ap (λ w. (c == b) && w) g.begins; compared = alike_more (c == b) t y bs 1 g }
 alike_step false c b t y bs is h ih = record { begins = rw is refl; compared = rw is refl }
 
@@ -118,53 +118,54 @@ module _ (rules : List Rule) (x : List ℕ) where
 
 module _ (rules : List Rule) (x y : List ℕ) where
   mutual
-    pub grows : {e : Pattern} {p k : ℕ} {o : Outcome} → Gives rules x e p o k → p < length x → k < length x
+    pub gives_longer : {e : Pattern} {p k : ℕ} {o : Outcome} → Gives rules x e p o k → p < length x → k < length x
         → Gives rules (x ++ y) e p o k
-    grows (any_takes {p = p} h) lt less = any_takes (slice_get_more x y p lt ∙ h)
-    grows (any_at_end {p = p} h) lt less = any_at_end (slice_get_more x y p lt ∙ h)
-    grows (set_takes {p = p} h g) lt less = set_takes (slice_get_more x y p lt ∙ h) g
-    grows (set_fails {p = p} h g) lt less = set_fails (slice_get_more x y p lt ∙ h) g
-    grows (set_at_end {p = p} h) lt less = set_at_end (slice_get_more x y p lt ∙ h)
-    grows (bytes_take {bs = bs} {p = p} h) lt less =
+    gives_longer (any_takes {p = p} h) lt less = any_takes (slice_get_more x y p lt ∙ h)
+    gives_longer (any_at_end {p = p} h) lt less = any_at_end (slice_get_more x y p lt ∙ h)
+    gives_longer (set_takes {p = p} h g) lt less = set_takes (slice_get_more x y p lt ∙ h) g
+    gives_longer (set_fails {p = p} h g) lt less = set_fails (slice_get_more x y p lt ∙ h) g
+    gives_longer (set_at_end {p = p} h) lt less = set_at_end (slice_get_more x y p lt ∙ h)
+    gives_longer (bytes_take {bs = bs} {p = p} h) lt less =
         let same = bytes_more x y bs p lt less in
         let begins : begins_with (drop p (x ++ y)) bs ≡ true = rw (drop_more x y p lt) (same.begins ∙ h) in
         let far : compared (drop p (x ++ y)) bs ≡ compared (drop p x) bs = rw (drop_more x y p lt) same.compared in
         rw (← far) (bytes_take begins)
-    grows (bytes_fail {bs = bs} {p = p} h) lt less =
+    gives_longer (bytes_fail {bs = bs} {p = p} h) lt less =
         let same = bytes_more x y bs p lt less in
         let begins : begins_with (drop p (x ++ y)) bs ≡ false = rw (drop_more x y p lt) (same.begins ∙ h) in
         let far : compared (drop p (x ++ y)) bs ≡ compared (drop p x) bs = rw (drop_more x y p lt) same.compared in
         rw (← far) (bytes_fail begins)
-    grows act lt less = act
-    grows open_at lt less = open_at
-    grows close_at lt less = close_at
-    grows (name h d) lt less = name h (grows d lt less)
-    grows (seq d) lt less = seq (grows_all d lt less)
-    grows (choice d) lt less = choice (grows_first d lt less)
-    grows (opt_takes d) lt less = opt_takes (grows d lt less)
-    grows (opt_none d) lt less = opt_none (grows d lt less)
-    grows (star_none d) lt less = star_none (grows d lt less)
-    grows (star_more d c) lt less = star_more (grows d lt (omega arith))
-        (grows c (omega (arith, ends_by rules x d)) (omega arith))
-    grows (plus_fails d) lt less = plus_fails (grows d lt less)
-    grows (plus_takes d c) lt less = plus_takes (grows d lt (omega arith))
-        (grows c (omega (arith, ends_by rules x d)) (omega arith))
-    grows (and_takes d) lt less = and_takes (grows d lt less)
-    grows (and_fails d) lt less = and_fails (grows d lt less)
-    grows (not_takes d) lt less = not_takes (grows d lt less)
-    grows (not_fails d) lt less = not_fails (grows d lt less)
+    gives_longer act lt less = act
+    gives_longer open_at lt less = open_at
+    gives_longer close_at lt less = close_at
+    gives_longer (name h d) lt less = name h (gives_longer d lt less)
+    gives_longer (seq d) lt less = seq (grows_all d lt less)
+    gives_longer (choice d) lt less = choice (grows_first d lt less)
+    gives_longer (opt_takes d) lt less = opt_takes (gives_longer d lt less)
+    gives_longer (opt_none d) lt less = opt_none (gives_longer d lt less)
+    gives_longer (star_none d) lt less = star_none (gives_longer d lt less)
+    gives_longer (star_more d c) lt less = star_more (gives_longer d lt (omega arith))
+        (gives_longer c (omega (arith, ends_by rules x d)) (omega arith))
+    gives_longer (plus_fails d) lt less = plus_fails (gives_longer d lt less)
+    gives_longer (plus_takes d c) lt less = plus_takes (gives_longer d lt (omega arith))
+        (gives_longer c (omega (arith, ends_by rules x d)) (omega arith))
+    gives_longer (and_takes d) lt less = and_takes (gives_longer d lt less)
+    gives_longer (and_fails d) lt less = and_fails (gives_longer d lt less)
+    gives_longer (not_takes d) lt less = not_takes (gives_longer d lt less)
+    gives_longer (not_fails d) lt less = not_fails (gives_longer d lt less)
 
     pub grows_all : {es : Patterns} {p k : ℕ} {o : Outcome} → GivesAll rules x es p o k → p < length x → k < length x
         → GivesAll rules (x ++ y) es p o k
     grows_all all_done lt less = all_done
-    grows_all (one_fails d) lt less = one_fails (grows d lt less)
-    grows_all (rest_fails d c) lt less = rest_fails (grows d lt (omega arith))
+    grows_all (one_fails d) lt less = one_fails (gives_longer d lt less)
+    grows_all (rest_fails d c) lt less = rest_fails (gives_longer d lt (omega arith))
         (grows_all c (omega (arith, ends_by rules x d)) (omega arith))
-    grows_all (rest_takes d c) lt less = rest_takes (grows d lt (omega arith))
+    grows_all (rest_takes d c) lt less = rest_takes (gives_longer d lt (omega arith))
         (grows_all c (omega (arith, ends_by rules x d)) (omega arith))
 
     pub grows_first : {es : Patterns} {p k : ℕ} {o : Outcome} → GivesFirst rules x es p o k → p < length x
         → k < length x → GivesFirst rules (x ++ y) es p o k
     grows_first all_failed lt less = all_failed
-    grows_first (first_takes d) lt less = first_takes (grows d lt less)
-    grows_first (first_fails d c) lt less = first_fails (grows d lt (omega arith)) (grows_first c lt (omega arith))
+    grows_first (first_takes d) lt less = first_takes (gives_longer d lt less)
+    grows_first (first_fails d c) lt less =
+        first_fails (gives_longer d lt (omega arith)) (grows_first c lt (omega arith))

@@ -20,22 +20,22 @@ use Rattle.gramcheck.specs.Nulls.{AreNullMarks}
 use Rattle.leastset.proofs.ContainsLemmas.{none_of, in_first, in_later, cons_cases}
 
 -- what marks say of a node is said by marks that agree on its operands
-moved : (nulls a b : List Bool) (v : Shape) → ((m : ℕ) → IsOperand v m → IsMarked a m → IsMarked b m)
+marks_moved : (nulls a b : List Bool) (v : Shape) → ((m : ℕ) → IsOperand v m → IsMarked a m → IsMarked b m)
     → LoopsNow nulls a v → LoopsNow nulls b v
-moved nulls a b node.Any f h = h
-moved nulls a b (node.Bytes bs) f h = h
-moved nulls a b (node.Set s) f h = h
-moved nulls a b (node.Name id) f h = h
-moved nulls a b (node.Seq ms) f h = (h.0, h.1, f h.0 h.1 h.2)
-moved nulls a b (node.Choice ms) f h = (h.0, h.1, f h.0 h.1 h.2)
-moved nulls a b (node.Star m) f h = ⊎_elim (λ z. inl z) (λ k. inr (f m refl k)) h
-moved nulls a b (node.Plus m k) f h = ⊎_elim (λ z. inl z) (λ k. inr (f m refl k)) h
-moved nulls a b (node.Opt m) f h = f m refl h
-moved nulls a b (node.And m) f h = f m refl h
-moved nulls a b (node.Not m) f h = f m refl h
-moved nulls a b (node.Act t) f h = h
-moved nulls a b node.Open f h = h
-moved nulls a b node.Close f h = h
+marks_moved nulls a b node.Any f h = h
+marks_moved nulls a b (node.Bytes bs) f h = h
+marks_moved nulls a b (node.Set s) f h = h
+marks_moved nulls a b (node.Name id) f h = h
+marks_moved nulls a b (node.Seq ms) f h = (h.0, h.1, f h.0 h.1 h.2)
+marks_moved nulls a b (node.Choice ms) f h = (h.0, h.1, f h.0 h.1 h.2)
+marks_moved nulls a b (node.Star m) f h = ⊎_elim (λ z. inl z) (λ k. inr (f m refl k)) h
+marks_moved nulls a b (node.Plus m k) f h = ⊎_elim (λ z. inl z) (λ k. inr (f m refl k)) h
+marks_moved nulls a b (node.Opt m) f h = f m refl h
+marks_moved nulls a b (node.And m) f h = f m refl h
+marks_moved nulls a b (node.Not m) f h = f m refl h
+marks_moved nulls a b (node.Act t) f h = h
+marks_moved nulls a b node.Open f h = h
+marks_moved nulls a b node.Close f h = h
 
 pub loops_next : (nodes : List Shape) (nulls marks : List Bool) (i : ℕ) (a : Shape) (c : Bool) → IsBuilt nodes
     → LoopsTo nodes nulls marks i → slice_get nodes i ≡ Some a →
@@ -69,12 +69,12 @@ loops_next nodes nulls marks i a c built g at test = record {
 
     longer : (n : ℕ) (b : Shape) → n ≤ i → slice_get nodes n ≡ Some b → LoopsNow nulls marks b
         → LoopsNow nulls (marks ++ c ∷ []) b
-    longer n b le h d = moved nulls marks (marks ++ c ∷ []) b (λ m o k. let lt = built.after n m b h o in
+    longer n b le h d = marks_moved nulls marks (marks ++ c ∷ []) b (λ m o k. let lt = built.after n m b h o in
         old m (omega (arith, lt, le)) ∙ k) d
 
     shorter : (n : ℕ) (b : Shape) → n ≤ i → slice_get nodes n ≡ Some b → LoopsNow nulls (marks ++ c ∷ []) b
         → LoopsNow nulls marks b
-    shorter n b le h d = moved nulls (marks ++ c ∷ []) marks b (λ m o k. let lt = built.after n m b h o in
+    shorter n b le h d = marks_moved nulls (marks ++ c ∷ []) marks b (λ m o k. let lt = built.after n m b h o in
         sym (old m (omega (arith, lt, le))) ∙ k) d
 
 module _ (nodes : List Shape) (nulls marks : List Bool) (i : ℕ) (all : i ≡ length nodes)
@@ -87,31 +87,31 @@ module _ (nodes : List Shape) (nulls marks : List Bool) (i : ℕ) (all : i ≡ l
 
   module _ (rules : List Rule) (marked : AreNullMarks rules nodes nulls) where
     mutual
-      holds : {n : ℕ} {p : Pattern} → Spells rules nodes n p → IsMarked marks n → RepeatsNullable rules p
-      holds (spells_any {n = n} h) d = absurd (sound_at n node.Any h d)
-      holds (spells_bytes {n = n} {bs = bs} h) d = absurd (sound_at n (node.Bytes bs) h d)
-      holds (spells_set {n = n} {s = s} h) d = absurd (sound_at n (node.Set s) h d)
-      holds (spells_name {n = n} h) d = absurd (sound_at n (node.Name _) h d)
-      holds (spells_seq {n = n} {ms = ms} h ss) d = let k = sound_at n (node.Seq ms) h d in
+      mark_holds : {n : ℕ} {p : Pattern} → Spells rules nodes n p → IsMarked marks n → RepeatsNullable rules p
+      mark_holds (spells_any {n = n} h) d = absurd (sound_at n node.Any h d)
+      mark_holds (spells_bytes {n = n} {bs = bs} h) d = absurd (sound_at n (node.Bytes bs) h d)
+      mark_holds (spells_set {n = n} {s = s} h) d = absurd (sound_at n (node.Set s) h d)
+      mark_holds (spells_name {n = n} h) d = absurd (sound_at n (node.Name _) h d)
+      mark_holds (spells_seq {n = n} {ms = ms} h ss) d = let k = sound_at n (node.Seq ms) h d in
           in_seq (some_holds ss k.0 k.1 k.2)
-      holds (spells_choice {n = n} {ms = ms} h ss) d = let k = sound_at n (node.Choice ms) h d in
+      mark_holds (spells_choice {n = n} {ms = ms} h ss) d = let k = sound_at n (node.Choice ms) h d in
           in_choice (some_holds ss k.0 k.1 k.2)
-      holds (spells_star {n = n} {m = m} {p = p} h s) d = let rest = holds s in
+      mark_holds (spells_star {n = n} {m = m} {p = p} h s) d = let rest = mark_holds s in
           ⊎_elim (λ z. loop_star (marked.sound m p s z)) (λ k. in_star (rest k)) (sound_at n (node.Star m) h d)
-      holds (spells_plus {n = n} {m = m} {k = k} {p = p} h s a) d = let rest = holds s in
+      mark_holds (spells_plus {n = n} {m = m} {k = k} {p = p} h s a) d = let rest = mark_holds s in
           ⊎_elim (λ z. loop_plus (marked.sound m p s z)) (λ z. in_plus (rest z)) (sound_at n (node.Plus m k) h d)
-      holds (spells_opt {n = n} {m = m} h s) d = in_opt (holds s (sound_at n (node.Opt m) h d))
-      holds (spells_and {n = n} {m = m} h s) d = in_and (holds s (sound_at n (node.And m) h d))
-      holds (spells_not {n = n} {m = m} h s) d = in_not (holds s (sound_at n (node.Not m) h d))
-      holds (spells_act {n = n} {t = t} h) d = absurd (sound_at n (node.Act t) h d)
-      holds (spells_open {n = n} h) d = absurd (sound_at n node.Open h d)
-      holds (spells_close {n = n} h) d = absurd (sound_at n node.Close h d)
+      mark_holds (spells_opt {n = n} {m = m} h s) d = in_opt (mark_holds s (sound_at n (node.Opt m) h d))
+      mark_holds (spells_and {n = n} {m = m} h s) d = in_and (mark_holds s (sound_at n (node.And m) h d))
+      mark_holds (spells_not {n = n} {m = m} h s) d = in_not (mark_holds s (sound_at n (node.Not m) h d))
+      mark_holds (spells_act {n = n} {t = t} h) d = absurd (sound_at n (node.Act t) h d)
+      mark_holds (spells_open {n = n} h) d = absurd (sound_at n node.Open h d)
+      mark_holds (spells_close {n = n} h) d = absurd (sound_at n node.Close h d)
 
       some_holds : {ms : List ℕ} {ps : Patterns} → SpellAll rules nodes ms ps → (m : ℕ) → Contains ms m
           → IsMarked marks m → SomeRepeats rules ps
       some_holds spell_none m h d = absurd (none_of m h)
       some_holds (spell_more {n = n} {ns = ns} s ss) m h d =
-          ⊎_elim (λ is. repeats_first (holds s (subst (λ v. IsMarked marks v) (sym is) d)))
+          ⊎_elim (λ is. repeats_first (mark_holds s (subst (λ v. IsMarked marks v) (sym is) d)))
           (λ k. repeats_later (some_holds ss m k d)) (cons_cases n m ns h)
 
     mutual
@@ -135,4 +135,4 @@ module _ (nodes : List Shape) (nulls marks : List Bool) (i : ℕ) (all : i ≡ l
           (m.0, in_later n m.0 ns m.1, m.2)
 
     pub loop_marks : AreLoopMarks rules nodes marks
-    loop_marks = record { sound = λ n p s d. holds s d; whole = λ n p s d. marks_it d n s }
+    loop_marks = record { sound = λ n p s d. mark_holds s d; whole = λ n p s d. marks_it d n s }

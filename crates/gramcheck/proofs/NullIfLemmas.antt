@@ -11,7 +11,7 @@ use Rattle.gramcheck.specs.Outcome.{set_at_end, bytes_take, bytes_fail, act, ope
 use Rattle.gramcheck.specs.Outcome.{opt_takes, opt_none, star_none, star_more, plus_fails, plus_takes, and_takes}
 use Rattle.gramcheck.specs.Outcome.{and_fails, not_takes, not_fails, GivesAll, all_done, one_fails, rest_fails}
 use Rattle.gramcheck.specs.Outcome.{rest_takes, GivesFirst, all_failed, first_takes, first_fails}
-use Rattle.gramcheck.proofs.RiseLemmas.{Rise-le, within, within_all}
+use Rattle.gramcheck.proofs.RiseLemmas.{Rise-le, gives_within, within_all}
 
 -- N holds where an outcome at p takes nothing
 abbrev pub NullIf : Type 0 → ℕ → Outcome → Type 0
@@ -28,9 +28,10 @@ takes_none rules p (b ∷ bs) is = absurd (omega arith)
 
 module _ (rules : List Rule) (x : List ℕ) where
   -- a success ends between its place and the input's end
-  pub forward : (p q k : ℕ) (e : Pattern) (es : List Event) → Gives rules x e p (Takes q es) k → p ≤ length x → (p ≤ q)
+  pub takes_forward : (p q k : ℕ) (e : Pattern) (es : List Event) → Gives rules x e p (Takes q es) k → p ≤ length x
+      → (p ≤ q)
       × (q ≤ length x)
-  forward p q k e es d le = let w = within rules x d le in (Rise-le p q es w.0, w.1)
+  takes_forward p q k e es d le = let w = gives_within rules x d le in (Rise-le p q es w.0, w.1)
 
   mutual
     pub null_of : {e : Pattern} {p k : ℕ} {o : Outcome} → Gives rules x e p o k → p ≤ length x
@@ -57,8 +58,8 @@ module _ (rules : List Rule) (x : List ℕ) where
     null_of (star_more d c) le = λ is. a_star
     null_of (plus_fails d) le = tt
     null_of (plus_takes {e = e} {p = p} {q = q} {r = r} {j = j} {k = k} {es = es} {fs = fs} d c) le = λ is.
-        let one = forward p q j e es d le in
-        let two = forward q r k (expr.Star e) fs c one.1 in
+        let one = takes_forward p q j e es d le in
+        let two = takes_forward q r k (expr.Star e) fs c one.1 in
         let here : q ≡ p = omega (arith, one.0, two.0) in
         a_plus (null_of d le here)
     null_of (and_takes d) le = λ is. an_and
@@ -72,7 +73,7 @@ module _ (rules : List Rule) (x : List ℕ) where
     null_all (one_fails d) le = tt
     null_all (rest_fails d c) le = tt
     null_all (rest_takes {e = e} {p = p} {q = q} {r = r} {j = j} {k = k} {es = es} {fs = fs} d c) le = λ is.
-        let one = forward p q j e es d le in
+        let one = takes_forward p q j e es d le in
         let w = within_all rules x c one.1 in
         let two = Rise-le q r fs w.0 in
         let here : q ≡ p = omega (arith, one.0) in

@@ -61,32 +61,33 @@ module _ (rules : List Rule) (first mid : List Shape) (a : Shape) (n : ℕ) (p :
       }
 
 -- shapes after a push
-pushed : (nodes more : List Node) (v : Node) → more ≡ nodes ++ v ∷ [] → shapes_of more ≡ shapes_of nodes ++ shape_of v
+shapes_pushed : (nodes more : List Node) (v : Node) → more ≡ nodes ++ v ∷ []
+    → shapes_of more ≡ shapes_of nodes ++ shape_of v
     ∷ []
-pushed nodes more v e = ap shapes_of e ∙ map-append shape_of nodes (v ∷ [])
+shapes_pushed nodes more v e = ap shapes_of e ∙ map-append shape_of nodes (v ∷ [])
 
 module _ (rules : List Rule) (nodes more : List Node) (v : Node) (n : ℕ) (p : Pattern)
     (is_more : more ≡ nodes ++ v ∷ []) (is : n ≡ length nodes) where
   -- a node without operands
-  pub leaf : ((m : ℕ) → IsOperand (shape_of v) m → ⊥)
+  pub leaf_numbers : ((m : ℕ) → IsOperand (shape_of v) m → ⊥)
       → ((xs : List Shape) → slice_get xs n ≡ Some (shape_of v) → Spells rules xs n p) →
       Numbers rules (shapes_of nodes) (shapes_of more) n p
-  leaf none spells =
-      rw (pushed nodes more v is_more)
+  leaf_numbers none spells =
+      rw (shapes_pushed nodes more v is_more)
       (one_more rules (shapes_of nodes) (shapes_of nodes) (shape_of v) n p [] (sym (append-nil (shapes_of nodes)))
       (λ b. b) (λ m low high. absurd (omega arith))
       (is ∙ sym (length-map nodes shape_of)) (λ m o. absurd (none m o))
       (λ at. spells (shapes_of nodes ++ shape_of v ∷ []) at))
 
   -- a node over one operand, which stands before it
-  pub over : (first : List Shape) (k : ℕ) (e : Pattern) → Numbers rules first (shapes_of nodes) k e
+  pub numbers_over : (first : List Shape) (k : ℕ) (e : Pattern) → Numbers rules first (shapes_of nodes) k e
       → ((m : ℕ) → IsOperand (shape_of v) m → m ≡ k) →
       ((d : Pattern) → Within e d → Within p d) → ((xs : List Shape) → slice_get xs n ≡ Some (shape_of v)
       → Spells rules xs k e → Spells rules xs n p) →
       Numbers rules first (shapes_of more) n p
-  over first k e g alone within spells =
+  numbers_over first k e g alone within spells =
       let there = is_there rules (shapes_of nodes) g.spelled in
-      rw (pushed nodes more v is_more)
+      rw (shapes_pushed nodes more v is_more)
       (one_more rules first (shapes_of nodes) (shape_of v) n p g.added g.grown g.built
       (λ m low high. let part = g.parts m low high in
       record { part = part.part; within = within part.part part.within; spelled = part.spelled })
@@ -101,7 +102,7 @@ module _ (rules : List Rule) (nodes more : List Node) (v : Node) (n : ℕ) (p : 
       → ((xs : List Shape) → slice_get xs n ≡ Some (shape_of v) → SpellAll rules xs ks es → Spells rules xs n p) →
       Numbers rules first (shapes_of more) n p
   over_all first ks es g among within spells =
-      rw (pushed nodes more v is_more)
+      rw (shapes_pushed nodes more v is_more)
       (one_more rules first (shapes_of nodes) (shape_of v) n p g.added g.grown g.built
       (λ m low high. let part = g.parts m low high in
       record { part = part.part; within = within part.part part.within; spelled = part.spelled })
@@ -114,27 +115,30 @@ module _ (rules : List Rule) (first : List Shape) (nodes mid new : List Node) (m
     (was : Numbers rules first (shapes_of nodes) m e)
     (star_is : mid ≡ nodes ++ code.Star m ∷ []) (k_is : k ≡ length nodes) (plus_is : new ≡ mid ++ code.Plus m k ∷ [])
     (n_is : n ≡ length mid) where
-  starred : Numbers rules first (shapes_of mid) k (expr.Star e)
-  starred = over rules nodes mid (code.Star m) k (expr.Star e) star_is k_is first m e was (λ i h. h) (λ d. of_star)
+  star_numbers : Numbers rules first (shapes_of mid) k (expr.Star e)
+  star_numbers =
+      numbers_over rules nodes mid (code.Star m) k (expr.Star e) star_is k_is first m e was (λ i h. h) (λ d. of_star)
       (λ xs at s. spells_star at s)
 
   star_at : slice_get (shapes_of mid) k ≡ Some (Star m)
-  star_at = rw (pushed nodes mid (code.Star m) star_is)
+  star_at = rw (shapes_pushed nodes mid (code.Star m) star_is)
       (subst (λ v. slice_get (shapes_of nodes ++ Star m ∷ []) v ≡ Some (Star m))
       (sym (k_is ∙ sym (length-map nodes shape_of))) (at_push (shapes_of nodes) (Star m)))
 
-  operand : Spells rules (shapes_of mid) m e
-  operand = rw (pushed nodes mid (code.Star m) star_is) (still_spells rules (shapes_of nodes) (Star m ∷ []) was.spelled)
+  operand_spelled : Spells rules (shapes_of mid) m e
+  operand_spelled = rw (shapes_pushed nodes mid (code.Star m) star_is)
+      (still_spells rules (shapes_of nodes) (Star m ∷ []) was.spelled)
 
-  pub plus : Numbers rules first (shapes_of new) n (expr.Plus e)
-  plus =
-      let there = is_there rules (shapes_of mid) operand in
-      rw (pushed mid new (code.Plus m k) plus_is)
-      (one_more rules first (shapes_of mid) (Plus m k) n (expr.Plus e) starred.added starred.grown starred.built
-      (λ i low high. let part = starred.parts i low high in
+  pub plus_numbers : Numbers rules first (shapes_of new) n (expr.Plus e)
+  plus_numbers =
+      let there = is_there rules (shapes_of mid) operand_spelled in
+      rw (shapes_pushed mid new (code.Plus m k) plus_is)
+      (one_more rules first (shapes_of mid) (Plus m k) n (expr.Plus e) star_numbers.added star_numbers.grown
+          star_numbers.built
+      (λ i low high. let part = star_numbers.parts i low high in
       record { part = part.part; within = of_plus part.within; spelled = part.spelled })
       (n_is ∙ sym (length-map mid shape_of)) (λ i o. subst (λ v. v < length (shapes_of mid)) (sym o) there)
-      (λ at. spells_plus at (still_spells rules (shapes_of mid) (Plus m k ∷ []) operand)
+      (λ at. spells_plus at (still_spells rules (shapes_of mid) (Plus m k ∷ []) operand_spelled)
       (at_append_left (shapes_of mid) (Plus m k ∷ []) k (Star m) star_at)))
 
 -- one more member

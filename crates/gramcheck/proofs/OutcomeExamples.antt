@@ -52,5 +52,5 @@ predicate_looks = seq (rest_takes (bytes_take refl)
     (rest_takes act (rest_takes (not_takes (bytes_fail refl)) all_done)))
 
 -- `.*` on `ab` takes both bytes
-greedy : Gives [] (codes "ab") (Star Any) 0 (Takes 2 []) 2
-greedy = star_more (any_takes refl) (star_more (any_takes refl) (star_none (any_at_end refl)))
+greedy_star : Gives [] (codes "ab") (Star Any) 0 (Takes 2 []) 2
+greedy_star = star_more (any_takes refl) (star_more (any_takes refl) (star_none (any_at_end refl)))

@@ -44,52 +44,52 @@ IsWithin x p (Takes q es) = Rise p q es × (q ≤ length x)
 
 module _ (rules : List Rule) (x : List ℕ) where
   mutual
-    pub within : {e : Pattern} {p k : ℕ} {o : Outcome} → Gives rules x e p o k → p ≤ length x → IsWithin x p o
-    within (any_takes {p = p} {b = b} h) le = let lt = slice_get_within x p b h in (omega arith, omega arith)
-    within (any_at_end h) le = tt
-    within (set_takes {p = p} {b = b} h g) le = let lt = slice_get_within x p b h in (omega arith, omega arith)
-    within (set_fails h g) le = tt
-    within (set_at_end h) le = tt
-    within (bytes_take {bs = bs} {p = p} h) le =
+    pub gives_within : {e : Pattern} {p k : ℕ} {o : Outcome} → Gives rules x e p o k → p ≤ length x → IsWithin x p o
+    gives_within (any_takes {p = p} {b = b} h) le = let lt = slice_get_within x p b h in (omega arith, omega arith)
+    gives_within (any_at_end h) le = tt
+    gives_within (set_takes {p = p} {b = b} h g) le = let lt = slice_get_within x p b h in (omega arith, omega arith)
+    gives_within (set_fails h g) le = tt
+    gives_within (set_at_end h) le = tt
+    gives_within (bytes_take {bs = bs} {p = p} h) le =
         let fits = begins_within (drop p x) bs h in
         (omega arith, omega (arith, length-drop p x))
-    within (bytes_fail h) le = tt
-    within act le = (omega arith, le)
-    within open_at le = ((omega arith, omega arith), le)
-    within close_at le = ((omega arith, omega arith), le)
-    within (name h d) le = within d le
-    within (seq d) le = within_all d le
-    within (choice d) le = within_first d le
-    within (opt_takes d) le = within d le
-    within (opt_none d) le = (omega arith, le)
-    within (star_none d) le = (omega arith, le)
-    within (star_more {p = p} {q = q} {r = r} {es = es} {fs = fs} d c) le =
-        let h = within d le in
-        let g = within c h.1 in
+    gives_within (bytes_fail h) le = tt
+    gives_within act le = (omega arith, le)
+    gives_within open_at le = ((omega arith, omega arith), le)
+    gives_within close_at le = ((omega arith, omega arith), le)
+    gives_within (name h d) le = gives_within d le
+    gives_within (seq d) le = within_all d le
+    gives_within (choice d) le = within_first d le
+    gives_within (opt_takes d) le = gives_within d le
+    gives_within (opt_none d) le = (omega arith, le)
+    gives_within (star_none d) le = (omega arith, le)
+    gives_within (star_more {p = p} {q = q} {r = r} {es = es} {fs = fs} d c) le =
+        let h = gives_within d le in
+        let g = gives_within c h.1 in
         (Rise-append p q r es fs h.0 g.0, g.1)
-    within (plus_fails d) le = tt
-    within (plus_takes {p = p} {q = q} {r = r} {es = es} {fs = fs} d c) le =
-        let h = within d le in
-        let g = within c h.1 in
+    gives_within (plus_fails d) le = tt
+    gives_within (plus_takes {p = p} {q = q} {r = r} {es = es} {fs = fs} d c) le =
+        let h = gives_within d le in
+        let g = gives_within c h.1 in
         (Rise-append p q r es fs h.0 g.0, g.1)
-    within (and_takes d) le = (omega arith, le)
-    within (and_fails d) le = tt
-    within (not_takes d) le = (omega arith, le)
-    within (not_fails d) le = tt
+    gives_within (and_takes d) le = (omega arith, le)
+    gives_within (and_fails d) le = tt
+    gives_within (not_takes d) le = (omega arith, le)
+    gives_within (not_fails d) le = tt
 
     pub within_all : {es : Patterns} {p k : ℕ} {o : Outcome} → GivesAll rules x es p o k → p ≤ length x → IsWithin x p o
     within_all all_done le = (omega arith, le)
     within_all (one_fails d) le = tt
     within_all (rest_fails d c) le = tt
     within_all (rest_takes {p = p} {q = q} {r = r} {es = es} {fs = fs} d c) le =
-        let h = within d le in
+        let h = gives_within d le in
         let g = within_all c h.1 in
         (Rise-append p q r es fs h.0 g.0, g.1)
 
     pub within_first : {es : Patterns} {p k : ℕ} {o : Outcome} → GivesFirst rules x es p o k → p ≤ length x
         → IsWithin x p o
     within_first all_failed le = tt
-    within_first (first_takes d) le = within d le
+    within_first (first_takes d) le = gives_within d le
     within_first (first_fails d c) le = within_first c le
 
 pub Rise-upper : (p q r : ℕ) (es : List Event) → Rise p q es → q ≤ r → Rise p r es

@@ -11,7 +11,8 @@ use Rattle.gramcheck.specs.Outcome.{set_fails, set_at_end, bytes_take, bytes_fai
 use Rattle.gramcheck.specs.Outcome.{choice, opt_takes, opt_none, star_none, star_more, plus_fails, plus_takes}
 use Rattle.gramcheck.specs.Outcome.{and_takes, and_fails, not_takes, not_fails, GivesAll, all_done, one_fails}
 use Rattle.gramcheck.specs.Outcome.{rest_fails, rest_takes, GivesFirst, all_failed, first_takes, first_fails}
-use Rattle.gramcheck.proofs.LongerInputLemmas.{Alike, alike_more, shorter, slice_get_more, drop_more, looked_below}
+use Rattle.gramcheck.proofs.LongerInputLemmas.{Alike, alike_more, shorter_compare, slice_get_more}
+use Rattle.gramcheck.proofs.LongerInputLemmas.{drop_more, looked_below}
 
 none_before : (x y : List ℕ) (p : ℕ) → slice_get (x ++ y) p ≡ None → slice_get x p ≡ None
 none_before [] y p h = refl
@@ -21,7 +22,7 @@ none_before (b ∷ x) y (suc p) h = none_before x y p h
 alike_back : (v : Bool) (c b : ℕ) (t y bs : List ℕ) → (c == b) ≡ v → compared (c ∷ (t ++ y)) (b ∷ bs) < suc (length t) →
     (compared (t ++ y) bs < length t → Alike t y bs) → Alike (c ∷ t) y (b ∷ bs)
 alike_back true c b t y bs is h ih =
-    let g = ih (shorter (c == b) (compared (t ++ y) bs) (length t) is h) in
+    let g = ih (shorter_compare (c == b) (compared (t ++ y) bs) (length t) is h) in
     record { begins = ap (λ w. (c == b) && w) g.begins; compared = alike_more (c == b) t y bs 1 g }
 alike_back false c b t y bs is h ih = record { begins = rw is refl; compared = rw is refl }
 
@@ -65,45 +66,45 @@ bytes_less x y bs p h = ⊎_elim
 
 module _ (rules : List Rule) (x y : List ℕ) where
   mutual
-    pub shrinks : {e : Pattern} {p k : ℕ} {o : Outcome} → Gives rules (x ++ y) e p o k → k < length x
+    pub gives_shorter : {e : Pattern} {p k : ℕ} {o : Outcome} → Gives rules (x ++ y) e p o k → k < length x
         → Gives rules x e p o k
-    shrinks (any_takes {p = p} {b = b} h) less = any_takes (sym (slice_get_more x y p (omega arith)) ∙ h)
-    shrinks (any_at_end {p = p} h) less = any_at_end (none_before x y p h)
-    shrinks (set_takes {p = p} h g) less = set_takes (sym (slice_get_more x y p (omega arith)) ∙ h) g
-    shrinks (set_fails {p = p} h g) less = set_fails (sym (slice_get_more x y p (omega arith)) ∙ h) g
-    shrinks (set_at_end {p = p} h) less = set_at_end (none_before x y p h)
-    shrinks (bytes_take {bs = bs} {p = p} h) less =
+    gives_shorter (any_takes {p = p} {b = b} h) less = any_takes (sym (slice_get_more x y p (omega arith)) ∙ h)
+    gives_shorter (any_at_end {p = p} h) less = any_at_end (none_before x y p h)
+    gives_shorter (set_takes {p = p} h g) less = set_takes (sym (slice_get_more x y p (omega arith)) ∙ h) g
+    gives_shorter (set_fails {p = p} h g) less = set_fails (sym (slice_get_more x y p (omega arith)) ∙ h) g
+    gives_shorter (set_at_end {p = p} h) less = set_at_end (none_before x y p h)
+    gives_shorter (bytes_take {bs = bs} {p = p} h) less =
         let same = bytes_less x y bs p less in
         rw same.compared (bytes_take (sym same.begins ∙ h))
-    shrinks (bytes_fail {bs = bs} {p = p} h) less =
+    gives_shorter (bytes_fail {bs = bs} {p = p} h) less =
         let same = bytes_less x y bs p less in
         rw same.compared (bytes_fail (sym same.begins ∙ h))
-    shrinks act less = act
-    shrinks open_at less = open_at
-    shrinks close_at less = close_at
-    shrinks (name h d) less = name h (shrinks d less)
-    shrinks (seq d) less = seq (shrinks_all d less)
-    shrinks (choice d) less = choice (shrinks_first d less)
-    shrinks (opt_takes d) less = opt_takes (shrinks d less)
-    shrinks (opt_none d) less = opt_none (shrinks d less)
-    shrinks (star_none d) less = star_none (shrinks d less)
-    shrinks (star_more d c) less = star_more (shrinks d (omega arith)) (shrinks c (omega arith))
-    shrinks (plus_fails d) less = plus_fails (shrinks d less)
-    shrinks (plus_takes d c) less = plus_takes (shrinks d (omega arith)) (shrinks c (omega arith))
-    shrinks (and_takes d) less = and_takes (shrinks d less)
-    shrinks (and_fails d) less = and_fails (shrinks d less)
-    shrinks (not_takes d) less = not_takes (shrinks d less)
-    shrinks (not_fails d) less = not_fails (shrinks d less)
+    gives_shorter act less = act
+    gives_shorter open_at less = open_at
+    gives_shorter close_at less = close_at
+    gives_shorter (name h d) less = name h (gives_shorter d less)
+    gives_shorter (seq d) less = seq (shrinks_all d less)
+    gives_shorter (choice d) less = choice (shrinks_first d less)
+    gives_shorter (opt_takes d) less = opt_takes (gives_shorter d less)
+    gives_shorter (opt_none d) less = opt_none (gives_shorter d less)
+    gives_shorter (star_none d) less = star_none (gives_shorter d less)
+    gives_shorter (star_more d c) less = star_more (gives_shorter d (omega arith)) (gives_shorter c (omega arith))
+    gives_shorter (plus_fails d) less = plus_fails (gives_shorter d less)
+    gives_shorter (plus_takes d c) less = plus_takes (gives_shorter d (omega arith)) (gives_shorter c (omega arith))
+    gives_shorter (and_takes d) less = and_takes (gives_shorter d less)
+    gives_shorter (and_fails d) less = and_fails (gives_shorter d less)
+    gives_shorter (not_takes d) less = not_takes (gives_shorter d less)
+    gives_shorter (not_fails d) less = not_fails (gives_shorter d less)
 
     pub shrinks_all : {es : Patterns} {p k : ℕ} {o : Outcome} → GivesAll rules (x ++ y) es p o k → k < length x
         → GivesAll rules x es p o k
     shrinks_all all_done less = all_done
-    shrinks_all (one_fails d) less = one_fails (shrinks d less)
-    shrinks_all (rest_fails d c) less = rest_fails (shrinks d (omega arith)) (shrinks_all c (omega arith))
-    shrinks_all (rest_takes d c) less = rest_takes (shrinks d (omega arith)) (shrinks_all c (omega arith))
+    shrinks_all (one_fails d) less = one_fails (gives_shorter d less)
+    shrinks_all (rest_fails d c) less = rest_fails (gives_shorter d (omega arith)) (shrinks_all c (omega arith))
+    shrinks_all (rest_takes d c) less = rest_takes (gives_shorter d (omega arith)) (shrinks_all c (omega arith))
 
     pub shrinks_first : {es : Patterns} {p k : ℕ} {o : Outcome} → GivesFirst rules (x ++ y) es p o k → k < length x
         → GivesFirst rules x es p o k
     shrinks_first all_failed less = all_failed
-    shrinks_first (first_takes d) less = first_takes (shrinks d less)
-    shrinks_first (first_fails d c) less = first_fails (shrinks d (omega arith)) (shrinks_first c (omega arith))
+    shrinks_first (first_takes d) less = first_takes (gives_shorter d less)
+    shrinks_first (first_fails d c) less = first_fails (gives_shorter d (omega arith)) (shrinks_first c (omega arith))

@@ -17,26 +17,26 @@ use Rattle.gramcheck.specs.Ranks.{to_asserted, to_denied, FrontNode, front_first
 use Rattle.gramcheck.specs.Sound.{IsRanked, GivesOne, StartGivesOne}
 use Rattle.gramcheck.specs.Within.{Within, itself, StandsIn}
 use Rattle.std.proofs.lemmas.List.{length-map}
-use Rattle.gramcheck.proofs.OneOutcomeLemmas.{same}
+use Rattle.gramcheck.proofs.OneOutcomeLemmas.{gives_same}
 use Rattle.gramcheck.proofs.StartRuleLemmas.{same_of_start}
-use Rattle.gramcheck.proofs.MeasureLemmas.{measure, falls, falls_here, falls_ahead}
+use Rattle.gramcheck.proofs.MeasureLemmas.{measure, measure_falls, falls_here, falls_ahead}
 use Rattle.leastset.proofs.ContainsLemmas.{in_first, in_later}
 use Rattle.gramcheck.proofs.HasOutcomeLemmas.{Has, HasAll, HasFirst, any_has, set_has, bytes_has, opt_has, and_has}
 use Rattle.gramcheck.proofs.HasOutcomeLemmas.{not_has, star_has, plus_has, member_has, alternative_has}
 use Rattle.gramcheck.proofs.NodeSpellsLemmas.{is_there, part_spelled}
-use Rattle.gramcheck.proofs.StepsToBodyLemmas.{bound, lower, steps_to_body}
-use Rattle.gramcheck.proofs.NullIfLemmas.{forward, null_of}
+use Rattle.gramcheck.proofs.StepsToBodyLemmas.{rank_bound, rank_lower, steps_to_body}
+use Rattle.gramcheck.proofs.NullIfLemmas.{takes_forward, null_of}
 
 module _ (rules : List Rule) (start : ℕ) (nodes : List Shape) (bodies ranks : List ℕ)
     (sound : IsRanked rules start nodes bodies ranks) (x : List ℕ) where
   abbrev rank : ℕ → ℕ
   rank n = slice_index ranks n
 
-  drops : (n m : ℕ) → NodeStep rules nodes bodies n m → rank m < rank n
-  drops = lower rules start nodes bodies ranks sound
+  rank_drops : (n m : ℕ) → NodeStep rules nodes bodies n m → rank m < rank n
+  rank_drops = rank_lower rules start nodes bodies ranks sound
 
-  most : (n : ℕ) → n < length nodes → rank n ≤ length nodes
-  most = bound rules start nodes bodies ranks sound
+  rank_at_most : (n : ℕ) → n < length nodes → rank n ≤ length nodes
+  rank_at_most = rank_bound rules start nodes bodies ranks sound
 
   abbrev at : ℕ → ℕ → ℕ
   at p n = measure (length x) p (length nodes) (rank n)
@@ -49,7 +49,7 @@ module _ (rules : List Rule) (start : ℕ) (nodes : List Shape) (bodies ranks : 
   step_has : (t n p m : ℕ) (e : Pattern) → Below t → at p n ≤ t → p ≤ length x → Spells rules nodes m e
       → NodeStep rules nodes bodies n m → Has rules x e p
   step_has t n p m e below le high s step =
-      let less = falls_here (length x) p (length nodes) (rank m) (rank n) (drops n m step) in
+      let less = falls_here (length x) p (length nodes) (rank m) (rank n) (rank_drops n m step) in
       below m p e s high (omega (arith, less))
 
   all_has : (t n p : ℕ) → Below t → at p n ≤ t → (ms : List ℕ) (es : Patterns) (q : ℕ) → SpellAll rules nodes ms es
@@ -59,12 +59,12 @@ module _ (rules : List Rule) (start : ℕ) (nodes : List Shape) (bodies ranks : 
       record { outcome = Takes q []; looked = 0; gives = all_done }
   all_has t n p below le ms es q (spell_more {n = m} {ns = ns} {p = e} {ps = rest} s ss) low high front =
       let there = is_there rules nodes s in
-      let less = falls (length x) p q (length nodes) (rank m) (rank n) low high (most m there)
+      let less = measure_falls (length x) p q (length nodes) (rank m) (rank n) low high (rank_at_most m there)
       (λ is. front is m front_first) in
       let one = below m q e s high (omega (arith, less)) in
       member_has rules x e rest q one.looked one.outcome one.gives
       (λ r fs d.
-      let on = forward rules x q r one.looked e fs d high in
+      let on = takes_forward rules x q r one.looked e fs d high in
       all_has t n p below le ns rest r ss (omega (arith, on.0)) on.1
       (λ is k f.
       let here : q ≡ p = omega (arith, on.0) in
@@ -89,11 +89,11 @@ module _ (rules : List Rule) (start : ℕ) (nodes : List Shape) (bodies ranks : 
       let one = below m q e s high lt in
       star_has rules x e q one.looked one.outcome one.gives
       (λ r es d.
-      let on = forward rules x q r one.looked e es d high in
+      let on = takes_forward rules x q r one.looked e es d high in
       let moves : r ≡ q → ⊥ = λ is. moving (null_of rules x d high is) in
       let further : q < r = omega (arith, on.0, moves) in
       let less = falls_ahead (length x) q r (length nodes) (rank m) (rank m) further on.1
-      (most m (is_there rules nodes s)) in
+      (rank_at_most m (is_there rules nodes s)) in
       star_from t m e below s moving left r (omega (arith, on.1)) on.1 (omega (arith, less)))
 
   -- one node, where all that is below it has an outcome
@@ -107,23 +107,24 @@ module _ (rules : List Rule) (start : ℕ) (nodes : List Shape) (bodies ranks : 
       record { outcome = one.outcome; looked = one.looked; gives = name body.is one.gives }
   one_has t n p e below le high (spells_seq {ms = ms} {ps = ps} g ss) =
       let here : p ≤ p = omega arith in
-      let all = all_has t n p below le ms ps p ss here high (λ _ m f. drops n m (to_member g f)) in
+      let all = all_has t n p below le ms ps p ss here high (λ _ m f. rank_drops n m (to_member g f)) in
       record { outcome = all.outcome; looked = all.looked; gives = seq all.gives }
   one_has t n p e below le high (spells_choice {ms = ms} {ps = ps} g ss) =
-      let first = first_has t n p below le high ms ps ss (λ m h. drops n m (to_alternative g h)) in
+      let first = first_has t n p below le high ms ps ss (λ m h. rank_drops n m (to_alternative g h)) in
       record { outcome = first.outcome; looked = first.looked; gives = choice first.gives }
   one_has t n p e below le high (spells_star {m = m} {p = f} g s) =
-      let less = falls_here (length x) p (length nodes) (rank m) (rank n) (drops n m (to_starred g)) in
+      let less = falls_here (length x) p (length nodes) (rank m) (rank n) (rank_drops n m (to_starred g)) in
       star_from t m f below s (λ null. sound.moving.star n m g (f, s, null)) (length x - p + 1) p (omega arith) high
       (omega (arith, less))
   one_has t n p e below le high (spells_plus {m = m} {k = k} {p = f} g s a) =
-      let step = drops n m (to_repeated g) in
+      let step = rank_drops n m (to_repeated g) in
       let less = falls_here (length x) p (length nodes) (rank m) (rank n) step in
       let one = below m p f s high (omega (arith, less)) in
       plus_has rules x f p one.looked one.outcome one.gives
       (λ q es d.
-      let on = forward rules x p q one.looked f es d high in
-      let next = falls (length x) p q (length nodes) (rank m) (rank n) on.0 on.1 (most m (is_there rules nodes s))
+      let on = takes_forward rules x p q one.looked f es d high in
+      let next = measure_falls (length x) p q (length nodes) (rank m) (rank n) on.0 on.1
+          (rank_at_most m (is_there rules nodes s))
       (λ _. step) in
       star_from t m f below s (λ null. sound.moving.plus n m k g (f, s, null)) (length x - q + 1) q (omega arith) on.1
       (omega (arith, next)))
@@ -147,8 +148,8 @@ module _ (rules : List Rule) (start : ℕ) (nodes : List Shape) (bodies ranks : 
   all_below zero n p e s le lt = absurd (omega arith)
   all_below (suc t) n p e s le lt = one_has t n p e (all_below t) (omega arith) le s
 
-  pub ends : (n p : ℕ) (e : Pattern) → Spells rules nodes n e → p ≤ length x → Has rules x e p
-  ends n p e s le = all_below (at p n + 1) n p e s le (omega arith)
+  pub evaluation_ends : (n p : ℕ) (e : Pattern) → Spells rules nodes n e → p ≤ length x → Has rules x e p
+  evaluation_ends n p e s le = all_below (at p n + 1) n p e s le (omega arith)
 
   -- and so does each that stands in a body
   pub standing_ends : (e : Pattern) (p : ℕ) → StandsIn rules e → p ≤ length x → Has rules x e p
@@ -159,7 +160,7 @@ module _ (rules : List Rule) (start : ℕ) (nodes : List Shape) (bodies ranks : 
       let body = sound.spelled.spelled s.id (get_or bodies s.id 0) at in
       let same : s.body ≡ body.0 = cc (s.rule, body.1) in
       let part = part_spelled rules nodes (subst (λ v. Within v e) same s.within) (get_or bodies s.id 0) body.2 in
-      ends part.0 p e part.1 le
+      evaluation_ends part.0 p e part.1 le
 
   pub gives_one : (e : Pattern) (p : ℕ) → StandsIn rules e → p ≤ length x → GivesOne rules x e p
   gives_one e p s le =
@@ -168,7 +169,7 @@ module _ (rules : List Rule) (start : ℕ) (nodes : List Shape) (bodies ranks : 
         outcome = one.outcome;
         looked = one.looked;
         gives = one.gives;
-        only = λ o k d. let is = same rules x d one.gives in (is.outcome, is.looked);
+        only = λ o k d. let is = gives_same rules x d one.gives in (is.outcome, is.looked);
       }
 
   pub start_gives_one : StartGivesOne rules start x

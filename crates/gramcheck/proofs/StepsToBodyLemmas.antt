@@ -58,11 +58,11 @@ module _ (rules : List Rule) (start : ℕ) (nodes : List Shape) (bodies ranks : 
   rank_at : (n : ℕ) → n < length nodes → slice_get ranks n ≡ Some (rank n)
   rank_at n lt = slice_get-get_or ranks n 0 (omega (arith, sound.falling.count))
 
-  pub bound : (n : ℕ) → n < length nodes → rank n ≤ length nodes
-  bound n lt = sound.falling.bound n (rank n) (rank_at n lt)
+  pub rank_bound : (n : ℕ) → n < length nodes → rank n ≤ length nodes
+  rank_bound n lt = sound.falling.bound n (rank n) (rank_at n lt)
 
-  pub lower : (n m : ℕ) → NodeStep rules nodes bodies n m → rank m < rank n
-  lower n m step = sound.falling.lower n m (rank n) (rank m) step (rank_at n (steps_from rules nodes bodies step))
+  pub rank_lower : (n m : ℕ) → NodeStep rules nodes bodies n m → rank m < rank n
+  rank_lower n m step = sound.falling.lower n m (rank n) (rank m) step (rank_at n (steps_from rules nodes bodies step))
       (rank_at m (steps_to step))
 
   -- a node that is a name steps to the node of that name's body

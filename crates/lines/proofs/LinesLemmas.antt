@@ -19,11 +19,11 @@ use Rattle.lines.specs.declared.answers.Answer.{Answer}
 use Rattle.lines.specs.declared.line_loop.At.{At}
 
 -- a line and its LF stand in front, or there is no LF
-split : (xs : List ℕ) → ((line after : List ℕ) × (xs ≡ line ++ 10 ∷ after) × HasNoEnd line) ⊎ HasNoEnd xs
-split [] = inr (All-nil (λ b. b ≢ 10))
-split (x ∷ xs) = elim (cases_eq x 10) [
+split_line : (xs : List ℕ) → ((line after : List ℕ) × (xs ≡ line ++ 10 ∷ after) × HasNoEnd line) ⊎ HasNoEnd xs
+split_line [] = inr (All-nil (λ b. b ≢ 10))
+split_line (x ∷ xs) = elim (cases_eq x 10) [
   | inl is ↦ inl ([], xs, ap (λ b. b ∷ xs) is, All-nil (λ b. b ≢ 10))
-  | inr other ↦ elim (split xs) [
+  | inr other ↦ elim (split_line xs) [
     | inl (line, after, cut, one) ↦ inl (x ∷ line, after, ap (λ t. x ∷ t) cut, All-cons (λ b. b ≢ 10) x line other one)
     | inr free ↦ inr (All-cons (λ b. b ≢ 10) x xs other free)
   ]
@@ -44,9 +44,9 @@ module _ (Told : List ℕ → Answer → Type 0) (limit : ℕ) (input : Input) w
       let m : taken_at limit input s ≤ taken_at limit input t = le-min a (omega (arith, b, le)) in
       omega (arith, m, h)
 
-  pub stops : (at : At) (text last : List ℕ) (stop : Stop) → Lines Told limit input at text
+  pub goes_to_stop : (at : At) (text last : List ℕ) (stop : Stop) → Lines Told limit input at text
       → Ends Told limit input at last stop → Goes at.place (text ++ last)
-  stops at text last stop lines ends = record {
+  goes_to_stop at text last stop lines ends = record {
     reply = record {
       out = text ++ last;
       err = message_of stop;
@@ -69,8 +69,8 @@ module _ (Told : List ℕ → Answer → Type 0) (limit : ℕ) (input : Input) w
     taken = omega arith;
   }
 
-  begins : (s t : ℕ) (text more : List ℕ) → s ≤ t → Goes t (text ++ more) → Goes s text
-  begins s t text more le h = record {
+  goes_from : (s t : ℕ) (text more : List ℕ) → s ≤ t → Goes t (text ++ more) → Goes s text
+  goes_from s t text more le h = record {
     reply = h.reply;
     replies = h.replies;
     front = IsBeginning-trans text (text ++ more) h.reply.out (more, refl) h.front;
@@ -84,36 +84,36 @@ module _ (Told : List ℕ → Answer → Type 0) (limit : ℕ) (input : Input) w
       omega (arith, l, length-append line (10 ∷ is.after), length-drop s input.bytes)
 
   module _ (decided : (line : List ℕ) → (said : Answer) × Told line said) where
-    ended : (at : At) (text : List ℕ) → Lines Told limit input at text → HasNoEnd (rest at.place)
+    goes_ended : (at : At) (text : List ℕ) → Lines Told limit input at text → HasNoEnd (rest at.place)
         → length (rest at.place) ≤ limit → (fault : Bool) → input.fault ≡ fault →
         (bytes : List ℕ) → rest at.place ≡ bytes → Goes at.place text
-    ended at text lines free le true is bytes same = begins at.place at.place text [] (omega arith)
-        (stops at text [] Broken lines (broken is free le))
-    ended at text lines free le false is [] same = begins at.place at.place text [] (omega arith)
-        (stops at text [] (Quiet (status_after at.all)) lines (finished is same))
-    ended at text lines free le false is (b ∷ bytes) same =
+    goes_ended at text lines free le true is bytes same = goes_from at.place at.place text [] (omega arith)
+        (goes_to_stop at text [] Broken lines (broken is free le))
+    goes_ended at text lines free le false is [] same = goes_from at.place at.place text [] (omega arith)
+        (goes_to_stop at text [] (Quiet (status_after at.all)) lines (finished is same))
+    goes_ended at text lines free le false is (b ∷ bytes) same =
         let d = decided (rest at.place) in
-        begins at.place at.place text (answer_text d.0) (omega arith)
-        (stops at text (answer_text d.0) (Quiet (status_after (at.all && says_yes d.0))) lines
+        goes_from at.place at.place text (answer_text d.0) (omega arith)
+        (goes_to_stop at text (answer_text d.0) (Quiet (status_after (at.all && says_yes d.0))) lines
         (last_line d.0 is (λ e. absurd (cc)) free le d.1))
 
-    goes : (fuel : ℕ) (at : At) (text : List ℕ) → Lines Told limit input at text → length (rest at.place) < fuel
+    lines_go : (fuel : ℕ) (at : At) (text : List ℕ) → Lines Told limit input at text → length (rest at.place) < fuel
         → Goes at.place text
-    goes zero at text lines room = absurd (omega (arith, room))
-    goes (suc fuel) at text lines room = elim (split (rest at.place)) [
+    lines_go zero at text lines room = absurd (omega (arith, room))
+    lines_go (suc fuel) at text lines room = elim (split_line (rest at.place)) [
       | inl (line, after, cut, one) ↦ elim (cases_lt limit (length line)) [
         | inl over ↦
             let l = ap length cut in
-            begins at.place at.place text [] (omega arith)
-            (stops at text [] (LongLine (at.count + 1) limit) lines (overlong
+            goes_from at.place at.place text [] (omega arith)
+            (goes_to_stop at text [] (LongLine (at.count + 1) limit) lines (overlong
             (rw (cut, take-append-le (suc limit) line (10 ∷ after) (omega arith))
             (All-take (λ b. b ≢ 10) (suc limit) line one))
             (omega (arith, l, length-append line (10 ∷ after)))))
         | inr le ↦
             let d = decided line in
             let l = ap length cut in
-            begins at.place (at.place + length line + 1) text (answer_text d.0) (omega arith)
-            (goes fuel (behind at (length line) d.0) (text ++ answer_text d.0)
+            goes_from at.place (at.place + length line + 1) text (answer_text d.0) (omega arith)
+            (lines_go fuel (behind at (length line) d.0) (text ++ answer_text d.0)
             (one_more at text line d.0 lines (record { after = after; cut = cut; one = one; within = omega arith }) d.1)
             (omega (
               arith,
@@ -125,15 +125,15 @@ module _ (Told : List ℕ → Answer → Type 0) (limit : ℕ) (input : Input) w
             )))
       ]
       | inr free ↦ elim (cases_lt limit (length (rest at.place))) [
-        | inl over ↦ begins at.place at.place text [] (omega arith)
-            (stops at text [] (LongLine (at.count + 1) limit) lines
+        | inl over ↦ goes_from at.place at.place text [] (omega arith)
+            (goes_to_stop at text [] (LongLine (at.count + 1) limit) lines
             (overlong (All-take (λ b. b ≢ 10) (suc limit) (rest at.place) free) over))
-        | inr le ↦ ended at text lines free (omega arith) input.fault refl (rest at.place) refl
+        | inr le ↦ goes_ended at text lines free (omega arith) input.fault refl (rest at.place) refl
       ]
     ]
 
     pub lines_go_on : (at : At) (text : List ℕ) → Lines Told limit input at text → Goes at.place text
-    lines_go_on at text lines = goes (suc (length (rest at.place))) at text lines (omega arith)
+    lines_go_on at text lines = lines_go (suc (length (rest at.place))) at text lines (omega arith)
 
     -- the text of one more answer, of which only a part may have been written
     pub answer_goes_on : (at : At) (text : List ℕ) (said : Answer) → Lines Told limit input at text →
@@ -148,4 +148,4 @@ module _ (Told : List ℕ → Answer → Type 0) (limit : ℕ) (input : Input) w
           front = goes.front;
           taken = takes_more at.place (at.place + length line + 1) goes.reply.taken (omega arith) goes.taken;
         }
-    answer_goes_on at text said lines (inr (why, ends)) = stops at text (answer_text said) why lines ends
+    answer_goes_on at text said lines (inr (why, ends)) = goes_to_stop at text (answer_text said) why lines ends

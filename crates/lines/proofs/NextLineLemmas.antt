@@ -69,14 +69,14 @@ module _ {R : Type 0} (f : Feed R) (limit : ℕ) (before : List ℕ) (input : In
   taken_all : agrees.more ≡ [] → Taken
   taken_all none = taken_end before items refl agrees limit none (omega (arith, fits, room))
 
-  pub taken : (held : Held) → IsHeld f held → Taken
-  taken held.Full full = taken_full before items refl agrees limit (omega (arith, full, room))
-  taken held.End ended = taken_all (agrees.ended ended.0).0
-  taken held.Fault broken = taken_all (agrees.broken broken.0).0
+  pub held_taken : (held : Held) → IsHeld f held → Taken
+  held_taken held.Full full = taken_full before items refl agrees limit (omega (arith, full, room))
+  held_taken held.End ended = taken_all (agrees.ended ended.0).0
+  held_taken held.Fault broken = taken_all (agrees.broken broken.0).0
 
   -- an LF was found
-  pub found : (k : ℕ) → IsFirstByte (is_byte 10) items (Some k) → IsNext limit input (length before) (line.Whole k)
-  found k (first, here) =
+  pub line_found : (k : ℕ) → IsFirstByte (is_byte 10) items (Some k) → IsNext limit input (length before) (line.Whole k)
+  line_found k (first, here) =
       let high : k < length items = omega (arith, first.high) in
       let is = first_found k items first here in
       let front : take k rest ≡ take k items = rw (rest_is before items refl agrees)

@@ -19,10 +19,10 @@ use Rattle.pegmatch.specs.declared.event.Kept.{Kept}
 use Rattle.pegmatch.specs.declared.writing.Capture.{Capture}
 
 module _ (raw : Bool) (x : List ℕ) (all later : List Event) where
-  closing : (capture : Capture) (q : ℕ) (done : List ℕ) (s : Option ℕ) → capture.start ≡ s
+  closing_prints : (capture : Capture) (q : ℕ) (done : List ℕ) (s : Option ℕ) → capture.start ≡ s
       → IsPrinted raw x all (event.Closed q ∷ later) capture done → IsPrinted raw x all later (closed_at capture q s)
       (done ++ [])
-  closing capture q done None is p =
+  closing_prints capture q done None is p =
       let text = subst (λ v. done ++ text_after raw x (event.Closed q ∷ later) v (slice_range x capture.from capture.to)
       ≡ text_of raw x all) is p.text in
       record {
@@ -34,7 +34,7 @@ module _ (raw : Bool) (x : List ℕ) (all later : List Event) where
         text = rw is (ap (λ v. v ++ text_after raw x later None (slice_range x capture.from capture.to))
             (append-nil done) ∙ text);
       }
-  closing capture q done (Some from) is p =
+  closing_prints capture q done (Some from) is p =
       let text = subst (λ v. done ++ text_after raw x (event.Closed q ∷ later) v (slice_range x capture.from capture.to)
       ≡ text_of raw x all) is p.text in
       let begun : from ≤ p.low = rw is at p.begun in
@@ -63,7 +63,7 @@ module _ (raw : Bool) (x : List ℕ) (all later : List Event) where
         text = ap (λ v. v ++ text_after raw x later (Some p) (slice_range x capture.from capture.to)) (append-nil done)
             ∙ h.text;
       }
-  after_event nodes capture done (closed {p = q}) h = closing capture q done capture.start refl h
+  after_event nodes capture done (closed {p = q}) h = closing_prints capture q done capture.start refl h
   after_event nodes capture done (acted {t = t} g) h =
       record {
         low = h.low;
@@ -161,16 +161,16 @@ Stood nodes (Kept.Opened p) e = e ≡ event.Opened p
 Stood nodes (Kept.Closed p) e = e ≡ event.Closed p
 Stood nodes (Kept.Acted n) e = (t : List ℕ) × (slice_get nodes n ≡ Some (Act t)) × (e ≡ event.Acted t)
 
-stood : {nodes : List Shape} {k : Kept} {e : Event} → StandsFor nodes k e → Stood nodes k e
-stood opened = refl
-stood closed = refl
-stood (acted g) = (_, g, refl)
+has_stood : {nodes : List Shape} {k : Kept} {e : Event} → StandsFor nodes k e → Stood nodes k e
+has_stood opened = refl
+has_stood closed = refl
+has_stood (acted g) = (_, g, refl)
 
 same_stands : {nodes : List Shape} {k : Kept} {e c : Event} → StandsFor nodes k e → StandsFor nodes k c → e ≡ c
-same_stands opened s = sym (stood s)
-same_stands closed s = sym (stood s)
+same_stands opened s = sym (has_stood s)
+same_stands closed s = sym (has_stood s)
 same_stands (acted {t = t} g) s =
-    let h = stood s in
+    let h = has_stood s in
     let template : t ≡ h.0 = cc (g, h.1) in
     ap event.Acted template ∙ sym h.2
 
@@ -200,8 +200,8 @@ module _ (raw : Bool) (nodes : List Shape) (x : List ℕ) (all : List Event) (ke
     next_event = first_stands nodes h.left (get_or kept i d) (drop (i + 1) kept)
         (rw (drop-cons kept i d, add-one i) refl)
 
-    here : HasPrinted raw x all (next_event.event ∷ next_event.others) old mid capture
-    here = subst (λ v. HasPrinted raw x all v old mid capture) next_event.is h.written
+    printed_here : HasPrinted raw x all (next_event.event ∷ next_event.others) old mid capture
+    printed_here = subst (λ v. HasPrinted raw x all v old mid capture) next_event.is h.written
 
     pub written_next : (new : Option (List ℕ)) → Appends mid new
         (event_text raw next_event.event (slice_range x capture.from capture.to)) →
@@ -210,11 +210,11 @@ module _ (raw : Bool) (nodes : List Shape) (x : List ℕ) (all : List Event) (ke
       later = next_event.others;
       left = next_event.stand;
       written = printed_next raw x all old nodes mid new capture (get_or kept i d) next_event.event next_event.others
-          next_event.stands here one;
+          next_event.stands printed_here one;
     }
 
     pub written_part : (new : Option (List ℕ)) → AppendsPart mid new
         (event_text raw next_event.event (slice_range x capture.from capture.to))
         → AppendsPart old new (text_of raw x all)
     written_part new part = printed_part raw x all old nodes mid new capture (get_or kept i d) next_event.event
-        next_event.others next_event.stands here part
+        next_event.others next_event.stands printed_here part

@@ -156,20 +156,20 @@ module _ (rules : List Rule) (nodes : List Shape) (x ns : List ℕ) where
   Spelled (m ∷ ms) es = (e : Pattern) × (rest : Patterns) × (es ≡ more e rest) × Spells rules nodes m e
       × SpellAll rules nodes ms rest
 
-  spelled : {ms : List ℕ} {es : Patterns} → SpellAll rules nodes ms es → Spelled ms es
-  spelled spell_none = refl
-  spelled (spell_more s ss) = (_, _, refl, s, ss)
+  spelled_all : {ms : List ℕ} {es : Patterns} → SpellAll rules nodes ms es → Spelled ms es
+  spelled_all spell_none = refl
+  spelled_all (spell_more s ss) = (_, _, refl, s, ss)
 
   next_spelled : (i : ℕ) (es : Patterns) → i < length ns → SpellAll rules nodes (drop i ns) es →
       (e : Pattern) × (rest : Patterns) × (es ≡ more e rest) × Spells rules nodes (get_or ns i 0) e
       × SpellAll rules nodes (drop (i + 1) ns) rest
-  next_spelled i es h s = let s' = rw (drop-cons ns i 0) at s in rw (add-one i) (spelled s')
+  next_spelled i es h s = let s' = rw (drop-cons ns i 0) at s in rw (add-one i) (spelled_all s')
 
   none_spelled : (i : ℕ) (es : Patterns) → length ns ≤ i → SpellAll rules nodes (drop i ns) es → es ≡ none
   none_spelled i es h s =
       let empty : drop i ns ≡ [] = grind (arith, common_steps) in
       let s' = rw empty at s in
-      spelled s'
+      spelled_all s'
 
   pub none_taken : (p : ℕ) (old : List Kept) (es : Patterns) → SpellAll rules nodes ns es
       → HaveTaken rules nodes x ns p 0 p old old 0 es

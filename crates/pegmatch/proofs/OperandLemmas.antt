@@ -10,11 +10,11 @@ use Rattle.gramcheck.specs.Nodes.{Shape, Spells, SpellAll, spell_none, spell_mor
 use Rattle.gramcheck.specs.Outcome.{Gives}
 use Rattle.gramcheck.specs.Ranks.{IsNullNode, NodeStep, FrontNode, front_first, front_later}
 use Rattle.gramcheck.specs.Sound.{IsRanked}
-use Rattle.gramcheck.proofs.MeasureLemmas.{measure, falls, falls_here}
-use Rattle.gramcheck.proofs.StepsToBodyLemmas.{bound, lower}
+use Rattle.gramcheck.proofs.MeasureLemmas.{measure, measure_falls, falls_here}
+use Rattle.gramcheck.proofs.StepsToBodyLemmas.{rank_bound, rank_lower}
 use Rattle.gramcheck.proofs.HasShapeLemmas.{has_shape}
 use Rattle.gramcheck.proofs.NodeSpellsLemmas.{is_there}
-use Rattle.gramcheck.proofs.NullIfLemmas.{forward, null_of}
+use Rattle.gramcheck.proofs.NullIfLemmas.{takes_forward, null_of}
 use Rattle.pegmatch.specs.KeptEvents.{SpellsSome, MatchesBy, IsMatch}
 use Rattle.pegmatch.specs.declared.event.Kept.{Kept}
 use Rattle.cells.specs.declared.cell.Found.{Found}
@@ -31,13 +31,13 @@ module _ (rules : List Rule) (start : ℕ) (nodes : List Shape) (bodies ranks : 
       → (q ≡ p → NodeStep rules nodes bodies n m) →
       at nodes ranks len q m < at nodes ranks len p n
   falls_to n m p q (e, s) low high step =
-      falls len p q (length nodes) (slice_index ranks m) (slice_index ranks n) low high
-      (bound rules start nodes bodies ranks sound m (is_there rules nodes s))
-      (λ is. lower rules start nodes bodies ranks sound n m (step is))
+      measure_falls len p q (length nodes) (slice_index ranks m) (slice_index ranks n) low high
+      (rank_bound rules start nodes bodies ranks sound m (is_there rules nodes s))
+      (λ is. rank_lower rules start nodes bodies ranks sound n m (step is))
 
   pub falls_at : (n m p : ℕ) → NodeStep rules nodes bodies n m → at nodes ranks len p m < at nodes ranks len p n
   falls_at n m p step = falls_here len p (length nodes) (slice_index ranks m) (slice_index ranks n)
-      (lower rules start nodes bodies ranks sound n m step)
+      (rank_lower rules start nodes bodies ranks sound n m step)
 
 -- the measure of one node never rises
 pub falls_on : (nodes : List Shape) (ranks : List ℕ) (len m p q : ℕ) → p ≤ q
@@ -65,13 +65,13 @@ module _ (rules : List Rule) (nodes : List Shape) where
       member_spells ms is.0 i is.2 lt
 
   -- a success goes on, unless the node is nullable
-  pub onward : (bodies x : List ℕ) (n p q : ℕ) (tried : Tried) (old new : List Kept) → p ≤ length x
+  pub goes_onward : (bodies x : List ℕ) (n p q : ℕ) (tried : Tried) (old new : List Kept) → p ≤ length x
       → SpellsSome rules nodes n →
       IsMatch rules nodes x n p tried old new → tried.found ≡ Found.Took q → (p ≤ q) × (q ≤ length x)
       × (q ≡ p → IsNullNode rules nodes bodies n)
-  onward bodies x n p q tried old new le (e, s) match found =
+  goes_onward bodies x n p q tried old new le (e, s) match found =
       let m : MatchesBy nodes (Gives rules x e p) (Found.Took q) tried.looked old new = rw found at match e s in
-      let on = forward rules x p q tried.looked e m.1 m.3 le in
+      let on = takes_forward rules x p q tried.looked e m.1 m.3 le in
       (on.0, on.1, λ is. (e, s, null_of rules x m.3 le is))
 
 module _ (rules : List Rule) (nodes : List Shape) (bodies ms : List ℕ) where

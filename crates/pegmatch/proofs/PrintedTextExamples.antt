@@ -10,9 +10,10 @@ runs_are_maximal = refl
 
 -- `{ yytext yyleng yytextual }` with the capture `yyleng`: a longer run stands, and what is put in is not looked at
 -- again
-words : text_of false (codes "yyleng") (Opened 0 ∷ (Closed 6 ∷ (Acted (codes " yytext yyleng yytextual ") ∷ []))) ≡
+names_within_words : text_of false (codes "yyleng") (Opened 0 ∷
+    (Closed 6 ∷ (Acted (codes " yytext yyleng yytextual ") ∷ []))) ≡
     codes "yyleng " ++ ((decimal 6 ++ codes " yytextual") ++ codes "\n")
-words = simp (append_assoc, append-nil)
+names_within_words = simp (append_assoc, append-nil)
 
 -- `{ USER }` prints its template without the blanks at its ends, on a line
 blanks_are_cut : text_of false [] (Acted (codes " USER ") ∷ []) ≡ codes "USER\n"

@@ -141,9 +141,9 @@ module _ (rules : List Rule) (nodes : List Shape) (x : List ℕ) (m p : ℕ) whe
       ([], [], no_event, opt_none h.0, h.1 ∙ sym (append-nil old))
 
   -- nothing is taken, and no event is left
-  quietly : (F : Outcome → ℕ → Type 0) (k : ℕ) (old new : List Kept) → F (Takes p []) k → new ≡ old
+  matches_quietly : (F : Outcome → ℕ → Type 0) (k : ℕ) (old new : List Kept) → F (Takes p []) k → new ≡ old
       → MatchesBy nodes F (Found.Took p) k old new
-  quietly F k old new d is = ([], [], no_event, d, is ∙ sym (append-nil old))
+  matches_quietly F k old new d is = ([], [], no_event, d, is ∙ sym (append-nil old))
 
   pub and_took : (q : ℕ) (old new : List Kept) (tried : Tried) → IsSeen rules nodes x m p tried
       → tried.found ≡ Found.Took q → new ≡ old →
@@ -152,7 +152,7 @@ module _ (rules : List Rule) (nodes : List Shape) (x : List ℕ) (m p : ℕ) whe
   and_took q old new tried see found same e s =
       let see' = see e s in
       let d : Gives rules x e p (Takes q see'.0) tried.looked = rw found at see'.1 in
-      quietly (Gives rules x (And e) p) tried.looked old new (and_takes d) same
+      matches_quietly (Gives rules x (And e) p) tried.looked old new (and_takes d) same
 
   pub and_failed : (old new : List Kept) (tried : Tried) → IsSeen rules nodes x m p tried → tried.found ≡ Found.Failed
       → new ≡ old →
@@ -179,4 +179,4 @@ module _ (rules : List Rule) (nodes : List Shape) (x : List ℕ) (m p : ℕ) whe
   not_failed old new tried see found same e s =
       let see' = see e s in
       let d : Gives rules x e p Fails tried.looked = rw found at see'.1 in
-      quietly (Gives rules x (Not e) p) tried.looked old new (not_takes d) same
+      matches_quietly (Gives rules x (Not e) p) tried.looked old new (not_takes d) same

@@ -15,16 +15,16 @@ use Rattle.flatgrammar.specs.NullElements.{AreNullAlike}
 use Rattle.flatgrammar.specs.Places.{size, sizes}
 use Rattle.flatgrammar.specs.ToldBeginnings.{HasItem, TellsBeginnings}
 use Rattle.flatgrammar.proofs.BeforeLemmas.{get_below}
-use Rattle.flatgrammar.proofs.RuleDerivesLemmas.{exactly}
+use Rattle.flatgrammar.proofs.RuleDerivesLemmas.{derives_exactly}
 use Rattle.abnfcheck.proofs.RuleIdLemmas.{body_at_id}
-use Rattle.flatgrammar.proofs.RuleNodeLemmas.{there}
+use Rattle.flatgrammar.proofs.RuleNodeLemmas.{get_there}
 use Rattle.viable.specs.Pruned.{IsProductive, Keeps, keep_text, keep_values, keep_range, keep_concat, keep_alt}
 use Rattle.viable.specs.Pruned.{keep_rep, empty_rep, keep_opt, empty_opt, keep_name, KeepsAll, keep_none, keep_more}
 use Rattle.viable.specs.Pruned.{KeepsSome, some_none, kept, dropped, IsLeftBody, left_body, no_body, ArePruned}
 use Rattle.viable.proofs.AreNullAlikeLemmas.{any_letters}
 use Rattle.viable.proofs.ContextLemmas.{AreLiveBodies, items_go_on}
 use Rattle.viable.proofs.HasItemLemmas.{has_item}
-use Rattle.viable.proofs.KeepsLemmas.{LeftBody, no_prose, keeps_productive, forth, back, sized}
+use Rattle.viable.proofs.KeepsLemmas.{LeftBody, no_prose, keeps_productive, kept_derives, derives_back, keeps_sized}
 use Rattle.viable.proofs.LiveLemmas.{IsLive, live_text, live_values, live_range, live_concat, live_alt, live_rep}
 use Rattle.viable.proofs.LiveLemmas.{live_opt, live_name, AreLive, no_live, more_live}
 use Rattle.viable.proofs.NothingLemmas.{no_item}
@@ -43,7 +43,7 @@ module _ (has : ℕ → Bool) (rules left : List Rule) (pruned : ArePruned has r
       let all = length-map rules (λ rule. rule.body) in
       let same = length-map left (λ rule. rule.body) in
       let count = pruned.count in
-      let d = there (bodies left) id (omega (arith, below, all, same, count)) in
+      let d = get_there (bodies left) id (omega (arith, below, all, same, count)) in
       (d.0, d.1, pruned.left_of id el d.0 is d.1)
 
   body_was : (id : ℕ) (d : Element) → slice_get (bodies left) id ≡ Some d →
@@ -53,7 +53,7 @@ module _ (has : ℕ → Bool) (rules left : List Rule) (pruned : ArePruned has r
       let all = length-map rules (λ rule. rule.body) in
       let same = length-map left (λ rule. rule.body) in
       let count = pruned.count in
-      let el = there (bodies rules) id (omega (arith, below, all, same, count)) in
+      let el = get_there (bodies rules) id (omega (arith, below, all, same, count)) in
       (el.0, el.1, pruned.left_of id el.0 d el.1 is)
 
   keeps_body : {el d : Element} → IsLeftBody has rules el d → IsProductive has rules el → Keeps has rules el d
@@ -73,14 +73,14 @@ module _ (has : ℕ → Bool) (rules left : List Rule) (pruned : ArePruned has r
   rule_forth {id = id} {w = w} letters r =
       let d = body_left id r.body r.is in
       let k = keeps_body d.2 (record { word = w; letters = letters; derives = r.derives }) in
-      record { body = d.0; is = d.1; derives = forth has rules left name_left r.derives letters k }
+      record { body = d.0; is = d.1; derives = kept_derives has rules left name_left r.derives letters k }
 
   rule_back : {id : ℕ} {w : List ℕ} → RuleDerives has left id w → RuleDerives has rules id w
   rule_back {id = id} {w = w} r = let el = body_was id r.body r.is in
       record { body = el.0; is = el.1; derives = by el.2 r.derives }
     where
       by : {el d : Element} → IsLeftBody has rules el d → Derives has left d w → Derives has rules el w
-      by (left_body k) d = back has rules left name_left d k
+      by (left_body k) d = derives_back has rules left name_left d k
       by (no_body not) d = absurd (no_prose has left d)
 
   -- what is kept has productive parts alone
@@ -89,29 +89,29 @@ module _ (has : ℕ → Bool) (rules left : List Rule) (pruned : ArePruned has r
       let p = keeps_productive has rules k in record {
         word = p.word;
         letters = p.letters;
-        derives = forth has rules left name_left p.derives p.letters k;
+        derives = kept_derives has rules left name_left p.derives p.letters k;
       }
 
   mutual
-    lives : {el d : Element} → Keeps has rules el d → IsLive has left d
-    lives (keep_text letters) = live_text (still_productive (keep_text letters))
-    lives (keep_values letters) = live_values (still_productive (keep_values letters))
-    lives (keep_range some) = live_range (still_productive (keep_range some))
-    lives (keep_concat ks) = live_concat (all_live ks)
-    lives (keep_alt p ks) = live_alt (some_live ks)
-    lives (keep_rep within k) = live_rep within (still_productive k) (lives k)
-    lives (empty_rep not) = live_concat no_live
-    lives (keep_opt k) = live_opt (lives k)
-    lives (empty_opt not) = live_concat no_live
-    lives (keep_name p) = live_name (still_productive (keep_name p))
+    keeps_live : {el d : Element} → Keeps has rules el d → IsLive has left d
+    keeps_live (keep_text letters) = live_text (still_productive (keep_text letters))
+    keeps_live (keep_values letters) = live_values (still_productive (keep_values letters))
+    keeps_live (keep_range some) = live_range (still_productive (keep_range some))
+    keeps_live (keep_concat ks) = live_concat (all_live ks)
+    keeps_live (keep_alt p ks) = live_alt (some_live ks)
+    keeps_live (keep_rep within k) = live_rep within (still_productive k) (keeps_live k)
+    keeps_live (empty_rep not) = live_concat no_live
+    keeps_live (keep_opt k) = live_opt (keeps_live k)
+    keeps_live (empty_opt not) = live_concat no_live
+    keeps_live (keep_name p) = live_name (still_productive (keep_name p))
 
     all_live : {es ds : e.Elements} → KeepsAll has rules es ds → AreLive has left ds
     all_live keep_none = no_live
-    all_live (keep_more k ks) = more_live (still_productive k) (lives k) (all_live ks)
+    all_live (keep_more k ks) = more_live (still_productive k) (keeps_live k) (all_live ks)
 
     some_live : {es ds : e.Elements} → KeepsSome has rules es ds → AreLive has left ds
     some_live some_none = no_live
-    some_live (kept k ks) = more_live (still_productive k) (lives k) (some_live ks)
+    some_live (kept k ks) = more_live (still_productive k) (keeps_live k) (some_live ks)
     some_live (dropped not ks) = some_live ks
 
   live_bodies : (judged : ℕ) {el d : Element} → slice_get (bodies left) judged ≡ Some d → Keeps has rules el d
@@ -119,11 +119,11 @@ module _ (has : ℕ → Bool) (rules left : List Rule) (pruned : ArePruned has r
   live_bodies judged {el = el} {d = d} is k = record {
     named = λ n b found p. let was = body_was (id_of rules n) b (sym (at_id n) ∙ found) in by was.2 p;
     whole = λ b here. let same : d ≡ b = cc (is, here) in
-        let kb = subst (λ v. Keeps has rules el v) same k in (still_productive kb, lives kb);
+        let kb = subst (λ v. Keeps has rules el v) same k in (still_productive kb, keeps_live kb);
   }
     where
       by : {c b : Element} → IsLeftBody has rules c b → IsProductive has left b → IsLive has left b
-      by (left_body kb) p = lives kb
+      by (left_body kb) p = keeps_live kb
       by (no_body not) p = absurd (no_prose has left p.derives)
 
   module _ (judged : ℕ) (flat : Flat) (lowered : IsLowered left judged flat) where
@@ -142,9 +142,10 @@ module _ (has : ℕ → Bool) (rules left : List Rule) (pruned : ArePruned has r
         → slice_get flat.nodes m ≡ Some Nothing
     is_nothing (spells is shows_prose) = is
 
-    viable : (x : List ℕ) (n : ℕ) → length x ≤ flat.limit → AreLetters has x → 0 < n → n ≤ length x → HasItem flat x n
+    viable_exactly : (x : List ℕ) (n : ℕ) → length x ≤ flat.limit → AreLetters has x → 0 < n → n ≤ length x
+        → HasItem flat x n
         ↔ BeginsMember has rules judged x n
-    viable x n line letters past le = by was.2 body.2 body.1
+    viable_exactly x n line letters past le = by was.2 body.2 body.1
       where
         body : (d : Element) × (slice_get (bodies left) judged ≡ Some d)
             × Spells left flat.limit flat.nodes lowered.body d
@@ -169,9 +170,9 @@ module _ (has : ℕ → Bool) (rules left : List Rule) (pruned : ArePruned has r
     pub tells_beginnings : TellsBeginnings has rules judged flat
     tells_beginnings = record {
       tells = λ x line letters.
-          let exact = exactly has left judged flat lowered x line letters in
+          let exact = derives_exactly has left judged flat lowered x line letters in
           ((λ h. rule_back (exact.0 h)), (λ d. exact.1 (rule_forth letters d)));
-      viable = viable;
+      viable = viable_exactly;
     }
 
 -- the same rules derive the empty list, whatever the letters
@@ -187,7 +188,7 @@ null_alike has rules left pruned = record {
 -- the bodies have no more places
 body_sized : (has : ℕ → Bool) (rules : List Rule) (limit : ℕ) {el d : Element} → IsLeftBody has rules el d
     → size limit d ≤ size limit el
-body_sized has rules limit (left_body k) = sized has rules limit k
+body_sized has rules limit (left_body k) = keeps_sized has rules limit k
 body_sized has rules limit (no_body not) = omega arith
 
 sizes_less : (limit : ℕ) (els ds : List Element) → length ds ≡ length els →

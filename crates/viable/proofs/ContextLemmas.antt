@@ -19,9 +19,9 @@ use Rattle.flatgrammar.specs.Lowered.{Spells, spells, Shows, shows_name, shows_c
 use Rattle.flatgrammar.specs.Lowered.{IsLowered}
 use Rattle.flatgrammar.specs.Places.{width}
 use Rattle.flatgrammar.specs.ToldBeginnings.{HasItem}
-use Rattle.flatgrammar.proofs.OnLineLemmas.{short}
+use Rattle.flatgrammar.proofs.OnLineLemmas.{short_on_line}
 use Rattle.flatgrammar.proofs.PlacesLemmas.{holds_place, calling_within}
-use Rattle.flatgrammar.proofs.ReachedLemmas.{Reached, sound}
+use Rattle.flatgrammar.proofs.ReachedLemmas.{Reached, holds_reached}
 use Rattle.flatgrammar.proofs.RuleNodeLemmas.{body_of_number}
 use Rattle.viable.specs.Pruned.{IsProductive}
 use Rattle.viable.proofs.LiveLemmas.{IsLive, live_concat, live_name, no_live, more_live, goes_on, part_of}
@@ -156,7 +156,7 @@ module _ (has : ℕ → Bool) (rules : List Rule) (judged : ℕ) (flat : Flat) (
       context = by context.spelled
     where
       reached : Reached has rules flat.limit flat lowered.spelled x letters line i j (at u k)
-      reached = sound has rules flat.limit flat lowered.spelled x letters line h
+      reached = holds_reached has rules flat.limit flat lowered.spelled x letters line h
 
       by : Spells rules flat.limit flat.nodes u context.el → Context j t
       by (spells {node = node} is shown) =
@@ -164,7 +164,7 @@ module _ (has : ℕ → Bool) (rules : List Rule) (judged : ℕ) (flat : Flat) (
           let call = subst (λ v. Calling v k callee l) same c in
           let part = part_of has rules flat.limit flat.nodes call shown context.alive
           (reached.part node context.el is shown)
-          (let few = short x reached.lies in omega (arith, few, line)) in
+          (let few = short_on_line x reached.lies in omega (arith, few, line)) in
           let inside = goes_into st part.spelled part.live in
           record {
             el = inside.of;
@@ -202,7 +202,7 @@ module _ (has : ℕ → Bool) (rules : List Rule) (judged : ℕ) (flat : Flat) (
           place = holds_place flat held
 
           reached : Reached has rules flat.limit flat lowered.spelled x letters line i j (at s k)
-          reached = sound has rules flat.limit flat lowered.spelled x letters line held
+          reached = holds_reached has rules flat.limit flat lowered.spelled x letters line held
 
           there : Context i s
           there = context_at held

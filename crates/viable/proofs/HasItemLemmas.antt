@@ -21,7 +21,8 @@ use Rattle.flatgrammar.specs.Lowered.{SpellAll, spell_none, spell_more, AreBodie
 use Rattle.flatgrammar.specs.ToldBeginnings.{HasItem}
 use Rattle.flatgrammar.proofs.BeforeLemmas.{Fit, fit_none, fit_more, text_fits, values_fit, Turned, turned_none}
 use Rattle.flatgrammar.specs.NullElements.{IsNeverEmpty}
-use Rattle.flatgrammar.proofs.NodeRunsLemmas.{next_of, turn_on, take_on, within_same, fewer, run, call_step, plain}
+use Rattle.flatgrammar.proofs.NodeRunsLemmas.{next_of, turn_on, take_on, within_same, fewer_within}
+use Rattle.flatgrammar.proofs.NodeRunsLemmas.{node_runs, call_step, plain_node}
 use Rattle.flatgrammar.proofs.CappedMostLemmas.{most_is}
 use Rattle.flatgrammar.proofs.OnLineLemmas.{lies_count}
 use Rattle.abnfcheck.proofs.RuleIdLemmas.{body_at_id}
@@ -73,23 +74,23 @@ module _ (has : ℕ → Bool) (rules : List Rule) (limit : ℕ) (flat : Flat)
   some_letter {w = c ∷ w} never d = omega arith
 
   mutual
-    pub reach : {el : Element} {v : List ℕ} → Derives has rules el v → (s i j : ℕ) → j ≤ length x
+    pub item_reached : {el : Element} {v : List ℕ} → Derives has rules el v → (s i j : ℕ) → j ≤ length x
         → Spells rules limit flat.nodes s el → (u r : List ℕ) → v ≡ u ++ r → Lies x i u j →
         ((p : Place) → Starts flat s p → Holds flat x i p i) → HasItem flat x j
-    reach (der.text {w = w} d) s i j le (spells is (shows_text {sets = sets} same)) u r cut l begin =
+    item_reached (der.text {w = w} d) s i j le (spells is (shows_text {sets = sets} same)) u r cut l begin =
         reach_letters s sets is (subst (λ v. Fit v w) (sym same) (text_fits d)) 0 i j i refl u r cut l
         (begin (at s 0) (starts is Begins.letters))
-    reach (der.values {vs = vs} letters) s i j le (spells is (shows_values {sets = sets} same)) u r cut l begin =
+    item_reached (der.values {vs = vs} letters) s i j le (spells is (shows_values {sets = sets} same)) u r cut l begin =
         reach_letters s sets is (subst (λ v. Fit v vs) (sym same) (values_fit vs)) 0 i j i refl u r cut l
         (begin (at s 0) (starts is Begins.letters))
-    reach (der.range low high letter) s i j le (spells is shows_range) u r cut l begin =
+    item_reached (der.range low high letter) s i j le (spells is shows_range) u r cut l begin =
         reach_letters s _ is (fit_more (low, high) fit_none) 0 i j i refl u r cut l
         (begin (at s 0) (starts is Begins.letters))
-    reach (der.concat d) s i j le (spells is (shows_concat {ms = ms} all)) u r cut l begin =
+    item_reached (der.concat d) s i j le (spells is (shows_concat {ms = ms} all)) u r cut l begin =
         reach_all d all s ms is 0 i j i le refl u r cut l (begin (at s 0) (starts is Begins.concat))
-    reach (der.alt d) s i j le (spells is (shows_alt {ms = ms} all)) u r cut l begin =
+    item_reached (der.alt d) s i j le (spells is (shows_alt {ms = ms} all)) u r cut l begin =
         reach_some d all s ms is 0 i j le refl u r cut l begin
-    reach (der.rep {k = count} {b = b} low within d) s i j le
+    item_reached (der.rep {k = count} {b = b} low within d) s i j le
         (spells is (shows_rep {c = c} {m = m} {d = d'} least most never sp)) u r cut l begin =
         reach_times d s c m b d' most is sp never 0 0 i j i le (turned_none c d') (from_none count b within)
         (omega arith) u r cut l (begin (at s 0) (starts is Begins.rep))
@@ -97,9 +98,9 @@ module _ (has : ℕ → Bool) (rules : List Rule) (limit : ℕ) (flat : Flat)
         from_none : (k : ℕ) (b : Option ℕ) → der.Within k b → der.Within (0 + k) b
         from_none k None h = tt
         from_none k (Some b) h = omega (arith, h)
-    reach (der.rep low within d) s i j le (spells is (shows_reversed lt)) u r cut l begin =
+    item_reached (der.rep low within d) s i j le (spells is (shows_reversed lt)) u r cut l begin =
         absurd (omega (arith, low, within, lt))
-    reach (der.rep {k = count} low within d) s i j le
+    item_reached (der.rep {k = count} low within d) s i j le
         (spells is (shows_turns {m = m} {b = b} {d = d'} most some empty sp)) u r cut l begin =
         reach_turns d s m b d' most is sp 0 0 i j i le (turned_none 0 d') (none_within d') (from_none count b within)
         (omega arith) u r cut l (begin (at s 0) (starts is Begins.turns))
@@ -111,15 +112,16 @@ module _ (has : ℕ → Bool) (rules : List Rule) (limit : ℕ) (flat : Flat)
         none_within : (d : Option ℕ) → der.Within 0 d
         none_within None = tt
         none_within (Some d) = omega arith
-    reach der.opt_empty s i j le (spells is (shows_opt sp)) u r cut l begin =
+    item_reached der.opt_empty s i j le (spells is (shows_opt sp)) u r cut l begin =
         ended_item u r j cut l (begin (at s 1) (starts is Begins.opt_empty))
-    reach (der.opt d) s i j le (spells is (shows_opt {m = m} sp)) u r cut l begin =
-        reach d m i j le sp u r cut l (λ p st. called (begin (at s 0) (starts is Begins.opt))
+    item_reached (der.opt d) s i j le (spells is (shows_opt {m = m} sp)) u r cut l begin =
+        item_reached d m i j le sp u r cut l (λ p st. called (begin (at s 0) (starts is Begins.opt))
         (calls is Calling.operand) st)
-    reach (der.name {e = el} found d) s i j le (spells is (shows_name {n = n} {r = q} number_is)) u r cut l begin =
+    item_reached (der.name {e = el} found d) s i j le (spells is (shows_name {n = n} {r = q} number_is)) u r cut l
+        begin =
         let h = node_of_rule rules limit flat.nodes flat.bodies bodies q el
         (subst (λ v. slice_get (e.bodies rules) v ≡ Some el) (sym number_is) (sym (body_at_id rules n) ∙ found)) in
-        reach d h.node i j le h.spelled u r cut l (λ p st. begin p (name_starts is h.at st))
+        item_reached d h.node i j le h.spelled u r cut l (λ p st. begin p (name_starts is h.at st))
 
     reach_all : {es : Elements} {v : List ℕ} {left : List ℕ} → DerivesAll has rules es v
         → SpellAll rules limit flat.nodes left es →
@@ -133,10 +135,11 @@ module _ (has : ℕ → Bool) (rules : List Rule) (limit : ℕ) (flat : Flat)
         (λ behind.
         let at_mid = path_splits (OnLine x) w (subst (λ z. Lies x i z j) behind.1 l) in
         let once = call_step has rules limit flat bodies x line (calls is (Calling.member n.is))
-        (plain has rules limit flat bodies x line is (λ t. elim t [ ]))
-        (run has rules limit flat bodies x line d m i at_mid.mid sp at_mid.left) o h in
+        (plain_node has rules limit flat bodies x line is (λ t. elim t [ ]))
+        (node_runs has rules limit flat bodies x line d m i at_mid.mid sp at_mid.left) o h in
         reach_all ds all s ms is (k + 1) at_mid.mid j o le n.rest behind.0 r behind.2 at_mid.right once)
-        (λ inside. reach d m i j le sp u inside.0 inside.1 l (λ p st. called h (calls is (Calling.member n.is)) st))
+        (λ inside. item_reached d m i j le sp u inside.0 inside.1 l
+            (λ p st. called h (calls is (Calling.member n.is)) st))
         (append_splits w v u r cut)
 
     reach_some : {es : Elements} {v left : List ℕ} → DerivesSome has rules es v
@@ -146,7 +149,7 @@ module _ (has : ℕ → Bool) (rules : List Rule) (limit : ℕ) (flat : Flat)
         ((p : Place) → Starts flat s p → Holds flat x i p i) → HasItem flat x j
     reach_some (this d) (spell_more {m = m} sp all) s ms is k i j le left u r cut l begin =
         let n = next_of ms k left in
-        reach d m i j le sp u r cut l (λ p st. called (begin (at s k) (starts is (Begins.alt n.below)))
+        item_reached d m i j le sp u r cut l (λ p st. called (begin (at s k) (starts is (Begins.alt n.below)))
         (calls is (Calling.alternative n.is)) st)
     reach_some (later d) (spell_more sp all) s ms is k i j le left u r cut l begin =
         let n = next_of ms k left in reach_some d all s ms is (k + 1) i j le n.rest u r cut l begin
@@ -167,11 +170,11 @@ module _ (has : ℕ → Bool) (rules : List Rule) (limit : ℕ) (flat : Flat)
         let long = lies_count x at_mid.left in
         let some = some_letter never e in
         let once = call_step has rules limit flat bodies x line (calls is n.calling)
-        (plain has rules limit flat bodies x line is (λ t. elim t [ ]))
-        (run has rules limit flat bodies x line e m i at_mid.mid sp at_mid.left) o h in
+        (plain_node has rules limit flat bodies x line is (λ t. elim t [ ]))
+        (node_runs has rules limit flat bodies x line e m i at_mid.mid sp at_mid.left) o h in
         reach_times ds s c m b d most is sp never (suc t) n.to at_mid.mid j o le n.turned (within_same t k b within)
         (omega (arith, few, long, some)) behind.0 r behind.2 at_mid.right once)
-        (λ inside. reach e m i j le sp u inside.0 inside.1 l (λ p st. called h (calls is n.calling) st))
+        (λ inside. item_reached e m i j le sp u inside.0 inside.1 l (λ p st. called h (calls is n.calling) st))
         (append_splits w v u r cut)
 
     reach_turns : {el : Element} {count : ℕ} {v : List ℕ} → DerivesTimes has rules el count v
@@ -181,7 +184,7 @@ module _ (has : ℕ → Bool) (rules : List Rule) (limit : ℕ) (flat : Flat)
         (u r : List ℕ) → v ≡ u ++ r → Lies x i u j → Holds flat x i (at s f) o → HasItem flat x j
     reach_turns no_more s m b d most is sp t f i j o le turned counted within few u r cut l h = ended_item u r j cut l h
     reach_turns (one_more {k = k} {w = []} e ds) s m b d most is sp t f i j o le turned counted within few u r cut l h =
-        reach_turns ds s m b d most is sp t f i j o le turned counted (fewer t k b within) few u r cut l h
+        reach_turns ds s m b d most is sp t f i j o le turned counted (fewer_within t k b within) few u r cut l h
     reach_turns (one_more {w = c ∷ w} e ds) s m b d most is sp t f i j o le turned counted within few u r cut here h =
         record { place = at s f; origin = o; held = h }
     reach_turns (one_more {k = k} {w = c ∷ w} {v = v} e ds) s m b d most is sp t f i j o le turned counted within few
@@ -194,10 +197,10 @@ module _ (has : ℕ → Bool) (rules : List Rule) (limit : ℕ) (flat : Flat)
         let long = lies_count x at_mid.left in
         let once = call_step has rules limit flat bodies x line (calls is n.calling)
         (λ t. let lt : i < at_mid.mid = omega (arith, long) in lt)
-        (run has rules limit flat bodies x line e m i at_mid.mid sp at_mid.left) o h in
+        (node_runs has rules limit flat bodies x line e m i at_mid.mid sp at_mid.left) o h in
         reach_turns ds s m b d most is sp (suc t) n.to at_mid.mid j o le n.turned n.within (within_same t k b within)
         (omega (arith, few, long)) behind.0 r behind.2 at_mid.right once)
-        (λ inside. reach e m i j le sp (a ∷ u) inside.0 inside.1 (step at_i l)
+        (λ inside. item_reached e m i j le sp (a ∷ u) inside.0 inside.1 (step at_i l)
         (λ p st. called h (calls is n.calling) st))
         (append_splits (c ∷ w) v (a ∷ u) r cut)
 
@@ -219,6 +222,6 @@ module _ (has : ℕ → Bool) (rules : List Rule) (judged : ℕ) (flat : Flat) (
       let h = node_of_rule rules flat.limit flat.nodes flat.bodies lowered.spelled judged d.body d.is in
       let same : h.node ≡ lowered.body = cc (h.at, lowered.body_is) in
       let front = subst (λ v. Lies x 0 (take j x) v) (length-take-le j x le) (front_lies x j (all_of (take j x))) in
-      reach has rules flat.limit flat lowered.spelled x line d.derives lowered.body 0 j le
+      item_reached has rules flat.limit flat lowered.spelled x line d.derives lowered.body 0 j le
       (subst (λ v. Spells rules flat.limit flat.nodes v d.body) same h.spelled) (take j x) b.rest refl front
       (λ p st. called (begins (starts lowered.whole Begins.concat)) (calls lowered.whole (Calling.member refl)) st)

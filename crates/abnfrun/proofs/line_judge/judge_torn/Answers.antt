@@ -2,7 +2,7 @@
 use Rattle.std.proofs.Common.{◌≡◌, arith, length, length-take-le}
 use Rattle.std.proofs.lemmas.List.{length-map}
 use Rattle.abnfread.specs.AbnfViews.{rules_of}
-use Rattle.abnfrun.proofs.IsAnswerToLemmas.{decoded, torn_answer}
+use Rattle.abnfrun.proofs.IsAnswerToLemmas.{decoded_as, torn_answer}
 use Rattle.abnfrun.proofs.SpellsLengthLemmas.{points_at_most}
 use Rattle.abnfrun.proofs.line_judge.judge_torn.Goals as goal
 use Rattle.letters.specs.Utf8Text.{number, numbers}
@@ -13,7 +13,7 @@ returns c =
     let points = numbers c.as_slice.result.now in
     let longest = c.utf8_len-len.ensures in
     let spelled = rw (← c.as_slice.ensures.value) at
-    (decoded _ _ _ c.in_ok-_is_text._is_text longest.text c.in_ok-_is_text.ensures.text
+    (decoded_as _ _ _ c.in_ok-_is_text._is_text longest.text c.in_ok-_is_text.ensures.text
     c.in_ok-_is_text.ensures.none) in
     let count : c.len.result ≡ length points = omega (
       arith,
@@ -30,7 +30,7 @@ pub judge_letters-requires-clause-within : goal.judge_letters-requires-clause-wi
 judge_letters-requires-clause-within c =
     let longest = c.utf8_len-len.ensures in
     let spelled = rw (← c.as_slice.ensures.value) at
-    (decoded _ _ _ c.in_ok-_is_text._is_text longest.text c.in_ok-_is_text.ensures.text
+    (decoded_as _ _ _ c.in_ok-_is_text._is_text longest.text c.in_ok-_is_text.ensures.text
     c.in_ok-_is_text.ensures.none) in
     let most = points_at_most spelled in
     let front = length-take-le c.utf8_len-len.result c.args.line.now longest.within in

@@ -1,7 +1,7 @@
 use Rattle.std.proofs.Common.{◌≡◌, ◌<◌, ◌++◌, length, arith, sym, ◌∙◌}
 use Rattle.cells.specs.CellEntries.{IsKept}
 use Rattle.std.proofs.Common.{take, drop, take_all}
-use Rattle.cells.proofs.AreLinkedLemmas.{zeros}
+use Rattle.cells.proofs.AreLinkedLemmas.{replicate_is_zero}
 use Rattle.cells.proofs.IsKeptLemmas.{IsKept-more, IsKept-relinked, take-whole}
 use Rattle.cells.proofs.map.grow.Goals as goal
 
@@ -16,7 +16,7 @@ returns-then-number-cells-clause-kept c =
     let w : c.args.number < c.beyond.result = c.beyond.ensures.within in
     let s : 0 < length c.resize.new.self.items = let l = c.in_ok-resize.ensures.len in let o = c.resize.new.self.ok.0 in
     omega arith in
-    rw i (IsKept-more c.args.stride c.args.cells.now c.args.rows.now.items _ (zeros _) k (rw i at s))
+    rw i (IsKept-more c.args.stride c.args.cells.now c.args.rows.now.items _ (replicate_is_zero _) k (rw i at s))
 
 pub returns-clause-kept : goal.returns-clause-kept
 returns-clause-kept c =

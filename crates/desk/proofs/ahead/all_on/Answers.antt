@@ -1,8 +1,9 @@
-use Rattle.desk.proofs.IsOnLemmas.{stays, next_child, member_free, member_fails, member_takes, member_halts, all_taken}
+use Rattle.desk.proofs.IsOnLemmas.{come_stays, next_child, member_free, member_fails}
+use Rattle.desk.proofs.IsOnLemmas.{member_takes, member_halts, all_taken}
 use Rattle.desk.proofs.ahead.all_on.Goals as goal
 
 pub loop-i-init : goal.loop-i-init
-loop-i-init c = λ below fits. stays _ _ _ c.start-start.ensures.sound _ _ _ fits
+loop-i-init c = λ below fits. come_stays _ _ _ c.start-start.ensures.sound _ _ _ fits
 
 pub see-requires-clause-spells : goal.see-requires-clause-spells
 see-requires-clause-spells c = (next_child _ _ _ c.start-start.ensures.sound c.requires.fits.0 _ _ _ _ _

@@ -1,9 +1,9 @@
-use Rattle.desk.proofs.IsOnLemmas.{stays, other_child, alternative_free, alternative_takes, alternative_fails}
+use Rattle.desk.proofs.IsOnLemmas.{come_stays, other_child, alternative_free, alternative_takes, alternative_fails}
 use Rattle.desk.proofs.IsOnLemmas.{alternative_halts, all_failed}
 use Rattle.desk.proofs.ahead.first_on.Goals as goal
 
 pub loop-i-init : goal.loop-i-init
-loop-i-init c = λ below fits. stays _ _ _ c.start-start.ensures.sound _ _ _ fits
+loop-i-init c = λ below fits. come_stays _ _ _ c.start-start.ensures.sound _ _ _ fits
 
 pub see-requires-clause-spells : goal.see-requires-clause-spells
 see-requires-clause-spells c = (other_child _ _ _ c.start-start.ensures.sound c.requires.fits.0 _ _ _ _ _

@@ -4,7 +4,8 @@ use Rattle.gramcheck.specs.Nodes.{shape_of, shapes_of}
 use Rattle.gramcheck.proofs.NodeSpellsLemmas.{is_there}
 use Rattle.pegmatch.proofs.NodeShapeLemmas.{shape_at}
 use Rattle.desk.proofs.IsNextLemmas.{at_top}
-use Rattle.desk.proofs.IsOnLemmas.{stays, child, halts, asks_name, name_on, asks_star, star_on, star_again, asks_plus}
+use Rattle.desk.proofs.IsOnLemmas.{come_stays, child_visited, halts_on, asks_name, name_on, asks_star}
+use Rattle.desk.proofs.IsOnLemmas.{star_on, star_again, asks_plus}
 use Rattle.desk.proofs.IsOnLemmas.{plus_on, plus_again, asks_opt, opt_on, asks_and, and_on, asks_not, not_on}
 use Rattle.desk.proofs.TowerLemmas.{byte_at}
 use Rattle.desk.proofs.ahead.turn_on.Goals as goal
@@ -31,7 +32,7 @@ body_node-body-requires c =
 
 pub see-requires-clause-spells : goal.see-requires-clause-spells
 see-requires-clause-spells c =
-    (child _ _ _ c.start-start.ensures.sound _ _ _ c.requires.fits.1 _ _
+    (child_visited _ _ _ c.start-start.ensures.sound _ _ _ c.requires.fits.1 _ _
     (asks_name _ _ _ c.start-start.ensures.sound _ _ _ c.requires.fits.1 _ _
     (shape_at c.args.peg.now.nodes c.args.top.node _ (c.node.ensures ∙ ap Some c.in-Name.is))
     c.body_node-body.ensures)).spelled
@@ -47,13 +48,13 @@ returns-in-Ok c = λ below fits. rw c.same.ensures
 
 pub returns-in-Err : goal.returns-in-Err
 returns-in-Err c = λ below fits.
-    halts _ _ _ c.start-start.ensures.sound below _ _ fits _ _
+    halts_on _ _ _ c.start-start.ensures.sound below _ _ fits _ _
     (asks_name _ _ _ c.start-start.ensures.sound below _ _ fits _ _
     (shape_at c.args.peg.now.nodes c.args.top.node _ (c.node.ensures ∙ ap Some c.in-Name.is))
     c.body_node-body.ensures) c.see.new.cells c.in-Err.halt c.in-Err.ensures
 
 pub see-requires-in-Star-clause-spells : goal.see-requires-in-Star-clause-spells
-see-requires-in-Star-clause-spells c = (child _ _ _ c.start-start.ensures.sound _ _ _ c.requires.fits.1 _ _
+see-requires-in-Star-clause-spells c = (child_visited _ _ _ c.start-start.ensures.sound _ _ _ c.requires.fits.1 _ _
     (asks_star _ _ _ c.start-start.ensures.sound _ _ _ c.requires.fits.1 _
     (shape_at c.args.peg.now.nodes c.args.top.node _ (c.node.ensures ∙ ap Some c.in-Star.is)))).spelled
 
@@ -67,13 +68,13 @@ returns-in-Ok-see c = λ below fits. rw c.star.ensures
 
 pub returns-in-Err-see : goal.returns-in-Err-see
 returns-in-Err-see c = λ below fits.
-    halts _ _ _ c.start-start.ensures.sound below _ _ fits _ _
+    halts_on _ _ _ c.start-start.ensures.sound below _ _ fits _ _
     (asks_star _ _ _ c.start-start.ensures.sound below _ _ fits _
     (shape_at c.args.peg.now.nodes c.args.top.node _ (c.node.ensures ∙ ap Some c.in-Star.is)))
     c.see-in-Star.new.cells c.in-Err-see.halt c.in-Err-see.ensures
 
 pub see-requires-in-Plus-clause-spells : goal.see-requires-in-Plus-clause-spells
-see-requires-in-Plus-clause-spells c = (child _ _ _ c.start-start.ensures.sound _ _ _ c.requires.fits.1 _ _
+see-requires-in-Plus-clause-spells c = (child_visited _ _ _ c.start-start.ensures.sound _ _ _ c.requires.fits.1 _ _
     (asks_plus _ _ _ c.start-start.ensures.sound _ _ _ c.requires.fits.1 _ _
     (shape_at c.args.peg.now.nodes c.args.top.node _ (c.node.ensures ∙ ap Some c.in-Plus.is)))).spelled
 
@@ -87,13 +88,13 @@ returns-in-Ok-see-2 c = λ below fits. rw c.plus.ensures
 
 pub returns-in-Err-see-2 : goal.returns-in-Err-see-2
 returns-in-Err-see-2 c = λ below fits.
-    halts _ _ _ c.start-start.ensures.sound below _ _ fits _ _
+    halts_on _ _ _ c.start-start.ensures.sound below _ _ fits _ _
     (asks_plus _ _ _ c.start-start.ensures.sound below _ _ fits _ _
     (shape_at c.args.peg.now.nodes c.args.top.node _ (c.node.ensures ∙ ap Some c.in-Plus.is)))
     c.see-in-Plus.new.cells c.in-Err-see-2.halt c.in-Err-see-2.ensures
 
 pub see-requires-in-Opt-clause-spells : goal.see-requires-in-Opt-clause-spells
-see-requires-in-Opt-clause-spells c = (child _ _ _ c.start-start.ensures.sound _ _ _ c.requires.fits.1 _ _
+see-requires-in-Opt-clause-spells c = (child_visited _ _ _ c.start-start.ensures.sound _ _ _ c.requires.fits.1 _ _
     (asks_opt _ _ _ c.start-start.ensures.sound _ _ _ c.requires.fits.1 _
     (shape_at c.args.peg.now.nodes c.args.top.node _ (c.node.ensures ∙ ap Some c.in-Opt.is)))).spelled
 
@@ -107,13 +108,13 @@ returns-in-Ok-see-3 c = λ below fits. rw c.opt.ensures
 
 pub returns-in-Err-see-3 : goal.returns-in-Err-see-3
 returns-in-Err-see-3 c = λ below fits.
-    halts _ _ _ c.start-start.ensures.sound below _ _ fits _ _
+    halts_on _ _ _ c.start-start.ensures.sound below _ _ fits _ _
     (asks_opt _ _ _ c.start-start.ensures.sound below _ _ fits _
     (shape_at c.args.peg.now.nodes c.args.top.node _ (c.node.ensures ∙ ap Some c.in-Opt.is))) c.see-in-Opt.new.cells
     c.in-Err-see-3.halt c.in-Err-see-3.ensures
 
 pub see-requires-in-And-clause-spells : goal.see-requires-in-And-clause-spells
-see-requires-in-And-clause-spells c = (child _ _ _ c.start-start.ensures.sound _ _ _ c.requires.fits.1 _ _
+see-requires-in-And-clause-spells c = (child_visited _ _ _ c.start-start.ensures.sound _ _ _ c.requires.fits.1 _ _
     (asks_and _ _ _ c.start-start.ensures.sound _ _ _ c.requires.fits.1 _
     (shape_at c.args.peg.now.nodes c.args.top.node _ (c.node.ensures ∙ ap Some c.in-And.is)))).spelled
 
@@ -127,13 +128,13 @@ returns-in-Ok-see-4 c = λ below fits. rw c.and.ensures
 
 pub returns-in-Err-see-4 : goal.returns-in-Err-see-4
 returns-in-Err-see-4 c = λ below fits.
-    halts _ _ _ c.start-start.ensures.sound below _ _ fits _ _
+    halts_on _ _ _ c.start-start.ensures.sound below _ _ fits _ _
     (asks_and _ _ _ c.start-start.ensures.sound below _ _ fits _
     (shape_at c.args.peg.now.nodes c.args.top.node _ (c.node.ensures ∙ ap Some c.in-And.is))) c.see-in-And.new.cells
     c.in-Err-see-4.halt c.in-Err-see-4.ensures
 
 pub see-requires-in-Not-clause-spells : goal.see-requires-in-Not-clause-spells
-see-requires-in-Not-clause-spells c = (child _ _ _ c.start-start.ensures.sound _ _ _ c.requires.fits.1 _ _
+see-requires-in-Not-clause-spells c = (child_visited _ _ _ c.start-start.ensures.sound _ _ _ c.requires.fits.1 _ _
     (asks_not _ _ _ c.start-start.ensures.sound _ _ _ c.requires.fits.1 _
     (shape_at c.args.peg.now.nodes c.args.top.node _ (c.node.ensures ∙ ap Some c.in-Not.is)))).spelled
 
@@ -147,7 +148,7 @@ returns-in-Ok-see-5 c = λ below fits. rw c.not.ensures
 
 pub returns-in-Err-see-5 : goal.returns-in-Err-see-5
 returns-in-Err-see-5 c = λ below fits.
-    halts _ _ _ c.start-start.ensures.sound below _ _ fits _ _
+    halts_on _ _ _ c.start-start.ensures.sound below _ _ fits _ _
     (asks_not _ _ _ c.start-start.ensures.sound below _ _ fits _
     (shape_at c.args.peg.now.nodes c.args.top.node _ (c.node.ensures ∙ ap Some c.in-Not.is))) c.see-in-Not.new.cells
     c.in-Err-see-5.halt c.in-Err-see-5.ensures
@@ -162,7 +163,8 @@ pub next_turn-requires-clause-come : goal.next_turn-requires-clause-come
 next_turn-requires-clause-come c = (at_top _ _ _ c.start-start.ensures.sound _ _ _ c.requires.fits.1).come
 
 pub returns-in_default : goal.returns-in_default
-returns-in_default c = λ below fits. (_, _, stays _ _ _ c.start-start.ensures.sound below _ _ fits, c.next_turn.ensures)
+returns-in_default c =
+    λ below fits. (_, _, come_stays _ _ _ c.start-start.ensures.sound below _ _ fits, c.next_turn.ensures)
 
 pub returns-then-top-gt0 : goal.returns-then-top-gt0
 returns-then-top-gt0 c = λ below fits. rw c.again.ensures
@@ -176,7 +178,7 @@ returns-then-top-gt0-2 c = λ below fits. rw c.again-then-top-gt0-2.ensures
 
 pub node-requires-in-Star : goal.node-requires-in-Star
 node-requires-in-Star c =
-    let operand = child _ _ _ c.start-start.ensures.sound _ _ _ c.requires.fits.1 _ _
+    let operand = child_visited _ _ _ c.start-start.ensures.sound _ _ _ c.requires.fits.1 _ _
     (asks_star _ _ _ c.start-start.ensures.sound _ _ _ c.requires.fits.1 _
     (shape_at c.args.peg.now.nodes c.args.top.node _ (c.node.ensures ∙ ap Some c.in-Star.is))) in
     let there = is_there _ _ operand.spelled.1 in

@@ -1,7 +1,8 @@
 use Rattle.std.proofs.Common.{arith}
-use Rattle.desk.proofs.IsStepLemmas.{room}
+use Rattle.desk.proofs.IsStepLemmas.{room_for_one}
 use Rattle.desk.proofs.desk.one_more.Goals as goal
 
 pub overflow_add-result : goal.overflow_add-result
 overflow_add-result c =
-    omega (arith, room c.args.nodes c.args.length c.args.begun c.ranges.nodes.fits c.ranges.length.fits c.requires)
+    omega (arith, room_for_one c.args.nodes c.args.length c.args.begun c.ranges.nodes.fits c.ranges.length.fits
+        c.requires)

@@ -2,7 +2,8 @@ use Rattle.std.proofs.Common.{refl}
 use Rattle.std.proofs.lemmas.Bool.{both_ways}
 use Rattle.std.proofs.lemmas.List.{length-map}
 use Rattle.gramcheck.specs.Nodes.{shape_of}
-use Rattle.desk.proofs.IsStepLemmas.{read_top, some_frame, is_top, fits_at_most, pushed, dropped, ended, ended_step}
+use Rattle.desk.proofs.IsStepLemmas.{read_top, some_frame, is_top, fits_at_most, pushed_step}
+use Rattle.desk.proofs.IsStepLemmas.{dropped_step, ended_here, ended_step}
 use Rattle.desk.proofs.desk.step_on.Goals as goal
 
 pub next_turn-requires-clause-spells : goal.next_turn-requires-clause-spells
@@ -28,7 +29,7 @@ one_more-requires c =
 pub returns-in_ok-advance-in-Ask : goal.returns-in_ok-advance-in-Ask
 returns-in_ok-advance-in-Ask c =
     let is = read_top _ _ _ _ c.requires.frame.2 (c.top-top.ensures _ _ c.requires.frame.2) in
-    pushed _ _ _ c.start-start.ensures.sound _ _ _ _ _ _ _ _ c.requires.fits is c.in-Ask.ensures refl
+    pushed_step _ _ _ c.start-start.ensures.sound _ _ _ _ _ _ _ _ c.requires.fits is c.in-Ask.ensures refl
     (c.in_ok-advance-in-Ask.ensures _ _ is) c.one_more.ensures
 
 pub returns-then-is_empty : goal.returns-then-is_empty
@@ -36,7 +37,7 @@ returns-then-is_empty c =
     let is = read_top _ _ _ _ c.requires.frame.2 (c.top-top.ensures _ _ c.requires.frame.2) in
     rw c.ended.ensures
     (ended_step _ _ _ c.start-start.ensures.sound _ _ _ _
-    (ended _ _ _ c.start-start.ensures.sound _ _ _ _ _ c.requires.fits is c.in-Answer.ensures
+    (ended_here _ _ _ c.start-start.ensures.sound _ _ _ _ _ c.requires.fits is c.in-Answer.ensures
     c.in_ok-put-in-Answer.ensures.added (c.pop.ensures _ _ is) refl
     (c.is_empty.ensures.0 c.if-is_empty.true)) refl)
 
@@ -45,5 +46,5 @@ returns-else-is_empty c =
     let is = read_top _ _ _ _ c.requires.frame.2 (c.top-top.ensures _ _ c.requires.frame.2) in
     let some = some_frame c.pop.new.self (λ none. both_ways c.is_empty.result c.if-is_empty.false
     (c.is_empty.ensures.1 none)) in
-    dropped _ _ _ c.start-start.ensures.sound _ _ _ _ _ c.requires.fits is c.in-Answer.ensures
+    dropped_step _ _ _ c.start-start.ensures.sound _ _ _ _ _ c.requires.fits is c.in-Answer.ensures
     c.in_ok-put-in-Answer.ensures.added (c.pop.ensures _ _ is) refl _ _ some.2

@@ -6,7 +6,8 @@ use Rattle.gramcheck.proofs.NodeSpellsLemmas.{is_there}
 use Rattle.desk.specs.Desk.{beginning}
 use Rattle.desk.specs.Path.{Goes}
 use Rattle.desk.proofs.IsStepLemmas.{read_top}
-use Rattle.desk.proofs.WalksLemmas.{depth, last_at, leaves, emits, turns, goes_into, goes_then, goes_at, room_into}
+use Rattle.desk.proofs.WalksLemmas.{depth_at_most, last_at, walk_leaves, walk_emits, walk_turns, goes_into}
+use Rattle.desk.proofs.WalksLemmas.{goes_then, goes_at, room_into}
 use Rattle.desk.proofs.walk.go.Goals as goal
 
 pub next_way-requires-clause-there : goal.next_way-requires-clause-there
@@ -25,7 +26,7 @@ begin_at-requires-clause-spells c =
 
 pub begin_at-requires-clause-room : goal.begin_at-requires-clause-room
 begin_at-requires-clause-room c =
-    let deep = depth _ _ _ _ _ _ _ _ c.requires.walks.1 in
+    let deep = depth_at_most _ _ _ _ _ _ _ _ c.requires.walks.1 in
     let before = ap length c.requires.top.2 in
     let after = ap length (c.pop-in-TurnTo.ensures.frames _ _ c.requires.top.2) in
     omega (arith, deep, before, after, c.requires.room, c.pop-in-TurnTo.ensures.room)
@@ -51,14 +52,15 @@ returns-in-Leave-clause-goes c = λ all walks.
     let is = read_top _ _ _ _ c.requires.top.2 (c.top-top.ensures _ _ c.requires.top.2) in
     let last = last_at _ _ _ _ _ _ _ _ _ _ is walks in
     let way = c.in-Leave.ensures _ _ _ c.requires.cells.1 last.left in
-    goes_at _ _ _ _ _ _ _ _ _ _ _ _ is (rw (c.pop.ensures.frames _ _ is) (leaves _ _ _ _ _ _ _ _ all last way))
+    goes_at _ _ _ _ _ _ _ _ _ _ _ _ is (rw (c.pop.ensures.frames _ _ is) (walk_leaves _ _ _ _ _ _ _ _ all last way))
 
 pub returns-in-Emit-clause-goes : goal.returns-in-Emit-clause-goes
 returns-in-Emit-clause-goes c = λ all walks.
     let is = read_top _ _ _ _ c.requires.top.2 (c.top-top.ensures _ _ c.requires.top.2) in
     let last = last_at _ _ _ _ _ _ _ _ _ _ is walks in
     let way = c.in-Emit.ensures _ _ _ c.requires.cells.1 last.left in
-    goes_at _ _ _ _ _ _ _ _ _ _ _ _ is (rw (c.pop-in-Emit.ensures.frames _ _ is) (emits _ _ _ _ _ _ _ _ all last _ way))
+    goes_at _ _ _ _ _ _ _ _ _ _ _ _ is (rw (c.pop-in-Emit.ensures.frames _ _ is)
+        (walk_emits _ _ _ _ _ _ _ _ all last _ way))
 
 pub returns-in-TurnTo-clause-goes : goal.returns-in-TurnTo-clause-goes
 returns-in-TurnTo-clause-goes c = λ all walks.
@@ -68,7 +70,7 @@ returns-in-TurnTo-clause-goes c = λ all walks.
     let g : Goes (rules_of c.args.peg.now.rules) (shapes_of c.args.peg.now.nodes) c.args.peg.now.bodies
     c.args.peg.now.ranks c.args.window.now c.args.cells.now (c.top-top.result ∷ c.requires.top.1) None all
     (beginning c.in-TurnTo.node c.in-TurnTo.place ∷ c.pop-in-TurnTo.new.self.frames) =
-    rw (c.pop-in-TurnTo.ensures.frames _ _ is) (turns _ _ _ _ _ _ _ _ all last _ _ way) in
+    rw (c.pop-in-TurnTo.ensures.frames _ _ is) (walk_turns _ _ _ _ _ _ _ _ all last _ _ way) in
     goes_at _ _ _ _ _ _ _ _ _ _ _ _ is (goes_then _ _ _ _ _ _ _ _ _ _ _ g
     (c.begin_at.ensures.begins _ _ _ _ c.requires.cells.1 g.walks))
 

@@ -3,7 +3,7 @@ use Rattle.flatgrammar.specs.Places.{In}
 use Rattle.flatgrammar.specs.Blocks.{block_of}
 use Rattle.earley.specs.FrontViews.{expand}
 use Rattle.flatgrammar.proofs.InLemmas.{in_left}
-use Rattle.earley.proofs.BlockLemmas.{in_right, either}
+use Rattle.earley.proofs.BlockLemmas.{in_right, in_either}
 use Rattle.earley.proofs.chart.stands.Goals as goal
 
 pub returns-then-in_heads : goal.returns-then-in_heads
@@ -18,7 +18,7 @@ pub returns : goal.returns
 returns c = (
   (λ u. in_right (expand (block_of c.args.flat.now) c.args.number c.args.front.now.heads.items)
       (subst (λ v. In c.args.item v) c.deref-2.ensures.value (c.holds.ensures.0 u))),
-  (λ h. by (either (expand (block_of c.args.flat.now) c.args.number c.args.front.now.heads.items) h)),
+  (λ h. by (in_either (expand (block_of c.args.flat.now) c.args.number c.args.front.now.heads.items) h)),
 )
   where
     by : In c.args.item (expand (block_of c.args.flat.now) c.args.number c.args.front.now.heads.items)

@@ -6,7 +6,8 @@ use Rattle.earley.specs.ItemSets.{Adds}
 use Rattle.flatgrammar.specs.Blocks.{block_of, item_at}
 use Rattle.earley.specs.Chosen.{items_of, Calls, ReadsSome, AreChosen}
 use Rattle.earley.specs.FrontViews.{views, IsAsked, IsFurther}
-use Rattle.earley.proofs.FillLemmas.{measure, more_keeps, item_more, head_more, full_held, all_different, all_closed}
+use Rattle.earley.proofs.FillLemmas.{measure_falls, more_keeps, item_more, head_more}
+use Rattle.earley.proofs.FillLemmas.{full_held, all_different, all_closed}
 use Rattle.earley.proofs.AloneLemmas.{begin_all}
 use Rattle.earley.proofs.AreChosenLemmas.{chosen_next, chosen_still, chosen_end}
 use Rattle.earley.proofs.ExpandLemmas.{length_views}
@@ -16,7 +17,8 @@ use Rattle.earley.proofs.fill.fill.Goals as goal
 
 pub loop-item_index-smaller-then-item_index-len : goal.loop-item_index-smaller-then-item_index-len
 loop-item_index-smaller-then-item_index-len g c =
-    measure c.args.flat.now c.requires.roots c.requires.nulls c.requires.tables (map g.L.Letter.number c.args.line.now)
+    measure_falls c.args.flat.now c.requires.roots c.requires.nulls c.requires.tables
+        (map g.L.Letter.number c.args.line.now)
     (views c.args.flat.now 0 c.args.sets.now) c.requires.earlier
     c.loop-item_index.item_index c.loop-item_index.head_index (c.loop-item_index.item_index + 1)
     c.loop-item_index.head_index c.loop-item_index.heads c.loop-item_index.items c.loop-item_index.invariant.going
@@ -58,7 +60,8 @@ loop-item_index-preserved-then-item_index-len g c =
 
 pub loop-item_index-smaller : goal.loop-item_index-smaller
 loop-item_index-smaller g c =
-    measure c.args.flat.now c.requires.roots c.requires.nulls c.requires.tables (map g.L.Letter.number c.args.line.now)
+    measure_falls c.args.flat.now c.requires.roots c.requires.nulls c.requires.tables
+        (map g.L.Letter.number c.args.line.now)
     (views c.args.flat.now 0 c.args.sets.now) c.requires.earlier
     c.loop-item_index.item_index c.loop-item_index.head_index c.loop-item_index.item_index
     (c.loop-item_index.head_index + 1) c.loop-item_index.heads c.loop-item_index.items

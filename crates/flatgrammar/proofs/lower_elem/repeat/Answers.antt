@@ -1,9 +1,9 @@
 use Rattle.flatgrammar.specs.Lowered.{shows_rep, shows_turns}
-use Rattle.flatgrammar.proofs.IsEmptyRepeatLemmas.{reversed}
+use Rattle.flatgrammar.proofs.IsEmptyRepeatLemmas.{reversed_is_nothing}
 use Rattle.flatgrammar.proofs.lower_elem.repeat.Goals as goal
 
 pub returns-then-is_reversed-clause-shows : goal.returns-then-is_reversed-clause-shows
-returns-then-is_reversed-clause-shows c = λ rules nodes el told sp. reversed _ _ _ _ _ _
+returns-then-is_reversed-clause-shows c = λ rules nodes el told sp. reversed_is_nothing _ _ _ _ _ _
     (c.is_reversed.ensures.yes c.if-is_reversed.true)
 
 pub returns-then-made-clause-shows : goal.returns-then-made-clause-shows

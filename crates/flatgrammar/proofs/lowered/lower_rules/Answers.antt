@@ -11,17 +11,18 @@ number_bodies-requires-clause-marks c = rw c.deref.ensures.value
 
 pub new-requires-clause-ordered : goal.new-requires-clause-ordered
 new-requires-clause-ordered c =
-    o.ordered (rules_of c.args.rules.now) c.args.limit c.args.grammar.now.judged _ c.index.result.now _ _ _ _ _
+    o.are_ordered (rules_of c.args.rules.now) c.args.limit c.args.grammar.now.judged _ c.index.result.now _ _ _ _ _
     c.in_ok-bodies.ensures (sym (length-map c.args.rules.now.rules rule_of))
     c.in_ok-whole.ensures.nodes c.in_ok-members.ensures (rw c.judged-judged.ensures.id at c.index.ensures)
     (judged_there _ _ _ c.requires.alike c.judged-judged.ensures.sound.sound.judged_is_rule)
 
 pub new-requires-clause-within : goal.new-requires-clause-within
-new-requires-clause-within c = o.within _ c.args.limit _ _ _ _ _ c.in_ok-bodies.ensures c.in_ok-whole.ensures.nodes
+new-requires-clause-within c =
+    o.bodies_within _ c.args.limit _ _ _ _ _ c.in_ok-bodies.ensures c.in_ok-whole.ensures.nodes
 
 pub returns-clause-lowered : goal.returns-clause-lowered
 returns-clause-lowered c =
-    o.lowered (rules_of c.args.rules.now) c.args.limit c.args.grammar.now.judged _ _ _ c.index.result.now _ _ _ _ _
+    o.is_lowered (rules_of c.args.rules.now) c.args.limit c.args.grammar.now.judged _ _ _ c.index.result.now _ _ _ _ _
     c.in_ok-bodies.ensures (sym (length-map c.args.rules.now.rules rule_of))
     c.in_ok-whole.ensures.nodes c.in_ok-members.ensures c.in_ok-flat.ensures.nodes c.in_ok-flat.ensures.limit
     (rw c.judged-judged.ensures.id at c.index.ensures)
@@ -31,6 +32,6 @@ returns-clause-lowered c =
 
 pub returns-clause-places : goal.returns-clause-places
 returns-clause-places c =
-    o.sized (rules_of c.args.rules.now) c.args.limit c.args.grammar.now.judged _ c.in_ok-whole.whole _ 0 _ _ _ _
+    o.places_sized (rules_of c.args.rules.now) c.args.limit c.args.grammar.now.judged _ c.in_ok-whole.whole _ 0 _ _ _ _
     c.in_ok-flat.flat c.in_ok-bodies.ensures (sym (length-map c.args.rules.now.rules rule_of))
     c.in_ok-whole.ensures.nodes c.in_ok-members.ensures c.in_ok-flat.ensures.nodes

@@ -6,7 +6,7 @@ use Rattle.pegread.specs.PegViews.{rules_of}
 use Rattle.gramcheck.specs.Analysis.{IsAnalysed}
 use Rattle.gramcheck.specs.Nodes.{shapes_of}
 use Rattle.gramcheck.specs.GrammarNotes.{AreNotes, names_at}
-use Rattle.gramcheck.proofs.JudgeLemmas.{marks-recursive, marks-looping, own-ids, ranked, start-known, is-given}
+use Rattle.gramcheck.proofs.JudgeLemmas.{marks-recursive, marks-looping, own-ids, ranked_first, start-known, is-given}
 use Rattle.gramcheck.proofs.check.judge.Goals as goal
 
 module _ (c : goal.After-drop-found-4) where
@@ -33,7 +33,8 @@ returns-clause-notes c = notes c
 
 pub returns-clause-ranked : goal.returns-clause-ranked
 returns-clause-ranked c = λ passes first lt.
-    ranked (rules c) _ _ _ (notes c) passes _ _ _ _ _ _ (found c) c.in_ok-cut.ensures.bodies c.in_ok-cut.ensures.built
+    ranked_first (rules c) _ _ _ (notes c) passes _ _ _ _ _ _ (found c) c.in_ok-cut.ensures.bodies
+        c.in_ok-cut.ensures.built
     c.in_ok-cut.ensures.standing first lt
 
 pub returns-clause-given : goal.returns-clause-given

@@ -1,13 +1,13 @@
 -- What was found in the window, or was not.
 use Rattle.std.proofs.Common.{length, arith}
-use Rattle.lines.proofs.NextLineLemmas.{taken, found, not_found, without_fits, without_short}
+use Rattle.lines.proofs.NextLineLemmas.{held_taken, line_found, not_found, without_fits, without_short}
 use Rattle.lines.proofs.line.next_line.Goals as goal
 
 pub returns-in-Some-clause-follows : goal.returns-in-Some-clause-follows
 returns-in-Some-clause-follows g c = λ limit before input room a.
     let feed = c.fill-held.new.self in (
-      found feed limit before input room c.fill-held.ensures.within a c.in-Some.k c.in-Some.ensures,
-      taken feed limit before input room c.fill-held.ensures.within a c.fill-held.result c.fill-held.ensures.held,
+      line_found feed limit before input room c.fill-held.ensures.within a c.in-Some.k c.in-Some.ensures,
+      held_taken feed limit before input room c.fill-held.ensures.within a c.fill-held.result c.fill-held.ensures.held,
     )
 
 pub returns-in-Some-clause-fits : goal.returns-in-Some-clause-fits
@@ -25,7 +25,7 @@ returns-in-None-clause-follows g c = λ limit before input room a.
       rw (c.without_lf.ensures, c.len-len.ensures.len)
           (not_found feed limit before input room c.fill-held.ensures.within a c.in-None.ensures c.fill-held.result
           c.fill-held.ensures.held),
-      taken feed limit before input room c.fill-held.ensures.within a c.fill-held.result c.fill-held.ensures.held,
+      held_taken feed limit before input room c.fill-held.ensures.within a c.fill-held.result c.fill-held.ensures.held,
     )
 
 pub returns-in-None-clause-fits : goal.returns-in-None-clause-fits

@@ -5,7 +5,7 @@ use Rattle.gramcheck.specs.Ranks.{to_body, to_alternative, to_member, to_starred
 use Rattle.gramcheck.specs.Ranks.{to_denied}
 use Rattle.gramcheck.proofs.HasShapeLemmas.{has_shape}
 use Rattle.std.proofs.lemmas.List.Elements.{Contains-get_or}
-use Rattle.pegmatch.proofs.OperandLemmas.{falls_to, falls_at, falls_on, member_of_seq, member_of_choice, onward}
+use Rattle.pegmatch.proofs.OperandLemmas.{falls_to, falls_at, falls_on, member_of_seq, member_of_choice, goes_onward}
 use Rattle.pegmatch.proofs.OperandLemmas.{front_here, front_next}
 use Rattle.pegmatch.proofs.NodeShapeLemmas.{shape_at, quiet_match, name_match, over_match, all_match, first_match}
 use Rattle.pegmatch.proofs.NodeShapeLemmas.{act_match, open_match, close_match}
@@ -42,13 +42,13 @@ match_all-returns-in-Failed-clause-value t c = λ es s.
 
 pub match_all-loop-member-preserved : goal.match_all-loop-member-preserved
 match_all-loop-member-preserved t c = record {
-  low = let on = onward _ _ c.args.peg.now.bodies _ _ _ _ _ _ _ c.loop-member.invariant.within
+  low = let on = goes_onward _ _ c.args.peg.now.bodies _ _ _ _ _ _ _ c.loop-member.invariant.within
       (member_of_seq _ _ _ _ _ c.requires.spells c.requires.members c.loop-member-test.true) c.in_ok-tried.ensures.value
       c.in-Took.is in
       omega (arith, c.loop-member.invariant.low, on.0);
   within = rw c.in-Took.is at c.in_ok-tried.ensures.within;
   front = λ is.
-      let on = onward _ _ c.args.peg.now.bodies _ _ _ _ _ _ _ c.loop-member.invariant.within
+      let on = goes_onward _ _ c.args.peg.now.bodies _ _ _ _ _ _ _ c.loop-member.invariant.within
       (member_of_seq _ _ _ _ _ c.requires.spells c.requires.members c.loop-member-test.true)
       c.in_ok-tried.ensures.value c.in-Took.is in
       front_next _ _ _ _ _ c.loop-member-test.true (c.loop-member.invariant.front
@@ -258,14 +258,14 @@ match_star-loop-tried-init t c = record {
 
 pub match_star-loop-tried-smaller : goal.match_star-loop-tried-smaller
 match_star-loop-tried-smaller t c =
-    let on = onward _ _ c.args.peg.now.bodies _ _ _ _ _ _ _ c.loop-tried.invariant.within c.requires.spells
+    let on = goes_onward _ _ c.args.peg.now.bodies _ _ _ _ _ _ _ c.loop-tried.invariant.within c.requires.spells
     c.in_ok-tried.ensures.value c.in-Took.is in
     let moves : c.in-Took.after ≡ c.loop-tried.end → ⊥ = λ is. c.requires.moves (on.2 is) in
     omega (arith, on.0, on.1, moves)
 
 pub match_star-loop-tried-preserved : goal.match_star-loop-tried-preserved
 match_star-loop-tried-preserved t c = record {
-  low = let on = onward _ _ c.args.peg.now.bodies _ _ _ _ _ _ _ c.loop-tried.invariant.within c.requires.spells
+  low = let on = goes_onward _ _ c.args.peg.now.bodies _ _ _ _ _ _ _ c.loop-tried.invariant.within c.requires.spells
       c.in_ok-tried.ensures.value c.in-Took.is in omega (arith, c.loop-tried.invariant.low, on.0);
   within = rw c.in-Took.is at c.in_ok-tried.ensures.within;
   looked = omega (arith, c.in_ok-tried.ensures.looked, c.loop-tried.invariant.looked, c.further-looked.ensures);
@@ -281,7 +281,7 @@ match_star-returns-clause-value t c = λ e s.
 
 pub match_plus-match_star-requires : goal.match_plus-match_star-requires
 match_plus-match_star-requires t c =
-    let on = onward _ _ c.args.peg.now.bodies _ _ _ _ _ _ _ c.requires.place c.requires.spells
+    let on = goes_onward _ _ c.args.peg.now.bodies _ _ _ _ _ _ _ c.requires.place c.requires.spells
     c.in_ok-first.ensures.value c.in-Took.is in
     let less = falls_on (shape.shapes_of c.args.peg.now.nodes) c.args.peg.now.ranks (length c.args.window.now)
     c.args.operand c.args.place c.in-Took.end on.0 in
