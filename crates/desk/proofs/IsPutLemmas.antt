@@ -5,7 +5,7 @@ use Rattle.std.proofs.Common.{Option, Some, None, refl, sym, ◌∙◌}
 use Rattle.std.proofs.lemmas.Bool.{cases_Bool, eq-eqb, and_from}
 use Rattle.cells.specs.declared.cell.Found.{Found}
 use Rattle.cells.specs.Entries.{Entry, found_at, AreDifferent}
-use Rattle.cells.proofs.FoundAtLemmas.{is_of, is_own}
+use Rattle.cells.proofs.FoundAtLemmas.{is_of, is_own, is_of_own}
 use Rattle.desk.specs.State.{IsPut}
 
 pub kept_at : (cells : List Entry) (c : Entry) (m q : ℕ) (h : Found) → found_at cells m q ≡ Some h
