@@ -19,17 +19,44 @@ use Rattle.ruletable.specs.Notes.{Said, said}
 use Rattle.ruletable.specs.declared.note.NoteKind.TheVariants.{Redefined, Undefined, Unused, LeftRecursion, Loop}
 use Rattle.ruletable.specs.declared.table.NameCase.TheVariants.{Exact}
 use Rattle.rulenames.specs.FirstUses.{is_among, news}
-use Rattle.rulenames.specs.IdMarks as ids
 use Rattle.rulenames.specs.IdMarks.{chosen}
 use Rattle.rulenames.proofs.AreMarksLemmas.{mark_tests, marks-opposite}
 use Rattle.rulenames.proofs.ChosenLemmas.{chosen-map}
 use Rattle.rulenames.proofs.IsScannedLemmas.{known_among}
 use Rattle.pegread.specs.Pattern.{Rule}
 use Rattle.gramcheck.specs.Left.{IsLeftRecursive, Loops}
-use Rattle.gramcheck.specs.GrammarNotes.{start_of, IsUnused, names_at, AreNotes, AreRedefinitions, AreMarks}
+use Rattle.gramcheck.specs.GrammarNotes.{start_of, IsUnused, names_at, AreNotes, AreRedefinitions, AreMarks, Those}
+use Rattle.gramcheck.specs.GrammarNotes.{no_more, this_one, not_this}
 use Rattle.gramcheck.specs.Uses.{names_used, rule_names, AreUses}
-use Rattle.gramcheck.proofs.ThoseLemmas.{those-one, those-chosen}
 use Rattle.gramcheck.proofs.RuleNameLemmas.{same-name, own-name, other-name}
+use Rattle.rulenames.specs.IdMarks as ids
+
+-- at most one list is those of which something holds, and exact marks choose it
+-- at most one list is those of which P holds
+pub those-one : {A : Type 0} (P : A → Type 0) (xs ys zs : List A) → Those P xs ys → Those P xs zs → ys ≡ zs
+those-one P [] ys zs no_more no_more = refl
+those-one P (x ∷ xs) ys zs (this_one {ys = ys'} h d) (this_one {ys = zs'} g e) =
+    ap (λ v. x ∷ v) (those-one P xs ys' zs' d e)
+those-one P (x ∷ xs) ys zs (this_one h d) (not_this g e) = absurd (g h)
+those-one P (x ∷ xs) ys zs (not_this h d) (this_one g e) = absurd (h g)
+those-one P (x ∷ xs) ys zs (not_this h d) (not_this g e) = those-one P xs ys zs d e
+
+-- exact marks choose those of which P holds
+marks-tail : (P : Rule → Type 0) (x : Rule) (xs : List Rule) (mark : Bool) (marks : List Bool)
+    → AreMarks P (x ∷ xs) (mark ∷ marks) → AreMarks P xs marks
+marks-tail P x xs mark marks m = record {
+  count = omega (arith, m.count);
+  exact = λ id y. m.exact (suc id) y;
+}
+
+pub those-chosen : (P : Rule → Type 0) (xs : List Rule) (marks : List Bool) → AreMarks P xs marks
+    → Those P xs (chosen marks xs)
+those-chosen P [] marks m = no_more
+those-chosen P (x ∷ xs) [] m = absurd (omega (arith, m.count))
+those-chosen P (x ∷ xs) (true ∷ marks) m = this_one ((m.exact 0 x refl).0 refl)
+    (those-chosen P xs marks (marks-tail P x xs true marks m))
+those-chosen P (x ∷ xs) (false ∷ marks) m = not_this (λ h. both_ways false refl ((m.exact 0 x refl).1 h))
+    (those-chosen P xs marks (marks-tail P x xs false marks m))
 
 -- there is at most one list of notes
 pub notes-one : (rules : List Rule) (again : List (List ℕ)) (start : Option (List ℕ)) (a b : List Said)

@@ -1,13 +1,25 @@
 -- What a node of a given shape spells.
 -- Serves: check_peg
-use Rattle.std.proofs.Common.{◌≡◌, ℕ, List, Some, refl, subst}
+use Rattle.std.proofs.Common.{◌≡◌, ℕ, List, Some, refl, subst, zero, suc, ◌<◌, [], ◌∷◌, length, get_or, sym, ap, arith}
 use Rattle.std.specs.Prelude.{slice_get}
-use Rattle.pegread.specs.Pattern as expr
 use Rattle.pegread.specs.Pattern.{Pattern, Patterns, Rule}
-use Rattle.gramcheck.specs.Nodes as node
 use Rattle.gramcheck.specs.Nodes.{Shape, id_of, Spells, spells_any, spells_bytes, spells_set, spells_name, spells_seq}
 use Rattle.gramcheck.specs.Nodes.{spells_choice, spells_star, spells_plus, spells_opt, spells_and, spells_not}
-use Rattle.gramcheck.specs.Nodes.{spells_act, spells_open, spells_close, SpellAll}
+use Rattle.gramcheck.specs.Nodes.{spells_act, spells_open, spells_close, SpellAll, shape_of, shapes_of}
+use Rattle.std.proofs.lemmas.List.{length-map}
+use Rattle.gramcheck.specs.declared.node.Node.{Node}
+use Rattle.pegread.specs.Pattern as expr
+use Rattle.gramcheck.specs.Nodes as node
+
+-- nodes of the code, read as shapes
+pub node_at : (nodes : List Node) (n : ℕ) (v : Node) → n < length nodes → v ≡ get_or nodes n v
+    → slice_get (shapes_of nodes) n ≡ Some (shape_of v)
+node_at [] n v lt is = absurd (omega arith)
+node_at (node ∷ nodes) zero v lt is = ap (λ w. Some (shape_of w)) (sym is)
+node_at (node ∷ nodes) (suc n) v lt is = let less : n < length nodes = omega arith in node_at nodes n v less is
+
+pub length-shapes : (nodes : List Node) → length (shapes_of nodes) ≡ length nodes
+length-shapes nodes = length-map nodes shape_of
 
 module _ (rules : List Rule) (nodes : List Shape) where
   -- p has this shape, and its operands are spelled by the shape's

@@ -1,24 +1,64 @@
 -- Rules that come back to themselves are the left-recursive ones.
 -- Serves: check_peg (notes, ranked)
 use Rattle.std.proofs.Common.{◌≡◌, ℕ, ◌+◌, Bool, true, false, cond, List, [], ◌∷◌, get_or, refl, sym, ap, subst, arith}
-use Rattle.std.proofs.Common.{◌∙◌, Some, add-one}
+use Rattle.std.proofs.Common.{◌∙◌, Some, add-one, Contains, option_to_list}
 use Rattle.std.specs.Prelude.{slice_get, bytes_eq, option_map}
-use Rattle.std.proofs.lemmas.Option.{slice_get_within, slice_get-get_or, slice_get-map}
+use Rattle.std.proofs.lemmas.Option.{slice_get_within, slice_get-get_or, slice_get-map, get_or_from_slice_get}
 use Rattle.std.proofs.lemmas.Slice.Eq.{bytes_eq-Decides}
-use Rattle.pegread.specs.Pattern as e
 use Rattle.pegread.specs.Pattern.{Pattern, Rule}
 use Rattle.gramcheck.specs.Bodies.{AreBodies, IsBuilt}
 use Rattle.leastset.specs.Leads.{AreCycleMarks, AreRanksBut}
 use Rattle.gramcheck.specs.Left.{LeftChain, IsLeftRecursive}
-use Rattle.gramcheck.specs.Nodes as node
 use Rattle.gramcheck.specs.Nodes.{Shape, id_of, Spells, spells_any, spells_bytes, spells_set, spells_name, spells_seq}
 use Rattle.gramcheck.specs.Nodes.{spells_choice, spells_star, spells_plus, spells_opt, spells_and, spells_not}
 use Rattle.gramcheck.specs.Nodes.{spells_act, spells_open, spells_close}
 use Rattle.gramcheck.specs.Nulls.{AreNullMarks}
-use Rattle.gramcheck.specs.NodeRows.{step_rows, ComesBack, AreComingBack, IsLeft}
-use Rattle.gramcheck.proofs.AreRanksLemmas.{are_ranks}
-use Rattle.gramcheck.proofs.LeftStepLemmas.{chain_leads, leads_chain}
+use Rattle.gramcheck.specs.NodeRows.{step_rows, ComesBack, AreComingBack, IsLeft, front, steps_of}
+use Rattle.gramcheck.proofs.LeftStepLemmas.{chain_leads, leads_chain, step_at}
 use Rattle.gramcheck.proofs.ComesBackLemmas.{chain_turns}
+use Rattle.std.proofs.lemmas.List.{length-map}
+use Rattle.leastset.specs.NumberMarks.{IsMarked}
+use Rattle.leastset.specs.StepRows.{Step}
+use Rattle.leastset.proofs.ContainsLemmas.{in_first, in_later}
+use Rattle.gramcheck.specs.Ranks.{FrontNode, front_first, front_later, NodeStep, AreRanks}
+use Rattle.pegread.specs.Pattern as e
+use Rattle.gramcheck.specs.Nodes as node
+use Rattle.gramcheck.specs.Ranks as r
+
+-- where no node comes back to itself, ranks that steps lower are ranks of the nodes
+module _ (bodies : List ℕ) (nulls : List Bool) (nodes : List Shape) (rules : List Rule)
+    (marked : AreNullMarks rules nodes nulls) where
+  front_in : {ms : List ℕ} {m : ℕ} → FrontNode rules nodes bodies ms m → Contains (front nulls ms) m
+  front_in (front_first {m = m}) = in_first m _
+  front_in (front_later {k = k} {m = m} z f) = let h = front_in f in in_later k m _ (rw (marked.whole k z.0 z.1 z.2) h)
+
+  node_step : {n m : ℕ} → NodeStep rules nodes bodies n m → Step (step_rows bodies nulls nodes) n m
+  node_step (r.to_body {n = n} {id = id} {m = m} g b) =
+      step_at bodies nulls nodes n m (node.Name id) g
+      (subst (λ o. Contains (option_to_list o) m) (sym b) (in_first m []))
+  node_step (r.to_alternative {n = n} {m = m} {ms = ms} g h) = step_at bodies nulls nodes n m (node.Choice ms) g h
+  node_step (r.to_member {n = n} {m = m} {ms = ms} g f) = step_at bodies nulls nodes n m (node.Seq ms) g (front_in f)
+  node_step (r.to_starred {n = n} {m = m} g) = step_at bodies nulls nodes n m (node.Star m) g (in_first m [])
+  node_step (r.to_repeated {n = n} {m = m} {k = k} g) = step_at bodies nulls nodes n m (node.Plus m k) g (in_first m [])
+  node_step (r.to_optional {n = n} {m = m} g) = step_at bodies nulls nodes n m (node.Opt m) g (in_first m [])
+  node_step (r.to_asserted {n = n} {m = m} g) = step_at bodies nulls nodes n m (node.And m) g (in_first m [])
+  node_step (r.to_denied {n = n} {m = m} g) = step_at bodies nulls nodes n m (node.Not m) g (in_first m [])
+
+  pub are_ranks : (marks : List Bool) (ranks : List ℕ) → AreRanksBut (step_rows bodies nulls nodes) marks ranks →
+      ((n : ℕ) → IsMarked marks n → ⊥) → AreRanks rules nodes bodies ranks
+  are_ranks marks ranks g none = record {
+    count = g.count ∙ length-map nodes (steps_of bodies nulls);
+    bound = λ n k h.
+        let e = get_or_from_slice_get ranks n k 0 h in
+        let le = g.bound n in
+        let l = length-map nodes (steps_of bodies nulls) in
+        omega (arith, e, le, l);
+    lower = λ n m k j step hn hm.
+        let a = get_or_from_slice_get ranks n k 0 hn in
+        let b = get_or_from_slice_get ranks m j 0 hm in
+        let lt = g.falls n m (none n) (node_step step) in
+        omega (arith, a, b, lt);
+  }
 
 -- the rule at a name's id has that name
 name_at : (rules : List Rule) (name : List ℕ) (rule : Rule) →

@@ -11,34 +11,161 @@ use Rattle.std.proofs.lemmas.List.Quantifiers.{position-Some}
 use Rattle.std.proofs.lemmas.Option.{slice_get-get_or, slice_get-map, slice_get_within}
 use Rattle.ruletable.specs.Notes.{Said, said}
 use Rattle.ruletable.specs.declared.note.NoteKind.TheVariants.{Redefined, Undefined, Unused, LeftRecursion, Loop}
-use Rattle.ruletable.specs.Rules as table
 use Rattle.ruletable.specs.Rules.{find_in, HasUniqueNames}
 use Rattle.ruletable.specs.declared.table.NameCase.TheVariants.{Exact}
 use Rattle.rulenames.specs.FirstUses.{is_among, news}
-use Rattle.pegread.specs.Pattern as expr
-use Rattle.pegread.specs.Pattern.{Pattern, Patterns, Rule}
+use Rattle.pegread.specs.Pattern.{Pattern, Patterns, Rule, body_of}
 use Rattle.pegread.specs.PegViews.{rule_of, rules_of}
 use Rattle.std.specs.Option.{option_map}
 use Rattle.pegread.specs.declared.expr.Expr.{Expr}
-use Rattle.pegread.specs.declared.expr.Expr.TheVariants as exprs
 use Rattle.gramcheck.specs.Analysis.{IsAnalysed}
 use Rattle.gramcheck.specs.Bodies.{AreBodies, IsBuilt}
 use Rattle.gramcheck.specs.Checked.{is_refused, IsStart}
 use Rattle.gramcheck.specs.Defined.{IsGiven}
-use Rattle.gramcheck.specs.Left.{IsLeftRecursive, Loops}
+use Rattle.gramcheck.specs.Left.{IsLeftRecursive, Loops, Nullable, no_bytes, an_act, an_open, a_close, an_and, a_not}
+use Rattle.gramcheck.specs.Left.{an_opt, a_star, a_plus, a_seq, a_choice, a_name, AllNullable, all_none, all_more}
+use Rattle.gramcheck.specs.Left.{SomeNullable, some_first, some_later, RepeatsNullable, loop_star, loop_plus, in_star}
+use Rattle.gramcheck.specs.Left.{in_plus, in_opt, in_and, in_not, in_seq, in_choice, SomeRepeats, repeats_first}
+use Rattle.gramcheck.specs.Left.{repeats_later}
 use Rattle.leastset.specs.NumberMarks.{IsMarked}
-use Rattle.gramcheck.specs.Nodes.{Shape, id_of}
+use Rattle.gramcheck.specs.Nodes.{Shape, id_of, Spells, spells_any, spells_bytes, spells_set, spells_name, spells_seq}
+use Rattle.gramcheck.specs.Nodes.{spells_choice, spells_star, spells_plus, spells_opt, spells_and, spells_not}
+use Rattle.gramcheck.specs.Nodes.{spells_act, spells_open, spells_close, SpellAll, spell_none, spell_more}
 use Rattle.gramcheck.specs.GrammarNotes.{Those, no_more, not_this, AreNotes, AreMarks, said_refuses}
 use Rattle.gramcheck.specs.Numbering.{AreStanding}
 use Rattle.gramcheck.specs.Sound.{IsRanked}
 use Rattle.gramcheck.specs.Uses.{names_in, names_in_all, names_used, rule_names}
 use Rattle.gramcheck.specs.Within.{Within, WithinSome, StandsIn, itself, of_seq, of_choice, of_star, of_plus, of_opt}
 use Rattle.gramcheck.specs.Within.{of_and, of_not, of_first, of_later}
-use Rattle.gramcheck.proofs.OwnIdLemmas.{id_found, own_id}
+use Rattle.gramcheck.proofs.OwnIdLemmas.{id_found, own_id, body_at_id}
 use Rattle.leastset.proofs.IsMarkedLemmas.{marked_lt}
 use Rattle.gramcheck.proofs.RuleNameLemmas.{same-name, own-name, names-same}
 use Rattle.gramcheck.proofs.AreNotesLemmas.{among-contains}
-use Rattle.gramcheck.proofs.IsRankedLemmas.{is_ranked}
+use Rattle.gramcheck.specs.Ranks.{AreRanks, RepeatsNoNull}
+use Rattle.gramcheck.proofs.HasShapeLemmas.{has_shape}
+use Rattle.gramcheck.proofs.PushCasesLemmas.{mapped_from}
+use Rattle.ruletable.specs.Rules as table
+use Rattle.pegread.specs.Pattern as expr
+use Rattle.pegread.specs.declared.expr.Expr.TheVariants as exprs
+use Rattle.gramcheck.specs.Nodes as node
+
+-- where no rule's body repeats a nullable expression, no node repeats a nullable one
+-- what repeats a nullable expression within an expression repeats it in the whole
+module _ (rules : List Rule) where
+  plus_repeats : {e : Pattern} → RepeatsNullable rules (expr.Star e) → RepeatsNullable rules (expr.Plus e)
+  plus_repeats (loop_star z) = loop_plus z
+  plus_repeats (in_star r) = in_plus r
+
+  mutual
+    repeats_within : {b d : Pattern} → Within b d → RepeatsNullable rules d → RepeatsNullable rules b
+    repeats_within itself r = r
+    repeats_within (of_seq w) r = in_seq (some_repeats w r)
+    repeats_within (of_choice w) r = in_choice (some_repeats w r)
+    repeats_within (of_star w) r = in_star (repeats_within w r)
+    repeats_within (of_plus w) r = plus_repeats (repeats_within w r)
+    repeats_within (of_opt w) r = in_opt (repeats_within w r)
+    repeats_within (of_and w) r = in_and (repeats_within w r)
+    repeats_within (of_not w) r = in_not (repeats_within w r)
+
+    some_repeats : {bs : Patterns} {d : Pattern} → WithinSome bs d → RepeatsNullable rules d → SomeRepeats rules bs
+    some_repeats (of_first w) r = repeats_first (repeats_within w r)
+    some_repeats (of_later w) r = repeats_later (some_repeats w r)
+
+-- Two names of undefined rules have one node; of all that a node spells either each is nullable or none.
+module _ (rules : List Rule) (nodes : List Shape) where
+  mutual
+    same_null : {q : Pattern} → Nullable rules q → (n : ℕ) → Spells rules nodes n q → (p : Pattern)
+        → Spells rules nodes n p → Nullable rules p
+    same_null no_bytes n (spells_bytes g) p s = subst (Nullable rules) (sym (has_shape rules nodes s (node.Bytes []) g))
+        no_bytes
+    same_null (an_act {t = t}) n (spells_act g) p s =
+        subst (Nullable rules) (sym (has_shape rules nodes s (node.Act t) g)) an_act
+    same_null an_open n (spells_open g) p s = subst (Nullable rules) (sym (has_shape rules nodes s node.Open g)) an_open
+    same_null a_close n (spells_close g) p s = subst (Nullable rules) (sym (has_shape rules nodes s node.Close g))
+        a_close
+    same_null an_and n (spells_and {m = m} g t) p s =
+        subst (Nullable rules) (sym ((has_shape rules nodes s (node.And m) g).1)) an_and
+    same_null a_not n (spells_not {m = m} g t) p s =
+        subst (Nullable rules) (sym ((has_shape rules nodes s (node.Not m) g).1)) a_not
+    same_null an_opt n (spells_opt {m = m} g t) p s =
+        subst (Nullable rules) (sym ((has_shape rules nodes s (node.Opt m) g).1)) an_opt
+    same_null a_star n (spells_star {m = m} g t) p s =
+        subst (Nullable rules) (sym ((has_shape rules nodes s (node.Star m) g).1)) a_star
+    same_null (a_plus d) n (spells_plus {m = m} {k = k} g t a) p s =
+        let like = has_shape rules nodes s (node.Plus m k) g in
+        subst (Nullable rules) (sym like.1) (a_plus (same_null d m t like.0 like.2))
+    same_null (a_seq d) n (spells_seq {ms = ms} g ts) p s =
+        let like = has_shape rules nodes s (node.Seq ms) g in
+        subst (Nullable rules) (sym like.1) (a_seq (all_null d ms ts like.0 like.2))
+    same_null (a_choice d) n (spells_choice {ms = ms} g ts) p s =
+        let like = has_shape rules nodes s (node.Choice ms) g in
+        subst (Nullable rules) (sym like.1) (a_choice (some_null d ms ts like.0 like.2))
+    same_null (a_name {n = word} {e = e} h d) n (spells_name g) p s =
+        let like = has_shape rules nodes s (node.Name (id_of rules word)) g in
+        let body : body_of rules like.0 ≡ Some e =
+        body_at_id rules like.0 ∙ ap (λ id. slice_get (map (λ rule. rule.body) rules) id) like.2
+        ∙ sym (body_at_id rules word) ∙ h in
+        subst (Nullable rules) (sym like.1) (a_name body d)
+
+    all_null : {qs : Patterns} → AllNullable rules qs → (ms : List ℕ) → SpellAll rules nodes ms qs → (ps : Patterns)
+        → SpellAll rules nodes ms ps → AllNullable rules ps
+    all_null all_none ms spell_none ps spell_none = all_none
+    all_null (all_more d ds) ms (spell_more {n = m} {ns = ns} t ts) ps (spell_more {p = p} {ps = rest} s ss) =
+        all_more (same_null d m t p s) (all_null ds ns ts rest ss)
+
+    some_null : {qs : Patterns} → SomeNullable rules qs → (ms : List ℕ) → SpellAll rules nodes ms qs → (ps : Patterns)
+        → SpellAll rules nodes ms ps → SomeNullable rules ps
+    some_null (some_first d) ms (spell_more {n = m} t ts) ps (spell_more {p = p} s ss) =
+        some_first (same_null d m t p s)
+    some_null (some_later d) ms (spell_more {ns = ns} t ts) ps (spell_more {ps = rest} s ss) =
+        some_later (some_null d ns ts rest ss)
+
+module _ (rules : List Rule) (nodes : List Shape) (bodies : List ℕ) (standing : AreStanding rules nodes)
+    (none_loops : (id : ℕ) (rule : Rule) → slice_get rules id ≡ Some rule → Loops rules rule → ⊥) where
+  none_repeats : (e : Pattern) → StandsIn rules e → RepeatsNullable rules e → ⊥
+  none_repeats e s r =
+      let rule = mapped_from (λ rule. rule.body) rules s.id s.body s.rule in
+      none_loops s.id rule.0 rule.1 (subst (RepeatsNullable rules) (sym rule.2) (repeats_within rules s.within r))
+
+  pub repeats_no_null : RepeatsNoNull rules nodes bodies
+  repeats_no_null = record {
+    star = λ n m g null.
+        let one = standing n (slice_get_within nodes n (node.Star m) g) in
+        let like = has_shape rules nodes one.spelled (node.Star m) g in
+        none_repeats one.expr one.stands (subst (RepeatsNullable rules) (sym like.1)
+        (loop_star (same_null rules nodes null.2 m null.1 like.0 like.2)));
+    plus = λ n m k g null.
+        let one = standing n (slice_get_within nodes n (node.Plus m k) g) in
+        let like = has_shape rules nodes one.spelled (node.Plus m k) g in
+        none_repeats one.expr one.stands (subst (RepeatsNullable rules) (sym like.1)
+        (loop_plus (same_null rules nodes null.2 m null.1 like.0 like.2)));
+  }
+
+-- a grammar that is cut into nodes, and that the checks find nothing against, is ranked
+-- where every name that stands in a body is that of a rule, so is every node's
+module _ (rules : List Rule) (nodes : List Shape) (standing : AreStanding rules nodes)
+    (used : (word : List ℕ) → StandsIn rules (expr.Name word) → id_of rules word < length rules) where
+  pub all_defined : (n id : ℕ) → slice_get nodes n ≡ Some (node.Name id) → id < length rules
+  all_defined n id g =
+      let one = standing n (slice_get_within nodes n (node.Name id) g) in
+      let like = has_shape rules nodes one.spelled (node.Name id) g in
+      let lt = used like.0 (subst (StandsIn rules) like.1 one.stands) in
+      omega (arith, lt, like.2)
+
+pub is_ranked : (rules : List Rule) (start : ℕ) (nodes : List Shape) (bodies ranks : List ℕ) → start < length rules
+    → AreBodies rules nodes bodies → IsBuilt nodes →
+    AreStanding rules nodes → AreRanks rules nodes bodies ranks
+    → ((word : List ℕ) → StandsIn rules (expr.Name word) → id_of rules word < length rules) →
+    ((id : ℕ) (rule : Rule) → slice_get rules id ≡ Some rule → Loops rules rule → ⊥)
+    → IsRanked rules start nodes bodies ranks
+is_ranked rules start nodes bodies ranks first are built standing falling used loops = record {
+  start_is_rule = first;
+  spelled = are;
+  built = built;
+  defined = all_defined rules nodes standing used;
+  falling = falling;
+  moving = repeats_no_null rules nodes bodies standing loops;
+}
 
 module _ (rules : List Rule) (nodes : List Shape) (bodies : List ℕ) (nulls recursive looping : List Bool)
     (ranks : List ℕ)
@@ -152,7 +279,7 @@ module _ (rules : List Rule) (again : List (List ℕ)) (start : Option (List ℕ
       let two = neither_any said_refuses (map (said Undefined) undefined) _ one.1 in
       let three = neither_any said_refuses (map (λ (rule : Rule). said Unused rule.name) are.unused) _ two.1 in
       let four = neither_any said_refuses (map (λ (rule : Rule). said LeftRecursion rule.name) are.recursive) _ three.1
-          in
+      in
       record {
         no_undefined = none-mapped (said Undefined) undefined (λ x. refl) two.0;
         no_recursive = none-mapped (λ (rule : Rule). said LeftRecursion rule.name) are.recursive (λ x. refl) four.0;

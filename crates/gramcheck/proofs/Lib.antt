@@ -1,18 +1,14 @@
 pub mod AreBodiesLemmas
 pub mod AreNotesLemmas
-pub mod AreRanksLemmas
 pub mod BodyOfLemmas
 pub mod ComesBackLemmas
-pub mod HasOutcomeLemmas
 pub mod HasShapeLemmas
 pub mod IsAnalysedLemmas
 pub mod IsLeftLemmas
-pub mod IsRankedLemmas
 pub mod JudgeLemmas
 pub mod LeftStepLemmas
 pub mod LongerInputLemmas
 pub mod LoopMarksLemmas
-pub mod MeasureLemmas
 pub mod NodeSpellsLemmas
 mod NotesExamples
 pub mod NullIfLemmas
@@ -24,13 +20,10 @@ pub mod OwnIdLemmas
 pub mod PatternOfLemmas
 pub mod PrintMarksLemmas
 pub mod PushCasesLemmas
-pub mod RepeatsNoNullLemmas
 pub mod RiseLemmas
 pub mod RuleNameLemmas
-pub mod ShapesOfLemmas
 pub mod ShorterInputLemmas
 pub mod SomeOutcomeLemmas
 pub mod StartRuleLemmas
 pub mod StepsToBodyLemmas
-pub mod ThoseLemmas
 pub mod UsesLemmas

@@ -134,7 +134,7 @@ module _ (rules : List Rule) (first : List Shape) (nodes mid new : List Node) (m
       let there = is_there rules (shapes_of mid) operand_spelled in
       rw (shapes_pushed mid new (code.Plus m k) plus_is)
       (one_more rules first (shapes_of mid) (Plus m k) n (expr.Plus e) star_numbers.added star_numbers.grown
-          star_numbers.built
+      star_numbers.built
       (λ i low high. let part = star_numbers.parts i low high in
       record { part = part.part; within = of_plus part.within; spelled = part.spelled })
       (n_is ∙ sym (length-map mid shape_of)) (λ i o. subst (λ v. v < length (shapes_of mid)) (sym o) there)

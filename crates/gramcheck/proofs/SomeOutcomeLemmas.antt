@@ -1,17 +1,20 @@
 -- Every expression that the nodes of a ranked grammar spell gives an outcome at every place.
 -- Serves: exactly_one_outcome, some_outcome
 use Rattle.std.proofs.Common.{◌≡◌, ℕ, zero, suc, ◌+◌, ◌-◌, ◌<◌, ◌≤◌, List, [], ◌∷◌, length, map, get_or, subst, arith}
-use Rattle.std.specs.Prelude.{slice_index, Contains}
+use Rattle.std.proofs.Common.{max, Bool, true, false, ◌++◌, drop, Option, Some, None, refl, ◌*◌, ⊎_elim}
+use Rattle.std.specs.Prelude.{slice_index, Contains, slice_get}
 use Rattle.std.proofs.lemmas.Option.{slice_get-get_or, slice_get_within}
 use Rattle.pegread.specs.Pattern.{Pattern, Patterns, Rule, body_of}
-use Rattle.pegread.specs.Pattern as expr
 use Rattle.gramcheck.specs.Left.{Nullable}
 use Rattle.gramcheck.specs.Nodes.{Shape, Spells, spells_any, spells_bytes, spells_set, spells_name, spells_seq}
 use Rattle.gramcheck.specs.Nodes.{spells_choice, spells_star, spells_plus, spells_opt, spells_and, spells_not}
 use Rattle.gramcheck.specs.Nodes.{spells_act, spells_open, spells_close, SpellAll, spell_none, spell_more}
-use Rattle.gramcheck.specs.Outcome as event
 use Rattle.gramcheck.specs.Outcome.{Outcome, Fails, Takes, Gives, RuleGives, act, open_at, close_at, name, seq, choice}
-use Rattle.gramcheck.specs.Outcome.{GivesAll, all_done, GivesFirst, all_failed}
+use Rattle.gramcheck.specs.Outcome.{GivesAll, all_done, GivesFirst, all_failed, Event, begins_with, compared, looked_at}
+use Rattle.gramcheck.specs.Outcome.{any_takes, any_at_end, set_takes, set_fails, set_at_end, bytes_take, bytes_fail}
+use Rattle.gramcheck.specs.Outcome.{opt_takes, opt_none, star_none, star_more, plus_fails, plus_takes, and_takes}
+use Rattle.gramcheck.specs.Outcome.{and_fails, not_takes, not_fails, one_fails, rest_fails, rest_takes, first_takes}
+use Rattle.gramcheck.specs.Outcome.{first_fails}
 use Rattle.gramcheck.specs.Ranks.{NodeStep, to_alternative, to_member, to_starred, to_repeated, to_optional}
 use Rattle.gramcheck.specs.Ranks.{to_asserted, to_denied, FrontNode, front_first, front_later}
 use Rattle.gramcheck.specs.Sound.{IsRanked, GivesOne, StartGivesOne}
@@ -19,13 +22,153 @@ use Rattle.gramcheck.specs.Within.{Within, itself, StandsIn}
 use Rattle.std.proofs.lemmas.List.{length-map}
 use Rattle.gramcheck.proofs.OneOutcomeLemmas.{gives_same}
 use Rattle.gramcheck.proofs.StartRuleLemmas.{same_of_start}
-use Rattle.gramcheck.proofs.MeasureLemmas.{measure, measure_falls, falls_here, falls_ahead}
 use Rattle.leastset.proofs.ContainsLemmas.{in_first, in_later}
-use Rattle.gramcheck.proofs.HasOutcomeLemmas.{Has, HasAll, HasFirst, any_has, set_has, bytes_has, opt_has, and_has}
-use Rattle.gramcheck.proofs.HasOutcomeLemmas.{not_has, star_has, plus_has, member_has, alternative_has}
 use Rattle.gramcheck.proofs.NodeSpellsLemmas.{is_there, part_spelled}
 use Rattle.gramcheck.proofs.StepsToBodyLemmas.{rank_bound, rank_lower, steps_to_body}
 use Rattle.gramcheck.proofs.NullIfLemmas.{takes_forward, null_of}
+use Rattle.std.proofs.Math.Nat.{mul-le-mul_right}
+use Rattle.std.proofs.lemmas.Bool.{cases_lt}
+use Rattle.pegread.specs.Pattern as expr
+use Rattle.gramcheck.specs.Outcome as event
+
+-- the measure of an evaluation: what is left of the input first, and then the rank
+abbrev pub measure : ℕ → ℕ → ℕ → ℕ → ℕ
+measure len place nodes rank = (len - place) * (nodes + 1) + rank
+
+ahead_less : (a b n r s : ℕ) → a + 1 ≤ b → r ≤ n → a * (n + 1) + r < b * (n + 1) + s
+ahead_less a b n r s h le = omega (arith, mul-le-mul_right (n + 1) h)
+
+-- further on less is left
+pub falls_ahead : (len p q n r s : ℕ) → p < q → q ≤ len → r ≤ n → measure len q n r < measure len p n s
+falls_ahead len p q n r s lt le bound = ahead_less (len - q) (len - p) n r s (omega arith) bound
+
+-- at the same place a left step lowers the rank
+pub falls_here : (len p n r s : ℕ) → r < s → measure len p n r < measure len p n s
+falls_here len p n r s lt = omega arith
+
+pub measure_falls : (len p q n r s : ℕ) → p ≤ q → q ≤ len → r ≤ n → (q ≡ p → r < s)
+    → measure len q n r < measure len p n s
+measure_falls len p q n r s low high bound left =
+    ⊎_elim (λ lt. falls_ahead len p q n r s lt high bound)
+    (λ le. let here : q ≡ p = omega arith in rw here (falls_here len p n r s (left here)))
+    (cases_lt p q)
+
+-- the outcome of an expression, from those of what it is made of
+module _ (rules : List Rule) (x : List ℕ) where
+  pub record Has (e : Pattern) (p : ℕ) : Type 0 where
+    pub outcome : Outcome
+    pub looked : ℕ
+    pub gives : Gives rules x e p outcome looked
+
+  pub record HasAll (es : Patterns) (p : ℕ) : Type 0 where
+    pub outcome : Outcome
+    pub looked : ℕ
+    pub gives : GivesAll rules x es p outcome looked
+
+  pub record HasFirst (es : Patterns) (p : ℕ) : Type 0 where
+    pub outcome : Outcome
+    pub looked : ℕ
+    pub gives : GivesFirst rules x es p outcome looked
+
+  any_by : (p : ℕ) (v : Option ℕ) → slice_get x p ≡ v → Has expr.Any p
+  any_by p None h = record { outcome = Fails; looked = 0; gives = any_at_end h }
+  any_by p (Some b) h = record { outcome = Takes (p + 1) []; looked = p + 1; gives = any_takes h }
+
+  pub any_has : (p : ℕ) → Has expr.Any p
+  any_has p = any_by p (slice_get x p) refl
+
+  set_of : (s : ℕ → Bool) (p b : ℕ) (v : Bool) → slice_get x p ≡ Some b → s b ≡ v → Has (expr.Set s) p
+  set_of s p b true h i = record { outcome = Takes (p + 1) []; looked = p + 1; gives = set_takes h i }
+  set_of s p b false h i = record { outcome = Fails; looked = p + 1; gives = set_fails h i }
+
+  set_by : (s : ℕ → Bool) (p : ℕ) (v : Option ℕ) → slice_get x p ≡ v → Has (expr.Set s) p
+  set_by s p None h = record { outcome = Fails; looked = 0; gives = set_at_end h }
+  set_by s p (Some b) h = set_of s p b (s b) h refl
+
+  pub set_has : (s : ℕ → Bool) (p : ℕ) → Has (expr.Set s) p
+  set_has s p = set_by s p (slice_get x p) refl
+
+  bytes_by : (bs : List ℕ) (p : ℕ) (v : Bool) → begins_with (drop p x) bs ≡ v → Has (expr.Bytes bs) p
+  bytes_by bs p true h = record {
+    outcome = Takes (p + length bs) [];
+    looked = looked_at p (compared (drop p x) bs);
+    gives = bytes_take h;
+  }
+  bytes_by bs p false h = record {
+    outcome = Fails;
+    looked = looked_at p (compared (drop p x) bs);
+    gives = bytes_fail h;
+  }
+
+  pub bytes_has : (bs : List ℕ) (p : ℕ) → Has (expr.Bytes bs) p
+  bytes_has bs p = bytes_by bs p (begins_with (drop p x) bs) refl
+
+  pub opt_has : (e : Pattern) (p k : ℕ) (o : Outcome) → Gives rules x e p o k → Has (expr.Opt e) p
+  opt_has e p k Fails d = record { outcome = Takes p []; looked = k; gives = opt_none d }
+  opt_has e p k (Takes q es) d = record { outcome = Takes q es; looked = k; gives = opt_takes d }
+
+  pub and_has : (e : Pattern) (p k : ℕ) (o : Outcome) → Gives rules x e p o k → Has (expr.And e) p
+  and_has e p k Fails d = record { outcome = Fails; looked = k; gives = and_fails d }
+  and_has e p k (Takes q es) d = record { outcome = Takes p []; looked = k; gives = and_takes d }
+
+  pub not_has : (e : Pattern) (p k : ℕ) (o : Outcome) → Gives rules x e p o k → Has (expr.Not e) p
+  not_has e p k Fails d = record { outcome = Takes p []; looked = k; gives = not_takes d }
+  not_has e p k (Takes q es) d = record { outcome = Fails; looked = k; gives = not_fails d }
+
+  -- a star never fails
+  star_succeeds : (e : Pattern) (p k : ℕ) (o : Outcome) → Gives rules x (expr.Star e) p o k → (q : ℕ)
+      × (es : List Event) × (o ≡ Takes q es)
+  star_succeeds e p k o (star_none d) = (_, _, refl)
+  star_succeeds e p k o (star_more d c) = (_, _, refl)
+
+  pub star_has : (e : Pattern) (p k : ℕ) (o : Outcome) → Gives rules x e p o k →
+      ((q : ℕ) (es : List Event) → Gives rules x e p (Takes q es) k → Has (expr.Star e) q) → Has (expr.Star e) p
+  star_has e p k Fails d next = record { outcome = Takes p []; looked = k; gives = star_none d }
+  star_has e p k (Takes q es) d next =
+      let more = next q es d in
+      let ends = star_succeeds e q more.looked more.outcome more.gives in
+      record {
+        outcome = Takes ends.0 (es ++ ends.1);
+        looked = max k more.looked;
+        gives = star_more d (subst (λ v. Gives rules x (expr.Star e) q v more.looked) ends.2 more.gives);
+      }
+
+  pub plus_has : (e : Pattern) (p k : ℕ) (o : Outcome) → Gives rules x e p o k →
+      ((q : ℕ) (es : List Event) → Gives rules x e p (Takes q es) k → Has (expr.Star e) q) → Has (expr.Plus e) p
+  plus_has e p k Fails d next = record { outcome = Fails; looked = k; gives = plus_fails d }
+  plus_has e p k (Takes q es) d next =
+      let more = next q es d in
+      let ends = star_succeeds e q more.looked more.outcome more.gives in
+      record {
+        outcome = Takes ends.0 (es ++ ends.1);
+        looked = max k more.looked;
+        gives = plus_takes d (subst (λ v. Gives rules x (expr.Star e) q v more.looked) ends.2 more.gives);
+      }
+
+  rest_has : (e : Pattern) (rest : Patterns) (p q k : ℕ) (es : List Event) → Gives rules x e p (Takes q es) k
+      → (o : Outcome) (j : ℕ) →
+      GivesAll rules x rest q o j → HasAll (expr.more e rest) p
+  rest_has e rest p q k es d Fails j c = record { outcome = Fails; looked = max k j; gives = rest_fails d c }
+  rest_has e rest p q k es d (Takes r fs) j c = record {
+    outcome = Takes r (es ++ fs);
+    looked = max k j;
+    gives = rest_takes d c;
+  }
+
+  pub member_has : (e : Pattern) (rest : Patterns) (p k : ℕ) (o : Outcome) → Gives rules x e p o k →
+      ((q : ℕ) (es : List Event) → Gives rules x e p (Takes q es) k → HasAll rest q) → HasAll (expr.more e rest) p
+  member_has e rest p k Fails d next = record { outcome = Fails; looked = k; gives = one_fails d }
+  member_has e rest p k (Takes q es) d next = let more = next q es d in
+      rest_has e rest p q k es d more.outcome more.looked more.gives
+
+  pub alternative_has : (e : Pattern) (rest : Patterns) (p k : ℕ) (o : Outcome) → Gives rules x e p o k
+      → HasFirst rest p → HasFirst (expr.more e rest) p
+  alternative_has e rest p k Fails d more = record {
+    outcome = more.outcome;
+    looked = max k more.looked;
+    gives = first_fails d more.gives;
+  }
+  alternative_has e rest p k (Takes q es) d more = record { outcome = Takes q es; looked = k; gives = first_takes d }
 
 module _ (rules : List Rule) (start : ℕ) (nodes : List Shape) (bodies ranks : List ℕ)
     (sound : IsRanked rules start nodes bodies ranks) (x : List ℕ) where
@@ -124,7 +267,7 @@ module _ (rules : List Rule) (start : ℕ) (nodes : List Shape) (bodies ranks : 
       (λ q es d.
       let on = takes_forward rules x p q one.looked f es d high in
       let next = measure_falls (length x) p q (length nodes) (rank m) (rank n) on.0 on.1
-          (rank_at_most m (is_there rules nodes s))
+      (rank_at_most m (is_there rules nodes s))
       (λ _. step) in
       star_from t m f below s (λ null. sound.moving.plus n m k g (f, s, null)) (length x - q + 1) q (omega arith) on.1
       (omega (arith, next)))

@@ -12,8 +12,7 @@ use Rattle.pegread.specs.Reading.{Reads, IsFaultOf}
 use Rattle.pegread.proofs.IsFaultOfLemmas.{one-reading, one-fault, no-fault}
 use Rattle.gramcheck.specs.Checked.{is_refused, IsStart}
 use Rattle.gramcheck.specs.GrammarNotes.{names_at}
-use Rattle.gramcheck.proofs.AreNotesLemmas.{notes-one}
-use Rattle.gramcheck.proofs.ThoseLemmas.{those-one}
+use Rattle.gramcheck.proofs.AreNotesLemmas.{notes-one, those-one}
 use Rattle.gramtools.specs.Answers.{States, refused, noted, checked, runs, again, printed, no_memory}
 use Rattle.gramtools.specs.Noted.{AreNotesOn, AreAgain, start_given}
 use Rattle.gramtools.specs.PegReply.{printed_text, RunStates}

@@ -10,7 +10,7 @@ use Rattle.gramcheck.specs.Nodes.{Shape, Spells, SpellAll, spell_none, spell_mor
 use Rattle.gramcheck.specs.Outcome.{Gives}
 use Rattle.gramcheck.specs.Ranks.{IsNullNode, NodeStep, FrontNode, front_first, front_later}
 use Rattle.gramcheck.specs.Sound.{IsRanked}
-use Rattle.gramcheck.proofs.MeasureLemmas.{measure, measure_falls, falls_here}
+use Rattle.gramcheck.proofs.SomeOutcomeLemmas.{measure, measure_falls, falls_here}
 use Rattle.gramcheck.proofs.StepsToBodyLemmas.{rank_bound, rank_lower}
 use Rattle.gramcheck.proofs.HasShapeLemmas.{has_shape}
 use Rattle.gramcheck.proofs.NodeSpellsLemmas.{is_there}

@@ -34,7 +34,7 @@ returns-clause-notes c = notes c
 pub returns-clause-ranked : goal.returns-clause-ranked
 returns-clause-ranked c = λ passes first lt.
     ranked_first (rules c) _ _ _ (notes c) passes _ _ _ _ _ _ (found c) c.in_ok-cut.ensures.bodies
-        c.in_ok-cut.ensures.built
+    c.in_ok-cut.ensures.built
     c.in_ok-cut.ensures.standing first lt
 
 pub returns-clause-given : goal.returns-clause-given
