@@ -219,7 +219,7 @@ module _ (has : ℕ → Bool) (rules : List Rule) (aim : Aim) where
       yields_comes (asks {n = n} le at (of_name lt)) (der.name {n = name} {e = body} found d) good =
           let b = have (id_of rules name) body lt (sym (body_at_id rules name) ∙ found) in
           single_comes n (id_of rules name) at (single_comes (id_of rules name) b.number b.need_is
-              (yields_comes b.asked d good))
+          (yields_comes b.asked d good))
 
       all_come : {es : Elements} {w : List ℕ} {ms : List ℕ} → AskAll has rules aim needs ms es
           → DerivesAll has rules es w → IsAim aim w → (m : ℕ) → Contains ms m → Comes needs m

@@ -92,7 +92,7 @@ module _ (g : Grammar) (x : List ℕ) (more : Bool) (sound : IsSoundGrammar g) w
       pub dropped_next : (u : Frame) (us : List Frame) → fs ≡ u ∷ us → IsNext g x more here cells' us (next.More u)
       dropped_next u us there =
           let s = dropped_step g x more sound here (counted cells' fs) t fs h f refl turn put refl same_count u us
-              there in
+          there in
           step_next here cells' u us f (subst (λ v. IsStep g x more here (counted cells' v) None) there s)
 
       pub ended_next : (below : List Frame) → fs ≡ [] → below ≡ [] → IsNext g x more here cells' below (next.Ended h)

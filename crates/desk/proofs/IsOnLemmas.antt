@@ -123,7 +123,7 @@ module _ (g : Grammar) (x : List ℕ) (more : Bool) (sound : IsSoundGrammar g) (
         here,
         name_is_turn (rules_of g.rules) g.start (shapes_of
             g.nodes) g.bodies g.ranks x more sound new here.fits.cells.found t.node t.place top_of_frames.spelled id m
-                v at body
+            v at body
             (seen_is m t.place a new v s),
       )
 
@@ -209,7 +209,7 @@ module _ (g : Grammar) (x : List ℕ) (more : Bool) (sound : IsSoundGrammar g) (
         here,
         plus_is_turn (rules_of g.rules) g.start (shapes_of
             g.nodes) g.bodies g.ranks x more sound new here.fits.cells.found t.node t.place top_of_frames.spelled m k v
-                at
+            at
             (seen_is m t.place a new v s),
       )
 
@@ -318,7 +318,7 @@ module _ (g : Grammar) (x : List ℕ) (more : Bool) (sound : IsSoundGrammar g) (
           → HasCome g x more below cells cells t (t.next + 1) q
       other_fails lt q fails = way_has_come (t.next + 1) q
           (come_by (node.Choice ms) (t.next + 1) q at (failed_on cells ms t.place t.next Failed members_failed lt
-              (sym fails)
+          (sym fails)
           refl))
 
       pub all_failed : length ms ≤ t.next → IsTurn (rules_of g.rules) g.start (shapes_of g.nodes) g.bodies x more cells
@@ -388,7 +388,7 @@ module _ (g : Grammar) (x : List ℕ) (more : Bool) (sound : IsSoundGrammar g) (
         let n = next_came new (Some (Took r)) s in
         let on = next_takes g x more sound below new come n.fits some ms at lt r (next_was new (Some (Took r)) s) in
         come_further g x more below old new new top i q (i + 1) r
-            (come_further g x more below old mid new top i q i q h n) on
+        (come_further g x more below old mid new top i q i q h n) on
 
     pub member_halts : (new : List Entry) (s : Halt) → SeesNext new (Err s) → IsOn g x more below old new top (Err s)
     member_halts new s e = next_halted (get_or ms i 0) q asked_next new s e
@@ -438,7 +438,7 @@ module _ (g : Grammar) (x : List ℕ) (more : Bool) (sound : IsSoundGrammar g) (
         let n = came_other new (Some Failed) s in
         let on = other_fails g x more sound below new come n.fits some ms at lt q (was_other new (Some Failed) s) in
         come_further g x more below old new new top i q (i + 1) q
-            (come_further g x more below old mid new top i q i q h n) on
+        (come_further g x more below old mid new top i q i q h n) on
 
     pub alternative_halts : (new : List Entry) (s : Halt) → SeesOther new (Err s)
         → IsOn g x more below old new top (Err s)

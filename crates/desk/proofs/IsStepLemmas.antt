@@ -141,7 +141,7 @@ module _ (g : Grammar) (x : List ℕ) (more : Bool) (sound : IsSoundGrammar g) w
       → new.begun ≡ old.begun + 1 → IsStep g x more old new None
   pushed_step old new t fs m q i r f is turn cells frames begun =
       let stack = stack_push Rs g.start Ns g.bodies g.ranks x more sound old.cells t fs m q i r
-          (is_stacked old t fs f is)
+      (is_stacked old t fs f is)
       turn in
       let lengths = ap length frames in
       let before = ap length is in (
@@ -179,8 +179,13 @@ module _ (g : Grammar) (x : List ℕ) (more : Bool) (sound : IsSoundGrammar g) w
         ap length cells ∙ length-append old.cells (record { node = t.node; place = t.place; found = h } ∷ [])
 
     pub drops_top : Drops old new h
-    drops_top = record { top = t; was = is ∙ ap (λ v. t ∷ v) (sym frames); cells = put_once; grown = longer_by_one;
-        begun = begun }
+    drops_top = record {
+      top = t;
+      was = is ∙ ap (λ v. t ∷ v) (sym frames);
+      cells = put_once;
+      grown = longer_by_one;
+      begun = begun;
+    }
 
     pub still_fits : Fits g x more new
     still_fits =

@@ -171,7 +171,7 @@ module _ (g : Grammar) (x : List ℕ) (more : Bool) (sound : IsSoundGrammar g) (
       next_is byte =
           let o = again_turned (found_at new top.node next) refl in
           let come = seen_is g x more sound r.frames cells r.frame r.fits m r.frame.place asks_operand new
-              (Some (Took next))
+          (Some (Took next))
           (sees_is_seen new (Ok (Some (Took next))) s) in
           let there : m < length (shapes_of g.nodes) = is_there (rules_of g.rules) (shapes_of g.nodes)
           run_child.spelled.1 in

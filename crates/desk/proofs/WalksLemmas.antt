@@ -248,7 +248,7 @@ module _ (rules : List Rule) (nodes : List Shape) (bodies ranks x : List ℕ) (c
         Begins rules nodes bodies ranks x cells (f ∷ fs) (Some mark) all fs
     begins_told mark way = let l = last_frame rules nodes bodies ranks x cells f fs all w in
         of_goes (f ∷ fs) fs all (Some mark) (walk_emits rules nodes bodies ranks x cells f fs all l mark
-            (way l.now l.left))
+        (way l.now l.left))
 
 -- where a frame is gone into there is room for one more
 pub room_into : (rules : List Rule) (nodes : List Shape) (bodies ranks x : List ℕ) (cells : List Entry) (f : Frame)

@@ -235,4 +235,4 @@ module _ (flat : code_flat.Tables) (roots : GiveRoots (flat_of flat) flat.roots.
       let below : k < length sets = omega (arith, get_below sets j is, le) in
       let before = get_there sets k below in
       resumed_in i j k set before.what is before.is le (chart_contains h set is) e
-          (chart_contains g before.what before.is) c takes
+      (chart_contains g before.what before.is) c takes

@@ -78,7 +78,7 @@ module _ (flat : code_flat.Tables) (roots : GiveRoots (flat_of flat) flat.roots.
         let two = below_get sets by.origin is in
         let same : by.origin ≡ length sets = omega (arith, one, two) in
         let n = done_null by.node by.step (slice_get flat.nodes.items by.node) refl d
-            (passes_where_begun (flat_of flat) x h same) in
+        (passes_where_begun (flat_of flat) x h same) in
         let free = not_true (takes_of flat r.from) (λ t. let lt = later t in omega (arith, lt, same)) in
         worked r.from r.waits a (inl (inr (record {
           root = by.node;

@@ -318,7 +318,7 @@ module _ (flat : code_flat.Tables) (roots : GiveRoots (flat_of flat) flat.roots.
       subst (λ v. Inside flat v (spot t k)) (sym (home_own t past)) (Inside.begun lt)
   inside_home (suc fuel) t k le lt = by (inner_at inners t) refl
       (λ i is. let up = (are t i is).above in inside_home fuel i.node i.step (omega (arith, le, up))
-          (are t i is).begins)
+      (are t i is).begins)
     where
       by : (o : Option Inner) → inner_at inners t ≡ o
           → ((i : Inner) → inner_at inners t ≡ Some i → Inside flat (home_in inners i.node) (spot i.node i.step))

@@ -298,7 +298,7 @@ module _ (has : ℕ → Bool) (rules : List Rule) (limit : ℕ) (flat : Flat)
         let n = turn_on a b m t f turned (within_less t k b within) in
         let cut = path_splits (OnLine x) w l in
         let once = call_step (calls is n.calling) (plain_node is (λ t. elim t [ ]))
-            (node_runs d m i cut.mid sp cut.left) in
+        (node_runs d m i cut.mid sp cut.left) in
         let on = run_times ds s a m b is sp (suc t) n.to cut.mid j n.turned (within_same t k b within) cut.right in
         let same : suc t + k ≡ t + suc k = omega arith in
         record {

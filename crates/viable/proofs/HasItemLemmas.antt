@@ -139,7 +139,7 @@ module _ (has : ℕ → Bool) (rules : List Rule) (limit : ℕ) (flat : Flat)
         (node_runs has rules limit flat bodies x line d m i at_mid.mid sp at_mid.left) o h in
         reach_all ds all s ms is (k + 1) at_mid.mid j o le n.rest behind.0 r behind.2 at_mid.right once)
         (λ inside. item_reached d m i j le sp u inside.0 inside.1 l
-            (λ p st. called h (calls is (Calling.member n.is)) st))
+        (λ p st. called h (calls is (Calling.member n.is)) st))
         (append_splits w v u r cut)
 
     reach_some : {es : Elements} {v left : List ℕ} → DerivesSome has rules es v

@@ -118,7 +118,7 @@ module _ (has : ℕ → Bool) (rules left : List Rule)
     forth_times no_more letters keeps = no_more
     forth_times (one_more {w = w} {v = v} d rest) letters keeps =
         let both = letters_parts has w v letters in one_more (kept_derives d both.0 keeps)
-            (forth_times rest both.1 keeps)
+        (forth_times rest both.1 keeps)
 
   -- the body of a productive name
   named_productive : (n : List ℕ) → IsProductive has rules (e.Name n) → (el : Element) × (body_of rules n ≡ Some el)

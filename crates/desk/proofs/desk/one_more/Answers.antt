@@ -4,5 +4,8 @@ use Rattle.desk.proofs.desk.one_more.Goals as goal
 
 pub overflow_add-result : goal.overflow_add-result
 overflow_add-result c =
-    omega (arith, room_for_one c.args.nodes c.args.length c.args.begun c.ranges.nodes.fits c.ranges.length.fits
-        c.requires)
+    omega (
+      arith,
+      room_for_one c.args.nodes c.args.length c.args.begun c.ranges.nodes.fits c.ranges.length.fits
+          c.requires,
+    )

@@ -60,7 +60,7 @@ returns-in-Emit-clause-goes c = λ all walks.
     let last = last_at _ _ _ _ _ _ _ _ _ _ is walks in
     let way = c.in-Emit.ensures _ _ _ c.requires.cells.1 last.left in
     goes_at _ _ _ _ _ _ _ _ _ _ _ _ is (rw (c.pop-in-Emit.ensures.frames _ _ is)
-        (walk_emits _ _ _ _ _ _ _ _ all last _ way))
+    (walk_emits _ _ _ _ _ _ _ _ all last _ way))
 
 pub returns-in-TurnTo-clause-goes : goal.returns-in-TurnTo-clause-goes
 returns-in-TurnTo-clause-goes c = λ all walks.

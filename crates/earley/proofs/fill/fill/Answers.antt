@@ -18,7 +18,7 @@ use Rattle.earley.proofs.fill.fill.Goals as goal
 pub loop-item_index-smaller-then-item_index-len : goal.loop-item_index-smaller-then-item_index-len
 loop-item_index-smaller-then-item_index-len g c =
     measure_falls c.args.flat.now c.requires.roots c.requires.nulls c.requires.tables
-        (map g.L.Letter.number c.args.line.now)
+    (map g.L.Letter.number c.args.line.now)
     (views c.args.flat.now 0 c.args.sets.now) c.requires.earlier
     c.loop-item_index.item_index c.loop-item_index.head_index (c.loop-item_index.item_index + 1)
     c.loop-item_index.head_index c.loop-item_index.heads c.loop-item_index.items c.loop-item_index.invariant.going
@@ -61,7 +61,7 @@ loop-item_index-preserved-then-item_index-len g c =
 pub loop-item_index-smaller : goal.loop-item_index-smaller
 loop-item_index-smaller g c =
     measure_falls c.args.flat.now c.requires.roots c.requires.nulls c.requires.tables
-        (map g.L.Letter.number c.args.line.now)
+    (map g.L.Letter.number c.args.line.now)
     (views c.args.flat.now 0 c.args.sets.now) c.requires.earlier
     c.loop-item_index.item_index c.loop-item_index.head_index c.loop-item_index.item_index
     (c.loop-item_index.head_index + 1) c.loop-item_index.heads c.loop-item_index.items
