@@ -11,7 +11,7 @@ use Rattle.flatgrammar.specs.Blocks.{block_in, block_of, lists_of, list_or, read
 use Rattle.flatgrammar.specs.Blocks.{Reads, Picks, AreByLetter, lists_in, IsSpotList}
 use Rattle.flatgrammar.proofs.CallOfLemmas.{past_get}
 use Rattle.flatgrammar.proofs.FlatCutLemmas.{push_cases}
-use Rattle.flatgrammar.proofs.InLemmas.{in_left, at_end, before_end, among_more, in_front, from_front, at_index_in}
+use Rattle.flatgrammar.proofs.InLemmas.{in_left, at_end, before_end, among_more, in_front, from_front}
 
 taken_more : {a : Spot} (k : ℕ) (xs : List Spot) (d : Spot) → k < length xs → In a (take (k + 1) xs) → In a (take k xs)
     ⊎ (a ≡ slice_index_or xs k d)
