@@ -15,7 +15,7 @@ use Rattle.flatgrammar.specs.Blocks.{spot, item_at, begin_count, block_of, IsAlo
 use Rattle.flatgrammar.proofs.CallOfLemmas.{some_same, equal_or, place_node, place_step, calling_callee, calls_late}
 use Rattle.flatgrammar.proofs.CallOfLemmas.{get_unmap}
 use Rattle.flatgrammar.proofs.InLemmas.{in_left}
-use Rattle.earley.specs.declared.front.Front.{Front}
+use Rattle.earley.specs.Fronts.{Front}
 use Rattle.earley.specs.Closed.{HoldAll}
 use Rattle.earley.specs.FrontViews.{view, views}
 use Rattle.earley.specs.ItemSets.{Adds, IsResumed}
@@ -82,7 +82,7 @@ module _ (flat : code_flat.Tables) where
 
   -- where such a node is done, one place alone goes on
   pub alone_adds : (root : ℕ) (i : Inner) (front : Front) (j home : ℕ) (old new : List Item) → IsAlone flat root i
-      → slice_get front.heads.items home ≡ Some i.head →
+      → slice_get front.heads home ≡ Some i.head →
       BeginHere flat j (view flat j front) → Adds (λ a. a ≡ record { node = i.node; step = i.next; origin = j }) old new
       → Adds (IsResumed flat root (view flat j front)) old new
   alone_adds root i front j home old new one at_home begun p =
@@ -90,8 +90,8 @@ module _ (flat : code_flat.Tables) where
       old new
       (λ a h. record {
         from = item_at j (spot i.node i.step);
-        waits = in_left front.items.items (in_expand (block_of flat) j i.head front.heads.items (spot i.node i.step)
-            (get_in i.head front.heads.items home at_home) one.stands);
+        waits = in_left front.items (in_expand (block_of flat) j i.head front.heads (spot i.node i.step)
+            (get_in i.head front.heads home at_home) one.stands);
         call = one.call ∙ ap (λ v. Some (root, v)) (sym (ap (λ v. v.step) h));
         node = ap (λ v. v.node) h;
         origin = ap (λ v. v.origin) h;

@@ -7,7 +7,7 @@ use Rattle.flatgrammar.specs.declared.flat_item.Item.{Item}
 use Rattle.flatgrammar.specs.declared.tables.Tables as code_flat
 use Rattle.flatgrammar.proofs.FlatCutLemmas.{push_cases}
 use Rattle.flatgrammar.proofs.InLemmas.{in_left, at_end, before_end}
-use Rattle.earley.specs.declared.front.Front.{Front}
+use Rattle.earley.specs.Fronts.{Front}
 use Rattle.earley.specs.declared.later.Homed.{Homed}
 use Rattle.earley.specs.Chosen.{items_of, ReadsSome, AreChosen, AreReadersAll}
 use Rattle.earley.specs.ItemSets.{Adds}
@@ -16,14 +16,14 @@ use Rattle.earley.proofs.ExpandLemmas.{take_one, take_past, map_end, reads_both}
 use Rattle.earley.proofs.FillLemmas.{front_same}
 
 pub chosen_readers_push : (flat : code_flat.Tables) (fronts : List Front) (front : Front) → AreReadersAll flat fronts
-    → AreChosen (ReadsSome flat) front.items.items (items_of front.readers.items)
+    → AreChosen (ReadsSome flat) front.items (items_of front.readers)
     → AreReadersAll flat (fronts ++ front ∷ [])
 chosen_readers_push flat fronts front are last k f is = by (push_cases fronts front k f is)
   where
     by : (slice_get fronts k ≡ Some f) ⊎ ((k ≡ length fronts) × (front ≡ f))
-        → AreChosen (ReadsSome flat) f.items.items (items_of f.readers.items)
+        → AreChosen (ReadsSome flat) f.items (items_of f.readers)
     by (inl old) = are k f old
-    by (inr new) = subst (λ v. AreChosen (ReadsSome flat) v.items.items (items_of v.readers.items)) new.1 last
+    by (inr new) = subst (λ v. AreChosen (ReadsSome flat) v.items (items_of v.readers)) new.1 last
 
 -- one more is read
 pub reads_homed_more : (flat : code_flat.Tables) (c : ℕ) (ws : List Homed) (k : ℕ) (d : Homed) (old mid new : List Item)

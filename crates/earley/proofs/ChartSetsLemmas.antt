@@ -9,7 +9,7 @@ use Rattle.flatgrammar.specs.Flat.{Flat, Place, at}
 use Rattle.flatgrammar.specs.Holds.{Holds, begins, called, has_read, returned}
 use Rattle.flatgrammar.specs.Places.{In, now, on, places}
 use Rattle.flatgrammar.specs.declared.flat_item.Item.{Item}
-use Rattle.earley.specs.declared.front.Front.{Front}
+use Rattle.earley.specs.Fronts.{Front}
 use Rattle.flatgrammar.specs.declared.tables.Tables as code_flat
 use Rattle.flatgrammar.specs.NodeSteps.{flat_of}
 use Rattle.earley.specs.Charts.{item_of, IsExact, IsExactSet}

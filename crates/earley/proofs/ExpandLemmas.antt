@@ -12,7 +12,7 @@ use Rattle.earley.specs.ItemSets.{Adds, IsResumed, IsCompleted, waiting_or, wait
 use Rattle.flatgrammar.specs.TableViews.{call_of, done_of, read_of, null_of, takes_of}
 use Rattle.flatgrammar.specs.NodeSteps.{IfSomeSet}
 use Rattle.earley.specs.ReadItems.{IsRead}
-use Rattle.earley.specs.declared.front.Front.{Front}
+use Rattle.earley.specs.Fronts.{Front}
 use Rattle.earley.specs.FrontViews.{view, views, IsOn, IsAsked, expand}
 use Rattle.earley.proofs.ItemLemmas.{item_same}
 use Rattle.flatgrammar.proofs.CallOfLemmas.{some_same}

@@ -14,5 +14,6 @@ pub mod IsWorkedLemmas
 pub mod ItemLemmas
 pub mod ItemRowsLemmas
 pub mod SetAtMostLemmas
+pub mod SetsLemmas
 pub mod ViewsLemmas
 pub mod WaitAllLemmas

@@ -6,7 +6,7 @@ use Rattle.flatgrammar.specs.Flat.{at}
 use Rattle.flatgrammar.specs.Holds.{Holds, begins}
 use Rattle.flatgrammar.specs.Places.{In, AreDifferent}
 use Rattle.flatgrammar.specs.declared.flat_item.Item.{Item}
-use Rattle.earley.specs.declared.front.Front.{Front}
+use Rattle.earley.specs.Fronts.{Front}
 use Rattle.flatgrammar.specs.declared.flat_node.Node as code_node
 use Rattle.flatgrammar.specs.declared.tables.Tables as code_flat
 use Rattle.flatgrammar.specs.declared.flat_node.Node.TheVariants as vn
@@ -155,57 +155,39 @@ module _ (flat : code_flat.Tables) (x : List ℕ) (sets : List (List Item)) (old
 
 module _ (flat : code_flat.Tables) (roots : GiveRoots (flat_of flat) flat.roots.items)
     (nulls : AreNulls (flat_of flat) flat.nulls.items) (tables : AreTables flat)
-    (x : List ℕ) (fronts one two three : List Front) (is_one : one ≡ fronts) (is_two : two ≡ fronts)
-    (is_three : three ≡ fronts)
-    (no_heads : List ℕ) (no_items : List Item) (empty_heads : no_heads ≡ []) (empty_items : no_items ≡ [])
-    (built : IsBuilt flat x (views flat 0 fronts)) (heads : List ℕ) (items : List Item)
-    (begun : Adds (IsWholeAt flat (length one)) no_heads heads)
-    (after : Adds (IsAfter flat x (views flat 0 two)) no_items items) where
-  built_three : IsBuilt flat x (views flat 0 three)
-  built_three = subst (λ v. IsBuilt flat x (views flat 0 v)) (sym is_three) built
+    (x : List ℕ) (fronts : List Front) (built : IsBuilt flat x (views flat 0 fronts))
+    (number : ℕ) (is_number : number ≡ length fronts) (heads : List ℕ) (items : List Item)
+    (begun : Adds (IsWholeAt flat number) [] heads)
+    (after : Adds (IsAfter flat x (views flat 0 fronts)) [] items) where
+  begun_there : Adds (IsWholeAt flat (length (views flat 0 fronts))) [] heads
+  begun_there = subst (λ v. Adds (IsWholeAt flat v) [] heads) (is_number ∙ sym (length_views flat 0 fronts)) begun
 
-  begun_three : Adds (IsWholeAt flat (length (views flat 0 three))) [] heads
-  begun_three =
-      let size : length one ≡ length (views flat 0 three) = ap (λ v. length v) (is_one ∙ sym is_three)
-      ∙ sym (length_views flat 0 three) in
-      subst (λ v. Adds (IsWholeAt flat v) [] heads) size
-      (subst (λ v. Adds (IsWholeAt flat (length one)) v heads) empty_heads begun)
+  pub going_from : IsGoing flat x (views flat 0 fronts) 0 0 heads items
+  going_from = going_first flat roots nulls tables x (views flat 0 fronts) built heads items begun_there after
 
-  after_three : Adds (IsAfter flat x (views flat 0 three)) [] items
-  after_three = subst (λ v. Adds (IsAfter flat x (views flat 0 v)) [] items) (is_two ∙ sym is_three)
-      (subst (λ v. Adds (IsAfter flat x (views flat 0 two)) v items) empty_items after)
-
-  pub going_from : IsGoing flat x (views flat 0 three) 0 0 heads items
-  going_from = going_first flat roots nulls tables x (views flat 0 three) built_three heads items begun_three
-      after_three
-
-  pub built_from : (front : Front) → Hold (flat_of flat) x (length (views flat 0 three))
-      (full (block_of flat) (length (views flat 0 three)) front.heads.items front.items.items) →
-      AreDifferent (full (block_of flat) (length (views flat 0 three)) front.heads.items front.items.items) →
-      Keeps (full (block_of flat) (length (views flat 0 three)) heads items)
-      (full (block_of flat) (length (views flat 0 three)) front.heads.items front.items.items) →
-      IsClosed flat (views flat 0 three) (full (block_of flat) (length (views flat 0 three)) front.heads.items
-      front.items.items) → IsBuilt flat x (views flat 0 (fronts ++ front ∷ []))
+  built_from : (front : Front) → Hold (flat_of flat) x (length (views flat 0 fronts))
+      (full (block_of flat) (length (views flat 0 fronts)) front.heads front.items) →
+      AreDifferent (full (block_of flat) (length (views flat 0 fronts)) front.heads front.items) →
+      Keeps (full (block_of flat) (length (views flat 0 fronts)) heads items)
+      (full (block_of flat) (length (views flat 0 fronts)) front.heads front.items) →
+      IsClosed flat (views flat 0 fronts) (full (block_of flat) (length (views flat 0 fronts)) front.heads
+      front.items) → IsBuilt flat x (views flat 0 (fronts ++ front ∷ []))
   built_from front hold different keeps closed =
-      let more = front_built flat roots nulls tables x (views flat 0 three) built_three heads items begun_three
-      after_three
-      (full (block_of flat) (length (views flat 0 three)) front.heads.items front.items.items) hold different keeps
-      closed in
-      let number : length (views flat 0 three) ≡ 0 + length three =
-      (let size = length_views flat 0 three in omega (arith, size)) in
-      subst (λ v. IsBuilt flat x (views flat 0 (v ++ front ∷ []))) is_three
-      (subst (λ v. IsBuilt flat x v) (sym (views_more flat 0 three front))
-      (subst (λ n. IsBuilt flat x (views flat 0 three ++ full (block_of flat) n front.heads.items front.items.items
-      ∷ [])) number more))
+      let more = front_built flat roots nulls tables x (views flat 0 fronts) built heads items begun_there after
+      (full (block_of flat) (length (views flat 0 fronts)) front.heads front.items) hold different keeps closed in
+      let count : length (views flat 0 fronts) ≡ 0 + length fronts =
+      (let size = length_views flat 0 fronts in omega (arith, size)) in
+      subst (λ v. IsBuilt flat x v) (sym (views_more flat 0 fronts front))
+      (subst (λ n. IsBuilt flat x (views flat 0 fronts ++ full (block_of flat) n front.heads front.items ∷ []))
+      count more)
 
-  pub built_by : (front : Front) (heads' : List ℕ) (items' : List Item) → front.heads.items ≡ heads'
-      → front.items.items ≡ items' →
-      Hold (flat_of flat) x (length (views flat 0 three))
-      (full (block_of flat) (length (views flat 0 three)) heads' items') →
-      AreDifferent (full (block_of flat) (length (views flat 0 three)) heads' items') →
-      Keeps (full (block_of flat) (length (views flat 0 three)) heads items)
-      (full (block_of flat) (length (views flat 0 three)) heads' items') →
-      IsClosed flat (views flat 0 three) (full (block_of flat) (length (views flat 0 three)) heads' items')
+  pub built_by : (front : Front) (heads' : List ℕ) (items' : List Item) → front.heads ≡ heads' → front.items ≡ items' →
+      Hold (flat_of flat) x (length (views flat 0 fronts))
+      (full (block_of flat) (length (views flat 0 fronts)) heads' items') →
+      AreDifferent (full (block_of flat) (length (views flat 0 fronts)) heads' items') →
+      Keeps (full (block_of flat) (length (views flat 0 fronts)) heads items)
+      (full (block_of flat) (length (views flat 0 fronts)) heads' items') →
+      IsClosed flat (views flat 0 fronts) (full (block_of flat) (length (views flat 0 fronts)) heads' items')
       → IsBuilt flat x (views flat 0 (fronts ++ front ∷ []))
   built_by front heads' items' h i hold different keeps closed = built_from front (rw (h, i) hold) (rw (h, i) different)
       (rw (h, i) keeps) (rw (h, i) closed)

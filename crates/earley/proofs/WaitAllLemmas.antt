@@ -13,7 +13,7 @@ use Rattle.flatgrammar.proofs.CallOfLemmas.{some_same, equal_or}
 use Rattle.flatgrammar.proofs.InLemmas.{in_left, at_end, before_end}
 use Rattle.earley.specs.declared.wait.Wait.{Wait}
 use Rattle.earley.specs.ItemSets.{Adds, IsResumed}
-use Rattle.earley.specs.declared.front.Front.{Front}
+use Rattle.earley.specs.Fronts.{Front}
 use Rattle.earley.specs.FrontViews.{view}
 use Rattle.earley.specs.Waiting.{Chain, ended, linked, IsListed, AreWaiting, AreWaitingAll}
 use Rattle.flatgrammar.specs.Blocks.{item_at, block_of, inner_of, lists_of, AreSpotLists}
@@ -121,16 +121,16 @@ listed_adds {Q = Q} {old = old} {new = new} l adds = adds_as (λ a. In a l.items
 
 -- one more set
 pub waiting_push : (flat : code_flat.Tables) (fronts : List Front) (front : Front) → AreWaitingAll flat fronts →
-    AreWaiting flat (view flat (length fronts) front) front.heads.items front.firsts.items front.waits.items
+    AreWaiting flat (view flat (length fronts) front) front.heads front.firsts front.waits
     → AreWaitingAll flat (fronts ++ front ∷ [])
 waiting_push flat fronts front are last k f is = by (push_cases fronts front k f is)
   where
     by : (slice_get fronts k ≡ Some f) ⊎ ((k ≡ length fronts) × (front ≡ f))
-        → AreWaiting flat (view flat k f) f.heads.items f.firsts.items f.waits.items
+        → AreWaiting flat (view flat k f) f.heads f.firsts f.waits
     by (inl old) = are k f old
     by (inr new) =
-        subst (λ v. AreWaiting flat (view flat k v) v.heads.items v.firsts.items v.waits.items) new.1
-        (subst (λ n. AreWaiting flat (view flat n front) front.heads.items front.firsts.items front.waits.items)
+        subst (λ v. AreWaiting flat (view flat k v) v.heads v.firsts v.waits) new.1
+        (subst (λ n. AreWaiting flat (view flat n front) front.heads front.firsts front.waits)
         (sym new.0) last)
 
 module _ (flat : code_flat.Tables) (heads : List ℕ) where

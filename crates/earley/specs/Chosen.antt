@@ -5,7 +5,7 @@ use Rattle.flatgrammar.specs.Places.{In}
 use Rattle.flatgrammar.specs.TableViews.{call_of, read_of}
 use Rattle.flatgrammar.specs.declared.flat_item.Item.{Item}
 use Rattle.flatgrammar.specs.declared.tables.Tables as code_flat
-use Rattle.earley.specs.declared.front.Front.{Front}
+use Rattle.earley.specs.Fronts.{Front}
 use Rattle.earley.specs.declared.later.Homed.{Homed}
 
 -- the items without their homes
@@ -28,4 +28,4 @@ pub record AreChosen (Q : Item → Type 0) (all few : List Item) : Type 0 where
 -- each set has its readers beside it
 abbrev pub AreReadersAll : code_flat.Tables → List Front → Type 0
 AreReadersAll flat fronts = (k : ℕ) (f : Front) → slice_get fronts k ≡ Some f
-    → AreChosen (ReadsSome flat) f.items.items (items_of f.readers.items)
+    → AreChosen (ReadsSome flat) f.items (items_of f.readers)

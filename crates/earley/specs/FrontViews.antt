@@ -7,7 +7,7 @@ use Rattle.flatgrammar.specs.Places.{In, AreDifferent}
 use Rattle.flatgrammar.specs.NodeSteps.{flat_of}
 use Rattle.earley.specs.Closed.{Hold}
 use Rattle.flatgrammar.specs.declared.flat_item.Item.{Item}
-use Rattle.earley.specs.declared.front.Front.{Front}
+use Rattle.earley.specs.Fronts.{Front}
 use Rattle.flatgrammar.specs.declared.tables.Tables as code_flat
 use Rattle.flatgrammar.specs.TableViews.{call_of, whole_root}
 use Rattle.earley.specs.ItemSets.{IsCompleted}
@@ -32,7 +32,7 @@ pub record AreOpened (blocks : ℕ → Block) (j : ℕ) (front heads : List ℕ)
   pub passes : (h : ℕ) → In h front → (r : Spot) → In r (blocks h).passes → In (item_at j r) (full blocks j heads items)
 
 abbrev pub view : code_flat.Tables → ℕ → Front → List Item
-view flat j front = full (block_of flat) j front.heads.items front.items.items
+view flat j front = full (block_of flat) j front.heads front.items
 
 -- the sets from number j on
 abbrev pub views : code_flat.Tables → ℕ → List Front → List (List Item)

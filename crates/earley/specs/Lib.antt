@@ -3,6 +3,7 @@ pub mod Charts
 pub mod Chosen
 pub mod Closed
 pub mod FrontViews
+pub mod Fronts
 pub mod HeadTables
 pub mod ItemRows
 pub mod ItemSets

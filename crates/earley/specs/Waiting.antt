@@ -1,14 +1,15 @@
 -- What waits for the heads of a set, as lists of links.
-use Rattle.std.specs.Prelude.{◌≡◌, ℕ, suc, ◌<◌, ◌≤◌, List, [], ◌∷◌, Some, None, slice_get, slice_index_or}
+use Rattle.std.specs.Prelude.{◌≡◌, ℕ, suc, ◌<◌, ◌≤◌, List, [], ◌∷◌, Some, None, length, slice_get, slice_index_or}
 use Rattle.flatgrammar.specs.declared.flat_item.Item.{Item}
 use Rattle.flatgrammar.specs.declared.tables.Tables as code_flat
 use Rattle.flatgrammar.specs.TableViews.{call_of}
 use Rattle.flatgrammar.specs.Blocks.{begin_count, inner_of}
 use Rattle.flatgrammar.specs.Places.{In}
-use Rattle.earley.specs.declared.front.Front.{Front}
+use Rattle.earley.specs.Fronts.{Front}
 use Rattle.earley.specs.declared.wait.Wait.{Wait}
 use Rattle.earley.specs.ItemSets.{IsResumed}
 use Rattle.earley.specs.FrontViews.{view}
+use Rattle.earley.specs.Chosen.{items_of, ReadsSome, AreChosen}
 
 -- the items of a list of links, which begins one before that index
 pub data Chain (waits : List Wait) : ℕ → List Item → Type 0 where
@@ -30,7 +31,15 @@ AreWaiting flat places heads firsts waits = (h t : ℕ) → slice_get heads h �
 
 abbrev pub AreWaitingAll : code_flat.Tables → List Front → Type 0
 AreWaitingAll flat fronts = (k : ℕ) (f : Front) → slice_get fronts k ≡ Some f
-    → AreWaiting flat (view flat k f) f.heads.items f.firsts.items f.waits.items
+    → AreWaiting flat (view flat k f) f.heads f.firsts f.waits
+
+-- a set as it is kept, of those heads and items
+pub record IsKept (flat : code_flat.Tables) (j : ℕ) (heads : List ℕ) (items : List Item) (front : Front) : Type 0 where
+  pub same_heads : front.heads ≡ heads
+  pub same_items : front.items ≡ items
+  pub size : (k : ℕ) → front.size ≡ length (view flat k front)
+  pub waiting : AreWaiting flat (view flat j front) front.heads front.firsts front.waits
+  pub readers : AreChosen (ReadsSome flat) front.items (items_of front.readers)
 
 -- what begins in a set and goes on elsewhere began there
 abbrev pub BeginHere : code_flat.Tables → ℕ → List Item → Type 0

@@ -1,6 +1,6 @@
 //! Charts of item sets, and the line judge.
-ghost use Rattle.std.specs.Prelude.{◌≡◌, ◌↔◌, ◌+◌, ◌*◌, ◌≤◌, ℕ, List, [], Some, IsTrue, IfOk, OnErr, length, map};
-ghost use Rattle.std.specs.Prelude.{slice_get};
+ghost use Rattle.std.specs.Prelude.{◌≡◌, ◌↔◌, ◌+◌, ◌*◌, ◌≤◌, ◌++◌, ◌∷◌, ℕ, List, [], Some, IsTrue, IfOk, OnOk, OnErr};
+ghost use Rattle.std.specs.Prelude.{length, map, slice_get};
 ghost use Rattle.abnfread.specs.Element.{Rule};
 ghost use Rattle.abnfcheck.specs.Derivable.{RuleDerives};
 ghost use Rattle.flatgrammar.specs.Lowered.{IsLowered};
@@ -10,14 +10,14 @@ ghost use Rattle.earley.specs.Charts.{IsAfter, IsExact};
 ghost use Rattle.earley.specs.ChartSets.{chart_of, set_at, IsSet, AreSized};
 ghost use Rattle.flatgrammar.specs.Blocks.{AreExact, block_of, item_at, AreTables, AreAlone, AreSpotLists};
 ghost use Rattle.earley.specs.ItemSets.{Adds};
-ghost use Rattle.earley.specs.Waiting.{AreWaiting};
+ghost use Rattle.earley.specs.Waiting.{IsKept};
 ghost use Rattle.earley.specs.Chosen.{items_of, Calls, ReadsSome, AreChosen, AreReadersAll};
 ghost use Rattle.earley.specs.FrontViews.{expand, full, view, views, IsWholeAt};
 ghost use Rattle.flatgrammar.specs.Places.{In, places};
 ghost use Rattle.flatgrammar.specs.Flat.{Place};
 ghost use Rattle.flatgrammar.specs.Holds.{Holds};
 ghost use Rattle.letters.specs.Letters.{has};
-ghost use Rattle.earley.specs.declared.front.Front as front;
+ghost use Rattle.earley.specs.Fronts.{Front as front};
 
 use crate::fill::fill;
 use crate::front::Front;
@@ -27,6 +27,7 @@ use crate::items::Items;
 use crate::later::Later;
 use crate::letter_law::values_are_letters;
 use crate::read_front::read;
+use crate::sets::Sets;
 use crate::wait::wait_all;
 use flatgrammar::{Flat, Item, Spot, Tables, items_tell, spots, whole_root};
 use letters::Letter;
@@ -41,17 +42,16 @@ use std::rc::Rc;
 pub struct Chart {
     alloc: Global,
     tables: Option<Rc<Tables>>,
-    fronts: Vec<Front>,
+    sets: Sets,
     kept: Kept,
 }
 
-// Holds what is kept from line to line: two tables, and the memory of sets that are gone.
+// Holds the tables of a set that is filled, which are kept from line to line.
 #[derive(Drop)]
 struct Kept {
     heads: Heads,
     items: Items,
     later: Later,
-    spare: Vec<Front>,
 }
 
 impl Kept {
@@ -61,7 +61,6 @@ impl Kept {
             heads: Heads::new(alloc),
             items: Items::new(alloc),
             later: Later::new(alloc),
-            spare: Vec::new(alloc),
         }
     }
 }
@@ -73,9 +72,9 @@ impl Model for Chart {
 
     ghost Value = { List (List (Place × ℕ)) };
 
-    ghost view = { λ c. chart_of c.tables c.fronts.items };
+    ghost view = { λ c. chart_of c.tables c.sets };
 
-    ghost invariant = { λ c. AreSized c.tables c.fronts.items };
+    ghost invariant = { λ c. AreSized c.tables c.sets };
 }
 
 impl Chart {
@@ -86,7 +85,7 @@ impl Chart {
         Chart {
             alloc,
             tables: None,
-            fronts: Vec::new(alloc),
+            sets: Sets::new(alloc),
             kept: Kept::new(alloc),
         }
     }
@@ -95,40 +94,39 @@ impl Chart {
     pub fn items(&self, j: usize) -> usize
         ensures { result ≡ length (set_at self.now j) }
     {
-        match self.fronts.get(j) {
+        match self.sets.get(j) {
             Some(front) => front.size,
             None => 0,
         }
     }
 
-    // Empties the chart, and returns what is kept for the next line.
-    fn take_kept(&mut self) -> Result<Kept, Memory>
+    // Empties the chart, and returns its sets, which are none, and what is kept for the next line.
+    fn take_kept(&mut self) -> (Sets, Kept)
         ensures empty { self.new ≡ [] }
+        ensures none { result.0 ≡ [] }
     {
         self.tables = None;
-        let mut fronts = mem::replace(&mut self.fronts, Vec::new(self.alloc));
-        let mut kept = mem::replace(&mut self.kept, Kept::new(self.alloc));
-        kept.spare.append(&mut fronts)?;
-        Ok(kept)
+        let mut sets = mem::replace(&mut self.sets, Sets::new(self.alloc));
+        sets.clear();
+        (sets, mem::replace(&mut self.kept, Kept::new(self.alloc)))
     }
 
     // Keeps the sets of a line, with the tables that they were filled by, and what is kept for the next line.
-    fn keep(&mut self, tables: Rc<Tables>, fronts: Vec<Front>, kept: Kept)
-        requires { (j : ℕ) (f : front.Front) → slice_get fronts.items j ≡ Some f
-            → f.size ≡ length (view tables.value j f) }
-        ensures { self.new ≡ chart_of (Some tables) fronts.items }
+    fn keep(&mut self, tables: Rc<Tables>, sets: Sets, kept: Kept)
+        requires { (j : ℕ) (f : front) → slice_get sets j ≡ Some f → f.size ≡ length (view tables.value j f) }
+        ensures { self.new ≡ chart_of (Some tables) sets }
     {
         self.tables = Some(tables);
-        self.fronts = fronts;
+        self.sets = sets;
         self.kept = kept;
     }
 }
 
 // Predicts the whole, before the first letter.
-fn begin(flat: &Tables, sets: &[Front], heads: &mut Heads) -> Result<(), Memory>
-    ensures { IfOk result (λ done. Adds (IsWholeAt flat.now (length sets.now)) heads.old heads.new) }
+fn begin(flat: &Tables, number: usize, heads: &mut Heads) -> Result<(), Memory>
+    ensures { IfOk result (λ done. Adds (IsWholeAt flat.now number) heads.old heads.new) }
 {
-    if sets.len() == 0 {
+    if number == 0 {
         if let Some(root) = whole_root(flat) {
             heads.note(root)?;
         }
@@ -140,7 +138,7 @@ fn begin(flat: &Tables, sets: &[Front], heads: &mut Heads) -> Result<(), Memory>
 fn follow<L: Letter>(
     flat: &Tables,
     line: &[L],
-    sets: &[Front],
+    sets: &Sets,
     items: &mut Items,
 ) -> Result<(), Memory>
     requires length { length sets.now ≤ length line.now }
@@ -151,7 +149,10 @@ fn follow<L: Letter>(
 {
     if sets.len() > 0 {
         let last = sets.len() - 1;
-        read(flat, line[last], &sets[last], last, items)?;
+        let Some(front) = sets.get(last) else {
+            unreachable!()
+        };
+        read(flat, line[last], &front, last, items)?;
     }
     Ok(())
 }
@@ -170,75 +171,49 @@ fn size_of(flat: &Tables, heads: &[usize], items: &[Item]) -> Result<usize, Memo
     Ok(size)
 }
 
-// Returns a set whose memory can be used again.
-fn memory_of(alloc: Global, spare: &mut Vec<Front>) -> Front {
-    match spare.pop() {
-        Some(front) => front,
-        None => Front {
-            heads: Vec::new(alloc),
-            items: Vec::new(alloc),
-            readers: Vec::new(alloc),
-            firsts: Vec::new(alloc),
-            waits: Vec::new(alloc),
-            size: 0,
-        },
-    }
-}
-
-// Moves the heads and the items into a set, and lists what waits for the heads.
+// Adds the set of these heads and items, with what waits for the heads.
 fn close(
     flat: &Tables,
-    number: usize,
-    heads: &mut Heads,
-    items: &mut Items,
+    heads: &Heads,
+    items: &Items,
     later: &mut Later,
-    memory: Front,
-) -> Result<Front, Memory>
+    sets: &mut Sets,
+) -> Result<(), Memory>
     requires lists { AreSpotLists flat.now }
-    requires callers { AreChosen (Calls flat.now) items.old (items_of later.old.callers.items) }
-    requires readers { AreChosen (ReadsSome flat.now) items.old (items_of later.old.readers.items) }
-    ensures heads { IfOk result (λ front. front.heads.items ≡ heads.old) }
-    ensures items { IfOk result (λ front. front.items.items ≡ items.old) }
-    ensures size { IfOk result (λ front. (j : ℕ) → front.size ≡ length (view flat.now j front)) }
-    ensures waiting { IfOk result (λ front. AreWaiting flat.now (view flat.now number front) front.heads.items
-        front.firsts.items front.waits.items) }
-    ensures readers { IfOk result (λ front. AreChosen (ReadsSome flat.now) front.items.items
-        (items_of front.readers.items)) }
-    ensures no_heads { IfOk result (λ front. heads.new ≡ []) }
-    ensures no_items { IfOk result (λ front. items.new ≡ []) }
+    requires callers { AreChosen (Calls flat.now) items.now (items_of later.old.callers.items) }
+    requires readers { AreChosen (ReadsSome flat.now) items.now (items_of later.old.readers.items) }
+    ensures { IfOk result (λ _. (f : front) × ((sets.new ≡ sets.old ++ f ∷ [])
+        × IsKept flat.now (length sets.old) heads.now items.now f)) }
 {
-    let Front {
-        heads: heads_memory,
-        items: items_memory,
-        readers,
-        mut firsts,
-        mut waits,
-        size: _,
-    } = memory;
-    wait_all(flat, heads, &later.callers, number, &mut firsts, &mut waits)?;
-    let readers = mem::replace(&mut later.readers, readers);
-    let heads = heads.take(heads_memory);
-    let items = items.take(items_memory);
-    let size = size_of(flat, &heads, &items)?;
-    Ok(Front {
+    wait_all(
+        flat,
         heads,
-        items,
-        readers,
-        firsts,
-        waits,
-        size,
-    })
+        &later.callers,
+        sets.len(),
+        &mut later.firsts,
+        &mut later.waits,
+    )?;
+    let front = Front {
+        heads: heads.list(),
+        items: items.list(),
+        readers: &later.readers,
+        firsts: &later.firsts,
+        waits: &later.waits,
+        size: size_of(flat, heads.list(), items.list())?,
+    };
+    sets.push(&front)?;
+    Ok(())
 }
 
-// Returns the item sets of a line.
-fn fill_fronts<L: Letter>(
+// Adds the item sets of a line, where there are none.
+fn fill_sets<L: Letter>(
     flat: &Tables,
     line: &[L],
     heads: &mut Heads,
     items: &mut Items,
     later: &mut Later,
-    spare: &mut Vec<Front>,
-) -> Result<Vec<Front>, Memory>
+    sets: &mut Sets,
+) -> Result<(), Memory>
     requires roots { GiveRoots (flat_of flat.now) flat.now.roots.items }
     requires nulls { AreNulls (flat_of flat.now) flat.now.nulls.items }
     requires tables { AreTables flat.now }
@@ -246,22 +221,21 @@ fn fill_fronts<L: Letter>(
     requires lists { AreSpotLists flat.now }
     requires no_heads { heads.old ≡ [] }
     requires no_items { items.old ≡ [] }
-    ensures size { IfOk result (λ sets. length sets.items ≡ length line.now + 1) }
-    ensures sized { IfOk result (λ sets. (j : ℕ) (f : front.Front) → slice_get sets.items j ≡ Some f
+    requires no_sets { sets.old ≡ [] }
+    ensures size { OnOk result (length sets.new ≡ length line.now + 1) }
+    ensures sized { OnOk result ((j : ℕ) (f : front) → slice_get sets.new j ≡ Some f
         → f.size ≡ length (view flat.now j f)) }
-    ensures exact { IfOk result (λ sets. IsExact flat.now (map L.number line.now) (views flat.now 0 sets.items)) }
+    ensures exact { OnOk result (IsExact flat.now (map L.number line.now) (views flat.now 0 sets.new)) }
 {
-    let alloc = *spare.allocator();
-    let mut sets = Vec::new(alloc);
     while sets.len() <= line.len() {
-        begin(flat, &sets, heads)?;
-        follow(flat, line, &sets, items)?;
-        fill(flat, line, &sets, heads, items, later)?;
-        let memory = memory_of(alloc, spare);
-        let front = close(flat, sets.len(), heads, items, later, memory)?;
-        sets.push(front)?;
+        begin(flat, sets.len(), heads)?;
+        follow(flat, line, sets, items)?;
+        fill(flat, line, sets, heads, items, later)?;
+        close(flat, heads, items, later, sets)?;
+        heads.clear();
+        items.clear();
     }
-    Ok(sets)
+    Ok(())
 }
 
 fn in_spots(spots: &[Spot], number: usize, item: Item) -> bool
@@ -292,19 +266,19 @@ fn in_heads(flat: &Tables, heads: &[usize], number: usize, item: Item) -> bool
 }
 
 // Whether an item stands in a set.
-fn stands(flat: &Tables, front: &Front, number: usize, item: Item) -> bool
+fn stands(flat: &Tables, front: &Front<'_>, number: usize, item: Item) -> bool
     ensures { IsTrue result ↔ In item (view flat.now number front.now) }
 {
-    if in_heads(flat, &front.heads, number, item) {
+    if in_heads(flat, front.heads, number, item) {
         return true;
     }
-    holds(&front.items, item)
+    holds(front.items, item)
 }
 
 // Tells whether the last set holds the whole's end with origin 0.
-fn is_yes<L: Letter>(flat: &Tables, fronts: &[Front], line: &[L]) -> bool
-    requires size { length fronts.now ≡ length line.now + 1 }
-    requires exact { IsExact flat.now (map L.number line.now) (views flat.now 0 fronts.now) }
+fn is_yes<L: Letter>(flat: &Tables, sets: &Sets, line: &[L]) -> bool
+    requires size { length sets.now ≡ length line.now + 1 }
+    requires exact { IsExact flat.now (map L.number line.now) (views flat.now 0 sets.now) }
     ensures { IsTrue result ↔ Holds (flat_of flat.now) (map L.number line.now) (length line.now)
         (Place.at flat.now.whole 1) 0 }
 {
@@ -313,18 +287,22 @@ fn is_yes<L: Letter>(flat: &Tables, fronts: &[Front], line: &[L]) -> bool
         step: 1,
         origin: 0,
     };
-    let answer = stands(flat, &fronts[line.len()], line.len(), whole);
-    answer
+    let Some(front) = sets.get(line.len()) else {
+        unreachable!()
+    };
+    stands(flat, &front, line.len(), whole)
 }
 
 // Fills an empty chart by these tables, and answers.
 fn judge_by<L: Letter>(
     chart: &mut Chart,
     tables: Rc<Tables>,
+    sets: Sets,
     kept: Kept,
     line: &[L],
 ) -> Result<bool, Memory>
     requires exact { AreExact tables.value }
+    requires none { sets ≡ [] }
     requires empty { chart.old ≡ [] }
     ensures sets { IfOk result (λ _. (j : ℕ) → IsSet (flat_of tables.value) (map L.number line.now) j
         (set_at chart.new j)) }
@@ -332,19 +310,20 @@ fn judge_by<L: Letter>(
         (length line.now) (Place.at (flat_of tables.value).whole 1) 0) }
     ensures empty { OnErr result (chart.new ≡ []) }
 {
+    let mut sets = sets;
     let mut kept = kept;
     kept.heads.clear();
     kept.items.clear();
-    let fronts = fill_fronts(
+    fill_sets(
         &tables,
         line,
         &mut kept.heads,
         &mut kept.items,
         &mut kept.later,
-        &mut kept.spare,
+        &mut sets,
     )?;
-    let answer = is_yes(&tables, &fronts, line);
-    chart.keep(tables, fronts, kept);
+    let answer = is_yes(&tables, &sets, line);
+    chart.keep(tables, sets, kept);
     Ok(answer)
 }
 
@@ -363,9 +342,9 @@ pub fn judge<L: Letter>(chart: &mut Chart, flat: &Flat, line: &[L]) -> Result<bo
         IsTrue yes ↔ RuleDerives (has L.ALPHABET) rules judged (map L.number line.now)) }
     ensures empty { OnErr result (chart.new ≡ []) }
 {
-    let kept = chart.take_kept()?;
+    let (sets, kept) = chart.take_kept();
     let tables = flat.share()?;
-    let answer = judge_by(chart, tables, kept, line)?;
+    let answer = judge_by(chart, tables, sets, kept, line)?;
     values_are_letters(line);
     items_tell();
     Ok(answer)

@@ -19,6 +19,7 @@ use crate::front::Front;
 use crate::heads::Heads;
 use crate::items::Items;
 use crate::later::{Homed, Later, keep_caller, keep_reader};
+use crate::sets::Sets;
 use crate::wait::{Wait, first_at};
 use flatgrammar::{
     Deed, Item, Spot, Tables, call, calls, deed_of, null, passes, sole_caller, spots,
@@ -101,14 +102,14 @@ fn resume_heads(
 fn resume_all(
     flat: &Tables,
     root: usize,
-    front: &Front,
+    front: &Front<'_>,
     origin: usize,
     set: &mut Items,
 ) -> Result<(), Memory>
     ensures { IfOk result (λ done. Adds (IsResumed flat.now root (view flat.now origin front.now)) set.old set.new) }
 {
-    resume_heads(flat, root, &front.heads, origin, set)?;
-    resume(flat, root, &front.items, set)?;
+    resume_heads(flat, root, front.heads, origin, set)?;
+    resume(flat, root, front.items, set)?;
     Ok(())
 }
 
@@ -142,18 +143,18 @@ fn go_along(waits: &[Wait], first: usize, set: &mut Items) -> Result<(), Memory>
 fn go_back(
     flat: &Tables,
     root: usize,
-    front: &Front,
+    front: &Front<'_>,
     origin: usize,
     home: usize,
     set: &mut Items,
 ) -> Result<(), Memory>
     requires own { inner_of flat.now root ≡ None }
-    requires waiting { AreWaiting flat.now (view flat.now origin front.now) front.now.heads.items front.now.firsts.items
-        front.now.waits.items }
+    requires waiting { AreWaiting flat.now (view flat.now origin front.now) front.now.heads front.now.firsts
+        front.now.waits }
     ensures { IfOk result (λ done. Adds (IsResumed flat.now root (view flat.now origin front.now)) set.old set.new) }
 {
-    match home_of(&front.heads, home, root) {
-        Some(index) => go_along(&front.waits, first_at(&front.firsts, index), set)?,
+    match home_of(front.heads, home, root) {
+        Some(index) => go_along(front.waits, first_at(front.firsts, index), set)?,
         None => resume_all(flat, root, front, origin, set)?,
     }
     Ok(())
@@ -163,21 +164,21 @@ fn go_back(
 fn go_on(
     flat: &Tables,
     root: usize,
-    front: &Front,
+    front: &Front<'_>,
     origin: usize,
     home: usize,
     set: &mut Items,
 ) -> Result<(), Memory>
     requires alone { AreAlone flat.now }
     requires begun { BeginHere flat.now origin (view flat.now origin front.now) }
-    requires waiting { AreWaiting flat.now (view flat.now origin front.now) front.now.heads.items front.now.firsts.items
-        front.now.waits.items }
+    requires waiting { AreWaiting flat.now (view flat.now origin front.now) front.now.heads front.now.firsts
+        front.now.waits }
     ensures { IfOk result (λ done. Adds (IsResumed flat.now root (view flat.now origin front.now)) set.old set.new) }
 {
     let Some(inner) = sole_caller(flat, root) else {
         return go_back(flat, root, front, origin, home, set);
     };
-    if let Some(index) = home_of(&front.heads, home, inner.head) {
+    if let Some(index) = home_of(front.heads, home, inner.head) {
         set.add(
             Item {
                 node: inner.node,
@@ -194,7 +195,7 @@ fn go_on(
 /// Adds what goes on from earlier sets where an item is done, which is given.
 fn complete(
     flat: &Tables,
-    sets: &[Front],
+    sets: &Sets,
     item: Item,
     done: bool,
     home: usize,
@@ -208,7 +209,7 @@ fn complete(
 {
     if done {
         if let Some(front) = sets.get(item.origin) {
-            go_on(flat, item.node, front, item.origin, home, set)?;
+            go_on(flat, item.node, &front, item.origin, home, set)?;
         }
     }
     Ok(())
@@ -254,13 +255,7 @@ fn pass(
 }
 
 /// Adds what goes on where an item stands. What its place does is given.
-fn advance(
-    flat: &Tables,
-    sets: &[Front],
-    at: Homed,
-    deed: Deed,
-    set: &mut Items,
-) -> Result<(), Memory>
+fn advance(flat: &Tables, sets: &Sets, at: Homed, deed: Deed, set: &mut Items) -> Result<(), Memory>
     requires called { deed.called ≡ call_of flat.now at.item }
     requires done { deed.done ≡ done_of flat.now at.item }
     requires takes { deed.takes ≡ takes_of flat.now at.item }
@@ -304,7 +299,7 @@ fn add_all(spots: &[Spot], origin: usize, home: usize, set: &mut Items) -> Resul
 /// Works on one item.
 fn work(
     flat: &Tables,
-    sets: &[Front],
+    sets: &Sets,
     at: Homed,
     heads: &mut Heads,
     items: &mut Items,
@@ -353,7 +348,7 @@ fn open(
 pub(crate) fn fill<L: Letter>(
     flat: &Tables,
     line: &[L],
-    sets: &[Front],
+    sets: &Sets,
     heads: &mut Heads,
     items: &mut Items,
     later: &mut Later,

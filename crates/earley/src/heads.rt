@@ -7,7 +7,6 @@ ghost use Rattle.earley.specs.ItemSets.{Adds};
 use ruletable::Memory;
 use std::alloc::Global;
 use std::marker::Model;
-use std::mem;
 
 /// The heads of a set, in the order in which they were noted, seen as a list.
 ///
@@ -143,15 +142,5 @@ impl Heads {
         ensures { self.new ≡ [] }
     {
         self.list.clear();
-    }
-
-    /// Empties it, and returns the heads that it had, in exchange for memory.
-    pub(crate) fn take(&mut self, memory: Vec<usize>) -> Vec<usize>
-        ensures heads { result.items ≡ self.old }
-        ensures empty { self.new ≡ [] }
-    {
-        let mut memory = memory;
-        memory.clear();
-        mem::replace(&mut self.list, memory)
     }
 }

@@ -10,7 +10,6 @@ use flatgrammar::Item;
 use ruletable::Memory;
 use std::alloc::Global;
 use std::marker::Model;
-use std::mem;
 
 // So many items are looked through one by one. They have no rows.
 const FEW: usize = 16;
@@ -297,6 +296,13 @@ impl Items {
         self.list.len()
     }
 
+    /// Returns the items.
+    pub(crate) fn list(&self) -> &[Item]
+        ensures { result.now ≡ self.now }
+    {
+        &self.list
+    }
+
     /// Returns the item at that index.
     pub(crate) fn at(&self, index: usize) -> Item
         requires { index < length self.now }
@@ -350,15 +356,5 @@ impl Items {
         ensures { self.new ≡ [] }
     {
         self.list.clear();
-    }
-
-    /// Empties it, and returns the items that it had, in exchange for memory.
-    pub(crate) fn take(&mut self, memory: Vec<Item>) -> Vec<Item>
-        ensures items { result.items ≡ self.old }
-        ensures empty { self.new ≡ [] }
-    {
-        let mut memory = memory;
-        memory.clear();
-        mem::replace(&mut self.list, memory)
     }
 }

@@ -10,6 +10,7 @@ mod items;
 mod later;
 mod letter_law;
 mod read_front;
+mod sets;
 mod verdict;
 mod wait;
 

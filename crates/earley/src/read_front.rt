@@ -100,17 +100,17 @@ fn read_heads(
 pub(crate) fn read<L: Letter>(
     flat: &Tables,
     letter: L,
-    from: &Front,
+    from: &Front<'_>,
     origin: usize,
     set: &mut Items,
 ) -> Result<(), Memory>
     requires lists { AreSpotLists flat.now }
-    requires readers { AreChosen (ReadsSome flat.now) from.now.items.items (items_of from.now.readers.items) }
+    requires readers { AreChosen (ReadsSome flat.now) from.now.items (items_of from.now.readers) }
     ensures { IfOk result (λ done. Adds (IsRead flat.now (L.number letter) (view flat.now origin from.now)) set.old
         set.new) }
 {
     let value = letter.value();
-    read_heads(flat, value, &from.heads, origin, set)?;
-    read_items(flat, value, &from.readers, set)?;
+    read_heads(flat, value, from.heads, origin, set)?;
+    read_items(flat, value, from.readers, set)?;
     Ok(())
 }

@@ -1,4 +1,4 @@
-use Rattle.std.proofs.Common.{◌≡◌, ◌+◌, ◌-◌, ◌<◌, Some, length, map, ap, ◌∙◌, arith}
+use Rattle.std.proofs.Common.{◌≡◌, ◌+◌, ◌-◌, ◌<◌, Some, length, map, slice_get, ap, sym, ◌∙◌, arith}
 use Rattle.earley.specs.FrontViews.{view, views}
 use Rattle.flatgrammar.proofs.CallOfLemmas.{get_map}
 use Rattle.earley.proofs.IsBuiltLemmas.{get_is}
@@ -8,21 +8,22 @@ use Rattle.earley.proofs.chart.follow.Goals as goal
 
 pub returns-in_ok-read : goal.returns-in_ok-read
 returns-in_ok-read g c =
-    let some = c.if-sets-gt0.true in
+    let sets = c.args.sets.now in
+    let last = c.len-last.result - 1 in
+    let some = c.if-len-gt0.true in
+    let one = c.len.ensures in
+    let two = c.len-last.ensures in
     let room = c.requires.length in
-    let below : length c.args.sets.now - 1 < length c.args.sets.now = omega (arith, some) in
-    let within : length c.args.sets.now - 1 < length c.args.line.now = omega (arith, some, room) in
-    let zero : 0 + (length c.args.sets.now - 1) ≡ length c.args.sets.now - 1 = omega arith in
-    let size : length (views c.args.flat.now 0 c.args.sets.now) ≡ length c.args.sets.now - 1 + 1 =
-    (let n = length_views c.args.flat.now 0 c.args.sets.now in omega (arith, some, n)) in
-    let last = get_is c.args.sets.now (length c.args.sets.now - 1) c.index-sets-last.result below
-    c.index-sets-last.is in
-    after_last c.args.flat.now (map g.L.Letter.number c.args.line.now) (views c.args.flat.now 0 c.args.sets.now)
-    c.args.items.now c.read.new.set
-    (length c.args.sets.now - 1) (g.L.Letter.number c.index-line-last.result)
-    (view c.args.flat.now (length c.args.sets.now - 1) c.index-sets-last.result) size
-    (get_views c.args.flat.now 0 c.args.sets.now (length c.args.sets.now - 1) c.index-sets-last.result last
-    ∙ ap (λ v. Some (view c.args.flat.now v c.index-sets-last.result)) zero)
-    (get_map g.L.Letter.number c.args.line.now (length c.args.sets.now - 1)
-    (get_is c.args.line.now (length c.args.sets.now - 1) c.index-line-last.result within c.index-line-last.is))
+    let within : last < length c.args.line.now = omega (arith, some, one, two, room) in
+    let zero : 0 + last ≡ last = omega arith in
+    let there : slice_get sets last ≡ Some c.in-Some.front = sym c.in-Some.ensures in
+    let size : length (views c.args.flat.now 0 sets) ≡ last + 1 =
+    (let n = length_views c.args.flat.now 0 sets in omega (arith, some, one, two, n)) in
+    after_last c.args.flat.now (map g.L.Letter.number c.args.line.now) (views c.args.flat.now 0 sets)
+    c.args.items.now c.read.new.set last (g.L.Letter.number c.index-line-last.result)
+    (view c.args.flat.now last c.in-Some.front) size
+    (get_views c.args.flat.now 0 sets last c.in-Some.front there
+    ∙ ap (λ v. Some (view c.args.flat.now v c.in-Some.front)) zero)
+    (get_map g.L.Letter.number c.args.line.now last
+    (get_is c.args.line.now last c.index-line-last.result within c.index-line-last.is))
     c.in_ok-read.ensures

@@ -10,22 +10,20 @@ use Rattle.earley.proofs.chart.judge_by.Goals as goal
 
 pub is_yes-answer-requires-clause-exact : goal.is_yes-answer-requires-clause-exact
 is_yes-answer-requires-clause-exact g c =
-    subst (λ v. IsExact c.deref-2.result.now (map g.L.Letter.number c.args.line.now) (views c.deref-2.result.now 0 v))
-    (sym c.deref-3.ensures.value)
-    (subst (λ v. IsExact v (map g.L.Letter.number c.args.line.now) (views v 0 c.in_ok-fronts.fronts.items))
-    (c.deref.ensures ∙ sym c.deref-2.ensures) c.in_ok-fronts.ensures.exact)
+    subst (λ v. IsExact v (map g.L.Letter.number c.args.line.now) (views v 0 c.fill_sets.new.sets))
+    (c.deref.ensures ∙ sym c.deref-2.ensures) c.in_ok-fill_sets.ensures.exact
 
 pub returns-clause-sets : goal.returns-clause-sets
 returns-clause-sets g c = λ j.
     subst (λ v. IsSet (flat_of c.args.tables.value) (map g.L.Letter.number c.args.line.now) j (set_at v j))
     (sym c.keep.ensures)
-    (chart_set c.args.tables.value (map g.L.Letter.number c.args.line.now) c.in_ok-fronts.fronts.items
-    (c.in_ok-fronts.ensures.size ∙ ap (λ v. v + 1) (sym (length-map c.args.line.now g.L.Letter.number)))
-    (subst (λ v. IsExact v (map g.L.Letter.number c.args.line.now) (views v 0 c.in_ok-fronts.fronts.items))
-    c.deref.ensures c.in_ok-fronts.ensures.exact) j)
+    (chart_set c.args.tables.value (map g.L.Letter.number c.args.line.now) c.fill_sets.new.sets
+    (c.in_ok-fill_sets.ensures.size ∙ ap (λ v. v + 1) (sym (length-map c.args.line.now g.L.Letter.number)))
+    (subst (λ v. IsExact v (map g.L.Letter.number c.args.line.now) (views v 0 c.fill_sets.new.sets))
+    c.deref.ensures c.in_ok-fill_sets.ensures.exact) j)
 
-pub fill_fronts-requires-clause-alone : goal.fill_fronts-requires-clause-alone
-fill_fronts-requires-clause-alone g c = subst (λ v. AreAlone v) (sym c.deref.ensures) c.requires.exact.inners
+pub fill_sets-requires-clause-alone : goal.fill_sets-requires-clause-alone
+fill_sets-requires-clause-alone g c = subst (λ v. AreAlone v) (sym c.deref.ensures) c.requires.exact.inners
 
-pub fill_fronts-requires-clause-lists : goal.fill_fronts-requires-clause-lists
-fill_fronts-requires-clause-lists g c = subst (λ v. AreSpotLists v) (sym c.deref.ensures) c.requires.exact.lists
+pub fill_sets-requires-clause-lists : goal.fill_sets-requires-clause-lists
+fill_sets-requires-clause-lists g c = subst (λ v. AreSpotLists v) (sym c.deref.ensures) c.requires.exact.lists

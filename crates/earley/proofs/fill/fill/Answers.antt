@@ -1,5 +1,5 @@
 use Rattle.std.proofs.Common.{map, take, ℕ, ◌+◌, ◌<◌, ◌++◌, ◌∷◌, [], length, subst, sym, arith, slice_index_or, inl}
-use Rattle.std.proofs.Common.{inr}
+use Rattle.std.proofs.Common.{inr, ◌∙◌}
 use Rattle.flatgrammar.specs.Places.{In}
 use Rattle.flatgrammar.specs.declared.flat_item.Item.{Item}
 use Rattle.earley.specs.ItemSets.{Adds}
@@ -80,8 +80,9 @@ loop-item_index-preserved g c =
     let passed = subst (λ n. Adds {A = Item} (λ a. In a
     (map (item_at n) (block_of c.args.flat.now (slice_index_or c.loop-item_index.heads c.loop-item_index.head_index
     c.at-head.result)).passes))
-    c.loop-item_index.items c.open.new.items) (sym (length_views c.args.flat.now 0 c.args.sets.now))
-    (subst (λ v. Adds {A = Item} (λ a. In a (map (item_at (length c.args.sets.now))
+    c.loop-item_index.items c.open.new.items)
+    (c.len-then-head_index-len.ensures ∙ sym (length_views c.args.flat.now 0 c.args.sets.now))
+    (subst (λ v. Adds {A = Item} (λ a. In a (map (item_at c.len-then-head_index-len.result)
     (block_of c.args.flat.now v).passes)) c.loop-item_index.items c.open.new.items) head_is
     c.in_ok-open.ensures.items) in
     record {

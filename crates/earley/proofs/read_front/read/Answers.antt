@@ -1,4 +1,4 @@
-use Rattle.std.proofs.Common.{subst}
+use Rattle.std.proofs.Common.{ap, subst}
 use Rattle.earley.specs.Chosen.{items_of}
 use Rattle.earley.specs.ItemSets.{Adds}
 use Rattle.earley.specs.ReadItems.{IsRead}
@@ -12,12 +12,12 @@ returns g c =
     subst (λ n. Adds (IsRead c.args.flat.now n (view c.args.flat.now c.args.origin c.args.from.now)) c.args.set.now
     c.read_items.new.set) c.value-value.ensures.number
     (reads_both c.args.flat.now c.value-value.result
-    (expand (block_of c.args.flat.now) c.args.origin c.args.from.now.heads.items) c.args.from.now.items.items
+    (expand (block_of c.args.flat.now) c.args.origin c.args.from.now.heads) c.args.from.now.items
     c.args.set.now c.read_heads.new.set c.read_items.new.set
     (subst (λ v. Adds (IsRead c.args.flat.now c.value-value.result (expand (block_of c.args.flat.now) c.args.origin v))
-    c.args.set.now c.read_heads.new.set) c.deref.ensures.value c.in_ok-read_heads.ensures)
+    c.args.set.now c.read_heads.new.set) (ap (λ f. f.heads) c.from.view_is) c.in_ok-read_heads.ensures)
     (reads_fewer c.args.flat.now c.value-value.result c.read_heads.new.set c.read_items.new.set
-    (items_of c.args.from.now.readers.items) c.args.from.now.items.items c.requires.readers.stand
+    (items_of c.args.from.now.readers) c.args.from.now.items c.requires.readers.stand
     (λ a i r. c.requires.readers.chosen a i (c.value-value.result, r))
     (subst (λ v. Adds (IsRead c.args.flat.now c.value-value.result (items_of v)) c.read_heads.new.set
-    c.read_items.new.set) c.deref-2.ensures.value c.in_ok-read_items.ensures)))
+    c.read_items.new.set) (ap (λ f. f.readers) c.from.view_is) c.in_ok-read_items.ensures)))

@@ -2,4 +2,4 @@ use Rattle.earley.proofs.ChartSetsLemmas.{are_sized}
 use Rattle.earley.proofs.chart.Chart.keep.Goals as goal
 
 pub invariant_of-self : goal.invariant_of-self
-invariant_of-self c = are_sized c.args.tables c.args.fronts.items c.requires
+invariant_of-self c = are_sized c.args.tables c.args.sets c.requires
