@@ -1,7 +1,8 @@
 -- Of the items of a set those that are chosen, item by item.
 -- Serves: judge.
 use Rattle.std.proofs.Common.{◌≡◌, ℕ, ◌+◌, ◌<◌, ◌≤◌, ◌⊎◌, inl, inr, List, [], ◌∷◌, ◌++◌, Some, length, take, arith}
-use Rattle.std.proofs.Common.{slice_get, slice_index_or, ap, sym, ◌∙◌, subst}
+use Rattle.std.proofs.Common.{slice_get, slice_index_or, ap, sym, ◌∙◌, subst, length-append}
+use Rattle.std.proofs.lemmas.Option.{slice_get_within}
 use Rattle.flatgrammar.specs.Places.{In}
 use Rattle.flatgrammar.specs.declared.flat_item.Item.{Item}
 use Rattle.flatgrammar.specs.declared.tables.Tables as code_flat
@@ -9,21 +10,25 @@ use Rattle.flatgrammar.proofs.FlatCutLemmas.{push_cases}
 use Rattle.flatgrammar.proofs.InLemmas.{in_left, at_end, before_end}
 use Rattle.earley.specs.Fronts.{Front}
 use Rattle.earley.specs.declared.later.Homed.{Homed}
-use Rattle.earley.specs.Chosen.{items_of, ReadsSome, AreChosen, AreReadersAll}
+use Rattle.earley.specs.Chosen.{items_of, ReadsSome, AreChosen, AreReaders}
 use Rattle.earley.specs.ItemSets.{Adds}
 use Rattle.earley.specs.ReadItems.{IsRead}
 use Rattle.earley.proofs.ExpandLemmas.{take_one, take_past, map_end, reads_both}
 use Rattle.earley.proofs.FillLemmas.{front_same}
 
-pub chosen_readers_push : (flat : code_flat.Tables) (fronts : List Front) (front : Front) → AreReadersAll flat fronts
-    → AreChosen (ReadsSome flat) front.items (items_of front.readers)
-    → AreReadersAll flat (fronts ++ front ∷ [])
-chosen_readers_push flat fronts front are last k f is = by (push_cases fronts front k f is)
+-- the readers of a set that is put behind the others
+pub readers_push : (flat : code_flat.Tables) (fronts : List Front) (front : Front) (items : List Item)
+    (readers : List Homed) → front.items ≡ items → AreChosen (ReadsSome flat) items (items_of readers)
+    → AreReaders flat (fronts ++ front ∷ []) readers
+readers_push flat fronts front items readers same are k f size is = by (push_cases fronts front k f is)
   where
     by : (slice_get fronts k ≡ Some f) ⊎ ((k ≡ length fronts) × (front ≡ f))
-        → AreChosen (ReadsSome flat) f.items (items_of f.readers)
-    by (inl old) = are k f old
-    by (inr new) = subst (λ v. AreChosen (ReadsSome flat) v.items (items_of v.readers)) new.1 last
+        → AreChosen (ReadsSome flat) f.items (items_of readers)
+    by (inl old) =
+        let lt = slice_get_within fronts k f old in
+        let count = length-append fronts (front ∷ []) in absurd (omega (arith, lt, size, count))
+    by (inr new) = subst (λ v. AreChosen (ReadsSome flat) v.items (items_of readers)) new.1
+        (subst (λ v. AreChosen (ReadsSome flat) v (items_of readers)) (sym same) are)
 
 -- one more is read
 pub reads_homed_more : (flat : code_flat.Tables) (c : ℕ) (ws : List Homed) (k : ℕ) (d : Homed) (old mid new : List Item)

@@ -1,6 +1,6 @@
 -- Sets one behind the other in the same lists.
 -- Serves: judge, Chart::items.
-use Rattle.std.proofs.Common.{◌≡◌, ℕ, zero, suc, ◌+◌, ◌-◌, ◌≤◌, List, [], ◌∷◌, ◌++◌, Some, None, length, map, take, drop}
+use Rattle.std.proofs.Common.{◌≡◌, suc, ◌-◌, ◌≤◌, List, [], ◌∷◌, ◌++◌, Some, length, take, drop}
 use Rattle.std.proofs.Common.{◌⊎◌, inl, inr, slice_get, refl, sym, ◌∙◌, ap, subst, arith, length-append}
 use Rattle.std.specs.Prelude.{slice_range}
 use Rattle.std.proofs.Math.Seq.{drop-append_seam}
@@ -54,16 +54,14 @@ front_same : (old new : Stores) (b : Bounds) → GoOn old new → AreBounds old 
 front_same old new b go are =
     let one = part_same old.heads.items new.heads.items b.heads go.heads are.heads in
     let two = part_same old.items.items new.items.items b.items go.items are.items in
-    let three = part_same old.readers.items new.readers.items b.readers go.readers are.readers in
-    let four = part_same old.firsts.items new.firsts.items b.firsts go.firsts are.firsts in
-    let five = part_same old.waits.items new.waits.items b.waits go.waits are.waits in
-    rw (one, two, three, four, five) refl
+    let three = part_same old.firsts.items new.firsts.items b.firsts go.firsts are.firsts in
+    let four = part_same old.waits.items new.waits.items b.waits go.waits are.waits in
+    rw (one, two, three, four) refl
 
 bounds_same : (old new : Stores) (b : Bounds) → GoOn old new → AreBounds old b → AreBounds new b
 bounds_same old new b go are = record {
   heads = part_within old.heads.items new.heads.items b.heads go.heads are.heads;
   items = part_within old.items.items new.items.items b.items go.items are.items;
-  readers = part_within old.readers.items new.readers.items b.readers go.readers are.readers;
   firsts = part_within old.firsts.items new.firsts.items b.firsts go.firsts are.firsts;
   waits = part_within old.waits.items new.waits.items b.waits go.waits are.waits;
 }

@@ -1,5 +1,5 @@
 -- Of the items of a set those that call, and those that may read a letter.
-use Rattle.std.specs.Prelude.{◌≡◌, ℕ, List, map, Some, slice_get}
+use Rattle.std.specs.Prelude.{◌≡◌, ℕ, ◌+◌, List, length, map, Some, slice_get}
 use Rattle.flatgrammar.specs.NodeSteps.{IfSomeSet}
 use Rattle.flatgrammar.specs.Places.{In}
 use Rattle.flatgrammar.specs.TableViews.{call_of, read_of}
@@ -25,7 +25,7 @@ pub record AreChosen (Q : Item → Type 0) (all few : List Item) : Type 0 where
   pub stand : (a : Item) → In a few → In a all
   pub chosen : (a : Item) → In a all → Q a → In a few
 
--- each set has its readers beside it
-abbrev pub AreReadersAll : code_flat.Tables → List Front → Type 0
-AreReadersAll flat fronts = (k : ℕ) (f : Front) → slice_get fronts k ≡ Some f
-    → AreChosen (ReadsSome flat) f.items (items_of f.readers)
+-- the readers are those of the last set
+abbrev pub AreReaders : code_flat.Tables → List Front → List Homed → Type 0
+AreReaders flat fronts readers = (k : ℕ) (f : Front) → length fronts ≡ k + 1 → slice_get fronts k ≡ Some f
+    → AreChosen (ReadsSome flat) f.items (items_of readers)

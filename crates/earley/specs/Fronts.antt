@@ -1,7 +1,6 @@
--- Sets as they are kept, one behind the other: each is a part of five lists.
+-- Sets as they are kept, one behind the other: each is a part of four lists.
 use Rattle.std.specs.Prelude.{◌≡◌, ℕ, ◌≤◌, ◌++◌, List, length, map, slice_get, slice_range, Some}
 use Rattle.flatgrammar.specs.declared.flat_item.Item.{Item}
-use Rattle.earley.specs.declared.later.Homed.{Homed}
 use Rattle.earley.specs.declared.wait.Wait.{Wait}
 use Rattle.earley.specs.declared.sets.Part.{Part}
 use Rattle.earley.specs.declared.sets.Bounds.{Bounds}
@@ -11,7 +10,6 @@ use Rattle.earley.specs.declared.sets.Stores.{Stores}
 pub record Front : Type 0 where
   pub heads : List ℕ
   pub items : List Item
-  pub readers : List Homed
   pub firsts : List ℕ
   pub waits : List Wait
   pub size : ℕ
@@ -25,7 +23,6 @@ abbrev pub front_in : Stores → Bounds → Front
 front_in s b = record {
   heads = part_of s.heads.items b.heads;
   items = part_of s.items.items b.items;
-  readers = part_of s.readers.items b.readers;
   firsts = part_of s.firsts.items b.firsts;
   waits = part_of s.waits.items b.waits;
   size = b.size;
@@ -42,7 +39,6 @@ pub record IsPart (part : Part) (count : ℕ) : Type 0 where
 pub record AreBounds (s : Stores) (b : Bounds) : Type 0 where
   pub heads : IsPart b.heads (length s.heads.items)
   pub items : IsPart b.items (length s.items.items)
-  pub readers : IsPart b.readers (length s.readers.items)
   pub firsts : IsPart b.firsts (length s.firsts.items)
   pub waits : IsPart b.waits (length s.waits.items)
 
@@ -57,7 +53,6 @@ GoesOn {A} old new = (more : List A) × (new ≡ old ++ more)
 pub record GoOn (old new : Stores) : Type 0 where
   pub heads : GoesOn old.heads.items new.heads.items
   pub items : GoesOn old.items.items new.items.items
-  pub readers : GoesOn old.readers.items new.readers.items
   pub firsts : GoesOn old.firsts.items new.firsts.items
   pub waits : GoesOn old.waits.items new.waits.items
 

@@ -9,7 +9,6 @@ use Rattle.earley.specs.Fronts.{Front}
 use Rattle.earley.specs.declared.wait.Wait.{Wait}
 use Rattle.earley.specs.ItemSets.{IsResumed}
 use Rattle.earley.specs.FrontViews.{view}
-use Rattle.earley.specs.Chosen.{items_of, ReadsSome, AreChosen}
 
 -- the items of a list of links, which begins one before that index
 pub data Chain (waits : List Wait) : ℕ → List Item → Type 0 where
@@ -39,7 +38,6 @@ pub record IsKept (flat : code_flat.Tables) (j : ℕ) (heads : List ℕ) (items 
   pub same_items : front.items ≡ items
   pub size : (k : ℕ) → front.size ≡ length (view flat k front)
   pub waiting : AreWaiting flat (view flat j front) front.heads front.firsts front.waits
-  pub readers : AreChosen (ReadsSome flat) front.items (items_of front.readers)
 
 -- what begins in a set and goes on elsewhere began there
 abbrev pub BeginHere : code_flat.Tables → ℕ → List Item → Type 0

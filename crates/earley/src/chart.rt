@@ -11,7 +11,7 @@ ghost use Rattle.earley.specs.ChartSets.{chart_of, set_at, IsSet, AreSized};
 ghost use Rattle.flatgrammar.specs.Blocks.{AreExact, block_of, item_at, AreTables, AreAlone, AreSpotLists};
 ghost use Rattle.earley.specs.ItemSets.{Adds};
 ghost use Rattle.earley.specs.Waiting.{IsKept};
-ghost use Rattle.earley.specs.Chosen.{items_of, Calls, ReadsSome, AreChosen, AreReadersAll};
+ghost use Rattle.earley.specs.Chosen.{items_of, Calls, AreChosen, AreReaders};
 ghost use Rattle.earley.specs.FrontViews.{expand, full, view, views, IsWholeAt};
 ghost use Rattle.flatgrammar.specs.Places.{In, places};
 ghost use Rattle.flatgrammar.specs.Flat.{Place};
@@ -24,7 +24,7 @@ use crate::front::Front;
 use crate::heads::Heads;
 use crate::item::{holds, same};
 use crate::items::Items;
-use crate::later::Later;
+use crate::later::{Homed, Later};
 use crate::letter_law::values_are_letters;
 use crate::read_front::read;
 use crate::sets::Sets;
@@ -134,16 +134,17 @@ fn begin(flat: &Tables, number: usize, heads: &mut Heads) -> Result<(), Memory>
     Ok(())
 }
 
-// Adds what the last set has after its letter.
+// Adds what the last set has after its letter. Of its items those that read are given.
 fn follow<L: Letter>(
     flat: &Tables,
     line: &[L],
     sets: &Sets,
+    readers: &[Homed],
     items: &mut Items,
 ) -> Result<(), Memory>
     requires length { length sets.now ≤ length line.now }
     requires lists { AreSpotLists flat.now }
-    requires readers { AreReadersAll flat.now sets.now }
+    requires readers { AreReaders flat.now sets.now readers.now }
     ensures { IfOk result (λ done. Adds (IsAfter flat.now (map L.number line.now) (views flat.now 0 sets.now)) items.old
         items.new) }
 {
@@ -152,7 +153,7 @@ fn follow<L: Letter>(
         let Some(front) = sets.get(last) else {
             unreachable!()
         };
-        read(flat, line[last], &front, last, items)?;
+        read(flat, line[last], &front, readers, last, items)?;
     }
     Ok(())
 }
@@ -181,8 +182,8 @@ fn close(
 ) -> Result<(), Memory>
     requires lists { AreSpotLists flat.now }
     requires callers { AreChosen (Calls flat.now) items.now (items_of later.old.callers.items) }
-    requires readers { AreChosen (ReadsSome flat.now) items.now (items_of later.old.readers.items) }
-    ensures { IfOk result (λ _. (f : front) × ((sets.new ≡ sets.old ++ f ∷ [])
+    ensures readers { later.new.readers ≡ later.old.readers }
+    ensures front { IfOk result (λ _. (f : front) × ((sets.new ≡ sets.old ++ f ∷ [])
         × IsKept flat.now (length sets.old) heads.now items.now f)) }
 {
     wait_all(
@@ -196,7 +197,6 @@ fn close(
     let front = Front {
         heads: heads.list(),
         items: items.list(),
-        readers: &later.readers,
         firsts: &later.firsts,
         waits: &later.waits,
         size: size_of(flat, heads.list(), items.list())?,
@@ -229,7 +229,7 @@ fn fill_sets<L: Letter>(
 {
     while sets.len() <= line.len() {
         begin(flat, sets.len(), heads)?;
-        follow(flat, line, sets, items)?;
+        follow(flat, line, sets, &later.readers, items)?;
         fill(flat, line, sets, heads, items, later)?;
         close(flat, heads, items, later, sets)?;
         heads.clear();

@@ -13,6 +13,7 @@ ghost use Rattle.earley.specs.Waiting.{Chain, AreWaiting, AreWaitingAll, BeginHe
 ghost use Rattle.flatgrammar.specs.declared.flat_item.Item as code_item;
 ghost use Rattle.flatgrammar.specs.declared.tables.Tables as code_flat;
 ghost use Rattle.earley.specs.Chosen.{items_of, Calls, ReadsSome, AreChosen};
+ghost use Rattle.earley.specs.Fronts.{Front as the_front};
 ghost use Rattle.earley.specs.FrontViews.{expand, full, view, views, IsAsked, IsOn, IsFurther, IsGoing};
 
 use crate::front::Front;
@@ -98,16 +99,21 @@ fn resume_heads(
     Ok(())
 }
 
-/// Adds what goes on from a set where a root is done.
+/// Adds what goes on from the set of an origin where a root is done.
+#[inline(never)]
 fn resume_all(
     flat: &Tables,
     root: usize,
-    front: &Front<'_>,
+    sets: &Sets,
     origin: usize,
     set: &mut Items,
 ) -> Result<(), Memory>
-    ensures { IfOk result (λ done. Adds (IsResumed flat.now root (view flat.now origin front.now)) set.old set.new) }
+    ensures { (f : the_front) → slice_get sets.now origin ≡ Some f
+        → IfOk result (λ done. Adds (IsResumed flat.now root (view flat.now origin f)) set.old set.new) }
 {
+    let Some(front) = sets.get(origin) else {
+        return Ok(());
+    };
     resume_heads(flat, root, front.heads, origin, set)?;
     resume(flat, root, front.items, set)?;
     Ok(())
@@ -139,77 +145,82 @@ fn go_along(waits: &[Wait], first: usize, set: &mut Items) -> Result<(), Memory>
     Ok(())
 }
 
-/// Adds what goes on from a set where a root is done, as it is listed there.
+/// Adds what goes on from the set of an item's origin where the item's root is done, as it is listed there.
+#[inline(always)]
 fn go_back(
     flat: &Tables,
-    root: usize,
+    sets: &Sets,
     front: &Front<'_>,
-    origin: usize,
-    home: usize,
+    at: Homed,
     set: &mut Items,
 ) -> Result<(), Memory>
-    requires own { inner_of flat.now root ≡ None }
-    requires waiting { AreWaiting flat.now (view flat.now origin front.now) front.now.heads front.now.firsts
+    requires there { slice_get sets.now at.item.origin ≡ Some front.now }
+    requires own { inner_of flat.now at.item.node ≡ None }
+    requires waiting { AreWaiting flat.now (view flat.now at.item.origin front.now) front.now.heads front.now.firsts
         front.now.waits }
-    ensures { IfOk result (λ done. Adds (IsResumed flat.now root (view flat.now origin front.now)) set.old set.new) }
+    ensures { IfOk result (λ done. Adds (IsResumed flat.now at.item.node (view flat.now at.item.origin front.now))
+        set.old set.new) }
 {
-    match home_of(front.heads, home, root) {
+    match home_of(front.heads, at.home, at.item.node) {
         Some(index) => go_along(front.waits, first_at(front.firsts, index), set)?,
-        None => resume_all(flat, root, front, origin, set)?,
+        None => resume_all(flat, at.item.node, sets, at.item.origin, set)?,
     }
     Ok(())
 }
 
-/// Adds what goes on from a set where a root is done. If one place alone calls the root, that place goes on.
+/// Adds what goes on from the set of an item's origin where the item's root is done. If one place alone calls the root,
+/// that place goes on.
+#[inline(always)]
 fn go_on(
     flat: &Tables,
-    root: usize,
+    sets: &Sets,
     front: &Front<'_>,
-    origin: usize,
-    home: usize,
+    at: Homed,
     set: &mut Items,
 ) -> Result<(), Memory>
+    requires there { slice_get sets.now at.item.origin ≡ Some front.now }
     requires alone { AreAlone flat.now }
-    requires begun { BeginHere flat.now origin (view flat.now origin front.now) }
-    requires waiting { AreWaiting flat.now (view flat.now origin front.now) front.now.heads front.now.firsts
+    requires begun { BeginHere flat.now at.item.origin (view flat.now at.item.origin front.now) }
+    requires waiting { AreWaiting flat.now (view flat.now at.item.origin front.now) front.now.heads front.now.firsts
         front.now.waits }
-    ensures { IfOk result (λ done. Adds (IsResumed flat.now root (view flat.now origin front.now)) set.old set.new) }
+    ensures { IfOk result (λ done. Adds (IsResumed flat.now at.item.node (view flat.now at.item.origin front.now))
+        set.old set.new) }
 {
-    let Some(inner) = sole_caller(flat, root) else {
-        return go_back(flat, root, front, origin, home, set);
+    let Some(inner) = sole_caller(flat, at.item.node) else {
+        return go_back(flat, sets, front, at, set);
     };
-    if let Some(index) = home_of(front.heads, home, inner.head) {
+    if let Some(index) = home_of(front.heads, at.home, inner.head) {
         set.add(
             Item {
                 node: inner.node,
                 step: inner.next,
-                origin,
+                origin: at.item.origin,
             },
             index,
         )?;
         return Ok(());
     }
-    resume_all(flat, root, front, origin, set)
+    resume_all(flat, at.item.node, sets, at.item.origin, set)
 }
 
 /// Adds what goes on from earlier sets where an item is done, which is given.
+#[inline(always)]
 fn complete(
     flat: &Tables,
     sets: &Sets,
-    item: Item,
+    at: Homed,
     done: bool,
-    home: usize,
     set: &mut Items,
 ) -> Result<(), Memory>
-    requires done { done ≡ done_of flat.now item }
+    requires done { done ≡ done_of flat.now at.item }
     requires alone { AreAlone flat.now }
     requires begun { BeginAll flat.now sets.now }
     requires waiting { AreWaitingAll flat.now sets.now }
-    ensures { IfOk result (λ done. Adds (IsCompleted flat.now (views flat.now 0 sets.now) [] item) set.old set.new) }
+    ensures { IfOk result (λ done. Adds (IsCompleted flat.now (views flat.now 0 sets.now) [] at.item) set.old set.new) }
 {
     if done {
-        if let Some(front) = sets.get(item.origin) {
-            go_on(flat, item.node, &front, item.origin, home, set)?;
+        if let Some(front) = sets.get(at.item.origin) {
+            go_on(flat, sets, &front, at, set)?;
         }
     }
     Ok(())
@@ -265,7 +276,7 @@ fn advance(flat: &Tables, sets: &Sets, at: Homed, deed: Deed, set: &mut Items) -
     ensures { IfOk result (λ done. Adds (IsFurther flat.now (views flat.now 0 sets.now) at.item) set.old set.new) }
 {
     pass(flat, at.item, deed.called, deed.takes, at.home, set)?;
-    complete(flat, sets, at.item, deed.done, at.home, set)?;
+    complete(flat, sets, at, deed.done, set)?;
     Ok(())
 }
 

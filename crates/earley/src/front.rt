@@ -1,6 +1,5 @@
 //! Item sets as they are kept.
 
-use crate::later::Homed;
 use crate::wait::Wait;
 use flatgrammar::Item;
 use std::marker::Model;
@@ -8,13 +7,11 @@ use std::marker::Model;
 /// Holds an item set: the heads, which are the roots that were predicted in it and whose blocks stand in it, and the
 /// items beside their blocks. `size` is the number of its items, those of the blocks counted.
 ///
-/// `readers` are at least those of the items that read a letter. `firsts` and `waits` list for each head what goes on
-/// where it is done.
+/// `firsts` and `waits` list for each head what goes on where it is done.
 #[derive(Drop)]
 pub(crate) struct Front<'a> {
     pub(crate) heads: &'a [usize],
     pub(crate) items: &'a [Item],
-    pub(crate) readers: &'a [Homed],
     pub(crate) firsts: &'a [usize],
     pub(crate) waits: &'a [Wait],
     pub(crate) size: usize,
@@ -28,7 +25,6 @@ impl<'a> Model for Front<'a> {
     ghost view = { λ f. record {
       heads = f.heads.now;
       items = f.items.now;
-      readers = f.readers.now;
       firsts = f.firsts.now;
       waits = f.waits.now;
       size = f.size;

@@ -17,8 +17,8 @@ pub(crate) struct Homed {
     pub(crate) home: usize,
 }
 
-/// Holds of the items of a set those that call, and those that may read a letter. `firsts` and `waits` list for each head
-/// what goes on where it is done.
+/// Holds of the items of a set those that call, and those that may read a letter. `firsts` and `waits` list for each
+/// head what goes on where it is done.
 #[derive(Drop)]
 pub(crate) struct Later {
     pub(crate) callers: Vec<Homed>,

@@ -96,21 +96,22 @@ fn read_heads(
     Ok(())
 }
 
-/// Adds the items that a set has after a letter.
+/// Adds the items that a set has after a letter. Of its items those that read are given.
 pub(crate) fn read<L: Letter>(
     flat: &Tables,
     letter: L,
     from: &Front<'_>,
+    readers: &[Homed],
     origin: usize,
     set: &mut Items,
 ) -> Result<(), Memory>
     requires lists { AreSpotLists flat.now }
-    requires readers { AreChosen (ReadsSome flat.now) from.now.items (items_of from.now.readers) }
+    requires readers { AreChosen (ReadsSome flat.now) from.now.items (items_of readers.now) }
     ensures { IfOk result (λ done. Adds (IsRead flat.now (L.number letter) (view flat.now origin from.now)) set.old
         set.new) }
 {
     let value = letter.value();
     read_heads(flat, value, from.heads, origin, set)?;
-    read_items(flat, value, from.readers, set)?;
+    read_items(flat, value, readers, set)?;
     Ok(())
 }

@@ -3,7 +3,6 @@ ghost use Rattle.std.specs.Prelude.{◌≡◌, ◌++◌, ◌∷◌, List, [], le
 ghost use Rattle.earley.specs.Fronts.{front_in, AreBounds, GoesOn, GoOn, IsAppended};
 
 use crate::front::Front;
-use crate::later::Homed;
 use crate::wait::Wait;
 use flatgrammar::Item;
 use ruletable::Memory;
@@ -22,7 +21,6 @@ pub(crate) struct Part {
 pub(crate) struct Bounds {
     pub(crate) heads: Part,
     pub(crate) items: Part,
-    pub(crate) readers: Part,
     pub(crate) firsts: Part,
     pub(crate) waits: Part,
     pub(crate) size: usize,
@@ -33,7 +31,6 @@ pub(crate) struct Bounds {
 pub(crate) struct Stores {
     pub(crate) heads: Vec<usize>,
     pub(crate) items: Vec<Item>,
-    pub(crate) readers: Vec<Homed>,
     pub(crate) firsts: Vec<usize>,
     pub(crate) waits: Vec<Wait>,
 }
@@ -80,7 +77,6 @@ fn store(stores: &mut Stores, front: &Front<'_>) -> Result<Bounds, Memory>
     Ok(Bounds {
         heads: append(&mut stores.heads, front.heads)?,
         items: append(&mut stores.items, front.items)?,
-        readers: append(&mut stores.readers, front.readers)?,
         firsts: append(&mut stores.firsts, front.firsts)?,
         waits: append(&mut stores.waits, front.waits)?,
         size: front.size,
@@ -97,7 +93,6 @@ impl Sets {
             stores: Stores {
                 heads: Vec::new(alloc),
                 items: Vec::new(alloc),
-                readers: Vec::new(alloc),
                 firsts: Vec::new(alloc),
                 waits: Vec::new(alloc),
             },
@@ -124,7 +119,6 @@ impl Sets {
         Some(Front {
             heads: &self.stores.heads[b.heads.from..b.heads.to],
             items: &self.stores.items[b.items.from..b.items.to],
-            readers: &self.stores.readers[b.readers.from..b.readers.to],
             firsts: &self.stores.firsts[b.firsts.from..b.firsts.to],
             waits: &self.stores.waits[b.waits.from..b.waits.to],
             size: b.size,
@@ -147,7 +141,6 @@ impl Sets {
         self.bounds.clear();
         self.stores.heads.clear();
         self.stores.items.clear();
-        self.stores.readers.clear();
         self.stores.firsts.clear();
         self.stores.waits.clear();
     }

@@ -2,12 +2,12 @@ use Rattle.std.proofs.Common.{◌≡◌, ℕ, Some, slice_get, ◌+◌, ◌≤�
 use Rattle.std.proofs.Common.{length-append}
 use Rattle.earley.specs.Fronts.{Front}
 use Rattle.earley.specs.Charts.{IsBuilt}
-use Rattle.earley.specs.Chosen.{AreReadersAll}
+use Rattle.earley.specs.Chosen.{items_of, ReadsSome, AreChosen, AreReaders}
 use Rattle.earley.specs.ItemSets.{Adds}
 use Rattle.earley.specs.Charts.{IsAfter}
 use Rattle.earley.specs.FrontViews.{view, views, IsWholeAt}
 use Rattle.earley.specs.Waiting.{AreWaitingAll}
-use Rattle.earley.proofs.AreChosenLemmas.{chosen_readers_push}
+use Rattle.earley.proofs.AreChosenLemmas.{readers_push}
 use Rattle.earley.proofs.WaitAllLemmas.{waiting_push}
 use Rattle.earley.proofs.IsBuiltLemmas.{built_exact}
 use Rattle.earley.proofs.ViewsLemmas.{going_from, built_by}
@@ -28,9 +28,9 @@ fill-requires-clause-begun g c =
 pub loop-sets-preserved : goal.loop-sets-preserved
 loop-sets-preserved g c =
     let here = c.loop-sets.invariant in
-    let front : Front = c.in_ok-close.ensures.0 in
-    let pushed = c.in_ok-close.ensures.1.0 in
-    let kept = c.in_ok-close.ensures.1.1 in
+    let front : Front = c.in_ok-close.ensures.front.0 in
+    let pushed = c.in_ok-close.ensures.front.1.0 in
+    let kept = c.in_ok-close.ensures.front.1.1 in
     let size = length-append c.loop-sets.sets (front ∷ []) in
     let test = c.loop-sets-test.true in
     let len = c.len.ensures in
@@ -54,8 +54,10 @@ loop-sets-preserved g c =
       no_items = c.clear-in-loop-sets.ensures;
       waiting = subst (λ v. AreWaitingAll c.args.flat.now v) (sym pushed)
           (waiting_push c.args.flat.now c.loop-sets.sets front here.waiting kept.waiting);
-      readers = subst (λ v. AreReadersAll c.args.flat.now v) (sym pushed)
-          (chosen_readers_push c.args.flat.now c.loop-sets.sets front here.readers kept.readers);
+      readers = subst (λ v. AreReaders c.args.flat.now v c.close.new.later.readers.items) (sym pushed)
+          (readers_push c.args.flat.now c.loop-sets.sets front c.fill.new.items c.close.new.later.readers.items
+          kept.same_items (subst (λ v. AreChosen (ReadsSome c.args.flat.now) c.fill.new.items (items_of v.items))
+          (sym c.close.ensures.readers) c.in_ok-fill.ensures.readers));
       sized = subst (λ v. (j : ℕ) (f : Front) → slice_get v j ≡ Some f → f.size ≡ length (view c.args.flat.now j f))
           (sym pushed) (sized_push c.args.flat.now c.loop-sets.sets front here.sized kept.size);
     }
@@ -63,3 +65,7 @@ loop-sets-preserved g c =
 pub returns-clause-exact : goal.returns-clause-exact
 returns-clause-exact g c = built_exact c.args.flat.now c.requires.roots (map g.L.Letter.number c.args.line.now)
     (views c.args.flat.now 0 c.loop-sets.sets) c.loop-sets.invariant.built
+
+pub follow-requires-clause-readers : goal.follow-requires-clause-readers
+follow-requires-clause-readers g c = subst (λ v. AreReaders c.args.flat.now c.loop-sets.sets v)
+    (sym c.deref.ensures.value) c.loop-sets.invariant.readers

@@ -1,6 +1,6 @@
 use Rattle.std.proofs.Common.{◌≡◌, ℕ, [], ◌+◌, ◌-◌, ◌≤◌, Some, length, map, slice_get}
 use Rattle.earley.specs.Charts.{IsBuilt}
-use Rattle.earley.specs.Chosen.{AreReadersAll}
+use Rattle.earley.specs.Chosen.{AreReaders}
 use Rattle.earley.specs.Waiting.{AreWaitingAll}
 use Rattle.earley.specs.FrontViews.{view, views}
 use Rattle.earley.specs.Fronts.{Front}
@@ -13,7 +13,7 @@ invariant-loop-sets g l = record {
   no_heads : l.heads ≡ [];
   no_items : l.items ≡ [];
   waiting : AreWaitingAll l.flat l.sets;
-  readers : AreReadersAll l.flat l.sets;
+  readers : AreReaders l.flat l.sets l.later.readers.items;
   sized : (j : ℕ) (f : Front) → slice_get l.sets j ≡ Some f → f.size ≡ length (view l.flat j f);
 }
 

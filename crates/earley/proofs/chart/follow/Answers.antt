@@ -16,7 +16,7 @@ returns-in_ok-read g c =
     let room = c.requires.length in
     let within : last < length c.args.line.now = omega (arith, some, one, two, room) in
     let zero : 0 + last ≡ last = omega arith in
-    let there : slice_get sets last ≡ Some c.in-Some.front = sym c.in-Some.ensures in
+    let there : slice_get sets last ≡ Some c.in-Some.front = sym {b = slice_get sets last} c.in-Some.ensures in
     let size : length (views c.args.flat.now 0 sets) ≡ last + 1 =
     (let n = length_views c.args.flat.now 0 sets in omega (arith, some, one, two, n)) in
     after_last c.args.flat.now (map g.L.Letter.number c.args.line.now) (views c.args.flat.now 0 sets)

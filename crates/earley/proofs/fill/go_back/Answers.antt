@@ -5,8 +5,9 @@ use Rattle.earley.proofs.fill.go_back.Goals as goal
 
 pub go_along-requires : goal.go_along-requires
 go_along-requires c =
-    let at = subst (λ f. slice_get f.heads c.in-Some.index ≡ Some c.args.root) c.front.view_is c.in-Some.ensures in
-    let l = c.requires.waiting c.in-Some.index c.args.root at c.requires.own in
+    let at = subst (λ f. slice_get f.heads c.in-Some.index ≡ Some c.args.at.item.node) c.front.view_is
+    c.in-Some.ensures in
+    let l = c.requires.waiting c.in-Some.index c.args.at.item.node at c.requires.own in
     let first = c.first_at.ensures ∙ ap (λ f. slice_index_or f.firsts c.in-Some.index 0) c.front.view_is in (
       l.items,
       subst (λ f. Chain f.waits c.first_at.result l.items) (sym c.front.view_is)
@@ -15,8 +16,9 @@ go_along-requires c =
 
 pub returns-in_ok-go_along-in-Some : goal.returns-in_ok-go_along-in-Some
 returns-in_ok-go_along-in-Some c =
-    let at = subst (λ f. slice_get f.heads c.in-Some.index ≡ Some c.args.root) c.front.view_is c.in-Some.ensures in
-    let l = c.requires.waiting c.in-Some.index c.args.root at c.requires.own in
+    let at = subst (λ f. slice_get f.heads c.in-Some.index ≡ Some c.args.at.item.node) c.front.view_is
+    c.in-Some.ensures in
+    let l = c.requires.waiting c.in-Some.index c.args.at.item.node at c.requires.own in
     let first = c.first_at.ensures ∙ ap (λ f. slice_index_or f.firsts c.in-Some.index 0) c.front.view_is in
     let chain = subst (λ f. Chain f.waits c.first_at.result l.items) (sym c.front.view_is)
     (subst (λ n. Chain c.args.front.now.waits n l.items) (sym first) l.chain) in

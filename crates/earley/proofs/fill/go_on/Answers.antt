@@ -4,7 +4,8 @@ use Rattle.earley.proofs.fill.go_on.Goals as goal
 
 pub returns-in-Some-home_of : goal.returns-in-Some-home_of
 returns-in-Some-home_of c =
-    alone_adds c.args.flat.now c.args.root c.in-Some.inner c.args.front.now c.args.origin c.in-Some-home_of.index _ _
-    (c.requires.alone c.args.root c.in-Some.inner (sym c.sole_caller.ensures ∙ c.in-Some.is))
+    alone_adds c.args.flat.now c.args.at.item.node c.in-Some.inner c.args.front.now c.args.at.item.origin
+    c.in-Some-home_of.index _ _
+    (c.requires.alone c.args.at.item.node c.in-Some.inner (sym c.sole_caller.ensures ∙ c.in-Some.is))
     (subst (λ v. slice_get v c.in-Some-home_of.index ≡ Some c.in-Some.inner.head) (ap (λ f. f.heads) c.front.view_is)
     c.in-Some-home_of.ensures) c.requires.begun c.in_ok-add.ensures

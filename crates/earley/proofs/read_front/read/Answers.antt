@@ -17,7 +17,6 @@ returns g c =
     (subst (λ v. Adds (IsRead c.args.flat.now c.value-value.result (expand (block_of c.args.flat.now) c.args.origin v))
     c.args.set.now c.read_heads.new.set) (ap (λ f. f.heads) c.from.view_is) c.in_ok-read_heads.ensures)
     (reads_fewer c.args.flat.now c.value-value.result c.read_heads.new.set c.read_items.new.set
-    (items_of c.args.from.now.readers) c.args.from.now.items c.requires.readers.stand
+    (items_of c.args.readers.now) c.args.from.now.items c.requires.readers.stand
     (λ a i r. c.requires.readers.chosen a i (c.value-value.result, r))
-    (subst (λ v. Adds (IsRead c.args.flat.now c.value-value.result (items_of v)) c.read_heads.new.set
-    c.read_items.new.set) (ap (λ f. f.readers) c.from.view_is) c.in_ok-read_items.ensures)))
+    c.in_ok-read_items.ensures))

@@ -1,4 +1,4 @@
-use Rattle.std.proofs.Common.{◌≡◌, ◌++◌, ◌∷◌, [], sym, ap, ◌∙◌, subst}
+use Rattle.std.proofs.Common.{◌++◌, ◌∷◌, [], sym, ap, ◌∙◌, subst}
 use Rattle.earley.specs.Fronts.{fronts_in, AreAllBounds}
 use Rattle.earley.proofs.SetsLemmas.{fronts_push, all_bounds_same, all_bounds_push}
 use Rattle.earley.proofs.sets.Sets.push.Goals as goal
