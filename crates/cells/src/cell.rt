@@ -1,6 +1,6 @@
 //! One cell, as it is kept.
-ghost use Rattle.std.specs.Prelude.{◌≡◌, ◌<◌, ◌≤◌, ◌⊎◌, true, IfSome, IfNone};
-ghost use Rattle.cells.specs.CellEntries.{entry_of, found_of};
+ghost use Rattle.std.specs.Prelude.{◌≡◌, ◌<◌, ◌≤◌, IfSome, IfNone};
+ghost use Rattle.cells.specs.CellEntries.{found_of};
 
 /// What a node gave at a place.
 #[derive(Clone, Copy, PartialEq, Eq, Debug)]
@@ -41,96 +41,6 @@ pub(crate) fn narrow(n: usize) -> Option<u32>
         Some(n as u32)
     } else {
         None
-    }
-}
-
-// Tells of three numbers by one look that a cell keeps them; of some that it keeps it does not tell it.
-#[inline(always)]
-fn are_narrow(a: usize, b: usize, c: usize) -> bool
-    ensures { result ≡ true → (a < 4294967295) × (b < 4294967295) × (c < 4294967295) }
-{
-    (a | b | c) < FAILED as usize
-}
-
-/// Returns a node at a place as a cell keeps them; none if a number is too great.
-#[inline(always)]
-pub(crate) fn key_of(node: usize, place: usize) -> Option<Key>
-    ensures same { IfSome result (λ k. (k.node ≡ node) × (k.place ≡ place)) }
-    ensures none { IfNone result ((4294967295 ≤ node) ⊎ (4294967295 ≤ place)) }
-{
-    if are_narrow(node, place, 0) {
-        return Some(Key {
-            node: node as u32,
-            place: place as u32,
-        });
-    }
-    key_of_any(node, place)
-}
-
-// The same of any numbers.
-#[inline(never)]
-fn key_of_any(node: usize, place: usize) -> Option<Key>
-    ensures same { IfSome result (λ k. (k.node ≡ node) × (k.place ≡ place)) }
-    ensures none { IfNone result ((4294967295 ≤ node) ⊎ (4294967295 ≤ place)) }
-{
-    if node >= FAILED as usize {
-        return None;
-    }
-    if place >= FAILED as usize {
-        return None;
-    }
-    Some(Key {
-        node: node as u32,
-        place: place as u32,
-    })
-}
-
-/// Returns the cell of what was found, not linked yet; none if a number is too great.
-#[inline(always)]
-pub(crate) fn cell_of(node: usize, place: usize, found: Found) -> Option<Cell>
-    ensures entry { IfSome result (λ c. entry_of c ≡ record { node = node; place = place; found = found }) }
-    ensures narrow { IfSome result (λ c. (c.node < 4294967295) × (c.place < 4294967295)) }
-{
-    let end = match found {
-        Found::Failed => FAILED,
-        Found::Took(end) => {
-            if !are_narrow(node, place, end) {
-                return cell_of_any(node, place, found);
-            }
-            end as u32
-        }
-    };
-    if !are_narrow(node, place, 0) {
-        return cell_of_any(node, place, found);
-    }
-    Some(Cell {
-        node: node as u32,
-        place: place as u32,
-        end,
-        link: 0,
-    })
-}
-
-// The same of any numbers.
-#[inline(never)]
-fn cell_of_any(node: usize, place: usize, found: Found) -> Option<Cell>
-    ensures entry { IfSome result (λ c. entry_of c ≡ record { node = node; place = place; found = found }) }
-    ensures narrow { IfSome result (λ c. (c.node < 4294967295) × (c.place < 4294967295)) }
-{
-    if node >= FAILED as usize {
-        return None;
-    }
-    if place >= FAILED as usize {
-        return None;
-    }
-    match end_of(found) {
-        Some(end) => Some(Cell {
-            node: node as u32,
-            place: place as u32,
-            end,
-            link: 0,
-        }),
-        None => None,
     }
 }
 

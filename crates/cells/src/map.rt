@@ -6,7 +6,7 @@ ghost use Rattle.cells.specs.CellEntries.{IsAt, IsFree, IsKept, IsNowhere, entry
 ghost use Rattle.cells.specs.Links.{AreLinked};
 ghost use Rattle.cells.specs.Rows.{number_of as number, fold as folded, row_of};
 
-use crate::cell::{Cell, Found, Key, cell_of, found_of_end, key_of, narrow};
+use crate::cell::{Cell, FAILED, Found, Key, end_of, found_of_end, narrow};
 use crate::link::{last_of, relink, walk, wipe};
 use crate::rows::{fold, number_of};
 use ruletable::Memory;
@@ -161,6 +161,29 @@ fn row_for(
     }
     *mask = more_rows(cells, rows, stride, *mask, number)?;
     Ok(fold(rows.len(), *mask, number))
+}
+
+// The cell of what was found, not linked yet; none if a number is too great.
+#[inline(always)]
+fn cell_of(node: usize, place: usize, found: Found) -> Option<Cell>
+    ensures entry { IfSome result (λ c. entry_of c ≡ record { node = node; place = place; found = found }) }
+    ensures narrow { IfSome result (λ c. (c.node < 4294967295) × (c.place < 4294967295)) }
+{
+    if node >= FAILED as usize {
+        return None;
+    }
+    if place >= FAILED as usize {
+        return None;
+    }
+    match end_of(found) {
+        Some(end) => Some(Cell {
+            node: node as u32,
+            place: place as u32,
+            end,
+            link: 0,
+        }),
+        None => None,
+    }
 }
 
 // Adds a cell behind the last one of its row.
@@ -330,8 +353,15 @@ impl Cells {
         ensures { result ≡ found_at self.now node place }
     {
         let stride = self.stride;
-        let Some(key) = key_of(node, place) else {
+        if node >= FAILED as usize {
             return None;
+        }
+        if place >= FAILED as usize {
+            return None;
+        }
+        let key = Key {
+            node: node as u32,
+            place: place as u32,
         };
         match end_at(&self.cells, &self.rows, stride, self.mask, key) {
             Some(end) => Some(found_of_end(end)),
