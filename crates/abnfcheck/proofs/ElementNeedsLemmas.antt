@@ -125,32 +125,33 @@ module _ (has : ℕ → Bool) (rules : List Rule) (aim : Aim) (old now new : Lis
       longer : length rules ≤ length old → length rules ≤ length now
       longer fits = let l = ap length grown ∙ length-append old added in omega (arith, fits, l)
 
-module _ (has : ℕ → Bool) (rules : List Rule) (aim : Aim) (need : OwnedNeed) (n : ℕ) (el : Element) where
-  pub leaf_numbered : (old new : List OwnedNeed) → new ≡ old ++ need ∷ [] → n ≡ length old
+module _ (has : ℕ → Bool) {rules : List Rule} {aim : Aim} (need : OwnedNeed) {n : ℕ} {el : Element} where
+  pub leaf_numbered : (old : List OwnedNeed) {new : List OwnedNeed} → new ≡ old ++ need ∷ [] → n ≡ length old
       → IsNeedOf has rules aim (owned_demands_of old) (owned_demand_of need) el
       → IsNumbered has rules aim (owned_demands_of old) (owned_demands_of new) n el
-  leaf_numbered old new is at of =
+  leaf_numbered old {new} is at of =
       need_numbered has rules aim (owned_demands_of old) (owned_demands_of old) (owned_demands_of new)
       (owned_demand_of need) n el (ap owned_demands_of is ∙ map-append owned_demand_of old (need ∷ []))
       (at ∙ sym (length-map old owned_demand_of))
       [] (sym (append-nil (owned_demands_of old))) (λ fits. of) (λ fits w. w)
 
-  pub operand_numbered : (old now new : List OwnedNeed) → new ≡ now ++ need ∷ [] → n ≡ length now
-      → (m : ℕ) (d : Element)
+  pub operand_numbered : (old now : List OwnedNeed) {new : List OwnedNeed} {m : ℕ} {d : Element}
+      → new ≡ now ++ need ∷ [] → n ≡ length now
       → IsNumbered has rules aim (owned_demands_of old) (owned_demands_of now) m d →
       (Asks has rules aim (owned_demands_of now) m d → IsNeedOf has rules aim (owned_demands_of now)
       (owned_demand_of need) el) → IsNumbered has rules aim (owned_demands_of old) (owned_demands_of new) n el
-  operand_numbered old now new is at m d g of =
+  operand_numbered old now {new} is at g of =
       need_numbered has rules aim (owned_demands_of old) (owned_demands_of now)
       (owned_demands_of new) (owned_demand_of need) n el
       (ap owned_demands_of is ∙ map-append owned_demand_of now (need ∷ [])) (at ∙ sym (length-map now owned_demand_of))
       g.added g.grown (λ fits. of (g.asked fits)) g.within
 
-  pub over_all : (old now new : List OwnedNeed) → new ≡ now ++ need ∷ [] → n ≡ length now
-      → (ms : List ℕ) (es : Elements) → AreNumbered has rules aim (owned_demands_of old) (owned_demands_of now) ms es →
+  pub over_all : (old now : List OwnedNeed) {new : List OwnedNeed} {ms : List ℕ} {es : Elements}
+      → new ≡ now ++ need ∷ [] → n ≡ length now
+      → AreNumbered has rules aim (owned_demands_of old) (owned_demands_of now) ms es →
       (AskAll has rules aim (owned_demands_of now) ms es → IsNeedOf has rules aim (owned_demands_of now)
       (owned_demand_of need) el) → IsNumbered has rules aim (owned_demands_of old) (owned_demands_of new) n el
-  over_all old now new is at ms es g of = need_numbered has rules aim (owned_demands_of old) (owned_demands_of now)
+  over_all old now {new} is at g of = need_numbered has rules aim (owned_demands_of old) (owned_demands_of now)
       (owned_demands_of new) (owned_demand_of need) n el
       (ap owned_demands_of is ∙ map-append owned_demand_of now (need ∷ [])) (at ∙ sym (length-map now owned_demand_of))
       g.added g.grown (λ fits. of (g.asked fits)) g.within
@@ -174,11 +175,11 @@ all_push has rules aim xs (k ∷ ms) [] m el all a = elim all [ ]
 all_push has rules aim xs (k ∷ ms) (first ∷ els) m el (ask_more b all) a =
     ask_more b (all_push has rules aim xs ms els m el all a)
 
-pub next_member : (has : ℕ → Bool) (rules : List Rule) (aim : Aim) (old now new : List Demand) (ns : List ℕ) (n : ℕ)
-    (es : List Elem) (i : ℕ) (el : Elem) → i < length es → el ≡ get_or es i el →
+pub next_member : (has : ℕ → Bool) {rules : List Rule} {aim : Aim} {old now new : List Demand} {ns : List ℕ} {n : ℕ}
+    (es : List Elem) {i : ℕ} {el : Elem} → i < length es → el ≡ get_or es i el →
     AreNumbered has rules aim old now ns (elements_of (take i es)) → IsNumbered has rules aim now new n (element_of el)
     → AreNumbered has rules aim old new (ns ++ n ∷ []) (elements_of (take (i + 1) es))
-next_member has rules aim old now new ns n es i el lt is g h = record {
+next_member has {rules} {aim} {old} {now} {new} {ns} {n} es {i} {el} lt is g h = record {
   added = g.added ++ h.added;
   grown = h.grown ∙ ap (λ l. l ++ h.added) g.grown ∙ append_assoc old g.added h.added;
   asked = λ fits. subst (λ v. AskAll has rules aim new (ns ++ n ∷ []) v) (sym one)

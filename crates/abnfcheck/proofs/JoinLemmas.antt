@@ -94,12 +94,12 @@ pub record IsJoining {E : Type 0} (file core : Rules E) (i : ℕ) (rules left : 
   pub ahead : drop i left.rules ≡ drop i core.rules
   pub count : length left.rules ≡ length core.rules
 
-pub join_next : {E : Type 0} (file core : Rules E) (i : ℕ) (rules left taken new : Rules E) (name : List ℕ) (body : E)
-    (span : Span) (answer : Defined) → IsJoining file core i rules left →
+pub join_next : {E : Type 0} {file core : Rules E} {i : ℕ} {rules left taken new : Rules E} {name : List ℕ} {body : E}
+    {span : Span} (answer : Defined) → IsJoining file core i rules left →
     slice_get (bodies_of left) i ≡ Some body → IsTaken left i taken → slice_get (names_of taken) i ≡ Some name
     → slice_get (spans_of taken) i ≡ Some span →
     Defines rules new (record { name = name; body = body; span = span }) answer → IsJoining file core (i + 1) new taken
-join_next file core i rules left taken new name body span answer j b t n s d =
+join_next {file} {core} {i} {rules} {left} {new} {name} {body} {span} answer j b t n s d =
     let here = rule_at left.rules i name body span
     (subst (λ v. slice_get v i ≡ Some name) (ap names_of t.is ∙ names_set left.rules i t.body) n)
     b

@@ -38,7 +38,7 @@ module _ (g : Grammar) (x : List ℕ) (more : Bool) (sound : IsSoundGrammar g) w
       mid = counted cells (beginning m q ∷ (come ∷ fs))
 
       push_step : IsStep g x more here mid None
-      push_step = pushed_step g x more sound here mid t fs m q i r f refl turn refl refl (omega arith)
+      push_step = pushed_step g x more sound f refl turn refl refl (omega arith)
 
       pub leaf_top : IsTop g x more sound mid (beginning m q)
       leaf_top = is_top g x more sound mid (beginning m q) (come ∷ fs) push_step.0 refl

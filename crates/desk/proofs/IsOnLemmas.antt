@@ -326,11 +326,11 @@ module _ (g : Grammar) (x : List ℕ) (more : Bool) (sound : IsSoundGrammar g) (
       all_failed le = search_is_turn (Answer Failed) (t.next, members_failed, le)
 
 -- what goes on from where the last frame has come goes on from where it was
-pub next_from : (g : Grammar) (x : List ℕ) (more : Bool) (below : List Frame) (old mid new : List Entry)
-    (fs : List Frame) (t u : Frame) (i q : ℕ) → HasCome g x more below old mid t i q →
+pub next_from : {g : Grammar} {x : List ℕ} {more : Bool} {below : List Frame} {old mid new : List Entry}
+    {fs : List Frame} {t u : Frame} {i q : ℕ} → HasCome g x more below old mid t i q →
     IsNext g x more (counted mid (come_to t i q ∷ below)) new fs (next.More u)
     → IsNext g x more (counted old (t ∷ below)) new fs (next.More u)
-next_from g x more below old mid new fs t u i q h n = (n.0, omega (arith, n.1, h.less))
+next_from h n = (n.0, omega (arith, n.1, h.less))
 
 -- A turn of the loop over members or alternatives: the frame has come to i at q, over the cells in between.
 module _ (g : Grammar) (x : List ℕ) (more : Bool) (sound : IsSoundGrammar g) (below : List Frame) (old mid : List Entry)

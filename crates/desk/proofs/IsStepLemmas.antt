@@ -134,12 +134,12 @@ module _ (g : Grammar) (x : List ℕ) (more : Bool) (sound : IsSoundGrammar g) w
       let same : there.0 ≡ gives.body = cc (there.1, gives.rule) in
       record { expr = gives.body; spelled = subst (Spells Rs Ns root) same there.2; gives = gives.gives }
 
-  pub pushed_step : (old new : View) (t : Frame) (fs : List Frame) (m q i r : ℕ) → Fits g x more old
+  pub pushed_step : {old new : View} {t : Frame} {fs : List Frame} {m q i r : ℕ} → Fits g x more old
       → old.frames ≡ t ∷ fs →
       IsTurn Rs g.start Ns g.bodies x more old.cells t.node t.place (Ask m q i r) → new.cells ≡ old.cells →
       new.frames ≡ beginning m q ∷ (record { node = t.node; place = t.place; next = i; end = r } ∷ fs)
       → new.begun ≡ old.begun + 1 → IsStep g x more old new None
-  pushed_step old new t fs m q i r f is turn cells frames begun =
+  pushed_step {old} {t} {fs} {m} {q} {i} {r} f is turn cells frames begun =
       let stack = stack_push Rs g.start Ns g.bodies g.ranks x more sound old.cells t fs m q i r
       (is_stacked old t fs f is)
       turn in

@@ -87,13 +87,6 @@ module _ (rules : List Rule) (nodes : List Shape) (bodies ranks x : List ℕ) (c
     | inr later ↦ all_cells w a later
   ]
 
-  -- a walk is no deeper than there are cells
-  pub depth_at_most : (fs : List Frame) (es : List Event) → Walks rules nodes bodies ranks x cells fs es
-      → length fs ≤ length cells
-  depth_at_most fs es w =
-      let most = at_most (codes fs) (cell_codes Width cells) (all_differ w) (all_cells w) in
-      omega (arith, most, length_of fs, length_codes Width cells [])
-
   higher_more : (b c : ℕ) (fs : List Frame) → c < b → AreHigher rules nodes bodies ranks x cells b fs
       → AreHigher rules nodes bodies ranks x cells c fs
   higher_more b c [] lt h = tt
@@ -136,90 +129,94 @@ module _ (rules : List Rule) (nodes : List Shape) (bodies ranks x : List ℕ) (c
     pub higher : AreHigher rules nodes bodies ranks x cells (high f) fs
     pub rest : Walks rules nodes bodies ranks x cells fs later
 
-  last_of : {f : Frame} {fs : List Frame} {all : List Event} → Walks rules nodes bodies ranks x cells (f ∷ fs) all
-      → LastOf f fs all
-  last_of (walk {es = es} {gs = gs} l h w) = record { now = es; later = gs; is = refl; left = l; higher = h; rest = w }
+  some_weight : (f : Frame) → 1 ≤ todo rules nodes bodies ranks x cells f * Base ^ high f
+  some_weight f = let a = one_turn (todo rules nodes bodies ranks x cells f) (Base ^ high f) (omega arith) in let b =
+      power_positive (high f) in omega (arith, a, b)
 
-  pub last_frame : (f : Frame) (fs : List Frame) (all : List Event)
-      → Walks rules nodes bodies ranks x cells (f ∷ fs) all
-      → LastOf f fs all
-  last_frame f fs all w = last_of w
+module _ {rules : List Rule} {nodes : List Shape} {bodies ranks x : List ℕ} {cells : List Entry} where
+  -- a walk is no deeper than there are cells
+  pub depth_at_most : {fs : List Frame} {es : List Event} → Walks rules nodes bodies ranks x cells fs es
+      → length fs ≤ length cells
+  depth_at_most {fs} w =
+      let most = at_most (codes rules nodes bodies ranks x cells fs) (cell_codes (length x + 1) cells)
+      (all_differ rules nodes bodies ranks x cells w) (all_cells rules nodes bodies ranks x cells w) in
+      omega (arith, most, length_of rules nodes bodies ranks x cells fs, length_codes (length x + 1) cells [])
 
-  abbrev GoesTo : List Frame → Option Kept → List Event → List Frame → Type 0
-  GoesTo fs mark all new = Goes rules nodes bodies ranks x cells fs mark all new
+  pub last_frame : {f : Frame} {fs : List Frame} {all : List Event}
+      → Walks rules nodes bodies ranks x cells (f ∷ fs) all → LastOf rules nodes bodies ranks x cells f fs all
+  last_frame (walk {es = es} {gs = gs} l h w) =
+      record { now = es; later = gs; is = refl; left = l; higher = h; rest = w }
 
-  module _ (f : Frame) (fs : List Frame) (all : List Event) (l : LastOf f fs all) where
-    some_weight : 1 ≤ todo rules nodes bodies ranks x cells f * Base ^ high f
-    some_weight = let a = one_turn (todo rules nodes bodies ranks x cells f) (Base ^ high f) (omega arith) in let b =
-        power_positive (high f) in omega (arith, a, b)
-
-    pub walk_leaves : IsWay rules nodes bodies ranks x cells f l.now Leave → GoesTo (f ∷ fs) None all fs
+  module _ {f : Frame} {fs : List Frame} {all : List Event} (l : LastOf rules nodes bodies ranks x cells f fs all) where
+    pub walk_leaves : IsWay rules nodes bodies ranks x cells f l.now Leave
+        → Goes rules nodes bodies ranks x cells (f ∷ fs) None all fs
     walk_leaves way = record {
       later = l.later;
       walks = l.rest;
       tells = l.is ∙ ap (λ v. v ++ l.later) way;
-      less = let s = some_weight in omega (arith, s);
+      less = let s = some_weight rules nodes bodies ranks x cells f in omega (arith, s);
     }
 
-    pub walk_emits : (mark : Kept) → IsWay rules nodes bodies ranks x cells f l.now (Emit mark)
-        → GoesTo (f ∷ fs) (Some mark) all fs
-    walk_emits mark way = record {
+    pub walk_emits : {mark : Kept} → IsWay rules nodes bodies ranks x cells f l.now (Emit mark)
+        → Goes rules nodes bodies ranks x cells (f ∷ fs) (Some mark) all fs
+    walk_emits way = record {
       later = l.later;
       walks = l.rest;
       tells = (way.0, way.1, l.is ∙ ap (λ v. v ++ l.later) way.2);
-      less = let s = some_weight in omega (arith, s);
+      less = let s = some_weight rules nodes bodies ranks x cells f in omega (arith, s);
     }
 
-    pub walk_turns : (m q : ℕ) → IsWay rules nodes bodies ranks x cells f l.now (TurnTo m q)
-        → GoesTo (f ∷ fs) None all (beginning m q ∷ fs)
-    walk_turns m q way = record {
+    pub walk_turns : {m q : ℕ} → IsWay rules nodes bodies ranks x cells f l.now (TurnTo m q)
+        → Goes rules nodes bodies ranks x cells (f ∷ fs) None all (beginning m q ∷ fs)
+    walk_turns {m} {q} way = record {
       later = all;
-      walks = rw l.is (walk way.0 (higher_more (high f) (pair_height rules nodes bodies ranks x cells m q) fs way.1
-          l.higher) l.rest);
+      walks = rw l.is (walk way.0 (higher_more rules nodes bodies ranks x cells _ _ fs way.1 l.higher) l.rest);
       tells = refl;
       less =
-          let a = begins_less m q (high f) way.1 in
-          let b = one_turn (todo rules nodes bodies ranks x cells f) (Base ^ high f) (omega arith) in
+          let a = begins_less rules nodes bodies ranks x cells m q _ way.1 in
+          let b = one_turn rules nodes bodies ranks x cells (todo rules nodes bodies ranks x cells f)
+          (Base rules nodes bodies ranks x cells ^ high rules nodes bodies ranks x cells f) (omega arith) in
           omega (arith, a, b);
     }
 
-    pub goes_into : (m q i r : ℕ) → IsWay rules nodes bodies ranks x cells f l.now (GoInto m q i r) →
-        GoesTo (f ∷ fs) None all (beginning m q ∷ (record { node = f.node; place = f.place; next = i; end = r } ∷ fs))
-    goes_into m q i r way = record {
+    pub goes_into : {m q i r : ℕ} → IsWay rules nodes bodies ranks x cells f l.now (GoInto m q i r) →
+        Goes rules nodes bodies ranks x cells (f ∷ fs) None all
+        (beginning m q ∷ (record { node = f.node; place = f.place; next = i; end = r } ∷ fs))
+    goes_into {m} {q} {i} {r} way = record {
       later = all;
       walks =
           let come : Frame = record { node = f.node; place = f.place; next = i; end = r } in
           let higher : AreHigher rules nodes bodies ranks x cells (pair_height rules nodes bodies ranks x cells m q)
           (come ∷ fs) =
-          (way.5, higher_more (high f) (pair_height rules nodes bodies ranks x cells m q) fs way.5 l.higher) in
+          (way.5, higher_more rules nodes bodies ranks x cells _ _ fs way.5 l.higher) in
           rw (l.is ∙ ap (λ v. v ++ l.later) way.2 ∙ append_assoc way.0 way.1 l.later)
           (walk {fs = come ∷ fs} way.3 higher (walk way.4 l.higher l.rest));
       tells = refl;
       less =
-          let a = begins_less m q (high f) way.5 in
+          let a = begins_less rules nodes bodies ranks x cells m q _ way.5 in
           let shape = way.6 in
           let is : arity_of rules nodes bodies ranks x cells (slice_get nodes f.node) ≡ arity rules nodes bodies ranks x
           cells shape.0 = ap (λ v. arity_of rules nodes bodies ranks x cells v) shape.1 in
           let count : todo rules nodes bodies ranks x cells f
           ≡ (arity_of rules nodes bodies ranks x cells (slice_get nodes f.node) - i + 1) + 1 =
           omega (arith, is, shape.2, shape.3) in
-          let split = ap (λ v. v * Base ^ high f) count in
+          let split =
+          ap (λ v. v * Base rules nodes bodies ranks x cells ^ high rules nodes bodies ranks x cells f) count in
           omega (arith, a, split);
     }
 
-module _ (rules : List Rule) (nodes : List Shape) (bodies ranks x : List ℕ) (cells : List Entry) where
   -- a step that tells nothing, and then a beginning
-  pub goes_then : (fs mid new : List Frame) (all : List Event) (mark : Option Kept)
+  pub goes_then : {fs mid new : List Frame} {all : List Event} {mark : Option Kept}
       (g : Goes rules nodes bodies ranks x cells fs None all mid) →
       Begins rules nodes bodies ranks x cells mid mark g.later new → Goes rules nodes bodies ranks x cells fs mark
       all new
-  goes_then fs mid new all None g b = record {
+  goes_then {mark = None} g b = record {
     later = b.later;
     walks = b.walks;
     tells = g.tells ∙ b.tells;
     less = omega (arith, g.less, b.most);
   }
-  goes_then fs mid new all (Some m) g b =
+  goes_then {mark = Some m} g b =
       record {
         later = b.later;
         walks = b.walks;
@@ -227,49 +224,40 @@ module _ (rules : List Rule) (nodes : List Shape) (bodies ranks x : List ℕ) (c
         less = omega (arith, g.less, b.most);
       }
 
-  of_goes : (fs new : List Frame) (all : List Event) (mark : Option Kept) → Goes rules nodes bodies ranks x cells fs
+  of_goes : {fs new : List Frame} {all : List Event} {mark : Option Kept} → Goes rules nodes bodies ranks x cells fs
       mark all new → Begins rules nodes bodies ranks x cells fs mark all new
-  of_goes fs new all mark g = record { later = g.later; walks = g.walks; tells = g.tells; most = omega (arith, g.less) }
+  of_goes g = record { later = g.later; walks = g.walks; tells = g.tells; most = omega (arith, g.less) }
 
-  pub begins_pushed : (fs new : List Frame) (all : List Event) → Walks rules nodes bodies ranks x cells fs all
+  pub begins_pushed : {fs new : List Frame} {all : List Event} → Walks rules nodes bodies ranks x cells fs all
       → new ≡ fs → Begins rules nodes bodies ranks x cells fs None all new
-  begins_pushed fs new all w is = record { later = all; walks = rw is w; tells = refl; most = rw is (omega arith) }
+  begins_pushed {all} w is = record { later = all; walks = rw is w; tells = refl; most = rw is (omega arith) }
 
-  module _ (f : Frame) (fs : List Frame) (all : List Event)
+  module _ {f : Frame} {fs : List Frame} {all : List Event}
       (w : Walks rules nodes bodies ranks x cells (f ∷ fs) all) where
     pub begins_left : ((es : List Event) → IsLeft rules nodes bodies ranks x cells f es
         → IsWay rules nodes bodies ranks x cells f es Leave) → Begins rules nodes bodies ranks x cells (f ∷ fs) None
         all fs
-    begins_left way = let l = last_frame rules nodes bodies ranks x cells f fs all w in
-        of_goes (f ∷ fs) fs all None (walk_leaves rules nodes bodies ranks x cells f fs all l (way l.now l.left))
+    begins_left way = let l = last_frame w in of_goes (walk_leaves l (way l.now l.left))
 
-    pub begins_told : (mark : Kept) → ((es : List Event) → IsLeft rules nodes bodies ranks x cells f es
+    pub begins_told : {mark : Kept} → ((es : List Event) → IsLeft rules nodes bodies ranks x cells f es
         → IsWay rules nodes bodies ranks x cells f es (Emit mark)) →
         Begins rules nodes bodies ranks x cells (f ∷ fs) (Some mark) all fs
-    begins_told mark way = let l = last_frame rules nodes bodies ranks x cells f fs all w in
-        of_goes (f ∷ fs) fs all (Some mark) (walk_emits rules nodes bodies ranks x cells f fs all l mark
-        (way l.now l.left))
+    begins_told way = let l = last_frame w in of_goes (walk_emits l (way l.now l.left))
 
--- where a frame is gone into there is room for one more
-pub room_into : (rules : List Rule) (nodes : List Shape) (bodies ranks x : List ℕ) (cells : List Entry) (f : Frame)
-    (fs : List Frame) (all : List Event) (way : Way) (room : ℕ) →
-    (l : LastOf rules nodes bodies ranks x cells f fs all) → IsWay rules nodes bodies ranks x cells f l.now way
-    → length cells ≤ room → (m q i r : ℕ) → way ≡ GoInto m q i r → length (f ∷ fs) < room
-room_into rules nodes bodies ranks x cells f fs all way room l is le m q i r same =
-    let g = goes_into rules nodes bodies ranks x cells f fs all l m q i r
-    (subst (λ w. IsWay rules nodes bodies ranks x cells f l.now w) same is) in
-    let deep = depth_at_most rules nodes bodies ranks x cells _ g.later g.walks in
-    omega (arith, deep)
+  -- where a frame is gone into there is room for one more
+  pub room_into : {f : Frame} {fs : List Frame} {all : List Event} {way : Way} {room m q i r : ℕ}
+      (l : LastOf rules nodes bodies ranks x cells f fs all) → IsWay rules nodes bodies ranks x cells f l.now way
+      → length cells ≤ room → way ≡ GoInto m q i r → length (f ∷ fs) < room
+  room_into {f} l is le same =
+      let g = goes_into l (subst (λ w. IsWay rules nodes bodies ranks x cells f l.now w) same is) in
+      let deep = depth_at_most g.walks in
+      omega (arith, deep)
 
-pub last_at : (rules : List Rule) (nodes : List Shape) (bodies ranks x : List ℕ) (cells : List Entry)
-    (frames : List Frame) (f : Frame) (fs : List Frame) (all : List Event) → frames ≡ f ∷ fs →
-    Walks rules nodes bodies ranks x cells frames all → LastOf rules nodes bodies ranks x cells f fs all
-last_at rules nodes bodies ranks x cells frames f fs all is w = last_frame rules nodes bodies ranks x cells f fs all
-    (subst (λ v. Walks rules nodes bodies ranks x cells v all) is w)
+  pub last_at : {frames : List Frame} {f : Frame} {fs : List Frame} {all : List Event} → frames ≡ f ∷ fs →
+      Walks rules nodes bodies ranks x cells frames all → LastOf rules nodes bodies ranks x cells f fs all
+  last_at {all} is w = last_frame (subst (λ v. Walks rules nodes bodies ranks x cells v all) is w)
 
-pub goes_at : (rules : List Rule) (nodes : List Shape) (bodies ranks x : List ℕ) (cells : List Entry)
-    (frames : List Frame) (f : Frame) (fs : List Frame) (all : List Event) (mark : Option Kept) (new : List Frame)
-    → frames ≡ f ∷ fs →
-    Goes rules nodes bodies ranks x cells (f ∷ fs) mark all new → Goes rules nodes bodies ranks x cells frames mark
-    all new
-goes_at rules nodes bodies ranks x cells frames f fs all mark new is g = rw is g
+  pub goes_at : {frames : List Frame} {f : Frame} {fs : List Frame} {all : List Event} {mark : Option Kept}
+      {new : List Frame} → frames ≡ f ∷ fs → Goes rules nodes bodies ranks x cells (f ∷ fs) mark all new
+      → Goes rules nodes bodies ranks x cells frames mark all new
+  goes_at is g = rw is g

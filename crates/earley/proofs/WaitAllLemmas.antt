@@ -262,11 +262,11 @@ module _ (flat : code_flat.Tables) (heads : List ℕ) where
   }
 
   -- what lists more for a further part lists more for both
-  pub waiting_then : (xs ys zs : List Item) (f0 f1 f2 : List ℕ) (w0 w1 w2 : List Wait) → zs ≡ xs ++ ys →
+  pub waiting_then : (xs : List Item) {ys zs : List Item} (f0 f1 f2 : List ℕ) {w0 w1 w2 : List Wait} → zs ≡ xs ++ ys →
       ((seen : List Item) → AreWaiting flat seen heads f0 w0 → AreWaiting flat (seen ++ xs) heads f1 w1) →
       ((seen : List Item) → AreWaiting flat seen heads f1 w1 → AreWaiting flat (seen ++ ys) heads f2 w2) →
       (seen : List Item) → AreWaiting flat seen heads f0 w0 → AreWaiting flat (seen ++ zs) heads f2 w2
-  waiting_then xs ys zs f0 f1 f2 w0 w1 w2 is p q seen h =
+  waiting_then xs {ys = ys} f0 f1 f2 {w2 = w2} is p q seen h =
       subst (λ v. AreWaiting flat (seen ++ v) heads f2 w2) (sym is)
       (subst (λ v. AreWaiting flat v heads f2 w2) (append_assoc seen xs ys) (q (seen ++ xs) (p seen h)))
 

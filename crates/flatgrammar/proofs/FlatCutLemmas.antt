@@ -45,10 +45,10 @@ sizes_next limit (d ∷ els) (suc i) el h =
     shift : (i : ℕ) → suc i + 1 ≡ suc (i + 1)
     shift i = omega arith
 
-cut_more : (rules : List Rule) (limit : ℕ) (i : ℕ) (old new : List Node) (numbers : List ℕ) (n : ℕ) (empty : Bool)
-    (el : Element) → AreCut rules limit i old numbers → slice_get (bodies rules) i ≡ Some el →
+cut_more : {rules : List Rule} {limit i : ℕ} {old new : List Node} {numbers : List ℕ} {n : ℕ} {empty : Bool}
+    {el : Element} → AreCut rules limit i old numbers → slice_get (bodies rules) i ≡ Some el →
     Numbers rules limit old new n empty el → AreCut rules limit (i + 1) new (numbers ++ n ∷ [])
-cut_more rules limit i old new numbers n empty el c at g = record {
+cut_more {rules} {limit} {i} {old} {new} {numbers} {n} {el} c at g = record {
   long = let l = length-append numbers (n ∷ []) in let was = c.long in omega (arith, l, was);
   spelled = λ id m h. ⊎_elim
       (λ earlier.
@@ -77,10 +77,9 @@ body_at [] i e h = absurd (cc h)
 body_at (rule ∷ rules) zero e h = let same : rule.body ≡ e = cc h in ap (λ v. Some (element_of v)) same
 body_at (rule ∷ rules) (suc i) e h = body_at rules i e h
 
-pub next_cut : (rules : List (table.Rule Elem)) (limit : ℕ) (i : ℕ) (old new : List declared.Node) (numbers : List ℕ)
-    (n : ℕ) (empty : Bool) (e : Elem) → AreCut (map rule_of rules) limit i (nodes_of old) numbers →
+pub next_cut : (rules : List (table.Rule Elem)) {limit i : ℕ} (old new : List declared.Node) {numbers : List ℕ}
+    {n : ℕ} {empty : Bool} {e : Elem} → AreCut (map rule_of rules) limit i (nodes_of old) numbers →
     slice_get (map (λ rule. rule.body) rules) i ≡ Some e → Numbers (map rule_of rules) limit (nodes_of old)
     (nodes_of new) n empty (element_of e) →
     AreCut (map rule_of rules) limit (i + 1) (nodes_of new) (numbers ++ n ∷ [])
-next_cut rules limit i old new numbers n empty e c at g = cut_more (map rule_of rules) limit i (nodes_of old)
-    (nodes_of new) numbers n empty (element_of e) c (body_at rules i e at) g
+next_cut rules {i} old new {e} c at g = cut_more c (body_at rules i e at) g

@@ -42,8 +42,8 @@ ordered_push nodes node o below = record { before = λ s m d is h. by s m d h (p
         subst (λ v. m < v) (sym last.0) lt
 
 -- one more node, over what was added before it
-module _ (rules : List Rule) (limit : ℕ) (nodes more : List declared.Node) (v : declared.Node) (n : ℕ) (empty : Bool)
-    (el : Element) (is_more : more ≡ nodes ++ v ∷ []) (is : n ≡ length nodes) where
+module _ {rules : List Rule} {limit : ℕ} (nodes : List declared.Node) {more : List declared.Node} (v : declared.Node)
+    {n : ℕ} {empty : Bool} {el : Element} (is_more : more ≡ nodes ++ v ∷ []) (is : n ≡ length nodes) where
   one_more : (first added : List Node) → nodes_of nodes ≡ first ++ added
       → (AreOrdered first → AreOrdered (nodes_of nodes)) → places (nodes_of nodes) + width (node_of v) ≤ places first
       + size limit el → Shows rules limit (nodes_of nodes) (node_of v) el → Tells rules empty el →
@@ -70,22 +70,22 @@ module _ (rules : List Rule) (limit : ℕ) (nodes more : List declared.Node) (v 
       shown told
 
   -- a node over one operand
-  pub numbers_over : (first : List Node) (k : ℕ) (c : Bool) (d : Element)
+  pub numbers_over : {first : List Node} {k : ℕ} {c : Bool} {d : Element}
       → Numbers rules limit first (nodes_of nodes) k c d
       → width (node_of v) + size limit d ≤ size limit el →
       (Tells rules c d → Spells rules limit (nodes_of nodes) k d → Shows rules limit (nodes_of nodes) (node_of v) el)
       → (Tells rules c d → Tells rules empty el) → Numbers rules limit first (nodes_of more) n empty el
-  numbers_over first k c d g wide shown told = let sized = g.sized in
+  numbers_over {first} g wide shown told = let sized = g.sized in
       one_more first g.added g.grown g.ordered (omega (arith, sized, wide)) (shown g.tells g.spelled) (told g.tells)
 
   -- a node over members
-  pub over_all : (first : List Node) (ks : List ℕ) (all any : Bool) (es : Elements)
+  pub over_all : {first : List Node} {ks : List ℕ} {all any : Bool} {es : Elements}
       → NumbersAll rules limit first (nodes_of nodes) ks all any es
       → (length ks ≡ count es → width (node_of v) + size_all limit es ≡ size limit el) →
       (SpellAll rules limit (nodes_of nodes) ks es → Shows rules limit (nodes_of nodes) (node_of v) el)
       → (TellsAll rules all es → TellsSome rules any es → Tells rules empty el)
       → Numbers rules limit first (nodes_of more) n empty el
-  over_all first ks all any es g wide shown told =
+  over_all {first} g wide shown told =
       let sized = g.sized in let many = wide (counted g.spelled) in
       one_more first g.added g.grown g.ordered (omega (arith, sized, many)) (shown g.spelled)
       (told g.tell_all g.tell_some)
@@ -126,11 +126,11 @@ map_next es i v lt is =
     ap (λ w. map element_of (take i es) ++ element_of w ∷ []) (sym is)
 
 -- nodes of members, and then those of one more
-append_member : (rules : List Rule) (limit : ℕ) (first mid new : List Node) (ns : List ℕ) (n : ℕ) (all any c : Bool)
-    (es : List Element) (el : Element) →
+append_member : {rules : List Rule} {limit : ℕ} {first mid new : List Node} {ns : List ℕ} {n : ℕ} {all any c : Bool}
+    (es : List Element) {el : Element} →
     NumbersAll rules limit first mid ns all any (elements es) → Numbers rules limit mid new n c el
     → NumbersAll rules limit first new (ns ++ n ∷ []) (all && c) (any || c) (elements (es ++ el ∷ []))
-append_member rules limit first mid new ns n all any c es el g h = record {
+append_member {rules} {limit} {first} {mid} {new} {ns} {n} {all} {any} {c} es {el} g h = record {
   added = g.added ++ h.added;
   grown = h.grown ∙ ap (λ w. w ++ h.added) g.grown ∙ append_assoc first g.added h.added;
   spelled = spell_push rules limit new es el n (subst (λ w. SpellAll rules limit w ns (elements es)) (sym h.grown)
@@ -142,14 +142,12 @@ append_member rules limit first mid new ns n all any c es el g h = record {
   ordered = λ o. h.ordered (g.ordered o);
 }
 
-pub next_member : (rules : List Rule) (limit : ℕ) (first mid new : List Node) (ns : List ℕ) (n : ℕ) (all any c : Bool)
-    (es : List Elem) (i : ℕ) (v : Elem) → i < length es → v ≡ get_or es i v →
+pub next_member : {rules : List Rule} {limit : ℕ} {first mid new : List Node} {ns : List ℕ} {n : ℕ} {all any c : Bool}
+    (es : List Elem) {i : ℕ} {v : Elem} → i < length es → v ≡ get_or es i v →
     NumbersAll rules limit first mid ns all any (elements_of (take i es))
     → Numbers rules limit mid new n c (element_of v) → NumbersAll rules limit first new (ns ++ n ∷ []) (all && c)
     (any || c) (elements_of (take (i + 1) es))
-next_member rules limit first mid new ns n all any c es i v lt is g h =
-    rw (map_next es i v lt is) (append_member rules limit first mid new ns n all any c (map element_of (take i es))
-    (element_of v) g h)
+next_member es {i} {v} lt is g h = rw (map_next es i v lt is) (append_member (map element_of (take i es)) g h)
 
 -- as many sets as letters
 pub as_many : {A B : Type 0} (f : A → B) (xs : List A) (ys : List B) → ys ≡ map f xs → length ys + 1 ≡ length xs + 1

@@ -152,11 +152,11 @@ slice_written : {A : Type 0} (new old : List A) (n : ℕ) → length new ≡ len
     → take n (new ++ drop (length new) old) ≡ new
 slice_written new old n e is = grind (arith, common_steps)
 
-pub roots_found : (nodes : List Node) (bodies : List ℕ) (firsts before ways seen : List Way) (n : ℕ)
-    (roots : List (Option ℕ)) → AreFirst nodes bodies firsts → before ≡ firsts →
+pub roots_found : {nodes : List Node} {bodies : List ℕ} {firsts before ways seen : List Way} {n : ℕ}
+    {roots : List (Option ℕ)} → AreFirst nodes bodies firsts → before ≡ firsts →
     AreWays before ways → ((s : ℕ) → s < length ways → IsFound ways s) → n ≡ length firsts
     → seen ≡ take n (ways ++ drop (length ways) firsts) → roots ≡ map root_of seen → AreRoots nodes bodies roots
-roots_found nodes bodies firsts before ways seen n roots first same are all size is_seen is =
+roots_found {nodes} {bodies} {firsts} {ways} {n} first same are all size is_seen is =
     let w = subst (λ v. AreWays v ways) same are in
     rw (is, is_seen, slice_written ways firsts n w.count size) (are_roots nodes bodies firsts first ways w all)
 

@@ -245,10 +245,10 @@ pub path_there : {old : List Way} {start s : ℕ} {path : List ℕ} {ways : List
     → (p : ℕ) → Contains path p → p < length ways
 path_there {ways = ways} w p h = slice_get_within ways p (Found None) (w.marked p h)
 
-pub is_settled : (old : List Way) (start s : ℕ) (path : List ℕ) (ways new : List Way) (d way : Way)
+pub is_settled : {old : List Way} {start s : ℕ} {path : List ℕ} {ways new : List Way} (d : Way) {way : Way}
     → IsWalk old start s path ways → IsFound ways s → way ≡ get_or ways s d →
     new ≡ set_all path way ways → Settles old start new
-is_settled old start s path ways new d way w found is sets =
+is_settled {old} {start} {s} {path} {ways} d {way} w found is sets =
     let at = slice_get-get_or ways s d w.within in
     let same : way ≡ Found found.0 = cc (is, at, found.1) in
     rw (sets, same) (walk_settles old start s path ways w found.0 found.1)

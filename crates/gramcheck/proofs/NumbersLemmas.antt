@@ -111,7 +111,7 @@ module _ (rules : List Rule) (nodes more : List Node) (v : Node) (n : ℕ) (p : 
       (still_spell_all rules (shapes_of nodes) (shape_of v ∷ []) g.spelled)))
 
 -- a star over an operand that was numbered, and the plus that both are of
-module _ (rules : List Rule) (first : List Shape) (nodes mid new : List Node) (m k n : ℕ) (e : Pattern)
+module _ {rules : List Rule} {first : List Shape} (nodes : List Node) {mid new : List Node} {m k n : ℕ} {e : Pattern}
     (was : Numbers rules first (shapes_of nodes) m e)
     (star_is : mid ≡ nodes ++ code.Star m ∷ []) (k_is : k ≡ length nodes) (plus_is : new ≡ mid ++ code.Plus m k ∷ [])
     (n_is : n ≡ length mid) where
@@ -175,7 +175,7 @@ map_next es i v lt is =
     ap (λ w. map pattern_of (take i es) ++ pattern_of w ∷ []) (sym is)
 
 -- nodes of members, and then those of one more
-module _ (rules : List Rule) (first mid new : List Shape) (ns : List ℕ) (n : ℕ) (ps : List Pattern) (p : Pattern) where
+module _ {rules : List Rule} {first mid new : List Shape} {ns : List ℕ} {n : ℕ} (ps : List Pattern) {p : Pattern} where
   append_member : NumbersAll rules first mid ns (patterns ps) → Numbers rules mid new n p
       → NumbersAll rules first new (ns ++ n ∷ []) (patterns (ps ++ p ∷ []))
   append_member g h = record {
@@ -200,11 +200,11 @@ module _ (rules : List Rule) (first mid new : List Shape) (ns : List ℕ) (n : �
     built = λ b. h.built (g.built b);
   }
 
-pub next_member : (rules : List Rule) (first mid new : List Shape) (ns : List ℕ) (n : ℕ) (es : List Expr) (i : ℕ)
-    (v : Expr) → i < length es → v ≡ get_or es i v →
+pub next_member : {rules : List Rule} {first mid new : List Shape} {ns : List ℕ} {n : ℕ} (es : List Expr) {i : ℕ}
+    {v : Expr} → i < length es → v ≡ get_or es i v →
     NumbersAll rules first mid ns (patterns_of (take i es)) → Numbers rules mid new n (pattern_of v)
     → NumbersAll rules first new (ns ++ n ∷ []) (patterns_of (take (i + 1) es))
-next_member rules first mid new ns n es i v lt is g h =
+next_member es {i} {v} lt is g h =
     let taken : map pattern_of (take (i + 1) es) ≡ map pattern_of (take i es) ++ pattern_of v ∷ [] =
     map_next es i v lt is in
-    rw taken (append_member rules first mid new ns n (map pattern_of (take i es)) (pattern_of v) g h)
+    rw taken (append_member (map pattern_of (take i es)) g h)

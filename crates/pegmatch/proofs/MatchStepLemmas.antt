@@ -149,7 +149,7 @@ pub record HaveFailed (rules : List Rule) (nodes : List Shape) (x ns : List ℕ)
   pub spelled : SpellAll rules nodes (drop i ns) rest
   pub tries : TriesOn rules x es rest p looked
 
-module _ (rules : List Rule) (nodes : List Shape) (x ns : List ℕ) where
+module _ (rules : List Rule) (nodes : List Shape) (ns : List ℕ) where
   -- the first number spells the first pattern, and the others the others
   abbrev Spelled : List ℕ → Patterns → Type 0
   Spelled [] es = es ≡ none
@@ -171,9 +171,10 @@ module _ (rules : List Rule) (nodes : List Shape) (x ns : List ℕ) where
       let s' = rw empty at s in
       spelled_all s'
 
-  pub none_taken : (p : ℕ) (old : List Kept) (es : Patterns) → SpellAll rules nodes ns es
+module _ {rules : List Rule} {nodes : List Shape} {x ns : List ℕ} where
+  pub none_taken : {p : ℕ} {old : List Kept} (es : Patterns) → SpellAll rules nodes ns es
       → HaveTaken rules nodes x ns p 0 p old old 0 es
-  none_taken p old es s = record {
+  none_taken {p} {old} es s = record {
     added = [];
     events = [];
     rest = es;
@@ -184,12 +185,12 @@ module _ (rules : List Rule) (nodes : List Shape) (x ns : List ℕ) where
   }
 
   -- the next member takes what is between q and r
-  pub one_taken : (p i q r : ℕ) (old mid new : List Kept) (tried : Tried) (j k : ℕ) (es : Patterns) →
+  pub one_taken : {p i q r : ℕ} {old mid new : List Kept} (tried : Tried) {j k : ℕ} (es : Patterns) →
       i < length ns → HaveTaken rules nodes x ns p i q old mid j es →
       IsMatch rules nodes x (get_or ns i 0) q tried mid new → tried.found ≡ Found.Took r → k ≡ max j tried.looked →
       HaveTaken rules nodes x ns p (i + 1) r old new k es
-  one_taken p i q r old mid new tried j k es h t match found looked =
-      let s = next_spelled i t.rest h t.spelled in
+  one_taken {p} {i} {q} {r} {old} {mid} {new} tried {j} es h t match found looked =
+      let s = next_spelled rules nodes ns i t.rest h t.spelled in
       let m : MatchesBy nodes (Gives rules x s.0 q) (Found.Took r) tried.looked mid new = rw found at match s.0 s.3 in
       let goes' = rw s.2 at t.goes in
       rw looked (record {
@@ -203,31 +204,31 @@ module _ (rules : List Rule) (nodes : List Shape) (x ns : List ℕ) where
       })
 
   -- the next member fails
-  pub one_failed : (p i q n : ℕ) (old mid new cut : List Kept) (tried : Tried) (j k : ℕ) (es : Patterns) →
-      i < length ns → HaveTaken rules nodes x ns p i q old mid j es →
+  pub one_failed : {p i q n : ℕ} {old mid : List Kept} (new : List Kept) {cut : List Kept} (tried : Tried) {j k : ℕ}
+      (es : Patterns) → i < length ns → HaveTaken rules nodes x ns p i q old mid j es →
       IsMatch rules nodes x (get_or ns i 0) q tried mid new → tried.found ≡ Found.Failed → k ≡ max j tried.looked →
       n ≡ length old → cut ≡ take n new →
       GivesAll rules x es p Fails k × (cut ≡ old)
-  one_failed p i q n old mid new cut tried j k es h t match found looked n_is cut_is =
-      let s = next_spelled i t.rest h t.spelled in
+  one_failed {p} {i} {q} {old} {mid} new tried {j} es h t match found looked n_is cut_is =
+      let s = next_spelled rules nodes ns i t.rest h t.spelled in
       let m : MatchesBy nodes (Gives rules x s.0 q) Found.Failed tried.looked mid new = rw found at match s.0 s.3 in
       let goes' = rw s.2 at t.goes in (
         rw looked (goes_on_fails rules x es p s.0 s.1 q j tried.looked _ goes' m.0),
         rw (cut_is, n_is, m.1, t.is) (take-append_seam old t.added),
       )
 
-  pub all_taken : (p i q : ℕ) (old new : List Kept) (k : ℕ) (es : Patterns) → length ns ≤ i →
+  pub all_taken : {p i q : ℕ} {old new : List Kept} {k : ℕ} (es : Patterns) → length ns ≤ i →
       HaveTaken rules nodes x ns p i q old new k es → MatchesBy nodes (GivesAll rules x es p) (Found.Took q) k old new
-  all_taken p i q old new k es h t =
-      let goes' = rw (none_spelled i t.rest h t.spelled) at t.goes in
+  all_taken {p} {i} {q} {k} es h t =
+      let goes' = rw (none_spelled rules nodes ns i t.rest h t.spelled) at t.goes in
       (t.added, t.events, t.stand, goes_on_ends rules x es p q k _ goes', t.is)
 
-  pub next_tried : (p i : ℕ) (old mid new : List Kept) (tried : Tried) (j k : ℕ) (es : Patterns) →
+  pub next_tried : {p i : ℕ} {old mid new : List Kept} (tried : Tried) {j k : ℕ} (es : Patterns) →
       i < length ns → HaveFailed rules nodes x ns p i old mid j es →
       IsMatch rules nodes x (get_or ns i 0) p tried mid new → tried.found ≡ Found.Failed → k ≡ max j tried.looked →
       HaveFailed rules nodes x ns p (i + 1) old new k es
-  next_tried p i old mid new tried j k es h t match found looked =
-      let s = next_spelled i t.rest h t.spelled in
+  next_tried {p} {i} {mid} {new} tried {j} es h t match found looked =
+      let s = next_spelled rules nodes ns i t.rest h t.spelled in
       let m : MatchesBy nodes (Gives rules x s.0 p) Found.Failed tried.looked mid new = rw found at match s.0 s.3 in
       let tries' = rw s.2 at t.tries in
       rw looked (record {
@@ -237,12 +238,12 @@ module _ (rules : List Rule) (nodes : List Shape) (x ns : List ℕ) where
         tries = tries_on_step rules x es s.0 s.1 p j tried.looked tries' m.0;
       })
 
-  pub one_found : (p i q : ℕ) (old mid new : List Kept) (tried : Tried) (j k : ℕ) (es : Patterns) →
+  pub one_found : {p i q : ℕ} {old mid new : List Kept} (tried : Tried) {j k : ℕ} (es : Patterns) →
       i < length ns → HaveFailed rules nodes x ns p i old mid j es →
       IsMatch rules nodes x (get_or ns i 0) p tried mid new → tried.found ≡ Found.Took q → k ≡ max j tried.looked →
       MatchesBy nodes (GivesFirst rules x es p) (Found.Took q) k old new
-  one_found p i q old mid new tried j k es h t match found looked =
-      let s = next_spelled i t.rest h t.spelled in
+  one_found {p} {i} {q} {mid} {new} tried {j} es h t match found looked =
+      let s = next_spelled rules nodes ns i t.rest h t.spelled in
       let m : MatchesBy nodes (Gives rules x s.0 p) (Found.Took q) tried.looked mid new = rw found at match s.0 s.3 in
       let tries' = rw s.2 at t.tries in (
         m.0,
@@ -252,9 +253,9 @@ module _ (rules : List Rule) (nodes : List Shape) (x ns : List ℕ) where
         m.4 ∙ ap (λ v. v ++ m.0) t.is,
       )
 
-  pub all_tried : (p i k : ℕ) (old new : List Kept) (es : Patterns) → length ns ≤ i
+  pub all_tried : {p i k : ℕ} {old new : List Kept} (es : Patterns) → length ns ≤ i
       → HaveFailed rules nodes x ns p i old new k es →
       GivesFirst rules x es p Fails k × (new ≡ old)
-  all_tried p i k old new es h t =
-      let tries' = rw (none_spelled i t.rest h t.spelled) at t.tries in
+  all_tried {p} {i} {k} es h t =
+      let tries' = rw (none_spelled rules nodes ns i t.rest h t.spelled) at t.tries in
       (tries_on_ends rules x es p k tries', t.is)

@@ -33,68 +33,73 @@ module _ (rules : List Rule) (nodes : List Shape) where
   map_by F G f (Found.Took q) k old new (added, events, stand, d, is) =
       (added, events, stand, f (Takes q events) k d, is)
 
-  module _ (x : List ℕ) (n p : ℕ) where
-    -- a node that leaves no event
-    quiet_by : (c : Pattern) (found : Found) (k : ℕ) (old : List Kept) →
-        Gives rules x c p (quiet_outcome found) k → MatchesBy nodes (Gives rules x c p) found k old old
-    quiet_by c Found.Failed k old d = (d, refl)
-    quiet_by c (Found.Took q) k old d = ([], [], no_event, d, sym (append-nil old))
+  -- a node that leaves no event
+  quiet_by : (x : List ℕ) (p : ℕ) (c : Pattern) (found : Found) (k : ℕ) (old : List Kept) →
+      Gives rules x c p (quiet_outcome found) k → MatchesBy nodes (Gives rules x c p) found k old old
+  quiet_by x p c Found.Failed k old d = (d, refl)
+  quiet_by x p c (Found.Took q) k old d = ([], [], no_event, d, sym (append-nil old))
 
-    -- a node whose shape spells one expression alone
-    pub quiet_match : (b : Pattern) (tried : Tried) (old : List Kept)
-        → ((c : Pattern) → Spells rules nodes n c → c ≡ b) →
-        Gives rules x b p (quiet_outcome tried.found) tried.looked → IsMatch rules nodes x n p tried old old
-    quiet_match b tried old spelt d = λ c s. rw (spelt c s) (quiet_by b tried.found tried.looked old d)
+-- a success that takes nothing and keeps one event
+abbrev pub kept_one : ℕ → Tried
+kept_one p = record { found = Found.Took p; looked = 0 }
 
-    pub name_match : (id m : ℕ) (body : Pattern) (tried : Tried) (old new : List Kept)
-        → slice_get nodes n ≡ Some (shape.Name id) →
-        slice_get (map (λ rule. rule.body) rules) id ≡ Some body → Spells rules nodes m body →
-        IsMatch rules nodes x m p tried old new → IsMatch rules nodes x n p tried old new
-    name_match id m body tried old new at there spelled h = λ c s.
-        let is = has_shape rules nodes s (shape.Name id) at in
-        let found = body_at_id rules is.0 ∙ ap (λ v. slice_get (map (λ rule. rule.body) rules) v) is.2 ∙ there in
-        rw is.1 (map_by (Gives rules x body p) (Gives rules x (e.Name is.0) p) (λ o k d. name found d) tried.found
-        tried.looked old new (h body spelled))
+module _ {rules : List Rule} {nodes : List Shape} {n : ℕ} where
+  -- a node whose shape spells one expression alone
+  pub quiet_match : {x : List ℕ} {p : ℕ} {b : Pattern} (tried : Tried) (old : List Kept)
+      → ((c : Pattern) → Spells rules nodes n c → c ≡ b) →
+      Gives rules x b p (quiet_outcome tried.found) tried.looked → IsMatch rules nodes x n p tried old old
+  quiet_match {x} {p} {b} tried old spelt d = λ c s.
+      rw (spelt c s) (quiet_by rules nodes x p b tried.found tried.looked old d)
 
-    -- a node with one operand
-    pub over_match : (form : Pattern → Pattern) (m : ℕ) (tried : Tried) (old new : List Kept) →
-        ((c : Pattern) → Spells rules nodes n c → (q : Pattern) × (c ≡ form q) × Spells rules nodes m q) →
-        IsMatchOver form rules nodes x m p tried old new → IsMatch rules nodes x n p tried old new
-    over_match form m tried old new spelt h = λ c s. let is = spelt c s in rw is.1 (h is.0 is.2)
+  pub name_match : (x : List ℕ) (p : ℕ) {id m : ℕ} {body : Pattern} (tried : Tried) (old new : List Kept)
+      → slice_get nodes n ≡ Some (shape.Name id) →
+      slice_get (map (λ rule. rule.body) rules) id ≡ Some body → Spells rules nodes m body →
+      IsMatch rules nodes x m p tried old new → IsMatch rules nodes x n p tried old new
+  name_match x p {id} {body} tried old new at there spelled h = λ c s.
+      let is = has_shape rules nodes s (shape.Name id) at in
+      let found = body_at_id rules is.0 ∙ ap (λ v. slice_get (map (λ rule. rule.body) rules) v) is.2 ∙ there in
+      rw is.1 (map_by rules nodes (Gives rules x body p) (Gives rules x (e.Name is.0) p) (λ o k d. name found d)
+      tried.found tried.looked old new (h body spelled))
 
-    pub all_match : (ms : List ℕ) (tried : Tried) (old new : List Kept) → slice_get nodes n ≡ Some (shape.Seq ms) →
-        IsMatchOfAll rules nodes x ms p tried old new → IsMatch rules nodes x n p tried old new
-    all_match ms tried old new at h = λ c s.
-        let is = has_shape rules nodes s (shape.Seq ms) at in
-        rw is.1 (map_by (GivesAll rules x is.0 p) (Gives rules x (e.Seq is.0) p) (λ o k d. seq d) tried.found
-        tried.looked old new (h is.0 is.2))
+  -- a node with one operand
+  pub over_match : (x : List ℕ) (p : ℕ) (form : Pattern → Pattern) {m : ℕ} (tried : Tried) (old new : List Kept) →
+      ((c : Pattern) → Spells rules nodes n c → (q : Pattern) × (c ≡ form q) × Spells rules nodes m q) →
+      IsMatchOver form rules nodes x m p tried old new → IsMatch rules nodes x n p tried old new
+  over_match x p form tried old new spelt h = λ c s. let is = spelt c s in rw is.1 (h is.0 is.2)
 
-    pub first_match : (ms : List ℕ) (tried : Tried) (old new : List Kept) → slice_get nodes n ≡ Some (shape.Choice ms) →
-        IsMatchOfFirst rules nodes x ms p tried old new → IsMatch rules nodes x n p tried old new
-    first_match ms tried old new at h = λ c s.
-        let is = has_shape rules nodes s (shape.Choice ms) at in
-        rw is.1 (map_by (GivesFirst rules x is.0 p) (Gives rules x (e.Choice is.0) p) (λ o k d. choice d) tried.found
-        tried.looked old new (h is.0 is.2))
+  pub all_match : (x : List ℕ) (p : ℕ) {ms : List ℕ} (tried : Tried) (old new : List Kept)
+      → slice_get nodes n ≡ Some (shape.Seq ms) → IsMatchOfAll rules nodes x ms p tried old new
+      → IsMatch rules nodes x n p tried old new
+  all_match x p {ms} tried old new at h = λ c s.
+      let is = has_shape rules nodes s (shape.Seq ms) at in
+      rw is.1 (map_by rules nodes (GivesAll rules x is.0 p) (Gives rules x (e.Seq is.0) p) (λ o k d. seq d)
+      tried.found tried.looked old new (h is.0 is.2))
 
-    -- a success that takes nothing and keeps one event
-    abbrev pub kept_one : Tried
-    kept_one = record { found = Found.Took p; looked = 0 }
+  pub first_match : (x : List ℕ) (p : ℕ) {ms : List ℕ} (tried : Tried) (old new : List Kept)
+      → slice_get nodes n ≡ Some (shape.Choice ms) → IsMatchOfFirst rules nodes x ms p tried old new
+      → IsMatch rules nodes x n p tried old new
+  first_match x p {ms} tried old new at h = λ c s.
+      let is = has_shape rules nodes s (shape.Choice ms) at in
+      rw is.1 (map_by rules nodes (GivesFirst rules x is.0 p) (Gives rules x (e.Choice is.0) p) (λ o k d. choice d)
+      tried.found tried.looked old new (h is.0 is.2))
 
-    pub act_match : (t : List ℕ) (tried : Tried) (old new : List Kept) → slice_get nodes n ≡ Some (shape.Act t)
-        → tried ≡ kept_one →
-        new ≡ old ++ Kept.Acted n ∷ [] → IsMatch rules nodes x n p tried old new
-    act_match t tried old new at is put = λ c s. rw (is, has_shape rules nodes s (shape.Act t) at)
-        (_, _, one_event (acted at) no_event, act, put)
+  pub act_match : (x : List ℕ) {p : ℕ} {t : List ℕ} {tried : Tried} (old : List Kept) {new : List Kept}
+      → slice_get nodes n ≡ Some (shape.Act t) → tried ≡ kept_one p →
+      new ≡ old ++ Kept.Acted n ∷ [] → IsMatch rules nodes x n p tried old new
+  act_match x {t} old at is put = λ c s. rw (is, has_shape rules nodes s (shape.Act t) at)
+      (_, _, one_event (acted at) no_event, act, put)
 
-    pub open_match : (tried : Tried) (old new : List Kept) → slice_get nodes n ≡ Some shape.Open → tried ≡ kept_one →
-        new ≡ old ++ Kept.Opened p ∷ [] → IsMatch rules nodes x n p tried old new
-    open_match tried old new at is put = λ c s. rw (is, has_shape rules nodes s shape.Open at)
-        (_, _, one_event opened no_event, open_at, put)
+  pub open_match : (x : List ℕ) {p : ℕ} {tried : Tried} (old : List Kept) {new : List Kept}
+      → slice_get nodes n ≡ Some shape.Open → tried ≡ kept_one p →
+      new ≡ old ++ Kept.Opened p ∷ [] → IsMatch rules nodes x n p tried old new
+  open_match x old at is put = λ c s. rw (is, has_shape rules nodes s shape.Open at)
+      (_, _, one_event opened no_event, open_at, put)
 
-    pub close_match : (tried : Tried) (old new : List Kept) → slice_get nodes n ≡ Some shape.Close → tried ≡ kept_one →
-        new ≡ old ++ Kept.Closed p ∷ [] → IsMatch rules nodes x n p tried old new
-    close_match tried old new at is put = λ c s. rw (is, has_shape rules nodes s shape.Close at)
-        (_, _, one_event closed no_event, close_at, put)
+  pub close_match : (x : List ℕ) {p : ℕ} {tried : Tried} (old : List Kept) {new : List Kept}
+      → slice_get nodes n ≡ Some shape.Close → tried ≡ kept_one p →
+      new ≡ old ++ Kept.Closed p ∷ [] → IsMatch rules nodes x n p tried old new
+  close_match x old at is put = λ c s. rw (is, has_shape rules nodes s shape.Close at)
+      (_, _, one_event closed no_event, close_at, put)
 
 pub node_within : (nodes : List Node) (n : ℕ) (s : Shape) → slice_get (shapes_of nodes) n ≡ Some s → n < length nodes
 node_within nodes n s is = let less = slice_get_within (shapes_of nodes) n s is in grind (arith, less, length-map)

@@ -18,12 +18,12 @@ some_outcome nodes rules x e Found.Failed k old new (d, is) = (_, d)
 some_outcome nodes rules x e (Found.Took q) k old new (added, events, stand, d, is) = (_, d)
 
 -- whatever was found, the rule gives an outcome that looks as far
-pub rule_gives : (rules : List Rule) (nodes : List Shape) (start root : ℕ) (bodies ranks : List ℕ) (x : List ℕ)
-    (tried : Tried) (n : ℕ) (old new : List Kept) →
+pub rule_gives : {rules : List Rule} {nodes : List Shape} {start root : ℕ} {bodies ranks x : List ℕ}
+    (tried : Tried) {n : ℕ} (old new : List Kept) →
     tried.looked ≡ n → IsRanked rules start nodes bodies ranks → slice_get bodies start ≡ Some root
     → IsMatch rules nodes x root 0 tried old new →
     (o : Outcome) × RuleGives rules start x o n
-rule_gives rules nodes start root bodies ranks x tried n old new is sound at match =
+rule_gives {rules} {nodes} {start} {root} {x} tried old new is sound at match =
     let s = sound.spelled.spelled start root at in
     let h = some_outcome nodes rules x s.0 tried.found tried.looked old new (match s.0 s.2) in
     (h.0, record { body = s.0; rule = s.1; gives = subst (λ v. Gives rules x s.0 0 h.0 v) is h.1 })

@@ -54,23 +54,42 @@ pub record HaveTurned (rules : List Rule) (nodes : List Shape) (x : List ℕ) (e
   pub is : new ≡ old ++ added
   pub turns : TurnsOn rules x e p q events looked
 
-module _ (rules : List Rule) (nodes : List Shape) (x : List ℕ) (m p : ℕ) where
-  pub none_turned : (e : Pattern) (old : List Kept) → HaveTurned rules nodes x e p p old old 0
-  none_turned e old = record {
-    added = [];
-    events = [];
-    stand = no_event;
-    is = sym (append-nil old);
-    turns = turns_on_start rules x e p;
-  }
+pub none_turned : {rules : List Rule} {nodes : List Shape} {x : List ℕ} {p : ℕ} (e : Pattern) {old : List Kept}
+    → HaveTurned rules nodes x e p p old old 0
+none_turned {rules} {x} {p} e {old} = record {
+  added = [];
+  events = [];
+  stand = no_event;
+  is = sym (append-nil old);
+  turns = turns_on_start rules x e p;
+}
 
+plus_by : (rules : List Rule) (nodes : List Shape) (x : List ℕ) (e : Pattern) (p q j k : ℕ) (old mid new : List Kept)
+    (found : Found) → MatchesBy nodes (Gives rules x e p) (Found.Took q) j old mid →
+    MatchesBy nodes (Gives rules x (Star e) q) found k mid new → MatchesBy nodes (Gives rules x (Plus e) p) found
+    (max j k) old new
+plus_by rules nodes x e p q j k old mid new Found.Failed first rest = absurd (always_takes rest.0)
+plus_by rules nodes x e p q j k old mid new (Found.Took r) (a, es, stand, d, is) (b, fs, stand', c, is') = (
+  a ++ b,
+  es ++ fs,
+  StandFor-append nodes stand stand',
+  plus_takes d c,
+  is' ∙ ap (λ v. v ++ b) is ∙ append_assoc old a b,
+)
+
+-- nothing is taken, and no event is left
+matches_quietly : (nodes : List Shape) (F : Outcome → ℕ → Type 0) (p k : ℕ) (old new : List Kept) → F (Takes p []) k
+    → new ≡ old → MatchesBy nodes F (Found.Took p) k old new
+matches_quietly nodes F p k old new d is = ([], [], no_event, d, is ∙ sym (append-nil old))
+
+module _ {rules : List Rule} {nodes : List Shape} {m : ℕ} where
   -- the next turn takes what is between q and r
-  pub one_turned : (q r : ℕ) (old mid new : List Kept) (tried : Tried) (j k : ℕ) (e : Pattern)
+  pub one_turned : {x : List ℕ} {p q r : ℕ} {old mid new : List Kept} (tried : Tried) {j k : ℕ} (e : Pattern)
       → Spells rules nodes m e →
       HaveTurned rules nodes x e p q old mid j → IsMatch rules nodes x m q tried mid new → tried.found ≡ Found.Took r
       → k ≡ max j tried.looked →
       HaveTurned rules nodes x e p r old new k
-  one_turned q r old mid new tried j k e s t match found looked =
+  one_turned {x} {p} {q} {r} {old} {mid} {new} tried {j} e s t match found looked =
       let h : MatchesBy nodes (Gives rules x e q) (Found.Took r) tried.looked mid new = rw found at match e s in
       rw looked (record {
         added = t.added ++ h.0;
@@ -81,11 +100,12 @@ module _ (rules : List Rule) (nodes : List Shape) (x : List ℕ) (m p : ℕ) whe
       })
 
   -- the next turn fails
-  pub all_turned : (q : ℕ) (old mid new : List Kept) (tried : Tried) (j k : ℕ) (e : Pattern) → Spells rules nodes m e →
+  pub all_turned : {x : List ℕ} {p q : ℕ} {old mid new : List Kept} (tried : Tried) {j k : ℕ} (e : Pattern)
+      → Spells rules nodes m e →
       HaveTurned rules nodes x e p q old mid j → IsMatch rules nodes x m q tried mid new → tried.found ≡ Found.Failed
       → k ≡ max j tried.looked →
       MatchesBy nodes (Gives rules x (Star e) p) (Found.Took q) k old new
-  all_turned q old mid new tried j k e s t match found looked =
+  all_turned {x} {p} {q} {mid} {new} tried {j} e s t match found looked =
       let h : MatchesBy nodes (Gives rules x e q) Found.Failed tried.looked mid new = rw found at match e s in (
         t.added,
         t.events,
@@ -95,88 +115,70 @@ module _ (rules : List Rule) (nodes : List Shape) (x : List ℕ) (m p : ℕ) whe
       )
 
   -- a repetition of at least one turn: the first turn fails
-  pub plus_failed : (old new : List Kept) (tried : Tried) → IsMatch rules nodes x m p tried old new
+  pub plus_failed : (x : List ℕ) (p : ℕ) (old new : List Kept) (tried : Tried) → IsMatch rules nodes x m p tried old new
       → tried.found ≡ Found.Failed →
       IsMatchOver Plus rules nodes x m p tried old new
-  plus_failed old new tried match found = λ e s.
+  plus_failed x p old new tried match found = λ e s.
       let h : MatchesBy nodes (Gives rules x e p) Found.Failed tried.looked old new = rw found at match e s in
       rw found (plus_fails h.0, h.1)
 
-  plus_by : (e : Pattern) (q j k : ℕ) (old mid new : List Kept) (found : Found)
-      → MatchesBy nodes (Gives rules x e p) (Found.Took q) j old mid →
-      MatchesBy nodes (Gives rules x (Star e) q) found k mid new → MatchesBy nodes (Gives rules x (Plus e) p) found
-      (max j k) old new
-  plus_by e q j k old mid new Found.Failed first rest = absurd (always_takes rest.0)
-  plus_by e q j k old mid new (Found.Took r) (a, es, stand, d, is) (b, fs, stand', c, is') = (
-    a ++ b,
-    es ++ fs,
-    StandFor-append nodes stand stand',
-    plus_takes d c,
-    is' ∙ ap (λ v. v ++ b) is ∙ append_assoc old a b,
-  )
-
   -- the first turn takes what is between p and q, and more turns follow
-  pub plus_took : (q k : ℕ) (old mid new : List Kept) (first rest : Tried) → IsMatch rules nodes x m p first old mid
-      → first.found ≡ Found.Took q →
+  pub plus_took : (x : List ℕ) (p : ℕ) {q k : ℕ} (old mid new : List Kept) (first rest : Tried)
+      → IsMatch rules nodes x m p first old mid → first.found ≡ Found.Took q →
       IsMatchOver Star rules nodes x m q rest mid new → k ≡ max first.looked rest.looked → (e : Pattern)
       → Spells rules nodes m e →
       MatchesBy nodes (Gives rules x (Plus e) p) rest.found k old new
-  plus_took q k old mid new first rest match found turns looked e s =
+  plus_took x p {q} old mid new first rest match found turns looked e s =
       let h : MatchesBy nodes (Gives rules x e p) (Found.Took q) first.looked old mid = rw found at match e s in
-      rw looked (plus_by e q first.looked rest.looked old mid new rest.found h (turns e s))
+      rw looked (plus_by rules nodes x e p q first.looked rest.looked old mid new rest.found h (turns e s))
 
-  pub opt_took : (q : ℕ) (old new : List Kept) (tried : Tried) → IsMatch rules nodes x m p tried old new
-      → tried.found ≡ Found.Took q →
+  pub opt_took : (x : List ℕ) (p : ℕ) {q : ℕ} (old new : List Kept) (tried : Tried)
+      → IsMatch rules nodes x m p tried old new → tried.found ≡ Found.Took q →
       IsMatchOver Opt rules nodes x m p tried old new
-  opt_took q old new tried match found = λ e s.
+  opt_took x p {q} old new tried match found = λ e s.
       let h : MatchesBy nodes (Gives rules x e p) (Found.Took q) tried.looked old new = rw found at match e s in
       rw found (h.0, h.1, h.2, opt_takes h.3, h.4)
 
-  pub opt_failed : (old new : List Kept) (tried : Tried) → IsMatch rules nodes x m p tried old new
-      → tried.found ≡ Found.Failed →
+  pub opt_failed : {x : List ℕ} {p : ℕ} (old : List Kept) {new : List Kept} {tried : Tried}
+      → IsMatch rules nodes x m p tried old new → tried.found ≡ Found.Failed →
       (e : Pattern) → Spells rules nodes m e → MatchesBy nodes (Gives rules x (Opt e) p) (Found.Took p) tried.looked
       old new
-  opt_failed old new tried match found e s =
+  opt_failed {x} {p} old {new} {tried} match found e s =
       let h : MatchesBy nodes (Gives rules x e p) Found.Failed tried.looked old new = rw found at match e s in
       ([], [], no_event, opt_none h.0, h.1 ∙ sym (append-nil old))
 
-  -- nothing is taken, and no event is left
-  matches_quietly : (F : Outcome → ℕ → Type 0) (k : ℕ) (old new : List Kept) → F (Takes p []) k → new ≡ old
-      → MatchesBy nodes F (Found.Took p) k old new
-  matches_quietly F k old new d is = ([], [], no_event, d, is ∙ sym (append-nil old))
-
-  pub and_took : (q : ℕ) (old new : List Kept) (tried : Tried) → IsSeen rules nodes x m p tried
+  pub and_took : {x : List ℕ} {p q : ℕ} {old new : List Kept} {tried : Tried} → IsSeen rules nodes x m p tried
       → tried.found ≡ Found.Took q → new ≡ old →
       (e : Pattern) → Spells rules nodes m e → MatchesBy nodes (Gives rules x (And e) p) (Found.Took p) tried.looked
       old new
-  and_took q old new tried see found same e s =
+  and_took {x} {p} {q} {old} {new} {tried} see found same e s =
       let see' = see e s in
       let d : Gives rules x e p (Takes q see'.0) tried.looked = rw found at see'.1 in
-      matches_quietly (Gives rules x (And e) p) tried.looked old new (and_takes d) same
+      matches_quietly nodes (Gives rules x (And e) p) p tried.looked old new (and_takes d) same
 
-  pub and_failed : (old new : List Kept) (tried : Tried) → IsSeen rules nodes x m p tried → tried.found ≡ Found.Failed
-      → new ≡ old →
+  pub and_failed : {x : List ℕ} {p : ℕ} {old new : List Kept} {tried : Tried} → IsSeen rules nodes x m p tried
+      → tried.found ≡ Found.Failed → new ≡ old →
       (e : Pattern) → Spells rules nodes m e → MatchesBy nodes (Gives rules x (And e) p) Found.Failed tried.looked
       old new
-  and_failed old new tried see found same e s =
+  and_failed {x} {p} {tried} see found same e s =
       let see' = see e s in
       let d : Gives rules x e p Fails tried.looked = rw found at see'.1 in
       (and_fails d, same)
 
-  pub not_took : (q : ℕ) (old new : List Kept) (tried : Tried) → IsSeen rules nodes x m p tried
+  pub not_took : {x : List ℕ} {p q : ℕ} {old new : List Kept} {tried : Tried} → IsSeen rules nodes x m p tried
       → tried.found ≡ Found.Took q → new ≡ old →
       (e : Pattern) → Spells rules nodes m e → MatchesBy nodes (Gives rules x (Not e) p) Found.Failed tried.looked
       old new
-  not_took q old new tried see found same e s =
+  not_took {x} {p} {q} {tried} see found same e s =
       let see' = see e s in
       let d : Gives rules x e p (Takes q see'.0) tried.looked = rw found at see'.1 in
       (not_fails d, same)
 
-  pub not_failed : (old new : List Kept) (tried : Tried) → IsSeen rules nodes x m p tried → tried.found ≡ Found.Failed
-      → new ≡ old →
+  pub not_failed : {x : List ℕ} {p : ℕ} {old new : List Kept} {tried : Tried} → IsSeen rules nodes x m p tried
+      → tried.found ≡ Found.Failed → new ≡ old →
       (e : Pattern) → Spells rules nodes m e → MatchesBy nodes (Gives rules x (Not e) p) (Found.Took p) tried.looked
       old new
-  not_failed old new tried see found same e s =
+  not_failed {x} {p} {old} {new} {tried} see found same e s =
       let see' = see e s in
       let d : Gives rules x e p Fails tried.looked = rw found at see'.1 in
-      matches_quietly (Gives rules x (Not e) p) tried.looked old new (not_takes d) same
+      matches_quietly nodes (Gives rules x (Not e) p) p tried.looked old new (not_takes d) same

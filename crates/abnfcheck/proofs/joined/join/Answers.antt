@@ -18,7 +18,7 @@ span-requires c = let lt = c.loop-id-test.true in let l = c.loop-id.invariant.co
     c.len-id-end.ensures.len in let t = o.length_taken c.take_body-body.ensures.rest in omega (arith, lt, l, n, t)
 
 pub loop-id-preserved : goal.loop-id-preserved
-loop-id-preserved c = o.join_next _ _ _ _ _ _ _ _ _ _ _ c.loop-id.invariant c.take_body-body.ensures.body
+loop-id-preserved c = o.join_next _ c.loop-id.invariant c.take_body-body.ensures.body
     c.take_body-body.ensures.rest c.name.ensures c.span.ensures c.in_ok-define.ensures.defines
 
 pub returns : goal.returns

@@ -21,35 +21,35 @@ use Rattle.abnfcheck.proofs.rule_marks.+needing.Goals as goal
 pub add_needs-returns : goal.add_needs-returns
 add_needs-returns t c = elim c.match-e.branch [
   | add_needs-in-Text+in_ok-need-in-Text w ↦ λ has test. rw (w.in-Text.is, element-Text)
-      (o.leaf_numbered has _ _ _ _ _ _ _ (rw (w.needs-is, w.need-is) at c.in_ok-n.ensures.needs)
+      (o.leaf_numbered has _ _ (rw (w.needs-is, w.need-is) at c.in_ok-n.ensures.needs)
       (rw w.needs-is at c.in_ok-n.ensures.number) (rw w.in_ok-need-in-Text.ensures
       (y.text_need has _ _ _ _ _ _ _ w.deref.ensures.value w.text_yields.ensures test)))
   | add_needs-in-Values+in_ok-need-in-Values w ↦ λ has test. rw (w.in-Values.is, element-Values)
-      (o.leaf_numbered has _ _ _ _ _ _ _ (rw (w.needs-is, w.need-is) at c.in_ok-n.ensures.needs)
+      (o.leaf_numbered has _ _ (rw (w.needs-is, w.need-is) at c.in_ok-n.ensures.needs)
       (rw w.needs-is at c.in_ok-n.ensures.number) (rw w.in_ok-need-in-Values.ensures
       (y.values_need has _ _ _ _ _ _ w.deref-in-Values.ensures.value w.values_yield.ensures test)))
   | add_needs-in-Range+in_ok-need-in-Range w ↦ λ has test. rw (w.in-Range.is, element-Range)
-      (o.leaf_numbered has _ _ _ _ _ _ _ (rw (w.needs-is, w.need-is) at c.in_ok-n.ensures.needs)
+      (o.leaf_numbered has _ _ (rw (w.needs-is, w.need-is) at c.in_ok-n.ensures.needs)
       (rw w.needs-is at c.in_ok-n.ensures.number) (rw w.in_ok-need-in-Range.ensures
       (y.range_need has _ _ _ _ _ _ w.range_yields.ensures test)))
   | add_needs-in-Concat+in_ok-add_all_needs-in-Concat w ↦ λ has test. rw (w.in-Concat.is, element-Concat)
-      (o.over_all has _ _ _ _ _ _ _ _ (rw (w.needs-is, w.need-is) at c.in_ok-n.ensures.needs)
-      (rw w.needs-is at c.in_ok-n.ensures.number) _ _
+      (o.over_all has _ _ _ (rw (w.needs-is, w.need-is) at c.in_ok-n.ensures.needs)
+      (rw w.needs-is at c.in_ok-n.ensures.number)
       (rw w.deref-in-Concat.ensures.value at (w.in_ok-add_all_needs-in-Concat.ensures has test)) of_concat)
   | add_needs-in-Alt+in_ok-add_all_needs-in-Alt w ↦ λ has test. rw (w.in-Alt.is, element-Alt)
-      (o.over_all has _ _ _ _ _ _ _ _ (rw (w.needs-is, w.need-is) at c.in_ok-n.ensures.needs)
-      (rw w.needs-is at c.in_ok-n.ensures.number) _ _
+      (o.over_all has _ _ _ (rw (w.needs-is, w.need-is) at c.in_ok-n.ensures.needs)
+      (rw w.needs-is at c.in_ok-n.ensures.number)
       (rw w.deref-in-Alt.ensures.value at (w.in_ok-add_all_needs-in-Alt.ensures has test)) of_alt)
   | add_needs-in-Rep+in_ok-operand-in-Rep+in_ok-need-in-Rep w ↦ λ has test. rw (w.in-Rep.is, element-Rep)
-      (o.operand_numbered has _ _ _ _ _ _ _ _ (rw (w.needs-is, w.need-is) at c.in_ok-n.ensures.needs)
-      (rw w.needs-is at c.in_ok-n.ensures.number) _ _
+      (o.operand_numbered has _ _ _ (rw (w.needs-is, w.need-is) at c.in_ok-n.ensures.needs)
+      (rw w.needs-is at c.in_ok-n.ensures.number)
       (rw w.deref-in-Rep.ensures at (w.in_ok-operand-in-Rep.ensures has test))
       (λ asked. rw w.in_ok-need-in-Rep.ensures (y.repeat_need has _ _ _ _ _ _ _ asked)))
   | add_needs-in-Opt+in_ok-need-in-Opt w ↦ λ has test. rw (w.in-Opt.is, element-Opt)
-      (o.leaf_numbered has _ _ _ _ _ _ _ (rw (w.needs-is, w.need-is) at c.in_ok-n.ensures.needs)
+      (o.leaf_numbered has _ _ (rw (w.needs-is, w.need-is) at c.in_ok-n.ensures.needs)
       (rw w.needs-is at c.in_ok-n.ensures.number) (rw w.in_ok-need-in-Opt.ensures (y.option_need has _ _ _ _)))
   | add_needs-in-Name+in_ok-rule_id-in-Name+in_ok-need-in-Name w ↦ λ has test. rw (w.in-Name.is, element-Name)
-      (o.leaf_numbered has _ _ _ _ _ _ _ (rw (w.needs-is, w.need-is) at c.in_ok-n.ensures.needs)
+      (o.leaf_numbered has _ _ (rw (w.needs-is, w.need-is) at c.in_ok-n.ensures.needs)
       (rw w.needs-is at c.in_ok-n.ensures.number) (rw
       (rw (
         w.len.ensures.len,
@@ -58,7 +58,7 @@ add_needs-returns t c = elim c.match-e.branch [
         sym (length-map c.args.rules.now.rules rule_of),
       ) at w.in_ok-need-in-Name.ensures) (y.named_need has _ _ _ _)))
   | add_needs-in-Prose+in_ok-need-in-Prose w ↦ λ has test. rw (w.in-Prose.is, element-Prose)
-      (o.leaf_numbered has _ _ _ _ _ _ _ (rw (w.needs-is, w.need-is) at c.in_ok-n.ensures.needs)
+      (o.leaf_numbered has _ _ (rw (w.needs-is, w.need-is) at c.in_ok-n.ensures.needs)
       (rw w.needs-is at c.in_ok-n.ensures.number) (rw w.in_ok-need-in-Prose.ensures (y.prose_need has _ _ _ _)))
 ]
 
@@ -67,5 +67,5 @@ add_all_needs-loop-member-init t c = λ has test. o.no_members has _ _ _ _ c.new
 
 pub add_all_needs-loop-member-preserved : goal.add_all_needs-loop-member-preserved
 add_all_needs-loop-member-preserved t c = λ has test.
-    rw (c.in_ok-push.ensures.items) (o.next_member has _ _ _ _ _ _ _ _ _ _ c.loop-member-test.true c.member-item.is
+    rw (c.in_ok-push.ensures.items) (o.next_member has _ c.loop-member-test.true c.member-item.is
     (c.loop-member.invariant has test) (c.in_ok-n.ensures has test))

@@ -29,7 +29,7 @@ one_more-requires c =
 pub returns-in_ok-advance-in-Ask : goal.returns-in_ok-advance-in-Ask
 returns-in_ok-advance-in-Ask c =
     let is = read_top _ _ _ _ c.requires.frame.2 (c.top-top.ensures _ _ c.requires.frame.2) in
-    pushed_step _ _ _ c.start-start.ensures.sound _ _ _ _ _ _ _ _ c.requires.fits is c.in-Ask.ensures refl
+    pushed_step _ _ _ c.start-start.ensures.sound c.requires.fits is c.in-Ask.ensures refl
     (c.in_ok-advance-in-Ask.ensures _ _ is) c.one_more.ensures
 
 pub returns-then-is_empty : goal.returns-then-is_empty

@@ -15,7 +15,7 @@ returns-in-Ok-Need c =
 pub returns-in-Some : goal.returns-in-Some
 returns-in-Some c =
     let on = (rw c.in-Ok-Answer.field-0-is at c.in-Ok-Answer.ensures) _ c.requires.fits in
-    next_from _ _ _ _ _ _ _ _ _ _ _ _ on.2 (dropped_next _ _ _ c.start-start.ensures.sound _ _ _ on.2.fits _ _ on.3
+    next_from on.2 (dropped_next _ _ _ c.start-start.ensures.sound _ _ _ on.2.fits _ _ on.3
     c.in_ok-put-in-Ok-Answer.ensures.added _ _ c.in-Some.ensures.some)
 
 pub returns-in-None : goal.returns-in-None
@@ -28,5 +28,5 @@ returns-in-None c =
 pub returns-in_ok-push-in-Ok-Ask : goal.returns-in_ok-push-in-Ok-Ask
 returns-in_ok-push-in-Ok-Ask c =
     let on = (rw c.in-Ok-Ask.field-0-is at c.in-Ok-Ask.ensures) _ c.requires.fits in
-    next_from _ _ _ _ _ _ _ _ _ _ _ _ on.2 (pushed_next _ _ _ c.start-start.ensures.sound _ _ _ on.2.fits _ _ _ _ on.3 _
+    next_from on.2 (pushed_next _ _ _ c.start-start.ensures.sound _ _ _ on.2.fits _ _ _ _ on.3 _
     _ c.beginning.ensures c.in_ok-push-in-Ok-Ask.ensures)

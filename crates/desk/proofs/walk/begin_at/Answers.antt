@@ -4,15 +4,12 @@ use Rattle.desk.proofs.walk.begin_at.Goals as goal
 
 pub returns-in-Some-Leave-clause-begins : goal.returns-in-Some-Leave-clause-begins
 returns-in-Some-Leave-clause-begins c = λ cells x more all right w.
-    begins_left _ _ _ _ _ _ _ _ _ w (λ es left. (rw c.in-Some-Leave.field-0-is at c.in-Some-Leave.ensures) cells x more
-    es right left)
+    begins_left w (λ es left. (rw c.in-Some-Leave.field-0-is at c.in-Some-Leave.ensures) cells x more es right left)
 
 pub returns-in-Some-Emit-clause-begins : goal.returns-in-Some-Emit-clause-begins
 returns-in-Some-Emit-clause-begins c = λ cells x more all right w.
-    begins_told _ _ _ _ _ _ _ _ _ w _ (λ es left. (rw c.in-Some-Emit.field-0-is at c.in-Some-Emit.ensures) cells x more
-    es right left)
+    begins_told w (λ es left. (rw c.in-Some-Emit.field-0-is at c.in-Some-Emit.ensures) cells x more es right left)
 
 pub returns-in_default-clause-begins : goal.returns-in_default-clause-begins
 returns-in_default-clause-begins c = λ cells x more all right w.
-    begins_pushed _ _ _ _ _ _ _ _ _ w (c.push.ensures.frames
-    ∙ ap (λ b. b ∷ c.args.track.now.frames) c.beginning.ensures)
+    begins_pushed w (c.push.ensures.frames ∙ ap (λ b. b ∷ c.args.track.now.frames) c.beginning.ensures)

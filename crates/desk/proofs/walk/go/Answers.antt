@@ -13,20 +13,20 @@ use Rattle.desk.proofs.walk.go.Goals as goal
 pub next_way-requires-clause-there : goal.next_way-requires-clause-there
 next_way-requires-clause-there c =
     let is = read_top _ _ _ _ c.requires.top.2 (c.top-top.ensures _ _ c.requires.top.2) in
-    let last = last_at _ _ _ _ _ _ _ _ _ _ is c.requires.walks.1 in
+    let last = last_at is c.requires.walks.1 in
     let there = is_there _ _ last.left.spelled.1 in
     omega (arith, there, length-map c.args.peg.now.nodes shape_of)
 
 pub begin_at-requires-clause-spells : goal.begin_at-requires-clause-spells
 begin_at-requires-clause-spells c =
     let is = read_top _ _ _ _ c.requires.top.2 (c.top-top.ensures _ _ c.requires.top.2) in
-    let last = last_at _ _ _ _ _ _ _ _ _ _ is c.requires.walks.1 in
+    let last = last_at is c.requires.walks.1 in
     let way = c.in-TurnTo.ensures _ _ _ c.requires.cells.1 last.left in
     way.0.spelled
 
 pub begin_at-requires-clause-room : goal.begin_at-requires-clause-room
 begin_at-requires-clause-room c =
-    let deep = depth_at_most _ _ _ _ _ _ _ _ c.requires.walks.1 in
+    let deep = depth_at_most c.requires.walks.1 in
     let before = ap length c.requires.top.2 in
     let after = ap length (c.pop-in-TurnTo.ensures.frames _ _ c.requires.top.2) in
     omega (arith, deep, before, after, c.requires.room, c.pop-in-TurnTo.ensures.room)
@@ -34,54 +34,51 @@ begin_at-requires-clause-room c =
 pub begin_at-requires-in-GoInto-clause-spells : goal.begin_at-requires-in-GoInto-clause-spells
 begin_at-requires-in-GoInto-clause-spells c =
     let is = read_top _ _ _ _ c.requires.top.2 (c.top-top.ensures _ _ c.requires.top.2) in
-    let last = last_at _ _ _ _ _ _ _ _ _ _ is c.requires.walks.1 in
+    let last = last_at is c.requires.walks.1 in
     let way = c.in-GoInto.ensures _ _ _ c.requires.cells.1 last.left in
     way.3.spelled
 
 pub begin_at-requires-in-GoInto-clause-room : goal.begin_at-requires-in-GoInto-clause-room
 begin_at-requires-in-GoInto-clause-room c =
     let is = read_top _ _ _ _ c.requires.top.2 (c.top-top.ensures _ _ c.requires.top.2) in
-    let last = last_at _ _ _ _ _ _ _ _ _ _ is c.requires.walks.1 in
+    let last = last_at is c.requires.walks.1 in
     let way = c.in-GoInto.ensures _ _ _ c.requires.cells.1 last.left in
-    let room = room_into _ _ _ _ _ _ _ _ _ _ _ last way c.requires.room _ _ _ _ refl in
+    let room = room_into last way c.requires.room refl in
     let after = ap length (c.come_on.ensures.frames _ _ is) in
     omega (arith, room, after, c.come_on.ensures.room)
 
 pub returns-in-Leave-clause-goes : goal.returns-in-Leave-clause-goes
 returns-in-Leave-clause-goes c = λ all walks.
     let is = read_top _ _ _ _ c.requires.top.2 (c.top-top.ensures _ _ c.requires.top.2) in
-    let last = last_at _ _ _ _ _ _ _ _ _ _ is walks in
+    let last = last_at is walks in
     let way = c.in-Leave.ensures _ _ _ c.requires.cells.1 last.left in
-    goes_at _ _ _ _ _ _ _ _ _ _ _ _ is (rw (c.pop.ensures.frames _ _ is) (walk_leaves _ _ _ _ _ _ _ _ all last way))
+    goes_at is (rw (c.pop.ensures.frames _ _ is) (walk_leaves last way))
 
 pub returns-in-Emit-clause-goes : goal.returns-in-Emit-clause-goes
 returns-in-Emit-clause-goes c = λ all walks.
     let is = read_top _ _ _ _ c.requires.top.2 (c.top-top.ensures _ _ c.requires.top.2) in
-    let last = last_at _ _ _ _ _ _ _ _ _ _ is walks in
+    let last = last_at is walks in
     let way = c.in-Emit.ensures _ _ _ c.requires.cells.1 last.left in
-    goes_at _ _ _ _ _ _ _ _ _ _ _ _ is (rw (c.pop-in-Emit.ensures.frames _ _ is)
-    (walk_emits _ _ _ _ _ _ _ _ all last _ way))
+    goes_at is (rw (c.pop-in-Emit.ensures.frames _ _ is) (walk_emits last way))
 
 pub returns-in-TurnTo-clause-goes : goal.returns-in-TurnTo-clause-goes
 returns-in-TurnTo-clause-goes c = λ all walks.
     let is = read_top _ _ _ _ c.requires.top.2 (c.top-top.ensures _ _ c.requires.top.2) in
-    let last = last_at _ _ _ _ _ _ _ _ _ _ is walks in
+    let last = last_at is walks in
     let way = c.in-TurnTo.ensures _ _ _ c.requires.cells.1 last.left in
     let g : Goes (rules_of c.args.peg.now.rules) (shapes_of c.args.peg.now.nodes) c.args.peg.now.bodies
     c.args.peg.now.ranks c.args.window.now c.args.cells.now (c.top-top.result ∷ c.requires.top.1) None all
     (beginning c.in-TurnTo.node c.in-TurnTo.place ∷ c.pop-in-TurnTo.new.self.frames) =
-    rw (c.pop-in-TurnTo.ensures.frames _ _ is) (walk_turns _ _ _ _ _ _ _ _ all last _ _ way) in
-    goes_at _ _ _ _ _ _ _ _ _ _ _ _ is (goes_then _ _ _ _ _ _ _ _ _ _ _ g
-    (c.begin_at.ensures.begins _ _ _ _ c.requires.cells.1 g.walks))
+    rw (c.pop-in-TurnTo.ensures.frames _ _ is) (walk_turns last way) in
+    goes_at is (goes_then g (c.begin_at.ensures.begins _ _ _ _ c.requires.cells.1 g.walks))
 
 pub returns-in-GoInto-clause-goes : goal.returns-in-GoInto-clause-goes
 returns-in-GoInto-clause-goes c = λ all walks.
     let is = read_top _ _ _ _ c.requires.top.2 (c.top-top.ensures _ _ c.requires.top.2) in
-    let last = last_at _ _ _ _ _ _ _ _ _ _ is walks in
+    let last = last_at is walks in
     let way = c.in-GoInto.ensures _ _ _ c.requires.cells.1 last.left in
     let g : Goes (rules_of c.args.peg.now.rules) (shapes_of c.args.peg.now.nodes) c.args.peg.now.bodies
     c.args.peg.now.ranks c.args.window.now c.args.cells.now (c.top-top.result ∷ c.requires.top.1) None all
     (beginning c.in-GoInto.node c.in-GoInto.place ∷ c.come_on.new.self.frames) =
-    rw (c.come_on.ensures.frames _ _ is) (goes_into _ _ _ _ _ _ _ _ all last _ _ _ _ way) in
-    goes_at _ _ _ _ _ _ _ _ _ _ _ _ is (goes_then _ _ _ _ _ _ _ _ _ _ _ g
-    (c.begin_at-in-GoInto.ensures.begins _ _ _ _ c.requires.cells.1 g.walks))
+    rw (c.come_on.ensures.frames _ _ is) (goes_into last way) in
+    goes_at is (goes_then g (c.begin_at-in-GoInto.ensures.begins _ _ _ _ c.requires.cells.1 g.walks))

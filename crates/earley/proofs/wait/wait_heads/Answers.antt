@@ -10,7 +10,7 @@ pub loop-head-preserved : goal.loop-head-preserved
 loop-head-preserved c = record {
   long = c.wait_spots.ensures.long ∙ c.loop-head.invariant.long;
   more = waiting_then c.args.flat.now c.args.heads.now
-      (expand (block_of c.args.flat.now) c.args.origin (take c.loop-head.head-index c.args.list.now)) _ _ _ _ _ _ _ _
+      (expand (block_of c.args.flat.now) c.args.origin (take c.loop-head.head-index c.args.list.now)) _ _ _
       (ap (λ v. expand (block_of c.args.flat.now) c.args.origin v)
       (take_one c.args.list.now c.loop-head.head-index 0 c.loop-head-test.true)
       ∙ expand_end (block_of c.args.flat.now) c.args.origin (take c.loop-head.head-index c.args.list.now) _)

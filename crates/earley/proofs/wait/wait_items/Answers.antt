@@ -9,7 +9,7 @@ pub loop-at-preserved : goal.loop-at-preserved
 loop-at-preserved c = record {
   long = c.wait_one.ensures.long ∙ c.loop-at.invariant.long;
   more = waiting_then c.args.flat.now c.args.heads.now
-      (items_of (take c.loop-at.at-index c.args.callers.now)) _ _ _ _ _ _ _ _
+      (items_of (take c.loop-at.at-index c.args.callers.now)) _ _ _
       (ap (λ v. items_of v) (take_one c.args.callers.now c.loop-at.at-index _ c.loop-at-test.true)
       ∙ map_end (λ h. h.item) (take c.loop-at.at-index c.args.callers.now) _)
       c.loop-at.invariant.more c.in_ok-wait_one.ensures.more;

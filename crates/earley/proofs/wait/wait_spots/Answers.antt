@@ -9,7 +9,7 @@ pub loop-spot-preserved : goal.loop-spot-preserved
 loop-spot-preserved c = record {
   long = c.wait_one.ensures.long ∙ c.loop-spot.invariant.long;
   more = waiting_then c.args.flat.now c.args.heads.now
-      (map (item_at c.args.place.0) (take c.loop-spot.spot-index c.args.from.now)) _ _ _ _ _ _ _ _
+      (map (item_at c.args.place.0) (take c.loop-spot.spot-index c.args.from.now)) _ _ _
       (ap (λ v. map (item_at c.args.place.0) v) (take_one c.args.from.now c.loop-spot.spot-index _
       c.loop-spot-test.true) ∙ map_end (item_at c.args.place.0) (take c.loop-spot.spot-index c.args.from.now) _)
       c.loop-spot.invariant.more c.in_ok-wait_one.ensures.more;

@@ -6,4 +6,4 @@ loop-id-init c = none_cut _ _ _ _ c.requires.none c.new-bodies.ensures.items
 
 pub loop-id-preserved : goal.loop-id-preserved
 loop-id-preserved c = rw (c.in_ok-push.ensures.items)
-    (next_cut _ _ _ _ _ _ _ _ _ c.loop-id.invariant c.body.ensures c.in_ok-made.ensures)
+    (next_cut _ _ _ c.loop-id.invariant c.body.ensures c.in_ok-made.ensures)

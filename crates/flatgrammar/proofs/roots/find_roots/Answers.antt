@@ -5,5 +5,5 @@ pub settle_all-requires : goal.settle_all-requires
 settle_all-requires c = rw c.deref_mut.ensures.value (o.firsts_within _ _ _ c.in_ok-ways.ensures c.requires)
 
 pub returns : goal.returns
-returns c = o.roots_found _ _ _ _ _ _ _ _ c.in_ok-ways.ensures c.deref_mut.ensures.value c.in_ok-settle_all.ensures.ways
+returns c = o.roots_found c.in_ok-ways.ensures c.deref_mut.ensures.value c.in_ok-settle_all.ensures.ways
     c.in_ok-settle_all.ensures.found (c.in_ok-ways.ways.ok.0) c.deref.ensures.value c.in_ok-roots.ensures

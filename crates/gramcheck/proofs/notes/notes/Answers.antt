@@ -24,11 +24,12 @@ returns c = λ lefts loops.
     let unused_notes = rw (c.deref-4.ensures.value, names) at c.in_ok-note_marked-2.ensures in
     let recursive_notes = rw names at c.in_ok-note_marked-3.ensures in
     let looping_notes = rw names at c.in_ok-note_marked-4.ensures in
+    let all = map said_of c.note_marked-4.new.notes.items in
     are-notes (rules_of t) (option_copied c.args.start) c.in_ok-uses.uses.names c.in_ok-uses.uses.ids.items
     c.in_ok-uses.ensures c.args.redefined.now c.in_ok-again.again.items
-    c.in_ok-unused.unused.items c.args.recursive.now c.args.looping.now (map said_of c.note_marked-4.new.notes.items)
+    c.in_ok-unused.unused.items c.args.recursive.now c.args.looping.now all
     (marks-again (rules_of t) own c.args.redefined.now c.in_ok-again.again.items again)
     (rw (c.in_ok-unused.ensures, c.deref-2.ensures.value) unused)
     lefts loops
-    (one_by_one _ _ _ _ _ _ _ _ _ _ _ (ap (map said_of) c.new-notes.ensures.items) redefined_notes undefined_notes
+    (one_by_one _ _ _ _ _ all _ _ _ _ _ (ap (map said_of) c.new-notes.ensures.items) redefined_notes undefined_notes
     unused_notes recursive_notes looping_notes)

@@ -55,7 +55,7 @@ number-returns t c = elim c.match-e.branch [
       (rw w.nodes-is at c.in_ok-n.ensures.number) _ _ _ (rw w.deref-in-Star.ensures at w.in_ok-number-in-Star.ensures)
       (λ m h. h) (λ d. of_star) (λ xs at s. spells_star at s))
   | number-in-Plus+in_ok-repeated-in-Plus+in_ok-star-in-Plus w ↦ rw (w.in-Plus.is, pattern-Plus)
-      (o.plus_numbers _ _ _ _ _ _ _ _ _ (rw w.deref-in-Plus.ensures at w.in_ok-repeated-in-Plus.ensures)
+      (o.plus_numbers _ (rw w.deref-in-Plus.ensures at w.in_ok-repeated-in-Plus.ensures)
       w.in_ok-star-in-Plus.ensures.nodes w.in_ok-star-in-Plus.ensures.number
       (rw (w.nodes-is, w.node-is) at c.in_ok-n.ensures.nodes) (rw w.nodes-is at c.in_ok-n.ensures.number))
   | number-in-Opt+in_ok-number-in-Opt w ↦ rw (w.in-Opt.is, pattern-Opt)
@@ -87,4 +87,4 @@ number_all-loop-member-init t c = o.no_members _ _ _ c.new-numbers.ensures.items
 
 pub number_all-loop-member-preserved : goal.number_all-loop-member-preserved
 number_all-loop-member-preserved t c = rw (c.in_ok-push.ensures.items)
-    (o.next_member _ _ _ _ _ _ _ _ _ c.loop-member-test.true c.member-item.is c.loop-member.invariant c.in_ok-n.ensures)
+    (o.next_member _ c.loop-member-test.true c.member-item.is c.loop-member.invariant c.in_ok-n.ensures)

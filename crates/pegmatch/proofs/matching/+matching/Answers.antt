@@ -22,7 +22,7 @@ match_all-loop-member-init t c = record {
   front = λ is m f. f;
   looked = omega arith;
   counted = omega arith;
-  taken = λ es s. none_taken _ _ _ _ _ _ es s;
+  taken = λ es s. none_taken es s;
 }
 
 pub match_all-match_node-requires : goal.match_all-match_node-requires
@@ -37,7 +37,7 @@ match_all-match_node-requires t c =
 
 pub match_all-returns-in-Failed-clause-value : goal.match_all-returns-in-Failed-clause-value
 match_all-returns-in-Failed-clause-value t c = λ es s.
-    one_failed _ _ _ _ _ _ _ _ _ _ _ _ _ _ _ es c.loop-member-test.true (c.loop-member.invariant.taken es s)
+    one_failed _ _ es c.loop-member-test.true (c.loop-member.invariant.taken es s)
     c.in_ok-tried.ensures.value c.in-Failed.is c.further-looked.ensures (search rules) c.truncate.ensures.items
 
 pub match_all-loop-member-preserved : goal.match_all-loop-member-preserved
@@ -56,13 +56,12 @@ match_all-loop-member-preserved t c = record {
       (on.2 (omega (arith, is, on.0, c.loop-member.invariant.low)));
   looked = omega (arith, c.in_ok-tried.ensures.looked, c.loop-member.invariant.looked, c.further-looked.ensures);
   counted = omega (arith, c.in_ok-tried.ensures.counted, c.loop-member.invariant.counted);
-  taken = λ es s. one_taken _ _ _ _ _ _ _ _ _ _ _ _ _ _ es c.loop-member-test.true (c.loop-member.invariant.taken es s)
+  taken = λ es s. one_taken _ es c.loop-member-test.true (c.loop-member.invariant.taken es s)
       c.in_ok-tried.ensures.value c.in-Took.is c.further-looked.ensures;
 }
 
 pub match_all-returns-clause-value : goal.match_all-returns-clause-value
-match_all-returns-clause-value t c = λ es s. all_taken _ _ _ _ _ _ _ _ _ _ es c.loop-member-test.false
-    (c.loop-member.invariant.taken es s)
+match_all-returns-clause-value t c = λ es s. all_taken es c.loop-member-test.false (c.loop-member.invariant.taken es s)
 
 pub match_first-match_node-requires : goal.match_first-match_node-requires
 match_first-match_node-requires t c =
@@ -75,20 +74,19 @@ match_first-match_node-requires t c =
 
 pub match_first-returns-in-Took-clause-value : goal.match_first-returns-in-Took-clause-value
 match_first-returns-in-Took-clause-value t c = λ es s.
-    one_found _ _ _ _ _ _ _ _ _ _ _ _ _ es c.loop-alternative-test.true (c.loop-alternative.invariant.failed es s)
+    one_found _ es c.loop-alternative-test.true (c.loop-alternative.invariant.failed es s)
     c.in_ok-tried.ensures.value c.in-Took.is c.further-looked.ensures
 
 pub match_first-loop-alternative-preserved : goal.match_first-loop-alternative-preserved
 match_first-loop-alternative-preserved t c = record {
   looked = omega (arith, c.in_ok-tried.ensures.looked, c.loop-alternative.invariant.looked, c.further-looked.ensures);
   counted = omega (arith, c.in_ok-tried.ensures.counted, c.loop-alternative.invariant.counted);
-  failed = λ es s. next_tried _ _ _ _ _ _ _ _ _ _ _ _ es c.loop-alternative-test.true
-      (c.loop-alternative.invariant.failed es s)
+  failed = λ es s. next_tried _ es c.loop-alternative-test.true (c.loop-alternative.invariant.failed es s)
       c.in_ok-tried.ensures.value c.in_default.is c.further-looked.ensures;
 }
 
 pub match_first-returns-clause-value : goal.match_first-returns-clause-value
-match_first-returns-clause-value t c = λ es s. all_tried _ _ _ _ _ _ _ _ _ es c.loop-alternative-test.false
+match_first-returns-clause-value t c = λ es s. all_tried es c.loop-alternative-test.false
     (c.loop-alternative.invariant.failed es s)
 
 pub match_node-match_star-requires : goal.match_node-match_star-requires
@@ -172,79 +170,79 @@ match_node-match_node-requires t c =
 pub match_node-returns-in-Any-clause-value : goal.match_node-returns-in-Any-clause-value
 match_node-returns-in-Any-clause-value t c =
     let here = shape_at c.args.peg.now.nodes c.args.n _ (c.node.ensures ∙ ap Some c.in-Any.is) in
-    quiet_match _ _ _ _ _ _ _ _ (λ e s. has_shape _ _ s shape.Any here) (c.match_any-tried.ensures.value _)
+    quiet_match _ _ (λ e s. has_shape _ _ s shape.Any here) (c.match_any-tried.ensures.value _)
 
 pub match_node-returns-in-Bytes-clause-value : goal.match_node-returns-in-Bytes-clause-value
 match_node-returns-in-Bytes-clause-value t c =
     let here = shape_at c.args.peg.now.nodes c.args.n _ (c.node.ensures ∙ ap Some c.in-Bytes.is) in
-    quiet_match _ _ _ _ _ _ _ _ (λ e s. has_shape _ _ s (shape.Bytes _) here)
+    quiet_match _ _ (λ e s. has_shape _ _ s (shape.Bytes _) here)
     (rw c.deref.ensures.value at c.match_bytes-tried.ensures.value _)
 
 pub match_node-returns-in-Set-clause-value : goal.match_node-returns-in-Set-clause-value
 match_node-returns-in-Set-clause-value t c =
     let here = shape_at c.args.peg.now.nodes c.args.n _ (c.node.ensures ∙ ap Some c.in-Set.is) in
-    quiet_match _ _ _ _ _ _ _ _ (λ e s. has_shape _ _ s (shape.Set _) here) (c.match_set-tried.ensures.value _)
+    quiet_match _ _ (λ e s. has_shape _ _ s (shape.Set _) here) (c.match_set-tried.ensures.value _)
 
 pub match_node-returns-in_ok-tried-in-Name-clause-value : goal.match_node-returns-in_ok-tried-in-Name-clause-value
 match_node-returns-in_ok-tried-in-Name-clause-value t c =
     let here = shape_at c.args.peg.now.nodes c.args.n _ (c.node.ensures ∙ ap Some c.in-Name.is) in
     let body = c.requires.sound.spelled.spelled _ _ c.body_node.ensures in
-    name_match _ _ _ _ _ _ _ _ _ _ _ here body.1 body.2 c.in_ok-tried-in-Name.ensures.value
+    name_match _ _ _ _ _ here body.1 body.2 c.in_ok-tried-in-Name.ensures.value
 
 pub match_node-returns-in_ok-tried-in-Seq-clause-value : goal.match_node-returns-in_ok-tried-in-Seq-clause-value
 match_node-returns-in_ok-tried-in-Seq-clause-value t c =
-    all_match _ _ _ _ _ _ _ _ _ (shape_at c.args.peg.now.nodes c.args.n _ (c.node.ensures ∙ ap Some c.in-Seq.is))
+    all_match _ _ _ _ _ (shape_at c.args.peg.now.nodes c.args.n _ (c.node.ensures ∙ ap Some c.in-Seq.is))
     (rw c.deref-in-Seq.ensures.value at c.in_ok-tried-in-Seq.ensures.value)
 
 pub match_node-returns-in_ok-tried-in-Choice-clause-value : goal.match_node-returns-in_ok-tried-in-Choice-clause-value
 match_node-returns-in_ok-tried-in-Choice-clause-value t c =
-    first_match _ _ _ _ _ _ _ _ _ (shape_at c.args.peg.now.nodes c.args.n _ (c.node.ensures ∙ ap Some c.in-Choice.is))
+    first_match _ _ _ _ _ (shape_at c.args.peg.now.nodes c.args.n _ (c.node.ensures ∙ ap Some c.in-Choice.is))
     (rw c.deref-in-Choice.ensures.value at c.in_ok-tried-in-Choice.ensures.value)
 
 pub match_node-returns-in_ok-tried-in-Star-clause-value : goal.match_node-returns-in_ok-tried-in-Star-clause-value
 match_node-returns-in_ok-tried-in-Star-clause-value t c =
     let here = shape_at c.args.peg.now.nodes c.args.n _ (c.node.ensures ∙ ap Some c.in-Star.is) in
-    over_match _ _ _ _ _ expr.Star _ _ _ _ (λ e s. has_shape _ _ s (shape.Star c.in-Star.operand) here)
+    over_match _ _ expr.Star _ _ _ (λ e s. has_shape _ _ s (shape.Star c.in-Star.operand) here)
     c.in_ok-tried-in-Star.ensures.value
 
 pub match_node-returns-in_ok-tried-in-Plus-clause-value : goal.match_node-returns-in_ok-tried-in-Plus-clause-value
 match_node-returns-in_ok-tried-in-Plus-clause-value t c =
     let here = shape_at c.args.peg.now.nodes c.args.n _ (c.node.ensures ∙ ap Some c.in-Plus.is) in
-    over_match _ _ _ _ _ expr.Plus _ _ _ _ (λ e s. let like =
+    over_match _ _ expr.Plus _ _ _ (λ e s. let like =
     has_shape _ _ s (shape.Plus c.in-Plus.operand c.in-Plus.star) here in
     (like.0, like.1, like.2)) c.in_ok-tried-in-Plus.ensures.value
 
 pub match_node-returns-in_ok-tried-in-Opt-clause-value : goal.match_node-returns-in_ok-tried-in-Opt-clause-value
 match_node-returns-in_ok-tried-in-Opt-clause-value t c =
     let here = shape_at c.args.peg.now.nodes c.args.n _ (c.node.ensures ∙ ap Some c.in-Opt.is) in
-    over_match _ _ _ _ _ expr.Opt _ _ _ _ (λ e s. has_shape _ _ s (shape.Opt c.in-Opt.operand) here)
+    over_match _ _ expr.Opt _ _ _ (λ e s. has_shape _ _ s (shape.Opt c.in-Opt.operand) here)
     c.in_ok-tried-in-Opt.ensures.value
 
 pub match_node-returns-in_ok-tried-in-And-clause-value : goal.match_node-returns-in_ok-tried-in-And-clause-value
 match_node-returns-in_ok-tried-in-And-clause-value t c =
     let here = shape_at c.args.peg.now.nodes c.args.n _ (c.node.ensures ∙ ap Some c.in-And.is) in
-    over_match _ _ _ _ _ expr.And _ _ _ _ (λ e s. has_shape _ _ s (shape.And c.in-And.operand) here)
+    over_match _ _ expr.And _ _ _ (λ e s. has_shape _ _ s (shape.And c.in-And.operand) here)
     c.in_ok-tried-in-And.ensures.value
 
 pub match_node-returns-in_ok-tried-in-Not-clause-value : goal.match_node-returns-in_ok-tried-in-Not-clause-value
 match_node-returns-in_ok-tried-in-Not-clause-value t c =
     let here = shape_at c.args.peg.now.nodes c.args.n _ (c.node.ensures ∙ ap Some c.in-Not.is) in
-    over_match _ _ _ _ _ expr.Not _ _ _ _ (λ e s. has_shape _ _ s (shape.Not c.in-Not.operand) here)
+    over_match _ _ expr.Not _ _ _ (λ e s. has_shape _ _ s (shape.Not c.in-Not.operand) here)
     c.in_ok-tried-in-Not.ensures.value
 
 pub match_node-returns-in_ok-tried-in-Act-clause-value : goal.match_node-returns-in_ok-tried-in-Act-clause-value
 match_node-returns-in_ok-tried-in-Act-clause-value t c =
-    act_match _ _ _ _ _ _ _ _ _ (shape_at c.args.peg.now.nodes c.args.n _ (c.node.ensures ∙ ap Some c.in-Act.is))
+    act_match _ _ (shape_at c.args.peg.now.nodes c.args.n _ (c.node.ensures ∙ ap Some c.in-Act.is))
     c.in_ok-tried-in-Act.ensures.found c.in_ok-tried-in-Act.ensures.kept
 
 pub match_node-returns-in_ok-tried-in-Open-clause-value : goal.match_node-returns-in_ok-tried-in-Open-clause-value
 match_node-returns-in_ok-tried-in-Open-clause-value t c =
-    open_match _ _ _ _ _ _ _ _ (shape_at c.args.peg.now.nodes c.args.n _ (c.node.ensures ∙ ap Some c.in-Open.is))
+    open_match _ _ (shape_at c.args.peg.now.nodes c.args.n _ (c.node.ensures ∙ ap Some c.in-Open.is))
     c.in_ok-tried-in-Open.ensures.found c.in_ok-tried-in-Open.ensures.kept
 
 pub match_node-returns-in_ok-tried-in-Close-clause-value : goal.match_node-returns-in_ok-tried-in-Close-clause-value
 match_node-returns-in_ok-tried-in-Close-clause-value t c =
-    close_match _ _ _ _ _ _ _ _ (shape_at c.args.peg.now.nodes c.args.n _ (c.node.ensures ∙ ap Some c.in-Close.is))
+    close_match _ _ (shape_at c.args.peg.now.nodes c.args.n _ (c.node.ensures ∙ ap Some c.in-Close.is))
     c.in_ok-tried-in-Close.ensures.found c.in_ok-tried-in-Close.ensures.kept
 
 pub match_star-loop-tried-init : goal.match_star-loop-tried-init
@@ -253,7 +251,7 @@ match_star-loop-tried-init t c = record {
   within = c.requires.place;
   looked = omega arith;
   counted = omega arith;
-  turned = λ e s. none_turned _ _ _ c.args.operand _ e _;
+  turned = λ e s. none_turned e;
 }
 
 pub match_star-loop-tried-smaller : goal.match_star-loop-tried-smaller
@@ -270,13 +268,13 @@ match_star-loop-tried-preserved t c = record {
   within = rw c.in-Took.is at c.in_ok-tried.ensures.within;
   looked = omega (arith, c.in_ok-tried.ensures.looked, c.loop-tried.invariant.looked, c.further-looked.ensures);
   counted = omega (arith, c.in_ok-tried.ensures.counted, c.loop-tried.invariant.counted);
-  turned = λ e s. one_turned _ _ _ _ _ _ _ _ _ _ _ _ _ e s (c.loop-tried.invariant.turned e s)
+  turned = λ e s. one_turned _ e s (c.loop-tried.invariant.turned e s)
       c.in_ok-tried.ensures.value c.in-Took.is c.further-looked.ensures;
 }
 
 pub match_star-returns-clause-value : goal.match_star-returns-clause-value
 match_star-returns-clause-value t c = λ e s.
-    all_turned _ _ _ _ _ _ _ _ _ _ _ _ e s (c.loop-tried.invariant.turned e s) c.in_ok-tried.ensures.value
+    all_turned _ e s (c.loop-tried.invariant.turned e s) c.in_ok-tried.ensures.value
     c.in-Failed.is c.further-looked.ensures
 
 pub match_plus-match_star-requires : goal.match_plus-match_star-requires
@@ -288,32 +286,31 @@ match_plus-match_star-requires t c =
     (omega (arith, less, c.decreases), (c.requires.sound, (c.requires.spells, (c.requires.moves, on.1))))
 
 pub match_plus-returns-in-Failed-clause-value : goal.match_plus-returns-in-Failed-clause-value
-match_plus-returns-in-Failed-clause-value t c = plus_failed _ _ _ _ _ _ _ _ c.in_ok-first.ensures.value c.in-Failed.is
+match_plus-returns-in-Failed-clause-value t c = plus_failed _ _ _ _ _ c.in_ok-first.ensures.value c.in-Failed.is
 
 pub match_plus-returns-in_ok-rest-in-Took-clause-value : goal.match_plus-returns-in_ok-rest-in-Took-clause-value
 match_plus-returns-in_ok-rest-in-Took-clause-value t c = λ e s.
-    plus_took _ _ _ _ _ _ _ _ _ _ _ _ c.in_ok-first.ensures.value c.in-Took.is c.in_ok-rest-in-Took.ensures.value
+    plus_took _ _ _ _ _ _ _ c.in_ok-first.ensures.value c.in-Took.is c.in_ok-rest-in-Took.ensures.value
     c.further.ensures e s
 
 pub match_opt-returns-in-Took-clause-value : goal.match_opt-returns-in-Took-clause-value
-match_opt-returns-in-Took-clause-value t c = opt_took _ _ _ _ _ _ _ _ _ c.in_ok-tried.ensures.value c.in-Took.is
+match_opt-returns-in-Took-clause-value t c = opt_took _ _ _ _ _ c.in_ok-tried.ensures.value c.in-Took.is
 
 pub match_and-returns-in-Took-clause-value : goal.match_and-returns-in-Took-clause-value
-match_and-returns-in-Took-clause-value t c = λ e s. and_took _ _ _ _ _ _ _ _ _ c.in_ok-tried.ensures.value c.in-Took.is
+match_and-returns-in-Took-clause-value t c = λ e s. and_took c.in_ok-tried.ensures.value c.in-Took.is
     c.in_ok-tried.ensures.dropped e s
 
 pub match_opt-returns-in-Failed-clause-value : goal.match_opt-returns-in-Failed-clause-value
-match_opt-returns-in-Failed-clause-value t c = λ e s. opt_failed _ _ _ _ _ _ _ _ c.in_ok-tried.ensures.value
-    c.in-Failed.is e s
+match_opt-returns-in-Failed-clause-value t c = λ e s. opt_failed _ c.in_ok-tried.ensures.value c.in-Failed.is e s
 
 pub match_and-returns-in-Failed-clause-value : goal.match_and-returns-in-Failed-clause-value
-match_and-returns-in-Failed-clause-value t c = λ e s. and_failed _ _ _ _ _ _ _ _ c.in_ok-tried.ensures.value
+match_and-returns-in-Failed-clause-value t c = λ e s. and_failed c.in_ok-tried.ensures.value
     c.in-Failed.is c.in_ok-tried.ensures.dropped e s
 
 pub match_not-returns-in-Took-clause-value : goal.match_not-returns-in-Took-clause-value
-match_not-returns-in-Took-clause-value t c = λ e s. not_took _ _ _ _ _ _ _ _ _ c.in_ok-tried.ensures.value c.in-Took.is
+match_not-returns-in-Took-clause-value t c = λ e s. not_took c.in_ok-tried.ensures.value c.in-Took.is
     c.in_ok-tried.ensures.dropped e s
 
 pub match_not-returns-in-Failed-clause-value : goal.match_not-returns-in-Failed-clause-value
-match_not-returns-in-Failed-clause-value t c = λ e s. not_failed _ _ _ _ _ _ _ _ c.in_ok-tried.ensures.value
+match_not-returns-in-Failed-clause-value t c = λ e s. not_failed c.in_ok-tried.ensures.value
     c.in-Failed.is c.in_ok-tried.ensures.dropped e s
