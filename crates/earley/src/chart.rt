@@ -27,7 +27,7 @@ use crate::items::Items;
 use crate::later::{Homed, Later};
 use crate::letter_law::values_are_letters;
 use crate::read_front::read;
-use crate::sets::Sets;
+use crate::sets::{Lists, Sets};
 use crate::wait::wait_all;
 use flatgrammar::{Flat, Item, Spot, Tables, items_tell, spots, whole_root};
 use letters::Letter;
@@ -95,7 +95,7 @@ impl Chart {
         ensures { result ≡ length (set_at self.now j) }
     {
         match self.sets.get(j) {
-            Some(front) => front.size,
+            Some(front) => front.size(),
             None => 0,
         }
     }
@@ -194,14 +194,14 @@ fn close(
         &mut later.firsts,
         &mut later.waits,
     )?;
-    let front = Front {
+    let lists = Lists {
         heads: heads.list(),
         items: items.list(),
         firsts: &later.firsts,
         waits: &later.waits,
         size: size_of(flat, heads.list(), items.list())?,
     };
-    sets.push(&front)?;
+    sets.push(&lists)?;
     Ok(())
 }
 
@@ -269,10 +269,10 @@ fn in_heads(flat: &Tables, heads: &[usize], number: usize, item: Item) -> bool
 fn stands(flat: &Tables, front: &Front<'_>, number: usize, item: Item) -> bool
     ensures { IsTrue result ↔ In item (view flat.now number front.now) }
 {
-    if in_heads(flat, front.heads, number, item) {
+    if in_heads(flat, front.heads(), number, item) {
         return true;
     }
-    holds(front.items, item)
+    holds(front.items(), item)
 }
 
 // Tells whether the last set holds the whole's end with origin 0.

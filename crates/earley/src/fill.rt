@@ -114,8 +114,8 @@ fn resume_all(
     let Some(front) = sets.get(origin) else {
         return Ok(());
     };
-    resume_heads(flat, root, front.heads, origin, set)?;
-    resume(flat, root, front.items, set)?;
+    resume_heads(flat, root, front.heads(), origin, set)?;
+    resume(flat, root, front.items(), set)?;
     Ok(())
 }
 
@@ -161,8 +161,8 @@ fn go_back(
     ensures { IfOk result (λ done. Adds (IsResumed flat.now at.item.node (view flat.now at.item.origin front.now))
         set.old set.new) }
 {
-    match home_of(front.heads, at.home, at.item.node) {
-        Some(index) => go_along(front.waits, first_at(front.firsts, index), set)?,
+    match home_of(front.heads(), at.home, at.item.node) {
+        Some(index) => go_along(front.waits(), first_at(front.firsts(), index), set)?,
         None => resume_all(flat, at.item.node, sets, at.item.origin, set)?,
     }
     Ok(())
@@ -189,7 +189,7 @@ fn go_on(
     let Some(inner) = sole_caller(flat, at.item.node) else {
         return go_back(flat, sets, front, at, set);
     };
-    if let Some(index) = home_of(front.heads, at.home, inner.head) {
+    if let Some(index) = home_of(front.heads(), at.home, inner.head) {
         set.add(
             Item {
                 node: inner.node,

@@ -111,7 +111,7 @@ pub(crate) fn read<L: Letter>(
         set.new) }
 {
     let value = letter.value();
-    read_heads(flat, value, from.heads, origin, set)?;
+    read_heads(flat, value, from.heads(), origin, set)?;
     read_items(flat, value, readers, set)?;
     Ok(())
 }

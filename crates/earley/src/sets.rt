@@ -67,19 +67,43 @@ fn append<T: Copy>(list: &mut Vec<T>, more: &[T]) -> Result<Part, Memory>
     })
 }
 
+/// Holds the lists of a set that is filled, and the number of its items, those of the blocks counted.
+#[derive(Drop)]
+pub(crate) struct Lists<'a> {
+    pub(crate) heads: &'a [usize],
+    pub(crate) items: &'a [Item],
+    pub(crate) firsts: &'a [usize],
+    pub(crate) waits: &'a [Wait],
+    pub(crate) size: usize,
+}
+
+impl<'a> Model for Lists<'a> {
+    ghost use Rattle.earley.specs.Fronts.{Front};
+
+    ghost Value = { Front };
+
+    ghost view = { λ l. record {
+      heads = l.heads.now;
+      items = l.items.now;
+      firsts = l.firsts.now;
+      waits = l.waits.now;
+      size = l.size;
+    } };
+}
+
 // Puts the lists of a set behind those of the others, and returns where they stand.
 #[inline(always)]
-fn store(stores: &mut Stores, front: &Front<'_>) -> Result<Bounds, Memory>
+fn store(stores: &mut Stores, lists: &Lists<'_>) -> Result<Bounds, Memory>
     ensures more { GoOn stores.old stores.new }
-    ensures front { IfOk result (λ bounds. front_in stores.new bounds ≡ front.now) }
+    ensures front { IfOk result (λ bounds. front_in stores.new bounds ≡ lists.now) }
     ensures bounds { IfOk result (λ bounds. AreBounds stores.new bounds) }
 {
     Ok(Bounds {
-        heads: append(&mut stores.heads, front.heads)?,
-        items: append(&mut stores.items, front.items)?,
-        firsts: append(&mut stores.firsts, front.firsts)?,
-        waits: append(&mut stores.waits, front.waits)?,
-        size: front.size,
+        heads: append(&mut stores.heads, lists.heads)?,
+        items: append(&mut stores.items, lists.items)?,
+        firsts: append(&mut stores.firsts, lists.firsts)?,
+        waits: append(&mut stores.waits, lists.waits)?,
+        size: lists.size,
     })
 }
 
@@ -112,24 +136,20 @@ impl Sets {
     pub(crate) fn get(&self, j: usize) -> Option<Front<'_>>
         ensures { result ≡ slice_get self.now j }
     {
-        let b = match self.bounds.get(j) {
-            Some(b) => *b,
-            None => return None,
-        };
-        Some(Front {
-            heads: &self.stores.heads[b.heads.from..b.heads.to],
-            items: &self.stores.items[b.items.from..b.items.to],
-            firsts: &self.stores.firsts[b.firsts.from..b.firsts.to],
-            waits: &self.stores.waits[b.waits.from..b.waits.to],
-            size: b.size,
-        })
+        match self.bounds.get(j) {
+            Some(bounds) => Some(Front {
+                stores: &self.stores,
+                bounds,
+            }),
+            None => None,
+        }
     }
 
     /// Adds a set. `Memory` if an allocation fails.
-    pub(crate) fn push(&mut self, front: &Front<'_>) -> Result<(), Memory>
-        ensures { OnOk result (self.new ≡ self.old ++ front.now ∷ []) }
+    pub(crate) fn push(&mut self, lists: &Lists<'_>) -> Result<(), Memory>
+        ensures { OnOk result (self.new ≡ self.old ++ lists.now ∷ []) }
     {
-        let bounds = store(&mut self.stores, front)?;
+        let bounds = store(&mut self.stores, lists)?;
         self.bounds.push(bounds)?;
         Ok(())
     }

@@ -1,5 +1,5 @@
 //! Numbered nodes.
-ghost use Rattle.std.specs.Prelude.{◌≡◌, ◌≢◌, ◌↔◌, ◌+◌, ◌^◌, ◌<◌, None, IsTrue};
+ghost use Rattle.std.specs.Prelude.{◌≡◌, ◌≢◌, ◌↔◌, ◌+◌, ◌^◌, ◌<◌, ℕ, None, IsTrue};
 ghost use Rattle.abnfcheck.specs.Derivable.{small};
 ghost use Rattle.flatgrammar.specs.Flat.{Has, Rep, Turns};
 ghost use Rattle.flatgrammar.specs.FlatViews.{set_of, node_of};
@@ -78,35 +78,6 @@ pub(crate) fn begins(node: &Node) -> usize
     }
 }
 
-/// Tells whether a node is done at a step.
-#[inline(always)]
-pub(crate) fn is_done(node: &Node, step: usize) -> bool
-    ensures { result ≡ is_done (node_of node.now) step }
-{
-    match node {
-        Node::Letters(sets) => step == sets.len(),
-        Node::Concat(members) => step == members.len(),
-        Node::Alt(members) => members.len() <= step && step - members.len() < members.len(),
-        Node::Rep {
-            least,
-            most: None,
-            ..
-        } => step == *least as usize,
-        Node::Rep {
-            least,
-            most: Some(most),
-            ..
-        } => *least as usize <= step && step <= *most as usize,
-        Node::Turns { most: None, .. } => step == 0,
-        Node::Turns {
-            most: Some(most),
-            ..
-        } => step <= *most as usize,
-        Node::Opt(_) => step == 1 || step == 2,
-        Node::Name(_) | Node::Nothing => false,
-    }
-}
-
 // The operand and the step after a turn, if there is a turn at that step. Without a greatest number the turns behind
 // the least are not counted.
 #[inline(always)]
@@ -127,35 +98,81 @@ fn turn(least: u32, most: Option<u32>, operand: usize, step: usize) -> Option<(u
     }
 }
 
+// Tells whether a repetition is done at a step.
+#[inline(always)]
+fn is_enough(least: u32, most: Option<u32>, step: usize) -> bool
+    ensures rep { (operand : ℕ) → result ≡ is_done (Rep least most operand) step }
+    ensures turns { (operand : ℕ) → least ≡ 0 → result ≡ is_done (Turns most operand) step }
+{
+    match most {
+        None => step == least as usize,
+        Some(most) => least as usize <= step && step <= most as usize,
+    }
+}
+
+/// What a node does at a step: the node that it calls with the step after it, and whether the node is done there.
+#[derive(Clone, Copy)]
+pub(crate) struct NodeDeed {
+    pub(crate) called: Option<(usize, usize)>,
+    pub(crate) done: bool,
+}
+
+/// Returns what a node does at a step.
+#[inline(always)]
+pub(crate) fn node_deed(node: &Node, step: usize) -> NodeDeed
+    ensures called { result.called ≡ callee (node_of node.now) step }
+    ensures done { result.done ≡ is_done (node_of node.now) step }
+{
+    match node {
+        Node::Letters(sets) => NodeDeed {
+            called: None,
+            done: step == sets.len(),
+        },
+        Node::Concat(members) => NodeDeed {
+            called: if step < members.len() {
+                Some((members[step], step + 1))
+            } else {
+                None
+            },
+            done: step == members.len(),
+        },
+        Node::Alt(members) => NodeDeed {
+            called: if step < members.len() {
+                Some((members[step], members.len() + step))
+            } else {
+                None
+            },
+            done: members.len() <= step && step - members.len() < members.len(),
+        },
+        Node::Rep {
+            least,
+            most,
+            operand,
+        } => NodeDeed {
+            called: turn(*least, *most, *operand, step),
+            done: is_enough(*least, *most, step),
+        },
+        Node::Turns { most, operand } => NodeDeed {
+            called: turn(0, *most, *operand, step),
+            done: is_enough(0, *most, step),
+        },
+        Node::Opt(operand) => NodeDeed {
+            called: if step == 0 { Some((*operand, 2)) } else { None },
+            done: step == 1 || step == 2,
+        },
+        Node::Name(_) | Node::Nothing => NodeDeed {
+            called: None,
+            done: false,
+        },
+    }
+}
+
 /// Returns the node that a step calls, and the step after it.
 #[inline(always)]
 pub(crate) fn callee(node: &Node, step: usize) -> Option<(usize, usize)>
     ensures { result ≡ callee (node_of node.now) step }
 {
-    match node {
-        Node::Concat(members) => {
-            if step < members.len() {
-                Some((members[step], step + 1))
-            } else {
-                None
-            }
-        }
-        Node::Alt(members) => {
-            if step < members.len() {
-                Some((members[step], members.len() + step))
-            } else {
-                None
-            }
-        }
-        Node::Rep {
-            least,
-            most,
-            operand,
-        } => turn(*least, *most, *operand, step),
-        Node::Turns { most, operand } => turn(0, *most, *operand, step),
-        Node::Opt(operand) => { if step == 0 { Some((*operand, 2)) } else { None } }
-        Node::Letters(_) | Node::Name(_) | Node::Nothing => None,
-    }
+    node_deed(node, step).called
 }
 
 /// Returns how many of a node's first steps may call something, its turns left out.

@@ -7,7 +7,7 @@ ghost use Rattle.flatgrammar.specs.Blocks.{block_of, inner_of, lists_of, readers
 use crate::block::{Block, Spot};
 use crate::flat_item::Item;
 use crate::flat_node;
-use crate::flat_node::{Node, callee, is_done, may_read, takes};
+use crate::flat_node::{Node, callee, may_read, node_deed, takes};
 use crate::inner::{Inner, inner_at};
 use crate::spot_list::SpotList;
 
@@ -83,12 +83,15 @@ pub fn deed_of(flat: &Tables, item: Item) -> Deed
             takes: false,
             reads: false,
         },
-        Some(node) => Deed {
-            called: rooted(flat, callee(node, item.step)),
-            done: is_done(node, item.step),
-            takes: takes(node),
-            reads: may_read(node, item.step),
-        },
+        Some(node) => {
+            let deed = node_deed(node, item.step);
+            Deed {
+                called: rooted(flat, deed.called),
+                done: deed.done,
+                takes: takes(node),
+                reads: may_read(node, item.step),
+            }
+        }
     }
 }
 

@@ -1,4 +1,4 @@
-use Rattle.std.proofs.Common.{ap, ◌⊎◌, inl, inr, refl, subst, sym, IsTrue}
+use Rattle.std.proofs.Common.{◌⊎◌, inl, inr, refl, subst, sym, IsTrue}
 use Rattle.flatgrammar.specs.Places.{In}
 use Rattle.flatgrammar.specs.Blocks.{block_of}
 use Rattle.earley.specs.FrontViews.{expand}
@@ -9,7 +9,7 @@ use Rattle.earley.proofs.chart.stands.Goals as goal
 pub returns-then-in_heads : goal.returns-then-in_heads
 returns-then-in_heads c = (
   (λ u. in_left c.args.front.now.items (subst
-      (λ v. In c.args.item (expand (block_of c.args.flat.now) c.args.number v)) (ap (λ f. f.heads) c.front.view_is)
+      (λ v. In c.args.item (expand (block_of c.args.flat.now) c.args.number v)) c.heads.ensures
       (c.in_heads.ensures.0 c.if-in_heads.true))),
   (λ h. refl),
 )
@@ -17,7 +17,7 @@ returns-then-in_heads c = (
 pub returns : goal.returns
 returns c = (
   (λ u. in_right (expand (block_of c.args.flat.now) c.args.number c.args.front.now.heads)
-      (subst (λ v. In c.args.item v) (ap (λ f. f.items) c.front.view_is) (c.holds.ensures.0 u))),
+      (subst (λ v. In c.args.item v) c.items.ensures (c.holds.ensures.0 u))),
   (λ h. by (in_either (expand (block_of c.args.flat.now) c.args.number c.args.front.now.heads) h)),
 )
   where
@@ -25,6 +25,6 @@ returns c = (
         ⊎ In c.args.item c.args.front.now.items → IsTrue c.holds.result
     by (inl g) =
         let t = c.in_heads.ensures.1 (subst (λ v. In c.args.item (expand (block_of c.args.flat.now) c.args.number v))
-        (sym (ap (λ f. f.heads) c.front.view_is)) g) in
+        (sym c.heads.ensures) g) in
         let f = c.if-in_heads.false in absurd cc
-    by (inr g) = c.holds.ensures.1 (subst (λ v. In c.args.item v) (sym (ap (λ f. f.items) c.front.view_is)) g)
+    by (inr g) = c.holds.ensures.1 (subst (λ v. In c.args.item v) (sym c.items.ensures) g)

@@ -1,4 +1,4 @@
-use Rattle.std.proofs.Common.{ap, subst, ◌∙◌}
+use Rattle.std.proofs.Common.{subst, ◌∙◌}
 use Rattle.earley.specs.ItemSets.{Adds, IsResumed}
 use Rattle.flatgrammar.specs.Blocks.{block_of}
 use Rattle.flatgrammar.proofs.CallOfLemmas.{some_same}
@@ -15,6 +15,6 @@ returns c = λ f is.
     (expand (block_of c.args.flat.now) c.args.origin here.heads) here.items
     c.args.set.now c.resume_heads.new.set c.resume.new.set
     (subst (λ v. Adds (IsResumed c.args.flat.now c.args.root (expand (block_of c.args.flat.now) c.args.origin v))
-    c.args.set.now c.resume_heads.new.set) (ap (λ f. f.heads) c.front.view_is) c.in_ok-resume_heads.ensures)
+    c.args.set.now c.resume_heads.new.set) c.heads.ensures c.in_ok-resume_heads.ensures)
     (subst (λ v. Adds (IsResumed c.args.flat.now c.args.root v) c.resume_heads.new.set c.resume.new.set)
-    (ap (λ f. f.items) c.front.view_is) c.in_ok-resume.ensures))
+    c.items.ensures c.in_ok-resume.ensures))

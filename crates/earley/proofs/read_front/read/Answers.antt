@@ -1,4 +1,4 @@
-use Rattle.std.proofs.Common.{ap, subst}
+use Rattle.std.proofs.Common.{subst}
 use Rattle.earley.specs.Chosen.{items_of}
 use Rattle.earley.specs.ItemSets.{Adds}
 use Rattle.earley.specs.ReadItems.{IsRead}
@@ -15,7 +15,7 @@ returns g c =
     (expand (block_of c.args.flat.now) c.args.origin c.args.from.now.heads) c.args.from.now.items
     c.args.set.now c.read_heads.new.set c.read_items.new.set
     (subst (λ v. Adds (IsRead c.args.flat.now c.value-value.result (expand (block_of c.args.flat.now) c.args.origin v))
-    c.args.set.now c.read_heads.new.set) (ap (λ f. f.heads) c.from.view_is) c.in_ok-read_heads.ensures)
+    c.args.set.now c.read_heads.new.set) c.heads.ensures c.in_ok-read_heads.ensures)
     (reads_fewer c.args.flat.now c.value-value.result c.read_heads.new.set c.read_items.new.set
     (items_of c.args.readers.now) c.args.from.now.items c.requires.readers.stand
     (λ a i r. c.requires.readers.chosen a i (c.value-value.result, r))

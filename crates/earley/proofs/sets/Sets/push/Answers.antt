@@ -20,5 +20,5 @@ invariant_of-self-2 c = subst (λ v. AreAllBounds c.store.new.stores v) (sym c.i
 pub returns : goal.returns
 returns c = ap (λ v. fronts_in c.store.new.stores v) c.in_ok-push.ensures.items
     ∙ (fronts_push c.self.inside.stores c.store.new.stores c.self.inside.bounds.items c.in_ok-bounds.bounds
-    c.args.front.now c.store.ensures.more c.self.invariant c.in_ok-bounds.ensures.front
-    ∙ ap (λ v. v ++ c.args.front.now ∷ []) c.self.view_is)
+    c.args.lists.now c.store.ensures.more c.self.invariant c.in_ok-bounds.ensures.front
+    ∙ ap (λ v. v ++ c.args.lists.now ∷ []) c.self.view_is)
