@@ -1,9 +1,10 @@
 -- Sets one behind the other in the same lists.
 -- Serves: judge, Chart::items.
-use Rattle.std.proofs.Common.{◌≡◌, suc, ◌-◌, ◌≤◌, List, [], ◌∷◌, ◌++◌, Some, length, take, drop}
+use Rattle.std.proofs.Common.{◌≡◌, ℕ, suc, ◌+◌, ◌-◌, ◌≤◌, List, [], ◌∷◌, ◌++◌, Some, length, take, drop}
 use Rattle.std.proofs.Common.{◌⊎◌, inl, inr, slice_get, refl, sym, ◌∙◌, ap, subst, arith, length-append}
+use Rattle.std.proofs.Common.{append_assoc}
 use Rattle.std.specs.Prelude.{slice_range}
-use Rattle.std.proofs.Math.Seq.{drop-append_seam}
+use Rattle.std.proofs.Math.Seq.{drop-append_seam, length-take-le}
 use Rattle.std.proofs.lemmas.List.{drop-append-le, take-append-le, length-drop, take_all, map-append, append-nil}
 use Rattle.flatgrammar.proofs.FlatCutLemmas.{push_cases}
 use Rattle.earley.specs.declared.sets.Part.{Part}
@@ -11,6 +12,8 @@ use Rattle.earley.specs.declared.sets.Bounds.{Bounds}
 use Rattle.earley.specs.declared.sets.Stores.{Stores}
 use Rattle.earley.specs.Fronts.{Front, part_of, front_in, fronts_in, IsPart, AreBounds, AreAllBounds, GoesOn, GoOn}
 use Rattle.earley.specs.Fronts.{IsAppended}
+use borrow.Rule.Slice.PartMut.{put_mid, post_of}
+use Rattle.std.proofs.lemmas.Slice.{take-put_mid}
 
 -- a part of a list that goes on
 part_same : {A : Type 0} (old new : List A) (part : Part) → GoesOn old new → IsPart part (length old)
@@ -31,6 +34,50 @@ part_within old new part go is =
     let inside = is.inside in
     let size = ap (λ v. length v) go.1 ∙ length-append old go.0 in
     record { ordered = is.ordered; inside = omega (arith, inside, size) }
+
+-- the first entries of a list that goes on
+front_part_same : {A : Type 0} (old new : List A) (count : ℕ) → GoesOn old new → count ≤ length old
+    → take count new ≡ take count old
+front_part_same old new count go le = ap (λ v. take count v) go.1 ∙ take-append-le count old go.0 le
+
+pub go_longer : {A : Type 0} (old new : List A) → GoesOn old new → length old ≤ length new
+go_longer old new go = let size = ap (λ v. length v) go.1 ∙ length-append old go.0 in omega (arith, size)
+
+pub goes_farther : {A : Type 0} (old mid new : List A) → GoesOn old mid → GoesOn mid new → GoesOn old new
+goes_farther old mid new p q = (p.0 ++ q.0, q.1 ∙ (ap (λ v. v ++ q.0) p.1 ∙ append_assoc old p.0 q.0))
+
+-- what is written behind the first entries
+pub written_behind : {A : Type 0} (xs ys rest : List A) (from n : ℕ) → from ≤ length xs → length ys ≡ length xs - from
+    → n ≡ length xs →
+    take n (put_mid from (length xs - from) xs ys ++ rest) ≡ take from xs ++ ys
+written_behind xs ys rest from n le size is =
+    let count = length-append (take from xs) (ys ++ post_of from (length xs - from) xs) in
+    let back = length-append ys (post_of from (length xs - from) xs) in
+    let front : length (take from xs) ≡ from = length-take-le from xs le in
+    let fit : n ≤ length (put_mid from (length xs - from) xs ys) =
+    omega (arith, count, back, front, size, is, le) in
+    let all : n ≡ from + length ys = omega (arith, size, is, le) in
+    take-append-le n (put_mid from (length xs - from) xs ys) rest fit ∙ take-put_mid from (length xs - from) xs ys n all
+    le
+
+pub rest_long : {A : Type 0} (xs : List A) (from : ℕ) → length (take (length xs - from) (drop from xs))
+    ≡ length xs - from
+rest_long xs from =
+    let behind = length-drop from xs in
+    ap (λ v. length v) (take_all (length xs - from) (drop from xs) (omega (arith, behind))) ∙ behind
+
+-- what is written behind a list that goes on
+pub behind_new : {A : Type 0} (old xs ys rest : List A) (from n : ℕ) → GoesOn old xs → from ≡ length old →
+    length ys ≡ length (take (length xs - from) (drop from xs)) → n ≡ length xs →
+    take n (put_mid from (length xs - from) xs ys ++ rest) ≡ old ++ ys
+behind_new old xs ys rest from n go same size is =
+    let longer = go_longer old xs go in
+    let le : from ≤ length xs = omega (arith, longer, same) in
+    let count : length ys ≡ length xs - from = size ∙ rest_long xs from in
+    let front : take from xs ≡ old =
+    ap (λ v. take from v) go.1 ∙ (take-append-le from old go.0 (omega (arith, same)) ∙ take_all from old
+    (omega (arith, same))) in
+    written_behind xs ys rest from n le count is ∙ ap (λ v. v ++ ys) front
 
 -- what was put behind a list
 pub part_appended : {A : Type 0} (old new more : List A) (part : Part) → new ≡ old ++ more → part.from ≡ length old
@@ -55,7 +102,7 @@ front_same old new b go are =
     let one = part_same old.heads.items new.heads.items b.heads go.heads are.heads in
     let two = part_same old.items.items new.items.items b.items go.items are.items in
     let three = part_same old.firsts.items new.firsts.items b.firsts go.firsts are.firsts in
-    let four = part_same old.waits.items new.waits.items b.waits go.waits are.waits in
+    let four = front_part_same old.waits.items new.waits.items b.waits go.waits are.waits in
     rw (one, two, three, four) refl
 
 bounds_same : (old new : Stores) (b : Bounds) → GoOn old new → AreBounds old b → AreBounds new b
@@ -63,7 +110,8 @@ bounds_same old new b go are = record {
   heads = part_within old.heads.items new.heads.items b.heads go.heads are.heads;
   items = part_within old.items.items new.items.items b.items go.items are.items;
   firsts = part_within old.firsts.items new.firsts.items b.firsts go.firsts are.firsts;
-  waits = part_within old.waits.items new.waits.items b.waits go.waits are.waits;
+  waits = (let size = go_longer old.waits.items new.waits.items go.waits in
+      let within = are.waits in omega (arith, within, size));
 }
 
 pub fronts_same : (old new : Stores) (bounds : List Bounds) → GoOn old new → AreAllBounds old bounds

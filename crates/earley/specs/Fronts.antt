@@ -1,5 +1,5 @@
 -- Sets as they are kept, one behind the other: each is a part of four lists.
-use Rattle.std.specs.Prelude.{◌≡◌, ℕ, ◌≤◌, ◌++◌, List, length, map, slice_get, slice_range, Some}
+use Rattle.std.specs.Prelude.{◌≡◌, ℕ, ◌≤◌, ◌++◌, List, length, map, slice_get, slice_range, take, Some}
 use Rattle.flatgrammar.specs.declared.flat_item.Item.{Item}
 use Rattle.earley.specs.declared.wait.Wait.{Wait}
 use Rattle.earley.specs.declared.sets.Part.{Part}
@@ -24,7 +24,7 @@ front_in s b = record {
   heads = part_of s.heads.items b.heads;
   items = part_of s.items.items b.items;
   firsts = part_of s.firsts.items b.firsts;
-  waits = part_of s.waits.items b.waits;
+  waits = take b.waits s.waits.items;
   size = b.size;
 }
 
@@ -40,7 +40,7 @@ pub record AreBounds (s : Stores) (b : Bounds) : Type 0 where
   pub heads : IsPart b.heads (length s.heads.items)
   pub items : IsPart b.items (length s.items.items)
   pub firsts : IsPart b.firsts (length s.firsts.items)
-  pub waits : IsPart b.waits (length s.waits.items)
+  pub waits : b.waits ≤ length s.waits.items
 
 abbrev pub AreAllBounds : Stores → List Bounds → Type 0
 AreAllBounds s bounds = (j : ℕ) (b : Bounds) → slice_get bounds j ≡ Some b → AreBounds s b

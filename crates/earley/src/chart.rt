@@ -27,8 +27,7 @@ use crate::items::Items;
 use crate::later::{Homed, Later};
 use crate::letter_law::values_are_letters;
 use crate::read_front::read;
-use crate::sets::{Lists, Sets};
-use crate::wait::wait_all;
+use crate::sets::Sets;
 use flatgrammar::{Flat, Item, Spot, Tables, items_tell, spots, whole_root};
 use letters::Letter;
 use ruletable::Memory;
@@ -158,53 +157,6 @@ fn follow<L: Letter>(
     Ok(())
 }
 
-// Returns the number of items of a set, those of the blocks counted. It is `Memory` if that is no number of 64 bits.
-fn size_of(flat: &Tables, heads: &[usize], items: &[Item]) -> Result<usize, Memory>
-    ensures { IfOk result (λ size. (j : ℕ) → size ≡ length (full (block_of flat.now) j heads.now items.now)) }
-{
-    let mut size = items.len();
-    for head in heads {
-        match size.checked_add(spots(flat, *head).len()) {
-            Some(sum) => size = sum,
-            None => return Err(Memory),
-        }
-    }
-    Ok(size)
-}
-
-// Adds the set of these heads and items, with what waits for the heads.
-fn close(
-    flat: &Tables,
-    heads: &Heads,
-    items: &Items,
-    later: &mut Later,
-    sets: &mut Sets,
-) -> Result<(), Memory>
-    requires lists { AreSpotLists flat.now }
-    requires callers { AreChosen (Calls flat.now) items.now (items_of later.old.callers.items) }
-    ensures readers { later.new.readers ≡ later.old.readers }
-    ensures front { IfOk result (λ _. (f : front) × ((sets.new ≡ sets.old ++ f ∷ [])
-        × IsKept flat.now (length sets.old) heads.now items.now f)) }
-{
-    wait_all(
-        flat,
-        heads,
-        &later.callers,
-        sets.len(),
-        &mut later.firsts,
-        &mut later.waits,
-    )?;
-    let lists = Lists {
-        heads: heads.list(),
-        items: items.list(),
-        firsts: &later.firsts,
-        waits: &later.waits,
-        size: size_of(flat, heads.list(), items.list())?,
-    };
-    sets.push(&lists)?;
-    Ok(())
-}
-
 // Adds the item sets of a line, where there are none.
 fn fill_sets<L: Letter>(
     flat: &Tables,
@@ -231,7 +183,7 @@ fn fill_sets<L: Letter>(
         begin(flat, sets.len(), heads)?;
         follow(flat, line, sets, &later.readers, items)?;
         fill(flat, line, sets, heads, items, later)?;
-        close(flat, heads, items, later, sets)?;
+        sets.push(flat, heads, items.list(), &later.callers)?;
         heads.clear();
         items.clear();
     }

@@ -50,12 +50,12 @@ impl<'a> Front<'a> {
         &self.stores.firsts[self.bounds.firsts.from..self.bounds.firsts.to]
     }
 
-    /// Returns what waits for the heads.
+    /// Returns what waits for the heads, among what waits in earlier sets.
     #[inline(always)]
     pub(crate) fn waits(&self) -> &'a [Wait]
         ensures { result.now ≡ self.now.waits }
     {
-        &self.stores.waits[self.bounds.waits.from..self.bounds.waits.to]
+        &self.stores.waits[..self.bounds.waits]
     }
 
     /// Returns the number of its items, those of the blocks counted.

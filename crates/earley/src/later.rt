@@ -5,7 +5,6 @@ ghost use Rattle.flatgrammar.specs.declared.flat_item.Item as code_item;
 ghost use Rattle.flatgrammar.specs.declared.tables.Tables as code_flat;
 ghost use Rattle.earley.specs.Chosen.{items_of, Calls, ReadsSome, AreChosen};
 
-use crate::wait::Wait;
 use flatgrammar::Item;
 use ruletable::Memory;
 use std::alloc::Global;
@@ -17,14 +16,11 @@ pub(crate) struct Homed {
     pub(crate) home: usize,
 }
 
-/// Holds of the items of a set those that call, and those that may read a letter. `firsts` and `waits` list for each
-/// head what goes on where it is done.
+/// Holds of the items of a set those that call, and those that may read a letter.
 #[derive(Drop)]
 pub(crate) struct Later {
     pub(crate) callers: Vec<Homed>,
     pub(crate) readers: Vec<Homed>,
-    pub(crate) firsts: Vec<usize>,
-    pub(crate) waits: Vec<Wait>,
 }
 
 impl Later {
@@ -33,8 +29,6 @@ impl Later {
         Later {
             callers: Vec::new(alloc),
             readers: Vec::new(alloc),
-            firsts: Vec::new(alloc),
-            waits: Vec::new(alloc),
         }
     }
 }

@@ -1,10 +1,16 @@
 //! The sets of a line, one behind the other.
-ghost use Rattle.std.specs.Prelude.{◌≡◌, ◌++◌, ◌∷◌, List, [], length, slice_get, IfOk, OnOk};
-ghost use Rattle.earley.specs.Fronts.{front_in, AreBounds, GoesOn, GoOn, IsAppended};
+ghost use Rattle.std.specs.Prelude.{◌≡◌, ◌++◌, ◌∷◌, ℕ, List, [], length, slice_get, IfOk};
+ghost use Rattle.flatgrammar.specs.Blocks.{block_of, AreSpotLists};
+ghost use Rattle.earley.specs.Chosen.{items_of, Calls, AreChosen};
+ghost use Rattle.earley.specs.FrontViews.{full};
+ghost use Rattle.earley.specs.Fronts.{Front as front, front_in, AreBounds, GoesOn, GoOn, IsAppended};
+ghost use Rattle.earley.specs.Waiting.{IsKept};
 
 use crate::front::Front;
-use crate::wait::Wait;
-use flatgrammar::Item;
+use crate::heads::Heads;
+use crate::later::Homed;
+use crate::wait::{Wait, list_waits};
+use flatgrammar::{Item, Tables, spots};
 use ruletable::Memory;
 use std::alloc::Global;
 use std::marker::Model;
@@ -16,13 +22,14 @@ pub(crate) struct Part {
     pub(crate) to: usize,
 }
 
-/// Where the lists of a set stand, and the number of its items.
+/// Where the lists of a set stand, and the number of its items. What waits for its heads stands among the first `waits`
+/// of all that wait.
 #[derive(Clone, Copy)]
 pub(crate) struct Bounds {
     pub(crate) heads: Part,
     pub(crate) items: Part,
     pub(crate) firsts: Part,
-    pub(crate) waits: Part,
+    pub(crate) waits: usize,
     pub(crate) size: usize,
 }
 
@@ -67,43 +74,54 @@ fn append<T: Copy>(list: &mut Vec<T>, more: &[T]) -> Result<Part, Memory>
     })
 }
 
-/// Holds the lists of a set that is filled, and the number of its items, those of the blocks counted.
-#[derive(Drop)]
-pub(crate) struct Lists<'a> {
-    pub(crate) heads: &'a [usize],
-    pub(crate) items: &'a [Item],
-    pub(crate) firsts: &'a [usize],
-    pub(crate) waits: &'a [Wait],
-    pub(crate) size: usize,
-}
-
-impl<'a> Model for Lists<'a> {
-    ghost use Rattle.earley.specs.Fronts.{Front};
-
-    ghost Value = { Front };
-
-    ghost view = { λ l. record {
-      heads = l.heads.now;
-      items = l.items.now;
-      firsts = l.firsts.now;
-      waits = l.waits.now;
-      size = l.size;
-    } };
-}
-
-// Puts the lists of a set behind those of the others, and returns where they stand.
-#[inline(always)]
-fn store(stores: &mut Stores, lists: &Lists<'_>) -> Result<Bounds, Memory>
-    ensures more { GoOn stores.old stores.new }
-    ensures front { IfOk result (λ bounds. front_in stores.new bounds ≡ lists.now) }
-    ensures bounds { IfOk result (λ bounds. AreBounds stores.new bounds) }
+// Returns the number of items of a set, those of the blocks counted. It is `Memory` if that is no number of 64 bits.
+fn size_of(flat: &Tables, heads: &[usize], items: &[Item]) -> Result<usize, Memory>
+    ensures { IfOk result (λ size. (j : ℕ) → size ≡ length (full (block_of flat.now) j heads.now items.now)) }
 {
+    let mut size = items.len();
+    for head in heads {
+        match size.checked_add(spots(flat, *head).len()) {
+            Some(sum) => size = sum,
+            None => return Err(Memory),
+        }
+    }
+    Ok(size)
+}
+
+// Puts the lists of a set behind those of the others, and returns where they stand. Of the items those that call are
+// given.
+#[inline(always)]
+fn store(
+    flat: &Tables,
+    heads: &Heads,
+    items: &[Item],
+    callers: &[Homed],
+    origin: usize,
+    stores: &mut Stores,
+) -> Result<Bounds, Memory>
+    requires lists { AreSpotLists flat.now }
+    requires callers { AreChosen (Calls flat.now) items.now (items_of callers.now) }
+    ensures more { GoOn stores.old stores.new }
+    ensures bounds { IfOk result (λ bounds. AreBounds stores.new bounds) }
+    ensures kept { IfOk result (λ bounds. IsKept flat.now origin heads.now items.now (front_in stores.new bounds)) }
+{
+    let size = size_of(flat, heads.list(), items)?;
+    let heads_part = append(&mut stores.heads, heads.list())?;
+    let items_part = append(&mut stores.items, items)?;
+    let firsts = list_waits(
+        flat,
+        heads,
+        callers,
+        origin,
+        &mut stores.firsts,
+        &mut stores.waits,
+    )?;
     Ok(Bounds {
-        heads: append(&mut stores.heads, lists.heads)?,
-        items: append(&mut stores.items, lists.items)?,
-        firsts: append(&mut stores.firsts, lists.firsts)?,
-        waits: append(&mut stores.waits, lists.waits)?,
-        size: lists.size,
+        heads: heads_part,
+        items: items_part,
+        firsts,
+        waits: stores.waits.len(),
+        size,
     })
 }
 
@@ -145,11 +163,23 @@ impl Sets {
         }
     }
 
-    /// Adds a set. `Memory` if an allocation fails.
-    pub(crate) fn push(&mut self, lists: &Lists<'_>) -> Result<(), Memory>
-        ensures { OnOk result (self.new ≡ self.old ++ lists.now ∷ []) }
+    /// Adds the set of these heads and items, with what waits for the heads. Of the items those that call are given.
+    /// `Memory` if an allocation fails.
+    #[inline(always)]
+    pub(crate) fn push(
+        &mut self,
+        flat: &Tables,
+        heads: &Heads,
+        items: &[Item],
+        callers: &[Homed],
+    ) -> Result<(), Memory>
+        requires lists { AreSpotLists flat.now }
+        requires callers { AreChosen (Calls flat.now) items.now (items_of callers.now) }
+        ensures { IfOk result (λ _. (f : front) × ((self.new ≡ self.old ++ f ∷ [])
+            × IsKept flat.now (length self.old) heads.now items.now f)) }
     {
-        let bounds = store(&mut self.stores, lists)?;
+        let origin = self.len();
+        let bounds = store(flat, heads, items, callers, origin, &mut self.stores)?;
         self.bounds.push(bounds)?;
         Ok(())
     }

@@ -1,13 +1,15 @@
 //! What waits for the heads of a set.
-ghost use Rattle.std.specs.Prelude.{◌≡◌, ◌++◌, ◌∷◌, ℕ, List, [], length, map, slice_index_or, IfOk};
+ghost use Rattle.std.specs.Prelude.{◌≡◌, ◌+◌, ◌++◌, ◌∷◌, ℕ, List, [], length, map, drop, slice_index_or, IfOk};
 ghost use Rattle.flatgrammar.specs.Blocks.{block_of, item_at, AreSpotLists};
 ghost use Rattle.flatgrammar.specs.declared.flat_item.Item as code_item;
+ghost use Rattle.earley.specs.Fronts.{part_of, GoesOn, IsPart};
 ghost use Rattle.earley.specs.FrontViews.{expand, full};
 ghost use Rattle.earley.specs.Waiting.{AreWaiting};
 ghost use Rattle.earley.specs.Chosen.{items_of, Calls, AreChosen};
 
 use crate::heads::Heads;
 use crate::later::Homed;
+use crate::sets::Part;
 use flatgrammar::{Item, Spot, Tables, asking, call};
 use ruletable::Memory;
 
@@ -30,30 +32,21 @@ pub(crate) fn first_at(firsts: &[usize], index: usize) -> usize
     }
 }
 
-// Lists nothing for any of so many heads.
-fn empty_firsts(count: usize, firsts: &mut Vec<usize>) -> Result<(), Memory>
-    ensures none { IfOk result (λ done. (h : ℕ) → slice_index_or firsts.new.items h 0 ≡ 0) }
-    ensures long { IfOk result (λ done. length firsts.new.items ≡ count) }
-{
-    firsts.clear();
-    firsts.resize(count, 0)?;
-    Ok(())
-}
-
 // Lists what goes on behind an item for the head that it calls.
 fn wait_one(
     flat: &Tables,
     heads: &Heads,
     item: Item,
     home: usize,
-    firsts: &mut Vec<usize>,
+    firsts: &mut [usize],
     waits: &mut Vec<Wait>,
 ) -> Result<(), Memory>
-    requires { length firsts.old.items ≡ length heads.now }
-    ensures long { length firsts.new.items ≡ length firsts.old.items }
+    requires { length firsts.old ≡ length heads.now }
+    ensures long { length firsts.new ≡ length firsts.old }
+    ensures on { GoesOn waits.old.items waits.new.items }
     ensures more { IfOk result (λ done. (seen : List code_item.Item)
-        → AreWaiting flat.now seen heads.now firsts.old.items waits.old.items →
-        AreWaiting flat.now (seen ++ item ∷ []) heads.now firsts.new.items waits.new.items) }
+        → AreWaiting flat.now seen heads.now firsts.old waits.old.items →
+        AreWaiting flat.now (seen ++ item ∷ []) heads.now firsts.new waits.new.items) }
 {
     let Some((root, step)) = call(flat, item) else {
         return Ok(());
@@ -78,14 +71,15 @@ fn wait_spots(
     heads: &Heads,
     from: &[Spot],
     place: (usize, usize),
-    firsts: &mut Vec<usize>,
+    firsts: &mut [usize],
     waits: &mut Vec<Wait>,
 ) -> Result<(), Memory>
-    requires { length firsts.old.items ≡ length heads.now }
-    ensures long { length firsts.new.items ≡ length firsts.old.items }
+    requires { length firsts.old ≡ length heads.now }
+    ensures long { length firsts.new ≡ length firsts.old }
+    ensures on { GoesOn waits.old.items waits.new.items }
     ensures more { IfOk result (λ done. (seen : List code_item.Item)
-        → AreWaiting flat.now seen heads.now firsts.old.items waits.old.items →
-        AreWaiting flat.now (seen ++ map (item_at place.0) from.now) heads.now firsts.new.items waits.new.items) }
+        → AreWaiting flat.now seen heads.now firsts.old waits.old.items →
+        AreWaiting flat.now (seen ++ map (item_at place.0) from.now) heads.now firsts.new waits.new.items) }
 {
     for spot in from {
         let item = Item {
@@ -104,15 +98,16 @@ fn wait_heads(
     heads: &Heads,
     list: &[usize],
     origin: usize,
-    firsts: &mut Vec<usize>,
+    firsts: &mut [usize],
     waits: &mut Vec<Wait>,
 ) -> Result<(), Memory>
-    requires long { length firsts.old.items ≡ length heads.now }
+    requires long { length firsts.old ≡ length heads.now }
     requires lists { AreSpotLists flat.now }
-    ensures long { length firsts.new.items ≡ length firsts.old.items }
+    ensures long { length firsts.new ≡ length firsts.old }
+    ensures on { GoesOn waits.old.items waits.new.items }
     ensures more { IfOk result (λ done. (seen : List code_item.Item)
-        → AreWaiting flat.now seen heads.now firsts.old.items waits.old.items →
-        AreWaiting flat.now (seen ++ expand (block_of flat.now) origin list.now) heads.now firsts.new.items
+        → AreWaiting flat.now seen heads.now firsts.old waits.old.items →
+        AreWaiting flat.now (seen ++ expand (block_of flat.now) origin list.now) heads.now firsts.new
         waits.new.items) }
 {
     let mut home = 0usize;
@@ -135,13 +130,14 @@ fn wait_items(
     flat: &Tables,
     heads: &Heads,
     callers: &[Homed],
-    firsts: &mut Vec<usize>,
+    firsts: &mut [usize],
     waits: &mut Vec<Wait>,
 ) -> Result<(), Memory>
-    requires { length firsts.old.items ≡ length heads.now }
-    ensures { IfOk result (λ done. (seen : List code_item.Item) → AreWaiting flat.now seen heads.now firsts.old.items
+    requires { length firsts.old ≡ length heads.now }
+    ensures on { GoesOn waits.old.items waits.new.items }
+    ensures more { IfOk result (λ done. (seen : List code_item.Item) → AreWaiting flat.now seen heads.now firsts.old
         waits.old.items →
-        AreWaiting flat.now (seen ++ items_of callers.now) heads.now firsts.new.items waits.new.items) }
+        AreWaiting flat.now (seen ++ items_of callers.now) heads.now firsts.new waits.new.items) }
 {
     for at in callers {
         wait_one(flat, heads, at.item, at.home, firsts, waits)?;
@@ -149,24 +145,69 @@ fn wait_items(
     Ok(())
 }
 
-/// Lists for each head what goes on where it is done. Of the items those that call are given.
-pub(crate) fn wait_all(
+// Lists for each head what goes on where it is done. Of the items those that call are given.
+fn wait_all(
+    flat: &Tables,
+    heads: &Heads,
+    callers: &[Homed],
+    origin: usize,
+    firsts: &mut [usize],
+    waits: &mut Vec<Wait>,
+) -> Result<(), Memory>
+    requires lists { AreSpotLists flat.now }
+    requires long { length firsts.old ≡ length heads.now }
+    requires none { (h : ℕ) → slice_index_or firsts.old h 0 ≡ 0 }
+    ensures long { length firsts.new ≡ length firsts.old }
+    ensures on { GoesOn waits.old.items waits.new.items }
+    ensures more { IfOk result (λ done. (items : List code_item.Item)
+        → AreChosen (Calls flat.now) items (items_of callers.now)
+        → AreWaiting flat.now (full (block_of flat.now) origin heads.now items) heads.now firsts.new waits.new.items) }
+{
+    wait_heads(flat, heads, heads.list(), origin, firsts, waits)?;
+    wait_items(flat, heads, callers, firsts, waits)?;
+    Ok(())
+}
+
+// Lists nothing for any of so many heads more.
+#[inline(always)]
+fn add_firsts(count: usize, firsts: &mut Vec<usize>) -> Result<(), Memory>
+    ensures more { GoesOn firsts.old.items firsts.new.items }
+    ensures none { IfOk result (λ done. (h : ℕ) → slice_index_or (drop (length firsts.old.items) firsts.new.items) h 0
+        ≡ 0) }
+    ensures long { IfOk result (λ done. length firsts.new.items ≡ length firsts.old.items + count) }
+{
+    let Some(to) = firsts.len().checked_add(count) else {
+        return Err(Memory);
+    };
+    firsts.resize(to, 0)?;
+    Ok(())
+}
+
+/// Lists for each head of a set what goes on where it is done, behind what is listed for other sets. Returns where the
+/// first of each head stand. Of the items those that call are given.
+#[inline(always)]
+pub(crate) fn list_waits(
     flat: &Tables,
     heads: &Heads,
     callers: &[Homed],
     origin: usize,
     firsts: &mut Vec<usize>,
     waits: &mut Vec<Wait>,
-) -> Result<(), Memory>
+) -> Result<Part, Memory>
     requires { AreSpotLists flat.now }
-    ensures { IfOk result (λ done. (items : List code_item.Item)
+    ensures firsts { GoesOn firsts.old.items firsts.new.items }
+    ensures waits { GoesOn waits.old.items waits.new.items }
+    ensures part { IfOk result (λ part. IsPart part (length firsts.new.items)) }
+    ensures waiting { IfOk result (λ part. (items : List code_item.Item)
         → AreChosen (Calls flat.now) items (items_of callers.now)
-        → AreWaiting flat.now (full (block_of flat.now) origin heads.now items) heads.now firsts.new.items
-        waits.new.items) }
+        → AreWaiting flat.now (full (block_of flat.now) origin heads.now items) heads.now
+        (part_of firsts.new.items part) waits.new.items) }
 {
-    empty_firsts(heads.len(), firsts)?;
-    waits.clear();
-    wait_heads(flat, heads, heads.list(), origin, firsts, waits)?;
-    wait_items(flat, heads, callers, firsts, waits)?;
-    Ok(())
+    let from = firsts.len();
+    add_firsts(heads.len(), firsts)?;
+    wait_all(flat, heads, callers, origin, &mut firsts[from..], waits)?;
+    Ok(Part {
+        from,
+        to: firsts.len(),
+    })
 }

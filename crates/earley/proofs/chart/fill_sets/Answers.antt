@@ -1,8 +1,8 @@
-use Rattle.std.proofs.Common.{◌≡◌, ℕ, Some, slice_get, ◌+◌, ◌≤◌, ◌++◌, ◌∷◌, [], length, map, subst, sym, arith}
+use Rattle.std.proofs.Common.{◌≡◌, ◌∙◌, ℕ, Some, slice_get, ◌+◌, ◌≤◌, ◌++◌, ◌∷◌, [], length, map, subst, sym, arith}
 use Rattle.std.proofs.Common.{length-append}
 use Rattle.earley.specs.Fronts.{Front}
 use Rattle.earley.specs.Charts.{IsBuilt}
-use Rattle.earley.specs.Chosen.{items_of, ReadsSome, AreChosen, AreReaders}
+use Rattle.earley.specs.Chosen.{AreReaders}
 use Rattle.earley.specs.ItemSets.{Adds}
 use Rattle.earley.specs.Charts.{IsAfter}
 use Rattle.earley.specs.FrontViews.{view, views, IsWholeAt}
@@ -28,9 +28,9 @@ fill-requires-clause-begun g c =
 pub loop-sets-preserved : goal.loop-sets-preserved
 loop-sets-preserved g c =
     let here = c.loop-sets.invariant in
-    let front : Front = c.in_ok-close.ensures.front.0 in
-    let pushed = c.in_ok-close.ensures.front.1.0 in
-    let kept = c.in_ok-close.ensures.front.1.1 in
+    let front : Front = c.in_ok-push.ensures.0 in
+    let pushed = c.in_ok-push.ensures.1.0 in
+    let kept = c.in_ok-push.ensures.1.1 in
     let size = length-append c.loop-sets.sets (front ∷ []) in
     let test = c.loop-sets-test.true in
     let len = c.len.ensures in
@@ -44,7 +44,7 @@ loop-sets-preserved g c =
           c.in_ok-begin.ensures)
           (subst (λ v. Adds (IsAfter c.args.flat.now (map g.L.Letter.number c.args.line.now)
           (views c.args.flat.now 0 c.loop-sets.sets)) v c.follow.new.items) here.no_items c.in_ok-follow.ensures)
-          front c.fill.new.heads c.fill.new.items kept.same_heads kept.same_items
+          front c.fill.new.heads c.fill.new.items kept.same_heads (kept.same_items ∙ c.list.ensures)
           c.in_ok-fill.ensures.held c.in_ok-fill.ensures.different c.in_ok-fill.ensures.keeps
           c.in_ok-fill.ensures.closed);
       within = (let short : length (c.loop-sets.sets ++ front ∷ []) ≤ length c.args.line.now + 1 =
@@ -54,10 +54,9 @@ loop-sets-preserved g c =
       no_items = c.clear-in-loop-sets.ensures;
       waiting = subst (λ v. AreWaitingAll c.args.flat.now v) (sym pushed)
           (waiting_push c.args.flat.now c.loop-sets.sets front here.waiting kept.waiting);
-      readers = subst (λ v. AreReaders c.args.flat.now v c.close.new.later.readers.items) (sym pushed)
-          (readers_push c.args.flat.now c.loop-sets.sets front c.fill.new.items c.close.new.later.readers.items
-          kept.same_items (subst (λ v. AreChosen (ReadsSome c.args.flat.now) c.fill.new.items (items_of v.items))
-          (sym c.close.ensures.readers) c.in_ok-fill.ensures.readers));
+      readers = subst (λ v. AreReaders c.args.flat.now v c.fill.new.later.readers.items) (sym pushed)
+          (readers_push c.args.flat.now c.loop-sets.sets front c.fill.new.items c.fill.new.later.readers.items
+          (kept.same_items ∙ c.list.ensures) c.in_ok-fill.ensures.readers);
       sized = subst (λ v. (j : ℕ) (f : Front) → slice_get v j ≡ Some f → f.size ≡ length (view c.args.flat.now j f))
           (sym pushed) (sized_push c.args.flat.now c.loop-sets.sets front here.sized kept.size);
     }

@@ -3,17 +3,21 @@ use Rattle.flatgrammar.specs.Blocks.{block_of}
 use Rattle.earley.specs.Chosen.{items_of}
 use Rattle.earley.specs.FrontViews.{expand}
 use Rattle.earley.specs.Waiting.{AreWaiting}
+use Rattle.earley.proofs.SetsLemmas.{goes_farther}
 use Rattle.earley.proofs.WaitAllLemmas.{waiting_start, waiting_fewer}
 use Rattle.earley.proofs.wait.wait_all.Goals as goal
 
-pub returns : goal.returns
-returns c items are =
+pub returns-clause-on : goal.returns-clause-on
+returns-clause-on c = goes_farther _ _ _ c.wait_heads.ensures.on c.wait_items.ensures.on
+
+pub returns-clause-more : goal.returns-clause-more
+returns-clause-more c items are =
     let before = expand (block_of c.args.flat.now) c.args.origin c.args.heads.now in
     waiting_fewer c.args.flat.now c.args.heads.now before (items_of c.args.callers.now) items
-    c.wait_items.new.firsts.items c.wait_items.new.waits.items are.stand
+    c.wait_items.new.firsts c.wait_items.new.waits.items are.stand
     (λ a t l i call own. are.chosen a i (t, l, call))
-    (c.in_ok-wait_items.ensures before
+    (c.in_ok-wait_items.ensures.more before
     (subst (λ v. AreWaiting c.args.flat.now ([] ++ expand (block_of c.args.flat.now) c.args.origin v) c.args.heads.now
-    c.wait_heads.new.firsts.items c.wait_heads.new.waits.items) c.list.ensures
-    (c.in_ok-wait_heads.ensures.more [] (waiting_start c.args.flat.now c.args.heads.now c.empty_firsts.new.firsts.items
-    c.clear.new.self.items c.in_ok-empty_firsts.ensures.none))))
+    c.wait_heads.new.firsts c.wait_heads.new.waits.items) c.list.ensures
+    (c.in_ok-wait_heads.ensures.more [] (waiting_start c.args.flat.now c.args.heads.now c.args.firsts.now
+    c.args.waits.now.items c.requires.none))))

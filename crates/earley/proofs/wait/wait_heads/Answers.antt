@@ -3,11 +3,13 @@ use Rattle.flatgrammar.specs.Blocks.{block_of, item_at}
 use Rattle.earley.specs.FrontViews.{expand}
 use Rattle.earley.specs.Waiting.{AreWaiting}
 use Rattle.earley.proofs.ExpandLemmas.{take_one, take_past, expand_end}
+use Rattle.earley.proofs.SetsLemmas.{goes_farther}
 use Rattle.earley.proofs.WaitAllLemmas.{waiting_then, waiting_callers}
 use Rattle.earley.proofs.wait.wait_heads.Goals as goal
 
 pub loop-head-preserved : goal.loop-head-preserved
 loop-head-preserved c = record {
+  on = goes_farther _ _ _ c.loop-head.invariant.on c.wait_spots.ensures.on;
   long = c.wait_spots.ensures.long ∙ c.loop-head.invariant.long;
   more = waiting_then c.args.flat.now c.args.heads.now
       (expand (block_of c.args.flat.now) c.args.origin (take c.loop-head.head-index c.args.list.now)) _ _ _
@@ -18,7 +20,7 @@ loop-head-preserved c = record {
       (λ seen are. waiting_callers c.args.flat.now c.args.heads.now c.requires.lists
       (slice_index_or c.args.list.now c.loop-head.head-index 0) c.args.origin seen _ _
       (subst (λ v. AreWaiting c.args.flat.now (seen ++ map (item_at c.args.origin) v) c.args.heads.now
-      c.wait_spots.new.firsts.items c.wait_spots.new.waits.items) c.asking.ensures
+      c.wait_spots.new.firsts c.wait_spots.new.waits.items) c.asking.ensures
       (c.in_ok-wait_spots.ensures.more seen are)));
 }
 
@@ -26,5 +28,5 @@ pub returns-clause-more : goal.returns-clause-more
 returns-clause-more c seen h =
     let test = c.loop-head-test.false in
     subst (λ v. AreWaiting c.args.flat.now (seen ++ expand (block_of c.args.flat.now) c.args.origin v) c.args.heads.now
-    c.loop-head.firsts.items c.loop-head.waits.items)
+    c.loop-head.firsts c.loop-head.waits.items)
     (take_past c.args.list.now c.loop-head.head-index (omega (arith, test))) (c.loop-head.invariant.more seen h)

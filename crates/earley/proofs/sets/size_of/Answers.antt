@@ -1,7 +1,7 @@
 use Rattle.std.proofs.Common.{arith}
 use Rattle.flatgrammar.specs.Blocks.{block_of}
 use Rattle.earley.proofs.ChartSetsLemmas.{size_more}
-use Rattle.earley.proofs.chart.size_of.Goals as goal
+use Rattle.earley.proofs.sets.size_of.Goals as goal
 
 pub loop-head-preserved : goal.loop-head-preserved
 loop-head-preserved c = λ j.
