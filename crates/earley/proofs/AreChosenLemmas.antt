@@ -10,7 +10,9 @@ use Rattle.flatgrammar.proofs.FlatCutLemmas.{push_cases}
 use Rattle.flatgrammar.proofs.InLemmas.{in_left, at_end, before_end}
 use Rattle.earley.specs.Fronts.{Front}
 use Rattle.earley.specs.declared.later.Homed.{Homed}
-use Rattle.earley.specs.Chosen.{items_of, ReadsSome, AreChosen, AreReaders}
+use Rattle.earley.specs.declared.later.Caller.{Caller}
+use Rattle.earley.specs.Chosen.{items_of, callers_of, Calls, ReadsSome, AreChosen, AreCallers, AreReaders}
+use Rattle.flatgrammar.specs.TableViews.{call_of}
 use Rattle.earley.specs.ItemSets.{Adds}
 use Rattle.earley.specs.ReadItems.{IsRead}
 use Rattle.earley.proofs.ExpandLemmas.{take_one, take_past, map_end, reads_both}
@@ -81,3 +83,18 @@ module _ (Q : Item → Type 0) where
   pub chosen_end : (items few : List Item) (k : ℕ) → length items ≤ k → AreChosen Q (take k items) few
       → AreChosen Q items few
   chosen_end items few k le = subst (λ v. AreChosen Q v few) (take_past items k le)
+
+-- one more item that calls
+pub callers_more : (flat : code_flat.Tables) (seen : List Item) (list new : List Caller) (c : Caller)
+    → AreCallers flat seen list → call_of flat c.at.item ≡ Some (c.root, c.next) → new ≡ list ++ c ∷ [] →
+    AreCallers flat (seen ++ c.at.item ∷ []) new
+callers_more flat seen list new c are tells pushed = record {
+  chosen = subst (λ v. AreChosen (Calls flat) (seen ++ c.at.item ∷ []) v)
+      (sym (ap (λ v. callers_of v) pushed ∙ map_end (λ d. d.at.item) list c))
+      (chosen_more (Calls flat) seen (callers_of list) c.at.item are.chosen);
+  tell = λ d i. by d (before_end d c list (subst (λ v. In d v) pushed i));
+}
+  where
+    by : (d : Caller) → In d list ⊎ (d ≡ c) → call_of flat d.at.item ≡ Some (d.root, d.next)
+    by d (inl h) = are.tell d h
+    by d (inr same) = subst (λ v. call_of flat v.at.item ≡ Some (v.root, v.next)) (sym same) tells

@@ -15,8 +15,10 @@ use Rattle.earley.specs.declared.wait.Wait.{Wait}
 use Rattle.earley.specs.ItemSets.{Adds, IsResumed}
 use Rattle.earley.specs.Fronts.{Front}
 use Rattle.earley.specs.FrontViews.{view}
-use Rattle.earley.specs.Waiting.{Chain, ended, linked, IsListed, AreWaiting, AreWaitingAll}
-use Rattle.flatgrammar.specs.Blocks.{item_at, block_of, inner_of, lists_of, AreSpotLists}
+use Rattle.earley.specs.Waiting.{Chain, ended, linked, IsListed, asked_at, AreWaiting}
+use Rattle.earley.specs.Waiting.{AreWaitingAll}
+use Rattle.flatgrammar.specs.Blocks.{item_at, block_of, inner_of, lists_of, spots_of, AreSpotLists}
+use Rattle.flatgrammar.specs.declared.spot_list.Ask.{Ask}
 use Rattle.earley.proofs.BlockLemmas.{in_right, in_either, in_map, from_map}
 use Rattle.earley.proofs.AddsLemmas.{adds_none, adds_both, adds_as}
 use Rattle.earley.proofs.ExpandLemmas.{take_one}
@@ -118,6 +120,10 @@ pub listed_adds : {waits : List Wait} {first : ℕ} {Q : Item → Type 0} {old n
     → Adds (λ a. In a l.items) old new → Adds Q old new
 listed_adds {Q = Q} {old = old} {new = new} l adds = adds_as (λ a. In a l.items) Q old new (λ a h. l.only a h)
     (λ a h. l.all a h) adds
+
+asked_spots : (j : ℕ) (asks : List Ask) → map (asked_at j) asks ≡ map (item_at j) (spots_of asks)
+asked_spots j [] = refl
+asked_spots j (ask ∷ asks) = ap (λ v. asked_at j ask ∷ v) (asked_spots j asks)
 
 -- one more set
 pub waiting_push : (flat : code_flat.Tables) (fronts : List Front) (front : Front) → AreWaitingAll flat fronts →
@@ -315,15 +321,16 @@ module _ (flat : code_flat.Tables) (heads : List ℕ) where
   -- of a block the places that call a root with a block of its own are enough
   pub waiting_callers : (lists : AreSpotLists flat) (head j : ℕ) (seen : List Item) (firsts : List ℕ)
       (waits : List Wait) →
-      AreWaiting flat (seen ++ map (item_at j) (lists_of flat head).callers) heads firsts waits
+      AreWaiting flat (seen ++ map (asked_at j) (lists_of flat head).asks) heads firsts waits
       → AreWaiting flat (seen ++ map (item_at j) (block_of flat head).spots) heads firsts waits
   waiting_callers lists head j seen firsts waits are =
-      waiting_fewer seen (map (item_at j) (lists_of flat head).callers) (map (item_at j) (block_of flat head).spots)
-      firsts waits
-      (λ a i. let m = from_map j a (lists_of flat head).callers i in
+      waiting_fewer seen (map (item_at j) (spots_of (lists_of flat head).asks))
+      (map (item_at j) (block_of flat head).spots) firsts waits
+      (λ a i. let m = from_map j a (spots_of (lists_of flat head).asks) i in
       subst (λ v. In v (map (item_at j) (block_of flat head).spots)) (sym m.is)
       (in_map j m.spot (block_of flat head).spots ((lists head).0.0 m.spot m.stands)))
       (λ a t l i call own. let m = from_map j a (block_of flat head).spots i in
-      subst (λ v. In v (map (item_at j) (lists_of flat head).callers)) (sym m.is)
-      (in_map j m.spot (lists_of flat head).callers
-      ((lists head).0.1 m.spot m.stands (t, l, subst (λ v. call_of flat v ≡ Some (t, l)) m.is call, own)))) are
+      subst (λ v. In v (map (item_at j) (spots_of (lists_of flat head).asks))) (sym m.is)
+      (in_map j m.spot (spots_of (lists_of flat head).asks)
+      ((lists head).0.1 m.spot m.stands (t, l, subst (λ v. call_of flat v ≡ Some (t, l)) m.is call, own))))
+      (subst (λ v. AreWaiting flat (seen ++ v) heads firsts waits) (asked_spots j (lists_of flat head).asks) are)

@@ -7,6 +7,7 @@ use Rattle.flatgrammar.specs.declared.flat_item.Item.{Item}
 use Rattle.flatgrammar.specs.declared.tables.Tables as code_flat
 use Rattle.earley.specs.Fronts.{Front}
 use Rattle.earley.specs.declared.later.Homed.{Homed}
+use Rattle.earley.specs.declared.later.Caller.{Caller}
 
 -- the items without their homes
 abbrev pub items_of : List Homed → List Item
@@ -24,6 +25,19 @@ ReadsSome flat a = (c : ℕ) × IfSomeSet (read_of flat a) c
 pub record AreChosen (Q : Item → Type 0) (all few : List Item) : Type 0 where
   pub stand : (a : Item) → In a few → In a all
   pub chosen : (a : Item) → In a all → Q a → In a few
+
+-- the items that call
+abbrev pub callers_of : List Caller → List Item
+callers_of list = map (λ c. c.at.item) list
+
+-- each item calls what it is said to call
+abbrev pub AreCalls : code_flat.Tables → List Caller → Type 0
+AreCalls flat callers = (c : Caller) → In c callers → call_of flat c.at.item ≡ Some (c.root, c.next)
+
+-- of all items at least those that call, with what they call
+pub record AreCallers (flat : code_flat.Tables) (all : List Item) (callers : List Caller) : Type 0 where
+  pub chosen : AreChosen (Calls flat) all (callers_of callers)
+  pub tell : AreCalls flat callers
 
 -- the readers are those of the last set
 abbrev pub AreReaders : code_flat.Tables → List Front → List Homed → Type 0

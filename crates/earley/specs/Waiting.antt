@@ -3,7 +3,8 @@ use Rattle.std.specs.Prelude.{◌≡◌, ℕ, suc, ◌<◌, ◌≤◌, List, [],
 use Rattle.flatgrammar.specs.declared.flat_item.Item.{Item}
 use Rattle.flatgrammar.specs.declared.tables.Tables as code_flat
 use Rattle.flatgrammar.specs.TableViews.{call_of}
-use Rattle.flatgrammar.specs.Blocks.{begin_count, inner_of}
+use Rattle.flatgrammar.specs.declared.spot_list.Ask.{Ask}
+use Rattle.flatgrammar.specs.Blocks.{item_at, begin_count, inner_of}
 use Rattle.flatgrammar.specs.Places.{In}
 use Rattle.earley.specs.Fronts.{Front}
 use Rattle.earley.specs.declared.wait.Wait.{Wait}
@@ -22,6 +23,14 @@ pub record IsListed (waits : List Wait) (first : ℕ) (Q : Item → Type 0) : Ty
   pub chain : Chain waits first items
   pub all : (a : Item) → Q a → In a items
   pub only : (a : Item) → In a items → Q a
+
+-- the item of that step beside another
+abbrev pub item_from : Item → ℕ → Item
+item_from item step = record { node = item.node; step = step; origin = item.origin }
+
+-- the item of a spot that asks
+abbrev pub asked_at : ℕ → Ask → Item
+asked_at j ask = item_at j ask.spot
 
 -- for each head that no one place alone calls, what goes on behind those of the places that call it
 abbrev pub AreWaiting : code_flat.Tables → List Item → List ℕ → List ℕ → List Wait → Type 0

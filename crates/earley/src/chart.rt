@@ -11,7 +11,7 @@ ghost use Rattle.earley.specs.ChartSets.{chart_of, set_at, IsSet, AreSized};
 ghost use Rattle.flatgrammar.specs.Blocks.{AreExact, block_of, item_at, AreTables, AreAlone, AreSpotLists};
 ghost use Rattle.earley.specs.ItemSets.{Adds};
 ghost use Rattle.earley.specs.Waiting.{IsKept};
-ghost use Rattle.earley.specs.Chosen.{items_of, Calls, AreChosen, AreReaders};
+ghost use Rattle.earley.specs.Chosen.{AreReaders};
 ghost use Rattle.earley.specs.FrontViews.{expand, full, view, views, IsWholeAt};
 ghost use Rattle.flatgrammar.specs.Places.{In, places};
 ghost use Rattle.flatgrammar.specs.Flat.{Place};

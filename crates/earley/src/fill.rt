@@ -12,7 +12,7 @@ ghost use Rattle.flatgrammar.specs.Blocks.{inner_of};
 ghost use Rattle.earley.specs.Waiting.{Chain, AreWaiting, AreWaitingAll, BeginHere, BeginAll};
 ghost use Rattle.flatgrammar.specs.declared.flat_item.Item as code_item;
 ghost use Rattle.flatgrammar.specs.declared.tables.Tables as code_flat;
-ghost use Rattle.earley.specs.Chosen.{items_of, Calls, ReadsSome, AreChosen};
+ghost use Rattle.earley.specs.Chosen.{items_of, ReadsSome, AreChosen, AreCallers};
 ghost use Rattle.earley.specs.Fronts.{Front as the_front};
 ghost use Rattle.earley.specs.FrontViews.{expand, full, view, views, IsAsked, IsOn, IsFurther, IsGoing};
 
@@ -323,8 +323,8 @@ fn work(
     ensures items { IfOk result (λ done. Adds (IsFurther flat.now (views flat.now 0 sets.now) at.item) items.old
         items.new) }
     ensures callers { IfOk result (λ done. (seen : List code_item.Item)
-        → AreChosen (Calls flat.now) seen (items_of later.old.callers.items)
-        → AreChosen (Calls flat.now) (seen ++ at.item ∷ []) (items_of later.new.callers.items)) }
+        → AreCallers flat.now seen later.old.callers.items
+        → AreCallers flat.now (seen ++ at.item ∷ []) later.new.callers.items) }
     ensures readers { IfOk result (λ done. (seen : List code_item.Item)
         → AreChosen (ReadsSome flat.now) seen (items_of later.old.readers.items)
         → AreChosen (ReadsSome flat.now) (seen ++ at.item ∷ []) (items_of later.new.readers.items)) }
@@ -380,7 +380,7 @@ pub(crate) fn fill<L: Letter>(
         items.old) (full (block_of flat.now) (length (views flat.now 0 sets.now)) heads.new items.new)) }
     ensures closed { IfOk result (λ done. IsClosed flat.now (views flat.now 0 sets.now)
         (full (block_of flat.now) (length (views flat.now 0 sets.now)) heads.new items.new)) }
-    ensures callers { IfOk result (λ done. AreChosen (Calls flat.now) items.new (items_of later.new.callers.items)) }
+    ensures callers { IfOk result (λ done. AreCallers flat.now items.new later.new.callers.items) }
     ensures readers { IfOk result (λ done. AreChosen (ReadsSome flat.now) items.new
         (items_of later.new.readers.items)) }
 {

@@ -3,7 +3,7 @@ ghost use Rattle.std.specs.Prelude.{◌≡◌, ◌++◌, ◌∷◌, List, [], Is
 ghost use Rattle.flatgrammar.specs.TableViews.{call_of};
 ghost use Rattle.flatgrammar.specs.declared.flat_item.Item as code_item;
 ghost use Rattle.flatgrammar.specs.declared.tables.Tables as code_flat;
-ghost use Rattle.earley.specs.Chosen.{items_of, Calls, ReadsSome, AreChosen};
+ghost use Rattle.earley.specs.Chosen.{items_of, ReadsSome, AreChosen, AreCallers};
 
 use flatgrammar::Item;
 use ruletable::Memory;
@@ -16,10 +16,18 @@ pub(crate) struct Homed {
     pub(crate) home: usize,
 }
 
+/// An item that calls a root: the root, and the step after the call.
+#[derive(Clone, Copy)]
+pub(crate) struct Caller {
+    pub(crate) at: Homed,
+    pub(crate) root: usize,
+    pub(crate) next: usize,
+}
+
 /// Holds of the items of a set those that call, and those that may read a letter.
 #[derive(Drop)]
 pub(crate) struct Later {
-    pub(crate) callers: Vec<Homed>,
+    pub(crate) callers: Vec<Caller>,
     pub(crate) readers: Vec<Homed>,
 }
 
@@ -37,15 +45,15 @@ impl Later {
 pub(crate) fn keep_caller(
     at: Homed,
     called: Option<(usize, usize)>,
-    callers: &mut Vec<Homed>,
+    callers: &mut Vec<Caller>,
 ) -> Result<(), Memory>
     ensures { IfOk result (λ done. (flat : code_flat.Tables) (seen : List code_item.Item)
-        → called ≡ call_of flat at.item → AreChosen (Calls flat) seen (items_of callers.old.items)
-        → AreChosen (Calls flat) (seen ++ at.item ∷ []) (items_of callers.new.items)) }
+        → called ≡ call_of flat at.item → AreCallers flat seen callers.old.items
+        → AreCallers flat (seen ++ at.item ∷ []) callers.new.items) }
 {
     match called {
-        Some(_) => {
-            callers.push(at)?;
+        Some((root, next)) => {
+            callers.push(Caller { at, root, next })?;
             Ok(())
         }
         None => Ok(()),

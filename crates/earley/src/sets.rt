@@ -1,14 +1,14 @@
 //! The sets of a line, one behind the other.
 ghost use Rattle.std.specs.Prelude.{◌≡◌, ◌++◌, ◌∷◌, ℕ, List, [], length, slice_get, IfOk};
 ghost use Rattle.flatgrammar.specs.Blocks.{block_of, AreSpotLists};
-ghost use Rattle.earley.specs.Chosen.{items_of, Calls, AreChosen};
+ghost use Rattle.earley.specs.Chosen.{AreCallers};
 ghost use Rattle.earley.specs.FrontViews.{full};
 ghost use Rattle.earley.specs.Fronts.{Front as front, front_in, AreBounds, GoesOn, GoOn, IsAppended};
 ghost use Rattle.earley.specs.Waiting.{IsKept};
 
 use crate::front::Front;
 use crate::heads::Heads;
-use crate::later::Homed;
+use crate::later::Caller;
 use crate::wait::{Wait, list_waits};
 use flatgrammar::{Item, Tables, spots};
 use ruletable::Memory;
@@ -95,12 +95,12 @@ fn store(
     flat: &Tables,
     heads: &Heads,
     items: &[Item],
-    callers: &[Homed],
+    callers: &[Caller],
     origin: usize,
     stores: &mut Stores,
 ) -> Result<Bounds, Memory>
     requires lists { AreSpotLists flat.now }
-    requires callers { AreChosen (Calls flat.now) items.now (items_of callers.now) }
+    requires callers { AreCallers flat.now items.now callers.now }
     ensures more { GoOn stores.old stores.new }
     ensures bounds { IfOk result (λ bounds. AreBounds stores.new bounds) }
     ensures kept { IfOk result (λ bounds. IsKept flat.now origin heads.now items.now (front_in stores.new bounds)) }
@@ -171,10 +171,10 @@ impl Sets {
         flat: &Tables,
         heads: &Heads,
         items: &[Item],
-        callers: &[Homed],
+        callers: &[Caller],
     ) -> Result<(), Memory>
         requires lists { AreSpotLists flat.now }
-        requires callers { AreChosen (Calls flat.now) items.now (items_of callers.now) }
+        requires callers { AreCallers flat.now items.now callers.now }
         ensures { IfOk result (λ _. (f : front) × ((self.new ≡ self.old ++ f ∷ [])
             × IsKept flat.now (length self.old) heads.now items.now f)) }
     {

@@ -1,16 +1,18 @@
 //! What waits for the heads of a set.
-ghost use Rattle.std.specs.Prelude.{◌≡◌, ◌+◌, ◌++◌, ◌∷◌, ℕ, List, [], length, map, drop, slice_index_or, IfOk};
-ghost use Rattle.flatgrammar.specs.Blocks.{block_of, item_at, AreSpotLists};
+ghost use Rattle.std.specs.Prelude.{◌≡◌, ◌+◌, ◌++◌, ◌∷◌, ℕ, List, [], length, map, drop, slice_index_or, Some, IfOk};
+ghost use Rattle.flatgrammar.specs.Blocks.{block_of, AreAsks, AreSpotLists};
+ghost use Rattle.flatgrammar.specs.TableViews.{call_of};
+ghost use Rattle.flatgrammar.specs.declared.tables.Tables as code_flat;
 ghost use Rattle.flatgrammar.specs.declared.flat_item.Item as code_item;
 ghost use Rattle.earley.specs.Fronts.{part_of, GoesOn, IsPart};
 ghost use Rattle.earley.specs.FrontViews.{expand, full};
-ghost use Rattle.earley.specs.Waiting.{AreWaiting};
-ghost use Rattle.earley.specs.Chosen.{items_of, Calls, AreChosen};
+ghost use Rattle.earley.specs.Waiting.{asked_at, item_from, AreWaiting};
+ghost use Rattle.earley.specs.Chosen.{callers_of, Calls, AreCalls, AreChosen};
 
 use crate::heads::Heads;
-use crate::later::Homed;
+use crate::later::Caller;
 use crate::sets::Part;
-use flatgrammar::{Item, Spot, Tables, asking, call};
+use flatgrammar::{Ask, Item, Tables, asks};
 use ruletable::Memory;
 
 /// What goes on where a head is done: the item, its home, and one more than the index of the next one of that head, or
@@ -32,10 +34,10 @@ pub(crate) fn first_at(firsts: &[usize], index: usize) -> usize
     }
 }
 
-// Lists what goes on behind an item for the head that it calls.
-fn wait_one(
-    flat: &Tables,
+// Lists an item for the head that is called before it.
+fn wait_at(
     heads: &Heads,
+    root: usize,
     item: Item,
     home: usize,
     firsts: &mut [usize],
@@ -44,20 +46,13 @@ fn wait_one(
     requires { length firsts.old ≡ length heads.now }
     ensures long { length firsts.new ≡ length firsts.old }
     ensures on { GoesOn waits.old.items waits.new.items }
-    ensures more { IfOk result (λ done. (seen : List code_item.Item)
-        → AreWaiting flat.now seen heads.now firsts.old waits.old.items →
-        AreWaiting flat.now (seen ++ item ∷ []) heads.now firsts.new waits.new.items) }
+    ensures more { IfOk result (λ done. (flat : code_flat.Tables) (seen : List code_item.Item) (step : ℕ)
+        → call_of flat (item_from item step) ≡ Some (root, item.step) →
+        AreWaiting flat seen heads.now firsts.old waits.old.items →
+        AreWaiting flat (seen ++ item_from item step ∷ []) heads.now firsts.new waits.new.items) }
 {
-    let Some((root, step)) = call(flat, item) else {
-        return Ok(());
-    };
     let Some(index) = heads.find(root) else {
         return Ok(());
-    };
-    let item = Item {
-        node: item.node,
-        step,
-        origin: item.origin,
     };
     let next = firsts[index];
     waits.push(Wait { item, home, next })?;
@@ -65,29 +60,29 @@ fn wait_one(
     Ok(())
 }
 
-// Lists what goes on behind the spots of a block.
+// Lists what goes on behind the spots of a block that call.
 fn wait_spots(
-    flat: &Tables,
     heads: &Heads,
-    from: &[Spot],
-    place: (usize, usize),
+    from: &[Ask],
+    origin: usize,
+    home: usize,
     firsts: &mut [usize],
     waits: &mut Vec<Wait>,
 ) -> Result<(), Memory>
     requires { length firsts.old ≡ length heads.now }
     ensures long { length firsts.new ≡ length firsts.old }
     ensures on { GoesOn waits.old.items waits.new.items }
-    ensures more { IfOk result (λ done. (seen : List code_item.Item)
-        → AreWaiting flat.now seen heads.now firsts.old waits.old.items →
-        AreWaiting flat.now (seen ++ map (item_at place.0) from.now) heads.now firsts.new waits.new.items) }
+    ensures more { IfOk result (λ done. (flat : code_flat.Tables) (seen : List code_item.Item) → AreAsks flat from.now →
+        AreWaiting flat seen heads.now firsts.old waits.old.items →
+        AreWaiting flat (seen ++ map (asked_at origin) from.now) heads.now firsts.new waits.new.items) }
 {
-    for spot in from {
+    for ask in from {
         let item = Item {
-            node: spot.node,
-            step: spot.step,
-            origin: place.0,
+            node: ask.spot.node,
+            step: ask.next,
+            origin,
         };
-        wait_one(flat, heads, item, place.1, firsts, waits)?;
+        wait_at(heads, ask.root, item, home, firsts, waits)?;
     }
     Ok(())
 }
@@ -112,35 +107,33 @@ fn wait_heads(
 {
     let mut home = 0usize;
     for head in list {
-        wait_spots(
-            flat,
-            heads,
-            asking(flat, *head),
-            (origin, home),
-            firsts,
-            waits,
-        )?;
+        wait_spots(heads, asks(flat, *head), origin, home, firsts, waits)?;
         home = home.wrapping_add(1);
     }
     Ok(())
 }
 
-// Lists what goes on behind items.
+// Lists what goes on behind items that call.
 fn wait_items(
-    flat: &Tables,
     heads: &Heads,
-    callers: &[Homed],
+    callers: &[Caller],
     firsts: &mut [usize],
     waits: &mut Vec<Wait>,
 ) -> Result<(), Memory>
     requires { length firsts.old ≡ length heads.now }
     ensures on { GoesOn waits.old.items waits.new.items }
-    ensures more { IfOk result (λ done. (seen : List code_item.Item) → AreWaiting flat.now seen heads.now firsts.old
-        waits.old.items →
-        AreWaiting flat.now (seen ++ items_of callers.now) heads.now firsts.new waits.new.items) }
+    ensures long { length firsts.new ≡ length firsts.old }
+    ensures more { IfOk result (λ done. (flat : code_flat.Tables) (seen : List code_item.Item)
+        → AreCalls flat callers.now → AreWaiting flat seen heads.now firsts.old waits.old.items →
+        AreWaiting flat (seen ++ callers_of callers.now) heads.now firsts.new waits.new.items) }
 {
-    for at in callers {
-        wait_one(flat, heads, at.item, at.home, firsts, waits)?;
+    for caller in callers {
+        let item = Item {
+            node: caller.at.item.node,
+            step: caller.next,
+            origin: caller.at.item.origin,
+        };
+        wait_at(heads, caller.root, item, caller.at.home, firsts, waits)?;
     }
     Ok(())
 }
@@ -149,22 +142,23 @@ fn wait_items(
 fn wait_all(
     flat: &Tables,
     heads: &Heads,
-    callers: &[Homed],
+    callers: &[Caller],
     origin: usize,
     firsts: &mut [usize],
     waits: &mut Vec<Wait>,
 ) -> Result<(), Memory>
     requires lists { AreSpotLists flat.now }
+    requires callers { AreCalls flat.now callers.now }
     requires long { length firsts.old ≡ length heads.now }
     requires none { (h : ℕ) → slice_index_or firsts.old h 0 ≡ 0 }
     ensures long { length firsts.new ≡ length firsts.old }
     ensures on { GoesOn waits.old.items waits.new.items }
     ensures more { IfOk result (λ done. (items : List code_item.Item)
-        → AreChosen (Calls flat.now) items (items_of callers.now)
+        → AreChosen (Calls flat.now) items (callers_of callers.now)
         → AreWaiting flat.now (full (block_of flat.now) origin heads.now items) heads.now firsts.new waits.new.items) }
 {
     wait_heads(flat, heads, heads.list(), origin, firsts, waits)?;
-    wait_items(flat, heads, callers, firsts, waits)?;
+    wait_items(heads, callers, firsts, waits)?;
     Ok(())
 }
 
@@ -189,17 +183,18 @@ fn add_firsts(count: usize, firsts: &mut Vec<usize>) -> Result<(), Memory>
 pub(crate) fn list_waits(
     flat: &Tables,
     heads: &Heads,
-    callers: &[Homed],
+    callers: &[Caller],
     origin: usize,
     firsts: &mut Vec<usize>,
     waits: &mut Vec<Wait>,
 ) -> Result<Part, Memory>
-    requires { AreSpotLists flat.now }
+    requires lists { AreSpotLists flat.now }
+    requires callers { AreCalls flat.now callers.now }
     ensures firsts { GoesOn firsts.old.items firsts.new.items }
     ensures waits { GoesOn waits.old.items waits.new.items }
     ensures part { IfOk result (λ part. IsPart part (length firsts.new.items)) }
     ensures waiting { IfOk result (λ part. (items : List code_item.Item)
-        → AreChosen (Calls flat.now) items (items_of callers.now)
+        → AreChosen (Calls flat.now) items (callers_of callers.now)
         → AreWaiting flat.now (full (block_of flat.now) origin heads.now items) heads.now
         (part_of firsts.new.items part) waits.new.items) }
 {

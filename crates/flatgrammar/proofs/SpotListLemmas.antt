@@ -3,11 +3,14 @@
 use Rattle.std.proofs.Common.{◌≡◌, ℕ, zero, suc, ◌+◌, ◌++◌, ◌<◌, ◌≤◌, ◌⊎◌, inl, inr, Option, Some, None, List, [], ◌∷◌}
 use Rattle.std.proofs.Common.{length, take, slice_get, slice_index_or, Vec, Global, refl, sym, ◌∙◌, ap, subst, arith}
 use Rattle.std.proofs.lemmas.Bool.{cases_lt}
+use Rattle.std.proofs.lemmas.List.{map-append}
 use Rattle.flatgrammar.specs.Places.{In, now, on}
 use Rattle.flatgrammar.specs.declared.block.Spot.{Spot}
+use Rattle.flatgrammar.specs.declared.spot_list.Ask.{Ask}
 use Rattle.flatgrammar.specs.declared.spot_list.SpotList.{SpotList}
 use Rattle.flatgrammar.specs.declared.tables.Tables as code_flat
 use Rattle.flatgrammar.specs.Blocks.{block_in, block_of, lists_of, list_or, readers_of, AreSpotLists}
+use Rattle.flatgrammar.specs.Blocks.{call_at, spots_of, AreAsks}
 use Rattle.flatgrammar.specs.Blocks.{Reads, Picks, AreByLetter, lists_in, IsSpotList}
 use Rattle.flatgrammar.proofs.CallOfLemmas.{past_get}
 use Rattle.flatgrammar.proofs.FlatCutLemmas.{push_cases}
@@ -68,6 +71,22 @@ leave_one Q spots list new k d lt is never picks =
     to q (inl h) is_q = picks.1 q h is_q
     to q (inr same) is_q = absurd (never (subst (λ v. Q v) same is_q))
 
+-- one more spot that asks
+pub pick_ask : (Q : Spot → Type 0) (spots : List Spot) (list new : List Ask) (k : ℕ) (d : Spot) (ask : Ask)
+    → k < length spots → ask.spot ≡ slice_index_or spots k d → new ≡ list ++ ask ∷ [] →
+    Picks Q (take k spots) (spots_of list) → Picks Q (take (k + 1) spots) (spots_of new)
+pick_ask Q spots list new k d ask lt same pushed picks = pick_one Q spots (spots_of list) (spots_of new) k d lt
+    (ap (λ v. spots_of v) pushed ∙ (map-append (λ a. a.spot) list (ask ∷ [])
+    ∙ ap (λ v. spots_of list ++ v ∷ []) same)) picks
+
+pub asks_more : (flat : code_flat.Tables) (list new : List Ask) (ask : Ask) → AreAsks flat list
+    → call_at flat ask.spot ≡ Some (ask.root, ask.next) → new ≡ list ++ ask ∷ [] → AreAsks flat new
+asks_more flat list new ask are tells pushed a i = by (before_end a ask list (subst (λ v. In a v) pushed i))
+  where
+    by : In a list ⊎ (a ≡ ask) → call_at flat a.spot ≡ Some (a.root, a.next)
+    by (inl h) = are a h
+    by (inr same) = subst (λ v. call_at flat v.spot ≡ Some (v.root, v.next)) (sym same) tells
+
 pub picked_all : (Q : Spot → Type 0) (spots list : List Spot) (k : ℕ) → length spots ≤ k → Picks Q (take k spots) list
     → Picks Q spots list
 picked_all Q spots list k le picks = (
@@ -123,7 +142,7 @@ lists_all flat lists n count all are h = by (cases_lt h n)
         let empty : slice_get flat.blocks.items h ≡ None = past_get flat.blocks.items h (omega (arith, le, all)) in
         subst (λ v. IsSpotList flat (block_in v).spots (lists_in (slice_get lists h))) (sym empty)
         (subst (λ v. IsSpotList flat [] (lists_in v)) (sym none)
-        (((λ p i. i), (λ p i q. i)), ((λ p i. i), (λ p i q. i)), (λ c list is. absurd cc)))
+        (((λ p i. i), (λ p i q. i)), ((λ p i. i), (λ p i q. i)), (λ c list is. absurd cc), (λ a i. elim i [ ])))
 
 -- the spots that are tried on a letter are all that read it
 pub readers_pick : (flat : code_flat.Tables) (h c : ℕ) → AreSpotLists flat

@@ -1,11 +1,12 @@
 -- What the prediction of a root implies, as a table made once: the places where it and the nodes that it alone calls
 -- begin.
-use Rattle.std.specs.Prelude.{◌≡◌, ℕ, ◌<◌, ◌⊎◌, true, false, List, [], slice_get, Option, Some, None}
+use Rattle.std.specs.Prelude.{◌≡◌, ℕ, ◌<◌, ◌⊎◌, true, false, List, [], map, slice_get, Option, Some, None}
 use Rattle.std.proofs.Common.{Vec, Global}
 use Rattle.flatgrammar.specs.declared.flat_item.Item.{Item}
 use Rattle.flatgrammar.specs.declared.block.Spot.{Spot}
 use Rattle.flatgrammar.specs.declared.block.Block as code_block
 use Rattle.flatgrammar.specs.declared.inner.Inner.{Inner}
+use Rattle.flatgrammar.specs.declared.spot_list.Ask.{Ask}
 use Rattle.flatgrammar.specs.declared.spot_list.SpotList.{SpotList}
 use Rattle.flatgrammar.specs.declared.tables.Tables as code_flat
 use Rattle.flatgrammar.specs.NodeSteps.{flat_of, IfSomeSet}
@@ -125,22 +126,29 @@ abbrev pub AreByLetter : code_flat.Tables → List Spot → List (Vec Spot Globa
 AreByLetter flat spots lists = (c : ℕ) (list : Vec Spot Global) → slice_get lists c ≡ Some list
     → Picks (Reads flat c) spots list.items
 
+abbrev pub spots_of : List Ask → List Spot
+spots_of asks = map (λ a. a.spot) asks
+
+-- each spot calls what it is said to ask for
+abbrev pub AreAsks : code_flat.Tables → List Ask → Type 0
+AreAsks flat asks = (a : Ask) → In a asks → call_at flat a.spot ≡ Some (a.root, a.next)
+
 pub record Lists : Type 0 where
-  pub callers : List Spot
+  pub asks : List Ask
   pub readers : List Spot
   pub by_letter : List (Vec Spot Global)
 
 abbrev pub lists_in : Option SpotList → Lists
-lists_in None = record { callers = []; readers = []; by_letter = [] }
+lists_in None = record { asks = []; readers = []; by_letter = [] }
 lists_in (Some list) = record {
-  callers = list.callers.items;
+  asks = list.asks.items;
   readers = list.readers.items;
   by_letter = list.by_letter.items;
 }
 
 abbrev pub IsSpotList : code_flat.Tables → List Spot → Lists → Type 0
-IsSpotList flat spots lists = Picks (Asks flat) spots lists.callers × Picks (ReadsAny flat) spots lists.readers
-    × AreByLetter flat spots lists.by_letter
+IsSpotList flat spots lists = Picks (Asks flat) spots (spots_of lists.asks) × Picks (ReadsAny flat) spots lists.readers
+    × AreByLetter flat spots lists.by_letter × AreAsks flat lists.asks
 
 abbrev pub lists_of : code_flat.Tables → ℕ → Lists
 lists_of flat h = lists_in (slice_get flat.lists.items h)

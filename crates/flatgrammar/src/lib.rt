@@ -23,8 +23,8 @@ pub use flat_node::{Node, Set};
 pub use inner::Inner;
 pub use item_laws::{items_at_most, items_tell};
 pub use lowered::{lower, lower_rules};
-pub use spot_list::SpotList;
+pub use spot_list::{Ask, SpotList};
 pub use tables::{
-    Deed, Tables, asking, call, calls, deed_of, null, passes, readers, reads, sole_caller, spots,
+    Deed, Tables, asks, call, calls, deed_of, null, passes, readers, reads, sole_caller, spots,
     takes_letter, whole_root,
 };

@@ -1,6 +1,7 @@
 //! Of the spots of a block those that call, and those that read.
-ghost use Rattle.std.specs.Prelude.{ℕ, Some, IsTrue, IfOk, slice_get};
-ghost use Rattle.flatgrammar.specs.Blocks.{block_of, Asks, Reads, ReadsAny, Picks, AreByLetter, lists_in, IsSpotList};
+ghost use Rattle.std.specs.Prelude.{◌≡◌, ℕ, Some, IsTrue, IfOk, IfSome, IfNone, slice_get};
+ghost use Rattle.flatgrammar.specs.Blocks.{block_of, call_at, spots_of, Asks, AreAsks, Reads, ReadsAny, Picks};
+ghost use Rattle.flatgrammar.specs.Blocks.{AreByLetter, lists_in, IsSpotList};
 
 use crate::block::Spot;
 use crate::flat_item::Item;
@@ -12,30 +13,38 @@ use std::alloc::Global;
 // As many reading spots are walked without a table by letter.
 const FEW: usize = 4;
 
+/// A spot that calls a root with a block of its own: the root, and the step after the call.
+#[derive(Clone, Copy)]
+pub struct Ask {
+    pub spot: Spot,
+    pub root: usize,
+    pub next: usize,
+}
+
 /// Holds of the spots of a block those that call a root with a block of its own, and those that read: all, and where
 /// they are many those of each letter below 256.
 #[derive(Drop)]
 pub struct SpotList {
-    pub callers: Vec<Spot>,
+    pub asks: Vec<Ask>,
     pub readers: Vec<Spot>,
     pub by_letter: Vec<Vec<Spot>>,
 }
 
-// Tells whether a spot calls a root with a block of its own.
-fn asks(flat: &Tables, spot: Spot) -> bool
-    ensures { Asks flat.now spot → IsTrue result }
+// Returns what a spot asks for, if it calls a root with a block of its own.
+fn ask_of(flat: &Tables, spot: Spot) -> Option<Ask>
+    ensures spot { IfSome result (λ ask. ask.spot ≡ spot) }
+    ensures call { IfSome result (λ ask. call_at flat.now spot ≡ Some (ask.root, ask.next)) }
+    ensures none { IfNone result (Asks flat.now spot → ⊥) }
 {
     let item = Item {
         node: spot.node,
         step: spot.step,
         origin: 0,
     };
-    match call(flat, item) {
-        None => false,
-        Some((root, _)) => match sole_caller(flat, root) {
-            None => true,
-            Some(_) => false,
-        },
+    let (root, next) = call(flat, item)?;
+    match sole_caller(flat, root) {
+        None => Some(Ask { spot, root, next }),
+        Some(_) => None,
     }
 }
 
@@ -61,14 +70,15 @@ fn reads_it(flat: &Tables, spot: Spot, value: u32) -> bool
     reads(flat, item, value)
 }
 
-// Returns those that call a root with a block of its own.
-fn callers_of(alloc: Global, flat: &Tables, from: &[Spot]) -> Result<Vec<Spot>, Memory>
-    ensures { IfOk result (λ list. Picks (Asks flat.now) from.now list.items) }
+// Returns what those ask for that call a root with a block of its own.
+fn asks_of(alloc: Global, flat: &Tables, from: &[Spot]) -> Result<Vec<Ask>, Memory>
+    ensures picks { IfOk result (λ list. Picks (Asks flat.now) from.now (spots_of list.items)) }
+    ensures tell { IfOk result (λ list. AreAsks flat.now list.items) }
 {
     let mut list = Vec::new(alloc);
     for spot in from {
-        if asks(flat, *spot) {
-            list.push(*spot)?;
+        if let Some(ask) = ask_of(flat, *spot) {
+            list.push(ask)?;
         }
     }
     Ok(list)
@@ -121,7 +131,7 @@ fn by_letter(alloc: Global, flat: &Tables, from: &[Spot]) -> Result<Vec<Vec<Spot
 fn list_of(alloc: Global, flat: &Tables, from: &[Spot]) -> Result<SpotList, Memory>
     ensures { IfOk result (λ list. IsSpotList flat.now from.now (lists_in (Some list))) }
 {
-    let callers = callers_of(alloc, flat, from)?;
+    let asks = asks_of(alloc, flat, from)?;
     let readers = readers_of(alloc, flat, from)?;
     let by_letter = if readers.len() > FEW {
         by_letter(alloc, flat, from)?
@@ -129,7 +139,7 @@ fn list_of(alloc: Global, flat: &Tables, from: &[Spot]) -> Result<SpotList, Memo
         Vec::new(alloc)
     };
     Ok(SpotList {
-        callers,
+        asks,
         readers,
         by_letter,
     })

@@ -9,7 +9,7 @@ use crate::flat_item::Item;
 use crate::flat_node;
 use crate::flat_node::{Node, callee, may_read, node_deed, takes};
 use crate::inner::{Inner, inner_at};
-use crate::spot_list::SpotList;
+use crate::spot_list::{Ask, SpotList};
 
 /// Holds the nodes of a lowered grammar, of each rule the node of its body, of each node its root, a mark of what is
 /// nullable, the place that alone calls it if it stands in the block of another, its block and the lists of its block,
@@ -115,12 +115,13 @@ pub fn spots(flat: &Tables, head: usize) -> &[Spot]
     }
 }
 
-/// Returns of the spots of a root's block at least those that call a root with a block of its own.
-pub fn asking(flat: &Tables, head: usize) -> &[Spot]
-    ensures { result.now ≡ (lists_of flat.now head).callers }
+/// Returns of the spots of a root's block at least those that call a root with a block of its own, with what they ask
+/// for.
+pub fn asks(flat: &Tables, head: usize) -> &[Ask]
+    ensures { result.now ≡ (lists_of flat.now head).asks }
 {
     match flat.lists.get(head) {
-        Some(list) => &list.callers,
+        Some(list) => &list.asks,
         None => &[],
     }
 }

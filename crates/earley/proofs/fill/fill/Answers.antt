@@ -4,7 +4,7 @@ use Rattle.flatgrammar.specs.Places.{In}
 use Rattle.flatgrammar.specs.declared.flat_item.Item.{Item}
 use Rattle.earley.specs.ItemSets.{Adds}
 use Rattle.flatgrammar.specs.Blocks.{block_of, item_at}
-use Rattle.earley.specs.Chosen.{items_of, Calls, ReadsSome, AreChosen}
+use Rattle.earley.specs.Chosen.{items_of, callers_of, Calls, ReadsSome, AreChosen}
 use Rattle.earley.specs.FrontViews.{views, IsAsked, IsFurther}
 use Rattle.earley.proofs.FillLemmas.{measure_falls, more_keeps, item_more, head_more}
 use Rattle.earley.proofs.FillLemmas.{full_held, all_different, all_closed}
@@ -44,12 +44,14 @@ loop-item_index-preserved-then-item_index-len g c =
           (map g.L.Letter.number c.args.line.now) (views c.args.flat.now 0 c.args.sets.now) c.requires.earlier
           (length (views c.args.flat.now 0 c.args.sets.now)) c.loop-item_index.heads c.work.new.heads
           c.loop-item_index.items c.work.new.items asked further a (c.loop-item_index.invariant.keeps a h);
-      callers = chosen_next (Calls c.args.flat.now) c.loop-item_index.items c.work.new.items
-          (items_of c.work.new.later.callers.items) c.loop-item_index.item_index further c.at-item.result below
-          (subst (λ v. AreChosen (Calls c.args.flat.now) (take c.loop-item_index.item_index c.loop-item_index.items
-          ++ v ∷ []) (items_of c.work.new.later.callers.items)) item_is
-          (c.in_ok-work.ensures.callers (take c.loop-item_index.item_index c.loop-item_index.items)
-          c.loop-item_index.invariant.callers));
+      callers = (let called = c.in_ok-work.ensures.callers
+          (take c.loop-item_index.item_index c.loop-item_index.items) c.loop-item_index.invariant.callers in record {
+            chosen = chosen_next (Calls c.args.flat.now) c.loop-item_index.items c.work.new.items
+                (callers_of c.work.new.later.callers.items) c.loop-item_index.item_index further c.at-item.result below
+                (subst (λ v. AreChosen (Calls c.args.flat.now) (take c.loop-item_index.item_index c.loop-item_index.items
+                ++ v ∷ []) (callers_of c.work.new.later.callers.items)) item_is called.chosen);
+            tell = called.tell;
+          });
       readers = chosen_next (ReadsSome c.args.flat.now) c.loop-item_index.items c.work.new.items
           (items_of c.work.new.later.readers.items) c.loop-item_index.item_index further c.at-item.result below
           (subst (λ v. AreChosen (ReadsSome c.args.flat.now) (take c.loop-item_index.item_index c.loop-item_index.items
@@ -96,9 +98,12 @@ loop-item_index-preserved g c =
           (length (views c.args.flat.now 0 c.args.sets.now)) c.loop-item_index.heads c.open.new.heads
           c.loop-item_index.items c.open.new.items called passed a
           (c.loop-item_index.invariant.keeps a h);
-      callers = chosen_still (Calls c.args.flat.now) c.loop-item_index.items c.open.new.items
-          (items_of c.loop-item_index.later.callers.items) c.loop-item_index.item_index passed
-          c.loop-item_index.invariant.going.within_items c.loop-item_index.invariant.callers;
+      callers = record {
+        chosen = chosen_still (Calls c.args.flat.now) c.loop-item_index.items c.open.new.items
+            (callers_of c.loop-item_index.later.callers.items) c.loop-item_index.item_index passed
+            c.loop-item_index.invariant.going.within_items c.loop-item_index.invariant.callers.chosen;
+        tell = c.loop-item_index.invariant.callers.tell;
+      };
       readers = chosen_still (ReadsSome c.args.flat.now) c.loop-item_index.items c.open.new.items
           (items_of c.loop-item_index.later.readers.items) c.loop-item_index.item_index passed
           c.loop-item_index.invariant.going.within_items c.loop-item_index.invariant.readers;
@@ -131,10 +136,13 @@ returns-else-head_index-len-clause-closed g c =
     (omega arith))
 
 pub returns-else-head_index-len-clause-callers : goal.returns-else-head_index-len-clause-callers
-returns-else-head_index-len-clause-callers g c = chosen_end (Calls c.args.flat.now) c.loop-item_index.items
-    (items_of c.loop-item_index.later.callers.items) c.loop-item_index.item_index
-    (let test = c.if-item_index-len.false in let len = c.len.ensures in omega (arith, test, len))
-    c.loop-item_index.invariant.callers
+returns-else-head_index-len-clause-callers g c = record {
+  chosen = chosen_end (Calls c.args.flat.now) c.loop-item_index.items
+      (callers_of c.loop-item_index.later.callers.items) c.loop-item_index.item_index
+      (let test = c.if-item_index-len.false in let len = c.len.ensures in omega (arith, test, len))
+      c.loop-item_index.invariant.callers.chosen;
+  tell = c.loop-item_index.invariant.callers.tell;
+}
 
 pub returns-else-head_index-len-clause-readers : goal.returns-else-head_index-len-clause-readers
 returns-else-head_index-len-clause-readers g c = chosen_end (ReadsSome c.args.flat.now) c.loop-item_index.items

@@ -1,7 +1,7 @@
 use Rattle.std.proofs.Common.{map, take, ◌+◌, ◌-◌, ◌*◌, length}
 use Rattle.flatgrammar.specs.Places.{places}
 use Rattle.flatgrammar.specs.NodeSteps.{flat_of}
-use Rattle.earley.specs.Chosen.{items_of, Calls, ReadsSome, AreChosen}
+use Rattle.earley.specs.Chosen.{items_of, ReadsSome, AreChosen, AreCallers}
 use Rattle.earley.specs.Closed.{Keeps}
 use Rattle.flatgrammar.specs.Blocks.{block_of}
 use Rattle.earley.specs.FrontViews.{full, views, IsGoing}
@@ -13,7 +13,7 @@ invariant-loop-item_index g l = record {
       l.items;
   keeps : Keeps (full (block_of l.flat) (length (views l.flat 0 l.sets)) l.initial.heads l.initial.items)
       (full (block_of l.flat) (length (views l.flat 0 l.sets)) l.heads l.items);
-  callers : AreChosen (Calls l.flat) (take l.item_index l.items) (items_of l.later.callers.items);
+  callers : AreCallers l.flat (take l.item_index l.items) l.later.callers.items;
   readers : AreChosen (ReadsSome l.flat) (take l.item_index l.items) (items_of l.later.readers.items);
 }
 

@@ -1,7 +1,7 @@
-use Rattle.std.proofs.Common.{◌∙◌, ◌++◌, ap, subst, map, take, arith, slice_index_or}
-use Rattle.flatgrammar.specs.Blocks.{block_of, item_at}
+use Rattle.std.proofs.Common.{◌∙◌, ◌++◌, ap, sym, subst, map, take, arith, slice_index_or}
+use Rattle.flatgrammar.specs.Blocks.{block_of, AreAsks}
 use Rattle.earley.specs.FrontViews.{expand}
-use Rattle.earley.specs.Waiting.{AreWaiting}
+use Rattle.earley.specs.Waiting.{asked_at, AreWaiting}
 use Rattle.earley.proofs.ExpandLemmas.{take_one, take_past, expand_end}
 use Rattle.earley.proofs.SetsLemmas.{goes_farther}
 use Rattle.earley.proofs.WaitAllLemmas.{waiting_then, waiting_callers}
@@ -19,9 +19,10 @@ loop-head-preserved c = record {
       c.loop-head.invariant.more
       (λ seen are. waiting_callers c.args.flat.now c.args.heads.now c.requires.lists
       (slice_index_or c.args.list.now c.loop-head.head-index 0) c.args.origin seen _ _
-      (subst (λ v. AreWaiting c.args.flat.now (seen ++ map (item_at c.args.origin) v) c.args.heads.now
-      c.wait_spots.new.firsts c.wait_spots.new.waits.items) c.asking.ensures
-      (c.in_ok-wait_spots.ensures.more seen are)));
+      (subst (λ v. AreWaiting c.args.flat.now (seen ++ map (asked_at c.args.origin) v) c.args.heads.now
+      c.wait_spots.new.firsts c.wait_spots.new.waits.items) c.asks.ensures
+      (c.in_ok-wait_spots.ensures.more c.args.flat.now seen (subst (λ v. AreAsks c.args.flat.now v) (sym c.asks.ensures)
+      (c.requires.lists _).3) are)));
 }
 
 pub returns-clause-more : goal.returns-clause-more
