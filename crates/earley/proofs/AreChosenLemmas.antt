@@ -1,21 +1,21 @@
 -- Of the items of a set those that are chosen, item by item.
 -- Serves: judge.
 use Rattle.std.proofs.Common.{◌≡◌, ℕ, ◌+◌, ◌<◌, ◌≤◌, ◌⊎◌, inl, inr, List, [], ◌∷◌, ◌++◌, Some, length, take, arith}
-use Rattle.std.proofs.Common.{slice_get, slice_index_or, ap, sym, ◌∙◌, subst, length-append}
+use Rattle.std.proofs.Common.{ap, slice_get, slice_index_or, refl, sym, ◌∙◌, subst, length-append}
 use Rattle.std.proofs.lemmas.Option.{slice_get_within}
-use Rattle.flatgrammar.specs.Places.{In}
+use Rattle.flatgrammar.specs.Places.{In, now}
 use Rattle.flatgrammar.specs.declared.flat_item.Item.{Item}
 use Rattle.flatgrammar.specs.declared.tables.Tables as code_flat
 use Rattle.flatgrammar.proofs.FlatCutLemmas.{push_cases}
-use Rattle.flatgrammar.proofs.InLemmas.{in_left, at_end, before_end}
+use Rattle.flatgrammar.proofs.InLemmas.{in_left, at_end, before_end, different_end}
 use Rattle.earley.specs.Fronts.{Front}
 use Rattle.earley.specs.declared.later.Homed.{Homed}
 use Rattle.earley.specs.declared.later.Caller.{Caller}
 use Rattle.earley.specs.Chosen.{items_of, callers_of, Calls, ReadsSome, AreChosen, AreCallers, AreReaders}
 use Rattle.flatgrammar.specs.TableViews.{call_of}
 use Rattle.earley.specs.ItemSets.{Adds}
-use Rattle.earley.specs.ReadItems.{IsRead}
-use Rattle.earley.proofs.ExpandLemmas.{take_one, take_past, map_end, reads_both}
+use Rattle.earley.proofs.BlockLemmas.{different_left, different_apart}
+use Rattle.earley.proofs.ExpandLemmas.{map_end, take_one, take_past}
 use Rattle.earley.proofs.FillLemmas.{front_same}
 
 -- the readers of a set that is put behind the others
@@ -32,24 +32,16 @@ readers_push flat fronts front items readers same are k f size is = by (push_cas
     by (inr new) = subst (λ v. AreChosen (ReadsSome flat) v.items (items_of readers)) new.1
         (subst (λ v. AreChosen (ReadsSome flat) v (items_of readers)) (sym same) are)
 
--- one more is read
-pub reads_homed_more : (flat : code_flat.Tables) (c : ℕ) (ws : List Homed) (k : ℕ) (d : Homed) (old mid new : List Item)
-    → k < length ws → Adds (IsRead flat c (items_of (take k ws))) old mid →
-    Adds (IsRead flat c ((slice_index_or ws k d).item ∷ [])) mid new → Adds (IsRead flat c (items_of (take (k + 1) ws)))
-    old new
-reads_homed_more flat c ws k d old mid new lt p q =
-    subst (λ v. Adds (IsRead flat c v) old new) (sym (ap (λ v. items_of v) (take_one ws k d lt)
-    ∙ map_end (λ h. h.item) (take k ws) (slice_index_or ws k d)))
-    (reads_both flat c (items_of (take k ws)) ((slice_index_or ws k d).item ∷ []) old mid new p q)
-
 module _ (Q : Item → Type 0) where
   pub chosen_none : AreChosen Q [] []
-  chosen_none = record { stand = λ a h. h; chosen = λ a h q. h }
+  chosen_none = record { stand = λ a h. h; chosen = λ a h q. h; different = λ d. d }
 
   pub chosen_more : (all few : List Item) (b : Item) → AreChosen Q all few → AreChosen Q (all ++ b ∷ []) (few ++ b ∷ [])
   chosen_more all few b are = record {
     stand = λ a h. up a (before_end a b few h);
     chosen = λ a h q. down a q (before_end a b all h);
+    different = λ d. different_end b few (λ h. different_apart all (b ∷ []) d (are.stand b h) (now refl))
+        (are.different (different_left all (b ∷ []) d));
   }
     where
       up : (a : Item) → In a few ⊎ (a ≡ b) → In a (all ++ b ∷ [])
@@ -64,6 +56,7 @@ module _ (Q : Item → Type 0) where
   chosen_past all few b none are = record {
     stand = λ a h. in_left (b ∷ []) (are.stand a h);
     chosen = λ a h q. down a q (before_end a b all h);
+    different = λ d. are.different (different_left all (b ∷ []) d);
   }
     where
       down : (a : Item) → Q a → In a all ⊎ (a ≡ b) → In a few

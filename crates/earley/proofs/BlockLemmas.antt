@@ -170,8 +170,21 @@ module _ (flat : code_flat.Tables) (roots : GiveRoots (flat_of flat) flat.roots.
       nobody : (a : Item) → In a [] → Holds (flat_of flat) x (length sets) (at a.node a.step) a.origin
       nobody a g = elim g [ ]
 
-different_both : {A : Type 0} (xs ys : List A) → AreDifferent xs → AreDifferent ys → ((a : A) → In a xs → In a ys → ⊥)
-    → AreDifferent (xs ++ ys)
+pub different_left : {A : Type 0} (xs ys : List A) → AreDifferent (xs ++ ys) → AreDifferent xs
+different_left [] ys d = tt
+different_left (x ∷ xs) ys d = ((λ h. d.0 (in_left ys h)), different_left xs ys d.1)
+
+pub different_right : {A : Type 0} (xs ys : List A) → AreDifferent (xs ++ ys) → AreDifferent ys
+different_right [] ys d = d
+different_right (x ∷ xs) ys d = different_right xs ys d.1
+
+pub different_apart : {A : Type 0} {a : A} (xs ys : List A) → AreDifferent (xs ++ ys) → In a xs → In a ys → ⊥
+different_apart [] ys d h g = elim h [ ]
+different_apart (x ∷ xs) ys d (now same) g = d.0 (subst (λ v. In v (xs ++ ys)) same (in_right xs g))
+different_apart (x ∷ xs) ys d (on h) g = different_apart xs ys d.1 h g
+
+pub different_both : {A : Type 0} (xs ys : List A) → AreDifferent xs → AreDifferent ys
+    → ((a : A) → In a xs → In a ys → ⊥) → AreDifferent (xs ++ ys)
 different_both [] ys dx dy apart = dy
 different_both (x ∷ xs) ys dx dy apart =
     ((λ h. by (in_either xs h)), different_both xs ys dx.1 dy (λ a g h. apart a (on g) h))
@@ -186,13 +199,17 @@ spot_same j p q h =
     let s : p.step ≡ q.step = ap (λ v. v.step) h in
     ap (λ v. record { node = v; step = p.step }) n ∙ ap (λ v. record { node = q.node; step = v }) s
 
-different_map : (j : ℕ) (spots : List Spot) → AreDifferent spots → AreDifferent (map (item_at j) spots)
+pub different_map : (j : ℕ) (spots : List Spot) → AreDifferent spots → AreDifferent (map (item_at j) spots)
 different_map j [] d = tt
 different_map j (p ∷ spots) d = (
   (λ h. let m = from_map j (item_at j p) spots h in
       d.0 (subst (λ v. In v spots) (sym (spot_same j p m.spot m.is)) m.stands)),
   different_map j spots d.1,
 )
+
+pub different_spots : (j : ℕ) (spots : List Spot) → AreDifferent (map (item_at j) spots) → AreDifferent spots
+different_spots j [] d = tt
+different_spots j (p ∷ spots) d = ((λ h. d.0 (in_map j p spots h)), different_spots j spots d.1)
 
 module _ (flat : code_flat.Tables) (blocks : ℕ → Block) (j : ℕ) where
   pub expand_different : (heads : List ℕ) → AreBlocks flat blocks heads → AreDifferent heads

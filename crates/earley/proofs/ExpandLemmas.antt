@@ -9,18 +9,15 @@ use Rattle.flatgrammar.specs.declared.flat_item.Item.{Item}
 use Rattle.flatgrammar.specs.declared.tables.Tables as code_flat
 use Rattle.flatgrammar.specs.declared.block.Spot.{Spot}
 use Rattle.earley.specs.ItemSets.{Adds, IsResumed, IsCompleted, waiting_or, waiting_in}
-use Rattle.flatgrammar.specs.TableViews.{call_of, done_of, read_of, null_of, takes_of}
-use Rattle.flatgrammar.specs.NodeSteps.{IfSomeSet}
-use Rattle.earley.specs.ReadItems.{IsRead}
+use Rattle.flatgrammar.specs.TableViews.{call_of, done_of, null_of, takes_of}
 use Rattle.earley.specs.Fronts.{Front}
 use Rattle.earley.specs.FrontViews.{view, views, IsOn, IsAsked, expand}
 use Rattle.earley.proofs.ItemLemmas.{item_same}
 use Rattle.flatgrammar.proofs.CallOfLemmas.{some_same}
-use Rattle.flatgrammar.specs.Blocks.{item_at, Block, block_of, readers_of, AreSpotLists}
-use Rattle.flatgrammar.proofs.SpotListLemmas.{readers_pick}
+use Rattle.flatgrammar.specs.Blocks.{item_at, Block}
 use Rattle.earley.proofs.AddsLemmas.{adds_both, adds_as, adds_none}
 use Rattle.flatgrammar.proofs.InLemmas.{in_left, at_end, before_end}
-use Rattle.earley.proofs.BlockLemmas.{in_right, in_either, in_map, from_map}
+use Rattle.earley.proofs.BlockLemmas.{in_right, in_either}
 
 pub take_one : {A : Type 0} (xs : List A) (k : ℕ) (d : A) → k < length xs → take (k + 1) xs ≡ take k xs
     ++ slice_index_or xs k d ∷ []
@@ -81,30 +78,6 @@ module _ (flat : code_flat.Tables) (root : ℕ) where
           ⊎ IsResumed flat root vs a
       cases a r (inl h) = inl (resumed_from (ws ++ vs) ws a r h)
       cases a r (inr h) = inr (resumed_from (ws ++ vs) vs a r h)
-
-module _ (flat : code_flat.Tables) (c : ℕ) where
-  read_by : (ws vs : List Item) (a : Item) (r : IsRead flat c ws a) → In r.by vs → IsRead flat c vs a
-  read_by ws vs a r h =
-      record { by = r.by; stands = h; reads = r.reads; node = r.node; step = r.step; origin = r.origin }
-
-  pub reads_none : (old : List Item) → Adds (IsRead flat c []) old old
-  reads_none old = adds_none (IsRead flat c []) old (λ a r. nobody a r.by r.stands)
-    where
-      nobody : (a b : Item) → In b [] → In a old
-      nobody a b h = elim h [ ]
-
-  pub reads_both : (ws vs : List Item) (old mid new : List Item) → Adds (IsRead flat c ws) old mid
-      → Adds (IsRead flat c vs) mid new →
-      Adds (IsRead flat c (ws ++ vs)) old new
-  reads_both ws vs old mid new p q = adds_both (IsRead flat c ws) (IsRead flat c vs) (IsRead flat c (ws ++ vs)) old mid
-      new p q
-      (λ a r. cases a r (in_either ws r.stands)) (λ a r. read_by ws (ws ++ vs) a r (in_left vs r.stands))
-      (λ a r. read_by vs (ws ++ vs) a r (in_right ws r.stands))
-    where
-      cases : (a : Item) (r : IsRead flat c (ws ++ vs) a) → In r.by ws ⊎ In r.by vs → IsRead flat c ws a
-          ⊎ IsRead flat c vs a
-      cases a r (inl h) = inl (read_by (ws ++ vs) ws a r h)
-      cases a r (inr h) = inr (read_by (ws ++ vs) vs a r h)
 
 module _ (flat : code_flat.Tables) (root : ℕ) where
   pub resumed_one : (item : Item) (step : ℕ) (old new : List Item) → call_of flat item ≡ Some (root, step) →
@@ -170,102 +143,6 @@ module _ (flat : code_flat.Tables) (root : ℕ) where
       (resumed_both flat root (expand blocks j (take k hs)) (map (item_at j) (blocks (slice_index_or hs k d)).spots) old
       mid new p
       (subst (λ v. Adds (IsResumed flat root (map (item_at j) v)) mid new) is q))
-
-module _ (flat : code_flat.Tables) (c : ℕ) where
-  pub reads_one : (item : Item) (old new : List Item) → IfSomeSet (read_of flat item) c →
-      Adds (λ a. a ≡ record { node = item.node; step = item.step + 1; origin = item.origin }) old new
-      → Adds (IsRead flat c (item ∷ [])) old new
-  reads_one item old new reads p = adds_as (λ a. a
-      ≡ record { node = item.node; step = item.step + 1; origin = item.origin }) (IsRead flat c (item ∷ [])) old new
-      (λ a h. record {
-        by = item;
-        stands = now refl;
-        reads = reads;
-        node = ap (λ v. v.node) h;
-        step = ap (λ v. v.step) h;
-        origin = ap (λ v. v.origin) h;
-      })
-      (λ a r. back a r r.stands) p
-    where
-      back : (a : Item) (r : IsRead flat c (item ∷ []) a) → In r.by (item ∷ [])
-          → a ≡ record { node = item.node; step = item.step + 1; origin = item.origin }
-      back a r (now same) = item_same a item.node (item.step + 1) item.origin (r.node ∙ ap (λ v. v.node) same)
-          (r.step ∙ ap (λ v. v.step + 1) same) (r.origin ∙ ap (λ v. v.origin) same)
-      back a r (on h) = elim h [ ]
-
-  pub reads_not : (item : Item) (old : List Item) → (IfSomeSet (read_of flat item) c → ⊥)
-      → Adds (IsRead flat c (item ∷ [])) old old
-  reads_not item old never = adds_none (IsRead flat c (item ∷ [])) old (λ a r. nobody a r r.stands)
-    where
-      nobody : (a : Item) (r : IsRead flat c (item ∷ []) a) → In r.by (item ∷ []) → In a old
-      nobody a r (now same) = absurd (never (subst (λ v. IfSomeSet (read_of flat v) c) same r.reads))
-      nobody a r (on h) = elim h [ ]
-
-  pub reads_more : (ws : List Item) (k : ℕ) (d : Item) (old mid new : List Item) → k < length ws
-      → Adds (IsRead flat c (take k ws)) old mid →
-      Adds (IsRead flat c (slice_index_or ws k d ∷ [])) mid new → Adds (IsRead flat c (take (k + 1) ws)) old new
-  reads_more ws k d old mid new lt p q =
-      subst (λ v. Adds (IsRead flat c v) old new) (sym (take_one ws k d lt))
-      (reads_both flat c (take k ws) (slice_index_or ws k d ∷ []) old mid new p q)
-
-  pub reads_spots_more : (j : ℕ) (ws : List Spot) (k : ℕ) (d : Spot) (old mid new : List Item) → k < length ws
-      → Adds (IsRead flat c (map (item_at j) (take k ws))) old mid →
-      Adds (IsRead flat c (item_at j (slice_index_or ws k d) ∷ [])) mid new
-      → Adds (IsRead flat c (map (item_at j) (take (k + 1) ws))) old new
-  reads_spots_more j ws k d old mid new lt p q =
-      subst (λ v. Adds (IsRead flat c v) old new) (sym (ap (λ v. map (item_at j) v) (take_one ws k d lt)
-      ∙ map_end (item_at j) (take k ws) (slice_index_or ws k d)))
-      (reads_both flat c (map (item_at j) (take k ws)) (item_at j (slice_index_or ws k d) ∷ []) old mid new p q)
-
-  pub reads_heads_more : (blocks : ℕ → Block) (j : ℕ) (hs : List ℕ) (k d : ℕ) (spots : List Spot)
-      (old mid new : List Item) → k < length hs →
-      spots ≡ (blocks (slice_index_or hs k d)).spots → Adds (IsRead flat c (expand blocks j (take k hs))) old mid →
-      Adds (IsRead flat c (map (item_at j) spots)) mid new → Adds (IsRead flat c (expand blocks j (take (k + 1) hs)))
-      old new
-  reads_heads_more blocks j hs k d spots old mid new lt is p q =
-      subst (λ v. Adds (IsRead flat c v) old new) (sym (ap (λ v. expand blocks j v) (take_one hs k d lt)
-      ∙ expand_end blocks j (take k hs) (slice_index_or hs k d)))
-      (reads_both flat c (expand blocks j (take k hs)) (map (item_at j) (blocks (slice_index_or hs k d)).spots) old mid
-      new p
-      (subst (λ v. Adds (IsRead flat c (map (item_at j) v)) mid new) is q))
-
-module _ (flat : code_flat.Tables) (c : ℕ) (old new : List Item) where
-  -- places that do not read the letter may be left out
-  pub reads_fewer : (few all : List Item) → ((a : Item) → In a few → In a all)
-      → ((a : Item) → In a all → IfSomeSet (read_of flat a) c → In a few) →
-      Adds (IsRead flat c few) old new → Adds (IsRead flat c all) old new
-  reads_fewer few all stand reading = adds_as (IsRead flat c few) (IsRead flat c all) old new
-      (λ a r. record {
-        by = r.by;
-        stands = stand r.by r.stands;
-        reads = r.reads;
-        node = r.node;
-        step = r.step;
-        origin = r.origin;
-      })
-      (λ a r. record {
-        by = r.by;
-        stands = reading r.by r.stands r.reads;
-        reads = r.reads;
-        node = r.node;
-        step = r.step;
-        origin = r.origin;
-      })
-
-  -- of a block the places that are tried on the letter are enough
-  pub block_reads : (lists : AreSpotLists flat) (head j : ℕ)
-      → Adds (IsRead flat c (map (item_at j) (readers_of flat head c))) old new →
-      Adds (IsRead flat c (map (item_at j) (block_of flat head).spots)) old new
-  block_reads lists head j =
-      let picks = readers_pick flat head c lists in
-      reads_fewer (map (item_at j) (readers_of flat head c)) (map (item_at j) (block_of flat head).spots)
-      (λ a i. let m = from_map j a (readers_of flat head c) i in
-      subst (λ v. In v (map (item_at j) (block_of flat head).spots)) (sym m.is)
-      (in_map j m.spot (block_of flat head).spots (picks.0 m.spot m.stands)))
-      (λ a i r. let m = from_map j a (block_of flat head).spots i in
-      subst (λ v. In v (map (item_at j) (readers_of flat head c))) (sym m.is)
-      (in_map j m.spot (readers_of flat head c) (picks.1 m.spot m.stands
-      (subst (λ v. IfSomeSet (read_of flat v) c) m.is r))))
 
 pub get_views : (flat : code_flat.Tables) (j : ℕ) (fronts : List Front) (k : ℕ) (front : Front)
     → slice_get fronts k ≡ Some front → slice_get (views flat j fronts) k ≡ Some (view flat (j + k) front)

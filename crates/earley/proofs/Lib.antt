@@ -1,6 +1,7 @@
 pub mod AddsLemmas
 pub mod AloneLemmas
 pub mod AreChosenLemmas
+pub mod AreReadLemmas
 pub mod BlockLemmas
 pub mod ChartSetsLemmas
 pub mod ExpandLemmas

@@ -1,7 +1,7 @@
 -- Of the items of a set those that call, and those that may read a letter.
 use Rattle.std.specs.Prelude.{◌≡◌, ℕ, ◌+◌, List, length, map, Some, slice_get}
 use Rattle.flatgrammar.specs.NodeSteps.{IfSomeSet}
-use Rattle.flatgrammar.specs.Places.{In}
+use Rattle.flatgrammar.specs.Places.{In, AreDifferent}
 use Rattle.flatgrammar.specs.TableViews.{call_of, read_of}
 use Rattle.flatgrammar.specs.declared.flat_item.Item.{Item}
 use Rattle.flatgrammar.specs.declared.tables.Tables as code_flat
@@ -21,10 +21,11 @@ Calls flat a = (t : ℕ) × (l : ℕ) × (call_of flat a ≡ Some (t, l))
 abbrev pub ReadsSome : code_flat.Tables → Item → Type 0
 ReadsSome flat a = (c : ℕ) × IfSomeSet (read_of flat a) c
 
--- of all items a few, among them all of Q
+-- of all items a few, among them all of Q, each once where the items are different
 pub record AreChosen (Q : Item → Type 0) (all few : List Item) : Type 0 where
   pub stand : (a : Item) → In a few → In a all
   pub chosen : (a : Item) → In a all → Q a → In a few
+  pub different : AreDifferent all → AreDifferent few
 
 -- the items that call
 abbrev pub callers_of : List Caller → List Item

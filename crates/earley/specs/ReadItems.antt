@@ -1,9 +1,9 @@
 -- The set after a letter.
-use Rattle.std.specs.Prelude.{◌≡◌, ℕ, ◌+◌, List}
+use Rattle.std.specs.Prelude.{◌≡◌, ℕ, ◌+◌, List, ◌++◌}
 use Rattle.flatgrammar.specs.declared.flat_item.Item.{Item}
 use Rattle.flatgrammar.specs.declared.tables.Tables as code_flat
 use Rattle.flatgrammar.specs.NodeSteps.{IfSomeSet}
-use Rattle.flatgrammar.specs.Places.{In}
+use Rattle.flatgrammar.specs.Places.{In, AreDifferent}
 use Rattle.flatgrammar.specs.TableViews.{read_of}
 
 pub record IsRead (flat : code_flat.Tables) (c : ℕ) (from : List Item) (a : Item) : Type 0 where
@@ -13,3 +13,11 @@ pub record IsRead (flat : code_flat.Tables) (c : ℕ) (from : List Item) (a : It
   pub node : a.node ≡ by.node
   pub step : a.step ≡ by.step + 1
   pub origin : a.origin ≡ by.origin
+
+-- new is old, and behind it what the items have after the letter, each once where the items are different
+pub record AreRead (flat : code_flat.Tables) (c : ℕ) (from old new : List Item) : Type 0 where
+  pub added : List Item
+  pub is : new ≡ old ++ added
+  pub all : (a : Item) → IsRead flat c from a → In a added
+  pub only : (a : Item) → In a added → IsRead flat c from a
+  pub different : AreDifferent from → AreDifferent added

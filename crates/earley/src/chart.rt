@@ -13,7 +13,7 @@ ghost use Rattle.earley.specs.ItemSets.{Adds};
 ghost use Rattle.earley.specs.Waiting.{IsKept};
 ghost use Rattle.earley.specs.Chosen.{AreReaders};
 ghost use Rattle.earley.specs.FrontViews.{expand, full, view, views, IsWholeAt};
-ghost use Rattle.flatgrammar.specs.Places.{In, places};
+ghost use Rattle.flatgrammar.specs.Places.{In, AreDifferent, places};
 ghost use Rattle.flatgrammar.specs.Flat.{Place};
 ghost use Rattle.flatgrammar.specs.Holds.{Holds};
 ghost use Rattle.letters.specs.Letters.{has};
@@ -133,7 +133,7 @@ fn begin(flat: &Tables, number: usize, heads: &mut Heads) -> Result<(), Memory>
     Ok(())
 }
 
-// Adds what the last set has after its letter. Of its items those that read are given.
+// Adds what the last set has after its letter, where there are no items. Of its items those that read are given.
 fn follow<L: Letter>(
     flat: &Tables,
     line: &[L],
@@ -144,6 +144,8 @@ fn follow<L: Letter>(
     requires length { length sets.now ≤ length line.now }
     requires lists { AreSpotLists flat.now }
     requires readers { AreReaders flat.now sets.now readers.now }
+    requires different { (k : ℕ) (f : front) → slice_get sets.now k ≡ Some f → AreDifferent (view flat.now k f) }
+    requires empty { items.old ≡ [] }
     ensures { IfOk result (λ done. Adds (IsAfter flat.now (map L.number line.now) (views flat.now 0 sets.now)) items.old
         items.new) }
 {

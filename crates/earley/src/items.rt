@@ -3,7 +3,6 @@ ghost use Rattle.std.specs.Prelude.{◌≡◌, ◌↔◌, ◌<◌, ◌≤◌, �
 ghost use Rattle.flatgrammar.specs.Places.{In};
 ghost use Rattle.earley.specs.ItemSets.{Adds};
 ghost use Rattle.earley.specs.ItemRows.{row_of as the_row_of, IsLast, AreLinked};
-ghost use Rattle.earley.specs.declared.items.TheConstants.{FEW};
 
 use crate::item::{holds, same};
 use flatgrammar::Item;
@@ -11,7 +10,7 @@ use ruletable::Memory;
 use std::alloc::Global;
 use std::marker::Model;
 
-// So many items are looked through one by one. They have no rows.
+// So many items are looked through one by one.
 const FEW: usize = 16;
 
 // The rows of a first growth.
@@ -19,8 +18,8 @@ const FIRST: usize = 64;
 
 /// The items of a set beside its blocks, in the order in which they were added, seen as a list.
 ///
-/// Where there are more than a few, items of one row are linked, the last one first. The rows and links may hold
-/// anything where there is no item, so that emptying takes no time.
+/// Before an item is sought among more than a few, all are linked: those of one row with one another, the last one
+/// first. Else the rows and links may hold anything, so that emptying takes no time and an item is pushed without them.
 #[derive(Drop)]
 pub(crate) struct Items {
     list: Vec<Item>,
@@ -30,19 +29,20 @@ pub(crate) struct Items {
     rows: Vec<usize>,
     // of each item the index of the head that it belongs to in the set of its origin. It is not relied on
     homes: Vec<usize>,
+    // whether the links and rows are those of the items
+    linked: bool,
 }
 
 impl Model for Items {
-    ghost use Rattle.std.specs.Prelude.{List, length, ◌<◌};
+    ghost use Rattle.std.specs.Prelude.{List, length, IsTrue};
     ghost use Rattle.flatgrammar.specs.declared.flat_item.Item.{Item};
     ghost use Rattle.earley.specs.ItemRows.{row_of, AreLinked};
-    ghost use Rattle.earley.specs.declared.items.TheConstants.{FEW};
 
     ghost Value = { List Item };
 
     ghost view = { λ s. s.list.items };
 
-    ghost invariant = { λ s. FEW < length s.list.items
+    ghost invariant = { λ s. IsTrue s.linked
         → AreLinked (row_of (length s.rows.items)) s.list.items s.links.items s.rows.items };
 }
 
@@ -168,37 +168,84 @@ fn relink(list: &[Item], links: &mut [usize], rows: &mut [usize])
     }
 }
 
-// Doubles the rows. `Memory` if an allocation fails.
-fn widen(list: &[Item], links: &mut [usize], rows: &mut Vec<usize>) -> Result<(), Memory>
-    requires linked { AreLinked (the_row_of (length rows.old.items)) list.now links.old rows.old.items }
-    requires some { 0 < length rows.old.items }
-    ensures linked { AreLinked (the_row_of (length rows.new.items)) list.now links.new rows.new.items }
-    ensures some { 0 < length rows.new.items }
-{
-    let count = rows.len().saturating_mul(2);
-    rows.resize(count, 0)?;
-    relink(list, links, rows);
-    Ok(())
-}
-
-// Links the items if they are few, and sees to it that there are twice as many rows as items.
+// Links all items anew. There are more rows if they were few. `Memory` if an allocation fails.
 fn prepare(list: &[Item], links: &mut Vec<usize>, rows: &mut Vec<usize>) -> Result<(), Memory>
-    requires { FEW < length list.now
-        → AreLinked (the_row_of (length rows.old.items)) list.now links.old.items rows.old.items }
-    ensures still { FEW < length list.now
-        → AreLinked (the_row_of (length rows.new.items)) list.now links.new.items rows.new.items }
     ensures linked { IfOk result
         (λ done. AreLinked (the_row_of (length rows.new.items)) list.now links.new.items rows.new.items) }
     ensures some { IfOk result (λ done. 0 < length rows.new.items) }
 {
-    if list.len() <= FEW {
+    if links.len() < list.len() {
         links.resize(list.len(), 0)?;
-        if rows.is_empty() {
-            rows.resize(FIRST, 0)?;
-        }
-        relink(list, links, rows);
+    }
+    if rows.is_empty() {
+        rows.resize(FIRST, 0)?;
     } else if list.len() >= rows.len() / 2 {
-        widen(list, links, rows)?;
+        let count = rows.len().saturating_mul(2);
+        rows.resize(count, 0)?;
+    }
+    relink(list, links, rows);
+    Ok(())
+}
+
+// Adds an item unless it is there, and links all.
+#[inline(always)]
+fn link(
+    list: &mut Vec<Item>,
+    links: &mut Vec<usize>,
+    rows: &mut Vec<usize>,
+    linked: &mut bool,
+    item: Item,
+) -> Result<(), Memory>
+    requires { IsTrue linked.old
+        → AreLinked (the_row_of (length rows.old.items)) list.old.items links.old.items rows.old.items }
+    ensures linked { IsTrue linked.new
+        → AreLinked (the_row_of (length rows.new.items)) list.new.items links.new.items rows.new.items }
+    ensures added { IfOk result (λ done. Adds (λ a. a ≡ item) list.old.items list.new.items) }
+{
+    if *linked && list.len() < rows.len() / 2 {
+        return insert(list, links, rows, item);
+    }
+    *linked = false;
+    prepare(list, links, rows)?;
+    *linked = true;
+    insert(list, links, rows, item)
+}
+
+// Adds an item unless it is there.
+#[inline(always)]
+fn put(
+    list: &mut Vec<Item>,
+    links: &mut Vec<usize>,
+    rows: &mut Vec<usize>,
+    linked: &mut bool,
+    item: Item,
+) -> Result<(), Memory>
+    requires { IsTrue linked.old
+        → AreLinked (the_row_of (length rows.old.items)) list.old.items links.old.items rows.old.items }
+    ensures linked { IsTrue linked.new
+        → AreLinked (the_row_of (length rows.new.items)) list.new.items links.new.items rows.new.items }
+    ensures added { IfOk result (λ done. Adds (λ a. a ≡ item) list.old.items list.new.items) }
+{
+    if list.len() > FEW {
+        return link(list, links, rows, linked, item);
+    }
+    if holds(list, item) {
+        return Ok(());
+    }
+    if list.len() == FEW {
+        return link(list, links, rows, linked, item);
+    }
+    *linked = false;
+    list.push(item)?;
+    Ok(())
+}
+
+// Sets the home of an index.
+fn set_home(homes: &mut Vec<usize>, index: usize, home: usize) -> Result<(), Memory> {
+    if index < homes.len() {
+        homes[index] = home;
+    } else {
+        homes.push(home)?;
     }
     Ok(())
 }
@@ -218,64 +265,6 @@ fn is_near(list: &[Item], rows: &[usize], item: Item) -> bool
     same(list[last - 1], item)
 }
 
-// Adds an item unless it is there, and links all.
-#[inline(always)]
-fn link(
-    list: &mut Vec<Item>,
-    links: &mut Vec<usize>,
-    rows: &mut Vec<usize>,
-    item: Item,
-) -> Result<(), Memory>
-    requires { FEW < length list.old.items
-        → AreLinked (the_row_of (length rows.old.items)) list.old.items links.old.items rows.old.items }
-    ensures linked { FEW < length list.new.items
-        → AreLinked (the_row_of (length rows.new.items)) list.new.items links.new.items rows.new.items }
-    ensures added { IfOk result (λ done. Adds (λ a. a ≡ item) list.old.items list.new.items) }
-{
-    if list.len() > FEW && list.len() < rows.len() / 2 {
-        return insert(list, links, rows, item);
-    }
-    prepare(list, links, rows)?;
-    insert(list, links, rows, item)
-}
-
-// Adds an item unless it is there.
-#[inline(always)]
-fn put(
-    list: &mut Vec<Item>,
-    links: &mut Vec<usize>,
-    rows: &mut Vec<usize>,
-    item: Item,
-) -> Result<(), Memory>
-    requires { FEW < length list.old.items
-        → AreLinked (the_row_of (length rows.old.items)) list.old.items links.old.items rows.old.items }
-    ensures linked { FEW < length list.new.items
-        → AreLinked (the_row_of (length rows.new.items)) list.new.items links.new.items rows.new.items }
-    ensures added { IfOk result (λ done. Adds (λ a. a ≡ item) list.old.items list.new.items) }
-{
-    if list.len() > FEW {
-        return link(list, links, rows, item);
-    }
-    if holds(list, item) {
-        return Ok(());
-    }
-    if list.len() == FEW {
-        return link(list, links, rows, item);
-    }
-    list.push(item)?;
-    Ok(())
-}
-
-// Sets the home of an index.
-fn set_home(homes: &mut Vec<usize>, index: usize, home: usize) -> Result<(), Memory> {
-    if index < homes.len() {
-        homes[index] = home;
-    } else {
-        homes.push(home)?;
-    }
-    Ok(())
-}
-
 impl Items {
     /// Returns no items. It takes no memory.
     pub(crate) fn new(alloc: Global) -> Items
@@ -286,6 +275,7 @@ impl Items {
             links: Vec::new(alloc),
             rows: Vec::new(alloc),
             homes: Vec::new(alloc),
+            linked: false,
         }
     }
 
@@ -330,24 +320,34 @@ impl Items {
         self.look(item, home)
     }
 
-    /// Adds an item unless it is there, which is seldom. `Memory` if an allocation fails.
-    #[inline(never)]
-    pub(crate) fn add_new(&mut self, item: Item, home: usize) -> Result<(), Memory>
-        ensures { IfOk result (λ done. Adds (λ a. a ≡ item) self.old self.new) }
-    {
-        self.look(item, home)
-    }
-
     // Adds an item unless it is there.
     #[inline(always)]
     fn look(&mut self, item: Item, home: usize) -> Result<(), Memory>
         ensures { IfOk result (λ done. Adds (λ a. a ≡ item) self.old self.new) }
     {
         let index = self.list.len();
-        put(&mut self.list, &mut self.links, &mut self.rows, item)?;
+        put(
+            &mut self.list,
+            &mut self.links,
+            &mut self.rows,
+            &mut self.linked,
+            item,
+        )?;
         if index < self.list.len() {
             set_home(&mut self.homes, index, home)?;
         }
+        Ok(())
+    }
+
+    /// Adds an item behind the others, and looks for none. `Memory` if an allocation fails.
+    #[inline(always)]
+    pub(crate) fn push(&mut self, item: Item, home: usize) -> Result<(), Memory>
+        ensures { IfOk result (λ done. self.new ≡ self.old ++ item ∷ []) }
+    {
+        let index = self.list.len();
+        self.linked = false;
+        self.list.push(item)?;
+        set_home(&mut self.homes, index, home)?;
         Ok(())
     }
 
@@ -355,6 +355,7 @@ impl Items {
     pub(crate) fn clear(&mut self)
         ensures { self.new ≡ [] }
     {
+        self.linked = false;
         self.list.clear();
     }
 }

@@ -2,8 +2,9 @@
 ghost use Rattle.std.specs.Prelude.{◌≡◌, ◌↔◌, ◌+◌, ◌^◌, ◌<◌, ◌≤◌, ℕ, true, IsTrue, IfOk, length, map, slice_get, []};
 ghost use Rattle.std.specs.Prelude.{◌∷◌};
 ghost use Rattle.flatgrammar.specs.NodeSteps.{IfSomeSet};
+ghost use Rattle.flatgrammar.specs.Places.{AreDifferent};
 ghost use Rattle.earley.specs.ItemSets.{Adds};
-ghost use Rattle.earley.specs.ReadItems.{IsRead};
+ghost use Rattle.earley.specs.ReadItems.{IsRead, AreRead};
 ghost use Rattle.earley.specs.Chosen.{items_of, ReadsSome, AreChosen};
 ghost use Rattle.flatgrammar.specs.TableViews.{read_of};
 ghost use Rattle.flatgrammar.specs.Blocks.{block_of, item_at, AreSpotLists};
@@ -16,7 +17,7 @@ use flatgrammar::{Item, Spot, Tables, readers, reads};
 use letters::Letter;
 use ruletable::Memory;
 
-/// Adds what an item reads.
+/// Pushes what an item reads.
 fn read_one(
     flat: &Tables,
     value: u32,
@@ -24,10 +25,10 @@ fn read_one(
     home: usize,
     set: &mut Items,
 ) -> Result<(), Memory>
-    ensures { IfOk result (λ done. Adds (IsRead flat.now value (item ∷ [])) set.old set.new) }
+    ensures { IfOk result (λ done. AreRead flat.now value (item ∷ []) set.old set.new) }
 {
     if reads(flat, item, value) {
-        set.add_new(
+        set.push(
             Item {
                 node: item.node,
                 step: item.step + 1,
@@ -39,9 +40,9 @@ fn read_one(
     Ok(())
 }
 
-/// Adds what items read.
+/// Pushes what items read.
 fn read_items(flat: &Tables, value: u32, from: &[Homed], set: &mut Items) -> Result<(), Memory>
-    ensures { IfOk result (λ done. Adds (IsRead flat.now value (items_of from.now)) set.old set.new) }
+    ensures { IfOk result (λ done. AreRead flat.now value (items_of from.now) set.old set.new) }
 {
     for at in from {
         read_one(flat, value, at.item, at.home, set)?;
@@ -49,7 +50,7 @@ fn read_items(flat: &Tables, value: u32, from: &[Homed], set: &mut Items) -> Res
     Ok(())
 }
 
-/// Adds what the spots of a block read.
+/// Pushes what the spots of a block read.
 fn read_spots(
     flat: &Tables,
     value: u32,
@@ -58,7 +59,7 @@ fn read_spots(
     home: usize,
     set: &mut Items,
 ) -> Result<(), Memory>
-    ensures { IfOk result (λ done. Adds (IsRead flat.now value (map (item_at origin) from.now)) set.old set.new) }
+    ensures { IfOk result (λ done. AreRead flat.now value (map (item_at origin) from.now) set.old set.new) }
 {
     for spot in from {
         read_one(
@@ -76,7 +77,7 @@ fn read_spots(
     Ok(())
 }
 
-/// Adds what the blocks of heads read.
+/// Pushes what the blocks of heads read.
 fn read_heads(
     flat: &Tables,
     value: u32,
@@ -85,7 +86,7 @@ fn read_heads(
     set: &mut Items,
 ) -> Result<(), Memory>
     requires { AreSpotLists flat.now }
-    ensures { IfOk result (λ done. Adds (IsRead flat.now value (expand (block_of flat.now) origin heads.now)) set.old
+    ensures { IfOk result (λ done. AreRead flat.now value (expand (block_of flat.now) origin heads.now) set.old
         set.new) }
 {
     let mut home = 0usize;
@@ -96,7 +97,7 @@ fn read_heads(
     Ok(())
 }
 
-/// Adds the items that a set has after a letter. Of its items those that read are given.
+/// Adds the items that a set has after a letter, where there are none. Of its items those that read are given.
 pub(crate) fn read<L: Letter>(
     flat: &Tables,
     letter: L,
@@ -107,6 +108,8 @@ pub(crate) fn read<L: Letter>(
 ) -> Result<(), Memory>
     requires lists { AreSpotLists flat.now }
     requires readers { AreChosen (ReadsSome flat.now) from.now.items (items_of readers.now) }
+    requires different { AreDifferent (view flat.now origin from.now) }
+    requires empty { set.old ≡ [] }
     ensures { IfOk result (λ done. Adds (IsRead flat.now (L.number letter) (view flat.now origin from.now)) set.old
         set.new) }
 {

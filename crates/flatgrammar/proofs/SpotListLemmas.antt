@@ -3,8 +3,8 @@
 use Rattle.std.proofs.Common.{◌≡◌, ℕ, zero, suc, ◌+◌, ◌++◌, ◌<◌, ◌≤◌, ◌⊎◌, inl, inr, Option, Some, None, List, [], ◌∷◌}
 use Rattle.std.proofs.Common.{length, take, slice_get, slice_index_or, Vec, Global, refl, sym, ◌∙◌, ap, subst, arith}
 use Rattle.std.proofs.lemmas.Bool.{cases_lt}
-use Rattle.std.proofs.lemmas.List.{map-append}
-use Rattle.flatgrammar.specs.Places.{In, now, on}
+use Rattle.std.proofs.lemmas.List.{map-append, take_all}
+use Rattle.flatgrammar.specs.Places.{In, now, on, AreDifferent}
 use Rattle.flatgrammar.specs.declared.block.Spot.{Spot}
 use Rattle.flatgrammar.specs.declared.spot_list.Ask.{Ask}
 use Rattle.flatgrammar.specs.declared.spot_list.SpotList.{SpotList}
@@ -14,7 +14,7 @@ use Rattle.flatgrammar.specs.Blocks.{call_at, spots_of, AreAsks}
 use Rattle.flatgrammar.specs.Blocks.{Reads, Picks, AreByLetter, lists_in, IsSpotList}
 use Rattle.flatgrammar.proofs.CallOfLemmas.{past_get}
 use Rattle.flatgrammar.proofs.FlatCutLemmas.{push_cases}
-use Rattle.flatgrammar.proofs.InLemmas.{in_left, at_end, before_end, among_more, in_front, from_front}
+use Rattle.flatgrammar.proofs.InLemmas.{in_left, at_end, before_end, among_more, in_front, from_front, different_end}
 
 taken_more : {a : Spot} (k : ℕ) (xs : List Spot) (d : Spot) → k < length xs → In a (take (k + 1) xs) → In a (take k xs)
     ⊎ (a ≡ slice_index_or xs k d)
@@ -41,6 +41,31 @@ last_in k xs d lt = let one : suc k ≡ k + 1 = omega arith in subst (λ v. In (
     by (suc k) [] lt = absurd (omega (arith, lt))
     by (suc k) (x ∷ xs) lt = on (by k xs (let less : k < length xs = omega (arith, lt) in less))
 
+-- the last one of different spots stands once, and those before it are different
+front_differs : (k : ℕ) (xs : List Spot) (d : Spot) → k < length xs → AreDifferent (take (k + 1) xs)
+    → AreDifferent (take k xs) × (In (slice_index_or xs k d) (take k xs) → ⊥)
+front_differs k xs d lt h = let one : k + 1 ≡ suc k = omega arith in by k xs lt
+    (subst (λ v. AreDifferent (take v xs)) one h)
+  where
+    next : {a : Spot} (k : ℕ) (xs : List Spot) → In a (take (k + 1) xs) → In a (take (suc k) xs)
+    next {a = a} k xs i = let one : k + 1 ≡ suc k = omega arith in subst (λ v. In a (take v xs)) one i
+
+    apart : (k : ℕ) (x : Spot) (xs : List Spot) → k < length xs → (In x (take (suc k) xs) → ⊥)
+        → (In (slice_index_or xs k d) (take k xs) → ⊥) → In (slice_index_or xs k d) (x ∷ take k xs) → ⊥
+    apart k x xs lt once rest (now same) = once (subst (λ v. In v (take (suc k) xs)) same
+        (next k xs (last_in k xs d lt)))
+    apart k x xs lt once rest (on i) = rest i
+
+    by : (k : ℕ) (xs : List Spot) → k < length xs → AreDifferent (take (suc k) xs)
+        → AreDifferent (take k xs) × (In (slice_index_or xs k d) (take k xs) → ⊥)
+    by zero [] lt h = absurd (omega (arith, lt))
+    by (suc k) [] lt h = absurd (omega (arith, lt))
+    by zero (x ∷ xs) lt h = (tt, (λ i. elim i [ ]))
+    by (suc k) (x ∷ xs) lt h =
+        let less : k < length xs = omega (arith, lt) in
+        let rest = by k xs less h.1 in
+        (((λ i. h.0 (next k xs (take_one_longer x k xs i))), rest.0), apart k x xs less h.0 rest.1)
+
 -- one more spot, taken or left
 pub pick_one : (Q : Spot → Type 0) (spots list new : List Spot) (k : ℕ) (d : Spot) → k < length spots → new ≡ list
     ++ slice_index_or spots k d ∷ [] →
@@ -48,6 +73,9 @@ pub pick_one : (Q : Spot → Type 0) (spots list new : List Spot) (k : ℕ) (d :
 pick_one Q spots list new k d lt pushed picks = (
   (λ q h. from q (before_end q (slice_index_or spots k d) list (subst (λ v. In q v) pushed h))),
   (λ q h is_q. subst (λ v. In q v) (sym pushed) (to q (taken_more k spots d lt h) is_q)),
+  (λ h. let apart = front_differs k spots d lt h in
+      subst (λ v. AreDifferent v) (sym pushed) (different_end (slice_index_or spots k d) list
+      (λ i. apart.1 (picks.0 (slice_index_or spots k d) i)) (picks.2 apart.0))),
 )
   where
     from : (q : Spot) → In q list ⊎ (q ≡ slice_index_or spots k d) → In q (take (k + 1) spots)
@@ -64,8 +92,11 @@ pub leave_one : (Q : Spot → Type 0) (spots list new : List Spot) (k : ℕ) (d 
     → (Q (slice_index_or spots k d) → ⊥) →
     Picks Q (take k spots) list → Picks Q (take (k + 1) spots) new
 leave_one Q spots list new k d lt is never picks =
-    subst (λ v. Picks Q (take (k + 1) spots) v) (sym is)
-    ((λ q h. take_one_longer q k spots (picks.0 q h)), (λ q h is_q. to q (taken_more k spots d lt h) is_q))
+    subst (λ v. Picks Q (take (k + 1) spots) v) (sym is) (
+      (λ q h. take_one_longer q k spots (picks.0 q h)),
+      (λ q h is_q. to q (taken_more k spots d lt h) is_q),
+      (λ h. picks.2 (front_differs k spots d lt h).0),
+    )
   where
     to : (q : Spot) → In q (take k spots) ⊎ (q ≡ slice_index_or spots k d) → Q q → In q list
     to q (inl h) is_q = picks.1 q h is_q
@@ -92,6 +123,7 @@ pub picked_all : (Q : Spot → Type 0) (spots list : List Spot) (k : ℕ) → le
 picked_all Q spots list k le picks = (
   (λ p h. from_front p spots k (picks.0 p h)),
   (λ p h is_q. picks.1 p (in_front p spots k le h) is_q),
+  (λ d. picks.2 (subst (λ v. AreDifferent v) (sym (take_all k spots le)) d)),
 )
 
 pub letter_more : (flat : code_flat.Tables) (spots : List Spot) (lists : List (Vec Spot Global))
@@ -141,8 +173,12 @@ lists_all flat lists n count all are h = by (cases_lt h n)
         let none : slice_get lists h ≡ None = past_get lists h (omega (arith, le, count)) in
         let empty : slice_get flat.blocks.items h ≡ None = past_get flat.blocks.items h (omega (arith, le, all)) in
         subst (λ v. IsSpotList flat (block_in v).spots (lists_in (slice_get lists h))) (sym empty)
-        (subst (λ v. IsSpotList flat [] (lists_in v)) (sym none)
-        (((λ p i. i), (λ p i q. i)), ((λ p i. i), (λ p i q. i)), (λ c list is. absurd cc), (λ a i. elim i [ ])))
+        (subst (λ v. IsSpotList flat [] (lists_in v)) (sym none) (
+          ((λ p i. i), (λ p i q. i), (λ d. d)),
+          ((λ p i. i), (λ p i q. i), (λ d. d)),
+          (λ c list is. absurd cc),
+          (λ a i. elim i [ ]),
+        ))
 
 -- the spots that are tried on a letter are all that read it
 pub readers_pick : (flat : code_flat.Tables) (h c : ℕ) → AreSpotLists flat
@@ -151,5 +187,5 @@ readers_pick flat h c are = by (slice_get (lists_of flat h).by_letter c) refl
   where
     by : (o : Option (Vec Spot Global)) → slice_get (lists_of flat h).by_letter c ≡ o
         → Picks (Reads flat c) (block_of flat h).spots (list_or o (lists_of flat h).readers)
-    by None is = ((λ p i. (are h).1.0 p i), (λ p i q. (are h).1.1 p i (c, q)))
+    by None is = ((λ p i. (are h).1.0 p i), (λ p i q. (are h).1.1 p i (c, q)), (λ d. (are h).1.2 d))
     by (Some list) is = (are h).2 c list is

@@ -117,9 +117,10 @@ Reads flat c p = IfSomeSet (read_of flat (item_at 0 p)) c
 abbrev pub ReadsAny : code_flat.Tables → Spot → Type 0
 ReadsAny flat p = (c : ℕ) × Reads flat c p
 
--- a list has spots alone, and all of Q
+-- a list has spots alone, and all of Q, each once where the spots are different
 abbrev pub Picks : (Spot → Type 0) → List Spot → List Spot → Type 0
 Picks Q spots list = ((p : Spot) → In p list → In p spots) × ((p : Spot) → In p spots → Q p → In p list)
+    × (AreDifferent spots → AreDifferent list)
 
 -- lists by letter
 abbrev pub AreByLetter : code_flat.Tables → List Spot → List (Vec Spot Global) → Type 0

@@ -134,7 +134,7 @@ fn list_of(alloc: Global, flat: &Tables, from: &[Spot]) -> Result<SpotList, Memo
     let asks = asks_of(alloc, flat, from)?;
     let readers = readers_of(alloc, flat, from)?;
     let by_letter = if readers.len() > FEW {
-        by_letter(alloc, flat, from)?
+        by_letter(alloc, flat, &readers)?
     } else {
         Vec::new(alloc)
     };

@@ -1,5 +1,6 @@
 use Rattle.std.proofs.Common.{◌≡◌, ◌∙◌, ℕ, Some, slice_get, ◌+◌, ◌≤◌, ◌++◌, ◌∷◌, [], length, map, subst, sym, arith}
 use Rattle.std.proofs.Common.{length-append}
+use Rattle.flatgrammar.specs.Places.{AreDifferent}
 use Rattle.earley.specs.Fronts.{Front}
 use Rattle.earley.specs.Charts.{IsBuilt}
 use Rattle.earley.specs.Chosen.{AreReaders}
@@ -8,6 +9,7 @@ use Rattle.earley.specs.Charts.{IsAfter}
 use Rattle.earley.specs.FrontViews.{view, views, IsWholeAt}
 use Rattle.earley.specs.Waiting.{AreWaitingAll}
 use Rattle.earley.proofs.AreChosenLemmas.{readers_push}
+use Rattle.earley.proofs.ExpandLemmas.{get_views}
 use Rattle.earley.proofs.WaitAllLemmas.{waiting_push}
 use Rattle.earley.proofs.IsBuiltLemmas.{built_exact}
 use Rattle.earley.proofs.ViewsLemmas.{going_from, built_by}
@@ -64,6 +66,12 @@ loop-sets-preserved g c =
 pub returns-clause-exact : goal.returns-clause-exact
 returns-clause-exact g c = built_exact c.args.flat.now c.requires.roots (map g.L.Letter.number c.args.line.now)
     (views c.args.flat.now 0 c.loop-sets.sets) c.loop-sets.invariant.built
+
+pub follow-requires-clause-different : goal.follow-requires-clause-different
+follow-requires-clause-different g c k f is =
+    let zero : 0 + k ≡ k = omega arith in
+    subst (λ v. AreDifferent (view c.args.flat.now v f)) zero (c.loop-sets.invariant.built.different k
+    (view c.args.flat.now (0 + k) f) (get_views c.args.flat.now 0 c.loop-sets.sets k f is))
 
 pub follow-requires-clause-readers : goal.follow-requires-clause-readers
 follow-requires-clause-readers g c = subst (λ v. AreReaders c.args.flat.now c.loop-sets.sets v)

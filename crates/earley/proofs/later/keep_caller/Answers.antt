@@ -1,4 +1,4 @@
-use Rattle.std.proofs.Common.{◌≡◌, Some, ◌++◌, ◌∷◌, [], ap, sym, ◌∙◌, subst}
+use Rattle.std.proofs.Common.{sym, ◌∙◌}
 use Rattle.earley.specs.Chosen.{callers_of, Calls}
 use Rattle.earley.proofs.AreChosenLemmas.{callers_more, chosen_past}
 use Rattle.earley.proofs.later.keep_caller.Goals as goal

@@ -1,4 +1,4 @@
-use Rattle.std.proofs.Common.{◌∙◌, ◌++◌, ap, subst, take, slice_index_or, arith}
+use Rattle.std.proofs.Common.{◌∙◌, ◌++◌, ap, subst, take, arith}
 use Rattle.earley.specs.Chosen.{callers_of}
 use Rattle.earley.specs.Waiting.{AreWaiting}
 use Rattle.flatgrammar.proofs.InLemmas.{at_index_in}

@@ -1,4 +1,4 @@
-use Rattle.std.proofs.Common.{◌∙◌, ◌++◌, ap, subst, map, take, slice_index_or, arith}
+use Rattle.std.proofs.Common.{◌∙◌, ◌++◌, ap, subst, map, take, arith}
 use Rattle.earley.specs.Waiting.{asked_at, AreWaiting}
 use Rattle.earley.proofs.ExpandLemmas.{take_one, take_past, map_end}
 use Rattle.flatgrammar.proofs.InLemmas.{at_index_in}
