@@ -48,7 +48,8 @@ loop-item_index-preserved-then-item_index-len g c =
           (take c.loop-item_index.item_index c.loop-item_index.items) c.loop-item_index.invariant.callers in record {
             chosen = chosen_next (Calls c.args.flat.now) c.loop-item_index.items c.work.new.items
                 (callers_of c.work.new.later.callers.items) c.loop-item_index.item_index further c.at-item.result below
-                (subst (λ v. AreChosen (Calls c.args.flat.now) (take c.loop-item_index.item_index c.loop-item_index.items
+                (subst (λ v. AreChosen (Calls c.args.flat.now)
+                (take c.loop-item_index.item_index c.loop-item_index.items
                 ++ v ∷ []) (callers_of c.work.new.later.callers.items)) item_is called.chosen);
             tell = called.tell;
           });

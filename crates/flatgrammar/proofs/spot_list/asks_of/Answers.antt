@@ -14,8 +14,8 @@ loop-spot-preserved c = elim c.match-ask_of.branch [
         (sym w.in-Some.ensures.spot) w.in-Some.ensures.call) pushed;
   }
   | in_default w ↦ record {
-    picks = leave_one (Asks c.args.flat.now) c.args.from.now (spots_of c.loop-spot.list.items) _ c.loop-spot.spot-index _
-        c.loop-spot-test.true (ap (λ v. spots_of v.items) w.list-is) w.in_default.ensures.none
+    picks = leave_one (Asks c.args.flat.now) c.args.from.now (spots_of c.loop-spot.list.items) _
+        c.loop-spot.spot-index _ c.loop-spot-test.true (ap (λ v. spots_of v.items) w.list-is) w.in_default.ensures.none
         c.loop-spot.invariant.picks;
     tell = subst (λ v. AreAsks c.args.flat.now v.items) (sym w.list-is) c.loop-spot.invariant.tell;
   }
