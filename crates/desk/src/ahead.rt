@@ -198,8 +198,19 @@ fn held_or_short_apart(cells: &Cells, node: usize, place: usize) -> Seen
     flat(held_or_short(cells, node, place))
 }
 
-// The cell of a node at a place; one without operands gets its cell where it has none. The last cell is tried first: it
-// is that of the node which was asked for last.
+// The cell of a node at a place, if it has one. The last cell is tried first: it is that of the node which was asked for
+// last.
+#[inline(always)]
+fn held(cells: &Cells, node: usize, place: usize) -> Option<Found>
+    ensures { result ≡ found_at cells.now node place }
+{
+    match cells.last(node, place) {
+        Some(found) => Some(found),
+        None => cells.get(node, place),
+    }
+}
+
+// The cell of a node at a place; one without operands gets its cell where it has none.
 #[inline(always)]
 fn see(
     peg: &SoundPeg,
@@ -218,9 +229,6 @@ fn see(
     ensures { IsSeen (rules_of peg.now.rules) peg.now.start (shapes_of peg.now.nodes) peg.now.bodies window.now more
         cells.old cells.new node place result }
 {
-    if let Some(found) = cells.last(node, place) {
-        return Ok(Some(found));
-    }
     match sight_of(peg, window, more, node, place) {
         Sight::Known(Turn::Answer(found)) => match cells.get_or_put(node, place, found) {
             Ok(known) => Ok(Some(known)),
@@ -228,10 +236,7 @@ fn see(
         },
         Sight::Known(Turn::Need) => unfold(held_or_short_apart(cells, node, place)),
         Sight::Literal => unfold(see_literal_apart(peg, window, more, cells, node, place)),
-        _ => match cells.get(node, place) {
-            Some(found) => Ok(Some(found)),
-            None => Ok(None),
-        },
+        _ => Ok(held(cells, node, place)),
     }
 }
 
