@@ -198,7 +198,7 @@ fn held_or_short_apart(cells: &Cells, node: usize, place: usize) -> Seen
     flat(held_or_short(cells, node, place))
 }
 
-// The cell of a node at a place, if it has one. The last cell is tried first: it is that of the node which was asked for
+// The cell of a node at a place, if it has one. The last cell is tried first: it is that of the node that was asked for
 // last.
 #[inline(always)]
 fn held(cells: &Cells, node: usize, place: usize) -> Option<Found>
