@@ -1,9 +1,15 @@
 pub mod AreBodiesLemmas
+pub mod AreCutsLemmas
 pub mod AreNotesLemmas
 pub mod BodyOfLemmas
 pub mod ComesBackLemmas
+pub mod CutFrontLemmas
+pub mod FilledBlanksLemmas
+pub mod FilledRunLemmas
+pub mod FilledSlotsLemmas
 pub mod HasShapeLemmas
 pub mod IsAnalysedLemmas
+pub mod IsCutLemmas
 pub mod IsLeftLemmas
 pub mod JudgeLemmas
 pub mod LeftStepLemmas
@@ -20,6 +26,7 @@ pub mod OwnIdLemmas
 pub mod PatternOfLemmas
 pub mod PrintMarksLemmas
 pub mod PushCasesLemmas
+pub mod PutInLemmas
 pub mod RiseLemmas
 pub mod RuleNameLemmas
 pub mod ShorterInputLemmas

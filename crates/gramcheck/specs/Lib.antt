@@ -14,6 +14,8 @@ pub mod Outcome
 pub mod Printing
 pub mod Ranks
 pub mod Rising
+pub mod Slots
 pub mod Sound
+pub mod Templates
 pub mod Uses
 pub mod Within

@@ -16,6 +16,7 @@ use crate::cut::{Cut, cut_grammar};
 use crate::notes::{notes, refused};
 use crate::printing::print_marks;
 use crate::sound::SoundPeg;
+use crate::template::cut_templates;
 use pegread::{Expr, Peg};
 use ruletable::{Memory, NameCase, Note, RuleTable};
 use std::alloc::Global;
@@ -56,7 +57,8 @@ pub fn check_peg(alloc: Global, peg: Peg, start: Option<&str>) -> Result<Checked
     let first = start_id(&rules, start)?;
     let cut = judged.cut;
     let printing = print_marks(alloc, &cut.nodes, &cut.bodies)?;
-    let sound = SoundPeg::new(rules, first, cut, judged.ranks, printing);
+    let templates = cut_templates(alloc, &cut.nodes)?;
+    let sound = SoundPeg::new(rules, first, cut, judged.ranks, printing, templates);
     Ok(Checked {
         notes,
         sound: Some(sound),

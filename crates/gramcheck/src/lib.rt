@@ -14,6 +14,7 @@ mod number;
 mod printing;
 mod ranked_laws;
 mod sound;
+mod template;
 mod uses;
 
 pub use check::{Checked, check_peg};
@@ -28,3 +29,4 @@ pub use ranked_laws::{
     exactly_one_outcome, exactly_one_outcome_of_start, ranks_fall, some_outcome_of_ranked,
 };
 pub use sound::SoundPeg;
+pub use template::{Put, Slot, Template};

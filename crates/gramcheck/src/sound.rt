@@ -1,14 +1,16 @@
 //! Sound grammars.
-ghost use Rattle.std.specs.Prelude.{◌≡◌, ◌↔◌, ◌<◌, length, slice_get, true, Some};
+ghost use Rattle.std.specs.Prelude.{◌≡◌, ◌↔◌, ◌<◌, ℕ, List, length, slice_get, true, Some};
 ghost use Rattle.pegread.specs.Pattern.{Pattern};
 ghost use Rattle.pegread.specs.PegViews.{rules_of};
 ghost use Rattle.gramcheck.specs.Grammar.{IsSoundGrammar};
-ghost use Rattle.gramcheck.specs.Nodes.{shapes_of, Spells};
+ghost use Rattle.gramcheck.specs.Nodes.{Act, shapes_of, Spells};
 ghost use Rattle.gramcheck.specs.Printing.{ArePrintMarks, Prints};
+ghost use Rattle.gramcheck.specs.Slots.{AreCuts, IsCut};
 ghost use Rattle.gramcheck.specs.Sound.{IsRanked};
 
 use crate::cut::Cut;
 use crate::node::Node;
+use crate::template::{Template, Templates};
 use pegread::Expr;
 use ruletable::RuleTable;
 use std::marker::Model;
@@ -25,12 +27,14 @@ pub struct SoundPeg {
     ranks: Vec<usize>,
     // of each node whether it may print
     printing: Vec<bool>,
+    templates: Templates,
 }
 
 impl Model for SoundPeg {
     ghost use Rattle.gramcheck.specs.Grammar.{Grammar};
     ghost use Rattle.gramcheck.specs.Nodes.{shapes_of};
     ghost use Rattle.gramcheck.specs.Printing.{ArePrintMarks};
+    ghost use Rattle.gramcheck.specs.Slots.{AreCuts};
     ghost use Rattle.gramcheck.specs.Sound.{IsRanked};
     ghost use Rattle.gramcheck.specs.contracts.node.Node as n;
     ghost use Rattle.pegread.specs.PegViews.{rules_of};
@@ -50,20 +54,24 @@ impl Model for SoundPeg {
     } };
 
     ghost invariant = { λ p. IsRanked (rules_of p.rules) p.start (shapes_of p.nodes.items) p.bodies.items p.ranks.items
-        × ArePrintMarks (rules_of p.rules) (shapes_of p.nodes.items) p.printing.items };
+        × ArePrintMarks (rules_of p.rules) (shapes_of p.nodes.items) p.printing.items
+        × AreCuts (shapes_of p.nodes.items) p.templates.places.items p.templates.cuts.items };
 }
 
 impl SoundPeg {
-    /// Returns the grammar of these rules, nodes and ranks, with the marks of the nodes that may print.
+    /// Returns the grammar of these rules, nodes and ranks, with the marks of the nodes that may print and the cuts of
+    /// its templates.
     pub(crate) fn new(
         rules: RuleTable<Expr>,
         start: usize,
         cut: Cut,
         ranks: Vec<usize>,
         printing: Vec<bool>,
+        templates: Templates,
     ) -> SoundPeg
         requires ranked { IsRanked (rules_of rules) start (shapes_of cut.nodes.items) cut.bodies.items ranks.items }
         requires printing { ArePrintMarks (rules_of rules) (shapes_of cut.nodes.items) printing.items }
+        requires templates { AreCuts (shapes_of cut.nodes.items) templates.places.items templates.cuts.items }
         ensures rules { result.rules ≡ rules }
         ensures start { result.start ≡ start }
         ensures sound { IsSoundGrammar result }
@@ -75,6 +83,7 @@ impl SoundPeg {
             bodies: cut.bodies,
             ranks,
             printing,
+            templates,
         }
     }
 
@@ -114,6 +123,15 @@ impl SoundPeg {
         ensures { slice_get self.now.nodes n ≡ Some result.now }
     {
         &self.nodes[n]
+    }
+
+    /// Returns where the template of an action's node is cut. The node of that number must be an action.
+    pub fn template(&self, n: usize) -> &Template
+        requires { (text : List ℕ) × (slice_get (shapes_of self.now.nodes) n ≡ Some (Act text)) }
+        ensures { (text : List ℕ) → slice_get (shapes_of self.now.nodes) n ≡ Some (Act text)
+            → IsCut text result.now }
+    {
+        &self.templates.cuts[self.templates.places[n]]
     }
 
     /// Returns the rank of the node of that number, which must be less than `nodes()`: at most the number of nodes, and

@@ -1,13 +1,11 @@
 -- What a window over a reader says of every input of which so much has been seen.
 -- Serves: run_peg (right)
 use Rattle.std.proofs.Common.{◌≡◌, ℕ, zero, suc, ◌+◌, ◌<◌, ◌≤◌, ◌==◌, Bool, true, false, Option, List, [], ◌++◌, length}
-use Rattle.std.proofs.Common.{drop, take, refl, sym, ◌∙◌, ap, subst, arith, nat_lt, inr, append_assoc, length-append}
+use Rattle.std.proofs.Common.{drop, take, refl, sym, ◌∙◌, ap, subst, arith, nat_lt, inr, length-append}
 use Rattle.std.proofs.Common.{if◌then◌else◌}
 use Rattle.std.specs.Prelude.{Result, Ok, Err}
-use Rattle.std.proofs.Math.Nat.{min-eq_left, min-eq_right}
-use Rattle.std.proofs.Math.Seq.{take-append_seam, drop-append_seam}
 use Rattle.std.proofs.lemmas.Grind.{common_steps}
-use Rattle.std.proofs.lemmas.List.{append-nil, take_all}
+use Rattle.std.proofs.lemmas.List.{take_all}
 use Rattle.ruletable.specs.declared.sink.WriteFault.{WriteFault}
 use Rattle.feed.specs.declared.held.Flow.{Flow}
 use Rattle.feed.specs.declared.held.Flow.TheVariants.{Ended, Broken}

@@ -14,7 +14,8 @@ use Rattle.gramcheck.specs.Rising.{Rise}
 use Rattle.gramcheck.proofs.RiseLemmas.{Rise-le}
 use Rattle.pegmatch.specs.KeptEvents.{StandsFor, opened, closed, acted, StandFor, no_event, one_event}
 use Rattle.pegmatch.specs.EventPrinting.{event_text, closed_at, capture_by, IsPrinted}
-use Rattle.pegmatch.specs.Text.{printed, text_after, text_of}
+use Rattle.gramcheck.specs.Templates.{printed}
+use Rattle.pegmatch.specs.Text.{text_after, text_of}
 use Rattle.pegmatch.specs.declared.event.Kept.{Kept}
 use Rattle.pegmatch.specs.declared.writing.Capture.{Capture}
 

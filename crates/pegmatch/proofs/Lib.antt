@@ -1,7 +1,4 @@
 pub mod CompareLemmas
-pub mod CutFrontLemmas
-pub mod FilledLemmas
-pub mod FilledRunLemmas
 pub mod IsPrintedLemmas
 pub mod MatchStepLemmas
 pub mod NodeShapeLemmas
@@ -9,3 +6,4 @@ pub mod OperandLemmas
 mod PrintedTextExamples
 pub mod RuleGivesLemmas
 pub mod TurnsOnLemmas
+pub mod WrittenTextLemmas

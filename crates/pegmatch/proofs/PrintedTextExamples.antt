@@ -2,7 +2,8 @@
 use Rattle.std.proofs.Common.{◌≡◌, [], ◌∷◌, ◌++◌, refl, true, false, append_assoc, append-nil, decimal}
 use Rattle.std.specs.Prelude.{codes}
 use Rattle.gramcheck.specs.Outcome.{Opened, Closed, Acted}
-use Rattle.pegmatch.specs.Text.{Word, Other, pieces_of, text_of}
+use Rattle.gramcheck.specs.Templates.{Word, Other, pieces_of}
+use Rattle.pegmatch.specs.Text.{text_of}
 
 -- word bytes that stand side by side are one run
 runs_are_maximal : pieces_of (codes "a1_ b") ≡ Word (codes "a1_") ∷ (Other 32 ∷ (Word (codes "b") ∷ []))

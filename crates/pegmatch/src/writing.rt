@@ -1,128 +1,100 @@
-//! Writes what an action prints, piece by piece.
-ghost use Rattle.std.specs.Prelude.{◌≡◌, ◌≤◌, ◌++◌, ◌∷◌, [], length, take, drop, reverse, slice_range};
+//! Writes what an action prints, as its template is cut.
+ghost use Rattle.std.specs.Prelude.{◌≡◌, ◌≤◌, ◌++◌, length, slice_range};
 ghost use Rattle.gramcheck.specs.Nodes.{shapes_of};
 ghost use Rattle.gramcheck.specs.Outcome.{Event};
+ghost use Rattle.gramcheck.specs.Slots.{put_text, put_in, AreSlots, IsCut};
+ghost use Rattle.gramcheck.specs.Templates.{printed};
 ghost use Rattle.ruletable.specs.Writing.{Writes, Flags};
 ghost use Rattle.pegmatch.specs.KeptEvents.{StandsFor};
 ghost use Rattle.pegmatch.specs.EventPrinting.{capture_by, event_text};
-ghost use Rattle.pegmatch.specs.Text.{is_word, is_blank, Piece, filled_piece, filled, cut_front, trimmed, printed};
 
 use crate::event::Kept;
-use gramcheck::{Node, SoundPeg};
+use gramcheck::{Node, Put, Slot, SoundPeg, Template};
 use itoa::Buffer;
 use ruletable::{Sink, WriteFault, write_whole};
 
-fn is_word_byte(b: u8) -> bool
-    ensures { result ≡ is_word b }
-{
-    matches!(b, b'a'..=b'z' | b'A'..=b'Z' | b'0'..=b'9' | b'_')
-}
-
-// Writes a run of word bytes, or what stands in its place.
-fn write_run<W: Sink>(out: &mut W, run: &[u8], capture: &[u8]) -> Result<(), WriteFault>
-    ensures bytes { Writes (W.contents out.old) (W.contents out.new) (filled_piece capture.now (Piece.Word run.now))
-        result }
+// Writes bytes, if there are any.
+fn write_some<W: Sink>(out: &mut W, bytes: &[u8]) -> Result<(), WriteFault>
+    ensures bytes { Writes (W.contents out.old) (W.contents out.new) bytes.now result }
     ensures flag { Flags (W.failed out.old) (W.failed out.new) result }
 {
-    if run == b"yytext".as_slice() {
-        write_whole(out, capture)
-    } else if run == b"yyleng".as_slice() {
-        let mut digits = Buffer::new();
-        write_whole(out, digits.format(capture.len()).as_bytes())
-    } else {
-        write_whole(out, run)
+    if bytes.is_empty() {
+        return Ok(());
+    }
+    write_whole(out, bytes)
+}
+
+// Writes what is put in a slot.
+fn write_put<W: Sink>(out: &mut W, put: Put, capture: &[u8]) -> Result<(), WriteFault>
+    ensures bytes { Writes (W.contents out.old) (W.contents out.new) (put_text capture.now put) result }
+    ensures flag { Flags (W.failed out.old) (W.failed out.new) result }
+{
+    match put {
+        Put::Capture => write_some(out, capture),
+        Put::Length => {
+            let mut digits = Buffer::new();
+            write_whole(out, digits.format(capture.len()).as_bytes())
+        }
     }
 }
 
-// Writes a run of word bytes, or what stands in its place, and the byte behind it.
-fn write_run_and<W: Sink>(
+// Writes the text before a slot, and what is put in the slot.
+fn write_slot<W: Sink>(
     out: &mut W,
-    run: &[u8],
+    before: &[u8],
+    put: Put,
     capture: &[u8],
-    byte: u8,
 ) -> Result<(), WriteFault>
-    ensures bytes { Writes (W.contents out.old) (W.contents out.new) (filled_piece capture.now (Piece.Word run.now)
-        ++ byte ∷ []) result }
+    ensures bytes { Writes (W.contents out.old) (W.contents out.new) (before.now ++ put_text capture.now put) result }
     ensures flag { Flags (W.failed out.old) (W.failed out.new) result }
 {
-    match write_run(out, run, capture) {
-        Ok(()) => write_whole(out, &[byte]),
+    match write_some(out, before) {
+        Ok(()) => write_put(out, put, capture),
         Err(fault) => Err(fault),
     }
 }
 
-/// Writes a template with the capture put in.
-fn write_filled<W: Sink>(out: &mut W, template: &[u8], capture: &[u8]) -> Result<(), WriteFault>
-    ensures bytes { Writes (W.contents out.old) (W.contents out.new) (filled template.now capture.now) result }
+// Writes a text from one place to another, with the capture put in the slots between them.
+fn write_slots<W: Sink>(
+    out: &mut W,
+    text: &[u8],
+    from: usize,
+    to: usize,
+    slots: &[Slot],
+    capture: &[u8],
+) -> Result<(), WriteFault>
+    requires order { AreSlots from slots.now to }
+    requires within { to ≤ length text.now }
+    ensures bytes { Writes (W.contents out.old) (W.contents out.new)
+        (put_in text.now capture.now from slots.now to) result }
     ensures flag { Flags (W.failed out.old) (W.failed out.new) result }
 {
-    let mut from = 0;
-    for (i, b) in template.iter().enumerate() {
-        if !is_word_byte(*b) {
-            match write_run_and(out, &template[from..i], capture, *b) {
-                Ok(()) => from = i + 1,
-                Err(fault) => return Err(fault),
-            }
+    let mut at = from;
+    for slot in slots {
+        match write_slot(out, &text[at..slot.from], slot.put, capture) {
+            Ok(()) => at = slot.to,
+            Err(fault) => return Err(fault),
         }
     }
-    write_run(out, &template[from..], capture)
-}
-
-fn is_blank_byte(b: u8) -> bool
-    ensures { result ≡ is_blank b }
-{
-    matches!(b, b' ' | b'\t' | b'\r' | b'\n')
-}
-
-/// Returns the number of blanks at a text's front.
-#[tactic(auto, using(crate::proofs::CutFrontLemmas::front_blank, crate::proofs::CutFrontLemmas::front_other))]
-fn front_blanks(text: &[u8]) -> usize
-    ensures within { result ≤ length text.now }
-    ensures value { drop result text.now ≡ cut_front text.now }
-{
-    for (i, b) in text.iter().enumerate() {
-        if !is_blank_byte(*b) {
-            return i;
-        }
-    }
-    text.len()
-}
-
-/// Returns where the blanks at a text's end begin.
-#[tactic(auto, using(crate::proofs::CutFrontLemmas::back_blank, crate::proofs::CutFrontLemmas::back_other))]
-fn back_blanks(text: &[u8]) -> usize
-    ensures within { result ≤ length text.now }
-    ensures value { reverse (take result text.now) ≡ cut_front (reverse text.now) }
-{
-    let mut end = text.len();
-    while end > 0 && is_blank_byte(text[end - 1]) {
-        end -= 1;
-    }
-    end
-}
-
-// A text without the blanks at its ends.
-fn without_blanks(text: &[u8]) -> &[u8]
-    ensures { result.now ≡ trimmed text.now }
-{
-    let rest = &text[front_blanks(text)..];
-    &rest[..back_blanks(rest)]
+    write_some(out, &text[at..to])
 }
 
 // Writes what an action prints, as it is where `raw`, else without the blanks at its ends and with an LF.
 fn write_action<W: Sink>(
     out: &mut W,
     raw: bool,
-    template: &[u8],
+    text: &[u8],
+    cut: &Template,
     capture: &[u8],
 ) -> Result<(), WriteFault>
-    ensures bytes { Writes (W.contents out.old) (W.contents out.new) (printed raw template.now capture.now) result }
+    requires { IsCut text.now cut.now }
+    ensures bytes { Writes (W.contents out.old) (W.contents out.new) (printed raw text.now capture.now) result }
     ensures flag { Flags (W.failed out.old) (W.failed out.new) result }
 {
     if raw {
-        return write_filled(out, template, capture);
+        return write_slots(out, text, 0, text.len(), &cut.slots, capture);
     }
-    match write_filled(out, without_blanks(template), capture) {
+    match write_slots(out, text, cut.from, cut.to, &cut.slots, capture) {
         Ok(()) => write_whole(out, b"\n"),
         Err(fault) => Err(fault),
     }
@@ -185,8 +157,9 @@ fn write_acted<W: Sink>(
 {
     match event {
         Kept::Acted(n) => match peg.node(n) {
-            Node::Act(template) => {
-                write_action(out, raw, template, &window[capture.from..capture.to])
+            Node::Act(text) => {
+                let captured = &window[capture.from..capture.to];
+                write_action(out, raw, text, peg.template(n), captured)
             }
             _ => unreachable!(),
         },

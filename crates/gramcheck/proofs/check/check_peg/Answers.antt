@@ -33,7 +33,7 @@ print_marks-requires-clause-bodies c =
     (λ n. AreBelow c.in_ok-judged.judged.cut.bodies.items n)
     (length-map c.in_ok-judged.judged.cut.nodes.items shape_of) below)
 
-module _ (c : goal.In_ok-printing) where
+module _ (c : goal.In_ok-templates) where
   is_sound : IsRanked (rules_of c.args.peg.rules) c.in_ok-first.first
       (shapes_of c.in_ok-judged.judged.cut.nodes.items) c.in_ok-judged.judged.cut.bodies.items
       c.in_ok-judged.judged.ranks.items

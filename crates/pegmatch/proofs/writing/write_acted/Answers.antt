@@ -2,7 +2,7 @@ use Rattle.std.proofs.Common.{refl, ap, Some, ◌∙◌}
 use Rattle.std.specs.Prelude.{slice_range}
 use Rattle.ruletable.proofs.AppendsLemmas.{Appends-same}
 use Rattle.pegmatch.proofs.NodeShapeLemmas.{shape_at}
-use Rattle.pegmatch.proofs.FilledLemmas.{acts_so, quiet_event}
+use Rattle.pegmatch.proofs.WrittenTextLemmas.{acts_so, quiet_event}
 use Rattle.pegmatch.proofs.writing.write_acted.Goals as goal
 
 pub returns-in-Act-clause-bytes : goal.returns-in-Act-clause-bytes

@@ -1,7 +1,7 @@
 use Rattle.std.proofs.Common.{refl}
 use Rattle.std.specs.Prelude.{slice_range}
 use Rattle.ruletable.proofs.AppendsLemmas.{Appends-same}
-use Rattle.pegmatch.proofs.FilledLemmas.{quiet_event}
+use Rattle.pegmatch.proofs.WrittenTextLemmas.{quiet_event}
 use Rattle.pegmatch.proofs.writing.write_event.Goals as goal
 
 pub returns-in_default : goal.returns-in_default

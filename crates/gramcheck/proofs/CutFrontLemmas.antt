@@ -1,10 +1,10 @@
 -- Cutting blanks from both ends of a text.
--- Serves: write_event
+-- Serves: check_peg
 use Rattle.std.proofs.Common.{◌≡◌, ℕ, suc, ◌+◌, ◌<◌, true, false, List, ◌∷◌, length, get_or, take, drop, reverse, refl}
 use Rattle.std.proofs.Common.{sym, add-one, drop-cons}
 use Rattle.std.proofs.Math.Seq.{take-suc}
 use Rattle.std.proofs.lemmas.List.{reverse-append}
-use Rattle.pegmatch.specs.Text.{is_blank, cut_front}
+use Rattle.gramcheck.specs.Templates.{is_blank, cut_front}
 
 cut_blank : (t : List ℕ) (b : ℕ) → is_blank b ≡ true → cut_front (b ∷ t) ≡ cut_front t
 cut_blank t b h = rw h refl

@@ -1,6 +1,6 @@
 use Rattle.std.proofs.Common.{◌≡◌, ◌≤◌, length, take, reverse}
-use Rattle.pegmatch.specs.Text.{cut_front}
-use Rattle.pegmatch.proofs.writing.back_blanks.Given as goal
+use Rattle.gramcheck.specs.Templates.{cut_front}
+use Rattle.gramcheck.proofs.template.back_blanks.Given as goal
 
 abbrev pub invariant-loop-end : goal.invariant-loop-end
 invariant-loop-end l = record {

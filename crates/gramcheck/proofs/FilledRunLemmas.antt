@@ -1,13 +1,12 @@
 -- Filling a template, run by run.
--- Serves: write_event
+-- Serves: check_peg
 use Rattle.std.proofs.Common.{◌≡◌, ℕ, suc, zero, ◌+◌, ◌-◌, ◌<◌, ◌≤◌, true, false, List, [], ◌∷◌, ◌++◌, length, get_or}
-use Rattle.std.proofs.Common.{drop, refl, sym, ap, arith, add-one, drop-cons, ◌∙◌, append_assoc, append-nil}
+use Rattle.std.proofs.Common.{drop, refl, sym, ap, arith, ◌∙◌, append-nil}
 use Rattle.std.specs.Prelude.{slice_range}
 use Rattle.std.specs.List.{flat_map}
 use Rattle.std.proofs.lemmas.Grind.{common_steps}
-use Rattle.std.proofs.lemmas.List.Folds.{drop_split}
 use Rattle.std.proofs.Math.Seq.{take-suc}
-use Rattle.pegmatch.specs.Text.{is_word, Piece, Word, Other, joined, pieces_of, filled_piece, filled}
+use Rattle.gramcheck.specs.Templates.{is_word, Piece, Word, Other, joined, pieces_of, filled_piece, filled}
 
 -- only word bytes
 abbrev pub AreWord : List ℕ → Type 0
@@ -24,7 +23,7 @@ lead [] pieces = pieces
 lead (r ∷ run) pieces = Word (r ∷ run) ∷ pieces
 
 -- pieces that a word byte in front does not join
-abbrev Apart : List Piece → Type 0
+abbrev pub Apart : List Piece → Type 0
 Apart pieces = (r : ℕ) → joined r pieces ≡ Word (r ∷ []) ∷ pieces
 
 joined-lead : (r : ℕ) (run : List ℕ) (pieces : List Piece) → Apart pieces → joined r (lead run pieces)
@@ -51,7 +50,7 @@ filled_run c run w =
     let is = pieces_of_run run [] w (λ r. refl) in
     ap (λ v. filled v c) (sym same) ∙ ap (put c) is ∙ put-lead c run [] ∙ append-nil (filled_piece c (Word run))
 
-pieces_of_other : (b : ℕ) (rest : List ℕ) → is_word b ≡ false → pieces_of (b ∷ rest) ≡ Other b ∷ pieces_of rest
+pub pieces_of_other : (b : ℕ) (rest : List ℕ) → is_word b ≡ false → pieces_of (b ∷ rest) ≡ Other b ∷ pieces_of rest
 pieces_of_other b rest h = rw h refl
 
 pub filled_other : (c run rest : List ℕ) (b : ℕ) → AreWord run → is_word b ≡ false →
@@ -79,24 +78,3 @@ pub word_kept : (t : List ℕ) (f i : ℕ) → f ≤ i → i < length t → AreW
     → is_word (get_or t i 0) ≡ true →
     AreWord (slice_range t f (i + 1))
 word_kept t f i le lt w h = rw (one_more t f i le lt) (AreWord-more _ _ w h)
-
--- the byte at i is no word byte: the run before it is put, and then it
-pub other_put : (t c o o1 o2 whole : List ℕ) (f i : ℕ) → f ≤ i → i < length t → AreWord (slice_range t f i)
-    → is_word (get_or t i 0) ≡ false →
-    o ++ filled (drop f t) c ≡ whole →
-    o1 ≡ o ++ filled_piece c (Word (slice_range t f i)) → o2 ≡ o1 ++ get_or t i 0 ∷ [] →
-    o2 ++ filled (drop (i + 1) t) c ≡ whole
-other_put t c o o1 o2 whole f i le lt w h is is1 is2 =
-    let cut : drop f t ≡ slice_range t f i ++ get_or t i 0 ∷ drop (i + 1) t = drop_split t f i le
-    ∙ ap (λ v. slice_range t f i ++ v) (rw (add-one i) (drop-cons t i 0 lt)) in
-    let run = filled_other c (slice_range t f i) (drop (i + 1) t) (get_or t i 0) w h in
-    rw (is2, is1, append_assoc, append_assoc) (ap (λ v. o ++ v) (sym (ap (λ v. filled v c) cut ∙ run)) ∙ is)
-
--- the last run is put
-pub last_put : (t c o o1 whole : List ℕ) (f i : ℕ) → i ≤ length t → length t ≤ i → AreWord (slice_range t f i) →
-    o ++ filled (drop f t) c ≡ whole → o1 ≡ o ++ filled_piece c (Word (slice_range t f (length t))) → o1 ≡ whole
-last_put t c o o1 whole f i within long w is is1 =
-    let end : i ≡ length t = omega arith in
-    let all : slice_range t f i ≡ drop f t = grind (arith, common_steps) in
-    let run : o1 ≡ o ++ filled_piece c (Word (slice_range t f i)) = rw end is1 in
-    run ∙ ap (λ v. o ++ v) (sym (ap (λ v. filled v c) (sym all) ∙ filled_run c (slice_range t f i) w)) ∙ is
