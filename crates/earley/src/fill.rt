@@ -377,8 +377,9 @@ pub(crate) fn fill<L: Letter>(
         items.new)) }
     ensures different { IfOk result (λ blocks. AreDifferent
         (full (block_of flat.now) (length (views flat.now 0 sets.now)) heads.new items.new)) }
-    ensures keeps { IfOk result (λ blocks. Keeps (full (block_of flat.now) (length (views flat.now 0 sets.now)) heads.old
-        items.old) (full (block_of flat.now) (length (views flat.now 0 sets.now)) heads.new items.new)) }
+    ensures keeps { IfOk result (λ blocks. Keeps
+        (full (block_of flat.now) (length (views flat.now 0 sets.now)) heads.old items.old)
+        (full (block_of flat.now) (length (views flat.now 0 sets.now)) heads.new items.new)) }
     ensures closed { IfOk result (λ blocks. IsClosed flat.now (views flat.now 0 sets.now)
         (full (block_of flat.now) (length (views flat.now 0 sets.now)) heads.new items.new)) }
     ensures callers { IfOk result (λ blocks. AreCallers flat.now items.new later.new.callers.items) }

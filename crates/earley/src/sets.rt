@@ -33,8 +33,8 @@ pub(crate) struct Bounds {
     pub(crate) size: usize,
 }
 
-/// A set as it was filled: its heads, the items beside their blocks, of these the ones that call, and the number of items
-/// of the blocks.
+/// A set as it was filled: its heads, the items beside their blocks, of these the ones that call, and the number of
+/// items of the blocks.
 #[derive(Clone, Copy)]
 pub(crate) struct Filled<'a> {
     pub(crate) heads: &'a Heads,
