@@ -27,7 +27,7 @@ use crate::items::Items;
 use crate::later::{Homed, Later};
 use crate::letter_law::values_are_letters;
 use crate::read_front::read;
-use crate::sets::Sets;
+use crate::sets::{Filled, Sets};
 use flatgrammar::{Flat, Item, Spot, Tables, items_tell, spots, whole_root};
 use letters::Letter;
 use ruletable::Memory;
@@ -184,8 +184,14 @@ fn fill_sets<L: Letter>(
     while sets.len() <= line.len() {
         begin(flat, sets.len(), heads)?;
         follow(flat, line, sets, &later.readers, items)?;
-        fill(flat, line, sets, heads, items, later)?;
-        sets.push(flat, heads, items.list(), &later.callers)?;
+        let blocks = fill(flat, line, sets, heads, items, later)?;
+        let filled = Filled {
+            heads,
+            items: items.list(),
+            callers: &later.callers,
+            blocks,
+        };
+        sets.push(flat, filled)?;
         heads.clear();
         items.clear();
     }

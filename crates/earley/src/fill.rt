@@ -355,7 +355,8 @@ fn open(
     Ok(())
 }
 
-/// Adds to a set all that its items and blocks ask for, each worked on once.
+/// Adds to a set all that its items and blocks ask for, each worked on once. Returns the number of items of its blocks.
+/// `Memory` if that is no number of 64 bits, or if an allocation fails.
 pub(crate) fn fill<L: Letter>(
     flat: &Tables,
     line: &[L],
@@ -363,7 +364,7 @@ pub(crate) fn fill<L: Letter>(
     heads: &mut Heads,
     items: &mut Items,
     later: &mut Later,
-) -> Result<(), Memory>
+) -> Result<usize, Memory>
     requires roots { GiveRoots (flat_of flat.now) flat.now.roots.items }
     requires nulls { AreNulls (flat_of flat.now) flat.now.nulls.items }
     requires tables { AreTables flat.now }
@@ -371,23 +372,26 @@ pub(crate) fn fill<L: Letter>(
     requires waiting { AreWaitingAll flat.now sets.now }
     requires earlier { HoldAll (flat_of flat.now) (map L.number line.now) (views flat.now 0 sets.now) }
     requires begun { IsGoing flat.now (map L.number line.now) (views flat.now 0 sets.now) 0 0 heads.old items.old }
-    ensures held { IfOk result (λ done. Hold (flat_of flat.now) (map L.number line.now)
+    ensures held { IfOk result (λ blocks. Hold (flat_of flat.now) (map L.number line.now)
         (length (views flat.now 0 sets.now)) (full (block_of flat.now) (length (views flat.now 0 sets.now)) heads.new
         items.new)) }
-    ensures different { IfOk result (λ done. AreDifferent
+    ensures different { IfOk result (λ blocks. AreDifferent
         (full (block_of flat.now) (length (views flat.now 0 sets.now)) heads.new items.new)) }
-    ensures keeps { IfOk result (λ done. Keeps (full (block_of flat.now) (length (views flat.now 0 sets.now)) heads.old
-        items.old) (full (block_of flat.now) (length (views flat.now 0 sets.now)) heads.new items.new)) }
-    ensures closed { IfOk result (λ done. IsClosed flat.now (views flat.now 0 sets.now)
+    ensures keeps { IfOk result (λ blocks. Keeps
+        (full (block_of flat.now) (length (views flat.now 0 sets.now)) heads.old items.old)
         (full (block_of flat.now) (length (views flat.now 0 sets.now)) heads.new items.new)) }
-    ensures callers { IfOk result (λ done. AreCallers flat.now items.new later.new.callers.items) }
-    ensures readers { IfOk result (λ done. AreChosen (ReadsSome flat.now) items.new
+    ensures closed { IfOk result (λ blocks. IsClosed flat.now (views flat.now 0 sets.now)
+        (full (block_of flat.now) (length (views flat.now 0 sets.now)) heads.new items.new)) }
+    ensures callers { IfOk result (λ blocks. AreCallers flat.now items.new later.new.callers.items) }
+    ensures blocks { IfOk result (λ blocks. (j : ℕ) → blocks ≡ length (expand (block_of flat.now) j heads.new)) }
+    ensures readers { IfOk result (λ blocks. AreChosen (ReadsSome flat.now) items.new
         (items_of later.new.readers.items)) }
 {
     later.callers.clear();
     later.readers.clear();
     let mut item_index = 0;
     let mut head_index = 0;
+    let mut blocks = 0usize;
     loop {
         if item_index < items.len() {
             let item = items.at(item_index);
@@ -396,10 +400,14 @@ pub(crate) fn fill<L: Letter>(
             item_index += 1;
         } else if head_index < heads.len() {
             let head = heads.at(head_index);
+            let Some(sum) = blocks.checked_add(spots(flat, head).len()) else {
+                return Err(Memory);
+            };
+            blocks = sum;
             open(flat, head, sets.len(), head_index, heads, items)?;
             head_index += 1;
         } else {
-            return Ok(());
+            return Ok(blocks);
         }
     }
 }

@@ -2,7 +2,7 @@
 ghost use Rattle.std.specs.Prelude.{◌≡◌, ◌++◌, ◌∷◌, ℕ, List, [], length, slice_get, IfOk};
 ghost use Rattle.flatgrammar.specs.Blocks.{block_of, AreSpotLists};
 ghost use Rattle.earley.specs.Chosen.{AreCallers};
-ghost use Rattle.earley.specs.FrontViews.{full};
+ghost use Rattle.earley.specs.FrontViews.{expand};
 ghost use Rattle.earley.specs.Fronts.{Front as front, front_in, AreBounds, GoesOn, GoOn, IsAppended};
 ghost use Rattle.earley.specs.Waiting.{IsKept};
 
@@ -10,7 +10,7 @@ use crate::front::Front;
 use crate::heads::Heads;
 use crate::later::Caller;
 use crate::wait::{Wait, list_waits};
-use flatgrammar::{Item, Tables, spots};
+use flatgrammar::{Item, Tables};
 use ruletable::Memory;
 use std::alloc::Global;
 use std::marker::Model;
@@ -31,6 +31,16 @@ pub(crate) struct Bounds {
     pub(crate) firsts: Part,
     pub(crate) waits: usize,
     pub(crate) size: usize,
+}
+
+/// A set as it was filled: its heads, the items beside their blocks, of these the ones that call, and the number of
+/// items of the blocks.
+#[derive(Clone, Copy)]
+pub(crate) struct Filled<'a> {
+    pub(crate) heads: &'a Heads,
+    pub(crate) items: &'a [Item],
+    pub(crate) callers: &'a [Caller],
+    pub(crate) blocks: usize,
 }
 
 /// Holds the lists of all sets, those of one kind one behind the other.
@@ -74,51 +84,38 @@ fn append<T: Copy>(list: &mut Vec<T>, more: &[T]) -> Result<Part, Memory>
     })
 }
 
-// Returns the number of items of a set, those of the blocks counted. It is `Memory` if that is no number of 64 bits.
-fn size_of(flat: &Tables, heads: &[usize], items: &[Item]) -> Result<usize, Memory>
-    ensures { IfOk result (λ size. (j : ℕ) → size ≡ length (full (block_of flat.now) j heads.now items.now)) }
-{
-    let mut size = items.len();
-    for head in heads {
-        match size.checked_add(spots(flat, *head).len()) {
-            Some(sum) => size = sum,
-            None => return Err(Memory),
-        }
-    }
-    Ok(size)
-}
-
-// Puts the lists of a set behind those of the others, and returns where they stand. Of the items those that call are
-// given.
+// Puts the lists of a set behind those of the others, and returns where they stand.
 #[inline(always)]
 fn store(
     flat: &Tables,
-    heads: &Heads,
-    items: &[Item],
-    callers: &[Caller],
+    filled: Filled<'_>,
     origin: usize,
     stores: &mut Stores,
 ) -> Result<Bounds, Memory>
     requires lists { AreSpotLists flat.now }
-    requires callers { AreCallers flat.now items.now callers.now }
+    requires callers { AreCallers flat.now filled.items.now filled.callers.now }
+    requires blocks { (j : ℕ) → filled.blocks ≡ length (expand (block_of flat.now) j filled.heads.now) }
     ensures more { GoOn stores.old stores.new }
     ensures bounds { IfOk result (λ bounds. AreBounds stores.new bounds) }
-    ensures kept { IfOk result (λ bounds. IsKept flat.now origin heads.now items.now (front_in stores.new bounds)) }
+    ensures kept { IfOk result (λ bounds. IsKept flat.now origin filled.entry.heads.now filled.entry.items.now
+        (front_in stores.new bounds)) }
 {
-    let size = size_of(flat, heads.list(), items)?;
-    let heads_part = append(&mut stores.heads, heads.list())?;
-    let items_part = append(&mut stores.items, items)?;
+    let Some(size) = filled.blocks.checked_add(filled.items.len()) else {
+        return Err(Memory);
+    };
+    let heads = append(&mut stores.heads, filled.heads.list())?;
+    let items = append(&mut stores.items, filled.items)?;
     let firsts = list_waits(
         flat,
-        heads,
-        callers,
+        filled.heads,
+        filled.callers,
         origin,
         &mut stores.firsts,
         &mut stores.waits,
     )?;
     Ok(Bounds {
-        heads: heads_part,
-        items: items_part,
+        heads,
+        items,
         firsts,
         waits: stores.waits.len(),
         size,
@@ -163,23 +160,18 @@ impl Sets {
         }
     }
 
-    /// Adds the set of these heads and items, with what waits for the heads. Of the items those that call are given.
-    /// `Memory` if an allocation fails.
+    /// Adds a set as it was filled, with what waits for its heads. `Memory` if its items are more than a number of 64
+    /// bits tells, or if an allocation fails.
     #[inline(always)]
-    pub(crate) fn push(
-        &mut self,
-        flat: &Tables,
-        heads: &Heads,
-        items: &[Item],
-        callers: &[Caller],
-    ) -> Result<(), Memory>
+    pub(crate) fn push(&mut self, flat: &Tables, filled: Filled<'_>) -> Result<(), Memory>
         requires lists { AreSpotLists flat.now }
-        requires callers { AreCallers flat.now items.now callers.now }
+        requires callers { AreCallers flat.now filled.items.now filled.callers.now }
+        requires blocks { (j : ℕ) → filled.blocks ≡ length (expand (block_of flat.now) j filled.heads.now) }
         ensures { IfOk result (λ _. (f : front) × ((self.new ≡ self.old ++ f ∷ [])
-            × IsKept flat.now (length self.old) heads.now items.now f)) }
+            × IsKept flat.now (length self.old) filled.entry.heads.now filled.entry.items.now f)) }
     {
         let origin = self.len();
-        let bounds = store(flat, heads, items, callers, origin, &mut self.stores)?;
+        let bounds = store(flat, filled, origin, &mut self.stores)?;
         self.bounds.push(bounds)?;
         Ok(())
     }

@@ -1,6 +1,7 @@
 -- Lists of spots that call or read.
 -- Serves: lower, judge.
 use Rattle.std.proofs.Common.{◌≡◌, ℕ, zero, suc, ◌+◌, ◌++◌, ◌<◌, ◌≤◌, ◌⊎◌, inl, inr, Option, Some, None, List, [], ◌∷◌}
+use Rattle.std.proofs.Common.{◌||◌, if◌then◌else◌, Bool, true, false, nat_lt, ltb-true}
 use Rattle.std.proofs.Common.{length, take, slice_get, slice_index_or, Vec, Global, refl, sym, ◌∙◌, ap, subst, arith}
 use Rattle.std.proofs.lemmas.Bool.{cases_lt}
 use Rattle.std.proofs.lemmas.List.{map-append, take_all}
@@ -11,7 +12,8 @@ use Rattle.flatgrammar.specs.declared.spot_list.SpotList.{SpotList}
 use Rattle.flatgrammar.specs.declared.tables.Tables as code_flat
 use Rattle.flatgrammar.specs.Blocks.{block_in, block_of, lists_of, list_or, readers_of, AreSpotLists}
 use Rattle.flatgrammar.specs.Blocks.{call_at, spots_of, AreAsks}
-use Rattle.flatgrammar.specs.Blocks.{Reads, Picks, AreByLetter, lists_in, IsSpotList}
+use Rattle.flatgrammar.specs.declared.flat_node.Ends.{Ends}
+use Rattle.flatgrammar.specs.Blocks.{Lists, Reads, AreEnds, Picks, AreByLetter, lists_in, IsSpotList}
 use Rattle.flatgrammar.proofs.CallOfLemmas.{past_get}
 use Rattle.flatgrammar.proofs.FlatCutLemmas.{push_cases}
 use Rattle.flatgrammar.proofs.InLemmas.{in_left, at_end, before_end, among_more, in_front, from_front, different_end}
@@ -178,12 +180,53 @@ lists_all flat lists n count all are h = by (cases_lt h n)
           ((λ p i. i), (λ p i q. i), (λ d. d)),
           (λ c list is. absurd cc),
           (λ a i. elim i [ ]),
+          (λ c p i r. elim i [ ]),
         ))
+
+-- ends that are wider by one spot
+pub ends_more : (flat : code_flat.Tables) (k : ℕ) (xs : List Spot) (d : Spot) (old new : Ends) → k < length xs
+    → (new.least ≤ old.least) × (old.greatest ≤ new.greatest)
+    → ((c : ℕ) → Reads flat c (slice_index_or xs k d) → (new.least ≤ c) × (c ≤ new.greatest))
+    → AreEnds flat (take k xs) old → AreEnds flat (take (k + 1) xs) new
+ends_more flat k xs d old new lt wider held are c p i r = by (taken_more k xs d lt i)
+  where
+    by : In p (take k xs) ⊎ (p ≡ slice_index_or xs k d) → (new.least ≤ c) × (c ≤ new.greatest)
+    by (inl h) =
+        let least = wider.0 in
+        let greatest = wider.1 in
+        let above = (are c p h r).0 in
+        let below = (are c p h r).1 in (omega (arith, least, above), omega (arith, greatest, below))
+    by (inr same) = held c (subst (λ v. Reads flat c v) same r)
+
+one_of : (x y : Bool) → (x || y) ≡ true → (x ≡ true) ⊎ (y ≡ true)
+one_of true y h = inl refl
+one_of false y h = inr h
+
+not_outside : (c low high : ℕ) → (nat_lt c low || nat_lt high c) ≡ true → low ≤ c → c ≤ high → ⊥
+not_outside c low high is above below = by (one_of (nat_lt c low) (nat_lt high c) is)
+  where
+    by : (nat_lt c low ≡ true) ⊎ (nat_lt high c ≡ true) → ⊥
+    by (inl h) = let lt = ltb-true c low h in omega (arith, lt, above)
+    by (inr h) = let lt = ltb-true high c h in omega (arith, lt, below)
+
+-- a list of those that read: none if the letter is not between their ends
+within_ends : (flat : code_flat.Tables) (spots : List Spot) (lists : Lists) (c : ℕ) → IsSpotList flat spots lists
+    → (b : Bool) → (nat_lt c lists.ends.least || nat_lt lists.ends.greatest c) ≡ b → (list : List Spot)
+    → Picks (Reads flat c) spots list → Picks (Reads flat c) spots (if b then [] else list)
+within_ends flat spots lists c are false is list picks = picks
+within_ends flat spots lists c are true is list picks = (
+  (λ p i. elim i [ ]),
+  (λ p i r. let e = are.4 c p (are.1.1 p i (c, r)) r in
+      absurd (not_outside c lists.ends.least lists.ends.greatest is e.0 e.1)),
+  (λ d. tt),
+)
 
 -- the spots that are tried on a letter are all that read it
 pub readers_pick : (flat : code_flat.Tables) (h c : ℕ) → AreSpotLists flat
     → Picks (Reads flat c) (block_of flat h).spots (readers_of flat h c)
-readers_pick flat h c are = by (slice_get (lists_of flat h).by_letter c) refl
+readers_pick flat h c are =
+    within_ends flat (block_of flat h).spots (lists_of flat h) c (are h) _ refl _
+    (by (slice_get (lists_of flat h).by_letter c) refl)
   where
     by : (o : Option (Vec Spot Global)) → slice_get (lists_of flat h).by_letter c ≡ o
         → Picks (Reads flat c) (block_of flat h).spots (list_or o (lists_of flat h).readers)

@@ -1,11 +1,13 @@
 -- What the prediction of a root implies, as a table made once: the places where it and the nodes that it alone calls
 -- begin.
-use Rattle.std.specs.Prelude.{◌≡◌, ℕ, ◌<◌, ◌⊎◌, true, false, List, [], map, slice_get, Option, Some, None}
+use Rattle.std.specs.Prelude.{◌≡◌, ℕ, ◌<◌, ◌≤◌, ◌⊎◌, ◌||◌, if◌then◌else◌, nat_lt, true, false, List, [], map}
+use Rattle.std.specs.Prelude.{slice_get, Option, Some, None}
 use Rattle.std.proofs.Common.{Vec, Global}
 use Rattle.flatgrammar.specs.declared.flat_item.Item.{Item}
 use Rattle.flatgrammar.specs.declared.block.Spot.{Spot}
 use Rattle.flatgrammar.specs.declared.block.Block as code_block
 use Rattle.flatgrammar.specs.declared.inner.Inner.{Inner}
+use Rattle.flatgrammar.specs.declared.flat_node.Ends.{Ends}
 use Rattle.flatgrammar.specs.declared.spot_list.Ask.{Ask}
 use Rattle.flatgrammar.specs.declared.spot_list.SpotList.{SpotList}
 use Rattle.flatgrammar.specs.declared.tables.Tables as code_flat
@@ -127,6 +129,10 @@ abbrev pub AreByLetter : code_flat.Tables → List Spot → List (Vec Spot Globa
 AreByLetter flat spots lists = (c : ℕ) (list : Vec Spot Global) → slice_get lists c ≡ Some list
     → Picks (Reads flat c) spots list.items
 
+-- all letters that spots of a list read are between the ends
+abbrev pub AreEnds : code_flat.Tables → List Spot → Ends → Type 0
+AreEnds flat spots ends = (c : ℕ) (p : Spot) → In p spots → Reads flat c p → (ends.least ≤ c) × (c ≤ ends.greatest)
+
 abbrev pub spots_of : List Ask → List Spot
 spots_of asks = map (λ a. a.spot) asks
 
@@ -138,18 +144,20 @@ pub record Lists : Type 0 where
   pub asks : List Ask
   pub readers : List Spot
   pub by_letter : List (Vec Spot Global)
+  pub ends : Ends
 
 abbrev pub lists_in : Option SpotList → Lists
-lists_in None = record { asks = []; readers = []; by_letter = [] }
+lists_in None = record { asks = []; readers = []; by_letter = []; ends = record { least = 0; greatest = 0 } }
 lists_in (Some list) = record {
   asks = list.asks.items;
   readers = list.readers.items;
   by_letter = list.by_letter.items;
+  ends = list.ends;
 }
 
 abbrev pub IsSpotList : code_flat.Tables → List Spot → Lists → Type 0
 IsSpotList flat spots lists = Picks (Asks flat) spots (spots_of lists.asks) × Picks (ReadsAny flat) spots lists.readers
-    × AreByLetter flat spots lists.by_letter × AreAsks flat lists.asks
+    × AreByLetter flat spots lists.by_letter × AreAsks flat lists.asks × AreEnds flat lists.readers lists.ends
 
 abbrev pub lists_of : code_flat.Tables → ℕ → Lists
 lists_of flat h = lists_in (slice_get flat.lists.items h)
@@ -158,9 +166,14 @@ abbrev pub list_or : Option (Vec Spot Global) → List Spot → List Spot
 list_or None all = all
 list_or (Some list) all = list.items
 
+-- of lists the spots that are tried on a letter
+abbrev pub readers_in : Lists → ℕ → List Spot
+readers_in lists c = if nat_lt c lists.ends.least || nat_lt lists.ends.greatest c then []
+    else list_or (slice_get lists.by_letter c) lists.readers
+
 -- of a block's spots those that are tried on a letter
 abbrev pub readers_of : code_flat.Tables → ℕ → ℕ → List Spot
-readers_of flat h c = list_or (slice_get (lists_of flat h).by_letter c) (lists_of flat h).readers
+readers_of flat h c = readers_in (lists_of flat h) c
 
 -- each block has its lists
 abbrev pub AreSpotLists : code_flat.Tables → Type 0

@@ -1,5 +1,5 @@
 //! Numbered nodes.
-ghost use Rattle.std.specs.Prelude.{◌≡◌, ◌≢◌, ◌↔◌, ◌+◌, ◌^◌, ◌<◌, ℕ, None, IsTrue};
+ghost use Rattle.std.specs.Prelude.{◌≡◌, ◌≢◌, ◌↔◌, ◌+◌, ◌^◌, ◌<◌, ◌≤◌, ℕ, None, IsTrue};
 ghost use Rattle.abnfcheck.specs.Derivable.{small};
 ghost use Rattle.flatgrammar.specs.Flat.{Has, Rep, Turns};
 ghost use Rattle.flatgrammar.specs.FlatViews.{set_of, node_of};
@@ -63,6 +63,46 @@ pub(crate) fn has(set: &Set, value: u32) -> bool
         Set::Exactly(v) => value == *v,
         Set::EitherCase(v) => small(value) == small(*v),
         Set::Between { low, high } => *low <= value && value <= *high,
+    }
+}
+
+/// The least and the greatest letter of some; there are none if the greatest is below the least.
+#[derive(Clone, Copy)]
+pub struct Ends {
+    pub least: u32,
+    pub greatest: u32,
+}
+
+// Returns ends between which a set's letters are.
+fn ends_of_set(set: &Set) -> Ends
+    ensures { (c : ℕ) → Has (set_of set.now) c → (result.least ≤ c) × (c ≤ result.greatest) }
+{
+    let (least, greatest) = match set {
+        Set::Exactly(v) => (*v, *v),
+        Set::EitherCase(v) => (small(*v).saturating_sub(32), small(*v)),
+        Set::Between { low, high } => (*low, *high),
+    };
+    Ends { least, greatest }
+}
+
+/// Returns ends between which the letter that a step reads is too.
+pub(crate) fn widened(node: &Node, step: usize, ends: Ends) -> Ends
+    ensures wider { (result.least ≤ ends.least) × (ends.greatest ≤ result.greatest) }
+    ensures held { (c : ℕ) → IfSomeSet (read_at (node_of node.now) step) c
+        → (result.least ≤ c) × (c ≤ result.greatest) }
+{
+    match node {
+        Node::Letters(sets) => match sets.get(step) {
+            Some(set) => {
+                let of_set = ends_of_set(set);
+                Ends {
+                    least: ends.least.min(of_set.least),
+                    greatest: ends.greatest.max(of_set.greatest),
+                }
+            }
+            None => ends,
+        },
+        _ => ends,
     }
 }
 

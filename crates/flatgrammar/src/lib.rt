@@ -19,7 +19,7 @@ mod tables;
 pub use block::{Block, Spot};
 pub use flat::Flat;
 pub use flat_item::Item;
-pub use flat_node::{Node, Set};
+pub use flat_node::{Ends, Node, Set};
 pub use inner::Inner;
 pub use item_laws::{items_at_most, items_tell};
 pub use lowered::{lower, lower_rules};

@@ -1,11 +1,11 @@
 //! Of the spots of a block those that call, and those that read.
-ghost use Rattle.std.specs.Prelude.{◌≡◌, ℕ, Some, IsTrue, IfOk, IfSome, IfNone, slice_get};
+ghost use Rattle.std.specs.Prelude.{◌≡◌, ◌≤◌, ℕ, Some, IsTrue, IfOk, IfSome, IfNone, slice_get};
 ghost use Rattle.flatgrammar.specs.Blocks.{block_of, call_at, spots_of, Asks, AreAsks, Reads, ReadsAny, Picks};
-ghost use Rattle.flatgrammar.specs.Blocks.{AreByLetter, lists_in, IsSpotList};
+ghost use Rattle.flatgrammar.specs.Blocks.{AreByLetter, AreEnds, lists_in, IsSpotList};
 
 use crate::block::Spot;
 use crate::flat_item::Item;
-use crate::flat_node::Node;
+use crate::flat_node::{Ends, Node, widened};
 use crate::tables::{Tables, call, reads, sole_caller, spots};
 use ruletable::Memory;
 use std::alloc::Global;
@@ -22,12 +22,13 @@ pub struct Ask {
 }
 
 /// Holds of the spots of a block those that call a root with a block of its own, and those that read: all, and where
-/// they are many those of each letter below 256.
+/// they are many those of each letter below 256. All letters that they read are between the ends.
 #[derive(Drop)]
 pub struct SpotList {
     pub asks: Vec<Ask>,
     pub readers: Vec<Spot>,
     pub by_letter: Vec<Vec<Spot>>,
+    pub ends: Ends,
 }
 
 // Returns what a spot asks for, if it calls a root with a block of its own.
@@ -97,6 +98,31 @@ fn readers_of(alloc: Global, flat: &Tables, from: &[Spot]) -> Result<Vec<Spot>, 
     Ok(list)
 }
 
+// Returns ends between which the letters are that a spot reads, and those between other ends.
+fn widened_by(flat: &Tables, spot: Spot, ends: Ends) -> Ends
+    ensures wider { (result.least ≤ ends.least) × (ends.greatest ≤ result.greatest) }
+    ensures held { (c : ℕ) → Reads flat.now c spot → (result.least ≤ c) × (c ≤ result.greatest) }
+{
+    match flat.nodes.get(spot.node) {
+        Some(node) => widened(node, spot.step, ends),
+        None => ends,
+    }
+}
+
+// Returns ends between which all letters are that spots read.
+fn ends_of(flat: &Tables, from: &[Spot]) -> Ends
+    ensures { AreEnds flat.now from.now result }
+{
+    let mut ends = Ends {
+        least: u32::MAX,
+        greatest: 0,
+    };
+    for spot in from {
+        ends = widened_by(flat, *spot, ends);
+    }
+    ends
+}
+
 // Returns those that read a letter.
 fn readers_of_letter(
     alloc: Global,
@@ -133,6 +159,7 @@ fn list_of(alloc: Global, flat: &Tables, from: &[Spot]) -> Result<SpotList, Memo
 {
     let asks = asks_of(alloc, flat, from)?;
     let readers = readers_of(alloc, flat, from)?;
+    let ends = ends_of(flat, &readers);
     let by_letter = if readers.len() > FEW {
         by_letter(alloc, flat, &readers)?
     } else {
@@ -142,6 +169,7 @@ fn list_of(alloc: Global, flat: &Tables, from: &[Spot]) -> Result<SpotList, Memo
         asks,
         readers,
         by_letter,
+        ends,
     })
 }
 

@@ -133,6 +133,9 @@ pub fn readers(flat: &Tables, head: usize, value: u32) -> &[Spot]
     let Some(list) = flat.lists.get(head) else {
         return &[];
     };
+    if value < list.ends.least || list.ends.greatest < value {
+        return &[];
+    }
     match list.by_letter.get(value as usize) {
         Some(readers) => readers,
         None => &list.readers,

@@ -47,8 +47,8 @@ loop-sets-preserved g c =
           (subst (λ v. Adds (IsAfter c.args.flat.now (map g.L.Letter.number c.args.line.now)
           (views c.args.flat.now 0 c.loop-sets.sets)) v c.follow.new.items) here.no_items c.in_ok-follow.ensures)
           front c.fill.new.heads c.fill.new.items kept.same_heads (kept.same_items ∙ c.list.ensures)
-          c.in_ok-fill.ensures.held c.in_ok-fill.ensures.different c.in_ok-fill.ensures.keeps
-          c.in_ok-fill.ensures.closed);
+          c.in_ok-blocks.ensures.held c.in_ok-blocks.ensures.different c.in_ok-blocks.ensures.keeps
+          c.in_ok-blocks.ensures.closed);
       within = (let short : length (c.loop-sets.sets ++ front ∷ []) ≤ length c.args.line.now + 1 =
           omega (arith, size, test, len) in
           subst (λ v. length v ≤ length c.args.line.now + 1) (sym pushed) short);
@@ -58,7 +58,7 @@ loop-sets-preserved g c =
           (waiting_push c.args.flat.now c.loop-sets.sets front here.waiting kept.waiting);
       readers = subst (λ v. AreReaders c.args.flat.now v c.fill.new.later.readers.items) (sym pushed)
           (readers_push c.args.flat.now c.loop-sets.sets front c.fill.new.items c.fill.new.later.readers.items
-          (kept.same_items ∙ c.list.ensures) c.in_ok-fill.ensures.readers);
+          (kept.same_items ∙ c.list.ensures) c.in_ok-blocks.ensures.readers);
       sized = subst (λ v. (j : ℕ) (f : Front) → slice_get v j ≡ Some f → f.size ≡ length (view c.args.flat.now j f))
           (sym pushed) (sized_push c.args.flat.now c.loop-sets.sets front here.sized kept.size);
     }

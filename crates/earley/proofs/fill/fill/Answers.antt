@@ -1,16 +1,17 @@
 use Rattle.std.proofs.Common.{map, take, ℕ, ◌+◌, ◌<◌, ◌++◌, ◌∷◌, [], length, subst, sym, arith, slice_index_or, inl}
-use Rattle.std.proofs.Common.{inr, ◌∙◌}
+use Rattle.std.proofs.Common.{inr, ap, ◌∙◌}
 use Rattle.flatgrammar.specs.Places.{In}
 use Rattle.flatgrammar.specs.declared.flat_item.Item.{Item}
 use Rattle.earley.specs.ItemSets.{Adds}
 use Rattle.flatgrammar.specs.Blocks.{block_of, item_at}
 use Rattle.earley.specs.Chosen.{items_of, callers_of, Calls, ReadsSome, AreChosen}
-use Rattle.earley.specs.FrontViews.{views, IsAsked, IsFurther}
+use Rattle.earley.specs.FrontViews.{expand, views, IsAsked, IsFurther}
 use Rattle.earley.proofs.FillLemmas.{measure_falls, more_keeps, item_more, head_more}
-use Rattle.earley.proofs.FillLemmas.{full_held, all_different, all_closed}
+use Rattle.earley.proofs.FillLemmas.{front_same, full_held, all_different, all_closed}
+use Rattle.earley.proofs.ChartSetsLemmas.{size_more}
 use Rattle.earley.proofs.AloneLemmas.{begin_all}
 use Rattle.earley.proofs.AreChosenLemmas.{chosen_next, chosen_still, chosen_end}
-use Rattle.earley.proofs.ExpandLemmas.{length_views}
+use Rattle.earley.proofs.ExpandLemmas.{length_views, take_past}
 use Rattle.flatgrammar.proofs.CallOfLemmas.{past_get}
 use Rattle.earley.proofs.ItemRowsLemmas.{index_get}
 use Rattle.earley.proofs.fill.fill.Goals as goal
@@ -53,6 +54,9 @@ loop-item_index-preserved-then-item_index-len g c =
                 ++ v ∷ []) (callers_of c.work.new.later.callers.items)) item_is called.chosen);
             tell = called.tell;
           });
+      counted = λ j. c.loop-item_index.invariant.counted j ∙ ap (λ v. length (expand (block_of c.args.flat.now) j v))
+          (sym (front_same c.loop-item_index.head_index c.loop-item_index.heads asked.added c.work.new.heads asked.is
+          c.loop-item_index.invariant.going.within_heads));
       readers = chosen_next (ReadsSome c.args.flat.now) c.loop-item_index.items c.work.new.items
           (items_of c.work.new.later.readers.items) c.loop-item_index.item_index further c.at-item.result below
           (subst (λ v. AreChosen (ReadsSome c.args.flat.now) (take c.loop-item_index.item_index c.loop-item_index.items
@@ -105,6 +109,16 @@ loop-item_index-preserved g c =
             c.loop-item_index.invariant.going.within_items c.loop-item_index.invariant.callers.chosen;
         tell = c.loop-item_index.invariant.callers.tell;
       };
+      counted = λ j.
+          let more = size_more (block_of c.args.flat.now) j c.loop-item_index.heads c.loop-item_index.head_index
+          c.at-head.result c.spots.result.now below
+          (c.spots.ensures ∙ ap (λ v. (block_of c.args.flat.now v).spots) head_is) in
+          let front = ap (λ v. length (expand (block_of c.args.flat.now) j v))
+          (front_same (c.loop-item_index.head_index + 1) c.loop-item_index.heads called.added c.open.new.heads called.is
+          (omega (arith, below))) in
+          let was = c.loop-item_index.invariant.counted j in
+          let sum = c.in-Some.ensures in
+          omega (arith, more, front, was, sum);
       readers = chosen_still (ReadsSome c.args.flat.now) c.loop-item_index.items c.open.new.items
           (items_of c.loop-item_index.later.readers.items) c.loop-item_index.item_index passed
           c.loop-item_index.invariant.going.within_items c.loop-item_index.invariant.readers;
@@ -154,3 +168,9 @@ returns-else-head_index-len-clause-readers g c = chosen_end (ReadsSome c.args.fl
 pub work-requires-clause-begun : goal.work-requires-clause-begun
 work-requires-clause-begun g c = begin_all c.args.flat.now (map g.L.Letter.number c.args.line.now) c.args.sets.now
     c.requires.earlier
+
+pub returns-else-head_index-len-clause-blocks : goal.returns-else-head_index-len-clause-blocks
+returns-else-head_index-len-clause-blocks g c = λ j. c.loop-item_index.invariant.counted j
+    ∙ ap (λ v. length (expand (block_of c.args.flat.now) j v))
+    (take_past c.loop-item_index.heads c.loop-item_index.head_index
+    (let test = c.if-head_index-len.false in let len = c.len-else-item_index-len.ensures in omega (arith, test, len)))

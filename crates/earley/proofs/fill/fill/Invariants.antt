@@ -1,10 +1,10 @@
-use Rattle.std.proofs.Common.{map, take, ◌+◌, ◌-◌, ◌*◌, length}
+use Rattle.std.proofs.Common.{◌≡◌, ℕ, map, take, ◌+◌, ◌-◌, ◌*◌, length}
 use Rattle.flatgrammar.specs.Places.{places}
 use Rattle.flatgrammar.specs.NodeSteps.{flat_of}
 use Rattle.earley.specs.Chosen.{items_of, ReadsSome, AreChosen, AreCallers}
 use Rattle.earley.specs.Closed.{Keeps}
 use Rattle.flatgrammar.specs.Blocks.{block_of}
-use Rattle.earley.specs.FrontViews.{full, views, IsGoing}
+use Rattle.earley.specs.FrontViews.{expand, full, views, IsGoing}
 use Rattle.earley.proofs.fill.fill.Given as goal
 
 abbrev pub invariant-loop-item_index : goal.invariant-loop-item_index
@@ -14,6 +14,7 @@ invariant-loop-item_index g l = record {
   keeps : Keeps (full (block_of l.flat) (length (views l.flat 0 l.sets)) l.initial.heads l.initial.items)
       (full (block_of l.flat) (length (views l.flat 0 l.sets)) l.heads l.items);
   callers : AreCallers l.flat (take l.item_index l.items) l.later.callers.items;
+  counted : (j : ℕ) → l.blocks ≡ length (expand (block_of l.flat) j (take l.head_index l.heads));
   readers : AreChosen (ReadsSome l.flat) (take l.item_index l.items) (items_of l.later.readers.items);
 }
 

@@ -26,7 +26,7 @@ returns c = (
         ∙ (fronts_push c.self.inside.stores c.store.new.stores c.self.inside.bounds.items c.in_ok-bounds.bounds
         (front_in c.store.new.stores c.in_ok-bounds.bounds) c.store.ensures.more c.self.invariant refl
         ∙ ap (λ v. v ++ front_in c.store.new.stores c.in_ok-bounds.bounds ∷ []) c.self.view_is),
-    subst (λ n. IsKept c.args.flat.now n c.args.heads.now c.args.items.now
+    subst (λ n. IsKept c.args.flat.now n c.args.filled.heads.now c.args.filled.items.now
         (front_in c.store.new.stores c.in_ok-bounds.bounds)) c.len-origin.ensures c.in_ok-bounds.ensures.kept,
   ),
 )
