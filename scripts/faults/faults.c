@@ -13,6 +13,7 @@
 #define _GNU_SOURCE
 #include <errno.h>
 #include <fcntl.h>
+#include <malloc.h>
 #include <stddef.h>
 #include <stdlib.h>
 #include <string.h>
@@ -81,10 +82,11 @@ void *malloc(size_t size) { return may_grow() ? given(__libc_malloc(size)) : NUL
 
 void *calloc(size_t count, size_t size) { return may_grow() ? given(__libc_calloc(count, size)) : NULL; }
 
+/* A block that becomes smaller is no growth. It has less than 24 bytes more than were asked for. */
 void *realloc(void *old, size_t size) {
     if (!old)
         return malloc(size);
-    return may_grow() ? __libc_realloc(old, size) : NULL;
+    return size + 24 <= malloc_usable_size(old) || may_grow() ? __libc_realloc(old, size) : NULL;
 }
 
 void free(void *block) {
