@@ -9,7 +9,7 @@ use Rattle.flatgrammar.specs.Places.{In, now, on}
 use Rattle.flatgrammar.specs.declared.flat_item.Item.{Item}
 use Rattle.flatgrammar.proofs.CallOfLemmas.{some_same}
 use Rattle.flatgrammar.proofs.FlatCutLemmas.{push_cases}
-use Rattle.earley.specs.ItemRows.{IsIn, IsLast, AreLinked}
+use Rattle.earley.specs.ItemRows.{IsIn, IsLast, AreLinked, AreWithin}
 
 pub end_get : {A : Type 0} (xs : List A) (a : A) → slice_get (xs ++ a ∷ []) (length xs) ≡ Some a
 end_get [] a = refl
@@ -67,14 +67,56 @@ set_get [] i a lt = absurd (omega (arith, lt))
 set_get (x ∷ xs) zero a lt = refl
 set_get (x ∷ xs) (suc i) a lt = set_get xs i a (let less : i < length xs = omega (arith, lt) in less)
 
+-- more room for rows tells of no more
+pub within_kept : (list : List Item) (rows rows' : List ℕ) (base : ℕ)
+    → ((b h : ℕ) → slice_get rows' b ≡ Some h → 0 < h → slice_get rows b ≡ Some h)
+    → AreWithin list rows base → AreWithin list rows' base
+within_kept list rows rows' base kept within b zero g = omega arith
+within_kept list rows rows' base kept within b (suc h) g = within b (suc h) (kept b (suc h) g (omega arith))
+
+-- rows tell of as much where there are more items
+pub within_push : (list : List Item) (a : Item) (rows : List ℕ) (base : ℕ) → AreWithin list rows base
+    → AreWithin (list ++ a ∷ []) rows base
+within_push list a rows base within b h g =
+    let le = within b h g in
+    let size = length-append list (a ∷ []) in
+    omega (arith, le, size)
+
+pub within_more : (list : List Item) (rows : List ℕ) (base : ℕ) → AreWithin [] rows base → AreWithin list rows base
+within_more list rows base within b h g = let le = within b h g in omega (arith, le)
+
+-- from a base behind all that rows tell, they tell of nothing
+pub within_none : (list : List Item) (rows : List ℕ) (base next : ℕ) → next ≡ base + length list
+    → AreWithin list rows base → AreWithin [] rows next
+within_none list rows base next is within b h g = let le = within b h g in omega (arith, is, le)
+
+pub within_set : (list : List Item) (rows : List ℕ) (base i v : ℕ) → v ≤ base + length list → AreWithin list rows base
+    → AreWithin list (set rows i v) base
+within_set list rows base i v le within b h g = ⊎_elim (λ e. let same = e.1 in omega (arith, same, le))
+    (λ e. within b h e.1) (set_cases rows i b v h g)
+
 module _ (row : Item → ℕ) where
-  pub none_linked : (links rows : List ℕ) → AreLinked row [] links rows
-  none_linked links rows = record {
+  pub none_linked : (links rows : List ℕ) (base : ℕ) → 0 < length rows → AreWithin [] rows base
+      → AreLinked row [] links rows base
+  none_linked links rows base some none = record {
     long = omega arith;
-    some = λ lt. absurd (omega (arith, lt));
+    some = some;
     before = λ i l a h g. absurd (let no = h in cc);
-    last = λ j h a e g. absurd (let no = e in cc);
+    last = λ b h g. let le = none b h g in record {
+      within = omega (arith, le);
+      here = λ pos. absurd (omega (arith, le, pos));
+      after = λ j a ge lt e same. absurd (let no = e in cc);
+    };
   }
+
+  pub linked_within : (list : List Item) (links rows : List ℕ) (base : ℕ) → AreLinked row list links rows base
+      → AreWithin list rows base
+  linked_within list links rows base l b h g = let le = (l.last b h g).within in omega (arith, le)
+
+  -- the last item of a row, as the row tells
+  pub last_told : (list : List Item) (links rows : List ℕ) (base b d : ℕ) → AreLinked row list links rows base
+      → b < length rows → IsLast row list (length list) b (slice_index_or rows b d - base)
+  last_told list links rows base b d l lt = l.last b (slice_index_or rows b d) (get_index rows b d lt)
 
   in_push : (list : List Item) (a : Item) (b j : ℕ) → IsIn row list b j → IsIn row (list ++ a ∷ []) b j
   in_push list a b j i = (i.0, keeps_get list (a ∷ []) j i.0 i.1, i.2)
@@ -88,30 +130,47 @@ module _ (row : Item → ℕ) where
         (λ m. absurd (let n = m.0 in omega (arith, n, lt, le))) (push_cases list a j d e);
   }
 
+  -- an item of another row behind them
+  last_other : (list : List Item) (a : Item) (b at : ℕ) → (row a ≡ b → ⊥) → IsLast row list (length list) b at
+      → IsLast row (list ++ a ∷ []) (length (list ++ a ∷ [])) b at
+  last_other list a b at other l = record {
+    within = let le = l.within in let size = length-append list (a ∷ []) in omega (arith, le, size);
+    here = λ h. in_push list a b (at - 1) (l.here h);
+    after = λ j d ge lt e same. ⊎_elim (λ e'. l.after j d ge (slice_get_within list j d e') e' same)
+        (λ m. other (ap row m.1 ∙ same)) (push_cases list a j d e);
+  }
+
+  -- an item of that row behind them
+  last_new : (list : List Item) (a : Item) (b at : ℕ) → b ≡ row a → at ≡ length list + 1
+      → IsLast row (list ++ a ∷ []) (length (list ++ a ∷ [])) b at
+  last_new list a b at is here = record {
+    within = let size = length-append list (a ∷ []) in omega (arith, here, size);
+    here = λ pos. let one : at - 1 ≡ length list = omega (arith, here) in rw one (a, end_get list a, sym is);
+    after = λ j d ge lt e same. let size = length-append list (a ∷ []) in absurd (omega (arith, here, size, ge, lt));
+  }
+
   -- other links behind those of the items
-  pub linked_same : (list : List Item) (links links' rows : List ℕ) → AreLinked row list links rows
+  pub linked_same : (list : List Item) (links links' rows : List ℕ) (base : ℕ) → AreLinked row list links rows base
       → length list ≤ length links' →
       ((i l : ℕ) → i < length list → slice_get links' i ≡ Some l → slice_get links i ≡ Some l)
-      → AreLinked row list links' rows
-  linked_same list links links' rows l long same = record {
+      → AreLinked row list links' rows base
+  linked_same list links links' rows base l long same = record {
     long = long;
     some = l.some;
     before = λ i k a h g. l.before i k a h (same i k (slice_get_within list i a h) g);
     last = l.last;
   }
 
-  pub linked_push : (list : List Item) (links rows : List ℕ) (a : Item) (last : ℕ) → AreLinked row list links rows
-      → slice_get links (length list) ≡ Some last →
-      IsLast row list (length list) (row a) last → 0 < length rows
-      → length rows ≡ length (set rows (row a) (length list + 1)) →
-      AreLinked row (list ++ a ∷ []) links (set rows (row a) (length list + 1))
-  linked_push list links rows a last l is at_last some same_size = record {
+  pub linked_push : (list : List Item) (links rows : List ℕ) (base : ℕ) (a : Item) (last told : ℕ)
+      → AreLinked row list links rows base → slice_get links (length list) ≡ Some last →
+      IsLast row list (length list) (row a) last → told ≡ base + (length list + 1) →
+      AreLinked row (list ++ a ∷ []) links (set rows (row a) told) base
+  linked_push list links rows base a last told l is at_last tells = record {
     long = let lt = slice_get_within links (length list) last is in let size = length-append list (a ∷ []) in
         omega (arith, lt, size);
-    some = λ lt. let n = same_size in omega (arith, some, n);
+    some = let n = length-set rows (row a) told in let some = l.some in omega (arith, some, n);
     before = λ i k d h g. by_link i k d g (push_cases list a i d h);
-    last = λ j h d e g. by_head j h d g (push_cases list a j d e)
-        (set_cases rows (row a) (row d) (length list + 1) h g);
+    last = λ b h g. by_row b h (set_cases rows (row a) b told h g);
   }
     where
       by_link : (i k : ℕ) (d : Item) → slice_get links i ≡ Some k → (slice_get list i ≡ Some d)
@@ -122,39 +181,28 @@ module _ (row : Item → ℕ) where
           let k_is : last ≡ k = some_same (sym is ∙ (ap (λ n. slice_get links n) (sym m.0) ∙ g)) in
           rw (m.0, ← m.1, ← k_is) (last_push list a (length list) (row a) last (omega arith) at_last)
 
-      by_head : (j h : ℕ) (d : Item) → slice_get (set rows (row a) (length list + 1)) (row d) ≡ Some h
-          → (slice_get list j ≡ Some d) ⊎ ((j ≡ length list) × (a ≡ d)) →
-          ((row d ≡ row a) × (length list + 1 ≡ h)) ⊎ ((row d ≡ row a → ⊥) × (slice_get rows (row d) ≡ Some h))
-          → (j < h) × IsIn row (list ++ a ∷ []) (row d) (h - 1)
-      by_head j h d g there (inl m) =
-          let n = m.1 in
-          let p : h - 1 ≡ length list = omega (arith, n) in
-          let lt : j < h = by_size there in
-          (lt, rw p (a, end_get list a, sym m.0))
-        where
-          by_size : (slice_get list j ≡ Some d) ⊎ ((j ≡ length list) × (a ≡ d)) → j < h
-          by_size (inl e) = let le = slice_get_within list j d e in let n = m.1 in omega (arith, le, n)
-          by_size (inr q) = let le = q.0 in let n = m.1 in omega (arith, le, n)
-      by_head j h d g (inl e) (inr m) = let k = l.last j h d e m.1 in (k.0, in_push list a (row d) (h - 1) k.1)
-      by_head j h d g (inr q) (inr m) = absurd (m.0 (ap row (sym q.1)))
+      by_row : (b h : ℕ) → ((b ≡ row a) × (told ≡ h)) ⊎ ((b ≡ row a → ⊥) × (slice_get rows b ≡ Some h))
+          → IsLast row (list ++ a ∷ []) (length (list ++ a ∷ [])) b (h - base)
+      by_row b h (inl m) = let n = m.1 in last_new list a b (h - base) m.0 (omega (arith, n, tells))
+      by_row b h (inr m) = last_other list a b (h - base) (λ same. m.0 (sym same)) (l.last b h m.1)
 
   -- the next item of a list of which the first i are linked
-  pub linked_next : (list : List Item) (links rows : List ℕ) (i last : ℕ) (a : Item) → slice_get list i ≡ Some a
-      → length list ≤ length links →
-      AreLinked row (take i list) links rows → IsLast row (take i list) (length (take i list)) (row a) last
-      → 0 < length rows →
-      AreLinked row (take (i + 1) list) (set links i last) (set rows (row a) (i + 1))
-  linked_next list links rows i last a is long l at_last some =
+  pub linked_next : (list : List Item) (links rows : List ℕ) (base i last told : ℕ) (a : Item)
+      → slice_get list i ≡ Some a → length list ≤ length links →
+      AreLinked row (take i list) links rows base → IsLast row (take i list) (length (take i list)) (row a) last
+      → told ≡ base + (i + 1) →
+      AreLinked row (take (i + 1) list) (set links i last) (set rows (row a) told) base
+  linked_next list links rows base i last told a is long l at_last tells =
       let lt = slice_get_within list i a is in
       let count : length (take i list) ≡ i = length-take-le i list (omega (arith, lt)) in
       let size = length-set links i last in
-      let kept = linked_same (take i list) links (set links i last) rows l (omega (arith, count, size, long, lt))
-      (λ j k less g. other j k less g count) in
+      let kept = linked_same (take i list) links (set links i last) rows base l
+      (omega (arith, count, size, long, lt)) (λ j k less g. other j k less g count) in
       let here : slice_get (set links i last) (length (take i list)) ≡ Some last =
       rw count (set_get links i last (omega (arith, lt, long))) in
-      let pushed = linked_push (take i list) (set links i last) rows a last kept here at_last some
-      (sym (length-set rows (row a) (length (take i list) + 1))) in
-      rw (add-one i, take_next list i a is) (rw (count, add-one i) at pushed)
+      let pushed = linked_push (take i list) (set links i last) rows base a last told kept here at_last
+      (omega (arith, tells, count)) in
+      rw (add-one i, take_next list i a is) pushed
     where
       other : (j k : ℕ) → j < length (take i list) → slice_get (set links i last) j ≡ Some k → length (take i list) ≡ i
           → slice_get links j ≡ Some k
@@ -178,11 +226,11 @@ module _ (row : Item → ℕ) where
   le_cases : (j at : ℕ) → 0 < at → (j < at - 1) ⊎ ((j ≡ at - 1) ⊎ (at ≤ j))
   le_cases j at h = grind arith
 
-  pub sought_next : (list : List Item) (links rows : List ℕ) (item a : Item) (at link : ℕ)
-      → AreLinked row list links rows → IsSought list item at → 0 < at →
+  pub sought_next : (list : List Item) (links rows : List ℕ) (base : ℕ) (item a : Item) (at link : ℕ)
+      → AreLinked row list links rows base → IsSought list item at → 0 < at →
       slice_get list (at - 1) ≡ Some a → slice_get links (at - 1) ≡ Some link → (a ≡ item → ⊥) → (link < at)
       × IsSought list item link
-  sought_next list links rows item a at link l s pos e g other =
+  sought_next list links rows base item a at link l s pos e g other =
       let i = s.here pos in
       let in_row : row a ≡ row item = ap row (some_same (sym e ∙ i.1)) ∙ i.2 in
       let last = l.before (at - 1) link a e g in
@@ -207,14 +255,15 @@ module _ (row : Item → ℕ) where
 
   -- one step of the walk, by indices
   pub sought_step : (list : List Item) (links : List ℕ) (item : Item) (at : ℕ) (d : Item) (e : ℕ) → (rows : List ℕ)
-      × (AreLinked row list links rows) → IsSought list item at → 0 < at →
+      × ((base : ℕ) × (AreLinked row list links rows base)) → IsSought list item at → 0 < at →
       (slice_index_or list (at - 1) d ≡ item → ⊥) → (slice_index_or links (at - 1) e < at)
       × IsSought list item (slice_index_or links (at - 1) e)
   sought_step list links item at d e l s pos other =
       let within = s.within in
-      let long = l.1.long in
+      let long = l.1.1.long in
       let lt : at - 1 < length list = omega (arith, within, pos) in
-      sought_next list links l.0 item (slice_index_or list (at - 1) d) at (slice_index_or links (at - 1) e) l.1 s pos
+      sought_next list links l.0 l.1.0 item (slice_index_or list (at - 1) d) at (slice_index_or links (at - 1) e) l.1.1 s
+      pos
       (get_index list (at - 1) d lt) (get_index links (at - 1) e (omega (arith, lt, long))) other
 
   pub sought_none : (list : List Item) (item : Item) (at : ℕ) → at ≤ 0 → IsSought list item at → In item list → ⊥

@@ -1,5 +1,6 @@
 -- Lists of what waits for heads.
 -- Serves: judge.
+use Rattle.std.proofs.Common.{⊎_elim}
 use Rattle.std.proofs.Common.{◌≡◌, ℕ, zero, suc, ◌+◌, ◌-◌, ◌<◌, ◌≤◌, ◌⊎◌, inl, inr, Some, None, map, List, [], ◌∷◌}
 use Rattle.std.proofs.Common.{◌++◌, length, take, set, slice_get, slice_index_or, refl, sym, ◌∙◌, ap, subst, arith}
 use Rattle.std.proofs.Common.{append_assoc}
@@ -15,7 +16,7 @@ use Rattle.earley.specs.declared.wait.Wait.{Wait}
 use Rattle.earley.specs.ItemSets.{Adds, IsResumed}
 use Rattle.earley.specs.Fronts.{Front}
 use Rattle.earley.specs.FrontViews.{view}
-use Rattle.earley.specs.Waiting.{Chain, ended, linked, IsListed, asked_at, AreWaiting}
+use Rattle.earley.specs.Waiting.{IsPassedTo, Chain, ended, linked, IsListed, asked_at, AreWaiting}
 use Rattle.earley.specs.Waiting.{AreWaitingAll}
 use Rattle.flatgrammar.specs.Blocks.{item_at, block_of, inner_of, lists_of, spots_of, AreSpotLists}
 use Rattle.flatgrammar.specs.declared.spot_list.Ask.{Ask}
@@ -96,6 +97,44 @@ pub along_end : (waits : List Wait) (at : ℕ) (es old new : List Item) → IsAl
     → Adds (λ a. In a es) old new
 along_end waits at es old new along le = along.whole new
     (adds_none (λ a. In a along.rest) new (λ a h. elim (subst (λ v. In a v) (chain_none along.chain le) h) [ ]))
+
+pub passed_start : (waits : List Wait) (first : ℕ) (es set : List Item) → Chain waits first es
+    → IsPassedTo waits first es set
+passed_start waits first es set c = record { rest = es; chain = c; seen = λ a h. inr h; left = λ a h. h }
+
+pub passed_next : (waits : List Wait) (at : ℕ) (es now_there : List Item) (d : Wait) → IsPassedTo waits at es now_there
+    → 0 < at → In (slice_index_or waits (at - 1) d).item now_there
+    → IsPassedTo waits (slice_index_or waits (at - 1) d).next es now_there
+passed_next waits at es now_there d p pos there =
+    let n = chain_next d p.chain pos in
+    record {
+      rest = n.rest;
+      chain = n.chain;
+      seen = λ a h. by a n.rest (⊎_elim (λ s. inl s) (λ r. inr (subst (λ v. In a v) n.is r)) (p.seen a h));
+      left = λ a h. p.left a (subst (λ v. In a v) (sym n.is) (on h));
+    }
+  where
+    by : (a : Item) (rest : List Item) → In a now_there ⊎ In a ((slice_index_or waits (at - 1) d).item ∷ rest)
+        → In a now_there ⊎ In a rest
+    by a rest (inl s) = inl s
+    by a rest (inr (now same)) = inl (subst (λ v. In v now_there) (sym same) there)
+    by a rest (inr (on h)) = inr h
+
+-- what was passed over stands in the set
+pub along_passed : (waits : List Wait) (at next : ℕ) (es old new : List Item) → (along : IsAlong waits at es old new)
+    → IsPassedTo waits next along.rest new → IsAlong waits next es old new
+along_passed waits at next es old new along p = record {
+  rest = p.rest;
+  chain = p.chain;
+  whole = λ last adds. along.whole last (record {
+    added = adds.added;
+    is = adds.is;
+    all = λ a h. ⊎_elim (λ s. subst (λ v. In a v) (sym adds.is) (in_left adds.added s)) (λ r. adds.all a r)
+        (p.seen a h);
+    only = λ a h. ⊎_elim (λ s. inl s) (λ r. inr (p.left a r)) (adds.only a h);
+    different = adds.different;
+  });
+}
 
 set_at : (xs : List ℕ) (i v d : ℕ) → i < length xs → slice_index_or (set xs i v) i d ≡ v
 set_at [] i v d lt = absurd (omega (arith, lt))

@@ -1,9 +1,10 @@
 -- Items linked by rows: each names the last one before it in its row, and each row its last one.
-use Rattle.std.specs.Prelude.{◌≡◌, ℕ, ◌-◌, ◌*◌, ◌%◌, ◌^◌, ◌<◌, ◌≤◌, List, Some, slice_get, length, bit_and, bit_xor}
+use Rattle.std.specs.Prelude.{◌≡◌, ℕ, ◌+◌, ◌-◌, ◌*◌, ◌%◌, ◌^◌, ◌<◌, ◌≤◌, List, Some, slice_get, length, bit_and}
+use Rattle.std.specs.Prelude.{Bool, IsTrue}
 use Rattle.flatgrammar.specs.declared.flat_item.Item.{Item}
 
 unfoldable pub row_of : ℕ → Item → ℕ
-row_of count a = bit_and (bit_xor (bit_xor (a.node * 5 % 2 ^ 64) a.step) (a.origin * 31 % 2 ^ 64)) (count - 1)
+row_of count a = bit_and (((a.origin * 8 % 2 ^ 64) + (a.node + a.step) % 2 ^ 64) % 2 ^ 64) (count - 1)
 
 abbrev pub IsIn : (Item → ℕ) → List Item → ℕ → ℕ → Type 0
 IsIn row list b j = (a : Item) × (slice_get list j ≡ Some a) × (row a ≡ b)
@@ -14,11 +15,20 @@ pub record IsLast (row : Item → ℕ) (list : List Item) (k b at : ℕ) : Type 
   pub here : 0 < at → IsIn row list b (at - 1)
   pub after : (j : ℕ) (a : Item) → at ≤ j → j < k → slice_get list j ≡ Some a → row a ≡ b → ⊥
 
--- links and rows may hold anything where there is no item
-pub record AreLinked (row : Item → ℕ) (list : List Item) (links rows : List ℕ) : Type 0 where
+-- no row tells of more than the items
+abbrev pub AreWithin : List Item → List ℕ → ℕ → Type 0
+AreWithin list rows base = (b h : ℕ) → slice_get rows b ≡ Some h → h ≤ base + length list
+
+-- what rows tell counts from a base: one that tells no more than the base has no item. The links behind those of the
+-- items may hold anything
+pub record AreLinked (row : Item → ℕ) (list : List Item) (links rows : List ℕ) (base : ℕ) : Type 0 where
   pub long : length list ≤ length links
-  pub some : 0 < length list → 0 < length rows
+  pub some : 0 < length rows
   pub before : (i l : ℕ) (a : Item) → slice_get list i ≡ Some a → slice_get links i ≡ Some l
       → IsLast row list i (row a) l
-  pub last : (j h : ℕ) (a : Item) → slice_get list j ≡ Some a → slice_get rows (row a) ≡ Some h → (j < h)
-      × IsIn row list (row a) (h - 1)
+  pub last : (b h : ℕ) → slice_get rows b ≡ Some h → IsLast row list (length list) b (h - base)
+
+-- the rows of some items, linked or not
+pub record AreRows (list : List Item) (links rows : List ℕ) (base : ℕ) (flag : Bool) : Type 0 where
+  pub within : AreWithin list rows base
+  pub linked : IsTrue flag → AreLinked (row_of (length rows)) list links rows base

@@ -1,5 +1,5 @@
 -- What waits for the heads of a set, as lists of links.
-use Rattle.std.specs.Prelude.{◌≡◌, ℕ, suc, ◌<◌, ◌≤◌, List, [], ◌∷◌, Some, None, length, slice_get, slice_index_or}
+use Rattle.std.specs.Prelude.{◌≡◌, ℕ, suc, ◌<◌, ◌≤◌, ◌⊎◌, List, [], ◌∷◌, Some, None, length, slice_get, slice_index_or}
 use Rattle.flatgrammar.specs.declared.flat_item.Item.{Item}
 use Rattle.flatgrammar.specs.declared.tables.Tables as code_flat
 use Rattle.flatgrammar.specs.TableViews.{call_of}
@@ -16,6 +16,13 @@ pub data Chain (waits : List Wait) : ℕ → List Item → Type 0 where
   ended : Chain waits 0 []
   linked : {k : ℕ} {w : Wait} {items : List Item} → slice_get waits k ≡ Some w → w.next ≤ k → Chain waits w.next items
       → Chain waits (suc k) (w.item ∷ items)
+
+-- what a list has before a link stands in a set, and the rest is listed from that link on
+pub record IsPassedTo (waits : List Wait) (at : ℕ) (items set : List Item) : Type 0 where
+  pub rest : List Item
+  pub chain : Chain waits at rest
+  pub seen : (a : Item) → In a items → In a set ⊎ In a rest
+  pub left : (a : Item) → In a rest → In a items
 
 -- the list has those of Q
 pub record IsListed (waits : List Wait) (first : ℕ) (Q : Item → Type 0) : Type 0 where

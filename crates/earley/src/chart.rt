@@ -254,6 +254,7 @@ fn is_yes<L: Letter>(flat: &Tables, sets: &Sets, line: &[L]) -> bool
 }
 
 // Fills an empty chart by these tables, and answers.
+#[inline(never)]
 fn judge_by<L: Letter>(
     chart: &mut Chart,
     tables: Rc<Tables>,

@@ -131,6 +131,7 @@ fn home_of(heads: &[usize], home: usize, head: usize) -> Option<usize>
 }
 
 /// Adds what is listed from a link on.
+#[inline(always)]
 fn go_along(waits: &[Wait], first: usize, set: &mut Items) -> Result<(), Memory>
     requires { (items : List code_item.Item) × (Chain waits.now first items) }
     ensures { IfOk result (λ done. (items : List code_item.Item) → Chain waits.now first items
@@ -140,7 +141,7 @@ fn go_along(waits: &[Wait], first: usize, set: &mut Items) -> Result<(), Memory>
     while at > 0 {
         let wait = waits[at - 1];
         set.add(wait.item, wait.home)?;
-        at = wait.next;
+        at = set.pass_on(waits, wait.next);
     }
     Ok(())
 }

@@ -1,17 +1,21 @@
 //! The items of a set, found fast.
-ghost use Rattle.std.specs.Prelude.{◌≡◌, ◌↔◌, ◌<◌, ◌≤◌, ◌++◌, ◌∷◌, ℕ, List, [], length, slice_get, Some, IsTrue, IfOk};
+ghost use Rattle.std.specs.Prelude.{◌≡◌, ◌↔◌, ◌+◌, ◌<◌, ◌≤◌, ◌++◌, ◌∷◌, ℕ, List, [], length, slice_get, Some, IsTrue};
+ghost use Rattle.std.specs.Prelude.{IfOk, OnOk, OnErr};
 ghost use Rattle.flatgrammar.specs.Places.{In};
+ghost use Rattle.flatgrammar.specs.declared.flat_item.Item as code_item;
 ghost use Rattle.earley.specs.ItemSets.{Adds};
-ghost use Rattle.earley.specs.ItemRows.{row_of as the_row_of, IsLast, AreLinked};
+ghost use Rattle.earley.specs.Waiting.{Chain, IsPassedTo};
+ghost use Rattle.earley.specs.ItemRows.{row_of as the_row_of, IsLast, AreLinked, AreWithin, AreRows};
 
 use crate::item::{holds, same};
+use crate::wait::Wait;
 use flatgrammar::Item;
 use ruletable::Memory;
 use std::alloc::Global;
 use std::marker::Model;
 
 // So many items are looked through one by one.
-const FEW: usize = 16;
+const FEW: usize = 5;
 
 // The rows of a first growth.
 const FIRST: usize = 64;
@@ -19,31 +23,32 @@ const FIRST: usize = 64;
 /// The items of a set beside its blocks, in the order in which they were added, seen as a list.
 ///
 /// Before an item is sought among more than a few, all are linked: those of one row with one another, the last one
-/// first. Else the rows and links may hold anything, so that emptying takes no time and an item is pushed without them.
+/// first. A row tells of an item by its number from a base on, which grows past all numbers told whenever the items are
+/// linked anew or go. So emptying takes no time, and an item is pushed without a link.
 #[derive(Drop)]
 pub(crate) struct Items {
     list: Vec<Item>,
     // of each item one more than the index of the last one before it in its row, or 0
     links: Vec<usize>,
-    // of each row one more than the index of its last item
+    // of each row one more than the index of its last item, and the base
     rows: Vec<usize>,
     // of each item the index of the head that it belongs to in the set of its origin. It is not relied on
     homes: Vec<usize>,
+    base: usize,
     // whether the links and rows are those of the items
     linked: bool,
 }
 
 impl Model for Items {
-    ghost use Rattle.std.specs.Prelude.{List, length, IsTrue};
+    ghost use Rattle.std.specs.Prelude.{List};
     ghost use Rattle.flatgrammar.specs.declared.flat_item.Item.{Item};
-    ghost use Rattle.earley.specs.ItemRows.{row_of, AreLinked};
+    ghost use Rattle.earley.specs.ItemRows.{AreRows};
 
     ghost Value = { List Item };
 
     ghost view = { λ s. s.list.items };
 
-    ghost invariant = { λ s. IsTrue s.linked
-        → AreLinked (row_of (length s.rows.items)) s.list.items s.links.items s.rows.items };
+    ghost invariant = { λ s. AreRows s.list.items s.links.items s.rows.items s.base s.linked };
 }
 
 // The row of an item among that many.
@@ -54,30 +59,16 @@ fn row_of(count: usize, item: Item) -> usize
     ensures value { result ≡ the_row_of count item }
     ensures within { result < count }
 {
-    (item.node.wrapping_mul(5) ^ item.step ^ item.origin.wrapping_mul(31)) & (count - 1)
-}
-
-// One more than the index of the last item of the row, or 0.
-#[inline(always)]
-fn last_of(list: &[Item], rows: &[usize], row: usize) -> usize
-    requires row { row < length rows.now }
-    requires linked { (links : List ℕ) × (AreLinked (the_row_of (length rows.now)) list.now links rows.now) }
-    ensures { IsLast (the_row_of (length rows.now)) list.now (length list.now) row result }
-{
-    let last = rows[row];
-    if last == 0 || last > list.len() {
-        return 0;
-    }
-    if row_of(rows.len(), list[last - 1]) != row {
-        return 0;
-    }
-    last
+    item.origin
+        .wrapping_mul(8)
+        .wrapping_add(item.node.wrapping_add(item.step))
+        & (count - 1)
 }
 
 // Tells whether an item stands in a list, whose last one in the same row is given.
 #[inline(always)]
 fn stands(list: &[Item], links: &[usize], count: usize, last: usize, item: Item) -> bool
-    requires linked { (rows : List ℕ) × (AreLinked (the_row_of count) list.now links.now rows) }
+    requires linked { (rows : List ℕ) × ((base : ℕ) × (AreLinked (the_row_of count) list.now links.now rows base)) }
     requires last { IsLast (the_row_of count) list.now (length list.now) (the_row_of count item) last }
     ensures { IsTrue result ↔ In item list.now }
 {
@@ -114,21 +105,24 @@ fn push(
     list: &mut Vec<Item>,
     links: &mut Vec<usize>,
     rows: &mut [usize],
+    base: usize,
     last: usize,
     item: Item,
 ) -> Result<(), Memory>
-    requires linked { AreLinked (the_row_of (length rows.old)) list.old.items links.old.items rows.old }
-    requires some { 0 < length rows.old }
+    requires linked { AreLinked (the_row_of (length rows.old)) list.old.items links.old.items rows.old base }
     requires last { IsLast (the_row_of (length rows.old)) list.old.items (length list.old.items)
         (the_row_of (length rows.old) item) last }
-    ensures linked { AreLinked (the_row_of (length rows.new)) list.new.items links.new.items rows.new }
+    ensures linked { AreLinked (the_row_of (length rows.new)) list.new.items links.new.items rows.new base }
     ensures pushed { IfOk result (λ done. list.new.items ≡ list.old.items ++ item ∷ []) }
 {
     let row = row_of(rows.len(), item);
     let index = list.len();
+    let Some(told) = base.checked_add(index + 1) else {
+        return Err(Memory);
+    };
     set_link(links, index, last)?;
     list.push(item)?;
-    rows[row] = index + 1;
+    rows[row] = told;
     Ok(())
 }
 
@@ -138,41 +132,45 @@ fn insert(
     list: &mut Vec<Item>,
     links: &mut Vec<usize>,
     rows: &mut [usize],
+    base: usize,
     item: Item,
 ) -> Result<(), Memory>
-    requires linked { AreLinked (the_row_of (length rows.old)) list.old.items links.old.items rows.old }
-    requires some { 0 < length rows.old }
-    ensures linked { AreLinked (the_row_of (length rows.new)) list.new.items links.new.items rows.new }
+    requires linked { AreLinked (the_row_of (length rows.old)) list.old.items links.old.items rows.old base }
+    ensures linked { AreLinked (the_row_of (length rows.new)) list.new.items links.new.items rows.new base }
     ensures added { IfOk result (λ done. Adds (λ a. a ≡ item) list.old.items list.new.items) }
 {
-    let row = row_of(rows.len(), item);
-    let last = last_of(list, rows, row);
+    let last = rows[row_of(rows.len(), item)].saturating_sub(base);
     if !stands(list, links, rows.len(), last, item) {
-        push(list, links, rows, last, item)?;
+        push(list, links, rows, base, last, item)?;
     }
     Ok(())
 }
 
-// Links all items anew, whatever the links and rows were.
-fn relink(list: &[Item], links: &mut [usize], rows: &mut [usize])
+// Links all items, of which the rows tell nothing.
+fn relink(list: &[Item], links: &mut [usize], rows: &mut [usize], base: usize) -> Result<(), Memory>
     requires some { 0 < length rows.old }
     requires long { length list.now ≤ length links.old }
-    ensures linked { AreLinked (the_row_of (length rows.new)) list.now links.new rows.new }
+    requires none { AreWithin [] rows.old base }
+    ensures linked { OnOk result (AreLinked (the_row_of (length rows.new)) list.now links.new rows.new base) }
+    ensures within { AreWithin list.now rows.new base }
     ensures count { length rows.new ≡ length rows.old }
 {
     for i in 0..list.len() {
         let row = row_of(rows.len(), list[i]);
-        let last = last_of(&list[..i], rows, row);
-        links[i] = last;
-        rows[row] = i + 1;
+        let Some(told) = base.checked_add(i + 1) else {
+            return Err(Memory);
+        };
+        links[i] = rows[row].saturating_sub(base);
+        rows[row] = told;
     }
+    Ok(())
 }
 
-// Links all items anew. There are more rows if they were few. `Memory` if an allocation fails.
-fn prepare(list: &[Item], links: &mut Vec<usize>, rows: &mut Vec<usize>) -> Result<(), Memory>
-    ensures linked { IfOk result
-        (λ done. AreLinked (the_row_of (length rows.new.items)) list.now links.new.items rows.new.items) }
-    ensures some { IfOk result (λ done. 0 < length rows.new.items) }
+// Makes rows and links for all items. There are more rows if they were few. `Memory` if an allocation fails.
+fn make_room(list: &[Item], links: &mut Vec<usize>, rows: &mut Vec<usize>) -> Result<(), Memory>
+    ensures long { OnOk result (length list.now ≤ length links.new.items) }
+    ensures some { OnOk result (0 < length rows.new.items) }
+    ensures kept { (b h : ℕ) → slice_get rows.new.items b ≡ Some h → 0 < h → slice_get rows.old.items b ≡ Some h }
 {
     if links.len() < list.len() {
         links.resize(list.len(), 0)?;
@@ -183,32 +181,83 @@ fn prepare(list: &[Item], links: &mut Vec<usize>, rows: &mut Vec<usize>) -> Resu
         let count = rows.len().saturating_mul(2);
         rows.resize(count, 0)?;
     }
-    relink(list, links, rows);
     Ok(())
 }
 
-// Adds an item unless it is there, and links all.
-#[inline(always)]
-fn link(
-    list: &mut Vec<Item>,
+// Links all items anew, of which the rows tell nothing. There are more rows if they were few. `Memory` if an allocation
+// fails.
+#[inline(never)]
+fn prepare(
+    list: &[Item],
     links: &mut Vec<usize>,
     rows: &mut Vec<usize>,
+    base: usize,
+) -> Result<(), Memory>
+    requires none { AreWithin [] rows.old.items base }
+    ensures linked { OnOk result
+        (AreLinked (the_row_of (length rows.new.items)) list.now links.new.items rows.new.items base) }
+    ensures within { AreWithin list.now rows.new.items base }
+{
+    make_room(list, links, rows)?;
+    relink(list, links, rows, base)
+}
+
+// Links all items, unless they are linked. `Memory` if an allocation fails.
+#[inline(always)]
+fn link(
+    list: &[Item],
+    links: &mut Vec<usize>,
+    rows: &mut Vec<usize>,
+    base: &mut usize,
+    linked: &mut bool,
+) -> Result<(), Memory>
+    requires { AreRows list.now links.old.items rows.old.items base.old linked.old }
+    ensures rows { AreRows list.now links.new.items rows.new.items base.new linked.new }
+    ensures linked { OnOk result
+        (AreLinked (the_row_of (length rows.new.items)) list.now links.new.items rows.new.items base.new) }
+{
+    if *linked {
+        return Ok(());
+    }
+    let Some(next) = base.checked_add(list.len()) else {
+        return Err(Memory);
+    };
+    *base = next;
+    prepare(list, links, rows, next)?;
+    *linked = true;
+    Ok(())
+}
+
+// Adds an item unless it is there, where all are linked. They no longer count as linked once the rows are few.
+#[inline(always)]
+fn add_linked(
+    list: &mut Vec<Item>,
+    links: &mut Vec<usize>,
+    rows: &mut [usize],
+    base: usize,
     linked: &mut bool,
     item: Item,
 ) -> Result<(), Memory>
-    requires { IsTrue linked.old
-        → AreLinked (the_row_of (length rows.old.items)) list.old.items links.old.items rows.old.items }
-    ensures linked { IsTrue linked.new
-        → AreLinked (the_row_of (length rows.new.items)) list.new.items links.new.items rows.new.items }
+    requires linked { AreLinked (the_row_of (length rows.old)) list.old.items links.old.items rows.old base }
+    ensures rows { AreRows list.new.items links.new.items rows.new base linked.new }
     ensures added { IfOk result (λ done. Adds (λ a. a ≡ item) list.old.items list.new.items) }
 {
-    if *linked && list.len() < rows.len() / 2 {
-        return insert(list, links, rows, item);
+    insert(list, links, rows, base, item)?;
+    *linked = list.len() < rows.len() / 2;
+    Ok(())
+}
+
+// Adds an item to a few unless it is there.
+#[inline(always)]
+fn add_few(list: &mut Vec<Item>, item: Item) -> Result<(), Memory>
+    ensures added { IfOk result (λ done. Adds (λ a. a ≡ item) list.old.items list.new.items) }
+    ensures more { (rows : List ℕ) (base : ℕ) → AreWithin list.old.items rows base
+        → AreWithin list.new.items rows base }
+{
+    if !holds(list, item) {
+        list.push(item)?;
     }
-    *linked = false;
-    prepare(list, links, rows)?;
-    *linked = true;
-    insert(list, links, rows, item)
+    Ok(())
 }
 
 // Adds an item unless it is there.
@@ -217,27 +266,19 @@ fn put(
     list: &mut Vec<Item>,
     links: &mut Vec<usize>,
     rows: &mut Vec<usize>,
+    base: &mut usize,
     linked: &mut bool,
     item: Item,
 ) -> Result<(), Memory>
-    requires { IsTrue linked.old
-        → AreLinked (the_row_of (length rows.old.items)) list.old.items links.old.items rows.old.items }
-    ensures linked { IsTrue linked.new
-        → AreLinked (the_row_of (length rows.new.items)) list.new.items links.new.items rows.new.items }
+    requires { AreRows list.old.items links.old.items rows.old.items base.old linked.old }
+    ensures rows { AreRows list.new.items links.new.items rows.new.items base.new linked.new }
     ensures added { IfOk result (λ done. Adds (λ a. a ≡ item) list.old.items list.new.items) }
 {
-    if list.len() > FEW {
-        return link(list, links, rows, linked, item);
+    if !*linked && list.len() < FEW {
+        return add_few(list, item);
     }
-    if holds(list, item) {
-        return Ok(());
-    }
-    if list.len() == FEW {
-        return link(list, links, rows, linked, item);
-    }
-    *linked = false;
-    list.push(item)?;
-    Ok(())
+    link(list, links, rows, base, linked)?;
+    add_linked(list, links, rows, *base, linked, item)
 }
 
 // Sets the home of an index.
@@ -252,17 +293,39 @@ fn set_home(homes: &mut Vec<usize>, index: usize, home: usize) -> Result<(), Mem
 
 // Tells of some items of a list that they stand there. It takes one look.
 #[inline(always)]
-fn is_near(list: &[Item], rows: &[usize], item: Item) -> bool
+fn is_near(list: &[Item], rows: &[usize], base: usize, item: Item) -> bool
+    requires { AreWithin list.now rows.now base }
     ensures { IsTrue result → In item list.now }
 {
     if rows.is_empty() {
         return false;
     }
-    let last = rows[row_of(rows.len(), item)];
-    if last == 0 || last > list.len() {
+    let last = rows[row_of(rows.len(), item)].saturating_sub(base);
+    if last == 0 {
         return false;
     }
     same(list[last - 1], item)
+}
+
+// Goes along a list from a link on, and returns the link of the first item that is not seen at once to stand among the
+// items, or 0.
+#[inline(never)]
+fn pass_near(waits: &[Wait], first: usize, list: &[Item], rows: &[usize], base: usize) -> usize
+    requires chain { (items : List code_item.Item) × (Chain waits.now first items) }
+    requires within { AreWithin list.now rows.now base }
+    ensures order { result ≤ first }
+    ensures passed { (items : List code_item.Item) → Chain waits.now first items
+        → IsPassedTo waits.now result items list.now }
+{
+    let mut at = first;
+    while at > 0 {
+        let wait = waits[at - 1];
+        if !is_near(list, rows, base, wait.item) {
+            return at;
+        }
+        at = wait.next;
+    }
+    at
 }
 
 impl Items {
@@ -275,6 +338,7 @@ impl Items {
             links: Vec::new(alloc),
             rows: Vec::new(alloc),
             homes: Vec::new(alloc),
+            base: 0,
             linked: false,
         }
     }
@@ -309,20 +373,24 @@ impl Items {
         }
     }
 
+    /// Goes along a list from a link on, and returns the link of the first item that is not seen at once to stand
+    /// there, or 0.
+    #[inline(always)]
+    pub(crate) fn pass_on(&self, waits: &[Wait], first: usize) -> usize
+        requires { (items : List code_item.Item) × (Chain waits.now first items) }
+        ensures order { result ≤ first }
+        ensures passed { (items : List code_item.Item) → Chain waits.now first items
+            → IsPassedTo waits.now result items self.now }
+    {
+        if first == 0 {
+            return 0;
+        }
+        pass_near(waits, first, &self.list, &self.rows, self.base)
+    }
+
     /// Adds an item unless it is there. `Memory` if an allocation fails.
     #[inline(always)]
     pub(crate) fn add(&mut self, item: Item, home: usize) -> Result<(), Memory>
-        ensures { IfOk result (λ done. Adds (λ a. a ≡ item) self.old self.new) }
-    {
-        if self.list.len() > FEW && is_near(&self.list, &self.rows, item) {
-            return Ok(());
-        }
-        self.look(item, home)
-    }
-
-    // Adds an item unless it is there.
-    #[inline(always)]
-    fn look(&mut self, item: Item, home: usize) -> Result<(), Memory>
         ensures { IfOk result (λ done. Adds (λ a. a ≡ item) self.old self.new) }
     {
         let index = self.list.len();
@@ -330,6 +398,7 @@ impl Items {
             &mut self.list,
             &mut self.links,
             &mut self.rows,
+            &mut self.base,
             &mut self.linked,
             item,
         )?;
@@ -356,6 +425,13 @@ impl Items {
         ensures { self.new ≡ [] }
     {
         self.linked = false;
+        match self.base.checked_add(self.list.len()) {
+            Some(next) => self.base = next,
+            None => {
+                self.rows.clear();
+                self.base = 0;
+            }
+        }
         self.list.clear();
     }
 }

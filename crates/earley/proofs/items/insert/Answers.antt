@@ -8,5 +8,5 @@ pub returns-in_ok-push-clause-added : goal.returns-in_ok-push-clause-added
 returns-in_ok-push-clause-added c =
     subst (λ v. Adds (λ a. a ≡ c.args.item) c.args.list.now.items v) (sym c.in_ok-push.ensures.pushed)
     (adds_one c.args.item c.args.list.now.items
-    (λ h. let t = c.stands.ensures.1 (subst (λ v. In c.args.item v) (sym c.deref-2.ensures.value) h) in let f =
+    (λ h. let t = c.stands.ensures.1 (subst (λ v. In c.args.item v) (sym c.deref.ensures.value) h) in let f =
     c.if-not-stands.true in absurd cc))

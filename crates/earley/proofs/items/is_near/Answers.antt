@@ -1,11 +1,16 @@
-use Rattle.std.proofs.Common.{◌-◌, Some, ap, ◌∙◌, arith, slice_index_or}
+use Rattle.std.proofs.Common.{◌-◌, ◌<◌, length, Some, ap, ◌∙◌, arith, slice_index_or}
 use Rattle.earley.proofs.ItemRowsLemmas.{get_in, get_index}
 use Rattle.earley.proofs.items.is_near.Goals as goal
 
 pub returns : goal.returns
 returns c t =
-    let last = slice_index_or c.args.rows.now c.row_of.result 0 in
+    let list = c.args.list.now in
+    let rows = c.args.rows.now in
+    let row = c.row_of.result in
+    let at = get_index rows row 0 c.row_of.ensures.within in
+    let le = c.requires row (slice_index_or rows row 0) at in
+    let last = c.saturating_sub-last.ensures in
     let pos = c.if-last-eq0.false in
-    let within = c.if-last-list.false in
-    get_in c.args.item c.args.list.now (last - 1)
-    (get_index c.args.list.now (last - 1) _ (omega (arith, within, pos)) ∙ ap Some (c.same.ensures.0 t))
+    let lt : c.saturating_sub-last.result - 1 < length list = omega (arith, le, last, pos) in
+    get_in c.args.item list (c.saturating_sub-last.result - 1)
+    (get_index list (c.saturating_sub-last.result - 1) _ lt ∙ ap Some (c.same.ensures.0 t))

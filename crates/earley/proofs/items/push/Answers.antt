@@ -1,4 +1,4 @@
-use Rattle.std.proofs.Common.{◌≡◌, ◌+◌, length, length-set, Some, sym, subst, arith, slice_get}
+use Rattle.std.proofs.Common.{◌≡◌, length, length-set, Some, subst, arith, slice_get}
 use Rattle.earley.specs.ItemRows.{row_of}
 use Rattle.earley.proofs.ItemRowsLemmas.{linked_same, linked_push}
 use Rattle.earley.proofs.items.push.Goals as goal
@@ -10,7 +10,7 @@ returns-in_err-push-clause-linked c =
     let long = c.in_ok-set_link.ensures.long in
     let was = c.requires.linked.long in
     rw (c.in_err-push.ensures.items) (linked_same (row_of (length c.args.rows.now)) c.args.list.now.items
-    c.args.links.now.items c.set_link.new.links.items c.args.rows.now c.requires.linked
+    c.args.links.now.items c.set_link.new.links.items c.args.rows.now c.args.base c.requires.linked
     (omega (arith, long, was)) (λ i l lt g. c.in_ok-set_link.ensures.others i l (omega (arith, lt, count)) g))
 
 pub returns-clause-linked : goal.returns-clause-linked
@@ -19,17 +19,16 @@ returns-clause-linked c =
     (let e = c.len-index.ensures in let o = c.args.list.now.ok.0 in omega (arith, e, o)) in
     let long = c.in_ok-set_link.ensures.long in
     let was = c.requires.linked.long in
+    let tells = c.in-Some.ensures.1 in
     let links = linked_same (row_of (length c.args.rows.now)) c.args.list.now.items c.args.links.now.items
-    c.set_link.new.links.items c.args.rows.now c.requires.linked
+    c.set_link.new.links.items c.args.rows.now c.args.base c.requires.linked
     (omega (arith, long, was)) (λ i l lt g. c.in_ok-set_link.ensures.others i l (omega (arith, lt, count)) g) in
     let here = subst (λ n. slice_get c.set_link.new.links.items n ≡ Some c.args.last) count
     c.in_ok-set_link.ensures.here in
     rw (
       c.in_ok-push.ensures.items,
-      count,
       c.row_of-row.ensures.value,
-      length-set c.args.rows.now (row_of (length c.args.rows.now) c.args.item) (length c.args.list.now.items + 1),
+      length-set c.args.rows.now (row_of (length c.args.rows.now) c.args.item) c.in-Some.told,
     )
     (linked_push (row_of (length c.args.rows.now)) c.args.list.now.items c.set_link.new.links.items c.args.rows.now
-    c.args.item c.args.last links here c.requires.last c.requires.some
-    (sym (length-set c.args.rows.now (row_of (length c.args.rows.now) c.args.item) (length c.args.list.now.items + 1))))
+    c.args.base c.args.item c.args.last c.in-Some.told links here c.requires.last (omega (arith, tells, count)))

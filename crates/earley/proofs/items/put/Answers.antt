@@ -1,12 +1,7 @@
-use Rattle.std.proofs.Common.{◌≡◌, sym, subst}
-use Rattle.flatgrammar.specs.Places.{In}
-use Rattle.earley.specs.ItemSets.{Adds}
-use Rattle.earley.proofs.AddsLemmas.{adds_one}
 use Rattle.earley.proofs.items.put.Goals as goal
 
-pub returns-clause-added : goal.returns-clause-added
-returns-clause-added c =
-    subst (λ v. Adds (λ a. a ≡ c.args.item) c.args.list.now.items v) (sym c.in_ok-push.ensures.items)
-    (adds_one c.args.item c.args.list.now.items
-    (λ h. let t = c.holds.ensures.1 (subst (λ v. In c.args.item v) (sym c.deref.ensures.value) h) in let f =
-    c.if-holds.false in absurd cc))
+pub returns-then-len-lt-FEW-clause-rows : goal.returns-then-len-lt-FEW-clause-rows
+returns-then-len-lt-FEW-clause-rows c = record {
+  within = c.add_few.ensures.more c.args.rows.now.items c.args.base.now c.requires.within;
+  linked = λ t. let no = c.if-not-linked.true in absurd cc;
+}
