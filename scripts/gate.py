@@ -1,12 +1,12 @@
 #!/usr/bin/env python3
 """The gate: the rules of names, the form of the edits that must fail, the pages of the libraries, `rt ci`, and where
-all are green the programs as users run them: random cases against slow answers, and runs in which memory, writes,
-reads and stack are refused.
+all are green the programs as users run them: they are built into bin/, and run on random cases against slow answers,
+and with memory, writes, reads and stack refused.
 
 usage: gate.py
 
 Prints the last line of `rt ci` last. The status is 0 if all of it is green. RT names the command, `rt` if not set. What
-is not built, and what there is no C compiler for, is skipped: `rt ci` has proved and run it in its own way.
+there is no C compiler for is skipped, and faults.py says so.
 """
 import os
 import pathlib
@@ -44,7 +44,9 @@ def main():
     green = formed and status == 0
     if green:
         print(last, flush=True)
-        green = all([script("random_cases.py", "-n", "5000", "-u", "-w"), script("faults.py")])
+        # so that neither script skips a program or runs one of other sources
+        built = script("prove.py", "pegi", "abnfi")
+        green = built and all([script("random_cases.py", "-n", "5000", "-u", "-w"), script("faults.py")])
     print(last, flush=True)
     return 0 if green else status or 1
 
