@@ -38,7 +38,7 @@ install: programs
 	install -m 644 man/pegi.1 man/abnfi.1 $(DESTDIR)$(PREFIX)/share/man/man1
 
 # The gate: every proof from nothing, the edits that the prover must refuse, tests and programs; then the programs are
-# built into bin/, and run on random cases and refused memory, writes, reads and stack.
+# put into bin/, and run on random cases and with memory, writes, reads and stack refused.
 test:
 	@python3 -B scripts/gate.py
 
