@@ -1,7 +1,6 @@
 -- How a feed grows, call by call.
 -- Serves: Feed::fill, run_lines, run_peg (right)
-use Rattle.std.proofs.Common.{◌≡◌, ℕ, List, [], refl}
-use Rattle.std.proofs.Common.{Option, Some, None}
+use Rattle.std.proofs.Common.{ℕ, Option, Some, None, List, [], refl}
 use Rattle.std.specs.Io.KnownBytes.{Consumes}
 use Rattle.feed.specs.declared.held.Flow.{Flow}
 use Rattle.feed.specs.declared.held.Flow.TheVariants.{Open, Ended, Broken}
