@@ -8,7 +8,8 @@ tracks, in a temporary folder. `ci` and `must-fail` run with `--anew`, since `rt
 machine passed. So the figures are those of a gate from nothing. RT names the command, `rt` if not set.
 
 proofs: each crate proved from nothing. tests: the crate proved again with its tests. edits: the edits that the prover
-must refuse. rest: what compiles, links and runs, and the work of `rt` itself.
+must refuse, and the proof of the crate from which they begin. rest: what compiles, links and runs, and the work of `rt`
+itself.
 
 The processor time of each process of the prover is read twice a second, so a process that ends between two readings
 misses up to half a second. The total is exact.
