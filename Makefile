@@ -37,8 +37,8 @@ install: programs
 	install -m 755 bin/pegi bin/abnfi $(DESTDIR)$(PREFIX)/bin
 	install -m 644 man/pegi.1 man/abnfi.1 $(DESTDIR)$(PREFIX)/share/man/man1
 
-# The gate: every proof from nothing, the edits that the prover must refuse, tests and programs; then what is in bin/, on
-# random cases and refused memory, writes, reads and stack.
+# The gate: every proof from nothing, the edits that the prover must refuse, tests and programs; then the programs are
+# put into bin/, and run on random cases and with memory, writes, reads and stack refused.
 test:
 	@python3 -B scripts/gate.py
 

@@ -1,18 +1,20 @@
 #!/usr/bin/env python3
 """The gate: the rules of names, the form of the edits that must fail, the pages of the libraries, `rt ci`, and where
-all are green the programs as users run them: random cases against slow answers, and runs in which memory, writes,
-reads and stack are refused.
+all are green the programs as users run them: those that `rt ci` built are put into bin/, and run on random cases
+against slow answers, and with memory, writes, reads and stack refused.
 
 usage: gate.py
 
 Prints the last line of `rt ci` last. The status is 0 if all of it is green. RT names the command, `rt` if not set. What
-is not built, and what there is no C compiler for, is skipped: `rt ci` has proved and run it in its own way.
+there is no C compiler for is skipped, and faults.py says so.
 """
 import os
 import pathlib
+import shutil
 import subprocess
 import sys
 
+PROGRAMS = ("pegi", "abnfi")
 TOP = pathlib.Path(__file__).resolve().parent.parent
 RT = os.environ.get("RT", "rt").split()
 
@@ -38,13 +40,25 @@ def ci():
     return run.wait(), last
 
 
+def put_programs():
+    """Puts the programs that `rt ci` built into bin/, or else builds them. Tells whether both are there."""
+    built = [TOP / "crates" / it / "out" / it for it in PROGRAMS]
+    if not all(it.is_file() for it in built):
+        return script("prove.py", *PROGRAMS)
+    (TOP / "bin").mkdir(exist_ok=True)
+    for it in built:
+        shutil.copy(it, TOP / "bin" / it.name)
+    return True
+
+
 def main():
     formed = all([script("names.py"), script("edit_index.py", "-q"), script("pages.py", "--check")])
     status, last = ci()
     green = formed and status == 0
     if green:
         print(last, flush=True)
-        green = all([script("random_cases.py", "-n", "5000", "-u", "-w"), script("faults.py")])
+        # (each of the two skips a program that is not there)
+        green = put_programs() and all([script("random_cases.py", "-n", "5000", "-u", "-w"), script("faults.py")])
     print(last, flush=True)
     return 0 if green else status or 1
 

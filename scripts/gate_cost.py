@@ -4,10 +4,13 @@
 usage: gate_cost.py [WORD ..]
 
 The words are those of another command of `rt`, as `must-fail feed`; with none it is `ci`. It runs in a copy of what git
-tracks, in a temporary folder, so that nothing is kept from earlier runs. RT names the command, `rt` if not set.
+tracks, in a temporary folder. `ci` and `must-fail` run with `--anew`, since `rt` else takes what an earlier run on this
+machine passed. So the figures of `ci` are those of a gate from nothing, and `must-fail` tries each edit; but it takes
+the crates below from another checkout, if one has proved them. RT names the command, `rt` if not set.
 
 proofs: each crate proved from nothing. tests: the crate proved again with its tests. edits: the edits that the prover
-must refuse. rest: what compiles, links and runs, and the work of `rt` itself.
+must refuse, and the proof of the crate from which they begin. rest: what compiles, links and runs, and the work of `rt`
+itself.
 
 The processor time of each process of the prover is read twice a second, so a process that ends between two readings
 misses up to half a second. The total is exact.
@@ -27,6 +30,8 @@ from crates import in_order
 TOP = pathlib.Path(__file__).resolve().parent.parent
 RT = os.environ.get("RT", "rt").split()
 PARTS = ("proofs", "tests", "edits")
+# The commands that take what an earlier run passed, but for `--anew`.
+FROM_NOTHING = ("ci", "must-fail")
 TICKS = os.sysconf("SC_CLK_TCK")
 
 
@@ -82,11 +87,17 @@ def run_and_read(words, folder):
     return run.returncode, minutes, (used.ru_utime + used.ru_stime) / 60
 
 
+def command_of(words):
+    """Returns the words of the command, which takes nothing from earlier runs."""
+    name, *others = words or ["ci"]
+    return [name, "--anew", *(it for it in others if it != "--anew")] if name in FROM_NOTHING else [name, *others]
+
+
 def main(words):
     with tempfile.TemporaryDirectory(prefix="gate-") as folder:
         copy_tree(pathlib.Path(folder))
         start = time.monotonic()
-        status, minutes, total = run_and_read(words or ["ci"], folder)
+        status, minutes, total = run_and_read(command_of(words), folder)
         wall = (time.monotonic() - start) / 60
     print(f"\n| Crate | {' | '.join(PARTS)} | sum |\n|---|{'---|' * (len(PARTS) + 1)}")
     for crate in in_order(TOP):
