@@ -262,7 +262,8 @@ module _ (row : Item → ℕ) where
       let within = s.within in
       let long = l.1.1.long in
       let lt : at - 1 < length list = omega (arith, within, pos) in
-      sought_next list links l.0 l.1.0 item (slice_index_or list (at - 1) d) at (slice_index_or links (at - 1) e) l.1.1 s
+      sought_next list links l.0 l.1.0 item (slice_index_or list (at - 1) d) at
+      (slice_index_or links (at - 1) e) l.1.1 s
       pos
       (get_index list (at - 1) d lt) (get_index links (at - 1) e (omega (arith, lt, long))) other
 
