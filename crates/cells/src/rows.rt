@@ -2,13 +2,43 @@
 ghost use Rattle.std.specs.Prelude.{◌≡◌, ◌<◌, ◌*◌, ◌+◌, ◌^◌};
 ghost use Rattle.cells.specs.Rows.{number_of as number, fold as folded};
 
-/// Returns the number of a node and a place where each place has `stride` rows, and 32 nodes share one.
+use crate::cell::narrow;
+
+/// How pairs share rows: a place has `stride` rows, and of a node's number the bits in `keep` choose among them.
+#[derive(Clone, Copy)]
+pub(crate) struct Layout {
+    pub(crate) stride: u32,
+    pub(crate) keep: u32,
+}
+
+// So many nodes share no row where cells are few.
+const APART: usize = 16;
+
+/// Returns a layout for that many nodes. Where the cells are few, so are those in one row; else the rows of a place are.
+pub(crate) fn layout_of(nodes: usize, few: bool) -> Layout {
+    let rows = if few {
+        nodes.min(APART).max(nodes / 32)
+    } else {
+        nodes / 32
+    };
+    let last = match narrow(rows) {
+        Some(rows) => rows.saturating_sub(1) | 1,
+        None => 1,
+    };
+    let keep = u32::MAX.wrapping_shr(last.leading_zeros());
+    Layout {
+        stride: keep.saturating_add(1),
+        keep,
+    }
+}
+
+/// Returns the number of a node and a place.
 #[tactic(auto, unfolding(crate::specs::Rows::number_of))]
 #[inline(always)]
-pub(crate) fn number_of(stride: u32, node: u32, place: u32) -> usize
-    ensures { result ≡ number stride node place }
+pub(crate) fn number_of(layout: Layout, node: u32, place: u32) -> usize
+    ensures { result ≡ number layout node place }
 {
-    place as usize * stride as usize + node as usize / 32
+    place as usize * layout.stride as usize + (node & layout.keep) as usize
 }
 
 /// Returns a number as a row: itself, or its last bits where there are not so many rows.

@@ -19,7 +19,7 @@ use Rattle.desk.specs.declared.frame.Frame.{Frame}
 use Rattle.desk.specs.declared.turn.Turn.{Turn}
 use Rattle.desk.specs.declared.turn.Turn.TheVariants.{Ask, Answer}
 use Rattle.desk.specs.declared.run.Next.TheVariants as next
-use Rattle.desk.specs.Desk.{counted, Fits, IsNext}
+use Rattle.desk.specs.Desk.{counted, Fits, IsFurther, IsNext}
 use Rattle.desk.specs.State as state
 use Rattle.desk.specs.State.{HaveTaken, HaveFailed, IsUnderWay}
 use Rattle.desk.specs.Turns.{same_turn, again_turn, opt_turn, and_turn, not_turn, star_turn, plus_turn, IsWalk}
@@ -328,8 +328,8 @@ module _ (g : Grammar) (x : List ℕ) (more : Bool) (sound : IsSoundGrammar g) (
 -- what goes on from where the last frame has come goes on from where it was
 pub next_from : {g : Grammar} {x : List ℕ} {more : Bool} {below : List Frame} {old mid new : List Entry}
     {fs : List Frame} {t u : Frame} {i q : ℕ} → HasCome g x more below old mid t i q →
-    IsNext g x more (counted mid (come_to t i q ∷ below)) new fs (next.More u)
-    → IsNext g x more (counted old (t ∷ below)) new fs (next.More u)
+    IsFurther g x more (counted mid (come_to t i q ∷ below)) new fs u
+    → IsFurther g x more (counted old (t ∷ below)) new fs u
 next_from h n = (n.0, omega (arith, n.1, h.less))
 
 -- A turn of the loop over members or alternatives: the frame has come to i at q, over the cells in between.
@@ -443,3 +443,12 @@ module _ (g : Grammar) (x : List ℕ) (more : Bool) (sound : IsSoundGrammar g) (
     pub alternative_halts : (new : List Entry) (s : Halt) → SeesOther new (Err s)
         → IsOn g x more below old new top (Err s)
     alternative_halts new s e = next_halted (get_or ms i 0) top.place asked_other new s e
+
+-- what is done on from where a frame has come is done on from where it was
+pub on_from : {g : Grammar} {x : List ℕ} {more : Bool} {below : List Frame} {old mid : List Entry} (new : List Entry)
+    {t : Frame} {i q : ℕ} → HasCome g x more below old mid t i q → (r : Result Turn Halt)
+    → IsOn g x more below mid new (come_to t i q) r → IsOn g x more below old new t r
+on_from new h (Ok turn) on =
+    (on.0, on.1, come_further _ _ _ _ _ _ _ _ _ _ _ _ h on.2, on.3)
+on_from new h (Err Memory) on = tt
+on_from new h (Err Short) on = on

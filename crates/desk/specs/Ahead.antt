@@ -1,5 +1,5 @@
 -- What an evaluation does next where nodes without operands are evaluated at once.
-use Rattle.std.specs.Prelude.{◌≡◌, ◌⊎◌, ℕ, ◌≤◌, Bool, true, List, [], ◌∷◌, ◌++◌, length, Option, Some, None, Result, Ok}
+use Rattle.std.specs.Prelude.{◌≡◌, ◌⊎◌, ℕ, ◌<◌, ◌≤◌, Bool, true, List, [], ◌∷◌, ◌++◌, length, Option, Some, None, Result, Ok}
 use Rattle.std.specs.Prelude.{Err}
 use Rattle.pegread.specs.Pattern.{Rule}
 use Rattle.pegread.specs.PegViews.{rules_of}
@@ -67,3 +67,7 @@ module _ (g : Grammar) (x : List ℕ) (more : Bool) (below : List Frame) (old ne
       top.node top.place turn
   IsOn (Err Memory) = Unit {0}
   IsOn (Err Short) = (more ≡ true) × ((o : Outcome) × StartGives g x o (length x))
+
+-- so many nodes and so long a window that a cell can keep each number of them
+abbrev pub IsNarrowRun : Grammar → List ℕ → Type 0
+IsNarrowRun g x = (length g.nodes < 4294967295) × (length x < 4294967295)

@@ -7,10 +7,10 @@ ghost use Rattle.pegmatch.specs.KeptEvents.{SpellsSome};
 ghost use Rattle.cells.specs.Entries.{Entry, found_at};
 ghost use Rattle.cells.specs.declared.cell.Found.{Found};
 ghost use Rattle.desk.specs.declared.frame.Frame.{Frame};
-ghost use Rattle.desk.specs.Ahead.{IsSight, IsSeen, IsOn, seen_as};
-ghost use Rattle.desk.specs.Desk.{counted, Fits};
+ghost use Rattle.desk.specs.Ahead.{IsNarrowRun, IsSight, IsSeen, IsOn, seen_as};
+ghost use Rattle.desk.specs.Desk.{counted, Fits, IsTold};
 ghost use Rattle.desk.specs.State.{AreCells};
-ghost use Rattle.desk.specs.Turns.{IsTurn};
+ghost use Rattle.desk.specs.Turns.{again_turn, IsTurn};
 
 use crate::frame::Frame;
 use crate::repeat::{repeat_byte, takes_byte};
@@ -198,18 +198,6 @@ fn held_or_short_apart(cells: &Cells, node: usize, place: usize) -> Seen
     flat(held_or_short(cells, node, place))
 }
 
-// The cell of a node at a place, if it has one. The last cell is tried first: it is that of the node that was asked for
-// last.
-#[inline(always)]
-fn held(cells: &Cells, node: usize, place: usize) -> Option<Found>
-    ensures { result ≡ found_at cells.now node place }
-{
-    match cells.last(node, place) {
-        Some(found) => Some(found),
-        None => cells.get(node, place),
-    }
-}
-
 // The cell of a node at a place; one without operands gets its cell where it has none.
 #[inline(always)]
 fn see(
@@ -224,19 +212,98 @@ fn see(
     requires spells { SpellsSome (rules_of peg.now.rules) (shapes_of peg.now.nodes) node }
     requires place { place ≤ length window.now }
     requires some { more ≡ true → 0 < length window.now }
+    requires narrow { IsNarrowRun peg.now window.now }
     requires right { AreCells (rules_of peg.now.rules) peg.now.start (shapes_of peg.now.nodes) peg.now.bodies window.now
         more cells.old }
     ensures { IsSeen (rules_of peg.now.rules) peg.now.start (shapes_of peg.now.nodes) peg.now.bodies window.now more
         cells.old cells.new node place result }
 {
     match sight_of(peg, window, more, node, place) {
-        Sight::Known(Turn::Answer(found)) => match cells.get_or_put(node, place, found) {
+        Sight::Known(Turn::Answer(found)) => match cells.get_or_put_narrow(node, place, found) {
             Ok(known) => Ok(Some(known)),
             Err(_) => Err(Halt::Memory),
         },
         Sight::Known(Turn::Need) => unfold(held_or_short_apart(cells, node, place)),
         Sight::Literal => unfold(see_literal_apart(peg, window, more, cells, node, place)),
-        _ => Ok(held(cells, node, place)),
+        _ => Ok(cells.get_narrow(node, place)),
+    }
+}
+
+/// A node at a place.
+#[derive(Clone, Copy, PartialEq, Eq, Debug)]
+pub(crate) struct NodeAt {
+    pub(crate) node: usize,
+    pub(crate) place: usize,
+}
+
+/// What a node gave at a place.
+#[derive(Clone, Copy, PartialEq, Eq, Debug)]
+pub(crate) struct Told {
+    pub(crate) node: usize,
+    pub(crate) place: usize,
+    pub(crate) found: Found,
+}
+
+/// The last frame, and what the evaluation that ended before it goes on gave.
+#[derive(Clone, Copy, PartialEq, Eq, Debug)]
+pub(crate) struct Stage {
+    pub(crate) top: Frame,
+    pub(crate) told: Option<Told>,
+}
+
+// What was told, if it is told of that node at that place.
+#[inline(always)]
+fn told_of(told: Option<Told>, at: NodeAt) -> Option<Found>
+    ensures { IfSome result (λ f. told ≡ Some (record { node = at.node; place = at.place; found = f })) }
+{
+    match told {
+        Some(told) => {
+            if told.node == at.node && told.place == at.place {
+                Some(told.found)
+            } else {
+                None
+            }
+        }
+        None => None,
+    }
+}
+
+// The cell of a node at a place, which may be told already; one without operands gets its cell where it has none.
+#[inline(always)]
+fn see_told(
+    peg: &SoundPeg,
+    window: &[u8],
+    more: bool,
+    cells: &mut Cells,
+    at: NodeAt,
+    told: Option<Told>,
+) -> Result<Option<Found>, Halt>
+    requires sound { IsSoundGrammar peg.now }
+    requires spells { SpellsSome (rules_of peg.now.rules) (shapes_of peg.now.nodes) at.node }
+    requires place { at.place ≤ length window.now }
+    requires some { more ≡ true → 0 < length window.now }
+    requires narrow { IsNarrowRun peg.now window.now }
+    requires right { AreCells (rules_of peg.now.rules) peg.now.start (shapes_of peg.now.nodes) peg.now.bodies window.now
+        more cells.old }
+    requires told { IsTold cells.old told }
+    ensures { IsSeen (rules_of peg.now.rules) peg.now.start (shapes_of peg.now.nodes) peg.now.bodies window.now more
+        cells.old cells.new at.node at.place result }
+{
+    match told_of(told, at) {
+        Some(found) => Ok(Some(found)),
+        None => see(peg, window, more, cells, at.node, at.place),
+    }
+}
+
+// Hands on what the node that goes on with a repetition gives at the end of one turn of it, which may be told already.
+#[inline(always)]
+fn again_told(cells: &Cells, at: NodeAt, told: Option<Told>) -> Turn
+    requires { IsTold cells.now told }
+    ensures { result ≡ again_turn at.node at.place (found_at cells.now at.node at.place) }
+{
+    match told_of(told, at) {
+        Some(found) => Turn::Answer(found),
+        None => again(cells, at.node, at.place),
     }
 }
 
@@ -252,6 +319,7 @@ fn all_on(
 ) -> Result<Turn, Halt>
     requires members { slice_get (shapes_of peg.now.nodes) top.node ≡ Some (Shape.Seq members.now) }
     requires some { more ≡ true → 0 < length window.now }
+    requires narrow { IsNarrowRun peg.now window.now }
     requires fits { (below : List Frame) × Fits peg.now window.now more (counted cells.old (top ∷ below)) }
     ensures { (below : List Frame) → Fits peg.now window.now more (counted cells.old (top ∷ below)) →
         IsOn peg.now window.now more below cells.old cells.new top result }
@@ -288,6 +356,7 @@ fn first_on(
 ) -> Result<Turn, Halt>
     requires alternatives { slice_get (shapes_of peg.now.nodes) top.node ≡ Some (Shape.Choice alternatives.now) }
     requires some { more ≡ true → 0 < length window.now }
+    requires narrow { IsNarrowRun peg.now window.now }
     requires fits { (below : List Frame) × Fits peg.now window.now more (counted cells.old (top ∷ below)) }
     ensures { (below : List Frame) → Fits peg.now window.now more (counted cells.old (top ∷ below)) →
         IsOn peg.now window.now more below cells.old cells.new top result }
@@ -311,6 +380,102 @@ fn first_on(
     Ok(Turn::Answer(Found::Failed))
 }
 
+// On through the members of a sequence, of which the first may be told already.
+#[inline(always)]
+fn all_from(
+    peg: &SoundPeg,
+    window: &[u8],
+    more: bool,
+    cells: &mut Cells,
+    members: &[usize],
+    stage: Stage,
+) -> Result<Turn, Halt>
+    requires members { slice_get (shapes_of peg.now.nodes) stage.top.node ≡ Some (Shape.Seq members.now) }
+    requires some { more ≡ true → 0 < length window.now }
+    requires narrow { IsNarrowRun peg.now window.now }
+    requires told { IsTold cells.old stage.told }
+    requires fits { (below : List Frame) × Fits peg.now window.now more (counted cells.old (stage.top ∷ below)) }
+    ensures { (below : List Frame) → Fits peg.now window.now more (counted cells.old (stage.top ∷ below)) →
+        IsOn peg.now window.now more below cells.old cells.new stage.top result }
+{
+    let _start = peg.start();
+    let top = stage.top;
+    if top.next >= members.len() {
+        return Ok(Turn::Answer(Found::Took(top.end)));
+    }
+    let at = NodeAt {
+        node: members[top.next],
+        place: top.end,
+    };
+    match see_told(peg, window, more, cells, at, stage.told) {
+        Ok(None) => Ok(Turn::Ask {
+            node: at.node,
+            place: top.end,
+            next: top.next,
+            end: top.end,
+        }),
+        Ok(Some(Found::Failed)) => Ok(Turn::Answer(Found::Failed)),
+        Ok(Some(Found::Took(after))) => {
+            let come = Frame {
+                node: top.node,
+                place: top.place,
+                next: top.next + 1,
+                end: after,
+            };
+            all_on(peg, window, more, cells, members, come)
+        }
+        Err(halt) => Err(halt),
+    }
+}
+
+// On through the alternatives of a choice, of which the first may be told already.
+#[inline(always)]
+fn first_from(
+    peg: &SoundPeg,
+    window: &[u8],
+    more: bool,
+    cells: &mut Cells,
+    alternatives: &[usize],
+    stage: Stage,
+) -> Result<Turn, Halt>
+    requires alternatives { slice_get (shapes_of peg.now.nodes) stage.top.node ≡ Some (Shape.Choice alternatives.now) }
+    requires some { more ≡ true → 0 < length window.now }
+    requires narrow { IsNarrowRun peg.now window.now }
+    requires told { IsTold cells.old stage.told }
+    requires fits { (below : List Frame) × Fits peg.now window.now more (counted cells.old (stage.top ∷ below)) }
+    ensures { (below : List Frame) → Fits peg.now window.now more (counted cells.old (stage.top ∷ below)) →
+        IsOn peg.now window.now more below cells.old cells.new stage.top result }
+{
+    let _start = peg.start();
+    let top = stage.top;
+    if top.next >= alternatives.len() {
+        return Ok(Turn::Answer(Found::Failed));
+    }
+    let at = NodeAt {
+        node: alternatives[top.next],
+        place: top.place,
+    };
+    match see_told(peg, window, more, cells, at, stage.told) {
+        Ok(None) => Ok(Turn::Ask {
+            node: at.node,
+            place: top.place,
+            next: top.next,
+            end: top.place,
+        }),
+        Ok(Some(Found::Took(end))) => Ok(Turn::Answer(Found::Took(end))),
+        Ok(Some(Found::Failed)) => {
+            let come = Frame {
+                node: top.node,
+                place: top.place,
+                next: top.next + 1,
+                end: top.end,
+            };
+            first_on(peg, window, more, cells, alternatives, come)
+        }
+        Err(halt) => Err(halt),
+    }
+}
+
 /// Returns what the evaluation of a frame's node at its place does next. A node without operands that it asks for gets
 /// its cell at once.
 #[inline(always)]
@@ -319,33 +484,60 @@ pub(crate) fn turn_on(
     window: &[u8],
     more: bool,
     cells: &mut Cells,
-    top: Frame,
+    stage: Stage,
 ) -> Result<Turn, Halt>
     requires some { more ≡ true → 0 < length window.now }
-    requires fits { (below : List Frame) × Fits peg.now window.now more (counted cells.old (top ∷ below)) }
-    ensures { (below : List Frame) → Fits peg.now window.now more (counted cells.old (top ∷ below)) →
-        IsOn peg.now window.now more below cells.old cells.new top result }
+    requires narrow { IsNarrowRun peg.now window.now }
+    requires told { IsTold cells.old stage.told }
+    requires fits { (below : List Frame) × Fits peg.now window.now more (counted cells.old (stage.top ∷ below)) }
+    ensures { (below : List Frame) → Fits peg.now window.now more (counted cells.old (stage.top ∷ below)) →
+        IsOn peg.now window.now more below cells.old cells.new stage.top result }
 {
     let _start = peg.start();
+    let top = stage.top;
     let place = top.place;
     match peg.node(top.node) {
-        Node::Seq(members) => all_on(peg, window, more, cells, members, top),
-        Node::Choice(alternatives) => first_on(peg, window, more, cells, alternatives, top),
+        Node::Seq(members) => all_from(peg, window, more, cells, members, stage),
+        Node::Choice(alternatives) => first_from(peg, window, more, cells, alternatives, stage),
         Node::Name(id) => {
             let body = peg.body_node(*id);
-            match see(peg, window, more, cells, body, place) {
+            match see_told(
+                peg,
+                window,
+                more,
+                cells,
+                NodeAt { node: body, place },
+                stage.told,
+            ) {
                 Ok(found) => Ok(same(found, body, place)),
                 Err(halt) => Err(halt),
             }
         }
         Node::Star(operand) => {
             if top.next > 0 {
-                return Ok(again(cells, top.node, top.end));
+                return Ok(again_told(
+                    cells,
+                    NodeAt {
+                        node: top.node,
+                        place: top.end,
+                    },
+                    stage.told,
+                ));
             }
             if takes_byte(peg.node(*operand)) {
                 return repeat_byte(peg, window, more, cells, *operand, top);
             }
-            match see(peg, window, more, cells, *operand, place) {
+            match see_told(
+                peg,
+                window,
+                more,
+                cells,
+                NodeAt {
+                    node: *operand,
+                    place,
+                },
+                stage.told,
+            ) {
                 Ok(found) => Ok(star(cells, found, top.node, *operand, place)),
                 Err(halt) => Err(halt),
             }
@@ -355,22 +547,69 @@ pub(crate) fn turn_on(
             star: rest,
         } => {
             if top.next > 0 {
-                return Ok(again(cells, *rest, top.end));
+                return Ok(again_told(
+                    cells,
+                    NodeAt {
+                        node: *rest,
+                        place: top.end,
+                    },
+                    stage.told,
+                ));
             }
-            match see(peg, window, more, cells, *operand, place) {
+            match see_told(
+                peg,
+                window,
+                more,
+                cells,
+                NodeAt {
+                    node: *operand,
+                    place,
+                },
+                stage.told,
+            ) {
                 Ok(found) => Ok(plus(cells, found, *rest, *operand, place)),
                 Err(halt) => Err(halt),
             }
         }
-        Node::Opt(operand) => match see(peg, window, more, cells, *operand, place) {
+        Node::Opt(operand) => match see_told(
+            peg,
+            window,
+            more,
+            cells,
+            NodeAt {
+                node: *operand,
+                place,
+            },
+            stage.told,
+        ) {
             Ok(found) => Ok(opt(found, *operand, place)),
             Err(halt) => Err(halt),
         },
-        Node::And(operand) => match see(peg, window, more, cells, *operand, place) {
+        Node::And(operand) => match see_told(
+            peg,
+            window,
+            more,
+            cells,
+            NodeAt {
+                node: *operand,
+                place,
+            },
+            stage.told,
+        ) {
             Ok(found) => Ok(and(found, *operand, place)),
             Err(halt) => Err(halt),
         },
-        Node::Not(operand) => match see(peg, window, more, cells, *operand, place) {
+        Node::Not(operand) => match see_told(
+            peg,
+            window,
+            more,
+            cells,
+            NodeAt {
+                node: *operand,
+                place,
+            },
+            stage.told,
+        ) {
             Ok(found) => Ok(not(found, *operand, place)),
             Err(halt) => Err(halt),
         },
