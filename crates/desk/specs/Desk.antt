@@ -1,6 +1,6 @@
 -- What contracts see of a desk.
 use Rattle.std.specs.Prelude.{◌≡◌, ◌⊎◌, ℕ, ◌+◌, ◌-◌, ◌*◌, ◌<◌, ◌≤◌, Bool, true, List, [], ◌∷◌, length, Option, Some}
-use Rattle.std.specs.Prelude.{None, IfSome}
+use Rattle.std.specs.Prelude.{None}
 use Rattle.pegread.specs.PegViews.{rules_of}
 use Rattle.gramcheck.specs.Grammar.{Grammar}
 use Rattle.gramcheck.specs.Nodes.{shapes_of}
@@ -12,7 +12,6 @@ use Rattle.cells.specs.declared.cell.Found.TheVariants as found
 use Rattle.pegmatch.specs.declared.matcher.Unit.{Unit as UnitAnswer}
 use Rattle.pegmatch.specs.declared.matcher.Unit.TheVariants.{Took, Failed, Need}
 use Rattle.cells.specs.Entries.{Entry}
-use Rattle.desk.specs.declared.ahead.Told.{Told}
 use Rattle.desk.specs.declared.frame.Frame.{Frame}
 use Rattle.desk.specs.declared.run.Next.{Next}
 use Rattle.desk.specs.declared.run.Next.TheVariants as next
@@ -42,10 +41,6 @@ unit_of (found.Took end) begun = Took end begun
 abbrev pub unit_of_match : Option Found → ℕ → UnitAnswer
 unit_of_match None begun = Need
 unit_of_match (Some f) begun = unit_of f begun
-
--- what is told of a node at a place, its cell holds
-abbrev pub IsTold : List Entry → Option Told → Type 0
-IsTold cells told = IfSome told (λ t. found_at cells t.node t.place ≡ Some t.found)
 
 -- a frame's pair, as one that begins
 abbrev pub beginning : ℕ → ℕ → Frame
@@ -137,7 +132,7 @@ module _ (g : Grammar) (x : List ℕ) (more : Bool) where
   -- what a turn of a match does, with these cells and these frames below the last one: it goes on with this frame; or
   -- all is evaluated; or the start rule looks at the last byte of a window behind which there is more
   abbrev pub IsNext : View → List Entry → List Frame → Next → Type 0
-  IsNext old cells below (next.More on) = IsFurther old cells below on.top × IsTold cells on.told
+  IsNext old cells below (next.More on) = IsFurther old cells below on.top
   IsNext old cells below (next.Ended f) = IsDone (counted cells below) × Answers f
   IsNext old cells below next.Need = (more ≡ true) × ((o : Outcome) × StartGives g x o (length x))
 

@@ -8,7 +8,7 @@ ghost use Rattle.cells.specs.Entries.{Entry, found_at};
 ghost use Rattle.cells.specs.declared.cell.Found.{Found};
 ghost use Rattle.desk.specs.declared.frame.Frame.{Frame};
 ghost use Rattle.desk.specs.Ahead.{IsNarrowRun, IsSight, IsSeen, IsOn, seen_as};
-ghost use Rattle.desk.specs.Desk.{counted, Fits, IsTold};
+ghost use Rattle.desk.specs.Desk.{counted, Fits};
 ghost use Rattle.desk.specs.State.{AreCells};
 ghost use Rattle.desk.specs.Turns.{again_turn, IsTurn};
 
@@ -236,47 +236,34 @@ pub(crate) struct NodeAt {
     pub(crate) place: usize,
 }
 
-/// What a node gave at a place.
-#[derive(Clone, Copy, PartialEq, Eq, Debug)]
-pub(crate) struct Told {
-    pub(crate) node: usize,
-    pub(crate) place: usize,
-    pub(crate) found: Found,
-}
-
-/// The last frame, and what the evaluation that ended before it goes on gave.
+/// The last frame, and whether it goes on behind an evaluation that it asked for.
 #[derive(Clone, Copy, PartialEq, Eq, Debug)]
 pub(crate) struct Stage {
     pub(crate) top: Frame,
-    pub(crate) told: Option<Told>,
+    pub(crate) back: bool,
 }
 
-// What was told, if it is told of that node at that place.
+// What the last cell holds, if it is asked for and is of that node at that place.
 #[inline(always)]
-fn told_of(told: Option<Told>, at: NodeAt) -> Option<Found>
-    ensures { IfSome result (λ f. told ≡ Some (record { node = at.node; place = at.place; found = f })) }
+fn last_if(back: bool, cells: &Cells, at: NodeAt) -> Option<Found>
+    ensures { IfSome result (λ f. found_at cells.now at.node at.place ≡ Some f) }
 {
-    match told {
-        Some(told) => {
-            if told.node == at.node && told.place == at.place {
-                Some(told.found)
-            } else {
-                None
-            }
-        }
-        None => None,
+    if back {
+        cells.last(at.node, at.place)
+    } else {
+        None
     }
 }
 
-// The cell of a node at a place, which may be told already; one without operands gets its cell where it has none.
+// The cell of a node at a place, which may be the last one; one without operands gets its cell where it has none.
 #[inline(always)]
-fn see_told(
+fn see_back(
     peg: &SoundPeg,
     window: &[u8],
     more: bool,
     cells: &mut Cells,
     at: NodeAt,
-    told: Option<Told>,
+    back: bool,
 ) -> Result<Option<Found>, Halt>
     requires sound { IsSoundGrammar peg.now }
     requires spells { SpellsSome (rules_of peg.now.rules) (shapes_of peg.now.nodes) at.node }
@@ -285,23 +272,21 @@ fn see_told(
     requires narrow { IsNarrowRun peg.now window.now }
     requires right { AreCells (rules_of peg.now.rules) peg.now.start (shapes_of peg.now.nodes) peg.now.bodies window.now
         more cells.old }
-    requires told { IsTold cells.old told }
     ensures { IsSeen (rules_of peg.now.rules) peg.now.start (shapes_of peg.now.nodes) peg.now.bodies window.now more
         cells.old cells.new at.node at.place result }
 {
-    match told_of(told, at) {
+    match last_if(back, cells, at) {
         Some(found) => Ok(Some(found)),
         None => see(peg, window, more, cells, at.node, at.place),
     }
 }
 
-// Hands on what the node that goes on with a repetition gives at the end of one turn of it, which may be told already.
+// Hands on what the node that goes on with a repetition gives at the end of one turn of it, which may be the last cell's.
 #[inline(always)]
-fn again_told(cells: &Cells, at: NodeAt, told: Option<Told>) -> Turn
-    requires { IsTold cells.now told }
+fn again_back(cells: &Cells, at: NodeAt, back: bool) -> Turn
     ensures { result ≡ again_turn at.node at.place (found_at cells.now at.node at.place) }
 {
-    match told_of(told, at) {
+    match last_if(back, cells, at) {
         Some(found) => Turn::Answer(found),
         None => again(cells, at.node, at.place),
     }
@@ -380,7 +365,7 @@ fn first_on(
     Ok(Turn::Answer(Found::Failed))
 }
 
-// On through the members of a sequence, of which the first may be told already.
+// On through the members of a sequence, of which the first may have the last cell.
 #[inline(always)]
 fn all_from(
     peg: &SoundPeg,
@@ -393,7 +378,6 @@ fn all_from(
     requires members { slice_get (shapes_of peg.now.nodes) stage.top.node ≡ Some (Shape.Seq members.now) }
     requires some { more ≡ true → 0 < length window.now }
     requires narrow { IsNarrowRun peg.now window.now }
-    requires told { IsTold cells.old stage.told }
     requires fits { (below : List Frame) × Fits peg.now window.now more (counted cells.old (stage.top ∷ below)) }
     ensures { (below : List Frame) → Fits peg.now window.now more (counted cells.old (stage.top ∷ below)) →
         IsOn peg.now window.now more below cells.old cells.new stage.top result }
@@ -407,7 +391,7 @@ fn all_from(
         node: members[top.next],
         place: top.end,
     };
-    match see_told(peg, window, more, cells, at, stage.told) {
+    match see_back(peg, window, more, cells, at, stage.back) {
         Ok(None) => Ok(Turn::Ask {
             node: at.node,
             place: top.end,
@@ -428,7 +412,7 @@ fn all_from(
     }
 }
 
-// On through the alternatives of a choice, of which the first may be told already.
+// On through the alternatives of a choice, of which the first may have the last cell.
 #[inline(always)]
 fn first_from(
     peg: &SoundPeg,
@@ -441,7 +425,6 @@ fn first_from(
     requires alternatives { slice_get (shapes_of peg.now.nodes) stage.top.node ≡ Some (Shape.Choice alternatives.now) }
     requires some { more ≡ true → 0 < length window.now }
     requires narrow { IsNarrowRun peg.now window.now }
-    requires told { IsTold cells.old stage.told }
     requires fits { (below : List Frame) × Fits peg.now window.now more (counted cells.old (stage.top ∷ below)) }
     ensures { (below : List Frame) → Fits peg.now window.now more (counted cells.old (stage.top ∷ below)) →
         IsOn peg.now window.now more below cells.old cells.new stage.top result }
@@ -455,7 +438,7 @@ fn first_from(
         node: alternatives[top.next],
         place: top.place,
     };
-    match see_told(peg, window, more, cells, at, stage.told) {
+    match see_back(peg, window, more, cells, at, stage.back) {
         Ok(None) => Ok(Turn::Ask {
             node: at.node,
             place: top.place,
@@ -488,7 +471,6 @@ pub(crate) fn turn_on(
 ) -> Result<Turn, Halt>
     requires some { more ≡ true → 0 < length window.now }
     requires narrow { IsNarrowRun peg.now window.now }
-    requires told { IsTold cells.old stage.told }
     requires fits { (below : List Frame) × Fits peg.now window.now more (counted cells.old (stage.top ∷ below)) }
     ensures { (below : List Frame) → Fits peg.now window.now more (counted cells.old (stage.top ∷ below)) →
         IsOn peg.now window.now more below cells.old cells.new stage.top result }
@@ -501,13 +483,13 @@ pub(crate) fn turn_on(
         Node::Choice(alternatives) => first_from(peg, window, more, cells, alternatives, stage),
         Node::Name(id) => {
             let body = peg.body_node(*id);
-            match see_told(
+            match see_back(
                 peg,
                 window,
                 more,
                 cells,
                 NodeAt { node: body, place },
-                stage.told,
+                stage.back,
             ) {
                 Ok(found) => Ok(same(found, body, place)),
                 Err(halt) => Err(halt),
@@ -515,19 +497,19 @@ pub(crate) fn turn_on(
         }
         Node::Star(operand) => {
             if top.next > 0 {
-                return Ok(again_told(
+                return Ok(again_back(
                     cells,
                     NodeAt {
                         node: top.node,
                         place: top.end,
                     },
-                    stage.told,
+                    stage.back,
                 ));
             }
             if takes_byte(peg.node(*operand)) {
                 return repeat_byte(peg, window, more, cells, *operand, top);
             }
-            match see_told(
+            match see_back(
                 peg,
                 window,
                 more,
@@ -536,7 +518,7 @@ pub(crate) fn turn_on(
                     node: *operand,
                     place,
                 },
-                stage.told,
+                stage.back,
             ) {
                 Ok(found) => Ok(star(cells, found, top.node, *operand, place)),
                 Err(halt) => Err(halt),
@@ -547,16 +529,16 @@ pub(crate) fn turn_on(
             star: rest,
         } => {
             if top.next > 0 {
-                return Ok(again_told(
+                return Ok(again_back(
                     cells,
                     NodeAt {
                         node: *rest,
                         place: top.end,
                     },
-                    stage.told,
+                    stage.back,
                 ));
             }
-            match see_told(
+            match see_back(
                 peg,
                 window,
                 more,
@@ -565,13 +547,13 @@ pub(crate) fn turn_on(
                     node: *operand,
                     place,
                 },
-                stage.told,
+                stage.back,
             ) {
                 Ok(found) => Ok(plus(cells, found, *rest, *operand, place)),
                 Err(halt) => Err(halt),
             }
         }
-        Node::Opt(operand) => match see_told(
+        Node::Opt(operand) => match see_back(
             peg,
             window,
             more,
@@ -580,12 +562,12 @@ pub(crate) fn turn_on(
                 node: *operand,
                 place,
             },
-            stage.told,
+            stage.back,
         ) {
             Ok(found) => Ok(opt(found, *operand, place)),
             Err(halt) => Err(halt),
         },
-        Node::And(operand) => match see_told(
+        Node::And(operand) => match see_back(
             peg,
             window,
             more,
@@ -594,12 +576,12 @@ pub(crate) fn turn_on(
                 node: *operand,
                 place,
             },
-            stage.told,
+            stage.back,
         ) {
             Ok(found) => Ok(and(found, *operand, place)),
             Err(halt) => Err(halt),
         },
-        Node::Not(operand) => match see_told(
+        Node::Not(operand) => match see_back(
             peg,
             window,
             more,
@@ -608,7 +590,7 @@ pub(crate) fn turn_on(
                 node: *operand,
                 place,
             },
-            stage.told,
+            stage.back,
         ) {
             Ok(found) => Ok(not(found, *operand, place)),
             Err(halt) => Err(halt),

@@ -1,10 +1,10 @@
 //! A match without a frame for a node that asks for nothing.
 ghost use Rattle.std.specs.Prelude.{◌≡◌, ◌+◌, ◌<◌, ◌≤◌, List, [], ◌∷◌, length, slice_get, Some, true, IfOk};
 ghost use Rattle.desk.specs.Ahead.{IsNarrowRun};
-ghost use Rattle.desk.specs.Desk.{counted, Fits, IsNext, IsMatched, IsTold};
+ghost use Rattle.desk.specs.Desk.{counted, Fits, IsNext, IsMatched};
 
 use crate::advance::beginning;
-use crate::ahead::{Halt, Stage, Told, turn_on};
+use crate::ahead::{Halt, Stage, turn_on};
 use crate::frame::{Frame, Frames};
 use crate::turn::Turn;
 use cells::{Cells, Found};
@@ -34,7 +34,6 @@ fn go_on(
 ) -> Result<Next, Memory>
     requires some { more ≡ true → 0 < length window.now }
     requires narrow { IsNarrowRun peg.now window.now }
-    requires told { IsTold cells.old stage.told }
     requires fits { Fits peg.now window.now more (counted cells.old (stage.top ∷ below.old)) }
     ensures { IfOk result (IsNext peg.now window.now more (counted cells.old (stage.top ∷ below.old)) cells.new
         below.new) }
@@ -50,11 +49,7 @@ fn go_on(
             match below.take() {
                 Some(frame) => Ok(Next::More(Stage {
                     top: frame,
-                    told: Some(Told {
-                        node: top.node,
-                        place: top.place,
-                        found,
-                    }),
+                    back: true,
                 })),
                 None => Ok(Next::Ended(found)),
             }
@@ -75,7 +70,7 @@ fn go_on(
             })?;
             Ok(Next::More(Stage {
                 top: beginning(node, place),
-                told: None,
+                back: false,
             }))
         }
     }
@@ -101,7 +96,7 @@ pub(crate) fn match_on(
     let _start = peg.start();
     let mut stage = Stage {
         top: beginning(root, 0),
-        told: None,
+        back: false,
     };
     'turns: loop {
         let next = go_on(peg, window, more, cells, frames, stage)?;

@@ -10,13 +10,13 @@ returns-then-top-alternatives c = λ below fits. (
   all_failed _ _ _ c.start-start.ensures.sound below _ _ fits c.requires.some _ c.requires.alternatives c.if-top-alternatives.true,
 )
 
-pub see_told-requires-clause-spells : goal.see_told-requires-clause-spells
-see_told-requires-clause-spells c = (other_child _ _ _ c.start-start.ensures.sound c.requires.fits.0 _ _ _ _ _
+pub see_back-requires-clause-spells : goal.see_back-requires-clause-spells
+see_back-requires-clause-spells c = (other_child _ _ _ c.start-start.ensures.sound c.requires.fits.0 _ _ _ _ _
     (come_stays _ _ _ c.start-start.ensures.sound c.requires.fits.0 _ _ c.requires.fits.1)
     c.requires.some _ c.if-top-alternatives.false c.requires.alternatives).spelled
 
-pub see_told-requires-clause-place : goal.see_told-requires-clause-place
-see_told-requires-clause-place c = (other_child _ _ _ c.start-start.ensures.sound c.requires.fits.0 _ _ _ _ _
+pub see_back-requires-clause-place : goal.see_back-requires-clause-place
+see_back-requires-clause-place c = (other_child _ _ _ c.start-start.ensures.sound c.requires.fits.0 _ _ _ _ _
     (come_stays _ _ _ c.start-start.ensures.sound c.requires.fits.0 _ _ c.requires.fits.1)
     c.requires.some _ c.if-top-alternatives.false c.requires.alternatives).high
 
@@ -52,5 +52,5 @@ returns-in-Ok-Some-Failed c = λ below fits.
 pub returns-in-Err : goal.returns-in-Err
 returns-in-Err c = λ below fits. alternative_halts _ _ _ c.start-start.ensures.sound below _ _ _ _ _
     (come_stays _ _ _ c.start-start.ensures.sound below _ _ fits)
-    c.requires.some _ c.if-top-alternatives.false c.requires.alternatives c.see_told.new.cells c.in-Err.halt
+    c.requires.some _ c.if-top-alternatives.false c.requires.alternatives c.see_back.new.cells c.in-Err.halt
     c.in-Err.ensures

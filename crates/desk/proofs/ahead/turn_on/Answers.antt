@@ -30,15 +30,15 @@ body_node-body-requires c =
     (c.node.ensures ∙ ap Some c.in-Name.is)) in
     omega (arith, defined, sound.spelled.count)
 
-pub see_told-requires-clause-spells : goal.see_told-requires-clause-spells
-see_told-requires-clause-spells c =
+pub see_back-requires-clause-spells : goal.see_back-requires-clause-spells
+see_back-requires-clause-spells c =
     (child_visited _ _ _ c.start-start.ensures.sound _ _ _ c.requires.fits.1 _ _
     (asks_name _ _ _ c.start-start.ensures.sound _ _ _ c.requires.fits.1 _ _
     (shape_at c.args.peg.now.nodes c.args.stage.top.node _ (c.node.ensures ∙ ap Some c.in-Name.is))
     c.body_node-body.ensures)).spelled
 
-pub see_told-requires-clause-place : goal.see_told-requires-clause-place
-see_told-requires-clause-place c = (at_top _ _ _ c.start-start.ensures.sound _ _ _ c.requires.fits.1).high
+pub see_back-requires-clause-place : goal.see_back-requires-clause-place
+see_back-requires-clause-place c = (at_top _ _ _ c.start-start.ensures.sound _ _ _ c.requires.fits.1).high
 
 pub returns-in-Ok : goal.returns-in-Ok
 returns-in-Ok c = λ below fits. rw c.same.ensures
@@ -51,107 +51,107 @@ returns-in-Err c = λ below fits.
     halts_on _ _ _ c.start-start.ensures.sound below _ _ fits _ _
     (asks_name _ _ _ c.start-start.ensures.sound below _ _ fits _ _
     (shape_at c.args.peg.now.nodes c.args.stage.top.node _ (c.node.ensures ∙ ap Some c.in-Name.is))
-    c.body_node-body.ensures) c.see_told.new.cells c.in-Err.halt c.in-Err.ensures
+    c.body_node-body.ensures) c.see_back.new.cells c.in-Err.halt c.in-Err.ensures
 
-pub see_told-requires-in-Star-clause-spells : goal.see_told-requires-in-Star-clause-spells
-see_told-requires-in-Star-clause-spells c = (child_visited _ _ _ c.start-start.ensures.sound _ _ _ c.requires.fits.1 _ _
+pub see_back-requires-in-Star-clause-spells : goal.see_back-requires-in-Star-clause-spells
+see_back-requires-in-Star-clause-spells c = (child_visited _ _ _ c.start-start.ensures.sound _ _ _ c.requires.fits.1 _ _
     (asks_star _ _ _ c.start-start.ensures.sound _ _ _ c.requires.fits.1 _
     (shape_at c.args.peg.now.nodes c.args.stage.top.node _ (c.node.ensures ∙ ap Some c.in-Star.is)))).spelled
 
-pub see_told-requires-in-Star-clause-place : goal.see_told-requires-in-Star-clause-place
-see_told-requires-in-Star-clause-place c = (at_top _ _ _ c.start-start.ensures.sound _ _ _ c.requires.fits.1).high
+pub see_back-requires-in-Star-clause-place : goal.see_back-requires-in-Star-clause-place
+see_back-requires-in-Star-clause-place c = (at_top _ _ _ c.start-start.ensures.sound _ _ _ c.requires.fits.1).high
 
-pub returns-in-Ok-see_told : goal.returns-in-Ok-see_told
-returns-in-Ok-see_told c = λ below fits. rw c.star.ensures
+pub returns-in-Ok-see_back : goal.returns-in-Ok-see_back
+returns-in-Ok-see_back c = λ below fits. rw c.star.ensures
     (star_on _ _ _ c.start-start.ensures.sound below _ _ fits _
-    (shape_at c.args.peg.now.nodes c.args.stage.top.node _ (c.node.ensures ∙ ap Some c.in-Star.is)) _ _ c.in-Ok-see_told.ensures)
+    (shape_at c.args.peg.now.nodes c.args.stage.top.node _ (c.node.ensures ∙ ap Some c.in-Star.is)) _ _ c.in-Ok-see_back.ensures)
 
-pub returns-in-Err-see_told : goal.returns-in-Err-see_told
-returns-in-Err-see_told c = λ below fits.
+pub returns-in-Err-see_back : goal.returns-in-Err-see_back
+returns-in-Err-see_back c = λ below fits.
     halts_on _ _ _ c.start-start.ensures.sound below _ _ fits _ _
     (asks_star _ _ _ c.start-start.ensures.sound below _ _ fits _
     (shape_at c.args.peg.now.nodes c.args.stage.top.node _ (c.node.ensures ∙ ap Some c.in-Star.is)))
-    c.see_told-in-Star.new.cells c.in-Err-see_told.halt c.in-Err-see_told.ensures
+    c.see_back-in-Star.new.cells c.in-Err-see_back.halt c.in-Err-see_back.ensures
 
-pub see_told-requires-in-Plus-clause-spells : goal.see_told-requires-in-Plus-clause-spells
-see_told-requires-in-Plus-clause-spells c = (child_visited _ _ _ c.start-start.ensures.sound _ _ _ c.requires.fits.1 _ _
+pub see_back-requires-in-Plus-clause-spells : goal.see_back-requires-in-Plus-clause-spells
+see_back-requires-in-Plus-clause-spells c = (child_visited _ _ _ c.start-start.ensures.sound _ _ _ c.requires.fits.1 _ _
     (asks_plus _ _ _ c.start-start.ensures.sound _ _ _ c.requires.fits.1 _ _
     (shape_at c.args.peg.now.nodes c.args.stage.top.node _ (c.node.ensures ∙ ap Some c.in-Plus.is)))).spelled
 
-pub see_told-requires-in-Plus-clause-place : goal.see_told-requires-in-Plus-clause-place
-see_told-requires-in-Plus-clause-place c = (at_top _ _ _ c.start-start.ensures.sound _ _ _ c.requires.fits.1).high
+pub see_back-requires-in-Plus-clause-place : goal.see_back-requires-in-Plus-clause-place
+see_back-requires-in-Plus-clause-place c = (at_top _ _ _ c.start-start.ensures.sound _ _ _ c.requires.fits.1).high
 
-pub returns-in-Ok-see_told-2 : goal.returns-in-Ok-see_told-2
-returns-in-Ok-see_told-2 c = λ below fits. rw c.plus.ensures
+pub returns-in-Ok-see_back-2 : goal.returns-in-Ok-see_back-2
+returns-in-Ok-see_back-2 c = λ below fits. rw c.plus.ensures
     (plus_on _ _ _ c.start-start.ensures.sound below _ _ fits _ _
-    (shape_at c.args.peg.now.nodes c.args.stage.top.node _ (c.node.ensures ∙ ap Some c.in-Plus.is)) _ _ c.in-Ok-see_told-2.ensures)
+    (shape_at c.args.peg.now.nodes c.args.stage.top.node _ (c.node.ensures ∙ ap Some c.in-Plus.is)) _ _ c.in-Ok-see_back-2.ensures)
 
-pub returns-in-Err-see_told-2 : goal.returns-in-Err-see_told-2
-returns-in-Err-see_told-2 c = λ below fits.
+pub returns-in-Err-see_back-2 : goal.returns-in-Err-see_back-2
+returns-in-Err-see_back-2 c = λ below fits.
     halts_on _ _ _ c.start-start.ensures.sound below _ _ fits _ _
     (asks_plus _ _ _ c.start-start.ensures.sound below _ _ fits _ _
     (shape_at c.args.peg.now.nodes c.args.stage.top.node _ (c.node.ensures ∙ ap Some c.in-Plus.is)))
-    c.see_told-in-Plus.new.cells c.in-Err-see_told-2.halt c.in-Err-see_told-2.ensures
+    c.see_back-in-Plus.new.cells c.in-Err-see_back-2.halt c.in-Err-see_back-2.ensures
 
-pub see_told-requires-in-Opt-clause-spells : goal.see_told-requires-in-Opt-clause-spells
-see_told-requires-in-Opt-clause-spells c = (child_visited _ _ _ c.start-start.ensures.sound _ _ _ c.requires.fits.1 _ _
+pub see_back-requires-in-Opt-clause-spells : goal.see_back-requires-in-Opt-clause-spells
+see_back-requires-in-Opt-clause-spells c = (child_visited _ _ _ c.start-start.ensures.sound _ _ _ c.requires.fits.1 _ _
     (asks_opt _ _ _ c.start-start.ensures.sound _ _ _ c.requires.fits.1 _
     (shape_at c.args.peg.now.nodes c.args.stage.top.node _ (c.node.ensures ∙ ap Some c.in-Opt.is)))).spelled
 
-pub see_told-requires-in-Opt-clause-place : goal.see_told-requires-in-Opt-clause-place
-see_told-requires-in-Opt-clause-place c = (at_top _ _ _ c.start-start.ensures.sound _ _ _ c.requires.fits.1).high
+pub see_back-requires-in-Opt-clause-place : goal.see_back-requires-in-Opt-clause-place
+see_back-requires-in-Opt-clause-place c = (at_top _ _ _ c.start-start.ensures.sound _ _ _ c.requires.fits.1).high
 
-pub returns-in-Ok-see_told-3 : goal.returns-in-Ok-see_told-3
-returns-in-Ok-see_told-3 c = λ below fits. rw c.opt.ensures
+pub returns-in-Ok-see_back-3 : goal.returns-in-Ok-see_back-3
+returns-in-Ok-see_back-3 c = λ below fits. rw c.opt.ensures
     (opt_on _ _ _ c.start-start.ensures.sound below _ _ fits _
-    (shape_at c.args.peg.now.nodes c.args.stage.top.node _ (c.node.ensures ∙ ap Some c.in-Opt.is)) _ _ c.in-Ok-see_told-3.ensures)
+    (shape_at c.args.peg.now.nodes c.args.stage.top.node _ (c.node.ensures ∙ ap Some c.in-Opt.is)) _ _ c.in-Ok-see_back-3.ensures)
 
-pub returns-in-Err-see_told-3 : goal.returns-in-Err-see_told-3
-returns-in-Err-see_told-3 c = λ below fits.
+pub returns-in-Err-see_back-3 : goal.returns-in-Err-see_back-3
+returns-in-Err-see_back-3 c = λ below fits.
     halts_on _ _ _ c.start-start.ensures.sound below _ _ fits _ _
     (asks_opt _ _ _ c.start-start.ensures.sound below _ _ fits _
-    (shape_at c.args.peg.now.nodes c.args.stage.top.node _ (c.node.ensures ∙ ap Some c.in-Opt.is))) c.see_told-in-Opt.new.cells
-    c.in-Err-see_told-3.halt c.in-Err-see_told-3.ensures
+    (shape_at c.args.peg.now.nodes c.args.stage.top.node _ (c.node.ensures ∙ ap Some c.in-Opt.is))) c.see_back-in-Opt.new.cells
+    c.in-Err-see_back-3.halt c.in-Err-see_back-3.ensures
 
-pub see_told-requires-in-And-clause-spells : goal.see_told-requires-in-And-clause-spells
-see_told-requires-in-And-clause-spells c = (child_visited _ _ _ c.start-start.ensures.sound _ _ _ c.requires.fits.1 _ _
+pub see_back-requires-in-And-clause-spells : goal.see_back-requires-in-And-clause-spells
+see_back-requires-in-And-clause-spells c = (child_visited _ _ _ c.start-start.ensures.sound _ _ _ c.requires.fits.1 _ _
     (asks_and _ _ _ c.start-start.ensures.sound _ _ _ c.requires.fits.1 _
     (shape_at c.args.peg.now.nodes c.args.stage.top.node _ (c.node.ensures ∙ ap Some c.in-And.is)))).spelled
 
-pub see_told-requires-in-And-clause-place : goal.see_told-requires-in-And-clause-place
-see_told-requires-in-And-clause-place c = (at_top _ _ _ c.start-start.ensures.sound _ _ _ c.requires.fits.1).high
+pub see_back-requires-in-And-clause-place : goal.see_back-requires-in-And-clause-place
+see_back-requires-in-And-clause-place c = (at_top _ _ _ c.start-start.ensures.sound _ _ _ c.requires.fits.1).high
 
-pub returns-in-Ok-see_told-4 : goal.returns-in-Ok-see_told-4
-returns-in-Ok-see_told-4 c = λ below fits. rw c.and.ensures
+pub returns-in-Ok-see_back-4 : goal.returns-in-Ok-see_back-4
+returns-in-Ok-see_back-4 c = λ below fits. rw c.and.ensures
     (and_on _ _ _ c.start-start.ensures.sound below _ _ fits _
-    (shape_at c.args.peg.now.nodes c.args.stage.top.node _ (c.node.ensures ∙ ap Some c.in-And.is)) _ _ c.in-Ok-see_told-4.ensures)
+    (shape_at c.args.peg.now.nodes c.args.stage.top.node _ (c.node.ensures ∙ ap Some c.in-And.is)) _ _ c.in-Ok-see_back-4.ensures)
 
-pub returns-in-Err-see_told-4 : goal.returns-in-Err-see_told-4
-returns-in-Err-see_told-4 c = λ below fits.
+pub returns-in-Err-see_back-4 : goal.returns-in-Err-see_back-4
+returns-in-Err-see_back-4 c = λ below fits.
     halts_on _ _ _ c.start-start.ensures.sound below _ _ fits _ _
     (asks_and _ _ _ c.start-start.ensures.sound below _ _ fits _
-    (shape_at c.args.peg.now.nodes c.args.stage.top.node _ (c.node.ensures ∙ ap Some c.in-And.is))) c.see_told-in-And.new.cells
-    c.in-Err-see_told-4.halt c.in-Err-see_told-4.ensures
+    (shape_at c.args.peg.now.nodes c.args.stage.top.node _ (c.node.ensures ∙ ap Some c.in-And.is))) c.see_back-in-And.new.cells
+    c.in-Err-see_back-4.halt c.in-Err-see_back-4.ensures
 
-pub see_told-requires-in-Not-clause-spells : goal.see_told-requires-in-Not-clause-spells
-see_told-requires-in-Not-clause-spells c = (child_visited _ _ _ c.start-start.ensures.sound _ _ _ c.requires.fits.1 _ _
+pub see_back-requires-in-Not-clause-spells : goal.see_back-requires-in-Not-clause-spells
+see_back-requires-in-Not-clause-spells c = (child_visited _ _ _ c.start-start.ensures.sound _ _ _ c.requires.fits.1 _ _
     (asks_not _ _ _ c.start-start.ensures.sound _ _ _ c.requires.fits.1 _
     (shape_at c.args.peg.now.nodes c.args.stage.top.node _ (c.node.ensures ∙ ap Some c.in-Not.is)))).spelled
 
-pub see_told-requires-in-Not-clause-place : goal.see_told-requires-in-Not-clause-place
-see_told-requires-in-Not-clause-place c = (at_top _ _ _ c.start-start.ensures.sound _ _ _ c.requires.fits.1).high
+pub see_back-requires-in-Not-clause-place : goal.see_back-requires-in-Not-clause-place
+see_back-requires-in-Not-clause-place c = (at_top _ _ _ c.start-start.ensures.sound _ _ _ c.requires.fits.1).high
 
-pub returns-in-Ok-see_told-5 : goal.returns-in-Ok-see_told-5
-returns-in-Ok-see_told-5 c = λ below fits. rw c.not.ensures
+pub returns-in-Ok-see_back-5 : goal.returns-in-Ok-see_back-5
+returns-in-Ok-see_back-5 c = λ below fits. rw c.not.ensures
     (not_on _ _ _ c.start-start.ensures.sound below _ _ fits _
-    (shape_at c.args.peg.now.nodes c.args.stage.top.node _ (c.node.ensures ∙ ap Some c.in-Not.is)) _ _ c.in-Ok-see_told-5.ensures)
+    (shape_at c.args.peg.now.nodes c.args.stage.top.node _ (c.node.ensures ∙ ap Some c.in-Not.is)) _ _ c.in-Ok-see_back-5.ensures)
 
-pub returns-in-Err-see_told-5 : goal.returns-in-Err-see_told-5
-returns-in-Err-see_told-5 c = λ below fits.
+pub returns-in-Err-see_back-5 : goal.returns-in-Err-see_back-5
+returns-in-Err-see_back-5 c = λ below fits.
     halts_on _ _ _ c.start-start.ensures.sound below _ _ fits _ _
     (asks_not _ _ _ c.start-start.ensures.sound below _ _ fits _
-    (shape_at c.args.peg.now.nodes c.args.stage.top.node _ (c.node.ensures ∙ ap Some c.in-Not.is))) c.see_told-in-Not.new.cells
-    c.in-Err-see_told-5.halt c.in-Err-see_told-5.ensures
+    (shape_at c.args.peg.now.nodes c.args.stage.top.node _ (c.node.ensures ∙ ap Some c.in-Not.is))) c.see_back-in-Not.new.cells
+    c.in-Err-see_back-5.halt c.in-Err-see_back-5.ensures
 
 pub next_turn-requires-clause-spells : goal.next_turn-requires-clause-spells
 next_turn-requires-clause-spells c = (at_top _ _ _ c.start-start.ensures.sound _ _ _ c.requires.fits.1).spelled
@@ -167,12 +167,12 @@ returns-in_default c =
     λ below fits. (_, _, come_stays _ _ _ c.start-start.ensures.sound below _ _ fits, c.next_turn.ensures)
 
 pub returns-then-top-gt0 : goal.returns-then-top-gt0
-returns-then-top-gt0 c = λ below fits. rw c.again_told.ensures
+returns-then-top-gt0 c = λ below fits. rw c.again_back.ensures
     (star_again _ _ _ c.start-start.ensures.sound below _ _ fits _
     (shape_at c.args.peg.now.nodes c.args.stage.top.node _ (c.node.ensures ∙ ap Some c.in-Star.is)) c.if-top-gt0.true)
 
 pub returns-then-top-gt0-2 : goal.returns-then-top-gt0-2
-returns-then-top-gt0-2 c = λ below fits. rw c.again_told-then-top-gt0-2.ensures
+returns-then-top-gt0-2 c = λ below fits. rw c.again_back-then-top-gt0-2.ensures
     (plus_again _ _ _ c.start-start.ensures.sound below _ _ fits _ _
     (shape_at c.args.peg.now.nodes c.args.stage.top.node _ (c.node.ensures ∙ ap Some c.in-Plus.is)) c.if-top-gt0-2.true)
 

@@ -1,10 +1,6 @@
-use Rattle.std.proofs.Common.{None}
-use Rattle.cells.specs.Entries.{found_at}
-use Rattle.std.proofs.Common.{◌≡◌}
 use Rattle.desk.proofs.IsNarrowRunLemmas.{all_narrow}
 use Rattle.desk.proofs.IsNextLemmas.{at_top, top_need, pushed_next, dropped_next, ended_next}
 use Rattle.desk.proofs.IsOnLemmas.{next_from}
-use Rattle.desk.proofs.IsPutLemmas.{is_put}
 use Rattle.desk.proofs.run.go_on.Goals as goal
 
 pub put_narrow-requires-clause-free : goal.put_narrow-requires-clause-free
@@ -26,15 +22,8 @@ returns-in-Ok-Need c =
 pub returns-in-Some : goal.returns-in-Some
 returns-in-Some c =
     let on = (rw c.in-Ok-Answer.field-0-is at c.in-Ok-Answer.ensures) _ c.requires.fits in
-    let none = (at_top _ _ _ c.start-start.ensures.sound _ _ _ on.2.fits).none in (
-      next_from on.2 (dropped_next _ _ _ c.start-start.ensures.sound _ _ _ on.2.fits _ _ on.3
-          c.in_ok-put_narrow-in-Ok-Answer.ensures.added _ _ c.in-Some.ensures.some),
-      (is_put c.turn_on.new.cells c.put_narrow.new.self (record {
-        node = c.args.stage.top.node;
-        place = c.args.stage.top.place;
-        found = c.in-Ok-Answer.found;
-      }) none c.in_ok-put_narrow-in-Ok-Answer.ensures.added).here,
-    )
+    next_from on.2 (dropped_next _ _ _ c.start-start.ensures.sound _ _ _ on.2.fits _ _ on.3
+    c.in_ok-put_narrow-in-Ok-Answer.ensures.added _ _ c.in-Some.ensures.some)
 
 pub returns-in-None : goal.returns-in-None
 returns-in-None c =
@@ -45,8 +34,6 @@ returns-in-None c =
 
 pub returns-in_ok-push-in-Ok-Ask : goal.returns-in_ok-push-in-Ok-Ask
 returns-in_ok-push-in-Ok-Ask c =
-    let on = (rw c.in-Ok-Ask.field-0-is at c.in-Ok-Ask.ensures) _ c.requires.fits in (
-      next_from on.2 (pushed_next _ _ _ c.start-start.ensures.sound _ _ _ on.2.fits _ _ _ _ on.3 _
-          _ c.beginning.ensures c.in_ok-push-in-Ok-Ask.ensures),
-      tt,
-    )
+    let on = (rw c.in-Ok-Ask.field-0-is at c.in-Ok-Ask.ensures) _ c.requires.fits in
+    next_from on.2 (pushed_next _ _ _ c.start-start.ensures.sound _ _ _ on.2.fits _ _ _ _ on.3 _
+    _ c.beginning.ensures c.in_ok-push-in-Ok-Ask.ensures)
