@@ -1,5 +1,5 @@
 -- The cells as they are kept, and as entries.
-use Rattle.std.specs.Prelude.{◌≡◌, ℕ, ◌<◌, ◌==◌, List, Some, length, map, slice_get, if◌then◌else◌}
+use Rattle.std.specs.Prelude.{◌≡◌, ℕ, ◌<◌, ◌==◌, List, Option, Some, None, length, map, slice_get, if◌then◌else◌}
 use Rattle.cells.specs.declared.cell.Cell.{Cell}
 use Rattle.cells.specs.declared.rows.Layout.{Layout}
 use Rattle.cells.specs.declared.cell.Found.{Found}
@@ -10,6 +10,11 @@ use Rattle.cells.specs.Rows.{row_of, number_of}
 
 abbrev pub found_of : ℕ → Found
 found_of e = if e == 4294967295 then Failed else Took e
+
+-- what a cell holds, if it was there, or else what is put
+abbrev pub found_or : ℕ → Option ℕ → Found
+found_or end None = found_of end
+found_or end (Some had) = found_of had
 
 abbrev pub entry_of : Cell → Entry
 entry_of c = record { node = c.node; place = c.place; found = found_of c.end }

@@ -2,13 +2,14 @@
 ghost use Rattle.std.specs.Prelude.{◌≡◌, ℕ, ◌<◌, ◌≤◌, ◌++◌, ◌∷◌, ◌^◌, [], length, slice_get, false, Some, None, IfOk};
 ghost use Rattle.std.specs.Prelude.{IfNone, IfSome, OnOk, OnErr};
 ghost use Rattle.cells.specs.Entries.{found_at, AreNarrow, EndsWith, IsKnown};
-ghost use Rattle.cells.specs.CellEntries.{IsAt, IsFree, IsKept, IsNowhere, entry_of, entries_of, found_of};
+ghost use Rattle.cells.specs.CellEntries.{IsAt, IsFree, IsKept, IsNowhere, entry_of, entries_of};
+ghost use Rattle.cells.specs.CellEntries.{found_of, found_or};
 ghost use Rattle.cells.specs.Links.{AreLinked};
 ghost use Rattle.cells.specs.Rows.{number_of as number, fold as folded, row_of};
 
 use crate::cell::{Cell, FAILED, Found, Key, end_narrow, end_of, found_of_end};
 use crate::link::{last_of, relink, walk, wipe};
-use crate::rows::{Layout, fold, layout_of, number_of};
+use crate::rows::{Layout, fold, layout_after, layout_of, number_of};
 use ruletable::Memory;
 use std::alloc::Global;
 use std::marker::Model;
@@ -259,7 +260,7 @@ fn insert(
     add(cells, rows, layout, *mask, row, cell)
 }
 
-// The end that the cell of that pair has, or adds the cell and gives its end.
+// The end that the cell of that pair has; none if it had none, and the cell is added.
 #[inline(always)]
 fn find_or_insert(
     cells: &mut Vec<Cell>,
@@ -267,12 +268,12 @@ fn find_or_insert(
     layout: Layout,
     mask: &mut usize,
     cell: Cell,
-) -> Result<u32, Memory>
+) -> Result<Option<u32>, Memory>
     requires kept { IsKept layout mask.old cells.old.items rows.old.items }
     requires narrow { (cell.node < 4294967295) × (cell.place < 4294967295) }
     ensures kept { IsKept layout mask.new cells.new.items rows.new.items }
-    ensures known { IfOk result (λ e. IsKnown (entries_of cells.old.items) (entries_of cells.new.items) cell.node
-        cell.place (found_of cell.end) (found_of e)) }
+    ensures known { IfOk result (λ had. IsKnown (entries_of cells.old.items) (entries_of cells.new.items) cell.node
+        cell.place (found_of cell.end) (found_or cell.end had)) }
     ensures unchanged { OnErr result (entries_of cells.new.items ≡ entries_of cells.old.items) }
 {
     let at = number_of(layout, cell.node, cell.place);
@@ -282,10 +283,10 @@ fn find_or_insert(
         place: cell.place,
     };
     if let Some(end) = walk(cells, rows, layout, *mask, row, key) {
-        return Ok(end);
+        return Ok(Some(end));
     }
     match add(cells, rows, layout, *mask, row, cell) {
-        Ok(()) => Ok(cell.end),
+        Ok(()) => Ok(None),
         Err(fault) => Err(fault),
     }
 }
@@ -358,7 +359,7 @@ impl Cells {
         let few = are_few(self.cells.len());
         self.cells.clear();
         empty(&mut self.rows);
-        self.layout = layout_of(nodes, few);
+        self.layout = layout_after(self.layout, nodes, few);
         self.mask = 0;
     }
 
@@ -459,7 +460,8 @@ impl Cells {
             &mut self.mask,
             cell,
         ) {
-            Ok(end) => Ok(found_of_end(end)),
+            Ok(Some(end)) => Ok(found_of_end(end)),
+            Ok(None) => Ok(found),
             Err(fault) => Err(fault),
         }
     }
@@ -509,7 +511,8 @@ impl Cells {
             &mut self.mask,
             cell,
         ) {
-            Ok(end) => Ok(found_of_end(end)),
+            Ok(Some(end)) => Ok(found_of_end(end)),
+            Ok(None) => Ok(found),
             Err(fault) => Err(fault),
         }
     }

@@ -4,17 +4,21 @@ ghost use Rattle.cells.specs.Rows.{number_of as number, fold as folded};
 
 use crate::cell::narrow;
 
-/// How pairs share rows: a place has `stride` rows, and of a node's number the bits in `keep` choose among them.
+/// How pairs share rows: a place has `stride` rows, and of a node's number the bits in `keep` choose among them. It was
+/// made for so many nodes, and for few cells or many.
 #[derive(Clone, Copy)]
 pub(crate) struct Layout {
     pub(crate) stride: u32,
     pub(crate) keep: u32,
+    nodes: usize,
+    few: bool,
 }
 
 // So many nodes share no row where cells are few.
 const APART: usize = 16;
 
 /// Returns a layout for that many nodes. Where the cells are few, so are those in one row; else the rows of a place are.
+#[inline(never)]
 pub(crate) fn layout_of(nodes: usize, few: bool) -> Layout {
     let rows = if few {
         nodes.min(APART).max(nodes / 32)
@@ -29,6 +33,18 @@ pub(crate) fn layout_of(nodes: usize, few: bool) -> Layout {
     Layout {
         stride: keep.saturating_add(1),
         keep,
+        nodes,
+        few,
+    }
+}
+
+/// Returns a layout for that many nodes, which the one before may be.
+#[inline(always)]
+pub(crate) fn layout_after(before: Layout, nodes: usize, few: bool) -> Layout {
+    if before.nodes == nodes && before.few == few {
+        before
+    } else {
+        layout_of(nodes, few)
     }
 }
 

@@ -12,7 +12,7 @@ use Rattle.pegmatch.specs.Answers.{StartGives}
 use Rattle.cells.specs.Entries.{Entry, found_at}
 use Rattle.cells.specs.declared.cell.Found.{Found}
 use Rattle.cells.specs.declared.cell.Found.TheVariants.{Failed, Took}
-use Rattle.desk.specs.Ahead.{IsSeen, come_to, HasCome, IsOn}
+use Rattle.desk.specs.Ahead.{IsSeen, come_to, HasCome, IsOn, MemberBack, OtherBack}
 use Rattle.desk.specs.declared.ahead.Halt.{Halt}
 use Rattle.desk.specs.declared.ahead.Halt.TheVariants.{Memory, Short}
 use Rattle.desk.specs.declared.frame.Frame.{Frame}
@@ -452,3 +452,65 @@ on_from new h (Ok turn) on =
     (on.0, on.1, come_further _ _ _ _ _ _ _ _ _ _ _ _ h on.2, on.3)
 on_from new h (Err Memory) on = tt
 on_from new h (Err Short) on = on
+
+module _ (g : Grammar) (x : List ℕ) (more : Bool) (sound : IsSoundGrammar g) (below : List Frame) (cells : List Entry)
+    (t : Frame) (f : Fits g x more (counted cells (t ∷ below))) (some : more ≡ true → 0 < length x) (ms : List ℕ) where
+  pub record ComesOn (u : Frame) : Type 0 where
+    pub next : ℕ
+    pub end : ℕ
+    pub is : u ≡ come_to t next end
+    pub come : HasCome g x more below cells cells t next end
+
+  stays_on : (u : Frame) → u ≡ t → ComesOn u
+  stays_on u is = record {
+    next = t.next;
+    end = t.end;
+    is = is;
+    come = come_stays g x more sound below cells t f;
+  }
+
+  pub member_comes : (at : slice_get (shapes_of g.nodes) t.node ≡ Some (node.Seq ms)) (u : Frame)
+      → MemberBack cells ms t (Ok u) → ComesOn u
+  member_comes at u (inl same) = stays_on u same
+  member_comes at u (inr m) = record {
+    next = t.next + 1;
+    end = m.0;
+    is = m.3;
+    come = next_takes g x more sound below cells t f some ms at m.1 m.0 m.2;
+  }
+
+  pub member_ends : (at : slice_get (shapes_of g.nodes) t.node ≡ Some (node.Seq ms)) (h : Found)
+      → MemberBack cells ms t (Err h) → IsOn g x more below cells cells t (Ok (Answer h))
+  member_ends at h m = rw m.0 (
+    t.next,
+    t.end,
+    come_stays g x more sound below cells t f,
+    next_fails g x more sound below cells t f some ms at m.1 m.2,
+  )
+
+  pub other_comes : (at : slice_get (shapes_of g.nodes) t.node ≡ Some (node.Choice ms)) (u : Frame)
+      → OtherBack cells ms t (Ok u) → ComesOn u
+  other_comes at u (inl same) = stays_on u same
+  other_comes at u (inr m) = record {
+    next = t.next + 1;
+    end = t.end;
+    is = m.2;
+    come = other_fails g x more sound below cells t f some ms at m.0 t.end m.1;
+  }
+
+  pub other_ends : (at : slice_get (shapes_of g.nodes) t.node ≡ Some (node.Choice ms)) (h : Found)
+      → OtherBack cells ms t (Err h) → IsOn g x more below cells cells t (Ok (Answer h))
+  other_ends at h m = rw m.1 (
+    t.next,
+    t.end,
+    come_stays g x more sound below cells t f,
+    other_takes g x more sound below cells t f some ms at m.2 m.0 m.3,
+  )
+
+  -- a frame that has come so far fits
+  pub comes_fit : (u : Frame) → ComesOn u → Fits g x more (counted cells (u ∷ below))
+  comes_fit u c = rw c.is c.come.fits
+
+  pub comes_through : (u : Frame) (new : List Entry) (r : Result Turn Halt) → ComesOn u
+      → IsOn g x more below cells new u r → IsOn g x more below cells new t r
+  comes_through u new r c on = on_from new c.come r (rw c.is at on)

@@ -7,7 +7,7 @@ ghost use Rattle.pegmatch.specs.KeptEvents.{SpellsSome};
 ghost use Rattle.cells.specs.Entries.{Entry, found_at};
 ghost use Rattle.cells.specs.declared.cell.Found.{Found};
 ghost use Rattle.desk.specs.declared.frame.Frame.{Frame};
-ghost use Rattle.desk.specs.Ahead.{IsNarrowRun, IsSight, IsSeen, IsOn, seen_as};
+ghost use Rattle.desk.specs.Ahead.{IsNarrowRun, IsSight, IsSeen, IsOn, MemberBack, OtherBack, seen_as};
 ghost use Rattle.desk.specs.Desk.{counted, Fits};
 ghost use Rattle.desk.specs.State.{AreCells};
 ghost use Rattle.desk.specs.Turns.{again_turn, IsTurn};
@@ -365,7 +365,57 @@ fn first_on(
     Ok(Turn::Answer(Found::Failed))
 }
 
-// On through the members of a sequence, of which the first may have the last cell.
+// Where a sequence goes on: behind its next member, if that is the last cell's and took something; else what it gives.
+#[inline(always)]
+fn member_back(cells: &Cells, members: &[usize], stage: Stage) -> Result<Frame, Found>
+    ensures { MemberBack cells.now members.now stage.top result }
+{
+    let top = stage.top;
+    if top.next >= members.len() {
+        return Ok(top);
+    }
+    let at = NodeAt {
+        node: members[top.next],
+        place: top.end,
+    };
+    match last_if(stage.back, cells, at) {
+        Some(Found::Took(after)) => Ok(Frame {
+            node: top.node,
+            place: top.place,
+            next: top.next + 1,
+            end: after,
+        }),
+        Some(Found::Failed) => Err(Found::Failed),
+        None => Ok(top),
+    }
+}
+
+// Where a choice goes on: behind its next alternative, if that is the last cell's and failed; else what it gives.
+#[inline(always)]
+fn other_back(cells: &Cells, alternatives: &[usize], stage: Stage) -> Result<Frame, Found>
+    ensures { OtherBack cells.now alternatives.now stage.top result }
+{
+    let top = stage.top;
+    if top.next >= alternatives.len() {
+        return Ok(top);
+    }
+    let at = NodeAt {
+        node: alternatives[top.next],
+        place: top.place,
+    };
+    match last_if(stage.back, cells, at) {
+        Some(Found::Took(end)) => Err(Found::Took(end)),
+        Some(Found::Failed) => Ok(Frame {
+            node: top.node,
+            place: top.place,
+            next: top.next + 1,
+            end: top.end,
+        }),
+        None => Ok(top),
+    }
+}
+
+// On through the members of a sequence, from behind the last cell's where that is of one.
 #[inline(always)]
 fn all_from(
     peg: &SoundPeg,
@@ -383,36 +433,13 @@ fn all_from(
         IsOn peg.now window.now more below cells.old cells.new stage.top result }
 {
     let _start = peg.start();
-    let top = stage.top;
-    if top.next >= members.len() {
-        return Ok(Turn::Answer(Found::Took(top.end)));
-    }
-    let at = NodeAt {
-        node: members[top.next],
-        place: top.end,
-    };
-    match see_back(peg, window, more, cells, at, stage.back) {
-        Ok(None) => Ok(Turn::Ask {
-            node: at.node,
-            place: top.end,
-            next: top.next,
-            end: top.end,
-        }),
-        Ok(Some(Found::Failed)) => Ok(Turn::Answer(Found::Failed)),
-        Ok(Some(Found::Took(after))) => {
-            let come = Frame {
-                node: top.node,
-                place: top.place,
-                next: top.next + 1,
-                end: after,
-            };
-            all_on(peg, window, more, cells, members, come)
-        }
-        Err(halt) => Err(halt),
+    match member_back(cells, members, stage) {
+        Ok(from) => all_on(peg, window, more, cells, members, from),
+        Err(found) => Ok(Turn::Answer(found)),
     }
 }
 
-// On through the alternatives of a choice, of which the first may have the last cell.
+// On through the alternatives of a choice, from behind the last cell's where that is of one.
 #[inline(always)]
 fn first_from(
     peg: &SoundPeg,
@@ -430,32 +457,9 @@ fn first_from(
         IsOn peg.now window.now more below cells.old cells.new stage.top result }
 {
     let _start = peg.start();
-    let top = stage.top;
-    if top.next >= alternatives.len() {
-        return Ok(Turn::Answer(Found::Failed));
-    }
-    let at = NodeAt {
-        node: alternatives[top.next],
-        place: top.place,
-    };
-    match see_back(peg, window, more, cells, at, stage.back) {
-        Ok(None) => Ok(Turn::Ask {
-            node: at.node,
-            place: top.place,
-            next: top.next,
-            end: top.place,
-        }),
-        Ok(Some(Found::Took(end))) => Ok(Turn::Answer(Found::Took(end))),
-        Ok(Some(Found::Failed)) => {
-            let come = Frame {
-                node: top.node,
-                place: top.place,
-                next: top.next + 1,
-                end: top.end,
-            };
-            first_on(peg, window, more, cells, alternatives, come)
-        }
-        Err(halt) => Err(halt),
+    match other_back(cells, alternatives, stage) {
+        Ok(from) => first_on(peg, window, more, cells, alternatives, from),
+        Err(found) => Ok(Turn::Answer(found)),
     }
 }
 
