@@ -9,7 +9,7 @@ ghost use Rattle.cells.specs.Rows.{number_of as number, fold as folded, row_of};
 
 use crate::cell::{Cell, FAILED, Found, Key, end_narrow, end_of, found_of_end};
 use crate::link::{last_of, relink, walk, wipe};
-use crate::rows::{Layout, fold, layout_after, layout_of, number_of};
+use crate::rows::{Layout, Scale, fold, layout_after, layout_of, number_of};
 use ruletable::Memory;
 use std::alloc::Global;
 use std::marker::Model;
@@ -23,6 +23,12 @@ const KEPT: usize = 1_024;
 // A unit of so many cells is small; the next is laid out for the like.
 const FEW: usize = 1_024;
 
+// The scale before the first unit.
+const NONE: Scale = Scale {
+    nodes: 0,
+    few: false,
+};
+
 /// The cells of one unit, seen as the list of their entries in the order in which they were put.
 ///
 /// A cell takes 16 bytes, and each row takes 4 more. Where the unit before had few cells, a place has up to 16 rows; else
@@ -35,6 +41,8 @@ pub struct Cells {
     rows: Vec<u32>,
     // which pairs share a row
     layout: Layout,
+    // what the layout is made for
+    scale: Scale,
     // the bits of a number that is no row which name its row; 0 where each number is a row
     mask: usize,
 }
@@ -347,7 +355,8 @@ impl Cells {
         Cells {
             cells: Vec::new(alloc),
             rows: Vec::new(alloc),
-            layout: layout_of(0, false),
+            layout: layout_of(NONE),
+            scale: NONE,
             mask: 0,
         }
     }
@@ -357,9 +366,11 @@ impl Cells {
         ensures { self.new ≡ [] }
     {
         let few = are_few(self.cells.len());
+        let scale = Scale { nodes, few };
         self.cells.clear();
         empty(&mut self.rows);
-        self.layout = layout_after(self.layout, nodes, few);
+        self.layout = layout_after(self.layout, self.scale, scale);
+        self.scale = scale;
         self.mask = 0;
     }
 

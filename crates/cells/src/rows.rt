@@ -4,26 +4,30 @@ ghost use Rattle.cells.specs.Rows.{number_of as number, fold as folded};
 
 use crate::cell::narrow;
 
-/// How pairs share rows: a place has `stride` rows, and of a node's number the bits in `keep` choose among them. It was
-/// made for so many nodes, and for few cells or many.
+/// How pairs share rows: a place has `stride` rows, and of a node's number the bits in `keep` choose among them.
 #[derive(Clone, Copy)]
 pub(crate) struct Layout {
     pub(crate) stride: u32,
     pub(crate) keep: u32,
-    nodes: usize,
-    few: bool,
+}
+
+/// What a layout is made for: so many nodes, and few cells or many.
+#[derive(Clone, Copy)]
+pub(crate) struct Scale {
+    pub(crate) nodes: usize,
+    pub(crate) few: bool,
 }
 
 // So many nodes share no row where cells are few.
 const APART: usize = 16;
 
-/// Returns a layout for that many nodes. Where the cells are few, so are those in one row; else the rows of a place are.
+/// Returns a layout. Where the cells are few, so are those in one row; else the rows of a place are.
 #[inline(never)]
-pub(crate) fn layout_of(nodes: usize, few: bool) -> Layout {
-    let rows = if few {
-        nodes.min(APART).max(nodes / 32)
+pub(crate) fn layout_of(scale: Scale) -> Layout {
+    let rows = if scale.few {
+        scale.nodes.min(APART).max(scale.nodes / 32)
     } else {
-        nodes / 32
+        scale.nodes / 32
     };
     let last = match narrow(rows) {
         Some(rows) => rows.saturating_sub(1) | 1,
@@ -33,18 +37,16 @@ pub(crate) fn layout_of(nodes: usize, few: bool) -> Layout {
     Layout {
         stride: keep.saturating_add(1),
         keep,
-        nodes,
-        few,
     }
 }
 
-/// Returns a layout for that many nodes, which the one before may be.
+/// Returns a layout for a scale, from the one for the scale before.
 #[inline(always)]
-pub(crate) fn layout_after(before: Layout, nodes: usize, few: bool) -> Layout {
-    if before.nodes == nodes && before.few == few {
-        before
+pub(crate) fn layout_after(layout: Layout, before: Scale, scale: Scale) -> Layout {
+    if before.nodes == scale.nodes && before.few == scale.few {
+        layout
     } else {
-        layout_of(nodes, few)
+        layout_of(scale)
     }
 }
 
