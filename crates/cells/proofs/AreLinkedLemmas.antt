@@ -82,7 +82,8 @@ AreLinked-push row cells rows c l last = record {
 }
 
 -- the same in place: the cell at index i is linked behind those before it
-pub AreLinked-set : (count mask : ℕ) (layout : Layout) (cells : List Cell) (rows : List ℕ) (i b : ℕ) (c : Cell) → i < length cells
+pub AreLinked-set : (count mask : ℕ) (layout : Layout) (cells : List Cell) (rows : List ℕ) (i b : ℕ) (c : Cell)
+    → i < length cells
     → count ≡ length rows →
     AreLinked (row_of count mask layout) (take i cells) rows → IsLast (row_of count mask layout) (take i cells)
     (length (take i cells)) b c.link →

@@ -15,7 +15,8 @@ pub record IsSought (row : Cell → ℕ) (cells : List Cell) (n p b at : ℕ) : 
   pub here : 0 < at → IsIn row cells b (at - 1)
   pub after : (j : ℕ) (c : Cell) → at ≤ j → slice_get cells j ≡ Some c → c.node ≡ n → c.place ≡ p → ⊥
 
-pub same_row : (count mask : ℕ) (layout : Layout) (n p : ℕ) (c : Cell) → c.node ≡ n → c.place ≡ p → row_of count mask layout c
+pub same_row : (count mask : ℕ) (layout : Layout) (n p : ℕ) (c : Cell) → c.node ≡ n → c.place ≡ p
+    → row_of count mask layout c
     ≡ fold count mask (number_of layout n p)
 same_row count mask layout n p c e f = ap (fold count mask) (ap₂ (number_of layout) e f)
 

@@ -31,9 +31,9 @@ const NONE: Scale = Scale {
 
 /// The cells of one unit, seen as the list of their entries in the order in which they were put.
 ///
-/// A cell takes 16 bytes, and each row takes 4 more. Where the unit before had few cells, a place has up to 16 rows; else
-/// some 32 to 64 nodes share a row of each place. Numbers from 4,294,967,295 on, and more cells than that, are refused as
-/// want of memory.
+/// A cell takes 16 bytes, and each row takes 4 more. Where the unit before had few cells, a place has up to 16 rows;
+/// else some 32 to 64 nodes share a row of each place. Numbers from 4,294,967,295 on, and more cells than that, are
+/// refused as want of memory.
 #[derive(Drop)]
 pub struct Cells {
     cells: Vec<Cell>,
@@ -498,8 +498,8 @@ impl Cells {
         )
     }
 
-    /// Returns what the node has at the place: what its cell there holds, or else `found`, for which a cell is added. The
-    /// numbers must be less than 4,294,967,295.
+    /// Returns what the node has at the place: what its cell there holds, or else `found`, for which a cell is added.
+    /// The numbers must be less than 4,294,967,295.
     ///
     /// # Errors
     /// `Memory` where a growth was refused; no cell is added.

@@ -11,7 +11,8 @@ use Rattle.desk.specs.declared.frame.Frame.{Frame}
 use Rattle.desk.specs.declared.run.Next.TheVariants as next
 use Rattle.desk.specs.declared.turn.Turn.TheVariants.{Ask, Answer, Need}
 use Rattle.cells.specs.declared.cell.Found.TheVariants.{Failed, Took}
-use Rattle.desk.specs.Desk.{View, beginning, counted, Fits, IsDone, IsStep, IsFurther, IsNext, IsMatched, IsOutcome, unit_of_match}
+use Rattle.desk.specs.Desk.{View, beginning, counted, Fits, IsDone, IsStep, IsFurther, IsNext, IsMatched, IsOutcome}
+use Rattle.desk.specs.Desk.{unit_of_match}
 use Rattle.desk.specs.Turns.{IsTurn}
 use Rattle.desk.proofs.IsStepLemmas.{IsTop, is_top, pushed_step, dropped_step, ended_here}
 use Rattle.desk.proofs.IsStepLemmas.{reaches_end, need_given, step_less}

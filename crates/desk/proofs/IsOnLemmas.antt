@@ -18,8 +18,7 @@ use Rattle.desk.specs.declared.ahead.Halt.TheVariants.{Memory, Short}
 use Rattle.desk.specs.declared.frame.Frame.{Frame}
 use Rattle.desk.specs.declared.turn.Turn.{Turn}
 use Rattle.desk.specs.declared.turn.Turn.TheVariants.{Ask, Answer}
-use Rattle.desk.specs.declared.run.Next.TheVariants as next
-use Rattle.desk.specs.Desk.{counted, Fits, IsFurther, IsNext}
+use Rattle.desk.specs.Desk.{counted, Fits, IsFurther}
 use Rattle.desk.specs.State as state
 use Rattle.desk.specs.State.{HaveTaken, HaveFailed, IsUnderWay}
 use Rattle.desk.specs.Turns.{same_turn, again_turn, opt_turn, and_turn, not_turn, star_turn, plus_turn, IsWalk}

@@ -281,7 +281,8 @@ fn see_back(
     }
 }
 
-// Hands on what the node that goes on with a repetition gives at the end of one turn of it, which may be the last cell's.
+// Hands on what the node that goes on with a repetition gives at the end of one turn of it, which may be the last
+// cell's.
 #[inline(always)]
 fn again_back(cells: &Cells, at: NodeAt, back: bool) -> Turn
     ensures { result ≡ again_turn at.node at.place (found_at cells.now at.node at.place) }

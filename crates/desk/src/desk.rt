@@ -27,8 +27,8 @@ use std::marker::Model;
 // So many nodes, or bytes of a window, are too many for its cells.
 const MOST: usize = 4_294_967_295;
 
-/// A matcher that keeps the outcomes so far by node and place, and evaluates each node at each place at most once. A match
-/// in a window of 4,294,967,295 bytes, or by as many nodes, is refused as want of memory.
+/// A matcher that keeps the outcomes so far by node and place, and evaluates each node at each place at most once. A
+/// match in a window of 4,294,967,295 bytes, or by as many nodes, is refused as want of memory.
 ///
 /// It is seen as its cells, the frames of what is under way with the last one first, and how many evaluations were
 /// begun. It recurses nowhere: its depth is that of its frames.

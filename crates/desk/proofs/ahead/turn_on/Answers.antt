@@ -43,7 +43,8 @@ see_back-requires-clause-place c = (at_top _ _ _ c.start-start.ensures.sound _ _
 pub returns-in-Ok : goal.returns-in-Ok
 returns-in-Ok c = λ below fits. rw c.same.ensures
     (name_on _ _ _ c.start-start.ensures.sound below _ _ fits _ _
-    (shape_at c.args.peg.now.nodes c.args.stage.top.node _ (c.node.ensures ∙ ap Some c.in-Name.is)) c.body_node-body.ensures _
+    (shape_at c.args.peg.now.nodes c.args.stage.top.node _ (c.node.ensures ∙ ap Some c.in-Name.is))
+    c.body_node-body.ensures _
     _ c.in-Ok.ensures)
 
 pub returns-in-Err : goal.returns-in-Err
@@ -64,7 +65,8 @@ see_back-requires-in-Star-clause-place c = (at_top _ _ _ c.start-start.ensures.s
 pub returns-in-Ok-see_back : goal.returns-in-Ok-see_back
 returns-in-Ok-see_back c = λ below fits. rw c.star.ensures
     (star_on _ _ _ c.start-start.ensures.sound below _ _ fits _
-    (shape_at c.args.peg.now.nodes c.args.stage.top.node _ (c.node.ensures ∙ ap Some c.in-Star.is)) _ _ c.in-Ok-see_back.ensures)
+    (shape_at c.args.peg.now.nodes c.args.stage.top.node _ (c.node.ensures ∙ ap Some c.in-Star.is))
+    _ _ c.in-Ok-see_back.ensures)
 
 pub returns-in-Err-see_back : goal.returns-in-Err-see_back
 returns-in-Err-see_back c = λ below fits.
@@ -84,7 +86,8 @@ see_back-requires-in-Plus-clause-place c = (at_top _ _ _ c.start-start.ensures.s
 pub returns-in-Ok-see_back-2 : goal.returns-in-Ok-see_back-2
 returns-in-Ok-see_back-2 c = λ below fits. rw c.plus.ensures
     (plus_on _ _ _ c.start-start.ensures.sound below _ _ fits _ _
-    (shape_at c.args.peg.now.nodes c.args.stage.top.node _ (c.node.ensures ∙ ap Some c.in-Plus.is)) _ _ c.in-Ok-see_back-2.ensures)
+    (shape_at c.args.peg.now.nodes c.args.stage.top.node _ (c.node.ensures ∙ ap Some c.in-Plus.is))
+    _ _ c.in-Ok-see_back-2.ensures)
 
 pub returns-in-Err-see_back-2 : goal.returns-in-Err-see_back-2
 returns-in-Err-see_back-2 c = λ below fits.
@@ -104,13 +107,15 @@ see_back-requires-in-Opt-clause-place c = (at_top _ _ _ c.start-start.ensures.so
 pub returns-in-Ok-see_back-3 : goal.returns-in-Ok-see_back-3
 returns-in-Ok-see_back-3 c = λ below fits. rw c.opt.ensures
     (opt_on _ _ _ c.start-start.ensures.sound below _ _ fits _
-    (shape_at c.args.peg.now.nodes c.args.stage.top.node _ (c.node.ensures ∙ ap Some c.in-Opt.is)) _ _ c.in-Ok-see_back-3.ensures)
+    (shape_at c.args.peg.now.nodes c.args.stage.top.node _ (c.node.ensures ∙ ap Some c.in-Opt.is))
+    _ _ c.in-Ok-see_back-3.ensures)
 
 pub returns-in-Err-see_back-3 : goal.returns-in-Err-see_back-3
 returns-in-Err-see_back-3 c = λ below fits.
     halts_on _ _ _ c.start-start.ensures.sound below _ _ fits _ _
     (asks_opt _ _ _ c.start-start.ensures.sound below _ _ fits _
-    (shape_at c.args.peg.now.nodes c.args.stage.top.node _ (c.node.ensures ∙ ap Some c.in-Opt.is))) c.see_back-in-Opt.new.cells
+    (shape_at c.args.peg.now.nodes c.args.stage.top.node _ (c.node.ensures ∙ ap Some c.in-Opt.is)))
+    c.see_back-in-Opt.new.cells
     c.in-Err-see_back-3.halt c.in-Err-see_back-3.ensures
 
 pub see_back-requires-in-And-clause-spells : goal.see_back-requires-in-And-clause-spells
@@ -124,13 +129,15 @@ see_back-requires-in-And-clause-place c = (at_top _ _ _ c.start-start.ensures.so
 pub returns-in-Ok-see_back-4 : goal.returns-in-Ok-see_back-4
 returns-in-Ok-see_back-4 c = λ below fits. rw c.and.ensures
     (and_on _ _ _ c.start-start.ensures.sound below _ _ fits _
-    (shape_at c.args.peg.now.nodes c.args.stage.top.node _ (c.node.ensures ∙ ap Some c.in-And.is)) _ _ c.in-Ok-see_back-4.ensures)
+    (shape_at c.args.peg.now.nodes c.args.stage.top.node _ (c.node.ensures ∙ ap Some c.in-And.is))
+    _ _ c.in-Ok-see_back-4.ensures)
 
 pub returns-in-Err-see_back-4 : goal.returns-in-Err-see_back-4
 returns-in-Err-see_back-4 c = λ below fits.
     halts_on _ _ _ c.start-start.ensures.sound below _ _ fits _ _
     (asks_and _ _ _ c.start-start.ensures.sound below _ _ fits _
-    (shape_at c.args.peg.now.nodes c.args.stage.top.node _ (c.node.ensures ∙ ap Some c.in-And.is))) c.see_back-in-And.new.cells
+    (shape_at c.args.peg.now.nodes c.args.stage.top.node _ (c.node.ensures ∙ ap Some c.in-And.is)))
+    c.see_back-in-And.new.cells
     c.in-Err-see_back-4.halt c.in-Err-see_back-4.ensures
 
 pub see_back-requires-in-Not-clause-spells : goal.see_back-requires-in-Not-clause-spells
@@ -144,13 +151,15 @@ see_back-requires-in-Not-clause-place c = (at_top _ _ _ c.start-start.ensures.so
 pub returns-in-Ok-see_back-5 : goal.returns-in-Ok-see_back-5
 returns-in-Ok-see_back-5 c = λ below fits. rw c.not.ensures
     (not_on _ _ _ c.start-start.ensures.sound below _ _ fits _
-    (shape_at c.args.peg.now.nodes c.args.stage.top.node _ (c.node.ensures ∙ ap Some c.in-Not.is)) _ _ c.in-Ok-see_back-5.ensures)
+    (shape_at c.args.peg.now.nodes c.args.stage.top.node _ (c.node.ensures ∙ ap Some c.in-Not.is))
+    _ _ c.in-Ok-see_back-5.ensures)
 
 pub returns-in-Err-see_back-5 : goal.returns-in-Err-see_back-5
 returns-in-Err-see_back-5 c = λ below fits.
     halts_on _ _ _ c.start-start.ensures.sound below _ _ fits _ _
     (asks_not _ _ _ c.start-start.ensures.sound below _ _ fits _
-    (shape_at c.args.peg.now.nodes c.args.stage.top.node _ (c.node.ensures ∙ ap Some c.in-Not.is))) c.see_back-in-Not.new.cells
+    (shape_at c.args.peg.now.nodes c.args.stage.top.node _ (c.node.ensures ∙ ap Some c.in-Not.is)))
+    c.see_back-in-Not.new.cells
     c.in-Err-see_back-5.halt c.in-Err-see_back-5.ensures
 
 pub next_turn-requires-clause-spells : goal.next_turn-requires-clause-spells

@@ -8,4 +8,5 @@ returns-in-None-get c = (sym c.in-None-get.ensures, c.in-None.ensures _ c.requir
 pub get_or_put_narrow-requires : goal.get_or_put_narrow-requires
 get_or_put_narrow-requires c =
     let turn = c.in-Some.ensures _ c.requires.right in
-    all_narrow c.args.peg.now _ c.args.more c.requires.sound c.requires.narrow _ _ c.requires.spells c.requires.place _ turn.0
+    all_narrow c.args.peg.now _ c.args.more c.requires.sound c.requires.narrow _ _ c.requires.spells
+    c.requires.place _ turn.0

@@ -29,8 +29,8 @@ pub returns-in-None : goal.returns-in-None
 returns-in-None c =
     let on = (rw c.in-Ok-Answer.field-0-is at c.in-Ok-Answer.ensures) _ c.requires.fits in
     let none = c.in-None.ensures.none in
-    ended_next _ _ _ c.start-start.ensures.sound _ _ _ on.2.fits _ _ on.3 c.in_ok-put_narrow-in-Ok-Answer.ensures.added _
-    none.0 none.1
+    ended_next _ _ _ c.start-start.ensures.sound _ _ _ on.2.fits _ _ on.3
+    c.in_ok-put_narrow-in-Ok-Answer.ensures.added _ none.0 none.1
 
 pub returns-in_ok-push-in-Ok-Ask : goal.returns-in_ok-push-in-Ok-Ask
 returns-in_ok-push-in-Ok-Ask c =
