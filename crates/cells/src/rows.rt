@@ -21,6 +21,14 @@ pub(crate) struct Scale {
 // So many nodes share no row where cells are few.
 const APART: usize = 16;
 
+// The bits of the numbers below that one.
+fn ones_below(count: u32) -> u32 {
+    if count < 2 {
+        return 0;
+    }
+    u32::MAX.wrapping_shr((count - 1).leading_zeros())
+}
+
 /// Returns a layout. Where the cells are few, so are those in one row; else the rows of a place are.
 #[inline(never)]
 pub(crate) fn layout_of(scale: Scale) -> Layout {
@@ -29,11 +37,10 @@ pub(crate) fn layout_of(scale: Scale) -> Layout {
     } else {
         scale.nodes / 32
     };
-    let last = match narrow(rows) {
-        Some(rows) => rows.saturating_sub(1) | 1,
-        None => 1,
+    let keep = match narrow(rows) {
+        Some(rows) => ones_below(rows),
+        None => 0,
     };
-    let keep = u32::MAX.wrapping_shr(last.leading_zeros());
     Layout {
         stride: keep.saturating_add(1),
         keep,
