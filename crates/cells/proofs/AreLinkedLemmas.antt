@@ -9,6 +9,7 @@ use Rattle.std.proofs.lemmas.List.{take_more_set, get_or-replicate, length-repli
 use Rattle.std.proofs.Math.ListN.{replicate}
 use Rattle.cells.specs.Rows.{row_of}
 use Rattle.cells.specs.declared.cell.Cell.{Cell}
+use Rattle.cells.specs.declared.rows.Layout.{Layout}
 use Rattle.cells.specs.Links.{IsIn, IsLast, AreLinked}
 use Rattle.cells.proofs.PushLemmas.{at_end, keeps_after_push, more_cases, push_cases, set_cases}
 
@@ -81,18 +82,19 @@ AreLinked-push row cells rows c l last = record {
 }
 
 -- the same in place: the cell at index i is linked behind those before it
-pub AreLinked-set : (count mask stride : ℕ) (cells : List Cell) (rows : List ℕ) (i b : ℕ) (c : Cell) → i < length cells
+pub AreLinked-set : (count mask : ℕ) (layout : Layout) (cells : List Cell) (rows : List ℕ) (i b : ℕ) (c : Cell)
+    → i < length cells
     → count ≡ length rows →
-    AreLinked (row_of count mask stride) (take i cells) rows → IsLast (row_of count mask stride) (take i cells)
+    AreLinked (row_of count mask layout) (take i cells) rows → IsLast (row_of count mask layout) (take i cells)
     (length (take i cells)) b c.link →
-    row_of count mask stride c ≡ b → AreLinked (row_of (length (set rows b (i + 1))) mask stride)
+    row_of count mask layout c ≡ b → AreLinked (row_of (length (set rows b (i + 1))) mask layout)
     (take (i + 1) (set cells i c)) (set rows b (i + 1))
-AreLinked-set count mask stride cells rows i b c w size l last is =
+AreLinked-set count mask layout cells rows i b c w size l last is =
     let n : length (take i cells) ≡ i = length-take-le i cells (omega arith) in
-    let p : AreLinked (row_of count mask stride) (take i cells ++ c ∷ [])
-    (set rows (row_of count mask stride c) (length (take i cells) + 1)) =
-    AreLinked-push (row_of count mask stride) (take i cells) rows c l (rw is last) in
-    let q : AreLinked (row_of count mask stride) (take i cells ++ c ∷ []) (set rows b (i + 1)) = rw (n, is) at p in
+    let p : AreLinked (row_of count mask layout) (take i cells ++ c ∷ [])
+    (set rows (row_of count mask layout c) (length (take i cells) + 1)) =
+    AreLinked-push (row_of count mask layout) (take i cells) rows c l (rw is last) in
+    let q : AreLinked (row_of count mask layout) (take i cells ++ c ∷ []) (set rows b (i + 1)) = rw (n, is) at p in
     rw (take_more_set cells i c w, length-set rows b (i + 1), ← size) q
 
 IsIn-same : (row row' : Cell → ℕ) (cells : List Cell) (b j : ℕ) →

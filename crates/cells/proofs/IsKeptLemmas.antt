@@ -7,6 +7,7 @@ use Rattle.std.proofs.lemmas.Bool.Decides.{nat_tests}
 use Rattle.std.specs.Prelude.{slice_get, option_map}
 use Rattle.std.proofs.lemmas.Option.{slice_get_within, slice_get-map}
 use Rattle.cells.specs.declared.cell.Cell.{Cell}
+use Rattle.cells.specs.declared.rows.Layout.{Layout}
 use Rattle.cells.specs.declared.cell.Found.{Found}
 use Rattle.cells.specs.Entries.{Entry, found_at, IsKnown}
 use Rattle.cells.specs.CellEntries.{Holds, IsFree, IsMap, IsKept, IsAt, IsNowhere, entry_of, entries_of, found_of}
@@ -92,10 +93,10 @@ IsMap-push xs e m free i j a b ha hb hn hp =
     ]
 
 -- no cells, and rows that have none
-pub IsKept-none : (stride : ℕ) (cells : List Cell) (rows : List ℕ) → cells ≡ []
-    → ((b h : ℕ) → slice_get rows b ≡ Some h → h ≡ 0) → IsKept stride 0 cells rows
-IsKept-none stride cells rows is none = rw is (record {
-  linked = AreLinked-none (row_of (length rows) 0 stride) rows none;
+pub IsKept-none : (layout : Layout) (cells : List Cell) (rows : List ℕ) → cells ≡ []
+    → ((b h : ℕ) → slice_get rows b ≡ Some h → h ≡ 0) → IsKept layout 0 cells rows
+IsKept-none layout cells rows is none = rw is (record {
+  linked = AreLinked-none (row_of (length rows) 0 layout) rows none;
   some = λ h. absurd (omega arith);
   masked = λ h. h;
   map = λ i j a b ha hb hn hp. absurd (cc ha);
@@ -104,16 +105,16 @@ IsKept-none stride cells rows is none = rw is (record {
   few = omega arith;
 })
 
-pub IsKept-push : (stride mask : ℕ) (cells : List Cell) (rows : List ℕ) (c : Cell) (row : ℕ)
-    → IsKept stride mask cells rows →
+pub IsKept-push : (layout : Layout) (mask : ℕ) (cells : List Cell) (rows : List ℕ) (c : Cell) (row : ℕ)
+    → IsKept layout mask cells rows →
     0 < length rows → IsFree (entries_of cells) c.node c.place → (c.node < 4294967295) × (c.place < 4294967295) →
-    row ≡ row_of (length rows) mask stride c → IsLast (row_of (length rows) mask stride) cells (length cells) row c.link
+    row ≡ row_of (length rows) mask layout c → IsLast (row_of (length rows) mask layout) cells (length cells) row c.link
     → length cells < 4294967294 →
-    (mask ≡ 0 → number_of stride c.node c.place < length rows)
-    → IsKept stride mask (cells ++ c ∷ []) (set rows row (length cells + 1))
-IsKept-push stride mask cells rows c row k some free small is last few low = record {
+    (mask ≡ 0 → number_of layout c.node c.place < length rows)
+    → IsKept layout mask (cells ++ c ∷ []) (set rows row (length cells + 1))
+IsKept-push layout mask cells rows c row k some free small is last few low = record {
   linked = rw (length-set rows row (length cells + 1), is)
-      (AreLinked-push (row_of (length rows) mask stride) cells rows c k.linked (rw (← is) last));
+      (AreLinked-push (row_of (length rows) mask layout) cells rows c k.linked (rw (← is) last));
   some = λ _. rw (length-set rows row (length cells + 1)) some;
   masked = λ _. rw (length-set rows row (length cells + 1)) (k.masked some);
   map = rw (map-append entry_of cells (c ∷ [])) (IsMap-push (entries_of cells) (entry_of c) k.map free);
@@ -128,17 +129,17 @@ unfolding fold
 fold-below count mask x h = grind (arith, nat_tests)
 
 -- more rows where no number is folded
-pub IsKept-more : (stride : ℕ) (cells : List Cell) (rows more : List ℕ)
-    → ((b h : ℕ) → slice_get more b ≡ Some h → h ≡ 0) → IsKept stride 0 cells rows →
-    0 < length (rows ++ more) → IsKept stride 0 cells (rows ++ more)
-IsKept-more stride cells rows more none k some =
+pub IsKept-more : (layout : Layout) (cells : List Cell) (rows more : List ℕ)
+    → ((b h : ℕ) → slice_get more b ≡ Some h → h ≡ 0) → IsKept layout 0 cells rows →
+    0 < length (rows ++ more) → IsKept layout 0 cells (rows ++ more)
+IsKept-more layout cells rows more none k some =
     let size : length (rows ++ more) ≡ length rows + length more = length-append rows more in
     record {
-      linked = AreLinked-same (row_of (length rows) 0 stride) (row_of (length (rows ++ more)) 0 stride) cells rows more
-          (λ i c h. let w : number_of stride c.node c.place < length rows = k.within refl i c h in
-          fold-below (length (rows ++ more)) 0 (number_of stride c.node c.place) (omega arith)
-          ∙ sym (fold-below (length rows) 0 (number_of stride c.node c.place) w))
-          (λ i c h. rw (fold-below (length rows) 0 (number_of stride c.node c.place) (k.within refl i c h))
+      linked = AreLinked-same (row_of (length rows) 0 layout) (row_of (length (rows ++ more)) 0 layout) cells rows more
+          (λ i c h. let w : number_of layout c.node c.place < length rows = k.within refl i c h in
+          fold-below (length (rows ++ more)) 0 (number_of layout c.node c.place) (omega arith)
+          ∙ sym (fold-below (length rows) 0 (number_of layout c.node c.place) w))
+          (λ i c h. rw (fold-below (length rows) 0 (number_of layout c.node c.place) (k.within refl i c h))
           (k.within refl i c h))
           none
           k.linked;
@@ -146,17 +147,17 @@ IsKept-more stride cells rows more none k some =
       masked = λ _. some;
       map = k.map;
       narrow = k.narrow;
-      within = λ _ i c h. let w : number_of stride c.node c.place < length rows = k.within refl i c h in omega arith;
+      within = λ _ i c h. let w : number_of layout c.node c.place < length rows = k.within refl i c h in omega arith;
       few = k.few;
     }
 
 -- other links and rows, where numbers are folded
-pub IsKept-relinked : (stride mask now_mask : ℕ) (cells now_cells : List Cell) (rows now_rows : List ℕ)
-    → IsKept stride mask cells rows →
-    AreLinked (row_of (length now_rows) now_mask stride) now_cells now_rows → entries_of now_cells ≡ entries_of cells
+pub IsKept-relinked : (layout : Layout) (mask now_mask : ℕ) (cells now_cells : List Cell) (rows now_rows : List ℕ)
+    → IsKept layout mask cells rows →
+    AreLinked (row_of (length now_rows) now_mask layout) now_cells now_rows → entries_of now_cells ≡ entries_of cells
     → 0 < now_mask → now_mask < length now_rows →
-    IsKept stride now_mask now_cells now_rows
-IsKept-relinked stride mask now_mask cells now_cells rows now_rows k linked same some masked = record {
+    IsKept layout now_mask now_cells now_rows
+IsKept-relinked layout mask now_mask cells now_cells rows now_rows k linked same some masked = record {
   linked = linked;
   some = λ _. omega arith;
   masked = λ _. masked;

@@ -5,6 +5,7 @@ use Rattle.std.proofs.Common.{arith}
 use Rattle.std.specs.Prelude.{slice_get}
 use Rattle.std.proofs.lemmas.Option.{slice_get_within, slice_get-get_or}
 use Rattle.cells.specs.declared.cell.Cell.{Cell}
+use Rattle.cells.specs.declared.rows.Layout.{Layout}
 use Rattle.cells.specs.Links.{IsIn, IsLast, AreLinked}
 use Rattle.cells.specs.Rows.{row_of, fold, number_of}
 
@@ -14,9 +15,10 @@ pub record IsSought (row : Cell → ℕ) (cells : List Cell) (n p b at : ℕ) : 
   pub here : 0 < at → IsIn row cells b (at - 1)
   pub after : (j : ℕ) (c : Cell) → at ≤ j → slice_get cells j ≡ Some c → c.node ≡ n → c.place ≡ p → ⊥
 
-pub same_row : (count mask stride n p : ℕ) (c : Cell) → c.node ≡ n → c.place ≡ p → row_of count mask stride c
-    ≡ fold count mask (number_of stride n p)
-same_row count mask stride n p c e f = ap (fold count mask) (ap₂ (number_of stride) e f)
+pub same_row : (count mask : ℕ) (layout : Layout) (n p : ℕ) (c : Cell) → c.node ≡ n → c.place ≡ p
+    → row_of count mask layout c
+    ≡ fold count mask (number_of layout n p)
+same_row count mask layout n p c e f = ap (fold count mask) (ap₂ (number_of layout) e f)
 
 pub sought-start : (row : Cell → ℕ) (cells : List Cell) (n p b at : ℕ) →
     ((c : Cell) → c.node ≡ n → c.place ≡ p → row c ≡ b) → IsLast row cells (length cells) b at
@@ -60,16 +62,16 @@ sought-next row cells rows n p b at c same l s h e other =
     )
 
 -- the same, of a cell that was read
-pub sought-step : (count mask stride : ℕ) (cells : List Cell) (rows : List ℕ) (n p b at : ℕ) (d : Cell) →
-    b ≡ fold count mask (number_of stride n p) → AreLinked (row_of count mask stride) cells rows
-    → IsSought (row_of count mask stride) cells n p b at →
+pub sought-step : (count mask : ℕ) (layout : Layout) (cells : List Cell) (rows : List ℕ) (n p b at : ℕ) (d : Cell) →
+    b ≡ fold count mask (number_of layout n p) → AreLinked (row_of count mask layout) cells rows
+    → IsSought (row_of count mask layout) cells n p b at →
     0 < at → ((get_or cells (at - 1) d).node ≡ n × ((get_or cells (at - 1) d).place ≡ p → ⊥))
     ⊎ ((get_or cells (at - 1) d).node ≡ n → ⊥) →
-    ((get_or cells (at - 1) d).link < at) × IsSought (row_of count mask stride) cells n p b
+    ((get_or cells (at - 1) d).link < at) × IsSought (row_of count mask layout) cells n p b
     (get_or cells (at - 1) d).link
-sought-step count mask stride cells rows n p b at d is l s h other =
+sought-step count mask layout cells rows n p b at d is l s h other =
     let w : at ≤ length cells = s.within in
-    sought-next (row_of count mask stride) cells rows n p b at (get_or cells (at - 1) d)
-    (λ c e f. same_row count mask stride n p c e f ∙ sym is) l s h
+    sought-next (row_of count mask layout) cells rows n p b at (get_or cells (at - 1) d)
+    (λ c e f. same_row count mask layout n p c e f ∙ sym is) l s h
     (slice_get-get_or cells (at - 1) d (omega arith))
     (elim other [ inl o ↦ λ _ f. o.1 f | inr o ↦ λ e _. o e ])

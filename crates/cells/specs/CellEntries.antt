@@ -1,6 +1,7 @@
 -- The cells as they are kept, and as entries.
-use Rattle.std.specs.Prelude.{◌≡◌, ℕ, ◌<◌, ◌==◌, List, Some, length, map, slice_get, if◌then◌else◌}
+use Rattle.std.specs.Prelude.{◌≡◌, ℕ, ◌<◌, ◌==◌, List, Option, Some, None, length, map, slice_get, if◌then◌else◌}
 use Rattle.cells.specs.declared.cell.Cell.{Cell}
+use Rattle.cells.specs.declared.rows.Layout.{Layout}
 use Rattle.cells.specs.declared.cell.Found.{Found}
 use Rattle.cells.specs.declared.cell.Found.TheVariants.{Failed, Took}
 use Rattle.cells.specs.Entries.{Entry}
@@ -9,6 +10,11 @@ use Rattle.cells.specs.Rows.{row_of, number_of}
 
 abbrev pub found_of : ℕ → Found
 found_of e = if e == 4294967295 then Failed else Took e
+
+-- what a cell holds, if it was there, or else what is put
+abbrev pub found_or : ℕ → Option ℕ → Found
+found_or end None = found_of end
+found_or end (Some had) = found_of had
 
 abbrev pub entry_of : Cell → Entry
 entry_of c = record { node = c.node; place = c.place; found = found_of c.end }
@@ -38,12 +44,12 @@ abbrev pub IsNowhere : List Cell → ℕ → ℕ → Type 0
 IsNowhere cells n p = (i : ℕ) (c : Cell) → slice_get cells i ≡ Some c → c.node ≡ n → c.place ≡ p → ⊥
 
 -- what holds of the fields of the table; with the mask 0 each number is a row
-pub record IsKept (stride mask : ℕ) (cells : List Cell) (rows : List ℕ) : Type 0 where
-  pub linked : AreLinked (row_of (length rows) mask stride) cells rows
+pub record IsKept (layout : Layout) (mask : ℕ) (cells : List Cell) (rows : List ℕ) : Type 0 where
+  pub linked : AreLinked (row_of (length rows) mask layout) cells rows
   pub some : 0 < length cells → 0 < length rows
   pub masked : 0 < length rows → mask < length rows
   pub map : IsMap (entries_of cells)
   pub narrow : (i : ℕ) (c : Cell) → slice_get cells i ≡ Some c → (c.node < 4294967295) × (c.place < 4294967295)
-  pub within : mask ≡ 0 → (i : ℕ) (c : Cell) → slice_get cells i ≡ Some c → number_of stride c.node c.place
+  pub within : mask ≡ 0 → (i : ℕ) (c : Cell) → slice_get cells i ≡ Some c → number_of layout c.node c.place
       < length rows
   pub few : length cells < 4294967295

@@ -1,7 +1,8 @@
 -- The cells as callers see them: a list of entries, one for each pair of a node and a place that has a cell.
-use Rattle.std.specs.Prelude.{◌≡◌, ◌⊎◌, ℕ, ◌-◌, ◌&&◌, ◌==◌, if◌then◌else◌, List, [], ◌∷◌, ◌++◌, Option, Some, None}
+use Rattle.std.specs.Prelude.{◌≡◌, ◌⊎◌, ℕ, ◌-◌, ◌<◌, ◌&&◌, ◌==◌, if◌then◌else◌, List, [], ◌∷◌, ◌++◌, Option, Some, None}
 use Rattle.std.specs.Prelude.{length, slice_get}
 use Rattle.cells.specs.declared.cell.Found.{Found}
+use Rattle.cells.specs.declared.cell.Found.TheVariants.{Failed, Took}
 
 pub record Entry : Type 0 where
   pub node : ℕ
@@ -26,3 +27,11 @@ AreDifferent (c ∷ cells) = (found_at cells c.node c.place ≡ None) × AreDiff
 abbrev pub IsKnown : List Entry → List Entry → ℕ → ℕ → Found → Found → Type 0
 IsKnown old new n p found f = (found_at new n p ≡ Some f) × ((new ≡ old) ⊎ ((found_at old n p ≡ None) × (f ≡ found) ×
     (new ≡ old ++ record { node = n; place = p; found = found } ∷ [])))
+
+-- a cell can keep these numbers
+abbrev pub IsNarrow : Found → Type 0
+IsNarrow Failed = Unit {0}
+IsNarrow (Took end) = end < 4294967295
+
+abbrev pub AreNarrow : ℕ → ℕ → Found → Type 0
+AreNarrow n p f = (n < 4294967295) × (p < 4294967295) × IsNarrow f

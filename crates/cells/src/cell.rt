@@ -1,6 +1,7 @@
 //! One cell, as it is kept.
 ghost use Rattle.std.specs.Prelude.{◌≡◌, ◌<◌, ◌≤◌, IfSome, IfNone};
 ghost use Rattle.cells.specs.CellEntries.{found_of};
+ghost use Rattle.cells.specs.Entries.{IsNarrow};
 
 /// What a node gave at a place.
 #[derive(Clone, Copy, PartialEq, Eq, Debug)]
@@ -52,6 +53,18 @@ pub(crate) fn end_of(found: Found) -> Option<u32>
     match found {
         Found::Failed => Some(FAILED),
         Found::Took(end) => narrow(end),
+    }
+}
+
+/// Returns the end that a cell keeps of what was found.
+#[inline(always)]
+pub(crate) fn end_narrow(found: Found) -> u32
+    requires { IsNarrow found }
+    ensures { found_of result ≡ found }
+{
+    match found {
+        Found::Failed => FAILED,
+        Found::Took(end) => end as u32,
     }
 }
 

@@ -1,14 +1,15 @@
 //! The cells as a finite map.
 ghost use Rattle.std.specs.Prelude.{◌≡◌, ℕ, ◌<◌, ◌≤◌, ◌++◌, ◌∷◌, ◌^◌, [], length, slice_get, false, Some, None, IfOk};
 ghost use Rattle.std.specs.Prelude.{IfNone, IfSome, OnOk, OnErr};
-ghost use Rattle.cells.specs.Entries.{found_at, EndsWith, IsKnown};
-ghost use Rattle.cells.specs.CellEntries.{IsAt, IsFree, IsKept, IsNowhere, entry_of, entries_of, found_of};
+ghost use Rattle.cells.specs.Entries.{found_at, AreNarrow, EndsWith, IsKnown};
+ghost use Rattle.cells.specs.CellEntries.{IsAt, IsFree, IsKept, IsNowhere, entry_of, entries_of};
+ghost use Rattle.cells.specs.CellEntries.{found_of, found_or};
 ghost use Rattle.cells.specs.Links.{AreLinked};
 ghost use Rattle.cells.specs.Rows.{number_of as number, fold as folded, row_of};
 
-use crate::cell::{Cell, FAILED, Found, Key, end_of, found_of_end, narrow};
+use crate::cell::{Cell, FAILED, Found, Key, end_narrow, end_of, found_of_end};
 use crate::link::{last_of, relink, walk, wipe};
-use crate::rows::{fold, number_of};
+use crate::rows::{Layout, Scale, fold, layout_after, layout_of, number_of};
 use ruletable::Memory;
 use std::alloc::Global;
 use std::marker::Model;
@@ -17,19 +18,31 @@ use std::marker::Model;
 const FIRST: usize = 256;
 
 // So many rows are emptied one by one; more are dropped, and made again as they are wanted.
-const KEPT: usize = 64;
+const KEPT: usize = 1_024;
+
+// A unit of so many cells is small; the next is laid out for the like.
+const FEW: usize = 1_024;
+
+// The scale before the first unit.
+const NONE: Scale = Scale {
+    nodes: 0,
+    few: false,
+};
 
 /// The cells of one unit, seen as the list of their entries in the order in which they were put.
 ///
-/// A cell takes 16 bytes, and each row takes 4 more; 32 neighbouring nodes share a row of each place. Numbers from
-/// 4,294,967,295 on, and more cells than that, are refused as want of memory.
+/// A cell takes 16 bytes, and each row takes 4 more. Where the unit before had few cells, a place has up to 16 rows;
+/// else some 32 to 64 nodes share a row of each place. Numbers from 4,294,967,295 on, and more cells than that, are
+/// refused as want of memory.
 #[derive(Drop)]
 pub struct Cells {
     cells: Vec<Cell>,
     // of each row one more than the index of its last cell, or 0
     rows: Vec<u32>,
-    // how many rows a place has
-    stride: u32,
+    // which pairs share a row
+    layout: Layout,
+    // what the layout is made for
+    scale: Scale,
     // the bits of a number that is no row which name its row; 0 where each number is a row
     mask: usize,
 }
@@ -43,7 +56,7 @@ impl Model for Cells {
 
     ghost view = { λ m. entries_of m.cells.items };
 
-    ghost invariant = { λ m. IsKept m.stride m.mask m.cells.items m.rows.items };
+    ghost invariant = { λ m. IsKept m.layout m.mask m.cells.items m.rows.items };
 }
 
 // Twice so many rows, and some at first.
@@ -86,12 +99,12 @@ fn mask_below(count: usize) -> usize
 fn grow(
     cells: &mut [Cell],
     rows: &mut Vec<u32>,
-    stride: u32,
+    layout: Layout,
     mask: usize,
     number: usize,
 ) -> Result<usize, Memory>
-    requires { IsKept stride mask cells.old rows.old.items }
-    ensures kept { IfOk result (λ now. IsKept stride now cells.new rows.new.items) }
+    requires { IsKept layout mask cells.old rows.old.items }
+    ensures kept { IfOk result (λ now. IsKept layout now cells.new rows.new.items) }
     ensures same { entries_of cells.new ≡ entries_of cells.old }
     ensures some { OnOk result (0 < length rows.new.items) }
     ensures within { IfOk result (λ now. now ≡ 0 → number < length rows.new.items) }
@@ -103,7 +116,7 @@ fn grow(
     }
     rows.resize(twice(rows.len()), 0)?;
     let folded = mask_below(rows.len());
-    relink(cells, rows, stride, folded);
+    relink(cells, rows, layout, folded);
     Ok(folded)
 }
 
@@ -122,19 +135,19 @@ fn needs_rows(cells: usize, rows: usize, mask: usize, number: usize) -> bool
 fn more_rows(
     cells: &mut [Cell],
     rows: &mut Vec<u32>,
-    stride: u32,
+    layout: Layout,
     mask: usize,
     number: usize,
 ) -> Result<usize, Memory>
-    requires { IsKept stride mask cells.old rows.old.items }
-    ensures kept { IfOk result (λ now. IsKept stride now cells.new rows.new.items) }
+    requires { IsKept layout mask cells.old rows.old.items }
+    ensures kept { IfOk result (λ now. IsKept layout now cells.new rows.new.items) }
     ensures same { entries_of cells.new ≡ entries_of cells.old }
     ensures some { OnOk result (0 < length rows.new.items) }
     ensures within { IfOk result (λ now. now ≡ 0 → number < length rows.new.items) }
     ensures unchanged { OnErr result ((cells.new ≡ cells.old) × (rows.new.items ≡ rows.old.items)) }
 {
     if needs_rows(cells.len(), rows.len(), mask, number) {
-        grow(cells, rows, stride, mask, number)
+        grow(cells, rows, layout, mask, number)
     } else {
         Ok(mask)
     }
@@ -145,12 +158,12 @@ fn more_rows(
 fn row_for(
     cells: &mut [Cell],
     rows: &mut Vec<u32>,
-    stride: u32,
+    layout: Layout,
     mask: &mut usize,
     number: usize,
 ) -> Result<usize, Memory>
-    requires { IsKept stride mask.old cells.old rows.old.items }
-    ensures kept { IsKept stride mask.new cells.new rows.new.items }
+    requires { IsKept layout mask.old cells.old rows.old.items }
+    ensures kept { IsKept layout mask.new cells.new rows.new.items }
     ensures same { entries_of cells.new ≡ entries_of cells.old }
     ensures row { IfOk result (λ row. row ≡ folded (length rows.new.items) mask.new number) }
     ensures there { IfOk result (λ row. row < length rows.new.items) }
@@ -159,7 +172,7 @@ fn row_for(
     if number < rows.len() {
         return Ok(number);
     }
-    *mask = more_rows(cells, rows, stride, *mask, number)?;
+    *mask = more_rows(cells, rows, layout, *mask, number)?;
     Ok(fold(rows.len(), *mask, number))
 }
 
@@ -186,30 +199,45 @@ fn cell_of(node: usize, place: usize, found: Found) -> Option<Cell>
     }
 }
 
+// The cell of what was found, not linked yet.
+#[inline(always)]
+fn cell_narrow(node: usize, place: usize, found: Found) -> Cell
+    requires { AreNarrow node place found }
+    ensures entry { entry_of result ≡ record { node = node; place = place; found = found } }
+    ensures narrow { (result.node < 4294967295) × (result.place < 4294967295) }
+{
+    Cell {
+        node: node as u32,
+        place: place as u32,
+        end: end_narrow(found),
+        link: 0,
+    }
+}
+
 // Adds a cell behind the last one of its row.
 #[inline(always)]
 fn add(
     cells: &mut Vec<Cell>,
     rows: &mut [u32],
-    stride: u32,
+    layout: Layout,
     mask: usize,
     row: usize,
     cell: Cell,
 ) -> Result<(), Memory>
-    requires kept { IsKept stride mask cells.old.items rows.old }
+    requires kept { IsKept layout mask cells.old.items rows.old }
     requires there { row < length rows.old }
-    requires row { row ≡ folded (length rows.old) mask (number stride cell.node cell.place) }
-    requires within { mask ≡ 0 → number stride cell.node cell.place < length rows.old }
+    requires row { row ≡ folded (length rows.old) mask (number layout cell.node cell.place) }
+    requires within { mask ≡ 0 → number layout cell.node cell.place < length rows.old }
     requires free { IsFree (entries_of cells.old.items) cell.node cell.place }
     requires narrow { (cell.node < 4294967295) × (cell.place < 4294967295) }
-    ensures kept { OnOk result (IsKept stride mask cells.new.items rows.new) }
+    ensures kept { OnOk result (IsKept layout mask cells.new.items rows.new) }
     ensures added { OnOk result (entries_of cells.new.items ≡ entries_of cells.old.items ++ entry_of cell ∷ []) }
     ensures unchanged { OnErr result ((cells.new.items ≡ cells.old.items) × (rows.new ≡ rows.old)) }
 {
     if cells.len() >= 4_294_967_294 {
         return Err(Memory);
     }
-    let link = last_of(cells, rows, stride, mask, row);
+    let link = last_of(cells, rows, layout, mask, row);
     let linked = Cell {
         link: link as u32,
         ..cell
@@ -224,57 +252,57 @@ fn add(
 fn insert(
     cells: &mut Vec<Cell>,
     rows: &mut Vec<u32>,
-    stride: u32,
+    layout: Layout,
     mask: &mut usize,
     cell: Cell,
 ) -> Result<(), Memory>
-    requires kept { IsKept stride mask.old cells.old.items rows.old.items }
+    requires kept { IsKept layout mask.old cells.old.items rows.old.items }
     requires free { IsFree (entries_of cells.old.items) cell.node cell.place }
     requires narrow { (cell.node < 4294967295) × (cell.place < 4294967295) }
-    ensures kept { IsKept stride mask.new cells.new.items rows.new.items }
+    ensures kept { IsKept layout mask.new cells.new.items rows.new.items }
     ensures added { OnOk result (entries_of cells.new.items ≡ entries_of cells.old.items ++ entry_of cell ∷ []) }
     ensures unchanged { OnErr result (entries_of cells.new.items ≡ entries_of cells.old.items) }
 {
-    let at = number_of(stride, cell.node, cell.place);
-    let row = row_for(cells, rows, stride, mask, at)?;
-    add(cells, rows, stride, *mask, row, cell)
+    let at = number_of(layout, cell.node, cell.place);
+    let row = row_for(cells, rows, layout, mask, at)?;
+    add(cells, rows, layout, *mask, row, cell)
 }
 
-// The end that the cell of that pair has, or adds the cell and gives its end.
+// The end that the cell of that pair has; none if it had none, and the cell is added.
 #[inline(always)]
 fn find_or_insert(
     cells: &mut Vec<Cell>,
     rows: &mut Vec<u32>,
-    stride: u32,
+    layout: Layout,
     mask: &mut usize,
     cell: Cell,
-) -> Result<u32, Memory>
-    requires kept { IsKept stride mask.old cells.old.items rows.old.items }
+) -> Result<Option<u32>, Memory>
+    requires kept { IsKept layout mask.old cells.old.items rows.old.items }
     requires narrow { (cell.node < 4294967295) × (cell.place < 4294967295) }
-    ensures kept { IsKept stride mask.new cells.new.items rows.new.items }
-    ensures known { IfOk result (λ e. IsKnown (entries_of cells.old.items) (entries_of cells.new.items) cell.node
-        cell.place (found_of cell.end) (found_of e)) }
+    ensures kept { IsKept layout mask.new cells.new.items rows.new.items }
+    ensures known { IfOk result (λ had. IsKnown (entries_of cells.old.items) (entries_of cells.new.items) cell.node
+        cell.place (found_of cell.end) (found_or cell.end had)) }
     ensures unchanged { OnErr result (entries_of cells.new.items ≡ entries_of cells.old.items) }
 {
-    let at = number_of(stride, cell.node, cell.place);
-    let row = row_for(cells, rows, stride, mask, at)?;
+    let at = number_of(layout, cell.node, cell.place);
+    let row = row_for(cells, rows, layout, mask, at)?;
     let key = Key {
         node: cell.node,
         place: cell.place,
     };
-    if let Some(end) = walk(cells, rows, stride, *mask, row, key) {
-        return Ok(end);
+    if let Some(end) = walk(cells, rows, layout, *mask, row, key) {
+        return Ok(Some(end));
     }
-    match add(cells, rows, stride, *mask, row, cell) {
-        Ok(()) => Ok(cell.end),
+    match add(cells, rows, layout, *mask, row, cell) {
+        Ok(()) => Ok(None),
         Err(fault) => Err(fault),
     }
 }
 
 // The end of the cell of that pair, which is sought where its number is no row.
 #[inline(never)]
-fn end_far(cells: &[Cell], rows: &[u32], stride: u32, mask: usize, key: Key) -> Option<u32>
-    requires linked { AreLinked (row_of (length rows.now) mask stride) cells.now rows.now }
+fn end_far(cells: &[Cell], rows: &[u32], layout: Layout, mask: usize, key: Key) -> Option<u32>
+    requires linked { AreLinked (row_of (length rows.now) mask layout) cells.now rows.now }
     requires some { 0 < length cells.now → 0 < length rows.now }
     requires masked { 0 < length rows.now → mask < length rows.now }
     ensures found { IfSome result (λ e. IsAt cells.now key.node key.place e) }
@@ -283,24 +311,24 @@ fn end_far(cells: &[Cell], rows: &[u32], stride: u32, mask: usize, key: Key) -> 
     if rows.is_empty() {
         return None;
     }
-    let row = fold(rows.len(), mask, number_of(stride, key.node, key.place));
-    walk(cells, rows, stride, mask, row, key)
+    let row = fold(rows.len(), mask, number_of(layout, key.node, key.place));
+    walk(cells, rows, layout, mask, row, key)
 }
 
 // The end of the cell of that pair. Mostly its number is a row.
 #[inline(always)]
-fn end_at(cells: &[Cell], rows: &[u32], stride: u32, mask: usize, key: Key) -> Option<u32>
-    requires linked { AreLinked (row_of (length rows.now) mask stride) cells.now rows.now }
+fn end_at(cells: &[Cell], rows: &[u32], layout: Layout, mask: usize, key: Key) -> Option<u32>
+    requires linked { AreLinked (row_of (length rows.now) mask layout) cells.now rows.now }
     requires some { 0 < length cells.now → 0 < length rows.now }
     requires masked { 0 < length rows.now → mask < length rows.now }
     ensures found { IfSome result (λ e. IsAt cells.now key.node key.place e) }
     ensures none { IfNone result (IsNowhere cells.now key.node key.place) }
 {
-    let row = number_of(stride, key.node, key.place);
+    let row = number_of(layout, key.node, key.place);
     if row >= rows.len() {
-        return end_far(cells, rows, stride, mask, key);
+        return end_far(cells, rows, layout, mask, key);
     }
-    walk(cells, rows, stride, mask, row, key)
+    walk(cells, rows, layout, mask, row, key)
 }
 
 // Empties all rows.
@@ -314,6 +342,11 @@ fn empty(rows: &mut Vec<u32>)
     wipe(rows);
 }
 
+// Whether so many cells are those of a small unit.
+fn are_few(cells: usize) -> bool {
+    cells > 0 && cells <= FEW
+}
+
 impl Cells {
     /// Returns no cells; it takes no memory.
     pub fn new(alloc: Global) -> Cells
@@ -322,7 +355,8 @@ impl Cells {
         Cells {
             cells: Vec::new(alloc),
             rows: Vec::new(alloc),
-            stride: 1,
+            layout: layout_of(NONE),
+            scale: NONE,
             mask: 0,
         }
     }
@@ -331,12 +365,12 @@ impl Cells {
     pub fn reset(&mut self, nodes: usize)
         ensures { self.new ≡ [] }
     {
+        let few = are_few(self.cells.len());
+        let scale = Scale { nodes, few };
         self.cells.clear();
         empty(&mut self.rows);
-        self.stride = match narrow(nodes / 32 + 1) {
-            Some(rows) => rows | 1,
-            None => 1,
-        };
+        self.layout = layout_after(self.layout, self.scale, scale);
+        self.scale = scale;
         self.mask = 0;
     }
 
@@ -352,18 +386,28 @@ impl Cells {
     pub fn get(&self, node: usize, place: usize) -> Option<Found>
         ensures { result ≡ found_at self.now node place }
     {
-        let stride = self.stride;
+        let _layout = self.layout;
         if node >= FAILED as usize {
             return None;
         }
         if place >= FAILED as usize {
             return None;
         }
+        self.get_narrow(node, place)
+    }
+
+    /// Returns what the node gave at the place, if it has a cell there. Both numbers must be less than 4,294,967,295.
+    #[inline(always)]
+    pub fn get_narrow(&self, node: usize, place: usize) -> Option<Found>
+        requires { (node < 4294967295) × (place < 4294967295) }
+        ensures { result ≡ found_at self.now node place }
+    {
+        let layout = self.layout;
         let key = Key {
             node: node as u32,
             place: place as u32,
         };
-        match end_at(&self.cells, &self.rows, stride, self.mask, key) {
+        match end_at(&self.cells, &self.rows, layout, self.mask, key) {
             Some(end) => Some(found_of_end(end)),
             None => None,
         }
@@ -401,7 +445,7 @@ impl Cells {
         insert(
             &mut self.cells,
             &mut self.rows,
-            self.stride,
+            self.layout,
             &mut self.mask,
             cell,
         )
@@ -423,11 +467,63 @@ impl Cells {
         match find_or_insert(
             &mut self.cells,
             &mut self.rows,
-            self.stride,
+            self.layout,
             &mut self.mask,
             cell,
         ) {
-            Ok(end) => Ok(found_of_end(end)),
+            Ok(Some(end)) => Ok(found_of_end(end)),
+            Ok(None) => Ok(found),
+            Err(fault) => Err(fault),
+        }
+    }
+
+    /// Adds a cell. The node must have none at that place, and the numbers must be less than 4,294,967,295.
+    ///
+    /// # Errors
+    /// `Memory` where a growth was refused; no cell is added.
+    #[inline(always)]
+    pub fn put_narrow(&mut self, node: usize, place: usize, found: Found) -> Result<(), Memory>
+        requires free { found_at self.old node place ≡ None }
+        requires narrow { AreNarrow node place found }
+        ensures added { OnOk result (self.new ≡ self.old ++ record { node = node; place = place; found = found } ∷ []) }
+        ensures unchanged { OnErr result (self.new ≡ self.old) }
+    {
+        let cell = cell_narrow(node, place, found);
+        insert(
+            &mut self.cells,
+            &mut self.rows,
+            self.layout,
+            &mut self.mask,
+            cell,
+        )
+    }
+
+    /// Returns what the node has at the place: what its cell there holds, or else `found`, for which a cell is added.
+    /// The numbers must be less than 4,294,967,295.
+    ///
+    /// # Errors
+    /// `Memory` where a growth was refused; no cell is added.
+    #[inline(always)]
+    pub fn get_or_put_narrow(
+        &mut self,
+        node: usize,
+        place: usize,
+        found: Found,
+    ) -> Result<Found, Memory>
+        requires { AreNarrow node place found }
+        ensures known { IfOk result (λ f. IsKnown self.old self.new node place found f) }
+        ensures unchanged { OnErr result (self.new ≡ self.old) }
+    {
+        let cell = cell_narrow(node, place, found);
+        match find_or_insert(
+            &mut self.cells,
+            &mut self.rows,
+            self.layout,
+            &mut self.mask,
+            cell,
+        ) {
+            Ok(Some(end)) => Ok(found_of_end(end)),
+            Ok(None) => Ok(found),
             Err(fault) => Err(fault),
         }
     }

@@ -2,13 +2,68 @@
 ghost use Rattle.std.specs.Prelude.{◌≡◌, ◌<◌, ◌*◌, ◌+◌, ◌^◌};
 ghost use Rattle.cells.specs.Rows.{number_of as number, fold as folded};
 
-/// Returns the number of a node and a place where each place has `stride` rows, and 32 nodes share one.
+use crate::cell::narrow;
+
+/// How pairs share rows: a place has `stride` rows, and of a node's number the bits in `keep` choose among them.
+#[derive(Clone, Copy)]
+pub(crate) struct Layout {
+    pub(crate) stride: u32,
+    pub(crate) keep: u32,
+}
+
+/// What a layout is made for: so many nodes, and few cells or many.
+#[derive(Clone, Copy)]
+pub(crate) struct Scale {
+    pub(crate) nodes: usize,
+    pub(crate) few: bool,
+}
+
+// So many nodes share no row where cells are few.
+const APART: usize = 16;
+
+// The bits of the numbers below that one.
+fn ones_below(count: u32) -> u32 {
+    if count < 2 {
+        return 0;
+    }
+    u32::MAX.wrapping_shr((count - 1).leading_zeros())
+}
+
+/// Returns a layout. Where the cells are few, so are those in one row; else the rows of a place are.
+#[inline(never)]
+pub(crate) fn layout_of(scale: Scale) -> Layout {
+    let rows = if scale.few {
+        scale.nodes.min(APART).max(scale.nodes / 32)
+    } else {
+        scale.nodes / 32
+    };
+    let keep = match narrow(rows) {
+        Some(rows) => ones_below(rows),
+        None => 0,
+    };
+    Layout {
+        stride: keep.saturating_add(1),
+        keep,
+    }
+}
+
+/// Returns a layout for a scale, from the one for the scale before.
+#[inline(always)]
+pub(crate) fn layout_after(layout: Layout, before: Scale, scale: Scale) -> Layout {
+    if before.nodes == scale.nodes && before.few == scale.few {
+        layout
+    } else {
+        layout_of(scale)
+    }
+}
+
+/// Returns the number of a node and a place.
 #[tactic(auto, unfolding(crate::specs::Rows::number_of))]
 #[inline(always)]
-pub(crate) fn number_of(stride: u32, node: u32, place: u32) -> usize
-    ensures { result ≡ number stride node place }
+pub(crate) fn number_of(layout: Layout, node: u32, place: u32) -> usize
+    ensures { result ≡ number layout node place }
 {
-    place as usize * stride as usize + node as usize / 32
+    place as usize * layout.stride as usize + (node & layout.keep) as usize
 }
 
 /// Returns a number as a row: itself, or its last bits where there are not so many rows.

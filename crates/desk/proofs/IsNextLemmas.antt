@@ -11,14 +11,15 @@ use Rattle.desk.specs.declared.frame.Frame.{Frame}
 use Rattle.desk.specs.declared.run.Next.TheVariants as next
 use Rattle.desk.specs.declared.turn.Turn.TheVariants.{Ask, Answer, Need}
 use Rattle.cells.specs.declared.cell.Found.TheVariants.{Failed, Took}
-use Rattle.desk.specs.Desk.{View, beginning, counted, Fits, IsDone, IsStep, IsNext, IsMatched, IsOutcome, unit_of_match}
+use Rattle.desk.specs.Desk.{View, beginning, counted, Fits, IsDone, IsStep, IsFurther, IsNext, IsMatched, IsOutcome}
+use Rattle.desk.specs.Desk.{unit_of_match}
 use Rattle.desk.specs.Turns.{IsTurn}
 use Rattle.desk.proofs.IsStepLemmas.{IsTop, is_top, pushed_step, dropped_step, ended_here}
 use Rattle.desk.proofs.IsStepLemmas.{reaches_end, need_given, step_less}
 
 module _ (g : Grammar) (x : List ℕ) (more : Bool) (sound : IsSoundGrammar g) where
   step_next : (old : View) (cells : List Entry) (top : Frame) (below : List Frame) → Fits g x more old
-      → IsStep g x more old (counted cells (top ∷ below)) None → IsNext g x more old cells below (next.More top)
+      → IsStep g x more old (counted cells (top ∷ below)) None → IsFurther g x more old cells below top
   step_next old cells top below f s = (s.0, step_less g x more sound old (counted cells (top ∷ below)) None f s refl)
 
   module _ (cells : List Entry) (t : Frame) (fs : List Frame) (f : Fits g x more (counted cells (t ∷ fs))) where
@@ -44,7 +45,7 @@ module _ (g : Grammar) (x : List ℕ) (more : Bool) (sound : IsSoundGrammar g) w
       leaf_top = is_top g x more sound mid (beginning m q) (come ∷ fs) push_step.0 refl
 
       pub pushed_next : (top : Frame) (below : List Frame) → top ≡ beginning m q → below ≡ come ∷ fs
-          → IsNext g x more here cells below (next.More top)
+          → IsFurther g x more here cells below top
       pushed_next top below is now = rw (is, now) (step_next here cells (beginning m q) (come ∷ fs) f push_step)
 
       pub leaf_need : IsTurn (rules_of g.rules) g.start (shapes_of g.nodes) g.bodies x more cells m q Need
@@ -67,7 +68,7 @@ module _ (g : Grammar) (x : List ℕ) (more : Bool) (sound : IsSoundGrammar g) w
                   ∷ []),
             )) come fs refl
 
-        pub leaf_next : IsNext g x more here cells' fs (next.More come)
+        pub leaf_next : IsFurther g x more here cells' fs come
         leaf_next =
             let one = step_less g x more sound here mid None f push_step refl in
             let two = step_less g x more sound mid (counted cells' (come ∷ fs)) None push_step.0 drop_leaf refl in
@@ -89,7 +90,7 @@ module _ (g : Grammar) (x : List ℕ) (more : Bool) (sound : IsSoundGrammar g) w
         length-append cells (record { node = t.node; place = t.place; found = h } ∷ []),
       )
 
-      pub dropped_next : (u : Frame) (us : List Frame) → fs ≡ u ∷ us → IsNext g x more here cells' us (next.More u)
+      pub dropped_next : (u : Frame) (us : List Frame) → fs ≡ u ∷ us → IsFurther g x more here cells' us u
       dropped_next u us there =
           let s = dropped_step g x more sound here (counted cells' fs) t fs h f refl turn put refl same_count u us
           there in

@@ -12,14 +12,13 @@ use Rattle.pegmatch.specs.Answers.{StartGives}
 use Rattle.cells.specs.Entries.{Entry, found_at}
 use Rattle.cells.specs.declared.cell.Found.{Found}
 use Rattle.cells.specs.declared.cell.Found.TheVariants.{Failed, Took}
-use Rattle.desk.specs.Ahead.{IsSeen, come_to, HasCome, IsOn}
+use Rattle.desk.specs.Ahead.{IsSeen, come_to, HasCome, IsOn, MemberBack, OtherBack}
 use Rattle.desk.specs.declared.ahead.Halt.{Halt}
 use Rattle.desk.specs.declared.ahead.Halt.TheVariants.{Memory, Short}
 use Rattle.desk.specs.declared.frame.Frame.{Frame}
 use Rattle.desk.specs.declared.turn.Turn.{Turn}
 use Rattle.desk.specs.declared.turn.Turn.TheVariants.{Ask, Answer}
-use Rattle.desk.specs.declared.run.Next.TheVariants as next
-use Rattle.desk.specs.Desk.{counted, Fits, IsNext}
+use Rattle.desk.specs.Desk.{counted, Fits, IsFurther}
 use Rattle.desk.specs.State as state
 use Rattle.desk.specs.State.{HaveTaken, HaveFailed, IsUnderWay}
 use Rattle.desk.specs.Turns.{same_turn, again_turn, opt_turn, and_turn, not_turn, star_turn, plus_turn, IsWalk}
@@ -328,8 +327,8 @@ module _ (g : Grammar) (x : List ℕ) (more : Bool) (sound : IsSoundGrammar g) (
 -- what goes on from where the last frame has come goes on from where it was
 pub next_from : {g : Grammar} {x : List ℕ} {more : Bool} {below : List Frame} {old mid new : List Entry}
     {fs : List Frame} {t u : Frame} {i q : ℕ} → HasCome g x more below old mid t i q →
-    IsNext g x more (counted mid (come_to t i q ∷ below)) new fs (next.More u)
-    → IsNext g x more (counted old (t ∷ below)) new fs (next.More u)
+    IsFurther g x more (counted mid (come_to t i q ∷ below)) new fs u
+    → IsFurther g x more (counted old (t ∷ below)) new fs u
 next_from h n = (n.0, omega (arith, n.1, h.less))
 
 -- A turn of the loop over members or alternatives: the frame has come to i at q, over the cells in between.
@@ -443,3 +442,74 @@ module _ (g : Grammar) (x : List ℕ) (more : Bool) (sound : IsSoundGrammar g) (
     pub alternative_halts : (new : List Entry) (s : Halt) → SeesOther new (Err s)
         → IsOn g x more below old new top (Err s)
     alternative_halts new s e = next_halted (get_or ms i 0) top.place asked_other new s e
+
+-- what is done on from where a frame has come is done on from where it was
+pub on_from : {g : Grammar} {x : List ℕ} {more : Bool} {below : List Frame} {old mid : List Entry} (new : List Entry)
+    {t : Frame} {i q : ℕ} → HasCome g x more below old mid t i q → (r : Result Turn Halt)
+    → IsOn g x more below mid new (come_to t i q) r → IsOn g x more below old new t r
+on_from new h (Ok turn) on =
+    (on.0, on.1, come_further _ _ _ _ _ _ _ _ _ _ _ _ h on.2, on.3)
+on_from new h (Err Memory) on = tt
+on_from new h (Err Short) on = on
+
+module _ (g : Grammar) (x : List ℕ) (more : Bool) (sound : IsSoundGrammar g) (below : List Frame) (cells : List Entry)
+    (t : Frame) (f : Fits g x more (counted cells (t ∷ below))) (some : more ≡ true → 0 < length x) (ms : List ℕ) where
+  pub record ComesOn (u : Frame) : Type 0 where
+    pub next : ℕ
+    pub end : ℕ
+    pub is : u ≡ come_to t next end
+    pub come : HasCome g x more below cells cells t next end
+
+  stays_on : (u : Frame) → u ≡ t → ComesOn u
+  stays_on u is = record {
+    next = t.next;
+    end = t.end;
+    is = is;
+    come = come_stays g x more sound below cells t f;
+  }
+
+  pub member_comes : (at : slice_get (shapes_of g.nodes) t.node ≡ Some (node.Seq ms)) (u : Frame)
+      → MemberBack cells ms t (Ok u) → ComesOn u
+  member_comes at u (inl same) = stays_on u same
+  member_comes at u (inr m) = record {
+    next = t.next + 1;
+    end = m.0;
+    is = m.3;
+    come = next_takes g x more sound below cells t f some ms at m.1 m.0 m.2;
+  }
+
+  pub member_ends : (at : slice_get (shapes_of g.nodes) t.node ≡ Some (node.Seq ms)) (h : Found)
+      → MemberBack cells ms t (Err h) → IsOn g x more below cells cells t (Ok (Answer h))
+  member_ends at h m = rw m.0 (
+    t.next,
+    t.end,
+    come_stays g x more sound below cells t f,
+    next_fails g x more sound below cells t f some ms at m.1 m.2,
+  )
+
+  pub other_comes : (at : slice_get (shapes_of g.nodes) t.node ≡ Some (node.Choice ms)) (u : Frame)
+      → OtherBack cells ms t (Ok u) → ComesOn u
+  other_comes at u (inl same) = stays_on u same
+  other_comes at u (inr m) = record {
+    next = t.next + 1;
+    end = t.end;
+    is = m.2;
+    come = other_fails g x more sound below cells t f some ms at m.0 t.end m.1;
+  }
+
+  pub other_ends : (at : slice_get (shapes_of g.nodes) t.node ≡ Some (node.Choice ms)) (h : Found)
+      → OtherBack cells ms t (Err h) → IsOn g x more below cells cells t (Ok (Answer h))
+  other_ends at h m = rw m.1 (
+    t.next,
+    t.end,
+    come_stays g x more sound below cells t f,
+    other_takes g x more sound below cells t f some ms at m.2 m.0 m.3,
+  )
+
+  -- a frame that has come so far fits
+  pub comes_fit : (u : Frame) → ComesOn u → Fits g x more (counted cells (u ∷ below))
+  comes_fit u c = rw c.is c.come.fits
+
+  pub comes_through : (u : Frame) (new : List Entry) (r : Result Turn Halt) → ComesOn u
+      → IsOn g x more below cells new u r → IsOn g x more below cells new t r
+  comes_through u new r c on = on_from new c.come r (rw c.is at on)

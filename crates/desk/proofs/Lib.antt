@@ -12,6 +12,7 @@ pub mod AreCellsLemmas
 pub mod IsStepLemmas
 pub mod IsNextLemmas
 pub mod IsOnLemmas
+pub mod IsNarrowRunLemmas
 pub mod TowerLemmas
 pub mod IsWayLemmas
 pub mod WalksLemmas

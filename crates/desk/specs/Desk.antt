@@ -125,11 +125,14 @@ module _ (g : Grammar) (x : List ℕ) (more : Bool) where
   abbrev pub left : View → ℕ
   left d = 2 * (length (shapes_of g.nodes) * (length x + 1) + 1 - d.begun) + length d.frames
 
+  -- these cells, and these frames below the last one, `top`: they fit, and less is left
+  abbrev pub IsFurther : View → List Entry → List Frame → Frame → Type 0
+  IsFurther old cells below top = Fits (counted cells (top ∷ below)) × (left (counted cells (top ∷ below)) < left old)
+
   -- what a turn of a match does, with these cells and these frames below the last one: it goes on with this frame; or
   -- all is evaluated; or the start rule looks at the last byte of a window behind which there is more
   abbrev pub IsNext : View → List Entry → List Frame → Next → Type 0
-  IsNext old cells below (next.More top) = Fits (counted cells (top ∷ below))
-      × (left (counted cells (top ∷ below)) < left old)
+  IsNext old cells below (next.More on) = IsFurther old cells below on.top
   IsNext old cells below (next.Ended f) = IsDone (counted cells below) × Answers f
   IsNext old cells below next.Need = (more ≡ true) × ((o : Outcome) × StartGives g x o (length x))
 

@@ -7,10 +7,10 @@ ghost use Rattle.pegmatch.specs.KeptEvents.{SpellsSome};
 ghost use Rattle.cells.specs.Entries.{Entry, found_at};
 ghost use Rattle.cells.specs.declared.cell.Found.{Found};
 ghost use Rattle.desk.specs.declared.frame.Frame.{Frame};
-ghost use Rattle.desk.specs.Ahead.{IsSight, IsSeen, IsOn, seen_as};
+ghost use Rattle.desk.specs.Ahead.{IsNarrowRun, IsSight, IsSeen, IsOn, MemberBack, OtherBack, seen_as};
 ghost use Rattle.desk.specs.Desk.{counted, Fits};
 ghost use Rattle.desk.specs.State.{AreCells};
-ghost use Rattle.desk.specs.Turns.{IsTurn};
+ghost use Rattle.desk.specs.Turns.{again_turn, IsTurn};
 
 use crate::frame::Frame;
 use crate::repeat::{repeat_byte, takes_byte};
@@ -198,18 +198,6 @@ fn held_or_short_apart(cells: &Cells, node: usize, place: usize) -> Seen
     flat(held_or_short(cells, node, place))
 }
 
-// The cell of a node at a place, if it has one. The last cell is tried first: it is that of the node that was asked for
-// last.
-#[inline(always)]
-fn held(cells: &Cells, node: usize, place: usize) -> Option<Found>
-    ensures { result ≡ found_at cells.now node place }
-{
-    match cells.last(node, place) {
-        Some(found) => Some(found),
-        None => cells.get(node, place),
-    }
-}
-
 // The cell of a node at a place; one without operands gets its cell where it has none.
 #[inline(always)]
 fn see(
@@ -224,19 +212,84 @@ fn see(
     requires spells { SpellsSome (rules_of peg.now.rules) (shapes_of peg.now.nodes) node }
     requires place { place ≤ length window.now }
     requires some { more ≡ true → 0 < length window.now }
+    requires narrow { IsNarrowRun peg.now window.now }
     requires right { AreCells (rules_of peg.now.rules) peg.now.start (shapes_of peg.now.nodes) peg.now.bodies window.now
         more cells.old }
     ensures { IsSeen (rules_of peg.now.rules) peg.now.start (shapes_of peg.now.nodes) peg.now.bodies window.now more
         cells.old cells.new node place result }
 {
     match sight_of(peg, window, more, node, place) {
-        Sight::Known(Turn::Answer(found)) => match cells.get_or_put(node, place, found) {
+        Sight::Known(Turn::Answer(found)) => match cells.get_or_put_narrow(node, place, found) {
             Ok(known) => Ok(Some(known)),
             Err(_) => Err(Halt::Memory),
         },
         Sight::Known(Turn::Need) => unfold(held_or_short_apart(cells, node, place)),
         Sight::Literal => unfold(see_literal_apart(peg, window, more, cells, node, place)),
-        _ => Ok(held(cells, node, place)),
+        _ => Ok(cells.get_narrow(node, place)),
+    }
+}
+
+/// A node at a place.
+#[derive(Clone, Copy, PartialEq, Eq, Debug)]
+pub(crate) struct NodeAt {
+    pub(crate) node: usize,
+    pub(crate) place: usize,
+}
+
+/// The last frame, and whether it goes on behind an evaluation that it asked for.
+#[derive(Clone, Copy, PartialEq, Eq, Debug)]
+pub(crate) struct Stage {
+    pub(crate) top: Frame,
+    pub(crate) back: bool,
+}
+
+// What the last cell holds, if it is asked for and is of that node at that place.
+#[inline(always)]
+fn last_if(back: bool, cells: &Cells, at: NodeAt) -> Option<Found>
+    ensures { IfSome result (λ f. found_at cells.now at.node at.place ≡ Some f) }
+{
+    if back {
+        cells.last(at.node, at.place)
+    } else {
+        None
+    }
+}
+
+// The cell of a node at a place, which may be the last one; one without operands gets its cell where it has none.
+#[inline(always)]
+fn see_back(
+    peg: &SoundPeg,
+    window: &[u8],
+    more: bool,
+    cells: &mut Cells,
+    at: NodeAt,
+    back: bool,
+) -> Result<Option<Found>, Halt>
+    requires sound { IsSoundGrammar peg.now }
+    requires spells { SpellsSome (rules_of peg.now.rules) (shapes_of peg.now.nodes) at.node }
+    requires place { at.place ≤ length window.now }
+    requires some { more ≡ true → 0 < length window.now }
+    requires narrow { IsNarrowRun peg.now window.now }
+    requires right { AreCells (rules_of peg.now.rules) peg.now.start (shapes_of peg.now.nodes) peg.now.bodies window.now
+        more cells.old }
+    ensures { IsSeen (rules_of peg.now.rules) peg.now.start (shapes_of peg.now.nodes) peg.now.bodies window.now more
+        cells.old cells.new at.node at.place result }
+{
+    match last_if(back, cells, at) {
+        Some(found) => Ok(Some(found)),
+        None => see(peg, window, more, cells, at.node, at.place),
+    }
+}
+
+// Hands on what the node that goes on with a repetition gives at the end of one turn of it, which may be the last
+// cell's.
+#[inline(always)]
+fn again_back(cells: &Cells, at: NodeAt, back: bool) -> Turn
+    ensures { result ≡ again_turn at.node at.place (found_at cells.now at.node at.place) }
+{
+    match last_if(back, cells, at) {
+        Some(found) => Turn::Answer(found),
+        None => again(cells, at.node, at.place),
     }
 }
 
@@ -252,6 +305,7 @@ fn all_on(
 ) -> Result<Turn, Halt>
     requires members { slice_get (shapes_of peg.now.nodes) top.node ≡ Some (Shape.Seq members.now) }
     requires some { more ≡ true → 0 < length window.now }
+    requires narrow { IsNarrowRun peg.now window.now }
     requires fits { (below : List Frame) × Fits peg.now window.now more (counted cells.old (top ∷ below)) }
     ensures { (below : List Frame) → Fits peg.now window.now more (counted cells.old (top ∷ below)) →
         IsOn peg.now window.now more below cells.old cells.new top result }
@@ -288,6 +342,7 @@ fn first_on(
 ) -> Result<Turn, Halt>
     requires alternatives { slice_get (shapes_of peg.now.nodes) top.node ≡ Some (Shape.Choice alternatives.now) }
     requires some { more ≡ true → 0 < length window.now }
+    requires narrow { IsNarrowRun peg.now window.now }
     requires fits { (below : List Frame) × Fits peg.now window.now more (counted cells.old (top ∷ below)) }
     ensures { (below : List Frame) → Fits peg.now window.now more (counted cells.old (top ∷ below)) →
         IsOn peg.now window.now more below cells.old cells.new top result }
@@ -311,6 +366,104 @@ fn first_on(
     Ok(Turn::Answer(Found::Failed))
 }
 
+// Where a sequence goes on: behind its next member, if that is the last cell's and took something; else what it gives.
+#[inline(always)]
+fn member_back(cells: &Cells, members: &[usize], stage: Stage) -> Result<Frame, Found>
+    ensures { MemberBack cells.now members.now stage.top result }
+{
+    let top = stage.top;
+    if top.next >= members.len() {
+        return Ok(top);
+    }
+    let at = NodeAt {
+        node: members[top.next],
+        place: top.end,
+    };
+    match last_if(stage.back, cells, at) {
+        Some(Found::Took(after)) => Ok(Frame {
+            node: top.node,
+            place: top.place,
+            next: top.next + 1,
+            end: after,
+        }),
+        Some(Found::Failed) => Err(Found::Failed),
+        None => Ok(top),
+    }
+}
+
+// Where a choice goes on: behind its next alternative, if that is the last cell's and failed; else what it gives.
+#[inline(always)]
+fn other_back(cells: &Cells, alternatives: &[usize], stage: Stage) -> Result<Frame, Found>
+    ensures { OtherBack cells.now alternatives.now stage.top result }
+{
+    let top = stage.top;
+    if top.next >= alternatives.len() {
+        return Ok(top);
+    }
+    let at = NodeAt {
+        node: alternatives[top.next],
+        place: top.place,
+    };
+    match last_if(stage.back, cells, at) {
+        Some(Found::Took(end)) => Err(Found::Took(end)),
+        Some(Found::Failed) => Ok(Frame {
+            node: top.node,
+            place: top.place,
+            next: top.next + 1,
+            end: top.end,
+        }),
+        None => Ok(top),
+    }
+}
+
+// On through the members of a sequence, from behind the last cell's where that is of one.
+#[inline(always)]
+fn all_from(
+    peg: &SoundPeg,
+    window: &[u8],
+    more: bool,
+    cells: &mut Cells,
+    members: &[usize],
+    stage: Stage,
+) -> Result<Turn, Halt>
+    requires members { slice_get (shapes_of peg.now.nodes) stage.top.node ≡ Some (Shape.Seq members.now) }
+    requires some { more ≡ true → 0 < length window.now }
+    requires narrow { IsNarrowRun peg.now window.now }
+    requires fits { (below : List Frame) × Fits peg.now window.now more (counted cells.old (stage.top ∷ below)) }
+    ensures { (below : List Frame) → Fits peg.now window.now more (counted cells.old (stage.top ∷ below)) →
+        IsOn peg.now window.now more below cells.old cells.new stage.top result }
+{
+    let _start = peg.start();
+    match member_back(cells, members, stage) {
+        Ok(from) => all_on(peg, window, more, cells, members, from),
+        Err(found) => Ok(Turn::Answer(found)),
+    }
+}
+
+// On through the alternatives of a choice, from behind the last cell's where that is of one.
+#[inline(always)]
+fn first_from(
+    peg: &SoundPeg,
+    window: &[u8],
+    more: bool,
+    cells: &mut Cells,
+    alternatives: &[usize],
+    stage: Stage,
+) -> Result<Turn, Halt>
+    requires alternatives { slice_get (shapes_of peg.now.nodes) stage.top.node ≡ Some (Shape.Choice alternatives.now) }
+    requires some { more ≡ true → 0 < length window.now }
+    requires narrow { IsNarrowRun peg.now window.now }
+    requires fits { (below : List Frame) × Fits peg.now window.now more (counted cells.old (stage.top ∷ below)) }
+    ensures { (below : List Frame) → Fits peg.now window.now more (counted cells.old (stage.top ∷ below)) →
+        IsOn peg.now window.now more below cells.old cells.new stage.top result }
+{
+    let _start = peg.start();
+    match other_back(cells, alternatives, stage) {
+        Ok(from) => first_on(peg, window, more, cells, alternatives, from),
+        Err(found) => Ok(Turn::Answer(found)),
+    }
+}
+
 /// Returns what the evaluation of a frame's node at its place does next. A node without operands that it asks for gets
 /// its cell at once.
 #[inline(always)]
@@ -319,33 +472,59 @@ pub(crate) fn turn_on(
     window: &[u8],
     more: bool,
     cells: &mut Cells,
-    top: Frame,
+    stage: Stage,
 ) -> Result<Turn, Halt>
     requires some { more ≡ true → 0 < length window.now }
-    requires fits { (below : List Frame) × Fits peg.now window.now more (counted cells.old (top ∷ below)) }
-    ensures { (below : List Frame) → Fits peg.now window.now more (counted cells.old (top ∷ below)) →
-        IsOn peg.now window.now more below cells.old cells.new top result }
+    requires narrow { IsNarrowRun peg.now window.now }
+    requires fits { (below : List Frame) × Fits peg.now window.now more (counted cells.old (stage.top ∷ below)) }
+    ensures { (below : List Frame) → Fits peg.now window.now more (counted cells.old (stage.top ∷ below)) →
+        IsOn peg.now window.now more below cells.old cells.new stage.top result }
 {
     let _start = peg.start();
+    let top = stage.top;
     let place = top.place;
     match peg.node(top.node) {
-        Node::Seq(members) => all_on(peg, window, more, cells, members, top),
-        Node::Choice(alternatives) => first_on(peg, window, more, cells, alternatives, top),
+        Node::Seq(members) => all_from(peg, window, more, cells, members, stage),
+        Node::Choice(alternatives) => first_from(peg, window, more, cells, alternatives, stage),
         Node::Name(id) => {
             let body = peg.body_node(*id);
-            match see(peg, window, more, cells, body, place) {
+            match see_back(
+                peg,
+                window,
+                more,
+                cells,
+                NodeAt { node: body, place },
+                stage.back,
+            ) {
                 Ok(found) => Ok(same(found, body, place)),
                 Err(halt) => Err(halt),
             }
         }
         Node::Star(operand) => {
             if top.next > 0 {
-                return Ok(again(cells, top.node, top.end));
+                return Ok(again_back(
+                    cells,
+                    NodeAt {
+                        node: top.node,
+                        place: top.end,
+                    },
+                    stage.back,
+                ));
             }
             if takes_byte(peg.node(*operand)) {
                 return repeat_byte(peg, window, more, cells, *operand, top);
             }
-            match see(peg, window, more, cells, *operand, place) {
+            match see_back(
+                peg,
+                window,
+                more,
+                cells,
+                NodeAt {
+                    node: *operand,
+                    place,
+                },
+                stage.back,
+            ) {
                 Ok(found) => Ok(star(cells, found, top.node, *operand, place)),
                 Err(halt) => Err(halt),
             }
@@ -355,22 +534,69 @@ pub(crate) fn turn_on(
             star: rest,
         } => {
             if top.next > 0 {
-                return Ok(again(cells, *rest, top.end));
+                return Ok(again_back(
+                    cells,
+                    NodeAt {
+                        node: *rest,
+                        place: top.end,
+                    },
+                    stage.back,
+                ));
             }
-            match see(peg, window, more, cells, *operand, place) {
+            match see_back(
+                peg,
+                window,
+                more,
+                cells,
+                NodeAt {
+                    node: *operand,
+                    place,
+                },
+                stage.back,
+            ) {
                 Ok(found) => Ok(plus(cells, found, *rest, *operand, place)),
                 Err(halt) => Err(halt),
             }
         }
-        Node::Opt(operand) => match see(peg, window, more, cells, *operand, place) {
+        Node::Opt(operand) => match see_back(
+            peg,
+            window,
+            more,
+            cells,
+            NodeAt {
+                node: *operand,
+                place,
+            },
+            stage.back,
+        ) {
             Ok(found) => Ok(opt(found, *operand, place)),
             Err(halt) => Err(halt),
         },
-        Node::And(operand) => match see(peg, window, more, cells, *operand, place) {
+        Node::And(operand) => match see_back(
+            peg,
+            window,
+            more,
+            cells,
+            NodeAt {
+                node: *operand,
+                place,
+            },
+            stage.back,
+        ) {
             Ok(found) => Ok(and(found, *operand, place)),
             Err(halt) => Err(halt),
         },
-        Node::Not(operand) => match see(peg, window, more, cells, *operand, place) {
+        Node::Not(operand) => match see_back(
+            peg,
+            window,
+            more,
+            cells,
+            NodeAt {
+                node: *operand,
+                place,
+            },
+            stage.back,
+        ) {
             Ok(found) => Ok(not(found, *operand, place)),
             Err(halt) => Err(halt),
         },

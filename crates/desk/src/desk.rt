@@ -24,7 +24,11 @@ use ruletable::{Memory, Sink};
 use std::alloc::Global;
 use std::marker::Model;
 
-/// A matcher that keeps the outcomes so far by node and place, and evaluates each node at each place at most once.
+// So many nodes, or bytes of a window, are too many for its cells.
+const MOST: usize = 4_294_967_295;
+
+/// A matcher that keeps the outcomes so far by node and place, and evaluates each node at each place at most once. A
+/// match in a window of 4,294,967,295 bytes, or by as many nodes, is refused as want of memory.
 ///
 /// It is seen as its cells, the frames of what is under way with the last one first, and how many evaluations were
 /// begun. It recurses nowhere: its depth is that of its frames.
@@ -215,6 +219,10 @@ impl Matcher for Desk {
         ensures empty { OnErr result (self.new ≡ empty) }
     {
         let root = peg.body_node(peg.start());
+        if peg.nodes() >= MOST || window.len() >= MOST {
+            self.reset();
+            return Err(Memory);
+        }
         self.cells.reset(peg.nodes());
         self.frames.clear();
         let matched = match_on(peg, window, more, &mut self.cells, &mut self.frames, root);

@@ -6,7 +6,7 @@ ghost use Rattle.gramcheck.specs.Nodes.{Shape, shape_of, shapes_of};
 ghost use Rattle.pegmatch.specs.KeptEvents.{SpellsSome};
 ghost use Rattle.cells.specs.Entries.{Entry};
 ghost use Rattle.desk.specs.declared.frame.Frame.{Frame};
-ghost use Rattle.desk.specs.Ahead.{IsSeen, IsOn};
+ghost use Rattle.desk.specs.Ahead.{IsNarrowRun, IsSeen, IsOn};
 ghost use Rattle.desk.specs.Desk.{counted, Fits};
 ghost use Rattle.desk.specs.Repeats.{TakesByte, leaf_of, some_of, HasRun, IsHalted};
 ghost use Rattle.desk.specs.State.{AreCells};
@@ -74,13 +74,15 @@ fn see_byte(
     requires sound { IsSoundGrammar peg.now }
     requires spells { SpellsSome (rules_of peg.now.rules) (shapes_of peg.now.nodes) node }
     requires byte { (shape : Shape) → slice_get (shapes_of peg.now.nodes) node ≡ Some shape → TakesByte shape }
+    requires place { place ≤ length window.now }
+    requires narrow { IsNarrowRun peg.now window.now }
     requires right { AreCells (rules_of peg.now.rules) peg.now.start (shapes_of peg.now.nodes) peg.now.bodies window.now
         more cells.old }
     ensures { IsSeen (rules_of peg.now.rules) peg.now.start (shapes_of peg.now.nodes) peg.now.bodies window.now more
         cells.old cells.new node place (some_of result) }
 {
     match try_byte(peg, window, more, node, place) {
-        Some(found) => match cells.get_or_put(node, place, found) {
+        Some(found) => match cells.get_or_put_narrow(node, place, found) {
             Ok(known) => Ok(known),
             Err(_) => Err(Halt::Memory),
         },
@@ -110,6 +112,7 @@ fn run_on(
 ) -> Result<Run, Halt>
     requires star { slice_get (shapes_of peg.now.nodes) top.node ≡ Some (Shape.Star operand) }
     requires byte { (shape : Shape) → slice_get (shapes_of peg.now.nodes) operand ≡ Some shape → TakesByte shape }
+    requires narrow { IsNarrowRun peg.now window.now }
     requires fits { (below : List Frame) × Fits peg.now window.now more (counted cells.old (top ∷ below)) }
     ensures run { (below : List Frame) → Fits peg.now window.now more (counted cells.old (top ∷ below)) →
         IfOk result (λ run. HasRun peg.now window.now more below cells.old cells.new top run.at run.found) }
@@ -146,6 +149,7 @@ pub(crate) fn repeat_byte(
 ) -> Result<Turn, Halt>
     requires star { slice_get (shapes_of peg.now.nodes) top.node ≡ Some (Shape.Star operand) }
     requires byte { (shape : Shape) → slice_get (shapes_of peg.now.nodes) operand ≡ Some shape → TakesByte shape }
+    requires narrow { IsNarrowRun peg.now window.now }
     requires fits { (below : List Frame) × Fits peg.now window.now more (counted cells.old (top ∷ below)) }
     ensures { (below : List Frame) → Fits peg.now window.now more (counted cells.old (top ∷ below)) →
         IsOn peg.now window.now more below cells.old cells.new top result }

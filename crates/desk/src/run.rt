@@ -1,9 +1,10 @@
 //! A match without a frame for a node that asks for nothing.
 ghost use Rattle.std.specs.Prelude.{◌≡◌, ◌+◌, ◌<◌, ◌≤◌, List, [], ◌∷◌, length, slice_get, Some, true, IfOk};
+ghost use Rattle.desk.specs.Ahead.{IsNarrowRun};
 ghost use Rattle.desk.specs.Desk.{counted, Fits, IsNext, IsMatched};
 
 use crate::advance::beginning;
-use crate::ahead::{Halt, turn_on};
+use crate::ahead::{Halt, Stage, turn_on};
 use crate::frame::{Frame, Frames};
 use crate::turn::Turn;
 use cells::{Cells, Found};
@@ -14,14 +15,14 @@ use ruletable::Memory;
 #[derive(Clone, Copy, PartialEq, Eq, Debug)]
 pub(crate) enum Next {
     /// It goes on with this frame.
-    More(Frame),
+    More(Stage),
     /// All is evaluated; this is what the start rule gives.
     Ended(Found),
     /// It would compare the last byte of a window behind which there is more.
     Need,
 }
 
-/// Goes on with the last frame, `top`; those below it are kept apart.
+/// Goes on with the last frame, that of `stage`; those below it are kept apart.
 #[inline(always)]
 fn go_on(
     peg: &SoundPeg,
@@ -29,21 +30,27 @@ fn go_on(
     more: bool,
     cells: &mut Cells,
     below: &mut Frames,
-    top: Frame,
+    stage: Stage,
 ) -> Result<Next, Memory>
     requires some { more ≡ true → 0 < length window.now }
-    requires fits { Fits peg.now window.now more (counted cells.old (top ∷ below.old)) }
-    ensures { IfOk result (IsNext peg.now window.now more (counted cells.old (top ∷ below.old)) cells.new below.new) }
+    requires narrow { IsNarrowRun peg.now window.now }
+    requires fits { Fits peg.now window.now more (counted cells.old (stage.top ∷ below.old)) }
+    ensures { IfOk result (IsNext peg.now window.now more (counted cells.old (stage.top ∷ below.old)) cells.new
+        below.new) }
 {
     let _start = peg.start();
-    match turn_on(peg, window, more, cells, top) {
+    let top = stage.top;
+    match turn_on(peg, window, more, cells, stage) {
         Err(Halt::Memory) => Err(Memory),
         Err(Halt::Short) => Ok(Next::Need),
         Ok(Turn::Need) => Ok(Next::Need),
         Ok(Turn::Answer(found)) => {
-            cells.put(top.node, top.place, found)?;
+            cells.put_narrow(top.node, top.place, found)?;
             match below.take() {
-                Some(frame) => Ok(Next::More(frame)),
+                Some(frame) => Ok(Next::More(Stage {
+                    top: frame,
+                    back: true,
+                })),
                 None => Ok(Next::Ended(found)),
             }
         }
@@ -61,7 +68,10 @@ fn go_on(
                 next,
                 end,
             })?;
-            Ok(Next::More(beginning(node, place)))
+            Ok(Next::More(Stage {
+                top: beginning(node, place),
+                back: false,
+            }))
         }
     }
 }
@@ -77,17 +87,21 @@ pub(crate) fn match_on(
     root: usize,
 ) -> Result<Option<Found>, Memory>
     requires some { more ≡ true → 0 < length window.now }
+    requires narrow { IsNarrowRun peg.now window.now }
     requires root { slice_get peg.now.bodies peg.now.start ≡ Some root }
     requires cells { cells.old ≡ [] }
     requires frames { frames.old ≡ [] }
     ensures { IfOk result (IsMatched peg.now window.now more (counted cells.new frames.new)) }
 {
     let _start = peg.start();
-    let mut top = beginning(root, 0);
+    let mut stage = Stage {
+        top: beginning(root, 0),
+        back: false,
+    };
     'turns: loop {
-        let next = go_on(peg, window, more, cells, frames, top)?;
+        let next = go_on(peg, window, more, cells, frames, stage)?;
         match next {
-            Next::More(frame) => top = frame,
+            Next::More(on) => stage = on,
             Next::Ended(found) => return Ok(Some(found)),
             Next::Need => return Ok(None),
         }

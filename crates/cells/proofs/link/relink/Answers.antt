@@ -9,7 +9,7 @@ loop-i-init c = record { linked = AreLinked-none _ _ c.wipe.ensures.none; same =
 
 pub loop-i-preserved : goal.loop-i-preserved
 loop-i-preserved c = record {
-  linked = AreLinked-set (length c.loop-i.heads) c.args.mask c.args.stride c.loop-i.cells c.loop-i.heads c.loop-i.i
+  linked = AreLinked-set (length c.loop-i.heads) c.args.mask c.args.layout c.loop-i.cells c.loop-i.heads c.loop-i.i
       c.fold-row.result _ (omega arith) refl
       c.loop-i.invariant.linked c.last_of-link.ensures (sym (rw c.number_of.ensures at c.fold-row.ensures.value));
   same = map-set_same entry_of c.loop-i.cells c.loop-i.i _ _ refl ∙ c.loop-i.invariant.same;

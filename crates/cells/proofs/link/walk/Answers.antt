@@ -6,7 +6,7 @@ use Rattle.cells.proofs.link.walk.Goals as goal
 pub loop-at-init : goal.loop-at-init
 loop-at-init c =
     sought-start _ _ _ _ _ _
-    (λ d e f. same_row (length c.args.heads.now) c.args.mask c.args.stride c.args.key.node c.args.key.place d e f
+    (λ d e f. same_row (length c.args.heads.now) c.args.mask c.args.layout c.args.key.node c.args.key.place d e f
     ∙ sym c.requires.row)
     c.last_of-at.ensures
 
@@ -23,12 +23,12 @@ returns-then-cell-key-2-clause-found c =
 
 pub loop-at-smaller : goal.loop-at-smaller
 loop-at-smaller c =
-    (sought-step (length c.args.heads.now) c.args.mask c.args.stride _ _ _ _ _ c.loop-at.at _ c.requires.row
+    (sought-step (length c.args.heads.now) c.args.mask c.args.layout _ _ _ _ _ c.loop-at.at _ c.requires.row
     c.requires.linked c.loop-at.invariant c.loop-at-test.true c.else-cell-key.either).0
 
 pub loop-at-preserved : goal.loop-at-preserved
 loop-at-preserved c =
-    (sought-step (length c.args.heads.now) c.args.mask c.args.stride _ _ _ _ _ c.loop-at.at _ c.requires.row
+    (sought-step (length c.args.heads.now) c.args.mask c.args.layout _ _ _ _ _ c.loop-at.at _ c.requires.row
     c.requires.linked c.loop-at.invariant c.loop-at-test.true c.else-cell-key.either).1
 
 pub returns-clause-none : goal.returns-clause-none

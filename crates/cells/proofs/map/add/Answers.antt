@@ -9,6 +9,6 @@ returns-clause-kept c =
     let s : 0 < length c.args.rows.now = omega arith in
     let last = rw c.deref.ensures.value at c.last_of-link.ensures in
     rw (c.in_ok-push.ensures.items, l)
-    (IsKept-push c.args.stride c.args.mask c.args.cells.now.items c.args.rows.now _ c.args.row c.requires.kept s
+    (IsKept-push c.args.layout c.args.mask c.args.cells.now.items c.args.rows.now _ c.args.row c.requires.kept s
     c.requires.free c.requires.narrow
     c.requires.row last (omega arith) c.requires.within)

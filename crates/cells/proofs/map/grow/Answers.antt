@@ -8,7 +8,7 @@ use Rattle.cells.proofs.map.grow.Goals as goal
 pub returns-then-number-cells-clause-kept : goal.returns-then-number-cells-clause-kept
 returns-then-number-cells-clause-kept c =
     let z : c.args.mask ≡ 0 = c.if-mask-eq0.true in
-    let k : IsKept c.args.stride 0 c.args.cells.now c.args.rows.now.items = rw z at c.requires in
+    let k : IsKept c.args.layout 0 c.args.cells.now c.args.rows.now.items = rw z at c.requires in
     let t : take c.beyond.result c.args.rows.now.items ≡ c.args.rows.now.items =
     take_all c.beyond.result c.args.rows.now.items (let m = c.beyond.ensures.more in let o = c.args.rows.now.ok.0 in
     omega arith) in
@@ -16,7 +16,7 @@ returns-then-number-cells-clause-kept c =
     let w : c.args.number < c.beyond.result = c.beyond.ensures.within in
     let s : 0 < length c.resize.new.self.items = let l = c.in_ok-resize.ensures.len in let o = c.resize.new.self.ok.0 in
     omega arith in
-    rw i (IsKept-more c.args.stride c.args.cells.now c.args.rows.now.items _ (replicate_is_zero _) k (rw i at s))
+    rw i (IsKept-more c.args.layout c.args.cells.now c.args.rows.now.items _ (replicate_is_zero _) k (rw i at s))
 
 pub returns-clause-kept : goal.returns-clause-kept
 returns-clause-kept c =
@@ -25,7 +25,7 @@ returns-clause-kept c =
     let e : take c.resize-2.new.self.len (c.relink.new.heads
     ++ drop (length c.relink.new.heads) c.resize-2.new.self.items) ≡ c.relink.new.heads =
     take-whole _ c.relink.new.heads _ n in
-    rw e (IsKept-relinked c.args.stride c.args.mask c.mask_below-folded.result c.args.cells.now c.relink.new.cells
+    rw e (IsKept-relinked c.args.layout c.args.mask c.mask_below-folded.result c.args.cells.now c.relink.new.cells
     c.args.rows.now.items c.relink.new.heads c.requires
     c.relink.ensures.linked c.relink.ensures.same c.mask_below-folded.ensures.some
     (let w : c.mask_below-folded.result < c.len-3.result = c.mask_below-folded.ensures.within in let l =

@@ -15,143 +15,152 @@ node-requires c =
     let there = is_there _ _ (at_top _ _ _ c.start-start.ensures.sound _ _ _ c.requires.fits.1).spelled.1 in
     omega (arith, there, length-map c.args.peg.now.nodes shape_of)
 
-pub all_on-requires-clause-members : goal.all_on-requires-clause-members
-all_on-requires-clause-members c = rw c.deref.ensures.value
-    (shape_at c.args.peg.now.nodes c.args.top.node _ (c.node.ensures ∙ ap Some c.in-Seq.is))
+pub all_from-requires-clause-members : goal.all_from-requires-clause-members
+all_from-requires-clause-members c = rw c.deref.ensures.value
+    (shape_at c.args.peg.now.nodes c.args.stage.top.node _ (c.node.ensures ∙ ap Some c.in-Seq.is))
 
-pub first_on-requires-clause-alternatives : goal.first_on-requires-clause-alternatives
-first_on-requires-clause-alternatives c = rw c.deref-in-Choice.ensures.value
-    (shape_at c.args.peg.now.nodes c.args.top.node _ (c.node.ensures ∙ ap Some c.in-Choice.is))
+pub first_from-requires-clause-alternatives : goal.first_from-requires-clause-alternatives
+first_from-requires-clause-alternatives c = rw c.deref-in-Choice.ensures.value
+    (shape_at c.args.peg.now.nodes c.args.stage.top.node _ (c.node.ensures ∙ ap Some c.in-Choice.is))
 
 pub body_node-body-requires : goal.body_node-body-requires
 body_node-body-requires c =
     let sound = c.start-start.ensures.sound in
-    let defined = sound.defined _ _ (shape_at c.args.peg.now.nodes c.args.top.node _
+    let defined = sound.defined _ _ (shape_at c.args.peg.now.nodes c.args.stage.top.node _
     (c.node.ensures ∙ ap Some c.in-Name.is)) in
     omega (arith, defined, sound.spelled.count)
 
-pub see-requires-clause-spells : goal.see-requires-clause-spells
-see-requires-clause-spells c =
+pub see_back-requires-clause-spells : goal.see_back-requires-clause-spells
+see_back-requires-clause-spells c =
     (child_visited _ _ _ c.start-start.ensures.sound _ _ _ c.requires.fits.1 _ _
     (asks_name _ _ _ c.start-start.ensures.sound _ _ _ c.requires.fits.1 _ _
-    (shape_at c.args.peg.now.nodes c.args.top.node _ (c.node.ensures ∙ ap Some c.in-Name.is))
+    (shape_at c.args.peg.now.nodes c.args.stage.top.node _ (c.node.ensures ∙ ap Some c.in-Name.is))
     c.body_node-body.ensures)).spelled
 
-pub see-requires-clause-place : goal.see-requires-clause-place
-see-requires-clause-place c = (at_top _ _ _ c.start-start.ensures.sound _ _ _ c.requires.fits.1).high
+pub see_back-requires-clause-place : goal.see_back-requires-clause-place
+see_back-requires-clause-place c = (at_top _ _ _ c.start-start.ensures.sound _ _ _ c.requires.fits.1).high
 
 pub returns-in-Ok : goal.returns-in-Ok
 returns-in-Ok c = λ below fits. rw c.same.ensures
     (name_on _ _ _ c.start-start.ensures.sound below _ _ fits _ _
-    (shape_at c.args.peg.now.nodes c.args.top.node _ (c.node.ensures ∙ ap Some c.in-Name.is)) c.body_node-body.ensures _
+    (shape_at c.args.peg.now.nodes c.args.stage.top.node _ (c.node.ensures ∙ ap Some c.in-Name.is))
+    c.body_node-body.ensures _
     _ c.in-Ok.ensures)
 
 pub returns-in-Err : goal.returns-in-Err
 returns-in-Err c = λ below fits.
     halts_on _ _ _ c.start-start.ensures.sound below _ _ fits _ _
     (asks_name _ _ _ c.start-start.ensures.sound below _ _ fits _ _
-    (shape_at c.args.peg.now.nodes c.args.top.node _ (c.node.ensures ∙ ap Some c.in-Name.is))
-    c.body_node-body.ensures) c.see.new.cells c.in-Err.halt c.in-Err.ensures
+    (shape_at c.args.peg.now.nodes c.args.stage.top.node _ (c.node.ensures ∙ ap Some c.in-Name.is))
+    c.body_node-body.ensures) c.see_back.new.cells c.in-Err.halt c.in-Err.ensures
 
-pub see-requires-in-Star-clause-spells : goal.see-requires-in-Star-clause-spells
-see-requires-in-Star-clause-spells c = (child_visited _ _ _ c.start-start.ensures.sound _ _ _ c.requires.fits.1 _ _
+pub see_back-requires-in-Star-clause-spells : goal.see_back-requires-in-Star-clause-spells
+see_back-requires-in-Star-clause-spells c = (child_visited _ _ _ c.start-start.ensures.sound _ _ _ c.requires.fits.1 _ _
     (asks_star _ _ _ c.start-start.ensures.sound _ _ _ c.requires.fits.1 _
-    (shape_at c.args.peg.now.nodes c.args.top.node _ (c.node.ensures ∙ ap Some c.in-Star.is)))).spelled
+    (shape_at c.args.peg.now.nodes c.args.stage.top.node _ (c.node.ensures ∙ ap Some c.in-Star.is)))).spelled
 
-pub see-requires-in-Star-clause-place : goal.see-requires-in-Star-clause-place
-see-requires-in-Star-clause-place c = (at_top _ _ _ c.start-start.ensures.sound _ _ _ c.requires.fits.1).high
+pub see_back-requires-in-Star-clause-place : goal.see_back-requires-in-Star-clause-place
+see_back-requires-in-Star-clause-place c = (at_top _ _ _ c.start-start.ensures.sound _ _ _ c.requires.fits.1).high
 
-pub returns-in-Ok-see : goal.returns-in-Ok-see
-returns-in-Ok-see c = λ below fits. rw c.star.ensures
+pub returns-in-Ok-see_back : goal.returns-in-Ok-see_back
+returns-in-Ok-see_back c = λ below fits. rw c.star.ensures
     (star_on _ _ _ c.start-start.ensures.sound below _ _ fits _
-    (shape_at c.args.peg.now.nodes c.args.top.node _ (c.node.ensures ∙ ap Some c.in-Star.is)) _ _ c.in-Ok-see.ensures)
+    (shape_at c.args.peg.now.nodes c.args.stage.top.node _ (c.node.ensures ∙ ap Some c.in-Star.is))
+    _ _ c.in-Ok-see_back.ensures)
 
-pub returns-in-Err-see : goal.returns-in-Err-see
-returns-in-Err-see c = λ below fits.
+pub returns-in-Err-see_back : goal.returns-in-Err-see_back
+returns-in-Err-see_back c = λ below fits.
     halts_on _ _ _ c.start-start.ensures.sound below _ _ fits _ _
     (asks_star _ _ _ c.start-start.ensures.sound below _ _ fits _
-    (shape_at c.args.peg.now.nodes c.args.top.node _ (c.node.ensures ∙ ap Some c.in-Star.is)))
-    c.see-in-Star.new.cells c.in-Err-see.halt c.in-Err-see.ensures
+    (shape_at c.args.peg.now.nodes c.args.stage.top.node _ (c.node.ensures ∙ ap Some c.in-Star.is)))
+    c.see_back-in-Star.new.cells c.in-Err-see_back.halt c.in-Err-see_back.ensures
 
-pub see-requires-in-Plus-clause-spells : goal.see-requires-in-Plus-clause-spells
-see-requires-in-Plus-clause-spells c = (child_visited _ _ _ c.start-start.ensures.sound _ _ _ c.requires.fits.1 _ _
+pub see_back-requires-in-Plus-clause-spells : goal.see_back-requires-in-Plus-clause-spells
+see_back-requires-in-Plus-clause-spells c = (child_visited _ _ _ c.start-start.ensures.sound _ _ _ c.requires.fits.1 _ _
     (asks_plus _ _ _ c.start-start.ensures.sound _ _ _ c.requires.fits.1 _ _
-    (shape_at c.args.peg.now.nodes c.args.top.node _ (c.node.ensures ∙ ap Some c.in-Plus.is)))).spelled
+    (shape_at c.args.peg.now.nodes c.args.stage.top.node _ (c.node.ensures ∙ ap Some c.in-Plus.is)))).spelled
 
-pub see-requires-in-Plus-clause-place : goal.see-requires-in-Plus-clause-place
-see-requires-in-Plus-clause-place c = (at_top _ _ _ c.start-start.ensures.sound _ _ _ c.requires.fits.1).high
+pub see_back-requires-in-Plus-clause-place : goal.see_back-requires-in-Plus-clause-place
+see_back-requires-in-Plus-clause-place c = (at_top _ _ _ c.start-start.ensures.sound _ _ _ c.requires.fits.1).high
 
-pub returns-in-Ok-see-2 : goal.returns-in-Ok-see-2
-returns-in-Ok-see-2 c = λ below fits. rw c.plus.ensures
+pub returns-in-Ok-see_back-2 : goal.returns-in-Ok-see_back-2
+returns-in-Ok-see_back-2 c = λ below fits. rw c.plus.ensures
     (plus_on _ _ _ c.start-start.ensures.sound below _ _ fits _ _
-    (shape_at c.args.peg.now.nodes c.args.top.node _ (c.node.ensures ∙ ap Some c.in-Plus.is)) _ _ c.in-Ok-see-2.ensures)
+    (shape_at c.args.peg.now.nodes c.args.stage.top.node _ (c.node.ensures ∙ ap Some c.in-Plus.is))
+    _ _ c.in-Ok-see_back-2.ensures)
 
-pub returns-in-Err-see-2 : goal.returns-in-Err-see-2
-returns-in-Err-see-2 c = λ below fits.
+pub returns-in-Err-see_back-2 : goal.returns-in-Err-see_back-2
+returns-in-Err-see_back-2 c = λ below fits.
     halts_on _ _ _ c.start-start.ensures.sound below _ _ fits _ _
     (asks_plus _ _ _ c.start-start.ensures.sound below _ _ fits _ _
-    (shape_at c.args.peg.now.nodes c.args.top.node _ (c.node.ensures ∙ ap Some c.in-Plus.is)))
-    c.see-in-Plus.new.cells c.in-Err-see-2.halt c.in-Err-see-2.ensures
+    (shape_at c.args.peg.now.nodes c.args.stage.top.node _ (c.node.ensures ∙ ap Some c.in-Plus.is)))
+    c.see_back-in-Plus.new.cells c.in-Err-see_back-2.halt c.in-Err-see_back-2.ensures
 
-pub see-requires-in-Opt-clause-spells : goal.see-requires-in-Opt-clause-spells
-see-requires-in-Opt-clause-spells c = (child_visited _ _ _ c.start-start.ensures.sound _ _ _ c.requires.fits.1 _ _
+pub see_back-requires-in-Opt-clause-spells : goal.see_back-requires-in-Opt-clause-spells
+see_back-requires-in-Opt-clause-spells c = (child_visited _ _ _ c.start-start.ensures.sound _ _ _ c.requires.fits.1 _ _
     (asks_opt _ _ _ c.start-start.ensures.sound _ _ _ c.requires.fits.1 _
-    (shape_at c.args.peg.now.nodes c.args.top.node _ (c.node.ensures ∙ ap Some c.in-Opt.is)))).spelled
+    (shape_at c.args.peg.now.nodes c.args.stage.top.node _ (c.node.ensures ∙ ap Some c.in-Opt.is)))).spelled
 
-pub see-requires-in-Opt-clause-place : goal.see-requires-in-Opt-clause-place
-see-requires-in-Opt-clause-place c = (at_top _ _ _ c.start-start.ensures.sound _ _ _ c.requires.fits.1).high
+pub see_back-requires-in-Opt-clause-place : goal.see_back-requires-in-Opt-clause-place
+see_back-requires-in-Opt-clause-place c = (at_top _ _ _ c.start-start.ensures.sound _ _ _ c.requires.fits.1).high
 
-pub returns-in-Ok-see-3 : goal.returns-in-Ok-see-3
-returns-in-Ok-see-3 c = λ below fits. rw c.opt.ensures
+pub returns-in-Ok-see_back-3 : goal.returns-in-Ok-see_back-3
+returns-in-Ok-see_back-3 c = λ below fits. rw c.opt.ensures
     (opt_on _ _ _ c.start-start.ensures.sound below _ _ fits _
-    (shape_at c.args.peg.now.nodes c.args.top.node _ (c.node.ensures ∙ ap Some c.in-Opt.is)) _ _ c.in-Ok-see-3.ensures)
+    (shape_at c.args.peg.now.nodes c.args.stage.top.node _ (c.node.ensures ∙ ap Some c.in-Opt.is))
+    _ _ c.in-Ok-see_back-3.ensures)
 
-pub returns-in-Err-see-3 : goal.returns-in-Err-see-3
-returns-in-Err-see-3 c = λ below fits.
+pub returns-in-Err-see_back-3 : goal.returns-in-Err-see_back-3
+returns-in-Err-see_back-3 c = λ below fits.
     halts_on _ _ _ c.start-start.ensures.sound below _ _ fits _ _
     (asks_opt _ _ _ c.start-start.ensures.sound below _ _ fits _
-    (shape_at c.args.peg.now.nodes c.args.top.node _ (c.node.ensures ∙ ap Some c.in-Opt.is))) c.see-in-Opt.new.cells
-    c.in-Err-see-3.halt c.in-Err-see-3.ensures
+    (shape_at c.args.peg.now.nodes c.args.stage.top.node _ (c.node.ensures ∙ ap Some c.in-Opt.is)))
+    c.see_back-in-Opt.new.cells
+    c.in-Err-see_back-3.halt c.in-Err-see_back-3.ensures
 
-pub see-requires-in-And-clause-spells : goal.see-requires-in-And-clause-spells
-see-requires-in-And-clause-spells c = (child_visited _ _ _ c.start-start.ensures.sound _ _ _ c.requires.fits.1 _ _
+pub see_back-requires-in-And-clause-spells : goal.see_back-requires-in-And-clause-spells
+see_back-requires-in-And-clause-spells c = (child_visited _ _ _ c.start-start.ensures.sound _ _ _ c.requires.fits.1 _ _
     (asks_and _ _ _ c.start-start.ensures.sound _ _ _ c.requires.fits.1 _
-    (shape_at c.args.peg.now.nodes c.args.top.node _ (c.node.ensures ∙ ap Some c.in-And.is)))).spelled
+    (shape_at c.args.peg.now.nodes c.args.stage.top.node _ (c.node.ensures ∙ ap Some c.in-And.is)))).spelled
 
-pub see-requires-in-And-clause-place : goal.see-requires-in-And-clause-place
-see-requires-in-And-clause-place c = (at_top _ _ _ c.start-start.ensures.sound _ _ _ c.requires.fits.1).high
+pub see_back-requires-in-And-clause-place : goal.see_back-requires-in-And-clause-place
+see_back-requires-in-And-clause-place c = (at_top _ _ _ c.start-start.ensures.sound _ _ _ c.requires.fits.1).high
 
-pub returns-in-Ok-see-4 : goal.returns-in-Ok-see-4
-returns-in-Ok-see-4 c = λ below fits. rw c.and.ensures
+pub returns-in-Ok-see_back-4 : goal.returns-in-Ok-see_back-4
+returns-in-Ok-see_back-4 c = λ below fits. rw c.and.ensures
     (and_on _ _ _ c.start-start.ensures.sound below _ _ fits _
-    (shape_at c.args.peg.now.nodes c.args.top.node _ (c.node.ensures ∙ ap Some c.in-And.is)) _ _ c.in-Ok-see-4.ensures)
+    (shape_at c.args.peg.now.nodes c.args.stage.top.node _ (c.node.ensures ∙ ap Some c.in-And.is))
+    _ _ c.in-Ok-see_back-4.ensures)
 
-pub returns-in-Err-see-4 : goal.returns-in-Err-see-4
-returns-in-Err-see-4 c = λ below fits.
+pub returns-in-Err-see_back-4 : goal.returns-in-Err-see_back-4
+returns-in-Err-see_back-4 c = λ below fits.
     halts_on _ _ _ c.start-start.ensures.sound below _ _ fits _ _
     (asks_and _ _ _ c.start-start.ensures.sound below _ _ fits _
-    (shape_at c.args.peg.now.nodes c.args.top.node _ (c.node.ensures ∙ ap Some c.in-And.is))) c.see-in-And.new.cells
-    c.in-Err-see-4.halt c.in-Err-see-4.ensures
+    (shape_at c.args.peg.now.nodes c.args.stage.top.node _ (c.node.ensures ∙ ap Some c.in-And.is)))
+    c.see_back-in-And.new.cells
+    c.in-Err-see_back-4.halt c.in-Err-see_back-4.ensures
 
-pub see-requires-in-Not-clause-spells : goal.see-requires-in-Not-clause-spells
-see-requires-in-Not-clause-spells c = (child_visited _ _ _ c.start-start.ensures.sound _ _ _ c.requires.fits.1 _ _
+pub see_back-requires-in-Not-clause-spells : goal.see_back-requires-in-Not-clause-spells
+see_back-requires-in-Not-clause-spells c = (child_visited _ _ _ c.start-start.ensures.sound _ _ _ c.requires.fits.1 _ _
     (asks_not _ _ _ c.start-start.ensures.sound _ _ _ c.requires.fits.1 _
-    (shape_at c.args.peg.now.nodes c.args.top.node _ (c.node.ensures ∙ ap Some c.in-Not.is)))).spelled
+    (shape_at c.args.peg.now.nodes c.args.stage.top.node _ (c.node.ensures ∙ ap Some c.in-Not.is)))).spelled
 
-pub see-requires-in-Not-clause-place : goal.see-requires-in-Not-clause-place
-see-requires-in-Not-clause-place c = (at_top _ _ _ c.start-start.ensures.sound _ _ _ c.requires.fits.1).high
+pub see_back-requires-in-Not-clause-place : goal.see_back-requires-in-Not-clause-place
+see_back-requires-in-Not-clause-place c = (at_top _ _ _ c.start-start.ensures.sound _ _ _ c.requires.fits.1).high
 
-pub returns-in-Ok-see-5 : goal.returns-in-Ok-see-5
-returns-in-Ok-see-5 c = λ below fits. rw c.not.ensures
+pub returns-in-Ok-see_back-5 : goal.returns-in-Ok-see_back-5
+returns-in-Ok-see_back-5 c = λ below fits. rw c.not.ensures
     (not_on _ _ _ c.start-start.ensures.sound below _ _ fits _
-    (shape_at c.args.peg.now.nodes c.args.top.node _ (c.node.ensures ∙ ap Some c.in-Not.is)) _ _ c.in-Ok-see-5.ensures)
+    (shape_at c.args.peg.now.nodes c.args.stage.top.node _ (c.node.ensures ∙ ap Some c.in-Not.is))
+    _ _ c.in-Ok-see_back-5.ensures)
 
-pub returns-in-Err-see-5 : goal.returns-in-Err-see-5
-returns-in-Err-see-5 c = λ below fits.
+pub returns-in-Err-see_back-5 : goal.returns-in-Err-see_back-5
+returns-in-Err-see_back-5 c = λ below fits.
     halts_on _ _ _ c.start-start.ensures.sound below _ _ fits _ _
     (asks_not _ _ _ c.start-start.ensures.sound below _ _ fits _
-    (shape_at c.args.peg.now.nodes c.args.top.node _ (c.node.ensures ∙ ap Some c.in-Not.is))) c.see-in-Not.new.cells
-    c.in-Err-see-5.halt c.in-Err-see-5.ensures
+    (shape_at c.args.peg.now.nodes c.args.stage.top.node _ (c.node.ensures ∙ ap Some c.in-Not.is)))
+    c.see_back-in-Not.new.cells
+    c.in-Err-see_back-5.halt c.in-Err-see_back-5.ensures
 
 pub next_turn-requires-clause-spells : goal.next_turn-requires-clause-spells
 next_turn-requires-clause-spells c = (at_top _ _ _ c.start-start.ensures.sound _ _ _ c.requires.fits.1).spelled
@@ -167,25 +176,25 @@ returns-in_default c =
     λ below fits. (_, _, come_stays _ _ _ c.start-start.ensures.sound below _ _ fits, c.next_turn.ensures)
 
 pub returns-then-top-gt0 : goal.returns-then-top-gt0
-returns-then-top-gt0 c = λ below fits. rw c.again.ensures
+returns-then-top-gt0 c = λ below fits. rw c.again_back.ensures
     (star_again _ _ _ c.start-start.ensures.sound below _ _ fits _
-    (shape_at c.args.peg.now.nodes c.args.top.node _ (c.node.ensures ∙ ap Some c.in-Star.is)) c.if-top-gt0.true)
+    (shape_at c.args.peg.now.nodes c.args.stage.top.node _ (c.node.ensures ∙ ap Some c.in-Star.is)) c.if-top-gt0.true)
 
 pub returns-then-top-gt0-2 : goal.returns-then-top-gt0-2
-returns-then-top-gt0-2 c = λ below fits. rw c.again-then-top-gt0-2.ensures
+returns-then-top-gt0-2 c = λ below fits. rw c.again_back-then-top-gt0-2.ensures
     (plus_again _ _ _ c.start-start.ensures.sound below _ _ fits _ _
-    (shape_at c.args.peg.now.nodes c.args.top.node _ (c.node.ensures ∙ ap Some c.in-Plus.is)) c.if-top-gt0-2.true)
+    (shape_at c.args.peg.now.nodes c.args.stage.top.node _ (c.node.ensures ∙ ap Some c.in-Plus.is)) c.if-top-gt0-2.true)
 
 pub node-requires-in-Star : goal.node-requires-in-Star
 node-requires-in-Star c =
     let operand = child_visited _ _ _ c.start-start.ensures.sound _ _ _ c.requires.fits.1 _ _
     (asks_star _ _ _ c.start-start.ensures.sound _ _ _ c.requires.fits.1 _
-    (shape_at c.args.peg.now.nodes c.args.top.node _ (c.node.ensures ∙ ap Some c.in-Star.is))) in
+    (shape_at c.args.peg.now.nodes c.args.stage.top.node _ (c.node.ensures ∙ ap Some c.in-Star.is))) in
     let there = is_there _ _ operand.spelled.1 in
     omega (arith, there, length-map c.args.peg.now.nodes shape_of)
 
 pub repeat_byte-requires-clause-star : goal.repeat_byte-requires-clause-star
-repeat_byte-requires-clause-star c = shape_at c.args.peg.now.nodes c.args.top.node _
+repeat_byte-requires-clause-star c = shape_at c.args.peg.now.nodes c.args.stage.top.node _
     (c.node.ensures ∙ ap Some c.in-Star.is)
 
 pub repeat_byte-requires-clause-byte : goal.repeat_byte-requires-clause-byte

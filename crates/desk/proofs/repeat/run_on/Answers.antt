@@ -12,6 +12,11 @@ see_byte-requires-clause-spells c =
     (run_child _ _ _ c.start-start.ensures.sound c.requires.fits.0 _ _ c.args.operand c.requires.star _ c.turns.at
     (c.turns.invariant c.requires.fits.0 c.requires.fits.1)).spelled
 
+pub see_byte-requires-clause-place : goal.see_byte-requires-clause-place
+see_byte-requires-clause-place c =
+    (run_child _ _ _ c.start-start.ensures.sound c.requires.fits.0 _ _ c.args.operand c.requires.star _ c.turns.at
+    (c.turns.invariant c.requires.fits.0 c.requires.fits.1)).high
+
 pub returns-in-Err-clause-halt : goal.returns-in-Err-clause-halt
 returns-in-Err-clause-halt c =
     run_halts _ _ _ c.start-start.ensures.sound c.requires.fits.0 _ _ c.args.operand c.requires.star _ c.turns.at

@@ -4,5 +4,5 @@ use Rattle.desk.proofs.run.match_on.Goals as goal
 
 pub turns-init : goal.turns-init
 turns-init c =
-    rw (c.requires.cells, c.requires.frames, c.beginning-top.ensures)
+    rw (c.requires.cells, c.requires.frames, c.beginning.ensures)
     (fits_begin _ _ _ c.start-start.ensures.sound c.args.root _ c.requires.root refl refl refl)

@@ -1,0 +1,13 @@
+use Rattle.desk.proofs.IsNarrowRunLemmas.{all_narrow, pair_is_narrow}
+use Rattle.desk.proofs.ahead.see.Goals as goal
+
+pub get_or_put_narrow-requires : goal.get_or_put_narrow-requires
+get_or_put_narrow-requires c =
+    let turn = (rw c.in-Known-Answer.field-0-is at c.in-Known-Answer.ensures) _ c.requires.right in
+    all_narrow c.args.peg.now _ c.args.more c.requires.sound c.requires.narrow _ _ c.requires.spells
+    c.requires.place _ turn.0
+
+pub get_narrow-requires : goal.get_narrow-requires
+get_narrow-requires c =
+    pair_is_narrow c.args.peg.now _ c.args.more c.requires.sound c.requires.narrow _ _ c.requires.spells
+    c.requires.place
