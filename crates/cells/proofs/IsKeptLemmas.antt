@@ -179,6 +179,40 @@ IsKept-relinked layout mask now_mask cells now_cells rows now_rows k linked same
       omega arith;
 }
 
+-- other links and rows, where each number is a row
+pub IsKept-laid : (was layout : Layout) (mask : ℕ) (cells now_cells : List Cell) (rows now_rows : List ℕ)
+    → IsKept was mask cells rows →
+    AreLinked (row_of (length now_rows) 0 layout) now_cells now_rows → entries_of now_cells ≡ entries_of cells
+    → 0 < length now_rows →
+    ((i : ℕ) (c : Cell) → slice_get cells i ≡ Some c → number_of layout c.node c.place < length now_rows) →
+    IsKept layout 0 now_cells now_rows
+IsKept-laid was layout mask cells now_cells rows now_rows k linked same some low = record {
+  linked = linked;
+  some = λ _. some;
+  masked = λ _. some;
+  map = rw same k.map;
+  narrow = λ i c h.
+      let b = mapped_from entry_of cells i (entry_of c)
+      (ap (λ xs. slice_get xs i) (sym same) ∙ entry_at now_cells i c h) in
+      let n : b.0.node ≡ c.node = ap (λ x. x.node) b.2 in
+      let p : b.0.place ≡ c.place = ap (λ x. x.place) b.2 in
+      let s = k.narrow i b.0 b.1 in
+      let s0 : b.0.node < 4294967295 = s.0 in
+      let s1 : b.0.place < 4294967295 = s.1 in
+      (omega arith, omega arith);
+  within = λ _ i c h.
+      let b = mapped_from entry_of cells i (entry_of c)
+      (ap (λ xs. slice_get xs i) (sym same) ∙ entry_at now_cells i c h) in
+      let n : b.0.node ≡ c.node = ap (λ x. x.node) b.2 in
+      let p : b.0.place ≡ c.place = ap (λ x. x.place) b.2 in
+      rw (n, p) at (low i b.0 b.1);
+  few =
+      let f : length cells < 4294967295 = k.few in
+      let e : length now_cells ≡ length cells = sym (length-map now_cells entry_of) ∙ ap length same
+      ∙ length-map cells entry_of in
+      omega arith;
+}
+
 pub take-whole : {A : Type 0} → (n : ℕ) (xs ys : List A) → n ≡ length xs → take n (xs ++ ys) ≡ xs
 take-whole n xs ys h = take-append-le n xs ys (omega arith) ∙ take_all n xs (omega arith)
 

@@ -1,5 +1,5 @@
 -- The cells as they are kept, and as entries.
-use Rattle.std.specs.Prelude.{◌≡◌, ℕ, ◌<◌, ◌==◌, List, Option, Some, None, length, map, slice_get, if◌then◌else◌}
+use Rattle.std.specs.Prelude.{◌≡◌, ℕ, ◌<◌, ◌≤◌, ◌==◌, List, Option, Some, None, length, map, slice_get, if◌then◌else◌}
 use Rattle.cells.specs.declared.cell.Cell.{Cell}
 use Rattle.cells.specs.declared.rows.Layout.{Layout}
 use Rattle.cells.specs.declared.cell.Found.{Found}
@@ -53,3 +53,7 @@ pub record IsKept (layout : Layout) (mask : ℕ) (cells : List Cell) (rows : Lis
   pub within : mask ≡ 0 → (i : ℕ) (c : Cell) → slice_get cells i ≡ Some c → number_of layout c.node c.place
       < length rows
   pub few : length cells < 4294967295
+
+-- so many cells have room where there is room for that many, and are not too many
+abbrev pub IsLimit : ℕ → ℕ → Type 0
+IsLimit limit room = (limit ≤ room) × (limit < 4294967295)

@@ -1,15 +1,15 @@
 //! The cells as a finite map.
 ghost use Rattle.std.specs.Prelude.{◌≡◌, ℕ, ◌<◌, ◌≤◌, ◌++◌, ◌∷◌, ◌^◌, [], length, slice_get, false, Some, None, IfOk};
-ghost use Rattle.std.specs.Prelude.{IfNone, IfSome, OnOk, OnErr};
+ghost use Rattle.std.specs.Prelude.{IfNone, IfSome, OnOk, OnErr, vec_len, vec_capacity};
 ghost use Rattle.cells.specs.Entries.{found_at, AreNarrow, EndsWith, IsKnown};
-ghost use Rattle.cells.specs.CellEntries.{IsAt, IsFree, IsKept, IsNowhere, entry_of, entries_of};
+ghost use Rattle.cells.specs.CellEntries.{IsAt, IsFree, IsKept, IsLimit, IsNowhere, entry_of, entries_of};
 ghost use Rattle.cells.specs.CellEntries.{found_of, found_or};
 ghost use Rattle.cells.specs.Links.{AreLinked};
 ghost use Rattle.cells.specs.Rows.{number_of as number, fold as folded, row_of};
 
 use crate::cell::{Cell, FAILED, Found, Key, end_narrow, end_of, found_of_end};
 use crate::link::{last_of, relink, walk, wipe};
-use crate::rows::{Layout, Scale, fold, layout_after, layout_of, number_of};
+use crate::rows::{Layout, Scale, fold, layout_of, number_of, set_layout, wider};
 use ruletable::Memory;
 use std::alloc::Global;
 use std::marker::Model;
@@ -23,17 +23,20 @@ const KEPT: usize = 1_024;
 // A unit of so many cells is small; the next is laid out for the like.
 const FEW: usize = 1_024;
 
+// So many cells are as many as can be.
+const MOST: usize = 4_294_967_294;
+
 // The scale before the first unit.
-const NONE: Scale = Scale {
+const NO_SCALE: Scale = Scale {
     nodes: 0,
     few: false,
 };
 
 /// The cells of one unit, seen as the list of their entries in the order in which they were put.
 ///
-/// A cell takes 16 bytes, and each row takes 4 more. Where the unit before had few cells, a place has up to 16 rows;
-/// else some 32 to 64 nodes share a row of each place. Numbers from 4,294,967,295 on, and more cells than that, are
-/// refused as want of memory.
+/// A cell takes 16 bytes, and each row takes 4 more. Some 32 to 64 nodes share a row of each place; but where the unit
+/// before had few cells, a place has up to 16 rows until this one has many. Numbers from 4,294,967,295 on, and as many
+/// cells, are refused as want of memory.
 #[derive(Drop)]
 pub struct Cells {
     cells: Vec<Cell>,
@@ -45,18 +48,21 @@ pub struct Cells {
     scale: Scale,
     // the bits of a number that is no row which name its row; 0 where each number is a row
     mask: usize,
+    // there is room for so many cells, which are not too many
+    limit: usize,
 }
 
 impl Model for Cells {
-    ghost use Rattle.std.specs.Prelude.{List};
+    ghost use Rattle.std.specs.Prelude.{List, vec_capacity};
     ghost use Rattle.cells.specs.Entries.{Entry};
-    ghost use Rattle.cells.specs.CellEntries.{IsKept, entries_of};
+    ghost use Rattle.cells.specs.CellEntries.{IsKept, IsLimit, entries_of};
 
     ghost Value = { List Entry };
 
     ghost view = { λ m. entries_of m.cells.items };
 
-    ghost invariant = { λ m. IsKept m.layout m.mask m.cells.items m.rows.items };
+    ghost invariant = { λ m. IsKept m.layout m.mask m.cells.items m.rows.items
+        × IsLimit m.limit (vec_capacity m.cells) };
 }
 
 // Twice so many rows, and some at first.
@@ -130,50 +136,112 @@ fn needs_rows(cells: usize, rows: usize, mask: usize, number: usize) -> bool
     number >= rows && (mask == 0 || cells / 2 >= rows)
 }
 
-// Makes more rows where that is wanted. The result is the mask.
+// The greatest number of a cell, or of that pair.
+fn most_number(cells: &[Cell], layout: Layout, key: Key) -> usize
+    ensures cells { (i : ℕ) (c : Cell) → slice_get cells.now i ≡ Some c → number layout c.node c.place ≤ result }
+    ensures key { number layout key.node key.place ≤ result }
+{
+    let mut most = number_of(layout, key.node, key.place);
+    for cell in cells {
+        most = most.max(number_of(layout, cell.node, cell.place));
+    }
+    most
+}
+
+// How many rows hold the numbers of all cells and of that pair; none where those are far more than the cells need.
+fn rows_for(cells: &[Cell], layout: Layout, key: Key) -> Option<usize>
+    requires { length cells.now < 2 ^ 32 }
+    ensures cells { IfSome result (λ count. (i : ℕ) (c : Cell) → slice_get cells.now i ≡ Some c →
+        number layout c.node c.place < count) }
+    ensures key { IfSome result (λ count. number layout key.node key.place < count) }
+{
+    let most = most_number(cells, layout, key);
+    if most / 4 > cells.len() + FIRST {
+        return None;
+    }
+    Some(beyond(0, most))
+}
+
+// Links all cells anew by another layout, in so many rows at least.
+fn change_layout(
+    cells: &mut [Cell],
+    rows: &mut Vec<u32>,
+    layout: Layout,
+    count: usize,
+) -> Result<(), Memory>
+    requires kept { (was : Layout) × ((mask : ℕ) × IsKept was mask cells.old rows.old.items) }
+    requires cells { (i : ℕ) (c : Cell) → slice_get cells.old i ≡ Some c → number layout c.node c.place < count }
+    requires some { 0 < count }
+    ensures kept { OnOk result (IsKept layout 0 cells.new rows.new.items) }
+    ensures same { entries_of cells.new ≡ entries_of cells.old }
+    ensures within { OnOk result (count ≤ length rows.new.items) }
+    ensures unchanged { OnErr result ((cells.new ≡ cells.old) × (rows.new.items ≡ rows.old.items)) }
+{
+    rows.resize(rows.len().max(count), 0)?;
+    relink(cells, rows, layout, 0);
+    Ok(())
+}
+
+// The layout for many cells, where these are many and theirs is another one.
+fn layout_for_many(cells: usize, layout: Layout) -> Option<Layout> {
+    if cells > FEW { wider(layout) } else { None }
+}
+
+// Makes more rows where that is wanted, and goes over to the layout for many cells where they are. The result is the
+// mask.
 #[inline(never)]
 fn more_rows(
     cells: &mut [Cell],
     rows: &mut Vec<u32>,
-    layout: Layout,
+    layout: &mut Layout,
     mask: usize,
-    number: usize,
+    key: Key,
 ) -> Result<usize, Memory>
-    requires { IsKept layout mask cells.old rows.old.items }
-    ensures kept { IfOk result (λ now. IsKept layout now cells.new rows.new.items) }
+    requires { IsKept layout.old mask cells.old rows.old.items }
+    ensures kept { IfOk result (λ now. IsKept layout.new now cells.new rows.new.items) }
     ensures same { entries_of cells.new ≡ entries_of cells.old }
     ensures some { OnOk result (0 < length rows.new.items) }
-    ensures within { IfOk result (λ now. now ≡ 0 → number < length rows.new.items) }
+    ensures within { IfOk result (λ now. now ≡ 0 → number layout.new key.node key.place < length rows.new.items) }
     ensures unchanged { OnErr result ((cells.new ≡ cells.old) × (rows.new.items ≡ rows.old.items)) }
+    ensures layout { OnErr result (layout.new ≡ layout.old) }
 {
-    if needs_rows(cells.len(), rows.len(), mask, number) {
-        grow(cells, rows, layout, mask, number)
-    } else {
-        Ok(mask)
+    let number = number_of(*layout, key.node, key.place);
+    if !needs_rows(cells.len(), rows.len(), mask, number) {
+        return Ok(mask);
     }
+    if let Some(wide) = layout_for_many(cells.len(), *layout) {
+        if let Some(count) = rows_for(cells, wide, key) {
+            change_layout(cells, rows, wide, count)?;
+            *layout = wide;
+            return Ok(0);
+        }
+    }
+    grow(cells, rows, *layout, mask, number)
 }
 
-// The row of a number, with more rows where they are wanted.
+// The row of a pair, with more rows where they are wanted.
 #[inline(always)]
 fn row_for(
     cells: &mut [Cell],
     rows: &mut Vec<u32>,
-    layout: Layout,
+    layout: &mut Layout,
     mask: &mut usize,
-    number: usize,
+    key: Key,
 ) -> Result<usize, Memory>
-    requires { IsKept layout mask.old cells.old rows.old.items }
-    ensures kept { IsKept layout mask.new cells.new rows.new.items }
+    requires { IsKept layout.old mask.old cells.old rows.old.items }
+    ensures kept { IsKept layout.new mask.new cells.new rows.new.items }
     ensures same { entries_of cells.new ≡ entries_of cells.old }
-    ensures row { IfOk result (λ row. row ≡ folded (length rows.new.items) mask.new number) }
+    ensures row { IfOk result (λ row. row ≡ folded (length rows.new.items) mask.new
+        (number layout.new key.node key.place)) }
     ensures there { IfOk result (λ row. row < length rows.new.items) }
-    ensures within { OnOk result (mask.new ≡ 0 → number < length rows.new.items) }
+    ensures within { OnOk result (mask.new ≡ 0 → number layout.new key.node key.place < length rows.new.items) }
 {
+    let number = number_of(*layout, key.node, key.place);
     if number < rows.len() {
         return Ok(number);
     }
-    *mask = more_rows(cells, rows, layout, *mask, number)?;
-    Ok(fold(rows.len(), *mask, number))
+    *mask = more_rows(cells, rows, layout, *mask, key)?;
+    Ok(fold(rows.len(), *mask, number_of(*layout, key.node, key.place)))
 }
 
 // The cell of what was found, not linked yet; none if a number is too great.
@@ -214,37 +282,56 @@ fn cell_narrow(node: usize, place: usize, found: Found) -> Cell
     }
 }
 
-// Adds a cell behind the last one of its row.
+// Makes room for more cells, and returns for how many there is room now.
+#[inline(never)]
+fn more_cells(cells: &mut Vec<Cell>) -> Result<usize, Memory>
+    ensures items { cells.new.items ≡ cells.old.items }
+    ensures room { IfOk result (λ limit. (vec_len cells.new < limit) × IsLimit limit (vec_capacity cells.new)) }
+    ensures capacity { vec_capacity cells.old ≤ vec_capacity cells.new }
+{
+    if cells.len() >= MOST {
+        return Err(Memory);
+    }
+    cells.reserve(1)?;
+    Ok(cells.capacity().min(MOST))
+}
+
+// Makes room for one more cell.
 #[inline(always)]
-fn add(
-    cells: &mut Vec<Cell>,
-    rows: &mut [u32],
-    layout: Layout,
-    mask: usize,
-    row: usize,
-    cell: Cell,
-) -> Result<(), Memory>
+fn make_room(cells: &mut Vec<Cell>, limit: &mut usize) -> Result<(), Memory>
+    requires limit { IsLimit limit.old (vec_capacity cells.old) }
+    ensures items { cells.new.items ≡ cells.old.items }
+    ensures limit { IsLimit limit.new (vec_capacity cells.new) }
+    ensures room { OnOk result (vec_len cells.new < limit.new) }
+{
+    if cells.len() >= *limit {
+        *limit = more_cells(cells)?;
+    }
+    Ok(())
+}
+
+// Adds a cell behind the last one of its row. There must be room for it.
+#[inline(always)]
+fn add(cells: &mut Vec<Cell>, rows: &mut [u32], layout: Layout, mask: usize, row: usize, cell: Cell)
     requires kept { IsKept layout mask cells.old.items rows.old }
+    requires room { vec_len cells.old < vec_capacity cells.old }
+    requires few { vec_len cells.old < 4294967294 }
     requires there { row < length rows.old }
     requires row { row ≡ folded (length rows.old) mask (number layout cell.node cell.place) }
     requires within { mask ≡ 0 → number layout cell.node cell.place < length rows.old }
     requires free { IsFree (entries_of cells.old.items) cell.node cell.place }
     requires narrow { (cell.node < 4294967295) × (cell.place < 4294967295) }
-    ensures kept { OnOk result (IsKept layout mask cells.new.items rows.new) }
-    ensures added { OnOk result (entries_of cells.new.items ≡ entries_of cells.old.items ++ entry_of cell ∷ []) }
-    ensures unchanged { OnErr result ((cells.new.items ≡ cells.old.items) × (rows.new ≡ rows.old)) }
+    ensures kept { IsKept layout mask cells.new.items rows.new }
+    ensures added { entries_of cells.new.items ≡ entries_of cells.old.items ++ entry_of cell ∷ [] }
+    ensures capacity { vec_capacity cells.new ≡ vec_capacity cells.old }
 {
-    if cells.len() >= 4_294_967_294 {
-        return Err(Memory);
-    }
     let link = last_of(cells, rows, layout, mask, row);
     let linked = Cell {
         link: link as u32,
         ..cell
     };
-    cells.push(linked)?;
+    cells.push_reserved(linked);
     rows[row] = cells.len() as u32;
-    Ok(())
 }
 
 // Adds a cell, with more rows where they are wanted.
@@ -252,20 +339,28 @@ fn add(
 fn insert(
     cells: &mut Vec<Cell>,
     rows: &mut Vec<u32>,
-    layout: Layout,
+    layout: &mut Layout,
     mask: &mut usize,
+    limit: &mut usize,
     cell: Cell,
 ) -> Result<(), Memory>
-    requires kept { IsKept layout mask.old cells.old.items rows.old.items }
+    requires kept { IsKept layout.old mask.old cells.old.items rows.old.items }
+    requires limit { IsLimit limit.old (vec_capacity cells.old) }
     requires free { IsFree (entries_of cells.old.items) cell.node cell.place }
     requires narrow { (cell.node < 4294967295) × (cell.place < 4294967295) }
-    ensures kept { IsKept layout mask.new cells.new.items rows.new.items }
+    ensures kept { IsKept layout.new mask.new cells.new.items rows.new.items }
+    ensures limit { IsLimit limit.new (vec_capacity cells.new) }
     ensures added { OnOk result (entries_of cells.new.items ≡ entries_of cells.old.items ++ entry_of cell ∷ []) }
     ensures unchanged { OnErr result (entries_of cells.new.items ≡ entries_of cells.old.items) }
 {
-    let at = number_of(layout, cell.node, cell.place);
-    let row = row_for(cells, rows, layout, mask, at)?;
-    add(cells, rows, layout, *mask, row, cell)
+    let key = Key {
+        node: cell.node,
+        place: cell.place,
+    };
+    let row = row_for(cells, rows, layout, mask, key)?;
+    make_room(cells, limit)?;
+    add(cells, rows, *layout, *mask, row, cell);
+    Ok(())
 }
 
 // The end that the cell of that pair has; none if it had none, and the cell is added.
@@ -273,30 +368,31 @@ fn insert(
 fn find_or_insert(
     cells: &mut Vec<Cell>,
     rows: &mut Vec<u32>,
-    layout: Layout,
+    layout: &mut Layout,
     mask: &mut usize,
+    limit: &mut usize,
     cell: Cell,
 ) -> Result<Option<u32>, Memory>
-    requires kept { IsKept layout mask.old cells.old.items rows.old.items }
+    requires kept { IsKept layout.old mask.old cells.old.items rows.old.items }
+    requires limit { IsLimit limit.old (vec_capacity cells.old) }
     requires narrow { (cell.node < 4294967295) × (cell.place < 4294967295) }
-    ensures kept { IsKept layout mask.new cells.new.items rows.new.items }
+    ensures kept { IsKept layout.new mask.new cells.new.items rows.new.items }
+    ensures limit { IsLimit limit.new (vec_capacity cells.new) }
     ensures known { IfOk result (λ had. IsKnown (entries_of cells.old.items) (entries_of cells.new.items) cell.node
         cell.place (found_of cell.end) (found_or cell.end had)) }
     ensures unchanged { OnErr result (entries_of cells.new.items ≡ entries_of cells.old.items) }
 {
-    let at = number_of(layout, cell.node, cell.place);
-    let row = row_for(cells, rows, layout, mask, at)?;
     let key = Key {
         node: cell.node,
         place: cell.place,
     };
-    if let Some(end) = walk(cells, rows, layout, *mask, row, key) {
+    let row = row_for(cells, rows, layout, mask, key)?;
+    if let Some(end) = walk(cells, rows, *layout, *mask, row, key) {
         return Ok(Some(end));
     }
-    match add(cells, rows, layout, *mask, row, cell) {
-        Ok(()) => Ok(None),
-        Err(fault) => Err(fault),
-    }
+    make_room(cells, limit)?;
+    add(cells, rows, *layout, *mask, row, cell);
+    Ok(None)
 }
 
 // The end of the cell of that pair, which is sought where its number is no row.
@@ -315,20 +411,23 @@ fn end_far(cells: &[Cell], rows: &[u32], layout: Layout, mask: usize, key: Key) 
     walk(cells, rows, layout, mask, row, key)
 }
 
-// The end of the cell of that pair. Mostly its number is a row.
+// The end of the cell of that pair. Mostly its number is a row, and that has no cell.
 #[inline(always)]
-fn end_at(cells: &[Cell], rows: &[u32], layout: Layout, mask: usize, key: Key) -> Option<u32>
-    requires linked { AreLinked (row_of (length rows.now) mask layout) cells.now rows.now }
+fn end_at(cells: &[Cell], rows: &[u32], layout: &Layout, mask: usize, key: Key) -> Option<u32>
+    requires linked { AreLinked (row_of (length rows.now) mask layout.now) cells.now rows.now }
     requires some { 0 < length cells.now → 0 < length rows.now }
     requires masked { 0 < length rows.now → mask < length rows.now }
     ensures found { IfSome result (λ e. IsAt cells.now key.node key.place e) }
     ensures none { IfNone result (IsNowhere cells.now key.node key.place) }
 {
-    let row = number_of(layout, key.node, key.place);
+    let row = number_of(*layout, key.node, key.place);
     if row >= rows.len() {
-        return end_far(cells, rows, layout, mask, key);
+        return end_far(cells, rows, *layout, mask, key);
     }
-    walk(cells, rows, layout, mask, row, key)
+    if rows[row] == 0 {
+        return None;
+    }
+    walk(cells, rows, *layout, mask, row, key)
 }
 
 // Empties all rows.
@@ -355,9 +454,10 @@ impl Cells {
         Cells {
             cells: Vec::new(alloc),
             rows: Vec::new(alloc),
-            layout: layout_of(NONE),
-            scale: NONE,
+            layout: layout_of(NO_SCALE),
+            scale: NO_SCALE,
             mask: 0,
+            limit: 0,
         }
     }
 
@@ -369,7 +469,7 @@ impl Cells {
         let scale = Scale { nodes, few };
         self.cells.clear();
         empty(&mut self.rows);
-        self.layout = layout_after(self.layout, self.scale, scale);
+        set_layout(&mut self.layout, self.scale, scale);
         self.scale = scale;
         self.mask = 0;
     }
@@ -386,6 +486,7 @@ impl Cells {
     pub fn get(&self, node: usize, place: usize) -> Option<Found>
         ensures { result ≡ found_at self.now node place }
     {
+        // the type's invariant, which is known where a field is read, says that no cell has a greater number
         let _layout = self.layout;
         if node >= FAILED as usize {
             return None;
@@ -402,12 +503,11 @@ impl Cells {
         requires { (node < 4294967295) × (place < 4294967295) }
         ensures { result ≡ found_at self.now node place }
     {
-        let layout = self.layout;
         let key = Key {
             node: node as u32,
             place: place as u32,
         };
-        match end_at(&self.cells, &self.rows, layout, self.mask, key) {
+        match end_at(&self.cells, &self.rows, &self.layout, self.mask, key) {
             Some(end) => Some(found_of_end(end)),
             None => None,
         }
@@ -445,8 +545,9 @@ impl Cells {
         insert(
             &mut self.cells,
             &mut self.rows,
-            self.layout,
+            &mut self.layout,
             &mut self.mask,
+            &mut self.limit,
             cell,
         )
     }
@@ -467,8 +568,9 @@ impl Cells {
         match find_or_insert(
             &mut self.cells,
             &mut self.rows,
-            self.layout,
+            &mut self.layout,
             &mut self.mask,
+            &mut self.limit,
             cell,
         ) {
             Ok(Some(end)) => Ok(found_of_end(end)),
@@ -492,8 +594,9 @@ impl Cells {
         insert(
             &mut self.cells,
             &mut self.rows,
-            self.layout,
+            &mut self.layout,
             &mut self.mask,
+            &mut self.limit,
             cell,
         )
     }
@@ -518,8 +621,9 @@ impl Cells {
         match find_or_insert(
             &mut self.cells,
             &mut self.rows,
-            self.layout,
+            &mut self.layout,
             &mut self.mask,
+            &mut self.limit,
             cell,
         ) {
             Ok(Some(end)) => Ok(found_of_end(end)),

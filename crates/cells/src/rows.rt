@@ -4,11 +4,13 @@ ghost use Rattle.cells.specs.Rows.{number_of as number, fold as folded};
 
 use crate::cell::narrow;
 
-/// How pairs share rows: a place has `stride` rows, and of a node's number the bits in `keep` choose among them.
+/// How pairs share rows: a place has `stride` rows, and of a node's number the bits in `keep` choose among them. Where
+/// cells turn out to be many, `wide` takes the place of `keep`.
 #[derive(Clone, Copy)]
 pub(crate) struct Layout {
     pub(crate) stride: u32,
     pub(crate) keep: u32,
+    pub(crate) wide: u32,
 }
 
 /// What a layout is made for: so many nodes, and few cells or many.
@@ -29,31 +31,47 @@ fn ones_below(count: u32) -> u32 {
     u32::MAX.wrapping_shr((count - 1).leading_zeros())
 }
 
-/// Returns a layout. Where the cells are few, so are those in one row; else the rows of a place are.
-#[inline(never)]
-pub(crate) fn layout_of(scale: Scale) -> Layout {
-    let rows = if scale.few {
-        scale.nodes.min(APART).max(scale.nodes / 32)
-    } else {
-        scale.nodes / 32
-    };
-    let keep = match narrow(rows) {
+// The bits that choose among so many rows; none where they are too many.
+fn row_bits(rows: usize) -> u32 {
+    match narrow(rows) {
         Some(rows) => ones_below(rows),
         None => 0,
-    };
-    Layout {
-        stride: keep.saturating_add(1),
-        keep,
     }
 }
 
-/// Returns a layout for a scale, from the one for the scale before.
-#[inline(always)]
-pub(crate) fn layout_after(layout: Layout, before: Scale, scale: Scale) -> Layout {
-    if before.nodes == scale.nodes && before.few == scale.few {
-        layout
+// The layout by these bits, and by those for many cells.
+fn layout_by(keep: u32, wide: u32) -> Layout {
+    Layout {
+        stride: keep.saturating_add(1),
+        keep,
+        wide,
+    }
+}
+
+/// Returns a layout. Where the cells are few, so are those in one row; else the rows of a place are.
+#[inline(never)]
+pub(crate) fn layout_of(scale: Scale) -> Layout {
+    let wide = row_bits(scale.nodes / 32);
+    if scale.few {
+        return layout_by(row_bits(scale.nodes.min(APART)) | wide, wide);
+    }
+    layout_by(wide, wide)
+}
+
+/// Returns the layout for many cells, where that is another one.
+pub(crate) fn wider(layout: Layout) -> Option<Layout> {
+    if layout.wide < layout.keep {
+        Some(layout_by(layout.wide, layout.wide))
     } else {
-        layout_of(scale)
+        None
+    }
+}
+
+/// Makes a layout for another scale.
+#[inline(always)]
+pub(crate) fn set_layout(layout: &mut Layout, before: Scale, scale: Scale) {
+    if before.nodes != scale.nodes || before.few != scale.few {
+        *layout = layout_of(scale);
     }
 }
 

@@ -1,6 +1,6 @@
 -- A desk that holds a success has the cells of a walk over its events.
 -- Serves: Desk::match_unit, Desk::replay.
-use Rattle.std.proofs.Common.{◌≡◌, ℕ, ◌≤◌, Bool, List, [], ◌∷◌, length, Some, sym, ap, subst, arith, append-nil, get_or}
+use Rattle.std.proofs.Common.{◌≡◌, ℕ, ◌≤◌, Bool, List, [], ◌∷◌, length, Some, sym, subst, arith, append-nil, get_or}
 use Rattle.std.specs.Prelude.{slice_get}
 use Rattle.pegread.specs.PegViews.{rules_of}
 use Rattle.gramcheck.specs.Grammar.{Grammar, IsSoundGrammar}
@@ -73,10 +73,6 @@ module _ (g : Grammar) (x : List ℕ) (events : List Event) (sound : IsSoundGram
     subst (λ v. AreCells (rules_of g.rules) g.start (shapes_of g.nodes) g.bodies x h.more
         v) is (cells_of_done g x h.more d h.done),
   )
-
-  pub held_some : 1 ≤ length cells
-  held_some = let some = some_cell d.cells root 0 (root_cell g x events sound d root at h) in
-      omega (arith, some, ap length is)
 
 -- what a match ends with is what a matcher owes
 pub is_answer : (g : Grammar) (x : List ℕ) (more : Bool) (d : View) (u : UnitAnswer) → IsSoundGrammar g

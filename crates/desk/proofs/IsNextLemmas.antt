@@ -8,10 +8,12 @@ use Rattle.gramcheck.specs.Nodes.{shapes_of}
 use Rattle.cells.specs.Entries.{Entry}
 use Rattle.cells.specs.declared.cell.Found.{Found}
 use Rattle.desk.specs.declared.frame.Frame.{Frame}
+use Rattle.desk.specs.declared.run.Next.{Next}
 use Rattle.desk.specs.declared.run.Next.TheVariants as next
 use Rattle.desk.specs.declared.turn.Turn.TheVariants.{Ask, Answer, Need}
 use Rattle.cells.specs.declared.cell.Found.TheVariants.{Failed, Took}
-use Rattle.desk.specs.Desk.{View, beginning, counted, Fits, IsDone, IsStep, IsFurther, IsNext, IsMatched, IsOutcome}
+use Rattle.desk.specs.Desk.{View, beginning, counted, Fits, IsDone, IsStep, IsFurther, IsFinished, IsNext, IsMatched}
+use Rattle.desk.specs.Desk.{IsOutcome}
 use Rattle.desk.specs.Desk.{unit_of_match}
 use Rattle.desk.specs.Turns.{IsTurn}
 use Rattle.desk.proofs.IsStepLemmas.{IsTop, is_top, pushed_step, dropped_step, ended_here}
@@ -100,6 +102,15 @@ module _ (g : Grammar) (x : List ℕ) (more : Bool) (sound : IsSoundGrammar g) w
       ended_next below none now =
           let e = ended_here g x more sound here (counted cells' fs) t fs h f refl turn put refl same_count none in
           (subst (λ v. IsDone g x more (counted cells' v)) (none ∙ sym now) e.done, e.answers)
+
+    pub finished_next : (h : Found) → IsTurn (rules_of g.rules) g.start (shapes_of g.nodes) g.bodies x more cells t.node
+        t.place (Answer h) → (cells' : List Entry) (below : List Frame) (n : Next)
+        → IsFinished cells fs t h cells' below n → IsNext g x more here cells' below n
+    finished_next h turn cells' below (next.More on) done = dropped_next h cells' turn done.0 on.top below done.1
+    finished_next h turn cells' below (next.Ended k) done =
+        subst (λ v. IsNext g x more here cells' below (next.Ended v)) (sym done.1)
+        (ended_next h cells' turn done.0 below done.2 done.3)
+    finished_next h turn cells' below next.Need done = absurd done
 
 -- what a match found is what it ends with
 pub matched_outcome : (g : Grammar) (x : List ℕ) (more : Bool) (d : View) (v : Option Found) (b : ℕ)

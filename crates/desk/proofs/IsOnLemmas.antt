@@ -1,7 +1,7 @@
 -- What an evaluation does next where nodes without operands are evaluated at once.
 -- Serves: Desk::match_unit.
 use Rattle.std.proofs.Common.{◌≡◌, inl, inr, ℕ, ◌+◌, ◌<◌, ◌≤◌, Bool, true, List, ◌∷◌, length, get_or, Option, Some}
-use Rattle.std.proofs.Common.{None, Result, Ok, Err, refl, sym, subst, arith}
+use Rattle.std.proofs.Common.{None, Result, Ok, Err, IfOk, refl, sym, subst, arith}
 use Rattle.std.specs.Prelude.{slice_get}
 use Rattle.pegread.specs.PegViews.{rules_of}
 use Rattle.gramcheck.specs.Grammar.{Grammar, IsSoundGrammar}
@@ -18,7 +18,9 @@ use Rattle.desk.specs.declared.ahead.Halt.TheVariants.{Memory, Short}
 use Rattle.desk.specs.declared.frame.Frame.{Frame}
 use Rattle.desk.specs.declared.turn.Turn.{Turn}
 use Rattle.desk.specs.declared.turn.Turn.TheVariants.{Ask, Answer}
-use Rattle.desk.specs.Desk.{counted, Fits, IsFurther}
+use Rattle.desk.specs.declared.run.Next.{Next}
+use Rattle.desk.specs.declared.run.Next.TheVariants as next
+use Rattle.desk.specs.Desk.{counted, Fits, IsFinished, IsFurther, IsNext}
 use Rattle.desk.specs.State as state
 use Rattle.desk.specs.State.{HaveTaken, HaveFailed, IsUnderWay}
 use Rattle.desk.specs.Turns.{same_turn, again_turn, opt_turn, and_turn, not_turn, star_turn, plus_turn, IsWalk}
@@ -26,7 +28,7 @@ use Rattle.desk.specs.Turns.{IsSearch, IsTurn}
 use Rattle.desk.specs.Visits.{Asks, asked}
 use Rattle.desk.proofs.AsksLemmas.{IsVisited, is_visited}
 use Rattle.desk.proofs.HaveTakenLemmas.{asks_member, asks_alternative, taken_on, failed_on}
-use Rattle.desk.proofs.IsNextLemmas.{at_top, leaf_next, leaf_need}
+use Rattle.desk.proofs.IsNextLemmas.{at_top, finished_next, leaf_next, leaf_need}
 use Rattle.desk.proofs.IsStackLemmas.{come_on}
 use Rattle.desk.proofs.IsStepLemmas.{IsTop}
 use Rattle.desk.proofs.IsTurnLemmas.{name_is_turn, opt_is_turn, and_is_turn, not_is_turn, star_then, star_is_turn}
@@ -330,6 +332,19 @@ pub next_from : {g : Grammar} {x : List ℕ} {more : Bool} {below : List Frame} 
     IsFurther g x more (counted mid (come_to t i q ∷ below)) new fs u
     → IsFurther g x more (counted old (t ∷ below)) new fs u
 next_from h n = (n.0, omega (arith, n.1, h.less))
+
+-- what a turn gives where the last frame is done
+pub finished_from : (g : Grammar) (x : List ℕ) (more : Bool) → IsSoundGrammar g → (below : List Frame)
+    (old mid new : List Entry) (fs : List Frame) (t : Frame) (i q : ℕ) → HasCome g x more below old mid t i q
+    → (h : Found) → IsTurn (rules_of g.rules) g.start (shapes_of g.nodes) g.bodies x more mid t.node t.place (Answer h)
+    → (E : Type 0) (r : Result Next E) → IfOk r (λ n. IsFinished mid below t h new fs n)
+    → IfOk r (λ n. IsNext g x more (counted old (t ∷ below)) new fs n)
+finished_from g x more sound below old mid new fs t i q come h turn E (Ok (next.More on)) done =
+    next_from come (finished_next g x more sound mid (come_to t i q) below come.fits h turn new fs (next.More on) done)
+finished_from g x more sound below old mid new fs t i q come h turn E (Ok (next.Ended k)) done =
+    finished_next g x more sound mid (come_to t i q) below come.fits h turn new fs (next.Ended k) done
+finished_from g x more sound below old mid new fs t i q come h turn E (Ok next.Need) done = absurd done
+finished_from g x more sound below old mid new fs t i q come h turn E (Err e) done = tt
 
 -- A turn of the loop over members or alternatives: the frame has come to i at q, over the cells in between.
 module _ (g : Grammar) (x : List ℕ) (more : Bool) (sound : IsSoundGrammar g) (below : List Frame) (old mid : List Entry)

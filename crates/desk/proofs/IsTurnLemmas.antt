@@ -410,3 +410,14 @@ module _ (rules : List Rule) (start : ℕ) (nodes : List Shape) (bodies ranks x 
     pub mark_turns : (e : Pattern) (es : List Event) → Spells rules nodes n e → Gives rules x e p (Takes p es) 0
         → (more ≡ true → 0 < length x) → Turns (Answer (Took p))
     mark_turns e es sp d some = mark_is_turn e es none_of sp d some
+
+-- a mark is done, whatever the window
+pub mark_turn : (rules : List Rule) (start : ℕ) (nodes : List Shape) (bodies x : List ℕ) (more : Bool)
+    (cells : List Entry) (n p : ℕ) → (more ≡ true → 0 < length x)
+    → IsTurn rules start nodes bodies x more cells n p (Answer (Took p)) → (t : Turn)
+    → IsLeafTurn (record { found = Took p; looked = 0 }) (length x) more t
+    → IsTurn rules start nodes bodies x more cells n p t
+mark_turn rules start nodes bodies x more cells n p some turn (Ask m q i r) h = absurd h
+mark_turn rules start nodes bodies x more cells n p some turn (Answer f) h = rw h.0 turn
+mark_turn rules start nodes bodies x more cells n p some turn Need h =
+    let l : 0 < length x = some h.0 in let none : 0 ≡ length x = h.1 in absurd (omega arith)

@@ -1,11 +1,11 @@
 -- The events of a success in path order, form by form.
 -- Serves: Desk::replay.
-use Rattle.std.proofs.Common.{◌≡◌, inl, inr, ℕ, suc, ◌+◌, ◌<◌, ◌≤◌, Bool, nat_lt, List, [], ◌∷◌, ◌++◌, length}
-use Rattle.std.proofs.Common.{drop, get_or, Option, Some, None, refl, sym, ◌∙◌, subst, arith, add-one, drop-cons}
+use Rattle.std.proofs.Common.{◌≡◌, inl, inr, ℕ, suc, ◌+◌, ◌<◌, ◌≤◌, Bool, List, [], ◌∷◌, ◌++◌, length}
+use Rattle.std.proofs.Common.{drop, get_or, Option, Some, None, refl, ap, sym, ◌∙◌, subst, arith, add-one, drop-cons}
 use Rattle.std.proofs.Common.{IfSome}
 use Rattle.std.specs.Prelude.{slice_get}
-use Rattle.std.proofs.lemmas.Bool.{cases_Bool, ltb-true, ltb-false}
 use Rattle.std.proofs.lemmas.Grind.{common_steps}
+use Rattle.std.proofs.lemmas.List.{append-nil}
 use Rattle.std.proofs.lemmas.Option.{slice_get-get_or}
 use Rattle.pegread.specs.Pattern as expr
 use Rattle.pegread.specs.Pattern.{Pattern, Patterns, Rule, body_of}
@@ -27,12 +27,14 @@ use Rattle.cells.specs.declared.cell.Found.TheVariants.{Failed, Took}
 use Rattle.cells.specs.Entries.{Entry}
 use Rattle.desk.specs.declared.frame.Frame.{Frame}
 use Rattle.desk.specs.declared.way.Way.{Way}
-use Rattle.desk.specs.declared.way.Way.TheVariants.{Leave, Emit, TurnTo}
+use Rattle.desk.specs.declared.way.Way.TheVariants.{Leave, Emit, TurnTo, GoInto}
 use Rattle.pegmatch.specs.declared.event.Kept.TheVariants.{Opened, Closed, Acted}
 use Rattle.cells.specs.Entries.{found_at}
+use Rattle.desk.specs.Ahead.{come_to}
 use Rattle.desk.specs.Desk.{beginning}
 use Rattle.pegmatch.specs.KeptEvents.{opened, closed, acted}
-use Rattle.desk.specs.Path.{EndsBy, opt_way, into, star_way, seq_way, choice_way, Taking, AllTaking, LeftBy}
+use Rattle.desk.specs.Path.{IsHeard}
+use Rattle.desk.specs.Path.{EndsBy, opt_way, into, star_way, choice_way, Taking, AllTaking, LeftBy}
 use Rattle.desk.specs.Path.{IsLeft, IsWay, pair_height}
 use Rattle.desk.specs.State.{HasCell, HaveTaken, none_taken, AreCells}
 use Rattle.desk.specs.Visits.{NodeGives, NodeTakes, Asks, AsksAlternative, alternative_here, alternative_later}
@@ -299,9 +301,6 @@ module _ (rules : List Rule) (start : ℕ) (nodes : List Shape) (bodies ranks x 
         here = is_taking s d;
         there = subst (λ v. Takings n v later) (ends_so h s d) (is_taking sn c);
       }
-
-  AllTakes : List ℕ → ℕ → List Event → Type 0
-  AllTakes ms p es = AllTaking rules nodes bodies ranks x cells ms p es
 
   -- the next member's events, and those of the members behind it
   record MemberParts (m p : ℕ) (ms : List ℕ) (es : List Event) : Type 0 where
@@ -595,7 +594,7 @@ module _ (rules : List Rule) (start : ℕ) (nodes : List Shape) (bodies ranks x 
                 (parts.ends r (sym g)) parts.there,
           ),
           asked_lower (get_or ms f.next 0) f.end asks,
-          (node.Seq ms, at, refl, omega arith),
+          (node.Seq ms, at, omega arith, omega arith),
         )
 
     -- the next member succeeded
@@ -622,20 +621,100 @@ module _ (rules : List Rule) (start : ℕ) (nodes : List Shape) (bodies ranks x 
         by (Some Failed) g = absurd (parts.fails g)
         by (Some (Took r)) g = (r, refl)
 
-    pub seq_ways : (ms : List ℕ) → slice_get nodes f.node ≡ Some (node.Seq ms)
-        → Ways f es (seq_way cells ms f.next f.end)
-    seq_ways ms at =
+    -- the next member is gone into
+    seq_into : (ms : List ℕ) (r : ℕ) → slice_get nodes f.node ≡ Some (node.Seq ms) → f.next < length ms
+        → found_at cells (get_or ms f.next 0) f.end ≡ Some (Took r)
+        → Ways f es (GoInto (get_or ms f.next 0) f.end (f.next + 1) r)
+    seq_into ms r at lt h =
         let left = l.left (node.Seq ms) at in
-        elim (cases_Bool (nat_lt f.next (length ms))) [
-          | inl below ↦
-              let lt = ltb-true f.next (length ms) below in
-              let cut : drop f.next ms ≡ get_or ms f.next 0 ∷ drop (suc f.next) ms = drop-cons ms f.next 0 lt in
-              let parts = member_parts (subst (λ v. SpellAll rules nodes v left.1.exprs) cut left.1.spelled)
-              left.1.gives in
-              rw below (seq_goes ms (found_at cells (get_or ms f.next 0) f.end) at lt left.0 (rw (add-one f.next) parts)
-              refl)
-          | inr above ↦
-              let le = ltb-false f.next (length ms) above in
-              let cut : drop f.next ms ≡ [] = grind (arith, common_steps) in
-              rw above (none_left (subst (λ v. SpellAll rules nodes v left.1.exprs) cut left.1.spelled) left.1.gives)
-        ]
+        let cut : drop f.next ms ≡ get_or ms f.next 0 ∷ drop (suc f.next) ms = drop-cons ms f.next 0 lt in
+        let parts = member_parts (subst (λ v. SpellAll rules nodes v left.1.exprs) cut left.1.spelled) left.1.gives in
+        seq_goes ms (Some (Took r)) at lt left.0 (rw (add-one f.next) parts) (sym h)
+
+    -- behind the last member no event is left
+    pub seq_done : (ms : List ℕ) → slice_get nodes f.node ≡ Some (node.Seq ms) → length ms ≤ f.next → es ≡ []
+    seq_done ms at le =
+        let left = l.left (node.Seq ms) at in
+        let cut : drop f.next ms ≡ [] = grind (arith, common_steps) in
+        none_left (subst (λ v. SpellAll rules nodes v left.1.exprs) cut left.1.spelled) left.1.gives
+
+  -- a member that does not print is passed
+  pub seq_passes : (f : Frame) (es : List Event) → Lefts f es → (ms : List ℕ) (r : ℕ)
+      → slice_get nodes f.node ≡ Some (node.Seq ms) → f.next < length ms
+      → ((e : Pattern) → Spells rules nodes (get_or ms f.next 0) e → Prints rules e → ⊥)
+      → found_at cells (get_or ms f.next 0) f.end ≡ Some (Took r) → Lefts (come_to f (f.next + 1) r) es
+  seq_passes f es l ms r at lt quiet h =
+      let way = seq_into f es l ms r at lt h in
+      let none : way.0 ≡ [] = silent_leaves (get_or ms f.next 0) f.end way.0 way.3 quiet in
+      let is : way.1 ≡ es = sym (way.2 ∙ ap (λ v. v ++ way.1) none) in
+      subst (λ v. Lefts (come_to f (f.next + 1) r) v) is way.4
+
+  -- the same, of what is told of the member
+  pub seq_passed : (f : Frame) (es : List Event) → Lefts f es → (ms : List ℕ) (v : Option Found) (after : ℕ)
+      → slice_get nodes f.node ≡ Some (node.Seq ms) → f.next < length ms
+      → ((e : Pattern) → Spells rules nodes (get_or ms f.next 0) e → Prints rules e → ⊥)
+      → ((r : ℕ) → found_at cells (get_or ms f.next 0) f.end ≡ Some (Took r) → v ≡ Some (Took r))
+      → v ≡ Some (Took after) → Lefts (come_to f (f.next + 1) after) es
+  seq_passed f es l ms v after at lt quiet told is =
+      let taken = seq_taken f es l ms at lt in
+      let same : taken.0 ≡ after = let k = told taken.0 taken.1 in cc (k, is) in
+      subst (λ r. Lefts (come_to f (f.next + 1) r) es) same (seq_passes f es l ms taken.0 at lt quiet taken.1)
+
+  -- a member of a success has taken something
+  pub seq_told : (f : Frame) (es : List Event) → Lefts f es → (ms : List ℕ) (v : Option Found)
+      → slice_get nodes f.node ≡ Some (node.Seq ms) → f.next < length ms
+      → ((r : ℕ) → found_at cells (get_or ms f.next 0) f.end ≡ Some (Took r) → v ≡ Some (Took r))
+      → ((r : ℕ) → v ≡ Some (Took r) → ⊥) → ⊥
+  seq_told f es l ms v at lt told never = let taken = seq_taken f es l ms at lt in never taken.0 (told taken.0 taken.1)
+
+  -- where the last member does not print no event is left
+  pub seq_silent : (f : Frame) (es : List Event) → Lefts f es → (ms : List ℕ)
+      → slice_get nodes f.node ≡ Some (node.Seq ms) → f.next + 1 ≡ length ms
+      → ((e : Pattern) → Spells rules nodes (get_or ms f.next 0) e → Prints rules e → ⊥) → es ≡ []
+  seq_silent f es l ms at last quiet =
+      let taken = seq_taken f es l ms at (omega arith) in
+      let on = seq_passes f es l ms taken.0 at (omega arith) quiet taken.1 in
+      seq_done (come_to f (f.next + 1) taken.0) es on ms at (omega arith)
+
+  -- with the last member a sequence is done
+  pub seq_turns : (f : Frame) (es : List Event) → Lefts f es → (ms : List ℕ)
+      → slice_get nodes f.node ≡ Some (node.Seq ms) → f.next + 1 ≡ length ms
+      → Ways f es (TurnTo (get_or ms f.next 0) f.end)
+  seq_turns f es l ms at last =
+      let taken = seq_taken f es l ms at (omega arith) in
+      let way = seq_into f es l ms taken.0 at (omega arith) taken.1 in
+      let none : way.1 ≡ [] = seq_done (come_to f (f.next + 1) taken.0) way.1 way.4 ms at (omega arith) in
+      let is : way.0 ≡ es = sym (way.2 ∙ ap (λ v. way.0 ++ v) none ∙ append-nil way.0) in
+      (subst (λ v. Lefts (beginning (get_or ms f.next 0) f.end) v) is way.3, way.5)
+
+  -- the same of a frame that is past members without events
+  pub past_turns : (f : Frame) (es : List Event) (i q : ℕ) → Lefts (come_to f i q) es → (ms : List ℕ)
+      → slice_get nodes f.node ≡ Some (node.Seq ms) → i + 1 ≡ length ms → Ways f es (TurnTo (get_or ms i 0) q)
+  past_turns f es i q l ms at last = seq_turns (come_to f i q) es l ms at last
+
+  pub past_goes : (f : Frame) (es : List Event) (i q r : ℕ) → Lefts (come_to f i q) es → f.next ≤ i → (ms : List ℕ)
+      → slice_get nodes f.node ≡ Some (node.Seq ms) → i < length ms → found_at cells (get_or ms i 0) q ≡ Some (Took r)
+      → Ways f es (GoInto (get_or ms i 0) q (i + 1) r)
+  past_goes f es i q r l le ms at lt h =
+      let way = seq_into (come_to f i q) es l ms r at lt h in
+      (way.0, way.1, way.2, way.3, way.4, way.5, (node.Seq ms, at, omega arith, omega arith))
+
+  -- the same, of what is told of the member
+  pub past_told : (f : Frame) (es : List Event) (i q : ℕ) → Lefts (come_to f i q) es → f.next ≤ i → (ms : List ℕ)
+      (v : Option Found) (after : ℕ) → slice_get nodes f.node ≡ Some (node.Seq ms) → i < length ms
+      → ((r : ℕ) → found_at cells (get_or ms i 0) q ≡ Some (Took r) → v ≡ Some (Took r)) → v ≡ Some (Took after)
+      → Ways f es (GoInto (get_or ms i 0) q (i + 1) after)
+  past_told f es i q l le ms v after at lt told is =
+      let taken = seq_taken (come_to f i q) es l ms at lt in
+      let same : taken.0 ≡ after = let k = told taken.0 taken.1 in cc (k, is) in
+      past_goes f es i q after l le ms at lt (taken.1 ∙ ap (λ r. Some (Took r)) same)
+
+  -- a node that does not print has no events, so a frame need not turn to it
+  pub heard_ways : (f : Frame) (es : List Event) (way heard : Way) → Ways f es way → IsHeard rules nodes way heard
+      → Ways f es heard
+  heard_ways f es way heard ways is = elim is [
+    | inl same ↦ subst (λ w. Ways f es w) (sym same) ways
+    | inr quiet ↦
+        let turns : Ways f es (TurnTo quiet.1.0 quiet.1.1) = subst (λ w. Ways f es w) quiet.1.2 ways in
+        subst (λ w. Ways f es w) (sym quiet.0) (silent_leaves quiet.1.0 quiet.1.1 es turns.0 quiet.1.3)
+  ]

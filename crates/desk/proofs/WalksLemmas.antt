@@ -1,7 +1,7 @@
 -- A walk's frames: their depth, the events still to come, and the steps that are left.
 -- Serves: Desk::replay.
 use Rattle.std.proofs.Common.{◌≡◌, inl, inr, ℕ, zero, suc, ◌+◌, ◌-◌, ◌*◌, ◌^◌, ◌<◌, ◌≤◌, Bool, true, false}
-use Rattle.std.proofs.Common.{if◌then◌else◌, List, [], ◌∷◌, ◌++◌, length, Option, Some, None, refl, ◌∙◌, ap, subst}
+use Rattle.std.proofs.Common.{if◌then◌else◌, List, [], ◌∷◌, ◌++◌, length, Option, Some, None, refl, sym, ◌∙◌, ap, subst}
 use Rattle.std.proofs.Common.{arith, append_assoc}
 use Rattle.std.specs.Prelude.{slice_get}
 use Rattle.std.proofs.Math.Nat.{mul-le-mul_right, pow-le-pow_right, one-le-pow}
@@ -197,11 +197,10 @@ module _ {rules : List Rule} {nodes : List Shape} {bodies ranks x : List ℕ} {c
           let shape = way.6 in
           let is : arity_of rules nodes bodies ranks x cells (slice_get nodes f.node) ≡ arity rules nodes bodies ranks x
           cells shape.0 = ap (λ v. arity_of rules nodes bodies ranks x cells v) shape.1 in
-          let count : todo rules nodes bodies ranks x cells f
-          ≡ (arity_of rules nodes bodies ranks x cells (slice_get nodes f.node) - i + 1) + 1 =
-          omega (arith, is, shape.2, shape.3) in
+          let count : (arity_of rules nodes bodies ranks x cells (slice_get nodes f.node) - i + 1) + 1
+          ≤ todo rules nodes bodies ranks x cells f = omega (arith, is, shape.2, shape.3) in
           let split =
-          ap (λ v. v * Base rules nodes bodies ranks x cells ^ high rules nodes bodies ranks x cells f) count in
+          mul-le-mul_right (Base rules nodes bodies ranks x cells ^ high rules nodes bodies ranks x cells f) count in
           omega (arith, a, split);
     }
 
@@ -253,11 +252,10 @@ module _ {rules : List Rule} {nodes : List Shape} {bodies ranks x : List ℕ} {c
       let deep = depth_at_most g.walks in
       omega (arith, deep)
 
-  pub last_at : {frames : List Frame} {f : Frame} {fs : List Frame} {all : List Event} → frames ≡ f ∷ fs →
-      Walks rules nodes bodies ranks x cells frames all → LastOf rules nodes bodies ranks x cells f fs all
-  last_at {all} is w = last_frame (subst (λ v. Walks rules nodes bodies ranks x cells v all) is w)
-
-  pub goes_at : {frames : List Frame} {f : Frame} {fs : List Frame} {all : List Event} {mark : Option Kept}
-      {new : List Frame} → frames ≡ f ∷ fs → Goes rules nodes bodies ranks x cells (f ∷ fs) mark all new
-      → Goes rules nodes bodies ranks x cells frames mark all new
-  goes_at is g = rw is g
+  -- the same step, where that is told and those frames are left
+  pub goes_to : {frames fs new : List Frame} {all : List Event} {mark told : Option Kept} → fs ≡ new → told ≡ mark
+      → Goes rules nodes bodies ranks x cells frames mark all fs → Goes rules nodes bodies ranks x cells frames told
+      all new
+  goes_to {frames} {fs} {new} {all} {mark} {told} is same g =
+      subst (λ v. Goes rules nodes bodies ranks x cells frames told all v) is
+      (subst (λ v. Goes rules nodes bodies ranks x cells frames v all fs) (sym same) g)

@@ -14,22 +14,19 @@ use Rattle.desk.specs.declared.ahead.Halt.{Halt}
 use Rattle.desk.specs.declared.ahead.Halt.TheVariants.{Memory, Short}
 use Rattle.desk.specs.declared.ahead.Seen.{Seen}
 use Rattle.desk.specs.declared.ahead.Seen.TheVariants as seen
-use Rattle.desk.specs.declared.ahead.Sight.{Sight}
-use Rattle.desk.specs.declared.ahead.Sight.TheVariants.{Known, Literal, Operands}
+use Rattle.pegmatch.specs.declared.leaves.Tried.{Tried}
 use Rattle.desk.specs.declared.frame.Frame.{Frame}
 use Rattle.desk.specs.declared.turn.Turn.{Turn}
 use Rattle.desk.specs.declared.turn.Turn.TheVariants.{Answer, Need}
 use Rattle.desk.specs.Desk.{counted, Fits, left}
 use Rattle.desk.specs.State.{AreCells}
-use Rattle.desk.specs.Turns.{IsTurn}
+use Rattle.desk.specs.Turns.{IsLeafTurn, IsTurn}
 
--- What is known of node n at p before its cell is looked up: it is what it gives, whatever the cells.
-module _ (rules : List Rule) (start : ℕ) (nodes : List Shape) (bodies x : List ℕ) (more : Bool) (n p : ℕ) where
-  abbrev pub IsSight : Sight → Type 0
-  IsSight (Known turn) = (cells : List Entry) → AreCells rules start nodes bodies x more cells
-      → IsTurn rules start nodes bodies x more cells n p turn
-  IsSight Literal = Unit {0}
-  IsSight Operands = Unit {0}
+-- What was tried tells what node n does next at p, whatever the cells.
+abbrev pub IsTried : List Rule → ℕ → List Shape → List ℕ → List ℕ → Bool → ℕ → ℕ → Tried → Type 0
+IsTried rules start nodes bodies x more n p tried = (cells : List Entry)
+    → AreCells rules start nodes bodies x more cells → (turn : Turn) → IsLeafTurn tried (length x) more turn
+    → IsTurn rules start nodes bodies x more cells n p turn
 
 -- What is seen of node n at p: what its cell holds, which a node without operands gets where it has none; or that it
 -- has none; or that its own comparison reaches the last byte of a window behind which there is more.

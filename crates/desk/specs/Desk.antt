@@ -1,6 +1,6 @@
 -- What contracts see of a desk.
-use Rattle.std.specs.Prelude.{◌≡◌, ◌⊎◌, ℕ, ◌+◌, ◌-◌, ◌*◌, ◌<◌, ◌≤◌, Bool, true, List, [], ◌∷◌, length, Option, Some}
-use Rattle.std.specs.Prelude.{None}
+use Rattle.std.specs.Prelude.{◌≡◌, ◌⊎◌, ℕ, ◌+◌, ◌-◌, ◌*◌, ◌<◌, ◌≤◌, Bool, true, List, [], ◌∷◌, ◌++◌, length, Option}
+use Rattle.std.specs.Prelude.{Some, None}
 use Rattle.pegread.specs.PegViews.{rules_of}
 use Rattle.gramcheck.specs.Grammar.{Grammar}
 use Rattle.gramcheck.specs.Nodes.{shapes_of}
@@ -45,6 +45,14 @@ unit_of_match (Some f) begun = unit_of f begun
 -- a frame's pair, as one that begins
 abbrev pub beginning : ℕ → ℕ → Frame
 beginning n p = record { node = n; place = p; next = 0; end = p }
+
+-- the last frame, t, is turned into its cell, and the frame below it is the last; or it was the only one
+abbrev pub IsFinished : List Entry → List Frame → Frame → Found → List Entry → List Frame → Next → Type 0
+IsFinished cells fs t f new below (next.More on) =
+    (new ≡ cells ++ record { node = t.node; place = t.place; found = f } ∷ []) × (fs ≡ on.top ∷ below)
+IsFinished cells fs t f new below (next.Ended h) =
+    (new ≡ cells ++ record { node = t.node; place = t.place; found = f } ∷ []) × (h ≡ f) × (fs ≡ []) × (below ≡ [])
+IsFinished cells fs t f new below next.Need = ⊥
 
 -- One frame more, and one evaluation more begun; the frame below may have come further.
 pub record Pushes (old new : View) : Type 0 where

@@ -1,19 +1,22 @@
 -- A success's events in path order, from cells.
-use Rattle.std.specs.Prelude.{◌≡◌, ◌⊎◌, ℕ, ◌+◌, ◌-◌, ◌*◌, ◌^◌, ◌<◌, ◌≤◌, List, [], ◌∷◌, ◌++◌, length, drop, get_or}
-use Rattle.std.specs.Prelude.{slice_get, slice_index, Option, Some, None, if◌then◌else◌, ◌==◌, nat_lt}
-use Rattle.pegread.specs.Pattern.{Patterns, Rule}
+use Rattle.std.specs.Prelude.{◌≡◌, ◌⊎◌, ℕ, ◌+◌, ◌-◌, ◌*◌, ◌^◌, ◌<◌, ◌≤◌, List, [], ◌∷◌, ◌++◌, length, drop}
+use Rattle.std.specs.Prelude.{slice_get, slice_index, Option, Some, None, if◌then◌else◌, ◌==◌}
+use Rattle.pegread.specs.Pattern.{Pattern, Patterns, Rule}
 use Rattle.gramcheck.specs.Nodes.{Shape, Any, Bytes, Set, Name, Seq, Choice, Star, Plus, Opt, And, Not, Act, Open}
-use Rattle.gramcheck.specs.Nodes.{Close, SpellAll}
+use Rattle.gramcheck.specs.Nodes.{Close, Spells, SpellAll}
 use Rattle.gramcheck.specs.Outcome.{Event, Takes, GivesAll}
+use Rattle.gramcheck.specs.Printing.{Prints}
 use Rattle.pegmatch.specs.KeptEvents.{SpellsSome, StandsFor}
 use Rattle.cells.specs.declared.cell.Found.{Found}
 use Rattle.cells.specs.declared.cell.Found.TheVariants.{Failed, Took}
 use Rattle.cells.specs.Entries.{Entry}
 use Rattle.desk.specs.declared.frame.Frame.{Frame}
 use Rattle.pegmatch.specs.declared.event.Kept.{Kept}
+use Rattle.desk.specs.declared.way.Spot.{Spot}
 use Rattle.desk.specs.declared.way.Way.{Way}
 use Rattle.desk.specs.declared.way.Way.TheVariants.{Leave, Emit, TurnTo, GoInto}
 use Rattle.cells.specs.Entries.{found_at}
+use Rattle.desk.specs.Ahead.{come_to}
 use Rattle.desk.specs.Desk.{beginning}
 use Rattle.desk.specs.State.{HasCell, HaveTaken}
 use Rattle.desk.specs.Visits.{NodeGives, Asks}
@@ -31,10 +34,6 @@ into m p i (Some (Took q)) = GoInto m p i q
 abbrev pub star_way : ℕ → ℕ → ℕ → ℕ → ℕ → Option Found → Way
 star_way s m p i q v = if i == 0 then into m p 1 v else TurnTo s q
 
-abbrev pub seq_way : List Entry → List ℕ → ℕ → ℕ → Way
-seq_way cells ms i q = if nat_lt i (length ms) then into (get_or ms i 0) q (i + 1) (found_at cells (get_or ms i 0) q)
-    else Leave
-
 abbrev pub to_first : Way → ℕ → ℕ → Option Found → Way
 to_first rest m p None = rest
 to_first rest m p (Some Failed) = rest
@@ -43,6 +42,16 @@ to_first rest m p (Some (Took q)) = TurnTo m p
 abbrev pub choice_way : List Entry → List ℕ → ℕ → Way
 choice_way cells [] p = Leave
 choice_way cells (m ∷ ms) p = to_first (choice_way cells ms p) m p (found_at cells m p)
+
+-- the same way, or none where it leads to a node that does not print
+abbrev pub IsHeard : List Rule → List Shape → Way → Way → Type 0
+IsHeard rules nodes way heard = (heard ≡ way) ⊎ ((heard ≡ Leave) × ((m q : ℕ) × (way ≡ TurnTo m q)
+    × ((e : Pattern) → Spells rules nodes m e → Prints rules e → ⊥)))
+
+-- the last frame, where there is one, and those below it
+abbrev pub with_top : Option Frame → List Frame → List Frame
+with_top None fs = fs
+with_top (Some f) fs = f ∷ fs
 
 -- the events that were told, before those that are left
 abbrev pub Tells : List Shape → Option Kept → List Event → List Event → Type 0
@@ -110,6 +119,11 @@ module _ (rules : List Rule) (nodes : List Shape) (bodies ranks x : List ℕ) (c
     pub high : f.place ≤ length x
     pub left : (shape : Shape) → slice_get nodes f.node ≡ Some shape → LeftBy shape f.node f.place f.next f.end es
 
+  -- where a frame of a sequence is past its members without events: at another member, or no event is left
+  abbrev pub IsPast : Frame → List Event → Option Spot → Type 0
+  IsPast f es None = es ≡ []
+  IsPast f es (Some s) = IsLeft (come_to f s.next s.end) es
+
   -- how many members a frame of this shape goes into
   abbrev pub arity : Shape → ℕ
   arity (Seq ms) = length ms
@@ -126,7 +140,7 @@ module _ (rules : List Rule) (nodes : List Shape) (bodies ranks x : List ℕ) (c
       (now later : List Event) × (es ≡ now ++ later) × IsLeft (beginning m q) now
       × IsLeft (record { node = f.node; place = f.place; next = i; end = r }) later ×
       (pair_height m q < pair_height f.node f.place)
-      × ((shape : Shape) × (slice_get nodes f.node ≡ Some shape) × (i ≡ f.next + 1) × (i ≤ arity shape))
+      × ((shape : Shape) × (slice_get nodes f.node ≡ Some shape) × (f.next < i) × (i ≤ arity shape))
 
   abbrev pub frame_height : Frame → ℕ
   frame_height f = pair_height f.node f.place

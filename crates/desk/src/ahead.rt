@@ -4,10 +4,10 @@ ghost use Rattle.pegread.specs.PegViews.{rules_of};
 ghost use Rattle.gramcheck.specs.Grammar.{IsSoundGrammar};
 ghost use Rattle.gramcheck.specs.Nodes.{Shape, shapes_of};
 ghost use Rattle.pegmatch.specs.KeptEvents.{SpellsSome};
-ghost use Rattle.cells.specs.Entries.{Entry, found_at};
+ghost use Rattle.cells.specs.Entries.{Entry, found_at, AreNarrow, IsKnown};
 ghost use Rattle.cells.specs.declared.cell.Found.{Found};
 ghost use Rattle.desk.specs.declared.frame.Frame.{Frame};
-ghost use Rattle.desk.specs.Ahead.{IsNarrowRun, IsSight, IsSeen, IsOn, MemberBack, OtherBack, seen_as};
+ghost use Rattle.desk.specs.Ahead.{IsNarrowRun, IsTried, IsSeen, IsOn, MemberBack, OtherBack, seen_as};
 ghost use Rattle.desk.specs.Desk.{counted, Fits};
 ghost use Rattle.desk.specs.State.{AreCells};
 ghost use Rattle.desk.specs.Turns.{again_turn, IsTurn};
@@ -17,7 +17,8 @@ use crate::repeat::{repeat_byte, takes_byte};
 use crate::turn::{Turn, again, and, leaf_turn, next_turn, not, opt, plus, same, star};
 use cells::{Cells, Found};
 use gramcheck::{Node, SoundPeg};
-use pegmatch::{match_any, match_bytes, match_set};
+use pegmatch::{Tried, match_any, match_bytes, match_set};
+use ruletable::Memory;
 
 /// Why a match stops with no outcome.
 #[derive(Clone, Copy, PartialEq, Eq, Debug)]
@@ -28,43 +29,24 @@ pub(crate) enum Halt {
     Short,
 }
 
+/// A node at a place.
+#[derive(Clone, Copy, PartialEq, Eq, Debug)]
+pub(crate) struct NodeAt {
+    pub(crate) node: usize,
+    pub(crate) place: usize,
+}
+
 // A literal of more bytes is compared only where it has no cell.
 const SHORT: usize = 8;
 
-/// What is known of a node at a place before its cell is looked up.
-#[derive(Clone, Copy, PartialEq, Eq, Debug)]
-pub(crate) enum Sight {
-    /// What it gives, whatever the cells: it compares few bytes, or none.
-    Known(Turn),
-    /// It is a long literal, which is compared only where it has no cell.
-    Literal,
-    /// It has operands.
-    Operands,
-}
-
-// What is known of a node at a place before its cell is looked up.
+// What a mark gives: it takes nothing, and looks at nothing.
 #[inline(always)]
-fn sight_of(peg: &SoundPeg, window: &[u8], more: bool, node: usize, place: usize) -> Sight
-    requires sound { IsSoundGrammar peg.now }
-    requires spells { SpellsSome (rules_of peg.now.rules) (shapes_of peg.now.nodes) node }
-    requires place { place ≤ length window.now }
-    requires some { more ≡ true → 0 < length window.now }
-    ensures { IsSight (rules_of peg.now.rules) peg.now.start (shapes_of peg.now.nodes) peg.now.bodies window.now more
-        node place result }
+fn mark_at(place: usize) -> Tried
+    ensures { result ≡ record { found = Found.Took place; looked = 0 } }
 {
-    match peg.node(node) {
-        Node::Any => Sight::Known(leaf_turn(match_any(window, place), window, more)),
-        Node::Set(set) => Sight::Known(leaf_turn(match_set(set, window, place), window, more)),
-        Node::Act(_) => Sight::Known(Turn::Answer(Found::Took(place))),
-        Node::Open => Sight::Known(Turn::Answer(Found::Took(place))),
-        Node::Close => Sight::Known(Turn::Answer(Found::Took(place))),
-        Node::Bytes(bytes) => {
-            if bytes.len() > SHORT {
-                return Sight::Literal;
-            }
-            Sight::Known(leaf_turn(match_bytes(bytes, window, place), window, more))
-        }
-        _ => Sight::Operands,
+    Tried {
+        found: Found::Took(place),
+        looked: 0,
     }
 }
 
@@ -198,7 +180,122 @@ fn held_or_short_apart(cells: &Cells, node: usize, place: usize) -> Seen
     flat(held_or_short(cells, node, place))
 }
 
-// The cell of a node at a place; one without operands gets its cell where it has none.
+// What the node has at the place: what its cell there holds, or else `found`, for which a cell is added. A failure and
+// a success are put apart, which is faster.
+#[inline(always)]
+fn put_apart(cells: &mut Cells, node: usize, place: usize, found: Found) -> Result<Found, Memory>
+    requires { AreNarrow node place found }
+    ensures { IfOk result (λ known. IsKnown cells.old cells.new node place found known) }
+{
+    match found {
+        Found::Failed => cells.get_or_put_narrow(node, place, Found::Failed),
+        Found::Took(end) => cells.get_or_put_narrow(node, place, Found::Took(end)),
+    }
+}
+
+// The cell of a node at a place of which that was tried; it gets one where it has none.
+#[inline(always)]
+fn see_tried(
+    peg: &SoundPeg,
+    window: &[u8],
+    more: bool,
+    cells: &mut Cells,
+    at: NodeAt,
+    tried: Tried,
+) -> Result<Option<Found>, Halt>
+    requires sound { IsSoundGrammar peg.now }
+    requires spells { SpellsSome (rules_of peg.now.rules) (shapes_of peg.now.nodes) at.node }
+    requires place { at.place ≤ length window.now }
+    requires narrow { IsNarrowRun peg.now window.now }
+    requires right { AreCells (rules_of peg.now.rules) peg.now.start (shapes_of peg.now.nodes) peg.now.bodies window.now
+        more cells.old }
+    requires tried { IsTried (rules_of peg.now.rules) peg.now.start (shapes_of peg.now.nodes) peg.now.bodies window.now
+        more at.node at.place tried }
+    ensures { IsSeen (rules_of peg.now.rules) peg.now.start (shapes_of peg.now.nodes) peg.now.bodies window.now more
+        cells.old cells.new at.node at.place result }
+{
+    let _start = peg.start();
+    if more && tried.looked == window.len() {
+        return unfold(held_or_short_apart(cells, at.node, at.place));
+    }
+    match cells.get_or_put_narrow(at.node, at.place, tried.found) {
+        Ok(known) => Ok(Some(known)),
+        Err(_) => Err(Halt::Memory),
+    }
+}
+
+// The same; a failure and a success are put apart, which is faster.
+#[inline(always)]
+fn see_tried_apart(
+    peg: &SoundPeg,
+    window: &[u8],
+    more: bool,
+    cells: &mut Cells,
+    at: NodeAt,
+    tried: Tried,
+) -> Result<Option<Found>, Halt>
+    requires sound { IsSoundGrammar peg.now }
+    requires spells { SpellsSome (rules_of peg.now.rules) (shapes_of peg.now.nodes) at.node }
+    requires place { at.place ≤ length window.now }
+    requires narrow { IsNarrowRun peg.now window.now }
+    requires right { AreCells (rules_of peg.now.rules) peg.now.start (shapes_of peg.now.nodes) peg.now.bodies window.now
+        more cells.old }
+    requires tried { IsTried (rules_of peg.now.rules) peg.now.start (shapes_of peg.now.nodes) peg.now.bodies window.now
+        more at.node at.place tried }
+    ensures { IsSeen (rules_of peg.now.rules) peg.now.start (shapes_of peg.now.nodes) peg.now.bodies window.now more
+        cells.old cells.new at.node at.place result }
+{
+    let _start = peg.start();
+    if more && tried.looked == window.len() {
+        return unfold(held_or_short_apart(cells, at.node, at.place));
+    }
+    match put_apart(cells, at.node, at.place, tried.found) {
+        Ok(known) => Ok(Some(known)),
+        Err(_) => Err(Halt::Memory),
+    }
+}
+
+// The cell of a node at a place; one without operands gets its cell where it has none. This is one look at the node:
+// with two of them the compiler does not go from the first straight to where the second leads.
+#[inline(always)]
+fn see_once(
+    peg: &SoundPeg,
+    window: &[u8],
+    more: bool,
+    cells: &mut Cells,
+    node: usize,
+    place: usize,
+) -> Result<Option<Found>, Halt>
+    requires sound { IsSoundGrammar peg.now }
+    requires spells { SpellsSome (rules_of peg.now.rules) (shapes_of peg.now.nodes) node }
+    requires place { place ≤ length window.now }
+    requires some { more ≡ true → 0 < length window.now }
+    requires narrow { IsNarrowRun peg.now window.now }
+    requires right { AreCells (rules_of peg.now.rules) peg.now.start (shapes_of peg.now.nodes) peg.now.bodies window.now
+        more cells.old }
+    ensures { IsSeen (rules_of peg.now.rules) peg.now.start (shapes_of peg.now.nodes) peg.now.bodies window.now more
+        cells.old cells.new node place result }
+{
+    let tried = match peg.node(node) {
+        Node::Any => match_any(window, place),
+        Node::Set(set) => match_set(set, window, place),
+        Node::Act(_) => mark_at(place),
+        Node::Open => mark_at(place),
+        Node::Close => mark_at(place),
+        Node::Bytes(bytes) => {
+            if bytes.len() > SHORT {
+                return unfold(see_literal_apart(peg, window, more, cells, node, place));
+            }
+            match_bytes(bytes, window, place)
+        }
+        _ => return Ok(cells.get_narrow(node, place)),
+    };
+    let at = NodeAt { node, place };
+    see_tried(peg, window, more, cells, at, tried)
+}
+
+// The same; a failure and a success are put apart, which is faster. It is more code, and is for members and
+// alternatives.
 #[inline(always)]
 fn see(
     peg: &SoundPeg,
@@ -218,22 +315,22 @@ fn see(
     ensures { IsSeen (rules_of peg.now.rules) peg.now.start (shapes_of peg.now.nodes) peg.now.bodies window.now more
         cells.old cells.new node place result }
 {
-    match sight_of(peg, window, more, node, place) {
-        Sight::Known(Turn::Answer(found)) => match cells.get_or_put_narrow(node, place, found) {
-            Ok(known) => Ok(Some(known)),
-            Err(_) => Err(Halt::Memory),
-        },
-        Sight::Known(Turn::Need) => unfold(held_or_short_apart(cells, node, place)),
-        Sight::Literal => unfold(see_literal_apart(peg, window, more, cells, node, place)),
-        _ => Ok(cells.get_narrow(node, place)),
-    }
-}
-
-/// A node at a place.
-#[derive(Clone, Copy, PartialEq, Eq, Debug)]
-pub(crate) struct NodeAt {
-    pub(crate) node: usize,
-    pub(crate) place: usize,
+    let tried = match peg.node(node) {
+        Node::Any => match_any(window, place),
+        Node::Set(set) => match_set(set, window, place),
+        Node::Act(_) => mark_at(place),
+        Node::Open => mark_at(place),
+        Node::Close => mark_at(place),
+        Node::Bytes(bytes) => {
+            if bytes.len() > SHORT {
+                return unfold(see_literal_apart(peg, window, more, cells, node, place));
+            }
+            match_bytes(bytes, window, place)
+        }
+        _ => return Ok(cells.get_narrow(node, place)),
+    };
+    let at = NodeAt { node, place };
+    see_tried_apart(peg, window, more, cells, at, tried)
 }
 
 /// The last frame, and whether it goes on behind an evaluation that it asked for.
@@ -255,39 +352,17 @@ fn last_if(back: bool, cells: &Cells, at: NodeAt) -> Option<Found>
     }
 }
 
-// The cell of a node at a place, which may be the last one; one without operands gets its cell where it has none.
-#[inline(always)]
-fn see_back(
-    peg: &SoundPeg,
-    window: &[u8],
-    more: bool,
-    cells: &mut Cells,
-    at: NodeAt,
-    back: bool,
-) -> Result<Option<Found>, Halt>
-    requires sound { IsSoundGrammar peg.now }
-    requires spells { SpellsSome (rules_of peg.now.rules) (shapes_of peg.now.nodes) at.node }
-    requires place { at.place ≤ length window.now }
-    requires some { more ≡ true → 0 < length window.now }
-    requires narrow { IsNarrowRun peg.now window.now }
-    requires right { AreCells (rules_of peg.now.rules) peg.now.start (shapes_of peg.now.nodes) peg.now.bodies window.now
-        more cells.old }
-    ensures { IsSeen (rules_of peg.now.rules) peg.now.start (shapes_of peg.now.nodes) peg.now.bodies window.now more
-        cells.old cells.new at.node at.place result }
-{
-    match last_if(back, cells, at) {
-        Some(found) => Ok(Some(found)),
-        None => see(peg, window, more, cells, at.node, at.place),
-    }
-}
-
 // Hands on what the node that goes on with a repetition gives at the end of one turn of it, which may be the last
 // cell's.
 #[inline(always)]
-fn again_back(cells: &Cells, at: NodeAt, back: bool) -> Turn
-    ensures { result ≡ again_turn at.node at.place (found_at cells.now at.node at.place) }
+fn again_back(cells: &Cells, node: usize, stage: Stage) -> Turn
+    ensures { result ≡ again_turn node stage.top.end (found_at cells.now node stage.top.end) }
 {
-    match last_if(back, cells, at) {
+    let at = NodeAt {
+        node,
+        place: stage.top.end,
+    };
+    match last_if(stage.back, cells, at) {
         Some(found) => Turn::Answer(found),
         None => again(cells, at.node, at.place),
     }
@@ -464,6 +539,106 @@ fn first_from(
     }
 }
 
+// What is seen of the operand of the last frame's node at its place, where the last cell may be that of the operand.
+#[inline(always)]
+fn see_operand(
+    peg: &SoundPeg,
+    window: &[u8],
+    more: bool,
+    cells: &mut Cells,
+    stage: Stage,
+    operand: usize,
+) -> Result<Option<Found>, Halt>
+    requires sound { IsSoundGrammar peg.now }
+    requires spells { SpellsSome (rules_of peg.now.rules) (shapes_of peg.now.nodes) operand }
+    requires place { stage.top.place ≤ length window.now }
+    requires some { more ≡ true → 0 < length window.now }
+    requires narrow { IsNarrowRun peg.now window.now }
+    requires right { AreCells (rules_of peg.now.rules) peg.now.start (shapes_of peg.now.nodes) peg.now.bodies window.now
+        more cells.old }
+    ensures { IsSeen (rules_of peg.now.rules) peg.now.start (shapes_of peg.now.nodes) peg.now.bodies window.now more
+        cells.old cells.new operand stage.top.place result }
+{
+    let at = NodeAt {
+        node: operand,
+        place: stage.top.place,
+    };
+    match last_if(stage.back, cells, at) {
+        Some(found) => Ok(Some(found)),
+        None => see_once(peg, window, more, cells, at.node, at.place),
+    }
+}
+
+// On with a repetition.
+#[inline(always)]
+fn star_on(
+    peg: &SoundPeg,
+    window: &[u8],
+    more: bool,
+    cells: &mut Cells,
+    operand: usize,
+    stage: Stage,
+) -> Result<Turn, Halt>
+    requires star { slice_get (shapes_of peg.now.nodes) stage.top.node ≡ Some (Shape.Star operand) }
+    requires some { more ≡ true → 0 < length window.now }
+    requires narrow { IsNarrowRun peg.now window.now }
+    requires fits { (below : List Frame) × Fits peg.now window.now more (counted cells.old (stage.top ∷ below)) }
+    ensures { (below : List Frame) → Fits peg.now window.now more (counted cells.old (stage.top ∷ below)) →
+        IsOn peg.now window.now more below cells.old cells.new stage.top result }
+{
+    let _start = peg.start();
+    let top = stage.top;
+    if top.next > 0 {
+        return Ok(again_back(cells, top.node, stage));
+    }
+    if takes_byte(peg.node(operand)) {
+        return repeat_byte(peg, window, more, cells, operand, top);
+    }
+    match see_operand(peg, window, more, cells, stage, operand) {
+        Ok(found) => Ok(star(cells, found, top.node, operand, top.place)),
+        Err(halt) => Err(halt),
+    }
+}
+
+/// The operand of a repetition of at least once, and the node that goes on with it.
+#[derive(Clone, Copy, PartialEq, Eq, Debug)]
+pub(crate) struct Repeated {
+    pub(crate) operand: usize,
+    pub(crate) star: usize,
+}
+
+// On with a repetition of at least once.
+#[inline(always)]
+fn plus_on(
+    peg: &SoundPeg,
+    window: &[u8],
+    more: bool,
+    cells: &mut Cells,
+    repeated: Repeated,
+    stage: Stage,
+) -> Result<Turn, Halt>
+    requires plus { slice_get (shapes_of peg.now.nodes) stage.top.node ≡ Some (Shape.Plus repeated.operand
+        repeated.star) }
+    requires some { more ≡ true → 0 < length window.now }
+    requires narrow { IsNarrowRun peg.now window.now }
+    requires fits { (below : List Frame) × Fits peg.now window.now more (counted cells.old (stage.top ∷ below)) }
+    ensures { (below : List Frame) → Fits peg.now window.now more (counted cells.old (stage.top ∷ below)) →
+        IsOn peg.now window.now more below cells.old cells.new stage.top result }
+{
+    let _start = peg.start();
+    let Repeated {
+        operand,
+        star: rest,
+    } = repeated;
+    if stage.top.next > 0 {
+        return Ok(again_back(cells, rest, stage));
+    }
+    match see_operand(peg, window, more, cells, stage, operand) {
+        Ok(found) => Ok(plus(cells, found, rest, operand, stage.top.place)),
+        Err(halt) => Err(halt),
+    }
+}
+
 /// Returns what the evaluation of a frame's node at its place does next. A node without operands that it asks for gets
 /// its cell at once.
 #[inline(always)]
@@ -481,125 +656,37 @@ pub(crate) fn turn_on(
         IsOn peg.now window.now more below cells.old cells.new stage.top result }
 {
     let _start = peg.start();
-    let top = stage.top;
-    let place = top.place;
-    match peg.node(top.node) {
+    let place = stage.top.place;
+    match peg.node(stage.top.node) {
         Node::Seq(members) => all_from(peg, window, more, cells, members, stage),
         Node::Choice(alternatives) => first_from(peg, window, more, cells, alternatives, stage),
         Node::Name(id) => {
             let body = peg.body_node(*id);
-            match see_back(
-                peg,
-                window,
-                more,
-                cells,
-                NodeAt { node: body, place },
-                stage.back,
-            ) {
+            match see_operand(peg, window, more, cells, stage, body) {
                 Ok(found) => Ok(same(found, body, place)),
                 Err(halt) => Err(halt),
             }
         }
-        Node::Star(operand) => {
-            if top.next > 0 {
-                return Ok(again_back(
-                    cells,
-                    NodeAt {
-                        node: top.node,
-                        place: top.end,
-                    },
-                    stage.back,
-                ));
-            }
-            if takes_byte(peg.node(*operand)) {
-                return repeat_byte(peg, window, more, cells, *operand, top);
-            }
-            match see_back(
-                peg,
-                window,
-                more,
-                cells,
-                NodeAt {
-                    node: *operand,
-                    place,
-                },
-                stage.back,
-            ) {
-                Ok(found) => Ok(star(cells, found, top.node, *operand, place)),
-                Err(halt) => Err(halt),
-            }
+        Node::Star(operand) => star_on(peg, window, more, cells, *operand, stage),
+        Node::Plus { operand, star } => {
+            let repeated = Repeated {
+                operand: *operand,
+                star: *star,
+            };
+            plus_on(peg, window, more, cells, repeated, stage)
         }
-        Node::Plus {
-            operand,
-            star: rest,
-        } => {
-            if top.next > 0 {
-                return Ok(again_back(
-                    cells,
-                    NodeAt {
-                        node: *rest,
-                        place: top.end,
-                    },
-                    stage.back,
-                ));
-            }
-            match see_back(
-                peg,
-                window,
-                more,
-                cells,
-                NodeAt {
-                    node: *operand,
-                    place,
-                },
-                stage.back,
-            ) {
-                Ok(found) => Ok(plus(cells, found, *rest, *operand, place)),
-                Err(halt) => Err(halt),
-            }
-        }
-        Node::Opt(operand) => match see_back(
-            peg,
-            window,
-            more,
-            cells,
-            NodeAt {
-                node: *operand,
-                place,
-            },
-            stage.back,
-        ) {
+        Node::Opt(operand) => match see_operand(peg, window, more, cells, stage, *operand) {
             Ok(found) => Ok(opt(found, *operand, place)),
             Err(halt) => Err(halt),
         },
-        Node::And(operand) => match see_back(
-            peg,
-            window,
-            more,
-            cells,
-            NodeAt {
-                node: *operand,
-                place,
-            },
-            stage.back,
-        ) {
+        Node::And(operand) => match see_operand(peg, window, more, cells, stage, *operand) {
             Ok(found) => Ok(and(found, *operand, place)),
             Err(halt) => Err(halt),
         },
-        Node::Not(operand) => match see_back(
-            peg,
-            window,
-            more,
-            cells,
-            NodeAt {
-                node: *operand,
-                place,
-            },
-            stage.back,
-        ) {
+        Node::Not(operand) => match see_operand(peg, window, more, cells, stage, *operand) {
             Ok(found) => Ok(not(found, *operand, place)),
             Err(halt) => Err(halt),
         },
-        _ => Ok(next_turn(peg, window, more, cells, top)),
+        _ => Ok(next_turn(peg, window, more, cells, stage.top)),
     }
 }

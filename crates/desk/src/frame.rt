@@ -73,7 +73,8 @@ impl Frames {
     pub(crate) fn push(&mut self, frame: Frame) -> Result<(), Memory>
         ensures { OnOk result (self.new ≡ frame ∷ self.old) }
     {
-        self.frames.push(frame)?;
+        self.frames.reserve(1)?;
+        self.frames.push_reserved(frame);
         Ok(())
     }
 

@@ -1,7 +1,8 @@
 //! A match without a frame for a node that asks for nothing.
-ghost use Rattle.std.specs.Prelude.{◌≡◌, ◌+◌, ◌<◌, ◌≤◌, List, [], ◌∷◌, length, slice_get, Some, true, IfOk};
+ghost use Rattle.std.specs.Prelude.{◌≡◌, ◌+◌, ◌<◌, ◌≤◌, List, [], ◌∷◌, length, slice_get, Some, None, true, IfOk};
 ghost use Rattle.desk.specs.Ahead.{IsNarrowRun};
-ghost use Rattle.desk.specs.Desk.{counted, Fits, IsNext, IsMatched};
+ghost use Rattle.cells.specs.Entries.{found_at, AreNarrow};
+ghost use Rattle.desk.specs.Desk.{counted, Fits, IsFinished, IsNext, IsMatched};
 
 use crate::advance::beginning;
 use crate::ahead::{Halt, Stage, turn_on};
@@ -20,6 +21,23 @@ pub(crate) enum Next {
     Ended(Found),
     /// It would compare the last byte of a window behind which there is more.
     Need,
+}
+
+// Turns the last frame into its cell, and goes on with the frame below it.
+#[inline(always)]
+fn finish(cells: &mut Cells, below: &mut Frames, top: Frame, found: Found) -> Result<Next, Memory>
+    requires free { found_at cells.old top.node top.place ≡ None }
+    requires narrow { AreNarrow top.node top.place found }
+    ensures { IfOk result (IsFinished cells.old below.old top found cells.new below.new) }
+{
+    cells.put_narrow(top.node, top.place, found)?;
+    match below.take() {
+        Some(frame) => Ok(Next::More(Stage {
+            top: frame,
+            back: true,
+        })),
+        None => Ok(Next::Ended(found)),
+    }
 }
 
 /// Goes on with the last frame, that of `stage`; those below it are kept apart.
@@ -44,16 +62,8 @@ fn go_on(
         Err(Halt::Memory) => Err(Memory),
         Err(Halt::Short) => Ok(Next::Need),
         Ok(Turn::Need) => Ok(Next::Need),
-        Ok(Turn::Answer(found)) => {
-            cells.put_narrow(top.node, top.place, found)?;
-            match below.take() {
-                Some(frame) => Ok(Next::More(Stage {
-                    top: frame,
-                    back: true,
-                })),
-                None => Ok(Next::Ended(found)),
-            }
-        }
+        Ok(Turn::Answer(Found::Failed)) => finish(cells, below, top, Found::Failed),
+        Ok(Turn::Answer(Found::Took(end))) => finish(cells, below, top, Found::Took(end)),
         Ok(
             Turn::Ask {
                 node,

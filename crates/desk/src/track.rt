@@ -1,6 +1,5 @@
 //! Frames of a walk, with room for as many as there are cells.
-ghost use Rattle.std.specs.Prelude.{◌≡◌, ◌<◌, ◌≤◌, ◌↔◌, true, List, [], ◌∷◌, length, OnOk};
-ghost use Rattle.desk.specs.Ahead.{come_to};
+ghost use Rattle.std.specs.Prelude.{◌≡◌, ◌<◌, ◌≤◌, [], ◌∷◌, length, IfSome, IfNone, OnOk};
 ghost use Rattle.desk.specs.declared.frame.Frame.{Frame};
 
 use crate::frame::Frame;
@@ -46,50 +45,22 @@ impl Track {
         Ok(())
     }
 
-    pub(crate) fn is_empty(&self) -> bool
-        ensures { (result ≡ true) ↔ (self.now.frames ≡ []) }
-    {
-        self.frames.is_empty()
-    }
-
-    /// Returns the last frame.
-    pub(crate) fn top(&self) -> Frame
-        requires { (top : Frame) × (below : List Frame) × (self.now.frames ≡ top ∷ below) }
-        ensures { (top : Frame) (below : List Frame) → self.now.frames ≡ top ∷ below → result ≡ top }
-    {
-        self.frames[self.frames.len() - 1]
-    }
-
     /// Adds a frame; there must be room for it.
     pub(crate) fn push(&mut self, frame: Frame)
         requires { length self.old.frames < self.old.room }
         ensures frames { self.new.frames ≡ frame ∷ self.old.frames }
         ensures room { self.old.room ≤ self.new.room }
     {
-        match self.frames.push(frame) {
-            Ok(()) => {}
-            Err(_) => unreachable!(),
-        }
+        self.frames.push_reserved(frame);
     }
 
-    /// Brings the last frame further.
-    pub(crate) fn come_on(&mut self, next: usize, end: usize)
-        requires { (top : Frame) × (below : List Frame) × (self.old.frames ≡ top ∷ below) }
-        ensures frames { (top : Frame) (below : List Frame) → self.old.frames ≡ top ∷ below
-            → self.new.frames ≡ come_to top next end ∷ below }
+    /// Takes the last frame, if there is one.
+    #[inline(always)]
+    pub(crate) fn take(&mut self) -> Option<Frame>
+        ensures some { IfSome result (λ frame. self.old.frames ≡ frame ∷ self.new.frames) }
+        ensures none { IfNone result ((self.old.frames ≡ []) × (self.new.frames ≡ [])) }
         ensures room { self.new.room ≡ self.old.room }
     {
-        let last = self.frames.len() - 1;
-        let frame = &mut self.frames[last];
-        frame.next = next;
-        frame.end = end;
-    }
-
-    /// Drops the last frame.
-    pub(crate) fn pop(&mut self)
-        ensures frames { (top : Frame) (below : List Frame) → self.old.frames ≡ top ∷ below → self.new.frames ≡ below }
-        ensures room { self.new.room ≡ self.old.room }
-    {
-        self.frames.pop();
+        self.frames.pop()
     }
 }

@@ -1,5 +1,5 @@
 //! Where a success goes on, from the cells: its events in path order.
-ghost use Rattle.std.specs.Prelude.{◌≡◌, ℕ, ◌+◌, ◌<◌, Bool, true, List, length, get_or, slice_get, Some, IfSome};
+ghost use Rattle.std.specs.Prelude.{◌≡◌, ℕ, ◌+◌, ◌<◌, ◌≤◌, Bool, true, List, length, get_or, slice_get, Some, IfSome};
 ghost use Rattle.pegread.specs.PegViews.{rules_of};
 ghost use Rattle.gramcheck.specs.Grammar.{IsSoundGrammar};
 ghost use Rattle.gramcheck.specs.Nodes.{Shape, shapes_of};
@@ -9,7 +9,7 @@ ghost use Rattle.cells.specs.declared.cell.Found.{Found};
 ghost use Rattle.cells.specs.Entries.{Entry, found_at};
 ghost use Rattle.desk.specs.Desk.{beginning};
 ghost use Rattle.desk.specs.State.{HaveFailed, AreCells};
-ghost use Rattle.desk.specs.Path.{EndsBy, IsLeft, IsWay, opt_way, star_way, seq_way, choice_way};
+ghost use Rattle.desk.specs.Path.{EndsBy, IsHeard, IsLeft, IsPast, IsWay, opt_way, star_way, choice_way};
 
 use crate::frame::Frame;
 use cells::{Cells, Found};
@@ -115,36 +115,92 @@ fn success_of(peg: &SoundPeg, cells: &Cells, node: usize, place: usize) -> Optio
     }
 }
 
-// Through the next member.
-fn seq(peg: &SoundPeg, cells: &Cells, members: &[usize], next: usize, end: usize) -> Way
+// So many members of a sequence are done, and end there.
+#[derive(Clone, Copy, PartialEq, Eq, Debug)]
+pub(crate) struct Spot {
+    next: usize,
+    end: usize,
+}
+
+// Past the members that print nothing, to the next one that may print; none where no event is left.
+#[inline(always)]
+fn past_silent(peg: &SoundPeg, cells: &Cells, members: &[usize], frame: Frame) -> Option<Spot>
     requires sound { IsSoundGrammar peg.now }
+    requires members { slice_get (shapes_of peg.now.nodes) frame.node ≡ Some (Shape.Seq members.now) }
     requires there { (i : ℕ) → i < length members.now → get_or members.now i 0 < length peg.now.nodes }
-    ensures { (x : List ℕ) (more : Bool) → AreCells (rules_of peg.now.rules) peg.now.start (shapes_of
-        peg.now.nodes) peg.now.bodies x more cells.now →
-        (next < length members.now → (r : ℕ) × (found_at cells.now (get_or members.now next 0) end
-        ≡ Some (Found.Took r))) → result ≡ seq_way cells.now members.now next end }
+    ensures within { IfSome result (λ spot. (frame.next ≤ spot.next) × (spot.next < length members.now)) }
+    ensures past { (x : List ℕ) (more : Bool) (es : List Event) → AreCells (rules_of peg.now.rules) peg.now.start
+        (shapes_of peg.now.nodes) peg.now.bodies x more cells.now →
+        IsLeft (rules_of peg.now.rules) (shapes_of peg.now.nodes) peg.now.bodies peg.now.ranks x cells.now frame es →
+        IsPast (rules_of peg.now.rules) (shapes_of peg.now.nodes) peg.now.bodies peg.now.ranks x cells.now frame es
+        result }
 {
-    if next >= members.len() {
-        return Way::Leave;
+    let mut end = frame.end;
+    for i in frame.next..members.len() {
+        let member = members[i];
+        if !peg.is_silent(member) {
+            return Some(Spot { next: i, end });
+        }
+        if i + 1 == members.len() {
+            return None;
+        }
+        match success_of(peg, cells, member, end) {
+            Some(Found::Took(after)) => end = after,
+            Some(Found::Failed) => return None,
+            None => return None,
+        }
     }
-    let member = members[next];
-    match success_of(peg, cells, member, end) {
-        Some(Found::Took(after)) => Way::GoInto {
-            node: member,
-            place: end,
-            next: next + 1,
-            end: after,
-        },
-        _ => Way::Leave,
+    None
+}
+
+// Through the next member that may print; with the last member the frame is done.
+#[inline(always)]
+fn seq(peg: &SoundPeg, cells: &Cells, members: &[usize], frame: Frame) -> Way
+    requires sound { IsSoundGrammar peg.now }
+    requires members { slice_get (shapes_of peg.now.nodes) frame.node ≡ Some (Shape.Seq members.now) }
+    requires there { (i : ℕ) → i < length members.now → get_or members.now i 0 < length peg.now.nodes }
+    ensures { (x : List ℕ) (more : Bool) (es : List Event) → AreCells (rules_of peg.now.rules) peg.now.start (shapes_of
+        peg.now.nodes) peg.now.bodies x more cells.now →
+        IsLeft (rules_of peg.now.rules) (shapes_of peg.now.nodes) peg.now.bodies peg.now.ranks x cells.now frame es →
+        IsWay (rules_of peg.now.rules) (shapes_of peg.now.nodes) peg.now.bodies peg.now.ranks x cells.now frame es
+        result }
+{
+    match past_silent(peg, cells, members, frame) {
+        Some(Spot { next, end }) => {
+            let member = members[next];
+            if next + 1 == members.len() {
+                return Way::TurnTo {
+                    node: member,
+                    place: end,
+                };
+            }
+            match success_of(peg, cells, member, end) {
+                Some(Found::Took(after)) => Way::GoInto {
+                    node: member,
+                    place: end,
+                    next: next + 1,
+                    end: after,
+                },
+                Some(Found::Failed) => Way::Leave,
+                None => Way::Leave,
+            }
+        }
+        None => Way::Leave,
     }
 }
 
-// To the first alternative that succeeded.
-fn choice(cells: &Cells, alternatives: &[usize], place: usize) -> Way
-    ensures { result ≡ choice_way cells.now alternatives.now place }
+// To the first alternative that succeeded, and nowhere where that prints nothing.
+fn choice(peg: &SoundPeg, cells: &Cells, alternatives: &[usize], place: usize) -> Way
+    requires sound { IsSoundGrammar peg.now }
+    requires there { (i : ℕ) → i < length alternatives.now → get_or alternatives.now i 0 < length peg.now.nodes }
+    ensures { IsHeard (rules_of peg.now.rules) (shapes_of peg.now.nodes) (choice_way cells.now alternatives.now place)
+        result }
 {
     for alternative in alternatives {
         if let Some(Found::Took(_)) = cells.get(*alternative, place) {
+            if peg.is_silent(*alternative) {
+                return Way::Leave;
+            }
             return Way::TurnTo {
                 node: *alternative,
                 place,
@@ -173,8 +229,8 @@ pub(crate) fn next_way(peg: &SoundPeg, cells: &Cells, frame: Frame) -> Way
             node: peg.body_node(*id),
             place,
         },
-        Node::Seq(members) => seq(peg, cells, members, frame.next, frame.end),
-        Node::Choice(alternatives) => choice(cells, alternatives, place),
+        Node::Seq(members) => seq(peg, cells, members, frame),
+        Node::Choice(alternatives) => choice(peg, cells, alternatives, place),
         Node::Star(operand) => star(cells, frame.node, *operand, place, frame.next, frame.end),
         Node::Plus {
             operand,

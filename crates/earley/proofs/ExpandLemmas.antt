@@ -158,33 +158,27 @@ none_views flat j [] k is = refl
 none_views flat j (f ∷ fronts) zero is = absurd cc
 none_views flat j (f ∷ fronts) (suc k) is = none_views flat (suc j) fronts k is
 
-pub completed_on : (flat : code_flat.Tables) (fronts : List Front) (item : Item) (front : Front) (old new : List Item)
-    → done_of flat item ≡ true → slice_get fronts item.origin ≡ Some front →
-    Adds (IsResumed flat item.node (view flat item.origin front)) old new
-    → Adds (IsCompleted flat (views flat 0 fronts) [] item) old new
-completed_on flat fronts item front old new done is p =
-    let z : 0 + item.origin ≡ item.origin = omega arith in
-    let at_origin : slice_get (views flat 0 fronts) item.origin ≡ Some (view flat item.origin front) =
-    get_views flat 0 fronts item.origin front is ∙ ap (λ v. Some (view flat v front)) z in
-    let waits : waiting_in (views flat 0 fronts) [] item.origin ≡ view flat item.origin front =
-    ap (λ v. waiting_or [] v) at_origin in
-    adds_as (IsResumed flat item.node (view flat item.origin front)) (IsCompleted flat (views flat 0 fronts) [] item)
-    old new
-    (λ a r. record { done = done; resumed = subst (λ v. IsResumed flat item.node v a) (sym waits) r })
-    (λ a c. subst (λ v. IsResumed flat item.node v a) waits c.resumed) p
+-- what waits in the set of an origin, if there is one
+pub waiting_some : (flat : code_flat.Tables) (fronts : List Front) (origin : ℕ) (front : Front)
+    → slice_get fronts origin ≡ Some front → waiting_in (views flat 0 fronts) [] origin ≡ view flat origin front
+waiting_some flat fronts origin front is =
+    let z : 0 + origin ≡ origin = omega arith in
+    ap (λ v. waiting_or [] v) (get_views flat 0 fronts origin front is ∙ ap (λ v. Some (view flat v front)) z)
+
+pub waiting_none : (flat : code_flat.Tables) (fronts : List Front) (origin : ℕ) → slice_get fronts origin ≡ None
+    → waiting_in (views flat 0 fronts) [] origin ≡ []
+waiting_none flat fronts origin is = ap (λ v. waiting_or [] v) (none_views flat 0 fronts origin is)
+
+pub completed_from : (flat : code_flat.Tables) (sets : List (List Item)) (item : Item) (old new : List Item)
+    → done_of flat item ≡ true → Adds (IsResumed flat item.node (waiting_in sets [] item.origin)) old new
+    → Adds (IsCompleted flat sets [] item) old new
+completed_from flat sets item old new done p =
+    adds_as (IsResumed flat item.node (waiting_in sets [] item.origin)) (IsCompleted flat sets [] item) old new
+    (λ a r. record { done = done; resumed = r }) (λ a c. c.resumed) p
 
 pub completed_undone : (flat : code_flat.Tables) (sets : List (List Item)) (item : Item) (old : List Item)
     → (done_of flat item ≡ true → ⊥) → Adds (IsCompleted flat sets [] item) old old
 completed_undone flat sets item old never = adds_none (IsCompleted flat sets [] item) old (λ a c. absurd (never c.done))
-
-pub completed_here : (flat : code_flat.Tables) (fronts : List Front) (item : Item) (old : List Item)
-    → slice_get fronts item.origin ≡ None → Adds (IsCompleted flat (views flat 0 fronts) [] item) old old
-completed_here flat fronts item old is = adds_none (IsCompleted flat (views flat 0 fronts) [] item) old
-    (λ a c. nobody a c.resumed.from (subst (λ v. In c.resumed.from (waiting_or [] v))
-    (none_views flat 0 fronts item.origin is) c.resumed.waits))
-  where
-    nobody : (a b : Item) → In b [] → In a old
-    nobody a b h = elim h [ ]
 
 pub one_on : (flat : code_flat.Tables) (item : Item) (root next : ℕ) (old new : List Item)
     → call_of flat item ≡ Some (root, next) → null_of flat root ≡ true → takes_of flat item ≡ false

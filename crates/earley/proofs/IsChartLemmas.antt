@@ -30,7 +30,7 @@ get_there (x ∷ xs) zero lt = record { what = x; is = refl }
 get_there (x ∷ xs) (suc k) lt = let less : k < length xs = omega arith in let t = get_there xs k less in
     record { what = t.what; is = t.is }
 
-get_front : {A : Type 0} (xs : List A) (j k : ℕ) → k < j → slice_get (take j xs) k ≡ slice_get xs k
+pub get_front : {A : Type 0} (xs : List A) (j k : ℕ) → k < j → slice_get (take j xs) k ≡ slice_get xs k
 get_front [] zero k lt = refl
 get_front [] (suc j) k lt = refl
 get_front (x ∷ xs) zero k lt = absurd (omega arith)

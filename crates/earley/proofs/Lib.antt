@@ -14,6 +14,7 @@ pub mod IsVerdictLemmas
 pub mod IsWorkedLemmas
 pub mod ItemLemmas
 pub mod ItemRowsLemmas
+pub mod RecordsLemmas
 pub mod SetAtMostLemmas
 pub mod SetsLemmas
 pub mod ViewsLemmas

@@ -99,17 +99,15 @@ goes_nowhere old new is = ([], is ∙ sym (append-nil old))
 -- a set that stands there stands there on
 front_same : (old new : Stores) (b : Bounds) → GoOn old new → AreBounds old b → front_in new b ≡ front_in old b
 front_same old new b go are =
-    let one = part_same old.heads.items new.heads.items b.heads go.heads are.heads in
+    let one = part_same old.records.items new.records.items b.records go.records are.records in
     let two = part_same old.items.items new.items.items b.items go.items are.items in
-    let three = part_same old.firsts.items new.firsts.items b.firsts go.firsts are.firsts in
-    let four = front_part_same old.waits.items new.waits.items b.waits go.waits are.waits in
-    rw (one, two, three, four) refl
+    let three = front_part_same old.waits.items new.waits.items b.waits go.waits are.waits in
+    rw (one, two, three) refl
 
 bounds_same : (old new : Stores) (b : Bounds) → GoOn old new → AreBounds old b → AreBounds new b
 bounds_same old new b go are = record {
-  heads = part_within old.heads.items new.heads.items b.heads go.heads are.heads;
+  records = part_within old.records.items new.records.items b.records go.records are.records;
   items = part_within old.items.items new.items.items b.items go.items are.items;
-  firsts = part_within old.firsts.items new.firsts.items b.firsts go.firsts are.firsts;
   waits = (let size = go_longer old.waits.items new.waits.items go.waits in
       let within = are.waits in omega (arith, within, size));
 }

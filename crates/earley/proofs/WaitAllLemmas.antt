@@ -14,9 +14,9 @@ use Rattle.flatgrammar.proofs.CallOfLemmas.{some_same, equal_or}
 use Rattle.flatgrammar.proofs.InLemmas.{in_left, at_end, before_end}
 use Rattle.earley.specs.declared.wait.Wait.{Wait}
 use Rattle.earley.specs.ItemSets.{Adds, IsResumed}
-use Rattle.earley.specs.Fronts.{Front}
+use Rattle.earley.specs.Fronts.{Front, GoesOn}
 use Rattle.earley.specs.FrontViews.{view}
-use Rattle.earley.specs.Waiting.{IsPassedTo, Chain, ended, linked, IsListed, asked_at, AreWaiting}
+use Rattle.earley.specs.Waiting.{IsSkippedTo, Chain, ended, linked, IsListed, asked_at, AreWaiting}
 use Rattle.earley.specs.Waiting.{AreWaitingAll}
 use Rattle.flatgrammar.specs.Blocks.{item_at, block_of, inner_of, lists_of, spots_of, AreSpotLists}
 use Rattle.flatgrammar.specs.declared.spot_list.Ask.{Ask}
@@ -98,14 +98,14 @@ pub along_end : (waits : List Wait) (at : ℕ) (es old new : List Item) → IsAl
 along_end waits at es old new along le = along.whole new
     (adds_none (λ a. In a along.rest) new (λ a h. elim (subst (λ v. In a v) (chain_none along.chain le) h) [ ]))
 
-pub passed_start : (waits : List Wait) (first : ℕ) (es set : List Item) → Chain waits first es
-    → IsPassedTo waits first es set
-passed_start waits first es set c = record { rest = es; chain = c; seen = λ a h. inr h; left = λ a h. h }
+pub skipped_start : (waits : List Wait) (first : ℕ) (es set : List Item) → Chain waits first es
+    → IsSkippedTo waits first es set
+skipped_start waits first es set c = record { rest = es; chain = c; seen = λ a h. inr h; left = λ a h. h }
 
-pub passed_next : (waits : List Wait) (at : ℕ) (es now_there : List Item) (d : Wait) → IsPassedTo waits at es now_there
-    → 0 < at → In (slice_index_or waits (at - 1) d).item now_there
-    → IsPassedTo waits (slice_index_or waits (at - 1) d).next es now_there
-passed_next waits at es now_there d p pos there =
+pub skipped_next : (waits : List Wait) (at : ℕ) (es now_there : List Item) (d : Wait)
+    → IsSkippedTo waits at es now_there → 0 < at → In (slice_index_or waits (at - 1) d).item now_there
+    → IsSkippedTo waits (slice_index_or waits (at - 1) d).next es now_there
+skipped_next waits at es now_there d p pos there =
     let n = chain_next d p.chain pos in
     record {
       rest = n.rest;
@@ -121,9 +121,9 @@ passed_next waits at es now_there d p pos there =
     by a rest (inr (on h)) = inr h
 
 -- what was passed over stands in the set
-pub along_passed : (waits : List Wait) (at next : ℕ) (es old new : List Item) → (along : IsAlong waits at es old new)
-    → IsPassedTo waits next along.rest new → IsAlong waits next es old new
-along_passed waits at next es old new along p = record {
+pub along_skipped : (waits : List Wait) (at next : ℕ) (es old new : List Item) → (along : IsAlong waits at es old new)
+    → IsSkippedTo waits next along.rest new → IsAlong waits next es old new
+along_skipped waits at next es old new along p = record {
   rest = p.rest;
   chain = p.chain;
   whole = λ last adds. along.whole last (record {
@@ -159,6 +159,12 @@ pub listed_adds : {waits : List Wait} {first : ℕ} {Q : Item → Type 0} {old n
     → Adds (λ a. In a l.items) old new → Adds Q old new
 listed_adds {Q = Q} {old = old} {new = new} l adds = adds_as (λ a. In a l.items) Q old new (λ a h. l.only a h)
     (λ a h. l.all a h) adds
+
+-- such a list among more
+pub listed_chain : {waits all : List Wait} {first from : ℕ} {Q : Item → Type 0} (l : IsListed waits first Q)
+    → first ≡ from → GoesOn waits all → Chain all from l.items
+listed_chain {waits = waits} {all = all} {from = from} l same go = subst (λ v. Chain v from l.items) (sym go.1)
+    (subst (λ n. Chain (waits ++ go.0) n l.items) same (chain_more go.0 l.chain))
 
 asked_spots : (j : ℕ) (asks : List Ask) → map (asked_at j) asks ≡ map (item_at j) (spots_of asks)
 asked_spots j [] = refl

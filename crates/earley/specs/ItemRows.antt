@@ -1,10 +1,12 @@
 -- Items linked by rows: each names the last one before it in its row, and each row its last one.
 use Rattle.std.specs.Prelude.{◌≡◌, ℕ, ◌+◌, ◌-◌, ◌*◌, ◌%◌, ◌^◌, ◌<◌, ◌≤◌, List, Some, slice_get, length, bit_and}
-use Rattle.std.specs.Prelude.{Bool, IsTrue}
 use Rattle.flatgrammar.specs.declared.flat_item.Item.{Item}
 
+-- places a few numbers apart are mixed, and the origins of a place take every fourth row
 unfoldable pub row_of : ℕ → Item → ℕ
-row_of count a = bit_and (((a.origin * 8 % 2 ^ 64) + (a.node + a.step) % 2 ^ 64) % 2 ^ 64) (count - 1)
+row_of count a =
+    bit_and (((a.origin * 4 % 2 ^ 64) + ((a.node + a.step) % 2 ^ 64 * 11400714819323198059 % 2 ^ 64)) % 2 ^ 64)
+    (count - 1)
 
 abbrev pub IsIn : (Item → ℕ) → List Item → ℕ → ℕ → Type 0
 IsIn row list b j = (a : Item) × (slice_get list j ≡ Some a) × (row a ≡ b)
@@ -28,7 +30,8 @@ pub record AreLinked (row : Item → ℕ) (list : List Item) (links rows : List 
       → IsLast row list i (row a) l
   pub last : (b h : ℕ) → slice_get rows b ≡ Some h → IsLast row list (length list) b (h - base)
 
--- the rows of some items, linked or not
-pub record AreRows (list : List Item) (links rows : List ℕ) (base : ℕ) (flag : Bool) : Type 0 where
+-- the rows of some items, which are linked while they are fewer than `room`
+pub record AreRows (list : List Item) (links rows : List ℕ) (base room : ℕ) : Type 0 where
   pub within : AreWithin list rows base
-  pub linked : IsTrue flag → AreLinked (row_of (length rows)) list links rows base
+  pub linked : length list < room → AreLinked (row_of (length rows)) list links rows base
+  pub fits : base + room < 2 ^ 64

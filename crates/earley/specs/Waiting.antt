@@ -18,7 +18,7 @@ pub data Chain (waits : List Wait) : ℕ → List Item → Type 0 where
       → Chain waits (suc k) (w.item ∷ items)
 
 -- what a list has before a link stands in a set, and the rest is listed from that link on
-pub record IsPassedTo (waits : List Wait) (at : ℕ) (items set : List Item) : Type 0 where
+pub record IsSkippedTo (waits : List Wait) (at : ℕ) (items set : List Item) : Type 0 where
   pub rest : List Item
   pub chain : Chain waits at rest
   pub seen : (a : Item) → In a items → In a set ⊎ In a rest

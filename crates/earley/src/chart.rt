@@ -17,7 +17,7 @@ ghost use Rattle.flatgrammar.specs.Places.{In, AreDifferent, places};
 ghost use Rattle.flatgrammar.specs.Flat.{Place};
 ghost use Rattle.flatgrammar.specs.Holds.{Holds};
 ghost use Rattle.letters.specs.Letters.{has};
-ghost use Rattle.earley.specs.Fronts.{Front as front};
+ghost use Rattle.earley.specs.Fronts.{Front as front, heads_of};
 
 use crate::fill::fill;
 use crate::front::Front;
@@ -27,7 +27,7 @@ use crate::items::Items;
 use crate::later::{Homed, Later};
 use crate::letter_law::values_are_letters;
 use crate::read_front::read;
-use crate::sets::{Filled, Sets};
+use crate::sets::{Filled, Record, Sets};
 use flatgrammar::{Flat, Item, Spot, Tables, items_tell, spots, whole_root};
 use letters::Letter;
 use ruletable::Memory;
@@ -214,11 +214,11 @@ fn in_spots(spots: &[Spot], number: usize, item: Item) -> bool
     false
 }
 
-fn in_heads(flat: &Tables, heads: &[usize], number: usize, item: Item) -> bool
-    ensures { IsTrue result ↔ In item (expand (block_of flat.now) number heads.now) }
+fn in_heads(flat: &Tables, records: &[Record], number: usize, item: Item) -> bool
+    ensures { IsTrue result ↔ In item (expand (block_of flat.now) number (heads_of records.now)) }
 {
-    for head in heads {
-        if in_spots(spots(flat, *head), number, item) {
+    for record in records {
+        if in_spots(spots(flat, record.head), number, item) {
             return true;
         }
     }
@@ -229,7 +229,7 @@ fn in_heads(flat: &Tables, heads: &[usize], number: usize, item: Item) -> bool
 fn stands(flat: &Tables, front: &Front<'_>, number: usize, item: Item) -> bool
     ensures { IsTrue result ↔ In item (view flat.now number front.now) }
 {
-    if in_heads(flat, front.heads(), number, item) {
+    if in_heads(flat, front.records(), number, item) {
         return true;
     }
     holds(front.items(), item)

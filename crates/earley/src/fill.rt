@@ -13,15 +13,14 @@ ghost use Rattle.earley.specs.Waiting.{Chain, AreWaiting, AreWaitingAll, BeginHe
 ghost use Rattle.flatgrammar.specs.declared.flat_item.Item as code_item;
 ghost use Rattle.flatgrammar.specs.declared.tables.Tables as code_flat;
 ghost use Rattle.earley.specs.Chosen.{items_of, ReadsSome, AreChosen, AreCallers};
-ghost use Rattle.earley.specs.Fronts.{Front as the_front};
+ghost use Rattle.earley.specs.Fronts.{heads_of};
 ghost use Rattle.earley.specs.FrontViews.{expand, full, view, views, IsAsked, IsOn, IsFurther, IsGoing};
 
-use crate::front::Front;
 use crate::heads::Heads;
 use crate::items::Items;
 use crate::later::{Homed, Later, keep_caller, keep_reader};
-use crate::sets::Sets;
-use crate::wait::{Wait, first_at};
+use crate::sets::{Record, Sets};
+use crate::wait::Wait;
 use flatgrammar::{
     Deed, Item, Spot, Tables, call, calls, deed_of, null, passes, sole_caller, spots,
 };
@@ -86,15 +85,15 @@ fn resume_spots(
 fn resume_heads(
     flat: &Tables,
     root: usize,
-    heads: &[usize],
+    records: &[Record],
     origin: usize,
     set: &mut Items,
 ) -> Result<(), Memory>
-    ensures { IfOk result (λ done. Adds (IsResumed flat.now root (expand (block_of flat.now) origin heads.now)) set.old
-        set.new) }
+    ensures { IfOk result (λ done. Adds (IsResumed flat.now root
+        (expand (block_of flat.now) origin (heads_of records.now))) set.old set.new) }
 {
-    for head in heads {
-        resume_spots(flat, root, spots(flat, *head), origin, set)?;
+    for record in records {
+        resume_spots(flat, root, spots(flat, record.head), origin, set)?;
     }
     Ok(())
 }
@@ -108,26 +107,15 @@ fn resume_all(
     origin: usize,
     set: &mut Items,
 ) -> Result<(), Memory>
-    ensures { (f : the_front) → slice_get sets.now origin ≡ Some f
-        → IfOk result (λ done. Adds (IsResumed flat.now root (view flat.now origin f)) set.old set.new) }
+    ensures { IfOk result (λ done. Adds (IsResumed flat.now root (waiting_in (views flat.now 0 sets.now) [] origin))
+        set.old set.new) }
 {
     let Some(front) = sets.get(origin) else {
         return Ok(());
     };
-    resume_heads(flat, root, front.heads(), origin, set)?;
+    resume_heads(flat, root, front.records(), origin, set)?;
     resume(flat, root, front.items(), set)?;
     Ok(())
-}
-
-/// Returns the home, if it is the index of that head.
-fn home_of(heads: &[usize], home: usize, head: usize) -> Option<usize>
-    ensures { IfSome result (λ index. slice_get heads.now index ≡ Some head) }
-{
-    if home < heads.len() && heads[home] == head {
-        Some(home)
-    } else {
-        None
-    }
 }
 
 /// Adds what is listed from a link on.
@@ -141,29 +129,21 @@ fn go_along(waits: &[Wait], first: usize, set: &mut Items) -> Result<(), Memory>
     while at > 0 {
         let wait = waits[at - 1];
         set.add(wait.item, wait.home)?;
-        at = set.pass_on(waits, wait.next);
+        at = set.skip_from(waits, wait.next);
     }
     Ok(())
 }
 
 /// Adds what goes on from the set of an item's origin where the item's root is done, as it is listed there.
 #[inline(always)]
-fn go_back(
-    flat: &Tables,
-    sets: &Sets,
-    front: &Front<'_>,
-    at: Homed,
-    set: &mut Items,
-) -> Result<(), Memory>
-    requires there { slice_get sets.now at.item.origin ≡ Some front.now }
+fn go_back(flat: &Tables, sets: &Sets, at: Homed, set: &mut Items) -> Result<(), Memory>
     requires own { inner_of flat.now at.item.node ≡ None }
-    requires waiting { AreWaiting flat.now (view flat.now at.item.origin front.now) front.now.heads front.now.firsts
-        front.now.waits }
-    ensures { IfOk result (λ done. Adds (IsResumed flat.now at.item.node (view flat.now at.item.origin front.now))
-        set.old set.new) }
+    requires waiting { AreWaitingAll flat.now sets.now }
+    ensures { IfOk result (λ done. Adds (IsResumed flat.now at.item.node
+        (waiting_in (views flat.now 0 sets.now) [] at.item.origin)) set.old set.new) }
 {
-    match home_of(front.heads(), at.home, at.item.node) {
-        Some(index) => go_along(front.waits(), first_at(front.firsts(), index), set)?,
+    match sets.first(at.home, at.item.node, at.item.origin) {
+        Some(first) => go_along(sets.waits(), first, set)?,
         None => resume_all(flat, at.item.node, sets, at.item.origin, set)?,
     }
     Ok(())
@@ -172,36 +152,26 @@ fn go_back(
 /// Adds what goes on from the set of an item's origin where the item's root is done. If one place alone calls the root,
 /// that place goes on.
 #[inline(always)]
-fn go_on(
-    flat: &Tables,
-    sets: &Sets,
-    front: &Front<'_>,
-    at: Homed,
-    set: &mut Items,
-) -> Result<(), Memory>
-    requires there { slice_get sets.now at.item.origin ≡ Some front.now }
+fn go_on(flat: &Tables, sets: &Sets, at: Homed, set: &mut Items) -> Result<(), Memory>
     requires alone { AreAlone flat.now }
-    requires begun { BeginHere flat.now at.item.origin (view flat.now at.item.origin front.now) }
-    requires waiting { AreWaiting flat.now (view flat.now at.item.origin front.now) front.now.heads front.now.firsts
-        front.now.waits }
-    ensures { IfOk result (λ done. Adds (IsResumed flat.now at.item.node (view flat.now at.item.origin front.now))
-        set.old set.new) }
+    requires begun { BeginAll flat.now sets.now }
+    requires waiting { AreWaitingAll flat.now sets.now }
+    ensures { IfOk result (λ done. Adds (IsResumed flat.now at.item.node
+        (waiting_in (views flat.now 0 sets.now) [] at.item.origin)) set.old set.new) }
 {
     let Some(inner) = sole_caller(flat, at.item.node) else {
-        return go_back(flat, sets, front, at, set);
+        return go_back(flat, sets, at, set);
     };
-    if let Some(index) = home_of(front.heads(), at.home, inner.head) {
-        set.add(
-            Item {
-                node: inner.node,
-                step: inner.next,
-                origin: at.item.origin,
-            },
-            index,
-        )?;
-        return Ok(());
-    }
-    resume_all(flat, at.item.node, sets, at.item.origin, set)
+    let Some(_first) = sets.first(at.home, inner.head, at.item.origin) else {
+        return resume_all(flat, at.item.node, sets, at.item.origin, set);
+    };
+    let item = Item {
+        node: inner.node,
+        step: inner.next,
+        origin: at.item.origin,
+    };
+    set.add(item, at.home)?;
+    Ok(())
 }
 
 /// Adds what goes on from earlier sets where an item is done, which is given.
@@ -220,9 +190,7 @@ fn complete(
     ensures { IfOk result (λ done. Adds (IsCompleted flat.now (views flat.now 0 sets.now) [] at.item) set.old set.new) }
 {
     if done {
-        if let Some(front) = sets.get(at.item.origin) {
-            go_on(flat, sets, &front, at, set)?;
-        }
+        go_on(flat, sets, at, set)?;
     }
     Ok(())
 }
@@ -392,6 +360,7 @@ pub(crate) fn fill<L: Letter>(
     later.readers.clear();
     let mut item_index = 0;
     let mut head_index = 0;
+    let mut head_home = sets.home();
     let mut blocks = 0usize;
     loop {
         if item_index < items.len() {
@@ -405,8 +374,9 @@ pub(crate) fn fill<L: Letter>(
                 return Err(Memory);
             };
             blocks = sum;
-            open(flat, head, sets.len(), head_index, heads, items)?;
+            open(flat, head, sets.len(), head_home, heads, items)?;
             head_index += 1;
+            head_home = head_home.wrapping_add(1);
         } else {
             return Ok(blocks);
         }

@@ -1,14 +1,14 @@
 //! An item set of a line, where it stands.
 ghost use Rattle.std.specs.Prelude.{◌≡◌};
+ghost use Rattle.earley.specs.Fronts.{heads_of};
 
-use crate::sets::{Bounds, Stores};
-use crate::wait::Wait;
+use crate::sets::{Bounds, Record, Stores};
 use flatgrammar::Item;
 use std::marker::Model;
 
 /// Shows an item set, whose lists stand among those of the line's other sets: the heads, which are the roots that were
-/// predicted in it and whose blocks stand in it, and the items beside their blocks. `firsts` and `waits` list for each
-/// head what goes on where it is done.
+/// predicted in it and whose blocks stand in it, and the items beside their blocks. The records of the heads begin for
+/// each the list of what goes on where it is done.
 #[derive(Drop)]
 pub(crate) struct Front<'a> {
     pub(crate) stores: &'a Stores,
@@ -26,12 +26,12 @@ impl<'a> Model for Front<'a> {
 }
 
 impl<'a> Front<'a> {
-    /// Returns the heads.
+    /// Returns the records of the heads.
     #[inline(always)]
-    pub(crate) fn heads(&self) -> &'a [usize]
-        ensures { result.now ≡ self.now.heads }
+    pub(crate) fn records(&self) -> &'a [Record]
+        ensures { heads_of result.now ≡ self.now.heads }
     {
-        &self.stores.heads[self.bounds.heads.from..self.bounds.heads.to]
+        &self.stores.records[self.bounds.records.from..self.bounds.records.to]
     }
 
     /// Returns the items beside the blocks.
@@ -42,20 +42,10 @@ impl<'a> Front<'a> {
         &self.stores.items[self.bounds.items.from..self.bounds.items.to]
     }
 
-    /// Returns of each head one more than the index of the first that waits for it, or 0.
+    /// Returns the index of its first record.
     #[inline(always)]
-    pub(crate) fn firsts(&self) -> &'a [usize]
-        ensures { result.now ≡ self.now.firsts }
-    {
-        &self.stores.firsts[self.bounds.firsts.from..self.bounds.firsts.to]
-    }
-
-    /// Returns what waits for the heads, among what waits in earlier sets.
-    #[inline(always)]
-    pub(crate) fn waits(&self) -> &'a [Wait]
-        ensures { result.now ≡ self.now.waits }
-    {
-        &self.stores.waits[..self.bounds.waits]
+    pub(crate) fn home(&self) -> usize {
+        self.bounds.records.from
     }
 
     /// Returns the number of its items, those of the blocks counted.

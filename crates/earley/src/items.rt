@@ -1,10 +1,10 @@
 //! The items of a set, found fast.
-ghost use Rattle.std.specs.Prelude.{◌≡◌, ◌↔◌, ◌+◌, ◌<◌, ◌≤◌, ◌++◌, ◌∷◌, ℕ, List, [], length, slice_get, Some, IsTrue};
-ghost use Rattle.std.specs.Prelude.{IfOk, OnOk, OnErr};
+ghost use Rattle.std.specs.Prelude.{◌≡◌, ◌↔◌, ◌+◌, ◌<◌, ◌^◌, ◌≤◌, ◌++◌, ◌∷◌, ℕ, List, [], length, slice_get, Some};
+ghost use Rattle.std.specs.Prelude.{IsTrue, IfOk, OnOk, OnErr};
 ghost use Rattle.flatgrammar.specs.Places.{In};
 ghost use Rattle.flatgrammar.specs.declared.flat_item.Item as code_item;
 ghost use Rattle.earley.specs.ItemSets.{Adds};
-ghost use Rattle.earley.specs.Waiting.{Chain, IsPassedTo};
+ghost use Rattle.earley.specs.Waiting.{Chain, IsSkippedTo};
 ghost use Rattle.earley.specs.ItemRows.{row_of as the_row_of, IsLast, AreLinked, AreWithin, AreRows};
 
 use crate::item::{holds, same};
@@ -23,8 +23,9 @@ const FIRST: usize = 64;
 /// The items of a set beside its blocks, in the order in which they were added, seen as a list.
 ///
 /// Before an item is sought among more than a few, all are linked: those of one row with one another, the last one
-/// first. A row tells of an item by its number from a base on, which grows past all numbers told whenever the items are
-/// linked anew or go. So emptying takes no time, and an item is pushed without a link.
+/// first. They stay linked while there is room for them in the rows. A row tells of an item by its number from a base
+/// on, which grows past all numbers told whenever the items are linked anew or go. So emptying takes no time, and an
+/// item is pushed without a link.
 #[derive(Drop)]
 pub(crate) struct Items {
     list: Vec<Item>,
@@ -32,15 +33,15 @@ pub(crate) struct Items {
     links: Vec<usize>,
     // of each row one more than the index of its last item, and the base
     rows: Vec<usize>,
-    // of each item the index of the head that it belongs to in the set of its origin. It is not relied on
+    // of each item the index of the record of the head that it belongs to. It is not relied on
     homes: Vec<usize>,
     base: usize,
-    // whether the links and rows are those of the items
-    linked: bool,
+    // the links and rows are those of the items while there are fewer of these
+    room: usize,
 }
 
 impl Model for Items {
-    ghost use Rattle.std.specs.Prelude.{List};
+    ghost use Rattle.std.specs.Prelude.{List, length, ◌≤◌};
     ghost use Rattle.flatgrammar.specs.declared.flat_item.Item.{Item};
     ghost use Rattle.earley.specs.ItemRows.{AreRows};
 
@@ -48,10 +49,15 @@ impl Model for Items {
 
     ghost view = { λ s. s.list.items };
 
-    ghost invariant = { λ s. AreRows s.list.items s.links.items s.rows.items s.base s.linked };
+    ghost invariant = { λ s. AreRows s.list.items s.links.items s.rows.items s.base s.room
+        × (length s.list.items ≤ length s.homes.items) };
 }
 
-// The row of an item among that many.
+// An odd number whose products have mixed bits. It is near 2^64 by the golden ratio, and no small multiple of its last
+// bits is near 0.
+const MIX: usize = 11_400_714_819_323_198_059;
+
+// The row of an item among that many, a power of two. The origins of one place take every fourth row.
 #[tactic(auto, unfolding(crate::specs::ItemRows::row_of))]
 #[inline(always)]
 fn row_of(count: usize, item: Item) -> usize
@@ -59,9 +65,10 @@ fn row_of(count: usize, item: Item) -> usize
     ensures value { result ≡ the_row_of count item }
     ensures within { result < count }
 {
+    let place = item.node.wrapping_add(item.step);
     item.origin
-        .wrapping_mul(8)
-        .wrapping_add(item.node.wrapping_add(item.step))
+        .wrapping_mul(4)
+        .wrapping_add(place.wrapping_mul(MIX))
         & (count - 1)
 }
 
@@ -109,17 +116,17 @@ fn push(
     last: usize,
     item: Item,
 ) -> Result<(), Memory>
+    requires fits { base + length list.old.items + 1 < 2 ^ 64 }
     requires linked { AreLinked (the_row_of (length rows.old)) list.old.items links.old.items rows.old base }
     requires last { IsLast (the_row_of (length rows.old)) list.old.items (length list.old.items)
         (the_row_of (length rows.old) item) last }
     ensures linked { AreLinked (the_row_of (length rows.new)) list.new.items links.new.items rows.new base }
     ensures pushed { IfOk result (λ done. list.new.items ≡ list.old.items ++ item ∷ []) }
+    ensures short { length list.new.items ≤ length list.old.items + 1 }
 {
     let row = row_of(rows.len(), item);
     let index = list.len();
-    let Some(told) = base.checked_add(index + 1) else {
-        return Err(Memory);
-    };
+    let told = base + index + 1;
     set_link(links, index, last)?;
     list.push(item)?;
     rows[row] = told;
@@ -135,9 +142,11 @@ fn insert(
     base: usize,
     item: Item,
 ) -> Result<(), Memory>
+    requires fits { base + length list.old.items + 1 < 2 ^ 64 }
     requires linked { AreLinked (the_row_of (length rows.old)) list.old.items links.old.items rows.old base }
     ensures linked { AreLinked (the_row_of (length rows.new)) list.new.items links.new.items rows.new base }
     ensures added { IfOk result (λ done. Adds (λ a. a ≡ item) list.old.items list.new.items) }
+    ensures short { length list.new.items ≤ length list.old.items + 1 }
 {
     let last = rows[row_of(rows.len(), item)].saturating_sub(base);
     if !stands(list, links, rows.len(), last, item) {
@@ -202,48 +211,31 @@ fn prepare(
     relink(list, links, rows, base)
 }
 
-// Links all items, unless they are linked. `Memory` if an allocation fails.
-#[inline(always)]
+// Links all items anew. `Memory` if an allocation fails, or if the base comes to 2^64.
 fn link(
     list: &[Item],
     links: &mut Vec<usize>,
     rows: &mut Vec<usize>,
     base: &mut usize,
-    linked: &mut bool,
+    room: &mut usize,
 ) -> Result<(), Memory>
-    requires { AreRows list.now links.old.items rows.old.items base.old linked.old }
-    ensures rows { AreRows list.now links.new.items rows.new.items base.new linked.new }
+    requires { AreRows list.now links.old.items rows.old.items base.old room.old }
+    ensures rows { AreRows list.now links.new.items rows.new.items base.new room.new }
     ensures linked { OnOk result
         (AreLinked (the_row_of (length rows.new.items)) list.now links.new.items rows.new.items base.new) }
+    ensures fits { OnOk result (base.new + length list.now + 1 < 2 ^ 64) }
 {
-    if *linked {
-        return Ok(());
-    }
     let Some(next) = base.checked_add(list.len()) else {
         return Err(Memory);
     };
     *base = next;
+    *room = 0;
     prepare(list, links, rows, next)?;
-    *linked = true;
-    Ok(())
-}
-
-// Adds an item unless it is there, where all are linked. They no longer count as linked once the rows are few.
-#[inline(always)]
-fn add_linked(
-    list: &mut Vec<Item>,
-    links: &mut Vec<usize>,
-    rows: &mut [usize],
-    base: usize,
-    linked: &mut bool,
-    item: Item,
-) -> Result<(), Memory>
-    requires linked { AreLinked (the_row_of (length rows.old)) list.old.items links.old.items rows.old base }
-    ensures rows { AreRows list.new.items links.new.items rows.new base linked.new }
-    ensures added { IfOk result (λ done. Adds (λ a. a ≡ item) list.old.items list.new.items) }
-{
-    insert(list, links, rows, base, item)?;
-    *linked = list.len() < rows.len() / 2;
+    let most = rows.len().max(list.len() + 1);
+    if next.checked_add(most).is_none() {
+        return Err(Memory);
+    }
+    *room = rows.len() / 2;
     Ok(())
 }
 
@@ -253,11 +245,32 @@ fn add_few(list: &mut Vec<Item>, item: Item) -> Result<(), Memory>
     ensures added { IfOk result (λ done. Adds (λ a. a ≡ item) list.old.items list.new.items) }
     ensures more { (rows : List ℕ) (base : ℕ) → AreWithin list.old.items rows base
         → AreWithin list.new.items rows base }
+    ensures short { length list.new.items ≤ length list.old.items + 1 }
 {
     if !holds(list, item) {
         list.push(item)?;
     }
     Ok(())
+}
+
+// Adds an item unless it is there, where all are linked.
+#[inline(always)]
+fn add_linked(
+    list: &mut Vec<Item>,
+    links: &mut Vec<usize>,
+    rows: &mut [usize],
+    base: usize,
+    room: usize,
+    item: Item,
+) -> Result<(), Memory>
+    requires fits { base + length list.old.items + 1 < 2 ^ 64 }
+    requires room { base + room < 2 ^ 64 }
+    requires linked { AreLinked (the_row_of (length rows.old)) list.old.items links.old.items rows.old base }
+    ensures rows { AreRows list.new.items links.new.items rows.new base room }
+    ensures added { IfOk result (λ done. Adds (λ a. a ≡ item) list.old.items list.new.items) }
+    ensures short { length list.new.items ≤ length list.old.items + 1 }
+{
+    insert(list, links, rows, base, item)
 }
 
 // Adds an item unless it is there.
@@ -267,22 +280,30 @@ fn put(
     links: &mut Vec<usize>,
     rows: &mut Vec<usize>,
     base: &mut usize,
-    linked: &mut bool,
+    room: &mut usize,
     item: Item,
 ) -> Result<(), Memory>
-    requires { AreRows list.old.items links.old.items rows.old.items base.old linked.old }
-    ensures rows { AreRows list.new.items links.new.items rows.new.items base.new linked.new }
+    requires { AreRows list.old.items links.old.items rows.old.items base.old room.old }
+    ensures rows { AreRows list.new.items links.new.items rows.new.items base.new room.new }
     ensures added { IfOk result (λ done. Adds (λ a. a ≡ item) list.old.items list.new.items) }
+    ensures short { length list.new.items ≤ length list.old.items + 1 }
 {
-    if !*linked && list.len() < FEW {
-        return add_few(list, item);
+    if list.len() >= *room {
+        if *room == 0 && list.len() < FEW {
+            return add_few(list, item);
+        }
+        link(list, links, rows, base, room)?;
     }
-    link(list, links, rows, base, linked)?;
-    add_linked(list, links, rows, *base, linked, item)
+    add_linked(list, links, rows, *base, *room, item)
 }
 
-// Sets the home of an index.
-fn set_home(homes: &mut Vec<usize>, index: usize, home: usize) -> Result<(), Memory> {
+// Sets the home of an index, which is at most one past the last.
+#[inline(always)]
+fn set_home(homes: &mut Vec<usize>, index: usize, home: usize) -> Result<(), Memory>
+    requires { index ≤ length homes.old.items }
+    ensures room { IfOk result (λ done. index < length homes.new.items) }
+    ensures long { length homes.old.items ≤ length homes.new.items }
+{
     if index < homes.len() {
         homes[index] = home;
     } else {
@@ -310,12 +331,12 @@ fn is_near(list: &[Item], rows: &[usize], base: usize, item: Item) -> bool
 // Goes along a list from a link on, and returns the link of the first item that is not seen at once to stand among the
 // items, or 0.
 #[inline(never)]
-fn pass_near(waits: &[Wait], first: usize, list: &[Item], rows: &[usize], base: usize) -> usize
+fn skip_near(waits: &[Wait], first: usize, list: &[Item], rows: &[usize], base: usize) -> usize
     requires chain { (items : List code_item.Item) × (Chain waits.now first items) }
     requires within { AreWithin list.now rows.now base }
     ensures order { result ≤ first }
-    ensures passed { (items : List code_item.Item) → Chain waits.now first items
-        → IsPassedTo waits.now result items list.now }
+    ensures skipped { (items : List code_item.Item) → Chain waits.now first items
+        → IsSkippedTo waits.now result items list.now }
 {
     let mut at = first;
     while at > 0 {
@@ -339,7 +360,7 @@ impl Items {
             rows: Vec::new(alloc),
             homes: Vec::new(alloc),
             base: 0,
-            linked: false,
+            room: 0,
         }
     }
 
@@ -366,26 +387,25 @@ impl Items {
     }
 
     /// Returns the home of the item at that index.
-    pub(crate) fn home(&self, index: usize) -> usize {
-        match self.homes.get(index) {
-            Some(home) => *home,
-            None => 0,
-        }
+    pub(crate) fn home(&self, index: usize) -> usize
+        requires { index < length self.now }
+    {
+        self.homes[index]
     }
 
     /// Goes along a list from a link on, and returns the link of the first item that is not seen at once to stand
     /// there, or 0.
     #[inline(always)]
-    pub(crate) fn pass_on(&self, waits: &[Wait], first: usize) -> usize
+    pub(crate) fn skip_from(&self, waits: &[Wait], first: usize) -> usize
         requires { (items : List code_item.Item) × (Chain waits.now first items) }
         ensures order { result ≤ first }
-        ensures passed { (items : List code_item.Item) → Chain waits.now first items
-            → IsPassedTo waits.now result items self.now }
+        ensures skipped { (items : List code_item.Item) → Chain waits.now first items
+            → IsSkippedTo waits.now result items self.now }
     {
         if first == 0 {
             return 0;
         }
-        pass_near(waits, first, &self.list, &self.rows, self.base)
+        skip_near(waits, first, &self.list, &self.rows, self.base)
     }
 
     /// Adds an item unless it is there. `Memory` if an allocation fails.
@@ -393,19 +413,15 @@ impl Items {
     pub(crate) fn add(&mut self, item: Item, home: usize) -> Result<(), Memory>
         ensures { IfOk result (λ done. Adds (λ a. a ≡ item) self.old self.new) }
     {
-        let index = self.list.len();
+        set_home(&mut self.homes, self.list.len(), home)?;
         put(
             &mut self.list,
             &mut self.links,
             &mut self.rows,
             &mut self.base,
-            &mut self.linked,
+            &mut self.room,
             item,
-        )?;
-        if index < self.list.len() {
-            set_home(&mut self.homes, index, home)?;
-        }
-        Ok(())
+        )
     }
 
     /// Adds an item behind the others, and looks for none. `Memory` if an allocation fails.
@@ -413,10 +429,9 @@ impl Items {
     pub(crate) fn push(&mut self, item: Item, home: usize) -> Result<(), Memory>
         ensures { IfOk result (λ done. self.new ≡ self.old ++ item ∷ []) }
     {
-        let index = self.list.len();
-        self.linked = false;
+        set_home(&mut self.homes, self.list.len(), home)?;
+        self.room = 0;
         self.list.push(item)?;
-        set_home(&mut self.homes, index, home)?;
         Ok(())
     }
 
@@ -424,7 +439,7 @@ impl Items {
     pub(crate) fn clear(&mut self)
         ensures { self.new ≡ [] }
     {
-        self.linked = false;
+        self.room = 0;
         match self.base.checked_add(self.list.len()) {
             Some(next) => self.base = next,
             None => {

@@ -9,10 +9,12 @@ ghost use Rattle.earley.specs.Chosen.{items_of, ReadsSome, AreChosen};
 ghost use Rattle.flatgrammar.specs.TableViews.{read_of};
 ghost use Rattle.flatgrammar.specs.Blocks.{block_of, item_at, AreSpotLists};
 ghost use Rattle.earley.specs.FrontViews.{expand, view};
+ghost use Rattle.earley.specs.Fronts.{heads_of};
 
 use crate::front::Front;
 use crate::items::Items;
 use crate::later::Homed;
+use crate::sets::Record;
 use flatgrammar::{Item, Spot, Tables, readers, reads};
 use letters::Letter;
 use ruletable::Memory;
@@ -77,21 +79,23 @@ fn read_spots(
     Ok(())
 }
 
-/// Pushes what the blocks of heads read.
+/// Pushes what the blocks of heads read. The index of the first record is given.
 fn read_heads(
     flat: &Tables,
     value: u32,
-    heads: &[usize],
+    records: &[Record],
+    home: usize,
     origin: usize,
     set: &mut Items,
 ) -> Result<(), Memory>
     requires { AreSpotLists flat.now }
-    ensures { IfOk result (λ done. AreRead flat.now value (expand (block_of flat.now) origin heads.now) set.old
-        set.new) }
+    ensures { IfOk result (λ done. AreRead flat.now value (expand (block_of flat.now) origin (heads_of records.now))
+        set.old set.new) }
 {
-    let mut home = 0usize;
-    for head in heads {
-        read_spots(flat, value, readers(flat, *head, value), origin, home, set)?;
+    let mut home = home;
+    for record in records {
+        let readers = readers(flat, record.head, value);
+        read_spots(flat, value, readers, origin, home, set)?;
         home = home.wrapping_add(1);
     }
     Ok(())
@@ -114,7 +118,7 @@ pub(crate) fn read<L: Letter>(
         set.new) }
 {
     let value = letter.value();
-    read_heads(flat, value, from.heads(), origin, set)?;
+    read_heads(flat, value, from.records(), from.home(), origin, set)?;
     read_items(flat, value, readers, set)?;
     Ok(())
 }

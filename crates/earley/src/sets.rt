@@ -1,9 +1,10 @@
 //! The sets of a line, one behind the other.
-ghost use Rattle.std.specs.Prelude.{◌≡◌, ◌++◌, ◌∷◌, ℕ, List, [], length, slice_get, IfOk};
+ghost use Rattle.std.specs.Prelude.{◌≡◌, ◌++◌, ◌∷◌, ℕ, List, [], length, slice_get, Some, IfOk, IfSome, OnOk};
 ghost use Rattle.flatgrammar.specs.Blocks.{block_of, AreSpotLists};
 ghost use Rattle.earley.specs.Chosen.{AreCallers};
 ghost use Rattle.earley.specs.FrontViews.{expand};
-ghost use Rattle.earley.specs.Fronts.{Front as front, front_in, AreBounds, GoesOn, GoOn, IsAppended};
+ghost use Rattle.earley.specs.Fronts.{Front as front, front_in, fronts_in, AreBounds, AreStored, GoesOn, GoOn};
+ghost use Rattle.earley.specs.Fronts.{IsAppended, the_record, IsFirstOf, IsOwnPart};
 ghost use Rattle.earley.specs.Waiting.{IsKept};
 
 use crate::front::Front;
@@ -22,13 +23,20 @@ pub(crate) struct Part {
     pub(crate) to: usize,
 }
 
+/// A head of a set: its root, the number of the set, and one more than the index of the first that waits for it, or 0.
+#[derive(Clone, Copy)]
+pub(crate) struct Record {
+    pub(crate) head: usize,
+    pub(crate) set: usize,
+    pub(crate) first: usize,
+}
+
 /// Where the lists of a set stand, and the number of its items. What waits for its heads stands among the first `waits`
 /// of all that wait.
 #[derive(Clone, Copy)]
 pub(crate) struct Bounds {
-    pub(crate) heads: Part,
+    pub(crate) records: Part,
     pub(crate) items: Part,
-    pub(crate) firsts: Part,
     pub(crate) waits: usize,
     pub(crate) size: usize,
 }
@@ -46,9 +54,8 @@ pub(crate) struct Filled<'a> {
 /// Holds the lists of all sets, those of one kind one behind the other.
 #[derive(Drop)]
 pub(crate) struct Stores {
-    pub(crate) heads: Vec<usize>,
+    pub(crate) records: Vec<Record>,
     pub(crate) items: Vec<Item>,
-    pub(crate) firsts: Vec<usize>,
     pub(crate) waits: Vec<Wait>,
 }
 
@@ -61,13 +68,13 @@ pub(crate) struct Sets {
 
 impl Model for Sets {
     ghost use Rattle.std.specs.Prelude.{List};
-    ghost use Rattle.earley.specs.Fronts.{Front, fronts_in, AreAllBounds};
+    ghost use Rattle.earley.specs.Fronts.{Front, fronts_in, AreStored};
 
     ghost Value = { List Front };
 
     ghost view = { λ s. fronts_in s.stores s.bounds.items };
 
-    ghost invariant = { λ s. AreAllBounds s.stores s.bounds.items };
+    ghost invariant = { λ s. AreStored s.stores s.bounds.items };
 }
 
 // Puts a list behind another, and returns where it stands.
@@ -89,7 +96,7 @@ fn append<T: Copy>(list: &mut Vec<T>, more: &[T]) -> Result<Part, Memory>
 fn store(
     flat: &Tables,
     filled: Filled<'_>,
-    origin: usize,
+    number: usize,
     stores: &mut Stores,
 ) -> Result<Bounds, Memory>
     requires lists { AreSpotLists flat.now }
@@ -97,29 +104,73 @@ fn store(
     requires blocks { (j : ℕ) → filled.blocks ≡ length (expand (block_of flat.now) j filled.heads.now) }
     ensures more { GoOn stores.old stores.new }
     ensures bounds { IfOk result (λ bounds. AreBounds stores.new bounds) }
-    ensures kept { IfOk result (λ bounds. IsKept flat.now origin filled.entry.heads.now filled.entry.items.now
+    ensures owned { IfOk result (λ bounds. IsOwnPart number stores.old.records.items stores.new.records.items
+        bounds.records) }
+    ensures kept { IfOk result (λ bounds. IsKept flat.now number filled.entry.heads.now filled.entry.items.now
         (front_in stores.new bounds)) }
 {
     let Some(size) = filled.blocks.checked_add(filled.items.len()) else {
         return Err(Memory);
     };
-    let heads = append(&mut stores.heads, filled.heads.list())?;
     let items = append(&mut stores.items, filled.items)?;
-    let firsts = list_waits(
+    let records = list_waits(
         flat,
         filled.heads,
         filled.callers,
-        origin,
-        &mut stores.firsts,
+        number,
+        &mut stores.records,
         &mut stores.waits,
     )?;
     Ok(Bounds {
-        heads,
+        records,
         items,
-        firsts,
         waits: stores.waits.len(),
         size,
     })
+}
+
+// Puts a set behind the others.
+#[inline(always)]
+fn add_set(
+    flat: &Tables,
+    filled: Filled<'_>,
+    bounds: &mut Vec<Bounds>,
+    stores: &mut Stores,
+) -> Result<(), Memory>
+    requires stored { AreStored stores.old bounds.old.items }
+    requires lists { AreSpotLists flat.now }
+    requires callers { AreCallers flat.now filled.items.now filled.callers.now }
+    requires blocks { (j : ℕ) → filled.blocks ≡ length (expand (block_of flat.now) j filled.heads.now) }
+    ensures stored { OnOk result (AreStored stores.new bounds.new.items) }
+    ensures added { IfOk result (λ _. (f : front)
+        × ((fronts_in stores.new bounds.new.items ≡ fronts_in stores.old bounds.old.items ++ f ∷ [])
+        × IsKept flat.now (length bounds.old.items) filled.entry.heads.now filled.entry.items.now f)) }
+{
+    let more = store(flat, filled, bounds.len(), stores)?;
+    bounds.push(more)?;
+    Ok(())
+}
+
+// Empties the lists of all sets, and keeps their memory.
+fn empty(bounds: &mut Vec<Bounds>, stores: &mut Stores)
+    ensures bounds { bounds.new.items ≡ [] }
+    ensures records { stores.new.records.items ≡ [] }
+{
+    bounds.clear();
+    stores.records.clear();
+    stores.items.clear();
+    stores.waits.clear();
+}
+
+// Returns one more than the index of the first that waits for a head of a set, or 0, if its record has that index.
+#[inline(always)]
+fn first_in(records: &[Record], home: usize, head: usize, set: usize) -> Option<usize>
+    ensures { IfSome result (λ first. slice_get records.now home ≡ Some (the_record head set first)) }
+{
+    match records.get(home) {
+        Some(record) if record.head == head && record.set == set => Some(record.first),
+        _ => None,
+    }
 }
 
 impl Sets {
@@ -130,9 +181,8 @@ impl Sets {
         Sets {
             bounds: Vec::new(alloc),
             stores: Stores {
-                heads: Vec::new(alloc),
+                records: Vec::new(alloc),
                 items: Vec::new(alloc),
-                firsts: Vec::new(alloc),
                 waits: Vec::new(alloc),
             },
         }
@@ -160,8 +210,32 @@ impl Sets {
         }
     }
 
+    /// Returns one more than the index of the first that waits for a head of a set, or 0, if the head's record has that
+    /// index.
+    #[inline(always)]
+    pub(crate) fn first(&self, home: usize, head: usize, set: usize) -> Option<usize>
+        ensures { IfSome result (λ first. (f : front) × (slice_get self.now set ≡ Some f) × IsFirstOf f head first) }
+    {
+        let first = first_in(&self.stores.records, home, head, set)?;
+        Some(first)
+    }
+
+    /// Returns what waits for the heads of all sets.
+    #[inline(always)]
+    pub(crate) fn waits(&self) -> &[Wait]
+        ensures { (k : ℕ) (f : front) → slice_get self.now k ≡ Some f → GoesOn f.waits result.now }
+    {
+        &self.stores.waits
+    }
+
+    /// Returns the index that the first record of a further set has.
+    #[inline(always)]
+    pub(crate) fn home(&self) -> usize {
+        self.stores.records.len()
+    }
+
     /// Adds a set as it was filled, with what waits for its heads. `Memory` if its items are more than a number of 64
-    /// bits tells, or if an allocation fails.
+    /// bits tells, or if an allocation fails; there is no set then.
     #[inline(always)]
     pub(crate) fn push(&mut self, flat: &Tables, filled: Filled<'_>) -> Result<(), Memory>
         requires lists { AreSpotLists flat.now }
@@ -170,20 +244,19 @@ impl Sets {
         ensures { IfOk result (λ _. (f : front) × ((self.new ≡ self.old ++ f ∷ [])
             × IsKept flat.now (length self.old) filled.entry.heads.now filled.entry.items.now f)) }
     {
-        let origin = self.len();
-        let bounds = store(flat, filled, origin, &mut self.stores)?;
-        self.bounds.push(bounds)?;
-        Ok(())
+        match add_set(flat, filled, &mut self.bounds, &mut self.stores) {
+            Ok(()) => Ok(()),
+            Err(memory) => {
+                empty(&mut self.bounds, &mut self.stores);
+                Err(memory)
+            }
+        }
     }
 
     /// Empties it, and keeps its memory.
     pub(crate) fn clear(&mut self)
         ensures { self.new ≡ [] }
     {
-        self.bounds.clear();
-        self.stores.heads.clear();
-        self.stores.items.clear();
-        self.stores.firsts.clear();
-        self.stores.waits.clear();
+        empty(&mut self.bounds, &mut self.stores);
     }
 }

@@ -4,14 +4,15 @@ ghost use Rattle.flatgrammar.specs.Blocks.{block_of, AreAsks, AreSpotLists};
 ghost use Rattle.flatgrammar.specs.TableViews.{call_of};
 ghost use Rattle.flatgrammar.specs.declared.tables.Tables as code_flat;
 ghost use Rattle.flatgrammar.specs.declared.flat_item.Item as code_item;
-ghost use Rattle.earley.specs.Fronts.{part_of, GoesOn, IsPart};
+ghost use Rattle.earley.specs.Fronts.{part_of, heads_of, firsts_of, the_record, GoesOn, IsPart};
+ghost use Rattle.earley.specs.Fronts.{AreSameOwners, IsOwnPart};
 ghost use Rattle.earley.specs.FrontViews.{expand, full};
 ghost use Rattle.earley.specs.Waiting.{asked_at, item_from, AreWaiting};
 ghost use Rattle.earley.specs.Chosen.{callers_of, Calls, AreCalls, AreChosen};
 
 use crate::heads::Heads;
 use crate::later::Caller;
-use crate::sets::Part;
+use crate::sets::{Part, Record};
 use flatgrammar::{Ask, Item, Tables, asks};
 use ruletable::Memory;
 
@@ -24,14 +25,11 @@ pub(crate) struct Wait {
     pub(crate) next: usize,
 }
 
-/// Returns one more than the index of the first that waits for the head of an index, or 0.
-pub(crate) fn first_at(firsts: &[usize], index: usize) -> usize
-    ensures { result ≡ slice_index_or firsts.now index 0 }
-{
-    match firsts.get(index) {
-        Some(first) => *first,
-        None => 0,
-    }
+// Holds the number of a set, and the index of its first record, which is not relied on.
+#[derive(Clone, Copy)]
+struct SetAt {
+    number: usize,
+    home: usize,
 }
 
 // Lists an item for the head that is called before it.
@@ -40,23 +38,24 @@ fn wait_at(
     root: usize,
     item: Item,
     home: usize,
-    firsts: &mut [usize],
+    records: &mut [Record],
     waits: &mut Vec<Wait>,
 ) -> Result<(), Memory>
-    requires { length firsts.old ≡ length heads.now }
-    ensures long { length firsts.new ≡ length firsts.old }
+    requires { length records.old ≡ length heads.now }
+    ensures long { length records.new ≡ length records.old }
+    ensures same { AreSameOwners records.old records.new }
     ensures on { GoesOn waits.old.items waits.new.items }
     ensures more { IfOk result (λ done. (flat : code_flat.Tables) (seen : List code_item.Item) (step : ℕ)
         → call_of flat (item_from item step) ≡ Some (root, item.step) →
-        AreWaiting flat seen heads.now firsts.old waits.old.items →
-        AreWaiting flat (seen ++ item_from item step ∷ []) heads.now firsts.new waits.new.items) }
+        AreWaiting flat seen heads.now (firsts_of records.old) waits.old.items →
+        AreWaiting flat (seen ++ item_from item step ∷ []) heads.now (firsts_of records.new) waits.new.items) }
 {
     let Some(index) = heads.find(root) else {
         return Ok(());
     };
-    let next = firsts[index];
+    let next = records[index].first;
     waits.push(Wait { item, home, next })?;
-    firsts[index] = waits.len();
+    records[index].first = waits.len();
     Ok(())
 }
 
@@ -66,15 +65,16 @@ fn wait_spots(
     from: &[Ask],
     origin: usize,
     home: usize,
-    firsts: &mut [usize],
+    records: &mut [Record],
     waits: &mut Vec<Wait>,
 ) -> Result<(), Memory>
-    requires { length firsts.old ≡ length heads.now }
-    ensures long { length firsts.new ≡ length firsts.old }
+    requires { length records.old ≡ length heads.now }
+    ensures long { length records.new ≡ length records.old }
+    ensures same { AreSameOwners records.old records.new }
     ensures on { GoesOn waits.old.items waits.new.items }
     ensures more { IfOk result (λ done. (flat : code_flat.Tables) (seen : List code_item.Item) → AreAsks flat from.now →
-        AreWaiting flat seen heads.now firsts.old waits.old.items →
-        AreWaiting flat (seen ++ map (asked_at origin) from.now) heads.now firsts.new waits.new.items) }
+        AreWaiting flat seen heads.now (firsts_of records.old) waits.old.items →
+        AreWaiting flat (seen ++ map (asked_at origin) from.now) heads.now (firsts_of records.new) waits.new.items) }
 {
     for ask in from {
         let item = Item {
@@ -82,7 +82,7 @@ fn wait_spots(
             step: ask.next,
             origin,
         };
-        wait_at(heads, ask.root, item, home, firsts, waits)?;
+        wait_at(heads, ask.root, item, home, records, waits)?;
     }
     Ok(())
 }
@@ -92,22 +92,23 @@ fn wait_heads(
     flat: &Tables,
     heads: &Heads,
     list: &[usize],
-    origin: usize,
-    firsts: &mut [usize],
+    at: SetAt,
+    records: &mut [Record],
     waits: &mut Vec<Wait>,
 ) -> Result<(), Memory>
-    requires long { length firsts.old ≡ length heads.now }
+    requires long { length records.old ≡ length heads.now }
     requires lists { AreSpotLists flat.now }
-    ensures long { length firsts.new ≡ length firsts.old }
+    ensures long { length records.new ≡ length records.old }
+    ensures same { AreSameOwners records.old records.new }
     ensures on { GoesOn waits.old.items waits.new.items }
     ensures more { IfOk result (λ done. (seen : List code_item.Item)
-        → AreWaiting flat.now seen heads.now firsts.old waits.old.items →
-        AreWaiting flat.now (seen ++ expand (block_of flat.now) origin list.now) heads.now firsts.new
+        → AreWaiting flat.now seen heads.now (firsts_of records.old) waits.old.items →
+        AreWaiting flat.now (seen ++ expand (block_of flat.now) at.number list.now) heads.now (firsts_of records.new)
         waits.new.items) }
 {
-    let mut home = 0usize;
+    let mut home = at.home;
     for head in list {
-        wait_spots(heads, asks(flat, *head), origin, home, firsts, waits)?;
+        wait_spots(heads, asks(flat, *head), at.number, home, records, waits)?;
         home = home.wrapping_add(1);
     }
     Ok(())
@@ -117,15 +118,16 @@ fn wait_heads(
 fn wait_items(
     heads: &Heads,
     callers: &[Caller],
-    firsts: &mut [usize],
+    records: &mut [Record],
     waits: &mut Vec<Wait>,
 ) -> Result<(), Memory>
-    requires { length firsts.old ≡ length heads.now }
+    requires { length records.old ≡ length heads.now }
     ensures on { GoesOn waits.old.items waits.new.items }
-    ensures long { length firsts.new ≡ length firsts.old }
+    ensures long { length records.new ≡ length records.old }
+    ensures same { AreSameOwners records.old records.new }
     ensures more { IfOk result (λ done. (flat : code_flat.Tables) (seen : List code_item.Item)
-        → AreCalls flat callers.now → AreWaiting flat seen heads.now firsts.old waits.old.items →
-        AreWaiting flat (seen ++ callers_of callers.now) heads.now firsts.new waits.new.items) }
+        → AreCalls flat callers.now → AreWaiting flat seen heads.now (firsts_of records.old) waits.old.items →
+        AreWaiting flat (seen ++ callers_of callers.now) heads.now (firsts_of records.new) waits.new.items) }
 {
     for caller in callers {
         let item = Item {
@@ -133,7 +135,7 @@ fn wait_items(
             step: caller.next,
             origin: caller.at.item.origin,
         };
-        wait_at(heads, caller.root, item, caller.at.home, firsts, waits)?;
+        wait_at(heads, caller.root, item, caller.at.home, records, waits)?;
     }
     Ok(())
 }
@@ -143,66 +145,74 @@ fn wait_all(
     flat: &Tables,
     heads: &Heads,
     callers: &[Caller],
-    origin: usize,
-    firsts: &mut [usize],
+    at: SetAt,
+    records: &mut [Record],
     waits: &mut Vec<Wait>,
 ) -> Result<(), Memory>
     requires lists { AreSpotLists flat.now }
     requires callers { AreCalls flat.now callers.now }
-    requires long { length firsts.old ≡ length heads.now }
-    requires none { (h : ℕ) → slice_index_or firsts.old h 0 ≡ 0 }
-    ensures long { length firsts.new ≡ length firsts.old }
+    requires long { length records.old ≡ length heads.now }
+    requires none { (h : ℕ) → slice_index_or (firsts_of records.old) h 0 ≡ 0 }
+    ensures long { length records.new ≡ length records.old }
+    ensures same { AreSameOwners records.old records.new }
     ensures on { GoesOn waits.old.items waits.new.items }
     ensures more { IfOk result (λ done. (items : List code_item.Item)
         → AreChosen (Calls flat.now) items (callers_of callers.now)
-        → AreWaiting flat.now (full (block_of flat.now) origin heads.now items) heads.now firsts.new waits.new.items) }
+        → AreWaiting flat.now (full (block_of flat.now) at.number heads.now items) heads.now (firsts_of records.new)
+        waits.new.items) }
 {
-    wait_heads(flat, heads, heads.list(), origin, firsts, waits)?;
-    wait_items(heads, callers, firsts, waits)?;
+    wait_heads(flat, heads, heads.list(), at, records, waits)?;
+    wait_items(heads, callers, records, waits)?;
     Ok(())
 }
 
-// Lists nothing for any of so many heads more.
+// Adds the records of a set's heads, for which nothing waits yet.
 #[inline(always)]
-fn add_firsts(count: usize, firsts: &mut Vec<usize>) -> Result<(), Memory>
-    ensures more { GoesOn firsts.old.items firsts.new.items }
-    ensures none { IfOk result (λ done. (h : ℕ) → slice_index_or (drop (length firsts.old.items) firsts.new.items) h 0
-        ≡ 0) }
-    ensures long { IfOk result (λ done. length firsts.new.items ≡ length firsts.old.items + count) }
+fn add_records(heads: &[usize], number: usize, records: &mut Vec<Record>) -> Result<(), Memory>
+    ensures more { GoesOn records.old.items records.new.items }
+    ensures are { IfOk result (λ done. records.new.items ≡ records.old.items
+        ++ map (λ head. the_record head number 0) heads.now) }
 {
-    let Some(to) = firsts.len().checked_add(count) else {
-        return Err(Memory);
-    };
-    firsts.resize(to, 0)?;
+    records.reserve(heads.len())?;
+    for head in heads {
+        records.push_reserved(Record {
+            head: *head,
+            set: number,
+            first: 0,
+        });
+    }
     Ok(())
 }
 
-/// Lists for each head of a set what goes on where it is done, behind what is listed for other sets. Returns where the
-/// first of each head stand. Of the items those that call are given.
+/// Adds the records of a set's heads, and lists for each what goes on where it is done, behind what is listed for other
+/// sets. Returns where the records stand. Of the items those that call are given.
 #[inline(always)]
 pub(crate) fn list_waits(
     flat: &Tables,
     heads: &Heads,
     callers: &[Caller],
-    origin: usize,
-    firsts: &mut Vec<usize>,
+    number: usize,
+    records: &mut Vec<Record>,
     waits: &mut Vec<Wait>,
 ) -> Result<Part, Memory>
     requires lists { AreSpotLists flat.now }
     requires callers { AreCalls flat.now callers.now }
-    ensures firsts { GoesOn firsts.old.items firsts.new.items }
+    ensures records { GoesOn records.old.items records.new.items }
     ensures waits { GoesOn waits.old.items waits.new.items }
-    ensures part { IfOk result (λ part. IsPart part (length firsts.new.items)) }
+    ensures part { IfOk result (λ part. IsPart part (length records.new.items)) }
+    ensures own { IfOk result (λ part. IsOwnPart number records.old.items records.new.items part) }
+    ensures heads { IfOk result (λ part. heads_of (part_of records.new.items part) ≡ heads.now) }
     ensures waiting { IfOk result (λ part. (items : List code_item.Item)
         → AreChosen (Calls flat.now) items (callers_of callers.now)
-        → AreWaiting flat.now (full (block_of flat.now) origin heads.now items) heads.now
-        (part_of firsts.new.items part) waits.new.items) }
+        → AreWaiting flat.now (full (block_of flat.now) number heads.now items) heads.now
+        (firsts_of (part_of records.new.items part)) waits.new.items) }
 {
-    let from = firsts.len();
-    add_firsts(heads.len(), firsts)?;
-    wait_all(flat, heads, callers, origin, &mut firsts[from..], waits)?;
+    let from = records.len();
+    add_records(heads.list(), number, records)?;
+    let at = SetAt { number, home: from };
+    wait_all(flat, heads, callers, at, &mut records[from..], waits)?;
     Ok(Part {
         from,
-        to: firsts.len(),
+        to: records.len(),
     })
 }

@@ -11,7 +11,8 @@ add-requires-clause-free c =
     take-whole _ c.row_for.new.cells _ (sym (c.row_for.auto.cells ∙ c.deref_mut.ensures.len)) in
     let none : IsNowhere c.row_for.new.cells c.args.cell.node c.args.cell.place =
     rw (c.deref.ensures.value, whole) at c.in_default.ensures.none in
-    rw whole (free_nowhere c.row_for.new.cells c.args.cell.node c.args.cell.place none)
+    rw (c.make_room.ensures.items, whole)
+    (free_nowhere c.row_for.new.cells c.args.cell.node c.args.cell.place none)
 
 pub returns-in-Some-clause-known : goal.returns-in-Some-clause-known
 returns-in-Some-clause-known c =
@@ -26,8 +27,8 @@ returns-in-Some-clause-known c =
     c.in-Some.end (found_of c.args.cell.end)
     c.in_ok-row.ensures.kept.map same at)
 
-pub returns-in-Ok-clause-known : goal.returns-in-Ok-clause-known
-returns-in-Ok-clause-known c =
+pub returns-clause-known : goal.returns-clause-known
+returns-clause-known c =
     let whole : take c.args.cells.now.len (c.row_for.new.cells
     ++ drop (length c.row_for.new.cells) c.args.cells.now.items) ≡ c.row_for.new.cells =
     take-whole _ c.row_for.new.cells _ (sym (c.row_for.auto.cells ∙ c.deref_mut.ensures.len)) in
@@ -37,4 +38,4 @@ returns-in-Ok-clause-known c =
     rw c.deref_mut.ensures.value at c.in_ok-row.ensures.same in
     known_new (entries_of c.args.cells.now.items) _ c.args.cell.node c.args.cell.place (found_of c.args.cell.end)
     (rw (← same) (free_nowhere c.row_for.new.cells c.args.cell.node c.args.cell.place none))
-    (rw (whole, same) at c.in-Ok.ensures.added)
+    (rw (c.make_room.ensures.items, whole, same) at c.add.ensures.added)

@@ -12,4 +12,4 @@ add-requires-clause-free c =
     take-whole _ c.row_for.new.cells _ (sym (n ∙ m)) in
     let v = c.deref_mut.ensures.value in
     let same = c.in_ok-row.ensures.same in
-    rw (whole, same, v) c.requires.free
+    rw (c.make_room.ensures.items, whole, same, v) c.requires.free

@@ -1,13 +1,11 @@
 use Rattle.std.proofs.Common.{ap, Some, ◌∙◌, arith}
 use Rattle.std.proofs.lemmas.List.{length-map}
-use Rattle.gramcheck.specs.Nodes.{shape_of, shapes_of}
+use Rattle.gramcheck.specs.Nodes.{shape_of}
 use Rattle.gramcheck.proofs.NodeSpellsLemmas.{is_there}
 use Rattle.pegmatch.proofs.NodeShapeLemmas.{shape_at}
 use Rattle.desk.proofs.IsNextLemmas.{at_top}
-use Rattle.desk.proofs.IsOnLemmas.{come_stays, child_visited, halts_on, asks_name, name_on, asks_star}
-use Rattle.desk.proofs.IsOnLemmas.{star_on, star_again, asks_plus}
-use Rattle.desk.proofs.IsOnLemmas.{plus_on, plus_again, asks_opt, opt_on, asks_and, and_on, asks_not, not_on}
-use Rattle.desk.proofs.TowerLemmas.{byte_at}
+use Rattle.desk.proofs.IsOnLemmas.{come_stays, child_visited, halts_on, asks_name, name_on, asks_opt, opt_on}
+use Rattle.desk.proofs.IsOnLemmas.{asks_and, and_on, asks_not, not_on}
 use Rattle.desk.proofs.ahead.turn_on.Goals as goal
 
 pub node-requires : goal.node-requires
@@ -30,15 +28,15 @@ body_node-body-requires c =
     (c.node.ensures ∙ ap Some c.in-Name.is)) in
     omega (arith, defined, sound.spelled.count)
 
-pub see_back-requires-clause-spells : goal.see_back-requires-clause-spells
-see_back-requires-clause-spells c =
+pub see_operand-requires-clause-spells : goal.see_operand-requires-clause-spells
+see_operand-requires-clause-spells c =
     (child_visited _ _ _ c.start-start.ensures.sound _ _ _ c.requires.fits.1 _ _
     (asks_name _ _ _ c.start-start.ensures.sound _ _ _ c.requires.fits.1 _ _
     (shape_at c.args.peg.now.nodes c.args.stage.top.node _ (c.node.ensures ∙ ap Some c.in-Name.is))
     c.body_node-body.ensures)).spelled
 
-pub see_back-requires-clause-place : goal.see_back-requires-clause-place
-see_back-requires-clause-place c = (at_top _ _ _ c.start-start.ensures.sound _ _ _ c.requires.fits.1).high
+pub see_operand-requires-clause-place : goal.see_operand-requires-clause-place
+see_operand-requires-clause-place c = (at_top _ _ _ c.start-start.ensures.sound _ _ _ c.requires.fits.1).high
 
 pub returns-in-Ok : goal.returns-in-Ok
 returns-in-Ok c = λ below fits. rw c.same.ensures
@@ -52,115 +50,76 @@ returns-in-Err c = λ below fits.
     halts_on _ _ _ c.start-start.ensures.sound below _ _ fits _ _
     (asks_name _ _ _ c.start-start.ensures.sound below _ _ fits _ _
     (shape_at c.args.peg.now.nodes c.args.stage.top.node _ (c.node.ensures ∙ ap Some c.in-Name.is))
-    c.body_node-body.ensures) c.see_back.new.cells c.in-Err.halt c.in-Err.ensures
+    c.body_node-body.ensures) c.see_operand.new.cells c.in-Err.halt c.in-Err.ensures
 
-pub see_back-requires-in-Star-clause-spells : goal.see_back-requires-in-Star-clause-spells
-see_back-requires-in-Star-clause-spells c = (child_visited _ _ _ c.start-start.ensures.sound _ _ _ c.requires.fits.1 _ _
-    (asks_star _ _ _ c.start-start.ensures.sound _ _ _ c.requires.fits.1 _
-    (shape_at c.args.peg.now.nodes c.args.stage.top.node _ (c.node.ensures ∙ ap Some c.in-Star.is)))).spelled
-
-pub see_back-requires-in-Star-clause-place : goal.see_back-requires-in-Star-clause-place
-see_back-requires-in-Star-clause-place c = (at_top _ _ _ c.start-start.ensures.sound _ _ _ c.requires.fits.1).high
-
-pub returns-in-Ok-see_back : goal.returns-in-Ok-see_back
-returns-in-Ok-see_back c = λ below fits. rw c.star.ensures
-    (star_on _ _ _ c.start-start.ensures.sound below _ _ fits _
-    (shape_at c.args.peg.now.nodes c.args.stage.top.node _ (c.node.ensures ∙ ap Some c.in-Star.is))
-    _ _ c.in-Ok-see_back.ensures)
-
-pub returns-in-Err-see_back : goal.returns-in-Err-see_back
-returns-in-Err-see_back c = λ below fits.
-    halts_on _ _ _ c.start-start.ensures.sound below _ _ fits _ _
-    (asks_star _ _ _ c.start-start.ensures.sound below _ _ fits _
-    (shape_at c.args.peg.now.nodes c.args.stage.top.node _ (c.node.ensures ∙ ap Some c.in-Star.is)))
-    c.see_back-in-Star.new.cells c.in-Err-see_back.halt c.in-Err-see_back.ensures
-
-pub see_back-requires-in-Plus-clause-spells : goal.see_back-requires-in-Plus-clause-spells
-see_back-requires-in-Plus-clause-spells c = (child_visited _ _ _ c.start-start.ensures.sound _ _ _ c.requires.fits.1 _ _
-    (asks_plus _ _ _ c.start-start.ensures.sound _ _ _ c.requires.fits.1 _ _
-    (shape_at c.args.peg.now.nodes c.args.stage.top.node _ (c.node.ensures ∙ ap Some c.in-Plus.is)))).spelled
-
-pub see_back-requires-in-Plus-clause-place : goal.see_back-requires-in-Plus-clause-place
-see_back-requires-in-Plus-clause-place c = (at_top _ _ _ c.start-start.ensures.sound _ _ _ c.requires.fits.1).high
-
-pub returns-in-Ok-see_back-2 : goal.returns-in-Ok-see_back-2
-returns-in-Ok-see_back-2 c = λ below fits. rw c.plus.ensures
-    (plus_on _ _ _ c.start-start.ensures.sound below _ _ fits _ _
-    (shape_at c.args.peg.now.nodes c.args.stage.top.node _ (c.node.ensures ∙ ap Some c.in-Plus.is))
-    _ _ c.in-Ok-see_back-2.ensures)
-
-pub returns-in-Err-see_back-2 : goal.returns-in-Err-see_back-2
-returns-in-Err-see_back-2 c = λ below fits.
-    halts_on _ _ _ c.start-start.ensures.sound below _ _ fits _ _
-    (asks_plus _ _ _ c.start-start.ensures.sound below _ _ fits _ _
-    (shape_at c.args.peg.now.nodes c.args.stage.top.node _ (c.node.ensures ∙ ap Some c.in-Plus.is)))
-    c.see_back-in-Plus.new.cells c.in-Err-see_back-2.halt c.in-Err-see_back-2.ensures
-
-pub see_back-requires-in-Opt-clause-spells : goal.see_back-requires-in-Opt-clause-spells
-see_back-requires-in-Opt-clause-spells c = (child_visited _ _ _ c.start-start.ensures.sound _ _ _ c.requires.fits.1 _ _
+pub see_operand-requires-in-Opt-clause-spells : goal.see_operand-requires-in-Opt-clause-spells
+see_operand-requires-in-Opt-clause-spells c =
+    (child_visited _ _ _ c.start-start.ensures.sound _ _ _ c.requires.fits.1 _ _
     (asks_opt _ _ _ c.start-start.ensures.sound _ _ _ c.requires.fits.1 _
     (shape_at c.args.peg.now.nodes c.args.stage.top.node _ (c.node.ensures ∙ ap Some c.in-Opt.is)))).spelled
 
-pub see_back-requires-in-Opt-clause-place : goal.see_back-requires-in-Opt-clause-place
-see_back-requires-in-Opt-clause-place c = (at_top _ _ _ c.start-start.ensures.sound _ _ _ c.requires.fits.1).high
+pub see_operand-requires-in-Opt-clause-place : goal.see_operand-requires-in-Opt-clause-place
+see_operand-requires-in-Opt-clause-place c = (at_top _ _ _ c.start-start.ensures.sound _ _ _ c.requires.fits.1).high
 
-pub returns-in-Ok-see_back-3 : goal.returns-in-Ok-see_back-3
-returns-in-Ok-see_back-3 c = λ below fits. rw c.opt.ensures
+pub returns-in-Ok-see_operand : goal.returns-in-Ok-see_operand
+returns-in-Ok-see_operand c = λ below fits. rw c.opt.ensures
     (opt_on _ _ _ c.start-start.ensures.sound below _ _ fits _
     (shape_at c.args.peg.now.nodes c.args.stage.top.node _ (c.node.ensures ∙ ap Some c.in-Opt.is))
-    _ _ c.in-Ok-see_back-3.ensures)
+    _ _ c.in-Ok-see_operand.ensures)
 
-pub returns-in-Err-see_back-3 : goal.returns-in-Err-see_back-3
-returns-in-Err-see_back-3 c = λ below fits.
+pub returns-in-Err-see_operand : goal.returns-in-Err-see_operand
+returns-in-Err-see_operand c = λ below fits.
     halts_on _ _ _ c.start-start.ensures.sound below _ _ fits _ _
     (asks_opt _ _ _ c.start-start.ensures.sound below _ _ fits _
     (shape_at c.args.peg.now.nodes c.args.stage.top.node _ (c.node.ensures ∙ ap Some c.in-Opt.is)))
-    c.see_back-in-Opt.new.cells
-    c.in-Err-see_back-3.halt c.in-Err-see_back-3.ensures
+    c.see_operand-in-Opt.new.cells
+    c.in-Err-see_operand.halt c.in-Err-see_operand.ensures
 
-pub see_back-requires-in-And-clause-spells : goal.see_back-requires-in-And-clause-spells
-see_back-requires-in-And-clause-spells c = (child_visited _ _ _ c.start-start.ensures.sound _ _ _ c.requires.fits.1 _ _
+pub see_operand-requires-in-And-clause-spells : goal.see_operand-requires-in-And-clause-spells
+see_operand-requires-in-And-clause-spells c =
+    (child_visited _ _ _ c.start-start.ensures.sound _ _ _ c.requires.fits.1 _ _
     (asks_and _ _ _ c.start-start.ensures.sound _ _ _ c.requires.fits.1 _
     (shape_at c.args.peg.now.nodes c.args.stage.top.node _ (c.node.ensures ∙ ap Some c.in-And.is)))).spelled
 
-pub see_back-requires-in-And-clause-place : goal.see_back-requires-in-And-clause-place
-see_back-requires-in-And-clause-place c = (at_top _ _ _ c.start-start.ensures.sound _ _ _ c.requires.fits.1).high
+pub see_operand-requires-in-And-clause-place : goal.see_operand-requires-in-And-clause-place
+see_operand-requires-in-And-clause-place c = (at_top _ _ _ c.start-start.ensures.sound _ _ _ c.requires.fits.1).high
 
-pub returns-in-Ok-see_back-4 : goal.returns-in-Ok-see_back-4
-returns-in-Ok-see_back-4 c = λ below fits. rw c.and.ensures
+pub returns-in-Ok-see_operand-2 : goal.returns-in-Ok-see_operand-2
+returns-in-Ok-see_operand-2 c = λ below fits. rw c.and.ensures
     (and_on _ _ _ c.start-start.ensures.sound below _ _ fits _
     (shape_at c.args.peg.now.nodes c.args.stage.top.node _ (c.node.ensures ∙ ap Some c.in-And.is))
-    _ _ c.in-Ok-see_back-4.ensures)
+    _ _ c.in-Ok-see_operand-2.ensures)
 
-pub returns-in-Err-see_back-4 : goal.returns-in-Err-see_back-4
-returns-in-Err-see_back-4 c = λ below fits.
+pub returns-in-Err-see_operand-2 : goal.returns-in-Err-see_operand-2
+returns-in-Err-see_operand-2 c = λ below fits.
     halts_on _ _ _ c.start-start.ensures.sound below _ _ fits _ _
     (asks_and _ _ _ c.start-start.ensures.sound below _ _ fits _
     (shape_at c.args.peg.now.nodes c.args.stage.top.node _ (c.node.ensures ∙ ap Some c.in-And.is)))
-    c.see_back-in-And.new.cells
-    c.in-Err-see_back-4.halt c.in-Err-see_back-4.ensures
+    c.see_operand-in-And.new.cells
+    c.in-Err-see_operand-2.halt c.in-Err-see_operand-2.ensures
 
-pub see_back-requires-in-Not-clause-spells : goal.see_back-requires-in-Not-clause-spells
-see_back-requires-in-Not-clause-spells c = (child_visited _ _ _ c.start-start.ensures.sound _ _ _ c.requires.fits.1 _ _
+pub see_operand-requires-in-Not-clause-spells : goal.see_operand-requires-in-Not-clause-spells
+see_operand-requires-in-Not-clause-spells c =
+    (child_visited _ _ _ c.start-start.ensures.sound _ _ _ c.requires.fits.1 _ _
     (asks_not _ _ _ c.start-start.ensures.sound _ _ _ c.requires.fits.1 _
     (shape_at c.args.peg.now.nodes c.args.stage.top.node _ (c.node.ensures ∙ ap Some c.in-Not.is)))).spelled
 
-pub see_back-requires-in-Not-clause-place : goal.see_back-requires-in-Not-clause-place
-see_back-requires-in-Not-clause-place c = (at_top _ _ _ c.start-start.ensures.sound _ _ _ c.requires.fits.1).high
+pub see_operand-requires-in-Not-clause-place : goal.see_operand-requires-in-Not-clause-place
+see_operand-requires-in-Not-clause-place c = (at_top _ _ _ c.start-start.ensures.sound _ _ _ c.requires.fits.1).high
 
-pub returns-in-Ok-see_back-5 : goal.returns-in-Ok-see_back-5
-returns-in-Ok-see_back-5 c = λ below fits. rw c.not.ensures
+pub returns-in-Ok-see_operand-3 : goal.returns-in-Ok-see_operand-3
+returns-in-Ok-see_operand-3 c = λ below fits. rw c.not.ensures
     (not_on _ _ _ c.start-start.ensures.sound below _ _ fits _
     (shape_at c.args.peg.now.nodes c.args.stage.top.node _ (c.node.ensures ∙ ap Some c.in-Not.is))
-    _ _ c.in-Ok-see_back-5.ensures)
+    _ _ c.in-Ok-see_operand-3.ensures)
 
-pub returns-in-Err-see_back-5 : goal.returns-in-Err-see_back-5
-returns-in-Err-see_back-5 c = λ below fits.
+pub returns-in-Err-see_operand-3 : goal.returns-in-Err-see_operand-3
+returns-in-Err-see_operand-3 c = λ below fits.
     halts_on _ _ _ c.start-start.ensures.sound below _ _ fits _ _
     (asks_not _ _ _ c.start-start.ensures.sound below _ _ fits _
     (shape_at c.args.peg.now.nodes c.args.stage.top.node _ (c.node.ensures ∙ ap Some c.in-Not.is)))
-    c.see_back-in-Not.new.cells
-    c.in-Err-see_back-5.halt c.in-Err-see_back-5.ensures
+    c.see_operand-in-Not.new.cells
+    c.in-Err-see_operand-3.halt c.in-Err-see_operand-3.ensures
 
 pub next_turn-requires-clause-spells : goal.next_turn-requires-clause-spells
 next_turn-requires-clause-spells c = (at_top _ _ _ c.start-start.ensures.sound _ _ _ c.requires.fits.1).spelled
@@ -175,30 +134,10 @@ pub returns-in_default : goal.returns-in_default
 returns-in_default c =
     λ below fits. (_, _, come_stays _ _ _ c.start-start.ensures.sound below _ _ fits, c.next_turn.ensures)
 
-pub returns-then-top-gt0 : goal.returns-then-top-gt0
-returns-then-top-gt0 c = λ below fits. rw c.again_back.ensures
-    (star_again _ _ _ c.start-start.ensures.sound below _ _ fits _
-    (shape_at c.args.peg.now.nodes c.args.stage.top.node _ (c.node.ensures ∙ ap Some c.in-Star.is)) c.if-top-gt0.true)
-
-pub returns-then-top-gt0-2 : goal.returns-then-top-gt0-2
-returns-then-top-gt0-2 c = λ below fits. rw c.again_back-then-top-gt0-2.ensures
-    (plus_again _ _ _ c.start-start.ensures.sound below _ _ fits _ _
-    (shape_at c.args.peg.now.nodes c.args.stage.top.node _ (c.node.ensures ∙ ap Some c.in-Plus.is)) c.if-top-gt0-2.true)
-
-pub node-requires-in-Star : goal.node-requires-in-Star
-node-requires-in-Star c =
-    let operand = child_visited _ _ _ c.start-start.ensures.sound _ _ _ c.requires.fits.1 _ _
-    (asks_star _ _ _ c.start-start.ensures.sound _ _ _ c.requires.fits.1 _
-    (shape_at c.args.peg.now.nodes c.args.stage.top.node _ (c.node.ensures ∙ ap Some c.in-Star.is))) in
-    let there = is_there _ _ operand.spelled.1 in
-    omega (arith, there, length-map c.args.peg.now.nodes shape_of)
-
-pub repeat_byte-requires-clause-star : goal.repeat_byte-requires-clause-star
-repeat_byte-requires-clause-star c = shape_at c.args.peg.now.nodes c.args.stage.top.node _
+pub star_on-requires-clause-star : goal.star_on-requires-clause-star
+star_on-requires-clause-star c = shape_at c.args.peg.now.nodes c.args.stage.top.node _
     (c.node.ensures ∙ ap Some c.in-Star.is)
 
-pub repeat_byte-requires-clause-byte : goal.repeat_byte-requires-clause-byte
-repeat_byte-requires-clause-byte c =
-    byte_at (shapes_of c.args.peg.now.nodes) c.in-Star.operand (shape_of c.node-in-Star.result.now)
-    (shape_at c.args.peg.now.nodes c.in-Star.operand _ c.node-in-Star.ensures)
-    (c.takes_byte.ensures c.if-takes_byte.true)
+pub plus_on-requires-clause-plus : goal.plus_on-requires-clause-plus
+plus_on-requires-clause-plus c = shape_at c.args.peg.now.nodes c.args.stage.top.node _
+    (c.node.ensures ∙ ap Some c.in-Plus.is)

@@ -4,7 +4,7 @@ use Rattle.std.specs.Prelude.{slice_get}
 use Rattle.gramcheck.specs.Nodes as shape
 use Rattle.gramcheck.specs.Nodes.{shapes_of}
 use Rattle.pegmatch.proofs.NodeShapeLemmas.{shape_at}
-use Rattle.desk.proofs.IsWayLemmas.{any_ways, bytes_ways, set_ways, name_ways, seq_taken, seq_ways, choice_ways}
+use Rattle.desk.proofs.IsWayLemmas.{any_ways, bytes_ways, set_ways, name_ways, heard_ways, choice_ways}
 use Rattle.desk.proofs.IsWayLemmas.{star_ways, plus_ways, opt_ways, and_ways, not_ways, act_ways, open_ways, close_ways}
 use Rattle.desk.proofs.way.next_way.Goals as goal
 
@@ -75,20 +75,29 @@ returns-in-Plus c = λ x more es right left.
     (shape_at c.args.peg.now.nodes c.args.frame.node _ (c.node.ensures ∙ ap Some c.in-Plus.is)) refl)
 
 pub returns-in-Seq : goal.returns-in-Seq
-returns-in-Seq c = λ x more es right left.
-    let here = shape_at c.args.peg.now.nodes c.args.frame.node _ (c.node.ensures ∙ ap Some c.in-Seq.is) in
-    let at : slice_get (shapes_of c.args.peg.now.nodes) c.args.frame.node ≡ Some (shape.Seq c.deref.result.now) =
-    rw c.deref.ensures.value here in
-    rw (c.seq-way.ensures x more right (λ lt. seq_taken _ _ _ _ _ _ _ c.requires.sound _ right _ _ left
-    c.deref.result.now at lt)) (seq_ways _ _ _ _ _ _ _ c.requires.sound _ right _ _ left c.deref.result.now at)
+returns-in-Seq c = λ x more es right left. c.seq-way.ensures x more es right left
 
 pub returns-in-Choice : goal.returns-in-Choice
 returns-in-Choice c = λ x more es right left.
     let here = shape_at c.args.peg.now.nodes c.args.frame.node _ (c.node.ensures ∙ ap Some c.in-Choice.is) in
     let at : slice_get (shapes_of c.args.peg.now.nodes) c.args.frame.node
     ≡ Some (shape.Choice c.deref-in-Choice.result.now) = rw c.deref-in-Choice.ensures.value here in
-    rw c.choice-way.ensures (choice_ways _ _ _ _ _ _ _ c.requires.sound _ right _ _ left
-    c.deref-in-Choice.result.now at)
+    heard_ways _ _ _ _ _ _ _ c.requires.sound _ right c.args.frame es _ _
+    (choice_ways _ _ _ _ _ _ _ c.requires.sound _ right _ _ left c.deref-in-Choice.result.now at) c.choice-way.ensures
+
+pub seq-way-requires-clause-members : goal.seq-way-requires-clause-members
+seq-way-requires-clause-members c =
+    let here = shape_at c.args.peg.now.nodes c.args.frame.node _ (c.node.ensures ∙ ap Some c.in-Seq.is) in
+    rw c.deref.ensures.value here
+
+pub choice-way-requires-clause-there : goal.choice-way-requires-clause-there
+choice-way-requires-clause-there c = λ i lt.
+    let here = shape_at c.args.peg.now.nodes c.args.frame.node _ (c.node.ensures ∙ ap Some c.in-Choice.is) in
+    let at : slice_get (shapes_of c.args.peg.now.nodes) c.args.frame.node
+    ≡ Some (shape.Choice c.deref-in-Choice.result.now) = rw c.deref-in-Choice.ensures.value here in
+    let low = c.requires.sound.built.after c.args.frame.node (get_or c.deref-in-Choice.result.now i 0)
+    (shape.Choice c.deref-in-Choice.result.now) at (Contains-get_or c.deref-in-Choice.result.now i 0 lt) in
+    omega (arith, low, c.requires.there)
 
 pub seq-way-requires-clause-there : goal.seq-way-requires-clause-there
 seq-way-requires-clause-there c = λ i lt.

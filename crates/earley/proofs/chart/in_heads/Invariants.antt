@@ -2,7 +2,9 @@ use Rattle.std.proofs.Common.{take}
 use Rattle.flatgrammar.specs.Places.{In}
 use Rattle.flatgrammar.specs.Blocks.{block_of}
 use Rattle.earley.specs.FrontViews.{expand}
+use Rattle.earley.specs.Fronts.{heads_of}
 use Rattle.earley.proofs.chart.in_heads.Given as goal
 
-abbrev pub invariant-loop-head : goal.invariant-loop-head
-invariant-loop-head l = In l.item (expand (block_of l.flat) l.number (take l.head-index l.heads)) → ⊥
+abbrev pub invariant-loop-record : goal.invariant-loop-record
+invariant-loop-record l =
+    In l.item (expand (block_of l.flat) l.number (take l.record-index (heads_of l.records))) → ⊥

@@ -9,7 +9,7 @@ use Rattle.earley.proofs.chart.stands.Goals as goal
 pub returns-then-in_heads : goal.returns-then-in_heads
 returns-then-in_heads c = (
   (λ u. in_left c.args.front.now.items (subst
-      (λ v. In c.args.item (expand (block_of c.args.flat.now) c.args.number v)) c.heads.ensures
+      (λ v. In c.args.item (expand (block_of c.args.flat.now) c.args.number v)) c.records.ensures
       (c.in_heads.ensures.0 c.if-in_heads.true))),
   (λ h. refl),
 )
@@ -25,6 +25,6 @@ returns c = (
         ⊎ In c.args.item c.args.front.now.items → IsTrue c.holds.result
     by (inl g) =
         let t = c.in_heads.ensures.1 (subst (λ v. In c.args.item (expand (block_of c.args.flat.now) c.args.number v))
-        (sym c.heads.ensures) g) in
+        (sym c.records.ensures) g) in
         let f = c.if-in_heads.false in absurd cc
     by (inr g) = c.holds.ensures.1 (subst (λ v. In c.args.item v) (sym c.items.ensures) g)

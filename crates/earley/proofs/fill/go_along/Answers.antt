@@ -1,5 +1,5 @@
 use Rattle.std.proofs.Common.{arith}
-use Rattle.earley.proofs.WaitAllLemmas.{chain_within, chain_next, along_start, along_next, along_passed, along_end}
+use Rattle.earley.proofs.WaitAllLemmas.{chain_within, chain_next, along_start, along_next, along_skipped, along_end}
 use Rattle.earley.proofs.fill.go_along.Goals as goal
 
 pub loop-at-init : goal.loop-at-init
@@ -12,22 +12,22 @@ bounds-waits-at c =
     let pos = c.loop-at-test.true in
     omega (arith, le, pos)
 
-pub pass_on-at-requires : goal.pass_on-at-requires
-pass_on-at-requires c =
+pub skip_from-at-requires : goal.skip_from-at-requires
+skip_from-at-requires c =
     let n = chain_next _ (c.loop-at.invariant c.requires.0 c.requires.1).chain c.loop-at-test.true in (n.rest, n.chain)
 
 pub loop-at-smaller : goal.loop-at-smaller
 loop-at-smaller c =
     let less = (chain_next (record { item = record { node = 0; step = 0; origin = 0 }; home = 0; next = 0 })
     (c.loop-at.invariant c.requires.0 c.requires.1).chain c.loop-at-test.true).less in
-    let order = c.pass_on-at.ensures.order in
+    let order = c.skip_from-at.ensures.order in
     omega (arith, less, order)
 
 pub loop-at-preserved : goal.loop-at-preserved
 loop-at-preserved c es chain =
     let along = along_next c.args.waits.now c.loop-at.at es _ _ _ _ (c.loop-at.invariant es chain)
     c.loop-at-test.true c.in_ok-add.ensures in
-    along_passed c.args.waits.now _ _ es _ _ along (c.pass_on-at.ensures.passed along.rest along.chain)
+    along_skipped c.args.waits.now _ _ es _ _ along (c.skip_from-at.ensures.skipped along.rest along.chain)
 
 pub returns : goal.returns
 returns c es chain = along_end c.args.waits.now c.loop-at.at es _ _ (c.loop-at.invariant es chain)

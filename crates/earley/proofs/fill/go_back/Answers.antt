@@ -1,25 +1,24 @@
-use Rattle.std.proofs.Common.{◌≡◌, Some, ap, sym, ◌∙◌, subst, slice_get, slice_index_or}
-use Rattle.earley.specs.Waiting.{Chain}
-use Rattle.earley.proofs.WaitAllLemmas.{listed_adds}
+use Rattle.std.proofs.Common.{sym, subst}
+use Rattle.earley.specs.ItemSets.{Adds, IsResumed}
+use Rattle.earley.proofs.ExpandLemmas.{waiting_some}
+use Rattle.earley.proofs.WaitAllLemmas.{listed_adds, listed_chain}
 use Rattle.earley.proofs.fill.go_back.Goals as goal
 
 pub go_along-requires : goal.go_along-requires
 go_along-requires c =
-    let at = subst (λ v. slice_get v c.in-Some.index ≡ Some c.args.at.item.node) c.heads.ensures
-    c.in-Some.ensures in
-    let l = c.requires.waiting c.in-Some.index c.args.at.item.node at c.requires.own in
-    let first = c.first_at.ensures ∙ ap (λ v. slice_index_or v c.in-Some.index 0) c.firsts.ensures in (
-      l.items,
-      subst (λ v. Chain v c.first_at.result l.items) (sym c.waits.ensures)
-          (subst (λ n. Chain c.args.front.now.waits n l.items) (sym first) l.chain),
-    )
+    let f = c.in-Some.ensures.0 in
+    let at = c.in-Some.ensures.1 in
+    let of = c.in-Some.ensures.2 in
+    let l = c.requires.waiting c.args.at.item.origin f at of.index c.args.at.item.node of.head_is c.requires.own in
+    (l.items, listed_chain l (sym of.first_is) (c.waits.ensures c.args.at.item.origin f at))
 
 pub returns-in_ok-go_along-in-Some : goal.returns-in_ok-go_along-in-Some
 returns-in_ok-go_along-in-Some c =
-    let at = subst (λ v. slice_get v c.in-Some.index ≡ Some c.args.at.item.node) c.heads.ensures
-    c.in-Some.ensures in
-    let l = c.requires.waiting c.in-Some.index c.args.at.item.node at c.requires.own in
-    let first = c.first_at.ensures ∙ ap (λ v. slice_index_or v c.in-Some.index 0) c.firsts.ensures in
-    let chain = subst (λ v. Chain v c.first_at.result l.items) (sym c.waits.ensures)
-    (subst (λ n. Chain c.args.front.now.waits n l.items) (sym first) l.chain) in
-    listed_adds l (c.in_ok-go_along-in-Some.ensures l.items chain)
+    let f = c.in-Some.ensures.0 in
+    let at = c.in-Some.ensures.1 in
+    let of = c.in-Some.ensures.2 in
+    let l = c.requires.waiting c.args.at.item.origin f at of.index c.args.at.item.node of.head_is c.requires.own in
+    let chain = listed_chain l (sym of.first_is) (c.waits.ensures c.args.at.item.origin f at) in
+    subst (λ v. Adds (IsResumed c.args.flat.now c.args.at.item.node v) c.args.set.now c.go_along.new.set)
+    (sym (waiting_some c.args.flat.now c.args.sets.now c.args.at.item.origin f at))
+    (listed_adds l (c.in_ok-go_along-in-Some.ensures l.items chain))

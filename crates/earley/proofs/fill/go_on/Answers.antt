@@ -1,11 +1,16 @@
-use Rattle.std.proofs.Common.{◌≡◌, Some, slice_get, subst, sym, ◌∙◌}
+use Rattle.std.proofs.Common.{◌∙◌, sym, subst}
+use Rattle.earley.specs.ItemSets.{Adds, IsResumed}
 use Rattle.earley.proofs.AloneLemmas.{alone_adds}
+use Rattle.earley.proofs.ExpandLemmas.{waiting_some}
 use Rattle.earley.proofs.fill.go_on.Goals as goal
 
-pub returns-in-Some-home_of : goal.returns-in-Some-home_of
-returns-in-Some-home_of c =
-    alone_adds c.args.flat.now c.args.at.item.node c.in-Some.inner c.args.front.now c.args.at.item.origin
-    c.in-Some-home_of.index _ _
-    (c.requires.alone c.args.at.item.node c.in-Some.inner (sym c.sole_caller.ensures ∙ c.in-Some.is))
-    (subst (λ v. slice_get v c.in-Some-home_of.index ≡ Some c.in-Some.inner.head) c.heads.ensures
-    c.in-Some-home_of.ensures) c.requires.begun c.in_ok-add.ensures
+pub returns : goal.returns
+returns c =
+    let f = c.in-Some-first.ensures.0 in
+    let at = c.in-Some-first.ensures.1 in
+    let of = c.in-Some-first.ensures.2 in
+    subst (λ v. Adds (IsResumed c.args.flat.now c.args.at.item.node v) c.args.set.now c.add.new.self)
+    (sym (waiting_some c.args.flat.now c.args.sets.now c.args.at.item.origin f at))
+    (alone_adds c.args.flat.now c.args.at.item.node c.in-Some.inner f c.args.at.item.origin of.index _ _
+    (c.requires.alone c.args.at.item.node c.in-Some.inner (sym c.sole_caller.ensures ∙ c.in-Some.is)) of.head_is
+    (c.requires.begun c.args.at.item.origin f at) c.in_ok-add.ensures)

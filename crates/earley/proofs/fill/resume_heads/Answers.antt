@@ -1,8 +1,23 @@
+use Rattle.std.proofs.Common.{◌∙◌, ap, subst, arith}
 use Rattle.flatgrammar.specs.Blocks.{block_of}
+use Rattle.earley.specs.ItemSets.{Adds, IsResumed}
+use Rattle.earley.specs.FrontViews.{expand}
+use Rattle.earley.specs.Fronts.{heads_of}
 use Rattle.earley.proofs.ExpandLemmas.{resumed_heads_more}
+use Rattle.earley.proofs.RecordsLemmas.{below_heads, head_at, heads_past}
 use Rattle.earley.proofs.fill.resume_heads.Goals as goal
 
-pub loop-head-preserved : goal.loop-head-preserved
-loop-head-preserved c = resumed_heads_more c.args.flat.now c.args.root (block_of c.args.flat.now) c.args.origin
-    c.args.heads.now c.loop-head.head-index 0 _ _ _ _ c.loop-head-test.true c.spots.ensures
-    c.loop-head.invariant c.in_ok-resume_spots.ensures
+pub loop-record-preserved : goal.loop-record-preserved
+loop-record-preserved c = resumed_heads_more c.args.flat.now c.args.root (block_of c.args.flat.now) c.args.origin
+    (heads_of c.args.records.now) c.loop-record.record-index 0 _ _ _ _
+    (below_heads c.args.records.now c.loop-record.record-index c.loop-record-test.true)
+    (c.spots.ensures ∙ ap (λ n. (block_of c.args.flat.now n).spots)
+    (head_at c.args.records.now c.loop-record.record-index _ 0 c.loop-record-test.true))
+    c.loop-record.invariant c.in_ok-resume_spots.ensures
+
+pub returns : goal.returns
+returns c =
+    let test = c.loop-record-test.false in
+    subst (λ v. Adds (IsResumed c.args.flat.now c.args.root (expand (block_of c.args.flat.now) c.args.origin v))
+    c.args.set.now c.loop-record.set)
+    (heads_past c.args.records.now c.loop-record.record-index (omega (arith, test))) c.loop-record.invariant

@@ -2,8 +2,10 @@ use Rattle.std.proofs.Common.{take}
 use Rattle.earley.specs.ItemSets.{Adds, IsResumed}
 use Rattle.flatgrammar.specs.Blocks.{block_of}
 use Rattle.earley.specs.FrontViews.{expand}
+use Rattle.earley.specs.Fronts.{heads_of}
 use Rattle.earley.proofs.fill.resume_heads.Given as goal
 
-abbrev pub invariant-loop-head : goal.invariant-loop-head
-invariant-loop-head l = Adds (IsResumed l.flat l.root (expand (block_of l.flat) l.origin (take l.head-index l.heads)))
+abbrev pub invariant-loop-record : goal.invariant-loop-record
+invariant-loop-record l = Adds
+    (IsResumed l.flat l.root (expand (block_of l.flat) l.origin (take l.record-index (heads_of l.records))))
     l.initial.set l.set

@@ -19,7 +19,6 @@ returns-clause-linked c =
     (let e = c.len-index.ensures in let o = c.args.list.now.ok.0 in omega (arith, e, o)) in
     let long = c.in_ok-set_link.ensures.long in
     let was = c.requires.linked.long in
-    let tells = c.in-Some.ensures.1 in
     let links = linked_same (row_of (length c.args.rows.now)) c.args.list.now.items c.args.links.now.items
     c.set_link.new.links.items c.args.rows.now c.args.base c.requires.linked
     (omega (arith, long, was)) (λ i l lt g. c.in_ok-set_link.ensures.others i l (omega (arith, lt, count)) g) in
@@ -28,7 +27,7 @@ returns-clause-linked c =
     rw (
       c.in_ok-push.ensures.items,
       c.row_of-row.ensures.value,
-      length-set c.args.rows.now (row_of (length c.args.rows.now) c.args.item) c.in-Some.told,
+      length-set c.args.rows.now (row_of (length c.args.rows.now) c.args.item) _,
     )
     (linked_push (row_of (length c.args.rows.now)) c.args.list.now.items c.set_link.new.links.items c.args.rows.now
-    c.args.base c.args.item c.args.last c.in-Some.told links here c.requires.last (omega (arith, tells, count)))
+    c.args.base c.args.item c.args.last _ links here c.requires.last (omega (arith, count)))

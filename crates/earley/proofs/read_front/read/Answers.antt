@@ -16,7 +16,7 @@ returns g c =
     (expand (block_of flat) c.args.origin c.args.from.now.heads) c.args.from.now.items
     c.args.set.now c.read_heads.new.set c.read_items.new.set
     (subst (λ v. AreRead flat value (expand (block_of flat) c.args.origin v)
-    c.args.set.now c.read_heads.new.set) c.heads.ensures c.in_ok-read_heads.ensures)
+    c.args.set.now c.read_heads.new.set) c.records.ensures c.in_ok-read_heads.ensures)
     (read_fewer flat value c.read_heads.new.set c.read_items.new.set
     (items_of c.args.readers.now) c.args.from.now.items c.requires.readers.stand
     (λ a i r. c.requires.readers.chosen a i (value, r)) c.requires.readers.different

@@ -1,56 +1,106 @@
-use Rattle.std.proofs.Common.{◌≡◌, ◌∙◌, ap, sym, subst, length, length-append, arith}
+use Rattle.std.proofs.Common.{◌≡◌, ◌∙◌, ◌++◌, ap, sym, subst, refl, length, arith}
 use Rattle.flatgrammar.specs.Blocks.{block_of}
 use Rattle.earley.specs.FrontViews.{full}
-use Rattle.earley.specs.Fronts.{GoesOn}
+use Rattle.earley.specs.Fronts.{firsts_of}
 use Rattle.earley.specs.Waiting.{AreWaiting}
-use Rattle.earley.proofs.SetsLemmas.{behind_new, rest_long, go_longer, part_appended}
+use Rattle.earley.proofs.RecordsLemmas.{fresh, fresh_zeros, behind_is, are_behind}
 use Rattle.earley.proofs.wait.list_waits.Goals as goal
 
-pub returns-in_err-wait_all-clause-firsts : goal.returns-in_err-wait_all-clause-firsts
-returns-in_err-wait_all-clause-firsts c =
-    let from : c.len-from.result ≡ length c.args.firsts.now.items =
-    (let e = c.len-from.ensures in let o = c.args.firsts.now.ok.0 in omega (arith, e, o)) in
-    let size : c.add_firsts.new.firsts.len ≡ length c.deref_mut.result.now =
-    (let e = ap (λ v. length v) c.deref_mut.ensures.value in let o = c.add_firsts.new.firsts.ok.0 in
-    omega (arith, e, o)) in
-    let go = subst (λ v. GoesOn c.args.firsts.now.items v) (sym c.deref_mut.ensures.value)
-    c.add_firsts.ensures.more in (
-      c.wait_all.new.firsts,
-      behind_new c.args.firsts.now.items c.deref_mut.result.now c.wait_all.new.firsts _ c.len-from.result
-          c.add_firsts.new.firsts.len go from c.wait_all.ensures.long size,
-    )
+pub wait_all-requires-clause-none : goal.wait_all-requires-clause-none
+wait_all-requires-clause-none c h =
+    let from : c.len-from.result ≡ length c.args.records.now.items =
+    (let e = c.len-from.ensures in let o = c.args.records.now.ok.0 in omega (arith, e, o)) in
+    let xs = c.deref_mut.result.now in
+    let are : xs ≡ c.args.records.now.items ++ fresh c.args.number c.args.heads.now =
+    c.deref_mut.ensures.value ∙ (c.in_ok-add_records.ensures.are
+    ∙ ap (λ v. c.args.records.now.items ++ fresh c.args.number v) c.list.ensures) in
+    let slice = behind_is c.args.records.now.items xs (fresh c.args.number c.args.heads.now) c.len-from.result are
+    from in
+    rw slice (fresh_zeros c.args.number c.args.heads.now h)
 
-pub returns-clause-firsts : goal.returns-clause-firsts
-returns-clause-firsts c =
-    let from : c.len-from.result ≡ length c.args.firsts.now.items =
-    (let e = c.len-from.ensures in let o = c.args.firsts.now.ok.0 in omega (arith, e, o)) in
-    let size : c.add_firsts.new.firsts.len ≡ length c.deref_mut.result.now =
-    (let e = ap (λ v. length v) c.deref_mut.ensures.value in let o = c.add_firsts.new.firsts.ok.0 in
+pub returns-in_err-wait_all-clause-records : goal.returns-in_err-wait_all-clause-records
+returns-in_err-wait_all-clause-records c =
+    let from : c.len-from.result ≡ length c.args.records.now.items =
+    (let e = c.len-from.ensures in let o = c.args.records.now.ok.0 in omega (arith, e, o)) in
+    let xs = c.deref_mut.result.now in
+    let are : xs ≡ c.args.records.now.items ++ fresh c.args.number c.args.heads.now =
+    c.deref_mut.ensures.value ∙ (c.in_ok-add_records.ensures.are
+    ∙ ap (λ v. c.args.records.now.items ++ fresh c.args.number v) c.list.ensures) in
+    let size : c.add_records.new.records.len ≡ length xs =
+    (let e = ap (λ v. length v) c.deref_mut.ensures.value in let o = c.add_records.new.records.ok.0 in
     omega (arith, e, o)) in
-    let go = subst (λ v. GoesOn c.args.firsts.now.items v) (sym c.deref_mut.ensures.value)
-    c.add_firsts.ensures.more in (
-      c.wait_all.new.firsts,
-      behind_new c.args.firsts.now.items c.deref_mut.result.now c.wait_all.new.firsts _ c.len-from.result
-          c.add_firsts.new.firsts.len go from c.wait_all.ensures.long size,
-    )
+    let wait = c.wait_all.ensures in
+    let behind = are_behind c.args.number c.args.heads.now c.args.records.now.items xs c.wait_all.new.records _
+    c.len-from.result c.add_records.new.records.len _ are from wait.long wait.same size
+    refl in
+    behind.goes
+
+pub returns-clause-records : goal.returns-clause-records
+returns-clause-records c =
+    let from : c.len-from.result ≡ length c.args.records.now.items =
+    (let e = c.len-from.ensures in let o = c.args.records.now.ok.0 in omega (arith, e, o)) in
+    let xs = c.deref_mut.result.now in
+    let are : xs ≡ c.args.records.now.items ++ fresh c.args.number c.args.heads.now =
+    c.deref_mut.ensures.value ∙ (c.in_ok-add_records.ensures.are
+    ∙ ap (λ v. c.args.records.now.items ++ fresh c.args.number v) c.list.ensures) in
+    let size : c.add_records.new.records.len ≡ length xs =
+    (let e = ap (λ v. length v) c.deref_mut.ensures.value in let o = c.add_records.new.records.ok.0 in
+    omega (arith, e, o)) in
+    let wait = c.wait_all.ensures in
+    let behind = are_behind c.args.number c.args.heads.now c.args.records.now.items xs c.wait_all.new.records _
+    c.len-from.result c.add_records.new.records.len c.len.result are from wait.long wait.same
+    size (let end = c.len.ensures in omega (arith, end)) in
+    behind.goes
+
+pub returns-clause-own : goal.returns-clause-own
+returns-clause-own c =
+    let from : c.len-from.result ≡ length c.args.records.now.items =
+    (let e = c.len-from.ensures in let o = c.args.records.now.ok.0 in omega (arith, e, o)) in
+    let xs = c.deref_mut.result.now in
+    let are : xs ≡ c.args.records.now.items ++ fresh c.args.number c.args.heads.now =
+    c.deref_mut.ensures.value ∙ (c.in_ok-add_records.ensures.are
+    ∙ ap (λ v. c.args.records.now.items ++ fresh c.args.number v) c.list.ensures) in
+    let size : c.add_records.new.records.len ≡ length xs =
+    (let e = ap (λ v. length v) c.deref_mut.ensures.value in let o = c.add_records.new.records.ok.0 in
+    omega (arith, e, o)) in
+    let wait = c.wait_all.ensures in
+    let behind = are_behind c.args.number c.args.heads.now c.args.records.now.items xs c.wait_all.new.records _
+    c.len-from.result c.add_records.new.records.len c.len.result are from wait.long wait.same
+    size (let end = c.len.ensures in omega (arith, end)) in
+    behind.own
+
+pub returns-clause-heads : goal.returns-clause-heads
+returns-clause-heads c =
+    let from : c.len-from.result ≡ length c.args.records.now.items =
+    (let e = c.len-from.ensures in let o = c.args.records.now.ok.0 in omega (arith, e, o)) in
+    let xs = c.deref_mut.result.now in
+    let are : xs ≡ c.args.records.now.items ++ fresh c.args.number c.args.heads.now =
+    c.deref_mut.ensures.value ∙ (c.in_ok-add_records.ensures.are
+    ∙ ap (λ v. c.args.records.now.items ++ fresh c.args.number v) c.list.ensures) in
+    let size : c.add_records.new.records.len ≡ length xs =
+    (let e = ap (λ v. length v) c.deref_mut.ensures.value in let o = c.add_records.new.records.ok.0 in
+    omega (arith, e, o)) in
+    let wait = c.wait_all.ensures in
+    let behind = are_behind c.args.number c.args.heads.now c.args.records.now.items xs c.wait_all.new.records _
+    c.len-from.result c.add_records.new.records.len c.len.result are from wait.long wait.same
+    size (let end = c.len.ensures in omega (arith, end)) in
+    behind.heads_are
 
 pub returns-clause-waiting : goal.returns-clause-waiting
-returns-clause-waiting c items are =
-    let from : c.len-from.result ≡ length c.args.firsts.now.items =
-    (let e = c.len-from.ensures in let o = c.args.firsts.now.ok.0 in omega (arith, e, o)) in
-    let size : c.add_firsts.new.firsts.len ≡ length c.deref_mut.result.now =
-    (let e = ap (λ v. length v) c.deref_mut.ensures.value in let o = c.add_firsts.new.firsts.ok.0 in
+returns-clause-waiting c items are_chosen =
+    let from : c.len-from.result ≡ length c.args.records.now.items =
+    (let e = c.len-from.ensures in let o = c.args.records.now.ok.0 in omega (arith, e, o)) in
+    let xs = c.deref_mut.result.now in
+    let are : xs ≡ c.args.records.now.items ++ fresh c.args.number c.args.heads.now =
+    c.deref_mut.ensures.value ∙ (c.in_ok-add_records.ensures.are
+    ∙ ap (λ v. c.args.records.now.items ++ fresh c.args.number v) c.list.ensures) in
+    let size : c.add_records.new.records.len ≡ length xs =
+    (let e = ap (λ v. length v) c.deref_mut.ensures.value in let o = c.add_records.new.records.ok.0 in
     omega (arith, e, o)) in
-    let go = subst (λ v. GoesOn c.args.firsts.now.items v) (sym c.deref_mut.ensures.value)
-    c.add_firsts.ensures.more in
-    let is = behind_new c.args.firsts.now.items c.deref_mut.result.now c.wait_all.new.firsts _ c.len-from.result
-    c.add_firsts.new.firsts.len go from c.wait_all.ensures.long size in
-    let long = ap (λ v. length v) is ∙ length-append c.args.firsts.now.items c.wait_all.new.firsts in
-    let wide = c.wait_all.ensures.long ∙ rest_long c.deref_mut.result.now c.len-from.result in
-    let longer = go_longer c.args.firsts.now.items c.deref_mut.result.now go in
-    let end = c.len-2.ensures in
-    let part = part_appended c.args.firsts.now.items _ c.wait_all.new.firsts
-    (record { from = c.len-from.result; to = c.len-2.result }) is from
-    (omega (arith, end, long, wide, size, from, longer)) in
-    subst (λ v. AreWaiting c.args.flat.now (full (block_of c.args.flat.now) c.args.origin c.args.heads.now items)
-    c.args.heads.now v c.wait_all.new.waits.items) (sym part.is) (c.in_ok-wait_all.ensures.more items are)
+    let wait = c.wait_all.ensures in
+    let behind = are_behind c.args.number c.args.heads.now c.args.records.now.items xs c.wait_all.new.records _
+    c.len-from.result c.add_records.new.records.len c.len.result are from wait.long wait.same
+    size (let end = c.len.ensures in omega (arith, end)) in
+    subst (λ v. AreWaiting c.args.flat.now (full (block_of c.args.flat.now) c.args.number c.args.heads.now items)
+    c.args.heads.now (firsts_of v) c.wait_all.new.waits.items) (sym behind.part_is)
+    (c.in_ok-wait_all.ensures.more items are_chosen)

@@ -1,5 +1,6 @@
 use Rattle.std.proofs.Common.{◌∙◌, ◌++◌, ap, subst, take, arith}
 use Rattle.earley.specs.Chosen.{callers_of}
+use Rattle.earley.specs.Fronts.{firsts_of}
 use Rattle.earley.specs.Waiting.{AreWaiting}
 use Rattle.flatgrammar.proofs.InLemmas.{at_index_in}
 use Rattle.earley.proofs.ExpandLemmas.{take_one, take_past, map_end}
@@ -11,6 +12,7 @@ pub loop-caller-preserved : goal.loop-caller-preserved
 loop-caller-preserved c = record {
   on = goes_farther _ _ _ c.loop-caller.invariant.on c.wait_at.ensures.on;
   long = c.wait_at.ensures.long ∙ c.loop-caller.invariant.long;
+  same = c.wait_at.ensures.same ∙ c.loop-caller.invariant.same;
   more = λ flat tell. waiting_then flat c.args.heads.now
       (callers_of (take c.loop-caller.caller-index c.args.callers.now)) _ _ _
       (ap (λ v. callers_of v) (take_one c.args.callers.now c.loop-caller.caller-index _ c.loop-caller-test.true)
@@ -22,6 +24,7 @@ loop-caller-preserved c = record {
 pub returns-clause-more : goal.returns-clause-more
 returns-clause-more c flat seen tell h =
     let test = c.loop-caller-test.false in
-    subst (λ v. AreWaiting flat (seen ++ callers_of v) c.args.heads.now c.loop-caller.firsts
-    c.loop-caller.waits.items) (take_past c.args.callers.now c.loop-caller.caller-index (omega (arith, test)))
+    subst (λ v. AreWaiting flat (seen ++ callers_of v) c.args.heads.now
+    (firsts_of c.loop-caller.records) c.loop-caller.waits.items)
+    (take_past c.args.callers.now c.loop-caller.caller-index (omega (arith, test)))
     (c.loop-caller.invariant.more flat tell seen h)

@@ -2,15 +2,16 @@ use Rattle.std.proofs.Common.{◌≡◌, List, ◌++◌, length, take}
 use Rattle.flatgrammar.specs.declared.flat_item.Item.{Item}
 use Rattle.flatgrammar.specs.declared.tables.Tables as code_flat
 use Rattle.earley.specs.Chosen.{callers_of, AreCalls}
-use Rattle.earley.specs.Fronts.{GoesOn}
+use Rattle.earley.specs.Fronts.{GoesOn, firsts_of, AreSameOwners}
 use Rattle.earley.specs.Waiting.{AreWaiting}
 use Rattle.earley.proofs.wait.wait_items.Given as goal
 
 abbrev pub invariant-loop-caller : goal.invariant-loop-caller
 invariant-loop-caller l = record {
-  long : length l.firsts ≡ length l.initial.firsts;
+  long : length l.records ≡ length l.initial.records;
+  same : AreSameOwners l.initial.records l.records;
   on : GoesOn l.initial.waits.items l.waits.items;
   more : (flat : code_flat.Tables) → AreCalls flat l.callers → (seen : List Item)
-      → AreWaiting flat seen l.heads l.initial.firsts l.initial.waits.items →
-      AreWaiting flat (seen ++ callers_of (take l.caller-index l.callers)) l.heads l.firsts l.waits.items;
+      → AreWaiting flat seen l.heads (firsts_of l.initial.records) l.initial.waits.items →
+      AreWaiting flat (seen ++ callers_of (take l.caller-index l.callers)) l.heads (firsts_of l.records) l.waits.items;
 }

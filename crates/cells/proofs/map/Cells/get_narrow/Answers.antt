@@ -10,7 +10,7 @@ returns-in-Some c =
     rw (← c.self.view_is, c.found_of_end.ensures) (held_found (entries_of c.self.inside.cells.items) c.args.node
     c.args.place (found_of c.in-Some.end)
     (holds_at c.self.inside.cells.items c.args.node c.args.place c.in-Some.end at)
-    (holds_only c.self.inside.cells.items c.args.node c.args.place c.in-Some.end c.self.invariant.map at))
+    (holds_only c.self.inside.cells.items c.args.node c.args.place c.in-Some.end c.self.invariant.0.map at))
 
 pub returns-in-None : goal.returns-in-None
 returns-in-None c =

@@ -26,7 +26,7 @@ returns-then-cell-place-clause-found c =
     rw (← c.self.view_is, c.found_of_end.ensures) (held_found (entries_of c.self.inside.cells.items) c.args.node
     c.args.place (found_of c.index-cell.result.now.end)
     (holds_at c.self.inside.cells.items c.args.node c.args.place c.index-cell.result.now.end at)
-    (holds_only c.self.inside.cells.items c.args.node c.args.place c.index-cell.result.now.end c.self.invariant.map
+    (holds_only c.self.inside.cells.items c.args.node c.args.place c.index-cell.result.now.end c.self.invariant.0.map
     at)) in
     sym is
 

@@ -1,16 +1,16 @@
 use Rattle.std.proofs.Common.{arith, rules}
-use Rattle.earley.proofs.WaitAllLemmas.{chain_within, chain_next, passed_start, passed_next}
-use Rattle.earley.proofs.items.pass_near.Goals as goal
+use Rattle.earley.proofs.WaitAllLemmas.{chain_within, chain_next, skipped_start, skipped_next}
+use Rattle.earley.proofs.items.skip_near.Goals as goal
 
 pub loop-at-init : goal.loop-at-init
 loop-at-init c = record {
   order = omega arith;
-  passed = λ es chain. passed_start c.args.waits.now c.args.first es c.args.list.now chain;
+  skipped = λ es chain. skipped_start c.args.waits.now c.args.first es c.args.list.now chain;
 }
 
 pub bounds-waits-at : goal.bounds-waits-at
 bounds-waits-at c =
-    let p = c.loop-at.invariant.passed c.requires.chain.0 c.requires.chain.1 in
+    let p = c.loop-at.invariant.skipped c.requires.chain.0 c.requires.chain.1 in
     let le = chain_within p.chain in
     let pos = c.loop-at-test.true in
     omega (arith, le, pos)
@@ -20,16 +20,16 @@ offset_bounds-waits-at c = let lt = bounds-waits-at c in search (rules, lt)
 
 pub loop-at-smaller : goal.loop-at-smaller
 loop-at-smaller c =
-    (chain_next _ (c.loop-at.invariant.passed c.requires.chain.0 c.requires.chain.1).chain c.loop-at-test.true).less
+    (chain_next _ (c.loop-at.invariant.skipped c.requires.chain.0 c.requires.chain.1).chain c.loop-at-test.true).less
 
 pub loop-at-preserved : goal.loop-at-preserved
 loop-at-preserved c =
     let less = (chain_next (record { item = record { node = 0; step = 0; origin = 0 }; home = 0; next = 0 })
-    (c.loop-at.invariant.passed c.requires.chain.0 c.requires.chain.1).chain c.loop-at-test.true).less in
+    (c.loop-at.invariant.skipped c.requires.chain.0 c.requires.chain.1).chain c.loop-at-test.true).less in
     let order = c.loop-at.invariant.order in
     record {
       order = omega (arith, less, order);
-      passed = λ es chain. passed_next c.args.waits.now c.loop-at.at es c.args.list.now
+      skipped = λ es chain. skipped_next c.args.waits.now c.loop-at.at es c.args.list.now
           (record { item = record { node = 0; step = 0; origin = 0 }; home = 0; next = 0 })
-          (c.loop-at.invariant.passed es chain) c.loop-at-test.true (c.is_near.ensures c.if-not-is_near.false);
+          (c.loop-at.invariant.skipped es chain) c.loop-at-test.true (c.is_near.ensures c.if-not-is_near.false);
     }
