@@ -15,10 +15,13 @@ use Rattle.cells.specs.declared.cell.Found.{Found}
 use Rattle.cells.specs.declared.cell.Found.TheVariants.{Failed, Took}
 use Rattle.pegmatch.specs.declared.leaves.Tried.{Tried}
 use Rattle.cells.specs.Entries.{Entry}
+use Rattle.desk.specs.declared.ahead.Sight.{Sight}
+use Rattle.desk.specs.declared.ahead.Sight.TheVariants as sight
+use Rattle.desk.specs.Ahead.{IsSight, known_turn}
 use Rattle.desk.specs.declared.turn.Turn.{Turn}
 use Rattle.desk.specs.declared.turn.Turn.TheVariants.{Ask, Answer, Need}
 use Rattle.cells.specs.Entries.{found_at}
-use Rattle.desk.specs.State.{HasCell, HasCome, IsUnderWay, IsFound}
+use Rattle.desk.specs.State.{HasCell, HasCome, IsUnderWay, IsFound, AreCells}
 use Rattle.desk.specs.Turns.{same_turn, again_turn, opt_turn, and_turn, not_turn, star_turn, plus_turn, IsLeafTurn}
 use Rattle.desk.specs.Turns.{IsWalk, IsSearch, IsTurn}
 use Rattle.desk.specs.Visits.{AsksBy, Asks}
@@ -411,13 +414,11 @@ module _ (rules : List Rule) (start : ℕ) (nodes : List Shape) (bodies ranks x 
         → (more ≡ true → 0 < length x) → Turns (Answer (Took p))
     mark_turns e es sp d some = mark_is_turn e es none_of sp d some
 
--- a mark is done, whatever the window
-pub mark_turn : (rules : List Rule) (start : ℕ) (nodes : List Shape) (bodies x : List ℕ) (more : Bool)
-    (cells : List Entry) (n p : ℕ) → (more ≡ true → 0 < length x)
-    → IsTurn rules start nodes bodies x more cells n p (Answer (Took p)) → (t : Turn)
-    → IsLeafTurn (record { found = Took p; looked = 0 }) (length x) more t
-    → IsTurn rules start nodes bodies x more cells n p t
-mark_turn rules start nodes bodies x more cells n p some turn (Ask m q i r) h = absurd h
-mark_turn rules start nodes bodies x more cells n p some turn (Answer f) h = rw h.0 turn
-mark_turn rules start nodes bodies x more cells n p some turn Need h =
-    let l : 0 < length x = some h.0 in let none : 0 ≡ length x = h.1 in absurd (omega arith)
+-- what is known of a node is what it does next
+pub sight_turns : (rules : List Rule) (start : ℕ) (nodes : List Shape) (bodies x : List ℕ) (more : Bool) (n p : ℕ)
+    (s : Sight) → ((cells : List Entry) → AreCells rules start nodes bodies x more cells
+    → IsTurn rules start nodes bodies x more cells n p (known_turn s)) → IsSight rules start nodes bodies x more n p s
+sight_turns rules start nodes bodies x more n p (sight.Known f) h = h
+sight_turns rules start nodes bodies x more n p sight.Need h = h
+sight_turns rules start nodes bodies x more n p sight.Literal h = tt
+sight_turns rules start nodes bodies x more n p sight.Operands h = tt

@@ -3,7 +3,6 @@ pub mod GivesLemmas
 pub mod AsksLemmas
 pub mod VisitsLemmas
 pub mod IsPutLemmas
-pub mod IsSeenLemmas
 pub mod HaveTakenLemmas
 pub mod IsTurnLemmas
 pub mod IsStackLemmas

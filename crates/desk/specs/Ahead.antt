@@ -14,19 +14,31 @@ use Rattle.desk.specs.declared.ahead.Halt.{Halt}
 use Rattle.desk.specs.declared.ahead.Halt.TheVariants.{Memory, Short}
 use Rattle.desk.specs.declared.ahead.Seen.{Seen}
 use Rattle.desk.specs.declared.ahead.Seen.TheVariants as seen
-use Rattle.pegmatch.specs.declared.leaves.Tried.{Tried}
+use Rattle.desk.specs.declared.ahead.Sight.{Sight}
+use Rattle.desk.specs.declared.ahead.Sight.TheVariants as sight
 use Rattle.desk.specs.declared.frame.Frame.{Frame}
 use Rattle.desk.specs.declared.turn.Turn.{Turn}
 use Rattle.desk.specs.declared.turn.Turn.TheVariants.{Answer, Need}
 use Rattle.desk.specs.Desk.{counted, Fits, left}
 use Rattle.desk.specs.State.{AreCells}
-use Rattle.desk.specs.Turns.{IsLeafTurn, IsTurn}
+use Rattle.desk.specs.Turns.{IsTurn}
 
--- What was tried tells what node n does next at p, whatever the cells.
-abbrev pub IsTried : List Rule → ℕ → List Shape → List ℕ → List ℕ → Bool → ℕ → ℕ → Tried → Type 0
-IsTried rules start nodes bodies x more n p tried = (cells : List Entry)
-    → AreCells rules start nodes bodies x more cells → (turn : Turn) → IsLeafTurn tried (length x) more turn
-    → IsTurn rules start nodes bodies x more cells n p turn
+-- what a node does next of which that is known, where anything is
+abbrev pub known_turn : Sight → Turn
+known_turn (sight.Known f) = Answer f
+known_turn sight.Need = Need
+known_turn sight.Literal = Need
+known_turn sight.Operands = Need
+
+-- What is known of node n at p before its cell is looked up: it is what it gives, whatever the cells.
+module _ (rules : List Rule) (start : ℕ) (nodes : List Shape) (bodies x : List ℕ) (more : Bool) (n p : ℕ) where
+  abbrev pub IsSight : Sight → Type 0
+  IsSight (sight.Known f) = (cells : List Entry) → AreCells rules start nodes bodies x more cells
+      → IsTurn rules start nodes bodies x more cells n p (Answer f)
+  IsSight sight.Need = (cells : List Entry) → AreCells rules start nodes bodies x more cells
+      → IsTurn rules start nodes bodies x more cells n p Need
+  IsSight sight.Literal = Unit {0}
+  IsSight sight.Operands = Unit {0}
 
 -- What is seen of node n at p: what its cell holds, which a node without operands gets where it has none; or that it
 -- has none; or that its own comparison reaches the last byte of a window behind which there is more.

@@ -4,13 +4,14 @@ ghost use Rattle.pegread.specs.PegViews.{rules_of};
 ghost use Rattle.gramcheck.specs.Grammar.{IsSoundGrammar};
 ghost use Rattle.gramcheck.specs.Nodes.{Shape, shapes_of};
 ghost use Rattle.pegmatch.specs.KeptEvents.{SpellsSome};
-ghost use Rattle.cells.specs.Entries.{Entry, found_at, AreNarrow, IsKnown};
+ghost use Rattle.cells.specs.Entries.{Entry, found_at};
 ghost use Rattle.cells.specs.declared.cell.Found.{Found};
 ghost use Rattle.desk.specs.declared.frame.Frame.{Frame};
-ghost use Rattle.desk.specs.Ahead.{IsNarrowRun, IsTried, IsSeen, IsOn, MemberBack, OtherBack, seen_as};
+ghost use Rattle.desk.specs.Ahead.{IsNarrowRun, IsSight, IsSeen, IsOn, MemberBack, OtherBack, seen_as};
+ghost use Rattle.desk.specs.Ahead.{known_turn};
 ghost use Rattle.desk.specs.Desk.{counted, Fits};
 ghost use Rattle.desk.specs.State.{AreCells};
-ghost use Rattle.desk.specs.Turns.{again_turn, IsTurn};
+ghost use Rattle.desk.specs.Turns.{again_turn, IsLeafTurn, IsTurn};
 
 use crate::frame::Frame;
 use crate::repeat::{repeat_byte, takes_byte};
@@ -18,7 +19,6 @@ use crate::turn::{Turn, again, and, leaf_turn, next_turn, not, opt, plus, same, 
 use cells::{Cells, Found};
 use gramcheck::{Node, SoundPeg};
 use pegmatch::{Tried, match_any, match_bytes, match_set};
-use ruletable::Memory;
 
 /// Why a match stops with no outcome.
 #[derive(Clone, Copy, PartialEq, Eq, Debug)]
@@ -29,24 +29,56 @@ pub(crate) enum Halt {
     Short,
 }
 
-/// A node at a place.
-#[derive(Clone, Copy, PartialEq, Eq, Debug)]
-pub(crate) struct NodeAt {
-    pub(crate) node: usize,
-    pub(crate) place: usize,
-}
-
 // A literal of more bytes is compared only where it has no cell.
 const SHORT: usize = 8;
 
-// What a mark gives: it takes nothing, and looks at nothing.
+/// What is known of a node at a place before its cell is looked up.
+#[derive(Clone, Copy, PartialEq, Eq, Debug)]
+pub(crate) enum Sight {
+    /// What it gives, whatever the cells: it compares few bytes, or none.
+    Known(Found),
+    /// It would compare the last byte of a window behind which there is more.
+    Need,
+    /// It is a long literal, which is compared only where it has no cell.
+    Literal,
+    /// It has operands.
+    Operands,
+}
+
+// What was tried, as what is known before a cell is looked up.
 #[inline(always)]
-fn mark_at(place: usize) -> Tried
-    ensures { result ≡ record { found = Found.Took place; looked = 0 } }
+fn sight_at(tried: Tried, window: &[u8], more: bool) -> Sight
+    ensures { IsLeafTurn tried (length window.now) more (known_turn result) }
 {
-    Tried {
-        found: Found::Took(place),
-        looked: 0,
+    if more && tried.looked == window.len() {
+        return Sight::Need;
+    }
+    Sight::Known(tried.found)
+}
+
+// What is known of a node at a place before its cell is looked up.
+#[inline(always)]
+fn sight_of(peg: &SoundPeg, window: &[u8], more: bool, node: usize, place: usize) -> Sight
+    requires sound { IsSoundGrammar peg.now }
+    requires spells { SpellsSome (rules_of peg.now.rules) (shapes_of peg.now.nodes) node }
+    requires place { place ≤ length window.now }
+    requires some { more ≡ true → 0 < length window.now }
+    ensures { IsSight (rules_of peg.now.rules) peg.now.start (shapes_of peg.now.nodes) peg.now.bodies window.now more
+        node place result }
+{
+    match peg.node(node) {
+        Node::Any => sight_at(match_any(window, place), window, more),
+        Node::Set(set) => sight_at(match_set(set, window, place), window, more),
+        Node::Act(_) => Sight::Known(Found::Took(place)),
+        Node::Open => Sight::Known(Found::Took(place)),
+        Node::Close => Sight::Known(Found::Took(place)),
+        Node::Bytes(bytes) => {
+            if bytes.len() > SHORT {
+                return Sight::Literal;
+            }
+            sight_at(match_bytes(bytes, window, place), window, more)
+        }
+        _ => Sight::Operands,
     }
 }
 
@@ -180,122 +212,8 @@ fn held_or_short_apart(cells: &Cells, node: usize, place: usize) -> Seen
     flat(held_or_short(cells, node, place))
 }
 
-// What the node has at the place: what its cell there holds, or else `found`, for which a cell is added. A failure and
-// a success are put apart, which is faster.
-#[inline(always)]
-fn put_apart(cells: &mut Cells, node: usize, place: usize, found: Found) -> Result<Found, Memory>
-    requires { AreNarrow node place found }
-    ensures { IfOk result (λ known. IsKnown cells.old cells.new node place found known) }
-{
-    match found {
-        Found::Failed => cells.get_or_put_narrow(node, place, Found::Failed),
-        Found::Took(end) => cells.get_or_put_narrow(node, place, Found::Took(end)),
-    }
-}
-
-// The cell of a node at a place of which that was tried; it gets one where it has none.
-#[inline(always)]
-fn see_tried(
-    peg: &SoundPeg,
-    window: &[u8],
-    more: bool,
-    cells: &mut Cells,
-    at: NodeAt,
-    tried: Tried,
-) -> Result<Option<Found>, Halt>
-    requires sound { IsSoundGrammar peg.now }
-    requires spells { SpellsSome (rules_of peg.now.rules) (shapes_of peg.now.nodes) at.node }
-    requires place { at.place ≤ length window.now }
-    requires narrow { IsNarrowRun peg.now window.now }
-    requires right { AreCells (rules_of peg.now.rules) peg.now.start (shapes_of peg.now.nodes) peg.now.bodies window.now
-        more cells.old }
-    requires tried { IsTried (rules_of peg.now.rules) peg.now.start (shapes_of peg.now.nodes) peg.now.bodies window.now
-        more at.node at.place tried }
-    ensures { IsSeen (rules_of peg.now.rules) peg.now.start (shapes_of peg.now.nodes) peg.now.bodies window.now more
-        cells.old cells.new at.node at.place result }
-{
-    let _start = peg.start();
-    if more && tried.looked == window.len() {
-        return unfold(held_or_short_apart(cells, at.node, at.place));
-    }
-    match cells.get_or_put_narrow(at.node, at.place, tried.found) {
-        Ok(known) => Ok(Some(known)),
-        Err(_) => Err(Halt::Memory),
-    }
-}
-
-// The same; a failure and a success are put apart, which is faster.
-#[inline(always)]
-fn see_tried_apart(
-    peg: &SoundPeg,
-    window: &[u8],
-    more: bool,
-    cells: &mut Cells,
-    at: NodeAt,
-    tried: Tried,
-) -> Result<Option<Found>, Halt>
-    requires sound { IsSoundGrammar peg.now }
-    requires spells { SpellsSome (rules_of peg.now.rules) (shapes_of peg.now.nodes) at.node }
-    requires place { at.place ≤ length window.now }
-    requires narrow { IsNarrowRun peg.now window.now }
-    requires right { AreCells (rules_of peg.now.rules) peg.now.start (shapes_of peg.now.nodes) peg.now.bodies window.now
-        more cells.old }
-    requires tried { IsTried (rules_of peg.now.rules) peg.now.start (shapes_of peg.now.nodes) peg.now.bodies window.now
-        more at.node at.place tried }
-    ensures { IsSeen (rules_of peg.now.rules) peg.now.start (shapes_of peg.now.nodes) peg.now.bodies window.now more
-        cells.old cells.new at.node at.place result }
-{
-    let _start = peg.start();
-    if more && tried.looked == window.len() {
-        return unfold(held_or_short_apart(cells, at.node, at.place));
-    }
-    match put_apart(cells, at.node, at.place, tried.found) {
-        Ok(known) => Ok(Some(known)),
-        Err(_) => Err(Halt::Memory),
-    }
-}
-
-// The cell of a node at a place; one without operands gets its cell where it has none. This is one look at the node:
-// with two of them the compiler does not go from the first straight to where the second leads.
-#[inline(always)]
-fn see_once(
-    peg: &SoundPeg,
-    window: &[u8],
-    more: bool,
-    cells: &mut Cells,
-    node: usize,
-    place: usize,
-) -> Result<Option<Found>, Halt>
-    requires sound { IsSoundGrammar peg.now }
-    requires spells { SpellsSome (rules_of peg.now.rules) (shapes_of peg.now.nodes) node }
-    requires place { place ≤ length window.now }
-    requires some { more ≡ true → 0 < length window.now }
-    requires narrow { IsNarrowRun peg.now window.now }
-    requires right { AreCells (rules_of peg.now.rules) peg.now.start (shapes_of peg.now.nodes) peg.now.bodies window.now
-        more cells.old }
-    ensures { IsSeen (rules_of peg.now.rules) peg.now.start (shapes_of peg.now.nodes) peg.now.bodies window.now more
-        cells.old cells.new node place result }
-{
-    let tried = match peg.node(node) {
-        Node::Any => match_any(window, place),
-        Node::Set(set) => match_set(set, window, place),
-        Node::Act(_) => mark_at(place),
-        Node::Open => mark_at(place),
-        Node::Close => mark_at(place),
-        Node::Bytes(bytes) => {
-            if bytes.len() > SHORT {
-                return unfold(see_literal_apart(peg, window, more, cells, node, place));
-            }
-            match_bytes(bytes, window, place)
-        }
-        _ => return Ok(cells.get_narrow(node, place)),
-    };
-    let at = NodeAt { node, place };
-    see_tried(peg, window, more, cells, at, tried)
-}
-
-// The same; a failure and a success are put apart, which is faster. It is more code, and is for members and
-// alternatives.
+// The cell of a node at a place; one without operands gets its cell where it has none. A failure and a success are put
+// apart, which is faster.
 #[inline(always)]
 fn see(
     peg: &SoundPeg,
@@ -315,22 +233,61 @@ fn see(
     ensures { IsSeen (rules_of peg.now.rules) peg.now.start (shapes_of peg.now.nodes) peg.now.bodies window.now more
         cells.old cells.new node place result }
 {
-    let tried = match peg.node(node) {
-        Node::Any => match_any(window, place),
-        Node::Set(set) => match_set(set, window, place),
-        Node::Act(_) => mark_at(place),
-        Node::Open => mark_at(place),
-        Node::Close => mark_at(place),
-        Node::Bytes(bytes) => {
-            if bytes.len() > SHORT {
-                return unfold(see_literal_apart(peg, window, more, cells, node, place));
-            }
-            match_bytes(bytes, window, place)
-        }
-        _ => return Ok(cells.get_narrow(node, place)),
-    };
-    let at = NodeAt { node, place };
-    see_tried_apart(peg, window, more, cells, at, tried)
+    match sight_of(peg, window, more, node, place) {
+        Sight::Known(Found::Failed) => match cells.get_or_put_narrow(node, place, Found::Failed) {
+            Ok(known) => Ok(Some(known)),
+            Err(_) => Err(Halt::Memory),
+        },
+        Sight::Known(Found::Took(end)) => match cells.get_or_put_narrow(
+            node,
+            place,
+            Found::Took(end),
+        ) {
+            Ok(known) => Ok(Some(known)),
+            Err(_) => Err(Halt::Memory),
+        },
+        Sight::Need => unfold(held_or_short_apart(cells, node, place)),
+        Sight::Literal => unfold(see_literal_apart(peg, window, more, cells, node, place)),
+        _ => Ok(cells.get_narrow(node, place)),
+    }
+}
+
+// The same in less code.
+#[inline(always)]
+fn see_once(
+    peg: &SoundPeg,
+    window: &[u8],
+    more: bool,
+    cells: &mut Cells,
+    node: usize,
+    place: usize,
+) -> Result<Option<Found>, Halt>
+    requires sound { IsSoundGrammar peg.now }
+    requires spells { SpellsSome (rules_of peg.now.rules) (shapes_of peg.now.nodes) node }
+    requires place { place ≤ length window.now }
+    requires some { more ≡ true → 0 < length window.now }
+    requires narrow { IsNarrowRun peg.now window.now }
+    requires right { AreCells (rules_of peg.now.rules) peg.now.start (shapes_of peg.now.nodes) peg.now.bodies window.now
+        more cells.old }
+    ensures { IsSeen (rules_of peg.now.rules) peg.now.start (shapes_of peg.now.nodes) peg.now.bodies window.now more
+        cells.old cells.new node place result }
+{
+    match sight_of(peg, window, more, node, place) {
+        Sight::Known(found) => match cells.get_or_put_narrow(node, place, found) {
+            Ok(known) => Ok(Some(known)),
+            Err(_) => Err(Halt::Memory),
+        },
+        Sight::Need => unfold(held_or_short_apart(cells, node, place)),
+        Sight::Literal => unfold(see_literal_apart(peg, window, more, cells, node, place)),
+        _ => Ok(cells.get_narrow(node, place)),
+    }
+}
+
+/// A node at a place.
+#[derive(Clone, Copy, PartialEq, Eq, Debug)]
+pub(crate) struct NodeAt {
+    pub(crate) node: usize,
+    pub(crate) place: usize,
 }
 
 /// The last frame, and whether it goes on behind an evaluation that it asked for.
