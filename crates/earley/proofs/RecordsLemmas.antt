@@ -213,7 +213,7 @@ pub waits_go : (s : Stores) (bounds : List Bounds) (k : ℕ) (f : Front) → sli
 waits_go s bounds k f is =
     let u = get_unmap (front_in s) bounds k f is in
     subst (λ v. GoesOn v s.waits.items) (ap (λ v. v.waits) u.is)
-        (drop u.from.waits s.waits.items, sym (take-append-drop u.from.waits s.waits.items))
+    (drop u.from.waits s.waits.items, sym (take-append-drop u.from.waits s.waits.items))
 
 -- the lists of a further set
 pub added_stored : (old new : Stores) (bounds all : List Bounds) (b : Bounds) → all ≡ bounds ++ b ∷ [] → GoOn old new
