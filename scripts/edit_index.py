@@ -1,8 +1,8 @@
 #!/usr/bin/env python3
 """Prints the must-fail edits crate by crate: the function, what the edit changes, and the clause that refuses it.
 
-Ends with status 1 where an edit's name or first line lacks its form, its file has not the text that it changes, or a
-public function has no edit (CONTRIBUTING.md). With -q it prints only what is wrong.
+Ends with status 1 where an edit's name or first line lacks its form, the text that it changes does not stand once in
+its file, or a public function has no edit (CONTRIBUTING.md). With -q it prints only what is wrong.
 """
 import dataclasses
 import pathlib
@@ -88,20 +88,20 @@ def functions_of(folder):
     return [it for file in files for it in functions_in(file, public)]
 
 
-def plain(text):
-    """Returns a text without the white space around its lines."""
-    return "\n".join(it.strip() for it in text.strip().splitlines())
-
-
 def applies(file):
-    """Tells whether the source file that an edit names has each text that the edit changes."""
+    """Tells whether each text that an edit changes stands once in the source file that it names, as `rt` asks."""
     text = file.read_text()
     named = re.search(r"^file: (.+)$", text, re.M)
     source = file.parent.parent / named[1] if named else None
-    changed = re.findall(r"(?ms)^old:(.*?)^new:", text)
-    return bool(source and source.is_file() and changed) and all(
-        plain(it) in plain(source.read_text()) for it in changed
-    )
+    changes = re.findall(r"(?m)^old: (.*)\nnew: ?(.*)$", text)
+    if not (source and source.is_file() and changes):
+        return False
+    left = source.read_text()
+    for old, new in changes:
+        if left.count(old) != 1:
+            return False
+        left = left.replace(old, new)
+    return True
 
 
 def faults_of(file, functions, covered):
@@ -110,7 +110,7 @@ def faults_of(file, functions, covered):
     by = re.match(r"refused by: ([\w.]+), (.+)\n", file.read_text())
     if not by or not called or not re.fullmatch(r"\w+", change):
         return ["not of the form FUNCTION.CHANGE.edit with a first line 'refused by: FUNCTION, CLAUSE'"]
-    faults = [] if applies(file) else ["the file that it names has not the text that it changes"]
+    faults = [] if applies(file) else ["the text that it changes does not stand once in the file that it names"]
     for name in {called, by[1]}:
         fit = [it for it in functions if it.is_called(name)]
         covered += fit

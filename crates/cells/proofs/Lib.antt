@@ -2,5 +2,4 @@ pub mod PushLemmas
 pub mod AreLinkedLemmas
 pub mod IsSoughtLemmas
 pub mod IsKeptLemmas
-pub mod EndsWithLemmas
 pub mod FoundAtLemmas

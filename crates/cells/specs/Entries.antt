@@ -1,6 +1,5 @@
 -- The cells as callers see them: a list of entries, one for each pair of a node and a place that has a cell.
-use Rattle.std.specs.Prelude.{◌≡◌, ◌⊎◌, ℕ, ◌-◌, ◌<◌, ◌&&◌, ◌==◌, if◌then◌else◌, List, [], ◌∷◌, ◌++◌, Option, Some, None}
-use Rattle.std.specs.Prelude.{length, slice_get}
+use Rattle.std.specs.Prelude.{◌≡◌, ◌⊎◌, ℕ, ◌<◌, ◌&&◌, ◌==◌, if◌then◌else◌, List, [], ◌∷◌, ◌++◌, Option, Some, None}
 use Rattle.cells.specs.declared.cell.Found.{Found}
 use Rattle.cells.specs.declared.cell.Found.TheVariants.{Failed, Took}
 
@@ -13,10 +12,6 @@ pub record Entry : Type 0 where
 abbrev pub found_at : List Entry → ℕ → ℕ → Option Found
 found_at [] n p = None
 found_at (c ∷ cells) n p = if (c.node == n) && (c.place == p) then Some c.found else found_at cells n p
-
--- the last cell is of the node and the place, and holds f
-abbrev pub EndsWith : List Entry → ℕ → ℕ → Found → Type 0
-EndsWith cells n p f = slice_get cells (length cells - 1) ≡ Some (record { node = n; place = p; found = f })
 
 -- no two cells are of one node and place
 abbrev pub AreDifferent : List Entry → Type 0

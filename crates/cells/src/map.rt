@@ -1,7 +1,7 @@
 //! The cells as a finite map.
 ghost use Rattle.std.specs.Prelude.{◌≡◌, ℕ, ◌<◌, ◌≤◌, ◌++◌, ◌∷◌, ◌^◌, [], length, slice_get, false, Some, None, IfOk};
 ghost use Rattle.std.specs.Prelude.{IfNone, IfSome, OnOk, OnErr, vec_len, vec_capacity};
-ghost use Rattle.cells.specs.Entries.{found_at, AreNarrow, EndsWith, IsKnown};
+ghost use Rattle.cells.specs.Entries.{found_at, AreNarrow, IsKnown};
 ghost use Rattle.cells.specs.CellEntries.{IsAt, IsFree, IsKept, IsLimit, IsNowhere, entry_of, entries_of};
 ghost use Rattle.cells.specs.CellEntries.{found_of, found_or};
 ghost use Rattle.cells.specs.Links.{AreLinked};
@@ -510,25 +510,6 @@ impl Cells {
         match end_at(&self.cells, &self.rows, &self.layout, self.mask, key) {
             Some(end) => Some(found_of_end(end)),
             None => None,
-        }
-    }
-
-    /// Returns what the node gave at the place, if its cell there is the last one.
-    #[inline(always)]
-    pub fn last(&self, node: usize, place: usize) -> Option<Found>
-        ensures found { IfSome result (λ found. found_at self.now node place ≡ Some found) }
-        ensures last { IfSome result (λ found. EndsWith self.now node place found) }
-        ensures none { IfNone result ((found : Found) → EndsWith self.now node place found → ⊥) }
-    {
-        let count = self.cells.len();
-        if count == 0 {
-            return None;
-        }
-        let cell = self.cells[count - 1];
-        if cell.node as usize == node && cell.place as usize == place {
-            Some(found_of_end(cell.end))
-        } else {
-            None
         }
     }
 

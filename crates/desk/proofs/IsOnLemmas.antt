@@ -12,7 +12,7 @@ use Rattle.pegmatch.specs.Answers.{StartGives}
 use Rattle.cells.specs.Entries.{Entry, found_at}
 use Rattle.cells.specs.declared.cell.Found.{Found}
 use Rattle.cells.specs.declared.cell.Found.TheVariants.{Failed, Took}
-use Rattle.desk.specs.Ahead.{IsSeen, come_to, HasCome, IsOn, MemberBack, OtherBack}
+use Rattle.desk.specs.Ahead.{IsSeen, come_to, HasCome, IsOn}
 use Rattle.desk.specs.declared.ahead.Halt.{Halt}
 use Rattle.desk.specs.declared.ahead.Halt.TheVariants.{Memory, Short}
 use Rattle.desk.specs.declared.frame.Frame.{Frame}
@@ -21,6 +21,7 @@ use Rattle.desk.specs.declared.turn.Turn.TheVariants.{Ask, Answer}
 use Rattle.desk.specs.declared.run.Next.{Next}
 use Rattle.desk.specs.declared.run.Next.TheVariants as next
 use Rattle.desk.specs.Desk.{counted, Fits, IsFinished, IsFurther, IsNext}
+use Rattle.desk.specs.AsksNext.{IsBack, member_on, other_on}
 use Rattle.desk.specs.State as state
 use Rattle.desk.specs.State.{HaveTaken, HaveFailed, IsUnderWay}
 use Rattle.desk.specs.Turns.{same_turn, again_turn, opt_turn, and_turn, not_turn, star_turn, plus_turn, IsWalk}
@@ -32,6 +33,7 @@ use Rattle.desk.proofs.IsNextLemmas.{at_top, finished_next, leaf_next, leaf_need
 use Rattle.desk.proofs.IsStackLemmas.{come_on}
 use Rattle.desk.proofs.IsStepLemmas.{IsTop}
 use Rattle.desk.proofs.IsTurnLemmas.{name_is_turn, opt_is_turn, and_is_turn, not_is_turn, star_then, star_is_turn}
+use Rattle.desk.proofs.AsksNextLemmas.{member_known, other_known}
 use Rattle.desk.proofs.IsTurnLemmas.{plus_then, plus_is_turn, seq_is_turn, choice_is_turn}
 
 -- one way after another
@@ -483,43 +485,55 @@ module _ (g : Grammar) (x : List ℕ) (more : Bool) (sound : IsSoundGrammar g) (
     come = come_stays g x more sound below cells t f;
   }
 
-  pub member_comes : (at : slice_get (shapes_of g.nodes) t.node ≡ Some (node.Seq ms)) (u : Frame)
-      → MemberBack cells ms t (Ok u) → ComesOn u
-  member_comes at u (inl same) = stays_on u same
-  member_comes at u (inr m) = record {
-    next = t.next + 1;
-    end = m.0;
-    is = m.3;
-    come = next_takes g x more sound below cells t f some ms at m.1 m.0 m.2;
-  }
+  pub member_comes : (at : slice_get (shapes_of g.nodes) t.node ≡ Some (node.Seq ms)) (v : Option Found)
+      → IsBack g cells t v → (u : Frame) → Ok u ≡ member_on t v → ComesOn u
+  member_comes at None back u is = stays_on u (let same : t ≡ u = cc is in sym same)
+  member_comes at (Some Failed) back u is = absurd (cc is)
+  member_comes at (Some (Took r)) back u is =
+      let known = member_known g t cells ms at (Some (Took r)) back in record {
+        next = t.next + 1;
+        end = r;
+        is = let same : come_to t (t.next + 1) r ≡ u = cc is in sym same;
+        come = next_takes g x more sound below cells t f some ms at known.0 r known.1;
+      }
 
-  pub member_ends : (at : slice_get (shapes_of g.nodes) t.node ≡ Some (node.Seq ms)) (h : Found)
-      → MemberBack cells ms t (Err h) → IsOn g x more below cells cells t (Ok (Answer h))
-  member_ends at h m = rw m.0 (
-    t.next,
-    t.end,
-    come_stays g x more sound below cells t f,
-    next_fails g x more sound below cells t f some ms at m.1 m.2,
-  )
+  pub member_ends : (at : slice_get (shapes_of g.nodes) t.node ≡ Some (node.Seq ms)) (v : Option Found)
+      → IsBack g cells t v → (h : Found) → Err h ≡ member_on t v → IsOn g x more below cells cells t (Ok (Answer h))
+  member_ends at None back h is = absurd (cc is)
+  member_ends at (Some Failed) back h is =
+      let known = member_known g t cells ms at (Some Failed) back in
+      let same : Failed ≡ h = cc is in rw (sym same) (
+        t.next,
+        t.end,
+        come_stays g x more sound below cells t f,
+        next_fails g x more sound below cells t f some ms at known.0 known.1,
+      )
+  member_ends at (Some (Took r)) back h is = absurd (cc is)
 
-  pub other_comes : (at : slice_get (shapes_of g.nodes) t.node ≡ Some (node.Choice ms)) (u : Frame)
-      → OtherBack cells ms t (Ok u) → ComesOn u
-  other_comes at u (inl same) = stays_on u same
-  other_comes at u (inr m) = record {
-    next = t.next + 1;
-    end = t.end;
-    is = m.2;
-    come = other_fails g x more sound below cells t f some ms at m.0 t.end m.1;
-  }
+  pub other_comes : (at : slice_get (shapes_of g.nodes) t.node ≡ Some (node.Choice ms)) (v : Option Found)
+      → IsBack g cells t v → (u : Frame) → Ok u ≡ other_on t v → ComesOn u
+  other_comes at None back u is = stays_on u (let same : t ≡ u = cc is in sym same)
+  other_comes at (Some Failed) back u is =
+      let known = other_known g t cells ms at (Some Failed) back in record {
+        next = t.next + 1;
+        end = t.end;
+        is = let same : come_to t (t.next + 1) t.end ≡ u = cc is in sym same;
+        come = other_fails g x more sound below cells t f some ms at known.0 t.end known.1;
+      }
+  other_comes at (Some (Took r)) back u is = absurd (cc is)
 
-  pub other_ends : (at : slice_get (shapes_of g.nodes) t.node ≡ Some (node.Choice ms)) (h : Found)
-      → OtherBack cells ms t (Err h) → IsOn g x more below cells cells t (Ok (Answer h))
-  other_ends at h m = rw m.1 (
-    t.next,
-    t.end,
-    come_stays g x more sound below cells t f,
-    other_takes g x more sound below cells t f some ms at m.2 m.0 m.3,
-  )
+  pub other_ends : (at : slice_get (shapes_of g.nodes) t.node ≡ Some (node.Choice ms)) (v : Option Found)
+      → IsBack g cells t v → (h : Found) → Err h ≡ other_on t v → IsOn g x more below cells cells t (Ok (Answer h))
+  other_ends at None back h is = absurd (cc is)
+  other_ends at (Some Failed) back h is = absurd (cc is)
+  other_ends at (Some (Took r)) back h is =
+      let known = other_known g t cells ms at (Some (Took r)) back in
+      let same : Took r ≡ h = cc is in rw (sym same) (
+        t.next,
+        t.end,
+        come_stays g x more sound below cells t f,
+        other_takes g x more sound below cells t f some ms at known.0 r known.1,
+      )
 
   -- a frame that has come so far fits
   pub comes_fit : (u : Frame) → ComesOn u → Fits g x more (counted cells (u ∷ below))

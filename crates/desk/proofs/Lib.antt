@@ -11,6 +11,7 @@ pub mod CodeLemmas
 pub mod AreCellsLemmas
 pub mod IsStepLemmas
 pub mod IsNextLemmas
+pub mod AsksNextLemmas
 pub mod IsOnLemmas
 pub mod IsNarrowRunLemmas
 pub mod TowerLemmas

@@ -1,6 +1,6 @@
 -- What an evaluation does next where nodes without operands are evaluated at once.
-use Rattle.std.specs.Prelude.{◌≡◌, ◌⊎◌, ℕ, ◌+◌, ◌<◌, ◌≤◌, Bool, true, List, [], ◌∷◌, ◌++◌, length, Option, Some, None}
-use Rattle.std.specs.Prelude.{Result, Ok, Err, get_or}
+use Rattle.std.specs.Prelude.{◌≡◌, ◌⊎◌, ℕ, ◌<◌, ◌≤◌, Bool, true, List, [], ◌∷◌, ◌++◌, length, Option, Some, None}
+use Rattle.std.specs.Prelude.{Result, Ok, Err}
 use Rattle.pegread.specs.Pattern.{Rule}
 use Rattle.pegread.specs.PegViews.{rules_of}
 use Rattle.gramcheck.specs.Grammar.{Grammar}
@@ -64,20 +64,6 @@ seen_as seen.Short = Err Short
 -- a frame that has come to its member i at q
 abbrev pub come_to : Frame → ℕ → ℕ → Frame
 come_to f i q = record { node = f.node; place = f.place; next = i; end = q }
-
--- Where a sequence goes on: where it was, or behind its next member, which took something; or what that makes of it.
-abbrev pub MemberBack : List Entry → List ℕ → Frame → Result Frame Found → Type 0
-MemberBack cells ms t (Ok f) = (f ≡ t) ⊎ ((r : ℕ) × (t.next < length ms)
-    × (found_at cells (get_or ms t.next 0) t.end ≡ Some (Took r)) × (f ≡ come_to t (t.next + 1) r))
-MemberBack cells ms t (Err h) = (h ≡ Failed) × (t.next < length ms)
-    × (found_at cells (get_or ms t.next 0) t.end ≡ Some Failed)
-
--- Where a choice goes on: where it was, or behind its next alternative, which failed; or what that makes of it.
-abbrev pub OtherBack : List Entry → List ℕ → Frame → Result Frame Found → Type 0
-OtherBack cells ms t (Ok f) = (f ≡ t) ⊎ ((t.next < length ms)
-    × (found_at cells (get_or ms t.next 0) t.place ≡ Some Failed) × (f ≡ come_to t (t.next + 1) t.end))
-OtherBack cells ms t (Err h) = (r : ℕ) × (h ≡ Took r) × (t.next < length ms)
-    × (found_at cells (get_or ms t.next 0) t.place ≡ Some (Took r))
 
 -- What the last frame does next, over the cells that came in, and over the frames below it: less is left, or as much.
 module _ (g : Grammar) (x : List ℕ) (more : Bool) (below : List Frame) (old new : List Entry) (top : Frame) where

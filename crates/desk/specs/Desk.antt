@@ -12,6 +12,8 @@ use Rattle.cells.specs.declared.cell.Found.TheVariants as found
 use Rattle.pegmatch.specs.declared.matcher.Unit.{Unit as UnitAnswer}
 use Rattle.pegmatch.specs.declared.matcher.Unit.TheVariants.{Took, Failed, Need}
 use Rattle.cells.specs.Entries.{Entry}
+use Rattle.desk.specs.declared.ahead.Back.{Back}
+use Rattle.desk.specs.declared.ahead.Back.TheVariants as back
 use Rattle.desk.specs.declared.frame.Frame.{Frame}
 use Rattle.desk.specs.declared.run.Next.{Next}
 use Rattle.desk.specs.declared.run.Next.TheVariants as next
@@ -46,10 +48,18 @@ unit_of_match (Some f) begun = unit_of f begun
 abbrev pub beginning : ℕ → ℕ → Frame
 beginning n p = record { node = n; place = p; next = 0; end = p }
 
--- the last frame, t, is turned into its cell, and the frame below it is the last; or it was the only one
+-- the outcome is handed to the frame that asked for it
+abbrev pub IsHanded : Found → Back → Type 0
+IsHanded f back.Nothing = ⊥
+IsHanded f back.Failed = f ≡ found.Failed
+IsHanded f (back.Took q) = f ≡ found.Took q
+
+-- the last frame, t, is turned into its cell, and the frame below it is the last, and gets the outcome; or it was the
+-- only one
 abbrev pub IsFinished : List Entry → List Frame → Frame → Found → List Entry → List Frame → Next → Type 0
 IsFinished cells fs t f new below (next.More on) =
     (new ≡ cells ++ record { node = t.node; place = t.place; found = f } ∷ []) × (fs ≡ on.top ∷ below)
+    × IsHanded f on.back
 IsFinished cells fs t f new below (next.Ended h) =
     (new ≡ cells ++ record { node = t.node; place = t.place; found = f } ∷ []) × (h ≡ f) × (fs ≡ []) × (below ≡ [])
 IsFinished cells fs t f new below next.Need = ⊥

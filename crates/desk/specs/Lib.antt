@@ -5,3 +5,4 @@ pub mod Turns
 pub mod Desk
 pub mod Path
 pub mod Repeats
+pub mod AsksNext

@@ -7,9 +7,10 @@ ghost use Rattle.pegmatch.specs.KeptEvents.{SpellsSome};
 ghost use Rattle.cells.specs.Entries.{Entry, found_at};
 ghost use Rattle.cells.specs.declared.cell.Found.{Found};
 ghost use Rattle.desk.specs.declared.frame.Frame.{Frame};
-ghost use Rattle.desk.specs.Ahead.{IsNarrowRun, IsSight, IsSeen, IsOn, MemberBack, OtherBack, seen_as};
+ghost use Rattle.desk.specs.Ahead.{IsNarrowRun, IsSight, IsSeen, IsOn, seen_as};
 ghost use Rattle.desk.specs.Ahead.{known_turn};
-ghost use Rattle.desk.specs.Desk.{counted, Fits};
+ghost use Rattle.desk.specs.Desk.{counted, Fits, IsHanded};
+ghost use Rattle.desk.specs.AsksNext.{AsksAt, IsBack, back_as, member_on, other_on};
 ghost use Rattle.desk.specs.State.{AreCells};
 ghost use Rattle.desk.specs.Turns.{again_turn, IsLeafTurn, IsTurn};
 
@@ -283,45 +284,43 @@ fn see_once(
     }
 }
 
-/// A node at a place.
+/// The outcome of what the last frame asked for, where it goes on behind that.
 #[derive(Clone, Copy, PartialEq, Eq, Debug)]
-pub(crate) struct NodeAt {
-    pub(crate) node: usize,
-    pub(crate) place: usize,
+pub(crate) enum Back {
+    /// It begins.
+    Nothing,
+    Failed,
+    Took(usize),
 }
 
-/// The last frame, and whether it goes on behind an evaluation that it asked for.
-#[derive(Clone, Copy, PartialEq, Eq, Debug)]
-pub(crate) struct Stage {
-    pub(crate) top: Frame,
-    pub(crate) back: bool,
-}
-
-// What the last cell holds, if it is asked for and is of that node at that place.
+/// Returns that outcome.
 #[inline(always)]
-fn last_if(back: bool, cells: &Cells, at: NodeAt) -> Option<Found>
-    ensures { IfSome result (λ f. found_at cells.now at.node at.place ≡ Some f) }
+pub(crate) fn back_of(found: Found) -> Back
+    ensures { IsHanded found result }
 {
-    if back {
-        cells.last(at.node, at.place)
-    } else {
-        None
+    match found {
+        Found::Failed => Back::Failed,
+        Found::Took(end) => Back::Took(end),
     }
 }
 
-// Hands on what the node that goes on with a repetition gives at the end of one turn of it, which may be the last
-// cell's.
+/// The last frame, and the outcome of what it asked for.
+#[derive(Clone, Copy, PartialEq, Eq, Debug)]
+pub(crate) struct Stage {
+    pub(crate) top: Frame,
+    pub(crate) back: Back,
+}
+
+// Hands on what the node that goes on with a repetition gives at the end of one turn of it.
 #[inline(always)]
 fn again_back(cells: &Cells, node: usize, stage: Stage) -> Turn
+    requires { IfSome (back_as stage.back) (λ f. found_at cells.now node stage.top.end ≡ Some f) }
     ensures { result ≡ again_turn node stage.top.end (found_at cells.now node stage.top.end) }
 {
-    let at = NodeAt {
-        node,
-        place: stage.top.end,
-    };
-    match last_if(stage.back, cells, at) {
-        Some(found) => Turn::Answer(found),
-        None => again(cells, at.node, at.place),
+    match stage.back {
+        Back::Nothing => again(cells, node, stage.top.end),
+        Back::Failed => Turn::Answer(Found::Failed),
+        Back::Took(end) => Turn::Answer(Found::Took(end)),
     }
 }
 
@@ -339,8 +338,9 @@ fn all_on(
     requires some { more ≡ true → 0 < length window.now }
     requires narrow { IsNarrowRun peg.now window.now }
     requires fits { (below : List Frame) × Fits peg.now window.now more (counted cells.old (top ∷ below)) }
-    ensures { (below : List Frame) → Fits peg.now window.now more (counted cells.old (top ∷ below)) →
+    ensures on { (below : List Frame) → Fits peg.now window.now more (counted cells.old (top ∷ below)) →
         IsOn peg.now window.now more below cells.old cells.new top result }
+    ensures asks { IfOk result (λ turn. AsksAt peg.now top turn) }
 {
     let _start = peg.start();
     let mut end = top.end;
@@ -376,8 +376,9 @@ fn first_on(
     requires some { more ≡ true → 0 < length window.now }
     requires narrow { IsNarrowRun peg.now window.now }
     requires fits { (below : List Frame) × Fits peg.now window.now more (counted cells.old (top ∷ below)) }
-    ensures { (below : List Frame) → Fits peg.now window.now more (counted cells.old (top ∷ below)) →
+    ensures on { (below : List Frame) → Fits peg.now window.now more (counted cells.old (top ∷ below)) →
         IsOn peg.now window.now more below cells.old cells.new top result }
+    ensures asks { IfOk result (λ turn. AsksAt peg.now top turn) }
 {
     let _start = peg.start();
     for i in top.next..alternatives.len() {
@@ -398,57 +399,45 @@ fn first_on(
     Ok(Turn::Answer(Found::Failed))
 }
 
-// Where a sequence goes on: behind its next member, if that is the last cell's and took something; else what it gives.
+// Where a sequence goes on: behind its next member, if that took something; else what it gives.
 #[inline(always)]
-fn member_back(cells: &Cells, members: &[usize], stage: Stage) -> Result<Frame, Found>
-    ensures { MemberBack cells.now members.now stage.top result }
+fn member_back(members: &[usize], stage: Stage) -> Result<Frame, Found>
+    requires { IfSome (back_as stage.back) (λ _. stage.top.next < length members.now) }
+    ensures { result ≡ member_on stage.top (back_as stage.back) }
 {
     let top = stage.top;
-    if top.next >= members.len() {
-        return Ok(top);
-    }
-    let at = NodeAt {
-        node: members[top.next],
-        place: top.end,
-    };
-    match last_if(stage.back, cells, at) {
-        Some(Found::Took(after)) => Ok(Frame {
+    match stage.back {
+        Back::Nothing => Ok(top),
+        Back::Failed => Err(Found::Failed),
+        Back::Took(after) => Ok(Frame {
             node: top.node,
             place: top.place,
             next: top.next + 1,
             end: after,
         }),
-        Some(Found::Failed) => Err(Found::Failed),
-        None => Ok(top),
     }
 }
 
-// Where a choice goes on: behind its next alternative, if that is the last cell's and failed; else what it gives.
+// Where a choice goes on: behind its next alternative, if that failed; else what it gives.
 #[inline(always)]
-fn other_back(cells: &Cells, alternatives: &[usize], stage: Stage) -> Result<Frame, Found>
-    ensures { OtherBack cells.now alternatives.now stage.top result }
+fn other_back(alternatives: &[usize], stage: Stage) -> Result<Frame, Found>
+    requires { IfSome (back_as stage.back) (λ _. stage.top.next < length alternatives.now) }
+    ensures { result ≡ other_on stage.top (back_as stage.back) }
 {
     let top = stage.top;
-    if top.next >= alternatives.len() {
-        return Ok(top);
-    }
-    let at = NodeAt {
-        node: alternatives[top.next],
-        place: top.place,
-    };
-    match last_if(stage.back, cells, at) {
-        Some(Found::Took(end)) => Err(Found::Took(end)),
-        Some(Found::Failed) => Ok(Frame {
+    match stage.back {
+        Back::Nothing => Ok(top),
+        Back::Failed => Ok(Frame {
             node: top.node,
             place: top.place,
             next: top.next + 1,
             end: top.end,
         }),
-        None => Ok(top),
+        Back::Took(end) => Err(Found::Took(end)),
     }
 }
 
-// On through the members of a sequence, from behind the last cell's where that is of one.
+// On through the members of a sequence, from behind the one that has its outcome, if one has.
 #[inline(always)]
 fn all_from(
     peg: &SoundPeg,
@@ -462,17 +451,19 @@ fn all_from(
     requires some { more ≡ true → 0 < length window.now }
     requires narrow { IsNarrowRun peg.now window.now }
     requires fits { (below : List Frame) × Fits peg.now window.now more (counted cells.old (stage.top ∷ below)) }
-    ensures { (below : List Frame) → Fits peg.now window.now more (counted cells.old (stage.top ∷ below)) →
+    requires back { IsBack peg.now cells.old stage.top (back_as stage.back) }
+    ensures on { (below : List Frame) → Fits peg.now window.now more (counted cells.old (stage.top ∷ below)) →
         IsOn peg.now window.now more below cells.old cells.new stage.top result }
+    ensures asks { IfOk result (λ turn. AsksAt peg.now stage.top turn) }
 {
     let _start = peg.start();
-    match member_back(cells, members, stage) {
+    match member_back(members, stage) {
         Ok(from) => all_on(peg, window, more, cells, members, from),
         Err(found) => Ok(Turn::Answer(found)),
     }
 }
 
-// On through the alternatives of a choice, from behind the last cell's where that is of one.
+// On through the alternatives of a choice, from behind the one that has its outcome, if one has.
 #[inline(always)]
 fn first_from(
     peg: &SoundPeg,
@@ -486,17 +477,19 @@ fn first_from(
     requires some { more ≡ true → 0 < length window.now }
     requires narrow { IsNarrowRun peg.now window.now }
     requires fits { (below : List Frame) × Fits peg.now window.now more (counted cells.old (stage.top ∷ below)) }
-    ensures { (below : List Frame) → Fits peg.now window.now more (counted cells.old (stage.top ∷ below)) →
+    requires back { IsBack peg.now cells.old stage.top (back_as stage.back) }
+    ensures on { (below : List Frame) → Fits peg.now window.now more (counted cells.old (stage.top ∷ below)) →
         IsOn peg.now window.now more below cells.old cells.new stage.top result }
+    ensures asks { IfOk result (λ turn. AsksAt peg.now stage.top turn) }
 {
     let _start = peg.start();
-    match other_back(cells, alternatives, stage) {
+    match other_back(alternatives, stage) {
         Ok(from) => first_on(peg, window, more, cells, alternatives, from),
         Err(found) => Ok(Turn::Answer(found)),
     }
 }
 
-// What is seen of the operand of the last frame's node at its place, where the last cell may be that of the operand.
+// What is seen of the operand of the last frame's node at its place.
 #[inline(always)]
 fn see_operand(
     peg: &SoundPeg,
@@ -513,16 +506,14 @@ fn see_operand(
     requires narrow { IsNarrowRun peg.now window.now }
     requires right { AreCells (rules_of peg.now.rules) peg.now.start (shapes_of peg.now.nodes) peg.now.bodies window.now
         more cells.old }
+    requires back { IfSome (back_as stage.back) (λ f. found_at cells.old operand stage.top.place ≡ Some f) }
     ensures { IsSeen (rules_of peg.now.rules) peg.now.start (shapes_of peg.now.nodes) peg.now.bodies window.now more
         cells.old cells.new operand stage.top.place result }
 {
-    let at = NodeAt {
-        node: operand,
-        place: stage.top.place,
-    };
-    match last_if(stage.back, cells, at) {
-        Some(found) => Ok(Some(found)),
-        None => see_once(peg, window, more, cells, at.node, at.place),
+    match stage.back {
+        Back::Nothing => see_once(peg, window, more, cells, operand, stage.top.place),
+        Back::Failed => Ok(Some(Found::Failed)),
+        Back::Took(end) => Ok(Some(Found::Took(end))),
     }
 }
 
@@ -540,8 +531,10 @@ fn star_on(
     requires some { more ≡ true → 0 < length window.now }
     requires narrow { IsNarrowRun peg.now window.now }
     requires fits { (below : List Frame) × Fits peg.now window.now more (counted cells.old (stage.top ∷ below)) }
-    ensures { (below : List Frame) → Fits peg.now window.now more (counted cells.old (stage.top ∷ below)) →
+    requires back { IsBack peg.now cells.old stage.top (back_as stage.back) }
+    ensures on { (below : List Frame) → Fits peg.now window.now more (counted cells.old (stage.top ∷ below)) →
         IsOn peg.now window.now more below cells.old cells.new stage.top result }
+    ensures asks { IfOk result (λ turn. AsksAt peg.now stage.top turn) }
 {
     let _start = peg.start();
     let top = stage.top;
@@ -549,7 +542,10 @@ fn star_on(
         return Ok(again_back(cells, top.node, stage));
     }
     if takes_byte(peg.node(operand)) {
-        return repeat_byte(peg, window, more, cells, operand, top);
+        return match repeat_byte(peg, window, more, cells, operand, top) {
+            Ok(found) => Ok(Turn::Answer(found)),
+            Err(halt) => Err(halt),
+        };
     }
     match see_operand(peg, window, more, cells, stage, operand) {
         Ok(found) => Ok(star(cells, found, top.node, operand, top.place)),
@@ -579,8 +575,10 @@ fn plus_on(
     requires some { more ≡ true → 0 < length window.now }
     requires narrow { IsNarrowRun peg.now window.now }
     requires fits { (below : List Frame) × Fits peg.now window.now more (counted cells.old (stage.top ∷ below)) }
-    ensures { (below : List Frame) → Fits peg.now window.now more (counted cells.old (stage.top ∷ below)) →
+    requires back { IsBack peg.now cells.old stage.top (back_as stage.back) }
+    ensures on { (below : List Frame) → Fits peg.now window.now more (counted cells.old (stage.top ∷ below)) →
         IsOn peg.now window.now more below cells.old cells.new stage.top result }
+    ensures asks { IfOk result (λ turn. AsksAt peg.now stage.top turn) }
 {
     let _start = peg.start();
     let Repeated {
@@ -609,8 +607,10 @@ pub(crate) fn turn_on(
     requires some { more ≡ true → 0 < length window.now }
     requires narrow { IsNarrowRun peg.now window.now }
     requires fits { (below : List Frame) × Fits peg.now window.now more (counted cells.old (stage.top ∷ below)) }
-    ensures { (below : List Frame) → Fits peg.now window.now more (counted cells.old (stage.top ∷ below)) →
+    requires back { IsBack peg.now cells.old stage.top (back_as stage.back) }
+    ensures on { (below : List Frame) → Fits peg.now window.now more (counted cells.old (stage.top ∷ below)) →
         IsOn peg.now window.now more below cells.old cells.new stage.top result }
+    ensures asks { IfOk result (λ turn. AsksAt peg.now stage.top turn) }
 {
     let _start = peg.start();
     let place = stage.top.place;

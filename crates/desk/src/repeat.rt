@@ -1,11 +1,12 @@
 //! A repetition of a node that takes a byte, without a frame for each turn of it.
-ghost use Rattle.std.specs.Prelude.{◌≡◌, ◌<◌, ◌≤◌, List, ◌∷◌, length, slice_get, Some, true, IfOk, IfErr};
+ghost use Rattle.std.specs.Prelude.{◌≡◌, ◌<◌, ◌≤◌, List, ◌∷◌, length, slice_get, Some, true, Ok, IfOk, IfErr};
 ghost use Rattle.pegread.specs.PegViews.{rules_of};
 ghost use Rattle.gramcheck.specs.Grammar.{IsSoundGrammar};
 ghost use Rattle.gramcheck.specs.Nodes.{Shape, shape_of, shapes_of};
 ghost use Rattle.pegmatch.specs.KeptEvents.{SpellsSome};
 ghost use Rattle.cells.specs.Entries.{Entry};
 ghost use Rattle.desk.specs.declared.frame.Frame.{Frame};
+ghost use Rattle.desk.specs.declared.turn.Turn.TheVariants.{Answer};
 ghost use Rattle.desk.specs.Ahead.{IsNarrowRun, IsSeen, IsOn};
 ghost use Rattle.desk.specs.Desk.{counted, Fits};
 ghost use Rattle.desk.specs.Repeats.{TakesByte, leaf_of, some_of, HasRun, IsHalted};
@@ -14,7 +15,6 @@ ghost use Rattle.desk.specs.Turns.{IsLeafTurn, IsTurn};
 
 use crate::ahead::Halt;
 use crate::frame::Frame;
-use crate::turn::Turn;
 use cells::{Cells, Found};
 use gramcheck::{Node, SoundPeg};
 use pegmatch::{Tried, match_any, match_set};
@@ -146,13 +146,15 @@ pub(crate) fn repeat_byte(
     cells: &mut Cells,
     operand: usize,
     top: Frame,
-) -> Result<Turn, Halt>
+) -> Result<Found, Halt>
     requires star { slice_get (shapes_of peg.now.nodes) top.node ≡ Some (Shape.Star operand) }
     requires byte { (shape : Shape) → slice_get (shapes_of peg.now.nodes) operand ≡ Some shape → TakesByte shape }
     requires narrow { IsNarrowRun peg.now window.now }
     requires fits { (below : List Frame) × Fits peg.now window.now more (counted cells.old (top ∷ below)) }
-    ensures { (below : List Frame) → Fits peg.now window.now more (counted cells.old (top ∷ below)) →
-        IsOn peg.now window.now more below cells.old cells.new top result }
+    ensures found { IfOk result (λ found. (below : List Frame)
+        → Fits peg.now window.now more (counted cells.old (top ∷ below)) →
+        IsOn peg.now window.now more below cells.old cells.new top (Ok (Answer found))) }
+    ensures halt { IfErr result (IsHalted peg.now window.now more) }
 {
     let _start = peg.start();
     let run = match run_on(peg, window, more, cells, operand, top) {
@@ -166,5 +168,5 @@ pub(crate) fn repeat_byte(
             Err(_) => return Err(Halt::Memory),
         }
     }
-    Ok(Turn::Answer(run.found))
+    Ok(run.found)
 }

@@ -3,9 +3,10 @@ ghost use Rattle.std.specs.Prelude.{◌≡◌, ◌+◌, ◌<◌, ◌≤◌, List
 ghost use Rattle.desk.specs.Ahead.{IsNarrowRun};
 ghost use Rattle.cells.specs.Entries.{found_at, AreNarrow};
 ghost use Rattle.desk.specs.Desk.{counted, Fits, IsFinished, IsNext, IsMatched};
+ghost use Rattle.desk.specs.AsksNext.{AreAsked, IsBack, IsKnownNext, back_as};
 
 use crate::advance::beginning;
-use crate::ahead::{Halt, Stage, turn_on};
+use crate::ahead::{Back, Halt, Stage, back_of, turn_on};
 use crate::frame::{Frame, Frames};
 use crate::turn::Turn;
 use cells::{Cells, Found};
@@ -34,7 +35,7 @@ fn finish(cells: &mut Cells, below: &mut Frames, top: Frame, found: Found) -> Re
     match below.take() {
         Some(frame) => Ok(Next::More(Stage {
             top: frame,
-            back: true,
+            back: back_of(found),
         })),
         None => Ok(Next::Ended(found)),
     }
@@ -53,8 +54,11 @@ fn go_on(
     requires some { more ≡ true → 0 < length window.now }
     requires narrow { IsNarrowRun peg.now window.now }
     requires fits { Fits peg.now window.now more (counted cells.old (stage.top ∷ below.old)) }
-    ensures { IfOk result (IsNext peg.now window.now more (counted cells.old (stage.top ∷ below.old)) cells.new
+    requires asked { AreAsked peg.now stage.top below.old }
+    requires back { IsBack peg.now cells.old stage.top (back_as stage.back) }
+    ensures next { IfOk result (IsNext peg.now window.now more (counted cells.old (stage.top ∷ below.old)) cells.new
         below.new) }
+    ensures known { IfOk result (IsKnownNext peg.now cells.new below.new) }
 {
     let _start = peg.start();
     let top = stage.top;
@@ -80,7 +84,7 @@ fn go_on(
             })?;
             Ok(Next::More(Stage {
                 top: beginning(node, place),
-                back: false,
+                back: Back::Nothing,
             }))
         }
     }
@@ -106,7 +110,7 @@ pub(crate) fn match_on(
     let _start = peg.start();
     let mut stage = Stage {
         top: beginning(root, 0),
-        back: false,
+        back: Back::Nothing,
     };
     'turns: loop {
         let next = go_on(peg, window, more, cells, frames, stage)?;

@@ -1,5 +1,6 @@
 use Rattle.desk.proofs.IsOnLemmas.{come_stays, next_child, member_free, member_fails}
 use Rattle.desk.proofs.IsOnLemmas.{member_takes, member_halts, all_taken}
+use Rattle.desk.proofs.AsksNextLemmas.{asks_member_at}
 use Rattle.desk.proofs.ahead.all_on.Goals as goal
 
 pub loop-i-init : goal.loop-i-init
@@ -18,13 +19,13 @@ see-requires-clause-place c = (next_child _ _ _ c.start-start.ensures.sound c.re
 pub see-requires-clause-right : goal.see-requires-clause-right
 see-requires-clause-right c = (c.loop-i.invariant c.requires.fits.0 c.requires.fits.1).fits.cells
 
-pub returns-in-Ok-None : goal.returns-in-Ok-None
-returns-in-Ok-None c = λ below fits. member_free _ _ _ c.start-start.ensures.sound below _ _ _ _ _
+pub returns-in-Ok-None-clause-on : goal.returns-in-Ok-None-clause-on
+returns-in-Ok-None-clause-on c = λ below fits. member_free _ _ _ c.start-start.ensures.sound below _ _ _ _ _
     (c.loop-i.invariant below fits) c.requires.some _ c.loop-i-test.true c.requires.members _
     (rw c.in-Ok-None.field-0-is at c.in-Ok-None.ensures)
 
-pub returns-in-Ok-Some-Failed : goal.returns-in-Ok-Some-Failed
-returns-in-Ok-Some-Failed c = λ below fits. member_fails _ _ _ c.start-start.ensures.sound below _ _ _ _ _
+pub returns-in-Ok-Some-Failed-clause-on : goal.returns-in-Ok-Some-Failed-clause-on
+returns-in-Ok-Some-Failed-clause-on c = λ below fits. member_fails _ _ _ c.start-start.ensures.sound below _ _ _ _ _
     (c.loop-i.invariant below fits) c.requires.some _ c.loop-i-test.true c.requires.members _
     (rw (c.in-Ok-Some-Failed.field-0-is, c.in-Ok-Some-Failed.field-0-0-is) at c.in-Ok-Some-Failed.ensures)
 
@@ -33,13 +34,13 @@ loop-i-preserved c = λ below fits. member_takes _ _ _ c.start-start.ensures.sou
     (c.loop-i.invariant below fits) c.requires.some _ c.loop-i-test.true c.requires.members _ _
     (rw (c.in-Ok-Some-Took.field-0-is, c.in-Ok-Some-Took.field-0-0-is) at c.in-Ok-Some-Took.ensures)
 
-pub returns-in-Err : goal.returns-in-Err
-returns-in-Err c = λ below fits. member_halts _ _ _ c.start-start.ensures.sound below _ _ _ _ _
+pub returns-in-Err-clause-on : goal.returns-in-Err-clause-on
+returns-in-Err-clause-on c = λ below fits. member_halts _ _ _ c.start-start.ensures.sound below _ _ _ _ _
     (c.loop-i.invariant below fits) c.requires.some _ c.loop-i-test.true c.requires.members c.see.new.cells
     c.in-Err.halt c.in-Err.ensures
 
-pub returns : goal.returns
-returns c = λ below fits.
+pub returns-clause-on : goal.returns-clause-on
+returns-clause-on c = λ below fits.
     let here = c.loop-i.invariant below fits in (
       _,
       _,
@@ -47,3 +48,7 @@ returns c = λ below fits.
       all_taken _ _ _ c.start-start.ensures.sound below _ _ here.fits c.requires.some _ c.requires.members
           c.loop-i-test.false,
     )
+
+pub returns-in-Ok-None-clause-asks : goal.returns-in-Ok-None-clause-asks
+returns-in-Ok-None-clause-asks c =
+    asks_member_at c.args.peg.now c.args.top c.args.members.now _ _ c.requires.members c.loop-i-test.true

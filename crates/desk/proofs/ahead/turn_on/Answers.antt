@@ -6,6 +6,9 @@ use Rattle.pegmatch.proofs.NodeShapeLemmas.{shape_at}
 use Rattle.desk.proofs.IsNextLemmas.{at_top}
 use Rattle.desk.proofs.IsOnLemmas.{come_stays, child_visited, halts_on, asks_name, name_on, asks_opt, opt_on}
 use Rattle.desk.proofs.IsOnLemmas.{asks_and, and_on, asks_not, not_on}
+use Rattle.desk.proofs.AsksNextLemmas.{body_known, opt_known, and_known, not_known, asks_body_at, asks_opt_at}
+use Rattle.desk.proofs.AsksNextLemmas.{asks_and_at, asks_not_at, leaf_asks_none, leaf_asks_nothing}
+use Rattle.desk.specs.AsksNext.{back_as}
 use Rattle.desk.proofs.ahead.turn_on.Goals as goal
 
 pub node-requires : goal.node-requires
@@ -38,15 +41,15 @@ see_operand-requires-clause-spells c =
 pub see_operand-requires-clause-place : goal.see_operand-requires-clause-place
 see_operand-requires-clause-place c = (at_top _ _ _ c.start-start.ensures.sound _ _ _ c.requires.fits.1).high
 
-pub returns-in-Ok : goal.returns-in-Ok
-returns-in-Ok c = λ below fits. rw c.same.ensures
+pub returns-in-Ok-clause-on : goal.returns-in-Ok-clause-on
+returns-in-Ok-clause-on c = λ below fits. rw c.same.ensures
     (name_on _ _ _ c.start-start.ensures.sound below _ _ fits _ _
     (shape_at c.args.peg.now.nodes c.args.stage.top.node _ (c.node.ensures ∙ ap Some c.in-Name.is))
     c.body_node-body.ensures _
     _ c.in-Ok.ensures)
 
-pub returns-in-Err : goal.returns-in-Err
-returns-in-Err c = λ below fits.
+pub returns-in-Err-clause-on : goal.returns-in-Err-clause-on
+returns-in-Err-clause-on c = λ below fits.
     halts_on _ _ _ c.start-start.ensures.sound below _ _ fits _ _
     (asks_name _ _ _ c.start-start.ensures.sound below _ _ fits _ _
     (shape_at c.args.peg.now.nodes c.args.stage.top.node _ (c.node.ensures ∙ ap Some c.in-Name.is))
@@ -61,14 +64,14 @@ see_operand-requires-in-Opt-clause-spells c =
 pub see_operand-requires-in-Opt-clause-place : goal.see_operand-requires-in-Opt-clause-place
 see_operand-requires-in-Opt-clause-place c = (at_top _ _ _ c.start-start.ensures.sound _ _ _ c.requires.fits.1).high
 
-pub returns-in-Ok-see_operand : goal.returns-in-Ok-see_operand
-returns-in-Ok-see_operand c = λ below fits. rw c.opt.ensures
+pub returns-in-Ok-see_operand-clause-on : goal.returns-in-Ok-see_operand-clause-on
+returns-in-Ok-see_operand-clause-on c = λ below fits. rw c.opt.ensures
     (opt_on _ _ _ c.start-start.ensures.sound below _ _ fits _
     (shape_at c.args.peg.now.nodes c.args.stage.top.node _ (c.node.ensures ∙ ap Some c.in-Opt.is))
     _ _ c.in-Ok-see_operand.ensures)
 
-pub returns-in-Err-see_operand : goal.returns-in-Err-see_operand
-returns-in-Err-see_operand c = λ below fits.
+pub returns-in-Err-see_operand-clause-on : goal.returns-in-Err-see_operand-clause-on
+returns-in-Err-see_operand-clause-on c = λ below fits.
     halts_on _ _ _ c.start-start.ensures.sound below _ _ fits _ _
     (asks_opt _ _ _ c.start-start.ensures.sound below _ _ fits _
     (shape_at c.args.peg.now.nodes c.args.stage.top.node _ (c.node.ensures ∙ ap Some c.in-Opt.is)))
@@ -84,14 +87,14 @@ see_operand-requires-in-And-clause-spells c =
 pub see_operand-requires-in-And-clause-place : goal.see_operand-requires-in-And-clause-place
 see_operand-requires-in-And-clause-place c = (at_top _ _ _ c.start-start.ensures.sound _ _ _ c.requires.fits.1).high
 
-pub returns-in-Ok-see_operand-2 : goal.returns-in-Ok-see_operand-2
-returns-in-Ok-see_operand-2 c = λ below fits. rw c.and.ensures
+pub returns-in-Ok-see_operand-2-clause-on : goal.returns-in-Ok-see_operand-2-clause-on
+returns-in-Ok-see_operand-2-clause-on c = λ below fits. rw c.and.ensures
     (and_on _ _ _ c.start-start.ensures.sound below _ _ fits _
     (shape_at c.args.peg.now.nodes c.args.stage.top.node _ (c.node.ensures ∙ ap Some c.in-And.is))
     _ _ c.in-Ok-see_operand-2.ensures)
 
-pub returns-in-Err-see_operand-2 : goal.returns-in-Err-see_operand-2
-returns-in-Err-see_operand-2 c = λ below fits.
+pub returns-in-Err-see_operand-2-clause-on : goal.returns-in-Err-see_operand-2-clause-on
+returns-in-Err-see_operand-2-clause-on c = λ below fits.
     halts_on _ _ _ c.start-start.ensures.sound below _ _ fits _ _
     (asks_and _ _ _ c.start-start.ensures.sound below _ _ fits _
     (shape_at c.args.peg.now.nodes c.args.stage.top.node _ (c.node.ensures ∙ ap Some c.in-And.is)))
@@ -107,14 +110,14 @@ see_operand-requires-in-Not-clause-spells c =
 pub see_operand-requires-in-Not-clause-place : goal.see_operand-requires-in-Not-clause-place
 see_operand-requires-in-Not-clause-place c = (at_top _ _ _ c.start-start.ensures.sound _ _ _ c.requires.fits.1).high
 
-pub returns-in-Ok-see_operand-3 : goal.returns-in-Ok-see_operand-3
-returns-in-Ok-see_operand-3 c = λ below fits. rw c.not.ensures
+pub returns-in-Ok-see_operand-3-clause-on : goal.returns-in-Ok-see_operand-3-clause-on
+returns-in-Ok-see_operand-3-clause-on c = λ below fits. rw c.not.ensures
     (not_on _ _ _ c.start-start.ensures.sound below _ _ fits _
     (shape_at c.args.peg.now.nodes c.args.stage.top.node _ (c.node.ensures ∙ ap Some c.in-Not.is))
     _ _ c.in-Ok-see_operand-3.ensures)
 
-pub returns-in-Err-see_operand-3 : goal.returns-in-Err-see_operand-3
-returns-in-Err-see_operand-3 c = λ below fits.
+pub returns-in-Err-see_operand-3-clause-on : goal.returns-in-Err-see_operand-3-clause-on
+returns-in-Err-see_operand-3-clause-on c = λ below fits.
     halts_on _ _ _ c.start-start.ensures.sound below _ _ fits _ _
     (asks_not _ _ _ c.start-start.ensures.sound below _ _ fits _
     (shape_at c.args.peg.now.nodes c.args.stage.top.node _ (c.node.ensures ∙ ap Some c.in-Not.is)))
@@ -130,8 +133,8 @@ next_turn-requires-clause-place c = (at_top _ _ _ c.start-start.ensures.sound _ 
 pub next_turn-requires-clause-come : goal.next_turn-requires-clause-come
 next_turn-requires-clause-come c = (at_top _ _ _ c.start-start.ensures.sound _ _ _ c.requires.fits.1).come
 
-pub returns-in_default : goal.returns-in_default
-returns-in_default c =
+pub returns-in_default-clause-on : goal.returns-in_default-clause-on
+returns-in_default-clause-on c =
     λ below fits. (_, _, come_stays _ _ _ c.start-start.ensures.sound below _ _ fits, c.next_turn.ensures)
 
 pub star_on-requires-clause-star : goal.star_on-requires-clause-star
@@ -141,3 +144,51 @@ star_on-requires-clause-star c = shape_at c.args.peg.now.nodes c.args.stage.top.
 pub plus_on-requires-clause-plus : goal.plus_on-requires-clause-plus
 plus_on-requires-clause-plus c = shape_at c.args.peg.now.nodes c.args.stage.top.node _
     (c.node.ensures ∙ ap Some c.in-Plus.is)
+
+pub see_operand-requires-clause-back : goal.see_operand-requires-clause-back
+see_operand-requires-clause-back c = body_known c.args.peg.now c.args.stage.top _ _ _
+    (shape_at c.args.peg.now.nodes c.args.stage.top.node _ (c.node.ensures ∙ ap Some c.in-Name.is))
+    c.body_node-body.ensures (back_as c.args.stage.back) c.requires.back
+
+pub returns-in-Ok-clause-asks : goal.returns-in-Ok-clause-asks
+returns-in-Ok-clause-asks c = rw c.same.ensures (asks_body_at c.args.peg.now c.args.stage.top _ _
+    (shape_at c.args.peg.now.nodes c.args.stage.top.node _ (c.node.ensures ∙ ap Some c.in-Name.is))
+    c.body_node-body.ensures _)
+
+pub see_operand-requires-in-Opt-clause-back : goal.see_operand-requires-in-Opt-clause-back
+see_operand-requires-in-Opt-clause-back c = opt_known c.args.peg.now c.args.stage.top _ _
+    (shape_at c.args.peg.now.nodes c.args.stage.top.node _ (c.node.ensures ∙ ap Some c.in-Opt.is))
+    (back_as c.args.stage.back) c.requires.back
+
+pub returns-in-Ok-see_operand-clause-asks : goal.returns-in-Ok-see_operand-clause-asks
+returns-in-Ok-see_operand-clause-asks c = rw c.opt.ensures (asks_opt_at c.args.peg.now c.args.stage.top _
+    (shape_at c.args.peg.now.nodes c.args.stage.top.node _ (c.node.ensures ∙ ap Some c.in-Opt.is))
+    _)
+
+pub see_operand-requires-in-And-clause-back : goal.see_operand-requires-in-And-clause-back
+see_operand-requires-in-And-clause-back c = and_known c.args.peg.now c.args.stage.top _ _
+    (shape_at c.args.peg.now.nodes c.args.stage.top.node _ (c.node.ensures ∙ ap Some c.in-And.is))
+    (back_as c.args.stage.back) c.requires.back
+
+pub returns-in-Ok-see_operand-2-clause-asks : goal.returns-in-Ok-see_operand-2-clause-asks
+returns-in-Ok-see_operand-2-clause-asks c = rw c.and.ensures (asks_and_at c.args.peg.now c.args.stage.top _
+    (shape_at c.args.peg.now.nodes c.args.stage.top.node _ (c.node.ensures ∙ ap Some c.in-And.is))
+    _)
+
+pub see_operand-requires-in-Not-clause-back : goal.see_operand-requires-in-Not-clause-back
+see_operand-requires-in-Not-clause-back c = not_known c.args.peg.now c.args.stage.top _ _
+    (shape_at c.args.peg.now.nodes c.args.stage.top.node _ (c.node.ensures ∙ ap Some c.in-Not.is))
+    (back_as c.args.stage.back) c.requires.back
+
+pub returns-in-Ok-see_operand-3-clause-asks : goal.returns-in-Ok-see_operand-3-clause-asks
+returns-in-Ok-see_operand-3-clause-asks c = rw c.not.ensures (asks_not_at c.args.peg.now c.args.stage.top _
+    (shape_at c.args.peg.now.nodes c.args.stage.top.node _ (c.node.ensures ∙ ap Some c.in-Not.is))
+    _)
+
+pub returns-in_default-clause-asks : goal.returns-in_default-clause-asks
+returns-in_default-clause-asks c =
+    let d = c.in_default in
+    leaf_asks_none c.args.peg.now c.args.stage.top _ _ _ _
+    (shape_at c.args.peg.now.nodes c.args.stage.top.node _ c.node.ensures)
+    (λ m q. leaf_asks_nothing _ _ _ _ _ _ m q c.node.result.now d.not-Name d.not-Seq d.not-Choice d.not-Star d.not-Plus
+    d.not-Opt d.not-And d.not-Not) _ c.next_turn.ensures

@@ -10,6 +10,7 @@ back-preserved c = λ below fits.
     run_back _ _ _ c.start-start.ensures.sound below _ _ c.args.operand c.requires.star _ c.back.at _
     (c.back.invariant below fits) c.back-test.true _ c.in-Ok-put.ensures.added
 
-pub returns : goal.returns
-returns c = λ below fits. run_ends _ _ _ c.start-start.ensures.sound below _ _ c.args.operand c.requires.star _
-    c.back.at _ (c.back.invariant below fits) c.back-test.false
+pub returns-clause-found : goal.returns-clause-found
+returns-clause-found c = λ below fits.
+    run_ends _ _ _ c.start-start.ensures.sound below _ _ c.args.operand c.requires.star _ c.back.at _
+    (c.back.invariant below fits) c.back-test.false

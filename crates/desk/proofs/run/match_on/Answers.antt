@@ -3,6 +3,9 @@ use Rattle.desk.proofs.IsStepLemmas.{fits_begin}
 use Rattle.desk.proofs.run.match_on.Goals as goal
 
 pub turns-init : goal.turns-init
-turns-init c =
-    rw (c.requires.cells, c.requires.frames, c.beginning.ensures)
-    (fits_begin _ _ _ c.start-start.ensures.sound c.args.root _ c.requires.root refl refl refl)
+turns-init c = (
+  rw (c.requires.cells, c.requires.frames, c.beginning.ensures)
+      (fits_begin _ _ _ c.start-start.ensures.sound c.args.root _ c.requires.root refl refl refl),
+  rw c.requires.frames tt,
+  tt,
+)
