@@ -21,6 +21,7 @@ use Rattle.desk.specs.declared.turn.Turn.TheVariants.{Ask, Answer}
 use Rattle.desk.specs.declared.run.Next.{Next}
 use Rattle.desk.specs.declared.run.Next.TheVariants as next
 use Rattle.desk.specs.Desk.{counted, Fits, IsFinished, IsFurther, IsNext}
+use Rattle.desk.specs.SeenFrom.{IsSeenFrom}
 use Rattle.desk.specs.AsksNext.{IsBack, member_on, other_on}
 use Rattle.desk.specs.State as state
 use Rattle.desk.specs.State.{HaveTaken, HaveFailed, IsUnderWay}
@@ -75,7 +76,7 @@ module _ (g : Grammar) (x : List ℕ) (more : Bool) (sound : IsSoundGrammar g) (
     child_visited = is_visited (rules_of g.rules) g.start (shapes_of g.nodes) g.bodies g.ranks x sound
         (asked (at_top g x more sound cells t below f).visits a)
 
-    turn_asks : found_at cells m q ≡ None
+    pub turn_asks : found_at cells m q ≡ None
         → IsTurn (rules_of g.rules) g.start (shapes_of g.nodes) g.bodies x more cells t.node
         t.place (Ask m q t.next t.end)
     turn_asks none = (a, none, (at_top g x more sound cells t below f).come)
@@ -355,62 +356,47 @@ module _ (g : Grammar) (x : List ℕ) (more : Bool) (sound : IsSoundGrammar g) (
   abbrev come : Frame
   come = come_to top i q
 
-  next_halted : (m p : ℕ) → Asks (rules_of g.rules) (shapes_of g.nodes) g.bodies x come.node come.place m p
-      → (new : List Entry) (s : Halt) →
-      IsSeen (rules_of g.rules) g.start (shapes_of g.nodes) g.bodies x more mid new m p (Err s)
-      → IsOn g x more below old new top (Err s)
-  next_halted m p a new Memory s = tt
-  next_halted m p a new Short s = seen_short g x more sound below mid come h.fits m p a new s
-
   module _ (at : slice_get (shapes_of g.nodes) top.node ≡ Some (node.Seq ms)) where
-    asked_next : Asks (rules_of g.rules) (shapes_of g.nodes) g.bodies x come.node come.place (get_or ms i 0) q
+    pub asked_next : Asks (rules_of g.rules) (shapes_of g.nodes) g.bodies x come.node come.place (get_or ms i 0) q
     asked_next = asks_next g x more sound below mid come h.fits some ms at lt
 
     pub next_child : IsVisited (rules_of g.rules) g.start (shapes_of g.nodes) g.bodies g.ranks x sound (get_or ms i 0) q
     next_child = child_visited g x more sound below mid come h.fits (get_or ms i 0) q asked_next
 
     abbrev SeesNext : List Entry → Result (Option Found) Halt → Type 0
-    SeesNext new r = IsSeen (rules_of g.rules) g.start (shapes_of g.nodes) g.bodies x more mid new (get_or ms i 0) q r
-
-    next_came : (new : List Entry) (v : Option Found) → SeesNext new (Ok v) → HasCome g x more below mid new come i q
-    next_came new v s = seen_comes g x more sound below mid come h.fits (get_or ms i 0) q asked_next new v s
-
-    next_was : (new : List Entry) (v : Option Found) → SeesNext new (Ok v) → found_at new (get_or ms i 0) q ≡ v
-    next_was new v s = sym (seen_is g x more sound below mid come h.fits (get_or ms i 0) q asked_next new v s)
+    SeesNext new r = IsSeenFrom g x more below mid new come (get_or ms i 0) q r
 
     pub member_free : (new : List Entry) → SeesNext new (Ok None)
         → IsOn g x more below old new top (Ok (Ask (get_or ms i 0) q i q))
     member_free new s =
-        let n = next_came new None s in (
+        let n = s.1 in (
           i,
           q,
           come_further g x more below old mid new top i q i q h n,
-          next_free g x more sound below new come n.fits some ms at lt (next_was new None s),
+          next_free g x more sound below new come n.fits some ms at lt s.0,
         )
 
     pub member_fails : (new : List Entry) → SeesNext new (Ok (Some Failed))
         → IsOn g x more below old new top (Ok (Answer Failed))
     member_fails new s =
-        let n = next_came new (Some Failed) s in (
+        let n = s.1 in (
           i,
           q,
           come_further g x more below old mid new top i q i q h n,
-          next_fails g x more sound below new come n.fits some ms at lt (next_was new (Some Failed) s),
+          next_fails g x more sound below new come n.fits some ms at lt s.0,
         )
 
     pub member_takes : (new : List Entry) (r : ℕ) → SeesNext new (Ok (Some (Took r)))
         → HasCome g x more below old new top (i + 1) r
     member_takes new r s =
-        let n = next_came new (Some (Took r)) s in
-        let on = next_takes g x more sound below new come n.fits some ms at lt r (next_was new (Some (Took r)) s) in
+        let n = s.1 in
+        let on = next_takes g x more sound below new come n.fits some ms at lt r s.0 in
         come_further g x more below old new new top i q (i + 1) r
         (come_further g x more below old mid new top i q i q h n) on
 
-    pub member_halts : (new : List Entry) (s : Halt) → SeesNext new (Err s) → IsOn g x more below old new top (Err s)
-    member_halts new s e = next_halted (get_or ms i 0) q asked_next new s e
-
   module _ (at : slice_get (shapes_of g.nodes) top.node ≡ Some (node.Choice ms)) where
-    asked_other : Asks (rules_of g.rules) (shapes_of g.nodes) g.bodies x come.node come.place (get_or ms i 0) top.place
+    pub asked_other : Asks (rules_of g.rules) (shapes_of g.nodes) g.bodies x come.node come.place (get_or ms i 0)
+        top.place
     asked_other = asks_other g x more sound below mid come h.fits some ms at lt
 
     pub other_child : IsVisited (rules_of g.rules) g.start (shapes_of g.nodes) g.bodies g.ranks x sound (get_or ms i 0)
@@ -418,47 +404,35 @@ module _ (g : Grammar) (x : List ℕ) (more : Bool) (sound : IsSoundGrammar g) (
     other_child = child_visited g x more sound below mid come h.fits (get_or ms i 0) top.place asked_other
 
     abbrev SeesOther : List Entry → Result (Option Found) Halt → Type 0
-    SeesOther new r = IsSeen (rules_of g.rules) g.start (shapes_of g.nodes) g.bodies x more mid new (get_or ms i 0)
-        top.place r
-
-    came_other : (new : List Entry) (v : Option Found) → SeesOther new (Ok v) → HasCome g x more below mid new come i q
-    came_other new v s = seen_comes g x more sound below mid come h.fits (get_or ms i 0) top.place asked_other new v s
-
-    was_other : (new : List Entry) (v : Option Found) → SeesOther new (Ok v)
-        → found_at new (get_or ms i 0) top.place ≡ v
-    was_other new v s = sym (seen_is g x more sound below mid come h.fits (get_or ms i 0) top.place asked_other new v s)
+    SeesOther new r = IsSeenFrom g x more below mid new come (get_or ms i 0) top.place r
 
     pub alternative_free : (new : List Entry) → SeesOther new (Ok None)
         → IsOn g x more below old new top (Ok (Ask (get_or ms i 0) top.place i top.place))
     alternative_free new s =
-        let n = came_other new None s in (
+        let n = s.1 in (
           i,
           q,
           come_further g x more below old mid new top i q i q h n,
-          other_free g x more sound below new come n.fits some ms at lt (was_other new None s),
+          other_free g x more sound below new come n.fits some ms at lt s.0,
         )
 
     pub alternative_takes : (new : List Entry) (r : ℕ) → SeesOther new (Ok (Some (Took r)))
         → IsOn g x more below old new top (Ok (Answer (Took r)))
     alternative_takes new r s =
-        let n = came_other new (Some (Took r)) s in (
+        let n = s.1 in (
           i,
           q,
           come_further g x more below old mid new top i q i q h n,
-          other_takes g x more sound below new come n.fits some ms at lt r (was_other new (Some (Took r)) s),
+          other_takes g x more sound below new come n.fits some ms at lt r s.0,
         )
 
     pub alternative_fails : (new : List Entry) → SeesOther new (Ok (Some Failed))
         → HasCome g x more below old new top (i + 1) q
     alternative_fails new s =
-        let n = came_other new (Some Failed) s in
-        let on = other_fails g x more sound below new come n.fits some ms at lt q (was_other new (Some Failed) s) in
+        let n = s.1 in
+        let on = other_fails g x more sound below new come n.fits some ms at lt q s.0 in
         come_further g x more below old new new top i q (i + 1) q
         (come_further g x more below old mid new top i q i q h n) on
-
-    pub alternative_halts : (new : List Entry) (s : Halt) → SeesOther new (Err s)
-        → IsOn g x more below old new top (Err s)
-    alternative_halts new s e = next_halted (get_or ms i 0) top.place asked_other new s e
 
 -- what is done on from where a frame has come is done on from where it was
 pub on_from : {g : Grammar} {x : List ℕ} {more : Bool} {below : List Frame} {old mid : List Entry} (new : List Entry)

@@ -14,6 +14,8 @@ pub mod IsNextLemmas
 pub mod AsksNextLemmas
 pub mod IsOnLemmas
 pub mod IsNarrowRunLemmas
+pub mod IsSeenFromLemmas
+pub mod FailsAtHeadLemmas
 pub mod TowerLemmas
 pub mod IsWayLemmas
 pub mod WalksLemmas

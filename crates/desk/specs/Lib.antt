@@ -6,3 +6,5 @@ pub mod Desk
 pub mod Path
 pub mod Repeats
 pub mod AsksNext
+pub mod SeenFrom
+pub mod Heads

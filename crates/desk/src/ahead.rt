@@ -15,6 +15,7 @@ ghost use Rattle.desk.specs.State.{AreCells};
 ghost use Rattle.desk.specs.Turns.{again_turn, IsLeafTurn, IsTurn};
 
 use crate::frame::Frame;
+use crate::head::fail_at_head;
 use crate::repeat::{repeat_byte, takes_byte};
 use crate::turn::{Turn, again, and, leaf_turn, next_turn, not, opt, plus, same, star};
 use cells::{Cells, Found};
@@ -284,6 +285,64 @@ fn see_once(
     }
 }
 
+// The same, apart from the loops that come to it seldom.
+#[inline(never)]
+fn see_once_apart(
+    peg: &SoundPeg,
+    window: &[u8],
+    more: bool,
+    cells: &mut Cells,
+    node: usize,
+    place: usize,
+) -> Seen
+    requires sound { IsSoundGrammar peg.now }
+    requires spells { SpellsSome (rules_of peg.now.rules) (shapes_of peg.now.nodes) node }
+    requires place { place ≤ length window.now }
+    requires some { more ≡ true → 0 < length window.now }
+    requires narrow { IsNarrowRun peg.now window.now }
+    requires right { AreCells (rules_of peg.now.rules) peg.now.start (shapes_of peg.now.nodes) peg.now.bodies window.now
+        more cells.old }
+    ensures { IsSeen (rules_of peg.now.rules) peg.now.start (shapes_of peg.now.nodes) peg.now.bodies window.now more
+        cells.old cells.new node place (seen_as result) }
+{
+    flat(see_once(peg, window, more, cells, node, place))
+}
+
+// Whether a node has operands.
+#[inline(always)]
+fn has_operands(node: &Node) -> bool {
+    !matches!(
+        node,
+        Node::Any | Node::Bytes(_) | Node::Set(_) | Node::Act(_) | Node::Open | Node::Close
+    )
+}
+
+// The same, where most nodes have operands: what a leaf needs stays out of the loops.
+#[inline(always)]
+fn see_mostly(
+    peg: &SoundPeg,
+    window: &[u8],
+    more: bool,
+    cells: &mut Cells,
+    node: usize,
+    place: usize,
+) -> Result<Option<Found>, Halt>
+    requires sound { IsSoundGrammar peg.now }
+    requires spells { SpellsSome (rules_of peg.now.rules) (shapes_of peg.now.nodes) node }
+    requires place { place ≤ length window.now }
+    requires some { more ≡ true → 0 < length window.now }
+    requires narrow { IsNarrowRun peg.now window.now }
+    requires right { AreCells (rules_of peg.now.rules) peg.now.start (shapes_of peg.now.nodes) peg.now.bodies window.now
+        more cells.old }
+    ensures { IsSeen (rules_of peg.now.rules) peg.now.start (shapes_of peg.now.nodes) peg.now.bodies window.now more
+        cells.old cells.new node place result }
+{
+    if has_operands(peg.node(node)) {
+        return Ok(cells.get_narrow(node, place));
+    }
+    unfold(see_once_apart(peg, window, more, cells, node, place))
+}
+
 /// The outcome of what the last frame asked for, where it goes on behind that.
 #[derive(Clone, Copy, PartialEq, Eq, Debug)]
 pub(crate) enum Back {
@@ -382,8 +441,13 @@ fn first_on(
 {
     let _start = peg.start();
     for i in top.next..alternatives.len() {
-        match see(peg, window, more, cells, alternatives[i], top.place) {
+        match see_mostly(peg, window, more, cells, alternatives[i], top.place) {
             Ok(None) => {
+                match fail_at_head(peg, window, more, cells, alternatives[i], top.place) {
+                    Ok(true) => continue,
+                    Ok(false) => {}
+                    Err(_) => return Err(Halt::Memory),
+                }
                 return Ok(Turn::Ask {
                     node: alternatives[i],
                     place: top.place,
@@ -511,7 +575,7 @@ fn see_operand(
         cells.old cells.new operand stage.top.place result }
 {
     match stage.back {
-        Back::Nothing => see_once(peg, window, more, cells, operand, stage.top.place),
+        Back::Nothing => see_mostly(peg, window, more, cells, operand, stage.top.place),
         Back::Failed => Ok(Some(Found::Failed)),
         Back::Took(end) => Ok(Some(Found::Took(end))),
     }

@@ -6,6 +6,7 @@ mod advance;
 mod ahead;
 mod desk;
 mod frame;
+mod head;
 mod repeat;
 mod replay;
 mod run;

@@ -1,5 +1,9 @@
-use Rattle.desk.proofs.IsOnLemmas.{come_stays, next_child, member_free, member_fails}
-use Rattle.desk.proofs.IsOnLemmas.{member_takes, member_halts, all_taken}
+use Rattle.std.proofs.Common.{Some, None, Ok, Err}
+use Rattle.cells.specs.declared.cell.Found.TheVariants.{Failed, Took}
+use Rattle.desk.proofs.TowerLemmas.{halted_on}
+use Rattle.desk.proofs.IsSeenFromLemmas.{seen_from}
+use Rattle.desk.proofs.IsOnLemmas.{come_stays, asked_next, next_child, member_free, member_fails}
+use Rattle.desk.proofs.IsOnLemmas.{member_takes, all_taken}
 use Rattle.desk.proofs.AsksNextLemmas.{asks_member_at}
 use Rattle.desk.proofs.ahead.all_on.Goals as goal
 
@@ -20,24 +24,36 @@ pub see-requires-clause-right : goal.see-requires-clause-right
 see-requires-clause-right c = (c.loop-i.invariant c.requires.fits.0 c.requires.fits.1).fits.cells
 
 pub returns-in-Ok-None-clause-on : goal.returns-in-Ok-None-clause-on
-returns-in-Ok-None-clause-on c = λ below fits. member_free _ _ _ c.start-start.ensures.sound below _ _ _ _ _
-    (c.loop-i.invariant below fits) c.requires.some _ c.loop-i-test.true c.requires.members _
-    (rw c.in-Ok-None.field-0-is at c.in-Ok-None.ensures)
+returns-in-Ok-None-clause-on c = λ below fits.
+    let here = c.loop-i.invariant below fits in
+    let asks = asked_next _ _ _ c.start-start.ensures.sound below _ _ _ _ _ here c.requires.some _
+    c.loop-i-test.true c.requires.members in
+    let seen = seen_from _ _ _ c.start-start.ensures.sound below _ _ here.fits _ _ asks c.see.new.cells
+    (Ok None) (rw c.in-Ok-None.field-0-is at c.in-Ok-None.ensures) in
+    member_free _ _ _ c.start-start.ensures.sound below _ _ _ _ _ here c.requires.some _ c.loop-i-test.true
+    c.requires.members _ seen
 
 pub returns-in-Ok-Some-Failed-clause-on : goal.returns-in-Ok-Some-Failed-clause-on
-returns-in-Ok-Some-Failed-clause-on c = λ below fits. member_fails _ _ _ c.start-start.ensures.sound below _ _ _ _ _
-    (c.loop-i.invariant below fits) c.requires.some _ c.loop-i-test.true c.requires.members _
-    (rw (c.in-Ok-Some-Failed.field-0-is, c.in-Ok-Some-Failed.field-0-0-is) at c.in-Ok-Some-Failed.ensures)
+returns-in-Ok-Some-Failed-clause-on c = λ below fits.
+    let here = c.loop-i.invariant below fits in
+    let asks = asked_next _ _ _ c.start-start.ensures.sound below _ _ _ _ _ here c.requires.some _
+    c.loop-i-test.true c.requires.members in
+    let seen = seen_from _ _ _ c.start-start.ensures.sound below _ _ here.fits _ _ asks c.see.new.cells
+    (Ok (Some Failed))
+    (rw (c.in-Ok-Some-Failed.field-0-is, c.in-Ok-Some-Failed.field-0-0-is) at c.in-Ok-Some-Failed.ensures) in
+    member_fails _ _ _ c.start-start.ensures.sound below _ _ _ _ _ here c.requires.some _ c.loop-i-test.true
+    c.requires.members _ seen
 
 pub loop-i-preserved : goal.loop-i-preserved
-loop-i-preserved c = λ below fits. member_takes _ _ _ c.start-start.ensures.sound below _ _ _ _ _
-    (c.loop-i.invariant below fits) c.requires.some _ c.loop-i-test.true c.requires.members _ _
-    (rw (c.in-Ok-Some-Took.field-0-is, c.in-Ok-Some-Took.field-0-0-is) at c.in-Ok-Some-Took.ensures)
-
-pub returns-in-Err-clause-on : goal.returns-in-Err-clause-on
-returns-in-Err-clause-on c = λ below fits. member_halts _ _ _ c.start-start.ensures.sound below _ _ _ _ _
-    (c.loop-i.invariant below fits) c.requires.some _ c.loop-i-test.true c.requires.members c.see.new.cells
-    c.in-Err.halt c.in-Err.ensures
+loop-i-preserved c = λ below fits.
+    let here = c.loop-i.invariant below fits in
+    let asks = asked_next _ _ _ c.start-start.ensures.sound below _ _ _ _ _ here c.requires.some _
+    c.loop-i-test.true c.requires.members in
+    let seen = seen_from _ _ _ c.start-start.ensures.sound below _ _ here.fits _ _ asks c.see.new.cells
+    (Ok (Some (Took c.in-Ok-Some-Took.after)))
+    (rw (c.in-Ok-Some-Took.field-0-is, c.in-Ok-Some-Took.field-0-0-is) at c.in-Ok-Some-Took.ensures) in
+    member_takes _ _ _ c.start-start.ensures.sound below _ _ _ _ _ here c.requires.some _ c.loop-i-test.true
+    c.requires.members _ _ seen
 
 pub returns-clause-on : goal.returns-clause-on
 returns-clause-on c = λ below fits.
@@ -52,3 +68,13 @@ returns-clause-on c = λ below fits.
 pub returns-in-Ok-None-clause-asks : goal.returns-in-Ok-None-clause-asks
 returns-in-Ok-None-clause-asks c =
     asks_member_at c.args.peg.now c.args.top c.args.members.now _ _ c.requires.members c.loop-i-test.true
+
+pub returns-in-Err-clause-on : goal.returns-in-Err-clause-on
+returns-in-Err-clause-on c = λ below fits.
+    let here = c.loop-i.invariant below fits in
+    let asks = asked_next _ _ _ c.start-start.ensures.sound below _ _ _ _ _ here c.requires.some _
+    c.loop-i-test.true c.requires.members in
+    halted_on c.args.peg.now c.args.window.now c.args.more below c.args.cells.now c.see.new.cells c.args.top
+    c.in-Err.halt
+    (seen_from _ _ _ c.start-start.ensures.sound below _ _ here.fits _ _ asks c.see.new.cells (Err c.in-Err.halt)
+    c.in-Err.ensures)

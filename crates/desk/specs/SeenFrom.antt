@@ -1,0 +1,17 @@
+-- What is seen of a node where it is asked for.
+use Rattle.std.specs.Prelude.{◌≡◌, ℕ, Bool, List, Option, Result, Ok, Err}
+use Rattle.gramcheck.specs.Grammar.{Grammar}
+use Rattle.cells.specs.declared.cell.Found.{Found}
+use Rattle.cells.specs.Entries.{Entry, found_at}
+use Rattle.desk.specs.Ahead.{HasCome}
+use Rattle.desk.specs.declared.ahead.Halt.{Halt}
+use Rattle.desk.specs.declared.frame.Frame.{Frame}
+use Rattle.desk.specs.Repeats.{IsHalted}
+
+-- What is seen of node m at q, for which the last frame, `top`, asks: what its cell holds, if it has one. Cells may
+-- have come in, but no frame.
+module _ (g : Grammar) (x : List ℕ) (more : Bool) (below : List Frame) (old new : List Entry) (top : Frame)
+    (m q : ℕ) where
+  abbrev pub IsSeenFrom : Result (Option Found) Halt → Type 0
+  IsSeenFrom (Ok v) = (found_at new m q ≡ v) × HasCome g x more below old new top top.next top.end
+  IsSeenFrom (Err h) = IsHalted g x more h
