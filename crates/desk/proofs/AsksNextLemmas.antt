@@ -14,12 +14,10 @@ use Rattle.cells.specs.Entries.{Entry, found_at}
 use Rattle.cells.specs.declared.cell.Found.{Found}
 use Rattle.cells.specs.declared.cell.Found.TheVariants.{Failed, Took}
 use Rattle.desk.specs.Ahead.{come_to}
-use Rattle.desk.specs.Desk.{beginning, IsFinished, IsHanded}
-use Rattle.desk.specs.AsksNext.{AsksNext, IsAsked, AreAsked, IsBack, AsksAt, IsKnownNext, back_as}
+use Rattle.desk.specs.Desk.{beginning, IsFinished}
+use Rattle.desk.specs.AsksNext.{AsksNext, IsAsked, AreAsked, IsBack, AsksAt, IsKnownNext}
 use Rattle.desk.specs.Turns.{same_turn, again_turn, opt_turn, and_turn, not_turn, star_turn, plus_turn, IsTurn}
 use Rattle.desk.specs.Visits.{AsksBy}
-use Rattle.desk.specs.declared.ahead.Back.{Back}
-use Rattle.desk.specs.declared.ahead.Back.TheVariants as back
 use Rattle.desk.specs.declared.ahead.Halt.{Halt}
 use Rattle.desk.specs.declared.frame.Frame.{Frame}
 use Rattle.desk.specs.declared.run.Next.{Next}
@@ -48,12 +46,6 @@ leaf_asks_nothing rules nodes bodies x n p m q (code.Not k) a b c d e f g h by =
 leaf_asks_nothing rules nodes bodies x n p m q (code.Act t) a b c d e f g h by = by
 leaf_asks_nothing rules nodes bodies x n p m q code.Open a b c d e f g h by = by
 leaf_asks_nothing rules nodes bodies x n p m q code.Close a b c d e f g h by = by
-
--- an outcome that is handed on is known
-pub handed_back : (f : Found) (b : Back) → IsHanded f b → back_as b ≡ Some f
-handed_back f back.Nothing h = absurd h
-handed_back f back.Failed h = rw h refl
-handed_back f (back.Took q) h = rw h refl
 
 module _ (g : Grammar) (t : Frame) where
   -- what a frame of a node of this shape asks for is what it asks for
@@ -229,7 +221,7 @@ module _ (g : Grammar) (t : Frame) where
       let put = is_put cells new (record { node = t.node; place = t.place; found = f }) none done.0 in
       let asked = rw done.1 at a in (
         asked.1,
-        rw (handed_back f on.back done.2) (t.node, t.place, asked.0, put.here),
+        rw done.2 (t.node, t.place, asked.0, put.here),
       )
   finished_known cells new fs below f a none E (Ok (next.Ended h)) done = tt
   finished_known cells new fs below f a none E (Ok next.Need) done = absurd done

@@ -8,19 +8,12 @@ use Rattle.cells.specs.declared.cell.Found.{Found}
 use Rattle.cells.specs.declared.cell.Found.TheVariants.{Failed, Took}
 use Rattle.cells.specs.Entries.{Entry, found_at}
 use Rattle.desk.specs.Ahead.{come_to}
-use Rattle.desk.specs.declared.ahead.Back.{Back}
-use Rattle.desk.specs.declared.ahead.Back.TheVariants as back
+use Rattle.desk.specs.Desk.{back_as}
 use Rattle.desk.specs.declared.frame.Frame.{Frame}
 use Rattle.desk.specs.declared.run.Next.{Next}
 use Rattle.desk.specs.declared.run.Next.TheVariants as next
 use Rattle.desk.specs.declared.turn.Turn.{Turn}
 use Rattle.desk.specs.declared.turn.Turn.TheVariants.{Ask, Answer, Need}
-
--- the outcome of what a frame asked for, where it has come
-abbrev pub back_as : Back → Option Found
-back_as back.Nothing = None
-back_as back.Failed = Some Failed
-back_as (back.Took q) = Some (Took q)
 
 -- A frame of a node of this shape asks for node m at q. A repetition asks for its operand first, and then for the node
 -- that goes on with it.

@@ -48,18 +48,18 @@ unit_of_match (Some f) begun = unit_of f begun
 abbrev pub beginning : ℕ → ℕ → Frame
 beginning n p = record { node = n; place = p; next = 0; end = p }
 
--- the outcome is handed to the frame that asked for it
-abbrev pub IsHanded : Found → Back → Type 0
-IsHanded f back.Nothing = ⊥
-IsHanded f back.Failed = f ≡ found.Failed
-IsHanded f (back.Took q) = f ≡ found.Took q
+-- the outcome that is handed to the frame that asked for it; none where that begins
+abbrev pub back_as : Back → Option Found
+back_as back.Nothing = None
+back_as back.Failed = Some found.Failed
+back_as (back.Took q) = Some (found.Took q)
 
 -- the last frame, t, is turned into its cell, and the frame below it is the last, and gets the outcome; or it was the
 -- only one
 abbrev pub IsFinished : List Entry → List Frame → Frame → Found → List Entry → List Frame → Next → Type 0
 IsFinished cells fs t f new below (next.More on) =
     (new ≡ cells ++ record { node = t.node; place = t.place; found = f } ∷ []) × (fs ≡ on.top ∷ below)
-    × IsHanded f on.back
+    × (back_as on.back ≡ Some f)
 IsFinished cells fs t f new below (next.Ended h) =
     (new ≡ cells ++ record { node = t.node; place = t.place; found = f } ∷ []) × (h ≡ f) × (fs ≡ []) × (below ≡ [])
 IsFinished cells fs t f new below next.Need = ⊥

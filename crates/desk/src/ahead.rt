@@ -9,8 +9,8 @@ ghost use Rattle.cells.specs.declared.cell.Found.{Found};
 ghost use Rattle.desk.specs.declared.frame.Frame.{Frame};
 ghost use Rattle.desk.specs.Ahead.{IsNarrowRun, IsSight, IsSeen, IsOn, seen_as};
 ghost use Rattle.desk.specs.Ahead.{known_turn};
-ghost use Rattle.desk.specs.Desk.{counted, Fits, IsHanded};
-ghost use Rattle.desk.specs.AsksNext.{AsksAt, IsBack, back_as, member_on, other_on};
+ghost use Rattle.desk.specs.Desk.{counted, Fits, back_as};
+ghost use Rattle.desk.specs.AsksNext.{AsksAt, IsBack, member_on, other_on};
 ghost use Rattle.desk.specs.State.{AreCells};
 ghost use Rattle.desk.specs.Turns.{again_turn, IsLeafTurn, IsTurn};
 
@@ -355,7 +355,7 @@ pub(crate) enum Back {
 /// Returns that outcome.
 #[inline(always)]
 pub(crate) fn back_of(found: Found) -> Back
-    ensures { IsHanded found result }
+    ensures { back_as result ≡ Some found }
 {
     match found {
         Found::Failed => Back::Failed,

@@ -2,8 +2,8 @@
 ghost use Rattle.std.specs.Prelude.{◌≡◌, ◌+◌, ◌<◌, ◌≤◌, List, [], ◌∷◌, length, slice_get, Some, None, true, IfOk};
 ghost use Rattle.desk.specs.Ahead.{IsNarrowRun};
 ghost use Rattle.cells.specs.Entries.{found_at, AreNarrow};
-ghost use Rattle.desk.specs.Desk.{counted, Fits, IsFinished, IsNext, IsMatched};
-ghost use Rattle.desk.specs.AsksNext.{AreAsked, IsBack, IsKnownNext, back_as};
+ghost use Rattle.desk.specs.Desk.{back_as, counted, Fits, IsFinished, IsNext, IsMatched};
+ghost use Rattle.desk.specs.AsksNext.{AreAsked, IsBack, IsKnownNext};
 
 use crate::advance::beginning;
 use crate::ahead::{Back, Halt, Stage, back_of, turn_on};

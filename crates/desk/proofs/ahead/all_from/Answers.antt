@@ -1,4 +1,4 @@
-use Rattle.desk.specs.AsksNext.{back_as}
+use Rattle.desk.specs.Desk.{back_as}
 use Rattle.desk.proofs.AsksNextLemmas.{asks_through, member_within}
 use Rattle.desk.proofs.IsOnLemmas.{comes_fit, comes_through, member_comes, member_ends}
 use Rattle.desk.proofs.ahead.all_from.Goals as goal

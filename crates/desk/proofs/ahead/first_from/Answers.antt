@@ -1,4 +1,4 @@
-use Rattle.desk.specs.AsksNext.{back_as}
+use Rattle.desk.specs.Desk.{back_as}
 use Rattle.desk.proofs.AsksNextLemmas.{asks_through, other_within}
 use Rattle.desk.proofs.IsOnLemmas.{comes_fit, comes_through, other_comes, other_ends}
 use Rattle.desk.proofs.ahead.first_from.Goals as goal

@@ -2,7 +2,7 @@ use Rattle.std.proofs.Common.{arith}
 use Rattle.desk.proofs.IsNextLemmas.{at_top}
 use Rattle.desk.proofs.IsOnLemmas.{child_visited, halts_on, asks_plus, plus_on, plus_again}
 use Rattle.desk.proofs.AsksNextLemmas.{plus_known, plus_again_known, asks_plus_at, asks_plus_again}
-use Rattle.desk.specs.AsksNext.{back_as}
+use Rattle.desk.specs.Desk.{back_as}
 use Rattle.desk.proofs.ahead.plus_on.Goals as goal
 
 pub returns-then-stage-gt0-clause-on : goal.returns-then-stage-gt0-clause-on

@@ -7,7 +7,7 @@ use Rattle.desk.proofs.IsNextLemmas.{at_top}
 use Rattle.desk.proofs.IsOnLemmas.{child_visited, halts_on, asks_star, star_on, star_again}
 use Rattle.desk.proofs.TowerLemmas.{byte_at}
 use Rattle.desk.proofs.AsksNextLemmas.{star_known, star_again_known, asks_star_at, asks_star_again}
-use Rattle.desk.specs.AsksNext.{back_as}
+use Rattle.desk.specs.Desk.{back_as}
 use Rattle.desk.proofs.ahead.star_on.Goals as goal
 
 pub returns-then-top-gt0-clause-on : goal.returns-then-top-gt0-clause-on

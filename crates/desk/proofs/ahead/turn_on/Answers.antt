@@ -8,7 +8,7 @@ use Rattle.desk.proofs.IsOnLemmas.{come_stays, child_visited, halts_on, asks_nam
 use Rattle.desk.proofs.IsOnLemmas.{asks_and, and_on, asks_not, not_on}
 use Rattle.desk.proofs.AsksNextLemmas.{body_known, opt_known, and_known, not_known, asks_body_at, asks_opt_at}
 use Rattle.desk.proofs.AsksNextLemmas.{asks_and_at, asks_not_at, leaf_asks_none, leaf_asks_nothing}
-use Rattle.desk.specs.AsksNext.{back_as}
+use Rattle.desk.specs.Desk.{back_as}
 use Rattle.desk.proofs.ahead.turn_on.Goals as goal
 
 pub node-requires : goal.node-requires

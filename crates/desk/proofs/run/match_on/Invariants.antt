@@ -1,6 +1,6 @@
 use Rattle.std.proofs.Common.{◌∷◌}
-use Rattle.desk.specs.AsksNext.{AreAsked, IsBack, back_as}
-use Rattle.desk.specs.Desk.{Fits, counted, left}
+use Rattle.desk.specs.AsksNext.{AreAsked, IsBack}
+use Rattle.desk.specs.Desk.{back_as, Fits, counted, left}
 use Rattle.desk.proofs.run.match_on.Given as goal
 
 abbrev pub invariant-turns : goal.invariant-turns
