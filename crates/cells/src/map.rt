@@ -35,7 +35,7 @@ const NO_SCALE: Scale = Scale {
 /// The cells of one unit, seen as the list of their entries in the order in which they were put.
 ///
 /// A cell takes 16 bytes, and each row takes 4 more. Some 32 to 64 nodes share a row of each place; but where the unit
-/// before had few cells, a place has up to 16 rows until this one has many. Numbers from 4,294,967,295 on, and as many
+/// before had few cells, a place has up to 32 rows until this one has many. Numbers from 4,294,967,295 on, and as many
 /// cells, are refused as want of memory.
 #[derive(Drop)]
 pub struct Cells {

@@ -21,7 +21,7 @@ pub(crate) struct Scale {
 }
 
 // So many nodes share no row where cells are few.
-const APART: usize = 16;
+const APART: usize = 32;
 
 // The bits of the numbers below that one.
 fn ones_below(count: u32) -> u32 {

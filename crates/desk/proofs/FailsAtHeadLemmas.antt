@@ -1,7 +1,7 @@
 -- A literal that begins with another byte than the next one fails, and so does the sequence that begins with it.
 -- Serves: Desk::match_unit.
 use Rattle.std.proofs.Common.{◌≡◌, ◌≢◌, inr, ℕ, ◌+◌, ◌<◌, Bool, true, false, List, [], ◌∷◌, ◌++◌, length, get_or, drop}
-use Rattle.std.proofs.Common.{Option, Some, None, Result, Ok, Err, IfSome, IfOk, refl, sym, arith}
+use Rattle.std.proofs.Common.{Option, Some, None, Result, Ok, Err, IfSome, IfOk, refl, sym, ◌∙◌, arith}
 use Rattle.std.specs.Prelude.{slice_get}
 use Rattle.std.proofs.lemmas.Grind.{common_steps}
 use Rattle.pegread.specs.Pattern.{Rule, Bytes}
@@ -13,17 +13,20 @@ use Rattle.gramcheck.specs.Outcome.{Fails, Gives}
 use Rattle.pegmatch.proofs.CompareLemmas.{other_byte}
 use Rattle.pegmatch.proofs.MatchStepLemmas.{bytes_missing}
 use Rattle.cells.specs.Entries.{Entry, found_at, AreNarrow}
+use Rattle.cells.specs.declared.cell.Found.{Found}
 use Rattle.cells.specs.declared.cell.Found.TheVariants.{Failed}
 use Rattle.desk.specs.Ahead.{IsNarrowRun, IsOn}
-use Rattle.desk.specs.SeenFrom.{IsSeenFrom}
+use Rattle.desk.specs.SeenFrom.{IsSeenFrom, FailsFrom}
 use Rattle.desk.specs.declared.frame.Frame.{Frame}
 use Rattle.desk.specs.declared.turn.Turn.TheVariants.{Answer}
 use Rattle.desk.specs.Desk.{beginning, counted, Fits}
-use Rattle.desk.specs.Heads.{FailsFirst, FailsAtHead, PutsFailures, failure_as}
-use Rattle.desk.specs.Visits.{AsksMember, member_here, Asks}
+use Rattle.desk.specs.Heads.{FailsFirst, FailsAtHead, PutsFailures}
+use Rattle.desk.specs.Visits.{AsksMember, member_here, Asks, asked}
+use Rattle.desk.proofs.AsksLemmas.{IsVisited, is_visited}
+use Rattle.desk.proofs.IsNextLemmas.{at_top}
 use Rattle.desk.proofs.IsSeenFromLemmas.{frame_fits, still_free, answered_from}
 use Rattle.desk.proofs.IsNarrowRunLemmas.{pair_is_narrow}
-use Rattle.desk.proofs.IsOnLemmas.{come_stays, child_visited, seen_comes, next_fails}
+use Rattle.desk.proofs.IsOnLemmas.{child_visited, seen_comes, next_fails}
 use Rattle.desk.proofs.IsPutLemmas.{is_put}
 
 -- a literal whose first byte is not the next one fails there
@@ -54,20 +57,32 @@ pub head_fails : (rules : List Rule) (start : ℕ) (nodes : List Shape) (bodies 
 head_fails rules start nodes bodies x ms n p at None first = tt
 head_fails rules start nodes bodies x ms n p at (Some m) first = record { members = ms; seq = at; first = first }
 
--- The last head_frame, t, asks for node n at q, whose head m fails there: it is evaluated at once.
+-- The last frame, t, asks for node n at q, whose head m fails there: it is evaluated at once.
 module _ (g : Grammar) (x : List ℕ) (more : Bool) (sound : IsSoundGrammar g) (below : List Frame) (old : List Entry)
     (t : Frame) (f : Fits g x more (counted old (t ∷ below))) (n q : ℕ)
     (a : Asks (rules_of g.rules) (shapes_of g.nodes) g.bodies x t.node t.place n q)
-    (some : more ≡ true → 0 < length x) (none : found_at old n q ≡ None) (m : ℕ)
+    (some : more ≡ true → 0 < length x) (m : ℕ)
     (head : FailsAtHead (rules_of g.rules) g.start (shapes_of g.nodes) g.bodies x n q m) where
-  head_frame : Fits g x more (counted old (beginning n q ∷ (t ∷ below)))
-  head_frame = frame_fits g x more sound below old t f n q a none
-
   asks_head : Asks (rules_of g.rules) (shapes_of g.nodes) g.bodies x n q m q
   asks_head = rw (← head.first.1) (asks_first (rules_of g.rules) (shapes_of g.nodes) g.bodies x head.members n q
       head.seq head.first.0)
 
+  head_visited : IsVisited (rules_of g.rules) g.start (shapes_of g.nodes) g.bodies g.ranks x sound m q
+  head_visited = is_visited (rules_of g.rules) g.start (shapes_of g.nodes) g.bodies g.ranks x sound
+      (asked (asked (at_top g x more sound old t below f).visits a) asks_head)
+
   module _ (free : found_at old m q ≡ None) where
+    -- a node with a cell has asked for its head, which has none
+    no_cell : (v : Option Found) → found_at old n q ≡ v → found_at old n q ≡ None
+    no_cell None is = is
+    no_cell (Some h) is = absurd (cc (free, (f.cells.closed n q m q h is asks_head).1))
+
+    own_free : found_at old n q ≡ None
+    own_free = no_cell (found_at old n q) refl
+
+    head_frame : Fits g x more (counted old (beginning n q ∷ (t ∷ below)))
+    head_frame = frame_fits g x more sound below old t f n q a own_free
+
     abbrev mid : List Entry
     mid = old ++ record { node = m; place = q; found = Failed } ∷ []
 
@@ -86,17 +101,17 @@ module _ (g : Grammar) (x : List ℕ) (more : Bool) (sound : IsSoundGrammar g) (
         )
 
     pub head_free : found_at mid n q ≡ None
-    head_free = still_free g x more sound below old t f n q a none mid Failed fails_on
+    head_free = still_free g x more sound below old t f n q a own_free mid Failed fails_on
 
     head_seen : (new : List Entry) → new ≡ mid ++ record { node = n; place = q; found = Failed } ∷ []
         → IsSeenFrom g x more below old new t n q (Ok (Some Failed))
-    head_seen new put = answered_from g x more sound below old t f n q a none mid Failed fails_on new put
+    head_seen new put = answered_from g x more sound below old t f n q a own_free mid Failed fails_on new put
 
   -- cells keep the failures of both
   pub head_narrow : IsNarrowRun g x → AreNarrow m q Failed
   head_narrow narrow =
-      let v = child_visited g x more sound (t ∷ below) old (beginning n q) head_frame m q asks_head in
-      let pair = pair_is_narrow g x more sound narrow m q v.spelled v.high in (pair.0, pair.1, tt)
+      let pair = pair_is_narrow g x more sound narrow m q head_visited.spelled head_visited.high in
+      (pair.0, pair.1, tt)
 
   pub own_narrow : IsNarrowRun g x → AreNarrow n q Failed
   own_narrow narrow =
@@ -104,12 +119,12 @@ module _ (g : Grammar) (x : List ℕ) (more : Bool) (sound : IsSoundGrammar g) (
       let pair = pair_is_narrow g x more sound narrow n q v.spelled v.high in (pair.0, pair.1, tt)
 
   -- what comes of its failure is seen of it
-  failures_as : (new : List Entry) (fails : Bool) → PutsFailures old new m n q fails
-      → IsSeenFrom g x more below old new t n q (Ok (failure_as fails))
-  failures_as new true puts = head_seen puts.0 new puts.1
-  failures_as new false puts = rw puts (none, come_stays g x more sound below old t f)
+  fails_from : (new : List Entry) (fails : Bool) → PutsFailures old new m n q fails
+      → FailsFrom g x more below old new t n q fails
+  fails_from new true puts = head_seen puts.0 new puts.1
+  fails_from new false puts = puts
 
   pub failures_seen : (E : Type 0) (new : List Entry) (r : Result Bool E) → IfOk r (PutsFailures old new m n q)
-      → IfOk r (λ fails. IsSeenFrom g x more below old new t n q (Ok (failure_as fails)))
-  failures_seen E new (Ok fails) puts = failures_as new fails puts
+      → IfOk r (FailsFrom g x more below old new t n q)
+  failures_seen E new (Ok fails) puts = fails_from new fails puts
   failures_seen E new (Err e) puts = tt

@@ -50,7 +50,7 @@ module _ (g : Grammar) (x : List ℕ) (more : Bool) (sound : IsSoundGrammar g) (
   pub come_stays : HasCome g x more below cells cells t t.next t.end
   come_stays = record { fits = f; less = omega arith }
 
-  come_by : (shape : Shape) (j r : ℕ) → slice_get (shapes_of g.nodes) t.node ≡ Some shape
+  pub come_by : (shape : Shape) (j r : ℕ) → slice_get (shapes_of g.nodes) t.node ≡ Some shape
       → state.HasCome cells shape t.place j r → IsUnderWay (rules_of g.rules) g.start (shapes_of g.nodes) g.bodies x
       more cells t.node t.place j r
   come_by shape j r at h other there = let same : shape ≡ other = cc in subst (λ v. state.HasCome cells v t.place j r)

@@ -15,6 +15,8 @@ pub mod AsksNextLemmas
 pub mod IsOnLemmas
 pub mod IsNarrowRunLemmas
 pub mod IsSeenFromLemmas
+pub mod PlusTurnLemmas
+pub mod NameFrameLemmas
 pub mod FailsAtHeadLemmas
 pub mod TowerLemmas
 pub mod IsWayLemmas

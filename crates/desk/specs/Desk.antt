@@ -64,6 +64,14 @@ IsFinished cells fs t f new below (next.Ended h) =
     (new ≡ cells ++ record { node = t.node; place = t.place; found = f } ∷ []) × (h ≡ f) × (fs ≡ []) × (below ≡ [])
 IsFinished cells fs t f new below next.Need = ⊥
 
+-- the frame of a name, t, which begins, is the last; or that of its body, m, is, if that has no cell
+abbrev pub BeginsBody : List Entry → List Frame → Frame → ℕ → List Frame → Next → Type 0
+BeginsBody cells fs t m below (next.More on) = (back_as on.back ≡ None)
+    × (((on.top ≡ t) × (below ≡ fs))
+    ⊎ ((found_at cells m t.place ≡ None) × (on.top ≡ beginning m t.place) × (below ≡ t ∷ fs)))
+BeginsBody cells fs t m below (next.Ended h) = ⊥
+BeginsBody cells fs t m below next.Need = ⊥
+
 -- One frame more, and one evaluation more begun; the frame below may have come further.
 pub record Pushes (old new : View) : Type 0 where
   pub frame : Frame

@@ -1,6 +1,6 @@
 -- Sequences whose first member fails where they are asked for, whatever the cells.
-use Rattle.std.specs.Prelude.{◌≡◌, ℕ, ◌<◌, Bool, true, false, List, [], ◌∷◌, ◌++◌, length, get_or, slice_get, Option}
-use Rattle.std.specs.Prelude.{Some, None}
+use Rattle.std.specs.Prelude.{◌≡◌, ℕ, ◌<◌, Bool, true, false, List, [], ◌∷◌, ◌++◌, length, get_or, slice_get, Some}
+use Rattle.std.specs.Prelude.{None}
 use Rattle.pegread.specs.Pattern.{Rule}
 use Rattle.gramcheck.specs.Nodes.{Shape, Seq}
 use Rattle.cells.specs.declared.cell.Found.{Found}
@@ -33,8 +33,3 @@ PutsFailures old new m n p true = (found_at old m p ≡ None)
     × (new ≡ (old ++ record { node = m; place = p; found = Failed } ∷ [])
     ++ record { node = n; place = p; found = Failed } ∷ [])
 PutsFailures old new m n p false = new ≡ old
-
--- what is seen where that came to be put
-abbrev pub failure_as : Bool → Option Found
-failure_as true = Some Failed
-failure_as false = None

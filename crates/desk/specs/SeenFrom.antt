@@ -1,7 +1,8 @@
 -- What is seen of a node where it is asked for.
-use Rattle.std.specs.Prelude.{◌≡◌, ℕ, Bool, List, Option, Result, Ok, Err}
+use Rattle.std.specs.Prelude.{◌≡◌, ℕ, Bool, true, false, List, Option, Some, Result, Ok, Err}
 use Rattle.gramcheck.specs.Grammar.{Grammar}
 use Rattle.cells.specs.declared.cell.Found.{Found}
+use Rattle.cells.specs.declared.cell.Found.TheVariants.{Failed}
 use Rattle.cells.specs.Entries.{Entry, found_at}
 use Rattle.desk.specs.Ahead.{HasCome}
 use Rattle.desk.specs.declared.ahead.Halt.{Halt}
@@ -15,3 +16,8 @@ module _ (g : Grammar) (x : List ℕ) (more : Bool) (below : List Frame) (old ne
   abbrev pub IsSeenFrom : Result (Option Found) Halt → Type 0
   IsSeenFrom (Ok v) = (found_at new m q ≡ v) × HasCome g x more below old new top top.next top.end
   IsSeenFrom (Err h) = IsHalted g x more h
+
+  -- whether it was seen to fail at once; if not, no cell came in
+  abbrev pub FailsFrom : Bool → Type 0
+  FailsFrom true = IsSeenFrom (Ok (Some Failed))
+  FailsFrom false = new ≡ old

@@ -9,15 +9,17 @@ ghost use Rattle.cells.specs.declared.cell.Found.{Found};
 ghost use Rattle.desk.specs.declared.frame.Frame.{Frame};
 ghost use Rattle.desk.specs.Ahead.{IsNarrowRun, IsSight, IsSeen, IsOn, seen_as};
 ghost use Rattle.desk.specs.Ahead.{known_turn};
+ghost use Rattle.desk.specs.SeenFrom.{IsSeenFrom};
+ghost use Rattle.desk.specs.Visits.{Asks};
 ghost use Rattle.desk.specs.Desk.{counted, Fits, back_as};
 ghost use Rattle.desk.specs.AsksNext.{AsksAt, IsBack, member_on, other_on};
 ghost use Rattle.desk.specs.State.{AreCells};
-ghost use Rattle.desk.specs.Turns.{again_turn, IsLeafTurn, IsTurn};
+ghost use Rattle.desk.specs.Turns.{IsLeafTurn, IsTurn};
 
 use crate::frame::Frame;
 use crate::head::fail_at_head;
-use crate::repeat::{repeat_byte, takes_byte};
-use crate::turn::{Turn, again, and, leaf_turn, next_turn, not, opt, plus, same, star};
+use crate::repetition::{Repeated, plus_on, star_on};
+use crate::turn::{Turn, and, leaf_turn, next_turn, not, opt, same};
 use cells::{Cells, Found};
 use gramcheck::{Node, SoundPeg};
 use pegmatch::{Tried, match_any, match_bytes, match_set};
@@ -308,18 +310,18 @@ fn see_once_apart(
     flat(see_once(peg, window, more, cells, node, place))
 }
 
-// Whether a node has operands.
+/// Returns whether a node has operands.
 #[inline(always)]
-fn has_operands(node: &Node) -> bool {
+pub(crate) fn has_operands(node: &Node) -> bool {
     !matches!(
         node,
         Node::Any | Node::Bytes(_) | Node::Set(_) | Node::Act(_) | Node::Open | Node::Close
     )
 }
 
-// The same, where most nodes have operands: what a leaf needs stays out of the loops.
+/// Returns the same, where most nodes have operands: what a leaf needs stays out of the loops.
 #[inline(always)]
-fn see_mostly(
+pub(crate) fn see_mostly(
     peg: &SoundPeg,
     window: &[u8],
     more: bool,
@@ -370,19 +372,6 @@ pub(crate) struct Stage {
     pub(crate) back: Back,
 }
 
-// Hands on what the node that goes on with a repetition gives at the end of one turn of it.
-#[inline(always)]
-fn again_back(cells: &Cells, node: usize, stage: Stage) -> Turn
-    requires { IfSome (back_as stage.back) (λ f. found_at cells.now node stage.top.end ≡ Some f) }
-    ensures { result ≡ again_turn node stage.top.end (found_at cells.now node stage.top.end) }
-{
-    match stage.back {
-        Back::Nothing => again(cells, node, stage.top.end),
-        Back::Failed => Turn::Answer(Found::Failed),
-        Back::Took(end) => Turn::Answer(Found::Took(end)),
-    }
-}
-
 // On through the members of a sequence.
 #[inline(always)]
 fn all_on(
@@ -421,6 +410,34 @@ fn all_on(
     Ok(Turn::Answer(Found::Took(end)))
 }
 
+// What is seen of an alternative, for which the last frame asks. One that fails at its head fails without a look at its
+// cell: had it one, so would its head.
+#[inline(always)]
+fn see_other(
+    peg: &SoundPeg,
+    window: &[u8],
+    more: bool,
+    cells: &mut Cells,
+    node: usize,
+    place: usize,
+) -> Result<Option<Found>, Halt>
+    requires some { more ≡ true → 0 < length window.now }
+    requires narrow { IsNarrowRun peg.now window.now }
+    requires asked { (top : Frame) × (below : List Frame)
+        × Fits peg.now window.now more (counted cells.old (top ∷ below)) × Asks (rules_of peg.now.rules)
+        (shapes_of peg.now.nodes) peg.now.bodies window.now top.node top.place node place }
+    ensures { (top : Frame) (below : List Frame) → Fits peg.now window.now more (counted cells.old (top ∷ below)) →
+        Asks (rules_of peg.now.rules) (shapes_of peg.now.nodes) peg.now.bodies window.now top.node top.place node
+        place → IsSeenFrom peg.now window.now more below cells.old cells.new top node place result }
+{
+    let _start = peg.start();
+    match fail_at_head(peg, window, more, cells, node, place) {
+        Ok(true) => Ok(Some(Found::Failed)),
+        Ok(false) => see_mostly(peg, window, more, cells, node, place),
+        Err(_) => Err(Halt::Memory),
+    }
+}
+
 // On through the alternatives of a choice.
 #[inline(always)]
 fn first_on(
@@ -441,13 +458,8 @@ fn first_on(
 {
     let _start = peg.start();
     for i in top.next..alternatives.len() {
-        match see_mostly(peg, window, more, cells, alternatives[i], top.place) {
+        match see_other(peg, window, more, cells, alternatives[i], top.place) {
             Ok(None) => {
-                match fail_at_head(peg, window, more, cells, alternatives[i], top.place) {
-                    Ok(true) => continue,
-                    Ok(false) => {}
-                    Err(_) => return Err(Halt::Memory),
-                }
                 return Ok(Turn::Ask {
                     node: alternatives[i],
                     place: top.place,
@@ -578,83 +590,6 @@ fn see_operand(
         Back::Nothing => see_mostly(peg, window, more, cells, operand, stage.top.place),
         Back::Failed => Ok(Some(Found::Failed)),
         Back::Took(end) => Ok(Some(Found::Took(end))),
-    }
-}
-
-// On with a repetition.
-#[inline(always)]
-fn star_on(
-    peg: &SoundPeg,
-    window: &[u8],
-    more: bool,
-    cells: &mut Cells,
-    operand: usize,
-    stage: Stage,
-) -> Result<Turn, Halt>
-    requires star { slice_get (shapes_of peg.now.nodes) stage.top.node ≡ Some (Shape.Star operand) }
-    requires some { more ≡ true → 0 < length window.now }
-    requires narrow { IsNarrowRun peg.now window.now }
-    requires fits { (below : List Frame) × Fits peg.now window.now more (counted cells.old (stage.top ∷ below)) }
-    requires back { IsBack peg.now cells.old stage.top (back_as stage.back) }
-    ensures on { (below : List Frame) → Fits peg.now window.now more (counted cells.old (stage.top ∷ below)) →
-        IsOn peg.now window.now more below cells.old cells.new stage.top result }
-    ensures asks { IfOk result (λ turn. AsksAt peg.now stage.top turn) }
-{
-    let _start = peg.start();
-    let top = stage.top;
-    if top.next > 0 {
-        return Ok(again_back(cells, top.node, stage));
-    }
-    if takes_byte(peg.node(operand)) {
-        return match repeat_byte(peg, window, more, cells, operand, top) {
-            Ok(found) => Ok(Turn::Answer(found)),
-            Err(halt) => Err(halt),
-        };
-    }
-    match see_operand(peg, window, more, cells, stage, operand) {
-        Ok(found) => Ok(star(cells, found, top.node, operand, top.place)),
-        Err(halt) => Err(halt),
-    }
-}
-
-/// The operand of a repetition of at least once, and the node that goes on with it.
-#[derive(Clone, Copy, PartialEq, Eq, Debug)]
-pub(crate) struct Repeated {
-    pub(crate) operand: usize,
-    pub(crate) star: usize,
-}
-
-// On with a repetition of at least once.
-#[inline(always)]
-fn plus_on(
-    peg: &SoundPeg,
-    window: &[u8],
-    more: bool,
-    cells: &mut Cells,
-    repeated: Repeated,
-    stage: Stage,
-) -> Result<Turn, Halt>
-    requires plus { slice_get (shapes_of peg.now.nodes) stage.top.node ≡ Some (Shape.Plus repeated.operand
-        repeated.star) }
-    requires some { more ≡ true → 0 < length window.now }
-    requires narrow { IsNarrowRun peg.now window.now }
-    requires fits { (below : List Frame) × Fits peg.now window.now more (counted cells.old (stage.top ∷ below)) }
-    requires back { IsBack peg.now cells.old stage.top (back_as stage.back) }
-    ensures on { (below : List Frame) → Fits peg.now window.now more (counted cells.old (stage.top ∷ below)) →
-        IsOn peg.now window.now more below cells.old cells.new stage.top result }
-    ensures asks { IfOk result (λ turn. AsksAt peg.now stage.top turn) }
-{
-    let _start = peg.start();
-    let Repeated {
-        operand,
-        star: rest,
-    } = repeated;
-    if stage.top.next > 0 {
-        return Ok(again_back(cells, rest, stage));
-    }
-    match see_operand(peg, window, more, cells, stage, operand) {
-        Ok(found) => Ok(plus(cells, found, rest, operand, stage.top.place)),
-        Err(halt) => Err(halt),
     }
 }
 

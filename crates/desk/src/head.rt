@@ -10,9 +10,9 @@ ghost use Rattle.cells.specs.Entries.{AreNarrow, found_at};
 ghost use Rattle.cells.specs.declared.cell.Found.{Found};
 ghost use Rattle.desk.specs.declared.frame.Frame.{Frame};
 ghost use Rattle.desk.specs.Ahead.{IsNarrowRun};
-ghost use Rattle.desk.specs.SeenFrom.{IsSeenFrom};
+ghost use Rattle.desk.specs.SeenFrom.{FailsFrom};
 ghost use Rattle.desk.specs.Desk.{counted, Fits};
-ghost use Rattle.desk.specs.Heads.{FailsFirst, FailsAtHead, PutsFailures, failure_as};
+ghost use Rattle.desk.specs.Heads.{FailsFirst, FailsAtHead, PutsFailures};
 ghost use Rattle.desk.specs.Visits.{Asks, Visits};
 
 use cells::{Cells, Found};
@@ -92,9 +92,8 @@ fn put_failures(cells: &mut Cells, first: usize, node: usize, place: usize) -> R
     Ok(true)
 }
 
-/// Puts the failures of a sequence and of its first member, if that is a literal without a cell which begins with
-/// another byte than the next one, and returns whether it did. The last frame asks for the sequence, which must have no
-/// cell.
+/// Puts the failures of a node and of its first member, if the node is a sequence, and that member a literal without a
+/// cell which begins with another byte than the next one; and returns whether it did. The last frame asks for the node.
 ///
 /// # Errors
 /// `Memory` where a growth was refused.
@@ -109,14 +108,12 @@ pub(crate) fn fail_at_head(
 ) -> Result<bool, Memory>
     requires some { more ≡ true → 0 < length window.now }
     requires narrow { IsNarrowRun peg.now window.now }
-    requires free { found_at cells.old node place ≡ None }
     requires asked { (top : Frame) × (below : List Frame)
         × Fits peg.now window.now more (counted cells.old (top ∷ below)) × Asks (rules_of peg.now.rules)
         (shapes_of peg.now.nodes) peg.now.bodies window.now top.node top.place node place }
     ensures { (top : Frame) (below : List Frame) → Fits peg.now window.now more (counted cells.old (top ∷ below)) →
         Asks (rules_of peg.now.rules) (shapes_of peg.now.nodes) peg.now.bodies window.now top.node top.place node
-        place → IfOk result (λ fails. IsSeenFrom peg.now window.now more below cells.old cells.new top node place
-        (Ok (failure_as fails))) }
+        place → IfOk result (FailsFrom peg.now window.now more below cells.old cells.new top node place) }
 {
     let _start = peg.start();
     match head_to_fail(peg, window, node, place) {

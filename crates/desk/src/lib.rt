@@ -8,6 +8,7 @@ mod desk;
 mod frame;
 mod head;
 mod repeat;
+mod repetition;
 mod replay;
 mod run;
 mod track;

@@ -4,7 +4,7 @@ ghost use Rattle.pegread.specs.PegViews.{rules_of};
 ghost use Rattle.gramcheck.specs.Grammar.{IsSoundGrammar};
 ghost use Rattle.gramcheck.specs.Nodes.{Shape, shape_of, shapes_of};
 ghost use Rattle.pegmatch.specs.KeptEvents.{SpellsSome};
-ghost use Rattle.cells.specs.Entries.{Entry};
+ghost use Rattle.cells.specs.Entries.{Entry, found_at};
 ghost use Rattle.desk.specs.declared.frame.Frame.{Frame};
 ghost use Rattle.desk.specs.declared.turn.Turn.TheVariants.{Answer};
 ghost use Rattle.desk.specs.Ahead.{IsNarrowRun, IsSeen, IsOn};
@@ -61,9 +61,17 @@ fn try_byte(peg: &SoundPeg, window: &[u8], more: bool, node: usize, place: usize
     }
 }
 
-// The cell of a node that takes a byte at a place, which it gets where it has none.
+// What the cell of a node at a place holds, apart from the loops that ask for it seldom.
+#[inline(never)]
+fn get_apart(cells: &Cells, node: usize, place: usize) -> Option<Found>
+    ensures { result ≡ found_at cells.now node place }
+{
+    cells.get(node, place)
+}
+
+/// Returns what the cell of a node that takes a byte holds at a place. The node gets the cell where it has none.
 #[inline(always)]
-fn see_byte(
+pub(crate) fn see_byte(
     peg: &SoundPeg,
     window: &[u8],
     more: bool,
@@ -86,7 +94,7 @@ fn see_byte(
             Ok(known) => Ok(known),
             Err(_) => Err(Halt::Memory),
         },
-        None => match cells.get(node, place) {
+        None => match get_apart(cells, node, place) {
             Some(found) => Ok(found),
             None => Err(Halt::Short),
         },

@@ -17,22 +17,22 @@ head_to_fail-requires-clause-visits c =
 pub put_failures-requires-clause-first : goal.put_failures-requires-clause-first
 put_failures-requires-clause-first c =
     let by = c.requires.asked in
-    head_narrow _ _ _ c.start-start.ensures.sound by.1 _ by.0 by.2 _ _ by.3 c.requires.some c.requires.free _
+    head_narrow _ _ _ c.start-start.ensures.sound by.1 _ by.0 by.2 _ _ by.3 c.requires.some _
     c.in-Some.ensures c.requires.narrow
 
 pub put_failures-requires-clause-node : goal.put_failures-requires-clause-node
 put_failures-requires-clause-node c =
     let by = c.requires.asked in
-    own_narrow _ _ _ c.start-start.ensures.sound by.1 _ by.0 by.2 _ _ by.3 c.requires.some c.requires.free _
+    own_narrow _ _ _ c.start-start.ensures.sound by.1 _ by.0 by.2 _ _ by.3 c.requires.some _
     c.in-Some.ensures c.requires.narrow
 
 pub put_failures-requires-clause-free : goal.put_failures-requires-clause-free
 put_failures-requires-clause-free c =
     let by = c.requires.asked in
-    head_free _ _ _ c.start-start.ensures.sound by.1 _ by.0 by.2 _ _ by.3 c.requires.some c.requires.free _
+    head_free _ _ _ c.start-start.ensures.sound by.1 _ by.0 by.2 _ _ by.3 c.requires.some _
     c.in-Some.ensures
 
 pub returns-in-Some : goal.returns-in-Some
 returns-in-Some c = λ top below fits asks.
-    failures_seen _ _ _ c.start-start.ensures.sound below _ top fits _ _ asks c.requires.some c.requires.free _
+    failures_seen _ _ _ c.start-start.ensures.sound below _ top fits _ _ asks c.requires.some _
     c.in-Some.ensures _ _ c.put_failures.result c.put_failures.ensures

@@ -2,8 +2,8 @@ use Rattle.std.proofs.Common.{sym}
 use Rattle.desk.proofs.IsNarrowRunLemmas.{all_narrow}
 use Rattle.desk.proofs.repeat.see_byte.Goals as goal
 
-pub returns-in-None-get : goal.returns-in-None-get
-returns-in-None-get c = (sym c.in-None-get.ensures, c.in-None.ensures _ c.requires.right)
+pub returns-in-None-get_apart : goal.returns-in-None-get_apart
+returns-in-None-get_apart c = (sym c.in-None-get_apart.ensures, c.in-None.ensures _ c.requires.right)
 
 pub get_or_put_narrow-requires : goal.get_or_put_narrow-requires
 get_or_put_narrow-requires c =
