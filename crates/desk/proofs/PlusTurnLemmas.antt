@@ -15,7 +15,7 @@ use Rattle.desk.specs.declared.turn.Turn.TheVariants.{Answer}
 use Rattle.desk.specs.Desk.{beginning, counted, Fits}
 use Rattle.desk.specs.Visits.{Asks}
 use Rattle.desk.proofs.GivesLemmas.{plus_star}
-use Rattle.desk.proofs.IsNarrowRunLemmas.{all_narrow}
+use Rattle.desk.proofs.IsNarrowRunLemmas.{pair_is_narrow, outcome_is_narrow, all_narrow}
 use Rattle.desk.proofs.IsNextLemmas.{at_top}
 use Rattle.desk.proofs.IsOnLemmas.{come_further, come_by, way_has_come, child_visited, seen_comes, asks_plus}
 use Rattle.desk.proofs.IsOnLemmas.{plus_again, on_from}
@@ -40,6 +40,19 @@ module _ (g : Grammar) (x : List ℕ) (more : Bool) (sound : IsSoundGrammar g) (
       1 q (come_by g x more sound below new t here.fits (node.Plus m k) 1 q at (λ lt. s.0)))
 
   module _ (lt : 0 < t.next) where
+    pub rest_pair : IsNarrowRun g x → (k < 4294967295) × (t.end < 4294967295)
+    rest_pair narrow =
+        let here = at_top g x more sound old t below f in
+        let rest = plus_star (rules_of g.rules) g.start (shapes_of g.nodes) g.bodies g.ranks x sound t.node m
+        here.spelled k at in
+        let own = pair_is_narrow g x more sound narrow k t.place rest.0 here.high in
+        let asks = asks_plus g x more sound below old t f m k at in
+        let v = child_visited g x more sound below old t f m t.place asks in (
+          own.0,
+          outcome_is_narrow g x more sound narrow m t.place v.spelled v.high (Took t.end)
+              (f.cells.found m t.place (Took t.end) (here.come (node.Plus m k) at lt)),
+        )
+
     -- the node that goes on with it has a cell
     pub rest_held : (h : Found) → found_at old k t.end ≡ Some h → IsOn g x more below old old t (Ok (Answer h))
     rest_held h is = rw is at (plus_again g x more sound below old t f m k at lt)

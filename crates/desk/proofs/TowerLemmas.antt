@@ -12,10 +12,10 @@ use Rattle.gramcheck.specs.declared.node.Node.{Node}
 use Rattle.gramcheck.specs.declared.node.Node.TheVariants as code
 use Rattle.ruletable.specs.declared.byte_set.ByteSet.{ByteSet}
 use Rattle.gramcheck.proofs.NodeSpellsLemmas.{is_there}
-use Rattle.cells.specs.Entries.{Entry, found_at}
+use Rattle.cells.specs.Entries.{Entry, found_at, AreNarrow}
 use Rattle.cells.specs.declared.cell.Found.{Found}
 use Rattle.cells.specs.declared.cell.Found.TheVariants.{Failed, Took}
-use Rattle.desk.specs.Ahead.{IsSeen, come_to, HasCome, IsOn}
+use Rattle.desk.specs.Ahead.{IsNarrowRun, IsSeen, come_to, HasCome, IsOn}
 use Rattle.desk.specs.declared.ahead.Halt.{Halt}
 use Rattle.desk.specs.declared.ahead.Halt.TheVariants.{Memory, Short}
 use Rattle.desk.specs.declared.frame.Frame.{Frame}
@@ -27,6 +27,7 @@ use Rattle.desk.specs.Repeats.{TakesByte, Tower, ground, floor, IsHalted, IsRunn
 use Rattle.desk.specs.Turns.{again_turn, star_turn, IsTurn}
 use Rattle.desk.specs.Visits.{Asks}
 use Rattle.desk.proofs.AsksLemmas.{IsVisited}
+use Rattle.desk.proofs.IsNarrowRunLemmas.{pair_is_narrow, outcome_is_narrow, all_narrow}
 use Rattle.desk.proofs.IsNextLemmas.{at_top, pushed_next, dropped_next}
 use Rattle.desk.proofs.IsOnLemmas.{child_visited, seen_is, seen_short, asks_star, star_on}
 use Rattle.desk.proofs.IsPutLemmas.{is_put}
@@ -183,6 +184,16 @@ module _ (g : Grammar) (x : List ℕ) (more : Bool) (sound : IsSoundGrammar g) (
           (by_byte shape r.frame.place (byte shape stands)) (sym come) in
           omega (arith, same, r.here)
 
+      pub next_narrow : IsNarrowRun g x → (top.node < 4294967295) × (next < 4294967295)
+      next_narrow narrow =
+          let o = again_turned (found_at new top.node next) refl in
+          let t = at_top g x more sound cells r.frame r.frames r.fits in
+          let own = pair_is_narrow g x more sound narrow r.frame.node r.frame.place t.spelled t.high in (
+            rw (tower_node r.tower) at own.0,
+            outcome_is_narrow g x more sound narrow m at run_child.spelled run_child.high (Took next)
+                (o.2.fits.cells.found m at (Took next) s.0),
+          )
+
       pub run_goes : next ≡ at + 1 → found_at new top.node next ≡ None → Running new next
       run_goes is none =
           let o = again_turned None none in
@@ -211,6 +222,12 @@ module _ (g : Grammar) (x : List ℕ) (more : Bool) (sound : IsSoundGrammar g) (
 
   -- back from a turn to that before it
   module _ (cells : List Entry) (at : ℕ) (found : Found) (h : Ran cells at found) where
+    pub run_narrow : IsNarrowRun g x → AreNarrow top.node at found
+    run_narrow narrow =
+        let t = at_top g x more sound cells (come_to h.frame h.next h.end) h.frames h.fits in
+        all_narrow g x more sound narrow top.node at (rw (tower_node h.tower) at t.spelled)
+        (omega (arith, t.high, h.here)) found h.turn.0
+
     pub run_free : found_at cells top.node at ≡ None
     run_free =
         let none = (at_top g x more sound cells (come_to h.frame h.next h.end) h.frames h.fits).none in

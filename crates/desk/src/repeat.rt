@@ -137,7 +137,7 @@ fn run_on(
                     found: Found::Took(at),
                 });
             }
-            Ok(Found::Took(next)) => match cells.get(top.node, next) {
+            Ok(Found::Took(next)) => match cells.get_narrow(top.node, next) {
                 Some(found) => return Ok(Run { at, found }),
                 None => at = next,
             },
@@ -171,7 +171,7 @@ pub(crate) fn repeat_byte(
     };
     let mut at = run.at;
     'back: while at > top.place {
-        match cells.put(top.node, at, run.found) {
+        match cells.put_narrow(top.node, at, run.found) {
             Ok(()) => at -= 1,
             Err(_) => return Err(Halt::Memory),
         }

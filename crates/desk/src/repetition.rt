@@ -125,7 +125,7 @@ fn rest_of_plus(
         operand,
         star: rest,
     } = repeated;
-    match cells.get(rest, top.end) {
+    match cells.get_narrow(rest, top.end) {
         Some(found) => Ok(Turn::Answer(found)),
         None => match repeat_byte(peg, window, more, cells, operand, beginning(rest, top.end)) {
             Ok(found) => match cells.put_narrow(rest, top.end, found) {

@@ -1,6 +1,6 @@
 use Rattle.std.proofs.Common.{sym}
 use Rattle.desk.proofs.TowerLemmas.{running_start, run_child, run_halts, run_fails, run_holds, next_is, run_goes}
-use Rattle.desk.proofs.TowerLemmas.{run_less}
+use Rattle.desk.proofs.TowerLemmas.{run_less, next_narrow}
 use Rattle.desk.proofs.repeat.run_on.Goals as goal
 
 pub turns-init : goal.turns-init
@@ -46,3 +46,9 @@ turns-preserved c = λ below fits.
     c.in-Ok-Took.next (rw c.in-Ok-Took.field-0-is at c.in-Ok-Took.ensures) c.requires.byte in
     run_goes _ _ _ c.start-start.ensures.sound below _ _ c.args.operand c.requires.star _ _ was _ c.in-Ok-Took.next
     (rw c.in-Ok-Took.field-0-is at c.in-Ok-Took.ensures) is (sym c.in-None.ensures)
+
+pub get_narrow-requires : goal.get_narrow-requires
+get_narrow-requires c =
+    next_narrow _ _ _ c.start-start.ensures.sound c.requires.fits.0 _ _ c.args.operand c.requires.star _ c.turns.at
+    (c.turns.invariant c.requires.fits.0 c.requires.fits.1) _ c.in-Ok-Took.next
+    (rw c.in-Ok-Took.field-0-is at c.in-Ok-Took.ensures) c.requires.narrow

@@ -1,5 +1,6 @@
 use Rattle.std.proofs.Common.{◌∷◌, sym}
-use Rattle.desk.proofs.PlusTurnLemmas.{rest_repeats, rest_held, rest_fits, rest_free, rest_narrow, rest_answers}
+use Rattle.desk.proofs.PlusTurnLemmas.{rest_repeats, rest_pair, rest_held, rest_fits, rest_free, rest_narrow}
+use Rattle.desk.proofs.PlusTurnLemmas.{rest_answers}
 use Rattle.desk.proofs.repetition.rest_of_plus.Goals as goal
 
 pub returns-in-Some-clause-on : goal.returns-in-Some-clause-on
@@ -43,3 +44,7 @@ returns-in-Ok-put_narrow-clause-on c = λ below fits.
     rest_answers _ _ _ c.start-start.ensures.sound below _ _ fits _ _ c.requires.plus c.requires.behind free _
     c.in-Ok.found ((rw c.beginning.ensures at c.in-Ok.ensures.found) (c.args.top ∷ below) above) _
     c.in-Ok-put_narrow.ensures.added
+
+pub get_narrow-requires : goal.get_narrow-requires
+get_narrow-requires c = rest_pair _ _ _ c.start-start.ensures.sound c.requires.fits.0 _ _ c.requires.fits.1 _ _
+    c.requires.plus c.requires.behind c.requires.narrow
