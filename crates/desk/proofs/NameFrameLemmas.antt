@@ -1,6 +1,6 @@
 -- A frame that has its outcome is turned into its cell; that of a name goes with its body's.
 -- Serves: Desk::match_unit.
-use Rattle.std.proofs.Common.{◌≡◌, ℕ, Bool, List, [], ◌∷◌, Option, Some, None, Result, Ok, Err, IfOk}
+use Rattle.std.proofs.Common.{◌≡◌, ℕ, Bool, List, ◌∷◌, Option, Some, None, Result, Ok, Err, IfOk}
 use Rattle.std.proofs.Common.{inl, inr, refl, arith}
 use Rattle.std.specs.Prelude.{slice_get}
 use Rattle.gramcheck.specs.Grammar.{Grammar, IsSoundGrammar}

@@ -1,8 +1,7 @@
 use Rattle.std.proofs.Common.{Some, inl, refl, arith}
 use Rattle.cells.specs.declared.cell.Found.TheVariants.{Failed, Took}
-use Rattle.desk.proofs.IsNextLemmas.{at_top}
-use Rattle.desk.proofs.IsOnLemmas.{child_visited, halts_on, asks_plus, plus_on, plus_again}
-use Rattle.desk.proofs.AsksNextLemmas.{plus_known, plus_again_known, asks_plus_at, asks_plus_again}
+use Rattle.desk.proofs.IsOnLemmas.{plus_on, plus_again}
+use Rattle.desk.proofs.AsksNextLemmas.{plus_known, plus_again_known, asks_plus_again}
 use Rattle.desk.specs.Desk.{back_as}
 use Rattle.desk.proofs.repetition.plus_on.Goals as goal
 

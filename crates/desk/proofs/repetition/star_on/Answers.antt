@@ -1,13 +1,7 @@
 use Rattle.std.proofs.Common.{Some, inl, refl, arith}
 use Rattle.cells.specs.declared.cell.Found.TheVariants.{Failed, Took}
-use Rattle.std.proofs.lemmas.List.{length-map}
-use Rattle.gramcheck.specs.Nodes.{shape_of, shapes_of}
-use Rattle.gramcheck.proofs.NodeSpellsLemmas.{is_there}
-use Rattle.pegmatch.proofs.NodeShapeLemmas.{shape_at}
-use Rattle.desk.proofs.IsNextLemmas.{at_top}
-use Rattle.desk.proofs.IsOnLemmas.{child_visited, halts_on, asks_star, star_on, star_again}
-use Rattle.desk.proofs.TowerLemmas.{byte_at}
-use Rattle.desk.proofs.AsksNextLemmas.{star_known, star_again_known, asks_star_at, asks_star_again}
+use Rattle.desk.proofs.IsOnLemmas.{star_on, star_again}
+use Rattle.desk.proofs.AsksNextLemmas.{star_known, star_again_known, asks_star_again}
 use Rattle.desk.specs.Desk.{back_as}
 use Rattle.desk.proofs.repetition.star_on.Goals as goal
 

@@ -5,7 +5,7 @@ use Rattle.gramcheck.proofs.NodeSpellsLemmas.{is_there}
 use Rattle.pegmatch.proofs.NodeShapeLemmas.{shape_at}
 use Rattle.desk.specs.declared.run.Next.TheVariants as next
 use Rattle.desk.proofs.IsNextLemmas.{at_top}
-use Rattle.desk.proofs.NameFrameLemmas.{answered_free, answered_narrow, answered_next, answered_known, below_further}
+use Rattle.desk.proofs.NameFrameLemmas.{answered_narrow, answered_next, answered_known, below_further}
 use Rattle.desk.proofs.NameFrameLemmas.{below_answers, through_next, through_known, if_ok_then}
 use Rattle.desk.proofs.run.finish_through.Goals as goal
 
