@@ -9,11 +9,11 @@ use Rattle.std.proofs.lemmas.Option.{slice_get_within, slice_get-map}
 use Rattle.cells.specs.declared.cell.Cell.{Cell}
 use Rattle.cells.specs.declared.rows.Layout.{Layout}
 use Rattle.cells.specs.declared.cell.Found.{Found}
-use Rattle.cells.specs.Entries.{Entry, found_at, IsKnown}
+use Rattle.cells.specs.Entries.{Entry, found_at, IsAdded, IsKnown}
 use Rattle.cells.specs.CellEntries.{Holds, IsFree, IsMap, IsKept, IsAt, IsNowhere, entry_of, entries_of, found_of}
 use Rattle.cells.specs.Links.{IsLast, AreLinked}
 use Rattle.cells.specs.Rows.{row_of, number_of, fold}
-use Rattle.cells.proofs.FoundAtLemmas.{found_at_end, free_none, held_found}
+use Rattle.cells.proofs.FoundAtLemmas.{added_is_found, free_none, held_found}
 use Rattle.cells.proofs.PushLemmas.{push_cases, mapped_from}
 use Rattle.cells.proofs.AreLinkedLemmas.{AreLinked-none, AreLinked-push, AreLinked-same}
 
@@ -231,9 +231,8 @@ known_old cells old n p e f m same at = (
 )
 
 -- a pair that has one since
-pub known_new : (old new : List Entry) (n p : ℕ) (f : Found) → IsFree old n p → new ≡ old
-    ++ record { node = n; place = p; found = f } ∷ [] →
-    IsKnown old new n p f f
-known_new old new n p f free is =
+pub known_new : (old new : List Entry) (n p : ℕ) (f : Found) → IsFree old n p
+    → IsAdded old new (record { node = n; place = p; found = f }) → IsKnown old new n p f f
+known_new old new n p f free added =
     let none : found_at old n p ≡ None = sym (free_none old n p free) in
-    (rw is (found_at_end old n p f none), inr (none, refl, is))
+    (added_is_found old new (record { node = n; place = p; found = f }) none added, inr (none, refl, added))

@@ -18,10 +18,17 @@ abbrev pub AreDifferent : List Entry → Type 0
 AreDifferent [] = Unit {0}
 AreDifferent (c ∷ cells) = (found_at cells c.node c.place ≡ None) × AreDifferent cells
 
--- the pair's cell holds f: it had it, or has it since, as the last one
+-- the same entries, and e among them
+pub record IsAdded (old new : List Entry) (e : Entry) : Type 0 where
+  pub front : List Entry
+  pub back : List Entry
+  pub was : old ≡ front ++ back
+  pub is : new ≡ front ++ e ∷ back
+
+-- the pair's cell holds f: it had it, or has it since
 abbrev pub IsKnown : List Entry → List Entry → ℕ → ℕ → Found → Found → Type 0
 IsKnown old new n p found f = (found_at new n p ≡ Some f) × ((new ≡ old) ⊎ ((found_at old n p ≡ None) × (f ≡ found) ×
-    (new ≡ old ++ record { node = n; place = p; found = found } ∷ [])))
+    IsAdded old new (record { node = n; place = p; found = found })))
 
 -- a cell can keep these numbers
 abbrev pub IsNarrow : Found → Type 0

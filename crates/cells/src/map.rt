@@ -1,7 +1,7 @@
 //! The cells as a finite map.
 ghost use Rattle.std.specs.Prelude.{◌≡◌, ℕ, ◌<◌, ◌≤◌, ◌++◌, ◌∷◌, ◌^◌, [], length, slice_get, false, Some, None, IfOk};
 ghost use Rattle.std.specs.Prelude.{IfNone, IfSome, OnOk, OnErr, vec_len, vec_capacity};
-ghost use Rattle.cells.specs.Entries.{found_at, AreNarrow, IsKnown};
+ghost use Rattle.cells.specs.Entries.{found_at, AreNarrow, IsAdded, IsKnown};
 ghost use Rattle.cells.specs.CellEntries.{IsAt, IsFree, IsKept, IsLimit, IsNowhere, entry_of, entries_of};
 ghost use Rattle.cells.specs.CellEntries.{found_of, found_or};
 ghost use Rattle.cells.specs.Links.{AreLinked};
@@ -32,7 +32,7 @@ const NO_SCALE: Scale = Scale {
     few: false,
 };
 
-/// The cells of one unit, seen as the list of their entries in the order in which they were put.
+/// The cells of one unit, seen as the list of their entries in some order.
 ///
 /// A cell takes 16 bytes, and each row takes 4 more. Some 32 to 64 nodes share a row of each place; but where the unit
 /// before had few cells, a place has up to 32 rows until this one has many. Numbers from 4,294,967,295 on, and as many
@@ -350,7 +350,7 @@ fn insert(
     requires narrow { (cell.node < 4294967295) × (cell.place < 4294967295) }
     ensures kept { IsKept layout.new mask.new cells.new.items rows.new.items }
     ensures limit { IsLimit limit.new (vec_capacity cells.new) }
-    ensures added { OnOk result (entries_of cells.new.items ≡ entries_of cells.old.items ++ entry_of cell ∷ []) }
+    ensures added { OnOk result (IsAdded (entries_of cells.old.items) (entries_of cells.new.items) (entry_of cell)) }
     ensures unchanged { OnErr result (entries_of cells.new.items ≡ entries_of cells.old.items) }
 {
     let key = Key {
@@ -517,7 +517,7 @@ impl Cells {
     #[inline(always)]
     pub fn put(&mut self, node: usize, place: usize, found: Found) -> Result<(), Memory>
         requires { found_at self.old node place ≡ None }
-        ensures added { OnOk result (self.new ≡ self.old ++ record { node = node; place = place; found = found } ∷ []) }
+        ensures added { OnOk result (IsAdded self.old self.new (record { node = node; place = place; found = found })) }
         ensures unchanged { OnErr result (self.new ≡ self.old) }
     {
         let Some(cell) = cell_of(node, place, found) else {
@@ -568,7 +568,7 @@ impl Cells {
     pub fn put_narrow(&mut self, node: usize, place: usize, found: Found) -> Result<(), Memory>
         requires free { found_at self.old node place ≡ None }
         requires narrow { AreNarrow node place found }
-        ensures added { OnOk result (self.new ≡ self.old ++ record { node = node; place = place; found = found } ∷ []) }
+        ensures added { OnOk result (IsAdded self.old self.new (record { node = node; place = place; found = found })) }
         ensures unchanged { OnErr result (self.new ≡ self.old) }
     {
         let cell = cell_narrow(node, place, found);

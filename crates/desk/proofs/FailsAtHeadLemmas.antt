@@ -1,6 +1,6 @@
 -- A literal that begins with another byte than the next one fails, and so does the sequence that begins with it.
 -- Serves: Desk::match_unit.
-use Rattle.std.proofs.Common.{◌≡◌, ◌≢◌, inr, ℕ, ◌+◌, ◌<◌, Bool, true, false, List, [], ◌∷◌, ◌++◌, length, get_or, drop}
+use Rattle.std.proofs.Common.{◌≡◌, ◌≢◌, inr, ℕ, ◌+◌, ◌<◌, Bool, true, false, List, [], ◌∷◌, length, get_or, drop}
 use Rattle.std.proofs.Common.{Option, Some, None, Result, Ok, Err, IfSome, IfOk, refl, sym, arith}
 use Rattle.std.specs.Prelude.{slice_get}
 use Rattle.std.proofs.lemmas.Grind.{common_steps}
@@ -12,7 +12,7 @@ use Rattle.gramcheck.specs.Nodes.{Shape, shapes_of}
 use Rattle.gramcheck.specs.Outcome.{Fails, Gives}
 use Rattle.pegmatch.proofs.CompareLemmas.{other_byte}
 use Rattle.pegmatch.proofs.MatchStepLemmas.{bytes_missing}
-use Rattle.cells.specs.Entries.{Entry, found_at, AreNarrow}
+use Rattle.cells.specs.Entries.{Entry, found_at, AreNarrow, IsAdded}
 use Rattle.cells.specs.declared.cell.Found.{Found}
 use Rattle.cells.specs.declared.cell.Found.TheVariants.{Failed}
 use Rattle.desk.specs.Ahead.{IsNarrowRun, IsOn}
@@ -83,29 +83,27 @@ module _ (g : Grammar) (x : List ℕ) (more : Bool) (sound : IsSoundGrammar g) (
     head_frame : Fits g x more (counted old (beginning n q ∷ (t ∷ below)))
     head_frame = frame_fits g x more sound below old t f n q a own_free
 
-    abbrev mid : List Entry
-    mid = old ++ record { node = m; place = q; found = Failed } ∷ []
+    module _ (mid : List Entry) (put : IsAdded old mid (record { node = m; place = q; found = Failed })) where
+      fails_here : found_at mid m q ≡ Some Failed
+      fails_here = (is_put old mid (record { node = m; place = q; found = Failed }) free put).here
 
-    fails_here : found_at mid m q ≡ Some Failed
-    fails_here = (is_put old mid (record { node = m; place = q; found = Failed }) free refl).here
+      fails_on : IsOn g x more (t ∷ below) old mid (beginning n q) (Ok (Answer Failed))
+      fails_on =
+          let came = seen_comes g x more sound (t ∷ below) old (beginning n q) head_frame m q asks_head mid
+          (Some Failed) (fails_here, inr (free, put, head.first.2 more old f.cells)) in (
+            0,
+            q,
+            came,
+            next_fails g x more sound (t ∷ below) mid (beginning n q) came.fits some head.members head.seq
+                head.first.0 (rw head.first.1 fails_here),
+          )
 
-    fails_on : IsOn g x more (t ∷ below) old mid (beginning n q) (Ok (Answer Failed))
-    fails_on =
-        let came = seen_comes g x more sound (t ∷ below) old (beginning n q) head_frame m q asks_head mid (Some Failed)
-        (fails_here, inr (free, refl, head.first.2 more old f.cells)) in (
-          0,
-          q,
-          came,
-          next_fails g x more sound (t ∷ below) mid (beginning n q) came.fits some head.members head.seq head.first.0
-              (rw head.first.1 fails_here),
-        )
+      pub head_free : found_at mid n q ≡ None
+      head_free = still_free g x more sound below old t f n q a own_free mid Failed fails_on
 
-    pub head_free : found_at mid n q ≡ None
-    head_free = still_free g x more sound below old t f n q a own_free mid Failed fails_on
-
-    head_seen : (new : List Entry) → new ≡ mid ++ record { node = n; place = q; found = Failed } ∷ []
-        → IsSeenFrom g x more below old new t n q (Ok (Some Failed))
-    head_seen new put = answered_from g x more sound below old t f n q a own_free mid Failed fails_on new put
+      head_seen : (new : List Entry) → IsAdded mid new (record { node = n; place = q; found = Failed })
+          → IsSeenFrom g x more below old new t n q (Ok (Some Failed))
+      head_seen new puts = answered_from g x more sound below old t f n q a own_free mid Failed fails_on new puts
 
   -- cells keep the failures of both
   pub head_narrow : IsNarrowRun g x → AreNarrow m q Failed
@@ -121,7 +119,7 @@ module _ (g : Grammar) (x : List ℕ) (more : Bool) (sound : IsSoundGrammar g) (
   -- what comes of its failure is seen of it
   fails_from : (new : List Entry) (fails : Bool) → PutsFailures old new m n q fails
       → FailsFrom g x more below old new t n q fails
-  fails_from new true puts = head_seen puts.0 new puts.1
+  fails_from new true puts = head_seen puts.1 puts.0 puts.2 new puts.3
   fails_from new false puts = puts
 
   pub failures_seen : (E : Type 0) (new : List Entry) (r : Result Bool E) → IfOk r (PutsFailures old new m n q)

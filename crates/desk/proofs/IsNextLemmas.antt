@@ -1,11 +1,12 @@
 -- What a turn of a match makes of cells and frames: a leaf's cell is a frame that is pushed and dropped.
 -- Serves: Desk::match_unit.
-use Rattle.std.proofs.Common.{◌≡◌, ℕ, ◌+◌, Bool, List, [], ◌∷◌, ◌++◌, length, Option, Some, None, refl, sym, ◌∙◌, ap}
-use Rattle.std.proofs.Common.{subst, arith, length-append}
+use Rattle.std.proofs.Common.{◌≡◌, ℕ, ◌+◌, Bool, List, [], ◌∷◌, length, Option, Some, None, refl, sym, ◌∙◌}
+use Rattle.std.proofs.Common.{subst, arith}
 use Rattle.pegread.specs.PegViews.{rules_of}
 use Rattle.gramcheck.specs.Grammar.{Grammar, IsSoundGrammar}
 use Rattle.gramcheck.specs.Nodes.{shapes_of}
-use Rattle.cells.specs.Entries.{Entry}
+use Rattle.cells.specs.Entries.{Entry, IsAdded}
+use Rattle.cells.proofs.FoundAtLemmas.{added_is_longer}
 use Rattle.cells.specs.declared.cell.Found.{Found}
 use Rattle.desk.specs.declared.frame.Frame.{Frame}
 use Rattle.desk.specs.declared.run.Next.{Next}
@@ -59,16 +60,12 @@ module _ (g : Grammar) (x : List ℕ) (more : Bool) (sound : IsSoundGrammar g) w
 
       module _ (h : Found) (cells' : List Entry) (leaf : IsTurn (rules_of g.rules) g.start (shapes_of g.nodes) g.bodies
           x more cells m q (Answer h))
-          (put : cells' ≡ cells ++ record { node = m; place = q; found = h } ∷ []) where
+          (put : IsAdded cells cells' (record { node = m; place = q; found = h })) where
         drop_leaf : IsStep g x more mid (counted cells' (come ∷ fs)) None
         drop_leaf =
             dropped_step g x more sound mid (counted cells' (come ∷ fs)) (beginning m q) (come ∷ fs) h push_step.0 refl
             leaf put refl
-            (let b = ap length put in omega (
-              arith,
-              length-append cells (record { node = m; place = q; found = h }
-                  ∷ []),
-            )) come fs refl
+            (omega (arith, added_is_longer cells cells' (record { node = m; place = q; found = h }) put)) come fs refl
 
         pub leaf_next : IsFurther g x more here cells' fs come
         leaf_next =
@@ -85,11 +82,11 @@ module _ (g : Grammar) (x : List ℕ) (more : Bool) (sound : IsSoundGrammar g) w
 
     module _ (h : Found) (cells' : List Entry) (turn : IsTurn (rules_of g.rules) g.start (shapes_of g.nodes) g.bodies x
         more cells t.node t.place (Answer h))
-        (put : cells' ≡ cells ++ record { node = t.node; place = t.place; found = h } ∷ []) where
+        (put : IsAdded cells cells' (record { node = t.node; place = t.place; found = h })) where
       same_count : length cells' + length fs ≡ length cells + length (t ∷ fs)
-      same_count = let b = ap length put in omega (
+      same_count = omega (
         arith,
-        length-append cells (record { node = t.node; place = t.place; found = h } ∷ []),
+        added_is_longer cells cells' (record { node = t.node; place = t.place; found = h }) put,
       )
 
       pub dropped_next : (u : Frame) (us : List Frame) → fs ≡ u ∷ us → IsFurther g x more here cells' us u

@@ -1,11 +1,11 @@
 -- What is evaluated where it is asked for is a frame that is turn_to_ask, comes to its outcome, and is dropped.
 -- Serves: Desk::match_unit.
-use Rattle.std.proofs.Common.{◌≡◌, ℕ, Bool, List, [], ◌∷◌, ◌++◌, Option, Some, None, Result, Ok, refl, sym}
+use Rattle.std.proofs.Common.{◌≡◌, ℕ, Bool, List, ◌∷◌, Option, Some, None, Result, Ok, refl, sym}
 use Rattle.std.proofs.Common.{Err, arith}
 use Rattle.pegread.specs.PegViews.{rules_of}
 use Rattle.gramcheck.specs.Grammar.{Grammar, IsSoundGrammar}
 use Rattle.gramcheck.specs.Nodes.{shapes_of}
-use Rattle.cells.specs.Entries.{Entry, found_at}
+use Rattle.cells.specs.Entries.{Entry, found_at, IsAdded}
 use Rattle.cells.specs.declared.cell.Found.{Found}
 use Rattle.desk.specs.Ahead.{IsSeen, come_to, IsOn}
 use Rattle.desk.specs.SeenFrom.{IsSeenFrom}
@@ -51,7 +51,7 @@ module _ (g : Grammar) (x : List ℕ) (more : Bool) (sound : IsSoundGrammar g) (
         pub still_free : found_at mid m q ≡ None
         still_free = (at_top g x more sound mid (come_to (beginning m q) on.0 on.1) (t ∷ below) on.2.fits).none
 
-        pub answered_from : (new : List Entry) → new ≡ mid ++ record { node = m; place = q; found = h } ∷ []
+        pub answered_from : (new : List Entry) → IsAdded mid new (record { node = m; place = q; found = h })
             → IsSeenFrom g x more below old new t m q (Ok (Some h))
         answered_from new put =
             let drop = dropped_next g x more sound mid (come_to (beginning m q) on.0 on.1) (t ∷ below) on.2.fits h new

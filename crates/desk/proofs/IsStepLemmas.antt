@@ -1,8 +1,8 @@
 -- What a step makes of a desk.
 -- Serves: Desk::begin, Desk::step, Desk::match_unit.
 use Rattle.std.proofs.Common.{◌≡◌, inl, inr, ℕ, suc, ◌+◌, ◌-◌, ◌*◌, ◌^◌, ◌<◌, ◌≤◌, Bool, false, get_or, Result, Ok, Err}
-use Rattle.std.proofs.Common.{OnOk, IfOk, is_err, List, [], ◌∷◌, ◌++◌, length, Option, Some, None, refl, sym, ◌∙◌, ap}
-use Rattle.std.proofs.Common.{subst, arith, length-append}
+use Rattle.std.proofs.Common.{OnOk, IfOk, is_err, List, [], ◌∷◌, length, Option, Some, None, refl, sym, ◌∙◌, ap}
+use Rattle.std.proofs.Common.{subst, arith}
 use Rattle.std.specs.Prelude.{slice_get}
 use Rattle.std.proofs.Math.Nat.{mul-le-mul_left}
 use Rattle.pegread.specs.Pattern.{Rule}
@@ -21,7 +21,8 @@ use Rattle.pegmatch.specs.declared.matcher.Unit.{Unit as UnitAnswer}
 use Rattle.pegmatch.specs.declared.matcher.Unit.TheVariants as unit
 use Rattle.desk.specs.declared.frame.Frame.{Frame}
 use Rattle.desk.specs.declared.turn.Turn.TheVariants.{Ask, Answer, Need}
-use Rattle.cells.specs.Entries.{found_at}
+use Rattle.cells.specs.Entries.{found_at, IsAdded}
+use Rattle.cells.proofs.FoundAtLemmas.{added_is_longer}
 use Rattle.desk.specs.Desk.{View, beginning, Fits, HasFrames, IsDone, Drops, Reaches, Ends, IsStep, IsOutcome, told}
 use Rattle.desk.specs.Desk.{unit_of}
 use Rattle.desk.specs.State.{IsPut, IsUnderWay, IsStack}
@@ -167,7 +168,7 @@ module _ (g : Grammar) (x : List ℕ) (more : Bool) (sound : IsSoundGrammar g) w
 
   module _ (old new : View) (t : Frame) (fs : List Frame) (h : Found) (f : Fits g x more old) (is : old.frames ≡ t ∷ fs)
       (turn : IsTurn Rs g.start Ns g.bodies x more old.cells t.node t.place (Answer h))
-      (cells : new.cells ≡ old.cells ++ record { node = t.node; place = t.place; found = h } ∷ [])
+      (cells : IsAdded old.cells new.cells (record { node = t.node; place = t.place; found = h }))
       (frames : new.frames ≡ fs) (begun : new.begun ≡ old.begun) where
     put_once : IsPut old.cells new.cells t.node t.place h
     put_once =
@@ -176,7 +177,7 @@ module _ (g : Grammar) (x : List ℕ) (more : Bool) (sound : IsSoundGrammar g) w
 
     longer_by_one : length new.cells ≡ length old.cells + 1
     longer_by_one =
-        ap length cells ∙ length-append old.cells (record { node = t.node; place = t.place; found = h } ∷ [])
+        added_is_longer old.cells new.cells (record { node = t.node; place = t.place; found = h }) cells
 
     pub drops_top : Drops old new h
     drops_top = record {
@@ -197,8 +198,8 @@ module _ (g : Grammar) (x : List ℕ) (more : Bool) (sound : IsSoundGrammar g) w
               (is_stacked old t fs f is) put_once);
           cells = cells_put Rs g.start Ns g.bodies g.ranks x more sound old.cells new.cells t.node t.place h f.cells
               top.visits turn put_once;
-          different = rw cells (different_put old.cells (record { node = t.node; place = t.place; found = h })
-              f.different top.none);
+          different = different_put old.cells new.cells (record { node = t.node; place = t.place; found = h })
+              f.different top.none cells;
           count = omega (arith, begun, f.count, lengths, before, longer_by_one);
         }
 

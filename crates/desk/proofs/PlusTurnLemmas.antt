@@ -1,12 +1,12 @@
 -- What goes on with a repetition of at least once is a frame that is pushed, comes to its outcome, and is dropped.
 -- Serves: Desk::match_unit.
-use Rattle.std.proofs.Common.{◌≡◌, ℕ, ◌<◌, Bool, List, [], ◌∷◌, ◌++◌, Some, None, Ok}
+use Rattle.std.proofs.Common.{◌≡◌, ℕ, ◌<◌, Bool, List, ◌∷◌, Some, None, Ok}
 use Rattle.std.specs.Prelude.{slice_get}
 use Rattle.pegread.specs.PegViews.{rules_of}
 use Rattle.gramcheck.specs.Grammar.{Grammar, IsSoundGrammar}
 use Rattle.gramcheck.specs.Nodes as node
 use Rattle.gramcheck.specs.Nodes.{shapes_of}
-use Rattle.cells.specs.Entries.{Entry, found_at, AreNarrow}
+use Rattle.cells.specs.Entries.{Entry, found_at, AreNarrow, IsAdded}
 use Rattle.cells.specs.declared.cell.Found.{Found}
 use Rattle.cells.specs.declared.cell.Found.TheVariants.{Took}
 use Rattle.desk.specs.Ahead.{IsNarrowRun, IsSeen, HasCome, IsOn}
@@ -74,7 +74,7 @@ module _ (g : Grammar) (x : List ℕ) (more : Bool) (sound : IsSoundGrammar g) (
             let v = child_visited g x more sound below old t f k t.end asks_rest in
             all_narrow g x more sound narrow k t.end v.spelled v.high h on.3.0
 
-        pub rest_answers : (new : List Entry) → new ≡ mid ++ record { node = k; place = t.end; found = h } ∷ []
+        pub rest_answers : (new : List Entry) → IsAdded mid new (record { node = k; place = t.end; found = h })
             → IsOn g x more below old new t (Ok (Answer h))
         rest_answers new put =
             let s = answered_from g x more sound below old t f k t.end asks_rest free mid h on new put in

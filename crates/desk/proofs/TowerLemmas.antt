@@ -1,6 +1,6 @@
 -- The turns of a repetition of a node that takes a byte, as frames that would stand for them.
 -- Serves: Desk::match_unit.
-use Rattle.std.proofs.Common.{◌≡◌, ℕ, ◌+◌, ◌-◌, ◌<◌, ◌≤◌, Bool, List, [], ◌∷◌, ◌++◌, length, get_or, Option, Some, None}
+use Rattle.std.proofs.Common.{◌≡◌, ℕ, ◌+◌, ◌-◌, ◌<◌, ◌≤◌, Bool, List, ◌∷◌, length, get_or, Option, Some, None}
 use Rattle.std.proofs.Common.{Result, Ok, Err, refl, sym, ◌∙◌, subst, arith}
 use Rattle.std.specs.Prelude.{slice_get}
 use Rattle.std.proofs.lemmas.Option.{slice_get-get_or}
@@ -12,7 +12,7 @@ use Rattle.gramcheck.specs.declared.node.Node.{Node}
 use Rattle.gramcheck.specs.declared.node.Node.TheVariants as code
 use Rattle.ruletable.specs.declared.byte_set.ByteSet.{ByteSet}
 use Rattle.gramcheck.proofs.NodeSpellsLemmas.{is_there}
-use Rattle.cells.specs.Entries.{Entry, found_at, AreNarrow}
+use Rattle.cells.specs.Entries.{Entry, found_at, AreNarrow, IsAdded}
 use Rattle.cells.specs.declared.cell.Found.{Found}
 use Rattle.cells.specs.declared.cell.Found.TheVariants.{Failed, Took}
 use Rattle.desk.specs.Ahead.{IsNarrowRun, IsSeen, come_to, HasCome, IsOn}
@@ -234,8 +234,8 @@ module _ (g : Grammar) (x : List ℕ) (more : Bool) (sound : IsSoundGrammar g) (
         subst (λ v. found_at cells v at ≡ None) (tower_node h.tower)
         (subst (λ v. found_at cells h.frame.node v ≡ None) h.here none)
 
-    pub run_back : top.place < at → (new : List Entry) → new ≡ cells
-        ++ record { node = top.node; place = at; found = found } ∷ [] → Ran new (at - 1) found
+    pub run_back : top.place < at → (new : List Entry)
+        → IsAdded cells new (record { node = top.node; place = at; found = found }) → Ran new (at - 1) found
     run_back low new put = back h.frame h.frames h.tower h.next h.end h.fits h.less h.here
       where
         back : (f : Frame) (fs : List Frame) → Tower top below f fs → (i e : ℕ)
@@ -246,7 +246,7 @@ module _ (g : Grammar) (x : List ℕ) (more : Bool) (sound : IsSoundGrammar g) (
         back f fs (floor {f = u} {fs = us} {q = q} t is) i e fits less here =
             let same = tower_node t in
             let turn : Turns cells u.node q (Answer found) = rw (same, here) h.turn in
-            let is_new : new ≡ cells ++ record { node = u.node; place = q; found = found } ∷ [] = rw (same, here) put in
+            let is_new : IsAdded cells new (record { node = u.node; place = q; found = found }) = rw (same, here) put in
             let was = at_top g x more sound cells (come_to (beginning u.node q) i e) (come_to u 1 q ∷ us) fits in
             let n = dropped_next g x more sound cells (come_to (beginning u.node q) i e) (come_to u 1 q ∷ us) fits found
             new turn is_new (come_to u 1 q) us refl in

@@ -1,5 +1,5 @@
 -- What an evaluation does next where nodes without operands are evaluated at once.
-use Rattle.std.specs.Prelude.{◌≡◌, ◌⊎◌, ℕ, ◌<◌, ◌≤◌, Bool, true, List, [], ◌∷◌, ◌++◌, length, Option, Some, None}
+use Rattle.std.specs.Prelude.{◌≡◌, ◌⊎◌, ℕ, ◌<◌, ◌≤◌, Bool, true, List, ◌∷◌, length, Option, Some, None}
 use Rattle.std.specs.Prelude.{Result, Ok, Err}
 use Rattle.pegread.specs.Pattern.{Rule}
 use Rattle.pegread.specs.PegViews.{rules_of}
@@ -9,7 +9,7 @@ use Rattle.gramcheck.specs.Outcome.{Outcome}
 use Rattle.pegmatch.specs.Answers.{StartGives}
 use Rattle.cells.specs.declared.cell.Found.{Found}
 use Rattle.cells.specs.declared.cell.Found.TheVariants.{Failed, Took}
-use Rattle.cells.specs.Entries.{Entry, found_at}
+use Rattle.cells.specs.Entries.{Entry, found_at, IsAdded}
 use Rattle.desk.specs.declared.ahead.Halt.{Halt}
 use Rattle.desk.specs.declared.ahead.Halt.TheVariants.{Memory, Short}
 use Rattle.desk.specs.declared.ahead.Seen.{Seen}
@@ -47,7 +47,7 @@ module _ (rules : List Rule) (start : ℕ) (nodes : List Shape) (bodies x : List
   abbrev pub IsSeen : Result (Option Found) Halt → Type 0
   IsSeen (Ok (Some f)) =
       (found_at new n p ≡ Some f) × ((new ≡ old) ⊎ ((found_at old n p ≡ None)
-      × (new ≡ old ++ record { node = n; place = p; found = f } ∷ []) ×
+      × IsAdded old new (record { node = n; place = p; found = f }) ×
       IsTurn rules start nodes bodies x more old n p (Answer f)))
   IsSeen (Ok None) = (new ≡ old) × (found_at old n p ≡ None)
   IsSeen (Err Memory) = Unit {0}

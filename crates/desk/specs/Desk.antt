@@ -1,5 +1,5 @@
 -- What contracts see of a desk.
-use Rattle.std.specs.Prelude.{◌≡◌, ◌⊎◌, ℕ, ◌+◌, ◌-◌, ◌*◌, ◌<◌, ◌≤◌, Bool, true, List, [], ◌∷◌, ◌++◌, length, Option}
+use Rattle.std.specs.Prelude.{◌≡◌, ◌⊎◌, ℕ, ◌+◌, ◌-◌, ◌*◌, ◌<◌, ◌≤◌, Bool, true, List, [], ◌∷◌, length, Option}
 use Rattle.std.specs.Prelude.{Some, None}
 use Rattle.pegread.specs.PegViews.{rules_of}
 use Rattle.gramcheck.specs.Grammar.{Grammar}
@@ -17,7 +17,7 @@ use Rattle.desk.specs.declared.ahead.Back.TheVariants as back
 use Rattle.desk.specs.declared.frame.Frame.{Frame}
 use Rattle.desk.specs.declared.run.Next.{Next}
 use Rattle.desk.specs.declared.run.Next.TheVariants as next
-use Rattle.cells.specs.Entries.{found_at, AreDifferent}
+use Rattle.cells.specs.Entries.{found_at, AreDifferent, IsAdded}
 use Rattle.desk.specs.State.{HasCell, IsFound, IsPut, IsStack, AreCells, AreUnderWay}
 use Rattle.desk.specs.Visits.{NodeGives, Asks, Visits}
 
@@ -58,10 +58,10 @@ back_as (back.Took q) = Some (found.Took q)
 -- only one
 abbrev pub IsFinished : List Entry → List Frame → Frame → Found → List Entry → List Frame → Next → Type 0
 IsFinished cells fs t f new below (next.More on) =
-    (new ≡ cells ++ record { node = t.node; place = t.place; found = f } ∷ []) × (fs ≡ on.top ∷ below)
+    IsAdded cells new (record { node = t.node; place = t.place; found = f }) × (fs ≡ on.top ∷ below)
     × (back_as on.back ≡ Some f)
 IsFinished cells fs t f new below (next.Ended h) =
-    (new ≡ cells ++ record { node = t.node; place = t.place; found = f } ∷ []) × (h ≡ f) × (fs ≡ []) × (below ≡ [])
+    IsAdded cells new (record { node = t.node; place = t.place; found = f }) × (h ≡ f) × (fs ≡ []) × (below ≡ [])
 IsFinished cells fs t f new below next.Need = ⊥
 
 -- the frame of a name, t, which begins, is the last; or that of its body, m, is, if that has no cell

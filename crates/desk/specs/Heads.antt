@@ -1,10 +1,10 @@
 -- Sequences whose first member fails where they are asked for, whatever the cells.
-use Rattle.std.specs.Prelude.{◌≡◌, ℕ, ◌<◌, Bool, true, false, List, [], ◌∷◌, ◌++◌, length, get_or, slice_get, Some}
+use Rattle.std.specs.Prelude.{◌≡◌, ℕ, ◌<◌, Bool, true, false, List, length, get_or, slice_get, Some}
 use Rattle.std.specs.Prelude.{None}
 use Rattle.pegread.specs.Pattern.{Rule}
 use Rattle.gramcheck.specs.Nodes.{Shape, Seq}
 use Rattle.cells.specs.declared.cell.Found.TheVariants.{Failed}
-use Rattle.cells.specs.Entries.{Entry, found_at}
+use Rattle.cells.specs.Entries.{Entry, found_at, IsAdded}
 use Rattle.desk.specs.declared.turn.Turn.TheVariants.{Answer}
 use Rattle.desk.specs.State.{AreCells}
 use Rattle.desk.specs.Turns.{IsTurn}
@@ -28,7 +28,7 @@ pub record FailsAtHead (rules : List Rule) (start : ℕ) (nodes : List Shape) (b
 
 -- whether a failure of node m and then of n at p came to be put: cells of both are new; or none, where m has one
 abbrev pub PutsFailures : List Entry → List Entry → ℕ → ℕ → ℕ → Bool → Type 0
-PutsFailures old new m n p true = (found_at old m p ≡ None)
-    × (new ≡ (old ++ record { node = m; place = p; found = Failed } ∷ [])
-    ++ record { node = n; place = p; found = Failed } ∷ [])
+PutsFailures old new m n p true = (mid : List Entry) × (found_at old m p ≡ None)
+    × IsAdded old mid (record { node = m; place = p; found = Failed })
+    × IsAdded mid new (record { node = n; place = p; found = Failed })
 PutsFailures old new m n p false = new ≡ old

@@ -1,12 +1,12 @@
 //! Sequences that begin with a literal whose first byte is not the next one: they fail where they are asked for,
 //! without a frame.
-ghost use Rattle.std.specs.Prelude.{◌≡◌, ℕ, ◌+◌, ◌<◌, ◌≤◌, List, [], ◌∷◌, ◌++◌, length, slice_get, Some};
+ghost use Rattle.std.specs.Prelude.{◌≡◌, ℕ, ◌+◌, ◌<◌, ◌≤◌, List, ◌∷◌, length, slice_get, Some};
 ghost use Rattle.std.specs.Prelude.{None, true, IfSome, IfOk, Ok};
 ghost use Rattle.pegread.specs.Pattern.{Pattern, Rule};
 ghost use Rattle.pegread.specs.PegViews.{rules_of};
 ghost use Rattle.gramcheck.specs.Nodes.{Shape, shapes_of};
 ghost use Rattle.gramcheck.specs.Outcome.{Gives, Outcome};
-ghost use Rattle.cells.specs.Entries.{AreNarrow, found_at};
+ghost use Rattle.cells.specs.Entries.{AreNarrow, Entry, IsAdded, found_at};
 ghost use Rattle.cells.specs.declared.cell.Found.{Found};
 ghost use Rattle.desk.specs.declared.frame.Frame.{Frame};
 ghost use Rattle.desk.specs.Ahead.{IsNarrowRun};
@@ -80,8 +80,8 @@ fn head_to_fail(peg: &SoundPeg, window: &[u8], node: usize, place: usize) -> Opt
 fn put_failures(cells: &mut Cells, first: usize, node: usize, place: usize) -> Result<bool, Memory>
     requires first { AreNarrow first place Found.Failed }
     requires node { AreNarrow node place Found.Failed }
-    requires free { found_at cells.old first place ≡ None → found_at (cells.old
-        ++ record { node = first; place = place; found = Found.Failed } ∷ []) node place ≡ None }
+    requires free { found_at cells.old first place ≡ None → (mid : List Entry) → IsAdded cells.old mid
+        (record { node = first; place = place; found = Found.Failed }) → found_at mid node place ≡ None }
     ensures { IfOk result (PutsFailures cells.old cells.new first node place) }
 {
     if cells.get_narrow(first, place).is_some() {

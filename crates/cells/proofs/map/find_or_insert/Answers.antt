@@ -1,6 +1,7 @@
 use Rattle.std.proofs.Common.{◌≡◌, ◌++◌, length, sym, ◌∙◌}
 use Rattle.std.proofs.Common.{take, drop}
 use Rattle.cells.specs.CellEntries.{IsAt, IsNowhere, entries_of, found_of}
+use Rattle.cells.proofs.FoundAtLemmas.{end_is_added}
 use Rattle.cells.proofs.IsKeptLemmas.{free_nowhere, known_new, known_old, take-whole}
 use Rattle.cells.proofs.map.find_or_insert.Goals as goal
 
@@ -38,4 +39,4 @@ returns-clause-known c =
     rw c.deref_mut.ensures.value at c.in_ok-row.ensures.same in
     known_new (entries_of c.args.cells.now.items) _ c.args.cell.node c.args.cell.place (found_of c.args.cell.end)
     (rw (← same) (free_nowhere c.row_for.new.cells c.args.cell.node c.args.cell.place none))
-    (rw (c.make_room.ensures.items, whole, same) at c.add.ensures.added)
+    (end_is_added _ _ _ (rw (c.make_room.ensures.items, whole, same) at c.add.ensures.added))
