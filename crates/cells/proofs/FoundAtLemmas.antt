@@ -1,11 +1,11 @@
 -- What `found_at` says of the entries of a list.
 -- Serves: Cells::get, Cells::put, Desk::step.
 use Rattle.std.proofs.Common.{◌≡◌, ℕ, zero, suc, Bool, true, false, ◌&&◌, ◌==◌, if◌then◌else◌, List, [], ◌∷◌, ◌++◌}
-use Rattle.std.proofs.Common.{Option, Some, None, refl, ap, sym, length, ◌+◌, arith, length-append, append-nil}
+use Rattle.std.proofs.Common.{Option, Some, None, refl, ap}
 use Rattle.std.specs.Prelude.{slice_get}
 use Rattle.std.proofs.lemmas.Bool.{eqb-true, eq-eqb, and_parts, and_from}
 use Rattle.cells.specs.declared.cell.Found.{Found}
-use Rattle.cells.specs.Entries.{Entry, found_at, IsAdded}
+use Rattle.cells.specs.Entries.{Entry, found_at}
 use Rattle.cells.specs.CellEntries.{Holds, IsFree}
 
 -- whether the entry is of that node and place
@@ -76,28 +76,38 @@ free_none es n p free = by (found_at es n p) refl
     by None is = refl
     by (Some f) is = absurd (free f (found_holds es n p f is))
 
--- an entry more anywhere, of a pair that had none
-found_between : (front back : List Entry) (e : Entry) → found_at (front ++ back) e.node e.place ≡ None
-    → found_at (front ++ e ∷ back) e.node e.place ≡ Some e.found
-found_between [] back e none = rw (is_of_own e) refl
-found_between (c ∷ front) back e none = by (is_of c e.node e.place) none (found_between front back e)
+-- a cell more, for a pair that had none
+pub found_at_added : (front back : List Entry) (n p : ℕ) (f : Found) → found_at (front ++ back) n p ≡ None
+    → found_at (front ++ record { node = n; place = p; found = f } ∷ back) n p ≡ Some f
+found_at_added [] back n p f none = rw (is_of_own (record { node = n; place = p; found = f })) refl
+found_at_added (c ∷ front) back n p f none = by (is_of c n p) none (found_at_added front back n p f)
   where
-    by : (v : Bool) → (if v then Some c.found else found_at (front ++ back) e.node e.place) ≡ None →
-        (found_at (front ++ back) e.node e.place ≡ None → found_at (front ++ e ∷ back) e.node e.place ≡ Some e.found) →
-        (if v then Some c.found else found_at (front ++ e ∷ back) e.node e.place) ≡ Some e.found
+    by : (v : Bool) → (if v then Some c.found else found_at (front ++ back) n p) ≡ None →
+        (found_at (front ++ back) n p ≡ None
+        → found_at (front ++ record { node = n; place = p; found = f } ∷ back) n p ≡ Some f) →
+        (if v then Some c.found else found_at (front ++ record { node = n; place = p; found = f } ∷ back) n p) ≡ Some f
     by true none rec = absurd (cc none)
     by false none rec = rec none
 
-pub added_is_found : (old new : List Entry) (e : Entry) → found_at old e.node e.place ≡ None → IsAdded old new e
-    → found_at new e.node e.place ≡ Some e.found
-added_is_found old new e none a = rw a.is (found_between a.front a.back e (rw a.was at none))
+pub none_in_front : (front back : List Entry) (n p : ℕ) → found_at (front ++ back) n p ≡ None
+    → found_at front n p ≡ None
+none_in_front [] back n p none = refl
+none_in_front (c ∷ front) back n p none = by (is_of c n p) none (none_in_front front back n p)
+  where
+    by : (v : Bool) → (if v then Some c.found else found_at (front ++ back) n p) ≡ None →
+        (found_at (front ++ back) n p ≡ None → found_at front n p ≡ None) →
+        (if v then Some c.found else found_at front n p) ≡ None
+    by true none rec = none
+    by false none rec = rec none
 
--- an entry at the end is one more
-pub end_is_added : (old new : List Entry) (e : Entry) → new ≡ old ++ e ∷ [] → IsAdded old new e
-end_is_added old new e is = record { front = old; back = []; was = sym (append-nil old); is = is }
-
-pub added_is_longer : (old new : List Entry) (e : Entry) → IsAdded old new e → length new ≡ length old + 1
-added_is_longer old new e a =
-    let was = ap length a.was in
-    let now = ap length a.is in
-    omega (arith, was, now, length-append a.front a.back, length-append a.front (e ∷ a.back))
+-- none of either list is of the pair
+pub none_in_both : (xs ys : List Entry) (n p : ℕ) → found_at xs n p ≡ None → found_at ys n p ≡ None
+    → found_at (xs ++ ys) n p ≡ None
+none_in_both [] ys n p front back = back
+none_in_both (c ∷ xs) ys n p front back = by (is_of c n p) front (λ k. none_in_both xs ys n p k back)
+  where
+    by : (v : Bool) → (if v then Some c.found else found_at xs n p) ≡ None
+        → (found_at xs n p ≡ None → found_at (xs ++ ys) n p ≡ None) →
+        (if v then Some c.found else found_at (xs ++ ys) n p) ≡ None
+    by true front rec = absurd (cc front)
+    by false front rec = rec front

@@ -1,19 +1,20 @@
 -- What holds of the fields after each change, and what a look-up says of the entries.
 -- Serves: Cells::get, Cells::put.
-use Rattle.std.proofs.Common.{◌≡◌, ℕ, ◌+◌, ◌<◌, ◌≤◌, ◌⊎◌, inl, inr, List, [], ◌∷◌, ◌++◌, length, set, take, Some, None}
-use Rattle.std.proofs.Common.{refl, ap, sym, ◌∙◌, arith, length-append, length-set, take_all}
+use Rattle.std.proofs.Common.{◌≡◌, ℕ, ◌+◌, ◌<◌, ◌≤◌, ◌⊎◌, inl, inr, List, [], ◌∷◌, ◌++◌, length, set, take}
+use Rattle.std.proofs.Common.{Option, Some, None, refl, ap, sym, ◌∙◌, arith, length-append, length-set, take_all}
 use Rattle.std.proofs.lemmas.List.{length-map, map-append, take-append-le}
 use Rattle.std.proofs.lemmas.Bool.Decides.{nat_tests}
-use Rattle.std.specs.Prelude.{slice_get, option_map}
+use Rattle.std.specs.Prelude.{IfNone, IfSome, slice_get, option_map}
 use Rattle.std.proofs.lemmas.Option.{slice_get_within, slice_get-map}
 use Rattle.cells.specs.declared.cell.Cell.{Cell}
 use Rattle.cells.specs.declared.rows.Layout.{Layout}
 use Rattle.cells.specs.declared.cell.Found.{Found}
-use Rattle.cells.specs.Entries.{Entry, found_at, IsAdded, IsKnown}
+use Rattle.cells.specs.Entries.{Entry, IsKnown, found_at}
 use Rattle.cells.specs.CellEntries.{Holds, IsFree, IsMap, IsKept, IsAt, IsNowhere, entry_of, entries_of, found_of}
 use Rattle.cells.specs.Links.{IsLast, AreLinked}
 use Rattle.cells.specs.Rows.{row_of, number_of, fold}
-use Rattle.cells.proofs.FoundAtLemmas.{added_is_found, free_none, held_found}
+use Rattle.cells.proofs.FoundAtLemmas.{free_none, held_found}
+use Rattle.cells.proofs.IsKnownLemmas.{added_at_end, known_added}
 use Rattle.cells.proofs.PushLemmas.{push_cases, mapped_from}
 use Rattle.cells.proofs.AreLinkedLemmas.{AreLinked-none, AreLinked-push, AreLinked-same}
 
@@ -128,6 +129,9 @@ pub fold-below : (count mask x : ℕ) → x < count → fold count mask x ≡ x
 unfolding fold
 fold-below count mask x h = grind (arith, nat_tests)
 
+pub row_of_number : (count mask number row : ℕ) → row ≡ number → row < count → row ≡ fold count mask number
+row_of_number count mask number row is low = is ∙ sym (fold-below count mask number (rw is at low))
+
 -- more rows where no number is folded
 pub IsKept-more : (layout : Layout) (cells : List Cell) (rows more : List ℕ)
     → ((b h : ℕ) → slice_get more b ≡ Some h → h ≡ 0) → IsKept layout 0 cells rows →
@@ -221,18 +225,23 @@ pub free-is : (entries : List Entry) (e : Entry) (n p : ℕ) (o : Found) → e �
     IsFree entries n p → IsFree entries e.node e.place
 free-is entries e n p o h free = rw h free
 
+-- what a look-up found
+pub found_by_look_up : (cells : List Cell) (n p : ℕ) (r : Option ℕ) → IsMap (entries_of cells)
+    → IfSome r (λ e. IsAt cells n p e) → IfNone r (IsNowhere cells n p) →
+    found_at (entries_of cells) n p ≡ option_map found_of r
+found_by_look_up cells n p None m found none = sym (free_none (entries_of cells) n p (free_nowhere cells n p none))
+found_by_look_up cells n p (Some e) m found none =
+    sym (held_found (entries_of cells) n p (found_of e) (holds_at cells n p e found)
+    (holds_only cells n p e m found))
+
 -- a pair that had a cell
-pub known_old : (cells : List Cell) (old : List Entry) (n p e : ℕ) (f : Found) → IsMap (entries_of cells)
-    → entries_of cells ≡ old → IsAt cells n p e →
-    IsKnown old (entries_of cells) n p f (found_of e)
-known_old cells old n p e f m same at = (
-  sym (held_found (entries_of cells) n p (found_of e) (holds_at cells n p e at) (holds_only cells n p e m at)),
-  inl same,
-)
+pub known_old : (cells : List Cell) (n p e : ℕ) (f : Found) → IsMap (entries_of cells) → IsAt cells n p e
+    → IsKnown (entries_of cells) (entries_of cells) n p f (found_of e)
+known_old cells n p e f m at = (found_by_look_up cells n p (Some e) m at tt, inl refl)
 
 -- a pair that has one since
-pub known_new : (old new : List Entry) (n p : ℕ) (f : Found) → IsFree old n p
-    → IsAdded old new (record { node = n; place = p; found = f }) → IsKnown old new n p f f
-known_new old new n p f free added =
-    let none : found_at old n p ≡ None = sym (free_none old n p free) in
-    (added_is_found old new (record { node = n; place = p; found = f }) none added, inr (none, refl, added))
+pub known_new : (old new : List Entry) (n p : ℕ) (f : Found) → IsFree old n p → new ≡ old
+    ++ record { node = n; place = p; found = f } ∷ [] →
+    IsKnown old new n p f f
+known_new old new n p f free is = known_added old new n p f (sym (free_none old n p free))
+    (rw is (added_at_end old (record { node = n; place = p; found = f })))

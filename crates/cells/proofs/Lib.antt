@@ -3,3 +3,7 @@ pub mod AreLinkedLemmas
 pub mod IsSoughtLemmas
 pub mod IsKeptLemmas
 pub mod FoundAtLemmas
+pub mod IsKnownLemmas
+pub mod EntriesFromLemmas
+pub mod EntriesInLemmas
+pub mod IsTableLemmas

@@ -1,26 +1,28 @@
 -- The cells as they are kept, and as entries.
-use Rattle.std.specs.Prelude.{◌≡◌, ℕ, ◌<◌, ◌≤◌, ◌==◌, List, Option, Some, None, length, map, slice_get, if◌then◌else◌}
+use Rattle.std.specs.Prelude.{◌≡◌, ℕ, ◌<◌, ◌≤◌, ◌==◌, List, Some, length, map, slice_get, if◌then◌else◌}
 use Rattle.cells.specs.declared.cell.Cell.{Cell}
 use Rattle.cells.specs.declared.rows.Layout.{Layout}
 use Rattle.cells.specs.declared.cell.Found.{Found}
 use Rattle.cells.specs.declared.cell.Found.TheVariants.{Failed, Took}
-use Rattle.cells.specs.Entries.{Entry}
+use Rattle.cells.specs.declared.cell.GetOrPut.{GetOrPut}
+use Rattle.cells.specs.declared.cell.GetOrPut.TheVariants.{Had, Added, Refused}
+use Rattle.cells.specs.Entries.{Entry, IsKnown}
 use Rattle.cells.specs.Links.{AreLinked}
 use Rattle.cells.specs.Rows.{row_of, number_of}
 
 abbrev pub found_of : ℕ → Found
 found_of e = if e == 4294967295 then Failed else Took e
 
--- what a cell holds, if it was there, or else what is put
-abbrev pub found_or : ℕ → Option ℕ → Found
-found_or end None = found_of end
-found_or end (Some had) = found_of had
-
 abbrev pub entry_of : Cell → Entry
 entry_of c = record { node = c.node; place = c.place; found = found_of c.end }
 
 abbrev pub entries_of : List Cell → List Entry
 entries_of cells = map entry_of cells
+
+-- a log as its callers see it: its entries, in the order in which they were put, and the number of its rows
+pub record LogView : Type 0 where
+  pub entries : List Entry
+  pub rows : ℕ
 
 -- an entry is of that pair, and holds that
 abbrev pub Holds : List Entry → ℕ → ℕ → Found → Type 0
@@ -57,3 +59,9 @@ pub record IsKept (layout : Layout) (mask : ℕ) (cells : List Cell) (rows : Lis
 -- so many cells have room where there is room for that many, and are not too many
 abbrev pub IsLimit : ℕ → ℕ → Type 0
 IsLimit limit room = (limit ≤ room) × (limit < 4294967295)
+
+-- what came of a call that gets a pair's cell, or puts one that holds `found`
+abbrev pub IsGetOrPut : List Entry → List Entry → ℕ → ℕ → Found → GetOrPut → Type 0
+IsGetOrPut old new n p found (Had end) = IsKnown old new n p found (found_of end)
+IsGetOrPut old new n p found Added = IsKnown old new n p found found
+IsGetOrPut old new n p found Refused = new ≡ old

@@ -1,7 +1,7 @@
 //! One cell, as it is kept.
-ghost use Rattle.std.specs.Prelude.{◌≡◌, ◌<◌, ◌≤◌, IfSome, IfNone};
+ghost use Rattle.std.specs.Prelude.{◌≡◌, ◌<◌, ◌≤◌, true, IfSome, IfNone};
 ghost use Rattle.cells.specs.CellEntries.{found_of};
-ghost use Rattle.cells.specs.Entries.{IsNarrow};
+ghost use Rattle.cells.specs.Entries.{AreNarrow, IsNarrow};
 
 /// What a node gave at a place.
 #[derive(Clone, Copy, PartialEq, Eq, Debug)]
@@ -10,6 +10,17 @@ pub enum Found {
     Failed,
     /// It succeeded, and ended there.
     Took(usize),
+}
+
+/// What came of a call that gets a cell or adds one. It goes back in two registers; a `Result` of an `Option` does not.
+#[derive(Clone, Copy)]
+pub(crate) enum GetOrPut {
+    /// There was a cell, with that end.
+    Had(u32),
+    /// There was none, and one was added.
+    Added,
+    /// There was none, and a growth for one was refused.
+    Refused,
 }
 
 /// A cell in 16 bytes: its node, its place, the end of its success or `FAILED`, and its link: one more than the index
@@ -45,14 +56,16 @@ pub(crate) fn narrow(n: usize) -> Option<u32>
     }
 }
 
-/// Returns the end that a cell keeps of what was found; none if it is too great.
-#[inline(always)]
-pub(crate) fn end_of(found: Found) -> Option<u32>
-    ensures { IfSome result (λ e. found_of e ≡ found) }
+/// Tells whether a cell can keep these numbers.
+pub(crate) fn are_narrow(node: usize, place: usize, found: Found) -> bool
+    ensures { result ≡ true → AreNarrow node place found }
 {
+    if node >= FAILED as usize || place >= FAILED as usize {
+        return false;
+    }
     match found {
-        Found::Failed => Some(FAILED),
-        Found::Took(end) => narrow(end),
+        Found::Failed => true,
+        Found::Took(end) => end < FAILED as usize,
     }
 }
 

@@ -3,8 +3,10 @@
 
 mod cell;
 mod link;
+mod log;
 mod map;
 mod rows;
+mod square;
 
 pub use cell::Found;
 pub use map::Cells;

@@ -1,449 +1,61 @@
-//! The cells as a finite map.
-ghost use Rattle.std.specs.Prelude.{◌≡◌, ℕ, ◌<◌, ◌≤◌, ◌++◌, ◌∷◌, ◌^◌, [], length, slice_get, false, Some, None, IfOk};
-ghost use Rattle.std.specs.Prelude.{IfNone, IfSome, OnOk, OnErr, vec_len, vec_capacity};
-ghost use Rattle.cells.specs.Entries.{found_at, AreNarrow, IsAdded, IsKnown};
-ghost use Rattle.cells.specs.CellEntries.{IsAt, IsFree, IsKept, IsLimit, IsNowhere, entry_of, entries_of};
-ghost use Rattle.cells.specs.CellEntries.{found_of, found_or};
-ghost use Rattle.cells.specs.Links.{AreLinked};
-ghost use Rattle.cells.specs.Rows.{number_of as number, fold as folded, row_of};
+//! The cells as a finite map: a table by node and place, and the log.
+ghost use Rattle.std.specs.Prelude.{◌⊎◌};
+ghost use Rattle.std.specs.Prelude.{◌≡◌, ◌<◌, ◌≤◌, [], length, false, Some, None, IfOk, IfNone, IfSome, OnOk, OnErr};
+ghost use Rattle.std.specs.Prelude.{option_map};
+ghost use Rattle.cells.specs.Entries.{AreNarrow, IsAdded, IsKnown, found_at};
+ghost use Rattle.cells.specs.CellEntries.{found_of, IsGetOrPut};
 
-use crate::cell::{Cell, FAILED, Found, Key, end_narrow, end_of, found_of_end};
-use crate::link::{last_of, relink, walk, wipe};
-use crate::rows::{Layout, Scale, fold, layout_of, number_of, set_layout, wider};
+use crate::cell::{FAILED, Found, GetOrPut, are_narrow, found_of_end};
+use crate::log::Log;
+use crate::square::{
+    NODES, SQUARES, Square, add_squares, fill, move_out, next_stamp, square_number,
+};
 use ruletable::Memory;
 use std::alloc::Global;
 use std::marker::Model;
 
-// The rows of a first growth.
-const FIRST: usize = 256;
-
-// So many rows are emptied one by one; more are dropped, and made again as they are wanted.
-const KEPT: usize = 1_024;
-
-// A unit of so many cells is small; the next is laid out for the like.
-const FEW: usize = 1_024;
-
-// So many cells are as many as can be.
-const MOST: usize = 4_294_967_294;
-
-// The scale before the first unit.
-const NO_SCALE: Scale = Scale {
-    nodes: 0,
-    few: false,
-};
-
-/// The cells of one unit, seen as the list of their entries in some order.
+/// The cells of one unit, seen as the list of their entries: those of the table in the order of its squares, and those
+/// of the log in the order in which they were put.
 ///
-/// A cell takes 16 bytes, and each row takes 4 more. Some 32 to 64 nodes share a row of each place; but where the unit
-/// before had few cells, a place has up to 32 rows until this one has many. Numbers from 4,294,967,295 on, and as many
-/// cells, are refused as want of memory.
+/// All cells of a unit stand in the table, or all stand in the log. The table has a square of 8 bytes for each of 72
+/// nodes at each of some 277 places. They go to the log where a cell has no square: its node is none of the 72, or its
+/// place is none of those. Numbers from 4,294,967,295 on, and as many cells, are refused as want of memory.
 #[derive(Drop)]
 pub struct Cells {
-    cells: Vec<Cell>,
-    // of each row one more than the index of its last cell, or 0
-    rows: Vec<u32>,
-    // which pairs share a row
-    layout: Layout,
-    // what the layout is made for
-    scale: Scale,
-    // the bits of a number that is no row which name its row; 0 where each number is a row
-    mask: usize,
-    // there is room for so many cells, which are not too many
-    limit: usize,
+    squares: Vec<Square>,
+    // the stamp of the squares in use
+    stamp: u32,
+    // all cells stand in the log
+    far: bool,
+    // so many squares are in use
+    count: usize,
+    // the grammar has so many nodes
+    nodes: usize,
+    log: Log,
 }
 
 impl Model for Cells {
-    ghost use Rattle.std.specs.Prelude.{List, vec_capacity};
+    ghost use Rattle.std.specs.Prelude.{List, ◌++◌};
     ghost use Rattle.cells.specs.Entries.{Entry};
-    ghost use Rattle.cells.specs.CellEntries.{IsKept, IsLimit, entries_of};
+    ghost use Rattle.cells.specs.SquareEntries.{IsTable, entries_in};
 
     ghost Value = { List Entry };
 
-    ghost view = { λ m. entries_of m.cells.items };
+    ghost view = { λ m. entries_in m.stamp m.squares.items ++ m.log.entries };
 
-    ghost invariant = { λ m. IsKept m.layout m.mask m.cells.items m.rows.items
-        × IsLimit m.limit (vec_capacity m.cells) };
+    ghost invariant = { λ m. IsTable m.stamp m.far m.count m.squares.items m.log };
 }
 
-// Twice so many rows, and some at first.
-fn twice(count: usize) -> usize
-    ensures more { count ≤ result }
-    ensures some { FIRST ≤ result }
+// Empties the log, where it may have cells or where those of the next unit stand in it. Else no rows are left.
+fn empty_log(log: &mut Log, was_far: bool, far: bool, nodes: usize)
+    requires none { was_far ≡ false → log.old.entries ≡ [] }
+    requires rows { was_far ≡ false → log.old.rows ≡ 0 }
+    ensures none { log.new.entries ≡ [] }
+    ensures rows { far ≡ false → log.new.rows ≡ 0 }
 {
-    if count < FIRST {
-        FIRST
-    } else {
-        count.saturating_add(count)
+    if was_far || far {
+        log.reset(nodes, far);
     }
-}
-
-// Rows for that number and some behind it.
-fn beyond(count: usize, number: usize) -> usize
-    requires { number < 2 ^ 62 }
-    ensures more { count ≤ result }
-    ensures within { number < result }
-{
-    count.max(number + number / 8 + 16)
-}
-
-// The greatest number of ones below so many rows.
-fn mask_below(count: usize) -> usize
-    requires { FIRST ≤ count }
-    ensures some { 0 < result }
-    ensures within { result < count }
-{
-    let mut mask = FIRST - 1;
-    while mask < count / 2 {
-        mask = mask + mask + 1;
-    }
-    mask
-}
-
-// Makes more rows. Where the number is not far beyond what the cells need, there are rows up to it; else numbers are
-// folded. The result is the mask.
-#[inline(never)]
-fn grow(
-    cells: &mut [Cell],
-    rows: &mut Vec<u32>,
-    layout: Layout,
-    mask: usize,
-    number: usize,
-) -> Result<usize, Memory>
-    requires { IsKept layout mask cells.old rows.old.items }
-    ensures kept { IfOk result (λ now. IsKept layout now cells.new rows.new.items) }
-    ensures same { entries_of cells.new ≡ entries_of cells.old }
-    ensures some { OnOk result (0 < length rows.new.items) }
-    ensures within { IfOk result (λ now. now ≡ 0 → number < length rows.new.items) }
-    ensures unchanged { OnErr result ((cells.new ≡ cells.old) × (rows.new.items ≡ rows.old.items)) }
-{
-    if mask == 0 && number / 4 <= cells.len() + FIRST {
-        rows.resize(beyond(rows.len(), number), 0)?;
-        return Ok(0);
-    }
-    rows.resize(twice(rows.len()), 0)?;
-    let folded = mask_below(rows.len());
-    relink(cells, rows, layout, folded);
-    Ok(folded)
-}
-
-// Whether more rows are to be made before one more cell of that number comes in: where the number is no row, and no
-// number is folded or there are more than two cells a row.
-#[inline(always)]
-fn needs_rows(cells: usize, rows: usize, mask: usize, number: usize) -> bool
-    ensures some { result ≡ false → 0 < rows }
-    ensures within { result ≡ false → mask ≡ 0 → number < rows }
-{
-    number >= rows && (mask == 0 || cells / 2 >= rows)
-}
-
-// The greatest number of a cell, or of that pair.
-fn most_number(cells: &[Cell], layout: Layout, key: Key) -> usize
-    ensures cells { (i : ℕ) (c : Cell) → slice_get cells.now i ≡ Some c → number layout c.node c.place ≤ result }
-    ensures key { number layout key.node key.place ≤ result }
-{
-    let mut most = number_of(layout, key.node, key.place);
-    for cell in cells {
-        most = most.max(number_of(layout, cell.node, cell.place));
-    }
-    most
-}
-
-// How many rows hold the numbers of all cells and of that pair; none where those are far more than the cells need.
-fn rows_for(cells: &[Cell], layout: Layout, key: Key) -> Option<usize>
-    requires { length cells.now < 2 ^ 32 }
-    ensures cells { IfSome result (λ count. (i : ℕ) (c : Cell) → slice_get cells.now i ≡ Some c →
-        number layout c.node c.place < count) }
-    ensures key { IfSome result (λ count. number layout key.node key.place < count) }
-{
-    let most = most_number(cells, layout, key);
-    if most / 4 > cells.len() + FIRST {
-        return None;
-    }
-    Some(beyond(0, most))
-}
-
-// Links all cells anew by another layout, in so many rows at least.
-fn change_layout(
-    cells: &mut [Cell],
-    rows: &mut Vec<u32>,
-    layout: Layout,
-    count: usize,
-) -> Result<(), Memory>
-    requires kept { (was : Layout) × ((mask : ℕ) × IsKept was mask cells.old rows.old.items) }
-    requires cells { (i : ℕ) (c : Cell) → slice_get cells.old i ≡ Some c → number layout c.node c.place < count }
-    requires some { 0 < count }
-    ensures kept { OnOk result (IsKept layout 0 cells.new rows.new.items) }
-    ensures same { entries_of cells.new ≡ entries_of cells.old }
-    ensures within { OnOk result (count ≤ length rows.new.items) }
-    ensures unchanged { OnErr result ((cells.new ≡ cells.old) × (rows.new.items ≡ rows.old.items)) }
-{
-    rows.resize(rows.len().max(count), 0)?;
-    relink(cells, rows, layout, 0);
-    Ok(())
-}
-
-// The layout for many cells, where these are many and theirs is another one.
-fn layout_for_many(cells: usize, layout: Layout) -> Option<Layout> {
-    if cells > FEW { wider(layout) } else { None }
-}
-
-// Makes more rows where that is wanted, and goes over to the layout for many cells where they are. The result is the
-// mask.
-#[inline(never)]
-fn more_rows(
-    cells: &mut [Cell],
-    rows: &mut Vec<u32>,
-    layout: &mut Layout,
-    mask: usize,
-    key: Key,
-) -> Result<usize, Memory>
-    requires { IsKept layout.old mask cells.old rows.old.items }
-    ensures kept { IfOk result (λ now. IsKept layout.new now cells.new rows.new.items) }
-    ensures same { entries_of cells.new ≡ entries_of cells.old }
-    ensures some { OnOk result (0 < length rows.new.items) }
-    ensures within { IfOk result (λ now. now ≡ 0 → number layout.new key.node key.place < length rows.new.items) }
-    ensures unchanged { OnErr result ((cells.new ≡ cells.old) × (rows.new.items ≡ rows.old.items)) }
-    ensures layout { OnErr result (layout.new ≡ layout.old) }
-{
-    let number = number_of(*layout, key.node, key.place);
-    if !needs_rows(cells.len(), rows.len(), mask, number) {
-        return Ok(mask);
-    }
-    if let Some(wide) = layout_for_many(cells.len(), *layout) {
-        if let Some(count) = rows_for(cells, wide, key) {
-            change_layout(cells, rows, wide, count)?;
-            *layout = wide;
-            return Ok(0);
-        }
-    }
-    grow(cells, rows, *layout, mask, number)
-}
-
-// The row of a pair, with more rows where they are wanted.
-#[inline(always)]
-fn row_for(
-    cells: &mut [Cell],
-    rows: &mut Vec<u32>,
-    layout: &mut Layout,
-    mask: &mut usize,
-    key: Key,
-) -> Result<usize, Memory>
-    requires { IsKept layout.old mask.old cells.old rows.old.items }
-    ensures kept { IsKept layout.new mask.new cells.new rows.new.items }
-    ensures same { entries_of cells.new ≡ entries_of cells.old }
-    ensures row { IfOk result (λ row. row ≡ folded (length rows.new.items) mask.new
-        (number layout.new key.node key.place)) }
-    ensures there { IfOk result (λ row. row < length rows.new.items) }
-    ensures within { OnOk result (mask.new ≡ 0 → number layout.new key.node key.place < length rows.new.items) }
-{
-    let number = number_of(*layout, key.node, key.place);
-    if number < rows.len() {
-        return Ok(number);
-    }
-    *mask = more_rows(cells, rows, layout, *mask, key)?;
-    Ok(fold(rows.len(), *mask, number_of(*layout, key.node, key.place)))
-}
-
-// The cell of what was found, not linked yet; none if a number is too great.
-#[inline(always)]
-fn cell_of(node: usize, place: usize, found: Found) -> Option<Cell>
-    ensures entry { IfSome result (λ c. entry_of c ≡ record { node = node; place = place; found = found }) }
-    ensures narrow { IfSome result (λ c. (c.node < 4294967295) × (c.place < 4294967295)) }
-{
-    if node >= FAILED as usize {
-        return None;
-    }
-    if place >= FAILED as usize {
-        return None;
-    }
-    match end_of(found) {
-        Some(end) => Some(Cell {
-            node: node as u32,
-            place: place as u32,
-            end,
-            link: 0,
-        }),
-        None => None,
-    }
-}
-
-// The cell of what was found, not linked yet.
-#[inline(always)]
-fn cell_narrow(node: usize, place: usize, found: Found) -> Cell
-    requires { AreNarrow node place found }
-    ensures entry { entry_of result ≡ record { node = node; place = place; found = found } }
-    ensures narrow { (result.node < 4294967295) × (result.place < 4294967295) }
-{
-    Cell {
-        node: node as u32,
-        place: place as u32,
-        end: end_narrow(found),
-        link: 0,
-    }
-}
-
-// Makes room for more cells, and returns for how many there is room now.
-#[inline(never)]
-fn more_cells(cells: &mut Vec<Cell>) -> Result<usize, Memory>
-    ensures items { cells.new.items ≡ cells.old.items }
-    ensures room { IfOk result (λ limit. (vec_len cells.new < limit) × IsLimit limit (vec_capacity cells.new)) }
-    ensures capacity { vec_capacity cells.old ≤ vec_capacity cells.new }
-{
-    if cells.len() >= MOST {
-        return Err(Memory);
-    }
-    cells.reserve(1)?;
-    Ok(cells.capacity().min(MOST))
-}
-
-// Makes room for one more cell.
-#[inline(always)]
-fn make_room(cells: &mut Vec<Cell>, limit: &mut usize) -> Result<(), Memory>
-    requires limit { IsLimit limit.old (vec_capacity cells.old) }
-    ensures items { cells.new.items ≡ cells.old.items }
-    ensures limit { IsLimit limit.new (vec_capacity cells.new) }
-    ensures room { OnOk result (vec_len cells.new < limit.new) }
-{
-    if cells.len() >= *limit {
-        *limit = more_cells(cells)?;
-    }
-    Ok(())
-}
-
-// Adds a cell behind the last one of its row. There must be room for it.
-#[inline(always)]
-fn add(cells: &mut Vec<Cell>, rows: &mut [u32], layout: Layout, mask: usize, row: usize, cell: Cell)
-    requires kept { IsKept layout mask cells.old.items rows.old }
-    requires room { vec_len cells.old < vec_capacity cells.old }
-    requires few { vec_len cells.old < 4294967294 }
-    requires there { row < length rows.old }
-    requires row { row ≡ folded (length rows.old) mask (number layout cell.node cell.place) }
-    requires within { mask ≡ 0 → number layout cell.node cell.place < length rows.old }
-    requires free { IsFree (entries_of cells.old.items) cell.node cell.place }
-    requires narrow { (cell.node < 4294967295) × (cell.place < 4294967295) }
-    ensures kept { IsKept layout mask cells.new.items rows.new }
-    ensures added { entries_of cells.new.items ≡ entries_of cells.old.items ++ entry_of cell ∷ [] }
-    ensures capacity { vec_capacity cells.new ≡ vec_capacity cells.old }
-{
-    let link = last_of(cells, rows, layout, mask, row);
-    let linked = Cell {
-        link: link as u32,
-        ..cell
-    };
-    cells.push_reserved(linked);
-    rows[row] = cells.len() as u32;
-}
-
-// Adds a cell, with more rows where they are wanted.
-#[inline(always)]
-fn insert(
-    cells: &mut Vec<Cell>,
-    rows: &mut Vec<u32>,
-    layout: &mut Layout,
-    mask: &mut usize,
-    limit: &mut usize,
-    cell: Cell,
-) -> Result<(), Memory>
-    requires kept { IsKept layout.old mask.old cells.old.items rows.old.items }
-    requires limit { IsLimit limit.old (vec_capacity cells.old) }
-    requires free { IsFree (entries_of cells.old.items) cell.node cell.place }
-    requires narrow { (cell.node < 4294967295) × (cell.place < 4294967295) }
-    ensures kept { IsKept layout.new mask.new cells.new.items rows.new.items }
-    ensures limit { IsLimit limit.new (vec_capacity cells.new) }
-    ensures added { OnOk result (IsAdded (entries_of cells.old.items) (entries_of cells.new.items) (entry_of cell)) }
-    ensures unchanged { OnErr result (entries_of cells.new.items ≡ entries_of cells.old.items) }
-{
-    let key = Key {
-        node: cell.node,
-        place: cell.place,
-    };
-    let row = row_for(cells, rows, layout, mask, key)?;
-    make_room(cells, limit)?;
-    add(cells, rows, *layout, *mask, row, cell);
-    Ok(())
-}
-
-// The end that the cell of that pair has; none if it had none, and the cell is added.
-#[inline(always)]
-fn find_or_insert(
-    cells: &mut Vec<Cell>,
-    rows: &mut Vec<u32>,
-    layout: &mut Layout,
-    mask: &mut usize,
-    limit: &mut usize,
-    cell: Cell,
-) -> Result<Option<u32>, Memory>
-    requires kept { IsKept layout.old mask.old cells.old.items rows.old.items }
-    requires limit { IsLimit limit.old (vec_capacity cells.old) }
-    requires narrow { (cell.node < 4294967295) × (cell.place < 4294967295) }
-    ensures kept { IsKept layout.new mask.new cells.new.items rows.new.items }
-    ensures limit { IsLimit limit.new (vec_capacity cells.new) }
-    ensures known { IfOk result (λ had. IsKnown (entries_of cells.old.items) (entries_of cells.new.items) cell.node
-        cell.place (found_of cell.end) (found_or cell.end had)) }
-    ensures unchanged { OnErr result (entries_of cells.new.items ≡ entries_of cells.old.items) }
-{
-    let key = Key {
-        node: cell.node,
-        place: cell.place,
-    };
-    let row = row_for(cells, rows, layout, mask, key)?;
-    if let Some(end) = walk(cells, rows, *layout, *mask, row, key) {
-        return Ok(Some(end));
-    }
-    make_room(cells, limit)?;
-    add(cells, rows, *layout, *mask, row, cell);
-    Ok(None)
-}
-
-// The end of the cell of that pair, which is sought where its number is no row.
-#[inline(never)]
-fn end_far(cells: &[Cell], rows: &[u32], layout: Layout, mask: usize, key: Key) -> Option<u32>
-    requires linked { AreLinked (row_of (length rows.now) mask layout) cells.now rows.now }
-    requires some { 0 < length cells.now → 0 < length rows.now }
-    requires masked { 0 < length rows.now → mask < length rows.now }
-    ensures found { IfSome result (λ e. IsAt cells.now key.node key.place e) }
-    ensures none { IfNone result (IsNowhere cells.now key.node key.place) }
-{
-    if rows.is_empty() {
-        return None;
-    }
-    let row = fold(rows.len(), mask, number_of(layout, key.node, key.place));
-    walk(cells, rows, layout, mask, row, key)
-}
-
-// The end of the cell of that pair. Mostly its number is a row, and that has no cell.
-#[inline(always)]
-fn end_at(cells: &[Cell], rows: &[u32], layout: &Layout, mask: usize, key: Key) -> Option<u32>
-    requires linked { AreLinked (row_of (length rows.now) mask layout.now) cells.now rows.now }
-    requires some { 0 < length cells.now → 0 < length rows.now }
-    requires masked { 0 < length rows.now → mask < length rows.now }
-    ensures found { IfSome result (λ e. IsAt cells.now key.node key.place e) }
-    ensures none { IfNone result (IsNowhere cells.now key.node key.place) }
-{
-    let row = number_of(*layout, key.node, key.place);
-    if row >= rows.len() {
-        return end_far(cells, rows, *layout, mask, key);
-    }
-    if rows[row] == 0 {
-        return None;
-    }
-    walk(cells, rows, *layout, mask, row, key)
-}
-
-// Empties all rows.
-fn empty(rows: &mut Vec<u32>)
-    ensures none { (b h : ℕ) → slice_get rows.new.items b ≡ Some h → h ≡ 0 }
-{
-    if rows.len() > KEPT {
-        rows.clear();
-        return;
-    }
-    wipe(rows);
-}
-
-// Whether so many cells are those of a small unit.
-fn are_few(cells: usize) -> bool {
-    cells > 0 && cells <= FEW
 }
 
 impl Cells {
@@ -452,12 +64,12 @@ impl Cells {
         ensures { result ≡ [] }
     {
         Cells {
-            cells: Vec::new(alloc),
-            rows: Vec::new(alloc),
-            layout: layout_of(NO_SCALE),
-            scale: NO_SCALE,
-            mask: 0,
-            limit: 0,
+            squares: Vec::new(alloc),
+            stamp: 1,
+            far: false,
+            count: 0,
+            nodes: 0,
+            log: Log::new(alloc),
         }
     }
 
@@ -465,130 +77,164 @@ impl Cells {
     pub fn reset(&mut self, nodes: usize)
         ensures { self.new ≡ [] }
     {
-        let few = are_few(self.cells.len());
-        let scale = Scale { nodes, few };
-        self.cells.clear();
-        empty(&mut self.rows);
-        set_layout(&mut self.layout, self.scale, scale);
-        self.scale = scale;
-        self.mask = 0;
+        let far = nodes > NODES;
+        empty_log(&mut self.log, self.far, far, nodes);
+        self.stamp = next_stamp(&mut self.squares, self.stamp, far);
+        self.far = far;
+        self.count = 0;
+        self.nodes = nodes;
     }
 
     /// Returns the number of cells.
     pub fn len(&self) -> usize
         ensures { result ≡ length self.now }
     {
-        self.cells.len()
+        if self.far { self.log.len() } else { self.count }
     }
 
-    /// Returns what the node gave at the place, if it has a cell there.
+    /// Returns the number of cells, if they stand in the table.
     #[inline(always)]
-    pub fn get(&self, node: usize, place: usize) -> Option<Found>
-        ensures { result ≡ found_at self.now node place }
+    pub fn near_len(&self) -> Option<usize>
+        ensures { IfSome result (λ n. n ≡ length self.now) }
     {
-        // the type's invariant, which is known where a field is read, says that no cell has a greater number
-        let _layout = self.layout;
-        if node >= FAILED as usize {
+        if self.far { None } else { Some(self.count) }
+    }
+
+    // The end of the node's cell at the place, in the table or in the log.
+    #[inline(never)]
+    fn end_anywhere(&self, node: usize, place: usize) -> Option<u32>
+        ensures { found_at self.now node place ≡ option_map found_of result }
+    {
+        if self.far {
+            return self.log.end(node, place);
+        }
+        if node >= NODES {
             return None;
         }
         if place >= FAILED as usize {
             return None;
         }
-        self.get_narrow(node, place)
+        let number = square_number(node, place);
+        if number >= self.squares.len() {
+            return None;
+        }
+        let square = self.squares[number];
+        if square.stamp != self.stamp {
+            return None;
+        }
+        Some(square.end)
     }
 
-    /// Returns what the node gave at the place, if it has a cell there. Both numbers must be less than 4,294,967,295.
+    // What the node gave at the place, by the table or by the log.
     #[inline(always)]
-    pub fn get_narrow(&self, node: usize, place: usize) -> Option<Found>
-        requires { (node < 4294967295) × (place < 4294967295) }
+    fn found_anywhere(&self, node: usize, place: usize) -> Option<Found>
         ensures { result ≡ found_at self.now node place }
     {
-        let key = Key {
-            node: node as u32,
-            place: place as u32,
-        };
-        match end_at(&self.cells, &self.rows, &self.layout, self.mask, key) {
+        match self.end_anywhere(node, place) {
             Some(end) => Some(found_of_end(end)),
             None => None,
         }
     }
 
-    /// Adds a cell. The node must have none at that place.
+    // What a node gave at a place of which one is too great for a cell: nothing.
     #[inline(always)]
-    pub fn put(&mut self, node: usize, place: usize, found: Found) -> Result<(), Memory>
-        requires { found_at self.old node place ≡ None }
-        ensures added { OnOk result (IsAdded self.old self.new (record { node = node; place = place; found = found })) }
-        ensures unchanged { OnErr result (self.new ≡ self.old) }
+    fn none_beyond(&self, node: usize, place: usize) -> Option<Found>
+        requires { (4294967295 ≤ node) ⊎ (4294967295 ≤ place) }
+        ensures { result ≡ found_at self.now node place }
     {
-        let Some(cell) = cell_of(node, place, found) else {
-            return Err(Memory);
-        };
-        insert(
-            &mut self.cells,
-            &mut self.rows,
-            &mut self.layout,
-            &mut self.mask,
-            &mut self.limit,
-            cell,
-        )
+        let _stamp = self.stamp;
+        self.log.none_beyond(node, place)
     }
 
-    /// Returns what the node has at the place: what its cell there holds, or else `found`, for which a cell is added.
-    ///
-    /// # Errors
-    /// `Memory` where a growth was refused; no cell is added.
+    /// Returns what the node gave at the place, if it has a cell there. With `NEAR` the table is tried in line, and
+    /// else the log.
     #[inline(always)]
-    pub fn get_or_put(&mut self, node: usize, place: usize, found: Found) -> Result<Found, Memory>
-        ensures known { IfOk result (λ f. IsKnown self.old self.new node place found f) }
-        ensures unchanged { OnErr result (self.new ≡ self.old) }
+    pub fn get<const NEAR: bool>(&self, node: usize, place: usize) -> Option<Found>
+        ensures { result ≡ found_at self.now node place }
     {
-        let cell = match cell_of(node, place, found) {
-            Some(cell) => cell,
-            None => return Err(Memory),
-        };
-        match find_or_insert(
-            &mut self.cells,
-            &mut self.rows,
-            &mut self.layout,
-            &mut self.mask,
-            &mut self.limit,
-            cell,
-        ) {
-            Ok(Some(end)) => Ok(found_of_end(end)),
-            Ok(None) => Ok(found),
-            Err(fault) => Err(fault),
+        if node >= FAILED as usize || place >= FAILED as usize {
+            return self.none_beyond(node, place);
+        }
+        self.get_narrow::<NEAR>(node, place)
+    }
+
+    /// Returns what the node gave at the place, if it has a cell there. Both numbers must be less than 4,294,967,295.
+    /// With `NEAR` the table is tried in line, and else the log.
+    #[inline(always)]
+    pub fn get_narrow<const NEAR: bool>(&self, node: usize, place: usize) -> Option<Found>
+        requires { (node < 4294967295) × (place < 4294967295) }
+        ensures { result ≡ found_at self.now node place }
+    {
+        if NEAR {
+            if node >= NODES {
+                return self.found_anywhere(node, place);
+            }
+            let number = square_number(node, place);
+            if number >= self.squares.len() {
+                return self.found_anywhere(node, place);
+            }
+            let square = &self.squares[number];
+            if square.stamp != self.stamp {
+                return None;
+            }
+            return Some(found_of_end(square.end));
+        }
+        match self.log.try_get(node, place) {
+            Some(Some(end)) => Some(found_of_end(end)),
+            Some(None) => None,
+            None => self.found_anywhere(node, place),
         }
     }
 
-    /// Adds a cell. The node must have none at that place, and the numbers must be less than 4,294,967,295.
-    ///
-    /// # Errors
-    /// `Memory` where a growth was refused; no cell is added.
-    #[inline(always)]
-    pub fn put_narrow(&mut self, node: usize, place: usize, found: Found) -> Result<(), Memory>
+    // Adds a cell in the table or, where that has no square for it, in the log.
+    #[inline(never)]
+    fn put_anywhere(&mut self, node: usize, place: usize, found: Found) -> Result<(), Memory>
         requires free { found_at self.old node place ≡ None }
         requires narrow { AreNarrow node place found }
         ensures added { OnOk result (IsAdded self.old self.new (record { node = node; place = place; found = found })) }
         ensures unchanged { OnErr result (self.new ≡ self.old) }
     {
-        let cell = cell_narrow(node, place, found);
-        insert(
-            &mut self.cells,
-            &mut self.rows,
-            &mut self.layout,
-            &mut self.mask,
-            &mut self.limit,
-            cell,
-        )
+        if self.far {
+            return self.log.put_narrow(node, place, found);
+        }
+        if node < NODES {
+            let number = square_number(node, place);
+            if number < SQUARES {
+                add_squares(&mut self.squares, self.stamp, number)?;
+                fill(
+                    &mut self.squares,
+                    &mut self.count,
+                    self.stamp,
+                    number,
+                    found,
+                );
+                return Ok(());
+            }
+        }
+        move_out(&mut self.squares, &mut self.log, self.stamp, self.nodes)?;
+        self.count = 0;
+        self.far = true;
+        self.log.put_narrow(node, place, found)
     }
 
-    /// Returns what the node has at the place: what its cell there holds, or else `found`, for which a cell is added.
-    /// The numbers must be less than 4,294,967,295.
-    ///
-    /// # Errors
-    /// `Memory` where a growth was refused; no cell is added.
+    // Gets the node's cell at the place, or adds one in the table or in the log.
+    #[inline(never)]
+    fn end_or_put(&mut self, node: usize, place: usize, found: Found) -> GetOrPut
+        requires { AreNarrow node place found }
+        ensures { IsGetOrPut self.old self.new node place found result }
+    {
+        if let Some(end) = self.end_anywhere(node, place) {
+            return GetOrPut::Had(end);
+        }
+        match self.put_anywhere(node, place, found) {
+            Ok(()) => GetOrPut::Added,
+            Err(_) => GetOrPut::Refused,
+        }
+    }
+
+    // What the node has at the place, or else `found`, for which a cell is added in the table or in the log.
     #[inline(always)]
-    pub fn get_or_put_narrow(
+    fn get_or_put_anywhere(
         &mut self,
         node: usize,
         place: usize,
@@ -598,18 +244,122 @@ impl Cells {
         ensures known { IfOk result (λ f. IsKnown self.old self.new node place found f) }
         ensures unchanged { OnErr result (self.new ≡ self.old) }
     {
-        let cell = cell_narrow(node, place, found);
-        match find_or_insert(
-            &mut self.cells,
-            &mut self.rows,
-            &mut self.layout,
-            &mut self.mask,
-            &mut self.limit,
-            cell,
-        ) {
-            Ok(Some(end)) => Ok(found_of_end(end)),
-            Ok(None) => Ok(found),
-            Err(fault) => Err(fault),
+        match self.end_or_put(node, place, found) {
+            GetOrPut::Had(end) => Ok(found_of_end(end)),
+            GetOrPut::Added => Ok(found),
+            GetOrPut::Refused => Err(Memory),
+        }
+    }
+
+    /// Adds a cell. The node must have none at that place.
+    ///
+    /// # Errors
+    /// `Memory` where a growth was refused, or a number is too great; no cell is added.
+    pub fn put(&mut self, node: usize, place: usize, found: Found) -> Result<(), Memory>
+        requires { found_at self.old node place ≡ None }
+        ensures added { OnOk result (IsAdded self.old self.new (record { node = node; place = place; found = found })) }
+        ensures unchanged { OnErr result (self.new ≡ self.old) }
+    {
+        if !are_narrow(node, place, found) {
+            return Err(Memory);
+        }
+        self.put_narrow::<false>(node, place, found)
+    }
+
+    /// Returns what the node has at the place: what its cell there holds, or else `found`, for which a cell is added.
+    ///
+    /// # Errors
+    /// `Memory` where a growth was refused, or a number is too great; no cell is added.
+    pub fn get_or_put(&mut self, node: usize, place: usize, found: Found) -> Result<Found, Memory>
+        ensures known { IfOk result (λ f. IsKnown self.old self.new node place found f) }
+        ensures unchanged { OnErr result (self.new ≡ self.old) }
+    {
+        if !are_narrow(node, place, found) {
+            return Err(Memory);
+        }
+        self.get_or_put_narrow::<false>(node, place, found)
+    }
+
+    /// Adds a cell. The node must have none at that place, and the numbers must be less than 4,294,967,295. With `NEAR`
+    /// the table is tried in line, and else the log.
+    ///
+    /// # Errors
+    /// `Memory` where a growth was refused; no cell is added.
+    #[inline(always)]
+    pub fn put_narrow<const NEAR: bool>(
+        &mut self,
+        node: usize,
+        place: usize,
+        found: Found,
+    ) -> Result<(), Memory>
+        requires free { found_at self.old node place ≡ None }
+        requires narrow { AreNarrow node place found }
+        ensures added { OnOk result (IsAdded self.old self.new (record { node = node; place = place; found = found })) }
+        ensures unchanged { OnErr result (self.new ≡ self.old) }
+    {
+        if NEAR {
+            if node >= NODES {
+                return self.put_anywhere(node, place, found);
+            }
+            let number = square_number(node, place);
+            if number >= self.squares.len() {
+                return self.put_anywhere(node, place, found);
+            }
+            fill(
+                &mut self.squares,
+                &mut self.count,
+                self.stamp,
+                number,
+                found,
+            );
+            return Ok(());
+        }
+        match self.log.try_put(node, place, found) {
+            Some(done) => done,
+            None => self.put_anywhere(node, place, found),
+        }
+    }
+
+    /// Returns what the node has at the place: what its cell there holds, or else `found`, for which a cell is added.
+    /// The numbers must be less than 4,294,967,295. With `NEAR` the table is tried in line, and else the log.
+    ///
+    /// # Errors
+    /// `Memory` where a growth was refused; no cell is added.
+    #[inline(always)]
+    pub fn get_or_put_narrow<const NEAR: bool>(
+        &mut self,
+        node: usize,
+        place: usize,
+        found: Found,
+    ) -> Result<Found, Memory>
+        requires { AreNarrow node place found }
+        ensures known { IfOk result (λ f. IsKnown self.old self.new node place found f) }
+        ensures unchanged { OnErr result (self.new ≡ self.old) }
+    {
+        if NEAR {
+            if node >= NODES {
+                return self.get_or_put_anywhere(node, place, found);
+            }
+            let number = square_number(node, place);
+            if number >= self.squares.len() {
+                return self.get_or_put_anywhere(node, place, found);
+            }
+            let square = &self.squares[number];
+            if square.stamp == self.stamp {
+                return Ok(found_of_end(square.end));
+            }
+            fill(
+                &mut self.squares,
+                &mut self.count,
+                self.stamp,
+                number,
+                found,
+            );
+            return Ok(found);
+        }
+        match self.log.try_get_or_put(node, place, found) {
+            Some(done) => done,
+            None => self.get_or_put_anywhere(node, place, found),
         }
     }
 }

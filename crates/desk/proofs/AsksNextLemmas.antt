@@ -215,14 +215,15 @@ module _ (g : Grammar) (t : Frame) where
   pushed_known m q i r fs below a on is = rw is (on, asked_further i r fs a)
 
   pub finished_known : (cells new : List Entry) (fs below : List Frame) (f : Found) → AreAsked g t fs
-      → found_at cells t.node t.place ≡ None → (E : Type 0) (v : Result Next E)
-      → IfOk v (λ n. IsFinished cells fs t f new below n) → IfOk v (λ n. IsKnownNext g new below n)
-  finished_known cells new fs below f a none E (Ok (next.More on)) done =
+      → found_at cells t.node t.place ≡ None → (n : Next) → IsFinished cells fs t f new below n
+      → IsKnownNext g new below n
+  finished_known cells new fs below f a none (next.More on) done =
       let put = is_put cells new (record { node = t.node; place = t.place; found = f }) none done.0 in
       let asked = rw done.1 at a in (
         asked.1,
         rw done.2 (t.node, t.place, asked.0, put.here),
       )
-  finished_known cells new fs below f a none E (Ok (next.Ended h)) done = tt
-  finished_known cells new fs below f a none E (Ok next.Need) done = absurd done
-  finished_known cells new fs below f a none E (Err e) done = tt
+  finished_known cells new fs below f a none (next.Ended h) done = tt
+  finished_known cells new fs below f a none next.Need done = absurd done
+  finished_known cells new fs below f a none next.Over done = absurd done
+  finished_known cells new fs below f a none next.Refused done = tt

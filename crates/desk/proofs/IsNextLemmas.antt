@@ -6,7 +6,7 @@ use Rattle.pegread.specs.PegViews.{rules_of}
 use Rattle.gramcheck.specs.Grammar.{Grammar, IsSoundGrammar}
 use Rattle.gramcheck.specs.Nodes.{shapes_of}
 use Rattle.cells.specs.Entries.{Entry, IsAdded}
-use Rattle.cells.proofs.FoundAtLemmas.{added_is_longer}
+use Rattle.cells.proofs.IsKnownLemmas.{added_is_longer}
 use Rattle.cells.specs.declared.cell.Found.{Found}
 use Rattle.desk.specs.declared.frame.Frame.{Frame}
 use Rattle.desk.specs.declared.run.Next.{Next}
@@ -108,6 +108,8 @@ module _ (g : Grammar) (x : List ℕ) (more : Bool) (sound : IsSoundGrammar g) w
         subst (λ v. IsNext g x more here cells' below (next.Ended v)) (sym done.1)
         (ended_next h cells' turn done.0 below done.2 done.3)
     finished_next h turn cells' below next.Need done = absurd done
+    finished_next h turn cells' below next.Over done = absurd done
+    finished_next h turn cells' below next.Refused done = tt
 
 -- what a match found is what it ends with
 pub matched_outcome : (g : Grammar) (x : List ℕ) (more : Bool) (d : View) (v : Option Found) (b : ℕ)

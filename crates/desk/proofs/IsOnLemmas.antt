@@ -1,7 +1,7 @@
 -- What an evaluation does next where nodes without operands are evaluated at once.
 -- Serves: Desk::match_unit.
 use Rattle.std.proofs.Common.{◌≡◌, inl, inr, ℕ, ◌+◌, ◌<◌, ◌≤◌, Bool, true, List, ◌∷◌, length, get_or, Option, Some}
-use Rattle.std.proofs.Common.{None, Result, Ok, Err, IfOk, refl, sym, subst, arith}
+use Rattle.std.proofs.Common.{None, Result, Ok, Err, refl, sym, subst, arith}
 use Rattle.std.specs.Prelude.{slice_get}
 use Rattle.pegread.specs.PegViews.{rules_of}
 use Rattle.gramcheck.specs.Grammar.{Grammar, IsSoundGrammar}
@@ -340,14 +340,14 @@ next_from h n = (n.0, omega (arith, n.1, h.less))
 pub finished_from : (g : Grammar) (x : List ℕ) (more : Bool) → IsSoundGrammar g → (below : List Frame)
     (old mid new : List Entry) (fs : List Frame) (t : Frame) (i q : ℕ) → HasCome g x more below old mid t i q
     → (h : Found) → IsTurn (rules_of g.rules) g.start (shapes_of g.nodes) g.bodies x more mid t.node t.place (Answer h)
-    → (E : Type 0) (r : Result Next E) → IfOk r (λ n. IsFinished mid below t h new fs n)
-    → IfOk r (λ n. IsNext g x more (counted old (t ∷ below)) new fs n)
-finished_from g x more sound below old mid new fs t i q come h turn E (Ok (next.More on)) done =
+    → (n : Next) → IsFinished mid below t h new fs n → IsNext g x more (counted old (t ∷ below)) new fs n
+finished_from g x more sound below old mid new fs t i q come h turn (next.More on) done =
     next_from come (finished_next g x more sound mid (come_to t i q) below come.fits h turn new fs (next.More on) done)
-finished_from g x more sound below old mid new fs t i q come h turn E (Ok (next.Ended k)) done =
+finished_from g x more sound below old mid new fs t i q come h turn (next.Ended k) done =
     finished_next g x more sound mid (come_to t i q) below come.fits h turn new fs (next.Ended k) done
-finished_from g x more sound below old mid new fs t i q come h turn E (Ok next.Need) done = absurd done
-finished_from g x more sound below old mid new fs t i q come h turn E (Err e) done = tt
+finished_from g x more sound below old mid new fs t i q come h turn next.Need done = absurd done
+finished_from g x more sound below old mid new fs t i q come h turn next.Over done = absurd done
+finished_from g x more sound below old mid new fs t i q come h turn next.Refused done = tt
 
 -- A turn of the loop over members or alternatives: the frame has come to i at q, over the cells in between.
 module _ (g : Grammar) (x : List ℕ) (more : Bool) (sound : IsSoundGrammar g) (below : List Frame) (old mid : List Entry)

@@ -5,7 +5,8 @@ use Rattle.std.proofs.Common.{Option, Some, None, refl, sym, ◌∙◌}
 use Rattle.std.proofs.lemmas.Bool.{cases_Bool, eq-eqb, and_from}
 use Rattle.cells.specs.declared.cell.Found.{Found}
 use Rattle.cells.specs.Entries.{Entry, found_at, AreDifferent, IsAdded}
-use Rattle.cells.proofs.FoundAtLemmas.{is_of, is_own, added_is_found}
+use Rattle.cells.proofs.FoundAtLemmas.{is_of, is_own}
+use Rattle.cells.proofs.IsKnownLemmas.{added_is_found}
 use Rattle.desk.specs.State.{IsPut}
 
 only_between : (front back : List Entry) (c : Entry) (m q : ℕ)

@@ -22,7 +22,7 @@ use Rattle.pegmatch.specs.declared.matcher.Unit.TheVariants as unit
 use Rattle.desk.specs.declared.frame.Frame.{Frame}
 use Rattle.desk.specs.declared.turn.Turn.TheVariants.{Ask, Answer, Need}
 use Rattle.cells.specs.Entries.{found_at, IsAdded}
-use Rattle.cells.proofs.FoundAtLemmas.{added_is_longer}
+use Rattle.cells.proofs.IsKnownLemmas.{added_is_longer}
 use Rattle.desk.specs.Desk.{View, beginning, Fits, HasFrames, IsDone, Drops, Reaches, Ends, IsStep, IsOutcome, told}
 use Rattle.desk.specs.Desk.{unit_of}
 use Rattle.desk.specs.State.{IsPut, IsUnderWay, IsStack}

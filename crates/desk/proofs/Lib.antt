@@ -13,6 +13,7 @@ pub mod IsStepLemmas
 pub mod IsNextLemmas
 pub mod AsksNextLemmas
 pub mod IsOnLemmas
+pub mod IsSeenLemmas
 pub mod IsNarrowRunLemmas
 pub mod IsSeenFromLemmas
 pub mod PlusTurnLemmas

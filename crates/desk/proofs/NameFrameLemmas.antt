@@ -1,6 +1,6 @@
 -- A frame that has its outcome is turned into its cell; that of a name goes with its body's.
 -- Serves: Desk::match_unit.
-use Rattle.std.proofs.Common.{◌≡◌, ℕ, Bool, List, ◌∷◌, Option, Some, None, Result, Ok, Err, IfOk}
+use Rattle.std.proofs.Common.{◌≡◌, ℕ, Bool, List, ◌∷◌, Option, Some, None, Ok}
 use Rattle.std.proofs.Common.{inl, inr, refl, arith}
 use Rattle.std.specs.Prelude.{slice_get}
 use Rattle.gramcheck.specs.Grammar.{Grammar, IsSoundGrammar}
@@ -39,10 +39,10 @@ module _ (g : Grammar) (x : List ℕ) (more : Bool) (sound : IsSoundGrammar g) (
   module _ (new : List Entry) (fs : List Frame) (n : Next) (done : IsFinished cells below t h new fs n) where
     pub answered_next : IsNext g x more (counted old (t ∷ below)) new fs n
     answered_next =
-        finished_from g x more sound below old cells new fs t on.0 on.1 on.2 h on.3 (Unit {0}) (Ok n) done
+        finished_from g x more sound below old cells new fs t on.0 on.1 on.2 h on.3 n done
 
     pub answered_known : AreAsked g t below → IsKnownNext g new fs n
-    answered_known asked = finished_known g t cells new below fs h asked answered_free (Unit {0}) (Ok n) done
+    answered_known asked = finished_known g t cells new below fs h asked answered_free n done
 
 -- what comes next of a frame that is further on comes next
 pub next_after : (g : Grammar) (x : List ℕ) (more : Bool) (old : View) (cells : List Entry) (fs : List Frame)
@@ -51,6 +51,9 @@ pub next_after : (g : Grammar) (x : List ℕ) (more : Bool) (old : View) (cells 
 next_after g x more old cells fs u a new below (next.More on) b = (b.0, omega (arith, a.1, b.1))
 next_after g x more old cells fs u a new below (next.Ended f) b = b
 next_after g x more old cells fs u a new below next.Need b = b
+next_after g x more old cells fs u a new below next.Over b =
+    (b.0, b.1, b.2, b.3, (b.4.0, omega (arith, a.1, b.4.1)))
+next_after g x more old cells fs u a new below next.Refused b = tt
 
 -- the last frame, t, is a name's
 module _ (g : Grammar) (x : List ℕ) (more : Bool) (sound : IsSoundGrammar g) (below : List Frame) (cells : List Entry)
@@ -116,6 +119,8 @@ module _ (g : Grammar) (x : List ℕ) (more : Bool) (sound : IsSoundGrammar g) (
   ]
   body_begins f old further fs (next.Ended h) b = absurd b
   body_begins f old further fs next.Need b = absurd b
+  body_begins f old further fs next.Over b = absurd b
+  body_begins f old further fs next.Refused b = tt
 
   pub body_known : AreAsked g t below → (fs : List Frame) (v : Next) → BeginsBody cells below t m fs v
       → IsKnownNext g cells fs v
@@ -128,9 +133,5 @@ module _ (g : Grammar) (x : List ℕ) (more : Bool) (sound : IsSoundGrammar g) (
   )
   body_known asked fs (next.Ended h) b = absurd b
   body_known asked fs next.Need b = absurd b
-
--- what holds of a result wherever another thing does
-pub if_ok_then : {E : Type 0} {P Q : Next → Type 0} → ((n : Next) → P n → Q n) → (r : Result Next E) → IfOk r P
-    → IfOk r Q
-if_ok_then f (Ok n) p = f n p
-if_ok_then f (Err e) p = tt
+  body_known asked fs next.Over b = absurd b
+  body_known asked fs next.Refused b = tt

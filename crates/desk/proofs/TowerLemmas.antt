@@ -29,7 +29,7 @@ use Rattle.desk.specs.Visits.{Asks}
 use Rattle.desk.proofs.AsksLemmas.{IsVisited}
 use Rattle.desk.proofs.IsNarrowRunLemmas.{pair_is_narrow, outcome_is_narrow, all_narrow}
 use Rattle.desk.proofs.IsNextLemmas.{at_top, pushed_next, dropped_next}
-use Rattle.desk.proofs.IsOnLemmas.{child_visited, seen_is, seen_short, asks_star, star_on}
+use Rattle.desk.proofs.IsOnLemmas.{child_visited, seen_comes, seen_is, seen_short, asks_star, star_on}
 use Rattle.desk.proofs.IsPutLemmas.{is_put}
 use Rattle.desk.proofs.IsTurnLemmas.{star_then}
 use Rattle.desk.proofs.IsWayLemmas.{ends_by}
@@ -130,6 +130,20 @@ module _ (g : Grammar) (x : List ℕ) (more : Bool) (sound : IsSoundGrammar g) (
     run_halts new Short s = seen_short g x more sound r.frames cells r.frame r.fits m r.frame.place asks_operand new
         (sees_is_seen new (Err Short) s)
 
+    -- a turn whose operand has its cell begins as it did
+    pub run_stays : (new : List Entry) (f : Found) → Sees new (Ok (Some f)) → Running new at
+    run_stays new f s =
+        let come = seen_comes g x more sound r.frames cells r.frame r.fits m r.frame.place asks_operand new (Some f)
+        (sees_is_seen new (Ok (Some f)) s) in
+        record {
+          frame = r.frame;
+          frames = r.frames;
+          tower = r.tower;
+          here = r.here;
+          fits = come.fits;
+          less = omega (arith, come.less, r.less);
+        }
+
     star_is_on : (new : List Entry) (v : Option Found) → Sees new (Ok v) → IsOn g x more r.frames cells new r.frame
         (Ok (star_turn new r.frame.node m r.frame.place v))
     star_is_on new v s =
@@ -210,15 +224,6 @@ module _ (g : Grammar) (x : List ℕ) (more : Bool) (sound : IsSoundGrammar g) (
 
   pub run_high : (cells : List Entry) (at : ℕ) → Running cells at → at ≤ length x
   run_high cells at r = (run_child cells at r).high
-
-  pub run_less : (cells : List Entry) (at : ℕ) (r : Running cells at) (new : List Entry) (next : ℕ)
-      (s : Sees cells at r new (Ok (Some (Took next)))) →
-      ((shape : Shape) → slice_get (shapes_of g.nodes) m ≡ Some shape → TakesByte shape) → found_at new top.node next
-      ≡ None → length x - next < length x - at
-  run_less cells at r new next s byte none =
-      let is = next_is cells at r new next s byte in
-      let high = run_high new next (run_goes cells at r new next s is none) in
-      omega (arith, is, high)
 
   -- back from a turn to that before it
   module _ (cells : List Entry) (at : ℕ) (found : Found) (h : Ran cells at found) where

@@ -1,6 +1,6 @@
 -- What a frame asks for where it has come so far, and what it got.
-use Rattle.std.specs.Prelude.{◌≡◌, ℕ, ◌<◌, ◌+◌, List, [], ◌∷◌, length, get_or, slice_get, Option, Some, None, Result}
-use Rattle.std.specs.Prelude.{Ok, Err}
+use Rattle.std.specs.Prelude.{◌≡◌, ℕ, ◌<◌, ◌+◌, Bool, List, [], ◌∷◌, length, get_or, slice_get, Option, Some, None}
+use Rattle.std.specs.Prelude.{Result, Ok, Err}
 use Rattle.gramcheck.specs.Grammar.{Grammar}
 use Rattle.gramcheck.specs.Nodes.{Shape, Any, Bytes, Set, Name, Seq, Choice, Star, Plus, Opt, And, Not, Act, Open}
 use Rattle.gramcheck.specs.Nodes.{Close, shapes_of}
@@ -8,8 +8,10 @@ use Rattle.cells.specs.declared.cell.Found.{Found}
 use Rattle.cells.specs.declared.cell.Found.TheVariants.{Failed, Took}
 use Rattle.cells.specs.Entries.{Entry, found_at}
 use Rattle.desk.specs.Ahead.{come_to}
-use Rattle.desk.specs.Desk.{back_as}
+use Rattle.desk.specs.Desk.{back_as, beginning, counted, Fits, IsMatched}
 use Rattle.desk.specs.declared.frame.Frame.{Frame}
+use Rattle.desk.specs.declared.run.Few.{Few}
+use Rattle.desk.specs.declared.run.Few.TheVariants as few
 use Rattle.desk.specs.declared.run.Next.{Next}
 use Rattle.desk.specs.declared.run.Next.TheVariants as next
 use Rattle.desk.specs.declared.turn.Turn.{Turn}
@@ -59,6 +61,20 @@ module _ (g : Grammar) where
   IsKnownNext cells below (next.More on) = AreAsked on.top below × IsBack cells on.top (back_as on.back)
   IsKnownNext cells below (next.Ended f) = Unit {0}
   IsKnownNext cells below next.Need = Unit {0}
+  IsKnownNext cells below next.Over = (t : Frame) (fs : List Frame) → below ≡ t ∷ fs → AreAsked t fs
+  IsKnownNext cells below next.Refused = Unit {0}
+
+  -- the last of the frames begins, and the match goes on with it
+  abbrev pub IsOver : List ℕ → Bool → List Entry → List Frame → Type 0
+  IsOver x more cells frames = (n p : ℕ) × (fs : List Frame) × (frames ≡ beginning n p ∷ fs)
+      × Fits g x more (counted cells (beginning n p ∷ fs)) × AreAsked (beginning n p) fs
+
+  -- what a match comes to while its cells stand in the table
+  abbrev pub IsFew : List ℕ → Bool → List Entry → List Frame → Few → Type 0
+  IsFew x more cells frames (few.Ended f) = IsMatched g x more (counted cells frames) (Some f)
+  IsFew x more cells frames few.Need = IsMatched g x more (counted cells frames) None
+  IsFew x more cells frames few.Over = IsOver x more cells frames
+  IsFew x more cells frames few.Refused = Unit {0}
 
 -- where a sequence goes on, or what it gives, once its next member has this outcome, if that is known
 abbrev pub member_on : Frame → Option Found → Result Frame Found

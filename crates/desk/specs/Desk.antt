@@ -63,6 +63,8 @@ IsFinished cells fs t f new below (next.More on) =
 IsFinished cells fs t f new below (next.Ended h) =
     IsAdded cells new (record { node = t.node; place = t.place; found = f }) × (h ≡ f) × (fs ≡ []) × (below ≡ [])
 IsFinished cells fs t f new below next.Need = ⊥
+IsFinished cells fs t f new below next.Over = ⊥
+IsFinished cells fs t f new below next.Refused = Unit {0}
 
 -- the frame of a name, t, which begins, is the last; or that of its body, m, is, if that has no cell
 abbrev pub BeginsBody : List Entry → List Frame → Frame → ℕ → List Frame → Next → Type 0
@@ -71,6 +73,8 @@ BeginsBody cells fs t m below (next.More on) = (back_as on.back ≡ None)
     ⊎ ((found_at cells m t.place ≡ None) × (on.top ≡ beginning m t.place) × (below ≡ t ∷ fs)))
 BeginsBody cells fs t m below (next.Ended h) = ⊥
 BeginsBody cells fs t m below next.Need = ⊥
+BeginsBody cells fs t m below next.Over = ⊥
+BeginsBody cells fs t m below next.Refused = Unit {0}
 
 -- One frame more, and one evaluation more begun; the frame below may have come further.
 pub record Pushes (old new : View) : Type 0 where
@@ -156,11 +160,15 @@ module _ (g : Grammar) (x : List ℕ) (more : Bool) where
   IsFurther old cells below top = Fits (counted cells (top ∷ below)) × (left (counted cells (top ∷ below)) < left old)
 
   -- what a turn of a match does, with these cells and these frames below the last one: it goes on with this frame; or
-  -- all is evaluated; or the start rule looks at the last byte of a window behind which there is more
+  -- all is evaluated; or the start rule looks at the last byte of a window behind which there is more; or it goes on
+  -- with the last of these frames, which begins; or a growth was refused
   abbrev pub IsNext : View → List Entry → List Frame → Next → Type 0
   IsNext old cells below (next.More on) = IsFurther old cells below on.top
   IsNext old cells below (next.Ended f) = IsDone (counted cells below) × Answers f
   IsNext old cells below next.Need = (more ≡ true) × ((o : Outcome) × StartGives g x o (length x))
+  IsNext old cells below next.Over = (n p : ℕ) × (fs : List Frame) × (below ≡ beginning n p ∷ fs)
+      × IsFurther old cells fs (beginning n p)
+  IsNext old cells below next.Refused = Unit {0}
 
   -- what a match leaves behind where it found this, or where the window is too short
   abbrev pub IsMatched : View → Option Found → Type 0

@@ -1,5 +1,5 @@
 -- A repetition of a node that takes a byte: its turns, one behind another, and the frames that would stand for them.
-use Rattle.std.specs.Prelude.{◌≡◌, ℕ, ◌+◌, ◌≤◌, Bool, true, List, ◌∷◌, length, Option, Some, None, Result, Ok, Err}
+use Rattle.std.specs.Prelude.{◌≡◌, ℕ, ◌+◌, ◌<◌, ◌≤◌, Bool, true, List, ◌∷◌, length, Option, Some, None, Result, Ok, Err}
 use Rattle.pegread.specs.PegViews.{rules_of}
 use Rattle.gramcheck.specs.Grammar.{Grammar}
 use Rattle.gramcheck.specs.Nodes.{Shape, Any, Bytes, Set, Name, Seq, Choice, Star, Plus, Opt, And, Not, Act, Open}
@@ -11,6 +11,8 @@ use Rattle.cells.specs.Entries.{Entry}
 use Rattle.desk.specs.declared.ahead.Halt.{Halt}
 use Rattle.desk.specs.declared.ahead.Halt.TheVariants.{Memory, Short}
 use Rattle.desk.specs.declared.frame.Frame.{Frame}
+use Rattle.desk.specs.declared.repeat.Turned.{Turned}
+use Rattle.desk.specs.declared.repeat.Turned.TheVariants.{Goes, Ends}
 use Rattle.desk.specs.declared.turn.Turn.{Turn}
 use Rattle.desk.specs.declared.turn.Turn.TheVariants.{Answer, Need}
 use Rattle.desk.specs.Ahead.{come_to}
@@ -76,3 +78,9 @@ module _ (g : Grammar) (x : List ℕ) (more : Bool) (below : List Frame) (old ne
     pub fits : Fits g x more (counted new (come_to frame next end ∷ frames))
     pub less : left g x more (counted new (come_to frame next end ∷ frames)) ≤ left g x more (counted old (top ∷ below))
     pub turn : IsTurn (rules_of g.rules) g.start (shapes_of g.nodes) g.bodies x more new top.node at (Answer found)
+
+  -- what the turn at a place does: the next one begins behind it; or this is what the repetition gives there
+  abbrev pub HasTurned : ℕ → Result Turned Halt → Type 0
+  HasTurned at (Ok (Goes next)) = (at < next) × IsRunning next
+  HasTurned at (Ok (Ends found)) = HasRun at found
+  HasTurned at (Err h) = IsHalted g x more h

@@ -142,7 +142,7 @@ fn unfold(seen: Seen) -> Result<Option<Found>, Halt>
 
 // The cell of a literal at a place, which it gets where it has none.
 #[inline(always)]
-fn see_literal(
+fn see_literal<const NEAR: bool>(
     peg: &SoundPeg,
     window: &[u8],
     more: bool,
@@ -159,7 +159,7 @@ fn see_literal(
     ensures { IsSeen (rules_of peg.now.rules) peg.now.start (shapes_of peg.now.nodes) peg.now.bodies window.now more
         cells.old cells.new node place result }
 {
-    if let Some(found) = cells.get(node, place) {
+    if let Some(found) = cells.get::<NEAR>(node, place) {
         return Ok(Some(found));
     }
     match literal_of(peg, window, more, node, place) {
@@ -174,7 +174,7 @@ fn see_literal(
 
 // The same, apart from the loops that come to it seldom.
 #[inline(never)]
-fn see_literal_apart(
+fn see_literal_apart<const NEAR: bool>(
     peg: &SoundPeg,
     window: &[u8],
     more: bool,
@@ -191,16 +191,20 @@ fn see_literal_apart(
     ensures { IsSeen (rules_of peg.now.rules) peg.now.start (shapes_of peg.now.nodes) peg.now.bodies window.now more
         cells.old cells.new node place (seen_as result) }
 {
-    flat(see_literal(peg, window, more, cells, node, place))
+    flat(see_literal::<NEAR>(peg, window, more, cells, node, place))
 }
 
 // The cell of a node at a place which would look at the last byte of the window, if it has one.
 #[inline(always)]
-fn held_or_short(cells: &Cells, node: usize, place: usize) -> Result<Option<Found>, Halt>
+fn held_or_short<const NEAR: bool>(
+    cells: &Cells,
+    node: usize,
+    place: usize,
+) -> Result<Option<Found>, Halt>
     ensures held { IfOk result (λ seen. (f : Found) × (seen ≡ Some f) × (found_at cells.now node place ≡ Some f)) }
     ensures short { IfErr result (λ halt. (halt ≡ Halt.Short) × (found_at cells.now node place ≡ None)) }
 {
-    match cells.get(node, place) {
+    match cells.get::<NEAR>(node, place) {
         Some(found) => Ok(Some(found)),
         None => Err(Halt::Short),
     }
@@ -208,18 +212,18 @@ fn held_or_short(cells: &Cells, node: usize, place: usize) -> Result<Option<Foun
 
 // The same, apart from the loops that come to it seldom.
 #[inline(never)]
-fn held_or_short_apart(cells: &Cells, node: usize, place: usize) -> Seen
+fn held_or_short_apart<const NEAR: bool>(cells: &Cells, node: usize, place: usize) -> Seen
     ensures held { IfOk (seen_as result) (λ seen. (f : Found) × (seen ≡ Some f)
         × (found_at cells.now node place ≡ Some f)) }
     ensures short { IfErr (seen_as result) (λ halt. (halt ≡ Halt.Short) × (found_at cells.now node place ≡ None)) }
 {
-    flat(held_or_short(cells, node, place))
+    flat(held_or_short::<NEAR>(cells, node, place))
 }
 
-// The cell of a node at a place; one without operands gets its cell where it has none. A failure and a success are put
-// apart, which is faster.
+// The cell of a node at a place; one without operands gets its cell where it has none. Where it is known what the node
+// gives, the answer is that, and not what the cell holds. A failure and a success are put apart, which is faster.
 #[inline(always)]
-fn see(
+fn see<const NEAR: bool>(
     peg: &SoundPeg,
     window: &[u8],
     more: bool,
@@ -238,27 +242,31 @@ fn see(
         cells.old cells.new node place result }
 {
     match sight_of(peg, window, more, node, place) {
-        Sight::Known(Found::Failed) => match cells.get_or_put_narrow(node, place, Found::Failed) {
-            Ok(known) => Ok(Some(known)),
+        Sight::Known(Found::Failed) => match cells.get_or_put_narrow::<NEAR>(
+            node,
+            place,
+            Found::Failed,
+        ) {
+            Ok(_) => Ok(Some(Found::Failed)),
             Err(_) => Err(Halt::Memory),
         },
-        Sight::Known(Found::Took(end)) => match cells.get_or_put_narrow(
+        Sight::Known(Found::Took(end)) => match cells.get_or_put_narrow::<NEAR>(
             node,
             place,
             Found::Took(end),
         ) {
-            Ok(known) => Ok(Some(known)),
+            Ok(_) => Ok(Some(Found::Took(end))),
             Err(_) => Err(Halt::Memory),
         },
-        Sight::Need => unfold(held_or_short_apart(cells, node, place)),
-        Sight::Literal => unfold(see_literal_apart(peg, window, more, cells, node, place)),
-        _ => Ok(cells.get_narrow(node, place)),
+        Sight::Need => unfold(held_or_short_apart::<NEAR>(cells, node, place)),
+        Sight::Literal => unfold(see_literal_apart::<NEAR>(peg, window, more, cells, node, place)),
+        _ => Ok(cells.get_narrow::<NEAR>(node, place)),
     }
 }
 
 // The same in less code.
 #[inline(always)]
-fn see_once(
+fn see_once<const NEAR: bool>(
     peg: &SoundPeg,
     window: &[u8],
     more: bool,
@@ -277,19 +285,19 @@ fn see_once(
         cells.old cells.new node place result }
 {
     match sight_of(peg, window, more, node, place) {
-        Sight::Known(found) => match cells.get_or_put_narrow(node, place, found) {
-            Ok(known) => Ok(Some(known)),
+        Sight::Known(found) => match cells.get_or_put_narrow::<NEAR>(node, place, found) {
+            Ok(_) => Ok(Some(found)),
             Err(_) => Err(Halt::Memory),
         },
-        Sight::Need => unfold(held_or_short_apart(cells, node, place)),
-        Sight::Literal => unfold(see_literal_apart(peg, window, more, cells, node, place)),
-        _ => Ok(cells.get_narrow(node, place)),
+        Sight::Need => unfold(held_or_short_apart::<NEAR>(cells, node, place)),
+        Sight::Literal => unfold(see_literal_apart::<NEAR>(peg, window, more, cells, node, place)),
+        _ => Ok(cells.get_narrow::<NEAR>(node, place)),
     }
 }
 
 // The same, apart from the loops that come to it seldom.
 #[inline(never)]
-fn see_once_apart(
+fn see_once_apart<const NEAR: bool>(
     peg: &SoundPeg,
     window: &[u8],
     more: bool,
@@ -307,7 +315,7 @@ fn see_once_apart(
     ensures { IsSeen (rules_of peg.now.rules) peg.now.start (shapes_of peg.now.nodes) peg.now.bodies window.now more
         cells.old cells.new node place (seen_as result) }
 {
-    flat(see_once(peg, window, more, cells, node, place))
+    flat(see_once::<NEAR>(peg, window, more, cells, node, place))
 }
 
 /// Returns whether a node has operands.
@@ -321,7 +329,7 @@ pub(crate) fn has_operands(node: &Node) -> bool {
 
 /// Returns the same, where most nodes have operands: what a leaf needs stays out of the loops.
 #[inline(always)]
-pub(crate) fn see_mostly(
+pub(crate) fn see_mostly<const NEAR: bool>(
     peg: &SoundPeg,
     window: &[u8],
     more: bool,
@@ -340,9 +348,9 @@ pub(crate) fn see_mostly(
         cells.old cells.new node place result }
 {
     if has_operands(peg.node(node)) {
-        return Ok(cells.get_narrow(node, place));
+        return Ok(cells.get_narrow::<NEAR>(node, place));
     }
-    unfold(see_once_apart(peg, window, more, cells, node, place))
+    unfold(see_once_apart::<NEAR>(peg, window, more, cells, node, place))
 }
 
 /// The outcome of what the last frame asked for, where it goes on behind that.
@@ -374,7 +382,7 @@ pub(crate) struct Stage {
 
 // On through the members of a sequence.
 #[inline(always)]
-fn all_on(
+fn all_on<const NEAR: bool>(
     peg: &SoundPeg,
     window: &[u8],
     more: bool,
@@ -393,7 +401,7 @@ fn all_on(
     let _start = peg.start();
     let mut end = top.end;
     for i in top.next..members.len() {
-        match see(peg, window, more, cells, members[i], end) {
+        match see::<NEAR>(peg, window, more, cells, members[i], end) {
             Ok(None) => {
                 return Ok(Turn::Ask {
                     node: members[i],
@@ -413,7 +421,7 @@ fn all_on(
 // What is seen of an alternative, for which the last frame asks. One that fails at its head fails without a look at its
 // cell: had it one, so would its head.
 #[inline(always)]
-fn see_other(
+fn see_other<const NEAR: bool>(
     peg: &SoundPeg,
     window: &[u8],
     more: bool,
@@ -431,16 +439,16 @@ fn see_other(
         place → IsSeenFrom peg.now window.now more below cells.old cells.new top node place result }
 {
     let _start = peg.start();
-    match fail_at_head(peg, window, more, cells, node, place) {
+    match fail_at_head::<NEAR>(peg, window, more, cells, node, place) {
         Ok(true) => Ok(Some(Found::Failed)),
-        Ok(false) => see_mostly(peg, window, more, cells, node, place),
+        Ok(false) => see_mostly::<NEAR>(peg, window, more, cells, node, place),
         Err(_) => Err(Halt::Memory),
     }
 }
 
 // On through the alternatives of a choice.
 #[inline(always)]
-fn first_on(
+fn first_on<const NEAR: bool>(
     peg: &SoundPeg,
     window: &[u8],
     more: bool,
@@ -458,7 +466,7 @@ fn first_on(
 {
     let _start = peg.start();
     for i in top.next..alternatives.len() {
-        match see_other(peg, window, more, cells, alternatives[i], top.place) {
+        match see_other::<NEAR>(peg, window, more, cells, alternatives[i], top.place) {
             Ok(None) => {
                 return Ok(Turn::Ask {
                     node: alternatives[i],
@@ -515,7 +523,7 @@ fn other_back(alternatives: &[usize], stage: Stage) -> Result<Frame, Found>
 
 // On through the members of a sequence, from behind the one that has its outcome, if one has.
 #[inline(always)]
-fn all_from(
+fn all_from<const NEAR: bool>(
     peg: &SoundPeg,
     window: &[u8],
     more: bool,
@@ -534,14 +542,14 @@ fn all_from(
 {
     let _start = peg.start();
     match member_back(members, stage) {
-        Ok(from) => all_on(peg, window, more, cells, members, from),
+        Ok(from) => all_on::<NEAR>(peg, window, more, cells, members, from),
         Err(found) => Ok(Turn::Answer(found)),
     }
 }
 
 // On through the alternatives of a choice, from behind the one that has its outcome, if one has.
 #[inline(always)]
-fn first_from(
+fn first_from<const NEAR: bool>(
     peg: &SoundPeg,
     window: &[u8],
     more: bool,
@@ -560,14 +568,14 @@ fn first_from(
 {
     let _start = peg.start();
     match other_back(alternatives, stage) {
-        Ok(from) => first_on(peg, window, more, cells, alternatives, from),
+        Ok(from) => first_on::<NEAR>(peg, window, more, cells, alternatives, from),
         Err(found) => Ok(Turn::Answer(found)),
     }
 }
 
 // What is seen of the operand of the last frame's node at its place.
 #[inline(always)]
-fn see_operand(
+fn see_operand<const NEAR: bool>(
     peg: &SoundPeg,
     window: &[u8],
     more: bool,
@@ -587,7 +595,7 @@ fn see_operand(
         cells.old cells.new operand stage.top.place result }
 {
     match stage.back {
-        Back::Nothing => see_mostly(peg, window, more, cells, operand, stage.top.place),
+        Back::Nothing => see_mostly::<NEAR>(peg, window, more, cells, operand, stage.top.place),
         Back::Failed => Ok(Some(Found::Failed)),
         Back::Took(end) => Ok(Some(Found::Took(end))),
     }
@@ -596,7 +604,7 @@ fn see_operand(
 /// Returns what the evaluation of a frame's node at its place does next. A node without operands that it asks for gets
 /// its cell at once.
 #[inline(always)]
-pub(crate) fn turn_on(
+pub(crate) fn turn_on<const NEAR: bool>(
     peg: &SoundPeg,
     window: &[u8],
     more: bool,
@@ -614,35 +622,42 @@ pub(crate) fn turn_on(
     let _start = peg.start();
     let place = stage.top.place;
     match peg.node(stage.top.node) {
-        Node::Seq(members) => all_from(peg, window, more, cells, members, stage),
-        Node::Choice(alternatives) => first_from(peg, window, more, cells, alternatives, stage),
+        Node::Seq(members) => all_from::<NEAR>(peg, window, more, cells, members, stage),
+        Node::Choice(alternatives) => first_from::<NEAR>(
+            peg,
+            window,
+            more,
+            cells,
+            alternatives,
+            stage,
+        ),
         Node::Name(id) => {
             let body = peg.body_node(*id);
-            match see_operand(peg, window, more, cells, stage, body) {
+            match see_operand::<NEAR>(peg, window, more, cells, stage, body) {
                 Ok(found) => Ok(same(found, body, place)),
                 Err(halt) => Err(halt),
             }
         }
-        Node::Star(operand) => star_on(peg, window, more, cells, *operand, stage),
+        Node::Star(operand) => star_on::<NEAR>(peg, window, more, cells, *operand, stage),
         Node::Plus { operand, star } => {
             let repeated = Repeated {
                 operand: *operand,
                 star: *star,
             };
-            plus_on(peg, window, more, cells, repeated, stage)
+            plus_on::<NEAR>(peg, window, more, cells, repeated, stage)
         }
-        Node::Opt(operand) => match see_operand(peg, window, more, cells, stage, *operand) {
+        Node::Opt(operand) => match see_operand::<NEAR>(peg, window, more, cells, stage, *operand) {
             Ok(found) => Ok(opt(found, *operand, place)),
             Err(halt) => Err(halt),
         },
-        Node::And(operand) => match see_operand(peg, window, more, cells, stage, *operand) {
+        Node::And(operand) => match see_operand::<NEAR>(peg, window, more, cells, stage, *operand) {
             Ok(found) => Ok(and(found, *operand, place)),
             Err(halt) => Err(halt),
         },
-        Node::Not(operand) => match see_operand(peg, window, more, cells, stage, *operand) {
+        Node::Not(operand) => match see_operand::<NEAR>(peg, window, more, cells, stage, *operand) {
             Ok(found) => Ok(not(found, *operand, place)),
             Err(halt) => Err(halt),
         },
-        _ => Ok(next_turn(peg, window, more, cells, stage.top)),
+        _ => Ok(next_turn::<NEAR>(peg, window, more, cells, stage.top)),
     }
 }

@@ -97,7 +97,7 @@ fn step_on(
 {
     let _start = peg.start();
     let top = frames.top();
-    match next_turn(peg, window, more, cells, top) {
+    match next_turn::<false>(peg, window, more, cells, top) {
         Turn::Need => Ok(Some(Unit::Need)),
         Turn::Ask {
             node,

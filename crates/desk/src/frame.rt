@@ -1,5 +1,6 @@
 //! Evaluations under way.
-ghost use Rattle.std.specs.Prelude.{◌≡◌, List, [], ◌∷◌, length, IfSome, IfNone, OnOk, true, ◌↔◌};
+ghost use Rattle.std.specs.Prelude.{◌≡◌, ◌<◌, List, [], ◌∷◌, length, IfSome, IfNone, OnOk, true, ◌↔◌};
+ghost use Rattle.std.specs.Prelude.{vec_capacity, vec_len};
 ghost use Rattle.desk.specs.declared.frame.Frame.{Frame};
 
 use ruletable::Memory;
@@ -28,6 +29,28 @@ impl Model for Frames {
     ghost Value = { List Frame };
 
     ghost view = { λ f. reverse f.frames.items };
+}
+
+// Makes room for more frames.
+#[inline(never)]
+fn more_frames(frames: &mut Vec<Frame>) -> Result<(), Memory>
+    ensures items { frames.new.items ≡ frames.old.items }
+    ensures room { OnOk result (vec_len frames.new < vec_capacity frames.new) }
+{
+    frames.reserve(1)?;
+    Ok(())
+}
+
+// Makes room for one more frame.
+#[inline(always)]
+fn make_room(frames: &mut Vec<Frame>) -> Result<(), Memory>
+    ensures items { frames.new.items ≡ frames.old.items }
+    ensures room { OnOk result (vec_len frames.new < vec_capacity frames.new) }
+{
+    if frames.len() < frames.capacity() {
+        return Ok(());
+    }
+    more_frames(frames)
 }
 
 impl Frames {
@@ -73,7 +96,7 @@ impl Frames {
     pub(crate) fn push(&mut self, frame: Frame) -> Result<(), Memory>
         ensures { OnOk result (self.new ≡ frame ∷ self.old) }
     {
-        self.frames.reserve(1)?;
+        make_room(&mut self.frames)?;
         self.frames.push_reserved(frame);
         Ok(())
     }

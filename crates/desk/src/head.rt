@@ -76,19 +76,24 @@ fn head_to_fail(peg: &SoundPeg, window: &[u8], node: usize, place: usize) -> Opt
 
 // Puts the failures of a sequence's first member and of the sequence, unless the first member has a cell. The result
 // says whether it did.
-#[inline(never)]
-fn put_failures(cells: &mut Cells, first: usize, node: usize, place: usize) -> Result<bool, Memory>
+#[inline(always)]
+fn put_failures<const NEAR: bool>(
+    cells: &mut Cells,
+    first: usize,
+    node: usize,
+    place: usize,
+) -> Result<bool, Memory>
     requires first { AreNarrow first place Found.Failed }
     requires node { AreNarrow node place Found.Failed }
     requires free { found_at cells.old first place ≡ None → (mid : List Entry) → IsAdded cells.old mid
         (record { node = first; place = place; found = Found.Failed }) → found_at mid node place ≡ None }
     ensures { IfOk result (PutsFailures cells.old cells.new first node place) }
 {
-    if cells.get_narrow(first, place).is_some() {
+    if cells.get_narrow::<NEAR>(first, place).is_some() {
         return Ok(false);
     }
-    cells.put_narrow(first, place, Found::Failed)?;
-    cells.put_narrow(node, place, Found::Failed)?;
+    cells.put_narrow::<NEAR>(first, place, Found::Failed)?;
+    cells.put_narrow::<NEAR>(node, place, Found::Failed)?;
     Ok(true)
 }
 
@@ -98,7 +103,7 @@ fn put_failures(cells: &mut Cells, first: usize, node: usize, place: usize) -> R
 /// # Errors
 /// `Memory` where a growth was refused.
 #[inline(always)]
-pub(crate) fn fail_at_head(
+pub(crate) fn fail_at_head<const NEAR: bool>(
     peg: &SoundPeg,
     window: &[u8],
     more: bool,
@@ -117,7 +122,7 @@ pub(crate) fn fail_at_head(
 {
     let _start = peg.start();
     match head_to_fail(peg, window, node, place) {
-        Some(first) => put_failures(cells, first, node, place),
+        Some(first) => put_failures::<NEAR>(cells, first, node, place),
         None => Ok(false),
     }
 }

@@ -1,7 +1,8 @@
 //! A repetition of a node that takes a byte, without a frame for each turn of it.
-ghost use Rattle.std.specs.Prelude.{◌≡◌, ◌<◌, ◌≤◌, List, ◌∷◌, length, slice_get, Some, true, Ok, IfOk, IfErr};
+ghost use Rattle.std.specs.Prelude.{◌≡◌, ℕ, ◌<◌, ◌≤◌, Bool, true, List, ◌∷◌, length, slice_get, Some, Ok};
+ghost use Rattle.std.specs.Prelude.{IfOk, IfErr, OnErr};
 ghost use Rattle.pegread.specs.PegViews.{rules_of};
-ghost use Rattle.gramcheck.specs.Grammar.{IsSoundGrammar};
+ghost use Rattle.gramcheck.specs.Grammar.{Grammar, IsSoundGrammar};
 ghost use Rattle.gramcheck.specs.Nodes.{Shape, shape_of, shapes_of};
 ghost use Rattle.pegmatch.specs.KeptEvents.{SpellsSome};
 ghost use Rattle.cells.specs.Entries.{Entry, found_at};
@@ -9,7 +10,7 @@ ghost use Rattle.desk.specs.declared.frame.Frame.{Frame};
 ghost use Rattle.desk.specs.declared.turn.Turn.TheVariants.{Answer};
 ghost use Rattle.desk.specs.Ahead.{IsNarrowRun, IsSeen, IsOn};
 ghost use Rattle.desk.specs.Desk.{counted, Fits};
-ghost use Rattle.desk.specs.Repeats.{TakesByte, leaf_of, some_of, HasRun, IsHalted};
+ghost use Rattle.desk.specs.Repeats.{TakesByte, leaf_of, some_of, HasRun, HasTurned, IsHalted, IsRunning};
 ghost use Rattle.desk.specs.State.{AreCells};
 ghost use Rattle.desk.specs.Turns.{IsLeafTurn, IsTurn};
 
@@ -63,15 +64,15 @@ fn try_byte(peg: &SoundPeg, window: &[u8], more: bool, node: usize, place: usize
 
 // What the cell of a node at a place holds, apart from the loops that ask for it seldom.
 #[inline(never)]
-fn get_apart(cells: &Cells, node: usize, place: usize) -> Option<Found>
+fn get_apart<const NEAR: bool>(cells: &Cells, node: usize, place: usize) -> Option<Found>
     ensures { result ≡ found_at cells.now node place }
 {
-    cells.get(node, place)
+    cells.get::<NEAR>(node, place)
 }
 
 /// Returns what the cell of a node that takes a byte holds at a place. The node gets the cell where it has none.
 #[inline(always)]
-pub(crate) fn see_byte(
+pub(crate) fn see_byte<const NEAR: bool>(
     peg: &SoundPeg,
     window: &[u8],
     more: bool,
@@ -86,19 +87,37 @@ pub(crate) fn see_byte(
     requires narrow { IsNarrowRun peg.now window.now }
     requires right { AreCells (rules_of peg.now.rules) peg.now.start (shapes_of peg.now.nodes) peg.now.bodies window.now
         more cells.old }
-    ensures { IsSeen (rules_of peg.now.rules) peg.now.start (shapes_of peg.now.nodes) peg.now.bodies window.now more
-        cells.old cells.new node place (some_of result) }
+    ensures seen { IsSeen (rules_of peg.now.rules) peg.now.start (shapes_of peg.now.nodes) peg.now.bodies window.now
+        more cells.old cells.new node place (some_of result) }
+    ensures unchanged { OnErr result (cells.new ≡ cells.old) }
 {
     match try_byte(peg, window, more, node, place) {
-        Some(found) => match cells.get_or_put_narrow(node, place, found) {
+        Some(found) => match cells.get_or_put_narrow::<NEAR>(node, place, found) {
             Ok(known) => Ok(known),
             Err(_) => Err(Halt::Memory),
         },
-        None => match get_apart(cells, node, place) {
+        None => match get_apart::<NEAR>(cells, node, place) {
             Some(found) => Ok(found),
             None => Err(Halt::Short),
         },
     }
+}
+
+/// A repetition of a node that takes a byte: its operand, its frame, and where its turns have come to.
+#[derive(Clone, Copy, PartialEq, Eq, Debug)]
+pub(crate) struct Turns {
+    operand: usize,
+    top: Frame,
+    at: usize,
+}
+
+/// What a turn of a repetition does.
+#[derive(Clone, Copy, PartialEq, Eq, Debug)]
+pub(crate) enum Turned {
+    /// It takes a byte, and the next turn begins there.
+    Goes(usize),
+    /// It gives this, and there is no other.
+    Ends(Found),
 }
 
 /// How far the turns of a repetition have come, and what it gives there.
@@ -108,9 +127,69 @@ pub(crate) struct Run {
     found: Found,
 }
 
-// Turn after turn, as long as the operand takes a byte and the repetition has no cell behind it.
+// One turn: the operand, and the repetition's own cell behind it.
 #[inline(always)]
-fn run_on(
+fn turn_byte<const NEAR: bool>(
+    peg: &SoundPeg,
+    window: &[u8],
+    more: bool,
+    cells: &mut Cells,
+    turns: Turns,
+) -> Result<Turned, Halt>
+    requires sound { IsSoundGrammar peg.now }
+    requires star { slice_get (shapes_of peg.now.nodes) turns.top.node ≡ Some (Shape.Star turns.operand) }
+    requires byte { (shape : Shape) → slice_get (shapes_of peg.now.nodes) turns.operand ≡ Some shape
+        → TakesByte shape }
+    requires narrow { IsNarrowRun peg.now window.now }
+    requires running { (below : List Frame) × (old : List Entry)
+        × IsRunning peg.now window.now more below old cells.old turns.top turns.at }
+    ensures stays { (below : List Frame) (old : List Entry)
+        → IsRunning peg.now window.now more below old cells.old turns.top turns.at →
+        IsRunning peg.now window.now more below old cells.new turns.top turns.at }
+    ensures turned { (below : List Frame) (old : List Entry)
+        → IsRunning peg.now window.now more below old cells.old turns.top turns.at →
+        HasTurned peg.now window.now more below old cells.new turns.top turns.at result }
+{
+    match see_byte::<NEAR>(peg, window, more, cells, turns.operand, turns.at) {
+        Err(halt) => Err(halt),
+        Ok(Found::Failed) => Ok(Turned::Ends(Found::Took(turns.at))),
+        Ok(Found::Took(next)) => match cells.get_narrow::<NEAR>(turns.top.node, next) {
+            Some(found) => Ok(Turned::Ends(found)),
+            None => Ok(Turned::Goes(next)),
+        },
+    }
+}
+
+// Turn after turn where the cells are in the log, as long as they go on. It gives the place of the last one, which was
+// not evaluated to its end.
+#[inline(never)]
+fn run_apart(peg: &SoundPeg, window: &[u8], more: bool, cells: &mut Cells, turns: Turns) -> usize
+    requires star { slice_get (shapes_of peg.now.nodes) turns.top.node ≡ Some (Shape.Star turns.operand) }
+    requires byte { (shape : Shape) → slice_get (shapes_of peg.now.nodes) turns.operand ≡ Some shape
+        → TakesByte shape }
+    requires narrow { IsNarrowRun peg.now window.now }
+    requires running { (below : List Frame) × (old : List Entry)
+        × IsRunning peg.now window.now more below old cells.old turns.top turns.at }
+    ensures running { (below : List Frame) (old : List Entry)
+        → IsRunning peg.now window.now more below old cells.old turns.top turns.at →
+        IsRunning peg.now window.now more below old cells.new turns.top result }
+    ensures further { turns.at ≤ result }
+{
+    let _start = peg.start();
+    let Turns { operand, top, at } = turns;
+    let mut at = at;
+    'turns: loop {
+        match turn_byte::<false>(peg, window, more, cells, Turns { operand, top, at }) {
+            Ok(Turned::Goes(next)) => at = next,
+            _ => return at,
+        }
+    }
+}
+
+// Turn after turn, as long as the operand takes a byte and the repetition has no cell behind it. The turns go on apart
+// where the cells leave the table.
+#[inline(always)]
+fn run_on<const NEAR: bool>(
     peg: &SoundPeg,
     window: &[u8],
     more: bool,
@@ -129,25 +208,44 @@ fn run_on(
     let _start = peg.start();
     let mut at = top.place;
     'turns: loop {
-        match see_byte(peg, window, more, cells, operand, at) {
+        match turn_byte::<NEAR>(peg, window, more, cells, Turns { operand, top, at }) {
             Err(halt) => return Err(halt),
-            Ok(Found::Failed) => {
-                return Ok(Run {
-                    at,
-                    found: Found::Took(at),
-                });
+            Ok(Turned::Ends(found)) => return Ok(Run { at, found }),
+            Ok(Turned::Goes(next)) => {
+                at = next;
+                if NEAR && cells.near_len().is_none() {
+                    at = run_apart(peg, window, more, cells, Turns { operand, top, at });
+                }
             }
-            Ok(Found::Took(next)) => match cells.get_narrow(top.node, next) {
-                Some(found) => return Ok(Run { at, found }),
-                None => at = next,
-            },
         }
     }
 }
 
+// Puts the cells of the turns where the cells are in the log, the last one first, as far as memory lasts. It gives the
+// place that it came to.
+#[inline(never)]
+fn put_apart(cells: &mut Cells, top: Frame, run: Run) -> usize
+    requires { (g : Grammar) × (x : List ℕ) × (more : Bool) × (below : List Frame) × (old : List Entry) × (m : ℕ)
+        × IsSoundGrammar g × IsNarrowRun g x × (slice_get (shapes_of g.nodes) top.node ≡ Some (Shape.Star m))
+        × HasRun g x more below old cells.old top run.at run.found }
+    ensures { (g : Grammar) (x : List ℕ) (more : Bool) (below : List Frame) (old : List Entry) (m : ℕ)
+        → IsSoundGrammar g → slice_get (shapes_of g.nodes) top.node ≡ Some (Shape.Star m)
+        → HasRun g x more below old cells.old top run.at run.found →
+        HasRun g x more below old cells.new top result run.found }
+{
+    let mut at = run.at;
+    'back: while at > top.place {
+        match cells.put_narrow::<false>(top.node, at, run.found) {
+            Ok(()) => at -= 1,
+            Err(_) => return at,
+        }
+    }
+    at
+}
+
 /// Goes on with a repetition of a node that takes a byte: each turn of it gets its cell, the last one first.
 #[inline(always)]
-pub(crate) fn repeat_byte(
+pub(crate) fn repeat_byte<const NEAR: bool>(
     peg: &SoundPeg,
     window: &[u8],
     more: bool,
@@ -165,13 +263,16 @@ pub(crate) fn repeat_byte(
     ensures halt { IfErr result (IsHalted peg.now window.now more) }
 {
     let _start = peg.start();
-    let run = match run_on(peg, window, more, cells, operand, top) {
+    let run = match run_on::<NEAR>(peg, window, more, cells, operand, top) {
         Ok(run) => run,
         Err(halt) => return Err(halt),
     };
     let mut at = run.at;
+    if NEAR && cells.near_len().is_none() {
+        at = put_apart(cells, top, run);
+    }
     'back: while at > top.place {
-        match cells.put_narrow(top.node, at, run.found) {
+        match cells.put_narrow::<NEAR>(top.node, at, run.found) {
             Ok(()) => at -= 1,
             Err(_) => return Err(Halt::Memory),
         }

@@ -19,12 +19,12 @@ use gramcheck::SoundPeg;
 
 // Hands on what the node that goes on with a repetition gives at the end of one turn of it.
 #[inline(always)]
-fn again_back(cells: &Cells, node: usize, stage: Stage) -> Turn
+fn again_back<const NEAR: bool>(cells: &Cells, node: usize, stage: Stage) -> Turn
     requires { IfSome (back_as stage.back) (λ f. found_at cells.now node stage.top.end ≡ Some f) }
     ensures { result ≡ again_turn node stage.top.end (found_at cells.now node stage.top.end) }
 {
     match stage.back {
-        Back::Nothing => again(cells, node, stage.top.end),
+        Back::Nothing => again::<NEAR>(cells, node, stage.top.end),
         Back::Failed => Turn::Answer(Found::Failed),
         Back::Took(end) => Turn::Answer(Found::Took(end)),
     }
@@ -32,7 +32,7 @@ fn again_back(cells: &Cells, node: usize, stage: Stage) -> Turn
 
 // Begins a repetition.
 #[inline(always)]
-fn begin_star(
+fn begin_star<const NEAR: bool>(
     peg: &SoundPeg,
     window: &[u8],
     more: bool,
@@ -50,20 +50,20 @@ fn begin_star(
 {
     let _start = peg.start();
     if takes_byte(peg.node(operand)) {
-        return match repeat_byte(peg, window, more, cells, operand, top) {
+        return match repeat_byte::<NEAR>(peg, window, more, cells, operand, top) {
             Ok(found) => Ok(Turn::Answer(found)),
             Err(halt) => Err(halt),
         };
     }
-    match see_mostly(peg, window, more, cells, operand, top.place) {
-        Ok(found) => Ok(star(cells, found, top.node, operand, top.place)),
+    match see_mostly::<NEAR>(peg, window, more, cells, operand, top.place) {
+        Ok(found) => Ok(star::<NEAR>(cells, found, top.node, operand, top.place)),
         Err(halt) => Err(halt),
     }
 }
 
 /// Goes on with a repetition.
 #[inline(always)]
-pub(crate) fn star_on(
+pub(crate) fn star_on<const NEAR: bool>(
     peg: &SoundPeg,
     window: &[u8],
     more: bool,
@@ -83,12 +83,12 @@ pub(crate) fn star_on(
     let _start = peg.start();
     let top = stage.top;
     if top.next > 0 {
-        return Ok(again_back(cells, top.node, stage));
+        return Ok(again_back::<NEAR>(cells, top.node, stage));
     }
     match stage.back {
-        Back::Nothing => begin_star(peg, window, more, cells, operand, top),
+        Back::Nothing => begin_star::<NEAR>(peg, window, more, cells, operand, top),
         Back::Failed => Ok(Turn::Answer(Found::Took(top.place))),
-        Back::Took(end) => Ok(again(cells, top.node, end)),
+        Back::Took(end) => Ok(again::<NEAR>(cells, top.node, end)),
     }
 }
 
@@ -102,7 +102,7 @@ pub(crate) struct Repeated {
 // On with a repetition of a byte at least once, behind its first turn: the node that goes on with it is evaluated at
 // once.
 #[inline(always)]
-fn rest_of_plus(
+fn rest_of_plus<const NEAR: bool>(
     peg: &SoundPeg,
     window: &[u8],
     more: bool,
@@ -125,10 +125,17 @@ fn rest_of_plus(
         operand,
         star: rest,
     } = repeated;
-    match cells.get_narrow(rest, top.end) {
+    match cells.get_narrow::<NEAR>(rest, top.end) {
         Some(found) => Ok(Turn::Answer(found)),
-        None => match repeat_byte(peg, window, more, cells, operand, beginning(rest, top.end)) {
-            Ok(found) => match cells.put_narrow(rest, top.end, found) {
+        None => match repeat_byte::<NEAR>(
+            peg,
+            window,
+            more,
+            cells,
+            operand,
+            beginning(rest, top.end),
+        ) {
+            Ok(found) => match cells.put_narrow::<NEAR>(rest, top.end, found) {
                 Ok(()) => Ok(Turn::Answer(found)),
                 Err(_) => Err(Halt::Memory),
             },
@@ -139,7 +146,7 @@ fn rest_of_plus(
 
 // A repetition of a byte at least once.
 #[inline(always)]
-fn plus_byte(
+fn plus_byte<const NEAR: bool>(
     peg: &SoundPeg,
     window: &[u8],
     more: bool,
@@ -157,7 +164,7 @@ fn plus_byte(
     ensures asks { IfOk result (λ turn. AsksAt peg.now top turn) }
 {
     let _start = peg.start();
-    match see_byte(peg, window, more, cells, repeated.operand, top.place) {
+    match see_byte::<NEAR>(peg, window, more, cells, repeated.operand, top.place) {
         Ok(Found::Failed) => Ok(Turn::Answer(Found::Failed)),
         Ok(Found::Took(end)) => {
             let come = Frame {
@@ -166,7 +173,7 @@ fn plus_byte(
                 next: 1,
                 end,
             };
-            rest_of_plus(peg, window, more, cells, repeated, come)
+            rest_of_plus::<NEAR>(peg, window, more, cells, repeated, come)
         }
         Err(halt) => Err(halt),
     }
@@ -174,7 +181,7 @@ fn plus_byte(
 
 // Begins a repetition of at least once.
 #[inline(always)]
-fn begin_plus(
+fn begin_plus<const NEAR: bool>(
     peg: &SoundPeg,
     window: &[u8],
     more: bool,
@@ -196,17 +203,17 @@ fn begin_plus(
         star: rest,
     } = repeated;
     if takes_byte(peg.node(operand)) {
-        return plus_byte(peg, window, more, cells, repeated, top);
+        return plus_byte::<NEAR>(peg, window, more, cells, repeated, top);
     }
-    match see_mostly(peg, window, more, cells, operand, top.place) {
-        Ok(found) => Ok(plus(cells, found, rest, operand, top.place)),
+    match see_mostly::<NEAR>(peg, window, more, cells, operand, top.place) {
+        Ok(found) => Ok(plus::<NEAR>(cells, found, rest, operand, top.place)),
         Err(halt) => Err(halt),
     }
 }
 
 /// Goes on with a repetition of at least once.
 #[inline(always)]
-pub(crate) fn plus_on(
+pub(crate) fn plus_on<const NEAR: bool>(
     peg: &SoundPeg,
     window: &[u8],
     more: bool,
@@ -230,11 +237,11 @@ pub(crate) fn plus_on(
         star: rest,
     } = repeated;
     if stage.top.next > 0 {
-        return Ok(again_back(cells, rest, stage));
+        return Ok(again_back::<NEAR>(cells, rest, stage));
     }
     match stage.back {
-        Back::Nothing => begin_plus(peg, window, more, cells, repeated, stage.top),
+        Back::Nothing => begin_plus::<NEAR>(peg, window, more, cells, repeated, stage.top),
         Back::Failed => Ok(Turn::Answer(Found::Failed)),
-        Back::Took(end) => Ok(again(cells, rest, end)),
+        Back::Took(end) => Ok(again::<NEAR>(cells, rest, end)),
     }
 }

@@ -20,7 +20,7 @@ use pegmatch::{NO_CAPTURE, ReplayFault, capture_after, write_event};
 use ruletable::{Sink, WriteFault};
 
 // Writes what the events of a success print, of which the track holds no frame yet.
-fn write_walk<W: Sink>(
+fn write_walk<W: Sink, const NEAR: bool>(
     peg: &SoundPeg,
     window: &[u8],
     raw: bool,
@@ -48,7 +48,7 @@ fn write_walk<W: Sink>(
     }
     let mut top = beginning(root, 0);
     'walk: loop {
-        let went = go(peg, window, cells, track, top);
+        let went = go::<NEAR>(peg, window, cells, track, top);
         if let Some(event) = went.told {
             match write_event(peg, window, raw, event, capture, out) {
                 Ok(()) => capture = capture_after(capture, event),
@@ -60,6 +60,34 @@ fn write_walk<W: Sink>(
             None => return Ok(()),
         }
     }
+}
+
+// The same, wherever the cells stand.
+fn write_found<W: Sink>(
+    peg: &SoundPeg,
+    window: &[u8],
+    raw: bool,
+    cells: &Cells,
+    track: &mut Track,
+    out: &mut W,
+) -> Result<(), WriteFault>
+    requires cells { (more : Bool) × AreCells (rules_of peg.now.rules) peg.now.start (shapes_of peg.now.nodes)
+        peg.now.bodies window.now more cells.now }
+    requires walks { (root : ℕ) → slice_get peg.now.bodies peg.now.start ≡ Some root → (all : List Event)
+        × (Walks (rules_of peg.now.rules) (shapes_of peg.now.nodes) peg.now.bodies peg.now.ranks window.now cells.now
+        (begun_at root 0 ∷ track.old.frames) all × Rise 0 (length window.now) all) }
+    requires none { track.old.frames ≡ [] }
+    requires room { length cells.now ≤ track.old.room }
+    ensures bytes { (root : ℕ) (all : List Event) → slice_get peg.now.bodies peg.now.start ≡ Some root →
+        Walks (rules_of peg.now.rules) (shapes_of peg.now.nodes) peg.now.bodies peg.now.ranks window.now cells.now
+        (begun_at root 0 ∷ track.old.frames) all → Rise 0 (length window.now) all →
+        Writes (W.contents out.old) (W.contents out.new) (text_of raw window.now all) result }
+    ensures flag { Flags (W.failed out.old) (W.failed out.new) result }
+{
+    if cells.near_len().is_none() {
+        return write_walk::<W, false>(peg, window, raw, cells, track, out);
+    }
+    write_walk::<W, true>(peg, window, raw, cells, track, out)
 }
 
 /// Writes what the actions of a success print, in order, from the cells of what it visited. The track makes room for as
@@ -85,7 +113,7 @@ pub(crate) fn replay_cells<W: Sink>(
     if track.reserve(cells.len()).is_err() {
         return Err(ReplayFault::Memory);
     }
-    match write_walk(peg, window, raw, cells, track, out) {
+    match write_found(peg, window, raw, cells, track, out) {
         Ok(()) => Ok(()),
         Err(_) => Err(ReplayFault::Write),
     }

@@ -6,7 +6,7 @@ ghost use Rattle.cells.specs.Entries.{Entry, found_at, AreNarrow};
 ghost use Rattle.desk.specs.declared.turn.Turn.TheVariants.{Answer};
 ghost use Rattle.desk.specs.Desk.{beginning as begun_at, back_as, counted, View, Fits, IsFinished, IsFurther, IsNext};
 ghost use Rattle.desk.specs.Desk.{BeginsBody, IsMatched};
-ghost use Rattle.desk.specs.AsksNext.{AreAsked, IsBack, IsKnownNext};
+ghost use Rattle.desk.specs.AsksNext.{AreAsked, IsBack, IsFew, IsKnownNext, IsOver};
 
 use crate::advance::beginning;
 use crate::ahead::{Back, Halt, Stage, back_of, has_operands, turn_on};
@@ -25,71 +25,84 @@ pub(crate) enum Next {
     Ended(Found),
     /// It would compare the last byte of a window behind which there is more.
     Need,
+    /// The cells stand in the log, and the last frame begins.
+    Over,
+    /// A growth was refused.
+    Refused,
 }
 
 // Turns the last frame into its cell, and goes on with the frame below it.
 #[inline(always)]
-fn finish(cells: &mut Cells, below: &mut Frames, top: Frame, found: Found) -> Result<Next, Memory>
+fn finish<const NEAR: bool>(cells: &mut Cells, below: &mut Frames, top: Frame, found: Found) -> Next
     requires free { found_at cells.old top.node top.place ≡ None }
     requires narrow { AreNarrow top.node top.place found }
-    ensures { IfOk result (IsFinished cells.old below.old top found cells.new below.new) }
+    ensures { IsFinished cells.old below.old top found cells.new below.new result }
 {
-    cells.put_narrow(top.node, top.place, found)?;
+    if cells
+        .put_narrow::<NEAR>(top.node, top.place, found)
+        .is_err()
+    {
+        return Next::Refused;
+    }
     match below.take() {
-        Some(frame) => Ok(Next::More(Stage {
+        Some(frame) => Next::More(Stage {
             top: frame,
             back: back_of(found),
-        })),
-        None => Ok(Next::Ended(found)),
+        }),
+        None => Next::Ended(found),
     }
 }
 
 // Turns the last frame into its cell, and goes on with the frame below it. If that is a name's, it gives the same, and
 // becomes its cell too.
 #[inline(always)]
-fn finish_through(
+fn finish_through<const NEAR: bool>(
     peg: &SoundPeg,
     cells: &mut Cells,
     below: &mut Frames,
     top: Frame,
     found: Found,
-) -> Result<Next, Memory>
+) -> Next
     requires on { (x : List ℕ) × (more : Bool) × (old : List Entry) × IsNarrowRun peg.now x
         × IsOn peg.now x more below.old old cells.old top (Ok (Answer found)) }
     requires asked { AreAsked peg.now top below.old }
-    ensures next { IfOk result (λ n. (x : List ℕ) (more : Bool) (old : List Entry)
+    ensures next { (x : List ℕ) (more : Bool) (old : List Entry)
         → IsOn peg.now x more below.old old cells.old top (Ok (Answer found))
-        → IsNext peg.now x more (counted old (top ∷ below.old)) cells.new below.new n) }
-    ensures known { IfOk result (IsKnownNext peg.now cells.new below.new) }
+        → IsNext peg.now x more (counted old (top ∷ below.old)) cells.new below.new result }
+    ensures known { IsKnownNext peg.now cells.new below.new result }
 {
     let _start = peg.start();
-    match finish(cells, below, top, found)? {
+    match finish::<NEAR>(cells, below, top, found) {
         Next::More(on) => match peg.node(on.top.node) {
-            Node::Name(_) => finish(cells, below, on.top, found),
-            _ => Ok(Next::More(on)),
+            Node::Name(_) => finish::<NEAR>(cells, below, on.top, found),
+            _ => Next::More(on),
         },
-        Next::Ended(found) => Ok(Next::Ended(found)),
-        Next::Need => Ok(Next::Need),
+        Next::Ended(found) => Next::Ended(found),
+        Next::Need => Next::Need,
+        Next::Over => Next::Over,
+        Next::Refused => Next::Refused,
     }
 }
 
 // Goes on with the frame of a name's body, if that has no cell; else with the name's, which begins.
 #[inline(always)]
-fn begin_body(cells: &Cells, below: &mut Frames, top: Frame, body: usize) -> Result<Next, Memory>
+fn begin_body<const NEAR: bool>(cells: &Cells, below: &mut Frames, top: Frame, body: usize) -> Next
     requires { (body < 4294967295) × (top.place < 4294967295) }
-    ensures { IfOk result (BeginsBody cells.now below.old top body below.new) }
+    ensures { BeginsBody cells.now below.old top body below.new result }
 {
-    match cells.get_narrow(body, top.place) {
-        Some(_) => Ok(Next::More(Stage {
+    match cells.get_narrow::<NEAR>(body, top.place) {
+        Some(_) => Next::More(Stage {
             top,
             back: Back::Nothing,
-        })),
+        }),
         None => {
-            below.push(top)?;
-            Ok(Next::More(Stage {
+            if below.push(top).is_err() {
+                return Next::Refused;
+            }
+            Next::More(Stage {
                 top: beginning(body, top.place),
                 back: Back::Nothing,
-            }))
+            })
         }
     }
 }
@@ -97,20 +110,20 @@ fn begin_body(cells: &Cells, below: &mut Frames, top: Frame, body: usize) -> Res
 // Goes on with a frame that begins with a node at a place. If the node is a name whose body has operands and no cell,
 // it goes on with the body's.
 #[inline(always)]
-fn begin_through(
+fn begin_through<const NEAR: bool>(
     peg: &SoundPeg,
     cells: &Cells,
     below: &mut Frames,
     node: usize,
     place: usize,
-) -> Result<Next, Memory>
+) -> Next
     requires fits { (x : List ℕ) × (more : Bool) × IsNarrowRun peg.now x
         × Fits peg.now x more (counted cells.now (begun_at node place ∷ below.old)) }
     requires asked { AreAsked peg.now (begun_at node place) below.old }
-    ensures next { IfOk result (λ n. (x : List ℕ) (more : Bool) (old : View)
+    ensures next { (x : List ℕ) (more : Bool) (old : View)
         → IsFurther peg.now x more old cells.now below.old (begun_at node place)
-        → IsNext peg.now x more old cells.now below.new n) }
-    ensures known { IfOk result (IsKnownNext peg.now cells.now below.new) }
+        → IsNext peg.now x more old cells.now below.new result }
+    ensures known { IsKnownNext peg.now cells.now below.new result }
 {
     let _start = peg.start();
     let top = beginning(node, place);
@@ -118,47 +131,79 @@ fn begin_through(
         Node::Name(id) => {
             let body = peg.body_node(*id);
             if has_operands(peg.node(body)) {
-                return begin_body(cells, below, top, body);
+                return begin_body::<NEAR>(cells, below, top, body);
             }
-            Ok(Next::More(Stage {
+            Next::More(Stage {
                 top,
                 back: Back::Nothing,
-            }))
+            })
         }
-        _ => Ok(Next::More(Stage {
+        _ => Next::More(Stage {
             top,
             back: Back::Nothing,
-        })),
+        }),
     }
+}
+
+// The same while the cells stand in the table. Where they stand in the log, the frame that begins is the last one.
+#[inline(always)]
+fn begin_or_over<const NEAR: bool>(
+    peg: &SoundPeg,
+    cells: &Cells,
+    below: &mut Frames,
+    node: usize,
+    place: usize,
+) -> Next
+    requires fits { (x : List ℕ) × (more : Bool) × IsNarrowRun peg.now x
+        × Fits peg.now x more (counted cells.now (begun_at node place ∷ below.old)) }
+    requires asked { AreAsked peg.now (begun_at node place) below.old }
+    ensures next { (x : List ℕ) (more : Bool) (old : View)
+        → IsFurther peg.now x more old cells.now below.old (begun_at node place)
+        → IsNext peg.now x more old cells.now below.new result }
+    ensures known { IsKnownNext peg.now cells.now below.new result }
+{
+    if NEAR && cells.near_len().is_none() {
+        if below.push(beginning(node, place)).is_err() {
+            return Next::Refused;
+        }
+        return Next::Over;
+    }
+    begin_through::<NEAR>(peg, cells, below, node, place)
 }
 
 /// Goes on with the last frame, that of `stage`; those below it are kept apart.
 #[inline(always)]
-fn go_on(
+fn go_on<const NEAR: bool>(
     peg: &SoundPeg,
     window: &[u8],
     more: bool,
     cells: &mut Cells,
     below: &mut Frames,
     stage: Stage,
-) -> Result<Next, Memory>
+) -> Next
     requires some { more ≡ true → 0 < length window.now }
     requires narrow { IsNarrowRun peg.now window.now }
     requires fits { Fits peg.now window.now more (counted cells.old (stage.top ∷ below.old)) }
     requires asked { AreAsked peg.now stage.top below.old }
     requires back { IsBack peg.now cells.old stage.top (back_as stage.back) }
-    ensures next { IfOk result (IsNext peg.now window.now more (counted cells.old (stage.top ∷ below.old)) cells.new
-        below.new) }
-    ensures known { IfOk result (IsKnownNext peg.now cells.new below.new) }
+    ensures next { IsNext peg.now window.now more (counted cells.old (stage.top ∷ below.old)) cells.new below.new
+        result }
+    ensures known { IsKnownNext peg.now cells.new below.new result }
 {
     let _start = peg.start();
     let top = stage.top;
-    match turn_on(peg, window, more, cells, stage) {
-        Err(Halt::Memory) => Err(Memory),
-        Err(Halt::Short) => Ok(Next::Need),
-        Ok(Turn::Need) => Ok(Next::Need),
-        Ok(Turn::Answer(Found::Failed)) => finish_through(peg, cells, below, top, Found::Failed),
-        Ok(Turn::Answer(Found::Took(end))) => finish_through(
+    match turn_on::<NEAR>(peg, window, more, cells, stage) {
+        Err(Halt::Memory) => Next::Refused,
+        Err(Halt::Short) => Next::Need,
+        Ok(Turn::Need) => Next::Need,
+        Ok(Turn::Answer(Found::Failed)) => finish_through::<NEAR>(
+            peg,
+            cells,
+            below,
+            top,
+            Found::Failed,
+        ),
+        Ok(Turn::Answer(Found::Took(end))) => finish_through::<NEAR>(
             peg,
             cells,
             below,
@@ -173,19 +218,120 @@ fn go_on(
                 end,
             },
         ) => {
-            below.push(Frame {
+            let come = Frame {
                 node: top.node,
                 place: top.place,
                 next,
                 end,
-            })?;
-            begin_through(peg, cells, below, node, place)
+            };
+            if below.push(come).is_err() {
+                return Next::Refused;
+            }
+            begin_or_over::<NEAR>(peg, cells, below, node, place)
+        }
+    }
+}
+
+/// Where a match comes to while its cells stand in the table.
+#[derive(Clone, Copy, PartialEq, Eq, Debug)]
+pub(crate) enum Few {
+    /// All is evaluated; this is what the start rule gives.
+    Ended(Found),
+    /// It would compare the last byte of a window behind which there is more.
+    Need,
+    /// The cells stand in the log, and the last frame begins.
+    Over,
+    /// A growth was refused.
+    Refused,
+}
+
+// Matches from the start rule's body on while the cells stand in the table.
+#[inline(always)]
+fn match_few(
+    peg: &SoundPeg,
+    window: &[u8],
+    more: bool,
+    cells: &mut Cells,
+    frames: &mut Frames,
+    root: usize,
+) -> Few
+    requires some { more ≡ true → 0 < length window.now }
+    requires narrow { IsNarrowRun peg.now window.now }
+    requires root { slice_get peg.now.bodies peg.now.start ≡ Some root }
+    requires cells { cells.old ≡ [] }
+    requires frames { frames.old ≡ [] }
+    ensures { IsFew peg.now window.now more cells.new frames.new result }
+{
+    let _start = peg.start();
+    let mut stage = Stage {
+        top: beginning(root, 0),
+        back: Back::Nothing,
+    };
+    'turns: loop {
+        let next = go_on::<true>(peg, window, more, cells, frames, stage);
+        match next {
+            Next::More(on) => stage = on,
+            Next::Ended(found) => return Few::Ended(found),
+            Next::Need => return Few::Need,
+            Next::Over => return Few::Over,
+            Next::Refused => return Few::Refused,
+        }
+    }
+}
+
+// Takes the last frame, if there is one; it begins.
+#[inline(always)]
+fn take_begun(frames: &mut Frames) -> Option<Stage>
+    requires { (n p : ℕ) × (fs : List Frame) × (frames.old ≡ begun_at n p ∷ fs) }
+    ensures { (n p : ℕ) (fs : List Frame) → frames.old ≡ begun_at n p ∷ fs → (stage : Stage) × (result ≡ Some stage)
+        × (stage.top ≡ begun_at n p) × (back_as stage.back ≡ None) × (frames.new ≡ fs) }
+{
+    match frames.take() {
+        Some(top) => Some(Stage {
+            top: beginning(top.node, top.place),
+            back: Back::Nothing,
+        }),
+        None => None,
+    }
+}
+
+// Matches on from the last frame, which begins, wherever the cells stand.
+#[inline(never)]
+fn match_rest(
+    peg: &SoundPeg,
+    window: &[u8],
+    more: bool,
+    cells: &mut Cells,
+    frames: &mut Frames,
+) -> Result<Option<Found>, Memory>
+    requires some { more ≡ true → 0 < length window.now }
+    requires narrow { IsNarrowRun peg.now window.now }
+    requires over { IsOver peg.now window.now more cells.old frames.old }
+    ensures { IfOk result (IsMatched peg.now window.now more (counted cells.new frames.new)) }
+{
+    let _start = peg.start();
+    let Some(first) = take_begun(frames) else {
+        return Ok(None);
+    };
+    let mut stage = first;
+    'turns: loop {
+        let next = go_on::<false>(peg, window, more, cells, frames, stage);
+        match next {
+            Next::More(on) => stage = on,
+            Next::Ended(found) => return Ok(Some(found)),
+            Next::Need => return Ok(None),
+            Next::Over => match take_begun(frames) {
+                Some(begun) => stage = begun,
+                None => return Ok(None),
+            },
+            Next::Refused => return Err(Memory),
         }
     }
 }
 
 /// Matches from the start rule's body on until all is evaluated, and says what the start rule gives; none where the
 /// window is too short.
+#[inline(always)]
 pub(crate) fn match_on(
     peg: &SoundPeg,
     window: &[u8],
@@ -202,17 +348,15 @@ pub(crate) fn match_on(
     ensures { IfOk result (IsMatched peg.now window.now more (counted cells.new frames.new)) }
 {
     let _start = peg.start();
-    let mut stage = Stage {
-        top: beginning(root, 0),
-        back: Back::Nothing,
-    };
-    'turns: loop {
-        let next = go_on(peg, window, more, cells, frames, stage)?;
-        match next {
-            Next::More(on) => stage = on,
-            Next::Ended(found) => return Ok(Some(found)),
-            Next::Need => return Ok(None),
-        }
+    if cells.near_len().is_none() {
+        frames.push(beginning(root, 0))?;
+        return match_rest(peg, window, more, cells, frames);
+    }
+    match match_few(peg, window, more, cells, frames, root) {
+        Few::Ended(found) => Ok(Some(found)),
+        Few::Need => Ok(None),
+        Few::Over => match_rest(peg, window, more, cells, frames),
+        Few::Refused => Err(Memory),
     }
 }
 

@@ -103,10 +103,10 @@ pub(crate) fn not(found: Option<Found>, operand: usize, place: usize) -> Turn
 
 /// Hands on what the node that goes on with a repetition gives at the end of one turn of it.
 #[inline(always)]
-pub(crate) fn again(cells: &Cells, node: usize, end: usize) -> Turn
+pub(crate) fn again<const NEAR: bool>(cells: &Cells, node: usize, end: usize) -> Turn
     ensures { result ≡ again_turn node end (found_at cells.now node end) }
 {
-    match cells.get(node, end) {
+    match cells.get::<NEAR>(node, end) {
         None => Turn::Ask {
             node,
             place: end,
@@ -119,7 +119,7 @@ pub(crate) fn again(cells: &Cells, node: usize, end: usize) -> Turn
 
 /// Returns what a repetition makes of its operand, and of itself where the operand ended.
 #[inline(always)]
-pub(crate) fn star(
+pub(crate) fn star<const NEAR: bool>(
     cells: &Cells,
     found: Option<Found>,
     node: usize,
@@ -131,14 +131,14 @@ pub(crate) fn star(
     match found {
         None => ask(operand, place),
         Some(Found::Failed) => Turn::Answer(Found::Took(place)),
-        Some(Found::Took(end)) => again(cells, node, end),
+        Some(Found::Took(end)) => again::<NEAR>(cells, node, end),
     }
 }
 
 /// Returns what a repetition of at least once makes of its operand, and of the node that goes on with it where the
 /// operand ended.
 #[inline(always)]
-pub(crate) fn plus(
+pub(crate) fn plus<const NEAR: bool>(
     cells: &Cells,
     found: Option<Found>,
     star: usize,
@@ -150,18 +150,18 @@ pub(crate) fn plus(
     match found {
         None => ask(operand, place),
         Some(Found::Failed) => Turn::Answer(Found::Failed),
-        Some(Found::Took(end)) => again(cells, star, end),
+        Some(Found::Took(end)) => again::<NEAR>(cells, star, end),
     }
 }
 
 // On through the members that have cells.
 #[inline(always)]
-fn all(cells: &Cells, members: &[usize], next: usize, end: usize) -> Turn
+fn all<const NEAR: bool>(cells: &Cells, members: &[usize], next: usize, end: usize) -> Turn
     ensures { (p : ℕ) → HaveTaken cells.now members.now p next end → IsWalk cells.now members.now p result }
 {
     let mut end = end;
     for i in next..members.len() {
-        match cells.get(members[i], end) {
+        match cells.get::<NEAR>(members[i], end) {
             None => {
                 return Turn::Ask {
                     node: members[i],
@@ -179,11 +179,11 @@ fn all(cells: &Cells, members: &[usize], next: usize, end: usize) -> Turn
 
 // On through the alternatives that have cells.
 #[inline(always)]
-fn first(cells: &Cells, alternatives: &[usize], next: usize, place: usize) -> Turn
+fn first<const NEAR: bool>(cells: &Cells, alternatives: &[usize], next: usize, place: usize) -> Turn
     ensures { HaveFailed cells.now place alternatives.now next → IsSearch cells.now alternatives.now place result }
 {
     for i in next..alternatives.len() {
-        match cells.get(alternatives[i], place) {
+        match cells.get::<NEAR>(alternatives[i], place) {
             None => {
                 return Turn::Ask {
                     node: alternatives[i],
@@ -201,7 +201,7 @@ fn first(cells: &Cells, alternatives: &[usize], next: usize, place: usize) -> Tu
 
 /// Returns what the evaluation of a frame's node at its place does next.
 #[inline(always)]
-pub(crate) fn next_turn(
+pub(crate) fn next_turn<const NEAR: bool>(
     peg: &SoundPeg,
     window: &[u8],
     more: bool,
@@ -226,24 +226,24 @@ pub(crate) fn next_turn(
         Node::Set(set) => leaf_turn(match_set(set, window, place), window, more),
         Node::Name(id) => {
             let body = peg.body_node(*id);
-            same(cells.get(body, place), body, place)
+            same(cells.get::<NEAR>(body, place), body, place)
         }
-        Node::Seq(members) => all(cells, members, frame.next, frame.end),
-        Node::Choice(alternatives) => first(cells, alternatives, frame.next, place),
+        Node::Seq(members) => all::<NEAR>(cells, members, frame.next, frame.end),
+        Node::Choice(alternatives) => first::<NEAR>(cells, alternatives, frame.next, place),
         Node::Star(operand) => {
-            let found = cells.get(*operand, place);
-            star(cells, found, frame.node, *operand, place)
+            let found = cells.get::<NEAR>(*operand, place);
+            star::<NEAR>(cells, found, frame.node, *operand, place)
         }
         Node::Plus {
             operand,
             star: again,
         } => {
-            let found = cells.get(*operand, place);
-            plus(cells, found, *again, *operand, place)
+            let found = cells.get::<NEAR>(*operand, place);
+            plus::<NEAR>(cells, found, *again, *operand, place)
         }
-        Node::Opt(operand) => opt(cells.get(*operand, place), *operand, place),
-        Node::And(operand) => and(cells.get(*operand, place), *operand, place),
-        Node::Not(operand) => not(cells.get(*operand, place), *operand, place),
+        Node::Opt(operand) => opt(cells.get::<NEAR>(*operand, place), *operand, place),
+        Node::And(operand) => and(cells.get::<NEAR>(*operand, place), *operand, place),
+        Node::Not(operand) => not(cells.get::<NEAR>(*operand, place), *operand, place),
         Node::Act(_) => Turn::Answer(Found::Took(place)),
         Node::Open => Turn::Answer(Found::Took(place)),
         Node::Close => Turn::Answer(Found::Took(place)),

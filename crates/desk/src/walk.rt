@@ -68,7 +68,7 @@ fn go_back(track: &mut Track, told: Option<Kept>) -> Went
 
 /// Goes on with the last frame, `top`, and tells an event that comes next.
 #[inline(always)]
-pub(crate) fn go(
+pub(crate) fn go<const NEAR: bool>(
     peg: &SoundPeg,
     window: &[u8],
     cells: &Cells,
@@ -88,7 +88,7 @@ pub(crate) fn go(
     ensures room { track.old.room ≤ track.new.room }
 {
     let _start = peg.start();
-    match next_way(peg, cells, top) {
+    match next_way::<NEAR>(peg, cells, top) {
         Way::Leave => go_back(track, None),
         Way::Emit(event) => go_back(track, Some(event)),
         Way::TurnTo { node, place } => Went {

@@ -39,10 +39,10 @@ pub(crate) enum Way {
 }
 
 // Into an operand that succeeded, and nowhere where it failed.
-fn opt(cells: &Cells, operand: usize, place: usize) -> Way
+fn opt<const NEAR: bool>(cells: &Cells, operand: usize, place: usize) -> Way
     ensures { result ≡ opt_way operand place (found_at cells.now operand place) }
 {
-    match cells.get(operand, place) {
+    match cells.get::<NEAR>(operand, place) {
         Some(Found::Took(_)) => Way::TurnTo {
             node: operand,
             place,
@@ -52,7 +52,14 @@ fn opt(cells: &Cells, operand: usize, place: usize) -> Way
 }
 
 // Through the operand, and then to the node that goes on with it.
-fn star(cells: &Cells, star: usize, operand: usize, place: usize, next: usize, end: usize) -> Way
+fn star<const NEAR: bool>(
+    cells: &Cells,
+    star: usize,
+    operand: usize,
+    place: usize,
+    next: usize,
+    end: usize,
+) -> Way
     ensures { result ≡ star_way star operand place next end (found_at cells.now operand place) }
 {
     if next != 0 {
@@ -61,7 +68,7 @@ fn star(cells: &Cells, star: usize, operand: usize, place: usize, next: usize, e
             place: end,
         };
     }
-    match cells.get(operand, place) {
+    match cells.get::<NEAR>(operand, place) {
         Some(Found::Took(after)) => Way::GoInto {
             node: operand,
             place,
@@ -102,7 +109,12 @@ fn end_at_once(peg: &SoundPeg, node: usize, place: usize) -> Option<usize>
 
 // The outcome of a node at a place where it succeeded.
 #[inline(always)]
-fn success_of(peg: &SoundPeg, cells: &Cells, node: usize, place: usize) -> Option<Found>
+fn success_of<const NEAR: bool>(
+    peg: &SoundPeg,
+    cells: &Cells,
+    node: usize,
+    place: usize,
+) -> Option<Found>
     requires sound { IsSoundGrammar peg.now }
     requires there { node < length peg.now.nodes }
     ensures { (x : List ℕ) (more : Bool) (end : ℕ) → AreCells (rules_of peg.now.rules) peg.now.start (shapes_of
@@ -111,7 +123,7 @@ fn success_of(peg: &SoundPeg, cells: &Cells, node: usize, place: usize) -> Optio
 {
     match end_at_once(peg, node, place) {
         Some(end) => Some(Found::Took(end)),
-        None => cells.get(node, place),
+        None => cells.get::<NEAR>(node, place),
     }
 }
 
@@ -124,7 +136,12 @@ pub(crate) struct Spot {
 
 // Past the members that print nothing, to the next one that may print; none where no event is left.
 #[inline(always)]
-fn past_silent(peg: &SoundPeg, cells: &Cells, members: &[usize], frame: Frame) -> Option<Spot>
+fn past_silent<const NEAR: bool>(
+    peg: &SoundPeg,
+    cells: &Cells,
+    members: &[usize],
+    frame: Frame,
+) -> Option<Spot>
     requires sound { IsSoundGrammar peg.now }
     requires members { slice_get (shapes_of peg.now.nodes) frame.node ≡ Some (Shape.Seq members.now) }
     requires there { (i : ℕ) → i < length members.now → get_or members.now i 0 < length peg.now.nodes }
@@ -144,7 +161,7 @@ fn past_silent(peg: &SoundPeg, cells: &Cells, members: &[usize], frame: Frame) -
         if i + 1 == members.len() {
             return None;
         }
-        match success_of(peg, cells, member, end) {
+        match success_of::<NEAR>(peg, cells, member, end) {
             Some(Found::Took(after)) => end = after,
             Some(Found::Failed) => return None,
             None => return None,
@@ -155,7 +172,7 @@ fn past_silent(peg: &SoundPeg, cells: &Cells, members: &[usize], frame: Frame) -
 
 // Through the next member that may print; with the last member the frame is done.
 #[inline(always)]
-fn seq(peg: &SoundPeg, cells: &Cells, members: &[usize], frame: Frame) -> Way
+fn seq<const NEAR: bool>(peg: &SoundPeg, cells: &Cells, members: &[usize], frame: Frame) -> Way
     requires sound { IsSoundGrammar peg.now }
     requires members { slice_get (shapes_of peg.now.nodes) frame.node ≡ Some (Shape.Seq members.now) }
     requires there { (i : ℕ) → i < length members.now → get_or members.now i 0 < length peg.now.nodes }
@@ -165,7 +182,7 @@ fn seq(peg: &SoundPeg, cells: &Cells, members: &[usize], frame: Frame) -> Way
         IsWay (rules_of peg.now.rules) (shapes_of peg.now.nodes) peg.now.bodies peg.now.ranks x cells.now frame es
         result }
 {
-    match past_silent(peg, cells, members, frame) {
+    match past_silent::<NEAR>(peg, cells, members, frame) {
         Some(Spot { next, end }) => {
             let member = members[next];
             if next + 1 == members.len() {
@@ -174,7 +191,7 @@ fn seq(peg: &SoundPeg, cells: &Cells, members: &[usize], frame: Frame) -> Way
                     place: end,
                 };
             }
-            match success_of(peg, cells, member, end) {
+            match success_of::<NEAR>(peg, cells, member, end) {
                 Some(Found::Took(after)) => Way::GoInto {
                     node: member,
                     place: end,
@@ -190,14 +207,19 @@ fn seq(peg: &SoundPeg, cells: &Cells, members: &[usize], frame: Frame) -> Way
 }
 
 // To the first alternative that succeeded, and nowhere where that prints nothing.
-fn choice(peg: &SoundPeg, cells: &Cells, alternatives: &[usize], place: usize) -> Way
+fn choice<const NEAR: bool>(
+    peg: &SoundPeg,
+    cells: &Cells,
+    alternatives: &[usize],
+    place: usize,
+) -> Way
     requires sound { IsSoundGrammar peg.now }
     requires there { (i : ℕ) → i < length alternatives.now → get_or alternatives.now i 0 < length peg.now.nodes }
     ensures { IsHeard (rules_of peg.now.rules) (shapes_of peg.now.nodes) (choice_way cells.now alternatives.now place)
         result }
 {
     for alternative in alternatives {
-        if let Some(Found::Took(_)) = cells.get(*alternative, place) {
+        if let Some(Found::Took(_)) = cells.get::<NEAR>(*alternative, place) {
             if peg.is_silent(*alternative) {
                 return Way::Leave;
             }
@@ -211,7 +233,7 @@ fn choice(peg: &SoundPeg, cells: &Cells, alternatives: &[usize], place: usize) -
 }
 
 /// Where the events of a node's success at a place go on.
-pub(crate) fn next_way(peg: &SoundPeg, cells: &Cells, frame: Frame) -> Way
+pub(crate) fn next_way<const NEAR: bool>(peg: &SoundPeg, cells: &Cells, frame: Frame) -> Way
     requires sound { IsSoundGrammar peg.now }
     requires there { frame.node < length peg.now.nodes }
     ensures { (x : List ℕ) (more : Bool) (es : List Event) → AreCells (rules_of peg.now.rules) peg.now.start (shapes_of
@@ -229,14 +251,16 @@ pub(crate) fn next_way(peg: &SoundPeg, cells: &Cells, frame: Frame) -> Way
             node: peg.body_node(*id),
             place,
         },
-        Node::Seq(members) => seq(peg, cells, members, frame),
-        Node::Choice(alternatives) => choice(peg, cells, alternatives, place),
-        Node::Star(operand) => star(cells, frame.node, *operand, place, frame.next, frame.end),
+        Node::Seq(members) => seq::<NEAR>(peg, cells, members, frame),
+        Node::Choice(alternatives) => choice::<NEAR>(peg, cells, alternatives, place),
+        Node::Star(operand) => star::<NEAR>(
+            cells, frame.node, *operand, place, frame.next, frame.end,
+        ),
         Node::Plus {
             operand,
             star: again,
-        } => star(cells, *again, *operand, place, frame.next, frame.end),
-        Node::Opt(operand) => opt(cells, *operand, place),
+        } => star::<NEAR>(cells, *again, *operand, place, frame.next, frame.end),
+        Node::Opt(operand) => opt::<NEAR>(cells, *operand, place),
         Node::And(_) => Way::Leave,
         Node::Not(_) => Way::Leave,
         Node::Act(_) => Way::Emit(Kept::Acted(frame.node)),

@@ -5,16 +5,20 @@ use std::process::Abort;
 use std::test::Fail;
 
 fn put_new(cells: &mut Cells, node: usize, place: usize) -> Result<(), Fail> {
-    match cells.get(node, place) {
+    match cells.get::<true>(node, place) {
         Some(_) => {}
         None => cells.put(node, place, Found::Took(node))?,
     }
     Ok(())
 }
 
-// Whether the cell of a node and a place is there, if it was put, and else is not.
+// Whether the cell of a node and a place is there, if it was put, and else is not; by the table and by the log.
 fn is_kept(cells: &Cells, node: usize, place: usize) -> bool {
-    match cells.get(node, place) {
+    let found = cells.get::<true>(node, place);
+    if cells.get::<false>(node, place) != found {
+        return false;
+    }
+    match found {
         Some(found) => node % 3 == place % 3 && found == Found::Took(node),
         None => node % 3 != place % 3,
     }
@@ -44,11 +48,14 @@ fn filled(rt: &impl Abort, cells: &mut Cells, places: usize, nodes: usize) -> Re
 #[test]
 fn found_again(rt: HostRuntime) -> Result<(), Fail> {
     let mut cells = Cells::new(rt.alloc());
-    assert!(rt; cells.get(0, 0) == None);
+    assert!(rt; cells.get::<true>(0, 0) == None);
     filled(&rt, &mut cells, 40, 100)?;
     filled(&rt, &mut cells, 3, 9000)?;
     filled(&rt, &mut cells, 300, 4)?;
-    filled(&rt, &mut cells, 200, 50)
+    assert!(rt; cells.near_len() == None);
+    filled(&rt, &mut cells, 200, 48)?;
+    assert!(rt; cells.near_len() == Some(3200));
+    Ok(())
 }
 
 #[test]
@@ -56,9 +63,9 @@ fn failed(rt: HostRuntime) -> Result<(), Fail> {
     let mut cells = Cells::new(rt.alloc());
     cells.reset(1);
     cells.put(0, 7, Found::Failed)?;
-    assert!(rt; cells.get(0, 7) == Some(Found::Failed));
-    assert!(rt; cells.get(0, 6) == None);
-    assert!(rt; cells.get(5_000_000_000, 7) == None);
+    assert!(rt; cells.get::<false>(0, 7) == Some(Found::Failed));
+    assert!(rt; cells.get::<true>(0, 6) == None);
+    assert!(rt; cells.get::<true>(5_000_000_000, 7) == None);
     Ok(())
 }
 
@@ -85,8 +92,8 @@ fn far_apart(rt: HostRuntime) -> Result<(), Fail> {
         put_new(&mut cells, step * 11, step * 1000)?;
     }
     for step in 0..700usize {
-        assert!(rt; cells.get(step * 11, step * 1000) == Some(Found::Took(step * 11)));
-        assert!(rt; cells.get(step * 11, step * 1000 + 1) == None);
+        assert!(rt; cells.get::<false>(step * 11, step * 1000) == Some(Found::Took(step * 11)));
+        assert!(rt; cells.get::<false>(step * 11, step * 1000 + 1) == None);
     }
     assert!(rt; cells.len() == 700);
     Ok(())

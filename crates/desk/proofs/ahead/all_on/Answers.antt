@@ -8,23 +8,23 @@ use Rattle.desk.proofs.AsksNextLemmas.{asks_member_at}
 use Rattle.desk.proofs.ahead.all_on.Goals as goal
 
 pub loop-i-init : goal.loop-i-init
-loop-i-init c = λ below fits. come_stays _ _ _ c.start-start.ensures.sound _ _ _ fits
+loop-i-init g c = λ below fits. come_stays _ _ _ c.start-start.ensures.sound _ _ _ fits
 
 pub see-requires-clause-spells : goal.see-requires-clause-spells
-see-requires-clause-spells c = (next_child _ _ _ c.start-start.ensures.sound c.requires.fits.0 _ _ _ _ _
+see-requires-clause-spells g c = (next_child _ _ _ c.start-start.ensures.sound c.requires.fits.0 _ _ _ _ _
     (c.loop-i.invariant c.requires.fits.0 c.requires.fits.1) c.requires.some _ c.loop-i-test.true
     c.requires.members).spelled
 
 pub see-requires-clause-place : goal.see-requires-clause-place
-see-requires-clause-place c = (next_child _ _ _ c.start-start.ensures.sound c.requires.fits.0 _ _ _ _ _
+see-requires-clause-place g c = (next_child _ _ _ c.start-start.ensures.sound c.requires.fits.0 _ _ _ _ _
     (c.loop-i.invariant c.requires.fits.0 c.requires.fits.1) c.requires.some _ c.loop-i-test.true
     c.requires.members).high
 
 pub see-requires-clause-right : goal.see-requires-clause-right
-see-requires-clause-right c = (c.loop-i.invariant c.requires.fits.0 c.requires.fits.1).fits.cells
+see-requires-clause-right g c = (c.loop-i.invariant c.requires.fits.0 c.requires.fits.1).fits.cells
 
 pub returns-in-Ok-None-clause-on : goal.returns-in-Ok-None-clause-on
-returns-in-Ok-None-clause-on c = λ below fits.
+returns-in-Ok-None-clause-on g c = λ below fits.
     let here = c.loop-i.invariant below fits in
     let asks = asked_next _ _ _ c.start-start.ensures.sound below _ _ _ _ _ here c.requires.some _
     c.loop-i-test.true c.requires.members in
@@ -34,7 +34,7 @@ returns-in-Ok-None-clause-on c = λ below fits.
     c.requires.members _ seen
 
 pub returns-in-Ok-Some-Failed-clause-on : goal.returns-in-Ok-Some-Failed-clause-on
-returns-in-Ok-Some-Failed-clause-on c = λ below fits.
+returns-in-Ok-Some-Failed-clause-on g c = λ below fits.
     let here = c.loop-i.invariant below fits in
     let asks = asked_next _ _ _ c.start-start.ensures.sound below _ _ _ _ _ here c.requires.some _
     c.loop-i-test.true c.requires.members in
@@ -45,7 +45,7 @@ returns-in-Ok-Some-Failed-clause-on c = λ below fits.
     c.requires.members _ seen
 
 pub loop-i-preserved : goal.loop-i-preserved
-loop-i-preserved c = λ below fits.
+loop-i-preserved g c = λ below fits.
     let here = c.loop-i.invariant below fits in
     let asks = asked_next _ _ _ c.start-start.ensures.sound below _ _ _ _ _ here c.requires.some _
     c.loop-i-test.true c.requires.members in
@@ -56,7 +56,7 @@ loop-i-preserved c = λ below fits.
     c.requires.members _ _ seen
 
 pub returns-clause-on : goal.returns-clause-on
-returns-clause-on c = λ below fits.
+returns-clause-on g c = λ below fits.
     let here = c.loop-i.invariant below fits in (
       _,
       _,
@@ -66,11 +66,11 @@ returns-clause-on c = λ below fits.
     )
 
 pub returns-in-Ok-None-clause-asks : goal.returns-in-Ok-None-clause-asks
-returns-in-Ok-None-clause-asks c =
+returns-in-Ok-None-clause-asks g c =
     asks_member_at c.args.peg.now c.args.top c.args.members.now _ _ c.requires.members c.loop-i-test.true
 
 pub returns-in-Err-clause-on : goal.returns-in-Err-clause-on
-returns-in-Err-clause-on c = λ below fits.
+returns-in-Err-clause-on g c = λ below fits.
     let here = c.loop-i.invariant below fits in
     let asks = asked_next _ _ _ c.start-start.ensures.sound below _ _ _ _ _ here c.requires.some _
     c.loop-i-test.true c.requires.members in

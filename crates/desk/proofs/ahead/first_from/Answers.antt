@@ -4,20 +4,20 @@ use Rattle.desk.proofs.IsOnLemmas.{comes_fit, comes_through, other_comes, other_
 use Rattle.desk.proofs.ahead.first_from.Goals as goal
 
 pub other_back-requires : goal.other_back-requires
-other_back-requires c =
+other_back-requires g c =
     other_within c.args.peg.now c.args.stage.top _ c.args.alternatives.now c.requires.alternatives
     (back_as c.args.stage.back)
     c.requires.back
 
 pub first_on-requires-clause-alternatives : goal.first_on-requires-clause-alternatives
-first_on-requires-clause-alternatives c =
+first_on-requires-clause-alternatives g c =
     let come = other_comes c.args.peg.now _ _ c.start-start.ensures.sound c.requires.fits.0 _ c.args.stage.top
     c.requires.fits.1 c.requires.some c.args.alternatives.now c.requires.alternatives
     (back_as c.args.stage.back) c.requires.back c.in-Ok.from c.in-Ok.ensures in
     rw come.is c.requires.alternatives
 
 pub first_on-requires-clause-fits : goal.first_on-requires-clause-fits
-first_on-requires-clause-fits c =
+first_on-requires-clause-fits g c =
     let come = other_comes c.args.peg.now _ _ c.start-start.ensures.sound c.requires.fits.0 _ c.args.stage.top
     c.requires.fits.1 c.requires.some c.args.alternatives.now c.requires.alternatives
     (back_as c.args.stage.back) c.requires.back c.in-Ok.from c.in-Ok.ensures in (
@@ -27,7 +27,7 @@ first_on-requires-clause-fits c =
     )
 
 pub returns-in-Ok-clause-on : goal.returns-in-Ok-clause-on
-returns-in-Ok-clause-on c = λ below fits.
+returns-in-Ok-clause-on g c = λ below fits.
     let come = other_comes c.args.peg.now _ _ c.start-start.ensures.sound below _ c.args.stage.top fits
     c.requires.some c.args.alternatives.now c.requires.alternatives (back_as c.args.stage.back) c.requires.back
     c.in-Ok.from
@@ -38,14 +38,14 @@ returns-in-Ok-clause-on c = λ below fits.
     c.args.alternatives.now c.in-Ok.from _ _ come (c.first_on.ensures.on below fit)
 
 pub returns-in-Ok-clause-asks : goal.returns-in-Ok-clause-asks
-returns-in-Ok-clause-asks c =
+returns-in-Ok-clause-asks g c =
     let come = other_comes c.args.peg.now _ _ c.start-start.ensures.sound c.requires.fits.0 _ c.args.stage.top
     c.requires.fits.1 c.requires.some c.args.alternatives.now c.requires.alternatives
     (back_as c.args.stage.back) c.requires.back c.in-Ok.from c.in-Ok.ensures in
     asks_through c.args.peg.now c.args.stage.top c.in-Ok.from come.next come.end come.is _ c.first_on.ensures.asks
 
 pub returns-in-Err-clause-on : goal.returns-in-Err-clause-on
-returns-in-Err-clause-on c = λ below fits.
+returns-in-Err-clause-on g c = λ below fits.
     other_ends c.args.peg.now _ _ c.start-start.ensures.sound below _ c.args.stage.top fits c.requires.some
     c.args.alternatives.now c.requires.alternatives (back_as c.args.stage.back) c.requires.back
     c.in-Err.found c.in-Err.ensures

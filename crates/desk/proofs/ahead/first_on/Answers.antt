@@ -6,10 +6,10 @@ use Rattle.desk.proofs.AsksNextLemmas.{asks_other_at}
 use Rattle.desk.proofs.ahead.first_on.Goals as goal
 
 pub loop-i-init : goal.loop-i-init
-loop-i-init c = λ below fits. come_stays _ _ _ c.start-start.ensures.sound _ _ _ fits
+loop-i-init g c = λ below fits. come_stays _ _ _ c.start-start.ensures.sound _ _ _ fits
 
 pub see_other-requires-clause-asked : goal.see_other-requires-clause-asked
-see_other-requires-clause-asked c =
+see_other-requires-clause-asked g c =
     let below = c.requires.fits.0 in
     let here = c.loop-i.invariant below c.requires.fits.1 in (
       _,
@@ -20,7 +20,7 @@ see_other-requires-clause-asked c =
     )
 
 pub returns-in-Ok-None-clause-on : goal.returns-in-Ok-None-clause-on
-returns-in-Ok-None-clause-on c = λ below fits.
+returns-in-Ok-None-clause-on g c = λ below fits.
     let here = c.loop-i.invariant below fits in
     let asks = asked_other _ _ _ c.start-start.ensures.sound below _ _ _ _ _ here c.requires.some _
     c.loop-i-test.true c.requires.alternatives in
@@ -28,7 +28,7 @@ returns-in-Ok-None-clause-on c = λ below fits.
     c.requires.alternatives _ ((rw c.in-Ok-None.field-0-is at c.in-Ok-None.ensures) _ below here.fits asks)
 
 pub returns-in-Ok-Some-Took-clause-on : goal.returns-in-Ok-Some-Took-clause-on
-returns-in-Ok-Some-Took-clause-on c = λ below fits.
+returns-in-Ok-Some-Took-clause-on g c = λ below fits.
     let here = c.loop-i.invariant below fits in
     let asks = asked_other _ _ _ c.start-start.ensures.sound below _ _ _ _ _ here c.requires.some _
     c.loop-i-test.true c.requires.alternatives in
@@ -38,7 +38,7 @@ returns-in-Ok-Some-Took-clause-on c = λ below fits.
     asks)
 
 pub loop-i-preserved : goal.loop-i-preserved
-loop-i-preserved c = λ below fits.
+loop-i-preserved g c = λ below fits.
     let here = c.loop-i.invariant below fits in
     let asks = asked_other _ _ _ c.start-start.ensures.sound below _ _ _ _ _ here c.requires.some _
     c.loop-i-test.true c.requires.alternatives in
@@ -48,7 +48,7 @@ loop-i-preserved c = λ below fits.
     here.fits asks)
 
 pub returns-clause-on : goal.returns-clause-on
-returns-clause-on c = λ below fits.
+returns-clause-on g c = λ below fits.
     let here = c.loop-i.invariant below fits in (
       _,
       _,
@@ -58,11 +58,11 @@ returns-clause-on c = λ below fits.
     )
 
 pub returns-in-Ok-None-clause-asks : goal.returns-in-Ok-None-clause-asks
-returns-in-Ok-None-clause-asks c =
+returns-in-Ok-None-clause-asks g c =
     asks_other_at c.args.peg.now c.args.top c.args.alternatives.now _ c.requires.alternatives c.loop-i-test.true
 
 pub returns-in-Err-clause-on : goal.returns-in-Err-clause-on
-returns-in-Err-clause-on c = λ below fits.
+returns-in-Err-clause-on g c = λ below fits.
     let here = c.loop-i.invariant below fits in
     let asks = asked_other _ _ _ c.start-start.ensures.sound below _ _ _ _ _ here c.requires.some _
     c.loop-i-test.true c.requires.alternatives in

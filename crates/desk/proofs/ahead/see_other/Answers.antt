@@ -3,26 +3,26 @@ use Rattle.desk.proofs.IsSeenFromLemmas.{seen_from}
 use Rattle.desk.proofs.ahead.see_other.Goals as goal
 
 pub see_mostly-requires-clause-spells : goal.see_mostly-requires-clause-spells
-see_mostly-requires-clause-spells c =
+see_mostly-requires-clause-spells g c =
     let by = c.requires.asked in
     (child_visited _ _ _ c.start-start.ensures.sound by.1 _ by.0 by.2 _ _ by.3).spelled
 
 pub see_mostly-requires-clause-place : goal.see_mostly-requires-clause-place
-see_mostly-requires-clause-place c =
+see_mostly-requires-clause-place g c =
     let by = c.requires.asked in
     (child_visited _ _ _ c.start-start.ensures.sound by.1 _ by.0 by.2 _ _ by.3).high
 
 pub see_mostly-requires-clause-right : goal.see_mostly-requires-clause-right
-see_mostly-requires-clause-right c =
+see_mostly-requires-clause-right g c =
     let by = c.requires.asked in
     rw ((rw c.in-Ok-false.field-0-test at c.in-Ok-false.ensures) _ by.1 by.2 by.3) by.2.cells
 
 pub returns-in-Ok-true : goal.returns-in-Ok-true
-returns-in-Ok-true c = λ top below fits asks.
+returns-in-Ok-true g c = λ top below fits asks.
     (rw c.in-Ok-true.field-0-test at c.in-Ok-true.ensures) top below fits asks
 
 pub returns-in-Ok-false : goal.returns-in-Ok-false
-returns-in-Ok-false c = λ top below fits asks.
+returns-in-Ok-false g c = λ top below fits asks.
     let same = (rw c.in-Ok-false.field-0-test at c.in-Ok-false.ensures) top below fits asks in
     seen_from _ _ _ c.start-start.ensures.sound below _ top fits _ _ asks c.see_mostly.new.cells c.see_mostly.result
     (rw same at c.see_mostly.ensures)

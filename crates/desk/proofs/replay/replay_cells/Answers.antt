@@ -5,20 +5,20 @@ use Rattle.desk.proofs.HoldsLemmas.{held_walk, held_cells, held_rise}
 use Rattle.desk.proofs.IsStepLemmas.{ok_of}
 use Rattle.desk.proofs.replay.replay_cells.Goals as goal
 
-pub write_walk-requires-clause-room : goal.write_walk-requires-clause-room
-write_walk-requires-clause-room g c =
+pub write_found-requires-clause-room : goal.write_found-requires-clause-room
+write_found-requires-clause-room g c =
     let room = ok_of c.reserve.result (sym c.is_err.ensures.value ∙ c.if-is_err.false) c.reserve.ensures.room in
     omega (arith, room, c.len.ensures)
 
-pub write_walk-requires-clause-cells : goal.write_walk-requires-clause-cells
-write_walk-requires-clause-cells g c =
+pub write_found-requires-clause-cells : goal.write_found-requires-clause-cells
+write_found-requires-clause-cells g c =
     let sound = c.start-start.ensures.sound in
     let at = slice_get-get_or c.args.peg.now.bodies c.args.peg.now.start 0
     (omega (arith, sound.start_is_rule, sound.spelled.count)) in
     held_cells _ _ _ sound _ _ c.requires.1.1.1 c.requires.1.1.0 _ at
 
-pub write_walk-requires-clause-walks : goal.write_walk-requires-clause-walks
-write_walk-requires-clause-walks g c = λ root at. (
+pub write_found-requires-clause-walks : goal.write_found-requires-clause-walks
+write_found-requires-clause-walks g c = λ root at. (
   c.requires.1.0,
   (
     held_walk _ _ _ c.start-start.ensures.sound _ _ c.requires.1.1.1 c.requires.1.1.0 _ at _

@@ -9,44 +9,44 @@ use Rattle.desk.specs.Path.{with_top}
 use Rattle.desk.proofs.walk.go.Goals as goal
 
 pub next_way-requires-clause-there : goal.next_way-requires-clause-there
-next_way-requires-clause-there c =
+next_way-requires-clause-there g c =
     let last = last_frame c.requires.walks.1 in
     let there = is_there _ _ last.left.spelled.1 in
     omega (arith, there, length-map c.args.peg.now.nodes shape_of)
 
 pub returns-in-Leave-clause-goes : goal.returns-in-Leave-clause-goes
-returns-in-Leave-clause-goes c = λ all walks.
+returns-in-Leave-clause-goes g c = λ all walks.
     let last = last_frame walks in
     let way = c.in-Leave.ensures _ _ _ c.requires.cells.1 last.left in
     goes_to (sym c.go_back.ensures.frames) c.go_back.ensures.told (walk_leaves last way)
 
 pub returns-in-Emit-clause-goes : goal.returns-in-Emit-clause-goes
-returns-in-Emit-clause-goes c = λ all walks.
+returns-in-Emit-clause-goes g c = λ all walks.
     let last = last_frame walks in
     let way = c.in-Emit.ensures _ _ _ c.requires.cells.1 last.left in
     goes_to (sym c.go_back-in-Emit.ensures.frames) c.go_back-in-Emit.ensures.told (walk_emits last way)
 
 pub returns-in-TurnTo-clause-goes : goal.returns-in-TurnTo-clause-goes
-returns-in-TurnTo-clause-goes c = λ all walks.
+returns-in-TurnTo-clause-goes g c = λ all walks.
     let last = last_frame walks in
     let way = c.in-TurnTo.ensures _ _ _ c.requires.cells.1 last.left in
     goes_to (ap (λ b. b ∷ c.args.track.now.frames) (sym c.beginning.ensures)) refl (walk_turns last way)
 
 pub begin_at-begun-requires-clause-spells : goal.begin_at-begun-requires-clause-spells
-begin_at-begun-requires-clause-spells c =
+begin_at-begun-requires-clause-spells g c =
     let last = last_frame c.requires.walks.1 in
     let way = c.in-GoInto.ensures _ _ _ c.requires.cells.1 last.left in
     way.3.spelled
 
 pub push-requires : goal.push-requires
-push-requires c =
+push-requires g c =
     let last = last_frame c.requires.walks.1 in
     let way = c.in-GoInto.ensures _ _ _ c.requires.cells.1 last.left in
     let room = room_into last way c.requires.room refl in
     omega (arith, room)
 
 pub returns-in-Some-clause-goes : goal.returns-in-Some-clause-goes
-returns-in-Some-clause-goes c = λ all walks.
+returns-in-Some-clause-goes g c = λ all walks.
     let last = last_frame walks in
     let way = c.in-GoInto.ensures _ _ _ c.requires.cells.1 last.left in
     let g = goes_into last way in
@@ -61,7 +61,7 @@ returns-in-Some-clause-goes c = λ all walks.
     (goes_then g (c.begin_at-begun.ensures _ _ _ _ _ c.requires.cells.1 g.walks))
 
 pub returns-in-None-clause-goes : goal.returns-in-None-clause-goes
-returns-in-None-clause-goes c = λ all walks.
+returns-in-None-clause-goes g c = λ all walks.
     let last = last_frame walks in
     let way = c.in-GoInto.ensures _ _ _ c.requires.cells.1 last.left in
     let g = goes_into last way in

@@ -9,76 +9,76 @@ use Rattle.desk.proofs.IsWayLemmas.{star_ways, plus_ways, opt_ways, and_ways, no
 use Rattle.desk.proofs.way.next_way.Goals as goal
 
 pub body_node-requires : goal.body_node-requires
-body_node-requires c =
+body_node-requires g c =
     let defined = c.requires.sound.defined _ _ (shape_at c.args.peg.now.nodes c.args.frame.node _
     (c.node.ensures ∙ ap Some c.in-Name.is)) in
     omega (arith, defined, c.requires.sound.spelled.count)
 
 pub returns-in-Any : goal.returns-in-Any
-returns-in-Any c = λ x more es right left.
+returns-in-Any g c = λ x more es right left.
     any_ways _ _ _ _ _ _ _ c.requires.sound _ right _ _ left
     (shape_at c.args.peg.now.nodes c.args.frame.node _ (c.node.ensures ∙ ap Some c.in-Any.is))
 
 pub returns-in-Bytes : goal.returns-in-Bytes
-returns-in-Bytes c = λ x more es right left.
+returns-in-Bytes g c = λ x more es right left.
     bytes_ways _ _ _ _ _ _ _ c.requires.sound _ right _ _ left _
     (shape_at c.args.peg.now.nodes c.args.frame.node _ (c.node.ensures ∙ ap Some c.in-Bytes.is))
 
 pub returns-in-Set : goal.returns-in-Set
-returns-in-Set c = λ x more es right left.
+returns-in-Set g c = λ x more es right left.
     set_ways _ _ _ _ _ _ _ c.requires.sound _ right _ _ left _
     (shape_at c.args.peg.now.nodes c.args.frame.node _ (c.node.ensures ∙ ap Some c.in-Set.is))
 
 pub returns-in-And : goal.returns-in-And
-returns-in-And c = λ x more es right left.
+returns-in-And g c = λ x more es right left.
     and_ways _ _ _ _ _ _ _ c.requires.sound _ right _ _ left _
     (shape_at c.args.peg.now.nodes c.args.frame.node _ (c.node.ensures ∙ ap Some c.in-And.is))
 
 pub returns-in-Not : goal.returns-in-Not
-returns-in-Not c = λ x more es right left.
+returns-in-Not g c = λ x more es right left.
     not_ways _ _ _ _ _ _ _ c.requires.sound _ right _ _ left _
     (shape_at c.args.peg.now.nodes c.args.frame.node _ (c.node.ensures ∙ ap Some c.in-Not.is))
 
 pub returns-in-Act : goal.returns-in-Act
-returns-in-Act c = λ x more es right left.
+returns-in-Act g c = λ x more es right left.
     act_ways _ _ _ _ _ _ _ c.requires.sound _ right _ _ left _
     (shape_at c.args.peg.now.nodes c.args.frame.node _ (c.node.ensures ∙ ap Some c.in-Act.is))
 
 pub returns-in-Open : goal.returns-in-Open
-returns-in-Open c = λ x more es right left.
+returns-in-Open g c = λ x more es right left.
     open_ways _ _ _ _ _ _ _ c.requires.sound _ right _ _ left
     (shape_at c.args.peg.now.nodes c.args.frame.node _ (c.node.ensures ∙ ap Some c.in-Open.is))
 
 pub returns-in-Close : goal.returns-in-Close
-returns-in-Close c = λ x more es right left.
+returns-in-Close g c = λ x more es right left.
     close_ways _ _ _ _ _ _ _ c.requires.sound _ right _ _ left
     (shape_at c.args.peg.now.nodes c.args.frame.node _ (c.node.ensures ∙ ap Some c.in-Close.is))
 
 pub returns-in-Name : goal.returns-in-Name
-returns-in-Name c = λ x more es right left.
+returns-in-Name g c = λ x more es right left.
     name_ways _ _ _ _ _ _ _ c.requires.sound _ right _ _ left _ _
     (shape_at c.args.peg.now.nodes c.args.frame.node _ (c.node.ensures ∙ ap Some c.in-Name.is)) c.body_node.ensures
 
 pub returns-in-Opt : goal.returns-in-Opt
-returns-in-Opt c = λ x more es right left.
+returns-in-Opt g c = λ x more es right left.
     rw c.opt-way.ensures (opt_ways _ _ _ _ _ _ _ c.requires.sound _ right _ _ left _ _
     (shape_at c.args.peg.now.nodes c.args.frame.node _ (c.node.ensures ∙ ap Some c.in-Opt.is)) refl)
 
 pub returns-in-Star : goal.returns-in-Star
-returns-in-Star c = λ x more es right left.
+returns-in-Star g c = λ x more es right left.
     rw c.star-way.ensures (star_ways _ _ _ _ _ _ _ c.requires.sound _ right _ _ left _ _
     (shape_at c.args.peg.now.nodes c.args.frame.node _ (c.node.ensures ∙ ap Some c.in-Star.is)) refl)
 
 pub returns-in-Plus : goal.returns-in-Plus
-returns-in-Plus c = λ x more es right left.
+returns-in-Plus g c = λ x more es right left.
     rw c.star-way-in-Plus.ensures (plus_ways _ _ _ _ _ _ _ c.requires.sound _ right _ _ left _ _ _
     (shape_at c.args.peg.now.nodes c.args.frame.node _ (c.node.ensures ∙ ap Some c.in-Plus.is)) refl)
 
 pub returns-in-Seq : goal.returns-in-Seq
-returns-in-Seq c = λ x more es right left. c.seq-way.ensures x more es right left
+returns-in-Seq g c = λ x more es right left. c.seq-way.ensures x more es right left
 
 pub returns-in-Choice : goal.returns-in-Choice
-returns-in-Choice c = λ x more es right left.
+returns-in-Choice g c = λ x more es right left.
     let here = shape_at c.args.peg.now.nodes c.args.frame.node _ (c.node.ensures ∙ ap Some c.in-Choice.is) in
     let at : slice_get (shapes_of c.args.peg.now.nodes) c.args.frame.node
     ≡ Some (shape.Choice c.deref-in-Choice.result.now) = rw c.deref-in-Choice.ensures.value here in
@@ -86,12 +86,12 @@ returns-in-Choice c = λ x more es right left.
     (choice_ways _ _ _ _ _ _ _ c.requires.sound _ right _ _ left c.deref-in-Choice.result.now at) c.choice-way.ensures
 
 pub seq-way-requires-clause-members : goal.seq-way-requires-clause-members
-seq-way-requires-clause-members c =
+seq-way-requires-clause-members g c =
     let here = shape_at c.args.peg.now.nodes c.args.frame.node _ (c.node.ensures ∙ ap Some c.in-Seq.is) in
     rw c.deref.ensures.value here
 
 pub choice-way-requires-clause-there : goal.choice-way-requires-clause-there
-choice-way-requires-clause-there c = λ i lt.
+choice-way-requires-clause-there g c = λ i lt.
     let here = shape_at c.args.peg.now.nodes c.args.frame.node _ (c.node.ensures ∙ ap Some c.in-Choice.is) in
     let at : slice_get (shapes_of c.args.peg.now.nodes) c.args.frame.node
     ≡ Some (shape.Choice c.deref-in-Choice.result.now) = rw c.deref-in-Choice.ensures.value here in
@@ -100,7 +100,7 @@ choice-way-requires-clause-there c = λ i lt.
     omega (arith, low, c.requires.there)
 
 pub seq-way-requires-clause-there : goal.seq-way-requires-clause-there
-seq-way-requires-clause-there c = λ i lt.
+seq-way-requires-clause-there g c = λ i lt.
     let here = shape_at c.args.peg.now.nodes c.args.frame.node _ (c.node.ensures ∙ ap Some c.in-Seq.is) in
     let at : slice_get (shapes_of c.args.peg.now.nodes) c.args.frame.node ≡ Some (shape.Seq c.deref.result.now) =
     rw c.deref.ensures.value here in

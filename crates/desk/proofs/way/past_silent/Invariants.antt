@@ -8,7 +8,7 @@ use Rattle.desk.specs.State.{AreCells}
 use Rattle.desk.proofs.way.past_silent.Given as goal
 
 abbrev pub invariant-loop-i : goal.invariant-loop-i
-invariant-loop-i l = record {
+invariant-loop-i g l = record {
   left : (x : List ℕ) (more : Bool) (es : List Event) → AreCells (rules_of l.peg.rules) l.peg.start (shapes_of
       l.peg.nodes) l.peg.bodies x more l.cells →
       IsLeft (rules_of l.peg.rules) (shapes_of l.peg.nodes) l.peg.bodies l.peg.ranks x l.cells l.fn.frame es →

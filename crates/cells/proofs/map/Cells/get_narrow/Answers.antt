@@ -1,21 +1,21 @@
-use Rattle.cells.specs.CellEntries.{IsFree, IsAt, IsNowhere, entries_of, found_of}
-use Rattle.cells.proofs.FoundAtLemmas.{free_none, held_found}
-use Rattle.cells.proofs.IsKeptLemmas.{holds_at, holds_only, free_nowhere}
+use Rattle.std.proofs.Common.{sym}
+use Rattle.std.proofs.lemmas.Option.{slice_get_read}
+use Rattle.cells.proofs.IsTableLemmas.{table_found, table_none}
 use Rattle.cells.proofs.map.Cells.get_narrow.Goals as goal
 
-pub returns-in-Some : goal.returns-in-Some
-returns-in-Some c =
-    let at : IsAt c.self.inside.cells.items c.args.node c.args.place c.in-Some.end =
-    rw c.deref.ensures.value at c.in-Some.ensures.found in
-    rw (← c.self.view_is, c.found_of_end.ensures) (held_found (entries_of c.self.inside.cells.items) c.args.node
-    c.args.place (found_of c.in-Some.end)
-    (holds_at c.self.inside.cells.items c.args.node c.args.place c.in-Some.end at)
-    (holds_only c.self.inside.cells.items c.args.node c.args.place c.in-Some.end c.self.invariant.0.map at))
+pub returns-then-square-self : goal.returns-then-square-self
+returns-then-square-self g c =
+    let t = c.self.inside in
+    let here = slice_get_read t.squares.items _ _ c.index-square.result.now t.squares.ok.0
+    (rw c.len.ensures at c.if-number-len.false) c.index-square.ensures in
+    rw (← c.self.view_is) (sym (table_none t.stamp t.far t.count t.squares.items t.log c.args.node c.args.place
+    c.index-square.result.now c.self.invariant (rw c.square_number-number.ensures at here) c.if-square-self.true))
 
-pub returns-in-None : goal.returns-in-None
-returns-in-None c =
-    let none : IsNowhere c.self.inside.cells.items c.args.node c.args.place =
-    rw c.deref.ensures.value at c.in-None.ensures.none in
-    let free : IsFree c.args.self.now c.args.node c.args.place =
-    rw (← c.self.view_is) (free_nowhere c.self.inside.cells.items c.args.node c.args.place none) in
-    free_none c.args.self.now c.args.node c.args.place free
+pub returns-then-this-ne0 : goal.returns-then-this-ne0
+returns-then-this-ne0 g c =
+    let t = c.self.inside in
+    let here = slice_get_read t.squares.items _ _ c.index-square.result.now t.squares.ok.0
+    (rw c.len.ensures at c.if-number-len.false) c.index-square.ensures in
+    rw (← c.self.view_is, c.found_of_end.ensures) (sym (table_found t.stamp t.far t.count t.squares.items t.log
+    c.args.node c.args.place c.index-square.result.now c.self.invariant c.if-node-ge-NODES.false
+    (rw c.square_number-number.ensures at here) c.if-square-self.false))

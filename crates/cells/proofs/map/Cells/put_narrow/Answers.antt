@@ -1,10 +1,8 @@
-use Rattle.cells.specs.CellEntries.{entry_of, entries_of}
-use Rattle.cells.proofs.FoundAtLemmas.{none_free}
-use Rattle.cells.proofs.IsKeptLemmas.{free-is}
+use Rattle.cells.proofs.IsTableLemmas.{table_unused}
 use Rattle.cells.proofs.map.Cells.put_narrow.Goals as goal
 
-pub insert-requires-clause-free : goal.insert-requires-clause-free
-insert-requires-clause-free c =
-    free-is (entries_of c.self.inside.cells.items) (entry_of c.cell_narrow-cell.result) c.args.node c.args.place
-    c.args.found c.cell_narrow-cell.ensures.entry
-    (none_free (entries_of c.self.inside.cells.items) c.args.node c.args.place (rw c.self.view_is c.requires.free))
+pub fill-requires-clause-unused : goal.fill-requires-clause-unused
+fill-requires-clause-unused g c =
+    let t = c.self.inside in
+    rw c.square_number-number.ensures (table_unused t.stamp t.squares.items t.log.entries c.args.node c.args.place
+    c.if-node-ge-NODES.false (rw c.self.view_is c.requires.free))

@@ -1,0 +1,6 @@
+use Rattle.std.proofs.Common.{◌≡◌, take}
+use Rattle.cells.specs.SquareEntries.{entries_in}
+use Rattle.cells.proofs.square.put_squares.Given as goal
+
+abbrev pub invariant-loop-number : goal.invariant-loop-number
+invariant-loop-number l = l.log.entries ≡ entries_in l.stamp (take l.number l.squares)
