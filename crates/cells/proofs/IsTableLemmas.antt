@@ -1,5 +1,5 @@
 -- What a pair's square says of all cells.
--- Serves: Cells::get, Cells::put, Cells::get_or_put.
+-- Serves: Cells::get, Cells::put, Cells::get_or_put, Cells::reset.
 use Rattle.std.proofs.Common.{◌≡◌, ℕ, ◌+◌, ◌*◌, ◌<◌, Bool, true, false, List, [], ◌++◌, Option, Some, None, length}
 use Rattle.std.proofs.Common.{refl, ap, arith, ◌≤◌, ◌⊎◌, inl, inr}
 use Rattle.std.specs.Prelude.{slice_get}
@@ -14,7 +14,8 @@ use Rattle.cells.specs.SquareEntries.{IsTable, IsUnused, entries_in, entry_at}
 use Rattle.cells.proofs.FoundAtLemmas.{none_in_both, none_in_front}
 use Rattle.cells.proofs.IsKnownLemmas.{added_before}
 use Rattle.cells.proofs.EntriesFromLemmas.{pair_of_number}
-use Rattle.cells.proofs.EntriesInLemmas.{found_taken, none_other, none_past, none_unused, unused_from_none, unused_here}
+use Rattle.cells.proofs.EntriesInLemmas.{found_taken, none_later, none_other, none_past, none_unused, unused_from_none}
+use Rattle.cells.proofs.EntriesInLemmas.{unused_here}
 
 -- where there are squares, the log has no cells
 log_is_empty : (stamp : ℕ) (far : Bool) (count : ℕ) (squares : List Square) (log : LogView)
@@ -67,3 +68,23 @@ table_beyond stamp far count squares log n p table (inl great) none =
 table_beyond stamp far count squares log n p table (inr great) none =
     let few = table.stamped.few in
     none_in_both (entries_in stamp squares) log.entries n p (none_past stamp squares n p (omega arith)) none
+
+-- by the next stamp no square is in use
+pub table_later : (stamp : ℕ) (far : Bool) (count : ℕ) (squares : List Square) (log : LogView)
+    → IsTable stamp far count squares log → IsTable (stamp + 1) far 0 squares log
+table_later stamp far count squares log table = record {
+  stamped = record {
+    some = omega arith;
+    most = λ i s h. let most = table.stamped.most i s h in omega arith;
+    few = table.stamped.few;
+  };
+  counted = rw (none_later stamp (stamp + 1) squares table.stamped (omega arith)) refl;
+  squares_none = table.squares_none;
+  log_none = table.log_none;
+  rows_none = table.rows_none;
+}
+
+pub none_in_later : (stamp : ℕ) (far : Bool) (count : ℕ) (squares : List Square) (log : LogView) → far ≡ false
+    → IsTable stamp far count squares log → entries_in (stamp + 1) squares ++ log.entries ≡ []
+none_in_later stamp far count squares log near table =
+    rw (none_later stamp (stamp + 1) squares table.stamped (omega arith), table.log_none near) refl

@@ -7,6 +7,7 @@ mod log;
 mod map;
 mod rows;
 mod square;
+mod trust;
 
 pub use cell::Found;
 pub use map::Cells;

@@ -1,14 +1,12 @@
 //! The log: the cells as a list in the order in which they were put, sought by rows.
-ghost use Rattle.std.specs.Prelude.{◌⊎◌};
-ghost use Rattle.std.specs.Prelude.{◌≡◌, ℕ, ◌<◌, ◌≤◌, ◌++◌, ◌∷◌, ◌^◌, [], length, slice_get, false, Some, None, IfOk};
-ghost use Rattle.std.specs.Prelude.{IfNone, IfSome, OnOk, OnErr, OnSome, option_map, vec_len, vec_capacity};
+ghost use Rattle.std.specs.Prelude.{◌≡◌, ℕ, ◌<◌, ◌≤◌, ◌⊎◌, ◌++◌, ◌∷◌, ◌^◌, [], length, slice_get, false, Some, None};
+ghost use Rattle.std.specs.Prelude.{IfOk, IfNone, IfSome, OnOk, OnErr, OnSome, option_map, vec_len, vec_capacity};
 ghost use Rattle.cells.specs.Entries.{found_at, AreNarrow, IsKnown};
-ghost use Rattle.cells.specs.CellEntries.{IsAt, IsFree, IsKept, IsLimit, IsNowhere, entry_of, entries_of};
-ghost use Rattle.cells.specs.CellEntries.{found_of};
+ghost use Rattle.cells.specs.CellEntries.{IsAt, IsFree, IsKept, IsLimit, IsNowhere, entry_of, entries_of, found_of};
 ghost use Rattle.cells.specs.Links.{AreLinked};
 ghost use Rattle.cells.specs.Rows.{number_of as number, fold as folded, row_of};
 
-use crate::cell::{Cell, FAILED, Found, Key, end_narrow, found_of_end};
+use crate::cell::{Cell, Found, Key, end_narrow, found_of_end};
 use crate::link::{last_of, relink, walk, wipe};
 use crate::rows::{Layout, Scale, fold, layout_of, number_of, set_layout, wider};
 use ruletable::Memory;
@@ -35,9 +33,9 @@ const NO_SCALE: Scale = Scale {
 
 /// A log of cells, seen as the list of their entries in the order in which they were put, and the number of its rows.
 ///
-/// A cell takes 16 bytes, and each row takes 4 more. Some 32 to 64 nodes share a row of each place; but where the unit
-/// before had few cells, a place has up to 32 rows until this one has many. As many cells as 4,294,967,295 are refused
-/// as want of memory.
+/// A cell takes 16 bytes, and each row takes 4 more. Some 32 to 64 nodes share a row of each place; but where the log
+/// was last emptied of few cells, a place has up to 32 rows until it has many. As many cells as 4,294,967,295 are
+/// refused as want of memory.
 #[derive(Drop)]
 pub(crate) struct Log {
     cells: Vec<Cell>,
@@ -444,18 +442,12 @@ impl Log {
         None
     }
 
-    /// Returns the end of the node's cell at the place, if it has one there.
+    /// Returns the end of the node's cell at the place, if it has one there. Both numbers must be less than
+    /// 4,294,967,295.
     pub(crate) fn end(&self, node: usize, place: usize) -> Option<u32>
+        requires { (node < 4294967295) × (place < 4294967295) }
         ensures { found_at self.now.entries node place ≡ option_map found_of result }
     {
-        // the type's invariant, which is known where a field is read, says that no cell has a greater number
-        let _layout = self.layout;
-        if node >= FAILED as usize {
-            return None;
-        }
-        if place >= FAILED as usize {
-            return None;
-        }
         let key = Key {
             node: node as u32,
             place: place as u32,

@@ -1,7 +1,6 @@
 //! The cells as a finite map: a table by node and place, and the log.
-ghost use Rattle.std.specs.Prelude.{◌⊎◌};
-ghost use Rattle.std.specs.Prelude.{◌≡◌, ◌<◌, ◌≤◌, [], length, false, Some, None, IfOk, IfNone, IfSome, OnOk, OnErr};
-ghost use Rattle.std.specs.Prelude.{option_map};
+ghost use Rattle.std.specs.Prelude.{◌≡◌, ◌<◌, ◌≤◌, ◌⊎◌, [], length, false, Some, None, IfOk, IfNone, IfSome, OnOk};
+ghost use Rattle.std.specs.Prelude.{OnErr, option_map};
 ghost use Rattle.cells.specs.Entries.{AreNarrow, IsAdded, IsKnown, found_at};
 ghost use Rattle.cells.specs.CellEntries.{found_of, IsGetOrPut};
 
@@ -10,6 +9,7 @@ use crate::log::Log;
 use crate::square::{
     NODES, SQUARES, Square, add_squares, fill, move_out, next_stamp, square_number,
 };
+use crate::trust::{Trust, stays_far};
 use ruletable::Memory;
 use std::alloc::Global;
 use std::marker::Model;
@@ -19,7 +19,8 @@ use std::marker::Model;
 ///
 /// All cells of a unit stand in the table, or all stand in the log. The table has a square of 8 bytes for each of 72
 /// nodes at each of some 277 places. They go to the log where a cell has no square: its node is none of the 72, or its
-/// place is none of those. Numbers from 4,294,967,295 on, and as many cells, are refused as want of memory.
+/// place is none of those. The units after such a one begin in the log, until enough of them in a row were small.
+/// Numbers from 4,294,967,295 on, and as many cells, are refused as want of memory.
 #[derive(Drop)]
 pub struct Cells {
     squares: Vec<Square>,
@@ -31,6 +32,8 @@ pub struct Cells {
     count: usize,
     // the grammar has so many nodes
     nodes: usize,
+    // whether a unit begins in the table
+    trust: Trust,
     log: Log,
 }
 
@@ -69,20 +72,35 @@ impl Cells {
             far: false,
             count: 0,
             nodes: 0,
+            trust: Trust::new(),
             log: Log::new(alloc),
         }
+    }
+
+    // Empties it where its cells stand in the log, or the next ones will, or no greater stamp is left.
+    #[inline(never)]
+    fn reset_anywhere(&mut self, nodes: usize)
+        ensures { self.new ≡ [] }
+    {
+        let far = nodes > NODES || (self.far && stays_far(&mut self.trust, self.log.len()));
+        empty_log(&mut self.log, self.far, far, nodes);
+        self.stamp = next_stamp(&mut self.squares, self.stamp, far);
+        self.far = far;
+        self.count = 0;
+        self.nodes = nodes;
     }
 
     /// Empties it for a grammar of so many nodes, and takes no memory. What memory it has it keeps.
     pub fn reset(&mut self, nodes: usize)
         ensures { self.new ≡ [] }
     {
-        let far = nodes > NODES;
-        empty_log(&mut self.log, self.far, far, nodes);
-        self.stamp = next_stamp(&mut self.squares, self.stamp, far);
-        self.far = far;
-        self.count = 0;
-        self.nodes = nodes;
+        if !self.far && nodes <= NODES && self.stamp < u32::MAX {
+            self.stamp += 1;
+            self.count = 0;
+            self.nodes = nodes;
+            return;
+        }
+        self.reset_anywhere(nodes);
     }
 
     /// Returns the number of cells.
@@ -103,15 +121,13 @@ impl Cells {
     // The end of the node's cell at the place, in the table or in the log.
     #[inline(never)]
     fn end_anywhere(&self, node: usize, place: usize) -> Option<u32>
+        requires { (node < 4294967295) × (place < 4294967295) }
         ensures { found_at self.now node place ≡ option_map found_of result }
     {
         if self.far {
             return self.log.end(node, place);
         }
         if node >= NODES {
-            return None;
-        }
-        if place >= FAILED as usize {
             return None;
         }
         let number = square_number(node, place);
@@ -128,6 +144,7 @@ impl Cells {
     // What the node gave at the place, by the table or by the log.
     #[inline(always)]
     fn found_anywhere(&self, node: usize, place: usize) -> Option<Found>
+        requires { (node < 4294967295) × (place < 4294967295) }
         ensures { result ≡ found_at self.now node place }
     {
         match self.end_anywhere(node, place) {
@@ -214,6 +231,7 @@ impl Cells {
         move_out(&mut self.squares, &mut self.log, self.stamp, self.nodes)?;
         self.count = 0;
         self.far = true;
+        self.trust = self.trust.shaken();
         self.log.put_narrow(node, place, found)
     }
 

@@ -142,6 +142,7 @@ impl Desk {
     }
 
     /// Empties it, and takes no memory.
+    #[inline(never)]
     pub fn reset(&mut self)
         ensures { self.new ≡ empty }
     {

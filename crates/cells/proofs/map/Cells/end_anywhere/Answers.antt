@@ -12,14 +12,6 @@ returns-then-node-ge-NODES c =
     (c.self.invariant.log_none c.if-self.false)
     (none_other t.stamp t.squares.items c.args.node c.args.place c.if-node-ge-NODES.true))
 
-pub returns-then-place : goal.returns-then-place
-returns-then-place c =
-    let t = c.self.inside in
-    let few = c.self.invariant.stamped.few in
-    rw (← c.self.view_is) (found_near t.stamp t.squares.items t.log.entries c.args.node c.args.place None
-    (c.self.invariant.log_none c.if-self.false)
-    (none_past t.stamp t.squares.items c.args.node c.args.place (omega arith)))
-
 pub returns-then-number-len : goal.returns-then-number-len
 returns-then-number-len c =
     let t = c.self.inside in
