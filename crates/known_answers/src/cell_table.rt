@@ -51,10 +51,12 @@ fn found_again(rt: HostRuntime) -> Result<(), Fail> {
     assert!(rt; cells.get::<true>(0, 0) == None);
     filled(&rt, &mut cells, 40, 100)?;
     filled(&rt, &mut cells, 3, 9000)?;
+    filled(&rt, &mut cells, 200, 48)?;
+    assert!(rt; cells.near_len() == Some(3200));
     filled(&rt, &mut cells, 300, 4)?;
     assert!(rt; cells.near_len() == None);
     filled(&rt, &mut cells, 200, 48)?;
-    assert!(rt; cells.near_len() == Some(3200));
+    assert!(rt; cells.near_len() == None);
     Ok(())
 }
 
