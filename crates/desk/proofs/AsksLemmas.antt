@@ -1,6 +1,6 @@
 -- What an evaluation asks for: it is spelled, stands no earlier, and is lower where it stands at the same place.
 -- Serves: Desk::step, Desk::match_unit, Desk::replay.
-use Rattle.std.proofs.Common.{◌≡◌, inl, inr, ℕ, ◌<◌, ◌≤◌, List, length, Some, sym, subst, arith}
+use Rattle.std.proofs.Common.{◌≡◌, inl, inr, ℕ, ◌<◌, ◌≤◌, List, length, Some, refl, sym, subst, arith}
 use Rattle.std.specs.Prelude.{slice_get, Contains}
 use Rattle.pegread.specs.Pattern as expr
 use Rattle.pegread.specs.Pattern.{Pattern, Patterns, Rule}
@@ -16,6 +16,11 @@ use Rattle.pegmatch.proofs.OperandLemmas.{at, falls_to}
 use Rattle.pegmatch.specs.KeptEvents.{SpellsSome}
 use Rattle.desk.specs.Visits.{NodeTakes, AsksMember, member_here, member_later, AsksAlternative, alternative_here}
 use Rattle.desk.specs.Visits.{alternative_later, AsksBy, Asks, Visits, first, asked}
+
+-- a name asks for its body
+pub asks_body : (rules : List Rule) (nodes : List Shape) (bodies x : List ℕ) (n p id b : ℕ)
+    → slice_get nodes n ≡ Some (node.Name id) → slice_get bodies id ≡ Some b → Asks rules nodes bodies x n p b p
+asks_body rules nodes bodies x n p id b at body = record { shape = node.Name id; at = at; by = (body, refl) }
 
 module _ (rules : List Rule) (start : ℕ) (nodes : List Shape) (bodies ranks x : List ℕ)
     (sound : IsRanked rules start nodes bodies ranks) where

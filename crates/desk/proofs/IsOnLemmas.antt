@@ -28,7 +28,7 @@ use Rattle.desk.specs.State.{HaveTaken, HaveFailed, IsUnderWay}
 use Rattle.desk.specs.Turns.{same_turn, again_turn, opt_turn, and_turn, not_turn, star_turn, plus_turn, IsWalk}
 use Rattle.desk.specs.Turns.{IsSearch, IsTurn}
 use Rattle.desk.specs.Visits.{Asks, asked}
-use Rattle.desk.proofs.AsksLemmas.{IsVisited, is_visited}
+use Rattle.desk.proofs.AsksLemmas.{IsVisited, asks_body, is_visited}
 use Rattle.desk.proofs.HaveTakenLemmas.{asks_member, asks_alternative, taken_on, failed_on}
 use Rattle.desk.proofs.IsNextLemmas.{at_top, finished_next, leaf_next, leaf_need}
 use Rattle.desk.proofs.IsStackLemmas.{come_on}
@@ -114,7 +114,7 @@ module _ (g : Grammar) (x : List ℕ) (more : Bool) (sound : IsSoundGrammar g) (
   pub asks_name : (id m : ℕ) (at : slice_get (shapes_of g.nodes) t.node ≡ Some (node.Name id))
       (body : slice_get g.bodies id ≡ Some m) → Asks (rules_of g.rules) (shapes_of g.nodes) g.bodies x t.node t.place m
       t.place
-  asks_name id m at body = record { shape = node.Name id; at = at; by = (body, refl) }
+  asks_name id m at body = asks_body (rules_of g.rules) (shapes_of g.nodes) g.bodies x t.node t.place id m at body
 
   pub name_on : (id m : ℕ) (at : slice_get (shapes_of g.nodes) t.node ≡ Some (node.Name id))
       (body : slice_get g.bodies id ≡ Some m) (new : List Entry) (v : Option Found) → Sees new m v

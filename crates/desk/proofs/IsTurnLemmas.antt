@@ -25,6 +25,7 @@ use Rattle.desk.specs.State.{HasCell, HasCome, IsUnderWay, IsFound, AreCells}
 use Rattle.desk.specs.Turns.{same_turn, again_turn, opt_turn, and_turn, not_turn, star_turn, plus_turn, IsLeafTurn}
 use Rattle.desk.specs.Turns.{IsWalk, IsSearch, IsTurn}
 use Rattle.desk.specs.Visits.{AsksBy, Asks}
+use Rattle.desk.proofs.AsksLemmas.{asks_body}
 use Rattle.desk.proofs.GivesLemmas.{name_gives, opt_gives_takes, opt_gives_none, and_gives_takes, and_gives_fails}
 use Rattle.desk.proofs.GivesLemmas.{not_gives_takes, not_gives_fails, star_gives_none, star_gives_more}
 use Rattle.desk.proofs.GivesLemmas.{star_never_fails, plus_gives_fails, plus_gives_takes, plus_star}
@@ -88,7 +89,7 @@ module _ (rules : List Rule) (start : ℕ) (nodes : List Shape) (bodies ranks x 
   pub name_is_turn : (id m : ℕ) (v : Option Found) → slice_get nodes n ≡ Some (node.Name id)
       → slice_get bodies id ≡ Some m → v ≡ found_at cells m p → Turns (same_turn m p v)
   name_is_turn id m None at body h = (
-    record { shape = node.Name id; at = at; by = (body, refl) },
+    asks_body rules nodes bodies x n p id m at body,
     sym h,
     is_under_way (node.Name id) 0 p at tt,
   )

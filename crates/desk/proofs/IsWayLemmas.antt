@@ -38,7 +38,7 @@ use Rattle.desk.specs.Path.{EndsBy, opt_way, into, star_way, choice_way, Taking,
 use Rattle.desk.specs.Path.{IsLeft, IsWay, pair_height}
 use Rattle.desk.specs.State.{HasCell, HaveTaken, none_taken, AreCells}
 use Rattle.desk.specs.Visits.{NodeGives, NodeTakes, Asks, AsksAlternative, alternative_here, alternative_later}
-use Rattle.desk.proofs.AsksLemmas.{leads_to, height_falls}
+use Rattle.desk.proofs.AsksLemmas.{asks_body, leads_to, height_falls}
 use Rattle.desk.proofs.GivesLemmas.{is_name}
 use Rattle.desk.proofs.NodeGivesLemmas.{gives_as}
 use Rattle.desk.proofs.HaveTakenLemmas.{taken_next, asks_member}
@@ -455,7 +455,7 @@ module _ (rules : List Rule) (start : ℕ) (nodes : List Shape) (bodies ranks x 
     name_ways id m at body =
         let t = l.left (node.Name id) at in
         let is = is_name rules start nodes bodies ranks x sound f.node id m l.spelled at body in
-        turns_to m f.place (record { shape = node.Name id; at = at; by = (body, refl) })
+        turns_to m f.place (asks_body rules nodes bodies x f.node f.place id m at body)
         (of_name is.is is.operand (as_own is.spelled t.gives))
 
     pub opt_ways : (m : ℕ) (v : Option Found) → slice_get nodes f.node ≡ Some (node.Opt m)

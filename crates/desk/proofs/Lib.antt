@@ -19,6 +19,7 @@ pub mod IsSeenFromLemmas
 pub mod PlusTurnLemmas
 pub mod NameFrameLemmas
 pub mod FailsAtHeadLemmas
+pub mod TakesAtHeadLemmas
 pub mod TowerLemmas
 pub mod IsWayLemmas
 pub mod WalksLemmas

@@ -1,10 +1,12 @@
--- Sequences whose first member fails where they are asked for, whatever the cells.
+-- Sequences whose first member fails where they are asked for, and names that take a byte there, whatever the cells.
 use Rattle.std.specs.Prelude.{◌≡◌, ℕ, ◌<◌, Bool, true, false, List, length, get_or, slice_get, Some}
 use Rattle.std.specs.Prelude.{None}
 use Rattle.pegread.specs.Pattern.{Rule}
-use Rattle.gramcheck.specs.Nodes.{Shape, Seq}
-use Rattle.cells.specs.declared.cell.Found.TheVariants.{Failed}
-use Rattle.cells.specs.Entries.{Entry, found_at, IsAdded}
+use Rattle.gramcheck.specs.Nodes.{Shape, Choice, Name, Seq}
+use Rattle.cells.specs.declared.cell.Found.{Found}
+use Rattle.cells.specs.declared.cell.Found.TheVariants.{Failed, Took}
+use Rattle.cells.specs.Entries.{Entry, found_at, IsAdded, IsKnown}
+use Rattle.desk.specs.declared.name.Taken.{Taken}
 use Rattle.desk.specs.declared.turn.Turn.TheVariants.{Answer}
 use Rattle.desk.specs.State.{AreCells}
 use Rattle.desk.specs.Turns.{IsTurn}
@@ -32,3 +34,38 @@ PutsFailures old new m n p true = (mid : List Entry) × (found_at old m p ≡ No
     × IsAdded old mid (record { node = m; place = p; found = Failed })
     × IsAdded mid new (record { node = n; place = p; found = Failed })
 PutsFailures old new m n p false = new ≡ old
+
+module _ (rules : List Rule) (start : ℕ) (nodes : List Shape) (bodies x : List ℕ) (more : Bool) where
+  -- node m takes what is between p and q, whatever the cells
+  abbrev pub TakesAlways : ℕ → ℕ → ℕ → Type 0
+  TakesAlways m p q = (cells : List Entry) → AreCells rules start nodes bodies x more cells
+      → IsTurn rules start nodes bodies x more cells m p (Answer (Took q))
+
+  -- the first of these alternatives takes what is between p and q
+  abbrev pub TakesFirst : List ℕ → ℕ → ℕ → Type 0
+  TakesFirst ms p q = (0 < length ms) × TakesAlways (get_or ms 0 0) p q
+
+  -- the body is a choice, and its first alternative takes what is behind p
+  pub record TakesInBody (b p : ℕ) (t : Taken) : Type 0 where
+    pub own : t.body ≡ b
+    pub alternatives : List ℕ
+    pub choice : slice_get nodes b ≡ Some (Choice alternatives)
+    pub some : 0 < length alternatives
+    pub first : get_or alternatives 0 0 ≡ t.first
+    pub takes : TakesAlways t.first p t.end
+
+  -- node n is a name of such a body
+  pub record TakesAtHead (n p : ℕ) (t : Taken) : Type 0 where
+    pub id : ℕ
+    pub name : slice_get nodes n ≡ Some (Name id)
+    pub body : slice_get bodies id ≡ Some t.body
+    pub takes : TakesInBody t.body p t
+
+-- whether successes of a first alternative, of its body and of the name n at p came to be put: the cells of body and
+-- name are new; or none, where the body has one
+abbrev pub PutsSuccesses : List Entry → List Entry → Taken → ℕ → ℕ → Bool → Type 0
+PutsSuccesses old new t n p true = (mid late : List Entry) × (f : Found) × (found_at old t.body p ≡ None)
+    × IsKnown old mid t.first p (Took t.end) f
+    × IsAdded mid late (record { node = t.body; place = p; found = Took t.end })
+    × IsAdded late new (record { node = n; place = p; found = Took t.end })
+PutsSuccesses old new t n p false = new ≡ old

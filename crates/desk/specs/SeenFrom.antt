@@ -1,8 +1,8 @@
 -- What is seen of a node where it is asked for.
-use Rattle.std.specs.Prelude.{◌≡◌, ℕ, Bool, true, false, List, Option, Some, Result, Ok, Err}
+use Rattle.std.specs.Prelude.{◌≡◌, ℕ, Bool, true, false, List, Option, Some, None, Result, Ok, Err}
 use Rattle.gramcheck.specs.Grammar.{Grammar}
 use Rattle.cells.specs.declared.cell.Found.{Found}
-use Rattle.cells.specs.declared.cell.Found.TheVariants.{Failed}
+use Rattle.cells.specs.declared.cell.Found.TheVariants.{Failed, Took}
 use Rattle.cells.specs.Entries.{Entry, found_at}
 use Rattle.desk.specs.Ahead.{HasCome}
 use Rattle.desk.specs.declared.ahead.Halt.{Halt}
@@ -21,3 +21,8 @@ module _ (g : Grammar) (x : List ℕ) (more : Bool) (below : List Frame) (old ne
   abbrev pub FailsFrom : Bool → Type 0
   FailsFrom true = IsSeenFrom (Ok (Some Failed))
   FailsFrom false = new ≡ old
+
+  -- whether it was seen to end there at once; if not, no cell came in
+  abbrev pub TakesFrom : Option ℕ → Type 0
+  TakesFrom (Some e) = IsSeenFrom (Ok (Some (Took e)))
+  TakesFrom None = new ≡ old

@@ -18,6 +18,7 @@ ghost use Rattle.desk.specs.Turns.{IsLeafTurn, IsTurn};
 
 use crate::frame::Frame;
 use crate::head::fail_at_head;
+use crate::name::take_at_head;
 use crate::repetition::{Repeated, plus_on, star_on};
 use crate::turn::{Turn, and, leaf_turn, next_turn, not, opt, same};
 use cells::{Cells, Found};
@@ -444,6 +445,65 @@ fn see_other<const NEAR: bool>(
         Ok(false) => see_mostly::<NEAR>(peg, window, more, cells, node, place),
         Err(_) => Err(Halt::Memory),
     }
+}
+
+// Whether a node is a name.
+#[inline(always)]
+fn is_name(node: &Node) -> bool {
+    matches!(node, Node::Name(_))
+}
+
+// What is seen of a name in a repetition, apart from the loops: one that takes a byte is evaluated at once.
+#[inline(never)]
+fn see_name<const NEAR: bool>(
+    peg: &SoundPeg,
+    window: &[u8],
+    more: bool,
+    cells: &mut Cells,
+    node: usize,
+    place: usize,
+) -> Seen
+    requires some { more ≡ true → 0 < length window.now }
+    requires narrow { IsNarrowRun peg.now window.now }
+    requires asked { (top : Frame) × (below : List Frame)
+        × Fits peg.now window.now more (counted cells.old (top ∷ below)) × Asks (rules_of peg.now.rules)
+        (shapes_of peg.now.nodes) peg.now.bodies window.now top.node top.place node place }
+    ensures { (top : Frame) (below : List Frame) → Fits peg.now window.now more (counted cells.old (top ∷ below)) →
+        Asks (rules_of peg.now.rules) (shapes_of peg.now.nodes) peg.now.bodies window.now top.node top.place node
+        place → IsSeenFrom peg.now window.now more below cells.old cells.new top node place (seen_as result) }
+{
+    let _start = peg.start();
+    match take_at_head::<NEAR>(peg, window, more, cells, node, place) {
+        Ok(Some(end)) => Seen::Took(end),
+        Ok(None) => flat(see_mostly::<NEAR>(peg, window, more, cells, node, place)),
+        Err(_) => Seen::Memory,
+    }
+}
+
+/// Returns what is seen of the operand of a repetition, for which the last frame asks.
+#[inline(always)]
+pub(crate) fn see_turn<const NEAR: bool>(
+    peg: &SoundPeg,
+    window: &[u8],
+    more: bool,
+    cells: &mut Cells,
+    node: usize,
+    place: usize,
+) -> Result<Option<Found>, Halt>
+    requires some { more ≡ true → 0 < length window.now }
+    requires narrow { IsNarrowRun peg.now window.now }
+    requires asked { (top : Frame) × (below : List Frame)
+        × Fits peg.now window.now more (counted cells.old (top ∷ below)) × Asks (rules_of peg.now.rules)
+        (shapes_of peg.now.nodes) peg.now.bodies window.now top.node top.place node place }
+    ensures { (top : Frame) (below : List Frame) → Fits peg.now window.now more (counted cells.old (top ∷ below)) →
+        Asks (rules_of peg.now.rules) (shapes_of peg.now.nodes) peg.now.bodies window.now top.node top.place node
+        place → IsSeenFrom peg.now window.now more below cells.old cells.new top node place result }
+{
+    let _start = peg.start();
+    if is_name(peg.node(node)) {
+        return unfold(see_name::<NEAR>(peg, window, more, cells, node, place));
+    }
+    see_mostly::<NEAR>(peg, window, more, cells, node, place)
 }
 
 // On through the alternatives of a choice.

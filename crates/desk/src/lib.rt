@@ -7,6 +7,7 @@ mod ahead;
 mod desk;
 mod frame;
 mod head;
+mod name;
 mod repeat;
 mod repetition;
 mod replay;

@@ -44,9 +44,15 @@ fn enough(tried: Tried, window: &[u8], more: bool) -> Option<Found>
     }
 }
 
-// What a node that takes a byte gives at a place, whatever the cells; none where the window is too short.
+/// Returns what a node that takes a byte gives at a place, whatever the cells; none where the window is too short.
 #[inline(always)]
-fn try_byte(peg: &SoundPeg, window: &[u8], more: bool, node: usize, place: usize) -> Option<Found>
+pub(crate) fn try_byte(
+    peg: &SoundPeg,
+    window: &[u8],
+    more: bool,
+    node: usize,
+    place: usize,
+) -> Option<Found>
     requires sound { IsSoundGrammar peg.now }
     requires spells { SpellsSome (rules_of peg.now.rules) (shapes_of peg.now.nodes) node }
     requires byte { (shape : Shape) → slice_get (shapes_of peg.now.nodes) node ≡ Some shape → TakesByte shape }

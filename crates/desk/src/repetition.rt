@@ -10,7 +10,7 @@ ghost use Rattle.desk.specs.Repeats.{TakesByte};
 ghost use Rattle.desk.specs.Turns.{again_turn};
 
 use crate::advance::beginning;
-use crate::ahead::{Back, Halt, Stage, see_mostly};
+use crate::ahead::{Back, Halt, Stage, see_mostly, see_turn};
 use crate::frame::Frame;
 use crate::repeat::{repeat_byte, see_byte, takes_byte};
 use crate::turn::{Turn, again, plus, star};
@@ -55,7 +55,7 @@ fn begin_star<const NEAR: bool>(
             Err(halt) => Err(halt),
         };
     }
-    match see_mostly::<NEAR>(peg, window, more, cells, operand, top.place) {
+    match see_turn::<NEAR>(peg, window, more, cells, operand, top.place) {
         Ok(found) => Ok(star::<NEAR>(cells, found, top.node, operand, top.place)),
         Err(halt) => Err(halt),
     }
