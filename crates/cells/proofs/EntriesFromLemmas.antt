@@ -8,11 +8,11 @@ use Rattle.std.proofs.lemmas.Bool.{eqb-true, eq-eqb}
 use Rattle.cells.specs.declared.cell.Found.{Found}
 use Rattle.cells.specs.declared.square.Square.{Square}
 use Rattle.cells.specs.declared.square.TheConstants.{NODES}
-use Rattle.cells.specs.Entries.{Entry, IsAdded, found_at}
-use Rattle.cells.specs.CellEntries.{found_of}
+use Rattle.cells.specs.Entries.{Entry, found_at}
+use Rattle.cells.specs.CellEntries.{IsInserted, found_of}
 use Rattle.cells.specs.SquareEntries.{IsUnused, entries_from, entry_at}
 use Rattle.cells.proofs.FoundAtLemmas.{is_of, is_own, is_of_own}
-use Rattle.cells.proofs.IsKnownLemmas.{added_behind}
+use Rattle.cells.proofs.IsInsertedLemmas.{inserted_behind}
 
 suc_moves : (number i : ℕ) → suc number + i ≡ number + suc i
 suc_moves number i = omega arith
@@ -67,29 +67,29 @@ some_from stamp number (t ∷ squares) n p (suc i) s low h used is =
     (λ _ at stands. let other = number_of_pair number n p at stands in absurd (omega arith))
     (some_from stamp (suc number) squares n p i s low h used (suc_moves number i ∙ is))
 
-added_anyway : (v : Bool) (x : Entry) (old new : List Entry) (e : Entry) → IsAdded old new e
-    → IsAdded (if v then x ∷ old else old) (if v then x ∷ new else new) e
-added_anyway true x old new e a = added_behind x old new e a
-added_anyway false x old new e a = a
+inserted_anyway : (v : Bool) (x : Entry) (old new : List Entry) (e : Entry) → IsInserted old new e
+    → IsInserted (if v then x ∷ old else old) (if v then x ∷ new else new) e
+inserted_anyway true x old new e a = inserted_behind x old new e a
+inserted_anyway false x old new e a = a
 
-added_first : (v : Bool) (x : Entry) (old : List Entry) (e : Entry) → (v ≡ true → ⊥)
-    → IsAdded (if v then x ∷ old else old) (e ∷ old) e
-added_first true x old e unused = absurd (unused refl)
-added_first false x old e unused = record { front = []; back = old; was = refl; is = refl }
+inserted_first : (v : Bool) (x : Entry) (old : List Entry) (e : Entry) → (v ≡ true → ⊥)
+    → IsInserted (if v then x ∷ old else old) (e ∷ old) e
+inserted_first true x old e unused = absurd (unused refl)
+inserted_first false x old e unused = record { front = []; back = old; was = refl; is = refl }
 
 -- a square more in use
-pub added_from : (stamp number : ℕ) (squares : List Square) (i : ℕ) (s : Square) → i < length squares
+pub inserted_from : (stamp number : ℕ) (squares : List Square) (i : ℕ) (s : Square) → i < length squares
     → IsUnused stamp squares i
     → s.stamp ≡ stamp →
-    IsAdded (entries_from stamp number squares) (entries_from stamp number (set squares i s))
+    IsInserted (entries_from stamp number squares) (entries_from stamp number (set squares i s))
     (entry_at (number + i) (found_of s.end))
-added_from stamp number [] i s within unused used = absurd (omega arith)
-added_from stamp number (t ∷ squares) zero s within unused used = rw (eq-eqb s.stamp stamp used, add-zero number)
-    (added_first (t.stamp == stamp) _ (entries_from stamp (suc number) squares) (entry_at number (found_of s.end))
+inserted_from stamp number [] i s within unused used = absurd (omega arith)
+inserted_from stamp number (t ∷ squares) zero s within unused used = rw (eq-eqb s.stamp stamp used, add-zero number)
+    (inserted_first (t.stamp == stamp) _ (entries_from stamp (suc number) squares) (entry_at number (found_of s.end))
     (λ was. unused t refl (eqb-true t.stamp stamp was)))
-added_from stamp number (t ∷ squares) (suc i) s within unused used =
-    added_anyway (t.stamp == stamp) (entry_at number (found_of t.end)) _ _ _
-    (rw (suc_moves number i) at (added_from stamp (suc number) squares i s (omega arith) unused used))
+inserted_from stamp number (t ∷ squares) (suc i) s within unused used =
+    inserted_anyway (t.stamp == stamp) (entry_at number (found_of t.end)) _ _ _
+    (rw (suc_moves number i) at (inserted_from stamp (suc number) squares i s (omega arith) unused used))
 
 append_anyway : (v : Bool) (x : Entry) (all front back : List Entry) → all ≡ front ++ back
     → (if v then x ∷ all else all) ≡ (if v then x ∷ front else front) ++ back

@@ -1,7 +1,7 @@
 -- The entries of a whole table, by node and place.
 -- Serves: Cells::get, Cells::put, Cells::reset.
 use Rattle.std.proofs.Common.{◌≡◌, ℕ, zero, suc, ◌+◌, ◌*◌, ◌/◌, ◌%◌, ◌<◌, ◌≤◌, List, [], ◌∷◌, ◌++◌, Some, None}
-use Rattle.std.proofs.Common.{length, set, take, get_or, ap, sym, ◌∙◌, arith, length-take, length-take-le}
+use Rattle.std.proofs.Common.{length, set, take, get_or, refl, ap, sym, ◌∙◌, arith, length-take, length-take-le}
 use Rattle.std.specs.Prelude.{slice_get}
 use Rattle.std.proofs.Math.ListN.{replicate}
 use Rattle.std.proofs.Math.Nat.{zero-add}
@@ -14,7 +14,9 @@ use Rattle.cells.specs.declared.square.TheConstants.{NODES}
 use Rattle.cells.specs.Entries.{IsAdded, found_at}
 use Rattle.cells.specs.CellEntries.{found_of}
 use Rattle.cells.specs.SquareEntries.{AreStamped, IsUnused, entries_from, entries_in, entry_at}
-use Rattle.cells.proofs.EntriesFromLemmas.{added_from, from_append, from_unused, number_of_pair, none_from, some_from}
+use Rattle.cells.proofs.EntriesFromLemmas.{from_append, from_unused, inserted_from, none_from, number_of_pair}
+use Rattle.cells.proofs.EntriesFromLemmas.{some_from}
+use Rattle.cells.proofs.IsInsertedLemmas.{inserted_is_added}
 
 pub found_taken : (stamp : ℕ) (squares : List Square) (n p : ℕ) (s : Square) → n < NODES
     → slice_get squares (p * NODES + n) ≡ Some s → s.stamp ≡ stamp →
@@ -51,7 +53,10 @@ pub added_in : (stamp : ℕ) (squares : List Square) (i : ℕ) (s : Square) (f :
     → IsUnused stamp squares i → s.stamp ≡ stamp → found_of s.end ≡ f →
     IsAdded (entries_in stamp squares) (entries_in stamp (set squares i s)) (entry_at i f)
 added_in stamp squares i s f within unused used is =
-    rw (zero-add i, is) at (added_from stamp 0 squares i s within unused used)
+    let same : i ≡ i / NODES * NODES + i % NODES = number_of_pair i (i % NODES) (i / NODES) refl refl in
+    inserted_is_added (entries_in stamp squares) (entries_in stamp (set squares i s)) (entry_at i f)
+    (rw (zero-add i, is) at (inserted_from stamp 0 squares i s within unused used))
+    (none_unused stamp squares (i % NODES) (i / NODES) (rw same at unused))
 
 replicate_is_same : {A : Type 0} (n i : ℕ) (a x : A) → slice_get (replicate n a) i ≡ Some x → x ≡ a
 replicate_is_same n i a x h =

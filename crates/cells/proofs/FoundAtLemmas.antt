@@ -3,6 +3,7 @@
 use Rattle.std.proofs.Common.{◌≡◌, ℕ, zero, suc, Bool, true, false, ◌&&◌, ◌==◌, if◌then◌else◌, List, [], ◌∷◌, ◌++◌}
 use Rattle.std.proofs.Common.{Option, Some, None, refl, ap}
 use Rattle.std.specs.Prelude.{slice_get}
+use Rattle.std.specs.Option.{option_or}
 use Rattle.std.proofs.lemmas.Bool.{eqb-true, eq-eqb, and_parts, and_from}
 use Rattle.cells.specs.declared.cell.Found.{Found}
 use Rattle.cells.specs.Entries.{Entry, found_at}
@@ -100,6 +101,27 @@ none_in_front (c ∷ front) back n p none = by (is_of c n p) none (none_in_front
     by true none rec = none
     by false none rec = rec none
 
+pub none_behind : (front back : List Entry) (n p : ℕ) → found_at (front ++ back) n p ≡ None → found_at back n p ≡ None
+none_behind [] back n p none = none
+none_behind (c ∷ front) back n p none = by (is_of c n p) none (none_behind front back n p)
+  where
+    by : (v : Bool) → (if v then Some c.found else found_at (front ++ back) n p) ≡ None →
+        (found_at (front ++ back) n p ≡ None → found_at back n p ≡ None) → found_at back n p ≡ None
+    by true none rec = absurd (cc none)
+    by false none rec = rec none
+
+-- what two lists have for the pair: what the first has, or else the second
+pub found_in_both : (xs ys : List Entry) (n p : ℕ)
+    → found_at (xs ++ ys) n p ≡ option_or (found_at xs n p) (found_at ys n p)
+found_in_both [] ys n p = refl
+found_in_both (c ∷ xs) ys n p = by (is_of c n p) (found_in_both xs ys n p)
+  where
+    by : (v : Bool) → found_at (xs ++ ys) n p ≡ option_or (found_at xs n p) (found_at ys n p) →
+        (if v then Some c.found else found_at (xs ++ ys) n p)
+        ≡ option_or (if v then Some c.found else found_at xs n p) (found_at ys n p)
+    by true is = refl
+    by false is = is
+
 -- none of either list is of the pair
 pub none_in_both : (xs ys : List Entry) (n p : ℕ) → found_at xs n p ≡ None → found_at ys n p ≡ None
     → found_at (xs ++ ys) n p ≡ None
@@ -111,3 +133,15 @@ none_in_both (c ∷ xs) ys n p front back = by (is_of c n p) front (λ k. none_i
         (if v then Some c.found else found_at (xs ++ ys) n p) ≡ None
     by true front rec = absurd (cc front)
     by false front rec = rec front
+
+-- none of both lists is of the pair
+pub none_parts : (xs ys : List Entry) (n p : ℕ) → found_at (xs ++ ys) n p ≡ None
+    → (found_at xs n p ≡ None) × (found_at ys n p ≡ None)
+none_parts [] ys n p none = (refl, none)
+none_parts (c ∷ xs) ys n p none = by (is_of c n p) none (none_parts xs ys n p)
+  where
+    by : (v : Bool) → (if v then Some c.found else found_at (xs ++ ys) n p) ≡ None
+        → (found_at (xs ++ ys) n p ≡ None → (found_at xs n p ≡ None) × (found_at ys n p ≡ None)) →
+        ((if v then Some c.found else found_at xs n p) ≡ None) × (found_at ys n p ≡ None)
+    by true none rec = absurd (cc none)
+    by false none rec = rec none

@@ -5,18 +5,17 @@ use Rattle.std.proofs.Common.{Option, Some, None, refl, ap, sym, ◌∙◌, arit
 use Rattle.std.proofs.lemmas.List.{length-map, map-append, take-append-le}
 use Rattle.std.proofs.lemmas.Bool.Decides.{nat_tests}
 use Rattle.std.specs.Prelude.{IfNone, IfSome, slice_get, option_map}
-use Rattle.std.proofs.lemmas.Option.{slice_get_within, slice_get-map}
+use Rattle.std.proofs.lemmas.Option.{slice_get-map}
 use Rattle.cells.specs.declared.cell.Cell.{Cell}
 use Rattle.cells.specs.declared.rows.Layout.{Layout}
 use Rattle.cells.specs.declared.cell.Found.{Found}
-use Rattle.cells.specs.Entries.{Entry, IsKnown, found_at}
+use Rattle.cells.specs.Entries.{Entry, found_at}
 use Rattle.cells.specs.CellEntries.{Holds, IsFree, IsMap, IsKept, IsAt, IsNowhere, entry_of, entries_of, found_of}
 use Rattle.cells.specs.Links.{IsLast, AreLinked}
 use Rattle.cells.specs.Rows.{row_of, number_of, fold}
 use Rattle.cells.proofs.FoundAtLemmas.{free_none, held_found}
-use Rattle.cells.proofs.IsKnownLemmas.{added_at_end, known_added}
 use Rattle.cells.proofs.PushLemmas.{push_cases, mapped_from}
-use Rattle.cells.proofs.AreLinkedLemmas.{AreLinked-none, AreLinked-push, AreLinked-same}
+use Rattle.cells.proofs.AreLinkedLemmas.{AreLinked-push, AreLinked-same}
 
 pub some-inj : {A : Type 0} (x y : A) → Some x ≡ Some y → x ≡ y
 some-inj x y e = cc
@@ -62,12 +61,6 @@ nowhere_great cells n p small great i c h hn hp =
     let s1 : c.place < 4294967295 = s.1 in
     elim great [ inl g ↦ omega arith | inr g ↦ omega arith ]
 
-pub nowhere_none : (cells : List Cell) (rows : ℕ) (n p : ℕ) → (0 < length cells → 0 < rows) → rows ≡ 0
-    → IsNowhere cells n p
-nowhere_none cells rows n p some none i c h hn hp =
-    let w : i < length cells = slice_get_within cells i c h in
-    let k : 0 < rows = some (omega arith) in omega arith
-
 same_entry : (a e : Entry) → a.node ≡ e.node → a.place ≡ e.place
     → a ≡ record { node = e.node; place = e.place; found = a.found }
 same_entry a e hn hp = rw (← hn, ← hp) refl
@@ -93,19 +86,6 @@ IsMap-push xs e m free i j a b ha hb hn hp =
       ]
     ]
 
--- no cells, and rows that have none
-pub IsKept-none : (layout : Layout) (cells : List Cell) (rows : List ℕ) → cells ≡ []
-    → ((b h : ℕ) → slice_get rows b ≡ Some h → h ≡ 0) → IsKept layout 0 cells rows
-IsKept-none layout cells rows is none = rw is (record {
-  linked = AreLinked-none (row_of (length rows) 0 layout) rows none;
-  some = λ h. absurd (omega arith);
-  masked = λ h. h;
-  map = λ i j a b ha hb hn hp. absurd (cc ha);
-  narrow = λ i c h. absurd (cc h);
-  within = λ _ i c h. absurd (cc h);
-  few = omega arith;
-})
-
 pub IsKept-push : (layout : Layout) (mask : ℕ) (cells : List Cell) (rows : List ℕ) (c : Cell) (row : ℕ)
     → IsKept layout mask cells rows →
     0 < length rows → IsFree (entries_of cells) c.node c.place → (c.node < 4294967295) × (c.place < 4294967295) →
@@ -128,9 +108,6 @@ IsKept-push layout mask cells rows c row k some free small is last few low = rec
 pub fold-below : (count mask x : ℕ) → x < count → fold count mask x ≡ x
 unfolding fold
 fold-below count mask x h = grind (arith, nat_tests)
-
-pub row_of_number : (count mask number row : ℕ) → row ≡ number → row < count → row ≡ fold count mask number
-row_of_number count mask number row is low = is ∙ sym (fold-below count mask number (rw is at low))
 
 -- more rows where no number is folded
 pub IsKept-more : (layout : Layout) (cells : List Cell) (rows more : List ℕ)
@@ -183,40 +160,6 @@ IsKept-relinked layout mask now_mask cells now_cells rows now_rows k linked same
       omega arith;
 }
 
--- other links and rows, where each number is a row
-pub IsKept-laid : (was layout : Layout) (mask : ℕ) (cells now_cells : List Cell) (rows now_rows : List ℕ)
-    → IsKept was mask cells rows →
-    AreLinked (row_of (length now_rows) 0 layout) now_cells now_rows → entries_of now_cells ≡ entries_of cells
-    → 0 < length now_rows →
-    ((i : ℕ) (c : Cell) → slice_get cells i ≡ Some c → number_of layout c.node c.place < length now_rows) →
-    IsKept layout 0 now_cells now_rows
-IsKept-laid was layout mask cells now_cells rows now_rows k linked same some low = record {
-  linked = linked;
-  some = λ _. some;
-  masked = λ _. some;
-  map = rw same k.map;
-  narrow = λ i c h.
-      let b = mapped_from entry_of cells i (entry_of c)
-      (ap (λ xs. slice_get xs i) (sym same) ∙ entry_at now_cells i c h) in
-      let n : b.0.node ≡ c.node = ap (λ x. x.node) b.2 in
-      let p : b.0.place ≡ c.place = ap (λ x. x.place) b.2 in
-      let s = k.narrow i b.0 b.1 in
-      let s0 : b.0.node < 4294967295 = s.0 in
-      let s1 : b.0.place < 4294967295 = s.1 in
-      (omega arith, omega arith);
-  within = λ _ i c h.
-      let b = mapped_from entry_of cells i (entry_of c)
-      (ap (λ xs. slice_get xs i) (sym same) ∙ entry_at now_cells i c h) in
-      let n : b.0.node ≡ c.node = ap (λ x. x.node) b.2 in
-      let p : b.0.place ≡ c.place = ap (λ x. x.place) b.2 in
-      rw (n, p) at (low i b.0 b.1);
-  few =
-      let f : length cells < 4294967295 = k.few in
-      let e : length now_cells ≡ length cells = sym (length-map now_cells entry_of) ∙ ap length same
-      ∙ length-map cells entry_of in
-      omega arith;
-}
-
 pub take-whole : {A : Type 0} → (n : ℕ) (xs ys : List A) → n ≡ length xs → take n (xs ++ ys) ≡ xs
 take-whole n xs ys h = take-append-le n xs ys (omega arith) ∙ take_all n xs (omega arith)
 
@@ -233,15 +176,3 @@ found_by_look_up cells n p None m found none = sym (free_none (entries_of cells)
 found_by_look_up cells n p (Some e) m found none =
     sym (held_found (entries_of cells) n p (found_of e) (holds_at cells n p e found)
     (holds_only cells n p e m found))
-
--- a pair that had a cell
-pub known_old : (cells : List Cell) (n p e : ℕ) (f : Found) → IsMap (entries_of cells) → IsAt cells n p e
-    → IsKnown (entries_of cells) (entries_of cells) n p f (found_of e)
-known_old cells n p e f m at = (found_by_look_up cells n p (Some e) m at tt, inl refl)
-
--- a pair that has one since
-pub known_new : (old new : List Entry) (n p : ℕ) (f : Found) → IsFree old n p → new ≡ old
-    ++ record { node = n; place = p; found = f } ∷ [] →
-    IsKnown old new n p f f
-known_new old new n p f free is = known_added old new n p f (sym (free_none old n p free))
-    (rw is (added_at_end old (record { node = n; place = p; found = f })))

@@ -3,7 +3,13 @@ pub mod AreLinkedLemmas
 pub mod IsSoughtLemmas
 pub mod IsKeptLemmas
 pub mod FoundAtLemmas
+pub mod AreDifferentLemmas
+pub mod IsInsertedLemmas
+pub mod AreSameLemmas
 pub mod IsKnownLemmas
 pub mod EntriesFromLemmas
 pub mod EntriesInLemmas
 pub mod IsTableLemmas
+pub mod ChainLemmas
+pub mod RowsFromLemmas
+pub mod IsPackedLemmas

@@ -1,11 +1,14 @@
 -- The cells as they are kept, and as entries.
-use Rattle.std.specs.Prelude.{◌≡◌, ℕ, ◌<◌, ◌≤◌, ◌==◌, List, Some, length, map, slice_get, if◌then◌else◌}
+use Rattle.std.specs.Prelude.{◌≡◌, ℕ, ◌<◌, ◌≤◌, ◌==◌, List, ◌∷◌, ◌++◌, Option, Some, None, length, map}
+use Rattle.std.specs.Prelude.{slice_get, if◌then◌else◌}
 use Rattle.cells.specs.declared.cell.Cell.{Cell}
 use Rattle.cells.specs.declared.rows.Layout.{Layout}
 use Rattle.cells.specs.declared.cell.Found.{Found}
 use Rattle.cells.specs.declared.cell.Found.TheVariants.{Failed, Took}
 use Rattle.cells.specs.declared.cell.GetOrPut.{GetOrPut}
-use Rattle.cells.specs.declared.cell.GetOrPut.TheVariants.{Had, Added, Refused}
+use Rattle.cells.specs.declared.cell.GetOrPut.TheVariants as came
+use Rattle.cells.specs.declared.cell.Held.{Held}
+use Rattle.cells.specs.declared.cell.Held.TheVariants as held
 use Rattle.cells.specs.Entries.{Entry, IsKnown}
 use Rattle.cells.specs.Links.{AreLinked}
 use Rattle.cells.specs.Rows.{row_of, number_of}
@@ -19,10 +22,17 @@ entry_of c = record { node = c.node; place = c.place; found = found_of c.end }
 abbrev pub entries_of : List Cell → List Entry
 entries_of cells = map entry_of cells
 
--- a log as its callers see it: its entries, in the order in which they were put, and the number of its rows
-pub record LogView : Type 0 where
+-- a store of cells as its callers see it: its entries, and the number of its rows
+pub record StoreView : Type 0 where
   pub entries : List Entry
   pub rows : ℕ
+
+-- e among the same entries, in the same order
+pub record IsInserted (old new : List Entry) (e : Entry) : Type 0 where
+  pub front : List Entry
+  pub back : List Entry
+  pub was : old ≡ front ++ back
+  pub is : new ≡ front ++ e ∷ back
 
 -- an entry is of that pair, and holds that
 abbrev pub Holds : List Entry → ℕ → ℕ → Found → Type 0
@@ -60,8 +70,15 @@ pub record IsKept (layout : Layout) (mask : ℕ) (cells : List Cell) (rows : Lis
 abbrev pub IsLimit : ℕ → ℕ → Type 0
 IsLimit limit room = (limit ≤ room) × (limit < 4294967295)
 
+-- what a cell holds, as what was found
+abbrev pub held_as : Held → Option Found
+held_as held.Nothing = None
+held_as held.Failed = Some Failed
+held_as (held.Took end) = Some (Took end)
+
 -- what came of a call that gets a pair's cell, or puts one that holds `found`
 abbrev pub IsGetOrPut : List Entry → List Entry → ℕ → ℕ → Found → GetOrPut → Type 0
-IsGetOrPut old new n p found (Had end) = IsKnown old new n p found (found_of end)
-IsGetOrPut old new n p found Added = IsKnown old new n p found found
-IsGetOrPut old new n p found Refused = new ≡ old
+IsGetOrPut old new n p found came.Failed = IsKnown old new n p found Failed
+IsGetOrPut old new n p found (came.Took end) = IsKnown old new n p found (Took end)
+IsGetOrPut old new n p found came.Added = IsKnown old new n p found found
+IsGetOrPut old new n p found came.Refused = new ≡ old

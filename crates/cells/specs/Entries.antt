@@ -1,5 +1,6 @@
 -- The cells as callers see them: a list of entries, one for each pair of a node and a place that has a cell.
-use Rattle.std.specs.Prelude.{◌≡◌, ◌⊎◌, ℕ, ◌<◌, ◌&&◌, ◌==◌, if◌then◌else◌, List, [], ◌∷◌, ◌++◌, Option, Some, None}
+use Rattle.std.specs.Prelude.{◌≡◌, ◌⊎◌, ℕ, ◌+◌, ◌<◌, ◌&&◌, ◌==◌, if◌then◌else◌, List, [], ◌∷◌, Option, Some, None}
+use Rattle.std.specs.Prelude.{length}
 use Rattle.cells.specs.declared.cell.Found.{Found}
 use Rattle.cells.specs.declared.cell.Found.TheVariants.{Failed, Took}
 
@@ -18,12 +19,19 @@ abbrev pub AreDifferent : List Entry → Type 0
 AreDifferent [] = Unit {0}
 AreDifferent (c ∷ cells) = (found_at cells c.node c.place ≡ None) × AreDifferent cells
 
--- the same entries, and e among them
+-- a cell more: the pair of e has it, each other pair has what it had, and there is one entry more; no two are of one
+-- pair if none were
 pub record IsAdded (old new : List Entry) (e : Entry) : Type 0 where
-  pub front : List Entry
-  pub back : List Entry
-  pub was : old ≡ front ++ back
-  pub is : new ≡ front ++ e ∷ back
+  pub here : found_at new e.node e.place ≡ Some e.found
+  pub others : (n p : ℕ) → found_at new n p ≡ found_at old n p ⊎ ((n ≡ e.node) × (p ≡ e.place))
+  pub count : length new ≡ length old + 1
+  pub different : AreDifferent old → AreDifferent new
+
+-- the same cells, in whatever order
+pub record AreSame (old new : List Entry) : Type 0 where
+  pub found : (n p : ℕ) → found_at new n p ≡ found_at old n p
+  pub count : length new ≡ length old
+  pub different : AreDifferent old → AreDifferent new
 
 -- the pair's cell holds f: it had it, or has it since
 abbrev pub IsKnown : List Entry → List Entry → ℕ → ℕ → Found → Found → Type 0

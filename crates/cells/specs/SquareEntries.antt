@@ -5,7 +5,7 @@ use Rattle.cells.specs.declared.cell.Found.{Found}
 use Rattle.cells.specs.declared.square.Square.{Square}
 use Rattle.cells.specs.declared.square.TheConstants.{NODES}
 use Rattle.cells.specs.Entries.{Entry}
-use Rattle.cells.specs.CellEntries.{LogView, found_of}
+use Rattle.cells.specs.CellEntries.{StoreView, found_of}
 
 -- what the square of that number holds: the numbers go through the nodes of a place, and then to the next place
 abbrev pub entry_at : ℕ → Found → Entry
@@ -31,10 +31,10 @@ pub record AreStamped (stamp : ℕ) (squares : List Square) : Type 0 where
   pub most : (i : ℕ) (square : Square) → slice_get squares i ≡ Some square → square.stamp ≤ stamp
   pub few : length squares < 4294967295
 
--- what holds of the fields: the cells are all in the squares, or all in the log, which has rows only then
-pub record IsTable (stamp : ℕ) (far : Bool) (count : ℕ) (squares : List Square) (log : LogView) : Type 0 where
+-- what holds of the fields: the cells are all in the squares, or all in the store, which has rows only then
+pub record IsTable (stamp : ℕ) (far : Bool) (count : ℕ) (squares : List Square) (store : StoreView) : Type 0 where
   pub stamped : AreStamped stamp squares
   pub counted : count ≡ length (entries_in stamp squares)
   pub squares_none : far ≡ true → squares ≡ []
-  pub log_none : far ≡ false → log.entries ≡ []
-  pub rows_none : far ≡ false → log.rows ≡ 0
+  pub store_none : far ≡ false → store.entries ≡ []
+  pub rows_none : far ≡ false → store.rows ≡ 0

@@ -1,6 +1,6 @@
 //! One cell, as it is kept.
 ghost use Rattle.std.specs.Prelude.{◌≡◌, ◌<◌, ◌≤◌, true, IfSome, IfNone};
-ghost use Rattle.cells.specs.CellEntries.{found_of};
+ghost use Rattle.cells.specs.CellEntries.{found_of, held_as};
 ghost use Rattle.cells.specs.Entries.{AreNarrow, IsNarrow};
 
 /// What a node gave at a place.
@@ -12,15 +12,52 @@ pub enum Found {
     Took(usize),
 }
 
-/// What came of a call that gets a cell or adds one. It goes back in two registers; a `Result` of an `Option` does not.
+/// What a cell holds, if there is one. It goes back in two registers; an `Option` of a `Found` does not.
+#[derive(Clone, Copy)]
+pub(crate) enum Held {
+    /// There is no cell.
+    Nothing,
+    /// The node failed.
+    Failed,
+    /// It succeeded, and ended there.
+    Took(usize),
+}
+
+/// What came of a call that gets a cell or adds one. It goes back in two registers.
 #[derive(Clone, Copy)]
 pub(crate) enum GetOrPut {
-    /// There was a cell, with that end.
-    Had(u32),
+    /// There was a cell of a failure.
+    Failed,
+    /// There was a cell of a success that ended there.
+    Took(usize),
     /// There was none, and one was added.
     Added,
     /// There was none, and a growth for one was refused.
     Refused,
+}
+
+/// Returns what was found as what a cell holds.
+#[inline(always)]
+pub(crate) fn held_of(found: Option<Found>) -> Held
+    ensures { held_as result ≡ found }
+{
+    match found {
+        None => Held::Nothing,
+        Some(Found::Failed) => Held::Failed,
+        Some(Found::Took(end)) => Held::Took(end),
+    }
+}
+
+/// Returns what a cell holds as what was found.
+#[inline(always)]
+pub(crate) fn found_of_held(held: Held) -> Option<Found>
+    ensures { result ≡ held_as held }
+{
+    match held {
+        Held::Nothing => None,
+        Held::Failed => Some(Found::Failed),
+        Held::Took(end) => Some(Found::Took(end)),
+    }
 }
 
 /// A cell in 16 bytes: its node, its place, the end of its success or `FAILED`, and its link: one more than the index

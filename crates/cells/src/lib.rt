@@ -5,8 +5,10 @@ mod cell;
 mod link;
 mod log;
 mod map;
+mod pack;
 mod rows;
 mod square;
+mod store;
 mod trust;
 
 pub use cell::Found;

@@ -8,7 +8,6 @@ use crate::cell::{Cell, Key};
 use crate::rows::{Layout, fold, number_of};
 
 /// Returns one more than the index of the last cell of the row, or 0.
-#[inline(always)]
 pub(crate) fn last_of(
     cells: &[Cell],
     heads: &[u32],
@@ -24,7 +23,6 @@ pub(crate) fn last_of(
 }
 
 /// Returns the end of the cell of that node and place, sought among the cells of its row.
-#[inline(always)]
 pub(crate) fn walk(
     cells: &[Cell],
     heads: &[u32],

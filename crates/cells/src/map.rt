@@ -1,32 +1,34 @@
-//! The cells as a finite map: a table by node and place, and the log.
+//! The cells as a finite map: a table by node and place, and a store for the units that are too great for it.
 ghost use Rattle.std.specs.Prelude.{◌≡◌, ◌<◌, ◌≤◌, ◌⊎◌, [], length, false, Some, None, IfOk, IfNone, IfSome, OnOk};
 ghost use Rattle.std.specs.Prelude.{OnErr, option_map};
 ghost use Rattle.cells.specs.Entries.{AreNarrow, IsAdded, IsKnown, found_at};
-ghost use Rattle.cells.specs.CellEntries.{found_of, IsGetOrPut};
+ghost use Rattle.cells.specs.CellEntries.{held_as, IsGetOrPut};
 
-use crate::cell::{FAILED, Found, GetOrPut, are_narrow, found_of_end};
-use crate::log::Log;
+use crate::cell::{
+    FAILED, Found, GetOrPut, Held, Key, are_narrow, found_of_end, found_of_held, held_of,
+};
 use crate::square::{
     NODES, SQUARES, Square, add_squares, fill, move_out, next_stamp, square_number,
 };
+use crate::store::Store;
 use crate::trust::{Trust, stays_far};
 use ruletable::Memory;
 use std::alloc::Global;
 use std::marker::Model;
 
-/// The cells of one unit, seen as the list of their entries: those of the table in the order of its squares, and those
-/// of the log in the order in which they were put.
+/// The cells of one unit, seen as the list of their entries: those of the table in the order of its squares, and then
+/// those of the store.
 ///
-/// All cells of a unit stand in the table, or all stand in the log. The table has a square of 8 bytes for each of 72
-/// nodes at each of some 277 places. They go to the log where a cell has no square: its node is none of the 72, or its
-/// place is none of those. The units after such a one begin in the log, until enough of them in a row were small.
+/// All cells of a unit stand in the table, or all stand in the store. The table has a square of 8 bytes for each of 72
+/// nodes at each of some 277 places. They go to the store where a cell has no square: its node is none of the 72, or
+/// its place is none of those. The units after such a one begin in the store, until enough of them in a row were small.
 /// Numbers from 4,294,967,295 on, and as many cells, are refused as want of memory.
 #[derive(Drop)]
 pub struct Cells {
     squares: Vec<Square>,
     // the stamp of the squares in use
     stamp: u32,
-    // all cells stand in the log
+    // all cells stand in the store
     far: bool,
     // so many squares are in use
     count: usize,
@@ -34,7 +36,7 @@ pub struct Cells {
     nodes: usize,
     // whether a unit begins in the table
     trust: Trust,
-    log: Log,
+    store: Store,
 }
 
 impl Model for Cells {
@@ -44,21 +46,9 @@ impl Model for Cells {
 
     ghost Value = { List Entry };
 
-    ghost view = { λ m. entries_in m.stamp m.squares.items ++ m.log.entries };
+    ghost view = { λ m. entries_in m.stamp m.squares.items ++ m.store.entries };
 
-    ghost invariant = { λ m. IsTable m.stamp m.far m.count m.squares.items m.log };
-}
-
-// Empties the log, where it may have cells or where those of the next unit stand in it. Else no rows are left.
-fn empty_log(log: &mut Log, was_far: bool, far: bool, nodes: usize)
-    requires none { was_far ≡ false → log.old.entries ≡ [] }
-    requires rows { was_far ≡ false → log.old.rows ≡ 0 }
-    ensures none { log.new.entries ≡ [] }
-    ensures rows { far ≡ false → log.new.rows ≡ 0 }
-{
-    if was_far || far {
-        log.reset(nodes, far);
-    }
+    ghost invariant = { λ m. IsTable m.stamp m.far m.count m.squares.items m.store };
 }
 
 impl Cells {
@@ -73,17 +63,17 @@ impl Cells {
             count: 0,
             nodes: 0,
             trust: Trust::new(),
-            log: Log::new(alloc),
+            store: Store::new(alloc),
         }
     }
 
-    // Empties it where its cells stand in the log, or the next ones will, or no greater stamp is left.
+    // Empties it where its cells stand in the store, or the next ones will, or no greater stamp is left.
     #[inline(never)]
     fn reset_anywhere(&mut self, nodes: usize)
         ensures { self.new ≡ [] }
     {
-        let far = nodes > NODES || (self.far && stays_far(&mut self.trust, self.log.len()));
-        empty_log(&mut self.log, self.far, far, nodes);
+        let far = nodes > NODES || (self.far && stays_far(&mut self.trust, self.store.len()));
+        self.store.reset(nodes);
         self.stamp = next_stamp(&mut self.squares, self.stamp, far);
         self.far = far;
         self.count = 0;
@@ -107,7 +97,11 @@ impl Cells {
     pub fn len(&self) -> usize
         ensures { result ≡ length self.now }
     {
-        if self.far { self.log.len() } else { self.count }
+        if self.far {
+            self.store.len()
+        } else {
+            self.count
+        }
     }
 
     /// Returns the number of cells, if they stand in the table.
@@ -118,39 +112,36 @@ impl Cells {
         if self.far { None } else { Some(self.count) }
     }
 
-    // The end of the node's cell at the place, in the table or in the log.
+    // What the node's cell at the place holds, in the table or in the store.
     #[inline(never)]
-    fn end_anywhere(&self, node: usize, place: usize) -> Option<u32>
+    fn held_anywhere(&self, node: usize, place: usize) -> Held
         requires { (node < 4294967295) × (place < 4294967295) }
-        ensures { found_at self.now node place ≡ option_map found_of result }
+        ensures { held_as result ≡ found_at self.now node place }
     {
         if self.far {
-            return self.log.end(node, place);
+            return held_of(self.store.find(node, place));
         }
         if node >= NODES {
-            return None;
+            return Held::Nothing;
         }
         let number = square_number(node, place);
         if number >= self.squares.len() {
-            return None;
+            return Held::Nothing;
         }
         let square = self.squares[number];
         if square.stamp != self.stamp {
-            return None;
+            return Held::Nothing;
         }
-        Some(square.end)
+        held_of(Some(found_of_end(square.end)))
     }
 
-    // What the node gave at the place, by the table or by the log.
+    // What the node gave at the place, by the table or by the store.
     #[inline(always)]
     fn found_anywhere(&self, node: usize, place: usize) -> Option<Found>
         requires { (node < 4294967295) × (place < 4294967295) }
         ensures { result ≡ found_at self.now node place }
     {
-        match self.end_anywhere(node, place) {
-            Some(end) => Some(found_of_end(end)),
-            None => None,
-        }
+        found_of_held(self.held_anywhere(node, place))
     }
 
     // What a node gave at a place of which one is too great for a cell: nothing.
@@ -160,11 +151,11 @@ impl Cells {
         ensures { result ≡ found_at self.now node place }
     {
         let _stamp = self.stamp;
-        self.log.none_beyond(node, place)
+        self.store.none_beyond(node, place)
     }
 
     /// Returns what the node gave at the place, if it has a cell there. With `NEAR` the table is tried in line, and
-    /// else the log.
+    /// else the store.
     #[inline(always)]
     pub fn get<const NEAR: bool>(&self, node: usize, place: usize) -> Option<Found>
         ensures { result ≡ found_at self.now node place }
@@ -176,7 +167,7 @@ impl Cells {
     }
 
     /// Returns what the node gave at the place, if it has a cell there. Both numbers must be less than 4,294,967,295.
-    /// With `NEAR` the table is tried in line, and else the log.
+    /// With `NEAR` the table is tried in line, and else the store.
     #[inline(always)]
     pub fn get_narrow<const NEAR: bool>(&self, node: usize, place: usize) -> Option<Found>
         requires { (node < 4294967295) × (place < 4294967295) }
@@ -196,14 +187,13 @@ impl Cells {
             }
             return Some(found_of_end(square.end));
         }
-        match self.log.try_get(node, place) {
-            Some(Some(end)) => Some(found_of_end(end)),
-            Some(None) => None,
+        match self.store.try_get(node, place) {
+            Some(found) => found,
             None => self.found_anywhere(node, place),
         }
     }
 
-    // Adds a cell in the table or, where that has no square for it, in the log.
+    // Adds a cell in the table or, where that has no square for it, in the store.
     #[inline(never)]
     fn put_anywhere(&mut self, node: usize, place: usize, found: Found) -> Result<(), Memory>
         requires free { found_at self.old node place ≡ None }
@@ -212,7 +202,7 @@ impl Cells {
         ensures unchanged { OnErr result (self.new ≡ self.old) }
     {
         if self.far {
-            return self.log.put_narrow(node, place, found);
+            return self.store.put(node, place, found);
         }
         if node < NODES {
             let number = square_number(node, place);
@@ -228,29 +218,42 @@ impl Cells {
                 return Ok(());
             }
         }
-        move_out(&mut self.squares, &mut self.log, self.stamp, self.nodes)?;
+        let key = Key {
+            node: node as u32,
+            place: place as u32,
+        };
+        move_out(
+            &mut self.store,
+            &self.squares,
+            self.stamp,
+            self.nodes,
+            key,
+            found,
+        )?;
+        self.squares.clear();
         self.count = 0;
         self.far = true;
         self.trust = self.trust.shaken();
-        self.log.put_narrow(node, place, found)
+        Ok(())
     }
 
-    // Gets the node's cell at the place, or adds one in the table or in the log.
+    // Gets the node's cell at the place, or adds one in the table or in the store.
     #[inline(never)]
     fn end_or_put(&mut self, node: usize, place: usize, found: Found) -> GetOrPut
         requires { AreNarrow node place found }
         ensures { IsGetOrPut self.old self.new node place found result }
     {
-        if let Some(end) = self.end_anywhere(node, place) {
-            return GetOrPut::Had(end);
-        }
-        match self.put_anywhere(node, place, found) {
-            Ok(()) => GetOrPut::Added,
-            Err(_) => GetOrPut::Refused,
+        match self.held_anywhere(node, place) {
+            Held::Failed => GetOrPut::Failed,
+            Held::Took(end) => GetOrPut::Took(end),
+            Held::Nothing => match self.put_anywhere(node, place, found) {
+                Ok(()) => GetOrPut::Added,
+                Err(_) => GetOrPut::Refused,
+            },
         }
     }
 
-    // What the node has at the place, or else `found`, for which a cell is added in the table or in the log.
+    // What the node has at the place, or else `found`, for which a cell is added in the table or in the store.
     #[inline(always)]
     fn get_or_put_anywhere(
         &mut self,
@@ -263,7 +266,8 @@ impl Cells {
         ensures unchanged { OnErr result (self.new ≡ self.old) }
     {
         match self.end_or_put(node, place, found) {
-            GetOrPut::Had(end) => Ok(found_of_end(end)),
+            GetOrPut::Failed => Ok(Found::Failed),
+            GetOrPut::Took(end) => Ok(Found::Took(end)),
             GetOrPut::Added => Ok(found),
             GetOrPut::Refused => Err(Memory),
         }
@@ -299,7 +303,7 @@ impl Cells {
     }
 
     /// Adds a cell. The node must have none at that place, and the numbers must be less than 4,294,967,295. With `NEAR`
-    /// the table is tried in line, and else the log.
+    /// the table is tried in line, and else the store.
     ///
     /// # Errors
     /// `Memory` where a growth was refused; no cell is added.
@@ -332,14 +336,14 @@ impl Cells {
             );
             return Ok(());
         }
-        match self.log.try_put(node, place, found) {
+        match self.store.try_put(node, place, found) {
             Some(done) => done,
             None => self.put_anywhere(node, place, found),
         }
     }
 
     /// Returns what the node has at the place: what its cell there holds, or else `found`, for which a cell is added.
-    /// The numbers must be less than 4,294,967,295. With `NEAR` the table is tried in line, and else the log.
+    /// The numbers must be less than 4,294,967,295. With `NEAR` the table is tried in line, and else the store.
     ///
     /// # Errors
     /// `Memory` where a growth was refused; no cell is added.
@@ -375,7 +379,7 @@ impl Cells {
             );
             return Ok(found);
         }
-        match self.log.try_get_or_put(node, place, found) {
+        match self.store.try_get_or_put(node, place, found) {
             Some(done) => done,
             None => self.get_or_put_anywhere(node, place, found),
         }

@@ -1,27 +1,16 @@
 //! The row of a node and a place.
 ghost use Rattle.std.specs.Prelude.{◌≡◌, ◌<◌, ◌*◌, ◌+◌, ◌^◌};
+ghost use Rattle.cells.specs.Chains.{IsShared};
 ghost use Rattle.cells.specs.Rows.{number_of as number, fold as folded};
 
 use crate::cell::narrow;
 
-/// How pairs share rows: a place has `stride` rows, and of a node's number the bits in `keep` choose among them. Where
-/// cells turn out to be many, `wide` takes the place of `keep`.
+/// How pairs share rows: a place has `stride` rows, and of a node's number the bits in `keep` choose among them.
 #[derive(Clone, Copy)]
 pub(crate) struct Layout {
     pub(crate) stride: u32,
     pub(crate) keep: u32,
-    pub(crate) wide: u32,
 }
-
-/// What a layout is made for: so many nodes, and few cells or many.
-#[derive(Clone, Copy)]
-pub(crate) struct Scale {
-    pub(crate) nodes: usize,
-    pub(crate) few: bool,
-}
-
-// So many nodes share no row where cells are few.
-const APART: usize = 32;
 
 // The bits of the numbers below that one.
 fn ones_below(count: u32) -> u32 {
@@ -39,39 +28,18 @@ fn row_bits(rows: usize) -> u32 {
     }
 }
 
-// The layout by these bits, and by those for many cells.
-fn layout_by(keep: u32, wide: u32) -> Layout {
-    Layout {
-        stride: keep.saturating_add(1),
-        keep,
-        wide,
-    }
-}
-
-/// Returns a layout. Where the cells are few, so are those in one row; else the rows of a place are.
+/// Returns a layout: some 32 to 64 nodes share a row of each place.
 #[inline(never)]
-pub(crate) fn layout_of(scale: Scale) -> Layout {
-    let wide = row_bits(scale.nodes / 32);
-    if scale.few {
-        return layout_by(row_bits(scale.nodes.min(APART)) | wide, wide);
+pub(crate) fn layout_of(nodes: usize) -> Layout
+    ensures { IsShared result }
+{
+    let keep = row_bits(nodes / 32);
+    if keep == u32::MAX {
+        return Layout { stride: 1, keep: 0 };
     }
-    layout_by(wide, wide)
-}
-
-/// Returns the layout for many cells, where that is another one.
-pub(crate) fn wider(layout: Layout) -> Option<Layout> {
-    if layout.wide < layout.keep {
-        Some(layout_by(layout.wide, layout.wide))
-    } else {
-        None
-    }
-}
-
-/// Makes a layout for another scale.
-#[inline(always)]
-pub(crate) fn set_layout(layout: &mut Layout, before: Scale, scale: Scale) {
-    if before.nodes != scale.nodes || before.few != scale.few {
-        *layout = layout_of(scale);
+    Layout {
+        stride: keep + 1,
+        keep,
     }
 }
 
@@ -93,4 +61,14 @@ pub(crate) fn fold(count: usize, mask: usize, x: usize) -> usize
     ensures within { result < count }
 {
     if x < count { x } else { x & mask }
+}
+
+/// Returns the number of a node and a place, which must be less than 4,294,967,295.
+#[tactic(auto, unfolding(crate::specs::Rows::number_of))]
+#[inline(always)]
+pub(crate) fn row_number(layout: &Layout, node: usize, place: usize) -> usize
+    requires { place < 4294967295 }
+    ensures { result ≡ number layout.now node place }
+{
+    place * layout.stride as usize + (node & layout.keep as usize)
 }

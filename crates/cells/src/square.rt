@@ -1,11 +1,12 @@
 //! The squares of a table by node and place.
-ghost use Rattle.std.specs.Prelude.{◌≡◌, ℕ, ◌+◌, ◌*◌, ◌<◌, ◌≤◌, ◌^◌, [], length, slice_get, true, Some, OnOk, OnErr};
-ghost use Rattle.cells.specs.Entries.{IsAdded, IsNarrow};
+ghost use Rattle.std.specs.Prelude.{◌≡◌, ℕ, ◌+◌, ◌*◌, ◌<◌, ◌≤◌, ◌^◌, [], length, slice_get, true, Some, None};
+ghost use Rattle.std.specs.Prelude.{OnOk, OnErr};
+ghost use Rattle.cells.specs.Entries.{AreNarrow, AreSame, IsAdded, IsNarrow, found_at};
 ghost use Rattle.cells.specs.CellEntries.{found_of};
 ghost use Rattle.cells.specs.SquareEntries.{AreStamped, IsUnused, entries_in, entry_at};
 
-use crate::cell::{Found, end_narrow, found_of_end};
-use crate::log::Log;
+use crate::cell::{Found, Key, end_narrow, found_of_end};
+use crate::store::Store;
 use ruletable::Memory;
 
 /// So many nodes have squares.
@@ -81,7 +82,7 @@ pub(crate) fn add_squares(
     Ok(())
 }
 
-/// Returns another stamp, by which no square is in use. Where all cells are to stand in the log, no square is left.
+/// Returns another stamp, by which no square is in use. Where all cells are to stand in the store, no square is left.
 pub(crate) fn next_stamp(squares: &mut Vec<Square>, stamp: u32, far: bool) -> u32
     requires { AreStamped stamp squares.old.items }
     ensures stamped { AreStamped result squares.new.items }
@@ -98,46 +99,66 @@ pub(crate) fn next_stamp(squares: &mut Vec<Square>, stamp: u32, far: bool) -> u3
     stamp + 1
 }
 
-// Puts the squares in use into a log that has no cells.
-fn put_squares(log: &mut Log, squares: &[Square], stamp: u32) -> Result<(), Memory>
-    requires none { log.old.entries ≡ [] }
+// Puts the squares in use into a store that has no cells.
+fn put_squares(store: &mut Store, squares: &[Square], stamp: u32) -> Result<(), Memory>
+    requires none { store.old.entries ≡ [] }
     requires few { length squares.now < 4294967295 }
-    ensures { OnOk result (log.new.entries ≡ entries_in stamp squares.now) }
+    ensures { OnOk result (AreSame (entries_in stamp squares.now) store.new.entries) }
 {
     for number in 0..squares.len() {
         let square = squares[number];
         if square.stamp == stamp {
-            log.put_narrow(number % NODES, number / NODES, found_of_end(square.end))?;
+            store.put(number % NODES, number / NODES, found_of_end(square.end))?;
         }
     }
     Ok(())
 }
 
-/// Moves the cells of the squares in use into the log, which is emptied first, and leaves no squares.
+// Puts the squares in use and one more cell into a store that has no cells.
+fn put_with(
+    store: &mut Store,
+    squares: &[Square],
+    stamp: u32,
+    key: Key,
+    found: Found,
+) -> Result<(), Memory>
+    requires none { store.old.entries ≡ [] }
+    requires few { length squares.now < 4294967295 }
+    requires narrow { AreNarrow key.node key.place found }
+    requires free { found_at (entries_in stamp squares.now) key.node key.place ≡ None }
+    ensures { OnOk result (IsAdded (entries_in stamp squares.now) store.new.entries
+        (record { node = key.node; place = key.place; found = found })) }
+{
+    put_squares(store, squares, stamp)?;
+    store.put(key.node as usize, key.place as usize, found)
+}
+
+/// Puts the cells of the squares in use and one more into the store, which is emptied first for a grammar of so many
+/// nodes. The pair of the one more must have no square in use.
 ///
 /// # Errors
-/// `Memory` where a growth of the log was refused; the squares stay as they were, and the log has no cells and no rows.
+/// `Memory` where a growth of the store was refused; it has no cells and no rows.
 #[inline(never)]
 pub(crate) fn move_out(
-    squares: &mut Vec<Square>,
-    log: &mut Log,
+    store: &mut Store,
+    squares: &[Square],
     stamp: u32,
     nodes: usize,
+    key: Key,
+    found: Found,
 ) -> Result<(), Memory>
-    requires { AreStamped stamp squares.old.items }
-    ensures moved { OnOk result (log.new.entries ≡ entries_in stamp squares.old.items) }
-    ensures none { OnOk result (squares.new.items ≡ []) }
-    ensures unchanged { OnErr result (squares.new.items ≡ squares.old.items) }
-    ensures empty { OnErr result ((log.new.entries ≡ []) × (log.new.rows ≡ 0)) }
+    requires few { length squares.now < 4294967295 }
+    requires narrow { AreNarrow key.node key.place found }
+    requires free { found_at (entries_in stamp squares.now) key.node key.place ≡ None }
+    ensures moved { OnOk result (IsAdded (entries_in stamp squares.now) store.new.entries
+        (record { node = key.node; place = key.place; found = found })) }
+    ensures empty { OnErr result ((store.new.entries ≡ []) × (store.new.rows ≡ 0)) }
 {
-    log.reset(nodes, false);
-    match put_squares(log, squares, stamp) {
-        Ok(()) => {
-            squares.clear();
-            Ok(())
-        }
+    store.reset(nodes);
+    match put_with(store, squares, stamp, key, found) {
+        Ok(()) => Ok(()),
         Err(fault) => {
-            log.reset(nodes, false);
+            store.reset(nodes);
             Err(fault)
         }
     }

@@ -1,4 +1,4 @@
-//! Whether a unit begins in the log although the table would do.
+//! Whether a unit begins in the store although the table would do.
 
 /// How many units in a row were small since one left the table, and how many must be before the next begins there
 /// again.
@@ -33,7 +33,7 @@ impl Trust {
         }
     }
 
-    /// Returns the trust after a unit of so many cells in the log; a unit without cells does not count.
+    /// Returns the trust after a unit of so many cells in the store; a unit without cells does not count.
     fn after(self, cells: usize) -> Trust {
         if cells == 0 {
             return self;
@@ -48,7 +48,7 @@ impl Trust {
     }
 }
 
-/// Counts a unit of so many cells in the log, and tells whether the next one begins there too.
+/// Counts a unit of so many cells in the store, and tells whether the next one begins there too.
 #[inline(never)]
 pub(crate) fn stays_far(trust: &mut Trust, cells: usize) -> bool {
     *trust = trust.after(cells);

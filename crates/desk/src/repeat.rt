@@ -166,8 +166,8 @@ fn turn_byte<const NEAR: bool>(
     }
 }
 
-// Turn after turn where the cells are in the log, as long as they go on. It gives the place of the last one, which was
-// not evaluated to its end.
+// Turn after turn where the cells are in the store, as long as they go on. It gives the place of the last one, which
+// was not evaluated to its end.
 #[inline(never)]
 fn run_apart(peg: &SoundPeg, window: &[u8], more: bool, cells: &mut Cells, turns: Turns) -> usize
     requires star { slice_get (shapes_of peg.now.nodes) turns.top.node ≡ Some (Shape.Star turns.operand) }
@@ -227,8 +227,8 @@ fn run_on<const NEAR: bool>(
     }
 }
 
-// Puts the cells of the turns where the cells are in the log, the last one first, as far as memory lasts. It gives the
-// place that it came to.
+// Puts the cells of the turns where the cells are in the store, the last one first, as far as memory lasts. It gives
+// the place that it came to.
 #[inline(never)]
 fn put_apart(cells: &mut Cells, top: Frame, run: Run) -> usize
     requires { (g : Grammar) × (x : List ℕ) × (more : Bool) × (below : List Frame) × (old : List Entry) × (m : ℕ)

@@ -25,7 +25,7 @@ pub(crate) enum Next {
     Ended(Found),
     /// It would compare the last byte of a window behind which there is more.
     Need,
-    /// The cells stand in the log, and the last frame begins.
+    /// The cells stand in the store, and the last frame begins.
     Over,
     /// A growth was refused.
     Refused,
@@ -145,7 +145,7 @@ fn begin_through<const NEAR: bool>(
     }
 }
 
-// The same while the cells stand in the table. Where they stand in the log, the frame that begins is the last one.
+// The same while the cells stand in the table. Where they stand in the store, the frame that begins is the last one.
 #[inline(always)]
 fn begin_or_over<const NEAR: bool>(
     peg: &SoundPeg,
@@ -239,7 +239,7 @@ pub(crate) enum Few {
     Ended(Found),
     /// It would compare the last byte of a window behind which there is more.
     Need,
-    /// The cells stand in the log, and the last frame begins.
+    /// The cells stand in the store, and the last frame begins.
     Over,
     /// A growth was refused.
     Refused,

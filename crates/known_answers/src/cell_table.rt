@@ -12,7 +12,7 @@ fn put_new(cells: &mut Cells, node: usize, place: usize) -> Result<(), Fail> {
     Ok(())
 }
 
-// Whether the cell of a node and a place is there, if it was put, and else is not; by the table and by the log.
+// Whether the cell of a node and a place is there, if it was put, and else is not; by the table and by the store.
 fn is_kept(cells: &Cells, node: usize, place: usize) -> bool {
     let found = cells.get::<true>(node, place);
     if cells.get::<false>(node, place) != found {
@@ -98,5 +98,33 @@ fn far_apart(rt: HostRuntime) -> Result<(), Fail> {
         assert!(rt; cells.get::<false>(step * 11, step * 1000 + 1) == None);
     }
     assert!(rt; cells.len() == 700);
+    Ok(())
+}
+
+// A success that is longer than a key has room for, and one that ends before its place: they stand in the log, the
+// others in the pack.
+#[test]
+fn long_and_backward(rt: HostRuntime) -> Result<(), Fail> {
+    let mut cells = Cells::new(rt.alloc());
+    cells.reset(300);
+    cells.put(299, 0, Found::Took(14_316_556))?;
+    cells.put(7, 1, Found::Took(14_316_557))?;
+    assert!(rt; cells.get::<false>(299, 0) == Some(Found::Took(14_316_556)));
+    cells.put(8, 1, Found::Took(2))?;
+    cells.put(8, 9, Found::Took(3))?;
+    let again = cells.get_or_put(8, 9, Found::Failed)?;
+    assert!(rt; again == Found::Took(3));
+    let other = cells.get_or_put(9, 9, Found::Failed)?;
+    assert!(rt; other == Found::Failed);
+    assert!(rt; cells.get::<false>(299, 0) == Some(Found::Took(14_316_556)));
+    assert!(rt; cells.get::<false>(7, 1) == Some(Found::Took(14_316_557)));
+    assert!(rt; cells.get::<true>(8, 1) == Some(Found::Took(2)));
+    assert!(rt; cells.get::<true>(8, 9) == Some(Found::Took(3)));
+    assert!(rt; cells.get::<false>(8, 0) == None);
+    assert!(rt; cells.len() == 5);
+    cells.reset(300);
+    assert!(rt; cells.len() == 0);
+    assert!(rt; cells.get::<false>(8, 9) == None);
+    assert!(rt; cells.get::<false>(7, 1) == None);
     Ok(())
 }

@@ -11,7 +11,8 @@ returns-then-square-self-clause-known g c =
     let t = c.self.inside in
     let here = slice_get_read t.squares.items _ _ c.index-square.result.now t.squares.ok.0
     (rw c.len.ensures at c.if-number-len.false) c.index-square.ensures in (
-      rw (← c.self.view_is, c.found_of_end.ensures) (table_found t.stamp t.far t.count t.squares.items t.log c.args.node
+      rw (← c.self.view_is, c.found_of_end.ensures) (table_found t.stamp t.far t.count t.squares.items t.store
+          c.args.node
           c.args.place c.index-square.result.now c.self.invariant c.if-node-ge-NODES.false
           (rw c.square_number-number.ensures at here) c.if-square-self.true),
       inl refl,
@@ -29,9 +30,10 @@ returns-then-this-ne0-clause-known g c =
     let t = c.self.inside in
     let here = slice_get_read t.squares.items _ _ c.index-square.result.now t.squares.ok.0
     (rw c.len.ensures at c.if-number-len.false) c.index-square.ensures in
-    rw (← c.self.view_is) (known_added (entries_in t.stamp t.squares.items ++ t.log.entries) _ c.args.node c.args.place
-    c.args.found (table_none t.stamp t.far t.count t.squares.items t.log c.args.node c.args.place
-    c.index-square.result.now c.self.invariant (rw c.square_number-number.ensures at here) c.if-square-self.false)
-    (table_added t.stamp t.squares.items c.fill.new.squares.items t.log.entries c.args.node c.args.place
-    c.square_number-number.result c.args.found c.if-node-ge-NODES.false c.square_number-number.ensures
-    c.fill.ensures.added))
+    let none = table_none t.stamp t.far t.count t.squares.items t.store c.args.node c.args.place
+    c.index-square.result.now c.self.invariant (rw c.square_number-number.ensures at here) c.if-square-self.false in
+    rw (← c.self.view_is) (known_added (entries_in t.stamp t.squares.items ++ t.store.entries) _ c.args.node
+    c.args.place
+    c.args.found none (table_added t.stamp t.squares.items c.fill.new.squares.items t.store.entries c.args.node
+    c.args.place c.square_number-number.result c.args.found c.if-node-ge-NODES.false c.square_number-number.ensures
+    none c.fill.ensures.added))
