@@ -1,12 +1,8 @@
 -- One cell more.
 -- Serves: Cells::put, Cells::get_or_put.
-use Rattle.std.proofs.Common.{◌≡◌, ℕ, ◌+◌, inr, List, [], ◌∷◌, ◌++◌, None, length, refl}
+use Rattle.std.proofs.Common.{◌≡◌, ℕ, ◌+◌, inr, List, None, length, refl}
 use Rattle.cells.specs.declared.cell.Found.{Found}
 use Rattle.cells.specs.Entries.{Entry, IsAdded, IsKnown, found_at}
-use Rattle.cells.proofs.IsInsertedLemmas.{inserted_at_end, inserted_is_added}
-
-pub added_at_end : (old : List Entry) (e : Entry) → found_at old e.node e.place ≡ None → IsAdded old (old ++ e ∷ []) e
-added_at_end old e none = inserted_is_added old (old ++ e ∷ []) e (inserted_at_end old e) none
 
 pub added_is_longer : (old new : List Entry) (e : Entry) → IsAdded old new e → length new ≡ length old + 1
 added_is_longer old new e a = a.count

@@ -1,14 +1,12 @@
 -- The cells as they are kept, and as entries.
-use Rattle.std.specs.Prelude.{◌≡◌, ℕ, ◌<◌, ◌≤◌, ◌==◌, List, ◌∷◌, ◌++◌, Option, Some, None, length, map}
+use Rattle.std.specs.Prelude.{◌≡◌, ℕ, ◌<◌, ◌≤◌, ◌==◌, List, ◌∷◌, ◌++◌, Some, length, map}
 use Rattle.std.specs.Prelude.{slice_get, if◌then◌else◌}
 use Rattle.cells.specs.declared.cell.Cell.{Cell}
 use Rattle.cells.specs.declared.rows.Layout.{Layout}
 use Rattle.cells.specs.declared.cell.Found.{Found}
 use Rattle.cells.specs.declared.cell.Found.TheVariants.{Failed, Took}
 use Rattle.cells.specs.declared.cell.GetOrPut.{GetOrPut}
-use Rattle.cells.specs.declared.cell.GetOrPut.TheVariants as came
-use Rattle.cells.specs.declared.cell.Held.{Held}
-use Rattle.cells.specs.declared.cell.Held.TheVariants as held
+use Rattle.cells.specs.declared.cell.GetOrPut.TheVariants.{Had, Added, Refused}
 use Rattle.cells.specs.Entries.{Entry, IsKnown}
 use Rattle.cells.specs.Links.{AreLinked}
 use Rattle.cells.specs.Rows.{row_of, number_of}
@@ -70,15 +68,16 @@ pub record IsKept (layout : Layout) (mask : ℕ) (cells : List Cell) (rows : Lis
 abbrev pub IsLimit : ℕ → ℕ → Type 0
 IsLimit limit room = (limit ≤ room) × (limit < 4294967295)
 
--- what a cell holds, as what was found
-abbrev pub held_as : Held → Option Found
-held_as held.Nothing = None
-held_as held.Failed = Some Failed
-held_as (held.Took end) = Some (Took end)
+-- a word can stand for it, beside the one that stands for a failure
+abbrev pub IsLow : Found → Type 0
+IsLow Failed = Unit {0}
+IsLow (Took end) = end < 18446744073709551615
+
+abbrev pub found_of_word : ℕ → Found
+found_of_word w = if w == 18446744073709551615 then Failed else Took w
 
 -- what came of a call that gets a pair's cell, or puts one that holds `found`
 abbrev pub IsGetOrPut : List Entry → List Entry → ℕ → ℕ → Found → GetOrPut → Type 0
-IsGetOrPut old new n p found came.Failed = IsKnown old new n p found Failed
-IsGetOrPut old new n p found (came.Took end) = IsKnown old new n p found (Took end)
-IsGetOrPut old new n p found came.Added = IsKnown old new n p found found
-IsGetOrPut old new n p found came.Refused = new ≡ old
+IsGetOrPut old new n p found (Had word) = IsKnown old new n p found (found_of_word word)
+IsGetOrPut old new n p found Added = IsKnown old new n p found found
+IsGetOrPut old new n p found Refused = new ≡ old

@@ -1,6 +1,6 @@
 //! One cell, as it is kept.
 ghost use Rattle.std.specs.Prelude.{◌≡◌, ◌<◌, ◌≤◌, true, IfSome, IfNone};
-ghost use Rattle.cells.specs.CellEntries.{found_of, held_as};
+ghost use Rattle.cells.specs.CellEntries.{IsLow, found_of, found_of_word};
 ghost use Rattle.cells.specs.Entries.{AreNarrow, IsNarrow};
 
 /// What a node gave at a place.
@@ -12,51 +12,38 @@ pub enum Found {
     Took(usize),
 }
 
-/// What a cell holds, if there is one. It goes back in two registers; an `Option` of a `Found` does not.
-#[derive(Clone, Copy)]
-pub(crate) enum Held {
-    /// There is no cell.
-    Nothing,
-    /// The node failed.
-    Failed,
-    /// It succeeded, and ended there.
-    Took(usize),
-}
-
-/// What came of a call that gets a cell or adds one. It goes back in two registers.
+/// What came of a call that gets a cell or adds one. It goes back in two registers; a `Result` of a `Found` does not.
 #[derive(Clone, Copy)]
 pub(crate) enum GetOrPut {
-    /// There was a cell of a failure.
-    Failed,
-    /// There was a cell of a success that ended there.
-    Took(usize),
+    /// There was a cell, and this is the word for what it holds.
+    Had(usize),
     /// There was none, and one was added.
     Added,
     /// There was none, and a growth for one was refused.
     Refused,
 }
 
-/// Returns what was found as what a cell holds.
+/// Returns the word for what was found: where a success ended, or the greatest number for a failure.
 #[inline(always)]
-pub(crate) fn held_of(found: Option<Found>) -> Held
-    ensures { held_as result ≡ found }
+pub(crate) fn word_of(found: Found) -> usize
+    requires { IsLow found }
+    ensures { found_of_word result ≡ found }
 {
     match found {
-        None => Held::Nothing,
-        Some(Found::Failed) => Held::Failed,
-        Some(Found::Took(end)) => Held::Took(end),
+        Found::Failed => usize::MAX,
+        Found::Took(end) => end,
     }
 }
 
-/// Returns what a cell holds as what was found.
+/// Returns what was found, of the word for it.
 #[inline(always)]
-pub(crate) fn found_of_held(held: Held) -> Option<Found>
-    ensures { result ≡ held_as held }
+pub(crate) fn found_of_word(word: usize) -> Found
+    ensures { result ≡ found_of_word word }
 {
-    match held {
-        Held::Nothing => None,
-        Held::Failed => Some(Found::Failed),
-        Held::Took(end) => Some(Found::Took(end)),
+    if word == usize::MAX {
+        Found::Failed
+    } else {
+        Found::Took(word)
     }
 }
 
@@ -121,7 +108,8 @@ pub(crate) fn end_narrow(found: Found) -> u32
 /// Returns what was found, of the end that stands for it.
 #[inline(always)]
 pub(crate) fn found_of_end(end: u32) -> Found
-    ensures { result ≡ found_of end }
+    ensures found { result ≡ found_of end }
+    ensures low { IsLow result }
 {
     if end == FAILED {
         Found::Failed

@@ -2,11 +2,9 @@
 ghost use Rattle.std.specs.Prelude.{◌≡◌, ◌<◌, ◌≤◌, ◌⊎◌, [], length, false, Some, None, IfOk, IfNone, IfSome, OnOk};
 ghost use Rattle.std.specs.Prelude.{OnErr, option_map};
 ghost use Rattle.cells.specs.Entries.{AreNarrow, IsAdded, IsKnown, found_at};
-ghost use Rattle.cells.specs.CellEntries.{held_as, IsGetOrPut};
+ghost use Rattle.cells.specs.CellEntries.{found_of_word as of_word, IsGetOrPut};
 
-use crate::cell::{
-    FAILED, Found, GetOrPut, Held, Key, are_narrow, found_of_end, found_of_held, held_of,
-};
+use crate::cell::{FAILED, Found, GetOrPut, Key, are_narrow, found_of_end, found_of_word, word_of};
 use crate::square::{
     NODES, SQUARES, Square, add_squares, fill, move_out, next_stamp, square_number,
 };
@@ -112,27 +110,30 @@ impl Cells {
         if self.far { None } else { Some(self.count) }
     }
 
-    // What the node's cell at the place holds, in the table or in the store.
+    // The word for what the node's cell at the place holds, in the table or in the store.
     #[inline(never)]
-    fn held_anywhere(&self, node: usize, place: usize) -> Held
+    fn word_anywhere(&self, node: usize, place: usize) -> Option<usize>
         requires { (node < 4294967295) × (place < 4294967295) }
-        ensures { held_as result ≡ found_at self.now node place }
+        ensures { found_at self.now node place ≡ option_map of_word result }
     {
         if self.far {
-            return held_of(self.store.find(node, place));
+            return match self.store.find(node, place) {
+                Some(found) => Some(word_of(found)),
+                None => None,
+            };
         }
         if node >= NODES {
-            return Held::Nothing;
+            return None;
         }
         let number = square_number(node, place);
         if number >= self.squares.len() {
-            return Held::Nothing;
+            return None;
         }
         let square = self.squares[number];
         if square.stamp != self.stamp {
-            return Held::Nothing;
+            return None;
         }
-        held_of(Some(found_of_end(square.end)))
+        Some(word_of(found_of_end(square.end)))
     }
 
     // What the node gave at the place, by the table or by the store.
@@ -141,7 +142,10 @@ impl Cells {
         requires { (node < 4294967295) × (place < 4294967295) }
         ensures { result ≡ found_at self.now node place }
     {
-        found_of_held(self.held_anywhere(node, place))
+        match self.word_anywhere(node, place) {
+            Some(word) => Some(found_of_word(word)),
+            None => None,
+        }
     }
 
     // What a node gave at a place of which one is too great for a cell: nothing.
@@ -243,13 +247,12 @@ impl Cells {
         requires { AreNarrow node place found }
         ensures { IsGetOrPut self.old self.new node place found result }
     {
-        match self.held_anywhere(node, place) {
-            Held::Failed => GetOrPut::Failed,
-            Held::Took(end) => GetOrPut::Took(end),
-            Held::Nothing => match self.put_anywhere(node, place, found) {
-                Ok(()) => GetOrPut::Added,
-                Err(_) => GetOrPut::Refused,
-            },
+        if let Some(word) = self.word_anywhere(node, place) {
+            return GetOrPut::Had(word);
+        }
+        match self.put_anywhere(node, place, found) {
+            Ok(()) => GetOrPut::Added,
+            Err(_) => GetOrPut::Refused,
         }
     }
 
@@ -266,8 +269,7 @@ impl Cells {
         ensures unchanged { OnErr result (self.new ≡ self.old) }
     {
         match self.end_or_put(node, place, found) {
-            GetOrPut::Failed => Ok(Found::Failed),
-            GetOrPut::Took(end) => Ok(Found::Took(end)),
+            GetOrPut::Had(word) => Ok(found_of_word(word)),
             GetOrPut::Added => Ok(found),
             GetOrPut::Refused => Err(Memory),
         }

@@ -3,7 +3,7 @@ ghost use Rattle.std.specs.Prelude.{◌≡◌, ℕ, ◌+◌, ◌-◌, ◌*◌, �
 ghost use Rattle.std.specs.Prelude.{slice_get, Some, None, IfSome, IfOk, IfNone, OnOk, OnErr, OnSome, option_map};
 ghost use Rattle.std.specs.Prelude.{vec_len, vec_capacity, false, true, Ok, ◌⊎◌};
 ghost use Rattle.cells.specs.Entries.{AreNarrow, IsKnown, IsAdded, found_at};
-ghost use Rattle.cells.specs.CellEntries.{IsLimit};
+ghost use Rattle.cells.specs.CellEntries.{IsLimit, IsLow};
 ghost use Rattle.cells.specs.Chains.{AreKeys, AreOlder, IsKey, IsPacked, IsShared, chain, entries_by, found_by};
 ghost use Rattle.cells.specs.Rows.{number_of as number};
 
@@ -63,7 +63,8 @@ fn span_of(spans: u32, place: usize, found: Found) -> Option<usize>
 #[inline(always)]
 pub(crate) fn found_in(spans: u32, place: usize, span: usize) -> Found
     requires { (0 < spans) × (place < 4294967295) × (span < spans) }
-    ensures { result ≡ found_by spans place span }
+    ensures found { result ≡ found_by spans place span }
+    ensures low { IsLow result }
 {
     if span == spans as usize - 1 {
         Found::Failed
@@ -146,7 +147,8 @@ fn found_in_row(
     requires row { row ≡ number layout key.node key.place }
     requires within { row < length rows.now }
     requires narrow { (key.node < 4294967295) × (key.place < 4294967295) }
-    ensures { result ≡ found_at (entries_by layout spans cells.now rows.now) key.node key.place }
+    ensures found { result ≡ found_at (entries_by layout spans cells.now rows.now) key.node key.place }
+    ensures low { IfSome result IsLow }
 {
     match walk_packed(cells, rows[row], spans, key.node) {
         Some(span) => Some(found_in(spans, key.place, span)),
@@ -462,7 +464,8 @@ impl Pack {
     /// Returns what the node gave at the place, if it has a cell there. Both numbers must be less than 4,294,967,295.
     pub(crate) fn find(&self, node: usize, place: usize) -> Option<Found>
         requires { (node < 4294967295) × (place < 4294967295) }
-        ensures { result ≡ found_at self.now.entries node place }
+        ensures found { result ≡ found_at self.now.entries node place }
+        ensures low { IfSome result IsLow }
     {
         let row = row_number(&self.layout, node, place);
         if row >= self.rows.len() {

@@ -1,6 +1,7 @@
 //! The cells of a unit that is too great for the table: packed, or in the log where they do not go into the pack.
 ghost use Rattle.std.specs.Prelude.{◌≡◌, ◌⊎◌, ◌<◌, ◌≤◌, [], length, Some, None, IfOk, IfSome, IfNone, OnOk};
 ghost use Rattle.std.specs.Prelude.{OnErr, OnSome};
+ghost use Rattle.cells.specs.CellEntries.{IsLow};
 ghost use Rattle.cells.specs.Entries.{AreNarrow, IsAdded, IsKnown, found_at};
 
 use crate::cell::{Found, found_of_end};
@@ -58,7 +59,8 @@ impl Store {
     /// Returns what the node gave at the place, if it has a cell there. Both numbers must be less than 4,294,967,295.
     pub(crate) fn find(&self, node: usize, place: usize) -> Option<Found>
         requires { (node < 4294967295) × (place < 4294967295) }
-        ensures { result ≡ found_at self.now.entries node place }
+        ensures found { result ≡ found_at self.now.entries node place }
+        ensures low { IfSome result IsLow }
     {
         match self.pack.find(node, place) {
             Some(found) => Some(found),

@@ -447,15 +447,9 @@ fn see_other<const NEAR: bool>(
     }
 }
 
-// Whether a node is a name.
-#[inline(always)]
-fn is_name(node: &Node) -> bool {
-    matches!(node, Node::Name(_))
-}
-
-// What is seen of a name in a repetition, apart from the loops: one that takes a byte is evaluated at once.
+// What is seen of the operand of a repetition, apart from the loops: a name that takes a byte is evaluated at once.
 #[inline(never)]
-fn see_name<const NEAR: bool>(
+fn see_apart<const NEAR: bool>(
     peg: &SoundPeg,
     window: &[u8],
     more: bool,
@@ -499,11 +493,7 @@ pub(crate) fn see_turn<const NEAR: bool>(
         Asks (rules_of peg.now.rules) (shapes_of peg.now.nodes) peg.now.bodies window.now top.node top.place node
         place → IsSeenFrom peg.now window.now more below cells.old cells.new top node place result }
 {
-    let _start = peg.start();
-    if is_name(peg.node(node)) {
-        return unfold(see_name::<NEAR>(peg, window, more, cells, node, place));
-    }
-    see_mostly::<NEAR>(peg, window, more, cells, node, place)
+    unfold(see_apart::<NEAR>(peg, window, more, cells, node, place))
 }
 
 // On through the alternatives of a choice.

@@ -19,7 +19,7 @@ loop-number-preserved c = elim c.if-square-stamp.branch [
             w.if-square-stamp.true,
       )
       (added_to_same _ c.loop-number.store.entries _ _ (none_taken c.args.stamp c.args.squares.now c.loop-number.number)
-      c.loop-number.invariant (rw w.found_of_end.ensures at w.in_ok-put.ensures.added))
+      c.loop-number.invariant (rw w.found_of_end.ensures.found at w.in_ok-put.ensures.added))
   | else-square-stamp w ↦
       rw (
         ap (λ store. store.entries) w.store-is,

@@ -16,6 +16,6 @@ returns-then-this-ne0 g c =
     let t = c.self.inside in
     let here = slice_get_read t.squares.items _ _ c.index-square.result.now t.squares.ok.0
     (rw c.len.ensures at c.if-number-len.false) c.index-square.ensures in
-    rw (← c.self.view_is, c.found_of_end.ensures) (sym (table_found t.stamp t.far t.count t.squares.items t.store
+    rw (← c.self.view_is, c.found_of_end.ensures.found) (sym (table_found t.stamp t.far t.count t.squares.items t.store
     c.args.node c.args.place c.index-square.result.now c.self.invariant c.if-node-ge-NODES.false
     (rw c.square_number-number.ensures at here) c.if-square-self.false))

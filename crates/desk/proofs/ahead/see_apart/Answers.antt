@@ -1,6 +1,6 @@
 use Rattle.desk.proofs.IsOnLemmas.{child_visited}
 use Rattle.desk.proofs.IsSeenFromLemmas.{seen_from}
-use Rattle.desk.proofs.ahead.see_name.Goals as goal
+use Rattle.desk.proofs.ahead.see_apart.Goals as goal
 
 pub see_mostly-requires-clause-spells : goal.see_mostly-requires-clause-spells
 see_mostly-requires-clause-spells g c =
