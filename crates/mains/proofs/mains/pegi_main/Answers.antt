@@ -3,11 +3,11 @@
 use Rattle.std.proofs.Common.{rules, map, string_bytes, Global}
 use Rattle.gramtools.specs.Answers.{States}
 use Rattle.clap.specs.Words.{fault_of, matches_of}
-use Rattle.commands.proofs.AnswersLemmas.{no_faults, no_help}
-use Rattle.commands.proofs.JobStatesLemmas.{job_comes, unready_comes}
+use Rattle.mains.proofs.AnswersLemmas.{no_faults, no_help}
+use Rattle.mains.proofs.JobStatesLemmas.{job_comes, unready_comes}
 use Rattle.toolrun.specs.Status.{code_of}
 use Rattle.toolrun.specs.Stream.{passed}
-use Rattle.commands.proofs.mains.pegi_main.Goals as goal
+use Rattle.mains.proofs.mains.pegi_main.Goals as goal
 
 pub returns-in-Ok : goal.returns-in-Ok
 returns-in-Ok g c =

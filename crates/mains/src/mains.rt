@@ -11,9 +11,8 @@ ghost use Rattle.toolrun.specs.Right.{Comes};
 ghost use Rattle.toolrun.specs.Status.{code_of};
 ghost use Rattle.toolrun.specs.Stream.{passed};
 
-use crate::command::Program;
-use crate::reading::{end_unready, read_job};
 use abnfrun::run_abnf;
+use commands::{Program, end_unready, read_job};
 use feed::Source;
 use gramtools::run_peg;
 use ruletable::Sink;
