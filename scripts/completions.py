@@ -17,7 +17,7 @@ FOLDER = TOP / "completions"
 
 @dataclasses.dataclass(frozen=True)
 class Option:
-    """An option: its letter, the word for its value in the help, the values that it may have, and what the help says."""
+    """An option: its letter, the word for its value, the values that it may have, and what the help says."""
 
     letter: str
     value: str
@@ -27,16 +27,15 @@ class Option:
 
 @dataclasses.dataclass(frozen=True)
 class Program:
-    """A program: its options, what its grammar is, the kind of its files, and how a printed rule begins behind its name."""
+    """A program: its options, and what stands behind a rule's name where the grammar is printed."""
 
     name: str
     options: tuple
-    ending: str
     sign: str
 
     def valued(self):
-        """Returns the options that take a value."""
-        return [it for it in self.options if it.value]
+        """Returns the options that take a value, as they are typed."""
+        return [f"-{it.letter}" for it in self.options if it.value]
 
 
 GRAMMAR = "The file of the grammar, at most 1048576 bytes"
@@ -49,15 +48,16 @@ PROGRAMS = (
         Option("s", "RULE", (), "The start rule [default: the first rule]"),
         Option("r", "", (), "Print actions neither trimmed nor each on a line of its own"),
         HELP,
-    ), "peg", "<-"),
+    ), "<-"),
     Program("abnfi", (
         MODE,
         Option("l", "N", (), "How many bytes a line may have, from 1 to 16777216"),
         Option("s", "RULE", (), "The judged rule [default: the first rule]"),
-        Option("u", "MODE", ("bytes", "utf8"), "What the letters of a line are: its bytes, or the code points of UTF-8"),
+        Option("u", "MODE", ("bytes", "utf8"),
+               "What the letters of a line are: its bytes, or the code points of UTF-8"),
         Option("w", "", (), "Write how far a refused line goes: no N"),
         HELP,
-    ), "abnf", "="),
+    ), "="),
 )
 
 BASH = r"""# Completes the command line of @NAME@ in bash. scripts/completions.py wrote this file.
@@ -104,6 +104,11 @@ _@NAME@() {
 }
 complete -F _@NAME@ @NAME@
 """
+
+BASH_VALUES = """        -@LETTER@)
+            mapfile -t COMPREPLY < <(compgen -W '@VALUES@' -- "$current")
+            return
+            ;;"""
 
 ZSH = r"""#compdef @NAME@
 # Completes the command line of @NAME@ in zsh. scripts/completions.py wrote this file.
@@ -167,11 +172,11 @@ def filled(template, **words):
 def for_bash(program):
     """Returns the file for bash."""
     values = [
-        f"        -{it.letter})\n            mapfile -t COMPREPLY < <(compgen -W '{' '.join(it.values)}' -- \"$current\")\n"
-        "            return\n            ;;" for it in program.options if it.values
+        filled(BASH_VALUES, LETTER=it.letter, VALUES=" ".join(it.values)) for it in program.options if it.values
     ]
-    return filled(BASH, NAME=program.name, SIGN=program.sign, VALUED=" | ".join(f"-{it.letter}" for it in program.valued()),
-                  VALUES="\n".join(values), OPTIONS=" ".join(f"-{it.letter}" for it in program.options) + " --help")
+    options = " ".join(f"-{it.letter}" for it in program.options) + " --help"
+    return filled(BASH, NAME=program.name, SIGN=program.sign, VALUED=" | ".join(program.valued()),
+                  VALUES="\n".join(values), OPTIONS=options)
 
 
 def for_zsh(program):
@@ -182,18 +187,18 @@ def for_zsh(program):
             return f"    '(- 1)'{{-h,--help}}'[{text}]' \\"
         action = f"({' '.join(it.values)})" if it.values else f"_{program.name}_rules" if it.letter == "s" else " "
         return f"    '-{it.letter}[{text}]" + (f":{it.value.lower()}:{action}' \\" if it.value else "' \\")
-    return filled(ZSH, NAME=program.name, SIGN=program.sign, VALUED="|".join(f"-{it.letter}" for it in program.valued()),
+    return filled(ZSH, NAME=program.name, SIGN=program.sign, VALUED="|".join(program.valued()),
                   OPTIONS="\n".join(map(spec, program.options)))
 
 
 def for_fish(program):
     """Returns the file for fish."""
     def line(it):
-        values = f" -x -a '{' '.join(it.values)}'" if it.values else f" -x -a '(__{program.name}_rules)'" if it.letter == "s" \
-            else " -x" if it.value else ""
+        offered = " ".join(it.values) or (f"(__{program.name}_rules)" if it.letter == "s" else "")
+        values = (" -x" if it.value else "") + (f" -a '{offered}'" if offered else "")
         name = f"-s {it.letter}" + (" -l help -f" if it is HELP else "")
         return f"complete -c {program.name} {name}{values} -d '{it.text}'"
-    return filled(FISH, NAME=program.name, SIGN=program.sign, VALUED=" ".join(f"-{it.letter}" for it in program.valued()),
+    return filled(FISH, NAME=program.name, SIGN=program.sign, VALUED=" ".join(program.valued()),
                   OPTIONS="\n".join(map(line, program.options)))
 
 

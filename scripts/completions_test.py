@@ -1,12 +1,12 @@
 #!/usr/bin/env python3
-"""Tests completions/: that their description is what the programs print for -h, and that each shell that is installed offers
-what it should.
+"""Tests completions/: that their description is what the programs print for -h, and that each shell that is installed
+offers what it should.
 
 usage: completions_test.py [--terminals]
 
-It needs both programs in bin/. A shell that is not installed is skipped, and the script says so. bash runs the function that
-it would run at the tab key, and fish tells what it would offer. With --terminals bash and zsh also run on a terminal of
-their own, where the tab key is pressed; a busy machine may then answer too late.
+It needs both programs in bin/. A shell that is not installed is skipped, and the script says so. bash runs the function
+that it would run at the tab key, and fish tells what it would offer. With --terminals bash and zsh also run on terminals
+of their own, where the tab key is pressed; a busy machine may then answer too late.
 """
 import os
 import pathlib
@@ -46,12 +46,13 @@ EVERY = {it for _, _, wanted in ROWS for it in wanted}
 
 def environment(folder):
     """Returns the variables of a shell that finds the programs of bin/."""
-    return {**os.environ, "PATH": f"{TOP / 'bin'}:{os.environ['PATH']}", "HOME": str(folder), "TERM": "dumb", "LC_ALL": "C"}
+    path = f"{TOP / 'bin'}:{os.environ['PATH']}"
+    return {**os.environ, "PATH": path, "HOME": str(folder), "TERM": "dumb", "LC_ALL": "C"}
 
 
 def shown(program):
-    """Returns what -h says of the options: for each its letter, the word for its value, the text and the values; and what it
-    says of the grammar."""
+    """Returns what -h says of the options: for each its letter, the word for its value, the text and the values; and
+    what it says of the grammar."""
     text = subprocess.run([TOP / "bin" / program.name, "-h"], check=True, capture_output=True, text=True).stdout
     found = set()
     for letter, value, said in re.findall(r"(?m)^  -(\w)(?:, --help)?(?: <(\w+)>)? +(.*)$", text):
@@ -81,11 +82,11 @@ def by_bash(program, typed, folder):
     words, at = words_of(typed)
     line = shlex.join([program, *words])
     command = (
-        f"source {FOLDER}/bash/{program}; COMP_WORDS=({line}); COMP_CWORD={at + 1}; "
-        f"_{program} {program} \"${{COMP_WORDS[COMP_CWORD]}}\" \"${{COMP_WORDS[COMP_CWORD - 1]}}\"; printf '%s\\n' \"${{COMPREPLY[@]}}\""
+        f"source {FOLDER}/bash/{program}; COMP_WORDS=({line}); COMP_CWORD={at + 1}; _{program} {program}; "
+        "printf '%s\\n' \"${COMPREPLY[@]}\""
     )
-    ran = subprocess.run(["bash", "--norc", "-c", command], cwd=folder, env=environment(folder), check=True, capture_output=True,
-                         text=True)
+    ran = subprocess.run(["bash", "--norc", "-c", command], cwd=folder, env=environment(folder), check=True,
+                         capture_output=True, text=True)
     return set(ran.stdout.split())
 
 
@@ -122,7 +123,10 @@ def at_tab(shell, setup, line, wanted, folder):
 
 
 def on_terminal_of_bash(program, typed, wanted, folder):
-    setup = f"bind 'set show-all-if-ambiguous on'; bind 'set enable-bracketed-paste off'; source {FOLDER}/bash/{program}"
+    setup = (
+        "bind 'set show-all-if-ambiguous on'; bind 'set enable-bracketed-paste off'; "
+        f"source {FOLDER}/bash/{program}"
+    )
     return at_tab(["bash", "--norc", "--noprofile", "-i"], setup, f"{program} {typed}", wanted, folder)
 
 

@@ -1,13 +1,13 @@
 #!/usr/bin/env python3
-"""Packs both programs with what belongs to them, in the folder bin/: an archive for any Linux on x86-64, or a package for
-Debian. `make put` says what goes where.
+"""Packs both programs with what belongs to them, in the folder bin/: an archive for any Linux on x86-64, or a package
+for Debian. `make put` says what goes where.
 
 usage: package.py dist|deb
 
-The archive fanquber-VERSION-x86_64-linux.tar.gz holds the folders bin/ and share/, so it can be unpacked over /usr/local,
-the file PROVED, which says what was proved with which kit, and SHA256SUMS. Beside it stands its own sum. The same sources
-and kit give the same archive. VERSION is the date of the last commit. Both programs need the C library and no other: the
-script refuses to pack them otherwise. It needs readelf (Debian: binutils) and for `deb` dpkg-deb.
+The archive fanquber-VERSION-x86_64-linux.tar.gz holds the folders bin/ and share/, the file PROVED, which says what was
+proved with which kit, and SHA256SUMS. Beside it stands its own sum. The same sources and kit give the same archive.
+VERSION is the date of the last commit. Both programs need the C library and no other: the script refuses to pack them
+otherwise. It needs readelf (Debian: binutils) and for `deb` dpkg-deb.
 """
 import gzip
 import hashlib
@@ -55,7 +55,7 @@ def commit():
 
 
 def libc_version():
-    """Returns the least version of the C library that both programs run with; ends the script if one needs another library."""
+    """Returns the least version of the C library that both programs run with; ends the script if they need another."""
     found = []
     for it in PROGRAMS:
         told = output("readelf", "-dV", f"bin/{it}")

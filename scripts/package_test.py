@@ -1,10 +1,11 @@
 #!/usr/bin/env python3
-"""Tests what package.py packs, each in a folder of its own: the archive is unpacked, and its sums are right; the package is
-installed, and removed again. What is installed runs the examples of its manual pages and the folders of its examples/.
+"""Tests what package.py packs, each in a folder of its own: the archive is unpacked, and its sums are right; the package
+is installed, and removed again. What is installed runs the examples of its manual pages and its folders of examples.
 
 usage: package_test.py
 
-It needs both programs in bin/. The package is left out where there is no dpkg or no right to install, and the script says so.
+It needs both programs in bin/, and readelf. The package is left out where there is no dpkg or no right to install, and
+the script says so.
 """
 import os
 import pathlib
@@ -19,9 +20,9 @@ from package import NAME, deb, dist
 TOP = pathlib.Path(__file__).resolve().parent.parent
 
 
-def run(*words, folder=TOP, **more):
+def run(*words, folder=TOP):
     """Runs a command, and returns what went wrong, or nothing."""
-    ran = subprocess.run(words, cwd=folder, stdout=subprocess.PIPE, stderr=subprocess.STDOUT, text=True, check=False, **more)
+    ran = subprocess.run(words, cwd=folder, stdout=subprocess.PIPE, stderr=subprocess.STDOUT, text=True, check=False)
     return [f"{' '.join(map(str, words))}: {ran.stdout}"] if ran.returncode else []
 
 
@@ -67,6 +68,9 @@ def faults_of_package(folder):
 
 
 def main():
+    if not shutil.which("readelf"):
+        print("packages: readelf is not installed: skipped")
+        return 0
     with tempfile.TemporaryDirectory() as folder:
         faults = faults_of_archive(pathlib.Path(folder))
     said = "the archive"

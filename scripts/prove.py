@@ -45,11 +45,11 @@ def processors():
 
 def distances(needed):
     """Returns for each crate the bytes of text on the longest chain of crates that begins with it and goes up."""
-    size = {it: sum(f.stat().st_size for part in PARTS for f in (TOP / "crates" / it / part).rglob("*.*")) for it in needed}
-    above = {it: [crate for crate, libraries in uses(TOP).items() if it in libraries and crate in needed] for it in needed}
     found = {}
     for crate in reversed([it for it in in_order(TOP) if it in needed]):
-        found[crate] = size[crate] + max((found[it] for it in above[crate]), default=0)
+        files = (file for part in PARTS for file in (TOP / "crates" / crate / part).rglob("*.*"))
+        above = [distance for it, distance in found.items() if crate in uses(TOP)[it]]
+        found[crate] = sum(it.stat().st_size for it in files) + max(above, default=0)
     return found
 
 

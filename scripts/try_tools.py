@@ -3,8 +3,8 @@
 
 usage: try_tools.py
 
-With no TOOL in the environment it runs an example of each program. With TOOL (pegi or abnfi) and GRAMMAR, a file, it runs
-that program on that grammar and on the file INPUT, or on standard input if INPUT is not set. OPTIONS are further
+With no TOOL in the environment it runs an example of each program. With TOOL (pegi or abnfi) and GRAMMAR, a file, it
+runs that program on that grammar and on the file INPUT, or on standard input if INPUT is not set. OPTIONS are further
 arguments of the program. The status is that of the program. RT names the command, `rt` if not set.
 """
 import os
@@ -34,7 +34,8 @@ class Trial:
         self.out, self.err = tempfile.TemporaryFile(), tempfile.TemporaryFile()
         words = ["try", "--data", f"grammar={pathlib.Path(grammar).resolve()}", "--", *options, "grammar"]
         with open(given, "rb") if given else os.fdopen(os.dup(0), "rb") as text:
-            self.run = subprocess.Popen([*RT, *words], cwd=TOP / "crates" / tool, stdin=text, stdout=self.out, stderr=self.err)
+            self.run = subprocess.Popen([*RT, *words], cwd=TOP / "crates" / tool, stdin=text, stdout=self.out,
+                                        stderr=self.err)
 
     def show(self):
         """Waits for the end, shows what the program wrote, and returns its status."""
@@ -54,7 +55,8 @@ def asked():
     """Returns the runs that are asked for, or ends the script with what is wrong with the words."""
     tool, grammar = os.environ.get("TOOL"), os.environ.get("GRAMMAR")
     if not tool and not grammar:
-        return [(tool, TOP / grammar, TOP / given, options) for tool, grammar, given, options in EXAMPLES]
+        os.chdir(TOP)
+        return EXAMPLES
     if tool not in TOOLS or not grammar:
         sys.exit("usage: make try TOOL=pegi|abnfi GRAMMAR=file [INPUT=file] [OPTIONS='..']")
     given = os.environ.get("INPUT", "")
@@ -67,10 +69,10 @@ def asked():
 def main():
     runs = asked()
     print("Not proved yet: make proves it. This takes about a minute ..", flush=True)
-    trials = [Trial(tool, os.path.relpath(grammar), given and os.path.relpath(given), options) for tool, grammar, given, options in runs]
+    trials = [Trial(*it) for it in runs]
     statuses = [it.show() for it in trials]
     print("\nNot proved yet: make proves it.", flush=True)
-    # The first examples end with 0 and 1: some line of the second is `no`.
+    # (some line of the second example is `no`, so its status says nothing)
     return statuses[0] if len(statuses) == 1 else 0
 
 
