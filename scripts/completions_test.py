@@ -5,8 +5,8 @@ offers what it should.
 usage: completions_test.py [--terminals]
 
 It needs both programs in bin/. A shell that is not installed is skipped, and the script says so. bash runs the function
-that it would run at the tab key, and fish tells what it would offer. With --terminals bash and zsh also run on terminals
-of their own, where the tab key is pressed; a busy machine may then answer too late.
+that it would run at the tab key, and fish tells what it would offer. With --terminals bash and zsh run on a terminal
+of their own too, where the tab key is pressed; a busy machine may then answer too late.
 """
 import os
 import pathlib

@@ -1,6 +1,6 @@
 #!/usr/bin/env python3
 """Tests what package.py packs, each in a folder of its own: the archive is unpacked, and its sums are right; the
-package is installed, and removed again. What is installed runs the examples of its manual pages and its folders of examples.
+package is installed, and removed again. What is installed runs the examples of its manual pages and of its examples/.
 
 usage: package_test.py
 
