@@ -12,7 +12,7 @@ use std::alloc::Global;
 use toolrun::{Settings, Status, run_tool};
 
 /// Judges the lines that a reader gives by a grammar: writes the answer to each on `out`, and why it stopped on `err`.
-/// None of the three may have failed before.
+/// None of the three may have failed before, and the reader may not have told its end.
 ///
 /// - The grammar is in ABNF (RFC 5234, RFC 7405). One that has a fault is told by that fault's line, status `Refused`,
 ///   and nothing is read.
@@ -42,6 +42,7 @@ pub fn run_abnf<R: Source, O: Sink, E: Sink>(
     err: &mut E,
 ) -> Status
     requires reader_is_fresh { R.failed reader.old ≡ false }
+    requires reader_is_open { R.ended reader.old ≡ false }
     requires out_is_fresh { O.failed out.old ≡ false }
     requires err_is_fresh { E.failed err.old ≡ false }
     ensures right { IfSome (R.remaining reader.old) (λ given. (taken wrote told : List ℕ) ×

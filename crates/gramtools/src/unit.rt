@@ -198,9 +198,9 @@ pub fn next_unit<M: Matcher, R: Source, O: Sink>(
 ) -> Result<Step, WriteFault>
     requires capacity { capacity_of feed.old ≡ settings.now.limit + 1 }
     requires within { start + length (bytes_of feed.old) + allowance_of feed.old ≡ input_limit }
-    requires told { IsTrueOfReader R.remaining R.failed feed.old }
+    requires told { IsTrueOfReader R.remaining R.failed R.ended feed.old }
     ensures loan { SameLoan feed.old feed.new }
-    ensures told { IsTrueOfReader R.remaining R.failed feed.new }
+    ensures told { IsTrueOfReader R.remaining R.failed R.ended feed.new }
     ensures grows { Grows R.remaining feed.old feed.new }
     ensures follows { (before : List ℕ) (input : Input) → length before ≡ start → Agrees (before
         ++ bytes_of feed.new) (flow_of feed.new) input →
