@@ -37,6 +37,7 @@ pub fn answer_comments<R: Source, O: Sink>(
 ) -> Result<Stop, WriteFault>
     requires reader_is_fresh { R.failed reader.old ≡ false }
     requires reader_is_open { R.ended reader.old ≡ false }
+    requires out_is_fresh { O.failed out.old ≡ false }
     ensures { Performs (LinesReply IsCommentAnswer 65536)
         (passed R.remaining R.failed reader.old reader.new) (passed O.contents O.failed out.old out.new) result }
 {

@@ -99,6 +99,7 @@ fn next_step<W, J: Judge<W>, R: Source, O: Sink>(
     requires counted { at.count ≤ at.place }
     requires within { at.place ≤ input_limit }
     requires told { IsTrueOfReader R.remaining R.failed R.ended feed.old }
+    requires out_is_fresh { O.failed out.old ≡ false }
     ensures loan { SameLoan feed.old feed.new }
     ensures told { IsTrueOfReader R.remaining R.failed R.ended feed.new }
     ensures grows { Grows R.remaining feed.old feed.new }
@@ -134,6 +135,7 @@ fn answer_lines<W, J: Judge<W>, R: Source, O: Sink>(
     requires empty { bytes_of feed.old ≡ [] }
     requires allowance { allowance_of feed.old ≡ input_limit }
     requires told { IsTrueOfReader R.remaining R.failed R.ended feed.old }
+    requires out_is_fresh { O.failed out.old ≡ false }
     ensures loan { SameLoan feed.old feed.new }
     ensures told { IsTrueOfReader R.remaining R.failed R.ended feed.new }
     ensures lines { (seen : List ℕ) × Consumes (R.remaining (reader_of feed.old)) (R.remaining
@@ -189,6 +191,7 @@ pub fn run_lines<W, J: Judge<W>, R: Source, O: Sink>(
     requires served { limit ≤ J.served judge.now }
     requires reader_is_fresh { R.failed reader.old ≡ false }
     requires reader_is_open { R.ended reader.old ≡ false }
+    requires out_is_fresh { O.failed out.old ≡ false }
     ensures { Performs (LinesReply (J.told judge.now) limit)
         (passed R.remaining R.failed reader.old reader.new) (passed O.contents O.failed out.old out.new) result }
 {

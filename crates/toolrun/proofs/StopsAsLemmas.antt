@@ -6,7 +6,7 @@ use Rattle.std.proofs.lemmas.List.{append-nil}
 use Rattle.std.specs.Io.KnownBytes.{Appends, Consumes}
 use Rattle.ruletable.specs.Writing.{Flags}
 use Rattle.ruletable.specs.declared.sink.WriteFault.{WriteFault}
-use Rattle.ruletable.proofs.AppendsLemmas.{Appends-same, IsBeginning-trans, IsBeginning-nil}
+use Rattle.ruletable.proofs.AppendsLemmas.{Appends-same, IsProperBeginning-trans, IsBeginning-nil}
 use Rattle.feed.specs.Feed.{IsToldBy, input_limit}
 use Rattle.feed.specs.declared.held.Flow.{Flow}
 use Rattle.toolrun.specs.Agrees.{Agrees}
@@ -84,7 +84,7 @@ module _ {Point : Type 0} (Before : Input → Point → List ℕ → Type 0) (En
       record {
         stated = begins.reply;
         states = replied begins.reply begins.replies;
-        written = IsBeginning-trans part.0 text begins.reply.out part.1 begins.front;
+        written = IsProperBeginning-trans part.0 text begins.reply.out part.1 begins.front;
         within = begins.taken;
         exact = tt;
       },
