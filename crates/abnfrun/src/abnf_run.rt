@@ -30,8 +30,10 @@ use toolrun::{Settings, Status, run_tool};
 /// - A line of more than `limit` bytes is not answered: `line K longer than L bytes`, `Overlong`; K counts from 1.
 /// - After a fault of the reader a line is judged only if its LF was read: else `read error`, `Fault`. So is an input
 ///   of 9,223,372,036,854,775,807 bytes taken to end.
-/// - Where a writer fails, nothing more is written to it, a fault of `out` is told by `write error` on `err`, and the
-///   status is at least `Fault`. Writers that have not failed are flushed once at the end, `out` first.
+/// - Where a writer fails, nothing more is written to it, and the status is at least `Fault`. A fault of `out` is told
+///   by `write error` on `err`: right behind the notes, or behind all else where the flush of `out` failed. Where `err`
+///   fails in the notes, nothing is read, and nothing is written on `out`. Writers that have not failed are flushed once
+///   at the end, `out` first.
 /// - Where a growth is refused, the answers before stand whole: `out of memory`, `NoMemory`.
 pub fn run_abnf<R: Source, O: Sink, E: Sink>(
     alloc: Global,

@@ -106,7 +106,8 @@ pub(crate) fn replay_cells<W: Sink>(
     track: &mut Track,
     out: &mut W,
 ) -> Result<(), ReplayFault>
-    requires cells { (d : View) × ((events : List Event) × ((d.cells ≡ cells.now) × Holds d peg.now window.now events)) }
+    requires cells { (d : View) × ((events : List Event) × ((d.cells ≡ cells.now)
+        × Holds d peg.now window.now events)) }
     requires out_is_fresh { W.failed out.old ≡ false }
     ensures { (d : View) (events : List Event) → d.cells ≡ cells.now → Holds d peg.now window.now events →
         Replays (W.contents out.old) (W.contents out.new) (W.failed out.old) (W.failed out.new)

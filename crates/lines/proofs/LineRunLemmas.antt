@@ -91,8 +91,8 @@ module _ (Told : List ℕ → Answer → Type 0) (limit : ℕ) (decided : (line 
       → Flags out.was out.failed r →
       Performs (LinesReply Told limit) (passed remaining failed old final) out r
   lines_were_run remaining failed ended old now final out left flow r is told run flag =
-      run_performs (Lines Told limit) (Ends Told limit) (place_taken limit) goes_on remaining failed ended old now final out
-      left flow r is told run flag
+      run_performs (Lines Told limit) (Ends Told limit) (place_taken limit) goes_on remaining failed ended old now final
+      out left flow r is told run flag
 
   -- memory was refused before the first line
   pub no_line_was_run : (r0 s0 : Option (List ℕ)) (r_was r_failed o_was : Bool) →

@@ -148,8 +148,8 @@ agrees_of xs seen None failed ended left flow c count fed = absurd c
 agrees_of xs seen (Some rest) false ended left Open c count fed = given_agrees xs seen rest left Open c count
     (λ e. absurd (cc)) (λ e. absurd (cc))
 agrees_of xs seen (Some rest) true ended left Open c count fed = absurd (cc)
-agrees_of xs seen (Some rest) false ended left Ended c count (fine, told, end, some) = given_agrees xs seen rest left Ended c count
-    (λ e. (end, some)) (λ e. absurd (cc))
+agrees_of xs seen (Some rest) false ended left Ended c count (fine, told, end, some) =
+    given_agrees xs seen rest left Ended c count (λ e. (end, some)) (λ e. absurd (cc))
 agrees_of xs seen (Some rest) true ended left Ended c count (fine, told, end, some) = absurd (cc)
 agrees_of xs seen (Some rest) false ended left Broken c count (inl bad) = absurd (cc)
 agrees_of xs seen (Some rest) false ended left Broken c count (inr (fine, zero)) =
