@@ -51,7 +51,6 @@ impl<'a, R: Source> Feed<'a, R> {
         ensures allowance { allowance_of result ≡ input_limit }
         ensures flow { flow_of result ≡ Flow.Open }
         ensures loan { loan_of result ≡ reader.entry }
-        ensures told { IsTrueOfReader R.remaining R.failed R.ended result }
     {
         Feed {
             ring,

@@ -4,7 +4,7 @@ use Rattle.abnfprint.proofs.terminal.+digits.Goals as goal
 
 pub returns-then-value-lt16-clause-bytes : goal.returns-then-value-lt16-clause-bytes
 returns-then-value-lt16-clause-bytes g t c = rw (
-  upper-one c.args.value c.requires c.if-value-lt16.true,
+  upper-one c.args.value c.requires.some c.if-value-lt16.true,
   ← c.glyph.ensures,
 ) c.write_whole.ensures.bytes
 
