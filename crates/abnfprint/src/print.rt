@@ -1,5 +1,5 @@
 //! Writes a grammar's canonical text.
-ghost use Rattle.std.specs.Prelude.{◌≡◌, ◌≤◌, ◌++◌, ◌∷◌, ◌==◌, ℕ, cond, List, [], length};
+ghost use Rattle.std.specs.Prelude.{◌≡◌, ◌≤◌, ◌++◌, ◌∷◌, ◌==◌, ℕ, cond, List, [], length, false};
 ghost use Rattle.ruletable.specs.Writing.{Writes, Flags};
 ghost use Rattle.abnfread.specs.Element as element;
 ghost use Rattle.abnfread.specs.AbnfViews.{element_of, elements_of, rules_of};
@@ -15,6 +15,7 @@ use ruletable::{Sink, WriteFault, write_pieces, write_whole};
 // An element within another, in parentheses where it needs them.
 #[cycle(printing)]
 fn print_at<W: Sink>(e: &Elem, place: Place, w: &mut W) -> Result<(), WriteFault>
+    requires { W.failed w.old ≡ false }
     ensures bytes { Writes (W.contents w.old) (W.contents w.new)
         (canon.around (canon.wraps place (element_of e.now)) (canon.text_of (element_of e.now))) result }
     ensures flag { Flags (W.failed w.old) (W.failed w.new) result }
@@ -34,6 +35,7 @@ fn print_between<W: Sink>(
     behind: &[u8],
     w: &mut W,
 ) -> Result<(), WriteFault>
+    requires { W.failed w.old ≡ false }
     ensures bytes { Writes (W.contents w.old) (W.contents w.new)
         (before.now ++ (canon.text_of (element_of e.now) ++ behind.now)) result }
     ensures flag { Flags (W.failed w.old) (W.failed w.new) result }
@@ -56,6 +58,7 @@ fn print_repeated<W: Sink>(
     operand: &Elem,
     w: &mut W,
 ) -> Result<(), WriteFault>
+    requires { W.failed w.old ≡ false }
     ensures bytes { Writes (W.contents w.old) (W.contents w.new)
         (canon.text_of (element.Rep least most (element_of operand.now))) result }
     ensures flag { Flags (W.failed w.old) (W.failed w.new) result }
@@ -69,6 +72,7 @@ fn print_repeated<W: Sink>(
 // An element as a rule's body.
 #[cycle(printing)]
 fn print_elem<W: Sink>(e: &Elem, w: &mut W) -> Result<(), WriteFault>
+    requires { W.failed w.old ≡ false }
     ensures bytes { Writes (W.contents w.old) (W.contents w.new) (canon.text_of (element_of e.now)) result }
     ensures flag { Flags (W.failed w.old) (W.failed w.new) result }
 {
@@ -92,6 +96,7 @@ fn print_elem<W: Sink>(e: &Elem, w: &mut W) -> Result<(), WriteFault>
 // Members or alternatives, with a mark between each two.
 #[cycle(printing)]
 fn print_all<W: Sink>(es: &[Elem], place: Place, mark: &[u8], w: &mut W) -> Result<(), WriteFault>
+    requires { W.failed w.old ≡ false }
     ensures bytes { Writes (W.contents w.old) (W.contents w.new) (canon.joined place mark.now (elements_of es.now))
         result }
     ensures flag { Flags (W.failed w.old) (W.failed w.new) result }
@@ -111,6 +116,7 @@ fn print_all<W: Sink>(es: &[Elem], place: Place, mark: &[u8], w: &mut W) -> Resu
 
 // The mark before all but the first.
 fn print_mark<W: Sink>(i: usize, mark: &[u8], w: &mut W) -> Result<(), WriteFault>
+    requires { W.failed w.old ≡ false }
     ensures bytes { Writes (W.contents w.old) (W.contents w.new) (cond (i == 0) [] mark.now) result }
     ensures flag { Flags (W.failed w.old) (W.failed w.new) result }
 {
@@ -122,6 +128,7 @@ fn print_mark<W: Sink>(i: usize, mark: &[u8], w: &mut W) -> Result<(), WriteFaul
 
 // A definition: the name, ` = `, the body and LF.
 fn print_definition<W: Sink>(name: &[u8], body: &Elem, w: &mut W) -> Result<(), WriteFault>
+    requires { W.failed w.old ≡ false }
     ensures bytes { Writes (W.contents w.old) (W.contents w.new) (canon.definition_text name.now (element_of body.now))
         result }
     ensures flag { Flags (W.failed w.old) (W.failed w.new) result }
@@ -144,6 +151,7 @@ fn print_definition<W: Sink>(name: &[u8], body: &Elem, w: &mut W) -> Result<(), 
 /// as the same rules, but for their spans, and as nothing else. It takes no memory, and recurses no deeper than the
 /// elements.
 pub fn print_abnf<W: Sink>(abnf: &Abnf, w: &mut W) -> Result<(), WriteFault>
+    requires { W.failed w.old ≡ false }
     ensures bytes { Writes (W.contents w.old) (W.contents w.new) (canon.grammar_text (rules_of abnf.now.rules)) result }
     ensures flag { Flags (W.failed w.old) (W.failed w.new) result }
     ensures read_back { (source : List ℕ) → IsRead source abnf.now.rules abnf.now.redefined.items

@@ -1,5 +1,5 @@
 //! Writes texts and numbers.
-ghost use Rattle.std.specs.Prelude.{◌≡◌, ◌<◌, ◌++◌, ◌∷◌, ◌==◌, [], cond, true, Some, None};
+ghost use Rattle.std.specs.Prelude.{◌≡◌, ◌<◌, ◌++◌, ◌∷◌, ◌==◌, [], cond, true, Some, None, false};
 ghost use Rattle.std.specs.Fmt.{digit_glyph};
 ghost use Rattle.ruletable.specs.Writing.{Writes, Flags};
 ghost use Rattle.abnfread.specs.Element as element;
@@ -9,6 +9,7 @@ use ruletable::{Sink, WriteFault, write_number, write_pieces, write_whole};
 
 // A text in quotes, with `%s` before it if its case counts.
 pub(crate) fn print_text<W: Sink>(folds: bool, text: &[u8], w: &mut W) -> Result<(), WriteFault>
+    requires { W.failed w.old ≡ false }
     ensures bytes { Writes (W.contents w.old) (W.contents w.new) (canon.text_of (element.Text folds text.now)) result }
     ensures flag { Flags (W.failed w.old) (W.failed w.new) result }
 {
@@ -21,6 +22,7 @@ pub(crate) fn print_text<W: Sink>(folds: bool, text: &[u8], w: &mut W) -> Result
 
 // A text in angle brackets.
 pub(crate) fn print_prose<W: Sink>(text: &[u8], w: &mut W) -> Result<(), WriteFault>
+    requires { W.failed w.old ≡ false }
     ensures bytes { Writes (W.contents w.old) (W.contents w.new) (canon.text_of (element.Prose text.now)) result }
     ensures flag { Flags (W.failed w.old) (W.failed w.new) result }
 {
@@ -42,7 +44,8 @@ fn glyph(digit: u32) -> u8
 // Hexadecimal digits without leading zeros.
 #[cycle(digits)]
 fn print_digits<W: Sink>(value: u32, w: &mut W) -> Result<(), WriteFault>
-    requires { 0 < value }
+    requires some { 0 < value }
+    requires writer_is_fresh { W.failed w.old ≡ false }
     ensures bytes { Writes (W.contents w.old) (W.contents w.new) (canon.upper_digits value) result }
     ensures flag { Flags (W.failed w.old) (W.failed w.new) result }
 {
@@ -57,6 +60,7 @@ fn print_digits<W: Sink>(value: u32, w: &mut W) -> Result<(), WriteFault>
 
 // A value in hexadecimal digits, at least two.
 fn print_hexadecimal<W: Sink>(value: u32, w: &mut W) -> Result<(), WriteFault>
+    requires { W.failed w.old ≡ false }
     ensures bytes { Writes (W.contents w.old) (W.contents w.new) (canon.hexadecimal value) result }
     ensures flag { Flags (W.failed w.old) (W.failed w.new) result }
 {
@@ -68,6 +72,7 @@ fn print_hexadecimal<W: Sink>(value: u32, w: &mut W) -> Result<(), WriteFault>
 
 // The sign of a base, or of a further value, and a value.
 fn print_marked<W: Sink>(mark: &[u8], value: u32, w: &mut W) -> Result<(), WriteFault>
+    requires { W.failed w.old ≡ false }
     ensures bytes { Writes (W.contents w.old) (W.contents w.new) (mark.now ++ canon.hexadecimal value) result }
     ensures flag { Flags (W.failed w.old) (W.failed w.new) result }
 {
@@ -86,6 +91,7 @@ fn dot_at(i: usize) -> &'static [u8]
 
 // Values, with dots between.
 pub(crate) fn print_values<W: Sink>(values: &[u32], w: &mut W) -> Result<(), WriteFault>
+    requires { W.failed w.old ≡ false }
     ensures bytes { Writes (W.contents w.old) (W.contents w.new) (canon.text_of (element.Values values.now)) result }
     ensures flag { Flags (W.failed w.old) (W.failed w.new) result }
 {
@@ -104,6 +110,7 @@ pub(crate) fn print_values<W: Sink>(values: &[u32], w: &mut W) -> Result<(), Wri
 
 // The ends of a range.
 pub(crate) fn print_range<W: Sink>(low: u32, high: u32, w: &mut W) -> Result<(), WriteFault>
+    requires { W.failed w.old ≡ false }
     ensures bytes { Writes (W.contents w.old) (W.contents w.new) (canon.text_of (element.Range low high)) result }
     ensures flag { Flags (W.failed w.old) (W.failed w.new) result }
 {
@@ -115,6 +122,7 @@ pub(crate) fn print_range<W: Sink>(low: u32, high: u32, w: &mut W) -> Result<(),
 
 // A number before the star, but for 0.
 fn print_least<W: Sink>(least: u32, w: &mut W) -> Result<(), WriteFault>
+    requires { W.failed w.old ≡ false }
     ensures bytes { Writes (W.contents w.old) (W.contents w.new) (canon.least_text least) result }
     ensures flag { Flags (W.failed w.old) (W.failed w.new) result }
 {
@@ -126,6 +134,7 @@ fn print_least<W: Sink>(least: u32, w: &mut W) -> Result<(), WriteFault>
 
 // A number before the star, but for 0, and the star.
 fn print_star<W: Sink>(least: u32, w: &mut W) -> Result<(), WriteFault>
+    requires { W.failed w.old ≡ false }
     ensures bytes { Writes (W.contents w.old) (W.contents w.new) (canon.repeat_text least None) result }
     ensures flag { Flags (W.failed w.old) (W.failed w.new) result }
 {
@@ -137,6 +146,7 @@ fn print_star<W: Sink>(least: u32, w: &mut W) -> Result<(), WriteFault>
 
 // One number if both are the same, else each on its side of the star.
 fn print_bounds<W: Sink>(least: u32, most: u32, w: &mut W) -> Result<(), WriteFault>
+    requires { W.failed w.old ≡ false }
     ensures bytes { Writes (W.contents w.old) (W.contents w.new) (canon.repeat_text least (Some most)) result }
     ensures flag { Flags (W.failed w.old) (W.failed w.new) result }
 {
@@ -155,6 +165,7 @@ pub(crate) fn print_repeat<W: Sink>(
     most: Option<u32>,
     w: &mut W,
 ) -> Result<(), WriteFault>
+    requires { W.failed w.old ≡ false }
     ensures bytes { Writes (W.contents w.old) (W.contents w.new) (canon.repeat_text least most) result }
     ensures flag { Flags (W.failed w.old) (W.failed w.new) result }
 {

@@ -1,5 +1,5 @@
 //! A grammar that is read to be printed in its canonical form.
-ghost use Rattle.std.specs.Prelude.{map, IfOk, IfErr};
+ghost use Rattle.std.specs.Prelude.{◌≡◌, map, IfOk, IfErr, false};
 ghost use Rattle.ruletable.specs.Notes.{said_of};
 ghost use Rattle.ruletable.specs.Writing.{Flags};
 ghost use Rattle.abnfread.specs.AbnfReading.{IsFaultOf};
@@ -48,6 +48,7 @@ pub fn read_again(alloc: Global, grammar: &[u8]) -> Result<Printable, ReadFault>
 
 /// Writes the canonical text.
 pub fn print_rules<O: Sink>(abnf: &Abnf, out: &mut O) -> Result<Stop, WriteFault>
+    requires { O.failed out.old ≡ false }
     ensures prints { Prints (O.contents out.old) (O.contents out.new) (grammar_text (rules_of abnf.now.rules)) result }
     ensures flag { Flags (O.failed out.old) (O.failed out.new) result }
 {

@@ -12,7 +12,7 @@ use std::alloc::Global;
 use toolrun::{Settings, Status, run_tool};
 
 /// Judges the lines that a reader gives by a grammar: writes the answer to each on `out`, and why it stopped on `err`.
-/// None of the three may have failed before.
+/// None of the three may have failed before, and the reader may not have told its end.
 ///
 /// - The grammar is in ABNF (RFC 5234, RFC 7405). One that has a fault is told by that fault's line, status `Refused`,
 ///   and nothing is read.
@@ -30,8 +30,10 @@ use toolrun::{Settings, Status, run_tool};
 /// - A line of more than `limit` bytes is not answered: `line K longer than L bytes`, `Overlong`; K counts from 1.
 /// - After a fault of the reader a line is judged only if its LF was read: else `read error`, `Fault`. So is an input
 ///   of 9,223,372,036,854,775,807 bytes taken to end.
-/// - Where a writer fails, nothing more is written to it, a fault of `out` is told by `write error` on `err`, and the
-///   status is at least `Fault`. Writers that have not failed are flushed once at the end, `out` first.
+/// - Where a writer fails, nothing more is written to it, and the status is at least `Fault`. A fault of `out` is told
+///   by `write error` on `err`: right behind the notes, or behind all else where the flush of `out` failed. Where `err`
+///   fails in the notes, nothing is read, and nothing is written on `out`. Writers that have not failed are flushed once
+///   at the end, `out` first.
 /// - Where a growth is refused, the answers before stand whole: `out of memory`, `NoMemory`.
 pub fn run_abnf<R: Source, O: Sink, E: Sink>(
     alloc: Global,
@@ -42,6 +44,7 @@ pub fn run_abnf<R: Source, O: Sink, E: Sink>(
     err: &mut E,
 ) -> Status
     requires reader_is_fresh { R.failed reader.old ≡ false }
+    requires reader_is_open { R.ended reader.old ≡ false }
     requires out_is_fresh { O.failed out.old ≡ false }
     requires err_is_fresh { E.failed err.old ≡ false }
     ensures right { IfSome (R.remaining reader.old) (λ given. (taken wrote told : List ℕ) ×

@@ -176,6 +176,8 @@ pub fn judge_lines<R: Source, O: Sink>(
     out: &mut O,
 ) -> Result<Stop, WriteFault>
     requires reader_is_fresh { R.failed reader.old ≡ false }
+    requires reader_is_open { R.ended reader.old ≡ false }
+    requires out_is_fresh { O.failed out.old ≡ false }
     ensures { Performs (JudgeReply (rules_of grammar.now.rules) grammar.now.judged settings.now)
         (passed R.remaining R.failed reader.old reader.new) (passed O.contents O.failed out.old out.new) result }
 {

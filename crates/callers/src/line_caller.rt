@@ -35,7 +35,9 @@ pub fn answer_comments<R: Source, O: Sink>(
     reader: &mut R,
     out: &mut O,
 ) -> Result<Stop, WriteFault>
-    requires { R.failed reader.old ≡ false }
+    requires reader_is_fresh { R.failed reader.old ≡ false }
+    requires reader_is_open { R.ended reader.old ≡ false }
+    requires out_is_fresh { O.failed out.old ≡ false }
     ensures { Performs (LinesReply IsCommentAnswer 65536)
         (passed R.remaining R.failed reader.old reader.new) (passed O.contents O.failed out.old out.new) result }
 {

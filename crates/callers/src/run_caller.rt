@@ -16,6 +16,7 @@ use toolrun::{Settings, Status};
 #[derive(Drop)]
 struct Bytes<'a> {
     rest: &'a [u8],
+    ended: bool,
 }
 
 impl Source for Bytes<'_> {
@@ -23,10 +24,15 @@ impl Source for Bytes<'_> {
 
     ghost failed = { λ _. false };
 
+    ghost ended = { λ b. b.ended };
+
     fn read(&mut self, buffer: &mut [u8]) -> Result<usize, Broken> {
         let n = buffer.len().min(self.rest.len());
         buffer[..n].copy_from_slice(&self.rest[..n]);
         self.rest = &self.rest[n..];
+        if n == 0 && !buffer.is_empty() {
+            self.ended = true;
+        }
         Ok(n)
     }
 
@@ -48,7 +54,10 @@ pub fn peg_in_memory(alloc: Global, grammar: &[u8], settings: &Settings<'_>, inp
     ensures { IsMemoryRun (States grammar.now settings.now) input.now result.out.items result.err.items
         (code_of result.status) }
 {
-    let mut reader = Bytes { rest: input };
+    let mut reader = Bytes {
+        rest: input,
+        ended: false,
+    };
     let mut out = SinkOf::new(Vec::new(alloc));
     let mut err = SinkOf::new(Vec::new(alloc));
     let status = run_peg(alloc, grammar, settings, &mut reader, &mut out, &mut err);
@@ -64,7 +73,10 @@ pub fn abnf_in_memory(alloc: Global, grammar: &[u8], settings: &Settings<'_>, in
     ensures { IsMemoryRun (AbnfStates grammar.now settings.now) input.now result.out.items result.err.items
         (code_of result.status) }
 {
-    let mut reader = Bytes { rest: input };
+    let mut reader = Bytes {
+        rest: input,
+        ended: false,
+    };
     let mut out = SinkOf::new(Vec::new(alloc));
     let mut err = SinkOf::new(Vec::new(alloc));
     let status = run_abnf(alloc, grammar, settings, &mut reader, &mut out, &mut err);

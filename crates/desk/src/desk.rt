@@ -1,5 +1,6 @@
 //! The matcher that evaluates each node at each place at most once.
-ghost use Rattle.std.specs.Prelude.{◌≡◌, ℕ, ◌+◌, ◌*◌, ◌<◌, ◌≤◌, Bool, List, [], ◌∷◌, length, true, slice_get, Some};
+ghost use Rattle.std.specs.Prelude.{◌≡◌, ℕ, ◌+◌, ◌*◌, ◌<◌, ◌≤◌, Bool, List, [], ◌∷◌, length, true, false, slice_get};
+ghost use Rattle.std.specs.Prelude.{Some};
 ghost use Rattle.std.specs.Prelude.{IfOk, OnOk, OnErr, Err};
 ghost use Rattle.gramcheck.specs.Grammar.{Grammar, IsSoundGrammar};
 ghost use Rattle.gramcheck.specs.Nodes.{shapes_of};
@@ -244,7 +245,8 @@ impl Matcher for Desk {
         raw: bool,
         out: &mut W,
     ) -> Result<(), ReplayFault>
-        requires { HoldsSuccess peg.now window.now (Holds self.old peg.now window.now) }
+        requires success { HoldsSuccess peg.now window.now (Holds self.old peg.now window.now) }
+        requires out_is_fresh { W.failed out.old ≡ false }
         ensures text { (events : List Event) → Holds self.old peg.now window.now events →
             Replays (W.contents out.old) (W.contents out.new) (W.failed out.old) (W.failed out.new)
             (text_of raw window.now events) result }

@@ -1,5 +1,5 @@
 //! Writes what a success prints, from the cells.
-ghost use Rattle.std.specs.Prelude.{◌≡◌, ℕ, ◌≤◌, Bool, List, [], ◌∷◌, length, slice_get, Some};
+ghost use Rattle.std.specs.Prelude.{◌≡◌, ℕ, ◌≤◌, Bool, List, [], ◌∷◌, length, slice_get, Some, false};
 ghost use Rattle.pegread.specs.PegViews.{rules_of};
 ghost use Rattle.ruletable.specs.Writing.{Writes, Flags};
 ghost use Rattle.gramcheck.specs.Nodes.{shapes_of};
@@ -35,6 +35,7 @@ fn write_walk<W: Sink, const NEAR: bool>(
         (begun_at root 0 ∷ track.old.frames) all × Rise 0 (length window.now) all) }
     requires none { track.old.frames ≡ [] }
     requires room { length cells.now ≤ track.old.room }
+    requires out_is_fresh { W.failed out.old ≡ false }
     ensures bytes { (root : ℕ) (all : List Event) → slice_get peg.now.bodies peg.now.start ≡ Some root →
         Walks (rules_of peg.now.rules) (shapes_of peg.now.nodes) peg.now.bodies peg.now.ranks window.now cells.now
         (begun_at root 0 ∷ track.old.frames) all → Rise 0 (length window.now) all →
@@ -78,6 +79,7 @@ fn write_found<W: Sink>(
         (begun_at root 0 ∷ track.old.frames) all × Rise 0 (length window.now) all) }
     requires none { track.old.frames ≡ [] }
     requires room { length cells.now ≤ track.old.room }
+    requires out_is_fresh { W.failed out.old ≡ false }
     ensures bytes { (root : ℕ) (all : List Event) → slice_get peg.now.bodies peg.now.start ≡ Some root →
         Walks (rules_of peg.now.rules) (shapes_of peg.now.nodes) peg.now.bodies peg.now.ranks window.now cells.now
         (begun_at root 0 ∷ track.old.frames) all → Rise 0 (length window.now) all →
@@ -104,7 +106,9 @@ pub(crate) fn replay_cells<W: Sink>(
     track: &mut Track,
     out: &mut W,
 ) -> Result<(), ReplayFault>
-    requires { (d : View) × ((events : List Event) × ((d.cells ≡ cells.now) × Holds d peg.now window.now events)) }
+    requires cells { (d : View) × ((events : List Event) × ((d.cells ≡ cells.now)
+        × Holds d peg.now window.now events)) }
+    requires out_is_fresh { W.failed out.old ≡ false }
     ensures { (d : View) (events : List Event) → d.cells ≡ cells.now → Holds d peg.now window.now events →
         Replays (W.contents out.old) (W.contents out.new) (W.failed out.old) (W.failed out.new)
         (text_of raw window.now events) result }

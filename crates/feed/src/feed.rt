@@ -1,5 +1,5 @@
 //! A window that slides over a reader.
-ghost use Rattle.std.specs.Prelude.{◌≡◌, ℕ, List, ◌+◌, ◌<◌, ◌≤◌, [], ◌++◌, length, drop, IfOk};
+ghost use Rattle.std.specs.Prelude.{◌≡◌, ℕ, List, ◌+◌, ◌<◌, ◌≤◌, [], ◌++◌, length, drop, false, IfOk};
 ghost use Rattle.std.specs.Borrow.{sem};
 ghost use Rattle.std.specs.List.{refill};
 ghost use Rattle.circular_buffer.specs.Buffer.{buffer};
@@ -42,8 +42,10 @@ impl<'a, R: Source> Feed<'a, R> {
         }
     }
 
-    /// Makes a window over a reader of which nothing was read.
+    /// Makes a window over a reader that has neither failed nor told its end. Nothing is read.
     pub fn new(ring: HeapCircularBuffer<u8>, reader: &'a mut R) -> Feed<'a, R>
+        requires not_failed { R.failed reader.old ≡ false }
+        requires not_ended { R.ended reader.old ≡ false }
         ensures bytes { bytes_of result ≡ ring.items }
         ensures capacity { capacity_of result ≡ ring.capacity }
         ensures allowance { allowance_of result ≡ input_limit }
@@ -71,10 +73,11 @@ impl<'a, R: Source> Feed<'a, R> {
     fn pull(&mut self, buffer: &mut [u8])
         requires room { length (bytes_of self.old) < capacity_of self.old }
         requires open { flow_of self.old ≡ Flow.Open }
+        requires told { IsTrueOfReader R.remaining R.failed R.ended self.old }
         requires buffer { 0 < length buffer.old }
         ensures loan { SameLoan self.old self.new }
         ensures grows { Grows R.remaining self.old self.new }
-        ensures told { IsTrueOfReader R.remaining R.failed self.old → IsTrueOfReader R.remaining R.failed self.new }
+        ensures told { IsTrueOfReader R.remaining R.failed R.ended self.new }
         ensures goes { flow_of self.new ≡ Flow.Open → length (bytes_of self.old) < length (bytes_of self.new) }
     {
         let room = self.free();
@@ -99,9 +102,10 @@ impl<'a, R: Source> Feed<'a, R> {
     fn pull_few(&mut self)
         requires room { length (bytes_of self.old) < capacity_of self.old }
         requires open { flow_of self.old ≡ Flow.Open }
+        requires told { IsTrueOfReader R.remaining R.failed R.ended self.old }
         ensures loan { SameLoan self.old self.new }
         ensures grows { Grows R.remaining self.old self.new }
-        ensures told { IsTrueOfReader R.remaining R.failed self.old → IsTrueOfReader R.remaining R.failed self.new }
+        ensures told { IsTrueOfReader R.remaining R.failed R.ended self.new }
         ensures goes { flow_of self.new ≡ Flow.Open → length (bytes_of self.old) < length (bytes_of self.new) }
     {
         let mut few = [0u8; 32];
@@ -113,9 +117,10 @@ impl<'a, R: Source> Feed<'a, R> {
     fn pull_many(&mut self)
         requires room { length (bytes_of self.old) < capacity_of self.old }
         requires open { flow_of self.old ≡ Flow.Open }
+        requires told { IsTrueOfReader R.remaining R.failed R.ended self.old }
         ensures loan { SameLoan self.old self.new }
         ensures grows { Grows R.remaining self.old self.new }
-        ensures told { IsTrueOfReader R.remaining R.failed self.old → IsTrueOfReader R.remaining R.failed self.new }
+        ensures told { IsTrueOfReader R.remaining R.failed R.ended self.new }
         ensures goes { flow_of self.new ≡ Flow.Open → length (bytes_of self.old) < length (bytes_of self.new) }
     {
         let mut many = [0u8; 4096];
@@ -126,9 +131,10 @@ impl<'a, R: Source> Feed<'a, R> {
     /// there is room for, and for none after the end, a fault or the greatest length of an input.
     #[inline(always)]
     pub fn fill(&mut self) -> Held
+        requires { IsTrueOfReader R.remaining R.failed R.ended self.old }
         ensures loan { SameLoan self.old self.new }
         ensures grows { Grows R.remaining self.old self.new }
-        ensures told { IsTrueOfReader R.remaining R.failed self.old → IsTrueOfReader R.remaining R.failed self.new }
+        ensures told { IsTrueOfReader R.remaining R.failed R.ended self.new }
         ensures held { IsHeld self.new result }
         ensures within { length (bytes_of self.new) ≤ capacity_of self.new }
     {

@@ -1,6 +1,7 @@
 //! Readers.
 ghost use Rattle.std.specs.Prelude.{◌≡◌, ℕ, Option, ◌≤◌, Bool, false, List, length, IfOk};
 ghost use Rattle.std.specs.Io.KnownBytes.{ReadConsumes};
+ghost use Rattle.feed.specs.Ending.{TellsEnd};
 ghost use Rattle.ruletable.specs.Writing.{Flags};
 
 use std::io;
@@ -16,15 +17,21 @@ pub trait Source {
     /// The bytes still to come, where the inner reader tells them.
     ghost remaining: { Self → Option (List ℕ) };
 
-    /// Returns whether a call has failed.
+    /// Whether a call has failed.
     ghost failed: { Self → Bool };
 
+    /// Whether a call has told the end.
+    ghost ended: { Self → Bool };
+
     /// Puts the next bytes at the front of `buffer` and answers how many, or fails and takes nothing.
-    /// 0 into a buffer that is not empty says that none is to come.
+    /// 0 into a buffer that is not empty tells the end: none is to come. Nothing is asked behind a failure or the end.
     fn read(&mut self, buffer: &mut [u8]) -> Result<usize, Broken>
+        requires not_failed { failed self.old ≡ false }
+        requires not_ended { ended self.old ≡ false }
         ensures within { IfOk result (λ n. n ≤ length buffer.new) }
         ensures bytes { ReadConsumes (remaining self.old) (remaining self.new) result buffer.new }
-        ensures flag { Flags (failed self.old) (failed self.new) result };
+        ensures flag { Flags (failed self.old) (failed self.new) result }
+        ensures end { TellsEnd (ended self.old) (ended self.new) buffer.new result };
 
     /// Returns whether a call has failed.
     fn has_failed(&self) -> bool
@@ -36,17 +43,20 @@ pub trait Source {
 pub struct SourceOf<R> {
     inner: R,
     failed: bool,
+    ended: bool,
 }
 
 impl<R: io::Read> SourceOf<R> {
-    /// Returns a source that has not failed.
+    /// Returns a source that has neither failed nor told its end.
     pub fn new(inner: R) -> SourceOf<R>
         ensures remaining { ⟦<SourceOf<R> as Source>⟧.remaining result ≡ R.remaining inner }
         ensures failed { ⟦<SourceOf<R> as Source>⟧.failed result ≡ false }
+        ensures ended { ⟦<SourceOf<R> as Source>⟧.ended result ≡ false }
     {
         SourceOf {
             inner,
             failed: false,
+            ended: false,
         }
     }
 
@@ -54,7 +64,11 @@ impl<R: io::Read> SourceOf<R> {
     pub fn into_inner(self) -> R
         ensures { R.remaining result ≡ ⟦<SourceOf<R> as Source>⟧.remaining self }
     {
-        let SourceOf { inner, failed: _ } = self;
+        let SourceOf {
+            inner,
+            failed: _,
+            ended: _,
+        } = self;
         inner
     }
 }
@@ -64,10 +78,17 @@ impl<R: io::Read> Source for SourceOf<R> {
 
     ghost failed = { λ s. s.failed };
 
+    ghost ended = { λ s. s.ended };
+
     #[inline(always)]
     fn read(&mut self, buffer: &mut [u8]) -> Result<usize, Broken> {
         match self.inner.read(buffer) {
-            Ok(n) => Ok(n),
+            Ok(n) => {
+                if n == 0 && !buffer.is_empty() {
+                    self.ended = true;
+                }
+                Ok(n)
+            }
             Err(_) => {
                 self.failed = true;
                 Err(Broken)

@@ -31,9 +31,10 @@ pub fn cut<M: Matcher, R: Source, O: Sink>(
     requires capacity { capacity_of feed.old ≡ settings.now.limit + 1 }
     requires empty { bytes_of feed.old ≡ [] }
     requires allowance { allowance_of feed.old ≡ input_limit }
-    requires told { IsTrueOfReader R.remaining R.failed feed.old }
+    requires told { IsTrueOfReader R.remaining R.failed R.ended feed.old }
+    requires out_is_fresh { O.failed out.old ≡ false }
     ensures loan { SameLoan feed.old feed.new }
-    ensures told { IsTrueOfReader R.remaining R.failed feed.new }
+    ensures told { IsTrueOfReader R.remaining R.failed R.ended feed.new }
     ensures units { (seen : List ℕ) × Consumes (R.remaining (reader_of feed.old)) (R.remaining
         (reader_of feed.new)) seen ×
         (allowance_of feed.new + length seen ≡ input_limit) ×
@@ -64,7 +65,9 @@ pub fn run_units<M: Matcher, R: Source, O: Sink>(
     reader: &mut R,
     out: &mut O,
 ) -> Result<Stop, WriteFault>
-    requires { R.failed reader.old ≡ false }
+    requires reader_is_fresh { R.failed reader.old ≡ false }
+    requires reader_is_open { R.ended reader.old ≡ false }
+    requires out_is_fresh { O.failed out.old ≡ false }
     ensures { Performs (RunStates (rules_of peg.now.rules) peg.now.start settings.now)
         (passed R.remaining R.failed reader.old reader.new) (passed O.contents O.failed out.old out.new) result }
 {

@@ -1,5 +1,5 @@
 //! One unit at the front of what a feed holds.
-ghost use Rattle.std.specs.Prelude.{◌≡◌, ◌≢◌, ℕ, List, Bool, ◌≤◌, ◌<◌, ◌+◌, ◌++◌, Ok, length, true};
+ghost use Rattle.std.specs.Prelude.{◌≡◌, ◌≢◌, ℕ, List, Bool, ◌≤◌, ◌<◌, ◌+◌, ◌++◌, Ok, length, true, false};
 ghost use Rattle.std.specs.Io.KnownBytes.{Keeps};
 ghost use Rattle.ruletable.specs.Writing.{Flags};
 ghost use Rattle.feed.specs.Feed.{Grows, IsTrueOfReader, SameFeed, SameLoan, allowance_of, bytes_of, capacity_of};
@@ -46,7 +46,8 @@ fn print_unit<M: Matcher, O: Sink>(
     raw: bool,
     out: &mut O,
 ) -> Result<Attempt, WriteFault>
-    requires { more ≡ true → 0 < length window.now }
+    requires some { more ≡ true → 0 < length window.now }
+    requires out_is_fresh { O.failed out.old ≡ false }
     ensures answer { IsAttempt peg.now window.now more raw (O.contents out.old) (O.contents out.new) result }
     ensures flag { Flags (O.failed out.old) (O.failed out.new) result }
 {
@@ -103,6 +104,7 @@ fn attempt_front<M: Matcher, R: Source, O: Sink>(
     raw: bool,
     out: &mut O,
 ) -> Result<Attempt, WriteFault>
+    requires { O.failed out.old ≡ false }
     ensures answer { result ≢ Ok Attempt.TooLong → (more : Bool) →
         IsAttempt peg.now (bytes_of feed.now) more raw (O.contents out.old) (O.contents out.new) result }
     ensures kept { result ≡ Ok Attempt.TooLong → Keeps (O.contents out.old) (O.contents out.new) }
@@ -130,6 +132,7 @@ fn attempt_all<M: Matcher, R: Source, O: Sink>(
     out: &mut O,
 ) -> Result<Attempt, WriteFault>
     requires some { more ≡ true → 0 < length (bytes_of feed.old) }
+    requires out_is_fresh { O.failed out.old ≡ false }
     ensures same { SameFeed feed.old feed.new }
     ensures answer { IsAttempt peg.now (bytes_of feed.old) more raw (O.contents out.old) (O.contents out.new) result }
     ensures flag { Flags (O.failed out.old) (O.failed out.new) result }
@@ -150,6 +153,7 @@ fn attempt_unit<M: Matcher, R: Source, O: Sink>(
     out: &mut O,
 ) -> Result<Attempt, WriteFault>
     requires some { more ≡ true → 0 < length (bytes_of feed.old) }
+    requires out_is_fresh { O.failed out.old ≡ false }
     ensures same { SameFeed feed.old feed.new }
     ensures answer { IsAttempt peg.now (bytes_of feed.old) more raw (O.contents out.old) (O.contents out.new) result }
     ensures flag { Flags (O.failed out.old) (O.failed out.new) result }
@@ -176,6 +180,7 @@ fn unit_at<M: Matcher, R: Source, O: Sink>(
 ) -> Result<Step, WriteFault>
     requires some { more ≡ true → 0 < length (bytes_of feed.old) }
     requires within { start + length (bytes_of feed.old) ≤ input_limit }
+    requires out_is_fresh { O.failed out.old ≡ false }
     ensures same { SameFeed feed.old feed.new }
     ensures follows { IsStepOn peg.now (bytes_of feed.old) more settings.now start (O.contents out.old)
         (O.contents out.new) result }
@@ -198,9 +203,10 @@ pub fn next_unit<M: Matcher, R: Source, O: Sink>(
 ) -> Result<Step, WriteFault>
     requires capacity { capacity_of feed.old ≡ settings.now.limit + 1 }
     requires within { start + length (bytes_of feed.old) + allowance_of feed.old ≡ input_limit }
-    requires told { IsTrueOfReader R.remaining R.failed feed.old }
+    requires told { IsTrueOfReader R.remaining R.failed R.ended feed.old }
+    requires out_is_fresh { O.failed out.old ≡ false }
     ensures loan { SameLoan feed.old feed.new }
-    ensures told { IsTrueOfReader R.remaining R.failed feed.new }
+    ensures told { IsTrueOfReader R.remaining R.failed R.ended feed.new }
     ensures grows { Grows R.remaining feed.old feed.new }
     ensures follows { (before : List ℕ) (input : Input) → length before ≡ start → Agrees (before
         ++ bytes_of feed.new) (flow_of feed.new) input →

@@ -7,19 +7,26 @@ use gramcheck::{
     silent_leaves_no_event, some_outcome, some_outcome_of_ranked, some_outcome_of_start,
 };
 use pegread::read_peg;
-use ruletable::{SinkOf, write_note};
+use ruletable::{Note, SinkOf, WriteFault, write_note};
 use std::alloc::Global;
 use std::test::Fail;
+
+// These lines, and that of a note.
+fn with_line(lines: Vec<u8>, note: &Note) -> Result<Vec<u8>, WriteFault> {
+    let mut sink = SinkOf::new(lines);
+    write_note(note, &mut sink)?;
+    Ok(sink.into_inner())
+}
 
 // The lines of the notes on a grammar's text, and whether it is ready to run.
 fn noted(alloc: Global, text: &[u8], start: Option<&str>) -> Result<(Vec<u8>, bool), Fail> {
     let peg = read_peg(alloc, text)?;
     let checked = check_peg(alloc, peg, start)?;
-    let mut sink = SinkOf::new(Vec::new(alloc));
+    let mut lines = Vec::new(alloc);
     for note in checked.notes.iter() {
-        write_note(note, &mut sink)?;
+        lines = with_line(lines, note)?;
     }
-    Ok((sink.into_inner(), checked.sound.is_some()))
+    Ok((lines, checked.sound.is_some()))
 }
 
 // A grammar, the name of its start rule if one is given, the lines of the notes on it, and whether it is ready to run.
@@ -175,11 +182,11 @@ fn notes(rt: HostRuntime) -> Result<(), Fail> {
 fn lines_on_redefinitions(alloc: Global, text: &[u8]) -> Result<Vec<u8>, Fail> {
     let peg = read_peg(alloc, text)?;
     let notes = gramcheck::redefinitions(alloc, &peg)?;
-    let mut sink = SinkOf::new(Vec::new(alloc));
+    let mut lines = Vec::new(alloc);
     for note in notes.iter() {
-        write_note(note, &mut sink)?;
+        lines = with_line(lines, note)?;
     }
-    Ok(sink.into_inner())
+    Ok(lines)
 }
 
 // Grammars, and the notes on what they define again, whatever else there is to say of them.

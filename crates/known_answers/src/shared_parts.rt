@@ -36,10 +36,18 @@ fn a_failing_writer_keeps_a_beginning_and_sets_the_flag(rt: HostRuntime) {
     assert!(rt; sink.flush().is_err() && sink.has_failed());
 }
 
-static NOTES: [(NoteKind, &[u8]); 3] = [
-    (NoteKind::Loop, b"x_1"),
-    (NoteKind::ExtendedEarly, b"y-2"),
-    (NoteKind::Prose, b"Z-3"),
+static NOTES: [(NoteKind, &[u8], &[u8]); 3] = [
+    (
+        NoteKind::Loop,
+        b"x_1",
+        b"possible infinite loop in rule 'x_1'\n",
+    ),
+    (
+        NoteKind::ExtendedEarly,
+        b"y-2",
+        b"rule 'y-2' extended before it is defined\n",
+    ),
+    (NoteKind::Prose, b"Z-3", b"prose in rule 'Z-3'\n"),
 ];
 
 #[test]
@@ -47,14 +55,14 @@ fn writes_numbers_pieces_and_notes(rt: HostRuntime) -> Result<(), Fail> {
     let mut sink = SinkOf::new(Vec::new(rt.alloc()));
     write_number(1048577, &mut sink)?;
     write_pieces(&mut sink, &[b"a", b"", b"bcd"])?;
+    assert!(rt; sink.flush().is_ok() && !sink.has_failed());
+    assert!(rt; sink.into_inner().as_slice() == b"1048577abcd".as_slice());
     for row in &NOTES {
         let name = row.1.to_vec(rt.alloc())?;
+        let mut sink = SinkOf::new(Vec::new(rt.alloc()));
         write_note(&Note { kind: row.0, name }, &mut sink)?;
+        assert!(rt; sink.into_inner().as_slice() == row.2, "{:?}", row.2);
     }
-    assert!(rt; sink.flush().is_ok() && !sink.has_failed());
-    let want = b"1048577abcdpossible infinite loop in rule 'x_1'\n\
-        rule 'y-2' extended before it is defined\nprose in rule 'Z-3'\n";
-    assert!(rt; sink.into_inner().as_slice() == want.as_slice());
     Ok(())
 }
 

@@ -83,16 +83,16 @@ module _ (Told : List ℕ → Answer → Type 0) (limit : ℕ) (decided : (line 
   goes_on input at text lines = lines_go_on Told limit input decided at text lines
 
   -- the reader is given back as it was after the last line
-  pub lines_were_run : {R : Type 0} (remaining : R → Option (List ℕ)) (failed : R → Bool) (old now final : R)
+  pub lines_were_run : {R : Type 0} (remaining : R → Option (List ℕ)) (failed ended : R → Bool) (old now final : R)
       (out : Stream) (left : ℕ) (flow : Flow)
-      (r : Result Stop WriteFault) → final ≡ now → IsToldBy (remaining now) (failed now) left flow →
+      (r : Result Stop WriteFault) → final ≡ now → IsToldBy (remaining now) (failed now) (ended now) left flow →
       ((seen : List ℕ) × Consumes (remaining old) (remaining now) seen × (left + length seen ≡ input_limit) ×
       ((input : Input) → Agrees seen flow input → Runs Told limit input (length seen) out.old out.new r))
       → Flags out.was out.failed r →
       Performs (LinesReply Told limit) (passed remaining failed old final) out r
-  lines_were_run remaining failed old now final out left flow r is told run flag =
-      run_performs (Lines Told limit) (Ends Told limit) (place_taken limit) goes_on remaining failed old now final out
-      left flow r is told run flag
+  lines_were_run remaining failed ended old now final out left flow r is told run flag =
+      run_performs (Lines Told limit) (Ends Told limit) (place_taken limit) goes_on remaining failed ended old now final
+      out left flow r is told run flag
 
   -- memory was refused before the first line
   pub no_line_was_run : (r0 s0 : Option (List ℕ)) (r_was r_failed o_was : Bool) →

@@ -1,5 +1,5 @@
 //! The answer to one line.
-ghost use Rattle.std.specs.Prelude.{◌≡◌, ◌≤◌, ◌++◌, ℕ, List, codes, decimal, length, take, IfOk};
+ghost use Rattle.std.specs.Prelude.{◌≡◌, ◌≤◌, ◌++◌, ℕ, List, codes, decimal, length, take, IfOk, false};
 ghost use Rattle.feed.specs.Feed.{SameFeed, bytes_of};
 ghost use Rattle.ruletable.specs.Writing.{Flags, Writes};
 ghost use Rattle.lines.specs.InputLines.{answer_text};
@@ -60,6 +60,7 @@ fn judge_held<W, J: Judge<W>, R: Source>(
 
 /// Writes `no` and a number.
 fn write_no<O: Sink>(n: usize, out: &mut O) -> Result<(), WriteFault>
+    requires { O.failed out.old ≡ false }
     ensures bytes { Writes (O.contents out.old) (O.contents out.new) (codes "no " ++ decimal n ++ codes "\n") result }
     ensures flag { Flags (O.failed out.old) (O.failed out.new) result }
 {
@@ -71,6 +72,7 @@ fn write_no<O: Sink>(n: usize, out: &mut O) -> Result<(), WriteFault>
 
 /// Writes the line of an answer.
 fn write_answer<O: Sink>(said: Answer, out: &mut O) -> Result<(), WriteFault>
+    requires { O.failed out.old ≡ false }
     ensures bytes { Writes (O.contents out.old) (O.contents out.new) (answer_text said) result }
     ensures flag { Flags (O.failed out.old) (O.failed out.new) result }
 {
@@ -92,6 +94,7 @@ pub fn answer_held<W, J: Judge<W>, R: Source, O: Sink>(
 ) -> Result<Option<Answer>, WriteFault>
     requires held { n ≤ length (bytes_of feed.old) }
     requires served { n ≤ J.served judge.now }
+    requires out_is_fresh { O.failed out.old ≡ false }
     ensures same { SameFeed feed.old feed.new }
     ensures answered { Answered (J.told judge.now (take n (bytes_of feed.old))) (O.contents out.old)
         (O.contents out.new) result }

@@ -36,9 +36,10 @@ fn without_lf(held: Held, len: usize) -> Line
 /// Reads until the window is full, the input ends or a read fails, and returns what stands at its front. The window has
 /// room for one byte more than a line may have; a line that is returned has fewer bytes than there is room for.
 pub fn next_line<R: Source>(feed: &mut Feed<'_, R>) -> Line
+    requires { IsTrueOfReader R.remaining R.failed R.ended feed.old }
     ensures loan { SameLoan feed.old feed.new }
     ensures grows { Grows R.remaining feed.old feed.new }
-    ensures told { IsTrueOfReader R.remaining R.failed feed.old → IsTrueOfReader R.remaining R.failed feed.new }
+    ensures told { IsTrueOfReader R.remaining R.failed R.ended feed.new }
     ensures follows { (limit : ℕ) (before : List ℕ) (input : Input) → capacity_of feed.new ≡ limit + 1 →
         Agrees (before ++ bytes_of feed.new) (flow_of feed.new) input →
         IsNext limit input (length before) result × (length (before ++ bytes_of feed.new) ≡ taken_at limit input

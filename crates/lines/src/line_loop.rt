@@ -98,9 +98,10 @@ fn next_step<W, J: Judge<W>, R: Source, O: Sink>(
     requires capacity { capacity_of feed.old ≡ limit + 1 }
     requires counted { at.count ≤ at.place }
     requires within { at.place ≤ input_limit }
-    requires told { IsTrueOfReader R.remaining R.failed feed.old }
+    requires told { IsTrueOfReader R.remaining R.failed R.ended feed.old }
+    requires out_is_fresh { O.failed out.old ≡ false }
     ensures loan { SameLoan feed.old feed.new }
-    ensures told { IsTrueOfReader R.remaining R.failed feed.new }
+    ensures told { IsTrueOfReader R.remaining R.failed R.ended feed.new }
     ensures grows { Grows R.remaining feed.old feed.new }
     ensures follows { (before : List ℕ) (input : Input) → length before ≡ at.place → Agrees (before
         ++ bytes_of feed.new) (flow_of feed.new) input →
@@ -133,9 +134,10 @@ fn answer_lines<W, J: Judge<W>, R: Source, O: Sink>(
     requires capacity { capacity_of feed.old ≡ limit + 1 }
     requires empty { bytes_of feed.old ≡ [] }
     requires allowance { allowance_of feed.old ≡ input_limit }
-    requires told { IsTrueOfReader R.remaining R.failed feed.old }
+    requires told { IsTrueOfReader R.remaining R.failed R.ended feed.old }
+    requires out_is_fresh { O.failed out.old ≡ false }
     ensures loan { SameLoan feed.old feed.new }
-    ensures told { IsTrueOfReader R.remaining R.failed feed.new }
+    ensures told { IsTrueOfReader R.remaining R.failed R.ended feed.new }
     ensures lines { (seen : List ℕ) × Consumes (R.remaining (reader_of feed.old)) (R.remaining
         (reader_of feed.new)) seen ×
         (allowance_of feed.new + length seen ≡ input_limit) ×
@@ -168,7 +170,7 @@ fn answer_lines<W, J: Judge<W>, R: Source, O: Sink>(
 }
 
 /// Judges the lines of what a reader gives, and writes the answer to each: `yes`, `no`, or `no` and a number. The
-/// reader may not have failed before, and the judge must serve lines of `limit` bytes.
+/// reader may neither have failed nor have told its end before, and the judge must serve lines of `limit` bytes.
 ///
 /// - A line ends before an LF, and a last piece without LF is a line if it is not empty. A CR belongs to its line.
 /// - The first line of more than `limit` bytes ends the run: `LongLine` with its number from 1 and the limit. So it is
@@ -188,6 +190,8 @@ pub fn run_lines<W, J: Judge<W>, R: Source, O: Sink>(
     requires small { limit ≤ MAX_LIMIT }
     requires served { limit ≤ J.served judge.now }
     requires reader_is_fresh { R.failed reader.old ≡ false }
+    requires reader_is_open { R.ended reader.old ≡ false }
+    requires out_is_fresh { O.failed out.old ≡ false }
     ensures { Performs (LinesReply (J.told judge.now) limit)
         (passed R.remaining R.failed reader.old reader.new) (passed O.contents O.failed out.old out.new) result }
 {

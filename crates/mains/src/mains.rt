@@ -34,6 +34,7 @@ pub fn pegi_main<R: Files + AllocGlobal, I: Source, O: Sink, E: Sink>(
     err: &mut E,
 ) -> Status
     requires reader_is_fresh { I.failed reader.old ≡ false }
+    requires reader_is_open { I.ended reader.old ≡ false }
     requires out_is_fresh { O.failed out.old ≡ false }
     requires err_is_fresh { E.failed err.old ≡ false }
     ensures words { (app : _) × IsAppOf Program.Pegi app × Answers (fault_of app (map string_bytes words.now))
@@ -72,6 +73,7 @@ pub fn abnfi_main<R: Files + AllocGlobal, I: Source, O: Sink, E: Sink>(
     err: &mut E,
 ) -> Status
     requires reader_is_fresh { I.failed reader.old ≡ false }
+    requires reader_is_open { I.ended reader.old ≡ false }
     requires out_is_fresh { O.failed out.old ≡ false }
     requires err_is_fresh { E.failed err.old ≡ false }
     ensures words { (app : _) × IsAppOf Program.Abnfi app × Answers (fault_of app (map string_bytes words.now))

@@ -1,5 +1,5 @@
 //! What a matcher owes.
-ghost use Rattle.std.specs.Prelude.{◌≡◌, ℕ, ◌<◌, List, length, true, IfOk};
+ghost use Rattle.std.specs.Prelude.{◌≡◌, ℕ, ◌<◌, List, length, true, IfOk, false};
 ghost use Rattle.gramcheck.specs.Grammar.{Grammar};
 ghost use Rattle.gramcheck.specs.Outcome.{Event};
 ghost use Rattle.pegmatch.specs.Answers.{IsAnswer, HoldsSuccess, Replays};
@@ -61,7 +61,8 @@ pub trait Matcher {
         raw: bool,
         out: &mut W,
     ) -> Result<(), ReplayFault>
-        requires { HoldsSuccess peg.now window.now (holds self.old peg.now window.now) }
+        requires success { HoldsSuccess peg.now window.now (holds self.old peg.now window.now) }
+        requires out_is_fresh { W.failed out.old ≡ false }
         ensures { (events : List Event) → holds self.old peg.now window.now events →
             Replays (W.contents out.old) (W.contents out.new) (W.failed out.old) (W.failed out.new)
             (text_of raw window.now events) result };

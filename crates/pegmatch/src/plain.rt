@@ -1,5 +1,5 @@
 //! The matcher by plain recursion.
-ghost use Rattle.std.specs.Prelude.{◌≡◌, ℕ, ◌<◌, List, [], length, true, IfOk};
+ghost use Rattle.std.specs.Prelude.{◌≡◌, ℕ, ◌<◌, List, [], length, true, IfOk, false};
 ghost use Rattle.gramcheck.specs.Outcome.{Event};
 ghost use Rattle.gramcheck.specs.Nodes.{shapes_of};
 ghost use Rattle.pegmatch.specs.Answers.{IsAnswer, HoldsSuccess, Replays};
@@ -92,7 +92,8 @@ impl Matcher for Plain {
         raw: bool,
         out: &mut W,
     ) -> Result<(), ReplayFault>
-        requires { HoldsSuccess peg.now window.now (StandFor (shapes_of peg.now.nodes) self.old) }
+        requires success { HoldsSuccess peg.now window.now (StandFor (shapes_of peg.now.nodes) self.old) }
+        requires out_is_fresh { W.failed out.old ≡ false }
         ensures text { (events : List Event) → StandFor (shapes_of peg.now.nodes) self.old events →
             Replays (W.contents out.old) (W.contents out.new) (W.failed out.old) (W.failed out.new)
             (text_of raw window.now events) result }

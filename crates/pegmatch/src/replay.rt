@@ -1,5 +1,5 @@
 //! The text that a success prints.
-ghost use Rattle.std.specs.Prelude.{◌≡◌, ◌≤◌, ℕ, List, length};
+ghost use Rattle.std.specs.Prelude.{◌≡◌, ◌≤◌, ℕ, List, length, false};
 ghost use Rattle.gramcheck.specs.Nodes.{shapes_of};
 ghost use Rattle.gramcheck.specs.Outcome.{Event};
 ghost use Rattle.gramcheck.specs.Rising.{Rise};
@@ -20,8 +20,9 @@ pub(crate) fn write_events<W: Sink>(
     raw: bool,
     out: &mut W,
 ) -> Result<(), WriteFault>
-    requires { (meant : List Event) × StandFor (shapes_of peg.now.nodes) events.now meant
+    requires stands { (meant : List Event) × StandFor (shapes_of peg.now.nodes) events.now meant
         × Rise 0 (length window.now) meant }
+    requires out_is_fresh { W.failed out.old ≡ false }
     ensures bytes { (meant : List Event) → StandFor (shapes_of peg.now.nodes) events.now meant → Rise 0 (length
         window.now) meant →
         Writes (W.contents out.old) (W.contents out.new) (text_of raw window.now meant) result }

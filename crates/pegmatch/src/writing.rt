@@ -1,5 +1,5 @@
 //! Writes what an action prints, as its template is cut.
-ghost use Rattle.std.specs.Prelude.{◌≡◌, ◌≤◌, ◌++◌, length, slice_range};
+ghost use Rattle.std.specs.Prelude.{◌≡◌, ◌≤◌, ◌++◌, length, slice_range, false};
 ghost use Rattle.gramcheck.specs.Nodes.{shapes_of};
 ghost use Rattle.gramcheck.specs.Outcome.{Event};
 ghost use Rattle.gramcheck.specs.Slots.{put_text, put_in, AreSlots, IsCut};
@@ -15,6 +15,7 @@ use ruletable::{Sink, WriteFault, write_whole};
 
 // Writes bytes, if there are any.
 fn write_some<W: Sink>(out: &mut W, bytes: &[u8]) -> Result<(), WriteFault>
+    requires { W.failed out.old ≡ false }
     ensures bytes { Writes (W.contents out.old) (W.contents out.new) bytes.now result }
     ensures flag { Flags (W.failed out.old) (W.failed out.new) result }
 {
@@ -26,6 +27,7 @@ fn write_some<W: Sink>(out: &mut W, bytes: &[u8]) -> Result<(), WriteFault>
 
 // Writes what is put in a slot.
 fn write_put<W: Sink>(out: &mut W, put: Put, capture: &[u8]) -> Result<(), WriteFault>
+    requires { W.failed out.old ≡ false }
     ensures bytes { Writes (W.contents out.old) (W.contents out.new) (put_text capture.now put) result }
     ensures flag { Flags (W.failed out.old) (W.failed out.new) result }
 {
@@ -45,6 +47,7 @@ fn write_slot<W: Sink>(
     put: Put,
     capture: &[u8],
 ) -> Result<(), WriteFault>
+    requires { W.failed out.old ≡ false }
     ensures bytes { Writes (W.contents out.old) (W.contents out.new) (before.now ++ put_text capture.now put) result }
     ensures flag { Flags (W.failed out.old) (W.failed out.new) result }
 {
@@ -65,6 +68,7 @@ fn write_slots<W: Sink>(
 ) -> Result<(), WriteFault>
     requires order { AreSlots from slots.now to }
     requires within { to ≤ length text.now }
+    requires out_is_fresh { W.failed out.old ≡ false }
     ensures bytes { Writes (W.contents out.old) (W.contents out.new)
         (put_in text.now capture.now from slots.now to) result }
     ensures flag { Flags (W.failed out.old) (W.failed out.new) result }
@@ -87,7 +91,8 @@ fn write_action<W: Sink>(
     cut: &Template,
     capture: &[u8],
 ) -> Result<(), WriteFault>
-    requires { IsCut text.now cut.now }
+    requires cut { IsCut text.now cut.now }
+    requires out_is_fresh { W.failed out.old ≡ false }
     ensures bytes { Writes (W.contents out.old) (W.contents out.new) (printed raw text.now capture.now) result }
     ensures flag { Flags (W.failed out.old) (W.failed out.new) result }
 {
@@ -150,6 +155,7 @@ fn write_acted<W: Sink>(
     requires order { capture.from ≤ capture.to }
     requires within { capture.to ≤ length window.now }
     requires stands { (e : Event) × StandsFor (shapes_of peg.now.nodes) event e }
+    requires out_is_fresh { W.failed out.old ≡ false }
     ensures bytes { (e : Event) → StandsFor (shapes_of peg.now.nodes) event e →
         Writes (W.contents out.old) (W.contents out.new)
         (event_text raw e (slice_range window.now capture.from capture.to)) result }
@@ -183,6 +189,7 @@ pub fn write_event<W: Sink>(
     requires order { capture.from ≤ capture.to }
     requires within { capture.to ≤ length window.now }
     requires stands { (e : Event) × StandsFor (shapes_of peg.now.nodes) event e }
+    requires out_is_fresh { W.failed out.old ≡ false }
     ensures bytes { (e : Event) → StandsFor (shapes_of peg.now.nodes) event e →
         Writes (W.contents out.old) (W.contents out.new)
         (event_text raw e (slice_range window.now capture.from capture.to)) result }

@@ -1,5 +1,5 @@
 //! Writes a grammar's canonical text.
-ghost use Rattle.std.specs.Prelude.{◌≡◌, ◌≤◌, ◌++◌, ◌==◌, ℕ, cond, List, [], length};
+ghost use Rattle.std.specs.Prelude.{◌≡◌, ◌≤◌, ◌++◌, ◌==◌, ℕ, cond, List, [], length, false};
 ghost use Rattle.ruletable.specs.Writing.{Writes, Flags};
 ghost use Rattle.pegread.specs.Brackets.{wraps, around};
 ghost use Rattle.pegread.specs.Canon as canon;
@@ -15,6 +15,7 @@ use ruletable::{Sink, WriteFault, write_pieces, write_whole};
 // An expression within another, in parentheses where it needs them.
 #[cycle(printing)]
 fn print_at<W: Sink>(e: &Expr, place: Place, w: &mut W) -> Result<(), WriteFault>
+    requires { W.failed w.old ≡ false }
     ensures bytes { Writes (W.contents w.old) (W.contents w.new)
         (around (wraps place (pattern_of e.now)) (canon.text_of (pattern_of e.now))) result }
     ensures flag { Flags (W.failed w.old) (W.failed w.new) result }
@@ -35,6 +36,7 @@ fn print_at<W: Sink>(e: &Expr, place: Place, w: &mut W) -> Result<(), WriteFault
 // An operand and its suffix.
 #[cycle(printing)]
 fn print_suffixed<W: Sink>(operand: &Expr, mark: &[u8], w: &mut W) -> Result<(), WriteFault>
+    requires { W.failed w.old ≡ false }
     ensures bytes { Writes (W.contents w.old) (W.contents w.new)
         (around (wraps Place.OfSuffix (pattern_of operand.now)) (canon.text_of (pattern_of operand.now)) ++ mark.now)
         result }
@@ -54,6 +56,7 @@ fn print_prefixed<W: Sink>(
     place: Place,
     w: &mut W,
 ) -> Result<(), WriteFault>
+    requires { W.failed w.old ≡ false }
     ensures bytes { Writes (W.contents w.old) (W.contents w.new)
         (mark.now ++ around (wraps place (pattern_of operand.now)) (canon.text_of (pattern_of operand.now))) result }
     ensures flag { Flags (W.failed w.old) (W.failed w.new) result }
@@ -67,6 +70,7 @@ fn print_prefixed<W: Sink>(
 // An expression as a rule's body.
 #[cycle(printing)]
 fn print_expr<W: Sink>(e: &Expr, w: &mut W) -> Result<(), WriteFault>
+    requires { W.failed w.old ≡ false }
     ensures bytes { Writes (W.contents w.old) (W.contents w.new) (canon.text_of (pattern_of e.now)) result }
     ensures flag { Flags (W.failed w.old) (W.failed w.new) result }
 {
@@ -91,6 +95,7 @@ fn print_expr<W: Sink>(e: &Expr, w: &mut W) -> Result<(), WriteFault>
 // Members or alternatives, with a mark between each two.
 #[cycle(printing)]
 fn print_all<W: Sink>(es: &[Expr], place: Place, mark: &[u8], w: &mut W) -> Result<(), WriteFault>
+    requires { W.failed w.old ≡ false }
     ensures bytes { Writes (W.contents w.old) (W.contents w.new) (canon.joined place mark.now (patterns_of es.now))
         result }
     ensures flag { Flags (W.failed w.old) (W.failed w.new) result }
@@ -110,6 +115,7 @@ fn print_all<W: Sink>(es: &[Expr], place: Place, mark: &[u8], w: &mut W) -> Resu
 
 // The mark before all but the first.
 fn print_mark<W: Sink>(i: usize, mark: &[u8], w: &mut W) -> Result<(), WriteFault>
+    requires { W.failed w.old ≡ false }
     ensures bytes { Writes (W.contents w.old) (W.contents w.new) (cond (i == 0) [] mark.now) result }
     ensures flag { Flags (W.failed w.old) (W.failed w.new) result }
 {
@@ -121,6 +127,7 @@ fn print_mark<W: Sink>(i: usize, mark: &[u8], w: &mut W) -> Result<(), WriteFaul
 
 // A definition: the name, the arrow, the body and LF.
 fn print_definition<W: Sink>(name: &[u8], body: &Expr, w: &mut W) -> Result<(), WriteFault>
+    requires { W.failed w.old ≡ false }
     ensures bytes { Writes (W.contents w.old) (W.contents w.new) (canon.definition_text name.now (pattern_of body.now))
         result }
     ensures flag { Flags (W.failed w.old) (W.failed w.new) result }
@@ -142,6 +149,7 @@ fn print_definition<W: Sink>(name: &[u8], body: &Expr, w: &mut W) -> Result<(), 
 /// `MAX_GRAMMAR` bytes, that text reads as the same rules, but for their spans, and as nothing else. It takes no
 /// memory, and recurses no deeper than the expressions.
 pub fn print_peg<W: Sink>(peg: &Peg, w: &mut W) -> Result<(), WriteFault>
+    requires { W.failed w.old ≡ false }
     ensures bytes { Writes (W.contents w.old) (W.contents w.new) (canon.grammar_text (rules_of peg.now.rules)) result }
     ensures flag { Flags (W.failed w.old) (W.failed w.new) result }
     ensures read_back { (source : List ℕ) → IsRead source peg.now.rules peg.now.redefined.items

@@ -1,5 +1,5 @@
 //! Writes literals, classes and actions.
-ghost use Rattle.std.specs.Prelude.{◌≡◌, ℕ, ◌||◌, ◌==◌, ◌+◌, ◌++◌, ◌∷◌, [], Bool, List};
+ghost use Rattle.std.specs.Prelude.{◌≡◌, ℕ, ◌||◌, ◌==◌, ◌+◌, ◌++◌, ◌∷◌, [], Bool, List, false};
 ghost use Rattle.std.specs.List.{flat_map};
 ghost use Rattle.ruletable.specs.Runs.{test_of};
 ghost use Rattle.ruletable.specs.Writing.{Writes, Flags};
@@ -38,6 +38,7 @@ fn is_unprintable(b: u8) -> bool
 // A control byte by its letter; else by octal digits or behind a backslash, where so it is to be; else as itself.
 #[tactic(auto, unfolding(crate::specs::Escapes::written))]
 fn print_byte<W: Sink>(b: u8, as_octal: bool, marked: bool, w: &mut W) -> Result<(), WriteFault>
+    requires { W.failed w.old ≡ false }
     ensures bytes { Writes (W.contents w.old) (W.contents w.new) (written b as_octal marked) result }
     ensures flag { Flags (W.failed w.old) (W.failed w.new) result }
 {
@@ -58,6 +59,7 @@ fn print_byte<W: Sink>(b: u8, as_octal: bool, marked: bool, w: &mut W) -> Result
 
 // A byte of a literal.
 fn print_escaped<W: Sink>(b: u8, w: &mut W) -> Result<(), WriteFault>
+    requires { W.failed w.old ≡ false }
     ensures bytes { Writes (W.contents w.old) (W.contents w.new) (escaped b) result }
     ensures flag { Flags (W.failed w.old) (W.failed w.new) result }
 {
@@ -66,6 +68,7 @@ fn print_escaped<W: Sink>(b: u8, w: &mut W) -> Result<(), WriteFault>
 
 // A member of a class.
 fn print_shown<W: Sink>(b: u8, w: &mut W) -> Result<(), WriteFault>
+    requires { W.failed w.old ≡ false }
     ensures bytes { Writes (W.contents w.old) (W.contents w.new) (shown b) result }
     ensures flag { Flags (W.failed w.old) (W.failed w.new) result }
 {
@@ -76,6 +79,7 @@ fn print_shown<W: Sink>(b: u8, w: &mut W) -> Result<(), WriteFault>
 
 // The bytes as they stand in a literal.
 fn print_bytes<W: Sink>(bytes: &[u8], w: &mut W) -> Result<(), WriteFault>
+    requires { W.failed w.old ≡ false }
     ensures bytes { Writes (W.contents w.old) (W.contents w.new) (flat_map escaped bytes.now) result }
     ensures flag { Flags (W.failed w.old) (W.failed w.new) result }
 {
@@ -89,6 +93,7 @@ fn print_bytes<W: Sink>(bytes: &[u8], w: &mut W) -> Result<(), WriteFault>
 }
 
 pub(crate) fn print_literal<W: Sink>(bytes: &[u8], w: &mut W) -> Result<(), WriteFault>
+    requires { W.failed w.old ≡ false }
     ensures bytes { Writes (W.contents w.old) (W.contents w.new) (canon.text_of (patterns.Pattern.Bytes bytes.now))
         result }
     ensures flag { Flags (W.failed w.old) (W.failed w.new) result }
@@ -105,6 +110,7 @@ pub(crate) fn print_literal<W: Sink>(bytes: &[u8], w: &mut W) -> Result<(), Writ
 
 // Two members, with a mark between them.
 fn print_both<W: Sink>(first: u8, mark: &[u8], last: u8, w: &mut W) -> Result<(), WriteFault>
+    requires { W.failed w.old ≡ false }
     ensures bytes { Writes (W.contents w.old) (W.contents w.new) (shown first ++ (mark.now ++ shown last)) result }
     ensures flag { Flags (W.failed w.old) (W.failed w.new) result }
 {
@@ -120,6 +126,7 @@ fn print_both<W: Sink>(first: u8, mark: &[u8], last: u8, w: &mut W) -> Result<()
 
 // One byte as itself, two as both, more as the first, `-` and the last.
 fn print_run<W: Sink>(first: u8, last: u8, w: &mut W) -> Result<(), WriteFault>
+    requires { W.failed w.old ≡ false }
     ensures bytes { Writes (W.contents w.old) (W.contents w.new) (run_text (first, last)) result }
     ensures flag { Flags (W.failed w.old) (W.failed w.new) result }
 {
@@ -134,6 +141,7 @@ fn print_run<W: Sink>(first: u8, last: u8, w: &mut W) -> Result<(), WriteFault>
 
 // The runs of a set's members.
 fn print_runs<W: Sink>(set: &ByteSet, w: &mut W) -> Result<(), WriteFault>
+    requires { W.failed w.old ≡ false }
     ensures bytes { Writes (W.contents w.old) (W.contents w.new) (runs_text (test_of set.now)) result }
     ensures flag { Flags (W.failed w.old) (W.failed w.new) result }
 {
@@ -148,6 +156,7 @@ fn print_runs<W: Sink>(set: &ByteSet, w: &mut W) -> Result<(), WriteFault>
 
 // A class of these runs, behind its opening mark.
 fn print_class<W: Sink>(mark: &[u8], set: &ByteSet, w: &mut W) -> Result<(), WriteFault>
+    requires { W.failed w.old ≡ false }
     ensures bytes { Writes (W.contents w.old) (W.contents w.new)
         (mark.now ++ (runs_text (test_of set.now) ++ code "]" ∷ [])) result }
     ensures flag { Flags (W.failed w.old) (W.failed w.new) result }
@@ -163,6 +172,7 @@ fn print_class<W: Sink>(mark: &[u8], set: &ByteSet, w: &mut W) -> Result<(), Wri
 }
 
 pub(crate) fn print_set<W: Sink>(set: &ByteSet, w: &mut W) -> Result<(), WriteFault>
+    requires { W.failed w.old ≡ false }
     ensures bytes { Writes (W.contents w.old) (W.contents w.new) (class_text (test_of set.now)) result }
     ensures flag { Flags (W.failed w.old) (W.failed w.new) result }
 {
@@ -173,6 +183,7 @@ pub(crate) fn print_set<W: Sink>(set: &ByteSet, w: &mut W) -> Result<(), WriteFa
 }
 
 pub(crate) fn print_action<W: Sink>(template: &[u8], w: &mut W) -> Result<(), WriteFault>
+    requires { W.failed w.old ≡ false }
     ensures bytes { Writes (W.contents w.old) (W.contents w.new) (canon.text_of (patterns.Pattern.Act template.now))
         result }
     ensures flag { Flags (W.failed w.old) (W.failed w.new) result }

@@ -1,13 +1,13 @@
 -- How steps of a writer join, and how those of a reader do.
 -- Serves: write_pieces, write_whole
 use Rattle.std.proofs.Common.{◌≡◌, ℕ, ◌+◌, Option, Some, None, List, [], ◌∷◌, ◌++◌, length, take, drop, refl, sym, ◌∙◌}
-use Rattle.std.proofs.Common.{ap, append_assoc, arith, ◌<◌, suc, zero, get_or}
+use Rattle.std.proofs.Common.{ap, append_assoc, arith, ◌<◌, suc, zero, get_or, length-append, length-take}
 use Rattle.std.specs.List.{flat_map}
 use Rattle.std.proofs.Math.Seq.{take-add}
 use Rattle.std.proofs.lemmas.List.{take-append-drop, append-nil}
 use Rattle.std.specs.Io.KnownBytes.{Appends, Consumes, Keeps}
 use Rattle.std.specs.Prelude.{Result, Ok, Err}
-use Rattle.ruletable.specs.Writing.{IsBeginning, AppendsPart, Writes}
+use Rattle.ruletable.specs.Writing.{IsBeginning, IsProperBeginning, AppendsPart, Writes}
 
 -- one step after another
 pub Appends-join : (a b c : Option (List ℕ)) (xs ys : List ℕ) → Appends a b xs → Appends b c ys → Appends a c (xs ++ ys)
@@ -65,14 +65,34 @@ IsBeginning-after front part whole h = (h.0, ap (λ w. front ++ w) h.1 ∙ sym (
 pub IsBeginning-trans : (a b c : List ℕ) → IsBeginning a b → IsBeginning b c → IsBeginning a c
 IsBeginning-trans a b c f s = (f.0 ++ s.0, s.1 ∙ ap (λ w. w ++ s.0) f.1 ∙ append_assoc a f.0 s.0)
 
+-- proper beginnings
+pub IsProperBeginning-take : (n : ℕ) (xs : List ℕ) → n < length xs → IsProperBeginning (take n xs) xs
+IsProperBeginning-take n xs h = (IsBeginning-take n xs, simp length-take (omega arith))
+
+pub IsProperBeginning-join : (part whole more : List ℕ) → IsProperBeginning part whole
+    → IsProperBeginning part (whole ++ more)
+IsProperBeginning-join part whole more h =
+    (IsBeginning-join part whole more h.0, omega (arith, h.1, length-append whole more))
+
+pub IsProperBeginning-after : (front part whole : List ℕ) → IsProperBeginning part whole
+    → IsProperBeginning (front ++ part) (front ++ whole)
+IsProperBeginning-after front part whole h = (
+  IsBeginning-after front part whole h.0,
+  omega (arith, h.1, length-append front part, length-append front whole),
+)
+
+pub IsProperBeginning-trans : (a b c : List ℕ) → IsProperBeginning a b → IsBeginning b c → IsProperBeginning a c
+IsProperBeginning-trans a b c f s =
+    let l = ap length s.1 in (IsBeginning-trans a b c f.0 s, omega (arith, f.1, l, length-append b s.0))
+
 -- a whole step, and then a part of the next one
 pub AppendsPart-join : (a b c : Option (List ℕ)) (xs ys : List ℕ) → Appends a b xs → AppendsPart b c ys
     → AppendsPart a c (xs ++ ys)
-AppendsPart-join a b c xs ys f s = (xs ++ s.0, IsBeginning-after xs s.0 ys s.1, Appends-join a b c xs s.0 f s.2)
+AppendsPart-join a b c xs ys f s = (xs ++ s.0, IsProperBeginning-after xs s.0 ys s.1, Appends-join a b c xs s.0 f s.2)
 
 -- a part of the first of two steps
 pub AppendsPart-first : (a b : Option (List ℕ)) (xs ys : List ℕ) → AppendsPart a b xs → AppendsPart a b (xs ++ ys)
-AppendsPart-first a b xs ys s = (s.0, IsBeginning-join s.0 xs ys s.1, s.2)
+AppendsPart-first a b xs ys s = (s.0, IsProperBeginning-join s.0 xs ys s.1, s.2)
 
 -- a whole step, and then one that may fail
 pub Writes-then : {A E : Type 0} (a b c : Option (List ℕ)) (xs ys : List ℕ) (r : Result A E) → Appends a b xs

@@ -1,5 +1,5 @@
 -- What is said of a writer: the text that it takes, and the flag that tells whether it failed.
-use Rattle.std.specs.Prelude.{Result, ◌≡◌, ℕ, Bool, true, List, ◌++◌, MatchResult, Option}
+use Rattle.std.specs.Prelude.{Result, ◌≡◌, ℕ, ◌<◌, Bool, true, List, length, ◌++◌, MatchResult, Option}
 use Rattle.std.specs.Io.KnownBytes.{Appends}
 
 -- an `Err` sets the flag, and an `Ok` leaves it as it was
@@ -10,10 +10,14 @@ Flags old new r = MatchResult r (λ _. new ≡ old) (λ _. new ≡ true)
 abbrev pub IsBeginning : List ℕ → List ℕ → Type 0
 IsBeginning part whole = (rest : List ℕ) × (whole ≡ part ++ rest)
 
--- known bytes grow by a beginning of the text
-abbrev pub AppendsPart : Option (List ℕ) → Option (List ℕ) → List ℕ → Type 0
-AppendsPart old new text = (part : List ℕ) × IsBeginning part text × Appends old new part
+-- part stands at the front of whole, and is not all of it
+abbrev pub IsProperBeginning : List ℕ → List ℕ → Type 0
+IsProperBeginning part whole = IsBeginning part whole × (length part < length whole)
 
--- known bytes grow by the text at an `Ok`, and by a beginning of it at an `Err`
+-- known bytes grow by a beginning of the text that is not all of it
+abbrev pub AppendsPart : Option (List ℕ) → Option (List ℕ) → List ℕ → Type 0
+AppendsPart old new text = (part : List ℕ) × IsProperBeginning part text × Appends old new part
+
+-- known bytes grow by the text at an `Ok`, and by a beginning of it that is not all at an `Err`
 abbrev pub Writes : {A E : Type 0} → Option (List ℕ) → Option (List ℕ) → List ℕ → Result A E → Type 0
 Writes old new text r = MatchResult r (λ _. Appends old new text) (λ _. AppendsPart old new text)

@@ -1,5 +1,5 @@
 //! What can be wrong with a grammar's text.
-ghost use Rattle.std.specs.Prelude.{◌≡◌, ◌++◌, codes, decimal};
+ghost use Rattle.std.specs.Prelude.{◌≡◌, ◌++◌, codes, decimal, false};
 ghost use Rattle.ruletable.specs.Faults.{at_line, fault_text};
 ghost use Rattle.ruletable.specs.Writing.{Writes, Flags};
 
@@ -34,6 +34,7 @@ pub enum ReadFault {
 
 /// Writes the fault's line, with its LF. `WriteFault` where the writer fails; then a beginning of the line is written.
 pub fn write_fault<W: Sink>(fault: &ReadFault, w: &mut W) -> Result<(), WriteFault>
+    requires { W.failed w.old ≡ false }
     ensures bytes { Writes (W.contents w.old) (W.contents w.new) (fault_text fault.now) result }
     ensures flag { Flags (W.failed w.old) (W.failed w.new) result }
 {
@@ -48,6 +49,7 @@ pub fn write_fault<W: Sink>(fault: &ReadFault, w: &mut W) -> Result<(), WriteFau
 }
 
 fn write_at_line<W: Sink>(line: usize, what: &[u8], w: &mut W) -> Result<(), WriteFault>
+    requires { W.failed w.old ≡ false }
     ensures bytes { Writes (W.contents w.old) (W.contents w.new) (at_line line what.now) result }
     ensures flag { Flags (W.failed w.old) (W.failed w.new) result }
 {

@@ -1,5 +1,5 @@
 //! Notes on a grammar that reads.
-ghost use Rattle.std.specs.Prelude.{◌≡◌, ◌++◌};
+ghost use Rattle.std.specs.Prelude.{◌≡◌, ◌++◌, false};
 ghost use Rattle.ruletable.specs.Notes.{note_text, said_of, text_after, text_before};
 ghost use Rattle.ruletable.specs.Writing.{Writes, Flags};
 
@@ -58,6 +58,7 @@ fn after(kind: NoteKind) -> &'static [u8]
 
 /// Writes the note's line, with its LF. `WriteFault` if the writer fails; then a beginning of the line is written.
 pub fn write_note<W: Sink>(note: &Note, w: &mut W) -> Result<(), WriteFault>
+    requires { W.failed w.old ≡ false }
     ensures bytes { Writes (W.contents w.old) (W.contents w.new) (note_text (said_of note.now)) result }
     ensures flag { Flags (W.failed w.old) (W.failed w.new) result }
 {
@@ -71,6 +72,7 @@ fn write_named<W: Sink>(
     after: &[u8],
     w: &mut W,
 ) -> Result<(), WriteFault>
+    requires { W.failed w.old ≡ false }
     ensures bytes { Writes (W.contents w.old) (W.contents w.new) (before.now ++ (name.now ++ after.now)) result }
     ensures flag { Flags (W.failed w.old) (W.failed w.new) result }
 {

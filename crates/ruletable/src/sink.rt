@@ -20,15 +20,17 @@ pub trait Sink {
     /// Whether a call has failed.
     ghost failed: { Self → Bool };
 
-    /// Takes a beginning of `bytes`, or fails and takes nothing.
+    /// Takes a beginning of `bytes`, or fails and takes nothing. Nothing is written behind a failure.
     fn write(&mut self, bytes: &[u8]) -> Result<usize, WriteFault>
+        requires { failed self.old ≡ false }
         ensures within { IfOk result (λ n. n ≤ length bytes.now) }
         ensures some { IfOk result (λ n. 0 < length bytes.now → 0 < n) }
         ensures bytes { WriteAppends (contents self.old) (contents self.new) result bytes.now }
         ensures flag { Flags (failed self.old) (failed self.new) result };
 
-    /// Hands on what it holds back, or fails.
+    /// Hands on what it holds back, or fails. A writer that has failed is not flushed.
     fn flush(&mut self) -> Result<(), WriteFault>
+        requires { failed self.old ≡ false }
         ensures bytes { Keeps (contents self.old) (contents self.new) }
         ensures flag { Flags (failed self.old) (failed self.new) result };
 
@@ -96,8 +98,9 @@ impl<T: io::Write> Sink for SinkOf<T> {
 }
 
 /// Writes all of `bytes`, in as many calls as it takes. `WriteFault` where the writer fails; then a beginning is
-/// written.
+/// written, and not all.
 pub fn write_whole<W: Sink>(w: &mut W, bytes: &[u8]) -> Result<(), WriteFault>
+    requires { W.failed w.old ≡ false }
     ensures bytes { Writes (W.contents w.old) (W.contents w.new) bytes.now result }
     ensures flag { Flags (W.failed w.old) (W.failed w.new) result }
 {
@@ -113,8 +116,10 @@ pub fn write_whole<W: Sink>(w: &mut W, bytes: &[u8]) -> Result<(), WriteFault>
 
 ghost use Rattle.std.specs.List.{flat_map};
 
-/// Writes the pieces, one after another. `WriteFault` where the writer fails; then a beginning is written.
+/// Writes the pieces, one after another. `WriteFault` where the writer fails; then a beginning is written, and not
+/// all.
 pub fn write_pieces<W: Sink>(w: &mut W, pieces: &[&[u8]]) -> Result<(), WriteFault>
+    requires { W.failed w.old ≡ false }
     ensures bytes { Writes (W.contents w.old) (W.contents w.new) (flat_map (λ p. p.now) pieces.now) result }
     ensures flag { Flags (W.failed w.old) (W.failed w.new) result }
 {

@@ -141,18 +141,18 @@ module _ (xs seen rest : List ℕ) (left : ℕ) (flow : Flow) (is : xs ≡ seen 
   ]
 
 -- the input of a run agrees with what was seen of it
-pub agrees_of : (xs seen : List ℕ) (new : Option (List ℕ)) (failed : Bool) (left : ℕ) (flow : Flow)
+pub agrees_of : (xs seen : List ℕ) (new : Option (List ℕ)) (failed ended : Bool) (left : ℕ) (flow : Flow)
     → Consumes (Some xs) new seen → left + length seen ≡ input_limit →
-    IsToldBy new failed left flow → Agrees seen flow (input_from xs seen failed)
-agrees_of xs seen None failed left flow c count fed = absurd c
-agrees_of xs seen (Some rest) false left Open c count fed = given_agrees xs seen rest left Open c count
+    IsToldBy new failed ended left flow → Agrees seen flow (input_from xs seen failed)
+agrees_of xs seen None failed ended left flow c count fed = absurd c
+agrees_of xs seen (Some rest) false ended left Open c count fed = given_agrees xs seen rest left Open c count
     (λ e. absurd (cc)) (λ e. absurd (cc))
-agrees_of xs seen (Some rest) true left Open c count fed = absurd (cc)
-agrees_of xs seen (Some rest) false left Ended c count (fine, end, some) = given_agrees xs seen rest left Ended c count
-    (λ e. (end, some)) (λ e. absurd (cc))
-agrees_of xs seen (Some rest) true left Ended c count (fine, end, some) = absurd (cc)
-agrees_of xs seen (Some rest) false left Broken c count (inl bad) = absurd (cc)
-agrees_of xs seen (Some rest) false left Broken c count (inr (fine, zero)) =
+agrees_of xs seen (Some rest) true ended left Open c count fed = absurd (cc)
+agrees_of xs seen (Some rest) false ended left Ended c count (fine, told, end, some) =
+    given_agrees xs seen rest left Ended c count (λ e. (end, some)) (λ e. absurd (cc))
+agrees_of xs seen (Some rest) true ended left Ended c count (fine, told, end, some) = absurd (cc)
+agrees_of xs seen (Some rest) false ended left Broken c count (inl bad) = absurd (cc)
+agrees_of xs seen (Some rest) false ended left Broken c count (inr (fine, zero)) =
     given_agrees xs seen rest left Broken c count (λ e. absurd (cc)) (λ e. zero)
-agrees_of xs seen (Some rest) true left Broken c count fed =
+agrees_of xs seen (Some rest) true ended left Broken c count fed =
     record { more = []; bytes = sym (append-nil seen); ended = λ e. absurd (cc); broken = λ e. (refl, refl) }

@@ -12,7 +12,7 @@ use Rattle.ruletable.proofs.AppendsLemmas.{IsBeginning-after}
 use Rattle.toolrun.specs.declared.stop.Stop.{Stop}
 use Rattle.toolrun.specs.Stop.{write_error}
 use Rattle.toolrun.specs.Stop.{message_of, status_of}
-use Rattle.toolrun.specs.Delivery.{Reports}
+use Rattle.toolrun.specs.Delivery.{IsTold, Reports}
 use Rattle.toolrun.specs.Flush.{Flushes}
 use Rattle.toolrun.specs.Finish.{told_of, ending_of, Finishes}
 use Rattle.toolrun.specs.Status.{code_of}
@@ -29,7 +29,7 @@ first_told : {A E : Type 0} (e0 e1 : Option (List ℕ)) (failed : Bool) (text : 
     → Flags false failed r → First e0 e1 failed text
 first_told e0 e1 failed text (Ok x) w f =
     record { told = text; taken = w; whole = λ _. refl; part = IsBeginning-same text }
-first_told e0 e1 failed text (Err x) w f = record { told = w.0; taken = w.2; whole = λ isnt. absurd (cc); part = w.1 }
+first_told e0 e1 failed text (Err x) w f = record { told = w.0; taken = w.2; whole = λ isnt. absurd (cc); part = w.1.0 }
 
 not_true : (b c : Bool) → (b ≡ true → c ≡ true) → c ≡ false → b ≡ false
 not_true true c h isnt = let e : c ≡ true = h refl in absurd (cc)
@@ -43,50 +43,37 @@ module _ (out_was out_now err_told err_flushed err_now : Bool) (e0 e1 : Option (
 
   -- where the output's flush failed: all of the text was told before, or the error output had failed
   told_before : (text : List ℕ) (bad : out_now ≡ true) → out_was ≡ false → (f : First e0 e1 err_told text) → (b : Bool)
-      → err_told ≡ b →
-      (front : List ℕ) × ((front ≡ []) ⊎ (front ≡ text)) × IsBeginning (f.told ++ more) (front ++ write_error) ×
-      (err_now ≡ false → f.told ++ more ≡ front ++ write_error)
+      → err_told ≡ b → IsTold err_now (f.told ++ more) (text ++ write_error)
   told_before text bad was f true e = (
-    text,
-    inr refl,
     rw (flushes.silent e, append-nil) (IsBeginning-join f.told text write_error f.part),
     λ err_ok. let fine : err_told ≡ false = told_clean err_ok in absurd (cc),
   )
   told_before text bad was f false e = (
-    text,
-    inr refl,
     rw (f.whole e) (IsBeginning-after text more write_error flushes.part),
     λ err_ok. rw (f.whole e) (ap (λ w. text ++ w) (flushes.whole was bad (not_true err_flushed err_now stays err_ok))),
   )
 
   -- after a stop
   reports_stop : (text : List ℕ) (stated : ℕ) → out_was ≡ false → (f : First e0 e1 err_told text) →
-      (out_now ≡ false → err_now ≡ false → code ≡ stated) → Reports [] text stated out_now err_now (f.told ++ more) code
+      (out_now ≡ false → err_now ≡ false → code ≡ stated) → Reports text stated out_now err_now (f.told ++ more) code
   reports_stop text stated was f same = record {
-    whole = λ out_ok err_ok. (
-      rw (flushes.quiet (out_ok ∙ sym was), append-nil) (f.whole (told_clean err_ok)),
-      same out_ok err_ok,
-    );
-    part = λ out_ok. rw (flushes.quiet (out_ok ∙ sym was), append-nil) f.part;
-    before = λ out_bad. told_before text out_bad was f err_told refl;
-    status = high;
+    told = λ out_ok. rw (flushes.quiet (out_ok ∙ sym was), append-nil) (f.part, λ err_ok. f.whole (told_clean err_ok));
+    fault = λ out_bad. told_before text out_bad was f err_told refl;
+    status = same;
+    high = high;
   }
 
   -- after a fault of the output
-  reports_fault : (text : List ℕ) (stated : ℕ) → out_was ≡ true → (f : First e0 e1 err_told write_error) →
-      Reports [] text stated out_now err_now (f.told ++ more) code
-  reports_fault text stated was f =
+  reports_fault : (stated : ℕ) → out_was ≡ true → (f : First e0 e1 err_told write_error) →
+      Reports [] stated out_now err_now (f.told ++ more) code
+  reports_fault stated was f =
       let bad : out_now ≡ true = flushes.out_stays was in
       record {
-        whole = λ out_ok err_ok. absurd (cc);
-        part = λ out_ok. absurd (cc);
-        before = λ out_bad. (
-          [],
-          inl refl,
-          rw (flushes.quiet (bad ∙ sym was), append-nil) f.part,
-          λ err_ok. rw (flushes.quiet (bad ∙ sym was), append-nil) (f.whole (told_clean err_ok)),
-        );
-        status = high;
+        told = λ out_ok. absurd (cc);
+        fault = λ out_bad. rw (flushes.quiet (bad ∙ sym was), append-nil)
+            (f.part, λ err_ok. f.whole (told_clean err_ok));
+        status = λ out_ok err_ok. absurd (cc);
+        high = high;
       }
 
 pub finish_tells : {A E : Type 0} (stop : Result Stop WriteFault)
@@ -110,6 +97,6 @@ finish_tells (Err fault) {out_was} {out_now} {err_told} {err_flushed} {err_now} 
     let f = first_told e0 e1 err_told write_error r w flag in (
       f.told ++ m.0,
       Appends-kept e0 e2 e3 (f.told ++ m.0) (Appends-join e0 e1 e2 f.told m.0 f.taken m.1) kept,
-      λ text stated. reports_fault out_was out_now err_told err_flushed err_now e0 e1 m.0 code m.2 stays high text
-          stated was f,
+      reports_fault out_was out_now err_told err_flushed err_now e0 e1 m.0 code m.2 stays high
+          _ was f,
     )

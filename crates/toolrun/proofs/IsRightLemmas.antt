@@ -1,7 +1,7 @@
 -- A run and its end were right.
 -- Serves: run_tool (right)
 use Rattle.std.proofs.Common.{◌≡◌, ℕ, Bool, true, false, Option, Some, None, List, [], ◌++◌, refl, sym, ◌∙◌, ap, subst}
-use Rattle.std.proofs.Common.{arith, inl, inr, append_assoc, append-nil}
+use Rattle.std.proofs.Common.{arith, append_assoc, length, length-append}
 use Rattle.std.specs.Prelude.{Result, Ok, Err, IfSome}
 use Rattle.std.specs.Result.{is_err}
 use Rattle.std.specs.Io.KnownBytes.{Appends, Keeps, Consumes}
@@ -9,7 +9,7 @@ use Rattle.ruletable.specs.Writing.{Flags, Writes, AppendsPart}
 use Rattle.ruletable.specs.declared.sink.WriteFault.{WriteFault}
 use Rattle.ruletable.proofs.AppendsLemmas.{Appends-join, Appends-kept, Appends-none, Appends-same, IsBeginning-same}
 use Rattle.ruletable.proofs.AppendsLemmas.{IsBeginning-nil, IsBeginning-join, IsBeginning-after}
-use Rattle.toolrun.specs.Delivery.{Reports}
+use Rattle.toolrun.specs.Delivery.{IsTold}
 use Rattle.toolrun.specs.Input.{Input, input_from}
 use Rattle.toolrun.specs.Reply.{Reply}
 use Rattle.toolrun.specs.Status.{code_of}
@@ -23,21 +23,10 @@ use Rattle.toolrun.specs.Stream.{Stream}
 use Rattle.toolrun.specs.declared.stop.Stop.{Stop}
 
 -- what stands before is told before
-reports-behind : (notes text : List ℕ) (stated : ℕ) (out_failed err_failed : Bool) (told : List ℕ) (code : ℕ)
-    → Reports [] text stated out_failed err_failed told code →
-    Reports notes text stated out_failed err_failed (notes ++ told) code
-reports-behind notes text stated out_failed err_failed told code r = record {
-  whole = λ out_ok err_ok. (ap (λ t. notes ++ t) (r.whole out_ok err_ok).0, (r.whole out_ok err_ok).1);
-  part = λ out_ok. IsBeginning-after notes told text (r.part out_ok);
-  before = λ bad.
-      let b = r.before bad in (
-        notes ++ b.0,
-        elim b.1 [ inl e ↦ inl (ap (λ t. notes ++ t) e ∙ append-nil notes) | inr e ↦ inr (ap (λ t. notes ++ t) e) ],
-        rw (append_assoc notes b.0 write_error) (IsBeginning-after notes told (b.0 ++ write_error) b.2),
-        λ err_ok. rw (append_assoc notes b.0 write_error) (ap (λ t. notes ++ t) (b.3 err_ok)),
-      );
-  status = r.status;
-}
+told-behind : (notes text told : List ℕ) (err_failed : Bool) → IsTold err_failed told text
+    → IsTold err_failed (notes ++ told) (notes ++ text)
+told-behind notes text told err_failed t =
+    (IsBeginning-after notes told text t.0, λ err_ok. ap (λ u. notes ++ u) (t.1 err_ok))
 
 -- a run that stops at once reads nothing and writes nothing
 nothing_done : (stop : Stop) (r0 s0 : Option (List ℕ)) →
@@ -82,23 +71,26 @@ module _ (States : Input → List ℕ → Reply → Type 0) (notes : List ℕ) (
         err_failed = err_failed;
         status = code;
       })
-  is_right given taken wrote told read_failed out_was out_failed err_failed (Ok stop) code s flag stays f =
-      let tells : Reports [] s.stated.err s.stated.status out_failed err_failed told code =
-      subst (λ t. Reports [] t s.stated.status out_failed err_failed told code) (sym s.written.1)
-      (subst (λ n. Reports [] (message_of stop) n out_failed err_failed told code) (sym s.written.2) f) in
-      record {
-        notes = notes;
-        stated = s.stated;
-        states = plan.stated (input_from given taken read_failed) s.stated s.states;
-        delivers = record {
-          out = λ out_ok err_ok. s.written.0;
-          part = rw s.written.0 (IsBeginning-same s.stated.out);
-          err = reports-behind notes s.stated.err s.stated.status out_failed err_failed told code tells;
-        };
-        within = s.within;
-        exact = λ out_ok err_ok other. s.exact (λ is. other
-            ((f.whole out_ok err_ok).1 ∙ ap (λ w. code_of (status_of w)) is));
-      }
+  is_right given taken wrote told read_failed out_was out_failed err_failed (Ok stop) code s flag stays f = record {
+    notes = notes;
+    stated = s.stated;
+    states = plan.stated (input_from given taken read_failed) s.stated s.states;
+    delivers = record {
+      part = rw s.written.0 (IsBeginning-same s.stated.out);
+      out = λ out_ok stands. s.written.0;
+      silent = λ isnt. absurd (isnt (told, refl));
+      unread = λ isnt. absurd (isnt (told, refl));
+      told = λ out_ok. rw s.written.1 (told-behind notes (message_of stop) told err_failed (f.told out_ok));
+      broken = λ out_bad other. absurd (other s.written.0);
+      unflushed = λ out_bad whole. rw (s.written.1, append_assoc notes (message_of stop) write_error)
+          (told-behind notes (message_of stop ++ write_error) told err_failed (f.fault out_bad));
+      status = λ out_ok err_ok. f.status out_ok err_ok ∙ sym s.written.2;
+      high = f.high;
+    };
+    within = s.within;
+    exact = λ out_ok err_ok other. s.exact (λ is. other
+        (f.status out_ok err_ok ∙ ap (λ w. code_of (status_of w)) is));
+  }
   is_right given taken wrote told read_failed out_was out_failed err_failed (Err fault) code s flag stays f =
       let bad : out_failed ≡ true = stays flag in
       record {
@@ -106,10 +98,15 @@ module _ (States : Input → List ℕ → Reply → Type 0) (notes : List ℕ) (
         stated = s.stated;
         states = plan.stated (input_from given taken read_failed) s.stated s.states;
         delivers = record {
-          out = λ out_ok err_ok. absurd (cc);
-          part = s.written;
-          err = reports-behind notes s.stated.err s.stated.status out_failed err_failed told code
-              (f s.stated.err s.stated.status);
+          part = s.written.0;
+          out = λ out_ok stands. absurd (cc);
+          silent = λ isnt. absurd (isnt (told, refl));
+          unread = λ isnt. absurd (isnt (told, refl));
+          told = λ out_ok. absurd (cc);
+          broken = λ out_bad other. told-behind notes write_error told err_failed (f.fault bad);
+          unflushed = λ out_bad whole. absurd (let same = ap length whole in omega (arith, s.written.1, same));
+          status = λ out_ok err_ok. absurd (cc);
+          high = f.high;
         };
         within = s.within;
         exact = λ out_ok err_ok other. absurd (cc);
@@ -167,19 +164,20 @@ module _ (States : Input → List ℕ → Reply → Type 0) (notes : List ℕ) (
           stated = some.0;
           states = plan.stated (input_from given [] read_failed) some.0 some.1;
           delivers = record {
-            out = λ out_ok err_ok. absurd (cc);
             part = IsBeginning-nil some.0.out;
-            err = record {
-              whole = λ out_ok err_ok. absurd (cc);
-              part = λ out_ok. IsBeginning-join part.0 notes some.0.err part.1;
-              before = λ bad. (
-                notes,
-                inl refl,
-                IsBeginning-join part.0 notes write_error part.1,
-                λ err_ok. absurd (cc),
-              );
-              status = λ bad. omega (arith, is);
-            };
+            out = λ out_ok stands. absurd
+                (let all = ap length stands.1 in omega (arith, part.1.1, all, length-append notes stands.0));
+            silent = λ isnt. refl;
+            unread = λ isnt. refl;
+            told = λ out_ok. (IsBeginning-join part.0 notes some.0.err part.1.0, λ err_ok. absurd (cc));
+            broken = λ out_bad other. (IsBeginning-join part.0 notes write_error part.1.0, λ err_ok. absurd (cc));
+            unflushed = λ out_bad whole. (
+              IsBeginning-join part.0 (notes ++ some.0.err) write_error
+                  (IsBeginning-join part.0 notes some.0.err part.1.0),
+              λ err_ok. absurd (cc),
+            );
+            status = λ out_ok err_ok. absurd (cc);
+            high = λ bad. omega (arith, is);
           };
           within = omega arith;
           exact = λ out_ok err_ok other. absurd (cc);

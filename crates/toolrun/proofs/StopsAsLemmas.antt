@@ -6,7 +6,7 @@ use Rattle.std.proofs.lemmas.List.{append-nil}
 use Rattle.std.specs.Io.KnownBytes.{Appends, Consumes}
 use Rattle.ruletable.specs.Writing.{Flags}
 use Rattle.ruletable.specs.declared.sink.WriteFault.{WriteFault}
-use Rattle.ruletable.proofs.AppendsLemmas.{Appends-same, IsBeginning-trans, IsBeginning-nil}
+use Rattle.ruletable.proofs.AppendsLemmas.{Appends-same, IsProperBeginning-trans, IsBeginning-nil}
 use Rattle.feed.specs.Feed.{IsToldBy, input_limit}
 use Rattle.feed.specs.declared.held.Flow.{Flow}
 use Rattle.toolrun.specs.Agrees.{Agrees}
@@ -84,7 +84,7 @@ module _ {Point : Type 0} (Before : Input → Point → List ℕ → Type 0) (En
       record {
         stated = begins.reply;
         states = replied begins.reply begins.replies;
-        written = IsBeginning-trans part.0 text begins.reply.out part.1 begins.front;
+        written = IsProperBeginning-trans part.0 text begins.reply.out part.1 begins.front;
         within = begins.taken;
         exact = tt;
       },
@@ -105,30 +105,30 @@ module _ {Point : Type 0} (Before : Input → Point → List ℕ → Type 0) (En
         }
 
   -- the steps were run, on every input that begins with what was seen
-  were_run : (old new a b : Option (List ℕ)) (failed : Bool) (left : ℕ) (flow : Flow) (r : Result Stop WriteFault)
-      → IsToldBy new failed left flow →
+  were_run : (old new a b : Option (List ℕ)) (failed ended : Bool) (left : ℕ) (flow : Flow) (r : Result Stop WriteFault)
+      → IsToldBy new failed ended left flow →
       ((seen : List ℕ) × Consumes old new seen × (left + length seen ≡ input_limit) ×
       ((input : Input) → Agrees seen flow input → Runs input (length seen) a b r)) →
       IfSome old (λ xs. (taken wrote : List ℕ) × Consumes old new taken × Appends a b wrote
       × StopsAs (Does (input_from xs taken failed)) taken r wrote)
-  were_run None new a b failed left flow r told run = tt
-  were_run (Some xs) new a b failed left flow r told (seen, gives, count, run) =
+  were_run None new a b failed ended left flow r told run = tt
+  were_run (Some xs) new a b failed ended left flow r told (seen, gives, count, run) =
       let input : Input = input_from xs seen failed in
-      let w = run_stops input a b seen r (run input (agrees_of xs seen new failed left flow gives count told)) in
+      let w = run_stops input a b seen r (run input (agrees_of xs seen new failed ended left flow gives count told)) in
       (seen, w.0, gives, w.1, w.2)
 
   -- the reader is given back as it was after the last step
-  pub run_performs : {R : Type 0} (remaining : R → Option (List ℕ)) (failed : R → Bool) (old now final : R)
+  pub run_performs : {R : Type 0} (remaining : R → Option (List ℕ)) (failed ended : R → Bool) (old now final : R)
       (out : Stream) (left : ℕ) (flow : Flow)
-      (r : Result Stop WriteFault) → final ≡ now → IsToldBy (remaining now) (failed now) left flow →
+      (r : Result Stop WriteFault) → final ≡ now → IsToldBy (remaining now) (failed now) (ended now) left flow →
       ((seen : List ℕ) × Consumes (remaining old) (remaining now) seen × (left + length seen ≡ input_limit) ×
       ((input : Input) → Agrees seen flow input → Runs input (length seen) out.old out.new r))
       → Flags out.was out.failed r →
       Performs Does (passed remaining failed old final) out r
-  run_performs remaining failed old now final out left flow r is told run flag =
+  run_performs remaining failed ended old now final out left flow r is told run flag =
       rw is (record {
-        stopped = were_run (remaining old) (remaining now) out.old out.new (failed
-            now) left flow r told run;
+        stopped = were_run (remaining old) (remaining now) out.old out.new (failed now)
+            (ended now) left flow r told run;
         flag = flag;
       })
 

@@ -1,7 +1,7 @@
 -- What a run has written when it stops, before its messages.
 use Rattle.std.specs.Prelude.{◌≡◌, ◌≢◌, ℕ, ◌≤◌, List, length, Option, Result, Ok, Err, IfOk, IfSome, MatchResult}
 use Rattle.std.specs.Io.KnownBytes.{Appends, Consumes}
-use Rattle.ruletable.specs.Writing.{AppendsPart, Flags, IsBeginning}
+use Rattle.ruletable.specs.Writing.{AppendsPart, Flags, IsProperBeginning}
 use Rattle.ruletable.specs.declared.sink.WriteFault.{WriteFault}
 use Rattle.toolrun.specs.Input.{Input, input_from}
 use Rattle.toolrun.specs.Reply.{Reply}
@@ -12,16 +12,16 @@ use Rattle.toolrun.specs.declared.status.Status.TheVariants.{Done}
 use Rattle.toolrun.specs.declared.stop.Stop.{Stop}
 use Rattle.toolrun.specs.declared.stop.Stop.TheVariants.{NoMemory, Quiet}
 
--- the text was written, and the run is done; or a beginning of it was written where the writer failed
+-- the text was written, and the run is done; or a beginning of it, not all, was written where the writer failed
 abbrev pub Prints : Option (List ℕ) → Option (List ℕ) → List ℕ → Result Stop WriteFault → Type 0
 Prints old new text r = MatchResult r (λ stop. (stop ≡ Quiet Done) × Appends old new text)
     (λ _. AppendsPart old new text)
 
--- what is stated has been written, or a beginning of it where the writer failed
+-- what is stated has been written, or a beginning of it that is not all where the writer failed
 abbrev pub IsWritten : Result Stop WriteFault → Reply → List ℕ → Type 0
 IsWritten (Ok stop) stated wrote = (wrote ≡ stated.out) × (stated.err ≡ message_of stop)
     × (stated.status ≡ code_of (status_of stop))
-IsWritten (Err fault) stated wrote = IsBeginning wrote stated.out
+IsWritten (Err fault) stated wrote = IsProperBeginning wrote stated.out
 
 -- What a run that stopped so states, and how much of it has been written and taken.
 pub record StopsAs (States : Reply → Type 0) (taken : List ℕ) (stop : Result Stop WriteFault) (wrote : List ℕ) : Type

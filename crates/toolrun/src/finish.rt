@@ -42,6 +42,7 @@ fn flush_err<E: Sink>(err: &mut E)
 
 /// Tells the error output of a stop, or of a fault of the output.
 fn tell<E: Sink>(stop: Result<Stop, WriteFault>, err: &mut E) -> Result<(), WriteFault>
+    requires { E.failed err.old ≡ false }
     ensures bytes { Writes (E.contents err.old) (E.contents err.new) (told_of stop) result }
     ensures flag { Flags (E.failed err.old) (E.failed err.new) result }
 {

@@ -1,5 +1,5 @@
 //! How a run stops.
-ghost use Rattle.std.specs.Prelude.{◌≡◌, ◌++◌, codes, decimal};
+ghost use Rattle.std.specs.Prelude.{◌≡◌, ◌++◌, codes, decimal, false};
 ghost use Rattle.ruletable.specs.Writing.{Flags, Writes};
 ghost use Rattle.toolrun.specs.Stop.{status_of, message_of, unread};
 
@@ -56,6 +56,7 @@ pub fn stop_unread(fault: ReadFault) -> Stop
 
 /// Writes the line for it, with its LF; nothing where all is said.
 pub fn write_stop<W: Sink>(stop: Stop, w: &mut W) -> Result<(), WriteFault>
+    requires { W.failed w.old ≡ false }
     ensures bytes { Writes (W.contents w.old) (W.contents w.new) (message_of stop) result }
     ensures flag { Flags (W.failed w.old) (W.failed w.new) result }
 {
@@ -77,6 +78,7 @@ fn write_numbers<W: Sink>(
     behind: &[u8],
     w: &mut W,
 ) -> Result<(), WriteFault>
+    requires { W.failed w.old ≡ false }
     ensures bytes { Writes (W.contents w.old) (W.contents w.new) (before.now ++ decimal at ++ behind.now) result }
     ensures flag { Flags (W.failed w.old) (W.failed w.new) result }
 {
@@ -87,6 +89,7 @@ fn write_numbers<W: Sink>(
 }
 
 fn write_long<W: Sink>(what: &[u8], at: usize, limit: usize, w: &mut W) -> Result<(), WriteFault>
+    requires { W.failed w.old ≡ false }
     ensures bytes { Writes (W.contents w.old) (W.contents w.new)
         (what.now ++ decimal at ++ codes " longer than " ++ decimal limit ++ codes " bytes\n") result }
     ensures flag { Flags (W.failed w.old) (W.failed w.new) result }

@@ -50,6 +50,7 @@ pub trait Tool: Drop {
         out: &mut O,
     ) -> Result<Stop, WriteFault>
         requires reader_is_fresh { R.failed reader.old ≡ false }
+        requires reader_is_open { R.ended reader.old ≡ false }
         requires out_is_fresh { O.failed out.old ≡ false }
         ensures { Performs (does self.now settings.now) (passed R.remaining R.failed reader.old reader.new)
             (passed O.contents O.failed out.old out.new) result };
@@ -64,6 +65,7 @@ fn act<T: Tool, R: Source, O: Sink>(
     out: &mut O,
 ) -> Result<Stop, WriteFault>
     requires reader_is_fresh { R.failed reader.old ≡ false }
+    requires reader_is_open { R.ended reader.old ≡ false }
     requires out_is_fresh { O.failed out.old ≡ false }
     ensures { Performs (does_of (λ t. T.does t settings.now) task.now)
         (passed R.remaining R.failed reader.old reader.new) (passed O.contents O.failed out.old out.new) result }
@@ -84,6 +86,7 @@ pub fn run_tool<T: Tool, R: Source, O: Sink, E: Sink>(
     err: &mut E,
 ) -> Status
     requires reader_is_fresh { R.failed reader.old ≡ false }
+    requires reader_is_open { R.ended reader.old ≡ false }
     requires out_is_fresh { O.failed out.old ≡ false }
     requires err_is_fresh { E.failed err.old ≡ false }
     ensures right { Comes (T.states grammar.now settings.now) (passed R.remaining R.failed reader.old reader.new)

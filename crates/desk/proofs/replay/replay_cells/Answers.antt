@@ -15,15 +15,15 @@ write_found-requires-clause-cells g c =
     let sound = c.start-start.ensures.sound in
     let at = slice_get-get_or c.args.peg.now.bodies c.args.peg.now.start 0
     (omega (arith, sound.start_is_rule, sound.spelled.count)) in
-    held_cells _ _ _ sound _ _ c.requires.1.1.1 c.requires.1.1.0 _ at
+    held_cells _ _ _ sound _ _ c.requires.cells.1.1.1 c.requires.cells.1.1.0 _ at
 
 pub write_found-requires-clause-walks : goal.write_found-requires-clause-walks
 write_found-requires-clause-walks g c = λ root at. (
-  c.requires.1.0,
+  c.requires.cells.1.0,
   (
-    held_walk _ _ _ c.start-start.ensures.sound _ _ c.requires.1.1.1 c.requires.1.1.0 _ at _
+    held_walk _ _ _ c.start-start.ensures.sound _ _ c.requires.cells.1.1.1 c.requires.cells.1.1.0 _ at _
         (ap (λ fs. beginning root 0 ∷ fs) c.reserve.ensures.frames),
-    held_rise c.args.peg.now _ _ _ c.requires.1.1.1,
+    held_rise c.args.peg.now _ _ _ c.requires.cells.1.1.1,
   ),
 )
 

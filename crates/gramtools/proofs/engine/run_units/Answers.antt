@@ -10,7 +10,7 @@ returns-in-Err g c = no_unit_was_run c.args.peg.now c.start.ensures.sound c.args
 pub returns : goal.returns
 returns g c =
     units_were_run c.args.peg.now c.start.ensures.sound c.args.settings.now g.R.Source.remaining g.R.Source.failed
-    c.args.reader.now c.cut-stop.new.feed.reader.now _
+    g.R.Source.ended c.args.reader.now c.cut-stop.new.feed.reader.now _
     (passed g.O.Sink.contents g.O.Sink.failed c.args.out.now c.cut-stop.new.out)
     c.cut-stop.new.feed.left c.cut-stop.new.feed.flow c.cut-stop.result (search rules) c.cut-stop.ensures.told
     (rw c.new-feed.ensures.loan at c.cut-stop.ensures.units)

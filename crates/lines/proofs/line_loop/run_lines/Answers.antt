@@ -10,7 +10,7 @@ returns-in-Err g c = no_line_was_run (g.J.Judge.told c.args.judge.now) c.args.li
 pub returns : goal.returns
 returns g c =
     lines_were_run (g.J.Judge.told c.args.judge.now) c.args.limit c.decided.ensures g.R.Source.remaining
-    g.R.Source.failed c.args.reader.now c.answer_lines-stop.new.feed.reader.now _
+    g.R.Source.failed g.R.Source.ended c.args.reader.now c.answer_lines-stop.new.feed.reader.now _
     (passed g.O.Sink.contents g.O.Sink.failed c.args.out.now c.answer_lines-stop.new.out)
     c.answer_lines-stop.new.feed.left c.answer_lines-stop.new.feed.flow c.answer_lines-stop.result (search rules)
     c.answer_lines-stop.ensures.told

@@ -4,8 +4,8 @@ use Rattle.pegmatch.proofs.replay.write_events.Goals as goal
 
 pub write_event-requires-clause-stands : goal.write_event-requires-clause-stands
 write_event-requires-clause-stands g c =
-    let h = c.loop-event.invariant.written c.requires.0 c.requires.1 c.requires.2 in
-    let n = next_event _ _ _ c.requires.0 _ _ _ _ c.loop-event-test.true _ _ h in
+    let h = c.loop-event.invariant.written c.requires.stands.0 c.requires.stands.1 c.requires.stands.2 in
+    let n = next_event _ _ _ c.requires.stands.0 _ _ _ _ c.loop-event-test.true _ _ h in
     (n.event, n.stands)
 
 pub loop-event-preserved : goal.loop-event-preserved

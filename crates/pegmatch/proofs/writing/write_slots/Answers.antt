@@ -2,7 +2,7 @@ use Rattle.std.proofs.Common.{◌∙◌, ◌≤◌, arith, refl}
 use Rattle.std.specs.Prelude.{slice_index_or}
 use Rattle.gramcheck.specs.declared.template.Put.{Put}
 use Rattle.gramcheck.specs.declared.template.Slot.{Slot}
-use Rattle.pegmatch.proofs.WrittenTextLemmas.{written_next, written_fault, order_next, slot_ends}
+use Rattle.pegmatch.proofs.WrittenTextLemmas.{written_next, written_fault, written_last, order_next, slot_ends}
 use Rattle.pegmatch.proofs.writing.write_slots.Goals as goal
 
 abbrev default : Slot
@@ -28,3 +28,7 @@ loop-slot-preserved g c = record {
       c.in-Ok.ensures.bytes;
   flag = c.in-Ok.ensures.flag ∙ c.loop-slot.invariant.flag;
 }
+
+pub returns-clause-bytes : goal.returns-clause-bytes
+returns-clause-bytes g c = written_last _ _ _ _ _ _ _ c.loop-slot-test.false _ _ _ c.write_some.result
+    c.loop-slot.invariant.text c.write_some.ensures.bytes

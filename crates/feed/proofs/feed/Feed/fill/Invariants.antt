@@ -8,8 +8,7 @@ abbrev pub invariant-loop-room : goal.invariant-loop-room
 invariant-loop-room g l = record {
   loan : SameLoan l.fn.self l.self;
   grows : Grows g.R.Source.remaining l.fn.self l.self;
-  told : IsTrueOfReader g.R.Source.remaining g.R.Source.failed l.fn.self →
-      IsTrueOfReader g.R.Source.remaining g.R.Source.failed l.self;
+  told : IsTrueOfReader g.R.Source.remaining g.R.Source.failed g.R.Source.ended l.self;
 }
 
 abbrev pub decreases-loop-room : goal.decreases-loop-room
