@@ -32,8 +32,8 @@ use toolrun::{Settings, Status, run_tool};
 ///   of 9,223,372,036,854,775,807 bytes taken to end.
 /// - Where a writer fails, nothing more is written to it, and the status is at least `Fault`. A fault of `out` is told
 ///   by `write error` on `err`: right behind the notes, or behind all else where the flush of `out` failed. Where `err`
-///   fails in the notes, nothing is read, and nothing is written on `out`. Writers that have not failed are flushed once
-///   at the end, `out` first.
+///   fails in the notes, nothing is read, and nothing is written on `out`. Writers that have not failed are flushed
+///   once at the end, `out` first.
 /// - Where a growth is refused, the answers before stand whole: `out of memory`, `NoMemory`.
 pub fn run_abnf<R: Source, O: Sink, E: Sink>(
     alloc: Global,
