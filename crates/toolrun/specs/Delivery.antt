@@ -26,9 +26,9 @@ pub record Reports (text : List ℕ) (stated : ℕ) (out_failed err_failed : Boo
   pub status : out_failed ≡ false → err_failed ≡ false → code ≡ stated
   pub high : (out_failed ≡ true) ⊎ (err_failed ≡ true) → 4 ≤ code
 
--- Both outputs hold what is stated, but for what a writer that failed did not take. Nothing is written on the output and
--- nothing is taken before all notes are told. Where the output failed before it held all, `write error` stands behind the
--- notes alone; where its flush failed, behind all that is told.
+-- Both outputs hold what is stated, but for what a writer that failed did not take. Nothing is written on the output
+-- and nothing is taken before all notes are told. Where the output failed before it held all, `write error` stands
+-- right behind the notes; where its flush failed, behind all that is told.
 pub record Delivers (notes : List ℕ) (stated : Reply) (run : Observed) : Type 0 where
   pub part : IsBeginning run.out stated.out
   pub out : run.out_failed ≡ false → IsBeginning notes run.err → run.out ≡ stated.out
