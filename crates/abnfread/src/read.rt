@@ -105,6 +105,7 @@ fn take_token<'a>(
 ///   with LF.
 /// - `Memory` if an allocation fails.
 pub fn read_abnf(alloc: Global, text: &[u8]) -> Result<Abnf, ReadFault>
+    ensures long { MAX_GRAMMAR < length text.now → result ≡ Err ReadFault.TooLong }
     ensures found { IfOk result (λ abnf. (definitions : List Read) × Reads text.now definitions
         × IsTableOf definitions abnf.rules abnf.redefined.items abnf.extended.items) }
     ensures only { (definitions : List Read) → Reads text.now definitions
@@ -112,7 +113,6 @@ pub fn read_abnf(alloc: Global, text: &[u8]) -> Result<Abnf, ReadFault>
         (λ f. f ≡ ReadFault.Memory) }
     ensures core { IfOk result (λ abnf. IsCoreTable abnf.core) }
     ensures fault { IfErr result (λ f. IsFaultOf text.now f) }
-    ensures long { MAX_GRAMMAR < length text.now → result ≡ Err ReadFault.TooLong }
 {
     if text.len() > MAX_GRAMMAR {
         return Err(ReadFault::TooLong);

@@ -34,12 +34,12 @@ use std::alloc::Global;
 ///   for any other. The line is that of the token's first byte, where lines end with LF, CR LF or CR.
 /// - `Memory` where a growth was refused.
 pub fn read_peg(alloc: Global, text: &[u8]) -> Result<Peg, ReadFault>
+    ensures long { MAX_GRAMMAR < length text.now → result ≡ Err ReadFault.TooLong }
     ensures found { IfOk result (λ peg. (definitions : List Rule) × Reads text.now definitions
         × IsTableOf definitions peg.rules peg.redefined.items) }
     ensures only { (definitions : List Rule) → Reads text.now definitions
         → MatchResult result (λ peg. IsTableOf definitions peg.rules peg.redefined.items) (λ f. f ≡ ReadFault.Memory) }
     ensures fault { IfErr result (λ f. IsFaultOf text.now f) }
-    ensures long { MAX_GRAMMAR < length text.now → result ≡ Err ReadFault.TooLong }
 {
     if text.len() > MAX_GRAMMAR {
         return Err(ReadFault::TooLong);
