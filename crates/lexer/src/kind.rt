@@ -30,8 +30,9 @@ pub trait Kind: Copy {
         requires { dark text.now }
         ensures { first result.0 text.now result.1.now };
 
-    /// Says that what stands behind white space and a token is found in one way. White space is so by itself too. The
-    /// first token is the longest that stands there, or none stands there; the end of a list stands where the text ends.
+    /// Says that what stands behind white space and a token is found in one way. White space before a token is white
+    /// space by itself too. The first token is the longest that stands there, or none stands there. A token that ends a
+    /// list stands where the text ends.
     fn are_cut()
         ensures white { (t r : List ℕ) → white t r → StandsAlone white t r }
         ensures ends { (k : Self) (t r : List ℕ) → first k t r → IsEnd t r }
