@@ -7,7 +7,8 @@ use Rattle.ruletable.specs.declared.span.Span.{Span}
 use Rattle.ruletable.specs.declared.table.Defined.{Defined}
 use Rattle.ruletable.specs.declared.table.Defined.TheVariants.{Added, Duplicate}
 use Rattle.ruletable.specs.Rules.{Rule, Rules, find_in, names_of, bodies_of, spans_of, Defines, set_body}
-use Rattle.abnfcheck.specs.Joined.{added, joined, IsTaken}
+use Rattle.abnfcheck.specs.Joined.{added, joined}
+use Rattle.abnfread.specs.AbnfTable.{IsTaken}
 
 module _ {E : Type 0} where
   length_set : (rules : List (Rule E)) (id : ℕ) (w : E) → length (set_body rules id w) ≡ length rules

@@ -1,7 +1,8 @@
 //! The rules of a file, and the core rules that it leaves alone.
 ghost use Rattle.std.specs.Prelude.{◌≡◌, ◌<◌, length, slice_get, Some, IfOk};
 ghost use Rattle.ruletable.specs.Rules.{bodies_of};
-ghost use Rattle.abnfcheck.specs.Joined.{IsTaken, joined};
+ghost use Rattle.abnfcheck.specs.Joined.{joined};
+ghost use Rattle.abnfread.specs.AbnfTable.{IsTaken};
 
 use abnfread::Elem;
 use ruletable::{Memory, RuleTable};

@@ -8,14 +8,14 @@ use Rattle.ruletable.specs.declared.span.Span.{Span}
 use Rattle.ruletable.specs.declared.table.NameCase.TheVariants.{Fold}
 use Rattle.lexer.specs.declared.limits.TheConstants.{MAX_OPEN}
 use Rattle.abnfread.specs.declared.number.TheConstants.{MAX_VALUE}
-use Rattle.abnfread.specs.AbnfMachine.{append}
 use Rattle.abnfread.specs.AbnfSlices as slices
 use Rattle.abnfread.specs.AbnfSlices.{Run, continues_name, is_quotable}
 use Rattle.abnfread.specs.AbnfSpelling.{definition}
 use Rattle.abnfread.specs.AbnfTable.{alternatives_of, joined, body_in, id_in, added, extended, first_body, begun, grown}
 use Rattle.abnfread.specs.AbnfTable.{firsts, agains, earlies}
 use Rattle.abnfread.specs.CoreRules.{core_list, core_bodies}
-use Rattle.abnfread.specs.Element.{Element, Elements, Text, Values, Alt, Name, none, more, Rule, bodies, Definition}
+use Rattle.abnfread.specs.Element.{Element, Elements, Text, Values, Alt, Name, none, more, append, Rule, bodies}
+use Rattle.abnfread.specs.Element.{Definition}
 use Rattle.abnfprint.specs.AbnfReadBack.{table_of, SameButSpans}
 use Rattle.abnfprint.specs.declared.place.Place.TheVariants.{Alternative}
 use Rattle.abnfprint.specs.FormedAbnf.{IsName, named, IsFormed, AreFormed, AreFormedRules, AreMany, IsSome}

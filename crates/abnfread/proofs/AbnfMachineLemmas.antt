@@ -3,13 +3,13 @@
 use Rattle.std.proofs.Common.{◌≡◌, ℕ, Bool, true, false, Option, Some, None, List, [], ◌∷◌, ◌++◌, refl, ◌∙◌, ap}
 use Rattle.std.proofs.Common.{append_assoc as list_assoc}
 use Rattle.ruletable.specs.declared.span.Span.{Span}
-use Rattle.abnfread.specs.Element.{Element, Elements, none, more, Opt, Definition}
+use Rattle.abnfread.specs.Element.{Element, Elements, none, more, append, Opt, Definition}
 use Rattle.abnfread.specs.AbnfWords.{Word, word, Name}
 use Rattle.abnfread.specs.AbnfSpelling.{concatenation, alternation, HasGap, HasNoGap, OneElement, name, text, values}
 use Rattle.abnfread.specs.AbnfSpelling.{range, prose, parens, brackets, Repetition, once, repeated, Parts, one, further}
 use Rattle.abnfread.specs.AbnfSpelling.{Alternatives, only, others, Alternation, alternatives, Assigns, defines}
 use Rattle.abnfread.specs.AbnfSpelling.{extends, definition, Grammar, last_rule, more_rules}
-use Rattle.abnfread.specs.AbnfMachine.{append, snoc, finish, Times, just, times, apply, paren, brack, Level, level}
+use Rattle.abnfread.specs.AbnfMachine.{snoc, finish, Times, just, times, apply, paren, brack, Level, level}
 use Rattle.abnfread.specs.AbnfMachine.{Head, head, ended, fresh, awaits, read, Config, start, named, body, done}
 use Rattle.abnfread.specs.AbnfMachine.{element_step, fresh_step, run}
 

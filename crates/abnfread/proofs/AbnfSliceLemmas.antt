@@ -1,15 +1,16 @@
 -- A text is cut in one way.
 -- Serves: AbnfKind::are_cut, abnf_tokens, read_abnf
-use Rattle.std.proofs.Common.{◌≡◌, ℕ, ◌<◌, Bool, true, false, List, [], ◌∷◌, length, refl, sym, ap, arith}
+use Rattle.std.proofs.Common.{◌≡◌, ℕ, ◌<◌, ◌⊎◌, Bool, true, false, List, [], ◌∷◌, ◌++◌, length, refl, sym, ap, arith}
+use Rattle.std.proofs.Common.{◌∙◌, append_assoc}
 use Rattle.std.specs.Char.{is_ascii_alphabetic}
-use Rattle.lexer.specs.SliceEnds.{IsEnd, IsPart}
+use Rattle.lexer.specs.SliceEnds.{IsEnd, IsPart, StandsAlone, no_more, piece, Longest, NoToken}
 use Rattle.lexer.proofs.FirstLemmas as firsts
 use Rattle.lexer.proofs.FirstLemmas.{end-more, end-here, end-both, less-one}
 use Rattle.abnfread.specs.declared.kind.AbnfKind.{AbnfKind}
 use Rattle.abnfread.specs.declared.kind.AbnfKind.TheVariants.{Name, Repeat, Bad, End}
 use Rattle.abnfread.specs.AbnfKinds.{ends_list}
 use Rattle.abnfread.specs.BaseDigits.{is_digit}
-use Rattle.abnfread.specs.AbnfSlices.{Run, none, more, Digits, digits, Dotted, no_dot, dot, Numbers, values, range}
+use Rattle.abnfread.specs.AbnfSlices.{Run, none, more, Stops, is_inside, Digits, digits, Dotted, no_dot, dot, Numbers, values, range}
 use Rattle.abnfread.specs.AbnfSlices.{Count, exactly, at_least, Piece, blank, crlf, comment, White, Stands, name, is}
 use Rattle.abnfread.specs.AbnfSlices.{adds, counted, star, text, cased, num, prose, First}
 use Rattle.abnfread.proofs.ByteRunLemmas.{run-to}
@@ -111,6 +112,56 @@ pub first-dark : {k : AbnfKind} {t r : List ℕ} → First k t r → (m : List �
 first-dark h = firsts.first-dark Piece Stands Bad End stands-part stands-one piece-end piece-one stands-dark
     nothing-dark h
 
+-- bytes that pass, whatever stands behind them
+record RunAnywhere (f : ℕ → Bool) (t r : List ℕ) : Type 0 where
+  part : List ℕ
+  cut : t ≡ part ++ r
+  anywhere : (s : List ℕ) → Run f (part ++ s) s
+
+run-anywhere : {f : ℕ → Bool} {t r : List ℕ} → Run f t r → RunAnywhere f t r
+run-anywhere none = record { part = []; cut = refl; anywhere = λ s. none }
+run-anywhere (more {b} e h) = let x = run-anywhere h in
+    record { part = b ∷ x.part; cut = ap (λ (z : List ℕ). b ∷ z) x.cut; anywhere = λ s. more e (x.anywhere s) }
+
+-- a beginning of what such bytes do not begin
+stops-front : (f : ℕ → Bool) (w r : List ℕ) {t : List ℕ} → t ≡ w ++ r → Stops f t → Stops f w
+stops-front f [] r e h = tt
+stops-front f (b ∷ w) r e h = rw e at h
+
+-- white space is white space by itself too
+pub white-alone : {t r : List ℕ} → White t r → StandsAlone White t r
+white-alone no_more = record { part = record { front = []; whole = refl }; alone = no_more }
+white-alone (piece (blank {b} p) h) =
+    let x = white-alone h in
+    let behind = x.part in
+    record {
+      part = record { front = b ∷ behind.front; whole = ap (λ (z : List ℕ). b ∷ z) behind.whole };
+      alone = piece (blank p) x.alone;
+    }
+white-alone (piece crlf h) =
+    let x = white-alone h in
+    let behind = x.part in
+    record {
+      part = record {
+        front = 13 ∷ 10 ∷ behind.front;
+        whole = ap (λ (z : List ℕ). 13 ∷ 10 ∷ z) behind.whole;
+      };
+      alone = piece crlf x.alone;
+    }
+white-alone {r} (piece (comment c stop) h) =
+    let x = run-anywhere c in
+    let y = white-alone h in
+    let behind = y.part in
+    record {
+      part = record {
+        front = 59 ∷ (x.part ++ behind.front);
+        whole = ap (λ (z : List ℕ). 59 ∷ z) (x.cut ∙ ap (λ (z : List ℕ). x.part ++ z) behind.whole
+            ∙ sym (append_assoc x.part behind.front r));
+      };
+      alone = piece (comment (x.anywhere behind.front) (stops-front is_inside behind.front r behind.whole stop))
+          y.alone;
+    }
+
 pub white-ends : {t r : List ℕ} → White t r → IsEnd t r
 white-ends h = firsts.white-end Piece piece-end piece-one h
 
@@ -123,6 +174,16 @@ first-ends h = firsts.first-ends Piece Stands Bad End stands-part h
 
 pub first-less : {k : AbnfKind} {t r : List ℕ} → ends_list k ≡ false → First k t r → length r < length t
 first-less e h = firsts.first-less Piece Stands Bad End stands-part ends_list refl e h
+
+pub first-longest : {k : AbnfKind} {t r : List ℕ} → First k t r → Longest Stands k t r ⊎ NoToken Stands t
+first-longest h = firsts.first-longest Piece Stands Bad End stands-part h
+
+ends-none : (k : AbnfKind) (t r : List ℕ) → ends_list k ≡ true → Stands k t r → ⊥
+ends-none End t r e h = elim h [ ]
+ends-none _ t r e h = cc
+
+pub first-last : {k : AbnfKind} {t r : List ℕ} → ends_list k ≡ true → First k t r → t ≡ []
+first-last e h = firsts.first-last Piece Stands Bad End stands-part ends_list refl ends-none e h
 
 pub one-next : (j k : AbnfKind) (t a b r s : List ℕ) → White t a → First j a r → White t b → First k b s → (j ≡ k)
     × (a ≡ b) × (r ≡ s)

@@ -4,14 +4,14 @@ use Rattle.std.proofs.Common.{◌≡◌, ℕ, Bool, true, false, Option, Some, N
 use Rattle.std.proofs.Common.{◌⊎◌, inl, inr, append_assoc as list_assoc}
 use Rattle.ruletable.specs.declared.span.Span.{Span}
 use Rattle.abnfread.specs.Element as e
-use Rattle.abnfread.specs.Element.{Element, Elements, none, more, Rep, Opt, Definition}
+use Rattle.abnfread.specs.Element.{Element, Elements, none, more, append, Rep, Opt, Definition}
 use Rattle.abnfread.specs.AbnfWords.{Word, word, Said, Name, Is, Adds, Slash, LParen, RParen, LBrack, RBrack, Repeat}
 use Rattle.abnfread.specs.AbnfWords.{Text, Values, Range, Prose, End}
 use Rattle.abnfread.specs.AbnfSpelling.{concatenation, alternation, HasGap, HasNoGap, OneElement, name, text, values}
 use Rattle.abnfread.specs.AbnfSpelling.{range, prose, parens, brackets, Repetition, once, repeated, Parts, one, further}
 use Rattle.abnfread.specs.AbnfSpelling.{Alternatives, only, others, Alternation, alternatives, Assigns, defines}
 use Rattle.abnfread.specs.AbnfSpelling.{extends, definition, Grammar, last_rule, more_rules}
-use Rattle.abnfread.specs.AbnfMachine.{append, snoc, finish, Times, just, times, apply, Bracket, paren, brack, enclosed}
+use Rattle.abnfread.specs.AbnfMachine.{snoc, finish, Times, just, times, apply, Bracket, paren, brack, enclosed}
 use Rattle.abnfread.specs.AbnfMachine.{Level, level, Head, head, ended, fresh, awaits, read, Config, start, named, body}
 use Rattle.abnfread.specs.AbnfMachine.{done, rule_step, named_step, element_step, fresh_step, read_step, step, run}
 use Rattle.abnfread.proofs.AbnfMachineLemmas.{append_assoc}

@@ -9,11 +9,10 @@ use Rattle.ruletable.specs.Rules.{find_in, same_name}
 use Rattle.ruletable.specs.declared.table.NameCase.TheVariants.{Fold}
 use Rattle.abnfread.specs.declared.elem.Elem.{Elem}
 use Rattle.abnfread.specs.declared.reader.Definition.{Definition as CodeDefinition}
-use Rattle.abnfread.specs.AbnfMachine.{append}
 use Rattle.abnfread.specs.AbnfReader.{definition_from}
 use Rattle.abnfread.specs.AbnfTable.{body_in, joined, IsCoreTable, IsFirstBody}
 use Rattle.abnfread.specs.CoreRules.{nowhere, core_list, core_bodies}
-use Rattle.abnfread.specs.Element.{Element, Elements, Prose, Rule, none, more}
+use Rattle.abnfread.specs.Element.{Element, Elements, Prose, Rule, none, more, append}
 use Rattle.abnfread.specs.AbnfViews.{element_of, elements_of}
 use Rattle.abnfread.proofs.AbnfMachineLemmas.{append_assoc}
 use Rattle.abnfread.proofs.CoreRuleLemmas.{found-in}

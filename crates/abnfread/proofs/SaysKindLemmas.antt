@@ -1,6 +1,6 @@
 -- A token says one thing at most, and something unless it is bad.
--- Serves: read_abnf
-use Rattle.std.proofs.Common.{◌≡◌, ℕ, ◌||◌, ◌==◌, Bool, true, Option, List, [], ◌∷◌, ◌++◌, refl, sym, ◌∙◌, ap}
+-- Serves: one_tree, read_abnf
+use Rattle.std.proofs.Common.{◌≡◌, ◌≢◌, ℕ, ◌||◌, ◌==◌, Bool, true, Option, List, [], ◌∷◌, ◌++◌, refl, sym, ◌∙◌, ap}
 use Rattle.std.proofs.Common.{append_assoc, arith}
 use Rattle.std.proofs.lemmas.List.{append_cancel_right}
 use Rattle.std.specs.Str.Parse.{digits_value}
@@ -190,6 +190,13 @@ first-said {r = r} z p (found h) cut f =
     (o.said, rw same at o.says)
 first-said z p (bad w n) cut f = absurd (f refl)
 first-said z p at_end cut f = (words.End, says_end)
+
+pub bad-silent : (z : List ℕ) (p : Span) (s : Said) → SaysKind kinds.Bad z p s → ⊥
+bad-silent z p s h = elim h [ ]
+
+pub token-says : (total : ℕ) (t r z : List ℕ) (k : AbnfKind) (p : Span) → Next White First total t (tok k z p) r
+    → k ≢ kinds.Bad → (s : Said) × SaysKind k z p s
+token-says total t r z k p n f = first-said z p n.first n.cut f
 
 is-said : (k : AbnfKind) (z : List ℕ) (p : Span) → ((k ≡ kinds.Bad → ⊥) → (s : Said) × SaysKind k z p s) → IsSaid k z p
 is-said kinds.Bad z p f = tt

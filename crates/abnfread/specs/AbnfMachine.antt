@@ -3,14 +3,10 @@ use Rattle.std.specs.Prelude.{ℕ, suc, Bool, true, false, Option, Some, None, L
 use Rattle.lexer.specs.Viability as taking
 use Rattle.ruletable.specs.declared.span.Span.{Span}
 use Rattle.abnfread.specs.Element as e
-use Rattle.abnfread.specs.Element.{Element, Elements, none, more, Rep, Opt, Definition}
+use Rattle.abnfread.specs.Element.{Element, Elements, none, more, append, Rep, Opt, Definition}
 use Rattle.abnfread.specs.AbnfSpelling.{concatenation, alternation, definition}
 use Rattle.abnfread.specs.AbnfWords.{Word, word, Said, Name, Is, Adds, Slash, LParen, RParen, LBrack, RBrack, Repeat}
 use Rattle.abnfread.specs.AbnfWords.{Text, Values, Range, Prose, End}
-
-abbrev pub append : Elements → Elements → Elements
-append none ys = ys
-append (more x xs) ys = more x (append xs ys)
 
 abbrev pub snoc : Elements → Element → Elements
 snoc xs x = append xs (more x none)

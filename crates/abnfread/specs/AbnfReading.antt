@@ -51,11 +51,11 @@ abbrev pub IsTooLarge : List Marked → ℕ → Marked → Type 0
 IsTooLarge ms i m = IsOver ms i × (is_bracket m ≡ false)
 
 -- The text is refused for that fault. Its length is looked at first, then the first token that is hopeless or over a
--- limit decides. Memory may want at any growth.
+-- limit decides. Memory may want at any growth, but a text that is too long is refused for its length alone.
 abbrev pub IsFaultOf : List ℕ → ReadFault → Type 0
 IsFaultOf text (faults.Syntax line) = IsDecidedAt text line IsSyntax
 IsFaultOf text (faults.Depth line) = IsDecidedAt text line IsTooDeep
 IsFaultOf text (faults.NumberTooLarge line) = IsDecidedAt text line IsTooLarge
 IsFaultOf text faults.TooLong = MAX_GRAMMAR < length text
-IsFaultOf text faults.Memory = Unit {0}
+IsFaultOf text faults.Memory = length text ≤ MAX_GRAMMAR
 IsFaultOf text (faults.CodePredicate line) = ⊥

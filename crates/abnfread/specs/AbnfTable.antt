@@ -7,9 +7,8 @@ use Rattle.ruletable.specs.Rules.{same_name}
 use Rattle.ruletable.specs.declared.table.NameCase.TheVariants.{Fold}
 use Rattle.abnfread.specs.declared.elem.Elem.{Elem}
 use Rattle.abnfread.specs.CoreRules.{core_list}
-use Rattle.abnfread.specs.Element.{Element, Elements, none, more, Alt, Rule, bodies, Definition}
+use Rattle.abnfread.specs.Element.{Element, Elements, none, more, append, Alt, Rule, bodies, Definition}
 use Rattle.abnfread.specs.AbnfViews.{element_of, rules_of}
-use Rattle.abnfread.specs.AbnfMachine.{append}
 use Rattle.abnfread.specs.AbnfSpelling.{alternation}
 
 -- the alternatives of a body

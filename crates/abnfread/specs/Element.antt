@@ -30,6 +30,11 @@ mutual
     none : Elements
     more : Element → Elements → Elements
 
+-- these elements, and then those
+abbrev pub append : Elements → Elements → Elements
+append none ys = ys
+append (more x xs) ys = more x (append xs ys)
+
 -- a rule: its name, its body, and where the name of its definition stands
 abbrev pub Rule : Type 0
 Rule = table.Rule Element

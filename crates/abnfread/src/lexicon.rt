@@ -8,13 +8,15 @@ use lexer::Kind;
 
 impl Kind for AbnfKind {
     ghost use Rattle.lexer.specs.SliceEnds.{NoPiece};
-    ghost use Rattle.abnfread.specs.AbnfSlices.{Piece, White, First};
+    ghost use Rattle.abnfread.specs.AbnfSlices.{Piece, White, Stands, First};
 
     ghost is_end = { ends_list };
 
     ghost white = { White };
 
     ghost dark = { NoPiece Piece };
+
+    ghost stands = { Stands };
 
     ghost first = { First };
 

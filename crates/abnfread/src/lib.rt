@@ -21,5 +21,5 @@ pub use kind::AbnfKind;
 pub use marked::abnf_tokens;
 pub use marks::{AbnfTokenIter, MarkedToken};
 pub use number::{MAX_REPEAT, MAX_VALUE};
-pub use read::read_abnf;
+pub use read::{one_reading, one_tree, read_abnf};
 pub use table::Abnf;

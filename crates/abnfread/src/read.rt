@@ -1,11 +1,17 @@
 //! Reads a grammar's text.
-ghost use Rattle.std.specs.Prelude.{◌≡◌, ◌≤◌, List, length, IfOk, IfErr, MatchResult};
+ghost use Rattle.std.specs.Prelude.{◌≡◌, ◌≢◌, ℕ, ◌<◌, ◌≤◌, List, length, Err, IfOk, IfErr, MatchResult};
 ghost use Rattle.abnfread.specs.AbnfReader.{config_of, definitions_from, IsSaid, Takes};
 ghost use Rattle.abnfread.specs.AbnfReading.{Reads, IsFaultOf};
+ghost use Rattle.abnfread.specs.AbnfSays.{SayAll, SaysKind};
+ghost use Rattle.abnfread.specs.AbnfSlices.{White, First};
+ghost use Rattle.abnfread.specs.AbnfSpelling.{Grammar};
 ghost use Rattle.abnfread.specs.AbnfTable.{IsTableOf, IsCoreTable};
+ghost use Rattle.abnfread.specs.AbnfWords.{Said, Word};
 ghost use Rattle.abnfread.specs.Element.{Definition as Read};
-ghost use Rattle.abnfread.specs.MarkedTokens.{marked_of};
+ghost use Rattle.abnfread.specs.MarkedTokens.{Marked, marked_of};
+ghost use Rattle.lexer.specs.TokenLists.{Next, tok};
 ghost use Rattle.ruletable.specs.Lines.{line_at};
+ghost use Rattle.ruletable.specs.declared.span.Span.{Span};
 
 use crate::kind::{AbnfKind, is_repeat};
 use crate::marked::abnf_tokens;
@@ -92,13 +98,14 @@ fn take_token<'a>(
 /// stands.
 ///
 /// # Errors
-/// - `TooLong`, before all else, for a text of more than `MAX_GRAMMAR` bytes.
+/// - `TooLong`, before all else and whatever memory does, for a text of more than `MAX_GRAMMAR` bytes.
 /// - Else the first token decides with which the text is no beginning of a grammar any more (`Syntax`), or which opens
 ///   one bracket more than `MAX_OPEN` at once (`Depth`), or which is a number over its limit (`NumberTooLarge`):
 ///   `MAX_REPEAT` in a repeat, `MAX_VALUE` in a terminal. The line is that of the token's first byte, where lines end
 ///   with LF.
 /// - `Memory` if an allocation fails.
 pub fn read_abnf(alloc: Global, text: &[u8]) -> Result<Abnf, ReadFault>
+    ensures long { MAX_GRAMMAR < length text.now → result ≡ Err ReadFault.TooLong }
     ensures found { IfOk result (λ abnf. (definitions : List Read) × Reads text.now definitions
         × IsTableOf definitions abnf.rules abnf.redefined.items abnf.extended.items) }
     ensures only { (definitions : List Read) → Reads text.now definitions
@@ -116,3 +123,23 @@ pub fn read_abnf(alloc: Global, text: &[u8]) -> Result<Abnf, ReadFault>
         Err(Memory) => Err(ReadFault::Memory),
     }
 }
+
+/// Says that a bad token says nothing, every other token of a text says something, marked tokens say at most one list of
+/// words, and words spell at most one list of definitions.
+pub fn one_tree()
+    ensures silent { (z : List ℕ) (p : Span) (s : Said) → SaysKind AbnfKind.Bad z p s → ⊥ }
+    ensures says { (total : ℕ) (t r z : List ℕ) (k : AbnfKind) (p : Span) → Next White First total t (tok k z p) r
+        → k ≢ AbnfKind.Bad → (s : Said) × SaysKind k z p s }
+    ensures words { (ms : List Marked) (vs ws : List Word) → SayAll ms vs → SayAll ms ws → vs ≡ ws }
+    ensures tree { (ws : List Word) → (a b : List Read) → Grammar ws a → Grammar ws b → a ≡ b }
+{}
+
+/// Says that a text spells at most one list of definitions or has at most one fault, and never both; but memory may be
+/// refused in reading it.
+pub fn one_reading()
+    ensures definitions { (text : List ℕ) (a b : List Read) → Reads text a → Reads text b → a ≡ b }
+    ensures no_fault { (text : List ℕ) (definitions : List Read) (fault : ReadFault) → IsFaultOf text fault
+        → fault ≢ ReadFault.Memory → Reads text definitions → ⊥ }
+    ensures one_fault { (text : List ℕ) (a b : ReadFault) → IsFaultOf text a → IsFaultOf text b → a ≢ ReadFault.Memory
+        → b ≢ ReadFault.Memory → a ≡ b }
+{}

@@ -1,16 +1,16 @@
 -- What is stated for a text in ABNF, settings and an input is one, but for want of memory.
 -- Serves: one_statement_of_abnf
-use Rattle.std.proofs.Common.{◌≡◌, ◌≢◌, ℕ, ◌⊎◌, inl, inr, List, [], refl, sym, ◌∙◌, ap, subst, map}
+use Rattle.std.proofs.Common.{◌≡◌, ◌≢◌, ℕ, ◌⊎◌, inl, inr, List, [], refl, sym, ◌∙◌, ap, subst, map, arith}
 use Rattle.ruletable.specs.Notes.{Said, said}
 use Rattle.ruletable.specs.declared.fault.ReadFault.{ReadFault}
-use Rattle.ruletable.specs.declared.fault.ReadFault.TheVariants.{Memory}
+use Rattle.ruletable.specs.declared.fault.ReadFault.TheVariants.{Memory, TooLong}
 use Rattle.ruletable.specs.declared.note.NoteKind.TheVariants.{Redefined}
 use Rattle.std.specs.Prelude.{Contains}
 use Rattle.abnfread.specs.AbnfReading.{Reads, IsFaultOf}
 use Rattle.abnfread.specs.AbnfTable.{body_in, earlies}
 use Rattle.abnfread.specs.CoreRules.{core_list}
 use Rattle.abnfread.specs.Element.{Definition, Rule}
-use Rattle.abnfread.proofs.AbnfFaultLemmas.{one-reading, no-fault}
+use Rattle.abnfread.proofs.AbnfFaultLemmas.{one-reading, one-fault, no-fault}
 use Rattle.abnfcheck.proofs.AbnfNotesLemmas.{notes_same, those_same}
 use Rattle.abnfrun.specs.AbnfAnswers.{AbnfStates, refused, noted, checked, judges, again, printed, no_memory}
 use Rattle.abnfrun.specs.AbnfNoted.{file_rules, all_rules, again_in, judged_of, AreNotesOn, IsRefusedFor, AreAgain}
@@ -18,7 +18,6 @@ use Rattle.abnfrun.specs.AbnfNoted.{rule_given}
 use Rattle.abnfrun.specs.AbnfReply.{AnswersFor, printed_rules, JudgeReply}
 use Rattle.abnfrun.proofs.IsAnswerOnLemmas.{FurthestIsOne}
 use Rattle.abnfrun.proofs.IsAnswerToLemmas.{TextIsOne, one_answer}
-use Rattle.abnfrun.proofs.OneFaultLemmas.{one-fault}
 use Rattle.lines.specs.declared.answers.Answer.{Answer}
 use Rattle.lines.proofs.LinesReplyLemmas.{one_lines_reply}
 use Rattle.toolrun.specs.Input.{Input}
@@ -85,7 +84,7 @@ module _ (settings : Settings) (input : Input) where
       inr (record { definitions = ds; reads = r; states = is_again said are some mode })
   parts_of_states text notes reply (printed ds r are mode) ample =
       inr (record { definitions = ds; reads = r; states = is_printed are mode })
-  parts_of_states text notes reply no_memory ample = absurd (ample refl)
+  parts_of_states text notes reply (no_memory within) ample = absurd (ample refl)
 
   module _ (one : AnswersAreOne settings) (definitions : List Definition) where
     one_text : (a b : List Said) → AreNotesOn definitions (rule_given settings) a
@@ -162,3 +161,20 @@ one_statement one furthest text settings input notes others a b g h m n =
     one_in settings input (λ rules judged line. one_answer one furthest settings.letters rules judged line
     settings.viable) text notes others a b (parts_of_states settings input text notes a g m)
     (parts_of_states settings input text others b h n) m n
+
+-- what spells definitions is not too long
+long-unread : {text : List ℕ} {definitions : List Definition} → IsFaultOf text TooLong → Reads text definitions → ⊥
+long-unread long r = let within = r.size in omega arith
+
+-- a text that is too long is told so, whatever memory does
+pub long_is_told : (text : List ℕ) (settings : Settings) (input : Input) (notes : List ℕ) (reply : Reply)
+    → IsFaultOf text TooLong → AbnfStates text settings input notes reply → (notes ≡ []) × (reply ≡ refusal TooLong)
+long_is_told text settings input notes reply long (refused fault f other) =
+    (refl, ap refusal (one-fault text fault TooLong f long other (λ e. cc)))
+long_is_told text settings input notes reply long (noted ds said r are bad mode) = absurd (long-unread long r)
+long_is_told text settings input notes reply long (checked ds said r are fine mode) = absurd (long-unread long r)
+long_is_told text settings input notes reply long (judges ds said stated r are fine mode run) =
+    absurd (long-unread long r)
+long_is_told text settings input notes reply long (again ds said r are some mode) = absurd (long-unread long r)
+long_is_told text settings input notes reply long (printed ds r are mode) = absurd (long-unread long r)
+long_is_told text settings input notes reply long (no_memory within) = absurd (omega arith)

@@ -4,5 +4,4 @@ pub mod AllRulesLemmas
 pub mod AreRedefinitionsLemmas
 pub mod IsAnswerOnLemmas
 pub mod IsAnswerToLemmas
-pub mod OneFaultLemmas
 pub mod SpellsLengthLemmas

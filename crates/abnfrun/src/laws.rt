@@ -1,15 +1,16 @@
 //! Laws of what is stated for a grammar in ABNF and an input: there is at most one answer.
-ghost use Rattle.std.specs.Prelude.{◌≡◌, ◌≢◌, ℕ, List};
+ghost use Rattle.std.specs.Prelude.{◌≡◌, ◌≢◌, ℕ, List, []};
 ghost use Rattle.ruletable.specs.declared.fault.ReadFault.{ReadFault};
 ghost use Rattle.abnfread.specs.AbnfReading.{IsFaultOf, Reads};
 ghost use Rattle.abnfread.specs.Element.{Definition, Rule};
 ghost use Rattle.abnfrun.specs.AbnfAnswers.{AbnfStates};
 ghost use Rattle.abnfrun.specs.AbnfReply.{JudgeReplies};
 ghost use Rattle.toolrun.specs.Input.{Input};
-ghost use Rattle.toolrun.specs.Reply.{Reply};
+ghost use Rattle.toolrun.specs.Reply.{Reply, refusal};
 ghost use Rattle.toolrun.specs.declared.settings.Settings.{Settings};
 
 use abnfcheck::furthest_is_found;
+use abnfread::one_reading;
 use letters::utf8_is_decided;
 
 /// A list of rules, a judged rule and settings have at most one reply to an input.
@@ -23,7 +24,7 @@ pub fn one_reply_of_abnf()
 
 /// A text in ABNF is a grammar of at most one list of definitions, or has at most one fault, and never both; but memory
 /// may be refused in reading it. A text, settings and an input have at most one list of notes and one reply, but for
-/// those that tell want of memory, status 5.
+/// those that tell want of memory, status 5. A text that is too long is told so, whatever memory does.
 pub fn one_statement_of_abnf()
     ensures definitions { (text : List ℕ) (a b : List Definition) → Reads text a → Reads text b → a ≡ b }
     ensures no_fault { (text : List ℕ) (definitions : List Definition) (fault : ReadFault) →
@@ -33,7 +34,11 @@ pub fn one_statement_of_abnf()
     ensures whole { (text : List ℕ) (settings : Settings) (input : Input) (notes others : List ℕ) (a b : Reply) →
         AbnfStates text settings input notes a → AbnfStates text settings input others b → a.status ≢ 5 → b.status ≢ 5 →
         (notes ≡ others) × (a ≡ b) }
+    ensures long { (text : List ℕ) (settings : Settings) (input : Input) (notes : List ℕ) (reply : Reply) →
+        IsFaultOf text ReadFault.TooLong → AbnfStates text settings input notes reply →
+        (notes ≡ []) × (reply ≡ refusal ReadFault.TooLong) }
 {
+    one_reading();
     furthest_is_found();
     utf8_is_decided();
 }

@@ -1,10 +1,10 @@
 -- What is stated for a grammar's text, settings and an input is one, but for want of memory.
 -- Serves: one_statement
-use Rattle.std.proofs.Common.{◌≡◌, ◌≢◌, ℕ, ◌⊎◌, inl, inr, List, [], refl, sym, ◌∙◌, ap, subst, map, true, false}
+use Rattle.std.proofs.Common.{◌≡◌, ◌≢◌, ℕ, ◌⊎◌, inl, inr, List, [], refl, sym, ◌∙◌, ap, subst, map, arith, true, false}
 use Rattle.std.specs.Prelude.{Contains}
 use Rattle.ruletable.specs.Notes.{Said, said}
 use Rattle.ruletable.specs.declared.fault.ReadFault.{ReadFault}
-use Rattle.ruletable.specs.declared.fault.ReadFault.TheVariants.{Memory}
+use Rattle.ruletable.specs.declared.fault.ReadFault.TheVariants.{Memory, TooLong}
 use Rattle.ruletable.specs.declared.note.NoteKind.TheVariants.{Redefined}
 use Rattle.pegread.specs.Definitions.{firsts, agains}
 use Rattle.pegread.specs.Pattern.{Rule}
@@ -75,7 +75,7 @@ module _ (settings : Settings) (input : Input) where
       inr (record { definitions = ds; reads = r; states = is_again said are some mode })
   parts_of text notes reply (printed ds r are mode) ample =
       inr (record { definitions = ds; reads = r; states = is_printed are mode })
-  parts_of text notes reply no_memory ample = absurd (ample refl)
+  parts_of text notes reply (no_memory within) ample = absurd (ample refl)
 
   module _ (definitions : List Rule) where
     notes_are_one : (a b : List Said) → AreNotesOn definitions (start_given settings) a
@@ -159,3 +159,20 @@ pub statement_is_one : (text : List ℕ) (settings : Settings) (input : Input) (
 statement_is_one text settings input notes others a b g h m n =
     one_in settings input text notes others a b (parts_of settings input text notes a g m)
     (parts_of settings input text others b h n) m n
+
+-- what spells definitions is not too long
+long-unread : {text : List ℕ} {definitions : List Rule} → IsFaultOf text TooLong → Reads text definitions → ⊥
+long-unread long r = let within = r.within in omega arith
+
+-- a text that is too long is told so, whatever memory does
+pub long_is_told : (text : List ℕ) (settings : Settings) (input : Input) (notes : List ℕ) (reply : Reply)
+    → IsFaultOf text TooLong → States text settings input notes reply → (notes ≡ []) × (reply ≡ refusal TooLong)
+long_is_told text settings input notes reply long (refused fault f other) =
+    (refl, ap refusal (one-fault text fault TooLong f long other (λ e. cc)))
+long_is_told text settings input notes reply long (noted ds said r are bad mode) = absurd (long-unread long r)
+long_is_told text settings input notes reply long (checked ds said r are fine mode) = absurd (long-unread long r)
+long_is_told text settings input notes reply long (runs ds said start stated r are fine mode is run) =
+    absurd (long-unread long r)
+long_is_told text settings input notes reply long (again ds said r are some mode) = absurd (long-unread long r)
+long_is_told text settings input notes reply long (printed ds r are mode) = absurd (long-unread long r)
+long_is_told text settings input notes reply long (no_memory within) = absurd (omega arith)

@@ -1,6 +1,6 @@
 //! Texts in ABNF that are refused, with the fault and the line, by hand.
-use abnfread::{MAX_REPEAT, MAX_VALUE, read_abnf};
-use lexer::MAX_GRAMMAR;
+use abnfread::{AbnfKind, MAX_REPEAT, MAX_VALUE, one_reading, one_tree, read_abnf};
+use lexer::{MAX_GRAMMAR, tokens_make_up};
 use ruletable::{LineRule, ReadFault, line_of};
 use std::alloc::Global;
 use std::test::Fail;
@@ -69,6 +69,9 @@ fn names_the_line_of_the_hopeless_token(rt: HostRuntime) {
         let fault = ReadFault::Syntax { line: row.1 };
         assert!(rt; is_refused(rt.alloc(), row.0, fault), "{:?}", row.0);
     }
+    one_tree();
+    one_reading();
+    tokens_make_up::<AbnfKind>();
 }
 
 #[test]

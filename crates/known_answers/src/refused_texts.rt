@@ -1,5 +1,5 @@
 //! Texts that are refused, and what is kept of a definition.
-use pegread::{Expr, MAX_GRAMMAR, MAX_OPEN, one_tree, read_peg};
+use pegread::{Expr, MAX_GRAMMAR, MAX_OPEN, one_reading, one_tree, read_peg};
 use ruletable::ReadFault;
 use std::alloc::Global;
 use std::test::Fail;
@@ -41,6 +41,7 @@ fn names_the_line_of_the_hopeless_token(rt: HostRuntime) {
         assert!(rt; is_refused(rt.alloc(), row.0, fault), "{:?}", row.0);
     }
     one_tree();
+    one_reading();
 }
 
 #[test]

@@ -1,6 +1,6 @@
 //! Tokens of texts, by hand.
-use lexer::{have_tokens, one_list, tokens};
-use pegread::{Kind, are_marked, tokens_make_up};
+use lexer::{have_tokens, one_list, tokens, tokens_make_up};
+use pegread::{Kind, are_marked};
 
 // A text, and its tokens before the end.
 type Row = (&'static [u8], &'static [(Kind, &'static [u8])]);
@@ -139,6 +139,6 @@ fn places_slices(rt: HostRuntime) {
 fn laws_return() {
     one_list::<Kind>();
     are_marked();
-    tokens_make_up();
+    tokens_make_up::<Kind>();
     have_tokens::<Kind>(b"a <- 'b' # c");
 }

@@ -1,9 +1,10 @@
 -- The first token of a text is found in one way, where two tokens of one place and one end are of one kind.
 -- Serves: Kind::are_cut, AbnfKind::are_cut, read_peg, read_abnf
 use Rattle.std.proofs.Common.{◌≡◌, ℕ, ◌<◌, Bool, true, false, List, [], ◌∷◌, ◌++◌, length, drop, refl, sym, ap, arith}
-use Rattle.std.proofs.Common.{length-append, append_assoc, ◌∙◌}
+use Rattle.std.proofs.Common.{length-append, append_assoc, ◌∙◌, ◌⊎◌, inl, inr}
 use Rattle.std.proofs.lemmas.List.{drop_at}
-use Rattle.lexer.specs.SliceEnds.{IsEnd, IsPart, White, no_more, piece, NoPiece, First, found, bad, at_end}
+use Rattle.lexer.specs.SliceEnds.{IsEnd, IsPart, White, no_more, piece, NoPiece, Longest, NoToken, First}
+use Rattle.lexer.specs.SliceEnds.{found, bad, at_end}
 
 pub end-more : {t r : List ℕ} (b : ℕ) → IsEnd t r → IsEnd (b ∷ t) r
 end-more b h = record { front = b ∷ h.front; whole = ap (λ (x : List ℕ). b ∷ x) h.whole }
@@ -69,6 +70,21 @@ module _ {K : Type 0} (Piece : List ℕ → List ℕ → Type 0) (Stands : K →
 
   nothing-stands : {k : K} {r : List ℕ} → Stands k [] r → ⊥
   nothing-stands h = let p = part _ _ _ h in let l = p.less in absurd (omega arith)
+
+  -- it is the longest token that stands there, or none stands there
+  pub first-longest : {k : K} {t r : List ℕ} → First Piece Stands bad_kind end_kind k t r
+      → Longest Stands k t r ⊎ NoToken Stands t
+  first-longest (found h) = inl h
+  first-longest (bad w f) = inr f
+  first-longest at_end = inr (λ k r h. nothing-stands h)
+
+  -- the end of a list stands where the text ends
+  pub first-last : (is_end : K → Bool) → is_end bad_kind ≡ false
+      → ((k : K) (t r : List ℕ) → is_end k ≡ true → Stands k t r → ⊥) → {k : K} {t r : List ℕ} → is_end k ≡ true
+      → First Piece Stands bad_kind end_kind k t r → t ≡ []
+  first-last is_end goes none e (found h) = absurd (none _ _ _ e h.stands)
+  first-last is_end goes none e (bad w f) = cc
+  first-last is_end goes none e at_end = refl
 
   -- each token that stands there ends where this one does
   pub first-alone : {k : K} {t r : List ℕ} → Stands k t r → ((j : K) (s : List ℕ) → Stands j t s → r ≡ s)

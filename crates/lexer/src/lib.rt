@@ -11,4 +11,4 @@ pub use byte_slices::{after_byte, inside};
 pub use kind::Kind;
 pub use limits::{MAX_GRAMMAR, MAX_OPEN};
 pub use token_iter::{Token, TokenIter};
-pub use token_lists::{have_tokens, one_list, tokens};
+pub use token_lists::{have_tokens, one_list, tokens, tokens_make_up};

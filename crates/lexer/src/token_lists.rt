@@ -1,5 +1,6 @@
 //! The tokens of a whole text.
-ghost use Rattle.std.specs.Prelude.{◌≡◌, ℕ, List, length};
+ghost use Rattle.std.specs.Prelude.{◌≡◌, ℕ, List, length, All};
+ghost use Rattle.lexer.specs.Pieces.{AreInOrder, IsLongest, LiesIn, MakeUp};
 ghost use Rattle.lexer.specs.TokenLists.{AreTokens, IsAtStart, Tok};
 
 use crate::kind::Kind;
@@ -25,4 +26,19 @@ pub fn have_tokens<K: Kind>(text: &[u8])
     ensures { (ts : List (Tok K)) × AreTokens K.white K.first K.is_end (length text.now) text.now ts }
 {
     for _token in tokens::<K>(text) {}
+}
+
+/// Says that a text is its tokens' slices with white space between them, in order. Each slice lies where its span says,
+/// and is the longest token that begins there, or none begins there.
+pub fn tokens_make_up<K: Kind>()
+    ensures pieces { (text : List ℕ) (ts : List (Tok K)) → AreTokens K.white K.first K.is_end (length text) text ts
+        → MakeUp K.white ts text }
+    ensures slices { (text : List ℕ) (ts : List (Tok K)) → AreTokens K.white K.first K.is_end (length text) text ts
+        → All (LiesIn text) ts }
+    ensures order { (text : List ℕ) (ts : List (Tok K)) → AreTokens K.white K.first K.is_end (length text) text ts
+        → AreInOrder 0 ts }
+    ensures longest { (text : List ℕ) (ts : List (Tok K)) → AreTokens K.white K.first K.is_end (length text) text ts
+        → All (IsLongest K.stands text) ts }
+{
+    K::are_cut();
 }

@@ -1,5 +1,5 @@
 -- A text has one list of definitions or one fault, but for want of memory.
--- Serves: is_read_back, read_peg
+-- Serves: is_read_back, one_reading, read_peg
 use Rattle.std.proofs.Common.{◌≡◌, ◌≢◌, ℕ, ◌⊎◌, inl, inr, take, Some, List, refl, sym, ◌∙◌, ap, arith, slice_get}
 use Rattle.lexer.proofs.ViabilityLemmas as viability
 use Rattle.lexer.specs.declared.limits.TheConstants.{MAX_OPEN}

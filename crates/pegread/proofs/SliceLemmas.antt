@@ -1,9 +1,9 @@
 -- A text is cut in one way, and how far the relations of specs/Slices.antt reach.
--- Serves: Kind::after_white, Kind::are_cut, Kind::first_token, is_read_back, read_peg, tokens_make_up
+-- Serves: Kind::after_white, Kind::are_cut, Kind::first_token, is_read_back, read_peg
 use Rattle.std.proofs.Common.{◌≡◌, ◌≢◌, ℕ, ◌≤◌, ◌<◌, true, false, List, [], ◌∷◌, length, refl, sym, ap, arith, zero}
-use Rattle.std.proofs.Common.{suc, ◌++◌, ◌⊎◌, inl, inr}
+use Rattle.std.proofs.Common.{suc, ◌++◌, ◌⊎◌, inl, inr, ◌∙◌, append_assoc}
 use Rattle.std.proofs.lemmas.Bool.Decides.{nat_tests}
-use Rattle.lexer.specs.SliceEnds.{IsEnd, IsPart, NoPiece, piece}
+use Rattle.lexer.specs.SliceEnds.{IsEnd, IsPart, StandsAlone, NoPiece, no_more, piece, Longest, NoToken}
 use Rattle.lexer.proofs.FirstLemmas.{end-more, end-here, end-both, less-one}
 use Rattle.lexer.proofs.TokenListLemmas.{end-shorter}
 use Rattle.pegread.specs.declared.kind.Kind.{Kind}
@@ -101,6 +101,51 @@ byte-dark {b} e f n m (comment h) = let same : b ≡ 35 = cc in n same
 pub white-ends : {t r : List ℕ} → White t r → IsEnd t r
 white-ends h = firsts.white-end Piece piece-end piece-one h
 
+-- a comment's inside, which ends before each line end
+record CommentPart (t r : List ℕ) : Type 0 where
+  part : List ℕ
+  cut : t ≡ part ++ r
+  ends : IsLineEnd r
+  alone : (s : List ℕ) → IsLineEnd s → Comment (part ++ s) s
+
+comment-part : {t r : List ℕ} → Comment t r → CommentPart t r
+comment-part (ended h) = record { part = []; cut = refl; ends = h; alone = λ s e. ended e }
+comment-part (inside {b} p c) = let x = comment-part c in
+    record {
+      part = b ∷ x.part;
+      cut = ap (λ (z : List ℕ). b ∷ z) x.cut;
+      ends = x.ends;
+      alone = λ s e. inside p (x.alone s e);
+    }
+
+-- a beginning of what a line end begins, or nothing
+line_end-front : (w r : List ℕ) {t : List ℕ} → t ≡ w ++ r → IsLineEnd t → IsLineEnd w
+line_end-front [] r e h = tt
+line_end-front (b ∷ w) r e h = rw e at h
+
+-- white space is white space by itself too
+pub white-alone : {t r : List ℕ} → White t r → StandsAlone White t r
+white-alone no_more = record { part = record { front = []; whole = refl }; alone = no_more }
+white-alone (piece (blank {b} p) h) =
+    let x = white-alone h in
+    let behind = x.part in
+    record {
+      part = record { front = b ∷ behind.front; whole = ap (λ (z : List ℕ). b ∷ z) behind.whole };
+      alone = piece (blank p) x.alone;
+    }
+white-alone {r} (piece (comment c) h) =
+    let x = comment-part c in
+    let y = white-alone h in
+    let behind = y.part in
+    record {
+      part = record {
+        front = 35 ∷ (x.part ++ behind.front);
+        whole = ap (λ (z : List ℕ). 35 ∷ z) (x.cut ∙ ap (λ (z : List ℕ). x.part ++ z) behind.whole
+            ∙ sym (append_assoc x.part behind.front r));
+      };
+      alone = piece (comment (x.alone behind.front (line_end-front behind.front r behind.whole x.ends))) y.alone;
+    }
+
 pub white-shorter : {t r : List ℕ} → White t r → length r ≤ length t
 white-shorter h = end-shorter (white-ends h)
 
@@ -109,6 +154,16 @@ first-ends h = firsts.first-ends Piece Stands Bad End stands-part h
 
 pub first-less : {k : Kind} {t r : List ℕ} → is_end k ≡ false → First k t r → length r < length t
 first-less e h = firsts.first-less Piece Stands Bad End stands-part is_end refl e h
+
+pub first-longest : {k : Kind} {t r : List ℕ} → First k t r → Longest Stands k t r ⊎ NoToken Stands t
+first-longest h = firsts.first-longest Piece Stands Bad End stands-part h
+
+ends-none : (k : Kind) (t r : List ℕ) → is_end k ≡ true → Stands k t r → ⊥
+ends-none End t r e h = stands-no_end h
+ends-none _ t r e h = cc
+
+pub first-last : {k : Kind} {t r : List ℕ} → is_end k ≡ true → First k t r → t ≡ []
+first-last e h = firsts.first-last Piece Stands Bad End stands-part is_end refl ends-none e h
 
 pub one-next : (j k : Kind) (t a b r s : List ℕ) → White t a → First j a r → White t b → First k b s → (j ≡ k) × (a ≡ b)
     × (r ≡ s)

@@ -14,7 +14,6 @@ pub mod Machine
 pub mod Marks
 pub mod Names
 pub mod Pattern
-pub mod Pieces
 pub mod Predicates
 pub mod ReadBack
 pub mod Reading

@@ -7,13 +7,15 @@ use crate::lexing::{after_blanks, first_of};
 impl lexer::Kind for Kind {
     ghost use Rattle.lexer.specs.SliceEnds.{NoPiece};
     ghost use Rattle.pegread.specs.Kinds.{is_end as ends_list};
-    ghost use Rattle.pegread.specs.Slices.{Piece, White, First};
+    ghost use Rattle.pegread.specs.Slices.{Piece, White, Stands, First};
 
     ghost is_end = { ends_list };
 
     ghost white = { White };
 
     ghost dark = { NoPiece Piece };
+
+    ghost stands = { Stands };
 
     ghost first = { First };
 

@@ -1,6 +1,6 @@
 //! Reads a grammar's text.
 ghost use Rattle.std.specs.Prelude.{◌≡◌, ◌≢◌, ℕ, ◌<◌, ◌≤◌, ◌++◌, ◌∷◌, Bool, List, length, slice_get, take as first};
-ghost use Rattle.std.specs.Prelude.{Some, IfOk, IfErr, MatchResult};
+ghost use Rattle.std.specs.Prelude.{Some, Err, IfOk, IfErr, MatchResult};
 ghost use Rattle.ruletable.specs.declared.span.Span.{Span};
 ghost use Rattle.pegread.specs.Definitions.{IsTableOf};
 ghost use Rattle.pegread.specs.Marks.{IsCut};
@@ -28,12 +28,13 @@ use std::alloc::Global;
 /// the id of its rule once for each further one.
 ///
 /// # Errors
-/// - `TooLong`, before all else, for a text of more than `MAX_GRAMMAR` bytes.
+/// - `TooLong`, before all else and whatever memory does, for a text of more than `MAX_GRAMMAR` bytes.
 /// - Else the first token decides with which the text is no beginning of a grammar any more, or which opens one bracket
 ///   more than `MAX_OPEN` at once: `Depth` for the latter, `CodePredicate` for an action right behind `&`, and `Syntax`
 ///   for any other. The line is that of the token's first byte, where lines end with LF, CR LF or CR.
 /// - `Memory` where a growth was refused.
 pub fn read_peg(alloc: Global, text: &[u8]) -> Result<Peg, ReadFault>
+    ensures long { MAX_GRAMMAR < length text.now → result ≡ Err ReadFault.TooLong }
     ensures found { IfOk result (λ peg. (definitions : List Rule) × Reads text.now definitions
         × IsTableOf definitions peg.rules peg.redefined.items) }
     ensures only { (definitions : List Rule) → Reads text.now definitions
@@ -137,4 +138,14 @@ pub fn one_tree()
         × Says x w }
     ensures words { (ts : List Tok) (vs ws : List Word) → SayAll ts vs → SayAll ts ws → vs ≡ ws }
     ensures tree { (ws : List Word) → (a b : List Rule) → Grammar ws a → Grammar ws b → a ≡ b }
+{}
+
+/// Says that a text spells at most one list of definitions or has at most one fault, and never both; but memory may be
+/// refused in reading it.
+pub fn one_reading()
+    ensures definitions { (text : List ℕ) (a b : List Rule) → Reads text a → Reads text b → a ≡ b }
+    ensures no_fault { (text : List ℕ) (definitions : List Rule) (fault : ReadFault) → IsFaultOf text fault
+        → fault ≢ ReadFault.Memory → Reads text definitions → ⊥ }
+    ensures one_fault { (text : List ℕ) (a b : ReadFault) → IsFaultOf text a → IsFaultOf text b → a ≢ ReadFault.Memory
+        → b ≢ ReadFault.Memory → a ≡ b }
 {}

@@ -1,14 +1,13 @@
 //! The tokens of a whole text.
-ghost use Rattle.std.specs.Prelude.{ℕ, List, length, All};
+ghost use Rattle.std.specs.Prelude.{ℕ, List};
 ghost use Rattle.ruletable.specs.declared.span.Span.{Span};
 ghost use Rattle.pegread.specs.declared.kind.Kind.TheVariants.{Ident, Literal, Class, Action};
 ghost use Rattle.pegread.specs.Actions.{IsAction, IsBraced};
 ghost use Rattle.pegread.specs.Classes.{IsClass};
 ghost use Rattle.pegread.specs.Literals.{IsLiteral};
 ghost use Rattle.pegread.specs.Names.{IsName};
-ghost use Rattle.pegread.specs.Pieces.{MakeUp, LiesIn, AreInOrder};
 ghost use Rattle.lexer.specs.TokenLists.{tok};
-ghost use Rattle.pegread.specs.Tokens.{AreTokens, Next, Tok};
+ghost use Rattle.pegread.specs.Tokens.{Next};
 
 /// Says that the slice of a name, a literal, a class or an action is one by itself, whatever stands behind it. That of
 /// an action is some text between two braces.
@@ -18,12 +17,4 @@ pub fn are_marked()
     ensures class { (total : ℕ) (t r z : List ℕ) (p : Span) → Next total t (tok Class z p) r → IsClass z }
     ensures matched { (total : ℕ) (t r z : List ℕ) (p : Span) → Next total t (tok Action z p) r → IsAction z }
     ensures action { (total : ℕ) (t r z : List ℕ) (p : Span) → Next total t (tok Action z p) r → IsBraced z }
-{}
-
-/// Says that a text is its tokens' slices with white space between them, in order, and each slice lies where its span
-/// says.
-pub fn tokens_make_up()
-    ensures pieces { (text : List ℕ) (ts : List Tok) → AreTokens (length text) text ts → MakeUp ts text }
-    ensures slices { (text : List ℕ) (ts : List Tok) → AreTokens (length text) text ts → All (LiesIn text) ts }
-    ensures order { (text : List ℕ) (ts : List Tok) → AreTokens (length text) text ts → AreInOrder 0 ts }
 {}

@@ -12,7 +12,7 @@ use Rattle.toolrun.specs.declared.stop.Stop.TheVariants.{NoMemory, Refused}
 
 module _ (States : Input → List ℕ → Reply → Type 0) (IsFault : ReadFault → Type 0)
     (refuses : (input : Input) (why : ReadFault) → IsFault why → why ≢ fault.Memory → States input [] (refusal why))
-    (no_memory : (input : Input) → States input [] (without_memory [] 0))
+    (no_memory : (input : Input) → IsFault fault.Memory → States input [] (without_memory [] 0))
     {T : Type 0} (Does : T → Input → Reply → Type 0) where
   refused-plan : (why : ReadFault) → IsFault why → why ≢ fault.Memory
       → IsPlan States [] (does_of Does (Err (Refused why)))
@@ -27,7 +27,7 @@ module _ (States : Input → List ℕ → Reply → Type 0) (IsFault : ReadFault
   unread-plan (fault.CodePredicate line) faulty = refused-plan (fault.CodePredicate line) faulty (λ e. absurd (cc))
   unread-plan fault.TooLong faulty = refused-plan fault.TooLong faulty (λ e. absurd (cc))
   unread-plan fault.Memory faulty = record {
-    stated = λ input reply is. rw is (no_memory input);
+    stated = λ input reply is. rw is (no_memory input faulty);
     some = λ input. (stopped NoMemory, refl);
   }
   unread-plan (fault.NumberTooLarge line) faulty = refused-plan (fault.NumberTooLarge line) faulty (λ e. absurd (cc))

@@ -1,5 +1,5 @@
 use Rattle.std.proofs.Common.{◌≡◌}
-use Rattle.abnfread.specs.AbnfMachine.{append}
+use Rattle.abnfread.specs.Element.{append}
 use Rattle.abnfread.specs.AbnfTable.{alternatives_of}
 use Rattle.abnfread.specs.AbnfViews.{element_of, elements_of}
 use Rattle.abnfread.proofs.table.join.Given as goal

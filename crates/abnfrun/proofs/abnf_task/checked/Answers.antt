@@ -10,3 +10,9 @@ returns-in-Ok-clause-checked c =
     is_checked c.args.grammar.now (option_copied c.args.rule) read.rules read.core read.redefined.items
     read.extended.items (map said_of c.in-Ok.checked.notes.items) c.in-Ok.checked.sound
     c.in_ok-read.ensures.found c.in_ok-read.ensures.core c.in-Ok.ensures.notes c.in-Ok.ensures.sound
+
+pub returns-in-Err-clause-fault : goal.returns-in-Err-clause-fault
+returns-in-Err-clause-fault c =
+    let found = c.in_ok-read.ensures.found in
+    let reads = found.1 in
+    reads.size

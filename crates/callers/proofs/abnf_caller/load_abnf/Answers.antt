@@ -12,3 +12,9 @@ returns-in-Ok-clause-loaded c =
     abnf.extended.items (map said_of checked.notes.items)
     checked.sound c.in_ok-abnf.ensures.found c.in_ok-abnf.ensures.core c.in-Ok.ensures.notes c.in-Ok.ensures.sound in
     record { definitions = k.definitions; reads = k.reads; ready = k.ready }
+
+pub returns-in-Err-clause-fault : goal.returns-in-Err-clause-fault
+returns-in-Err-clause-fault c =
+    let found = c.in_ok-abnf.ensures.found in
+    let reads = found.1 in
+    reads.size

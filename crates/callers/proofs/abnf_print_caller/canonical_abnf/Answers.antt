@@ -12,3 +12,9 @@ returns-clause-same c =
     let back = c.in-Ok.ensures.read_back c.args.text.now
     (record { definitions = found.0; reads = found.1; kept = found.2 }) (rw (text) at within) in
     (found.0, found.1, rw (← text, found.2.kept) at back)
+
+pub returns-in-Err-clause-fault : goal.returns-in-Err-clause-fault
+returns-in-Err-clause-fault c =
+    let found = c.in_ok-abnf.ensures.found in
+    let reads = found.1 in
+    reads.size

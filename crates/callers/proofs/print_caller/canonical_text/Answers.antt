@@ -20,3 +20,9 @@ returns-clause-same c =
     (rw (text) at within) in
     let kept = found.2.kept ∙ none-again [] found.0 (sym found.2.again ∙ unique) in
     (found.0, found.1, rw (← text, kept) at back)
+
+pub returns-in-Err-clause-fault : goal.returns-in-Err-clause-fault
+returns-in-Err-clause-fault c =
+    let found = c.in_ok-peg.ensures.found in
+    let reads = found.1 in
+    reads.within

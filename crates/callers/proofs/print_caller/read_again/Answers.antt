@@ -14,4 +14,5 @@ returns-clause-fault c =
     let back = same.2 in
     let wants : c.in-Err.fault ≡ fault.Memory = c.in-Err.ensures.only back.again
     (rw (c.deref.ensures.value) back.reads) in
-    rw wants tt
+    let reads = same.1 in
+    rw wants reads.within

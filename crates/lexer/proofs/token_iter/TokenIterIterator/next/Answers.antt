@@ -6,26 +6,26 @@ pub overflow_sub-size : goal.overflow_sub-size
 overflow_sub-size g c = end-shorter (c.are_cut.ensures.ends _ _ _ c.first_token-kind.ensures)
 
 pub overflow_sub-start : goal.overflow_sub-start
-overflow_sub-start g c = end-shorter (c.are_cut.ensures.white _ _ c.after_white-text.ensures.white)
+overflow_sub-start g c = end-shorter (c.are_cut.ensures.white _ _ c.after_white-text.ensures.white).part
 
 pub overflow_add-end : goal.overflow_add-end
 overflow_add-end g c =
     let a = end-shorter (c.are_cut.ensures.ends _ _ _ c.first_token-kind.ensures) in
-    let b = end-shorter (c.are_cut.ensures.white _ _ c.after_white-text.ensures.white) in
+    let b = end-shorter (c.are_cut.ensures.white _ _ c.after_white-text.ensures.white).part in
     let f = c.args.self.now.fits in
     omega arith
 
 pub invariant_of-self : goal.invariant_of-self
 invariant_of-self g c =
     let a = end-shorter (c.are_cut.ensures.ends _ _ _ c.first_token-kind.ensures) in
-    let b = end-shorter (c.are_cut.ensures.white _ _ c.after_white-text.ensures.white) in
+    let b = end-shorter (c.are_cut.ensures.white _ _ c.after_white-text.ensures.white).part in
     let f = c.args.self.now.fits in
     record { fits = omega arith }
 
 pub returns-clause-steps : goal.returns-clause-steps
 returns-clause-steps g c =
     let laws = c.are_cut.ensures in
-    let w = laws.white _ _ c.after_white-text.ensures.white in
+    let w = (laws.white _ _ c.after_white-text.ensures.white).part in
     let f = laws.ends _ _ _ c.first_token-kind.ensures in
     let a = end-shorter w in
     let b = end-shorter f in
