@@ -157,18 +157,22 @@ class Prover:
         return 1 if self.failed else 0
 
 
+def stop(number, _):
+    """Ends the script at an interrupt, and with it the crates at work."""
+    print("interrupted", flush=True)
+    sys.exit(128 + number)
+
+
 def main(programs):
-    signal.signal(signal.SIGTERM, lambda *_: sys.exit(143))
+    for it in (signal.SIGINT, signal.SIGTERM, signal.SIGHUP):
+        signal.signal(it, stop)
     for it in TOP.glob(".prove-*"):
         shutil.rmtree(it, ignore_errors=True)
     start = time.monotonic()
     with tempfile.TemporaryDirectory(prefix=".prove-", dir=TOP) as trees:
-        try:
-            prover = Prover(programs, pathlib.Path(trees))
-            print(f"{len(prover.waiting)} crates to prove, on {prover.limit} processors", flush=True)
-            status = prover.prove()
-        except KeyboardInterrupt:
-            status = 130
+        prover = Prover(programs, pathlib.Path(trees))
+        print(f"{len(prover.waiting)} crates to prove, on {prover.limit} processors", flush=True)
+        status = prover.prove()
     print(f"{'proved' if status == 0 else 'not proved'}, in {time.monotonic() - start:.0f} s", flush=True)
     return status
 
