@@ -124,8 +124,8 @@ pub fn read_abnf(alloc: Global, text: &[u8]) -> Result<Abnf, ReadFault>
     }
 }
 
-/// Says that a bad token says nothing, every other token of a text says something, marked tokens say at most one list of
-/// words, and words spell at most one list of definitions.
+/// Says that a bad token says nothing, every other token of a text says something, marked tokens say at most one list
+/// of words, and words spell at most one list of definitions.
 pub fn one_tree()
     ensures silent { (z : List ℕ) (p : Span) (s : Said) → SaysKind AbnfKind.Bad z p s → ⊥ }
     ensures says { (total : ℕ) (t r z : List ℕ) (k : AbnfKind) (p : Span) → Next White First total t (tok k z p) r
