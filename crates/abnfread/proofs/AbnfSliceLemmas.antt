@@ -11,9 +11,8 @@ use Rattle.abnfread.specs.declared.kind.AbnfKind.TheVariants.{Name, Repeat, Bad,
 use Rattle.abnfread.specs.AbnfKinds.{ends_list}
 use Rattle.abnfread.specs.BaseDigits.{is_digit}
 use Rattle.abnfread.specs.AbnfSlices.{Run, none, more, Stops, is_inside, Digits, digits, Dotted, no_dot, dot, Numbers}
-use Rattle.abnfread.specs.AbnfSlices.{values, range}
 use Rattle.abnfread.specs.AbnfSlices.{Count, exactly, at_least, Piece, blank, crlf, comment, White, Stands, name, is}
-use Rattle.abnfread.specs.AbnfSlices.{adds, counted, star, text, cased, num, prose, First}
+use Rattle.abnfread.specs.AbnfSlices.{values, range, adds, counted, star, text, cased, num, prose, First}
 use Rattle.abnfread.proofs.ByteRunLemmas.{run-to}
 use Rattle.abnfread.proofs.AbnfFirstLemmas.{letter-digit, letter-dark, digit-dark, tells-case}
 

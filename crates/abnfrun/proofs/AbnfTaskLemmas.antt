@@ -39,8 +39,7 @@ module _ (text : List ℕ) (settings : Settings) where
   -- a text that was not read
   pub unread-plan : (why : ReadFault) → IsFaultOf text why → Planned [] (Err (unread why))
   unread-plan why faulty =
-      plan_of_unread (AbnfStates text settings) (IsFaultOf text) (λ input why. refused why)
-      (λ input within. no_memory within)
+      plan_of_unread (AbnfStates text settings) (IsFaultOf text) (λ input why. refused why) (λ input. no_memory)
       (λ (t : AbnfTask). abnf_does t settings) why faulty
 
   -- a grammar that was checked, to judge lines

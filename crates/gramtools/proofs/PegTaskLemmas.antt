@@ -36,8 +36,7 @@ module _ (text : List ℕ) (settings : Settings) where
   -- a text that was not read
   pub unread-plan : (why : ReadFault) → IsFaultOf text why → Planned [] (Err (unread why))
   unread-plan why faulty =
-      plan_of_unread (States text settings) (IsFaultOf text) (λ input why. refused why)
-      (λ input within. no_memory within)
+      plan_of_unread (States text settings) (IsFaultOf text) (λ input why. refused why) (λ input. no_memory)
       (λ (t : PegTask). peg_does t settings) why faulty
 
   -- a grammar that was checked, to be run
