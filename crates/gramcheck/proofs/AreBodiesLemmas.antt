@@ -1,16 +1,21 @@
 -- The bodies of a grammar's rules, cut one by one.
 -- Serves: check_peg
-use Rattle.std.proofs.Common.{◌≡◌, ℕ, zero, suc, ◌+◌, List, [], ◌∷◌, ◌++◌, length, map, Some, refl, sym, ap, subst}
+use Rattle.std.proofs.Common.{◌≡◌, ℕ, zero, suc, ◌+◌, ◌<◌, List, [], ◌∷◌, ◌++◌, length, map, take, get_or, Some, refl}
+use Rattle.std.proofs.Common.{sym, ap, subst, ◌∙◌}
 use Rattle.std.proofs.Common.{arith, ⊎_elim, length-append}
-use Rattle.std.specs.Prelude.{slice_get}
+use Rattle.std.specs.Prelude.{slice_get, sum_by}
 use Rattle.std.proofs.lemmas.Bool.{cases_lt}
-use Rattle.std.proofs.lemmas.Option.{slice_get_within}
+use Rattle.std.proofs.lemmas.List.{length-map}
+use Rattle.std.proofs.lemmas.List.Sums.{sum_by_more}
+use Rattle.std.proofs.lemmas.Option.{slice_get_within, slice_get-get_or}
+use Rattle.std.proofs.Math.Seq.{take_all}
 use Rattle.ruletable.specs.Rules as table
 use Rattle.pegread.specs.Pattern.{Pattern, Rule}
 use Rattle.pegread.specs.PegViews.{pattern_of, rule_of}
 use Rattle.pegread.specs.declared.expr.Expr.{Expr}
 use Rattle.gramcheck.specs.declared.node.Node.{Node}
 use Rattle.gramcheck.specs.Bodies.{AreBodies, AreNamed, IsBuilt}
+use Rattle.gramcheck.specs.NodeCounts.{node_count, node_counts}
 use Rattle.gramcheck.specs.Nodes as node
 use Rattle.gramcheck.specs.Nodes.{Shape, shapes_of, id_of, Spells, spells_any, spells_bytes, spells_set, spells_name}
 use Rattle.gramcheck.specs.Nodes.{spells_seq, spells_choice, spells_star, spells_plus, spells_opt, spells_and}
@@ -27,6 +32,7 @@ pub record AreCut (rules : List Rule) (count : ℕ) (nodes : List Shape) (bodies
   pub spelled : (id m : ℕ) → slice_get bodies id ≡ Some m →
       (p : Pattern) × (slice_get (map (λ rule. rule.body) rules) id ≡ Some p) × Spells rules nodes m p
   pub built : IsBuilt nodes
+  pub counted : length nodes ≡ sum_by node_count (take count (map (λ rule. rule.body) rules))
   pub standing : AreStanding rules nodes
 
 pub none_cut : (rules : List Rule) (nodes : List Node) (bodies : List ℕ) → nodes ≡ [] → bodies ≡ []
@@ -35,8 +41,16 @@ none_cut rules nodes bodies no_nodes no_bodies = rw (no_nodes, no_bodies) (recor
   long = refl;
   spelled = λ id m h. absurd (cc h);
   built = record { after = λ n m shape h o. absurd (cc h) };
+  counted = refl;
   standing = λ n lt. absurd (omega arith);
 })
+
+sum_by_next : {A : Type 0} (f : A → ℕ) (xs : List A) (i : ℕ) (x : A) → slice_get xs i ≡ Some x
+    → sum_by f (take (i + 1) xs) ≡ sum_by f (take i xs) + f x
+sum_by_next f xs i x at =
+    let lt : i < length xs = slice_get_within xs i x at in
+    let is : x ≡ get_or xs i x = (let there = slice_get-get_or xs i x lt in cc) in
+    sum_by_more f xs i x lt ∙ ap (λ v. sum_by f (take i xs) + f v) (sym is)
 
 module _ (rules : List Rule) (i : ℕ) (old new : List Shape) (bodies : List ℕ) (n : ℕ) (p : Pattern) where
   cut_more : AreCut rules i old bodies → slice_get (map (λ rule. rule.body) rules) i ≡ Some p
@@ -55,6 +69,8 @@ module _ (rules : List Rule) (i : ℕ) (old new : List Shape) (bodies : List ℕ
         ))
         (push_cases bodies n id m h);
     built = g.built c.built;
+    counted = let e = sum_by_next node_count (map (λ rule. rule.body) rules) i p at in
+        omega (arith, e, g.counted, c.counted);
     standing = λ m lt. ⊎_elim
         (λ earlier.
         let old_one = c.standing m earlier in
@@ -92,6 +108,12 @@ next_cut rules i old new bodies n e c at g = cut_more (map rule_of rules) i (sha
 pub bodies_of_cut : (rules : List Rule) (count : ℕ) (nodes : List Shape) (bodies : List ℕ)
     → AreCut rules count nodes bodies → count ≡ length rules → AreBodies rules nodes bodies
 bodies_of_cut rules count nodes bodies c all = record { count = omega (arith, c.long); spelled = c.spelled }
+
+pub nodes_of_cut : (rules : List Rule) (count : ℕ) (nodes : List Shape) (bodies : List ℕ)
+    → AreCut rules count nodes bodies → count ≡ length rules → length nodes ≡ node_counts rules
+nodes_of_cut rules count nodes bodies c all =
+    let same = length-map rules (λ (rule : Rule). rule.body) in
+    c.counted ∙ ap (sum_by node_count) (take_all count (map (λ rule. rule.body) rules) (omega (arith, all, same)))
 
 -- a node that is a name has the id of one
 pub are_named : (rules : List Rule) (nodes : List Shape) → AreStanding rules nodes → AreNamed (length rules) nodes

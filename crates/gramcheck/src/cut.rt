@@ -2,6 +2,7 @@
 ghost use Rattle.std.specs.Prelude.{◌≡◌, length, IfOk};
 ghost use Rattle.pegread.specs.PegViews.{rules_of};
 ghost use Rattle.gramcheck.specs.Bodies.{AreBodies, AreNamed, IsBuilt};
+ghost use Rattle.gramcheck.specs.NodeCounts.{node_counts};
 ghost use Rattle.gramcheck.specs.Nodes.{shapes_of};
 ghost use Rattle.gramcheck.specs.Numbering.{AreStanding};
 
@@ -26,13 +27,15 @@ pub(crate) fn cut_grammar(alloc: Global, rules: &RuleTable<Expr>) -> Result<Cut,
     requires { rules.now.names ≡ NameCase.Exact }
     ensures bodies { IfOk result (λ cut. AreBodies (rules_of rules.now) (shapes_of cut.nodes.items) cut.bodies.items) }
     ensures built { IfOk result (λ cut. IsBuilt (shapes_of cut.nodes.items)) }
+    ensures counted { IfOk result (λ cut. length cut.nodes.items ≡ node_counts (rules_of rules.now)) }
     ensures named { IfOk result (λ cut. AreNamed (length rules.now.rules) (shapes_of cut.nodes.items)) }
     ensures standing { IfOk result (λ cut. AreStanding (rules_of rules.now) (shapes_of cut.nodes.items)) }
 {
     let mut nodes = Vec::new(alloc);
     let mut bodies = Vec::new(alloc);
     for id in 0..rules.len() {
-        let n = number(alloc, rules, rules.body(id), &mut nodes)?;
+        let body = rules.body(id);
+        let n = number(alloc, rules, body, &mut nodes)?;
         bodies.push(n)?;
     }
     Ok(Cut { nodes, bodies })
