@@ -29,6 +29,14 @@ module _ (rules : List Rule) where
     pub parts : (m : ℕ) → length old ≤ m → m < length new → SpellsPart new p m
     pub built : IsBuilt old → IsBuilt new
 
+  -- nodes were added, operands first, each for an expression within p, and node n spells p
+  pub record Grows (old new : List Shape) (n : ℕ) (p : Pattern) : Type 0 where
+    pub added : List Shape
+    pub grown : new ≡ old ++ added
+    pub spelled : Spells rules new n p
+    pub parts : (m : ℕ) → length old ≤ m → m < length new → SpellsPart new p m
+    pub built : IsBuilt old → IsBuilt new
+
   -- Nodes were added, as many as the members have, and each of the numbers is that of a node that spells the member in
   -- its place.
   pub record NumbersAll (old new : List Shape) (ns : List ℕ) (ps : Patterns) : Type 0 where

@@ -103,8 +103,8 @@ impl SoundPeg {
         self.start
     }
 
-    /// Returns the number of nodes: one for each occurrence of an expression in the rules' bodies, and one more for each
-    /// `+`, the Star of its operand.
+    /// Returns the number of nodes: one for each occurrence of an expression in the rules' bodies, and for each `+` one
+    /// more, the Star of its operand.
     pub fn nodes(&self) -> usize
         ensures count { result ≡ length self.now.nodes }
         ensures occurrences { result ≡ node_counts (rules_of self.now.rules) }

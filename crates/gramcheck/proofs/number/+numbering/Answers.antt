@@ -52,7 +52,8 @@ number-returns t c = elim c.match-e.branch [
       (λ xs at s. spells_choice at s))
   | number-in-Star+in_ok-number-in-Star w ↦ rw (w.in-Star.is, pattern-Star)
       (o.numbers_over _ _ _ _ _ _ (rw (w.nodes-is, w.node-is) at c.in_ok-n.ensures.nodes)
-      (rw w.nodes-is at c.in_ok-n.ensures.number) _ _ _ refl (rw w.deref-in-Star.ensures at w.in_ok-number-in-Star.ensures)
+      (rw w.nodes-is at c.in_ok-n.ensures.number) _ _ _ refl
+      (rw w.deref-in-Star.ensures at w.in_ok-number-in-Star.ensures)
       (λ m h. h) (λ d. of_star) (λ xs at s. spells_star at s))
   | number-in-Plus+in_ok-repeated-in-Plus+in_ok-star-in-Plus w ↦ rw (w.in-Plus.is, pattern-Plus)
       (o.plus_numbers _ (rw w.deref-in-Plus.ensures at w.in_ok-repeated-in-Plus.ensures)
@@ -60,15 +61,18 @@ number-returns t c = elim c.match-e.branch [
       (rw (w.nodes-is, w.node-is) at c.in_ok-n.ensures.nodes) (rw w.nodes-is at c.in_ok-n.ensures.number))
   | number-in-Opt+in_ok-number-in-Opt w ↦ rw (w.in-Opt.is, pattern-Opt)
       (o.numbers_over _ _ _ _ _ _ (rw (w.nodes-is, w.node-is) at c.in_ok-n.ensures.nodes)
-      (rw w.nodes-is at c.in_ok-n.ensures.number) _ _ _ refl (rw w.deref-in-Opt.ensures at w.in_ok-number-in-Opt.ensures)
+      (rw w.nodes-is at c.in_ok-n.ensures.number) _ _ _ refl
+      (rw w.deref-in-Opt.ensures at w.in_ok-number-in-Opt.ensures)
       (λ m h. h) (λ d. of_opt) (λ xs at s. spells_opt at s))
   | number-in-And+in_ok-number-in-And w ↦ rw (w.in-And.is, pattern-And)
       (o.numbers_over _ _ _ _ _ _ (rw (w.nodes-is, w.node-is) at c.in_ok-n.ensures.nodes)
-      (rw w.nodes-is at c.in_ok-n.ensures.number) _ _ _ refl (rw w.deref-in-And.ensures at w.in_ok-number-in-And.ensures)
+      (rw w.nodes-is at c.in_ok-n.ensures.number) _ _ _ refl
+      (rw w.deref-in-And.ensures at w.in_ok-number-in-And.ensures)
       (λ m h. h) (λ d. of_and) (λ xs at s. spells_and at s))
   | number-in-Not+in_ok-number-in-Not w ↦ rw (w.in-Not.is, pattern-Not)
       (o.numbers_over _ _ _ _ _ _ (rw (w.nodes-is, w.node-is) at c.in_ok-n.ensures.nodes)
-      (rw w.nodes-is at c.in_ok-n.ensures.number) _ _ _ refl (rw w.deref-in-Not.ensures at w.in_ok-number-in-Not.ensures)
+      (rw w.nodes-is at c.in_ok-n.ensures.number) _ _ _ refl
+      (rw w.deref-in-Not.ensures at w.in_ok-number-in-Not.ensures)
       (λ m h. h) (λ d. of_not) (λ xs at s. spells_not at s))
   | number-in-Act+in_ok-from_slice-in-Act w ↦ rw (w.in-Act.is, pattern-Act)
       (o.leaf_numbers _ _ _ _ _ _ (rw (w.nodes-is, w.node-is) at c.in_ok-n.ensures.nodes)
