@@ -1,14 +1,13 @@
--- Joined rules begin with those of the file.
+-- A file's rules with the core rules behind them begin with those of the file.
 -- Serves: check_abnf (notes, sound)
-use Rattle.std.proofs.Common.{◌≡◌, ℕ, List, [], ◌∷◌, ◌++◌, map, Option, Some, None, refl, sym, ◌∙◌, ap, append_assoc}
-use Rattle.std.proofs.Common.{append-nil}
+use Rattle.std.proofs.Common.{◌≡◌, List, ◌++◌, map, refl, sym, ◌∙◌, ap}
 use Rattle.std.proofs.lemmas.List.{map-append}
 use Rattle.ruletable.specs.Rules as table
-use Rattle.ruletable.specs.Rules.{find_in, names_of}
+use Rattle.ruletable.specs.Rules.{names_of}
 use Rattle.abnfread.specs.AbnfViews.{rules_of}
 use Rattle.abnfread.specs.declared.elem.Elem.{Elem}
 use Rattle.abnfcheck.specs.AbnfUses.{rule_names}
-use Rattle.abnfcheck.specs.Joined.{added, joined}
+use Rattle.abnfcheck.specs.WithCore.{left_alone, with_core}
 use Rattle.abnfcheck.proofs.NameIdsLemmas.{names_same}
 
 pub record Extends (old new : table.Rules Elem) : Type 0 where
@@ -16,21 +15,8 @@ pub record Extends (old new : table.Rules Elem) : Type 0 where
   pub is : new.rules ≡ old.rules ++ more
   pub names : new.names ≡ old.names
 
-extends_added : (found : Option ℕ) (old : table.Rules Elem) (rule : table.Rule Elem)
-    → Extends old (added found old rule)
-extends_added None old rule = record { more = rule ∷ []; is = refl; names = refl }
-extends_added (Some id) old rule = record { more = []; is = sym (append-nil old.rules); names = refl }
-
-pub extends_joined : (file : table.Rules Elem) (core : List (table.Rule Elem)) → Extends file (joined file core)
-extends_joined file [] = record { more = []; is = sym (append-nil file.rules); names = refl }
-extends_joined file (rule ∷ core) =
-    let one = extends_added (find_in file rule.name) file rule in
-    let rest = extends_joined (added (find_in file rule.name) file rule) core in
-    record {
-      more = one.more ++ rest.more;
-      is = rest.is ∙ ap (λ l. l ++ rest.more) one.is ∙ append_assoc file.rules one.more rest.more;
-      names = rest.names ∙ one.names;
-    }
+pub extends_file : (file : table.Rules Elem) (core : List (table.Rule Elem)) → Extends file (with_core file core)
+extends_file file core = record { more = left_alone file core; is = refl; names = refl }
 
 pub names_begin : (file all : table.Rules Elem) (e : Extends file all) → names_of all ≡ rule_names (rules_of file)
     ++ map (λ rule. rule.name) e.more
