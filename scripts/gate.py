@@ -1,7 +1,7 @@
 #!/usr/bin/env python3
-"""The gate: the rules of names, the form of the edits that must fail and the pages of the libraries; if these are green
-`rt ci`; if that is green too the programs as users run them: those that `rt ci` built are put into bin/, and run on
-random cases against slow answers, and with memory, writes, reads and stack refused.
+"""The gate: the rules of names, the names in the documents, the form of the edits that must fail and the pages of the
+libraries; if these are green `rt ci`; if that is green too the programs as users run them: those that `rt ci` built are
+put into bin/, and run on random cases against slow answers, and with memory, writes, reads and stack refused.
 
 usage: gate.py
 
@@ -52,8 +52,9 @@ def put_programs():
 
 
 def main():
-    if not all([script("names.py"), script("edit_index.py", "-q"), script("pages.py", "--check")]):
-        print("gate.py: names.py, edit_index.py or pages.py says above what is wrong; nothing was proved")
+    first = [script("names.py"), script("doc_names.py"), script("edit_index.py", "-q"), script("pages.py", "--check")]
+    if not all(first):
+        print("gate.py: names.py, doc_names.py, edit_index.py or pages.py says above what is wrong; nothing was proved")
         return 1
     status, last = ci()
     green = status == 0
