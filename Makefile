@@ -1,10 +1,16 @@
-# Proves, builds and tests the tools. Needs the Rattle toolchain's command `rt` and nothing else.
+# Proves, builds and tests the tools. Needs the Rattle toolchain's command `rt` and Python 3.
 
-.PHONY: all programs example examples install test check edits clean
+.PHONY: all try programs example examples install put dist deb test check edits clean
 
 all: programs example
 
-# Proves the crates that the programs stand on, builds the programs, and puts them into bin/.
+# Runs an example of each program before anything is proved, in about a minute; or a program on a grammar and an input
+# of your own: make try TOOL=pegi GRAMMAR=f INPUT=g, and OPTIONS='-m check' if it is to have some.
+try:
+	@python3 -B scripts/try_tools.py
+
+# Proves the crates that the programs stand on, as many side by side as processors and memory allow (JOBS=n says how
+# many), builds the programs, and puts them into bin/.
 programs:
 	@python3 -B scripts/prove.py pegi abnfi
 
@@ -30,12 +36,29 @@ examples: programs
 	@sh scripts/run_examples.sh
 	@python3 -B scripts/man_examples.py
 
-# The programs and their manual pages, below PREFIX.
+# The programs, their manual pages, completions for shells, README and examples, below PREFIX. `put` takes the programs
+# from bin/ as they are.
 PREFIX ?= /usr/local
-install: programs
-	install -d $(DESTDIR)$(PREFIX)/bin $(DESTDIR)$(PREFIX)/share/man/man1
+SHARE = $(DESTDIR)$(PREFIX)/share
+install: programs put
+
+put:
+	install -d $(DESTDIR)$(PREFIX)/bin $(SHARE)/man/man1 $(SHARE)/doc/fanquber
+	install -d $(SHARE)/bash-completion/completions $(SHARE)/zsh/site-functions $(SHARE)/fish/vendor_completions.d
 	install -m 755 bin/pegi bin/abnfi $(DESTDIR)$(PREFIX)/bin
-	install -m 644 man/pegi.1 man/abnfi.1 $(DESTDIR)$(PREFIX)/share/man/man1
+	install -m 644 man/pegi.1 man/abnfi.1 $(SHARE)/man/man1
+	install -m 644 completions/bash/* $(SHARE)/bash-completion/completions
+	install -m 644 completions/zsh/* $(SHARE)/zsh/site-functions
+	install -m 644 completions/fish/* $(SHARE)/fish/vendor_completions.d
+	install -m 644 README.md $(SHARE)/doc/fanquber
+	cp -R examples $(SHARE)/doc/fanquber
+
+# What a machine without the toolchain needs, in bin/: an archive for any Linux on x86-64, and a package for Debian.
+dist: programs
+	@python3 -B scripts/package.py dist
+
+deb: programs
+	@python3 -B scripts/package.py deb
 
 # The gate: every proof from nothing, the edits that the prover must refuse, tests and programs; then the programs are
 # put into bin/, and run on random cases and with memory, writes, reads and stack refused.
@@ -51,4 +74,4 @@ check:
 	rt all check
 
 clean:
-	rm -rf bin crates/*/out
+	rm -rf bin crates/*/out .prove-*

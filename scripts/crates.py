@@ -2,10 +2,20 @@
 import pathlib
 
 
+def listed(top):
+    """Returns the lines of crates.txt without comments, by the crate's name."""
+    lines = (it.partition("#")[0] for it in (pathlib.Path(top) / "crates.txt").read_text().splitlines())
+    return {it.partition(":")[0].split()[0]: it for it in lines if it.strip()}
+
+
+def lines_of(top, crates):
+    """Returns the lines of crates.txt for these crates."""
+    return [line for crate, line in listed(top).items() if crate in crates]
+
+
 def uses(top):
     """Returns the crates, each with the crates of the repository that it uses."""
-    lines = (it.partition("#")[0] for it in (pathlib.Path(top) / "crates.txt").read_text().splitlines())
-    named = {it.partition(":")[0].split()[0]: it.partition(":")[2].split() for it in lines if it.strip()}
+    named = {crate: line.partition(":")[2].split() for crate, line in listed(top).items()}
     return {crate: [it for it in below if it in named] for crate, below in named.items()}
 
 

@@ -30,7 +30,7 @@ LISTED = re.compile(r"`(\w+/specs/)(?:\w+(?:\.antt)?)?`:?((?:,?\s`[A-Z]\w+`)+)")
 COMMENTS = {".rt": "//", ".antt": "--", ".py": "#", ".sh": "#"}
 CODE = {".rt", ".antt", ".py", ".sh", ".peg", ".abnf", ".edit", ".c"}
 # What only a build or a reader makes, and examples of names.
-ELSEWHERE = {"bin/", "bin/abnfi", "bin/pegi", "rfc.txt", "ClassLemmas", "pushes_keep_order"}
+ELSEWHERE = {"bin/", "bin/abnfi", "bin/pegi", "rfc.txt", "stream.sh", "ClassLemmas", "pushes_keep_order"}
 # Capitals that stand for a name.
 ANY = re.compile(r"[A-Z]{4}")
 

@@ -2,7 +2,8 @@
 """Prints the must-fail edits crate by crate: the function, what the edit changes, and the clause that refuses it.
 
 Ends with status 1 where an edit's name or first line lacks its form, the text that it changes does not stand once in
-its file, or a public function has no edit (CONTRIBUTING.md). With -q it prints only what is wrong.
+its file, or a public function that needs an edit has none (CONTRIBUTING.md). A function needs one if a clause is not an
+equation. The script judges that by the form of the clauses. With -q it prints only what is wrong.
 """
 import dataclasses
 import pathlib
@@ -18,15 +19,30 @@ OTHERS = r"ensures|invariant|loop|safe|ends|requires of [\w.]+"
 PLAIN_TRAITS = ("From", "Model", "Display", "Drop")
 # Crates that show how to call the others, or that tests alone call: they need no edits.
 EXAMPLES = ("callers", "fakes")
-# Functions of which no wrong body can be written: they lend a field of a type of which no other value is at hand, or
-# make a value of which there is only one that takes no memory.
-EXEMPT = ("abnfcheck: SoundAbnf.rules", "earley: Chart.new", "flatgrammar: Flat.share",
-          "gramcheck: SoundPeg.rules")
+# Words that equate what they speak of.
+# Writes: the bytes that a writer took; at an error, a beginning of them. Keeps: a stream's bytes are those of before.
+# Flags: a stream's flag is the one of before; at an error, it is set. Defines: the new table and the id of a rule.
+# SameLoan, SameFeed: a feed's reader, or all of the feed, is that of before. LendsBody, LendsWindow: what stands behind
+# a loan when it ends.
+EXACT = r"(Writes|Keeps|Flags|Defines|SameLoan|SameFeed|sem 𝓛 \(Lends(Body|Window)) "
+# Functions that need no edit for a reason that the form of their clauses does not show.
+EXEMPT = (
+    # It lends a field of a type of which no other value is at hand.
+    "flatgrammar: Flat.share",
+    # Its equation stands behind a premise, and `requires` says that something meets the premise.
+    "pegmatch: Plain.replay", "pegmatch: writing.write_event", "desk: Desk.replay",
+    # It hands on to a function with the same clauses, which has an edit.
+    "cells: Cells.get_or_put", "cells: Cells.put",
+    # Another function of the crate has such a body, and its edit shows the same mistake.
+    "commands: command.abnfi_command", "mains: mains.abnfi_main", "leastset: needs.are_needs_within",
+    "pegmatch: leaves.match_any",
+)
 
 
 @dataclasses.dataclass
 class Function:
-    """A function as its lines show it. The owner is the type of its impl, or else its file."""
+    """A function as its lines show it. The owner is the type of its impl, or else its file. Each clause has a name and
+    a text."""
 
     owner: str
     name: str
@@ -36,6 +52,30 @@ class Function:
     def is_called(self, called):
         return called in (self.name, f"{self.owner}.{self.name}")
 
+    def has_clause(self, name):
+        return name in [it for it, _ in self.clauses]
+
+
+def equates(text):
+    """Tells whether a clause equates something with a term: by one `≡`, at each byte perhaps, or by a word. `IfOk` and
+    the like speak of one outcome. Every other outcome is allowed, so an edit of it shows nothing."""
+    text = re.sub(r"^\(\w : ℕ\) → (\w < 256 → )?", "", text)
+    outcome = re.fullmatch(r"(?:IfOk|IfSome|OnOk|OnErr) result \((?:λ \w+\. )?(.*)\)", text)
+    if outcome:
+        return equates(outcome[1])
+    is_plain = text.count(" ≡ ") == 1 and not re.search(r"^[A-Z]\w* | [→↔×⊎≤<] ", text)
+    return is_plain or bool(re.match(EXACT, text))
+
+
+def are_equations(texts):
+    """Tells whether all clauses on what a function returns or changes equate it with terms. A clause on neither says
+    nothing of the body. A clause on a length fixes no value, and needs no edit beside those that do. Whether something
+    changes of which no clause speaks is not asked: no edit of it can be refused."""
+    if any(re.match(r"result(\.now)? ≡ ", it) for it in texts):
+        texts = [it for it in texts if ".new" in it or equates(it)]
+    said = [it for it in texts if re.search(r"\bresult\b|\.new\b|self\.entry", it) and not it.startswith("length ")]
+    return bool(said) and all(map(equates, said))
+
 
 def type_and_trait(line):
     """Returns the type of a line that begins an impl, and its trait, if it has one."""
@@ -43,22 +83,39 @@ def type_and_trait(line):
     while "<" in text:
         text = re.sub(r"<[^<>]*>", "", text)
     trait, _, owner = text.rpartition(" for ")
-    return owner.split()[0].strip("{"), trait.strip()
+    return owner.split()[0].strip("{"), trait.strip().rpartition("::")[2]
 
 
-def clauses_at(lines, at):
-    """Returns the clauses of the function that begins at a line; None where it has no body."""
-    indent = re.match(" *", lines[at])[0]
-    for end in range(at, len(lines)):
-        if re.fullmatch(indent + r"\S.*;", lines[end]):
-            return None
-        if re.fullmatch(indent + r"(\{|\{\}|\S.* \{|\S.* \{\})", lines[end]):
-            heads = (re.match(r" *ensures\*? (\w*)", line) for line in lines[at:end])
-            return [it[1] or "ensures" for it in heads if it]
-    return None
+def heads_at(lines, at):
+    """Returns the signature of the function that begins at a line, its clauses, and whether it has a body."""
+    indent, heads, has_body = re.match(" *", lines[at])[0], [], False
+    for line in lines[at:]:
+        has_body = bool(re.fullmatch(indent + r"(\{|\{\}|\S.* \{|\S.* \{\})", line))
+        if not heads or re.match(r" +(ensures|requires)\b|" + indent + "where$", line):
+            heads.append([])
+        heads[-1].append(line.strip())
+        said = [" ".join(it) for it in heads]
+        if has_body or line.endswith(";") and all(it.count("{") == it.count("}") for it in said):
+            break
+    promised = [re.match(r"ensures\*? ?(\w*) ?\{ (.*) \}", it) for it in said]
+    return said[0], [(it[1] or "ensures", it[2]) for it in promised if it], has_body
 
 
-def functions_in(file, public):
+def promises_of_traits(folders):
+    """Returns the clauses of each method of the repository's traits."""
+    found, trait = {}, ""
+    for file in (it for folder in folders for it in sorted(folder.glob("src/**/*.rt"))):
+        lines = file.read_text().splitlines()
+        for at, line in enumerate(lines):
+            begun = re.match(r"pub trait (\w+)|\}", line)
+            trait = begun[1] or "" if begun else trait
+            said = re.match(r"    fn (\w+)", line)
+            if trait and said:
+                found[trait, said[1]] = heads_at(lines, at)[1]
+    return found
+
+
+def functions_in(file, public, promises):
     """Returns the functions of a source file; `public` are the names that the crate gives out."""
     lines, found, owner, trait = file.read_text().splitlines(), [], "", ""
     for at, line in enumerate(lines):
@@ -66,26 +123,28 @@ def functions_in(file, public):
             owner, trait = type_and_trait(line)
         elif line.startswith("}"):
             owner, trait = "", ""
-        said = re.match(r"(    )?(pub )?(?:pub\(\w+\) )?(?:const )?(?:unsafe )?fn (\w+)(.*)", line)
+        said = re.match(r"(    )?(pub )?(?:pub\(\w+\) )?(?:const )?(?:unsafe )?fn (\w+)", line)
         if not said or (said[1] and not owner):
             continue
-        clauses, promised = clauses_at(lines, at), trait and trait not in PLAIN_TRAITS
-        if clauses is not None:
+        signature, clauses, has_body = heads_at(lines, at)
+        if has_body:
+            promised = trait and trait not in PLAIN_TRAITS
+            clauses = clauses + promises.get((trait, said[3]), [])
             is_public = (owner or said[3]) in public and (said[2] or promised)
-            is_law = re.fullmatch(r"(<[^<>]*>)?\(\)( \{\})?", said[4])
-            needs_edit = bool(is_public and (clauses or promised) and not is_law)
-            found.append(Function(owner or file.stem, said[3], clauses, needs_edit))
+            is_law = "->" not in signature and "&mut" not in signature
+            is_weak = (clauses or promised) and not are_equations([text for _, text in clauses])
+            found.append(Function(owner or file.stem, said[3], clauses, bool(is_public and is_weak and not is_law)))
     return found
 
 
-def functions_of(folder):
+def functions_of(folder, promises):
     """Returns the functions of a crate, but for those of its tests."""
     files = sorted(folder.glob("src/**/*.rt"))
     tests = {it for file in files for it in re.findall(r"#\[cfg\(test\)\]\n\s*mod (\w+)", file.read_text())}
     uses = [it for file in folder.glob("src/lib.rt") for it in re.findall(r"(?s)pub use (.*?);", file.read_text())]
     public = {it for text in uses for it in re.findall(r"\w+", text)}
     files = [it for it in files if not tests.intersection((*it.relative_to(folder).parts, it.stem))]
-    return [it for file in files for it in functions_in(file, public)]
+    return [it for file in files for it in functions_in(file, public, promises)]
 
 
 def applies(file):
@@ -116,14 +175,14 @@ def faults_of(file, functions, covered):
         covered += fit
         if len(fit) != 1:
             faults.append(f"{len(fit)} functions are called '{name}'")
-        elif name == by[1] and fit[0].clauses and by[2] not in fit[0].clauses and not re.fullmatch(OTHERS, by[2]):
+        elif name == by[1] and fit[0].clauses and not fit[0].has_clause(by[2]) and not re.fullmatch(OTHERS, by[2]):
             faults.append(f"'{name}' has no clause '{by[2]}'")
     return faults
 
 
-def check(folder, is_quiet):
+def check(folder, promises, is_quiet):
     """Prints the index of a crate, and returns what is wrong with it."""
-    functions, covered, faults = functions_of(folder), [], []
+    functions, covered, faults = functions_of(folder, promises), [], []
     if not is_quiet:
         print(folder.name)
     for file in sorted(folder.glob("must-fail/*.edit")):
@@ -133,13 +192,16 @@ def check(folder, is_quiet):
             print(f"  {called:24} {change.replace('_', ' '):34} {file.read_text().partition(chr(10))[0]}")
     bare = [f"{it.owner}.{it.name}" for it in functions if it.needs_edit and it not in covered]
     return faults + [
-        f"{folder.name}: the public function {it} has no edit" for it in bare if f"{folder.name}: {it}" not in EXEMPT
+        f"{folder.name}: the public function {it} has no edit, and not all of its clauses are equations"
+        for it in bare
+        if f"{folder.name}: {it}" not in EXEMPT
     ]
 
 
 def main(words):
     crates = [it for it in in_order(TOP) if it not in EXAMPLES]
-    faults = [it for crate in crates for it in check(TOP / "crates" / crate, "-q" in words)]
+    promises = promises_of_traits(TOP / "crates" / it for it in crates)
+    faults = [it for crate in crates for it in check(TOP / "crates" / crate, promises, "-q" in words)]
     for it in faults:
         print(it, file=sys.stderr)
     return 1 if faults else 0

@@ -1,7 +1,8 @@
 #!/usr/bin/env python3
-"""The gate: the rules of names, the names in the documents, the form of the edits that must fail and the pages of the
-libraries; if these are green `rt ci`; if that is green too the programs as users run them: those that `rt ci` built are
-put into bin/, and run on random cases against slow answers, and with memory, writes, reads and stack refused.
+"""The gate: the rules of names, the names in the documents, the form of the edits that must fail, the pages of the
+libraries and the completions; if these are green `rt ci`; if that is green too the programs as users run them: those
+that `rt ci` built are put into bin/, and run on random cases against slow answers, and with memory, writes, reads and
+stack refused; then what shells complete and what is packed is tested.
 
 usage: gate.py
 
@@ -15,6 +16,13 @@ import subprocess
 import sys
 
 PROGRAMS = ("pegi", "abnfi")
+# What is looked at before anything is proved, and what the programs are run by.
+BEFORE = (
+    ("names.py",), ("doc_names.py",), ("edit_index.py", "-q"), ("pages.py", "--check"), ("completions.py", "--check")
+)
+BEHIND = (
+    ("random_cases.py", "-n", "5000", "-u", "-w"), ("faults.py",), ("completions_test.py",), ("package_test.py",)
+)
 TOP = pathlib.Path(__file__).resolve().parent.parent
 RT = os.environ.get("RT", "rt").split()
 
@@ -52,16 +60,14 @@ def put_programs():
 
 
 def main():
-    first = [script("names.py"), script("doc_names.py"), script("edit_index.py", "-q"), script("pages.py", "--check")]
-    if not all(first):
-        print("gate.py: names.py, doc_names.py, edit_index.py or pages.py says above what is wrong; nothing was proved")
+    if not all([script(*it) for it in BEFORE]):
+        print("gate.py: a script says above what is wrong; nothing was proved")
         return 1
     status, last = ci()
     green = status == 0
     if green:
         print(last, flush=True)
-        # (each of the two skips a program that is not there)
-        green = put_programs() and all([script("random_cases.py", "-n", "5000", "-u", "-w"), script("faults.py")])
+        green = put_programs() and all([script(*it) for it in BEHIND])
     print(last, flush=True)
     return 0 if green else status or 1
 

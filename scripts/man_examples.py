@@ -1,11 +1,13 @@
 #!/usr/bin/env python3
 """Runs the examples of the manual pages as they stand there, and fails where one prints something else.
 
-usage: man_examples.py
+usage: man_examples.py [BIN PAGES]
 
 `The file NAME` stands before the text of a file. Lines with `$ ` are commands; what stands behind a command is
-what it prints, on either output. The commands of a page run in one folder, by the programs of bin/.
+what it prints, on either output. The commands of a page run in one folder. The programs are those of bin/ and the pages
+those of man/, or those of the two folders that are named; a page there may be packed.
 """
+import gzip
 import os
 import pathlib
 import re
@@ -23,7 +25,8 @@ def plain(line):
 
 def blocks(page):
     """Yields the lines of each example, with the name of the file that stands in it, if the text before names one."""
-    text = page.read_text().partition("\n.SH EXAMPLES\n")[2]
+    raw = page.read_bytes()
+    text = (gzip.decompress(raw) if page.suffix == ".gz" else raw).decode().partition("\n.SH EXAMPLES\n")[2]
     for found in re.finditer(r"((?:(?!\.nf\n).*\n)*?)\.nf\n\.RS\n((?:.*\n)*?)\.RE\n\.fi\n", text):
         named = re.findall(r"\bThe file ([\w.-]+\w)", found.group(1))
         yield named[-1].replace("\\-", "-") if named else None, [plain(it) for it in found.group(2).splitlines()]
@@ -35,10 +38,10 @@ def commands(lines):
         yield found.group(1).replace("\n> ", "\n").strip("\n"), found.group(2)
 
 
-def run_page(page, folder):
+def run_page(page, programs, folder):
     """Returns how many commands of a page ran, and how many were wrong."""
     ran, wrong = 0, 0
-    environment = os.environ | {"PATH": f"{TOP / 'bin'}:{os.environ['PATH']}"}
+    environment = os.environ | {"PATH": f"{programs}:{os.environ['PATH']}"}
     for name, lines in blocks(page):
         if not any(it.startswith("$ ") for it in lines):
             if name:
@@ -54,14 +57,15 @@ def run_page(page, folder):
     return ran, wrong
 
 
-def main():
+def main(words):
+    programs, pages = map(pathlib.Path, words or (TOP / "bin", TOP / "man"))
     status = 0
-    for page in sorted((TOP / "man").glob("*.1")):
+    for page in sorted(pages.glob("*.1*")):
         with tempfile.TemporaryDirectory() as folder:
-            ran, wrong = run_page(page, pathlib.Path(folder))
+            ran, wrong = run_page(page, programs.resolve(), pathlib.Path(folder))
         print(f"{page.name}: {ran} commands, {wrong} wrong")
         status |= bool(wrong) or not ran
     return status
 
 
-sys.exit(main())
+sys.exit(main(sys.argv[1:]))

@@ -2,7 +2,8 @@
 #![tactic(auto)]
 
 use abnfrun::{SourceOf, Status};
-use commands::{Program, abnfi_main, refuse_invalid_utf8};
+use commands::{Program, refuse_invalid_utf8};
+use mains::abnfi_main;
 use ruletable::SinkOf;
 use std::io::{BufReader, BufWriter, ErrorKind};
 use std::process::ExitCode;

@@ -1,6 +1,4 @@
 mod AppLemmas
-mod AnswersLemmas
 mod EntryLemmas
 mod AreWholeLemmas
 mod AskLemmas
-mod JobStatesLemmas

@@ -1,14 +1,13 @@
-//! The command lines of the programs, and the bodies of their mains.
+//! The command lines of the programs: what the words ask for, and the end of a program that has nothing to run.
 #![tactic(auto)]
 
 mod command;
 mod fault;
 mod help;
-mod mains;
 mod reading;
 mod settings;
 
 pub use command::{Program, abnfi_command, is_a_simple_command, parse, pegi_command};
 pub use fault::refuse_invalid_utf8;
-pub use mains::{abnfi_main, pegi_main};
+pub use reading::{Job, Unready, end_unready, read_job};
 pub use settings::{Asked, read_words, settings_of};

@@ -41,8 +41,7 @@ type Row = (
     Option<&'static [u8]>,
 );
 
-static ROWS: [Row; 24] = [
-    (b"a = \"x\"", None, b"", Some(b"a")),
+static ROWS: [Row; 12] = [
     // prose refuses only if the judged rule reaches it
     (b"a = <any text> / b\nb = \"x\"", None, b"<a ", None),
     (
@@ -51,42 +50,20 @@ static ROWS: [Row; 24] = [
         b"<a -a ",
         Some(b"b"),
     ),
-    (
-        b"a = \"x\"\nb = [2*(\"y\" <p>)]\nc = b",
-        None,
-        b"<b -c ",
-        Some(b"a"),
-    ),
     // so does a name without a rule; it is spelled as its first use does
     (b"a = \"x\"\nb = c", None, b"?c -b ", Some(b"a")),
-    (b"a = b\nb = *(\"x\" / Foo) FOO / foO", None, b"?Foo ", None),
     // a definition by `=/` that begins a rule never refuses
     (b"x =/ \"a\"", None, b"/x ", Some(b"x")),
-    (
-        b"a = DiGiT\nFoo =/ \"x\"\nfOO =/ \"y\"",
-        None,
-        b"/Foo -Foo ",
-        Some(b"a"),
-    ),
     // a definition again always does, once a rule, spelled as the first
     (b"a = \"x\"\na = \"y\"\nA = \"z\"", None, b"=a ", None),
     (b"a = \"x\"\nBb = \"y\"\nBB = c", None, b"=Bb -Bb ", None),
-    (b"a = b\nb =/ \"x\"\nb = \"y\"", None, b"=b /b ", None),
     // core rules that the file replaces, extends, or reaches through others
     (b"n = 1*DIGIT\nDIGIT = \"7\"", None, b"", Some(b"n")),
-    (b"n = 1*DIGIT\ndigit =/ \"x\"", None, b"", Some(b"n")),
     (b"a = LWSP\nWSP = \"_\"", None, b"", Some(b"a")),
-    (b"a = LWSP\nWSP = <p>", None, b"<WSP ", None),
     (b"a = \"x\"\nWSP = <p>", None, b"<WSP ", Some(b"a")),
-    (b"a = \"x\"\nBIT = \"2\"", None, b"-BIT ", Some(b"a")),
     // the rule that is judged: a core rule, a rule of the file in another case, no rule
     (b"a = \"x\"", Some("digit"), b"-a ", Some(b"DIGIT")),
-    (b"a = \"x\"\nBc = a", Some("bC"), b"", Some(b"Bc")),
     (b"s = u", Some("T"), b"?T ?u -s ", None),
-    // a rule that only its own body uses, and cycles
-    (b"a = \"x\"\nb = [b]", None, b"", Some(b"a")),
-    (b"a = b\nb = a", None, b"", Some(b"a")),
-    (b"a = <>", None, b"<a ", None),
     // all kinds at once
     (
         b"a = \"x\" / u\nA = \"y\"\nb =/ <p>\nc = V / U / b d\nd = \"z\"\nd = \"t\"\ne =/ <q>",
@@ -126,25 +103,12 @@ fn sound_of(alloc: Global, text: &[u8]) -> Result<SoundAbnf, Fail> {
 }
 
 // Texts, and whether their first rule derives the empty string.
-static NULLABLE: [(&[u8], bool); 18] = [
+static NULLABLE: [(&[u8], bool); 5] = [
     (b"s = \"\"", true),
-    (b"s = \"a\"", false),
-    (b"s = %x0", false),
     (b"s = %x100 / %x110000", false),
-    (b"s = 1%x30-39 / *DIGIT", true),
-    (b"s = 1*DIGIT", false),
-    (b"s = 0\"a\"", true),
     (b"s = 2*3[\"a\"]", true),
     (b"s = 3*2[\"a\"]", false),
-    (b"s = 3*2e\ne = \"\"", false),
-    (b"s = 0e\ne = e", true),
-    (b"s = a b\na = \"\"\nb = [\"x\"]", true),
-    (b"s = a b\na = \"\"\nb = \"x\"", false),
-    (b"s = \"x\" / a\na = *\"x\"", true),
-    (b"s = s", false),
-    (b"s = a\na = b\nb = a / \"\"", true),
     (b"s = LWSP", true),
-    (b"s = WSP / %x5-1", false),
 ];
 
 // Whether the first rule of a text derives the empty string.
@@ -162,23 +126,13 @@ fn empty_strings(rt: HostRuntime) -> Result<(), Fail> {
 }
 
 // Texts, and whether their first rule derives some list of bytes, and of code points.
-static PRODUCTIVE: [(&[u8], bool, bool); 16] = [
-    (b"s = \"abc\" / %x100 \"x\"", true, true),
-    (b"s = %x20AC \"x\"", false, true),
-    (b"s = %x41.20AC", false, true),
+static PRODUCTIVE: [(&[u8], bool, bool); 6] = [
     (b"s = %x41.D800", false, false),
     (b"s = %xFF-100", true, true),
-    (b"s = %x100-200", false, true),
-    (b"s = %xD800-DFFF", false, false),
     (b"s = %xD800-E000", false, true),
-    (b"s = %x5-1", false, false),
     (b"s = 2*1\"a\"", false, false),
-    (b"s = 1*%x110000", false, false),
     (b"s = *%x110000 [s]", true, true),
-    (b"s = \"x\" s", false, false),
     (b"s = \"a\" t \"b\" / \"ac\"\nt = \"x\" t", true, true),
-    (b"s = \"a\" t\nt = \"x\" t", false, false),
-    (b"s = t u\nt = ALPHA\nu = u \"a\" / t", true, true),
 ];
 
 // Whether the first rule of a text derives some list of the letters, with a mark for each rule.

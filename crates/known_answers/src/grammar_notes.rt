@@ -25,37 +25,11 @@ fn noted(alloc: Global, text: &[u8], start: Option<&str>) -> Result<(Vec<u8>, bo
 // A grammar, the name of its start rule if one is given, the lines of the notes on it, and whether it is ready to run.
 type Row = (&'static [u8], Option<&'static str>, &'static [u8], bool);
 
-static NOTED: [Row; 39] = [
+static NOTED: [Row; 21] = [
     // nothing to say; names before and after their rules
     (b"S <-", None, b"", true),
-    (b"S <- 'a' S / {e}", None, b"", true),
-    (b"S <- T U\nT <- U 't'?\nU <- 'u' T S", None, b"", true),
     // each note alone
     (b"S <- 'a'\nS <- 'b'", None, b"rule 'S' redefined\n", false),
-    (
-        b"S <- T 'a'",
-        None,
-        b"rule 'T' used but not defined\n",
-        false,
-    ),
-    (
-        b"S <- 'a'\nT <- 'b'",
-        None,
-        b"rule 'T' defined but not used\n",
-        true,
-    ),
-    (
-        b"S <- S 'a' / 'b'",
-        None,
-        b"possible infinite left recursion in rule 'S'\n",
-        false,
-    ),
-    (
-        b"S <- ('a'?)*",
-        None,
-        b"possible infinite loop in rule 'S'\n",
-        false,
-    ),
     // all notes at once
     (
         b"S <- X L\nL <- L 'b'\nU <- ('c'?)+\nS <- 'a'",
@@ -75,27 +49,6 @@ static NOTED: [Row; 39] = [
         b"A <- {} A 'a' / &. A",
         None,
         b"possible infinite left recursion in rule 'A'\n",
-        false,
-    ),
-    (
-        b"A <- B A / 'z'\nB <- {b} < 'c'* >",
-        None,
-        b"possible infinite left recursion in rule 'A'\n",
-        false,
-    ),
-    // within a predicate
-    (
-        b"A <- !(A 'x') 'z'",
-        None,
-        b"possible infinite left recursion in rule 'A'\n",
-        false,
-    ),
-    // no left recursion past what takes a byte, or past a name without a rule
-    (b"A <- 'a' A / 'a'+ A", None, b"", true),
-    (
-        b"A <- B A / 'z'",
-        None,
-        b"rule 'B' used but not defined\n",
         false,
     ),
     // through other rules; a rule that only leads to a cycle is not on it
@@ -137,7 +90,6 @@ static NOTED: [Row; 39] = [
         b"possible infinite loop in rule 'S'\n",
         false,
     ),
-    (b"S <- ('a' '')*", None, b"", true),
     (
         b"S <- 'a' !(''*)",
         None,
@@ -150,7 +102,6 @@ static NOTED: [Row; 39] = [
         b"possible infinite loop in rule 'S'\n",
         false,
     ),
-    (b"S <- T*\nT <- 'a'? 'b'", None, b"", true),
     // several kinds, each in the order of the rules
     (
         b"A <- ('' / 'b')* C\nD <- 'd'",
@@ -179,25 +130,6 @@ static NOTED: [Row; 39] = [
         b"rule 'S' redefined\nrule 'T' redefined\n",
         false,
     ),
-    (
-        b"S <- 'a'\nS <- T\nT <- 'b'",
-        None,
-        b"rule 'S' redefined\nrule 'T' defined but not used\n",
-        false,
-    ),
-    (
-        b"S <- 'a'\nS <- S X ''*",
-        None,
-        b"rule 'S' redefined\n",
-        false,
-    ),
-    // a rule that leads to a left-recursive one
-    (
-        b"S <- A 'x'\nA <- A 'y' / 'z'",
-        None,
-        b"possible infinite left recursion in rule 'A'\n",
-        false,
-    ),
     // a rule that only its own body uses is used; names differ by case
     (
         b"S <- 'a'\nown <- 'b' own\nlone <- <",
@@ -205,20 +137,12 @@ static NOTED: [Row; 39] = [
         b"rule 'lone' defined but not used\n",
         true,
     ),
-    (b"S <- s", None, b"rule 's' used but not defined\n", false),
     // given start rules
     (
         b"S <- 'a'\nT <- 'b'",
         Some("T"),
         b"rule 'S' defined but not used\n",
         true,
-    ),
-    (b"S <- 'a' T\nT <- 'b'", Some("S"), b"", true),
-    (
-        b"A <- 'a' A B X\nB <- &Y / X+\nC <- .",
-        Some("Y"),
-        b"rule 'Y' used but not defined\nrule 'X' used but not defined\nrule 'C' defined but not used\n",
-        false,
     ),
     (
         b"S <- 'a'",

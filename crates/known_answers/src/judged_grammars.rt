@@ -37,34 +37,8 @@ fn grammar(alloc: Global, text: &str, limit: usize) -> Result<Flat, Fail> {
 // Grammars, and lines of at most seven letters with their answers.
 static ROWS: &[(&str, &[(&str, bool)])] = &[
     (
-        "word = 1*ALPHA\nALPHA = %x41-5A / %x61-7A\n",
-        &[("ab", true), ("A1", false), ("", false), ("Z", true)],
-    ),
-    (
         "s = s s / \"a\" / \"\"\n",
         &[("aaa", true), ("", true), ("b", false)],
-    ),
-    (
-        "k = %s\"Ab\"\n  / \"cd\"\nK =/ 2*3%x78\n",
-        &[
-            ("Ab", true),
-            ("ab", false),
-            ("CD", true),
-            ("xx", true),
-            ("xxxx", false),
-        ],
-    ),
-    (
-        "  s = \"a\"\n     / t\n  t = \"b\"\n",
-        &[("B", true), ("ab", false)],
-    ),
-    (
-        "n = 1*DIGIT\nDIGIT = \"7\"\n",
-        &[("77", true), ("1", false)],
-    ),
-    (
-        "s = %x100 / 3*2\"a\" / \"b\"\n",
-        &[("aa", false), ("b", true)],
     ),
     (
         "a = LWSP\nWSP = \"_\"\nLWSP = *(WSP / CRLF WSP)\nCRLF = %x0D %x0A\n",
@@ -74,20 +48,8 @@ static ROWS: &[(&str, &[(&str, bool)])] = &[
         "s = a a a \"x\"\na = [\"x\"]\n",
         &[("x", true), ("", false), ("xxxx", true), ("xxxxx", false)],
     ),
-    (
-        "a = [b] [b] [b]\nb = \"b\"\n",
-        &[("", true), ("b", true), ("bbb", true), ("bbbb", false)],
-    ),
-    ("a = 0\"x\"\n", &[("", true), ("x", false)]),
-    ("a = \"a\" a / \"a\"\n", &[("aaaa", true), ("aaab", false)]),
     // names alone
     ("a = a\n", &[("", false), ("x", false)]),
-    ("a = b\nb = A\n", &[("", false), ("x", false)]),
-    // a name that no rule defines, and prose, in rules that are not judged
-    (
-        "a = \"x\"\nb = c\nd = <any>\n",
-        &[("x", true), ("c", false), ("any", false)],
-    ),
     // repeats and options
     (
         "a = *(*\"x\")\n",
@@ -98,38 +60,13 @@ static ROWS: &[(&str, &[(&str, bool)])] = &[
         &[("", true), ("xXx", true), ("xxxx", false)],
     ),
     (
-        "a = 2*3\"x\"\n",
-        &[("x", false), ("xx", true), ("xxx", true), ("xxxx", false)],
-    ),
-    (
         "a = 3*2\"x\"\n",
         &[("", false), ("xx", false), ("xxx", false)],
-    ),
-    (
-        "a = 1*\"x\"\n",
-        &[("", false), ("x", true), ("xxxxx", true)],
     ),
     // nullable members
     (
         "a = 0\"x\" b\nb = [a] \"y\"\n",
         &[("y", true), ("yy", true), ("", false)],
-    ),
-    (
-        "a = b b \"x\"\nb = [\"x\"]\n",
-        &[("x", true), ("", false), ("xxx", true), ("xxxx", false)],
-    ),
-    (
-        "a = b \"x\" / \"x\"\nb = [\"c\"] a\n",
-        &[("x", true), ("cxx", true), ("ccxxx", true), ("cx", false)],
-    ),
-    // texts and values
-    (
-        "a = %s\"Ab\"\n",
-        &[("Ab", true), ("ab", false), ("A", false)],
-    ),
-    (
-        "a = %x61.100 / %x61-63\n",
-        &[("a", true), ("c", true), ("d", false), ("ab", false)],
     ),
 ];
 

@@ -53,25 +53,10 @@ type Row = (
     &'static [u8],
 );
 
-static ROWS: [Row; 20] = [
-    // captures and actions of a success print; a failed alternative leaves no capture
-    (LETTERS, b"abc", false, Some(2), b"a\n"),
+static ROWS: [Row; 8] = [
     (LETTERS, b"ac", false, Some(1), b"[]\n"),
     // a repetition takes all it can, and gives nothing back
     (b"S <- ('a' {x})* 'b'", b"aaba", false, Some(3), b"x\nx\n"),
-    (b"S <- ('a' {x})+", b"aab", false, Some(2), b"x\nx\n"),
-    (b"S <- ('a' {x})? 'a' {y}", b"aa", false, Some(2), b"x\ny\n"),
-    (b"S <- 'a'* 'a'", b"aa", false, None, b""),
-    (b"S <- 'a'+", b"b", false, None, b""),
-    (b"S <- 'a'? 'a'", b"a", false, None, b""),
-    // predicates take and leave nothing
-    (
-        b"S <- &('a' <'b'> {x}) 'a' {[yytext]}",
-        b"ab",
-        false,
-        Some(1),
-        b"[]\n",
-    ),
     (
         b"S <- !('a' <'b'> {x}) 'a' {[yytext]}",
         b"ac",
@@ -79,8 +64,6 @@ static ROWS: [Row; 20] = [
         Some(1),
         b"[]\n",
     ),
-    (b"S <- &'b' .", b"ab", false, None, b""),
-    (b"S <- !'a' .", b"ab", false, None, b""),
     // a name is the body of its rule
     (
         BRACKETS,
@@ -89,7 +72,6 @@ static ROWS: [Row; 20] = [
         Some(5),
         b"open\nopen\nshut\nshut\n",
     ),
-    (BRACKETS, b"((x)", false, None, b""),
     // `yytextual` is a word of its own, and what is put in is not looked at again
     (
         b"S <- < 'yyleng' > { yytext yyleng yytextual }",
@@ -99,16 +81,8 @@ static ROWS: [Row; 20] = [
         b"yyleng 6 yytextual\n",
     ),
     (b"S <- < 'b' > { yytext\t}", b"b", true, Some(1), b" b\t"),
-    (b"S <- < > {[yytext]}", b"", false, Some(0), b"[]\n"),
     (b"S <- < 'x' > {\r\n\t }", b"x", false, Some(1), b"\n"),
     (b"S <- < 'x' > {}", b"x", true, Some(1), b""),
-    (
-        b"S <- < '0123456789' > {yyleng-yytext_}",
-        b"0123456789",
-        false,
-        Some(10),
-        b"10-yytext_\n",
-    ),
 ];
 
 #[test]

@@ -1,8 +1,9 @@
 //! Runs a grammar in the syntax of peg(1) on its standard input.
 #![tactic(auto)]
 
-use commands::{Program, pegi_main, refuse_invalid_utf8};
+use commands::{Program, refuse_invalid_utf8};
 use gramtools::{SourceOf, Status};
+use mains::pegi_main;
 use ruletable::SinkOf;
 use std::io::{BufReader, BufWriter, ErrorKind};
 use std::process::ExitCode;

@@ -1,0 +1,230 @@
+#!/usr/bin/env python3
+"""Writes completions/: for bash, zsh and fish what may stand next in a command line of pegi and abnfi.
+
+usage: completions.py [--check]
+
+With --check it compares the files with what it would write, and writes nothing. The description of the options is here,
+once for all shells; completions_test.py compares it with what the programs print for -h. Behind -s the rules of the
+grammar are offered if it stands on the line already: they come from `-m print`.
+"""
+import dataclasses
+import pathlib
+import sys
+
+TOP = pathlib.Path(__file__).resolve().parent.parent
+FOLDER = TOP / "completions"
+
+
+@dataclasses.dataclass(frozen=True)
+class Option:
+    """An option: its letter, the word for its value, the values that it may have, and what the help says."""
+
+    letter: str
+    value: str
+    values: tuple
+    text: str
+
+
+@dataclasses.dataclass(frozen=True)
+class Program:
+    """A program: its options, and what stands behind a rule's name where the grammar is printed."""
+
+    name: str
+    options: tuple
+    sign: str
+
+    def valued(self):
+        """Returns the options that take a value, as they are typed."""
+        return [f"-{it.letter}" for it in self.options if it.value]
+
+
+GRAMMAR = "The file of the grammar, at most 1048576 bytes"
+MODE = Option("m", "MODE", ("run", "check", "print"), "What is done with the grammar")
+HELP = Option("h", "", (), "Print help")
+PROGRAMS = (
+    Program("pegi", (
+        MODE,
+        Option("l", "N", (), "How many bytes a unit may look at, from 1 to 16777216"),
+        Option("s", "RULE", (), "The start rule [default: the first rule]"),
+        Option("r", "", (), "Print actions neither trimmed nor each on a line of its own"),
+        HELP,
+    ), "<-"),
+    Program("abnfi", (
+        MODE,
+        Option("l", "N", (), "How many bytes a line may have, from 1 to 16777216"),
+        Option("s", "RULE", (), "The judged rule [default: the first rule]"),
+        Option("u", "MODE", ("bytes", "utf8"),
+               "What the letters of a line are: its bytes, or the code points of UTF-8"),
+        Option("w", "", (), "Write how far a refused line goes: no N"),
+        HELP,
+    ), "="),
+)
+
+BASH = r"""# Completes the command line of @NAME@ in bash. scripts/completions.py wrote this file.
+
+# Prints the names of the rules of the grammar on the line, if it is there.
+_@NAME@_rules() {
+    local program=$1 at word
+    for ((at = 1; at < ${#COMP_WORDS[@]}; at++)); do
+        word=${COMP_WORDS[at]}
+        case $word in
+            @VALUED@) ((++at)) ;;
+            -*) ;;
+            *)
+                word=${word//\\/}
+                word=${word/#\~\//$HOME/}
+                [ ! -f "$word" ] || "$program" -m print "$word" 2> /dev/null |
+                    sed -n 's/^\([A-Za-z_][A-Za-z0-9_-]*\) @SIGN@ .*/\1/p'
+                ;;
+        esac
+    done
+}
+
+_@NAME@() {
+    local current=${COMP_WORDS[COMP_CWORD]} before=${COMP_WORDS[COMP_CWORD - 1]} option words
+    COMPREPLY=()
+    case $before in
+@VALUES@
+        -s)
+            mapfile -t COMPREPLY < <(compgen -W "$(_@NAME@_rules "${1/#\~\//$HOME/}")" -- "$current")
+            return
+            ;;
+        -l) return ;;
+    esac
+    if [[ $current == -* ]]; then
+        # each option may stand once
+        for option in @OPTIONS@; do
+            [[ " ${COMP_WORDS[*]} " == *" $option "* && $option != "$current" ]] || words+=" $option"
+        done
+        mapfile -t COMPREPLY < <(compgen -W "$words" -- "$current")
+    else
+        compopt -o filenames 2> /dev/null
+        mapfile -t COMPREPLY < <(compgen -f -- "$current")
+    fi
+}
+complete -F _@NAME@ @NAME@
+"""
+
+BASH_VALUES = """        -@LETTER@)
+            mapfile -t COMPREPLY < <(compgen -W '@VALUES@' -- "$current")
+            return
+            ;;"""
+
+ZSH = r"""#compdef @NAME@
+# Completes the command line of @NAME@ in zsh. scripts/completions.py wrote this file.
+
+# Offers the names of the rules of the grammar on the line, if it is there.
+_@NAME@_rules() {
+    local -a rules
+    local at word
+    for ((at = 2; at <= $#words; at++)); do
+        word=$words[at]
+        case $word in
+            (@VALUED@) ((++at)) ;;
+            (-*) ;;
+            (*)
+                word=${~${(Q)word}}
+                [[ ! -f $word ]] || rules+=(${(f)"$($words[1] -m print $word 2> /dev/null |
+                    sed -n 's/^\([A-Za-z_][A-Za-z0-9_-]*\) @SIGN@ .*/\1/p')"})
+                ;;
+        esac
+    done
+    (($#rules)) && compadd -a rules
+}
+
+_arguments -s \
+@OPTIONS@
+    '1:grammar:_files'
+"""
+
+FISH = r"""# Completes the command line of @NAME@ in fish. scripts/completions.py wrote this file.
+
+# Prints the names of the rules of the grammar on the line, if it is there.
+function __@NAME@_rules
+    set -l words (commandline -op)
+    set -l at 2
+    while test $at -le (count $words)
+        switch $words[$at]
+            case @VALUED@
+                set at (math $at + 1)
+            case '-*'
+            case '*'
+                set -l file (string replace -r '^~/' "$HOME/" -- $words[$at])
+                if test -f "$file"
+                    $words[1] -m print "$file" 2> /dev/null | string match -rg '^([A-Za-z_][A-Za-z0-9_-]*) @SIGN@ '
+                end
+        end
+        set at (math $at + 1)
+    end
+end
+
+@OPTIONS@
+"""
+
+
+def filled(template, **words):
+    """Returns the template with each @WORD@ replaced."""
+    for word, text in words.items():
+        template = template.replace(f"@{word}@", text)
+    return template
+
+
+def for_bash(program):
+    """Returns the file for bash."""
+    values = [
+        filled(BASH_VALUES, LETTER=it.letter, VALUES=" ".join(it.values)) for it in program.options if it.values
+    ]
+    options = " ".join(f"-{it.letter}" for it in program.options) + " --help"
+    return filled(BASH, NAME=program.name, SIGN=program.sign, VALUED=" | ".join(program.valued()),
+                  VALUES="\n".join(values), OPTIONS=options)
+
+
+def for_zsh(program):
+    """Returns the file for zsh."""
+    def spec(it):
+        text = it.text.replace("[", "(").replace("]", ")").replace(":", "\\:")
+        if it is HELP:
+            return f"    '(- 1)'{{-h,--help}}'[{text}]' \\"
+        action = f"({' '.join(it.values)})" if it.values else f"_{program.name}_rules" if it.letter == "s" else " "
+        return f"    '-{it.letter}[{text}]" + (f":{it.value.lower()}:{action}' \\" if it.value else "' \\")
+    return filled(ZSH, NAME=program.name, SIGN=program.sign, VALUED="|".join(program.valued()),
+                  OPTIONS="\n".join(map(spec, program.options)))
+
+
+def for_fish(program):
+    """Returns the file for fish."""
+    def line(it):
+        offered = " ".join(it.values) or (f"(__{program.name}_rules)" if it.letter == "s" else "")
+        values = (" -x" if it.value else "") + (f" -a '{offered}'" if offered else "")
+        name = f"-s {it.letter}" + (" -l help -f" if it is HELP else "")
+        return f"complete -c {program.name} {name}{values} -d '{it.text}'"
+    return filled(FISH, NAME=program.name, SIGN=program.sign, VALUED=" ".join(program.valued()),
+                  OPTIONS="\n".join(map(line, program.options)))
+
+
+def files():
+    """Returns the text of each file of completions/, by its path there."""
+    found = {}
+    for it in PROGRAMS:
+        found[f"bash/{it.name}"] = for_bash(it)
+        found[f"zsh/_{it.name}"] = for_zsh(it)
+        found[f"fish/{it.name}.fish"] = for_fish(it)
+    return found
+
+
+def main(words):
+    wrong = 0
+    for path, text in files().items():
+        file = FOLDER / path
+        if "--check" in words:
+            if not file.is_file() or file.read_text() != text:
+                print(f"completions/{path}: not what scripts/completions.py writes")
+                wrong += 1
+        else:
+            file.parent.mkdir(parents=True, exist_ok=True)
+            file.write_text(text)
+    return 1 if wrong else 0
+
+
+if __name__ == "__main__":
+    sys.exit(main(sys.argv[1:]))
