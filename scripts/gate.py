@@ -1,8 +1,8 @@
 #!/usr/bin/env python3
-"""The gate: the rules of names, the form of the edits that must fail, the pages of the libraries and the completions;
-if these are green `rt ci`; if that is green too the programs as users run them: those that `rt ci` built are put into
-bin/, and run on random cases against slow answers, and with memory, writes, reads and stack refused; then what shells
-complete and what is packed is tested.
+"""The gate: the rules of names, the names in the documents, the form of the edits that must fail, the pages of the
+libraries and the completions; if these are green `rt ci`; if that is green too the programs as users run them: those
+that `rt ci` built are put into bin/, and run on random cases against slow answers, and with memory, writes, reads and
+stack refused; then what shells complete and what is packed is tested.
 
 usage: gate.py
 
@@ -17,7 +17,9 @@ import sys
 
 PROGRAMS = ("pegi", "abnfi")
 # What is looked at before anything is proved, and what the programs are run by.
-BEFORE = (("names.py",), ("edit_index.py", "-q"), ("pages.py", "--check"), ("completions.py", "--check"))
+BEFORE = (
+    ("names.py",), ("doc_names.py",), ("edit_index.py", "-q"), ("pages.py", "--check"), ("completions.py", "--check")
+)
 BEHIND = (
     ("random_cases.py", "-n", "5000", "-u", "-w"), ("faults.py",), ("completions_test.py",), ("package_test.py",)
 )

@@ -466,21 +466,21 @@ module _ (has : ℕ → Bool) (rules : List Rule) (last : ℕ) (goes : ℕ → �
   record Turns (a : ℕ) (b : Option ℕ) (d : Element) (w : List ℕ) : Type 0 where
     count : ℕ
     low : a ≤ count
-    high : der.Within count b
+    high : der.AtMost count b
     times : DerivesTimes has rules d count w
 
   turns_of : {a : ℕ} {b : Option ℕ} {d : Element} {w : List ℕ} → Derives has rules (e.Rep a b d) w → Turns a b d w
   turns_of (der.rep {k = k} low high d) = record { count = k; low = low; high = high; times = d }
 
-  none_within : (b : Option ℕ) → der.Within 0 b
+  none_within : (b : Option ℕ) → der.AtMost 0 b
   none_within None = tt
   none_within (Some b) = omega arith
 
-  more_within : (k : ℕ) (b : Option ℕ) → may b ≡ true → der.Within k (less b) → der.Within (suc k) b
+  more_within : (k : ℕ) (b : Option ℕ) → may b ≡ true → der.AtMost k (less b) → der.AtMost (suc k) b
   more_within k None h g = tt
   more_within k (Some b) h g = let lt = ltb-true 0 b h in omega (arith, lt, g)
 
-  less_within : (k : ℕ) (b : Option ℕ) → der.Within (suc k) b → (may b ≡ true) × der.Within k (less b)
+  less_within : (k : ℕ) (b : Option ℕ) → der.AtMost (suc k) b → (may b ≡ true) × der.AtMost k (less b)
   less_within k None h = (refl, tt)
   less_within k (Some b) h = (lt-ltb 0 b (omega (arith, h)), omega (arith, h))
 
@@ -660,7 +660,7 @@ module _ (has : ℕ → Bool) (rules : List Rule) (last : ℕ) (goes : ℕ → �
           (some_derived h i j l (universe_parts rules (e.Alt (e.more d es)) (e.Alt es) at alt_rest) a b))
 
       times_derived : {d : Element} {k : ℕ} {w : List ℕ} → DerivesTimes has rules d k w → (i j : ℕ) → IsPath Goes i w j
-          → (least : ℕ) (most : Option ℕ) → least ≤ k → der.Within k most →
+          → (least : ℕ) (most : Option ℕ) → least ≤ k → der.AtMost k most →
           Listed (e.Rep least most d) (universe rules) → i ≤ last → j ≤ last → s (fact (e.Rep least most d) i j) ≡ true
       times_derived (no_more {e = d}) i j l least most low high at a b = grown_in_set (e.Rep least most d) i j at a b
           (or_first (leb least 0 && eqb i j) (may most && both s d (e.Rep (least - 1) (less most) d) i j)

@@ -6,10 +6,10 @@ mod ElementNeedsLemmas
 mod FiniteLeastLemmas
 mod GraphLemmas
 pub mod IsPathLemmas
-mod JoinLemmas
-mod JoinedRulesLemmas
+pub mod JoinLemmas
 pub mod LiesLemmas
 mod NameIdsLemmas
 mod NameMarksLemmas
 pub mod RuleIdLemmas
+mod WithCoreLemmas
 pub mod YieldsLemmas

@@ -1,13 +1,16 @@
 -- The notes on a grammar in ABNF, in order, and what refuses it. Own, but for what RFC 5234, sections 2.1, 3.3 and 4,
 -- says of rule names, `=/` and prose.
 use Rattle.std.specs.Prelude.{◌≡◌, ℕ, suc, ◌<◌, List, [], ◌∷◌, ◌++◌, map, length, Option, Some, None, option_to_list}
-use Rattle.std.specs.Prelude.{Contains}
+use Rattle.std.specs.Prelude.{Contains, MatchOption}
 use Rattle.ruletable.specs.Notes.{Said, said}
+use Rattle.ruletable.specs.Rules as table
 use Rattle.ruletable.specs.declared.note.NoteKind.TheVariants as kind
 use Rattle.ruletable.specs.declared.table.NameCase.TheVariants.{Fold}
 use Rattle.rulenames.specs.FirstUses.{news}
+use Rattle.abnfread.specs.AbnfViews.{rules_of}
 use Rattle.abnfread.specs.Element.{Rule, id_of}
-use Rattle.abnfcheck.specs.AbnfGrammar.{Reachable}
+use Rattle.abnfread.specs.declared.elem.Elem.{Elem}
+use Rattle.abnfcheck.specs.AbnfGrammar.{Grammar, Reachable}
 use Rattle.abnfcheck.specs.AbnfUses.{names_used, rule_names, Uses, HoldsProse}
 
 module _ (P : ℕ → Type 0) where
@@ -55,3 +58,10 @@ module _ (file rules : List Rule) (again : List ℕ) (judged : ℕ) where
     by_redefinition : {id : ℕ} → id < length file → Contains again id → IsRefused
     by_name : Reachable rules judged (length rules) → IsRefused
     by_prose : {id : ℕ} → Reachable rules judged id → HoldsProse rules id → IsRefused
+
+-- there is a grammar of all rules, with its judged rule, exactly where it is not refused
+abbrev pub IsSoundUnlessRefused : List Rule → table.Rules Elem → List ℕ → Option (List ℕ) → Option Grammar → Type 0
+IsSoundUnlessRefused file all again given sound =
+    MatchOption sound (IsRefused file (rules_of all) again (judged_in given (rules_of all)))
+    (λ g. (IsRefused file (rules_of all) again (judged_in given (rules_of all)) → ⊥) × (g.rules ≡ all)
+    × (g.judged ≡ judged_in given (rules_of all)))

@@ -25,9 +25,9 @@ AreLetters has [] = Unit {0}
 AreLetters has (v ∷ vs) = (has v ≡ true) × AreLetters has vs
 
 -- at most that many, if there is a bound
-abbrev pub Within : ℕ → Option ℕ → Type 0
-Within k None = Unit {0}
-Within k (Some most) = k ≤ most
+abbrev pub AtMost : ℕ → Option ℕ → Type 0
+AtMost k None = Unit {0}
+AtMost k (Some most) = k ≤ most
 
 -- `has` tells the letters of the alphabet
 module _ (has : ℕ → Bool) (rules : List Rule) where
@@ -38,7 +38,7 @@ module _ (has : ℕ → Bool) (rules : List Rule) where
       range : {low high c : ℕ} → low ≤ c → c ≤ high → has c ≡ true → Derives (Range low high) (c ∷ [])
       concat : {es : Elements} {w : List ℕ} → DerivesAll es w → Derives (Concat es) w
       alt : {es : Elements} {w : List ℕ} → DerivesSome es w → Derives (Alt es) w
-      rep : {a k : ℕ} {b : Option ℕ} {e : Element} {w : List ℕ} → a ≤ k → Within k b → DerivesTimes e k w
+      rep : {a k : ℕ} {b : Option ℕ} {e : Element} {w : List ℕ} → a ≤ k → AtMost k b → DerivesTimes e k w
           → Derives (Rep a b e) w
       opt_empty : {e : Element} → Derives (Opt e) []
       opt : {e : Element} {w : List ℕ} → Derives e w → Derives (Opt e) w

@@ -4,8 +4,8 @@ pub mod AbnfUses
 pub mod Beginnings
 pub mod Decided
 pub mod Derivable
-pub mod Joined
 pub mod NameIds
 pub mod NameMarks
 pub mod ProseIn
 pub mod RuleMarks
+pub mod WithCore

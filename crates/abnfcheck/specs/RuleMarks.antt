@@ -7,7 +7,7 @@ use Rattle.leastset.specs.NumberMarks.{IsMarked}
 use Rattle.letters.specs.Letters.{has as in_alphabet}
 use Rattle.letters.specs.declared.alphabet.Alphabet.{Alphabet}
 use Rattle.abnfread.specs.Element.{Element, Elements, Concat, Alt, Rep, Name, none, more, Rule, bodies, id_of}
-use Rattle.abnfcheck.specs.Derivable.{AreLetters, Derives, RuleDerives, Within}
+use Rattle.abnfcheck.specs.Derivable.{AreLetters, Derives, RuleDerives, AtMost}
 use Rattle.abnfcheck.specs.declared.aim.Aim.{Aim}
 use Rattle.abnfcheck.specs.declared.aim.Aim.TheVariants.{Empty, Letters}
 
@@ -74,7 +74,7 @@ module _ (has : ℕ → Bool) (rules : List Rule) (aim : Aim) (needs : List Dema
       of_unmet : {e : Element} → (Yields has rules aim e → ⊥) → IsNeedOf (One []) e
       of_concat : {ms : List ℕ} {es : Elements} → AskAll ms es → IsNeedOf (All ms) (Concat es)
       of_alt : {ms : List ℕ} {es : Elements} → AskAll ms es → IsNeedOf (One ms) (Alt es)
-      of_rep : {a m : ℕ} {b : Option ℕ} {e : Element} → 0 < a → Within a b → Asks m e
+      of_rep : {a m : ℕ} {b : Option ℕ} {e : Element} → 0 < a → AtMost a b → Asks m e
           → IsNeedOf (All (m ∷ [])) (Rep a b e)
       of_name : {name : List ℕ} → id_of rules name < length rules → IsNeedOf (All (id_of rules name ∷ [])) (Name name)
 

@@ -1,13 +1,13 @@
 //! The checks of a grammar in ABNF.
-ghost use Rattle.std.specs.Prelude.{◌≡◌, ◌↔◌, ◌≤◌, ◌++◌, ℕ, Bool, List, length, map, IfOk, MatchOption, option_copied};
+ghost use Rattle.std.specs.Prelude.{◌≡◌, ◌↔◌, ◌≤◌, ◌++◌, ℕ, Bool, List, length, map, IfOk, option_copied};
 ghost use Rattle.ruletable.specs.Rules.{names_of};
 ghost use Rattle.abnfread.specs.Element.{Rule};
 ghost use Rattle.abnfread.specs.AbnfViews.{rules_of};
 ghost use Rattle.ruletable.specs.Notes.{said_of};
-ghost use Rattle.abnfcheck.specs.AbnfNotes.{judged_in, AreNotes, IsRefused};
+ghost use Rattle.abnfcheck.specs.AbnfNotes.{judged_in, AreNotes, IsRefused, IsSoundUnlessRefused};
 ghost use Rattle.abnfcheck.specs.AbnfUses.{rule_names};
 ghost use Rattle.abnfcheck.specs.NameIds.{IsIdAt};
-ghost use Rattle.abnfcheck.specs.Joined.{joined};
+ghost use Rattle.abnfcheck.specs.WithCore.{with_core};
 
 use crate::abnf_notes::{is_refused, note_marks, notes_on};
 use crate::joined::join;
@@ -36,8 +36,10 @@ pub struct Checked<S> {
 /// the order of the file. Uses in core rules that the file leaves alone count.
 ///
 /// A redefinition refuses the grammar, and so do prose and a name without a rule if they can be reached from the judged
-/// rule. The other notes never do. A table without rules, which no text reads as, has no judged rule, and is refused
-/// without a note.
+/// rule. The other notes never do.
+///
+/// No text reads as a table without rules. Of such a table the first core rule is judged; if there is none either, the
+/// grammar is refused without a note.
 ///
 /// # Errors
 /// `Memory` if an allocation fails; the grammar is dropped then.
@@ -46,16 +48,10 @@ pub fn check_abnf(
     abnf: Abnf,
     rule: Option<&str>,
 ) -> Result<Checked<SoundAbnf>, Memory>
-    ensures notes { IfOk result (λ c. AreNotes (rules_of abnf.rules) (rules_of (joined abnf.rules abnf.core.rules))
-        abnf.redefined.items abnf.extended.items
-        (option_copied rule.entry) (map said_of c.notes.items)) }
-    ensures sound { IfOk result (λ c. MatchOption c.sound
-        (IsRefused (rules_of abnf.rules) (rules_of (joined abnf.rules abnf.core.rules)) abnf.redefined.items
-        (judged_in (option_copied rule.entry) (rules_of (joined abnf.rules abnf.core.rules))))
-        (λ g. (IsRefused (rules_of abnf.rules) (rules_of (joined abnf.rules abnf.core.rules)) abnf.redefined.items
-        (judged_in (option_copied rule.entry) (rules_of (joined abnf.rules abnf.core.rules))) → ⊥)
-        × (g.rules ≡ joined abnf.rules abnf.core.rules)
-        × (g.judged ≡ judged_in (option_copied rule.entry) (rules_of (joined abnf.rules abnf.core.rules))))) }
+    ensures notes { IfOk result (λ c. AreNotes (rules_of abnf.rules) (rules_of (with_core abnf.rules abnf.core.rules))
+        abnf.redefined.items abnf.extended.items (option_copied rule.entry) (map said_of c.notes.items)) }
+    ensures sound { IfOk result (λ c. IsSoundUnlessRefused (rules_of abnf.rules)
+        (with_core abnf.rules abnf.core.rules) abnf.redefined.items (option_copied rule.entry) c.sound) }
 {
     let count = abnf.rules.len();
     let rules = join(alloc, abnf.rules, abnf.core)?;

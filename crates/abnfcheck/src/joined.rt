@@ -1,7 +1,7 @@
 //! The rules of a file, and the core rules that it leaves alone.
 ghost use Rattle.std.specs.Prelude.{◌≡◌, ◌<◌, length, slice_get, Some, IfOk};
 ghost use Rattle.ruletable.specs.Rules.{bodies_of};
-ghost use Rattle.abnfcheck.specs.Joined.{joined};
+ghost use Rattle.abnfcheck.specs.WithCore.{with_core};
 ghost use Rattle.abnfread.specs.AbnfTable.{IsTaken};
 
 use abnfread::Elem;
@@ -26,7 +26,7 @@ pub fn join(
     file: RuleTable<Elem>,
     core: RuleTable<Elem>,
 ) -> Result<RuleTable<Elem>, Memory>
-    ensures { IfOk result (λ rules. rules ≡ joined file core.rules) }
+    ensures { IfOk result (λ rules. rules ≡ with_core file core.rules) }
 {
     let mut rules = file;
     let mut core = core;

@@ -8,7 +8,7 @@ use Rattle.abnfread.specs.AbnfReading.{Reads}
 use Rattle.abnfread.specs.Element.{Rule, Definition}
 use Rattle.abnfread.specs.AbnfViews.{rules_of}
 use Rattle.abnfread.proofs.AbnfFaultLemmas.{one-reading}
-use Rattle.abnfprint.specs.AbnfReadBack.{table_of, SameButSpans, ReadsAs, IsRead}
+use Rattle.abnfprint.specs.AbnfReadBack.{file_rules, SameButSpans, ReadsAs, IsRead}
 use Rattle.abnfprint.specs.CanonicalAbnf.{definition_text, grammar_text}
 use Rattle.abnfprint.specs.FormedAbnf.{AreFormedRules, IsSome}
 use Rattle.abnfprint.proofs.AbnfCutsLemmas.{said-text}
@@ -39,17 +39,17 @@ leads-rules : (rules : List Rule) → IsSome rules → Leads false (listed_rules
 leads-rules [] h = absurd h
 leads-rules (rule ∷ rules) h = refl
 
-pub reads-formed : (source : List ℕ) (ds : List Definition) → Reads source ds → IsSome (table_of ds)
-    × AreFormedRules (table_of ds)
+pub reads-formed : (source : List ℕ) (ds : List Definition) → Reads source ds → IsSome (file_rules ds)
+    × AreFormedRules (file_rules ds)
 reads-formed source ds h = (
   table-some ds (some-definitions h.grammar),
-  rules-formed (table_of ds) (table-fit ds (reads-fit h)),
+  rules-formed (file_rules ds) (table-fit ds (reads-fit h)),
 )
 
-pub read-back : (source : List ℕ) (ds : List Definition) → Reads source ds → length (grammar_text (table_of ds))
-    ≤ MAX_GRAMMAR → ReadsAs (grammar_text (table_of ds)) (table_of ds)
+pub read-back : (source : List ℕ) (ds : List Definition) → Reads source ds → length (grammar_text (file_rules ds))
+    ≤ MAX_GRAMMAR → ReadsAs (grammar_text (file_rules ds)) (file_rules ds)
 read-back source ds h le =
-    let rules = table_of ds in
+    let rules = file_rules ds in
     let fit = table-fit ds (reads-fit h) in
     let formed = rules-formed rules fit in
     let some = table-some ds (some-definitions h.grammar) in
@@ -81,11 +81,11 @@ read-back source ds h le =
     }
 
 pub prints-itself : (source : List ℕ) (ds again : List Definition) → Reads source ds
-    → Reads (grammar_text (table_of ds)) again → grammar_text (table_of again) ≡ grammar_text (table_of ds)
+    → Reads (grammar_text (file_rules ds)) again → grammar_text (file_rules again) ≡ grammar_text (file_rules ds)
 prints-itself source ds again h k =
     let r = read-back source ds h k.size in
-    ap (λ (es : List Definition). grammar_text (table_of es)) (r.only again k)
-    ∙ sym (spans-unseen (table_of ds) (table_of r.again) r.same)
+    ap (λ (es : List Definition). grammar_text (file_rules es)) (r.only again k)
+    ∙ sym (spans-unseen (file_rules ds) (file_rules r.again) r.same)
 
 pub table-back : (source : List ℕ) (rules : table.Rules Elem) (redefined early : List ℕ)
     → IsRead source rules redefined early → length (grammar_text (rules_of rules)) ≤ MAX_GRAMMAR

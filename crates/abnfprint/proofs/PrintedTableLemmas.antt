@@ -16,7 +16,7 @@ use Rattle.abnfread.specs.AbnfTable.{firsts, agains, earlies}
 use Rattle.abnfread.specs.CoreRules.{core_list, core_bodies}
 use Rattle.abnfread.specs.Element.{Element, Elements, Text, Values, Alt, Name, none, more, append, Rule, bodies}
 use Rattle.abnfread.specs.Element.{Definition}
-use Rattle.abnfprint.specs.AbnfReadBack.{table_of, SameButSpans}
+use Rattle.abnfprint.specs.AbnfReadBack.{file_rules, SameButSpans}
 use Rattle.abnfprint.specs.declared.place.Place.TheVariants.{Alternative}
 use Rattle.abnfprint.specs.FormedAbnf.{IsName, named, IsFormed, AreFormed, AreFormedRules, AreMany, IsSome}
 use Rattle.abnfprint.proofs.AbnfSpelledLemmas.{IsFull}
@@ -256,10 +256,10 @@ firsts-fit known (d ∷ ds) h =
     (extended-fit (first_body (body_in core_list) d) (added d.name ds) (begun-fit d h.1) (added-fit d.name ds h.2))
     (firsts-fit (known ++ d.name ∷ []) ds h.2) (firsts-fit known ds h.2)
 
-pub table-fit : (ds : List Definition) → AreFit ds → AreFitRules (table_of ds)
+pub table-fit : (ds : List Definition) → AreFit ds → AreFitRules (file_rules ds)
 table-fit ds h = firsts-fit [] ds h
 
-pub table-some : (ds : List Definition) → IsSome ds → IsSome (table_of ds)
+pub table-some : (ds : List Definition) → IsSome ds → IsSome (file_rules ds)
 table-some [] h = absurd h
 table-some (d ∷ ds) h = tt
 

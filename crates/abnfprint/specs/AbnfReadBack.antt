@@ -10,9 +10,9 @@ use Rattle.abnfread.specs.Element.{Rule, Definition}
 use Rattle.abnfprint.specs.CanonicalAbnf.{grammar_text}
 use Rattle.abnfprint.specs.FormedAbnf.{AreFormedRules, IsSome}
 
--- the rules of a file's table that the definitions make
-abbrev pub table_of : List Definition → List Rule
-table_of ds = firsts (body_in core_list) [] ds
+-- the rules that the definitions of a file make (RFC 5234, sections 2.2 and 3.3)
+abbrev pub file_rules : List Definition → List Rule
+file_rules ds = firsts (body_in core_list) [] ds
 
 -- rules that differ in nothing but in where their names stand
 pub record SameButSpans (rules again : List Rule) : Type 0 where
@@ -25,7 +25,7 @@ pub record ReadsAs (text : List ℕ) (rules : List Rule) : Type 0 where
   pub again : List Definition
   pub reads : Reads text again
   pub only : (other : List Definition) → Reads text other → other ≡ again
-  pub same : SameButSpans rules (table_of again)
+  pub same : SameButSpans rules (file_rules again)
   pub no_again : agains (body_in core_list) [] again ≡ []
   pub no_early : earlies (body_in core_list) 0 [] again ≡ []
 
@@ -37,8 +37,8 @@ pub record IsRead (source : List ℕ) (rules : table.Rules Elem) (redefined earl
 
 -- the rules that a text reads as, its canonical text reads as again, where that is not too long
 abbrev pub ReadBack : Type 0
-ReadBack = (source : List ℕ) (ds : List Definition) → Reads source ds → length (grammar_text (table_of ds))
-    ≤ MAX_GRAMMAR → ReadsAs (grammar_text (table_of ds)) (table_of ds)
+ReadBack = (source : List ℕ) (ds : List Definition) → Reads source ds → length (grammar_text (file_rules ds))
+    ≤ MAX_GRAMMAR → ReadsAs (grammar_text (file_rules ds)) (file_rules ds)
 
 -- the canonical text tells nothing of spans
 abbrev pub SpansUnseen : Type 0
@@ -47,9 +47,9 @@ SpansUnseen = (rules again : List Rule) → SameButSpans rules again → grammar
 -- the canonical text of what a canonical text reads as is that text
 abbrev pub PrintsItself : Type 0
 PrintsItself = (source : List ℕ) (ds again : List Definition) → Reads source ds
-    → Reads (grammar_text (table_of ds)) again → grammar_text (table_of again) ≡ grammar_text (table_of ds)
+    → Reads (grammar_text (file_rules ds)) again → grammar_text (file_rules again) ≡ grammar_text (file_rules ds)
 
 -- the rules that a text reads as are formed
 abbrev pub ReadsFormed : Type 0
-ReadsFormed = (source : List ℕ) (ds : List Definition) → Reads source ds → IsSome (table_of ds)
-    × AreFormedRules (table_of ds)
+ReadsFormed = (source : List ℕ) (ds : List Definition) → Reads source ds → IsSome (file_rules ds)
+    × AreFormedRules (file_rules ds)

@@ -7,13 +7,12 @@ use Rattle.ruletable.specs.declared.fault.ReadFault.TheVariants.{Memory, TooLong
 use Rattle.ruletable.specs.declared.note.NoteKind.TheVariants.{Redefined}
 use Rattle.std.specs.Prelude.{Contains}
 use Rattle.abnfread.specs.AbnfReading.{Reads, IsFaultOf}
-use Rattle.abnfread.specs.AbnfTable.{body_in, earlies}
-use Rattle.abnfread.specs.CoreRules.{core_list}
 use Rattle.abnfread.specs.Element.{Definition, Rule}
 use Rattle.abnfread.proofs.AbnfFaultLemmas.{one-reading, one-fault, no-fault}
 use Rattle.abnfcheck.proofs.AbnfNotesLemmas.{notes_same, those_same}
 use Rattle.abnfrun.specs.AbnfAnswers.{AbnfStates, refused, noted, checked, judges, again, printed, no_memory}
-use Rattle.abnfrun.specs.AbnfNoted.{file_rules, all_rules, again_in, judged_of, AreNotesOn, IsRefusedFor, AreAgain}
+use Rattle.abnfprint.specs.AbnfReadBack.{file_rules}
+use Rattle.abnfrun.specs.AbnfNoted.{all_rules, again_in, early_in, judged_of, AreNotesOn, IsRefusedFor, AreAgain}
 use Rattle.abnfrun.specs.AbnfNoted.{rule_given}
 use Rattle.abnfrun.specs.AbnfReply.{AnswersFor, printed_rules, JudgeReply}
 use Rattle.abnfrun.proofs.IsAnswerOnLemmas.{FurthestIsOne}
@@ -91,7 +90,7 @@ module _ (settings : Settings) (input : Input) where
         → AreNotesOn definitions (rule_given settings) b → notes_text a ≡ notes_text b
     one_text a b g h =
         ap notes_text (notes_same (file_rules definitions) (all_rules definitions) (again_in definitions)
-        (earlies (body_in core_list) 0 [] definitions) (rule_given settings) a b g h)
+        (early_in definitions) (rule_given settings) a b g h)
 
     one_run : (a b : Reply) → JudgeReply (all_rules definitions) (judged_of definitions (rule_given settings)) settings
         input a →

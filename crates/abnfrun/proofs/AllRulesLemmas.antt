@@ -1,84 +1,92 @@
 -- The rules of the table of a file and of the core rules are those of its definitions.
 -- Serves: run_abnf (right)
-use Rattle.std.proofs.Common.{◌≡◌, ℕ, ◌+◌, Bool, not, cond, List, [], ◌∷◌, map, Option, Some, None, refl, sym, ◌∙◌, ap}
-use Rattle.std.specs.Prelude.{MatchOption}
-use Rattle.std.specs.List.{position_or_len}
-use Rattle.std.proofs.lemmas.List.{length-map, map-append}
+use Rattle.std.proofs.Common.{◌≡◌, ℕ, Bool, true, false, not, ◌||◌, cond, List, [], ◌∷◌, ◌++◌, map, Option, Some, None}
+use Rattle.std.proofs.Common.{refl, sym, ◌∙◌, ap}
+use Rattle.std.specs.Prelude.{MatchOption, filter}
+use Rattle.std.specs.List.{list_any}
+use Rattle.std.proofs.lemmas.List.{map-append}
 use Rattle.ruletable.specs.Notes.{Said}
 use Rattle.ruletable.specs.Rules as table
-use Rattle.ruletable.specs.Rules.{find_in, same_name}
+use Rattle.ruletable.specs.Rules.{same_name}
+use Rattle.ruletable.specs.declared.table.NameCase.{NameCase}
 use Rattle.ruletable.specs.declared.table.NameCase.TheVariants.{Fold}
 use Rattle.abnfread.specs.AbnfReading.{Reads}
 use Rattle.abnfread.specs.AbnfTable.{IsTableOf, IsCoreTable}
 use Rattle.abnfread.specs.CoreRules.{core_list}
-use Rattle.abnfread.specs.Element.{Element, Rule, Definition}
+use Rattle.abnfread.specs.Element.{Rule, Definition}
 use Rattle.abnfread.specs.AbnfViews.{rule_of, rules_of}
 use Rattle.abnfread.specs.declared.elem.Elem.{Elem}
 use Rattle.abnfcheck.specs.AbnfGrammar.{Grammar}
-use Rattle.abnfcheck.specs.AbnfNotes.{AreNotes, IsRefused, judged_in}
-use Rattle.abnfcheck.specs.Joined.{added, joined}
+use Rattle.abnfcheck.specs.AbnfNotes.{AreNotes, IsSoundUnlessRefused, judged_in}
+use Rattle.abnfcheck.specs.WithCore.{has_name, one_each, left_alone, with_core}
 use Rattle.abnfrun.specs.AbnfChecking.{IsChecked}
-use Rattle.abnfrun.specs.AbnfNoted.{AreRedefinitions, IsRefusedFor, all_rules, file_rules, judged_of}
+use Rattle.abnfprint.specs.AbnfReadBack.{file_rules}
+use Rattle.abnfrun.specs.AbnfNoted.{AreRedefinitions, IsRefusedFor, all_rules, judged_of}
 use Rattle.abnfrun.specs.AbnfPrinting.{IsPrintable}
+use Rattle.abnfrun.proofs.EarlyInLemmas.{earlies_are_early}
 
--- the table with the element of each body
-abbrev seen : table.Rules Elem → table.Rules Element
-seen t = record { names = t.names; rules = rules_of t }
+any_map : {A B : Type 0} (f : A → B) (p : B → Bool) (xs : List A) → list_any p (map f xs)
+    ≡ list_any (λ x. p (f x)) xs
+any_map f p [] = refl
+any_map f p (x ∷ xs) = ap (λ b. p (f x) || b) (any_map f p xs)
 
-first_same : (p : Rule → Bool) (rules : List (table.Rule Elem)) → position_or_len p (map rule_of rules)
-    ≡ position_or_len (λ rule. p (rule_of rule)) rules
-first_same p [] = refl
-first_same p (rule ∷ rules) = ap (λ k. cond (not (p (rule_of rule))) (1 + k) 0) (first_same p rules)
+map_filter : {A B : Type 0} (f : A → B) (p : A → Bool) (q : B → Bool) → ((x : A) → q (f x) ≡ p x) → (xs : List A)
+    → map f (filter p xs) ≡ filter q (map f xs)
+map_filter f p q same [] = refl
+map_filter {A} {B} f p q same (x ∷ xs) =
+    step (p x) (filter p xs) (filter q (map f xs)) (map_filter f p q same xs)
+    ∙ ap (λ b. cond b (f x ∷ filter q (map f xs)) (filter q (map f xs))) (sym (same x))
+  where
+    step : (b : Bool) (us : List A) (vs : List B) → map f us ≡ vs → map f (cond b (x ∷ us) us) ≡ cond b (f x ∷ vs) vs
+    step true us vs e = ap (λ l. f x ∷ l) e
+    step false us vs e = e
 
-found_same : (t : table.Rules Elem) (name : List ℕ) → find_in (seen t) name ≡ find_in t name
-found_same t name = rw (first_same (λ rule. same_name t.names name rule.name) t.rules, length-map t.rules rule_of) refl
+one_each_map : (names : NameCase) (rules : List (table.Rule Elem)) → map rule_of (one_each names rules)
+    ≡ one_each names (map rule_of rules)
+one_each_map names [] = refl
+one_each_map names (rule ∷ rules) = ap (λ l. rule_of rule ∷ l)
+    (map_filter rule_of (λ (later : table.Rule Elem). not (same_name names later.name rule.name))
+    (λ (later : Rule). not (same_name names later.name rule.name)) (λ later. refl) (one_each names rules)
+    ∙ ap (filter (λ (later : Rule). not (same_name names later.name rule.name))) (one_each_map names rules))
 
-added_same : (found : Option ℕ) (t : table.Rules Elem) (rule : table.Rule Elem) → seen (added found t rule)
-    ≡ added found (seen t) (rule_of rule)
-added_same None t rule = ap (λ l. record { names = t.names; rules = l }) (map-append rule_of t.rules (rule ∷ []))
-added_same (Some id) t rule = refl
-
-pub joined_same : (t : table.Rules Elem) (rules : List (table.Rule Elem))
-    → seen (joined t rules) ≡ joined (seen t) (map rule_of rules)
-joined_same t [] = refl
-joined_same t (rule ∷ rules) =
-    joined_same (added (find_in t rule.name) t rule) rules
-    ∙ ap (λ v. joined v (map rule_of rules)) (added_same (find_in t rule.name) t rule
-    ∙ ap (λ f. added f (seen t) (rule_of rule)) (sym (found_same t rule.name)))
+-- no two core rules have one name
+core_rules_apart : one_each Fold core_list ≡ core_list
+core_rules_apart = refl
 
 pub all_same : (definitions : List Definition) (file core : table.Rules Elem) → file.names ≡ Fold
     → rules_of file ≡ file_rules definitions → rules_of core ≡ core_list →
-    rules_of (joined file core.rules) ≡ all_rules definitions
+    rules_of (with_core file core.rules) ≡ all_rules definitions
 all_same definitions file core folds kept listed =
-    ap (λ v. v.rules) (joined_same file core.rules) ∙ rw (folds, kept, listed) refl
+    map-append rule_of file.rules (left_alone file core.rules)
+    ∙ ap (λ l. rules_of file ++ l)
+    (map_filter rule_of (λ (rule : table.Rule Elem). not (has_name file.names file.rules rule.name))
+    (λ (rule : Rule). not (has_name file.names (rules_of file) rule.name))
+    (λ rule. ap not (any_map rule_of (λ own. same_name file.names rule.name own.name) file.rules))
+    (one_each file.names core.rules)
+    ∙ ap (filter (λ (rule : Rule). not (has_name file.names (rules_of file) rule.name)))
+    (one_each_map file.names core.rules))
+    ∙ rw (folds, kept, listed) (ap (λ l. file_rules definitions
+    ++ filter (λ (rule : Rule). not (has_name Fold (file_rules definitions) rule.name)) l) core_rules_apart)
 
 pub is_checked : (text : List ℕ) (given : Option (List ℕ)) (file core : table.Rules Elem) (again early : List ℕ)
     (notes : List Said) (sound : Option Grammar) →
     ((definitions : List Definition) × Reads text definitions × IsTableOf definitions file again early)
     → IsCoreTable core →
-    AreNotes (rules_of file) (rules_of (joined file core.rules)) again early given notes →
-    MatchOption sound (IsRefused (rules_of file) (rules_of (joined file core.rules)) again
-    (judged_in given (rules_of (joined file core.rules))))
-    (λ g. (IsRefused (rules_of file) (rules_of (joined file core.rules)) again
-    (judged_in given (rules_of (joined file core.rules))) → ⊥)
-    × (g.rules ≡ joined file core.rules) × (g.judged ≡ judged_in given (rules_of (joined file core.rules))))
+    AreNotes (rules_of file) (rules_of (with_core file core.rules)) again early given notes →
+    IsSoundUnlessRefused (rules_of file) (with_core file core.rules) again given sound
     → IsChecked text given notes sound
 is_checked text given file core again early notes sound (ds, reads, t) c are ready = record {
   definitions = ds;
   reads = reads;
-  are_notes = rw (all, t.kept, t.again, t.before) at are;
+  are_notes = rw (all, t.kept, t.again, t.before ∙ earlies_are_early ds) at are;
   ready = by sound ready;
 }
   where
-    all : rules_of (joined file core.rules) ≡ all_rules ds
+    all : rules_of (with_core file core.rules) ≡ all_rules ds
     all = all_same ds file core t.names t.kept c.listed
 
     by : (sound : Option Grammar) →
-        MatchOption sound (IsRefused (rules_of file) (rules_of (joined file core.rules)) again
-        (judged_in given (rules_of (joined file core.rules))))
-        (λ g. (IsRefused (rules_of file) (rules_of (joined file core.rules)) again
-        (judged_in given (rules_of (joined file core.rules))) → ⊥)
-        × (g.rules ≡ joined file core.rules) × (g.judged ≡ judged_in given (rules_of (joined file core.rules)))) →
+        IsSoundUnlessRefused (rules_of file) (with_core file core.rules) again given sound →
         MatchOption sound (IsRefusedFor ds given) (λ g. (IsRefusedFor ds given → ⊥) × (rules_of g.rules ≡ all_rules ds)
         × (g.judged ≡ judged_of ds given))
     by None h = rw (all, t.kept, t.again) at h

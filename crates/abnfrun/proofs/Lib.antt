@@ -2,6 +2,7 @@ pub mod AbnfStatesLemmas
 pub mod AbnfTaskLemmas
 pub mod AllRulesLemmas
 pub mod AreRedefinitionsLemmas
+pub mod EarlyInLemmas
 pub mod IsAnswerOnLemmas
 pub mod IsAnswerToLemmas
 pub mod SpellsLengthLemmas

@@ -5,7 +5,8 @@ use Rattle.ruletable.specs.declared.fault.ReadFault.{ReadFault}
 use Rattle.ruletable.specs.declared.fault.ReadFault.TheVariants.{Memory}
 use Rattle.abnfread.specs.AbnfReading.{Reads, IsFaultOf}
 use Rattle.abnfread.specs.Element.{Definition}
-use Rattle.abnfrun.specs.AbnfNoted.{file_rules, all_rules, judged_of, AreNotesOn, IsRefusedFor, AreAgain, rule_given}
+use Rattle.abnfprint.specs.AbnfReadBack.{file_rules}
+use Rattle.abnfrun.specs.AbnfNoted.{all_rules, judged_of, AreNotesOn, IsRefusedFor, AreAgain, rule_given}
 use Rattle.abnfrun.specs.AbnfReply.{printed_rules, JudgeReply}
 use Rattle.toolrun.specs.Input.{Input}
 use Rattle.toolrun.specs.NotesText.{notes_text}

@@ -2,7 +2,7 @@
 ghost use Rattle.std.specs.Prelude.{◌≡◌, List, length, option_copied, IfOk, IfErr};
 ghost use Rattle.abnfread.specs.AbnfReading.{IsFaultOf, Reads};
 ghost use Rattle.abnfread.specs.Element.{Definition};
-ghost use Rattle.abnfrun.specs.AbnfNoted.{file_rules};
+ghost use Rattle.abnfprint.specs.AbnfReadBack.{file_rules};
 ghost use Rattle.callers.specs.LoadedAbnf.{IsAbnfLoaded};
 
 use abnfcheck::{SoundAbnf, check_abnf};

@@ -3,13 +3,14 @@
 use Rattle.std.proofs.Common.{◌≡◌, ℕ, zero, suc, ◌+◌, ◌<◌, ◌≤◌, ◌⊎◌, inl, inr, Option, Some, None, List, [], ◌∷◌, ◌++◌}
 use Rattle.std.proofs.Common.{length, take, slice_get, refl, sym, ◌∙◌, ap, subst, arith, slice_index_or}
 use Rattle.std.proofs.lemmas.List.{take-append-le}
+use Rattle.std.specs.Option.{option_flatten}
 use Rattle.flatgrammar.specs.Flat.{Place, at, Starts, Node, Letters, Concat, Alt, Rep, Turns, Opt, Name, Nothing, Set}
 use Rattle.flatgrammar.specs.Flat.{Has, Reading, reads}
 use Rattle.flatgrammar.specs.Places.{In, AreDifferent}
 use Rattle.flatgrammar.specs.declared.flat_item.Item.{Item}
 use Rattle.flatgrammar.specs.declared.tables.Tables as code_flat
 use Rattle.flatgrammar.specs.NodeSteps.{flat_of, read_at, IfSomeSet}
-use Rattle.flatgrammar.specs.TableViews.{GiveRoots, read_in, joined}
+use Rattle.flatgrammar.specs.TableViews.{GiveRoots, read_in}
 use Rattle.earley.specs.Closed.{Hold, HoldAll, IsClosed}
 use Rattle.earley.specs.ReadItems.{IsRead}
 use Rattle.earley.specs.Charts.{item_of, IsFirst, IsWhole, IsAfter, IsExact, IsBuilt}
@@ -168,7 +169,7 @@ module _ (flat : code_flat.Tables) (roots : GiveRoots (flat_of flat) flat.roots.
       (subst (λ v. Holds (flat_of flat) x (h.at + 1) (at a.node v) r.by.origin) (sym r.step)
       (subst (λ v. Holds (flat_of flat) x (h.at + 1) (at v (r.by.step + 1)) r.by.origin) (sym r.node) made)))
 
-  pub root_is : (o : Option (Option ℕ)) (root : ℕ) → joined o ≡ Some root → o ≡ Some (Some root)
+  pub root_is : (o : Option (Option ℕ)) (root : ℕ) → option_flatten o ≡ Some root → o ≡ Some (Some root)
   root_is None root h = absurd cc
   root_is (Some o) root h = ap Some h
 

@@ -3,6 +3,7 @@
 use Rattle.std.proofs.Common.{◌≡◌, ℕ, zero, suc, ◌+◌, ◌<◌, ◌≤◌, true, ◌⊎◌, inl, inr, Some, None, List, [], ◌∷◌, length}
 use Rattle.std.proofs.Common.{take, slice_get, refl, sym, ◌∙◌, ap, subst, arith, length-take-le}
 use Rattle.std.proofs.lemmas.Bool.{cases_lt}
+use Rattle.std.specs.Option.{option_flatten}
 use Rattle.flatgrammar.specs.Flat.{Node, Letters, Name, Flat, Place, at, Set, Has, Begins, IsDone, Reading, Calling}
 use Rattle.flatgrammar.specs.Flat.{Starts, starts, name_starts, Ends, ends, name_ends, Reads, reads, Calls, calls}
 use Rattle.flatgrammar.specs.Flat.{Takes}
@@ -14,7 +15,7 @@ use Rattle.flatgrammar.specs.declared.tables.Tables as code_flat
 use Rattle.flatgrammar.specs.FlatViews.{node_of}
 use Rattle.flatgrammar.specs.NodeSteps.{flat_of, begin_count, is_done, callee, read_at, IfSomeSet}
 use Rattle.flatgrammar.specs.TableViews.{root_in, rooted, called_by, call_of, done_in, done_of, count_in, read_in}
-use Rattle.flatgrammar.specs.TableViews.{read_of, GiveRoots, joined}
+use Rattle.flatgrammar.specs.TableViews.{read_of, GiveRoots}
 use Rattle.earley.specs.ItemSets.{waiting_in}
 use Rattle.flatgrammar.specs.Roots.{Root, own, named}
 use Rattle.earley.specs.Charts.{item_of, IsChart, IsWhole}
@@ -122,7 +123,7 @@ module _ (flat : code_flat.Tables) (roots : GiveRoots (flat_of flat) flat.roots.
       subst (λ v. IsWhole flat (item_of v 0)) (sym b.place)
       (record {
         root = b.root;
-        is = ap (λ o. joined o) ((roots flat.whole b.root).1 b.rooted);
+        is = ap (λ o. option_flatten o) ((roots flat.whole b.root).1 b.rooted);
         begun = (refl, below, refl);
       })
 

@@ -6,7 +6,7 @@ use Rattle.std.proofs.Common.{append_assoc, length-append}
 use borrow.Rule.Slice.PartMut.{put_mid}
 use Rattle.std.proofs.lemmas.List.{length-map, map-set, take-append-drop}
 use Rattle.std.proofs.Math.Seq.{map-set_same}
-use Rattle.flatgrammar.proofs.CallOfLemmas.{get_map, get_unmap, get_below, some_same}
+use Rattle.flatgrammar.proofs.CallOfLemmas.{get_map, get_unmap, get_below}
 use Rattle.earley.specs.declared.sets.Part.{Part}
 use Rattle.earley.specs.declared.sets.Record.{Record}
 use Rattle.earley.specs.declared.sets.Bounds.{Bounds}

@@ -85,7 +85,7 @@ few_none : (b : Option ℕ) → Few b 0 []
 few_none None = omega arith
 few_none (Some b) = tt
 
-none_within : (b : Option ℕ) → der.Within 0 b
+none_within : (b : Option ℕ) → der.AtMost 0 b
 none_within None = tt
 none_within (Some b) = omega arith
 
@@ -95,12 +95,12 @@ few_counted (Some b) j k w lt = tt
 
 -- a further turn is within the bounds of the element
 pub next_within : (limit a j k : ℕ) (b d : Option ℕ) → d ≡ capped_most limit b → j ≤ limit → k < top a d
-    → Turned a d j k → der.Within (suc j) b
+    → Turned a d j k → der.AtMost (suc j) b
 next_within limit a j k b None is under lt turned = free_within limit j b is under
 next_within limit a j k b (Some n) is under lt turned = counted_within limit j k n b is lt turned
 
 pub next_counted : (limit j k : ℕ) (b d : Option ℕ) → d ≡ capped_most limit b → k < top 0 d → Turned 0 d j k
-    → der.Within (suc j) b
+    → der.AtMost (suc j) b
 next_counted limit j k b None is lt turned = absurd (omega (arith, lt))
 next_counted limit j k b (Some n) is lt turned = counted_within limit j k n b is lt turned
 
@@ -112,7 +112,7 @@ pub turned_more : (a j k : ℕ) (b : Option ℕ) → k < top a b → Turned a b 
 turned_more a j k None lt is = omega arith
 turned_more a j k (Some b) lt is = omega arith
 
-pub turned_enough : (a j k : ℕ) (b : Option ℕ) → a ≤ k → k ≤ top a b → Turned a b j k → (a ≤ j) × der.Within j b
+pub turned_enough : (a j k : ℕ) (b : Option ℕ) → a ≤ k → k ≤ top a b → Turned a b j k → (a ≤ j) × der.AtMost j b
 turned_enough a j k None low high is = (omega arith, tt)
 turned_enough a j k (Some b) low high is = (omega arith, omega arith)
 
@@ -159,10 +159,10 @@ module _ (has : ℕ → Bool) (rules : List Rule) where
         → nth es m ≡ Some el → Derives has rules el w →
         Before (Alt ms) (e.Alt es) k w
     in_turns : {m j k : ℕ} {c : ℕ} {b d : Option ℕ} {el : Element} {w : List ℕ} → DerivesTimes has rules el j w
-        → Turned 0 b j k → Few b j w → der.Within j d →
+        → Turned 0 b j k → Few b j w → der.AtMost j d →
         Before (Turns b m) (e.Rep c d el) k w
     in_rep : {a c m j k : ℕ} {b d : Option ℕ} {el : Element} {w : List ℕ} → DerivesTimes has rules el j w
-        → Turned a b j k → der.Within j d →
+        → Turned a b j k → der.AtMost j d →
         Before (Rep a b m) (e.Rep c d el) k w
     opt_begun : {m : ℕ} {el : Element} → Before (Opt m) (e.Opt el) 0 []
     opt_done : {m : ℕ} {el : Element} {w : List ℕ} → Derives has rules el w → Before (Opt m) (e.Opt el) 2 w

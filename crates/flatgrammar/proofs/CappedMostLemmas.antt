@@ -3,7 +3,7 @@
 use Rattle.std.proofs.Common.{◌≡◌, ℕ, suc, ◌<◌, ◌≤◌, Bool, true, false, leb, Option, Some, None, if◌then◌else◌, sym}
 use Rattle.std.proofs.Common.{refl, arith, ◌⊎◌, inl, inr, le-leb}
 use Rattle.std.proofs.lemmas.Bool.{cases_lt}
-use Rattle.abnfcheck.specs.Derivable.{Within}
+use Rattle.abnfcheck.specs.Derivable.{AtMost}
 use Rattle.flatgrammar.specs.Lowered.{capped_most}
 
 above_limit : (limit m : ℕ) → leb m limit ≡ false → limit < m
@@ -23,7 +23,7 @@ module _ (limit : ℕ) where
       by false is = absurd (cc is)
 
   -- one more turn than the limit is within a bound that is above it
-  pub free_within : (j : ℕ) (b : Option ℕ) → None ≡ capped_most limit b → j ≤ limit → Within (suc j) b
+  pub free_within : (j : ℕ) (b : Option ℕ) → None ≡ capped_most limit b → j ≤ limit → AtMost (suc j) b
   free_within j None is le = tt
   free_within j (Some m) is le = by (leb m limit) refl is
     where
@@ -31,7 +31,7 @@ module _ (limit : ℕ) where
       by true met is = absurd (cc is)
       by false unmet is = let lt = above_limit limit m unmet in omega (arith, lt, le)
 
-  pub counted_within : (j k n : ℕ) (b : Option ℕ) → Some n ≡ capped_most limit b → k < n → k ≡ j → Within (suc j) b
+  pub counted_within : (j k n : ℕ) (b : Option ℕ) → Some n ≡ capped_most limit b → k < n → k ≡ j → AtMost (suc j) b
   counted_within j k n None is lt same = tt
   counted_within j k n (Some m) is lt same = let one : Some m ≡ Some n = most_is (Some m) n is in let there : m ≡ n =
       cc one in omega (arith, there, lt, same)

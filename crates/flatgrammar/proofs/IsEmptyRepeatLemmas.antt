@@ -3,7 +3,7 @@
 use Rattle.std.proofs.Common.{◌≡◌, ◌↔◌, ℕ, ◌<◌, Bool, true, List, Option, Some, [], ◌∷◌, length, refl, ap, arith}
 use Rattle.abnfread.specs.Element as e
 use Rattle.abnfread.specs.Element.{Element, Rule}
-use Rattle.abnfcheck.specs.Derivable.{Within}
+use Rattle.abnfcheck.specs.Derivable.{AtMost}
 use Rattle.flatgrammar.specs.NullElements.{Tells}
 use Rattle.flatgrammar.specs.Flat.{Node, Nothing}
 use Rattle.flatgrammar.specs.Lowered.{Shows, shows_reversed}
@@ -13,14 +13,14 @@ empty_of_length : (xs : List ℕ) → length xs ≡ 0 → xs ≡ []
 empty_of_length [] is = refl
 empty_of_length (x ∷ xs) is = absurd (omega (arith, is))
 
-pub rep_zero : (rules : List Rule) (a : ℕ) (b : Option ℕ) (el : Element) (z : Bool) → z ≡ true → a ≡ 0 → Within a b
+pub rep_zero : (rules : List Rule) (a : ℕ) (b : Option ℕ) (el : Element) (z : Bool) → z ≡ true → a ≡ 0 → AtMost a b
     → Tells rules z (e.Rep a b el)
 rep_zero rules a b el z is zero_is within = record {
   yes = λ m. rep_empty rules a b el within (λ lt. absurd (omega (arith, lt, zero_is)));
   no = λ m. absurd (cc (m, is));
 }
 
-pub rep_operand : (rules : List Rule) (a : ℕ) (b : Option ℕ) (el : Element) (c : Bool) → 0 < a → Within a b
+pub rep_operand : (rules : List Rule) (a : ℕ) (b : Option ℕ) (el : Element) (c : Bool) → 0 < a → AtMost a b
     → Tells rules c el → Tells rules c (e.Rep a b el)
 rep_operand rules a b el c lt within t = record {
   yes = λ m. rep_empty rules a b el within (λ more. t.yes m);

@@ -53,7 +53,7 @@ pub record Turn (a : ℕ) (b : Option ℕ) (m t f : ℕ) : Type 0 where
   pub calling : Calling (Rep a b m) f m to
   pub turned : Turned a b (suc t) to
 
-pub turn_on : (a : ℕ) (b : Option ℕ) (m t f : ℕ) → Turned a b t f → der.Within (suc t) b → Turn a b m t f
+pub turn_on : (a : ℕ) (b : Option ℕ) (m t f : ℕ) → Turned a b t f → der.AtMost (suc t) b → Turn a b m t f
 turn_on a (Some most) m t f is within = record {
   to = f + 1;
   calling = Calling.turn (omega arith);
@@ -74,15 +74,15 @@ turn_on a None m t f is within = by (cases_lt t a)
           turned = turned;
         }
 
-pub within_less : (t k : ℕ) (b : Option ℕ) → der.Within (t + suc k) b → der.Within (suc t) b
+pub within_less : (t k : ℕ) (b : Option ℕ) → der.AtMost (t + suc k) b → der.AtMost (suc t) b
 within_less t k None h = tt
 within_less t k (Some b) h = omega arith
 
-pub within_same : (t k : ℕ) (b : Option ℕ) → der.Within (t + suc k) b → der.Within (suc t + k) b
+pub within_same : (t k : ℕ) (b : Option ℕ) → der.AtMost (t + suc k) b → der.AtMost (suc t + k) b
 within_same t k None h = tt
 within_same t k (Some b) h = omega arith
 
-rep_done : (a k f m : ℕ) (b : Option ℕ) → a ≤ k → der.Within k b → Turned a b (0 + k) f → IsDone (Rep a b m) f
+rep_done : (a k f m : ℕ) (b : Option ℕ) → a ≤ k → der.AtMost k b → Turned a b (0 + k) f → IsDone (Rep a b m) f
 rep_done a k f m None low within is = IsDone.rep (omega arith) (omega arith)
 rep_done a k f m (Some b) low within is = IsDone.rep (omega arith) (omega arith)
 
@@ -91,18 +91,18 @@ pub record TurnOn (d : Option ℕ) (m t f : ℕ) : Type 0 where
   pub to : ℕ
   pub calling : Calling (Node.Turns d m) f m to
   pub turned : Turned 0 d (suc t) to
-  pub within : der.Within (suc t) d
+  pub within : der.AtMost (suc t) d
 
-pub fewer_within : (t k : ℕ) (b : Option ℕ) → der.Within (t + suc k) b → der.Within (t + k) b
+pub fewer_within : (t k : ℕ) (b : Option ℕ) → der.AtMost (t + suc k) b → der.AtMost (t + k) b
 fewer_within t k None h = tt
 fewer_within t k (Some b) h = omega (arith, h)
 
-turns_done : (count f m : ℕ) (d : Option ℕ) → der.Within count d → Turned 0 d count f → IsDone (Node.Turns d m) f
+turns_done : (count f m : ℕ) (d : Option ℕ) → der.AtMost count d → Turned 0 d count f → IsDone (Node.Turns d m) f
 turns_done count f m None within is = IsDone.turns (omega (arith, is))
 turns_done count f m (Some d) within is = IsDone.turns (omega (arith, within, is))
 
 module _ (limit : ℕ) where
-  cap_within : (b d : Option ℕ) (k : ℕ) → d ≡ capped_most limit b → k ≤ limit → der.Within k b → der.Within k d
+  cap_within : (b d : Option ℕ) (k : ℕ) → d ≡ capped_most limit b → k ≤ limit → der.AtMost k b → der.AtMost k d
   cap_within None None k is under within = tt
   cap_within None (Some d) k is under within = absurd (cc is)
   cap_within (Some b) None k is under within = tt
@@ -110,7 +110,7 @@ module _ (limit : ℕ) where
       let same : b ≡ d = cc one in omega (arith, same, within)
 
   pub take_on : (t k : ℕ) (b d : Option ℕ) (m f : ℕ) → d ≡ capped_most limit b → t + 1 ≤ limit
-      → der.Within (t + suc k) b → Turned 0 d t f → TurnOn d m t f
+      → der.AtMost (t + suc k) b → Turned 0 d t f → TurnOn d m t f
   take_on t k b None m f is under within turned =
       let zero_is : 0 ≡ f = omega (arith, turned) in
       let after : 0 ≡ min (suc t) 0 = omega arith in
@@ -194,7 +194,7 @@ module _ (has : ℕ → Bool) (rules : List Rule) (limit : ℕ) (flat : Flat)
     count : ℕ
     to : ℕ
     turned : Turned 0 b count to
-    within : der.Within count b
+    within : der.AtMost count b
     steps : Steps (at s f) i (at s to) j
 
   mutual
@@ -222,7 +222,7 @@ module _ (has : ℕ → Bool) (rules : List Rule) (limit : ℕ) (flat : Flat)
         let h = run_times d s c m d' is sp 0 0 i j (turned_none c d') (within_start k d' within') l in
         runs_through is Begins.rep (rep_done c k h.to m d' low' within' h.turned) h.steps
       where
-        within_start : (k : ℕ) (b : Option ℕ) → der.Within k b → der.Within (0 + k) b
+        within_start : (k : ℕ) (b : Option ℕ) → der.AtMost k b → der.AtMost (0 + k) b
         within_start k None h = tt
         within_start k (Some b) h = omega arith
     node_runs (der.rep low within d) s i j (spells is (shows_reversed lt)) l = absurd (omega (arith, low, within, lt))
@@ -233,11 +233,11 @@ module _ (has : ℕ → Bool) (rules : List Rule) (limit : ℕ) (flat : Flat)
         (omega (arith, all, line)) l in
         runs_through is Begins.turns (turns_done h.count h.to m d' h.within h.turned) h.steps
       where
-        start_cap : (d : Option ℕ) → der.Within 0 d
+        start_cap : (d : Option ℕ) → der.AtMost 0 d
         start_cap None = tt
         start_cap (Some d) = omega arith
 
-        start_most : (k : ℕ) (b : Option ℕ) → der.Within k b → der.Within (0 + k) b
+        start_most : (k : ℕ) (b : Option ℕ) → der.AtMost k b → der.AtMost (0 + k) b
         start_most k None h = tt
         start_most k (Some b) h = omega (arith, h)
     node_runs der.opt_empty s i j (spells is (shows_opt sp)) here =
@@ -289,7 +289,7 @@ module _ (has : ℕ → Bool) (rules : List Rule) (limit : ℕ) (flat : Flat)
 
     run_times : {el : Element} {k : ℕ} {w : List ℕ} → DerivesTimes has rules el k w → (s a m : ℕ) (b : Option ℕ)
         → slice_get flat.nodes s ≡ Some (Rep a b m) →
-        Spells rules limit flat.nodes m el → (t f i j : ℕ) → Turned a b t f → der.Within (t + k) b → Lies x i w j
+        Spells rules limit flat.nodes m el → (t f i j : ℕ) → Turned a b t f → der.AtMost (t + k) b → Lies x i w j
         → Turns s a b (t + k) f i j
     run_times no_more s a m b is sp t f i j turned within here =
         let same : t ≡ t + 0 = omega arith in
@@ -309,7 +309,7 @@ module _ (has : ℕ → Bool) (rules : List Rule) (limit : ℕ) (flat : Flat)
 
     run_turns : {el : Element} {k : ℕ} {w : List ℕ} → DerivesTimes has rules el k w → (s m : ℕ) (b d : Option ℕ)
         → slice_get flat.nodes s ≡ Some (Node.Turns d m) → d ≡ capped_most limit b →
-        Spells rules limit flat.nodes m el → (t f i j : ℕ) → Turned 0 d t f → der.Within t d → der.Within (t + k) b
+        Spells rules limit flat.nodes m el → (t f i j : ℕ) → Turned 0 d t f → der.AtMost t d → der.AtMost (t + k) b
         → t + length w ≤ limit → Lies x i w j → Counted s d f i j
     run_turns no_more s m b d is most sp t f i j turned counted within under here =
         record { count = t; to = f; turned = turned; within = counted; steps = λ o h. h }

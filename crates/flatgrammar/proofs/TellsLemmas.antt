@@ -151,7 +151,7 @@ module _ (rules : List Rule) where
   times_empty zero d = no_more
   times_empty (suc k) d = one_more d (times_empty k d)
 
-  pub rep_empty : (a : ℕ) (b : Option ℕ) (el : Element) → der.Within a b → (0 < a → IsEmpty rules el)
+  pub rep_empty : (a : ℕ) (b : Option ℕ) (el : Element) → der.AtMost a b → (0 < a → IsEmpty rules el)
       → IsEmpty rules (e.Rep a b el)
   rep_empty zero b el within empty has = der.rep {k = zero} (omega arith) within no_more
   rep_empty (suc a) b el within empty has = der.rep {k = suc a} (omega arith) within

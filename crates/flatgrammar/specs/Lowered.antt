@@ -1,7 +1,7 @@
 -- The nodes of a lowered grammar spell its rules.
 use Rattle.std.specs.Prelude.{◌≡◌, ℕ, ◌<◌, Bool, true, false, List, [], ◌∷◌, length, map, slice_get, Option, Some, None}
 use Rattle.std.specs.Prelude.{leb, if◌then◌else◌}
-use Rattle.abnfcheck.specs.Derivable.{Within}
+use Rattle.abnfcheck.specs.Derivable.{AtMost}
 use Rattle.abnfread.specs.Element as e
 use Rattle.abnfread.specs.Element.{Element, Elements, Rule, id_of}
 use Rattle.flatgrammar.specs.Flat.{Node, Flat, Set, Exactly, EitherCase, Between, Letters, Concat, Alt, Rep, Turns, Opt}
@@ -37,7 +37,7 @@ module _ (rules : List Rule) (limit : ℕ) (nodes : List Node) where
       shows_rep : {a c m : ℕ} {b d : Option ℕ} {el : Element} → c ≡ capped limit a → d ≡ capped_most limit b
           → IsNeverEmpty rules el → Spells m el →
           Shows (Rep c d m) (e.Rep a b el)
-      shows_turns : {a m : ℕ} {b d : Option ℕ} {el : Element} → d ≡ capped_most limit b → Within a b → IsEmpty rules el
+      shows_turns : {a m : ℕ} {b d : Option ℕ} {el : Element} → d ≡ capped_most limit b → AtMost a b → IsEmpty rules el
           → Spells m el →
           Shows (Turns d m) (e.Rep a b el)
       shows_reversed : {a b : ℕ} {el : Element} → b < a → Shows Nothing (e.Rep a (Some b) el)

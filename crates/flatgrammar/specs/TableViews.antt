@@ -1,5 +1,6 @@
 -- What the tables of a flat grammar tell, node by node.
 use Rattle.std.specs.Prelude.{◌≡◌, ℕ, ◌↔◌, Bool, true, false, List, slice_get, Option, Some, None}
+use Rattle.std.specs.Option.{option_flatten}
 use Rattle.flatgrammar.specs.declared.flat_item.Item.{Item}
 use Rattle.flatgrammar.specs.declared.flat_node.Node as code_node
 use Rattle.flatgrammar.specs.declared.tables.Tables as code_flat
@@ -61,13 +62,9 @@ null_in (Some marked) = marked
 abbrev pub null_of : code_flat.Tables → ℕ → Bool
 null_of flat t = null_in (slice_get flat.nulls.items t)
 
-abbrev pub joined : Option (Option ℕ) → Option ℕ
-joined None = None
-joined (Some root) = root
-
 -- the root of the whole
 abbrev pub whole_root : code_flat.Tables → Option ℕ
-whole_root flat = joined (slice_get flat.roots.items flat.whole)
+whole_root flat = option_flatten (slice_get flat.roots.items flat.whole)
 
 abbrev pub read_in : Option code_node.Node → ℕ → Option Set
 read_in None k = None

@@ -23,7 +23,7 @@ pub(crate) enum Caller {
 }
 
 // Returns what calls a node that one more place calls.
-fn joined(caller: Caller, spot: Spot) -> Caller
+fn with_spot(caller: Caller, spot: Spot) -> Caller
     ensures old { (n k : ℕ) → allows caller n k → allows result n k }
     ensures new { allows result spot.node spot.step }
 {
@@ -40,7 +40,7 @@ fn mark(callers: &mut [Caller], root: usize, spot: Spot)
     ensures here { allows_in (slice_get callers.new root) spot.node spot.step }
 {
     if root < callers.len() {
-        let caller = joined(callers[root], spot);
+        let caller = with_spot(callers[root], spot);
         callers[root] = caller;
     }
 }

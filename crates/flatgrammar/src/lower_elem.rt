@@ -1,7 +1,7 @@
 //! Cuts the bodies of a grammar's rules into numbered nodes.
 ghost use Rattle.std.specs.Prelude.{◌≡◌, ◌<◌, ◌≤◌, ◌+◌, ◌↔◌, ℕ, List, ◌++◌, ◌∷◌, [], length, map, get_or, Bool, Some};
 ghost use Rattle.std.specs.Prelude.{IfOk, IsTrue};
-ghost use Rattle.abnfcheck.specs.Derivable.{Within};
+ghost use Rattle.abnfcheck.specs.Derivable.{AtMost};
 ghost use Rattle.abnfread.specs.Element as e;
 ghost use Rattle.abnfread.specs.Element.{Element, Rule, id_of};
 ghost use Rattle.abnfread.specs.AbnfViews.{element_of, elements_of, rules_of};
@@ -117,7 +117,7 @@ fn capped_most(limit: usize, most: Option<u32>) -> Option<u32>
 // Whether a repetition is to be at least more often than at most.
 fn is_reversed(least: u32, most: Option<u32>) -> bool
     ensures yes { result ≡ Bool.true → (b : ℕ) × (most ≡ Some b) × b < least }
-    ensures no { result ≡ Bool.false → Within least most }
+    ensures no { result ≡ Bool.false → AtMost least most }
 {
     match most {
         Some(most) => most < least,

@@ -7,7 +7,7 @@ use Rattle.std.specs.List.{flat_map}
 use Rattle.std.proofs.lemmas.Grind.{flat_map-append}
 use Rattle.std.proofs.lemmas.Bool.Decides.{nat_tests}
 use Rattle.std.proofs.lemmas.List.{reverse-append, reverse-reverse, take-append-drop}
-use Rattle.gramcheck.specs.Templates.{is_word, is_blank, Piece, Word, Other, joined, pieces_of, filled_piece, filled}
+use Rattle.gramcheck.specs.Templates.{is_word, is_blank, Piece, Word, Other, onto_run, pieces_of, filled_piece, filled}
 use Rattle.gramcheck.specs.Templates.{cut_front, trimmed}
 use Rattle.gramcheck.proofs.FilledRunLemmas.{Apart, pieces_of_other}
 
@@ -50,10 +50,10 @@ apart_others : (g : List ℕ) → AreOther g → Apart (pieces_of g)
 apart_others [] f = λ r. refl
 apart_others (b ∷ g) f = rw (pieces_of_other b g f.0) (λ r. refl)
 
-joined_apart : (b : ℕ) (ps qs : List Piece) → Apart qs → joined b (ps ++ qs) ≡ joined b ps ++ qs
-joined_apart b [] qs apart = apart b
-joined_apart b (Word run ∷ ps) qs apart = refl
-joined_apart b (Other d ∷ ps) qs apart = refl
+onto_run_apart : (b : ℕ) (ps qs : List Piece) → Apart qs → onto_run b (ps ++ qs) ≡ onto_run b ps ++ qs
+onto_run_apart b [] qs apart = apart b
+onto_run_apart b (Word run ∷ ps) qs apart = refl
+onto_run_apart b (Other d ∷ ps) qs apart = refl
 
 pieces_before : (s g : List ℕ) → AreOther g → pieces_of (s ++ g) ≡ pieces_of s ++ pieces_of g
 pieces_before [] g f = refl
@@ -61,7 +61,7 @@ pieces_before (b ∷ s) g f = both (pieces_before s g f) (is_word b) refl
   where
     both : pieces_of (s ++ g) ≡ pieces_of s ++ pieces_of g → (v : Bool) → is_word b ≡ v →
         pieces_of ((b ∷ s) ++ g) ≡ pieces_of (b ∷ s) ++ pieces_of g
-    both less true h = rw (h, less) (joined_apart b (pieces_of s) (pieces_of g) (apart_others g f))
+    both less true h = rw (h, less) (onto_run_apart b (pieces_of s) (pieces_of g) (apart_others g f))
     both less false h = rw (h, less) refl
 
 -- put behind a template, they stand

@@ -6,7 +6,7 @@ use Rattle.std.specs.Prelude.{slice_range}
 use Rattle.std.specs.List.{flat_map}
 use Rattle.std.proofs.lemmas.Grind.{common_steps}
 use Rattle.std.proofs.Math.Seq.{take-suc}
-use Rattle.gramcheck.specs.Templates.{is_word, Piece, Word, Other, joined, pieces_of, filled_piece, filled}
+use Rattle.gramcheck.specs.Templates.{is_word, Piece, Word, Other, onto_run, pieces_of, filled_piece, filled}
 
 -- only word bytes
 abbrev pub AreWord : List ℕ → Type 0
@@ -24,17 +24,17 @@ lead (r ∷ run) pieces = Word (r ∷ run) ∷ pieces
 
 -- pieces that a word byte in front does not join
 abbrev pub Apart : List Piece → Type 0
-Apart pieces = (r : ℕ) → joined r pieces ≡ Word (r ∷ []) ∷ pieces
+Apart pieces = (r : ℕ) → onto_run r pieces ≡ Word (r ∷ []) ∷ pieces
 
-joined-lead : (r : ℕ) (run : List ℕ) (pieces : List Piece) → Apart pieces → joined r (lead run pieces)
+onto_run-lead : (r : ℕ) (run : List ℕ) (pieces : List Piece) → Apart pieces → onto_run r (lead run pieces)
     ≡ lead (r ∷ run) pieces
-joined-lead r [] pieces h = h r
-joined-lead r (s ∷ run) pieces h = refl
+onto_run-lead r [] pieces h = h r
+onto_run-lead r (s ∷ run) pieces h = refl
 
 pieces_of_run : (run rest : List ℕ) → AreWord run → Apart (pieces_of rest) → pieces_of (run ++ rest)
     ≡ lead run (pieces_of rest)
 pieces_of_run [] rest w h = refl
-pieces_of_run (r ∷ run) rest w h = rw (w.0, pieces_of_run run rest w.1 h) (joined-lead r run (pieces_of rest) h)
+pieces_of_run (r ∷ run) rest w h = rw (w.0, pieces_of_run run rest w.1 h) (onto_run-lead r run (pieces_of rest) h)
 
 -- the pieces of a template, filled
 abbrev put : List ℕ → List Piece → List ℕ

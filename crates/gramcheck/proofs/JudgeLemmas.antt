@@ -28,6 +28,7 @@ use Rattle.gramcheck.specs.Left.{SomeNullable, some_first, some_later, RepeatsNu
 use Rattle.gramcheck.specs.Left.{in_plus, in_opt, in_and, in_not, in_seq, in_choice, SomeRepeats, repeats_first}
 use Rattle.gramcheck.specs.Left.{repeats_later}
 use Rattle.leastset.specs.NumberMarks.{IsMarked}
+use Rattle.gramcheck.specs.NodeCounts.{node_counts}
 use Rattle.gramcheck.specs.Nodes.{Shape, id_of, Spells, spells_any, spells_bytes, spells_set, spells_name, spells_seq}
 use Rattle.gramcheck.specs.Nodes.{spells_choice, spells_star, spells_plus, spells_opt, spells_and, spells_not}
 use Rattle.gramcheck.specs.Nodes.{spells_act, spells_open, spells_close, SpellAll, spell_none, spell_more}
@@ -153,15 +154,16 @@ module _ (rules : List Rule) (nodes : List Shape) (standing : AreStanding rules 
       omega (arith, lt, like.2)
 
 pub is_ranked : (rules : List Rule) (start : ℕ) (nodes : List Shape) (bodies ranks : List ℕ) → start < length rules
-    → AreBodies rules nodes bodies → IsBuilt nodes →
+    → AreBodies rules nodes bodies → IsBuilt nodes → length nodes ≡ node_counts rules →
     AreStanding rules nodes → AreRanks rules nodes bodies ranks
     → ((word : List ℕ) → StandsIn rules (expr.Name word) → id_of rules word < length rules) →
     ((id : ℕ) (rule : Rule) → slice_get rules id ≡ Some rule → Loops rules rule → ⊥)
     → IsRanked rules start nodes bodies ranks
-is_ranked rules start nodes bodies ranks first are built standing falling used loops = record {
+is_ranked rules start nodes bodies ranks first are built counted standing falling used loops = record {
   start_is_rule = first;
   spelled = are;
   built = built;
+  counted = counted;
   defined = all_defined rules nodes standing used;
   falling = falling;
   moving = repeats_no_null rules nodes bodies standing loops;
@@ -310,7 +312,8 @@ module _ (rules : List Rule) (again : List (List ℕ)) (start : Option (List ℕ
 
   module _ (nodes : List Shape) (bodies : List ℕ) (nulls recursive looping : List Bool) (ranks : List ℕ)
       (a : IsAnalysed rules nodes bodies nulls recursive looping ranks)
-      (spelled : AreBodies rules nodes bodies) (built : IsBuilt nodes) (standing : AreStanding rules nodes) where
+      (spelled : AreBodies rules nodes bodies) (built : IsBuilt nodes) (counted : length nodes ≡ node_counts rules)
+      (standing : AreStanding rules nodes) where
     not-marked : (id : ℕ) → IsMarked recursive id → ⊥
     not-marked id m =
         let lt : id < length rules = (let l = marked_lt recursive id m in let c = a.recursive_count in omega arith) in
@@ -323,7 +326,7 @@ module _ (rules : List Rule) (again : List (List ℕ)) (start : Option (List ℕ
 
     pub ranked_first : (first : ℕ) → first < length rules → IsRanked rules first nodes bodies ranks
     ranked_first first lt =
-        is_ranked rules first nodes bodies ranks lt spelled built standing (a.ranked not-marked) all-used
+        is_ranked rules first nodes bodies ranks lt spelled built counted standing (a.ranked not-marked) all-used
         none-looping
 
 -- the rules of a table

@@ -1,7 +1,7 @@
 -- Nodes that are added one by one, and what they spell.
 -- Serves: check_peg
 use Rattle.std.proofs.Common.{◌≡◌, ℕ, ◌+◌, ◌<◌, ◌≤◌, List, [], ◌∷◌, ◌++◌, length, take, map, get_or, sym, ap, subst}
-use Rattle.std.proofs.Common.{arith, ⊎_elim, ◌∙◌, Some, add-one, append_assoc, append-nil, length-append}
+use Rattle.std.proofs.Common.{arith, refl, ⊎_elim, ◌∙◌, Some, add-one, append_assoc, append-nil, length-append}
 use Rattle.std.specs.Prelude.{slice_get, Contains}
 use Rattle.std.proofs.lemmas.Bool.{cases_lt}
 use Rattle.std.proofs.lemmas.List.{map-append, length-map}
@@ -13,6 +13,7 @@ use Rattle.pegread.specs.declared.expr.Expr.{Expr}
 use Rattle.gramcheck.specs.declared.node.Node.{Node}
 use Rattle.gramcheck.specs.declared.node.Node.TheVariants as code
 use Rattle.gramcheck.specs.Bodies.{IsBuilt, IsOperand}
+use Rattle.gramcheck.specs.NodeCounts.{node_count, node_count_all}
 use Rattle.gramcheck.specs.Nodes.{Shape, Star, Plus, shape_of, shapes_of, Spells, spells_star, spells_plus, SpellAll}
 use Rattle.gramcheck.specs.Nodes.{spell_none, spell_more}
 use Rattle.gramcheck.specs.Numbering.{Numbers, NumbersAll, SpellsPart}
@@ -32,16 +33,18 @@ built_push xs a b low = record {
 -- one more node
 module _ (rules : List Rule) (first mid : List Shape) (a : Shape) (n : ℕ) (p : Pattern) where
   one_more : (added : List Shape) → mid ≡ first ++ added → (IsBuilt first → IsBuilt mid)
+      → length mid + 1 ≡ length first + node_count p
       → ((m : ℕ) → length first ≤ m → m < length mid → SpellsPart rules mid p m) →
       n ≡ length mid → ((m : ℕ) → IsOperand a m → m < length mid)
       → (slice_get (mid ++ a ∷ []) n ≡ Some a → Spells rules (mid ++ a ∷ []) n p) →
       Numbers rules first (mid ++ a ∷ []) n p
-  one_more added grown built parts is low spells =
+  one_more added grown built count parts is low spells =
       let at : slice_get (mid ++ a ∷ []) n ≡ Some a = subst (λ v. slice_get (mid ++ a ∷ []) v ≡ Some a) (sym is)
       (at_push mid a) in
       record {
         added = added ++ a ∷ [];
         grown = ap (λ v. v ++ a ∷ []) grown ∙ append_assoc first added (a ∷ []);
+        counted = let l = length-append mid (a ∷ []) in omega (arith, l, count);
         spelled = spells at;
         parts = λ m above below. ⊎_elim
             (λ old.
@@ -69,26 +72,27 @@ shapes_pushed nodes more v e = ap shapes_of e ∙ map-append shape_of nodes (v �
 module _ (rules : List Rule) (nodes more : List Node) (v : Node) (n : ℕ) (p : Pattern)
     (is_more : more ≡ nodes ++ v ∷ []) (is : n ≡ length nodes) where
   -- a node without operands
-  pub leaf_numbers : ((m : ℕ) → IsOperand (shape_of v) m → ⊥)
+  pub leaf_numbers : node_count p ≡ 1 → ((m : ℕ) → IsOperand (shape_of v) m → ⊥)
       → ((xs : List Shape) → slice_get xs n ≡ Some (shape_of v) → Spells rules xs n p) →
       Numbers rules (shapes_of nodes) (shapes_of more) n p
-  leaf_numbers none spells =
+  leaf_numbers one none spells =
       rw (shapes_pushed nodes more v is_more)
       (one_more rules (shapes_of nodes) (shapes_of nodes) (shape_of v) n p [] (sym (append-nil (shapes_of nodes)))
-      (λ b. b) (λ m low high. absurd (omega arith))
+      (λ b. b) (omega (arith, one)) (λ m low high. absurd (omega arith))
       (is ∙ sym (length-map nodes shape_of)) (λ m o. absurd (none m o))
       (λ at. spells (shapes_of nodes ++ shape_of v ∷ []) at))
 
   -- a node over one operand, which stands before it
-  pub numbers_over : (first : List Shape) (k : ℕ) (e : Pattern) → Numbers rules first (shapes_of nodes) k e
+  pub numbers_over : (first : List Shape) (k : ℕ) (e : Pattern) → node_count p ≡ node_count e + 1
+      → Numbers rules first (shapes_of nodes) k e
       → ((m : ℕ) → IsOperand (shape_of v) m → m ≡ k) →
       ((d : Pattern) → Within e d → Within p d) → ((xs : List Shape) → slice_get xs n ≡ Some (shape_of v)
       → Spells rules xs k e → Spells rules xs n p) →
       Numbers rules first (shapes_of more) n p
-  numbers_over first k e g alone within spells =
+  numbers_over first k e one g alone within spells =
       let there = is_there rules (shapes_of nodes) g.spelled in
       rw (shapes_pushed nodes more v is_more)
-      (one_more rules first (shapes_of nodes) (shape_of v) n p g.added g.grown g.built
+      (one_more rules first (shapes_of nodes) (shape_of v) n p g.added g.grown g.built (omega (arith, one, g.counted))
       (λ m low high. let part = g.parts m low high in
       record { part = part.part; within = within part.part part.within; spelled = part.spelled })
       (is ∙ sym (length-map nodes shape_of)) (λ m o. subst (λ i. i < length (shapes_of nodes)) (sym (alone m o)) there)
@@ -96,14 +100,15 @@ module _ (rules : List Rule) (nodes more : List Node) (v : Node) (n : ℕ) (p : 
       (still_spells rules (shapes_of nodes) (shape_of v ∷ []) g.spelled)))
 
   -- a node over members, which stand before it
-  pub over_all : (first : List Shape) (ks : List ℕ) (es : Patterns) → NumbersAll rules first (shapes_of nodes) ks es →
+  pub over_all : (first : List Shape) (ks : List ℕ) (es : Patterns) → node_count p ≡ node_count_all es + 1
+      → NumbersAll rules first (shapes_of nodes) ks es →
       ((m : ℕ) → IsOperand (shape_of v) m → Contains ks m) →
       ((d : Pattern) → WithinSome es d → Within p d)
       → ((xs : List Shape) → slice_get xs n ≡ Some (shape_of v) → SpellAll rules xs ks es → Spells rules xs n p) →
       Numbers rules first (shapes_of more) n p
-  over_all first ks es g among within spells =
+  over_all first ks es one g among within spells =
       rw (shapes_pushed nodes more v is_more)
-      (one_more rules first (shapes_of nodes) (shape_of v) n p g.added g.grown g.built
+      (one_more rules first (shapes_of nodes) (shape_of v) n p g.added g.grown g.built (omega (arith, one, g.counted))
       (λ m low high. let part = g.parts m low high in
       record { part = part.part; within = within part.part part.within; spelled = part.spelled })
       (is ∙ sym (length-map nodes shape_of)) (λ m o. are_there rules (shapes_of nodes) m g.spelled (among m o))
@@ -117,7 +122,8 @@ module _ {rules : List Rule} {first : List Shape} (nodes : List Node) {mid new :
     (n_is : n ≡ length mid) where
   star_numbers : Numbers rules first (shapes_of mid) k (expr.Star e)
   star_numbers =
-      numbers_over rules nodes mid (code.Star m) k (expr.Star e) star_is k_is first m e was (λ i h. h) (λ d. of_star)
+      numbers_over rules nodes mid (code.Star m) k (expr.Star e) star_is k_is first m e refl was (λ i h. h)
+      (λ d. of_star)
       (λ xs at s. spells_star at s)
 
   star_at : slice_get (shapes_of mid) k ≡ Some (Star m)
@@ -134,7 +140,7 @@ module _ {rules : List Rule} {first : List Shape} (nodes : List Node) {mid new :
       let there = is_there rules (shapes_of mid) operand_spelled in
       rw (shapes_pushed mid new (code.Plus m k) plus_is)
       (one_more rules first (shapes_of mid) (Plus m k) n (expr.Plus e) star_numbers.added star_numbers.grown
-      star_numbers.built
+      star_numbers.built (omega (arith, star_numbers.counted))
       (λ i low high. let part = star_numbers.parts i low high in
       record { part = part.part; within = of_plus part.within; spelled = part.spelled })
       (n_is ∙ sym (length-map mid shape_of)) (λ i o. subst (λ v. v < length (shapes_of mid)) (sym o) there)
@@ -162,6 +168,7 @@ pub no_members : (rules : List Rule) (xs : List Shape) (ns : List ℕ) → ns �
 no_members rules xs ns is = rw is (record {
   added = [];
   grown = sym (append-nil xs);
+  counted = omega arith;
   spelled = spell_none;
   parts = λ m low high. absurd (omega arith);
   built = λ b. b;
@@ -174,6 +181,11 @@ map_next es i v lt is =
     ∙ map-append pattern_of (take i es) (get_or es i v ∷ []) ∙
     ap (λ w. map pattern_of (take i es) ++ pattern_of w ∷ []) (sym is)
 
+count_push : (ps : List Pattern) (p : Pattern) → node_count_all (patterns (ps ++ p ∷ []))
+    ≡ node_count_all (patterns ps) + node_count p
+count_push [] p = omega arith
+count_push (q ∷ ps) p = let e = count_push ps p in omega (arith, e)
+
 -- nodes of members, and then those of one more
 module _ {rules : List Rule} {first mid new : List Shape} {ns : List ℕ} {n : ℕ} (ps : List Pattern) {p : Pattern} where
   append_member : NumbersAll rules first mid ns (patterns ps) → Numbers rules mid new n p
@@ -181,6 +193,7 @@ module _ {rules : List Rule} {first mid new : List Shape} {ns : List ℕ} {n : �
   append_member g h = record {
     added = g.added ++ h.added;
     grown = h.grown ∙ ap (λ w. w ++ h.added) g.grown ∙ append_assoc first g.added h.added;
+    counted = let e = count_push ps p in omega (arith, e, g.counted, h.counted);
     spelled = spell_push rules new ps p n (subst (λ w. SpellAll rules w ns (patterns ps)) (sym h.grown)
         (still_spell_all rules mid h.added g.spelled)) h.spelled;
     parts = λ m low high. ⊎_elim

@@ -6,6 +6,7 @@ pub mod Grammar
 pub mod GrammarNotes
 pub mod Left
 pub mod Loops
+pub mod NodeCounts
 pub mod NodeRows
 pub mod Nodes
 pub mod Nulls

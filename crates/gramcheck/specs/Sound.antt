@@ -2,16 +2,18 @@
 use Rattle.std.specs.Prelude.{◌≡◌, ℕ, ◌<◌, List, length, slice_get, Some}
 use Rattle.pegread.specs.Pattern.{Pattern, Rule}
 use Rattle.gramcheck.specs.Bodies.{AreBodies, IsBuilt}
+use Rattle.gramcheck.specs.NodeCounts.{node_counts}
 use Rattle.gramcheck.specs.Nodes.{Shape, Name}
 use Rattle.gramcheck.specs.Outcome.{Outcome, Gives, RuleGives}
 use Rattle.gramcheck.specs.Ranks.{AreRanks, RepeatsNoNull}
 
--- The nodes spell the rules' bodies, operands before the nodes that they stand in; every name is that of a rule;
--- each left step lowers the rank; and no node repeats a nullable one.
+-- The nodes spell the rules' bodies, operands before the nodes that they stand in, and there are as many as the bodies
+-- have; every name is that of a rule; each left step lowers the rank; and no node repeats a nullable one.
 pub record IsRanked (rules : List Rule) (start : ℕ) (nodes : List Shape) (bodies ranks : List ℕ) : Type 0 where
   pub start_is_rule : start < length rules
   pub spelled : AreBodies rules nodes bodies
   pub built : IsBuilt nodes
+  pub counted : length nodes ≡ node_counts rules
   pub defined : (n id : ℕ) → slice_get nodes n ≡ Some (Name id) → id < length rules
   pub falling : AreRanks rules nodes bodies ranks
   pub moving : RepeatsNoNull rules nodes bodies

@@ -21,15 +21,15 @@ pub data Piece : Type 0 where
   Other : ℕ → Piece
 
 -- a word byte joins the run right behind it, or begins one
-abbrev pub joined : ℕ → List Piece → List Piece
-joined b (Word run ∷ pieces) = Word (b ∷ run) ∷ pieces
-joined b (Other c ∷ pieces) = Word (b ∷ []) ∷ (Other c ∷ pieces)
-joined b [] = Word (b ∷ []) ∷ []
+abbrev pub onto_run : ℕ → List Piece → List Piece
+onto_run b (Word run ∷ pieces) = Word (b ∷ run) ∷ pieces
+onto_run b (Other c ∷ pieces) = Word (b ∷ []) ∷ (Other c ∷ pieces)
+onto_run b [] = Word (b ∷ []) ∷ []
 
 -- The pieces of a template. Word bytes that stand side by side are one run, so no two runs stand side by side.
 abbrev pub pieces_of : List ℕ → List Piece
 pieces_of [] = []
-pieces_of (b ∷ bytes) = if is_word b then joined b (pieces_of bytes) else (Other b ∷ pieces_of bytes)
+pieces_of (b ∷ bytes) = if is_word b then onto_run b (pieces_of bytes) else (Other b ∷ pieces_of bytes)
 
 -- a piece with the capture put in: `yytext` becomes the capture, `yyleng` its length in decimal, and all else stands
 abbrev pub filled_piece : List ℕ → Piece → List ℕ

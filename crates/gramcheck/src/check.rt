@@ -7,6 +7,7 @@ ghost use Rattle.pegread.specs.PegViews.{rules_of};
 ghost use Rattle.gramcheck.specs.Checked.{is_refused, IsStart};
 ghost use Rattle.gramcheck.specs.Defined.{IsGiven};
 ghost use Rattle.gramcheck.specs.Grammar.{IsSoundGrammar};
+ghost use Rattle.gramcheck.specs.NodeCounts.{node_counts};
 ghost use Rattle.gramcheck.specs.Nodes.{shapes_of};
 ghost use Rattle.gramcheck.specs.GrammarNotes.{AreNotes, names_at};
 ghost use Rattle.gramcheck.specs.Sound.{IsRanked};
@@ -38,6 +39,8 @@ pub struct Checked<S> {
 /// that may come back to themselves without taking a byte (Ford 2004, section 3.6); and rules that repeat what may take
 /// nothing.
 ///
+/// The grammar has one node for each occurrence of an expression in the rules' bodies, and one more for each `+`.
+///
 /// # Errors
 /// `Memory` where a growth was refused; the grammar is dropped then.
 pub fn check_peg(alloc: Global, peg: Peg, start: Option<&str>) -> Result<Checked<SoundPeg>, Memory>
@@ -47,6 +50,7 @@ pub fn check_peg(alloc: Global, peg: Peg, start: Option<&str>) -> Result<Checked
         (λ g. (is_refused (map said_of c.notes.items) ≡ false) × (g.rules ≡ peg.rules)
         × IsStart (option_copied start.entry) (rules_of peg.rules) g.start)) }
     ensures ranked { IfOk result (λ c. IfSome c.sound IsSoundGrammar) }
+    ensures nodes { IfOk result (λ c. IfSome c.sound (λ g. length g.nodes ≡ node_counts (rules_of peg.rules))) }
 {
     let rules = peg.rules;
     let judged = judge(alloc, &rules, &peg.redefined, start)?;

@@ -1,9 +1,10 @@
 //! Cuts the bodies of a grammar's rules into numbered nodes.
-ghost use Rattle.std.specs.Prelude.{◌≡◌, length, IfOk};
-ghost use Rattle.pegread.specs.PegViews.{rules_of};
+ghost use Rattle.std.specs.Prelude.{◌≡◌, ◌+◌, length, IfOk};
+ghost use Rattle.pegread.specs.PegViews.{pattern_of, rules_of};
 ghost use Rattle.gramcheck.specs.Bodies.{AreBodies, AreNamed, IsBuilt};
+ghost use Rattle.gramcheck.specs.NodeCounts.{node_count, node_counts};
 ghost use Rattle.gramcheck.specs.Nodes.{shapes_of};
-ghost use Rattle.gramcheck.specs.Numbering.{AreStanding};
+ghost use Rattle.gramcheck.specs.Numbering.{AreStanding, Grows};
 
 use crate::node::Node;
 use crate::number::number;
@@ -19,6 +20,24 @@ pub(crate) struct Cut {
     pub(crate) bodies: Vec<usize>,
 }
 
+// Adds the nodes of a body, and gives the number of its own.
+#[tactic(auto, using(crate::proofs::AreBodiesLemmas::numbered_once, crate::proofs::AreBodiesLemmas::numbered_again))]
+fn number_body(
+    alloc: Global,
+    rules: &RuleTable<Expr>,
+    body: &Expr,
+    nodes: &mut Vec<Node>,
+) -> Result<usize, Memory>
+    requires { rules.now.names ≡ NameCase.Exact }
+    ensures grows { IfOk result (λ n. Grows (rules_of rules.now) (shapes_of nodes.old.items) (shapes_of nodes.new.items)
+        n (pattern_of body.now)) }
+    ensures counted { IfOk result (λ _. length nodes.new.items
+        ≡ length nodes.old.items + node_count (pattern_of body.now)) }
+{
+    let n = number(alloc, rules, body, nodes)?;
+    Ok(n)
+}
+
 /// Cuts the bodies into nodes, rule by rule.
 ///
 /// `Memory` where a growth was refused.
@@ -26,13 +45,14 @@ pub(crate) fn cut_grammar(alloc: Global, rules: &RuleTable<Expr>) -> Result<Cut,
     requires { rules.now.names ≡ NameCase.Exact }
     ensures bodies { IfOk result (λ cut. AreBodies (rules_of rules.now) (shapes_of cut.nodes.items) cut.bodies.items) }
     ensures built { IfOk result (λ cut. IsBuilt (shapes_of cut.nodes.items)) }
+    ensures counted { IfOk result (λ cut. length cut.nodes.items ≡ node_counts (rules_of rules.now)) }
     ensures named { IfOk result (λ cut. AreNamed (length rules.now.rules) (shapes_of cut.nodes.items)) }
     ensures standing { IfOk result (λ cut. AreStanding (rules_of rules.now) (shapes_of cut.nodes.items)) }
 {
     let mut nodes = Vec::new(alloc);
     let mut bodies = Vec::new(alloc);
     for id in 0..rules.len() {
-        let n = number(alloc, rules, rules.body(id), &mut nodes)?;
+        let n = number_body(alloc, rules, rules.body(id), &mut nodes)?;
         bodies.push(n)?;
     }
     Ok(Cut { nodes, bodies })

@@ -3,6 +3,7 @@ ghost use Rattle.std.specs.Prelude.{◌≡◌, ◌↔◌, ◌<◌, ℕ, List, le
 ghost use Rattle.pegread.specs.Pattern.{Pattern};
 ghost use Rattle.pegread.specs.PegViews.{rules_of};
 ghost use Rattle.gramcheck.specs.Grammar.{IsSoundGrammar};
+ghost use Rattle.gramcheck.specs.NodeCounts.{node_counts};
 ghost use Rattle.gramcheck.specs.Nodes.{Act, shapes_of, Spells};
 ghost use Rattle.gramcheck.specs.Printing.{ArePrintMarks, Prints};
 ghost use Rattle.gramcheck.specs.Slots.{AreCuts, IsCut};
@@ -102,9 +103,11 @@ impl SoundPeg {
         self.start
     }
 
-    /// Returns the number of nodes.
+    /// Returns the number of nodes: one for each occurrence of an expression in the rules' bodies, and for each `+` one
+    /// more, the Star of its operand.
     pub fn nodes(&self) -> usize
-        ensures { result ≡ length self.now.nodes }
+        ensures count { result ≡ length self.now.nodes }
+        ensures occurrences { result ≡ node_counts (rules_of self.now.rules) }
     {
         self.nodes.len()
     }

@@ -1,6 +1,6 @@
 -- The answer to what is held is a step of the run.
 -- Serves: run_lines
-use Rattle.std.proofs.Common.{◌≡◌, ℕ, ◌+◌, ◌&&◌, Option, Some, None, List, [], length, take, drop, refl, ◌∙◌, ap, arith}
+use Rattle.std.proofs.Common.{◌≡◌, ℕ, ◌+◌, ◌&&◌, Option, Some, None, List, [], take, drop, refl, ◌∙◌, arith}
 use Rattle.std.proofs.Common.{inl, inr}
 use Rattle.std.specs.Prelude.{Result, Ok, Err}
 use Rattle.std.proofs.lemmas.List.{take_all}
@@ -33,9 +33,7 @@ module _ (Told : List ℕ → Answer → Type 0) (limit : ℕ) (input : Input) (
 
   last_ends : (n : ℕ) (said : Answer) → IsNext limit input at.place (line.Last n) → Told rest said →
       Ends Told limit input at (answer_text said) (Quiet (status_after (at.all && says_yes said)))
-  last_ends n said (free, len, some, short, fine) says =
-      last_line said fine (λ e. let l = ap length e in absurd (omega (arith, l, len, some))) free
-      (omega (arith, len, short)) says
+  last_ends n said next says = last_line said next.0 says
 
   -- a last line without LF
   pub last_is : (n : ℕ) (held : List ℕ) (old new : Option (List ℕ)) (r : Result (Option Answer) WriteFault)
@@ -52,12 +50,12 @@ module _ (Told : List ℕ → Answer → Type 0) (limit : ℕ) (input : Input) (
   -- no line
   pub long_is : (old : Option (List ℕ)) → IsNext limit input at.place line.Overlong
       → IsStep Told limit input at old old (Ok (Stops (LongLine (at.count + 1) limit)))
-  long_is old next = inr ([], overlong next.0 next.1, Appends-same old)
+  long_is old next = inr ([], overlong next, Appends-same old)
 
   pub end_is : (old : Option (List ℕ)) → IsNext limit input at.place line.End
       → IsStep Told limit input at old old (Ok (Stops (Quiet (status_after at.all))))
-  end_is old next = inr ([], finished next.1 next.0, Appends-same old)
+  end_is old next = inr ([], finished next, Appends-same old)
 
   pub broken_is : (old : Option (List ℕ)) → IsNext limit input at.place line.Broken
       → IsStep Told limit input at old old (Ok (Stops stop.Broken))
-  broken_is old (free, short, fault) = inr ([], broken fault free short, Appends-same old)
+  broken_is old next = inr ([], broken next, Appends-same old)

@@ -88,14 +88,14 @@ module _ (Told : List ℕ → Answer → Type 0) (limit : ℕ) (input : Input) w
         → length (rest at.place) ≤ limit → (fault : Bool) → input.fault ≡ fault →
         (bytes : List ℕ) → rest at.place ≡ bytes → Goes at.place text
     goes_ended at text lines free le true is bytes same = goes_from at.place at.place text [] (omega arith)
-        (goes_to_stop at text [] Broken lines (broken is free le))
+        (goes_to_stop at text [] Broken lines (broken (free, le, is)))
     goes_ended at text lines free le false is [] same = goes_from at.place at.place text [] (omega arith)
-        (goes_to_stop at text [] (Quiet (status_after at.all)) lines (finished is same))
+        (goes_to_stop at text [] (Quiet (status_after at.all)) lines (finished (same, is)))
     goes_ended at text lines free le false is (b ∷ bytes) same =
         let d = decided (rest at.place) in
         goes_from at.place at.place text (answer_text d.0) (omega arith)
         (goes_to_stop at text (answer_text d.0) (Quiet (status_after (at.all && says_yes d.0))) lines
-        (last_line d.0 is (λ e. absurd (cc)) free le d.1))
+        (last_line d.0 (free, (let l = ap length same in omega (arith, l)), le, is) d.1))
 
     lines_go : (fuel : ℕ) (at : At) (text : List ℕ) → Lines Told limit input at text → length (rest at.place) < fuel
         → Goes at.place text
@@ -105,10 +105,11 @@ module _ (Told : List ℕ → Answer → Type 0) (limit : ℕ) (input : Input) w
         | inl over ↦
             let l = ap length cut in
             goes_from at.place at.place text [] (omega arith)
-            (goes_to_stop at text [] (LongLine (at.count + 1) limit) lines (overlong
-            (rw (cut, take-append-le (suc limit) line (10 ∷ after) (omega arith))
-            (All-take (λ b. b ≢ 10) (suc limit) line one))
-            (omega (arith, l, length-append line (10 ∷ after)))))
+            (goes_to_stop at text [] (LongLine (at.count + 1) limit) lines (overlong (
+              rw (cut, take-append-le (suc limit) line (10 ∷ after) (omega arith))
+                  (All-take (λ b. b ≢ 10) (suc limit) line one),
+              omega (arith, l, length-append line (10 ∷ after)),
+            )))
         | inr le ↦
             let d = decided line in
             let l = ap length cut in
@@ -127,7 +128,7 @@ module _ (Told : List ℕ → Answer → Type 0) (limit : ℕ) (input : Input) w
       | inr free ↦ elim (cases_lt limit (length (rest at.place))) [
         | inl over ↦ goes_from at.place at.place text [] (omega arith)
             (goes_to_stop at text [] (LongLine (at.count + 1) limit) lines
-            (overlong (All-take (λ b. b ≢ 10) (suc limit) (rest at.place) free) over))
+            (overlong (All-take (λ b. b ≢ 10) (suc limit) (rest at.place) free, over)))
         | inr le ↦ goes_ended at text lines free (omega arith) input.fault refl (rest at.place) refl
       ]
     ]

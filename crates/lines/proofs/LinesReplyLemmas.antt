@@ -111,14 +111,15 @@ module _ (Told : List ℕ → Answer → Type 0) (one_answer : (line : List ℕ)
 
   -- no run ends where a line and its LF stand
   no_end : (at : At) (line last : List ℕ) (why : Stop) → LineAt at.place line → EndsAt at last why → ⊥
-  no_end at line last why is (broken fault free short) = has_end (drop at.place input.bytes) line is.after is.cut free
-  no_end at line last why is (overlong free long) = has_end_within limit (drop at.place input.bytes) line is.after
+  no_end at line last why is (broken (free, short, fault)) =
+      has_end (drop at.place input.bytes) line is.after is.cut free
+  no_end at line last why is (overlong (free, long)) = has_end_within limit (drop at.place input.bytes) line is.after
       is.cut is.within free
-  no_end at line last why is (finished fine empty) =
+  no_end at line last why is (finished (empty, fine)) =
       let l = ap length is.cut in
       let m = ap length empty in
       omega (arith, l, m, length-append line (10 ∷ is.after))
-  no_end at line last why is (last_line said fine some free short says) =
+  no_end at line last why is (last_line said (free, some, short, fine) says) =
       has_end (drop at.place input.bytes) line is.after is.cut free
 
   -- nor behind fewer lines than another run answers
@@ -136,28 +137,36 @@ module _ (Told : List ℕ → Answer → Type 0) (one_answer : (line : List ℕ)
 
   one_end : (at : At) (last other : List ℕ) (why end : Stop) → EndsAt at last why → EndsAt at other end
       → OneEnd last other why end
-  one_end at last other why end (broken fault free short) (broken fault' free' short') =
+  one_end at last other why end (broken (free, short, fault)) (broken (free', short', fault')) =
       record { lasts = refl; stops = refl }
-  one_end at last other why end (broken fault free short) (overlong free' long) = absurd (omega (arith, short, long))
-  one_end at last other why end (broken fault free short) (finished fine empty) = absurd (cc)
-  one_end at last other why end (broken fault free short) (last_line said fine some free' short' says) = absurd (cc)
-  one_end at last other why end (overlong free long) (broken fault free' short) = absurd (omega (arith, short, long))
-  one_end at last other why end (overlong free long) (overlong free' long') = record { lasts = refl; stops = refl }
-  one_end at last other why end (overlong free long) (finished fine empty) =
-      absurd (let l = ap length empty in omega (arith, l, long))
-  one_end at last other why end (overlong free long) (last_line said fine some free' short says) =
+  one_end at last other why end (broken (free, short, fault)) (overlong (free', long)) =
       absurd (omega (arith, short, long))
-  one_end at last other why end (finished fine empty) (broken fault free short) = absurd (cc)
-  one_end at last other why end (finished fine empty) (overlong free long) =
-      absurd (let l = ap length empty in omega (arith, l, long))
-  one_end at last other why end (finished fine empty) (finished fine' empty') = record { lasts = refl; stops = refl }
-  one_end at last other why end (finished fine empty) (last_line said fine' some free short says) = absurd (some empty)
-  one_end at last other why end (last_line said fine some free short says) (broken fault free' short') = absurd (cc)
-  one_end at last other why end (last_line said fine some free short says) (overlong free' long) =
+  one_end at last other why end (broken (free, short, fault)) (finished (empty, fine)) = absurd (cc)
+  one_end at last other why end (broken (free, short, fault)) (last_line said (free', some, short', fine) says) =
+      absurd (cc)
+  one_end at last other why end (overlong (free, long)) (broken (free', short, fault)) =
       absurd (omega (arith, short, long))
-  one_end at last other why end (last_line said fine some free short says) (finished fine' empty) = absurd (some empty)
-  one_end at last other why end (last_line said fine some free short says)
-      (last_line told fine' some' free' short' tells) =
+  one_end at last other why end (overlong (free, long)) (overlong (free', long')) =
+      record { lasts = refl; stops = refl }
+  one_end at last other why end (overlong (free, long)) (finished (empty, fine)) =
+      absurd (let l = ap length empty in omega (arith, l, long))
+  one_end at last other why end (overlong (free, long)) (last_line said (free', some, short, fine) says) =
+      absurd (omega (arith, short, long))
+  one_end at last other why end (finished (empty, fine)) (broken (free, short, fault)) = absurd (cc)
+  one_end at last other why end (finished (empty, fine)) (overlong (free, long)) =
+      absurd (let l = ap length empty in omega (arith, l, long))
+  one_end at last other why end (finished (empty, fine)) (finished (empty', fine')) =
+      record { lasts = refl; stops = refl }
+  one_end at last other why end (finished (empty, fine)) (last_line said (free, some, short, fine') says) =
+      absurd (let l = ap length empty in omega (arith, l, some))
+  one_end at last other why end (last_line said (free, some, short, fine) says) (broken (free', short', fault)) =
+      absurd (cc)
+  one_end at last other why end (last_line said (free, some, short, fine) says) (overlong (free', long)) =
+      absurd (omega (arith, short, long))
+  one_end at last other why end (last_line said (free, some, short, fine) says) (finished (empty, fine')) =
+      absurd (let l = ap length empty in omega (arith, l, some))
+  one_end at last other why end (last_line said (free, some, short, fine) says)
+      (last_line told (free', some', short', fine') tells) =
       let answers : said ≡ told = one_answer (drop at.place input.bytes) said told says tells in
       record {
         lasts = ap answer_text answers;

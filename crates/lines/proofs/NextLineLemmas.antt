@@ -3,12 +3,11 @@
 use Rattle.std.proofs.Common.{◌≡◌, ◌≢◌, ℕ, suc, ◌+◌, ◌<◌, ◌≤◌, ◌==◌, Bool, true, false, Some, None, List, [], ◌∷◌, ◌++◌}
 use Rattle.std.proofs.Common.{length, drop, take, refl, sym, ◌∙◌, ap, arith, append_assoc, length-append, length-take}
 use Rattle.std.proofs.Common.{get_or, drop-cons, if◌then◌else◌}
-use Rattle.std.proofs.Math.Nat.{min-eq_left, min-eq_right}
-use Rattle.std.proofs.Math.Seq.{take-append_seam, drop-append_seam}
+use Rattle.std.proofs.Math.Seq.{drop-append_seam}
 use Rattle.std.proofs.lemmas.Bool.{eqb-true}
 use Rattle.std.proofs.lemmas.Bool.Decides.{nat_tests}
 use Rattle.std.proofs.lemmas.Grind.{common_steps}
-use Rattle.std.proofs.lemmas.List.{append-nil, get_or-take, take-append-drop, take-append-le}
+use Rattle.std.proofs.lemmas.List.{get_or-take, take-append-drop, take-append-le}
 use Rattle.std.proofs.lemmas.List.Elements.{All-from_get_or}
 use Rattle.memchr.specs.Find.{IsFirstByte, Nowhere, NoneBefore, is_byte, Passes}
 use Rattle.feed.specs.Feed.{IsHeld, bytes_of, capacity_of, flow_of}
@@ -103,7 +102,7 @@ module _ {R : Type 0} (f : Feed R) (limit : ℕ) (before : List ℕ) (input : In
         let a = agrees.ended ended in
         let same = rest_held before items refl agrees a.0 in
         let some : 0 < length items = grind (arith, common_steps, e) in
-        (rw same (none_found items none), ap length same, some, short, a.1)
+        (rw same (none_found items none, some, short, a.1), ap length same)
 
     pub not_found : (held : Held) → IsHeld f held → IsNext limit input (length before)
         (line_without held (length items))

@@ -58,14 +58,30 @@ module _ (limit : ℕ) (input : Input) where
     pub one : HasNoEnd line
     pub within : length line ≤ limit
 
+  -- the input ends with a last line without LF, of at most so many bytes
+  abbrev pub IsLastAt : ℕ → Type 0
+  IsLastAt s = HasNoEnd (drop s input.bytes) × (0 < length (drop s input.bytes)) × (length (drop s input.bytes) ≤ limit)
+      × (input.fault ≡ false)
+
+  -- no LF stands within so many bytes and one more
+  abbrev pub IsOverlongAt : ℕ → Type 0
+  IsOverlongAt s = HasNoEnd (take (suc limit) (drop s input.bytes)) × (limit < length (drop s input.bytes))
+
+  -- the input ends there
+  abbrev pub IsEndAt : ℕ → Type 0
+  IsEndAt s = (drop s input.bytes ≡ []) × (input.fault ≡ false)
+
+  -- the reader has a fault before a line ends
+  abbrev pub IsBrokenAt : ℕ → Type 0
+  IsBrokenAt s = HasNoEnd (drop s input.bytes) × (length (drop s input.bytes) ≤ limit) × (input.fault ≡ true)
+
   -- What stands at s. After a fault of the reader a line stands there only with its LF.
   abbrev pub IsNext : ℕ → Line → Type 0
   IsNext s (Whole k) = IsLine s (take k (drop s input.bytes)) × (length (take k (drop s input.bytes)) ≡ k)
-  IsNext s (Last k) = HasNoEnd (drop s input.bytes) × (length (drop s input.bytes) ≡ k) × (0 < k) × (k ≤ limit)
-      × (input.fault ≡ false)
-  IsNext s Overlong = HasNoEnd (take (suc limit) (drop s input.bytes)) × (limit < length (drop s input.bytes))
-  IsNext s End = (drop s input.bytes ≡ []) × (input.fault ≡ false)
-  IsNext s Broken = HasNoEnd (drop s input.bytes) × (length (drop s input.bytes) ≤ limit) × (input.fault ≡ true)
+  IsNext s (Last k) = IsLastAt s × (length (drop s input.bytes) ≡ k)
+  IsNext s Overlong = IsOverlongAt s
+  IsNext s End = IsEndAt s
+  IsNext s Broken = IsBrokenAt s
 
 -- what is found lies in so many bytes
 abbrev pub LiesWithin : ℕ → Line → Type 0
@@ -96,14 +112,10 @@ module _ (Told : List ℕ → Answer → Type 0) (limit : ℕ) (input : Input) w
 
   -- how a run ends there, and the answer to a last line without LF
   pub data Ends (at : At) : List ℕ → Stop → Type 0 where
-    broken : input.fault ≡ true → HasNoEnd (drop at.place input.bytes) → length (drop at.place input.bytes) ≤ limit
-        → Ends at [] stop.Broken
-    overlong : HasNoEnd (take (suc limit) (drop at.place input.bytes)) → limit < length (drop at.place input.bytes) →
-        Ends at [] (stop.LongLine (at.count + 1) limit)
-    finished : input.fault ≡ false → drop at.place input.bytes ≡ [] → Ends at [] (stop.Quiet (status_after at.all))
-    last_line : (said : Answer) → input.fault ≡ false → drop at.place input.bytes ≢ []
-        → HasNoEnd (drop at.place input.bytes) →
-        length (drop at.place input.bytes) ≤ limit → Told (drop at.place input.bytes) said →
+    broken : IsBrokenAt limit input at.place → Ends at [] stop.Broken
+    overlong : IsOverlongAt limit input at.place → Ends at [] (stop.LongLine (at.count + 1) limit)
+    finished : IsEndAt limit input at.place → Ends at [] (stop.Quiet (status_after at.all))
+    last_line : (said : Answer) → IsLastAt limit input at.place → Told (drop at.place input.bytes) said →
         Ends at (answer_text said) (stop.Quiet (status_after (at.all && says_yes said)))
 
 -- what a run of the lines of an input states

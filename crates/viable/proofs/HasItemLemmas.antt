@@ -61,8 +61,8 @@ module _ (has : ℕ → Bool) (rules : List Rule) (limit : ℕ) (flat : Flat)
       reach_letters s sets is f (k + 1) after j o n.rest u r rest l once
 
   -- a further turn is counted, since those before took a letter each
-  turn_room : (t k : ℕ) (b d : Option ℕ) → d ≡ capped_most limit b → t ≤ limit → der.Within (t + suc k) b
-      → der.Within (suc t) d
+  turn_room : (t k : ℕ) (b d : Option ℕ) → d ≡ capped_most limit b → t ≤ limit → der.AtMost (t + suc k) b
+      → der.AtMost (suc t) d
   turn_room t k None None is le within = tt
   turn_room t k None (Some d) is le within = absurd (cc is)
   turn_room t k (Some b) None is le within = tt
@@ -95,7 +95,7 @@ module _ (has : ℕ → Bool) (rules : List Rule) (limit : ℕ) (flat : Flat)
         reach_times d s c m b d' most is sp never 0 0 i j i le (turned_none c d') (from_none count b within)
         (omega arith) u r cut l (begin (at s 0) (starts is Begins.rep))
       where
-        from_none : (k : ℕ) (b : Option ℕ) → der.Within k b → der.Within (0 + k) b
+        from_none : (k : ℕ) (b : Option ℕ) → der.AtMost k b → der.AtMost (0 + k) b
         from_none k None h = tt
         from_none k (Some b) h = omega (arith, h)
     item_reached (der.rep low within d) s i j le (spells is (shows_reversed lt)) u r cut l begin =
@@ -105,11 +105,11 @@ module _ (has : ℕ → Bool) (rules : List Rule) (limit : ℕ) (flat : Flat)
         reach_turns d s m b d' most is sp 0 0 i j i le (turned_none 0 d') (none_within d') (from_none count b within)
         (omega arith) u r cut l (begin (at s 0) (starts is Begins.turns))
       where
-        from_none : (k : ℕ) (b : Option ℕ) → der.Within k b → der.Within (0 + k) b
+        from_none : (k : ℕ) (b : Option ℕ) → der.AtMost k b → der.AtMost (0 + k) b
         from_none k None h = tt
         from_none k (Some b) h = omega (arith, h)
 
-        none_within : (d : Option ℕ) → der.Within 0 d
+        none_within : (d : Option ℕ) → der.AtMost 0 d
         none_within None = tt
         none_within (Some d) = omega arith
     item_reached der.opt_empty s i j le (spells is (shows_opt sp)) u r cut l begin =
@@ -157,7 +157,7 @@ module _ (has : ℕ → Bool) (rules : List Rule) (limit : ℕ) (flat : Flat)
     reach_times : {el : Element} {count : ℕ} {v : List ℕ} → DerivesTimes has rules el count v
         → (s c m : ℕ) (b d : Option ℕ) → d ≡ capped_most limit b → slice_get flat.nodes s ≡ Some (Rep c d m) →
         Spells rules limit flat.nodes m el → IsNeverEmpty rules el → (t f i j o : ℕ) → j ≤ length x → Turned c d t f
-        → der.Within (t + count) b → t ≤ i →
+        → der.AtMost (t + count) b → t ≤ i →
         (u r : List ℕ) → v ≡ u ++ r → Lies x i u j → Holds flat x i (at s f) o → HasItem flat x j
     reach_times no_more s c m b d most is sp never t f i j o le turned within few u r cut l h = ended_item u r j cut l h
     reach_times (one_more {k = k} {w = w} {v = v} e ds) s c m b d most is sp never t f i j o le turned within few u r
@@ -179,8 +179,8 @@ module _ (has : ℕ → Bool) (rules : List Rule) (limit : ℕ) (flat : Flat)
 
     reach_turns : {el : Element} {count : ℕ} {v : List ℕ} → DerivesTimes has rules el count v
         → (s m : ℕ) (b d : Option ℕ) → d ≡ capped_most limit b → slice_get flat.nodes s ≡ Some (Node.Turns d m) →
-        Spells rules limit flat.nodes m el → (t f i j o : ℕ) → j ≤ length x → Turned 0 d t f → der.Within t d
-        → der.Within (t + count) b → t ≤ i →
+        Spells rules limit flat.nodes m el → (t f i j o : ℕ) → j ≤ length x → Turned 0 d t f → der.AtMost t d
+        → der.AtMost (t + count) b → t ≤ i →
         (u r : List ℕ) → v ≡ u ++ r → Lies x i u j → Holds flat x i (at s f) o → HasItem flat x j
     reach_turns no_more s m b d most is sp t f i j o le turned counted within few u r cut l h = ended_item u r j cut l h
     reach_turns (one_more {k = k} {w = []} e ds) s m b d most is sp t f i j o le turned counted within few u r cut l h =

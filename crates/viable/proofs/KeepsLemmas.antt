@@ -4,7 +4,7 @@ use Rattle.std.proofs.Common.{◌≡◌, ℕ, zero, suc, ◌≤◌, Bool, List, 
 use Rattle.abnfread.specs.Element as e
 use Rattle.abnfread.specs.Element.{Element, Elements, none, more, Rule, body_of}
 use Rattle.abnfcheck.specs.Derivable as der
-use Rattle.abnfcheck.specs.Derivable.{AreLetters, Within, Derives, DerivesAll, DerivesSome, DerivesTimes, all_done}
+use Rattle.abnfcheck.specs.Derivable.{AreLetters, AtMost, Derives, DerivesAll, DerivesSome, DerivesTimes, all_done}
 use Rattle.abnfcheck.specs.Derivable.{then, this, later, no_more, one_more}
 use Rattle.abnfcheck.proofs.AimLemmas.{spelled_itself}
 use Rattle.abnfcheck.proofs.YieldsLemmas.{letters_both, letters_parts}
@@ -13,7 +13,7 @@ use Rattle.viable.specs.Pruned.{IsProductive, AreAllProductive, Keeps, keep_text
 use Rattle.viable.specs.Pruned.{keep_alt, keep_rep, empty_rep, keep_opt, empty_opt, keep_name, KeepsAll, keep_none}
 use Rattle.viable.specs.Pruned.{keep_more, KeepsSome, some_none, kept, dropped}
 
-pub within_none : (b : Option ℕ) → Within 0 b
+pub within_none : (b : Option ℕ) → AtMost 0 b
 within_none None = tt
 within_none (Some most) = omega arith
 

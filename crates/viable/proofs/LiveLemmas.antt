@@ -32,7 +32,7 @@ module _ (has : ℕ → Bool) (rules : List Rule) where
       live_range : {low high : ℕ} → IsProductive has rules (e.Range low high) → IsLive (e.Range low high)
       live_concat : {es : Elements} → AreLive es → IsLive (e.Concat es)
       live_alt : {es : Elements} → AreLive es → IsLive (e.Alt es)
-      live_rep : {a : ℕ} {b : Option ℕ} {el : Element} → der.Within a b → IsProductive has rules el → IsLive el
+      live_rep : {a : ℕ} {b : Option ℕ} {el : Element} → der.AtMost a b → IsProductive has rules el → IsLive el
           → IsLive (e.Rep a b el)
       live_opt : {el : Element} → IsLive el → IsLive (e.Opt el)
       live_name : {n : List ℕ} → IsProductive has rules (e.Name n) → IsLive (e.Name n)
@@ -121,7 +121,7 @@ module _ (has : ℕ → Bool) (rules : List Rule) where
       }
 
   -- as many turns as are asked for, at least
-  rep_rest : (a j : ℕ) (b : Option ℕ) {el : Element} {w : List ℕ} → der.Within a b → der.Within j b
+  rep_rest : (a j : ℕ) (b : Option ℕ) {el : Element} {w : List ℕ} → der.AtMost a b → der.AtMost j b
       → IsProductive has rules el →
       DerivesTimes has rules el j w → GoesOn (e.Rep a b el) w
   rep_rest a j b {el = el} {w = w} low high one d = by (cases_lt j a)

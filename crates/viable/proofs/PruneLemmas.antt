@@ -51,11 +51,11 @@ module _ (has : ℕ → Bool) (rules : List Rule) where
       by (der.range {c = c} from to is) = not (record { letter = c; from = from; to = to; is = is })
 
   -- repetitions
-  pub reversed_unproductive : (a : ℕ) (b : Option ℕ) (el : Element) → (der.Within a b → ⊥)
+  pub reversed_unproductive : (a : ℕ) (b : Option ℕ) (el : Element) → (der.AtMost a b → ⊥)
       → IsProductive has rules (e.Rep a b el) → ⊥
   reversed_unproductive a b el not p = by p.derives
     where
-      less : (k : ℕ) (b : Option ℕ) → a ≤ k → der.Within k b → der.Within a b
+      less : (k : ℕ) (b : Option ℕ) → a ≤ k → der.AtMost k b → der.AtMost a b
       less k None low high = tt
       less k (Some most) low high = omega (arith, low, high)
 

@@ -1,10 +1,13 @@
 -- Elements and rules without the parts that derive no list of letters.
-use Rattle.std.specs.Prelude.{◌≡◌, ℕ, Bool, List, length, slice_get, Option, Some, None, Vec}
+use Rattle.std.specs.Prelude.{◌≡◌, ℕ, ◌+◌, ◌≤◌, Bool, List, length, slice_get, Option, Some, None, Vec}
 use Rattle.abnfread.specs.Element.{Element, Elements, Text, Values, Range, Concat, Alt, Rep, Opt, Name, Prose, none}
 use Rattle.abnfread.specs.Element.{more, Rule, bodies, id_of}
 use Rattle.abnfread.specs.AbnfViews.{element_of, elements_of}
 use Rattle.abnfread.specs.declared.elem.Elem.{Elem}
-use Rattle.abnfcheck.specs.Derivable.{AreLetters, Derives, DerivesAll, Within}
+use Rattle.abnfcheck.specs.Derivable.{AreLetters, Derives, DerivesAll, AtMost}
+use Rattle.flatgrammar.specs.Flat.{Flat}
+use Rattle.flatgrammar.specs.Lowered.{IsLowered}
+use Rattle.flatgrammar.specs.Places.{places, sizes}
 use Rattle.letters.specs.Letters.{HasLetter}
 
 -- `has` tells the letters of the alphabet
@@ -29,7 +32,7 @@ module _ (has : ℕ → Bool) (rules : List Rule) where
       keep_range : {low high : ℕ} → HasLetter has low high → Keeps (Range low high) (Range low high)
       keep_concat : {es ds : Elements} → KeepsAll es ds → Keeps (Concat es) (Concat ds)
       keep_alt : {es ds : Elements} → IsProductive (Alt es) → KeepsSome es ds → Keeps (Alt es) (Alt ds)
-      keep_rep : {a : ℕ} {b : Option ℕ} {e d : Element} → Within a b → Keeps e d → Keeps (Rep a b e) (Rep a b d)
+      keep_rep : {a : ℕ} {b : Option ℕ} {e d : Element} → AtMost a b → Keeps e d → Keeps (Rep a b e) (Rep a b d)
       empty_rep : {b : Option ℕ} {e : Element} → (IsProductive e → ⊥) → Keeps (Rep 0 b e) (Concat none)
       keep_opt : {e d : Element} → Keeps e d → Keeps (Opt e) (Opt d)
       empty_opt : {e : Element} → (IsProductive e → ⊥) → Keeps (Opt e) (Concat none)
@@ -67,6 +70,13 @@ pub record ArePruned (has : ℕ → Bool) (rules left : List Rule) : Type 0 wher
   pub ids : (n : List ℕ) → id_of left n ≡ id_of rules n
   pub left_of : (id : ℕ) (e d : Element) → slice_get (bodies rules) id ≡ Some e → slice_get (bodies left) id ≡ Some d
       → IsLeftBody has rules e d
+
+-- the nodes spell what is left of the rules, and have no more places than that, and two for the whole
+pub record SpellsProductive (has : ℕ → Bool) (rules : List Rule) (judged : ℕ) (flat : Flat) : Type 0 where
+  pub left : List Rule
+  pub pruned : ArePruned has rules left
+  pub spelled : IsLowered left judged flat
+  pub within : places flat.nodes ≤ sizes flat.limit (bodies left) + 2
 
 abbrev pub some_element : Option Elem → Option Element
 some_element None = None

@@ -3,7 +3,7 @@ ghost use Rattle.std.specs.Prelude.{◌≡◌, ◌↔◌, ℕ, Bool, List, IsTru
 ghost use Rattle.abnfread.specs.Element.{Element, Elements, Rule};
 ghost use Rattle.abnfread.specs.Element as e;
 ghost use Rattle.abnfread.specs.AbnfViews.{element_of, elements_of, rules_of};
-ghost use Rattle.abnfcheck.specs.Derivable.{Within};
+ghost use Rattle.abnfcheck.specs.Derivable.{AtMost};
 ghost use Rattle.abnfcheck.specs.RuleMarks.{AreProductive};
 ghost use Rattle.leastset.specs.NumberMarks.{IsMarked};
 ghost use Rattle.letters.specs.Letters.{has};
@@ -53,7 +53,7 @@ fn prune_range(alphabet: Alphabet, low: u32, high: u32) -> Option<Elem>
 
 // Returns whether the bounds of a repetition allow some number of turns.
 fn is_within(least: u32, most: Option<u32>) -> bool
-    ensures { IsTrue result ↔ Within least most }
+    ensures { IsTrue result ↔ AtMost least most }
 {
     match most {
         Some(most) => least <= most,

@@ -5,6 +5,7 @@ ghost use Rattle.abnfread.specs.AbnfViews.{rules_of};
 ghost use Rattle.flatgrammar.specs.Places.{places, sizes};
 ghost use Rattle.flatgrammar.specs.ToldBeginnings.{TellsBeginnings};
 ghost use Rattle.letters.specs.Letters.{has};
+ghost use Rattle.viable.specs.Pruned.{SpellsProductive};
 
 use crate::pruned::prune_rules;
 use abnfcheck::{SoundAbnf, productive};
@@ -16,7 +17,8 @@ use std::alloc::Global;
 /// Lowers the productive parts of a grammar to numbered nodes, for lines of at most `limit` letters: those that derive
 /// some list of letters of the alphabet. The judged rule derives a list of so many letters exactly if the set after
 /// them holds the whole's end with origin 0; and the set after the first letters of such a list, one or more, is not
-/// empty exactly if they begin a list that the rule derives, of whatever length.
+/// empty exactly if they begin a list that the rule derives, of whatever length. The nodes spell the productive parts
+/// alone, with at most as many places as these have on such lines, and two.
 ///
 /// `Memory` if an allocation fails.
 pub fn lower_viable(
@@ -28,6 +30,7 @@ pub fn lower_viable(
     ensures limit { IfOk result (λ flat. flat.limit ≡ limit) }
     ensures tells { IfOk result (λ flat. TellsBeginnings (has alphabet) (rules_of grammar.now.rules) grammar.now.judged
         flat) }
+    ensures parts { IfOk result (SpellsProductive (has alphabet) (rules_of grammar.now.rules) grammar.now.judged) }
     ensures places { IfOk result (λ flat. places flat.nodes ≤ sizes limit (bodies (rules_of grammar.now.rules)) + 2) }
 {
     // The contract of `judged` says that names compare without case.

@@ -1,4 +1,4 @@
--- The joined rules begin with those of the file.
+-- All rules begin with those of the file.
 use Rattle.std.proofs.Common.{◌∙◌, ap, arith, length, subst, sym, length-append}
 use Rattle.std.specs.Prelude.{option_copied}
 use Rattle.std.proofs.lemmas.List.{length-map}
@@ -6,25 +6,25 @@ use Rattle.ruletable.specs.Rules.{names_of}
 use Rattle.abnfread.specs.AbnfViews.{rule_of, rules_of}
 use Rattle.abnfcheck.specs.AbnfGrammar.{IsSound}
 use Rattle.abnfcheck.specs.AbnfNotes.{judged_in, IsRefused}
-use Rattle.abnfcheck.specs.Joined.{joined}
+use Rattle.abnfcheck.specs.WithCore.{with_core}
 use Rattle.abnfcheck.proofs.AbnfNotesLemmas.{judged_where, sound_unless_refused}
-use Rattle.abnfcheck.proofs.JoinedRulesLemmas.{extends_joined, names_begin}
+use Rattle.abnfcheck.proofs.WithCoreLemmas.{extends_file, names_begin}
 use Rattle.abnfcheck.proofs.abnf_check.check_abnf.Goals as goal
 
 pub found_in-requires-clause-folds : goal.found_in-requires-clause-folds
 found_in-requires-clause-folds c = ap (λ t. t.names) c.in_ok-rules.ensures
-    ∙ (extends_joined c.args.abnf.rules c.args.abnf.core.rules).names ∙ c.args.abnf.folds
+    ∙ (extends_file c.args.abnf.rules c.args.abnf.core.rules).names ∙ c.args.abnf.folds
 
 pub found_in-requires-clause-count : goal.found_in-requires-clause-count
 found_in-requires-clause-count c =
-    let e = extends_joined c.args.abnf.rules c.args.abnf.core.rules in
+    let e = extends_file c.args.abnf.rules c.args.abnf.core.rules in
     let l = ap (λ t. length t.rules) c.in_ok-rules.ensures ∙ ap length e.is
     ∙ length-append c.args.abnf.rules.rules e.more in
     omega (arith, l, c.len-count.ensures.len)
 
 pub returns-then-found-clause-notes : goal.returns-then-found-clause-notes
 returns-then-found-clause-notes c =
-    let e = extends_joined c.args.abnf.rules c.args.abnf.core.rules in
+    let e = extends_file c.args.abnf.rules c.args.abnf.core.rules in
     rw (c.in_ok-rules.ensures, c.deref.ensures.value, c.deref-2.ensures.value) at
     (c.in_ok-found.ensures.notes (rules_of c.args.abnf.rules) _ (length-map c.args.abnf.rules.rules rule_of
     ∙ sym c.len-count.ensures.len)
@@ -43,7 +43,7 @@ new-requires c =
     let sound = sound_unless_refused (rules_of c.args.abnf.rules) (rules_of c.in_ok-rules.rules) _
     (option_copied c.args.rule) (λ h. let yes = tells.1 h in let no = c.if-found.false in cc (yes, no)) in
     record {
-      folds = ap (λ t. t.names) c.in_ok-rules.ensures ∙ (extends_joined c.args.abnf.rules c.args.abnf.core.rules).names
+      folds = ap (λ t. t.names) c.in_ok-rules.ensures ∙ (extends_file c.args.abnf.rules c.args.abnf.core.rules).names
           ∙ c.args.abnf.folds;
       sound = subst (λ v. IsSound (rules_of c.in_ok-rules.rules) v)
           (judged_where _ _ _ sound.judged_is_rule c.in_ok-found.ensures.judged) sound;
@@ -51,7 +51,7 @@ new-requires c =
 
 pub returns-clause-notes : goal.returns-clause-notes
 returns-clause-notes c =
-    let e = extends_joined c.args.abnf.rules c.args.abnf.core.rules in
+    let e = extends_file c.args.abnf.rules c.args.abnf.core.rules in
     rw (c.in_ok-rules.ensures, c.deref.ensures.value, c.deref-2.ensures.value) at
     (c.in_ok-found.ensures.notes (rules_of c.args.abnf.rules) _ (length-map c.args.abnf.rules.rules rule_of
     ∙ sym c.len-count.ensures.len)
@@ -62,9 +62,9 @@ returns-clause-sound c =
     let tells = rw (c.in_ok-rules.ensures, c.deref.ensures.value) at
     (c.in_ok-found.ensures.refused (rules_of c.args.abnf.rules) (length-map c.args.abnf.rules.rules rule_of
     ∙ sym c.len-count.ensures.len)) in
-    let passes : IsRefused (rules_of c.args.abnf.rules) (rules_of (joined c.args.abnf.rules c.args.abnf.core.rules))
+    let passes : IsRefused (rules_of c.args.abnf.rules) (rules_of (with_core c.args.abnf.rules c.args.abnf.core.rules))
     c.args.abnf.redefined.items
-    (judged_in (option_copied c.args.rule) (rules_of (joined c.args.abnf.rules c.args.abnf.core.rules))) → ⊥ =
+    (judged_in (option_copied c.args.rule) (rules_of (with_core c.args.abnf.rules c.args.abnf.core.rules))) → ⊥ =
     λ h. let yes = tells.1 h in let no = c.if-found.false in absurd (cc (yes, no)) in
     let sound = sound_unless_refused (rules_of c.args.abnf.rules) _ _ (option_copied c.args.rule) passes in (
       passes,

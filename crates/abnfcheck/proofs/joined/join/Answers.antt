@@ -1,9 +1,9 @@
-use Rattle.std.proofs.Common.{refl, arith}
+use Rattle.std.proofs.Common.{arith}
 use Rattle.abnfcheck.proofs.JoinLemmas as o
 use Rattle.abnfcheck.proofs.joined.join.Goals as goal
 
 pub loop-id-init : goal.loop-id-init
-loop-id-init c = record { so_far = refl; ahead = refl; count = refl }
+loop-id-init c = o.none_joined _ _
 
 pub take_body-body-requires : goal.take_body-body-requires
 take_body-body-requires c = let lt = c.loop-id-test.true in let l = c.loop-id.invariant.count in let n =

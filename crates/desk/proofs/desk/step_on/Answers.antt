@@ -24,7 +24,7 @@ put-requires c =
 pub one_more-requires : goal.one_more-requires
 one_more-requires c =
     let most = fits_at_most _ _ _ c.start-start.ensures.sound _ c.requires.fits in
-    rw (c.nodes.ensures, ← length-map c.args.peg.now.nodes shape_of) most
+    rw (c.nodes.ensures.count, ← length-map c.args.peg.now.nodes shape_of) most
 
 pub returns-in_ok-advance-in-Ask : goal.returns-in_ok-advance-in-Ask
 returns-in_ok-advance-in-Ask c =

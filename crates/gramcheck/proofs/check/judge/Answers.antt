@@ -1,10 +1,11 @@
-use Rattle.std.proofs.Common.{List, map}
+use Rattle.std.proofs.Common.{◌∙◌, List, map}
+use Rattle.std.proofs.lemmas.List.{length-map}
 use Rattle.std.specs.Prelude.{option_copied}
 use Rattle.ruletable.specs.Notes.{said_of}
 use Rattle.pegread.specs.Pattern.{Rule}
 use Rattle.pegread.specs.PegViews.{rules_of}
 use Rattle.gramcheck.specs.Analysis.{IsAnalysed}
-use Rattle.gramcheck.specs.Nodes.{shapes_of}
+use Rattle.gramcheck.specs.Nodes.{shape_of, shapes_of}
 use Rattle.gramcheck.specs.GrammarNotes.{AreNotes, names_at}
 use Rattle.gramcheck.proofs.JudgeLemmas.{marks-recursive, marks-looping, own-ids, ranked_first, start-known, is-given}
 use Rattle.gramcheck.proofs.check.judge.Goals as goal
@@ -34,7 +35,7 @@ returns-clause-notes c = notes c
 pub returns-clause-ranked : goal.returns-clause-ranked
 returns-clause-ranked c = λ passes first lt.
     ranked_first (rules c) _ _ _ (notes c) passes _ _ _ _ _ _ (found c) c.in_ok-cut.ensures.bodies
-    c.in_ok-cut.ensures.built
+    c.in_ok-cut.ensures.built (length-map c.in_ok-cut.cut.nodes.items shape_of ∙ c.in_ok-cut.ensures.counted)
     c.in_ok-cut.ensures.standing first lt
 
 pub returns-clause-given : goal.returns-clause-given

@@ -26,3 +26,12 @@ returns-clause-places c =
     (subst (λ v. ArePruned (has c.args.alphabet) (rules_of v) (rules_of c.in_ok-pruned.pruned)) c.rules.ensures
     c.in_ok-pruned.ensures.pruned) in
     omega (arith, all, less)
+
+pub returns-clause-parts : goal.returns-clause-parts
+returns-clause-parts c = record {
+  left = rules_of c.in_ok-pruned.pruned;
+  pruned = subst (λ v. ArePruned (has c.args.alphabet) (rules_of v) (rules_of c.in_ok-pruned.pruned)) c.rules.ensures
+      c.in_ok-pruned.ensures.pruned;
+  spelled = c.in_ok-flat.ensures.lowered;
+  within = rw c.in_ok-flat.ensures.limit c.in_ok-flat.ensures.places;
+}
