@@ -1,0 +1,9 @@
+pub mod ContsLemmas
+pub mod ClosingLemmas
+pub mod MoveLemmas
+pub mod TransitionLemmas
+pub mod TellLemmas
+pub mod CachedLemmas
+pub mod AtLemmas
+pub mod AreUncountedLemmas
+pub mod AreClassesLemmas
