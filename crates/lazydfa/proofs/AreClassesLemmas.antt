@@ -10,8 +10,8 @@ use Rattle.flatgrammar.specs.Flat.{Flat, Node, Letters, Place, Set, Has, letter,
 use Rattle.flatgrammar.proofs.FlatCutLemmas.{push_cases}
 use Rattle.stacks.specs.Stacks.{AreAlike}
 use Rattle.lazydfa.specs.Cached.{AreClasses}
-use Rattle.lazydfa.specs.Marks.{AreMoreMarks, IsSplit, IsNodeSplit, AreNodesSplit, AreJoined}
-use Rattle.lazydfa.specs.Marks.{AreMarkedClasses}
+use Rattle.lazydfa.specs.ClassMarks.{AreMoreMarks, IsSplit, IsNodeSplit, AreNodesSplit, AreJoined}
+use Rattle.lazydfa.specs.ClassMarks.{AreMarkedClasses}
 
 pub more_split : (old new : List Bool) (set : Set) → AreMoreMarks old new → IsSplit old set → IsSplit new set
 more_split old new set more h c un = h c (more (c + 1) un)
@@ -99,11 +99,13 @@ module _ (marks : List Bool) (n : ℕ) (class_of samples : List ℕ) (m : AreMar
   pub first_class : (new more : List ℕ) (k : ℕ) → k ≡ length samples → new ≡ class_of ++ k ∷ []
       → more ≡ samples ++ n ∷ [] → AreMarkedClasses marks (n + 1) new more
   first_class new more k is_k is_new is_more = record {
-    size = (let e = ap length is_new in let l = length-append class_of (k ∷ []) in let z = m.size in omega (arith, e, l, z));
+    size = (let e = ap length is_new in let l = length-append class_of (k ∷ []) in let z = m.size in
+        omega (arith, e, l, z));
     within = λ c j h. within c j (push_cases class_of k c j (subst (λ v. slice_get v c ≡ Some j) is_new h));
     joined = λ c j d h g. joined c j d (push_cases class_of k c j (subst (λ v. slice_get v c ≡ Some j) is_new h))
         (push_cases samples n j d (subst (λ v. slice_get v j ≡ Some d) is_more g));
-    last = λ c j d at_c at_j g. last c j d at_c at_j (push_cases samples n j d (subst (λ v. slice_get v j ≡ Some d) is_more g));
+    last = λ c j d at_c at_j g. last c j d at_c at_j (push_cases samples n j d (subst
+        (λ v. slice_get v j ≡ Some d) is_more g));
     some = λ lt. omega arith;
   }
     where
@@ -134,7 +136,8 @@ module _ (marks : List Bool) (n : ℕ) (class_of samples : List ℕ) (m : AreMar
   pub next_class : (new : List ℕ) (k : ℕ) → k + 1 ≡ length samples → new ≡ class_of ++ k ∷ []
       → slice_get marks n ≡ Some false → AreMarkedClasses marks (n + 1) new samples
   next_class new k is_k is_new un = record {
-    size = (let e = ap length is_new in let l = length-append class_of (k ∷ []) in let z = m.size in omega (arith, e, l, z));
+    size = (let e = ap length is_new in let l = length-append class_of (k ∷ []) in let z = m.size in
+        omega (arith, e, l, z));
     within = λ c j h. within c j (push_cases class_of k c j (subst (λ v. slice_get v c ≡ Some j) is_new h));
     joined = λ c j d h g. joined c j d (push_cases class_of k c j (subst (λ v. slice_get v c ≡ Some j) is_new h)) g;
     last = λ c j d at_c at_j g. further c j d (omega (arith, at_c)) at_j g;

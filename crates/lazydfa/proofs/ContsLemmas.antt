@@ -1,6 +1,7 @@
 -- Continuations by id.
 -- Serves: judge.
-use Rattle.std.proofs.Common.{◌≡◌, ℕ, zero, suc, ◌+◌, ◌<◌, ◌≤◌, Bool, true, false, eqb, List, [], ◌∷◌, ◌++◌, length, reverse, refl, sym}
+use Rattle.std.proofs.Common.{◌≡◌, ℕ, zero, suc, ◌+◌, ◌<◌, ◌≤◌, Bool, true, false, eqb, List, [], ◌∷◌, ◌++◌, length}
+use Rattle.std.proofs.Common.{reverse, refl, sym}
 use Rattle.std.proofs.Common.{◌∙◌, ap, subst, arith, ◌⊎◌, inl, inr, length-append, append_assoc}
 use Rattle.std.proofs.lemmas.List.{reverse-append, length-reverse, append-nil}
 use Rattle.std.proofs.lemmas.Bool.{cases_lt}
@@ -10,7 +11,8 @@ use Rattle.std.specs.Prelude.{slice_get, Some, Contains, not}
 use Rattle.flatgrammar.specs.Flat.{Place, at}
 use Rattle.flatgrammar.proofs.FlatCutLemmas.{push_cases}
 use Rattle.lazydfa.specs.declared.conts.Cont.{Cont}
-use Rattle.lazydfa.specs.Conts.{stack_back, stack_of, AreOlder, AreKept, IsIdOf, Adds, IsAdded, Begun, CallMoves, after, Goes, EndsAlone}
+use Rattle.lazydfa.specs.Conts.{stack_back, stack_of, AreOlder, AreKept, IsIdOf, Adds, IsAdded, Begun, CallMoves}
+use Rattle.lazydfa.specs.Conts.{after, Goes, EndsAlone}
 use Rattle.flatgrammar.specs.Blocks.{begin_count, item_at, spot}
 use Rattle.flatgrammar.specs.TableViews.{call_of, done_of}
 use Rattle.flatgrammar.specs.declared.tables.Tables as code_flat
@@ -18,11 +20,12 @@ use Rattle.flatgrammar.specs.declared.tables.Tables as code_flat
 not_eq : (m n : ℕ) → m < n → eqb m n ≡ false
 not_eq m n lt = grind (arith, lt)
 
-pub skip : (newer older : List Cont) (id : ℕ) → id ≤ length older → stack_back (newer ++ older) id ≡ stack_back older id
-skip [] older id le = refl
-skip (c ∷ newer) older id le =
+pub skip_newer : (newer older : List Cont) (id : ℕ) → id ≤ length older
+    → stack_back (newer ++ older) id ≡ stack_back older id
+skip_newer [] older id le = refl
+skip_newer (c ∷ newer) older id le =
     let lt : id < length (newer ++ older) + 1 = let l = length-append newer older in omega (arith, l, le) in
-    rw (not_eq id (length (newer ++ older) + 1) lt) (skip newer older id le)
+    rw (not_eq id (length (newer ++ older) + 1) lt) (skip_newer newer older id le)
 
 eqb_same : (m n : ℕ) → m ≡ n → eqb m n ≡ true
 eqb_same m n same = grind (arith, same)
@@ -30,7 +33,8 @@ eqb_same m n same = grind (arith, same)
 back_at : (back : List Cont) (k : ℕ) (c : Cont) → slice_get (reverse back) k ≡ Some c → c.next ≤ k
     → stack_back back (k + 1) ≡ at c.node c.step ∷ stack_back back c.next
 back_at [] k c is le = absurd (cc is)
-back_at (d ∷ older) k c is le = by (λ e. back_at older k c e le) (push_cases (reverse older) d k c (subst (λ v. slice_get v k ≡ Some c) (rev d older) is))
+back_at (d ∷ older) k c is le = by (λ e. back_at older k c e le) (push_cases (reverse older) d k c (subst
+    (λ v. slice_get v k ≡ Some c) (rev d older) is))
   where
     rev : (d : Cont) (older : List Cont) → reverse (d ∷ older) ≡ reverse older ++ d ∷ []
     rev d older = reverse-append (d ∷ []) older
@@ -42,16 +46,17 @@ back_at (d ∷ older) k c is le = by (λ e. back_at older k c e le) (push_cases 
         let l = length-reverse older in
         let w = slice_get_within (reverse older) k c earlier in
         let here : stack_back (d ∷ older) (k + 1) ≡ stack_back older (k + 1) =
-        skip (d ∷ []) older (k + 1) (omega (arith, l, w)) in
+        skip_newer (d ∷ []) older (k + 1) (omega (arith, l, w)) in
         let below : stack_back (d ∷ older) c.next ≡ stack_back older c.next =
-        skip (d ∷ []) older c.next (omega (arith, l, w, le)) in
+        skip_newer (d ∷ []) older c.next (omega (arith, l, w, le)) in
         here ∙ (ih earlier ∙ ap (λ v. at c.node c.step ∷ v) (sym below))
     by ih (inr h) =
         let l = length-reverse older in
         let place = h.0 in
-        let same : eqb (k + 1) (length older + 1) ≡ true = eqb_same (k + 1) (length older + 1) (omega (arith, l, place)) in
+        let same : eqb (k + 1) (length older + 1) ≡ true = eqb_same (k + 1) (length older + 1) (omega
+        (arith, l, place)) in
         let below : stack_back (d ∷ older) c.next ≡ stack_back older c.next =
-        skip (d ∷ []) older c.next (omega (arith, l, place, le)) in
+        skip_newer (d ∷ []) older c.next (omega (arith, l, place, le)) in
         let top : stack_back (d ∷ older) (k + 1) ≡ at d.node d.step ∷ stack_back older d.next = rw same refl in
         top ∙ (ap (λ v. at v.node v.step ∷ stack_back older v.next) h.1 ∙ ap (λ v. at c.node c.step ∷ v) (sym below))
 
@@ -69,10 +74,11 @@ found_is conts k id c older at_k is = record {
       ∙ back_at (reverse conts) k c (subst (λ v. slice_get v k ≡ Some c) (sym (reverse-twice conts)) is) (older k c is);
 }
 
-pub kept_stack : (old new : List Cont) → AreKept old new → (id : ℕ) → id ≤ length old → stack_of new id ≡ stack_of old id
+pub kept_stack : (old new : List Cont) → AreKept old new → (id : ℕ) → id ≤ length old
+    → stack_of new id ≡ stack_of old id
 kept_stack old new kept id le =
     ap (λ v. stack_of v id) kept.grown ∙ (ap (λ v. stack_back v id) (reverse-append old kept.added)
-    ∙ skip (reverse kept.added) (reverse old) id (let l = length-reverse old in omega (arith, l, le)))
+    ∙ skip_newer (reverse kept.added) (reverse old) id (let l = length-reverse old in omega (arith, l, le)))
 
 pub kept_same : (conts : List Cont) → AreKept conts conts
 kept_same conts = record { added = []; grown = sym (append-nil conts); older = λ o. o }
@@ -92,14 +98,16 @@ pushed_kept conts c new le is = record {
   older = λ o. subst (λ v. AreOlder v) (sym is) (λ k d at_k. by o k d (push_cases conts c k d at_k));
 }
   where
-    by : AreOlder conts → (k : ℕ) (d : Cont) → (slice_get conts k ≡ Some d) ⊎ ((k ≡ length conts) × (c ≡ d)) → d.next ≤ k
+    by : AreOlder conts → (k : ℕ) (d : Cont) → (slice_get conts k ≡ Some d) ⊎ ((k ≡ length conts) × (c ≡ d))
+        → d.next ≤ k
     by o k d (inl earlier) = o k d earlier
     by o k d (inr h) =
         let place = h.0 in let next : c.next ≡ d.next = ap (λ v. v.next) h.1 in omega (arith, place, next, le)
 
 kept_length : (old new : List Cont) → AreKept old new → length old ≤ length new
 kept_length old new kept =
-    let l = length-append old kept.added in let g : length new ≡ length (old ++ kept.added) = ap (λ v. length v) kept.grown in
+    let l = length-append old kept.added in let g : length new ≡ length (old ++ kept.added) = ap
+    (λ v. length v) kept.grown in
     omega (arith, l, g)
 
 pub kept_id : (old new : List Cont) → AreKept old new → (id : ℕ) (stack : List Place) → IsIdOf old id stack
@@ -155,7 +163,8 @@ kept_within old new kept id le = let l = kept_length old new kept in omega (arit
 
 pub begun_none : (conts : List Cont) (node : ℕ) (below : List Place) (ids : List ℕ)
     → Adds conts (Begun node 0 below) ids ids
-begun_none conts node below ids = adds_none conts (Begun node 0 below) ids (λ s b. let lt = b.begins in omega (arith, lt))
+begun_none conts node below ids = adds_none conts (Begun node 0 below) ids (λ s b. let lt = b.begins in
+    omega (arith, lt))
 
 pub begun_more : (old mid new : List Cont) (node count below id : ℕ) (a b c : List ℕ) → AreKept old mid
     → AreKept mid new → below ≤ length old → Adds mid (Begun node count (stack_of old below)) a b →
@@ -246,7 +255,8 @@ module _ (tables : code_flat.Tables) (n k : ℕ) (below stack : List Place) (sta
       Adds conts (CallMoves tables n k below) a b → Adds conts (Goes tables stack) a b
   goes_call conts a b which adds =
       subst (λ v. Adds conts (Goes tables v) a b) (sym stack_is)
-      (adds_as conts (CallMoves tables n k below) (Goes tables (at n k ∷ below)) a b (λ s m. inl m) (λ s g. by s g) adds)
+      (adds_as conts (CallMoves tables n k below) (Goes tables (at n k ∷ below)) a b (λ s m. inl m)
+      (λ s g. by s g) adds)
     where
       by : (s : List Place) → Goes tables (at n k ∷ below) s → CallMoves tables n k below s
       by s (inl m) = m

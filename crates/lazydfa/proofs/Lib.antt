@@ -1,9 +1,9 @@
 pub mod ContsLemmas
-pub mod ClosingLemmas
+pub mod IsClosureLemmas
 pub mod MoveLemmas
 pub mod TransitionLemmas
 pub mod TellLemmas
-pub mod CachedLemmas
-pub mod AtLemmas
+pub mod AreCachedLemmas
+pub mod IsAtLemmas
 pub mod AreUncountedLemmas
 pub mod AreClassesLemmas

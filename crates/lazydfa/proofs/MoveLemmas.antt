@@ -3,7 +3,8 @@
 use Rattle.std.proofs.Common.{◌≡◌, ℕ, ◌<◌, Bool, true, false, List, [], ◌∷◌, refl, sym, ◌∙◌, ap}
 use Rattle.std.proofs.Common.{subst, ◌⊎◌, inl, inr}
 use Rattle.std.specs.Prelude.{slice_get, Option, Some, None}
-use Rattle.flatgrammar.specs.Flat.{Node, Name, Flat, Place, at, Set, Begins, Reading, Calling, Starts, starts, name_starts}
+use Rattle.flatgrammar.specs.Flat.{Node, Name, Flat, Place, at, Set, Begins, Reading, Calling, Starts, starts}
+use Rattle.flatgrammar.specs.Flat.{name_starts}
 use Rattle.flatgrammar.specs.Flat.{Reads, reads, Calls, calls}
 use Rattle.flatgrammar.specs.Blocks as blocks
 use Rattle.flatgrammar.specs.Blocks.{item_at, spot}
@@ -12,9 +13,11 @@ use Rattle.flatgrammar.specs.declared.flat_node.Node as code_node
 use Rattle.flatgrammar.specs.FlatViews.{node_of}
 use Rattle.flatgrammar.specs.NodeSteps as node_steps
 use Rattle.flatgrammar.specs.NodeSteps.{flat_of, begin_count, callee, read_at}
-use Rattle.flatgrammar.specs.TableViews.{root_in, rooted, called_by, call_of, done_in, done_of, read_in, read_of, GiveRoots}
+use Rattle.flatgrammar.specs.TableViews.{root_in, rooted, called_by, call_of, done_in, done_of, read_in, read_of}
+use Rattle.flatgrammar.specs.TableViews.{GiveRoots}
 use Rattle.flatgrammar.specs.Roots.{Root, own, named}
-use Rattle.flatgrammar.proofs.CallOfLemmas.{done_tests, calling_callee, begin_below, get_unmap, get_map, called_of, begun_starts}
+use Rattle.flatgrammar.proofs.CallOfLemmas.{done_tests, calling_callee, begin_below, get_unmap, get_map, called_of}
+use Rattle.flatgrammar.proofs.CallOfLemmas.{begun_starts}
 use Rattle.flatgrammar.proofs.NodeStepsLemmas.{done_is}
 use Rattle.stacks.specs.Stacks as st
 use Rattle.stacks.specs.Stacks.{IsDoneAt, is_done, TellsLast, Moves, call, tail_call, Led, led, moves, LedToEnd}
@@ -66,7 +69,8 @@ bool_cases false = inr refl
 
 module _ (tables : code_flat.Tables) (roots : GiveRoots (flat_of tables) tables.roots.items) where
   call_is : (n k : ℕ) {t l root : ℕ} {node : Node} → slice_get (flat_of tables).nodes n ≡ Some node → Calling node k t l
-      → Root (flat_of tables).nodes (flat_of tables).bodies t root → call_of tables (item_at 0 (spot n k)) ≡ Some (root, l)
+      → Root (flat_of tables).nodes (flat_of tables).bodies t root
+      → call_of tables (item_at 0 (spot n k)) ≡ Some (root, l)
   call_is n k {t = t} {l = l} {root = root} {node = node} is c r =
       let u = get_unmap node_of tables.nodes.items n node is in
       let called_is : callee (node_of u.from) k ≡ Some (t, l) = ap (λ v. callee v k) u.is ∙ calling_callee c in
@@ -105,7 +109,8 @@ module _ (tables : code_flat.Tables) (roots : GiveRoots (flat_of tables) tables.
           ap (λ v. read_in v k) u.at ∙ (ap (λ v. read_at v k) u.is ∙ there) in
           absurd (let none = (last_parts _ _ _ h).2 in cc (none, some))
 
-      not_called : (p : Place) {r start : Place} {s : ℕ} → Calls (flat_of tables) p s r → Starts (flat_of tables) s start
+      not_called : (p : Place) {r start : Place} {s : ℕ} → Calls (flat_of tables) p s r
+          → Starts (flat_of tables) s start
           → last_of tables p ≡ true → ⊥
       not_called p (calls {s = n} {k = k} is c) begin h =
           let some = call_is n k is c (starts_at begin).rooted in
@@ -150,7 +155,8 @@ module _ (tables : code_flat.Tables) (roots : GiveRoots (flat_of tables) tables.
       subst (λ v. Moves (flat_of tables) (last_of tables) (at n k ∷ below) v) (sym m.begun.is)
       (by c.calls s (bool_cases (last_of tables (at n m.next))))
     where
-      by : {s root step next : ℕ} → Calls (flat_of tables) (at n k) s (at n next) → Starts (flat_of tables) s (at root step)
+      by : {s root step next : ℕ} → Calls (flat_of tables) (at n k) s (at n next)
+          → Starts (flat_of tables) s (at root step)
           → (last_of tables (at n next) ≡ true) ⊎ (last_of tables (at n next) ≡ false)
           → Moves (flat_of tables) (last_of tables) (at n k ∷ below) (at root step ∷ after tables n next below)
       by c s (inl is) = rw is (tail_call c s is)

@@ -2,7 +2,8 @@
 -- Serves: judge.
 use Rattle.std.proofs.Common.{◌≡◌, ℕ, ◌+◌, Bool, List, [], ◌∷◌, refl, sym, ◌∙◌, ap, subst}
 use Rattle.std.specs.Prelude.{slice_get, Option, Some, None}
-use Rattle.flatgrammar.specs.Flat.{Node, Letters, Concat, Alt, Rep, Turns, Opt, Name, Nothing, Place, at, Set, Has, Reading, Reads, reads}
+use Rattle.flatgrammar.specs.Flat.{Node, Letters, Concat, Alt, Rep, Turns, Opt, Name, Nothing, Place, at, Set, Has}
+use Rattle.flatgrammar.specs.Flat.{Reading, Reads, reads}
 use Rattle.flatgrammar.specs.Blocks.{item_at, spot}
 use Rattle.flatgrammar.specs.declared.tables.Tables as code_flat
 use Rattle.flatgrammar.specs.declared.flat_node.Node as code_node
@@ -12,7 +13,8 @@ use Rattle.flatgrammar.specs.TableViews.{read_in, read_of, GiveRoots}
 use Rattle.flatgrammar.proofs.CallOfLemmas.{get_unmap, get_map}
 use Rattle.lazydfa.specs.declared.conts.Cont.{Cont}
 use Rattle.stacks.specs.Stacks.{IsDoneAt, Led, led, moves, LedToEnd, ReadBy, IsReading, reading, IsNext}
-use Rattle.lazydfa.specs.Conts.{last_of, stack_of, EndsAlone, GoesOn, here, on, IsStackOf, ReadsOn, ReadsFrom, TopReads, IsTransition}
+use Rattle.lazydfa.specs.Conts.{last_of, stack_of, EndsAlone, GoesOn, here, on, IsStackOf, ReadsOn, ReadsFrom}
+use Rattle.lazydfa.specs.Conts.{TopReads, IsTransition}
 use Rattle.lazydfa.proofs.MoveLemmas.{from_goes, to_goes, done_told, told_done}
 
 read_reading : (node : Node) (k : ℕ) (set : Set) → read_at node k ≡ Some set → Reading node k set (k + 1)
@@ -82,7 +84,8 @@ module _ (tables : code_flat.Tables) where
             (ReadBy.reads (record { id = r.id; stands = r.stands; is = is })
             (reads_by n k some.set (slice_get tables.nodes.items n) refl some.is) some.has)
 
-    pub from_read : {a : List Place} → ReadBy (flat_of tables) (last_of tables) Tops c a → ReadsFrom tables c first tops a
+    pub from_read : {a : List Place} → ReadBy (flat_of tables) (last_of tables) Tops c a
+        → ReadsFrom tables c first tops a
     from_read (ReadBy.reads {r = r} {below = below} h rd lies) = record {
       id = h.id;
       stands = h.stands;
@@ -107,7 +110,11 @@ module _ (tables : code_flat.Tables) where
         λ s. let h = (t.tops_are top).0 s in (told_top top h.0, to_after h.1),
         λ h. (t.tops_are top).1 (top_told h.0, from_after h.1),
       );
-      ended_is = (λ h. let e = t.ended_is.0 h in to_end e.0 e.1 e.2, λ h. t.ended_is.1 (from_end h.place h.led_to h.done));
+      ended_is = (
+        λ h. let e = t.ended_is.0 h in to_end e.0 e.1 e.2,
+        λ h. t.ended_is.1
+            (from_end h.place h.led_to h.done),
+      );
     }
       where
         to_end : (stack : List Place) → GoesOn tables (ReadsFrom tables c first tops) stack → EndsAlone tables stack

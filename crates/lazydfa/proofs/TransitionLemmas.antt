@@ -1,6 +1,7 @@
 -- Transitions.
 -- Serves: judge.
-use Rattle.std.proofs.Common.{◌≡◌, ℕ, zero, suc, ◌+◌, ◌<◌, ◌≤◌, Bool, true, false, List, [], ◌∷◌, ◌++◌, length, refl, sym, ◌∙◌, ap}
+use Rattle.std.proofs.Common.{◌≡◌, ℕ, zero, suc, ◌+◌, ◌<◌, ◌≤◌, Bool, true, false, List, [], ◌∷◌, ◌++◌, length, refl}
+use Rattle.std.proofs.Common.{sym, ◌∙◌, ap}
 use Rattle.std.proofs.Common.{subst, arith, ◌⊎◌, inl, inr, ◌↔◌, append_assoc}
 use Rattle.std.proofs.lemmas.Bool.{cases_lt}
 use Rattle.std.proofs.lemmas.List.Elements.{Contains-append_left, Contains-append_right, Contains-append_cases}
@@ -15,7 +16,7 @@ use Rattle.lazydfa.specs.declared.conts.Cont.{Cont}
 use Rattle.lazydfa.specs.Conts.{stack_of, AreKept, Adds, IsAdded, IsIdOf, ReadsOn, ReadsFrom, TopReads, AreReaders}
 use Rattle.lazydfa.specs.Conts.{IsTransition, IsClosure, IsStackOf, GoesOn, here, on}
 use Rattle.lazydfa.proofs.ContsLemmas.{adds_none, adds_one, kept_id, kept_stack, kept_within}
-use Rattle.lazydfa.proofs.ClosingLemmas.{contains_at, stands_at}
+use Rattle.lazydfa.proofs.IsClosureLemmas.{contains_at, stands_at}
 
 module _ (tables : code_flat.Tables) (c : ℕ) where
   pub reads_nowhere : (conts : List Cont) (stack : List Place) (a : List ℕ) → stack ≡ []
@@ -105,7 +106,8 @@ module _ (tables : code_flat.Tables) (c : ℕ) where
           let here : r.place ≡ count = omega (arith, at_end, lt) in
           let both : Some r.id ≡ Some id = sym r.stands ∙ (ap (λ v. slice_get ids v) here ∙ is) in
           let same : r.id ≡ id = cc both in
-          inr (subst (λ v. ReadsOn tables c v s) (ap (λ v. stack_of first v) same ∙ sym (kept_stack first mid kept id le))
+          inr (subst (λ v. ReadsOn tables c v s) (ap (λ v. stack_of first v) same
+          ∙ sym (kept_stack first mid kept id le))
           r.reads)
 
   pub first_all : (first new : List Cont) (ids : List ℕ) (count : ℕ) (a b : List ℕ) → length ids ≤ count
@@ -153,13 +155,16 @@ module _ (tables : code_flat.Tables) (c : ℕ) where
       added : (id : ℕ) → Contains read id → Contains adds.added id
       added id h = subst (λ v. Contains v id) (adds.grown ∙ ap (λ v. v ++ adds.added) none) h
 
-      from_given : {s : List Place} → GoesOn tables (IsStackOf mid read) s → GoesOn tables (ReadsFrom tables c first tops) s
+      from_given : {s : List Place} → GoesOn tables (IsStackOf mid read) s
+          → GoesOn tables (ReadsFrom tables c first tops) s
       from_given (here h) =
           here (subst (λ v. ReadsFrom tables c first tops v) (sym h.is) (adds.sound h.id (added h.id h.stands)).1)
       from_given (on h g) = on (from_given h) g
 
-      to_given : {s : List Place} → GoesOn tables (ReadsFrom tables c first tops) s → GoesOn tables (IsStackOf mid read) s
-      to_given (here {stack = s} h) = let w = adds.whole s h in here (record { id = w.0; stands = w.1; is = sym w.2.is })
+      to_given : {s : List Place} → GoesOn tables (ReadsFrom tables c first tops) s
+          → GoesOn tables (IsStackOf mid read) s
+      to_given (here {stack = s} h) = let w = adds.whole s h in
+          here (record { id = w.0; stands = w.1; is = sym w.2.is })
       to_given (on h g) = on (to_given h) g
 
       there : {stack : List Place} → IsStackOf conts next stack → TopReads tables stack
@@ -210,7 +215,8 @@ module _ (tables : code_flat.Tables) (conts : List Cont) (ids : List ℕ) where
       → TopReads tables (stack_of conts id) → new ≡ readers ++ id ∷ [] → ReadersFirst count readers
       → ReadersFirst (count + 1) new
   readers_more count id readers new is reads grown r = record {
-    only = λ other h. only other (Contains-append_cases readers (id ∷ []) other (subst (λ v. Contains v other) grown h));
+    only = λ other h. only other (Contains-append_cases readers (id ∷ []) other (subst
+        (λ v. Contains v other) grown h));
     all = λ k other lt at_k t. subst (λ v. Contains v other) (sym grown) (all k other (cases_lt k count) lt at_k t);
   }
     where

@@ -1,5 +1,6 @@
 -- States and cells that are kept.
-use Rattle.std.specs.Prelude.{◌≡◌, ◌↔◌, ◌⊎◌, ℕ, ◌<◌, ◌≤◌, ◌/◌, ◌%◌, Bool, true, List, [], ◌++◌, length, slice_get, Some, Contains}
+use Rattle.std.specs.Prelude.{◌≡◌, ◌↔◌, ◌⊎◌, ℕ, ◌<◌, ◌≤◌, ◌/◌, ◌%◌, Bool, true, List, [], ◌++◌, length, slice_get}
+use Rattle.std.specs.Prelude.{Some, Contains}
 use Rattle.flatgrammar.specs.Flat.{Flat, Place}
 use Rattle.flatgrammar.specs.Blocks.{begin_count}
 use Rattle.flatgrammar.specs.TableViews.{whole_root}
@@ -11,7 +12,8 @@ use Rattle.lazydfa.specs.declared.cache.Cell.TheVariants.{Unknown, Over, Dead, T
 use Rattle.lazydfa.specs.declared.cache.Cache.{Cache}
 use Rattle.flatgrammar.specs.NodeSteps.{flat_of}
 use Rattle.stacks.specs.Stacks.{AreAlike, IsFront}
-use Rattle.lazydfa.specs.Conts.{last_of, AreOlder, AreKept, Begun, IsStackOf, TopReads, GoesOn, EndsAlone, ReadsFrom, IsTransition}
+use Rattle.lazydfa.specs.Conts.{last_of, AreOlder, AreKept, Begun, IsStackOf, TopReads, GoesOn, EndsAlone, ReadsFrom}
+use Rattle.lazydfa.specs.Conts.{IsTransition}
 
 -- the whole begins
 pub record IsBegun (tables : code_flat.Tables) (stack : List Place) : Type 0 where

@@ -1,5 +1,6 @@
 -- Continuations by id: the place on top, and the id of what is below it.
-use Rattle.std.specs.Prelude.{◌≡◌, ◌≢◌, ◌↔◌, ◌⊎◌, ℕ, ◌+◌, ◌<◌, ◌≤◌, Bool, true, false, eqb, if◌then◌else◌, List, [], ◌∷◌, ◌++◌}
+use Rattle.std.specs.Prelude.{◌≡◌, ◌≢◌, ◌↔◌, ◌⊎◌, ℕ, ◌+◌, ◌<◌, ◌≤◌, Bool, true, false, eqb, if◌then◌else◌, List, []}
+use Rattle.std.specs.Prelude.{◌∷◌, ◌++◌}
 use Rattle.std.specs.Prelude.{length, reverse, slice_get, Option, Some, None, Contains}
 use Rattle.flatgrammar.specs.Flat.{Place, at, Set}
 use Rattle.flatgrammar.specs.Blocks.{begin_count, item_at, spot}

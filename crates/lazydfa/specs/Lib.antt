@@ -1,3 +1,3 @@
 pub mod Cached
 pub mod Conts
-pub mod Marks
+pub mod ClassMarks

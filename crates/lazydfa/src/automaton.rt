@@ -1,5 +1,6 @@
 //! A lazily built automaton.
-ghost use Rattle.std.specs.Prelude.{◌≡◌, ◌↔◌, ◌≤◌, ◌<◌, ◌+◌, ℕ, Bool, List, [], IsTrue, IfOk, IfSome, length, map, slice_get, Some};
+ghost use Rattle.std.specs.Prelude.{◌≡◌, ◌↔◌, ◌≤◌, ◌<◌, ◌+◌, ℕ, Bool, List, [], IsTrue, IfOk, IfSome, length, map};
+ghost use Rattle.std.specs.Prelude.{slice_get, Some};
 ghost use Rattle.abnfread.specs.Element.{Rule};
 ghost use Rattle.abnfcheck.specs.Derivable.{AreLetters, RuleDerives};
 ghost use Rattle.flatgrammar.specs.Flat.{Turns};
@@ -128,8 +129,8 @@ impl Automaton {
         }))
     }
 
-    /// Tells whether the judged rule derives a line of bytes; `None` if that takes more time or memory than there is for
-    /// states. `Memory` if an allocation fails; what was found out of earlier lines may be lost then.
+    /// Tells whether the judged rule derives a line of bytes; `None` if that takes more time or memory than there is
+    /// for states. `Memory` if an allocation fails; what was found out of earlier lines may be lost then.
     pub fn judge(&mut self, line: &[u8]) -> Result<Option<bool>, Memory>
         ensures same { self.new ≡ self.old }
         ensures derives { IfOk result (λ told. IfSome told (λ yes. (rules : List Rule) (judged : ℕ) →

@@ -1,8 +1,10 @@
 //! States and cells that are made when first asked for, and kept.
-ghost use Rattle.std.specs.Prelude.{◌≡◌, ◌↔◌, ◌≤◌, ◌<◌, ◌+◌, ◌*◌, ◌∷◌, ℕ, true, false, List, [], IsTrue, IfOk, IfSome, length, slice_get, Some, Contains};
+ghost use Rattle.std.specs.Prelude.{◌≡◌, ◌↔◌, ◌≤◌, ◌<◌, ◌+◌, ◌*◌, ◌∷◌, ℕ, true, false, List, [], IsTrue, IfOk};
+ghost use Rattle.std.specs.Prelude.{IfSome, length, slice_get, Some, Contains};
 ghost use Rattle.flatgrammar.specs.Flat.{Place};
 ghost use Rattle.lazydfa.specs.Conts.{AreKept, AreOlder, ReadsOn, ReadsFrom, stack_of};
-ghost use Rattle.lazydfa.specs.Cached.{AreCached, IsCache, IsCell, IsStart, IsStateOf, IsInterned, AreGrown, AreAddedUnknown, Grows};
+ghost use Rattle.lazydfa.specs.Cached.{AreCached, IsCache, IsCell, IsStart, IsStateOf, IsInterned, AreGrown};
+ghost use Rattle.lazydfa.specs.Cached.{AreAddedUnknown, Grows};
 
 use crate::budget::Budget;
 use crate::chains::Chains;
@@ -28,8 +30,8 @@ pub(crate) enum Cell {
     To(usize),
 }
 
-/// Holds continuations, states of them, cells by state and class, and what may be spent on more of them. The first state
-/// is the start.
+/// Holds continuations, states of them, cells by state and class, and what may be spent on more of them. The first
+/// state is the start.
 #[derive(Drop)]
 pub(crate) struct Cache {
     pub(crate) conts: Conts,

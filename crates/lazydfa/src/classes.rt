@@ -4,8 +4,9 @@ ghost use Rattle.flatgrammar.specs.Flat.{EitherCase};
 ghost use Rattle.flatgrammar.specs.FlatViews.{node_of, nodes_of, set_of};
 ghost use Rattle.flatgrammar.specs.NodeSteps.{flat_of};
 ghost use Rattle.lazydfa.specs.Cached.{AreClasses};
-ghost use Rattle.lazydfa.specs.Marks.{AreCases, AreEndsMarked, AreMarkedClasses, AreMoreMarks, AreNodesSplit, AreSplit};
-ghost use Rattle.lazydfa.specs.Marks.{IsMarked, IsNodeSplit, IsSplit};
+ghost use Rattle.lazydfa.specs.ClassMarks.{AreCases, AreEndsMarked, AreMarkedClasses, AreMoreMarks, AreNodesSplit};
+ghost use Rattle.lazydfa.specs.ClassMarks.{AreSplit};
+ghost use Rattle.lazydfa.specs.ClassMarks.{IsMarked, IsNodeSplit, IsSplit};
 
 use flatgrammar::{Node, Set, Tables};
 use ruletable::Memory;

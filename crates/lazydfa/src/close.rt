@@ -1,8 +1,10 @@
 //! Where one continuation goes on without a letter.
-ghost use Rattle.std.specs.Prelude.{◌≡◌, ◌↔◌, ◌||◌, ◌<◌, ◌≤◌, ◌∷◌, ◌+◌, ℕ, true, List, [], IsTrue, IfOk, IfSome, length, slice_get, Some, Contains};
+ghost use Rattle.std.specs.Prelude.{◌≡◌, ◌↔◌, ◌||◌, ◌<◌, ◌≤◌, ◌∷◌, ◌+◌, ℕ, true, List, [], IsTrue, IfOk, IfSome};
+ghost use Rattle.std.specs.Prelude.{length, slice_get, Some, Contains};
 ghost use Rattle.flatgrammar.specs.Flat.{Place};
 ghost use Rattle.flatgrammar.specs.Blocks.{begin_count};
-ghost use Rattle.lazydfa.specs.Conts.{AreKept, AreOlder, Adds, IsAdded, stack_of, Begun, IsIdOf, CallMoves, last_of, after, Goes, EndsAlone, IsClosure};
+ghost use Rattle.lazydfa.specs.Conts.{AreKept, AreOlder, Adds, IsAdded, stack_of, Begun, IsIdOf, CallMoves, last_of};
+ghost use Rattle.lazydfa.specs.Conts.{after, Goes, EndsAlone, IsClosure};
 
 use crate::conts::{Cont, Conts, id_of};
 use flatgrammar::{Item, Node, Tables, deed_of};
@@ -185,8 +187,8 @@ fn expand(tables: &Tables, id: usize, conts: &mut Conts, ids: &mut Ids) -> Resul
     requires within { id ≤ length conts.old.items.items }
     requires older { AreOlder conts.old.items.items }
     ensures kept { IfOk result (λ ended. AreKept conts.old.items.items conts.new.items.items) }
-    ensures adds { IfOk result (λ ended. Adds conts.new.items.items (Goes tables.now (stack_of conts.old.items.items id))
-        ids.old.items.items ids.new.items.items) }
+    ensures adds { IfOk result (λ ended. Adds conts.new.items.items (Goes tables.now
+        (stack_of conts.old.items.items id)) ids.old.items.items ids.new.items.items) }
     ensures ended { IfOk result (λ ended. IsTrue ended ↔ EndsAlone tables.now (stack_of conts.old.items.items id)) }
 {
     if id == 0 {
@@ -218,8 +220,8 @@ fn either(a: bool, b: bool) -> bool
     a || b
 }
 
-/// Adds all that ids go on to without a letter, and tells whether one of them is a place alone whose node is done; `None`
-/// if that goes over more of them than there may be.
+/// Adds all that ids go on to without a letter, and tells whether one of them is a place alone whose node is done;
+/// `None` if that goes over more of them than there may be. `Memory` if an allocation fails.
 pub(crate) fn close(
     tables: &Tables,
     conts: &mut Conts,

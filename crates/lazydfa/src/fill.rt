@@ -1,5 +1,6 @@
 //! Cells that are filled.
-ghost use Rattle.std.specs.Prelude.{◌≡◌, ◌≤◌, ◌<◌, ◌+◌, ◌*◌, ℕ, List, [], IfOk, IfSome, length, slice_get, Some, Contains};
+ghost use Rattle.std.specs.Prelude.{◌≡◌, ◌≤◌, ◌<◌, ◌+◌, ◌*◌, ℕ, List, [], IfOk, IfSome, length, slice_get, Some};
+ghost use Rattle.std.specs.Prelude.{Contains};
 ghost use Rattle.lazydfa.specs.Conts.{AreKept, AreOlder};
 ghost use Rattle.lazydfa.specs.Cached.{IsCache, IsCell, Grows};
 

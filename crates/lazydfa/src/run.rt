@@ -1,5 +1,6 @@
 //! The run over a line.
-ghost use Rattle.std.specs.Prelude.{◌≡◌, ◌↔◌, ◌≤◌, ◌<◌, ◌+◌, ℕ, true, List, [], IsTrue, IfOk, IfSome, length, slice_get, Some, Contains};
+ghost use Rattle.std.specs.Prelude.{◌≡◌, ◌↔◌, ◌≤◌, ◌<◌, ◌+◌, ℕ, true, List, [], IsTrue, IfOk, IfSome, length};
+ghost use Rattle.std.specs.Prelude.{slice_get, Some, Contains};
 ghost use Rattle.flatgrammar.specs.NodeSteps.{flat_of};
 ghost use Rattle.flatgrammar.specs.TableViews.{GiveRoots};
 ghost use Rattle.lazydfa.specs.Conts.{AreKept, AreOlder, last_of};
@@ -121,8 +122,8 @@ fn prepare(cache: &mut Cache, letters: usize) -> Result<(), Memory>
     widen_states(cache)
 }
 
-/// Tells whether the whole may end behind a line; `None` if that takes more than there may be. `Memory` if an allocation
-/// fails.
+/// Tells whether the whole may end behind a line; `None` if that takes more than there may be. `Memory` if an
+/// allocation fails.
 pub(crate) fn run(
     alloc: Global,
     tables: &Tables,

@@ -1,5 +1,6 @@
 //! Transitions.
-ghost use Rattle.std.specs.Prelude.{◌≡◌, ◌↔◌, ◌≤◌, ◌++◌, ◌∷◌, ℕ, true, false, List, [], IsTrue, IfOk, IfSome, length, Contains};
+ghost use Rattle.std.specs.Prelude.{◌≡◌, ◌↔◌, ◌≤◌, ◌++◌, ◌∷◌, ℕ, true, false, List, [], IsTrue, IfOk, IfSome, length};
+ghost use Rattle.std.specs.Prelude.{Contains};
 ghost use Rattle.lazydfa.specs.Conts.{AreKept, AreOlder, Adds, ReadsOn, ReadsFrom, TopReads, AreReaders, IsTransition};
 ghost use Rattle.lazydfa.specs.Conts.{stack_of};
 
@@ -127,8 +128,8 @@ pub(crate) fn readers(
     Ok(tops)
 }
 
-/// Returns what tops come to by a letter; `None` if that goes over more ids than there may be. `Memory` if an allocation
-/// fails.
+/// Returns what tops come to by a letter; `None` if that goes over more ids than there may be. `Memory` if an
+/// allocation fails.
 pub(crate) fn transition(
     alloc: Global,
     tables: &Tables,

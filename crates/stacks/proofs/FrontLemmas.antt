@@ -1,6 +1,7 @@
 -- Fronts from letter to letter.
 -- Serves: a_letter_leads_on, parts_are_moved, judge.
-use Rattle.std.proofs.Common.{◌≡◌, ℕ, ◌+◌, List, [], ◌∷◌, ◌++◌, refl, sym, ◌∙◌, ap, subst, ◌↔◌, ◌⊎◌, inl, inr, append_assoc}
+use Rattle.std.proofs.Common.{◌≡◌, ℕ, ◌+◌, List, [], ◌∷◌, ◌++◌, refl, sym, ◌∙◌, ap, subst, ◌↔◌, ◌⊎◌, inl, inr}
+use Rattle.std.proofs.Common.{append_assoc}
 use Rattle.std.specs.Prelude.{Bool, true, false, slice_get, Some}
 use Rattle.flatgrammar.specs.Flat.{Flat, Place, Set, Has, Reads}
 use Rattle.stacks.specs.Stacks.{Moves, Led, led, moves, LedToEnd, ReadBy, reads, After, Reach, Accepts, AreAlike}
@@ -30,11 +31,11 @@ module _ (flat : Flat) (last : Place → Bool) where
     abbrev Tops : List Place → Type 0
     Tops = ReadBy flat last tops d
 
-    some : (b : List Place) → Tops b → b ≡ [] → ⊥
-    some b (reads h rd lies) same = cc same
+    tops_some : (b : List Place) → Tops b → b ≡ [] → ⊥
+    tops_some b (reads h rd lies) same = cc same
 
-    pub down : (a : List Place) → Before a → Lifted Tops below a
-    down a (reads {q = q} {r = r} {set = set} {below = rest} h rd lies) =
+    pub reads_down : (a : List Place) → Before a → Lifted Tops below a
+    reads_down a (reads {q = q} {r = r} {set = set} {below = rest} h rd lies) =
         let g = (plain.reading (q ∷ rest) (reading rd)).0 h in by g.top g.is g.stack_is
       where
         by : (top : List Place) → tops top → q ∷ rest ≡ top ++ below → Lifted Tops below (r ∷ rest)
@@ -47,39 +48,40 @@ module _ (flat : Flat) (last : Place → Bool) where
               stack_is = cc same;
             }
 
-    pub back : (a : List Place) → Tops a → Before (a ++ below)
-    back a (reads {q = q} {below = rest} h rd lies) =
+    pub reads_back : (a : List Place) → Tops a → Before (a ++ below)
+    reads_back a (reads {q = q} {below = rest} h rd lies) =
         reads ((plain.reading (q ∷ (rest ++ below)) (reading rd)).1
         (record { top = q ∷ rest; is = h; stack_is = refl })) rd lies
 
-    pub taken : ((a : List Place) × Reach flat last x (j + 1) a) ↔ ((a : List Place) × Tops a)
-    taken = (
+    pub taken_by_tops : ((a : List Place) × Reach flat last x (j + 1) a) ↔ ((a : List Place) × Tops a)
+    taken_by_tops = (
       λ h. there ((leads_on flat last x j c d letter alike h.0).0 h.1),
-      λ h. (h.0 ++ below, (leads_on flat last x j c d letter alike (h.0 ++ below)).1 (led (back h.0 h.1))),
+      λ h. (h.0 ++ below, (leads_on flat last x j c d letter alike (h.0 ++ below)).1 (led (reads_back h.0 h.1))),
     )
       where
         there : {a : List Place} → Led flat last Before a → (a : List Place) × Tops a
-        there {a} (led h) = let g = down a h in (g.top, g.is)
+        there {a} (led h) = let g = reads_down a h in (g.top, g.is)
         there (moves h m) = there h
 
     module _ (next : List Place → Type 0) (ended : Bool) (is_next : IsNext flat last tops d next ended) where
       pub next_front : IsFront flat last x (j + 1) next ended below
       next_front = record {
         reading = λ stack r. (
-          λ h. there stack r (over flat last Tops Before below some down
+          λ h. there stack r (over flat last Tops Before below tops_some reads_down
               ((leads_on flat last x j c d letter alike stack).0 h)),
           λ h. (leads_on flat last x j c d letter alike stack).1
-              (from_over flat last Tops Before below some back (reading_some r) (again stack h)),
+              (from_over flat last Tops Before below tops_some reads_back (reading_some r) (again stack h)),
         );
         all_read = λ top is. ((is_next.tops_are top).0 is).0;
         accepts = (
-          λ a. let e = (ends_over flat last Tops Before below some back down).0 (record {
+          λ a. let e = (ends_over flat last Tops Before below tops_some reads_back reads_down).0 (record {
             place = a.place;
             led_to = (leads_on flat last x j c d letter alike (a.place ∷ [])).0 a.reached;
             done = a.done;
           }) in
               (is_next.ended_is.1 e.0, e.1),
-          λ h. let e = (ends_over flat last Tops Before below some back down).1 (is_next.ended_is.0 h.0, h.1) in
+          λ h. let e = (ends_over flat last Tops Before below tops_some reads_back reads_down).1
+              (is_next.ended_is.0 h.0, h.1) in
               record {
                 place = e.place;
                 reached = (leads_on flat last x j c d letter alike (e.place ∷ [])).1 e.led_to;
@@ -88,19 +90,19 @@ module _ (flat : Flat) (last : Place → Bool) where
         );
       }
         where
-          there : (stack : List Place) → IsReading flat stack → IsOver flat last Tops Before below some stack
+          there : (stack : List Place) → IsReading flat stack → IsOver flat last Tops Before below tops_some stack
               → Lifted next below stack ⊎ ((ended ≡ true) × Led flat last (λ v. below ≡ v) stack)
           there stack r (inl g) = inl (record {
             top = g.top;
             is = (is_next.tops_are g.top).1
-                (top_reads g.top below (λ none. led_some flat last some g.is none) r g.stack_is, g.is);
+                (top_reads g.top below (λ none. led_some flat last tops_some g.is none) r g.stack_is, g.is);
             stack_is = g.stack_is;
           })
           there stack r (inr g) = inr (is_next.ended_is.1 g.0, g.1)
 
           again : (stack : List Place)
               → Lifted next below stack ⊎ ((ended ≡ true) × Led flat last (λ v. below ≡ v) stack)
-              → IsOver flat last Tops Before below some stack
+              → IsOver flat last Tops Before below tops_some stack
           again stack (inl g) = inl (record {
             top = g.top;
             is = ((is_next.tops_are g.top).0 g.is).1;

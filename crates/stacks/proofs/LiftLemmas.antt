@@ -76,25 +76,27 @@ module _ (flat : Flat) (last : Place → Bool) where
           by (p ∷ top) h same = split p top h m same
       over_moves (inr g) m = inr (g.0, moves g.1 m)
 
-      pub over : ((a : List Place) → stacks a → Lifted tops below a) → {a : List Place} → Led flat last stacks a → IsOver a
+      pub over : ((a : List Place) → stacks a → Lifted tops below a) → {a : List Place} → Led flat last stacks a
+          → IsOver a
       over on {a} (led h) =
           let g = on a h in inl (record { top = g.top; is = led g.is; stack_is = g.stack_is })
       over on (moves h m) = over_moves (over on h) m
 
       module _ (back : (a : List Place) → tops a → stacks (a ++ below)) where
-        lifts : {a : List Place} → Led flat last tops a → Led flat last stacks (a ++ below)
-        lifts {a} (led h) = led (back a h)
-        lifts (moves h m) = moves (lifts h) (lift_move below m)
+        all_lifts : {a : List Place} → Led flat last tops a → Led flat last stacks (a ++ below)
+        all_lifts {a} (led h) = led (back a h)
+        all_lifts (moves h m) = moves (all_lifts h) (lift_move below m)
 
         pub from_over : {a : List Place} → (a ≡ [] → ⊥) → IsOver a → Led flat last stacks a
-        from_over {a} full (inl g) = subst (λ v. Led flat last stacks v) (sym g.stack_is) (lifts g.is)
+        from_over {a} full (inl g) = subst (λ v. Led flat last stacks v) (sym g.stack_is) (all_lifts g.is)
         from_over {a} full (inr g) = by below refl
           where
             by : (rest : List Place) → below ≡ rest → Led flat last stacks a
             by [] same = absurd (full (rests_empty (subst (λ w. Led flat last (λ v. w ≡ v) a) same g.1)))
             by (r ∷ rest) same = led_by
                 (λ b h. subst (λ v. Led flat last stacks v) (sym same ∙ h)
-                (moves (subst (λ v. Led flat last stacks (g.0.place ∷ v)) same (lifts g.0.led_to)) (st.return g.0.done)))
+                (moves (subst (λ v. Led flat last stacks (g.0.place ∷ v)) same (all_lifts g.0.led_to))
+                (st.return g.0.done)))
                 g.1
 
         pub ends_over : ((a : List Place) → stacks a → Lifted tops below a) → LedToEnd flat last stacks

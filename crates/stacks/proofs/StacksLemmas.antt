@@ -1,9 +1,11 @@
 -- Stacks of places tell what item sets tell.
 -- Serves: stacks_tell, judge.
-use Rattle.std.proofs.Common.{◌≡◌, ℕ, ◌+◌, ◌<◌, ◌≤◌, List, [], ◌∷◌, length, refl, sym, ◌∙◌, ap, subst, arith, ◌↔◌, ◌⊎◌, inl, inr}
+use Rattle.std.proofs.Common.{◌≡◌, ℕ, ◌+◌, ◌<◌, ◌≤◌, List, [], ◌∷◌, length, refl, sym, ◌∙◌, ap, subst, arith, ◌↔◌}
+use Rattle.std.proofs.Common.{◌⊎◌, inl, inr}
 use Rattle.std.proofs.lemmas.Bool.{cases_lt}
 use Rattle.std.specs.Prelude.{slice_get, Bool, true, false, Option, Some, None}
-use Rattle.flatgrammar.specs.Flat.{Flat, Node, Name, Concat, Turns, top, Place, at, Set, Has, Begins, IsDone, Calling, IsTaking, Starts, starts}
+use Rattle.flatgrammar.specs.Flat.{Flat, Node, Name, Concat, Turns, top, Place, at, Set, Has, Begins, IsDone, Calling}
+use Rattle.flatgrammar.specs.Flat.{IsTaking, Starts, starts}
 use Rattle.flatgrammar.specs.Flat.{name_starts, Ends, ends, name_ends, Reads, reads, Calls, calls, Takes, in_turns}
 use Rattle.flatgrammar.specs.ToldBeginnings.{HasItem}
 use Rattle.flatgrammar.specs.Holds.{Holds, begins, called, has_read, returned}
@@ -65,9 +67,10 @@ module _ (flat : Flat) where
       let same : node' ≡ node = cc in subst (λ v. IsTaking v) same t
 
   module _ (uncounted : AreUncounted flat) where
-    counted : (s : ℕ) {k m : ℕ} {A : Type 0} (b : Option ℕ) → slice_get flat.nodes s ≡ Some (Turns b m) → k < top 0 b → A
-    counted s None is lt = absurd (omega (arith, lt))
-    counted s {m = m} (Some b) is lt = absurd (uncounted s b m is)
+    none_counted : (s : ℕ) {k m : ℕ} {A : Type 0} (b : Option ℕ) → slice_get flat.nodes s ≡ Some (Turns b m)
+        → k < top 0 b → A
+    none_counted s None is lt = absurd (omega (arith, lt))
+    none_counted s {m = m} (Some b) is lt = absurd (uncounted s b m is)
 
     -- a call that has to take a letter returns to where it came from
     takes_or : {q r : Place} {s : ℕ} → Calls flat q s r → (Takes flat q → ⊥) ⊎ (r ≡ q)
@@ -79,7 +82,7 @@ module _ (flat : Flat) where
         by is (Calling.alternative m) = inl (λ t. elim (takes_node is t) [ ])
         by is (Calling.turn m) = inl (λ t. elim (takes_node is t) [ ])
         by is Calling.turn_uncounted = inl (λ t. elim (takes_node is t) [ ])
-        by {s = s} is (Calling.takes {b = b} lt) = counted s b is lt
+        by {s = s} is (Calling.takes {b = b} lt) = none_counted s b is lt
         by is Calling.takes_uncounted = inr refl
         by is Calling.operand = inl (λ t. elim (takes_node is t) [ ])
 
@@ -160,17 +163,17 @@ module _ (flat : Flat) where
         }
         move_chain j (st.return {p = p} done) g = pop_into g.held (g.ends_as p refl done) g.under
 
-        chain : {j : ℕ} {a : List Place} → Reach flat last x j a → IsChain j a
-        chain (Reach.begins st) = record {
+        chain_under : {j : ℕ} {a : List Place} → Reach flat last x j a → IsChain j a
+        chain_under (Reach.begins st) = record {
           origin = 0;
           called_as = flat.whole;
           held = begins st;
           ends_as = starts_end st;
           under = bottom;
         }
-        chain {j} (Reach.moved h m) = move_chain j m (chain h)
-        chain (Reach.has_read h r is lies) =
-            let g = chain h in
+        chain_under {j} (Reach.moved h m) = move_chain j m (chain_under h)
+        chain_under (Reach.has_read h r is lies) =
+            let g = chain_under h in
             record {
               origin = g.origin;
               called_as = g.called_as;
@@ -180,8 +183,8 @@ module _ (flat : Flat) where
             }
 
         pub reached_item : {j : ℕ} (a : List Place) → Reach flat last x j a → HasItem flat x j
-        reached_item [] h = absurd (chain h)
-        reached_item (p ∷ below) h = let g = chain h in record { place = p; origin = g.origin; held = g.held }
+        reached_item [] h = absurd (chain_under h)
+        reached_item (p ∷ below) h = let g = chain_under h in record { place = p; origin = g.origin; held = g.held }
 
         module _ (body : ℕ) (whole : slice_get flat.nodes flat.whole ≡ Some (Concat (body ∷ []))) where
           whole_end : {p : Place} {s : ℕ} → Ends flat p s → s ≡ flat.whole → p ≡ at flat.whole 1
@@ -195,15 +198,16 @@ module _ (flat : Flat) where
           whole_end (name_ends {s = s} {r = r} is at_r e) same =
               absurd (let none : Some (Name r) ≡ Some (Concat (body ∷ [])) = cc (is, whole, same) in cc none)
 
-          fall : {i s j : ℕ} {p : Place} {below : List Place} → Holds flat x j p i → Ends flat p s → Under i s below
+          fall_down : {i s j : ℕ} {p : Place} {below : List Place} → Holds flat x j p i → Ends flat p s
+              → Under i s below
               → below ≡ [] → Holds flat x j (at flat.whole 1) 0
-          fall {j = j} h e bottom none = subst (λ v. Holds flat x j v 0) (whole_end e refl) h
-          fall h e (frame g c ea under) none = absurd (cc none)
-          fall h e (hidden g c ea under is) none = fall (return_held h e g c) (hidden_end c ea is) under none
+          fall_down {j = j} h e bottom none = subst (λ v. Holds flat x j v 0) (whole_end e refl) h
+          fall_down h e (frame g c ea under) none = absurd (cc none)
+          fall_down h e (hidden g c ea under is) none = fall_down (return_held h e g c) (hidden_end c ea is) under none
 
           pub accepted_holds : {j : ℕ} → Accepts flat last x j → Holds flat x j (at flat.whole 1) 0
           accepted_holds a =
-              let g = chain a.reached in fall g.held (g.ends_as a.place refl a.done) g.under refl
+              let g = chain_under a.reached in fall_down g.held (g.ends_as a.place refl a.done) g.under refl
 
         -- what stands when the top is taken away
         abbrev IsPopped : ℕ → List Place → Type 0
@@ -213,13 +217,13 @@ module _ (flat : Flat) where
         abbrev IsAt : ℕ → Place → List Place → Type 0
         IsAt j p below = Reach flat last x j (p ∷ below) ⊎ ((last p ≡ true) × IsPopped j below)
 
-        pop : {j : ℕ} {p : Place} (below : List Place) → Reach flat last x j (p ∷ below) → IsDoneAt flat p
+        pop_all : {j : ℕ} {p : Place} (below : List Place) → Reach flat last x j (p ∷ below) → IsDoneAt flat p
             → IsPopped j below
-        pop {p = p} [] h d = record { place = p; reached = h; done = d }
-        pop (r ∷ below) h d = Reach.moved h (st.return d)
+        pop_all {p = p} [] h d = record { place = p; reached = h; done = d }
+        pop_all (r ∷ below) h d = Reach.moved h (st.return d)
 
         at_done : {j : ℕ} {p : Place} (below : List Place) → IsAt j p below → IsDoneAt flat p → IsPopped j below
-        at_done below (inl h) d = pop below h d
+        at_done below (inl h) d = pop_all below h d
         at_done below (inr h) d = h.1
 
         -- node t stands, where it begins, over these places
@@ -231,31 +235,31 @@ module _ (flat : Flat) where
           node : node_at place ≡ t
           begin : IsBegin place
 
-        began : {j i : ℕ} {p : Place} → Holds flat x j p i → Began (node_at p)
-        began {p = p} (begins st) = record { place = p; node = refl; begin = starts_begin st }
-        began {p = p} (called h c st) = record { place = p; node = refl; begin = starts_begin st }
-        began (has_read h rd is lies) = let b = began h in
+        began_so : {j i : ℕ} {p : Place} → Holds flat x j p i → Began (node_at p)
+        began_so {p = p} (begins st) = record { place = p; node = refl; begin = starts_begin st }
+        began_so {p = p} (called h c st) = record { place = p; node = refl; begin = starts_begin st }
+        began_so (has_read h rd is lies) = let b = began_so h in
             record { place = b.place; node = b.node ∙ sym (reads_node rd); begin = b.begin }
-        began (returned h e g c takes) = let b = began g in
+        began_so (returned h e g c takes) = let b = began_so g in
             record { place = b.place; node = b.node ∙ sym (calls_node c); begin = b.begin }
 
-        climb : {j i : ℕ} {p : Place} → Holds flat x j p i → (below : List Place) → IsBegun i (node_at p) below
+        climb_up : {j i : ℕ} {p : Place} → Holds flat x j p i → (below : List Place) → IsBegun i (node_at p) below
             → IsAt j p below
-        climb {p = p} (begins st) below b = inl (b p refl (starts_begin st))
-        climb {p = p} (called h c st) below b = inl (b p refl (starts_begin st))
-        climb {i = i} (has_read {j = j} {q = q} {r = r} {set = set} h rd is lies) below b =
-            by (climb h below (λ p same g. b p (same ∙ sym (reads_node rd)) g))
+        climb_up {p = p} (begins st) below b = inl (b p refl (starts_begin st))
+        climb_up {p = p} (called h c st) below b = inl (b p refl (starts_begin st))
+        climb_up {i = i} (has_read {j = j} {q = q} {r = r} {set = set} h rd is lies) below b =
+            by (climb_up h below (λ p same g. b p (same ∙ sym (reads_node rd)) g))
           where
             by : IsAt j q below → IsAt (j + 1) r below
             by (inl g) = inl (Reach.has_read g rd is lies)
             by (inr g) = absurd (tells.no_read q r set g.0 rd)
-        climb {j = j} (returned {i = i} {k = k} {s = s} {q = q} {r = r} {p = p} h e g c takes) below b =
-            from (λ v g. climb h v g) (climb g below (λ p same d. b p (same ∙ sym (calls_node c)) d))
+        climb_up {j = j} (returned {i = i} {k = k} {s = s} {q = q} {r = r} {p = p} h e g c takes) below b =
+            from (λ v g. climb_up h v g) (climb_up g below (λ p same d. b p (same ∙ sym (calls_node c)) d))
             (bool_cases (last r))
           where
             from : ((v : List Place) → IsBegun k (node_at p) v → IsAt j p v) → IsAt k q below
                 → (last r ≡ true) ⊎ (last r ≡ false) → IsAt j r below
-            from up (inr none) l = let b = began h in
+            from up (inr none) l = let b = began_so h in
                 absurd (tells.no_call q r b.place s none.0 c (ends_start e b.place b.node b.begin))
             from up (inl a) (inl is) = inr (
               is,
@@ -269,10 +273,10 @@ module _ (flat : Flat) where
           below : List Place
           begun : IsBegun i t below
 
-        base : {j i : ℕ} {p : Place} → Holds flat x j p i → Base i (node_at p)
-        base (begins st) = record { below = []; begun = λ p same d. Reach.begins (starts_start st p same d) }
-        base (called {i = i} {j = j} {s = s} {p = p} {q = q} {r = r} h c st) =
-            let b = base h in from b.below (climb h b.below b.begun) (bool_cases (last r))
+        base_of : {j i : ℕ} {p : Place} → Holds flat x j p i → Base i (node_at p)
+        base_of (begins st) = record { below = []; begun = λ p same d. Reach.begins (starts_start st p same d) }
+        base_of (called {i = i} {j = j} {s = s} {p = p} {q = q} {r = r} h c st) =
+            let b = base_of h in from b.below (climb_up h b.below b.begun) (bool_cases (last r))
           where
             from : (below : List Place) → IsAt j q below → (last r ≡ true) ⊎ (last r ≡ false) → Base j (node_at p)
             from below (inr none) l = absurd (tells.no_call q r p s none.0 c st)
@@ -284,9 +288,9 @@ module _ (flat : Flat) where
               below = r ∷ below;
               begun = λ p' same d. Reach.moved a (call c (starts_start st p' same d) is);
             }
-        base (has_read h rd is lies) = let b = base h in
+        base_of (has_read h rd is lies) = let b = base_of h in
             record { below = b.below; begun = λ p same d. b.begun p (same ∙ reads_node rd) d }
-        base (returned h e g c takes) = let b = base g in
+        base_of (returned h e g c takes) = let b = base_of g in
             record { below = b.below; begun = λ p same d. b.begun p (same ∙ calls_node c) d }
 
         popped_reach : {j : ℕ} (below : List Place) → IsPopped j below → (a : List Place) × Reach flat last x j a
@@ -294,7 +298,7 @@ module _ (flat : Flat) where
         popped_reach (r ∷ below) h = (r ∷ below, h)
 
         pub item_reached : {j : ℕ} → HasItem flat x j → (a : List Place) × Reach flat last x j a
-        item_reached {j} h = let b = base h.held in by b.below (climb h.held b.below b.begun)
+        item_reached {j} h = let b = base_of h.held in by b.below (climb_up h.held b.below b.begun)
           where
             by : (below : List Place) → IsAt j h.place below → (a : List Place) × Reach flat last x j a
             by below (inl g) = (h.place ∷ below, g)
@@ -303,5 +307,5 @@ module _ (flat : Flat) where
         pub holds_accepted : {j : ℕ} (body : ℕ) → slice_get flat.nodes flat.whole ≡ Some (Concat (body ∷ []))
             → Holds flat x j (at flat.whole 1) 0 → Accepts flat last x j
         holds_accepted body whole h =
-            at_done [] (climb h [] (λ p same d. Reach.begins (own_starts flat.whole p same d)))
+            at_done [] (climb_up h [] (λ p same d. Reach.begins (own_starts flat.whole p same d)))
             (is_done whole (IsDone.concat refl))

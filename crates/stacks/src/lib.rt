@@ -21,8 +21,9 @@ pub fn stacks_tell()
 /// from the front before a letter of that class to the front after it; and something is reached after it exactly if a
 /// top reads it.
 pub fn a_letter_leads_on()
-    ensures { (flat : Flat) (last : Place → Bool) (x : List ℕ) (j c d : ℕ) → slice_get x j ≡ Some c → AreAlike flat c d →
-        (tops : List (List Place)) (below : List Place) → IsPlain flat last x j (Contains tops) below →
+    ensures { (flat : Flat) (last : Place → Bool) (x : List ℕ) (j c d : ℕ) → slice_get x j ≡ Some c →
+        AreAlike flat c d → (tops : List (List Place)) (below : List Place) →
+        IsPlain flat last x j (Contains tops) below →
         (((stack : List Place) × Reach flat last x (j + 1) stack) ↔ ((top : List Place)
         × ReadBy flat last (Contains tops) d top)) ×
         ((next : List (List Place)) (ended : Bool) → IsNext flat last (Contains tops) d (Contains next) ended →

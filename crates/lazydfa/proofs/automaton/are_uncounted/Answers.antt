@@ -16,4 +16,5 @@ loop-node-preserved c =
 
 pub returns : goal.returns
 returns c = λ _. none_to_end c.args.tables.now c.loop-node.node-index
-    (subst (λ v. length v ≤ c.loop-node.node-index) c.deref-node-items.ensures.value c.loop-node-test.false) c.loop-node.invariant
+    (subst (λ v. length v ≤ c.loop-node.node-index) c.deref-node-items.ensures.value c.loop-node-test.false)
+    c.loop-node.invariant

@@ -1,6 +1,6 @@
 use Rattle.std.proofs.lemmas.Option.{slice_get-get_or}
-use Rattle.lazydfa.proofs.ClosingLemmas.{contains_at}
-use Rattle.lazydfa.proofs.CachedLemmas.{none_more, none_all}
+use Rattle.lazydfa.proofs.IsClosureLemmas.{contains_at}
+use Rattle.lazydfa.proofs.AreCachedLemmas.{none_more, none_all}
 use Rattle.lazydfa.proofs.cache.any_reads.Goals as goal
 
 pub cont_reads-requires-clause-within : goal.cont_reads-requires-clause-within

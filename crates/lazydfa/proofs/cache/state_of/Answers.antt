@@ -1,5 +1,5 @@
 use Rattle.std.proofs.Common.{arith}
-use Rattle.lazydfa.proofs.CachedLemmas.{interned_pushed}
+use Rattle.lazydfa.proofs.AreCachedLemmas.{interned_pushed}
 use Rattle.lazydfa.proofs.cache.state_of.Goals as goal
 
 pub returns-clause-is : goal.returns-clause-is

@@ -5,7 +5,8 @@ use Rattle.lazydfa.proofs.classes.class_next.Goals as goal
 pub returns-then-is_first : goal.returns-then-is_first
 returns-then-is_first c =
     first_class c.args.marks.now c.args.number c.args.class_of.now.items c.args.samples.now.items c.requires
-    c.push.new.self.items c.push-then-is_first.new.self.items c.len-count.result (let count = c.len-count.ensures in omega (arith, count))
+    c.push.new.self.items c.push-then-is_first.new.self.items c.len-count.result (let count = c.len-count.ensures in
+    omega (arith, count))
     c.in_ok-push.ensures.items c.in_ok-push-2.ensures.items
 
 pub returns : goal.returns

@@ -1,4 +1,4 @@
-use Rattle.lazydfa.specs.Marks.{AreMarkedClasses}
+use Rattle.lazydfa.specs.ClassMarks.{AreMarkedClasses}
 use Rattle.lazydfa.proofs.classes.classes_of_marks.Given as goal
 
 abbrev pub invariant-loop-number : goal.invariant-loop-number

@@ -1,7 +1,7 @@
 use Rattle.std.proofs.Common.{subst}
 use Rattle.flatgrammar.specs.FlatViews.{nodes_of}
 use Rattle.flatgrammar.specs.NodeSteps.{flat_of}
-use Rattle.lazydfa.specs.Marks.{AreMarkedClasses, AreNodesSplit}
+use Rattle.lazydfa.specs.ClassMarks.{AreMarkedClasses, AreNodesSplit}
 use Rattle.lazydfa.proofs.AreClassesLemmas.{classes_told}
 use Rattle.lazydfa.proofs.classes.find_classes.Goals as goal
 

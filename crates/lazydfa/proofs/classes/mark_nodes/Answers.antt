@@ -2,7 +2,7 @@ use Rattle.std.proofs.Common.{sym, ap, ◌∙◌}
 use Rattle.std.proofs.lemmas.Option.{slice_get-get_or}
 use Rattle.std.specs.Prelude.{Some}
 use Rattle.flatgrammar.specs.FlatViews.{node_of}
-use Rattle.lazydfa.specs.Marks.{IsNodeSplit}
+use Rattle.lazydfa.specs.ClassMarks.{IsNodeSplit}
 use Rattle.lazydfa.proofs.AreClassesLemmas.{more_node_split, split_to_next, split_to_end}
 use Rattle.lazydfa.proofs.classes.mark_nodes.Goals as goal
 

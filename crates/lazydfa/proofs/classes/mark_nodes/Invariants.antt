@@ -1,5 +1,5 @@
 use Rattle.flatgrammar.specs.FlatViews.{node_of}
-use Rattle.lazydfa.specs.Marks.{IsNodeSplit}
+use Rattle.lazydfa.specs.ClassMarks.{IsNodeSplit}
 use Rattle.lazydfa.proofs.AreClassesLemmas.{AreSplitTo, more_node_split}
 use Rattle.lazydfa.proofs.classes.mark_nodes.Given as goal
 

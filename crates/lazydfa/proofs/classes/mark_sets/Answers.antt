@@ -1,6 +1,6 @@
 use Rattle.std.proofs.lemmas.Option.{slice_get-get_or}
 use Rattle.flatgrammar.specs.FlatViews.{set_of}
-use Rattle.lazydfa.specs.Marks.{IsSplit}
+use Rattle.lazydfa.specs.ClassMarks.{IsSplit}
 use Rattle.lazydfa.proofs.AreClassesLemmas.{more_split, split_to_next, split_to_end}
 use Rattle.lazydfa.proofs.classes.mark_sets.Goals as goal
 

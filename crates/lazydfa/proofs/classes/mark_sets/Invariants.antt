@@ -1,5 +1,5 @@
 use Rattle.flatgrammar.specs.FlatViews.{set_of}
-use Rattle.lazydfa.specs.Marks.{AreMoreMarks, IsSplit}
+use Rattle.lazydfa.specs.ClassMarks.{AreMoreMarks, IsSplit}
 use Rattle.lazydfa.proofs.AreClassesLemmas.{AreSplitTo, more_split}
 use Rattle.lazydfa.proofs.classes.mark_sets.Given as goal
 

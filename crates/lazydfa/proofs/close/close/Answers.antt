@@ -1,7 +1,7 @@
 use Rattle.std.proofs.Common.{sym, ◌∙◌, ap, arith}
 use Rattle.std.specs.Prelude.{Some}
 use Rattle.std.proofs.lemmas.Option.{slice_get-get_or}
-use Rattle.lazydfa.proofs.ClosingLemmas.{closing_none, closing_more, closing_done}
+use Rattle.lazydfa.proofs.IsClosureLemmas.{closing_none, closing_more, closing_done}
 use Rattle.lazydfa.proofs.close.close.Goals as goal
 
 pub loop-init : goal.loop-init
@@ -15,8 +15,12 @@ returns-then-count-len-clause-closure c =
 
 pub expand-requires-clause-within : goal.expand-requires-clause-within
 expand-requires-clause-within c =
-    c.loop.invariant.within c.index-id.result.now
-    (c.loop.count, (let l = c.len.ensures in let t = c.if-count-len.false in omega (arith, l, t)), sym c.index-id.ensures)
+    c.loop.invariant.within c.index-id.result.now (
+      c.loop.count,
+      (let l = c.len.ensures in let t = c.if-count-len.false in
+          omega (arith, l, t)),
+      sym c.index-id.ensures,
+    )
 
 pub loop-preserved : goal.loop-preserved
 loop-preserved c =
@@ -24,5 +28,6 @@ loop-preserved c =
     (closing_more c.args.tables.now c.args.conts.now.items.items c.args.ids.now.items.items _ _ _ _ c.loop.count
     c.index-id.result.now c.loop.ended c.in_ok-now.now c.loop.invariant
     (slice_get-get_or c.loop.ids.items.items c.loop.count c.index-id.result.now
-    (let l = c.len.ensures in let t = c.if-count-len.false in omega (arith, l, t)) ∙ ap (λ v. Some v) (sym c.index-id.ensures))
+    (let l = c.len.ensures in let t = c.if-count-len.false in omega (arith, l, t))
+    ∙ ap (λ v. Some v) (sym c.index-id.ensures))
     c.in_ok-now.ensures.kept c.in_ok-now.ensures.adds c.in_ok-now.ensures.ended)

@@ -13,12 +13,14 @@ pub returns-then-id-eq0-clause-ended : goal.returns-then-id-eq0-clause-ended
 returns-then-id-eq0-clause-ended c = (
   λ t. absurd (cc t),
   λ e. absurd
-      (subst (λ v. EndsAlone c.args.tables.now v) (stack_none c.args.conts.now.items.items c.args.id c.if-id-eq0.true) e),
+      (subst (λ v. EndsAlone c.args.tables.now v) (stack_none c.args.conts.now.items.items c.args.id
+      c.if-id-eq0.true) e),
 )
 
 pub returns-then-not-deed-clause-adds : goal.returns-then-not-deed-clause-adds
 returns-then-not-deed-clause-adds c =
-    goes_call c.args.tables.now c.cont_at-cont.result.node c.cont_at-cont.result.step _ _ c.cont_at-cont.ensures.is _ _ _
+    goes_call c.args.tables.now c.cont_at-cont.result.node c.cont_at-cont.result.step _ _ c.cont_at-cont.ensures.is
+    _ _ _
     (inl (not_true _ _ c.if-not-deed.true c.deed_of-deed.ensures.done)) c.in_ok-call_on.ensures.adds
 
 pub returns-then-not-deed-clause-ended : goal.returns-then-not-deed-clause-ended
@@ -30,7 +32,8 @@ returns-then-not-deed-clause-ended c = (
 
 pub returns-then-cont-eq0-clause-adds : goal.returns-then-cont-eq0-clause-adds
 returns-then-cont-eq0-clause-adds c =
-    goes_call c.args.tables.now c.cont_at-cont.result.node c.cont_at-cont.result.step _ _ c.cont_at-cont.ensures.is _ _ _
+    goes_call c.args.tables.now c.cont_at-cont.result.node c.cont_at-cont.result.step _ _ c.cont_at-cont.ensures.is
+    _ _ _
     (inr (stack_none c.args.conts.now.items.items c.cont_at-cont.result.next c.if-cont-eq0.true))
     c.in_ok-call_on.ensures.adds
 
@@ -56,6 +59,7 @@ pub returns-clause-ended : goal.returns-clause-ended
 returns-clause-ended c = (
   λ t. absurd (cc t),
   λ e. absurd (ends_not c.args.tables.now c.cont_at-cont.result.node c.cont_at-cont.result.step _ _
-      c.cont_at-cont.ensures.is (inr (some_stack c.args.conts.now.items.items c.cont_at-cont.result.next c.requires.older
+      c.cont_at-cont.ensures.is (inr (some_stack c.args.conts.now.items.items c.cont_at-cont.result.next
+      c.requires.older
       (let some = c.if-cont-eq0.false in omega (arith, some)) c.cont_at-cont.ensures.next)) e),
 )

@@ -2,7 +2,7 @@ use Rattle.std.proofs.Common.{get_or, refl, subst, sym, ◌∙◌, ap, arith}
 use Rattle.std.specs.Prelude.{Contains, IfSome, Some}
 use Rattle.std.proofs.lemmas.Option.{slice_get-get_or, get_or_from_slice_get}
 use Rattle.lazydfa.specs.Conts.{IsTransition, ReadsFrom}
-use Rattle.lazydfa.proofs.CachedLemmas.{cached_conts, led_cached, led_step}
+use Rattle.lazydfa.proofs.AreCachedLemmas.{cached_conts, led_cached, led_step}
 use Rattle.lazydfa.proofs.fill.lead.Goals as goal
 
 pub any_reads-requires-clause-within : goal.any_reads-requires-clause-within
@@ -44,13 +44,15 @@ returns-clause-cached c =
     c.transition.new.conts.items.items c.state_of.new.cache.conts.items.items c.args.cache.now.states.items
     c.state_of.new.cache.states.items c.args.cache.now.cells.items c.state_of.new.cache.cells.items
     c.index-2.result.now c.deref-2.result.now c.in-Some.front.tops.items c.in-Some.front.ended c.args.state c.in_ok-t.t
-    (get_or c.args.samples.now c.args.class 0) c.requires.cached c.in_ok-told.ensures.kept (ap (λ v. v.items.items) c.in_ok-t.ensures.conts)
+    (get_or c.args.samples.now c.args.class 0) c.requires.cached c.in_ok-told.ensures.kept (ap
+    (λ v. v.items.items) c.in_ok-t.ensures.conts)
     c.in_ok-t.ensures.is c.in_ok-t.ensures.cells
     (slice_get-get_or c.args.cache.now.states.items c.args.state c.index-2.result.now
     (let l = c.len.ensures in let t = c.if-state-len.false in omega (arith, l, t))
     ∙ ap (λ v. Some v) (sym c.index-2.ensures))
     c.deref-2.ensures.value
-    (subst (λ v. IfSome v (λ front. IsTransition c.args.tables.now (get_or c.args.samples.now c.args.class 0) c.args.cache.now.conts.items.items
+    (subst (λ v. IfSome v (λ front. IsTransition c.args.tables.now
+    (get_or c.args.samples.now c.args.class 0) c.args.cache.now.conts.items.items
     c.deref-2.result.now c.transition.new.conts.items.items front.tops.items front.ended)) c.in-Some.is
     c.in_ok-told.ensures.is)
 
@@ -60,12 +62,14 @@ returns-clause-is c = λ d sample.
     c.transition.new.conts.items.items c.state_of.new.cache.conts.items.items c.args.cache.now.states.items
     c.state_of.new.cache.states.items c.args.cache.now.cells.items c.state_of.new.cache.cells.items
     c.index-2.result.now c.deref-2.result.now c.in-Some.front.tops.items c.in-Some.front.ended c.args.state c.in_ok-t.t
-    (get_or c.args.samples.now c.args.class 0) c.requires.cached c.in_ok-told.ensures.kept (ap (λ v. v.items.items) c.in_ok-t.ensures.conts)
+    (get_or c.args.samples.now c.args.class 0) c.requires.cached c.in_ok-told.ensures.kept (ap
+    (λ v. v.items.items) c.in_ok-t.ensures.conts)
     c.in_ok-t.ensures.is c.in_ok-t.ensures.cells
     (slice_get-get_or c.args.cache.now.states.items c.args.state c.index-2.result.now
     (let l = c.len.ensures in let t = c.if-state-len.false in omega (arith, l, t))
     ∙ ap (λ v. Some v) (sym c.index-2.ensures))
     c.deref-2.ensures.value
-    (subst (λ v. IfSome v (λ front. IsTransition c.args.tables.now (get_or c.args.samples.now c.args.class 0) c.args.cache.now.conts.items.items
+    (subst (λ v. IfSome v (λ front. IsTransition c.args.tables.now
+    (get_or c.args.samples.now c.args.class 0) c.args.cache.now.conts.items.items
     c.deref-2.result.now c.transition.new.conts.items.items front.tops.items front.ended)) c.in-Some.is
     c.in_ok-told.ensures.is) d (get_or_from_slice_get c.args.samples.now c.args.class d 0 sample)

@@ -1,7 +1,7 @@
 use Rattle.std.proofs.Common.{◌≡◌, subst, sym, ◌∙◌, ap, arith, Some}
 use Rattle.std.specs.Prelude.{slice_get}
 use Rattle.std.proofs.lemmas.Option.{slice_get-get_or}
-use Rattle.lazydfa.proofs.CachedLemmas.{cell_there}
+use Rattle.lazydfa.proofs.AreCachedLemmas.{cell_there}
 use Rattle.lazydfa.proofs.fill.look.Goals as goal
 
 pub returns-in-Some-get : goal.returns-in-Some-get

@@ -1,5 +1,5 @@
 use Rattle.std.proofs.Common.{arith}
-use Rattle.lazydfa.proofs.CachedLemmas.{cell_written}
+use Rattle.lazydfa.proofs.AreCachedLemmas.{cell_written}
 use Rattle.lazydfa.proofs.fill.write.Goals as goal
 
 pub returns-then-at-len-clause-cached : goal.returns-then-at-len-clause-cached

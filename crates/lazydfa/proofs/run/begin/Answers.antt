@@ -1,8 +1,8 @@
 use Rattle.std.proofs.Common.{subst, ap, arith}
 use Rattle.std.specs.Prelude.{IfSome}
 use Rattle.lazydfa.specs.Cached.{IsStart}
-use Rattle.lazydfa.proofs.CachedLemmas.{cached_conts}
-use Rattle.lazydfa.proofs.AtLemmas.{first_at, begun_cached, begun_at}
+use Rattle.lazydfa.proofs.AreCachedLemmas.{cached_conts}
+use Rattle.lazydfa.proofs.IsAtLemmas.{first_at, begun_cached, begun_at}
 use Rattle.lazydfa.proofs.run.begin.Goals as goal
 
 pub returns-then-len-gt0-clause-is : goal.returns-then-len-gt0-clause-is

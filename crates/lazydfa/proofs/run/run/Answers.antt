@@ -2,7 +2,7 @@ use Rattle.std.proofs.Common.{get_or, subst, sym, ◌∙◌, ap, arith, Some}
 use Rattle.std.specs.Prelude.{IfSome, length}
 use Rattle.std.proofs.lemmas.Option.{slice_get-get_or, slice_get_within, get_or_from_slice_get}
 use Rattle.lazydfa.specs.Cached.{IsStartAt}
-use Rattle.lazydfa.proofs.AtLemmas.{at_start, step_to, step_dead, told_at}
+use Rattle.lazydfa.proofs.IsAtLemmas.{at_start, step_to, step_dead, told_at}
 use Rattle.lazydfa.proofs.run.run.Goals as goal
 
 pub loop-letter-init : goal.loop-letter-init

@@ -1,5 +1,5 @@
 use Rattle.std.proofs.lemmas.Option.{slice_get-get_or}
-use Rattle.lazydfa.proofs.ClosingLemmas.{contains_at}
+use Rattle.lazydfa.proofs.IsClosureLemmas.{contains_at}
 use Rattle.lazydfa.proofs.TransitionLemmas.{readers_kept, readers_done}
 use Rattle.lazydfa.proofs.transition.readers.Goals as goal
 
@@ -10,7 +10,8 @@ top_reads-requires-clause-within c =
 
 pub loop-id-preserved : goal.loop-id-preserved
 loop-id-preserved c =
-    readers_kept c.args.tables.now c.args.conts.now.items.items c.args.ids.now c.loop-id.id-index _ _ _ c.top_reads.result
+    readers_kept c.args.tables.now c.args.conts.now.items.items c.args.ids.now c.loop-id.id-index _ _ _
+    c.top_reads.result
     (slice_get-get_or c.args.ids.now c.loop-id.id-index 0 c.loop-id-test.true) c.top_reads.ensures
     c.in_ok-keep.ensures.kept c.in_ok-keep.ensures.left c.loop-id.invariant
 

@@ -4,7 +4,7 @@ use Rattle.flatgrammar.specs.TableViews.{GiveRoots}
 use Rattle.letters.specs.Letters.{has}
 use Rattle.letters.specs.declared.alphabet.Alphabet.TheVariants.{Bytes}
 use Rattle.stacks.specs.Stacks.{AreUncounted}
-use Rattle.lazydfa.proofs.AtLemmas.{run_tells}
+use Rattle.lazydfa.proofs.IsAtLemmas.{run_tells}
 use Rattle.lazydfa.proofs.automaton.Automaton.judge.Goals as goal
 
 pub returns-clause-derives : goal.returns-clause-derives

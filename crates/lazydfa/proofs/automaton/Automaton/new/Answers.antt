@@ -2,7 +2,7 @@ use Rattle.std.proofs.Common.{subst}
 use Rattle.flatgrammar.specs.NodeSteps.{flat_of}
 use Rattle.stacks.specs.Stacks.{AreUncounted}
 use Rattle.lazydfa.specs.Cached.{AreClasses}
-use Rattle.lazydfa.proofs.CachedLemmas.{cached_none}
+use Rattle.lazydfa.proofs.AreCachedLemmas.{cached_none}
 use Rattle.lazydfa.proofs.automaton.Automaton.new.Goals as goal
 
 pub invariant_of-result : goal.invariant_of-result

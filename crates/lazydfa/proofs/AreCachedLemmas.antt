@@ -1,6 +1,7 @@
 -- What is cached stays so while the cache grows.
 -- Serves: judge.
-use Rattle.std.proofs.Common.{◌≡◌, ℕ, zero, suc, ◌+◌, ◌*◌, ◌/◌, ◌%◌, ◌<◌, ◌≤◌, Bool, List, [], ◌∷◌, ◌++◌, length, refl, sym, ◌∙◌, ap}
+use Rattle.std.proofs.Common.{◌≡◌, ℕ, zero, suc, ◌+◌, ◌*◌, ◌/◌, ◌%◌, ◌<◌, ◌≤◌, Bool, List, [], ◌∷◌, ◌++◌, length}
+use Rattle.std.proofs.Common.{refl, sym, ◌∙◌, ap}
 use Rattle.std.proofs.Common.{subst, arith, ◌⊎◌, inl, inr}
 use Rattle.std.proofs.lemmas.List.{append-nil}
 use Rattle.std.proofs.lemmas.Bool.{cases_lt}
@@ -19,7 +20,7 @@ use Rattle.lazydfa.specs.declared.cache.Cell.TheVariants.{Unknown, Over, Dead, T
 use Rattle.lazydfa.specs.Conts.{stack_of, AreKept, IsStackOf, GoesOn, here, on, ReadsOn, ReadsFrom, IsTransition}
 use Rattle.lazydfa.specs.Cached.{IsStart, AreGrown, IsStateOf, IsInterned, IsStep, IsCell, AreCached, AreAddedUnknown}
 use Rattle.lazydfa.proofs.ContsLemmas.{kept_stack, kept_within, kept_same}
-use Rattle.lazydfa.proofs.ClosingLemmas.{stands_at}
+use Rattle.lazydfa.proofs.IsClosureLemmas.{stands_at}
 
 module _ (old new : List Cont) (kept : AreKept old new) where
   module _ (tops : List ℕ) (within : (id : ℕ) → Contains tops id → id ≤ length old) where
@@ -111,7 +112,8 @@ cell_kept tables d old new states more s Over kept grown within h = tt
 cell_kept tables d old new states more s Dead kept grown within h = record {
   from = h.from;
   from_is = grown_at states more grown s h.from h.from_is;
-  none = λ stack r. h.none stack (reads_off old new kept h.from.tops.items (within s h.from h.from_is) tables d stack r);
+  none = λ stack r. h.none stack (reads_off old new kept h.from.tops.items
+      (within s h.from h.from_is) tables d stack r);
 }
 cell_kept tables d old new states more s (To t) kept grown within h = record {
   from = h.from;
@@ -199,7 +201,8 @@ module _ (tables : code_flat.Tables) (samples : List ℕ) where
       by i d cell there sample (inr le) (inl more) = other i d cell (λ e. omega (arith, more, e)) there sample
       by i d cell there sample (inr le) (inr ge) =
           let here : at_i ≡ i = omega (arith, le, ge) in
-          let both : Some new ≡ Some cell = sym (set_same cells at_i new lt) ∙ subst (λ v. slice_get (set cells at_i new) v ≡ Some cell) (sym here) there in
+          let both : Some new ≡ Some cell = sym (set_same cells at_i new lt)
+          ∙ subst (λ v. slice_get (set cells at_i new) v ≡ Some cell) (sym here) there in
           let same : new ≡ cell = cc both in
           subst (λ v. IsCell tables d conts states (v / length samples) cell) here
           (subst (λ v. IsCell tables d conts states (at_i / length samples) v) same
@@ -312,7 +315,8 @@ module _ (tables : code_flat.Tables) (samples : List ℕ) (conts mid new : List 
         to_is = interned.is.is;
         is = transition_kept tables v conts mid mid mid from.tops.items interned.is.state.tops.items
             interned.is.state.ended kept (kept_same mid) (cached.within s from at_s)
-            (subst (λ w. IsTransition tables v conts w mid interned.is.state.tops.items interned.is.state.ended) tops_are
+            (subst (λ w. IsTransition tables v conts w mid interned.is.state.tops.items interned.is.state.ended)
+            tops_are
             (subst (λ w. IsTransition tables v conts tops mid w interned.is.state.ended) (sym interned.is.tops_are)
             (subst (λ w. IsTransition tables v conts tops mid next w) (sym interned.is.ended_is) is)));
       }))

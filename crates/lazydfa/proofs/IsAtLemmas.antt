@@ -1,6 +1,7 @@
 -- States along a line.
 -- Serves: judge.
-use Rattle.std.proofs.Common.{◌≡◌, ℕ, zero, suc, ◌+◌, ◌<◌, ◌≤◌, Bool, true, List, [], ◌∷◌, ◌++◌, length, refl, sym, ◌∙◌, ap}
+use Rattle.std.proofs.Common.{◌≡◌, ℕ, zero, suc, ◌+◌, ◌<◌, ◌≤◌, Bool, true, List, [], ◌∷◌, ◌++◌, length, refl, sym}
+use Rattle.std.proofs.Common.{◌∙◌, ap}
 use Rattle.std.proofs.Common.{subst, arith, ◌⊎◌, inl, inr, ◌↔◌, append-nil}
 use Rattle.std.proofs.lemmas.Bool.{cases_lt}
 use Rattle.std.specs.Prelude.{slice_get, Option, Some, None, Contains, IfSome}
@@ -13,11 +14,14 @@ use Rattle.flatgrammar.proofs.CallOfLemmas.{begun_starts}
 use Rattle.lazydfa.specs.declared.conts.Cont.{Cont}
 use Rattle.lazydfa.specs.declared.cache.State.{State}
 use Rattle.stacks.specs.Stacks as st
-use Rattle.stacks.specs.Stacks.{IsDoneAt, Moves, Led, led, moves, Reach, Accepts, ReadBy, IsReading, reading, Lifted, IsFront, IsPlain, AreAlike, Empties}
-use Rattle.lazydfa.specs.Conts.{last_of, AreKept, Adds, Begun, IsStackOf, TopReads, GoesOn, here, on, EndsAlone, IsClosure, AreReaders, ReadsFrom, IsTransition}
+use Rattle.stacks.specs.Stacks.{IsDoneAt, Moves, Led, led, moves, Reach, Accepts, ReadBy, IsReading, reading, Lifted}
+use Rattle.stacks.specs.Stacks.{IsFront, IsPlain, AreAlike, Empties}
+use Rattle.lazydfa.specs.Conts.{last_of, AreKept, Adds, Begun, IsStackOf, TopReads, GoesOn, here, on, EndsAlone}
+use Rattle.lazydfa.specs.Conts.{IsClosure, AreReaders, ReadsFrom, IsTransition}
 use Rattle.lazydfa.specs.declared.cache.Cell.{Cell}
 use Rattle.lazydfa.specs.declared.cache.Cell.TheVariants.{Dead, To}
-use Rattle.lazydfa.specs.Cached.{IsBegun, IsStart, IsStartAt, IsAt, AreGrown, IsStep, IsDead, IsCell, AreCached, AreClasses, IsInterned, AreAddedUnknown}
+use Rattle.lazydfa.specs.Cached.{IsBegun, IsStart, IsStartAt, IsAt, AreGrown, IsStep, IsDead, IsCell, AreCached}
+use Rattle.lazydfa.specs.Cached.{AreClasses, IsInterned, AreAddedUnknown}
 use Rattle.std.proofs.Common.{get_or}
 use Rattle.std.proofs.lemmas.Option.{slice_get-get_or}
 use Rattle.abnfread.specs.Element.{Rule}
@@ -27,12 +31,12 @@ use Rattle.flatgrammar.proofs.RuleDerivesLemmas.{derives_exactly}
 use Rattle.stacks.specs.Stacks.{AreUncounted}
 use Rattle.lazydfa.proofs.MoveLemmas.{tells_last}
 use Rattle.stacks.proofs.StacksLemmas.{accepted_holds, holds_accepted}
-use Rattle.lazydfa.proofs.CachedLemmas.{cached_state, cached_conts}
+use Rattle.lazydfa.proofs.AreCachedLemmas.{cached_state, cached_conts}
 use Rattle.lazydfa.proofs.MoveLemmas.{whole_begun, from_goes, to_goes, done_told, told_done}
 use Rattle.stacks.proofs.LiftLemmas.{rests_empty}
 use Rattle.lazydfa.proofs.TellLemmas.{transition_next, told_top, top_told, from_read}
-use Rattle.stacks.proofs.FrontLemmas.{taken, next_front, nothing_below}
-use Rattle.lazydfa.proofs.CachedLemmas.{stack_on, stack_off, goes_as, grown_at}
+use Rattle.stacks.proofs.FrontLemmas.{taken_by_tops, next_front, nothing_below}
+use Rattle.lazydfa.proofs.AreCachedLemmas.{stack_on, stack_off, goes_as, grown_at}
 
 pub begun_within : (tables : code_flat.Tables) (root : ℕ) (mid : List Cont) (ids read : List ℕ) (under : List Place)
     → ids ≡ [] → Adds mid (Begun root (begin_count tables root) under) ids read → (id : ℕ) → Contains read id
@@ -45,15 +49,16 @@ module _ (tables : code_flat.Tables) (root : ℕ) (mid conts : List Cont) (ids r
     (is_root : whole_root tables ≡ Some root) (under : List Place) (none_under : under ≡ []) (none : ids ≡ [])
     (adds : Adds mid (Begun root (begin_count tables root) under) ids read)
     (closure : IsClosure tables mid read conts all ended) (readers : AreReaders tables conts all next) where
-  added : (id : ℕ) → Contains read id → Contains adds.added id
-  added id h = subst (λ v. Contains v id) (adds.grown ∙ ap (λ v. v ++ adds.added) none) h
+  reads_added : (id : ℕ) → Contains read id → Contains adds.added id
+  reads_added id h = subst (λ v. Contains v id) (adds.grown ∙ ap (λ v. v ++ adds.added) none) h
 
   to_begun : (s : List Place) → IsStackOf mid read s → IsBegun tables s
   to_begun s h = record {
     root = root;
     is = is_root;
     begun = subst (λ v. Begun root (begin_count tables root) v s) none_under
-        (subst (λ v. Begun root (begin_count tables root) under v) (sym h.is) (adds.sound h.id (added h.id h.stands)).1);
+        (subst (λ v. Begun root (begin_count tables root) under v) (sym h.is) (adds.sound h.id
+        (reads_added h.id h.stands)).1);
   }
 
   of_begun : (s : List Place) → IsBegun tables s → IsStackOf mid read s
@@ -79,7 +84,8 @@ module _ (tables : code_flat.Tables) (root : ℕ) (mid conts : List Cont) (ids r
       there stack s =
           let o = readers.only s.id s.stands in (
             subst (λ v. TopReads tables v) (sym s.is) o.1,
-            goes_as tables _ _ to_begun stack ((closure.stacks stack).0 (record { id = s.id; stands = o.0; is = s.is })),
+            goes_as tables _ _ to_begun stack ((closure.stacks stack).0
+                (record { id = s.id; stands = o.0; is = s.is })),
           )
 
       back : (stack : List Place) → TopReads tables stack → GoesOn tables (IsBegun tables) stack
@@ -137,8 +143,8 @@ module _ (tables : code_flat.Tables) (roots : GiveRoots (flat_of tables) tables.
         let both : Some at_j.state ≡ Some from = sym (grown_at states more grown s at_j.state at_j.is) ∙ is in
         cc both
 
-    plain : IsPlain (flat_of tables) (last_of tables) x j (IsStackOf new at_j.state.tops.items) []
-    plain =
+    plain_at : IsPlain (flat_of tables) (last_of tables) x j (IsStackOf new at_j.state.tops.items) []
+    plain_at =
         nothing_below (flat_of tables) (last_of tables) x j (IsStackOf new at_j.state.tops.items) at_j.state.ended
         (front_as (flat_of tables) (last_of tables) x j (IsStackOf old at_j.state.tops.items)
         (IsStackOf new at_j.state.tops.items) at_j.state.ended []
@@ -150,7 +156,7 @@ module _ (tables : code_flat.Tables) (roots : GiveRoots (flat_of tables) tables.
       state = step.to;
       is = step.to_is;
       front = next_front (flat_of tables) (last_of tables) x j c d letter alike (IsStackOf new at_j.state.tops.items) []
-          plain (IsStackOf new step.to.tops.items) step.to.ended
+          plain_at (IsStackOf new step.to.tops.items) step.to.ended
           (transition_next tables roots d new at_j.state.tops.items new step.to.tops.items step.to.ended
           (subst (λ v. IsTransition tables d new v.tops.items new step.to.tops.items step.to.ended)
           (sym (same_state step.from step.from_is)) step.is));
@@ -159,8 +165,9 @@ module _ (tables : code_flat.Tables) (roots : GiveRoots (flat_of tables) tables.
     pub at_dead : IsDead tables d new more s → (k : ℕ) → j < k → Accepts (flat_of tables) (last_of tables) x k → ⊥
     at_dead dead k lt a =
         let r = reach_past (flat_of tables) (last_of tables) x j a.reached lt in
-        let t = (taken (flat_of tables) (last_of tables) x j c d letter alike (IsStackOf new at_j.state.tops.items) []
-        plain).0 r in
+        let t = (taken_by_tops (flat_of tables) (last_of tables) x j c d letter alike
+        (IsStackOf new at_j.state.tops.items) []
+        plain_at).0 r in
         dead.none t.0 (subst (λ v. ReadsFrom tables d new v.tops.items t.0) (same_state dead.from dead.from_is)
         (from_read tables roots d new at_j.state.tops.items t.1))
 
@@ -194,10 +201,10 @@ module _ (tables : code_flat.Tables) (roots : GiveRoots (flat_of tables) tables.
     ends_so : (p : Place) → IsDoneAt (flat_of tables) p → EndsAlone tables (p ∷ [])
     ends_so (at n k) d = (done_told tables roots d, refl)
 
-    accepted : (stack : List Place) → Reach (flat_of tables) (last_of tables) x 0 stack → EndsAlone tables stack
+    accepted_so : (stack : List Place) → Reach (flat_of tables) (last_of tables) x 0 stack → EndsAlone tables stack
         → Accepts (flat_of tables) (last_of tables) x 0
-    accepted [] h e = absurd e
-    accepted (at n k ∷ below) h e = record {
+    accepted_so [] h e = absurd e
+    accepted_so (at n k ∷ below) h e = record {
       place = at n k;
       reached = subst (λ v. Reach (flat_of tables) (last_of tables) x 0 (at n k ∷ v)) e.1 h;
       done = told_done tables roots n k (slice_get tables.nodes.items n) refl e.0;
@@ -220,7 +227,7 @@ module _ (tables : code_flat.Tables) (roots : GiveRoots (flat_of tables) tables.
         all_read = λ top h. told_top tables top ((s.start.tops_are top).0 h).0;
         accepts = (
           λ a. (s.start.ended_is.1 (a.place ∷ [], from_reach a.reached refl, ends_so a.place a.done), inl refl),
-          λ h. let e = s.start.ended_is.0 h.0 in accepted e.0 (to_reach e.1) e.2,
+          λ h. let e = s.start.ended_is.0 h.0 in accepted_so e.0 (to_reach e.1) e.2,
         );
       };
     }
@@ -233,7 +240,8 @@ module _ (tables : code_flat.Tables) (roots : GiveRoots (flat_of tables) tables.
             subst (λ v. Reach (flat_of tables) (last_of tables) x 0 v) (sym (h.stack_is ∙ append-nil h.top))
             (to_reach ((s.start.tops_are h.top).0 h.is).1)
         back stack r (inr h) =
-            absurd (subst (λ v. TopReads tables v) (rests_empty (flat_of tables) (last_of tables) h.1) (top_told tables r))
+            absurd (subst (λ v. TopReads tables v) (rests_empty (flat_of tables) (last_of tables) h.1)
+            (top_told tables r))
 
   module _ (x : List ℕ) (old new : List Cont) (states more : List State) (kept : AreKept old new)
       (grown : AreGrown states more) (s j c k : ℕ) (at_j : IsAt tables old states s x j) (class_of samples : List ℕ)
@@ -241,20 +249,20 @@ module _ (tables : code_flat.Tables) (roots : GiveRoots (flat_of tables) tables.
       (classes : AreClasses (flat_of tables) class_of samples) (letter : slice_get x j ≡ Some c)
       (class : slice_get class_of c ≡ Some k) (cell : Cell)
       (is : (d : ℕ) → slice_get samples k ≡ Some d → IsCell tables d new more s cell) where
-    sample : slice_get samples k ≡ Some (get_or samples k 0)
-    sample = slice_get-get_or samples k 0 (classes.within c k class)
+    sample_is : slice_get samples k ≡ Some (get_or samples k 0)
+    sample_is = slice_get-get_or samples k 0 (classes.within c k class)
 
     pub step_to : (t : ℕ) → cell ≡ To t → IsAt tables new more t x (j + 1)
     step_to t to =
         at_next x old new states more kept grown s j c (get_or samples k 0) at_j
-        (cached.within s at_j.state at_j.is) letter (classes.alike c k (get_or samples k 0) class sample) t
-        (subst (λ v. IsCell tables (get_or samples k 0) new more s v) to (is (get_or samples k 0) sample))
+        (cached.within s at_j.state at_j.is) letter (classes.alike c k (get_or samples k 0) class sample_is) t
+        (subst (λ v. IsCell tables (get_or samples k 0) new more s v) to (is (get_or samples k 0) sample_is))
 
     pub step_dead : cell ≡ Dead → (m : ℕ) → j < m → Accepts (flat_of tables) (last_of tables) x m → ⊥
     step_dead dead m lt a =
         at_dead x old new states more kept grown s j c (get_or samples k 0) at_j
-        (cached.within s at_j.state at_j.is) letter (classes.alike c k (get_or samples k 0) class sample)
-        (subst (λ v. IsCell tables (get_or samples k 0) new more s v) dead (is (get_or samples k 0) sample)) m lt a
+        (cached.within s at_j.state at_j.is) letter (classes.alike c k (get_or samples k 0) class sample_is)
+        (subst (λ v. IsCell tables (get_or samples k 0) new more s v) dead (is (get_or samples k 0) sample_is)) m lt a
 
 pub told_at : (tables : code_flat.Tables) (conts : List Cont) (states : List State) (s : ℕ) (x : List ℕ) (j : ℕ)
     (got : State) (at_j : IsAt tables conts states s x j) → j ≡ length x → got ≡ at_j.state

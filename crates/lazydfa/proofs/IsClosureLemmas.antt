@@ -1,6 +1,7 @@
 -- How a closure comes about.
 -- Serves: judge.
-use Rattle.std.proofs.Common.{◌≡◌, ℕ, zero, suc, ◌+◌, ◌<◌, ◌≤◌, Bool, true, false, ◌||◌, List, [], ◌∷◌, ◌++◌, length, refl, sym, ◌∙◌, ap}
+use Rattle.std.proofs.Common.{◌≡◌, ℕ, zero, suc, ◌+◌, ◌<◌, ◌≤◌, Bool, true, false, ◌||◌, List, [], ◌∷◌, ◌++◌, length}
+use Rattle.std.proofs.Common.{refl, sym, ◌∙◌, ap}
 use Rattle.std.proofs.Common.{subst, arith, ◌⊎◌, inl, inr, ◌↔◌}
 use Rattle.std.proofs.lemmas.Bool.{cases_lt}
 use Rattle.std.proofs.lemmas.List.Elements.{Contains-append_left, Contains-append_cases}
@@ -9,7 +10,8 @@ use Rattle.std.specs.Prelude.{slice_get, Some, Contains, IsTrue}
 use Rattle.flatgrammar.specs.Flat.{Place}
 use Rattle.flatgrammar.specs.declared.tables.Tables as code_flat
 use Rattle.lazydfa.specs.declared.conts.Cont.{Cont}
-use Rattle.lazydfa.specs.Conts.{stack_of, AreKept, Adds, Goes, EndsAlone, GoesOn, here, on, IsStackOf, IsClosing, IsClosure}
+use Rattle.lazydfa.specs.Conts.{stack_of, AreKept, Adds, Goes, EndsAlone, GoesOn, here, on, IsStackOf, IsClosing}
+use Rattle.lazydfa.specs.Conts.{IsClosure}
 use Rattle.lazydfa.proofs.ContsLemmas.{kept_same, kept_both, kept_stack, kept_within}
 
 get_left : (xs ys : List ℕ) (k : ℕ) → k < length xs → slice_get (xs ++ ys) k ≡ slice_get xs k
