@@ -95,10 +95,12 @@ fn next_step<W, J: Judge<W>, R: Source, O: Sink>(
     out: &mut O,
 ) -> Result<Step, WriteFault>
     requires served { limit ≤ J.served judge.now }
+    requires work { J.works_in judge.now work.old }
     requires capacity { capacity_of feed.old ≡ limit + 1 }
     requires counted { at.count ≤ at.place }
     requires within { at.place ≤ input_limit }
     requires told { IsTrueOfReader R.remaining R.failed feed.old }
+    ensures work { J.works_in judge.now work.new }
     ensures loan { SameLoan feed.old feed.new }
     ensures told { IsTrueOfReader R.remaining R.failed feed.new }
     ensures grows { Grows R.remaining feed.old feed.new }
@@ -130,10 +132,12 @@ fn answer_lines<W, J: Judge<W>, R: Source, O: Sink>(
     out: &mut O,
 ) -> Result<Stop, WriteFault>
     requires served { limit ≤ J.served judge.now }
+    requires work { J.works_in judge.now work.old }
     requires capacity { capacity_of feed.old ≡ limit + 1 }
     requires empty { bytes_of feed.old ≡ [] }
     requires allowance { allowance_of feed.old ≡ input_limit }
     requires told { IsTrueOfReader R.remaining R.failed feed.old }
+    ensures work { J.works_in judge.now work.new }
     ensures loan { SameLoan feed.old feed.new }
     ensures told { IsTrueOfReader R.remaining R.failed feed.new }
     ensures lines { (seen : List ℕ) × Consumes (R.remaining (reader_of feed.old)) (R.remaining
@@ -168,7 +172,8 @@ fn answer_lines<W, J: Judge<W>, R: Source, O: Sink>(
 }
 
 /// Judges the lines of what a reader gives, and writes the answer to each: `yes`, `no`, or `no` and a number. The
-/// reader may not have failed before, and the judge must serve lines of `limit` bytes.
+/// reader may not have failed before, and the judge must serve lines of `limit` bytes and be able to work in that
+/// memory.
 ///
 /// - A line ends before an LF, and a last piece without LF is a line if it is not empty. A CR belongs to its line.
 /// - The first line of more than `limit` bytes ends the run: `LongLine` with its number from 1 and the limit. So it is
@@ -187,6 +192,7 @@ pub fn run_lines<W, J: Judge<W>, R: Source, O: Sink>(
 ) -> Result<Stop, WriteFault>
     requires small { limit ≤ MAX_LIMIT }
     requires served { limit ≤ J.served judge.now }
+    requires work { J.works_in judge.now work.old }
     requires reader_is_fresh { R.failed reader.old ≡ false }
     ensures { Performs (LinesReply (J.told judge.now) limit)
         (passed R.remaining R.failed reader.old reader.new) (passed O.contents O.failed out.old out.new) result }
