@@ -1,5 +1,6 @@
 //! The lines of an input, judged by a grammar.
-ghost use Rattle.std.specs.Prelude.{◌≡◌, ◌≤◌, ℕ, Bool, List, false, true, length, map, IfOk};
+ghost use Rattle.std.specs.Prelude.{◌≡◌, ◌↔◌, ◌≤◌, ℕ, Bool, List, false, true, length, map, IfOk, IfSome, IsTrue};
+ghost use Rattle.abnfcheck.specs.Derivable.{RuleDerives};
 ghost use Rattle.abnfread.specs.Element.{Rule};
 ghost use Rattle.abnfread.specs.AbnfViews.{rules_of};
 ghost use Rattle.abnfrun.specs.AbnfReply.{IsAnswerTo, JudgeReply};
@@ -16,6 +17,7 @@ use abnfcheck::{SoundAbnf, derivation_is_decided, furthest_is_found};
 use earley::{Chart, Verdict, judge, viable};
 use feed::Source;
 use flatgrammar::{Flat, lower};
+use lazydfa::Automaton;
 use letters::{Alphabet, CodePoint, Letter, decode, utf8_is_decided, utf8_len};
 use lines::{Answer, Judge, run_lines};
 use ruletable::{Memory, Sink, WriteFault};
@@ -36,11 +38,18 @@ pub struct LineJudge<'a> {
         ∥₁ },
 }
 
-/// The memory that lines are judged in: the item sets of a line, and its code points.
+/// The memory that a chart judges lines in: the item sets of a line, and its code points.
 #[derive(Drop)]
-pub struct Work {
+struct ChartWork {
     chart: Chart,
     points: Vec<CodePoint>,
+}
+
+/// The memory that lines are judged in: that of a chart, and the automaton that is asked first, if there is one.
+#[derive(Drop)]
+pub struct Work {
+    of_chart: ChartWork,
+    automaton: Option<Automaton>,
 }
 
 /// Returns nothing. Its contract is a law: each line has an answer.
@@ -76,14 +85,47 @@ fn judge_letters<L: Letter>(
     if yes { Ok(Answer::Yes) } else { Ok(Answer::No) }
 }
 
-/// Returns the answer to a line of bytes. `Memory` if an allocation fails.
-fn judge_bytes(judges: &LineJudge<'_>, chart: &mut Chart, line: &[u8]) -> Result<Answer, Memory>
-    requires letters { judges.now.letters ≡ Alphabet.Bytes }
+/// Tells whether the judged rule derives a line of bytes, if there is an automaton and it can tell.
+fn told_by_automaton(
+    judges: &LineJudge<'_>,
+    automaton: &mut Option<Automaton>,
+    line: &[u8],
+) -> Option<bool>
     requires within { length line.now ≤ judges.now.flat.limit }
-    ensures { IfOk result (IsAnswerTo Alphabet.Bytes judges.now.viable (rules_of judges.now.grammar.now.rules)
+    requires flat { IfSome automaton.old (λ a. a ≡ judges.now.flat) }
+    ensures flat { IfSome automaton.new (λ a. a ≡ judges.now.flat) }
+    ensures told { IfSome result (λ yes. IsLowered (rules_of judges.now.grammar.now.rules) judges.now.grammar.now.judged
+        judges.now.flat → IsTrue yes ↔ RuleDerives (has Alphabet.Bytes) (rules_of judges.now.grammar.now.rules)
         judges.now.grammar.now.judged line.now) }
 {
-    let said = judge_letters(judges, chart, line)?;
+    let Some(automaton) = automaton else {
+        return None;
+    };
+    match automaton.judge(line) {
+        Ok(told) => told,
+        Err(Memory) => None,
+    }
+}
+
+/// Returns the answer to a line of bytes: that of the automaton, or else that of the chart. `Memory` if an allocation
+/// fails.
+fn judge_bytes(judges: &LineJudge<'_>, work: &mut Work, line: &[u8]) -> Result<Answer, Memory>
+    requires letters { judges.now.letters ≡ Alphabet.Bytes }
+    requires within { length line.now ≤ judges.now.flat.limit }
+    requires flat { IfSome work.old.automaton (λ a. a ≡ judges.now.flat) }
+    ensures flat { IfSome work.new.automaton (λ a. a ≡ judges.now.flat) }
+    ensures answer { IfOk result (IsAnswerTo Alphabet.Bytes judges.now.viable (rules_of judges.now.grammar.now.rules)
+        judges.now.grammar.now.judged line.now) }
+{
+    derivation_is_decided();
+    if !judges.viable {
+        match told_by_automaton(judges, &mut work.automaton, line) {
+            Some(true) => return Ok(Answer::Yes),
+            Some(false) => return Ok(Answer::No),
+            None => {}
+        }
+    }
+    let said = judge_letters(judges, &mut work.of_chart.chart, line)?;
     Ok(said)
 }
 
@@ -100,7 +142,7 @@ fn torn_by(said: Answer, count: usize) -> Answer
 }
 
 /// Returns the answer to a line that is not UTF-8. `Memory` if an allocation fails.
-fn judge_torn(judges: &LineJudge<'_>, work: &mut Work, line: &[u8]) -> Result<Answer, Memory>
+fn judge_torn(judges: &LineJudge<'_>, work: &mut ChartWork, line: &[u8]) -> Result<Answer, Memory>
     requires letters { judges.now.letters ≡ Alphabet.Utf8 }
     requires viable { judges.now.viable ≡ true }
     requires torn { IsText line.now → ⊥ }
@@ -115,7 +157,7 @@ fn judge_torn(judges: &LineJudge<'_>, work: &mut Work, line: &[u8]) -> Result<An
 }
 
 /// Returns the answer to a line of code points. `Memory` if an allocation fails.
-fn judge_points(judges: &LineJudge<'_>, work: &mut Work, line: &[u8]) -> Result<Answer, Memory>
+fn judge_points(judges: &LineJudge<'_>, work: &mut ChartWork, line: &[u8]) -> Result<Answer, Memory>
     requires letters { judges.now.letters ≡ Alphabet.Utf8 }
     requires within { length line.now ≤ judges.now.flat.limit }
     ensures { IfOk result (IsAnswerTo Alphabet.Utf8 judges.now.viable (rules_of judges.now.grammar.now.rules)
@@ -139,10 +181,12 @@ impl Judge<Work> for LineJudge<'_> {
 
     ghost served = { λ j. j.flat.limit };
 
+    ghost works_in = { λ j work. IfSome work.automaton (λ a. a ≡ j.flat) };
+
     fn judge(&self, work: &mut Work, line: &[u8]) -> Result<Answer, Memory> {
         match self.letters {
-            Alphabet::Bytes => judge_bytes(self, &mut work.chart, line),
-            Alphabet::Utf8 => judge_points(self, work, line),
+            Alphabet::Bytes => judge_bytes(self, work, line),
+            Alphabet::Utf8 => judge_points(self, &mut work.of_chart, line),
         }
     }
 
@@ -166,6 +210,23 @@ fn lowered(alloc: Global, grammar: &SoundAbnf, settings: &Settings<'_>) -> Resul
     lower(alloc, grammar, settings.limit)
 }
 
+/// Returns an automaton that answers the lines that settings ask for: lines of bytes, without viable beginnings. `None`
+/// if there is none, or an allocation fails.
+fn automaton_for(alloc: Global, flat: &Flat, settings: &Settings<'_>) -> Option<Automaton>
+    ensures { IfSome result (λ a. a ≡ flat.now) }
+{
+    if settings.viable {
+        return None;
+    }
+    match settings.letters {
+        Alphabet::Bytes => match Automaton::new(alloc, flat) {
+            Ok(made) => made,
+            Err(Memory) => None,
+        },
+        Alphabet::Utf8 => None,
+    }
+}
+
 /// Judges the lines of what a reader gives by a grammar, and writes the answer to each: `yes`, `no`, or `no` and a
 /// number.
 pub fn judge_lines<R: Source, O: Sink>(
@@ -185,15 +246,20 @@ pub fn judge_lines<R: Source, O: Sink>(
     let Ok(flat) = lowered(alloc, grammar, settings) else {
         return Ok(Stop::NoMemory);
     };
+    let automaton = automaton_for(alloc, &flat, settings);
     let judge = LineJudge {
         grammar,
         letters: settings.letters,
         viable: settings.viable,
         flat,
     };
-    let mut work = Work {
+    let of_chart = ChartWork {
         chart: Chart::new(alloc),
         points: Vec::new(alloc),
+    };
+    let mut work = Work {
+        of_chart,
+        automaton,
     };
     run_lines(alloc, &judge, &mut work, settings.limit, reader, out)
 }

@@ -27,11 +27,15 @@ pub trait Judge<W> {
     ghost told: { Self → List ℕ → Answer → Type 0 };
     /// How many bytes a line may have that is answered.
     ghost served: { Self → ℕ };
+    /// Which memory it can work in.
+    ghost works_in: { Self → W → Type 0 };
 
     /// Returns the line's answer. `Memory` if an allocation fails.
     fn judge(&self, work: &mut W, line: &[u8]) -> Result<Answer, Memory>
-        requires { length line.now ≤ served self.now }
-        ensures { IfOk result (told self.now line.now) };
+        requires served { length line.now ≤ served self.now }
+        requires work { works_in self.now work.old }
+        ensures work { works_in self.now work.new }
+        ensures told { IfOk result (told self.now line.now) };
 
     /// A law: each line has an answer. It does nothing.
     fn decided(&self)
@@ -47,6 +51,8 @@ fn judge_held<W, J: Judge<W>, R: Source>(
 ) -> Result<Answer, Memory>
     requires held { n ≤ length (bytes_of feed.old) }
     requires served { n ≤ J.served judge.now }
+    requires work { J.works_in judge.now work.old }
+    ensures work { J.works_in judge.now work.new }
     ensures same { SameFeed feed.old feed.new }
     ensures answer { IfOk result (J.told judge.now (take n (bytes_of feed.old))) }
 {
@@ -94,7 +100,9 @@ pub fn answer_held<W, J: Judge<W>, R: Source, O: Sink>(
 ) -> Result<Option<Answer>, WriteFault>
     requires held { n ≤ length (bytes_of feed.old) }
     requires served { n ≤ J.served judge.now }
+    requires work { J.works_in judge.now work.old }
     requires out_is_fresh { O.failed out.old ≡ false }
+    ensures work { J.works_in judge.now work.new }
     ensures same { SameFeed feed.old feed.new }
     ensures answered { Answered (J.told judge.now (take n (bytes_of feed.old))) (O.contents out.old)
         (O.contents out.new) result }

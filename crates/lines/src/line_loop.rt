@@ -95,11 +95,13 @@ fn next_step<W, J: Judge<W>, R: Source, O: Sink>(
     out: &mut O,
 ) -> Result<Step, WriteFault>
     requires served { limit ≤ J.served judge.now }
+    requires work { J.works_in judge.now work.old }
     requires capacity { capacity_of feed.old ≡ limit + 1 }
     requires counted { at.count ≤ at.place }
     requires within { at.place ≤ input_limit }
     requires told { IsTrueOfReader R.remaining R.failed R.ended feed.old }
     requires out_is_fresh { O.failed out.old ≡ false }
+    ensures work { J.works_in judge.now work.new }
     ensures loan { SameLoan feed.old feed.new }
     ensures told { IsTrueOfReader R.remaining R.failed R.ended feed.new }
     ensures grows { Grows R.remaining feed.old feed.new }
@@ -131,11 +133,13 @@ fn answer_lines<W, J: Judge<W>, R: Source, O: Sink>(
     out: &mut O,
 ) -> Result<Stop, WriteFault>
     requires served { limit ≤ J.served judge.now }
+    requires work { J.works_in judge.now work.old }
     requires capacity { capacity_of feed.old ≡ limit + 1 }
     requires empty { bytes_of feed.old ≡ [] }
     requires allowance { allowance_of feed.old ≡ input_limit }
     requires told { IsTrueOfReader R.remaining R.failed R.ended feed.old }
     requires out_is_fresh { O.failed out.old ≡ false }
+    ensures work { J.works_in judge.now work.new }
     ensures loan { SameLoan feed.old feed.new }
     ensures told { IsTrueOfReader R.remaining R.failed R.ended feed.new }
     ensures lines { (seen : List ℕ) × Consumes (R.remaining (reader_of feed.old)) (R.remaining
@@ -170,7 +174,8 @@ fn answer_lines<W, J: Judge<W>, R: Source, O: Sink>(
 }
 
 /// Judges the lines of what a reader gives, and writes the answer to each: `yes`, `no`, or `no` and a number. The
-/// reader may neither have failed nor have told its end before, and the judge must serve lines of `limit` bytes.
+/// reader may neither have failed nor have told its end before, and the judge must serve lines of `limit` bytes and be
+/// able to work in that memory.
 ///
 /// - A line ends before an LF, and a last piece without LF is a line if it is not empty. A CR belongs to its line.
 /// - The first line of more than `limit` bytes ends the run: `LongLine` with its number from 1 and the limit. So it is
@@ -189,6 +194,7 @@ pub fn run_lines<W, J: Judge<W>, R: Source, O: Sink>(
 ) -> Result<Stop, WriteFault>
     requires small { limit ≤ MAX_LIMIT }
     requires served { limit ≤ J.served judge.now }
+    requires work { J.works_in judge.now work.old }
     requires reader_is_fresh { R.failed reader.old ≡ false }
     requires reader_is_open { R.ended reader.old ≡ false }
     requires out_is_fresh { O.failed out.old ≡ false }

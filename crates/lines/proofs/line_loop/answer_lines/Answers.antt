@@ -14,6 +14,7 @@ loop-said-init g c = record {
   counted = omega arith;
   within = let l = ap length c.requires.empty in omega (arith, l, c.requires.allowance);
   told = c.requires.told;
+  work = c.requires.work;
   loan = refl;
   flag = refl;
   written = ([], refl, rw c.requires.empty (Consumes-same _), λ input a. ([], none, Appends-same _));
@@ -44,6 +45,7 @@ loop-said-preserved g c =
             le,
           );
       told = rw (c.skip.ensures.reader, c.skip.ensures.allowance, c.skip.ensures.flow) c.in-Ok-Answers.ensures.told;
+      work = c.in-Ok-Answers.ensures.work;
       loan = c.skip.ensures.loan ∙ c.in-Ok-Answers.ensures.loan ∙ c.loop-said.invariant.loan;
       flag = search rules;
       written = (

@@ -14,6 +14,7 @@ invariant-loop-said g l = record {
   counted : l.at.count ≤ l.at.place;
   within : l.at.place + length (bytes_of l.feed) + allowance_of l.feed ≡ input_limit;
   told : IsTrueOfReader g.R.Source.remaining g.R.Source.failed g.R.Source.ended l.feed;
+  work : g.J.Judge.works_in l.judge l.work;
   loan : SameLoan l.fn.feed l.feed;
   flag : g.O.Sink.failed l.out ≡ g.O.Sink.failed l.fn.out;
   written : (before : List ℕ) × (length before ≡ l.at.place) ×

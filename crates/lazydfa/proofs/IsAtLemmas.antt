@@ -1,0 +1,336 @@
+-- States along a line.
+-- Serves: judge.
+use Rattle.std.proofs.Common.{◌≡◌, ℕ, zero, suc, ◌+◌, ◌<◌, ◌≤◌, Bool, true, List, [], ◌∷◌, ◌++◌, length, refl, sym}
+use Rattle.std.proofs.Common.{◌∙◌, ap}
+use Rattle.std.proofs.Common.{subst, arith, ◌⊎◌, inl, inr, ◌↔◌, append-nil}
+use Rattle.std.proofs.lemmas.Bool.{cases_lt}
+use Rattle.std.specs.Prelude.{slice_get, Option, Some, None, Contains, IfSome}
+use Rattle.flatgrammar.specs.Flat.{Flat, Place, at}
+use Rattle.flatgrammar.specs.Blocks.{begin_count}
+use Rattle.flatgrammar.specs.NodeSteps.{flat_of}
+use Rattle.flatgrammar.specs.TableViews.{GiveRoots, whole_root, joined}
+use Rattle.flatgrammar.specs.declared.tables.Tables as code_flat
+use Rattle.flatgrammar.proofs.CallOfLemmas.{begun_starts}
+use Rattle.lazydfa.specs.declared.conts.Cont.{Cont}
+use Rattle.lazydfa.specs.declared.cache.State.{State}
+use Rattle.stacks.specs.Stacks as st
+use Rattle.stacks.specs.Stacks.{IsDoneAt, Moves, Led, led, moves, Reach, Accepts, ReadBy, IsReading, reading, Lifted}
+use Rattle.stacks.specs.Stacks.{IsFront, IsPlain, AreAlike, Empties}
+use Rattle.lazydfa.specs.Conts.{last_of, AreKept, Adds, Begun, IsStackOf, TopReads, GoesOn, here, on, EndsAlone}
+use Rattle.lazydfa.specs.Conts.{IsClosure, AreReaders, ReadsFrom, IsTransition}
+use Rattle.lazydfa.specs.declared.cache.Cell.{Cell}
+use Rattle.lazydfa.specs.declared.cache.Cell.TheVariants.{Dead, To}
+use Rattle.lazydfa.specs.Cached.{IsBegun, IsStart, IsStartAt, IsAt, AreGrown, IsStep, IsDead, IsCell, AreCached}
+use Rattle.lazydfa.specs.Cached.{AreClasses, IsInterned, AreAddedUnknown}
+use Rattle.std.proofs.Common.{get_or}
+use Rattle.std.proofs.lemmas.Option.{slice_get-get_or}
+use Rattle.abnfread.specs.Element.{Rule}
+use Rattle.abnfcheck.specs.Derivable.{AreLetters, RuleDerives}
+use Rattle.flatgrammar.specs.Lowered.{IsLowered}
+use Rattle.flatgrammar.proofs.RuleDerivesLemmas.{derives_exactly}
+use Rattle.stacks.specs.Stacks.{AreUncounted}
+use Rattle.lazydfa.proofs.MoveLemmas.{tells_last}
+use Rattle.stacks.proofs.StacksLemmas.{accepted_holds, holds_accepted}
+use Rattle.lazydfa.proofs.AreCachedLemmas.{cached_state, cached_conts}
+use Rattle.lazydfa.proofs.MoveLemmas.{whole_begun, from_goes, to_goes, done_told, told_done}
+use Rattle.stacks.proofs.LiftLemmas.{rests_empty}
+use Rattle.lazydfa.proofs.TellLemmas.{transition_next, told_top, top_told, from_read}
+use Rattle.stacks.proofs.FrontLemmas.{taken_by_tops, next_front, nothing_below}
+use Rattle.lazydfa.proofs.AreCachedLemmas.{stack_on, stack_off, goes_as, grown_at}
+
+pub begun_within : (tables : code_flat.Tables) (root : ℕ) (mid : List Cont) (ids read : List ℕ) (under : List Place)
+    → ids ≡ [] → Adds mid (Begun root (begin_count tables root) under) ids read → (id : ℕ) → Contains read id
+    → id ≤ length mid
+begun_within tables root mid ids read under none adds id h =
+    (adds.sound id (subst (λ v. Contains v id) (adds.grown ∙ ap (λ v. v ++ adds.added) none) h)).0
+
+-- what began, closed, and of that what reads
+module _ (tables : code_flat.Tables) (root : ℕ) (mid conts : List Cont) (ids read all next : List ℕ) (ended : Bool)
+    (is_root : whole_root tables ≡ Some root) (under : List Place) (none_under : under ≡ []) (none : ids ≡ [])
+    (adds : Adds mid (Begun root (begin_count tables root) under) ids read)
+    (closure : IsClosure tables mid read conts all ended) (readers : AreReaders tables conts all next) where
+  reads_added : (id : ℕ) → Contains read id → Contains adds.added id
+  reads_added id h = subst (λ v. Contains v id) (adds.grown ∙ ap (λ v. v ++ adds.added) none) h
+
+  to_begun : (s : List Place) → IsStackOf mid read s → IsBegun tables s
+  to_begun s h = record {
+    root = root;
+    is = is_root;
+    begun = subst (λ v. Begun root (begin_count tables root) v s) none_under
+        (subst (λ v. Begun root (begin_count tables root) under v) (sym h.is) (adds.sound h.id
+        (reads_added h.id h.stands)).1);
+  }
+
+  of_begun : (s : List Place) → IsBegun tables s → IsStackOf mid read s
+  of_begun s b =
+      let both : Some b.root ≡ Some root = sym b.is ∙ is_root in
+      let same : b.root ≡ root = cc both in
+      let w = adds.whole s (subst (λ v. Begun root (begin_count tables root) v s) (sym none_under)
+      (subst (λ v. Begun v (begin_count tables v) [] s) same b.begun)) in
+      record { id = w.0; stands = w.1; is = sym w.2.is }
+
+  pub is_start : IsStart tables conts next ended
+  is_start = record {
+    within = λ id h. closure.within id (readers.only id h).0;
+    tops_are = λ stack. (λ s. there stack s, λ h. back stack h.0 h.1);
+    ended_is = (
+      λ h. let e = closure.ended_is.0 h in (e.0, goes_as tables _ _ to_begun e.0 ((closure.stacks e.0).0 e.1), e.2),
+      λ h. closure.ended_is.1 (h.0, (closure.stacks h.0).1 (goes_as tables _ _ of_begun h.0 h.1), h.2),
+    );
+  }
+    where
+      there : (stack : List Place) → IsStackOf conts next stack → TopReads tables stack
+          × GoesOn tables (IsBegun tables) stack
+      there stack s =
+          let o = readers.only s.id s.stands in (
+            subst (λ v. TopReads tables v) (sym s.is) o.1,
+            goes_as tables _ _ to_begun stack ((closure.stacks stack).0
+                (record { id = s.id; stands = o.0; is = s.is })),
+          )
+
+      back : (stack : List Place) → TopReads tables stack → GoesOn tables (IsBegun tables) stack
+          → IsStackOf conts next stack
+      back stack reads h =
+          let s = (closure.stacks stack).1 (goes_as tables _ _ of_begun stack h) in
+          record {
+            id = s.id;
+            stands = readers.all s.id s.stands (subst (λ v. TopReads tables v) s.is reads);
+            is = s.is;
+          }
+
+-- a front by other words
+front_as : (flat : Flat) (last : Place → Bool) (x : List ℕ) (j : ℕ) (P Q : List Place → Type 0) (ended : Bool)
+    (below : List Place) → ((s : List Place) → P s → Q s) → ((s : List Place) → Q s → P s)
+    → IsFront flat last x j P ended below → IsFront flat last x j Q ended below
+front_as flat last x j P Q ended below to of f = record {
+  reading = λ stack r. (λ h. there stack ((f.reading stack r).0 h), λ h. (f.reading stack r).1 (back stack h));
+  all_read = λ top h. f.all_read top (of top h);
+  accepts = f.accepts;
+}
+  where
+    there : (stack : List Place) → Lifted P below stack ⊎ ((ended ≡ true) × Led flat last (λ v. below ≡ v) stack)
+        → Lifted Q below stack ⊎ ((ended ≡ true) × Led flat last (λ v. below ≡ v) stack)
+    there stack (inl h) = inl (record { top = h.top; is = to h.top h.is; stack_is = h.stack_is })
+    there stack (inr h) = inr h
+
+    back : (stack : List Place) → Lifted Q below stack ⊎ ((ended ≡ true) × Led flat last (λ v. below ≡ v) stack)
+        → Lifted P below stack ⊎ ((ended ≡ true) × Led flat last (λ v. below ≡ v) stack)
+    back stack (inl h) = inl (record { top = h.top; is = of h.top h.is; stack_is = h.stack_is })
+    back stack (inr h) = inr h
+
+-- behind a set that nothing reaches nothing is reached
+reach_past : (flat : Flat) (last : Place → Bool) (x : List ℕ) (j : ℕ) {k : ℕ} {a : List Place}
+    → Reach flat last x k a → j < k → (b : List Place) × Reach flat last x (j + 1) b
+reach_past flat last x j (st.begins h) lt = absurd (omega (arith, lt))
+reach_past flat last x j (st.moved h m) lt = reach_past flat last x j h lt
+reach_past flat last x j (st.has_read {j = i} {r = r} {below = below} h rd is lies) lt =
+    by (λ less. reach_past flat last x j h less) (cases_lt j i)
+  where
+    by : (j < i → (b : List Place) × Reach flat last x (j + 1) b) → (j < i) ⊎ (i ≤ j)
+        → (b : List Place) × Reach flat last x (j + 1) b
+    by ih (inl less) = ih less
+    by ih (inr le) =
+        let same : i ≡ j = omega (arith, le, lt) in
+        (r ∷ below, subst (λ v. Reach flat last x (v + 1) (r ∷ below)) same (st.has_read h rd is lies))
+
+module _ (tables : code_flat.Tables) (roots : GiveRoots (flat_of tables) tables.roots.items) where
+  module _ (x : List ℕ) (old new : List Cont) (states more : List State) (kept : AreKept old new)
+      (grown : AreGrown states more) (s j c d : ℕ) (at_j : IsAt tables old states s x j)
+      (within : (id : ℕ) → Contains at_j.state.tops.items id → id ≤ length old)
+      (letter : slice_get x j ≡ Some c) (alike : AreAlike (flat_of tables) c d) where
+    same_state : (from : State) → slice_get more s ≡ Some from → at_j.state ≡ from
+    same_state from is =
+        let both : Some at_j.state ≡ Some from = sym (grown_at states more grown s at_j.state at_j.is) ∙ is in
+        cc both
+
+    plain_at : IsPlain (flat_of tables) (last_of tables) x j (IsStackOf new at_j.state.tops.items) []
+    plain_at =
+        nothing_below (flat_of tables) (last_of tables) x j (IsStackOf new at_j.state.tops.items) at_j.state.ended
+        (front_as (flat_of tables) (last_of tables) x j (IsStackOf old at_j.state.tops.items)
+        (IsStackOf new at_j.state.tops.items) at_j.state.ended []
+        (stack_on old new kept at_j.state.tops.items within) (stack_off old new kept at_j.state.tops.items within)
+        at_j.front)
+
+    pub at_next : (t : ℕ) → IsStep tables d new more s t → IsAt tables new more t x (j + 1)
+    at_next t step = record {
+      state = step.to;
+      is = step.to_is;
+      front = next_front (flat_of tables) (last_of tables) x j c d letter alike (IsStackOf new at_j.state.tops.items) []
+          plain_at (IsStackOf new step.to.tops.items) step.to.ended
+          (transition_next tables roots d new at_j.state.tops.items new step.to.tops.items step.to.ended
+          (subst (λ v. IsTransition tables d new v.tops.items new step.to.tops.items step.to.ended)
+          (sym (same_state step.from step.from_is)) step.is));
+    }
+
+    pub at_dead : IsDead tables d new more s → (k : ℕ) → j < k → Accepts (flat_of tables) (last_of tables) x k → ⊥
+    at_dead dead k lt a =
+        let r = reach_past (flat_of tables) (last_of tables) x j a.reached lt in
+        let t = (taken_by_tops (flat_of tables) (last_of tables) x j c d letter alike
+        (IsStackOf new at_j.state.tops.items) []
+        plain_at).0 r in
+        dead.none t.0 (subst (λ v. ReadsFrom tables d new v.tops.items t.0) (same_state dead.from dead.from_is)
+        (from_read tables roots d new at_j.state.tops.items t.1))
+
+  join_is : (o : Option (Option ℕ)) (root : ℕ) → o ≡ Some (Some root) → joined o ≡ Some root
+  join_is o root h = ap joined h
+
+  is_joined : (o : Option (Option ℕ)) (root : ℕ) → joined o ≡ Some root → o ≡ Some (Some root)
+  is_joined None root h = absurd (cc h)
+  is_joined (Some o) root h = ap (λ v. Some v) h
+
+  module _ (x : List ℕ) where
+    from_reach : {k : ℕ} {a : List Place} → Reach (flat_of tables) (last_of tables) x k a → k ≡ 0
+        → GoesOn tables (IsBegun tables) a
+    from_reach (st.begins h) none =
+        let b = whole_begun tables roots h in
+        here (record { root = b.0; is = join_is _ b.0 b.1; begun = b.2 })
+    from_reach (st.moved h m) none = on (from_reach h none) (to_goes tables roots m)
+    from_reach (st.has_read h rd is lies) none = absurd (omega (arith, none))
+
+    start_reach : (a : List Place) → IsBegun tables a → Reach (flat_of tables) (last_of tables) x 0 a
+    start_reach a b =
+        subst (λ v. Reach (flat_of tables) (last_of tables) x 0 v) (sym b.begun.is)
+        (st.begins (begun_starts tables roots b.root b.begun.step tables.whole
+        (slice_get tables.nodes.items b.root) refl b.begun.begins
+        ((roots tables.whole b.root).0 (is_joined _ b.root b.is))))
+
+    to_reach : {a : List Place} → GoesOn tables (IsBegun tables) a → Reach (flat_of tables) (last_of tables) x 0 a
+    to_reach (here {stack = s} h) = start_reach s h
+    to_reach (on {stack = s} h g) = st.moved (to_reach h) (from_goes tables roots s g)
+
+    ends_so : (p : Place) → IsDoneAt (flat_of tables) p → EndsAlone tables (p ∷ [])
+    ends_so (at n k) d = (done_told tables roots d, refl)
+
+    accepted_so : (stack : List Place) → Reach (flat_of tables) (last_of tables) x 0 stack → EndsAlone tables stack
+        → Accepts (flat_of tables) (last_of tables) x 0
+    accepted_so [] h e = absurd e
+    accepted_so (at n k ∷ below) h e = record {
+      place = at n k;
+      reached = subst (λ v. Reach (flat_of tables) (last_of tables) x 0 (at n k ∷ v)) e.1 h;
+      done = told_done tables roots n k (slice_get tables.nodes.items n) refl e.0;
+    }
+
+    pub at_start : (conts : List Cont) (states : List State) (t : ℕ) → IsStartAt tables conts states t
+        → IsAt tables conts states t x 0
+    at_start conts states t s = record {
+      state = s.state;
+      is = s.is;
+      front = record {
+        reading = λ stack r. (
+          λ h. inl (record {
+            top = stack;
+            is = (s.start.tops_are stack).1 (top_told tables r, from_reach h refl);
+            stack_is = sym (append-nil stack);
+          }),
+          λ h. back stack r h,
+        );
+        all_read = λ top h. told_top tables top ((s.start.tops_are top).0 h).0;
+        accepts = (
+          λ a. (s.start.ended_is.1 (a.place ∷ [], from_reach a.reached refl, ends_so a.place a.done), inl refl),
+          λ h. let e = s.start.ended_is.0 h.0 in accepted_so e.0 (to_reach e.1) e.2,
+        );
+      };
+    }
+      where
+        back : (stack : List Place) → IsReading (flat_of tables) stack
+            → Lifted (IsStackOf conts s.state.tops.items) [] stack
+            ⊎ ((s.state.ended ≡ true) × Led (flat_of tables) (last_of tables) (λ v. [] ≡ v) stack)
+            → Reach (flat_of tables) (last_of tables) x 0 stack
+        back stack r (inl h) =
+            subst (λ v. Reach (flat_of tables) (last_of tables) x 0 v) (sym (h.stack_is ∙ append-nil h.top))
+            (to_reach ((s.start.tops_are h.top).0 h.is).1)
+        back stack r (inr h) =
+            absurd (subst (λ v. TopReads tables v) (rests_empty (flat_of tables) (last_of tables) h.1)
+            (top_told tables r))
+
+  module _ (x : List ℕ) (old new : List Cont) (states more : List State) (kept : AreKept old new)
+      (grown : AreGrown states more) (s j c k : ℕ) (at_j : IsAt tables old states s x j) (class_of samples : List ℕ)
+      (cells : List Cell) (cached : AreCached tables samples old states cells)
+      (classes : AreClasses (flat_of tables) class_of samples) (letter : slice_get x j ≡ Some c)
+      (class : slice_get class_of c ≡ Some k) (cell : Cell)
+      (is : (d : ℕ) → slice_get samples k ≡ Some d → IsCell tables d new more s cell) where
+    sample_is : slice_get samples k ≡ Some (get_or samples k 0)
+    sample_is = slice_get-get_or samples k 0 (classes.within c k class)
+
+    pub step_to : (t : ℕ) → cell ≡ To t → IsAt tables new more t x (j + 1)
+    step_to t to =
+        at_next x old new states more kept grown s j c (get_or samples k 0) at_j
+        (cached.within s at_j.state at_j.is) letter (classes.alike c k (get_or samples k 0) class sample_is) t
+        (subst (λ v. IsCell tables (get_or samples k 0) new more s v) to (is (get_or samples k 0) sample_is))
+
+    pub step_dead : cell ≡ Dead → (m : ℕ) → j < m → Accepts (flat_of tables) (last_of tables) x m → ⊥
+    step_dead dead m lt a =
+        at_dead x old new states more kept grown s j c (get_or samples k 0) at_j
+        (cached.within s at_j.state at_j.is) letter (classes.alike c k (get_or samples k 0) class sample_is)
+        (subst (λ v. IsCell tables (get_or samples k 0) new more s v) dead (is (get_or samples k 0) sample_is)) m lt a
+
+pub told_at : (tables : code_flat.Tables) (conts : List Cont) (states : List State) (s : ℕ) (x : List ℕ) (j : ℕ)
+    (got : State) (at_j : IsAt tables conts states s x j) → j ≡ length x → got ≡ at_j.state
+    → (got.ended ≡ true) ↔ Accepts (flat_of tables) (last_of tables) x (length x)
+told_at tables conts states s x j got at_j end same = (
+  λ h. subst (λ v. Accepts (flat_of tables) (last_of tables) x v) end
+      (at_j.front.accepts.1 (ap (λ v. v.ended) (sym same) ∙ h, inl refl)),
+  λ a. ap (λ v. v.ended) same
+      ∙ (at_j.front.accepts.0 (subst (λ v. Accepts (flat_of tables) (last_of tables) x v) (sym end) a)).0,
+)
+
+pub some_at : (xs : List State) (k : ℕ) → k < length xs → (x : State) × (slice_get xs k ≡ Some x)
+some_at [] k lt = absurd (omega (arith, lt))
+some_at (x ∷ xs) zero lt = (x, refl)
+some_at (x ∷ xs) (suc k) lt = some_at xs k (omega (arith, lt))
+
+pub first_at : (tables : code_flat.Tables) (samples : List ℕ) (conts : List Cont) (states : List State)
+    (cells : List Cell) → AreCached tables samples conts states cells → 0 < length states
+    → IsStartAt tables conts states 0
+first_at tables samples conts states cells cached lt =
+    let a = some_at states 0 lt in record { state = a.0; is = a.1; start = cached.start a.0 a.1 }
+
+module _ (tables : code_flat.Tables) (samples : List ℕ) (conts mid new : List Cont) (states more : List State)
+    (cells filled : List Cell) (next : List ℕ) (ended : Bool) (t : ℕ)
+    (cached : AreCached tables samples conts states cells) (kept : AreKept conts mid) (same : new ≡ mid)
+    (interned : IsInterned states more next ended t) (unknown : AreAddedUnknown cells filled)
+    (is : IsStart tables mid next ended) where
+  pub begun_cached : AreCached tables samples new more filled
+  begun_cached =
+      subst (λ v. AreCached tables samples v more filled) (sym same)
+      (cached_state tables samples mid states more cells filled next ended t interned unknown is.within (λ none. is)
+      (cached_conts tables samples conts mid states cells kept cached))
+
+  pub begun_at : IsStartAt tables new more t
+  begun_at = record {
+    state = interned.is.state;
+    is = interned.is.is;
+    start = subst (λ c. IsStart tables c interned.is.state.tops.items interned.is.state.ended) (sym same)
+        (subst (λ w. IsStart tables mid w interned.is.state.ended) (sym interned.is.tops_are)
+        (subst (λ w. IsStart tables mid next w) (sym interned.is.ended_is) is));
+  }
+
+-- whether the whole may end tells whether the judged rule derives the line
+pub accepts_tell : (tables : code_flat.Tables) → GiveRoots (flat_of tables) tables.roots.items
+    → AreUncounted (flat_of tables) → (has : ℕ → Bool) (rules : List Rule) (judged : ℕ) (x : List ℕ)
+    → IsLowered rules judged (flat_of tables) → length x ≤ tables.limit → AreLetters has x → (told : Bool)
+    → ((told ≡ true) ↔ Accepts (flat_of tables) (last_of tables) x (length x))
+    → (told ≡ true) ↔ RuleDerives has rules judged x
+accepts_tell tables roots uncounted has rules judged x lowered short letters told is = (
+  λ h. (derives_exactly has rules judged (flat_of tables) lowered x short letters).0
+      (accepted_holds (flat_of tables) uncounted x (last_of tables) (tells_last tables roots) lowered.body lowered.whole
+      (is.0 h)),
+  λ d. is.1 (holds_accepted (flat_of tables) uncounted x (last_of tables) (tells_last tables roots)
+      lowered.body lowered.whole
+      ((derives_exactly has rules judged (flat_of tables) lowered x short letters).1 d)),
+)
+
+abbrev Tells : (ℕ → Bool) → Flat → List ℕ → Bool → Type 0
+Tells has flat x told = (rules : List Rule) (judged : ℕ) → IsLowered rules judged flat → length x ≤ flat.limit
+    → (told ≡ true) ↔ RuleDerives has rules judged x
+
+pub run_tells : (has : ℕ → Bool) (tables : code_flat.Tables) (flat : Flat) (x : List ℕ)
+    → GiveRoots (flat_of tables) tables.roots.items → AreUncounted (flat_of tables) → flat_of tables ≡ flat
+    → AreLetters has x → (told : Option Bool)
+    → IfSome told (λ t. (t ≡ true) ↔ Accepts (flat_of tables) (last_of tables) x (length x))
+    → IfSome told (λ t. (rules : List Rule) (judged : ℕ) → IsLowered rules judged flat → length x ≤ flat.limit
+    → (t ≡ true) ↔ RuleDerives has rules judged x)
+run_tells has tables flat x roots uncounted is letters None h = h
+run_tells has tables flat x roots uncounted is letters (Some told) h =
+    subst (λ v. Tells has v x told) is (λ rules judged lowered short.
+    accepts_tell tables roots uncounted has rules judged x lowered short letters told h)

@@ -1,0 +1,9 @@
+pub mod ContsLemmas
+pub mod IsClosureLemmas
+pub mod MoveLemmas
+pub mod TransitionLemmas
+pub mod TellLemmas
+pub mod AreCachedLemmas
+pub mod IsAtLemmas
+pub mod AreUncountedLemmas
+pub mod AreClassesLemmas

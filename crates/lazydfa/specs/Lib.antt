@@ -1,0 +1,3 @@
+pub mod Cached
+pub mod Conts
+pub mod ClassMarks

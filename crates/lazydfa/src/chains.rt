@@ -1,0 +1,80 @@
+//! Chains of numbers, in which entries are found again by what they hash to. No contract relies on them: whoever finds
+//! a number there compares the entry.
+use ruletable::Memory;
+use std::alloc::Global;
+
+/// For each entry, numbered from 1 on, the entry before it in its chain, and for each chain its last entry. 0 is none.
+#[derive(Drop)]
+pub(crate) struct Chains {
+    links: Vec<usize>,
+    heads: Vec<usize>,
+}
+
+fn get_or_none(numbers: &[usize], at: usize) -> usize {
+    match numbers.get(at) {
+        Some(number) => *number,
+        None => 0,
+    }
+}
+
+impl Chains {
+    /// Returns no chain. It takes no memory.
+    pub(crate) fn new(alloc: Global) -> Chains {
+        Chains {
+            links: Vec::new(alloc),
+            heads: Vec::new(alloc),
+        }
+    }
+
+    // Returns the number of the chain of what hashes to that.
+    fn slot(&self, hash: usize) -> usize {
+        if self.heads.len() > 0 {
+            hash % self.heads.len()
+        } else {
+            0
+        }
+    }
+
+    /// Returns the last entry in the chain of what hashes to that.
+    pub(crate) fn last(&self, hash: usize) -> usize {
+        get_or_none(&self.heads, self.slot(hash))
+    }
+
+    /// Returns the entry before that one in its chain.
+    pub(crate) fn before(&self, entry: usize) -> usize {
+        if entry > 0 {
+            get_or_none(&self.links, entry - 1)
+        } else {
+            0
+        }
+    }
+
+    /// Adds the next entry, which hashes to that. `Memory` if an allocation fails.
+    pub(crate) fn add(&mut self, hash: usize) -> Result<(), Memory> {
+        let slot = self.slot(hash);
+        let last = get_or_none(&self.heads, slot);
+        self.links.push(last)?;
+        if slot < self.heads.len() {
+            self.heads[slot] = self.links.len();
+        }
+        Ok(())
+    }
+
+    /// Forgets all entries and chains.
+    pub(crate) fn clear(&mut self) {
+        self.links.clear();
+        self.heads.clear();
+    }
+
+    /// Tells whether there are fewer chains than entries.
+    pub(crate) fn is_crowded(&self) -> bool {
+        self.heads.len() <= self.links.len()
+    }
+
+    /// Forgets all entries, and makes so many chains. `Memory` if an allocation fails; there is no chain then.
+    pub(crate) fn restart(&mut self, count: usize) -> Result<(), Memory> {
+        self.clear();
+        self.heads.resize(count, 0usize)?;
+        Ok(())
+    }
+}

@@ -1,0 +1,249 @@
+//! Where one continuation goes on without a letter.
+ghost use Rattle.std.specs.Prelude.{◌≡◌, ◌↔◌, ◌||◌, ◌<◌, ◌≤◌, ◌∷◌, ◌+◌, ℕ, true, List, [], IsTrue, IfOk, IfSome};
+ghost use Rattle.std.specs.Prelude.{length, slice_get, Some, Contains};
+ghost use Rattle.flatgrammar.specs.Flat.{Place};
+ghost use Rattle.flatgrammar.specs.Blocks.{begin_count};
+ghost use Rattle.lazydfa.specs.Conts.{AreKept, AreOlder, Adds, IsAdded, stack_of, Begun, IsIdOf, CallMoves, last_of};
+ghost use Rattle.lazydfa.specs.Conts.{after, Goes, EndsAlone, IsClosure};
+
+use crate::conts::{Cont, Conts, id_of};
+use flatgrammar::{Item, Node, Tables, deed_of};
+use ruletable::Memory;
+
+/// Ids, in order, where each of them stands, and over how many of them one may go. These places are not relied on.
+#[derive(Drop)]
+pub(crate) struct Ids {
+    pub(crate) items: Vec<usize>,
+    pub(crate) spots: Vec<usize>,
+    pub(crate) most: usize,
+}
+
+/// Forgets all ids.
+pub(crate) fn empty(ids: &mut Ids)
+    ensures { ids.new.items.items ≡ [] }
+{
+    ids.items.clear();
+}
+
+fn stands(ids: &Ids, id: usize) -> bool
+    ensures { IsTrue result → Contains ids.now.items.items id }
+{
+    match ids.spots.get(id) {
+        Some(spot) => match ids.items.get(*spot) {
+            Some(found) => *found == id,
+            None => false,
+        },
+        None => false,
+    }
+}
+
+// Notes where an id stands.
+fn note_spot(spots: &mut Vec<usize>, id: usize, spot: usize) -> Result<(), Memory> {
+    if id >= spots.len() {
+        spots.resize(id.saturating_mul(2).saturating_add(64), 0usize)?;
+    }
+    if id < spots.len() {
+        spots[id] = spot;
+    }
+    Ok(())
+}
+
+/// Adds an id, if it does not stand there.
+pub(crate) fn add(ids: &mut Ids, id: usize) -> Result<(), Memory>
+    ensures { IfOk result (λ done. IsAdded ids.old.items.items ids.new.items.items id) }
+{
+    if stands(ids, id) {
+        return Ok(());
+    }
+    let spot = ids.items.len();
+    ids.items.push(id)?;
+    note_spot(&mut ids.spots, id, spot)?;
+    Ok(())
+}
+
+/// Returns at how many steps a node begins.
+fn begins(tables: &Tables, node: usize) -> usize
+    ensures { result ≡ begin_count tables.now node }
+{
+    match tables.nodes.get(node) {
+        Some(node) => match node {
+            Node::Letters(_) | Node::Concat(_) | Node::Rep { .. } | Node::Turns { .. } => 1,
+            Node::Alt(members) => members.len(),
+            Node::Opt(_) => 2,
+            Node::Name(_) | Node::Nothing => 0,
+        },
+        None => 0,
+    }
+}
+
+/// Adds the continuations where a root begins, before what is below.
+pub(crate) fn enter(
+    tables: &Tables,
+    root: usize,
+    below: usize,
+    conts: &mut Conts,
+    ids: &mut Ids,
+) -> Result<(), Memory>
+    requires within { below ≤ length conts.old.items.items }
+    requires older { AreOlder conts.old.items.items }
+    ensures kept { IfOk result (λ done. AreKept conts.old.items.items conts.new.items.items) }
+    ensures adds { IfOk result (λ done. Adds conts.new.items.items (Begun root (begin_count tables.now root)
+        (stack_of conts.old.items.items below)) ids.old.items.items ids.new.items.items) }
+{
+    for step in 0..begins(tables, root) {
+        let id = id_of(
+            conts,
+            Cont {
+                node: root,
+                step,
+                next: below,
+            },
+        )?;
+        add(ids, id)?;
+    }
+    Ok(())
+}
+
+/// Tells whether nothing is left to do at a place.
+fn is_last(tables: &Tables, node: usize, step: usize) -> bool
+    ensures { result ≡ last_of tables.now (Place.at node step) }
+{
+    let deed = deed_of(
+        tables,
+        Item {
+            node,
+            step,
+            origin: 0,
+        },
+    );
+    deed.called.is_none() && deed.done && !deed.reads
+}
+
+/// Returns the id of what is left to do in a node, before what is below.
+fn after(
+    tables: &Tables,
+    node: usize,
+    next: usize,
+    below: usize,
+    conts: &mut Conts,
+) -> Result<usize, Memory>
+    requires within { below ≤ length conts.old.items.items }
+    requires older { AreOlder conts.old.items.items }
+    ensures kept { IfOk result (λ id. AreKept conts.old.items.items conts.new.items.items) }
+    ensures is { IfOk result (λ id. IsIdOf conts.new.items.items id (after tables.now node next
+        (stack_of conts.old.items.items below))) }
+{
+    if is_last(tables, node, next) {
+        return Ok(below);
+    }
+    let id = id_of(
+        conts,
+        Cont {
+            node,
+            step: next,
+            next: below,
+        },
+    )?;
+    Ok(id)
+}
+
+/// Adds the continuations where what a place calls begins, before what is left to do after it.
+fn call_on(tables: &Tables, cont: Cont, conts: &mut Conts, ids: &mut Ids) -> Result<(), Memory>
+    requires within { cont.next ≤ length conts.old.items.items }
+    requires older { AreOlder conts.old.items.items }
+    ensures kept { IfOk result (λ done. AreKept conts.old.items.items conts.new.items.items) }
+    ensures adds { IfOk result (λ done. Adds conts.new.items.items (CallMoves tables.now cont.node cont.step
+        (stack_of conts.old.items.items cont.next)) ids.old.items.items ids.new.items.items) }
+{
+    let deed = deed_of(
+        tables,
+        Item {
+            node: cont.node,
+            step: cont.step,
+            origin: 0,
+        },
+    );
+    if let Some((root, next)) = deed.called {
+        let below = after(tables, cont.node, next, cont.next, conts)?;
+        enter(tables, root, below, conts, ids)?;
+    }
+    Ok(())
+}
+
+/// Returns the continuation of an id.
+pub(crate) fn cont_at(conts: &Conts, id: usize) -> Cont
+    requires some { 0 < id }
+    requires within { id ≤ length conts.now.items.items }
+    requires older { AreOlder conts.now.items.items }
+    ensures next { result.next ≤ length conts.now.items.items }
+    ensures is { stack_of conts.now.items.items id ≡ Place.at result.node result.step
+        ∷ stack_of conts.now.items.items result.next }
+{
+    conts.items[id - 1]
+}
+
+/// Adds what a continuation goes on to without a letter, and tells whether it is a place alone whose node is done.
+fn expand(tables: &Tables, id: usize, conts: &mut Conts, ids: &mut Ids) -> Result<bool, Memory>
+    requires within { id ≤ length conts.old.items.items }
+    requires older { AreOlder conts.old.items.items }
+    ensures kept { IfOk result (λ ended. AreKept conts.old.items.items conts.new.items.items) }
+    ensures adds { IfOk result (λ ended. Adds conts.new.items.items (Goes tables.now
+        (stack_of conts.old.items.items id)) ids.old.items.items ids.new.items.items) }
+    ensures ended { IfOk result (λ ended. IsTrue ended ↔ EndsAlone tables.now (stack_of conts.old.items.items id)) }
+{
+    if id == 0 {
+        return Ok(false);
+    }
+    let cont = cont_at(conts, id);
+    call_on(tables, cont, conts, ids)?;
+    let deed = deed_of(
+        tables,
+        Item {
+            node: cont.node,
+            step: cont.step,
+            origin: 0,
+        },
+    );
+    if !deed.done {
+        return Ok(false);
+    }
+    if cont.next == 0 {
+        return Ok(true);
+    }
+    add(ids, cont.next)?;
+    Ok(false)
+}
+
+fn either(a: bool, b: bool) -> bool
+    ensures { result ≡ (a || b) }
+{
+    a || b
+}
+
+/// Adds all that ids go on to without a letter, and tells whether one of them is a place alone whose node is done;
+/// `None` if that goes over more of them than there may be. `Memory` if an allocation fails.
+pub(crate) fn close(
+    tables: &Tables,
+    conts: &mut Conts,
+    ids: &mut Ids,
+) -> Result<Option<bool>, Memory>
+    requires within { (id : ℕ) → Contains ids.old.items.items id → id ≤ length conts.old.items.items }
+    requires older { AreOlder conts.old.items.items }
+    ensures kept { IfOk result (λ told. AreKept conts.old.items.items conts.new.items.items) }
+    ensures closure { IfOk result (λ told. IfSome told (IsClosure tables.now conts.old.items.items ids.old.items.items
+        conts.new.items.items ids.new.items.items)) }
+{
+    let mut ended = false;
+    let mut count = 0;
+    let most = ids.most;
+    for _ in 0..most {
+        if count >= ids.items.len() {
+            return Ok(Some(ended));
+        }
+        let id = ids.items[count];
+        let now = expand(tables, id, conts, ids)?;
+        ended = either(now, ended);
+        count += 1;
+    }
+    Ok(None)
+}

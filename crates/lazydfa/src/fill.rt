@@ -1,0 +1,157 @@
+//! Cells that are filled.
+ghost use Rattle.std.specs.Prelude.{◌≡◌, ◌≤◌, ◌<◌, ◌+◌, ◌*◌, ℕ, List, [], IfOk, IfSome, length, slice_get, Some};
+ghost use Rattle.std.specs.Prelude.{Contains};
+ghost use Rattle.lazydfa.specs.Conts.{AreKept, AreOlder};
+ghost use Rattle.lazydfa.specs.Cached.{IsCache, IsCell, Grows};
+
+use crate::cache::{Cache, Cell, any_reads, forget, state_of};
+use crate::transition::transition;
+use flatgrammar::Tables;
+use ruletable::Memory;
+use std::alloc::Global;
+
+/// Returns where the cell of a state and a class stands.
+fn spot(state: usize, classes: usize, class: usize) -> Option<usize>
+    ensures { IfSome result (λ at. at ≡ state * classes + class) }
+{
+    let row = state.checked_mul(classes)?;
+    row.checked_add(class)
+}
+
+/// Returns the cell of a state and a class.
+pub(crate) fn look(
+    tables: &Tables,
+    samples: &[u32],
+    cache: &Cache,
+    state: usize,
+    class: usize,
+) -> Cell
+    requires cached { IsCache tables.now samples.now cache.now }
+    ensures { (d : ℕ) → slice_get samples.now class ≡ Some d → IsCell tables.now d cache.now.conts.items.items
+        cache.now.states.items state result }
+{
+    if class >= samples.len() {
+        return Cell::Over;
+    }
+    let Some(at) = spot(state, samples.len(), class) else {
+        return Cell::Over;
+    };
+    match cache.cells.get(at) {
+        Some(cell) => *cell,
+        None => Cell::Over,
+    }
+}
+
+/// Keeps the cell of a state and a class, if it has a place.
+fn write(
+    tables: &Tables,
+    samples: &[u32],
+    cache: &mut Cache,
+    state: usize,
+    class: usize,
+    cell: Cell,
+)
+    requires cached { IsCache tables.now samples.now cache.old }
+    requires is { (d : ℕ) → slice_get samples.now class ≡ Some d → IsCell tables.now d cache.old.conts.items.items
+        cache.old.states.items state cell }
+    ensures cached { IsCache tables.now samples.now cache.new }
+    ensures conts { cache.new.conts ≡ cache.old.conts }
+    ensures states { cache.new.states ≡ cache.old.states }
+{
+    if class >= samples.len() {
+        return;
+    }
+    if let Some(at) = spot(state, samples.len(), class) {
+        if at < cache.cells.len() {
+            cache.cells[at] = cell;
+        }
+    }
+}
+
+/// Returns what a letter leads to from a state; the states that it needs are added, and no cell is written.
+fn lead(
+    alloc: Global,
+    tables: &Tables,
+    samples: &[u32],
+    cache: &mut Cache,
+    state: usize,
+    class: usize,
+) -> Result<Cell, Memory>
+    requires cached { IsCache tables.now samples.now cache.old }
+    ensures cached { IfOk result (λ cell. IsCache tables.now samples.now cache.new) }
+    ensures grows { IfOk result (λ cell. Grows cache.old cache.new) }
+    ensures is { IfOk result (λ cell. (d : ℕ) → slice_get samples.now class ≡ Some d → IsCell tables.now d
+        cache.new.conts.items.items cache.new.states.items state cell) }
+{
+    if class >= samples.len() || state >= cache.states.len() {
+        return Ok(Cell::Over);
+    }
+    let value = samples[class];
+    if !any_reads(tables, &cache.states[state].tops, value, &cache.conts) {
+        return Ok(Cell::Dead);
+    }
+    let tops = &cache.states[state].tops;
+    let told = transition(alloc, tables, tops, value, &mut cache.conts, &mut cache.ids)?;
+    let Some(front) = told else {
+        return Ok(Cell::Over);
+    };
+    let t = state_of(cache, samples.len(), front)?;
+    Ok(Cell::To(t))
+}
+
+/// Tells whether a cell may be filled.
+pub(crate) fn may_fill(cache: &Cache) -> bool {
+    let entries = cache.conts.items.len().saturating_add(cache.cells.len());
+    cache.budget.allows(cache.ids.most, entries)
+}
+
+// Takes off what filling a cell of a state took: as many turns as it has tops, and as there were ids to go over.
+fn charge(cache: &mut Cache, state: usize, cell: Cell)
+    ensures conts { cache.new.conts ≡ cache.old.conts }
+    ensures states { cache.new.states ≡ cache.old.states }
+    ensures cells { cache.new.cells ≡ cache.old.cells }
+{
+    let tops = match cache.states.get(state) {
+        Some(state) => state.tops.len(),
+        None => 0,
+    };
+    let ids = match cell {
+        Cell::Dead => 0,
+        Cell::Unknown | Cell::Over | Cell::To(_) => cache.ids.items.len(),
+    };
+    cache
+        .budget
+        .spend(tops.saturating_add(ids).saturating_add(1));
+}
+
+/// Fills the cell of a state and a class, if that may be, and returns it. `Memory` if an allocation fails; all is
+/// forgotten then.
+pub(crate) fn fill(
+    alloc: Global,
+    tables: &Tables,
+    samples: &[u32],
+    cache: &mut Cache,
+    state: usize,
+    class: usize,
+) -> Result<Cell, Memory>
+    requires cached { IsCache tables.now samples.now cache.old }
+    ensures cached { IsCache tables.now samples.now cache.new }
+    ensures grows { IfOk result (λ cell. Grows cache.old cache.new) }
+    ensures is { IfOk result (λ cell. (d : ℕ) → slice_get samples.now class ≡ Some d → IsCell tables.now d
+        cache.new.conts.items.items cache.new.states.items state cell) }
+{
+    if !may_fill(cache) {
+        return Ok(Cell::Over);
+    }
+    match lead(alloc, tables, samples, cache, state, class) {
+        Ok(cell) => {
+            write(tables, samples, cache, state, class, cell);
+            charge(cache, state, cell);
+            Ok(cell)
+        }
+        Err(error) => {
+            forget(cache);
+            Err(error)
+        }
+    }
+}

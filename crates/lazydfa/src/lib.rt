@@ -1,0 +1,15 @@
+//! A lazily built automaton that judges lines of bytes by a flat grammar.
+#![tactic(auto)]
+
+mod automaton;
+mod budget;
+mod cache;
+mod chains;
+mod classes;
+mod close;
+mod conts;
+mod fill;
+mod run;
+mod transition;
+
+pub use automaton::Automaton;

@@ -1,0 +1,154 @@
+//! Transitions.
+ghost use Rattle.std.specs.Prelude.{◌≡◌, ◌↔◌, ◌≤◌, ◌++◌, ◌∷◌, ℕ, true, false, List, [], IsTrue, IfOk, IfSome, length};
+ghost use Rattle.std.specs.Prelude.{Contains};
+ghost use Rattle.lazydfa.specs.Conts.{AreKept, AreOlder, Adds, ReadsOn, ReadsFrom, TopReads, AreReaders, IsTransition};
+ghost use Rattle.lazydfa.specs.Conts.{stack_of};
+
+use crate::close::{Ids, add, close, cont_at, empty};
+use crate::conts::{Cont, Conts, id_of};
+use flatgrammar::{Item, Tables, deed_of, reads};
+use ruletable::Memory;
+use std::alloc::Global;
+
+/// The ids on whose top something is read, and whether the whole may end.
+#[derive(Drop)]
+pub(crate) struct Front {
+    pub(crate) tops: Vec<usize>,
+    pub(crate) ended: bool,
+}
+
+/// Adds what a continuation comes to by a letter.
+fn read_on(
+    tables: &Tables,
+    id: usize,
+    value: u32,
+    conts: &mut Conts,
+    ids: &mut Ids,
+) -> Result<(), Memory>
+    requires within { id ≤ length conts.old.items.items }
+    requires older { AreOlder conts.old.items.items }
+    ensures kept { IfOk result (λ done. AreKept conts.old.items.items conts.new.items.items) }
+    ensures adds { IfOk result (λ done. Adds conts.new.items.items (ReadsOn tables.now value
+        (stack_of conts.old.items.items id)) ids.old.items.items ids.new.items.items) }
+{
+    if id == 0 {
+        return Ok(());
+    }
+    let cont = cont_at(conts, id);
+    if !reads(
+        tables,
+        Item {
+            node: cont.node,
+            step: cont.step,
+            origin: 0,
+        },
+        value,
+    ) {
+        return Ok(());
+    }
+    let next = id_of(
+        conts,
+        Cont {
+            node: cont.node,
+            step: cont.step + 1,
+            next: cont.next,
+        },
+    )?;
+    add(ids, next)?;
+    Ok(())
+}
+
+/// Adds what continuations come to by a letter.
+fn read_all(
+    tables: &Tables,
+    tops: &[usize],
+    value: u32,
+    conts: &mut Conts,
+    ids: &mut Ids,
+) -> Result<(), Memory>
+    requires within { (id : ℕ) → Contains tops.now id → id ≤ length conts.old.items.items }
+    requires older { AreOlder conts.old.items.items }
+    ensures kept { IfOk result (λ done. AreKept conts.old.items.items conts.new.items.items) }
+    ensures adds { IfOk result (λ done. Adds conts.new.items.items (ReadsFrom tables.now value conts.old.items.items
+        tops.now) ids.old.items.items ids.new.items.items) }
+{
+    for top in tops {
+        read_on(tables, *top, value, conts, ids)?;
+    }
+    Ok(())
+}
+
+/// Tells whether something is read on top of a continuation.
+fn top_reads(tables: &Tables, id: usize, conts: &Conts) -> bool
+    requires within { id ≤ length conts.now.items.items }
+    requires older { AreOlder conts.now.items.items }
+    ensures { IsTrue result ↔ TopReads tables.now (stack_of conts.now.items.items id) }
+{
+    if id == 0 {
+        return false;
+    }
+    let cont = cont_at(conts, id);
+    deed_of(
+        tables,
+        Item {
+            node: cont.node,
+            step: cont.step,
+            origin: 0,
+        },
+    )
+    .reads
+}
+
+/// Adds an id if that is asked for.
+fn keep(asked: bool, id: usize, tops: &mut Vec<usize>) -> Result<(), Memory>
+    ensures kept { IfOk result (λ done. asked ≡ true → tops.new.items ≡ tops.old.items ++ id ∷ []) }
+    ensures left { IfOk result (λ done. asked ≡ false → tops.new.items ≡ tops.old.items) }
+{
+    if asked {
+        tops.push(id)?;
+    }
+    Ok(())
+}
+
+/// Returns of ids those on whose top something is read.
+pub(crate) fn readers(
+    alloc: Global,
+    tables: &Tables,
+    conts: &Conts,
+    ids: &[usize],
+) -> Result<Vec<usize>, Memory>
+    requires within { (id : ℕ) → Contains ids.now id → id ≤ length conts.now.items.items }
+    requires older { AreOlder conts.now.items.items }
+    ensures { IfOk result (λ tops. AreReaders tables.now conts.now.items.items ids.now tops.items) }
+{
+    let mut tops = Vec::new(alloc);
+    for id in ids {
+        keep(top_reads(tables, *id, conts), *id, &mut tops)?;
+    }
+    Ok(tops)
+}
+
+/// Returns what tops come to by a letter; `None` if that goes over more ids than there may be. `Memory` if an
+/// allocation fails.
+pub(crate) fn transition(
+    alloc: Global,
+    tables: &Tables,
+    tops: &[usize],
+    value: u32,
+    conts: &mut Conts,
+    ids: &mut Ids,
+) -> Result<Option<Front>, Memory>
+    requires within { (id : ℕ) → Contains tops.now id → id ≤ length conts.old.items.items }
+    requires older { AreOlder conts.old.items.items }
+    ensures kept { IfOk result (λ told. AreKept conts.old.items.items conts.new.items.items) }
+    ensures is { IfOk result (λ told. IfSome told (λ front. IsTransition tables.now value conts.old.items.items tops.now
+        conts.new.items.items front.tops.items front.ended)) }
+{
+    empty(ids);
+    read_all(tables, tops, value, conts, ids)?;
+    let Some(ended) = close(tables, conts, ids)? else {
+        return Ok(None);
+    };
+    let tops = readers(alloc, tables, conts, &ids.items)?;
+    Ok(Some(Front { tops, ended }))
+}

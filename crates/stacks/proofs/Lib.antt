@@ -1,0 +1,4 @@
+pub mod StacksLemmas
+pub mod LeadOnLemmas
+pub mod LiftLemmas
+pub mod FrontLemmas
