@@ -31,7 +31,8 @@ def write_scripts(folder):
 
 def write_lines(name, size, folder):
     """Writes a grammar, and so many bytes of lines."""
-    made = subprocess.run([sys.executable, TOP / "scripts/judge_bench/lines.py", name], check=True, capture_output=True)
+    words = [sys.executable, TOP / "scripts/judge_bench/lines.py", name]
+    made = subprocess.run(words, check=True, capture_output=True)
     grammar, lines = made.stdout.split(b"\0", 1)
     (folder / "g.abnf").write_bytes(grammar)
     with open(folder / "lines", "wb") as out:
@@ -42,7 +43,8 @@ def write_lines(name, size, folder):
 
 def seconds_of(words, processors, folder):
     """Runs a command on so many processors. Returns how long it takes, and its status; the answers go to a file."""
-    environment = {**os.environ, "PATH": f"{TOP / 'bin'}:{os.environ['PATH']}", "JOBS": str(processors), "LINES": "lines"}
+    path = f"{TOP / 'bin'}:{os.environ['PATH']}"
+    environment = {**os.environ, "PATH": path, "JOBS": str(processors), "LINES": "lines"}
     words = ["taskset", "-c", ",".join(map(str, range(processors))), *words]
     start = time.monotonic()
     with open(folder / "lines", "rb") as given, open(folder / "answers", "wb") as out:
@@ -50,6 +52,11 @@ def seconds_of(words, processors, folder):
         status = subprocess.run(words, cwd=folder, env=environment, stdin=given, stdout=out, stderr=subprocess.DEVNULL,
                                 check=False).returncode
     return time.monotonic() - start, status
+
+
+def is_wanted(folder):
+    """Tells whether the answers are those of `abnfi` alone."""
+    return subprocess.run(["cmp", "answers", "wanted"], cwd=folder, check=False).returncode == 0
 
 
 def row_of(name, title, size, folder):
@@ -61,10 +68,9 @@ def row_of(name, title, size, folder):
     for count in (it for it in PROCESSORS if it <= os.cpu_count()):
         taken, status = seconds_of(["sh", "stream.sh", "g.abnf"], count, folder)
         cells.append(f"{taken:.1f} s")
-        is_right &= status == 1 and subprocess.run(["cmp", "answers", "wanted"], cwd=folder, check=False).returncode == 0
+        is_right &= status == 1 and is_wanted(folder)
     _, status = seconds_of(["sh", "file.sh", "g.abnf"], min(4, os.cpu_count()), folder)
-    is_right &= status == 1 and subprocess.run(["cmp", "answers", "wanted"], cwd=folder, check=False).returncode == 0
-    return f"| {' | '.join(cells)} |", is_right
+    return f"| {' | '.join(cells)} |", is_right and status == 1 and is_wanted(folder)
 
 
 def main(words):
