@@ -8,7 +8,7 @@ use Rattle.std.specs.Prelude.{slice_get, Option, Some, None, Contains, IfSome}
 use Rattle.flatgrammar.specs.Flat.{Flat, Place, at}
 use Rattle.flatgrammar.specs.Blocks.{begin_count}
 use Rattle.flatgrammar.specs.NodeSteps.{flat_of}
-use Rattle.flatgrammar.specs.TableViews.{GiveRoots, whole_root, joined}
+use Rattle.flatgrammar.specs.TableViews.{GiveRoots, whole_root}
 use Rattle.flatgrammar.specs.declared.tables.Tables as code_flat
 use Rattle.flatgrammar.proofs.CallOfLemmas.{begun_starts}
 use Rattle.lazydfa.specs.declared.conts.Cont.{Cont}
@@ -24,6 +24,7 @@ use Rattle.lazydfa.specs.Cached.{IsBegun, IsStart, IsStartAt, IsAt, AreGrown, Is
 use Rattle.lazydfa.specs.Cached.{AreClasses, IsInterned, AreAddedUnknown}
 use Rattle.std.proofs.Common.{get_or}
 use Rattle.std.proofs.lemmas.Option.{slice_get-get_or}
+use Rattle.std.specs.Option.{option_flatten}
 use Rattle.abnfread.specs.Element.{Rule}
 use Rattle.abnfcheck.specs.Derivable.{AreLetters, RuleDerives}
 use Rattle.flatgrammar.specs.Lowered.{IsLowered}
@@ -171,10 +172,10 @@ module _ (tables : code_flat.Tables) (roots : GiveRoots (flat_of tables) tables.
         dead.none t.0 (subst (λ v. ReadsFrom tables d new v.tops.items t.0) (same_state dead.from dead.from_is)
         (from_read tables roots d new at_j.state.tops.items t.1))
 
-  join_is : (o : Option (Option ℕ)) (root : ℕ) → o ≡ Some (Some root) → joined o ≡ Some root
-  join_is o root h = ap joined h
+  join_is : (o : Option (Option ℕ)) (root : ℕ) → o ≡ Some (Some root) → option_flatten o ≡ Some root
+  join_is o root h = ap option_flatten h
 
-  is_joined : (o : Option (Option ℕ)) (root : ℕ) → joined o ≡ Some root → o ≡ Some (Some root)
+  is_joined : (o : Option (Option ℕ)) (root : ℕ) → option_flatten o ≡ Some root → o ≡ Some (Some root)
   is_joined None root h = absurd (cc h)
   is_joined (Some o) root h = ap (λ v. Some v) h
 
