@@ -157,6 +157,14 @@ class Prover:
         return 1 if self.failed else 0
 
 
+def clear_trees():
+    """Removes the trees that a killed run left. Ends the script if another run is at work here."""
+    for it in TOP.glob(".prove-*"):
+        if pathlib.Path("/proc", it.name.split("-")[1]).exists():
+            sys.exit(f"{it.name}: another run is at work in this checkout")
+        shutil.rmtree(it, ignore_errors=True)
+
+
 def stop(number, _):
     """Ends the script at an interrupt, and with it the crates at work."""
     print("interrupted", flush=True)
@@ -166,10 +174,9 @@ def stop(number, _):
 def main(programs):
     for it in (signal.SIGINT, signal.SIGTERM, signal.SIGHUP):
         signal.signal(it, stop)
-    for it in TOP.glob(".prove-*"):
-        shutil.rmtree(it, ignore_errors=True)
+    clear_trees()
     start = time.monotonic()
-    with tempfile.TemporaryDirectory(prefix=".prove-", dir=TOP) as trees:
+    with tempfile.TemporaryDirectory(prefix=f".prove-{os.getpid()}-", dir=TOP) as trees:
         prover = Prover(programs, pathlib.Path(trees))
         print(f"{len(prover.waiting)} crates to prove, on {prover.limit} processors", flush=True)
         status = prover.prove()
