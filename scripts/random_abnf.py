@@ -4,6 +4,17 @@ import slow_abnf
 NAMES = ["s", "A-1", "b", "C"]
 LETTERS = b"abAB01"
 LARGE = [7, 65536, 4294967295]
+A, B, S = ("text", b"a", False), ("text", b"b", False), ("name", "s")
+EITHER = ("alt", [A, B])
+# Rules that come back to themselves at the end, at the front and inside, and rules of which many ways are open at once.
+SHAPES = [
+    [("s", False, ("alt", [("concat", [A, S]), A]))],
+    [("s", False, ("alt", [("concat", [A, ("name", "t")]), A])), ("t", False, ("alt", [("concat", [B, S]), B]))],
+    [("s", False, ("alt", [("concat", [S, A]), A]))],
+    [("s", False, ("alt", [("concat", [A, S, A]), ("concat", [B, S, B]), ("opt", A)]))],
+    [("s", False, ("concat", [("rep", 0, None, EITHER), A, ("rep", 3, 3, EITHER)]))],
+    [("s", False, ("concat", [("rep", 0, 7, EITHER), ("rep", 2, 5, ("alt", [A, ("text", b"0", False)]))]))],
+]
 
 
 def leaf(r, names):
@@ -38,7 +49,9 @@ def element(r, names, depth):
 
 
 def grammar(r):
-    """Returns a random grammar: recursive ones, names without a rule, `=/`, core rules replaced or extended."""
+    """Returns a random grammar: recursive ones, names without a rule, `=/`, core rules replaced or extended; or a shape."""
+    if r.random() < 0.1:
+        return r.choice(SHAPES)
     names = NAMES[:r.choice([1, 2, 2, 3, 4])]
     rules = [(name, r.random() < 0.05, element(r, names + ["z"] * (r.random() < 0.05), 3)) for name in names]
     for name in names:
@@ -83,22 +96,22 @@ def grown(r, rules, e, left, is_utf8=False):
     return grown(r, rules, rules.all.get(e[1].upper(), ("prose", b"")), left - 1, is_utf8)
 
 
-def line(r, rules, judged, is_utf8):
-    """Returns a line that the judged rule derives, or one near it, or any."""
+def line(r, rules, judged, longest, is_utf8):
+    """Returns a line that the judged rule derives, or one near it, or any. A long line takes more steps."""
     if r.random() < 0.25:
         return bytes(r.choice(LETTERS) for _ in range(r.randrange(6)))
-    found = bytearray(grown(r, rules, ("name", judged), 12, is_utf8)[:10])
+    found = bytearray(grown(r, rules, ("name", judged), 12 if longest == 10 else 4 * longest, is_utf8)[:longest])
     if r.random() < 0.4:
         at = r.randrange(len(found) + 1)
         found[at:at + r.randrange(2)] = bytes([r.choice(LETTERS)] * r.randrange(2))
     return bytes(found).replace(b"\n", b"")
 
 
-def given(r, grammar_of, judged, count, is_utf8):
-    """Returns an input of so many lines."""
+def given(r, grammar_of, judged, count, longest, is_utf8):
+    """Returns an input of so many lines, most of them of at most so many bytes."""
     rules = slow_abnf.Rules(grammar_of)
     first = judged or next(iter(rules.file))
-    lines = [line(r, rules, first, is_utf8) for _ in range(count)]
+    lines = [line(r, rules, first, longest, is_utf8) for _ in range(count)]
     return b"\n".join(lines) + r.choice([b"", b"\n", b"\n"])
 
 

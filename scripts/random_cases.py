@@ -50,7 +50,8 @@ def abnf_case(r, may_be_utf8=False, may_be_viable=False):
     judged = r.choice([it[0].upper() for it in rules] + ["X", "alpha"]) if r.random() < 0.1 else None
     limit = r.choice([65536] * 8 + [5, 8])
     words = ["-l", str(limit)] + (["-s", judged] if judged else []) + ["-u", "utf8"] * is_utf8 + ["-w"] * is_viable
-    text, given = random_abnf.grammar_text(r, rules), random_abnf.given(r, rules, judged, LINES, is_utf8)
+    longest = 40 if rules in random_abnf.SHAPES else 10
+    text, given = random_abnf.grammar_text(r, rules), random_abnf.given(r, rules, judged, LINES, longest, is_utf8)
     *wanted, count = slow_abnf.answer(rules, given, limit, judged, is_utf8, is_viable)
     return Case(words, text, given, tuple(wanted), count)
 

@@ -3,6 +3,7 @@ use abnfcheck::check_abnf;
 use abnfread::read_abnf;
 use earley::{Chart, judge};
 use flatgrammar::{Flat, Node, items_at_most, items_tell, lower};
+use lazydfa::Automaton;
 use letters::Letter;
 use ruletable::Memory;
 use std::alloc::Global;
@@ -16,11 +17,28 @@ fn is_derived(chart: &mut Chart, flat: &Flat, line: &[u8]) -> Result<bool, Memor
     judge(chart, flat, line)
 }
 
-// Whether each line is judged as it says, by one chart.
+// Whether the automaton, if there is one and it tells, says so of a line.
+fn is_told(
+    automaton: &mut Option<Automaton>,
+    line: &[u8],
+    wanted: bool,
+) -> Result<bool, Memory> {
+    let Some(automaton) = automaton else {
+        return Ok(true);
+    };
+    match automaton.judge(line)? {
+        Some(told) => Ok(told == wanted),
+        None => Ok(true),
+    }
+}
+
+// Whether each line is judged as it says, by one chart and by one automaton.
 fn are_judged(alloc: Global, flat: &Flat, lines: &[(&str, bool)]) -> Result<bool, Memory> {
     let mut chart = Chart::new(alloc);
+    let mut automaton = Automaton::new(alloc, flat)?;
     for row in lines {
-        if is_derived(&mut chart, flat, row.0.as_bytes())? != row.1 {
+        let line = row.0.as_bytes();
+        if is_derived(&mut chart, flat, line)? != row.1 || !is_told(&mut automaton, line, row.1)? {
             return Ok(false);
         }
     }
@@ -190,6 +208,32 @@ fn one_chart_for_many_lines(rt: HostRuntime) -> Result<(), Fail> {
         let end = n % 8;
         assert!(rt; is_derived(&mut chart, &flat, &line[..end])?);
         assert!(rt; chart.items(end + 1) == 0);
+    }
+    Ok(())
+}
+
+// What the automaton of a grammar tells of a line; nothing if there is no automaton.
+fn told(alloc: Global, text: &str, line: &[u8]) -> Result<Option<bool>, Fail> {
+    let flat = grammar(alloc, text, 1000)?;
+    match Automaton::new(alloc, &flat)? {
+        Some(mut automaton) => Ok(automaton.judge(line)?),
+        None => Ok(None),
+    }
+}
+
+// Grammars, a line, and what the automaton tells of it: nothing where turns of something nullable are counted, or where
+// the places before the first letter have no end.
+static TOLD: &[(&str, &[u8], Option<bool>)] = &[
+    ("s = \"a\" s / \"a\"\n", b"aAaaaaaa", Some(true)),
+    ("s = *(\"a\" / \"b\") \"a\" 2(\"a\" / \"b\")\n", b"abbabab", Some(false)),
+    ("s = 2*3[\"a\"]\n", b"a", None),
+    ("s = s \"a\" / \"a\"\n", b"aaa", None),
+];
+
+#[test]
+fn answers_of_automata(rt: HostRuntime) -> Result<(), Fail> {
+    for row in TOLD {
+        assert!(rt; told(rt.alloc(), row.0, row.1)? == row.2, "{}", row.0);
     }
     Ok(())
 }
