@@ -30,7 +30,7 @@ def sources(top):
     """Returns the repository's files, as paths from its top, without what a build leaves."""
     found = []
     for folder, folders, names in os.walk(top):
-        folders[:] = sorted(set(folders) - BUILT)
+        folders[:] = sorted(it for it in set(folders) - BUILT if not it.startswith(".prove-"))
         found += [pathlib.PurePath(folder, it).relative_to(top) for it in sorted(names)]
     return found
 
