@@ -23,6 +23,8 @@ STACK = 256 * 1024
 # So many growths at most make the list of a program's words, beside one for each word before the grammar's. The list
 # asks first for all that it will need, and where that is refused it asks again, so the run can go on.
 GROWTHS_OF_WORDS = 7
+# With these words abnfi has no automaton. Without them Earley's sets answer where the automaton has no memory.
+NO_AUTOMATON = {"-m", "-u", "-w"}
 
 # A run: its name, the program and its words, the grammar, the input, the texts of the units or lines, the error output,
 # and the status.
@@ -123,13 +125,19 @@ def is_as_stated(run, ended):
     return (ended.out, ended.err, ended.status) == (whole(run), run.told, run.status)
 
 
+def may_go_on(run, number):
+    """Tells whether a run may go on without that growth."""
+    has_automaton = run.program == "abnfi" and not NO_AUTOMATON.intersection(run.words)
+    return has_automaton or number <= len(run.words) + GROWTHS_OF_WORDS
+
+
 def refuse_each(tools, run, **more):
     """Refuses each growth of a run in turn. Returns how many it has, and how many of them were made good."""
     fronts = [b"".join(run.texts[:k]) for k in range(len(run.texts) + 1)]
     number, good = 1, 0
     while (ended := tools.run(run, GROWTH=number, **more)).refused:
         right = ended.out in fronts and (ended.err, ended.status) == (b"out of memory\n", 5)
-        if is_as_stated(run, ended) and number <= len(run.words) + GROWTHS_OF_WORDS:
+        if is_as_stated(run, ended) and may_go_on(run, number):
             right, good = True, good + 1
         tools.expect(run, ended, right, f"growth {number} refused {more}")
         number += 1
