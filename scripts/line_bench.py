@@ -4,8 +4,8 @@
 usage: line_bench.py [PROGRAM ..]
 
 The programs are builds of abnfi; bin/abnfi if none is given. Prints for each input and program the processor time a
-byte in nanoseconds, the least of three runs, and the greatest memory in MB. The lines are those of judge_bench/lines.py,
-as many as take a fifth of a second, or 32 MB; so starting, reading and cutting of lines are part of it.
+byte in nanoseconds, the least of three runs, and the greatest memory in MB. Starting, reading and cutting of lines are
+part of it. The lines are those of judge_bench/lines.py, as many as take a fifth of a second, or 32 MB.
 """
 import os
 import pathlib
