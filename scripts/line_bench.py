@@ -4,8 +4,9 @@
 usage: line_bench.py [PROGRAM ..]
 
 The programs are builds of abnfi; bin/abnfi if none is given. Prints for each input and program the processor time a
-byte in nanoseconds, the least of three runs, and the greatest memory in MB. Starting, reading and cutting of lines are
-part of it. The lines are those of judge_bench/lines.py, as many as take a fifth of a second, or 32 MB.
+byte in nanoseconds, the least of three runs, and the greatest memory in MB. The lines are those of
+judge_bench/lines.py, as often as a run takes a fifth of a second or reads 32 MB; so starting, reading and cutting of
+lines are part of it.
 """
 import os
 import pathlib
@@ -18,7 +19,7 @@ DATE = "[0-9]{4}-[0-9]{2}-[0-9]{2}[Tt][0-9]{2}:[0-9]{2}:[0-9]{2}([.][0-9]+)?([Zz
 # Names of lines.py, each with how many letters a line has in place of its own, and an expression of its rule.
 ROWS = [
     ("date", None, DATE), ("uri", None, None), ("alpha", None, "[A-Za-z]+"), ("right", 1000, "[Aa]+"),
-    ("right", 10000, "[Aa]+"), ("kw", None, "KEYWORDS"), ("json", None, None), ("ss50", None, "[Aa]+"),
+    ("right", 10000, "[Aa]+"), ("kw", None, None), ("json", None, None), ("ss50", None, "[Aa]+"),
     ("left", 1000, "[Aa]+"),
 ]
 ENOUGH, MOST = 0.2, 32_000_000
@@ -26,16 +27,9 @@ ENOUGH, MOST = 0.2, 32_000_000
 
 def given(name, letters):
     """Returns a grammar, and lines to judge by it."""
-    grammar, _, lines = subprocess.check_output([sys.executable, HERE / "judge_bench/lines.py", name]).partition(b"\0")
+    said = subprocess.check_output([sys.executable, HERE / "judge_bench/lines.py", name])
+    grammar, _, lines = said.partition(b"\0")
     return grammar, lines if letters is None else b"a" * letters + b"\n"
-
-
-def expression(grammar, said):
-    """Returns the expression of a row; that of keywords comes from their grammar."""
-    if said != "KEYWORDS":
-        return said
-    words = [it.strip().strip('"') for it in grammar.decode().split("\n")[0].partition("=")[2].split("/")]
-    return "(" + "|".join(words) + ")"
 
 
 def run(words, file):
@@ -77,8 +71,9 @@ def main(programs):
             (folder / "grammar").write_bytes(grammar)
             told = [measure([it, folder / "grammar"], lines, folder / "lines") for it in programs]
             if said:
-                (folder / "words").write_text(expression(grammar, said) + "\n")
-                told.append(measure(["grep", "-cixE", "-f", folder / "words"], lines, folder / "lines", 1_000_000))
+                (folder / "words").write_text(said + "\n")
+                words = ["grep", "-cixE", "-f", folder / "words"]
+                told.append(measure(words, lines, folder / "lines", 1_000_000))
             row = " | ".join(f"{ns:,.1f} | {mb:,.0f}" for ns, mb in told)
             print(f"| {name}{'' if letters is None else f', {letters:,} letters'} | {row} |", flush=True)
 

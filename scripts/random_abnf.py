@@ -49,7 +49,8 @@ def element(r, names, depth):
 
 
 def grammar(r):
-    """Returns a random grammar or a shape: recursive ones, names without a rule, `=/`, changed core rules."""
+    """Returns a random grammar: recursive ones, names without a rule, `=/`, core rules replaced or extended; or one of
+    the shapes."""
     if r.random() < 0.1:
         return r.choice(SHAPES)
     names = NAMES[:r.choice([1, 2, 2, 3, 4])]
