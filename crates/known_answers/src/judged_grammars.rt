@@ -18,11 +18,7 @@ fn is_derived(chart: &mut Chart, flat: &Flat, line: &[u8]) -> Result<bool, Memor
 }
 
 // Whether the automaton, if there is one and it tells, says so of a line.
-fn is_told(
-    automaton: &mut Option<Automaton>,
-    line: &[u8],
-    wanted: bool,
-) -> Result<bool, Memory> {
+fn is_told(automaton: &mut Option<Automaton>, line: &[u8], wanted: bool) -> Result<bool, Memory> {
     let Some(automaton) = automaton else {
         return Ok(true);
     };
@@ -225,7 +221,11 @@ fn told(alloc: Global, text: &str, line: &[u8]) -> Result<Option<bool>, Fail> {
 // the places before the first letter have no end.
 static TOLD: &[(&str, &[u8], Option<bool>)] = &[
     ("s = \"a\" s / \"a\"\n", b"aAaaaaaa", Some(true)),
-    ("s = *(\"a\" / \"b\") \"a\" 2(\"a\" / \"b\")\n", b"abbabab", Some(false)),
+    (
+        "s = *(\"a\" / \"b\") \"a\" 2(\"a\" / \"b\")\n",
+        b"abbabab",
+        Some(false),
+    ),
     ("s = 2*3[\"a\"]\n", b"a", None),
     ("s = s \"a\" / \"a\"\n", b"aaa", None),
 ];
