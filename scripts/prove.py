@@ -15,6 +15,7 @@ is moved there and back. The trees stand in a folder `.prove-*` at the top and g
 """
 import os
 import pathlib
+import re
 import shutil
 import signal
 import subprocess
@@ -36,8 +37,9 @@ MOST = 4
 
 def processors():
     """Returns how many processors the run may use."""
-    if os.environ.get("JOBS"):
-        return max(int(os.environ["JOBS"]), 1)
+    jobs = os.environ.get("JOBS")
+    if jobs:
+        return int(jobs) if re.fullmatch("[1-9][0-9]*", jobs) else sys.exit(f"JOBS={jobs}: no number from 1 on")
     text = pathlib.Path("/proc/meminfo").read_text()
     free = 1024 * int(text.partition("MemAvailable:")[2].split()[0])
     return max(min(len(os.sched_getaffinity(0)), free // MEMORY), 1)
