@@ -45,13 +45,19 @@ def processors():
     return max(min(len(os.sched_getaffinity(0)), free // MEMORY), 1)
 
 
+def seconds():
+    """Returns the seconds of proof_seconds.txt, by the crate's name."""
+    lines = (it.partition("#")[0].split() for it in (TOP / "scripts/proof_seconds.txt").read_text().splitlines())
+    return {crate: int(time) for crate, time in filter(None, lines)}
+
+
 def distances(needed):
-    """Returns for each crate the bytes of text on the longest chain of crates that begins with it and goes up."""
-    found = {}
+    """Returns for each crate the seconds of proof on the longest chain of crates that begins with it and goes up. A
+    crate that was not measured counts as one minute."""
+    found, measured = {}, seconds()
     for crate in reversed([it for it in in_order(TOP) if it in needed]):
-        files = (file for part in PARTS for file in (TOP / "crates" / crate / part).rglob("*.*"))
         above = [distance for it, distance in found.items() if crate in uses(TOP)[it]]
-        found[crate] = sum(it.stat().st_size for it in files) + max(above, default=0)
+        found[crate] = measured.get(crate, 60) + max(above, default=0)
     return found
 
 
@@ -120,15 +126,19 @@ class Prover:
         return f"{len(self.waiting) + len(self.at_work)} left"
 
     def begin(self):
-        """Begins the crates that are ready, those with the longest way up first, as many as processors allow."""
-        ready = [it for it in self.waiting if below(TOP, it) <= self.done]
-        for number, crate in enumerate(sorted(ready, key=lambda it: -self.distance[it])):
+        """Begins the crates that are ready, those with the longest way up first, as many as processors allow. The
+        crate with the longest way up of all gets half of the processors: the whole run waits for it."""
+        ready = sorted((it for it in self.waiting if below(TOP, it) <= self.done), key=lambda it: -self.distance[it])
+        longest = max(self.distance[it] for it in (*self.waiting, *(work.crate for work in self.at_work)))
+        for number, crate in enumerate(ready):
             free = self.limit - sum(it.jobs for it in self.at_work)
+            jobs = min(free - (len(ready) - number - 1), MOST)
+            if self.distance[crate] == longest:
+                jobs = max(jobs, min(free, self.limit // 2))
             if free < 1:
                 return
-            jobs = max(min(free - (len(ready) - number - 1), MOST), 1)
             self.waiting.remove(crate)
-            self.at_work.append(Work(crate, crate in self.programs, jobs, self.trees))
+            self.at_work.append(Work(crate, crate in self.programs, max(jobs, 1), self.trees))
             print(f"{crate}: begins", flush=True)
 
     def end(self, work):
