@@ -160,8 +160,9 @@ class Prover:
             while self.at_work or (self.waiting and not self.failed):
                 if not self.failed:
                     self.begin()
-                time.sleep(0.1)
-                for work in [it for it in self.at_work if it.run.poll() is not None]:
+                while not (ended := [it for it in self.at_work if it.run.poll() is not None]):
+                    time.sleep(0.1)
+                for work in ended:
                     self.end(work)
         finally:
             for work in self.at_work:

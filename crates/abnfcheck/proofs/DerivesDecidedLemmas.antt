@@ -271,11 +271,12 @@ named_in (rule ∷ rules) n d is = by (same_name Fold n rule.name) is (λ rest. 
         on_left (universe rules) (subst (λ v. Listed v (subs rule.body)) same (listed_itself rule.body))
     by false is behind = on_right (subs rule.body) (behind is)
 
-body_in : (rules : List Rule) (id : ℕ) (d : Element) → slice_get (bodies rules) id ≡ Some d → Listed d (universe rules)
-body_in [] id d is = absurd (cc is)
-body_in (rule ∷ rules) zero d is = let same : rule.body ≡ d = cc is in
+body_listed : (rules : List Rule) (id : ℕ) (d : Element) → slice_get (bodies rules) id ≡ Some d
+    → Listed d (universe rules)
+body_listed [] id d is = absurd (cc is)
+body_listed (rule ∷ rules) zero d is = let same : rule.body ≡ d = cc is in
     on_left (universe rules) (subst (λ v. Listed v (subs rule.body)) same (listed_itself rule.body))
-body_in (rule ∷ rules) (suc id) d is = on_right (subs rule.body) (body_in rules id d is)
+body_listed (rule ∷ rules) (suc id) d is = on_right (subs rule.body) (body_listed rules id d is)
 
 -- an element and two states
 record Fact : Type 0 where
@@ -722,5 +723,5 @@ module _ (has : ℕ → Bool) (rules : List Rule) (last : ℕ) (goes : ℕ → �
           none_some h = absurd (cc h)
       by (Some d) is =
           let f = span_is_decided (fact d i j) (in_facts (last + 1) i j (universe rules) d (omega (arith, a))
-          (omega (arith, b)) (body_in rules id d is)) in
+          (omega (arith, b)) (body_listed rules id d is)) in
           body_path id i j d is f.0 f.1

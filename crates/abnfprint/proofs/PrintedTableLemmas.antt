@@ -11,10 +11,12 @@ use Rattle.abnfread.specs.declared.number.TheConstants.{MAX_VALUE}
 use Rattle.abnfread.specs.AbnfSlices as slices
 use Rattle.abnfread.specs.AbnfSlices.{Run, continues_name, is_quotable}
 use Rattle.abnfread.specs.AbnfSpelling.{definition}
-use Rattle.abnfread.specs.AbnfTable.{alternatives_of, joined, body_in, id_in, added, extended, first_body, begun, grown}
+use Rattle.abnfread.specs.AbnfTable.{alternatives_of, with_alternatives, id_in, added, extended, first_body, begun}
+use Rattle.abnfread.specs.AbnfTable.{grown}
 use Rattle.abnfread.specs.AbnfTable.{firsts, agains, earlies}
 use Rattle.abnfread.specs.CoreRules.{core_list, core_bodies}
 use Rattle.abnfread.specs.Element.{Element, Elements, Text, Values, Alt, Name, none, more, append, Rule, bodies}
+use Rattle.abnfread.specs.Element.{body_of}
 use Rattle.abnfread.specs.Element.{Definition}
 use Rattle.abnfprint.specs.AbnfReadBack.{file_rules, SameButSpans}
 use Rattle.abnfprint.specs.declared.place.Place.TheVariants.{Alternative}
@@ -52,8 +54,8 @@ alternatives-nest : (x : Element) → nest_all Alternative (alternatives_of x) �
 alternatives-nest (Alt xs) = omega arith
 alternatives-nest x = omega arith
 
-joined-fit : (x y : Element) → IsFit x → IsFit y → IsFit (joined x y)
-joined-fit x y h k =
+alternatives-fit : (x y : Element) → IsFit x → IsFit y → IsFit (with_alternatives x y)
+alternatives-fit x y h k =
     let xs = alternatives_of x in
     let ys = alternatives_of y in
     let a = alternatives-nest x in
@@ -209,7 +211,7 @@ core-fit = (
 )
 
 core_body : List ℕ → Option Element
-core_body = body_in core_list
+core_body = body_of core_list
 
 core-at : (o : Option ℕ) (x : Element) → (elim o [ None ↦ None | Some id ↦ slice_get (bodies core_list) id ]) ≡ Some x
     → IsFit x
@@ -217,13 +219,13 @@ core-at None x e = cc
 core-at (Some id) x e = body-fit (bodies core_list) id x core-fit e
 
 begun-by : (a : Bool) (o : Option Element) (x : Element) → ((c : Element) → o ≡ Some c → IsFit c) → IsFit x
-    → IsFit (cond a (elim o [ None ↦ x | Some c ↦ joined c x ]) x)
+    → IsFit (cond a (elim o [ None ↦ x | Some c ↦ with_alternatives c x ]) x)
 begun-by true None x f h = h
-begun-by true (Some c) x f h = joined-fit c x (f c refl) h
+begun-by true (Some c) x f h = alternatives-fit c x (f c refl) h
 begun-by false o x f h = h
 
-begun-fit : (d : Definition) → IsFit d.body → IsFit (first_body (body_in core_list) d)
-begun-fit d h = begun-by d.adds (body_in core_list d.name) d.body
+begun-fit : (d : Definition) → IsFit d.body → IsFit (first_body (body_of core_list) d)
+begun-fit d h = begun-by d.adds (body_of core_list d.name) d.body
     (λ c e. core-at (position (λ rule. same_name Fold d.name rule.name) core_list) c e) h
 
 added-by : (b : Bool) (x : Element) (xs : List Element) → IsFit x → AreFitBodies xs → AreFitBodies (cond b (x ∷ xs) xs)
@@ -236,7 +238,7 @@ added-fit n (d ∷ ds) h = added-by (d.adds && same_name Fold d.name n) d.body (
 
 extended-fit : (x : Element) (ys : List Element) → IsFit x → AreFitBodies ys → IsFit (extended x ys)
 extended-fit x [] h k = h
-extended-fit x (y ∷ ys) h k = extended-fit (joined x y) ys (joined-fit x y h k.0) k.1
+extended-fit x (y ∷ ys) h k = extended-fit (with_alternatives x y) ys (alternatives-fit x y h k.0) k.1
 
 abbrev pub AreFitRules : List Rule → Type 0
 AreFitRules [] = Unit {0}
@@ -248,12 +250,12 @@ firsts-by None rule rules others n h k l = (n, h, k)
 firsts-by (Some id) rule rules others n h k l = l
 
 firsts-fit : (known : List (List ℕ)) (ds : List Definition) → AreFit ds
-    → AreFitRules (firsts (body_in core_list) known ds)
+    → AreFitRules (firsts (body_of core_list) known ds)
 firsts-fit known [] h = tt
 firsts-fit known (d ∷ ds) h =
-    firsts-by (id_in known d) (grown ds (begun (body_in core_list) d))
-    (firsts (body_in core_list) (known ++ d.name ∷ []) ds) (firsts (body_in core_list) known ds) h.0
-    (extended-fit (first_body (body_in core_list) d) (added d.name ds) (begun-fit d h.1) (added-fit d.name ds h.2))
+    firsts-by (id_in known d) (grown ds (begun (body_of core_list) d))
+    (firsts (body_of core_list) (known ++ d.name ∷ []) ds) (firsts (body_of core_list) known ds) h.0
+    (extended-fit (first_body (body_of core_list) d) (added d.name ds) (begun-fit d h.1) (added-fit d.name ds h.2))
     (firsts-fit (known ++ d.name ∷ []) ds h.2) (firsts-fit known ds h.2)
 
 pub table-fit : (ds : List Definition) → AreFit ds → AreFitRules (file_rules ds)
@@ -269,9 +271,9 @@ rules-formed (rule ∷ rules) h = let f = h.1 in (h.0, f.formed, rules-formed ru
 
 -- the table of definitions by `=` of these rules
 pub record IsTable (known : List (List ℕ)) (rules : List Rule) (again : List Definition) : Type 0 where
-  pub same : SameButSpans rules (firsts (body_in core_list) known again)
-  pub no_again : agains (body_in core_list) known again ≡ []
-  pub no_early : (n : ℕ) → earlies (body_in core_list) n known again ≡ []
+  pub same : SameButSpans rules (firsts (body_of core_list) known again)
+  pub no_again : agains (body_of core_list) known again ≡ []
+  pub no_early : (n : ℕ) → earlies (body_of core_list) n known again ≡ []
 
 added-none : {rules : List Rule} {ds : List Definition} (n : List ℕ) → AreAgain rules ds → added n ds ≡ []
 added-none n again_none = refl
@@ -283,13 +285,13 @@ new-table : (known : List (List ℕ)) (rule : Rule) (rules : List Rule) (q : Spa
     (definition false rule.name q rule.body ∷ ds)
 new-table known rule rules q ds new nothing t =
     let d = definition false rule.name q rule.body in
-    let rest = firsts (body_in core_list) (known ++ rule.name ∷ []) ds in
-    let alone = firsts (body_in core_list) known ds in
-    let first : grown ds (begun (body_in core_list) d) ≡ record { name = rule.name; body = rule.body; span = q } =
+    let rest = firsts (body_of core_list) (known ++ rule.name ∷ []) ds in
+    let alone = firsts (body_of core_list) known ds in
+    let first : grown ds (begun (body_of core_list) d) ≡ record { name = rule.name; body = rule.body; span = q } =
     ap (λ (ys : List Element). record { name = rule.name; body = extended rule.body ys; span = q }) nothing in
-    let whole : firsts (body_in core_list) known (d ∷ ds) ≡ record { name = rule.name; body = rule.body; span = q }
+    let whole : firsts (body_of core_list) known (d ∷ ds) ≡ record { name = rule.name; body = rule.body; span = q }
     ∷ rest =
-    ap (λ (o : Option ℕ). elim o [ None ↦ grown ds (begun (body_in core_list) d) ∷ rest | Some id ↦ alone ]) new
+    ap (λ (o : Option ℕ). elim o [ None ↦ grown ds (begun (body_of core_list) d) ∷ rest | Some id ↦ alone ]) new
     ∙ ap (λ (r : Rule). r ∷ rest) first in
     record {
       same = record {
@@ -297,39 +299,39 @@ new-table known rule rules q ds new nothing t =
         bodies = ap (λ (xs : List Element). rule.body ∷ xs) t.same.bodies ∙ sym (ap (map (λ (r : Rule). r.body)) whole);
       };
       no_again = ap (λ (o : Option ℕ). elim o [
-        | None ↦ agains (body_in core_list) (known ++ rule.name ∷ []) ds
-        | Some id ↦ id ∷ agains (body_in core_list) known ds
+        | None ↦ agains (body_of core_list) (known ++ rule.name ∷ []) ds
+        | Some id ↦ id ∷ agains (body_of core_list) known ds
       ]) new ∙ t.no_again;
       no_early = λ n. ap (λ (o : Option ℕ). elim o [
-        | None ↦ earlies (body_in core_list) (suc n)
+        | None ↦ earlies (body_of core_list) (suc n)
             (known ++ rule.name ∷ []) ds
-        | Some id ↦ earlies (body_in core_list) n known ds
+        | Some id ↦ earlies (body_of core_list) n known ds
       ]) new ∙ t.no_early (suc n);
     }
 
 table-by : (known : List (List ℕ)) (d : Definition) (ds : List Definition) (o : Option ℕ) → id_in known d ≡ o →
-    ((again : List Definition) → AreAgain (firsts (body_in core_list) (known ++ d.name ∷ []) ds) again
-    → IsTable (known ++ d.name ∷ []) (firsts (body_in core_list) (known ++ d.name ∷ []) ds) again) →
-    ((again : List Definition) → AreAgain (firsts (body_in core_list) known ds) again
-    → IsTable known (firsts (body_in core_list) known ds) again) →
+    ((again : List Definition) → AreAgain (firsts (body_of core_list) (known ++ d.name ∷ []) ds) again
+    → IsTable (known ++ d.name ∷ []) (firsts (body_of core_list) (known ++ d.name ∷ []) ds) again) →
+    ((again : List Definition) → AreAgain (firsts (body_of core_list) known ds) again
+    → IsTable known (firsts (body_of core_list) known ds) again) →
     (again : List Definition) → AreAgain (elim o [
-      | None ↦ grown ds (begun (body_in core_list) d)
-          ∷ firsts (body_in core_list) (known ++ d.name ∷ []) ds
-      | Some id ↦ firsts (body_in core_list) known ds
+      | None ↦ grown ds (begun (body_of core_list) d)
+          ∷ firsts (body_of core_list) (known ++ d.name ∷ []) ds
+      | Some id ↦ firsts (body_of core_list) known ds
     ])
     again →
     IsTable known (elim o [
-      | None ↦ grown ds (begun (body_in core_list) d)
-          ∷ firsts (body_in core_list) (known ++ d.name ∷ []) ds
-      | Some id ↦ firsts (body_in core_list) known ds
+      | None ↦ grown ds (begun (body_of core_list) d)
+          ∷ firsts (body_of core_list) (known ++ d.name ∷ []) ds
+      | Some id ↦ firsts (body_of core_list) known ds
     ]) again
 table-by known d ds None e f g again (again_more {q = q} {ds = others} k) =
-    new-table known (grown ds (begun (body_in core_list) d)) (firsts (body_in core_list) (known ++ d.name ∷ []) ds) q
+    new-table known (grown ds (begun (body_of core_list) d)) (firsts (body_of core_list) (known ++ d.name ∷ []) ds) q
     others e (added-none d.name k) (f others k)
 table-by known d ds (Some id) e f g again h = g again h
 
 pub table-again : (ds : List Definition) (known : List (List ℕ)) (again : List Definition)
-    → AreAgain (firsts (body_in core_list) known ds) again → IsTable known (firsts (body_in core_list) known ds) again
+    → AreAgain (firsts (body_of core_list) known ds) again → IsTable known (firsts (body_of core_list) known ds) again
 table-again [] known again again_none = record {
   same = record { names = refl; bodies = refl };
   no_again = refl;

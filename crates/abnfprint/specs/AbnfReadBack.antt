@@ -4,15 +4,15 @@ use Rattle.ruletable.specs.Rules as table
 use Rattle.lexer.specs.declared.limits.TheConstants.{MAX_GRAMMAR}
 use Rattle.abnfread.specs.declared.elem.Elem.{Elem}
 use Rattle.abnfread.specs.AbnfReading.{Reads}
-use Rattle.abnfread.specs.AbnfTable.{body_in, firsts, agains, earlies, IsTableOf}
+use Rattle.abnfread.specs.AbnfTable.{firsts, agains, earlies, IsTableOf}
 use Rattle.abnfread.specs.CoreRules.{core_list}
-use Rattle.abnfread.specs.Element.{Rule, Definition}
+use Rattle.abnfread.specs.Element.{Rule, Definition, body_of}
 use Rattle.abnfprint.specs.CanonicalAbnf.{grammar_text}
 use Rattle.abnfprint.specs.FormedAbnf.{AreFormedRules, IsSome}
 
 -- the rules that the definitions of a file make (RFC 5234, sections 2.2 and 3.3)
 abbrev pub file_rules : List Definition → List Rule
-file_rules ds = firsts (body_in core_list) [] ds
+file_rules ds = firsts (body_of core_list) [] ds
 
 -- rules that differ in nothing but in where their names stand
 pub record SameButSpans (rules again : List Rule) : Type 0 where
@@ -26,8 +26,8 @@ pub record ReadsAs (text : List ℕ) (rules : List Rule) : Type 0 where
   pub reads : Reads text again
   pub only : (other : List Definition) → Reads text other → other ≡ again
   pub same : SameButSpans rules (file_rules again)
-  pub no_again : agains (body_in core_list) [] again ≡ []
-  pub no_early : earlies (body_in core_list) 0 [] again ≡ []
+  pub no_again : agains (body_of core_list) [] again ≡ []
+  pub no_early : earlies (body_of core_list) 0 [] again ≡ []
 
 -- a text reads as the rules of this table, whether or not it defines a name again
 pub record IsRead (source : List ℕ) (rules : table.Rules Elem) (redefined early : List ℕ) : Type 0 where

@@ -8,7 +8,7 @@ use Rattle.std.proofs.lemmas.Bool.{ltb-false, le-ltb}
 use Rattle.ruletable.specs.Rules.{same_name}
 use Rattle.ruletable.specs.declared.table.NameCase.TheVariants.{Fold}
 use Rattle.abnfread.specs.Element.{Element, Rule, Definition}
-use Rattle.abnfread.specs.AbnfTable.{joined, id_in, added, extended, begun, grown, firsts}
+use Rattle.abnfread.specs.AbnfTable.{with_alternatives, id_in, added, extended, begun, grown, firsts}
 
 abbrev with_body : Rule → Element → Rule
 with_body rule x = record { name = rule.name; body = x; span = rule.span }
@@ -18,7 +18,7 @@ name_of rule = rule.name
 
 -- the definition's body is added to the rule that it names
 abbrev pub grow_named : Definition → Rule → Rule
-grow_named d rule = cond (same_name Fold d.name rule.name) (with_body rule (joined rule.body d.body)) rule
+grow_named d rule = cond (same_name Fold d.name rule.name) (with_body rule (with_alternatives rule.body d.body)) rule
 
 -- what one definition does to the rules so far
 abbrev pub take_definition : (List ℕ → Option Element) → List Rule → Definition → List Rule
@@ -41,7 +41,7 @@ grow-name d false rule x = refl
 pub grow-names : (d : Definition) (rules : List Rule) → map name_of (map (grow_named d) rules) ≡ map name_of rules
 grow-names d [] = refl
 grow-names d (rule ∷ rules) = ap (λ (n : List ℕ). n ∷ map name_of (map (grow_named d) rules))
-    (grow-name d (same_name Fold d.name rule.name) rule (joined rule.body d.body))
+    (grow-name d (same_name Fold d.name rule.name) rule (with_alternatives rule.body d.body))
     ∙ ap (λ (ns : List (List ℕ)). rule.name ∷ ns) (grow-names d rules)
 
 map-same : (f g : Rule → Rule) (rules : List Rule) → ((rule : Rule) → f rule ≡ g rule) → map f rules ≡ map g rules
@@ -75,7 +75,7 @@ module _ (d : Definition) (ds : List Definition) where
 
   -- a rule that the definition names, or does not
   grown-at : (b : Bool) (rule : Rule) → picked_rule b rule
-      ≡ grown ds (cond b (with_body rule (joined rule.body d.body)) rule)
+      ≡ grown ds (cond b (with_body rule (with_alternatives rule.body d.body)) rule)
   unfolding picked_rule
   grown-at true rule = refl
   grown-at false rule = refl

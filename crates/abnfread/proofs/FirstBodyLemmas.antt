@@ -1,7 +1,7 @@
 -- The body with which a definition begins a rule.
 -- Serves: read_abnf
 use Rattle.std.proofs.Common.{◌≡◌, ℕ, ◌<◌, Bool, true, false, cond, ◌&&◌, Option, Some, None, List, [], ◌∷◌, ◌++◌}
-use Rattle.std.proofs.Common.{length, position, refl, sym, ap, ◌∙◌, arith}
+use Rattle.std.proofs.Common.{length, position, prefix_len, not, nat_lt, suc, refl, sym, ap, ◌∙◌, arith}
 use Rattle.std.specs.Prelude.{slice_get}
 use Rattle.std.proofs.lemmas.List.Quantifiers.{position-Some}
 use Rattle.ruletable.specs.Rules as table
@@ -10,9 +10,9 @@ use Rattle.ruletable.specs.declared.table.NameCase.TheVariants.{Fold}
 use Rattle.abnfread.specs.declared.elem.Elem.{Elem}
 use Rattle.abnfread.specs.declared.reader.Definition.{Definition as CodeDefinition}
 use Rattle.abnfread.specs.AbnfReader.{definition_from}
-use Rattle.abnfread.specs.AbnfTable.{body_in, joined, IsCoreTable, IsFirstBody}
+use Rattle.abnfread.specs.AbnfTable.{with_alternatives, IsCoreTable, IsFirstBody}
 use Rattle.abnfread.specs.CoreRules.{nowhere, core_list, core_bodies}
-use Rattle.abnfread.specs.Element.{Element, Elements, Prose, Rule, none, more, append}
+use Rattle.abnfread.specs.Element.{Element, Elements, Prose, Rule, none, more, append, bodies, body_of}
 use Rattle.abnfread.specs.AbnfViews.{element_of, elements_of}
 use Rattle.abnfread.proofs.AbnfMachineLemmas.{append_assoc}
 use Rattle.abnfread.proofs.CoreRuleLemmas.{found-in}
@@ -25,12 +25,30 @@ core-place : (core : table.Rules Elem) (n : List ℕ) (o : Option ℕ) → IsCor
     → places n core_list ≡ o
 core-place core n o c h = sym (found-in core n c.names ∙ ap (places n) c.listed) ∙ h
 
-abbrev body_by : Option ℕ → Option Element
-body_by o = elim o [ None ↦ None | Some id ↦ slice_get core_bodies id ]
+abbrev body_by : List Element → Option ℕ → Option Element
+body_by es o = elim o [ None ↦ None | Some id ↦ slice_get es id ]
+
+-- the body of a name is the one at the name's place
+body-there : (n : List ℕ) (rules : List Rule) → body_of rules n ≡ body_by (bodies rules) (places n rules)
+body-there n [] = refl
+body-there n (rule ∷ rules) = by_name (same_name Fold n rule.name) refl
+  where
+    count : ℕ
+    count = prefix_len (λ (r : Rule). not (same_name Fold n r.name)) rules
+
+    later : (b : Bool) → body_by (bodies rules) (cond b (Some count) None)
+        ≡ body_by (bodies (rule ∷ rules)) (cond b (Some (suc count)) None)
+    later true = refl
+    later false = refl
+
+    by_name : (b : Bool) → same_name Fold n rule.name ≡ b
+        → body_of (rule ∷ rules) n ≡ body_by (bodies (rule ∷ rules)) (places n (rule ∷ rules))
+    by_name true e = rw e refl
+    by_name false e = rw e (body-there n rules ∙ later (nat_lt count (length rules)))
 
 core-body : (core : table.Rules Elem) (n : List ℕ) (o : Option ℕ) → IsCoreTable core → find_in core n ≡ o
-    → body_in core_list n ≡ body_by o
-core-body core n o c h = ap body_by (core-place core n o c h)
+    → body_of core_list n ≡ body_by core_bodies o
+core-body core n o c h = body-there n core_list ∙ ap (body_by core_bodies) (core-place core n o c h)
 
 pub core-within : (core : table.Rules Elem) (n : List ℕ) (id : ℕ) → IsCoreTable core → find_in core n ≡ Some id
     → id < 16
@@ -42,28 +60,28 @@ module _ (d : CodeDefinition) where
   name_of = d.name.now
 
   abbrev added_by : Option Element → Element
-  added_by o = elim o [ None ↦ element_of d.body | Some c ↦ joined c (element_of d.body) ]
+  added_by o = elim o [ None ↦ element_of d.body | Some c ↦ with_alternatives c (element_of d.body) ]
 
   abbrev early_by : Option Element → Bool
   early_by o = elim o [ None ↦ true | Some c ↦ false ]
 
   pub first-plain : d.adds ≡ false → IsFirstBody (definition_from d) d.body false
   first-plain e = (
-    sym (ap (λ (b : Bool). cond b (added_by (body_in core_list name_of)) (element_of d.body)) e),
-    sym (ap (λ (b : Bool). b && early_by (body_in core_list name_of)) e),
+    sym (ap (λ (b : Bool). cond b (added_by (body_of core_list name_of)) (element_of d.body)) e),
+    sym (ap (λ (b : Bool). b && early_by (body_of core_list name_of)) e),
   )
 
-  first-by : (o : Option Element) (e : Elem) (early : Bool) → d.adds ≡ true → body_in core_list name_of ≡ o
+  first-by : (o : Option Element) (e : Elem) (early : Bool) → d.adds ≡ true → body_of core_list name_of ≡ o
       → element_of e ≡ added_by o → early ≡ early_by o → IsFirstBody (definition_from d) e early
   first-by o e early a h x y = (
-    x ∙ sym (ap added_by h) ∙ sym (ap (λ (b : Bool). cond b (added_by (body_in core_list name_of))
+    x ∙ sym (ap added_by h) ∙ sym (ap (λ (b : Bool). cond b (added_by (body_of core_list name_of))
         (element_of d.body)) a),
-    y ∙ sym (ap early_by h) ∙ sym (ap (λ (b : Bool). b && early_by (body_in core_list name_of)) a),
+    y ∙ sym (ap early_by h) ∙ sym (ap (λ (b : Bool). b && early_by (body_of core_list name_of)) a),
   )
 
   pub first-core : (core : table.Rules Elem) (id : ℕ) (c e : Elem) → IsCoreTable core → d.adds ≡ true
       → find_in core name_of ≡ Some id → slice_get core_bodies id ≡ Some (element_of c)
-      → element_of e ≡ joined (element_of c) (element_of d.body) →
+      → element_of e ≡ with_alternatives (element_of c) (element_of d.body) →
       IsFirstBody (definition_from d) e false
   first-core core id c e k a h s j = first-by (Some (element_of c)) e false a (core-body core name_of (Some id) k h ∙ s)
       j refl

@@ -17,16 +17,16 @@ use Rattle.ruletable.specs.declared.table.NameCase.TheVariants.{Fold}
 use Rattle.abnfread.specs.declared.elem.Elem.{Elem}
 use Rattle.abnfread.specs.declared.reader.Definition.{Definition as CodeDefinition}
 use Rattle.abnfread.specs.AbnfReader.{definition_from}
-use Rattle.abnfread.specs.AbnfTable.{body_in, joined, id_in, begun, firsts, agains, is_early, earlies, IsTableOf}
+use Rattle.abnfread.specs.AbnfTable.{with_alternatives, id_in, begun, firsts, agains, is_early, earlies, IsTableOf}
 use Rattle.abnfread.specs.AbnfTable.{IsFirstBody, IsExtended}
 use Rattle.abnfread.specs.CoreRules.{core_list}
-use Rattle.abnfread.specs.Element.{Element, Rule, Definition}
+use Rattle.abnfread.specs.Element.{Element, Rule, Definition, body_of}
 use Rattle.abnfread.specs.AbnfViews.{element_of, rule_of, rules_of}
 use Rattle.abnfread.proofs.AbnfTableLemmas.{name_of, grow_named, grow-names, take_all, take-all}
 use Rattle.abnfread.proofs.CoreRuleLemmas.{found-in, some-one}
 
 abbrev pub core : List ℕ → Option Element
-core = body_in core_list
+core = body_of core_list
 
 abbrev pub known : table.Rules Elem → List (List ℕ)
 known rules = map name_of (rules_of rules)
@@ -192,7 +192,7 @@ not-true false f = refl
 
 module _ (d : Definition) where
   abbrev grown_row : table.Rule Elem → Rule
-  grown_row row = record { name = row.name; body = joined (element_of row.body) d.body; span = row.span }
+  grown_row row = record { name = row.name; body = with_alternatives (element_of row.body) d.body; span = row.span }
 
   kept-row : (row : table.Rule Elem) → (same_name Fold d.name row.name ≡ true → ⊥)
       → rule_of row ≡ grow_named d (rule_of row)
@@ -211,14 +211,14 @@ module _ (d : Definition) where
       ∙ ap (λ (rs : List Rule). grow_named d (rule_of row) ∷ rs) (none-grown rows (λ j r h k. f (suc j) r h k))
 
   set-grown : (rows : List (table.Rule Elem)) (id : ℕ) (old new : Elem) → slice_get (map row_body rows) id ≡ Some old
-      → element_of new ≡ joined (element_of old) d.body →
+      → element_of new ≡ with_alternatives (element_of old) d.body →
       ((j : ℕ) (row : table.Rule Elem) → slice_get rows j ≡ Some row → same_name Fold d.name row.name ≡ true → j ≡ id)
       → ((row : table.Rule Elem) → slice_get rows id ≡ Some row → same_name Fold d.name row.name ≡ true) →
       map rule_of (set_body rows id new) ≡ map (grow_named d) (map rule_of rows)
   set-grown [] id old new h e f t = refl
   set-grown (row ∷ rows) zero old new h e f t =
-      let body : element_of new ≡ joined (element_of row.body) d.body = e
-      ∙ ap (λ (x : Elem). joined (element_of x) d.body) (sym (some-one h)) in
+      let body : element_of new ≡ with_alternatives (element_of row.body) d.body = e
+      ∙ ap (λ (x : Elem). with_alternatives (element_of x) d.body) (sym (some-one h)) in
       ap (λ (x : Element). record { name = row.name; body = x; span = row.span } ∷ map rule_of rows) body
       ∙ ap (λ (r : Rule). r ∷ map rule_of rows) (named-row row (t row refl))
       ∙ ap (λ (rs : List Rule). grow_named d (rule_of row) ∷ rs)

@@ -80,15 +80,15 @@ parts_of r = elements_of r.parts.items
 abbrev pub outer_of : Reader → List Level
 outer_of r = levels_of r.outer.items
 
-abbrev pub body_of : Reader → Last → Config
-body_of r l = body (head_of r) (outer_of r) (ended_of r) (parts_of r) l
+abbrev pub body_config : Reader → Last → Config
+body_config r l = body (head_of r) (outer_of r) (ended_of r) (parts_of r) l
 
 abbrev pub config_at : Reader → At → Config
 config_at r ats.Start = start
 config_at r ats.Named = named (definitions_from r.definitions.items) r.name.now r.span
-config_at r ats.Fresh = body_of r fresh
-config_at r (ats.Awaits least most) = body_of r (awaits least most)
-config_at r ats.Read = body_of r read
+config_at r ats.Fresh = body_config r fresh
+config_at r (ats.Awaits least most) = body_config r (awaits least most)
+config_at r ats.Read = body_config r read
 config_at r ats.Done = done (definitions_from r.definitions.items)
 
 -- what the reader has come to

@@ -7,7 +7,7 @@ use Rattle.ruletable.specs.Rules.{same_name}
 use Rattle.ruletable.specs.declared.table.NameCase.TheVariants.{Fold}
 use Rattle.abnfread.specs.declared.elem.Elem.{Elem}
 use Rattle.abnfread.specs.CoreRules.{core_list}
-use Rattle.abnfread.specs.Element.{Element, Elements, none, more, append, Alt, Rule, bodies, Definition}
+use Rattle.abnfread.specs.Element.{Element, Elements, none, more, append, Alt, Rule, body_of, Definition}
 use Rattle.abnfread.specs.AbnfViews.{element_of, rules_of}
 use Rattle.abnfread.specs.AbnfSpelling.{alternation}
 
@@ -16,14 +16,9 @@ abbrev pub alternatives_of : Element → Elements
 alternatives_of (Alt xs) = xs
 alternatives_of x = more x none
 
--- the alternatives of one body, and then those of another
-abbrev pub joined : Element → Element → Element
-joined x y = alternation (append (alternatives_of x) (alternatives_of y))
-
--- the body of the first rule of that name among these
-abbrev pub body_in : List Rule → List ℕ → Option Element
-body_in rules n = elim (position (λ rule. same_name Fold n rule.name) rules)
-    [ None ↦ None | Some id ↦ slice_get (bodies rules) id ]
+-- the alternatives of one body, and then those of another (RFC 5234, section 3.3)
+abbrev pub with_alternatives : Element → Element → Element
+with_alternatives x y = alternation (append (alternatives_of x) (alternatives_of y))
 
 -- the place of the definition's name among these
 abbrev pub id_in : List (List ℕ) → Definition → Option ℕ
@@ -36,11 +31,11 @@ added n (d ∷ ds) = cond (d.adds && same_name Fold d.name n) (d.body ∷ added 
 
 abbrev pub extended : Element → List Element → Element
 extended x [] = x
-extended x (y ∷ ys) = extended (joined x y) ys
+extended x (y ∷ ys) = extended (with_alternatives x y) ys
 
 -- what the first definition of a name begins with: its body, behind that of a core rule which it extends
 abbrev pub first_body : (List ℕ → Option Element) → Definition → Element
-first_body core d = cond d.adds (elim (core d.name) [ None ↦ d.body | Some c ↦ joined c d.body ]) d.body
+first_body core d = cond d.adds (elim (core d.name) [ None ↦ d.body | Some c ↦ with_alternatives c d.body ]) d.body
 
 -- the rule that a definition begins, before any other adds to it
 abbrev pub begun : (List ℕ → Option Element) → Definition → Rule
@@ -82,9 +77,9 @@ earlies core n known (d ∷ ds) = elim (id_in known d) [
 pub record IsTableOf (definitions : List Definition) (rules : table.Rules Elem) (redefined early : List ℕ) : Type
     0 where
   pub names : rules.names ≡ Fold
-  pub kept : rules_of rules ≡ firsts (body_in core_list) [] definitions
-  pub again : redefined ≡ agains (body_in core_list) [] definitions
-  pub before : early ≡ earlies (body_in core_list) 0 [] definitions
+  pub kept : rules_of rules ≡ firsts (body_of core_list) [] definitions
+  pub again : redefined ≡ agains (body_of core_list) [] definitions
+  pub before : early ≡ earlies (body_of core_list) 0 [] definitions
 
 -- the table of the core rules
 pub record IsCoreTable (rules : table.Rules Elem) : Type 0 where
@@ -93,7 +88,7 @@ pub record IsCoreTable (rules : table.Rules Elem) : Type 0 where
 
 -- the first definition of its name, and whether it extends what no core rule defines
 abbrev pub IsFirstBody : Definition → Elem → Bool → Type 0
-IsFirstBody d e early = (element_of e ≡ first_body (body_in core_list) d) × (early ≡ is_early (body_in core_list) d)
+IsFirstBody d e early = (element_of e ≡ first_body (body_of core_list) d) × (early ≡ is_early (body_of core_list) d)
 
 -- the rule with that id has more alternatives, and all else is as it was
 pub record IsExtended (old new : table.Rules Elem) (id : ℕ) (more_body : Element) : Type 0 where
@@ -101,7 +96,7 @@ pub record IsExtended (old new : table.Rules Elem) (id : ℕ) (more_body : Eleme
   pub joins : Elem
   pub there : slice_get (table.bodies_of old) id ≡ Some body
   pub is : new ≡ table.with_body old id joins
-  pub sums : element_of joins ≡ joined (element_of body) more_body
+  pub sums : element_of joins ≡ with_alternatives (element_of body) more_body
 
 -- but for the body of one rule the table is as it was
 pub record IsTaken {E : Type 0} (old : table.Rules E) (id : ℕ) (new : table.Rules E) : Type 0 where

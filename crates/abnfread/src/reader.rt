@@ -5,7 +5,7 @@ ghost use Rattle.abnfread.specs.AbnfMachine.{apply, enclosed, finish, ended, sno
 ghost use Rattle.abnfread.specs.AbnfMachine.{element_step, fresh_step, read_step, named_step, rule_step, close_step};
 ghost use Rattle.abnfread.specs.AbnfMachine.{end_step, first_step, later_step, step};
 ghost use Rattle.abnfread.specs.AbnfReader.{said_of, definition_from, definitions_from, times_of, bracket_of, level_of};
-ghost use Rattle.abnfread.specs.AbnfReader.{levels_of, head_of, ended_of, parts_of, outer_of, body_of, config_of};
+ghost use Rattle.abnfread.specs.AbnfReader.{levels_of, head_of, ended_of, parts_of, outer_of, body_config, config_of};
 ghost use Rattle.abnfread.specs.AbnfReader.{Steps, sample, is_there};
 ghost use Rattle.abnfread.specs.AbnfSpelling.{concatenation as concatenation_of, alternation as alternation_of};
 ghost use Rattle.abnfread.specs.AbnfWords.{word};

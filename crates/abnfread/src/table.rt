@@ -3,7 +3,7 @@ ghost use Rattle.std.specs.Prelude.{◌≡◌, ◌<◌, length, slice_get, Some,
 ghost use Rattle.ruletable.specs.Rules.{bodies_of};
 ghost use Rattle.ruletable.specs.declared.table.NameCase.TheVariants.{Fold};
 ghost use Rattle.abnfread.specs.AbnfReader.{definition_from, definitions_from};
-ghost use Rattle.abnfread.specs.AbnfTable.{alternatives_of as alternatives, joined, IsTableOf, IsCoreTable};
+ghost use Rattle.abnfread.specs.AbnfTable.{alternatives_of as alternatives, with_alternatives, IsTableOf, IsCoreTable};
 ghost use Rattle.abnfread.specs.AbnfTable.{IsFirstBody, IsExtended, IsTaken};
 ghost use Rattle.abnfread.specs.AbnfViews.{element_of, elements_of};
 
@@ -44,7 +44,7 @@ fn alternatives_of(alloc: Global, e: Elem) -> Result<Vec<Elem>, Memory>
 
 // The alternatives of one body, and then those of another.
 fn join(alloc: Global, old: Elem, new: Elem) -> Result<Elem, Memory>
-    ensures { IfOk result (λ e. element_of e ≡ joined (element_of old) (element_of new)) }
+    ensures { IfOk result (λ e. element_of e ≡ with_alternatives (element_of old) (element_of new)) }
 {
     let mut all = alternatives_of(alloc, old)?;
     let more = alternatives_of(alloc, new)?;

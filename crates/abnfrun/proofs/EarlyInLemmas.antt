@@ -10,9 +10,9 @@ use Rattle.std.proofs.lemmas.List.Folds.{find-append, list_any-append}
 use Rattle.std.proofs.lemmas.Slice.Eq.{bytes_eq-Decides}
 use Rattle.ruletable.specs.Rules.{key_of, same_name}
 use Rattle.ruletable.specs.declared.table.NameCase.TheVariants.{Fold}
-use Rattle.abnfread.specs.AbnfTable.{body_in, id_in, begun, grown, firsts, is_early, earlies}
+use Rattle.abnfread.specs.AbnfTable.{id_in, begun, grown, firsts, is_early, earlies}
 use Rattle.abnfread.specs.CoreRules.{core_list}
-use Rattle.abnfread.specs.Element.{Rule, Definition}
+use Rattle.abnfread.specs.Element.{Rule, Definition, body_of}
 use Rattle.abnfcheck.proofs.JoinLemmas.{place_found}
 use Rattle.abnfrun.specs.AbnfNoted.{begins_early, early_in}
 
@@ -92,28 +92,28 @@ module _ (all : List Definition) where
   ids_step n rule (Some id) early there ids still rules same e first next later = later (sym e)
 
   begins_early_first : (before ds : List Definition) (d : Definition) → all ≡ before ++ d ∷ ds
-      → list_any (named d.name) before ≡ false → begins_early all (grown ds (begun (body_in core_list) d))
-      ≡ is_early (body_in core_list) d
+      → list_any (named d.name) before ≡ false → begins_early all (grown ds (begun (body_of core_list) d))
+      ≡ is_early (body_of core_list) d
   begins_early_first before ds d is none =
-      ap (λ l. option_map_or (is_early (body_in core_list)) (find (named d.name) l) false) is
-      ∙ ap (λ o. option_map_or (is_early (body_in core_list)) o false) (first_named before ds d none)
+      ap (λ l. option_map_or (is_early (body_of core_list)) (find (named d.name) l) false) is
+      ∙ ap (λ o. option_map_or (is_early (body_of core_list)) o false) (first_named before ds d none)
 
   ids_from : (before ds : List Definition) (known : List (List ℕ)) (n : ℕ) → all ≡ before ++ ds → AreKnown known before
-      → earlies (body_in core_list) n known ds
-      ≡ filter_map pick (enumerate_from n (firsts (body_in core_list) known ds))
+      → earlies (body_of core_list) n known ds
+      ≡ filter_map pick (enumerate_from n (firsts (body_of core_list) known ds))
   ids_from before [] known n is are = refl
   ids_from before (d ∷ ds) known n is are =
       let next : all ≡ (before ++ d ∷ []) ++ ds = is ∙ sym (append_assoc before (d ∷ []) ds) in
-      ids_step n (grown ds (begun (body_in core_list) d)) (id_in known d) (is_early (body_in core_list) d)
-      (list_any (same_name Fold d.name) known) (earlies (body_in core_list) (suc n) (known ++ d.name ∷ []) ds)
-      (earlies (body_in core_list) n known ds) (firsts (body_in core_list) (known ++ d.name ∷ []) ds)
-      (firsts (body_in core_list) known ds) (place_found (same_name Fold d.name) known)
+      ids_step n (grown ds (begun (body_of core_list) d)) (id_in known d) (is_early (body_of core_list) d)
+      (list_any (same_name Fold d.name) known) (earlies (body_of core_list) (suc n) (known ++ d.name ∷ []) ds)
+      (earlies (body_of core_list) n known ds) (firsts (body_of core_list) (known ++ d.name ∷ []) ds)
+      (firsts (body_of core_list) known ds) (place_found (same_name Fold d.name) known)
       (λ none. begins_early_first before ds d is (sym (are d.name) ∙ none))
       (ids_from (before ++ d ∷ []) ds (known ++ d.name ∷ []) (suc n) next (known_more known before d are)
-      ∙ ap (λ k. filter_map pick (enumerate_from k (firsts (body_in core_list) (known ++ d.name ∷ []) ds)))
+      ∙ ap (λ k. filter_map pick (enumerate_from k (firsts (body_of core_list) (known ++ d.name ∷ []) ds)))
       (sym (add-one n)))
       (λ there. ids_from (before ++ d ∷ []) ds known n next (known_still known before d are there))
 
-pub earlies_are_early : (definitions : List Definition) → earlies (body_in core_list) 0 [] definitions
+pub earlies_are_early : (definitions : List Definition) → earlies (body_of core_list) 0 [] definitions
     ≡ early_in definitions
 earlies_are_early definitions = ids_from definitions [] definitions [] 0 refl (λ name. refl)

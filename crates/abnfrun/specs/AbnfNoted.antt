@@ -7,9 +7,9 @@ use Rattle.ruletable.specs.Notes.{Said, said}
 use Rattle.ruletable.specs.declared.note.NoteKind.TheVariants.{Redefined}
 use Rattle.ruletable.specs.Rules.{same_name}
 use Rattle.ruletable.specs.declared.table.NameCase.TheVariants.{Fold}
-use Rattle.abnfread.specs.AbnfTable.{body_in, agains, is_early}
+use Rattle.abnfread.specs.AbnfTable.{agains, is_early}
 use Rattle.abnfread.specs.CoreRules.{core_list}
-use Rattle.abnfread.specs.Element.{Rule, Definition}
+use Rattle.abnfread.specs.Element.{Rule, Definition, body_of}
 use Rattle.abnfcheck.specs.AbnfNotes.{Those, AreNotes, IsRefused, judged_in}
 use Rattle.abnfcheck.specs.WithCore.{has_name}
 use Rattle.abnfprint.specs.AbnfReadBack.{file_rules}
@@ -22,12 +22,12 @@ all_rules definitions =
 
 -- the ids of the rules that the file defines again
 abbrev pub again_in : List Definition → List ℕ
-again_in definitions = agains (body_in core_list) [] definitions
+again_in definitions = agains (body_of core_list) [] definitions
 
 -- whether the first definition of the rule's name begins with `=/`, and no core rule has the name
 abbrev pub begins_early : List Definition → Rule → Bool
 begins_early definitions rule =
-    option_map_or (is_early (body_in core_list)) (find (λ d. same_name Fold rule.name d.name) definitions) false
+    option_map_or (is_early (body_of core_list)) (find (λ d. same_name Fold rule.name d.name) definitions) false
 
 -- the ids of the rules that the file extends before it defines them
 abbrev pub early_in : List Definition → List ℕ

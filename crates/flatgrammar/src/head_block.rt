@@ -9,7 +9,7 @@ ghost use Rattle.flatgrammar.specs.HeadBlocks.{IsCalled, IsPast, Grows, BeginsAt
 
 use crate::block::{Block, Spot};
 use crate::flat_item::Item;
-use crate::inner::{Inner, count, home, inner_at};
+use crate::inner::{Inner, begin_steps, home, inner_at};
 use crate::tables::{Tables, call, null, takes_letter};
 use ruletable::Memory;
 use std::alloc::Global;
@@ -94,7 +94,7 @@ fn add_node(
     ensures { IfOk result (λ _. Grows flat.now inners.now (BeginsAt flat.now node) (block_in (Some block.old))
         (block_in (Some block.new))) }
 {
-    for step in 0..count(flat, node) {
+    for step in 0..begin_steps(flat, node) {
         add_spot(flat, inners, Spot { node, step }, block)?;
     }
     Ok(())

@@ -22,7 +22,7 @@ pub struct Inner {
 }
 
 /// Returns in how many steps a node begins, which are those from 0 on.
-pub(crate) fn count(flat: &Tables, node: usize) -> usize
+pub fn begin_steps(flat: &Tables, node: usize) -> usize
     ensures { result ≡ begin_count flat.now node }
 {
     match flat.nodes.get(node) {
@@ -81,7 +81,7 @@ fn inner_of(flat: &Tables, caller: Caller, inners: &[Option<Inner>], node: usize
     if root == node
         && node < place.node
         && head < flat.nodes.len()
-        && place.step < count(flat, place.node)
+        && place.step < begin_steps(flat, place.node)
         && next != place.step
         && !is_whole(flat, node)
     {

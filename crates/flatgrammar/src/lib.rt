@@ -20,7 +20,7 @@ pub use block::{Block, Spot};
 pub use flat::Flat;
 pub use flat_item::Item;
 pub use flat_node::{Ends, Node, Set};
-pub use inner::Inner;
+pub use inner::{Inner, begin_steps};
 pub use item_laws::{items_at_most, items_tell};
 pub use lowered::{lower, lower_rules};
 pub use spot_list::{Ask, SpotList};

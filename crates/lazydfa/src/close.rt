@@ -7,7 +7,7 @@ ghost use Rattle.lazydfa.specs.Conts.{AreKept, AreOlder, Adds, IsAdded, stack_of
 ghost use Rattle.lazydfa.specs.Conts.{after, Goes, EndsAlone, IsClosure};
 
 use crate::conts::{Cont, Conts, id_of};
-use flatgrammar::{Item, Node, Tables, deed_of};
+use flatgrammar::{Item, Tables, begin_steps, deed_of};
 use ruletable::Memory;
 
 /// Ids, in order, where each of them stands, and over how many of them one may go. These places are not relied on.
@@ -61,21 +61,6 @@ pub(crate) fn add(ids: &mut Ids, id: usize) -> Result<(), Memory>
     Ok(())
 }
 
-/// Returns at how many steps a node begins.
-fn begins(tables: &Tables, node: usize) -> usize
-    ensures { result ≡ begin_count tables.now node }
-{
-    match tables.nodes.get(node) {
-        Some(node) => match node {
-            Node::Letters(_) | Node::Concat(_) | Node::Rep { .. } | Node::Turns { .. } => 1,
-            Node::Alt(members) => members.len(),
-            Node::Opt(_) => 2,
-            Node::Name(_) | Node::Nothing => 0,
-        },
-        None => 0,
-    }
-}
-
 /// Adds the continuations where a root begins, before what is below.
 pub(crate) fn enter(
     tables: &Tables,
@@ -90,7 +75,7 @@ pub(crate) fn enter(
     ensures adds { IfOk result (λ done. Adds conts.new.items.items (Begun root (begin_count tables.now root)
         (stack_of conts.old.items.items below)) ids.old.items.items ids.new.items.items) }
 {
-    for step in 0..begins(tables, root) {
+    for step in 0..begin_steps(tables, root) {
         let id = id_of(
             conts,
             Cont {

@@ -12,5 +12,5 @@ loop-step-preserved c = node_more c.args.flat.now c.args.inners.now c.args.node 
 pub returns : goal.returns
 returns c = node_done c.args.flat.now c.args.inners.now c.args.node c.loop-step.step _ _
     ((let le = c.loop-step.auto.step-end in let over = c.loop-step-test.false in let same : c.loop-step.step
-    ≡ c.count-step-end.result = omega (arith, le, over) in same) ∙ c.count-step-end.ensures)
+    ≡ c.begin_steps-step-end.result = omega (arith, le, over) in same) ∙ c.begin_steps-step-end.ensures)
     c.loop-step.invariant

@@ -1,5 +1,5 @@
 use Rattle.stacks.proofs.StacksLemmas.{accepted_holds, holds_accepted, reached_item, item_reached}
-use Rattle.stacks.proofs.stacks_tell.Goals as goal
+use Rattle.stacks.proofs.laws.stacks_tell.Goals as goal
 
 pub returns : goal.returns
 returns c = λ flat last body x tells uncounted whole j. (

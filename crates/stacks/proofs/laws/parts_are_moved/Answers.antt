@@ -1,6 +1,6 @@
 use Rattle.std.specs.Prelude.{Contains}
 use Rattle.stacks.proofs.FrontLemmas.{unfolded_front, split_plain, not_ended, nothing_below}
-use Rattle.stacks.proofs.parts_are_moved.Goals as goal
+use Rattle.stacks.proofs.laws.parts_are_moved.Goals as goal
 
 pub returns : goal.returns
 returns c = λ flat last x j tops. (

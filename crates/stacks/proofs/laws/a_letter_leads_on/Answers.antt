@@ -1,6 +1,6 @@
 use Rattle.std.specs.Prelude.{Contains}
 use Rattle.stacks.proofs.FrontLemmas.{taken_by_tops, next_front}
-use Rattle.stacks.proofs.a_letter_leads_on.Goals as goal
+use Rattle.stacks.proofs.laws.a_letter_leads_on.Goals as goal
 
 pub returns : goal.returns
 returns c = λ flat last x j b d letter alike tops below plain. (
