@@ -12,9 +12,9 @@ use Rattle.abnfcheck.specs.Beginnings.{IsFurthest}
 use Rattle.abnfcheck.specs.Decided.{Says}
 use Rattle.abnfcheck.specs.Derivable.{RuleDerives}
 use Rattle.abnfrun.specs.LetterAnswers.{IsAnswerOn}
-use Rattle.earley.specs.Verdicts.{IsVerdict}
-use Rattle.earley.specs.declared.verdict.Verdict.{Verdict}
-use Rattle.earley.specs.declared.verdict.Verdict.TheVariants as verdict
+use Rattle.flatgrammar.specs.Verdicts.{IsVerdict}
+use Rattle.flatgrammar.specs.declared.verdict.Verdict.{Verdict}
+use Rattle.flatgrammar.specs.declared.verdict.Verdict.TheVariants as verdict
 use Rattle.flatgrammar.specs.Flat.{Flat}
 use Rattle.flatgrammar.specs.Lowered.{IsLowered}
 use Rattle.flatgrammar.specs.ToldBeginnings.{TellsBeginnings}

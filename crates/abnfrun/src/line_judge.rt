@@ -14,9 +14,9 @@ ghost use Rattle.toolrun.specs.Stopped.{Performs};
 ghost use Rattle.toolrun.specs.Stream.{passed};
 
 use abnfcheck::{SoundAbnf, derivation_is_decided, furthest_is_found};
-use earley::{Chart, Verdict, judge, viable};
+use earley::{Chart, judge, viable};
 use feed::Source;
-use flatgrammar::{Flat, lower};
+use flatgrammar::{Flat, Verdict, lower};
 use lazydfa::Automaton;
 use letters::{Alphabet, CodePoint, Letter, decode, utf8_is_decided, utf8_len};
 use lines::{Answer, Judge, run_lines};

@@ -8,8 +8,8 @@ use Rattle.flatgrammar.specs.Holds.{Holds}
 use Rattle.flatgrammar.specs.Places.{In, now}
 use Rattle.flatgrammar.specs.ToldBeginnings.{HasItem, TellsBeginnings}
 use Rattle.earley.specs.ChartSets.{set_at, IsSet}
-use Rattle.earley.specs.Verdicts.{IsVerdict}
-use Rattle.earley.specs.declared.verdict.Verdict.TheVariants.{No}
+use Rattle.flatgrammar.specs.Verdicts.{IsVerdict}
+use Rattle.flatgrammar.specs.declared.verdict.Verdict.TheVariants.{No}
 
 some_item : (flat : Flat) (x : List ℕ) (j : ℕ) (set : List (Place × ℕ)) → IsSet flat x j set → 0 < length set
     → HasItem flat x j

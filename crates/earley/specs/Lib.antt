@@ -8,6 +8,5 @@ pub mod HeadTables
 pub mod ItemRows
 pub mod ItemSets
 pub mod ReadItems
-pub mod Verdicts
 pub mod Waiting
 pub mod Worklist

@@ -15,4 +15,4 @@ mod verdict;
 mod wait;
 
 pub use chart::{Chart, judge};
-pub use verdict::{Verdict, viable};
+pub use verdict::viable;

@@ -2,26 +2,16 @@
 ghost use Rattle.std.specs.Prelude.{◌≡◌, ◌+◌, ◌*◌, ◌<◌, ◌≤◌, ℕ, List, [], IfOk, OnErr, length, map};
 ghost use Rattle.abnfread.specs.Element.{Rule};
 ghost use Rattle.earley.specs.ChartSets.{set_at, IsSet};
-ghost use Rattle.earley.specs.Verdicts.{IsVerdict};
 ghost use Rattle.flatgrammar.specs.Places.{places};
 ghost use Rattle.flatgrammar.specs.ToldBeginnings.{TellsBeginnings};
+ghost use Rattle.flatgrammar.specs.Verdicts.{IsVerdict};
 ghost use Rattle.letters.specs.Letters.{has};
 
 use crate::chart::{Chart, judge};
 use crate::letter_law::values_are_letters;
-use flatgrammar::Flat;
+use flatgrammar::{Flat, Verdict};
 use letters::Letter;
 use ruletable::Memory;
-
-/// What is told of a line.
-#[derive(Clone, Copy, Debug, PartialEq, Eq)]
-pub enum Verdict {
-    /// The judged rule derives it.
-    Yes,
-    /// The judged rule does not derive it: its first so many letters begin a list that the rule derives, and no more of
-    /// them do; 0 if the rule derives no list.
-    No(usize),
-}
 
 // Returns the number of the last set up to that number that is not empty, 0 if there is none.
 fn furthest(chart: &Chart, end: usize) -> usize

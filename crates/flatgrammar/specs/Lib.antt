@@ -14,4 +14,5 @@ pub mod Places
 pub mod Roots
 pub mod TableViews
 pub mod ToldBeginnings
+pub mod Verdicts
 pub mod Ways

@@ -15,6 +15,7 @@ mod nulls;
 mod roots;
 mod spot_list;
 mod tables;
+mod verdict;
 
 pub use block::{Block, Spot};
 pub use flat::Flat;
@@ -28,3 +29,4 @@ pub use tables::{
     Deed, Tables, asks, call, calls, deed_of, null, passes, readers, reads, sole_caller, spots,
     takes_letter, whole_root,
 };
+pub use verdict::Verdict;

@@ -1,8 +1,8 @@
 //! How far lines begin something that a rule derives, found by hand.
 use abnfcheck::check_abnf;
 use abnfread::read_abnf;
-use earley::{Chart, Verdict, viable};
-use flatgrammar::Flat;
+use earley::{Chart, viable};
+use flatgrammar::{Flat, Verdict};
 use letters::{Alphabet, Letter, decode};
 use ruletable::Memory;
 use std::alloc::Global;

@@ -3,8 +3,8 @@ use Rattle.std.specs.Prelude.{ℕ, Bool, List}
 use Rattle.abnfread.specs.Element.{Rule}
 use Rattle.abnfcheck.specs.Beginnings.{IsFurthest}
 use Rattle.abnfcheck.specs.Derivable.{RuleDerives}
-use Rattle.earley.specs.declared.verdict.Verdict.{Verdict}
-use Rattle.earley.specs.declared.verdict.Verdict.TheVariants.{Yes, No}
+use Rattle.flatgrammar.specs.declared.verdict.Verdict.{Verdict}
+use Rattle.flatgrammar.specs.declared.verdict.Verdict.TheVariants.{Yes, No}
 
 -- yes: the rule derives the line; no: it does not, and n letters are its longest viable beginning
 abbrev pub IsVerdict : (ℕ → Bool) → List Rule → ℕ → List ℕ → Verdict → Type 0
