@@ -1,11 +1,12 @@
 #!/usr/bin/env python3
-"""Runs the examples of the manual pages as they stand there, and fails where one prints something else.
+"""Runs the examples of the manual pages and of README as they stand there, and fails where one prints something else.
 
 usage: man_examples.py [BIN PAGES]
 
-`The file NAME` stands before the text of a file. Lines with `$ ` are commands; what stands behind a command is
-what it prints, on either output. The commands of a page run in one folder. The programs are those of bin/ and the pages
-those of man/, or those of the two folders that are named; a page there may be packed.
+`The file NAME` stands before the text of a file in a manual page; in README `$ cat NAME` does. Lines with `$ ` are
+commands; what stands behind a command is what it prints, on either output. The commands of a page run in one folder. The
+programs are those of bin/, or of the first folder that is named, and then the manual pages alone are run: those of the
+second folder, where they may be packed.
 """
 import gzip
 import os
@@ -26,6 +27,10 @@ def plain(line):
 def blocks(page):
     """Yields the lines of each example, with the name of the file that stands in it, if the text before names one."""
     raw = page.read_bytes()
+    if page.suffix == ".md":
+        for found in re.finditer(r"^```\n((?:.*\n)*?)```\n", raw.decode(), re.M):
+            yield None, found.group(1).splitlines()
+        return
     text = (gzip.decompress(raw) if page.suffix == ".gz" else raw).decode().partition("\n.SH EXAMPLES\n")[2]
     for found in re.finditer(r"((?:(?!\.nf\n).*\n)*?)\.nf\n\.RS\n((?:.*\n)*?)\.RE\n\.fi\n", text):
         named = re.findall(r"\bThe file ([\w.-]+\w)", found.group(1))
@@ -48,6 +53,9 @@ def run_page(page, programs, folder):
                 (folder / name).write_text("".join(it + "\n" for it in lines))
             continue
         for command, want in commands(lines):
+            shown = re.fullmatch(r"cat ([\w.-]+)", command)
+            if page.suffix == ".md" and shown:
+                (folder / shown.group(1)).write_text(want)
             found = subprocess.run(["sh", "-c", command], cwd=folder, env=environment, text=True, check=False,
                                    stdout=subprocess.PIPE, stderr=subprocess.STDOUT).stdout
             ran += 1
@@ -60,7 +68,7 @@ def run_page(page, programs, folder):
 def main(words):
     programs, pages = map(pathlib.Path, words or (TOP / "bin", TOP / "man"))
     status = 0
-    for page in sorted(pages.glob("*.1*")):
+    for page in (*sorted(pages.glob("*.1*")), *(() if words else (TOP / "README.md",))):
         with tempfile.TemporaryDirectory() as folder:
             ran, wrong = run_page(page, programs.resolve(), pathlib.Path(folder))
         print(f"{page.name}: {ran} commands, {wrong} wrong")
