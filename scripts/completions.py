@@ -39,14 +39,14 @@ class Program:
 
 
 GRAMMAR = "The file of the grammar, at most 1048576 bytes"
-MODE = Option("m", "MODE", ("run", "check", "print"), "What is done with the grammar")
+MODE = Option("m", "MODE", ("run", "check", "print"), "What to do with the grammar")
 HELP = Option("h", "", (), "Print help")
 PROGRAMS = (
     Program("pegi", (
         MODE,
         Option("l", "N", (), "How many bytes a unit may look at, from 1 to 16777216"),
         Option("s", "RULE", (), "The start rule [default: the first rule]"),
-        Option("r", "", (), "Print actions neither trimmed nor each on a line of its own"),
+        Option("r", "", (), "Print actions verbatim"),
         HELP,
     ), "<-"),
     Program("abnfi", (
@@ -56,6 +56,7 @@ PROGRAMS = (
         Option("u", "MODE", ("bytes", "utf8"),
                "What the letters of a line are: its bytes, or the code points of UTF-8"),
         Option("w", "", (), "Write how far a refused line goes: no N"),
+        Option("z", "", (), "Cut the input at NUL bytes in place of line feeds"),
         HELP,
     ), "="),
 )

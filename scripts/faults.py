@@ -4,7 +4,7 @@ and with a stack of 256 KB.
 
 usage: faults.py [SWEEP ..]
 
-The sweeps are `memory`, `writes`, `reads`, `streams` and `stack`; all of them if none is named. Each prints how many
+The sweeps are `memory`, `writes`, `reads`, `streams`, `stack` and `bound`; all of them if none is named. Each prints how many
 runs it made. A run that is not as it must be is printed, and then the status is 1. A program that is not built is
 skipped, and so are the first three sweeps where there is no C compiler `cc`.
 """
@@ -304,8 +304,27 @@ def stack(tools):
             hostile(tools, run)
 
 
+# Bytes of memory that the system gives to a run.
+BOUND = 400_000_000
+
+
+def bound(tools):
+    """A line whose sets of items need more memory than the system gives."""
+    run = abnf("a line of 60,001 letters", b's = "a" s "a" / "a"', b"a\n" + b"a" * 60001 + b"\n", [YES],
+               b"out of memory\n", 5, words=["-w"])
+    if not tools.has(run.program):
+        return
+    file = tools.folder / "grammar"
+    file.write_bytes(run.grammar)
+    ran = subprocess.run([TOP / "bin" / run.program, *run.words, file], input=run.given, capture_output=True, timeout=120,
+                         preexec_fn=lambda: resource.setrlimit(resource.RLIMIT_AS, (BOUND, BOUND)), check=False)
+    ended = Ended(ran.stdout, ran.stderr, ran.returncode, False)
+    tools.expect(run, ended, is_as_stated(run, ended), f"{BOUND} bytes of memory")
+
+
 def main():
-    sweeps = {"memory": memory, "writes": writes, "reads": reads, "streams": streams, "stack": stack}
+    sweeps = {"memory": memory, "writes": writes, "reads": reads, "streams": streams, "stack": stack,
+              "bound": bound}
     words = argparse.ArgumentParser(description="Refuses memory, writes, reads and stack to the programs.")
     words.add_argument("sweep", nargs="*", choices=[*sweeps, []])
     wanted = words.parse_args().sweep or list(sweeps)

@@ -21,7 +21,7 @@ BEFORE = (
     ("names.py",), ("doc_names.py",), ("edit_index.py", "-q"), ("pages.py", "--check"), ("completions.py", "--check")
 )
 BEHIND = (
-    ("man_examples.py",), ("random_cases.py", "-n", "5000", "-u", "-w"), ("faults.py",), ("completions_test.py",),
+    ("man_examples.py",), ("random_cases.py", "-n", "5000", "-u", "-w", "-z"), ("faults.py",), ("completions_test.py",),
     ("package_test.py",)
 )
 TOP = pathlib.Path(__file__).resolve().parent.parent

@@ -24,7 +24,7 @@ def leaf(r, names):
         letters = bytes(r.choice(LETTERS + b" %") for _ in range(r.choice([0, 1, 1, 1, 2, 2, 3])))
         return kind, letters, r.random() < 0.3
     if kind == "values":
-        return kind, [r.choice([65, 97, 98, 48, 300, 255, 13, 0xD800, 0x10FFFF]) for _ in range(r.choice([1, 1, 2]))]
+        return kind, [r.choice([65, 97, 98, 48, 300, 255, 10, 13, 0xD800, 0x10FFFF]) for _ in range(r.choice([1, 1, 2]))]
     if kind == "range":
         first = r.choice([0, 48, 65, 97, 97, 200, 0xD7FF])
         return kind, first, first + r.choice([0, 1, 25, 100, 2000, 0x110000, -1 if first else 0])
@@ -97,23 +97,24 @@ def grown(r, rules, e, left, is_utf8=False):
     return grown(r, rules, rules.all.get(e[1].upper(), ("prose", b"")), left - 1, is_utf8)
 
 
-def line(r, rules, judged, longest, is_utf8):
-    """Returns a line that the judged rule derives, or one near it, or any. A long line takes more steps."""
+def line(r, rules, judged, longest, is_utf8, end):
+    """Returns a line that the judged rule derives, or one near it, or any, without the byte that ends lines. A long line
+    takes more steps."""
     if r.random() < 0.25:
-        return bytes(r.choice(LETTERS) for _ in range(r.randrange(6)))
+        return bytes(r.choice(LETTERS) for _ in range(r.randrange(6))).replace(end, b"")
     found = bytearray(grown(r, rules, ("name", judged), 12 if longest == 10 else 4 * longest, is_utf8)[:longest])
     if r.random() < 0.4:
         at = r.randrange(len(found) + 1)
         found[at:at + r.randrange(2)] = bytes([r.choice(LETTERS)] * r.randrange(2))
-    return bytes(found).replace(b"\n", b"")
+    return bytes(found).replace(end, b"")
 
 
-def given(r, grammar_of, judged, count, longest, is_utf8):
-    """Returns an input of so many lines, most of them of at most so many bytes."""
+def given(r, grammar_of, judged, count, longest, is_utf8, end=b"\n"):
+    """Returns an input of so many lines, most of them of at most so many bytes, each with that byte behind it."""
     rules = slow_abnf.Rules(grammar_of)
     first = judged or next(iter(rules.file))
-    lines = [line(r, rules, first, longest, is_utf8) for _ in range(count)]
-    return b"\n".join(lines) + r.choice([b"", b"\n", b"\n"])
+    lines = [line(r, rules, first, longest, is_utf8, end) for _ in range(count)]
+    return end.join(lines) + r.choice([b"", end, end])
 
 
 def number_text(r, value, base):

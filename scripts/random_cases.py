@@ -1,12 +1,13 @@
 #!/usr/bin/env python3
 """Compares bin/pegi and bin/abnfi with slow answers to random grammars and inputs (slow_peg.py, slow_abnf.py).
 
-usage: random_cases.py [-n COUNT] [-s SEED] [-u] [-w] [pegi | abnfi]
+usage: random_cases.py [-n COUNT] [-s SEED] [-u] [-w] [-z] [pegi | abnfi]
 
 A case is a unit that pegi tries, a line that abnfi judges, or a grammar that is refused. COUNT cases are compared, half
 of them by each program; 20000 if it is not given. Cases and their order follow from the seed alone. Prints how many
 cases were compared; at the first disagreement it prints the case and ends with status 1. A program that is not built is
-skipped. With -u half of the runs of abnfi have its option `-u utf8`, and with -w half of them have its option `-w`.
+skipped. With -u half of the runs of abnfi have its option `-u utf8`; so it is with -w and its option `-w`, and with -z and
+its option `-z`.
 """
 import argparse
 import collections
@@ -42,17 +43,20 @@ def peg_case(r):
     return Case(words, text, given, tuple(wanted), count)
 
 
-def abnf_case(r, may_be_utf8=False, may_be_viable=False):
+def abnf_case(r, may_be_utf8=False, may_be_viable=False, may_be_nul=False):
     """Returns a random run of abnfi."""
     is_utf8 = may_be_utf8 and r.random() < 0.5
     is_viable = may_be_viable and r.random() < 0.5
+    is_nul = may_be_nul and r.random() < 0.5
     rules = random_abnf.grammar(r)
     judged = r.choice([it[0].upper() for it in rules] + ["X", "alpha"]) if r.random() < 0.1 else None
     limit = r.choice([65536] * 8 + [5, 8])
     words = ["-l", str(limit)] + (["-s", judged] if judged else []) + ["-u", "utf8"] * is_utf8 + ["-w"] * is_viable
+    words += ["-z"] * is_nul
     longest = 40 if rules in random_abnf.SHAPES else 10
-    text, given = random_abnf.grammar_text(r, rules), random_abnf.given(r, rules, judged, LINES, longest, is_utf8)
-    *wanted, count = slow_abnf.answer(rules, given, limit, judged, is_utf8, is_viable)
+    end = b"\0" if is_nul else b"\n"
+    text, given = random_abnf.grammar_text(r, rules), random_abnf.given(r, rules, judged, LINES, longest, is_utf8, end)
+    *wanted, count = slow_abnf.answer(rules, given, limit, judged, is_utf8, is_viable, end)
     return Case(words, text, given, tuple(wanted), count)
 
 
@@ -100,13 +104,14 @@ def main():
     words.add_argument("-s", default="1", metavar="SEED")
     words.add_argument("-u", action="store_true", help="half of the runs of abnfi by `-u utf8`")
     words.add_argument("-w", action="store_true", help="half of the runs of abnfi by `-w`")
+    words.add_argument("-z", action="store_true", help="half of the runs of abnfi by `-z`")
     words.add_argument("program", nargs="?", choices=["pegi", "abnfi"])
     given = words.parse_args()
     sys.setrecursionlimit(20000)
     count = given.n // 2 if given.program is None else given.n
     right = True
     with tempfile.TemporaryDirectory(prefix="random_cases-") as folder:
-        for name, make in (("pegi", peg_case), ("abnfi", lambda r: abnf_case(r, given.u, given.w))):
+        for name, make in (("pegi", peg_case), ("abnfi", lambda r: abnf_case(r, given.u, given.w, given.z))):
             program = TOP / "bin" / name
             if given.program not in (None, name):
                 continue

@@ -249,14 +249,14 @@ def furthest(rules, letters, key, is_utf8):
     return next((size for size in sizes if Deriver(rules, letters[:size], may_follow).derives(key)), 0)
 
 
-def answer(grammar, given, limit, judged, is_utf8=False, is_viable=False):
+def answer(grammar, given, limit, judged, is_utf8=False, is_viable=False, end=b"\n"):
     """Returns the output, the error output, the status, and how many lines were judged; refusals are one."""
     rules = Rules(grammar)
     told, refused = notes_on(rules, judged)
     if refused:
         return b"", told, 2, 1
     key = (judged or next(iter(rules.file))).upper()
-    lines = given.split(b"\n")
+    lines = given.split(end)
     lines = lines[:-1] if lines[-1] == b"" else lines
     out, status = [], 0
     for number, line in enumerate(lines, 1):

@@ -19,9 +19,10 @@ function __abnfi_rules
     end
 end
 
-complete -c abnfi -s m -x -a 'run check print' -d 'What is done with the grammar'
+complete -c abnfi -s m -x -a 'run check print' -d 'What to do with the grammar'
 complete -c abnfi -s l -x -d 'How many bytes a line may have, from 1 to 16777216'
 complete -c abnfi -s s -x -a '(__abnfi_rules)' -d 'The judged rule [default: the first rule]'
 complete -c abnfi -s u -x -a 'bytes utf8' -d 'What the letters of a line are: its bytes, or the code points of UTF-8'
 complete -c abnfi -s w -d 'Write how far a refused line goes: no N'
+complete -c abnfi -s z -d 'Cut the input at NUL bytes in place of line feeds'
 complete -c abnfi -s h -l help -f -d 'Print help'

@@ -19,8 +19,8 @@ function __pegi_rules
     end
 end
 
-complete -c pegi -s m -x -a 'run check print' -d 'What is done with the grammar'
+complete -c pegi -s m -x -a 'run check print' -d 'What to do with the grammar'
 complete -c pegi -s l -x -d 'How many bytes a unit may look at, from 1 to 16777216'
 complete -c pegi -s s -x -a '(__pegi_rules)' -d 'The start rule [default: the first rule]'
-complete -c pegi -s r -d 'Print actions neither trimmed nor each on a line of its own'
+complete -c pegi -s r -d 'Print actions verbatim'
 complete -c pegi -s h -l help -f -d 'Print help'

@@ -14,7 +14,7 @@ use Rattle.abnfrun.specs.AbnfAnswers.{AbnfStates, refused, noted, checked, judge
 use Rattle.abnfprint.specs.AbnfReadBack.{file_rules}
 use Rattle.abnfrun.specs.AbnfNoted.{all_rules, again_in, early_in, judged_of, AreNotesOn, IsRefusedFor, AreAgain}
 use Rattle.abnfrun.specs.AbnfNoted.{rule_given}
-use Rattle.abnfrun.specs.AbnfReply.{AnswersFor, printed_rules, JudgeReply}
+use Rattle.abnfrun.specs.AbnfReply.{AnswersFor, form_of, printed_rules, JudgeReply}
 use Rattle.abnfrun.proofs.IsAnswerOnLemmas.{FurthestIsOne}
 use Rattle.abnfrun.proofs.IsAnswerToLemmas.{TextIsOne, one_answer}
 use Rattle.lines.specs.declared.answers.Answer.{Answer}
@@ -98,7 +98,7 @@ module _ (settings : Settings) (input : Input) where
         → b.status ≢ 5 → a ≡ b
     one_run a b (steps.replied r g) (steps.replied q h) m n =
         one_lines_reply (AnswersFor (all_rules definitions) (judged_of definitions (rule_given settings)) settings)
-        (one (all_rules definitions) (judged_of definitions (rule_given settings))) settings.limit input a b g h
+        (one (all_rules definitions) (judged_of definitions (rule_given settings))) (form_of settings) input a b g h
     one_run a b (steps.no_memory point out reply before replies front) h m n = absurd (m refl)
     one_run a b g (steps.no_memory point out reply before replies front) m n = absurd (n refl)
 

@@ -13,7 +13,7 @@ use Rattle.abnfrun.specs.AbnfAnswers.{no_memory}
 use Rattle.abnfrun.specs.AbnfChecking.{IsChecked}
 use Rattle.abnfrun.specs.AbnfNoted.{rule_given}
 use Rattle.abnfrun.specs.AbnfPrinting.{IsPrintable}
-use Rattle.abnfrun.specs.AbnfReply.{AnswersFor, printed_rules}
+use Rattle.abnfrun.specs.AbnfReply.{AnswersFor, form_of, printed_rules}
 use Rattle.abnfrun.specs.AbnfTasks.{abnf_does, check_task, run_task}
 use Rattle.abnfrun.specs.declared.abnf_task.AbnfTask.{AbnfTask}
 use Rattle.lines.specs.InputLines.{none}
@@ -56,7 +56,7 @@ module _ (text : List ℕ) (settings : Settings) where
     stated = λ input reply is. let kept = c.ready.1 in let at = c.ready.2 in
         judges c.definitions notes reply c.reads c.are_notes c.ready.0 run (rw (kept, at) at is);
     some = λ input.
-        let goes = lines_go_on (AnswersFor (rules_of g.rules) g.judged settings) settings.limit input
+        let goes = lines_go_on (AnswersFor (rules_of g.rules) g.judged settings) (form_of settings) input
         (decided (rules_of g.rules) g.judged) (record { place = 0; count = 0; all = true }) [] none in
         (goes.reply, replied goes.reply goes.replies);
   }

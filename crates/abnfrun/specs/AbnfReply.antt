@@ -1,5 +1,6 @@
 -- What a run of a grammar on an input states.
-use Rattle.std.specs.Prelude.{◌≡◌, ℕ, Bool, true, false, List, take}
+use Prim.Native.Char.{code}
+use Rattle.std.specs.Prelude.{◌≡◌, ℕ, Bool, true, false, cond, List, take}
 use Rattle.abnfread.specs.Element.{Rule}
 use Rattle.abnfcheck.specs.Beginnings.{IsFurthest}
 use Rattle.abnfcheck.specs.Derivable.{RuleDerives}
@@ -10,6 +11,7 @@ use Rattle.letters.specs.declared.alphabet.Alphabet.{Alphabet}
 use Rattle.letters.specs.declared.alphabet.Alphabet.TheVariants.{Bytes, Utf8}
 use Rattle.lines.specs.InputLines.{Ends, Lines, LinesReply, place_taken}
 use Rattle.lines.specs.declared.answers.Answer.{Answer}
+use Rattle.lines.specs.declared.line.LineForm.{LineForm}
 use Rattle.lines.specs.declared.answers.Answer.TheVariants.{Yes, No, NoAfter}
 use Rattle.toolrun.specs.Input.{Input}
 use Rattle.toolrun.specs.Reply.{Reply, text_alone}
@@ -50,12 +52,17 @@ IsAnswerTo letters viable rules judged line (NoAfter n) = (viable ≡ true) × (
 abbrev pub AnswersFor : List Rule → ℕ → Settings → List ℕ → Answer → Type 0
 AnswersFor rules judged settings = IsAnswerTo settings.letters settings.viable rules judged
 
+-- how settings cut an input into lines: at LF, or at NUL if they ask for it
+abbrev pub form_of : Settings → LineForm
+form_of settings = record { limit = settings.limit; end = cond settings.nul 0 (code "\n") }
+
 -- each line of the input is judged by that rule, and no growth is refused
 abbrev pub JudgeReplies : List Rule → ℕ → Settings → Input → Reply → Type 0
 JudgeReplies rules judged settings input reply =
-    Replies (Lines (AnswersFor rules judged settings) settings.limit input)
-    (Ends (AnswersFor rules judged settings) settings.limit input) (place_taken settings.limit input) reply
+    Replies (Lines (AnswersFor rules judged settings) (form_of settings) input)
+    (Ends (AnswersFor rules judged settings) (form_of settings) input) (place_taken settings.limit input) reply
 
 -- each line of the input is judged by that rule, or the first ones where a growth is refused
 abbrev pub JudgeReply : List Rule → ℕ → Settings → Input → Reply → Type 0
-JudgeReply rules judged settings input reply = LinesReply (AnswersFor rules judged settings) settings.limit input reply
+JudgeReply rules judged settings input reply = LinesReply (AnswersFor rules judged settings) (form_of settings) input
+    reply

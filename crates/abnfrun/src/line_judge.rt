@@ -3,7 +3,7 @@ ghost use Rattle.std.specs.Prelude.{◌≡◌, ◌↔◌, ◌≤◌, ℕ, Bool, 
 ghost use Rattle.abnfcheck.specs.Derivable.{RuleDerives};
 ghost use Rattle.abnfread.specs.Element.{Rule};
 ghost use Rattle.abnfread.specs.AbnfViews.{rules_of};
-ghost use Rattle.abnfrun.specs.AbnfReply.{IsAnswerTo, JudgeReply};
+ghost use Rattle.abnfrun.specs.AbnfReply.{IsAnswerTo, JudgeReply, form_of};
 ghost use Rattle.abnfrun.specs.LetterAnswers.{IsAnswerOn, torn};
 ghost use Rattle.flatgrammar.specs.Lowered.{IsLowered};
 ghost use Rattle.flatgrammar.specs.ToldBeginnings.{TellsBeginnings};
@@ -19,7 +19,7 @@ use feed::Source;
 use flatgrammar::{Flat, Verdict, lower};
 use lazydfa::Automaton;
 use letters::{Alphabet, CodePoint, Letter, decode, utf8_is_decided, utf8_len};
-use lines::{Answer, Judge, run_lines};
+use lines::{Answer, Judge, LineForm, run_lines};
 use ruletable::{Memory, Sink, WriteFault};
 use std::alloc::Global;
 use toolrun::{Settings, Stop};
@@ -227,6 +227,16 @@ fn automaton_for(alloc: Global, flat: &Flat, settings: &Settings<'_>) -> Option<
     }
 }
 
+/// Returns how settings cut an input into lines.
+fn line_form(settings: &Settings<'_>) -> LineForm
+    ensures { result ≡ form_of settings.now }
+{
+    LineForm {
+        limit: settings.limit,
+        end: if settings.nul { 0 } else { b'\n' },
+    }
+}
+
 /// Judges the lines of what a reader gives by a grammar, and writes the answer to each: `yes`, `no`, or `no` and a
 /// number.
 pub fn judge_lines<R: Source, O: Sink>(
@@ -261,5 +271,6 @@ pub fn judge_lines<R: Source, O: Sink>(
         of_chart,
         automaton,
     };
-    run_lines(alloc, &judge, &mut work, settings.limit, reader, out)
+    let form = line_form(settings);
+    run_lines(alloc, &judge, &mut work, form, reader, out)
 }

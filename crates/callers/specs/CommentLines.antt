@@ -1,7 +1,9 @@
 -- Lines that are comments.
+use Prim.Native.Char.{code}
 use Rattle.std.specs.Prelude.{◌≡◌, ℕ, List, slice_get, Some}
 use Rattle.lines.specs.declared.answers.Answer.{Answer}
 use Rattle.lines.specs.declared.answers.Answer.TheVariants.{Yes, No, NoAfter}
+use Rattle.lines.specs.declared.line.LineForm.{LineForm}
 
 -- the line begins with `#`
 abbrev pub IsComment : List ℕ → Type 0
@@ -12,3 +14,7 @@ abbrev pub IsCommentAnswer : List ℕ → Answer → Type 0
 IsCommentAnswer line Yes = IsComment line
 IsCommentAnswer line No = IsComment line → ⊥
 IsCommentAnswer line (NoAfter n) = ⊥
+
+-- lines of at most 65,536 bytes, each with an LF behind it
+abbrev pub comment_form : LineForm
+comment_form = record { limit = 65536; end = code "\n" }

@@ -1,12 +1,12 @@
 //! A caller of `lines`.
 ghost use Rattle.std.specs.Prelude.{◌≡◌, false};
-ghost use Rattle.callers.specs.CommentLines.{IsCommentAnswer};
+ghost use Rattle.callers.specs.CommentLines.{IsCommentAnswer, comment_form};
 ghost use Rattle.lines.specs.InputLines.{LinesReply};
 ghost use Rattle.toolrun.specs.Stopped.{Performs};
 ghost use Rattle.toolrun.specs.Stream.{passed};
 
 use feed::Source;
-use lines::{Answer, Judge, run_lines};
+use lines::{Answer, Judge, LineForm, run_lines};
 use ruletable::{Memory, Sink, WriteFault};
 use std::alloc::Global;
 use toolrun::Stop;
@@ -40,8 +40,12 @@ pub fn answer_comments<R: Source, O: Sink>(
     requires reader_is_fresh { R.failed reader.old ≡ false }
     requires reader_is_open { R.ended reader.old ≡ false }
     requires out_is_fresh { O.failed out.old ≡ false }
-    ensures { Performs (LinesReply IsCommentAnswer 65536)
+    ensures { Performs (LinesReply IsCommentAnswer comment_form)
         (passed R.remaining R.failed reader.old reader.new) (passed O.contents O.failed out.old out.new) result }
 {
-    run_lines(alloc, &Comments, &mut (), 65_536, reader, out)
+    let form = LineForm {
+        limit: 65_536,
+        end: b'\n',
+    };
+    run_lines(alloc, &Comments, &mut (), form, reader, out)
 }

@@ -30,9 +30,10 @@ pub words_ask : (f : Found) (rows : List Row) → rows_of f ≡ rows → AreWhol
     → IsFlagOf (one_text f (codes "raw")) a.settings.raw
     → a.settings.letters ≡ alphabet_named (first_value f (codes "letters"))
     → IsFlagOf (one_text f (codes "viable")) a.settings.viable
+    → IsFlagOf (one_text f (codes "nul")) a.settings.nul
     → option_map (λ s. s.now) path ≡ first_value f (codes "grammar") → path ≡ Some a.path
     → Ask rows a
-words_ask f rows e whole a path mode limit start raw letters viable word is =
+words_ask f rows e whole a path mode limit start raw letters viable nul word is =
     let w = whole.limit in
     let number = subst (λ o. IsLimitOf o a.settings.limit) w.1 limit in
     record {
@@ -42,6 +43,7 @@ words_ask f rows e whole a path mode limit start raw letters viable word is =
       raw = flag_found f rows e (codes "raw") a.settings.raw whole.raw raw;
       letters = letters ∙ ap alphabet_named (first_found f rows e (codes "letters"));
       viable = flag_found f rows e (codes "viable") a.settings.viable whole.viable viable;
+      nul = flag_found f rows e (codes "nul") a.settings.nul whole.nul nul;
       grammar = sym (first_found f rows e (codes "grammar"))
           ∙ (sym word ∙ ap (option_map (λ (s : Bor Text). s.now)) is);
     }

@@ -49,6 +49,7 @@ pub record AreWhole (f : Found) : Type 0 where
   pub limit : (text : Text) × (one_text f (codes "limit") ≡ Some text) × IsLimitText text
   pub raw : IsFlagText (one_text f (codes "raw"))
   pub viable : IsFlagText (one_text f (codes "viable"))
+  pub nul : IsFlagText (one_text f (codes "nul"))
   pub grammar : is_some (first_value f (codes "grammar")) ≡ true
 
 -- the flag is given
@@ -65,4 +66,5 @@ pub record Ask (rows : List Row) (asked : Asked) : Type 0 where
   pub raw : asked.settings.raw ≡ is_flagged (one_of (codes "raw") rows)
   pub letters : asked.settings.letters ≡ alphabet_named (first_of (codes "letters") rows)
   pub viable : asked.settings.viable ≡ is_flagged (one_of (codes "viable") rows)
+  pub nul : asked.settings.nul ≡ is_flagged (one_of (codes "nul") rows)
   pub grammar : first_of (codes "grammar") rows ≡ Some asked.path.now

@@ -73,6 +73,10 @@ raw_rule = flag_rule (codes "raw") (code "r")
 abbrev pub viable_rule : Rule
 viable_rule = flag_rule (codes "viable") (code "w")
 
+-- `-z`
+abbrev pub nul_rule : Rule
+nul_rule = flag_rule (codes "nul") (code "z")
+
 -- the one word that is no option
 abbrev pub grammar_rule : Rule
 grammar_rule = record (new_rule (codes "grammar")) { value_names = 1; action = Some Set; required = true }
@@ -85,11 +89,11 @@ with_options names app = with_rule (with_rule (with_rule app (mode_rule names)) 
 abbrev pub pegi_app : Names → App
 pegi_app names = with_rule (with_rule (with_options names (new_app (codes "pegi"))) raw_rule) grammar_rule
 
--- `abnfi [-m MODE] [-l N] [-s RULE] [-u MODE] [-w] GRAMMAR`
+-- `abnfi [-m MODE] [-l N] [-s RULE] [-u MODE] [-w] [-z] GRAMMAR`
 abbrev pub abnfi_app : Names → Names → App
 abnfi_app names alphabets =
-    with_rule (with_rule (with_rule (with_options names (new_app (codes "abnfi"))) (letters_rule alphabets))
-    viable_rule) grammar_rule
+    with_rule (with_rule (with_rule (with_rule (with_options names (new_app (codes "abnfi"))) (letters_rule alphabets))
+    viable_rule) nul_rule) grammar_rule
 
 -- this is the command of the program
 abbrev pub IsAppOf : Program → App → Type 0

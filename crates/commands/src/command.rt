@@ -3,7 +3,7 @@ ghost use Rattle.std.specs.Prelude.{◌≡◌, IfOk, false, true, map};
 ghost use Rattle.clap.specs.Words.{app_of, found_of, is_simple, is_simple_and_free, rule_of};
 ghost use Rattle.commands.specs.Asked.{AreWhole};
 ghost use Rattle.commands.specs.Command.{AreAlphabets, AreModes, IsAppOf, grammar_rule, letters_rule, limit_rule};
-ghost use Rattle.commands.specs.Command.{mode_rule, raw_rule, start_rule, viable_rule, with_options};
+ghost use Rattle.commands.specs.Command.{mode_rule, nul_rule, raw_rule, start_rule, viable_rule, with_options};
 ghost use Rattle.commands.specs.Parsing.{Parses};
 
 use crate::help;
@@ -16,7 +16,7 @@ use std::convert::AsStr;
 pub enum Program {
     /// `pegi [-m MODE] [-l N] [-s RULE] [-r] GRAMMAR`
     Pegi,
-    /// `abnfi [-m MODE] [-l N] [-s RULE] [-u MODE] [-w] GRAMMAR`
+    /// `abnfi [-m MODE] [-l N] [-s RULE] [-u MODE] [-w] [-z] GRAMMAR`
     Abnfi,
 }
 
@@ -95,6 +95,17 @@ fn viable_arg<'a>(alloc: Global) -> Arg<'a>
         .help(help::VIABLE)
 }
 
+fn nul_arg<'a>(alloc: Global) -> Arg<'a>
+    ensures rule { rule_of result ≡ nul_rule }
+    ensures local { result.global ≡ false }
+{
+    Arg::new(alloc, "nul")
+        .short('z')
+        .action(ArgAction::SetTrue)
+        .value_parser(value_parser!(bool))
+        .help(help::NUL)
+}
+
 fn grammar_arg<'a>(alloc: Global) -> Arg<'a>
     ensures rule { rule_of result ≡ grammar_rule }
     ensures local { result.global ≡ false }
@@ -133,7 +144,7 @@ pub fn pegi_command<'a>(alloc: Global) -> Result<Command<'a>, AllocError>
     with_raw.arg(grammar_arg(alloc))
 }
 
-/// Returns the command `abnfi [-m MODE] [-l N] [-s RULE] [-u MODE] [-w] GRAMMAR`. Refused for want of memory.
+/// Returns the command `abnfi [-m MODE] [-l N] [-s RULE] [-u MODE] [-w] [-z] GRAMMAR`. Refused for want of memory.
 pub fn abnfi_command<'a>(alloc: Global) -> Result<Command<'a>, AllocError>
     ensures app { (app : _) × IsAppOf Program.Abnfi app × IfOk result (λ c. app_of c ≡ app) }
 {
@@ -144,7 +155,8 @@ pub fn abnfi_command<'a>(alloc: Global) -> Result<Command<'a>, AllocError>
     let with_options = add_options(alloc, plain, help::ABNFI_LIMIT, help::ABNFI_START)?;
     let with_letters = with_options.arg(letters)?;
     let with_viable = with_letters.arg(viable_arg(alloc))?;
-    with_viable.arg(grammar_arg(alloc))
+    let with_nul = with_viable.arg(nul_arg(alloc))?;
+    with_nul.arg(grammar_arg(alloc))
 }
 
 /// Returns the command of a program. Refused for want of memory.

@@ -9,7 +9,7 @@ pub const ABNFI: &str =
     "Judges each line of standard input by an ABNF grammar (RFC 5234, RFC 7405): yes or no";
 
 /// What `-m` says, with both programs.
-pub const MODE: &str = "What is done with the grammar";
+pub const MODE: &str = "What to do with the grammar";
 
 /// What `-l` says, with `pegi`.
 pub const PEGI_LIMIT: &str = "How many bytes a unit may look at, from 1 to 16777216";
@@ -29,8 +29,11 @@ pub const LETTERS: &str = "What the letters of a line are: its bytes, or the cod
 /// What `-w` says.
 pub const VIABLE: &str = "Write how far a refused line goes: no N";
 
+/// What `-z` says.
+pub const NUL: &str = "Cut the input at NUL bytes in place of line feeds";
+
 /// What `-r` says.
-pub const RAW: &str = "Print actions neither trimmed nor each on a line of its own";
+pub const RAW: &str = "Print actions verbatim";
 
 /// What is said of the grammar's file, with both programs.
 pub const GRAMMAR: &str = "The file of the grammar, at most 1048576 bytes";

@@ -48,6 +48,7 @@ pub fn settings_of<'a>(matches: &ArgMatches<'a>) -> Settings<'a>
     ensures raw { IsFlagOf (one_text (found_of matches.now) (codes "raw")) result.raw }
     ensures letters { result.letters ≡ alphabet_named (first_value (found_of matches.now) (codes "letters")) }
     ensures viable { IsFlagOf (one_text (found_of matches.now) (codes "viable")) result.viable }
+    ensures nul { IsFlagOf (one_text (found_of matches.now) (codes "nul")) result.nul }
 {
     Settings {
         mode: mode_of(matches),
@@ -56,6 +57,7 @@ pub fn settings_of<'a>(matches: &ArgMatches<'a>) -> Settings<'a>
         raw: matches.get_flag("raw"),
         letters: letters_of(matches),
         viable: matches.get_flag("viable"),
+        nul: matches.get_flag("nul"),
     }
 }
 

@@ -3,7 +3,7 @@ ghost use Rattle.std.specs.Prelude.{◌≡◌, ◌-◌, length, ltb, if◌then�
 ghost use Rattle.lines.specs.declared.answers.Answer.TheVariants as answer;
 
 use feed::SourceOf;
-use lines::{Answer, Judge, run_lines};
+use lines::{Answer, Judge, LineForm, run_lines};
 use ruletable::{Memory, SinkOf};
 use std::process::Abort;
 use std::rt::HostRuntime;
@@ -59,11 +59,12 @@ static ROWS: [(&[u8], &[u8], Stop); 8] = [
     (b"abcde", b"", Stop::LongLine { line: 1, limit: 4 }),
 ];
 
-/// Runs over an input whose lines may have 4 bytes, of which lines of at most 2 are answered by yes, and checks what is
-/// written and how the run ends.
+/// Runs over an input whose lines may have 4 bytes and end with that byte, and checks what is written and how the run
+/// ends.
 fn check_lines<R: Abort + AllocGlobal>(
     rt: &R,
-    counts: bool,
+    judge: Short,
+    end: u8,
     input: &[u8],
     wanted: &[u8],
     stop: Stop,
@@ -71,8 +72,8 @@ fn check_lines<R: Abort + AllocGlobal>(
     let mut reader = SourceOf::new(input);
     let mut out = SinkOf::new(Vec::new(rt.alloc()));
     let mut work = 0u8;
-    let judge = Short { most: 2, counts };
-    let ended = run_lines(rt.alloc(), &judge, &mut work, 4, &mut reader, &mut out);
+    let form = LineForm { limit: 4, end };
+    let ended = run_lines(rt.alloc(), &judge, &mut work, form, &mut reader, &mut out);
     assert!(rt; ended == Ok(stop), "how the run ends");
     assert!(rt; out.into_inner().as_slice() == wanted, "what is written");
 }
@@ -80,12 +81,37 @@ fn check_lines<R: Abort + AllocGlobal>(
 #[test]
 fn answers_lines(rt: HostRuntime) {
     for row in &ROWS {
-        check_lines(&rt, false, row.0, row.1, row.2);
+        let judge = Short {
+            most: 2,
+            counts: false,
+        };
+        check_lines(&rt, judge, b'\n', row.0, row.1, row.2);
     }
+}
+
+#[test]
+fn another_byte_ends_lines(rt: HostRuntime) {
+    let judge = Short {
+        most: 2,
+        counts: false,
+    };
+    let stop = Stop::Quiet(Status::NoMatch);
+    check_lines(&rt, judge, 0, b"a\n\0a\nb\0\n", b"yes\nno\nyes\n", stop);
 }
 
 #[test]
 fn tells_numbers(rt: HostRuntime) {
     let stop = Stop::Quiet(Status::NoMatch);
-    check_lines(&rt, true, b"abcd\na\nabc", b"no 2\nyes\nno 1\n", stop);
+    let judge = Short {
+        most: 2,
+        counts: true,
+    };
+    check_lines(
+        &rt,
+        judge,
+        b'\n',
+        b"abcd\na\nabc",
+        b"no 2\nyes\nno 1\n",
+        stop,
+    );
 }

@@ -86,5 +86,6 @@ pub fn settings_of<'a>(mode: Mode, limit: usize, start: Option<&'a str>) -> Sett
         raw: false,
         letters: Alphabet::Bytes,
         viable: false,
+        nul: false,
     }
 }

@@ -20,27 +20,28 @@ use Rattle.toolrun.proofs.StopsAsLemmas.{run_performs, did_not_run}
 use Rattle.lines.specs.InputLines.{Ends, Lines, LinesReply, answer_text, behind, none, one_more, place_taken, taken_at}
 use Rattle.lines.specs.LineSteps.{IsStep}
 use Rattle.lines.specs.declared.answers.Answer.{Answer}
+use Rattle.lines.specs.declared.line.LineForm.{LineForm}
 use Rattle.lines.specs.declared.line_loop.At.{At}
 use Rattle.lines.specs.declared.line_loop.Step.TheVariants.{Answers, Stops}
 use Rattle.lines.proofs.LinesLemmas.{lines_go_on, answer_goes_on}
 
-module _ (Told : List ℕ → Answer → Type 0) (limit : ℕ) (input : Input) where
+module _ (Told : List ℕ → Answer → Type 0) (form : LineForm) (input : Input) where
   abbrev Runs : ℕ → Option (List ℕ) → Option (List ℕ) → Result Stop WriteFault → Type 0
-  Runs taken a b r = HasRun (Lines Told limit input) (Ends Told limit input) (place_taken limit input) taken a b r
+  Runs taken a b r = HasRun (Lines Told form input) (Ends Told form input) (place_taken form.limit input) taken a b r
 
-  module _ (at : At) (old mid new : Option (List ℕ)) (text : List ℕ) (lines : Lines Told limit input at text)
+  module _ (at : At) (old mid new : Option (List ℕ)) (text : List ℕ) (lines : Lines Told form input at text)
       (wrote : Appends old mid text) where
-    pub one_more_line : (said : Answer) (n : ℕ) → IsStep Told limit input at mid new (Ok (Answers said n)) →
-        (longer : List ℕ) × Lines Told limit input (behind at n said) longer × Appends old new longer
+    pub one_more_line : (said : Answer) (n : ℕ) → IsStep Told form input at mid new (Ok (Answers said n)) →
+        (longer : List ℕ) × Lines Told form input (behind at n said) longer × Appends old new longer
     one_more_line said n (line, is, len, says, more) = (
       text ++ answer_text said,
-      subst (λ (k : ℕ). Lines Told limit input (behind at k said) (text ++ answer_text said)) len
+      subst (λ (k : ℕ). Lines Told form input (behind at k said) (text ++ answer_text said)) len
           (one_more at text line said lines is says),
       Appends-join old mid new text (answer_text said) wrote more,
     )
 
-    pub stops_there : (taken : ℕ) (stop : Stop) → IsStep Told limit input at mid new (Ok (Stops stop))
-        → taken ≡ taken_at limit input at.place → Runs taken old new (Ok stop)
+    pub stops_there : (taken : ℕ) (stop : Stop) → IsStep Told form input at mid new (Ok (Stops stop))
+        → taken ≡ taken_at form.limit input at.place → Runs taken old new (Ok stop)
     stops_there taken stop (inl refused) took = (
       at,
       text,
@@ -61,10 +62,10 @@ module _ (Told : List ℕ → Answer → Type 0) (limit : ℕ) (input : Input) w
     )
 
     pub fails_there : ((line : List ℕ) → (said : Answer) × Told line said) → (taken : ℕ) (fault : WriteFault)
-        → IsStep Told limit input at mid new (Err fault) →
-        taken ≡ taken_at limit input at.place → Runs taken old new (Err fault)
+        → IsStep Told form input at mid new (Err fault) →
+        taken ≡ taken_at form.limit input at.place → Runs taken old new (Err fault)
     fails_there decided taken fault (said, part, either) took =
-        let goes = answer_goes_on Told limit input decided at text said lines either in (
+        let goes = answer_goes_on Told form input decided at text said lines either in (
           text ++ answer_text said,
           record {
             reply = goes.reply;
@@ -75,30 +76,30 @@ module _ (Told : List ℕ → Answer → Type 0) (limit : ℕ) (input : Input) w
           AppendsPart-join old mid new text (answer_text said) wrote part,
         )
 
-module _ (Told : List ℕ → Answer → Type 0) (limit : ℕ) (decided : (line : List ℕ) → (said : Answer)
+module _ (Told : List ℕ → Answer → Type 0) (form : LineForm) (decided : (line : List ℕ) → (said : Answer)
     × Told line said) where
-  goes_on : (input : Input) (at : At) (text : List ℕ) → Lines Told limit input at text →
-      Begins (Lines Told limit input) (Ends Told limit input) (place_taken limit input) (place_taken limit input at)
+  goes_on : (input : Input) (at : At) (text : List ℕ) → Lines Told form input at text →
+      Begins (Lines Told form input) (Ends Told form input) (place_taken form.limit input) (place_taken form.limit input at)
       text
-  goes_on input at text lines = lines_go_on Told limit input decided at text lines
+  goes_on input at text lines = lines_go_on Told form input decided at text lines
 
   -- the reader is given back as it was after the last line
   pub lines_were_run : {R : Type 0} (remaining : R → Option (List ℕ)) (failed ended : R → Bool) (old now final : R)
       (out : Stream) (left : ℕ) (flow : Flow)
       (r : Result Stop WriteFault) → final ≡ now → IsToldBy (remaining now) (failed now) (ended now) left flow →
       ((seen : List ℕ) × Consumes (remaining old) (remaining now) seen × (left + length seen ≡ input_limit) ×
-      ((input : Input) → Agrees seen flow input → Runs Told limit input (length seen) out.old out.new r))
+      ((input : Input) → Agrees seen flow input → Runs Told form input (length seen) out.old out.new r))
       → Flags out.was out.failed r →
-      Performs (LinesReply Told limit) (passed remaining failed old final) out r
+      Performs (LinesReply Told form) (passed remaining failed old final) out r
   lines_were_run remaining failed ended old now final out left flow r is told run flag =
-      run_performs (Lines Told limit) (Ends Told limit) (place_taken limit) goes_on remaining failed ended old now final
+      run_performs (Lines Told form) (Ends Told form) (place_taken form.limit) goes_on remaining failed ended old now final
       out left flow r is told run flag
 
   -- memory was refused before the first line
   pub no_line_was_run : (r0 s0 : Option (List ℕ)) (r_was r_failed o_was : Bool) →
       let r : Result Stop WriteFault = Ok NoMemory in
-      Performs (LinesReply Told limit) (record { old = r0; new = r0; was = r_was; failed = r_failed })
+      Performs (LinesReply Told form) (record { old = r0; new = r0; was = r_was; failed = r_failed })
       (record { old = s0; new = s0; was = o_was; failed = o_was }) r
   no_line_was_run r0 s0 r_was r_failed o_was =
-      did_not_run (Lines Told limit) (Ends Told limit) (place_taken limit) goes_on
+      did_not_run (Lines Told form) (Ends Told form) (place_taken form.limit) goes_on
       (record { place = 0; count = 0; all = true }) (λ input. none) r0 s0 r_was r_failed o_was

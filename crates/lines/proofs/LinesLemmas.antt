@@ -16,42 +16,49 @@ use Rattle.toolrun.specs.declared.stop.Stop.TheVariants.{Quiet, LongLine, Broken
 use Rattle.lines.specs.InputLines.{HasNoEnd, answer_text, says_yes, status_after, behind, place_taken, taken_at, IsLine}
 use Rattle.lines.specs.InputLines.{Lines, one_more, Ends, broken, overlong, finished, last_line}
 use Rattle.lines.specs.declared.answers.Answer.{Answer}
+use Rattle.lines.specs.declared.line.LineForm.{LineForm}
 use Rattle.lines.specs.declared.line_loop.At.{At}
 
--- a line and its LF stand in front, or there is no LF
-split_line : (xs : List ℕ) → ((line after : List ℕ) × (xs ≡ line ++ 10 ∷ after) × HasNoEnd line) ⊎ HasNoEnd xs
-split_line [] = inr (All-nil (λ b. b ≢ 10))
-split_line (x ∷ xs) = elim (cases_eq x 10) [
-  | inl is ↦ inl ([], xs, ap (λ b. b ∷ xs) is, All-nil (λ b. b ≢ 10))
-  | inr other ↦ elim (split_line xs) [
-    | inl (line, after, cut, one) ↦ inl (x ∷ line, after, ap (λ t. x ∷ t) cut, All-cons (λ b. b ≢ 10) x line other one)
-    | inr free ↦ inr (All-cons (λ b. b ≢ 10) x xs other free)
+-- a line and its end stand in front, or there is no end
+split_line : (end : ℕ) (xs : List ℕ) → ((line after : List ℕ) × (xs ≡ line ++ end ∷ after) × HasNoEnd end line)
+    ⊎ HasNoEnd end xs
+split_line end [] = inr (All-nil (λ b. b ≢ end))
+split_line end (x ∷ xs) = elim (cases_eq x end) [
+  | inl is ↦ inl ([], xs, ap (λ b. b ∷ xs) is, All-nil (λ b. b ≢ end))
+  | inr other ↦ elim (split_line end xs) [
+    | inl (line, after, cut, one) ↦ inl (
+      x ∷ line,
+      after,
+      ap (λ t. x ∷ t) cut,
+      All-cons (λ b. b ≢ end) x line other one,
+    )
+    | inr free ↦ inr (All-cons (λ b. b ≢ end) x xs other free)
   ]
 ]
 
-module _ (Told : List ℕ → Answer → Type 0) (limit : ℕ) (input : Input) where
+module _ (Told : List ℕ → Answer → Type 0) (form : LineForm) (input : Input) where
   abbrev rest : ℕ → List ℕ
   rest s = drop s input.bytes
 
   abbrev pub Goes : ℕ → List ℕ → Type 0
-  Goes s text = Begins (Lines Told limit input) (Ends Told limit input) (place_taken limit input)
-      (taken_at limit input s) text
+  Goes s text = Begins (Lines Told form input) (Ends Told form input) (place_taken form.limit input)
+      (taken_at form.limit input s) text
 
-  takes_more : (s t n : ℕ) → s ≤ t → taken_at limit input t ≤ n → taken_at limit input s ≤ n
+  takes_more : (s t n : ℕ) → s ≤ t → taken_at form.limit input t ≤ n → taken_at form.limit input s ≤ n
   takes_more s t n le h =
-      let a = min-le_left (length input.bytes) (s + limit + 1) in
-      let b = min-le_right (length input.bytes) (s + limit + 1) in
-      let m : taken_at limit input s ≤ taken_at limit input t = le-min a (omega (arith, b, le)) in
+      let a = min-le_left (length input.bytes) (s + form.limit + 1) in
+      let b = min-le_right (length input.bytes) (s + form.limit + 1) in
+      let m : taken_at form.limit input s ≤ taken_at form.limit input t = le-min a (omega (arith, b, le)) in
       omega (arith, m, h)
 
-  pub goes_to_stop : (at : At) (text last : List ℕ) (stop : Stop) → Lines Told limit input at text
-      → Ends Told limit input at last stop → Goes at.place (text ++ last)
+  pub goes_to_stop : (at : At) (text last : List ℕ) (stop : Stop) → Lines Told form input at text
+      → Ends Told form input at last stop → Goes at.place (text ++ last)
   goes_to_stop at text last stop lines ends = record {
     reply = record {
       out = text ++ last;
       err = message_of stop;
       status = code_of (status_of stop);
-      taken = taken_at limit input at.place;
+      taken = taken_at form.limit input at.place;
     };
     replies = record {
       point = at;
@@ -78,14 +85,14 @@ module _ (Told : List ℕ → Answer → Type 0) (limit : ℕ) (input : Input) w
   }
 
   -- a line and its LF are within the input
-  pub line_inside : (s : ℕ) (line : List ℕ) → IsLine limit input s line → s + length line + 1 ≤ length input.bytes
+  pub line_inside : (s : ℕ) (line : List ℕ) → IsLine form input s line → s + length line + 1 ≤ length input.bytes
   line_inside s line is =
       let l = ap length is.cut in
-      omega (arith, l, length-append line (10 ∷ is.after), length-drop s input.bytes)
+      omega (arith, l, length-append line (form.end ∷ is.after), length-drop s input.bytes)
 
   module _ (decided : (line : List ℕ) → (said : Answer) × Told line said) where
-    goes_ended : (at : At) (text : List ℕ) → Lines Told limit input at text → HasNoEnd (rest at.place)
-        → length (rest at.place) ≤ limit → (fault : Bool) → input.fault ≡ fault →
+    goes_ended : (at : At) (text : List ℕ) → Lines Told form input at text → HasNoEnd form.end (rest at.place)
+        → length (rest at.place) ≤ form.limit → (fault : Bool) → input.fault ≡ fault →
         (bytes : List ℕ) → rest at.place ≡ bytes → Goes at.place text
     goes_ended at text lines free le true is bytes same = goes_from at.place at.place text [] (omega arith)
         (goes_to_stop at text [] Broken lines (broken (free, le, is)))
@@ -97,18 +104,18 @@ module _ (Told : List ℕ → Answer → Type 0) (limit : ℕ) (input : Input) w
         (goes_to_stop at text (answer_text d.0) (Quiet (status_after (at.all && says_yes d.0))) lines
         (last_line d.0 (free, (let l = ap length same in omega (arith, l)), le, is) d.1))
 
-    lines_go : (fuel : ℕ) (at : At) (text : List ℕ) → Lines Told limit input at text → length (rest at.place) < fuel
+    lines_go : (fuel : ℕ) (at : At) (text : List ℕ) → Lines Told form input at text → length (rest at.place) < fuel
         → Goes at.place text
     lines_go zero at text lines room = absurd (omega (arith, room))
-    lines_go (suc fuel) at text lines room = elim (split_line (rest at.place)) [
-      | inl (line, after, cut, one) ↦ elim (cases_lt limit (length line)) [
+    lines_go (suc fuel) at text lines room = elim (split_line form.end (rest at.place)) [
+      | inl (line, after, cut, one) ↦ elim (cases_lt form.limit (length line)) [
         | inl over ↦
             let l = ap length cut in
             goes_from at.place at.place text [] (omega arith)
-            (goes_to_stop at text [] (LongLine (at.count + 1) limit) lines (overlong (
-              rw (cut, take-append-le (suc limit) line (10 ∷ after) (omega arith))
-                  (All-take (λ b. b ≢ 10) (suc limit) line one),
-              omega (arith, l, length-append line (10 ∷ after)),
+            (goes_to_stop at text [] (LongLine (at.count + 1) form.limit) lines (overlong (
+              rw (cut, take-append-le (suc form.limit) line (form.end ∷ after) (omega arith))
+                  (All-take (λ b. b ≢ form.end) (suc form.limit) line one),
+              omega (arith, l, length-append line (form.end ∷ after)),
             )))
         | inr le ↦
             let d = decided line in
@@ -120,26 +127,26 @@ module _ (Told : List ℕ → Answer → Type 0) (limit : ℕ) (input : Input) w
               arith,
               room,
               l,
-              length-append line (10 ∷ after),
+              length-append line (form.end ∷ after),
               length-drop at.place input.bytes,
               length-drop (at.place + length line + 1) input.bytes,
             )))
       ]
-      | inr free ↦ elim (cases_lt limit (length (rest at.place))) [
+      | inr free ↦ elim (cases_lt form.limit (length (rest at.place))) [
         | inl over ↦ goes_from at.place at.place text [] (omega arith)
-            (goes_to_stop at text [] (LongLine (at.count + 1) limit) lines
-            (overlong (All-take (λ b. b ≢ 10) (suc limit) (rest at.place) free, over)))
+            (goes_to_stop at text [] (LongLine (at.count + 1) form.limit) lines
+            (overlong (All-take (λ b. b ≢ form.end) (suc form.limit) (rest at.place) free, over)))
         | inr le ↦ goes_ended at text lines free (omega arith) input.fault refl (rest at.place) refl
       ]
     ]
 
-    pub lines_go_on : (at : At) (text : List ℕ) → Lines Told limit input at text → Goes at.place text
+    pub lines_go_on : (at : At) (text : List ℕ) → Lines Told form input at text → Goes at.place text
     lines_go_on at text lines = lines_go (suc (length (rest at.place))) at text lines (omega arith)
 
     -- the text of one more answer, of which only a part may have been written
-    pub answer_goes_on : (at : At) (text : List ℕ) (said : Answer) → Lines Told limit input at text →
-        ((line : List ℕ) × IsLine limit input at.place line × Told line said)
-        ⊎ ((why : Stop) × Ends Told limit input at (answer_text said) why) →
+    pub answer_goes_on : (at : At) (text : List ℕ) (said : Answer) → Lines Told form input at text →
+        ((line : List ℕ) × IsLine form input at.place line × Told line said)
+        ⊎ ((why : Stop) × Ends Told form input at (answer_text said) why) →
         Goes at.place (text ++ answer_text said)
     answer_goes_on at text said lines (inl (line, is, says)) =
         let goes = lines_go_on (behind at (length line) said) (text ++ answer_text said)

@@ -16,53 +16,54 @@ use Rattle.toolrun.specs.declared.stop.Stop.TheVariants as stop
 use Rattle.lines.specs.InputLines.{HasNoEnd, answer_text, says_yes, status_after, behind, place_taken, IsLine, Lines}
 use Rattle.lines.specs.InputLines.{none, one_more, Ends, broken, overlong, finished, last_line}
 use Rattle.lines.specs.declared.answers.Answer.{Answer}
+use Rattle.lines.specs.declared.line.LineForm.{LineForm}
 use Rattle.lines.specs.declared.line_loop.At.{At}
 
--- what stands before the first LF is one
-one_front : (a b x y : List ℕ) → HasNoEnd a → HasNoEnd b → a ++ 10 ∷ x ≡ b ++ 10 ∷ y → a ≡ b
-one_front [] [] x y h k e = refl
-one_front [] (c ∷ b) x y h k e = absurd (All-head (λ v. v ≢ 10) c b k (let f = ap (λ (l : List ℕ). get_or l 0 0) e in
+-- what stands before the first end is one
+one_front : (end : ℕ) (a b x y : List ℕ) → HasNoEnd end a → HasNoEnd end b → a ++ end ∷ x ≡ b ++ end ∷ y → a ≡ b
+one_front end [] [] x y h k e = refl
+one_front end [] (c ∷ b) x y h k e = absurd (All-head (λ v. v ≢ end) c b k (let f = ap (λ (l : List ℕ). get_or l 0 0) e in
     sym f))
-one_front (c ∷ a) [] x y h k e = absurd (All-head (λ v. v ≢ 10) c a h (ap (λ (l : List ℕ). get_or l 0 0) e))
-one_front (c ∷ a) (d ∷ b) x y h k e =
+one_front end (c ∷ a) [] x y h k e = absurd (All-head (λ v. v ≢ end) c a h (ap (λ (l : List ℕ). get_or l 0 0) e))
+one_front end (c ∷ a) (d ∷ b) x y h k e =
     let first : c ≡ d = ap (λ (l : List ℕ). get_or l 0 0) e in
-    let rest : a ++ 10 ∷ x ≡ b ++ 10 ∷ y = ap (λ (l : List ℕ). drop 1 l) e in
-    let front : a ≡ b = one_front a b x y (All-tail (λ v. v ≢ 10) c a h) (All-tail (λ v. v ≢ 10) d b k) rest in
+    let rest : a ++ end ∷ x ≡ b ++ end ∷ y = ap (λ (l : List ℕ). drop 1 l) e in
+    let front : a ≡ b = one_front end a b x y (All-tail (λ v. v ≢ end) c a h) (All-tail (λ v. v ≢ end) d b k) rest in
     cc
 
--- a list with an LF is not without one
-has_end : (xs line after : List ℕ) → xs ≡ line ++ 10 ∷ after → HasNoEnd xs → ⊥
-has_end xs line after cut h =
+-- a list with an end is not without one
+has_end : (end : ℕ) (xs line after : List ℕ) → xs ≡ line ++ end ∷ after → HasNoEnd end xs → ⊥
+has_end end xs line after cut h =
     let l = ap length cut in
-    let here : get_or xs (length line) 0 ≡ 10 = ap (λ (t : List ℕ). get_or t (length line) 0) cut
-    ∙ get_or-append_seam line 10 after 0 in
-    All-get_or (λ v. v ≢ 10) xs (length line) 0 (omega (arith, l, length-append line (10 ∷ after))) h here
+    let here : get_or xs (length line) 0 ≡ end = ap (λ (t : List ℕ). get_or t (length line) 0) cut
+    ∙ get_or-append_seam line end after 0 in
+    All-get_or (λ v. v ≢ end) xs (length line) 0 (omega (arith, l, length-append line (end ∷ after))) h here
 
--- nor is a front of it that reaches over the LF
-has_end_within : (n : ℕ) (xs line after : List ℕ) → xs ≡ line ++ 10 ∷ after → length line ≤ n
-    → HasNoEnd (take (suc n) xs) → ⊥
-has_end_within n xs line after cut le h =
+-- nor is a front of it that reaches over the end
+has_end_within : (end n : ℕ) (xs line after : List ℕ) → xs ≡ line ++ end ∷ after → length line ≤ n
+    → HasNoEnd end (take (suc n) xs) → ⊥
+has_end_within end n xs line after cut le h =
     let l = ap length cut in
-    let here : get_or (take (suc n) xs) (length line) 0 ≡ 10 =
+    let here : get_or (take (suc n) xs) (length line) 0 ≡ end =
     get_or-take (suc n) xs (length line) 0 (omega (arith, le)) ∙ ap (λ (t : List ℕ). get_or t (length line) 0) cut
-    ∙ get_or-append_seam line 10 after 0 in
-    All-get_or (λ v. v ≢ 10) (take (suc n) xs) (length line) 0
-    (omega (arith, l, le, length-take (suc n) xs, length-append line (10 ∷ after))) h here
+    ∙ get_or-append_seam line end after 0 in
+    All-get_or (λ v. v ≢ end) (take (suc n) xs) (length line) 0
+    (omega (arith, l, le, length-take (suc n) xs, length-append line (end ∷ after))) h here
 
 module _ (Told : List ℕ → Answer → Type 0) (one_answer : (line : List ℕ) (a b : Answer) → Told line a → Told line b
-    → a ≡ b) (limit : ℕ) (input : Input) where
+    → a ≡ b) (form : LineForm) (input : Input) where
   abbrev LinesTo : At → List ℕ → Type 0
-  LinesTo at text = Lines Told limit input at text
+  LinesTo at text = Lines Told form input at text
 
   abbrev EndsAt : At → List ℕ → Stop → Type 0
-  EndsAt at last why = Ends Told limit input at last why
+  EndsAt at last why = Ends Told form input at last why
 
   abbrev LineAt : ℕ → List ℕ → Type 0
-  LineAt s line = IsLine limit input s line
+  LineAt s line = IsLine form input s line
 
   -- one line at a place
   one_line : (s : ℕ) (a b : List ℕ) → LineAt s a → LineAt s b → a ≡ b
-  one_line s a b h k = one_front a b h.after k.after h.one k.one (sym h.cut ∙ k.cut)
+  one_line s a b h k = one_front form.end a b h.after k.after h.one k.one (sym h.cut ∙ k.cut)
 
   -- two places, and the answers up to them, are the same
   record Same (at other : At) (text more : List ℕ) : Type 0 where
@@ -109,18 +110,18 @@ module _ (Told : List ℕ → Answer → Type 0) (one_answer : (line : List ℕ)
     | inr ge ↦ record { at = before; text = front; lines = u; count = omega (arith, lt, ge); line = line; is = is }
   ]
 
-  -- no run ends where a line and its LF stand
+  -- no run ends where a line and its end stand
   no_end : (at : At) (line last : List ℕ) (why : Stop) → LineAt at.place line → EndsAt at last why → ⊥
   no_end at line last why is (broken (free, short, fault)) =
-      has_end (drop at.place input.bytes) line is.after is.cut free
-  no_end at line last why is (overlong (free, long)) = has_end_within limit (drop at.place input.bytes) line is.after
+      has_end form.end (drop at.place input.bytes) line is.after is.cut free
+  no_end at line last why is (overlong (free, long)) = has_end_within form.end form.limit (drop at.place input.bytes) line is.after
       is.cut is.within free
   no_end at line last why is (finished (empty, fine)) =
       let l = ap length is.cut in
       let m = ap length empty in
-      omega (arith, l, m, length-append line (10 ∷ is.after))
+      omega (arith, l, m, length-append line (form.end ∷ is.after))
   no_end at line last why is (last_line said (free, some, short, fine) says) =
-      has_end (drop at.place input.bytes) line is.after is.cut free
+      has_end form.end (drop at.place input.bytes) line is.after is.cut free
 
   -- nor behind fewer lines than another run answers
   no_earlier_end : (at other : At) (text more last : List ℕ) (why : Stop) → LinesTo at text → EndsAt at last why
@@ -175,7 +176,7 @@ module _ (Told : List ℕ → Answer → Type 0) (one_answer : (line : List ℕ)
       }
 
   abbrev HasReply : Reply → Type 0
-  HasReply reply = Replies (Lines Told limit input) (Ends Told limit input) (place_taken limit input) reply
+  HasReply reply = Replies (Lines Told form input) (Ends Told form input) (place_taken form.limit input) reply
 
   -- two replies behind as many lines
   reply_there : (a b : Reply) (r : HasReply a) (q : HasReply b) → Same r.point q.point r.before q.before → a ≡ b
@@ -188,7 +189,7 @@ module _ (Told : List ℕ → Answer → Type 0) (one_answer : (line : List ℕ)
       let out : a.out ≡ b.out = r.out ∙ ap (λ t. t ++ r.last) same.texts ∙ ap (λ t. q.before ++ t) last ∙ sym q.out in
       let err : a.err ≡ b.err = r.err ∙ ap (λ w. message_of w) why ∙ sym q.err in
       let status : a.status ≡ b.status = r.status ∙ ap (λ w. code_of (status_of w)) why ∙ sym q.status in
-      let taken : a.taken ≡ b.taken = r.taken ∙ ap (λ (v : At). place_taken limit input v) place ∙ sym q.taken in
+      let taken : a.taken ≡ b.taken = r.taken ∙ ap (λ (v : At). place_taken form.limit input v) place ∙ sym q.taken in
       let is : record { out = a.out; err = a.err; status = a.status; taken = a.taken }
       ≡ record { out = b.out; err = b.err; status = b.status; taken = b.taken } = cc in
       is

@@ -20,27 +20,28 @@ use Rattle.toolrun.specs.Input.{Input}
 use Rattle.toolrun.proofs.AgreesLemmas.{rest_held, rest_is, taken_end, taken_full, window_is}
 use Rattle.lines.specs.InputLines.{HasNoEnd, IsNext, IsShort, LiesWithin, line_without, taken_at}
 use Rattle.lines.specs.declared.line.Line.TheVariants as line
+use Rattle.lines.specs.declared.line.LineForm.{LineForm}
 
 nil_of : (xs : List ℕ) → length xs ≡ 0 → xs ≡ []
 nil_of [] e = refl
 nil_of (x ∷ xs) e = absurd (omega arith)
 
--- where no LF was found
-none_found : (xs : List ℕ) → Nowhere (Passes (is_byte 10) xs) 0 (length xs) → HasNoEnd xs
-none_found xs h = All-from_get_or (λ b. b ≢ 10) xs 0 (λ i lt is. h i (omega arith) lt (rw is refl))
+-- where no end was found
+none_found : (end : ℕ) (xs : List ℕ) → Nowhere (Passes (is_byte end) xs) 0 (length xs) → HasNoEnd end xs
+none_found end xs h = All-from_get_or (λ b. b ≢ end) xs 0 (λ i lt is. h i (omega arith) lt (rw is refl))
 
 -- where the first one was found
-first_found : (n : ℕ) (xs : List ℕ) → NoneBefore (Passes (is_byte 10) xs) 0 (length xs) n → Passes (is_byte 10) xs n →
-    (xs ≡ take n xs ++ 10 ∷ drop (suc n) xs) × HasNoEnd (take n xs) × (length (take n xs) ≡ n)
-first_found n xs before found =
+first_found : (end n : ℕ) (xs : List ℕ) → NoneBefore (Passes (is_byte end) xs) 0 (length xs) n → Passes (is_byte end) xs n →
+    (xs ≡ take n xs ++ end ∷ drop (suc n) xs) × HasNoEnd end (take n xs) × (length (take n xs) ≡ n)
+first_found end n xs before found =
     let l = length-take n xs in
     let inside : n < length xs = omega (arith, before.high) in
-    let here : get_or xs n 0 ≡ 10 = grind (arith, nat_tests, found) in (
+    let here : get_or xs n 0 ≡ end = grind (arith, nat_tests, found) in (
       sym (take-append-drop n xs) ∙ ap (λ t. take n xs ++ t)
           (drop-cons xs n 0 inside ∙ ap (λ b. b ∷ drop (suc n) xs) here),
-      All-from_get_or (λ b. b ≢ 10) (take n xs) 0 (λ i lt eq.
+      All-from_get_or (λ b. b ≢ end) (take n xs) 0 (λ i lt eq.
           let low : i < n = omega arith in
-          let same : get_or xs i 0 ≡ 10 = sym (get_or-take n xs i 0 low) ∙ eq in
+          let same : get_or xs i 0 ≡ end = sym (get_or-take n xs i 0 low) ∙ eq in
           before.before i (omega arith) low (rw same refl)),
       omega arith,
     )
@@ -53,9 +54,12 @@ held_front before items more bytes k start is here le =
     rw (is, append_assoc before items more, ← here, drop-append_seam before (items ++ more))
     (sym (take-append-le k items more le))
 
-module _ {R : Type 0} (f : Feed R) (limit : ℕ) (before : List ℕ) (input : Input) (room : capacity_of f ≡ limit + 1)
+module _ {R : Type 0} (f : Feed R) (end limit : ℕ) (before : List ℕ) (input : Input) (room : capacity_of f ≡ limit + 1)
     (fits : length (bytes_of f) ≤ capacity_of f)
     (agrees : Agrees (before ++ bytes_of f) (flow_of f) input) where
+  abbrev form : LineForm
+  form = record { limit = limit; end = end }
+
   abbrev items : List ℕ
   items = bytes_of f
 
@@ -73,18 +77,18 @@ module _ {R : Type 0} (f : Feed R) (limit : ℕ) (before : List ℕ) (input : In
   held_taken held.End ended = taken_all (agrees.ended ended.0).0
   held_taken held.Fault broken = taken_all (agrees.broken broken.0).0
 
-  -- an LF was found
-  pub line_found : (k : ℕ) → IsFirstByte (is_byte 10) items (Some k) → IsNext limit input (length before) (line.Whole k)
+  -- an end was found
+  pub line_found : (k : ℕ) → IsFirstByte (is_byte end) items (Some k) → IsNext form input (length before) (line.Whole k)
   line_found k (first, here) =
       let high : k < length items = omega (arith, first.high) in
-      let is = first_found k items first here in
+      let is = first_found end k items first here in
       let front : take k rest ≡ take k items = rw (rest_is before items refl agrees)
       (take-append-le k items agrees.more (omega (arith, high))) in
       rw front (
         record {
           after = drop (suc k) items ++ agrees.more;
           cut = rest_is before items refl agrees ∙ ap (λ t. t ++ agrees.more) is.0
-              ∙ append_assoc (take k items) (10 ∷ drop (suc k) items) agrees.more;
+              ∙ append_assoc (take k items) (end ∷ drop (suc k) items) agrees.more;
           one = is.1;
           within = omega (arith, is.2, high, fits, room);
         },
@@ -92,9 +96,9 @@ module _ {R : Type 0} (f : Feed R) (limit : ℕ) (before : List ℕ) (input : In
       )
 
   -- none was
-  module _ (none : IsFirstByte (is_byte 10) items None) where
+  module _ (none : IsFirstByte (is_byte end) items None) where
     last_piece : (b : Bool) → (length items == 0) ≡ b → flow_of f ≡ Ended → length items ≤ limit →
-        IsNext limit input (length before) (if b then line.End else line.Last (length items))
+        IsNext form input (length before) (if b then line.End else line.Last (length items))
     last_piece true e ended short =
         let a = agrees.ended ended in
         (rest_held before items refl agrees a.0 ∙ nil_of items (eqb-true (length items) 0 e), a.1)
@@ -102,21 +106,21 @@ module _ {R : Type 0} (f : Feed R) (limit : ℕ) (before : List ℕ) (input : In
         let a = agrees.ended ended in
         let same = rest_held before items refl agrees a.0 in
         let some : 0 < length items = grind (arith, common_steps, e) in
-        (rw same (none_found items none, some, short, a.1), ap length same)
+        (rw same (none_found end items none, some, short, a.1), ap length same)
 
-    pub not_found : (held : Held) → IsHeld f held → IsNext limit input (length before)
+    pub not_found : (held : Held) → IsHeld f held → IsNext form input (length before)
         (line_without held (length items))
     not_found held.Full full =
         let e : length items ≡ suc limit = omega (arith, full, room) in
         let window : take (suc limit) rest ≡ items = window_is before items refl agrees (suc limit) e in
         let l = ap length (rest_is before items refl agrees) in
-        (rw window (none_found items none), omega (arith, e, l, length-append items agrees.more))
+        (rw window (none_found end items none), omega (arith, e, l, length-append items agrees.more))
     not_found held.End ended = last_piece (length items == 0) refl ended.0 (let lt = ended.1 in omega (arith, lt, room))
     not_found held.Fault broken =
         let a = agrees.broken broken.0 in
         let same = rest_held before items refl agrees a.0 in
         let lt = broken.1 in
-        (rw same (none_found items none), rw same (omega (arith, lt, room)), a.1)
+        (rw same (none_found end items none), rw same (omega (arith, lt, room)), a.1)
 
 -- a last piece is all that is held
 last_fits : (len : ℕ) (b : Bool) → LiesWithin len (if b then line.End else line.Last len)

@@ -1,5 +1,4 @@
--- The lines of an input, the answers to them, and how a run of them ends.
-use Prim.Native.Char.{code}
+-- The lines of an input, the answers to them, and how a run of them ends. A byte ends a line: LF, or any other.
 use Rattle.std.specs.Prelude.{◌≡◌, ◌≢◌, ℕ, suc, ◌+◌, ◌<◌, ◌≤◌, ◌==◌, ◌&&◌, ⊤, min, Bool, true, false, List, [], ◌∷◌}
 use Rattle.std.specs.Prelude.{◌++◌, length, take, drop, codes, decimal, if◌then◌else◌}
 use Rattle.std.specs.List.{All}
@@ -15,12 +14,13 @@ use Rattle.toolrun.specs.declared.stop.Stop.TheVariants as stop
 use Rattle.lines.specs.declared.answers.Answer.{Answer}
 use Rattle.lines.specs.declared.answers.Answer.TheVariants.{Yes, No, NoAfter}
 use Rattle.lines.specs.declared.line.Line.{Line}
+use Rattle.lines.specs.declared.line.LineForm.{LineForm}
 use Rattle.lines.specs.declared.line.Line.TheVariants.{Whole, Last, Overlong, End, Broken}
 use Rattle.lines.specs.declared.line_loop.At.{At}
 
--- none of these bytes is an LF
-abbrev pub HasNoEnd : List ℕ → Type 0
-HasNoEnd bytes = All (λ b. b ≢ code "\n") bytes
+-- none of these bytes is the one that ends a line
+abbrev pub HasNoEnd : ℕ → List ℕ → Type 0
+HasNoEnd end bytes = All (λ b. b ≢ end) bytes
 
 -- what is written for an answer
 abbrev pub answer_text : Answer → List ℕ
@@ -39,7 +39,7 @@ abbrev pub status_after : Bool → Status
 status_after true = Done
 status_after false = NoMatch
 
--- behind a line of n bytes and its LF
+-- behind a line of n bytes and its end
 abbrev pub behind : At → ℕ → Answer → At
 behind at n said = record { place = at.place + n + 1; count = at.count + 1; all = at.all && says_yes said }
 
@@ -50,22 +50,23 @@ taken_at limit input s = min (length input.bytes) (s + limit + 1)
 abbrev pub place_taken : ℕ → Input → At → ℕ
 place_taken limit input at = taken_at limit input at.place
 
-module _ (limit : ℕ) (input : Input) where
-  -- at s stand this line of at most so many bytes, and its LF
+module _ (form : LineForm) (input : Input) where
+  -- at s stand this line of at most so many bytes, and its end
   pub record IsLine (s : ℕ) (line : List ℕ) : Type 0 where
     pub after : List ℕ
-    pub cut : drop s input.bytes ≡ line ++ code "\n" ∷ after
-    pub one : HasNoEnd line
-    pub within : length line ≤ limit
+    pub cut : drop s input.bytes ≡ line ++ form.end ∷ after
+    pub one : HasNoEnd form.end line
+    pub within : length line ≤ form.limit
 
-  -- the input ends with a last line without LF, of at most so many bytes
+  -- the input ends with a last line without an end, of at most so many bytes
   abbrev pub IsLastAt : ℕ → Type 0
-  IsLastAt s = HasNoEnd (drop s input.bytes) × (0 < length (drop s input.bytes)) × (length (drop s input.bytes) ≤ limit)
-      × (input.fault ≡ false)
+  IsLastAt s = HasNoEnd form.end (drop s input.bytes) × (0 < length (drop s input.bytes))
+      × (length (drop s input.bytes) ≤ form.limit) × (input.fault ≡ false)
 
-  -- no LF stands within so many bytes and one more
+  -- no line ends within so many bytes and one more
   abbrev pub IsOverlongAt : ℕ → Type 0
-  IsOverlongAt s = HasNoEnd (take (suc limit) (drop s input.bytes)) × (limit < length (drop s input.bytes))
+  IsOverlongAt s = HasNoEnd form.end (take (suc form.limit) (drop s input.bytes))
+      × (form.limit < length (drop s input.bytes))
 
   -- the input ends there
   abbrev pub IsEndAt : ℕ → Type 0
@@ -73,9 +74,10 @@ module _ (limit : ℕ) (input : Input) where
 
   -- the reader has a fault before a line ends
   abbrev pub IsBrokenAt : ℕ → Type 0
-  IsBrokenAt s = HasNoEnd (drop s input.bytes) × (length (drop s input.bytes) ≤ limit) × (input.fault ≡ true)
+  IsBrokenAt s = HasNoEnd form.end (drop s input.bytes) × (length (drop s input.bytes) ≤ form.limit)
+      × (input.fault ≡ true)
 
-  -- What stands at s. After a fault of the reader a line stands there only with its LF.
+  -- What stands at s. After a fault of the reader a line stands there only with its end.
   abbrev pub IsNext : ℕ → Line → Type 0
   IsNext s (Whole k) = IsLine s (take k (drop s input.bytes)) × (length (take k (drop s input.bytes)) ≡ k)
   IsNext s (Last k) = IsLastAt s × (length (drop s input.bytes) ≡ k)
@@ -95,30 +97,30 @@ IsShort room (Whole k) = k < room
 IsShort room (Last k) = k < room
 IsShort room _ = ⊤
 
--- what stands at the front where so many bytes and no LF are held
+-- what stands at the front where so many bytes and no line's end are held
 abbrev pub line_without : Held → ℕ → Line
 line_without held.Full len = Overlong
 line_without held.End len = if len == 0 then End else Last len
 line_without held.Fault len = Broken
 
 -- Told says which answer is that of a line.
-module _ (Told : List ℕ → Answer → Type 0) (limit : ℕ) (input : Input) where
+module _ (Told : List ℕ → Answer → Type 0) (form : LineForm) (input : Input) where
   -- the lines up to a place, and their answers
   pub data Lines : At → List ℕ → Type 0 where
     none : Lines (record { place = 0; count = 0; all = true }) []
-    one_more : (at : At) (before line : List ℕ) (said : Answer) → Lines at before → IsLine limit input at.place line
+    one_more : (at : At) (before line : List ℕ) (said : Answer) → Lines at before → IsLine form input at.place line
         → Told line said →
         Lines (behind at (length line) said) (before ++ answer_text said)
 
-  -- how a run ends there, and the answer to a last line without LF
+  -- how a run ends there, and the answer to a last line without an end
   pub data Ends (at : At) : List ℕ → Stop → Type 0 where
-    broken : IsBrokenAt limit input at.place → Ends at [] stop.Broken
-    overlong : IsOverlongAt limit input at.place → Ends at [] (stop.LongLine (at.count + 1) limit)
-    finished : IsEndAt limit input at.place → Ends at [] (stop.Quiet (status_after at.all))
-    last_line : (said : Answer) → IsLastAt limit input at.place → Told (drop at.place input.bytes) said →
+    broken : IsBrokenAt form input at.place → Ends at [] stop.Broken
+    overlong : IsOverlongAt form input at.place → Ends at [] (stop.LongLine (at.count + 1) form.limit)
+    finished : IsEndAt form input at.place → Ends at [] (stop.Quiet (status_after at.all))
+    last_line : (said : Answer) → IsLastAt form input at.place → Told (drop at.place input.bytes) said →
         Ends at (answer_text said) (stop.Quiet (status_after (at.all && says_yes said)))
 
 -- what a run of the lines of an input states
-abbrev pub LinesReply : (List ℕ → Answer → Type 0) → ℕ → Input → Reply → Type 0
-LinesReply Told limit input reply = RunStates (Lines Told limit input) (Ends Told limit input) (place_taken limit input)
-    reply
+abbrev pub LinesReply : (List ℕ → Answer → Type 0) → LineForm → Input → Reply → Type 0
+LinesReply Told form input reply = RunStates (Lines Told form input) (Ends Told form input)
+    (place_taken form.limit input) reply

@@ -8,6 +8,7 @@ use Rattle.toolrun.specs.declared.stop.Stop.{Stop}
 use Rattle.toolrun.specs.declared.stop.Stop.TheVariants.{Quiet, NoMemory}
 use Rattle.lines.specs.InputLines.{Ends, IsLine, answer_text, says_yes, status_after}
 use Rattle.lines.specs.declared.answers.Answer.{Answer}
+use Rattle.lines.specs.declared.line.LineForm.{LineForm}
 use Rattle.lines.specs.declared.line_loop.At.{At}
 use Rattle.lines.specs.declared.line_loop.Step.{Step}
 use Rattle.lines.specs.declared.line_loop.Step.TheVariants.{Answers, Stops}
@@ -30,19 +31,19 @@ after_last all (Ok (Some said)) = Ok (Stops (Quiet (status_after (all && says_ye
 after_last all (Ok None) = Ok (Stops NoMemory)
 after_last all (Err fault) = Err fault
 
--- a line and its LF lie within so many bytes
+-- a line and its end lie within so many bytes
 abbrev pub FitsIn : ℕ → Result Step WriteFault → Type 0
 FitsIn len (Ok (Answers said n)) = n < len
 FitsIn len _ = ⊤
 
-module _ (Told : List ℕ → Answer → Type 0) (limit : ℕ) (input : Input) where
+module _ (Told : List ℕ → Answer → Type 0) (form : LineForm) (input : Input) where
   -- a line was answered, or the run ends here and its last answer was written, or memory was refused and nothing was
   abbrev pub IsStep : At → Option (List ℕ) → Option (List ℕ) → Result Step WriteFault → Type 0
   IsStep at old new (Ok (Answers said n)) =
-      (line : List ℕ) × IsLine limit input at.place line × (length line ≡ n) × Told line said
+      (line : List ℕ) × IsLine form input at.place line × (length line ≡ n) × Told line said
       × Appends old new (answer_text said)
   IsStep at old new (Ok (Stops why)) = ((why ≡ NoMemory) × Keeps old new)
-      ⊎ ((last : List ℕ) × Ends Told limit input at last why × Appends old new last)
+      ⊎ ((last : List ℕ) × Ends Told form input at last why × Appends old new last)
   IsStep at old new (Err fault) = (said : Answer) × AppendsPart old new (answer_text said) ×
-      (((line : List ℕ) × IsLine limit input at.place line × Told line said)
-      ⊎ ((why : Stop) × Ends Told limit input at (answer_text said) why))
+      (((line : List ℕ) × IsLine form input at.place line × Told line said)
+      ⊎ ((why : Stop) × Ends Told form input at (answer_text said) why))

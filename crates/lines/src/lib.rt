@@ -6,5 +6,5 @@ mod line;
 mod line_loop;
 
 pub use answers::{Answer, Judge};
-pub use line::{Line, next_line};
+pub use line::{Line, LineForm, next_line};
 pub use line_loop::{At, run_lines};

@@ -7,23 +7,30 @@ ghost use Rattle.lines.specs.InputLines.{IsNext, IsShort, LiesWithin, line_witho
 
 use feed::{Feed, Held, Source};
 
+/// How an input is cut into lines: the greatest length of a line, in bytes, and the byte that ends it.
+#[derive(Clone, Copy, Debug, PartialEq, Eq)]
+pub struct LineForm {
+    pub limit: usize,
+    pub end: u8,
+}
+
 /// What stands at the front of the rest of an input.
 #[derive(Clone, Copy, Debug, PartialEq, Eq)]
 pub enum Line {
-    /// A line of so many bytes, and its LF.
+    /// A line of so many bytes, and its end.
     Whole(usize),
-    /// The last piece of the input, of so many bytes, without LF.
+    /// The last piece of the input, of so many bytes, without an end.
     Last(usize),
-    /// More bytes without LF than a line may have.
+    /// More bytes without an end than a line may have.
     Overlong,
     /// Nothing: the input is at its end.
     End,
-    /// A fault of the reader before the next LF.
+    /// A fault of the reader before a line ends.
     Broken,
 }
 
-/// Returns what stands at the front where so many bytes and no LF are held.
-fn without_lf(held: Held, len: usize) -> Line
+/// Returns what stands at the front where so many bytes and no line's end are held.
+fn without_end(held: Held, len: usize) -> Line
     ensures { result ≡ line_without held len }
 {
     match held {
@@ -33,24 +40,25 @@ fn without_lf(held: Held, len: usize) -> Line
     }
 }
 
-/// Reads until the window is full, the input ends or a read fails, and returns what stands at its front. The window has
-/// room for one byte more than a line may have; a line that is returned has fewer bytes than there is room for.
-pub fn next_line<R: Source>(feed: &mut Feed<'_, R>) -> Line
+/// Reads until the window is full, the input ends or a read fails, and returns what stands at its front, where that byte
+/// ends a line. The window has room for one byte more than a line may have; a line that is returned has fewer bytes than
+/// there is room for.
+pub fn next_line<R: Source>(feed: &mut Feed<'_, R>, end: u8) -> Line
     requires { IsTrueOfReader R.remaining R.failed R.ended feed.old }
     ensures loan { SameLoan feed.old feed.new }
     ensures grows { Grows R.remaining feed.old feed.new }
     ensures told { IsTrueOfReader R.remaining R.failed R.ended feed.new }
     ensures follows { (limit : ℕ) (before : List ℕ) (input : Input) → capacity_of feed.new ≡ limit + 1 →
         Agrees (before ++ bytes_of feed.new) (flow_of feed.new) input →
-        IsNext limit input (length before) result × (length (before ++ bytes_of feed.new) ≡ taken_at limit input
+        IsNext (record { limit = limit; end = end }) input (length before) result × (length (before ++ bytes_of feed.new) ≡ taken_at limit input
         (length before)) }
     ensures fits { LiesWithin (length (bytes_of feed.new)) result }
     ensures short { IsShort (capacity_of feed.new) result }
 {
     let held = feed.fill();
     let len = feed.len();
-    match feed.find(b'\n') {
+    match feed.find(end) {
         Some(k) => Line::Whole(k),
-        None => without_lf(held, len),
+        None => without_end(held, len),
     }
 }

@@ -14,7 +14,7 @@ ghost use Rattle.lines.specs.LineSteps.{FitsIn, IsStep, after_last, after_whole}
 ghost use Rattle.toolrun.specs.declared.settings.TheConstants.{MAX_LIMIT};
 
 use crate::answers::{Answer, Judge, answer_held};
-use crate::line::{Line, next_line};
+use crate::line::{Line, LineForm, next_line};
 use feed::{Feed, Source};
 use ruletable::{Sink, WriteFault};
 use std::alloc::Global;
@@ -89,14 +89,14 @@ fn end_of(answered: Result<Option<Answer>, WriteFault>, all: bool) -> Result<Ste
 fn next_step<W, J: Judge<W>, R: Source, O: Sink>(
     judge: &J,
     work: &mut W,
-    limit: usize,
+    form: LineForm,
     feed: &mut Feed<'_, R>,
     at: At,
     out: &mut O,
 ) -> Result<Step, WriteFault>
-    requires served { limit ≤ J.served judge.now }
+    requires served { form.limit ≤ J.served judge.now }
     requires work { J.works_in judge.now work.old }
-    requires capacity { capacity_of feed.old ≡ limit + 1 }
+    requires capacity { capacity_of feed.old ≡ form.limit + 1 }
     requires counted { at.count ≤ at.place }
     requires within { at.place ≤ input_limit }
     requires told { IsTrueOfReader R.remaining R.failed R.ended feed.old }
@@ -107,16 +107,17 @@ fn next_step<W, J: Judge<W>, R: Source, O: Sink>(
     ensures grows { Grows R.remaining feed.old feed.new }
     ensures follows { (before : List ℕ) (input : Input) → length before ≡ at.place → Agrees (before
         ++ bytes_of feed.new) (flow_of feed.new) input →
-        IsStep (J.told judge.now) limit input at (O.contents out.old) (O.contents out.new) result ×
-        (length (before ++ bytes_of feed.new) ≡ taken_at limit input at.place) }
+        IsStep (J.told judge.now) form input at (O.contents out.old) (O.contents out.new) result ×
+        (length (before ++ bytes_of feed.new) ≡ taken_at form.limit input at.place) }
     ensures fits { FitsIn (length (bytes_of feed.new)) result }
     ensures flag { Flags (O.failed out.old) (O.failed out.new) result }
 {
-    match next_line(feed) {
+    match next_line(feed, form.end) {
         Line::Whole(n) => step_of(answer_held(judge, work, feed, n, out), n),
         Line::Last(n) => end_of(answer_held(judge, work, feed, n, out), at.all),
         Line::Overlong => {
             let line = at.count + 1;
+            let limit = form.limit;
             Ok(Step::Stops(Stop::LongLine { line, limit }))
         }
         Line::End => Ok(Step::Stops(Stop::Quiet(status_of_all(at.all)))),
@@ -128,13 +129,13 @@ fn next_step<W, J: Judge<W>, R: Source, O: Sink>(
 fn answer_lines<W, J: Judge<W>, R: Source, O: Sink>(
     judge: &J,
     work: &mut W,
-    limit: usize,
+    form: LineForm,
     feed: &mut Feed<'_, R>,
     out: &mut O,
 ) -> Result<Stop, WriteFault>
-    requires served { limit ≤ J.served judge.now }
+    requires served { form.limit ≤ J.served judge.now }
     requires work { J.works_in judge.now work.old }
-    requires capacity { capacity_of feed.old ≡ limit + 1 }
+    requires capacity { capacity_of feed.old ≡ form.limit + 1 }
     requires empty { bytes_of feed.old ≡ [] }
     requires allowance { allowance_of feed.old ≡ input_limit }
     requires told { IsTrueOfReader R.remaining R.failed R.ended feed.old }
@@ -146,9 +147,8 @@ fn answer_lines<W, J: Judge<W>, R: Source, O: Sink>(
         (reader_of feed.new)) seen ×
         (allowance_of feed.new + length seen ≡ input_limit) ×
         ((input : Input) → Agrees seen (flow_of feed.new) input →
-        HasRun (Lines (J.told judge.now) limit input) (Ends (J.told judge.now) limit input) (place_taken limit input)
-        (length seen)
-        (O.contents out.old) (O.contents out.new) result) }
+        HasRun (Lines (J.told judge.now) form input) (Ends (J.told judge.now) form input)
+        (place_taken form.limit input) (length seen) (O.contents out.old) (O.contents out.new) result) }
     ensures flag { Flags (O.failed out.old) (O.failed out.new) result }
 {
     judge.decided();
@@ -158,7 +158,7 @@ fn answer_lines<W, J: Judge<W>, R: Source, O: Sink>(
         all: true,
     };
     loop {
-        match next_step(judge, work, limit, feed, at, out) {
+        match next_step(judge, work, form, feed, at, out) {
             Ok(Step::Answers { said, len }) => {
                 feed.skip(len + 1);
                 at = At {
@@ -174,13 +174,14 @@ fn answer_lines<W, J: Judge<W>, R: Source, O: Sink>(
 }
 
 /// Judges the lines of what a reader gives, and writes the answer to each: `yes`, `no`, or `no` and a number. The
-/// reader may neither have failed nor have told its end before, and the judge must serve lines of `limit` bytes and be
-/// able to work in that memory.
+/// reader may neither have failed nor have told its end before, and the judge must serve lines of `form.limit` bytes and
+/// be able to work in that memory.
 ///
-/// - A line ends before an LF, and a last piece without LF is a line if it is not empty. A CR belongs to its line.
-/// - The first line of more than `limit` bytes ends the run: `LongLine` with its number from 1 and the limit. So it is
-///   with more than `limit` bytes without LF.
-/// - After a fault of the reader a line is judged only if its LF was given; then `Broken`.
+/// - A line ends before a byte `form.end`, and a last piece without one is a line if it is not empty. All other bytes
+///   belong to their line, a CR too.
+/// - The first line of more than `form.limit` bytes ends the run: `LongLine` with its number from 1 and the limit. So it
+///   is with more than `form.limit` bytes of which none is `form.end`.
+/// - After a fault of the reader a line is judged only if its end was given; then `Broken`.
 /// - Behind the last line the run ends with `Done` if all answers are yes, else with `NoMatch`.
 /// - `NoMemory` if an allocation fails; the answers before stand whole. `WriteFault` if the output fails; then a
 ///   beginning is written.
@@ -188,26 +189,26 @@ pub fn run_lines<W, J: Judge<W>, R: Source, O: Sink>(
     alloc: Global,
     judge: &J,
     work: &mut W,
-    limit: usize,
+    form: LineForm,
     reader: &mut R,
     out: &mut O,
 ) -> Result<Stop, WriteFault>
-    requires small { limit ≤ MAX_LIMIT }
-    requires served { limit ≤ J.served judge.now }
+    requires small { form.limit ≤ MAX_LIMIT }
+    requires served { form.limit ≤ J.served judge.now }
     requires work { J.works_in judge.now work.old }
     requires reader_is_fresh { R.failed reader.old ≡ false }
     requires reader_is_open { R.ended reader.old ≡ false }
     requires out_is_fresh { O.failed out.old ≡ false }
-    ensures { Performs (LinesReply (J.told judge.now) limit)
+    ensures { Performs (LinesReply (J.told judge.now) form)
         (passed R.remaining R.failed reader.old reader.new) (passed O.contents O.failed out.old out.new) result }
 {
     judge.decided();
-    let ring = match Feed::<R>::room(alloc, limit) {
+    let ring = match Feed::<R>::room(alloc, form.limit) {
         Ok(ring) => ring,
         Err(_) => return Ok(Stop::NoMemory),
     };
     let mut feed = Feed::new(ring, reader);
-    let stop = answer_lines(judge, work, limit, &mut feed, out);
+    let stop = answer_lines(judge, work, form, &mut feed, out);
     let _reader = feed.into_reader();
     stop
 }

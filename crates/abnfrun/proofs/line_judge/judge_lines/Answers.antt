@@ -1,6 +1,6 @@
 -- Memory was refused before the first line, or the lines were judged.
 use Rattle.abnfread.specs.AbnfViews.{rules_of}
-use Rattle.abnfrun.specs.AbnfReply.{AnswersFor}
+use Rattle.abnfrun.specs.AbnfReply.{AnswersFor, form_of}
 use Rattle.lines.proofs.LineRunLemmas.{no_line_was_run}
 use Rattle.abnfrun.proofs.line_judge.judge_lines.Goals as goal
 
@@ -9,5 +9,5 @@ returns-in_default g c =
     let s = c.args.settings.now in
     let rules = rules_of c.args.grammar.now.rules in
     let judged = c.args.grammar.now.judged in
-    no_line_was_run (AnswersFor rules judged s) s.limit (c.lines_have_answers.ensures s.letters s.viable rules judged) _
+    no_line_was_run (AnswersFor rules judged s) (form_of s) (c.lines_have_answers.ensures s.letters s.viable rules judged) _
     _ _ _ _

@@ -35,6 +35,16 @@ returns-in_err-with_viable c =
       app = (abnfi_app options.0 letters.0, (options.0, options.1, letters.0, letters.1, refl), rw fault.1 tt);
     }
 
+pub returns-in_err-with_nul : goal.returns-in_err-with_nul
+returns-in_err-with_nul c =
+    let options = c.in_ok-with_options.ensures.options in
+    let letters = c.letters_arg-letters.ensures.rule in
+    let fault = err_from_is_err_and c.from_residual-in_err-with_nul.result
+    c.from_residual-in_err-with_nul.ensures.1 in
+    record {
+      app = (abnfi_app options.0 letters.0, (options.0, options.1, letters.0, letters.1, refl), rw fault.1 tt);
+    }
+
 pub returns : goal.returns
 returns c =
     let options = c.in_ok-with_options.ensures.options in
@@ -44,12 +54,13 @@ returns c =
     let two = c.in_ok-with_letters.ensures.shape c.letters_arg-letters.ensures.local ∙ ap₂ with_rule base letters.2 in
     let three = c.in_ok-with_viable.ensures.shape c.viable_arg.ensures.local
     ∙ ap₂ with_rule two c.viable_arg.ensures.rule in
+    let four = c.in_ok-with_nul.ensures.shape c.nul_arg.ensures.local ∙ ap₂ with_rule three c.nul_arg.ensures.rule in
     record {
       app = (
         abnfi_app options.0 letters.0,
         (options.0, options.1, letters.0, letters.1, refl),
-        IfOk-weaker c.arg-3.result _ _
-            (λ r h. h.shape c.grammar_arg.ensures.local ∙ ap₂ with_rule three c.grammar_arg.ensures.rule)
-            c.arg-3.ensures,
+        IfOk-weaker c.arg-4.result _ _
+            (λ r h. h.shape c.grammar_arg.ensures.local ∙ ap₂ with_rule four c.grammar_arg.ensures.rule)
+            c.arg-4.ensures,
       );
     }

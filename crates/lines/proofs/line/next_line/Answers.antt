@@ -6,8 +6,8 @@ use Rattle.lines.proofs.line.next_line.Goals as goal
 pub returns-in-Some-clause-follows : goal.returns-in-Some-clause-follows
 returns-in-Some-clause-follows g c = λ limit before input room a.
     let feed = c.fill-held.new.self in (
-      line_found feed limit before input room c.fill-held.ensures.within a c.in-Some.k c.in-Some.ensures,
-      held_taken feed limit before input room c.fill-held.ensures.within a c.fill-held.result c.fill-held.ensures.held,
+      line_found feed c.args.end limit before input room c.fill-held.ensures.within a c.in-Some.k c.in-Some.ensures,
+      held_taken feed c.args.end limit before input room c.fill-held.ensures.within a c.fill-held.result c.fill-held.ensures.held,
     )
 
 pub returns-in-Some-clause-fits : goal.returns-in-Some-clause-fits
@@ -22,16 +22,16 @@ returns-in-Some-clause-short g c =
 pub returns-in-None-clause-follows : goal.returns-in-None-clause-follows
 returns-in-None-clause-follows g c = λ limit before input room a.
     let feed = c.fill-held.new.self in (
-      rw (c.without_lf.ensures, c.len-len.ensures.len)
-          (not_found feed limit before input room c.fill-held.ensures.within a c.in-None.ensures c.fill-held.result
+      rw (c.without_end.ensures, c.len-len.ensures.len)
+          (not_found feed c.args.end limit before input room c.fill-held.ensures.within a c.in-None.ensures c.fill-held.result
           c.fill-held.ensures.held),
-      held_taken feed limit before input room c.fill-held.ensures.within a c.fill-held.result c.fill-held.ensures.held,
+      held_taken feed c.args.end limit before input room c.fill-held.ensures.within a c.fill-held.result c.fill-held.ensures.held,
     )
 
 pub returns-in-None-clause-fits : goal.returns-in-None-clause-fits
-returns-in-None-clause-fits g c = rw (c.without_lf.ensures, c.len-len.ensures.len)
+returns-in-None-clause-fits g c = rw (c.without_end.ensures, c.len-len.ensures.len)
     (without_fits c.fill-held.result (length c.fill-held.new.self.ring.items))
 
 pub returns-in-None-clause-short : goal.returns-in-None-clause-short
-returns-in-None-clause-short g c = rw (c.without_lf.ensures, c.len-len.ensures.len)
+returns-in-None-clause-short g c = rw (c.without_end.ensures, c.len-len.ensures.len)
     (without_short c.fill-held.new.self c.fill-held.result c.fill-held.ensures.held)

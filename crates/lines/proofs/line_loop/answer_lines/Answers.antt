@@ -57,7 +57,7 @@ loop-said-preserved g c =
             let a = rw (c.skip.ensures.bytes, slides-bytes so_far.0 items n, c.skip.ensures.flow) at b in
             let front = so_far.3 input (agrees_earlier _ _ _ grew so_far.0 input a) in
             let step = c.in-Ok-Answers.ensures.follows so_far.0 input so_far.1 a in
-            rw c.still_all.ensures (one_more_line (g.J.Judge.told c.args.judge.now) c.args.limit input c.loop-said.at _
+            rw c.still_all.ensures (one_more_line (g.J.Judge.told c.args.judge.now) c.args.form input c.loop-said.at _
             _ _ front.0 front.1 front.2
             c.in-Ok-Answers.said c.in-Ok-Answers.len (rw c.in-Ok-Answers.field-0-is at step.0)),
       );
@@ -83,7 +83,7 @@ returns-in-Ok-Stops-clause-lines g c =
       λ input a.
           let front = so_far.3 input (agrees_earlier _ _ _ grew so_far.0 input a) in
           let step = c.in-Ok-Stops.ensures.follows so_far.0 input so_far.1 a in
-          stops_there (g.J.Judge.told c.args.judge.now) c.args.limit input c.loop-said.at _ _ _ front.0 front.1 front.2
+          stops_there (g.J.Judge.told c.args.judge.now) c.args.form input c.loop-said.at _ _ _ front.0 front.1 front.2
           (length (so_far.0 ++ items))
           c.in-Ok-Stops.stop (rw c.in-Ok-Stops.field-0-is at step.0) step.1,
     )
@@ -108,7 +108,7 @@ returns-in-Err-clause-lines g c =
       λ input a.
           let front = so_far.3 input (agrees_earlier _ _ _ grew so_far.0 input a) in
           let step = c.in-Err.ensures.follows so_far.0 input so_far.1 a in
-          fails_there (g.J.Judge.told c.args.judge.now) c.args.limit input c.loop-said.at _ _ _ front.0 front.1 front.2
+          fails_there (g.J.Judge.told c.args.judge.now) c.args.form input c.loop-said.at _ _ _ front.0 front.1 front.2
           c.decided.ensures (length (so_far.0 ++ items))
           c.in-Err.fault step.0 step.1,
     )

@@ -10,7 +10,7 @@ use Rattle.lines.proofs.line_loop.answer_lines.Given as goal
 
 abbrev pub invariant-loop-said : goal.invariant-loop-said
 invariant-loop-said g l = record {
-  capacity : capacity_of l.feed ≡ l.limit + 1;
+  capacity : capacity_of l.feed ≡ l.form.limit + 1;
   counted : l.at.count ≤ l.at.place;
   within : l.at.place + length (bytes_of l.feed) + allowance_of l.feed ≡ input_limit;
   told : IsTrueOfReader g.R.Source.remaining g.R.Source.failed g.R.Source.ended l.feed;
@@ -21,7 +21,7 @@ invariant-loop-said g l = record {
       Consumes (g.R.Source.remaining (reader_of l.fn.feed)) (g.R.Source.remaining (reader_of l.feed))
       (before ++ bytes_of l.feed) ×
       ((input : Input) → Agrees (before ++ bytes_of l.feed) (flow_of l.feed) input →
-      (text : List ℕ) × Lines (g.J.Judge.told l.judge) l.limit input l.at text
+      (text : List ℕ) × Lines (g.J.Judge.told l.judge) l.form input l.at text
       × Appends (g.O.Sink.contents l.fn.out) (g.O.Sink.contents l.out) text);
 }
 

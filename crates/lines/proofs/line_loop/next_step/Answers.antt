@@ -9,11 +9,11 @@ pub returns-in-Whole-clause-follows : goal.returns-in-Whole-clause-follows
 returns-in-Whole-clause-follows g c = λ before input here a.
     let on = c.answer_held in
     let b = rw (on.ensures.same.bytes, on.ensures.same.flow) at a in
-    let next = rw here at (c.in-Whole.ensures.follows c.args.limit before input
+    let next = rw here at (c.in-Whole.ensures.follows c.args.form.limit before input
     (c.next_line.ensures.grows.capacity ∙ c.requires.capacity) b) in
     let front = held_front before (bytes_of c.next_line.new.feed) b.more input.bytes c.in-Whole.n c.args.at.place
     b.bytes here (omega (arith, c.in-Whole.ensures.fits)) in (
-      rw c.step_of.ensures (whole_is (g.J.Judge.told c.args.judge.now) c.args.limit input c.args.at c.in-Whole.n _
+      rw c.step_of.ensures (whole_is (g.J.Judge.told c.args.judge.now) c.args.form input c.args.at c.in-Whole.n _
           (g.O.Sink.contents c.args.out.now)
           (g.O.Sink.contents on.new.out) on.result front next.0 on.ensures.answered),
       rw on.ensures.same.bytes next.1,
@@ -23,11 +23,11 @@ pub returns-in-Last-clause-follows : goal.returns-in-Last-clause-follows
 returns-in-Last-clause-follows g c = λ before input here a.
     let on = c.answer_held-in-Last in
     let b = rw (on.ensures.same.bytes, on.ensures.same.flow) at a in
-    let next = rw here at (c.in-Last.ensures.follows c.args.limit before input
+    let next = rw here at (c.in-Last.ensures.follows c.args.form.limit before input
     (c.next_line.ensures.grows.capacity ∙ c.requires.capacity) b) in
     let front = held_front before (bytes_of c.next_line.new.feed) b.more input.bytes c.in-Last.n c.args.at.place b.bytes
     here (omega (arith, c.in-Last.ensures.fits)) in (
-      rw c.end_of.ensures (last_is (g.J.Judge.told c.args.judge.now) c.args.limit input c.args.at c.in-Last.n _
+      rw c.end_of.ensures (last_is (g.J.Judge.told c.args.judge.now) c.args.form input c.args.at c.in-Last.n _
           (g.O.Sink.contents c.args.out.now)
           (g.O.Sink.contents on.new.out) on.result front next.0 on.ensures.answered),
       rw on.ensures.same.bytes next.1,
@@ -35,26 +35,26 @@ returns-in-Last-clause-follows g c = λ before input here a.
 
 pub returns-in-Overlong-clause-follows : goal.returns-in-Overlong-clause-follows
 returns-in-Overlong-clause-follows g c = λ before input here a.
-    let next = rw here at (c.in-Overlong.ensures.follows c.args.limit before input
+    let next = rw here at (c.in-Overlong.ensures.follows c.args.form.limit before input
     (c.next_line.ensures.grows.capacity ∙ c.requires.capacity) a) in (
-      long_is (g.J.Judge.told c.args.judge.now) c.args.limit input c.args.at (g.O.Sink.contents c.args.out.now) next.0,
+      long_is (g.J.Judge.told c.args.judge.now) c.args.form input c.args.at (g.O.Sink.contents c.args.out.now) next.0,
       next.1,
     )
 
 pub returns-in-End-clause-follows : goal.returns-in-End-clause-follows
 returns-in-End-clause-follows g c = λ before input here a.
-    let next = rw here at (c.in-End.ensures.follows c.args.limit before input
+    let next = rw here at (c.in-End.ensures.follows c.args.form.limit before input
     (c.next_line.ensures.grows.capacity ∙ c.requires.capacity) a) in (
-      rw c.status_of_all.ensures (end_is (g.J.Judge.told c.args.judge.now) c.args.limit input c.args.at
+      rw c.status_of_all.ensures (end_is (g.J.Judge.told c.args.judge.now) c.args.form input c.args.at
           (g.O.Sink.contents c.args.out.now) next.0),
       next.1,
     )
 
 pub returns-in-Broken-clause-follows : goal.returns-in-Broken-clause-follows
 returns-in-Broken-clause-follows g c = λ before input here a.
-    let next = rw here at (c.in-Broken.ensures.follows c.args.limit before input
+    let next = rw here at (c.in-Broken.ensures.follows c.args.form.limit before input
     (c.next_line.ensures.grows.capacity ∙ c.requires.capacity) a) in (
-      broken_is (g.J.Judge.told c.args.judge.now) c.args.limit input c.args.at (g.O.Sink.contents c.args.out.now)
+      broken_is (g.J.Judge.told c.args.judge.now) c.args.form input c.args.at (g.O.Sink.contents c.args.out.now)
           next.0,
       next.1,
     )

@@ -5,11 +5,11 @@ use Rattle.lines.proofs.LineRunLemmas.{lines_were_run, no_line_was_run}
 use Rattle.lines.proofs.line_loop.run_lines.Goals as goal
 
 pub returns-in-Err : goal.returns-in-Err
-returns-in-Err g c = no_line_was_run (g.J.Judge.told c.args.judge.now) c.args.limit c.decided.ensures _ _ _ _ _
+returns-in-Err g c = no_line_was_run (g.J.Judge.told c.args.judge.now) c.args.form c.decided.ensures _ _ _ _ _
 
 pub returns : goal.returns
 returns g c =
-    lines_were_run (g.J.Judge.told c.args.judge.now) c.args.limit c.decided.ensures g.R.Source.remaining
+    lines_were_run (g.J.Judge.told c.args.judge.now) c.args.form c.decided.ensures g.R.Source.remaining
     g.R.Source.failed g.R.Source.ended c.args.reader.now c.answer_lines-stop.new.feed.reader.now _
     (passed g.O.Sink.contents g.O.Sink.failed c.args.out.now c.answer_lines-stop.new.out)
     c.answer_lines-stop.new.feed.left c.answer_lines-stop.new.feed.flow c.answer_lines-stop.result (search rules)
