@@ -2,7 +2,7 @@
 import slow_abnf
 
 NAMES = ["s", "A-1", "b", "C"]
-LETTERS = b"abAB01"
+LETTERS = b"abAB01\n"
 LARGE = [7, 65536, 4294967295]
 A, B, S = ("text", b"a", False), ("text", b"b", False), ("name", "s")
 EITHER = ("alt", [A, B])

@@ -1,0 +1,1 @@
+abnfi -z -u utf8 rfc5545.abnf < records.txt

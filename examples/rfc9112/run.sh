@@ -1,0 +1,1 @@
+abnfi -z -w rfc9112.abnf < records.txt

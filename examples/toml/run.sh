@@ -1,0 +1,1 @@
+abnfi -z -u utf8 -w toml.abnf < records.txt
