@@ -126,19 +126,16 @@ class Prover:
         return f"{len(self.waiting) + len(self.at_work)} left"
 
     def begin(self):
-        """Begins the crates that are ready, those with the longest way up first, as many as processors allow. The
-        crate with the longest way up of all gets half of the processors: the whole run waits for it."""
+        """Begins the crates that are ready, those with the longest way up first, as many as processors allow. The first of
+        them gets half of the processors if so many are free: the whole run waits for it."""
         ready = sorted((it for it in self.waiting if below(TOP, it) <= self.done), key=lambda it: -self.distance[it])
-        longest = max(self.distance[it] for it in (*self.waiting, *(work.crate for work in self.at_work)))
         for number, crate in enumerate(ready):
             free = self.limit - sum(it.jobs for it in self.at_work)
-            jobs = min(free - (len(ready) - number - 1), MOST)
-            if self.distance[crate] == longest:
-                jobs = max(jobs, min(free, self.limit // 2))
             if free < 1:
                 return
+            jobs = max(min(free - (len(ready) - number - 1), MOST), min(free, self.limit // 2) if number == 0 else 1, 1)
             self.waiting.remove(crate)
-            self.at_work.append(Work(crate, crate in self.programs, max(jobs, 1), self.trees))
+            self.at_work.append(Work(crate, crate in self.programs, jobs, self.trees))
             print(f"{crate}: begins", flush=True)
 
     def end(self, work):

@@ -1,8 +1,10 @@
 -- The body with which a definition begins a rule.
 -- Serves: read_abnf
 use Rattle.std.proofs.Common.{◌≡◌, ℕ, ◌<◌, Bool, true, false, cond, ◌&&◌, Option, Some, None, List, [], ◌∷◌, ◌++◌}
-use Rattle.std.proofs.Common.{length, position, prefix_len, not, nat_lt, suc, refl, sym, ap, ◌∙◌, arith}
+use Rattle.std.proofs.Common.{length, position, nat_lt, suc, ◌+◌, refl, sym, ap, ◌∙◌, arith}
+use Rattle.std.specs.List.{position_or_len}
 use Rattle.std.specs.Prelude.{slice_get}
+use Rattle.std.proofs.lemmas.Bool.Decides.{nat_tests}
 use Rattle.std.proofs.lemmas.List.Quantifiers.{position-Some}
 use Rattle.ruletable.specs.Rules as table
 use Rattle.ruletable.specs.Rules.{find_in, same_name}
@@ -28,23 +30,41 @@ core-place core n o c h = sym (found-in core n c.names ∙ ap (places n) c.liste
 abbrev body_by : List Element → Option ℕ → Option Element
 body_by es o = elim o [ None ↦ None | Some id ↦ slice_get es id ]
 
--- the body of a name is the one at the name's place
-body-there : (n : List ℕ) (rules : List Rule) → body_of rules n ≡ body_by (bodies rules) (places n rules)
-body-there n [] = refl
-body-there n (rule ∷ rules) = by_name (same_name Fold n rule.name) refl
+some-less : (n : ℕ) → nat_lt 0 (suc n) ≡ true
+some-less n = grind (arith, nat_tests)
+
+one-less : (k n : ℕ) (b : Bool) → nat_lt k n ≡ b → nat_lt (1 + k) (suc n) ≡ b
+one-less k n true h = grind (arith, nat_tests)
+one-less k n false h = grind (arith, nat_tests)
+
+-- the body of the first rule that passes a test is the one at that rule's place
+module _ (p : Rule → Bool) (found : List Rule → Option Element) (none : found [] ≡ None)
+    (step : (rule : Rule) (rules : List Rule) → found (rule ∷ rules) ≡ cond (p rule) (Some rule.body) (found rules))
   where
-    count : ℕ
-    count = prefix_len (λ (r : Rule). not (same_name Fold n r.name)) rules
+    next-there : (rule : Rule) (rules : List Rule) (b : Bool) → p rule ≡ b
+        → found rules ≡ body_by (bodies rules) (position p rules)
+        → cond b (Some rule.body) (found rules) ≡ body_by (bodies (rule ∷ rules)) (position p (rule ∷ rules))
+    next-there rule rules true e h =
+        rw e (sym (ap (λ (b : Bool). body_by (bodies (rule ∷ rules)) (cond b (Some 0) None)) (some-less (length rules))))
+    next-there rule rules false e h =
+        rw e (h ∙ later (1 + count) (omega arith) (nat_lt count (length rules))
+        ∙ ap (λ (b : Bool). body_by (bodies (rule ∷ rules)) (cond b (Some (1 + count)) None))
+        (sym (one-less count (length rules) (nat_lt count (length rules)) refl)))
+      where
+        count : ℕ
+        count = position_or_len p rules
 
-    later : (b : Bool) → body_by (bodies rules) (cond b (Some count) None)
-        ≡ body_by (bodies (rule ∷ rules)) (cond b (Some (suc count)) None)
-    later true = refl
-    later false = refl
+        later : (k : ℕ) → k ≡ suc count → (b : Bool) → body_by (bodies rules) (cond b (Some count) None)
+            ≡ body_by (bodies (rule ∷ rules)) (cond b (Some k) None)
+        later k e true = rw e refl
+        later k e false = refl
 
-    by_name : (b : Bool) → same_name Fold n rule.name ≡ b
-        → body_of (rule ∷ rules) n ≡ body_by (bodies (rule ∷ rules)) (places n (rule ∷ rules))
-    by_name true e = rw e refl
-    by_name false e = rw e (body-there n rules ∙ later (nat_lt count (length rules)))
+    found-there : (rules : List Rule) → found rules ≡ body_by (bodies rules) (position p rules)
+    found-there [] = none
+    found-there (rule ∷ rules) = step rule rules ∙ next-there rule rules (p rule) refl (found-there rules)
+
+body-there : (n : List ℕ) (rules : List Rule) → body_of rules n ≡ body_by (bodies rules) (places n rules)
+body-there n = found-there (λ rule. same_name Fold n rule.name) (λ rules. body_of rules n) refl (λ rule rules. refl)
 
 core-body : (core : table.Rules Elem) (n : List ℕ) (o : Option ℕ) → IsCoreTable core → find_in core n ≡ o
     → body_of core_list n ≡ body_by core_bodies o

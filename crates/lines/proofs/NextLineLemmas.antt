@@ -4,7 +4,7 @@ use Rattle.std.proofs.Common.{◌≡◌, ◌≢◌, ℕ, suc, ◌+◌, ◌<◌, 
 use Rattle.std.proofs.Common.{length, drop, take, refl, sym, ◌∙◌, ap, arith, append_assoc, length-append, length-take}
 use Rattle.std.proofs.Common.{get_or, drop-cons, if◌then◌else◌}
 use Rattle.std.proofs.Math.Seq.{drop-append_seam}
-use Rattle.std.proofs.lemmas.Bool.{eqb-true}
+use Rattle.std.proofs.lemmas.Bool.{eqb-true, eq-eqb}
 use Rattle.std.proofs.lemmas.Bool.Decides.{nat_tests}
 use Rattle.std.proofs.lemmas.Grind.{common_steps}
 use Rattle.std.proofs.lemmas.List.{get_or-take, take-append-drop, take-append-le}
@@ -28,7 +28,7 @@ nil_of (x ∷ xs) e = absurd (omega arith)
 
 -- where no end was found
 none_found : (end : ℕ) (xs : List ℕ) → Nowhere (Passes (is_byte end) xs) 0 (length xs) → HasNoEnd end xs
-none_found end xs h = All-from_get_or (λ b. b ≢ end) xs 0 (λ i lt is. h i (omega arith) lt (rw is refl))
+none_found end xs h = All-from_get_or (λ b. b ≢ end) xs 0 (λ i lt is. h i (omega arith) lt (rw is (eq-eqb end end refl)))
 
 -- where the first one was found
 first_found : (end n : ℕ) (xs : List ℕ) → NoneBefore (Passes (is_byte end) xs) 0 (length xs) n → Passes (is_byte end) xs n →
@@ -42,7 +42,7 @@ first_found end n xs before found =
       All-from_get_or (λ b. b ≢ end) (take n xs) 0 (λ i lt eq.
           let low : i < n = omega arith in
           let same : get_or xs i 0 ≡ end = sym (get_or-take n xs i 0 low) ∙ eq in
-          before.before i (omega arith) low (rw same refl)),
+          before.before i (omega arith) low (rw same (eq-eqb end end refl))),
       omega arith,
     )
 
