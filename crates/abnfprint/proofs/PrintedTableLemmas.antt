@@ -1,7 +1,7 @@
 -- The rules that a text's definitions make are formed and not too deep, and a text of them has the same table.
 -- Serves: print_abnf, is_abnf_read_back
-use Rattle.std.proofs.Common.{◌≡◌, ℕ, zero, suc, ◌≤◌, ◌&&◌, cond, Bool, true, false, Option, Some, None, List, [], ◌∷◌}
-use Rattle.std.proofs.Common.{◌++◌, map, position, slice_get, refl, sym, ap, ◌∙◌, subst, arith, codes}
+use Rattle.std.proofs.Common.{◌≡◌, ℕ, suc, ◌≤◌, ◌&&◌, cond, Bool, true, false, Option, Some, None, List, [], ◌∷◌}
+use Rattle.std.proofs.Common.{◌++◌, map, position, refl, sym, ap, ◌∙◌, subst, arith, codes}
 use Rattle.std.proofs.lemmas.List.Elements.{All-cons, All-nil}
 use Rattle.ruletable.specs.Rules.{same_name}
 use Rattle.ruletable.specs.declared.span.Span.{Span}
@@ -73,11 +73,6 @@ alternatives-fit x y h k =
 abbrev AreFitBodies : List Element → Type 0
 AreFitBodies [] = Unit {0}
 AreFitBodies (x ∷ xs) = IsFit x × AreFitBodies xs
-
-body-fit : (xs : List Element) (id : ℕ) (x : Element) → AreFitBodies xs → slice_get xs id ≡ Some x → IsFit x
-body-fit [] id x h e = cc
-body-fit (y ∷ ys) zero x h e = let same : y ≡ x = cc in subst IsFit same h.0
-body-fit (y ∷ ys) (suc id) x h e = body-fit ys id x h.1 e
 
 -- a test that computes
 abbrev all_pass : (ℕ → Bool) → List ℕ → Bool
@@ -210,13 +205,16 @@ core-fit = (
   ),
 )
 
-core_body : List ℕ → Option Element
-core_body = body_of core_list
+first-fit : (b : Bool) (body : Element) (later : Option Element) (x : Element) → IsFit body
+    → (later ≡ Some x → IsFit x) → cond b (Some body) later ≡ Some x → IsFit x
+first-fit true body later x h k e = let same : body ≡ x = cc in subst IsFit same h
+first-fit false body later x h k e = k e
 
-core-at : (o : Option ℕ) (x : Element) → (elim o [ None ↦ None | Some id ↦ slice_get (bodies core_list) id ]) ≡ Some x
+of-fit : (rules : List Rule) → AreFitBodies (bodies rules) → (n : List ℕ) (x : Element) → body_of rules n ≡ Some x
     → IsFit x
-core-at None x e = cc
-core-at (Some id) x e = body-fit (bodies core_list) id x core-fit e
+of-fit [] h n x e = cc
+of-fit (rule ∷ rules) h n x e = first-fit (same_name Fold n rule.name) rule.body (body_of rules n) x h.0
+    (λ later. of-fit rules h.1 n x later) e
 
 begun-by : (a : Bool) (o : Option Element) (x : Element) → ((c : Element) → o ≡ Some c → IsFit c) → IsFit x
     → IsFit (cond a (elim o [ None ↦ x | Some c ↦ with_alternatives c x ]) x)
@@ -226,7 +224,7 @@ begun-by false o x f h = h
 
 begun-fit : (d : Definition) → IsFit d.body → IsFit (first_body (body_of core_list) d)
 begun-fit d h = begun-by d.adds (body_of core_list d.name) d.body
-    (λ c e. core-at (position (λ rule. same_name Fold d.name rule.name) core_list) c e) h
+    (λ c e. of-fit core_list core-fit d.name c e) h
 
 added-by : (b : Bool) (x : Element) (xs : List Element) → IsFit x → AreFitBodies xs → AreFitBodies (cond b (x ∷ xs) xs)
 added-by true x xs h k = (h, k)
