@@ -8,7 +8,6 @@ mod heads;
 mod item;
 mod items;
 mod later;
-mod letter_law;
 mod read_front;
 mod sets;
 mod verdict;

@@ -8,8 +8,7 @@ ghost use Rattle.flatgrammar.specs.Verdicts.{IsVerdict};
 ghost use Rattle.letters.specs.Letters.{has};
 
 use crate::chart::{Chart, judge};
-use crate::letter_law::values_are_letters;
-use flatgrammar::{Flat, Verdict};
+use flatgrammar::{Flat, Verdict, values_are_letters};
 use letters::Letter;
 use ruletable::Memory;
 

@@ -9,6 +9,7 @@ mod flat_node;
 mod head_block;
 mod inner;
 mod item_laws;
+mod letter_law;
 mod lower_elem;
 mod lowered;
 mod nulls;
@@ -23,6 +24,7 @@ pub use flat_item::Item;
 pub use flat_node::{Ends, Node, Set};
 pub use inner::{Inner, begin_steps};
 pub use item_laws::{items_at_most, items_tell};
+pub use letter_law::values_are_letters;
 pub use lowered::{lower, lower_rules};
 pub use spot_list::{Ask, SpotList};
 pub use tables::{

@@ -18,7 +18,7 @@ returns-then-not-any_reads-clause-is c = λ d sample. record {
   from_is = slice_get-get_or c.args.cache.now.states.items c.args.state c.index.result.now
       (let l = c.len.ensures in let t = c.if-state-len.false in omega (arith, l, t))
       ∙ ap (λ v. Some v) (sym c.index.ensures);
-  none = λ stack r. c.if-not-any_reads.ensures refl stack
+  none = λ stack r. c.if-not-any_reads.ensures.none refl stack
       (subst (λ v. ReadsFrom c.args.tables.now v c.args.cache.now.conts.items.items c.deref.result.now stack)
       (sym (get_or_from_slice_get c.args.samples.now c.args.class d 0 sample))
       (subst (λ v. ReadsFrom c.args.tables.now d c.args.cache.now.conts.items.items v stack)

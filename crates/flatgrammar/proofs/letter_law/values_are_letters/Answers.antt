@@ -3,7 +3,7 @@ use Rattle.std.proofs.Common.{◌≡◌, ℕ, zero, suc, ◌+◌, ◌<◌, Bool,
 use Rattle.std.proofs.Common.{add-one, arith, subst}
 use Rattle.abnfcheck.specs.Derivable.{AreLetters}
 use Rattle.letters.specs.Letters.{has}
-use Rattle.earley.proofs.letter_law.values_are_letters.Goals as goal
+use Rattle.flatgrammar.proofs.letter_law.values_are_letters.Goals as goal
 
 module _ {A : Type 0} (test : ℕ → Bool) (f : A → ℕ) where
   next_of : (xs : List A) (i : ℕ) (d : A) → i < length xs → AreLetters test (map f (take i xs))

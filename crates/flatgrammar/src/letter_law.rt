@@ -6,7 +6,7 @@ ghost use Rattle.letters.specs.Letters.{has};
 use letters::Letter;
 
 /// Returns nothing. Its contract is a law: the alphabet of a line's letters has each of their values.
-pub(crate) fn values_are_letters<L: Letter>(line: &[L])
+pub fn values_are_letters<L: Letter>(line: &[L])
     ensures { AreLetters (has L.ALPHABET) (map L.number line.now) }
 {
     for letter in line {

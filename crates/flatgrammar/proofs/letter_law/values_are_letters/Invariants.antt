@@ -1,7 +1,7 @@
 use Rattle.std.proofs.Common.{map, take}
 use Rattle.abnfcheck.specs.Derivable.{AreLetters}
 use Rattle.letters.specs.Letters.{has}
-use Rattle.earley.proofs.letter_law.values_are_letters.Given as goal
+use Rattle.flatgrammar.proofs.letter_law.values_are_letters.Given as goal
 
 -- the values seen are those of letters
 abbrev pub invariant-loop-letter : goal.invariant-loop-letter
