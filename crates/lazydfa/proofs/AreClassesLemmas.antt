@@ -1,6 +1,6 @@
 -- Classes of letters that the sets of a grammar do not tell apart.
 -- Serves: new, judge, viable.
-use Rattle.std.proofs.Common.{◌≡◌, ℕ, zero, suc, ◌+◌, ◌-◌, ◌<◌, ◌≤◌, ◌^◌, Bool, true, false, List, [], ◌∷◌, ◌++◌}
+use Rattle.std.proofs.Common.{◌≡◌, ℕ, zero, suc, ◌+◌, ◌-◌, ◌<◌, ◌≤◌, ◌^◌, true, false, List, [], ◌∷◌, ◌++◌}
 use Rattle.std.proofs.Common.{length, map, refl, sym, ◌∙◌, ap, subst, arith, ◌⊎◌, inl, inr, ◌↔◌, get_or, leb, leb-true}
 use Rattle.std.proofs.Common.{leb-false, length-append, eqb}
 use Rattle.std.proofs.lemmas.Bool.{cases_lt}
@@ -21,7 +21,7 @@ use Rattle.flatgrammar.specs.Flat.{Flat, Node, Letters, Place, Set, Has, letter,
 use Rattle.flatgrammar.proofs.FlatCutLemmas.{push_cases}
 use Rattle.stacks.specs.Stacks.{AreAlike}
 use Rattle.lazydfa.specs.ClassBounds.{IsFree, AreMoreBounds, IsBoundAdded, IsSplit, IsNodeSplit, AreNodesSplit}
-use Rattle.lazydfa.specs.ClassBounds.{AreJoined, IsClassOf, AreLow}
+use Rattle.lazydfa.specs.ClassBounds.{AreJoined, IsClassOf, AreLow, AreClasses}
 
 pub bound_added : (old new : List ℕ) (n : ℕ) → new ≡ old ++ n ∷ [] → IsBoundAdded old new n
 bound_added old new n is i free = (
@@ -104,7 +104,7 @@ module _ (flat : Flat) (bounds : List ℕ) (split : AreNodesSplit bounds flat.no
   module _ (ordered : IsNonDecreasing bounds) (c k above : ℕ) (fits : c < 2 ^ 32) (within : above ≤ length bounds)
       (last : k + 1 ≡ above)
       (point : IsPartitionPoint (λ y. leb y c ≡ true) (λ y. leb y c ≡ false) bounds above) where
-    sample : ℕ
+    abbrev sample : ℕ
     sample = get_or bounds k 0
 
     free_behind : (i : ℕ) → sample < i → i ≤ c → IsFree bounds i
@@ -173,3 +173,16 @@ ascended_more old mid new moved filtered i free = record {
   none = λ h. free.none (subst (λ v. Contains v i) (sym (dedup_is eqb mid new filtered))
       (Contains-dedup_nat mid i (Contains-permutation old mid i moved h)));
 }
+
+pub classes_made : (flat : Flat) (added sorted got low : List ℕ) → got ≡ sorted → AreNodesSplit added flat.nodes
+    → AreMoreBounds added sorted → IsNonDecreasing sorted → ((flat : Flat) → IsNonDecreasing got
+    → AreNodesSplit got flat.nodes → AreLow flat got low) → AreClasses flat low sorted
+classes_made flat added sorted got low same split more ordered low_are =
+    let parted = more_nodes_split added sorted flat.nodes more split in
+    record {
+      low_are = subst (λ v. AreLow flat v low) same
+          (low_are flat (subst (λ v. IsNonDecreasing v) (sym same) ordered)
+          (subst (λ v. AreNodesSplit v flat.nodes) (sym same) parted));
+      ordered = ordered;
+      split = parted;
+    }

@@ -2,9 +2,9 @@
 -- Serves: judge, viable.
 use Rattle.std.proofs.Common.{◌≡◌, ℕ, zero, suc, ◌+◌, ◌<◌, ◌≤◌, Bool, true, List, [], ◌∷◌, ◌++◌, length, refl, sym}
 use Rattle.std.proofs.Common.{◌∙◌, ap}
-use Rattle.std.proofs.Common.{subst, arith, ◌⊎◌, inl, inr, ◌↔◌, append-nil}
+use Rattle.std.proofs.Common.{subst, arith, ◌⊎◌, inl, inr, append-nil}
 use Rattle.std.proofs.lemmas.Bool.{cases_lt}
-use Rattle.std.specs.Prelude.{slice_get, Option, Some, None, Contains, IfSome}
+use Rattle.std.specs.Prelude.{slice_get, Option, Some, None, Contains}
 use Rattle.flatgrammar.specs.Flat.{Flat, Place, at}
 use Rattle.flatgrammar.specs.Blocks.{begin_count}
 use Rattle.flatgrammar.specs.NodeSteps.{flat_of}
@@ -160,8 +160,7 @@ module _ (tables : code_flat.Tables) (roots : GiveRoots (flat_of tables) tables.
         → IsReached (flat_of tables) (last_of tables) x (j + 1)
     next_reached t step =
         (taken_by_tops (flat_of tables) (last_of tables) x j c d letter alike (IsStackOf new at_j.state.tops.items) []
-        plain_at).1
-        (
+        plain_at).1 (
           step.some.0,
           to_read tables roots d new at_j.state.tops.items
               (subst (λ v. ReadsFrom tables d new v.tops.items step.some.0) (sym (same_state step.from step.from_is))

@@ -1,6 +1,6 @@
 -- What a run over a line tells of it.
 -- Serves: judge, viable.
-use Rattle.std.proofs.Common.{◌≡◌, ℕ, ◌+◌, ◌<◌, ◌≤◌, Bool, true, false, List, [], ◌∷◌, length, refl, sym, ◌∙◌, ap}
+use Rattle.std.proofs.Common.{◌≡◌, ℕ, ◌<◌, ◌≤◌, Bool, true, false, List, [], ◌∷◌, length, refl, sym, ◌∙◌, ap}
 use Rattle.std.proofs.Common.{subst, arith, inl, ◌↔◌, map, get_or, if◌then◌else◌}
 use Rattle.std.proofs.lemmas.Option.{slice_get-get_or, slice_get-map}
 use Rattle.std.specs.Prelude.{slice_get, Option, Some, None, IfSome, option_map}
@@ -8,6 +8,9 @@ use Rattle.abnfread.specs.Element.{Rule}
 use Rattle.abnfcheck.specs.Derivable.{AreLetters, RuleDerives}
 use Rattle.flatgrammar.specs.Flat.{Flat, Place, Concat}
 use Rattle.flatgrammar.specs.Lowered.{IsLowered}
+use Rattle.flatgrammar.specs.FlatViews.{node_of}
+use Rattle.flatgrammar.specs.declared.flat_node.Node as code_node
+use Rattle.flatgrammar.proofs.CallOfLemmas.{get_map}
 use Rattle.flatgrammar.specs.NodeSteps.{flat_of}
 use Rattle.flatgrammar.specs.TableViews.{GiveRoots}
 use Rattle.flatgrammar.specs.ToldBeginnings.{TellsBeginnings}
@@ -16,13 +19,13 @@ use Rattle.flatgrammar.specs.declared.tables.Tables as code_flat
 use Rattle.flatgrammar.specs.declared.verdict.Verdict.{Verdict}
 use Rattle.flatgrammar.specs.declared.verdict.Verdict.TheVariants.{Yes, No}
 use Rattle.flatgrammar.proofs.RuleDerivesLemmas.{derives_exactly}
-use Rattle.stacks.specs.Stacks.{Accepts, AreUncounted, TellsLast}
+use Rattle.stacks.specs.Stacks.{Accepts, AreUncounted}
 use Rattle.stacks.proofs.StacksLemmas.{accepted_holds, holds_accepted, reached_item, item_reached}
 use Rattle.lazydfa.specs.declared.conts.Cont.{Cont}
 use Rattle.lazydfa.specs.declared.cache.State.{State}
 use Rattle.lazydfa.specs.Conts.{last_of}
 use Rattle.lazydfa.specs.Cached.{IsAt}
-use Rattle.lazydfa.specs.RunVerdicts.{IsOne, IsReached, IsLastReached, IsRunVerdict}
+use Rattle.lazydfa.specs.RunVerdicts.{IsOne, IsReached, IsRunVerdict}
 use Rattle.lazydfa.proofs.MoveLemmas.{tells_last}
 
 -- a letter's number
@@ -106,9 +109,7 @@ module _ (tables : code_flat.Tables) (roots : GiveRoots (flat_of tables) tables.
       },
     )
 
-module _ (tables : code_flat.Tables) (flat : Flat) (roots : GiveRoots (flat_of tables) tables.roots.items)
-    (uncounted : AreUncounted (flat_of tables)) (is : flat_of tables ≡ flat) (has : ℕ → Bool) (x : List ℕ)
-    (letters : AreLetters has x) (count : ℕ) (size : length x ≡ count) where
+module _ (has : ℕ → Bool) (x : List ℕ) (count : ℕ) where
   abbrev pub Derives : Verdict → Flat → Type 0
   Derives told flat = (rules : List Rule) (judged : ℕ) → IsLowered rules judged flat → count ≤ flat.limit
       → (told ≡ Yes) ↔ RuleDerives has rules judged x
@@ -117,16 +118,35 @@ module _ (tables : code_flat.Tables) (flat : Flat) (roots : GiveRoots (flat_of t
   Begins told flat = (rules : List Rule) (judged : ℕ) → TellsBeginnings has rules judged flat → count ≤ flat.limit
       → IsVerdict has rules judged x told
 
+module _ (tables : code_flat.Tables) (flat : Flat) (roots : GiveRoots (flat_of tables) tables.roots.items)
+    (uncounted : AreUncounted (flat_of tables)) (is : flat_of tables ≡ flat) (has : ℕ → Bool) (x : List ℕ)
+    (letters : AreLetters has x) (count : ℕ) (size : length x ≡ count) where
   pub run_derives : (told : Option Verdict) → IfSome told (IsRunVerdict (flat_of tables) (last_of tables) x)
-      → IfSome told (λ v. Derives v flat)
+      → IfSome told (λ v. Derives has x count v flat)
   run_derives None h = h
   run_derives (Some told) h =
-      subst (λ v. Derives told v) is (λ rules judged lowered short.
+      subst (λ v. Derives has x count told v) is (λ rules judged lowered short.
       verdict_derives tables roots uncounted has rules judged x (omega (arith, size, short)) letters lowered told h)
 
   pub run_begins : IsOne (flat_of tables) → (told : Option Verdict)
-      → IfSome told (IsRunVerdict (flat_of tables) (last_of tables) x) → IfSome told (λ v. Begins v flat)
+      → IfSome told (IsRunVerdict (flat_of tables) (last_of tables) x) → IfSome told (λ v. Begins has x count v flat)
   run_begins one None h = h
   run_begins one (Some told) h =
-      subst (λ v. Begins told v) is (λ rules judged tells short.
+      subst (λ v. Begins has x count told v) is (λ rules judged tells short.
       verdict_begins tables roots uncounted has rules judged x (omega (arith, size, short)) letters one tells told h)
+
+-- a list of one
+one_member : (ms : List ℕ) → length ms ≡ 1 → (body : ℕ) × (ms ≡ body ∷ [])
+one_member [] is = absurd (omega (arith, is))
+one_member (m ∷ []) is = (m, refl)
+one_member (m ∷ k ∷ ms) is = absurd (omega (arith, is))
+
+pub whole_is_one : (tables : code_flat.Tables) (node : code_node.Node) (ms : List ℕ)
+    → slice_get tables.nodes.items tables.whole ≡ Some node → node_of node ≡ Concat ms → length ms ≡ 1
+    → IsOne (flat_of tables)
+whole_is_one tables node ms is concat size =
+    let one = one_member ms size in (
+      one.0,
+      get_map node_of tables.nodes.items tables.whole is
+          ∙ ap (λ v. Some v) (concat ∙ ap (λ v. Concat v) one.1),
+    )

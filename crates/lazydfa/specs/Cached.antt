@@ -1,5 +1,5 @@
 -- States and cells that are kept.
-use Rattle.std.specs.Prelude.{◌≡◌, ◌↔◌, ◌⊎◌, ℕ, ◌<◌, ◌≤◌, ◌/◌, ◌%◌, Bool, true, List, [], ◌++◌, length, slice_get}
+use Rattle.std.specs.Prelude.{◌≡◌, ◌↔◌, ◌⊎◌, ℕ, ◌≤◌, ◌/◌, ◌%◌, Bool, true, List, [], ◌++◌, length, slice_get}
 use Rattle.std.specs.Prelude.{Some, Contains}
 use Rattle.flatgrammar.specs.Flat.{Place}
 use Rattle.flatgrammar.specs.Blocks.{begin_count}

@@ -88,6 +88,22 @@ fn is_one(tables: &Tables) -> bool
     }
 }
 
+fn is_yes(told: Verdict) -> bool
+    ensures { IsTrue result ↔ (told ≡ Verdict.Yes) }
+{
+    match told {
+        Verdict::Yes => true,
+        Verdict::No(_) => false,
+    }
+}
+
+// Tells whether an automaton may judge by these tables.
+fn are_served(tables: &Tables) -> bool
+    ensures { IsTrue result → AreUncounted (flat_of tables.now) × IsOne (flat_of tables.now) }
+{
+    are_uncounted(tables) && is_one(tables)
+}
+
 // Returns a cache of a grammar of so many nodes, with no state. It takes no memory.
 fn empty_cache(alloc: Global, nodes: usize) -> Cache
     ensures conts { result.conts.items.items ≡ [] }
@@ -119,7 +135,7 @@ impl Automaton {
         ensures { IfOk result (λ made. IfSome made (λ automaton. automaton ≡ flat.now)) }
     {
         let tables = flat.share()?;
-        if !are_uncounted(&tables) || !is_one(&tables) {
+        if !are_served(&tables) {
             return Ok(None);
         }
         let classes = find_classes(alloc, &tables)?;
@@ -166,8 +182,7 @@ impl Automaton {
             IsTrue yes ↔ RuleDerives (has L.ALPHABET) rules judged (map L.number line.now))) }
     {
         match self.told(line)? {
-            Some(Verdict::Yes) => Ok(Some(true)),
-            Some(Verdict::No(_)) => Ok(Some(false)),
+            Some(told) => Ok(Some(is_yes(told))),
             None => Ok(None),
         }
     }

@@ -1,3 +1,4 @@
+use Rattle.std.proofs.Common.{refl}
 use Rattle.std.proofs.lemmas.Option.{slice_get-get_or}
 use Rattle.lazydfa.proofs.IsClosureLemmas.{contains_at}
 use Rattle.lazydfa.proofs.AreCachedLemmas.{none_more, none_all}
@@ -10,8 +11,7 @@ cont_reads-requires-clause-within c =
 
 pub returns-then-cont_reads-clause-some : goal.returns-then-cont_reads-clause-some
 returns-then-cont_reads-clause-some c = λ _.
-    let read = c.if-cont_reads.ensures.some refl in
-    (
+    let read = c.if-cont_reads.ensures.some refl in (
       read.0,
       record {
         id = _;

@@ -2,8 +2,12 @@ use Rattle.std.proofs.Common.{subst}
 use Rattle.flatgrammar.specs.FlatViews.{nodes_of}
 use Rattle.flatgrammar.specs.NodeSteps.{flat_of}
 use Rattle.lazydfa.specs.ClassBounds.{AreNodesSplit}
-use Rattle.lazydfa.proofs.AreClassesLemmas.{more_nodes_split}
+use Rattle.lazydfa.proofs.AreClassesLemmas.{classes_made}
 use Rattle.lazydfa.proofs.classes.find_classes.Goals as goal
 
 pub returns : goal.returns
-returns c = ?
+returns c =
+    classes_made (flat_of c.args.tables.now) c.add_nodes.new.bounds.items c.ascend.new.bounds.items c.deref-2.result.now
+    c.in_ok-low.low.items c.deref-2.ensures.value
+    (subst (λ v. AreNodesSplit c.add_nodes.new.bounds.items (nodes_of v)) c.deref.ensures.value
+    c.in_ok-add_nodes.ensures) c.ascend.ensures.more c.ascend.ensures.ordered c.in_ok-low.ensures

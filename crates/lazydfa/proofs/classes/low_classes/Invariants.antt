@@ -1,4 +1,3 @@
-use Rattle.std.proofs.Common.{ℕ, List}
 use Rattle.std.specs.List.Sorted.{IsNonDecreasing}
 use Rattle.flatgrammar.specs.Flat.{Flat}
 use Rattle.lazydfa.specs.ClassBounds.{AreNodesSplit}
