@@ -4,6 +4,7 @@
 mod abnf_printing;
 mod abnf_run;
 mod abnf_task;
+mod engines;
 mod laws;
 mod line_judge;
 

@@ -1,6 +1,5 @@
 //! The lines of an input, judged by a grammar.
-ghost use Rattle.std.specs.Prelude.{◌≡◌, ◌↔◌, ◌≤◌, ℕ, Bool, List, false, true, length, map, IfOk, IfSome, IsTrue};
-ghost use Rattle.abnfcheck.specs.Derivable.{RuleDerives};
+ghost use Rattle.std.specs.Prelude.{◌≡◌, ◌≤◌, ℕ, Bool, List, false, true, length, map, IfOk, IfSome};
 ghost use Rattle.abnfread.specs.Element.{Rule};
 ghost use Rattle.abnfread.specs.AbnfViews.{rules_of};
 ghost use Rattle.abnfrun.specs.AbnfReply.{IsAnswerTo, JudgeReply, form_of};
@@ -13,8 +12,9 @@ ghost use Rattle.lines.specs.declared.answers.Answer.{Answer};
 ghost use Rattle.toolrun.specs.Stopped.{Performs};
 ghost use Rattle.toolrun.specs.Stream.{passed};
 
+use crate::engines::Engines;
 use abnfcheck::{SoundAbnf, derivation_is_decided, furthest_is_found};
-use earley::{Chart, judge, viable};
+use earley::Chart;
 use feed::Source;
 use flatgrammar::{Flat, Verdict, lower};
 use lazydfa::Automaton;
@@ -38,18 +38,11 @@ pub struct LineJudge<'a> {
         ∥₁ },
 }
 
-/// The memory that a chart judges lines in: the item sets of a line, and its code points.
-#[derive(Drop)]
-struct ChartWork {
-    chart: Chart,
-    points: Vec<CodePoint>,
-}
-
-/// The memory that lines are judged in: that of a chart, and the automaton that is asked first, if there is one.
+/// The memory that lines are judged in: that of the judges of their letters, and their code points.
 #[derive(Drop)]
 pub struct Work {
-    of_chart: ChartWork,
-    automaton: Option<Automaton>,
+    engines: Engines,
+    points: Vec<CodePoint>,
 }
 
 /// Returns nothing. Its contract is a law: each line has an answer.
@@ -65,67 +58,38 @@ pub fn lines_have_answers()
 /// Returns the answer to the letters of a line, no more than the flat grammar serves. `Memory` if an allocation fails.
 fn judge_letters<L: Letter>(
     judges: &LineJudge<'_>,
-    chart: &mut Chart,
+    engines: &mut Engines,
     line: &[L],
 ) -> Result<Answer, Memory>
     requires letters { judges.now.letters ≡ L.ALPHABET }
     requires within { length line.now ≤ judges.now.flat.limit }
-    ensures { IfOk result (IsAnswerOn (has L.ALPHABET) judges.now.viable (rules_of judges.now.grammar.now.rules)
+    requires flat { IfSome engines.old.automaton (λ a. a ≡ judges.now.flat) }
+    ensures flat { IfSome engines.new.automaton (λ a. a ≡ judges.now.flat) }
+    ensures answer { IfOk result (IsAnswerOn (has L.ALPHABET) judges.now.viable (rules_of judges.now.grammar.now.rules)
         judges.now.grammar.now.judged (map L.number line.now)) }
 {
     derivation_is_decided();
     furthest_is_found();
     if judges.viable {
-        return match viable(chart, &judges.flat, line)? {
+        return match engines.viable(&judges.flat, line)? {
             Verdict::Yes => Ok(Answer::Yes),
             Verdict::No(n) => Ok(Answer::NoAfter(n)),
         };
     }
-    let yes = judge(chart, &judges.flat, line)?;
+    let yes = engines.judge(&judges.flat, line)?;
     if yes { Ok(Answer::Yes) } else { Ok(Answer::No) }
 }
 
-/// Tells whether the judged rule derives a line of bytes, if there is an automaton and it can tell.
-fn told_by_automaton(
-    judges: &LineJudge<'_>,
-    automaton: &mut Option<Automaton>,
-    line: &[u8],
-) -> Option<bool>
-    requires within { length line.now ≤ judges.now.flat.limit }
-    requires flat { IfSome automaton.old (λ a. a ≡ judges.now.flat) }
-    ensures flat { IfSome automaton.new (λ a. a ≡ judges.now.flat) }
-    ensures told { IfSome result (λ yes. IsLowered (rules_of judges.now.grammar.now.rules) judges.now.grammar.now.judged
-        judges.now.flat → IsTrue yes ↔ RuleDerives (has Alphabet.Bytes) (rules_of judges.now.grammar.now.rules)
-        judges.now.grammar.now.judged line.now) }
-{
-    let Some(automaton) = automaton else {
-        return None;
-    };
-    match automaton.judge(line) {
-        Ok(told) => told,
-        Err(Memory) => None,
-    }
-}
-
-/// Returns the answer to a line of bytes: that of the automaton, or else that of the chart. `Memory` if an allocation
-/// fails.
+/// Returns the answer to a line of bytes. `Memory` if an allocation fails.
 fn judge_bytes(judges: &LineJudge<'_>, work: &mut Work, line: &[u8]) -> Result<Answer, Memory>
     requires letters { judges.now.letters ≡ Alphabet.Bytes }
     requires within { length line.now ≤ judges.now.flat.limit }
-    requires flat { IfSome work.old.automaton (λ a. a ≡ judges.now.flat) }
-    ensures flat { IfSome work.new.automaton (λ a. a ≡ judges.now.flat) }
+    requires flat { IfSome work.old.engines.automaton (λ a. a ≡ judges.now.flat) }
+    ensures flat { IfSome work.new.engines.automaton (λ a. a ≡ judges.now.flat) }
     ensures answer { IfOk result (IsAnswerTo Alphabet.Bytes judges.now.viable (rules_of judges.now.grammar.now.rules)
         judges.now.grammar.now.judged line.now) }
 {
-    derivation_is_decided();
-    if !judges.viable {
-        match told_by_automaton(judges, &mut work.automaton, line) {
-            Some(true) => return Ok(Answer::Yes),
-            Some(false) => return Ok(Answer::No),
-            None => {}
-        }
-    }
-    let said = judge_letters(judges, &mut work.of_chart.chart, line)?;
+    let said = judge_letters(judges, &mut work.engines, line)?;
     Ok(said)
 }
 
@@ -142,31 +106,35 @@ fn torn_by(said: Answer, count: usize) -> Answer
 }
 
 /// Returns the answer to a line that is not UTF-8. `Memory` if an allocation fails.
-fn judge_torn(judges: &LineJudge<'_>, work: &mut ChartWork, line: &[u8]) -> Result<Answer, Memory>
+fn judge_torn(judges: &LineJudge<'_>, work: &mut Work, line: &[u8]) -> Result<Answer, Memory>
     requires letters { judges.now.letters ≡ Alphabet.Utf8 }
     requires viable { judges.now.viable ≡ true }
     requires torn { IsText line.now → ⊥ }
     requires within { length line.now ≤ judges.now.flat.limit }
-    ensures { IfOk result (IsAnswerTo Alphabet.Utf8 judges.now.viable (rules_of judges.now.grammar.now.rules)
+    requires flat { IfSome work.old.engines.automaton (λ a. a ≡ judges.now.flat) }
+    ensures flat { IfSome work.new.engines.automaton (λ a. a ≡ judges.now.flat) }
+    ensures answer { IfOk result (IsAnswerTo Alphabet.Utf8 judges.now.viable (rules_of judges.now.grammar.now.rules)
         judges.now.grammar.now.judged line.now) }
 {
     let len = utf8_len(line);
     let _is_text = decode(&line[..len], &mut work.points)?;
-    let said = judge_letters(judges, &mut work.chart, work.points.as_slice())?;
+    let said = judge_letters(judges, &mut work.engines, work.points.as_slice())?;
     Ok(torn_by(said, work.points.len()))
 }
 
 /// Returns the answer to a line of code points. `Memory` if an allocation fails.
-fn judge_points(judges: &LineJudge<'_>, work: &mut ChartWork, line: &[u8]) -> Result<Answer, Memory>
+fn judge_points(judges: &LineJudge<'_>, work: &mut Work, line: &[u8]) -> Result<Answer, Memory>
     requires letters { judges.now.letters ≡ Alphabet.Utf8 }
     requires within { length line.now ≤ judges.now.flat.limit }
-    ensures { IfOk result (IsAnswerTo Alphabet.Utf8 judges.now.viable (rules_of judges.now.grammar.now.rules)
+    requires flat { IfSome work.old.engines.automaton (λ a. a ≡ judges.now.flat) }
+    ensures flat { IfSome work.new.engines.automaton (λ a. a ≡ judges.now.flat) }
+    ensures answer { IfOk result (IsAnswerTo Alphabet.Utf8 judges.now.viable (rules_of judges.now.grammar.now.rules)
         judges.now.grammar.now.judged line.now) }
 {
     utf8_is_decided();
     let is_text = decode(line, &mut work.points)?;
     if is_text {
-        let said = judge_letters(judges, &mut work.chart, work.points.as_slice())?;
+        let said = judge_letters(judges, &mut work.engines, work.points.as_slice())?;
         return Ok(said);
     }
     if judges.viable {
@@ -181,12 +149,12 @@ impl Judge<Work> for LineJudge<'_> {
 
     ghost served = { λ j. j.flat.limit };
 
-    ghost works_in = { λ j work. IfSome work.automaton (λ a. a ≡ j.flat) };
+    ghost works_in = { λ j work. IfSome work.engines.automaton (λ a. a ≡ j.flat) };
 
     fn judge(&self, work: &mut Work, line: &[u8]) -> Result<Answer, Memory> {
         match self.letters {
             Alphabet::Bytes => judge_bytes(self, work, line),
-            Alphabet::Utf8 => judge_points(self, &mut work.of_chart, line),
+            Alphabet::Utf8 => judge_points(self, work, line),
         }
     }
 
@@ -210,20 +178,13 @@ fn lowered(alloc: Global, grammar: &SoundAbnf, settings: &Settings<'_>) -> Resul
     lower(alloc, grammar, settings.limit)
 }
 
-/// Returns an automaton that answers the lines that settings ask for: lines of bytes, without viable beginnings. `None`
-/// if there is none, or an allocation fails.
-fn automaton_for(alloc: Global, flat: &Flat, settings: &Settings<'_>) -> Option<Automaton>
+/// Returns an automaton of a flat grammar; `None` if it has none, or an allocation fails.
+fn automaton_of(alloc: Global, flat: &Flat) -> Option<Automaton>
     ensures { IfSome result (λ a. a ≡ flat.now) }
 {
-    if settings.viable {
-        return None;
-    }
-    match settings.letters {
-        Alphabet::Bytes => match Automaton::new(alloc, flat) {
-            Ok(made) => made,
-            Err(Memory) => None,
-        },
-        Alphabet::Utf8 => None,
+    match Automaton::new(alloc, flat) {
+        Ok(made) => made,
+        Err(Memory) => None,
     }
 }
 
@@ -256,20 +217,19 @@ pub fn judge_lines<R: Source, O: Sink>(
     let Ok(flat) = lowered(alloc, grammar, settings) else {
         return Ok(Stop::NoMemory);
     };
-    let automaton = automaton_for(alloc, &flat, settings);
+    let engines = Engines {
+        chart: Chart::new(alloc),
+        automaton: automaton_of(alloc, &flat),
+    };
+    let mut work = Work {
+        engines,
+        points: Vec::new(alloc),
+    };
     let judge = LineJudge {
         grammar,
         letters: settings.letters,
         viable: settings.viable,
         flat,
-    };
-    let of_chart = ChartWork {
-        chart: Chart::new(alloc),
-        points: Vec::new(alloc),
-    };
-    let mut work = Work {
-        of_chart,
-        automaton,
     };
     let form = line_form(settings);
     run_lines(alloc, &judge, &mut work, form, reader, out)

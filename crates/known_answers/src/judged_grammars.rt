@@ -4,7 +4,7 @@ use abnfread::read_abnf;
 use earley::{Chart, judge};
 use flatgrammar::{Flat, Node, items_at_most, items_tell, lower};
 use lazydfa::Automaton;
-use letters::Letter;
+use letters::{CodePoint, Letter, decode};
 use ruletable::Memory;
 use std::alloc::Global;
 use std::test::Fail;
@@ -234,6 +234,48 @@ static TOLD: &[(&str, &[u8], Option<bool>)] = &[
 fn answers_of_automata(rt: HostRuntime) -> Result<(), Fail> {
     for row in TOLD {
         assert!(rt; told(rt.alloc(), row.0, row.1)? == row.2, "{}", row.0);
+    }
+    Ok(())
+}
+
+// Lines in UTF-8 of at most seven letters, and whether each letter is one of 255, 256, 8,364 to 8,367 and 1,114,111: the
+// automaton looks classes up for the numbers below 256, and searches those from there on.
+static POINTS: &[(&[u8], bool)] = &[
+    (b"\xC3\xBE", false),
+    (b"\xC3\xBF", true),
+    (b"\xC4\x80", true),
+    (b"\xC4\x81", false),
+    (b"\xE2\x82\xAB", false),
+    (b"\xE2\x82\xAC\xE2\x82\xAF", true),
+    (b"\xE2\x82\xB0", false),
+    (b"\xC3\xBF\xF4\x8F\xBF\xBF", true),
+    (b"\xF4\x8F\xBF\xBE", false),
+    (b"", false),
+];
+
+// Whether an automaton tells so of a line in UTF-8.
+fn is_told_by_points(
+    automaton: &mut Automaton,
+    points: &mut Vec<CodePoint>,
+    line: &[u8],
+    wanted: bool,
+) -> Result<bool, Memory> {
+    Ok(decode(line, points)? && automaton.judge(points.as_slice())? == Some(wanted))
+}
+
+#[test]
+fn answers_of_an_automaton_to_code_points(rt: HostRuntime) -> Result<(), Fail> {
+    let text = "s = 1*(%xFF-100 / %x20AC-20AF / %x10FFFF)\n";
+    let flat = grammar(rt.alloc(), text, 7)?;
+    let made = Automaton::new(rt.alloc(), &flat)?;
+    let mut automaton = made.ok_or("no automaton")?;
+    let mut points = Vec::new(rt.alloc());
+    for row in POINTS {
+        assert!(rt;
+            is_told_by_points(&mut automaton, &mut points, row.0, row.1)?,
+            "{:?}",
+            row.0
+        );
     }
     Ok(())
 }

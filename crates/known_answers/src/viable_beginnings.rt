@@ -3,6 +3,7 @@ use abnfcheck::check_abnf;
 use abnfread::read_abnf;
 use earley::{Chart, viable};
 use flatgrammar::{Flat, Verdict};
+use lazydfa::Automaton;
 use letters::{Alphabet, Letter, decode};
 use ruletable::Memory;
 use std::alloc::Global;
@@ -92,11 +93,26 @@ fn lowered(
     Ok(lower_viable(alloc, &grammar, alphabet, 7)?)
 }
 
-// Whether each line of bytes is told of as it says, by one chart.
+// Whether a line is told of so, by the chart and by the automaton, which there is.
+fn is_told<L: Letter>(
+    chart: &mut Chart,
+    automaton: &mut Option<Automaton>,
+    flat: &Flat,
+    line: &[L],
+    wanted: Verdict,
+) -> Result<bool, Memory> {
+    let Some(automaton) = automaton else {
+        return Ok(false);
+    };
+    Ok(told_of(chart, flat, line)? == wanted && automaton.viable(line)? == Some(wanted))
+}
+
+// Whether each line of bytes is told of as it says, by one chart and by one automaton.
 fn are_told(alloc: Global, flat: &Flat, lines: &[(&str, Verdict)]) -> Result<bool, Memory> {
     let mut chart = Chart::new(alloc);
+    let mut automaton = Automaton::new(alloc, flat)?;
     for row in lines {
-        if told_of(&mut chart, flat, row.0.as_bytes())? != row.1 {
+        if !is_told(&mut chart, &mut automaton, flat, row.0.as_bytes(), row.1)? {
             return Ok(false);
         }
     }
@@ -129,17 +145,19 @@ static POINTS: [(&[u8], &[(&[u8], Verdict)]); 2] = [
     ),
 ];
 
-// Whether each line of UTF-8 is told of as it says, by one chart.
+// Whether each line of UTF-8 is told of as it says, by one chart and by one automaton.
 fn are_told_by_points(
     alloc: Global,
     flat: &Flat,
     lines: &[(&[u8], Verdict)],
 ) -> Result<bool, Memory> {
     let mut chart = Chart::new(alloc);
+    let mut automaton = Automaton::new(alloc, flat)?;
     let mut points = Vec::new(alloc);
     for row in lines {
         let is_text = decode(row.0, &mut points)?;
-        if !is_text || told_of(&mut chart, flat, points.as_slice())? != row.1 {
+        let line = points.as_slice();
+        if !is_text || !is_told(&mut chart, &mut automaton, flat, line, row.1)? {
             return Ok(false);
         }
     }

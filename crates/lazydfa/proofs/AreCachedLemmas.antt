@@ -122,6 +122,10 @@ cell_kept tables d old new states more s (To t) kept grown within h = record {
   to_is = grown_at states more grown t h.to h.to_is;
   is = transition_kept tables d old new old new h.from.tops.items h.to.tops.items h.to.ended kept kept
       (within s h.from h.from_is) h.is;
+  some = (
+    h.some.0,
+    reads_on old new kept h.from.tops.items (within s h.from h.from_is) tables d h.some.0 h.some.1,
+  );
 }
 
 module _ (tables : code_flat.Tables) (samples : List ℕ) where
@@ -306,8 +310,9 @@ module _ (tables : code_flat.Tables) (samples : List ℕ) (conts mid new : List 
       (λ none. absurd (let w = slice_get_within states s from at_s in omega (arith, w, none)))
       (cached_conts tables samples conts mid states cells kept cached))
 
-  pub led_step : (d : ℕ) → v ≡ d → IsStep tables d new more s t
-  led_step d is_d =
+  pub led_step : (stack : List Place) × ReadsFrom tables v conts tops stack → (d : ℕ) → v ≡ d
+      → IsStep tables d new more s t
+  led_step some d is_d =
       subst (λ v. IsStep tables v new more s t) is_d (subst (λ c. IsStep tables v c more s t) (sym same) (record {
         from = from;
         to = interned.is.state;
@@ -319,4 +324,9 @@ module _ (tables : code_flat.Tables) (samples : List ℕ) (conts mid new : List 
             tops_are
             (subst (λ w. IsTransition tables v conts tops mid w interned.is.state.ended) (sym interned.is.tops_are)
             (subst (λ w. IsTransition tables v conts tops mid next w) (sym interned.is.ended_is) is)));
+        some = (
+          some.0,
+          reads_on conts mid kept from.tops.items (cached.within s from at_s) tables v some.0
+              (subst (λ w. ReadsFrom tables v conts w some.0) tops_are some.1),
+        );
       }))

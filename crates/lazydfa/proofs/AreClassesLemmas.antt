@@ -1,40 +1,63 @@
 -- Classes of letters that the sets of a grammar do not tell apart.
--- Serves: new, judge.
-use Rattle.std.proofs.Common.{◌≡◌, ℕ, zero, suc, ◌+◌, ◌-◌, ◌<◌, ◌≤◌, Bool, false, List, [], ◌∷◌, ◌++◌, length}
-use Rattle.std.proofs.Common.{map, refl, sym, ◌∙◌, ap, subst, arith, ◌⊎◌, inl, inr, ◌↔◌, length-append}
+-- Serves: new, judge, viable.
+use Rattle.std.proofs.Common.{◌≡◌, ℕ, zero, suc, ◌+◌, ◌-◌, ◌<◌, ◌≤◌, ◌^◌, true, false, List, [], ◌∷◌, ◌++◌}
+use Rattle.std.proofs.Common.{length, map, refl, sym, ◌∙◌, ap, subst, arith, ◌⊎◌, inl, inr, ◌↔◌, get_or, leb, leb-true}
+use Rattle.std.proofs.Common.{leb-false, length-append, eqb}
 use Rattle.std.proofs.lemmas.Bool.{cases_lt}
-use Rattle.std.proofs.lemmas.List.{length-map}
-use Rattle.std.proofs.lemmas.Option.{slice_get-map, slice_get_within}
-use Rattle.std.specs.Prelude.{slice_get, Some, option_map}
+use Rattle.std.proofs.lemmas.List.{length-map, get_or_default}
+use Rattle.std.proofs.lemmas.List.Elements.{Contains-append_left, Contains-push}
+use Rattle.std.proofs.lemmas.Option.{slice_get-map, slice_get_within, slice_get-get_or}
+use Rattle.std.specs.Prelude.{slice_get, Option, Some, None, IfSome, option_map, Contains}
+use Rattle.std.specs.Option.{SomeIff}
+use Rattle.std.proofs.lemmas.List.Filters.{dedup_is}
+use Rattle.std.proofs.lemmas.List.Kept.{Contains-dedup_nat}
+use Rattle.std.proofs.lemmas.List.Sorted.{Contains-permutation, IsNonDecreasingBy-from_all_adjacent}
+use Rattle.std.proofs.lemmas.Map.Keys.{IsStrictlyIncreasing-dedup}
+use Rattle.std.specs.List.{dedup}
+use Rattle.std.specs.List.Retain.{IsFiltered, DiffersFromLast}
+use Rattle.std.specs.List.Sorted.{IsNonDecreasing, IsPartitionPoint, IsPermutation, IsSorted, IsStrictlyIncreasing}
+use Rattle.std.specs.Ordering.{nat_cmp}
 use Rattle.flatgrammar.specs.Flat.{Flat, Node, Letters, Place, Set, Has, letter, Reads, reads}
 use Rattle.flatgrammar.proofs.FlatCutLemmas.{push_cases}
 use Rattle.stacks.specs.Stacks.{AreAlike}
-use Rattle.lazydfa.specs.Cached.{AreClasses}
-use Rattle.lazydfa.specs.ClassMarks.{AreMoreMarks, IsSplit, IsNodeSplit, AreNodesSplit, AreJoined}
-use Rattle.lazydfa.specs.ClassMarks.{AreMarkedClasses}
+use Rattle.lazydfa.specs.ClassBounds.{IsFree, AreMoreBounds, IsBoundAdded, IsSplit, IsNodeSplit, AreNodesSplit}
+use Rattle.lazydfa.specs.ClassBounds.{AreJoined, IsClassOf, AreLow, AreClasses}
 
-pub more_split : (old new : List Bool) (set : Set) → AreMoreMarks old new → IsSplit old set → IsSplit new set
-more_split old new set more h c un = h c (more (c + 1) un)
+pub bound_added : (old new : List ℕ) (n : ℕ) → new ≡ old ++ n ∷ [] → IsBoundAdded old new n
+bound_added old new n is i free = (
+  record {
+    none = λ h. free.none (subst (λ v. Contains v i) (sym is) (Contains-append_left old (n ∷ []) i h));
+  },
+  λ same. free.none (subst (λ v. Contains v i) (sym is)
+      (subst (λ v. Contains (old ++ n ∷ []) v) (sym same) (Contains-push old n))),
+)
 
-pub more_node_split : (old new : List Bool) (node : Node) → AreMoreMarks old new → IsNodeSplit old node
+pub more_split : (old new : List ℕ) (set : Set) → AreMoreBounds old new → IsSplit old set → IsSplit new set
+more_split old new set more h c fits free = h c fits (more (c + 1) free)
+
+pub more_node_split : (old new : List ℕ) (node : Node) → AreMoreBounds old new → IsNodeSplit old node
     → IsNodeSplit new node
 more_node_split old new node more h sets is k set at_k = more_split old new set more (h sets is k set at_k)
 
-pub no_set_split : (marks : List Bool) (node : Node) → ((sets : List Set) → node ≡ Letters sets → ⊥)
-    → IsNodeSplit marks node
-no_set_split marks node none sets is = absurd (none sets is)
+pub no_set_split : (bounds : List ℕ) (node : Node) → ((sets : List Set) → node ≡ Letters sets → ⊥)
+    → IsNodeSplit bounds node
+no_set_split bounds node none sets is = absurd (none sets is)
 
--- so it is with the first k of a list, if marks more do no harm
-module _ {A B : Type 0} (f : A → B) (P : List Bool → B → Type 0)
-    (grow : (old new : List Bool) (b : B) → AreMoreMarks old new → P old b → P new b) where
-  abbrev pub AreSplitTo : List Bool → List A → ℕ → Type 0
-  AreSplitTo marks xs k = (i : ℕ) (b : B) → i < k → slice_get (map f xs) i ≡ Some b → P marks b
+pub more_nodes_split : (old new : List ℕ) (nodes : List Node) → AreMoreBounds old new → AreNodesSplit old nodes
+    → AreNodesSplit new nodes
+more_nodes_split old new nodes more h s node at_s = more_node_split old new node more (h s node at_s)
 
-  pub split_to_zero : (marks : List Bool) (xs : List A) → AreSplitTo marks xs 0
-  split_to_zero marks xs i b lt is = absurd (omega (arith, lt))
+-- so it is with the first k of a list, if more bounds do no harm
+module _ {A B : Type 0} (f : A → B) (P : List ℕ → B → Type 0)
+    (grow : (old new : List ℕ) (b : B) → AreMoreBounds old new → P old b → P new b) where
+  abbrev pub AreSplitTo : List ℕ → List A → ℕ → Type 0
+  AreSplitTo bounds xs k = (i : ℕ) (b : B) → i < k → slice_get (map f xs) i ≡ Some b → P bounds b
 
-  pub split_to_next : (old new : List Bool) (xs : List A) (k : ℕ) (x : A) → slice_get xs k ≡ Some x
-      → AreMoreMarks old new → P new (f x) → AreSplitTo old xs k → AreSplitTo new xs (k + 1)
+  pub split_to_zero : (bounds : List ℕ) (xs : List A) → AreSplitTo bounds xs 0
+  split_to_zero bounds xs i b lt is = absurd (omega (arith, lt))
+
+  pub split_to_next : (old new : List ℕ) (xs : List A) (k : ℕ) (x : A) → slice_get xs k ≡ Some x
+      → AreMoreBounds old new → P new (f x) → AreSplitTo old xs k → AreSplitTo new xs (k + 1)
   split_to_next old new xs k x at_k more split before i b lt is = by (cases_lt i k)
     where
       by : (i < k) ⊎ (k ≤ i) → P new b
@@ -46,123 +69,120 @@ module _ {A B : Type 0} (f : A → B) (P : List Bool → B → Type 0)
           let same : f x ≡ b = cc both in
           subst (λ v. P new v) same split
 
-  pub split_to_end : (marks : List Bool) (xs : List A) (k : ℕ) → length xs ≤ k → AreSplitTo marks xs k → (i : ℕ)
-      (b : B) → slice_get (map f xs) i ≡ Some b → P marks b
-  split_to_end marks xs k le before i b is =
+  pub split_to_end : (bounds : List ℕ) (xs : List A) (k : ℕ) → length xs ≤ k → AreSplitTo bounds xs k → (i : ℕ)
+      (b : B) → slice_get (map f xs) i ≡ Some b → P bounds b
+  split_to_end bounds xs k le before i b is =
       let within = slice_get_within (map f xs) i b is in
       let size = length-map xs f in
       before i b (omega (arith, within, size, le)) is
 
 -- numbers that are not told apart
-module _ (flat : Flat) (marks : List Bool) (split : AreNodesSplit marks flat.nodes) where
-  next_alike : (c : ℕ) → slice_get marks (c + 1) ≡ Some false → {q r : Place} {set : Set} → Reads flat q set r
+module _ (flat : Flat) (bounds : List ℕ) (split : AreNodesSplit bounds flat.nodes) where
+  next_alike : (c : ℕ) → c + 1 < 2 ^ 32 → IsFree bounds (c + 1) → {q r : Place} {set : Set} → Reads flat q set r
       → Has set c ↔ Has set (c + 1)
-  next_alike c un (reads {s = s} at_s (letter {sets = sets} {k = k} {set = set} at_k)) =
-      split s (Letters sets) at_s sets refl k set at_k c un
+  next_alike c fits free (reads {s = s} at_s (letter {sets = sets} {k = k} {set = set} at_k)) =
+      split s (Letters sets) at_s sets refl k set at_k c fits free
 
-  row_alike : (n d : ℕ) → ((i : ℕ) → d < i → i ≤ d + n → slice_get marks i ≡ Some false) → {q r : Place} {set : Set}
+  row_alike : (n d : ℕ) → d + n < 2 ^ 32 → ((i : ℕ) → d < i → i ≤ d + n → IsFree bounds i) → {q r : Place} {set : Set}
       → Reads flat q set r → Has set (d + n) ↔ Has set d
-  row_alike zero d un {set = set} rd =
+  row_alike zero d fits free {set = set} rd =
       let e : d ≡ d + 0 = omega arith in subst (λ v. Has set v ↔ Has set d) e (λ h. h, λ h. h)
-  row_alike (suc n) d un {set = set} rd =
-      let before = row_alike n d (λ i lo hi. un i lo (omega (arith, hi))) rd in
-      let step = next_alike (d + n) (un (d + n + 1) (omega arith) (omega arith)) rd in
+  row_alike (suc n) d fits free {set = set} rd =
+      let before = row_alike n d (omega (arith, fits)) (λ i lo hi. free i lo (omega (arith, hi))) rd in
+      let step = next_alike (d + n) (omega (arith, fits)) (free (d + n + 1) (omega arith) (omega arith)) rd in
       let e : d + n + 1 ≡ d + suc n = omega arith in
       subst (λ v. Has set v ↔ Has set d) e (λ h. before.0 (step.1 h), λ h. step.0 (before.1 h))
 
-  pub joined_alike : (c d : ℕ) → AreJoined marks d c → AreAlike flat c d
-  joined_alike c d j q r set rd =
+  joined_alike : (c d : ℕ) → c < 2 ^ 32 → AreJoined bounds d c → AreAlike flat c d
+  joined_alike c d fits j q r set rd =
       let le = j.0 in
       let e : d + (c - d) ≡ c = omega (arith, le) in
       subst (λ v. Has set v ↔ Has set d) e
-      (row_alike (c - d) d (λ i lo hi. j.1 i lo (omega (arith, hi, le))) rd)
+      (row_alike (c - d) d (omega (arith, e, fits)) (λ i lo hi. j.1 i lo (omega (arith, hi, le))) rd)
 
-  pub classes_told : (n : ℕ) (class_of samples : List ℕ) → AreMarkedClasses marks n class_of samples
-      → AreClasses flat class_of samples
-  classes_told n class_of samples m = record {
-    within = m.within;
-    alike = λ c k d h g. joined_alike c d (m.joined c k d h g);
-  }
+  -- the last number up to c
+  module _ (ordered : IsNonDecreasing bounds) (c k above : ℕ) (fits : c < 2 ^ 32) (within : above ≤ length bounds)
+      (last : k + 1 ≡ above)
+      (point : IsPartitionPoint (λ y. leb y c ≡ true) (λ y. leb y c ≡ false) bounds above) where
+    abbrev sample : ℕ
+    sample = get_or bounds k 0
 
--- the classes, number by number
-pub no_classes : (marks : List Bool) (class_of samples : List ℕ) → class_of ≡ [] → samples ≡ []
-    → AreMarkedClasses marks 0 class_of samples
-no_classes marks class_of samples none no_samples = record {
-  size = ap length none;
-  within = λ c k h. absurd (let e = subst (λ v. slice_get v c ≡ Some k) none h in cc e);
-  joined = λ c k d h g. absurd (let e = subst (λ v. slice_get v c ≡ Some k) none h in cc e);
-  last = λ c k d h g at_k. absurd (omega (arith, h));
-  some = λ lt. absurd (let e = ap length no_samples in omega (arith, lt, e));
+    free_behind : (i : ℕ) → sample < i → i ≤ c → IsFree bounds i
+    free_behind i lo hi = record { none = λ h. by h.0 h.1 h.2 (cases_lt h.0 above) }
+      where
+        by : (m : ℕ) → m < length bounds → get_or bounds m i ≡ i → (m < above) ⊎ (above ≤ m) → ⊥
+        by m lt is (inl before) =
+            let le = ordered m k 0 (omega (arith, before, last)) (omega (arith, within, last)) in
+            let same = get_or_default bounds m i 0 lt in
+            omega (arith, le, same, is, lo)
+        by m lt is (inr behind) =
+            let more = leb-false (get_or bounds m i) c (point.1 m i behind lt) in
+            omega (arith, more, is, hi)
+
+    pub class_told : IsClassOf flat bounds c k
+    class_told = record {
+      sample = sample;
+      is = slice_get-get_or bounds k 0 (omega (arith, within, last));
+      alike = joined_alike c sample fits (
+        leb-true sample c (point.0 k 0 (omega arith) (omega (arith, last))),
+        λ i lo hi. free_behind i lo hi,
+      );
+    }
+
+  pub class_found : (ordered : IsNonDecreasing bounds) (c above : ℕ) → c < 2 ^ 32 → above ≤ length bounds
+      → IsPartitionPoint (λ y. leb y c ≡ true) (λ y. leb y c ≡ false) bounds above → (class : Option ℕ)
+      → SomeIff class (1 ≤ above) (above - 1) → IfSome class (IsClassOf flat bounds c)
+  class_found ordered c above fits within point None h = tt
+  class_found ordered c above fits within point (Some k) h =
+      class_told ordered c k above fits within (let some = h.0 in let is = h.1 in omega (arith, some, is)) point
+
+-- the classes of the first numbers, number by number
+pub record AreLowTo (flat : Flat) (samples low : List ℕ) (n : ℕ) : Type 0 where
+  pub size : length low ≡ n
+  pub low_are : AreLow flat samples low
+
+pub low_next : (flat : Flat) (samples low new : List ℕ) (n k : ℕ) → new ≡ low ++ k ∷ []
+    → IsClassOf flat samples n k → AreLowTo flat samples low n → AreLowTo flat samples new (n + 1)
+low_next flat samples low new n k is class before = record {
+  size = (let e = ap length is in let l = length-append low (k ∷ []) in let z = before.size in omega (arith, e, l, z));
+  low_are = λ c j h. by c j (push_cases low k c j (subst (λ v. slice_get v c ≡ Some j) is h));
+}
+  where
+    by : (c j : ℕ) → (slice_get low c ≡ Some j) ⊎ ((c ≡ length low) × (k ≡ j)) → IsClassOf flat samples c j
+    by c j (inl h) = before.low_are c j h
+    by c j (inr h) =
+        let here : n ≡ c = sym (h.0 ∙ before.size) in
+        subst (λ v. IsClassOf flat samples c v) h.1 (subst (λ v. IsClassOf flat samples v k) here class)
+
+rising_up : (xs : List ℕ) → IsStrictlyIncreasing xs → IsNonDecreasing xs
+rising_up xs up = IsNonDecreasingBy-from_all_adjacent (λ x. x) xs (λ k d lt.
+    let less = up k lt in
+    let one = get_or_default xs k d 0 (omega (arith, lt)) in
+    let two = get_or_default xs (k + 1) d 0 lt in
+    omega (arith, less, one, two))
+
+pub ascended_rise : (mid new : List ℕ) → IsSorted nat_cmp mid → IsFiltered (DiffersFromLast eqb) [] mid new
+    → IsNonDecreasing new
+ascended_rise mid new sorted filtered =
+    subst (λ v. IsNonDecreasing v) (sym (dedup_is eqb mid new filtered))
+    (rising_up (dedup eqb mid) (IsStrictlyIncreasing-dedup mid sorted))
+
+pub ascended_more : (old mid new : List ℕ) → IsPermutation old mid → IsFiltered (DiffersFromLast eqb) [] mid new
+    → AreMoreBounds old new
+ascended_more old mid new moved filtered i free = record {
+  none = λ h. free.none (subst (λ v. Contains v i) (sym (dedup_is eqb mid new filtered))
+      (Contains-dedup_nat mid i (Contains-permutation old mid i moved h)));
 }
 
-module _ (marks : List Bool) (n : ℕ) (class_of samples : List ℕ) (m : AreMarkedClasses marks n class_of samples) where
-  pub first_class : (new more : List ℕ) (k : ℕ) → k ≡ length samples → new ≡ class_of ++ k ∷ []
-      → more ≡ samples ++ n ∷ [] → AreMarkedClasses marks (n + 1) new more
-  first_class new more k is_k is_new is_more = record {
-    size = (let e = ap length is_new in let l = length-append class_of (k ∷ []) in let z = m.size in
-        omega (arith, e, l, z));
-    within = λ c j h. within c j (push_cases class_of k c j (subst (λ v. slice_get v c ≡ Some j) is_new h));
-    joined = λ c j d h g. joined c j d (push_cases class_of k c j (subst (λ v. slice_get v c ≡ Some j) is_new h))
-        (push_cases samples n j d (subst (λ v. slice_get v j ≡ Some d) is_more g));
-    last = λ c j d at_c at_j g. last c j d at_c at_j (push_cases samples n j d (subst
-        (λ v. slice_get v j ≡ Some d) is_more g));
-    some = λ lt. omega arith;
-  }
-    where
-      longer : length more ≡ length samples + 1
-      longer = let e = ap length is_more in let l = length-append samples (n ∷ []) in omega (arith, e, l)
-
-      alone : (c d : ℕ) → c ≡ n → n ≡ d → AreJoined marks d c
-      alone c d a b = ((omega (arith, a, b)), λ i lo hi. absurd (omega (arith, lo, hi, a, b)))
-
-      within : (c j : ℕ) → (slice_get class_of c ≡ Some j) ⊎ ((c ≡ length class_of) × (k ≡ j)) → j < length more
-      within c j (inl h) = let w = m.within c j h in let l = longer in omega (arith, w, l)
-      within c j (inr h) = let e = h.1 in let l = longer in omega (arith, e, l, is_k)
-
-      joined : (c j d : ℕ) → (slice_get class_of c ≡ Some j) ⊎ ((c ≡ length class_of) × (k ≡ j))
-          → (slice_get samples j ≡ Some d) ⊎ ((j ≡ length samples) × (n ≡ d)) → AreJoined marks d c
-      joined c j d (inl h) (inl g) = m.joined c j d h g
-      joined c j d (inl h) (inr g) = absurd (let w = m.within c j h in let e = g.0 in omega (arith, w, e))
-      joined c j d (inr h) (inl g) =
-          absurd (let w = slice_get_within samples j d g in let e = h.1 in omega (arith, w, e, is_k))
-      joined c j d (inr h) (inr g) = alone c d (h.0 ∙ m.size) g.1
-
-      last : (c j d : ℕ) → c + 1 ≡ n + 1 → j + 1 ≡ length more
-          → (slice_get samples j ≡ Some d) ⊎ ((j ≡ length samples) × (n ≡ d)) → AreJoined marks d c
-      last c j d at_c at_j (inl g) =
-          absurd (let w = slice_get_within samples j d g in let l = longer in omega (arith, w, l, at_j))
-      last c j d at_c at_j (inr g) = alone c d (omega (arith, at_c)) g.1
-
-  pub next_class : (new : List ℕ) (k : ℕ) → k + 1 ≡ length samples → new ≡ class_of ++ k ∷ []
-      → slice_get marks n ≡ Some false → AreMarkedClasses marks (n + 1) new samples
-  next_class new k is_k is_new un = record {
-    size = (let e = ap length is_new in let l = length-append class_of (k ∷ []) in let z = m.size in
-        omega (arith, e, l, z));
-    within = λ c j h. within c j (push_cases class_of k c j (subst (λ v. slice_get v c ≡ Some j) is_new h));
-    joined = λ c j d h g. joined c j d (push_cases class_of k c j (subst (λ v. slice_get v c ≡ Some j) is_new h)) g;
-    last = λ c j d at_c at_j g. further c j d (omega (arith, at_c)) at_j g;
-    some = λ lt. omega arith;
-  }
-    where
-      further : (c j d : ℕ) → c ≡ n → j + 1 ≡ length samples → slice_get samples j ≡ Some d → AreJoined marks d c
-      further c j d is at_j g =
-          let some : 0 < n = m.some (omega (arith, at_j)) in
-          let before = m.last (n - 1) j d (omega (arith, some)) at_j g in
-          let le = before.0 in
-          ((omega (arith, le, is, some)), λ i lo hi. by i lo hi (cases_lt i n))
-        where
-          by : (i : ℕ) → d < i → i ≤ c → (i < n) ⊎ (n ≤ i) → slice_get marks i ≡ Some false
-          by i lo hi (inl less) =
-              (m.last (n - 1) j d (omega (arith, less)) at_j g).1 i lo (omega (arith, less))
-          by i lo hi (inr le) =
-              let e : n ≡ i = omega (arith, le, hi, is) in subst (λ v. slice_get marks v ≡ Some false) e un
-
-      within : (c j : ℕ) → (slice_get class_of c ≡ Some j) ⊎ ((c ≡ length class_of) × (k ≡ j)) → j < length samples
-      within c j (inl h) = m.within c j h
-      within c j (inr h) = let e = h.1 in omega (arith, e, is_k)
-
-      joined : (c j d : ℕ) → (slice_get class_of c ≡ Some j) ⊎ ((c ≡ length class_of) × (k ≡ j))
-          → slice_get samples j ≡ Some d → AreJoined marks d c
-      joined c j d (inl h) g = m.joined c j d h g
-      joined c j d (inr h) g =
-          let e = h.1 in further c j d (h.0 ∙ m.size) (omega (arith, e, is_k)) g
+pub classes_made : (flat : Flat) (added sorted got low : List ℕ) → got ≡ sorted → AreNodesSplit added flat.nodes
+    → AreMoreBounds added sorted → IsNonDecreasing sorted → ((flat : Flat) → IsNonDecreasing got
+    → AreNodesSplit got flat.nodes → AreLow flat got low) → AreClasses flat low sorted
+classes_made flat added sorted got low same split more ordered low_are =
+    let parted = more_nodes_split added sorted flat.nodes more split in
+    record {
+      low_are = subst (λ v. AreLow flat v low) same
+          (low_are flat (subst (λ v. IsNonDecreasing v) (sym same) ordered)
+          (subst (λ v. AreNodesSplit v flat.nodes) (sym same) parted));
+      ordered = ordered;
+      split = parted;
+    }

@@ -1,10 +1,10 @@
 -- States along a line.
--- Serves: judge.
+-- Serves: judge, viable.
 use Rattle.std.proofs.Common.{◌≡◌, ℕ, zero, suc, ◌+◌, ◌<◌, ◌≤◌, Bool, true, List, [], ◌∷◌, ◌++◌, length, refl, sym}
 use Rattle.std.proofs.Common.{◌∙◌, ap}
-use Rattle.std.proofs.Common.{subst, arith, ◌⊎◌, inl, inr, ◌↔◌, append-nil}
+use Rattle.std.proofs.Common.{subst, arith, ◌⊎◌, inl, inr, append-nil}
 use Rattle.std.proofs.lemmas.Bool.{cases_lt}
-use Rattle.std.specs.Prelude.{slice_get, Option, Some, None, Contains, IfSome}
+use Rattle.std.specs.Prelude.{slice_get, Option, Some, None, Contains}
 use Rattle.flatgrammar.specs.Flat.{Flat, Place, at}
 use Rattle.flatgrammar.specs.Blocks.{begin_count}
 use Rattle.flatgrammar.specs.NodeSteps.{flat_of}
@@ -21,21 +21,14 @@ use Rattle.lazydfa.specs.Conts.{IsClosure, AreReaders, ReadsFrom, IsTransition}
 use Rattle.lazydfa.specs.declared.cache.Cell.{Cell}
 use Rattle.lazydfa.specs.declared.cache.Cell.TheVariants.{Dead, To}
 use Rattle.lazydfa.specs.Cached.{IsBegun, IsStart, IsStartAt, IsAt, AreGrown, IsStep, IsDead, IsCell, AreCached}
-use Rattle.lazydfa.specs.Cached.{AreClasses, IsInterned, AreAddedUnknown}
-use Rattle.std.proofs.Common.{get_or}
-use Rattle.std.proofs.lemmas.Option.{slice_get-get_or}
+use Rattle.lazydfa.specs.Cached.{IsInterned, AreAddedUnknown}
+use Rattle.lazydfa.specs.ClassBounds.{IsClassOf}
+use Rattle.lazydfa.specs.RunVerdicts.{IsReached}
 use Rattle.std.specs.Option.{option_flatten}
-use Rattle.abnfread.specs.Element.{Rule}
-use Rattle.abnfcheck.specs.Derivable.{AreLetters, RuleDerives}
-use Rattle.flatgrammar.specs.Lowered.{IsLowered}
-use Rattle.flatgrammar.proofs.RuleDerivesLemmas.{derives_exactly}
-use Rattle.stacks.specs.Stacks.{AreUncounted}
-use Rattle.lazydfa.proofs.MoveLemmas.{tells_last}
-use Rattle.stacks.proofs.StacksLemmas.{accepted_holds, holds_accepted}
 use Rattle.lazydfa.proofs.AreCachedLemmas.{cached_state, cached_conts}
 use Rattle.lazydfa.proofs.MoveLemmas.{whole_begun, from_goes, to_goes, done_told, told_done}
 use Rattle.stacks.proofs.LiftLemmas.{rests_empty}
-use Rattle.lazydfa.proofs.TellLemmas.{transition_next, told_top, top_told, from_read}
+use Rattle.lazydfa.proofs.TellLemmas.{transition_next, told_top, top_told, to_read, from_read}
 use Rattle.stacks.proofs.FrontLemmas.{taken_by_tops, next_front, nothing_below}
 use Rattle.lazydfa.proofs.AreCachedLemmas.{stack_on, stack_off, goes_as, grown_at}
 
@@ -163,9 +156,20 @@ module _ (tables : code_flat.Tables) (roots : GiveRoots (flat_of tables) tables.
           (sym (same_state step.from step.from_is)) step.is));
     }
 
-    pub at_dead : IsDead tables d new more s → (k : ℕ) → j < k → Accepts (flat_of tables) (last_of tables) x k → ⊥
+    pub next_reached : (t : ℕ) → IsStep tables d new more s t
+        → IsReached (flat_of tables) (last_of tables) x (j + 1)
+    next_reached t step =
+        (taken_by_tops (flat_of tables) (last_of tables) x j c d letter alike (IsStackOf new at_j.state.tops.items) []
+        plain_at).1 (
+          step.some.0,
+          to_read tables roots d new at_j.state.tops.items
+              (subst (λ v. ReadsFrom tables d new v.tops.items step.some.0) (sym (same_state step.from step.from_is))
+              step.some.1),
+        )
+
+    pub at_dead : IsDead tables d new more s → (k : ℕ) → j < k → IsReached (flat_of tables) (last_of tables) x k → ⊥
     at_dead dead k lt a =
-        let r = reach_past (flat_of tables) (last_of tables) x j a.reached lt in
+        let r = reach_past (flat_of tables) (last_of tables) x j a.1 lt in
         let t = (taken_by_tops (flat_of tables) (last_of tables) x j c d letter alike
         (IsStackOf new at_j.state.tops.items) []
         plain_at).0 r in
@@ -245,35 +249,30 @@ module _ (tables : code_flat.Tables) (roots : GiveRoots (flat_of tables) tables.
             (top_told tables r))
 
   module _ (x : List ℕ) (old new : List Cont) (states more : List State) (kept : AreKept old new)
-      (grown : AreGrown states more) (s j c k : ℕ) (at_j : IsAt tables old states s x j) (class_of samples : List ℕ)
-      (cells : List Cell) (cached : AreCached tables samples old states cells)
-      (classes : AreClasses (flat_of tables) class_of samples) (letter : slice_get x j ≡ Some c)
-      (class : slice_get class_of c ≡ Some k) (cell : Cell)
+      (grown : AreGrown states more) (s j c k : ℕ) (at_j : IsAt tables old states s x j) (samples : List ℕ)
+      (cells : List Cell) (cached : AreCached tables samples old states cells) (letter : slice_get x j ≡ Some c)
+      (class : IsClassOf (flat_of tables) samples c k) (cell : Cell)
       (is : (d : ℕ) → slice_get samples k ≡ Some d → IsCell tables d new more s cell) where
-    sample_is : slice_get samples k ≡ Some (get_or samples k 0)
-    sample_is = slice_get-get_or samples k 0 (classes.within c k class)
+    within_at : (id : ℕ) → Contains at_j.state.tops.items id → id ≤ length old
+    within_at = cached.within s at_j.state at_j.is
+
+    is_cell : (other : Cell) → cell ≡ other → IsCell tables class.sample new more s other
+    is_cell other same = subst (λ v. IsCell tables class.sample new more s v) same (is class.sample class.is)
 
     pub step_to : (t : ℕ) → cell ≡ To t → IsAt tables new more t x (j + 1)
     step_to t to =
-        at_next x old new states more kept grown s j c (get_or samples k 0) at_j
-        (cached.within s at_j.state at_j.is) letter (classes.alike c k (get_or samples k 0) class sample_is) t
-        (subst (λ v. IsCell tables (get_or samples k 0) new more s v) to (is (get_or samples k 0) sample_is))
+        at_next x old new states more kept grown s j c class.sample at_j within_at letter class.alike t
+        (is_cell (To t) to)
 
-    pub step_dead : cell ≡ Dead → (m : ℕ) → j < m → Accepts (flat_of tables) (last_of tables) x m → ⊥
+    pub step_reached : (t : ℕ) → cell ≡ To t → IsReached (flat_of tables) (last_of tables) x (j + 1)
+    step_reached t to =
+        next_reached x old new states more kept grown s j c class.sample at_j within_at letter class.alike t
+        (is_cell (To t) to)
+
+    pub step_dead : cell ≡ Dead → (m : ℕ) → j < m → IsReached (flat_of tables) (last_of tables) x m → ⊥
     step_dead dead m lt a =
-        at_dead x old new states more kept grown s j c (get_or samples k 0) at_j
-        (cached.within s at_j.state at_j.is) letter (classes.alike c k (get_or samples k 0) class sample_is)
-        (subst (λ v. IsCell tables (get_or samples k 0) new more s v) dead (is (get_or samples k 0) sample_is)) m lt a
-
-pub told_at : (tables : code_flat.Tables) (conts : List Cont) (states : List State) (s : ℕ) (x : List ℕ) (j : ℕ)
-    (got : State) (at_j : IsAt tables conts states s x j) → j ≡ length x → got ≡ at_j.state
-    → (got.ended ≡ true) ↔ Accepts (flat_of tables) (last_of tables) x (length x)
-told_at tables conts states s x j got at_j end same = (
-  λ h. subst (λ v. Accepts (flat_of tables) (last_of tables) x v) end
-      (at_j.front.accepts.1 (ap (λ v. v.ended) (sym same) ∙ h, inl refl)),
-  λ a. ap (λ v. v.ended) same
-      ∙ (at_j.front.accepts.0 (subst (λ v. Accepts (flat_of tables) (last_of tables) x v) (sym end) a)).0,
-)
+        at_dead x old new states more kept grown s j c class.sample at_j within_at letter class.alike
+        (is_cell Dead dead) m lt a
 
 pub some_at : (xs : List State) (k : ℕ) → k < length xs → (x : State) × (slice_get xs k ≡ Some x)
 some_at [] k lt = absurd (omega (arith, lt))
@@ -305,33 +304,3 @@ module _ (tables : code_flat.Tables) (samples : List ℕ) (conts mid new : List 
         (subst (λ w. IsStart tables mid w interned.is.state.ended) (sym interned.is.tops_are)
         (subst (λ w. IsStart tables mid next w) (sym interned.is.ended_is) is));
   }
-
--- whether the whole may end tells whether the judged rule derives the line
-pub accepts_tell : (tables : code_flat.Tables) → GiveRoots (flat_of tables) tables.roots.items
-    → AreUncounted (flat_of tables) → (has : ℕ → Bool) (rules : List Rule) (judged : ℕ) (x : List ℕ)
-    → IsLowered rules judged (flat_of tables) → length x ≤ tables.limit → AreLetters has x → (told : Bool)
-    → ((told ≡ true) ↔ Accepts (flat_of tables) (last_of tables) x (length x))
-    → (told ≡ true) ↔ RuleDerives has rules judged x
-accepts_tell tables roots uncounted has rules judged x lowered short letters told is = (
-  λ h. (derives_exactly has rules judged (flat_of tables) lowered x short letters).0
-      (accepted_holds (flat_of tables) uncounted x (last_of tables) (tells_last tables roots) lowered.body lowered.whole
-      (is.0 h)),
-  λ d. is.1 (holds_accepted (flat_of tables) uncounted x (last_of tables) (tells_last tables roots)
-      lowered.body lowered.whole
-      ((derives_exactly has rules judged (flat_of tables) lowered x short letters).1 d)),
-)
-
-abbrev Tells : (ℕ → Bool) → Flat → List ℕ → Bool → Type 0
-Tells has flat x told = (rules : List Rule) (judged : ℕ) → IsLowered rules judged flat → length x ≤ flat.limit
-    → (told ≡ true) ↔ RuleDerives has rules judged x
-
-pub run_tells : (has : ℕ → Bool) (tables : code_flat.Tables) (flat : Flat) (x : List ℕ)
-    → GiveRoots (flat_of tables) tables.roots.items → AreUncounted (flat_of tables) → flat_of tables ≡ flat
-    → AreLetters has x → (told : Option Bool)
-    → IfSome told (λ t. (t ≡ true) ↔ Accepts (flat_of tables) (last_of tables) x (length x))
-    → IfSome told (λ t. (rules : List Rule) (judged : ℕ) → IsLowered rules judged flat → length x ≤ flat.limit
-    → (t ≡ true) ↔ RuleDerives has rules judged x)
-run_tells has tables flat x roots uncounted is letters None h = h
-run_tells has tables flat x roots uncounted is letters (Some told) h =
-    subst (λ v. Tells has v x told) is (λ rules judged lowered short.
-    accepts_tell tables roots uncounted has rules judged x lowered short letters told h)

@@ -5,5 +5,6 @@ pub mod TransitionLemmas
 pub mod TellLemmas
 pub mod AreCachedLemmas
 pub mod IsAtLemmas
+pub mod IsRunVerdictLemmas
 pub mod AreUncountedLemmas
 pub mod AreClassesLemmas

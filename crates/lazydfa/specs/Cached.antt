@@ -1,7 +1,7 @@
 -- States and cells that are kept.
-use Rattle.std.specs.Prelude.{◌≡◌, ◌↔◌, ◌⊎◌, ℕ, ◌<◌, ◌≤◌, ◌/◌, ◌%◌, Bool, true, List, [], ◌++◌, length, slice_get}
+use Rattle.std.specs.Prelude.{◌≡◌, ◌↔◌, ◌⊎◌, ℕ, ◌≤◌, ◌/◌, ◌%◌, Bool, true, List, [], ◌++◌, length, slice_get}
 use Rattle.std.specs.Prelude.{Some, Contains}
-use Rattle.flatgrammar.specs.Flat.{Flat, Place}
+use Rattle.flatgrammar.specs.Flat.{Place}
 use Rattle.flatgrammar.specs.Blocks.{begin_count}
 use Rattle.flatgrammar.specs.TableViews.{whole_root}
 use Rattle.flatgrammar.specs.declared.tables.Tables as code_flat
@@ -11,7 +11,7 @@ use Rattle.lazydfa.specs.declared.cache.Cell.{Cell}
 use Rattle.lazydfa.specs.declared.cache.Cell.TheVariants.{Unknown, Over, Dead, To}
 use Rattle.lazydfa.specs.declared.cache.Cache.{Cache}
 use Rattle.flatgrammar.specs.NodeSteps.{flat_of}
-use Rattle.stacks.specs.Stacks.{AreAlike, IsFront}
+use Rattle.stacks.specs.Stacks.{IsFront}
 use Rattle.lazydfa.specs.Conts.{last_of, AreOlder, AreKept, Begun, IsStackOf, TopReads, GoesOn, EndsAlone, ReadsFrom}
 use Rattle.lazydfa.specs.Conts.{IsTransition}
 
@@ -47,13 +47,14 @@ pub record IsInterned (old new : List State) (tops : List ℕ) (ended : Bool) (t
       ⊎ ((length old ≤ s) × (state.tops.items ≡ tops) × (state.ended ≡ ended))
   pub is : IsStateOf new tops ended t
 
--- from one state to another
+-- from one state to another, by a letter that one of its tops reads
 pub record IsStep (tables : code_flat.Tables) (d : ℕ) (conts : List Cont) (states : List State) (s t : ℕ) : Type 0 where
   pub from : State
   pub to : State
   pub from_is : slice_get states s ≡ Some from
   pub to_is : slice_get states t ≡ Some to
   pub is : IsTransition tables d conts from.tops.items conts to.tops.items to.ended
+  pub some : (stack : List Place) × ReadsFrom tables d conts from.tops.items stack
 
 -- no top reads the letter
 pub record IsDead (tables : code_flat.Tables) (d : ℕ) (conts : List Cont) (states : List State) (s : ℕ) : Type 0 where
@@ -90,11 +91,6 @@ AreAddedUnknown old new = (i : ℕ) (cell : Cell) → slice_get new i ≡ Some c
 pub record Grows (old new : Cache) : Type 0 where
   pub conts : AreKept old.conts.items.items new.conts.items.items
   pub states : AreGrown old.states.items new.states.items
-
--- each letter's class has a sample that no set tells from it
-pub record AreClasses (flat : Flat) (class_of samples : List ℕ) : Type 0 where
-  pub within : (c k : ℕ) → slice_get class_of c ≡ Some k → k < length samples
-  pub alike : (c k d : ℕ) → slice_get class_of c ≡ Some k → slice_get samples k ≡ Some d → AreAlike flat c d
 
 -- the number of a state that is the start
 pub record IsStartAt (tables : code_flat.Tables) (conts : List Cont) (states : List State) (t : ℕ) : Type 0 where

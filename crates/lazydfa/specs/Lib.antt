@@ -1,3 +1,4 @@
 pub mod Cached
 pub mod Conts
-pub mod ClassMarks
+pub mod ClassBounds
+pub mod RunVerdicts

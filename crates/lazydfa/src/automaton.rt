@@ -1,16 +1,16 @@
 //! A lazily built automaton.
-ghost use Rattle.std.specs.Prelude.{◌≡◌, ◌↔◌, ◌≤◌, ◌<◌, ◌+◌, ℕ, Bool, List, [], IsTrue, IfOk, IfSome, length, map};
-ghost use Rattle.std.specs.Prelude.{slice_get, Some};
+ghost use Rattle.std.specs.Prelude.{◌≡◌, ◌↔◌, ◌≤◌, ◌∷◌, ℕ, List, [], IsTrue, IfOk, IfSome, length, map, slice_get, Some};
 ghost use Rattle.abnfread.specs.Element.{Rule};
-ghost use Rattle.abnfcheck.specs.Derivable.{AreLetters, RuleDerives};
-ghost use Rattle.flatgrammar.specs.Flat.{Turns};
+ghost use Rattle.abnfcheck.specs.Derivable.{RuleDerives};
+ghost use Rattle.flatgrammar.specs.Flat.{Concat, Turns};
 ghost use Rattle.flatgrammar.specs.FlatViews.{node_of};
 ghost use Rattle.flatgrammar.specs.Lowered.{IsLowered};
 ghost use Rattle.flatgrammar.specs.NodeSteps.{flat_of};
+ghost use Rattle.flatgrammar.specs.ToldBeginnings.{TellsBeginnings};
+ghost use Rattle.flatgrammar.specs.Verdicts.{IsVerdict};
 ghost use Rattle.letters.specs.Letters.{has};
-ghost use Rattle.letters.specs.declared.alphabet.Alphabet.TheVariants.{Bytes};
 ghost use Rattle.stacks.specs.Stacks.{AreUncounted};
-ghost use Rattle.lazydfa.specs.Cached.{IsCache};
+ghost use Rattle.lazydfa.specs.RunVerdicts.{IsOne};
 
 use crate::budget::Budget;
 use crate::cache::Cache;
@@ -19,7 +19,7 @@ use crate::classes::{Classes, find_classes};
 use crate::close::Ids;
 use crate::conts::Conts;
 use crate::run::run;
-use flatgrammar::{Flat, Node, Tables};
+use flatgrammar::{Flat, Node, Tables, Verdict, values_are_letters};
 use letters::Letter;
 use ruletable::Memory;
 use std::alloc::Global;
@@ -40,15 +40,17 @@ impl Model for Automaton {
     ghost use Rattle.flatgrammar.specs.NodeSteps.{flat_of};
     ghost use Rattle.flatgrammar.specs.TableViews.{GiveRoots};
     ghost use Rattle.stacks.specs.Stacks.{AreUncounted};
-    ghost use Rattle.lazydfa.specs.Cached.{AreClasses, IsCache};
+    ghost use Rattle.lazydfa.specs.Cached.{IsCache};
+    ghost use Rattle.lazydfa.specs.ClassBounds.{AreClasses};
+    ghost use Rattle.lazydfa.specs.RunVerdicts.{IsOne};
 
     ghost Value = { spec.Flat };
 
     ghost view = { λ a. flat_of a.tables.value };
 
     ghost invariant = { λ a. (GiveRoots (flat_of a.tables.value) a.tables.value.roots.items) × (AreUncounted (flat_of
-        a.tables.value)) × (AreClasses (flat_of a.tables.value) a.classes.class_of.items a.classes.samples.items)
-        × (IsCache a.tables.value a.classes.samples.items a.cache) };
+        a.tables.value)) × (IsOne (flat_of a.tables.value)) × (AreClasses (flat_of a.tables.value)
+        a.classes.low.items a.classes.samples.items) × (IsCache a.tables.value a.classes.samples.items a.cache) };
 }
 
 // Tells whether turns that take a letter are counted at a node.
@@ -76,6 +78,32 @@ fn are_uncounted(tables: &Tables) -> bool
     true
 }
 
+// Tells whether the whole is a concatenation of one.
+fn is_one(tables: &Tables) -> bool
+    ensures { IsTrue result → IsOne (flat_of tables.now) }
+{
+    match tables.nodes.get(tables.whole) {
+        Some(Node::Concat(members)) => members.len() == 1,
+        _ => false,
+    }
+}
+
+fn is_yes(told: Verdict) -> bool
+    ensures { IsTrue result ↔ (told ≡ Verdict.Yes) }
+{
+    match told {
+        Verdict::Yes => true,
+        Verdict::No(_) => false,
+    }
+}
+
+// Tells whether an automaton may judge by these tables.
+fn are_served(tables: &Tables) -> bool
+    ensures { IsTrue result → AreUncounted (flat_of tables.now) × IsOne (flat_of tables.now) }
+{
+    are_uncounted(tables) && is_one(tables)
+}
+
 // Returns a cache of a grammar of so many nodes, with no state. It takes no memory.
 fn empty_cache(alloc: Global, nodes: usize) -> Cache
     ensures conts { result.conts.items.items ≡ [] }
@@ -100,23 +128,14 @@ fn empty_cache(alloc: Global, nodes: usize) -> Cache
     }
 }
 
-// Returns nothing. Its contract is a law: a byte is a letter.
-fn bytes_are_letters(line: &[u8])
-    ensures { AreLetters (has Bytes) line.now }
-{
-    for letter in line {
-        let _value = letter.value();
-    }
-}
-
 impl Automaton {
     /// Returns an automaton that judges by a flat grammar; `None` if the grammar counts how often something nullable is
-    /// repeated. `Memory` if an allocation fails.
+    /// repeated, or its whole is no concatenation of one. `Memory` if an allocation fails.
     pub fn new(alloc: Global, flat: &Flat) -> Result<Option<Automaton>, Memory>
         ensures { IfOk result (λ made. IfSome made (λ automaton. automaton ≡ flat.now)) }
     {
         let tables = flat.share()?;
-        if !are_uncounted(&tables) {
+        if !are_served(&tables) {
             return Ok(None);
         }
         let classes = find_classes(alloc, &tables)?;
@@ -129,24 +148,54 @@ impl Automaton {
         }))
     }
 
-    /// Tells whether the judged rule derives a line of bytes; `None` if that takes more time or memory than there is
-    /// for states. `Memory` if an allocation fails; what was found out of earlier lines may be lost then.
-    pub fn judge(&mut self, line: &[u8]) -> Result<Option<bool>, Memory>
+    // Tells whether the judged rule derives a line, or else its longest viable beginning: the first by a flat grammar
+    // that spells the rules, both by one that tells beginnings.
+    fn told<L: Letter>(&mut self, line: &[L]) -> Result<Option<Verdict>, Memory>
         ensures same { self.new ≡ self.old }
-        ensures derives { IfOk result (λ told. IfSome told (λ yes. (rules : List Rule) (judged : ℕ) →
+        ensures derives { IfOk result (λ told. IfSome told (λ verdict. (rules : List Rule) (judged : ℕ) →
             IsLowered rules judged self.old → length line.now ≤ self.old.limit →
-            IsTrue yes ↔ RuleDerives (has Bytes) rules judged line.now)) }
+            (verdict ≡ Verdict.Yes) ↔ RuleDerives (has L.ALPHABET) rules judged (map L.number line.now))) }
+        ensures begins { IfOk result (λ told. IfSome told (λ verdict. (rules : List Rule) (judged : ℕ) →
+            TellsBeginnings (has L.ALPHABET) rules judged self.old → length line.now ≤ self.old.limit →
+            IsVerdict (has L.ALPHABET) rules judged (map L.number line.now) verdict)) }
     {
-        bytes_are_letters(line);
+        values_are_letters(line);
         let classes = &self.classes;
         let told = run(
             self.alloc,
             &self.tables,
-            &classes.class_of,
+            &classes.low,
             &classes.samples,
             &mut self.cache,
             line,
         )?;
+        Ok(told)
+    }
+
+    /// Tells whether the judged rule derives a line, by the alphabet of its letters; `None` if that takes more time or
+    /// memory than there is for states. `Memory` if an allocation fails; what was found out of earlier lines may be
+    /// lost then.
+    pub fn judge<L: Letter>(&mut self, line: &[L]) -> Result<Option<bool>, Memory>
+        ensures same { self.new ≡ self.old }
+        ensures derives { IfOk result (λ told. IfSome told (λ yes. (rules : List Rule) (judged : ℕ) →
+            IsLowered rules judged self.old → length line.now ≤ self.old.limit →
+            IsTrue yes ↔ RuleDerives (has L.ALPHABET) rules judged (map L.number line.now))) }
+    {
+        match self.told(line)? {
+            Some(told) => Ok(Some(is_yes(told))),
+            None => Ok(None),
+        }
+    }
+
+    /// Tells whether the judged rule derives a line, or else its longest viable beginning, if the flat grammar is that
+    /// of `lower_viable` for the alphabet of the letters; `None` and `Memory` as `judge`.
+    pub fn viable<L: Letter>(&mut self, line: &[L]) -> Result<Option<Verdict>, Memory>
+        ensures same { self.new ≡ self.old }
+        ensures verdict { IfOk result (λ told. IfSome told (λ verdict. (rules : List Rule) (judged : ℕ) →
+            TellsBeginnings (has L.ALPHABET) rules judged self.old → length line.now ≤ self.old.limit →
+            IsVerdict (has L.ALPHABET) rules judged (map L.number line.now) verdict)) }
+    {
+        let told = self.told(line)?;
         Ok(told)
     }
 }

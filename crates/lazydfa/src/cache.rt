@@ -59,8 +59,10 @@ pub(crate) fn forget(cache: &mut Cache)
 fn cont_reads(tables: &Tables, id: usize, value: u32, conts: &Conts) -> bool
     requires within { id ≤ length conts.now.items.items }
     requires older { AreOlder conts.now.items.items }
-    ensures { result ≡ false → (stack : List Place) → ReadsOn tables.now value (stack_of conts.now.items.items id) stack
-        → ⊥ }
+    ensures some { result ≡ true → (stack : List Place) × ReadsOn tables.now value (stack_of conts.now.items.items id)
+        stack }
+    ensures none { result ≡ false → (stack : List Place) → ReadsOn tables.now value (stack_of conts.now.items.items id)
+        stack → ⊥ }
 {
     if id == 0 {
         return false;
@@ -81,8 +83,10 @@ fn cont_reads(tables: &Tables, id: usize, value: u32, conts: &Conts) -> bool
 pub(crate) fn any_reads(tables: &Tables, tops: &[usize], value: u32, conts: &Conts) -> bool
     requires within { (id : ℕ) → Contains tops.now id → id ≤ length conts.now.items.items }
     requires older { AreOlder conts.now.items.items }
-    ensures { result ≡ false → (stack : List Place) → ReadsFrom tables.now value conts.now.items.items tops.now stack
-        → ⊥ }
+    ensures some { result ≡ true → (stack : List Place) × ReadsFrom tables.now value conts.now.items.items tops.now
+        stack }
+    ensures none { result ≡ false → (stack : List Place) → ReadsFrom tables.now value conts.now.items.items tops.now
+        stack → ⊥ }
 {
     for top in tops {
         if cont_reads(tables, *top, value, conts) {

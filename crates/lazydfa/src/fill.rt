@@ -87,10 +87,10 @@ fn lead(
         return Ok(Cell::Over);
     }
     let value = samples[class];
-    if !any_reads(tables, &cache.states[state].tops, value, &cache.conts) {
+    let tops = cache.states[state].tops.as_slice();
+    if !any_reads(tables, tops, value, &cache.conts) {
         return Ok(Cell::Dead);
     }
-    let tops = &cache.states[state].tops;
     let told = transition(alloc, tables, tops, value, &mut cache.conts, &mut cache.ids)?;
     let Some(front) = told else {
         return Ok(Cell::Over);

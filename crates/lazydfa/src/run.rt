@@ -1,18 +1,21 @@
 //! The run over a line.
 ghost use Rattle.std.specs.Prelude.{◌≡◌, ◌↔◌, ◌≤◌, ◌<◌, ◌+◌, ℕ, true, List, [], IsTrue, IfOk, IfSome, length};
-ghost use Rattle.std.specs.Prelude.{slice_get, Some, Contains};
+ghost use Rattle.std.specs.Prelude.{slice_get, Some, Contains, map, if◌then◌else◌};
 ghost use Rattle.flatgrammar.specs.NodeSteps.{flat_of};
 ghost use Rattle.flatgrammar.specs.TableViews.{GiveRoots};
 ghost use Rattle.lazydfa.specs.Conts.{AreKept, AreOlder, last_of};
-ghost use Rattle.stacks.specs.Stacks.{Accepts};
-ghost use Rattle.lazydfa.specs.Cached.{IsCache, IsCell, Grows, IsStart, IsStartAt, IsAt, AreClasses};
+ghost use Rattle.lazydfa.specs.Cached.{IsCache, IsCell, Grows, IsStart, IsStartAt, IsAt};
+ghost use Rattle.lazydfa.specs.ClassBounds.{AreClasses};
+ghost use Rattle.lazydfa.specs.RunVerdicts.{IsRunVerdict};
 
 use crate::cache::{Cache, Cell, forget, state_of, widen_states};
+use crate::classes::class_of;
 use crate::close::{Ids, close, empty, enter};
 use crate::conts::{Conts, widen_conts};
 use crate::fill::{fill, look, may_fill};
 use crate::transition::{Front, readers};
-use flatgrammar::{Tables, whole_root};
+use flatgrammar::{Tables, Verdict, whole_root};
+use letters::Letter;
 use ruletable::Memory;
 use std::alloc::Global;
 
@@ -122,43 +125,54 @@ fn prepare(cache: &mut Cache, letters: usize) -> Result<(), Memory>
     widen_states(cache)
 }
 
-/// Tells whether the whole may end behind a line; `None` if that takes more than there may be. `Memory` if an
-/// allocation fails.
-pub(crate) fn run(
+// Returns what a run tells that came to a line's end.
+fn verdict_at_end(ended: bool, letters: usize) -> Verdict
+    ensures { result ≡ (if ended then Verdict.Yes else Verdict.No letters) }
+{
+    if ended {
+        Verdict::Yes
+    } else {
+        Verdict::No(letters)
+    }
+}
+
+/// Tells whether the whole may end behind a line, or else how many of its letters lead to something; `None` if that
+/// takes more than there may be. `Memory` if an allocation fails.
+pub(crate) fn run<L: Letter>(
     alloc: Global,
     tables: &Tables,
-    class_of: &[usize],
+    low: &[usize],
     samples: &[u32],
     cache: &mut Cache,
-    line: &[u8],
-) -> Result<Option<bool>, Memory>
+    line: &[L],
+) -> Result<Option<Verdict>, Memory>
     requires roots { GiveRoots (flat_of tables.now) tables.now.roots.items }
-    requires classes { AreClasses (flat_of tables.now) class_of.now samples.now }
+    requires classes { AreClasses (flat_of tables.now) low.now samples.now }
     requires cached { IsCache tables.now samples.now cache.old }
     ensures cached { IsCache tables.now samples.now cache.new }
-    ensures told { IfOk result (λ told. IfSome told (λ yes. IsTrue yes ↔ Accepts (flat_of tables.now) (last_of
-        tables.now) line.now (length line.now))) }
+    ensures told { IfOk result (λ told. IfSome told (IsRunVerdict (flat_of tables.now) (last_of tables.now)
+        (map L.number line.now))) }
 {
     prepare(cache, line.len())?;
     let Some(first) = start(alloc, tables, samples, cache)? else {
         return Ok(None);
     };
     let mut state = first;
-    for letter in line {
-        let Some(class) = class_of.get(*letter as usize) else {
+    for (at, letter) in line.iter().enumerate() {
+        let Some(class) = class_of(low, samples, letter.value()) else {
             return Ok(None);
         };
-        match cell_of(alloc, tables, samples, cache, state, *class)? {
+        match cell_of(alloc, tables, samples, cache, state, class)? {
             Cell::To(t) => {
                 state = t;
             }
             Cell::Dead => {
-                return Ok(Some(false));
+                return Ok(Some(Verdict::No(at)));
             }
             Cell::Unknown | Cell::Over => {
                 return Ok(None);
             }
         }
     }
-    Ok(Some(cache.states[state].ended))
+    Ok(Some(verdict_at_end(cache.states[state].ended, line.len())))
 }

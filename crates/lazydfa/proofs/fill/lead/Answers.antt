@@ -10,7 +10,7 @@ any_reads-requires-clause-within c id h =
     c.requires.cached.within c.args.state c.index.result.now
     (slice_get-get_or c.args.cache.now.states.items c.args.state c.index.result.now
     (let l = c.len.ensures in let t = c.if-state-len.false in omega (arith, l, t))
-    ∙ ap (λ v. Some v) (sym c.index.ensures)) id (subst (λ v. Contains v id) c.deref.ensures.value h)
+    ∙ ap (λ v. Some v) (sym c.index.ensures)) id (subst (λ v. Contains v id) c.as_slice-tops.ensures.value h)
 
 pub returns-then-not-any_reads-clause-is : goal.returns-then-not-any_reads-clause-is
 returns-then-not-any_reads-clause-is c = λ d sample. record {
@@ -18,19 +18,19 @@ returns-then-not-any_reads-clause-is c = λ d sample. record {
   from_is = slice_get-get_or c.args.cache.now.states.items c.args.state c.index.result.now
       (let l = c.len.ensures in let t = c.if-state-len.false in omega (arith, l, t))
       ∙ ap (λ v. Some v) (sym c.index.ensures);
-  none = λ stack r. c.if-not-any_reads.ensures refl stack
-      (subst (λ v. ReadsFrom c.args.tables.now v c.args.cache.now.conts.items.items c.deref.result.now stack)
+  none = λ stack r. c.if-not-any_reads.ensures.none refl stack
+      (subst (λ v. ReadsFrom c.args.tables.now v c.args.cache.now.conts.items.items c.as_slice-tops.result.now stack)
       (sym (get_or_from_slice_get c.args.samples.now c.args.class d 0 sample))
       (subst (λ v. ReadsFrom c.args.tables.now d c.args.cache.now.conts.items.items v stack)
-      (sym c.deref.ensures.value) r));
+      (sym c.as_slice-tops.ensures.value) r));
 }
 
 pub transition-requires-clause-within : goal.transition-requires-clause-within
 transition-requires-clause-within c id h =
-    c.requires.cached.within c.args.state c.index-2.result.now
-    (slice_get-get_or c.args.cache.now.states.items c.args.state c.index-2.result.now
+    c.requires.cached.within c.args.state c.index.result.now
+    (slice_get-get_or c.args.cache.now.states.items c.args.state c.index.result.now
     (let l = c.len.ensures in let t = c.if-state-len.false in omega (arith, l, t))
-    ∙ ap (λ v. Some v) (sym c.index-2.ensures)) id (subst (λ v. Contains v id) c.deref-2.ensures.value h)
+    ∙ ap (λ v. Some v) (sym c.index.ensures)) id (subst (λ v. Contains v id) c.as_slice-tops.ensures.value h)
 
 pub returns-in_default-clause-cached : goal.returns-in_default-clause-cached
 returns-in_default-clause-cached c =
@@ -43,17 +43,17 @@ returns-clause-cached c =
     led_cached c.args.tables.now c.args.samples.now c.args.cache.now.conts.items.items
     c.transition.new.conts.items.items c.state_of.new.cache.conts.items.items c.args.cache.now.states.items
     c.state_of.new.cache.states.items c.args.cache.now.cells.items c.state_of.new.cache.cells.items
-    c.index-2.result.now c.deref-2.result.now c.in-Some.front.tops.items c.in-Some.front.ended c.args.state c.in_ok-t.t
+    c.index.result.now c.as_slice-tops.result.now c.in-Some.front.tops.items c.in-Some.front.ended c.args.state c.in_ok-t.t
     (get_or c.args.samples.now c.args.class 0) c.requires.cached c.in_ok-told.ensures.kept (ap
     (λ v. v.items.items) c.in_ok-t.ensures.conts)
     c.in_ok-t.ensures.is c.in_ok-t.ensures.cells
-    (slice_get-get_or c.args.cache.now.states.items c.args.state c.index-2.result.now
+    (slice_get-get_or c.args.cache.now.states.items c.args.state c.index.result.now
     (let l = c.len.ensures in let t = c.if-state-len.false in omega (arith, l, t))
-    ∙ ap (λ v. Some v) (sym c.index-2.ensures))
-    c.deref-2.ensures.value
+    ∙ ap (λ v. Some v) (sym c.index.ensures))
+    c.as_slice-tops.ensures.value
     (subst (λ v. IfSome v (λ front. IsTransition c.args.tables.now
     (get_or c.args.samples.now c.args.class 0) c.args.cache.now.conts.items.items
-    c.deref-2.result.now c.transition.new.conts.items.items front.tops.items front.ended)) c.in-Some.is
+    c.as_slice-tops.result.now c.transition.new.conts.items.items front.tops.items front.ended)) c.in-Some.is
     c.in_ok-told.ensures.is)
 
 pub returns-clause-is : goal.returns-clause-is
@@ -61,15 +61,16 @@ returns-clause-is c = λ d sample.
     led_step c.args.tables.now c.args.samples.now c.args.cache.now.conts.items.items
     c.transition.new.conts.items.items c.state_of.new.cache.conts.items.items c.args.cache.now.states.items
     c.state_of.new.cache.states.items c.args.cache.now.cells.items c.state_of.new.cache.cells.items
-    c.index-2.result.now c.deref-2.result.now c.in-Some.front.tops.items c.in-Some.front.ended c.args.state c.in_ok-t.t
+    c.index.result.now c.as_slice-tops.result.now c.in-Some.front.tops.items c.in-Some.front.ended c.args.state c.in_ok-t.t
     (get_or c.args.samples.now c.args.class 0) c.requires.cached c.in_ok-told.ensures.kept (ap
     (λ v. v.items.items) c.in_ok-t.ensures.conts)
     c.in_ok-t.ensures.is c.in_ok-t.ensures.cells
-    (slice_get-get_or c.args.cache.now.states.items c.args.state c.index-2.result.now
+    (slice_get-get_or c.args.cache.now.states.items c.args.state c.index.result.now
     (let l = c.len.ensures in let t = c.if-state-len.false in omega (arith, l, t))
-    ∙ ap (λ v. Some v) (sym c.index-2.ensures))
-    c.deref-2.ensures.value
+    ∙ ap (λ v. Some v) (sym c.index.ensures))
+    c.as_slice-tops.ensures.value
     (subst (λ v. IfSome v (λ front. IsTransition c.args.tables.now
     (get_or c.args.samples.now c.args.class 0) c.args.cache.now.conts.items.items
-    c.deref-2.result.now c.transition.new.conts.items.items front.tops.items front.ended)) c.in-Some.is
-    c.in_ok-told.ensures.is) d (get_or_from_slice_get c.args.samples.now c.args.class d 0 sample)
+    c.as_slice-tops.result.now c.transition.new.conts.items.items front.tops.items front.ended)) c.in-Some.is
+    c.in_ok-told.ensures.is)
+    (c.any_reads.ensures.some c.if-not-any_reads.false) d (get_or_from_slice_get c.args.samples.now c.args.class d 0 sample)

@@ -1,16 +1,11 @@
-use Rattle.std.proofs.Common.{ap, subst, sym, ◌∙◌}
-use Rattle.flatgrammar.specs.NodeSteps.{flat_of}
-use Rattle.flatgrammar.specs.TableViews.{GiveRoots}
+use Rattle.std.proofs.Common.{subst, length, map}
+use Rattle.std.specs.Prelude.{IfSome}
 use Rattle.letters.specs.Letters.{has}
-use Rattle.letters.specs.declared.alphabet.Alphabet.TheVariants.{Bytes}
-use Rattle.stacks.specs.Stacks.{AreUncounted}
-use Rattle.lazydfa.proofs.IsAtLemmas.{run_tells}
+use Rattle.lazydfa.proofs.IsRunVerdictLemmas.{Derives}
 use Rattle.lazydfa.proofs.automaton.Automaton.judge.Goals as goal
 
-pub returns-clause-derives : goal.returns-clause-derives
-returns-clause-derives c =
-    run_tells (has Bytes) c.deref.result.now c.args.self.now c.args.line.now
-    (subst (λ v. GiveRoots (flat_of v) v.roots.items) (sym c.deref.ensures) c.self.invariant.0)
-    (subst (λ v. AreUncounted (flat_of v)) (sym c.deref.ensures) c.self.invariant.1)
-    (ap (λ v. flat_of v) c.deref.ensures ∙ c.self.view_is) c.bytes_are_letters.ensures c.in_ok-told.told
-    c.in_ok-told.ensures.told
+pub returns-in-Some-clause-derives : goal.returns-in-Some-clause-derives
+returns-in-Some-clause-derives g c = λ rules judged lowered short.
+    let told = subst (λ v. IfSome v (λ t. Derives (has g.L.Letter.ALPHABET) (map g.L.Letter.number c.args.line.now)
+    (length c.args.line.now) t c.args.self.now)) c.in-Some.is c.in_ok-told.ensures.derives rules judged lowered short in
+    (λ yes. told.0 (c.is_yes.ensures.0 yes), λ derived. c.is_yes.ensures.1 (told.1 derived))

@@ -1,15 +1,17 @@
 use Rattle.std.proofs.Common.{subst}
 use Rattle.flatgrammar.specs.NodeSteps.{flat_of}
 use Rattle.stacks.specs.Stacks.{AreUncounted}
-use Rattle.lazydfa.specs.Cached.{AreClasses}
+use Rattle.lazydfa.specs.RunVerdicts.{IsOne}
+use Rattle.lazydfa.specs.ClassBounds.{AreClasses}
 use Rattle.lazydfa.proofs.AreCachedLemmas.{cached_none}
 use Rattle.lazydfa.proofs.automaton.Automaton.new.Goals as goal
 
 pub invariant_of-result : goal.invariant_of-result
 invariant_of-result c = (
   c.in_ok-tables.ensures.exact.roots,
-  subst (λ v. AreUncounted (flat_of v)) c.deref.ensures (c.are_uncounted.ensures c.if-not-are_uncounted.false),
-  subst (λ v. AreClasses (flat_of v) c.in_ok-classes.classes.class_of.items c.in_ok-classes.classes.samples.items)
+  subst (λ v. AreUncounted (flat_of v)) c.deref.ensures (c.are_served.ensures c.if-not-are_served.false).0,
+  subst (λ v. IsOne (flat_of v)) c.deref.ensures (c.are_served.ensures c.if-not-are_served.false).1,
+  subst (λ v. AreClasses (flat_of v) c.in_ok-classes.classes.low.items c.in_ok-classes.classes.samples.items)
       c.deref-2.ensures c.in_ok-classes.ensures,
   cached_none c.in_ok-tables.tables.value c.in_ok-classes.classes.samples.items
       c.empty_cache-cache.result.conts.items.items c.empty_cache-cache.result.states.items

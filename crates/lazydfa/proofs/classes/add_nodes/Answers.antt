@@ -2,19 +2,19 @@ use Rattle.std.proofs.Common.{sym, ap, ◌∙◌}
 use Rattle.std.proofs.lemmas.Option.{slice_get-get_or}
 use Rattle.std.specs.Prelude.{Some}
 use Rattle.flatgrammar.specs.FlatViews.{node_of}
-use Rattle.lazydfa.specs.ClassMarks.{IsNodeSplit}
+use Rattle.lazydfa.specs.ClassBounds.{IsNodeSplit}
 use Rattle.lazydfa.proofs.AreClassesLemmas.{more_node_split, split_to_next, split_to_end}
-use Rattle.lazydfa.proofs.classes.mark_nodes.Goals as goal
+use Rattle.lazydfa.proofs.classes.add_nodes.Goals as goal
 
 pub loop-node-preserved : goal.loop-node-preserved
 loop-node-preserved c =
-    split_to_next node_of IsNodeSplit more_node_split c.loop-node.marks.items c.mark_node.new.marks.items
+    split_to_next node_of IsNodeSplit more_node_split c.loop-node.bounds.items c.add_node.new.bounds.items
     c.args.nodes.now c.loop-node.node-index c.node-item.result
     (slice_get-get_or c.args.nodes.now c.loop-node.node-index c.node-item.result c.loop-node-test.true
     ∙ ap (λ v. Some v) (sym c.node-item.is))
-    c.mark_node.ensures.more c.mark_node.ensures.split c.loop-node.invariant
+    c.in_ok-add_node.ensures.more c.in_ok-add_node.ensures.split c.loop-node.invariant
 
 pub returns : goal.returns
 returns c =
-    split_to_end node_of IsNodeSplit more_node_split c.loop-node.marks.items c.args.nodes.now c.loop-node.node-index
+    split_to_end node_of IsNodeSplit more_node_split c.loop-node.bounds.items c.args.nodes.now c.loop-node.node-index
     c.loop-node-test.false c.loop-node.invariant

@@ -1,0 +1,7 @@
+use Rattle.flatgrammar.specs.FlatViews.{node_of}
+use Rattle.lazydfa.specs.ClassBounds.{IsNodeSplit}
+use Rattle.lazydfa.proofs.AreClassesLemmas.{AreSplitTo, more_node_split}
+use Rattle.lazydfa.proofs.classes.add_nodes.Given as goal
+
+abbrev pub invariant-loop-node : goal.invariant-loop-node
+invariant-loop-node l = AreSplitTo node_of IsNodeSplit more_node_split l.bounds.items l.nodes l.node-index

@@ -1,7 +1,0 @@
-use Rattle.flatgrammar.specs.FlatViews.{node_of}
-use Rattle.lazydfa.specs.ClassMarks.{IsNodeSplit}
-use Rattle.lazydfa.proofs.AreClassesLemmas.{AreSplitTo, more_node_split}
-use Rattle.lazydfa.proofs.classes.mark_nodes.Given as goal
-
-abbrev pub invariant-loop-node : goal.invariant-loop-node
-invariant-loop-node l = AreSplitTo node_of IsNodeSplit more_node_split l.marks.items l.nodes l.node-index

@@ -1,0 +1,26 @@
+-- What a run over a line tells of its stacks.
+use Rattle.std.specs.Prelude.{◌≡◌, ℕ, ◌<◌, ◌≤◌, Bool, List, [], ◌∷◌, length, slice_get, Some}
+use Rattle.flatgrammar.specs.Flat.{Flat, Place, Concat}
+use Rattle.flatgrammar.specs.declared.verdict.Verdict.{Verdict}
+use Rattle.flatgrammar.specs.declared.verdict.Verdict.TheVariants.{Yes, No}
+use Rattle.stacks.specs.Stacks.{Reach, Accepts}
+
+-- the whole is a concatenation of one
+abbrev pub IsOne : Flat → Type 0
+IsOne flat = (body : ℕ) × (slice_get flat.nodes flat.whole ≡ Some (Concat (body ∷ [])))
+
+module _ (flat : Flat) (last : Place → Bool) (x : List ℕ) where
+  -- j letters lead to some stack
+  abbrev pub IsReached : ℕ → Type 0
+  IsReached j = (stack : List Place) × Reach flat last x j stack
+
+  -- n is the greatest number of letters that lead to some stack; nothing is said of no letters
+  pub record IsLastReached (n : ℕ) : Type 0 where
+    pub within : n ≤ length x
+    pub reached : 0 < n → IsReached n
+    pub last_is : (m : ℕ) → n < m → m ≤ length x → IsReached m → ⊥
+
+  -- yes: the whole may end behind the line; no: it may not, and n letters are the most that lead to some stack
+  abbrev pub IsRunVerdict : Verdict → Type 0
+  IsRunVerdict Yes = Accepts flat last x (length x)
+  IsRunVerdict (No n) = (Accepts flat last x (length x) → ⊥) × IsLastReached n
