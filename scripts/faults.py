@@ -4,8 +4,8 @@ and with a stack of 256 KB.
 
 usage: faults.py [SWEEP ..]
 
-The sweeps are `memory`, `writes`, `reads`, `streams`, `stack` and `bound`; all of them if none is named. Each prints how many
-runs it made. A run that is not as it must be is printed, and then the status is 1. A program that is not built is
+The sweeps are `memory`, `writes`, `reads`, `streams`, `stack` and `bound`; all of them if none is named. Each prints how
+many runs it made. A run that is not as it must be is printed, and then the status is 1. A program that is not built is
 skipped, and so are the first three sweeps where there is no C compiler `cc`.
 """
 import argparse
@@ -23,9 +23,6 @@ STACK = 256 * 1024
 # So many growths at most make the list of a program's words, beside one for each word before the grammar's. The list
 # asks first for all that it will need, and where that is refused it asks again, so the run can go on.
 GROWTHS_OF_WORDS = 7
-# With these words abnfi has no automaton. Without them Earley's sets answer where the automaton has no memory.
-NO_AUTOMATON = {"-m", "-u", "-w"}
-
 # A run: its name, the program and its words, the grammar, the input, the texts of the units or lines, the error output,
 # and the status.
 Run = collections.namedtuple("Run", "name program words grammar given texts told status")
@@ -49,6 +46,8 @@ REFUSED = b"A <- ('' / 'b')* C\nD <- 'd'"
 REFUSALS = b"rule 'C' used but not defined\nrule 'D' defined but not used\npossible infinite loop in rule 'A'\n"
 VIABLE = abnf("words of letters, and how far the others go", b"word = 1*ALPHA", b"ab\nA1\n\nZ",
               [YES, b"no 1\n", b"no 0\n", YES], status=1, words=["-w"])
+# A grammar that counts how often something nullable is repeated has no automaton.
+COUNTED = abnf("a nullable operand that is counted", b's = 2*3["a"]', b"aaa\n\naaaa\n", [YES, YES, NO], status=1)
 NOTED = peg("a grammar that notes refuse", REFUSED, b"b", [], REFUSALS, 2)
 CHECKED = peg("the same grammar checked", REFUSED, b"b", [], REFUSALS, 2, words=CHECK)
 PROSE = b"a = <any text> / b\nb = \"x\""
@@ -68,6 +67,7 @@ GROWING = [
     peg("an action met four times in a unit", b"S <- A A 'x'\nA <- B B\nB <- {b}", b"x", [b"b\nb\nb\nb\n"]),
     WORDS,
     VIABLE,
+    COUNTED,
     abnf("an ambiguous rule", b's = s s / "a" / ""', b"aaa\n\nb\n", [YES, YES, NO], status=1),
     abnf("alternatives added to a rule", ALTERNATIVES, LINES, [YES, NO, YES, YES, NO], status=1),
     ABNF_PRINTED,
@@ -126,8 +126,8 @@ def is_as_stated(run, ended):
 
 
 def may_go_on(run, number):
-    """Tells whether a run may go on without that growth."""
-    has_automaton = run.program == "abnfi" and not NO_AUTOMATON.intersection(run.words)
+    """Tells whether a run may go on without that growth: Earley's sets answer where the automaton has no memory."""
+    has_automaton = run.program == "abnfi" and "-m" not in run.words and run is not COUNTED
     return has_automaton or number <= len(run.words) + GROWTHS_OF_WORDS
 
 
@@ -316,8 +316,9 @@ def bound(tools):
         return
     file = tools.folder / "grammar"
     file.write_bytes(run.grammar)
-    ran = subprocess.run([TOP / "bin" / run.program, *run.words, file], input=run.given, capture_output=True, timeout=120,
-                         preexec_fn=lambda: resource.setrlimit(resource.RLIMIT_AS, (BOUND, BOUND)), check=False)
+    ran = subprocess.run([TOP / "bin" / run.program, *run.words, file], input=run.given, capture_output=True,
+                         preexec_fn=lambda: resource.setrlimit(resource.RLIMIT_AS, (BOUND, BOUND)), timeout=120,
+                         check=False)
     ended = Ended(ran.stdout, ran.stderr, ran.returncode, False)
     tools.expect(run, ended, is_as_stated(run, ended), f"{BOUND} bytes of memory")
 

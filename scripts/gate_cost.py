@@ -6,8 +6,8 @@ usage: gate_cost.py [WORD ..]
 The words are those of another command of `rt`, as `must-fail feed`; with none it is `ci`. It runs in a copy of what git
 tracks, in a temporary folder. `ci` and `must-fail` run with `--anew`, since `rt` else takes what an earlier run on this
 machine passed. So the figures of `ci` are those of a gate from nothing, and `must-fail` tries each edit; but it takes
-the crates below from another checkout, if one has proved them. With the word `--kept` it takes what passed, so that a gate
-can be measured in parts, as by `ci --kept NAME ..` and then `ci --kept`. RT names the command, `rt` if not set.
+the crates below from another checkout, if one has proved them. With the word `--kept` it takes what passed, so that a
+gate can be measured in parts, as by `ci --kept NAME ..` and then `ci --kept`. RT names the command, `rt` if not set.
 
 proofs: each crate proved from nothing. tests: the crate proved again with its tests. edits: the edits that the prover
 must refuse, and the proof of the crate from which they begin. rest: what compiles, links and runs, and the work of `rt`

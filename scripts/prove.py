@@ -126,8 +126,8 @@ class Prover:
         return f"{len(self.waiting) + len(self.at_work)} left"
 
     def begin(self):
-        """Begins the crates that are ready, those with the longest way up first, as many as processors allow. The first of
-        them gets half of the processors if so many are free: the whole run waits for it."""
+        """Begins the crates that are ready, those with the longest way up first, as many as processors allow. The first
+        of them gets half of the processors if so many are free: the whole run waits for it."""
         ready = sorted((it for it in self.waiting if below(TOP, it) <= self.done), key=lambda it: -self.distance[it])
         for number, crate in enumerate(ready):
             free = self.limit - sum(it.jobs for it in self.at_work)

@@ -24,7 +24,8 @@ def leaf(r, names):
         letters = bytes(r.choice(LETTERS + b" %") for _ in range(r.choice([0, 1, 1, 1, 2, 2, 3])))
         return kind, letters, r.random() < 0.3
     if kind == "values":
-        return kind, [r.choice([65, 97, 98, 48, 300, 255, 10, 13, 0xD800, 0x10FFFF]) for _ in range(r.choice([1, 1, 2]))]
+        values = [65, 97, 98, 48, 300, 255, 10, 13, 0xD800, 0x10FFFF]
+        return kind, [r.choice(values) for _ in range(r.choice([1, 1, 2]))]
     if kind == "range":
         first = r.choice([0, 48, 65, 97, 97, 200, 0xD7FF])
         return kind, first, first + r.choice([0, 1, 25, 100, 2000, 0x110000, -1 if first else 0])
@@ -98,8 +99,8 @@ def grown(r, rules, e, left, is_utf8=False):
 
 
 def line(r, rules, judged, longest, is_utf8, end):
-    """Returns a line that the judged rule derives, or one near it, or any, without the byte that ends lines. A long line
-    takes more steps."""
+    """Returns a line that the judged rule derives, or one near it, or any, without the byte that ends lines. A long
+    line takes more steps."""
     if r.random() < 0.25:
         return bytes(r.choice(LETTERS) for _ in range(r.randrange(6))).replace(end, b"")
     found = bytearray(grown(r, rules, ("name", judged), 12 if longest == 10 else 4 * longest, is_utf8)[:longest])

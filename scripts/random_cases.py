@@ -6,8 +6,8 @@ usage: random_cases.py [-n COUNT] [-s SEED] [-u] [-w] [-z] [pegi | abnfi]
 A case is a unit that pegi tries, a line that abnfi judges, or a grammar that is refused. COUNT cases are compared, half
 of them by each program; 20000 if it is not given. Cases and their order follow from the seed alone. Prints how many
 cases were compared; at the first disagreement it prints the case and ends with status 1. A program that is not built is
-skipped. With -u half of the runs of abnfi have its option `-u utf8`; so it is with -w and its option `-w`, and with -z and
-its option `-z`.
+skipped. With -u half of the runs of abnfi have its option `-u utf8`; so it is with -w and its option `-w`, and with -z
+and its option `-z`.
 """
 import argparse
 import collections
