@@ -4,9 +4,9 @@ and with a stack of 256 KB.
 
 usage: faults.py [SWEEP ..]
 
-The sweeps are `memory`, `writes`, `reads`, `streams`, `stack` and `bound`; all of them if none is named. Each prints how
-many runs it made. A run that is not as it must be is printed, and then the status is 1. A program that is not built is
-skipped, and so are the first three sweeps where there is no C compiler `cc`.
+The sweeps are `memory`, `writes`, `reads`, `streams`, `stack` and `bound`; all of them if none is named. Each prints
+how many runs it made. A run that is not as it must be is printed, and then the status is 1. A program that is not built
+is skipped, and so are the first three sweeps where there is no C compiler `cc`.
 """
 import argparse
 import collections
