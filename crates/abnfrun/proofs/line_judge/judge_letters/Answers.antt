@@ -5,8 +5,8 @@ use Rattle.abnfrun.proofs.IsAnswerOnLemmas.{judge_says, verdict_says}
 use Rattle.abnfrun.proofs.line_judge.judge_letters.Goals as goal
 use Rattle.letters.specs.Letters.{has}
 
-pub returns-in-Yes : goal.returns-in-Yes
-returns-in-Yes g c =
+pub returns-in-Yes-clause-answer : goal.returns-in-Yes-clause-answer
+returns-in-Yes-clause-answer g c =
     let j = c.args.judges.now in
     rw c.in-Yes.is at (verdict_says (has g.L.Letter.ALPHABET) (rules_of j.grammar.now.rules) j.grammar.now.judged
     (map g.L.Letter.number c.args.line.now)
@@ -15,8 +15,8 @@ returns-in-Yes g c =
     (rw c.requires.letters at (j.tells c.if-judges.true))
     (c.in_ok-viable.ensures.verdict (rules_of j.grammar.now.rules) j.grammar.now.judged))
 
-pub returns-in-No : goal.returns-in-No
-returns-in-No g c =
+pub returns-in-No-clause-answer : goal.returns-in-No-clause-answer
+returns-in-No-clause-answer g c =
     let j = c.args.judges.now in
     let told = rw c.in-No.is at (verdict_says (has g.L.Letter.ALPHABET) (rules_of j.grammar.now.rules)
     j.grammar.now.judged (map g.L.Letter.number c.args.line.now)
@@ -26,16 +26,16 @@ returns-in-No g c =
     (c.in_ok-viable.ensures.verdict (rules_of j.grammar.now.rules) j.grammar.now.judged)) in
     (c.if-judges.true, told.0, told.1)
 
-pub returns-then-yes : goal.returns-then-yes
-returns-then-yes g c =
+pub returns-then-yes-clause-answer : goal.returns-then-yes-clause-answer
+returns-then-yes-clause-answer g c =
     let j = c.args.judges.now in
     rw c.if-yes.true at (judge_says (has g.L.Letter.ALPHABET) (rules_of j.grammar.now.rules) j.grammar.now.judged
     (map g.L.Letter.number c.args.line.now)
     c.derivation_is_decided.ensures j.flat c.in_ok-yes.yes (j.lowered c.if-judges.false)
     (c.in_ok-yes.ensures.derives (rules_of j.grammar.now.rules) j.grammar.now.judged))
 
-pub returns-else-yes : goal.returns-else-yes
-returns-else-yes g c =
+pub returns-else-yes-clause-answer : goal.returns-else-yes-clause-answer
+returns-else-yes-clause-answer g c =
     let j = c.args.judges.now in
     let told = rw c.if-yes.false at (judge_says (has g.L.Letter.ALPHABET) (rules_of j.grammar.now.rules)
     j.grammar.now.judged (map g.L.Letter.number c.args.line.now)

@@ -7,13 +7,13 @@ use Rattle.abnfrun.proofs.SpellsLengthLemmas.{points_at_most}
 use Rattle.abnfrun.proofs.line_judge.judge_points.Goals as goal
 use Rattle.letters.specs.Utf8Text.{number, numbers}
 
-pub returns-then-is_text : goal.returns-then-is_text
-returns-then-is_text c =
+pub returns-then-is_text-clause-answer : goal.returns-then-is_text-clause-answer
+returns-then-is_text-clause-answer c =
     let j = c.args.judges.now in
     text_answer j.viable (rules_of j.grammar.now.rules) j.grammar.now.judged c.args.line.now
     c.utf8_is_decided.ensures.one (numbers c.as_slice.result.now)
     (rw c.as_slice.ensures.value (c.in_ok-is_text.ensures.text c.if-is_text.true)) c.in_ok-said.said
-    c.in_ok-said.ensures
+    c.in_ok-said.ensures.answer
 
 pub judge_letters-requires-clause-within : goal.judge_letters-requires-clause-within
 judge_letters-requires-clause-within c =

@@ -7,8 +7,8 @@ use Rattle.abnfrun.proofs.SpellsLengthLemmas.{points_at_most}
 use Rattle.abnfrun.proofs.line_judge.judge_torn.Goals as goal
 use Rattle.letters.specs.Utf8Text.{number, numbers}
 
-pub returns : goal.returns
-returns c =
+pub returns-clause-answer : goal.returns-clause-answer
+returns-clause-answer c =
     let j = c.args.judges.now in
     let points = numbers c.as_slice.result.now in
     let longest = c.utf8_len-len.ensures in
@@ -24,7 +24,7 @@ returns c =
     rw (c.torn_by.ensures, count)
     (torn_answer j.viable (rules_of j.grammar.now.rules) j.grammar.now.judged c.args.line.now c.requires.torn
     c.requires.viable c.utf8_len-len.result points longest spelled
-    c.in_ok-said.said c.in_ok-said.ensures)
+    c.in_ok-said.said c.in_ok-said.ensures.answer)
 
 pub judge_letters-requires-clause-within : goal.judge_letters-requires-clause-within
 judge_letters-requires-clause-within c =
