@@ -16,11 +16,12 @@ import tempfile
 
 HERE = pathlib.Path(__file__).resolve().parent
 DATE = "[0-9]{4}-[0-9]{2}-[0-9]{2}[Tt][0-9]{2}:[0-9]{2}:[0-9]{2}([.][0-9]+)?([Zz]|[+-][0-9]{2}:[0-9]{2})"
-# Names of lines.py, each with how many letters a line has in place of its own, and an expression of its rule.
+# Names of lines.py, each with how many letters a line has in place of its own, options, and an expression of its rule.
 ROWS = [
-    ("date", None, DATE), ("uri", None, None), ("alpha", None, "[A-Za-z]+"), ("right", 1000, "[Aa]+"),
-    ("right", 10000, "[Aa]+"), ("kw", None, None), ("json", None, None), ("ss50", None, "[Aa]+"),
-    ("left", 1000, "[Aa]+"),
+    ("date", None, "", DATE), ("uri", None, "", None), ("alpha", None, "", "[A-Za-z]+"), ("right", 1000, "", "[Aa]+"),
+    ("right", 10000, "", "[Aa]+"), ("kw", None, "", None), ("json", None, "", None), ("ss50", None, "", "[Aa]+"),
+    ("left", 1000, "", "[Aa]+"), ("date", None, "-w", None), ("uri", None, "-w", None), ("date", None, "-u utf8", None),
+    ("uri", None, "-u utf8", None), ("right", 10000, "-u utf8 -w", None),
 ]
 ENOUGH, MOST = 0.2, 32_000_000
 
@@ -66,16 +67,17 @@ def main(programs):
     programs = programs or [str(HERE.parent / "bin" / "abnfi")]
     with tempfile.TemporaryDirectory(prefix="line_bench-") as folder:
         folder = pathlib.Path(folder)
-        for name, letters, said in ROWS:
+        for name, letters, options, said in ROWS:
             grammar, lines = given(name, letters)
             (folder / "grammar").write_bytes(grammar)
-            told = [measure([it, folder / "grammar"], lines, folder / "lines") for it in programs]
+            told = [measure([it, *options.split(), folder / "grammar"], lines, folder / "lines") for it in programs]
             if said:
                 (folder / "words").write_text(said + "\n")
                 words = ["grep", "-cixE", "-f", folder / "words"]
                 told.append(measure(words, lines, folder / "lines", 1_000_000))
             row = " | ".join(f"{ns:,.1f} | {mb:,.0f}" for ns, mb in told)
-            print(f"| {name}{'' if letters is None else f', {letters:,} letters'} | {row} |", flush=True)
+            what = ", ".join(filter(None, (name, letters and f"{letters:,} letters", options)))
+            print(f"| {what} | {row} |", flush=True)
 
 
 main(sys.argv[1:])
