@@ -23,8 +23,6 @@ STACK = 256 * 1024
 # So many growths at most make the list of a program's words, beside one for each word before the grammar's. The list
 # asks first for all that it will need, and where that is refused it asks again, so the run can go on.
 GROWTHS_OF_WORDS = 7
-# With these words abnfi has no automaton. Without them Earley's sets answer where the automaton has no memory.
-NO_AUTOMATON = {"-m", "-u", "-w"}
 
 # A run: its name, the program and its words, the grammar, the input, the texts of the units or lines, the error output,
 # and the status.
@@ -39,6 +37,9 @@ def peg(name, grammar, given, texts, told=b"", status=0, words=()):
 def abnf(name, grammar, given, texts, told=b"", status=0, words=()):
     return Run(name, "abnfi", list(words), grammar, given, texts, told, status)
 
+
+# Names of runs of abnfi by a grammar that counts how often something nullable is repeated: they have no automaton.
+NO_AUTOMATON = {"a counted repetition of an option"}
 
 PRINT, CHECK = ("-m", "print"), ("-m", "check")
 YES, NO = b"yes\n", b"no\n"
@@ -69,6 +70,8 @@ GROWING = [
     WORDS,
     VIABLE,
     abnf("an ambiguous rule", b's = s s / "a" / ""', b"aaa\n\nb\n", [YES, YES, NO], status=1),
+    abnf("a counted repetition of an option", b's = 2*3["a"] "b"', b"aab\nab\nac\n", [YES, YES, b"no 1\n"], status=1,
+         words=["-w"]),
     abnf("alternatives added to a rule", ALTERNATIVES, LINES, [YES, NO, YES, YES, NO], status=1),
     ABNF_PRINTED,
     CHECKED,
@@ -126,8 +129,8 @@ def is_as_stated(run, ended):
 
 
 def may_go_on(run, number):
-    """Tells whether a run may go on without that growth."""
-    has_automaton = run.program == "abnfi" and not NO_AUTOMATON.intersection(run.words)
+    """Tells whether a run may go on without that growth. Earley's sets answer where the automaton has no memory."""
+    has_automaton = run.program == "abnfi" and "-m" not in run.words and run.name not in NO_AUTOMATON
     return has_automaton or number <= len(run.words) + GROWTHS_OF_WORDS
 
 
