@@ -35,7 +35,7 @@ EXEMPT = (
     "cells: Cells.get_or_put", "cells: Cells.put",
     # Another function of the crate has such a body, and its edit shows the same mistake.
     "commands: command.abnfi_command", "mains: mains.abnfi_main", "leastset: needs.are_needs_within",
-    "pegmatch: leaves.match_any", "feed: Feed.front", "lazydfa: Automaton.viable",
+    "pegmatch: leaves.match_any", "feed: Feed.front",
 )
 
 

@@ -37,6 +37,9 @@ def abnf(name, grammar, given, texts, told=b"", status=0, words=()):
     return Run(name, "abnfi", list(words), grammar, given, texts, told, status)
 
 
+# Names of runs of abnfi by a grammar that counts how often something nullable is repeated: they have no automaton.
+NO_AUTOMATON = {"a counted repetition of an option"}
+
 PRINT, CHECK = ("-m", "print"), ("-m", "check")
 YES, NO = b"yes\n", b"no\n"
 USERNAME = peg("a word replaced", b'start <- "username" { USER } / < . > { yytext }', b"a username\n",
@@ -46,8 +49,6 @@ REFUSED = b"A <- ('' / 'b')* C\nD <- 'd'"
 REFUSALS = b"rule 'C' used but not defined\nrule 'D' defined but not used\npossible infinite loop in rule 'A'\n"
 VIABLE = abnf("words of letters, and how far the others go", b"word = 1*ALPHA", b"ab\nA1\n\nZ",
               [YES, b"no 1\n", b"no 0\n", YES], status=1, words=["-w"])
-# A grammar that counts how often something nullable is repeated has no automaton.
-COUNTED = abnf("a nullable operand that is counted", b's = 2*3["a"]', b"aaa\n\naaaa\n", [YES, YES, NO], status=1)
 NOTED = peg("a grammar that notes refuse", REFUSED, b"b", [], REFUSALS, 2)
 CHECKED = peg("the same grammar checked", REFUSED, b"b", [], REFUSALS, 2, words=CHECK)
 PROSE = b"a = <any text> / b\nb = \"x\""
@@ -67,8 +68,9 @@ GROWING = [
     peg("an action met four times in a unit", b"S <- A A 'x'\nA <- B B\nB <- {b}", b"x", [b"b\nb\nb\nb\n"]),
     WORDS,
     VIABLE,
-    COUNTED,
     abnf("an ambiguous rule", b's = s s / "a" / ""', b"aaa\n\nb\n", [YES, YES, NO], status=1),
+    abnf("a counted repetition of an option", b's = 2*3["a"] "b"', b"aab\nab\nac\n", [YES, YES, b"no 1\n"], status=1,
+         words=["-w"]),
     abnf("alternatives added to a rule", ALTERNATIVES, LINES, [YES, NO, YES, YES, NO], status=1),
     ABNF_PRINTED,
     CHECKED,
@@ -126,8 +128,8 @@ def is_as_stated(run, ended):
 
 
 def may_go_on(run, number):
-    """Tells whether a run may go on without that growth: Earley's sets answer where the automaton has no memory."""
-    has_automaton = run.program == "abnfi" and "-m" not in run.words and run is not COUNTED
+    """Tells whether a run may go on without that growth. Earley's sets answer where the automaton has no memory."""
+    has_automaton = run.program == "abnfi" and "-m" not in run.words and run.name not in NO_AUTOMATON
     return has_automaton or number <= len(run.words) + GROWTHS_OF_WORDS
 
 

@@ -238,8 +238,8 @@ fn answers_of_automata(rt: HostRuntime) -> Result<(), Fail> {
     Ok(())
 }
 
-// Lines in UTF-8 of at most seven letters, and whether each letter is one of 255, 256, 8,364 to 8,367 and 1,114,111: the
-// automaton looks classes up for the numbers below 256, and searches those from there on.
+// Lines in UTF-8 of at most seven letters, and whether each letter is one of 255, 256, 8,364 to 8,367 and 1,114,111.
+// The automaton looks up the classes of the numbers below 256, and searches those of the others.
 static POINTS: &[(&[u8], bool)] = &[
     (b"\xC3\xBE", false),
     (b"\xC3\xBF", true),

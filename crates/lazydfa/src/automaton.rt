@@ -1,5 +1,6 @@
 //! A lazily built automaton.
-ghost use Rattle.std.specs.Prelude.{◌≡◌, ◌↔◌, ◌≤◌, ◌∷◌, ℕ, List, [], IsTrue, IfOk, IfSome, length, map, slice_get, Some};
+ghost use Rattle.std.specs.Prelude.{◌≡◌, ◌↔◌, ◌≤◌, ◌∷◌, ℕ, List, [], IsTrue, IfOk, IfSome, length, map};
+ghost use Rattle.std.specs.Prelude.{Some};
 ghost use Rattle.abnfread.specs.Element.{Rule};
 ghost use Rattle.abnfcheck.specs.Derivable.{RuleDerives};
 ghost use Rattle.flatgrammar.specs.Flat.{Concat, Turns};

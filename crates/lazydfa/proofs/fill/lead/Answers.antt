@@ -43,7 +43,8 @@ returns-clause-cached c =
     led_cached c.args.tables.now c.args.samples.now c.args.cache.now.conts.items.items
     c.transition.new.conts.items.items c.state_of.new.cache.conts.items.items c.args.cache.now.states.items
     c.state_of.new.cache.states.items c.args.cache.now.cells.items c.state_of.new.cache.cells.items
-    c.index.result.now c.as_slice-tops.result.now c.in-Some.front.tops.items c.in-Some.front.ended c.args.state c.in_ok-t.t
+    c.index.result.now c.as_slice-tops.result.now c.in-Some.front.tops.items c.in-Some.front.ended c.args.state
+    c.in_ok-t.t
     (get_or c.args.samples.now c.args.class 0) c.requires.cached c.in_ok-told.ensures.kept (ap
     (λ v. v.items.items) c.in_ok-t.ensures.conts)
     c.in_ok-t.ensures.is c.in_ok-t.ensures.cells
@@ -61,7 +62,8 @@ returns-clause-is c = λ d sample.
     led_step c.args.tables.now c.args.samples.now c.args.cache.now.conts.items.items
     c.transition.new.conts.items.items c.state_of.new.cache.conts.items.items c.args.cache.now.states.items
     c.state_of.new.cache.states.items c.args.cache.now.cells.items c.state_of.new.cache.cells.items
-    c.index.result.now c.as_slice-tops.result.now c.in-Some.front.tops.items c.in-Some.front.ended c.args.state c.in_ok-t.t
+    c.index.result.now c.as_slice-tops.result.now c.in-Some.front.tops.items c.in-Some.front.ended c.args.state
+    c.in_ok-t.t
     (get_or c.args.samples.now c.args.class 0) c.requires.cached c.in_ok-told.ensures.kept (ap
     (λ v. v.items.items) c.in_ok-t.ensures.conts)
     c.in_ok-t.ensures.is c.in_ok-t.ensures.cells
@@ -73,4 +75,5 @@ returns-clause-is c = λ d sample.
     (get_or c.args.samples.now c.args.class 0) c.args.cache.now.conts.items.items
     c.as_slice-tops.result.now c.transition.new.conts.items.items front.tops.items front.ended)) c.in-Some.is
     c.in_ok-told.ensures.is)
-    (c.any_reads.ensures.some c.if-not-any_reads.false) d (get_or_from_slice_get c.args.samples.now c.args.class d 0 sample)
+    (c.any_reads.ensures.some c.if-not-any_reads.false) d
+    (get_or_from_slice_get c.args.samples.now c.args.class d 0 sample)
