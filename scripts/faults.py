@@ -23,6 +23,7 @@ STACK = 256 * 1024
 # So many growths at most make the list of a program's words, beside one for each word before the grammar's. The list
 # asks first for all that it will need, and where that is refused it asks again, so the run can go on.
 GROWTHS_OF_WORDS = 7
+
 # A run: its name, the program and its words, the grammar, the input, the texts of the units or lines, the error output,
 # and the status.
 Run = collections.namedtuple("Run", "name program words grammar given texts told status")

@@ -45,7 +45,8 @@ module _ (p : Rule → Bool) (found : List Rule → Option Element) (none : foun
         → found rules ≡ body_by (bodies rules) (position p rules)
         → cond b (Some rule.body) (found rules) ≡ body_by (bodies (rule ∷ rules)) (position p (rule ∷ rules))
     next-there rule rules true e h =
-        rw e (sym (ap (λ (b : Bool). body_by (bodies (rule ∷ rules)) (cond b (Some 0) None)) (some-less (length rules))))
+        rw e (sym (ap (λ (b : Bool). body_by (bodies (rule ∷ rules)) (cond b (Some 0) None))
+        (some-less (length rules))))
     next-there rule rules false e h =
         rw e (h ∙ later (1 + count) (omega arith) (nat_lt count (length rules))
         ∙ ap (λ (b : Bool). body_by (bodies (rule ∷ rules)) (cond b (Some (1 + count)) None))

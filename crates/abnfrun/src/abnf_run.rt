@@ -20,11 +20,11 @@ use toolrun::{Settings, Status, run_tool};
 ///   on that are written on `err`, `Refused`. Nothing is read, and no other check is made.
 /// - Else the notes on it are written on `err`. If it is refused, or only to be checked, that is all: `Refused`, or
 ///   `Done`, and nothing is read.
-/// - A line ends before an LF, or before a NUL byte if the settings say so, and a last piece without an end is a line if
-///   it is not empty; all other bytes belong to their line. It is answered by `yes` exactly if the judged rule derives
-///   it: the rule named in the settings, or else the first. The letters of a line are its bytes; or, if the settings say
-///   so, its code points in UTF-8, and then a line that is not UTF-8 is not derived. The run ends behind the last line
-///   with `Done` if all answers are `yes`, else with `NoMatch`.
+/// - A line ends before an LF, or before a NUL byte if the settings say so, and a last piece without an end is a line
+///   if it is not empty; all other bytes belong to their line. It is answered by `yes` exactly if the judged rule
+///   derives it: the rule named in the settings, or else the first. The letters of a line are its bytes; or, if the
+///   settings say so, its code points in UTF-8, and then a line that is not UTF-8 is not derived. The run ends behind
+///   the last line with `Done` if all answers are `yes`, else with `NoMatch`.
 /// - A line that is not derived is answered by `no`. If the settings ask for viable beginnings, it is answered by `no
 ///   N`: the first N of its letters, and no more, begin something that the judged rule derives. Of a line that is not
 ///   UTF-8 these letters are those of its longest beginning that is.

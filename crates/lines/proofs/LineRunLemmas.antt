@@ -79,8 +79,8 @@ module _ (Told : List ℕ → Answer → Type 0) (form : LineForm) (input : Inpu
 module _ (Told : List ℕ → Answer → Type 0) (form : LineForm) (decided : (line : List ℕ) → (said : Answer)
     × Told line said) where
   goes_on : (input : Input) (at : At) (text : List ℕ) → Lines Told form input at text →
-      Begins (Lines Told form input) (Ends Told form input) (place_taken form.limit input) (place_taken form.limit input at)
-      text
+      Begins (Lines Told form input) (Ends Told form input) (place_taken form.limit input)
+      (place_taken form.limit input at) text
   goes_on input at text lines = lines_go_on Told form input decided at text lines
 
   -- the reader is given back as it was after the last line
@@ -92,8 +92,8 @@ module _ (Told : List ℕ → Answer → Type 0) (form : LineForm) (decided : (l
       → Flags out.was out.failed r →
       Performs (LinesReply Told form) (passed remaining failed old final) out r
   lines_were_run remaining failed ended old now final out left flow r is told run flag =
-      run_performs (Lines Told form) (Ends Told form) (place_taken form.limit) goes_on remaining failed ended old now final
-      out left flow r is told run flag
+      run_performs (Lines Told form) (Ends Told form) (place_taken form.limit) goes_on remaining failed ended old now
+      final out left flow r is told run flag
 
   -- memory was refused before the first line
   pub no_line_was_run : (r0 s0 : Option (List ℕ)) (r_was r_failed o_was : Bool) →

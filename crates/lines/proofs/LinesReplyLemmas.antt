@@ -22,8 +22,8 @@ use Rattle.lines.specs.declared.line_loop.At.{At}
 -- what stands before the first end is one
 one_front : (end : ℕ) (a b x y : List ℕ) → HasNoEnd end a → HasNoEnd end b → a ++ end ∷ x ≡ b ++ end ∷ y → a ≡ b
 one_front end [] [] x y h k e = refl
-one_front end [] (c ∷ b) x y h k e = absurd (All-head (λ v. v ≢ end) c b k (let f = ap (λ (l : List ℕ). get_or l 0 0) e in
-    sym f))
+one_front end [] (c ∷ b) x y h k e =
+    let f = ap (λ (l : List ℕ). get_or l 0 0) e in absurd (All-head (λ v. v ≢ end) c b k (sym f))
 one_front end (c ∷ a) [] x y h k e = absurd (All-head (λ v. v ≢ end) c a h (ap (λ (l : List ℕ). get_or l 0 0) e))
 one_front end (c ∷ a) (d ∷ b) x y h k e =
     let first : c ≡ d = ap (λ (l : List ℕ). get_or l 0 0) e in
@@ -114,8 +114,8 @@ module _ (Told : List ℕ → Answer → Type 0) (one_answer : (line : List ℕ)
   no_end : (at : At) (line last : List ℕ) (why : Stop) → LineAt at.place line → EndsAt at last why → ⊥
   no_end at line last why is (broken (free, short, fault)) =
       has_end form.end (drop at.place input.bytes) line is.after is.cut free
-  no_end at line last why is (overlong (free, long)) = has_end_within form.end form.limit (drop at.place input.bytes) line is.after
-      is.cut is.within free
+  no_end at line last why is (overlong (free, long)) = has_end_within form.end form.limit (drop at.place input.bytes)
+      line is.after is.cut is.within free
   no_end at line last why is (finished (empty, fine)) =
       let l = ap length is.cut in
       let m = ap length empty in

@@ -28,10 +28,12 @@ nil_of (x ∷ xs) e = absurd (omega arith)
 
 -- where no end was found
 none_found : (end : ℕ) (xs : List ℕ) → Nowhere (Passes (is_byte end) xs) 0 (length xs) → HasNoEnd end xs
-none_found end xs h = All-from_get_or (λ b. b ≢ end) xs 0 (λ i lt is. h i (omega arith) lt (rw is (eq-eqb end end refl)))
+none_found end xs h = All-from_get_or (λ b. b ≢ end) xs 0
+    (λ i lt is. h i (omega arith) lt (rw is (eq-eqb end end refl)))
 
 -- where the first one was found
-first_found : (end n : ℕ) (xs : List ℕ) → NoneBefore (Passes (is_byte end) xs) 0 (length xs) n → Passes (is_byte end) xs n →
+first_found : (end n : ℕ) (xs : List ℕ) → NoneBefore (Passes (is_byte end) xs) 0 (length xs) n
+    → Passes (is_byte end) xs n →
     (xs ≡ take n xs ++ end ∷ drop (suc n) xs) × HasNoEnd end (take n xs) × (length (take n xs) ≡ n)
 first_found end n xs before found =
     let l = length-take n xs in

@@ -174,13 +174,13 @@ fn answer_lines<W, J: Judge<W>, R: Source, O: Sink>(
 }
 
 /// Judges the lines of what a reader gives, and writes the answer to each: `yes`, `no`, or `no` and a number. The
-/// reader may neither have failed nor have told its end before, and the judge must serve lines of `form.limit` bytes and
-/// be able to work in that memory.
+/// reader may neither have failed nor have told its end before, and the judge must serve lines of `form.limit` bytes
+/// and be able to work in that memory.
 ///
 /// - A line ends before a byte `form.end`, and a last piece without one is a line if it is not empty. All other bytes
 ///   belong to their line, a CR too.
-/// - The first line of more than `form.limit` bytes ends the run: `LongLine` with its number from 1 and the limit. So it
-///   is with more than `form.limit` bytes of which none is `form.end`.
+/// - The first line of more than `form.limit` bytes ends the run: `LongLine` with its number from 1 and the limit. So
+///   it is with more than `form.limit` bytes of which none is `form.end`.
 /// - After a fault of the reader a line is judged only if its end was given; then `Broken`.
 /// - Behind the last line the run ends with `Done` if all answers are yes, else with `NoMatch`.
 /// - `NoMemory` if an allocation fails; the answers before stand whole. `WriteFault` if the output fails; then a

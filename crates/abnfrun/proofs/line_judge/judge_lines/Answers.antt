@@ -9,5 +9,5 @@ returns-in_default g c =
     let s = c.args.settings.now in
     let rules = rules_of c.args.grammar.now.rules in
     let judged = c.args.grammar.now.judged in
-    no_line_was_run (AnswersFor rules judged s) (form_of s) (c.lines_have_answers.ensures s.letters s.viable rules judged) _
-    _ _ _ _
+    no_line_was_run (AnswersFor rules judged s) (form_of s)
+    (c.lines_have_answers.ensures s.letters s.viable rules judged) _ _ _ _ _

@@ -7,7 +7,8 @@ pub returns-in-Some-clause-follows : goal.returns-in-Some-clause-follows
 returns-in-Some-clause-follows g c = λ limit before input room a.
     let feed = c.fill-held.new.self in (
       line_found feed c.args.end limit before input room c.fill-held.ensures.within a c.in-Some.k c.in-Some.ensures,
-      held_taken feed c.args.end limit before input room c.fill-held.ensures.within a c.fill-held.result c.fill-held.ensures.held,
+      held_taken feed c.args.end limit before input room c.fill-held.ensures.within a c.fill-held.result
+          c.fill-held.ensures.held,
     )
 
 pub returns-in-Some-clause-fits : goal.returns-in-Some-clause-fits
@@ -23,9 +24,10 @@ pub returns-in-None-clause-follows : goal.returns-in-None-clause-follows
 returns-in-None-clause-follows g c = λ limit before input room a.
     let feed = c.fill-held.new.self in (
       rw (c.without_end.ensures, c.len-len.ensures.len)
-          (not_found feed c.args.end limit before input room c.fill-held.ensures.within a c.in-None.ensures c.fill-held.result
-          c.fill-held.ensures.held),
-      held_taken feed c.args.end limit before input room c.fill-held.ensures.within a c.fill-held.result c.fill-held.ensures.held,
+          (not_found feed c.args.end limit before input room c.fill-held.ensures.within a c.in-None.ensures
+          c.fill-held.result c.fill-held.ensures.held),
+      held_taken feed c.args.end limit before input room c.fill-held.ensures.within a c.fill-held.result
+          c.fill-held.ensures.held,
     )
 
 pub returns-in-None-clause-fits : goal.returns-in-None-clause-fits
