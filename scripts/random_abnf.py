@@ -2,7 +2,7 @@
 import slow_abnf
 
 NAMES = ["s", "A-1", "b", "C"]
-LETTERS = b"abAB01\n"
+LETTERS = b"abAB01"
 LARGE = [7, 65536, 4294967295]
 A, B, S = ("text", b"a", False), ("text", b"b", False), ("name", "s")
 EITHER = ("alt", [A, B])
@@ -102,11 +102,11 @@ def line(r, rules, judged, longest, is_utf8, end):
     """Returns a line that the judged rule derives, or one near it, or any, without the byte that ends lines. A long
     line takes more steps."""
     if r.random() < 0.25:
-        return bytes(r.choice(LETTERS) for _ in range(r.randrange(6))).replace(end, b"")
+        return bytes(r.choice(LETTERS + b"\n") for _ in range(r.randrange(6))).replace(end, b"")
     found = bytearray(grown(r, rules, ("name", judged), 12 if longest == 10 else 4 * longest, is_utf8)[:longest])
     if r.random() < 0.4:
         at = r.randrange(len(found) + 1)
-        found[at:at + r.randrange(2)] = bytes([r.choice(LETTERS)] * r.randrange(2))
+        found[at:at + r.randrange(2)] = bytes([r.choice(LETTERS + b"\n")] * r.randrange(2))
     return bytes(found).replace(end, b"")
 
 
