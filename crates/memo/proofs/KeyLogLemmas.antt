@@ -1,8 +1,11 @@
 -- A log whose keys stand below their rows' marks.
 -- Serves: KeyLog::get, KeyLog::put
-use Rattle.std.proofs.Common.{◌≡◌, ◌⊎◌, inl, inr, ℕ, zero, suc, ◌+◌, ◌<◌, ◌≤◌, Bool, true, List, [], ◌∷◌, ◌++◌, length, refl, sym, ◌∙◌}
+use Rattle.std.proofs.Common.{◌≡◌, ◌⊎◌, inl, inr, ℕ, zero, suc, ◌+◌, ◌<◌, ◌≤◌, Bool, true, List, [], ◌∷◌, ◌++◌}
+use Rattle.std.proofs.Common.{length, refl, sym, ◌∙◌}
 use Rattle.cells.specs.declared.cell.Found.{Found}
-use Rattle.std.proofs.Common.{Option, None, IfSome, IfNone}
+use Rattle.std.proofs.Common.{Option, None, IfSome, IfNone, false, nat_lt, get_or}
+use Rattle.std.proofs.lemmas.Bool.{ltb-false}
+use Rattle.std.proofs.lemmas.Option.{slice_get_within, get_or_from_slice_get}
 use Rattle.std.proofs.Common.{subst, ap, arith, slice_get, Some, reverse, slice_set}
 use Rattle.std.proofs.lemmas.List.{reverse-append}
 use Rattle.memo.specs.Parts.{IsIn, in_here, in_later}
@@ -118,20 +121,20 @@ module _ (unit : ℕ) where
             let g = get_of_in l in
             let b = below g.index s g.at in
             let up = mark_raised high r v (row_of s.spot) b.0 b.1 b.2 w (λ same.
-                let there : slice_get high r ≡ Some b.0 = subst (λ v. slice_get high v ≡ Some b.0) same b.1 in
-                let one : b.0 ≡ now = cc (at, there) in
-                subst (λ m. m.above ≤ v.above) (sym one) (kept (subst (λ m. m.unit ≡ unit) one b.2))) in
+            let there : slice_get high r ≡ Some b.0 = subst (λ v. slice_get high v ≡ Some b.0) same b.1 in
+            let one : b.0 ≡ now = cc (at, there) in
+            subst (λ m. m.above ≤ v.above) (sym one) (kept (subst (λ m. m.unit ≡ unit) one b.2))) in
             let below_it = b.3 in
             let more = up.more in
             (up.mark, up.at, up.same, omega arith)
         | inr k ↦ elim (first_or_later k) [
           | inl same ↦ (
-              v,
-              subst (λ n. slice_get (slice_set high r v) n ≡ Some v) (row ∙ ap (λ n. row_of n.spot) (sym same))
-                  (own_mark high r v lt),
-              w,
-              subst (λ n. place_of n.spot < v.above) (sym same) less,
-            )
+            v,
+            subst (λ n. slice_get (slice_set high r v) n ≡ Some v) (row ∙ ap (λ n. row_of n.spot) (sym same))
+                (own_mark high r v lt),
+            w,
+            subst (λ n. place_of n.spot < v.above) (sym same) less,
+          )
           | inr j ↦ elim j [ ]
         ]
       ]
@@ -148,3 +151,29 @@ pub none_found : (items : List Stored) (spot : Spot) (v : Option Found)
     → IfNone v (IsIn spot (spots_of (reverse items)) → ⊥)
 none_found items spot None h = none_stored items spot h
 none_found items spot (Some f) h = tt
+
+module _ (unit : ℕ) (high there : List Mark) (items stored : List Stored) (row : ℕ) (below : AreBelow unit high items)
+    (view : reverse items ≡ stored) (same : there ≡ high) (s : Stored) (i : IsIn s stored) (is : row_of s.spot ≡ row) where
+  own_of : (mark : Mark) × (slice_get there row ≡ Some mark) × (mark.unit ≡ unit) × (place_of s.spot < mark.above)
+  own_of =
+      let b = below_mark unit high items s below (subst (IsIn s) (sym view) i) in (
+        b.0,
+        subst (λ v. slice_get there v ≡ Some b.0) is (subst (λ v. slice_get v (row_of s.spot) ≡ Some b.0) (sym same) b.1),
+        b.2,
+        b.3,
+      )
+
+  mark_read : (now : Mark) → now ≡ get_or there row now → own_of.0 ≡ now
+  mark_read now read = sym (get_or_from_slice_get there row own_of.0 now own_of.1) ∙ sym read
+
+  pub below_read : (now : Mark) → now ≡ get_or there row now → place_of s.spot < now.above
+  below_read now read = subst (λ v. place_of s.spot < v.above) (mark_read now read) own_of.3
+
+  pub unit_read : (now : Mark) → now ≡ get_or there row now → now.unit ≡ unit
+  unit_read now read = subst (λ v. v.unit ≡ unit) (mark_read now read) own_of.2
+
+  pub never_past : false ≡ nat_lt row (length there) → ⊥
+  never_past test =
+      let lt = slice_get_within there row own_of.0 own_of.1 in
+      let le = ltb-false row (length there) (sym test) in
+      omega (arith, lt, le)

@@ -19,13 +19,13 @@ module _ {V : Type 0} where
   in_either (a ∷ xs) ys in_here = inl in_here
   in_either (a ∷ xs) ys (in_later i) = elim (in_either xs ys i) [ inl l ↦ inl (in_later l) | inr r ↦ inr r ]
 
-  pub joined : {xs ys : List V} → Distinct xs → Distinct ys → ((x : V) → IsIn x xs → IsIn x ys → ⊥)
+  pub joined_distinct : {xs ys : List V} → Distinct xs → Distinct ys → ((x : V) → IsIn x xs → IsIn x ys → ⊥)
       → Distinct (xs ++ ys)
-  joined distinct_none e apart = e
-  joined {ys = ys} (distinct_more {a = a} {xs = xs} fresh d) e apart =
+  joined_distinct distinct_none e apart = e
+  joined_distinct {ys = ys} (distinct_more {a = a} {xs = xs} fresh d) e apart =
       distinct_more
       (λ i. elim (in_either xs ys i) [ inl l ↦ fresh l | inr r ↦ apart a in_here r ])
-      (joined d e (λ x l r. apart x (in_later l) r))
+      (joined_distinct d e (λ x l r. apart x (in_later l) r))
 
 module _ (V : Type 0) (Edge : V → V → Type 0) (root : V) (Kids : V → List V → Type 0) (key : V → Bool)
     (forest : IsForest V Edge root Kids key) where
@@ -166,7 +166,7 @@ module _ (V : Type 0) (Edge : V → V → Type 0) (root : V) (Kids : V → List 
     part_distinct r (part {a = a} {ks = ks} k p) =
         distinct_more
         (λ i. let up = parts_under p i in
-            no_loop r up.kid (forest.leads a up.kid ks k up.there) up.plain up.under)
+        no_loop r up.kid (forest.leads a up.kid ks k up.there) up.plain up.under)
         (parts_distinct r (λ c i. forest.leads a c ks k i) (forest.distinct a ks r k) p)
 
     parts_distinct : {a : V} {ks ps : List V} → Reach V Edge root a → ((c : V) → IsIn c ks → Edge a c) → Distinct ks
@@ -174,13 +174,13 @@ module _ (V : Type 0) (Edge : V → V → Type 0) (root : V) (Kids : V → List 
     parts_distinct r e d parts_none = distinct_none
     parts_distinct r e (distinct_more fresh d) (parts_key t p) = parts_distinct r (λ c i. e c (in_later i)) d p
     parts_distinct r e (distinct_more fresh d) (parts_more {c = c} {ks = ks} f q p) =
-        joined
+        joined_distinct
         (part_distinct (reach_edge r (e c in_here)) q)
         (parts_distinct r (λ k i. e k (in_later i)) d p)
         (λ x l m. let up = parts_under p m in
-            let is : up.kid ≡ c = one_kid r (e up.kid (in_later up.there)) (e c in_here) up.plain f up.under
-                (part_under q l) in
-            fresh (subst (λ v. IsIn v ks) is up.there))
+        let is : up.kid ≡ c = one_kid r (e up.kid (in_later up.there)) (e c in_here) up.plain f up.under
+        (part_under q l) in
+        fresh (subst (λ v. IsIn v ks) is up.there))
 
   record KeyAbove (ks : List V) (x : V) : Type 0 where
     pub top : V
@@ -200,10 +200,10 @@ module _ (V : Type 0) (Edge : V → V → Type 0) (root : V) (Kids : V → List 
       → ((k : V) → IsIn k ks → Reach V Edge root k × (key k ≡ true)) → Distinct all
   whole_distinct whole_none d r = distinct_none
   whole_distinct (whole_more {k = k} {ks = ks} q w) (distinct_more fresh d) r =
-      joined
+      joined_distinct
       (part_distinct (r k in_here).0 q)
       (whole_distinct w d (λ h i. r h (in_later i)))
       (λ x l m. let up = whole_under w m in
-          let is : up.top ≡ k = one_key (r up.top (in_later up.there)).0 (r k in_here).0
-              (r up.top (in_later up.there)).1 (r k in_here).1 up.under (part_under q l) in
-          fresh (subst (λ v. IsIn v ks) is up.there))
+      let is : up.top ≡ k = one_key (r up.top (in_later up.there)).0 (r k in_here).0
+      (r up.top (in_later up.there)).1 (r k in_here).1 up.under (part_under q l) in
+      fresh (subst (λ v. IsIn v ks) is up.there))

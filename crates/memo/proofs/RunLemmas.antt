@@ -1,6 +1,7 @@
 -- An evaluation that remembers its keys stores exactly those that are reached, and begins each spot of their parts once.
--- Serves: run_once
-use Rattle.std.proofs.Common.{◌≡◌, ◌⊎◌, inl, inr, ℕ, ◌+◌, Bool, true, false, List, [], ◌∷◌, ◌++◌, refl, sym, subst, arith, append-nil}
+-- Serves: evaluated_once
+use Rattle.std.proofs.Common.{◌≡◌, ◌⊎◌, inl, inr, ℕ, ◌+◌, Bool, true, false, List, [], ◌∷◌, ◌++◌, refl, sym, subst}
+use Rattle.std.proofs.Common.{arith, append-nil}
 use Rattle.memo.specs.Parts.{IsIn, in_here, in_later, Distinct, distinct_none, distinct_more, Reach, reach_root}
 use Rattle.memo.specs.Parts.{reach_edge, Part, part, Parts, parts_none, parts_key, parts_more, Whole, whole_none}
 use Rattle.memo.specs.Parts.{whole_more, IsForest}
@@ -63,14 +64,14 @@ module _ (V : Type 0) (Edge : V → V → Type 0) (root : V) (Kids : V → List 
 
   mutual
     -- what is stored stays so
-    grows : {a x : V} {old new : List V} {c : ℕ} → Run V Kids key weight old a new c → IsIn x old → IsIn x new
-    grows (run_stored t j) i = i
-    grows (run_key t f k r) i = in_later (grow r i)
-    grows (run_plain t k r) i = grow r i
+    run_grows : {a x : V} {old new : List V} {c : ℕ} → Run V Kids key weight old a new c → IsIn x old → IsIn x new
+    run_grows (run_stored t j) i = i
+    run_grows (run_key t f k r) i = in_later (runs_grow r i)
+    run_grows (run_plain t k r) i = runs_grow r i
 
-    grow : {x : V} {ks old new : List V} {c : ℕ} → RunAll V Kids key weight old ks new c → IsIn x old → IsIn x new
-    grow run_none i = i
-    grow (run_more r s) i = grow s (grows r i)
+    runs_grow : {x : V} {ks old new : List V} {c : ℕ} → RunAll V Kids key weight old ks new c → IsIn x old → IsIn x new
+    runs_grow run_none i = i
+    runs_grow (run_more r s) i = runs_grow s (run_grows r i)
 
   record FromKid (ks : List V) (x : V) : Type 0 where
     pub kid : V
@@ -193,8 +194,8 @@ module _ (V : Type 0) (Edge : V → V → Type 0) (root : V) (Kids : V → List 
     pub stored : (k : V) → IsIn k ks → key k ≡ true → IsIn k new
     pub closed : (k : V) → IsIn k ks → Closed new k
 
-  close : (a : V) (ks new : List V) → Kids a ks → DoneAll new ks → Closed new a
-  close a ks new k d y z u e t = elim (top_of u) [
+  close_key : (a : V) (ks new : List V) → Kids a ks → DoneAll new ks → Closed new a
+  close_key a ks new k d y z u e t = elim (top_of u) [
     | inl is ↦ d.stored z (forest.listed a z ks k (subst (λ v. Edge v z) (sym is) e)) t
     | inr h ↦ d.closed h.kid (forest.listed a h.kid ks k h.edge) y z h.under e t
   ]
@@ -204,11 +205,11 @@ module _ (V : Type 0) (Edge : V → V → Type 0) (root : V) (Kids : V → List 
   in_front (in_later j) = inr j
 
   mutual
-    pub done : {a : V} {old new : List V} {c : ℕ} → Run V Kids key weight old a new c → AllClosed old → Done new a
-    done (run_stored {a = a} t j) all = record { all = all; stored = λ is. j; closed = all a j }
-    done (run_key {a = a} {ks = ks} {new = new} t f k s) all =
+    pub run_done : {a : V} {old new : List V} {c : ℕ} → Run V Kids key weight old a new c → AllClosed old → Done new a
+    run_done (run_stored {a = a} t j) all = record { all = all; stored = λ is. j; closed = all a j }
+    run_done (run_key {a = a} {ks = ks} {new = new} t f k s) all =
         let d = done_all s all in
-        let c : Closed new a = close a ks new k d in
+        let c : Closed new a = close_key a ks new k d in
         record {
           all = λ x i. elim (in_front i) [
             | inl is ↦ λ y z u e h. in_later (c y z (subst (λ v. U v y) is u) e h)
@@ -217,23 +218,23 @@ module _ (V : Type 0) (Edge : V → V → Type 0) (root : V) (Kids : V → List 
           stored = λ is. in_here;
           closed = λ y z u e h. in_later (c y z u e h);
         }
-    done (run_plain {a = a} {ks = ks} {new = new} t k s) all =
+    run_done (run_plain {a = a} {ks = ks} {new = new} t k s) all =
         let d = done_all s all in
-        record { all = d.all; stored = λ is. absurd (cc (is, t)); closed = close a ks new k d }
+        record { all = d.all; stored = λ is. absurd (cc (is, t)); closed = close_key a ks new k d }
 
     done_all : {ks old new : List V} {c : ℕ} → RunAll V Kids key weight old ks new c → AllClosed old → DoneAll new ks
     done_all run_none all = record { all = all; stored = λ k i t. elim i [ ]; closed = λ k i. elim i [ ] }
     done_all (run_more {a = a} {mid = mid} s t) all =
-        let d = done s all in
+        let d = run_done s all in
         let e = done_all t d.all in
         record {
           all = e.all;
           stored = λ k i h. elim (in_front i) [
-            | inl is ↦ grow t (subst (λ v. IsIn v mid) (sym is) (d.stored (subst (λ v. key v ≡ true) is h)))
+            | inl is ↦ runs_grow t (subst (λ v. IsIn v mid) (sym is) (d.stored (subst (λ v. key v ≡ true) is h)))
             | inr j ↦ e.stored k j h
           ];
           closed = λ k i. elim (in_front i) [
-            | inl is ↦ λ y z u f h. grow t (d.closed y z (subst (λ v. U v y) is u) f h)
+            | inl is ↦ λ y z u f h. runs_grow t (d.closed y z (subst (λ v. U v y) is u) f h)
             | inr j ↦ e.closed k j
           ];
         }
@@ -293,11 +294,11 @@ module _ (V : Type 0) (Edge : V → V → Type 0) (root : V) (Kids : V → List 
       }
 
   mutual
-    pub counted : {a : V} {old new : List V} {c : ℕ} → Run V Kids key weight old a new c → (all : List V)
+    pub run_counted : {a : V} {old new : List V} {c : ℕ} → Run V Kids key weight old a new c → (all : List V)
         → Whole V Kids key old all → Counted new all (a ∷ []) c
-    counted (run_stored t j) all w =
+    run_counted (run_stored t j) all w =
         record { spots = all; whole = w; below = []; parts = parts_key t parts_none; count = omega arith }
-    counted (run_key {a = a} {c = c} t f k s) all w =
+    run_counted (run_key {a = a} {c = c} t f k s) all w =
         let h = counted_all s all w in
         let join = total_join V Kids key weight h.below h.spots in
         let is = h.count in
@@ -308,7 +309,7 @@ module _ (V : Type 0) (Edge : V → V → Type 0) (root : V) (Kids : V → List 
           parts = parts_key t parts_none;
           count = omega (arith, is, join);
         }
-    counted (run_plain {a = a} {c = c} t k s) all w =
+    run_counted (run_plain {a = a} {c = c} t k s) all w =
         let h = counted_all s all w in
         let join = total_join V Kids key weight h.below [] in
         let is = h.count in
@@ -325,7 +326,7 @@ module _ (V : Type 0) (Edge : V → V → Type 0) (root : V) (Kids : V → List 
     counted_all run_none all w =
         record { spots = all; whole = w; below = []; parts = parts_none; count = omega arith }
     counted_all (run_more {a = a} s t) all w =
-        let h = counted s all w in
+        let h = run_counted s all w in
         let g = counted_all t h.spots h.whole in
         joined_counts a h g
 
@@ -339,9 +340,9 @@ module _ (V : Type 0) (Edge : V → V → Type 0) (root : V) (Kids : V → List 
     pub whole : Whole V Kids key new spots
     pub count : T spots ≡ c
 
-  pub weighed : {a : V} {new : List V} {c : ℕ} → Run V Kids key weight [] a new c → key a ≡ true → Weighed new c
-  weighed {a = a} r t =
-      let h = counted r [] whole_none in
+  pub run_weighed : {a : V} {new : List V} {c : ℕ} → Run V Kids key weight [] a new c → key a ≡ true → Weighed new c
+  run_weighed {a = a} r t =
+      let h = run_counted r [] whole_none in
       let none = no_part h.parts t in
       let is = h.count in
       let zero_below : T h.below ≡ 0 = subst (λ v. T v ≡ 0) (sym none) refl in

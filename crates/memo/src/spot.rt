@@ -6,7 +6,10 @@ ghost use Rattle.memo.specs.KeyLog.{row_of, place_of};
 #[derive(Clone, Copy, PartialEq, Eq, Debug)]
 pub enum Spot {
     /// A node and a place.
-    Pair { node: usize, place: usize },
+    Pair {
+        node: usize,
+        place: usize,
+    },
     /// A node, the index of a member, and a place.
     Tail {
         node: usize,
