@@ -1,6 +1,7 @@
 -- The cells that the stored keys imply are exactly the visited pairs with their outcomes.
 -- Serves: implied_cells
-use Rattle.std.proofs.Common.{◌≡◌, ◌⊎◌, inl, inr, ℕ, ◌+◌, Bool, true, false, if◌then◌else◌, List, [], ◌∷◌, ◌++◌, length, Some, None}
+use Rattle.std.proofs.Common.{◌≡◌, ◌⊎◌, inl, inr, ℕ, ◌+◌, Bool, true, false, if◌then◌else◌, List, [], ◌∷◌, ◌++◌}
+use Rattle.std.proofs.Common.{length, Some, None}
 use Rattle.std.proofs.Common.{Option, refl, sym, subst, arith}
 use Rattle.std.specs.Prelude.{slice_get}
 use Rattle.pegread.specs.Pattern.{Rule}
@@ -12,7 +13,7 @@ use Rattle.cells.proofs.FoundAtLemmas.{is_of, is_own, is_of_own}
 use Rattle.desk.specs.State.{IsFound, HasCell}
 use Rattle.desk.specs.Visits.{Visits}
 use Rattle.desk.proofs.AsksLemmas.{is_visited}
-use Rattle.packrat.specs.Marks.{AreMarks}
+use Rattle.packrat.specs.KeyMarks.{AreMarks}
 use Rattle.memo.specs.Parts.{IsIn, in_here, in_later, Distinct, distinct_none, distinct_more, Reach, Whole, IsForest}
 use Rattle.memo.specs.Parts.{whole_none, whole_more, Part}
 use Rattle.memo.specs.declared.spot.Spot.{Spot}

@@ -1,6 +1,7 @@
 -- No more pairs are begun than there are cells of all visited pairs, nor than nodes at places.
 -- Serves: steps_hold, Packrat::match_unit
-use Rattle.std.proofs.Common.{◌≡◌, ◌⊎◌, inl, inr, ℕ, ◌+◌, ◌≤◌, Bool, true, false, if◌then◌else◌, List, [], ◌∷◌, length, Some, None, Option, refl, sym, subst, arith}
+use Rattle.std.proofs.Common.{◌≡◌, ◌⊎◌, inl, inr, ℕ, ◌+◌, ◌*◌, ◌≤◌, Bool, true, false, if◌then◌else◌, List, [], ◌∷◌}
+use Rattle.std.proofs.Common.{length, Some, None, Option, refl, sym, subst, arith}
 use Rattle.std.specs.Prelude.{slice_get}
 use Rattle.pegread.specs.Pattern.{Rule}
 use Rattle.gramcheck.specs.Nodes.{Shape}
@@ -12,7 +13,7 @@ use Rattle.cells.proofs.FoundAtLemmas.{is_of, is_own}
 use Rattle.desk.specs.State.{HasCell}
 use Rattle.desk.proofs.AreCellsLemmas.{visited_there}
 use Rattle.desk.proofs.CodeLemmas.{cells_at_most}
-use Rattle.packrat.specs.Marks.{AreMarks}
+use Rattle.packrat.specs.KeyMarks.{AreMarks}
 use Rattle.memo.specs.Parts.{IsIn, in_here, in_later, Distinct, distinct_none, distinct_more, Reach}
 use Rattle.memo.specs.Run.{total}
 use Rattle.memo.specs.declared.spot.Spot.{Spot}
@@ -21,7 +22,7 @@ use Rattle.packrat.specs.Spots.{Leads, Kids, is_key}
 use Rattle.packrat.specs.View.{weight, AreAll}
 use Rattle.packrat.proofs.EndsLemmas.{reached_ends}
 use Rattle.packrat.proofs.SpotReachLemmas.{reached_is_visited}
-use Rattle.packrat.specs.Machine.{State, held, start_at, Steps}
+use Rattle.packrat.specs.MachineSteps.{State, held, start_at, Steps}
 use Rattle.packrat.specs.SpotSteps.{NextOf, SpotSteps}
 use Rattle.packrat.proofs.GoodLemmas.{in_front, not_in, steps_are_good, weigh_less}
 use Rattle.packrat.proofs.NextOfLemmas.{is_next, forest_of}

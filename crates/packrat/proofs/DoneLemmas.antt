@@ -19,12 +19,12 @@ use Rattle.memo.specs.KeyLog.{spots_of}
 use Rattle.memo.specs.declared.key_log.Stored.{Stored}
 use Rattle.memo.specs.declared.spot.Spot.TheVariants.{Pair}
 use Rattle.packrat.specs.Done.{Contents, IsDone}
-use Rattle.packrat.specs.Marks.{AreMarks}
+use Rattle.packrat.specs.KeyMarks.{AreMarks}
 use Rattle.packrat.specs.SpotGives.{SpotGives, AreRight, node_marks, tail_marks}
 use Rattle.packrat.specs.View.{Evaluates, AreStored}
 use Rattle.packrat.specs.declared.frames.Frame.{Frame}
 use Rattle.packrat.specs.declared.marks.Marks.{Marks}
-use Rattle.packrat.proofs.EvaluatedLemmas.{evaluated_stores, evaluated_begins}
+use Rattle.packrat.proofs.EvaluatesLemmas.{evaluated_stores, evaluated_begins}
 
 module _ (g : Grammar) (x : List ℕ) (sound : IsSoundGrammar g) where
   pub start_gives : (root : ℕ) (f : Found) → slice_get g.bodies g.start ≡ Some root → SpotGives g x (Pair root 0) f

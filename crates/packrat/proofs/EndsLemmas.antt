@@ -1,6 +1,7 @@
 -- Where a reached spot leads, step by step, comes to an end.
 -- Serves: evaluated_once
-use Rattle.std.proofs.Common.{◌≡◌, ◌⊎◌, inl, inr, ℕ, zero, suc, ◌+◌, ◌<◌, ◌≤◌, List, [], ◌∷◌, Some, drop, refl, sym, subst, ◌∙◌, arith}
+use Rattle.std.proofs.Common.{◌≡◌, ◌⊎◌, inl, inr, ℕ, zero, suc, ◌+◌, ◌<◌, ◌≤◌, List, [], ◌∷◌, Some, drop, refl, sym}
+use Rattle.std.proofs.Common.{subst, ◌∙◌, arith}
 use Rattle.std.specs.Prelude.{slice_get}
 use Rattle.pegread.specs.Pattern.{Rule}
 use Rattle.gramcheck.specs.Nodes as node
@@ -79,31 +80,31 @@ module _ (rules : List Rule) (start : ℕ) (nodes : List Shape) (bodies ranks x 
               (λ k a. on k (alternative_later (subst (λ v. NodeFails rules nodes bodies x v p) own e.2) a)))
         ])
 
-    ask : (m q : ℕ) (shape : Shape) → slice_get nodes n ≡ Some shape → AsksBy rules nodes bodies x shape n p m q
+    ask_ends : (m q : ℕ) (shape : Shape) → slice_get nodes n ≡ Some shape → AsksBy rules nodes bodies x shape n p m q
         → E (Pair m q)
-    ask m q shape at by = below m q (record { shape = shape; at = at; by = by })
+    ask_ends m q shape at by = below m q (record { shape = shape; at = at; by = by })
 
     end_by : (b : Spot) (shape : Shape) → slice_get nodes n ≡ Some shape
         → LeadsBy rules nodes bodies x (way_of n shape) n p b → E b
     end_by b node.Any at l = absurd l
     end_by b (node.Bytes bs) at l = absurd l
     end_by b (node.Set s) at l = absurd l
-    end_by b (node.Name id) at l = end_as b (Pair l.0 p) l.2 (ask l.0 p (node.Name id) at (l.1, refl))
+    end_by b (node.Name id) at l = end_as b (Pair l.0 p) l.2 (ask_ends l.0 p (node.Name id) at (l.1, refl))
     end_by b (node.Seq ms) at l = end_as b (Tail n zero p) l.2
         (rest_ends ms at ms zero p (drop_none ms) (λ m r a. record { shape = node.Seq ms; at = at; by = a }))
     end_by b (node.Choice ms) at l = end_as b (Tail n zero p) l.2
         (others_end ms at ms zero (drop_none ms) (λ m a. record { shape = node.Choice ms; at = at; by = (a, refl) }))
     end_by b (node.Star k) at l = elim l [
-      | inl e ↦ end_as b (Pair k p) e (ask k p (node.Star k) at (inl (refl, refl)))
-      | inr e ↦ end_as b (Pair n e.0) e.2 (ask n e.0 (node.Star k) at (inr (refl, e.1)))
+      | inl e ↦ end_as b (Pair k p) e (ask_ends k p (node.Star k) at (inl (refl, refl)))
+      | inr e ↦ end_as b (Pair n e.0) e.2 (ask_ends n e.0 (node.Star k) at (inr (refl, e.1)))
     ]
     end_by b (node.Plus k s) at l = elim l [
-      | inl e ↦ end_as b (Pair k p) e (ask k p (node.Plus k s) at (inl (refl, refl)))
-      | inr e ↦ end_as b (Pair s e.0) e.2 (ask s e.0 (node.Plus k s) at (inr (refl, e.1)))
+      | inl e ↦ end_as b (Pair k p) e (ask_ends k p (node.Plus k s) at (inl (refl, refl)))
+      | inr e ↦ end_as b (Pair s e.0) e.2 (ask_ends s e.0 (node.Plus k s) at (inr (refl, e.1)))
     ]
-    end_by b (node.Opt k) at l = end_as b (Pair k p) l (ask k p (node.Opt k) at (refl, refl))
-    end_by b (node.And k) at l = end_as b (Pair k p) l (ask k p (node.And k) at (refl, refl))
-    end_by b (node.Not k) at l = end_as b (Pair k p) l (ask k p (node.Not k) at (refl, refl))
+    end_by b (node.Opt k) at l = end_as b (Pair k p) l (ask_ends k p (node.Opt k) at (refl, refl))
+    end_by b (node.And k) at l = end_as b (Pair k p) l (ask_ends k p (node.And k) at (refl, refl))
+    end_by b (node.Not k) at l = end_as b (Pair k p) l (ask_ends k p (node.Not k) at (refl, refl))
     end_by b (node.Act t) at l = absurd l
     end_by b node.Open at l = absurd l
     end_by b node.Close at l = absurd l

@@ -1,12 +1,14 @@
 -- On its way the machine begins reached vertices, each once, of which none that is stored is on the stack.
--- Serves: spot_steps
-use Rattle.std.proofs.Common.{◌≡◌, ◌⊎◌, inl, inr, ℕ, zero, suc, ◌+◌, ◌*◌, ◌-◌, ◌<◌, ◌≤◌, Bool, true, false, List, [], ◌∷◌, ◌++◌, length, refl, sym, subst, arith}
+-- Serves: steps_hold, Packrat::match_unit
+use Rattle.std.proofs.Common.{◌≡◌, ◌⊎◌, inl, inr, ℕ, zero, suc, ◌+◌, ◌*◌, ◌-◌, ◌<◌, ◌≤◌, Bool, true, false, List, []}
+use Rattle.std.proofs.Common.{◌∷◌, ◌++◌, length, refl, sym, subst, arith}
 use Rattle.memo.specs.Parts.{IsIn, in_here, in_later, Distinct, distinct_none, distinct_more, Reach, reach_root}
 use Rattle.memo.specs.Parts.{reach_edge, IsForest}
 use Rattle.memo.specs.Run.{total, Ends, ends}
 use Rattle.memo.proofs.PartsLemmas.{in_left, in_right, in_either}
-use Rattle.packrat.specs.Machine.{Level, Held, State, Asks, Works, held, stack_of, store, Step, step_stored, step_begin}
-use Rattle.packrat.specs.Machine.{step_next, step_last, Steps, steps_none, steps_more, start_at, IsNext, IsGood}
+use Rattle.packrat.specs.MachineSteps.{Level, Held, State, Asks, Works, held, stack_of, store, Step, step_stored}
+use Rattle.packrat.specs.MachineSteps.{step_begin}
+use Rattle.packrat.specs.MachineSteps.{step_next, step_last, Steps, steps_none, steps_more, start_at, IsNext, IsGood}
 
 pub in_front : {V : Type 0} {x b : V} {l : List V} → IsIn x (b ∷ l) → (x ≡ b) ⊎ IsIn x l
 in_front in_here = inl refl
@@ -305,10 +307,10 @@ module _ (V : Type 0) (Edge : V → V → Type 0) (root : V) (Kids : V → List 
       pub weighs : T ys ≡ weight a + T rest
       pub others : (b : V) → IsIn b ys → (b ≡ a) ⊎ IsIn b rest
 
-    without : {a : V} {ys : List V} → IsIn a ys → Without a ys
-    without (in_here {xs = xs}) = record { rest = xs; weighs = refl; others = λ b i. in_front i }
-    without (in_later {b = c} {xs = xs} i) =
-        let h = without i in
+    without_one : {a : V} {ys : List V} → IsIn a ys → Without a ys
+    without_one (in_here {xs = xs}) = record { rest = xs; weighs = refl; others = λ b i. in_front i }
+    without_one (in_later {b = c} {xs = xs} i) =
+        let h = without_one i in
         let is = h.weighs in
         record {
           rest = c ∷ h.rest;
@@ -322,7 +324,7 @@ module _ (V : Type 0) (Edge : V → V → Type 0) (root : V) (Kids : V → List 
     pub weigh_less : (xs ys : List V) → Distinct xs → ((a : V) → IsIn a xs → IsIn a ys) → T xs ≤ T ys
     weigh_less [] ys d among = omega arith
     weigh_less (a ∷ xs) ys d among =
-        let h = without (among a in_here) in
+        let h = without_one (among a in_here) in
         let le = weigh_less xs h.rest (rest_distinct d) (λ b i. elim (h.others b (among b (in_later i))) [
           | inl same ↦ absurd (first_fresh d (subst (λ v. IsIn v xs) same i))
           | inr j ↦ j

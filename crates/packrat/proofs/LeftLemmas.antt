@@ -1,6 +1,7 @@
 -- Each turn of the machine's loop lowers what is left.
 -- Serves: Packrat::match_unit
-use Rattle.std.proofs.Common.{◌≡◌, ◌⊎◌, inl, inr, ℕ, zero, suc, ◌+◌, ◌*◌, ◌-◌, ◌<◌, ◌≤◌, max, Bool, true, false, List, [], ◌∷◌}
+use Rattle.std.proofs.Common.{◌≡◌, ◌⊎◌, inl, inr, ℕ, zero, suc, ◌+◌, ◌*◌, ◌-◌, ◌<◌, ◌≤◌, max, Bool, true, false, List}
+use Rattle.std.proofs.Common.{[], ◌∷◌}
 use Rattle.std.proofs.Common.{length, Some, refl, sym, subst, ap, arith}
 use Rattle.std.specs.Prelude.{slice_get}
 use Rattle.pegread.specs.PegViews.{rules_of}
@@ -10,10 +11,12 @@ use Rattle.gramcheck.specs.Nodes.{Shape, shapes_of}
 use Rattle.cells.specs.declared.cell.Found.{Found}
 use Rattle.memo.specs.declared.spot.Spot.{Spot}
 use Rattle.memo.specs.declared.spot.Spot.TheVariants.{Pair, Tail}
-use Rattle.packrat.specs.Left.{members_of, most_members, ask_cost, wait_cost, frames_cost, turn_cost, most_begun, left}
+use Rattle.packrat.specs.TurnsLeft.{members_of, most_members, ask_cost, wait_cost, frames_cost, turn_cost, most_begun}
+use Rattle.packrat.specs.TurnsLeft.{left}
 use Rattle.packrat.specs.Onward.{HasMember, IsWell}
 use Rattle.packrat.specs.SpotSteps.{FirstBy, TailFirstBy, IsFirst}
-use Rattle.packrat.specs.Spots.{Way, Leaf, Body, Members, Alternatives, Turns, Operand, way_of, KidsBy, TailKidsBy, Kids}
+use Rattle.packrat.specs.Spots.{Way, Leaf, Body, Members, Alternatives, Turns, Operand, way_of, KidsBy, TailKidsBy}
+use Rattle.packrat.specs.Spots.{Kids}
 use Rattle.packrat.specs.View.{weight}
 use Rattle.packrat.specs.declared.frames.Frame.{Frame}
 use Rattle.packrat.specs.declared.machine.Turn.{Turn}

@@ -5,7 +5,7 @@ pub mod SpotAskersLemmas
 pub mod SpotReachLemmas
 pub mod AreImpliedLemmas
 pub mod EndsLemmas
-pub mod EvaluatedLemmas
+pub mod EvaluatesLemmas
 pub mod SpotGivesLemmas
 pub mod DoneLemmas
 pub mod OneViewLemmas

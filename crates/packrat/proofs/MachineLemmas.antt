@@ -1,10 +1,12 @@
 -- Where the machine comes to its end, it has made an evaluation; and to each evaluation it comes.
--- Serves: spot_steps
-use Rattle.std.proofs.Common.{◌≡◌, ◌⊎◌, inl, inr, ℕ, ◌+◌, Bool, true, false, List, [], ◌∷◌, ◌++◌, refl, sym, subst, arith, append-nil}
+-- Serves: steps_run, Packrat::match_unit
+use Rattle.std.proofs.Common.{◌≡◌, ◌⊎◌, inl, inr, ℕ, ◌+◌, Bool, true, false, List, [], ◌∷◌, ◌++◌, refl, sym, subst}
+use Rattle.std.proofs.Common.{arith, append-nil}
 use Rattle.memo.specs.Parts.{IsIn, in_here, in_later, Reach}
 use Rattle.memo.specs.Run.{Run, run_stored, run_key, run_plain, RunAll, run_none, run_more, total}
-use Rattle.packrat.specs.Machine.{Level, Held, State, Asks, Works, store, Step, step_stored, step_begin, step_next, step_last}
-use Rattle.packrat.specs.Machine.{Steps, steps_none, steps_more, start_at, IsNext}
+use Rattle.packrat.specs.MachineSteps.{Level, Held, State, Asks, Works, store, Step, step_stored, step_begin}
+use Rattle.packrat.specs.MachineSteps.{step_next, step_last}
+use Rattle.packrat.specs.MachineSteps.{Steps, steps_none, steps_more, start_at, IsNext}
 
 module _ (V : Type 0) (Kids : V → List V → Type 0) (Next : V → List V → V → Type 0) (key : V → Bool) (weight : V → ℕ)
     where
@@ -55,34 +57,34 @@ module _ (V : Type 0) (Kids : V → List V → Type 0) (Next : V → List V → 
     Standing (Asks b h) = Waits h.levels b h.stored (T h.begun)
     Standing (Works h) = Working h.levels h.stored (T h.begun)
 
-    answered : (fs : List (Level V)) (b : V) (old new : List V) (c d e : ℕ) → Waits fs b old c → R old b new d
+    run_answered : (fs : List (Level V)) (b : V) (old new : List V) (c d e : ℕ) → Waits fs b old c → R old b new d
         → e ≡ c + d → Working fs new e
-    answered [] b old new c d e w r is =
+    run_answered [] b old new c d e w r is =
         let none = w.2 in
         run_as (omega (arith, none, is)) (subst (λ v. R v root new d) w.1 (subst (λ v. R old v new d) w.0 r))
-    answered (f ∷ fs) b old new c d e w r is =
+    run_answered (f ∷ fs) b old new c d e w r is =
         let one = w.7 in
         (w.0, w.2, w.3 + d, w.5, subst (λ v. RA w.0 v new (w.3 + d)) (sym w.4) (run_snoc w.6 r), omega (arith, one, is), w.8)
 
     stand_on : {s t : State V} → Step V Kids Next key s t → Standing s → Standing t
     stand_on (step_stored {b = b} {fs = fs} {st = st} {bg = bg} t i) w =
-        answered fs b st st (T bg) 0 (T bg) w (run_stored t i) (omega arith)
+        run_answered fs b st st (T bg) 0 (T bg) w (run_stored t i) (omega arith)
     stand_on (step_begin {b = b} {fs = fs} {st = st} {bg = bg} fresh) w =
         (st, T bg, 0, fresh, run_none, omega arith, w)
     stand_on (step_next {a = a} {k = k} {asked = asked} n) w =
         (w.0, asked, w.1, w.2, refl, w.3, w.4, w.5, w.6)
     stand_on (step_last {a = a} {asked = asked} {st = st} {bg = bg} {fs = fs} k) w =
         let is = w.5 in
-        answered fs a w.0 (store V (key a) a st) w.1 (weight a + w.2) (T bg) w.6 (run_of w.3 k w.4) (omega (arith, is))
+        run_answered fs a w.0 (store V (key a) a st) w.1 (weight a + w.2) (T bg) w.6 (run_of w.3 k w.4) (omega (arith, is))
 
-    standing : {s : State V} → Steps V Kids Next key (start_at V root) s → Standing s
-    standing steps_none = (refl, refl, refl)
-    standing (steps_more r t) = stand_on t (standing r)
+    steps_stand : {s : State V} → Steps V Kids Next key (start_at V root) s → Standing s
+    steps_stand steps_none = (refl, refl, refl)
+    steps_stand (steps_more r t) = stand_on t (steps_stand r)
 
     pub run_of_steps : (st bg : List V)
         → Steps V Kids Next key (start_at V root) (Works (record { levels = []; stored = st; begun = bg }))
         → R [] root st (T bg)
-    run_of_steps st bg s = standing s
+    run_of_steps st bg s = steps_stand s
 
   steps_join : {s t u : State V} → Steps V Kids Next key s t → Steps V Kids Next key t u → Steps V Kids Next key s u
   steps_join p steps_none = p
@@ -99,12 +101,12 @@ module _ (V : Type 0) (Kids : V → List V → Type 0) (Next : V → List V → 
       pub count : T begun ≡ n
       pub steps : Steps V Kids Next key s (Works (record { levels = fs; stored = new; begun = begun }))
 
-    closes : (a : V) (ks old new bg : List V) (c : ℕ) (fs : List (Level V)) → Fresh a old → Kids a ks
+    spot_closes : (a : V) (ks old new bg : List V) (c : ℕ) (fs : List (Level V)) → Fresh a old → Kids a ks
         → Comes (Works (record { levels = record { at = a; asked = [] } ∷ fs; stored = old; begun = a ∷ bg }))
         (record { at = a; asked = ks } ∷ fs) new (c + T (a ∷ bg))
         → Comes (Asks a (record { levels = fs; stored = old; begun = bg })) fs (store V (key a) a new)
         ((weight a + c) + T bg)
-    closes a ks old new bg c fs fresh k h =
+    spot_closes a ks old new bg c fs fresh k h =
         let is = h.count in
         record {
           begun = h.begun;
@@ -113,18 +115,18 @@ module _ (V : Type 0) (Kids : V → List V → Type 0) (Next : V → List V → 
         }
 
     mutual
-      comes : {a : V} {old new : List V} {c : ℕ} → R old a new c → (fs : List (Level V)) (bg : List V)
+      run_comes : {a : V} {old new : List V} {c : ℕ} → R old a new c → (fs : List (Level V)) (bg : List V)
           → Comes (Asks a (record { levels = fs; stored = old; begun = bg })) fs new (c + T bg)
-      comes (run_stored t i) fs bg =
+      run_comes (run_stored t i) fs bg =
           record { begun = bg; count = omega arith; steps = steps_more steps_none (step_stored t i) }
-      comes (run_key {a = a} {ks = ks} {old = old} {new = new} {c = c} t f k r) fs bg =
+      run_comes (run_key {a = a} {ks = ks} {old = old} {new = new} {c = c} t f k r) fs bg =
           subst (λ v. Comes (Asks a (record { levels = fs; stored = old; begun = bg })) fs (store V v a new)
           ((weight a + c) + T bg)) t
-          (closes a ks old new bg c fs (λ _. f) k (come_all r a [] fs (a ∷ bg) k))
-      comes (run_plain {a = a} {ks = ks} {old = old} {new = new} {c = c} t k r) fs bg =
+          (spot_closes a ks old new bg c fs (λ _. f) k (come_all r a [] fs (a ∷ bg) k))
+      run_comes (run_plain {a = a} {ks = ks} {old = old} {new = new} {c = c} t k r) fs bg =
           subst (λ v. Comes (Asks a (record { levels = fs; stored = old; begun = bg })) fs (store V v a new)
           ((weight a + c) + T bg)) t
-          (closes a ks old new bg c fs (λ is. absurd (cc (is, t))) k (come_all r a [] fs (a ∷ bg) k))
+          (spot_closes a ks old new bg c fs (λ is. absurd (cc (is, t))) k (come_all r a [] fs (a ∷ bg) k))
 
       come_all : {ks old new : List V} {c : ℕ} → RA old ks new c → (a : V) (before : List V) (fs : List (Level V))
           (bg : List V) → Kids a (before ++ ks)
@@ -139,7 +141,7 @@ module _ (V : Type 0) (Kids : V → List V → Type 0) (Next : V → List V → 
             (sym (append-nil before)) steps_none;
       }
       come_all {old = old} {new = new} (run_more {a = b} {ks = ks} {mid = mid} {c = c} {d = d} r s) a before fs bg k =
-          let h = comes r (record { at = a; asked = before ++ b ∷ [] } ∷ fs) bg in
+          let h = run_comes r (record { at = a; asked = before ++ b ∷ [] } ∷ fs) bg in
           let whole = append_assoc before (b ∷ []) ks in
           let g = come_all s a (before ++ b ∷ []) fs h.begun (subst (Kids a) (sym whole) k) in
           let one = h.count in
@@ -157,6 +159,6 @@ module _ (V : Type 0) (Kids : V → List V → Type 0) (Next : V → List V → 
     pub steps_of_run : (root : V) (st : List V) (c : ℕ) → R [] root st c → (bg : List V) × (T bg ≡ c)
         × Steps V Kids Next key (start_at V root) (Works (record { levels = []; stored = st; begun = bg }))
     steps_of_run root st c r =
-        let h = comes r [] [] in
+        let h = run_comes r [] [] in
         let is = h.count in
         (h.begun, omega (arith, is), h.steps)

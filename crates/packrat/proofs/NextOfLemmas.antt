@@ -1,6 +1,7 @@
 -- What a spot asks for next is led to, fresh, and as its list has it.
--- Serves: spot_steps
-use Rattle.std.proofs.Common.{◌≡◌, ◌⊎◌, inl, inr, ℕ, zero, suc, ◌+◌, ◌<◌, ◌≤◌, Bool, true, false, List, [], ◌∷◌, ◌++◌, length, Some, None, Option, refl, sym, subst, ap, arith}
+-- Serves: steps_run, steps_hold, Packrat::match_unit
+use Rattle.std.proofs.Common.{◌≡◌, ◌⊎◌, inl, inr, ℕ, zero, suc, ◌+◌, ◌<◌, ◌≤◌, Bool, true, false, List, [], ◌∷◌, ◌++◌}
+use Rattle.std.proofs.Common.{length, Some, None, Option, refl, sym, subst, ap, arith}
 use Rattle.std.specs.Prelude.{slice_get}
 use Rattle.pegread.specs.Pattern.{Rule}
 use Rattle.gramcheck.specs.Nodes.{Shape}
@@ -8,7 +9,7 @@ use Rattle.gramcheck.specs.Sound.{IsRanked}
 use Rattle.cells.specs.declared.cell.Found.{Found}
 use Rattle.cells.specs.Entries.{Entry, found_at}
 use Rattle.desk.specs.Visits.{Visits}
-use Rattle.packrat.specs.Marks.{AreMarks}
+use Rattle.packrat.specs.KeyMarks.{AreMarks}
 use Rattle.memo.specs.Parts.{IsIn, in_here, in_later, Distinct, distinct_none, distinct_more, Reach, IsForest}
 use Rattle.memo.specs.Run.{total}
 use Rattle.memo.specs.declared.spot.Spot.{Spot}
@@ -18,7 +19,7 @@ use Rattle.packrat.specs.Spots.{Leads, KidsBy, TailKidsBy, Kids, is_key}
 use Rattle.packrat.specs.View.{weight, AreAll}
 use Rattle.packrat.proofs.AreImpliedLemmas.{is_forest}
 use Rattle.packrat.proofs.SpotKidsLemmas.{one_in}
-use Rattle.packrat.specs.Machine.{IsNext}
+use Rattle.packrat.specs.MachineSteps.{IsNext}
 use Rattle.packrat.specs.SpotSteps.{FirstBy, TailFirstBy, IsFirst, NextOf, next_first, next_second}
 use Rattle.packrat.proofs.GoodLemmas.{not_in, first_fresh}
 

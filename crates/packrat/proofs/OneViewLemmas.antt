@@ -1,6 +1,7 @@
 -- The stored keys imply one list of cells.
 -- Serves: one_view
-use Rattle.std.proofs.Common.{◌≡◌, ◌⊎◌, inl, inr, ℕ, zero, suc, Bool, true, false, List, [], ◌∷◌, ◌++◌, Some, None, refl, sym, subst, ap}
+use Rattle.std.proofs.Common.{◌≡◌, ◌⊎◌, inl, inr, ℕ, zero, suc, Bool, true, false, List, [], ◌∷◌, ◌++◌, Some, None}
+use Rattle.std.proofs.Common.{refl, sym, subst, ap}
 use Rattle.std.specs.Prelude.{slice_get}
 use Rattle.pegread.specs.Pattern.{Rule}
 use Rattle.gramcheck.specs.Nodes.{Shape}
@@ -15,7 +16,8 @@ use Rattle.desk.proofs.NodeGivesLemmas.{same_node}
 use Rattle.memo.specs.declared.spot.Spot.{Spot}
 use Rattle.memo.specs.declared.spot.Spot.TheVariants.{Pair, Tail}
 use Rattle.memo.specs.Parts.{Part, part, Parts, parts_none, parts_key, parts_more, Whole, whole_none, whole_more}
-use Rattle.packrat.specs.Spots.{Way, Leaf, Body, Members, Alternatives, Turns, Operand, way_of, KidsBy, TailKidsBy, Kids}
+use Rattle.packrat.specs.Spots.{Way, Leaf, Body, Members, Alternatives, Turns, Operand, way_of, KidsBy, TailKidsBy}
+use Rattle.packrat.specs.Spots.{Kids}
 use Rattle.packrat.specs.Spots.{is_key}
 use Rattle.packrat.specs.View.{CellsOf, cells_none, cells_rest, cells_pair, AreImplied}
 use Rattle.packrat.proofs.SpotKidsLemmas.{takes_same, takes_fails}

@@ -1,6 +1,7 @@
 -- A spot that is no key is led to by one alone.
 -- Serves: implied_cells
-use Rattle.std.proofs.Common.{◌≡◌, ◌⊎◌, inl, inr, ℕ, zero, suc, ◌+◌, Bool, true, false, List, Some, refl, sym, subst, arith}
+use Rattle.std.proofs.Common.{◌≡◌, ◌⊎◌, inl, inr, ℕ, zero, suc, ◌+◌, Bool, true, false, List, Some, refl, sym, subst}
+use Rattle.std.proofs.Common.{arith}
 use Rattle.std.specs.Prelude.{slice_get}
 use Rattle.pegread.specs.Pattern.{Rule}
 use Rattle.gramcheck.specs.Nodes as node
@@ -13,8 +14,8 @@ use Rattle.memo.specs.declared.spot.Spot.{Spot}
 use Rattle.memo.specs.declared.spot.Spot.TheVariants.{Pair, Tail}
 use Rattle.packrat.specs.Spots.{Way, Leaf, Body, Members, Alternatives, Turns, Operand, way_of}
 use Rattle.packrat.specs.Spots.{LeadsBy, TailLeadsBy, Leads, is_key}
-use Rattle.packrat.specs.Marks.{WayNames, WayNamesOnce, DoesNotRepeat, IsPlain, Single, single_root, single_below}
-use Rattle.packrat.specs.Marks.{AreMarks, IsLoop, WayEntersOnce}
+use Rattle.packrat.specs.KeyMarks.{WayNames, WayNamesOnce, DoesNotRepeat, IsPlain, Single, single_root, single_below}
+use Rattle.packrat.specs.KeyMarks.{AreMarks, IsLoop, WayEntersOnce}
 use Rattle.std.proofs.Common.{length, ◌<◌, ◌≤◌}
 use Rattle.desk.proofs.AsksLemmas.{goes_onward, is_visited}
 use Rattle.packrat.proofs.SpotReachLemmas.{reached_is_visited}
@@ -439,8 +440,8 @@ module _ (rules : List Rule) (start : ℕ) (nodes : List Shape) (bodies ranks x 
     ]
 
     -- turns lead forward
-    forward : (p q : ℕ) → R (Pair m p) → Turn p q → p < q
-    forward p q r t =
+    turns_forward : (p q : ℕ) → R (Pair m p) → Turn p q → p < q
+    turns_forward p q r t =
         let v = is_visited rules start nodes bodies ranks x sound
             (reached_is_visited rules start nodes bodies x root is_root m p r) in
         let on = goes_onward rules start nodes bodies ranks x sound loop.operand p q v.high t in
@@ -455,7 +456,7 @@ module _ (rules : List Rule) (start : ℕ) (nodes : List Shape) (bodies ranks x 
 
     turned_on : {p q : ℕ} → Turned p q → p ≤ q
     turned_on no_turn = omega arith
-    turned_on (one_turn {q = q} {r = r} t v h) = let one = turned_on t in let two = forward q r v h in omega arith
+    turned_on (one_turn {q = q} {r = r} t v h) = let one = turned_on t in let two = turns_forward q r v h in omega arith
 
     turned_from : {p q r : ℕ} → R (Pair m p) → Turn p q → Turned q r → Turned p r
     turned_from v h no_turn = one_turn no_turn v h
@@ -497,14 +498,14 @@ module _ (rules : List Rule) (start : ℕ) (nodes : List Shape) (bodies ranks x 
             loop.not_root (subst (λ v. slice_get bodies start ≡ Some v) same is_root))
 
     -- each of its places is reached from an entry by turns
-    entered : {b : Spot} → R b → (q : ℕ) → b ≡ Pair m q → Entered q
-    entered reach_root q is =
+    entered_once : {b : Spot} → R b → (q : ℕ) → b ≡ Pair m q → Entered q
+    entered_once reach_root q is =
         absurd (let same : root ≡ m = cc is in
             loop.not_root (subst (λ v. slice_get bodies start ≡ Some v) same is_root))
-    entered (reach_edge {a = a} r l) q is = elim (led_in a q (subst (L a) is l)) [
+    entered_once (reach_edge {a = a} r l) q is = elim (led_in a q (subst (L a) is l)) [
       | inl e ↦ record { place = q; spot = a; reached = r; enters = e; turned = no_turn }
       | inr t ↦
-          let before = entered r t.0 t.1 in
+          let before = entered_once r t.0 t.1 in
           record {
             place = before.place;
             spot = before.spot;
@@ -520,10 +521,10 @@ module _ (rules : List Rule) (start : ℕ) (nodes : List Shape) (bodies ranks x 
 
     not_back : (q p : ℕ) (a : Spot) → Enters q a → R a → R (Pair m p) → Turn p q → ⊥
     not_back q p a e s r t =
-        let b = entered r p refl in
+        let b = entered_once r p refl in
         let is = (one_entry q b.place a b.spot e b.enters s b.reached).1 in
         let low = turned_on b.turned in
-        let less = forward p q r t in
+        let less = turns_forward p q r t in
         omega arith
 
     same_turn : (p r q : ℕ) → R (Pair m p) → R (Pair m r) → Turn p q → Turn r q → Turned p r → p ≡ r
@@ -532,7 +533,7 @@ module _ (rules : List Rule) (start : ℕ) (nodes : List Shape) (bodies ranks x 
       | inr f ↦
           let is : f.next ≡ q = takes_same rules start nodes bodies ranks x sound f.turn t in
           let low = turned_on f.rest in
-          let less = forward r q w u in
+          let less = turns_forward r q w u in
           absurd (omega arith)
     ]
 
@@ -547,8 +548,8 @@ module _ (rules : List Rule) (start : ℕ) (nodes : List Shape) (bodies ranks x 
         | inr u ↦
             let v = subst R t.1 r in
             let w = subst R u.1 s in
-            let c = entered v t.0 refl in
-            let d = entered w u.0 refl in
+            let c = entered_once v t.0 refl in
+            let d = entered_once w u.0 refl in
             let start_same : d.place ≡ c.place = (one_entry d.place c.place d.spot c.spot d.enters c.enters d.reached
                 c.reached).1 in
             let other : Turned c.place u.0 = subst (λ z. Turned z u.0) start_same d.turned in

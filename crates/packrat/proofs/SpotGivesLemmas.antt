@@ -1,6 +1,7 @@
 -- What a spot gives, from what those give to which it leads.
 -- Serves: Packrat::match_unit
-use Rattle.std.proofs.Common.{◌≡◌, ◌⊎◌, inl, inr, ℕ, zero, suc, ◌+◌, ◌<◌, ◌≤◌, max, Bool, true, false, List, [], ◌∷◌, ◌++◌, length}
+use Rattle.std.proofs.Common.{◌≡◌, ◌⊎◌, inl, inr, ℕ, zero, suc, ◌+◌, ◌<◌, ◌≤◌, max, Bool, true, false, List, [], ◌∷◌}
+use Rattle.std.proofs.Common.{◌++◌, length}
 use Rattle.std.proofs.Common.{drop, Some, None, Ok, Err, Result, IfOk, OnOk, refl, sym, subst, ap, arith, ◌∙◌}
 use Rattle.std.specs.Prelude.{slice_get, ◌==◌}
 use Rattle.std.proofs.lemmas.Bool.{eqb-true, eq-eqb}
@@ -24,16 +25,14 @@ use Rattle.desk.proofs.GivesLemmas.{opt_gives_none, and_gives_takes, and_gives_f
 use Rattle.gramcheck.specs.Nodes.{spells_act, spells_open, spells_close}
 use Rattle.gramcheck.specs.Outcome.{Acted, Opened, Closed, act, open_at, close_at}
 use Rattle.desk.proofs.NodeGivesLemmas.{gives_as}
-use Rattle.packrat.specs.declared.marks.Marks.{Marks}
 use Rattle.memo.specs.declared.key_log.Stored.{Stored}
 use Rattle.memo.specs.declared.spot.Spot.{Spot}
 use Rattle.memo.specs.declared.spot.Spot.TheVariants.{Pair, Tail}
 use Rattle.packrat.specs.SpotGives.{MembersGive, members_none, members_fail, members_take, AlternativesGive}
 use Rattle.packrat.specs.SpotGives.{alternatives_none, alternatives_take, alternatives_fail, TailGives, SpotGives}
-use Rattle.packrat.specs.SpotGives.{AreRight, Runs, RunsAll, node_marks, tail_marks}
+use Rattle.packrat.specs.SpotGives.{AreRight}
 use Rattle.memo.specs.KeyLog.{spots_of}
 use Rattle.memo.specs.Parts.{IsIn, in_here, in_later}
-use Rattle.memo.specs.Run.{run_stored, run_key, run_plain, run_none, run_more}
 use Rattle.packrat.specs.Spots.{Kids, is_key}
 use Rattle.packrat.specs.View.{weight}
 use Rattle.memo.proofs.KeyLogLemmas.{spot_of_stored}
@@ -263,31 +262,31 @@ module _ (g : Grammar) (x : List ℕ) (sound : IsSoundGrammar g) where
       (subst (λ v. AlternativesGive g x p v Failed) (sym (nil_of ms none)) alternatives_none)
 
   module _ (n i p m : ℕ) (ms : List ℕ) (there : slice_get ms i ≡ Some m) where
-    front : m ∷ drop (suc i) ms ≡ drop i ms
-    front = sym (front_drop ms i m there)
+    front_member : m ∷ drop (suc i) ms ≡ drop i ms
+    front_member = sym (front_drop ms i m there)
 
     pub rest_fails_at : At n (node.Seq ms) → NF m p → SG (Tail n i p) Failed
-    rest_fails_at at d = (node.Seq ms, at, subst (λ v. MembersGive g x v p Failed) front (members_fail d))
+    rest_fails_at at d = (node.Seq ms, at, subst (λ v. MembersGive g x v p Failed) front_member (members_fail d))
 
     pub rest_last : (q : ℕ) → At n (node.Seq ms) → NT m p q → length ms ≤ suc i → SG (Tail n i p) (Took q)
-    rest_last q at t le = (node.Seq ms, at, subst (λ v. MembersGive g x v p (Took q)) front
+    rest_last q at t le = (node.Seq ms, at, subst (λ v. MembersGive g x v p (Took q)) front_member
         (members_take t (subst (λ v. MembersGive g x v q (Took q)) (sym (drop_past ms (suc i) le)) members_none)))
 
     pub rest_goes : (q : ℕ) (f : Found) → At n (node.Seq ms) → NT m p q → SG (Tail n (suc i) q) f → SG (Tail n i p) f
     rest_goes q f at t h =
         let same : h.0 ≡ node.Seq ms = cc (h.1, at) in
         let d : MembersGive g x (drop (suc i) ms) q f = subst (λ v. TailGives g x v (suc i) q f) same h.2 in
-        (node.Seq ms, at, subst (λ v. MembersGive g x v p f) front (members_take t d))
+        (node.Seq ms, at, subst (λ v. MembersGive g x v p f) front_member (members_take t d))
 
     pub other_takes : (q : ℕ) → At n (node.Choice ms) → NT m p q → SG (Tail n i p) (Took q)
-    other_takes q at t = (node.Choice ms, at, subst (λ v. AlternativesGive g x p v (Took q)) front (alternatives_take t))
+    other_takes q at t = (node.Choice ms, at, subst (λ v. AlternativesGive g x p v (Took q)) front_member (alternatives_take t))
 
     pub other_last : At n (node.Choice ms) → NF m p → length ms ≤ suc i → SG (Tail n i p) Failed
-    other_last at d le = (node.Choice ms, at, subst (λ v. AlternativesGive g x p v Failed) front
+    other_last at d le = (node.Choice ms, at, subst (λ v. AlternativesGive g x p v Failed) front_member
         (alternatives_fail d (subst (λ v. AlternativesGive g x p v Failed) (sym (drop_past ms (suc i) le)) alternatives_none)))
 
     pub other_goes : (f : Found) → At n (node.Choice ms) → NF m p → SG (Tail n (suc i) p) f → SG (Tail n i p) f
     other_goes f at d h =
         let same : h.0 ≡ node.Choice ms = cc (h.1, at) in
         let c : AlternativesGive g x p (drop (suc i) ms) f = subst (λ v. TailGives g x v (suc i) p f) same h.2 in
-        (node.Choice ms, at, subst (λ v. AlternativesGive g x p v f) front (alternatives_fail d c))
+        (node.Choice ms, at, subst (λ v. AlternativesGive g x p v f) front_member (alternatives_fail d c))

@@ -1,6 +1,7 @@
 -- The pairs that are reached in steps are those that are visited.
 -- Serves: implied_cells
-use Rattle.std.proofs.Common.{◌≡◌, ◌⊎◌, inl, inr, ℕ, zero, suc, List, [], ◌∷◌, Some, None, drop, refl, sym, subst, ap, ◌∙◌}
+use Rattle.std.proofs.Common.{◌≡◌, ◌⊎◌, inl, inr, ℕ, zero, suc, List, [], ◌∷◌, Some, None, drop, refl, sym, subst, ap}
+use Rattle.std.proofs.Common.{◌∙◌}
 use Rattle.std.specs.Prelude.{slice_get}
 use Rattle.pegread.specs.Pattern.{Rule}
 use Rattle.gramcheck.specs.Nodes as node
@@ -76,8 +77,8 @@ module _ (rules : List Rule) (start : ℕ) (nodes : List Shape) (bodies x : List
   seen_as a b is s = subst Seen (sym is) s
 
   module _ (n p : ℕ) (v : V n p) where
-    ask : (m q : ℕ) (shape : Shape) → slice_get nodes n ≡ Some shape → AsksBy rules nodes bodies x shape n p m q → V m q
-    ask m q shape at by = asked v (record { shape = shape; at = at; by = by })
+    ask_visits : (m q : ℕ) (shape : Shape) → slice_get nodes n ≡ Some shape → AsksBy rules nodes bodies x shape n p m q → V m q
+    ask_visits m q shape at by = asked v (record { shape = shape; at = at; by = by })
 
     rest_of : (shape : Shape) → slice_get nodes n ≡ Some shape
         → ((m r : ℕ) → TailAsks shape zero p m r → AsksBy rules nodes bodies x shape n p m r) → IsTail n zero p
@@ -95,22 +96,22 @@ module _ (rules : List Rule) (start : ℕ) (nodes : List Shape) (bodies x : List
     seen_by b node.Any at l = absurd l
     seen_by b (node.Bytes bs) at l = absurd l
     seen_by b (node.Set s) at l = absurd l
-    seen_by b (node.Name id) at l = seen_as b (Pair l.0 p) l.2 (ask l.0 p (node.Name id) at (l.1, refl))
+    seen_by b (node.Name id) at l = seen_as b (Pair l.0 p) l.2 (ask_visits l.0 p (node.Name id) at (l.1, refl))
     seen_by b (node.Seq ms) at l = seen_as b (Tail n zero p) l.2
         (rest_of (node.Seq ms) at (λ m r h. subst (λ w. AM w p m r) (drop_none ms) h))
     seen_by b (node.Choice ms) at l = seen_as b (Tail n zero p) l.2
         (rest_of (node.Choice ms) at (λ m r h. (subst (λ w. AA p w m) (drop_none ms) h.0, h.1)))
     seen_by b (node.Star k) at l = elim l [
-      | inl e ↦ seen_as b (Pair k p) e (ask k p (node.Star k) at (inl (refl, refl)))
-      | inr e ↦ seen_as b (Pair n e.0) e.2 (ask n e.0 (node.Star k) at (inr (refl, e.1)))
+      | inl e ↦ seen_as b (Pair k p) e (ask_visits k p (node.Star k) at (inl (refl, refl)))
+      | inr e ↦ seen_as b (Pair n e.0) e.2 (ask_visits n e.0 (node.Star k) at (inr (refl, e.1)))
     ]
     seen_by b (node.Plus k s) at l = elim l [
-      | inl e ↦ seen_as b (Pair k p) e (ask k p (node.Plus k s) at (inl (refl, refl)))
-      | inr e ↦ seen_as b (Pair s e.0) e.2 (ask s e.0 (node.Plus k s) at (inr (refl, e.1)))
+      | inl e ↦ seen_as b (Pair k p) e (ask_visits k p (node.Plus k s) at (inl (refl, refl)))
+      | inr e ↦ seen_as b (Pair s e.0) e.2 (ask_visits s e.0 (node.Plus k s) at (inr (refl, e.1)))
     ]
-    seen_by b (node.Opt k) at l = seen_as b (Pair k p) l (ask k p (node.Opt k) at (refl, refl))
-    seen_by b (node.And k) at l = seen_as b (Pair k p) l (ask k p (node.And k) at (refl, refl))
-    seen_by b (node.Not k) at l = seen_as b (Pair k p) l (ask k p (node.Not k) at (refl, refl))
+    seen_by b (node.Opt k) at l = seen_as b (Pair k p) l (ask_visits k p (node.Opt k) at (refl, refl))
+    seen_by b (node.And k) at l = seen_as b (Pair k p) l (ask_visits k p (node.And k) at (refl, refl))
+    seen_by b (node.Not k) at l = seen_as b (Pair k p) l (ask_visits k p (node.Not k) at (refl, refl))
     seen_by b (node.Act t) at l = absurd l
     seen_by b node.Open at l = absurd l
     seen_by b node.Close at l = absurd l
@@ -119,9 +120,9 @@ module _ (rules : List Rule) (start : ℕ) (nodes : List Shape) (bodies x : List
     rest_ask : (m r : ℕ) (shape : Shape) → slice_get nodes n ≡ Some shape → TailAsks shape i q m r → V m r
     rest_ask m r shape at by = asked s.visited (s.asks shape at m r by)
 
-    further : (r : ℕ) (shape : Shape) → slice_get nodes n ≡ Some shape
+    further_visited : (r : ℕ) (shape : Shape) → slice_get nodes n ≡ Some shape
         → ((m z : ℕ) → TailAsks shape (suc i) r m z → TailAsks shape i q m z) → IsTail n (suc i) r
-    further r shape at by =
+    further_visited r shape at by =
         record {
           place = s.place;
           visited = s.visited;
@@ -142,7 +143,7 @@ module _ (rules : List Rule) (start : ℕ) (nodes : List Shape) (bodies x : List
           | inl e ↦ seen_as b (Pair l.0 q) e
               (rest_ask l.0 q (node.Seq ms) at (subst (λ w. AM w q l.0 q) (sym front) member_here))
           | inr e ↦ seen_as b (Tail n (suc i) e.1) e.4
-              (further e.1 (node.Seq ms) at
+              (further_visited e.1 (node.Seq ms) at
               (λ m z h. subst (λ w. AM w q m z) (sym front) (member_later e.3 h)))
         ]
     rest_seen_by b (node.Choice ms) at l =
@@ -151,7 +152,7 @@ module _ (rules : List Rule) (start : ℕ) (nodes : List Shape) (bodies x : List
           | inl e ↦ seen_as b (Pair l.0 q) e
               (rest_ask l.0 q (node.Choice ms) at (subst (λ w. AA q w l.0) (sym front) alternative_here, refl))
           | inr e ↦ seen_as b (Tail n (suc i) q) e.3
-              (further q (node.Choice ms) at
+              (further_visited q (node.Choice ms) at
               (λ m z h. (subst (λ w. AA q w m) (sym front) (alternative_later e.2 h.0), h.1)))
         ]
     rest_seen_by b (node.Star k) at l = absurd l
@@ -167,17 +168,17 @@ module _ (rules : List Rule) (start : ℕ) (nodes : List Shape) (bodies x : List
   seen_next (Pair n p) b s l = seen_by n p s b l.0 l.1 l.2
   seen_next (Tail n i p) b s l = rest_seen_by n i p s b l.0 l.1 l.2
 
-  seen : {a : Spot} → R a → Seen a
-  seen reach_root = first is_root
-  seen (reach_edge {a = a} {b = b} r l) = seen_next a b (seen r) l
+  reach_seen : {a : Spot} → R a → Seen a
+  reach_seen reach_root = first is_root
+  reach_seen (reach_edge {a = a} {b = b} r l) = seen_next a b (reach_seen r) l
 
   -- what is reached is visited
   pub reached_is_visited : (n p : ℕ) → R (Pair n p) → V n p
-  reached_is_visited n p r = seen r
+  reached_is_visited n p r = reach_seen r
 
   -- and a rest is of a node that is visited somewhere
   pub rest_is_of : (n i q : ℕ) → R (Tail n i q) → (p : ℕ) × V n p
-  rest_is_of n i q r = let s : IsTail n i q = seen r in (s.place, s.visited)
+  rest_is_of n i q r = let s : IsTail n i q = reach_seen r in (s.place, s.visited)
 
   member_front : {ms : List ℕ} {p m q : ℕ} → AM ms p m q → (k : ℕ) × (l : List ℕ) × (ms ≡ k ∷ l)
   member_front (member_here {m = m} {ms = ms}) = (m, ms, refl)
@@ -189,16 +190,16 @@ module _ (rules : List Rule) (start : ℕ) (nodes : List Shape) (bodies x : List
 
   module _ (n : ℕ) (ms : List ℕ) where
     -- along the members
-    along : slice_get nodes n ≡ Some (node.Seq ms) → {l : List ℕ} {p m q : ℕ} → AM l p m q → (i : ℕ)
+    along_members : slice_get nodes n ≡ Some (node.Seq ms) → {l : List ℕ} {p m q : ℕ} → AM l p m q → (i : ℕ)
         → drop i ms ≡ l → R (Tail n i p) → R (Pair m q)
-    along at (member_here {m = m} {ms = l}) i is r =
+    along_members at (member_here {m = m} {ms = l}) i is r =
         let h = drop_front ms l i m is in
         reach_edge r (node.Seq ms, at, (m, h.0, inl refl))
-    along at (member_later {k = k} {r = r} {ms = l} t a) i is reach =
+    along_members at (member_later {k = k} {r = r} {ms = l} t a) i is reach =
         let h = drop_front ms l i k is in
         let f = member_front a in
         let g = drop_front ms f.1 (suc i) f.0 (h.1 ∙ f.2) in
-        along at a (suc i) h.1 (reach_edge reach (node.Seq ms, at, (k, h.0, inr (f.0, r, g.0, t, refl))))
+        along_members at a (suc i) h.1 (reach_edge reach (node.Seq ms, at, (k, h.0, inr (f.0, r, g.0, t, refl))))
 
     along_alternatives : slice_get nodes n ≡ Some (node.Choice ms) → {p m : ℕ} {l : List ℕ} → AA p l m → (i : ℕ)
         → drop i ms ≡ l → R (Tail n i p) → R (Pair m p)
@@ -213,39 +214,39 @@ module _ (rules : List Rule) (start : ℕ) (nodes : List Shape) (bodies x : List
         (reach_edge reach (node.Choice ms, at, (k, h.0, inr (f.0, g.0, t, refl))))
 
   module _ (n p : ℕ) (r : R (Pair n p)) (m q : ℕ) where
-    to : (i j : ℕ) → m ≡ i → q ≡ j → R (Pair i j) → R (Pair m q)
-    to i j a b h = subst (λ v. R (Pair v q)) (sym a) (subst (λ v. R (Pair i v)) (sym b) h)
+    reach_at : (i j : ℕ) → m ≡ i → q ≡ j → R (Pair i j) → R (Pair m q)
+    reach_at i j a b h = subst (λ v. R (Pair v q)) (sym a) (subst (λ v. R (Pair i v)) (sym b) h)
 
-    step : (shape : Shape) → slice_get nodes n ≡ Some shape → LeadsBy rules nodes bodies x (way_of n shape) n p (Pair m q)
+    reach_step : (shape : Shape) → slice_get nodes n ≡ Some shape → LeadsBy rules nodes bodies x (way_of n shape) n p (Pair m q)
         → R (Pair m q)
-    step shape at l = reach_edge r (shape, at, l)
+    reach_step shape at l = reach_edge r (shape, at, l)
 
     reach_by : (shape : Shape) → slice_get nodes n ≡ Some shape → AsksBy rules nodes bodies x shape n p m q
         → R (Pair m q)
     reach_by node.Any at a = absurd a
     reach_by (node.Bytes bs) at a = absurd a
     reach_by (node.Set s) at a = absurd a
-    reach_by (node.Name id) at a = step (node.Name id) at (m, a.0, ap (Pair m) a.1)
+    reach_by (node.Name id) at a = reach_step (node.Name id) at (m, a.0, ap (Pair m) a.1)
     reach_by (node.Seq ms) at a =
         let f = member_front a in
         let h = drop_front ms f.1 zero f.0 (drop_none ms ∙ f.2) in
-        along n ms at a zero (drop_none ms) (reach_edge r (node.Seq ms, at, (f.0, h.0, refl)))
+        along_members n ms at a zero (drop_none ms) (reach_edge r (node.Seq ms, at, (f.0, h.0, refl)))
     reach_by (node.Choice ms) at a =
         let f = alternative_front a.0 in
         let h = drop_front ms f.1 zero f.0 (drop_none ms ∙ f.2) in
-        to m p refl a.1
+        reach_at m p refl a.1
         (along_alternatives n ms at a.0 zero (drop_none ms) (reach_edge r (node.Choice ms, at, (f.0, h.0, refl))))
-    reach_by (node.Star k) at a = step (node.Star k) at (elim a [
+    reach_by (node.Star k) at a = reach_step (node.Star k) at (elim a [
       | inl e ↦ inl (cc (e.0, e.1))
       | inr e ↦ inr (q, e.1, cc (e.0))
     ])
-    reach_by (node.Plus k s) at a = step (node.Plus k s) at (elim a [
+    reach_by (node.Plus k s) at a = reach_step (node.Plus k s) at (elim a [
       | inl e ↦ inl (cc (e.0, e.1))
       | inr e ↦ inr (q, e.1, cc (e.0))
     ])
-    reach_by (node.Opt k) at a = step (node.Opt k) at (cc (a.0, a.1))
-    reach_by (node.And k) at a = step (node.And k) at (cc (a.0, a.1))
-    reach_by (node.Not k) at a = step (node.Not k) at (cc (a.0, a.1))
+    reach_by (node.Opt k) at a = reach_step (node.Opt k) at (cc (a.0, a.1))
+    reach_by (node.And k) at a = reach_step (node.And k) at (cc (a.0, a.1))
+    reach_by (node.Not k) at a = reach_step (node.Not k) at (cc (a.0, a.1))
     reach_by (node.Act t) at a = absurd a
     reach_by node.Open at a = absurd a
     reach_by node.Close at a = absurd a

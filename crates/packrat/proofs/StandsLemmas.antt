@@ -12,8 +12,8 @@ use Rattle.packrat.specs.declared.marks.Marks.{Marks}
 use Rattle.memo.specs.declared.key_log.Stored.{Stored}
 use Rattle.memo.specs.declared.spot.Spot.{Spot}
 use Rattle.memo.specs.declared.spot.Spot.TheVariants.{Pair}
-use Rattle.packrat.specs.Left.{most_begun}
-use Rattle.packrat.specs.Marks.{AreMarks}
+use Rattle.packrat.specs.TurnsLeft.{most_begun}
+use Rattle.packrat.specs.KeyMarks.{AreMarks}
 use Rattle.packrat.specs.SpotGives.{SpotGives, AreRight, node_marks, tail_marks}
 use Rattle.memo.specs.KeyLog.{spots_of}
 use Rattle.memo.specs.Parts.{IsIn, in_here, in_later}
@@ -25,8 +25,9 @@ use Rattle.packrat.specs.declared.frames.Frame.{Frame}
 use Rattle.packrat.specs.declared.onward.Onward.TheVariants as way
 use Rattle.packrat.specs.declared.machine.Turn.{Turn}
 use Rattle.packrat.specs.declared.machine.Turn.TheVariants.{Ask, Answer}
-use Rattle.packrat.specs.Machine.{Level, State, Asks, Works, held, start_at, store, step_stored, step_begin, step_next, step_last}
-use Rattle.packrat.specs.Machine.{steps_none, steps_more}
+use Rattle.packrat.specs.MachineSteps.{Level, State, Asks, Works, held, start_at, store, step_stored, step_begin}
+use Rattle.packrat.specs.MachineSteps.{step_next, step_last}
+use Rattle.packrat.specs.MachineSteps.{steps_none, steps_more}
 use Rattle.packrat.specs.Onward.{IsWell, AfterNone, AfterOne}
 use Rattle.packrat.specs.SpotSteps.{IsFirst, NextOf, next_first, next_second, SpotSteps}
 use Rattle.packrat.specs.Stands.{AreLevels, Waiting, IsTurn, state_of, key_of, Stands, IsClosed}
@@ -72,8 +73,8 @@ module _ (g : Grammar) (x : List ℕ) (marks : Marks) where
     pub asked_well : IsWell g x a
     asked_well = subst (IsWell g x) (sym s.turns.0) s.turns.1
 
-    here : a ≡ s.spot
-    here = s.turns.0
+    spot_here : a ≡ s.spot
+    spot_here = s.turns.0
 
     pub stands_stored : (f : Found) → Key a ≡ true → IsIn (record { spot = a; found = f }) st → S root (Answer f) ls st n
     stands_stored f t i = record {
@@ -81,22 +82,22 @@ module _ (g : Grammar) (x : List ℕ) (marks : Marks) where
       begun = s.begun;
       spot = s.spot;
       are = s.are;
-      turns = subst (λ v. SG v f) here (s.right.right (record { spot = a; found = f }) i);
+      turns = subst (λ v. SG v f) spot_here (s.right.right (record { spot = a; found = f }) i);
       right = s.right;
       is = s.is;
-      steps = steps_more s.steps (step_stored (subst (λ v. Key v ≡ true) here t)
-          (subst (λ v. IsIn v (spots_of st)) here (spot_of_stored i)));
+      steps = steps_more s.steps (step_stored (subst (λ v. Key v ≡ true) spot_here t)
+          (subst (λ v. IsIn v (spots_of st)) spot_here (spot_of_stored i)));
     }
 
     module _ (fresh : Key a ≡ true → IsIn a (spots_of st) → ⊥) where
-      begins : SS root (Works (record {
+      steps_begin : SS root (Works (record {
         levels = record { at = s.spot; asked = [] } ∷ s.levels; stored = spots_of st; begun = s.spot ∷ s.begun }))
-      begins = steps_more s.steps (step_begin (subst (λ v. Key v ≡ true → IsIn v (spots_of st) → ⊥) here fresh))
+      steps_begin = steps_more s.steps (step_begin (subst (λ v. Key v ≡ true → IsIn v (spots_of st) → ⊥) spot_here fresh))
 
-      counts : total Spot K Key weight (s.spot ∷ s.begun) ≡ n + weight a
-      counts =
+      begin_counts : total Spot K Key weight (s.spot ∷ s.begun) ≡ n + weight a
+      begin_counts =
           let is = s.is in
-          let same : weight a ≡ weight s.spot = subst (λ v. weight a ≡ weight v) here refl in
+          let same : weight a ≡ weight s.spot = subst (λ v. weight a ≡ weight v) spot_here refl in
           omega (arith, is, same)
 
       pub stands_leaf : (f : Found) (new : List Stored) → AfterNone g x a (way.Gives f) → C a f st new
@@ -106,12 +107,12 @@ module _ (g : Grammar) (x : List ℕ) (marks : Marks) where
         begun = s.spot ∷ s.begun;
         spot = s.spot;
         are = s.are;
-        turns = subst (λ v. SG v f) here h.1;
+        turns = subst (λ v. SG v f) spot_here h.1;
         right = c.right h.1 s.right;
-        is = counts;
+        is = begin_counts;
         steps = subst (λ v. SS root (Works (record { levels = s.levels; stored = v; begun = s.spot ∷ s.begun })))
-            (sym (subst (λ v. spots_of new ≡ store Spot (Key v) v (spots_of st)) here c.spots))
-            (steps_more begins (step_last (subst (λ v. K v []) here h.0)));
+            (sym (subst (λ v. spots_of new ≡ store Spot (Key v) v (spots_of st)) spot_here c.spots))
+            (steps_more steps_begin (step_last (subst (λ v. K v []) spot_here h.0)));
       }
 
       pub stands_down : (k : Spot) → AfterNone g x a (way.Leads k)
@@ -124,15 +125,15 @@ module _ (g : Grammar) (x : List ℕ) (marks : Marks) where
           k ∷ [],
           s.levels,
           subst (λ v. record { at = s.spot; asked = k ∷ [] } ∷ s.levels ≡ record { at = v; asked = k ∷ [] } ∷ s.levels)
-          (sym here) refl,
+          (sym spot_here) refl,
           asked_well,
           (h.0, refl),
-          subst (AreLevels g x root ls s.levels) (sym here) s.are,
+          subst (AreLevels g x root ls s.levels) (sym spot_here) s.are,
         );
         turns = (refl, h.1);
         right = s.right;
-        is = counts;
-        steps = steps_more begins (step_next (next_first (subst (λ v. F v k) here h.0)));
+        is = begin_counts;
+        steps = steps_more steps_begin (step_next (next_first (subst (λ v. F v k) spot_here h.0)));
       }
 
   module _ (root a : Spot) (f : Found) (ls : List Frame) (st : List Stored) (n : ℕ) where

@@ -1,12 +1,12 @@
 pub mod Width
 pub mod Offset
 pub mod Spots
-pub mod Marks
+pub mod KeyMarks
 pub mod View
 pub mod SpotGives
-pub mod Machine
+pub mod MachineSteps
 pub mod SpotSteps
 pub mod Onward
 pub mod Stands
-pub mod Left
+pub mod TurnsLeft
 pub mod Done

@@ -5,7 +5,7 @@ use Rattle.gramcheck.specs.Nodes.{Shape}
 use Rattle.memo.specs.declared.spot.Spot.{Spot}
 use Rattle.memo.specs.declared.spot.Spot.TheVariants.{Pair, Tail}
 use Rattle.packrat.specs.Spots.{Way, Leaf, Body, Members, Alternatives, Turns, Operand, way_of, Kids, is_key}
-use Rattle.packrat.specs.Machine.{State, Step, Steps, start_at}
+use Rattle.packrat.specs.MachineSteps.{State, Step, Steps, start_at}
 
 module _ (rules : List Rule) (nodes : List Shape) (bodies x : List ℕ) where
   -- where node n at p leads first, whatever it takes

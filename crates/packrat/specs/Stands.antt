@@ -15,7 +15,7 @@ use Rattle.packrat.specs.View.{weight}
 use Rattle.packrat.specs.declared.frames.Frame.{Frame}
 use Rattle.packrat.specs.declared.machine.Turn.{Turn}
 use Rattle.packrat.specs.declared.machine.Turn.TheVariants.{Ask, Answer}
-use Rattle.packrat.specs.Machine.{Level, State, Asks, Works, start_at, store}
+use Rattle.packrat.specs.MachineSteps.{Level, State, Asks, Works, start_at, store}
 use Rattle.packrat.specs.Onward.{IsWell}
 use Rattle.packrat.specs.SpotSteps.{IsFirst, SpotSteps}
 

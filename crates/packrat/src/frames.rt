@@ -61,6 +61,7 @@ impl Frames {
     pub(crate) fn pop(&mut self) -> Option<Frame>
         ensures some { IfSome result (λ frame. self.old ≡ frame ∷ self.new) }
         ensures none { IfNone result (self.old ≡ []) }
+        ensures empty { IfNone result (self.new ≡ []) }
     {
         self.frames.pop()
     }

@@ -1,13 +1,14 @@
 //! The machine: it evaluates by a loop over frames in place of recursion, and stores the keys alone.
-ghost use Rattle.std.specs.Prelude.{◌≡◌, ℕ, ◌+◌, ◌*◌, ◌<◌, ◌≤◌, Bool, true, List, [], ◌∷◌, length, slice_get, Some, IfOk, OnOk};
+ghost use Rattle.std.specs.Prelude.{◌≡◌, ℕ, ◌+◌, ◌*◌, ◌<◌, ◌≤◌, Bool, true, List, [], ◌∷◌, length, slice_get, Some};
+ghost use Rattle.std.specs.Prelude.{IfOk, OnOk};
 ghost use Rattle.pegread.specs.PegViews.{rules_of};
 ghost use Rattle.gramcheck.specs.Grammar.{IsSoundGrammar};
 ghost use Rattle.gramcheck.specs.Nodes.{shapes_of};
 ghost use Rattle.memo.specs.KeyLog.{spots_of};
 ghost use Rattle.memo.specs.Run.{Run};
 ghost use Rattle.memo.specs.declared.spot.Spot.{Spot};
-ghost use Rattle.packrat.specs.Left.{left, most_begun};
-ghost use Rattle.packrat.specs.Marks.{AreMarks};
+ghost use Rattle.packrat.specs.TurnsLeft.{left, most_begun};
+ghost use Rattle.packrat.specs.KeyMarks.{AreMarks};
 ghost use Rattle.packrat.specs.Onward.{IsWell};
 ghost use Rattle.packrat.specs.SpotGives.{SpotGives, AreRight, node_marks, tail_marks};
 ghost use Rattle.packrat.specs.Spots.{Kids};
@@ -38,9 +39,9 @@ pub(crate) struct Machine {
     pub(crate) begun: u128,
 }
 
-// Returns how many pairs are begun with this spot.
-fn counted(begun: u128, spot: Spot) -> u128
-    requires { begun < 340282366920938463463374607431768211455 }
+// Returns how many pairs are begun with this spot; there are no more than nodes at places.
+fn counted(nodes: usize, length: usize, begun: u128, spot: Spot) -> u128
+    requires { begun ≤ nodes * (length + 1) }
     ensures { result ≡ begun + weight spot }
 {
     match spot {
@@ -103,7 +104,7 @@ impl Machine {
                 None => {}
             }
         }
-        self.begun = counted(self.begun, spot);
+        self.begun = counted(peg.nodes(), window.len(), self.begun, spot);
         match begin(peg, window, spot) {
             Onward::Gives(found) => {
                 self.close(peg, window, marks, spot, found)?;

@@ -7,7 +7,7 @@ ghost use Rattle.pegmatch.specs.Answers.{StartGives};
 ghost use Rattle.pegmatch.specs.KeptEvents.{outcome_of};
 ghost use Rattle.memo.specs.KeyLog.{spots_of};
 ghost use Rattle.packrat.specs.Done.{empty, IsDone};
-ghost use Rattle.packrat.specs.Marks.{AreMarks};
+ghost use Rattle.packrat.specs.KeyMarks.{AreMarks};
 ghost use Rattle.packrat.specs.SpotGives.{node_marks, tail_marks};
 ghost use Rattle.packrat.specs.View.{AreStored};
 

@@ -1,4 +1,4 @@
-use Rattle.packrat.proofs.EvaluatedLemmas.{evaluated_stores, evaluated_begins}
+use Rattle.packrat.proofs.EvaluatesLemmas.{evaluated_stores, evaluated_begins}
 use Rattle.packrat.proofs.laws.evaluated_once.Goals as goal
 
 pub returns-clause-stored : goal.returns-clause-stored

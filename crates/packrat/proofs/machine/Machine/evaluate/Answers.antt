@@ -5,14 +5,15 @@ use Rattle.packrat.specs.View.{weight}
 use Rattle.packrat.specs.declared.machine.Turn.TheVariants.{Ask, Answer}
 use Rattle.packrat.specs.Stands.{Stands, IsClosed, key_of}
 use Rattle.packrat.proofs.StandsLemmas as L
-use Rattle.packrat.proofs.machine.evaluate_stacked.Goals.{in-Ask+in_ok-turn-in-Ask, in-Answer+in-Some+in_ok-turn-in-Some}
-use Rattle.packrat.proofs.machine.evaluate_stacked.Goals as goal
+use Rattle.packrat.proofs.machine.Machine.evaluate.Goals.{in-Ask+in_ok-turn-in-Ask}
+use Rattle.packrat.proofs.machine.Machine.evaluate.Goals.{in-Answer+in-Some+in_ok-turn-in-Some}
+use Rattle.packrat.proofs.machine.Machine.evaluate.Goals as goal
 
 pub turns-init : goal.turns-init
 turns-init c = record {
   rows = c.requires.rows;
-  stands = subst (λ v. Stands c.args.peg.now c.args.window.now c.args.marks.now c.args.root (Ask c.args.root) v c.args.log.now.stored 0) (sym c.new-stack.ensures)
-      (L.stands_first c.args.peg.now c.args.window.now c.args.marks.now c.args.root c.args.log.now.stored c.requires.well c.requires.empty);
+  stands = subst (λ v. Stands c.args.peg.now c.args.window.now c.args.marks.now c.args.root (Ask c.args.root) v c.args.self.now.log.stored 0) (sym c.new-stack.ensures)
+      (L.stands_first c.args.peg.now c.args.window.now c.args.marks.now c.args.root c.args.self.now.log.stored c.requires.well c.requires.empty);
 }
 
 pub ask-requires-clause-well : goal.ask-requires-clause-well

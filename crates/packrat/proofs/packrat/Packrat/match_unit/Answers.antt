@@ -7,7 +7,7 @@ use Rattle.memo.specs.KeyLog.{spots_of}
 use Rattle.packrat.specs.View.{AreStored}
 use Rattle.packrat.proofs.SpotGivesLemmas as L
 use Rattle.packrat.proofs.UnitLemmas.{start_gives}
-use Rattle.packrat.proofs.EvaluatedLemmas.{evaluated_stores, evaluated_begins}
+use Rattle.packrat.proofs.EvaluatesLemmas.{evaluated_stores, evaluated_begins}
 use Rattle.packrat.proofs.unit.unit_stacked.Goals as goal
 
 pub returns-clause-gives : goal.returns-clause-gives

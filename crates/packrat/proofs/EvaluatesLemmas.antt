@@ -1,6 +1,7 @@
 -- An evaluation from nothing stores the keys that are reached, and has begun as many pairs as they imply.
 -- Serves: evaluated_once
-use Rattle.std.proofs.Common.{◌≡◌, ◌⊎◌, inl, inr, ℕ, ◌+◌, ◌<◌, ◌≤◌, Bool, true, false, List, [], ◌∷◌, length, Some, refl, sym, subst, arith}
+use Rattle.std.proofs.Common.{◌≡◌, ◌⊎◌, inl, inr, ℕ, ◌+◌, ◌<◌, ◌≤◌, Bool, true, false, List, [], ◌∷◌, length, Some}
+use Rattle.std.proofs.Common.{refl, sym, subst, arith}
 use Rattle.std.specs.Prelude.{slice_get}
 use Rattle.pegread.specs.Pattern.{Rule}
 use Rattle.gramcheck.specs.Nodes.{Shape}
@@ -14,7 +15,7 @@ use Rattle.pegmatch.specs.KeptEvents.{outcome_of}
 use Rattle.desk.specs.State.{IsFound}
 use Rattle.desk.specs.Visits.{NodeGives, Visits}
 use Rattle.desk.proofs.VisitsLemmas.{visits_within, GivesWithin}
-use Rattle.packrat.specs.Marks.{AreMarks}
+use Rattle.packrat.specs.KeyMarks.{AreMarks}
 use Rattle.memo.specs.Parts.{IsIn, in_here, in_later, Distinct, distinct_none, Reach, reach_root, Whole}
 use Rattle.memo.specs.Run.{Run, total}
 use Rattle.memo.specs.declared.spot.Spot.{Spot}
@@ -26,7 +27,7 @@ use Rattle.packrat.proofs.AreImpliedLemmas.{is_forest, implied_are_all}
 use Rattle.packrat.proofs.EndsLemmas.{reached_ends}
 use Rattle.memo.proofs.PartsLemmas.{whole_reached}
 use Rattle.packrat.proofs.SpotReachLemmas.{reached_is_visited}
-use Rattle.memo.proofs.RunLemmas.{stays_distinct, stays_reached, done, all_stored, weighed}
+use Rattle.memo.proofs.RunLemmas.{stays_distinct, stays_reached, run_done, all_stored, run_weighed}
 
 module _ (rules : List Rule) (start : ℕ) (nodes : List Shape) (bodies ranks x : List ℕ) (more : Bool)
     (sound : IsRanked rules start nodes bodies ranks) (root : ℕ) (is_root : slice_get bodies start ≡ Some root)
@@ -48,7 +49,7 @@ module _ (rules : List Rule) (start : ℕ) (nodes : List Shape) (bodies ranks x 
       let forest = is_forest rules start nodes bodies ranks x more sound root is_root marks tails are in
       let reached = stays_reached Spot (Leads rules nodes bodies x) (Pair root 0) (Kids rules nodes bodies x)
           (is_key marks tails) weight forest run reach_root (λ a i. absurd (nothing_in i)) in
-      let d = done Spot (Leads rules nodes bodies x) (Pair root 0) (Kids rules nodes bodies x)
+      let d = run_done Spot (Leads rules nodes bodies x) (Pair root 0) (Kids rules nodes bodies x)
           (is_key marks tails) weight forest run (λ a i. absurd (nothing_in i)) in
       record {
         reached = λ a i. (reached a i).0;
@@ -106,7 +107,7 @@ module _ (rules : List Rule) (start : ℕ) (nodes : List Shape) (bodies ranks x 
     evaluated_begins stored begun run =
         let forest = is_forest rules start nodes bodies ranks x more sound root is_root marks tails are in
         let s = evaluated_stores stored begun run in
-        let w = weighed Spot (Leads rules nodes bodies x) (Pair root 0) (Kids rules nodes bodies x)
+        let w = run_weighed Spot (Leads rules nodes bodies x) (Pair root 0) (Kids rules nodes bodies x)
             (is_key marks tails) weight forest run (are.root root is_root) in
         let c = has_cells w.spots (λ a i. whole_reached Spot (Leads rules nodes bodies x) (Pair root 0)
             (Kids rules nodes bodies x) (is_key marks tails) forest w.whole s.reached i) in
