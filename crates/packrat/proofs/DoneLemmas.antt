@@ -1,6 +1,6 @@
 -- What an evaluation of the start rule's body from an empty log gives and leaves behind.
 -- Serves: Packrat::match_unit
-use Rattle.std.proofs.Common.{◌≡◌, ℕ, ◌+◌, ◌*◌, ◌≤◌, Bool, List, [], length, Some, refl, sym, subst, ap, arith, ◌∙◌}
+use Rattle.std.proofs.Common.{◌≡◌, ℕ, ◌+◌, ◌*◌, ◌≤◌, Bool, List, [], length, Some, Result, Ok, Err, IfOk, OnOk, refl, sym, subst, ap, arith, ◌∙◌}
 use Rattle.std.specs.Prelude.{slice_get}
 use Rattle.std.proofs.lemmas.List.{length-map}
 use Rattle.pegread.specs.PegViews.{rules_of}
@@ -25,6 +25,12 @@ use Rattle.packrat.specs.View.{Evaluates, AreStored}
 use Rattle.packrat.specs.declared.frames.Frame.{Frame}
 use Rattle.packrat.specs.declared.marks.Marks.{Marks}
 use Rattle.packrat.proofs.EvaluatesLemmas.{evaluated_stores, evaluated_begins}
+
+-- what holds of a success, by what else does
+pub from_ok : {A E : Type 0} (P : A → Type 0) (Q R S T : Type 0) (v : Result A E) → ((a : A) → P a → Q → R → S → T)
+    → IfOk v P → OnOk v Q → OnOk v R → OnOk v S → OnOk v T
+from_ok P Q R S T (Ok a) f h k l m = f a h k l m
+from_ok P Q R S T (Err e) f h k l m = tt
 
 module _ (g : Grammar) (x : List ℕ) (sound : IsSoundGrammar g) where
   pub start_gives : (root : ℕ) (f : Found) → slice_get g.bodies g.start ≡ Some root → SpotGives g x (Pair root 0) f
