@@ -1,6 +1,6 @@
 -- A log whose keys stand below their rows' marks.
 -- Serves: KeyLog::get, KeyLog::put
-use Rattle.std.proofs.Common.{◌≡◌, ◌⊎◌, inl, inr, ℕ, zero, suc, ◌+◌, ◌<◌, ◌≤◌, Bool, true, List, [], ◌∷◌, ◌++◌}
+use Rattle.std.proofs.Common.{◌≡◌, ◌⊎◌, inl, inr, ℕ, zero, suc, ◌<◌, ◌≤◌, List, [], ◌∷◌, ◌++◌}
 use Rattle.std.proofs.Common.{length, refl, sym, ◌∙◌}
 use Rattle.cells.specs.declared.cell.Found.{Found}
 use Rattle.std.proofs.Common.{Option, None, IfSome, IfNone, false, nat_lt, get_or}
@@ -34,7 +34,8 @@ module _ {V : Type 0} where
 
   pub in_reverse : {a : V} {xs : List V} → IsIn a xs → IsIn a (reverse xs)
   in_reverse {a = a} (in_here {xs = xs}) = subst (IsIn a) (sym (rev_cons a xs)) (in_right (reverse xs) in_here)
-  in_reverse {a = a} (in_later {b = b} {xs = xs} i) = subst (IsIn a) (sym (rev_cons b xs)) (in_left (b ∷ []) (in_reverse i))
+  in_reverse {a = a} (in_later {b = b} {xs = xs} i) = subst (IsIn a) (sym (rev_cons b xs)) (in_left (b ∷ [])
+      (in_reverse i))
 
   first_or_later : {a b : V} {xs : List V} → IsIn a (b ∷ xs) → (a ≡ b) ⊎ IsIn a xs
   first_or_later in_here = inl refl
@@ -153,27 +154,29 @@ none_found items spot None h = none_stored items spot h
 none_found items spot (Some f) h = tt
 
 module _ (unit : ℕ) (high there : List Mark) (items stored : List Stored) (row : ℕ) (below : AreBelow unit high items)
-    (view : reverse items ≡ stored) (same : there ≡ high) (s : Stored) (i : IsIn s stored) (is : row_of s.spot ≡ row) where
-  own_of : (mark : Mark) × (slice_get there row ≡ Some mark) × (mark.unit ≡ unit) × (place_of s.spot < mark.above)
-  own_of =
-      let b = below_mark unit high items s below (subst (IsIn s) (sym view) i) in (
-        b.0,
-        subst (λ v. slice_get there v ≡ Some b.0) is (subst (λ v. slice_get v (row_of s.spot) ≡ Some b.0) (sym same) b.1),
-        b.2,
-        b.3,
-      )
+    (view : reverse items ≡ stored) (same : there ≡ high) (s : Stored) (i : IsIn s stored) (is : row_of s.spot ≡ row)
+  where
+    own_of : (mark : Mark) × (slice_get there row ≡ Some mark) × (mark.unit ≡ unit) × (place_of s.spot < mark.above)
+    own_of =
+        let b = below_mark unit high items s below (subst (IsIn s) (sym view) i) in (
+          b.0,
+          subst (λ v. slice_get there v ≡ Some b.0) is (subst (λ v. slice_get v (row_of s.spot) ≡ Some b.0) (sym same)
+              b.1),
+          b.2,
+          b.3,
+        )
 
-  mark_read : (now : Mark) → now ≡ get_or there row now → own_of.0 ≡ now
-  mark_read now read = sym (get_or_from_slice_get there row own_of.0 now own_of.1) ∙ sym read
+    mark_read : (now : Mark) → now ≡ get_or there row now → own_of.0 ≡ now
+    mark_read now read = sym (get_or_from_slice_get there row own_of.0 now own_of.1) ∙ sym read
 
-  pub below_read : (now : Mark) → now ≡ get_or there row now → place_of s.spot < now.above
-  below_read now read = subst (λ v. place_of s.spot < v.above) (mark_read now read) own_of.3
+    pub below_read : (now : Mark) → now ≡ get_or there row now → place_of s.spot < now.above
+    below_read now read = subst (λ v. place_of s.spot < v.above) (mark_read now read) own_of.3
 
-  pub unit_read : (now : Mark) → now ≡ get_or there row now → now.unit ≡ unit
-  unit_read now read = subst (λ v. v.unit ≡ unit) (mark_read now read) own_of.2
+    pub unit_read : (now : Mark) → now ≡ get_or there row now → now.unit ≡ unit
+    unit_read now read = subst (λ v. v.unit ≡ unit) (mark_read now read) own_of.2
 
-  pub never_past : false ≡ nat_lt row (length there) → ⊥
-  never_past test =
-      let lt = slice_get_within there row own_of.0 own_of.1 in
-      let le = ltb-false row (length there) (sym test) in
-      omega (arith, lt, le)
+    pub never_past : false ≡ nat_lt row (length there) → ⊥
+    never_past test =
+        let lt = slice_get_within there row own_of.0 own_of.1 in
+        let le = ltb-false row (length there) (sym test) in
+        omega (arith, lt, le)

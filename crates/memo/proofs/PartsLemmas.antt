@@ -1,6 +1,6 @@
 -- The parts of the keys are all that is reached, each once.
 -- Serves: implied_cells
-use Rattle.std.proofs.Common.{◌≡◌, ◌⊎◌, inl, inr, Bool, true, false, List, [], ◌∷◌, ◌++◌, refl, sym, subst}
+use Rattle.std.proofs.Common.{◌≡◌, ◌⊎◌, inl, inr, Bool, true, false, List, [], ◌∷◌, ◌++◌, refl, subst}
 use Rattle.memo.specs.Parts.{IsIn, in_here, in_later, Distinct, distinct_none, distinct_more, Reach, reach_root}
 use Rattle.memo.specs.Parts.{reach_edge, Part, part, Parts, parts_none, parts_key, parts_more, Whole, whole_none}
 use Rattle.memo.specs.Parts.{whole_more, IsForest}

@@ -1,12 +1,12 @@
--- An evaluation that remembers its keys stores exactly those that are reached, and begins each spot of their parts once.
+-- An evaluation that remembers its keys stores exactly those that are reached, and begins each spot once.
 -- Serves: evaluated_once
 use Rattle.std.proofs.Common.{◌≡◌, ◌⊎◌, inl, inr, ℕ, ◌+◌, Bool, true, false, List, [], ◌∷◌, ◌++◌, refl, sym, subst}
 use Rattle.std.proofs.Common.{arith, append-nil}
-use Rattle.memo.specs.Parts.{IsIn, in_here, in_later, Distinct, distinct_none, distinct_more, Reach, reach_root}
-use Rattle.memo.specs.Parts.{reach_edge, Part, part, Parts, parts_none, parts_key, parts_more, Whole, whole_none}
+use Rattle.memo.specs.Parts.{IsIn, in_here, in_later, Distinct, distinct_more, Reach, reach_root}
+use Rattle.memo.specs.Parts.{reach_edge, part, Parts, parts_none, parts_key, parts_more, Whole, whole_none}
 use Rattle.memo.specs.Parts.{whole_more, IsForest}
 use Rattle.memo.specs.Run.{Run, run_stored, run_key, run_plain, RunAll, run_none, run_more, total, Ends, ends}
-use Rattle.memo.proofs.PartsLemmas.{Under, under_here, under_step, reach_under}
+use Rattle.memo.proofs.PartsLemmas.{Under, under_here, under_step}
 
 pub total_join : (V : Type 0) (Kids : V → List V → Type 0) (key : V → Bool) (weight : V → ℕ) (xs ys : List V)
     → total V Kids key weight (xs ++ ys) ≡ total V Kids key weight xs + total V Kids key weight ys

@@ -1,8 +1,8 @@
 -- The cells that the stored keys imply are exactly the visited pairs with their outcomes.
 -- Serves: implied_cells
-use Rattle.std.proofs.Common.{◌≡◌, ◌⊎◌, inl, inr, ℕ, ◌+◌, Bool, true, false, if◌then◌else◌, List, [], ◌∷◌, ◌++◌}
-use Rattle.std.proofs.Common.{length, Some, None}
-use Rattle.std.proofs.Common.{Option, refl, sym, subst, arith}
+use Rattle.std.proofs.Common.{◌≡◌, ◌⊎◌, inl, inr, ℕ, Bool, true, false, if◌then◌else◌, List, ◌∷◌}
+use Rattle.std.proofs.Common.{Some, None}
+use Rattle.std.proofs.Common.{Option, refl, subst}
 use Rattle.std.specs.Prelude.{slice_get}
 use Rattle.pegread.specs.Pattern.{Rule}
 use Rattle.gramcheck.specs.Nodes.{Shape}
@@ -11,11 +11,9 @@ use Rattle.cells.specs.declared.cell.Found.{Found}
 use Rattle.cells.specs.Entries.{Entry, found_at, AreDifferent}
 use Rattle.cells.proofs.FoundAtLemmas.{is_of, is_own, is_of_own}
 use Rattle.desk.specs.State.{IsFound, HasCell}
-use Rattle.desk.specs.Visits.{Visits}
 use Rattle.desk.proofs.AsksLemmas.{is_visited}
 use Rattle.packrat.specs.KeyMarks.{AreMarks}
-use Rattle.memo.specs.Parts.{IsIn, in_here, in_later, Distinct, distinct_none, distinct_more, Reach, Whole, IsForest}
-use Rattle.memo.specs.Parts.{whole_none, whole_more, Part}
+use Rattle.memo.specs.Parts.{IsIn, in_here, in_later, Distinct, distinct_more, Reach, IsForest}
 use Rattle.memo.specs.declared.spot.Spot.{Spot}
 use Rattle.memo.specs.declared.spot.Spot.TheVariants.{Pair, Tail}
 use Rattle.packrat.specs.Spots.{Leads, Kids, is_key}
@@ -56,7 +54,7 @@ module _ (rules : List Rule) (start : ℕ) (nodes : List Shape) (bodies x : List
           let two : q ≡ p = both.1 in
           let three : g ≡ f = cc is in (
             subst (λ v. IsIn (Pair v p) (Pair m q ∷ spots)) one
-            (subst (λ v. IsIn (Pair m v) (Pair m q ∷ spots)) two in_here),
+                (subst (λ v. IsIn (Pair m v) (Pair m q ∷ spots)) two in_here),
             subst (λ v. IF v p f) one (subst (λ v. IF m v f) two (subst (IF m q) three found)),
           )
       by false same is rec = let i = rec is in (in_later i.0, i.1)
@@ -109,7 +107,7 @@ module _ (rules : List Rule) (start : ℕ) (nodes : List Shape) (bodies ranks x 
   spot_distinct : (a : Spot) (ks : List Spot) → R a → Kids rules nodes bodies x a ks → Distinct ks
   spot_distinct (Pair n p) ks r k =
       let v = is_visited rules start nodes bodies ranks x sound
-          (reached_is_visited rules start nodes bodies x root is_root n p r) in
+      (reached_is_visited rules start nodes bodies x root is_root n p r) in
       eval_distinct rules start nodes bodies ranks x sound n p ks v.spelled k
   spot_distinct (Tail n i p) ks r k = rest_distinct rules start nodes bodies ranks x sound n i p ks k
 
@@ -137,7 +135,8 @@ module _ (rules : List Rule) (start : ℕ) (nodes : List Shape) (bodies ranks x 
             (cell_in rules start nodes bodies x more im.cells_of n p f h).0);
         whole = λ n p v. in_cell rules start nodes bodies x more im.cells_of n p
             (reached_whole Spot (Leads rules nodes bodies x) (Pair root 0) (Kids rules nodes bodies x)
-            (is_key marks tails) is_forest (visited_is_reached rules start nodes bodies x root is_root v) im.whole st.all);
+            (is_key marks tails) is_forest (visited_is_reached rules start nodes bodies x root is_root v) im.whole
+            st.all);
         found = λ n p f h. (cell_in rules start nodes bodies x more im.cells_of n p f h).1;
         different = cells_different rules start nodes bodies x more im.cells_of
             (whole_distinct Spot (Leads rules nodes bodies x) (Pair root 0) (Kids rules nodes bodies x)

@@ -1,6 +1,6 @@
 -- No more pairs are begun than there are cells of all visited pairs, nor than nodes at places.
 -- Serves: steps_hold, Packrat::match_unit
-use Rattle.std.proofs.Common.{◌≡◌, ◌⊎◌, inl, inr, ℕ, ◌+◌, ◌*◌, ◌≤◌, Bool, true, false, if◌then◌else◌, List, [], ◌∷◌}
+use Rattle.std.proofs.Common.{◌≡◌, inl, inr, ℕ, ◌+◌, ◌*◌, ◌≤◌, Bool, true, false, if◌then◌else◌, List, [], ◌∷◌}
 use Rattle.std.proofs.Common.{length, Some, None, Option, refl, sym, subst, arith}
 use Rattle.std.specs.Prelude.{slice_get}
 use Rattle.pegread.specs.Pattern.{Rule}
@@ -10,11 +10,10 @@ use Rattle.cells.specs.declared.cell.Found.{Found}
 use Rattle.cells.specs.Entries.{Entry, found_at, AreDifferent}
 use Rattle.cells.specs.declared.cell.Found.TheVariants.{Failed}
 use Rattle.cells.proofs.FoundAtLemmas.{is_of, is_own}
-use Rattle.desk.specs.State.{HasCell}
 use Rattle.desk.proofs.AreCellsLemmas.{visited_there}
 use Rattle.desk.proofs.CodeLemmas.{cells_at_most}
 use Rattle.packrat.specs.KeyMarks.{AreMarks}
-use Rattle.memo.specs.Parts.{IsIn, in_here, in_later, Distinct, distinct_none, distinct_more, Reach}
+use Rattle.memo.specs.Parts.{IsIn, in_here, in_later, Distinct, distinct_none, distinct_more}
 use Rattle.memo.specs.Run.{total}
 use Rattle.memo.specs.declared.spot.Spot.{Spot}
 use Rattle.memo.specs.declared.spot.Spot.TheVariants.{Pair, Tail}
@@ -22,7 +21,7 @@ use Rattle.packrat.specs.Spots.{Leads, Kids, is_key}
 use Rattle.packrat.specs.View.{weight, AreAll}
 use Rattle.packrat.proofs.EndsLemmas.{reached_ends}
 use Rattle.packrat.proofs.SpotReachLemmas.{reached_is_visited}
-use Rattle.packrat.specs.MachineSteps.{State, held, start_at, Steps}
+use Rattle.packrat.specs.MachineSteps.{State, held, start_at}
 use Rattle.packrat.specs.SpotSteps.{NextOf, SpotSteps}
 use Rattle.packrat.proofs.GoodLemmas.{in_front, not_in, steps_are_good, weigh_less}
 use Rattle.packrat.proofs.NextOfLemmas.{is_next, forest_of}
@@ -72,7 +71,8 @@ is_eval (Tail n k p ∷ xs) a i = eval_later (is_eval xs a i)
 evals_distinct : {xs : List Spot} → Distinct xs → Distinct (evals xs)
 evals_distinct distinct_none = distinct_none
 evals_distinct (distinct_more {a = Pair n p} {xs = xs} f d) =
-    distinct_more (λ i. let h = is_eval xs (Pair n p) i in f (subst (λ v. IsIn v xs) (sym h.is) h.there)) (evals_distinct d)
+    distinct_more (λ i. let h = is_eval xs (Pair n p) i in f (subst (λ v. IsIn v xs) (sym h.is) h.there))
+    (evals_distinct d)
 evals_distinct (distinct_more {a = Tail n i p} f d) = evals_distinct d
 
 -- a cell for each pair among spots, whatever it holds
@@ -130,17 +130,17 @@ module _ (rules : List Rule) (start : ℕ) (nodes : List Shape) (bodies ranks x 
       let forest = forest_of rules start nodes bodies ranks x more sound root is_root marks tails are in
       let next = is_next rules start nodes bodies ranks x more sound root is_root marks tails are in
       let g = steps_are_good Spot (Leads rules nodes bodies x) (Pair root 0) (Kids rules nodes bodies x)
-          (NextOf rules nodes bodies x) (is_key marks tails) forest next
-          (λ a r. reached_ends rules start nodes bodies ranks x sound root is_root r) s steps in
+      (NextOf rules nodes bodies x) (is_key marks tails) forest next
+      (λ a r. reached_ends rules start nodes bodies ranks x sound root is_root r) s steps in
       let le = weigh_less Spot (Leads rules nodes bodies x) (Pair root 0) (Kids rules nodes bodies x)
-          (NextOf rules nodes bodies x) (is_key marks tails) forest next
-          (λ a r. reached_ends rules start nodes bodies ranks x sound root is_root r) weight
-          (evals (held Spot s).begun) (pairs cells) (evals_distinct g.once) (λ a i.
-          let h = is_eval (held Spot s).begun a i in
-          let v = reached_is_visited rules start nodes bodies x root is_root h.node h.place
-              (g.reached (Pair h.node h.place) h.there) in
-          let c = every.whole h.node h.place v in
-          subst (λ v. IsIn v (pairs cells)) (sym h.is) (in_pairs h.node h.place c.0 cells c.1)) in
+      (NextOf rules nodes bodies x) (is_key marks tails) forest next
+      (λ a r. reached_ends rules start nodes bodies ranks x sound root is_root r) weight
+      (evals (held Spot s).begun) (pairs cells) (evals_distinct g.once) (λ a i.
+      let h = is_eval (held Spot s).begun a i in
+      let v = reached_is_visited rules start nodes bodies x root is_root h.node h.place
+      (g.reached (Pair h.node h.place) h.there) in
+      let c = every.whole h.node h.place v in
+      subst (λ v. IsIn v (pairs cells)) (sym h.is) (in_pairs h.node h.place c.0 cells c.1)) in
       let one = evals_weigh (held Spot s).begun in
       let two = pairs_weigh cells in
       omega (arith, le, one, two)
@@ -157,11 +157,11 @@ module _ (rules : List Rule) (start : ℕ) (nodes : List Shape) (bodies ranks x 
       let forest = forest_of rules start nodes bodies ranks x more sound root is_root marks tails are in
       let next = is_next rules start nodes bodies ranks x more sound root is_root marks tails are in
       let g = steps_are_good Spot (Leads rules nodes bodies x) (Pair root 0) (Kids rules nodes bodies x)
-          (NextOf rules nodes bodies x) (is_key marks tails) forest next
-          (λ a r. reached_ends rules start nodes bodies ranks x sound root is_root r) s steps in
+      (NextOf rules nodes bodies x) (is_key marks tails) forest next
+      (λ a r. reached_ends rules start nodes bodies ranks x sound root is_root r) s steps in
       let most = cells_at_most (cells_for (held Spot s).begun) (length nodes) (length x) (for_different g.once)
-          (λ m q h. visited_there rules start nodes bodies ranks x more sound m q
-          (reached_is_visited rules start nodes bodies x root is_root m q
-          (g.reached (Pair m q) (for_among m q h.0 (held Spot s).begun h.1)))) in
+      (λ m q h. visited_there rules start nodes bodies ranks x more sound m q
+      (reached_is_visited rules start nodes bodies x root is_root m q
+      (g.reached (Pair m q) (for_among m q h.0 (held Spot s).begun h.1)))) in
       let same = for_weigh (held Spot s).begun in
       omega (arith, most, same)

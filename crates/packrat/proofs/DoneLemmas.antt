@@ -1,6 +1,7 @@
 -- What an evaluation of the start rule's body from an empty log gives and leaves behind.
 -- Serves: Packrat::match_unit
-use Rattle.std.proofs.Common.{◌≡◌, ℕ, ◌+◌, ◌*◌, ◌≤◌, Bool, List, [], length, Some, Result, Ok, Err, IfOk, OnOk, refl, sym, subst, ap, arith, ◌∙◌}
+use Rattle.std.proofs.Common.{◌≡◌, ℕ, ◌+◌, ◌*◌, ◌≤◌, Bool, List, [], length, Some, Result, Ok, Err, IfOk, OnOk, sym}
+use Rattle.std.proofs.Common.{subst, arith}
 use Rattle.std.specs.Prelude.{slice_get}
 use Rattle.std.proofs.lemmas.List.{length-map}
 use Rattle.pegread.specs.PegViews.{rules_of}
@@ -36,12 +37,15 @@ module _ (g : Grammar) (x : List ℕ) (sound : IsSoundGrammar g) where
   pub start_gives : (root : ℕ) (f : Found) → slice_get g.bodies g.start ≡ Some root → SpotGives g x (Pair root 0) f
       → (events : List Event) × (looked : ℕ) × StartGives g x (outcome_of f events) looked
   start_gives root f at h =
-      let s = sound.spelled.spelled g.start root at in
-      (h.0, h.1, record {
-        body = s.0;
-        rule = s.1;
-        gives = gives_as (rules_of g.rules) (shapes_of g.nodes) sound.defined g.bodies x s.2 h.2;
-      })
+      let s = sound.spelled.spelled g.start root at in (
+        h.0,
+        h.1,
+        record {
+          body = s.0;
+          rule = s.1;
+          gives = gives_as (rules_of g.rules) (shapes_of g.nodes) sound.defined g.bodies x s.2 h.2;
+        },
+      )
 
   -- the start rule's body gives what the start rule does
   start_as : (root : ℕ) (o : Outcome) (k : ℕ) → slice_get g.bodies g.start ≡ Some root → StartGives g x o k
@@ -78,7 +82,7 @@ module _ (g : Grammar) (x : List ℕ) (sound : IsSoundGrammar g) where
         → IsDone g x more marks (record { stored = stored; frames = frames; begun = begun })
     unit_done f h enough stored frames begun right none run =
         let b = evaluated_begins (rules_of g.rules) g.start (shapes_of g.nodes) g.bodies g.ranks x more sound root at
-            (node_marks marks) (tail_marks marks) are (outcome_of f h.0) h.1 h.2 enough (spots_of stored) begun run in
+        (node_marks marks) (tail_marks marks) are (outcome_of f h.0) h.1 h.2 enough (spots_of stored) begun run in
         record {
           frames = none;
           cells = b.cells;
@@ -93,12 +97,13 @@ module _ (g : Grammar) (x : List ℕ) (sound : IsSoundGrammar g) where
         → c.begun ≤ length g.nodes * (k + 1)
     unit_bounded c done o k gives =
         let most = cells_at_most done.cells (length (shapes_of g.nodes)) k done.every.different
-            (λ m q h.
-            let v = done.every.visited m q h.0 h.1 in
-            let within = visits_within (rules_of g.rules) g.start (shapes_of g.nodes) g.bodies g.ranks x sound v root k o
-                at (start_as root o k at gives) in
-            ((visited_there (rules_of g.rules) g.start (shapes_of g.nodes) g.bodies g.ranks x more sound m q v).0,
-            omega (arith, within.near))) in
+        (λ m q h.
+        let v = done.every.visited m q h.0 h.1 in
+        let within = visits_within (rules_of g.rules) g.start (shapes_of g.nodes) g.bodies g.ranks x sound v root k o
+        at (start_as root o k at gives) in (
+          (visited_there (rules_of g.rules) g.start (shapes_of g.nodes) g.bodies g.ranks x more sound m q v).0,
+          omega (arith, within.near),
+        )) in
         let count = done.count in
         let same : length (shapes_of g.nodes) ≡ length g.nodes = length-map g.nodes shape_of in
         subst (λ v. c.begun ≤ v * (k + 1)) same (omega (arith, most, count))

@@ -1,7 +1,7 @@
 -- Where a reached spot leads, step by step, comes to an end.
 -- Serves: evaluated_once
-use Rattle.std.proofs.Common.{◌≡◌, ◌⊎◌, inl, inr, ℕ, zero, suc, ◌+◌, ◌<◌, ◌≤◌, List, [], ◌∷◌, Some, drop, refl, sym}
-use Rattle.std.proofs.Common.{subst, ◌∙◌, arith}
+use Rattle.std.proofs.Common.{◌≡◌, inl, inr, ℕ, zero, suc, ◌+◌, ◌<◌, List, [], ◌∷◌, Some, drop, refl, sym}
+use Rattle.std.proofs.Common.{subst, arith}
 use Rattle.std.specs.Prelude.{slice_get}
 use Rattle.pegread.specs.Pattern.{Rule}
 use Rattle.gramcheck.specs.Nodes as node
@@ -43,12 +43,12 @@ module _ (rules : List Rule) (start : ℕ) (nodes : List Shape) (bodies ranks x 
     rest_ends ms at [] i q is on = ends (λ b l.
         let same : l.0 ≡ node.Seq ms = cc (l.1, at) in
         let by : TailLeadsBy rules nodes bodies x (way_of n (node.Seq ms)) n i q b =
-            subst (λ v. TailLeadsBy rules nodes bodies x (way_of n v) n i q b) same l.2 in
+        subst (λ v. TailLeadsBy rules nodes bodies x (way_of n v) n i q b) same l.2 in
         absurd (let front = front_drop ms i by.0 by.1 in cc (front, is)))
     rest_ends ms at (m ∷ l) i q is on = ends (λ b h.
         let same : h.0 ≡ node.Seq ms = cc (h.1, at) in
         let by : TailLeadsBy rules nodes bodies x (way_of n (node.Seq ms)) n i q b =
-            subst (λ v. TailLeadsBy rules nodes bodies x (way_of n v) n i q b) same h.2 in
+        subst (λ v. TailLeadsBy rules nodes bodies x (way_of n v) n i q b) same h.2 in
         let front = drop_front ms l i m is in
         let own : by.0 ≡ m = cc (by.1, front.0) in
         elim by.2 [
@@ -64,12 +64,12 @@ module _ (rules : List Rule) (start : ℕ) (nodes : List Shape) (bodies ranks x 
     others_end ms at [] i is on = ends (λ b l.
         let same : l.0 ≡ node.Choice ms = cc (l.1, at) in
         let by : TailLeadsBy rules nodes bodies x (way_of n (node.Choice ms)) n i p b =
-            subst (λ v. TailLeadsBy rules nodes bodies x (way_of n v) n i p b) same l.2 in
+        subst (λ v. TailLeadsBy rules nodes bodies x (way_of n v) n i p b) same l.2 in
         absurd (let front = front_drop ms i by.0 by.1 in cc (front, is)))
     others_end ms at (m ∷ l) i is on = ends (λ b h.
         let same : h.0 ≡ node.Choice ms = cc (h.1, at) in
         let by : TailLeadsBy rules nodes bodies x (way_of n (node.Choice ms)) n i p b =
-            subst (λ v. TailLeadsBy rules nodes bodies x (way_of n v) n i p b) same h.2 in
+        subst (λ v. TailLeadsBy rules nodes bodies x (way_of n v) n i p b) same h.2 in
         let front = drop_front ms l i m is in
         let own : by.0 ≡ m = cc (by.1, front.0) in
         elim by.2 [
@@ -114,7 +114,8 @@ module _ (rules : List Rule) (start : ℕ) (nodes : List Shape) (bodies ranks x 
 
   eval_ends : (t n p : ℕ) → V n p → H n p < t → E (Pair n p)
   eval_ends zero n p v lt = absurd (omega arith)
-  eval_ends (suc t) n p v lt = ends (λ b l. end_by n p (lower t n p v lt (λ m q w h. eval_ends t m q w h)) b l.0 l.1 l.2)
+  eval_ends (suc t) n p v lt = ends (λ b l. end_by n p (lower t n p v lt (λ m q w h. eval_ends t m q w h)) b l.0 l.1
+      l.2)
     where
       lower : (t n p : ℕ) → V n p → H n p < suc t → ((m q : ℕ) → V m q → H m q < t → E (Pair m q)) → (m q : ℕ)
           → A n p m q → E (Pair m q)

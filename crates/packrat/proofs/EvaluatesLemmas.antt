@@ -1,27 +1,26 @@
 -- An evaluation from nothing stores the keys that are reached, and has begun as many pairs as they imply.
 -- Serves: evaluated_once
-use Rattle.std.proofs.Common.{◌≡◌, ◌⊎◌, inl, inr, ℕ, ◌+◌, ◌<◌, ◌≤◌, Bool, true, false, List, [], ◌∷◌, length, Some}
-use Rattle.std.proofs.Common.{refl, sym, subst, arith}
+use Rattle.std.proofs.Common.{◌≡◌, ℕ, ◌≤◌, Bool, List, [], ◌∷◌, length, Some}
+use Rattle.std.proofs.Common.{refl, arith}
 use Rattle.std.specs.Prelude.{slice_get}
 use Rattle.pegread.specs.Pattern.{Rule}
 use Rattle.gramcheck.specs.Nodes.{Shape}
-use Rattle.gramcheck.specs.Outcome.{Event, Outcome, Fails, Takes}
+use Rattle.gramcheck.specs.Outcome.{Outcome, Fails, Takes}
 use Rattle.gramcheck.specs.Sound.{IsRanked}
 use Rattle.cells.specs.declared.cell.Found.{Found}
 use Rattle.cells.specs.declared.cell.Found.TheVariants.{Failed, Took}
 use Rattle.cells.specs.Entries.{Entry}
 use Rattle.pegmatch.specs.Answers.{WasEnough}
-use Rattle.pegmatch.specs.KeptEvents.{outcome_of}
 use Rattle.desk.specs.State.{IsFound}
-use Rattle.desk.specs.Visits.{NodeGives, Visits}
-use Rattle.desk.proofs.VisitsLemmas.{visits_within, GivesWithin}
+use Rattle.desk.specs.Visits.{NodeGives}
+use Rattle.desk.proofs.VisitsLemmas.{visits_within}
 use Rattle.packrat.specs.KeyMarks.{AreMarks}
-use Rattle.memo.specs.Parts.{IsIn, in_here, in_later, Distinct, distinct_none, Reach, reach_root, Whole}
-use Rattle.memo.specs.Run.{Run, total}
+use Rattle.memo.specs.Parts.{IsIn, in_here, in_later, distinct_none, Reach, reach_root}
+use Rattle.memo.specs.Run.{total}
 use Rattle.memo.specs.declared.spot.Spot.{Spot}
 use Rattle.memo.specs.declared.spot.Spot.TheVariants.{Pair, Tail}
 use Rattle.packrat.specs.Spots.{Leads, Kids, is_key}
-use Rattle.packrat.specs.View.{weight, CellsOf, cells_none, cells_rest, cells_pair, AreImplied, AreStored, AreAll}
+use Rattle.packrat.specs.View.{weight, CellsOf, cells_none, cells_rest, cells_pair, AreImplied, AreStored}
 use Rattle.packrat.specs.View.{Evaluates, AreBegun}
 use Rattle.packrat.proofs.AreImpliedLemmas.{is_forest, implied_are_all}
 use Rattle.packrat.proofs.EndsLemmas.{reached_ends}
@@ -48,9 +47,9 @@ module _ (rules : List Rule) (start : ℕ) (nodes : List Shape) (bodies ranks x 
   evaluated_stores stored begun run =
       let forest = is_forest rules start nodes bodies ranks x more sound root is_root marks tails are in
       let reached = stays_reached Spot (Leads rules nodes bodies x) (Pair root 0) (Kids rules nodes bodies x)
-          (is_key marks tails) weight forest run reach_root (λ a i. absurd (nothing_in i)) in
+      (is_key marks tails) weight forest run reach_root (λ a i. absurd (nothing_in i)) in
       let d = run_done Spot (Leads rules nodes bodies x) (Pair root 0) (Kids rules nodes bodies x)
-          (is_key marks tails) weight forest run (λ a i. absurd (nothing_in i)) in
+      (is_key marks tails) weight forest run (λ a i. absurd (nothing_in i)) in
       record {
         reached = λ a i. (reached a i).0;
         keys = λ a i. (reached a i).1;
@@ -69,11 +68,25 @@ module _ (rules : List Rule) (start : ℕ) (nodes : List Shape) (bodies ranks x 
 
     found_of : (n p j : ℕ) (c : Outcome) → j ≤ k → NodeGives rules nodes bodies x n p c j → HasFound n p
     found_of n p j Fails le g =
-        record { f = Failed; found = record {
-          events = []; looked = j; gives = g; enough = λ is. let h = enough is in omega (arith, h, le) } }
+        record {
+          f = Failed;
+          found = record {
+            events = [];
+            looked = j;
+            gives = g;
+            enough = λ is. let h = enough is in omega (arith, h, le);
+          };
+        }
     found_of n p j (Takes q es) le g =
-        record { f = Took q; found = record {
-          events = es; looked = j; gives = g; enough = λ is. let h = enough is in omega (arith, h, le) } }
+        record {
+          f = Took q;
+          found = record {
+            events = es;
+            looked = j;
+            gives = g;
+            enough = λ is. let h = enough is in omega (arith, h, le);
+          };
+        }
 
     has_found : (n p : ℕ) → R (Pair n p) → HasFound n p
     has_found n p r =
@@ -108,17 +121,18 @@ module _ (rules : List Rule) (start : ℕ) (nodes : List Shape) (bodies ranks x 
         let forest = is_forest rules start nodes bodies ranks x more sound root is_root marks tails are in
         let s = evaluated_stores stored begun run in
         let w = run_weighed Spot (Leads rules nodes bodies x) (Pair root 0) (Kids rules nodes bodies x)
-            (is_key marks tails) weight forest run (are.root root is_root) in
+        (is_key marks tails) weight forest run (are.root root is_root) in
         let c = has_cells w.spots (λ a i. whole_reached Spot (Leads rules nodes bodies x) (Pair root 0)
-            (Kids rules nodes bodies x) (is_key marks tails) forest w.whole s.reached i) in
+        (Kids rules nodes bodies x) (is_key marks tails) forest w.whole s.reached i) in
         let implied : AreImplied rules start nodes bodies x more marks tails stored c.cells =
-            record { spots = w.spots; whole = w.whole; cells_of = c.of_spots } in
+        record { spots = w.spots; whole = w.whole; cells_of = c.of_spots } in
         let one = c.count in
         let two = w.count in
         record {
           cells = c.cells;
           implied = implied;
           count = omega (arith, one, two);
-          every = implied_are_all rules start nodes bodies ranks x more sound root is_root marks tails are stored c.cells
+          every = implied_are_all rules start nodes bodies ranks x more sound root is_root marks tails are stored
+              c.cells
               s implied;
         }

@@ -1,11 +1,11 @@
 -- On its way the machine begins reached vertices, each once, of which none that is stored is on the stack.
 -- Serves: steps_hold, Packrat::match_unit
-use Rattle.std.proofs.Common.{◌≡◌, ◌⊎◌, inl, inr, ℕ, zero, suc, ◌+◌, ◌*◌, ◌-◌, ◌<◌, ◌≤◌, Bool, true, false, List, []}
+use Rattle.std.proofs.Common.{◌≡◌, ◌⊎◌, inl, inr, ℕ, suc, ◌+◌, ◌≤◌, Bool, true, false, List, []}
 use Rattle.std.proofs.Common.{◌∷◌, ◌++◌, length, refl, sym, subst, arith}
 use Rattle.memo.specs.Parts.{IsIn, in_here, in_later, Distinct, distinct_none, distinct_more, Reach, reach_root}
 use Rattle.memo.specs.Parts.{reach_edge, IsForest}
 use Rattle.memo.specs.Run.{total, Ends, ends}
-use Rattle.memo.proofs.PartsLemmas.{in_left, in_right, in_either}
+use Rattle.memo.proofs.PartsLemmas.{in_left, in_right}
 use Rattle.packrat.specs.MachineSteps.{Level, Held, State, Asks, Works, held, stack_of, store, Step, step_stored}
 use Rattle.packrat.specs.MachineSteps.{step_begin}
 use Rattle.packrat.specs.MachineSteps.{step_next, step_last, Steps, steps_none, steps_more, start_at, IsNext, IsGood}
@@ -104,7 +104,8 @@ module _ (V : Type 0) (Edge : V → V → Type 0) (root : V) (Kids : V → List 
 
     asker_of : (gs : List (Level V)) → Led gs b → ((a : V) → IsIn a (stack_of V gs) → IsIn a bg) → key b ≡ false
         → (a : V) × IsIn a (b ∷ bg) × Edge a b
-    asker_of [] l on is = absurd (let t = forest.root_key in let same : key b ≡ key root = subst (λ v. key b ≡ key v) l refl in cc (is, t, same))
+    asker_of [] l on is = absurd (let t = forest.root_key in let same : key b ≡ key root = subst (λ v. key b ≡ key v)
+        l refl in cc (is, t, same))
     asker_of (f ∷ gs) l on is = (f.at, in_later (on f.at in_here), l.0)
 
     asked_by : (c : V) (f : Level V) → (c ≡ b) ⊎ IsIn c bg → key c ≡ false
@@ -115,7 +116,7 @@ module _ (V : Type 0) (Edge : V → V → Type 0) (root : V) (Kids : V → List 
     asked_by c f (inr i) plain (inl new) e =
         let h = w.inner.asker c i plain in
         let same = forest.one_asker h.0 b c plain (w.inner.good.reached h.0 h.1) h.2 w.reached
-            (subst (λ v. Edge v.at c) new e) in
+        (subst (λ v. Edge v.at c) new e) in
         absurd (new_begun (subst (λ v. IsIn v bg) same h.1))
     asked_by c f (inl is) plain (inr j) e =
         subst (λ v. IsIn v f.asked) (sym is)
@@ -172,7 +173,7 @@ module _ (V : Type 0) (Edge : V → V → Type 0) (root : V) (Kids : V → List 
     asks_of f plain (inr j) e =
         let on = on_stack j in
         let same = forest.one_asker f.at a k plain (w.inner.good.reached f.at (w.inner.good.stack f.at (in_later on))) e
-            is_reached (next.leads a k asked n) in
+        is_reached (next.leads a k asked n) in
         absurd (first_fresh w.inner.good.stack_once (subst (λ v. IsIn v (stack_of V fs)) same on))
 
     still_asked : (c : V) (f : Level V) → IsIn c bg → key c ≡ false
@@ -227,8 +228,10 @@ module _ (V : Type 0) (Edge : V → V → Type 0) (root : V) (Kids : V → List 
       where
         by_stored : (v : Bool) → key a ≡ v → (c : V) → IsIn c (store V v a st) → IsIn c bg × (key c ≡ true)
         by_stored true is c i = elim (in_front i) [
-          | inl same ↦ (subst (λ v. IsIn v bg) (sym same) (w.inner.good.stack a in_here),
-              subst (λ v. key v ≡ true) (sym same) is)
+          | inl same ↦ (
+            subst (λ v. IsIn v bg) (sym same) (w.inner.good.stack a in_here),
+            subst (λ v. key v ≡ true) (sym same) is,
+          )
           | inr j ↦ w.inner.good.stored c j
         ]
         by_stored false is c i = w.inner.good.stored c i

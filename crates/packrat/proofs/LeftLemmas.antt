@@ -1,8 +1,8 @@
 -- Each turn of the machine's loop lowers what is left.
 -- Serves: Packrat::match_unit
-use Rattle.std.proofs.Common.{◌≡◌, ◌⊎◌, inl, inr, ℕ, zero, suc, ◌+◌, ◌*◌, ◌-◌, ◌<◌, ◌≤◌, max, Bool, true, false, List}
+use Rattle.std.proofs.Common.{◌≡◌, inl, inr, ℕ, zero, suc, ◌+◌, ◌*◌, ◌-◌, ◌<◌, ◌≤◌, Bool, true, false, List}
 use Rattle.std.proofs.Common.{[], ◌∷◌}
-use Rattle.std.proofs.Common.{length, Some, refl, sym, subst, ap, arith}
+use Rattle.std.proofs.Common.{Some, refl, sym, subst, arith}
 use Rattle.std.specs.Prelude.{slice_get}
 use Rattle.pegread.specs.PegViews.{rules_of}
 use Rattle.gramcheck.specs.Grammar.{Grammar}
@@ -11,7 +11,7 @@ use Rattle.gramcheck.specs.Nodes.{Shape, shapes_of}
 use Rattle.cells.specs.declared.cell.Found.{Found}
 use Rattle.memo.specs.declared.spot.Spot.{Spot}
 use Rattle.memo.specs.declared.spot.Spot.TheVariants.{Pair, Tail}
-use Rattle.packrat.specs.TurnsLeft.{members_of, most_members, ask_cost, wait_cost, frames_cost, turn_cost, most_begun}
+use Rattle.packrat.specs.TurnsLeft.{members_of, most_members, ask_cost, wait_cost, frames_cost, most_begun}
 use Rattle.packrat.specs.TurnsLeft.{left}
 use Rattle.packrat.specs.Onward.{HasMember, IsWell}
 use Rattle.packrat.specs.SpotSteps.{FirstBy, TailFirstBy, IsFirst}
@@ -19,7 +19,6 @@ use Rattle.packrat.specs.Spots.{Way, Leaf, Body, Members, Alternatives, Turns, O
 use Rattle.packrat.specs.Spots.{Kids}
 use Rattle.packrat.specs.View.{weight}
 use Rattle.packrat.specs.declared.frames.Frame.{Frame}
-use Rattle.packrat.specs.declared.machine.Turn.{Turn}
 use Rattle.packrat.specs.declared.machine.Turn.TheVariants.{Ask, Answer}
 
 member_counted : (shape : Shape) (i : ℕ) → HasMember shape i → i < members_of (way_of 0 shape)
@@ -167,7 +166,8 @@ module _ (g : Grammar) (x : List ℕ) where
       let lt = member_below n i p w in
       let same : now ≡ begun = omega (arith, is) in
       let cost = first_of_tail (way_of n h.0) n i p k h.2 in
-      subst (λ v. (4 * Most + 4) * (most_begun g x - v) + (ask_cost Most k + ((2 + 4 * (Most - suc i)) + frames_cost Most fs))
+      subst (λ v. (4 * Most + 4) * (most_begun g x - v) + (ask_cost Most k + ((2 + 4 * (Most - suc i)) + frames_cost
+      Most fs))
       < (4 * Most + 4) * (most_begun g x - begun) + (4 * (Most - i) + frames_cost Most fs)) (sym same)
       (omega (arith, cost, lt))
 

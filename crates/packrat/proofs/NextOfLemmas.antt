@@ -1,22 +1,17 @@
 -- What a spot asks for next is led to, fresh, and as its list has it.
 -- Serves: steps_run, steps_hold, Packrat::match_unit
-use Rattle.std.proofs.Common.{◌≡◌, ◌⊎◌, inl, inr, ℕ, zero, suc, ◌+◌, ◌<◌, ◌≤◌, Bool, true, false, List, [], ◌∷◌, ◌++◌}
-use Rattle.std.proofs.Common.{length, Some, None, Option, refl, sym, subst, ap, arith}
+use Rattle.std.proofs.Common.{◌≡◌, ◌⊎◌, inl, inr, ℕ, zero, suc, ◌<◌, Bool, List, [], ◌∷◌, ◌++◌}
+use Rattle.std.proofs.Common.{length, Some, refl, sym, subst, arith}
 use Rattle.std.specs.Prelude.{slice_get}
 use Rattle.pegread.specs.Pattern.{Rule}
 use Rattle.gramcheck.specs.Nodes.{Shape}
 use Rattle.gramcheck.specs.Sound.{IsRanked}
-use Rattle.cells.specs.declared.cell.Found.{Found}
-use Rattle.cells.specs.Entries.{Entry, found_at}
-use Rattle.desk.specs.Visits.{Visits}
 use Rattle.packrat.specs.KeyMarks.{AreMarks}
-use Rattle.memo.specs.Parts.{IsIn, in_here, in_later, Distinct, distinct_none, distinct_more, Reach, IsForest}
-use Rattle.memo.specs.Run.{total}
+use Rattle.memo.specs.Parts.{IsIn, in_here, in_later, Reach, IsForest}
 use Rattle.memo.specs.declared.spot.Spot.{Spot}
 use Rattle.memo.specs.declared.spot.Spot.TheVariants.{Pair, Tail}
 use Rattle.packrat.specs.Spots.{Way, Leaf, Body, Members, Alternatives, Turns, Operand, way_of, LeadsBy, TailLeadsBy}
 use Rattle.packrat.specs.Spots.{Leads, KidsBy, TailKidsBy, Kids, is_key}
-use Rattle.packrat.specs.View.{weight, AreAll}
 use Rattle.packrat.proofs.AreImpliedLemmas.{is_forest}
 use Rattle.packrat.proofs.SpotKidsLemmas.{one_in}
 use Rattle.packrat.specs.MachineSteps.{IsNext}
@@ -152,4 +147,3 @@ module _ (rules : List Rule) (start : ℕ) (nodes : List Shape) (bodies ranks x 
     two = λ a k asked n. next_two n;
     all = λ a k asked more h. next_form a k asked more h (form_of a (asked ++ k ∷ more) h);
   }
-

@@ -1,16 +1,15 @@
 -- A pair of a marked node is asked for by one pair.
 -- Serves: asked_once
-use Rattle.std.proofs.Common.{◌≡◌, ◌⊎◌, inl, inr, ℕ, ◌+◌, List, [], ◌∷◌, Some, Contains, refl, sym, subst, ap, arith}
+use Rattle.std.proofs.Common.{◌≡◌, inl, inr, ℕ, ◌+◌, List, Some, Contains, refl, sym, subst, arith}
 use Rattle.std.specs.Prelude.{slice_get}
 use Rattle.pegread.specs.Pattern.{Rule}
 use Rattle.gramcheck.specs.Nodes as node
 use Rattle.gramcheck.specs.Nodes.{Shape}
 use Rattle.gramcheck.specs.Sound.{IsRanked}
 use Rattle.leastset.proofs.ContainsLemmas.{in_first, in_later}
-use Rattle.desk.specs.Visits.{NodeTakes, AsksMember, member_here, member_later, AsksAlternative, alternative_here}
+use Rattle.desk.specs.Visits.{AsksMember, member_here, member_later, AsksAlternative, alternative_here}
 use Rattle.desk.specs.Visits.{alternative_later, AsksBy, Asks, Visits, first, asked}
-use Rattle.packrat.specs.Width.{Width}
-use Rattle.packrat.specs.Offset.{Once, once_here, once_later, MemberAt, at_first, at_later, OffsetBy, NamesBy, Names}
+use Rattle.packrat.specs.Offset.{MemberAt, at_first, at_later, OffsetBy, NamesBy, Names}
 use Rattle.packrat.specs.Offset.{Offset, IsAskedBy}
 use Rattle.packrat.proofs.WidthLemmas.{takes_width}
 
@@ -80,7 +79,7 @@ module _ (rules : List Rule) (start : ℕ) (nodes : List Shape) (bodies ranks x 
       let at : slice_get nodes n ≡ Some a.shape = subst (λ v. slice_get nodes v ≡ Some a.shape) is a.at in
       let same : o.shape ≡ a.shape = cc (o.at, at) in
       let by : AsksBy rules nodes bodies x a.shape n p m q =
-          subst (λ v. AsksBy rules nodes bodies x a.shape v p m q) is a.by in
+      subst (λ v. AsksBy rules nodes bodies x a.shape v p m q) is a.by in
       (is, offset_by a.shape n p m q d (subst (λ v. OffsetBy nodes bodies v n m d) same o.by) by)
 
   pub asked_by_one : {m q : ℕ} → Visits rules nodes bodies x start m q → (n d : ℕ)

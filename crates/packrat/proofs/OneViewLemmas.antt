@@ -1,15 +1,13 @@
 -- The stored keys imply one list of cells.
 -- Serves: one_view
-use Rattle.std.proofs.Common.{◌≡◌, ◌⊎◌, inl, inr, ℕ, zero, suc, Bool, true, false, List, [], ◌∷◌, ◌++◌, Some, None}
-use Rattle.std.proofs.Common.{refl, sym, subst, ap}
-use Rattle.std.specs.Prelude.{slice_get}
+use Rattle.std.proofs.Common.{◌≡◌, inl, inr, ℕ, Bool, List}
+use Rattle.std.proofs.Common.{refl, sym, subst}
 use Rattle.pegread.specs.Pattern.{Rule}
 use Rattle.gramcheck.specs.Nodes.{Shape}
 use Rattle.gramcheck.specs.Sound.{IsRanked}
 use Rattle.cells.specs.declared.cell.Found.{Found}
 use Rattle.cells.specs.declared.cell.Found.TheVariants.{Failed, Took}
 use Rattle.cells.specs.Entries.{Entry}
-use Rattle.pegmatch.specs.KeptEvents.{outcome_of}
 use Rattle.desk.specs.State.{IsFound}
 use Rattle.desk.specs.Visits.{NodeTakes, NodeFails}
 use Rattle.desk.proofs.NodeGivesLemmas.{same_node}

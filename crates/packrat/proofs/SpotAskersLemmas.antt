@@ -1,14 +1,13 @@
 -- A spot that is no key is led to by one alone.
 -- Serves: implied_cells
-use Rattle.std.proofs.Common.{◌≡◌, ◌⊎◌, inl, inr, ℕ, zero, suc, ◌+◌, Bool, true, false, List, Some, refl, sym, subst}
+use Rattle.std.proofs.Common.{◌≡◌, ◌⊎◌, inl, inr, ℕ, zero, suc, ◌+◌, Bool, false, List, Some, refl, sym, subst}
 use Rattle.std.proofs.Common.{arith}
 use Rattle.std.specs.Prelude.{slice_get}
 use Rattle.pegread.specs.Pattern.{Rule}
 use Rattle.gramcheck.specs.Nodes as node
 use Rattle.gramcheck.specs.Nodes.{Shape}
 use Rattle.gramcheck.specs.Sound.{IsRanked}
-use Rattle.desk.specs.Visits.{NodeTakes, NodeFails}
-use Rattle.packrat.specs.Width.{Width}
+use Rattle.desk.specs.Visits.{NodeTakes}
 use Rattle.memo.specs.Parts.{Reach, reach_root, reach_edge}
 use Rattle.memo.specs.declared.spot.Spot.{Spot}
 use Rattle.memo.specs.declared.spot.Spot.TheVariants.{Pair, Tail}
@@ -16,7 +15,7 @@ use Rattle.packrat.specs.Spots.{Way, Leaf, Body, Members, Alternatives, Turns, O
 use Rattle.packrat.specs.Spots.{LeadsBy, TailLeadsBy, Leads, is_key}
 use Rattle.packrat.specs.KeyMarks.{WayNames, WayNamesOnce, DoesNotRepeat, IsPlain, Single, single_root, single_below}
 use Rattle.packrat.specs.KeyMarks.{AreMarks, IsLoop, WayEntersOnce}
-use Rattle.std.proofs.Common.{length, ◌<◌, ◌≤◌}
+use Rattle.std.proofs.Common.{◌<◌, ◌≤◌}
 use Rattle.desk.proofs.AsksLemmas.{goes_onward, is_visited}
 use Rattle.packrat.proofs.SpotReachLemmas.{reached_is_visited}
 use Rattle.packrat.proofs.WidthLemmas.{takes_width}
@@ -127,18 +126,18 @@ module _ (rules : List Rule) (start : ℕ) (nodes : List Shape) (bodies ranks x 
         let is : n ≡ plain.asker = plain.only n l.0 l.1 (names_by (way_of n l.0) n p m q l.2) in
         let same : l.0 ≡ plain.shape = sym (same_shape n l.0 is l.1) in
         let moved : LB (way_of n plain.shape) n p (Pair m q) =
-            subst (λ v. LB (way_of n v) n p (Pair m q)) same l.2 in
+        subst (λ v. LB (way_of n v) n p (Pair m q)) same l.2 in
         let by : LB (way_of plain.asker plain.shape) plain.asker p (Pair m q) =
-            subst (λ v. LB (way_of v plain.shape) v p (Pair m q)) is moved in
+        subst (λ v. LB (way_of v plain.shape) v p (Pair m q)) is moved in
         let here = here_by (way_of plain.asker plain.shape) plain.asker p m q plain.once by in
         subst (λ v. Here q (Pair v p)) (sym is) here
     led_here (Tail n i p) q l =
         let is : n ≡ plain.asker = plain.only n l.0 l.1 (rest_names_by (way_of n l.0) n i p m q l.2) in
         let same : l.0 ≡ plain.shape = sym (same_shape n l.0 is l.1) in
         let moved : RB (way_of n plain.shape) n i p (Pair m q) =
-            subst (λ v. RB (way_of n v) n i p (Pair m q)) same l.2 in
+        subst (λ v. RB (way_of n v) n i p (Pair m q)) same l.2 in
         let by : RB (way_of plain.asker plain.shape) plain.asker i p (Pair m q) =
-            subst (λ v. RB (way_of v plain.shape) v i p (Pair m q)) is moved in
+        subst (λ v. RB (way_of v plain.shape) v i p (Pair m q)) is moved in
         let here = rest_here_by (way_of plain.asker plain.shape) plain.asker i p m q by in
         subst (λ v. Here q (Tail v i p)) (sym is) here
 
@@ -249,7 +248,7 @@ module _ (rules : List Rule) (start : ℕ) (nodes : List Shape) (bodies ranks x 
   step_same (Members ms) i p r q s is a b =
       let same : b.0 ≡ a.0 = cc (a.1, b.1) in
       let moved : NodeTakes rules nodes bodies x a.0 r s =
-          subst (λ v. NodeTakes rules nodes bodies x v r s) same b.2 in
+      subst (λ v. NodeTakes rules nodes bodies x v r s) same b.2 in
       takes_same rules start nodes bodies ranks x sound a.2
       (subst (λ v. NodeTakes rules nodes bodies x a.0 v s) (sym is) moved)
   step_same (Alternatives ms) i p r q s is a b = cc
@@ -283,7 +282,7 @@ module _ (rules : List Rule) (start : ℕ) (nodes : List Shape) (bodies ranks x 
       let f = later_led c.spot n i q c.leads in
       let g = later_led d.spot n i r d.leads in
       let is : f.place ≡ g.place =
-          rest_one_place n one i f.place g.place (subst R f.is c.reached) (subst R g.is d.reached) in
+      rest_one_place n one i f.place g.place (subst R f.is c.reached) (subst R g.is d.reached) in
       let same : g.shape ≡ f.shape = cc (f.at, g.at) in
       step_same (way_of n f.shape) i f.place g.place q r is f.step
       (subst (λ v. StepBy (way_of n v) i g.place r) same g.step)
@@ -311,7 +310,7 @@ module _ (rules : List Rule) (start : ℕ) (nodes : List Shape) (bodies ranks x 
   plain_asker : (m q : ℕ) → IsPlain start nodes bodies m → R (Pair m q) → Asker (Pair m q)
   plain_asker m q plain r = rest_asker (Pair m q) r
       (λ is. let same : root ≡ m = cc is in
-          plain.not_root (subst (λ v. slice_get bodies start ≡ Some v) same is_root))
+      plain.not_root (subst (λ v. slice_get bodies start ≡ Some v) same is_root))
 
   pub one_place : {n : ℕ} → Single start nodes bodies n → OnePlace n
   one_place (single_root {m = m} h none) q r a b =
@@ -372,7 +371,7 @@ module _ (rules : List Rule) (start : ℕ) (nodes : List Shape) (bodies ranks x 
   same_entry (Turns j z) n m q r a b one o l k s t =
       let is : l.0 ≡ k.0 = one l.0 k.0 (subst R l.2 s) (subst R k.2 t) in
       let at : q ≡ r = takes_same rules start nodes bodies ranks x sound l.1
-          (subst (λ v. NodeTakes rules nodes bodies x j v r) (sym is) k.1) in
+      (subst (λ v. NodeTakes rules nodes bodies x j v r) (sym is) k.1) in
       (cc (l.2, k.2, is), at)
   same_entry (Operand j) n m q r a b one o l k s t =
       let is : q ≡ r = one q r (subst R l s) (subst R k t) in (cc (l, k, is), is)
@@ -410,32 +409,32 @@ module _ (rules : List Rule) (start : ℕ) (nodes : List Shape) (bodies ranks x 
       | inl is ↦
           let same = entered_by n l.0 is l.1 in
           let moved : LB (way_of n loop.shape) n p (Pair m q) =
-              subst (λ v. LB (way_of n v) n p (Pair m q)) same l.2 in
+          subst (λ v. LB (way_of n v) n p (Pair m q)) same l.2 in
           let by : LB (way_of loop.entry loop.shape) loop.entry p (Pair m q) =
-              subst (λ v. LB (way_of v loop.shape) v p (Pair m q)) is moved in
+          subst (λ v. LB (way_of v loop.shape) v p (Pair m q)) is moved in
           inl (subst (λ v. Enters q (Pair v p)) (sym is)
           (enters_by (way_of loop.entry loop.shape) loop.entry p m q loop.once by))
       | inr is ↦
           let same = star_shape n l.0 is l.1 in
           let moved : LB (way_of n (node.Star loop.operand)) n p (Pair m q) =
-              subst (λ v. LB (way_of n v) n p (Pair m q)) same l.2 in
+          subst (λ v. LB (way_of n v) n p (Pair m q)) same l.2 in
           let by : LB (Turns loop.operand m) m p (Pair m q) =
-              subst (λ v. LB (Turns loop.operand v) v p (Pair m q)) is moved in
+          subst (λ v. LB (Turns loop.operand v) v p (Pair m q)) is moved in
           inr (p, cc is, turn_by p q by)
     ]
     led_in (Tail n i p) q l = elim (loop.only n l.0 l.1 (rest_names_by (way_of n l.0) n i p m q l.2)) [
       | inl is ↦
           let same = entered_by n l.0 is l.1 in
           let moved : RB (way_of n loop.shape) n i p (Pair m q) =
-              subst (λ v. RB (way_of n v) n i p (Pair m q)) same l.2 in
+          subst (λ v. RB (way_of n v) n i p (Pair m q)) same l.2 in
           let by : RB (way_of loop.entry loop.shape) loop.entry i p (Pair m q) =
-              subst (λ v. RB (way_of v loop.shape) v i p (Pair m q)) is moved in
+          subst (λ v. RB (way_of v loop.shape) v i p (Pair m q)) is moved in
           inl (subst (λ v. Enters q (Tail v i p)) (sym is)
           (rest_enters_by (way_of loop.entry loop.shape) loop.entry i p m q by))
       | inr is ↦
           let same = star_shape n l.0 is l.1 in
           let none : RB (way_of n (node.Star loop.operand)) n i p (Pair m q) =
-              subst (λ v. RB (way_of n v) n i p (Pair m q)) same l.2 in
+          subst (λ v. RB (way_of n v) n i p (Pair m q)) same l.2 in
           absurd none
     ]
 
@@ -443,7 +442,7 @@ module _ (rules : List Rule) (start : ℕ) (nodes : List Shape) (bodies ranks x 
     turns_forward : (p q : ℕ) → R (Pair m p) → Turn p q → p < q
     turns_forward p q r t =
         let v = is_visited rules start nodes bodies ranks x sound
-            (reached_is_visited rules start nodes bodies x root is_root m p r) in
+        (reached_is_visited rules start nodes bodies x root is_root m p r) in
         let on = goes_onward rules start nodes bodies ranks x sound loop.operand p q v.high t in
         let moves : q ≡ p → ⊥ = λ is. sound.moving.star m loop.operand loop.is_star (on.null is) in
         let low = on.low in
@@ -495,13 +494,13 @@ module _ (rules : List Rule) (start : ℕ) (nodes : List Shape) (bodies ranks x 
     loop_asker : (q : ℕ) → R (Pair m q) → Asker (Pair m q)
     loop_asker q r = rest_asker (Pair m q) r
         (λ is. let same : root ≡ m = cc is in
-            loop.not_root (subst (λ v. slice_get bodies start ≡ Some v) same is_root))
+        loop.not_root (subst (λ v. slice_get bodies start ≡ Some v) same is_root))
 
     -- each of its places is reached from an entry by turns
     entered_once : {b : Spot} → R b → (q : ℕ) → b ≡ Pair m q → Entered q
     entered_once reach_root q is =
         absurd (let same : root ≡ m = cc is in
-            loop.not_root (subst (λ v. slice_get bodies start ≡ Some v) same is_root))
+        loop.not_root (subst (λ v. slice_get bodies start ≡ Some v) same is_root))
     entered_once (reach_edge {a = a} r l) q is = elim (led_in a q (subst (L a) is l)) [
       | inl e ↦ record { place = q; spot = a; reached = r; enters = e; turned = no_turn }
       | inr t ↦
@@ -551,7 +550,7 @@ module _ (rules : List Rule) (start : ℕ) (nodes : List Shape) (bodies ranks x 
             let c = entered_once v t.0 refl in
             let d = entered_once w u.0 refl in
             let start_same : d.place ≡ c.place = (one_entry d.place c.place d.spot c.spot d.enters c.enters d.reached
-                c.reached).1 in
+            c.reached).1 in
             let other : Turned c.place u.0 = subst (λ z. Turned z u.0) start_same d.turned in
             let is : t.0 ≡ u.0 = elim (on_one_way c.turned other) [
               | inl on ↦ same_turn t.0 u.0 q v w t.2 u.2 on
@@ -573,7 +572,7 @@ module _ (rules : List Rule) (start : ℕ) (nodes : List Shape) (bodies ranks x 
           let same : d.0 ≡ c.0 = cc (c.1, d.1) in
           let one : q ≡ p + w.0 = takes_width rules start nodes bodies ranks x sound c.0 w.0 p q w.1 c.2 in
           let two : q ≡ r + w.0 = takes_width rules start nodes bodies ranks x sound c.0 w.0 r q w.1
-              (subst (λ v. NodeTakes rules nodes bodies x v r q) same d.2) in
+          (subst (λ v. NodeTakes rules nodes bodies x v r q) same d.2) in
           omega arith
       | inr s ↦ rest_one_place n (one_place s) i p r a b
     ]
@@ -601,6 +600,6 @@ module _ (rules : List Rule) (start : ℕ) (nodes : List Shape) (bodies ranks x 
         let g = later_led b n i q k in
         let same : g.shape ≡ f.shape = cc (f.at, g.at) in
         let is : f.place ≡ g.place =
-            step_back n i t f.shape f.at f.place g.place q (subst R f.is r) (subst R g.is s) f.step
-            (subst (λ v. StepBy (way_of n v) i g.place q) same g.step) in
+        step_back n i t f.shape f.at f.place g.place q (subst R f.is r) (subst R g.is s) f.step
+        (subst (λ v. StepBy (way_of n v) i g.place q) same g.step) in
         cc (is, f.is, g.is)

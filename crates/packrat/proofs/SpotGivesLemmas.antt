@@ -1,18 +1,17 @@
 -- What a spot gives, from what those give to which it leads.
 -- Serves: Packrat::match_unit
-use Rattle.std.proofs.Common.{◌≡◌, ◌⊎◌, inl, inr, ℕ, zero, suc, ◌+◌, ◌<◌, ◌≤◌, max, Bool, true, false, List, [], ◌∷◌}
+use Rattle.std.proofs.Common.{◌≡◌, ◌⊎◌, inl, inr, ℕ, zero, suc, ◌≤◌, max, Bool, true, false, List, [], ◌∷◌}
 use Rattle.std.proofs.Common.{◌++◌, length}
-use Rattle.std.proofs.Common.{drop, Some, None, Ok, Err, Result, IfOk, OnOk, refl, sym, subst, ap, arith, ◌∙◌}
+use Rattle.std.proofs.Common.{drop, Some, Ok, Err, Result, IfOk, OnOk, refl, sym, subst, arith, ◌∙◌}
 use Rattle.std.specs.Prelude.{slice_get, ◌==◌}
 use Rattle.std.proofs.lemmas.Bool.{eqb-true, eq-eqb}
-use Rattle.std.proofs.lemmas.Option.{slice_get_past}
 use Rattle.pegread.specs.Pattern as expr
 use Rattle.pegread.specs.Pattern.{Pattern, Patterns}
 use Rattle.pegread.specs.PegViews.{rules_of}
 use Rattle.gramcheck.specs.Grammar.{Grammar, IsSoundGrammar}
 use Rattle.gramcheck.specs.Nodes as node
 use Rattle.gramcheck.specs.Nodes.{Shape, shapes_of, Spells, SpellAll, spell_none, spell_more}
-use Rattle.gramcheck.specs.Outcome.{Event, Outcome, Fails, Takes, Gives, seq, choice, GivesAll, all_done, one_fails}
+use Rattle.gramcheck.specs.Outcome.{Event, Outcome, Takes, Gives, seq, choice, GivesAll, all_done, one_fails}
 use Rattle.gramcheck.specs.Outcome.{rest_fails, rest_takes, GivesFirst, all_failed, first_takes, first_fails}
 use Rattle.gramcheck.proofs.HasShapeLemmas.{has_shape}
 use Rattle.cells.specs.declared.cell.Found.{Found}
@@ -25,17 +24,11 @@ use Rattle.desk.proofs.GivesLemmas.{opt_gives_none, and_gives_takes, and_gives_f
 use Rattle.gramcheck.specs.Nodes.{spells_act, spells_open, spells_close}
 use Rattle.gramcheck.specs.Outcome.{Acted, Opened, Closed, act, open_at, close_at}
 use Rattle.desk.proofs.NodeGivesLemmas.{gives_as}
-use Rattle.memo.specs.declared.key_log.Stored.{Stored}
 use Rattle.memo.specs.declared.spot.Spot.{Spot}
 use Rattle.memo.specs.declared.spot.Spot.TheVariants.{Pair, Tail}
 use Rattle.packrat.specs.SpotGives.{MembersGive, members_none, members_fail, members_take, AlternativesGive}
 use Rattle.packrat.specs.SpotGives.{alternatives_none, alternatives_take, alternatives_fail, TailGives, SpotGives}
-use Rattle.packrat.specs.SpotGives.{AreRight}
-use Rattle.memo.specs.KeyLog.{spots_of}
-use Rattle.memo.specs.Parts.{IsIn, in_here, in_later}
-use Rattle.packrat.specs.Spots.{Kids, is_key}
-use Rattle.packrat.specs.View.{weight}
-use Rattle.memo.proofs.KeyLogLemmas.{spot_of_stored}
+use Rattle.packrat.specs.Spots.{Kids}
 use Rattle.packrat.proofs.SpotReachLemmas.{front_drop, drop_none}
 
 pub ok_as : {A E : Type 0} (P Q : A → Type 0) (v : Result A E) → ((a : A) → P a → Q a) → IfOk v P → IfOk v Q
@@ -94,62 +87,105 @@ module _ (g : Grammar) (x : List ℕ) (sound : IsSoundGrammar g) where
 
   pub name_spot : (n id m p : ℕ) (f : Found) → SpellsSome (rules_of g.rules) (shapes_of g.nodes) n → At n (node.Name id)
       → slice_get g.bodies id ≡ Some m → SG (Pair m p) f → SG (Pair n p) f
-  name_spot n id m p f s at body h =
-      (h.0, h.1, name_gives (rules_of g.rules) g.start (shapes_of g.nodes) g.bodies g.ranks x sound n id m p h.1
-      (outcome_of f h.0) s at body h.2)
+  name_spot n id m p f s at body h = (
+    h.0,
+    h.1,
+    name_gives (rules_of g.rules) g.start (shapes_of g.nodes) g.bodies g.ranks x sound n id m p h.1
+        (outcome_of f h.0) s at body h.2,
+  )
 
   module _ (n k p : ℕ) (s : SpellsSome (rules_of g.rules) (shapes_of g.nodes) n) where
     pub star_ends : At n (node.Star k) → NF k p → SG (Pair n p) (Took p)
-    star_ends at d = ([], d.looked, star_gives_none (rules_of g.rules) g.start (shapes_of g.nodes) g.bodies g.ranks x
-        sound n k s p d.looked at d.gives)
+    star_ends at d = (
+      [],
+      d.looked,
+      star_gives_none (rules_of g.rules) g.start (shapes_of g.nodes) g.bodies g.ranks x
+          sound n k s p d.looked at d.gives,
+    )
 
     pub star_goes : (q : ℕ) (f : Found) → At n (node.Star k) → NT k p q → SG (Pair n q) f → SG (Pair n p) f
     star_goes q Failed at t h =
-        absurd (star_never_fails (rules_of g.rules) g.start (shapes_of g.nodes) g.bodies g.ranks x sound n k s q h.1 at h.2)
-    star_goes q (Took r) at t h =
-        (t.events ++ h.0, max t.looked h.1, star_gives_more (rules_of g.rules) g.start (shapes_of g.nodes) g.bodies
-        g.ranks x sound n k s p q r t.looked h.1 t.events h.0 at t.gives h.2)
+        absurd (star_never_fails (rules_of g.rules) g.start (shapes_of g.nodes) g.bodies g.ranks x sound n k s q h.1
+        at h.2)
+    star_goes q (Took r) at t h = (
+      t.events ++ h.0,
+      max t.looked h.1,
+      star_gives_more (rules_of g.rules) g.start (shapes_of g.nodes) g.bodies
+          g.ranks x sound n k s p q r t.looked h.1 t.events h.0 at t.gives h.2,
+    )
 
     pub not_took : At n (node.Not k) → NF k p → SG (Pair n p) (Took p)
-    not_took at d = ([], d.looked, not_gives_takes (rules_of g.rules) g.start (shapes_of g.nodes) g.bodies g.ranks x
-        sound n k s p d.looked at d.gives)
+    not_took at d = (
+      [],
+      d.looked,
+      not_gives_takes (rules_of g.rules) g.start (shapes_of g.nodes) g.bodies g.ranks x
+          sound n k s p d.looked at d.gives,
+    )
 
     pub not_failed : (q : ℕ) → At n (node.Not k) → NT k p q → SG (Pair n p) Failed
-    not_failed q at t = ([], t.looked, not_gives_fails (rules_of g.rules) g.start (shapes_of g.nodes) g.bodies g.ranks x
-        sound n k s p q t.looked t.events at t.gives)
+    not_failed q at t = (
+      [],
+      t.looked,
+      not_gives_fails (rules_of g.rules) g.start (shapes_of g.nodes) g.bodies g.ranks x
+          sound n k s p q t.looked t.events at t.gives,
+    )
 
   module _ (n k p : ℕ) (s : SpellsSome (rules_of g.rules) (shapes_of g.nodes) n) where
     pub plus_failed : (i : ℕ) → At n (node.Plus k i) → NF k p → SG (Pair n p) Failed
-    plus_failed i at d = ([], d.looked, plus_gives_fails (rules_of g.rules) g.start (shapes_of g.nodes) g.bodies g.ranks x
-        sound n k s i p d.looked at d.gives)
+    plus_failed i at d = (
+      [],
+      d.looked,
+      plus_gives_fails (rules_of g.rules) g.start (shapes_of g.nodes) g.bodies g.ranks x
+          sound n k s i p d.looked at d.gives,
+    )
 
     pub plus_goes : (i q : ℕ) (f : Found) → At n (node.Plus k i) → NT k p q → SG (Pair i q) f → SG (Pair n p) f
     plus_goes i q Failed at t h =
         let star = plus_star (rules_of g.rules) g.start (shapes_of g.nodes) g.bodies g.ranks x sound n k s i at in
-        absurd (star_never_fails (rules_of g.rules) g.start (shapes_of g.nodes) g.bodies g.ranks x sound i k star.0 q h.1
+        absurd (star_never_fails (rules_of g.rules) g.start (shapes_of g.nodes) g.bodies g.ranks x sound i k star.0 q
+        h.1
         star.1 h.2)
-    plus_goes i q (Took r) at t h =
-        (t.events ++ h.0, max t.looked h.1, plus_gives_takes (rules_of g.rules) g.start (shapes_of g.nodes) g.bodies
-        g.ranks x sound n k s i p q r t.looked h.1 t.events h.0 at t.gives h.2)
+    plus_goes i q (Took r) at t h = (
+      t.events ++ h.0,
+      max t.looked h.1,
+      plus_gives_takes (rules_of g.rules) g.start (shapes_of g.nodes) g.bodies
+          g.ranks x sound n k s i p q r t.looked h.1 t.events h.0 at t.gives h.2,
+    )
 
     pub plus_repeats : (i : ℕ) → At n (node.Plus k i) → SpellsSome (rules_of g.rules) (shapes_of g.nodes) i
     plus_repeats i at = (plus_star (rules_of g.rules) g.start (shapes_of g.nodes) g.bodies g.ranks x sound n k s i at).0
 
     pub opt_took : (q : ℕ) → At n (node.Opt k) → NT k p q → SG (Pair n p) (Took q)
-    opt_took q at t = (t.events, t.looked, opt_gives_takes (rules_of g.rules) g.start (shapes_of g.nodes) g.bodies g.ranks x
-        sound n k s p q t.looked t.events at t.gives)
+    opt_took q at t = (
+      t.events,
+      t.looked,
+      opt_gives_takes (rules_of g.rules) g.start (shapes_of g.nodes) g.bodies g.ranks x
+          sound n k s p q t.looked t.events at t.gives,
+    )
 
     pub opt_none : At n (node.Opt k) → NF k p → SG (Pair n p) (Took p)
-    opt_none at d = ([], d.looked, opt_gives_none (rules_of g.rules) g.start (shapes_of g.nodes) g.bodies g.ranks x
-        sound n k s p d.looked at d.gives)
+    opt_none at d = (
+      [],
+      d.looked,
+      opt_gives_none (rules_of g.rules) g.start (shapes_of g.nodes) g.bodies g.ranks x
+          sound n k s p d.looked at d.gives,
+    )
 
     pub and_took : (q : ℕ) → At n (node.And k) → NT k p q → SG (Pair n p) (Took p)
-    and_took q at t = ([], t.looked, and_gives_takes (rules_of g.rules) g.start (shapes_of g.nodes) g.bodies g.ranks x
-        sound n k s p q t.looked t.events at t.gives)
+    and_took q at t = (
+      [],
+      t.looked,
+      and_gives_takes (rules_of g.rules) g.start (shapes_of g.nodes) g.bodies g.ranks x
+          sound n k s p q t.looked t.events at t.gives,
+    )
 
     pub and_failed : At n (node.And k) → NF k p → SG (Pair n p) Failed
-    and_failed at d = ([], d.looked, and_gives_fails (rules_of g.rules) g.start (shapes_of g.nodes) g.bodies g.ranks x
-        sound n k s p d.looked at d.gives)
+    and_failed at d = (
+      [],
+      d.looked,
+      and_gives_fails (rules_of g.rules) g.start (shapes_of g.nodes) g.bodies g.ranks x
+          sound n k s p d.looked at d.gives,
+    )
 
   pub act_spot : (n p : ℕ) (t : List ℕ) → At n (node.Act t) → SG (Pair n p) (Took p)
   act_spot n p t at = (Acted t ∷ [], 0, record { expr = expr.Act t; spelled = spells_act at; gives = act })
@@ -217,22 +253,28 @@ module _ (g : Grammar) (x : List ℕ) (sound : IsSoundGrammar g) where
     seq_of : At n (node.Seq ms) → MembersGive g x ms p f → SG (Pair n p) f
     seq_of at h =
         let like = has_shape (rules_of g.rules) (shapes_of g.nodes) s.1 (node.Seq ms) at in
-        let d = members_all h like.0 like.2 in
-        (d.0, d.1, record {
-          expr = expr.Seq like.0;
-          spelled = subst (Spells (rules_of g.rules) (shapes_of g.nodes) n) like.1 s.1;
-          gives = seq d.2;
-        })
+        let d = members_all h like.0 like.2 in (
+          d.0,
+          d.1,
+          record {
+            expr = expr.Seq like.0;
+            spelled = subst (Spells (rules_of g.rules) (shapes_of g.nodes) n) like.1 s.1;
+            gives = seq d.2;
+          },
+        )
 
     choice_of : At n (node.Choice ms) → AlternativesGive g x p ms f → SG (Pair n p) f
     choice_of at h =
         let like = has_shape (rules_of g.rules) (shapes_of g.nodes) s.1 (node.Choice ms) at in
-        let d = alternatives_first h like.0 like.2 in
-        (d.0, d.1, record {
-          expr = expr.Choice like.0;
-          spelled = subst (Spells (rules_of g.rules) (shapes_of g.nodes) n) like.1 s.1;
-          gives = choice d.2;
-        })
+        let d = alternatives_first h like.0 like.2 in (
+          d.0,
+          d.1,
+          record {
+            expr = expr.Choice like.0;
+            spelled = subst (Spells (rules_of g.rules) (shapes_of g.nodes) n) like.1 s.1;
+            gives = choice d.2;
+          },
+        )
 
     pub seq_spot : At n (node.Seq ms) → SG (Tail n 0 p) f → SG (Pair n p) f
     seq_spot at h =
@@ -269,8 +311,12 @@ module _ (g : Grammar) (x : List ℕ) (sound : IsSoundGrammar g) where
     rest_fails_at at d = (node.Seq ms, at, subst (λ v. MembersGive g x v p Failed) front_member (members_fail d))
 
     pub rest_last : (q : ℕ) → At n (node.Seq ms) → NT m p q → length ms ≤ suc i → SG (Tail n i p) (Took q)
-    rest_last q at t le = (node.Seq ms, at, subst (λ v. MembersGive g x v p (Took q)) front_member
-        (members_take t (subst (λ v. MembersGive g x v q (Took q)) (sym (drop_past ms (suc i) le)) members_none)))
+    rest_last q at t le = (
+      node.Seq ms,
+      at,
+      subst (λ v. MembersGive g x v p (Took q)) front_member
+          (members_take t (subst (λ v. MembersGive g x v q (Took q)) (sym (drop_past ms (suc i) le)) members_none)),
+    )
 
     pub rest_goes : (q : ℕ) (f : Found) → At n (node.Seq ms) → NT m p q → SG (Tail n (suc i) q) f → SG (Tail n i p) f
     rest_goes q f at t h =
@@ -279,11 +325,21 @@ module _ (g : Grammar) (x : List ℕ) (sound : IsSoundGrammar g) where
         (node.Seq ms, at, subst (λ v. MembersGive g x v p f) front_member (members_take t d))
 
     pub other_takes : (q : ℕ) → At n (node.Choice ms) → NT m p q → SG (Tail n i p) (Took q)
-    other_takes q at t = (node.Choice ms, at, subst (λ v. AlternativesGive g x p v (Took q)) front_member (alternatives_take t))
+    other_takes q at t = (
+      node.Choice ms,
+      at,
+      subst (λ v. AlternativesGive g x p v (Took q)) front_member
+          (alternatives_take t),
+    )
 
     pub other_last : At n (node.Choice ms) → NF m p → length ms ≤ suc i → SG (Tail n i p) Failed
-    other_last at d le = (node.Choice ms, at, subst (λ v. AlternativesGive g x p v Failed) front_member
-        (alternatives_fail d (subst (λ v. AlternativesGive g x p v Failed) (sym (drop_past ms (suc i) le)) alternatives_none)))
+    other_last at d le = (
+      node.Choice ms,
+      at,
+      subst (λ v. AlternativesGive g x p v Failed) front_member
+          (alternatives_fail d (subst (λ v. AlternativesGive g x p v Failed) (sym (drop_past ms (suc i) le))
+          alternatives_none)),
+    )
 
     pub other_goes : (f : Found) → At n (node.Choice ms) → NF m p → SG (Tail n (suc i) p) f → SG (Tail n i p) f
     other_goes f at d h =

@@ -1,11 +1,10 @@
 -- The list of where a spot leads has those to which it leads, once each.
 -- Serves: implied_cells
-use Rattle.std.proofs.Common.{◌≡◌, ◌⊎◌, inl, inr, ℕ, zero, suc, ◌<◌, List, [], ◌∷◌, Some, None, refl, sym, subst, arith}
+use Rattle.std.proofs.Common.{◌≡◌, ◌⊎◌, inl, inr, ℕ, zero, suc, List, [], ◌∷◌, Some, refl, sym, subst, arith}
 use Rattle.std.specs.Prelude.{slice_get}
 use Rattle.pegread.specs.Pattern.{Rule}
 use Rattle.gramcheck.specs.Nodes as node
 use Rattle.gramcheck.specs.Nodes.{Shape}
-use Rattle.gramcheck.specs.Outcome.{Fails, Takes}
 use Rattle.gramcheck.specs.Sound.{IsRanked}
 use Rattle.gramcheck.proofs.HasShapeLemmas.{has_shape}
 use Rattle.pegmatch.specs.KeptEvents.{SpellsSome}
@@ -87,20 +86,28 @@ module _ (rules : List Rule) (start : ℕ) (nodes : List Shape) (bodies ranks x 
     rest_leads_by : (w : Way) (n i p : ℕ) → RK w n i p ks → IsIn b ks → RB w n i p b
     rest_leads_by Leaf n i p k h = absurd k
     rest_leads_by (Body id) n i p k h = absurd k
-    rest_leads_by (Members ms) n i p k h = (k.0, k.1, elim k.2 [
-      | inl e ↦ inl (at_one (Pair k.0 p) e.1 h)
-      | inr e ↦ elim (at_two (Pair k.0 p) (Tail n (suc i) e.1) e.4 h) [
-        | inl l ↦ inl l
-        | inr r ↦ inr (e.0, e.1, e.2, e.3, r)
-      ]
-    ])
-    rest_leads_by (Alternatives ms) n i p k h = (k.0, k.1, elim k.2 [
-      | inl e ↦ inl (at_one (Pair k.0 p) e.1 h)
-      | inr e ↦ elim (at_two (Pair k.0 p) (Tail n (suc i) p) e.3 h) [
-        | inl l ↦ inl l
-        | inr r ↦ inr (e.0, e.1, e.2, r)
-      ]
-    ])
+    rest_leads_by (Members ms) n i p k h = (
+      k.0,
+      k.1,
+      elim k.2 [
+        | inl e ↦ inl (at_one (Pair k.0 p) e.1 h)
+        | inr e ↦ elim (at_two (Pair k.0 p) (Tail n (suc i) e.1) e.4 h) [
+          | inl l ↦ inl l
+          | inr r ↦ inr (e.0, e.1, e.2, e.3, r)
+        ]
+      ],
+    )
+    rest_leads_by (Alternatives ms) n i p k h = (
+      k.0,
+      k.1,
+      elim k.2 [
+        | inl e ↦ inl (at_one (Pair k.0 p) e.1 h)
+        | inr e ↦ elim (at_two (Pair k.0 p) (Tail n (suc i) p) e.3 h) [
+          | inl l ↦ inl l
+          | inr r ↦ inr (e.0, e.1, e.2, r)
+        ]
+      ],
+    )
     rest_leads_by (Turns k s) n i p h j = absurd h
     rest_leads_by (Operand k) n i p h j = absurd h
 

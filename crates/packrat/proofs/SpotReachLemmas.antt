@@ -1,17 +1,17 @@
 -- The pairs that are reached in steps are those that are visited.
 -- Serves: implied_cells
-use Rattle.std.proofs.Common.{◌≡◌, ◌⊎◌, inl, inr, ℕ, zero, suc, List, [], ◌∷◌, Some, None, drop, refl, sym, subst, ap}
+use Rattle.std.proofs.Common.{◌≡◌, inl, inr, ℕ, zero, suc, List, [], ◌∷◌, Some, drop, refl, sym, subst, ap}
 use Rattle.std.proofs.Common.{◌∙◌}
 use Rattle.std.specs.Prelude.{slice_get}
 use Rattle.pegread.specs.Pattern.{Rule}
 use Rattle.gramcheck.specs.Nodes as node
 use Rattle.gramcheck.specs.Nodes.{Shape}
-use Rattle.desk.specs.Visits.{NodeTakes, NodeFails, AsksMember, member_here, member_later, AsksAlternative}
+use Rattle.desk.specs.Visits.{AsksMember, member_here, member_later, AsksAlternative}
 use Rattle.desk.specs.Visits.{alternative_here, alternative_later, AsksBy, Asks, Visits, first, asked}
 use Rattle.memo.specs.Parts.{Reach, reach_root, reach_edge}
 use Rattle.memo.specs.declared.spot.Spot.{Spot}
 use Rattle.memo.specs.declared.spot.Spot.TheVariants.{Pair, Tail}
-use Rattle.packrat.specs.Spots.{Way, Leaf, Body, Members, Alternatives, Turns, Operand, way_of}
+use Rattle.packrat.specs.Spots.{way_of}
 use Rattle.packrat.specs.Spots.{LeadsBy, TailLeadsBy, Leads}
 
 pub front_drop : (ms : List ℕ) (i m : ℕ) → slice_get ms i ≡ Some m → drop i ms ≡ m ∷ drop (suc i) ms
@@ -77,7 +77,8 @@ module _ (rules : List Rule) (start : ℕ) (nodes : List Shape) (bodies x : List
   seen_as a b is s = subst Seen (sym is) s
 
   module _ (n p : ℕ) (v : V n p) where
-    ask_visits : (m q : ℕ) (shape : Shape) → slice_get nodes n ≡ Some shape → AsksBy rules nodes bodies x shape n p m q → V m q
+    ask_visits : (m q : ℕ) (shape : Shape) → slice_get nodes n ≡ Some shape
+        → AsksBy rules nodes bodies x shape n p m q → V m q
     ask_visits m q shape at by = asked v (record { shape = shape; at = at; by = by })
 
     rest_of : (shape : Shape) → slice_get nodes n ≡ Some shape
@@ -217,7 +218,8 @@ module _ (rules : List Rule) (start : ℕ) (nodes : List Shape) (bodies x : List
     reach_at : (i j : ℕ) → m ≡ i → q ≡ j → R (Pair i j) → R (Pair m q)
     reach_at i j a b h = subst (λ v. R (Pair v q)) (sym a) (subst (λ v. R (Pair i v)) (sym b) h)
 
-    reach_step : (shape : Shape) → slice_get nodes n ≡ Some shape → LeadsBy rules nodes bodies x (way_of n shape) n p (Pair m q)
+    reach_step : (shape : Shape) → slice_get nodes n ≡ Some shape
+        → LeadsBy rules nodes bodies x (way_of n shape) n p (Pair m q)
         → R (Pair m q)
     reach_step shape at l = reach_edge r (shape, at, l)
 

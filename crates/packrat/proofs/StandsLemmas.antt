@@ -1,6 +1,6 @@
 -- The loop's turns are steps of the machine.
 -- Serves: Packrat::match_unit
-use Rattle.std.proofs.Common.{◌≡◌, ◌⊎◌, inl, inr, ℕ, ◌+◌, Bool, true, false, List, [], ◌∷◌, ◌++◌, length, Some}
+use Rattle.std.proofs.Common.{◌≡◌, ◌⊎◌, inl, inr, ℕ, ◌+◌, Bool, true, false, List, [], ◌∷◌, length, Some}
 use Rattle.std.proofs.Common.{refl, sym, subst, arith, ◌*◌, ◌≤◌}
 use Rattle.std.proofs.lemmas.List.{length-map}
 use Rattle.std.specs.Prelude.{slice_get}
@@ -18,19 +18,19 @@ use Rattle.packrat.specs.SpotGives.{SpotGives, AreRight, node_marks, tail_marks}
 use Rattle.memo.specs.KeyLog.{spots_of}
 use Rattle.memo.specs.Parts.{IsIn, in_here, in_later}
 use Rattle.memo.specs.Run.{Run, total}
-use Rattle.packrat.specs.Spots.{Kids, is_key}
+use Rattle.packrat.specs.Spots.{Kids}
 use Rattle.packrat.specs.View.{weight}
 use Rattle.memo.proofs.KeyLogLemmas.{spot_of_stored}
 use Rattle.packrat.specs.declared.frames.Frame.{Frame}
 use Rattle.packrat.specs.declared.onward.Onward.TheVariants as way
 use Rattle.packrat.specs.declared.machine.Turn.{Turn}
 use Rattle.packrat.specs.declared.machine.Turn.TheVariants.{Ask, Answer}
-use Rattle.packrat.specs.MachineSteps.{Level, State, Asks, Works, held, start_at, store, step_stored, step_begin}
+use Rattle.packrat.specs.MachineSteps.{State, Works, held, start_at, store, step_stored, step_begin}
 use Rattle.packrat.specs.MachineSteps.{step_next, step_last}
 use Rattle.packrat.specs.MachineSteps.{steps_none, steps_more}
 use Rattle.packrat.specs.Onward.{IsWell, AfterNone, AfterOne}
 use Rattle.packrat.specs.SpotSteps.{IsFirst, NextOf, next_first, next_second, SpotSteps}
-use Rattle.packrat.specs.Stands.{AreLevels, Waiting, IsTurn, state_of, key_of, Stands, IsClosed}
+use Rattle.packrat.specs.Stands.{AreLevels, state_of, key_of, Stands, IsClosed}
 use Rattle.packrat.proofs.BegunLemmas.{begun_at_places}
 use Rattle.packrat.proofs.MachineLemmas.{run_of_steps}
 
@@ -76,7 +76,8 @@ module _ (g : Grammar) (x : List ℕ) (marks : Marks) where
     spot_here : a ≡ s.spot
     spot_here = s.turns.0
 
-    pub stands_stored : (f : Found) → Key a ≡ true → IsIn (record { spot = a; found = f }) st → S root (Answer f) ls st n
+    pub stands_stored : (f : Found) → Key a ≡ true → IsIn (record { spot = a; found = f }) st
+        → S root (Answer f) ls st n
     stands_stored f t i = record {
       levels = s.levels;
       begun = s.begun;
@@ -91,8 +92,12 @@ module _ (g : Grammar) (x : List ℕ) (marks : Marks) where
 
     module _ (fresh : Key a ≡ true → IsIn a (spots_of st) → ⊥) where
       steps_begin : SS root (Works (record {
-        levels = record { at = s.spot; asked = [] } ∷ s.levels; stored = spots_of st; begun = s.spot ∷ s.begun }))
-      steps_begin = steps_more s.steps (step_begin (subst (λ v. Key v ≡ true → IsIn v (spots_of st) → ⊥) spot_here fresh))
+        levels = record { at = s.spot; asked = [] } ∷ s.levels;
+        stored = spots_of st;
+        begun = s.spot ∷ s.begun;
+      }))
+      steps_begin = steps_more s.steps (step_begin (subst (λ v. Key v ≡ true → IsIn v (spots_of st) → ⊥) spot_here
+          fresh))
 
       begin_counts : total Spot K Key weight (s.spot ∷ s.begun) ≡ n + weight a
       begin_counts =
@@ -125,7 +130,7 @@ module _ (g : Grammar) (x : List ℕ) (marks : Marks) where
           k ∷ [],
           s.levels,
           subst (λ v. record { at = s.spot; asked = k ∷ [] } ∷ s.levels ≡ record { at = v; asked = k ∷ [] } ∷ s.levels)
-          (sym spot_here) refl,
+              (sym spot_here) refl,
           asked_well,
           (h.0, refl),
           subst (AreLevels g x root ls s.levels) (sym spot_here) s.are,
@@ -142,15 +147,24 @@ module _ (g : Grammar) (x : List ℕ) (marks : Marks) where
 
     at_levels : (second : Bool) → (s : S root (Answer f) (record { spot = a; second = second } ∷ ls) st n)
         → SS root (Works (record {
-        levels = record { at = a; asked = s.are.0 } ∷ s.are.1; stored = spots_of st; begun = s.begun }))
+          levels = record { at = a; asked = s.are.0 } ∷ s.are.1;
+          stored = spots_of st;
+          begun = s.begun;
+        }))
     at_levels second s =
         subst (λ v. SS root (Works (record { levels = v; stored = spots_of st; begun = s.begun }))) s.are.2 s.steps
 
     module _ (s : S root (Answer f) (record { spot = a; second = false } ∷ ls) st n) where
       as_first : SS root (Works (record {
-        levels = record { at = a; asked = s.spot ∷ [] } ∷ s.are.1; stored = spots_of st; begun = s.begun }))
+        levels = record { at = a; asked = s.spot ∷ [] } ∷ s.are.1;
+        stored = spots_of st;
+        begun = s.begun;
+      }))
       as_first = subst (λ v. SS root (Works (record {
-        levels = record { at = a; asked = v } ∷ s.are.1; stored = spots_of st; begun = s.begun })))
+        levels = record { at = a; asked = v } ∷ s.are.1;
+        stored = spots_of st;
+        begun = s.begun;
+      })))
           s.are.4.1 (at_levels false s)
 
       pub stands_on : (k : Spot) → ((j : Spot) → F a j → SG j f → AfterOne g x a j (way.Leads k))
@@ -180,7 +194,8 @@ module _ (g : Grammar) (x : List ℕ) (marks : Marks) where
             turns = h.1;
             right = c.right h.1 s.right;
             is = s.is;
-            steps = subst (λ v. SS root (Works (record { levels = s.are.1; stored = v; begun = s.begun }))) (sym c.spots)
+            steps = subst (λ v. SS root (Works (record { levels = s.are.1; stored = v; begun = s.begun }))) (sym
+                c.spots)
                 (steps_more as_first (step_last h.0));
           }
 
@@ -199,7 +214,10 @@ module _ (g : Grammar) (x : List ℕ) (marks : Marks) where
           is = s.is;
           steps = subst (λ v. SS root (Works (record { levels = s.are.1; stored = v; begun = s.begun }))) (sym c.spots)
               (steps_more (subst (λ v. SS root (Works (record {
-              levels = record { at = a; asked = v } ∷ s.are.1; stored = spots_of st; begun = s.begun }))) w.1
+                levels = record { at = a; asked = v } ∷ s.are.1;
+                stored = spots_of st;
+                begun = s.begun;
+              }))) w.1
               (at_levels true s)) (step_last w.2));
         }
 
@@ -213,7 +231,8 @@ module _ (g : Grammar) (x : List ℕ) (marks : Marks) where
         s.begun
         (subst (λ v. SS root (Works (record { levels = v; stored = spots_of st; begun = s.begun }))) s.are.0 s.steps))
 
-  pub closed_key : (a : Spot) (f : Found) (old new : List Stored) → Key a ≡ true → new ≡ record { spot = a; found = f } ∷ old
+  pub closed_key : (a : Spot) (f : Found) (old new : List Stored) → Key a ≡ true
+      → new ≡ record { spot = a; found = f } ∷ old
       → C a f old new
   closed_key a f old new t grown = subst (C a f old) (sym grown) (record {
     spots = subst (λ v. a ∷ spots_of old ≡ store Spot v a (spots_of old)) (sym t) refl;
@@ -225,7 +244,8 @@ module _ (g : Grammar) (x : List ℕ) (marks : Marks) where
       first in_here = inl refl
       first (in_later i) = inr i
 
-      by : (s : Stored) → SG a f → AreRight g x old → (s ≡ record { spot = a; found = f }) ⊎ IsIn s old → SG s.spot s.found
+      by : (s : Stored) → SG a f → AreRight g x old → (s ≡ record { spot = a; found = f }) ⊎ IsIn s old
+          → SG s.spot s.found
       by s h r (inl is) = subst (λ v. SG v.spot v.found) (sym is) h
       by s h r (inr i) = r.right s i
 
@@ -235,7 +255,8 @@ module _ (g : Grammar) (x : List ℕ) (marks : Marks) where
     right = λ h r. r;
   }
 
-  pub stands_as : (root : Spot) (t u : Turn) (ls ms : List Frame) (st tt2 : List Stored) (n m : ℕ) → t ≡ u → ls ≡ ms → st ≡ tt2
+  pub stands_as : (root : Spot) (t u : Turn) (ls ms : List Frame) (st tt2 : List Stored) (n m : ℕ) → t ≡ u
+      → ls ≡ ms → st ≡ tt2
       → n ≡ m → S root t ls st n → S root u ms tt2 m
   stands_as root t u ls ms st tt2 n m a b c d s =
       subst (λ v. S root v ms tt2 m) a (subst (λ v. S root t v tt2 m) b (subst (λ v. S root t ls v m) c
@@ -248,7 +269,7 @@ module _ (g : Grammar) (x : List ℕ) (marks : Marks) where
       → S (Pair root 0) t ls st n → n ≤ most_begun g x
   stands_few root t ls st n sound at are s =
       let most = begun_at_places (rules_of g.rules) g.start (shapes_of g.nodes) g.bodies g.ranks x false sound root at
-          (node_marks marks) (tail_marks marks) are (state_of g x t s.spot s.levels (spots_of st) s.begun) s.steps in
+      (node_marks marks) (tail_marks marks) are (state_of g x t s.spot s.levels (spots_of st) s.begun) s.steps in
       let same : length (shapes_of g.nodes) ≡ length g.nodes = length-map g.nodes shape_of in
       subst (λ v. n ≤ v * (length x + 1)) same (by t (state_of g x t s.spot s.levels (spots_of st) s.begun) refl most)
     where
@@ -258,10 +279,10 @@ module _ (g : Grammar) (x : List ℕ) (marks : Marks) where
       by (Ask a) w is le =
           let count = s.is in
           let same : total Spot K Key weight (held Spot w).begun ≡ total Spot K Key weight s.begun =
-              subst (λ v. total Spot K Key weight (held Spot v).begun ≡ total Spot K Key weight s.begun) (sym is) refl in
+          subst (λ v. total Spot K Key weight (held Spot v).begun ≡ total Spot K Key weight s.begun) (sym is) refl in
           omega (arith, count, same, le)
       by (Answer f) w is le =
           let count = s.is in
           let same : total Spot K Key weight (held Spot w).begun ≡ total Spot K Key weight s.begun =
-              subst (λ v. total Spot K Key weight (held Spot v).begun ≡ total Spot K Key weight s.begun) (sym is) refl in
+          subst (λ v. total Spot K Key weight (held Spot v).begun ≡ total Spot K Key weight s.begun) (sym is) refl in
           omega (arith, count, same, le)

@@ -1,12 +1,11 @@
 -- A node of a width takes that many bytes wherever it succeeds.
 -- Serves: one_width
 use Rattle.std.proofs.Common.{◌≡◌, ℕ, ◌+◌, Bool, List, length, Some, refl, sym, subst, arith}
-use Rattle.std.specs.Prelude.{slice_get}
 use Rattle.pegread.specs.Pattern as expr
 use Rattle.pegread.specs.Pattern.{Pattern, Patterns, Rule}
 use Rattle.gramcheck.specs.Nodes as node
 use Rattle.gramcheck.specs.Nodes.{Shape, Spells, SpellAll, spell_none, spell_more}
-use Rattle.gramcheck.specs.Outcome.{Event, Outcome, Fails, Takes, Gives, any_takes, set_takes, bytes_take, act, open_at}
+use Rattle.gramcheck.specs.Outcome.{Event, Takes, Gives, any_takes, set_takes, bytes_take, act, open_at}
 use Rattle.gramcheck.specs.Outcome.{close_at, name, seq, choice, opt_takes, opt_none, and_takes, not_takes}
 use Rattle.gramcheck.specs.Outcome.{GivesAll, all_done, rest_takes, GivesFirst, first_takes, first_fails}
 use Rattle.gramcheck.specs.Sound.{IsRanked}
@@ -121,7 +120,8 @@ module _ (rules : List Rule) (start : ℕ) (nodes : List Shape) (bodies ranks x 
     width_is (width_name {n = n} {id = id} {m = m} {w = w} h body t) e s =
         let is = is_name rules start nodes bodies ranks x sound n id m (e, s) h body in
         let same = one_spelled rules nodes sound.defined is.spelled e s in
-        subst (λ v. HasWidth rules x v w) (sym same) (name_width rules x is.word is.body w is.is (width_is t is.body is.operand))
+        subst (λ v. HasWidth rules x v w) (sym same) (name_width rules x is.word is.body w is.is (width_is t is.body
+        is.operand))
     width_is (width_seq {w = w} {ms = ms} h t) e s =
         let is = has_shape rules nodes s (node.Seq ms) h in
         subst (λ v. HasWidth rules x v w) (sym is.1) (seq_width rules x is.0 w (sum_is t is.0 is.2))

@@ -1,7 +1,6 @@
 -- A machine that evaluates with a stack of levels in place of recursion.
-use Rattle.std.specs.Prelude.{◌≡◌, ℕ, ◌+◌, ◌*◌, ◌-◌, ◌<◌, ◌≤◌, Bool, true, false, List, [], ◌∷◌, ◌++◌, length}
+use Rattle.std.specs.Prelude.{◌≡◌, ◌<◌, Bool, true, false, List, [], ◌∷◌, ◌++◌, length}
 use Rattle.memo.specs.Parts.{IsIn, Distinct, Reach}
-use Rattle.memo.specs.Run.{total}
 
 module _ (V : Type 0) where
   -- a vertex that is begun, and those that it has asked for so far, in order

@@ -1,5 +1,5 @@
 -- What a spot gives.
-use Rattle.std.specs.Prelude.{◌≡◌, ℕ, ◌+◌, Bool, true, List, [], ◌∷◌, drop, get_or, slice_get, Some}
+use Rattle.std.specs.Prelude.{◌≡◌, ℕ, Bool, true, List, [], ◌∷◌, drop, get_or, slice_get, Some}
 use Rattle.pegread.specs.PegViews.{rules_of}
 use Rattle.gramcheck.specs.Grammar.{Grammar}
 use Rattle.gramcheck.specs.Nodes.{Shape, Any, Bytes, Set, Name, Seq, Choice, Star, Plus, Opt, And, Not, Act, Open}
@@ -13,11 +13,7 @@ use Rattle.memo.specs.declared.key_log.Stored.{Stored}
 use Rattle.memo.specs.declared.spot.Spot.{Spot}
 use Rattle.memo.specs.declared.spot.Spot.TheVariants.{Pair, Tail}
 use Rattle.packrat.specs.declared.marks.Marks.{Marks}
-use Rattle.memo.specs.KeyLog.{spots_of}
 use Rattle.memo.specs.Parts.{IsIn}
-use Rattle.memo.specs.Run.{Run, RunAll}
-use Rattle.packrat.specs.Spots.{Kids, is_key}
-use Rattle.packrat.specs.View.{weight}
 
 -- whether a node is marked, and whether the tails of one are; what has no mark counts as marked
 abbrev pub node_marks : Marks → ℕ → Bool
@@ -32,7 +28,8 @@ module _ (g : Grammar) (x : List ℕ) where
     members_none : {p : ℕ} → MembersGive [] p (Took p)
     members_fail : {m p : ℕ} {ms : List ℕ} → NodeFails (rules_of g.rules) (shapes_of g.nodes) g.bodies x m p
         → MembersGive (m ∷ ms) p Failed
-    members_take : {m p q : ℕ} {ms : List ℕ} {f : Found} → NodeTakes (rules_of g.rules) (shapes_of g.nodes) g.bodies x m p q
+    members_take : {m p q : ℕ} {ms : List ℕ} {f : Found}
+        → NodeTakes (rules_of g.rules) (shapes_of g.nodes) g.bodies x m p q
         → MembersGive ms q f → MembersGive (m ∷ ms) p f
 
   -- the first alternative that succeeds
@@ -40,7 +37,8 @@ module _ (g : Grammar) (x : List ℕ) where
     alternatives_none : AlternativesGive p [] Failed
     alternatives_take : {m q : ℕ} {ms : List ℕ} → NodeTakes (rules_of g.rules) (shapes_of g.nodes) g.bodies x m p q
         → AlternativesGive p (m ∷ ms) (Took q)
-    alternatives_fail : {m : ℕ} {ms : List ℕ} {f : Found} → NodeFails (rules_of g.rules) (shapes_of g.nodes) g.bodies x m p
+    alternatives_fail : {m : ℕ} {ms : List ℕ} {f : Found}
+        → NodeFails (rules_of g.rules) (shapes_of g.nodes) g.bodies x m p
         → AlternativesGive p ms f → AlternativesGive p (m ∷ ms) f
 
   abbrev pub TailGives : Shape → ℕ → ℕ → Found → Type 0

@@ -1,11 +1,11 @@
 -- The machine over spots.
-use Rattle.std.specs.Prelude.{◌≡◌, ℕ, zero, suc, Bool, List, [], ◌∷◌, slice_get, Some}
+use Rattle.std.specs.Prelude.{◌≡◌, ℕ, zero, Bool, List, [], ◌∷◌, slice_get, Some}
 use Rattle.pegread.specs.Pattern.{Rule}
 use Rattle.gramcheck.specs.Nodes.{Shape}
 use Rattle.memo.specs.declared.spot.Spot.{Spot}
 use Rattle.memo.specs.declared.spot.Spot.TheVariants.{Pair, Tail}
 use Rattle.packrat.specs.Spots.{Way, Leaf, Body, Members, Alternatives, Turns, Operand, way_of, Kids, is_key}
-use Rattle.packrat.specs.MachineSteps.{State, Step, Steps, start_at}
+use Rattle.packrat.specs.MachineSteps.{State, Step, Steps}
 
 module _ (rules : List Rule) (nodes : List Shape) (bodies x : List ℕ) where
   -- where node n at p leads first, whatever it takes

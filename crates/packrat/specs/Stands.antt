@@ -1,5 +1,5 @@
 -- Where the loop stands on its way.
-use Rattle.std.specs.Prelude.{◌≡◌, ℕ, ◌+◌, Bool, true, false, List, [], ◌∷◌}
+use Rattle.std.specs.Prelude.{◌≡◌, ℕ, Bool, true, false, List, [], ◌∷◌}
 use Rattle.pegread.specs.PegViews.{rules_of}
 use Rattle.gramcheck.specs.Grammar.{Grammar}
 use Rattle.gramcheck.specs.Nodes.{shapes_of}
@@ -47,7 +47,8 @@ module _ (g : Grammar) (x : List ℕ) where
     key_of a = is_key (node_marks marks) (tail_marks marks) a
 
     -- The machine comes to this state, from the root where nothing is stored.
-    pub record Stands (root : Spot) (turn : Turn) (frames : List Frame) (stored : List Stored) (count : ℕ) : Type 0 where
+    pub record Stands (root : Spot) (turn : Turn) (frames : List Frame) (stored : List Stored) (count : ℕ)
+        : Type 0 where
       pub levels : List (Level Spot)
       pub begun : List Spot
       pub spot : Spot

@@ -1,5 +1,5 @@
 -- The cells that a few stored keys imply.
-use Rattle.std.specs.Prelude.{◌≡◌, ℕ, ◌+◌, Bool, true, List, [], ◌∷◌, length, slice_get, Some}
+use Rattle.std.specs.Prelude.{◌≡◌, ℕ, Bool, true, List, [], ◌∷◌, length, Some}
 use Rattle.pegread.specs.Pattern.{Rule}
 use Rattle.gramcheck.specs.Nodes.{Shape}
 use Rattle.cells.specs.declared.cell.Found.{Found}
@@ -7,7 +7,7 @@ use Rattle.cells.specs.Entries.{Entry, found_at, AreDifferent}
 use Rattle.desk.specs.State.{IsFound, HasCell}
 use Rattle.desk.specs.Visits.{Visits}
 use Rattle.memo.specs.Parts.{IsIn, Distinct, Reach, Whole}
-use Rattle.memo.specs.Run.{Run, total}
+use Rattle.memo.specs.Run.{Run}
 use Rattle.memo.specs.declared.spot.Spot.{Spot}
 use Rattle.memo.specs.declared.spot.Spot.TheVariants.{Pair, Tail}
 use Rattle.packrat.specs.Spots.{Leads, Kids, is_key}
@@ -28,10 +28,11 @@ module _ (rules : List Rule) (start : ℕ) (nodes : List Shape) (bodies x : List
         → CellsOf (Pair n p ∷ spots) (record { node = n; place = p; found = f } ∷ cells)
 
   -- The cells that the stored keys imply: with each key all below it that is reached without passing another key.
-  pub record AreImplied (marks : ℕ → Bool) (tails : ℕ → ℕ → Bool) (stored : List Spot) (cells : List Entry) : Type 0 where
-    pub spots : List Spot
-    pub whole : Whole Spot (Kids rules nodes bodies x) (is_key marks tails) stored spots
-    pub cells_of : CellsOf spots cells
+  pub record AreImplied (marks : ℕ → Bool) (tails : ℕ → ℕ → Bool) (stored : List Spot) (cells : List Entry) : Type 0
+    where
+      pub spots : List Spot
+      pub whole : Whole Spot (Kids rules nodes bodies x) (is_key marks tails) stored spots
+      pub cells_of : CellsOf spots cells
 
   -- Stored are exactly the keys that are reached, each once.
   pub record AreStored (marks : ℕ → Bool) (tails : ℕ → ℕ → Bool) (root : ℕ) (stored : List Spot) : Type 0 where

@@ -1,4 +1,5 @@
-//! Laws of widths, of pairs that are asked for once, of the cells that a few stored keys imply, and of the machine's steps.
+//! Laws of widths, of pairs that are asked for once, of the cells that a few stored keys imply, and of the machine's
+//! steps.
 ghost use Rattle.std.specs.Prelude.{◌≡◌, ℕ, ◌+◌, ◌≤◌, Bool, List, [], length, slice_get, Some};
 ghost use Rattle.pegread.specs.Pattern.{Rule};
 ghost use Rattle.gramcheck.specs.Nodes.{Shape};

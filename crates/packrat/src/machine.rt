@@ -181,8 +181,8 @@ impl Machine {
         ensures right { OnOk result (AreRight peg.now window.now self.new.log.stored) }
         ensures gives { IfOk result (λ found. SpotGives peg.now window.now (Spot.Pair root 0) found) }
         ensures runs { OnOk result (Run Spot (Kids (rules_of peg.now.rules) (shapes_of peg.now.nodes) peg.now.bodies
-            window.now) (key_of peg.now window.now marks.now) weight [] (Spot.Pair root 0) (spots_of self.new.log.stored)
-            self.new.begun) }
+            window.now) (key_of peg.now window.now marks.now) weight [] (Spot.Pair root 0)
+            (spots_of self.new.log.stored) self.new.begun) }
         ensures frames { OnOk result (self.new.frames ≡ []) }
     {
         self.begun = 0;

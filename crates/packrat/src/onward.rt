@@ -30,26 +30,52 @@ fn begin_node(peg: &SoundPeg, window: &[u8], node: usize, place: usize) -> Onwar
         Node::Any => Onward::Gives(match_any(window, place).found),
         Node::Bytes(bytes) => Onward::Gives(match_bytes(bytes, window, place).found),
         Node::Set(set) => Onward::Gives(match_set(set, window, place).found),
-        Node::Name(id) => Onward::Leads(Spot::Pair { node: peg.body_node(*id), place }),
+        Node::Name(id) => Onward::Leads(Spot::Pair {
+            node: peg.body_node(*id),
+            place,
+        }),
         Node::Seq(members) => {
             if members.is_empty() {
                 Onward::Gives(Found::Took(place))
             } else {
-                Onward::Leads(Spot::Tail { node, index: 0, place })
+                Onward::Leads(Spot::Tail {
+                    node,
+                    index: 0,
+                    place,
+                })
             }
         }
         Node::Choice(alternatives) => {
             if alternatives.is_empty() {
                 Onward::Gives(Found::Failed)
             } else {
-                Onward::Leads(Spot::Tail { node, index: 0, place })
+                Onward::Leads(Spot::Tail {
+                    node,
+                    index: 0,
+                    place,
+                })
             }
         }
-        Node::Star(operand) => Onward::Leads(Spot::Pair { node: *operand, place }),
-        Node::Not(operand) => Onward::Leads(Spot::Pair { node: *operand, place }),
-        Node::Plus { operand, star: _ } => Onward::Leads(Spot::Pair { node: *operand, place }),
-        Node::Opt(operand) => Onward::Leads(Spot::Pair { node: *operand, place }),
-        Node::And(operand) => Onward::Leads(Spot::Pair { node: *operand, place }),
+        Node::Star(operand) => Onward::Leads(Spot::Pair {
+            node: *operand,
+            place,
+        }),
+        Node::Not(operand) => Onward::Leads(Spot::Pair {
+            node: *operand,
+            place,
+        }),
+        Node::Plus { operand, star: _ } => Onward::Leads(Spot::Pair {
+            node: *operand,
+            place,
+        }),
+        Node::Opt(operand) => Onward::Leads(Spot::Pair {
+            node: *operand,
+            place,
+        }),
+        Node::And(operand) => Onward::Leads(Spot::Pair {
+            node: *operand,
+            place,
+        }),
         Node::Act(_) => Onward::Gives(Found::Took(place)),
         Node::Open => Onward::Gives(Found::Took(place)),
         Node::Close => Onward::Gives(Found::Took(place)),
@@ -63,8 +89,14 @@ fn begin_tail(peg: &SoundPeg, window: &[u8], node: usize, index: usize, place: u
     ensures { AfterNone peg.now window.now (Spot.Tail node index place) result }
 {
     match peg.node(node) {
-        Node::Seq(members) => Onward::Leads(Spot::Pair { node: members[index], place }),
-        Node::Choice(alternatives) => Onward::Leads(Spot::Pair { node: alternatives[index], place }),
+        Node::Seq(members) => Onward::Leads(Spot::Pair {
+            node: members[index],
+            place,
+        }),
+        Node::Choice(alternatives) => Onward::Leads(Spot::Pair {
+            node: alternatives[index],
+            place,
+        }),
         _ => Onward::Gives(Found::Failed),
     }
 }
@@ -100,7 +132,10 @@ fn go_on_node(peg: &SoundPeg, window: &[u8], node: usize, place: usize, found: F
         },
         Node::Plus { operand: _, star } => match found {
             Found::Failed => Onward::Gives(Found::Failed),
-            Found::Took(end) => Onward::Leads(Spot::Pair { node: *star, place: end }),
+            Found::Took(end) => Onward::Leads(Spot::Pair {
+                node: *star,
+                place: end,
+            }),
         },
         Node::Opt(_) => match found {
             Found::Failed => Onward::Gives(Found::Took(place)),
@@ -142,7 +177,11 @@ fn go_on_tail(
             Found::Failed => Onward::Gives(Found::Failed),
             Found::Took(end) => {
                 if index + 1 < members.len() {
-                    Onward::Leads(Spot::Tail { node, index: index + 1, place: end })
+                    Onward::Leads(Spot::Tail {
+                        node,
+                        index: index + 1,
+                        place: end,
+                    })
                 } else {
                     Onward::Gives(Found::Took(end))
                 }
@@ -152,7 +191,11 @@ fn go_on_tail(
             Found::Took(end) => Onward::Gives(Found::Took(end)),
             Found::Failed => {
                 if index + 1 < alternatives.len() {
-                    Onward::Leads(Spot::Tail { node, index: index + 1, place })
+                    Onward::Leads(Spot::Tail {
+                        node,
+                        index: index + 1,
+                        place,
+                    })
                 } else {
                     Onward::Gives(Found::Failed)
                 }

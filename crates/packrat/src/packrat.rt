@@ -21,7 +21,8 @@ use ruletable::Memory;
 use std::alloc::Global;
 use std::marker::Model;
 
-/// A matcher that stores the outcomes of the keys alone, by node and place, and evaluates each node at each place at most
+/// A matcher that stores the outcomes of the keys alone, by node and place, and evaluates each node at each place at
+/// most
 /// once.
 ///
 /// It is seen as the keys that are stored, the frames of what is under way, each with the last one first, and how many

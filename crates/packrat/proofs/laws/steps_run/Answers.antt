@@ -1,4 +1,3 @@
-use Rattle.std.proofs.Common.{ℕ}
 use Rattle.packrat.specs.Spots.{Kids, is_key}
 use Rattle.packrat.specs.View.{weight}
 use Rattle.memo.specs.declared.spot.Spot.{Spot}
@@ -10,7 +9,8 @@ use Rattle.packrat.proofs.laws.steps_run.Goals as goal
 
 pub returns-clause-run : goal.returns-clause-run
 returns-clause-run c = λ rules nodes bodies x more root start marks tails stored begun steps.
-    run_of_steps Spot (Kids rules nodes bodies x) (NextOf rules nodes bodies x) (is_key marks tails) weight (Pair root 0)
+    run_of_steps Spot (Kids rules nodes bodies x) (NextOf rules nodes bodies x) (is_key marks tails) weight (Pair
+    root 0)
     stored begun steps
 
 pub returns-clause-reach : goal.returns-clause-reach

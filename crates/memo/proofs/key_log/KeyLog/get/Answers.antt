@@ -1,7 +1,4 @@
-use Rattle.std.proofs.Common.{ap, ◌≡◌, ◌≤◌, ◌<◌, arith, sym, ◌∙◌}
-use Rattle.memo.specs.KeyLog.{row_of, place_of}
-use Rattle.memo.specs.Parts.{IsIn}
-use Rattle.memo.specs.declared.key_log.Stored.{Stored}
+use Rattle.std.proofs.Common.{ap, arith, sym, ◌∙◌}
 use Rattle.memo.proofs.KeyLogLemmas.{none_above, some_found, none_found}
 use Rattle.memo.proofs.key_log.KeyLog.get.Goals as goal
 

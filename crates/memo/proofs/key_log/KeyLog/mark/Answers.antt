@@ -1,4 +1,4 @@
-use Rattle.std.proofs.Common.{◌≡◌, ap, arith}
+use Rattle.std.proofs.Common.{ap, arith}
 use Rattle.memo.proofs.KeyLogLemmas.{below_read, unit_read, never_past}
 use Rattle.memo.proofs.key_log.KeyLog.mark.Goals as goal
 

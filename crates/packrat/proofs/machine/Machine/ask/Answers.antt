@@ -1,8 +1,8 @@
-use Rattle.std.proofs.Common.{◌≡◌, ◌∙◌, ℕ, ◌+◌, ◌<◌, Bool, true, false, List, [], ◌∷◌, length, refl, sym, subst, ap, arith}
+use Rattle.std.proofs.Common.{◌≡◌, ◌∙◌, ◌+◌, ◌<◌, true, false, ◌∷◌, refl, sym, subst}
 use Rattle.memo.specs.KeyLog.{spots_of}
 use Rattle.memo.specs.Parts.{IsIn}
 use Rattle.packrat.specs.declared.machine.Turn.TheVariants.{Ask, Answer}
-use Rattle.packrat.specs.Stands.{Stands, IsClosed, key_of}
+use Rattle.packrat.specs.Stands.{key_of}
 use Rattle.packrat.specs.TurnsLeft.{left}
 use Rattle.packrat.specs.View.{weight}
 use Rattle.packrat.proofs.StandsLemmas as L
@@ -12,22 +12,24 @@ use Rattle.packrat.proofs.machine.Machine.ask.Goals as goal
 
 pub returns-in-Some-clause-stands : goal.returns-in-Some-clause-stands
 returns-in-Some-clause-stands c = λ root s.
-    L.stands_stored c.args.peg.now c.args.window.now c.args.marks.now root c.args.spot c.args.self.now.frames c.args.self.now.log.stored c.args.self.now.begun s c.in-Some.found
+    L.stands_stored c.args.peg.now c.args.window.now c.args.marks.now root c.args.spot c.args.self.now.frames
+    c.args.self.now.log.stored c.args.self.now.begun s c.in-Some.found
     (cc (c.is_key.ensures, c.if-is_key.true)) c.in-Some.ensures.some
 
 pub returns-in-Some-clause-less : goal.returns-in-Some-clause-less
 returns-in-Some-clause-less c = λ le.
-    M.less_stored c.args.peg.now c.args.window.now c.args.spot c.in-Some.found c.args.self.now.frames c.args.self.now.begun
+    M.less_stored c.args.peg.now c.args.window.now c.args.spot c.in-Some.found c.args.self.now.frames
+    c.args.self.now.begun
     c.requires.well
 
 pub returns-in_ok-close-in-Gives-clause-stands : goal.returns-in_ok-close-in-Gives-clause-stands
 returns-in_ok-close-in-Gives-clause-stands c = λ root s.
     let fresh : key_of c.args.peg.now c.args.window.now c.args.marks.now c.args.spot ≡ true
-        → IsIn c.args.spot (spots_of c.args.self.now.log.stored) → ⊥ =
-        elim c.if-is_key.branch [
-          | then-is_key+in-None w ↦ λ t. w.in-None.ensures.none
-          | else-is_key w ↦ let own = c.is_key.ensures in λ t. absurd (cc (t, own, w.if-is_key.false))
-        ] in
+    → IsIn c.args.spot (spots_of c.args.self.now.log.stored) → ⊥ =
+    elim c.if-is_key.branch [
+      | then-is_key+in-None w ↦ λ t. w.in-None.ensures.none
+      | else-is_key w ↦ let own = c.is_key.ensures in λ t. absurd (cc (t, own, w.if-is_key.false))
+    ] in
     let begun = c.in_ok-close-in-Gives.ensures.begun ∙ c.counted-self.ensures in
     L.stands_as c.args.peg.now c.args.window.now c.args.marks.now root (Answer c.in-Gives.found)
     (Answer c.in-Gives.found) c.args.self.now.frames c.close.new.self.frames c.close.new.self.log.stored
@@ -49,11 +51,11 @@ returns-in_ok-close-in-Gives-clause-less c = λ le.
 pub returns-in_ok-push-in-Leads-clause-stands : goal.returns-in_ok-push-in-Leads-clause-stands
 returns-in_ok-push-in-Leads-clause-stands c = λ root s.
     let fresh : key_of c.args.peg.now c.args.window.now c.args.marks.now c.args.spot ≡ true
-        → IsIn c.args.spot (spots_of c.args.self.now.log.stored) → ⊥ =
-        elim c.if-is_key.branch [
-          | then-is_key+in-None w ↦ λ t. w.in-None.ensures.none
-          | else-is_key w ↦ let own = c.is_key.ensures in λ t. absurd (cc (t, own, w.if-is_key.false))
-        ] in
+    → IsIn c.args.spot (spots_of c.args.self.now.log.stored) → ⊥ =
+    elim c.if-is_key.branch [
+      | then-is_key+in-None w ↦ λ t. w.in-None.ensures.none
+      | else-is_key w ↦ let own = c.is_key.ensures in λ t. absurd (cc (t, own, w.if-is_key.false))
+    ] in
     L.stands_as c.args.peg.now c.args.window.now c.args.marks.now root (Ask c.in-Leads.kid) (Ask c.in-Leads.kid)
     (record { spot = c.args.spot; second = false } ∷ c.args.self.now.frames) c.push.new.self
     c.args.self.now.log.stored c.args.self.now.log.stored (c.args.self.now.begun + weight c.args.spot)

@@ -1,6 +1,6 @@
-use Rattle.std.proofs.Common.{◌≡◌, ◌∙◌, ℕ, ◌+◌, ◌<◌, Bool, true, false, List, [], ◌∷◌, length, refl, sym, subst, ap, arith}
+use Rattle.std.proofs.Common.{◌<◌, true, false, ◌∷◌, refl, sym, subst}
 use Rattle.packrat.specs.declared.machine.Turn.TheVariants.{Ask, Answer}
-use Rattle.packrat.specs.Stands.{Stands, IsClosed, key_of}
+use Rattle.packrat.specs.Stands.{Stands}
 use Rattle.packrat.specs.TurnsLeft.{left}
 use Rattle.packrat.proofs.StandsLemmas as L
 use Rattle.packrat.proofs.LeftLemmas as M
@@ -71,11 +71,11 @@ returns-in_ok-push-in-Leads-clause-stands c = λ root s.
 pub returns-in_ok-push-in-Leads-clause-less : goal.returns-in_ok-push-in-Leads-clause-less
 returns-in_ok-push-in-Leads-clause-less c = λ root s.
     let first : Stands c.args.peg.now c.args.window.now c.args.marks.now root (Answer c.args.found)
-        (record { spot = c.args.frame.spot; second = false } ∷ c.args.self.now.frames) c.args.self.now.log.stored
-        c.args.self.now.begun =
-        subst (λ v. Stands c.args.peg.now c.args.window.now c.args.marks.now root (Answer c.args.found)
-        (record { spot = c.args.frame.spot; second = v } ∷ c.args.self.now.frames) c.args.self.now.log.stored
-        c.args.self.now.begun) c.if-frame.false s in
+    (record { spot = c.args.frame.spot; second = false } ∷ c.args.self.now.frames) c.args.self.now.log.stored
+    c.args.self.now.begun =
+    subst (λ v. Stands c.args.peg.now c.args.window.now c.args.marks.now root (Answer c.args.found)
+    (record { spot = c.args.frame.spot; second = v } ∷ c.args.self.now.frames) c.args.self.now.log.stored
+    c.args.self.now.begun) c.if-frame.false s in
     subst (λ v. left c.args.peg.now c.args.window.now (Ask c.in-Leads.kid) v c.args.self.now.begun
     < left c.args.peg.now c.args.window.now (Answer c.args.found) (c.args.frame ∷ c.args.self.now.frames)
     c.args.self.now.begun) (sym c.in_ok-push-in-Leads.ensures)
