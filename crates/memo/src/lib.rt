@@ -2,6 +2,8 @@
 #![tactic(auto)]
 
 mod key_log;
+#[cfg(test)]
+mod log_rows;
 mod spot;
 
 pub use key_log::{KeyLog, Stored};

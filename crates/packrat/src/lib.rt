@@ -1,6 +1,5 @@
 //! The packrat matcher: it stores an outcome only where a node can be asked for twice at a place, and evaluates each
-//! node
-//! at each place at most once.
+//! node at each place at most once.
 #![tactic(auto)]
 
 mod frames;
@@ -9,6 +8,8 @@ mod machine;
 mod marks;
 mod onward;
 mod packrat;
+#[cfg(test)]
+mod unit_rows;
 
 pub use frames::Frame;
 pub use laws::{

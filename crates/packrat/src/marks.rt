@@ -1,11 +1,15 @@
 //! Marks of what may be asked for twice.
-ghost use Rattle.std.specs.Prelude.{◌≡◌, get_or, true};
+ghost use Rattle.std.specs.Prelude.{◌≡◌, ℕ, List, get_or, true};
+ghost use Rattle.gramcheck.specs.Nodes.{Shape};
+ghost use Rattle.packrat.specs.KeyMarks.{AreMarks};
 ghost use Rattle.packrat.specs.SpotGives.{node_marks, tail_marks};
 ghost use Rattle.packrat.specs.Spots.{is_key as is_key_of};
 
 use memo::Spot;
+use std::alloc::Global;
 
-/// Which nodes are keys, and of which nodes the tails are: what may be asked for twice at a place.
+/// Which nodes are keys, and of which nodes the tails are: what may be asked for twice at a place. What has no mark is a
+/// key.
 #[derive(Drop)]
 pub struct Marks {
     pub nodes: Vec<bool>,
@@ -23,6 +27,17 @@ fn mark_of(marks: &[bool], node: usize) -> bool
 }
 
 impl Marks {
+    /// Returns marks by which all that is evaluated is a key; it takes no memory.
+    pub fn all(alloc: Global) -> Marks
+        ensures { (start : ℕ) (nodes : List Shape) (bodies : List ℕ) →
+            AreMarks start nodes bodies (node_marks result) (tail_marks result) }
+    {
+        Marks {
+            nodes: Vec::new(alloc),
+            tails: Vec::new(alloc),
+        }
+    }
+
     /// Tells whether a spot is a key.
     pub fn is_key(&self, spot: Spot) -> bool
         ensures { result ≡ is_key_of (node_marks self.now) (tail_marks self.now) spot }
