@@ -1,0 +1,3 @@
+pub mod PartsLemmas
+pub mod RunLemmas
+pub mod KeyLogLemmas

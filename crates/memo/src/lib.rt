@@ -1,0 +1,10 @@
+//! What an evaluation remembers: the log of its keys, and what a few stored keys imply. It knows nothing of grammars.
+#![tactic(auto)]
+
+mod key_log;
+#[cfg(test)]
+mod log_rows;
+mod spot;
+
+pub use key_log::{KeyLog, Stored};
+pub use spot::Spot;

@@ -1,0 +1,167 @@
+-- No more pairs are begun than there are cells of all visited pairs, nor than nodes at places.
+-- Serves: steps_hold, Packrat::match_unit
+use Rattle.std.proofs.Common.{◌≡◌, inl, inr, ℕ, ◌+◌, ◌*◌, ◌≤◌, Bool, true, false, if◌then◌else◌, List, [], ◌∷◌}
+use Rattle.std.proofs.Common.{length, Some, None, Option, refl, sym, subst, arith}
+use Rattle.std.specs.Prelude.{slice_get}
+use Rattle.pegread.specs.Pattern.{Rule}
+use Rattle.gramcheck.specs.Nodes.{Shape}
+use Rattle.gramcheck.specs.Sound.{IsRanked}
+use Rattle.cells.specs.declared.cell.Found.{Found}
+use Rattle.cells.specs.Entries.{Entry, found_at, AreDifferent}
+use Rattle.cells.specs.declared.cell.Found.TheVariants.{Failed}
+use Rattle.cells.proofs.FoundAtLemmas.{is_of, is_own}
+use Rattle.desk.proofs.AreCellsLemmas.{visited_there}
+use Rattle.desk.proofs.CodeLemmas.{cells_at_most}
+use Rattle.packrat.specs.KeyMarks.{AreMarks}
+use Rattle.memo.specs.Parts.{IsIn, in_here, in_later, Distinct, distinct_none, distinct_more}
+use Rattle.memo.specs.Run.{total}
+use Rattle.memo.specs.declared.spot.Spot.{Spot}
+use Rattle.memo.specs.declared.spot.Spot.TheVariants.{Pair, Tail}
+use Rattle.packrat.specs.Spots.{Leads, Kids, is_key}
+use Rattle.packrat.specs.View.{weight, AreAll}
+use Rattle.packrat.proofs.EndsLemmas.{reached_ends}
+use Rattle.packrat.proofs.SpotReachLemmas.{reached_is_visited}
+use Rattle.packrat.specs.MachineSteps.{State, held, start_at}
+use Rattle.packrat.specs.SpotSteps.{NextOf, SpotSteps}
+use Rattle.packrat.proofs.GoodLemmas.{in_front, not_in, steps_are_good, weigh_less}
+use Rattle.packrat.proofs.NextOfLemmas.{is_next, forest_of}
+
+abbrev pairs : List Entry → List Spot
+pairs [] = []
+pairs (c ∷ cells) = Pair c.node c.place ∷ pairs cells
+
+module _ (n p : ℕ) (f : Found) where
+  in_pairs : (cells : List Entry) → found_at cells n p ≡ Some f → IsIn (Pair n p) (pairs cells)
+  in_pairs [] h = absurd (cc h)
+  in_pairs (c ∷ cells) h = by (is_of c n p) refl h (λ k. in_pairs cells k)
+    where
+      by : (v : Bool) → is_of c n p ≡ v → (if v then Some c.found else found_at cells n p) ≡ Some f
+          → (found_at cells n p ≡ Some f → IsIn (Pair n p) (pairs cells))
+          → IsIn (Pair n p) (Pair c.node c.place ∷ pairs cells)
+      by true same is rec =
+          let both = is_own c n p same in
+          let one : c.node ≡ n = both.0 in
+          let two : c.place ≡ p = both.1 in
+          subst (λ v. IsIn (Pair v p) (Pair c.node c.place ∷ pairs cells)) one
+          (subst (λ v. IsIn (Pair c.node v) (Pair c.node c.place ∷ pairs cells)) two in_here)
+      by false same is rec = in_later (rec is)
+
+abbrev evals : List Spot → List Spot
+evals [] = []
+evals (Pair n p ∷ xs) = Pair n p ∷ evals xs
+evals (Tail n i p ∷ xs) = evals xs
+
+record IsPair (a : Spot) (xs : List Spot) : Type 0 where
+  pub node : ℕ
+  pub place : ℕ
+  pub is : a ≡ Pair node place
+  pub there : IsIn (Pair node place) xs
+
+eval_later : {a b : Spot} {xs : List Spot} → IsPair a xs → IsPair a (b ∷ xs)
+eval_later h = record { node = h.node; place = h.place; is = h.is; there = in_later h.there }
+
+is_eval : (xs : List Spot) (a : Spot) → IsIn a (evals xs) → IsPair a xs
+is_eval [] a i = absurd (not_in i)
+is_eval (Pair n p ∷ xs) a i = elim (in_front i) [
+  | inl is ↦ record { node = n; place = p; is = is; there = in_here }
+  | inr j ↦ eval_later (is_eval xs a j)
+]
+is_eval (Tail n k p ∷ xs) a i = eval_later (is_eval xs a i)
+
+evals_distinct : {xs : List Spot} → Distinct xs → Distinct (evals xs)
+evals_distinct distinct_none = distinct_none
+evals_distinct (distinct_more {a = Pair n p} {xs = xs} f d) =
+    distinct_more (λ i. let h = is_eval xs (Pair n p) i in f (subst (λ v. IsIn v xs) (sym h.is) h.there))
+    (evals_distinct d)
+evals_distinct (distinct_more {a = Tail n i p} f d) = evals_distinct d
+
+-- a cell for each pair among spots, whatever it holds
+abbrev cells_for : List Spot → List Entry
+cells_for [] = []
+cells_for (Pair n p ∷ xs) = record { node = n; place = p; found = Failed } ∷ cells_for xs
+cells_for (Tail n i p ∷ xs) = cells_for xs
+
+for_among : (n p : ℕ) (f : Found) (xs : List Spot) → found_at (cells_for xs) n p ≡ Some f → IsIn (Pair n p) xs
+for_among n p f [] h = absurd (cc h)
+for_among n p f (Pair m q ∷ xs) h = by (is_of (record { node = m; place = q; found = Failed }) n p) refl h
+    (λ k. for_among n p f xs k)
+  where
+    by : (v : Bool) → is_of (record { node = m; place = q; found = Failed }) n p ≡ v
+        → (if v then Some Failed else found_at (cells_for xs) n p) ≡ Some f
+        → (found_at (cells_for xs) n p ≡ Some f → IsIn (Pair n p) xs) → IsIn (Pair n p) (Pair m q ∷ xs)
+    by true same is rec =
+        let both = is_own (record { node = m; place = q; found = Failed }) n p same in
+        let one : m ≡ n = both.0 in
+        let two : q ≡ p = both.1 in
+        subst (λ v. IsIn (Pair v p) (Pair m q ∷ xs)) one (subst (λ v. IsIn (Pair m v) (Pair m q ∷ xs)) two in_here)
+    by false same is rec = in_later (rec is)
+for_among n p f (Tail m i q ∷ xs) h = in_later (for_among n p f xs h)
+
+for_none : (n p : ℕ) (xs : List Spot) → (IsIn (Pair n p) xs → ⊥) → found_at (cells_for xs) n p ≡ None
+for_none n p xs not = by (found_at (cells_for xs) n p) refl
+  where
+    by : (v : Option Found) → found_at (cells_for xs) n p ≡ v → v ≡ None
+    by None is = refl
+    by (Some f) is = absurd (not (for_among n p f xs is))
+
+for_different : {xs : List Spot} → Distinct xs → AreDifferent (cells_for xs)
+for_different distinct_none = tt
+for_different (distinct_more {a = Pair n p} {xs = xs} fresh d) = (for_none n p xs fresh, for_different d)
+for_different (distinct_more {a = Tail n i p} fresh d) = for_different d
+
+module _ (rules : List Rule) (start : ℕ) (nodes : List Shape) (bodies ranks x : List ℕ) (more : Bool)
+    (sound : IsRanked rules start nodes bodies ranks) (root : ℕ) (is_root : slice_get bodies start ≡ Some root)
+    (marks : ℕ → Bool) (tails : ℕ → ℕ → Bool) (are : AreMarks start nodes bodies marks tails) where
+  abbrev T : List Spot → ℕ
+  T xs = total Spot (Kids rules nodes bodies x) (is_key marks tails) weight xs
+
+  evals_weigh : (xs : List Spot) → T (evals xs) ≡ T xs
+  evals_weigh [] = refl
+  evals_weigh (Pair n p ∷ xs) = let h = evals_weigh xs in omega (arith, h)
+  evals_weigh (Tail n i p ∷ xs) = let h = evals_weigh xs in omega (arith, h)
+
+  pairs_weigh : (cells : List Entry) → T (pairs cells) ≡ length cells
+  pairs_weigh [] = refl
+  pairs_weigh (c ∷ cells) = let h = pairs_weigh cells in omega (arith, h)
+
+  pub begun_in_cells : (s : State Spot) → SpotSteps rules nodes bodies x marks tails (start_at Spot (Pair root 0)) s
+      → (cells : List Entry) → AreAll rules start nodes bodies x more cells → T (held Spot s).begun ≤ length cells
+  begun_in_cells s steps cells every =
+      let forest = forest_of rules start nodes bodies ranks x more sound root is_root marks tails are in
+      let next = is_next rules start nodes bodies ranks x more sound root is_root marks tails are in
+      let g = steps_are_good Spot (Leads rules nodes bodies x) (Pair root 0) (Kids rules nodes bodies x)
+      (NextOf rules nodes bodies x) (is_key marks tails) forest next
+      (λ a r. reached_ends rules start nodes bodies ranks x sound root is_root r) s steps in
+      let le = weigh_less Spot (Leads rules nodes bodies x) (Pair root 0) (Kids rules nodes bodies x)
+      (NextOf rules nodes bodies x) (is_key marks tails) forest next
+      (λ a r. reached_ends rules start nodes bodies ranks x sound root is_root r) weight
+      (evals (held Spot s).begun) (pairs cells) (evals_distinct g.once) (λ a i.
+      let h = is_eval (held Spot s).begun a i in
+      let v = reached_is_visited rules start nodes bodies x root is_root h.node h.place
+      (g.reached (Pair h.node h.place) h.there) in
+      let c = every.whole h.node h.place v in
+      subst (λ v. IsIn v (pairs cells)) (sym h.is) (in_pairs h.node h.place c.0 cells c.1)) in
+      let one = evals_weigh (held Spot s).begun in
+      let two = pairs_weigh cells in
+      omega (arith, le, one, two)
+
+  for_weigh : (xs : List Spot) → T xs ≡ length (cells_for xs)
+  for_weigh [] = refl
+  for_weigh (Pair n p ∷ xs) = let h = for_weigh xs in omega (arith, h)
+  for_weigh (Tail n i p ∷ xs) = let h = for_weigh xs in omega (arith, h)
+
+  -- no more are begun than nodes at places
+  pub begun_at_places : (s : State Spot) → SpotSteps rules nodes bodies x marks tails (start_at Spot (Pair root 0)) s
+      → T (held Spot s).begun ≤ length nodes * (length x + 1)
+  begun_at_places s steps =
+      let forest = forest_of rules start nodes bodies ranks x more sound root is_root marks tails are in
+      let next = is_next rules start nodes bodies ranks x more sound root is_root marks tails are in
+      let g = steps_are_good Spot (Leads rules nodes bodies x) (Pair root 0) (Kids rules nodes bodies x)
+      (NextOf rules nodes bodies x) (is_key marks tails) forest next
+      (λ a r. reached_ends rules start nodes bodies ranks x sound root is_root r) s steps in
+      let most = cells_at_most (cells_for (held Spot s).begun) (length nodes) (length x) (for_different g.once)
+      (λ m q h. visited_there rules start nodes bodies ranks x more sound m q
+      (reached_is_visited rules start nodes bodies x root is_root m q
+      (g.reached (Pair m q) (for_among m q h.0 (held Spot s).begun h.1)))) in
+      let same = for_weigh (held Spot s).begun in
+      omega (arith, most, same)

@@ -1,0 +1,203 @@
+use Rattle.std.proofs.Common.{◌≡◌, ◌∙◌, inl, ◌<◌, length, get_or}
+use Rattle.std.proofs.Common.{Some, refl, ap, arith}
+use Rattle.std.proofs.lemmas.Option.{slice_get_past, slice_get-get_or}
+use Rattle.gramcheck.specs.Nodes as shape
+use Rattle.gramcheck.specs.Nodes.{spells_any, spells_bytes, spells_set}
+use Rattle.gramcheck.proofs.HasShapeLemmas.{has_shape}
+use Rattle.pegread.specs.PegViews.{rules_of}
+use Rattle.pegmatch.proofs.NodeShapeLemmas.{shape_at}
+use Rattle.packrat.proofs.SpotGivesLemmas as L
+use Rattle.packrat.proofs.OnwardLemmas as M
+use Rattle.packrat.proofs.onward.begin_node.Goals as goal
+
+pub returns-in-Any : goal.returns-in-Any
+returns-in-Any c =
+    let here = shape_at c.args.peg.now.nodes c.args.node _ (c.node.ensures ∙ ap Some c.in-Any.is) in
+    let well = c.requires.well in
+    ((
+      (shape.Any, here, refl),
+      L.leaf_spot c.args.peg.now c.args.window.now c.requires.sound c.args.node c.args.place
+          c.match_any.result.found c.match_any.result.looked _ (spells_any here) (c.match_any.ensures.value _),
+    ))
+
+pub returns-in-Bytes : goal.returns-in-Bytes
+returns-in-Bytes c =
+    let here = shape_at c.args.peg.now.nodes c.args.node _ (c.node.ensures ∙ ap Some c.in-Bytes.is) in
+    let well = c.requires.well in
+    ((
+      (shape.Bytes _, here, refl),
+      L.leaf_spot c.args.peg.now c.args.window.now c.requires.sound c.args.node
+          c.args.place c.match_bytes.result.found c.match_bytes.result.looked _ (spells_bytes here) (rw
+          c.deref.ensures.value at (c.match_bytes.ensures.value (rules_of c.args.peg.now.rules))),
+    ))
+
+pub returns-in-Set : goal.returns-in-Set
+returns-in-Set c =
+    let here = shape_at c.args.peg.now.nodes c.args.node _ (c.node.ensures ∙ ap Some c.in-Set.is) in
+    let well = c.requires.well in
+    ((
+      (shape.Set _, here, refl),
+      L.leaf_spot c.args.peg.now c.args.window.now c.requires.sound c.args.node
+          c.args.place c.match_set.result.found c.match_set.result.looked _ (spells_set here) (c.match_set.ensures.value _),
+    ))
+
+pub returns-in-Name : goal.returns-in-Name
+returns-in-Name c =
+    let here = shape_at c.args.peg.now.nodes c.args.node _ (c.node.ensures ∙ ap Some c.in-Name.is) in
+    let well = c.requires.well in
+    let body = c.requires.sound.spelled.spelled c.in-Name.id c.body_node.result c.body_node.ensures in
+    (((shape.Name c.in-Name.id, here, (c.body_node.result, c.body_node.ensures, refl)), ((body.0, body.2), well.1)))
+
+pub returns-then-is_empty : goal.returns-then-is_empty
+returns-then-is_empty c =
+    let here = shape_at c.args.peg.now.nodes c.args.node _ (c.node.ensures ∙ ap Some c.in-Seq.is) in
+    let well = c.requires.well in
+    let none : length c.in-Seq.members.items ≡ 0 = let zero_len = L.empty_is _ _ c.is_empty.ensures
+    c.if-is_empty.true in omega (arith, zero_len) in
+    ((
+      (
+        shape.Seq c.in-Seq.members.items,
+        here,
+        inl (
+          slice_get_past c.in-Seq.members.items 0 (omega (arith, none)),
+          refl,
+        ),
+      ),
+      L.seq_empty c.args.peg.now c.args.window.now c.requires.sound c.args.node c.args.place
+          c.in-Seq.members.items well.0 here none,
+    ))
+
+pub returns-else-is_empty : goal.returns-else-is_empty
+returns-else-is_empty c =
+    let here = shape_at c.args.peg.now.nodes c.args.node _ (c.node.ensures ∙ ap Some c.in-Seq.is) in
+    let well = c.requires.well in
+    let not_none : length c.in-Seq.members.items ≡ 0 → ⊥ = let more = L.empty_not _ _ c.is_empty.ensures
+    c.if-is_empty.false in (λ h. more (omega (arith, h))) in
+    let some : 0 < length c.in-Seq.members.items = M.some_of c.in-Seq.members.items not_none in
+    ((
+      (
+        shape.Seq c.in-Seq.members.items,
+        here,
+        (
+          get_or c.in-Seq.members.items 0 0,
+          slice_get-get_or
+              c.in-Seq.members.items 0 0 some,
+          refl,
+        ),
+      ),
+      (well.0, well.1, (shape.Seq c.in-Seq.members.items, here, some)),
+    ))
+
+pub returns-then-is_empty-2 : goal.returns-then-is_empty-2
+returns-then-is_empty-2 c =
+    let here = shape_at c.args.peg.now.nodes c.args.node _ (c.node.ensures ∙ ap Some c.in-Choice.is) in
+    let well = c.requires.well in
+    let none : length c.in-Choice.alternatives.items ≡ 0 = let zero_len = L.empty_is _ _ c.is_empty-in-Choice.ensures
+    c.if-is_empty-2.true in omega (arith, zero_len) in
+    ((
+      (
+        shape.Choice c.in-Choice.alternatives.items,
+        here,
+        inl (
+          slice_get_past c.in-Choice.alternatives.items 0 (omega
+              (arith, none)),
+          refl,
+        ),
+      ),
+      L.choice_empty c.args.peg.now c.args.window.now c.requires.sound c.args.node c.args.place
+          c.in-Choice.alternatives.items well.0 here none,
+    ))
+
+pub returns-else-is_empty-2 : goal.returns-else-is_empty-2
+returns-else-is_empty-2 c =
+    let here = shape_at c.args.peg.now.nodes c.args.node _ (c.node.ensures ∙ ap Some c.in-Choice.is) in
+    let well = c.requires.well in
+    let not_none : length c.in-Choice.alternatives.items ≡ 0 → ⊥ = let more = L.empty_not _ _
+    c.is_empty-in-Choice.ensures c.if-is_empty-2.false in (λ h. more (omega (arith, h))) in
+    let some : 0 < length c.in-Choice.alternatives.items = M.some_of c.in-Choice.alternatives.items not_none in
+    ((
+      (
+        shape.Choice c.in-Choice.alternatives.items,
+        here,
+        (
+          get_or c.in-Choice.alternatives.items 0 0,
+          slice_get-get_or c.in-Choice.alternatives.items 0 0 some,
+          refl,
+        ),
+      ),
+      (
+        well.0,
+        well.1,
+        (
+          shape.Choice
+              c.in-Choice.alternatives.items,
+          here,
+          some,
+        ),
+      ),
+    ))
+
+pub returns-in-Star : goal.returns-in-Star
+returns-in-Star c =
+    let here = shape_at c.args.peg.now.nodes c.args.node _ (c.node.ensures ∙ ap Some c.in-Star.is) in
+    let well = c.requires.well in
+    let like = has_shape _ _ well.0.1 (shape.Star c.in-Star.operand) here in
+    (((shape.Star c.in-Star.operand, here, refl), ((like.0, like.2), well.1)))
+
+pub returns-in-Not : goal.returns-in-Not
+returns-in-Not c =
+    let here = shape_at c.args.peg.now.nodes c.args.node _ (c.node.ensures ∙ ap Some c.in-Not.is) in
+    let well = c.requires.well in
+    let like = has_shape _ _ well.0.1 (shape.Not c.in-Not.operand) here in
+    (((shape.Not c.in-Not.operand, here, refl), ((like.0, like.2), well.1)))
+
+pub returns-in-Opt : goal.returns-in-Opt
+returns-in-Opt c =
+    let here = shape_at c.args.peg.now.nodes c.args.node _ (c.node.ensures ∙ ap Some c.in-Opt.is) in
+    let well = c.requires.well in
+    let like = has_shape _ _ well.0.1 (shape.Opt c.in-Opt.operand) here in
+    (((shape.Opt c.in-Opt.operand, here, refl), ((like.0, like.2), well.1)))
+
+pub returns-in-And : goal.returns-in-And
+returns-in-And c =
+    let here = shape_at c.args.peg.now.nodes c.args.node _ (c.node.ensures ∙ ap Some c.in-And.is) in
+    let well = c.requires.well in
+    let like = has_shape _ _ well.0.1 (shape.And c.in-And.operand) here in
+    (((shape.And c.in-And.operand, here, refl), ((like.0, like.2), well.1)))
+
+pub returns-in-Plus : goal.returns-in-Plus
+returns-in-Plus c =
+    let here = shape_at c.args.peg.now.nodes c.args.node _ (c.node.ensures ∙ ap Some c.in-Plus.is) in
+    let well = c.requires.well in
+    let like = has_shape _ _ well.0.1 (shape.Plus c.in-Plus.operand c.in-Plus.star) here in
+    (((shape.Plus c.in-Plus.operand c.in-Plus.star, here, refl), ((like.0, like.2), well.1)))
+
+pub returns-in-Act : goal.returns-in-Act
+returns-in-Act c =
+    let here = shape_at c.args.peg.now.nodes c.args.node _ (c.node.ensures ∙ ap Some c.in-Act.is) in
+    let well = c.requires.well in
+    ((
+      (shape.Act _, here, refl),
+      L.act_spot c.args.peg.now c.args.window.now c.requires.sound c.args.node
+          c.args.place _ here,
+    ))
+
+pub returns-in-Open : goal.returns-in-Open
+returns-in-Open c =
+    let here = shape_at c.args.peg.now.nodes c.args.node _ (c.node.ensures ∙ ap Some c.in-Open.is) in
+    let well = c.requires.well in
+    ((
+      (shape.Open, here, refl),
+      L.open_spot c.args.peg.now c.args.window.now c.requires.sound c.args.node
+          c.args.place here,
+    ))
+
+pub returns-in-Close : goal.returns-in-Close
+returns-in-Close c =
+    let here = shape_at c.args.peg.now.nodes c.args.node _ (c.node.ensures ∙ ap Some c.in-Close.is) in
+    let well = c.requires.well in
+    ((
+      (shape.Close, here, refl),
+      L.close_spot c.args.peg.now c.args.window.now c.requires.sound c.args.node
+          c.args.place here,
+    ))

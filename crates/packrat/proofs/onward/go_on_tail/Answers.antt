@@ -1,0 +1,73 @@
+use Rattle.std.proofs.Common.{◌≡◌, ◌∙◌, suc, ◌+◌, ◌<◌, ◌≤◌, length}
+use Rattle.std.proofs.Common.{Some, subst, ap, arith}
+use Rattle.gramcheck.specs.Nodes as shape
+use Rattle.gramcheck.specs.Nodes.{spells_any, spells_bytes, spells_set}
+use Rattle.pegmatch.proofs.NodeShapeLemmas.{shape_at}
+use Rattle.packrat.specs.Onward.{HasMember}
+use Rattle.packrat.proofs.OnwardLemmas as M
+use Rattle.packrat.proofs.onward.go_on_tail.Goals as goal
+
+pub returns-in-Failed : goal.returns-in-Failed
+returns-in-Failed c =
+    let here = shape_at c.args.peg.now.nodes c.args.node _ (c.node.ensures ∙ ap Some c.in-Seq.is) in
+    let well = c.requires.well in
+    (M.member_none c.args.peg.now c.args.window.now c.requires.sound c.args.node c.args.index c.args.place
+    c.in-Seq.members.items c.args.found well here c.in-Failed.is)
+
+pub returns-then-index-len : goal.returns-then-index-len
+returns-then-index-len c =
+    let here = shape_at c.args.peg.now.nodes c.args.node _ (c.node.ensures ∙ ap Some c.in-Seq.is) in
+    let well = c.requires.well in
+    let lt : suc c.args.index < length c.in-Seq.members.items = omega (arith, c.len.ensures, c.if-index-len.true) in
+    let same : suc c.args.index ≡ c.args.index + 1 = omega arith in
+    (M.member_more c.args.peg.now c.args.window.now c.requires.sound c.args.node c.args.index c.args.place
+    c.in-Seq.members.items c.args.found well c.in-Took.end (c.args.index + 1) same here c.in-Took.is lt)
+
+pub returns-else-index-len : goal.returns-else-index-len
+returns-else-index-len c =
+    let here = shape_at c.args.peg.now.nodes c.args.node _ (c.node.ensures ∙ ap Some c.in-Seq.is) in
+    let well = c.requires.well in
+    let le : length c.in-Seq.members.items ≤ suc c.args.index = omega (arith, c.len.ensures, c.if-index-len.false) in
+    (M.member_last c.args.peg.now c.args.window.now c.requires.sound c.args.node c.args.index c.args.place
+    c.in-Seq.members.items c.args.found well c.in-Took.end here c.in-Took.is le)
+
+pub returns-in-Took-found : goal.returns-in-Took-found
+returns-in-Took-found c =
+    let here = shape_at c.args.peg.now.nodes c.args.node _ (c.node.ensures ∙ ap Some c.in-Choice.is) in
+    let well = c.requires.well in
+    (M.other_some c.args.peg.now c.args.window.now c.requires.sound c.args.node c.args.index c.args.place
+    c.in-Choice.alternatives.items c.args.found well c.in-Took-found.end here c.in-Took-found.is)
+
+pub returns-then-index-len-2 : goal.returns-then-index-len-2
+returns-then-index-len-2 c =
+    let here = shape_at c.args.peg.now.nodes c.args.node _ (c.node.ensures ∙ ap Some c.in-Choice.is) in
+    let well = c.requires.well in
+    let lt : suc c.args.index < length c.in-Choice.alternatives.items = omega (
+      arith,
+      c.len-in-Failed-found.ensures,
+      c.if-index-len-2.true,
+    ) in
+    let same : suc c.args.index ≡ c.args.index + 1 = omega arith in
+    (M.other_more c.args.peg.now c.args.window.now c.requires.sound c.args.node c.args.index c.args.place
+    c.in-Choice.alternatives.items c.args.found well (c.args.index + 1) same here c.in-Failed-found.is lt)
+
+pub returns-else-index-len-2 : goal.returns-else-index-len-2
+returns-else-index-len-2 c =
+    let here = shape_at c.args.peg.now.nodes c.args.node _ (c.node.ensures ∙ ap Some c.in-Choice.is) in
+    let well = c.requires.well in
+    let le : length c.in-Choice.alternatives.items ≤ suc c.args.index = omega (
+      arith,
+      c.len-in-Failed-found.ensures,
+      c.if-index-len-2.false,
+    ) in
+    (M.other_end c.args.peg.now c.args.window.now c.requires.sound c.args.node c.args.index c.args.place
+    c.in-Choice.alternatives.items c.args.found well here c.in-Failed-found.is le)
+
+pub returns-in_default : goal.returns-in_default
+returns-in_default c =
+    let here = shape_at c.args.peg.now.nodes c.args.node _ c.node.ensures in
+    let well = c.requires.well in
+    let same : well.2.0 ≡ shape.shape_of c.node.result.now = cc (well.2.1, here) in
+    let has : HasMember (shape.shape_of c.node.result.now) c.args.index =
+    subst (λ v. HasMember v c.args.index) same well.2.2 in
+    λ j h d. absurd (M.no_member c.args.index c.node.result.now c.in_default.not-Seq c.in_default.not-Choice has)

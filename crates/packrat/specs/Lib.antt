@@ -1,0 +1,12 @@
+pub mod Width
+pub mod Offset
+pub mod Spots
+pub mod KeyMarks
+pub mod View
+pub mod SpotGives
+pub mod MachineSteps
+pub mod SpotSteps
+pub mod Onward
+pub mod Stands
+pub mod TurnsLeft
+pub mod Done

@@ -1,0 +1,48 @@
+-- How a spot goes on, in code: what it gives at once, and what it asks for.
+use Rattle.std.specs.Prelude.{◌≡◌, ℕ, ◌<◌, ◌≤◌, List, [], ◌∷◌, length, slice_get, Some}
+use Rattle.pegread.specs.PegViews.{rules_of}
+use Rattle.gramcheck.specs.Grammar.{Grammar}
+use Rattle.gramcheck.specs.Nodes.{Shape, Any, Bytes, Set, Name, Seq, Choice, Star, Plus, Opt, And, Not, Act, Open}
+use Rattle.gramcheck.specs.Nodes.{Close, shapes_of}
+use Rattle.cells.specs.declared.cell.Found.{Found}
+use Rattle.pegmatch.specs.KeptEvents.{SpellsSome}
+use Rattle.memo.specs.declared.spot.Spot.{Spot}
+use Rattle.memo.specs.declared.spot.Spot.TheVariants.{Pair, Tail}
+use Rattle.packrat.specs.SpotGives.{SpotGives}
+use Rattle.packrat.specs.Spots.{Kids}
+use Rattle.packrat.specs.declared.onward.Onward.{Onward}
+use Rattle.packrat.specs.declared.onward.Onward.TheVariants.{Gives, Leads}
+use Rattle.packrat.specs.SpotSteps.{IsFirst}
+
+abbrev pub HasMember : Shape → ℕ → Type 0
+HasMember Any i = ⊥
+HasMember (Bytes bs) i = ⊥
+HasMember (Set s) i = ⊥
+HasMember (Name id) i = ⊥
+HasMember (Seq ms) i = i < length ms
+HasMember (Choice ms) i = i < length ms
+HasMember (Star k) i = ⊥
+HasMember (Plus k s) i = ⊥
+HasMember (Opt k) i = ⊥
+HasMember (And k) i = ⊥
+HasMember (Not k) i = ⊥
+HasMember (Act t) i = ⊥
+HasMember Open i = ⊥
+HasMember Close i = ⊥
+
+module _ (g : Grammar) (x : List ℕ) where
+  -- a spot of the grammar and the window
+  abbrev pub IsWell : Spot → Type 0
+  IsWell (Pair n p) = SpellsSome (rules_of g.rules) (shapes_of g.nodes) n × (p ≤ length x)
+  IsWell (Tail n i p) = SpellsSome (rules_of g.rules) (shapes_of g.nodes) n × (p ≤ length x)
+      × ((shape : Shape) × (slice_get (shapes_of g.nodes) n ≡ Some shape) × HasMember shape i)
+
+  abbrev pub AfterNone : Spot → Onward → Type 0
+  AfterNone a (Gives f) = Kids (rules_of g.rules) (shapes_of g.nodes) g.bodies x a [] × SpotGives g x a f
+  AfterNone a (Leads k) = IsFirst (rules_of g.rules) (shapes_of g.nodes) g.bodies x a k × IsWell k
+
+  -- behind its first kid j
+  abbrev pub AfterOne : Spot → Spot → Onward → Type 0
+  AfterOne a j (Gives f) = Kids (rules_of g.rules) (shapes_of g.nodes) g.bodies x a (j ∷ []) × SpotGives g x a f
+  AfterOne a j (Leads k) = Kids (rules_of g.rules) (shapes_of g.nodes) g.bodies x a (j ∷ (k ∷ []))
+      × ((f : Found) → SpotGives g x k f → SpotGives g x a f) × IsWell k

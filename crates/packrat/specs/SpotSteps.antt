@@ -1,0 +1,41 @@
+-- The machine over spots.
+use Rattle.std.specs.Prelude.{◌≡◌, ℕ, zero, Bool, List, [], ◌∷◌, slice_get, Some}
+use Rattle.pegread.specs.Pattern.{Rule}
+use Rattle.gramcheck.specs.Nodes.{Shape}
+use Rattle.memo.specs.declared.spot.Spot.{Spot}
+use Rattle.memo.specs.declared.spot.Spot.TheVariants.{Pair, Tail}
+use Rattle.packrat.specs.Spots.{Way, Leaf, Body, Members, Alternatives, Turns, Operand, way_of, Kids, is_key}
+use Rattle.packrat.specs.MachineSteps.{State, Step, Steps}
+
+module _ (rules : List Rule) (nodes : List Shape) (bodies x : List ℕ) where
+  -- where node n at p leads first, whatever it takes
+  abbrev pub FirstBy : Way → ℕ → ℕ → Spot → Type 0
+  FirstBy Leaf n p b = ⊥
+  FirstBy (Body id) n p b = (m : ℕ) × (slice_get bodies id ≡ Some m) × (b ≡ Pair m p)
+  FirstBy (Members ms) n p b = (m : ℕ) × (slice_get ms zero ≡ Some m) × (b ≡ Tail n zero p)
+  FirstBy (Alternatives ms) n p b = (m : ℕ) × (slice_get ms zero ≡ Some m) × (b ≡ Tail n zero p)
+  FirstBy (Turns k s) n p b = b ≡ Pair k p
+  FirstBy (Operand k) n p b = b ≡ Pair k p
+
+  abbrev pub TailFirstBy : Way → ℕ → ℕ → ℕ → Spot → Type 0
+  TailFirstBy Leaf n i p b = ⊥
+  TailFirstBy (Body id) n i p b = ⊥
+  TailFirstBy (Members ms) n i p b = (m : ℕ) × (slice_get ms i ≡ Some m) × (b ≡ Pair m p)
+  TailFirstBy (Alternatives ms) n i p b = (m : ℕ) × (slice_get ms i ≡ Some m) × (b ≡ Pair m p)
+  TailFirstBy (Turns k s) n i p b = ⊥
+  TailFirstBy (Operand k) n i p b = ⊥
+
+  abbrev pub IsFirst : Spot → Spot → Type 0
+  IsFirst (Pair n p) b = (shape : Shape) × (slice_get nodes n ≡ Some shape) × FirstBy (way_of n shape) n p b
+  IsFirst (Tail n i p) b = (shape : Shape) × (slice_get nodes n ≡ Some shape) × TailFirstBy (way_of n shape) n i p b
+
+  -- What a spot asks for next: the first without knowing anything, the second where it is one of two.
+  pub data NextOf (a : Spot) : List Spot → Spot → Type 0 where
+    next_first : {k : Spot} → IsFirst a k → NextOf a [] k
+    next_second : {j k : Spot} → Kids rules nodes bodies x a (j ∷ (k ∷ [])) → NextOf a (j ∷ []) k
+
+  abbrev pub SpotStep : (ℕ → Bool) → (ℕ → ℕ → Bool) → State Spot → State Spot → Type 0
+  SpotStep marks tails s t = Step Spot (Kids rules nodes bodies x) NextOf (is_key marks tails) s t
+
+  abbrev pub SpotSteps : (ℕ → Bool) → (ℕ → ℕ → Bool) → State Spot → State Spot → Type 0
+  SpotSteps marks tails s t = Steps Spot (Kids rules nodes bodies x) NextOf (is_key marks tails) s t

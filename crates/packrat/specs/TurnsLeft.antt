@@ -1,0 +1,54 @@
+-- What the machine's loop has left: a number that each turn lowers.
+use Rattle.std.specs.Prelude.{ℕ, suc, ◌+◌, ◌*◌, ◌-◌, max, Bool, true, false, List, [], ◌∷◌, length}
+use Rattle.gramcheck.specs.Grammar.{Grammar}
+use Rattle.gramcheck.specs.Nodes.{Shape, shapes_of}
+use Rattle.memo.specs.declared.spot.Spot.{Spot}
+use Rattle.memo.specs.declared.spot.Spot.TheVariants.{Pair, Tail}
+use Rattle.packrat.specs.Spots.{Way, Leaf, Body, Members, Alternatives, Turns, Operand, way_of}
+use Rattle.packrat.specs.declared.frames.Frame.{Frame}
+use Rattle.packrat.specs.declared.machine.Turn.{Turn}
+use Rattle.packrat.specs.declared.machine.Turn.TheVariants.{Ask, Answer}
+
+-- the number of members of a node that goes on in this way
+abbrev pub members_of : Way → ℕ
+members_of Leaf = 0
+members_of (Body id) = 0
+members_of (Members ms) = length ms
+members_of (Alternatives ms) = length ms
+members_of (Turns k s) = 0
+members_of (Operand k) = 0
+
+-- the greatest number of members that a node has
+abbrev pub most_members : List Shape → ℕ
+most_members [] = 0
+most_members (s ∷ nodes) = max (members_of (way_of 0 s)) (most_members nodes)
+
+module _ (most : ℕ) where
+  -- the cost of a spot that is asked for, without that of the pairs that begin
+  abbrev pub ask_cost : Spot → ℕ
+  ask_cost (Pair n p) = 1
+  ask_cost (Tail n i p) = 4 * (most - i)
+
+  -- likewise of a frame that waits for its second spot, or for its first
+  abbrev pub wait_cost : Bool → Spot → ℕ
+  wait_cost true a = 1
+  wait_cost false (Pair n p) = 3
+  wait_cost false (Tail n i p) = 2 + 4 * (most - suc i)
+
+  abbrev pub frames_cost : List Frame → ℕ
+  frames_cost [] = 0
+  frames_cost (f ∷ fs) = wait_cost f.second f.spot + frames_cost fs
+
+  abbrev pub turn_cost : Turn → ℕ
+  turn_cost (Ask a) = ask_cost a
+  turn_cost (Answer f) = 0
+
+module _ (g : Grammar) (x : List ℕ) where
+  -- there are no more pairs
+  abbrev pub most_begun : ℕ
+  most_begun = length g.nodes * (length x + 1)
+
+  -- what is left: the pairs that are not begun yet, and the cost of the turn and of the frames
+  unfoldable pub left : Turn → List Frame → ℕ → ℕ
+  left turn frames begun = (4 * most_members (shapes_of g.nodes) + 4) * (length g.nodes * (length x + 1) - begun)
+      + (turn_cost (most_members (shapes_of g.nodes)) turn + frames_cost (most_members (shapes_of g.nodes)) frames)

@@ -1,0 +1,106 @@
+//! Laws of widths, of pairs that are asked for once, of the cells that a few stored keys imply, and of the machine's
+//! steps.
+ghost use Rattle.std.specs.Prelude.{◌≡◌, ℕ, ◌+◌, ◌≤◌, Bool, List, [], length, slice_get, Some};
+ghost use Rattle.pegread.specs.Pattern.{Rule};
+ghost use Rattle.gramcheck.specs.Nodes.{Shape};
+ghost use Rattle.gramcheck.specs.Outcome.{Outcome};
+ghost use Rattle.gramcheck.specs.Sound.{IsRanked};
+ghost use Rattle.cells.specs.Entries.{Entry};
+ghost use Rattle.pegmatch.specs.Answers.{WasEnough};
+ghost use Rattle.desk.specs.Visits.{NodeGives, NodeTakes, Visits};
+ghost use Rattle.memo.specs.Run.{total};
+ghost use Rattle.memo.specs.declared.spot.Spot.{Spot};
+ghost use Rattle.memo.specs.declared.spot.Spot.TheVariants.{Pair};
+ghost use Rattle.packrat.specs.MachineSteps.{State, Works, held, start_at, IsGood};
+ghost use Rattle.packrat.specs.KeyMarks.{AreMarks};
+ghost use Rattle.packrat.specs.Offset.{Offset, IsAskedBy};
+ghost use Rattle.packrat.specs.SpotSteps.{SpotSteps};
+ghost use Rattle.packrat.specs.Spots.{Leads, Kids, is_key};
+ghost use Rattle.packrat.specs.View.{weight, AreStored, AreImplied, AreAll, AreBegun, Evaluates};
+ghost use Rattle.packrat.specs.Width.{Width};
+
+/// A node of a width takes that many bytes wherever it succeeds.
+pub fn one_width()
+    ensures { (rules : List Rule) (start : ℕ) (nodes : List Shape) (bodies ranks x : List ℕ) →
+        IsRanked rules start nodes bodies ranks → (n w p q : ℕ) → Width nodes bodies n w →
+        NodeTakes rules nodes bodies x n p q → q ≡ p + w }
+{}
+
+/// A visited pair of a marked node is asked for by one pair: its asker's, at the fixed distance.
+pub fn asked_once()
+    ensures { (rules : List Rule) (start : ℕ) (nodes : List Shape) (bodies ranks x : List ℕ) →
+        IsRanked rules start nodes bodies ranks → (n d m q : ℕ) → Offset nodes bodies start n d m →
+        Visits rules nodes bodies x start m q → IsAskedBy rules start nodes bodies x n d m q }
+{}
+
+/// Where exactly the keys that are reached are stored, the cells that they imply are exactly the pairs that are
+/// visited, each with its outcome and once.
+pub fn implied_cells()
+    ensures { (rules : List Rule) (start : ℕ) (nodes : List Shape) (bodies ranks x : List ℕ) (more : Bool) →
+        IsRanked rules start nodes bodies ranks → (root : ℕ) → slice_get bodies start ≡ Some root →
+        (marks : ℕ → Bool) (tails : ℕ → ℕ → Bool) → AreMarks start nodes bodies marks tails →
+        (stored : List Spot) (cells : List Entry) →
+        AreStored rules start nodes bodies x more marks tails root stored →
+        AreImplied rules start nodes bodies x more marks tails stored cells →
+        AreAll rules start nodes bodies x more cells }
+{}
+
+/// An evaluation that remembers its keys stores exactly those that are reached, each once, and has begun as many pairs
+/// as there are cells that they imply: exactly the pairs that are visited, each with its outcome and once.
+pub fn evaluated_once()
+    ensures stored { (rules : List Rule) (start : ℕ) (nodes : List Shape) (bodies ranks x : List ℕ) (more : Bool) →
+        IsRanked rules start nodes bodies ranks → (root : ℕ) → slice_get bodies start ≡ Some root →
+        (marks : ℕ → Bool) (tails : ℕ → ℕ → Bool) → AreMarks start nodes bodies marks tails →
+        (stored : List Spot) (begun : ℕ) →
+        Evaluates rules start nodes bodies x more marks tails root stored begun →
+        AreStored rules start nodes bodies x more marks tails root stored }
+    ensures begun { (rules : List Rule) (start : ℕ) (nodes : List Shape) (bodies ranks x : List ℕ) (more : Bool) →
+        IsRanked rules start nodes bodies ranks → (root : ℕ) → slice_get bodies start ≡ Some root →
+        (marks : ℕ → Bool) (tails : ℕ → ℕ → Bool) → AreMarks start nodes bodies marks tails →
+        (stored : List Spot) (begun : ℕ) →
+        Evaluates rules start nodes bodies x more marks tails root stored begun →
+        (o : Outcome) (k : ℕ) → NodeGives rules nodes bodies x root 0 o k → WasEnough x more k →
+        AreBegun rules start nodes bodies x more marks tails stored begun }
+{}
+
+/// Stored keys imply one list of cells.
+pub fn one_view()
+    ensures { (rules : List Rule) (start : ℕ) (nodes : List Shape) (bodies ranks x : List ℕ) (more : Bool) →
+        IsRanked rules start nodes bodies ranks → (marks : ℕ → Bool) (tails : ℕ → ℕ → Bool) (stored : List Spot)
+        (cs ds : List Entry) → AreImplied rules start nodes bodies x more marks tails stored cs →
+        AreImplied rules start nodes bodies x more marks tails stored ds → cs ≡ ds }
+{}
+
+/// The machine comes to its end with what an evaluation stores and begins, and to no other end.
+pub fn steps_run()
+    ensures run { (rules : List Rule) (nodes : List Shape) (bodies x : List ℕ) (more : Bool) (root start : ℕ)
+        (marks : ℕ → Bool) (tails : ℕ → ℕ → Bool) (stored begun : List Spot) →
+        SpotSteps rules nodes bodies x marks tails (start_at Spot (Pair root 0))
+        (Works (record { levels = []; stored = stored; begun = begun })) →
+        Evaluates rules start nodes bodies x more marks tails root stored
+        (total Spot (Kids rules nodes bodies x) (is_key marks tails) weight begun) }
+    ensures reach { (rules : List Rule) (start : ℕ) (nodes : List Shape) (bodies ranks x : List ℕ) (more : Bool) →
+        IsRanked rules start nodes bodies ranks → (root : ℕ) → slice_get bodies start ≡ Some root →
+        (marks : ℕ → Bool) (tails : ℕ → ℕ → Bool) → AreMarks start nodes bodies marks tails →
+        (stored : List Spot) (count : ℕ) → Evaluates rules start nodes bodies x more marks tails root stored count →
+        (begun : List Spot)
+        × (total Spot (Kids rules nodes bodies x) (is_key marks tails) weight begun ≡ count)
+        × SpotSteps rules nodes bodies x marks tails (start_at Spot (Pair root 0))
+        (Works (record { levels = []; stored = stored; begun = begun })) }
+{}
+
+/// On the way, what was begun are reached spots, each once; those of the frames are among them, each once, and none is
+/// stored; and no more pairs were begun than there are visited ones.
+pub fn steps_hold()
+    ensures good { (rules : List Rule) (start : ℕ) (nodes : List Shape) (bodies ranks x : List ℕ) →
+        IsRanked rules start nodes bodies ranks → (root : ℕ) → slice_get bodies start ≡ Some root →
+        (marks : ℕ → Bool) (tails : ℕ → ℕ → Bool) → AreMarks start nodes bodies marks tails → (s : State Spot) →
+        SpotSteps rules nodes bodies x marks tails (start_at Spot (Pair root 0)) s →
+        IsGood Spot (Leads rules nodes bodies x) (Pair root 0) (is_key marks tails) (held Spot s) }
+    ensures begun { (rules : List Rule) (start : ℕ) (nodes : List Shape) (bodies ranks x : List ℕ) (more : Bool) →
+        IsRanked rules start nodes bodies ranks → (root : ℕ) → slice_get bodies start ≡ Some root →
+        (marks : ℕ → Bool) (tails : ℕ → ℕ → Bool) → AreMarks start nodes bodies marks tails → (s : State Spot) →
+        SpotSteps rules nodes bodies x marks tails (start_at Spot (Pair root 0)) s →
+        (cells : List Entry) → AreAll rules start nodes bodies x more cells →
+        total Spot (Kids rules nodes bodies x) (is_key marks tails) weight (held Spot s).begun ≤ length cells }
+{}

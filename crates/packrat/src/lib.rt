@@ -1,0 +1,19 @@
+//! The packrat matcher: it stores an outcome only where a node can be asked for twice at a place, and evaluates each
+//! node at each place at most once.
+#![tactic(auto)]
+
+mod frames;
+mod laws;
+mod machine;
+mod marks;
+mod onward;
+mod packrat;
+#[cfg(test)]
+mod unit_rows;
+
+pub use frames::Frame;
+pub use laws::{
+    asked_once, evaluated_once, implied_cells, one_view, one_width, steps_hold, steps_run,
+};
+pub use marks::Marks;
+pub use packrat::Packrat;

@@ -1,0 +1,219 @@
+//! How a spot goes on: what it gives at once, and what it asks for.
+ghost use Rattle.std.specs.Prelude.{◌≡◌, ℕ, ◌<◌, ◌≤◌, List, length};
+ghost use Rattle.pegread.specs.PegViews.{rules_of};
+ghost use Rattle.gramcheck.specs.Grammar.{IsSoundGrammar};
+ghost use Rattle.gramcheck.specs.Nodes.{shapes_of};
+ghost use Rattle.memo.specs.declared.spot.Spot.{Spot};
+ghost use Rattle.packrat.specs.Onward.{IsWell, AfterNone, AfterOne};
+ghost use Rattle.packrat.specs.SpotGives.{SpotGives};
+ghost use Rattle.packrat.specs.SpotSteps.{IsFirst};
+
+use cells::Found;
+use gramcheck::{Node, SoundPeg};
+use memo::Spot;
+use pegmatch::{match_any, match_bytes, match_set};
+
+/// A spot gives something, or leads to another spot.
+#[derive(Clone, Copy, PartialEq, Eq, Debug)]
+pub(crate) enum Onward {
+    Gives(Found),
+    Leads(Spot),
+}
+
+// How a node begins at a place.
+fn begin_node(peg: &SoundPeg, window: &[u8], node: usize, place: usize) -> Onward
+    requires sound { IsSoundGrammar peg.now }
+    requires well { IsWell peg.now window.now (Spot.Pair node place) }
+    ensures { AfterNone peg.now window.now (Spot.Pair node place) result }
+{
+    match peg.node(node) {
+        Node::Any => Onward::Gives(match_any(window, place).found),
+        Node::Bytes(bytes) => Onward::Gives(match_bytes(bytes, window, place).found),
+        Node::Set(set) => Onward::Gives(match_set(set, window, place).found),
+        Node::Name(id) => Onward::Leads(Spot::Pair {
+            node: peg.body_node(*id),
+            place,
+        }),
+        Node::Seq(members) => {
+            if members.is_empty() {
+                Onward::Gives(Found::Took(place))
+            } else {
+                Onward::Leads(Spot::Tail {
+                    node,
+                    index: 0,
+                    place,
+                })
+            }
+        }
+        Node::Choice(alternatives) => {
+            if alternatives.is_empty() {
+                Onward::Gives(Found::Failed)
+            } else {
+                Onward::Leads(Spot::Tail {
+                    node,
+                    index: 0,
+                    place,
+                })
+            }
+        }
+        Node::Star(operand) => Onward::Leads(Spot::Pair {
+            node: *operand,
+            place,
+        }),
+        Node::Not(operand) => Onward::Leads(Spot::Pair {
+            node: *operand,
+            place,
+        }),
+        Node::Plus { operand, star: _ } => Onward::Leads(Spot::Pair {
+            node: *operand,
+            place,
+        }),
+        Node::Opt(operand) => Onward::Leads(Spot::Pair {
+            node: *operand,
+            place,
+        }),
+        Node::And(operand) => Onward::Leads(Spot::Pair {
+            node: *operand,
+            place,
+        }),
+        Node::Act(_) => Onward::Gives(Found::Took(place)),
+        Node::Open => Onward::Gives(Found::Took(place)),
+        Node::Close => Onward::Gives(Found::Took(place)),
+    }
+}
+
+// How the tail of a node, from the member of that index on, begins at a place.
+fn begin_tail(peg: &SoundPeg, window: &[u8], node: usize, index: usize, place: usize) -> Onward
+    requires sound { IsSoundGrammar peg.now }
+    requires well { IsWell peg.now window.now (Spot.Tail node index place) }
+    ensures { AfterNone peg.now window.now (Spot.Tail node index place) result }
+{
+    match peg.node(node) {
+        Node::Seq(members) => Onward::Leads(Spot::Pair {
+            node: members[index],
+            place,
+        }),
+        Node::Choice(alternatives) => Onward::Leads(Spot::Pair {
+            node: alternatives[index],
+            place,
+        }),
+        _ => Onward::Gives(Found::Failed),
+    }
+}
+
+/// Returns how a spot begins: what it gives at once, or what it asks for first.
+pub(crate) fn begin(peg: &SoundPeg, window: &[u8], spot: Spot) -> Onward
+    requires sound { IsSoundGrammar peg.now }
+    requires well { IsWell peg.now window.now spot }
+    ensures { AfterNone peg.now window.now spot result }
+{
+    match spot {
+        Spot::Pair { node, place } => begin_node(peg, window, node, place),
+        Spot::Tail { node, index, place } => begin_tail(peg, window, node, index, place),
+    }
+}
+
+// How a node goes on at a place whose first kid gave this.
+fn go_on_node(peg: &SoundPeg, window: &[u8], node: usize, place: usize, found: Found) -> Onward
+    requires sound { IsSoundGrammar peg.now }
+    requires well { IsWell peg.now window.now (Spot.Pair node place) }
+    ensures { (j : Spot) → IsFirst (rules_of peg.now.rules) (shapes_of peg.now.nodes) peg.now.bodies window.now
+        (Spot.Pair node place) j → SpotGives peg.now window.now j found →
+        AfterOne peg.now window.now (Spot.Pair node place) j result }
+{
+    match peg.node(node) {
+        Node::Star(_) => match found {
+            Found::Failed => Onward::Gives(Found::Took(place)),
+            Found::Took(end) => Onward::Leads(Spot::Pair { node, place: end }),
+        },
+        Node::Not(_) => match found {
+            Found::Failed => Onward::Gives(Found::Took(place)),
+            Found::Took(_) => Onward::Gives(Found::Failed),
+        },
+        Node::Plus { operand: _, star } => match found {
+            Found::Failed => Onward::Gives(Found::Failed),
+            Found::Took(end) => Onward::Leads(Spot::Pair {
+                node: *star,
+                place: end,
+            }),
+        },
+        Node::Opt(_) => match found {
+            Found::Failed => Onward::Gives(Found::Took(place)),
+            Found::Took(end) => Onward::Gives(Found::Took(end)),
+        },
+        Node::And(_) => match found {
+            Found::Failed => Onward::Gives(Found::Failed),
+            Found::Took(_) => Onward::Gives(Found::Took(place)),
+        },
+        Node::Name(_) => Onward::Gives(found),
+        Node::Seq(_) => Onward::Gives(found),
+        Node::Choice(_) => Onward::Gives(found),
+        Node::Any => Onward::Gives(found),
+        Node::Bytes(_) => Onward::Gives(found),
+        Node::Set(_) => Onward::Gives(found),
+        Node::Act(_) => Onward::Gives(found),
+        Node::Open => Onward::Gives(found),
+        Node::Close => Onward::Gives(found),
+    }
+}
+
+// How a tail goes on at a place whose member gave this.
+fn go_on_tail(
+    peg: &SoundPeg,
+    window: &[u8],
+    node: usize,
+    index: usize,
+    place: usize,
+    found: Found,
+) -> Onward
+    requires sound { IsSoundGrammar peg.now }
+    requires well { IsWell peg.now window.now (Spot.Tail node index place) }
+    ensures { (j : Spot) → IsFirst (rules_of peg.now.rules) (shapes_of peg.now.nodes) peg.now.bodies window.now
+        (Spot.Tail node index place) j → SpotGives peg.now window.now j found →
+        AfterOne peg.now window.now (Spot.Tail node index place) j result }
+{
+    match peg.node(node) {
+        Node::Seq(members) => match found {
+            Found::Failed => Onward::Gives(Found::Failed),
+            Found::Took(end) => {
+                if index + 1 < members.len() {
+                    Onward::Leads(Spot::Tail {
+                        node,
+                        index: index + 1,
+                        place: end,
+                    })
+                } else {
+                    Onward::Gives(Found::Took(end))
+                }
+            }
+        },
+        Node::Choice(alternatives) => match found {
+            Found::Took(end) => Onward::Gives(Found::Took(end)),
+            Found::Failed => {
+                if index + 1 < alternatives.len() {
+                    Onward::Leads(Spot::Tail {
+                        node,
+                        index: index + 1,
+                        place,
+                    })
+                } else {
+                    Onward::Gives(Found::Failed)
+                }
+            }
+        },
+        _ => Onward::Gives(found),
+    }
+}
+
+/// Returns how a spot goes on whose first kid gave this.
+pub(crate) fn go_on(peg: &SoundPeg, window: &[u8], spot: Spot, found: Found) -> Onward
+    requires sound { IsSoundGrammar peg.now }
+    requires well { IsWell peg.now window.now spot }
+    ensures { (j : Spot) → IsFirst (rules_of peg.now.rules) (shapes_of peg.now.nodes) peg.now.bodies window.now spot j →
+        SpotGives peg.now window.now j found → AfterOne peg.now window.now spot j result }
+{
+    match spot {
+        Spot::Pair { node, place } => go_on_node(peg, window, node, place, found),
+        Spot::Tail { node, index, place } => go_on_tail(peg, window, node, index, place, found),
+    }
+}
