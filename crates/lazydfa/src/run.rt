@@ -93,6 +93,7 @@ fn start(
 }
 
 /// Returns the cell of a state and a class, which is filled if it is not known.
+#[inline(always)]
 fn cell_of(
     alloc: Global,
     tables: &Tables,
