@@ -5,13 +5,16 @@ use Rattle.gramcheck.specs.Grammar.{Grammar}
 use Rattle.gramcheck.specs.Nodes.{Shape, Any, Bytes, Set, Name, Seq, Choice, Star, Plus, Opt, And, Not, Act, Open}
 use Rattle.gramcheck.specs.Nodes.{Close, shapes_of}
 use Rattle.cells.specs.declared.cell.Found.{Found}
+use Rattle.desk.specs.Visits.{NodeGives}
+use Rattle.gramcheck.specs.Outcome.{Outcome}
+use Rattle.pegmatch.specs.declared.leaves.Tried.{Tried}
 use Rattle.pegmatch.specs.KeptEvents.{SpellsSome}
 use Rattle.memo.specs.declared.spot.Spot.{Spot}
 use Rattle.memo.specs.declared.spot.Spot.TheVariants.{Pair, Tail}
 use Rattle.packrat.specs.SpotGives.{SpotGives}
 use Rattle.packrat.specs.Spots.{Kids}
 use Rattle.packrat.specs.declared.onward.Onward.{Onward}
-use Rattle.packrat.specs.declared.onward.Onward.TheVariants.{Gives, Leads}
+use Rattle.packrat.specs.declared.onward.Onward.TheVariants.{Gives, Leads, Need}
 use Rattle.packrat.specs.SpotSteps.{IsFirst}
 
 abbrev pub HasMember : Shape → ℕ → Type 0
@@ -37,12 +40,27 @@ module _ (g : Grammar) (x : List ℕ) where
   IsWell (Tail n i p) = SpellsSome (rules_of g.rules) (shapes_of g.nodes) n × (p ≤ length x)
       × ((shape : Shape) × (slice_get (shapes_of g.nodes) n ≡ Some shape) × HasMember shape i)
 
-  abbrev pub AfterNone : Spot → Onward → Type 0
-  AfterNone a (Gives f) = Kids (rules_of g.rules) (shapes_of g.nodes) g.bodies x a [] × SpotGives g x a f
-  AfterNone a (Leads k) = IsFirst (rules_of g.rules) (shapes_of g.nodes) g.bodies x a k × IsWell k
+  -- the node's own comparison reaches the last byte of a window behind which there is more
+  abbrev pub ReachesEnd : Bool → Spot → Type 0
+  ReachesEnd more (Pair n p) = (more ≡ true) × ((o : Outcome)
+      × NodeGives (rules_of g.rules) (shapes_of g.nodes) g.bodies x n p o (length x))
+  ReachesEnd more (Tail n i p) = ⊥
 
-  -- behind its first kid j
-  abbrev pub AfterOne : Spot → Spot → Onward → Type 0
-  AfterOne a j (Gives f) = Kids (rules_of g.rules) (shapes_of g.nodes) g.bodies x a (j ∷ []) × SpotGives g x a f
-  AfterOne a j (Leads k) = Kids (rules_of g.rules) (shapes_of g.nodes) g.bodies x a (j ∷ (k ∷ []))
-      × ((f : Found) → SpotGives g x k f → SpotGives g x a f) × IsWell k
+  module _ (more : Bool) where
+    abbrev pub AfterNone : Spot → Onward → Type 0
+    AfterNone a (Gives f) = Kids (rules_of g.rules) (shapes_of g.nodes) g.bodies x a [] × SpotGives g x more a f
+    AfterNone a (Leads k) = IsFirst (rules_of g.rules) (shapes_of g.nodes) g.bodies x a k × IsWell k
+    AfterNone a Need = ReachesEnd more a
+
+    -- behind its first kid j
+    abbrev pub AfterOne : Spot → Spot → Onward → Type 0
+    AfterOne a j (Gives f) = Kids (rules_of g.rules) (shapes_of g.nodes) g.bodies x a (j ∷ []) × SpotGives g x more a f
+    AfterOne a j (Leads k) = Kids (rules_of g.rules) (shapes_of g.nodes) g.bodies x a (j ∷ (k ∷ []))
+        × ((f : Found) → SpotGives g x more k f → SpotGives g x more a f) × IsWell k
+    AfterOne a j Need = ⊥
+
+-- what a comparison tells: what was found, unless it reached the last byte of a window behind which there is more
+abbrev pub IsLeaf : Tried → ℕ → Bool → Onward → Type 0
+IsLeaf tried n more (Gives f) = (f ≡ tried.found) × (more ≡ true → tried.looked ≡ n → ⊥)
+IsLeaf tried n more (Leads k) = ⊥
+IsLeaf tried n more Need = (more ≡ true) × (tried.looked ≡ n)

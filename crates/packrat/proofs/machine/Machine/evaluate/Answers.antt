@@ -11,24 +11,24 @@ turns-init c =
     let body = c.requires.sound.spelled.spelled c.args.peg.now.start c.args.root c.requires.root in
     record {
       rows = c.requires.rows;
-      stands = subst (λ v. Stands c.args.peg.now c.args.window.now c.args.marks.now (Pair c.args.root 0)
+      stands = subst (λ v. Stands c.args.peg.now c.args.window.now c.args.more c.args.marks.now (Pair c.args.root 0)
           (Ask (Pair c.args.root 0)) v c.args.self.now.log.stored 0) (sym c.clear.ensures)
-          (L.stands_first c.args.peg.now c.args.window.now c.args.marks.now (Pair c.args.root 0)
+          (L.stands_first c.args.peg.now c.args.window.now c.args.more c.args.marks.now (Pair c.args.root 0)
           c.args.self.now.log.stored ((body.0, body.2), omega arith) c.requires.empty);
     }
 
 pub ask-requires-clause-few : goal.ask-requires-clause-few
 ask-requires-clause-few c =
-    L.stands_few c.args.peg.now c.args.window.now c.args.marks.now c.args.root c.turns.turn c.turns.self.frames
+    L.stands_few c.args.peg.now c.args.window.now c.args.more c.args.marks.now c.args.root c.turns.turn c.turns.self.frames
     c.turns.self.log.stored c.turns.self.begun c.requires.sound c.requires.root c.requires.marks
     c.turns.invariant.stands
 
 pub turns-smaller-in-Ask : goal.turns-smaller-in-Ask
 turns-smaller-in-Ask c =
-    let stands = L.stands_as c.args.peg.now c.args.window.now c.args.marks.now (Pair c.args.root 0) c.turns.turn
+    let stands = L.stands_as c.args.peg.now c.args.window.now c.args.more c.args.marks.now (Pair c.args.root 0) c.turns.turn
     (Ask c.in-Ask.spot) c.turns.self.frames c.turns.self.frames c.turns.self.log.stored c.turns.self.log.stored
     c.turns.self.begun c.turns.self.begun c.in-Ask.is refl refl refl c.turns.invariant.stands in
-    let few = L.stands_few c.args.peg.now c.args.window.now c.args.marks.now c.args.root c.in_ok-turn-in-Ask.turn
+    let few = L.stands_few c.args.peg.now c.args.window.now c.args.more c.args.marks.now c.args.root c.in_ok-turn-in-Ask.turn
     c.ask.new.self.frames c.ask.new.self.log.stored c.ask.new.self.begun c.requires.sound c.requires.root
     c.requires.marks (c.in_ok-turn-in-Ask.ensures.stands (Pair c.args.root 0) stands) in
     subst (λ v. left c.args.peg.now c.args.window.now c.in_ok-turn-in-Ask.turn c.ask.new.self.frames
@@ -37,15 +37,15 @@ turns-smaller-in-Ask c =
 
 pub returns-in-None-clause-runs : goal.returns-in-None-clause-runs
 returns-in-None-clause-runs c =
-    L.end_runs c.args.peg.now c.args.window.now c.args.marks.now (Pair c.args.root 0) c.in-Answer.found
+    L.end_runs c.args.peg.now c.args.window.now c.args.more c.args.marks.now (Pair c.args.root 0) c.in-Answer.found
     c.turns.self.log.stored c.turns.self.begun
-    (L.stands_as c.args.peg.now c.args.window.now c.args.marks.now (Pair c.args.root 0) c.turns.turn
+    (L.stands_as c.args.peg.now c.args.window.now c.args.more c.args.marks.now (Pair c.args.root 0) c.turns.turn
     (Answer c.in-Answer.found) c.turns.self.frames [] c.turns.self.log.stored c.turns.self.log.stored
     c.turns.self.begun c.turns.self.begun c.in-Answer.is c.in-None.ensures.none refl refl c.turns.invariant.stands)
 
 pub turns-smaller : goal.turns-smaller
 turns-smaller c =
-    let stands = L.stands_as c.args.peg.now c.args.window.now c.args.marks.now (Pair c.args.root 0) c.turns.turn
+    let stands = L.stands_as c.args.peg.now c.args.window.now c.args.more c.args.marks.now (Pair c.args.root 0) c.turns.turn
     (Answer c.in-Answer.found) c.turns.self.frames (c.in-Some.frame ∷ c.pop.new.self) c.turns.self.log.stored
     c.turns.self.log.stored c.turns.self.begun c.turns.self.begun c.in-Answer.is c.in-Some.ensures.some refl refl
     c.turns.invariant.stands in
