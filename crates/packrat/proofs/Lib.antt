@@ -16,3 +16,4 @@ pub mod BegunLemmas
 pub mod LeftLemmas
 pub mod StandsLemmas
 pub mod OnwardLemmas
+pub mod KeyMarksLemmas

@@ -32,10 +32,9 @@ impl Marks {
         ensures { (start : ℕ) (nodes : List Shape) (bodies : List ℕ) →
             AreMarks start nodes bodies (node_marks result) (tail_marks result) }
     {
-        Marks {
-            nodes: Vec::new(alloc),
-            tails: Vec::new(alloc),
-        }
+        let nodes: Vec<bool> = Vec::new(alloc);
+        let tails: Vec<bool> = Vec::new(alloc);
+        Marks { nodes, tails }
     }
 
     /// Tells whether a spot is a key.

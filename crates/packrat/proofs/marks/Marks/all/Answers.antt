@@ -1,9 +1,9 @@
-use Rattle.std.proofs.Common.{ℕ, ◌≡◌, true, false, refl}
+use Rattle.std.proofs.Common.{rules, ◌≡◌, []}
+use Rattle.packrat.proofs.KeyMarksLemmas.{all_marked}
 use Rattle.packrat.proofs.marks.Marks.all.Goals as goal
 
 pub returns : goal.returns
-returns c = λ start nodes bodies. record {
-  plain = λ m is. absurd (cc is);
-  fixed = λ n i m ms at there is. absurd (cc is);
-  root = λ m at. refl;
-}
+returns c =
+    let nodes : c.new-nodes.result.items ≡ [] = search rules in
+    let tails : c.new-tails.result.items ≡ [] = search rules in
+    all_marked (record { nodes = c.new-nodes.result; tails = c.new-tails.result }) nodes tails
