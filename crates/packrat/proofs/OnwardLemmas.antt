@@ -23,7 +23,9 @@ use Rattle.memo.specs.declared.spot.Spot.TheVariants.{Pair, Tail}
 use Rattle.packrat.specs.Spots.{way_of}
 use Rattle.packrat.proofs.SpotGivesLemmas as L
 use Rattle.packrat.specs.declared.onward.Onward.{Onward}
-use Rattle.packrat.specs.declared.onward.Onward.TheVariants.{Gives, Leads, Need}
+use Rattle.packrat.specs.declared.onward.Onward.TheVariants.{Gives, Leads}
+use Rattle.packrat.specs.declared.onward.Begun.{Begun}
+use Rattle.packrat.specs.declared.onward.Begun.TheVariants as begun
 use Rattle.packrat.specs.Onward.{IsWell, AfterOne, HasMember, AfterNone, IsLeaf}
 use Rattle.packrat.specs.SpotSteps.{FirstBy, TailFirstBy, IsFirst}
 
@@ -66,7 +68,7 @@ module _ (g : Grammar) (x : List ℕ) (more : Bool) (some : WasEnough x more 0) 
 
   ends_within : (k p q : ℕ) → p ≤ length x → NT k p q → q ≤ length x
   ends_within k p q le t = (goes_onward (rules_of g.rules) g.start (shapes_of g.nodes) g.bodies g.ranks x sound k p q
-      le t).high
+      le t.takes).high
 
   one_kid : (j k : Spot) → j ≡ k → j ∷ [] ≡ k ∷ []
   one_kid j k is = ap (λ v. v ∷ []) is
@@ -75,18 +77,18 @@ module _ (g : Grammar) (x : List ℕ) (more : Bool) (some : WasEnough x more 0) 
   two_kids j k l is = ap (λ v. v ∷ (l ∷ [])) is
 
   -- a comparison
-  pub leaf_after : (n p : ℕ) (tried : Tried) (o : Onward) (e : Pattern) → L.K g x more some sound (Pair n p) []
+  pub leaf_after : (n p : ℕ) (tried : Tried) (o : Begun) (e : Pattern) → L.K g x more some sound (Pair n p) []
       → Spells (rules_of g.rules) (shapes_of g.nodes) n e
       → Outcomes.Gives (rules_of g.rules) x e p (quiet_outcome tried.found) tried.looked → tried.looked ≤ length x
       → IsLeaf tried (length x) more o → AfterNone g x more (Pair n p) o
-  leaf_after n p tried (Gives f) e k s d le h = (
+  leaf_after n p tried (begun.Gives f) e k s d le h = (
     k,
     subst (SG (Pair n p)) (sym h.0)
         (L.leaf_spot g x more some sound n p tried.found tried.looked e s d
         (λ is. let ne = h.1 is in omega (arith, ne, le))),
   )
-  leaf_after n p tried (Leads b) e k s d le h = absurd h
-  leaf_after n p tried Need e k s d le h = (
+  leaf_after n p tried (begun.Leads b) e k s d le h = absurd h
+  leaf_after n p tried begun.Need e k s d le h = (
     h.0,
     (
       quiet_outcome tried.found,

@@ -22,6 +22,7 @@ use Rattle.packrat.specs.Spots.{Kids}
 use Rattle.packrat.specs.View.{weight}
 use Rattle.memo.proofs.KeyLogLemmas.{spot_of_stored}
 use Rattle.packrat.specs.declared.frames.Frame.{Frame}
+use Rattle.packrat.specs.declared.onward.Begun.TheVariants as start
 use Rattle.packrat.specs.declared.onward.Onward.TheVariants as way
 use Rattle.packrat.specs.declared.machine.Turn.{Turn}
 use Rattle.packrat.specs.declared.machine.Turn.TheVariants.{Ask, Answer}
@@ -116,7 +117,7 @@ module _ (g : Grammar) (x : List ℕ) (more : Bool) (marks : Marks) where
         reaches = subst (ReachesEnd g x more) spot_here h;
       }
 
-      pub stands_leaf : (f : Found) (new : List Stored) → AfterNone g x more a (way.Gives f) → C a f st new
+      pub stands_leaf : (f : Found) (new : List Stored) → AfterNone g x more a (start.Gives f) → C a f st new
           → S root (Answer f) ls new (n + weight a)
       stands_leaf f new h c = record {
         levels = s.levels;
@@ -131,7 +132,7 @@ module _ (g : Grammar) (x : List ℕ) (more : Bool) (marks : Marks) where
             (steps_more steps_begin (step_last (subst (λ v. K v []) spot_here h.0)));
       }
 
-      pub stands_down : (k : Spot) → AfterNone g x more a (way.Leads k)
+      pub stands_down : (k : Spot) → AfterNone g x more a (start.Leads k)
           → S root (Ask k) (record { spot = a; second = false } ∷ ls) st (n + weight a)
       stands_down k h = record {
         levels = record { at = s.spot; asked = k ∷ [] } ∷ s.levels;

@@ -15,7 +15,7 @@ ghost use Rattle.packrat.specs.declared.machine.Turn.{Turn};
 
 use crate::frames::{Frame, Frames};
 use crate::marks::Marks;
-use crate::onward::{Onward, begin, go_on};
+use crate::onward::{Begun, Onward, begin, go_on};
 use cells::Found;
 use gramcheck::SoundPeg;
 use memo::{KeyLog, Spot};
@@ -105,18 +105,18 @@ impl Machine {
         }
         self.begun = counted(peg.nodes(), window.len(), self.begun, spot);
         match begin(peg, window, more, spot) {
-            Onward::Gives(found) => {
+            Begun::Gives(found) => {
                 self.close(peg, window, marks, spot, found)?;
                 Ok(Some(Turn::Answer(found)))
             }
-            Onward::Leads(kid) => {
+            Begun::Leads(kid) => {
                 self.frames.push(Frame {
                     spot,
                     second: false,
                 })?;
                 Ok(Some(Turn::Ask(kid)))
             }
-            Onward::Need => Ok(None),
+            Begun::Need => Ok(None),
         }
     }
 

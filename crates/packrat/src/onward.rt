@@ -14,29 +14,36 @@ use gramcheck::{Node, SoundPeg};
 use memo::Spot;
 use pegmatch::{Tried, match_any, match_bytes, match_set};
 
-/// A spot gives something, or leads to another spot; or its comparison reaches the last byte of a window behind which
-/// there is more.
+/// How a spot begins: it gives something, or leads to another spot; or its comparison reaches the last byte of a window
+/// behind which there is more.
 #[derive(Clone, Copy, PartialEq, Eq, Debug)]
-pub(crate) enum Onward {
+pub(crate) enum Begun {
     Gives(Found),
     Leads(Spot),
     Need,
 }
 
+/// How a spot goes on: it gives something, or leads to another spot.
+#[derive(Clone, Copy, PartialEq, Eq, Debug)]
+pub(crate) enum Onward {
+    Gives(Found),
+    Leads(Spot),
+}
+
 // Returns what was tried, if its comparison does not reach the last byte of a window behind which there is more.
-fn leaf(tried: Tried, length: usize, more: bool) -> Onward
+fn leaf(tried: Tried, length: usize, more: bool) -> Begun
     ensures { IsLeaf tried length more result }
 {
     if more {
         if tried.looked == length {
-            return Onward::Need;
+            return Begun::Need;
         }
     }
-    Onward::Gives(tried.found)
+    Begun::Gives(tried.found)
 }
 
 // How a node begins at a place.
-fn begin_node(peg: &SoundPeg, window: &[u8], more: bool, node: usize, place: usize) -> Onward
+fn begin_node(peg: &SoundPeg, window: &[u8], more: bool, node: usize, place: usize) -> Begun
     requires some { WasEnough window.now more 0 }
     requires sound { IsSoundGrammar peg.now }
     requires well { IsWell peg.now window.now (Spot.Pair node place) }
@@ -46,15 +53,15 @@ fn begin_node(peg: &SoundPeg, window: &[u8], more: bool, node: usize, place: usi
         Node::Any => leaf(match_any(window, place), window.len(), more),
         Node::Bytes(bytes) => leaf(match_bytes(bytes, window, place), window.len(), more),
         Node::Set(set) => leaf(match_set(set, window, place), window.len(), more),
-        Node::Name(id) => Onward::Leads(Spot::Pair {
+        Node::Name(id) => Begun::Leads(Spot::Pair {
             node: peg.body_node(*id),
             place,
         }),
         Node::Seq(members) => {
             if members.is_empty() {
-                Onward::Gives(Found::Took(place))
+                Begun::Gives(Found::Took(place))
             } else {
-                Onward::Leads(Spot::Tail {
+                Begun::Leads(Spot::Tail {
                     node,
                     index: 0,
                     place,
@@ -63,38 +70,38 @@ fn begin_node(peg: &SoundPeg, window: &[u8], more: bool, node: usize, place: usi
         }
         Node::Choice(alternatives) => {
             if alternatives.is_empty() {
-                Onward::Gives(Found::Failed)
+                Begun::Gives(Found::Failed)
             } else {
-                Onward::Leads(Spot::Tail {
+                Begun::Leads(Spot::Tail {
                     node,
                     index: 0,
                     place,
                 })
             }
         }
-        Node::Star(operand) => Onward::Leads(Spot::Pair {
+        Node::Star(operand) => Begun::Leads(Spot::Pair {
             node: *operand,
             place,
         }),
-        Node::Not(operand) => Onward::Leads(Spot::Pair {
+        Node::Not(operand) => Begun::Leads(Spot::Pair {
             node: *operand,
             place,
         }),
-        Node::Plus { operand, star: _ } => Onward::Leads(Spot::Pair {
+        Node::Plus { operand, star: _ } => Begun::Leads(Spot::Pair {
             node: *operand,
             place,
         }),
-        Node::Opt(operand) => Onward::Leads(Spot::Pair {
+        Node::Opt(operand) => Begun::Leads(Spot::Pair {
             node: *operand,
             place,
         }),
-        Node::And(operand) => Onward::Leads(Spot::Pair {
+        Node::And(operand) => Begun::Leads(Spot::Pair {
             node: *operand,
             place,
         }),
-        Node::Act(_) => Onward::Gives(Found::Took(place)),
-        Node::Open => Onward::Gives(Found::Took(place)),
-        Node::Close => Onward::Gives(Found::Took(place)),
+        Node::Act(_) => Begun::Gives(Found::Took(place)),
+        Node::Open => Begun::Gives(Found::Took(place)),
+        Node::Close => Begun::Gives(Found::Took(place)),
     }
 }
 
@@ -106,27 +113,27 @@ fn begin_tail(
     node: usize,
     index: usize,
     place: usize,
-) -> Onward
+) -> Begun
     requires some { WasEnough window.now more 0 }
     requires sound { IsSoundGrammar peg.now }
     requires well { IsWell peg.now window.now (Spot.Tail node index place) }
     ensures { AfterNone peg.now window.now more (Spot.Tail node index place) result }
 {
     match peg.node(node) {
-        Node::Seq(members) => Onward::Leads(Spot::Pair {
+        Node::Seq(members) => Begun::Leads(Spot::Pair {
             node: members[index],
             place,
         }),
-        Node::Choice(alternatives) => Onward::Leads(Spot::Pair {
+        Node::Choice(alternatives) => Begun::Leads(Spot::Pair {
             node: alternatives[index],
             place,
         }),
-        _ => Onward::Gives(Found::Failed),
+        _ => Begun::Gives(Found::Failed),
     }
 }
 
 /// Returns how a spot begins: what it gives at once, or what it asks for first.
-pub(crate) fn begin(peg: &SoundPeg, window: &[u8], more: bool, spot: Spot) -> Onward
+pub(crate) fn begin(peg: &SoundPeg, window: &[u8], more: bool, spot: Spot) -> Begun
     requires some { WasEnough window.now more 0 }
     requires sound { IsSoundGrammar peg.now }
     requires well { IsWell peg.now window.now spot }
