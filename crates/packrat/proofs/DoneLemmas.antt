@@ -1,6 +1,6 @@
 -- What an evaluation of the start rule's body from an empty log gives and leaves behind.
 -- Serves: Packrat::match_unit
-use Rattle.std.proofs.Common.{◌≡◌, ℕ, ◌+◌, ◌*◌, ◌≤◌, Bool, true, List, [], ◌∷◌, length, Option, Some, None, refl, sym}
+use Rattle.std.proofs.Common.{◌≡◌, ℕ, ◌+◌, ◌*◌, ◌≤◌, Bool, true, List, ◌∷◌, length, Option, Some, None, refl, sym}
 use Rattle.std.proofs.Common.{subst, arith}
 use Rattle.std.specs.Prelude.{slice_get}
 use Rattle.std.proofs.lemmas.List.{length-map}
@@ -9,9 +9,9 @@ use Rattle.gramcheck.specs.Grammar.{Grammar, IsSoundGrammar}
 use Rattle.pegread.specs.Pattern.{Rule}
 use Rattle.gramcheck.proofs.SomeOutcomeLemmas as one
 use Rattle.gramcheck.specs.Nodes.{Shape, Spells, shapes_of, shape_of}
-use Rattle.gramcheck.specs.Outcome.{Event, Outcome}
+use Rattle.gramcheck.specs.Outcome.{Outcome}
 use Rattle.cells.specs.declared.cell.Found.{Found}
-use Rattle.pegmatch.specs.Answers.{StartGives, WasEnough}
+use Rattle.pegmatch.specs.Answers.{StartGives}
 use Rattle.pegmatch.specs.KeptEvents.{outcome_of}
 use Rattle.desk.specs.Visits.{NodeGives}
 use Rattle.desk.proofs.AreCellsLemmas.{visited_there}
@@ -34,7 +34,7 @@ use Rattle.pegmatch.specs.declared.matcher.Unit.TheVariants as unit
 use Rattle.memo.specs.Parts.{Reach, in_here}
 use Rattle.memo.specs.declared.spot.Spot.{Spot}
 use Rattle.packrat.specs.KeyMarks.{AreMarks}
-use Rattle.packrat.specs.SpotGives.{SpotGives, AreRight, node_marks, tail_marks}
+use Rattle.packrat.specs.SpotGives.{SpotGives, node_marks, tail_marks}
 use Rattle.packrat.specs.View.{Evaluates, AreStored}
 use Rattle.packrat.specs.declared.frames.Frame.{Frame}
 use Rattle.packrat.specs.declared.marks.Marks.{Marks}
@@ -101,7 +101,7 @@ module _ (g : Grammar) (x : List ℕ) (sound : IsSoundGrammar g) where
     unit_done f frames stored begun e =
         let h = e.gives in
         let b = evaluated_begins Rs g.start Ns g.bodies g.ranks x more sound root at
-            (node_marks marks) (tail_marks marks) are (outcome_of f h.0) h.1 h.2 h.3 (spots_of stored) begun e.runs in
+        (node_marks marks) (tail_marks marks) are (outcome_of f h.0) h.1 h.2 h.3 (spots_of stored) begun e.runs in
         record {
           frames = e.empty;
           keys = unit_stores stored begun e.runs;
@@ -119,18 +119,19 @@ module _ (g : Grammar) (x : List ℕ) (sound : IsSoundGrammar g) where
         reached : Reach Spot (Leads Rs Ns g.bodies x) (Pair root 0) n.spot
         reached =
             let good = steps_are_good Spot (Leads Rs Ns g.bodies x) (Pair root 0) (Kids Rs Ns g.bodies x)
-                (NextOf Rs Ns g.bodies x) (is_key (node_marks marks) (tail_marks marks))
-                (forest_of Rs g.start Ns g.bodies g.ranks x more sound root at (node_marks marks) (tail_marks marks) are)
-                (is_next Rs g.start Ns g.bodies g.ranks x more sound root at (node_marks marks) (tail_marks marks) are)
-                (λ a r. reached_ends Rs g.start Ns g.bodies g.ranks x sound root at r)
-                (Works (record { levels = n.levels; stored = n.stored; begun = n.spot ∷ n.begun })) n.steps in
+            (NextOf Rs Ns g.bodies x) (is_key (node_marks marks) (tail_marks marks))
+            (forest_of Rs g.start Ns g.bodies g.ranks x more sound root at (node_marks marks) (tail_marks marks)
+            are)
+            (is_next Rs g.start Ns g.bodies g.ranks x more sound root at (node_marks marks) (tail_marks marks) are)
+            (λ a r. reached_ends Rs g.start Ns g.bodies g.ranks x sound root at r)
+            (Works (record { levels = n.levels; stored = n.stored; begun = n.spot ∷ n.begun })) n.steps in
             good.reached n.spot in_here
 
         by : (a : Spot) → n.spot ≡ a → ReachesEnd g x more a → (more ≡ true)
             × ((o : Outcome) × StartGives g x o (length x))
         by (Pair m p) is h =
             let v = reached_is_visited Rs g.start Ns g.bodies x root at m p
-                (subst (λ a. Reach Spot (Leads Rs Ns g.bodies x) (Pair root 0) a) is reached) in
+            (subst (λ a. Reach Spot (Leads Rs Ns g.bodies x) (Pair root 0) a) is reached) in
             let has = one.has_of_start Rs g.start Ns g.bodies g.ranks sound x in
             let gives = start_as root has.0 has.1 at has.2 in
             let within = visits_within Rs g.start Ns g.bodies g.ranks x sound v root has.1 has.0 at gives in

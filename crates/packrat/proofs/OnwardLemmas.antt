@@ -119,8 +119,11 @@ module _ (g : Grammar) (x : List ℕ) (more : Bool) (some : WasEnough x more 0) 
     pub plus_none : (s : ℕ) → At n (node.Plus k s) → found ≡ Failed → After (Pair n p) found (Gives Failed)
     plus_none s at is j h d =
         let by : j ≡ Pair k p = by_first n p (node.Plus k s) at j h in
-        let nf = kid_fails k p j found by d is in
-        ((node.Plus k s, at, inl (nf.fails, one_kid j (Pair k p) by)), L.plus_failed g x more some sound n k p w.0 s at nf)
+        let nf = kid_fails k p j found by d is in (
+          (node.Plus k s, at, inl (nf.fails, one_kid j (Pair k p) by)),
+          L.plus_failed g x more some sound n k p w.0 s
+              at nf,
+        )
 
     pub plus_more : (s q : ℕ) → At n (node.Plus k s) → found ≡ Took q → After (Pair n p) found (Leads (Pair s q))
     plus_more s q at is j h d =
@@ -133,8 +136,11 @@ module _ (g : Grammar) (x : List ℕ) (more : Bool) (some : WasEnough x more 0) 
 
     pub not_none : At n (node.Not k) → found ≡ Failed → After (Pair n p) found (Gives (Took p))
     not_none at is j h d =
-        let by : j ≡ Pair k p = by_first n p (node.Not k) at j h in
-        ((node.Not k, at, one_kid j (Pair k p) by), L.not_took g x more some sound n k p w.0 at (kid_fails k p j found by d is))
+        let by : j ≡ Pair k p = by_first n p (node.Not k) at j h in (
+          (node.Not k, at, one_kid j (Pair k p) by),
+          L.not_took g x more some sound n k p w.0 at (kid_fails k p j
+              found by d is),
+        )
 
     pub not_some : (q : ℕ) → At n (node.Not k) → found ≡ Took q → After (Pair n p) found (Gives Failed)
     not_some q at is j h d =
@@ -146,8 +152,11 @@ module _ (g : Grammar) (x : List ℕ) (more : Bool) (some : WasEnough x more 0) 
 
     pub opt_nothing : At n (node.Opt k) → found ≡ Failed → After (Pair n p) found (Gives (Took p))
     opt_nothing at is j h d =
-        let by : j ≡ Pair k p = by_first n p (node.Opt k) at j h in
-        ((node.Opt k, at, one_kid j (Pair k p) by), L.opt_none g x more some sound n k p w.0 at (kid_fails k p j found by d is))
+        let by : j ≡ Pair k p = by_first n p (node.Opt k) at j h in (
+          (node.Opt k, at, one_kid j (Pair k p) by),
+          L.opt_none g x more some sound n k p w.0 at (kid_fails k p j
+              found by d is),
+        )
 
     pub opt_some : (q : ℕ) → At n (node.Opt k) → found ≡ Took q → After (Pair n p) found (Gives (Took q))
     opt_some q at is j h d =
@@ -159,8 +168,11 @@ module _ (g : Grammar) (x : List ℕ) (more : Bool) (some : WasEnough x more 0) 
 
     pub and_none : At n (node.And k) → found ≡ Failed → After (Pair n p) found (Gives Failed)
     and_none at is j h d =
-        let by : j ≡ Pair k p = by_first n p (node.And k) at j h in
-        ((node.And k, at, one_kid j (Pair k p) by), L.and_failed g x more some sound n k p w.0 at (kid_fails k p j found by d is))
+        let by : j ≡ Pair k p = by_first n p (node.And k) at j h in (
+          (node.And k, at, one_kid j (Pair k p) by),
+          L.and_failed g x more some sound n k p w.0 at (kid_fails k p j
+              found by d is),
+        )
 
     pub and_some : (q : ℕ) → At n (node.And k) → found ≡ Took q → After (Pair n p) found (Gives (Took p))
     and_some q at is j h d =

@@ -210,7 +210,12 @@ module _ (g : Grammar) (x : List ℕ) (more : Bool) (some : WasEnough x more 0) 
   open_spot n p at = (Opened p ∷ [], 0, record { expr = expr.Open; spelled = spells_open at; gives = open_at }, some)
 
   pub close_spot : (n p : ℕ) → At n node.Close → SG (Pair n p) (Took p)
-  close_spot n p at = (Closed p ∷ [], 0, record { expr = expr.Close; spelled = spells_close at; gives = close_at }, some)
+  close_spot n p at = (
+    Closed p ∷ [],
+    0,
+    record { expr = expr.Close; spelled = spells_close at; gives = close_at },
+    some,
+  )
 
   -- a node without operands
   pub leaf_spot : (n p : ℕ) (f : Found) (l : ℕ) (e : Pattern) → Spells (rules_of g.rules) (shapes_of g.nodes) n e
@@ -265,8 +270,13 @@ module _ (g : Grammar) (x : List ℕ) (more : Bool) (some : WasEnough x more 0) 
   alternatives_first (alternatives_take t) ps (spell_more s ss) =
       (t.takes.events, t.takes.looked, first_takes (as_own s t.takes.gives), t.enough)
   alternatives_first (alternatives_fail d h) ps (spell_more {ps = rest} s ss) =
-      let r = alternatives_first h rest ss in
-      (r.0, max d.fails.looked r.1, first_fails (as_own s d.fails.gives) r.2, max_enough d.fails.looked r.1 d.enough r.3)
+      let r = alternatives_first h rest ss in (
+        r.0,
+        max d.fails.looked r.1,
+        first_fails (as_own s d.fails.gives) r.2,
+        max_enough d.fails.looked r.1 d.enough
+            r.3,
+      )
 
   module _ (n p : ℕ) (ms : List ℕ) (f : Found) (s : SpellsSome (rules_of g.rules) (shapes_of g.nodes) n) where
     seq_of : At n (node.Seq ms) → MembersGive g x more ms p f → SG (Pair n p) f
@@ -336,7 +346,8 @@ module _ (g : Grammar) (x : List ℕ) (more : Bool) (some : WasEnough x more 0) 
       node.Seq ms,
       at,
       subst (λ v. MembersGive g x more v p (Took q)) front_member
-          (members_take t (subst (λ v. MembersGive g x more v q (Took q)) (sym (drop_past ms (suc i) le)) members_none)),
+          (members_take t (subst (λ v. MembersGive g x more v q (Took q)) (sym (drop_past ms (suc i) le))
+          members_none)),
     )
 
     pub rest_goes : (q : ℕ) (f : Found) → At n (node.Seq ms) → NT m p q → SG (Tail n (suc i) q) f → SG (Tail n i p) f
@@ -365,5 +376,6 @@ module _ (g : Grammar) (x : List ℕ) (more : Bool) (some : WasEnough x more 0) 
     pub other_goes : (f : Found) → At n (node.Choice ms) → NF m p → SG (Tail n (suc i) p) f → SG (Tail n i p) f
     other_goes f at d h =
         let same : h.0 ≡ node.Choice ms = cc (h.1, at) in
-        let c : AlternativesGive g x more p (drop (suc i) ms) f = subst (λ v. TailGives g x more v (suc i) p f) same h.2 in
+        let c : AlternativesGive g x more p (drop (suc i) ms) f = subst (λ v. TailGives g x more v (suc i) p f) same
+        h.2 in
         (node.Choice ms, at, subst (λ v. AlternativesGive g x more p v f) front_member (alternatives_fail d c))

@@ -194,7 +194,8 @@ module _ (g : Grammar) (x : List ℕ) (more : Bool) (marks : Marks) where
             steps = steps_more as_first (step_next (next_second h.0));
           }
 
-      pub stands_up : (e : Found) (new : List Stored) → ((j : Spot) → F a j → SG j f → AfterOne g x more a j (way.Gives e))
+      pub stands_up : (e : Found) (new : List Stored) → ((j : Spot) → F a j → SG j f
+          → AfterOne g x more a j (way.Gives e))
           → C a e st new → S root (Answer e) ls new n
       stands_up e new after c =
           let h = after s.spot s.are.4.0 s.turns in

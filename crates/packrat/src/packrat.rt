@@ -97,7 +97,8 @@ impl Packrat {
         self.machine.begun = 0;
     }
 
-    /// Returns what the start rule gives at the front of the window (Ford 2004, section 3.3). If it is not `Need`, exactly
+    /// Returns what the start rule gives at the front of the window (Ford 2004, section 3.3). If it is not `Need`,
+    /// exactly
     /// the keys that are reached are stored, each once and with its outcome; the cells that they imply are exactly the
     /// pairs that are visited, each with its outcome and once; and as many were begun.
     ///

@@ -21,7 +21,8 @@ pub returns-in-Bytes : goal.returns-in-Bytes
 returns-in-Bytes c =
     let here = shape_at c.args.peg.now.nodes c.args.node _ (c.node.ensures ∙ ap Some c.in-Bytes.is) in
     M.leaf_after c.args.peg.now c.args.window.now c.args.more c.requires.some c.requires.sound c.args.node c.args.place
-    c.match_bytes.result c.leaf-in-Bytes.result _ (shape.Bytes _, here, refl) (spells_bytes here) (rw c.deref.ensures.value at (c.match_bytes.ensures.value (rules_of c.args.peg.now.rules)))
+    c.match_bytes.result c.leaf-in-Bytes.result _ (shape.Bytes _, here, refl) (spells_bytes here) (rw
+    c.deref.ensures.value at (c.match_bytes.ensures.value (rules_of c.args.peg.now.rules)))
     c.match_bytes.ensures.looked c.leaf-in-Bytes.ensures
 
 pub returns-in-Set : goal.returns-in-Set
@@ -94,7 +95,8 @@ returns-then-is_empty-2 c =
           refl,
         ),
       ),
-      L.choice_empty c.args.peg.now c.args.window.now c.args.more c.requires.some c.requires.sound c.args.node c.args.place
+      L.choice_empty c.args.peg.now c.args.window.now c.args.more c.requires.some c.requires.sound c.args.node
+          c.args.place
           c.in-Choice.alternatives.items well.0 here none,
     ))
 

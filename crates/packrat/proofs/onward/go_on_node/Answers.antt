@@ -87,21 +87,24 @@ pub returns-in-Seq : goal.returns-in-Seq
 returns-in-Seq c = λ more some.
     let here = shape_at c.args.peg.now.nodes c.args.node _ (c.node.ensures ∙ ap Some c.in-Seq.is) in
     let well = c.requires.well in
-    (M.seq_on c.args.peg.now c.args.window.now more some c.requires.sound c.args.node c.args.place c.in-Seq.field-0.items
+    (M.seq_on c.args.peg.now c.args.window.now more some c.requires.sound c.args.node c.args.place
+    c.in-Seq.field-0.items
     c.args.found well here)
 
 pub returns-in-Choice : goal.returns-in-Choice
 returns-in-Choice c = λ more some.
     let here = shape_at c.args.peg.now.nodes c.args.node _ (c.node.ensures ∙ ap Some c.in-Choice.is) in
     let well = c.requires.well in
-    (M.choice_on c.args.peg.now c.args.window.now more some c.requires.sound c.args.node c.args.place c.in-Choice.field-0.items
+    (M.choice_on c.args.peg.now c.args.window.now more some c.requires.sound c.args.node c.args.place
+    c.in-Choice.field-0.items
     c.args.found well here)
 
 pub returns-in-Any : goal.returns-in-Any
 returns-in-Any c = λ more some.
     let here = shape_at c.args.peg.now.nodes c.args.node _ (c.node.ensures ∙ ap Some c.in-Any.is) in
     let well = c.requires.well in
-    (M.leaf_on c.args.peg.now c.args.window.now more some c.requires.sound c.args.node c.args.place (shape.Any) c.args.found
+    (M.leaf_on c.args.peg.now c.args.window.now more some c.requires.sound c.args.node c.args.place (shape.Any)
+    c.args.found
     here (λ j h. h))
 
 pub returns-in-Bytes : goal.returns-in-Bytes
@@ -115,26 +118,30 @@ pub returns-in-Set : goal.returns-in-Set
 returns-in-Set c = λ more some.
     let here = shape_at c.args.peg.now.nodes c.args.node _ (c.node.ensures ∙ ap Some c.in-Set.is) in
     let well = c.requires.well in
-    (M.leaf_on c.args.peg.now c.args.window.now more some c.requires.sound c.args.node c.args.place (shape.Set _) c.args.found
+    (M.leaf_on c.args.peg.now c.args.window.now more some c.requires.sound c.args.node c.args.place (shape.Set _)
+    c.args.found
     here (λ j h. h))
 
 pub returns-in-Act : goal.returns-in-Act
 returns-in-Act c = λ more some.
     let here = shape_at c.args.peg.now.nodes c.args.node _ (c.node.ensures ∙ ap Some c.in-Act.is) in
     let well = c.requires.well in
-    (M.leaf_on c.args.peg.now c.args.window.now more some c.requires.sound c.args.node c.args.place (shape.Act _) c.args.found
+    (M.leaf_on c.args.peg.now c.args.window.now more some c.requires.sound c.args.node c.args.place (shape.Act _)
+    c.args.found
     here (λ j h. h))
 
 pub returns-in-Open : goal.returns-in-Open
 returns-in-Open c = λ more some.
     let here = shape_at c.args.peg.now.nodes c.args.node _ (c.node.ensures ∙ ap Some c.in-Open.is) in
     let well = c.requires.well in
-    (M.leaf_on c.args.peg.now c.args.window.now more some c.requires.sound c.args.node c.args.place (shape.Open) c.args.found
+    (M.leaf_on c.args.peg.now c.args.window.now more some c.requires.sound c.args.node c.args.place (shape.Open)
+    c.args.found
     here (λ j h. h))
 
 pub returns-in-Close : goal.returns-in-Close
 returns-in-Close c = λ more some.
     let here = shape_at c.args.peg.now.nodes c.args.node _ (c.node.ensures ∙ ap Some c.in-Close.is) in
     let well = c.requires.well in
-    (M.leaf_on c.args.peg.now c.args.window.now more some c.requires.sound c.args.node c.args.place (shape.Close) c.args.found
+    (M.leaf_on c.args.peg.now c.args.window.now more some c.requires.sound c.args.node c.args.place (shape.Close)
+    c.args.found
     here (λ j h. h))

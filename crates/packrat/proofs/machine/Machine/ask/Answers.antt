@@ -12,7 +12,8 @@ use Rattle.packrat.proofs.machine.Machine.ask.Goals as goal
 
 pub returns-in-Some-clause-stands : goal.returns-in-Some-clause-stands
 returns-in-Some-clause-stands c = λ root s.
-    L.stands_stored c.args.peg.now c.args.window.now c.args.more c.args.marks.now root c.args.spot c.args.self.now.frames
+    L.stands_stored c.args.peg.now c.args.window.now c.args.more c.args.marks.now root c.args.spot
+    c.args.self.now.frames
     c.args.self.now.log.stored c.args.self.now.begun s c.in-Some.found
     (cc (c.is_key.ensures, c.if-is_key.true)) c.in-Some.ensures.some
 
@@ -56,7 +57,8 @@ returns-in_ok-push-in-Leads-clause-stands c = λ root s.
       | then-is_key+in-None w ↦ λ t. w.in-None.ensures.none
       | else-is_key w ↦ let own = c.is_key.ensures in λ t. absurd (cc (t, own, w.if-is_key.false))
     ] in
-    L.stands_as c.args.peg.now c.args.window.now c.args.more c.args.marks.now root (Ask c.in-Leads.kid) (Ask c.in-Leads.kid)
+    L.stands_as c.args.peg.now c.args.window.now c.args.more c.args.marks.now root (Ask c.in-Leads.kid) (Ask
+    c.in-Leads.kid)
     (record { spot = c.args.spot; second = false } ∷ c.args.self.now.frames) c.push.new.self
     c.args.self.now.log.stored c.args.self.now.log.stored (c.args.self.now.begun + weight c.args.spot)
     c.counted-self.result refl (sym c.in_ok-push-in-Leads.ensures) refl (sym c.counted-self.ensures)

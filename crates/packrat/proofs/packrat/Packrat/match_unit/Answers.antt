@@ -1,13 +1,12 @@
 use Rattle.std.proofs.Common.{◌≡◌, slice_get, Some, subst}
-use Rattle.packrat.specs.Stands.{IsEvaluated}
 use Rattle.packrat.proofs.DoneLemmas.{outcome_of_match, told_bounded}
 use Rattle.packrat.proofs.packrat.Packrat.match_unit.Goals as goal
 
 pub returns-in-Ok-clause-outcome : goal.returns-in-Ok-clause-outcome
 returns-in-Ok-clause-outcome c =
     let at : slice_get c.args.peg.now.bodies c.args.peg.now.start ≡ Some c.body_node-root.result =
-        subst (λ v. slice_get c.args.peg.now.bodies v ≡ Some c.body_node-root.result) c.start.ensures.id
-        c.body_node-root.ensures in
+    subst (λ v. slice_get c.args.peg.now.bodies v ≡ Some c.body_node-root.result) c.start.ensures.id
+    c.body_node-root.ensures in
     let matched = rw c.in-Ok.is at c.evaluate-matched.ensures in
     rw c.matched_unit.ensures
     (outcome_of_match c.args.peg.now c.args.window.now c.start.ensures.sound c.args.more c.args.marks.now
@@ -17,8 +16,8 @@ returns-in-Ok-clause-outcome c =
 pub returns-in-Ok-clause-bounded : goal.returns-in-Ok-clause-bounded
 returns-in-Ok-clause-bounded c =
     let at : slice_get c.args.peg.now.bodies c.args.peg.now.start ≡ Some c.body_node-root.result =
-        subst (λ v. slice_get c.args.peg.now.bodies v ≡ Some c.body_node-root.result) c.start.ensures.id
-        c.body_node-root.ensures in
+    subst (λ v. slice_get c.args.peg.now.bodies v ≡ Some c.body_node-root.result) c.start.ensures.id
+    c.body_node-root.ensures in
     let matched = rw c.in-Ok.is at c.evaluate-matched.ensures in
     rw c.matched_unit.ensures
     (told_bounded c.args.peg.now c.args.window.now c.start.ensures.sound c.args.more c.args.marks.now
