@@ -149,7 +149,8 @@ pub(crate) fn begin(peg: &SoundPeg, window: &[u8], more: bool, spot: Spot) -> Be
 fn go_on_node(peg: &SoundPeg, window: &[u8], node: usize, place: usize, found: Found) -> Onward
     requires sound { IsSoundGrammar peg.now }
     requires well { IsWell peg.now window.now (Spot.Pair node place) }
-    ensures { (more : Bool) → WasEnough window.now more 0 → (j : Spot) → IsFirst (rules_of peg.now.rules) (shapes_of peg.now.nodes) peg.now.bodies window.now
+    ensures { (more : Bool) → WasEnough window.now more 0 → (j : Spot) →
+        IsFirst (rules_of peg.now.rules) (shapes_of peg.now.nodes) peg.now.bodies window.now
         (Spot.Pair node place) j → SpotGives peg.now window.now more j found →
         AfterOne peg.now window.now more (Spot.Pair node place) j result }
 {
@@ -200,7 +201,8 @@ fn go_on_tail(
 ) -> Onward
     requires sound { IsSoundGrammar peg.now }
     requires well { IsWell peg.now window.now (Spot.Tail node index place) }
-    ensures { (more : Bool) → WasEnough window.now more 0 → (j : Spot) → IsFirst (rules_of peg.now.rules) (shapes_of peg.now.nodes) peg.now.bodies window.now
+    ensures { (more : Bool) → WasEnough window.now more 0 → (j : Spot) →
+        IsFirst (rules_of peg.now.rules) (shapes_of peg.now.nodes) peg.now.bodies window.now
         (Spot.Tail node index place) j → SpotGives peg.now window.now more j found →
         AfterOne peg.now window.now more (Spot.Tail node index place) j result }
 {
@@ -241,7 +243,8 @@ fn go_on_tail(
 pub(crate) fn go_on(peg: &SoundPeg, window: &[u8], spot: Spot, found: Found) -> Onward
     requires sound { IsSoundGrammar peg.now }
     requires well { IsWell peg.now window.now spot }
-    ensures { (more : Bool) → WasEnough window.now more 0 → (j : Spot) → IsFirst (rules_of peg.now.rules) (shapes_of peg.now.nodes) peg.now.bodies window.now spot j →
+    ensures { (more : Bool) → WasEnough window.now more 0 → (j : Spot) →
+        IsFirst (rules_of peg.now.rules) (shapes_of peg.now.nodes) peg.now.bodies window.now spot j →
         SpotGives peg.now window.now more j found → AfterOne peg.now window.now more spot j result }
 {
     match spot {
