@@ -29,6 +29,8 @@ EXACT = r"(Writes|Keeps|Flags|Defines|SameLoan|SameFeed|sem 𝓛 \(Lends(Body|Wi
 EXEMPT = (
     # It lends a field of a type of which no other value is at hand.
     "flatgrammar: Flat.share",
+    # It returns marks without entries, which take no memory; no other such value is at hand.
+    "packrat: Marks.all",
     # Its equation stands behind a premise, and `requires` says that something meets the premise.
     "pegmatch: Plain.replay", "pegmatch: writing.write_event", "desk: Desk.replay",
     # It hands on to a function with the same clauses, which has an edit.

@@ -1,51 +1,55 @@
 -- What an evaluation of the start rule's body from an empty log gives and leaves behind.
 -- Serves: Packrat::match_unit
-use Rattle.std.proofs.Common.{◌≡◌, ℕ, ◌+◌, ◌*◌, ◌≤◌, Bool, List, [], length, Some, Result, Ok, Err, IfOk, OnOk, sym}
+use Rattle.std.proofs.Common.{◌≡◌, ℕ, ◌+◌, ◌*◌, ◌≤◌, Bool, true, List, ◌∷◌, length, Option, Some, None, refl, sym}
 use Rattle.std.proofs.Common.{subst, arith}
 use Rattle.std.specs.Prelude.{slice_get}
 use Rattle.std.proofs.lemmas.List.{length-map}
 use Rattle.pegread.specs.PegViews.{rules_of}
 use Rattle.gramcheck.specs.Grammar.{Grammar, IsSoundGrammar}
-use Rattle.gramcheck.specs.Nodes.{Spells, shapes_of, shape_of}
-use Rattle.gramcheck.specs.Outcome.{Event, Outcome}
+use Rattle.pegread.specs.Pattern.{Rule}
+use Rattle.gramcheck.proofs.SomeOutcomeLemmas as one
+use Rattle.gramcheck.specs.Nodes.{Shape, Spells, shapes_of, shape_of}
+use Rattle.gramcheck.specs.Outcome.{Outcome}
 use Rattle.cells.specs.declared.cell.Found.{Found}
-use Rattle.pegmatch.specs.Answers.{StartGives, WasEnough}
+use Rattle.pegmatch.specs.Answers.{StartGives}
 use Rattle.pegmatch.specs.KeptEvents.{outcome_of}
 use Rattle.desk.specs.Visits.{NodeGives}
 use Rattle.desk.proofs.AreCellsLemmas.{visited_there}
 use Rattle.desk.proofs.CodeLemmas.{cells_at_most}
-use Rattle.desk.proofs.NodeGivesLemmas.{gives_as}
+use Rattle.desk.proofs.LookedLemmas.{ends_within}
+use Rattle.desk.proofs.NodeGivesLemmas.{gives_as, same_node}
 use Rattle.desk.proofs.VisitsLemmas.{visits_within}
 use Rattle.memo.specs.KeyLog.{spots_of}
 use Rattle.memo.specs.declared.key_log.Stored.{Stored}
-use Rattle.memo.specs.declared.spot.Spot.TheVariants.{Pair}
-use Rattle.packrat.specs.Done.{Contents, IsDone}
+use Rattle.memo.specs.declared.spot.Spot.TheVariants.{Pair, Tail}
+use Rattle.packrat.specs.Done.{Contents, IsDone, Answers, IsOutcome, unit_of_match, told}
+use Rattle.packrat.specs.MachineSteps.{Works}
+use Rattle.packrat.specs.Onward.{ReachesEnd}
+use Rattle.packrat.specs.SpotSteps.{NextOf}
+use Rattle.packrat.specs.Spots.{Leads, Kids, is_key}
+use Rattle.packrat.specs.Stands.{IsEnded, NeedsMore, IsEvaluated}
+use Rattle.cells.specs.declared.cell.Found.TheVariants as found
+use Rattle.pegmatch.specs.declared.matcher.Unit.{Unit as UnitAnswer}
+use Rattle.pegmatch.specs.declared.matcher.Unit.TheVariants as unit
+use Rattle.memo.specs.Parts.{Reach, in_here}
+use Rattle.memo.specs.declared.spot.Spot.{Spot}
 use Rattle.packrat.specs.KeyMarks.{AreMarks}
-use Rattle.packrat.specs.SpotGives.{SpotGives, AreRight, node_marks, tail_marks}
+use Rattle.packrat.specs.SpotGives.{SpotGives, node_marks, tail_marks}
 use Rattle.packrat.specs.View.{Evaluates, AreStored}
 use Rattle.packrat.specs.declared.frames.Frame.{Frame}
 use Rattle.packrat.specs.declared.marks.Marks.{Marks}
+use Rattle.packrat.proofs.EndsLemmas.{reached_ends}
+use Rattle.packrat.proofs.GoodLemmas.{steps_are_good}
+use Rattle.packrat.proofs.NextOfLemmas.{is_next, forest_of}
+use Rattle.packrat.proofs.SpotReachLemmas.{reached_is_visited}
 use Rattle.packrat.proofs.EvaluatesLemmas.{evaluated_stores, evaluated_begins}
 
--- what holds of a success, by what else does
-pub from_ok : {A E : Type 0} (P : A → Type 0) (Q R S T : Type 0) (v : Result A E) → ((a : A) → P a → Q → R → S → T)
-    → IfOk v P → OnOk v Q → OnOk v R → OnOk v S → OnOk v T
-from_ok P Q R S T (Ok a) f h k l m = f a h k l m
-from_ok P Q R S T (Err e) f h k l m = tt
-
 module _ (g : Grammar) (x : List ℕ) (sound : IsSoundGrammar g) where
-  pub start_gives : (root : ℕ) (f : Found) → slice_get g.bodies g.start ≡ Some root → SpotGives g x (Pair root 0) f
-      → (events : List Event) × (looked : ℕ) × StartGives g x (outcome_of f events) looked
-  start_gives root f at h =
-      let s = sound.spelled.spelled g.start root at in (
-        h.0,
-        h.1,
-        record {
-          body = s.0;
-          rule = s.1;
-          gives = gives_as (rules_of g.rules) (shapes_of g.nodes) sound.defined g.bodies x s.2 h.2;
-        },
-      )
+  abbrev Rs : List Rule
+  Rs = rules_of g.rules
+
+  abbrev Ns : List Shape
+  Ns = shapes_of g.nodes
 
   -- the start rule's body gives what the start rule does
   start_as : (root : ℕ) (o : Outcome) (k : ℕ) → slice_get g.bodies g.start ≡ Some root → StartGives g x o k
@@ -77,20 +81,76 @@ module _ (g : Grammar) (x : List ℕ) (sound : IsSoundGrammar g) where
         (evaluated_stores (rules_of g.rules) g.start (shapes_of g.nodes) g.bodies g.ranks x more sound root at
         (node_marks marks) (tail_marks marks) are (spots_of stored) begun run)
 
-    pub unit_done : (f : Found) (h : SpotGives g x (Pair root 0) f) → WasEnough x more h.1 → (stored : List Stored)
-        (frames : List Frame) (begun : ℕ) → AreRight g x stored → frames ≡ [] → Ev stored begun
-        → IsDone g x more marks (record { stored = stored; frames = frames; begun = begun })
-    unit_done f h enough stored frames begun right none run =
-        let b = evaluated_begins (rules_of g.rules) g.start (shapes_of g.nodes) g.bodies g.ranks x more sound root at
-        (node_marks marks) (tail_marks marks) are (outcome_of f h.0) h.1 h.2 enough (spots_of stored) begun run in
+    answers_of : (f : Found) → SpotGives g x more (Pair root 0) f → Answers g x more f
+    answers_of f h =
+        let s = sound.spelled.spelled g.start root at in
         record {
-          frames = none;
+          events = h.0;
+          looked = h.1;
+          gives = record {
+            body = s.0;
+            rule = s.1;
+            gives = gives_as Rs Ns sound.defined g.bodies x s.2 h.2;
+          };
+          enough = h.3;
+        }
+
+    unit_done : (f : Found) (frames : List Frame) (stored : List Stored) (begun : ℕ)
+        → IsEnded g x more marks (Pair root 0) f frames stored begun
+        → IsDone g x more marks (record { stored = stored; frames = frames; begun = begun })
+    unit_done f frames stored begun e =
+        let h = e.gives in
+        let b = evaluated_begins Rs g.start Ns g.bodies g.ranks x more sound root at
+        (node_marks marks) (tail_marks marks) are (outcome_of f h.0) h.1 h.2 h.3 (spots_of stored) begun e.runs in
+        record {
+          frames = e.empty;
+          keys = unit_stores stored begun e.runs;
+          right = e.right;
           cells = b.cells;
           seen = b.implied;
-          right = right;
           every = b.every;
           count = sym b.count;
         }
+
+    -- a spot that needs more is reached, so the start rule looks as far
+    need_given : NeedsMore g x more marks (Pair root 0) → (more ≡ true) × ((o : Outcome) × StartGives g x o (length x))
+    need_given n = by n.spot refl n.reaches
+      where
+        reached : Reach Spot (Leads Rs Ns g.bodies x) (Pair root 0) n.spot
+        reached =
+            let good = steps_are_good Spot (Leads Rs Ns g.bodies x) (Pair root 0) (Kids Rs Ns g.bodies x)
+            (NextOf Rs Ns g.bodies x) (is_key (node_marks marks) (tail_marks marks))
+            (forest_of Rs g.start Ns g.bodies g.ranks x more sound root at (node_marks marks) (tail_marks marks)
+            are)
+            (is_next Rs g.start Ns g.bodies g.ranks x more sound root at (node_marks marks) (tail_marks marks) are)
+            (λ a r. reached_ends Rs g.start Ns g.bodies g.ranks x sound root at r)
+            (Works (record { levels = n.levels; stored = n.stored; begun = n.spot ∷ n.begun })) n.steps in
+            good.reached n.spot in_here
+
+        by : (a : Spot) → n.spot ≡ a → ReachesEnd g x more a → (more ≡ true)
+            × ((o : Outcome) × StartGives g x o (length x))
+        by (Pair m p) is h =
+            let v = reached_is_visited Rs g.start Ns g.bodies x root at m p
+            (subst (λ a. Reach Spot (Leads Rs Ns g.bodies x) (Pair root 0) a) is reached) in
+            let has = one.has_of_start Rs g.start Ns g.bodies g.ranks sound x in
+            let gives = start_as root has.0 has.1 at has.2 in
+            let within = visits_within Rs g.start Ns g.bodies g.ranks x sound v root has.1 has.0 at gives in
+            let same = same_node Rs Ns sound.defined g.bodies x h.1.1 within.gives in
+            let looked = same.looked in
+            let less = within.less in
+            let high = ends_within Rs x has.2.gives in
+            let far : has.1 ≡ length x = omega (arith, looked, less, high) in
+            (h.0, (has.0, subst (λ k. StartGives g x has.0 k) far has.2))
+        by (Tail m i p) is h = absurd h
+
+    pub outcome_of_match : (v : Option Found) (frames : List Frame) (stored : List Stored) (begun : ℕ)
+        → IsEvaluated g x more marks (Pair root 0) v frames stored begun
+        → IsOutcome g x more marks (record { stored = stored; frames = frames; begun = begun }) (unit_of_match v begun)
+    outcome_of_match None frames stored begun h = need_given h
+    outcome_of_match (Some found.Failed) frames stored begun h =
+        (unit_done found.Failed frames stored begun h, answers_of found.Failed h.gives, refl)
+    outcome_of_match (Some (found.Took q)) frames stored begun h =
+        (unit_done (found.Took q) frames stored begun h, answers_of (found.Took q) h.gives, refl)
 
     -- no more are begun than nodes at places up to where the start rule looked
     pub unit_bounded : (c : Contents) → IsDone g x more marks c → (o : Outcome) (k : ℕ) → StartGives g x o k
@@ -107,3 +167,11 @@ module _ (g : Grammar) (x : List ℕ) (sound : IsSoundGrammar g) where
         let count = done.count in
         let same : length (shapes_of g.nodes) ≡ length g.nodes = length-map g.nodes shape_of in
         subst (λ v. c.begun ≤ v * (k + 1)) same (omega (arith, most, count))
+
+    pub told_bounded : (c : Contents) (u : UnitAnswer) → IsOutcome g x more marks c u → (o : Outcome) (k : ℕ)
+        → StartGives g x o k → told u ≤ length g.nodes * (k + 1)
+    told_bounded c (unit.Took end begun) h o k gives =
+        let le = unit_bounded c h.0 o k gives in let is = h.2 in omega (arith, le, is)
+    told_bounded c (unit.Failed begun) h o k gives =
+        let le = unit_bounded c h.0 o k gives in let is = h.2 in omega (arith, le, is)
+    told_bounded c unit.Need h o k gives = omega arith

@@ -16,8 +16,9 @@ use Rattle.gramcheck.specs.Outcome.{rest_fails, rest_takes, GivesFirst, all_fail
 use Rattle.gramcheck.proofs.HasShapeLemmas.{has_shape}
 use Rattle.cells.specs.declared.cell.Found.{Found}
 use Rattle.cells.specs.declared.cell.Found.TheVariants.{Failed, Took}
+use Rattle.pegmatch.specs.Answers.{WasEnough}
 use Rattle.pegmatch.specs.KeptEvents.{outcome_of, quiet_outcome, SpellsSome}
-use Rattle.desk.specs.Visits.{NodeGives, NodeTakes, NodeFails}
+use Rattle.desk.specs.Visits.{NodeGives}
 use Rattle.desk.proofs.GivesLemmas.{name_gives, star_gives_none, star_gives_more, star_never_fails, not_gives_takes}
 use Rattle.desk.proofs.GivesLemmas.{not_gives_fails, plus_gives_fails, plus_gives_takes, plus_star, opt_gives_takes}
 use Rattle.desk.proofs.GivesLemmas.{opt_gives_none, and_gives_takes, and_gives_fails}
@@ -26,6 +27,7 @@ use Rattle.gramcheck.specs.Outcome.{Acted, Opened, Closed, act, open_at, close_a
 use Rattle.desk.proofs.NodeGivesLemmas.{gives_as}
 use Rattle.memo.specs.declared.spot.Spot.{Spot}
 use Rattle.memo.specs.declared.spot.Spot.TheVariants.{Pair, Tail}
+use Rattle.packrat.specs.SpotGives.{TakesWithin, FailsWithin}
 use Rattle.packrat.specs.SpotGives.{MembersGive, members_none, members_fail, members_take, AlternativesGive}
 use Rattle.packrat.specs.SpotGives.{alternatives_none, alternatives_take, alternatives_fail, TailGives, SpotGives}
 use Rattle.packrat.specs.Spots.{Kids}
@@ -56,15 +58,18 @@ drop_past [] (suc i) le = refl
 drop_past (m ∷ ms) zero le = absurd (omega arith)
 drop_past (m ∷ ms) (suc i) le = drop_past ms i (omega arith)
 
-module _ (g : Grammar) (x : List ℕ) (sound : IsSoundGrammar g) where
+module _ (g : Grammar) (x : List ℕ) (more : Bool) (some : WasEnough x more 0) (sound : IsSoundGrammar g) where
+  max_enough : (j k : ℕ) → WasEnough x more j → WasEnough x more k → WasEnough x more (max j k)
+  max_enough j k d c = λ is. let a = d is in let b = c is in omega (arith, a, b)
+
   abbrev pub SG : Spot → Found → Type 0
-  SG a f = SpotGives g x a f
+  SG a f = SpotGives g x more a f
 
   abbrev pub NT : ℕ → ℕ → ℕ → Type 0
-  NT m p q = NodeTakes (rules_of g.rules) (shapes_of g.nodes) g.bodies x m p q
+  NT m p q = TakesWithin g x more m p q
 
   abbrev pub NF : ℕ → ℕ → Type 0
-  NF m p = NodeFails (rules_of g.rules) (shapes_of g.nodes) g.bodies x m p
+  NF m p = FailsWithin g x more m p
 
   abbrev pub K : Spot → List Spot → Type 0
   K a ks = Kids (rules_of g.rules) (shapes_of g.nodes) g.bodies x a ks
@@ -77,13 +82,13 @@ module _ (g : Grammar) (x : List ℕ) (sound : IsSoundGrammar g) where
   fails_of k p f h is = by f is h
     where
       by : (f : Found) → f ≡ Failed → SG (Pair k p) f → NF k p
-      by Failed e (es, l, d) = record { looked = l; gives = d }
+      by Failed e (es, l, d, h) = record { fails = record { looked = l; gives = d }; enough = h }
       by (Took q) e d = absurd (cc e)
 
   pub takes_of : (k p q : ℕ) (f : Found) → SG (Pair k p) f → f ≡ Took q → NT k p q
   takes_of k p q f h is =
       let d : SG (Pair k p) (Took q) = subst (SG (Pair k p)) is h in
-      record { events = d.0; looked = d.1; gives = d.2 }
+      record { takes = record { events = d.0; looked = d.1; gives = d.2 }; enough = d.3 }
 
   pub name_spot : (n id m p : ℕ) (f : Found) → SpellsSome (rules_of g.rules) (shapes_of g.nodes) n → At n (node.Name id)
       → slice_get g.bodies id ≡ Some m → SG (Pair m p) f → SG (Pair n p) f
@@ -92,15 +97,17 @@ module _ (g : Grammar) (x : List ℕ) (sound : IsSoundGrammar g) where
     h.1,
     name_gives (rules_of g.rules) g.start (shapes_of g.nodes) g.bodies g.ranks x sound n id m p h.1
         (outcome_of f h.0) s at body h.2,
+    h.3,
   )
 
   module _ (n k p : ℕ) (s : SpellsSome (rules_of g.rules) (shapes_of g.nodes) n) where
     pub star_ends : At n (node.Star k) → NF k p → SG (Pair n p) (Took p)
     star_ends at d = (
       [],
-      d.looked,
+      d.fails.looked,
       star_gives_none (rules_of g.rules) g.start (shapes_of g.nodes) g.bodies g.ranks x
-          sound n k s p d.looked at d.gives,
+          sound n k s p d.fails.looked at d.fails.gives,
+      d.enough,
     )
 
     pub star_goes : (q : ℕ) (f : Found) → At n (node.Star k) → NT k p q → SG (Pair n q) f → SG (Pair n p) f
@@ -108,35 +115,39 @@ module _ (g : Grammar) (x : List ℕ) (sound : IsSoundGrammar g) where
         absurd (star_never_fails (rules_of g.rules) g.start (shapes_of g.nodes) g.bodies g.ranks x sound n k s q h.1
         at h.2)
     star_goes q (Took r) at t h = (
-      t.events ++ h.0,
-      max t.looked h.1,
+      t.takes.events ++ h.0,
+      max t.takes.looked h.1,
       star_gives_more (rules_of g.rules) g.start (shapes_of g.nodes) g.bodies
-          g.ranks x sound n k s p q r t.looked h.1 t.events h.0 at t.gives h.2,
+          g.ranks x sound n k s p q r t.takes.looked h.1 t.takes.events h.0 at t.takes.gives h.2,
+      max_enough t.takes.looked h.1 t.enough h.3,
     )
 
     pub not_took : At n (node.Not k) → NF k p → SG (Pair n p) (Took p)
     not_took at d = (
       [],
-      d.looked,
+      d.fails.looked,
       not_gives_takes (rules_of g.rules) g.start (shapes_of g.nodes) g.bodies g.ranks x
-          sound n k s p d.looked at d.gives,
+          sound n k s p d.fails.looked at d.fails.gives,
+      d.enough,
     )
 
     pub not_failed : (q : ℕ) → At n (node.Not k) → NT k p q → SG (Pair n p) Failed
     not_failed q at t = (
       [],
-      t.looked,
+      t.takes.looked,
       not_gives_fails (rules_of g.rules) g.start (shapes_of g.nodes) g.bodies g.ranks x
-          sound n k s p q t.looked t.events at t.gives,
+          sound n k s p q t.takes.looked t.takes.events at t.takes.gives,
+      t.enough,
     )
 
   module _ (n k p : ℕ) (s : SpellsSome (rules_of g.rules) (shapes_of g.nodes) n) where
     pub plus_failed : (i : ℕ) → At n (node.Plus k i) → NF k p → SG (Pair n p) Failed
     plus_failed i at d = (
       [],
-      d.looked,
+      d.fails.looked,
       plus_gives_fails (rules_of g.rules) g.start (shapes_of g.nodes) g.bodies g.ranks x
-          sound n k s i p d.looked at d.gives,
+          sound n k s i p d.fails.looked at d.fails.gives,
+      d.enough,
     )
 
     pub plus_goes : (i q : ℕ) (f : Found) → At n (node.Plus k i) → NT k p q → SG (Pair i q) f → SG (Pair n p) f
@@ -146,10 +157,11 @@ module _ (g : Grammar) (x : List ℕ) (sound : IsSoundGrammar g) where
         h.1
         star.1 h.2)
     plus_goes i q (Took r) at t h = (
-      t.events ++ h.0,
-      max t.looked h.1,
+      t.takes.events ++ h.0,
+      max t.takes.looked h.1,
       plus_gives_takes (rules_of g.rules) g.start (shapes_of g.nodes) g.bodies
-          g.ranks x sound n k s i p q r t.looked h.1 t.events h.0 at t.gives h.2,
+          g.ranks x sound n k s i p q r t.takes.looked h.1 t.takes.events h.0 at t.takes.gives h.2,
+      max_enough t.takes.looked h.1 t.enough h.3,
     )
 
     pub plus_repeats : (i : ℕ) → At n (node.Plus k i) → SpellsSome (rules_of g.rules) (shapes_of g.nodes) i
@@ -157,49 +169,58 @@ module _ (g : Grammar) (x : List ℕ) (sound : IsSoundGrammar g) where
 
     pub opt_took : (q : ℕ) → At n (node.Opt k) → NT k p q → SG (Pair n p) (Took q)
     opt_took q at t = (
-      t.events,
-      t.looked,
+      t.takes.events,
+      t.takes.looked,
       opt_gives_takes (rules_of g.rules) g.start (shapes_of g.nodes) g.bodies g.ranks x
-          sound n k s p q t.looked t.events at t.gives,
+          sound n k s p q t.takes.looked t.takes.events at t.takes.gives,
+      t.enough,
     )
 
     pub opt_none : At n (node.Opt k) → NF k p → SG (Pair n p) (Took p)
     opt_none at d = (
       [],
-      d.looked,
+      d.fails.looked,
       opt_gives_none (rules_of g.rules) g.start (shapes_of g.nodes) g.bodies g.ranks x
-          sound n k s p d.looked at d.gives,
+          sound n k s p d.fails.looked at d.fails.gives,
+      d.enough,
     )
 
     pub and_took : (q : ℕ) → At n (node.And k) → NT k p q → SG (Pair n p) (Took p)
     and_took q at t = (
       [],
-      t.looked,
+      t.takes.looked,
       and_gives_takes (rules_of g.rules) g.start (shapes_of g.nodes) g.bodies g.ranks x
-          sound n k s p q t.looked t.events at t.gives,
+          sound n k s p q t.takes.looked t.takes.events at t.takes.gives,
+      t.enough,
     )
 
     pub and_failed : At n (node.And k) → NF k p → SG (Pair n p) Failed
     and_failed at d = (
       [],
-      d.looked,
+      d.fails.looked,
       and_gives_fails (rules_of g.rules) g.start (shapes_of g.nodes) g.bodies g.ranks x
-          sound n k s p d.looked at d.gives,
+          sound n k s p d.fails.looked at d.fails.gives,
+      d.enough,
     )
 
   pub act_spot : (n p : ℕ) (t : List ℕ) → At n (node.Act t) → SG (Pair n p) (Took p)
-  act_spot n p t at = (Acted t ∷ [], 0, record { expr = expr.Act t; spelled = spells_act at; gives = act })
+  act_spot n p t at = (Acted t ∷ [], 0, record { expr = expr.Act t; spelled = spells_act at; gives = act }, some)
 
   pub open_spot : (n p : ℕ) → At n node.Open → SG (Pair n p) (Took p)
-  open_spot n p at = (Opened p ∷ [], 0, record { expr = expr.Open; spelled = spells_open at; gives = open_at })
+  open_spot n p at = (Opened p ∷ [], 0, record { expr = expr.Open; spelled = spells_open at; gives = open_at }, some)
 
   pub close_spot : (n p : ℕ) → At n node.Close → SG (Pair n p) (Took p)
-  close_spot n p at = (Closed p ∷ [], 0, record { expr = expr.Close; spelled = spells_close at; gives = close_at })
+  close_spot n p at = (
+    Closed p ∷ [],
+    0,
+    record { expr = expr.Close; spelled = spells_close at; gives = close_at },
+    some,
+  )
 
   -- a node without operands
   pub leaf_spot : (n p : ℕ) (f : Found) (l : ℕ) (e : Pattern) → Spells (rules_of g.rules) (shapes_of g.nodes) n e
-      → Gives (rules_of g.rules) x e p (quiet_outcome f) l → SG (Pair n p) f
-  leaf_spot n p f l e s d = ([], l, record { expr = e; spelled = s; gives = d })
+      → Gives (rules_of g.rules) x e p (quiet_outcome f) l → WasEnough x more l → SG (Pair n p) f
+  leaf_spot n p f l e s d h = ([], l, record { expr = e; spelled = s; gives = d }, h)
 
   nth_spells : (ms : List ℕ) (ps : Patterns) (i m : ℕ) → SpellAll (rules_of g.rules) (shapes_of g.nodes) ms ps
       → slice_get ms i ≡ Some m → SpellsSome (rules_of g.rules) (shapes_of g.nodes) m
@@ -221,36 +242,44 @@ module _ (g : Grammar) (x : List ℕ) (sound : IsSoundGrammar g) where
   -- sequences and choices
   abbrev GA : Patterns → ℕ → Found → Type 0
   GA ps p f = (es : List Event) × (l : ℕ) × GivesAll (rules_of g.rules) x ps p (outcome_of f es) l
+      × WasEnough x more l
 
   abbrev GF : Patterns → ℕ → Found → Type 0
   GF ps p f = (es : List Event) × (l : ℕ) × GivesFirst (rules_of g.rules) x ps p (outcome_of f es) l
+      × WasEnough x more l
 
   as_own : {m p l : ℕ} {o : Outcome} {e : Pattern} → Spells (rules_of g.rules) (shapes_of g.nodes) m e
       → NodeGives (rules_of g.rules) (shapes_of g.nodes) g.bodies x m p o l → Gives (rules_of g.rules) x e p o l
   as_own s d = gives_as (rules_of g.rules) (shapes_of g.nodes) sound.defined g.bodies x s d
 
   goes_all : (e : Pattern) (ps : Patterns) (p q j : ℕ) (es : List Event) (f : Found)
-      → Gives (rules_of g.rules) x e p (Takes q es) j → GA ps q f → GA (expr.more e ps) p f
-  goes_all e ps p q j es Failed d h = ([], max j h.1, rest_fails d h.2)
-  goes_all e ps p q j es (Took r) d h = (es ++ h.0, max j h.1, rest_takes d h.2)
+      → Gives (rules_of g.rules) x e p (Takes q es) j → WasEnough x more j → GA ps q f → GA (expr.more e ps) p f
+  goes_all e ps p q j es Failed d c h = ([], max j h.1, rest_fails d h.2, max_enough j h.1 c h.3)
+  goes_all e ps p q j es (Took r) d c h = (es ++ h.0, max j h.1, rest_takes d h.2, max_enough j h.1 c h.3)
 
-  members_all : {ms : List ℕ} {p : ℕ} {f : Found} → MembersGive g x ms p f → (ps : Patterns)
+  members_all : {ms : List ℕ} {p : ℕ} {f : Found} → MembersGive g x more ms p f → (ps : Patterns)
       → SpellAll (rules_of g.rules) (shapes_of g.nodes) ms ps → GA ps p f
-  members_all members_none ps spell_none = ([], 0, all_done)
-  members_all (members_fail d) ps (spell_more s ss) = ([], d.looked, one_fails (as_own s d.gives))
+  members_all members_none ps spell_none = ([], 0, all_done, some)
+  members_all (members_fail d) ps (spell_more s ss) = ([], d.fails.looked, one_fails (as_own s d.fails.gives), d.enough)
   members_all (members_take {p = p} {q = q} {f = f} t h) ps (spell_more {p = e} {ps = rest} s ss) =
-      goes_all e rest p q t.looked t.events f (as_own s t.gives) (members_all h rest ss)
+      goes_all e rest p q t.takes.looked t.takes.events f (as_own s t.takes.gives) t.enough (members_all h rest ss)
 
-  alternatives_first : {p : ℕ} {ms : List ℕ} {f : Found} → AlternativesGive g x p ms f → (ps : Patterns)
+  alternatives_first : {p : ℕ} {ms : List ℕ} {f : Found} → AlternativesGive g x more p ms f → (ps : Patterns)
       → SpellAll (rules_of g.rules) (shapes_of g.nodes) ms ps → GF ps p f
-  alternatives_first alternatives_none ps spell_none = ([], 0, all_failed)
+  alternatives_first alternatives_none ps spell_none = ([], 0, all_failed, some)
   alternatives_first (alternatives_take t) ps (spell_more s ss) =
-      (t.events, t.looked, first_takes (as_own s t.gives))
+      (t.takes.events, t.takes.looked, first_takes (as_own s t.takes.gives), t.enough)
   alternatives_first (alternatives_fail d h) ps (spell_more {ps = rest} s ss) =
-      let r = alternatives_first h rest ss in (r.0, max d.looked r.1, first_fails (as_own s d.gives) r.2)
+      let r = alternatives_first h rest ss in (
+        r.0,
+        max d.fails.looked r.1,
+        first_fails (as_own s d.fails.gives) r.2,
+        max_enough d.fails.looked r.1 d.enough
+            r.3,
+      )
 
   module _ (n p : ℕ) (ms : List ℕ) (f : Found) (s : SpellsSome (rules_of g.rules) (shapes_of g.nodes) n) where
-    seq_of : At n (node.Seq ms) → MembersGive g x ms p f → SG (Pair n p) f
+    seq_of : At n (node.Seq ms) → MembersGive g x more ms p f → SG (Pair n p) f
     seq_of at h =
         let like = has_shape (rules_of g.rules) (shapes_of g.nodes) s.1 (node.Seq ms) at in
         let d = members_all h like.0 like.2 in (
@@ -261,9 +290,10 @@ module _ (g : Grammar) (x : List ℕ) (sound : IsSoundGrammar g) where
             spelled = subst (Spells (rules_of g.rules) (shapes_of g.nodes) n) like.1 s.1;
             gives = seq d.2;
           },
+          d.3,
         )
 
-    choice_of : At n (node.Choice ms) → AlternativesGive g x p ms f → SG (Pair n p) f
+    choice_of : At n (node.Choice ms) → AlternativesGive g x more p ms f → SG (Pair n p) f
     choice_of at h =
         let like = has_shape (rules_of g.rules) (shapes_of g.nodes) s.1 (node.Choice ms) at in
         let d = alternatives_first h like.0 like.2 in (
@@ -274,19 +304,20 @@ module _ (g : Grammar) (x : List ℕ) (sound : IsSoundGrammar g) where
             spelled = subst (Spells (rules_of g.rules) (shapes_of g.nodes) n) like.1 s.1;
             gives = choice d.2;
           },
+          d.3,
         )
 
     pub seq_spot : At n (node.Seq ms) → SG (Tail n 0 p) f → SG (Pair n p) f
     seq_spot at h =
         let same : h.0 ≡ node.Seq ms = cc (h.1, at) in
-        let d : MembersGive g x (drop 0 ms) p f = subst (λ v. TailGives g x v 0 p f) same h.2 in
-        seq_of at (subst (λ v. MembersGive g x v p f) (drop_none ms) d)
+        let d : MembersGive g x more (drop 0 ms) p f = subst (λ v. TailGives g x more v 0 p f) same h.2 in
+        seq_of at (subst (λ v. MembersGive g x more v p f) (drop_none ms) d)
 
     pub choice_spot : At n (node.Choice ms) → SG (Tail n 0 p) f → SG (Pair n p) f
     choice_spot at h =
         let same : h.0 ≡ node.Choice ms = cc (h.1, at) in
-        let d : AlternativesGive g x p (drop 0 ms) f = subst (λ v. TailGives g x v 0 p f) same h.2 in
-        choice_of at (subst (λ v. AlternativesGive g x p v f) (drop_none ms) d)
+        let d : AlternativesGive g x more p (drop 0 ms) f = subst (λ v. TailGives g x more v 0 p f) same h.2 in
+        choice_of at (subst (λ v. AlternativesGive g x more p v f) (drop_none ms) d)
 
   nil_of : (ms : List ℕ) → length ms ≡ 0 → ms ≡ []
   nil_of [] h = refl
@@ -295,40 +326,41 @@ module _ (g : Grammar) (x : List ℕ) (sound : IsSoundGrammar g) where
   pub seq_empty : (n p : ℕ) (ms : List ℕ) → SpellsSome (rules_of g.rules) (shapes_of g.nodes) n → At n (node.Seq ms)
       → length ms ≡ 0 → SG (Pair n p) (Took p)
   seq_empty n p ms s at none =
-      seq_of n p ms (Took p) s at (subst (λ v. MembersGive g x v p (Took p)) (sym (nil_of ms none)) members_none)
+      seq_of n p ms (Took p) s at (subst (λ v. MembersGive g x more v p (Took p)) (sym (nil_of ms none)) members_none)
 
   pub choice_empty : (n p : ℕ) (ms : List ℕ) → SpellsSome (rules_of g.rules) (shapes_of g.nodes) n
       → At n (node.Choice ms) → length ms ≡ 0 → SG (Pair n p) Failed
   choice_empty n p ms s at none =
       choice_of n p ms Failed s at
-      (subst (λ v. AlternativesGive g x p v Failed) (sym (nil_of ms none)) alternatives_none)
+      (subst (λ v. AlternativesGive g x more p v Failed) (sym (nil_of ms none)) alternatives_none)
 
   module _ (n i p m : ℕ) (ms : List ℕ) (there : slice_get ms i ≡ Some m) where
     front_member : m ∷ drop (suc i) ms ≡ drop i ms
     front_member = sym (front_drop ms i m there)
 
     pub rest_fails_at : At n (node.Seq ms) → NF m p → SG (Tail n i p) Failed
-    rest_fails_at at d = (node.Seq ms, at, subst (λ v. MembersGive g x v p Failed) front_member (members_fail d))
+    rest_fails_at at d = (node.Seq ms, at, subst (λ v. MembersGive g x more v p Failed) front_member (members_fail d))
 
     pub rest_last : (q : ℕ) → At n (node.Seq ms) → NT m p q → length ms ≤ suc i → SG (Tail n i p) (Took q)
     rest_last q at t le = (
       node.Seq ms,
       at,
-      subst (λ v. MembersGive g x v p (Took q)) front_member
-          (members_take t (subst (λ v. MembersGive g x v q (Took q)) (sym (drop_past ms (suc i) le)) members_none)),
+      subst (λ v. MembersGive g x more v p (Took q)) front_member
+          (members_take t (subst (λ v. MembersGive g x more v q (Took q)) (sym (drop_past ms (suc i) le))
+          members_none)),
     )
 
     pub rest_goes : (q : ℕ) (f : Found) → At n (node.Seq ms) → NT m p q → SG (Tail n (suc i) q) f → SG (Tail n i p) f
     rest_goes q f at t h =
         let same : h.0 ≡ node.Seq ms = cc (h.1, at) in
-        let d : MembersGive g x (drop (suc i) ms) q f = subst (λ v. TailGives g x v (suc i) q f) same h.2 in
-        (node.Seq ms, at, subst (λ v. MembersGive g x v p f) front_member (members_take t d))
+        let d : MembersGive g x more (drop (suc i) ms) q f = subst (λ v. TailGives g x more v (suc i) q f) same h.2 in
+        (node.Seq ms, at, subst (λ v. MembersGive g x more v p f) front_member (members_take t d))
 
     pub other_takes : (q : ℕ) → At n (node.Choice ms) → NT m p q → SG (Tail n i p) (Took q)
     other_takes q at t = (
       node.Choice ms,
       at,
-      subst (λ v. AlternativesGive g x p v (Took q)) front_member
+      subst (λ v. AlternativesGive g x more p v (Took q)) front_member
           (alternatives_take t),
     )
 
@@ -336,13 +368,14 @@ module _ (g : Grammar) (x : List ℕ) (sound : IsSoundGrammar g) where
     other_last at d le = (
       node.Choice ms,
       at,
-      subst (λ v. AlternativesGive g x p v Failed) front_member
-          (alternatives_fail d (subst (λ v. AlternativesGive g x p v Failed) (sym (drop_past ms (suc i) le))
+      subst (λ v. AlternativesGive g x more p v Failed) front_member
+          (alternatives_fail d (subst (λ v. AlternativesGive g x more p v Failed) (sym (drop_past ms (suc i) le))
           alternatives_none)),
     )
 
     pub other_goes : (f : Found) → At n (node.Choice ms) → NF m p → SG (Tail n (suc i) p) f → SG (Tail n i p) f
     other_goes f at d h =
         let same : h.0 ≡ node.Choice ms = cc (h.1, at) in
-        let c : AlternativesGive g x p (drop (suc i) ms) f = subst (λ v. TailGives g x v (suc i) p f) same h.2 in
-        (node.Choice ms, at, subst (λ v. AlternativesGive g x p v f) front_member (alternatives_fail d c))
+        let c : AlternativesGive g x more p (drop (suc i) ms) f = subst (λ v. TailGives g x more v (suc i) p f) same
+        h.2 in
+        (node.Choice ms, at, subst (λ v. AlternativesGive g x more p v f) front_member (alternatives_fail d c))

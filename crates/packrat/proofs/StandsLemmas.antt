@@ -22,40 +22,41 @@ use Rattle.packrat.specs.Spots.{Kids}
 use Rattle.packrat.specs.View.{weight}
 use Rattle.memo.proofs.KeyLogLemmas.{spot_of_stored}
 use Rattle.packrat.specs.declared.frames.Frame.{Frame}
+use Rattle.packrat.specs.declared.onward.Begun.TheVariants as start
 use Rattle.packrat.specs.declared.onward.Onward.TheVariants as way
 use Rattle.packrat.specs.declared.machine.Turn.{Turn}
 use Rattle.packrat.specs.declared.machine.Turn.TheVariants.{Ask, Answer}
 use Rattle.packrat.specs.MachineSteps.{State, Works, held, start_at, store, step_stored, step_begin}
 use Rattle.packrat.specs.MachineSteps.{step_next, step_last}
 use Rattle.packrat.specs.MachineSteps.{steps_none, steps_more}
-use Rattle.packrat.specs.Onward.{IsWell, AfterNone, AfterOne}
+use Rattle.packrat.specs.Onward.{IsWell, ReachesEnd, AfterNone, AfterOne}
 use Rattle.packrat.specs.SpotSteps.{IsFirst, NextOf, next_first, next_second, SpotSteps}
-use Rattle.packrat.specs.Stands.{AreLevels, state_of, key_of, Stands, IsClosed}
+use Rattle.packrat.specs.Stands.{AreLevels, state_of, key_of, Stands, IsClosed, NeedsMore}
 use Rattle.packrat.proofs.BegunLemmas.{begun_at_places}
 use Rattle.packrat.proofs.MachineLemmas.{run_of_steps}
 
-module _ (g : Grammar) (x : List ℕ) (marks : Marks) where
+module _ (g : Grammar) (x : List ℕ) (more : Bool) (marks : Marks) where
   abbrev K : Spot → List Spot → Type 0
   K a ks = Kids (rules_of g.rules) (shapes_of g.nodes) g.bodies x a ks
 
   abbrev SG : Spot → Found → Type 0
-  SG a f = SpotGives g x a f
+  SG a f = SpotGives g x more a f
 
   abbrev F : Spot → Spot → Type 0
   F a k = IsFirst (rules_of g.rules) (shapes_of g.nodes) g.bodies x a k
 
   abbrev S : Spot → Turn → List Frame → List Stored → ℕ → Type 0
-  S root t ls st n = Stands g x marks root t ls st n
+  S root t ls st n = Stands g x more marks root t ls st n
 
   abbrev C : Spot → Found → List Stored → List Stored → Type 0
-  C a f old new = IsClosed g x marks a f old new
+  C a f old new = IsClosed g x more marks a f old new
 
   abbrev SS : Spot → State Spot → Type 0
   SS root s = SpotSteps (rules_of g.rules) (shapes_of g.nodes) g.bodies x (node_marks marks) (tail_marks marks)
       (start_at Spot root) s
 
   abbrev Key : Spot → Bool
-  Key a = key_of g x marks a
+  Key a = key_of marks a
 
   pub stands_first : (root : Spot) (st : List Stored) → IsWell g x root → st ≡ [] → S root (Ask root) [] st 0
   stands_first root st well none = subst (λ v. S root (Ask root) [] v 0) (sym none) (record {
@@ -105,7 +106,18 @@ module _ (g : Grammar) (x : List ℕ) (marks : Marks) where
           let same : weight a ≡ weight s.spot = subst (λ v. weight a ≡ weight v) spot_here refl in
           omega (arith, is, same)
 
-      pub stands_leaf : (f : Found) (new : List Stored) → AfterNone g x a (way.Gives f) → C a f st new
+      -- a spot whose own comparison reaches the end of the window
+      pub stands_need : ReachesEnd g x more a → NeedsMore g x more marks root
+      stands_need h = record {
+        spot = s.spot;
+        levels = record { at = s.spot; asked = [] } ∷ s.levels;
+        stored = spots_of st;
+        begun = s.begun;
+        steps = steps_begin;
+        reaches = subst (ReachesEnd g x more) spot_here h;
+      }
+
+      pub stands_leaf : (f : Found) (new : List Stored) → AfterNone g x more a (start.Gives f) → C a f st new
           → S root (Answer f) ls new (n + weight a)
       stands_leaf f new h c = record {
         levels = s.levels;
@@ -120,7 +132,7 @@ module _ (g : Grammar) (x : List ℕ) (marks : Marks) where
             (steps_more steps_begin (step_last (subst (λ v. K v []) spot_here h.0)));
       }
 
-      pub stands_down : (k : Spot) → AfterNone g x a (way.Leads k)
+      pub stands_down : (k : Spot) → AfterNone g x more a (start.Leads k)
           → S root (Ask k) (record { spot = a; second = false } ∷ ls) st (n + weight a)
       stands_down k h = record {
         levels = record { at = s.spot; asked = k ∷ [] } ∷ s.levels;
@@ -133,7 +145,7 @@ module _ (g : Grammar) (x : List ℕ) (marks : Marks) where
               (sym spot_here) refl,
           asked_well,
           (h.0, refl),
-          subst (AreLevels g x root ls s.levels) (sym spot_here) s.are,
+          subst (AreLevels g x more root ls s.levels) (sym spot_here) s.are,
         );
         turns = (refl, h.1);
         right = s.right;
@@ -167,7 +179,7 @@ module _ (g : Grammar) (x : List ℕ) (marks : Marks) where
       })))
           s.are.4.1 (at_levels false s)
 
-      pub stands_on : (k : Spot) → ((j : Spot) → F a j → SG j f → AfterOne g x a j (way.Leads k))
+      pub stands_on : (k : Spot) → ((j : Spot) → F a j → SG j f → AfterOne g x more a j (way.Leads k))
           → S root (Ask k) (record { spot = a; second = true } ∷ ls) st n
       stands_on k after =
           let h = after s.spot s.are.4.0 s.turns in
@@ -182,7 +194,8 @@ module _ (g : Grammar) (x : List ℕ) (marks : Marks) where
             steps = steps_more as_first (step_next (next_second h.0));
           }
 
-      pub stands_up : (e : Found) (new : List Stored) → ((j : Spot) → F a j → SG j f → AfterOne g x a j (way.Gives e))
+      pub stands_up : (e : Found) (new : List Stored) → ((j : Spot) → F a j → SG j f
+          → AfterOne g x more a j (way.Gives e))
           → C a e st new → S root (Answer e) ls new n
       stands_up e new after c =
           let h = after s.spot s.are.4.0 s.turns in
@@ -244,7 +257,7 @@ module _ (g : Grammar) (x : List ℕ) (marks : Marks) where
       first in_here = inl refl
       first (in_later i) = inr i
 
-      by : (s : Stored) → SG a f → AreRight g x old → (s ≡ record { spot = a; found = f }) ⊎ IsIn s old
+      by : (s : Stored) → SG a f → AreRight g x more old → (s ≡ record { spot = a; found = f }) ⊎ IsIn s old
           → SG s.spot s.found
       by s h r (inl is) = subst (λ v. SG v.spot v.found) (sym is) h
       by s h r (inr i) = r.right s i
@@ -269,11 +282,11 @@ module _ (g : Grammar) (x : List ℕ) (marks : Marks) where
       → S (Pair root 0) t ls st n → n ≤ most_begun g x
   stands_few root t ls st n sound at are s =
       let most = begun_at_places (rules_of g.rules) g.start (shapes_of g.nodes) g.bodies g.ranks x false sound root at
-      (node_marks marks) (tail_marks marks) are (state_of g x t s.spot s.levels (spots_of st) s.begun) s.steps in
+      (node_marks marks) (tail_marks marks) are (state_of t s.spot s.levels (spots_of st) s.begun) s.steps in
       let same : length (shapes_of g.nodes) ≡ length g.nodes = length-map g.nodes shape_of in
-      subst (λ v. n ≤ v * (length x + 1)) same (by t (state_of g x t s.spot s.levels (spots_of st) s.begun) refl most)
+      subst (λ v. n ≤ v * (length x + 1)) same (by t (state_of t s.spot s.levels (spots_of st) s.begun) refl most)
     where
-      by : (u : Turn) (w : State Spot) → w ≡ state_of g x u s.spot s.levels (spots_of st) s.begun
+      by : (u : Turn) (w : State Spot) → w ≡ state_of u s.spot s.levels (spots_of st) s.begun
           → total Spot K Key weight (held Spot w).begun ≤ length (shapes_of g.nodes) * (length x + 1)
           → n ≤ length (shapes_of g.nodes) * (length x + 1)
       by (Ask a) w is le =

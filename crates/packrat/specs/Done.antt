@@ -1,13 +1,20 @@
 -- What a match leaves behind.
-use Rattle.std.specs.Prelude.{◌≡◌, ℕ, Bool, List, [], length}
+use Rattle.std.specs.Prelude.{◌≡◌, ℕ, Bool, true, List, [], length, slice_get, Option, Some, None}
 use Rattle.pegread.specs.PegViews.{rules_of}
 use Rattle.gramcheck.specs.Grammar.{Grammar}
 use Rattle.gramcheck.specs.Nodes.{shapes_of}
+use Rattle.gramcheck.specs.Outcome.{Event, Outcome}
+use Rattle.cells.specs.declared.cell.Found.{Found}
+use Rattle.cells.specs.declared.cell.Found.TheVariants as found
+use Rattle.pegmatch.specs.Answers.{StartGives, WasEnough}
+use Rattle.pegmatch.specs.KeptEvents.{outcome_of}
+use Rattle.pegmatch.specs.declared.matcher.Unit.{Unit as UnitAnswer}
+use Rattle.pegmatch.specs.declared.matcher.Unit.TheVariants.{Took, Failed, Need}
 use Rattle.cells.specs.Entries.{Entry}
 use Rattle.memo.specs.KeyLog.{spots_of}
 use Rattle.memo.specs.declared.key_log.Stored.{Stored}
 use Rattle.packrat.specs.SpotGives.{node_marks, tail_marks, AreRight}
-use Rattle.packrat.specs.View.{AreImplied, AreAll}
+use Rattle.packrat.specs.View.{AreStored, AreImplied, AreAll}
 use Rattle.packrat.specs.declared.frames.Frame.{Frame}
 use Rattle.packrat.specs.declared.marks.Marks.{Marks}
 
@@ -20,13 +27,48 @@ pub record Contents : Type 0 where
 abbrev pub empty : Contents
 empty = record { stored = []; frames = []; begun = 0 }
 
--- The cells that the stored keys imply are exactly the pairs that are visited, each with its outcome and once, and as
--- many as were begun.
-pub record IsDone (g : Grammar) (x : List ℕ) (more : Bool) (marks : Marks) (h : Contents) : Type 0 where
-  pub frames : h.frames ≡ []
-  pub cells : List Entry
-  pub seen : AreImplied (rules_of g.rules) g.start (shapes_of g.nodes) g.bodies x more (node_marks marks)
-      (tail_marks marks) (spots_of h.stored) cells
-  pub right : AreRight g x h.stored
-  pub every : AreAll (rules_of g.rules) g.start (shapes_of g.nodes) g.bodies x more cells
-  pub count : h.begun ≡ length cells
+-- the answer for what was found
+abbrev pub unit_of : Found → ℕ → UnitAnswer
+unit_of found.Failed begun = Failed begun
+unit_of (found.Took end) begun = Took end begun
+
+-- likewise for what a match found, or that the window is too short
+abbrev pub unit_of_match : Option Found → ℕ → UnitAnswer
+unit_of_match None begun = Need
+unit_of_match (Some f) begun = unit_of f begun
+
+-- how many evaluations were begun, where that is told
+abbrev pub told : UnitAnswer → ℕ
+told (Took end begun) = begun
+told (Failed begun) = begun
+told Need = 0
+
+module _ (g : Grammar) (x : List ℕ) (more : Bool) where
+  -- Stored are exactly the keys that are reached, each once and with what it gives. The cells that they imply are
+  -- exactly
+  -- the pairs that are visited, each with its outcome and once, and as many as were begun.
+  pub record IsDone (marks : Marks) (c : Contents) : Type 0 where
+    pub frames : c.frames ≡ []
+    pub keys : (root : ℕ) → slice_get g.bodies g.start ≡ Some root →
+        AreStored (rules_of g.rules) g.start (shapes_of g.nodes) g.bodies x more (node_marks marks) (tail_marks marks)
+        root (spots_of c.stored)
+    pub right : AreRight g x more c.stored
+    pub cells : List Entry
+    pub seen : AreImplied (rules_of g.rules) g.start (shapes_of g.nodes) g.bodies x more (node_marks marks)
+        (tail_marks marks) (spots_of c.stored) cells
+    pub every : AreAll (rules_of g.rules) g.start (shapes_of g.nodes) g.bodies x more cells
+    pub count : c.begun ≡ length cells
+
+  -- the start rule's outcome, which did not look at the last byte of a window behind which there is more
+  pub record Answers (f : Found) : Type 0 where
+    pub events : List Event
+    pub looked : ℕ
+    pub gives : StartGives g x (outcome_of f events) looked
+    pub enough : WasEnough x more looked
+
+  -- what a match ends with: all is evaluated; or the start rule looks at the last byte of a window behind which there
+  -- is more
+  abbrev pub IsOutcome : Marks → Contents → UnitAnswer → Type 0
+  IsOutcome marks c (Took end begun) = IsDone marks c × Answers (found.Took end) × (begun ≡ c.begun)
+  IsOutcome marks c (Failed begun) = IsDone marks c × Answers found.Failed × (begun ≡ c.begun)
+  IsOutcome marks c Need = (more ≡ true) × ((o : Outcome) × StartGives g x o (length x))

@@ -7,6 +7,6 @@ pub mod SpotGives
 pub mod MachineSteps
 pub mod SpotSteps
 pub mod Onward
-pub mod Stands
 pub mod TurnsLeft
+pub mod Stands
 pub mod Done

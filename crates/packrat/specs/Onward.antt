@@ -1,10 +1,13 @@
 -- How a spot goes on, in code: what it gives at once, and what it asks for.
-use Rattle.std.specs.Prelude.{◌≡◌, ℕ, ◌<◌, ◌≤◌, List, [], ◌∷◌, length, slice_get, Some}
+use Rattle.std.specs.Prelude.{◌≡◌, ℕ, ◌<◌, ◌≤◌, List, [], ◌∷◌, length, slice_get, Some, Bool, true}
 use Rattle.pegread.specs.PegViews.{rules_of}
 use Rattle.gramcheck.specs.Grammar.{Grammar}
 use Rattle.gramcheck.specs.Nodes.{Shape, Any, Bytes, Set, Name, Seq, Choice, Star, Plus, Opt, And, Not, Act, Open}
 use Rattle.gramcheck.specs.Nodes.{Close, shapes_of}
 use Rattle.cells.specs.declared.cell.Found.{Found}
+use Rattle.desk.specs.Visits.{NodeGives}
+use Rattle.gramcheck.specs.Outcome.{Outcome}
+use Rattle.pegmatch.specs.declared.leaves.Tried.{Tried}
 use Rattle.pegmatch.specs.KeptEvents.{SpellsSome}
 use Rattle.memo.specs.declared.spot.Spot.{Spot}
 use Rattle.memo.specs.declared.spot.Spot.TheVariants.{Pair, Tail}
@@ -12,6 +15,8 @@ use Rattle.packrat.specs.SpotGives.{SpotGives}
 use Rattle.packrat.specs.Spots.{Kids}
 use Rattle.packrat.specs.declared.onward.Onward.{Onward}
 use Rattle.packrat.specs.declared.onward.Onward.TheVariants.{Gives, Leads}
+use Rattle.packrat.specs.declared.onward.Begun.{Begun}
+use Rattle.packrat.specs.declared.onward.Begun.TheVariants as begun
 use Rattle.packrat.specs.SpotSteps.{IsFirst}
 
 abbrev pub HasMember : Shape → ℕ → Type 0
@@ -37,12 +42,26 @@ module _ (g : Grammar) (x : List ℕ) where
   IsWell (Tail n i p) = SpellsSome (rules_of g.rules) (shapes_of g.nodes) n × (p ≤ length x)
       × ((shape : Shape) × (slice_get (shapes_of g.nodes) n ≡ Some shape) × HasMember shape i)
 
-  abbrev pub AfterNone : Spot → Onward → Type 0
-  AfterNone a (Gives f) = Kids (rules_of g.rules) (shapes_of g.nodes) g.bodies x a [] × SpotGives g x a f
-  AfterNone a (Leads k) = IsFirst (rules_of g.rules) (shapes_of g.nodes) g.bodies x a k × IsWell k
+  -- the node's own comparison reaches the last byte of a window behind which there is more
+  abbrev pub ReachesEnd : Bool → Spot → Type 0
+  ReachesEnd more (Pair n p) = (more ≡ true) × ((o : Outcome)
+      × NodeGives (rules_of g.rules) (shapes_of g.nodes) g.bodies x n p o (length x))
+  ReachesEnd more (Tail n i p) = ⊥
 
-  -- behind its first kid j
-  abbrev pub AfterOne : Spot → Spot → Onward → Type 0
-  AfterOne a j (Gives f) = Kids (rules_of g.rules) (shapes_of g.nodes) g.bodies x a (j ∷ []) × SpotGives g x a f
-  AfterOne a j (Leads k) = Kids (rules_of g.rules) (shapes_of g.nodes) g.bodies x a (j ∷ (k ∷ []))
-      × ((f : Found) → SpotGives g x k f → SpotGives g x a f) × IsWell k
+  module _ (more : Bool) where
+    abbrev pub AfterNone : Spot → Begun → Type 0
+    AfterNone a (begun.Gives f) = Kids (rules_of g.rules) (shapes_of g.nodes) g.bodies x a [] × SpotGives g x more a f
+    AfterNone a (begun.Leads k) = IsFirst (rules_of g.rules) (shapes_of g.nodes) g.bodies x a k × IsWell k
+    AfterNone a begun.Need = ReachesEnd more a
+
+    -- behind its first kid j
+    abbrev pub AfterOne : Spot → Spot → Onward → Type 0
+    AfterOne a j (Gives f) = Kids (rules_of g.rules) (shapes_of g.nodes) g.bodies x a (j ∷ []) × SpotGives g x more a f
+    AfterOne a j (Leads k) = Kids (rules_of g.rules) (shapes_of g.nodes) g.bodies x a (j ∷ (k ∷ []))
+        × ((f : Found) → SpotGives g x more k f → SpotGives g x more a f) × IsWell k
+
+-- what a comparison tells: what was found, unless it reached the last byte of a window behind which there is more
+abbrev pub IsLeaf : Tried → ℕ → Bool → Begun → Type 0
+IsLeaf tried n more (begun.Gives f) = (f ≡ tried.found) × (more ≡ true → tried.looked ≡ n → ⊥)
+IsLeaf tried n more (begun.Leads k) = ⊥
+IsLeaf tried n more begun.Need = (more ≡ true) × (tried.looked ≡ n)

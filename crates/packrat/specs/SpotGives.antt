@@ -7,6 +7,7 @@ use Rattle.gramcheck.specs.Nodes.{Close, shapes_of}
 use Rattle.gramcheck.specs.Outcome.{Event}
 use Rattle.cells.specs.declared.cell.Found.{Found}
 use Rattle.cells.specs.declared.cell.Found.TheVariants.{Failed, Took}
+use Rattle.pegmatch.specs.Answers.{WasEnough}
 use Rattle.pegmatch.specs.KeptEvents.{outcome_of}
 use Rattle.desk.specs.Visits.{NodeGives, NodeTakes, NodeFails}
 use Rattle.memo.specs.declared.key_log.Stored.{Stored}
@@ -22,24 +23,30 @@ node_marks marks n = get_or marks.nodes.items n true
 abbrev pub tail_marks : Marks → ℕ → ℕ → Bool
 tail_marks marks n i = get_or marks.tails.items n true
 
-module _ (g : Grammar) (x : List ℕ) where
+module _ (g : Grammar) (x : List ℕ) (more : Bool) where
+  -- node m takes what is between p and q, and the window is long enough for that
+  pub record TakesWithin (m p q : ℕ) : Type 0 where
+    pub takes : NodeTakes (rules_of g.rules) (shapes_of g.nodes) g.bodies x m p q
+    pub enough : WasEnough x more takes.looked
+
+  -- node m fails at p, likewise
+  pub record FailsWithin (m p : ℕ) : Type 0 where
+    pub fails : NodeFails (rules_of g.rules) (shapes_of g.nodes) g.bodies x m p
+    pub enough : WasEnough x more fails.looked
+
   -- the members in order, each from the place of the one before
   pub data MembersGive : List ℕ → ℕ → Found → Type 0 where
     members_none : {p : ℕ} → MembersGive [] p (Took p)
-    members_fail : {m p : ℕ} {ms : List ℕ} → NodeFails (rules_of g.rules) (shapes_of g.nodes) g.bodies x m p
-        → MembersGive (m ∷ ms) p Failed
+    members_fail : {m p : ℕ} {ms : List ℕ} → FailsWithin m p → MembersGive (m ∷ ms) p Failed
     members_take : {m p q : ℕ} {ms : List ℕ} {f : Found}
-        → NodeTakes (rules_of g.rules) (shapes_of g.nodes) g.bodies x m p q
-        → MembersGive ms q f → MembersGive (m ∷ ms) p f
+        → TakesWithin m p q → MembersGive ms q f → MembersGive (m ∷ ms) p f
 
   -- the first alternative that succeeds
   pub data AlternativesGive (p : ℕ) : List ℕ → Found → Type 0 where
     alternatives_none : AlternativesGive p [] Failed
-    alternatives_take : {m q : ℕ} {ms : List ℕ} → NodeTakes (rules_of g.rules) (shapes_of g.nodes) g.bodies x m p q
-        → AlternativesGive p (m ∷ ms) (Took q)
+    alternatives_take : {m q : ℕ} {ms : List ℕ} → TakesWithin m p q → AlternativesGive p (m ∷ ms) (Took q)
     alternatives_fail : {m : ℕ} {ms : List ℕ} {f : Found}
-        → NodeFails (rules_of g.rules) (shapes_of g.nodes) g.bodies x m p
-        → AlternativesGive p ms f → AlternativesGive p (m ∷ ms) f
+        → FailsWithin m p → AlternativesGive p ms f → AlternativesGive p (m ∷ ms) f
 
   abbrev pub TailGives : Shape → ℕ → ℕ → Found → Type 0
   TailGives Any i p f = ⊥
@@ -57,10 +64,11 @@ module _ (g : Grammar) (x : List ℕ) where
   TailGives Open i p f = ⊥
   TailGives Close i p f = ⊥
 
-  -- what a spot gives: a node its outcome, and a rest that of the members that it has
+  -- what a spot gives, where the window is long enough for that: a node its outcome, and a tail that of its members
   abbrev pub SpotGives : Spot → Found → Type 0
   SpotGives (Pair n p) f = (events : List Event) × (looked : ℕ)
       × NodeGives (rules_of g.rules) (shapes_of g.nodes) g.bodies x n p (outcome_of f events) looked
+      × WasEnough x more looked
   SpotGives (Tail n i p) f = (shape : Shape) × (slice_get (shapes_of g.nodes) n ≡ Some shape) × TailGives shape i p f
 
   -- each stored key has what it gives

@@ -1,24 +1,21 @@
 //! The machine: it evaluates by a loop over frames in place of recursion, and stores the keys alone.
 ghost use Rattle.std.specs.Prelude.{◌≡◌, ℕ, ◌+◌, ◌*◌, ◌<◌, ◌≤◌, Bool, true, List, [], ◌∷◌, length, slice_get, Some};
 ghost use Rattle.std.specs.Prelude.{IfOk, OnOk};
-ghost use Rattle.pegread.specs.PegViews.{rules_of};
 ghost use Rattle.gramcheck.specs.Grammar.{IsSoundGrammar};
 ghost use Rattle.gramcheck.specs.Nodes.{shapes_of};
-ghost use Rattle.memo.specs.KeyLog.{spots_of};
-ghost use Rattle.memo.specs.Run.{Run};
+ghost use Rattle.pegmatch.specs.Answers.{WasEnough};
 ghost use Rattle.memo.specs.declared.spot.Spot.{Spot};
 ghost use Rattle.packrat.specs.TurnsLeft.{left, most_begun};
 ghost use Rattle.packrat.specs.KeyMarks.{AreMarks};
 ghost use Rattle.packrat.specs.Onward.{IsWell};
-ghost use Rattle.packrat.specs.SpotGives.{SpotGives, AreRight, node_marks, tail_marks};
-ghost use Rattle.packrat.specs.Spots.{Kids};
-ghost use Rattle.packrat.specs.Stands.{Stands, IsClosed, key_of};
+ghost use Rattle.packrat.specs.SpotGives.{node_marks, tail_marks};
+ghost use Rattle.packrat.specs.Stands.{Stands, IsClosed, AreOn, IsEvaluated, LowersLeft};
 ghost use Rattle.packrat.specs.View.{weight};
 ghost use Rattle.packrat.specs.declared.machine.Turn.{Turn};
 
 use crate::frames::{Frame, Frames};
 use crate::marks::Marks;
-use crate::onward::{Onward, begin, go_on};
+use crate::onward::{Begun, Onward, begin, go_on};
 use cells::Found;
 use gramcheck::SoundPeg;
 use memo::{KeyLog, Spot};
@@ -67,8 +64,8 @@ impl Machine {
         requires well { IsWell peg.now window.now spot }
         requires rows { self.old.log.rows ≡ length peg.now.nodes }
         ensures rows { OnOk result (self.new.log.rows ≡ length peg.now.nodes) }
-        ensures closed { OnOk result (IsClosed peg.now window.now marks.now spot found self.old.log.stored
-            self.new.log.stored) }
+        ensures closed { OnOk result ((more : Bool) → IsClosed peg.now window.now more marks.now spot found
+            self.old.log.stored self.new.log.stored) }
         ensures frames { self.new.frames ≡ self.old.frames }
         ensures begun { self.new.begun ≡ self.old.begun }
     {
@@ -78,45 +75,48 @@ impl Machine {
         Ok(())
     }
 
-    // Evaluates a spot, or begins it and goes down.
+    // Evaluates a spot, or begins it and goes down; none where the window is too short.
     fn ask(
         &mut self,
         peg: &SoundPeg,
         window: &[u8],
+        more: bool,
         marks: &Marks,
         spot: Spot,
-    ) -> Result<Turn, Memory>
+    ) -> Result<Option<Turn>, Memory>
+        requires some { WasEnough window.now more 0 }
         requires sound { IsSoundGrammar peg.now }
         requires well { IsWell peg.now window.now spot }
         requires rows { self.old.log.rows ≡ length peg.now.nodes }
         requires few { self.old.begun ≤ most_begun peg.now window.now }
         ensures rows { OnOk result (self.new.log.rows ≡ length peg.now.nodes) }
-        ensures stands { (root : Spot) → Stands peg.now window.now marks.now root (Turn.Ask spot) self.old.frames
-            self.old.log.stored self.old.begun → IfOk result (λ turn. Stands peg.now window.now marks.now root turn
+        ensures stands { (root : Spot) → Stands peg.now window.now more marks.now root (Turn.Ask spot) self.old.frames
+            self.old.log.stored self.old.begun → IfOk result (λ turn. AreOn peg.now window.now more marks.now root turn
             self.new.frames self.new.log.stored self.new.begun) }
         ensures less { self.new.begun ≤ most_begun peg.now window.now → IfOk result (λ turn.
-            left peg.now window.now turn self.new.frames self.new.begun
-            < left peg.now window.now (Turn.Ask spot) self.old.frames self.old.begun) }
+            LowersLeft peg.now window.now turn self.new.frames self.new.begun
+            (left peg.now window.now (Turn.Ask spot) self.old.frames self.old.begun)) }
     {
         if marks.is_key(spot) {
             match self.log.get(spot) {
-                Some(found) => return Ok(Turn::Answer(found)),
+                Some(found) => return Ok(Some(Turn::Answer(found))),
                 None => {}
             }
         }
         self.begun = counted(peg.nodes(), window.len(), self.begun, spot);
-        match begin(peg, window, spot) {
-            Onward::Gives(found) => {
+        match begin(peg, window, more, spot) {
+            Begun::Gives(found) => {
                 self.close(peg, window, marks, spot, found)?;
-                Ok(Turn::Answer(found))
+                Ok(Some(Turn::Answer(found)))
             }
-            Onward::Leads(kid) => {
+            Begun::Leads(kid) => {
                 self.frames.push(Frame {
                     spot,
                     second: false,
                 })?;
-                Ok(Turn::Ask(kid))
+                Ok(Some(Turn::Ask(kid)))
             }
+            Begun::Need => Ok(None),
         }
     }
 
@@ -133,10 +133,12 @@ impl Machine {
         requires well { IsWell peg.now window.now frame.spot }
         requires rows { self.old.log.rows ≡ length peg.now.nodes }
         ensures rows { OnOk result (self.new.log.rows ≡ length peg.now.nodes) }
-        ensures stands { (root : Spot) → Stands peg.now window.now marks.now root (Turn.Answer found)
-            (frame ∷ self.old.frames) self.old.log.stored self.old.begun → IfOk result (λ turn.
-            Stands peg.now window.now marks.now root turn self.new.frames self.new.log.stored self.new.begun) }
-        ensures less { (root : Spot) → Stands peg.now window.now marks.now root (Turn.Answer found)
+        ensures stands { (more : Bool) → WasEnough window.now more 0 → (root : Spot) →
+            Stands peg.now window.now more marks.now root (Turn.Answer found) (frame ∷ self.old.frames)
+            self.old.log.stored self.old.begun → IfOk result (λ turn. Stands peg.now window.now more marks.now root turn
+            self.new.frames self.new.log.stored self.new.begun) }
+        ensures less { (more : Bool) → WasEnough window.now more 0 → (root : Spot) →
+            Stands peg.now window.now more marks.now root (Turn.Answer found)
             (frame ∷ self.old.frames) self.old.log.stored self.old.begun → IfOk result (λ turn.
             left peg.now window.now turn self.new.frames self.new.begun
             < left peg.now window.now (Turn.Answer found) (frame ∷ self.old.frames) self.old.begun) }
@@ -161,7 +163,7 @@ impl Machine {
     }
 
     /// Evaluates the start rule's body at the front of the window, where nothing is stored: it stores keys and counts
-    /// pairs as `Run` states it.
+    /// pairs as `Run` states it. None where the window is too short.
     ///
     /// # Errors
     /// `Memory` where a growth was refused.
@@ -169,21 +171,19 @@ impl Machine {
         &mut self,
         peg: &SoundPeg,
         window: &[u8],
+        more: bool,
         marks: &Marks,
         root: usize,
-    ) -> Result<Found, Memory>
+    ) -> Result<Option<Found>, Memory>
+        requires some { WasEnough window.now more 0 }
         requires sound { IsSoundGrammar peg.now }
         requires root { slice_get peg.now.bodies peg.now.start ≡ Some root }
         requires marks { AreMarks peg.now.start (shapes_of peg.now.nodes) peg.now.bodies (node_marks marks.now)
             (tail_marks marks.now) }
         requires rows { self.old.log.rows ≡ length peg.now.nodes }
         requires empty { self.old.log.stored ≡ [] }
-        ensures right { OnOk result (AreRight peg.now window.now self.new.log.stored) }
-        ensures gives { IfOk result (λ found. SpotGives peg.now window.now (Spot.Pair root 0) found) }
-        ensures runs { OnOk result (Run Spot (Kids (rules_of peg.now.rules) (shapes_of peg.now.nodes) peg.now.bodies
-            window.now) (key_of peg.now window.now marks.now) weight [] (Spot.Pair root 0)
-            (spots_of self.new.log.stored) self.new.begun) }
-        ensures frames { OnOk result (self.new.frames ≡ []) }
+        ensures { IfOk result (λ found. IsEvaluated peg.now window.now more marks.now (Spot.Pair root 0) found
+            self.new.frames self.new.log.stored self.new.begun) }
     {
         self.begun = 0;
         self.frames.clear();
@@ -193,9 +193,12 @@ impl Machine {
         });
         'turns: loop {
             match turn {
-                Turn::Ask(spot) => turn = self.ask(peg, window, marks, spot)?,
+                Turn::Ask(spot) => match self.ask(peg, window, more, marks, spot)? {
+                    Some(next) => turn = next,
+                    None => return Ok(None),
+                },
                 Turn::Answer(found) => match self.frames.pop() {
-                    None => return Ok(found),
+                    None => return Ok(Some(found)),
                     Some(frame) => turn = self.resume(peg, window, marks, frame, found)?,
                 },
             }

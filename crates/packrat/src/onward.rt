@@ -1,44 +1,67 @@
 //! How a spot goes on: what it gives at once, and what it asks for.
-ghost use Rattle.std.specs.Prelude.{◌≡◌, ℕ, ◌<◌, ◌≤◌, List, length};
+ghost use Rattle.std.specs.Prelude.{◌≡◌, ℕ, ◌<◌, ◌≤◌, Bool, List, length};
 ghost use Rattle.pegread.specs.PegViews.{rules_of};
 ghost use Rattle.gramcheck.specs.Grammar.{IsSoundGrammar};
 ghost use Rattle.gramcheck.specs.Nodes.{shapes_of};
+ghost use Rattle.pegmatch.specs.Answers.{WasEnough};
 ghost use Rattle.memo.specs.declared.spot.Spot.{Spot};
-ghost use Rattle.packrat.specs.Onward.{IsWell, AfterNone, AfterOne};
+ghost use Rattle.packrat.specs.Onward.{IsWell, AfterNone, AfterOne, IsLeaf};
 ghost use Rattle.packrat.specs.SpotGives.{SpotGives};
 ghost use Rattle.packrat.specs.SpotSteps.{IsFirst};
 
 use cells::Found;
 use gramcheck::{Node, SoundPeg};
 use memo::Spot;
-use pegmatch::{match_any, match_bytes, match_set};
+use pegmatch::{Tried, match_any, match_bytes, match_set};
 
-/// A spot gives something, or leads to another spot.
+/// How a spot begins: it gives something, or leads to another spot; or its comparison reaches the last byte of a window
+/// behind which there is more.
+#[derive(Clone, Copy, PartialEq, Eq, Debug)]
+pub(crate) enum Begun {
+    Gives(Found),
+    Leads(Spot),
+    Need,
+}
+
+/// How a spot goes on: it gives something, or leads to another spot.
 #[derive(Clone, Copy, PartialEq, Eq, Debug)]
 pub(crate) enum Onward {
     Gives(Found),
     Leads(Spot),
 }
 
+// Returns what was tried, if its comparison does not reach the last byte of a window behind which there is more.
+fn leaf(tried: Tried, length: usize, more: bool) -> Begun
+    ensures { IsLeaf tried length more result }
+{
+    if more {
+        if tried.looked == length {
+            return Begun::Need;
+        }
+    }
+    Begun::Gives(tried.found)
+}
+
 // How a node begins at a place.
-fn begin_node(peg: &SoundPeg, window: &[u8], node: usize, place: usize) -> Onward
+fn begin_node(peg: &SoundPeg, window: &[u8], more: bool, node: usize, place: usize) -> Begun
+    requires some { WasEnough window.now more 0 }
     requires sound { IsSoundGrammar peg.now }
     requires well { IsWell peg.now window.now (Spot.Pair node place) }
-    ensures { AfterNone peg.now window.now (Spot.Pair node place) result }
+    ensures { AfterNone peg.now window.now more (Spot.Pair node place) result }
 {
     match peg.node(node) {
-        Node::Any => Onward::Gives(match_any(window, place).found),
-        Node::Bytes(bytes) => Onward::Gives(match_bytes(bytes, window, place).found),
-        Node::Set(set) => Onward::Gives(match_set(set, window, place).found),
-        Node::Name(id) => Onward::Leads(Spot::Pair {
+        Node::Any => leaf(match_any(window, place), window.len(), more),
+        Node::Bytes(bytes) => leaf(match_bytes(bytes, window, place), window.len(), more),
+        Node::Set(set) => leaf(match_set(set, window, place), window.len(), more),
+        Node::Name(id) => Begun::Leads(Spot::Pair {
             node: peg.body_node(*id),
             place,
         }),
         Node::Seq(members) => {
             if members.is_empty() {
-                Onward::Gives(Found::Took(place))
+                Begun::Gives(Found::Took(place))
             } else {
-                Onward::Leads(Spot::Tail {
+                Begun::Leads(Spot::Tail {
                     node,
                     index: 0,
                     place,
@@ -47,69 +70,78 @@ fn begin_node(peg: &SoundPeg, window: &[u8], node: usize, place: usize) -> Onwar
         }
         Node::Choice(alternatives) => {
             if alternatives.is_empty() {
-                Onward::Gives(Found::Failed)
+                Begun::Gives(Found::Failed)
             } else {
-                Onward::Leads(Spot::Tail {
+                Begun::Leads(Spot::Tail {
                     node,
                     index: 0,
                     place,
                 })
             }
         }
-        Node::Star(operand) => Onward::Leads(Spot::Pair {
+        Node::Star(operand) => Begun::Leads(Spot::Pair {
             node: *operand,
             place,
         }),
-        Node::Not(operand) => Onward::Leads(Spot::Pair {
+        Node::Not(operand) => Begun::Leads(Spot::Pair {
             node: *operand,
             place,
         }),
-        Node::Plus { operand, star: _ } => Onward::Leads(Spot::Pair {
+        Node::Plus { operand, star: _ } => Begun::Leads(Spot::Pair {
             node: *operand,
             place,
         }),
-        Node::Opt(operand) => Onward::Leads(Spot::Pair {
+        Node::Opt(operand) => Begun::Leads(Spot::Pair {
             node: *operand,
             place,
         }),
-        Node::And(operand) => Onward::Leads(Spot::Pair {
+        Node::And(operand) => Begun::Leads(Spot::Pair {
             node: *operand,
             place,
         }),
-        Node::Act(_) => Onward::Gives(Found::Took(place)),
-        Node::Open => Onward::Gives(Found::Took(place)),
-        Node::Close => Onward::Gives(Found::Took(place)),
+        Node::Act(_) => Begun::Gives(Found::Took(place)),
+        Node::Open => Begun::Gives(Found::Took(place)),
+        Node::Close => Begun::Gives(Found::Took(place)),
     }
 }
 
 // How the tail of a node, from the member of that index on, begins at a place.
-fn begin_tail(peg: &SoundPeg, window: &[u8], node: usize, index: usize, place: usize) -> Onward
+fn begin_tail(
+    peg: &SoundPeg,
+    window: &[u8],
+    more: bool,
+    node: usize,
+    index: usize,
+    place: usize,
+) -> Begun
+    requires some { WasEnough window.now more 0 }
     requires sound { IsSoundGrammar peg.now }
     requires well { IsWell peg.now window.now (Spot.Tail node index place) }
-    ensures { AfterNone peg.now window.now (Spot.Tail node index place) result }
+    ensures { AfterNone peg.now window.now more (Spot.Tail node index place) result }
 {
     match peg.node(node) {
-        Node::Seq(members) => Onward::Leads(Spot::Pair {
+        Node::Seq(members) => Begun::Leads(Spot::Pair {
             node: members[index],
             place,
         }),
-        Node::Choice(alternatives) => Onward::Leads(Spot::Pair {
+        Node::Choice(alternatives) => Begun::Leads(Spot::Pair {
             node: alternatives[index],
             place,
         }),
-        _ => Onward::Gives(Found::Failed),
+        _ => Begun::Gives(Found::Failed),
     }
 }
 
 /// Returns how a spot begins: what it gives at once, or what it asks for first.
-pub(crate) fn begin(peg: &SoundPeg, window: &[u8], spot: Spot) -> Onward
+pub(crate) fn begin(peg: &SoundPeg, window: &[u8], more: bool, spot: Spot) -> Begun
+    requires some { WasEnough window.now more 0 }
     requires sound { IsSoundGrammar peg.now }
     requires well { IsWell peg.now window.now spot }
-    ensures { AfterNone peg.now window.now spot result }
+    ensures { AfterNone peg.now window.now more spot result }
 {
     match spot {
-        Spot::Pair { node, place } => begin_node(peg, window, node, place),
-        Spot::Tail { node, index, place } => begin_tail(peg, window, node, index, place),
+        Spot::Pair { node, place } => begin_node(peg, window, more, node, place),
+        Spot::Tail { node, index, place } => begin_tail(peg, window, more, node, index, place),
     }
 }
 
@@ -117,9 +149,10 @@ pub(crate) fn begin(peg: &SoundPeg, window: &[u8], spot: Spot) -> Onward
 fn go_on_node(peg: &SoundPeg, window: &[u8], node: usize, place: usize, found: Found) -> Onward
     requires sound { IsSoundGrammar peg.now }
     requires well { IsWell peg.now window.now (Spot.Pair node place) }
-    ensures { (j : Spot) → IsFirst (rules_of peg.now.rules) (shapes_of peg.now.nodes) peg.now.bodies window.now
-        (Spot.Pair node place) j → SpotGives peg.now window.now j found →
-        AfterOne peg.now window.now (Spot.Pair node place) j result }
+    ensures { (more : Bool) → WasEnough window.now more 0 → (j : Spot) →
+        IsFirst (rules_of peg.now.rules) (shapes_of peg.now.nodes) peg.now.bodies window.now
+        (Spot.Pair node place) j → SpotGives peg.now window.now more j found →
+        AfterOne peg.now window.now more (Spot.Pair node place) j result }
 {
     match peg.node(node) {
         Node::Star(_) => match found {
@@ -168,9 +201,10 @@ fn go_on_tail(
 ) -> Onward
     requires sound { IsSoundGrammar peg.now }
     requires well { IsWell peg.now window.now (Spot.Tail node index place) }
-    ensures { (j : Spot) → IsFirst (rules_of peg.now.rules) (shapes_of peg.now.nodes) peg.now.bodies window.now
-        (Spot.Tail node index place) j → SpotGives peg.now window.now j found →
-        AfterOne peg.now window.now (Spot.Tail node index place) j result }
+    ensures { (more : Bool) → WasEnough window.now more 0 → (j : Spot) →
+        IsFirst (rules_of peg.now.rules) (shapes_of peg.now.nodes) peg.now.bodies window.now
+        (Spot.Tail node index place) j → SpotGives peg.now window.now more j found →
+        AfterOne peg.now window.now more (Spot.Tail node index place) j result }
 {
     match peg.node(node) {
         Node::Seq(members) => match found {
@@ -209,8 +243,9 @@ fn go_on_tail(
 pub(crate) fn go_on(peg: &SoundPeg, window: &[u8], spot: Spot, found: Found) -> Onward
     requires sound { IsSoundGrammar peg.now }
     requires well { IsWell peg.now window.now spot }
-    ensures { (j : Spot) → IsFirst (rules_of peg.now.rules) (shapes_of peg.now.nodes) peg.now.bodies window.now spot j →
-        SpotGives peg.now window.now j found → AfterOne peg.now window.now spot j result }
+    ensures { (more : Bool) → WasEnough window.now more 0 → (j : Spot) →
+        IsFirst (rules_of peg.now.rules) (shapes_of peg.now.nodes) peg.now.bodies window.now spot j →
+        SpotGives peg.now window.now more j found → AfterOne peg.now window.now more spot j result }
 {
     match spot {
         Spot::Pair { node, place } => go_on_node(peg, window, node, place, found),

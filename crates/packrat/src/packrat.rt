@@ -1,15 +1,11 @@
 //! The packrat matcher.
-ghost use Rattle.std.specs.Prelude.{◌≡◌, ℕ, ◌+◌, ◌*◌, ◌≤◌, List, [], length, false, slice_get, Some, IfOk, OnOk, OnErr};
-ghost use Rattle.pegread.specs.PegViews.{rules_of};
+ghost use Rattle.std.specs.Prelude.{◌≡◌, ℕ, ◌+◌, ◌*◌, ◌<◌, ◌≤◌, true, length, IfOk, OnErr};
 ghost use Rattle.gramcheck.specs.Nodes.{shapes_of};
-ghost use Rattle.gramcheck.specs.Outcome.{Event, Outcome};
+ghost use Rattle.gramcheck.specs.Outcome.{Outcome};
 ghost use Rattle.pegmatch.specs.Answers.{StartGives};
-ghost use Rattle.pegmatch.specs.KeptEvents.{outcome_of};
-ghost use Rattle.memo.specs.KeyLog.{spots_of};
-ghost use Rattle.packrat.specs.Done.{empty, IsDone};
+ghost use Rattle.packrat.specs.Done.{empty, IsOutcome, told, unit_of, unit_of_match};
 ghost use Rattle.packrat.specs.KeyMarks.{AreMarks};
 ghost use Rattle.packrat.specs.SpotGives.{node_marks, tail_marks};
-ghost use Rattle.packrat.specs.View.{AreStored};
 
 use crate::frames::Frames;
 use crate::machine::Machine;
@@ -17,6 +13,7 @@ use crate::marks::Marks;
 use cells::Found;
 use gramcheck::SoundPeg;
 use memo::KeyLog;
+use pegmatch::Unit;
 use ruletable::Memory;
 use std::alloc::Global;
 use std::marker::Model;
@@ -42,6 +39,25 @@ impl Model for Packrat {
       frames = m.machine.frames;
       begun = m.machine.begun;
     } };
+}
+
+fn ended(found: Found, begun: u128) -> Unit
+    ensures { result ≡ unit_of found begun }
+{
+    match found {
+        Found::Failed => Unit::Failed { begun },
+        Found::Took(end) => Unit::Took { end, begun },
+    }
+}
+
+// Returns the answer for what a match found; `Need` where the window was too short.
+fn matched_unit(found: Option<Found>, begun: u128) -> Unit
+    ensures { result ≡ unit_of_match found begun }
+{
+    match found {
+        Some(found) => ended(found, begun),
+        None => Unit::Need,
+    }
 }
 
 impl Packrat {
@@ -81,9 +97,14 @@ impl Packrat {
         self.machine.begun = 0;
     }
 
-    /// Evaluates the start rule's body at the front of a window that is the whole rest of the input. Then exactly the
-    /// keys that are reached are stored, each once; the cells that they imply are exactly the pairs that are visited,
-    /// each with its outcome and once; and each of them was begun once.
+    /// Returns what the start rule gives at the front of the window (Ford 2004, section 3.3). If it is not `Need`,
+    /// exactly
+    /// the keys that are reached are stored, each once and with its outcome; the cells that they imply are exactly the
+    /// pairs that are visited, each with its outcome and once; and as many were begun.
+    ///
+    /// Without `more` the window is the whole rest of the input, and the answer is never `Need`. With `more` the window
+    /// isn't empty, and `Need` says that its last byte was compared; any other answer holds for every rest that begins
+    /// with the window.
     ///
     /// # Errors
     /// `Memory` where a growth was refused; nothing is stored.
@@ -91,18 +112,15 @@ impl Packrat {
         &mut self,
         peg: &SoundPeg,
         window: &[u8],
+        more: bool,
         marks: &Marks,
-    ) -> Result<Found, Memory>
-        requires { AreMarks peg.now.start (shapes_of peg.now.nodes) peg.now.bodies (node_marks marks.now)
+    ) -> Result<Unit, Memory>
+        requires some { more ≡ true → 0 < length window.now }
+        requires marks { AreMarks peg.now.start (shapes_of peg.now.nodes) peg.now.bodies (node_marks marks.now)
             (tail_marks marks.now) }
-        ensures answer { IfOk result (λ found. (events : List Event) × (looked : ℕ)
-            × StartGives peg.now window.now (outcome_of found events) looked) }
-        ensures stored { OnOk result ((root : ℕ) → slice_get peg.now.bodies peg.now.start ≡ Some root →
-            AreStored (rules_of peg.now.rules) peg.now.start (shapes_of peg.now.nodes) peg.now.bodies window.now false
-            (node_marks marks.now) (tail_marks marks.now) root (spots_of self.new.stored)) }
-        ensures done { OnOk result (IsDone peg.now window.now false marks.now self.new) }
-        ensures bounded { OnOk result ((o : Outcome) (k : ℕ) → StartGives peg.now window.now o k →
-            self.new.begun ≤ length peg.now.nodes * (k + 1)) }
+        ensures outcome { IfOk result (IsOutcome peg.now window.now more marks.now self.new) }
+        ensures bounded { IfOk result (λ unit. (o : Outcome) (k : ℕ) → StartGives peg.now window.now o k →
+            told unit ≤ length peg.now.nodes * (k + 1)) }
         ensures empty { OnErr result (self.new ≡ empty) }
     {
         let root = peg.body_node(peg.start());
@@ -110,10 +128,13 @@ impl Packrat {
             self.reset();
             return Err(Memory);
         }
-        let matched = self.machine.evaluate(peg, window, marks, root);
-        if matched.is_err() {
-            self.reset();
+        let matched = self.machine.evaluate(peg, window, more, marks, root);
+        match matched {
+            Ok(found) => Ok(matched_unit(found, self.machine.begun)),
+            Err(fault) => {
+                self.reset();
+                Err(fault)
+            }
         }
-        matched
     }
 }

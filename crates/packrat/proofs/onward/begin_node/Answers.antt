@@ -13,33 +13,24 @@ use Rattle.packrat.proofs.onward.begin_node.Goals as goal
 pub returns-in-Any : goal.returns-in-Any
 returns-in-Any c =
     let here = shape_at c.args.peg.now.nodes c.args.node _ (c.node.ensures ∙ ap Some c.in-Any.is) in
-    let well = c.requires.well in
-    ((
-      (shape.Any, here, refl),
-      L.leaf_spot c.args.peg.now c.args.window.now c.requires.sound c.args.node c.args.place
-          c.match_any.result.found c.match_any.result.looked _ (spells_any here) (c.match_any.ensures.value _),
-    ))
+    M.leaf_after c.args.peg.now c.args.window.now c.args.more c.requires.some c.requires.sound c.args.node c.args.place
+    c.match_any.result c.leaf.result _ (shape.Any, here, refl) (spells_any here) (c.match_any.ensures.value _)
+    c.match_any.ensures.looked c.leaf.ensures
 
 pub returns-in-Bytes : goal.returns-in-Bytes
 returns-in-Bytes c =
     let here = shape_at c.args.peg.now.nodes c.args.node _ (c.node.ensures ∙ ap Some c.in-Bytes.is) in
-    let well = c.requires.well in
-    ((
-      (shape.Bytes _, here, refl),
-      L.leaf_spot c.args.peg.now c.args.window.now c.requires.sound c.args.node
-          c.args.place c.match_bytes.result.found c.match_bytes.result.looked _ (spells_bytes here) (rw
-          c.deref.ensures.value at (c.match_bytes.ensures.value (rules_of c.args.peg.now.rules))),
-    ))
+    M.leaf_after c.args.peg.now c.args.window.now c.args.more c.requires.some c.requires.sound c.args.node c.args.place
+    c.match_bytes.result c.leaf-in-Bytes.result _ (shape.Bytes _, here, refl) (spells_bytes here) (rw
+    c.deref.ensures.value at (c.match_bytes.ensures.value (rules_of c.args.peg.now.rules)))
+    c.match_bytes.ensures.looked c.leaf-in-Bytes.ensures
 
 pub returns-in-Set : goal.returns-in-Set
 returns-in-Set c =
     let here = shape_at c.args.peg.now.nodes c.args.node _ (c.node.ensures ∙ ap Some c.in-Set.is) in
-    let well = c.requires.well in
-    ((
-      (shape.Set _, here, refl),
-      L.leaf_spot c.args.peg.now c.args.window.now c.requires.sound c.args.node
-          c.args.place c.match_set.result.found c.match_set.result.looked _ (spells_set here) (c.match_set.ensures.value _),
-    ))
+    M.leaf_after c.args.peg.now c.args.window.now c.args.more c.requires.some c.requires.sound c.args.node c.args.place
+    c.match_set.result c.leaf-in-Set.result _ (shape.Set _, here, refl) (spells_set here) (c.match_set.ensures.value _)
+    c.match_set.ensures.looked c.leaf-in-Set.ensures
 
 pub returns-in-Name : goal.returns-in-Name
 returns-in-Name c =
@@ -63,7 +54,7 @@ returns-then-is_empty c =
           refl,
         ),
       ),
-      L.seq_empty c.args.peg.now c.args.window.now c.requires.sound c.args.node c.args.place
+      L.seq_empty c.args.peg.now c.args.window.now c.args.more c.requires.some c.requires.sound c.args.node c.args.place
           c.in-Seq.members.items well.0 here none,
     ))
 
@@ -104,7 +95,8 @@ returns-then-is_empty-2 c =
           refl,
         ),
       ),
-      L.choice_empty c.args.peg.now c.args.window.now c.requires.sound c.args.node c.args.place
+      L.choice_empty c.args.peg.now c.args.window.now c.args.more c.requires.some c.requires.sound c.args.node
+          c.args.place
           c.in-Choice.alternatives.items well.0 here none,
     ))
 
@@ -178,7 +170,7 @@ returns-in-Act c =
     let well = c.requires.well in
     ((
       (shape.Act _, here, refl),
-      L.act_spot c.args.peg.now c.args.window.now c.requires.sound c.args.node
+      L.act_spot c.args.peg.now c.args.window.now c.args.more c.requires.some c.requires.sound c.args.node
           c.args.place _ here,
     ))
 
@@ -188,7 +180,7 @@ returns-in-Open c =
     let well = c.requires.well in
     ((
       (shape.Open, here, refl),
-      L.open_spot c.args.peg.now c.args.window.now c.requires.sound c.args.node
+      L.open_spot c.args.peg.now c.args.window.now c.args.more c.requires.some c.requires.sound c.args.node
           c.args.place here,
     ))
 
@@ -198,6 +190,6 @@ returns-in-Close c =
     let well = c.requires.well in
     ((
       (shape.Close, here, refl),
-      L.close_spot c.args.peg.now c.args.window.now c.requires.sound c.args.node
+      L.close_spot c.args.peg.now c.args.window.now c.args.more c.requires.some c.requires.sound c.args.node
           c.args.place here,
     ))

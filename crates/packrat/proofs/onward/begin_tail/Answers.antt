@@ -20,7 +20,8 @@ returns-in-Seq c =
     c.index.ensures in (
       (shape.Seq c.in-Seq.members.items, here, (c.index.result.now, there, refl)),
       (
-        L.member_spells_at c.args.peg.now c.args.window.now c.requires.sound c.args.node c.args.index
+        L.member_spells_at c.args.peg.now c.args.window.now c.args.more c.requires.some c.requires.sound c.args.node
+            c.args.index
             c.index.result.now c.in-Seq.members.items there well.0 (inl here),
         well.1,
       ),
@@ -38,7 +39,8 @@ returns-in-Choice c =
     c.index-in-Choice.result.now refl lt c.index-in-Choice.ensures in (
       (shape.Choice c.in-Choice.alternatives.items, here, (c.index-in-Choice.result.now, there, refl)),
       (
-        L.member_spells_at c.args.peg.now c.args.window.now c.requires.sound c.args.node c.args.index
+        L.member_spells_at c.args.peg.now c.args.window.now c.args.more c.requires.some c.requires.sound c.args.node
+            c.args.index
             c.index-in-Choice.result.now c.in-Choice.alternatives.items there well.0 (inr here),
         well.1,
       ),

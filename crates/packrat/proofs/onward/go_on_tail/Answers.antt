@@ -8,38 +8,38 @@ use Rattle.packrat.proofs.OnwardLemmas as M
 use Rattle.packrat.proofs.onward.go_on_tail.Goals as goal
 
 pub returns-in-Failed : goal.returns-in-Failed
-returns-in-Failed c =
+returns-in-Failed c = λ more some.
     let here = shape_at c.args.peg.now.nodes c.args.node _ (c.node.ensures ∙ ap Some c.in-Seq.is) in
     let well = c.requires.well in
-    (M.member_none c.args.peg.now c.args.window.now c.requires.sound c.args.node c.args.index c.args.place
+    (M.member_none c.args.peg.now c.args.window.now more some c.requires.sound c.args.node c.args.index c.args.place
     c.in-Seq.members.items c.args.found well here c.in-Failed.is)
 
 pub returns-then-index-len : goal.returns-then-index-len
-returns-then-index-len c =
+returns-then-index-len c = λ more some.
     let here = shape_at c.args.peg.now.nodes c.args.node _ (c.node.ensures ∙ ap Some c.in-Seq.is) in
     let well = c.requires.well in
     let lt : suc c.args.index < length c.in-Seq.members.items = omega (arith, c.len.ensures, c.if-index-len.true) in
     let same : suc c.args.index ≡ c.args.index + 1 = omega arith in
-    (M.member_more c.args.peg.now c.args.window.now c.requires.sound c.args.node c.args.index c.args.place
+    (M.member_more c.args.peg.now c.args.window.now more some c.requires.sound c.args.node c.args.index c.args.place
     c.in-Seq.members.items c.args.found well c.in-Took.end (c.args.index + 1) same here c.in-Took.is lt)
 
 pub returns-else-index-len : goal.returns-else-index-len
-returns-else-index-len c =
+returns-else-index-len c = λ more some.
     let here = shape_at c.args.peg.now.nodes c.args.node _ (c.node.ensures ∙ ap Some c.in-Seq.is) in
     let well = c.requires.well in
     let le : length c.in-Seq.members.items ≤ suc c.args.index = omega (arith, c.len.ensures, c.if-index-len.false) in
-    (M.member_last c.args.peg.now c.args.window.now c.requires.sound c.args.node c.args.index c.args.place
+    (M.member_last c.args.peg.now c.args.window.now more some c.requires.sound c.args.node c.args.index c.args.place
     c.in-Seq.members.items c.args.found well c.in-Took.end here c.in-Took.is le)
 
 pub returns-in-Took-found : goal.returns-in-Took-found
-returns-in-Took-found c =
+returns-in-Took-found c = λ more some.
     let here = shape_at c.args.peg.now.nodes c.args.node _ (c.node.ensures ∙ ap Some c.in-Choice.is) in
     let well = c.requires.well in
-    (M.other_some c.args.peg.now c.args.window.now c.requires.sound c.args.node c.args.index c.args.place
+    (M.other_some c.args.peg.now c.args.window.now more some c.requires.sound c.args.node c.args.index c.args.place
     c.in-Choice.alternatives.items c.args.found well c.in-Took-found.end here c.in-Took-found.is)
 
 pub returns-then-index-len-2 : goal.returns-then-index-len-2
-returns-then-index-len-2 c =
+returns-then-index-len-2 c = λ more some.
     let here = shape_at c.args.peg.now.nodes c.args.node _ (c.node.ensures ∙ ap Some c.in-Choice.is) in
     let well = c.requires.well in
     let lt : suc c.args.index < length c.in-Choice.alternatives.items = omega (
@@ -48,11 +48,11 @@ returns-then-index-len-2 c =
       c.if-index-len-2.true,
     ) in
     let same : suc c.args.index ≡ c.args.index + 1 = omega arith in
-    (M.other_more c.args.peg.now c.args.window.now c.requires.sound c.args.node c.args.index c.args.place
+    (M.other_more c.args.peg.now c.args.window.now more some c.requires.sound c.args.node c.args.index c.args.place
     c.in-Choice.alternatives.items c.args.found well (c.args.index + 1) same here c.in-Failed-found.is lt)
 
 pub returns-else-index-len-2 : goal.returns-else-index-len-2
-returns-else-index-len-2 c =
+returns-else-index-len-2 c = λ more some.
     let here = shape_at c.args.peg.now.nodes c.args.node _ (c.node.ensures ∙ ap Some c.in-Choice.is) in
     let well = c.requires.well in
     let le : length c.in-Choice.alternatives.items ≤ suc c.args.index = omega (
@@ -60,11 +60,11 @@ returns-else-index-len-2 c =
       c.len-in-Failed-found.ensures,
       c.if-index-len-2.false,
     ) in
-    (M.other_end c.args.peg.now c.args.window.now c.requires.sound c.args.node c.args.index c.args.place
+    (M.other_end c.args.peg.now c.args.window.now more some c.requires.sound c.args.node c.args.index c.args.place
     c.in-Choice.alternatives.items c.args.found well here c.in-Failed-found.is le)
 
 pub returns-in_default : goal.returns-in_default
-returns-in_default c =
+returns-in_default c = λ more some.
     let here = shape_at c.args.peg.now.nodes c.args.node _ c.node.ensures in
     let well = c.requires.well in
     let same : well.2.0 ≡ shape.shape_of c.node.result.now = cc (well.2.1, here) in
