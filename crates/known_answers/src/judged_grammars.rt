@@ -279,3 +279,22 @@ fn answers_of_an_automaton_to_code_points(rt: HostRuntime) -> Result<(), Fail> {
     }
     Ok(())
 }
+
+// What nests keeps its stack beside the states: 50,000 brackets one in another need no more states than a few.
+#[test]
+fn an_automaton_over_nested_brackets(rt: HostRuntime) -> Result<(), Fail> {
+    let flat = grammar(rt.alloc(), "s = \"(\" *(s / \"a\") \")\"\n", 100_001)?;
+    let made = Automaton::new(rt.alloc(), &flat)?;
+    let mut automaton = made.ok_or("no automaton")?;
+    let mut line = Vec::new(rt.alloc());
+    line.resize(50_000, b'(')?;
+    assert!(rt; automaton.judge(line.as_slice())? == Some(false), "open");
+    line.resize(100_000, b')')?;
+    assert!(rt; automaton.judge(line.as_slice())? == Some(true), "closed");
+    line.push(b')')?;
+    assert!(rt;
+        automaton.judge(line.as_slice())? == Some(false),
+        "one too many"
+    );
+    Ok(())
+}

@@ -1,6 +1,7 @@
 -- What is cached stays so while the cache grows.
 -- Serves: judge.
-use Rattle.std.proofs.Common.{◌≡◌, ℕ, zero, suc, ◌+◌, ◌*◌, ◌/◌, ◌%◌, ◌<◌, ◌≤◌, Bool, List, [], ◌∷◌, ◌++◌, length}
+use Rattle.std.proofs.Common.{◌≡◌, ℕ, zero, suc, ◌+◌, ◌*◌, ◌/◌, ◌%◌, ◌<◌}
+use Rattle.std.proofs.Common.{◌≤◌, Bool, true, false, List, [], ◌∷◌, ◌++◌, length}
 use Rattle.std.proofs.Common.{refl, sym, ◌∙◌, ap}
 use Rattle.std.proofs.Common.{subst, arith, ◌⊎◌, inl, inr}
 use Rattle.std.proofs.lemmas.List.{append-nil}
@@ -16,10 +17,14 @@ use Rattle.flatgrammar.proofs.FlatCutLemmas.{push_cases}
 use Rattle.lazydfa.specs.declared.conts.Cont.{Cont}
 use Rattle.lazydfa.specs.declared.cache.State.{State}
 use Rattle.lazydfa.specs.declared.cache.Cell.{Cell}
-use Rattle.lazydfa.specs.declared.cache.Cell.TheVariants.{Unknown, Over, Dead, To}
+use Rattle.lazydfa.specs.declared.cache.Cell.TheVariants.{Unknown, Over, Dead, To, Push}
 use Rattle.lazydfa.specs.Conts.{stack_of, AreKept, IsStackOf, GoesOn, here, on, ReadsOn, ReadsFrom, IsTransition}
-use Rattle.lazydfa.specs.Cached.{IsStart, AreGrown, IsStateOf, IsInterned, IsStep, IsCell, AreCached, AreAddedUnknown}
-use Rattle.lazydfa.proofs.ContsLemmas.{kept_stack, kept_within, kept_same}
+use Rattle.lazydfa.specs.Conts.{TopReads}
+use Rattle.lazydfa.specs.Cached.{IsStart, AreGrown, IsStateOf, IsInterned, IsStep, IsPush, IsCell, AreCached}
+use Rattle.lazydfa.specs.Cached.{AreAddedUnknown}
+use Rattle.lazydfa.specs.StackParts.{IsSplitOff}
+use Rattle.stacks.specs.Stacks.{Lifted}
+use Rattle.lazydfa.proofs.ContsLemmas.{kept_stack, kept_within, kept_same, kept_both}
 use Rattle.lazydfa.proofs.IsClosureLemmas.{stands_at}
 
 module _ (old new : List Cont) (kept : AreKept old new) where
@@ -52,6 +57,32 @@ module _ (old new : List Cont) (kept : AreKept old new) where
         stands = h.stands;
         reads = subst (λ v. ReadsOn tables c v s) (kept_stack old new kept h.id (within h.id h.stands)) h.reads;
       }
+
+-- growth keeps it
+pub split_kept : (tables : code_flat.Tables) (old new : List Cont) (tops base : List ℕ) (part : ℕ) → AreKept old new
+    → ((id : ℕ) → Contains tops id → id ≤ length old) → IsSplitOff tables old tops base part
+    → IsSplitOff tables new tops base part
+split_kept tables old new tops base part kept within s =
+    let same = kept_stack old new kept part s.within in
+    record {
+      within = kept_within old new kept part s.within;
+      base_within = λ id h. kept_within old new kept id (s.base_within id h);
+      full = λ empty. s.full (sym same ∙ empty);
+      tops_are = λ stack. (
+        λ h. let l = (s.tops_are stack).0 (stack_off old new kept tops within stack h) in record {
+          top = l.top;
+          is = stack_on old new kept base s.base_within l.top l.is;
+          stack_is = l.stack_is ∙ ap (λ v. l.top ++ v) (sym same);
+        },
+        λ l. stack_on old new kept tops within stack ((s.tops_are stack).1 (record {
+          top = l.top;
+          is = stack_off old new kept base s.base_within l.top l.is;
+          stack_is = l.stack_is ∙ ap (λ v. l.top ++ v) same;
+        })),
+      );
+      all_read = λ id h. subst (λ v. TopReads tables v) (sym (kept_stack old new kept id (s.base_within id h)))
+          (s.all_read id h);
+    }
 
 pub goes_as : (tables : code_flat.Tables) (P Q : List Place → Type 0) → ((s : List Place) → P s → Q s)
     → (s : List Place) → GoesOn tables P s → GoesOn tables Q s
@@ -126,6 +157,21 @@ cell_kept tables d old new states more s (To t) kept grown within h = record {
     h.some.0,
     reads_on old new kept h.from.tops.items (within s h.from h.from_is) tables d h.some.0 h.some.1,
   );
+}
+cell_kept tables d old new states more s (Push t part) kept grown within h = record {
+  from = h.from;
+  to = h.to;
+  read = h.read;
+  from_is = grown_at states more grown s h.from h.from_is;
+  to_is = grown_at states more grown t h.to h.to_is;
+  is = transition_kept tables d old new old new h.from.tops.items h.read false kept kept (within s h.from h.from_is)
+      h.is;
+  some = (
+    h.some.0,
+    reads_on old new kept h.from.tops.items (within s h.from h.from_is) tables d h.some.0 h.some.1,
+  );
+  split = split_kept tables old new h.read h.to.tops.items part kept h.is.within h.split;
+  runs = h.runs;
 }
 
 module _ (tables : code_flat.Tables) (samples : List ℕ) where
@@ -296,6 +342,51 @@ module _ (tables : code_flat.Tables) (samples : List ℕ) (conts : List Cont) (s
       subst (λ v. IsCell tables d conts states v cell) (sym (row_is s k (length samples) i lt at_i))
       (is d (subst (λ v. slice_get samples v ≡ Some d) (class_is s k (length samples) i lt at_i) sample))) cached
 
+-- a state was added behind others
+module _ (tables : code_flat.Tables) (samples : List ℕ) (conts mid new : List Cont) (states more : List State)
+    (cells filled : List Cell) (from : State) (next : List ℕ) (ended : Bool) (s t : ℕ)
+    (cached : AreCached tables samples conts states cells) (kept : AreKept conts mid) (same : new ≡ mid)
+    (interned : IsInterned states more next ended t) (unknown : AreAddedUnknown cells filled)
+    (at_s : slice_get states s ≡ Some from) (within : (id : ℕ) → Contains next id → id ≤ length mid) where
+  pub grown_cached : AreCached tables samples new more filled
+  grown_cached =
+      subst (λ v. AreCached tables samples v more filled) (sym same)
+      (cached_state tables samples mid states more cells filled next ended t interned unknown within
+      (λ none. absurd (let w = slice_get_within states s from at_s in omega (arith, w, none)))
+      (cached_conts tables samples conts mid states cells kept cached))
+
+-- a transition to a state over a part
+module _ (tables : code_flat.Tables) (conts mid apart new : List Cont) (states more : List State) (from : State)
+    (tops read base : List ℕ) (ended : Bool) (s t v part : ℕ)
+    (within : (id : ℕ) → Contains from.tops.items id → id ≤ length conts) (kept : AreKept conts mid)
+    (moved : AreKept mid apart) (same : new ≡ apart) (interned : IsInterned states more base false t)
+    (at_s : slice_get states s ≡ Some from) (tops_are : tops ≡ from.tops.items) (runs : ended ≡ false)
+    (is : IsTransition tables v conts tops mid read ended) (split : IsSplitOff tables apart read base part) where
+  both_kept : AreKept conts apart
+  both_kept = kept_both conts mid apart kept moved
+
+  pub led_push : (stack : List Place) × ReadsFrom tables v conts tops stack → (d : ℕ) → v ≡ d
+      → IsPush tables d new more s t part
+  led_push some d is_d =
+      subst (λ v. IsPush tables v new more s t part) is_d (subst (λ c. IsPush tables v c more s t part) (sym same)
+      (record {
+        from = from;
+        to = interned.is.state;
+        read = read;
+        from_is = grown_at states more interned.grown s from at_s;
+        to_is = interned.is.is;
+        is = transition_kept tables v conts apart mid apart from.tops.items read false both_kept moved within
+            (subst (λ w. IsTransition tables v conts w mid read false) tops_are
+            (subst (λ w. IsTransition tables v conts tops mid read w) runs is));
+        some = (
+          some.0,
+          reads_on conts apart both_kept from.tops.items within tables v some.0
+              (subst (λ w. ReadsFrom tables v conts w some.0) tops_are some.1),
+        );
+        split = subst (λ w. IsSplitOff tables apart read w part) (sym interned.is.tops_are) split;
+        runs = interned.is.ended_is;
+      }))
+
 -- a transition to a state that was added
 module _ (tables : code_flat.Tables) (samples : List ℕ) (conts mid new : List Cont) (states more : List State)
     (cells filled : List Cell) (from : State) (tops next : List ℕ) (ended : Bool) (s t v : ℕ)
@@ -305,10 +396,8 @@ module _ (tables : code_flat.Tables) (samples : List ℕ) (conts mid new : List 
     (is : IsTransition tables v conts tops mid next ended) where
   pub led_cached : AreCached tables samples new more filled
   led_cached =
-      subst (λ v. AreCached tables samples v more filled) (sym same)
-      (cached_state tables samples mid states more cells filled next ended t interned unknown is.within
-      (λ none. absurd (let w = slice_get_within states s from at_s in omega (arith, w, none)))
-      (cached_conts tables samples conts mid states cells kept cached))
+      grown_cached tables samples conts mid new states more cells filled from next ended s t cached kept same interned
+      unknown at_s is.within
 
   pub led_step : (stack : List Place) × ReadsFrom tables v conts tops stack → (d : ℕ) → v ≡ d
       → IsStep tables d new more s t

@@ -1,8 +1,9 @@
 -- States along a line.
 -- Serves: judge, viable.
-use Rattle.std.proofs.Common.{◌≡◌, ℕ, zero, suc, ◌+◌, ◌<◌, ◌≤◌, Bool, true, List, [], ◌∷◌, ◌++◌, length, refl, sym}
+use Rattle.std.proofs.Common.{◌≡◌, ℕ, zero, suc, ◌+◌, ◌<◌, ◌≤◌, Bool}
+use Rattle.std.proofs.Common.{true, false, List, [], ◌∷◌, ◌++◌, length, refl, sym}
 use Rattle.std.proofs.Common.{◌∙◌, ap}
-use Rattle.std.proofs.Common.{subst, arith, ◌⊎◌, inl, inr, append-nil}
+use Rattle.std.proofs.Common.{subst, arith, ◌⊎◌, inl, inr, ◌↔◌, append-nil}
 use Rattle.std.proofs.lemmas.Bool.{cases_lt}
 use Rattle.std.specs.Prelude.{slice_get, Option, Some, None, Contains}
 use Rattle.flatgrammar.specs.Flat.{Flat, Place, at}
@@ -16,11 +17,13 @@ use Rattle.lazydfa.specs.declared.cache.State.{State}
 use Rattle.stacks.specs.Stacks as st
 use Rattle.stacks.specs.Stacks.{IsDoneAt, Moves, Led, led, moves, Reach, Accepts, ReadBy, IsReading, reading, Lifted}
 use Rattle.stacks.specs.Stacks.{IsFront, IsPlain, AreAlike, Empties}
-use Rattle.lazydfa.specs.Conts.{last_of, AreKept, Adds, Begun, IsStackOf, TopReads, GoesOn, here, on, EndsAlone}
+use Rattle.lazydfa.specs.Conts.{stack_of, last_of, AreKept, Adds, Begun}
+use Rattle.lazydfa.specs.Conts.{IsStackOf, TopReads, GoesOn, here, on, EndsAlone}
 use Rattle.lazydfa.specs.Conts.{IsClosure, AreReaders, ReadsFrom, IsTransition}
 use Rattle.lazydfa.specs.declared.cache.Cell.{Cell}
-use Rattle.lazydfa.specs.declared.cache.Cell.TheVariants.{Dead, To}
-use Rattle.lazydfa.specs.Cached.{IsBegun, IsStart, IsStartAt, IsAt, AreGrown, IsStep, IsDead, IsCell, AreCached}
+use Rattle.lazydfa.specs.declared.cache.Cell.TheVariants.{Dead, To, Push}
+use Rattle.lazydfa.specs.Cached.{IsBegun, IsStart, IsStartAt, IsAt, AreGrown, IsStep, IsPush, IsDead, IsCell}
+use Rattle.lazydfa.specs.Cached.{AreCached}
 use Rattle.lazydfa.specs.Cached.{IsInterned, AreAddedUnknown}
 use Rattle.lazydfa.specs.ClassBounds.{IsClassOf}
 use Rattle.lazydfa.specs.RunVerdicts.{IsReached}
@@ -29,7 +32,7 @@ use Rattle.lazydfa.proofs.AreCachedLemmas.{cached_state, cached_conts}
 use Rattle.lazydfa.proofs.MoveLemmas.{whole_begun, from_goes, to_goes, done_told, told_done}
 use Rattle.stacks.proofs.LiftLemmas.{rests_empty}
 use Rattle.lazydfa.proofs.TellLemmas.{transition_next, told_top, top_told, to_read, from_read}
-use Rattle.stacks.proofs.FrontLemmas.{taken_by_tops, next_front, nothing_below}
+use Rattle.stacks.proofs.FrontLemmas.{taken_by_tops, next_front, nothing_below, not_ended, split_plain}
 use Rattle.lazydfa.proofs.AreCachedLemmas.{stack_on, stack_off, goes_as, grown_at}
 
 pub begun_within : (tables : code_flat.Tables) (root : ℕ) (mid : List Cont) (ids read : List ℕ) (under : List Place)
@@ -93,7 +96,7 @@ module _ (tables : code_flat.Tables) (root : ℕ) (mid conts : List Cont) (ids r
           }
 
 -- a front by other words
-front_as : (flat : Flat) (last : Place → Bool) (x : List ℕ) (j : ℕ) (P Q : List Place → Type 0) (ended : Bool)
+pub front_as : (flat : Flat) (last : Place → Bool) (x : List ℕ) (j : ℕ) (P Q : List Place → Type 0) (ended : Bool)
     (below : List Place) → ((s : List Place) → P s → Q s) → ((s : List Place) → Q s → P s)
     → IsFront flat last x j P ended below → IsFront flat last x j Q ended below
 front_as flat last x j P Q ended below to of f = record {
@@ -112,6 +115,34 @@ front_as flat last x j P Q ended below to of f = record {
     back stack (inl h) = inl (record { top = h.top; is = of h.top h.is; stack_is = h.stack_is })
     back stack (inr h) = inr h
 
+-- what reads is on the tops alone
+pub plain_front : (flat : Flat) (last : Place → Bool) (x : List ℕ) (j : ℕ) (P : List Place → Type 0) (ended : Bool)
+    (below : List Place) → (ended ≡ true → below ≡ []) → IsFront flat last x j P ended below
+    → IsPlain flat last x j P below
+plain_front flat last x j P true below none f =
+    subst (λ v. IsPlain flat last x j P v) (sym (none refl))
+    (nothing_below flat last x j P true (subst (λ v. IsFront flat last x j P true v) (none refl) f))
+plain_front flat last x j P false below none f = not_ended flat last x j P below f
+
+-- what all tops stand on is below them
+pub split_front : (flat : Flat) (last : Place → Bool) (x : List ℕ) (j : ℕ) (P Q : List Place → Type 0)
+    (part below : List Place) → IsFront flat last x j P false below
+    → ((top : List Place) → P top ↔ Lifted Q part top) → ((top : List Place) → Q top → IsReading flat top)
+    → IsFront flat last x j Q false (part ++ below)
+split_front flat last x j P Q part below f is reads =
+    let plain = split_plain flat last x j P Q part below (not_ended flat last x j P below f) is reads in
+    record {
+      reading = λ stack r. (λ h. inl ((plain.reading stack r).0 h), λ h. back stack r plain h);
+      all_read = reads;
+      accepts = (λ a. absurd (let e = (f.accepts.0 a).0 in cc e), λ h. absurd (let e = h.0 in cc e));
+    }
+  where
+    back : (stack : List Place) → IsReading flat stack → IsPlain flat last x j Q (part ++ below)
+        → Lifted Q (part ++ below) stack
+        ⊎ ((false ≡ true) × Led flat last (λ v. part ++ below ≡ v) stack) → Reach flat last x j stack
+    back stack r plain (inl l) = (plain.reading stack r).1 l
+    back stack r plain (inr h) = absurd (let e = h.0 in cc e)
+
 -- behind a set that nothing reaches nothing is reached
 reach_past : (flat : Flat) (last : Place → Bool) (x : List ℕ) (j : ℕ) {k : ℕ} {a : List Place}
     → Reach flat last x k a → j < k → (b : List Place) × Reach flat last x (j + 1) b
@@ -129,7 +160,8 @@ reach_past flat last x j (st.has_read {j = i} {r = r} {below = below} h rd is li
 
 module _ (tables : code_flat.Tables) (roots : GiveRoots (flat_of tables) tables.roots.items) where
   module _ (x : List ℕ) (old new : List Cont) (states more : List State) (kept : AreKept old new)
-      (grown : AreGrown states more) (s j c d : ℕ) (at_j : IsAt tables old states s x j)
+      (grown : AreGrown states more) (s j c d : ℕ) (below : List Place) (at_j : IsAt tables old states s x j below)
+      (plain : at_j.state.ended ≡ true → below ≡ [])
       (within : (id : ℕ) → Contains at_j.state.tops.items id → id ≤ length old)
       (letter : slice_get x j ≡ Some c) (alike : AreAlike (flat_of tables) c d) where
     same_state : (from : State) → slice_get more s ≡ Some from → at_j.state ≡ from
@@ -137,41 +169,61 @@ module _ (tables : code_flat.Tables) (roots : GiveRoots (flat_of tables) tables.
         let both : Some at_j.state ≡ Some from = sym (grown_at states more grown s at_j.state at_j.is) ∙ is in
         cc both
 
-    plain_at : IsPlain (flat_of tables) (last_of tables) x j (IsStackOf new at_j.state.tops.items) []
+    plain_at : IsPlain (flat_of tables) (last_of tables) x j (IsStackOf new at_j.state.tops.items) below
     plain_at =
-        nothing_below (flat_of tables) (last_of tables) x j (IsStackOf new at_j.state.tops.items) at_j.state.ended
+        plain_front (flat_of tables) (last_of tables) x j (IsStackOf new at_j.state.tops.items) at_j.state.ended below
+        plain
         (front_as (flat_of tables) (last_of tables) x j (IsStackOf old at_j.state.tops.items)
-        (IsStackOf new at_j.state.tops.items) at_j.state.ended []
+        (IsStackOf new at_j.state.tops.items) at_j.state.ended below
         (stack_on old new kept at_j.state.tops.items within) (stack_off old new kept at_j.state.tops.items within)
         at_j.front)
 
-    pub at_next : (t : ℕ) → IsStep tables d new more s t → IsAt tables new more t x (j + 1)
+    pub at_next : (t : ℕ) → IsStep tables d new more s t → IsAt tables new more t x (j + 1) below
     at_next t step = record {
       state = step.to;
       is = step.to_is;
-      front = next_front (flat_of tables) (last_of tables) x j c d letter alike (IsStackOf new at_j.state.tops.items) []
-          plain_at (IsStackOf new step.to.tops.items) step.to.ended
+      front = next_front (flat_of tables) (last_of tables) x j c d letter alike (IsStackOf new at_j.state.tops.items)
+          below plain_at (IsStackOf new step.to.tops.items) step.to.ended
           (transition_next tables roots d new at_j.state.tops.items new step.to.tops.items step.to.ended
           (subst (λ v. IsTransition tables d new v.tops.items new step.to.tops.items step.to.ended)
           (sym (same_state step.from step.from_is)) step.is));
     }
 
-    pub next_reached : (t : ℕ) → IsStep tables d new more s t
+    pub at_push : (t part : ℕ) → IsPush tables d new more s t part
+        → IsAt tables new more t x (j + 1) (stack_of new part ++ below)
+    at_push t part push = record {
+      state = push.to;
+      is = push.to_is;
+      front = subst (λ v. IsFront (flat_of tables) (last_of tables) x (j + 1) (IsStackOf new push.to.tops.items) v
+          (stack_of new part ++ below)) (sym push.runs)
+          (split_front (flat_of tables) (last_of tables) x (j + 1) (IsStackOf new push.read)
+          (IsStackOf new push.to.tops.items) (stack_of new part) below
+          (next_front (flat_of tables) (last_of tables) x j c d letter alike (IsStackOf new at_j.state.tops.items)
+          below plain_at (IsStackOf new push.read) false
+          (transition_next tables roots d new at_j.state.tops.items new push.read false
+          (subst (λ v. IsTransition tables d new v.tops.items new push.read false)
+          (sym (same_state push.from push.from_is)) push.is)))
+          push.split.tops_are
+          (λ top h. told_top tables top (subst (λ v. TopReads tables v) (sym h.is)
+          (push.split.all_read h.id h.stands))));
+    }
+
+    pub next_reached : (from : State) → slice_get more s ≡ Some from
+        → (stack : List Place) × ReadsFrom tables d new from.tops.items stack
         → IsReached (flat_of tables) (last_of tables) x (j + 1)
-    next_reached t step =
-        (taken_by_tops (flat_of tables) (last_of tables) x j c d letter alike (IsStackOf new at_j.state.tops.items) []
-        plain_at).1 (
-          step.some.0,
+    next_reached from is some =
+        (taken_by_tops (flat_of tables) (last_of tables) x j c d letter alike (IsStackOf new at_j.state.tops.items)
+        below plain_at).1 (
+          some.0,
           to_read tables roots d new at_j.state.tops.items
-              (subst (λ v. ReadsFrom tables d new v.tops.items step.some.0) (sym (same_state step.from step.from_is))
-              step.some.1),
+              (subst (λ v. ReadsFrom tables d new v.tops.items some.0) (sym (same_state from is)) some.1),
         )
 
     pub at_dead : IsDead tables d new more s → (k : ℕ) → j < k → IsReached (flat_of tables) (last_of tables) x k → ⊥
     at_dead dead k lt a =
         let r = reach_past (flat_of tables) (last_of tables) x j a.1 lt in
         let t = (taken_by_tops (flat_of tables) (last_of tables) x j c d letter alike
-        (IsStackOf new at_j.state.tops.items) []
+        (IsStackOf new at_j.state.tops.items) below
         plain_at).0 r in
         dead.none t.0 (subst (λ v. ReadsFrom tables d new v.tops.items t.0) (same_state dead.from dead.from_is)
         (from_read tables roots d new at_j.state.tops.items t.1))
@@ -216,7 +268,7 @@ module _ (tables : code_flat.Tables) (roots : GiveRoots (flat_of tables) tables.
     }
 
     pub at_start : (conts : List Cont) (states : List State) (t : ℕ) → IsStartAt tables conts states t
-        → IsAt tables conts states t x 0
+        → IsAt tables conts states t x 0 []
     at_start conts states t s = record {
       state = s.state;
       is = s.is;
@@ -249,8 +301,9 @@ module _ (tables : code_flat.Tables) (roots : GiveRoots (flat_of tables) tables.
             (top_told tables r))
 
   module _ (x : List ℕ) (old new : List Cont) (states more : List State) (kept : AreKept old new)
-      (grown : AreGrown states more) (s j c k : ℕ) (at_j : IsAt tables old states s x j) (samples : List ℕ)
-      (cells : List Cell) (cached : AreCached tables samples old states cells) (letter : slice_get x j ≡ Some c)
+      (grown : AreGrown states more) (s j c k : ℕ) (below : List Place) (at_j : IsAt tables old states s x j below)
+      (plain : at_j.state.ended ≡ true → below ≡ []) (samples : List ℕ) (cells : List Cell)
+      (cached : AreCached tables samples old states cells) (letter : slice_get x j ≡ Some c)
       (class : IsClassOf (flat_of tables) samples c k) (cell : Cell)
       (is : (d : ℕ) → slice_get samples k ≡ Some d → IsCell tables d new more s cell) where
     within_at : (id : ℕ) → Contains at_j.state.tops.items id → id ≤ length old
@@ -259,22 +312,47 @@ module _ (tables : code_flat.Tables) (roots : GiveRoots (flat_of tables) tables.
     is_cell : (other : Cell) → cell ≡ other → IsCell tables class.sample new more s other
     is_cell other same = subst (λ v. IsCell tables class.sample new more s v) same (is class.sample class.is)
 
-    pub step_to : (t : ℕ) → cell ≡ To t → IsAt tables new more t x (j + 1)
+    pub step_to : (t : ℕ) → cell ≡ To t → IsAt tables new more t x (j + 1) below
     step_to t to =
-        at_next x old new states more kept grown s j c class.sample at_j within_at letter class.alike t
+        at_next x old new states more kept grown s j c class.sample below at_j plain within_at letter class.alike t
         (is_cell (To t) to)
+
+    pub step_push : (t part : ℕ) → cell ≡ Push t part → IsAt tables new more t x (j + 1) (stack_of new part ++ below)
+    step_push t part push =
+        at_push x old new states more kept grown s j c class.sample below at_j plain within_at letter class.alike t part
+        (is_cell (Push t part) push)
+
+    pub pushed_part : (t part : ℕ) → cell ≡ Push t part
+        → (part ≤ length new) × (stack_of new part ≡ [] → ⊥)
+    pushed_part t part push =
+        let p = is_cell (Push t part) push in (p.split.within, p.split.full)
+
+    pub push_runs : (t part : ℕ) → cell ≡ Push t part → (got : State) → slice_get more t ≡ Some got
+        → got.ended ≡ false
+    push_runs t part push got there =
+        let p = is_cell (Push t part) push in
+        let both : Some p.to ≡ Some got = sym p.to_is ∙ there in
+        let same : p.to ≡ got = cc both in
+        ap (λ v. v.ended) (sym same) ∙ p.runs
 
     pub step_reached : (t : ℕ) → cell ≡ To t → IsReached (flat_of tables) (last_of tables) x (j + 1)
     step_reached t to =
-        next_reached x old new states more kept grown s j c class.sample at_j within_at letter class.alike t
-        (is_cell (To t) to)
+        let h = is_cell (To t) to in
+        next_reached x old new states more kept grown s j c class.sample below at_j plain within_at letter class.alike
+        h.from h.from_is h.some
+
+    pub push_reached : (t part : ℕ) → cell ≡ Push t part → IsReached (flat_of tables) (last_of tables) x (j + 1)
+    push_reached t part push =
+        let h = is_cell (Push t part) push in
+        next_reached x old new states more kept grown s j c class.sample below at_j plain within_at letter class.alike
+        h.from h.from_is h.some
 
     pub step_dead : cell ≡ Dead → (m : ℕ) → j < m → IsReached (flat_of tables) (last_of tables) x m → ⊥
     step_dead dead m lt a =
-        at_dead x old new states more kept grown s j c class.sample at_j within_at letter class.alike
+        at_dead x old new states more kept grown s j c class.sample below at_j plain within_at letter class.alike
         (is_cell Dead dead) m lt a
 
-pub some_at : (xs : List State) (k : ℕ) → k < length xs → (x : State) × (slice_get xs k ≡ Some x)
+pub some_at : {A : Type 0} (xs : List A) (k : ℕ) → k < length xs → (x : A) × (slice_get xs k ≡ Some x)
 some_at [] k lt = absurd (omega (arith, lt))
 some_at (x ∷ xs) zero lt = (x, refl)
 some_at (x ∷ xs) (suc k) lt = some_at xs k (omega (arith, lt))

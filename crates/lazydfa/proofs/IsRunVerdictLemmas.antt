@@ -46,27 +46,25 @@ dead_verdict flat last x j lt reached none = (
 
 -- the line was read
 pub end_verdict : (tables : code_flat.Tables) (conts : List Cont) (states : List State) (s : ℕ) (x : List ℕ) (j : ℕ)
-    (got : State) (at_j : IsAt tables conts states s x j) → j ≡ length x → got ≡ at_j.state
-    → (0 < j → IsReached (flat_of tables) (last_of tables) x j) → (n : ℕ) → n ≡ length x
-    → IsRunVerdict (flat_of tables) (last_of tables) x (if got.ended then Yes else No n)
-end_verdict tables conts states s x j got at_j end same reached n is_n = by got.ended (ap (λ v. v.ended) same)
-  where
-    by : (ended : Bool) → ended ≡ at_j.state.ended
-        → IsRunVerdict (flat_of tables) (last_of tables) x (if ended then Yes else No n)
-    by true is =
-        subst (λ v. Accepts (flat_of tables) (last_of tables) x v) end (at_j.front.accepts.1 (sym is, inl refl))
-    by false is = (
-      λ a. let yes = (at_j.front.accepts.0
-          (subst (λ v. Accepts (flat_of tables) (last_of tables) x v) (sym end) a)).0 in
-          cc (yes, is),
-      record {
-        within = omega (arith, is_n);
-        reached = λ some.
-            let here : j ≡ n = omega (arith, end, is_n) in
-            subst (λ v. IsReached (flat_of tables) (last_of tables) x v) here (reached (omega (arith, some, here)));
-        last_is = λ m past most h. omega (arith, past, most, is_n);
-      },
-    )
+    (below : List Place) (at_j : IsAt tables conts states s x j below) → (at_j.state.ended ≡ true → below ≡ [])
+    → j ≡ length x → (0 < j → IsReached (flat_of tables) (last_of tables) x j) → (n : ℕ) → n ≡ length x
+    → (ended : Bool) → ended ≡ at_j.state.ended
+    → IsRunVerdict (flat_of tables) (last_of tables) x (if ended then Yes else No n)
+end_verdict tables conts states s x j below at_j plain end reached n is_n true is =
+    subst (λ v. Accepts (flat_of tables) (last_of tables) x v) end
+    (at_j.front.accepts.1 (sym is, inl (plain (sym is))))
+end_verdict tables conts states s x j below at_j plain end reached n is_n false is = (
+  λ a. let ended = (at_j.front.accepts.0
+      (subst (λ v. Accepts (flat_of tables) (last_of tables) x v) (sym end) a)).0 in
+      cc (ended, is),
+  record {
+    within = omega (arith, is_n);
+    reached = λ some.
+        let here : j ≡ n = omega (arith, end, is_n) in
+        subst (λ v. IsReached (flat_of tables) (last_of tables) x v) here (reached (omega (arith, some, here)));
+    last_is = λ m past most h. omega (arith, past, most, is_n);
+  },
+)
 
 -- what that tells of the rules
 module _ (tables : code_flat.Tables) (roots : GiveRoots (flat_of tables) tables.roots.items)

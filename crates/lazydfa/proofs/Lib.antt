@@ -5,6 +5,10 @@ pub mod TransitionLemmas
 pub mod TellLemmas
 pub mod AreCachedLemmas
 pub mod IsAtLemmas
+pub mod IsMoveOnLemmas
+pub mod IsSplitOffLemmas
+pub mod PutsBackLemmas
+pub mod IsOverLemmas
 pub mod IsRunVerdictLemmas
 pub mod AreUncountedLemmas
 pub mod AreClassesLemmas

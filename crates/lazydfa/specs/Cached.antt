@@ -1,5 +1,5 @@
 -- States and cells that are kept.
-use Rattle.std.specs.Prelude.{◌≡◌, ◌↔◌, ◌⊎◌, ℕ, ◌≤◌, ◌/◌, ◌%◌, Bool, true, List, [], ◌++◌, length, slice_get}
+use Rattle.std.specs.Prelude.{◌≡◌, ◌↔◌, ◌⊎◌, ℕ, ◌≤◌, ◌/◌, ◌%◌, Bool, true, false, List, [], ◌++◌, length, slice_get}
 use Rattle.std.specs.Prelude.{Some, Contains}
 use Rattle.flatgrammar.specs.Flat.{Place}
 use Rattle.flatgrammar.specs.Blocks.{begin_count}
@@ -8,12 +8,13 @@ use Rattle.flatgrammar.specs.declared.tables.Tables as code_flat
 use Rattle.lazydfa.specs.declared.conts.Cont.{Cont}
 use Rattle.lazydfa.specs.declared.cache.State.{State}
 use Rattle.lazydfa.specs.declared.cache.Cell.{Cell}
-use Rattle.lazydfa.specs.declared.cache.Cell.TheVariants.{Unknown, Over, Dead, To}
+use Rattle.lazydfa.specs.declared.cache.Cell.TheVariants.{Unknown, Over, Dead, To, Push}
 use Rattle.lazydfa.specs.declared.cache.Cache.{Cache}
 use Rattle.flatgrammar.specs.NodeSteps.{flat_of}
 use Rattle.stacks.specs.Stacks.{IsFront}
 use Rattle.lazydfa.specs.Conts.{last_of, AreOlder, AreKept, Begun, IsStackOf, TopReads, GoesOn, EndsAlone, ReadsFrom}
 use Rattle.lazydfa.specs.Conts.{IsTransition}
+use Rattle.lazydfa.specs.StackParts.{IsSplitOff}
 
 -- the whole begins
 pub record IsBegun (tables : code_flat.Tables) (stack : List Place) : Type 0 where
@@ -56,6 +57,19 @@ pub record IsStep (tables : code_flat.Tables) (d : ℕ) (conts : List Cont) (sta
   pub is : IsTransition tables d conts from.tops.items conts to.tops.items to.ended
   pub some : (stack : List Place) × ReadsFrom tables d conts from.tops.items stack
 
+-- .. and over a part that is pushed below it
+pub record IsPush (tables : code_flat.Tables) (d : ℕ) (conts : List Cont) (states : List State) (s t part : ℕ)
+    : Type 0 where
+  pub from : State
+  pub to : State
+  pub read : List ℕ
+  pub from_is : slice_get states s ≡ Some from
+  pub to_is : slice_get states t ≡ Some to
+  pub is : IsTransition tables d conts from.tops.items conts read false
+  pub some : (stack : List Place) × ReadsFrom tables d conts from.tops.items stack
+  pub split : IsSplitOff tables conts read to.tops.items part
+  pub runs : to.ended ≡ false
+
 -- no top reads the letter
 pub record IsDead (tables : code_flat.Tables) (d : ℕ) (conts : List Cont) (states : List State) (s : ℕ) : Type 0 where
   pub from : State
@@ -67,6 +81,7 @@ IsCell tables d conts states s Unknown = Unit {0}
 IsCell tables d conts states s Over = Unit {0}
 IsCell tables d conts states s Dead = IsDead tables d conts states s
 IsCell tables d conts states s (To t) = IsStep tables d conts states s t
+IsCell tables d conts states s (Push t part) = IsPush tables d conts states s t part
 
 -- the cell i is that of the state i / n and the class i % n, where n classes have samples
 pub record AreCached (tables : code_flat.Tables) (samples : List ℕ) (conts : List Cont) (states : List State)
@@ -98,9 +113,9 @@ pub record IsStartAt (tables : code_flat.Tables) (conts : List Cont) (states : L
   pub is : slice_get states t ≡ Some state
   pub start : IsStart tables conts state.tops.items state.ended
 
--- the number of a state that is the front behind the first j letters
+-- the number of a state that is the front behind the first j letters, over what is below
 pub record IsAt (tables : code_flat.Tables) (conts : List Cont) (states : List State) (s : ℕ) (x : List ℕ) (j : ℕ)
-    : Type 0 where
+    (below : List Place) : Type 0 where
   pub state : State
   pub is : slice_get states s ≡ Some state
-  pub front : IsFront (flat_of tables) (last_of tables) x j (IsStackOf conts state.tops.items) state.ended []
+  pub front : IsFront (flat_of tables) (last_of tables) x j (IsStackOf conts state.tops.items) state.ended below

@@ -1,4 +1,7 @@
 pub mod Cached
-pub mod Conts
 pub mod ClassBounds
+pub mod Conts
+pub mod Memos
 pub mod RunVerdicts
+pub mod Spines
+pub mod StackParts

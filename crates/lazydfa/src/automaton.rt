@@ -19,6 +19,7 @@ use crate::chains::Chains;
 use crate::classes::{Classes, find_classes};
 use crate::close::Ids;
 use crate::conts::Conts;
+use crate::memo::Memo;
 use crate::run::run;
 use flatgrammar::{Flat, Node, Tables, Verdict, values_are_letters};
 use letters::Letter;
@@ -33,7 +34,7 @@ pub struct Automaton {
     alloc: Global,
     tables: Rc<Tables>,
     classes: Classes,
-    cache: Cache,
+    memo: Memo,
 }
 
 impl Model for Automaton {
@@ -41,8 +42,8 @@ impl Model for Automaton {
     ghost use Rattle.flatgrammar.specs.NodeSteps.{flat_of};
     ghost use Rattle.flatgrammar.specs.TableViews.{GiveRoots};
     ghost use Rattle.stacks.specs.Stacks.{AreUncounted};
-    ghost use Rattle.lazydfa.specs.Cached.{IsCache};
     ghost use Rattle.lazydfa.specs.ClassBounds.{AreClasses};
+    ghost use Rattle.lazydfa.specs.Memos.{IsMemo};
     ghost use Rattle.lazydfa.specs.RunVerdicts.{IsOne};
 
     ghost Value = { spec.Flat };
@@ -51,7 +52,7 @@ impl Model for Automaton {
 
     ghost invariant = { λ a. (GiveRoots (flat_of a.tables.value) a.tables.value.roots.items) × (AreUncounted (flat_of
         a.tables.value)) × (IsOne (flat_of a.tables.value)) × (AreClasses (flat_of a.tables.value)
-        a.classes.low.items a.classes.samples.items) × (IsCache a.tables.value a.classes.samples.items a.cache) };
+        a.classes.low.items a.classes.samples.items) × (IsMemo a.tables.value a.classes.samples.items a.memo) };
 }
 
 // Tells whether turns that take a letter are counted at a node.
@@ -105,6 +106,21 @@ fn are_served(tables: &Tables) -> bool
     are_uncounted(tables) && is_one(tables)
 }
 
+// Returns a memo with no state and no unfold, of a grammar of so many nodes. It takes no memory.
+fn empty_memo(alloc: Global, nodes: usize) -> Memo
+    ensures conts { result.cache.conts.items.items ≡ [] }
+    ensures states { result.cache.states.items ≡ [] }
+    ensures cells { result.cache.cells.items ≡ [] }
+    ensures unfolds { result.unfolds.items ≡ [] }
+{
+    Memo {
+        cache: empty_cache(alloc, nodes),
+        unfolds: Vec::new(alloc),
+        chains: Chains::new(alloc),
+        parts: Vec::new(alloc),
+    }
+}
+
 // Returns a cache of a grammar of so many nodes, with no state. It takes no memory.
 fn empty_cache(alloc: Global, nodes: usize) -> Cache
     ensures conts { result.conts.items.items ≡ [] }
@@ -140,12 +156,12 @@ impl Automaton {
             return Ok(None);
         }
         let classes = find_classes(alloc, &tables)?;
-        let cache = empty_cache(alloc, tables.nodes.len());
+        let memo = empty_memo(alloc, tables.nodes.len());
         Ok(Some(Automaton {
             alloc,
             tables,
             classes,
-            cache,
+            memo,
         }))
     }
 
@@ -167,7 +183,7 @@ impl Automaton {
             &self.tables,
             &classes.low,
             &classes.samples,
-            &mut self.cache,
+            &mut self.memo,
             line,
         )?;
         Ok(told)

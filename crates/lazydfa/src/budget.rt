@@ -1,6 +1,6 @@
 //! What may be spent on filling cells.
 
-/// How many ids may still be gone over, and how many tops the states have.
+/// How many ids may still be gone over, and how many tops and unfolds there are.
 #[derive(Drop)]
 pub(crate) struct Budget {
     turns: usize,
@@ -28,7 +28,7 @@ impl Budget {
         self.turns = self.turns.saturating_sub(turns);
     }
 
-    /// Notes the tops of a state that is new.
+    /// Notes the tops of a state that is new, or an unfold.
     pub(crate) fn note(&mut self, tops: usize) {
         self.tops = self.tops.saturating_add(tops);
     }

@@ -21,13 +21,15 @@ pub(crate) struct State {
     pub(crate) ended: bool,
 }
 
-/// What a letter of a class leads to from a state: not known yet, more than there may be, nothing, or a state.
+/// What a letter of a class leads to from a state: not known yet, more than there may be, nothing, a state, or a state
+/// and a part that is pushed below it.
 #[derive(Clone, Copy)]
 pub(crate) enum Cell {
     Unknown,
     Over,
     Dead,
     To(usize),
+    Push(usize, usize),
 }
 
 /// Holds continuations, states of them, cells by state and class, and what may be spent on more of them. The first

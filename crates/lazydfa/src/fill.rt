@@ -5,7 +5,8 @@ ghost use Rattle.lazydfa.specs.Conts.{AreKept, AreOlder};
 ghost use Rattle.lazydfa.specs.Cached.{IsCache, IsCell, Grows};
 
 use crate::cache::{Cache, Cell, any_reads, forget, state_of};
-use crate::transition::transition;
+use crate::parts::split_off;
+use crate::transition::{Front, transition};
 use flatgrammar::Tables;
 use ruletable::Memory;
 use std::alloc::Global;
@@ -95,6 +96,14 @@ fn lead(
     let Some(front) = told else {
         return Ok(Cell::Over);
     };
+    if let Some(split) = split_off(alloc, tables, &mut cache.conts, &front)? {
+        let base = Front {
+            tops: split.tops,
+            ended: false,
+        };
+        let t = state_of(cache, samples.len(), base)?;
+        return Ok(Cell::Push(t, split.part));
+    }
     let t = state_of(cache, samples.len(), front)?;
     Ok(Cell::To(t))
 }
@@ -117,7 +126,7 @@ fn charge(cache: &mut Cache, state: usize, cell: Cell)
     };
     let ids = match cell {
         Cell::Dead => 0,
-        Cell::Unknown | Cell::Over | Cell::To(_) => cache.ids.items.len(),
+        Cell::Unknown | Cell::Over | Cell::To(_) | Cell::Push(_, _) => cache.ids.items.len(),
     };
     cache
         .budget

@@ -9,7 +9,10 @@ mod classes;
 mod close;
 mod conts;
 mod fill;
+mod memo;
+mod parts;
 mod run;
+mod spines;
 mod transition;
 
 pub use automaton::Automaton;

@@ -4,8 +4,10 @@ ghost use Rattle.std.specs.Prelude.{slice_get, Some, Contains, map, if◌then◌
 ghost use Rattle.flatgrammar.specs.NodeSteps.{flat_of};
 ghost use Rattle.flatgrammar.specs.TableViews.{GiveRoots};
 ghost use Rattle.lazydfa.specs.Conts.{AreKept, AreOlder, last_of};
-ghost use Rattle.lazydfa.specs.Cached.{IsCache, IsCell, Grows, IsStart, IsStartAt, IsAt};
-ghost use Rattle.lazydfa.specs.ClassBounds.{AreClasses};
+ghost use Rattle.lazydfa.specs.Cached.{IsCache, IsCell, Grows, IsStart, IsStartAt};
+ghost use Rattle.lazydfa.specs.Memos.{IsMemo, IsStepTaken, RunsAt, RunsOver};
+ghost use Rattle.lazydfa.specs.ClassBounds.{AreClasses, IsClassOf};
+ghost use Rattle.lazydfa.specs.declared.cache.State.{State};
 ghost use Rattle.lazydfa.specs.RunVerdicts.{IsRunVerdict};
 
 use crate::cache::{Cache, Cell, forget, state_of, widen_states};
@@ -13,6 +15,7 @@ use crate::classes::class_of;
 use crate::close::{Ids, close, empty, enter};
 use crate::conts::{Conts, widen_conts};
 use crate::fill::{fill, look, may_fill};
+use crate::memo::{Memo, forget_all, unfolded, widen_unfolds};
 use crate::transition::{Front, readers};
 use flatgrammar::{Tables, Verdict, whole_root};
 use letters::Letter;
@@ -53,6 +56,7 @@ fn begin(
 ) -> Result<Option<usize>, Memory>
     requires cached { IsCache tables.now samples.now cache.old }
     ensures cached { IfOk result (λ told. IsCache tables.now samples.now cache.new) }
+    ensures grows { IfOk result (λ told. Grows cache.old cache.new) }
     ensures is { IfOk result (λ told. IfSome told (IsStartAt tables.now cache.new.conts.items.items
         cache.new.states.items)) }
 {
@@ -80,6 +84,7 @@ fn start(
 ) -> Result<Option<usize>, Memory>
     requires cached { IsCache tables.now samples.now cache.old }
     ensures cached { IsCache tables.now samples.now cache.new }
+    ensures grows { IfOk result (λ told. Grows cache.old cache.new) }
     ensures is { IfOk result (λ told. IfSome told (IsStartAt tables.now cache.new.conts.items.items
         cache.new.states.items)) }
 {
@@ -111,19 +116,102 @@ fn cell_of(
     let cell = look(tables, samples, cache, state, class);
     match cell {
         Cell::Unknown => fill(alloc, tables, samples, cache, state, class),
-        Cell::Over | Cell::Dead | Cell::To(_) => Ok(cell),
+        Cell::Over | Cell::Dead | Cell::To(_) | Cell::Push(_, _) => Ok(cell),
     }
 }
 
-/// Makes a cache ready for a line of so many letters. `Memory` if an allocation fails.
-fn prepare(cache: &mut Cache, letters: usize) -> Result<(), Memory>
-    ensures conts { cache.new.conts.items ≡ cache.old.conts.items }
-    ensures states { cache.new.states ≡ cache.old.states }
-    ensures cells { cache.new.cells ≡ cache.old.cells }
+// Tells whether the whole may end where a state is.
+#[inline(always)]
+fn has_ended(cache: &Cache, state: usize) -> bool
+    ensures { (got : State) → slice_get cache.now.states.items state ≡ Some got → result ≡ got.ended }
 {
-    cache.budget.earn(letters);
-    widen_conts(&mut cache.conts)?;
-    widen_states(cache)
+    match cache.states.get(state) {
+        Some(got) => got.ended,
+        None => false,
+    }
+}
+
+/// Puts parts back below a state while it has ended, and returns the state of that; `None` if that takes more than
+/// there may be. `Memory` if an allocation fails.
+#[inline(always)]
+fn settle(
+    alloc: Global,
+    tables: &Tables,
+    samples: &[u32],
+    memo: &mut Memo,
+    state: usize,
+) -> Result<Option<usize>, Memory>
+    requires roots { GiveRoots (flat_of tables.now) tables.now.roots.items }
+    requires memo { IsMemo tables.now samples.now memo.old }
+    ensures memo { IfOk result (λ told. IsMemo tables.now samples.now memo.new) }
+    ensures settled { IfOk result (λ told. IfSome told (λ t. (x : List ℕ) (j : ℕ) →
+        RunsOver tables.now memo.old state x j → RunsAt tables.now memo.new t x j)) }
+{
+    let mut now = state;
+    'parts: while has_ended(&memo.cache, now) {
+        let Some(part) = memo.parts.pop() else {
+            return Ok(Some(now));
+        };
+        let Some(t) = unfolded(alloc, tables, samples, memo, now, part)? else {
+            return Ok(None);
+        };
+        now = t;
+    }
+    Ok(Some(now))
+}
+
+/// What a letter leads to: a state, nothing, or more than there may be.
+#[derive(Clone, Copy)]
+pub(crate) enum Step {
+    To(usize),
+    Dead,
+    Over,
+}
+
+/// Returns what a letter of a class leads to from a state over the parts. `Memory` if an allocation fails.
+#[inline(always)]
+fn take_step(
+    alloc: Global,
+    tables: &Tables,
+    samples: &[u32],
+    memo: &mut Memo,
+    state: usize,
+    class: usize,
+) -> Result<Step, Memory>
+    requires roots { GiveRoots (flat_of tables.now) tables.now.roots.items }
+    requires memo { IsMemo tables.now samples.now memo.old }
+    ensures memo { IfOk result (λ step. IsMemo tables.now samples.now memo.new) }
+    ensures taken { IfOk result (λ step. (x : List ℕ) (j c : ℕ) → slice_get x j ≡ Some c →
+        IsClassOf (flat_of tables.now) samples.now c class → RunsAt tables.now memo.old state x j →
+        IsStepTaken tables.now memo.new x j step) }
+{
+    match cell_of(alloc, tables, samples, &mut memo.cache, state, class)? {
+        Cell::To(t) => match settle(alloc, tables, samples, memo, t)? {
+            Some(settled) => Ok(Step::To(settled)),
+            None => Ok(Step::Over),
+        },
+        Cell::Push(t, part) => {
+            memo.parts.push(part)?;
+            Ok(Step::To(t))
+        }
+        Cell::Dead => Ok(Step::Dead),
+        Cell::Unknown | Cell::Over => Ok(Step::Over),
+    }
+}
+
+/// Makes a memo ready for a line of so many letters. `Memory` if an allocation fails.
+fn prepare(memo: &mut Memo, letters: usize) -> Result<(), Memory>
+    ensures conts { memo.new.cache.conts.items ≡ memo.old.cache.conts.items }
+    ensures states { memo.new.cache.states ≡ memo.old.cache.states }
+    ensures cells { memo.new.cache.cells ≡ memo.old.cache.cells }
+    ensures unfolds { memo.new.unfolds ≡ memo.old.unfolds }
+    ensures parts { IfOk result (λ done. memo.new.parts.items ≡ []) }
+{
+    memo.parts.clear();
+    memo.cache.budget.earn(letters);
+    widen_conts(&mut memo.cache.conts)?;
+    widen_states(&mut memo.cache)?;
+    widen_unfolds(memo)
 }
 
 // Returns what a run tells that came to a line's end.
@@ -137,25 +225,25 @@ fn verdict_at_end(ended: bool, letters: usize) -> Verdict
     }
 }
 
-/// Tells whether the whole may end behind a line, or else how many of its letters lead to something; `None` if that
-/// takes more than there may be. `Memory` if an allocation fails.
-pub(crate) fn run<L: Letter>(
+/// Goes over a line, and tells whether the whole may end behind it, or else how many of its letters lead to something;
+/// `None` if that takes more than there may be. `Memory` if an allocation fails.
+fn follow<L: Letter>(
     alloc: Global,
     tables: &Tables,
     low: &[usize],
     samples: &[u32],
-    cache: &mut Cache,
+    memo: &mut Memo,
     line: &[L],
 ) -> Result<Option<Verdict>, Memory>
     requires roots { GiveRoots (flat_of tables.now) tables.now.roots.items }
     requires classes { AreClasses (flat_of tables.now) low.now samples.now }
-    requires cached { IsCache tables.now samples.now cache.old }
-    ensures cached { IsCache tables.now samples.now cache.new }
+    requires memo { IsMemo tables.now samples.now memo.old }
+    ensures memo { IfOk result (λ told. IsMemo tables.now samples.now memo.new) }
     ensures told { IfOk result (λ told. IfSome told (IsRunVerdict (flat_of tables.now) (last_of tables.now)
         (map L.number line.now))) }
 {
-    prepare(cache, line.len())?;
-    let Some(first) = start(alloc, tables, samples, cache)? else {
+    prepare(memo, line.len())?;
+    let Some(first) = start(alloc, tables, samples, &mut memo.cache)? else {
         return Ok(None);
     };
     let mut state = first;
@@ -163,17 +251,42 @@ pub(crate) fn run<L: Letter>(
         let Some(class) = class_of(low, samples, letter.value()) else {
             return Ok(None);
         };
-        match cell_of(alloc, tables, samples, cache, state, class)? {
-            Cell::To(t) => {
+        match take_step(alloc, tables, samples, memo, state, class)? {
+            Step::To(t) => {
                 state = t;
             }
-            Cell::Dead => {
+            Step::Dead => {
                 return Ok(Some(Verdict::No(at)));
             }
-            Cell::Unknown | Cell::Over => {
+            Step::Over => {
                 return Ok(None);
             }
         }
     }
-    Ok(Some(verdict_at_end(cache.states[state].ended, line.len())))
+    Ok(Some(verdict_at_end(has_ended(&memo.cache, state), line.len())))
+}
+
+/// Tells what `follow` tells. All is forgotten if an allocation fails.
+pub(crate) fn run<L: Letter>(
+    alloc: Global,
+    tables: &Tables,
+    low: &[usize],
+    samples: &[u32],
+    memo: &mut Memo,
+    line: &[L],
+) -> Result<Option<Verdict>, Memory>
+    requires roots { GiveRoots (flat_of tables.now) tables.now.roots.items }
+    requires classes { AreClasses (flat_of tables.now) low.now samples.now }
+    requires memo { IsMemo tables.now samples.now memo.old }
+    ensures memo { IsMemo tables.now samples.now memo.new }
+    ensures told { IfOk result (λ told. IfSome told (IsRunVerdict (flat_of tables.now) (last_of tables.now)
+        (map L.number line.now))) }
+{
+    match follow(alloc, tables, low, samples, memo, line) {
+        Ok(told) => Ok(told),
+        Err(error) => {
+            forget_all(memo);
+            Err(error)
+        }
+    }
 }

@@ -79,7 +79,7 @@ fn read_all(
 }
 
 /// Tells whether something is read on top of a continuation.
-fn top_reads(tables: &Tables, id: usize, conts: &Conts) -> bool
+pub(crate) fn top_reads(tables: &Tables, id: usize, conts: &Conts) -> bool
     requires within { id ≤ length conts.now.items.items }
     requires older { AreOlder conts.now.items.items }
     ensures { IsTrue result ↔ TopReads tables.now (stack_of conts.now.items.items id) }

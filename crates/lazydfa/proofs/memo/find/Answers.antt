@@ -1,0 +1,1 @@
+use Rattle.lazydfa.proofs.memo.find.Goals as goal

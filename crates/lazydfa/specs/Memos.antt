@@ -1,0 +1,65 @@
+-- What is kept from line to line beside the cache, and where a run over a line stands.
+use Rattle.std.specs.Prelude.{◌≡◌, ℕ, ◌+◌, ◌<◌, ◌≤◌, true, List, [], length, slice_get, Some}
+use Rattle.flatgrammar.specs.NodeSteps.{flat_of}
+use Rattle.flatgrammar.specs.declared.tables.Tables as code_flat
+use Rattle.lazydfa.specs.declared.conts.Cont.{Cont}
+use Rattle.lazydfa.specs.declared.cache.State.{State}
+use Rattle.lazydfa.specs.declared.memo.Memo.{Memo}
+use Rattle.lazydfa.specs.declared.memo.Unfold.{Unfold}
+use Rattle.lazydfa.specs.declared.run.Step.{Step}
+use Rattle.lazydfa.specs.declared.run.Step.TheVariants.{To, Dead, Over}
+use Rattle.lazydfa.specs.Conts.{last_of}
+use Rattle.lazydfa.specs.Cached.{IsCache, IsAt}
+use Rattle.lazydfa.specs.StackParts.{PutsBack, AreParts, below_of}
+use Rattle.lazydfa.specs.RunVerdicts.{IsReached}
+
+-- a state and a part below it are another state
+pub record IsUnfold (tables : code_flat.Tables) (conts : List Cont) (states : List State) (s part t : ℕ) : Type 0 where
+  pub from : State
+  pub to : State
+  pub from_is : slice_get states s ≡ Some from
+  pub to_is : slice_get states t ≡ Some to
+  pub part_within : part ≤ length conts
+  pub is : PutsBack tables conts from.tops.items part conts to.tops.items to.ended
+
+-- a state and a part are listed with that state
+pub record IsKnown (unfolds : List Unfold) (s part t : ℕ) : Type 0 where
+  pub place : ℕ
+  pub listed : Unfold
+  pub is : slice_get unfolds place ≡ Some listed
+  pub state_is : listed.state ≡ s
+  pub part_is : listed.part ≡ part
+  pub to_is : listed.to ≡ t
+
+abbrev pub AreUnfolds : code_flat.Tables → List Cont → List State → List Unfold → Type 0
+AreUnfolds tables conts states unfolds = (k : ℕ) (u : Unfold) → slice_get unfolds k ≡ Some u
+    → IsUnfold tables conts states u.state u.part u.to
+
+pub record IsMemo (tables : code_flat.Tables) (samples : List ℕ) (memo : Memo) : Type 0 where
+  pub cached : IsCache tables samples memo.cache
+  pub unfolds : AreUnfolds tables memo.cache.conts.items.items memo.cache.states.items memo.unfolds.items
+
+-- a state is the front behind the first j letters, over the parts
+pub record IsOver (tables : code_flat.Tables) (conts : List Cont) (states : List State) (parts : List ℕ) (s : ℕ)
+    (x : List ℕ) (j : ℕ) : Type 0 where
+  pub parts_are : AreParts conts parts
+  pub at : IsAt tables conts states s x j (below_of conts parts)
+
+-- .. and it has not ended, or stands on no part
+pub record IsSettled (tables : code_flat.Tables) (conts : List Cont) (states : List State) (parts : List ℕ) (s : ℕ)
+    (x : List ℕ) (j : ℕ) : Type 0 where
+  pub over : IsOver tables conts states parts s x j
+  pub plain : over.at.state.ended ≡ true → parts ≡ []
+
+abbrev pub RunsOver : code_flat.Tables → Memo → ℕ → List ℕ → ℕ → Type 0
+RunsOver tables memo = IsOver tables memo.cache.conts.items.items memo.cache.states.items memo.parts.items
+
+abbrev pub RunsAt : code_flat.Tables → Memo → ℕ → List ℕ → ℕ → Type 0
+RunsAt tables memo = IsSettled tables memo.cache.conts.items.items memo.cache.states.items memo.parts.items
+
+-- what the letter behind the first j leads to
+abbrev pub IsStepTaken : code_flat.Tables → Memo → List ℕ → ℕ → Step → Type 0
+IsStepTaken tables memo x j (To t) = RunsAt tables memo t x (j + 1)
+    × IsReached (flat_of tables) (last_of tables) x (j + 1)
+IsStepTaken tables memo x j Dead = (m : ℕ) → j < m → IsReached (flat_of tables) (last_of tables) x m → ⊥
+IsStepTaken tables memo x j Over = Unit {0}

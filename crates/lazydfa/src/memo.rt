@@ -1,0 +1,149 @@
+//! What was found out of lines, with the parts of the line that is read.
+ghost use Rattle.std.specs.Prelude.{◌≡◌, ◌≤◌, ◌<◌, ℕ, true, List, [], IfOk, IfSome, length, slice_get, Some};
+ghost use Rattle.lazydfa.specs.Cached.{IsCache, Grows};
+ghost use Rattle.lazydfa.specs.Memos.{IsKnown, IsMemo, IsUnfold};
+ghost use Rattle.lazydfa.specs.declared.cache.State.{State};
+
+use crate::cache::{Cache, forget, state_of};
+use crate::chains::Chains;
+use crate::fill::may_fill;
+use crate::parts::put_back;
+use flatgrammar::Tables;
+use ruletable::Memory;
+use std::alloc::Global;
+
+/// A state that has ended, the part that stood below it, and the state of both.
+#[derive(Clone, Copy)]
+pub(crate) struct Unfold {
+    pub(crate) state: usize,
+    pub(crate) part: usize,
+    pub(crate) to: usize,
+}
+
+/// Holds a cache and its unfolds, and of the line that is read the parts below its state, the topmost last.
+#[derive(Drop)]
+pub(crate) struct Memo {
+    pub(crate) cache: Cache,
+    pub(crate) unfolds: Vec<Unfold>,
+    pub(crate) chains: Chains,
+    pub(crate) parts: Vec<usize>,
+}
+
+/// Forgets all.
+pub(crate) fn forget_all(memo: &mut Memo)
+    ensures conts { memo.new.cache.conts.items.items ≡ [] }
+    ensures states { memo.new.cache.states.items ≡ [] }
+    ensures cells { memo.new.cache.cells.items ≡ [] }
+    ensures unfolds { memo.new.unfolds.items ≡ [] }
+{
+    forget(&mut memo.cache);
+    memo.unfolds.clear();
+    memo.chains.clear();
+}
+
+// Returns what a state and a part hash to.
+fn hash_of_pair(state: usize, part: usize) -> usize {
+    state.wrapping_mul(0x9E37_79B9).wrapping_add(part)
+}
+
+// Returns the state of a state and a part, if it is found in its chain; the entry k + 1 is of unfold k.
+fn find(unfolds: &[Unfold], chains: &Chains, state: usize, part: usize) -> Option<usize>
+    ensures { IfSome result (IsKnown unfolds.now state part) }
+{
+    let mut entry = chains.last(hash_of_pair(state, part));
+    for _ in 0..unfolds.len() {
+        if entry == 0 || entry > unfolds.len() {
+            return None;
+        }
+        let known = unfolds[entry - 1];
+        if known.state == state && known.part == part {
+            return Some(known.to);
+        }
+        entry = chains.before(entry);
+    }
+    None
+}
+
+// Adds all unfolds to chains.
+fn chain_unfolds(unfolds: &[Unfold], chains: &mut Chains) -> Result<(), Memory> {
+    for known in unfolds {
+        chains.add(hash_of_pair(known.state, known.part))?;
+    }
+    Ok(())
+}
+
+/// Makes more chains where there are fewer than unfolds. `Memory` if an allocation fails.
+pub(crate) fn widen_unfolds(memo: &mut Memo) -> Result<(), Memory>
+    ensures cache { memo.new.cache ≡ memo.old.cache }
+    ensures unfolds { memo.new.unfolds ≡ memo.old.unfolds }
+    ensures parts { memo.new.parts ≡ memo.old.parts }
+{
+    if memo.chains.is_crowded() {
+        memo.chains
+            .restart(memo.unfolds.len().saturating_mul(4).max(64))?;
+        chain_unfolds(&memo.unfolds, &mut memo.chains)?;
+    }
+    Ok(())
+}
+
+// Returns the state of a state that has ended and a part, which is added if there is none; `None` if that takes more
+// than there may be. `Memory` if an allocation fails.
+fn state_over(
+    alloc: Global,
+    tables: &Tables,
+    samples: &[u32],
+    cache: &mut Cache,
+    state: usize,
+    part: usize,
+) -> Result<Option<usize>, Memory>
+    requires cached { IsCache tables.now samples.now cache.old }
+    ensures cached { IfOk result (λ told. IsCache tables.now samples.now cache.new) }
+    ensures grows { IfOk result (λ told. Grows cache.old cache.new) }
+    ensures is { IfOk result (λ told. IfSome told (IsUnfold tables.now cache.new.conts.items.items
+        cache.new.states.items state part)) }
+{
+    if !may_fill(cache) || state >= cache.states.len() {
+        return Ok(None);
+    }
+    if part > cache.conts.items.len() {
+        return Ok(None);
+    }
+    let tops = cache.states[state].tops.as_slice();
+    let told = put_back(alloc, tables, &mut cache.conts, &mut cache.ids, tops, part)?;
+    let Some(front) = told else {
+        return Ok(None);
+    };
+    cache.budget.spend(cache.ids.items.len().saturating_add(1));
+    cache.budget.note(1);
+    let t = state_of(cache, samples.len(), front)?;
+    Ok(Some(t))
+}
+
+/// Returns the state of a state that has ended and the part below it; `None` if that takes more than there may be.
+/// `Memory` if an allocation fails.
+pub(crate) fn unfolded(
+    alloc: Global,
+    tables: &Tables,
+    samples: &[u32],
+    memo: &mut Memo,
+    state: usize,
+    part: usize,
+) -> Result<Option<usize>, Memory>
+    requires memo { IsMemo tables.now samples.now memo.old }
+    ensures memo { IfOk result (λ told. IsMemo tables.now samples.now memo.new) }
+    ensures grows { IfOk result (λ told. Grows memo.old.cache memo.new.cache) }
+    ensures parts { memo.new.parts ≡ memo.old.parts }
+    ensures is { IfOk result (λ told. IfSome told (IsUnfold tables.now memo.new.cache.conts.items.items
+        memo.new.cache.states.items state part)) }
+{
+    if let Some(to) = find(&memo.unfolds, &memo.chains, state, part) {
+        return Ok(Some(to));
+    }
+    let told = state_over(alloc, tables, samples, &mut memo.cache, state, part)?;
+    let Some(to) = told else {
+        return Ok(None);
+    };
+    memo.unfolds.push(Unfold { state, part, to })?;
+    memo.chains.add(hash_of_pair(state, part))?;
+    Ok(Some(to))
+}
