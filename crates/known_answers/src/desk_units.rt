@@ -16,9 +16,9 @@ const SHARED: &[u8] = b"S <- A A 'x'\nA <- B B\nB <- {b}";
 
 // A grammar, a window that is the whole rest, what a match answers, with a cell for each evaluation, and what it
 // prints.
-type Row = (&'static [u8], &'static [u8], Unit, &'static [u8]);
+pub(crate) type Row = (&'static [u8], &'static [u8], Unit, &'static [u8]);
 
-static ROWS: [Row; 8] = [
+pub(crate) static ROWS: [Row; 8] = [
     (
         SHARED,
         b"x",

@@ -24,6 +24,10 @@ mod judged_lines;
 #[cfg(test)]
 mod least_sets;
 #[cfg(test)]
+mod log_rows;
+#[cfg(test)]
+mod packrat_units;
+#[cfg(test)]
 mod printed_abnf;
 #[cfg(test)]
 mod refused_abnf;

@@ -1,5 +1,5 @@
 -- The log of the keys, as contracts see it.
-use Rattle.std.specs.Prelude.{◌≡◌, ℕ, ◌<◌, List, [], ◌∷◌, slice_get, Some}
+use Rattle.std.specs.Prelude.{◌≡◌, ℕ, ◌<◌, List, map, slice_get, Some}
 use Rattle.memo.specs.declared.key_log.Mark.{Mark}
 use Rattle.memo.specs.declared.key_log.Stored.{Stored}
 use Rattle.memo.specs.declared.spot.Spot.{Spot}
@@ -11,8 +11,7 @@ pub record LogView : Type 0 where
   pub rows : ℕ
 
 abbrev pub spots_of : List Stored → List Spot
-spots_of [] = []
-spots_of (s ∷ stored) = s.spot ∷ spots_of stored
+spots_of stored = map (λ s. s.spot) stored
 
 abbrev pub row_of : Spot → ℕ
 row_of (Pair n p) = n

@@ -106,7 +106,7 @@ impl KeyLog {
     /// Empties it for the next unit, and gives it so many rows. If it has as many, that takes no time for each row.
     ///
     /// # Errors
-    /// `Memory` where a growth was refused; it is empty.
+    /// `Memory` if an allocation fails; it is empty.
     pub fn begin_unit(&mut self, rows: usize) -> Result<(), Memory>
         ensures rows { OnOk result (self.new ≡ record { stored = []; rows = rows }) }
         ensures empty { self.new.stored ≡ [] }
@@ -148,7 +148,7 @@ impl KeyLog {
     /// Stores what was found for a key, which must be of a row that the log has.
     ///
     /// # Errors
-    /// `Memory` where a growth was refused; nothing is stored.
+    /// `Memory` if an allocation fails; nothing is stored.
     pub fn put(&mut self, spot: Spot, found: Found) -> Result<(), Memory>
         requires row { row_of spot < self.old.rows }
         requires place { place_of spot < 18446744073709551615 }

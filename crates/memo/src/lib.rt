@@ -2,8 +2,6 @@
 #![tactic(auto)]
 
 mod key_log;
-#[cfg(test)]
-mod log_rows;
 mod spot;
 
 pub use key_log::{KeyLog, Stored};

@@ -45,8 +45,7 @@ told Need = 0
 
 module _ (g : Grammar) (x : List ℕ) (more : Bool) where
   -- Stored are exactly the keys that are reached, each once and with what it gives. The cells that they imply are
-  -- exactly
-  -- the pairs that are visited, each with its outcome and once, and as many as were begun.
+  -- exactly the pairs that are visited, each with its outcome and once, and as many as were begun.
   pub record IsDone (marks : Marks) (c : Contents) : Type 0 where
     pub frames : c.frames ≡ []
     pub keys : (root : ℕ) → slice_get g.bodies g.start ≡ Some root →

@@ -70,8 +70,7 @@ module _ (start : ℕ) (nodes : List Shape) (bodies : List ℕ) where
     pub not_root : slice_get bodies start ≡ Some m → ⊥
 
   -- The marks: a node without one is plain or such a repetition, a tail without one stands behind a member of some
-  -- width, or in a node that
-  -- is asked for once; the start rule's body has one.
+  -- width, or in a node that is asked for once; the start rule's body has one.
   pub record AreMarks (marks : ℕ → Bool) (tails : ℕ → ℕ → Bool) : Type 0 where
     pub plain : (m : ℕ) → marks m ≡ false → IsPlain m ⊎ IsLoop m
     pub fixed : (n i m : ℕ) (ms : List ℕ) → slice_get nodes n ≡ Some (Seq ms) → slice_get ms i ≡ Some m

@@ -49,7 +49,7 @@ impl Frames {
     /// Pushes a frame.
     ///
     /// # Errors
-    /// `Memory` where a growth was refused.
+    /// `Memory` if an allocation fails.
     pub(crate) fn push(&mut self, frame: Frame) -> Result<(), Memory>
         ensures { OnOk result (self.new ≡ frame ∷ self.old) }
     {

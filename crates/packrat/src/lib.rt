@@ -8,8 +8,6 @@ mod machine;
 mod marks;
 mod onward;
 mod packrat;
-#[cfg(test)]
-mod unit_rows;
 
 pub use frames::Frame;
 pub use laws::{

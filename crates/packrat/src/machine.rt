@@ -166,7 +166,7 @@ impl Machine {
     /// pairs as `Run` states it. None where the window is too short.
     ///
     /// # Errors
-    /// `Memory` where a growth was refused.
+    /// `Memory` if an allocation fails.
     pub(crate) fn evaluate(
         &mut self,
         peg: &SoundPeg,

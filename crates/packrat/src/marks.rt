@@ -8,9 +8,8 @@ ghost use Rattle.packrat.specs.Spots.{is_key as is_key_of};
 use memo::Spot;
 use std::alloc::Global;
 
-/// Which nodes are keys, and of which nodes the tails are: what may be asked for twice at a place. What has no mark
-/// is a
-/// key.
+/// Which nodes are keys, and of which nodes the tails are: what may be asked for twice at a place. What has no mark is
+/// a key.
 #[derive(Drop)]
 pub struct Marks {
     pub nodes: Vec<bool>,

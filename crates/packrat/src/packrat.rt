@@ -19,8 +19,7 @@ use std::alloc::Global;
 use std::marker::Model;
 
 /// A matcher that stores the outcomes of the keys alone, by node and place, and evaluates each node at each place at
-/// most
-/// once.
+/// most once.
 ///
 /// It is seen as the keys that are stored, the frames of what is under way, each with the last one first, and how many
 /// evaluations were begun. It recurses nowhere: its depth is that of its frames.
@@ -41,6 +40,7 @@ impl Model for Packrat {
     } };
 }
 
+// Returns the answer for an outcome.
 fn ended(found: Found, begun: u128) -> Unit
     ensures { result ≡ unit_of found begun }
 {
@@ -98,16 +98,15 @@ impl Packrat {
     }
 
     /// Returns what the start rule gives at the front of the window (Ford 2004, section 3.3). If it is not `Need`,
-    /// exactly
-    /// the keys that are reached are stored, each once and with its outcome; the cells that they imply are exactly the
-    /// pairs that are visited, each with its outcome and once; and as many were begun.
+    /// exactly the keys that are reached are stored, each once and with its outcome; the cells that they imply are
+    /// exactly the pairs that are visited, each with its outcome and once; and as many were begun.
     ///
     /// Without `more` the window is the whole rest of the input, and the answer is never `Need`. With `more` the window
-    /// isn't empty, and `Need` says that its last byte was compared; any other answer holds for every rest that begins
+    /// is not empty, and `Need` says that its last byte was compared; any other answer holds for every rest that begins
     /// with the window.
     ///
     /// # Errors
-    /// `Memory` where a growth was refused; nothing is stored.
+    /// `Memory` if an allocation fails; nothing is stored.
     pub fn match_unit(
         &mut self,
         peg: &SoundPeg,

@@ -1,8 +1,7 @@
-//! Keys by hand.
+//! Stored keys by hand.
 
-use crate::key_log::KeyLog;
-use crate::spot::Spot;
 use cells::Found;
+use memo::{KeyLog, Spot};
 use std::alloc::Global;
 use std::test::Fail;
 
