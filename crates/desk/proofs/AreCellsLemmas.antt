@@ -4,27 +4,24 @@ use Rattle.std.proofs.Common.{◌≡◌, inl, inr, ℕ, ◌+◌, ◌*◌, ◌<�
 use Rattle.pegread.specs.Pattern.{Rule}
 use Rattle.gramcheck.specs.Nodes.{Shape}
 use Rattle.gramcheck.specs.Sound.{IsRanked}
-use Rattle.gramcheck.proofs.NodeSpellsLemmas.{is_there}
 use Rattle.cells.specs.Entries.{Entry}
 use Rattle.desk.specs.declared.frame.Frame.{Frame}
 use Rattle.cells.specs.Entries.{found_at, AreDifferent}
-use Rattle.desk.specs.State.{HasCell, IsStack, no_frame, bottom, above, AreCells}
-use Rattle.desk.specs.Visits.{Visits}
-use Rattle.desk.proofs.AsksLemmas.{is_visited}
-use Rattle.desk.proofs.CodeLemmas.{In, in_cases, Differ, code, code_same, code_below, cell_codes, all_codes, cell_of}
-use Rattle.desk.proofs.CodeLemmas.{not_among, cells_differ, length_codes, at_most_below}
+use Rattle.desk.specs.State.{IsStack, no_frame, bottom, above, AreCells}
+use Rattle.visits.specs.CellOutcomes.{HasCell}
+use Rattle.visits.specs.Visits.{Visits}
+use Rattle.visits.proofs.AsksLemmas.{is_visited, visited_there}
+use Rattle.visits.proofs.CodeLemmas.{In, in_cases, Differ, code, code_same, code_below, cell_codes, cell_of}
+use Rattle.desk.proofs.FrameCodesLemmas.{all_codes}
+use Rattle.visits.proofs.CodeLemmas.{not_among, cells_differ, at_most_below}
+use Rattle.desk.proofs.FrameCodesLemmas.{length_codes}
 use Rattle.desk.proofs.IsStackLemmas.{high, AreAbove, are_above, top_visits}
 
 module _ (rules : List Rule) (start : ℕ) (nodes : List Shape) (bodies ranks x : List ℕ) (more : Bool)
     (sound : IsRanked rules start nodes bodies ranks) where
-  -- a pair that is visited is of a node that is there, and a place of the input
-  pub visited_there : (n p : ℕ) → Visits rules nodes bodies x start n p → (n < length nodes) × (p ≤ length x)
-  visited_there n p v = let i = is_visited rules start nodes bodies ranks x sound v in
-      (is_there rules nodes i.spelled.1, i.high)
-
   pub cell_there : (cells : List Entry) → AreCells rules start nodes bodies x more cells → (m q : ℕ) → HasCell cells m q
       → (m < length nodes) × (q ≤ length x)
-  cell_there cells c m q h = visited_there m q (c.visited m q h.0 h.1)
+  cell_there cells c m q h = visited_there rules start nodes bodies ranks x sound m q (c.visited m q h.0 h.1)
 
   abbrev Width : ℕ
   Width = length x + 1
@@ -91,14 +88,14 @@ module _ (rules : List Rule) (start : ℕ) (nodes : List Shape) (bodies ranks x 
       → a < length nodes * Width
   all_below cells c no_frame a h = cells_below cells c a h
   all_below cells c (bottom {f = f} o at is) a h =
-      let l = visited_there f.node f.place (top_visits rules start nodes bodies ranks x more sound cells f []
+      let l = visited_there rules start nodes bodies ranks x sound f.node f.place (top_visits rules start nodes bodies ranks x more sound cells f []
       (bottom o at is)) in
       elim (in_cases h) [
         | inl same ↦ rw same (code_below Width f.node f.place (length nodes) l.0 (omega (arith, l.1)))
         | inr later ↦ cells_below cells c a later
       ]
   all_below cells c (above {h = g} {f = k} {fs = fs} o b s) a h =
-      let l = visited_there g.node g.place (top_visits rules start nodes bodies ranks x more sound cells g (k ∷ fs)
+      let l = visited_there rules start nodes bodies ranks x sound g.node g.place (top_visits rules start nodes bodies ranks x more sound cells g (k ∷ fs)
       (above o b s)) in
       elim (in_cases h) [
         | inl same ↦ rw same (code_below Width g.node g.place (length nodes) l.0 (omega (arith, l.1)))

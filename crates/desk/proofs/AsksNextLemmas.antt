@@ -17,7 +17,7 @@ use Rattle.desk.specs.Ahead.{come_to}
 use Rattle.desk.specs.Desk.{beginning, IsFinished}
 use Rattle.desk.specs.AsksNext.{AsksNext, IsAsked, AreAsked, IsBack, AsksAt, IsKnownNext}
 use Rattle.desk.specs.Turns.{same_turn, again_turn, opt_turn, and_turn, not_turn, star_turn, plus_turn, IsTurn}
-use Rattle.desk.specs.Visits.{AsksBy}
+use Rattle.visits.specs.Visits.{AsksBy}
 use Rattle.desk.specs.declared.ahead.Halt.{Halt}
 use Rattle.desk.specs.declared.frame.Frame.{Frame}
 use Rattle.desk.specs.declared.run.Next.{Next}

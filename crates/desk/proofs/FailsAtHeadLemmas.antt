@@ -21,8 +21,8 @@ use Rattle.desk.specs.declared.frame.Frame.{Frame}
 use Rattle.desk.specs.declared.turn.Turn.TheVariants.{Answer}
 use Rattle.desk.specs.Desk.{beginning, counted, Fits}
 use Rattle.desk.specs.Heads.{FailsFirst, FailsAtHead, PutsFailures}
-use Rattle.desk.specs.Visits.{AsksMember, member_here, Asks, asked}
-use Rattle.desk.proofs.AsksLemmas.{IsVisited, is_visited}
+use Rattle.visits.specs.Visits.{AsksMember, member_here, Asks, asked}
+use Rattle.visits.proofs.AsksLemmas.{IsVisited, is_visited}
 use Rattle.desk.proofs.IsNextLemmas.{at_top}
 use Rattle.desk.proofs.IsSeenFromLemmas.{frame_fits, still_free, answered_from}
 use Rattle.desk.proofs.IsNarrowRunLemmas.{pair_is_narrow}

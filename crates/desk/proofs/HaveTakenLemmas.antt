@@ -13,10 +13,11 @@ use Rattle.cells.specs.declared.cell.Found.{Found}
 use Rattle.cells.specs.declared.cell.Found.TheVariants.{Failed, Took}
 use Rattle.cells.specs.Entries.{Entry}
 use Rattle.cells.specs.Entries.{found_at}
-use Rattle.desk.specs.State.{HasCell, HaveTaken, none_taken, one_taken, HaveFailed, none_failed, one_failed, IsFound}
-use Rattle.desk.specs.Visits.{NodeGives, NodeTakes, NodeFails, AsksMember, member_here, member_later, AsksAlternative}
-use Rattle.desk.specs.Visits.{alternative_here, alternative_later}
-use Rattle.desk.proofs.NodeGivesLemmas.{gives_as, same_node}
+use Rattle.desk.specs.State.{HaveTaken, none_taken, one_taken, HaveFailed, none_failed, one_failed}
+use Rattle.visits.specs.CellOutcomes.{HasCell, IsFound}
+use Rattle.visits.specs.Visits.{NodeGives, NodeTakes, NodeFails, AsksMember, member_here, member_later, AsksAlternative}
+use Rattle.visits.specs.Visits.{alternative_here, alternative_later}
+use Rattle.visits.proofs.NodeGivesLemmas.{gives_as, same_node}
 
 module _ (cells : List Entry) where
   -- one member more

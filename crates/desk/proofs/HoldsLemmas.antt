@@ -14,8 +14,9 @@ use Rattle.cells.specs.Entries.{Entry}
 use Rattle.desk.specs.declared.frame.Frame.{Frame}
 use Rattle.desk.specs.Desk.{View, beginning, IsDone, IsOutcome, Holds}
 use Rattle.desk.specs.Path.{Walks, no_walk, walk}
-use Rattle.desk.specs.State.{HasCell, AreCells}
-use Rattle.desk.specs.Visits.{first, asked}
+use Rattle.desk.specs.State.{AreCells}
+use Rattle.visits.specs.CellOutcomes.{HasCell}
+use Rattle.visits.specs.Visits.{first, asked}
 use Rattle.gramcheck.specs.Rising.{Rise}
 use Rattle.gramcheck.proofs.RiseLemmas.{Rise-upper}
 use Rattle.gramcheck.proofs.StartRuleLemmas.{rises_of_start}

@@ -11,8 +11,8 @@ use Rattle.cells.specs.Entries.{AreNarrow, IsNarrow}
 use Rattle.cells.specs.declared.cell.Found.{Found}
 use Rattle.cells.specs.declared.cell.Found.TheVariants.{Failed, Took}
 use Rattle.desk.specs.Ahead.{IsNarrowRun}
-use Rattle.desk.specs.State.{IsFound}
-use Rattle.desk.proofs.AsksLemmas.{goes_onward}
+use Rattle.visits.specs.CellOutcomes.{IsFound}
+use Rattle.visits.proofs.AsksLemmas.{goes_onward}
 
 module _ (g : Grammar) (x : List ℕ) (more : Bool) (sound : IsSoundGrammar g) (narrow : IsNarrowRun g x) (n p : ℕ)
     (spelled : SpellsSome (rules_of g.rules) (shapes_of g.nodes) n) (high : p ≤ length x) where

@@ -27,8 +27,8 @@ use Rattle.desk.specs.State as state
 use Rattle.desk.specs.State.{HaveTaken, HaveFailed, IsUnderWay}
 use Rattle.desk.specs.Turns.{same_turn, again_turn, opt_turn, and_turn, not_turn, star_turn, plus_turn, IsWalk}
 use Rattle.desk.specs.Turns.{IsSearch, IsTurn}
-use Rattle.desk.specs.Visits.{Asks, asked}
-use Rattle.desk.proofs.AsksLemmas.{IsVisited, asks_body, is_visited}
+use Rattle.visits.specs.Visits.{Asks, asked}
+use Rattle.visits.proofs.AsksLemmas.{IsVisited, asks_body, is_visited}
 use Rattle.desk.proofs.HaveTakenLemmas.{asks_member, asks_alternative, taken_on, failed_on}
 use Rattle.desk.proofs.IsNextLemmas.{at_top, finished_next, leaf_next, leaf_need}
 use Rattle.desk.proofs.IsStackLemmas.{come_on}

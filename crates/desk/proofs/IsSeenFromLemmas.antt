@@ -15,7 +15,7 @@ use Rattle.desk.specs.declared.frame.Frame.{Frame}
 use Rattle.desk.specs.declared.turn.Turn.TheVariants.{Ask, Answer}
 use Rattle.desk.specs.Desk.{beginning, counted, Fits, IsFurther}
 use Rattle.desk.specs.Turns.{IsTurn}
-use Rattle.desk.specs.Visits.{Asks}
+use Rattle.visits.specs.Visits.{Asks}
 use Rattle.desk.proofs.IsNextLemmas.{at_top, pushed_next, dropped_next}
 use Rattle.desk.proofs.IsOnLemmas.{seen_comes, seen_is, seen_short, turn_asks}
 use Rattle.desk.proofs.IsPutLemmas.{is_put}

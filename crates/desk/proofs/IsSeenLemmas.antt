@@ -9,10 +9,11 @@ use Rattle.cells.specs.Entries.{Entry, IsKnown}
 use Rattle.cells.specs.declared.cell.Found.{Found}
 use Rattle.cells.specs.declared.cell.Found.TheVariants.{Failed, Took}
 use Rattle.desk.specs.Ahead.{IsSeen}
-use Rattle.desk.specs.State.{IsFound, AreCells}
+use Rattle.desk.specs.State.{AreCells}
+use Rattle.visits.specs.CellOutcomes.{IsFound}
 use Rattle.desk.specs.Turns.{IsTurn}
 use Rattle.desk.specs.declared.turn.Turn.TheVariants.{Answer}
-use Rattle.desk.proofs.NodeGivesLemmas.{same_node}
+use Rattle.visits.proofs.NodeGivesLemmas.{same_node}
 
 module _ (g : Grammar) (x : List ℕ) (more : Bool) (sound : IsSoundGrammar g) (n p : ℕ) where
   abbrev Finds : Found → Type 0

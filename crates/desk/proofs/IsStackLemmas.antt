@@ -11,11 +11,12 @@ use Rattle.cells.specs.Entries.{Entry}
 use Rattle.desk.specs.declared.frame.Frame.{Frame}
 use Rattle.desk.specs.declared.turn.Turn.TheVariants.{Ask, Answer}
 use Rattle.cells.specs.Entries.{found_at}
-use Rattle.desk.specs.State.{HasCell, IsPut, none_taken, none_failed, HasCome, IsUnderWay, IsOpen, IsStack, no_frame}
+use Rattle.desk.specs.State.{IsPut, none_taken, none_failed, HasCome, IsUnderWay, IsOpen, IsStack, no_frame}
+use Rattle.visits.specs.CellOutcomes.{HasCell}
 use Rattle.desk.specs.State.{bottom, above, AreCells, HasNoFrame, AreUnderWay}
 use Rattle.desk.specs.Turns.{IsTurn}
-use Rattle.desk.specs.Visits.{Asks, Visits, first, asked}
-use Rattle.desk.proofs.AsksLemmas.{height, height_falls, is_visited}
+use Rattle.visits.specs.Visits.{Asks, Visits, first, asked}
+use Rattle.visits.proofs.AsksLemmas.{height, height_falls, is_visited}
 use Rattle.desk.proofs.HaveTakenLemmas.{still_taken, still_failed}
 
 -- an evaluation that begins

@@ -27,14 +27,15 @@ use Rattle.desk.specs.Desk.{View, beginning, Fits, HasFrames, IsDone, Drops, Rea
 use Rattle.desk.specs.Desk.{unit_of}
 use Rattle.desk.specs.State.{IsPut, IsUnderWay, IsStack}
 use Rattle.desk.specs.Turns.{IsTurn}
-use Rattle.desk.specs.Visits.{NodeGives, Visits}
-use Rattle.desk.proofs.AsksLemmas.{is_visited}
-use Rattle.desk.proofs.AreCellsLemmas.{all_at_most, visited_there}
-use Rattle.desk.proofs.CodeLemmas.{cells_at_most}
-use Rattle.desk.proofs.LookedLemmas.{ends_within}
-use Rattle.desk.proofs.VisitsLemmas.{visits_within}
+use Rattle.visits.specs.Visits.{NodeGives, Visits}
+use Rattle.visits.proofs.AsksLemmas.{is_visited}
+use Rattle.desk.proofs.AreCellsLemmas.{all_at_most}
+use Rattle.visits.proofs.AsksLemmas.{visited_there}
+use Rattle.visits.proofs.CodeLemmas.{cells_at_most}
+use Rattle.visits.proofs.LookedLemmas.{ends_within}
+use Rattle.visits.proofs.VisitsLemmas.{visits_within}
 use Rattle.desk.proofs.IsPutLemmas.{is_put, different_put}
-use Rattle.desk.proofs.NodeGivesLemmas.{gives_as, same_node}
+use Rattle.visits.proofs.NodeGivesLemmas.{gives_as, same_node}
 use Rattle.desk.proofs.IsStackLemmas.{top_visits, top_is_open, stack_push, stack_pop}
 use Rattle.desk.proofs.IsStackLemmas.{cells_put, alone_is_start, all_visited}
 use Rattle.desk.proofs.IsStackLemmas.{stack_begin, no_cells, under_way}
@@ -328,7 +329,7 @@ module _ (g : Grammar) (x : List ℕ) (more : Bool) (sound : IsSoundGrammar g) w
       (λ m q h.
       let v = done.visited m q h.0 h.1 in
       let within = visits_within Rs g.start Ns g.bodies g.ranks x sound v root.0 k o root.1 node in
-      ((visited_there Rs g.start Ns g.bodies g.ranks x more sound m q v).0, omega (arith, within.near))) in
+      ((visited_there Rs g.start Ns g.bodies g.ranks x sound m q v).0, omega (arith, within.near))) in
       omega (arith, done.count, most)
 
   pub told_at_most : (d : View) (u : UnitAnswer) → IsOutcome g x more d u → (o : Outcome) (k : ℕ) → StartGives g x o k

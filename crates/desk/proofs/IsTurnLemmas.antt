@@ -21,14 +21,15 @@ use Rattle.desk.specs.Ahead.{IsSight, known_turn}
 use Rattle.desk.specs.declared.turn.Turn.{Turn}
 use Rattle.desk.specs.declared.turn.Turn.TheVariants.{Ask, Answer, Need}
 use Rattle.cells.specs.Entries.{found_at}
-use Rattle.desk.specs.State.{HasCell, HasCome, IsUnderWay, IsFound, AreCells}
+use Rattle.desk.specs.State.{HasCome, IsUnderWay, AreCells}
+use Rattle.visits.specs.CellOutcomes.{HasCell, IsFound}
 use Rattle.desk.specs.Turns.{same_turn, again_turn, opt_turn, and_turn, not_turn, star_turn, plus_turn, IsLeafTurn}
 use Rattle.desk.specs.Turns.{IsWalk, IsSearch, IsTurn}
-use Rattle.desk.specs.Visits.{AsksBy, Asks}
-use Rattle.desk.proofs.AsksLemmas.{asks_body}
-use Rattle.desk.proofs.GivesLemmas.{name_gives, opt_gives_takes, opt_gives_none, and_gives_takes, and_gives_fails}
-use Rattle.desk.proofs.GivesLemmas.{not_gives_takes, not_gives_fails, star_gives_none, star_gives_more}
-use Rattle.desk.proofs.GivesLemmas.{star_never_fails, plus_gives_fails, plus_gives_takes, plus_star}
+use Rattle.visits.specs.Visits.{AsksBy, Asks}
+use Rattle.visits.proofs.AsksLemmas.{asks_body}
+use Rattle.visits.proofs.GivesLemmas.{name_gives, opt_gives_takes, opt_gives_none, and_gives_takes, and_gives_fails}
+use Rattle.visits.proofs.GivesLemmas.{not_gives_takes, not_gives_fails, star_gives_none, star_gives_more}
+use Rattle.visits.proofs.GivesLemmas.{star_never_fails, plus_gives_fails, plus_gives_takes, plus_star}
 use Rattle.desk.proofs.HaveTakenLemmas.{ends_alike, nor_both, takes_by, asks_member, asks_alternative, all_fail}
 use Rattle.desk.proofs.HaveTakenLemmas.{fail_closed, all_take, take_closed, first_found, found_closed, none_found}
 use Rattle.desk.proofs.HaveTakenLemmas.{none_closed}

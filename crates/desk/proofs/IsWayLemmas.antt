@@ -36,11 +36,12 @@ use Rattle.pegmatch.specs.KeptEvents.{opened, closed, acted}
 use Rattle.desk.specs.Path.{IsHeard}
 use Rattle.desk.specs.Path.{EndsBy, opt_way, into, star_way, choice_way, Taking, AllTaking, LeftBy}
 use Rattle.desk.specs.Path.{IsLeft, IsWay, pair_height}
-use Rattle.desk.specs.State.{HasCell, HaveTaken, none_taken, AreCells}
-use Rattle.desk.specs.Visits.{NodeGives, NodeTakes, Asks, AsksAlternative, alternative_here, alternative_later}
-use Rattle.desk.proofs.AsksLemmas.{asks_body, leads_to, height_falls}
-use Rattle.desk.proofs.GivesLemmas.{is_name}
-use Rattle.desk.proofs.NodeGivesLemmas.{gives_as}
+use Rattle.desk.specs.State.{HaveTaken, none_taken, AreCells}
+use Rattle.visits.specs.CellOutcomes.{HasCell}
+use Rattle.visits.specs.Visits.{NodeGives, NodeTakes, Asks, AsksAlternative, alternative_here, alternative_later}
+use Rattle.visits.proofs.AsksLemmas.{asks_body, leads_to, height_falls}
+use Rattle.visits.proofs.GivesLemmas.{is_name}
+use Rattle.visits.proofs.NodeGivesLemmas.{gives_as}
 use Rattle.desk.proofs.HaveTakenLemmas.{taken_next, asks_member}
 
 -- where a node's success ends, if it is told

@@ -1,13 +1,8 @@
-pub mod NodeGivesLemmas
-pub mod GivesLemmas
-pub mod AsksLemmas
-pub mod VisitsLemmas
 pub mod IsPutLemmas
 pub mod HaveTakenLemmas
 pub mod IsTurnLemmas
 pub mod IsStackLemmas
-pub mod LookedLemmas
-pub mod CodeLemmas
+pub mod FrameCodesLemmas
 pub mod AreCellsLemmas
 pub mod IsStepLemmas
 pub mod IsNextLemmas

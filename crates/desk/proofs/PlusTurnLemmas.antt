@@ -13,8 +13,8 @@ use Rattle.desk.specs.Ahead.{IsNarrowRun, IsSeen, HasCome, IsOn}
 use Rattle.desk.specs.declared.frame.Frame.{Frame}
 use Rattle.desk.specs.declared.turn.Turn.TheVariants.{Answer}
 use Rattle.desk.specs.Desk.{beginning, counted, Fits}
-use Rattle.desk.specs.Visits.{Asks}
-use Rattle.desk.proofs.GivesLemmas.{plus_star}
+use Rattle.visits.specs.Visits.{Asks}
+use Rattle.visits.proofs.GivesLemmas.{plus_star}
 use Rattle.desk.proofs.IsNarrowRunLemmas.{pair_is_narrow, outcome_is_narrow, all_narrow}
 use Rattle.desk.proofs.IsNextLemmas.{at_top}
 use Rattle.desk.proofs.IsOnLemmas.{come_further, come_by, way_has_come, child_visited, seen_comes, asks_plus}

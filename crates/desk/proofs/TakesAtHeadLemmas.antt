@@ -19,8 +19,8 @@ use Rattle.desk.specs.declared.turn.Turn.TheVariants.{Answer}
 use Rattle.desk.specs.Desk.{beginning, counted, Fits}
 use Rattle.desk.specs.Heads.{PutsSuccesses, TakesAtHead, TakesInBody}
 use Rattle.desk.specs.Turns.{star_turn}
-use Rattle.desk.specs.Visits.{AsksAlternative, alternative_here, Asks, asked}
-use Rattle.desk.proofs.AsksLemmas.{IsVisited, asks_body, is_visited}
+use Rattle.visits.specs.Visits.{AsksAlternative, alternative_here, Asks, asked}
+use Rattle.visits.proofs.AsksLemmas.{IsVisited, asks_body, is_visited}
 use Rattle.desk.proofs.IsNarrowRunLemmas.{all_narrow, pair_is_narrow}
 use Rattle.desk.proofs.IsNextLemmas.{at_top}
 use Rattle.desk.proofs.IsOnLemmas.{other_takes, seen_comes}

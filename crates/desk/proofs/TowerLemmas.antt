@@ -25,8 +25,8 @@ use Rattle.desk.specs.Desk.{beginning, counted, Fits, left}
 use Rattle.desk.specs.Path.{EndsBy}
 use Rattle.desk.specs.Repeats.{TakesByte, Tower, ground, floor, IsHalted, IsRunning, HasRun}
 use Rattle.desk.specs.Turns.{again_turn, star_turn, IsTurn}
-use Rattle.desk.specs.Visits.{Asks}
-use Rattle.desk.proofs.AsksLemmas.{IsVisited}
+use Rattle.visits.specs.Visits.{Asks}
+use Rattle.visits.proofs.AsksLemmas.{IsVisited}
 use Rattle.desk.proofs.IsNarrowRunLemmas.{pair_is_narrow, outcome_is_narrow, all_narrow}
 use Rattle.desk.proofs.IsNextLemmas.{at_top, pushed_next, dropped_next}
 use Rattle.desk.proofs.IsOnLemmas.{child_visited, seen_comes, seen_is, seen_short, asks_star, star_on}

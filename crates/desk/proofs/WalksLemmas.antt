@@ -18,8 +18,9 @@ use Rattle.cells.specs.Entries.{found_at}
 use Rattle.desk.specs.Desk.{beginning}
 use Rattle.desk.specs.Path.{IsLeft, IsWay, pair_height, frame_height, AreHigher, Walks, no_walk, walk, arity, arity_of}
 use Rattle.desk.specs.Path.{arities, todo, Begins, Goes}
-use Rattle.desk.specs.State.{HasCell}
-use Rattle.desk.proofs.CodeLemmas.{In, now, on, in_cases, Differ, at_most, code, code_same, cell_codes, length_codes}
+use Rattle.visits.specs.CellOutcomes.{HasCell}
+use Rattle.visits.proofs.CodeLemmas.{In, now, on, in_cases, Differ, at_most, code, code_same, cell_codes}
+use Rattle.desk.proofs.FrameCodesLemmas.{length_codes}
 use Rattle.cells.proofs.FoundAtLemmas.{is_of, is_own}
 
 -- the number of a cell is among those of the cells

@@ -18,8 +18,9 @@ use Rattle.desk.specs.declared.frame.Frame.{Frame}
 use Rattle.desk.specs.declared.run.Next.{Next}
 use Rattle.desk.specs.declared.run.Next.TheVariants as next
 use Rattle.cells.specs.Entries.{found_at, AreDifferent, IsAdded}
-use Rattle.desk.specs.State.{HasCell, IsFound, IsPut, IsStack, AreCells, AreUnderWay}
-use Rattle.desk.specs.Visits.{NodeGives, Asks, Visits}
+use Rattle.desk.specs.State.{IsPut, IsStack, AreCells, AreUnderWay}
+use Rattle.visits.specs.CellOutcomes.{HasCell, IsFound}
+use Rattle.visits.specs.Visits.{NodeGives, Asks, Visits}
 
 -- the cells, the frames with the last one first, and how many evaluations were begun
 pub record View : Type 0 where

@@ -1,5 +1,4 @@
 pub mod Ahead
-pub mod Visits
 pub mod State
 pub mod Turns
 pub mod Desk

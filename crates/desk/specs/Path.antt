@@ -18,8 +18,9 @@ use Rattle.desk.specs.declared.way.Way.TheVariants.{Leave, Emit, TurnTo, GoInto}
 use Rattle.cells.specs.Entries.{found_at}
 use Rattle.desk.specs.Ahead.{come_to}
 use Rattle.desk.specs.Desk.{beginning}
-use Rattle.desk.specs.State.{HasCell, HaveTaken}
-use Rattle.desk.specs.Visits.{NodeGives, Asks}
+use Rattle.desk.specs.State.{HaveTaken}
+use Rattle.visits.specs.CellOutcomes.{HasCell}
+use Rattle.visits.specs.Visits.{NodeGives, Asks}
 
 abbrev pub opt_way : ℕ → ℕ → Option Found → Way
 opt_way m p None = Leave

@@ -3,18 +3,13 @@ use Rattle.std.specs.Prelude.{◌≡◌, ◌⊎◌, ℕ, zero, suc, ◌<◌, Boo
 use Rattle.pegread.specs.Pattern.{Rule}
 use Rattle.gramcheck.specs.Nodes.{Shape, Any, Bytes, Set, Name, Seq, Choice, Star, Plus, Opt, And, Not, Act, Open}
 use Rattle.gramcheck.specs.Nodes.{Close}
-use Rattle.gramcheck.specs.Outcome.{Event}
 use Rattle.cells.specs.declared.cell.Found.{Found}
 use Rattle.cells.specs.declared.cell.Found.TheVariants.{Failed, Took}
-use Rattle.pegmatch.specs.KeptEvents.{outcome_of}
 use Rattle.cells.specs.Entries.{Entry}
 use Rattle.desk.specs.declared.frame.Frame.{Frame}
 use Rattle.cells.specs.Entries.{found_at}
-use Rattle.desk.specs.Visits.{NodeGives, Asks, Visits}
-
--- the node has a cell at the place
-abbrev pub HasCell : List Entry → ℕ → ℕ → Type 0
-HasCell cells n p = (f : Found) × (found_at cells n p ≡ Some f)
+use Rattle.visits.specs.CellOutcomes.{HasCell, IsFound}
+use Rattle.visits.specs.Visits.{Asks, Visits}
 
 -- A cell more, for a node and a place that had none.
 pub record IsPut (old new : List Entry) (n p : ℕ) (f : Found) : Type 0 where
@@ -66,14 +61,6 @@ AreUnderWay rules start nodes bodies x cells (f ∷ fs) =
     AreUnderWay rules start nodes bodies x cells fs
 
 module _ (rules : List Rule) (start : ℕ) (nodes : List Shape) (bodies x : List ℕ) (more : Bool) where
-  -- what was found is the outcome of the node, which did not look at the last byte of a window that is not the whole
-  -- rest
-  pub record IsFound (n p : ℕ) (f : Found) : Type 0 where
-    pub events : List Event
-    pub looked : ℕ
-    pub gives : NodeGives rules nodes bodies x n p (outcome_of f events) looked
-    pub enough : more ≡ true → looked < length x
-
   module _ (cells : List Entry) where
     -- a node's evaluation at p has come to its member i at q
     abbrev pub IsUnderWay : ℕ → ℕ → ℕ → ℕ → Type 0
@@ -94,6 +81,6 @@ module _ (rules : List Rule) (start : ℕ) (nodes : List Shape) (bodies x : List
     -- Each cell is of a pair that is visited, holds its outcome, and all pairs that it asked for have cells.
     pub record AreCells : Type 0 where
       pub visited : (n p : ℕ) (f : Found) → found_at cells n p ≡ Some f → Visits rules nodes bodies x start n p
-      pub found : (n p : ℕ) (f : Found) → found_at cells n p ≡ Some f → IsFound n p f
+      pub found : (n p : ℕ) (f : Found) → found_at cells n p ≡ Some f → IsFound rules start nodes bodies x more n p f
       pub closed : (n p m q : ℕ) (f : Found) → found_at cells n p ≡ Some f → Asks rules nodes bodies x n p m q
           → HasCell cells m q

@@ -10,8 +10,9 @@ use Rattle.cells.specs.Entries.{Entry}
 use Rattle.desk.specs.declared.turn.Turn.{Turn}
 use Rattle.desk.specs.declared.turn.Turn.TheVariants.{Ask, Answer, Need}
 use Rattle.cells.specs.Entries.{found_at}
-use Rattle.desk.specs.State.{HasCell, HaveTaken, HaveFailed, IsUnderWay, IsFound}
-use Rattle.desk.specs.Visits.{NodeGives, Asks}
+use Rattle.desk.specs.State.{HaveTaken, HaveFailed, IsUnderWay}
+use Rattle.visits.specs.CellOutcomes.{HasCell, IsFound}
+use Rattle.visits.specs.Visits.{NodeGives, Asks}
 
 -- what a node gives at a place, handed on
 abbrev pub same_turn : ℕ → ℕ → Option Found → Turn

@@ -10,7 +10,7 @@ ghost use Rattle.desk.specs.declared.frame.Frame.{Frame};
 ghost use Rattle.desk.specs.Ahead.{IsNarrowRun, IsSight, IsSeen, IsOn, seen_as};
 ghost use Rattle.desk.specs.Ahead.{known_turn};
 ghost use Rattle.desk.specs.SeenFrom.{IsSeenFrom};
-ghost use Rattle.desk.specs.Visits.{Asks};
+ghost use Rattle.visits.specs.Visits.{Asks};
 ghost use Rattle.desk.specs.Desk.{counted, Fits, back_as};
 ghost use Rattle.desk.specs.AsksNext.{AsksAt, IsBack, member_on, other_on};
 ghost use Rattle.desk.specs.State.{AreCells};

@@ -13,7 +13,7 @@ ghost use Rattle.desk.specs.Ahead.{IsNarrowRun};
 ghost use Rattle.desk.specs.SeenFrom.{FailsFrom};
 ghost use Rattle.desk.specs.Desk.{counted, Fits};
 ghost use Rattle.desk.specs.Heads.{FailsFirst, FailsAtHead, PutsFailures};
-ghost use Rattle.desk.specs.Visits.{Asks, Visits};
+ghost use Rattle.visits.specs.Visits.{Asks, Visits};
 
 use cells::{Cells, Found};
 use gramcheck::{Node, SoundPeg};

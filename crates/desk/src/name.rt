@@ -10,7 +10,7 @@ ghost use Rattle.desk.specs.Ahead.{IsNarrowRun};
 ghost use Rattle.desk.specs.SeenFrom.{TakesFrom};
 ghost use Rattle.desk.specs.Desk.{counted, Fits};
 ghost use Rattle.desk.specs.Heads.{PutsSuccesses, TakesAtHead, TakesFirst, TakesInBody};
-ghost use Rattle.desk.specs.Visits.{Asks, Visits};
+ghost use Rattle.visits.specs.Visits.{Asks, Visits};
 
 use crate::repeat::{takes_byte, try_byte};
 use cells::{Cells, Found};

@@ -10,8 +10,8 @@ use Rattle.gramcheck.specs.Sound.{IsRanked}
 use Rattle.cells.specs.declared.cell.Found.{Found}
 use Rattle.cells.specs.Entries.{Entry, found_at, AreDifferent}
 use Rattle.cells.proofs.FoundAtLemmas.{is_of, is_own, is_of_own}
-use Rattle.desk.specs.State.{IsFound, HasCell}
-use Rattle.desk.proofs.AsksLemmas.{is_visited}
+use Rattle.visits.specs.CellOutcomes.{IsFound, HasCell}
+use Rattle.visits.proofs.AsksLemmas.{is_visited}
 use Rattle.packrat.specs.KeyMarks.{AreMarks}
 use Rattle.memo.specs.Parts.{IsIn, in_here, in_later, Distinct, distinct_more, Reach, IsForest}
 use Rattle.memo.specs.declared.spot.Spot.{Spot}

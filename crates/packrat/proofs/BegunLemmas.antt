@@ -10,8 +10,8 @@ use Rattle.cells.specs.declared.cell.Found.{Found}
 use Rattle.cells.specs.Entries.{Entry, found_at, AreDifferent}
 use Rattle.cells.specs.declared.cell.Found.TheVariants.{Failed}
 use Rattle.cells.proofs.FoundAtLemmas.{is_of, is_own}
-use Rattle.desk.proofs.AreCellsLemmas.{visited_there}
-use Rattle.desk.proofs.CodeLemmas.{cells_at_most}
+use Rattle.visits.proofs.AsksLemmas.{visited_there}
+use Rattle.visits.proofs.CodeLemmas.{cells_at_most}
 use Rattle.packrat.specs.KeyMarks.{AreMarks}
 use Rattle.memo.specs.Parts.{IsIn, in_here, in_later, Distinct, distinct_none, distinct_more}
 use Rattle.memo.specs.Run.{total}
@@ -160,7 +160,7 @@ module _ (rules : List Rule) (start : ℕ) (nodes : List Shape) (bodies ranks x 
       (NextOf rules nodes bodies x) (is_key marks tails) forest next
       (λ a r. reached_ends rules start nodes bodies ranks x sound root is_root r) s steps in
       let most = cells_at_most (cells_for (held Spot s).begun) (length nodes) (length x) (for_different g.once)
-      (λ m q h. visited_there rules start nodes bodies ranks x more sound m q
+      (λ m q h. visited_there rules start nodes bodies ranks x sound m q
       (reached_is_visited rules start nodes bodies x root is_root m q
       (g.reached (Pair m q) (for_among m q h.0 (held Spot s).begun h.1)))) in
       let same = for_weigh (held Spot s).begun in

@@ -13,12 +13,12 @@ use Rattle.gramcheck.specs.Outcome.{Outcome}
 use Rattle.cells.specs.declared.cell.Found.{Found}
 use Rattle.pegmatch.specs.Answers.{StartGives}
 use Rattle.pegmatch.specs.KeptEvents.{outcome_of}
-use Rattle.desk.specs.Visits.{NodeGives}
-use Rattle.desk.proofs.AreCellsLemmas.{visited_there}
-use Rattle.desk.proofs.CodeLemmas.{cells_at_most}
-use Rattle.desk.proofs.LookedLemmas.{ends_within}
-use Rattle.desk.proofs.NodeGivesLemmas.{gives_as, same_node}
-use Rattle.desk.proofs.VisitsLemmas.{visits_within}
+use Rattle.visits.specs.Visits.{NodeGives}
+use Rattle.visits.proofs.AsksLemmas.{visited_there}
+use Rattle.visits.proofs.CodeLemmas.{cells_at_most}
+use Rattle.visits.proofs.LookedLemmas.{ends_within}
+use Rattle.visits.proofs.NodeGivesLemmas.{gives_as, same_node}
+use Rattle.visits.proofs.VisitsLemmas.{visits_within}
 use Rattle.memo.specs.KeyLog.{spots_of}
 use Rattle.memo.specs.declared.key_log.Stored.{Stored}
 use Rattle.memo.specs.declared.spot.Spot.TheVariants.{Pair, Tail}
@@ -161,7 +161,7 @@ module _ (g : Grammar) (x : List ℕ) (sound : IsSoundGrammar g) where
         let v = done.every.visited m q h.0 h.1 in
         let within = visits_within (rules_of g.rules) g.start (shapes_of g.nodes) g.bodies g.ranks x sound v root k o
         at (start_as root o k at gives) in (
-          (visited_there (rules_of g.rules) g.start (shapes_of g.nodes) g.bodies g.ranks x more sound m q v).0,
+          (visited_there (rules_of g.rules) g.start (shapes_of g.nodes) g.bodies g.ranks x sound m q v).0,
           omega (arith, within.near),
         )) in
         let count = done.count in

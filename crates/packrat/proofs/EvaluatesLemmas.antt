@@ -11,9 +11,9 @@ use Rattle.cells.specs.declared.cell.Found.{Found}
 use Rattle.cells.specs.declared.cell.Found.TheVariants.{Failed, Took}
 use Rattle.cells.specs.Entries.{Entry}
 use Rattle.pegmatch.specs.Answers.{WasEnough}
-use Rattle.desk.specs.State.{IsFound}
-use Rattle.desk.specs.Visits.{NodeGives}
-use Rattle.desk.proofs.VisitsLemmas.{visits_within}
+use Rattle.visits.specs.CellOutcomes.{IsFound}
+use Rattle.visits.specs.Visits.{NodeGives}
+use Rattle.visits.proofs.VisitsLemmas.{visits_within}
 use Rattle.packrat.specs.KeyMarks.{AreMarks}
 use Rattle.memo.specs.Parts.{IsIn, in_here, in_later, distinct_none, Reach, reach_root}
 use Rattle.memo.specs.Run.{total}

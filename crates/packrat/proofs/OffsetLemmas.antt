@@ -7,8 +7,8 @@ use Rattle.gramcheck.specs.Nodes as node
 use Rattle.gramcheck.specs.Nodes.{Shape}
 use Rattle.gramcheck.specs.Sound.{IsRanked}
 use Rattle.leastset.proofs.ContainsLemmas.{in_first, in_later}
-use Rattle.desk.specs.Visits.{AsksMember, member_here, member_later, AsksAlternative, alternative_here}
-use Rattle.desk.specs.Visits.{alternative_later, AsksBy, Asks, Visits, first, asked}
+use Rattle.visits.specs.Visits.{AsksMember, member_here, member_later, AsksAlternative, alternative_here}
+use Rattle.visits.specs.Visits.{alternative_later, AsksBy, Asks, Visits, first, asked}
 use Rattle.packrat.specs.Offset.{MemberAt, at_first, at_later, OffsetBy, NamesBy, Names}
 use Rattle.packrat.specs.Offset.{Offset, IsAskedBy}
 use Rattle.packrat.proofs.WidthLemmas.{takes_width}

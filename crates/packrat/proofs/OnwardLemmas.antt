@@ -17,7 +17,7 @@ use Rattle.cells.specs.declared.cell.Found.{Found}
 use Rattle.cells.specs.declared.cell.Found.TheVariants.{Failed, Took}
 use Rattle.pegmatch.specs.Answers.{WasEnough}
 use Rattle.pegmatch.specs.KeptEvents.{quiet_outcome}
-use Rattle.desk.proofs.AsksLemmas.{goes_onward}
+use Rattle.visits.proofs.AsksLemmas.{goes_onward}
 use Rattle.memo.specs.declared.spot.Spot.{Spot}
 use Rattle.memo.specs.declared.spot.Spot.TheVariants.{Pair, Tail}
 use Rattle.packrat.specs.Spots.{way_of}

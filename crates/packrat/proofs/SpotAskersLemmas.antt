@@ -7,7 +7,7 @@ use Rattle.pegread.specs.Pattern.{Rule}
 use Rattle.gramcheck.specs.Nodes as node
 use Rattle.gramcheck.specs.Nodes.{Shape}
 use Rattle.gramcheck.specs.Sound.{IsRanked}
-use Rattle.desk.specs.Visits.{NodeTakes}
+use Rattle.visits.specs.Visits.{NodeTakes}
 use Rattle.memo.specs.Parts.{Reach, reach_root, reach_edge}
 use Rattle.memo.specs.declared.spot.Spot.{Spot}
 use Rattle.memo.specs.declared.spot.Spot.TheVariants.{Pair, Tail}
@@ -16,7 +16,7 @@ use Rattle.packrat.specs.Spots.{LeadsBy, TailLeadsBy, Leads, is_key}
 use Rattle.packrat.specs.KeyMarks.{WayNames, WayNamesOnce, DoesNotRepeat, IsPlain, Single, single_root, single_below}
 use Rattle.packrat.specs.KeyMarks.{AreMarks, IsLoop, WayEntersOnce}
 use Rattle.std.proofs.Common.{◌<◌, ◌≤◌}
-use Rattle.desk.proofs.AsksLemmas.{goes_onward, is_visited}
+use Rattle.visits.proofs.AsksLemmas.{goes_onward, is_visited}
 use Rattle.packrat.proofs.SpotReachLemmas.{reached_is_visited}
 use Rattle.packrat.proofs.WidthLemmas.{takes_width}
 use Rattle.packrat.proofs.SpotKidsLemmas.{takes_same}

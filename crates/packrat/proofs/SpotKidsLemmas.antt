@@ -8,8 +8,8 @@ use Rattle.gramcheck.specs.Nodes.{Shape}
 use Rattle.gramcheck.specs.Sound.{IsRanked}
 use Rattle.gramcheck.proofs.HasShapeLemmas.{has_shape}
 use Rattle.pegmatch.specs.KeptEvents.{SpellsSome}
-use Rattle.desk.specs.Visits.{NodeTakes, NodeFails}
-use Rattle.desk.proofs.NodeGivesLemmas.{same_node}
+use Rattle.visits.specs.Visits.{NodeTakes, NodeFails}
+use Rattle.visits.proofs.NodeGivesLemmas.{same_node}
 use Rattle.memo.specs.Parts.{IsIn, in_here, in_later, Distinct, distinct_none, distinct_more}
 use Rattle.memo.specs.declared.spot.Spot.{Spot}
 use Rattle.memo.specs.declared.spot.Spot.TheVariants.{Pair, Tail}

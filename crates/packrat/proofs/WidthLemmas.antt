@@ -10,9 +10,9 @@ use Rattle.gramcheck.specs.Outcome.{close_at, name, seq, choice, opt_takes, opt_
 use Rattle.gramcheck.specs.Outcome.{GivesAll, all_done, rest_takes, GivesFirst, first_takes, first_fails}
 use Rattle.gramcheck.specs.Sound.{IsRanked}
 use Rattle.gramcheck.proofs.HasShapeLemmas.{has_shape}
-use Rattle.desk.specs.Visits.{NodeTakes}
-use Rattle.desk.proofs.GivesLemmas.{is_name}
-use Rattle.desk.proofs.NodeGivesLemmas.{one_spelled}
+use Rattle.visits.specs.Visits.{NodeTakes}
+use Rattle.visits.proofs.GivesLemmas.{is_name}
+use Rattle.visits.proofs.NodeGivesLemmas.{one_spelled}
 use Rattle.packrat.specs.Width.{Width, width_any, width_set, width_bytes, width_act, width_open, width_close, width_and}
 use Rattle.packrat.specs.Width.{width_not, width_opt, width_name, width_seq, width_choice, WidthSum, sum_none, sum_more}
 use Rattle.packrat.specs.Width.{WidthEach, each_none, each_more}

@@ -5,7 +5,7 @@ use Rattle.gramcheck.specs.Grammar.{Grammar}
 use Rattle.gramcheck.specs.Nodes.{Shape, Any, Bytes, Set, Name, Seq, Choice, Star, Plus, Opt, And, Not, Act, Open}
 use Rattle.gramcheck.specs.Nodes.{Close, shapes_of}
 use Rattle.cells.specs.declared.cell.Found.{Found}
-use Rattle.desk.specs.Visits.{NodeGives}
+use Rattle.visits.specs.Visits.{NodeGives}
 use Rattle.gramcheck.specs.Outcome.{Outcome}
 use Rattle.pegmatch.specs.declared.leaves.Tried.{Tried}
 use Rattle.pegmatch.specs.KeptEvents.{SpellsSome}

@@ -9,7 +9,7 @@ use Rattle.cells.specs.declared.cell.Found.{Found}
 use Rattle.cells.specs.declared.cell.Found.TheVariants.{Failed, Took}
 use Rattle.pegmatch.specs.Answers.{WasEnough}
 use Rattle.pegmatch.specs.KeptEvents.{outcome_of}
-use Rattle.desk.specs.Visits.{NodeGives, NodeTakes, NodeFails}
+use Rattle.visits.specs.Visits.{NodeGives, NodeTakes, NodeFails}
 use Rattle.memo.specs.declared.key_log.Stored.{Stored}
 use Rattle.memo.specs.declared.spot.Spot.{Spot}
 use Rattle.memo.specs.declared.spot.Spot.TheVariants.{Pair, Tail}

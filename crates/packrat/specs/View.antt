@@ -4,8 +4,8 @@ use Rattle.pegread.specs.Pattern.{Rule}
 use Rattle.gramcheck.specs.Nodes.{Shape}
 use Rattle.cells.specs.declared.cell.Found.{Found}
 use Rattle.cells.specs.Entries.{Entry, found_at, AreDifferent}
-use Rattle.desk.specs.State.{IsFound, HasCell}
-use Rattle.desk.specs.Visits.{Visits}
+use Rattle.visits.specs.CellOutcomes.{IsFound, HasCell}
+use Rattle.visits.specs.Visits.{Visits}
 use Rattle.memo.specs.Parts.{IsIn, Distinct, Reach, Whole}
 use Rattle.memo.specs.Run.{Run}
 use Rattle.memo.specs.declared.spot.Spot.{Spot}

@@ -1,4 +1,4 @@
-use Rattle.desk.specs.Visits.{asked}
+use Rattle.visits.specs.Visits.{asked}
 use Rattle.desk.proofs.FailsAtHeadLemmas.{head_free, head_narrow, own_narrow, failures_seen}
 use Rattle.desk.proofs.IsNextLemmas.{at_top}
 use Rattle.desk.proofs.IsOnLemmas.{child_visited}

@@ -6,8 +6,8 @@ use Rattle.gramcheck.proofs.NodeSpellsLemmas.{is_there}
 use Rattle.pegmatch.proofs.NodeShapeLemmas.{shape_at}
 use Rattle.cells.specs.declared.cell.Found.TheVariants.{Failed}
 use Rattle.desk.specs.declared.turn.Turn.TheVariants.{Answer}
-use Rattle.desk.specs.Visits.{asked}
-use Rattle.desk.proofs.AsksLemmas.{is_visited}
+use Rattle.visits.specs.Visits.{asked}
+use Rattle.visits.proofs.AsksLemmas.{is_visited}
 use Rattle.desk.proofs.FailsAtHeadLemmas.{asks_first}
 use Rattle.desk.proofs.IsTurnLemmas.{leaf_turns}
 use Rattle.desk.proofs.head.first_to_fail.Goals as goal

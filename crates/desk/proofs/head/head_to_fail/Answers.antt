@@ -3,7 +3,7 @@ use Rattle.std.proofs.lemmas.List.{length-map}
 use Rattle.gramcheck.specs.Nodes.{shape_of}
 use Rattle.gramcheck.proofs.NodeSpellsLemmas.{is_there}
 use Rattle.pegmatch.proofs.NodeShapeLemmas.{shape_at}
-use Rattle.desk.proofs.AsksLemmas.{is_visited}
+use Rattle.visits.proofs.AsksLemmas.{is_visited}
 use Rattle.desk.proofs.FailsAtHeadLemmas.{head_fails}
 use Rattle.desk.proofs.head.head_to_fail.Goals as goal
 

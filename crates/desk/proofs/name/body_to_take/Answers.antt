@@ -2,7 +2,7 @@ use Rattle.std.proofs.Common.{arith}
 use Rattle.std.proofs.lemmas.List.{length-map}
 use Rattle.gramcheck.specs.Nodes.{shape_of}
 use Rattle.gramcheck.proofs.NodeSpellsLemmas.{is_there}
-use Rattle.desk.proofs.AsksLemmas.{is_visited}
+use Rattle.visits.proofs.AsksLemmas.{is_visited}
 use Rattle.desk.proofs.name.body_to_take.Goals as goal
 
 pub node-requires : goal.node-requires

@@ -4,8 +4,8 @@ use Rattle.std.proofs.lemmas.List.{length-map}
 use Rattle.gramcheck.specs.Nodes.{shape_of, shapes_of}
 use Rattle.gramcheck.proofs.NodeSpellsLemmas.{is_there}
 use Rattle.pegmatch.proofs.NodeShapeLemmas.{shape_at}
-use Rattle.desk.specs.Visits.{asked}
-use Rattle.desk.proofs.AsksLemmas.{is_visited}
+use Rattle.visits.specs.Visits.{asked}
+use Rattle.visits.proofs.AsksLemmas.{is_visited}
 use Rattle.desk.proofs.TakesAtHeadLemmas.{asks_first_other}
 use Rattle.desk.proofs.TowerLemmas.{byte_at}
 use Rattle.desk.proofs.name.first_to_take.Goals as goal

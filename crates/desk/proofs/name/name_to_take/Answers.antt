@@ -3,10 +3,10 @@ use Rattle.std.proofs.lemmas.List.{length-map}
 use Rattle.gramcheck.specs.Nodes.{shape_of}
 use Rattle.gramcheck.proofs.NodeSpellsLemmas.{is_there}
 use Rattle.pegmatch.proofs.NodeShapeLemmas.{shape_at}
-use Rattle.desk.specs.Visits.{asked}
-use Rattle.desk.proofs.AsksLemmas.{is_visited}
+use Rattle.visits.specs.Visits.{asked}
+use Rattle.visits.proofs.AsksLemmas.{is_visited}
 use Rattle.desk.proofs.TakesAtHeadLemmas.{name_takes}
-use Rattle.desk.proofs.AsksLemmas.{asks_body}
+use Rattle.visits.proofs.AsksLemmas.{asks_body}
 use Rattle.desk.proofs.name.name_to_take.Goals as goal
 
 pub node-requires : goal.node-requires

@@ -1,4 +1,4 @@
-use Rattle.desk.specs.Visits.{asked}
+use Rattle.visits.specs.Visits.{asked}
 use Rattle.desk.proofs.IsNextLemmas.{at_top}
 use Rattle.desk.proofs.TakesAtHeadLemmas.{body_free, body_narrow, first_narrow, name_free, name_narrow, successes_seen}
 use Rattle.desk.proofs.name.take_at_head.Goals as goal

@@ -14,7 +14,7 @@ use Rattle.gramcheck.specs.Outcome.{Outcome, Gives}
 use Rattle.gramcheck.proofs.OneOutcomeLemmas.{gives_same, Same}
 use Rattle.gramcheck.proofs.RuleNameLemmas.{same-name}
 use Rattle.gramcheck.proofs.HasShapeLemmas.{has_shape}
-use Rattle.desk.specs.Visits.{NodeGives}
+use Rattle.visits.specs.Visits.{NodeGives}
 
 -- the id of a rule is that of one name
 same_id : (rules : List Rule) (a b : List ℕ) → id_of rules a ≡ id_of rules b → id_of rules b < length rules → a ≡ b

@@ -11,11 +11,12 @@ use Rattle.gramcheck.specs.Ranks.{to_member, to_starred, to_repeated, to_optiona
 use Rattle.gramcheck.specs.Sound.{IsRanked}
 use Rattle.leastset.proofs.ContainsLemmas.{in_first, in_later}
 use Rattle.gramcheck.proofs.HasShapeLemmas.{has_shape}
+use Rattle.gramcheck.proofs.NodeSpellsLemmas.{is_there}
 use Rattle.gramcheck.proofs.NullIfLemmas.{takes_forward, null_of}
 use Rattle.pegmatch.proofs.OperandLemmas.{at, falls_to}
 use Rattle.pegmatch.specs.KeptEvents.{SpellsSome}
-use Rattle.desk.specs.Visits.{NodeTakes, AsksMember, member_here, member_later, AsksAlternative, alternative_here}
-use Rattle.desk.specs.Visits.{alternative_later, AsksBy, Asks, Visits, first, asked}
+use Rattle.visits.specs.Visits.{NodeTakes, AsksMember, member_here, member_later, AsksAlternative, alternative_here}
+use Rattle.visits.specs.Visits.{alternative_later, AsksBy, Asks, Visits, first, asked}
 
 -- a name asks for its body
 pub asks_body : (rules : List Rule) (nodes : List Shape) (bodies x : List ℕ) (n p id b : ℕ)
@@ -168,3 +169,7 @@ module _ (rules : List Rule) (start : ℕ) (nodes : List Shape) (bodies ranks x 
       let i = is_visited v in
       let l = leads_to n p m q i.spelled i.high a in
       record { spelled = l.spelled; high = l.high }
+
+  -- a pair that is visited is of a node that is there, and of a place of the input
+  pub visited_there : (n p : ℕ) → Visits rules nodes bodies x start n p → (n < length nodes) × (p ≤ length x)
+  visited_there n p v = let i = is_visited v in (is_there rules nodes i.spelled.1, i.high)

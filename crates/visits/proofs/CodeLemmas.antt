@@ -1,14 +1,13 @@
--- There are no more cells and frames than nodes at places.
+-- There are no more cells than nodes at places.
 -- Serves: Desk::step, Desk::match_unit, Desk::replay.
 use Rattle.std.proofs.Common.{◌≡◌, ◌⊎◌, inl, inr, ℕ, zero, suc, ◌+◌, ◌*◌, ◌<◌, ◌≤◌, Bool, true, false, if◌then◌else◌}
 use Rattle.std.proofs.Common.{List, [], ◌∷◌, length, Option, Some, None, refl, sym, ◌∙◌, ap, subst, arith}
 use Rattle.std.proofs.Math.Nat.{mul-le-mul_right}
 use Rattle.std.proofs.lemmas.Bool.{cases_lt, cases_order}
 use Rattle.cells.specs.Entries.{Entry}
-use Rattle.desk.specs.declared.frame.Frame.{Frame}
 use Rattle.cells.specs.declared.cell.Found.{Found}
 use Rattle.cells.specs.Entries.{found_at, AreDifferent}
-use Rattle.desk.specs.State.{HasCell}
+use Rattle.visits.specs.CellOutcomes.{HasCell}
 use Rattle.cells.proofs.FoundAtLemmas.{is_of, is_of_own}
 
 pub data In : ℕ → List ℕ → Type 0 where
@@ -95,14 +94,9 @@ module _ (w : ℕ) where
   cell_codes [] = []
   cell_codes (c ∷ cells) = code w c.node c.place ∷ cell_codes cells
 
-  abbrev pub all_codes : List Entry → List Frame → List ℕ
-  all_codes cells [] = cell_codes cells
-  all_codes cells (f ∷ fs) = code w f.node f.place ∷ all_codes cells fs
-
-  pub length_codes : (cells : List Entry) (fs : List Frame) → length (all_codes cells fs) ≡ length cells + length fs
-  length_codes [] [] = refl
-  length_codes (c ∷ cells) [] = let h = length_codes cells [] in omega arith
-  length_codes cells (f ∷ fs) = let h = length_codes cells fs in omega arith
+  pub length_cell_codes : (cells : List Entry) → length (cell_codes cells) ≡ length cells
+  length_cell_codes [] = refl
+  length_cell_codes (c ∷ cells) = ap suc (length_cell_codes cells)
 
   -- the cell of a number
   pub record CellOf (cells : List Entry) (a : ℕ) : Type 0 where
@@ -157,4 +151,4 @@ cells_at_most cells n k d low =
     let c = cell_of (k + 1) cells i in
     let l = low c.node c.place c.has in
     rw c.is (code_below (k + 1) c.node c.place n l.0 (omega (arith, l.1)))) in
-    omega (arith, most, length_codes (k + 1) cells [])
+    omega (arith, most, length_cell_codes (k + 1) cells)

@@ -13,10 +13,10 @@ use Rattle.gramcheck.specs.Sound.{IsRanked}
 use Rattle.gramcheck.proofs.OneOutcomeLemmas.{gives_same}
 use Rattle.gramcheck.proofs.LongerInputLemmas.{ends_by}
 use Rattle.gramcheck.proofs.HasShapeLemmas.{has_shape}
-use Rattle.desk.specs.Visits.{NodeGives, NodeTakes, AsksMember, member_here, member_later, AsksAlternative}
-use Rattle.desk.specs.Visits.{alternative_here, alternative_later, AsksBy, Asks, Visits, first, asked}
-use Rattle.desk.proofs.GivesLemmas.{is_name}
-use Rattle.desk.proofs.NodeGivesLemmas.{gives_as}
+use Rattle.visits.specs.Visits.{NodeGives, NodeTakes, AsksMember, member_here, member_later, AsksAlternative}
+use Rattle.visits.specs.Visits.{alternative_here, alternative_later, AsksBy, Asks, Visits, first, asked}
+use Rattle.visits.proofs.GivesLemmas.{is_name}
+use Rattle.visits.proofs.NodeGivesLemmas.{gives_as}
 
 module _ (rules : List Rule) (start : ℕ) (nodes : List Shape) (bodies ranks x : List ℕ)
     (sound : IsRanked rules start nodes bodies ranks) where

@@ -12,8 +12,8 @@ use Rattle.gramcheck.specs.Sound.{IsRanked}
 use Rattle.gramcheck.proofs.OwnIdLemmas.{body_at_id}
 use Rattle.gramcheck.proofs.HasShapeLemmas.{has_shape}
 use Rattle.pegmatch.specs.KeptEvents.{SpellsSome}
-use Rattle.desk.specs.Visits.{NodeGives}
-use Rattle.desk.proofs.NodeGivesLemmas.{gives_as}
+use Rattle.visits.specs.Visits.{NodeGives}
+use Rattle.visits.proofs.NodeGivesLemmas.{gives_as}
 
 abbrev DoesTake : Outcome → Type 0
 DoesTake Fails = ⊥
