@@ -4,7 +4,6 @@
 
 mod abnf_caller;
 mod abnf_print_caller;
-mod cell_caller;
 mod check_caller;
 mod cycle_caller;
 mod desk_caller;
@@ -21,7 +20,6 @@ mod unit_caller;
 
 pub use abnf_caller::{count_abnf_rules, load_abnf};
 pub use abnf_print_caller::canonical_abnf;
-pub use cell_caller::keeps_first;
 pub use check_caller::load_peg;
 pub use cycle_caller::comes_back;
 pub use desk_caller::print_once;

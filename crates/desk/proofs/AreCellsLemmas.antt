@@ -4,9 +4,9 @@ use Rattle.std.proofs.Common.{◌≡◌, inl, inr, ℕ, ◌+◌, ◌*◌, ◌<�
 use Rattle.pegread.specs.Pattern.{Rule}
 use Rattle.gramcheck.specs.Nodes.{Shape}
 use Rattle.gramcheck.specs.Sound.{IsRanked}
-use Rattle.cells.specs.Entries.{Entry}
+use Rattle.memo.specs.Entries.{Entry}
 use Rattle.desk.specs.declared.frame.Frame.{Frame}
-use Rattle.cells.specs.Entries.{found_at, AreDifferent}
+use Rattle.memo.specs.Entries.{found_at, AreDifferent}
 use Rattle.desk.specs.State.{IsStack, no_frame, bottom, above, AreCells}
 use Rattle.visits.specs.CellOutcomes.{HasCell}
 use Rattle.visits.specs.Visits.{Visits}

@@ -10,9 +10,9 @@ use Rattle.gramcheck.specs.Nodes as node
 use Rattle.gramcheck.specs.Nodes.{Shape, shape_of, shapes_of}
 use Rattle.gramcheck.specs.declared.node.Node.{Node}
 use Rattle.gramcheck.specs.declared.node.Node.TheVariants as code
-use Rattle.cells.specs.Entries.{Entry, found_at}
-use Rattle.cells.specs.declared.cell.Found.{Found}
-use Rattle.cells.specs.declared.cell.Found.TheVariants.{Failed, Took}
+use Rattle.memo.specs.Entries.{Entry, found_at}
+use Rattle.memo.specs.declared.found.Found.{Found}
+use Rattle.memo.specs.declared.found.Found.TheVariants.{Failed, Took}
 use Rattle.desk.specs.Ahead.{come_to}
 use Rattle.desk.specs.Desk.{beginning, IsFinished}
 use Rattle.desk.specs.AsksNext.{AsksNext, IsAsked, AreAsked, IsBack, AsksAt, IsKnownNext}

@@ -12,9 +12,9 @@ use Rattle.gramcheck.specs.Nodes.{Shape, shapes_of}
 use Rattle.gramcheck.specs.Outcome.{Fails, Gives}
 use Rattle.pegmatch.proofs.CompareLemmas.{other_byte}
 use Rattle.pegmatch.proofs.MatchStepLemmas.{bytes_missing}
-use Rattle.cells.specs.Entries.{Entry, found_at, AreNarrow, IsAdded}
-use Rattle.cells.specs.declared.cell.Found.{Found}
-use Rattle.cells.specs.declared.cell.Found.TheVariants.{Failed}
+use Rattle.memo.specs.Entries.{Entry, found_at, AreNarrow, IsAdded}
+use Rattle.memo.specs.declared.found.Found.{Found}
+use Rattle.memo.specs.declared.found.Found.TheVariants.{Failed}
 use Rattle.desk.specs.Ahead.{IsNarrowRun, IsOn}
 use Rattle.desk.specs.SeenFrom.{IsSeenFrom, FailsFrom}
 use Rattle.desk.specs.declared.frame.Frame.{Frame}

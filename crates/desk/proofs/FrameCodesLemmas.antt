@@ -1,7 +1,7 @@
 -- Cells and frames as numbers.
 -- Serves: Desk::step, Desk::match_unit, Desk::replay.
 use Rattle.std.proofs.Common.{◌≡◌, ℕ, ◌+◌, List, [], ◌∷◌, length, arith}
-use Rattle.cells.specs.Entries.{Entry}
+use Rattle.memo.specs.Entries.{Entry}
 use Rattle.desk.specs.declared.frame.Frame.{Frame}
 use Rattle.visits.proofs.CodeLemmas.{code, cell_codes, length_cell_codes}
 

@@ -13,7 +13,7 @@ use Rattle.pegmatch.specs.Text.{text_of}
 use Rattle.pegmatch.specs.declared.event.Kept.{Kept}
 use Rattle.pegmatch.specs.declared.writing.Capture.{Capture}
 use Rattle.pegmatch.proofs.IsPrintedLemmas.{HasPrinted, printed_start, printed_next, printed_part, printed_all}
-use Rattle.cells.specs.Entries.{Entry}
+use Rattle.memo.specs.Entries.{Entry}
 use Rattle.desk.specs.declared.frame.Frame.{Frame}
 use Rattle.desk.specs.Path.{Walks, no_walk, Goes}
 

@@ -9,10 +9,10 @@ use Rattle.gramcheck.specs.Outcome.{GivesFirst, all_failed, first_takes, first_f
 use Rattle.gramcheck.specs.Sound.{IsRanked}
 use Rattle.gramcheck.proofs.OneOutcomeLemmas.{Same}
 use Rattle.pegmatch.specs.KeptEvents.{outcome_of}
-use Rattle.cells.specs.declared.cell.Found.{Found}
-use Rattle.cells.specs.declared.cell.Found.TheVariants.{Failed, Took}
-use Rattle.cells.specs.Entries.{Entry}
-use Rattle.cells.specs.Entries.{found_at}
+use Rattle.memo.specs.declared.found.Found.{Found}
+use Rattle.memo.specs.declared.found.Found.TheVariants.{Failed, Took}
+use Rattle.memo.specs.Entries.{Entry}
+use Rattle.memo.specs.Entries.{found_at}
 use Rattle.desk.specs.State.{HaveTaken, none_taken, one_taken, HaveFailed, none_failed, one_failed}
 use Rattle.visits.specs.CellOutcomes.{HasCell, IsFound}
 use Rattle.visits.specs.Visits.{NodeGives, NodeTakes, NodeFails, AsksMember, member_here, member_later, AsksAlternative}

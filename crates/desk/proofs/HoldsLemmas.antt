@@ -10,7 +10,7 @@ use Rattle.pegmatch.specs.Answers.{IsAnswer}
 use Rattle.pegmatch.specs.declared.matcher.Unit.{Unit as UnitAnswer}
 use Rattle.pegmatch.specs.declared.matcher.Unit.TheVariants as unit
 use Rattle.std.proofs.lemmas.Option.{slice_get-get_or}
-use Rattle.cells.specs.Entries.{Entry}
+use Rattle.memo.specs.Entries.{Entry}
 use Rattle.desk.specs.declared.frame.Frame.{Frame}
 use Rattle.desk.specs.Desk.{View, beginning, IsDone, IsOutcome, Holds}
 use Rattle.desk.specs.Path.{Walks, no_walk, walk}

@@ -7,9 +7,9 @@ use Rattle.gramcheck.specs.Grammar.{Grammar, IsSoundGrammar}
 use Rattle.gramcheck.specs.Nodes.{shape_of, shapes_of}
 use Rattle.gramcheck.proofs.NodeSpellsLemmas.{is_there}
 use Rattle.pegmatch.specs.KeptEvents.{SpellsSome}
-use Rattle.cells.specs.Entries.{AreNarrow, IsNarrow}
-use Rattle.cells.specs.declared.cell.Found.{Found}
-use Rattle.cells.specs.declared.cell.Found.TheVariants.{Failed, Took}
+use Rattle.memo.specs.Entries.{AreNarrow, IsNarrow}
+use Rattle.memo.specs.declared.found.Found.{Found}
+use Rattle.memo.specs.declared.found.Found.TheVariants.{Failed, Took}
 use Rattle.desk.specs.Ahead.{IsNarrowRun}
 use Rattle.visits.specs.CellOutcomes.{IsFound}
 use Rattle.visits.proofs.AsksLemmas.{goes_onward}

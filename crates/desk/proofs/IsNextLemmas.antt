@@ -5,14 +5,14 @@ use Rattle.std.proofs.Common.{subst, arith}
 use Rattle.pegread.specs.PegViews.{rules_of}
 use Rattle.gramcheck.specs.Grammar.{Grammar, IsSoundGrammar}
 use Rattle.gramcheck.specs.Nodes.{shapes_of}
-use Rattle.cells.specs.Entries.{Entry, IsAdded}
+use Rattle.memo.specs.Entries.{Entry, IsAdded}
 use Rattle.cells.proofs.IsKnownLemmas.{added_is_longer}
-use Rattle.cells.specs.declared.cell.Found.{Found}
+use Rattle.memo.specs.declared.found.Found.{Found}
 use Rattle.desk.specs.declared.frame.Frame.{Frame}
 use Rattle.desk.specs.declared.run.Next.{Next}
 use Rattle.desk.specs.declared.run.Next.TheVariants as next
 use Rattle.desk.specs.declared.turn.Turn.TheVariants.{Ask, Answer, Need}
-use Rattle.cells.specs.declared.cell.Found.TheVariants.{Failed, Took}
+use Rattle.memo.specs.declared.found.Found.TheVariants.{Failed, Took}
 use Rattle.desk.specs.Desk.{View, beginning, counted, Fits, IsDone, IsStep, IsFurther, IsFinished, IsNext, IsMatched}
 use Rattle.desk.specs.Desk.{IsOutcome}
 use Rattle.desk.specs.Desk.{unit_of_match}

@@ -1,8 +1,8 @@
 -- A cell more.
 -- Serves: Desk::step, Desk::match_unit.
 use Rattle.std.proofs.Common.{◌≡◌, inl, inr, ℕ, List, Some, None, ◌∙◌}
-use Rattle.cells.specs.declared.cell.Found.{Found}
-use Rattle.cells.specs.Entries.{Entry, found_at, AreDifferent, IsAdded}
+use Rattle.memo.specs.declared.found.Found.{Found}
+use Rattle.memo.specs.Entries.{Entry, found_at, AreDifferent, IsAdded}
 use Rattle.desk.specs.State.{IsPut}
 
 -- other pairs' cells stay as they are

@@ -5,8 +5,8 @@ use Rattle.std.proofs.Common.{Err, arith}
 use Rattle.pegread.specs.PegViews.{rules_of}
 use Rattle.gramcheck.specs.Grammar.{Grammar, IsSoundGrammar}
 use Rattle.gramcheck.specs.Nodes.{shapes_of}
-use Rattle.cells.specs.Entries.{Entry, found_at, IsAdded}
-use Rattle.cells.specs.declared.cell.Found.{Found}
+use Rattle.memo.specs.Entries.{Entry, found_at, IsAdded}
+use Rattle.memo.specs.declared.found.Found.{Found}
 use Rattle.desk.specs.Ahead.{IsSeen, come_to, IsOn}
 use Rattle.desk.specs.SeenFrom.{IsSeenFrom}
 use Rattle.desk.specs.declared.ahead.Halt.{Halt}

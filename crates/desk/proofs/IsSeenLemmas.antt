@@ -5,9 +5,9 @@ use Rattle.pegread.specs.PegViews.{rules_of}
 use Rattle.gramcheck.specs.Grammar.{Grammar, IsSoundGrammar}
 use Rattle.gramcheck.specs.Nodes.{shapes_of}
 use Rattle.pegmatch.specs.KeptEvents.{outcome_of}
-use Rattle.cells.specs.Entries.{Entry, IsKnown}
-use Rattle.cells.specs.declared.cell.Found.{Found}
-use Rattle.cells.specs.declared.cell.Found.TheVariants.{Failed, Took}
+use Rattle.memo.specs.Entries.{Entry, IsKnown}
+use Rattle.memo.specs.declared.found.Found.{Found}
+use Rattle.memo.specs.declared.found.Found.TheVariants.{Failed, Took}
 use Rattle.desk.specs.Ahead.{IsSeen}
 use Rattle.desk.specs.State.{AreCells}
 use Rattle.visits.specs.CellOutcomes.{IsFound}

@@ -15,13 +15,13 @@ use Rattle.gramcheck.specs.Outcome.{Outcome}
 use Rattle.gramcheck.proofs.SomeOutcomeLemmas as one
 use Rattle.pegmatch.specs.Answers.{StartGives}
 use Rattle.pegmatch.specs.KeptEvents.{SpellsSome}
-use Rattle.cells.specs.declared.cell.Found.{Found}
-use Rattle.cells.specs.declared.cell.Found.TheVariants.{Failed, Took}
+use Rattle.memo.specs.declared.found.Found.{Found}
+use Rattle.memo.specs.declared.found.Found.TheVariants.{Failed, Took}
 use Rattle.pegmatch.specs.declared.matcher.Unit.{Unit as UnitAnswer}
 use Rattle.pegmatch.specs.declared.matcher.Unit.TheVariants as unit
 use Rattle.desk.specs.declared.frame.Frame.{Frame}
 use Rattle.desk.specs.declared.turn.Turn.TheVariants.{Ask, Answer, Need}
-use Rattle.cells.specs.Entries.{found_at, IsAdded}
+use Rattle.memo.specs.Entries.{found_at, IsAdded}
 use Rattle.cells.proofs.IsKnownLemmas.{added_is_longer}
 use Rattle.desk.specs.Desk.{View, beginning, Fits, HasFrames, IsDone, Drops, Reaches, Ends, IsStep, IsOutcome, told}
 use Rattle.desk.specs.Desk.{unit_of}

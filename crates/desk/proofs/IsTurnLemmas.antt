@@ -11,16 +11,16 @@ use Rattle.gramcheck.specs.Outcome.{Event, Takes, Gives, seq, choice}
 use Rattle.gramcheck.specs.Sound.{IsRanked}
 use Rattle.gramcheck.proofs.HasShapeLemmas.{has_shape}
 use Rattle.pegmatch.specs.KeptEvents.{SpellsSome, quiet_outcome}
-use Rattle.cells.specs.declared.cell.Found.{Found}
-use Rattle.cells.specs.declared.cell.Found.TheVariants.{Failed, Took}
+use Rattle.memo.specs.declared.found.Found.{Found}
+use Rattle.memo.specs.declared.found.Found.TheVariants.{Failed, Took}
 use Rattle.pegmatch.specs.declared.leaves.Tried.{Tried}
-use Rattle.cells.specs.Entries.{Entry}
+use Rattle.memo.specs.Entries.{Entry}
 use Rattle.desk.specs.declared.ahead.Sight.{Sight}
 use Rattle.desk.specs.declared.ahead.Sight.TheVariants as sight
 use Rattle.desk.specs.Ahead.{IsSight, known_turn}
 use Rattle.desk.specs.declared.turn.Turn.{Turn}
 use Rattle.desk.specs.declared.turn.Turn.TheVariants.{Ask, Answer, Need}
-use Rattle.cells.specs.Entries.{found_at}
+use Rattle.memo.specs.Entries.{found_at}
 use Rattle.desk.specs.State.{HasCome, IsUnderWay, AreCells}
 use Rattle.visits.specs.CellOutcomes.{HasCell, IsFound}
 use Rattle.desk.specs.Turns.{same_turn, again_turn, opt_turn, and_turn, not_turn, star_turn, plus_turn, IsLeafTurn}

@@ -22,14 +22,14 @@ use Rattle.gramcheck.proofs.OneOutcomeLemmas.{gives_same}
 use Rattle.gramcheck.proofs.HasShapeLemmas.{has_shape}
 use Rattle.gramcheck.proofs.NodeSpellsLemmas.{is_there}
 use Rattle.gramcheck.proofs.PrintMarksLemmas.{gives_no_events}
-use Rattle.cells.specs.declared.cell.Found.{Found}
-use Rattle.cells.specs.declared.cell.Found.TheVariants.{Failed, Took}
-use Rattle.cells.specs.Entries.{Entry}
+use Rattle.memo.specs.declared.found.Found.{Found}
+use Rattle.memo.specs.declared.found.Found.TheVariants.{Failed, Took}
+use Rattle.memo.specs.Entries.{Entry}
 use Rattle.desk.specs.declared.frame.Frame.{Frame}
 use Rattle.desk.specs.declared.way.Way.{Way}
 use Rattle.desk.specs.declared.way.Way.TheVariants.{Leave, Emit, TurnTo, GoInto}
 use Rattle.pegmatch.specs.declared.event.Kept.TheVariants.{Opened, Closed, Acted}
-use Rattle.cells.specs.Entries.{found_at}
+use Rattle.memo.specs.Entries.{found_at}
 use Rattle.desk.specs.Ahead.{come_to}
 use Rattle.desk.specs.Desk.{beginning}
 use Rattle.pegmatch.specs.KeptEvents.{opened, closed, acted}

@@ -6,8 +6,8 @@ use Rattle.std.specs.Prelude.{slice_get}
 use Rattle.gramcheck.specs.Grammar.{Grammar, IsSoundGrammar}
 use Rattle.gramcheck.specs.Nodes as node
 use Rattle.gramcheck.specs.Nodes.{shapes_of}
-use Rattle.cells.specs.Entries.{Entry, found_at, AreNarrow}
-use Rattle.cells.specs.declared.cell.Found.{Found}
+use Rattle.memo.specs.Entries.{Entry, found_at, AreNarrow}
+use Rattle.memo.specs.declared.found.Found.{Found}
 use Rattle.desk.specs.Ahead.{IsNarrowRun, come_to, IsOn}
 use Rattle.desk.specs.AsksNext.{AreAsked, IsBack, IsKnownNext}
 use Rattle.desk.specs.declared.ahead.Stage.{Stage}

@@ -6,9 +6,9 @@ use Rattle.pegread.specs.PegViews.{rules_of}
 use Rattle.gramcheck.specs.Grammar.{Grammar, IsSoundGrammar}
 use Rattle.gramcheck.specs.Nodes as node
 use Rattle.gramcheck.specs.Nodes.{shapes_of}
-use Rattle.cells.specs.Entries.{Entry, found_at, AreNarrow, IsAdded}
-use Rattle.cells.specs.declared.cell.Found.{Found}
-use Rattle.cells.specs.declared.cell.Found.TheVariants.{Took}
+use Rattle.memo.specs.Entries.{Entry, found_at, AreNarrow, IsAdded}
+use Rattle.memo.specs.declared.found.Found.{Found}
+use Rattle.memo.specs.declared.found.Found.TheVariants.{Took}
 use Rattle.desk.specs.Ahead.{IsNarrowRun, IsSeen, HasCome, IsOn}
 use Rattle.desk.specs.declared.frame.Frame.{Frame}
 use Rattle.desk.specs.declared.turn.Turn.TheVariants.{Answer}

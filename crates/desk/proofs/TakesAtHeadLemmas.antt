@@ -8,9 +8,9 @@ use Rattle.pegread.specs.Pattern.{Rule}
 use Rattle.gramcheck.specs.Grammar.{Grammar, IsSoundGrammar}
 use Rattle.gramcheck.specs.Nodes as node
 use Rattle.gramcheck.specs.Nodes.{Shape, shapes_of}
-use Rattle.cells.specs.Entries.{Entry, found_at, AreNarrow, IsAdded, IsKnown}
-use Rattle.cells.specs.declared.cell.Found.{Found}
-use Rattle.cells.specs.declared.cell.Found.TheVariants.{Took}
+use Rattle.memo.specs.Entries.{Entry, found_at, AreNarrow, IsAdded, IsKnown}
+use Rattle.memo.specs.declared.found.Found.{Found}
+use Rattle.memo.specs.declared.found.Found.TheVariants.{Took}
 use Rattle.desk.specs.Ahead.{IsNarrowRun, IsOn, IsSeen}
 use Rattle.desk.specs.SeenFrom.{IsSeenFrom}
 use Rattle.desk.specs.declared.frame.Frame.{Frame}

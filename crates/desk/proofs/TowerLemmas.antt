@@ -12,9 +12,9 @@ use Rattle.gramcheck.specs.declared.node.Node.{Node}
 use Rattle.gramcheck.specs.declared.node.Node.TheVariants as code
 use Rattle.ruletable.specs.declared.byte_set.ByteSet.{ByteSet}
 use Rattle.gramcheck.proofs.NodeSpellsLemmas.{is_there}
-use Rattle.cells.specs.Entries.{Entry, found_at, AreNarrow, IsAdded}
-use Rattle.cells.specs.declared.cell.Found.{Found}
-use Rattle.cells.specs.declared.cell.Found.TheVariants.{Failed, Took}
+use Rattle.memo.specs.Entries.{Entry, found_at, AreNarrow, IsAdded}
+use Rattle.memo.specs.declared.found.Found.{Found}
+use Rattle.memo.specs.declared.found.Found.TheVariants.{Failed, Took}
 use Rattle.desk.specs.Ahead.{IsNarrowRun, IsSeen, come_to, HasCome, IsOn}
 use Rattle.desk.specs.declared.ahead.Halt.{Halt}
 use Rattle.desk.specs.declared.ahead.Halt.TheVariants.{Memory, Short}

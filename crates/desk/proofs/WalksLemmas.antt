@@ -9,19 +9,19 @@ use Rattle.std.proofs.lemmas.Grind.{pow_more}
 use Rattle.pegread.specs.Pattern.{Rule}
 use Rattle.gramcheck.specs.Nodes.{Shape}
 use Rattle.gramcheck.specs.Outcome.{Event}
-use Rattle.cells.specs.Entries.{Entry}
+use Rattle.memo.specs.Entries.{Entry}
 use Rattle.desk.specs.declared.frame.Frame.{Frame}
 use Rattle.desk.specs.declared.way.Way.{Way}
 use Rattle.desk.specs.declared.way.Way.TheVariants.{Leave, Emit, TurnTo, GoInto}
 use Rattle.pegmatch.specs.declared.event.Kept.{Kept}
-use Rattle.cells.specs.Entries.{found_at}
+use Rattle.memo.specs.Entries.{found_at}
 use Rattle.desk.specs.Desk.{beginning}
 use Rattle.desk.specs.Path.{IsLeft, IsWay, pair_height, frame_height, AreHigher, Walks, no_walk, walk, arity, arity_of}
 use Rattle.desk.specs.Path.{arities, todo, Begins, Goes}
 use Rattle.visits.specs.CellOutcomes.{HasCell}
 use Rattle.visits.proofs.CodeLemmas.{In, now, on, in_cases, Differ, at_most, code, code_same, cell_codes}
 use Rattle.desk.proofs.FrameCodesLemmas.{length_codes}
-use Rattle.cells.proofs.FoundAtLemmas.{is_of, is_own}
+use Rattle.memo.proofs.FoundAtLemmas.{is_of, is_own}
 
 -- the number of a cell is among those of the cells
 in_cells : (w : ℕ) (cells : List Entry) (n p : ℕ) → HasCell cells n p → In (code w n p) (cell_codes w cells)

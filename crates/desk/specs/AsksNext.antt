@@ -4,9 +4,9 @@ use Rattle.std.specs.Prelude.{Result, Ok, Err}
 use Rattle.gramcheck.specs.Grammar.{Grammar}
 use Rattle.gramcheck.specs.Nodes.{Shape, Any, Bytes, Set, Name, Seq, Choice, Star, Plus, Opt, And, Not, Act, Open}
 use Rattle.gramcheck.specs.Nodes.{Close, shapes_of}
-use Rattle.cells.specs.declared.cell.Found.{Found}
-use Rattle.cells.specs.declared.cell.Found.TheVariants.{Failed, Took}
-use Rattle.cells.specs.Entries.{Entry, found_at}
+use Rattle.memo.specs.declared.found.Found.{Found}
+use Rattle.memo.specs.declared.found.Found.TheVariants.{Failed, Took}
+use Rattle.memo.specs.Entries.{Entry, found_at}
 use Rattle.desk.specs.Ahead.{come_to}
 use Rattle.desk.specs.Desk.{back_as, beginning, counted, Fits, IsMatched}
 use Rattle.desk.specs.declared.frame.Frame.{Frame}

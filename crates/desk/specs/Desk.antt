@@ -7,17 +7,17 @@ use Rattle.gramcheck.specs.Nodes.{shapes_of}
 use Rattle.gramcheck.specs.Outcome.{Event, Outcome, Takes}
 use Rattle.pegmatch.specs.Answers.{StartGives, WasEnough}
 use Rattle.pegmatch.specs.KeptEvents.{outcome_of}
-use Rattle.cells.specs.declared.cell.Found.{Found}
-use Rattle.cells.specs.declared.cell.Found.TheVariants as found
+use Rattle.memo.specs.declared.found.Found.{Found}
+use Rattle.memo.specs.declared.found.Found.TheVariants as found
 use Rattle.pegmatch.specs.declared.matcher.Unit.{Unit as UnitAnswer}
 use Rattle.pegmatch.specs.declared.matcher.Unit.TheVariants.{Took, Failed, Need}
-use Rattle.cells.specs.Entries.{Entry}
+use Rattle.memo.specs.Entries.{Entry}
 use Rattle.desk.specs.declared.ahead.Back.{Back}
 use Rattle.desk.specs.declared.ahead.Back.TheVariants as back
 use Rattle.desk.specs.declared.frame.Frame.{Frame}
 use Rattle.desk.specs.declared.run.Next.{Next}
 use Rattle.desk.specs.declared.run.Next.TheVariants as next
-use Rattle.cells.specs.Entries.{found_at, AreDifferent, IsAdded}
+use Rattle.memo.specs.Entries.{found_at, AreDifferent, IsAdded}
 use Rattle.desk.specs.State.{IsPut, IsStack, AreCells, AreUnderWay}
 use Rattle.visits.specs.CellOutcomes.{HasCell, IsFound}
 use Rattle.visits.specs.Visits.{NodeGives, Asks, Visits}

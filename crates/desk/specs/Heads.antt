@@ -3,9 +3,9 @@ use Rattle.std.specs.Prelude.{◌≡◌, ℕ, ◌<◌, Bool, true, false, List, 
 use Rattle.std.specs.Prelude.{None}
 use Rattle.pegread.specs.Pattern.{Rule}
 use Rattle.gramcheck.specs.Nodes.{Shape, Choice, Name, Seq}
-use Rattle.cells.specs.declared.cell.Found.{Found}
-use Rattle.cells.specs.declared.cell.Found.TheVariants.{Failed, Took}
-use Rattle.cells.specs.Entries.{Entry, found_at, IsAdded, IsKnown}
+use Rattle.memo.specs.declared.found.Found.{Found}
+use Rattle.memo.specs.declared.found.Found.TheVariants.{Failed, Took}
+use Rattle.memo.specs.Entries.{Entry, found_at, IsAdded, IsKnown}
 use Rattle.desk.specs.declared.name.Taken.{Taken}
 use Rattle.desk.specs.declared.turn.Turn.TheVariants.{Answer}
 use Rattle.desk.specs.State.{AreCells}

@@ -7,15 +7,15 @@ use Rattle.gramcheck.specs.Nodes.{Close, Spells, SpellAll}
 use Rattle.gramcheck.specs.Outcome.{Event, Takes, GivesAll}
 use Rattle.gramcheck.specs.Printing.{Prints}
 use Rattle.pegmatch.specs.KeptEvents.{SpellsSome, StandsFor}
-use Rattle.cells.specs.declared.cell.Found.{Found}
-use Rattle.cells.specs.declared.cell.Found.TheVariants.{Failed, Took}
-use Rattle.cells.specs.Entries.{Entry}
+use Rattle.memo.specs.declared.found.Found.{Found}
+use Rattle.memo.specs.declared.found.Found.TheVariants.{Failed, Took}
+use Rattle.memo.specs.Entries.{Entry}
 use Rattle.desk.specs.declared.frame.Frame.{Frame}
 use Rattle.pegmatch.specs.declared.event.Kept.{Kept}
 use Rattle.desk.specs.declared.way.Spot.{Spot}
 use Rattle.desk.specs.declared.way.Way.{Way}
 use Rattle.desk.specs.declared.way.Way.TheVariants.{Leave, Emit, TurnTo, GoInto}
-use Rattle.cells.specs.Entries.{found_at}
+use Rattle.memo.specs.Entries.{found_at}
 use Rattle.desk.specs.Ahead.{come_to}
 use Rattle.desk.specs.Desk.{beginning}
 use Rattle.desk.specs.State.{HaveTaken}

@@ -6,8 +6,8 @@ use Rattle.gramcheck.specs.Nodes.{Shape, Any, Bytes, Set, Name, Seq, Choice, Sta
 use Rattle.gramcheck.specs.Nodes.{Close, shapes_of}
 use Rattle.gramcheck.specs.Outcome.{Outcome}
 use Rattle.pegmatch.specs.Answers.{StartGives}
-use Rattle.cells.specs.declared.cell.Found.{Found}
-use Rattle.cells.specs.Entries.{Entry}
+use Rattle.memo.specs.declared.found.Found.{Found}
+use Rattle.memo.specs.Entries.{Entry}
 use Rattle.desk.specs.declared.ahead.Halt.{Halt}
 use Rattle.desk.specs.declared.ahead.Halt.TheVariants.{Memory, Short}
 use Rattle.desk.specs.declared.frame.Frame.{Frame}

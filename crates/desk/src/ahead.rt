@@ -4,8 +4,8 @@ ghost use Rattle.pegread.specs.PegViews.{rules_of};
 ghost use Rattle.gramcheck.specs.Grammar.{IsSoundGrammar};
 ghost use Rattle.gramcheck.specs.Nodes.{Shape, shapes_of};
 ghost use Rattle.pegmatch.specs.KeptEvents.{SpellsSome};
-ghost use Rattle.cells.specs.Entries.{Entry, found_at};
-ghost use Rattle.cells.specs.declared.cell.Found.{Found};
+ghost use Rattle.memo.specs.Entries.{Entry, found_at};
+ghost use Rattle.memo.specs.declared.found.Found.{Found};
 ghost use Rattle.desk.specs.declared.frame.Frame.{Frame};
 ghost use Rattle.desk.specs.Ahead.{IsNarrowRun, IsSight, IsSeen, IsOn, seen_as};
 ghost use Rattle.desk.specs.Ahead.{known_turn};
@@ -21,8 +21,8 @@ use crate::head::fail_at_head;
 use crate::name::take_at_head;
 use crate::repetition::{Repeated, plus_on, star_on};
 use crate::turn::{Turn, and, leaf_turn, next_turn, not, opt, same};
-use cells::{Cells, Found};
 use gramcheck::{Node, SoundPeg};
+use memo::Found;
 use pegmatch::{Tried, match_any, match_bytes, match_set};
 
 /// Why a match stops with no outcome.

@@ -6,8 +6,8 @@ ghost use Rattle.pegread.specs.Pattern.{Pattern, Rule};
 ghost use Rattle.pegread.specs.PegViews.{rules_of};
 ghost use Rattle.gramcheck.specs.Nodes.{Shape, shapes_of};
 ghost use Rattle.gramcheck.specs.Outcome.{Gives, Outcome};
-ghost use Rattle.cells.specs.Entries.{AreNarrow, Entry, IsAdded, found_at};
-ghost use Rattle.cells.specs.declared.cell.Found.{Found};
+ghost use Rattle.memo.specs.Entries.{AreNarrow, Entry, IsAdded, found_at};
+ghost use Rattle.memo.specs.declared.found.Found.{Found};
 ghost use Rattle.desk.specs.declared.frame.Frame.{Frame};
 ghost use Rattle.desk.specs.Ahead.{IsNarrowRun};
 ghost use Rattle.desk.specs.SeenFrom.{FailsFrom};
@@ -15,8 +15,8 @@ ghost use Rattle.desk.specs.Desk.{counted, Fits};
 ghost use Rattle.desk.specs.Heads.{FailsFirst, FailsAtHead, PutsFailures};
 ghost use Rattle.visits.specs.Visits.{Asks, Visits};
 
-use cells::{Cells, Found};
 use gramcheck::{Node, SoundPeg};
+use memo::Found;
 use ruletable::Memory;
 
 // Whether a literal begins with another byte than the next one, behind which the window holds more.

@@ -3,8 +3,8 @@
 ghost use Rattle.std.specs.Prelude.{◌≡◌, ℕ, ◌<◌, List, ◌∷◌, length, slice_get, Some, None, true, IfSome, IfOk};
 ghost use Rattle.pegread.specs.PegViews.{rules_of};
 ghost use Rattle.gramcheck.specs.Nodes.{Shape, shapes_of};
-ghost use Rattle.cells.specs.Entries.{AreNarrow, Entry, IsAdded, IsKnown, found_at};
-ghost use Rattle.cells.specs.declared.cell.Found.{Found};
+ghost use Rattle.memo.specs.Entries.{AreNarrow, Entry, IsAdded, IsKnown, found_at};
+ghost use Rattle.memo.specs.declared.found.Found.{Found};
 ghost use Rattle.desk.specs.declared.frame.Frame.{Frame};
 ghost use Rattle.desk.specs.Ahead.{IsNarrowRun};
 ghost use Rattle.desk.specs.SeenFrom.{TakesFrom};
@@ -13,8 +13,8 @@ ghost use Rattle.desk.specs.Heads.{PutsSuccesses, TakesAtHead, TakesFirst, Takes
 ghost use Rattle.visits.specs.Visits.{Asks, Visits};
 
 use crate::repeat::{takes_byte, try_byte};
-use cells::{Cells, Found};
 use gramcheck::{Node, SoundPeg};
+use memo::Found;
 use ruletable::Memory;
 
 /// The body of a name, the first alternative of that body, and where it ends.

@@ -5,7 +5,7 @@ ghost use Rattle.pegread.specs.PegViews.{rules_of};
 ghost use Rattle.gramcheck.specs.Grammar.{Grammar, IsSoundGrammar};
 ghost use Rattle.gramcheck.specs.Nodes.{Shape, shape_of, shapes_of};
 ghost use Rattle.pegmatch.specs.KeptEvents.{SpellsSome};
-ghost use Rattle.cells.specs.Entries.{Entry, found_at};
+ghost use Rattle.memo.specs.Entries.{Entry, found_at};
 ghost use Rattle.desk.specs.declared.frame.Frame.{Frame};
 ghost use Rattle.desk.specs.declared.turn.Turn.TheVariants.{Answer};
 ghost use Rattle.desk.specs.Ahead.{IsNarrowRun, IsSeen, IsOn};
@@ -16,8 +16,8 @@ ghost use Rattle.desk.specs.Turns.{IsLeafTurn, IsTurn};
 
 use crate::ahead::Halt;
 use crate::frame::Frame;
-use cells::{Cells, Found};
 use gramcheck::{Node, SoundPeg};
+use memo::Found;
 use pegmatch::{Tried, match_any, match_set};
 
 /// Returns whether a node takes one byte wherever it succeeds, and has no operands.

@@ -1,7 +1,7 @@
 //! What a repetition does next.
 ghost use Rattle.std.specs.Prelude.{◌≡◌, ◌<◌, List, ◌∷◌, length, slice_get, Some, true, IfSome, IfOk};
 ghost use Rattle.gramcheck.specs.Nodes.{Shape, shapes_of};
-ghost use Rattle.cells.specs.Entries.{found_at};
+ghost use Rattle.memo.specs.Entries.{found_at};
 ghost use Rattle.desk.specs.declared.frame.Frame.{Frame};
 ghost use Rattle.desk.specs.Ahead.{IsNarrowRun, IsOn};
 ghost use Rattle.desk.specs.AsksNext.{AsksAt, IsBack};
@@ -14,8 +14,8 @@ use crate::ahead::{Back, Halt, Stage, see_mostly, see_turn};
 use crate::frame::Frame;
 use crate::repeat::{repeat_byte, see_byte, takes_byte};
 use crate::turn::{Turn, again, plus, star};
-use cells::{Cells, Found};
 use gramcheck::SoundPeg;
+use memo::Found;
 
 // Hands on what the node that goes on with a repetition gives at the end of one turn of it.
 #[inline(always)]

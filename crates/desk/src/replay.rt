@@ -14,8 +14,8 @@ ghost use Rattle.pegmatch.specs.Answers.{Replays};
 use crate::advance::beginning;
 use crate::track::Track;
 use crate::walk::go;
-use cells::Cells;
 use gramcheck::SoundPeg;
+use memo::{};
 use pegmatch::{NO_CAPTURE, ReplayFault, capture_after, write_event};
 use ruletable::{Sink, WriteFault};
 

@@ -2,7 +2,7 @@
 ghost use Rattle.std.specs.Prelude.{◌≡◌, ℕ, ◌+◌, ◌<◌, ◌≤◌, Bool, List, [], ◌∷◌, length, slice_get, Some, None, true};
 ghost use Rattle.std.specs.Prelude.{IfOk, Ok};
 ghost use Rattle.desk.specs.Ahead.{IsNarrowRun, IsOn};
-ghost use Rattle.cells.specs.Entries.{Entry, found_at, AreNarrow};
+ghost use Rattle.memo.specs.Entries.{Entry, found_at, AreNarrow};
 ghost use Rattle.desk.specs.declared.turn.Turn.TheVariants.{Answer};
 ghost use Rattle.desk.specs.Desk.{beginning as begun_at, back_as, counted, View, Fits, IsFinished, IsFurther, IsNext};
 ghost use Rattle.desk.specs.Desk.{BeginsBody, IsMatched};
@@ -12,8 +12,8 @@ use crate::advance::beginning;
 use crate::ahead::{Back, Halt, Stage, back_of, has_operands, turn_on};
 use crate::frame::{Frame, Frames};
 use crate::turn::Turn;
-use cells::{Cells, Found};
 use gramcheck::{Node, SoundPeg};
+use memo::Found;
 use ruletable::Memory;
 
 /// What a turn of a match does.

@@ -4,14 +4,14 @@ ghost use Rattle.pegread.specs.PegViews.{rules_of};
 ghost use Rattle.gramcheck.specs.Grammar.{IsSoundGrammar};
 ghost use Rattle.gramcheck.specs.Nodes.{shapes_of};
 ghost use Rattle.pegmatch.specs.KeptEvents.{SpellsSome};
-ghost use Rattle.cells.specs.Entries.{found_at};
+ghost use Rattle.memo.specs.Entries.{found_at};
 ghost use Rattle.desk.specs.State.{HaveTaken, HaveFailed, IsUnderWay, AreCells};
 ghost use Rattle.desk.specs.Turns.{same_turn, again_turn, opt_turn, and_turn, not_turn, star_turn, plus_turn};
 ghost use Rattle.desk.specs.Turns.{IsLeafTurn, IsWalk, IsSearch, IsTurn};
 
 use crate::frame::Frame;
-use cells::{Cells, Found};
 use gramcheck::{Node, SoundPeg};
+use memo::Found;
 use pegmatch::{Tried, match_any, match_bytes, match_set};
 
 /// What an evaluation does next.

@@ -5,7 +5,7 @@ ghost use Rattle.gramcheck.specs.Grammar.{IsSoundGrammar};
 ghost use Rattle.gramcheck.specs.Nodes.{shapes_of};
 ghost use Rattle.gramcheck.specs.Outcome.{Event};
 ghost use Rattle.pegmatch.specs.KeptEvents.{SpellsSome};
-ghost use Rattle.cells.specs.Entries.{Entry};
+ghost use Rattle.memo.specs.Entries.{Entry};
 ghost use Rattle.desk.specs.Desk.{beginning as begun_at};
 ghost use Rattle.desk.specs.State.{AreCells};
 ghost use Rattle.desk.specs.Path.{Walks, Begins, Goes, with_top};
@@ -15,8 +15,8 @@ use crate::advance::beginning;
 use crate::frame::Frame;
 use crate::track::Track;
 use crate::way::{Way, next_way, way_at_once};
-use cells::Cells;
 use gramcheck::SoundPeg;
+use memo::{};
 use pegmatch::Kept;
 
 /// What a step of a walk tells, and the last frame behind it, which is held apart from those below it.

@@ -5,15 +5,15 @@ ghost use Rattle.gramcheck.specs.Grammar.{IsSoundGrammar};
 ghost use Rattle.gramcheck.specs.Nodes.{Shape, shapes_of};
 ghost use Rattle.pegmatch.specs.KeptEvents.{SpellsSome};
 ghost use Rattle.gramcheck.specs.Outcome.{Event};
-ghost use Rattle.cells.specs.declared.cell.Found.{Found};
-ghost use Rattle.cells.specs.Entries.{Entry, found_at};
+ghost use Rattle.memo.specs.declared.found.Found.{Found};
+ghost use Rattle.memo.specs.Entries.{Entry, found_at};
 ghost use Rattle.desk.specs.Desk.{beginning};
 ghost use Rattle.desk.specs.State.{HaveFailed, AreCells};
 ghost use Rattle.desk.specs.Path.{EndsBy, IsHeard, IsLeft, IsPast, IsWay, opt_way, star_way, choice_way};
 
 use crate::frame::Frame;
-use cells::{Cells, Found};
 use gramcheck::{Node, SoundPeg};
+use memo::Found;
 use pegmatch::Kept;
 
 /// Where a success goes on.

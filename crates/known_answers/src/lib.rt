@@ -8,8 +8,6 @@ mod abnf_texts;
 #[cfg(test)]
 mod canonical_texts;
 #[cfg(test)]
-mod cell_table;
-#[cfg(test)]
 mod code_points;
 #[cfg(test)]
 mod desk_units;

@@ -1,7 +1,6 @@
 //! Stored keys by hand.
 
-use cells::Found;
-use memo::{KeyLog, Spot};
+use memo::{Found, KeyLog, Spot};
 use std::alloc::Global;
 use std::test::Fail;
 

@@ -1,3 +1,4 @@
+pub mod FoundAtLemmas
 pub mod PartsLemmas
 pub mod RunLemmas
 pub mod KeyLogLemmas

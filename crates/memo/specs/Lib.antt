@@ -1,3 +1,4 @@
+pub mod Entries
 pub mod Parts
 pub mod Run
 pub mod KeyLog

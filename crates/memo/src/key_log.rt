@@ -6,7 +6,7 @@ ghost use Rattle.memo.specs.Parts.{IsIn};
 ghost use Rattle.memo.specs.declared.key_log.Stored.{Stored};
 
 use crate::spot::Spot;
-use cells::Found;
+use crate::found::Found;
 use ruletable::Memory;
 use std::alloc::Global;
 use std::marker::Model;

@@ -7,9 +7,9 @@ use Rattle.std.specs.Prelude.{slice_get}
 use Rattle.pegread.specs.Pattern.{Rule}
 use Rattle.gramcheck.specs.Nodes.{Shape}
 use Rattle.gramcheck.specs.Sound.{IsRanked}
-use Rattle.cells.specs.declared.cell.Found.{Found}
-use Rattle.cells.specs.Entries.{Entry, found_at, AreDifferent}
-use Rattle.cells.proofs.FoundAtLemmas.{is_of, is_own, is_of_own}
+use Rattle.memo.specs.declared.found.Found.{Found}
+use Rattle.memo.specs.Entries.{Entry, found_at, AreDifferent}
+use Rattle.memo.proofs.FoundAtLemmas.{is_of, is_own, is_of_own}
 use Rattle.visits.specs.CellOutcomes.{IsFound, HasCell}
 use Rattle.visits.proofs.AsksLemmas.{is_visited}
 use Rattle.packrat.specs.KeyMarks.{AreMarks}

@@ -6,10 +6,10 @@ use Rattle.std.specs.Prelude.{slice_get}
 use Rattle.pegread.specs.Pattern.{Rule}
 use Rattle.gramcheck.specs.Nodes.{Shape}
 use Rattle.gramcheck.specs.Sound.{IsRanked}
-use Rattle.cells.specs.declared.cell.Found.{Found}
-use Rattle.cells.specs.Entries.{Entry, found_at, AreDifferent}
-use Rattle.cells.specs.declared.cell.Found.TheVariants.{Failed}
-use Rattle.cells.proofs.FoundAtLemmas.{is_of, is_own}
+use Rattle.memo.specs.declared.found.Found.{Found}
+use Rattle.memo.specs.Entries.{Entry, found_at, AreDifferent}
+use Rattle.memo.specs.declared.found.Found.TheVariants.{Failed}
+use Rattle.memo.proofs.FoundAtLemmas.{is_of, is_own}
 use Rattle.visits.proofs.AsksLemmas.{visited_there}
 use Rattle.visits.proofs.CodeLemmas.{cells_at_most}
 use Rattle.packrat.specs.KeyMarks.{AreMarks}

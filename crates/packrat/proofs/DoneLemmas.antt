@@ -10,7 +10,7 @@ use Rattle.pegread.specs.Pattern.{Rule}
 use Rattle.gramcheck.proofs.SomeOutcomeLemmas as one
 use Rattle.gramcheck.specs.Nodes.{Shape, Spells, shapes_of, shape_of}
 use Rattle.gramcheck.specs.Outcome.{Outcome}
-use Rattle.cells.specs.declared.cell.Found.{Found}
+use Rattle.memo.specs.declared.found.Found.{Found}
 use Rattle.pegmatch.specs.Answers.{StartGives}
 use Rattle.pegmatch.specs.KeptEvents.{outcome_of}
 use Rattle.visits.specs.Visits.{NodeGives}
@@ -28,7 +28,7 @@ use Rattle.packrat.specs.Onward.{ReachesEnd}
 use Rattle.packrat.specs.SpotSteps.{NextOf}
 use Rattle.packrat.specs.Spots.{Leads, Kids, is_key}
 use Rattle.packrat.specs.Stands.{IsEnded, NeedsMore, IsEvaluated}
-use Rattle.cells.specs.declared.cell.Found.TheVariants as found
+use Rattle.memo.specs.declared.found.Found.TheVariants as found
 use Rattle.pegmatch.specs.declared.matcher.Unit.{Unit as UnitAnswer}
 use Rattle.pegmatch.specs.declared.matcher.Unit.TheVariants as unit
 use Rattle.memo.specs.Parts.{Reach, in_here}

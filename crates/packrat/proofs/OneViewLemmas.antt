@@ -5,9 +5,9 @@ use Rattle.std.proofs.Common.{refl, sym, subst}
 use Rattle.pegread.specs.Pattern.{Rule}
 use Rattle.gramcheck.specs.Nodes.{Shape}
 use Rattle.gramcheck.specs.Sound.{IsRanked}
-use Rattle.cells.specs.declared.cell.Found.{Found}
-use Rattle.cells.specs.declared.cell.Found.TheVariants.{Failed, Took}
-use Rattle.cells.specs.Entries.{Entry}
+use Rattle.memo.specs.declared.found.Found.{Found}
+use Rattle.memo.specs.declared.found.Found.TheVariants.{Failed, Took}
+use Rattle.memo.specs.Entries.{Entry}
 use Rattle.visits.specs.CellOutcomes.{IsFound}
 use Rattle.visits.specs.Visits.{NodeTakes, NodeFails}
 use Rattle.visits.proofs.NodeGivesLemmas.{same_node}

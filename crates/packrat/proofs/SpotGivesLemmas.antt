@@ -14,8 +14,8 @@ use Rattle.gramcheck.specs.Nodes.{Shape, shapes_of, Spells, SpellAll, spell_none
 use Rattle.gramcheck.specs.Outcome.{Event, Outcome, Takes, Gives, seq, choice, GivesAll, all_done, one_fails}
 use Rattle.gramcheck.specs.Outcome.{rest_fails, rest_takes, GivesFirst, all_failed, first_takes, first_fails}
 use Rattle.gramcheck.proofs.HasShapeLemmas.{has_shape}
-use Rattle.cells.specs.declared.cell.Found.{Found}
-use Rattle.cells.specs.declared.cell.Found.TheVariants.{Failed, Took}
+use Rattle.memo.specs.declared.found.Found.{Found}
+use Rattle.memo.specs.declared.found.Found.TheVariants.{Failed, Took}
 use Rattle.pegmatch.specs.Answers.{WasEnough}
 use Rattle.pegmatch.specs.KeptEvents.{outcome_of, quiet_outcome, SpellsSome}
 use Rattle.visits.specs.Visits.{NodeGives}

@@ -5,8 +5,8 @@ use Rattle.gramcheck.specs.Grammar.{Grammar}
 use Rattle.gramcheck.specs.Nodes.{Shape, Any, Bytes, Set, Name, Seq, Choice, Star, Plus, Opt, And, Not, Act, Open}
 use Rattle.gramcheck.specs.Nodes.{Close, shapes_of}
 use Rattle.gramcheck.specs.Outcome.{Event}
-use Rattle.cells.specs.declared.cell.Found.{Found}
-use Rattle.cells.specs.declared.cell.Found.TheVariants.{Failed, Took}
+use Rattle.memo.specs.declared.found.Found.{Found}
+use Rattle.memo.specs.declared.found.Found.TheVariants.{Failed, Took}
 use Rattle.pegmatch.specs.Answers.{WasEnough}
 use Rattle.pegmatch.specs.KeptEvents.{outcome_of}
 use Rattle.visits.specs.Visits.{NodeGives, NodeTakes, NodeFails}

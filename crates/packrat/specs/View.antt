@@ -2,8 +2,8 @@
 use Rattle.std.specs.Prelude.{◌≡◌, ℕ, Bool, true, List, [], ◌∷◌, length, Some}
 use Rattle.pegread.specs.Pattern.{Rule}
 use Rattle.gramcheck.specs.Nodes.{Shape}
-use Rattle.cells.specs.declared.cell.Found.{Found}
-use Rattle.cells.specs.Entries.{Entry, found_at, AreDifferent}
+use Rattle.memo.specs.declared.found.Found.{Found}
+use Rattle.memo.specs.Entries.{Entry, found_at, AreDifferent}
 use Rattle.visits.specs.CellOutcomes.{IsFound, HasCell}
 use Rattle.visits.specs.Visits.{Visits}
 use Rattle.memo.specs.Parts.{IsIn, Distinct, Reach, Whole}

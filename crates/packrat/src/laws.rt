@@ -5,7 +5,7 @@ ghost use Rattle.pegread.specs.Pattern.{Rule};
 ghost use Rattle.gramcheck.specs.Nodes.{Shape};
 ghost use Rattle.gramcheck.specs.Outcome.{Outcome};
 ghost use Rattle.gramcheck.specs.Sound.{IsRanked};
-ghost use Rattle.cells.specs.Entries.{Entry};
+ghost use Rattle.memo.specs.Entries.{Entry};
 ghost use Rattle.pegmatch.specs.Answers.{WasEnough};
 ghost use Rattle.visits.specs.Visits.{NodeGives, NodeTakes, Visits};
 ghost use Rattle.memo.specs.Run.{total};

@@ -16,9 +16,8 @@ ghost use Rattle.packrat.specs.declared.machine.Turn.{Turn};
 use crate::frames::{Frame, Frames};
 use crate::marks::Marks;
 use crate::onward::{Begun, Onward, begin, go_on};
-use cells::Found;
 use gramcheck::SoundPeg;
-use memo::{KeyLog, Spot};
+use memo::{Found, KeyLog, Spot};
 use ruletable::Memory;
 
 /// A spot is to be evaluated, or one was.

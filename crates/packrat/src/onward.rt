@@ -9,9 +9,8 @@ ghost use Rattle.packrat.specs.Onward.{IsWell, AfterNone, AfterOne, IsLeaf};
 ghost use Rattle.packrat.specs.SpotGives.{SpotGives};
 ghost use Rattle.packrat.specs.SpotSteps.{IsFirst};
 
-use cells::Found;
 use gramcheck::{Node, SoundPeg};
-use memo::Spot;
+use memo::{Found, Spot};
 use pegmatch::{Tried, match_any, match_bytes, match_set};
 
 /// How a spot begins: it gives something, or leads to another spot; or its comparison reaches the last byte of a window

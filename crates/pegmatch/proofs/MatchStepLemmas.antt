@@ -14,7 +14,7 @@ use Rattle.gramcheck.specs.Outcome.{begins_with, compared, looked_at}
 use Rattle.gramcheck.specs.Outcome as event
 use Rattle.pegmatch.specs.KeptEvents.{StandFor, no_event, one_event, MatchesBy, IsMatch}
 use Rattle.pegmatch.specs.declared.event.Kept.{Kept}
-use Rattle.cells.specs.declared.cell.Found.{Found}
+use Rattle.memo.specs.declared.found.Found.{Found}
 use Rattle.pegmatch.specs.declared.leaves.Tried.{Tried}
 
 -- the outcome of what comes after these events

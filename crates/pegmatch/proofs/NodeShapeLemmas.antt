@@ -17,7 +17,7 @@ use Rattle.gramcheck.proofs.HasShapeLemmas.{has_shape}
 use Rattle.pegmatch.specs.KeptEvents.{no_event, one_event, opened, closed, acted, quiet_outcome, MatchesBy, IsMatch}
 use Rattle.pegmatch.specs.KeptEvents.{IsMatchOver, IsMatchOfAll, IsMatchOfFirst}
 use Rattle.pegmatch.specs.declared.event.Kept.{Kept}
-use Rattle.cells.specs.declared.cell.Found.{Found}
+use Rattle.memo.specs.declared.found.Found.{Found}
 use Rattle.pegmatch.specs.declared.leaves.Tried.{Tried}
 
 pub shape_at : (nodes : List Node) (n : ℕ) (node : Node) → slice_get nodes n ≡ Some node → slice_get (shapes_of nodes) n

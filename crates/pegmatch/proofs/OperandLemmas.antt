@@ -17,7 +17,7 @@ use Rattle.gramcheck.proofs.NodeSpellsLemmas.{is_there}
 use Rattle.gramcheck.proofs.NullIfLemmas.{takes_forward, null_of}
 use Rattle.pegmatch.specs.KeptEvents.{SpellsSome, MatchesBy, IsMatch}
 use Rattle.pegmatch.specs.declared.event.Kept.{Kept}
-use Rattle.cells.specs.declared.cell.Found.{Found}
+use Rattle.memo.specs.declared.found.Found.{Found}
 use Rattle.pegmatch.specs.declared.leaves.Tried.{Tried}
 
 -- the measure of a node at a place

@@ -8,7 +8,7 @@ use Rattle.gramcheck.specs.Nodes.{Shape}
 use Rattle.gramcheck.specs.Outcome.{Outcome, Gives, RuleGives}
 use Rattle.pegmatch.specs.KeptEvents.{MatchesBy, IsMatch}
 use Rattle.pegmatch.specs.declared.event.Kept.{Kept}
-use Rattle.cells.specs.declared.cell.Found.{Found}
+use Rattle.memo.specs.declared.found.Found.{Found}
 use Rattle.pegmatch.specs.declared.leaves.Tried.{Tried}
 
 some_outcome : (nodes : List Shape) (rules : List Rule) (x : List ℕ) (e : Pattern) (found : Found) (k : ℕ)

@@ -8,7 +8,7 @@ use Rattle.gramcheck.specs.Outcome.{Outcome, Fails, Takes, Gives, opt_takes, opt
 use Rattle.gramcheck.specs.Outcome.{plus_takes, and_takes, and_fails, not_takes, not_fails}
 use Rattle.pegmatch.specs.KeptEvents.{StandFor, no_event, MatchesBy, IsMatch, IsMatchOver, IsSeen}
 use Rattle.pegmatch.specs.declared.event.Kept.{Kept}
-use Rattle.cells.specs.declared.cell.Found.{Found}
+use Rattle.memo.specs.declared.found.Found.{Found}
 use Rattle.pegmatch.specs.declared.leaves.Tried.{Tried}
 use Rattle.pegmatch.proofs.MatchStepLemmas.{max-zero, max-assoc, StandFor-append}
 

@@ -5,7 +5,7 @@ use Rattle.gramcheck.specs.Nodes.{Shape, Act, Spells, SpellAll}
 use Rattle.gramcheck.specs.Outcome as event
 use Rattle.gramcheck.specs.Outcome.{Outcome, Fails, Takes, Gives, GivesAll, GivesFirst}
 use Rattle.pegmatch.specs.declared.event.Kept.{Kept}
-use Rattle.cells.specs.declared.cell.Found.{Found}
+use Rattle.memo.specs.declared.found.Found.{Found}
 use Rattle.pegmatch.specs.declared.leaves.Tried.{Tried}
 use Rattle.pegmatch.specs.declared.matcher.Unit.{Unit as UnitAnswer}
 use Rattle.pegmatch.specs.declared.matcher.Unit.TheVariants as unit

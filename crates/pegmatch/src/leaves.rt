@@ -6,7 +6,7 @@ ghost use Rattle.pegmatch.specs.KeptEvents.{quiet_outcome, EndsWithin};
 
 use crate::compare::{compare, looked_after};
 use crate::event::Kept;
-use cells::Found;
+use memo::Found;
 use ruletable::{ByteSet, Memory};
 
 /// What was found, and one more than the last place looked at, or 0.

@@ -11,8 +11,8 @@ ghost use Rattle.pegmatch.specs.KeptEvents.{EndsWithin};
 use crate::compare::further;
 use crate::event::Kept;
 use crate::leaves::{Tried, keep, match_any, match_bytes, match_set};
-use cells::Found;
 use gramcheck::{Node, SoundPeg};
+use memo::Found;
 use ruletable::Memory;
 
 /// Matches a node at a place of the window, adds the events of a success, and counts the evaluations begun.

@@ -4,11 +4,11 @@ use Rattle.std.proofs.Common.{◌≡◌, ◌⊎◌, inl, inr, ℕ, zero, suc, �
 use Rattle.std.proofs.Common.{List, [], ◌∷◌, length, Option, Some, None, refl, sym, ◌∙◌, ap, subst, arith}
 use Rattle.std.proofs.Math.Nat.{mul-le-mul_right}
 use Rattle.std.proofs.lemmas.Bool.{cases_lt, cases_order}
-use Rattle.cells.specs.Entries.{Entry}
-use Rattle.cells.specs.declared.cell.Found.{Found}
-use Rattle.cells.specs.Entries.{found_at, AreDifferent}
+use Rattle.memo.specs.Entries.{Entry}
+use Rattle.memo.specs.declared.found.Found.{Found}
+use Rattle.memo.specs.Entries.{found_at, AreDifferent}
 use Rattle.visits.specs.CellOutcomes.{HasCell}
-use Rattle.cells.proofs.FoundAtLemmas.{is_of, is_of_own}
+use Rattle.memo.proofs.FoundAtLemmas.{is_of, is_of_own}
 
 pub data In : ℕ → List ℕ → Type 0 where
   now : {a b : ℕ} {xs : List ℕ} → a ≡ b → In a (b ∷ xs)

@@ -3,8 +3,8 @@ use Rattle.std.specs.Prelude.{◌≡◌, ℕ, ◌<◌, Bool, true, List, length,
 use Rattle.pegread.specs.Pattern.{Rule}
 use Rattle.gramcheck.specs.Nodes.{Shape}
 use Rattle.gramcheck.specs.Outcome.{Event}
-use Rattle.cells.specs.Entries.{Entry, found_at}
-use Rattle.cells.specs.declared.cell.Found.{Found}
+use Rattle.memo.specs.Entries.{Entry, found_at}
+use Rattle.memo.specs.declared.found.Found.{Found}
 use Rattle.pegmatch.specs.KeptEvents.{outcome_of}
 use Rattle.visits.specs.Visits.{NodeGives}
 

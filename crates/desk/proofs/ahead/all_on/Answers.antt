@@ -1,5 +1,5 @@
 use Rattle.std.proofs.Common.{Some, None, Ok, Err}
-use Rattle.cells.specs.declared.cell.Found.TheVariants.{Failed, Took}
+use Rattle.memo.specs.declared.found.Found.TheVariants.{Failed, Took}
 use Rattle.desk.proofs.TowerLemmas.{halted_on}
 use Rattle.desk.proofs.IsSeenFromLemmas.{seen_from}
 use Rattle.desk.proofs.IsOnLemmas.{come_stays, asked_next, next_child, member_free, member_fails}

@@ -1,5 +1,5 @@
 use Rattle.std.proofs.Common.{inr, None}
-use Rattle.cells.specs.Entries.{found_at}
+use Rattle.memo.specs.Entries.{found_at}
 use Rattle.std.proofs.Common.{◌≡◌, sym}
 use Rattle.desk.proofs.IsPutLemmas.{is_put}
 use Rattle.desk.proofs.ahead.see_literal.Goals as goal

@@ -4,7 +4,7 @@ use Rattle.std.proofs.lemmas.List.{length-map}
 use Rattle.gramcheck.specs.Nodes.{shape_of, spells_bytes}
 use Rattle.gramcheck.proofs.NodeSpellsLemmas.{is_there}
 use Rattle.pegmatch.proofs.NodeShapeLemmas.{shape_at}
-use Rattle.cells.specs.declared.cell.Found.TheVariants.{Failed}
+use Rattle.memo.specs.declared.found.Found.TheVariants.{Failed}
 use Rattle.desk.specs.declared.turn.Turn.TheVariants.{Answer}
 use Rattle.visits.specs.Visits.{asked}
 use Rattle.visits.proofs.AsksLemmas.{is_visited}

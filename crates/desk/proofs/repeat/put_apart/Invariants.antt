@@ -2,7 +2,7 @@ use Rattle.std.proofs.Common.{◌≡◌, ℕ, Bool, List, Some}
 use Rattle.std.specs.Prelude.{slice_get}
 use Rattle.gramcheck.specs.Grammar.{Grammar, IsSoundGrammar}
 use Rattle.gramcheck.specs.Nodes.{Shape, shapes_of}
-use Rattle.cells.specs.Entries.{Entry}
+use Rattle.memo.specs.Entries.{Entry}
 use Rattle.desk.specs.Repeats.{HasRun}
 use Rattle.desk.specs.declared.frame.Frame.{Frame}
 use Rattle.desk.proofs.repeat.put_apart.Given as goal

@@ -1,5 +1,5 @@
 use Rattle.std.proofs.Common.{◌-◌, ◌≤◌, List, length}
-use Rattle.cells.specs.Entries.{Entry}
+use Rattle.memo.specs.Entries.{Entry}
 use Rattle.desk.specs.Repeats.{IsRunning}
 use Rattle.desk.specs.declared.frame.Frame.{Frame}
 use Rattle.desk.proofs.repeat.run_apart.Given as goal

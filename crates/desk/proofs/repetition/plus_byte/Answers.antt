@@ -1,5 +1,5 @@
 use Rattle.std.proofs.Common.{Some}
-use Rattle.cells.specs.declared.cell.Found.TheVariants.{Failed}
+use Rattle.memo.specs.declared.found.Found.TheVariants.{Failed}
 use Rattle.desk.proofs.IsNextLemmas.{at_top}
 use Rattle.desk.proofs.IsOnLemmas.{child_visited, halts_on, asks_plus, plus_on, on_from}
 use Rattle.desk.proofs.PlusTurnLemmas.{operand_taken}

@@ -1,5 +1,5 @@
 use Rattle.std.proofs.Common.{Some, inl, refl, arith}
-use Rattle.cells.specs.declared.cell.Found.TheVariants.{Failed, Took}
+use Rattle.memo.specs.declared.found.Found.TheVariants.{Failed, Took}
 use Rattle.desk.proofs.IsOnLemmas.{plus_on, plus_again}
 use Rattle.desk.proofs.AsksNextLemmas.{plus_known, plus_again_known, asks_plus_again}
 use Rattle.desk.specs.Desk.{back_as}

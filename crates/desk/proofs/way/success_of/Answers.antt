@@ -1,5 +1,5 @@
 use Rattle.std.proofs.Common.{ap, Some, ◌∙◌}
-use Rattle.cells.specs.declared.cell.Found.TheVariants.{Took}
+use Rattle.memo.specs.declared.found.Found.TheVariants.{Took}
 use Rattle.desk.proofs.IsWayLemmas.{ends_by}
 use Rattle.desk.proofs.way.success_of.Goals as goal
 

@@ -1,5 +1,0 @@
-use Rattle.std.proofs.Common.{◌≡◌, ℕ, ◌<◌, get_or}
-use Rattle.cells.proofs.link.wipe.Given as goal
-
-abbrev pub invariant-loop-head : goal.invariant-loop-head
-invariant-loop-head l = (k : ℕ) → k < l.head-index → get_or l.heads k 0 ≡ 0

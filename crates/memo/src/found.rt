@@ -1,0 +1,10 @@
+//! What a node gave at a place.
+
+/// What a node gave at a place.
+#[derive(Clone, Copy, PartialEq, Eq, Debug)]
+pub enum Found {
+    /// It failed.
+    Failed,
+    /// It succeeded, and ended there.
+    Took(usize),
+}
