@@ -9,7 +9,6 @@ use Rattle.desk.specs.declared.frame.Frame.{Frame}
 use Rattle.memo.specs.Entries.{found_at, AreDifferent}
 use Rattle.desk.specs.State.{IsStack, no_frame, bottom, above, AreCells}
 use Rattle.visits.specs.CellOutcomes.{HasCell}
-use Rattle.visits.specs.Visits.{Visits}
 use Rattle.visits.proofs.AsksLemmas.{is_visited, visited_there}
 use Rattle.visits.proofs.CodeLemmas.{In, in_cases, Differ, code, code_same, code_below, cell_codes, cell_of}
 use Rattle.desk.proofs.FrameCodesLemmas.{all_codes}

@@ -1,41 +1,33 @@
 -- What a step makes of a desk.
--- Serves: Desk::begin, Desk::step, Desk::match_unit.
-use Rattle.std.proofs.Common.{◌≡◌, inl, inr, ℕ, suc, ◌+◌, ◌-◌, ◌*◌, ◌^◌, ◌<◌, ◌≤◌, Bool, false, get_or, Result, Ok, Err}
-use Rattle.std.proofs.Common.{OnOk, IfOk, is_err, List, [], ◌∷◌, length, Option, Some, None, refl, sym, ◌∙◌, ap}
-use Rattle.std.proofs.Common.{subst, arith}
+-- Serves: Desk::begin, Desk::step.
+use Rattle.std.proofs.Common.{◌≡◌, inl, inr, ℕ, ◌+◌, ◌*◌, ◌^◌, ◌<◌, ◌≤◌, Bool, false, Result, Ok, Err, OnOk, IfOk}
+use Rattle.std.proofs.Common.{is_err, List, [], ◌∷◌, ◌++◌, length, length-append, Option, Some, None, refl, sym, ◌∙◌}
+use Rattle.std.proofs.Common.{ap, subst, arith}
 use Rattle.std.specs.Prelude.{slice_get}
 use Rattle.std.proofs.Math.Nat.{mul-le-mul_left}
+use Rattle.std.proofs.lemmas.List.{length-map}
 use Rattle.pegread.specs.Pattern.{Rule}
 use Rattle.pegread.specs.PegViews.{rules_of}
 use Rattle.gramcheck.specs.Grammar.{Grammar, IsSoundGrammar}
-use Rattle.gramcheck.specs.Nodes.{Shape, shape_of, shapes_of, Spells}
-use Rattle.std.proofs.lemmas.List.{length-map}
-use Rattle.std.proofs.lemmas.Option.{slice_get-get_or}
+use Rattle.gramcheck.specs.Nodes.{Shape, shape_of, shapes_of}
 use Rattle.gramcheck.specs.Outcome.{Outcome}
-use Rattle.gramcheck.proofs.SomeOutcomeLemmas as one
 use Rattle.pegmatch.specs.Answers.{StartGives}
 use Rattle.pegmatch.specs.KeptEvents.{SpellsSome}
 use Rattle.memo.specs.declared.found.Found.{Found}
 use Rattle.memo.specs.declared.found.Found.TheVariants.{Failed, Took}
 use Rattle.pegmatch.specs.declared.matcher.Unit.{Unit as UnitAnswer}
 use Rattle.pegmatch.specs.declared.matcher.Unit.TheVariants as unit
+use Rattle.memo.specs.Entries.{Entry, found_at, AreDifferent}
 use Rattle.desk.specs.declared.frame.Frame.{Frame}
 use Rattle.desk.specs.declared.turn.Turn.TheVariants.{Ask, Answer, Need}
-use Rattle.memo.specs.Entries.{found_at, IsAdded}
-use Rattle.cells.proofs.IsKnownLemmas.{added_is_longer}
-use Rattle.desk.specs.Desk.{View, beginning, Fits, HasFrames, IsDone, Drops, Reaches, Ends, IsStep, IsOutcome, told}
-use Rattle.desk.specs.Desk.{unit_of}
+use Rattle.desk.specs.Desk.{View, beginning, Fits, HasFrames, Drops, Reaches, Ends, IsStep, unit_of}
 use Rattle.desk.specs.State.{IsPut, IsUnderWay, IsStack}
 use Rattle.desk.specs.Turns.{IsTurn}
 use Rattle.visits.specs.Visits.{NodeGives, Visits}
 use Rattle.visits.proofs.AsksLemmas.{is_visited}
+use Rattle.visits.proofs.NodeGivesLemmas.{gives_as}
 use Rattle.desk.proofs.AreCellsLemmas.{all_at_most}
-use Rattle.visits.proofs.AsksLemmas.{visited_there}
-use Rattle.visits.proofs.CodeLemmas.{cells_at_most}
-use Rattle.visits.proofs.LookedLemmas.{ends_within}
-use Rattle.visits.proofs.VisitsLemmas.{visits_within}
 use Rattle.desk.proofs.IsPutLemmas.{is_put, different_put}
-use Rattle.visits.proofs.NodeGivesLemmas.{gives_as, same_node}
 use Rattle.desk.proofs.IsStackLemmas.{top_visits, top_is_open, stack_push, stack_pop}
 use Rattle.desk.proofs.IsStackLemmas.{cells_put, alone_is_start, all_visited}
 use Rattle.desk.proofs.IsStackLemmas.{stack_begin, no_cells, under_way}
@@ -49,15 +41,6 @@ room_for_one a b n lt less h =
 pub some_frame : (fs : List Frame) → (fs ≡ [] → ⊥) → (u : Frame) × (us : List Frame) × (fs ≡ u ∷ us)
 some_frame [] h = absurd (h refl)
 some_frame (u ∷ us) h = (u, us, refl)
-
-less_by_push : (b old new below frames frames' : ℕ) → new ≤ b → new ≡ old + 1 → frames ≡ suc below
-    → frames' ≡ suc (suc below)
-    → 2 * (b + 1 - new) + frames' < 2 * (b + 1 - old) + frames
-less_by_push b old new below frames frames' most is before now = omega arith
-
-same_less : (b old new frames frames' : ℕ) → new ≡ old → frames ≡ suc frames' → 2 * (b + 1 - new) + frames'
-    < 2 * (b + 1 - old) + frames
-same_less b old new frames frames' is before = omega arith
 
 pub ok_of : {A E P : Type 0} (r : Result A E) → is_err r ≡ false → OnOk r P → P
 ok_of (Ok a) h p = p
@@ -121,21 +104,6 @@ module _ (g : Grammar) (x : List ℕ) (more : Bool) (sound : IsSoundGrammar g) w
         few = rw (← size) (omega (arith, most, f.count));
       }
 
-  -- the node of the start rule's body
-  start_node : (root : ℕ) × (slice_get g.bodies g.start ≡ Some root)
-  start_node = (
-    get_or g.bodies g.start 0,
-    slice_get-get_or g.bodies g.start 0 (omega
-        (arith, sound.start_is_rule, sound.spelled.count)),
-  )
-
-  start_as : (root k : ℕ) (o : Outcome) → slice_get g.bodies g.start ≡ Some root → StartGives g x o k
-      → NodeGives Rs Ns g.bodies x root 0 o k
-  start_as root k o at gives =
-      let there = sound.spelled.spelled g.start root at in
-      let same : there.0 ≡ gives.body = cc (there.1, gives.rule) in
-      record { expr = gives.body; spelled = subst (Spells Rs Ns root) same there.2; gives = gives.gives }
-
   pub pushed_step : {old new : View} {t : Frame} {fs : List Frame} {m q i r : ℕ} → Fits g x more old
       → old.frames ≡ t ∷ fs →
       IsTurn Rs g.start Ns g.bodies x more old.cells t.node t.place (Ask m q i r) → new.cells ≡ old.cells →
@@ -169,16 +137,17 @@ module _ (g : Grammar) (x : List ℕ) (more : Bool) (sound : IsSoundGrammar g) w
 
   module _ (old new : View) (t : Frame) (fs : List Frame) (h : Found) (f : Fits g x more old) (is : old.frames ≡ t ∷ fs)
       (turn : IsTurn Rs g.start Ns g.bodies x more old.cells t.node t.place (Answer h))
-      (cells : IsAdded old.cells new.cells (record { node = t.node; place = t.place; found = h }))
+      (cells : new.cells ≡ old.cells ++ record { node = t.node; place = t.place; found = h } ∷ [])
       (frames : new.frames ≡ fs) (begun : new.begun ≡ old.begun) where
+    abbrev cell : Entry
+    cell = record { node = t.node; place = t.place; found = h }
+
     put_once : IsPut old.cells new.cells t.node t.place h
-    put_once =
-        is_put old.cells new.cells (record { node = t.node; place = t.place; found = h }) (is_top old t fs f is).none
-        cells
+    put_once = subst (λ v. IsPut old.cells v t.node t.place h) (sym cells)
+        (is_put old.cells cell (is_top old t fs f is).none)
 
     longer_by_one : length new.cells ≡ length old.cells + 1
-    longer_by_one =
-        added_is_longer old.cells new.cells (record { node = t.node; place = t.place; found = h }) cells
+    longer_by_one = ap length cells ∙ length-append old.cells (cell ∷ [])
 
     pub drops_top : Drops old new h
     drops_top = record {
@@ -199,8 +168,7 @@ module _ (g : Grammar) (x : List ℕ) (more : Bool) (sound : IsSoundGrammar g) w
               (is_stacked old t fs f is) put_once);
           cells = cells_put Rs g.start Ns g.bodies g.ranks x more sound old.cells new.cells t.node t.place h f.cells
               top.visits turn put_once;
-          different = different_put old.cells new.cells (record { node = t.node; place = t.place; found = h })
-              f.different top.none cells;
+          different = subst AreDifferent (sym cells) (different_put old.cells cell f.different top.none);
           count = omega (arith, begun, f.count, lengths, before, longer_by_one);
         }
 
@@ -262,18 +230,6 @@ module _ (g : Grammar) (x : List ℕ) (more : Bool) (sound : IsSoundGrammar g) w
     count = rw (cells, frames) begun;
   }
 
-  -- where the last frame's comparison reaches the window's last byte, the start rule looks at it
-  pub need_given : (d : View) → Fits g x more d → Reaches g x more d → (o : Outcome) × StartGives g x o (length x)
-  need_given d f r =
-      let has = one.has_of_start Rs g.start Ns g.bodies g.ranks sound x in
-      let root = start_node in
-      let gives : NodeGives Rs Ns g.bodies x root.0 0 has.0 has.1 = start_as root.0 has.1 has.0 root.1 has.2 in
-      let top = is_top d r.top r.below f r.is in
-      let within = visits_within Rs g.start Ns g.bodies g.ranks x sound top.visits root.0 has.1 has.0 root.1 gives in
-      let same = same_node Rs Ns sound.defined g.bodies x r.gives within.gives in
-      let far : has.1 ≡ length x = omega (arith, same.looked, within.less, ends_within Rs x has.2.gives) in
-      (has.0, subst (λ k. StartGives g x has.0 k) far has.2)
-
   no_frames : (d : View) → d.frames ≡ [] → HasFrames g x more d
   no_frames d none = record { pairs = rw none tt; few = rw none (omega arith) }
 
@@ -289,53 +245,3 @@ module _ (g : Grammar) (x : List ℕ) (more : Bool) (sound : IsSoundGrammar g) w
       → IfOk r (IsStep g x more old new) → OnOk r (HasFrames g x more new)
   frames_of_step old new (Ok v) f s = step_frames old new v f s
   frames_of_step old new (Err e) f s = tt
-
-  pub step_outcome : (old new : View) (v : Option UnitAnswer) (u : UnitAnswer) → Fits g x more old
-      → IsStep g x more old new v → v ≡ Some u → IsOutcome g x more new u
-  step_outcome old new v u f s is = by u (subst (λ w. IsStep g x more old new w) is s)
-    where
-      by : (u : UnitAnswer) → IsStep g x more old new (Some u) → IsOutcome g x more new u
-      by (unit.Took end begun) e = (e.0.done, e.0.answers, e.1)
-      by (unit.Failed begun) e = (e.0.done, e.0.answers, e.1)
-      by unit.Need e = (e.1.behind, need_given old f e.1)
-
-  pub step_less : (old new : View) (v : Option UnitAnswer) → Fits g x more old → IsStep g x more old new v → v ≡ None →
-      2 * (length Ns * (length x + 1) + 1 - new.begun) + length new.frames
-      < 2 * (length Ns * (length x + 1) + 1 - old.begun) + length old.frames
-  step_less old new v f s is = by (subst (λ w. IsStep g x more old new w) is s)
-    where
-      by : IsStep g x more old new None → 2 * (length Ns * (length x + 1) + 1 - new.begun) + length new.frames
-          < 2 * (length Ns * (length x + 1) + 1 - old.begun) + length old.frames
-      by (fits, some, what) = elim what [
-        | inl p ↦
-            let most = fits_at_most new fits in
-            let before = ap length p.was in
-            let now = ap length p.is in
-            less_by_push (length Ns * (length x + 1)) old.begun new.begun (length p.below) (length old.frames)
-            (length new.frames) most p.begun before now
-        | inr h ↦
-            let before = ap length h.1.was in
-            same_less (length Ns * (length x + 1)) old.begun new.begun (length old.frames) (length new.frames) h.1.begun
-            before
-      ]
-
-  -- no more are begun than nodes at places up to where the start rule looked
-  pub done_at_most : (d : View) (o : Outcome) (k : ℕ) → IsDone g x more d → StartGives g x o k
-      → d.begun ≤ length Ns * (k + 1)
-  done_at_most d o k done gives =
-      let root = start_node in
-      let node : NodeGives Rs Ns g.bodies x root.0 0 o k = start_as root.0 k o root.1 gives in
-      let most = cells_at_most d.cells (length Ns) k done.different
-      (λ m q h.
-      let v = done.visited m q h.0 h.1 in
-      let within = visits_within Rs g.start Ns g.bodies g.ranks x sound v root.0 k o root.1 node in
-      ((visited_there Rs g.start Ns g.bodies g.ranks x sound m q v).0, omega (arith, within.near))) in
-      omega (arith, done.count, most)
-
-  pub told_at_most : (d : View) (u : UnitAnswer) → IsOutcome g x more d u → (o : Outcome) (k : ℕ) → StartGives g x o k
-      → told u ≤ length g.nodes * (k + 1)
-  told_at_most d (unit.Took end begun) h o k gives =
-      rw (h.2, ← length-map g.nodes shape_of) (done_at_most d o k h.0 gives)
-  told_at_most d (unit.Failed begun) h o k gives =
-      rw (h.2, ← length-map g.nodes shape_of) (done_at_most d o k h.0 gives)
-  told_at_most d unit.Need h o k gives = omega arith

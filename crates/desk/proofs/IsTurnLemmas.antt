@@ -15,13 +15,10 @@ use Rattle.memo.specs.declared.found.Found.{Found}
 use Rattle.memo.specs.declared.found.Found.TheVariants.{Failed, Took}
 use Rattle.pegmatch.specs.declared.leaves.Tried.{Tried}
 use Rattle.memo.specs.Entries.{Entry}
-use Rattle.desk.specs.declared.ahead.Sight.{Sight}
-use Rattle.desk.specs.declared.ahead.Sight.TheVariants as sight
-use Rattle.desk.specs.Ahead.{IsSight, known_turn}
 use Rattle.desk.specs.declared.turn.Turn.{Turn}
 use Rattle.desk.specs.declared.turn.Turn.TheVariants.{Ask, Answer, Need}
 use Rattle.memo.specs.Entries.{found_at}
-use Rattle.desk.specs.State.{HasCome, IsUnderWay, AreCells}
+use Rattle.desk.specs.State.{HasCome, IsUnderWay}
 use Rattle.visits.specs.CellOutcomes.{HasCell, IsFound}
 use Rattle.desk.specs.Turns.{same_turn, again_turn, opt_turn, and_turn, not_turn, star_turn, plus_turn, IsLeafTurn}
 use Rattle.desk.specs.Turns.{IsWalk, IsSearch, IsTurn}
@@ -415,12 +412,3 @@ module _ (rules : List Rule) (start : ℕ) (nodes : List Shape) (bodies ranks x 
     pub mark_turns : (e : Pattern) (es : List Event) → Spells rules nodes n e → Gives rules x e p (Takes p es) 0
         → (more ≡ true → 0 < length x) → Turns (Answer (Took p))
     mark_turns e es sp d some = mark_is_turn e es none_of sp d some
-
--- what is known of a node is what it does next
-pub sight_turns : (rules : List Rule) (start : ℕ) (nodes : List Shape) (bodies x : List ℕ) (more : Bool) (n p : ℕ)
-    (s : Sight) → ((cells : List Entry) → AreCells rules start nodes bodies x more cells
-    → IsTurn rules start nodes bodies x more cells n p (known_turn s)) → IsSight rules start nodes bodies x more n p s
-sight_turns rules start nodes bodies x more n p (sight.Known f) h = h
-sight_turns rules start nodes bodies x more n p sight.Need h = h
-sight_turns rules start nodes bodies x more n p sight.Literal h = tt
-sight_turns rules start nodes bodies x more n p sight.Operands h = tt

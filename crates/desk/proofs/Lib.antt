@@ -1,3 +1,4 @@
+pub mod CellMapLemmas
 pub mod IsPutLemmas
 pub mod HaveTakenLemmas
 pub mod IsTurnLemmas
@@ -5,19 +6,4 @@ pub mod IsStackLemmas
 pub mod FrameCodesLemmas
 pub mod AreCellsLemmas
 pub mod IsStepLemmas
-pub mod IsNextLemmas
-pub mod AsksNextLemmas
-pub mod IsOnLemmas
-pub mod IsSeenLemmas
-pub mod IsNarrowRunLemmas
-pub mod IsSeenFromLemmas
-pub mod PlusTurnLemmas
-pub mod NameFrameLemmas
-pub mod FailsAtHeadLemmas
-pub mod TakesAtHeadLemmas
-pub mod TowerLemmas
-pub mod IsWayLemmas
-pub mod WalksLemmas
-pub mod HoldsLemmas
-pub mod HasWrittenLemmas
 pub mod FrameLemmas

@@ -1,9 +1,4 @@
-pub mod Ahead
+pub mod CellMap
 pub mod State
 pub mod Turns
 pub mod Desk
-pub mod Path
-pub mod Repeats
-pub mod AsksNext
-pub mod SeenFrom
-pub mod Heads

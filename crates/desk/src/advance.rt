@@ -7,7 +7,6 @@ use crate::frame::{Frame, Frames};
 use ruletable::Memory;
 
 /// Returns the frame of a node at a place that begins.
-#[inline(always)]
 pub(crate) fn beginning(node: usize, place: usize) -> Frame
     ensures { result ≡ begun_at node place }
 {
@@ -20,7 +19,6 @@ pub(crate) fn beginning(node: usize, place: usize) -> Frame
 }
 
 /// Brings the last frame further; it asks for a node at a place.
-#[inline(always)]
 pub(crate) fn advance(
     frames: &mut Frames,
     next: usize,

@@ -1,20 +1,11 @@
-//! The packrat matcher: it evaluates each node at each place at most once, with frames of its own in place of
-//! recursion.
+//! The plain packrat machine: it evaluates each node at each place at most once, one frame or one cell a step, with
+//! frames of its own in place of recursion.
 #![tactic(auto)]
 
 mod advance;
-mod ahead;
+mod cell_map;
 mod desk;
 mod frame;
-mod head;
-mod name;
-mod repeat;
-mod repetition;
-mod replay;
-mod run;
-mod track;
 mod turn;
-mod walk;
-mod way;
 
 pub use desk::Desk;

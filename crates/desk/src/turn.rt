@@ -9,6 +9,7 @@ ghost use Rattle.desk.specs.State.{HaveTaken, HaveFailed, IsUnderWay, AreCells};
 ghost use Rattle.desk.specs.Turns.{same_turn, again_turn, opt_turn, and_turn, not_turn, star_turn, plus_turn};
 ghost use Rattle.desk.specs.Turns.{IsLeafTurn, IsWalk, IsSearch, IsTurn};
 
+use crate::cell_map::CellMap;
 use crate::frame::Frame;
 use gramcheck::{Node, SoundPeg};
 use memo::Found;
@@ -30,7 +31,6 @@ pub(crate) enum Turn {
     Need,
 }
 
-#[inline(always)]
 fn ask(node: usize, place: usize) -> Turn
     ensures { result ≡ Turn.Ask node place 0 place }
 {
@@ -43,8 +43,7 @@ fn ask(node: usize, place: usize) -> Turn
 }
 
 /// Returns what was tried, where its comparison does not reach the last byte of a window behind which there is more.
-#[inline(always)]
-pub(crate) fn leaf_turn(tried: Tried, window: &[u8], more: bool) -> Turn
+fn leaf_turn(tried: Tried, window: &[u8], more: bool) -> Turn
     ensures { IsLeafTurn tried (length window.now) more result }
 {
     if more && tried.looked == window.len() {
@@ -55,7 +54,6 @@ pub(crate) fn leaf_turn(tried: Tried, window: &[u8], more: bool) -> Turn
 }
 
 /// Hands on what a node gives at a place.
-#[inline(always)]
 pub(crate) fn same(found: Option<Found>, node: usize, place: usize) -> Turn
     ensures { result ≡ same_turn node place found }
 {
@@ -66,7 +64,6 @@ pub(crate) fn same(found: Option<Found>, node: usize, place: usize) -> Turn
 }
 
 /// Returns what an option makes of its operand.
-#[inline(always)]
 pub(crate) fn opt(found: Option<Found>, operand: usize, place: usize) -> Turn
     ensures { result ≡ opt_turn operand place found }
 {
@@ -78,7 +75,6 @@ pub(crate) fn opt(found: Option<Found>, operand: usize, place: usize) -> Turn
 }
 
 /// Returns what a predicate `&` makes of its operand.
-#[inline(always)]
 pub(crate) fn and(found: Option<Found>, operand: usize, place: usize) -> Turn
     ensures { result ≡ and_turn operand place found }
 {
@@ -90,7 +86,6 @@ pub(crate) fn and(found: Option<Found>, operand: usize, place: usize) -> Turn
 }
 
 /// Returns what a predicate `!` makes of its operand.
-#[inline(always)]
 pub(crate) fn not(found: Option<Found>, operand: usize, place: usize) -> Turn
     ensures { result ≡ not_turn operand place found }
 {
@@ -102,11 +97,10 @@ pub(crate) fn not(found: Option<Found>, operand: usize, place: usize) -> Turn
 }
 
 /// Hands on what the node that goes on with a repetition gives at the end of one turn of it.
-#[inline(always)]
-pub(crate) fn again<const NEAR: bool>(cells: &Cells, node: usize, end: usize) -> Turn
+pub(crate) fn again(cells: &CellMap, node: usize, end: usize) -> Turn
     ensures { result ≡ again_turn node end (found_at cells.now node end) }
 {
-    match cells.get::<NEAR>(node, end) {
+    match cells.get(node, end) {
         None => Turn::Ask {
             node,
             place: end,
@@ -118,9 +112,8 @@ pub(crate) fn again<const NEAR: bool>(cells: &Cells, node: usize, end: usize) ->
 }
 
 /// Returns what a repetition makes of its operand, and of itself where the operand ended.
-#[inline(always)]
-pub(crate) fn star<const NEAR: bool>(
-    cells: &Cells,
+pub(crate) fn star(
+    cells: &CellMap,
     found: Option<Found>,
     node: usize,
     operand: usize,
@@ -131,15 +124,14 @@ pub(crate) fn star<const NEAR: bool>(
     match found {
         None => ask(operand, place),
         Some(Found::Failed) => Turn::Answer(Found::Took(place)),
-        Some(Found::Took(end)) => again::<NEAR>(cells, node, end),
+        Some(Found::Took(end)) => again(cells, node, end),
     }
 }
 
 /// Returns what a repetition of at least once makes of its operand, and of the node that goes on with it where the
 /// operand ended.
-#[inline(always)]
-pub(crate) fn plus<const NEAR: bool>(
-    cells: &Cells,
+pub(crate) fn plus(
+    cells: &CellMap,
     found: Option<Found>,
     star: usize,
     operand: usize,
@@ -150,18 +142,17 @@ pub(crate) fn plus<const NEAR: bool>(
     match found {
         None => ask(operand, place),
         Some(Found::Failed) => Turn::Answer(Found::Failed),
-        Some(Found::Took(end)) => again::<NEAR>(cells, star, end),
+        Some(Found::Took(end)) => again(cells, star, end),
     }
 }
 
 // On through the members that have cells.
-#[inline(always)]
-fn all<const NEAR: bool>(cells: &Cells, members: &[usize], next: usize, end: usize) -> Turn
+fn all(cells: &CellMap, members: &[usize], next: usize, end: usize) -> Turn
     ensures { (p : ℕ) → HaveTaken cells.now members.now p next end → IsWalk cells.now members.now p result }
 {
     let mut end = end;
     for i in next..members.len() {
-        match cells.get::<NEAR>(members[i], end) {
+        match cells.get(members[i], end) {
             None => {
                 return Turn::Ask {
                     node: members[i],
@@ -178,12 +169,11 @@ fn all<const NEAR: bool>(cells: &Cells, members: &[usize], next: usize, end: usi
 }
 
 // On through the alternatives that have cells.
-#[inline(always)]
-fn first<const NEAR: bool>(cells: &Cells, alternatives: &[usize], next: usize, place: usize) -> Turn
+fn first(cells: &CellMap, alternatives: &[usize], next: usize, place: usize) -> Turn
     ensures { HaveFailed cells.now place alternatives.now next → IsSearch cells.now alternatives.now place result }
 {
     for i in next..alternatives.len() {
-        match cells.get::<NEAR>(alternatives[i], place) {
+        match cells.get(alternatives[i], place) {
             None => {
                 return Turn::Ask {
                     node: alternatives[i],
@@ -200,12 +190,11 @@ fn first<const NEAR: bool>(cells: &Cells, alternatives: &[usize], next: usize, p
 }
 
 /// Returns what the evaluation of a frame's node at its place does next.
-#[inline(always)]
-pub(crate) fn next_turn<const NEAR: bool>(
+pub(crate) fn next_turn(
     peg: &SoundPeg,
     window: &[u8],
     more: bool,
-    cells: &Cells,
+    cells: &CellMap,
     frame: Frame,
 ) -> Turn
     requires sound { IsSoundGrammar peg.now }
@@ -226,24 +215,24 @@ pub(crate) fn next_turn<const NEAR: bool>(
         Node::Set(set) => leaf_turn(match_set(set, window, place), window, more),
         Node::Name(id) => {
             let body = peg.body_node(*id);
-            same(cells.get::<NEAR>(body, place), body, place)
+            same(cells.get(body, place), body, place)
         }
-        Node::Seq(members) => all::<NEAR>(cells, members, frame.next, frame.end),
-        Node::Choice(alternatives) => first::<NEAR>(cells, alternatives, frame.next, place),
+        Node::Seq(members) => all(cells, members, frame.next, frame.end),
+        Node::Choice(alternatives) => first(cells, alternatives, frame.next, place),
         Node::Star(operand) => {
-            let found = cells.get::<NEAR>(*operand, place);
-            star::<NEAR>(cells, found, frame.node, *operand, place)
+            let found = cells.get(*operand, place);
+            star(cells, found, frame.node, *operand, place)
         }
         Node::Plus {
             operand,
             star: again,
         } => {
-            let found = cells.get::<NEAR>(*operand, place);
-            plus::<NEAR>(cells, found, *again, *operand, place)
+            let found = cells.get(*operand, place);
+            plus(cells, found, *again, *operand, place)
         }
-        Node::Opt(operand) => opt(cells.get::<NEAR>(*operand, place), *operand, place),
-        Node::And(operand) => and(cells.get::<NEAR>(*operand, place), *operand, place),
-        Node::Not(operand) => not(cells.get::<NEAR>(*operand, place), *operand, place),
+        Node::Opt(operand) => opt(cells.get(*operand, place), *operand, place),
+        Node::And(operand) => and(cells.get(*operand, place), *operand, place),
+        Node::Not(operand) => not(cells.get(*operand, place), *operand, place),
         Node::Act(_) => Turn::Answer(Found::Took(place)),
         Node::Open => Turn::Answer(Found::Took(place)),
         Node::Close => Turn::Answer(Found::Took(place)),

@@ -5,8 +5,8 @@ ghost use Rattle.memo.specs.KeyLog.{spots_of, row_of, place_of};
 ghost use Rattle.memo.specs.Parts.{IsIn};
 ghost use Rattle.memo.specs.declared.key_log.Stored.{Stored};
 
-use crate::spot::Spot;
 use crate::found::Found;
+use crate::spot::Spot;
 use ruletable::Memory;
 use std::alloc::Global;
 use std::marker::Model;

@@ -10,8 +10,8 @@ returns-clause-fits c = λ x more.
     let frames : c.push.new.self ≡ beginning c.body_node-root.result 0 ∷ [] =
     pushed ∙ ap (λ f. f ∷ c.self.inside.frames) c.beginning.ensures
     ∙ ap (λ fs. beginning c.body_node-root.result 0 ∷ fs) (ap (λ d. d.frames) old) in
-    fits_begin _ x more c.start.ensures.sound _ _ (rw c.start.ensures.id at c.body_node-root.ensures) c.reset-2.ensures
-    frames refl
+    fits_begin _ x more c.start.ensures.sound _ _ (rw c.start.ensures.id at c.body_node-root.ensures)
+    (ap (λ d. d.cells) old) frames refl
 
 pub returns-clause-frames : goal.returns-clause-frames
 returns-clause-frames c = λ x more. frames_of _ x more c.start.ensures.sound _ (returns-clause-fits c x more)
