@@ -1,19 +1,17 @@
 -- Cells and frames together are no more than nodes at places.
--- Serves: Desk::begin, Desk::step, Desk::match_unit.
+-- Serves: Desk::begin, Desk::step.
 use Rattle.std.proofs.Common.{◌≡◌, inl, inr, ℕ, ◌+◌, ◌*◌, ◌<◌, ◌≤◌, Bool, List, [], ◌∷◌, length, None, refl, arith}
 use Rattle.pegread.specs.Pattern.{Rule}
 use Rattle.gramcheck.specs.Nodes.{Shape}
 use Rattle.gramcheck.specs.Sound.{IsRanked}
-use Rattle.memo.specs.Entries.{Entry}
+use Rattle.memo.specs.Entries.{Entry, found_at, AreDifferent}
 use Rattle.desk.specs.declared.frame.Frame.{Frame}
-use Rattle.memo.specs.Entries.{found_at, AreDifferent}
 use Rattle.desk.specs.State.{IsStack, no_frame, bottom, above, AreCells}
 use Rattle.visits.specs.CellOutcomes.{HasCell}
 use Rattle.visits.proofs.AsksLemmas.{is_visited, visited_there}
-use Rattle.visits.proofs.CodeLemmas.{In, in_cases, Differ, code, code_same, code_below, cell_codes, cell_of}
-use Rattle.desk.proofs.FrameCodesLemmas.{all_codes}
-use Rattle.visits.proofs.CodeLemmas.{not_among, cells_differ, at_most_below}
-use Rattle.desk.proofs.FrameCodesLemmas.{length_codes}
+use Rattle.visits.proofs.CodeLemmas.{In, in_cases, Differ, code, code_same, code_below, cell_codes, cell_of, not_among}
+use Rattle.visits.proofs.CodeLemmas.{cells_differ, at_most_below}
+use Rattle.desk.proofs.FrameCodesLemmas.{all_codes, length_codes}
 use Rattle.desk.proofs.IsStackLemmas.{high, AreAbove, are_above, top_visits}
 
 module _ (rules : List Rule) (start : ℕ) (nodes : List Shape) (bodies ranks x : List ℕ) (more : Bool)
@@ -87,14 +85,16 @@ module _ (rules : List Rule) (start : ℕ) (nodes : List Shape) (bodies ranks x 
       → a < length nodes * Width
   all_below cells c no_frame a h = cells_below cells c a h
   all_below cells c (bottom {f = f} o at is) a h =
-      let l = visited_there rules start nodes bodies ranks x sound f.node f.place (top_visits rules start nodes bodies ranks x more sound cells f []
+      let l = visited_there rules start nodes bodies ranks x sound f.node f.place
+      (top_visits rules start nodes bodies ranks x more sound cells f []
       (bottom o at is)) in
       elim (in_cases h) [
         | inl same ↦ rw same (code_below Width f.node f.place (length nodes) l.0 (omega (arith, l.1)))
         | inr later ↦ cells_below cells c a later
       ]
   all_below cells c (above {h = g} {f = k} {fs = fs} o b s) a h =
-      let l = visited_there rules start nodes bodies ranks x sound g.node g.place (top_visits rules start nodes bodies ranks x more sound cells g (k ∷ fs)
+      let l = visited_there rules start nodes bodies ranks x sound g.node g.place
+      (top_visits rules start nodes bodies ranks x more sound cells g (k ∷ fs)
       (above o b s)) in
       elim (in_cases h) [
         | inl same ↦ rw same (code_below Width g.node g.place (length nodes) l.0 (omega (arith, l.1)))

@@ -1,5 +1,5 @@
 -- Cells and frames as numbers.
--- Serves: Desk::step, Desk::match_unit, Desk::replay.
+-- Serves: Desk::step.
 use Rattle.std.proofs.Common.{◌≡◌, ℕ, ◌+◌, List, [], ◌∷◌, length, arith}
 use Rattle.memo.specs.Entries.{Entry}
 use Rattle.desk.specs.declared.frame.Frame.{Frame}

@@ -1,5 +1,5 @@
 -- A list of frames seen from its end.
--- Serves: Desk::step, Desk::match_unit.
+-- Serves: Desk::step.
 use Rattle.std.proofs.Common.{◌≡◌, ℕ, ◌+◌, ◌-◌, ◌≤◌, List, [], ◌∷◌, ◌++◌, length, get_or, set, reverse, refl, sym, ap}
 use Rattle.std.proofs.Common.{◌∙◌, arith, length-append}
 use Rattle.std.proofs.lemmas.List.{reverse-reverse, reverse-append, set-append_right}

@@ -1,5 +1,5 @@
 -- Members and alternatives that have cells: what the whole gives, and what it asked for.
--- Serves: Desk::step, Desk::match_unit, Desk::replay.
+-- Serves: Desk::step.
 use Rattle.std.proofs.Common.{◌≡◌, ℕ, suc, ◌+◌, add-one, ◌<◌, ◌≤◌, max, Bool, true, List, [], ◌∷◌, ◌++◌, length, get_or}
 use Rattle.std.proofs.Common.{Some, sym, ◌∙◌, ap, subst, arith}
 use Rattle.pegread.specs.Pattern.{Pattern, Patterns, Rule}
@@ -11,8 +11,7 @@ use Rattle.gramcheck.proofs.OneOutcomeLemmas.{Same}
 use Rattle.pegmatch.specs.KeptEvents.{outcome_of}
 use Rattle.memo.specs.declared.found.Found.{Found}
 use Rattle.memo.specs.declared.found.Found.TheVariants.{Failed, Took}
-use Rattle.memo.specs.Entries.{Entry}
-use Rattle.memo.specs.Entries.{found_at}
+use Rattle.memo.specs.Entries.{Entry, found_at}
 use Rattle.desk.specs.State.{HaveTaken, none_taken, one_taken, HaveFailed, none_failed, one_failed}
 use Rattle.visits.specs.CellOutcomes.{HasCell, IsFound}
 use Rattle.visits.specs.Visits.{NodeGives, NodeTakes, NodeFails, AsksMember, member_here, member_later, AsksAlternative}

@@ -1,5 +1,5 @@
 -- Frames that are pushed, and turned into cells.
--- Serves: Desk::begin, Desk::step, Desk::match_unit.
+-- Serves: Desk::begin, Desk::step.
 use Rattle.std.proofs.Common.{◌≡◌, inl, inr, ℕ, ◌<◌, ◌≤◌, Bool, List, [], ◌∷◌, Some, refl, sym, ◌∙◌, subst, arith}
 use Rattle.std.specs.Prelude.{slice_get}
 use Rattle.pegread.specs.Pattern.{Rule}
@@ -7,13 +7,12 @@ use Rattle.gramcheck.specs.Nodes as node
 use Rattle.gramcheck.specs.Nodes.{Shape}
 use Rattle.gramcheck.specs.Sound.{IsRanked}
 use Rattle.memo.specs.declared.found.Found.{Found}
-use Rattle.memo.specs.Entries.{Entry}
+use Rattle.memo.specs.Entries.{Entry, found_at}
 use Rattle.desk.specs.declared.frame.Frame.{Frame}
 use Rattle.desk.specs.declared.turn.Turn.TheVariants.{Ask, Answer}
-use Rattle.memo.specs.Entries.{found_at}
-use Rattle.desk.specs.State.{IsPut, none_taken, none_failed, HasCome, IsUnderWay, IsOpen, IsStack, no_frame}
+use Rattle.desk.specs.State.{IsPut, none_taken, none_failed, HasCome, IsUnderWay, IsOpen, IsStack, no_frame, bottom}
+use Rattle.desk.specs.State.{above, AreCells, HasNoFrame, AreUnderWay}
 use Rattle.visits.specs.CellOutcomes.{HasCell}
-use Rattle.desk.specs.State.{bottom, above, AreCells, HasNoFrame, AreUnderWay}
 use Rattle.desk.specs.Turns.{IsTurn}
 use Rattle.visits.specs.Visits.{Asks, Visits, first, asked}
 use Rattle.visits.proofs.AsksLemmas.{height, height_falls, is_visited}

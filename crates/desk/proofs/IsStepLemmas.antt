@@ -19,8 +19,8 @@ use Rattle.pegmatch.specs.declared.matcher.Unit.{Unit as UnitAnswer}
 use Rattle.pegmatch.specs.declared.matcher.Unit.TheVariants as unit
 use Rattle.memo.specs.Entries.{Entry, found_at, AreDifferent}
 use Rattle.desk.specs.declared.frame.Frame.{Frame}
-use Rattle.desk.specs.declared.turn.Turn.TheVariants.{Ask, Answer, Need}
-use Rattle.desk.specs.Desk.{View, beginning, Fits, HasFrames, Drops, Reaches, Ends, IsStep, unit_of}
+use Rattle.desk.specs.declared.turn.Turn.TheVariants.{Ask, Answer}
+use Rattle.desk.specs.Desk.{View, beginning, Fits, HasFrames, Drops, Ends, IsStep, unit_of}
 use Rattle.desk.specs.State.{IsPut, IsUnderWay, IsStack}
 use Rattle.desk.specs.Turns.{IsTurn}
 use Rattle.visits.specs.Visits.{NodeGives, Visits}
@@ -28,9 +28,8 @@ use Rattle.visits.proofs.AsksLemmas.{is_visited}
 use Rattle.visits.proofs.NodeGivesLemmas.{gives_as}
 use Rattle.desk.proofs.AreCellsLemmas.{all_at_most}
 use Rattle.desk.proofs.IsPutLemmas.{is_put, different_put}
-use Rattle.desk.proofs.IsStackLemmas.{top_visits, top_is_open, stack_push, stack_pop}
-use Rattle.desk.proofs.IsStackLemmas.{cells_put, alone_is_start, all_visited}
-use Rattle.desk.proofs.IsStackLemmas.{stack_begin, no_cells, under_way}
+use Rattle.desk.proofs.IsStackLemmas.{top_visits, top_is_open, stack_push, stack_pop, cells_put, alone_is_start}
+use Rattle.desk.proofs.IsStackLemmas.{all_visited, stack_begin, no_cells, under_way}
 
 -- what is counted has room
 pub room_for_one : (a b n : ℕ) → a < 2 ^ 64 → b < 2 ^ 64 → n ≤ a * (b + 1) → n + 1 < 2 ^ 128
@@ -208,18 +207,6 @@ module _ (g : Grammar) (x : List ℕ) (more : Bool) (sound : IsSoundGrammar g) w
       → IsStep g x more old new (Some (unit_of h b))
   ended_step old new Failed b e is = (e, is)
   ended_step old new (Took end) b e is = (e, is)
-
-  pub reaches_end : (d : View) (t : Frame) (fs : List Frame) → d.frames ≡ t ∷ fs
-      → IsTurn Rs g.start Ns g.bodies x more d.cells t.node t.place Need → Reaches g x more d
-  reaches_end d t fs is turn = record {
-    behind = turn.0;
-    top = t;
-    below = fs;
-    is = is;
-    own = turn.1;
-    outcome = turn.2.0;
-    gives = turn.2.1;
-  }
 
   pub fits_begin : (root : ℕ) (d : View) → slice_get g.bodies g.start ≡ Some root → d.cells ≡ []
       → d.frames ≡ beginning root 0 ∷ [] → d.begun ≡ 1 → Fits g x more d

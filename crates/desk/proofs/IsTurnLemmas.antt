@@ -1,5 +1,5 @@
 -- What an evaluation does next, form by form.
--- Serves: Desk::step, Desk::match_unit.
+-- Serves: Desk::step.
 use Rattle.std.proofs.Common.{◌≡◌, inl, inr, ℕ, ◌<◌, ◌≤◌, max, Bool, true, List, [], ◌++◌, length, Option, Some, None}
 use Rattle.std.proofs.Common.{refl, sym, subst, arith}
 use Rattle.std.specs.Prelude.{slice_get}
@@ -14,10 +14,9 @@ use Rattle.pegmatch.specs.KeptEvents.{SpellsSome, quiet_outcome}
 use Rattle.memo.specs.declared.found.Found.{Found}
 use Rattle.memo.specs.declared.found.Found.TheVariants.{Failed, Took}
 use Rattle.pegmatch.specs.declared.leaves.Tried.{Tried}
-use Rattle.memo.specs.Entries.{Entry}
+use Rattle.memo.specs.Entries.{Entry, found_at}
 use Rattle.desk.specs.declared.turn.Turn.{Turn}
 use Rattle.desk.specs.declared.turn.Turn.TheVariants.{Ask, Answer, Need}
-use Rattle.memo.specs.Entries.{found_at}
 use Rattle.desk.specs.State.{HasCome, IsUnderWay}
 use Rattle.visits.specs.CellOutcomes.{HasCell, IsFound}
 use Rattle.desk.specs.Turns.{same_turn, again_turn, opt_turn, and_turn, not_turn, star_turn, plus_turn, IsLeafTurn}
@@ -37,9 +36,6 @@ module _ (rules : List Rule) (start : ℕ) (nodes : List Shape) (bodies ranks x 
     (n p : ℕ) (s : SpellsSome rules nodes n) where
   abbrev Turns : Turn → Type 0
   Turns t = IsTurn rules start nodes bodies x more cells n p t
-
-  abbrev Finds : Found → Type 0
-  Finds f = IsFound rules start nodes bodies x more n p f
 
   is_under_way : (shape : Shape) (i q : ℕ) → slice_get nodes n ≡ Some shape → HasCome cells shape p i q
       → IsUnderWay rules start nodes bodies x more cells n p i q

@@ -11,9 +11,8 @@ use Rattle.memo.specs.declared.found.Found.{Found}
 use Rattle.memo.specs.declared.found.Found.TheVariants as found
 use Rattle.pegmatch.specs.declared.matcher.Unit.{Unit as UnitAnswer}
 use Rattle.pegmatch.specs.declared.matcher.Unit.TheVariants.{Took, Failed, Need}
-use Rattle.memo.specs.Entries.{Entry}
+use Rattle.memo.specs.Entries.{Entry, found_at, AreDifferent}
 use Rattle.desk.specs.declared.frame.Frame.{Frame}
-use Rattle.memo.specs.Entries.{found_at, AreDifferent}
 use Rattle.desk.specs.State.{IsPut, IsStack, AreCells, AreUnderWay}
 use Rattle.visits.specs.CellOutcomes.{HasCell, IsFound}
 use Rattle.visits.specs.Visits.{NodeGives, Asks, Visits}

@@ -5,9 +5,8 @@ use Rattle.gramcheck.specs.Nodes.{Shape, Any, Bytes, Set, Name, Seq, Choice, Sta
 use Rattle.gramcheck.specs.Nodes.{Close}
 use Rattle.memo.specs.declared.found.Found.{Found}
 use Rattle.memo.specs.declared.found.Found.TheVariants.{Failed, Took}
-use Rattle.memo.specs.Entries.{Entry}
+use Rattle.memo.specs.Entries.{Entry, found_at}
 use Rattle.desk.specs.declared.frame.Frame.{Frame}
-use Rattle.memo.specs.Entries.{found_at}
 use Rattle.visits.specs.CellOutcomes.{HasCell, IsFound}
 use Rattle.visits.specs.Visits.{Asks, Visits}
 

@@ -6,10 +6,9 @@ use Rattle.gramcheck.specs.Outcome.{Outcome}
 use Rattle.memo.specs.declared.found.Found.{Found}
 use Rattle.memo.specs.declared.found.Found.TheVariants.{Failed, Took}
 use Rattle.pegmatch.specs.declared.leaves.Tried.{Tried}
-use Rattle.memo.specs.Entries.{Entry}
+use Rattle.memo.specs.Entries.{Entry, found_at}
 use Rattle.desk.specs.declared.turn.Turn.{Turn}
 use Rattle.desk.specs.declared.turn.Turn.TheVariants.{Ask, Answer, Need}
-use Rattle.memo.specs.Entries.{found_at}
 use Rattle.desk.specs.State.{HaveTaken, HaveFailed, IsUnderWay}
 use Rattle.visits.specs.CellOutcomes.{HasCell, IsFound}
 use Rattle.visits.specs.Visits.{NodeGives, Asks}

@@ -7,7 +7,7 @@ use std::alloc::Global;
 use std::marker::Model;
 
 /// A node at a place, with how many of its members or alternatives are done, and where those before end.
-#[derive(Clone, Copy, PartialEq, Eq, Debug)]
+#[derive(Clone, Copy)]
 pub(crate) struct Frame {
     pub(crate) node: usize,
     pub(crate) place: usize,

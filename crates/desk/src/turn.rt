@@ -16,7 +16,7 @@ use memo::Found;
 use pegmatch::{Tried, match_any, match_bytes, match_set};
 
 /// What an evaluation does next.
-#[derive(Clone, Copy, PartialEq, Eq, Debug)]
+#[derive(Clone, Copy)]
 pub(crate) enum Turn {
     /// It asks for what a node gives at a place; so many of its members are done, and those before end there.
     Ask {
