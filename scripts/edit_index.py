@@ -32,9 +32,7 @@ EXEMPT = (
     # It returns marks without entries, which take no memory; no other such value is at hand.
     "packrat: Marks.all",
     # Its equation stands behind a premise, and `requires` says that something meets the premise.
-    "pegmatch: Plain.replay", "pegmatch: writing.write_event", "desk: Desk.replay",
-    # It hands on to a function with the same clauses, which has an edit.
-    "cells: Cells.get_or_put", "cells: Cells.put",
+    "pegmatch: Plain.replay", "pegmatch: writing.write_event",
     # Another function of the crate has such a body, and its edit shows the same mistake.
     "commands: command.abnfi_command", "mains: mains.abnfi_main", "leastset: needs.are_needs_within",
     "pegmatch: leaves.match_any", "feed: Feed.front",
