@@ -11,6 +11,7 @@ use crate::narrow::narrow;
 use crate::spot::{Spot, pair_number, tail_number};
 use cells::Found;
 use ruletable::Memory;
+use std::mem::size_of;
 
 /// What was found.
 #[derive(Clone, Copy)]
@@ -26,6 +27,7 @@ impl Outcome {
     ///
     /// # Errors
     /// `Memory` if it does not fit.
+    #[inline(always)]
     pub(crate) fn of(found: Found) -> Result<Outcome, Memory>
         ensures { IfOk result (λ o. found_of o ≡ found) }
     {
@@ -36,6 +38,7 @@ impl Outcome {
     }
 
     /// Returns what was found.
+    #[inline(always)]
     pub(crate) fn found(self) -> Found
         ensures { result ≡ found_of self }
     {
@@ -73,6 +76,9 @@ pub(crate) enum Entry {
     },
 }
 
+// An entry is to stay small: a long match is slowed by the memory that it writes.
+const _: () = prove!(size_of::<Entry>() <= 28);
+
 /// The keys of an entry: their row, their highest place, how many they are, and the number of the first one.
 #[derive(Clone, Copy)]
 pub(crate) struct Extent {
@@ -87,6 +93,7 @@ impl Entry {
     ///
     /// # Errors
     /// `Memory` if a number does not fit into 32 bits.
+    #[inline(always)]
     pub(crate) fn of_spot(spot: Spot, given: Given) -> Result<Entry, Memory>
         ensures pairs { IfOk result (λ e. pairs_of e ≡ record { spot = spot; given = given } ∷ []) }
         ensures node { IfOk result (λ e. node_of e ≡ row_of spot) }
@@ -107,6 +114,7 @@ impl Entry {
     ///
     /// # Errors
     /// `Memory` if a number does not fit into 32 bits.
+    #[inline(always)]
     pub(crate) fn run(node: usize, from: usize, to: usize, given: Given) -> Result<Entry, Memory>
         ensures pairs { IfOk result (λ e. pairs_of e ≡ run_of node from to given) }
         ensures node { IfOk result (λ e. node_of e ≡ node) }
@@ -124,6 +132,7 @@ impl Entry {
     ///
     /// # Errors
     /// `Memory` if a number does not fit into 32 bits.
+    #[inline(always)]
     pub(crate) fn steps(node: usize, from: usize, to: usize) -> Result<Entry, Memory>
         ensures pairs { IfOk result (λ e. pairs_of e ≡ steps_of node from to) }
         ensures node { IfOk result (λ e. node_of e ≡ node) }
@@ -136,6 +145,7 @@ impl Entry {
     }
 
     /// Returns the extent of its keys.
+    #[inline(always)]
     pub(crate) fn extent(self) -> Extent
         ensures extent { IsExtent self result }
         ensures room { result.first + result.count < 2 ^ 64 }
@@ -175,6 +185,7 @@ impl Entry {
     }
 
     /// Returns what it says of a key, if it has it.
+    #[inline(always)]
     pub(crate) fn given_for(self, spot: Spot) -> Option<Given>
         ensures some { IfSome result (λ g. IsIn (record { spot = spot; given = g }) (pairs_of self)) }
         ensures none { IfNone result (IsIn spot (spots_of (pairs_of self)) → ⊥) }
@@ -186,6 +197,7 @@ impl Entry {
     }
 
     // Returns what it says of a pair, if it has it.
+    #[inline(always)]
     fn given_for_pair(self, node: usize, place: usize) -> Option<Given>
         ensures some { IfSome result (λ g. IsIn (record { spot = Pair node place; given = g }) (pairs_of self)) }
         ensures none { IfNone result (IsIn (Pair node place) (spots_of (pairs_of self)) → ⊥) }
@@ -264,6 +276,7 @@ impl Entry {
 }
 
 // Returns what was found, with its events.
+#[inline(always)]
 fn given(outcome: Outcome, events: u32) -> Given
     ensures { result ≡ given_of outcome events }
 {

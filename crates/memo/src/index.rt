@@ -49,6 +49,7 @@ const FIRST: usize = 64;
 
 // Returns the bucket of a number.
 #[tactic(auto, unfolding(crate::specs::SpotLinks::bucket_of))]
+#[inline(always)]
 fn bucket(count: usize, number: usize) -> usize
     requires { 0 < count }
     ensures value { result ≡ bucket_of count number }
@@ -58,6 +59,7 @@ fn bucket(count: usize, number: usize) -> usize
 }
 
 // Returns one more than the index of the last cell of the bucket, or 0.
+#[inline(always)]
 fn last_of(cells: &[IndexCell], heads: &[u32], count: usize, at: usize) -> usize
     requires within { at < length heads.now }
     requires linked { AreLinkedCells (bucket_of_cell count) cells.now heads.now }

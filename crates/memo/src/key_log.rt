@@ -72,6 +72,7 @@ impl Model for KeyLog {
 }
 
 // Returns a row's mark where an entry of the row is stored, whose keys stand at `highest` or below.
+#[inline(always)]
 fn raised(mark: Mark, unit: u64, highest: u32, last: u32) -> Mark
     ensures unit { result.unit ≡ unit }
     ensures highest { highest ≤ result.highest }
@@ -169,6 +170,7 @@ impl KeyLog {
     }
 
     /// Returns the mark of a row: a place that no stored key of the row reaches.
+    #[inline(always)]
     pub fn mark(&self, row: usize) -> usize
         ensures { (s : Stored) → IsIn s self.now.stored → row_of s.spot ≡ row → place_of s.spot < result }
     {
@@ -185,6 +187,7 @@ impl KeyLog {
     }
 
     /// Tells whether a place is at the mark of a row or beyond: no key of the row is stored at the place or beyond.
+    #[inline(always)]
     pub fn is_new(&self, row: usize, place: usize) -> bool
         ensures { result ≡ true → (s : Stored) → IsIn s self.now.stored → row_of s.spot ≡ row → place_of s.spot
             < place }
@@ -243,6 +246,7 @@ impl KeyLog {
     ///
     /// # Errors
     /// `Memory` if an allocation fails, or if a number does not fit into 32 bits; nothing is stored.
+    #[inline]
     pub fn put(&mut self, spot: Spot, given: Given) -> Result<(), Memory>
         requires row { row_of spot < self.old.rows }
         ensures stored { OnOk result (self.new.stored ≡ record { spot = spot; given = given } ∷ self.old.stored) }
@@ -258,6 +262,7 @@ impl KeyLog {
     ///
     /// # Errors
     /// `Memory` if an allocation fails, or if a number does not fit into 32 bits; nothing is stored.
+    #[inline]
     pub fn put_run(
         &mut self,
         node: usize,
@@ -279,6 +284,7 @@ impl KeyLog {
     ///
     /// # Errors
     /// `Memory` if an allocation fails, or if a number does not fit into 32 bits; nothing is stored.
+    #[inline]
     pub fn put_steps(&mut self, node: usize, from: usize, to: usize) -> Result<(), Memory>
         requires row { node < self.old.rows }
         ensures stored { OnOk result (self.new.stored ≡ steps_of node from to ++ self.old.stored) }
@@ -290,6 +296,7 @@ impl KeyLog {
     }
 
     // Stores an entry.
+    #[inline(always)]
     fn store(&mut self, entry: Entry) -> Result<(), Memory>
         requires row { node_of entry < self.old.rows }
         ensures stored { OnOk result (self.new.stored ≡ pairs_of entry ++ self.old.stored) }

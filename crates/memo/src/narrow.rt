@@ -7,6 +7,7 @@ use ruletable::Memory;
 ///
 /// # Errors
 /// `Memory` if it does not fit.
+#[inline(always)]
 pub(crate) fn narrow(n: usize) -> Result<u32, Memory>
     ensures same { IfOk result (λ m. (m ≡ n) × (m < 2 ^ 32)) }
     ensures great { OnErr result (2 ^ 32 ≤ n) }

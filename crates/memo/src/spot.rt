@@ -29,6 +29,7 @@ const BY_MEMBER: usize = 374_761_393;
 
 impl Spot {
     /// Returns its row, which is its node.
+    #[inline(always)]
     pub fn row(self) -> usize
         ensures { result ≡ row_of self }
     {
@@ -43,6 +44,7 @@ impl Spot {
     }
 
     /// Returns its place.
+    #[inline(always)]
     pub fn place(self) -> usize
         ensures { result ≡ place_of self }
     {
@@ -74,6 +76,7 @@ impl Spot {
 }
 
 /// Returns the number of a node at a place.
+#[inline(always)]
 pub(crate) fn pair_number(node: u32, place: u32) -> usize
     ensures same { result ≡ node * 668265263 + place }
     ensures small { result < 2 ^ 62 + 2 ^ 32 }
@@ -82,6 +85,7 @@ pub(crate) fn pair_number(node: u32, place: u32) -> usize
 }
 
 /// Returns the number of a tail at a place.
+#[inline(always)]
 pub(crate) fn tail_number(node: u32, index: u32, place: u32) -> usize
     ensures same { result ≡ node * 668265263 + (index + 1) * 374761393 + place }
     ensures small { result < 2 ^ 63 + 2 ^ 32 }
