@@ -177,7 +177,7 @@ impl Entry {
             },
             Entry::Steps { node, from, to } => Extent {
                 row: node as usize,
-                highest: to,
+                highest: to.saturating_sub(1),
                 count: (to as usize).saturating_sub(from as usize),
                 first: pair_number(node, from),
             },

@@ -16,7 +16,8 @@ pub returns-in-Steps-clause-extent : goal.returns-in-Steps-clause-extent
 returns-in-Steps-clause-extent c =
     let k = c.in-Steps in
     let small : k.node < 2 ^ 32 = search rules in
-    let low : k.to < 2 ^ 32 = search rules in
-    rw c.saturating_sub-in-Steps.ensures (spread_extent c.args.self k.node step_at k.from (k.to - k.from) k.to
+    let wide : k.to < 2 ^ 32 = search rules in
+    let low : k.to - 1 < 2 ^ 32 = omega arith in
+    rw (c.saturating_sub-in-Steps.ensures, c.saturating_sub-in-Steps-2.ensures) (spread_extent c.args.self k.node step_at k.from (k.to - k.from) (k.to - 1)
     c.pair_number-in-Steps.result (ap pairs_of k.is) (ap node_of k.is) small low (λ some. omega arith)
     c.pair_number-in-Steps.ensures.same)
