@@ -2,3 +2,6 @@ pub mod FoundAtLemmas
 pub mod PartsLemmas
 pub mod RunLemmas
 pub mod KeyLogLemmas
+pub mod LogEntriesLemmas
+pub mod SpotLinksLemmas
+pub mod IsLogLemmas

@@ -1,10 +1,13 @@
 //! What an evaluation remembers: the log of its keys, and what a few stored keys imply. It knows nothing of grammars.
 #![tactic(auto)]
 
+mod entry;
 mod found;
+mod index;
 mod key_log;
+mod narrow;
 mod spot;
 
 pub use found::Found;
-pub use key_log::{KeyLog, Stored};
+pub use key_log::{Given, KeyLog, Stored};
 pub use spot::Spot;
