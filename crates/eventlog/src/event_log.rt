@@ -1,0 +1,122 @@
+//! The log of the events.
+ghost use Rattle.std.specs.Prelude.{◌≡◌, ℕ, [], ◌∷◌, ◌++◌, ◌+◌, length, IfOk, OnOk, OnErr};
+ghost use Rattle.eventlog.specs.EventLog.{IsHead, kept_at, AreGrown, IsBefore};
+
+use crate::link::{Link, link_of, narrow};
+use crate::waiting::Waiting;
+use pegmatch::Kept;
+use ruletable::Memory;
+use std::alloc::Global;
+use std::marker::Model;
+
+/// Events that successes leave behind, seen as links, the last one first. A head is a number that stands for a list of
+/// events: 0 for none, and i + 1 for link i, which is one event, or joins two heads before it. A part is shared where
+/// its head is used again.
+#[derive(Drop)]
+pub struct EventLog {
+    links: Vec<Link>,
+    waiting: Waiting,
+}
+
+impl Model for EventLog {
+    ghost use Rattle.std.specs.Prelude.{List, reverse};
+    ghost use Rattle.eventlog.specs.EventLog.{AreOrdered};
+    ghost use Rattle.eventlog.specs.declared.link.Link.{Link};
+
+    ghost Value = { List Link };
+
+    ghost view = { λ log. reverse log.links.items };
+
+    ghost invariant = { λ log. AreOrdered (reverse log.links.items) };
+}
+
+impl EventLog {
+    /// Returns an empty log; it takes no memory.
+    pub fn new(alloc: Global) -> EventLog
+        ensures { result ≡ [] }
+    {
+        EventLog {
+            links: Vec::new(alloc),
+            waiting: Waiting::new(alloc),
+        }
+    }
+
+    /// Empties it, and keeps its room.
+    pub fn clear(&mut self)
+        ensures { self.new ≡ [] }
+    {
+        self.links.clear();
+    }
+
+    /// Returns how many links there are, which is the greatest head.
+    pub fn len(&self) -> usize
+        ensures { result ≡ length self.now }
+    {
+        self.links.len()
+    }
+
+    // Adds a link, and returns its head.
+    #[inline(always)]
+    fn add(&mut self, link: Link) -> Result<usize, Memory>
+        requires { IsBefore (length self.old + 1) link }
+        ensures links { OnOk result (self.new ≡ link ∷ self.old) }
+        ensures head { IfOk result (λ head. head ≡ length self.old + 1) }
+        ensures unchanged { OnErr result (self.new ≡ self.old) }
+    {
+        self.links.push(link)?;
+        Ok(self.links.len())
+    }
+
+    /// Adds an event, and returns its head.
+    ///
+    /// # Errors
+    /// `Memory` if an allocation fails, or if the place or node does not fit in 32 bits; the log is unchanged.
+    #[inline(always)]
+    pub fn mark(&mut self, event: Kept) -> Result<usize, Memory>
+        ensures head { IfOk result (λ head. IsHead self.new head) }
+        ensures kept { IfOk result (λ head. kept_at self.new head ≡ event ∷ []) }
+        ensures grown { AreGrown self.old self.new }
+        ensures unchanged { OnErr result (self.new ≡ self.old) }
+    {
+        let link = link_of(event)?;
+        self.add(link)
+    }
+
+    // Joins two heads by a link.
+    fn join_by_link(&mut self, first: usize, second: usize) -> Result<usize, Memory>
+        requires first { IsHead self.old first }
+        requires second { IsHead self.old second }
+        ensures head { IfOk result (λ head. IsHead self.new head) }
+        ensures kept { IfOk result (λ head. kept_at self.new head ≡ kept_at self.old first ++ kept_at self.old second) }
+        ensures grown { AreGrown self.old self.new }
+        ensures unchanged { OnErr result (self.new ≡ self.old) }
+    {
+        let link = Link::Join {
+            first: narrow(first)?,
+            second: narrow(second)?,
+        };
+        self.add(link)
+    }
+
+    /// Returns a head of the events of a head and then of those of another; where one of them has none, the other.
+    ///
+    /// # Errors
+    /// `Memory` if an allocation fails, or if a head does not fit in 32 bits; the log is unchanged.
+    #[inline(always)]
+    pub fn join(&mut self, first: usize, second: usize) -> Result<usize, Memory>
+        requires first { IsHead self.old first }
+        requires second { IsHead self.old second }
+        ensures head { IfOk result (λ head. IsHead self.new head) }
+        ensures kept { IfOk result (λ head. kept_at self.new head ≡ kept_at self.old first ++ kept_at self.old second) }
+        ensures grown { AreGrown self.old self.new }
+        ensures unchanged { OnErr result (self.new ≡ self.old) }
+    {
+        if first == 0 {
+            return Ok(second);
+        }
+        if second == 0 {
+            return Ok(first);
+        }
+        self.join_by_link(first, second)
+    }
+}
