@@ -1,11 +1,19 @@
 //! The log of the events.
-ghost use Rattle.std.specs.Prelude.{◌≡◌, ℕ, [], ◌∷◌, ◌++◌, ◌+◌, length, IfOk, OnOk, OnErr};
+ghost use Rattle.std.specs.Prelude.{◌≡◌, ℕ, List, [], ◌∷◌, ◌++◌, ◌+◌, length, false, IfOk, OnOk, OnErr};
+ghost use Rattle.gramcheck.specs.Nodes.{shapes_of};
+ghost use Rattle.gramcheck.specs.Outcome.{Event};
+ghost use Rattle.gramcheck.specs.Rising.{Rise};
+ghost use Rattle.pegmatch.specs.Answers.{Replays};
+ghost use Rattle.pegmatch.specs.KeptEvents.{StandFor};
+ghost use Rattle.pegmatch.specs.Text.{text_of};
 ghost use Rattle.eventlog.specs.EventLog.{IsHead, kept_at, AreGrown, IsBefore};
 
 use crate::link::{Link, link_of, narrow};
+use crate::replay::write_waiting;
 use crate::waiting::Waiting;
-use pegmatch::Kept;
-use ruletable::Memory;
+use gramcheck::SoundPeg;
+use pegmatch::{Kept, ReplayFault};
+use ruletable::{Memory, Sink};
 use std::alloc::Global;
 use std::marker::Model;
 
@@ -19,7 +27,7 @@ pub struct EventLog {
 }
 
 impl Model for EventLog {
-    ghost use Rattle.std.specs.Prelude.{List, reverse};
+    ghost use Rattle.std.specs.Prelude.{reverse};
     ghost use Rattle.eventlog.specs.EventLog.{AreOrdered};
     ghost use Rattle.eventlog.specs.declared.link.Link.{Link};
 
@@ -118,5 +126,40 @@ impl EventLog {
             return Ok(first);
         }
         self.join_by_link(first, second)
+    }
+
+    /// Writes what the events of a head print, in order. It makes room for the heads that wait before anything is
+    /// written.
+    ///
+    /// # Errors
+    /// - `Memory` if an allocation fails, or if the head does not fit in 32 bits; nothing was written.
+    /// - `Write` if the writer failed; a beginning was written.
+    pub fn replay<W: Sink>(
+        &mut self,
+        peg: &SoundPeg,
+        window: &[u8],
+        raw: bool,
+        head: usize,
+        out: &mut W,
+    ) -> Result<(), ReplayFault>
+        requires head { IsHead self.old head }
+        requires success { (events : List Event) × StandFor (shapes_of peg.now.nodes) (kept_at self.old head) events
+            × Rise 0 (length window.now) events }
+        requires out_is_fresh { W.failed out.old ≡ false }
+        ensures text { (events : List Event) → StandFor (shapes_of peg.now.nodes) (kept_at self.old head) events →
+            Replays (W.contents out.old) (W.contents out.new) (W.failed out.old) (W.failed out.new)
+            (text_of raw window.now events) result }
+        ensures kept { self.new ≡ self.old }
+    {
+        if head == 0 {
+            return Ok(());
+        }
+        if self.waiting.begin(head, self.links.len()).is_err() {
+            return Err(ReplayFault::Memory);
+        }
+        match write_waiting(peg, window, raw, &self.links, &mut self.waiting, out) {
+            Ok(()) => Ok(()),
+            Err(_) => Err(ReplayFault::Write),
+        }
     }
 }

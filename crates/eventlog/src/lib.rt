@@ -5,7 +5,8 @@
 mod event_log;
 mod link;
 
-
+mod replay;
+mod take;
 mod waiting;
 
 pub use event_log::EventLog;

@@ -1,6 +1,7 @@
 //! Heads that wait until they are written, with room for as many as there are links.
 ghost use Rattle.std.specs.Prelude.{◌≡◌, ◌<◌, ◌≤◌, [], ◌∷◌, length, IfSome, IfNone, OnOk};
 
+use crate::link::narrow;
 use ruletable::Memory;
 use std::alloc::Global;
 use std::marker::Model;
@@ -30,16 +31,18 @@ impl Waiting {
         }
     }
 
-    /// Drops the heads, and makes room for so many.
+    /// Drops the heads, makes room for so many, and adds a first one.
     ///
     /// # Errors
-    /// `Memory` if an allocation fails.
-    pub(crate) fn reserve(&mut self, room: usize) -> Result<(), Memory>
-        ensures heads { self.new.heads ≡ [] }
+    /// `Memory` if an allocation fails, or if the head does not fit in 32 bits.
+    pub(crate) fn begin(&mut self, head: usize, room: usize) -> Result<(), Memory>
+        requires { 0 < room }
+        ensures heads { OnOk result (self.new.heads ≡ head ∷ []) }
         ensures room { OnOk result (room ≤ self.new.room) }
     {
         self.heads.clear();
         self.heads.reserve(room)?;
+        self.push(narrow(head)?);
         Ok(())
     }
 
