@@ -1,7 +1,7 @@
 -- Heads that wait, and the links that they lead to.
 -- Serves: EventLog::replay
 use Rattle.std.proofs.Common.{◌≡◌, ◌⊎◌, inl, inr, ℕ, zero, suc, ◌+◌, ◌<◌, ◌≤◌, ◌==◌, if◌then◌else◌, List, [], ◌∷◌}
-use Rattle.std.proofs.Common.{◌++◌, length, reverse, slice_get, Some, refl, sym, ◌∙◌, ap, subst, arith, append_assoc}
+use Rattle.std.proofs.Common.{◌++◌, length, reverse, slice_get, Some, refl, sym, ◌∙◌, ap, subst, arith, append_assoc, append-nil}
 use Rattle.std.proofs.lemmas.Bool.{eq-eqb}
 use Rattle.std.proofs.lemmas.List.{reverse-append, length-reverse, reverse-reverse}
 use Rattle.pegmatch.specs.declared.event.Kept.{Kept}
@@ -189,3 +189,10 @@ module _ (links : List Link) (top : ℕ) (heads : List ℕ) where
       let one = h.steps in
       let rest : steps_at_all links others ≡ steps_at_all links (second ∷ heads) = ap (steps_at_all links) same in
       omega (arith, one, rest)
+
+-- the events of one head that waits
+pub one_waits : (items held links : List Link) (head : ℕ) (heads : List ℕ) → reverse items ≡ links → held ≡ items
+    → heads ≡ head ∷ [] → kept_at_all (reverse held) heads ≡ kept_at links head
+one_waits items held links head heads is same one =
+    ap (λ v. kept_at_all (reverse v) heads) same ∙ ap (kept_at_all (reverse items)) one
+    ∙ append-nil (kept_at (reverse items) head) ∙ ap (λ v. kept_at v head) is

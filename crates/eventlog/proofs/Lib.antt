@@ -1,2 +1,3 @@
-pub mod KeptAtLemmas
 pub mod AreWaitingLemmas
+pub mod KeptAtLemmas
+pub mod NextWrittenLemmas
