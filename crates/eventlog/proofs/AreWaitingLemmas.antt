@@ -113,8 +113,8 @@ link_of_head (last ∷ older) i link o at =
     elim (in_front_or_last (reverse older) last link i (rw (reverse-append (last ∷ []) older) at at)) [
       | inl a ↦ one_more_link last link older (suc i) (link_of_head older i link o.1 a)
       | inr b ↦
-        let is : suc i ≡ suc (length older) = ap suc (b.0 ∙ length-reverse older) in
-        subst (λ v. IsLinkOf (last ∷ older) (suc i) v) b.1 (last_link last older (suc i) o.0 is)
+          let is : suc i ≡ suc (length older) = ap suc (b.0 ∙ length-reverse older) in
+          subst (λ v. IsLinkOf (last ∷ older) (suc i) v) b.1 (last_link last older (suc i) o.0 is)
     ]
 
 -- there is room for all that wait

@@ -1,6 +1,5 @@
-use Rattle.std.proofs.Common.{◌≡◌, ◌+◌, ◌∷◌, length, reverse, refl, sym, arith, ◌∙◌}
+use Rattle.std.proofs.Common.{◌+◌, ◌∷◌, length, refl, sym, arith, ◌∙◌}
 use Rattle.eventlog.specs.declared.link.Link.TheVariants.{Opened, Closed, Acted, Join}
-use Rattle.eventlog.specs.Waiting.{AreWaiting}
 use Rattle.eventlog.proofs.AreWaitingLemmas.{at_head, waiting_within, waiting_next, waiting_join, waiting_fit}
 use Rattle.eventlog.proofs.AreWaitingLemmas.{none_told, one_told, join_told, none_fewer, join_fewer}
 use Rattle.eventlog.proofs.take.take_event.Goals as goal
