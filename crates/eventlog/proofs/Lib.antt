@@ -1,3 +1,3 @@
-pub mod AreWaitingLemmas
+pub mod TakeEventLemmas
 pub mod KeptAtLemmas
 pub mod NextWrittenLemmas

@@ -10,7 +10,8 @@ use Rattle.pegmatch.specs.EventPrinting.{event_text, capture_by}
 use Rattle.pegmatch.specs.Text.{text_of}
 use Rattle.pegmatch.specs.declared.event.Kept.{Kept}
 use Rattle.pegmatch.specs.declared.writing.Capture.{Capture}
-use Rattle.pegmatch.proofs.IsPrintedLemmas.{HaveWritten, FirstStands, next_event, written_next, written_part, written_all}
+use Rattle.pegmatch.proofs.IsPrintedLemmas.{HaveWritten, FirstStands, next_event, written_next, written_part}
+use Rattle.pegmatch.proofs.IsPrintedLemmas.{written_all}
 
 module _ (raw : Bool) (nodes : List Shape) (x : List ℕ) (all : List Event) (kept : List Kept)
     (old : Option (List ℕ)) where
@@ -23,25 +24,27 @@ module _ (raw : Bool) (nodes : List Shape) (x : List ℕ) (all : List Event) (ke
 
   module _ (event : Kept) (rest : List Kept) (is : kept ≡ event ∷ rest) (mid : Option (List ℕ)) (capture : Capture)
       (h : HaveWritten raw nodes x all kept 0 old mid capture) where
-    pub front : HaveWritten raw nodes x all (event ∷ rest) 0 old mid capture
-    front = subst (λ v. HaveWritten raw nodes x all v 0 old mid capture) is h
+    pub front_written : HaveWritten raw nodes x all (event ∷ rest) 0 old mid capture
+    front_written = subst (λ v. HaveWritten raw nodes x all v 0 old mid capture) is h
 
     some_left : 0 < length (event ∷ rest)
     some_left = omega arith
 
-    pub first_next : FirstStands nodes event rest front.later
-    first_next = next_event raw nodes x all (event ∷ rest) old 0 event some_left mid capture front
+    pub first_next : FirstStands nodes event rest front_written.later
+    first_next = next_event raw nodes x all (event ∷ rest) old 0 event some_left mid capture front_written
 
     pub next_written : (new : Option (List ℕ)) → Appends mid new
         (event_text raw first_next.event (slice_range x capture.from capture.to)) →
         HaveWritten raw nodes x all rest 0 old new (capture_by capture event)
     unfolding first_next
     next_written new one =
-        let then = written_next raw nodes x all (event ∷ rest) old 0 event some_left mid capture front new one in
+        let then = written_next raw nodes x all (event ∷ rest) old 0 event some_left mid capture front_written new one
+        in
         record { later = then.later; left = then.left; written = then.written }
 
     pub next_part : (new : Option (List ℕ)) → AppendsPart mid new
-        (event_text raw first_next.event (slice_range x capture.from capture.to)) → AppendsPart old new (text_of raw x all)
+        (event_text raw first_next.event (slice_range x capture.from capture.to)) →
+        AppendsPart old new (text_of raw x all)
     unfolding first_next
     next_part new part =
-        written_part raw nodes x all (event ∷ rest) old 0 event some_left mid capture front new part
+        written_part raw nodes x all (event ∷ rest) old 0 event some_left mid capture front_written new part

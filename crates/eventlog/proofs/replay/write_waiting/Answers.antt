@@ -1,5 +1,5 @@
 use Rattle.std.proofs.Common.{◌∙◌, ap, reverse, arith}
-use Rattle.eventlog.specs.Waiting.{kept_at_all}
+use Rattle.eventlog.specs.WaitingHeads.{kept_at_all}
 use Rattle.eventlog.proofs.NextWrittenLemmas.{none_next, first_next, next_written, next_part}
 use Rattle.eventlog.proofs.replay.write_waiting.Goals as goal
 

@@ -8,7 +8,7 @@ use Rattle.pegmatch.specs.KeptEvents.{StandFor, no_event}
 use Rattle.pegmatch.specs.Text.{text_of}
 use Rattle.pegmatch.proofs.IsPrintedLemmas.{same_events}
 use Rattle.eventlog.proofs.KeptAtLemmas.{none_kept}
-use Rattle.eventlog.proofs.AreWaitingLemmas.{one_waits}
+use Rattle.eventlog.proofs.TakeEventLemmas.{one_waits}
 use Rattle.eventlog.proofs.event_log.EventLog.replay.Goals as goal
 use Rattle.eventlog.proofs.event_log.EventLog.replay.Goals.{in-Ok, in-Err}
 

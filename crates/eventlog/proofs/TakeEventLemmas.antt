@@ -1,14 +1,15 @@
 -- Heads that wait, and the links that they lead to.
 -- Serves: EventLog::replay
 use Rattle.std.proofs.Common.{◌≡◌, ◌⊎◌, inl, inr, ℕ, zero, suc, ◌+◌, ◌<◌, ◌≤◌, ◌==◌, if◌then◌else◌, List, [], ◌∷◌}
-use Rattle.std.proofs.Common.{◌++◌, length, reverse, slice_get, Some, refl, sym, ◌∙◌, ap, subst, arith, append_assoc, append-nil}
+use Rattle.std.proofs.Common.{◌++◌, length, reverse, slice_get, Some, refl, sym, ◌∙◌, ap, subst, arith}
+use Rattle.std.proofs.Common.{append_assoc, append-nil}
 use Rattle.std.proofs.lemmas.Bool.{eq-eqb}
 use Rattle.std.proofs.lemmas.List.{reverse-append, length-reverse, reverse-reverse}
 use Rattle.pegmatch.specs.declared.event.Kept.{Kept}
 use Rattle.eventlog.specs.declared.link.Link.{Link}
 use Rattle.eventlog.specs.declared.link.Link.TheVariants.{Opened, Closed, Acted, Join}
 use Rattle.eventlog.specs.EventLog.{events_of, kept_at, IsBefore, AreOrdered}
-use Rattle.eventlog.specs.Waiting.{kept_at_all, AreWaiting}
+use Rattle.eventlog.specs.WaitingHeads.{kept_at_all, AreWaiting}
 use Rattle.eventlog.proofs.KeptAtLemmas.{not_equal, none_kept, kept_before, kept_last}
 
 -- how many links a walk over the events of a link or a head goes through, and one for each head that has none
