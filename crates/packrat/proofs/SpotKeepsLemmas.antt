@@ -1,7 +1,7 @@
 -- What a spot gives with its kept events, from what those give to which it leads.
 -- Serves: Packrat::match_unit
 use Rattle.std.proofs.Common.{◌≡◌, ℕ, zero, suc, ◌≤◌, max, Bool, List, [], ◌∷◌, ◌++◌, length, drop, Some, refl, sym}
-use Rattle.std.proofs.Common.{subst, arith, ◌∙◌}
+use Rattle.std.proofs.Common.{subst, append-nil, arith}
 use Rattle.std.specs.Prelude.{slice_get}
 use Rattle.pegread.specs.Pattern as expr
 use Rattle.pegread.specs.Pattern.{Pattern, Patterns}
@@ -22,7 +22,6 @@ use Rattle.pegmatch.specs.KeptEvents.{outcome_of, quiet_outcome, SpellsSome, Sta
 use Rattle.pegmatch.specs.KeptEvents.{closed, acted}
 use Rattle.pegmatch.specs.declared.event.Kept.{Kept}
 use Rattle.pegmatch.proofs.MatchStepLemmas.{StandFor-append}
-use Rattle.desk.specs.Visits.{NodeGives}
 use Rattle.desk.proofs.GivesLemmas.{name_gives, star_gives_none, star_gives_more, star_never_fails, not_gives_takes}
 use Rattle.desk.proofs.GivesLemmas.{not_gives_fails, plus_gives_fails, plus_gives_takes, plus_star, opt_gives_takes}
 use Rattle.desk.proofs.GivesLemmas.{opt_gives_none, and_gives_takes, and_gives_fails}
@@ -151,8 +150,8 @@ module _ (g : Grammar) (x : List ℕ) (more : Bool) (some : WasEnough x more 0) 
         let l = h.leaves in
         keeps_none (Pair n p) (Took p) (record {
           looked = l.looked;
-          gives = star_gives_none (rules_of g.rules) g.start (shapes_of g.nodes) g.bodies g.ranks x sound n k s p l.looked
-              at l.gives;
+          gives = star_gives_none (rules_of g.rules) g.start (shapes_of g.nodes) g.bodies g.ranks x sound n k s p
+              l.looked at l.gives;
           enough = l.enough;
         })
 
@@ -160,8 +159,8 @@ module _ (g : Grammar) (x : List ℕ) (more : Bool) (some : WasEnough x more 0) 
         → SK' (Pair n q) f ls → SK' (Pair n p) f (ks ++ ls)
     star_goes_keeps q Failed ks ls at t h =
         let l = h.leaves in
-        absurd (star_never_fails (rules_of g.rules) g.start (shapes_of g.nodes) g.bodies g.ranks x sound n k s q l.looked
-        at l.gives)
+        absurd (star_never_fails (rules_of g.rules) g.start (shapes_of g.nodes) g.bodies g.ranks x sound n k s q
+        l.looked at l.gives)
     star_goes_keeps q (Took r) ks ls at t h =
         let one = t.leaves in
         let two = h.leaves in
@@ -182,8 +181,8 @@ module _ (g : Grammar) (x : List ℕ) (more : Bool) (some : WasEnough x more 0) 
         let l = h.leaves in
         keeps_none (Pair n p) (Took p) (record {
           looked = l.looked;
-          gives = not_gives_takes (rules_of g.rules) g.start (shapes_of g.nodes) g.bodies g.ranks x sound n k s p l.looked
-              at l.gives;
+          gives = not_gives_takes (rules_of g.rules) g.start (shapes_of g.nodes) g.bodies g.ranks x sound n k s p
+              l.looked at l.gives;
           enough = l.enough;
         })
 
@@ -214,8 +213,8 @@ module _ (g : Grammar) (x : List ℕ) (more : Bool) (some : WasEnough x more 0) 
         let l = h.leaves in
         keeps_none (Pair n p) Failed (record {
           looked = l.looked;
-          gives = and_gives_fails (rules_of g.rules) g.start (shapes_of g.nodes) g.bodies g.ranks x sound n k s p l.looked
-              at l.gives;
+          gives = and_gives_fails (rules_of g.rules) g.start (shapes_of g.nodes) g.bodies g.ranks x sound n k s p
+              l.looked at l.gives;
           enough = l.enough;
         })
 
@@ -239,8 +238,8 @@ module _ (g : Grammar) (x : List ℕ) (more : Bool) (some : WasEnough x more 0) 
         let l = h.leaves in
         keeps_none (Pair n p) (Took p) (record {
           looked = l.looked;
-          gives = opt_gives_none (rules_of g.rules) g.start (shapes_of g.nodes) g.bodies g.ranks x sound n k s p l.looked
-              at l.gives;
+          gives = opt_gives_none (rules_of g.rules) g.start (shapes_of g.nodes) g.bodies g.ranks x sound n k s p
+              l.looked at l.gives;
           enough = l.enough;
         })
 
@@ -400,3 +399,138 @@ module _ (g : Grammar) (x : List ℕ) (more : Bool) (some : WasEnough x more 0) 
     choice_empty_keeps at none =
         keeps_none (Pair n p) Failed (choice_leaves Fails at
         (subst (λ v. AlternativesLeave g x more p v Fails) (sym (no_members ms none)) leave_no_alternative))
+
+  -- the tail of a sequence or a choice, from the member of an index on
+  module _ (n i p m : ℕ) (ms : List ℕ) (there : slice_get ms i ≡ Some m) where
+    member_in_front : m ∷ drop (suc i) ms ≡ drop i ms
+    member_in_front = sym (front_drop ms i m there)
+
+    pub member_fails_keeps : (ks : List Kept) → At n (node.Seq ms) → SK' (Pair m p) Failed ks
+        → SK' (Tail n i p) Failed []
+    member_fails_keeps ks at h =
+        keeps_none (Tail n i p) Failed
+        (node.Seq ms, at, subst (λ v. MembersLeave g x more v p Fails) member_in_front (leave_fails h.leaves))
+
+    pub member_last_keeps : (q : ℕ) (ks : List Kept) → At n (node.Seq ms) → length ms ≤ suc i
+        → SK' (Pair m p) (Took q) ks → SK' (Tail n i p) (Took q) ks
+    member_last_keeps q ks at le h =
+        let none : MembersLeave g x more (drop (suc i) ms) q (Takes q []) =
+        subst (λ v. MembersLeave g x more v q (Takes q [])) (sym (past_drop ms (suc i) le)) leave_none in
+        let all : MembersLeave g x more (m ∷ drop (suc i) ms) p (Takes q h.events) =
+        subst (λ v. MembersLeave g x more (m ∷ drop (suc i) ms) p (Takes q v)) (append-nil h.events)
+        (leave_more h.leaves none) in
+        record {
+          events = h.events;
+          stand = h.stand;
+          leaves = (
+            node.Seq ms,
+            at,
+            subst (λ v. MembersLeave g x more v p (Takes q h.events)) member_in_front all,
+          );
+        }
+
+    pub member_goes_keeps : (q : ℕ) (f : Found) (ks ls : List Kept) → At n (node.Seq ms) → SK' (Pair m p) (Took q) ks
+        → SK' (Tail n (suc i) q) f ls → SK' (Tail n i p) f (ks ++ ls)
+    member_goes_keeps q f ks ls at h t =
+        let l = t.leaves in
+        let o = outcome_of f t.events in
+        let same : l.0 ≡ node.Seq ms = cc (l.1, at) in
+        let later : MembersLeave g x more (drop (suc i) ms) q o =
+        subst (λ v. TailLeaves g x more v (suc i) q o) same l.2 in
+        record {
+          events = h.events ++ t.events;
+          stand = StandFor-append (shapes_of g.nodes) h.stand t.stand;
+          leaves = (
+            node.Seq ms,
+            at,
+            subst (λ v. MembersLeave g x more v p (outcome_of f (h.events ++ t.events))) member_in_front
+                (members_more f h.events t.events h.leaves later),
+          );
+        }
+      where
+        members_more : (f : Found) (es fs : List Event) → GW' m p (Takes q es)
+            → MembersLeave g x more (drop (suc i) ms) q (outcome_of f fs)
+            → MembersLeave g x more (m ∷ drop (suc i) ms) p (outcome_of f (es ++ fs))
+        members_more Failed es fs h l = leave_later_fails h l
+        members_more (Took r) es fs h l = leave_more h l
+
+    pub alternative_takes_keeps : (q : ℕ) (ks : List Kept) → At n (node.Choice ms) → SK' (Pair m p) (Took q) ks
+        → SK' (Tail n i p) (Took q) ks
+    alternative_takes_keeps q ks at h = record {
+      events = h.events;
+      stand = h.stand;
+      leaves = (
+        node.Choice ms,
+        at,
+        subst (λ v. AlternativesLeave g x more p v (Takes q h.events)) member_in_front (leave_first h.leaves),
+      );
+    }
+
+    pub alternative_last_keeps : (ks : List Kept) → At n (node.Choice ms) → length ms ≤ suc i
+        → SK' (Pair m p) Failed ks → SK' (Tail n i p) Failed []
+    alternative_last_keeps ks at le h =
+        let none : AlternativesLeave g x more p (drop (suc i) ms) Fails =
+        subst (λ v. AlternativesLeave g x more p v Fails) (sym (past_drop ms (suc i) le)) leave_no_alternative in
+        keeps_none (Tail n i p) Failed (
+          node.Choice ms,
+          at,
+          subst (λ v. AlternativesLeave g x more p v Fails) member_in_front
+              (leave_later h.leaves none),
+        )
+
+    pub alternative_goes_keeps : (f : Found) (ks ls : List Kept) → At n (node.Choice ms) → SK' (Pair m p) Failed ks
+        → SK' (Tail n (suc i) p) f ls → SK' (Tail n i p) f ls
+    alternative_goes_keeps f ks ls at h t =
+        let l = t.leaves in
+        let o = outcome_of f t.events in
+        let same : l.0 ≡ node.Choice ms = cc (l.1, at) in
+        let later : AlternativesLeave g x more p (drop (suc i) ms) o =
+        subst (λ v. TailLeaves g x more v (suc i) p o) same l.2 in
+        record {
+          events = t.events;
+          stand = t.stand;
+          leaves = (
+            node.Choice ms,
+            at,
+            subst (λ v. AlternativesLeave g x more p v o) member_in_front (leave_later h.leaves later),
+          );
+        }
+
+  -- a failure keeps no events
+  pub failed_keeps : (a : Spot) (ks : List Kept) → SK' a Failed ks → SK' a Failed []
+  failed_keeps (Pair n p) ks h = keeps_none (Pair n p) Failed h.leaves
+  failed_keeps (Tail n i p) ks h = keeps_none (Tail n i p) Failed h.leaves
+
+  -- a node leaves the events of one outcome
+  pub one_kept_outcome : (n p : ℕ) (f e : Found) (ks ls : List Kept) → (h : SK' (Pair n p) f ks)
+      → (l : SK' (Pair n p) e ls) → outcome_of f h.events ≡ outcome_of e l.events
+  one_kept_outcome n p f e ks ls h l =
+      let one = h.leaves in
+      let two = l.leaves in
+      let same = same_node (rules_of g.rules) (shapes_of g.nodes) sound.defined g.bodies x one.gives two.gives in
+      same.outcome
+
+  -- what the start rule gives, with the events that are kept of it
+  pub record StartKeeps (f : Found) (kept : List Kept) : Type 0 where
+    pub events : List Event
+    pub looked : ℕ
+    pub gives : StartGives g x (outcome_of f events) looked
+    pub enough : WasEnough x more looked
+    pub stand : StandFor (shapes_of g.nodes) kept events
+
+  pub root_keeps : (root : ℕ) (f : Found) (ks : List Kept) → slice_get g.bodies g.start ≡ Some root
+      → SK' (Pair root 0) f ks → StartKeeps f ks
+  root_keeps root f ks at h =
+      let l = h.leaves in
+      let s = sound.spelled.spelled g.start root at in
+      record {
+        events = h.events;
+        looked = l.looked;
+        gives = record {
+          body = s.0;
+          rule = s.1;
+          gives = gives_as (rules_of g.rules) (shapes_of g.nodes) sound.defined g.bodies x s.2 l.gives;
+        };
+        enough = l.enough;
+        stand = h.stand;
+      }
