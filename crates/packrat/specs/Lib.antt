@@ -4,6 +4,7 @@ pub mod Spots
 pub mod KeyMarks
 pub mod View
 pub mod SpotGives
+pub mod SpotKeeps
 pub mod MachineSteps
 pub mod SpotSteps
 pub mod Onward

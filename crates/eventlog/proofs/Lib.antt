@@ -1,0 +1,3 @@
+pub mod TakeEventLemmas
+pub mod KeptAtLemmas
+pub mod NextWrittenLemmas
