@@ -15,6 +15,7 @@ pub mod JudgeLemmas
 pub mod LeftStepLemmas
 pub mod LongerInputLemmas
 pub mod LoopMarksLemmas
+pub mod NamersLemmas
 pub mod NodeSpellsLemmas
 mod NotesExamples
 pub mod NullIfLemmas

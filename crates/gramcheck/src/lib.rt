@@ -7,6 +7,7 @@ mod cut;
 mod laws;
 mod left;
 mod loops;
+mod namers;
 mod node;
 mod notes;
 mod nullable;
@@ -16,6 +17,7 @@ mod ranked_laws;
 mod sound;
 mod template;
 mod uses;
+mod widths;
 
 pub use check::{Checked, check_peg};
 pub use laws::{

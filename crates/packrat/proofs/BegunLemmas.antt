@@ -12,7 +12,7 @@ use Rattle.cells.specs.declared.cell.Found.TheVariants.{Failed}
 use Rattle.cells.proofs.FoundAtLemmas.{is_of, is_own}
 use Rattle.desk.proofs.AreCellsLemmas.{visited_there}
 use Rattle.desk.proofs.CodeLemmas.{cells_at_most}
-use Rattle.packrat.specs.KeyMarks.{AreMarks}
+use Rattle.gramcheck.specs.KeyMarks.{AreMarks}
 use Rattle.memo.specs.Parts.{IsIn, in_here, in_later, Distinct, distinct_none, distinct_more}
 use Rattle.memo.specs.Run.{total}
 use Rattle.memo.specs.declared.spot.Spot.{Spot}
