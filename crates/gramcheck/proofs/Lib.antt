@@ -35,3 +35,4 @@ pub mod SomeOutcomeLemmas
 pub mod StartRuleLemmas
 pub mod StepsToBodyLemmas
 pub mod UsesLemmas
+pub mod WidthsLemmas
