@@ -12,6 +12,7 @@ pub mod IsAnalysedLemmas
 pub mod IsCutLemmas
 pub mod IsLeftLemmas
 pub mod JudgeLemmas
+pub mod KeyNeedsLemmas
 pub mod LeftStepLemmas
 pub mod LongerInputLemmas
 pub mod LoopMarksLemmas
@@ -27,6 +28,7 @@ pub mod OwnIdLemmas
 pub mod PatternOfLemmas
 pub mod PrintMarksLemmas
 pub mod PushCasesLemmas
+pub mod PushedMarksLemmas
 pub mod PutInLemmas
 pub mod RiseLemmas
 pub mod RuleNameLemmas

@@ -6,6 +6,7 @@ pub mod Grammar
 pub mod GrammarNotes
 pub mod KeyLists
 pub mod KeyMarks
+pub mod KeyNeeds
 pub mod Left
 pub mod Loops
 pub mod Namers

@@ -4,6 +4,7 @@
 mod analysis;
 mod check;
 mod cut;
+mod keys;
 mod laws;
 mod left;
 mod loops;
