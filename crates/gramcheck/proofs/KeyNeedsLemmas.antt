@@ -234,3 +234,10 @@ module _ (start : ℕ) (nodes : List Shape) (bodies : List ℕ) (needs : List De
   pub comes_single : {n : ℕ} → Comes needs n → Single start nodes bodies n
   comes_single (by_all {n = n} {row = row} at all) = justified_at n (All row) at
   comes_single (by_one {n = n} {m = m} {row = row} at h c) = justified_at n (One row) at m h (comes_single c)
+
+-- the marks of a node's tails
+pub tails_at : (nodes : List Shape) (keys behind : List Bool) (n i : ℕ) (shape : Shape) → slice_get nodes n ≡ Some shape
+    → get_or (tails_of behind shape) i false ≡ tail_marks (marks_of nodes keys behind) n i
+tails_at nodes keys behind n i shape at = ap (λ v. get_or v i false)
+    (sym (get_or_from_slice_get (map (tails_of behind) nodes) n (tails_of behind shape) []
+    (slice_get-map (tails_of behind) nodes n ∙ ap (option_map (tails_of behind)) at)))

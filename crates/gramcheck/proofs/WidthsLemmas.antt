@@ -43,18 +43,6 @@ module _ (nodes : List Shape) (bodies : List ℕ) where
       (λ other. h m w (sym (get_or-set_other widths n m width None other) ∙ is))
       (cases_eq m n)
 
-  pub none_known : (count : ℕ) → AreWidths nodes bodies (replicate count None)
-  none_known count n w is = ⊎_elim
-      (λ lt.
-      let no : get_or (replicate count None) n None ≡ None = get_or-replicate {A = Option ℕ} count n None None lt in
-      absurd (cc (no, is)))
-      (λ le.
-      let k = length-replicate {A = Option ℕ} count None in
-      let no : get_or (replicate count None) n None ≡ None =
-      get_or_past {X = Option ℕ} (replicate count None) n None (omega (arith, k, le)) in
-      absurd (cc (no, is)))
-      (cases_lt n count)
-
   -- what is known of a node's width is right
   pub width_known : (widths : List (Option ℕ)) (m : ℕ) (r : Option ℕ) → r ≡ get_or widths m None
       → AreWidths nodes bodies widths → IfSome r (Width nodes bodies m)
