@@ -1,26 +1,24 @@
 -- Nodes that need no mark of a key.
 -- Serves: check_peg
-use Rattle.std.proofs.Common.{◌≡◌, ◌⊎◌, ℕ, zero, suc, ◌+◌, ◌<◌, Bool, true, false, List, [], ◌∷◌, ◌++◌, length, map, get_or}
-use Rattle.std.proofs.Common.{Contains, Some, None, Option, refl, sym, ap, subst, arith, ⊎_elim, inl, inr, ◌∙◌, ltb}
+use Rattle.std.proofs.Common.{◌≡◌, ◌⊎◌, ℕ, suc, ◌<◌, Bool, true, false, List, [], length, map, get_or}
+use Rattle.std.proofs.Common.{Contains, Some, Option, refl, sym, ap, subst, arith, ⊎_elim, inl, inr, ◌∙◌, ltb}
 use Rattle.std.specs.Prelude.{slice_get, option_to_list, option_map}
 use Rattle.std.proofs.lemmas.Option.{slice_get_within, slice_get-map, get_or_from_slice_get}
 use Rattle.std.proofs.lemmas.Bool.{ltb-true}
 use Rattle.std.proofs.lemmas.List.{length-map, get_or_default}
 use Rattle.leastset.specs.Demands.{Demand, All, One, AreNeedsWithin, row_of}
 use Rattle.leastset.specs.Least.{Comes, by_all, by_one}
-use Rattle.leastset.specs.NumberMarks.{IsMarked}
 use Rattle.gramcheck.specs.KeyLists.{marks_of, node_marks, tail_marks, tails_of}
 use Rattle.gramcheck.specs.KeyMarks.{AreMarks, IsPlain, IsLoop, Single, single_root, single_below, WayNames, WayNamesOnce}
 use Rattle.gramcheck.specs.KeyMarks.{WayEntersOnce, DoesNotRepeat}
-use Rattle.gramcheck.specs.KeyNeeds.{GoesOnce, GoesAgain, IsGoing, MayBePlain, MayBeLoop, AreKnown, Justifies, AreJustified}
+use Rattle.gramcheck.specs.KeyNeeds.{GoesOnce, IsGoing, MayBePlain, MayBeLoop, AreKnown, Justifies, AreJustified}
 use Rattle.gramcheck.specs.KeyNeeds.{AreSingles, IsPassed, going_of}
-use Rattle.gramcheck.specs.Namers.{AreNamers, name_rows, names_of, NamesAt, IsBefore, IsNamerTo}
+use Rattle.gramcheck.specs.Namers.{name_rows, names_of, NamesAt, IsBefore, IsNamerTo}
 use Rattle.gramcheck.specs.Nodes as node
 use Rattle.gramcheck.specs.Nodes.{Shape, Seq, Star}
 use Rattle.gramcheck.specs.Ways.{Way, Leaf, Body, Members, Alternatives, Turns, Operand, way_of}
-use Rattle.gramcheck.specs.Width.{Width, AreWidths}
+use Rattle.gramcheck.specs.Width.{AreWidths}
 use Rattle.gramcheck.specs.declared.keys.GoesOn.{GoesOn}
-use Rattle.gramcheck.specs.declared.keys.GoesOn.TheVariants.{Missing, Once, Again}
 use Rattle.gramcheck.specs.declared.namers.Namer.{Namer}
 use Rattle.gramcheck.specs.declared.namers.Namer.TheVariants.{Nobody, By, Many}
 
@@ -110,9 +108,14 @@ module _ (start : ℕ) (nodes : List Shape) (bodies : List ℕ) where
         → slice_get (names_of bodies shape) t ≡ Some m → IsBefore rows (length rows) 0 i t × NamesAt rows i t m
     named_at i t m shape at h =
         let low = slice_get_within nodes i shape at in
-        let count = length-map nodes (names_of bodies) in
-        (inl (omega (arith, low, count)), (names_of bodies shape,
-        slice_get-map (names_of bodies) nodes i ∙ ap (option_map (names_of bodies)) at, h))
+        let count = length-map nodes (names_of bodies) in (
+          inl (omega (arith, low, count)),
+          (
+            names_of bodies shape,
+            slice_get-map (names_of bodies) nodes i ∙ ap (option_map (names_of bodies)) at,
+            h,
+          ),
+        )
 
     -- the namer of m, as it is known
     namer_is : (m : ℕ) (s : Namer) → get_or namers m Many ≡ s → IsNamerTo rows (length rows) 0 m s

@@ -1,7 +1,7 @@
 -- Namers, naming by naming.
 -- Serves: check_peg
-use Rattle.std.proofs.Common.{◌≡◌, ◌≢◌, ◌⊎◌, ℕ, ◌+◌, ◌<◌, Bool, true, false, List, [], ◌∷◌, length, get_or, Some, refl, sym}
-use Rattle.std.proofs.Common.{subst, arith, ⊎_elim, inl, inr, ◌∙◌, cond, eqb, ap}
+use Rattle.std.proofs.Common.{◌≡◌, ◌⊎◌, ℕ, ◌+◌, List, length, get_or, Some, sym}
+use Rattle.std.proofs.Common.{subst, arith, ⊎_elim, inl, inr, ◌∙◌, ap}
 use Rattle.std.specs.Prelude.{slice_get, ◌==◌, if◌then◌else◌}
 use Rattle.std.proofs.lemmas.Bool.{cases_eq}
 use Rattle.std.proofs.lemmas.Option.{slice_get_within}
@@ -25,8 +25,11 @@ module _ (rows : List (List ℕ)) where
 
   -- a node is named once more
   named_again : (i k m : ℕ) (s : Namer) → IsNamerTo rows i k m s → IsNamerTo rows i (k + 1) m (named_by i s)
-  named_again i k m Nobody h = (k, λ n t b at. ⊎_elim (λ old. absurd (h n t old at)) (λ new. new)
-      (before_cases i k n t b))
+  named_again i k m Nobody h = (
+    k,
+    λ n t b at. ⊎_elim (λ old. absurd (h n t old at)) (λ new. new)
+        (before_cases i k n t b),
+  )
   named_again i k m (By a) h = tt
   named_again i k m Many h = tt
 

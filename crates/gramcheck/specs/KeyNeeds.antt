@@ -1,8 +1,8 @@
 -- What shows that a node needs no mark of a key.
-use Rattle.std.specs.Prelude.{◌≡◌, ◌⊎◌, ℕ, ◌<◌, Bool, List, [], length, slice_get, get_or, Option, Some, None, Contains}
+use Rattle.std.specs.Prelude.{◌≡◌, ◌⊎◌, ℕ, Bool, List, [], slice_get, get_or, Option, Some, None, Contains}
 use Rattle.leastset.specs.Demands.{Demand, All, One}
 use Rattle.leastset.specs.NumberMarks.{IsMarked}
-use Rattle.gramcheck.specs.KeyMarks.{IsPlain, IsLoop, Single}
+use Rattle.gramcheck.specs.KeyMarks.{Single}
 use Rattle.gramcheck.specs.Namers.{AreNamers, name_rows}
 use Rattle.gramcheck.specs.Nodes.{Shape, Star}
 use Rattle.gramcheck.specs.Ways.{Way, Leaf, Body, Members, Alternatives, Turns, Operand, way_of}

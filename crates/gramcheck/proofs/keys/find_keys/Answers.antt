@@ -1,4 +1,4 @@
-use Rattle.std.proofs.Common.{◌≡◌, ◌⊎◌, ℕ, Bool, List, true, false, Option, get_or, sym, subst}
+use Rattle.std.proofs.Common.{◌≡◌, ◌⊎◌, ℕ, List, true, false, get_or, sym, subst}
 use Rattle.std.proofs.lemmas.Option.{slice_get-get_or}
 use Rattle.gramcheck.specs.KeyMarks.{IsPlain, IsLoop}
 use Rattle.gramcheck.specs.KeyNeeds.{AreKnown, AreSingles, IsPassed}

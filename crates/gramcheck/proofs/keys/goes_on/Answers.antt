@@ -1,4 +1,4 @@
-use Rattle.std.proofs.Common.{◌<◌, length, arith, sym}
+use Rattle.std.proofs.Common.{◌<◌, length, sym}
 use Rattle.std.proofs.lemmas.Bool.{ltb-true}
 use Rattle.gramcheck.specs.Nodes.{shape_of, shapes_of}
 use Rattle.gramcheck.proofs.HasShapeLemmas.{node_at}

@@ -1,4 +1,4 @@
-use Rattle.std.proofs.Common.{◌≡◌, ◌⊎◌, ℕ, Bool, true, false, rules, arith}
+use Rattle.std.proofs.Common.{◌≡◌, ◌⊎◌, ℕ, Bool, true, false, rules}
 use Rattle.gramcheck.specs.KeyMarks.{IsPlain, IsLoop}
 use Rattle.gramcheck.specs.Nodes.{shapes_of}
 use Rattle.gramcheck.proofs.PushedMarksLemmas.{all_pushed, not_false}

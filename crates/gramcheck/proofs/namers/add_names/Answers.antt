@@ -11,6 +11,9 @@ loop-named-preserved c = λ rows there h. o.names_next rows c.args.n c.loop-name
 
 pub returns-clause-named : goal.returns-clause-named
 returns-clause-named c = λ rows there h.
-    let end : c.loop-named.named-index ≡ length c.args.names.now = omega (arith, c.loop-named-test.false,
-    c.loop-named.auto.named-index-end) in
+    let end : c.loop-named.named-index ≡ length c.args.names.now = omega (
+      arith,
+      c.loop-named-test.false,
+      c.loop-named.auto.named-index-end,
+    ) in
     subst (λ v. AreNamersTo rows c.args.n v c.loop-named.namers) end (c.loop-named.invariant rows there h)

@@ -1,4 +1,4 @@
-use Rattle.std.proofs.Common.{rules, arith}
+use Rattle.std.proofs.Common.{rules}
 use Rattle.gramcheck.proofs.NamersLemmas as o
 use Rattle.gramcheck.proofs.namers.add_node.Goals as goal
 

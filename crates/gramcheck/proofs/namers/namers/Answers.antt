@@ -1,4 +1,4 @@
-use Rattle.std.proofs.Common.{◌≡◌, rules, arith, length, ap}
+use Rattle.std.proofs.Common.{arith, length, ap}
 use Rattle.leastset.proofs.IsMarkedLemmas.{take_written}
 use Rattle.gramcheck.proofs.namers.namers.Goals as goal
 

@@ -1,4 +1,3 @@
-use Rattle.std.proofs.Common.{◌≡◌, length}
 use Rattle.gramcheck.specs.Nodes.{shapes_of}
 use Rattle.gramcheck.specs.Width.{AreWidths}
 use Rattle.gramcheck.proofs.widths.add_widths.Given as goal

@@ -1,4 +1,4 @@
-use Rattle.std.proofs.Common.{◌≡◌, ◌∙◌, take, get_or, Some, None, sym, subst, arith, ap}
+use Rattle.std.proofs.Common.{◌≡◌, ◌∙◌, take, Some, sym, subst, ap}
 use Rattle.std.proofs.lemmas.List.{take_all}
 use Rattle.gramcheck.specs.Width.{WidthEach, each_none}
 use Rattle.gramcheck.proofs.WidthsLemmas as o

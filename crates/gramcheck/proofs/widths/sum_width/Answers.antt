@@ -1,6 +1,5 @@
-use Rattle.std.proofs.Common.{◌≡◌, ◌+◌, ℕ, List, length, take, get_or, Some, None, sym, subst, arith, ◌∙◌}
+use Rattle.std.proofs.Common.{◌≡◌, ◌+◌, take, sym, subst}
 use Rattle.std.proofs.lemmas.List.{take_all}
-use Rattle.gramcheck.specs.Nodes.{Shape}
 use Rattle.gramcheck.specs.Width.{WidthSum, sum_none}
 use Rattle.gramcheck.proofs.WidthsLemmas as o
 use Rattle.gramcheck.proofs.widths.sum_width.Goals as goal

@@ -1,4 +1,4 @@
-use Rattle.std.proofs.Common.{◌≡◌, ◌<◌, ◌∙◌, length, sym, ap, get_or, false}
+use Rattle.std.proofs.Common.{◌<◌, ◌∙◌, length, sym, ap, get_or, false}
 use Rattle.std.proofs.lemmas.Bool.{ltb-true}
 use Rattle.gramcheck.specs.Grammar.{Grammar}
 use Rattle.gramcheck.specs.KeyLists.{tail_marks, tails_of}
