@@ -12,9 +12,11 @@ pub mod IsAnalysedLemmas
 pub mod IsCutLemmas
 pub mod IsLeftLemmas
 pub mod JudgeLemmas
+pub mod KeyNeedsLemmas
 pub mod LeftStepLemmas
 pub mod LongerInputLemmas
 pub mod LoopMarksLemmas
+pub mod NamersLemmas
 pub mod NodeSpellsLemmas
 mod NotesExamples
 pub mod NullIfLemmas
@@ -26,6 +28,7 @@ pub mod OwnIdLemmas
 pub mod PatternOfLemmas
 pub mod PrintMarksLemmas
 pub mod PushCasesLemmas
+pub mod PushedMarksLemmas
 pub mod PutInLemmas
 pub mod RiseLemmas
 pub mod RuleNameLemmas
@@ -34,3 +37,4 @@ pub mod SomeOutcomeLemmas
 pub mod StartRuleLemmas
 pub mod StepsToBodyLemmas
 pub mod UsesLemmas
+pub mod WidthsLemmas

@@ -3,19 +3,26 @@ use Rattle.std.specs.Prelude.{ℕ, List}
 use Rattle.ruletable.specs.Rules as table
 use Rattle.pegread.specs.declared.expr.Expr.{Expr}
 use Rattle.pegread.specs.PegViews.{rules_of}
+use Rattle.gramcheck.specs.KeyLists.{Marks, node_marks, tail_marks}
+use Rattle.gramcheck.specs.KeyMarks.{AreMarks}
 use Rattle.gramcheck.specs.declared.node.Node.{Node}
 use Rattle.gramcheck.specs.Nodes.{shapes_of}
 use Rattle.gramcheck.specs.Sound.{IsRanked}
 
--- the rules, the id of the start rule, the numbered nodes, of each rule the node that spells its body, and of each node
--- its rank
+-- the rules, the id of the start rule, the numbered nodes, of each rule the node that spells its body, of each node its
+-- rank, and the marks of the nodes and tails that are keys
 pub record Grammar : Type 0 where
   pub rules : table.Rules Expr
   pub start : ℕ
   pub nodes : List Node
   pub bodies : List ℕ
   pub ranks : List ℕ
+  pub keys : Marks
 
 -- the nodes spell the rules' bodies, and every left step between them lowers the rank
 abbrev pub IsSoundGrammar : Grammar → Type 0
 IsSoundGrammar g = IsRanked (rules_of g.rules) g.start (shapes_of g.nodes) g.bodies g.ranks
+
+-- what is no key is asked for at one place at most, or only where a key is that it is told from
+abbrev pub HasKeys : Grammar → Type 0
+HasKeys g = AreMarks g.start (shapes_of g.nodes) g.bodies (node_marks g.keys) (tail_marks g.keys)

@@ -4,8 +4,12 @@ pub mod Checked
 pub mod Defined
 pub mod Grammar
 pub mod GrammarNotes
+pub mod KeyLists
+pub mod KeyMarks
+pub mod KeyNeeds
 pub mod Left
 pub mod Loops
+pub mod Namers
 pub mod NodeCounts
 pub mod NodeRows
 pub mod Nodes
@@ -19,4 +23,6 @@ pub mod Slots
 pub mod Sound
 pub mod Templates
 pub mod Uses
+pub mod Ways
+pub mod Width
 pub mod Within

@@ -14,9 +14,10 @@ ghost use Rattle.gramcheck.specs.Sound.{IsRanked};
 
 use crate::analysis::analysed;
 use crate::cut::{Cut, cut_grammar};
+use crate::keys::find_keys;
 use crate::notes::{notes, refused};
 use crate::printing::print_marks;
-use crate::sound::SoundPeg;
+use crate::sound::{SoundPeg, Tables};
 use crate::template::cut_templates;
 use pegread::{Expr, Peg};
 use ruletable::{Memory, NameCase, Note, RuleTable};
@@ -62,7 +63,14 @@ pub fn check_peg(alloc: Global, peg: Peg, start: Option<&str>) -> Result<Checked
     let cut = judged.cut;
     let printing = print_marks(alloc, &cut.nodes, &cut.bodies)?;
     let templates = cut_templates(alloc, &cut.nodes)?;
-    let sound = SoundPeg::new(rules, first, cut, judged.ranks, printing, templates);
+    let keys = find_keys(alloc, &cut.nodes, &cut.bodies, first)?;
+    let tables = Tables {
+        ranks: judged.ranks,
+        printing,
+        templates,
+        keys,
+    };
+    let sound = SoundPeg::new(rules, first, cut, tables);
     Ok(Checked {
         notes,
         sound: Some(sound),

@@ -4,9 +4,11 @@
 mod analysis;
 mod check;
 mod cut;
+mod keys;
 mod laws;
 mod left;
 mod loops;
+mod namers;
 mod node;
 mod notes;
 mod nullable;
@@ -16,6 +18,7 @@ mod ranked_laws;
 mod sound;
 mod template;
 mod uses;
+mod widths;
 
 pub use check::{Checked, check_peg};
 pub use laws::{

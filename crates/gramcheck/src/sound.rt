@@ -2,7 +2,9 @@
 ghost use Rattle.std.specs.Prelude.{◌≡◌, ◌↔◌, ◌<◌, ℕ, List, length, slice_get, true, Some};
 ghost use Rattle.pegread.specs.Pattern.{Pattern};
 ghost use Rattle.pegread.specs.PegViews.{rules_of};
-ghost use Rattle.gramcheck.specs.Grammar.{IsSoundGrammar};
+ghost use Rattle.gramcheck.specs.Grammar.{HasKeys, IsSoundGrammar};
+ghost use Rattle.gramcheck.specs.KeyLists.{marks_of, node_marks, tail_marks};
+ghost use Rattle.gramcheck.specs.KeyMarks.{AreMarks};
 ghost use Rattle.gramcheck.specs.NodeCounts.{node_counts};
 ghost use Rattle.gramcheck.specs.Nodes.{Act, shapes_of, Spells};
 ghost use Rattle.gramcheck.specs.Printing.{ArePrintMarks, Prints};
@@ -10,13 +12,28 @@ ghost use Rattle.gramcheck.specs.Slots.{AreCuts, IsCut};
 ghost use Rattle.gramcheck.specs.Sound.{IsRanked};
 
 use crate::cut::Cut;
+use crate::keys::{Keys, is_key_from, mark_or};
 use crate::node::Node;
 use crate::template::{Template, Templates};
 use pegread::Expr;
 use ruletable::RuleTable;
 use std::marker::Model;
 
-/// A grammar that can be run: its rules, their bodies cut into numbered nodes, a start rule, and of each node a rank.
+/// What is known of a grammar's nodes.
+#[derive(Drop)]
+pub(crate) struct Tables {
+    /// Of each node its rank.
+    pub(crate) ranks: Vec<usize>,
+    /// Of each node whether it may print.
+    pub(crate) printing: Vec<bool>,
+    /// The cuts of the actions' templates.
+    pub(crate) templates: Templates,
+    /// Which nodes, and which tails of sequences, are keys.
+    pub(crate) keys: Keys,
+}
+
+/// A grammar that can be run: its rules, their bodies cut into numbered nodes, a start rule, of each node a rank, and
+/// which nodes and tails are keys.
 ///
 /// Operands have smaller numbers than the nodes that they stand in, and every left step leads to a node of lower rank.
 #[derive(Drop)]
@@ -29,10 +46,13 @@ pub struct SoundPeg {
     // of each node whether it may print
     printing: Vec<bool>,
     templates: Templates,
+    keys: Keys,
 }
 
 impl Model for SoundPeg {
     ghost use Rattle.gramcheck.specs.Grammar.{Grammar};
+    ghost use Rattle.gramcheck.specs.KeyLists.{marks_of, node_marks, tail_marks};
+    ghost use Rattle.gramcheck.specs.KeyMarks.{AreMarks};
     ghost use Rattle.gramcheck.specs.Nodes.{shapes_of};
     ghost use Rattle.gramcheck.specs.Printing.{ArePrintMarks};
     ghost use Rattle.gramcheck.specs.Slots.{AreCuts};
@@ -52,27 +72,28 @@ impl Model for SoundPeg {
       nodes = p.nodes.items;
       bodies = p.bodies.items;
       ranks = p.ranks.items;
+      keys = marks_of (shapes_of p.nodes.items) p.keys.nodes.items p.keys.behind.items;
     } };
 
     ghost invariant = { λ p. IsRanked (rules_of p.rules) p.start (shapes_of p.nodes.items) p.bodies.items p.ranks.items
         × ArePrintMarks (rules_of p.rules) (shapes_of p.nodes.items) p.printing.items
-        × AreCuts (shapes_of p.nodes.items) p.templates.places.items p.templates.cuts.items };
+        × AreCuts (shapes_of p.nodes.items) p.templates.places.items p.templates.cuts.items
+        × AreMarks p.start (shapes_of p.nodes.items) p.bodies.items
+        (node_marks (marks_of (shapes_of p.nodes.items) p.keys.nodes.items p.keys.behind.items))
+        (tail_marks (marks_of (shapes_of p.nodes.items) p.keys.nodes.items p.keys.behind.items)) };
 }
 
 impl SoundPeg {
-    /// Returns the grammar of these rules, nodes and ranks, with the marks of the nodes that may print and the cuts of
-    /// its templates.
-    pub(crate) fn new(
-        rules: RuleTable<Expr>,
-        start: usize,
-        cut: Cut,
-        ranks: Vec<usize>,
-        printing: Vec<bool>,
-        templates: Templates,
-    ) -> SoundPeg
-        requires ranked { IsRanked (rules_of rules) start (shapes_of cut.nodes.items) cut.bodies.items ranks.items }
-        requires printing { ArePrintMarks (rules_of rules) (shapes_of cut.nodes.items) printing.items }
-        requires templates { AreCuts (shapes_of cut.nodes.items) templates.places.items templates.cuts.items }
+    /// Returns the grammar of these rules and nodes, with the tables of its nodes.
+    pub(crate) fn new(rules: RuleTable<Expr>, start: usize, cut: Cut, tables: Tables) -> SoundPeg
+        requires ranked { IsRanked (rules_of rules) start (shapes_of cut.nodes.items) cut.bodies.items
+            tables.ranks.items }
+        requires printing { ArePrintMarks (rules_of rules) (shapes_of cut.nodes.items) tables.printing.items }
+        requires templates { AreCuts (shapes_of cut.nodes.items) tables.templates.places.items
+            tables.templates.cuts.items }
+        requires keys { AreMarks start (shapes_of cut.nodes.items) cut.bodies.items
+            (node_marks (marks_of (shapes_of cut.nodes.items) tables.keys.nodes.items tables.keys.behind.items))
+            (tail_marks (marks_of (shapes_of cut.nodes.items) tables.keys.nodes.items tables.keys.behind.items)) }
         ensures rules { result.rules ≡ rules }
         ensures start { result.start ≡ start }
         ensures sound { IsSoundGrammar result }
@@ -82,9 +103,10 @@ impl SoundPeg {
             start,
             nodes: cut.nodes,
             bodies: cut.bodies,
-            ranks,
-            printing,
-            templates,
+            ranks: tables.ranks,
+            printing: tables.printing,
+            templates: tables.templates,
+            keys: tables.keys,
         }
     }
 
@@ -95,10 +117,11 @@ impl SoundPeg {
         &self.rules
     }
 
-    /// Returns the id of the start rule. The clause `sound` says what a grammar that can be run is.
+    /// Returns the id of the start rule. The clauses `sound` and `keys` say what a grammar that can be run is.
     pub fn start(&self) -> usize
         ensures id { result ≡ self.now.start }
         ensures sound { IsSoundGrammar self.now }
+        ensures keys { HasKeys self.now }
     {
         self.start
     }
@@ -157,6 +180,25 @@ impl SoundPeg {
         match self.printing.get(n) {
             Some(mark) => !*mark,
             None => true,
+        }
+    }
+
+    /// Tells whether the node of that number is a key: whether it may be asked for twice at a place where it is not told
+    /// from a key that is.
+    pub fn is_key_node(&self, n: usize) -> bool
+        ensures { result ≡ node_marks self.now.keys n }
+    {
+        mark_or(&self.keys.nodes, n, true)
+    }
+
+    /// Tells whether what is left of a node from member `i` on is a key, likewise. Only what is left of a sequence behind
+    /// its first member is.
+    pub fn is_key_tail(&self, n: usize, i: usize) -> bool
+        ensures { result ≡ tail_marks self.now.keys n i }
+    {
+        match self.nodes.get(n) {
+            Some(node) => is_key_from(node, &self.keys.behind, i),
+            None => false,
         }
     }
 }

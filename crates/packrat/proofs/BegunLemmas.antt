@@ -12,7 +12,7 @@ use Rattle.memo.specs.declared.found.Found.TheVariants.{Failed}
 use Rattle.memo.proofs.FoundAtLemmas.{is_of, is_own}
 use Rattle.visits.proofs.AsksLemmas.{visited_there}
 use Rattle.visits.proofs.CodeLemmas.{cells_at_most}
-use Rattle.packrat.specs.KeyMarks.{AreMarks}
+use Rattle.gramcheck.specs.KeyMarks.{AreMarks}
 use Rattle.memo.specs.Parts.{IsIn, in_here, in_later, Distinct, distinct_none, distinct_more}
 use Rattle.memo.specs.Run.{total}
 use Rattle.memo.specs.declared.spot.Spot.{Spot}

@@ -14,7 +14,7 @@ use Rattle.pegmatch.specs.Answers.{WasEnough}
 use Rattle.visits.specs.CellOutcomes.{IsFound}
 use Rattle.visits.specs.Visits.{NodeGives}
 use Rattle.visits.proofs.VisitsLemmas.{visits_within}
-use Rattle.packrat.specs.KeyMarks.{AreMarks}
+use Rattle.gramcheck.specs.KeyMarks.{AreMarks}
 use Rattle.memo.specs.Parts.{IsIn, in_here, in_later, distinct_none, Reach, reach_root}
 use Rattle.memo.specs.Run.{total}
 use Rattle.memo.specs.declared.spot.Spot.{Spot}

@@ -2,7 +2,7 @@
 -- Serves: Marks::all
 use Rattle.std.proofs.Common.{◌≡◌, ℕ, suc, true, List, [], sym, refl, subst, get_or}
 use Rattle.gramcheck.specs.Nodes.{Shape}
-use Rattle.packrat.specs.KeyMarks.{AreMarks}
+use Rattle.gramcheck.specs.KeyMarks.{AreMarks}
 use Rattle.packrat.specs.SpotGives.{node_marks, tail_marks}
 use Rattle.packrat.specs.declared.marks.Marks.{Marks}
 

@@ -6,11 +6,12 @@ use Rattle.std.specs.Prelude.{slice_get}
 use Rattle.pegread.specs.Pattern.{Rule}
 use Rattle.gramcheck.specs.Nodes.{Shape}
 use Rattle.gramcheck.specs.Sound.{IsRanked}
-use Rattle.packrat.specs.KeyMarks.{AreMarks}
+use Rattle.gramcheck.specs.KeyMarks.{AreMarks}
 use Rattle.memo.specs.Parts.{IsIn, in_here, in_later, Reach, IsForest}
 use Rattle.memo.specs.declared.spot.Spot.{Spot}
 use Rattle.memo.specs.declared.spot.Spot.TheVariants.{Pair, Tail}
-use Rattle.packrat.specs.Spots.{Way, Leaf, Body, Members, Alternatives, Turns, Operand, way_of, LeadsBy, TailLeadsBy}
+use Rattle.gramcheck.specs.Ways.{Way, Leaf, Body, Members, Alternatives, Turns, Operand, way_of}
+use Rattle.packrat.specs.Spots.{LeadsBy, TailLeadsBy}
 use Rattle.packrat.specs.Spots.{Leads, KidsBy, TailKidsBy, Kids, is_key}
 use Rattle.packrat.proofs.AreImpliedLemmas.{is_forest}
 use Rattle.packrat.proofs.SpotKidsLemmas.{one_in}

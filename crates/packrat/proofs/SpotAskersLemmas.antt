@@ -11,10 +11,10 @@ use Rattle.visits.specs.Visits.{NodeTakes}
 use Rattle.memo.specs.Parts.{Reach, reach_root, reach_edge}
 use Rattle.memo.specs.declared.spot.Spot.{Spot}
 use Rattle.memo.specs.declared.spot.Spot.TheVariants.{Pair, Tail}
-use Rattle.packrat.specs.Spots.{Way, Leaf, Body, Members, Alternatives, Turns, Operand, way_of}
+use Rattle.gramcheck.specs.Ways.{Way, Leaf, Body, Members, Alternatives, Turns, Operand, way_of}
 use Rattle.packrat.specs.Spots.{LeadsBy, TailLeadsBy, Leads, is_key}
-use Rattle.packrat.specs.KeyMarks.{WayNames, WayNamesOnce, DoesNotRepeat, IsPlain, Single, single_root, single_below}
-use Rattle.packrat.specs.KeyMarks.{AreMarks, IsLoop, WayEntersOnce}
+use Rattle.gramcheck.specs.KeyMarks.{WayNames, WayNamesOnce, DoesNotRepeat, IsPlain, Single, single_root, single_below}
+use Rattle.gramcheck.specs.KeyMarks.{AreMarks, IsLoop, WayEntersOnce}
 use Rattle.std.proofs.Common.{◌<◌, ◌≤◌}
 use Rattle.visits.proofs.AsksLemmas.{goes_onward, is_visited}
 use Rattle.packrat.proofs.SpotReachLemmas.{reached_is_visited}

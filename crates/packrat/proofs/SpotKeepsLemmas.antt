@@ -22,10 +22,10 @@ use Rattle.pegmatch.specs.KeptEvents.{outcome_of, quiet_outcome, SpellsSome, Sta
 use Rattle.pegmatch.specs.KeptEvents.{closed, acted}
 use Rattle.pegmatch.specs.declared.event.Kept.{Kept}
 use Rattle.pegmatch.proofs.MatchStepLemmas.{StandFor-append}
-use Rattle.desk.proofs.GivesLemmas.{name_gives, star_gives_none, star_gives_more, star_never_fails, not_gives_takes}
-use Rattle.desk.proofs.GivesLemmas.{not_gives_fails, plus_gives_fails, plus_gives_takes, plus_star, opt_gives_takes}
-use Rattle.desk.proofs.GivesLemmas.{opt_gives_none, and_gives_takes, and_gives_fails}
-use Rattle.desk.proofs.NodeGivesLemmas.{gives_as, same_node}
+use Rattle.visits.proofs.GivesLemmas.{name_gives, star_gives_none, star_gives_more, star_never_fails, not_gives_takes}
+use Rattle.visits.proofs.GivesLemmas.{not_gives_fails, plus_gives_fails, plus_gives_takes, plus_star, opt_gives_takes}
+use Rattle.visits.proofs.GivesLemmas.{opt_gives_none, and_gives_takes, and_gives_fails}
+use Rattle.visits.proofs.NodeGivesLemmas.{gives_as, same_node}
 use Rattle.memo.specs.declared.spot.Spot.{Spot}
 use Rattle.memo.specs.declared.spot.Spot.TheVariants.{Pair, Tail}
 use Rattle.packrat.specs.SpotGives.{MembersGive, members_none, members_fail, members_take, AlternativesGive}

@@ -13,7 +13,7 @@ use Rattle.memo.specs.declared.key_log.Stored.{Stored}
 use Rattle.memo.specs.declared.spot.Spot.{Spot}
 use Rattle.memo.specs.declared.spot.Spot.TheVariants.{Pair}
 use Rattle.packrat.specs.TurnsLeft.{most_begun}
-use Rattle.packrat.specs.KeyMarks.{AreMarks}
+use Rattle.gramcheck.specs.KeyMarks.{AreMarks}
 use Rattle.packrat.specs.SpotGives.{SpotGives, AreRight, node_marks, tail_marks}
 use Rattle.memo.specs.KeyLog.{spots_of}
 use Rattle.memo.specs.Parts.{IsIn, in_here, in_later}

@@ -13,9 +13,9 @@ use Rattle.gramcheck.proofs.HasShapeLemmas.{has_shape}
 use Rattle.visits.specs.Visits.{NodeTakes}
 use Rattle.visits.proofs.GivesLemmas.{is_name}
 use Rattle.visits.proofs.NodeGivesLemmas.{one_spelled}
-use Rattle.packrat.specs.Width.{Width, width_any, width_set, width_bytes, width_act, width_open, width_close, width_and}
-use Rattle.packrat.specs.Width.{width_not, width_opt, width_name, width_seq, width_choice, WidthSum, sum_none, sum_more}
-use Rattle.packrat.specs.Width.{WidthEach, each_none, each_more}
+use Rattle.gramcheck.specs.Width.{Width, width_any, width_set, width_bytes, width_act, width_open, width_close, width_and}
+use Rattle.gramcheck.specs.Width.{width_not, width_opt, width_name, width_seq, width_choice, WidthSum, sum_none, sum_more}
+use Rattle.gramcheck.specs.Width.{WidthEach, each_none, each_more}
 
 module _ (rules : List Rule) (x : List ℕ) where
   any_width : {p q k : ℕ} {es : List Event} → Gives rules x expr.Any p (Takes q es) k → q ≡ p + 1

@@ -1,7 +1,5 @@
-pub mod Width
 pub mod Offset
 pub mod Spots
-pub mod KeyMarks
 pub mod View
 pub mod SpotGives
 pub mod SpotKeeps

@@ -4,7 +4,7 @@ use Rattle.gramcheck.specs.Nodes.{Shape, Any, Bytes, Set, Name, Seq, Choice, Sta
 use Rattle.gramcheck.specs.Nodes.{Close}
 use Rattle.pegread.specs.Pattern.{Rule}
 use Rattle.visits.specs.Visits.{Asks, Visits}
-use Rattle.packrat.specs.Width.{Width}
+use Rattle.gramcheck.specs.Width.{Width}
 
 -- m stands once in the list
 pub data Once (m : ℕ) : List ℕ → Type 0 where

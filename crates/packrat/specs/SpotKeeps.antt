@@ -9,7 +9,7 @@ use Rattle.memo.specs.declared.found.Found.{Found}
 use Rattle.pegmatch.specs.Answers.{WasEnough}
 use Rattle.pegmatch.specs.KeptEvents.{StandFor, outcome_of}
 use Rattle.pegmatch.specs.declared.event.Kept.{Kept}
-use Rattle.desk.specs.Visits.{NodeGives}
+use Rattle.visits.specs.Visits.{NodeGives}
 use Rattle.memo.specs.declared.spot.Spot.{Spot}
 use Rattle.memo.specs.declared.spot.Spot.TheVariants.{Pair, Tail}
 

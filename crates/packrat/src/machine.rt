@@ -6,7 +6,7 @@ ghost use Rattle.gramcheck.specs.Nodes.{shapes_of};
 ghost use Rattle.pegmatch.specs.Answers.{WasEnough};
 ghost use Rattle.memo.specs.declared.spot.Spot.{Spot};
 ghost use Rattle.packrat.specs.TurnsLeft.{left, most_begun};
-ghost use Rattle.packrat.specs.KeyMarks.{AreMarks};
+ghost use Rattle.gramcheck.specs.KeyMarks.{AreMarks};
 ghost use Rattle.packrat.specs.Onward.{IsWell};
 ghost use Rattle.packrat.specs.SpotGives.{node_marks, tail_marks};
 ghost use Rattle.packrat.specs.Stands.{Stands, IsClosed, AreOn, IsEvaluated, LowersLeft};

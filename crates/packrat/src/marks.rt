@@ -1,7 +1,7 @@
 //! Marks of what may be asked for twice.
 ghost use Rattle.std.specs.Prelude.{◌≡◌, ℕ, List, get_or, true};
 ghost use Rattle.gramcheck.specs.Nodes.{Shape};
-ghost use Rattle.packrat.specs.KeyMarks.{AreMarks};
+ghost use Rattle.gramcheck.specs.KeyMarks.{AreMarks};
 ghost use Rattle.packrat.specs.SpotGives.{node_marks, tail_marks};
 ghost use Rattle.packrat.specs.Spots.{is_key as is_key_of};
 

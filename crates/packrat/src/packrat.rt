@@ -4,7 +4,7 @@ ghost use Rattle.gramcheck.specs.Nodes.{shapes_of};
 ghost use Rattle.gramcheck.specs.Outcome.{Outcome};
 ghost use Rattle.pegmatch.specs.Answers.{StartGives};
 ghost use Rattle.packrat.specs.Done.{empty, IsOutcome, told, unit_of, unit_of_match};
-ghost use Rattle.packrat.specs.KeyMarks.{AreMarks};
+ghost use Rattle.gramcheck.specs.KeyMarks.{AreMarks};
 ghost use Rattle.packrat.specs.SpotGives.{node_marks, tail_marks};
 
 use crate::frames::Frames;

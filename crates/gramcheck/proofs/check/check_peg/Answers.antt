@@ -1,5 +1,5 @@
 -- No note refuses the grammar, so it is sound, and its nodes are those of its rules' bodies.
-use Rattle.std.proofs.Common.{◌≡◌, false, map, sym, subst}
+use Rattle.std.proofs.Common.{◌≡◌, ap, arith, false, length, map, sym, subst}
 use Rattle.std.proofs.lemmas.List.{length-map}
 use Rattle.leastset.specs.NumberMarks.{AreBelow}
 use Rattle.ruletable.specs.Notes.{said_of}
@@ -33,7 +33,18 @@ print_marks-requires-clause-bodies c =
     (λ n. AreBelow c.in_ok-judged.judged.cut.bodies.items n)
     (length-map c.in_ok-judged.judged.cut.nodes.items shape_of) below)
 
-module _ (c : goal.In_ok-templates) where
+pub find_keys-requires : goal.find_keys-requires
+find_keys-requires c =
+    let told : false ≡ is_refused (map said_of c.deref-2.result.now) = c.if-refused.ensures in
+    let passes : is_refused (map said_of c.in_ok-judged.judged.notes.items) ≡ false =
+    rw c.deref-2.ensures.value at (sym told) in
+    let first = start-below _ (rules_of c.args.peg.rules) c.in_ok-first.first c.in_ok-first.ensures in
+    let ranked = c.in_ok-judged.ensures.ranked passes c.in_ok-first.first first in
+    let count = ranked.spelled.count in
+    let same = ap length c.deref-7.ensures.value in
+    omega (arith, first, count, same)
+
+module _ (c : goal.In_ok-keys) where
   is_sound : IsRanked (rules_of c.args.peg.rules) c.in_ok-first.first
       (shapes_of c.in_ok-judged.judged.cut.nodes.items) c.in_ok-judged.judged.cut.bodies.items
       c.in_ok-judged.judged.ranks.items
@@ -53,3 +64,6 @@ new-sound-requires-clause-printing c =
     let marks = rw (c.deref-3.ensures.value, c.deref-4.ensures.value) at (c.in_ok-printing.ensures
     (rules_of c.args.peg.rules)) in
     marks sound.spelled
+
+pub new-sound-requires-clause-keys : goal.new-sound-requires-clause-keys
+new-sound-requires-clause-keys c = rw (c.deref-6.ensures.value, c.deref-7.ensures.value) at c.in_ok-keys.ensures
