@@ -2,6 +2,7 @@ pub mod AreBodiesLemmas
 pub mod AreCutsLemmas
 pub mod AreNotesLemmas
 pub mod BodyOfLemmas
+pub mod ByByteLemmas
 pub mod ComesBackLemmas
 pub mod CutFrontLemmas
 pub mod FilledBlanksLemmas

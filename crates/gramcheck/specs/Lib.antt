@@ -1,5 +1,6 @@
 pub mod Analysis
 pub mod Bodies
+pub mod ByByte
 pub mod Checked
 pub mod Defined
 pub mod Grammar

@@ -2,6 +2,7 @@
 #![tactic(auto)]
 
 mod analysis;
+mod by_byte;
 mod check;
 mod cut;
 mod laws;
@@ -17,6 +18,7 @@ mod sound;
 mod template;
 mod uses;
 
+pub use by_byte::{Verdict, one_verdict};
 pub use check::{Checked, check_peg};
 pub use laws::{
     events_rise, events_rise_of_start, longer_input, longer_input_of_start, one_outcome,
