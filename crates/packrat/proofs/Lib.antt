@@ -17,3 +17,4 @@ pub mod LeftLemmas
 pub mod StandsLemmas
 pub mod OnwardLemmas
 pub mod KeyMarksLemmas
+pub mod ByteGivesLemmas

@@ -6,6 +6,7 @@ pub mod View
 pub mod SpotGives
 pub mod MachineSteps
 pub mod SpotSteps
+pub mod ByteGives
 pub mod Onward
 pub mod TurnsLeft
 pub mod Stands

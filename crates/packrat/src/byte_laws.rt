@@ -1,0 +1,48 @@
+//! Laws of evaluations that the byte at their place decides, and of runs of turns of a repetition over such bytes.
+ghost use Rattle.std.specs.Prelude.{◌≡◌, ℕ, ◌+◌, ◌<◌, ◌≤◌, max, Bool, true, List, ◌++◌, length, slice_get, Some};
+ghost use Rattle.pegread.specs.Pattern.{Rule};
+ghost use Rattle.pegread.specs.PegViews.{rules_of};
+ghost use Rattle.gramcheck.specs.ByByte.{ByByte};
+ghost use Rattle.gramcheck.specs.Grammar.{Grammar, IsSoundGrammar};
+ghost use Rattle.gramcheck.specs.Nodes.{Shape, Star, shapes_of};
+ghost use Rattle.gramcheck.specs.Outcome.{Event, Takes};
+ghost use Rattle.gramcheck.specs.Sound.{IsRanked};
+ghost use Rattle.gramcheck.specs.declared.by_byte.Verdict.{Verdict};
+ghost use Rattle.pegmatch.specs.KeptEvents.{SpellsSome};
+ghost use Rattle.desk.specs.Visits.{NodeGives};
+ghost use Rattle.memo.specs.Parts.{IsIn};
+ghost use Rattle.memo.specs.declared.spot.Spot.{Spot};
+ghost use Rattle.memo.specs.declared.spot.Spot.TheVariants.{Pair};
+ghost use Rattle.packrat.specs.ByteGives.{found_by, GivesBy, StoresItself, ComesWith, AreTurns, turns_on, operands_on};
+ghost use Rattle.packrat.specs.ByteGives.{turns_closed, AreFresh, RepeatsTo};
+ghost use Rattle.packrat.specs.KeyMarks.{AreMarks};
+ghost use Rattle.packrat.specs.MachineSteps.{Level, Asks, Works, store};
+ghost use Rattle.packrat.specs.SpotGives.{SpotGives};
+ghost use Rattle.packrat.specs.SpotSteps.{SpotSteps};
+
+/// A pair that the byte at its place decides gives just that, without events. Its evaluation stores nothing but itself,
+/// and begins as many pairs as were counted.
+pub fn one_byte_decides()
+    ensures gives { (rules : List Rule) (start : ℕ) (nodes : List Shape) (bodies ranks x : List ℕ) →
+        IsRanked rules start nodes bodies ranks → (marks : ℕ → Bool) (tails : ℕ → ℕ → Bool) (b n p c : ℕ)
+        (v : Verdict) → ByByte nodes bodies marks tails b n v c → slice_get x p ≡ Some b → SpellsSome rules nodes n →
+        GivesBy rules nodes bodies x n p v }
+    ensures found { (g : Grammar) (x : List ℕ) (more : Bool) → IsSoundGrammar g →
+        (marks : ℕ → Bool) (tails : ℕ → ℕ → Bool) (b n p c : ℕ) (v : Verdict) →
+        ByByte (shapes_of g.nodes) g.bodies marks tails b n v c → slice_get x p ≡ Some b →
+        SpellsSome (rules_of g.rules) (shapes_of g.nodes) n → (more ≡ true → p + 1 < length x) →
+        SpotGives g x more (Pair n p) (found_by v p) }
+    ensures stores { (rules : List Rule) (start : ℕ) (nodes : List Shape) (bodies ranks x : List ℕ) →
+        IsRanked rules start nodes bodies ranks → (marks : ℕ → Bool) (tails : ℕ → ℕ → Bool) (b n p c : ℕ)
+        (v : Verdict) → ByByte nodes bodies marks tails b n v c → slice_get x p ≡ Some b → SpellsSome rules nodes n →
+        StoresItself rules nodes bodies x marks tails (Pair n p) c }
+    ensures steps { (rules : List Rule) (start : ℕ) (nodes : List Shape) (bodies ranks x : List ℕ) →
+        IsRanked rules start nodes bodies ranks → (root : ℕ) → slice_get bodies start ≡ Some root →
+        (marks : ℕ → Bool) (tails : ℕ → ℕ → Bool) → AreMarks start nodes bodies marks tails → (b n p c : ℕ)
+        (v : Verdict) → ByByte nodes bodies marks tails b n v c → slice_get x p ≡ Some b → SpellsSome rules nodes n →
+        (levels : List (Level Spot)) (stored begun : List Spot) → (marks n ≡ true → IsIn (Pair n p) stored → ⊥) →
+        ComesWith rules nodes bodies x marks tails
+        (Asks (Pair n p) (record { levels = levels; stored = stored; begun = begun }))
+        (λ front. Works (record { levels = levels; stored = store Spot (marks n) (Pair n p) stored;
+            begun = front ++ begun })) c }
+{}
