@@ -18,3 +18,6 @@ pub mod StandsLemmas
 pub mod OnwardLemmas
 pub mod KeyMarksLemmas
 pub mod ByteGivesLemmas
+pub mod ByteKidsLemmas
+pub mod RunStepsLemmas
+pub mod TurnsLemmas
