@@ -46,3 +46,33 @@ pub fn one_byte_decides()
         (λ front. Works (record { levels = levels; stored = store Spot (marks n) (Pair n p) stored;
             begun = front ++ begun })) c }
 {}
+
+/// Where bytes decide that the operand of a repetition takes each of them, the machine comes from the repetition's pair
+/// at the first of them to the one behind the last, with a level for each turn. What the turns evaluate stores the
+/// operand's pairs if the operand is a key, and nothing else; and as many pairs begin as were counted.
+pub fn turns_run()
+    ensures { (rules : List Rule) (start : ℕ) (nodes : List Shape) (bodies ranks x : List ℕ) →
+        IsRanked rules start nodes bodies ranks → (root : ℕ) → slice_get bodies start ≡ Some root →
+        (marks : ℕ → Bool) (tails : ℕ → ℕ → Bool) → AreMarks start nodes bodies marks tails → (s k a n c : ℕ) →
+        slice_get nodes s ≡ Some (Star k) → SpellsSome rules nodes s →
+        AreTurns nodes bodies x marks tails k a n c →
+        (levels : List (Level Spot)) (stored begun : List Spot) → AreFresh (marks s) s a n stored →
+        AreFresh (marks k) k a n stored →
+        ComesWith rules nodes bodies x marks tails
+        (Asks (Pair s a) (record { levels = levels; stored = stored; begun = begun }))
+        (λ front. Asks (Pair s (a + n)) (record { levels = turns_on s k a n levels;
+            stored = operands_on (marks k) k a n stored; begun = front ++ begun })) c }
+{}
+
+/// The levels of such turns close one after the other; each stores its pair if the repetition is a key.
+pub fn turns_close()
+    ensures { (rules : List Rule) (start : ℕ) (nodes : List Shape) (bodies ranks x : List ℕ) →
+        IsRanked rules start nodes bodies ranks → (root : ℕ) → slice_get bodies start ≡ Some root →
+        (marks : ℕ → Bool) (tails : ℕ → ℕ → Bool) → AreMarks start nodes bodies marks tails → (s k a n c : ℕ) →
+        slice_get nodes s ≡ Some (Star k) → SpellsSome rules nodes s →
+        AreTurns nodes bodies x marks tails k a n c →
+        (levels : List (Level Spot)) (stored begun : List Spot) →
+        SpotSteps rules nodes bodies x marks tails
+        (Works (record { levels = turns_on s k a n levels; stored = stored; begun = begun }))
+        (Works (record { levels = levels; stored = turns_closed (marks s) s a n stored; begun = begun })) }
+{}
