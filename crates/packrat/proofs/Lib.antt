@@ -21,3 +21,4 @@ pub mod ByteGivesLemmas
 pub mod ByteKidsLemmas
 pub mod RunStepsLemmas
 pub mod TurnsLemmas
+pub mod TurnsGiveLemmas

@@ -8,6 +8,7 @@ ghost use Rattle.gramcheck.specs.Nodes.{Shape, Star, shapes_of};
 ghost use Rattle.gramcheck.specs.Outcome.{Event, Takes};
 ghost use Rattle.gramcheck.specs.Sound.{IsRanked};
 ghost use Rattle.gramcheck.specs.declared.by_byte.Verdict.{Verdict};
+ghost use Rattle.cells.specs.declared.cell.Found.{Found};
 ghost use Rattle.pegmatch.specs.KeptEvents.{SpellsSome};
 ghost use Rattle.desk.specs.Visits.{NodeGives};
 ghost use Rattle.memo.specs.Parts.{IsIn};
@@ -75,4 +76,20 @@ pub fn turns_close()
         SpotSteps rules nodes bodies x marks tails
         (Works (record { levels = turns_on s k a n levels; stored = stored; begun = begun }))
         (Works (record { levels = levels; stored = turns_closed (marks s) s a n stored; begun = begun })) }
+{}
+
+/// What the repetition takes behind such turns it takes from each of their places on, with the same events.
+pub fn turns_give()
+    ensures gives { (rules : List Rule) (start : ℕ) (nodes : List Shape) (bodies ranks x : List ℕ) →
+        IsRanked rules start nodes bodies ranks → (marks : ℕ → Bool) (tails : ℕ → ℕ → Bool) (s k a n c : ℕ) →
+        slice_get nodes s ≡ Some (Star k) → SpellsSome rules nodes s →
+        AreTurns nodes bodies x marks tails k a n c → (q looked : ℕ) (events : List Event) →
+        NodeGives rules nodes bodies x s (a + n) (Takes q events) looked → (i : ℕ) → i ≤ n →
+        RepeatsTo rules nodes bodies x s (a + i) q events (max looked (a + n)) }
+    ensures found { (g : Grammar) (x : List ℕ) (more : Bool) → IsSoundGrammar g →
+        (marks : ℕ → Bool) (tails : ℕ → ℕ → Bool) (s k a n c : ℕ) →
+        slice_get (shapes_of g.nodes) s ≡ Some (Star k) → SpellsSome (rules_of g.rules) (shapes_of g.nodes) s →
+        AreTurns (shapes_of g.nodes) g.bodies x marks tails k a n c → (f : Found) →
+        (more ≡ true → a + n < length x) → SpotGives g x more (Pair s (a + n)) f → (i : ℕ) → i ≤ n →
+        SpotGives g x more (Pair s (a + i)) f }
 {}
