@@ -3,6 +3,7 @@ pub mod AreCutsLemmas
 pub mod AreNotesLemmas
 pub mod BodyOfLemmas
 pub mod ByByteLemmas
+pub mod DecidesLemmas
 pub mod ComesBackLemmas
 pub mod CutFrontLemmas
 pub mod FilledBlanksLemmas

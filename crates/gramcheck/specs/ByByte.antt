@@ -1,5 +1,6 @@
 -- Nodes whose outcome at a place is decided by the byte there alone.
-use Rattle.std.specs.Prelude.{◌≡◌, ℕ, suc, ◌+◌, Bool, true, false, List, [], ◌∷◌, slice_get, Some, None}
+use Rattle.std.specs.Prelude.{◌≡◌, ℕ, zero, suc, ◌+◌, Bool, true, false, List, [], ◌∷◌, slice_get, get_or}
+use Rattle.std.specs.Prelude.{Some, None}
 use Rattle.gramcheck.specs.Nodes.{Shape, Any, Bytes, Set, Name, Seq, Choice, Star, Plus, Opt, And, Not}
 use Rattle.gramcheck.specs.declared.by_byte.Verdict.{Verdict}
 use Rattle.gramcheck.specs.declared.by_byte.Verdict.TheVariants.{Takes, Stays, Fails}
@@ -59,3 +60,19 @@ module _ (nodes : List Shape) (bodies : List ℕ) (marks : ℕ → Bool) (tails 
           → ByAlternatives n ms (suc i) v d → ByAlternatives n ms i v (c + d)
       alternative_succeeds : {n i m c : ℕ} {ms : List ℕ} {v : Verdict} → slice_get ms i ≡ Some m → tails n i ≡ false → Succeeds v
           → Below m v c → ByAlternatives n ms i v c
+
+module _ (nodes : List Shape) (bodies x : List ℕ) (marks : ℕ → Bool) (tails : ℕ → ℕ → Bool) where
+  -- The bytes from place a on decide that node k takes each of n of them. The turns of a repetition of k over them are
+  -- so many pairs: those of the repetition, and those that each turn's evaluation of k begins.
+  pub data AreTurns (k a : ℕ) : ℕ → ℕ → Type 0 where
+    turns_none : AreTurns k a zero zero
+    turns_more : {n c d b : ℕ} → AreTurns k a n c → slice_get x (a + n) ≡ Some b
+        → ByByte nodes bodies marks tails b k Takes d → AreTurns k a (suc n) (c + (1 + d))
+
+-- the marks of a list; what has none is marked
+abbrev pub mark_in : List Bool → ℕ → Bool
+mark_in marks n = get_or marks n true
+
+-- likewise of the tails of a node
+abbrev pub tail_in : List Bool → ℕ → ℕ → Bool
+tail_in marks n i = get_or marks n true

@@ -2,6 +2,7 @@ pub mod Analysis
 pub mod Bodies
 pub mod ByByte
 pub mod Checked
+pub mod Decides
 pub mod Defined
 pub mod Grammar
 pub mod GrammarNotes

@@ -17,7 +17,8 @@ use Rattle.pegmatch.specs.KeptEvents.{SpellsSome}
 use Rattle.desk.specs.Visits.{NodeGives}
 use Rattle.desk.proofs.GivesLemmas.{star_gives_more, star_never_fails}
 use Rattle.memo.specs.declared.spot.Spot.TheVariants.{Pair}
-use Rattle.packrat.specs.ByteGives.{AreTurns, turns_none, turns_more, RepeatsTo}
+use Rattle.gramcheck.specs.ByByte.{AreTurns, turns_none, turns_more}
+use Rattle.packrat.specs.ByteGives.{RepeatsTo}
 use Rattle.packrat.specs.SpotGives.{SpotGives}
 use Rattle.packrat.proofs.ByteGivesLemmas.{gives_by, star_has}
 

@@ -4,7 +4,7 @@ use Rattle.std.proofs.Common.{◌≡◌, inl, inr, ℕ, zero, suc, ◌+◌, ◌<
 use Rattle.std.proofs.Common.{length, Some, refl, sym, subst, arith}
 use Rattle.std.specs.Prelude.{slice_get}
 use Rattle.pegread.specs.Pattern.{Rule}
-use Rattle.gramcheck.specs.ByByte.{ByByte, by_shape, ByShape, by_no_turn}
+use Rattle.gramcheck.specs.ByByte.{ByByte, by_shape, ByShape, by_no_turn, AreTurns, turns_none, turns_more}
 use Rattle.gramcheck.specs.Nodes as node
 use Rattle.gramcheck.specs.Nodes.{Shape}
 use Rattle.gramcheck.specs.Sound.{IsRanked}
@@ -14,7 +14,7 @@ use Rattle.pegmatch.specs.KeptEvents.{SpellsSome}
 use Rattle.memo.specs.Parts.{IsIn}
 use Rattle.memo.specs.declared.spot.Spot.{Spot}
 use Rattle.memo.specs.declared.spot.Spot.TheVariants.{Pair, Tail}
-use Rattle.packrat.specs.ByteGives.{GivesBy, StoresItself, ComesWith, AreTurns, turns_none, turns_more, turn_at}
+use Rattle.packrat.specs.ByteGives.{GivesBy, StoresItself, ComesWith, turn_at}
 use Rattle.packrat.specs.ByteGives.{turns_on, operands_on, turns_closed, AreFresh}
 use Rattle.packrat.specs.KeyMarks.{AreMarks}
 use Rattle.packrat.specs.MachineSteps.{Level, State, Asks, Works, store, step_begin, step_next, step_last}

@@ -55,14 +55,6 @@ module _ (rules : List Rule) (nodes : List Shape) (bodies x : List ℕ) where
       pub is : total Spot (Kids rules nodes bodies x) (is_key marks tails) weight front ≡ count
       pub steps : SpotSteps rules nodes bodies x marks tails s (to front)
 
-module _ (nodes : List Shape) (bodies x : List ℕ) (marks : ℕ → Bool) (tails : ℕ → ℕ → Bool) where
-  -- The bytes from place a on decide that node k takes each of n of them. The turns of a repetition of k over them
-  -- are so many pairs: those of the repetition, and those that each turn's evaluation of k begins.
-  pub data AreTurns (k a : ℕ) : ℕ → ℕ → Type 0 where
-    turns_none : AreTurns k a zero zero
-    turns_more : {n c d b : ℕ} → AreTurns k a n c → slice_get x (a + n) ≡ Some b
-        → ByByte nodes bodies marks tails b k Takes d → AreTurns k a (suc n) (c + (1 + d))
-
 -- A turn of repetition s of node k at place p, which waits for the rest.
 abbrev pub turn_at : ℕ → ℕ → ℕ → Level Spot
 turn_at s k p = record { at = Pair s p; asked = Pair k p ∷ (Pair s (p + 1) ∷ []) }

@@ -2,7 +2,7 @@
 ghost use Rattle.std.specs.Prelude.{◌≡◌, ℕ, ◌+◌, ◌<◌, ◌≤◌, max, Bool, true, List, ◌++◌, length, slice_get, Some};
 ghost use Rattle.pegread.specs.Pattern.{Rule};
 ghost use Rattle.pegread.specs.PegViews.{rules_of};
-ghost use Rattle.gramcheck.specs.ByByte.{ByByte};
+ghost use Rattle.gramcheck.specs.ByByte.{ByByte, AreTurns};
 ghost use Rattle.gramcheck.specs.Grammar.{Grammar, IsSoundGrammar};
 ghost use Rattle.gramcheck.specs.Nodes.{Shape, Star, shapes_of};
 ghost use Rattle.gramcheck.specs.Outcome.{Event, Takes};
@@ -14,7 +14,7 @@ ghost use Rattle.desk.specs.Visits.{NodeGives};
 ghost use Rattle.memo.specs.Parts.{IsIn};
 ghost use Rattle.memo.specs.declared.spot.Spot.{Spot};
 ghost use Rattle.memo.specs.declared.spot.Spot.TheVariants.{Pair};
-ghost use Rattle.packrat.specs.ByteGives.{found_by, GivesBy, StoresItself, ComesWith, AreTurns, turns_on, operands_on};
+ghost use Rattle.packrat.specs.ByteGives.{found_by, GivesBy, StoresItself, ComesWith, turns_on, operands_on};
 ghost use Rattle.packrat.specs.ByteGives.{turns_closed, AreFresh, RepeatsTo};
 ghost use Rattle.packrat.specs.KeyMarks.{AreMarks};
 ghost use Rattle.packrat.specs.MachineSteps.{Level, Asks, Works, store};
