@@ -1,12 +1,13 @@
 //! Nodes whose outcome at a place is decided by the byte there alone.
-ghost use Rattle.std.specs.Prelude.{◌≡◌, ℕ, ◌+◌, Bool, List, IfSome, slice_get, Some};
+ghost use Rattle.std.specs.Prelude.{◌≡◌, ℕ, ◌+◌, Bool, List, IfSome, slice_get, Some, get_or, false};
 ghost use Rattle.gramcheck.specs.ByByte.{ByByte, mark_in};
 ghost use Rattle.gramcheck.specs.Decides.{Decides, DecidesBelow, DecidesShape, DecidesMembers, DecidesAlternatives};
-ghost use Rattle.gramcheck.specs.Nodes.{Shape, Bytes, Star, Plus, Opt, And, Not, shape_of, shapes_of};
+ghost use Rattle.gramcheck.specs.Nodes.{Shape, Bytes, Set, Name, Star, Plus, Opt, And, Not, shape_of, shapes_of};
 ghost use Rattle.gramcheck.specs.declared.by_byte.MarkedNodes.{MarkedNodes};
 ghost use Rattle.gramcheck.specs.declared.by_byte.Verdict.{Verdict};
 
 use crate::node::Node;
+use ruletable::ByteSet;
 
 /// Says what a node does at a place, where the byte there alone decides it.
 #[derive(Clone, Copy, Debug, PartialEq, Eq)]
@@ -56,12 +57,32 @@ fn node_at(nodes: &[Node], n: usize) -> Option<&Node>
     nodes.get(n)
 }
 
+// Returns the node of the body of the rule of that id.
+fn body_at(bodies: &[usize], id: usize) -> Option<usize>
+    ensures { IfSome result (λ m. slice_get bodies.now id ≡ Some m) }
+{
+    let body = bodies.get(id)?;
+    Some(*body)
+}
+
 // Returns a verdict with the sum of two numbers, if that fits.
 fn summed(verdict: Verdict, count: u32, more: u32) -> Option<Decided>
     ensures { IfSome result (λ d. (d.verdict ≡ verdict) × (d.count ≡ count + more)) }
 {
     let count = count.checked_add(more)?;
     Some(Decided { verdict, count })
+}
+
+// Returns what a byte decides of a class.
+fn by_set(set: &ByteSet, b: u8) -> Decided
+    ensures { (g : MarkedNodes) (n : ℕ) → DecidesShape g b n (Set (λ c. get_or set.now c false)) result }
+{
+    let verdict = if set.has(b) {
+        Verdict::Takes
+    } else {
+        Verdict::Fails
+    };
+    Decided { verdict, count: 1 }
 }
 
 // Returns what a byte decides of a literal.
@@ -142,6 +163,127 @@ fn over_plus(operand: Decided) -> Option<Decided>
         Verdict::Fails => summed(Verdict::Fails, 1, operand.count),
         Verdict::Takes | Verdict::Stays => None,
     }
+}
+
+// Returns what a byte decides of a node that is met below another; one that is a key, or too deep, is not decided.
+#[cycle(deciding)]
+fn below(grammar: &MarkedNodes<'_>, n: usize, b: u8, levels: usize) -> Option<Decided>
+    ensures { IfSome result (λ d. DecidesBelow grammar.now b n d) }
+{
+    if levels == 0 || is_marked(grammar.keys, n) {
+        return None;
+    }
+    by_node(grammar, n, b, levels - 1)
+}
+
+// Returns what a byte decides of the members of a sequence. Nothing is asked of one behind a member that takes the byte.
+#[cycle(deciding)]
+fn by_members(
+    grammar: &MarkedNodes<'_>,
+    n: usize,
+    members: &[usize],
+    b: u8,
+    levels: usize,
+) -> Option<Decided>
+    ensures { IfSome result (λ d. DecidesMembers grammar.now b n members.now d) }
+{
+    let mut count = 0;
+    for i in 0..members.len() {
+        if is_marked(grammar.tails, n) {
+            return None;
+        }
+        let member = below(grammar, members[i], b, levels)?;
+        let sum = summed(member.verdict, count, member.count)?;
+        match member.verdict {
+            Verdict::Stays => count = sum.count,
+            Verdict::Fails => return Some(sum),
+            Verdict::Takes => {
+                if i + 1 < members.len() {
+                    return None;
+                }
+                return Some(sum);
+            }
+        }
+    }
+    let verdict = Verdict::Stays;
+    Some(Decided { verdict, count })
+}
+
+// Returns what a byte decides of the alternatives of a choice.
+#[cycle(deciding)]
+fn by_alternatives(
+    grammar: &MarkedNodes<'_>,
+    n: usize,
+    alternatives: &[usize],
+    b: u8,
+    levels: usize,
+) -> Option<Decided>
+    ensures { IfSome result (λ d. DecidesAlternatives grammar.now b n alternatives.now d) }
+{
+    let mut count = 0;
+    for i in 0..alternatives.len() {
+        if is_marked(grammar.tails, n) {
+            return None;
+        }
+        let alternative = below(grammar, alternatives[i], b, levels)?;
+        let sum = summed(alternative.verdict, count, alternative.count)?;
+        match alternative.verdict {
+            Verdict::Fails => count = sum.count,
+            Verdict::Takes => return Some(sum),
+            Verdict::Stays => return Some(sum),
+        }
+    }
+    let verdict = Verdict::Fails;
+    Some(Decided { verdict, count })
+}
+
+// Returns what a byte decides of the body of a rule, and of the name that stands for it.
+#[cycle(deciding)]
+fn by_body(grammar: &MarkedNodes<'_>, id: usize, b: u8, levels: usize) -> Option<Decided>
+    ensures { IfSome result (λ d. (n : ℕ) → DecidesShape grammar.now b n (Name id) d) }
+{
+    let body = body_at(grammar.bodies, id)?;
+    let decided = below(grammar, body, b, levels)?;
+    summed(decided.verdict, 1, decided.count)
+}
+
+// Returns what a byte decides of a node, looking so deep.
+#[cycle(deciding)]
+fn by_node(grammar: &MarkedNodes<'_>, n: usize, b: u8, levels: usize) -> Option<Decided>
+    ensures { IfSome result (λ d. Decides grammar.now b n d) }
+{
+    match node_at(grammar.nodes, n)? {
+        Node::Any => Some(Decided {
+            verdict: Verdict::Takes,
+            count: 1,
+        }),
+        Node::Set(set) => Some(by_set(set, b)),
+        Node::Bytes(bytes) => by_bytes(bytes, b),
+        Node::Name(id) => by_body(grammar, *id, b, levels),
+        Node::Seq(members) => {
+            let decided = by_members(grammar, n, members, b, levels)?;
+            summed(decided.verdict, 1, decided.count)
+        }
+        Node::Choice(alternatives) => {
+            let decided = by_alternatives(grammar, n, alternatives, b, levels)?;
+            summed(decided.verdict, 1, decided.count)
+        }
+        Node::Opt(operand) => over_opt(below(grammar, *operand, b, levels)?),
+        Node::And(operand) => over_and(below(grammar, *operand, b, levels)?),
+        Node::Not(operand) => over_not(below(grammar, *operand, b, levels)?),
+        Node::Star(operand) => over_star(below(grammar, *operand, b, levels)?),
+        Node::Plus { operand, star: _ } => over_plus(below(grammar, *operand, b, levels)?),
+        Node::Act(_) => None,
+        Node::Open => None,
+        Node::Close => None,
+    }
+}
+
+/// Returns what a byte decides of a node, if it does and the node is not too deep.
+pub fn by_byte(grammar: &MarkedNodes<'_>, n: usize, b: u8) -> Option<Decided>
+    ensures { IfSome result (λ d. Decides grammar.now b n d) }
+{
+    by_node(grammar, n, b, MOST_LEVELS)
 }
 
 /// A byte decides one verdict of a node, with one number of pairs.
