@@ -1,5 +1,5 @@
 -- What code tells of a byte is what the byte decides.
--- Serves: by_byte
+-- Serves: decide
 use Rattle.std.proofs.Common.{◌≡◌, ℕ, zero, suc, ◌+◌, ◌<◌, ◌≤◌, Bool, true, false, List, [], ◌∷◌, Option, Some, None, refl, sym}
 use Rattle.std.proofs.Common.{subst, arith, IfSome, length}
 use Rattle.gramcheck.specs.declared.node.Node.{Node}

@@ -17,6 +17,7 @@ pub mod Outcome
 pub mod Printing
 pub mod Ranks
 pub mod Rising
+pub mod RunTables
 pub mod Slots
 pub mod Sound
 pub mod Templates

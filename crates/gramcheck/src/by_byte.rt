@@ -280,7 +280,7 @@ fn by_node(grammar: &MarkedNodes<'_>, n: usize, b: u8, levels: usize) -> Option<
 }
 
 /// Returns what a byte decides of a node, if it does and the node is not too deep.
-pub fn by_byte(grammar: &MarkedNodes<'_>, n: usize, b: u8) -> Option<Decided>
+pub fn decide(grammar: &MarkedNodes<'_>, n: usize, b: u8) -> Option<Decided>
     ensures { IfSome result (λ d. Decides grammar.now b n d) }
 {
     by_node(grammar, n, b, MOST_LEVELS)
