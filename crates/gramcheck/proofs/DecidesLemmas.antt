@@ -4,6 +4,7 @@ use Rattle.std.proofs.Common.{◌≡◌, ℕ, zero, suc, ◌+◌, ◌<◌, ◌�
 use Rattle.std.proofs.Common.{subst, arith, IfSome, length}
 use Rattle.gramcheck.specs.declared.node.Node.{Node}
 use Rattle.std.specs.Prelude.{slice_get, get_or}
+use Rattle.std.proofs.lemmas.Option.{slice_get-get_or, slice_get_past}
 use Rattle.gramcheck.specs.Nodes.{Shape, Any, Bytes, Set, Name, Seq, Choice, Star, Plus, Opt, And, Not, shape_of, shapes_of}
 use Rattle.gramcheck.specs.ByByte.{Succeeds, ByByte, by_shape, Below, below, ByShape, by_any, by_set_in, by_set_out}
 use Rattle.gramcheck.specs.ByByte.{by_no_bytes, by_one_byte, by_other_byte, by_name, by_members, by_alternatives}
@@ -105,18 +106,6 @@ pub set_has_not : (g : MarkedNodes) (b n : ℕ) (set : List Bool) → get_or set
     → DecidesShape g b n (Set (λ c. get_or set c false)) (record { verdict = Fails; count = 1 })
 set_has_not g b n set is = by_set_out is
 
--- what there is at a place, and beyond the end
-get_at : (ms : List ℕ) (i : ℕ) → i < length ms → slice_get ms i ≡ Some (get_or ms i 0)
-get_at [] i lt = absurd (omega arith)
-get_at (m ∷ ms) zero lt = refl
-get_at (m ∷ ms) (suc i) lt = let less : i < length ms = omega arith in get_at ms i less
-
-none_at : (ms : List ℕ) (i : ℕ) → length ms ≤ i → slice_get ms i ≡ None
-none_at [] zero le = refl
-none_at [] (suc i) le = refl
-none_at (m ∷ ms) zero le = absurd (omega arith)
-none_at (m ∷ ms) (suc i) le = none_at ms i (omega arith)
-
 pub some_as : (P Q : Decided → Type 0) (r : Option Decided) → ((d : Decided) → P d → Q d) → IfSome r P → IfSome r Q
 some_as P Q None f h = tt
 some_as P Q (Some d) f h = f d h
@@ -161,7 +150,7 @@ module _ (g : MarkedNodes) (b n : ℕ) (ms : List ℕ) (i : ℕ) where
   module _ (count : ℕ) (all : (v : Verdict) (d : ℕ) → M i v d → M 0 v (count + d)) where
     pub members_done : length ms ≤ i → DecidesMembers g b n ms (record { verdict = Stays; count = count })
     members_done le = members_as 0 0 (count + 0) count Stays Stays refl refl (omega arith)
-        (all Stays 0 (members_end (none_at ms i le)))
+        (all Stays 0 (members_end (slice_get_past ms i le)))
 
     module _ (lt : i < length ms) (t : mark_in g.tails.now n ≡ false) (m d : Decided)
         (h : DecidesBelow g b (get_or ms i 0) m) (sum : (d.verdict ≡ m.verdict) × (d.count ≡ count + m.count)) where
@@ -169,26 +158,26 @@ module _ (g : MarkedNodes) (b n : ℕ) (ms : List ℕ) (i : ℕ) where
       members_more is v e r =
           let whole = sum.1 in
           members_as 0 0 (count + (m.count + e)) (d.count + e) v v refl refl (omega (arith, whole))
-          (all v (m.count + e) (member_stays (get_at ms i lt) t (below_of g b (get_or ms i 0) Stays m is h)
+          (all v (m.count + e) (member_stays (slice_get-get_or ms i 0 lt) t (below_of g b (get_or ms i 0) Stays m is h)
           (members_as (i + 1) (suc i) e e v v (omega arith) refl refl r)))
 
       pub members_failed : m.verdict ≡ Fails → DecidesMembers g b n ms d
       members_failed is =
           let same = sum.0 in
           members_as 0 0 (count + m.count) d.count Fails d.verdict refl (cc (same, is)) (sym sum.1)
-          (all Fails m.count (member_fails (get_at ms i lt) t (below_of g b (get_or ms i 0) Fails m is h)))
+          (all Fails m.count (member_fails (slice_get-get_or ms i 0 lt) t (below_of g b (get_or ms i 0) Fails m is h)))
 
       pub members_took : m.verdict ≡ Takes → length ms ≤ i + 1 → DecidesMembers g b n ms d
       members_took is le =
           let same = sum.0 in
           members_as 0 0 (count + m.count) d.count Takes d.verdict refl (cc (same, is)) (sym sum.1)
-          (all Takes m.count (member_takes (get_at ms i lt) (none_at ms (suc i) (omega arith)) t
+          (all Takes m.count (member_takes (slice_get-get_or ms i 0 lt) (slice_get_past ms (suc i) (omega arith)) t
           (below_of g b (get_or ms i 0) Takes m is h)))
 
   module _ (count : ℕ) (all : (v : Verdict) (d : ℕ) → A i v d → A 0 v (count + d)) where
     pub alternatives_done : length ms ≤ i → DecidesAlternatives g b n ms (record { verdict = Fails; count = count })
     alternatives_done le = alternatives_as 0 0 (count + 0) count Fails Fails refl refl (omega arith)
-        (all Fails 0 (alternatives_end (none_at ms i le)))
+        (all Fails 0 (alternatives_end (slice_get_past ms i le)))
 
     module _ (lt : i < length ms) (t : mark_in g.tails.now n ≡ false) (m d : Decided)
         (h : DecidesBelow g b (get_or ms i 0) m) (sum : (d.verdict ≡ m.verdict) × (d.count ≡ count + m.count)) where
@@ -196,13 +185,13 @@ module _ (g : MarkedNodes) (b n : ℕ) (ms : List ℕ) (i : ℕ) where
       alternatives_more is v e r =
           let whole = sum.1 in
           alternatives_as 0 0 (count + (m.count + e)) (d.count + e) v v refl refl (omega (arith, whole))
-          (all v (m.count + e) (alternative_fails (get_at ms i lt) t (below_of g b (get_or ms i 0) Fails m is h)
+          (all v (m.count + e) (alternative_fails (slice_get-get_or ms i 0 lt) t (below_of g b (get_or ms i 0) Fails m is h)
           (alternatives_as (i + 1) (suc i) e e v v (omega arith) refl refl r)))
 
       pub alternatives_succeeded : Succeeds m.verdict → DecidesAlternatives g b n ms d
       alternatives_succeeded is =
           alternatives_as 0 0 (count + m.count) d.count m.verdict d.verdict refl (sym sum.0) (sym sum.1)
-          (all m.verdict m.count (alternative_succeeds (get_at ms i lt) t is h))
+          (all m.verdict m.count (alternative_succeeds (slice_get-get_or ms i 0 lt) t is h))
 
 pub takes_succeeds : (v : Verdict) → v ≡ Takes → Succeeds v
 takes_succeeds v is = subst Succeeds (sym is) tt

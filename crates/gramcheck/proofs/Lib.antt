@@ -31,6 +31,7 @@ pub mod PushCasesLemmas
 pub mod PutInLemmas
 pub mod RiseLemmas
 pub mod RuleNameLemmas
+pub mod RunTablesLemmas
 pub mod ShorterInputLemmas
 pub mod SomeOutcomeLemmas
 pub mod StartRuleLemmas
