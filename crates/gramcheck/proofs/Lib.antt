@@ -2,6 +2,8 @@ pub mod AreBodiesLemmas
 pub mod AreCutsLemmas
 pub mod AreNotesLemmas
 pub mod BodyOfLemmas
+pub mod ByByteLemmas
+pub mod DecidesLemmas
 pub mod ComesBackLemmas
 pub mod CutFrontLemmas
 pub mod FilledBlanksLemmas
@@ -32,6 +34,7 @@ pub mod PushedMarksLemmas
 pub mod PutInLemmas
 pub mod RiseLemmas
 pub mod RuleNameLemmas
+pub mod RunTablesLemmas
 pub mod ShorterInputLemmas
 pub mod SomeOutcomeLemmas
 pub mod StartRuleLemmas

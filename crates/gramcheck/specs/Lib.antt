@@ -1,6 +1,8 @@
 pub mod Analysis
 pub mod Bodies
+pub mod ByByte
 pub mod Checked
+pub mod Decides
 pub mod Defined
 pub mod Grammar
 pub mod GrammarNotes
@@ -19,6 +21,7 @@ pub mod Outcome
 pub mod Printing
 pub mod Ranks
 pub mod Rising
+pub mod RunTables
 pub mod Slots
 pub mod Sound
 pub mod Templates

@@ -2,6 +2,7 @@
 #![tactic(auto)]
 
 mod analysis;
+mod by_byte;
 mod check;
 mod cut;
 mod keys;
@@ -15,11 +16,13 @@ mod nullable;
 mod number;
 mod printing;
 mod ranked_laws;
+mod run_table;
 mod sound;
 mod template;
 mod uses;
 mod widths;
 
+pub use by_byte::{Decided, MarkedNodes, Verdict, decide, one_verdict};
 pub use check::{Checked, check_peg};
 pub use laws::{
     events_rise, events_rise_of_start, longer_input, longer_input_of_start, one_outcome,
@@ -31,5 +34,6 @@ pub use notes::{one_list_of_notes, redefinitions};
 pub use ranked_laws::{
     exactly_one_outcome, exactly_one_outcome_of_start, ranks_fall, some_outcome_of_ranked,
 };
+pub use run_table::{Run, RunTable, Stop};
 pub use sound::SoundPeg;
 pub use template::{Put, Slot, Template};

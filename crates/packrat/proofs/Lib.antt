@@ -18,3 +18,8 @@ pub mod LeftLemmas
 pub mod StandsLemmas
 pub mod OnwardLemmas
 pub mod KeyMarksLemmas
+pub mod ByteGivesLemmas
+pub mod ByteKidsLemmas
+pub mod RunStepsLemmas
+pub mod TurnsLemmas
+pub mod TurnsGiveLemmas

@@ -5,6 +5,7 @@ pub mod SpotGives
 pub mod SpotKeeps
 pub mod MachineSteps
 pub mod SpotSteps
+pub mod ByteGives
 pub mod Onward
 pub mod TurnsLeft
 pub mod Stands

@@ -2,6 +2,7 @@
 //! node at each place at most once.
 #![tactic(auto)]
 
+mod byte_laws;
 mod frames;
 mod laws;
 mod machine;
@@ -9,6 +10,7 @@ mod marks;
 mod onward;
 mod packrat;
 
+pub use byte_laws::{one_byte_decides, turns_close, turns_give, turns_run};
 pub use frames::Frame;
 pub use laws::{
     asked_once, evaluated_once, implied_cells, one_view, one_width, steps_hold, steps_run,

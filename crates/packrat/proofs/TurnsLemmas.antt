@@ -1,0 +1,176 @@
+-- Steps over bytes that decide what is evaluated.
+-- Serves: one_byte_decides, turns_run, turns_close, turns_give
+use Rattle.std.proofs.Common.{◌≡◌, inl, inr, ℕ, zero, suc, ◌+◌, ◌<◌, ◌≤◌, max, Bool, true, false, List, [], ◌∷◌, ◌++◌}
+use Rattle.std.proofs.Common.{length, Some, refl, sym, subst, arith}
+use Rattle.std.specs.Prelude.{slice_get}
+use Rattle.pegread.specs.Pattern.{Rule}
+use Rattle.gramcheck.specs.ByByte.{ByByte, by_shape, ByShape, by_no_turn, AreTurns, turns_none, turns_more}
+use Rattle.gramcheck.specs.Nodes as node
+use Rattle.gramcheck.specs.Nodes.{Shape}
+use Rattle.gramcheck.specs.Sound.{IsRanked}
+use Rattle.gramcheck.specs.declared.by_byte.Verdict.{Verdict}
+use Rattle.gramcheck.specs.declared.by_byte.Verdict.TheVariants.{Takes, Stays, Fails}
+use Rattle.pegmatch.specs.KeptEvents.{SpellsSome}
+use Rattle.memo.specs.Parts.{IsIn}
+use Rattle.memo.specs.declared.spot.Spot.{Spot}
+use Rattle.memo.specs.declared.spot.Spot.TheVariants.{Pair, Tail}
+use Rattle.packrat.specs.ByteGives.{GivesBy, StoresItself, ComesWith, turn_at}
+use Rattle.packrat.specs.ByteGives.{turns_on, operands_on, turns_closed, AreFresh}
+use Rattle.packrat.specs.KeyMarks.{AreMarks}
+use Rattle.packrat.specs.MachineSteps.{Level, State, Asks, Works, store, step_begin, step_next, step_last}
+use Rattle.packrat.specs.MachineSteps.{Steps, steps_none, steps_more}
+use Rattle.packrat.specs.SpotSteps.{NextOf, next_first, next_second, SpotSteps}
+use Rattle.packrat.specs.Spots.{Kids, is_key}
+use Rattle.packrat.specs.View.{weight}
+use Rattle.packrat.proofs.ByteGivesLemmas.{gives_by, star_has}
+use Rattle.packrat.proofs.ByteKidsLemmas.{by_byte_itself, itself_runs}
+use Rattle.packrat.proofs.NextOfLemmas.{is_next}
+use Rattle.packrat.proofs.RunStepsLemmas.{run_goes, total_append, append_other, steps_then}
+use Rattle.packrat.proofs.GoodLemmas.{in_front}
+
+-- no pair of those places is that of another node, or of a later place
+not_among : (key : Bool) (m k a n q : ℕ) (stored : List Spot) → (m ≡ k → q < a + n → ⊥)
+    → (IsIn (Pair m q) stored → ⊥) → IsIn (Pair m q) (operands_on key k a n stored) → ⊥
+not_among key m k a zero q stored not free i = free i
+not_among true m k a (suc n) q stored not free i =
+    elim (in_front i) [
+      | inl e ↦ let one : m ≡ k = cc e in let two : q ≡ a + n = cc e in not one (omega arith)
+      | inr e ↦ not_among true m k a n q stored (λ is lt. not is (omega arith)) free e
+    ]
+not_among false m k a (suc n) q stored not free i =
+    not_among false m k a n q stored (λ is lt. not is (omega arith)) free i
+
+no_later : (a n : ℕ) → a + n < a + n → ⊥
+no_later a n lt = omega arith
+
+module _ (rules : List Rule) (start : ℕ) (nodes : List Shape) (bodies ranks x : List ℕ)
+    (sound : IsRanked rules start nodes bodies ranks) (root : ℕ) (is_root : slice_get bodies start ≡ Some root)
+    (marks : ℕ → Bool) (tails : ℕ → ℕ → Bool) (are : AreMarks start nodes bodies marks tails) where
+  abbrev Comes : State Spot → (List Spot → State Spot) → ℕ → Type 0
+  Comes s to c = ComesWith rules nodes bodies x marks tails s to c
+
+  -- a pair that its byte decides
+  pub decided_comes : (b n p c : ℕ) (v : Verdict) → ByByte nodes bodies marks tails b n v c → slice_get x p ≡ Some b
+      → SpellsSome rules nodes n → (levels : List (Level Spot)) (stored begun : List Spot)
+      → (marks n ≡ true → IsIn (Pair n p) stored → ⊥)
+      → Comes (Asks (Pair n p) (record { levels = levels; stored = stored; begun = begun }))
+      (λ front. Works (record { levels = levels; stored = store Spot (marks n) (Pair n p) stored;
+        begun = front ++ begun })) c
+  decided_comes b n p c v h here s levels stored begun fresh =
+      let itself = by_byte_itself rules start nodes bodies ranks x sound marks tails b p here h s in
+      let g = run_goes Spot (Kids rules nodes bodies x) (NextOf rules nodes bodies x) (is_key marks tails) weight
+      (is_next rules start nodes bodies ranks x false sound root is_root marks tails are).all
+      (itself_runs rules start nodes bodies ranks x sound marks tails (Pair n p) c stored fresh itself) levels begun in
+      record { front = g.front; is = g.count; steps = g.steps }
+
+  module _ (s k : ℕ) (at : slice_get nodes s ≡ Some (node.Star k)) (spelled : SpellsSome rules nodes s) where
+    abbrev Turned : ℕ → ℕ → ℕ → Type 0
+    Turned a n c = AreTurns nodes bodies x marks tails k a n c
+
+    abbrev St : State Spot → State Spot → Type 0
+    St u v = SpotSteps rules nodes bodies x marks tails u v
+
+    both_steps : {t u v : State Spot} → St t u → St u v → St t v
+    both_steps p q = steps_then Spot (Kids rules nodes bodies x) (NextOf rules nodes bodies x) (is_key marks tails) weight
+        (is_next rules start nodes bodies ranks x false sound root is_root marks tails are).all p q
+
+    operand_takes : (b p c : ℕ) → ByByte nodes bodies marks tails b k Takes c → slice_get x p ≡ Some b
+        → GivesBy rules nodes bodies x k p Takes
+    operand_takes b p c h here = gives_by rules start nodes bodies ranks x sound marks tails b p here h
+        (star_has rules start nodes bodies ranks x sound s k at spelled)
+
+    -- the kids of a turn
+    turn_kids : (p : ℕ) → GivesBy rules nodes bodies x k p Takes
+        → Kids rules nodes bodies x (Pair s p) (Pair k p ∷ (Pair s (p + 1) ∷ []))
+    turn_kids p g = (
+      node.Star k,
+      at,
+      inr (p + 1, record { events = []; looked = g.looked; gives = g.gives }, refl),
+    )
+
+    -- one turn
+    turn_comes : (b p d : ℕ) → ByByte nodes bodies marks tails b k Takes d → slice_get x p ≡ Some b
+        → (levels : List (Level Spot)) (stored begun : List Spot) → (marks s ≡ true → IsIn (Pair s p) stored → ⊥)
+        → (marks k ≡ true → IsIn (Pair k p) stored → ⊥)
+        → Comes (Asks (Pair s p) (record { levels = levels; stored = stored; begun = begun }))
+        (λ front. Asks (Pair s (p + 1)) (record { levels = turn_at s k p ∷ levels;
+          stored = store Spot (marks k) (Pair k p) stored; begun = front ++ begun })) (1 + d)
+    turn_comes b p d h here levels stored begun fresh free =
+        let has = star_has rules start nodes bodies ranks x sound s k at spelled in
+        let g = operand_takes b p d h here in
+        let r = decided_comes b k p d Takes h here has (record { at = Pair s p; asked = Pair k p ∷ [] } ∷ levels)
+        stored (Pair s p ∷ begun) free in
+        let is = r.is in
+        let sum = total_append Spot (Kids rules nodes bodies x) (NextOf rules nodes bodies x) (is_key marks tails) weight
+        (is_next rules start nodes bodies ranks x false sound root is_root marks tails are).all r.front
+        (Pair s p ∷ []) in
+        record {
+          front = r.front ++ Pair s p ∷ [];
+          is = omega (arith, is, sum);
+          steps = subst (λ v. St (Asks (Pair s p) (record { levels = levels; stored = stored; begun = begun }))
+              (Asks (Pair s (p + 1)) (record { levels = turn_at s k p ∷ levels;
+                stored = store Spot (marks k) (Pair k p) stored; begun = v })))
+              (sym (append_other r.front (Pair s p ∷ []) begun))
+              (steps_more (both_steps (steps_more (steps_more steps_none (step_begin fresh))
+              (step_next (next_first (node.Star k, at, refl)))) r.steps) (step_next (next_second (turn_kids p g))));
+        }
+
+    star_stays : (b c : ℕ) (v : Verdict) → ByByte nodes bodies marks tails b s v c → v ≡ Stays
+    star_stays b c v (by_shape {s = sh} there h) =
+        let same : sh ≡ node.Star k = cc (there, at) in
+        by v (subst (λ w. ByShape nodes bodies marks tails b s w v c) same h)
+      where
+        by : {c : ℕ} (v : Verdict) → ByShape nodes bodies marks tails b s (node.Star k) v c → v ≡ Stays
+        by v (by_no_turn h) = refl
+
+    not_operand : (b c : ℕ) → ByByte nodes bodies marks tails b k Takes c → s ≡ k → ⊥
+    not_operand b c h is = let e = star_stays b c Takes (subst (λ m. ByByte nodes bodies marks tails b m Takes c)
+        (sym is) h) in cc e
+
+    pub turns_come : {a n c : ℕ} → Turned a n c → (levels : List (Level Spot)) (stored begun : List Spot)
+        → AreFresh (marks s) s a n stored → AreFresh (marks k) k a n stored
+        → Comes (Asks (Pair s a) (record { levels = levels; stored = stored; begun = begun }))
+        (λ front. Asks (Pair s (a + n)) (record { levels = turns_on s k a n levels;
+          stored = operands_on (marks k) k a n stored; begun = front ++ begun })) c
+    turns_come {a = a} turns_none levels stored begun fresh free =
+        let same : a ≡ a + 0 = omega arith in
+        record {
+          front = [];
+          is = refl;
+          steps = subst (λ q. St (Asks (Pair s a) (record { levels = levels; stored = stored; begun = begun }))
+              (Asks (Pair s q) (record { levels = levels; stored = stored; begun = begun }))) same steps_none;
+        }
+    turns_come {a = a} (turns_more {n = n} {c = c} {d = d} {b = b} r here h) levels stored begun fresh free =
+        let before = turns_come r levels stored begun (λ i lt. fresh i (omega arith)) (λ i lt. free i (omega arith)) in
+        let turn = turn_comes b (a + n) d h here (turns_on s k a n levels) (operands_on (marks k) k a n stored)
+        (before.front ++ begun)
+        (λ t i. not_among (marks k) s k a n (a + n) stored (λ e lt. not_operand b d h e) (fresh n (omega arith) t) i)
+        (λ t i. not_among (marks k) k k a n (a + n) stored (λ e lt. no_later a n lt) (free n (omega arith) t) i) in
+        let one = before.is in
+        let two = turn.is in
+        let sum = total_append Spot (Kids rules nodes bodies x) (NextOf rules nodes bodies x) (is_key marks tails) weight
+        (is_next rules start nodes bodies ranks x false sound root is_root marks tails are).all turn.front
+        before.front in
+        let next : (a + n) + 1 ≡ a + suc n = omega arith in
+        record {
+          front = turn.front ++ before.front;
+          is = omega (arith, one, two, sum);
+          steps = subst (λ v. St (Asks (Pair s a) (record { levels = levels; stored = stored; begun = begun }))
+              (Asks (Pair s (a + suc n)) (record { levels = turns_on s k a (suc n) levels;
+                stored = operands_on (marks k) k a (suc n) stored; begun = v })))
+              (sym (append_other turn.front before.front begun))
+              (subst (λ q. St (Asks (Pair s a) (record { levels = levels; stored = stored; begun = begun }))
+              (Asks (Pair s q) (record { levels = turns_on s k a (suc n) levels;
+                stored = operands_on (marks k) k a (suc n) stored;
+                begun = turn.front ++ (before.front ++ begun) }))) next
+              (both_steps before.steps turn.steps));
+        }
+
+    -- the levels of the turns close
+    pub turns_end : {a n c : ℕ} → Turned a n c → (levels : List (Level Spot)) (stored begun : List Spot)
+        → St (Works (record { levels = turns_on s k a n levels; stored = stored; begun = begun }))
+        (Works (record { levels = levels; stored = turns_closed (marks s) s a n stored; begun = begun }))
+    turns_end turns_none levels stored begun = steps_none
+    turns_end {a = a} (turns_more {n = n} {d = d} {b = b} r here h) levels stored begun =
+        both_steps (steps_more steps_none (step_last (turn_kids (a + n) (operand_takes b (a + n) d h here))))
+        (turns_end r levels (store Spot (marks s) (Pair s (a + n)) stored) begun)

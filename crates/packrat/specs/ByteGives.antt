@@ -1,0 +1,79 @@
+-- What a pair gives where the byte at its place decides it, and what its evaluation stores and begins.
+use Rattle.std.specs.Prelude.{◌≡◌, ℕ, zero, suc, ◌+◌, ◌<◌, ◌≤◌, max, Bool, true, List, [], ◌∷◌, ◌++◌, slice_get, Some}
+use Rattle.pegread.specs.Pattern.{Rule}
+use Rattle.gramcheck.specs.ByByte.{ByByte}
+use Rattle.gramcheck.specs.Nodes.{Shape}
+use Rattle.gramcheck.specs.Outcome.{Event}
+use Rattle.gramcheck.specs.Outcome as outcome
+use Rattle.gramcheck.specs.declared.by_byte.Verdict.{Verdict}
+use Rattle.gramcheck.specs.declared.by_byte.Verdict.TheVariants.{Takes, Stays, Fails}
+use Rattle.memo.specs.declared.found.Found.{Found}
+use Rattle.memo.specs.declared.found.Found.TheVariants.{Failed, Took}
+use Rattle.pegmatch.specs.KeptEvents.{quiet_outcome}
+use Rattle.visits.specs.Visits.{NodeGives}
+use Rattle.memo.specs.Parts.{IsIn}
+use Rattle.memo.specs.Run.{RunAll, total}
+use Rattle.memo.specs.declared.spot.Spot.{Spot}
+use Rattle.memo.specs.declared.spot.Spot.TheVariants.{Pair}
+use Rattle.packrat.specs.MachineSteps.{Level, State, Asks, Works, store}
+use Rattle.packrat.specs.SpotSteps.{SpotSteps}
+use Rattle.packrat.specs.Spots.{Kids, is_key}
+use Rattle.packrat.specs.View.{weight}
+
+-- what is found at place p
+abbrev pub found_by : Verdict → ℕ → Found
+found_by Takes p = Took (p + 1)
+found_by Stays p = Took p
+found_by Fails p = Failed
+
+module _ (rules : List Rule) (nodes : List Shape) (bodies x : List ℕ) where
+  -- The node gives this at place p, without events, and looks at no byte behind that one.
+  pub record GivesBy (n p : ℕ) (v : Verdict) : Type 0 where
+    pub looked : ℕ
+    pub within : looked ≤ p + 1
+    pub gives : NodeGives rules nodes bodies x n p (quiet_outcome (found_by v p)) looked
+
+  -- A repetition takes what is between p and q, with these events, and looks no further than so.
+  pub record RepeatsTo (s p q : ℕ) (events : List Event) (most : ℕ) : Type 0 where
+    pub looked : ℕ
+    pub within : looked ≤ most
+    pub gives : NodeGives rules nodes bodies x s p (outcome.Takes q events) looked
+
+  module _ (marks : ℕ → Bool) (tails : ℕ → ℕ → Bool) where
+    -- The evaluation of a spot stores nothing but itself, whatever was stored, and begins so many pairs.
+    pub record StoresItself (a : Spot) (count : ℕ) : Type 0 where
+      pub kids : List Spot
+      pub are : Kids rules nodes bodies x a kids
+      pub below : ℕ
+      pub runs : (old : List Spot)
+          → RunAll Spot (Kids rules nodes bodies x) (is_key marks tails) weight old kids old below
+      pub whole : weight a + below ≡ count
+
+    -- The machine comes from one state to the other. Between them it begins those in front, which are so many pairs.
+    pub record ComesWith (s : State Spot) (to : List Spot → State Spot) (count : ℕ) : Type 0 where
+      pub front : List Spot
+      pub is : total Spot (Kids rules nodes bodies x) (is_key marks tails) weight front ≡ count
+      pub steps : SpotSteps rules nodes bodies x marks tails s (to front)
+
+-- A turn of repetition s of node k at place p, which waits for the rest.
+abbrev pub turn_at : ℕ → ℕ → ℕ → Level Spot
+turn_at s k p = record { at = Pair s p; asked = Pair k p ∷ (Pair s (p + 1) ∷ []) }
+
+-- n turns from place a on, the last one first, above other levels
+abbrev pub turns_on : ℕ → ℕ → ℕ → ℕ → List (Level Spot) → List (Level Spot)
+turns_on s k a zero levels = levels
+turns_on s k a (suc n) levels = turn_at s k (a + n) ∷ turns_on s k a n levels
+
+-- the pairs of node k at n places from a on, the last one first, in front of others where k is a key
+abbrev pub operands_on : Bool → ℕ → ℕ → ℕ → List Spot → List Spot
+operands_on key k a zero stored = stored
+operands_on key k a (suc n) stored = store Spot key (Pair k (a + n)) (operands_on key k a n stored)
+
+-- the pairs of repetition s at n places from a on, the first one first, likewise
+abbrev pub turns_closed : Bool → ℕ → ℕ → ℕ → List Spot → List Spot
+turns_closed key s a zero stored = stored
+turns_closed key s a (suc n) stored = turns_closed key s a n (store Spot key (Pair s (a + n)) stored)
+
+-- if the node is a key, none of its pairs at these n places is stored
+abbrev pub AreFresh : Bool → ℕ → ℕ → ℕ → List Spot → Type 0
+AreFresh key m a n stored = (i : ℕ) → i < n → key ≡ true → IsIn (Pair m (a + i)) stored → ⊥
