@@ -43,7 +43,7 @@ steps_last : (link : Link) (older : List Link) (head : ℕ) → head ≡ suc (le
 unfolding steps_at
 steps_last link older head is = rw (eq-eqb head (suc (length older)) is) refl
 
--- what is said of the heads that a link joins is said of the link
+-- What a link keeps depends on the heads that it joins alone.
 same_events : (f g : ℕ → List Kept) (head : ℕ) (link : Link) → IsBefore head link
     → ((h : ℕ) → h < head → f h ≡ g h) → events_of f link ≡ events_of g link
 same_events f g head (Opened place) b same = refl
