@@ -9,14 +9,15 @@ use Rattle.std.proofs.lemmas.List.{length-map, get_or_default}
 use Rattle.leastset.specs.Demands.{Demand, All, One, AreNeedsWithin, row_of}
 use Rattle.leastset.specs.Least.{Comes, by_all, by_one}
 use Rattle.gramcheck.specs.KeyLists.{marks_of, node_marks, tail_marks, tails_of}
-use Rattle.gramcheck.specs.KeyMarks.{AreMarks, IsPlain, IsLoop, Single, single_root, single_below, WayNames, WayNamesOnce}
+use Rattle.gramcheck.specs.KeyMarks.{AreMarks, IsPlain, IsLoop, Single, single_root, single_below, WayNames}
+use Rattle.gramcheck.specs.KeyMarks.{WayNamesOnce}
 use Rattle.gramcheck.specs.KeyMarks.{WayEntersOnce, DoesNotRepeat}
 use Rattle.gramcheck.specs.KeyNeeds.{GoesOnce, IsGoing, MayBePlain, MayBeLoop, AreKnown, Justifies, AreJustified}
 use Rattle.gramcheck.specs.KeyNeeds.{AreSingles, IsPassed, going_of}
 use Rattle.gramcheck.specs.Namers.{name_rows, names_of, NamesAt, IsBefore, IsNamerTo}
 use Rattle.gramcheck.specs.Nodes as node
 use Rattle.gramcheck.specs.Nodes.{Shape, Seq, Star}
-use Rattle.gramcheck.specs.Ways.{Way, Leaf, Body, Members, Alternatives, Turns, Operand, way_of}
+use Rattle.gramcheck.specs.NodeWays.{Way, Leaf, Body, Members, Alternatives, Turns, Operand, way_of}
 use Rattle.gramcheck.specs.Width.{AreWidths}
 use Rattle.gramcheck.specs.declared.keys.GoesOn.{GoesOn}
 use Rattle.gramcheck.specs.declared.namers.Namer.{Namer}
@@ -184,7 +185,8 @@ module _ (start : ℕ) (nodes : List Shape) (bodies : List ℕ) where
         → AreWidths nodes bodies widths
         → ((m : ℕ) → get_or keys m true ≡ false → IsPlain start nodes bodies m ⊎ IsLoop start nodes bodies m)
         → ((m : ℕ) → get_or behind m true ≡ false → IsPassed namers singles widths m)
-        → AreMarks start nodes bodies (node_marks (marks_of nodes keys behind)) (tail_marks (marks_of nodes keys behind))
+        → AreMarks start nodes bodies (node_marks (marks_of nodes keys behind))
+        (tail_marks (marks_of nodes keys behind))
     marks_are keys behind singles widths single wide plain passed = record {
       plain = plain;
       fixed = λ n i m ms at there free.
@@ -207,13 +209,14 @@ module _ (start : ℕ) (nodes : List Shape) (bodies : List ℕ) where
         rooted : (m : ℕ) → slice_get bodies start ≡ Some m → get_or keys m true ≡ false → ⊥
         rooted m at free = ⊎_elim (λ p. p.not_root at) (λ l. l.not_root at) (plain m free)
 
-        marked : (m : ℕ) → slice_get bodies start ≡ Some m → (b : Bool) → get_or keys m true ≡ b → get_or keys m true ≡ true
+        marked : (m : ℕ) → slice_get bodies start ≡ Some m → (b : Bool) → get_or keys m true ≡ b
+            → get_or keys m true ≡ true
         marked m at true is = is
         marked m at false is = absurd (rooted m at is)
 
 -- a node that is read is the namer that the list has there
-pub namer_read : (namers : List Namer) (m : ℕ) (x y : Namer) → true ≡ ltb m (length namers) → x ≡ get_or namers m x → x ≡ y
-    → get_or namers m Many ≡ y
+pub namer_read : (namers : List Namer) (m : ℕ) (x y : Namer) → true ≡ ltb m (length namers) → x ≡ get_or namers m x
+    → x ≡ y → get_or namers m Many ≡ y
 namer_read namers m x y low at is =
     get_or_default namers m Many x (ltb-true m (length namers) (sym low)) ∙ (sym at ∙ is)
 

@@ -2,7 +2,7 @@
 use Rattle.std.specs.Prelude.{◌≡◌, ◌⊎◌, ℕ, suc, Bool, true, false, List, slice_get, Some}
 use Rattle.gramcheck.specs.Nodes.{Shape, Seq, Star}
 use Rattle.gramcheck.specs.Width.{Width}
-use Rattle.gramcheck.specs.Ways.{Way, Leaf, Body, Members, Alternatives, Turns, Operand, way_of}
+use Rattle.gramcheck.specs.NodeWays.{Way, Leaf, Body, Members, Alternatives, Turns, Operand, way_of}
 
 module _ (start : ℕ) (nodes : List Shape) (bodies : List ℕ) where
   -- a node that goes on in this way names node m

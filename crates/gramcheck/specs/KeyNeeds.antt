@@ -5,7 +5,7 @@ use Rattle.leastset.specs.NumberMarks.{IsMarked}
 use Rattle.gramcheck.specs.KeyMarks.{Single}
 use Rattle.gramcheck.specs.Namers.{AreNamers, name_rows}
 use Rattle.gramcheck.specs.Nodes.{Shape, Star}
-use Rattle.gramcheck.specs.Ways.{Way, Leaf, Body, Members, Alternatives, Turns, Operand, way_of}
+use Rattle.gramcheck.specs.NodeWays.{Way, Leaf, Body, Members, Alternatives, Turns, Operand, way_of}
 use Rattle.gramcheck.specs.declared.keys.GoesOn.{GoesOn}
 use Rattle.gramcheck.specs.declared.keys.GoesOn.TheVariants.{Missing, Once, Again}
 use Rattle.gramcheck.specs.declared.namers.Namer.{Namer}

@@ -14,6 +14,7 @@ pub mod Loops
 pub mod Namers
 pub mod NodeCounts
 pub mod NodeRows
+pub mod NodeWays
 pub mod Nodes
 pub mod Nulls
 pub mod Numbering
@@ -26,6 +27,5 @@ pub mod Slots
 pub mod Sound
 pub mod Templates
 pub mod Uses
-pub mod Ways
 pub mod Width
 pub mod Within

@@ -1,5 +1,6 @@
 //! Which nodes, and which tails of sequences, may be asked for twice at a place.
-ghost use Rattle.std.specs.Prelude.{◌≡◌, ◌⊎◌, ◌↔◌, ◌<◌, ℕ, true, false, List, length, [], slice_get, get_or, Some, IfOk};
+ghost use Rattle.std.specs.Prelude.{◌≡◌, ◌⊎◌, ◌↔◌, ◌<◌, ℕ, true, false, List, length, [], slice_get, get_or, Some};
+ghost use Rattle.std.specs.Prelude.{IfOk};
 ghost use Rattle.std.specs.Prelude.{Contains};
 ghost use Rattle.leastset.specs.Demands.{demand_of, demands_of, row_of, One};
 ghost use Rattle.leastset.specs.NumberMarks.{IsMarked};
@@ -8,7 +9,7 @@ ghost use Rattle.gramcheck.specs.KeyMarks.{AreMarks, IsPlain, IsLoop};
 ghost use Rattle.gramcheck.specs.KeyNeeds.{IsGoing, GoesOnce, MayBePlain, MayBeLoop, AreKnown, Justifies, AreJustified};
 ghost use Rattle.gramcheck.specs.KeyNeeds.{AreSingles, IsPassed, going_of};
 ghost use Rattle.gramcheck.specs.Nodes.{Star, shape_of, shapes_of};
-ghost use Rattle.gramcheck.specs.Ways.{way_of};
+ghost use Rattle.gramcheck.specs.NodeWays.{way_of};
 
 use crate::namers::{Namer, namer_of, namers};
 use crate::node::Node;

@@ -8,5 +8,6 @@ loop-m-preserved c = record {
   count = search rules;
   passed = rw (c.in_ok-push.ensures).items (all_pushed
       (λ (m : ℕ) (b : Bool). b ≡ false → IsPassed c.args.namers.now c.args.singles.now c.args.widths.now m)
-      c.loop-m.behind.items _ true c.loop-m.m c.loop-m.invariant.count c.loop-m.invariant.passed c.is_key_behind.ensures);
+      c.loop-m.behind.items _ true c.loop-m.m c.loop-m.invariant.count c.loop-m.invariant.passed
+      c.is_key_behind.ensures);
 }

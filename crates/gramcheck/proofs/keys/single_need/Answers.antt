@@ -27,7 +27,8 @@ returns-then-goes_once-clause-within c = λ a h.
 pub returns-then-goes_once-clause-justified : goal.returns-then-goes_once-clause-justified
 returns-then-goes_once-clause-justified c = λ start bodies known a h single.
     let found = c.in-Some-By.ensures.lookup in
-    let by = o.namer_read c.args.namers.now c.args.m _ (By c.in-Some-By.namer) found.0 found.1 c.in-Some-By.field-0-is in
+    let by = o.namer_read c.args.namers.now c.args.m _ (By c.in-Some-By.namer) found.0 found.1 c.in-Some-By.field-0-is
+    in
     let is = only_one c.in-Some-By.namer a (rw c.from_ref.ensures.value at h) in
     o.below_single start (shapes_of c.args.nodes.now) bodies c.args.root c.args.namers.now known c.args.m
     c.in-Some-By.namer by c.if-m-root-2.true (c.may_be_plain.ensures c.if-may_be_plain.true)

@@ -5,7 +5,8 @@ use Rattle.gramcheck.proofs.NamersLemmas as o
 use Rattle.gramcheck.proofs.namers.add_names.Goals as goal
 
 pub loop-named-preserved : goal.loop-named-preserved
-loop-named-preserved c = λ rows there h. o.names_next rows c.args.n c.loop-named.named-index _ c.args.names.now _ _ there
+loop-named-preserved c = λ rows there h. o.names_next rows c.args.n c.loop-named.named-index _ c.args.names.now _ _
+    there
     (slice_get-get_or c.args.names.now c.loop-named.named-index 0 c.loop-named-test.true) c.add_name.ensures.named
     (c.loop-named.invariant rows there h)
 

@@ -50,7 +50,8 @@ returns-in-Seq c = λ nodes n at are. IfSome_then c.sum_width.result (c.sum_widt
     (subst (λ v. WidthSum nodes c.args.bodies.now v w) c.deref.ensures.value sum))
 
 pub returns-in-Choice : goal.returns-in-Choice
-returns-in-Choice c = λ nodes n at are. IfSome_then c.each_width.result (c.each_width.ensures nodes c.args.bodies.now are)
+returns-in-Choice c = λ nodes n at are. IfSome_then c.each_width.result (c.each_width.ensures nodes c.args.bodies.now
+    are)
     (λ w each. width_choice (at ∙ ap (λ v. Some (shape_of v)) c.in-Choice.is)
     (subst (λ v. WidthEach nodes c.args.bodies.now v w) c.deref-in-Choice.ensures.value each))
 
