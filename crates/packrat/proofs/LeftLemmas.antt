@@ -19,6 +19,7 @@ use Rattle.packrat.specs.Spots.{Way, Leaf, Body, Members, Alternatives, Turns, O
 use Rattle.packrat.specs.Spots.{Kids}
 use Rattle.packrat.specs.View.{weight}
 use Rattle.packrat.specs.declared.frames.Frame.{Frame}
+use Rattle.packrat.specs.Stands.{passed}
 use Rattle.packrat.specs.declared.machine.Turn.TheVariants.{Ask, Answer}
 
 member_counted : (shape : Shape) (i : ℕ) → HasMember shape i → i < members_of (way_of 0 shape)
@@ -127,7 +128,7 @@ module _ (g : Grammar) (x : List ℕ) where
   second_of_tail (Turns o s) n i p j k h = absurd h
   second_of_tail (Operand o) n i p j k h = absurd h
 
-  waits_some : (second : Bool) (a : Spot) → 1 ≤ wait_cost Most second a
+  waits_some : (last : Bool) (a : Spot) → 1 ≤ wait_cost Most last a
   waits_some true a = omega arith
   waits_some false (Pair n p) = omega arith
   waits_some false (Tail n i p) = omega arith
@@ -152,37 +153,60 @@ module _ (g : Grammar) (x : List ℕ) where
       subst (λ v. (4 * Most + 4) * (most_begun g x - v) + (0 + frames_cost Most fs)
       < (4 * Most + 4) * (most_begun g x - begun) + (4 * (Most - i) + frames_cost Most fs)) (sym same) (omega arith)
 
-  -- a spot that begins, and asks for its first
-  pub less_down : (a k : Spot) (fs : List Frame) (begun now : ℕ) → now ≡ begun + weight a → now ≤ most_begun g x
-      → IsWell g x a → F a k
-      → left g x (Ask k) (record { spot = a; second = false } ∷ fs) now < left g x (Ask a) fs begun
+  passed_costs : (key : Bool) (a : Spot) (fs : List Frame)
+      → frames_cost Most (passed key a fs) ≤ 1 + frames_cost Most fs
+  passed_costs true a fs = omega arith
+  passed_costs false a fs = omega arith
+
+  -- a spot that begins, and asks for its first; it has a frame that waits, or none
+  down : (a k : Spot) (fs gs : List Frame) (begun now : ℕ) → now ≡ begun + weight a → now ≤ most_begun g x
+      → IsWell g x a → F a k → frames_cost Most gs ≤ wait_cost Most false a + frames_cost Most fs
+      → left g x (Ask k) gs now < left g x (Ask a) fs begun
   unfolding left
-  less_down (Pair n p) k fs begun now is le w h =
+  down (Pair n p) k fs gs begun now is le w h few =
       let more = one_times (4 * Most + 4) (most_begun g x) begun (omega (arith, is, le)) in
       let cost = first_of_node (way_of n h.0) n p k h.2 in
-      subst (λ v. (4 * Most + 4) * (most_begun g x - v) + (ask_cost Most k + (3 + frames_cost Most fs))
-      < (4 * Most + 4) * (most_begun g x - begun) + (1 + frames_cost Most fs)) (sym is) (omega (arith, more, cost))
-  less_down (Tail n i p) k fs begun now is le w h =
+      subst (λ v. (4 * Most + 4) * (most_begun g x - v) + (ask_cost Most k + frames_cost Most gs)
+      < (4 * Most + 4) * (most_begun g x - begun) + (1 + frames_cost Most fs)) (sym is)
+      (omega (arith, more, cost, few))
+  down (Tail n i p) k fs gs begun now is le w h few =
       let lt = member_below n i p w in
       let same : now ≡ begun = omega (arith, is) in
       let cost = first_of_tail (way_of n h.0) n i p k h.2 in
-      subst (λ v. (4 * Most + 4) * (most_begun g x - v) + (ask_cost Most k + ((2 + 4 * (Most - suc i)) + frames_cost
-      Most fs))
+      subst (λ v. (4 * Most + 4) * (most_begun g x - v) + (ask_cost Most k + frames_cost Most gs)
       < (4 * Most + 4) * (most_begun g x - begun) + (4 * (Most - i) + frames_cost Most fs)) (sym same)
-      (omega (arith, cost, lt))
+      (omega (arith, cost, lt, few))
 
-  -- a frame that asks for its second
-  pub less_on : (a j k : Spot) (f : Found) (fs : List Frame) (begun : ℕ) → K a (j ∷ (k ∷ []))
-      → left g x (Ask k) (record { spot = a; second = true } ∷ fs) begun
-      < left g x (Answer f) (record { spot = a; second = false } ∷ fs) begun
+  pub less_down : (a k : Spot) (key : Bool) (fs : List Frame) (begun now : ℕ) → now ≡ begun + weight a
+      → now ≤ most_begun g x → IsWell g x a → F a k
+      → left g x (Ask k) (record { spot = a; key = key; last = false } ∷ fs) now < left g x (Ask a) fs begun
+  less_down a k key fs begun now is le w h =
+      down a k fs (record { spot = a; key = key; last = false } ∷ fs) begun now is le w h (omega arith)
+
+  pub less_pass : (a k : Spot) (key : Bool) (fs : List Frame) (begun now : ℕ) → now ≡ begun + weight a
+      → now ≤ most_begun g x → IsWell g x a → F a k
+      → left g x (Ask k) (passed key a fs) now < left g x (Ask a) fs begun
+  less_pass a k key fs begun now is le w h =
+      let some = waits_some false a in
+      let few = passed_costs key a fs in
+      down a k fs (passed key a fs) begun now is le w h (omega (arith, some, few))
+
+  -- a frame that asks for its last
+  pub less_on : (a j k : Spot) (f : Found) (key : Bool) (fs : List Frame) (begun : ℕ) → K a (j ∷ (k ∷ []))
+      → left g x (Ask k) (passed key a fs) begun
+      < left g x (Answer f) (record { spot = a; key = key; last = false } ∷ fs) begun
   unfolding left
-  less_on (Pair n p) j k f fs begun h =
-      let cost = second_of_node (way_of n h.0) n p j k h.2 in omega (arith, cost)
-  less_on (Tail n i p) j k f fs begun h =
-      let cost = second_of_tail (way_of n h.0) n i p j k h.2 in omega (arith, cost)
+  less_on (Pair n p) j k f key fs begun h =
+      let cost = second_of_node (way_of n h.0) n p j k h.2 in
+      let few = passed_costs key (Pair n p) fs in
+      omega (arith, cost, few)
+  less_on (Tail n i p) j k f key fs begun h =
+      let cost = second_of_tail (way_of n h.0) n i p j k h.2 in
+      let few = passed_costs key (Tail n i p) fs in
+      omega (arith, cost, few)
 
   -- a frame that ends
-  pub less_up : (a : Spot) (second : Bool) (e f : Found) (fs : List Frame) (begun : ℕ)
-      → left g x (Answer e) fs begun < left g x (Answer f) (record { spot = a; second = second } ∷ fs) begun
+  pub less_up : (l : Frame) (e f : Found) (fs : List Frame) (begun : ℕ)
+      → left g x (Answer e) fs begun < left g x (Answer f) (l ∷ fs) begun
   unfolding left
-  less_up a second e f fs begun = let some = waits_some second a in omega arith
+  less_up l e f fs begun = let some = waits_some l.last l.spot in omega arith

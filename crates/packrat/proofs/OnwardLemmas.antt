@@ -1,8 +1,9 @@
 -- How a spot goes on behind its first kid.
 -- Serves: Packrat::match_unit
-use Rattle.std.proofs.Common.{◌≡◌, inl, inr, ℕ, Bool, zero, suc, ◌<◌, ◌≤◌, List, [], ◌∷◌}
+use Rattle.std.proofs.Common.{◌≡◌, inl, inr, ℕ, Bool, true, false, zero, suc, ◌+◌, ◌<◌, ◌≤◌, List, [], ◌∷◌}
 use Rattle.std.proofs.Common.{length, get_or, Some, refl, sym, subst, ap, arith, Vec, Global}
-use Rattle.std.specs.Prelude.{slice_get}
+use Rattle.std.specs.Prelude.{slice_get, ◌==◌}
+use Rattle.std.proofs.lemmas.Bool.{eqb-true}
 use Rattle.std.proofs.lemmas.Option.{slice_get_past, slice_get-get_or}
 use Rattle.pegread.specs.PegViews.{rules_of}
 use Rattle.gramcheck.specs.Grammar.{Grammar, IsSoundGrammar}
@@ -23,10 +24,10 @@ use Rattle.memo.specs.declared.spot.Spot.TheVariants.{Pair, Tail}
 use Rattle.packrat.specs.Spots.{way_of}
 use Rattle.packrat.proofs.SpotGivesLemmas as L
 use Rattle.packrat.specs.declared.onward.Onward.{Onward}
-use Rattle.packrat.specs.declared.onward.Onward.TheVariants.{Gives, Leads}
+use Rattle.packrat.specs.declared.onward.Onward.TheVariants.{Gives, Passes}
 use Rattle.packrat.specs.declared.onward.Begun.{Begun}
 use Rattle.packrat.specs.declared.onward.Begun.TheVariants as begun
-use Rattle.packrat.specs.Onward.{IsWell, AfterOne, HasMember, AfterNone, IsLeaf}
+use Rattle.packrat.specs.Onward.{IsWell, AfterOne, HasMember, AfterNone, IsLeaf, led_to}
 use Rattle.packrat.specs.SpotSteps.{FirstBy, TailFirstBy, IsFirst}
 
 module _ (g : Grammar) (x : List ℕ) (more : Bool) (some : WasEnough x more 0) (sound : IsSoundGrammar g) where
@@ -88,6 +89,7 @@ module _ (g : Grammar) (x : List ℕ) (more : Bool) (some : WasEnough x more 0) 
         (λ is. let ne = h.1 is in omega (arith, ne, le))),
   )
   leaf_after n p tried (begun.Leads b) e k s d le h = absurd h
+  leaf_after n p tried (begun.Passes b) e k s d le h = absurd h
   leaf_after n p tried begun.Need e k s d le h = (
     h.0,
     (
@@ -107,12 +109,14 @@ module _ (g : Grammar) (x : List ℕ) (more : Bool) (some : WasEnough x more 0) 
         let nf = kid_fails k p j found by d is in
         ((node.Star k, at, inl (nf.fails, one_kid j (Pair k p) by)), L.star_ends g x more some sound n k p w.0 at nf)
 
-    pub star_more : (q : ℕ) → At n (node.Star k) → found ≡ Took q → After (Pair n p) found (Leads (Pair n q))
+    pub star_more : (q : ℕ) → At n (node.Star k) → found ≡ Took q → After (Pair n p) found (Passes (Pair n q))
     star_more q at is j h d =
         let by : j ≡ Pair k p = by_first n p (node.Star k) at j h in
         let nt = kid_takes k p q j found by d is in (
-          (node.Star k, at, inr (q, nt.takes, two_kids j (Pair k p) (Pair n q) by)),
-          (λ f e. L.star_goes g x more some sound n k p w.0 q f at nt e),
+          (
+            (node.Star k, at, inr (q, nt.takes, two_kids j (Pair k p) (Pair n q) by)),
+            (λ f e. L.star_goes g x more some sound n k p w.0 q f at nt e),
+          ),
           (w.0, ends_within k p q w.1 nt),
         )
 
@@ -125,12 +129,14 @@ module _ (g : Grammar) (x : List ℕ) (more : Bool) (some : WasEnough x more 0) 
               at nf,
         )
 
-    pub plus_more : (s q : ℕ) → At n (node.Plus k s) → found ≡ Took q → After (Pair n p) found (Leads (Pair s q))
+    pub plus_more : (s q : ℕ) → At n (node.Plus k s) → found ≡ Took q → After (Pair n p) found (Passes (Pair s q))
     plus_more s q at is j h d =
         let by : j ≡ Pair k p = by_first n p (node.Plus k s) at j h in
         let nt = kid_takes k p q j found by d is in (
-          (node.Plus k s, at, inr (q, nt.takes, two_kids j (Pair k p) (Pair s q) by)),
-          (λ f e. L.plus_goes g x more some sound n k p w.0 s q f at nt e),
+          (
+            (node.Plus k s, at, inr (q, nt.takes, two_kids j (Pair k p) (Pair s q) by)),
+            (λ f e. L.plus_goes g x more some sound n k p w.0 s q f at nt e),
+          ),
           (L.plus_repeats g x more some sound n k p w.0 s at, ends_within k p q w.1 nt),
         )
 
@@ -228,27 +234,29 @@ module _ (g : Grammar) (x : List ℕ) (more : Bool) (some : WasEnough x more 0) 
         )
 
     pub member_more : (q e : ℕ) → suc i ≡ e → At n (node.Seq ms) → found ≡ Took q → suc i < length ms
-        → After (Tail n i p) found (Leads (Tail n e q))
+        → After (Tail n i p) found (Passes (Tail n e q))
     member_more q e same at is lt j h d =
         let by = by_rest n i p (node.Seq ms) at j h in
         let nt = kid_takes by.0 p q j found by.2 d is in
-        subst (λ v. AfterOne g x more (Tail n i p) j (Leads (Tail n v q))) same (
+        subst (λ v. AfterOne g x more (Tail n i p) j (Passes (Tail n v q))) same (
           (
-            node.Seq ms,
-            at,
             (
-              by.0,
-              by.1,
-              inr (
-                get_or ms (suc i) 0,
-                q,
-                slice_get-get_or ms (suc i) 0 lt,
-                nt.takes,
-                two_kids j (Pair by.0 p) (Tail n (suc i) q) by.2,
+              node.Seq ms,
+              at,
+              (
+                by.0,
+                by.1,
+                inr (
+                  get_or ms (suc i) 0,
+                  q,
+                  slice_get-get_or ms (suc i) 0 lt,
+                  nt.takes,
+                  two_kids j (Pair by.0 p) (Tail n (suc i) q) by.2,
+                ),
               ),
             ),
+            (λ f c. L.rest_goes g x more some sound n i p by.0 ms by.1 q f at nt c),
           ),
-          (λ f c. L.rest_goes g x more some sound n i p by.0 ms by.1 q f at nt c),
           (w.0, ends_within by.0 p q w.1 nt, (node.Seq ms, at, lt)),
         )
 
@@ -269,27 +277,108 @@ module _ (g : Grammar) (x : List ℕ) (more : Bool) (some : WasEnough x more 0) 
         )
 
     pub other_more : (e : ℕ) → suc i ≡ e → At n (node.Choice ms) → found ≡ Failed → suc i < length ms
-        → After (Tail n i p) found (Leads (Tail n e p))
+        → After (Tail n i p) found (Passes (Tail n e p))
     other_more e same at is lt j h d =
         let by = by_rest n i p (node.Choice ms) at j h in
         let nf = kid_fails by.0 p j found by.2 d is in
-        subst (λ v. AfterOne g x more (Tail n i p) j (Leads (Tail n v p))) same (
+        subst (λ v. AfterOne g x more (Tail n i p) j (Passes (Tail n v p))) same (
           (
-            node.Choice ms,
-            at,
             (
-              by.0,
-              by.1,
-              inr (
-                get_or ms (suc i) 0,
-                slice_get-get_or ms (suc i) 0 lt,
-                nf.fails,
-                two_kids j (Pair by.0 p) (Tail n (suc i) p) by.2,
+              node.Choice ms,
+              at,
+              (
+                by.0,
+                by.1,
+                inr (
+                  get_or ms (suc i) 0,
+                  slice_get-get_or ms (suc i) 0 lt,
+                  nf.fails,
+                  two_kids j (Pair by.0 p) (Tail n (suc i) p) by.2,
+                ),
               ),
             ),
+            (λ f c. L.other_goes g x more some sound n i p by.0 ms by.1 f at nf c),
           ),
-          (λ f c. L.other_goes g x more some sound n i p by.0 ms by.1 f at nf c),
           (w.0, w.1, (node.Choice ms, at, lt)),
+        )
+
+  module _ (n i p m : ℕ) (ms : List ℕ) (there : slice_get ms i ≡ Some m) (w : IsWell g x (Tail n i p)) where
+    -- the last tail of a sequence or a choice gives what its member gives
+    seq_last : At n (node.Seq ms) → length ms ≤ suc i → (f : Found) → SG (Pair m p) f → SG (Tail n i p) f
+    seq_last at le Failed d = L.rest_fails_at g x more some sound n i p m ms there at
+        (L.fails_of g x more some sound m p Failed d refl)
+    seq_last at le (Took q) d = L.rest_last g x more some sound n i p m ms there q at
+        (L.takes_of g x more some sound m p q (Took q) d refl) le
+
+    choice_last : At n (node.Choice ms) → length ms ≤ suc i → (f : Found) → SG (Pair m p) f → SG (Tail n i p) f
+    choice_last at le Failed d = L.other_last g x more some sound n i p m ms there at
+        (L.fails_of g x more some sound m p Failed d refl) le
+    choice_last at le (Took q) d = L.other_takes g x more some sound n i p m ms there q at
+        (L.takes_of g x more some sound m p q (Took q) d refl)
+
+    -- how a tail begins: it leads to its member, and passes on what that gives if it is the last one
+    pub seq_led : (only : Bool) → only ≡ (i + 1 == length ms) → At n (node.Seq ms)
+        → AfterNone g x more (Tail n i p) (led_to only (Pair m p))
+    seq_led true is at =
+        let le : length ms ≤ suc i = let e = eqb-true (i + 1) (length ms) (sym is) in omega (arith, e) in (
+          (node.Seq ms, at, (m, there, refl)),
+          (L.member_spells_at g x more some sound n i m ms there w.0 (inl at), w.1),
+          (
+            (node.Seq ms, at, (m, there, inl (inr (slice_get_past ms (suc i) le), refl))),
+            seq_last at le,
+          ),
+        )
+    seq_led false is at = (
+      (node.Seq ms, at, (m, there, refl)),
+      (L.member_spells_at g x more some sound n i m ms there w.0 (inl at), w.1),
+    )
+
+    pub choice_led : (only : Bool) → only ≡ (i + 1 == length ms) → At n (node.Choice ms)
+        → AfterNone g x more (Tail n i p) (led_to only (Pair m p))
+    choice_led true is at =
+        let le : length ms ≤ suc i = let e = eqb-true (i + 1) (length ms) (sym is) in omega (arith, e) in (
+          (node.Choice ms, at, (m, there, refl)),
+          (L.member_spells_at g x more some sound n i m ms there w.0 (inr at), w.1),
+          (
+            (node.Choice ms, at, (m, there, inl (inr (slice_get_past ms (suc i) le), refl))),
+            choice_last at le,
+          ),
+        )
+    choice_led false is at = (
+      (node.Choice ms, at, (m, there, refl)),
+      (L.member_spells_at g x more some sound n i m ms there w.0 (inr at), w.1),
+    )
+
+  -- a name, and a sequence or a choice with members
+  pub name_led : (n p k m : ℕ) → IsWell g x (Pair n p) → At n (node.Name k) → slice_get g.bodies k ≡ Some m
+      → IsWell g x (Pair m p) → AfterNone g x more (Pair n p) (begun.Passes (Pair m p))
+  name_led n p k m w at body well = (
+    (node.Name k, at, (m, body, refl)),
+    well,
+    ((node.Name k, at, (m, body, refl)), (λ f d. L.name_spot g x more some sound n k m p f w.0 at body d)),
+  )
+
+  module _ (n p : ℕ) (ms : List ℕ) (w : IsWell g x (Pair n p)) (lt : 0 < length ms) where
+    pub members_led : At n (node.Seq ms) → AfterNone g x more (Pair n p) (begun.Passes (Tail n 0 p))
+    members_led at =
+        let there = slice_get-get_or ms 0 0 lt in (
+          (node.Seq ms, at, (get_or ms 0 0, there, refl)),
+          (w.0, w.1, (node.Seq ms, at, lt)),
+          (
+            (node.Seq ms, at, inr (get_or ms 0 0, there, refl)),
+            (λ f d. L.seq_spot g x more some sound n p ms f w.0 at d),
+          ),
+        )
+
+    pub alternatives_led : At n (node.Choice ms) → AfterNone g x more (Pair n p) (begun.Passes (Tail n 0 p))
+    alternatives_led at =
+        let there = slice_get-get_or ms 0 0 lt in (
+          (node.Choice ms, at, (get_or ms 0 0, there, refl)),
+          (w.0, w.1, (node.Choice ms, at, lt)),
+          (
+            (node.Choice ms, at, inr (get_or ms 0 0, there, refl)),
+            (λ f d. L.choice_spot g x more some sound n p ms f w.0 at d),
+          ),
         )
 
 pub some_of : (ms : List ℕ) → (length ms ≡ 0 → ⊥) → 0 < length ms

@@ -26,12 +26,13 @@ use Rattle.packrat.specs.declared.onward.Begun.TheVariants as start
 use Rattle.packrat.specs.declared.onward.Onward.TheVariants as way
 use Rattle.packrat.specs.declared.machine.Turn.{Turn}
 use Rattle.packrat.specs.declared.machine.Turn.TheVariants.{Ask, Answer}
-use Rattle.packrat.specs.MachineSteps.{State, Works, held, start_at, store, step_stored, step_begin}
+use Rattle.packrat.specs.MachineSteps.{Level, State, Asks, Works, held, start_at, store, step_stored, step_begin}
 use Rattle.packrat.specs.MachineSteps.{step_next, step_last}
 use Rattle.packrat.specs.MachineSteps.{steps_none, steps_more}
-use Rattle.packrat.specs.Onward.{IsWell, ReachesEnd, AfterNone, AfterOne}
+use Rattle.packrat.specs.Onward.{IsWell, ReachesEnd, AfterNone, AfterOne, PassesOn}
 use Rattle.packrat.specs.SpotSteps.{IsFirst, NextOf, next_first, next_second, SpotSteps}
-use Rattle.packrat.specs.Stands.{AreLevels, state_of, key_of, Stands, IsClosed, NeedsMore}
+use Rattle.packrat.specs.Stands.{AreLevels, levels_none, levels_frame, levels_passed, Waiting, state_of, key_of}
+use Rattle.packrat.specs.Stands.{Stands, IsClosed, NeedsMore, passed}
 use Rattle.packrat.proofs.BegunLemmas.{begun_at_places}
 use Rattle.packrat.proofs.MachineLemmas.{run_of_steps}
 
@@ -58,12 +59,37 @@ module _ (g : Grammar) (x : List ℕ) (more : Bool) (marks : Marks) where
   abbrev Key : Spot → Bool
   Key a = key_of marks a
 
+  abbrev L : Spot → List Frame → List (Level Spot) → Spot → Type 0
+  L root ls fs b = AreLevels g x more marks root ls fs b
+
+  -- the levels of the frames, of which the last one waits for spot b
+  abbrev AreTop : Spot → List Frame → List (Level Spot) → Spot → Type 0
+  AreTop root [] fs b = (fs ≡ []) × (b ≡ root)
+  AreTop root (l ∷ ls) fs b = (asked : List Spot) × (rest : List (Level Spot))
+      × (fs ≡ record { at = l.spot; asked = asked } ∷ rest) × IsWell g x l.spot × (l.key ≡ Key l.spot)
+      × Waiting g x more l.last l.spot asked b × L root ls rest l.spot
+
+  -- an answer for the last frame
+  record Ready (root : Spot) (ls : List Frame) (f : Found) (st bg : List Spot) : Type 0 where
+    pub levels : List (Level Spot)
+    pub spot : Spot
+    pub are : AreTop root ls levels spot
+    pub gives : SG spot f
+    pub steps : SS root (Works (record { levels = levels; stored = st; begun = bg }))
+
+  passed_levels : (root a b : Spot) (key : Bool) (asked : List Spot) (ls : List Frame) (fs : List (Level Spot))
+      → key ≡ Key a → IsWell g x a → PassesOn g x more a asked b → L root ls fs a
+      → L root (passed key a ls) (record { at = a; asked = asked } ∷ fs) b
+  passed_levels root a b true asked ls fs t w h r =
+      levels_frame {l = record { spot = a; key = true; last = true }} w t h r
+  passed_levels root a b false asked ls fs t w h r = levels_passed (sym t) h r
+
   pub stands_first : (root : Spot) (st : List Stored) → IsWell g x root → st ≡ [] → S root (Ask root) [] st 0
   stands_first root st well none = subst (λ v. S root (Ask root) [] v 0) (sym none) (record {
     levels = [];
     begun = [];
     spot = root;
-    are = (refl, refl);
+    are = levels_none;
     turns = (refl, well);
     right = record { right = λ s i. elim i [ ] };
     is = refl;
@@ -132,117 +158,167 @@ module _ (g : Grammar) (x : List ℕ) (more : Bool) (marks : Marks) where
             (steps_more steps_begin (step_last (subst (λ v. K v []) spot_here h.0)));
       }
 
-      pub stands_down : (k : Spot) → AfterNone g x more a (start.Leads k)
-          → S root (Ask k) (record { spot = a; second = false } ∷ ls) st (n + weight a)
-      stands_down k h = record {
-        levels = record { at = s.spot; asked = k ∷ [] } ∷ s.levels;
+      steps_first : (k : Spot) → F a k → SS root (Asks k (record {
+        levels = record { at = a; asked = k ∷ [] } ∷ s.levels;
+        stored = spots_of st;
+        begun = s.spot ∷ s.begun;
+      }))
+      steps_first k h = subst (λ v. SS root (Asks k (record {
+        levels = record { at = v; asked = k ∷ [] } ∷ s.levels;
+        stored = spots_of st;
+        begun = s.spot ∷ s.begun;
+      })))
+          (sym spot_here) (steps_more steps_begin (step_next (next_first (subst (λ v. F v k) spot_here h))))
+
+      above : L root ls s.levels a
+      above = subst (L root ls s.levels) (sym spot_here) s.are
+
+      pub stands_down : (k : Spot) (key : Bool) → key ≡ Key a → AfterNone g x more a (start.Leads k)
+          → S root (Ask k) (record { spot = a; key = key; last = false } ∷ ls) st (n + weight a)
+      stands_down k key t h = record {
+        levels = record { at = a; asked = k ∷ [] } ∷ s.levels;
         begun = s.spot ∷ s.begun;
         spot = k;
-        are = (
-          k ∷ [],
-          s.levels,
-          subst (λ v. record { at = s.spot; asked = k ∷ [] } ∷ s.levels ≡ record { at = v; asked = k ∷ [] } ∷ s.levels)
-              (sym spot_here) refl,
-          asked_well,
-          (h.0, refl),
-          subst (AreLevels g x more root ls s.levels) (sym spot_here) s.are,
-        );
+        are = levels_frame asked_well t (h.0, refl) above;
         turns = (refl, h.1);
         right = s.right;
         is = begin_counts;
-        steps = steps_more steps_begin (step_next (next_first (subst (λ v. F v k) spot_here h.0)));
+        steps = steps_first k h.0;
       }
 
+      -- a spot that passes on what its only one gives
+      pub stands_pass : (k : Spot) (key : Bool) → key ≡ Key a → AfterNone g x more a (start.Passes k)
+          → S root (Ask k) (passed key a ls) st (n + weight a)
+      stands_pass k key t h = record {
+        levels = record { at = a; asked = k ∷ [] } ∷ s.levels;
+        begun = s.spot ∷ s.begun;
+        spot = k;
+        are = passed_levels root a k key (k ∷ []) ls s.levels t asked_well h.2 above;
+        turns = (refl, h.1);
+        right = s.right;
+        is = begin_counts;
+        steps = steps_first k h.0;
+      }
+
+  -- the levels without a frame end at once where an answer comes
+  ready : {root b : Spot} {ls : List Frame} {fs : List (Level Spot)} {st bg : List Spot} → L root ls fs b
+      → (f : Found) → SG b f → SS root (Works (record { levels = fs; stored = st; begun = bg }))
+      → Ready root ls f st bg
+  ready {root = root} levels_none f d s =
+      record { levels = []; spot = root; are = (refl, refl); gives = d; steps = s }
+  ready (levels_frame {l = l} {b = b} {asked = asked} {fs = fs} w t h r) f d s = record {
+    levels = record { at = l.spot; asked = asked } ∷ fs;
+    spot = b;
+    are = (asked, fs, refl, w, t, h, r);
+    gives = d;
+    steps = s;
+  }
+  ready {root = root} {st = st} {bg = bg} (levels_passed {a = a} {fs = fs} t h r) f d s =
+      ready r f (h.1 f d) (subst (λ v. SS root (Works (record { levels = fs; stored = store Spot v a st; begun = bg }))) t
+      (steps_more s (step_last h.0)))
+
+  ready_of : (root : Spot) (f : Found) (ls : List Frame) (st : List Stored) (n : ℕ)
+      → (s : S root (Answer f) ls st n) → Ready root ls f (spots_of st) s.begun
+  ready_of root f ls st n s = ready s.are f s.turns s.steps
+
   module _ (root a : Spot) (f : Found) (ls : List Frame) (st : List Stored) (n : ℕ) where
-    pub level_well : (second : Bool) → S root (Answer f) (record { spot = a; second = second } ∷ ls) st n → IsWell g x a
-    level_well second s = s.are.3
-
-    at_levels : (second : Bool) → (s : S root (Answer f) (record { spot = a; second = second } ∷ ls) st n)
+    at_levels : (key last : Bool) (bg : List Spot)
+        → (r : Ready root (record { spot = a; key = key; last = last } ∷ ls) f (spots_of st) bg)
         → SS root (Works (record {
-          levels = record { at = a; asked = s.are.0 } ∷ s.are.1;
+          levels = record { at = a; asked = r.are.0 } ∷ r.are.1;
           stored = spots_of st;
-          begun = s.begun;
+          begun = bg;
         }))
-    at_levels second s =
-        subst (λ v. SS root (Works (record { levels = v; stored = spots_of st; begun = s.begun }))) s.are.2 s.steps
+    at_levels key last bg r =
+        subst (λ v. SS root (Works (record { levels = v; stored = spots_of st; begun = bg }))) r.are.2 r.steps
 
-    module _ (s : S root (Answer f) (record { spot = a; second = false } ∷ ls) st n) where
+    module _ (key : Bool) (s : S root (Answer f) (record { spot = a; key = key; last = false } ∷ ls) st n) where
+      r : Ready root (record { spot = a; key = key; last = false } ∷ ls) f (spots_of st) s.begun
+      r = ready_of root f (record { spot = a; key = key; last = false } ∷ ls) st n s
+
       as_first : SS root (Works (record {
-        levels = record { at = a; asked = s.spot ∷ [] } ∷ s.are.1;
+        levels = record { at = a; asked = r.spot ∷ [] } ∷ r.are.1;
         stored = spots_of st;
         begun = s.begun;
       }))
       as_first = subst (λ v. SS root (Works (record {
-        levels = record { at = a; asked = v } ∷ s.are.1;
+        levels = record { at = a; asked = v } ∷ r.are.1;
         stored = spots_of st;
         begun = s.begun;
       })))
-          s.are.4.1 (at_levels false s)
+          r.are.5.1 (at_levels key false s.begun r)
 
-      pub stands_on : (k : Spot) → ((j : Spot) → F a j → SG j f → AfterOne g x more a j (way.Leads k))
-          → S root (Ask k) (record { spot = a; second = true } ∷ ls) st n
+      -- the first one that the frame waited for, and what it gives
+      pub first_given : (j : Spot) × F a j × SG j f
+      first_given = (r.spot, r.are.5.0, r.gives)
+
+      pub stands_on : (k : Spot) → ((j : Spot) → F a j → SG j f → AfterOne g x more a j (way.Passes k))
+          → S root (Ask k) (passed key a ls) st n
       stands_on k after =
-          let h = after s.spot s.are.4.0 s.turns in
+          let h = after r.spot r.are.5.0 r.gives in
           record {
-            levels = record { at = a; asked = s.spot ∷ (k ∷ []) } ∷ s.are.1;
+            levels = record { at = a; asked = r.spot ∷ (k ∷ []) } ∷ r.are.1;
             begun = s.begun;
             spot = k;
-            are = (s.spot ∷ (k ∷ []), s.are.1, refl, s.are.3, (s.spot, refl, h.0, h.1), s.are.5);
-            turns = (refl, h.2);
+            are = passed_levels root a k key (r.spot ∷ (k ∷ [])) ls r.are.1 r.are.4 r.are.3 h.0 r.are.6;
+            turns = (refl, h.1);
             right = s.right;
             is = s.is;
-            steps = steps_more as_first (step_next (next_second h.0));
+            steps = steps_more as_first (step_next (next_second h.0.0));
           }
 
       pub stands_up : (e : Found) (new : List Stored) → ((j : Spot) → F a j → SG j f
           → AfterOne g x more a j (way.Gives e))
-          → C a e st new → S root (Answer e) ls new n
-      stands_up e new after c =
-          let h = after s.spot s.are.4.0 s.turns in
+          → (key ≡ Key a → C a e st new) → S root (Answer e) ls new n
+      stands_up e new after closed =
+          let h = after r.spot r.are.5.0 r.gives in
+          let c = closed r.are.4 in
           record {
-            levels = s.are.1;
+            levels = r.are.1;
             begun = s.begun;
             spot = a;
-            are = s.are.5;
+            are = r.are.6;
             turns = h.1;
             right = c.right h.1 s.right;
             is = s.is;
-            steps = subst (λ v. SS root (Works (record { levels = s.are.1; stored = v; begun = s.begun }))) (sym
+            steps = subst (λ v. SS root (Works (record { levels = r.are.1; stored = v; begun = s.begun }))) (sym
                 c.spots)
                 (steps_more as_first (step_last h.0));
           }
 
-    pub stands_last : (s : S root (Answer f) (record { spot = a; second = true } ∷ ls) st n) → (new : List Stored)
-        → C a f st new → S root (Answer f) ls new n
-    stands_last s new c =
-        let w = s.are.4 in
-        let gives = w.3 f s.turns in
+    pub stands_last : (key : Bool) → S root (Answer f) (record { spot = a; key = key; last = true } ∷ ls) st n
+        → (new : List Stored) → (key ≡ Key a → C a f st new) → S root (Answer f) ls new n
+    stands_last key s new closed =
+        let r = ready_of root f (record { spot = a; key = key; last = true } ∷ ls) st n s in
+        let c = closed r.are.4 in
+        let gives = r.are.5.1 f r.gives in
         record {
-          levels = s.are.1;
+          levels = r.are.1;
           begun = s.begun;
           spot = a;
-          are = s.are.5;
+          are = r.are.6;
           turns = gives;
           right = c.right gives s.right;
           is = s.is;
-          steps = subst (λ v. SS root (Works (record { levels = s.are.1; stored = v; begun = s.begun }))) (sym c.spots)
-              (steps_more (subst (λ v. SS root (Works (record {
-                levels = record { at = a; asked = v } ∷ s.are.1;
-                stored = spots_of st;
-                begun = s.begun;
-              }))) w.1
-              (at_levels true s)) (step_last w.2));
+          steps = subst (λ v. SS root (Works (record { levels = r.are.1; stored = v; begun = s.begun }))) (sym c.spots)
+              (steps_more (at_levels key true s.begun r) (step_last r.are.5.0));
         }
+
+    pub level_well : (key last : Bool) → S root (Answer f) (record { spot = a; key = key; last = last } ∷ ls) st n
+        → IsWell g x a
+    level_well key last s = (ready_of root f (record { spot = a; key = key; last = last } ∷ ls) st n s).are.3
 
   module _ (root : Spot) (f : Found) (st : List Stored) (n : ℕ) (s : S root (Answer f) [] st n) where
     pub end_gives : SG root f
-    end_gives = subst (λ v. SG v f) s.are.1 s.turns
+    end_gives = let r = ready_of root f [] st n s in subst (λ v. SG v f) r.are.1 r.gives
 
     pub end_runs : Run Spot K Key weight [] root (spots_of st) n
-    end_runs = subst (Run Spot K Key weight [] root (spots_of st)) s.is
+    end_runs =
+        let r = ready_of root f [] st n s in
+        subst (Run Spot K Key weight [] root (spots_of st)) s.is
         (run_of_steps Spot K (NextOf (rules_of g.rules) (shapes_of g.nodes) g.bodies x) Key weight root (spots_of st)
         s.begun
-        (subst (λ v. SS root (Works (record { levels = v; stored = spots_of st; begun = s.begun }))) s.are.0 s.steps))
+        (subst (λ v. SS root (Works (record { levels = v; stored = spots_of st; begun = s.begun }))) r.are.0 r.steps))
 
   pub closed_key : (a : Spot) (f : Found) (old new : List Stored) → Key a ≡ true
       → new ≡ record { spot = a; found = f } ∷ old

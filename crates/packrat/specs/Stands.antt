@@ -16,7 +16,7 @@ use Rattle.packrat.specs.declared.frames.Frame.{Frame}
 use Rattle.packrat.specs.declared.machine.Turn.{Turn}
 use Rattle.packrat.specs.declared.machine.Turn.TheVariants.{Ask, Answer}
 use Rattle.packrat.specs.MachineSteps.{Level, State, Asks, Works, start_at, store}
-use Rattle.packrat.specs.Onward.{IsWell, ReachesEnd}
+use Rattle.packrat.specs.Onward.{IsWell, ReachesEnd, PassesOn}
 use Rattle.packrat.specs.TurnsLeft.{left}
 use Rattle.packrat.specs.SpotSteps.{IsFirst, SpotSteps}
 
@@ -29,25 +29,27 @@ state_of (Ask a) b fs st bg = Asks b (record { levels = fs; stored = st; begun =
 state_of (Answer f) b fs st bg = Works (record { levels = fs; stored = st; begun = bg })
 
 module _ (g : Grammar) (x : List ℕ) (more : Bool) where
-  -- spot a, which has asked for these, waits for the last one of them
+  -- Spot a has asked for these, and waits for b: for its first; or for its last, and gives what that one gives.
   abbrev pub Waiting : Bool → Spot → List Spot → Spot → Type 0
   Waiting false a asked b = IsFirst (rules_of g.rules) (shapes_of g.nodes) g.bodies x a b × (asked ≡ b ∷ [])
-  Waiting true a asked b = (j : Spot) × (asked ≡ j ∷ (b ∷ []))
-      × Kids (rules_of g.rules) (shapes_of g.nodes) g.bodies x a (j ∷ (b ∷ []))
-      × ((f : Found) → SpotGives g x more b f → SpotGives g x more a f)
-
-  -- the frames as levels, which wait for spot b
-  abbrev pub AreLevels : Spot → List Frame → List (Level Spot) → Spot → Type 0
-  AreLevels root [] fs b = (fs ≡ []) × (b ≡ root)
-  AreLevels root (l ∷ ls) fs b = (asked : List Spot) × (rest : List (Level Spot))
-      × (fs ≡ record { at = l.spot; asked = asked } ∷ rest) × IsWell g x l.spot × Waiting l.second l.spot asked b
-      × AreLevels root ls rest l.spot
+  Waiting true a asked b = PassesOn g x more a asked b
 
   abbrev pub IsTurn : Turn → Spot → Type 0
   IsTurn (Ask a) b = (a ≡ b) × IsWell g x b
   IsTurn (Answer f) b = SpotGives g x more b f
 
   module _ (marks : Marks) where
+    -- The levels wait for spot b. A level has a frame, or is that of a spot that is no key and that only waits to give
+    -- what its last one gives.
+    pub data AreLevels (root : Spot) : List Frame → List (Level Spot) → Spot → Type 0 where
+      levels_none : AreLevels root [] [] root
+      levels_frame : {l : Frame} {b : Spot} {asked : List Spot} {ls : List Frame} {fs : List (Level Spot)}
+          → IsWell g x l.spot → l.key ≡ key_of marks l.spot → Waiting l.last l.spot asked b
+          → AreLevels root ls fs l.spot → AreLevels root (l ∷ ls) (record { at = l.spot; asked = asked } ∷ fs) b
+      levels_passed : {a b : Spot} {asked : List Spot} {ls : List Frame} {fs : List (Level Spot)}
+          → key_of marks a ≡ false → PassesOn g x more a asked b → AreLevels root ls fs a
+          → AreLevels root ls (record { at = a; asked = asked } ∷ fs) b
+
     abbrev pub Comes : Spot → State Spot → Type 0
     Comes root s = SpotSteps (rules_of g.rules) (shapes_of g.nodes) g.bodies x (node_marks marks) (tail_marks marks)
         (start_at Spot root) s
@@ -96,6 +98,11 @@ module _ (g : Grammar) (x : List ℕ) (more : Bool) where
     abbrev pub IsEvaluated : Spot → Option Found → List Frame → List Stored → ℕ → Type 0
     IsEvaluated root (Some f) frames stored count = IsEnded root f frames stored count
     IsEvaluated root None frames stored count = NeedsMore root
+
+-- the frames of a spot that passes on what its last one gives: a key has one
+abbrev pub passed : Bool → Spot → List Frame → List Frame
+passed true a ls = record { spot = a; key = true; last = true } ∷ ls
+passed false a ls = ls
 
 -- a turn lowers what is left, unless it needs more
 abbrev pub LowersLeft : Grammar → List ℕ → Option Turn → List Frame → ℕ → ℕ → Type 0

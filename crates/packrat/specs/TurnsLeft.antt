@@ -29,7 +29,7 @@ module _ (most : ℕ) where
   ask_cost (Pair n p) = 1
   ask_cost (Tail n i p) = 4 * (most - i)
 
-  -- likewise of a frame that waits for its second spot, or for its first
+  -- likewise of a frame that waits for its last spot, or for its first
   abbrev pub wait_cost : Bool → Spot → ℕ
   wait_cost true a = 1
   wait_cost false (Pair n p) = 3
@@ -37,7 +37,7 @@ module _ (most : ℕ) where
 
   abbrev pub frames_cost : List Frame → ℕ
   frames_cost [] = 0
-  frames_cost (f ∷ fs) = wait_cost f.second f.spot + frames_cost fs
+  frames_cost (f ∷ fs) = wait_cost f.last f.spot + frames_cost fs
 
   abbrev pub turn_cost : Turn → ℕ
   turn_cost (Ask a) = ask_cost a

@@ -7,11 +7,13 @@ use ruletable::Memory;
 use std::alloc::Global;
 use std::marker::Model;
 
-/// A spot that is begun and not ended: it waits for the first spot that it asked for, or for the second.
+/// A spot that is begun and not ended, and whether it is a key. It waits for the first spot that it asked for; or for
+/// the last one, and gives what that one gives.
 #[derive(Clone, Copy, PartialEq, Eq, Debug)]
 pub struct Frame {
     pub spot: Spot,
-    pub second: bool,
+    pub key: bool,
+    pub last: bool,
 }
 
 /// The frames, the last one first.

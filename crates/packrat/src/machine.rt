@@ -9,7 +9,7 @@ ghost use Rattle.packrat.specs.TurnsLeft.{left, most_begun};
 ghost use Rattle.packrat.specs.KeyMarks.{AreMarks};
 ghost use Rattle.packrat.specs.Onward.{IsWell};
 ghost use Rattle.packrat.specs.SpotGives.{node_marks, tail_marks};
-ghost use Rattle.packrat.specs.Stands.{Stands, IsClosed, AreOn, IsEvaluated, LowersLeft};
+ghost use Rattle.packrat.specs.Stands.{Stands, IsClosed, AreOn, IsEvaluated, LowersLeft, key_of, passed};
 ghost use Rattle.packrat.specs.View.{weight};
 ghost use Rattle.packrat.specs.declared.machine.Turn.{Turn};
 
@@ -52,25 +52,41 @@ fn counted(nodes: usize, length: usize, begun: u128, spot: Spot) -> u128
 }
 
 impl Machine {
-    // Ends a spot that gives this.
+    // Ends a spot that gives this: a key is stored.
     fn close(
         &mut self,
         peg: &SoundPeg,
         window: &[u8],
-        marks: &Marks,
         spot: Spot,
+        key: bool,
         found: Found,
     ) -> Result<(), Memory>
         requires well { IsWell peg.now window.now spot }
         requires rows { self.old.log.rows ≡ length peg.now.nodes }
         ensures rows { OnOk result (self.new.log.rows ≡ length peg.now.nodes) }
-        ensures closed { OnOk result ((more : Bool) → IsClosed peg.now window.now more marks.now spot found
-            self.old.log.stored self.new.log.stored) }
+        ensures closed { OnOk result ((more : Bool) (marks : Marks) → key ≡ key_of marks spot →
+            IsClosed peg.now window.now more marks spot found self.old.log.stored self.new.log.stored) }
         ensures frames { self.new.frames ≡ self.old.frames }
         ensures begun { self.new.begun ≡ self.old.begun }
     {
-        if marks.is_key(spot) {
+        if key {
             self.log.put(spot, found)?;
+        }
+        Ok(())
+    }
+
+    // Waits for the last spot that a spot asks for; only a key has a frame for that.
+    fn wait(&mut self, spot: Spot, key: bool) -> Result<(), Memory>
+        ensures frames { OnOk result (self.new.frames ≡ passed key spot self.old.frames) }
+        ensures log { self.new.log ≡ self.old.log }
+        ensures begun { self.new.begun ≡ self.old.begun }
+    {
+        if key {
+            self.frames.push(Frame {
+                spot,
+                key: true,
+                last: true,
+            })?;
         }
         Ok(())
     }
@@ -97,7 +113,8 @@ impl Machine {
             LowersLeft peg.now window.now turn self.new.frames self.new.begun
             (left peg.now window.now (Turn.Ask spot) self.old.frames self.old.begun)) }
     {
-        if marks.is_key(spot) {
+        let key = marks.is_key(spot);
+        if key {
             match self.log.get(spot) {
                 Some(found) => return Ok(Some(Turn::Answer(found))),
                 None => {}
@@ -106,14 +123,19 @@ impl Machine {
         self.begun = counted(peg.nodes(), window.len(), self.begun, spot);
         match begin(peg, window, more, spot) {
             Begun::Gives(found) => {
-                self.close(peg, window, marks, spot, found)?;
+                self.close(peg, window, spot, key, found)?;
                 Ok(Some(Turn::Answer(found)))
             }
             Begun::Leads(kid) => {
                 self.frames.push(Frame {
                     spot,
-                    second: false,
+                    key,
+                    last: false,
                 })?;
+                Ok(Some(Turn::Ask(kid)))
+            }
+            Begun::Passes(kid) => {
+                self.wait(spot, key)?;
                 Ok(Some(Turn::Ask(kid)))
             }
             Begun::Need => Ok(None),
@@ -125,7 +147,6 @@ impl Machine {
         &mut self,
         peg: &SoundPeg,
         window: &[u8],
-        marks: &Marks,
         frame: Frame,
         found: Found,
     ) -> Result<Turn, Memory>
@@ -133,30 +154,27 @@ impl Machine {
         requires well { IsWell peg.now window.now frame.spot }
         requires rows { self.old.log.rows ≡ length peg.now.nodes }
         ensures rows { OnOk result (self.new.log.rows ≡ length peg.now.nodes) }
-        ensures stands { (more : Bool) → WasEnough window.now more 0 → (root : Spot) →
-            Stands peg.now window.now more marks.now root (Turn.Answer found) (frame ∷ self.old.frames)
-            self.old.log.stored self.old.begun → IfOk result (λ turn. Stands peg.now window.now more marks.now root turn
+        ensures stands { (more : Bool) → WasEnough window.now more 0 → (marks : Marks) (root : Spot) →
+            Stands peg.now window.now more marks root (Turn.Answer found) (frame ∷ self.old.frames)
+            self.old.log.stored self.old.begun → IfOk result (λ turn. Stands peg.now window.now more marks root turn
             self.new.frames self.new.log.stored self.new.begun) }
-        ensures less { (more : Bool) → WasEnough window.now more 0 → (root : Spot) →
-            Stands peg.now window.now more marks.now root (Turn.Answer found)
+        ensures less { (more : Bool) → WasEnough window.now more 0 → (marks : Marks) (root : Spot) →
+            Stands peg.now window.now more marks root (Turn.Answer found)
             (frame ∷ self.old.frames) self.old.log.stored self.old.begun → IfOk result (λ turn.
             left peg.now window.now turn self.new.frames self.new.begun
             < left peg.now window.now (Turn.Answer found) (frame ∷ self.old.frames) self.old.begun) }
     {
-        if frame.second {
-            self.close(peg, window, marks, frame.spot, found)?;
+        if frame.last {
+            self.close(peg, window, frame.spot, frame.key, found)?;
             return Ok(Turn::Answer(found));
         }
         match go_on(peg, window, frame.spot, found) {
             Onward::Gives(given) => {
-                self.close(peg, window, marks, frame.spot, given)?;
+                self.close(peg, window, frame.spot, frame.key, given)?;
                 Ok(Turn::Answer(given))
             }
-            Onward::Leads(kid) => {
-                self.frames.push(Frame {
-                    spot: frame.spot,
-                    second: true,
-                })?;
+            Onward::Passes(kid) => {
+                self.wait(frame.spot, frame.key)?;
                 Ok(Turn::Ask(kid))
             }
         }
@@ -199,7 +217,7 @@ impl Machine {
                 },
                 Turn::Answer(found) => match self.frames.pop() {
                     None => return Ok(Some(found)),
-                    Some(frame) => turn = self.resume(peg, window, marks, frame, found)?,
+                    Some(frame) => turn = self.resume(peg, window, frame, found)?,
                 },
             }
         }

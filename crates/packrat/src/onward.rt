@@ -5,7 +5,7 @@ ghost use Rattle.gramcheck.specs.Grammar.{IsSoundGrammar};
 ghost use Rattle.gramcheck.specs.Nodes.{shapes_of};
 ghost use Rattle.pegmatch.specs.Answers.{WasEnough};
 ghost use Rattle.memo.specs.declared.spot.Spot.{Spot};
-ghost use Rattle.packrat.specs.Onward.{IsWell, AfterNone, AfterOne, IsLeaf};
+ghost use Rattle.packrat.specs.Onward.{IsWell, AfterNone, AfterOne, IsLeaf, led_to};
 ghost use Rattle.packrat.specs.SpotGives.{SpotGives};
 ghost use Rattle.packrat.specs.SpotSteps.{IsFirst};
 
@@ -14,20 +14,21 @@ use gramcheck::{Node, SoundPeg};
 use memo::Spot;
 use pegmatch::{Tried, match_any, match_bytes, match_set};
 
-/// How a spot begins: it gives something, or leads to another spot; or its comparison reaches the last byte of a window
-/// behind which there is more.
+/// How a spot begins: it gives something, or leads to another spot; or to its last one, and gives what that one gives;
+/// or its comparison reaches the last byte of a window behind which there is more.
 #[derive(Clone, Copy, PartialEq, Eq, Debug)]
 pub(crate) enum Begun {
     Gives(Found),
     Leads(Spot),
+    Passes(Spot),
     Need,
 }
 
-/// How a spot goes on: it gives something, or leads to another spot.
+/// How a spot goes on: it gives something, or leads to its last spot, and gives what that one gives.
 #[derive(Clone, Copy, PartialEq, Eq, Debug)]
 pub(crate) enum Onward {
     Gives(Found),
-    Leads(Spot),
+    Passes(Spot),
 }
 
 // Returns what was tried, if its comparison does not reach the last byte of a window behind which there is more.
@@ -53,7 +54,7 @@ fn begin_node(peg: &SoundPeg, window: &[u8], more: bool, node: usize, place: usi
         Node::Any => leaf(match_any(window, place), window.len(), more),
         Node::Bytes(bytes) => leaf(match_bytes(bytes, window, place), window.len(), more),
         Node::Set(set) => leaf(match_set(set, window, place), window.len(), more),
-        Node::Name(id) => Begun::Leads(Spot::Pair {
+        Node::Name(id) => Begun::Passes(Spot::Pair {
             node: peg.body_node(*id),
             place,
         }),
@@ -61,7 +62,7 @@ fn begin_node(peg: &SoundPeg, window: &[u8], more: bool, node: usize, place: usi
             if members.is_empty() {
                 Begun::Gives(Found::Took(place))
             } else {
-                Begun::Leads(Spot::Tail {
+                Begun::Passes(Spot::Tail {
                     node,
                     index: 0,
                     place,
@@ -72,7 +73,7 @@ fn begin_node(peg: &SoundPeg, window: &[u8], more: bool, node: usize, place: usi
             if alternatives.is_empty() {
                 Begun::Gives(Found::Failed)
             } else {
-                Begun::Leads(Spot::Tail {
+                Begun::Passes(Spot::Tail {
                     node,
                     index: 0,
                     place,
@@ -105,6 +106,17 @@ fn begin_node(peg: &SoundPeg, window: &[u8], more: bool, node: usize, place: usi
     }
 }
 
+// How a spot begins that leads to this one, and that passes on what this one gives if this is its only one.
+fn led(only: bool, kid: Spot) -> Begun
+    ensures { result ≡ led_to only kid }
+{
+    if only {
+        Begun::Passes(kid)
+    } else {
+        Begun::Leads(kid)
+    }
+}
+
 // How the tail of a node, from the member of that index on, begins at a place.
 fn begin_tail(
     peg: &SoundPeg,
@@ -120,14 +132,20 @@ fn begin_tail(
     ensures { AfterNone peg.now window.now more (Spot.Tail node index place) result }
 {
     match peg.node(node) {
-        Node::Seq(members) => Begun::Leads(Spot::Pair {
-            node: members[index],
-            place,
-        }),
-        Node::Choice(alternatives) => Begun::Leads(Spot::Pair {
-            node: alternatives[index],
-            place,
-        }),
+        Node::Seq(members) => led(
+            index + 1 == members.len(),
+            Spot::Pair {
+                node: members[index],
+                place,
+            },
+        ),
+        Node::Choice(alternatives) => led(
+            index + 1 == alternatives.len(),
+            Spot::Pair {
+                node: alternatives[index],
+                place,
+            },
+        ),
         _ => Begun::Gives(Found::Failed),
     }
 }
@@ -157,7 +175,7 @@ fn go_on_node(peg: &SoundPeg, window: &[u8], node: usize, place: usize, found: F
     match peg.node(node) {
         Node::Star(_) => match found {
             Found::Failed => Onward::Gives(Found::Took(place)),
-            Found::Took(end) => Onward::Leads(Spot::Pair { node, place: end }),
+            Found::Took(end) => Onward::Passes(Spot::Pair { node, place: end }),
         },
         Node::Not(_) => match found {
             Found::Failed => Onward::Gives(Found::Took(place)),
@@ -165,7 +183,7 @@ fn go_on_node(peg: &SoundPeg, window: &[u8], node: usize, place: usize, found: F
         },
         Node::Plus { operand: _, star } => match found {
             Found::Failed => Onward::Gives(Found::Failed),
-            Found::Took(end) => Onward::Leads(Spot::Pair {
+            Found::Took(end) => Onward::Passes(Spot::Pair {
                 node: *star,
                 place: end,
             }),
@@ -211,7 +229,7 @@ fn go_on_tail(
             Found::Failed => Onward::Gives(Found::Failed),
             Found::Took(end) => {
                 if index + 1 < members.len() {
-                    Onward::Leads(Spot::Tail {
+                    Onward::Passes(Spot::Tail {
                         node,
                         index: index + 1,
                         place: end,
@@ -225,7 +243,7 @@ fn go_on_tail(
             Found::Took(end) => Onward::Gives(Found::Took(end)),
             Found::Failed => {
                 if index + 1 < alternatives.len() {
-                    Onward::Leads(Spot::Tail {
+                    Onward::Passes(Spot::Tail {
                         node,
                         index: index + 1,
                         place,

@@ -84,4 +84,14 @@ turns-smaller c =
     (subst (λ v. left c.args.peg.now c.args.window.now c.in_ok-turn-in-Some-pop.turn c.resume.new.self.frames
     c.resume.new.self.begun < left c.args.peg.now c.args.window.now (Answer c.in-Answer.found) v
     c.turns.self.begun) (sym c.in-Some-pop.ensures.some)
-    (c.in_ok-turn-in-Some-pop.ensures.less c.args.more c.requires.some (Pair c.args.root 0) stands))
+    (c.in_ok-turn-in-Some-pop.ensures.less c.args.more c.requires.some c.args.marks.now (Pair c.args.root 0) stands))
+
+pub resume-requires-clause-well : goal.resume-requires-clause-well
+resume-requires-clause-well c =
+    let stands = L.stands_as c.args.peg.now c.args.window.now c.args.more c.args.marks.now (Pair c.args.root 0)
+    c.turns.turn (Answer c.in-Answer.found) c.turns.self.frames (c.in-Some-pop.frame ∷ c.pop.new.self)
+    c.turns.self.log.stored c.turns.self.log.stored c.turns.self.begun c.turns.self.begun c.in-Answer.is
+    c.in-Some-pop.ensures.some refl refl c.turns.invariant.stands in
+    L.level_well c.args.peg.now c.args.window.now c.args.more c.args.marks.now (Pair c.args.root 0)
+    c.in-Some-pop.frame.spot c.in-Answer.found c.pop.new.self c.turns.self.log.stored c.turns.self.begun
+    c.in-Some-pop.frame.key c.in-Some-pop.frame.last stands
