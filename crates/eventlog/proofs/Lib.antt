@@ -1,0 +1,2 @@
+pub mod KeptAtLemmas
+pub mod AreWaitingLemmas

@@ -1,0 +1,2 @@
+pub mod EventLog
+pub mod Waiting
