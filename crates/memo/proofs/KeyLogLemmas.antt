@@ -2,7 +2,7 @@
 -- Serves: KeyLog::get, KeyLog::put
 use Rattle.std.proofs.Common.{◌≡◌, ◌⊎◌, inl, inr, ℕ, zero, suc, ◌<◌, ◌≤◌, List, [], ◌∷◌, ◌++◌}
 use Rattle.std.proofs.Common.{length, refl, sym, ◌∙◌}
-use Rattle.cells.specs.declared.cell.Found.{Found}
+use Rattle.memo.specs.declared.key_log.Given.{Given}
 use Rattle.std.proofs.Common.{Option, None, IfSome, IfNone, false, nat_lt, get_or}
 use Rattle.std.proofs.lemmas.Bool.{ltb-false}
 use Rattle.std.proofs.lemmas.Option.{slice_get_within, get_or_from_slice_get}
@@ -141,13 +141,13 @@ module _ (unit : ℕ) where
       ]
 
 -- what a scan found
-pub some_found : (items : List Stored) (spot : Spot) (v : Option Found)
-    → IfSome v (λ f. (i : ℕ) × (slice_get items i ≡ Some (record { spot = spot; found = f })))
-    → IfSome v (λ f. IsIn (record { spot = spot; found = f }) (reverse items))
+pub some_found : (items : List Stored) (spot : Spot) (v : Option Given)
+    → IfSome v (λ f. (i : ℕ) × (slice_get items i ≡ Some (record { spot = spot; given = f })))
+    → IfSome v (λ f. IsIn (record { spot = spot; given = f }) (reverse items))
 some_found items spot None h = tt
-some_found items spot (Some f) h = in_reverse (in_of_get items h.0 (record { spot = spot; found = f }) h.1)
+some_found items spot (Some f) h = in_reverse (in_of_get items h.0 (record { spot = spot; given = f }) h.1)
 
-pub none_found : (items : List Stored) (spot : Spot) (v : Option Found)
+pub none_found : (items : List Stored) (spot : Spot) (v : Option Given)
     → IfNone v ((i : ℕ) (s : Stored) → slice_get items i ≡ Some s → s.spot ≡ spot → ⊥)
     → IfNone v (IsIn spot (spots_of (reverse items)) → ⊥)
 none_found items spot None h = none_stored items spot h

@@ -1,5 +1,5 @@
 //! The log of the keys.
-ghost use Rattle.std.specs.Prelude.{◌≡◌, ℕ, ◌<◌, ◌≤◌, List, [], ◌∷◌, length, slice_get, Some, IfSome, IfNone, OnOk};
+ghost use Rattle.std.specs.Prelude.{◌≡◌, ℕ, ◌<◌, ◌≤◌, List, [], ◌∷◌, length, slice_get, Some, IfSome, IfNone, OnOk, IfOk};
 ghost use Rattle.std.specs.Prelude.{OnErr};
 ghost use Rattle.memo.specs.KeyLog.{spots_of, row_of, place_of};
 ghost use Rattle.memo.specs.Parts.{IsIn};
@@ -11,11 +11,18 @@ use ruletable::Memory;
 use std::alloc::Global;
 use std::marker::Model;
 
+/// What was found for a key, and the head of its events in a log of events, or 0 if it has none.
+#[derive(Clone, Copy, PartialEq, Eq, Debug)]
+pub struct Given {
+    pub found: Found,
+    pub events: usize,
+}
+
 /// A key that was evaluated, with what was found.
 #[derive(Clone, Copy, PartialEq, Eq, Debug)]
 pub struct Stored {
     pub spot: Spot,
-    pub found: Found,
+    pub given: Given,
 }
 
 /// The high-water mark of a row: the unit in which a key of the row was stored last, and a place that no key of the row
@@ -52,13 +59,13 @@ impl Model for KeyLog {
 }
 
 // Returns what was found for a spot, if it is there.
-fn scan(stored: &[Stored], spot: Spot) -> Option<Found>
-    ensures some { IfSome result (λ f. (i : ℕ) × (slice_get stored.now i ≡ Some (record { spot = spot; found = f }))) }
+fn scan(stored: &[Stored], spot: Spot) -> Option<Given>
+    ensures some { IfSome result (λ g. (i : ℕ) × (slice_get stored.now i ≡ Some (record { spot = spot; given = g }))) }
     ensures none { IfNone result ((i : ℕ) (s : Stored) → slice_get stored.now i ≡ Some s → s.spot ≡ spot → ⊥) }
 {
     for kept in stored {
         if kept.spot == spot {
-            return Some(kept.found);
+            return Some(kept.given);
         }
     }
     None
@@ -134,8 +141,21 @@ impl KeyLog {
     }
 
     /// Returns what was found for a key, if it is stored.
-    pub fn get(&self, spot: Spot) -> Option<Found>
-        ensures some { IfSome result (λ f. IsIn (record { spot = spot; found = f }) self.now.stored) }
+    ///
+    /// # Errors
+    /// `Memory` if an allocation fails.
+    pub fn get(&mut self, spot: Spot) -> Result<Option<Given>, Memory>
+        ensures some { IfOk result (λ found. IfSome found (λ g. IsIn (record { spot = spot; given = g })
+            self.old.stored)) }
+        ensures none { IfOk result (λ found. IfNone found (IsIn spot (spots_of self.old.stored) → ⊥)) }
+        ensures same { self.new ≡ self.old }
+    {
+        Ok(self.seek(spot))
+    }
+
+    // Returns what was found for a key, if it is stored.
+    fn seek(&self, spot: Spot) -> Option<Given>
+        ensures some { IfSome result (λ g. IsIn (record { spot = spot; given = g }) self.now.stored) }
         ensures none { IfNone result (IsIn spot (spots_of self.now.stored) → ⊥) }
     {
         if spot.place() < self.mark(spot.row()) {
@@ -149,14 +169,14 @@ impl KeyLog {
     ///
     /// # Errors
     /// `Memory` if an allocation fails; nothing is stored.
-    pub fn put(&mut self, spot: Spot, found: Found) -> Result<(), Memory>
+    pub fn put(&mut self, spot: Spot, given: Given) -> Result<(), Memory>
         requires row { row_of spot < self.old.rows }
         requires place { place_of spot < 18446744073709551615 }
-        ensures stored { OnOk result (self.new.stored ≡ record { spot = spot; found = found } ∷ self.old.stored) }
+        ensures stored { OnOk result (self.new.stored ≡ record { spot = spot; given = given } ∷ self.old.stored) }
         ensures rows { self.new.rows ≡ self.old.rows }
         ensures unchanged { OnErr result (self.new.stored ≡ self.old.stored) }
     {
-        self.stored.push(Stored { spot, found })?;
+        self.stored.push(Stored { spot, given })?;
         let row = spot.row();
         let above = spot.place() + 1;
         self.high[row] = raised(self.high[row], self.unit, above);

@@ -4,5 +4,5 @@
 mod key_log;
 mod spot;
 
-pub use key_log::{KeyLog, Stored};
+pub use key_log::{Given, KeyLog, Stored};
 pub use spot::Spot;

@@ -1,6 +1,6 @@
 use Rattle.std.proofs.Common.{ap, arith, sym, ◌∙◌}
 use Rattle.memo.proofs.KeyLogLemmas.{none_above, some_found, none_found}
-use Rattle.memo.proofs.key_log.KeyLog.get.Goals as goal
+use Rattle.memo.proofs.key_log.KeyLog.seek.Goals as goal
 
 pub returns-then-place-mark-clause-some : goal.returns-then-place-mark-clause-some
 returns-then-place-mark-clause-some c =
