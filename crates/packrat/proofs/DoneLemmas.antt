@@ -22,12 +22,14 @@ use Rattle.desk.proofs.VisitsLemmas.{visits_within}
 use Rattle.memo.specs.KeyLog.{spots_of}
 use Rattle.memo.specs.declared.key_log.Stored.{Stored}
 use Rattle.memo.specs.declared.spot.Spot.TheVariants.{Pair, Tail}
-use Rattle.packrat.specs.Done.{Contents, IsDone, Answers, IsOutcome, unit_of_match, told}
+use Rattle.packrat.specs.Done.{Contents, IsDone, Answers, IsOutcome, unit_of, unit_of_match, told}
 use Rattle.packrat.specs.MachineSteps.{Works}
 use Rattle.packrat.specs.Onward.{ReachesEnd}
 use Rattle.packrat.specs.SpotSteps.{NextOf}
 use Rattle.packrat.specs.Spots.{Leads, Kids, is_key}
-use Rattle.packrat.specs.Stands.{IsEnded, NeedsMore, IsEvaluated}
+use Rattle.packrat.specs.Stands.{IsEnded, NeedsMore, IsEvaluated, GivenBy}
+use Rattle.eventlog.specs.declared.link.Link.{Link}
+use Rattle.memo.specs.declared.key_log.Given.{Given}
 use Rattle.cells.specs.declared.cell.Found.TheVariants as found
 use Rattle.pegmatch.specs.declared.matcher.Unit.{Unit as UnitAnswer}
 use Rattle.pegmatch.specs.declared.matcher.Unit.TheVariants as unit
@@ -86,26 +88,32 @@ module _ (g : Grammar) (x : List ℕ) (sound : IsSoundGrammar g) where
         let s = sound.spelled.spelled g.start root at in
         record {
           events = h.0;
-          looked = h.1;
+          looked = h.1.0;
           gives = record {
             body = s.0;
             rule = s.1;
-            gives = gives_as Rs Ns sound.defined g.bodies x s.2 h.2;
+            gives = gives_as Rs Ns sound.defined g.bodies x s.2 h.1.1;
           };
-          enough = h.3;
+          enough = h.1.2;
         }
 
-    unit_done : (f : Found) (frames : List Frame) (stored : List Stored) (begun : ℕ)
-        → IsEnded g x more marks (Pair root 0) f frames stored begun
+    found_given : {links : List Link} (a : Spot) (given : Given) → GivenBy g x more links a given
+        → SpotGives g x more a given.found
+    found_given a given h = (h.events, h.yields)
+
+    unit_done : (given : Given) (frames : List Frame) (stored : List Stored) (links : List Link) (begun : ℕ)
+        → IsEnded g x more marks (Pair root 0) given frames stored links begun
         → IsDone g x more marks (record { stored = stored; frames = frames; begun = begun })
-    unit_done f frames stored begun e =
+    unit_done given frames stored links begun e =
         let h = e.gives in
+        let y = h.yields in
         let b = evaluated_begins Rs g.start Ns g.bodies g.ranks x more sound root at
-        (node_marks marks) (tail_marks marks) are (outcome_of f h.0) h.1 h.2 h.3 (spots_of stored) begun e.runs in
+        (node_marks marks) (tail_marks marks) are (outcome_of given.found h.events) y.0 y.1 y.2 (spots_of stored) begun
+        e.runs in
         record {
           frames = e.empty;
           keys = unit_stores stored begun e.runs;
-          right = e.right;
+          right = record { right = λ s i. found_given s.spot s.given (e.keys.given s i) };
           cells = b.cells;
           seen = b.implied;
           every = b.every;
@@ -143,14 +151,26 @@ module _ (g : Grammar) (x : List ℕ) (sound : IsSoundGrammar g) where
             (h.0, (has.0, subst (λ k. StartGives g x has.0 k) far has.2))
         by (Tail m i p) is h = absurd h
 
-    pub outcome_of_match : (v : Option Found) (frames : List Frame) (stored : List Stored) (begun : ℕ)
-        → IsEvaluated g x more marks (Pair root 0) v frames stored begun
+    ended_as : (f : Found) (given : Given) (frames : List Frame) (stored : List Stored) (links : List Link) (begun : ℕ)
+        → given.found ≡ f → IsEnded g x more marks (Pair root 0) given frames stored links begun
+        → IsOutcome g x more marks (record { stored = stored; frames = frames; begun = begun }) (unit_of f begun)
+    ended_as found.Failed given frames stored links begun is h = (
+      unit_done given frames stored links begun h,
+      subst (Answers g x more) is (answers_of given.found (found_given (Pair root 0) given h.gives)),
+      refl,
+    )
+    ended_as (found.Took q) given frames stored links begun is h = (
+      unit_done given frames stored links begun h,
+      subst (Answers g x more) is (answers_of given.found (found_given (Pair root 0) given h.gives)),
+      refl,
+    )
+
+    pub outcome_of_match : (v : Option Given) (frames : List Frame) (stored : List Stored) (links : List Link)
+        (begun : ℕ) → IsEvaluated g x more marks (Pair root 0) v frames stored links begun
         → IsOutcome g x more marks (record { stored = stored; frames = frames; begun = begun }) (unit_of_match v begun)
-    outcome_of_match None frames stored begun h = need_given h
-    outcome_of_match (Some found.Failed) frames stored begun h =
-        (unit_done found.Failed frames stored begun h, answers_of found.Failed h.gives, refl)
-    outcome_of_match (Some (found.Took q)) frames stored begun h =
-        (unit_done (found.Took q) frames stored begun h, answers_of (found.Took q) h.gives, refl)
+    outcome_of_match None frames stored links begun h = need_given h
+    outcome_of_match (Some given) frames stored links begun h =
+        ended_as given.found given frames stored links begun refl h
 
     -- no more are begun than nodes at places up to where the start rule looked
     pub unit_bounded : (c : Contents) → IsDone g x more marks c → (o : Outcome) (k : ℕ) → StartGives g x o k

@@ -12,6 +12,7 @@ use Rattle.pegmatch.specs.declared.matcher.Unit.{Unit as UnitAnswer}
 use Rattle.pegmatch.specs.declared.matcher.Unit.TheVariants.{Took, Failed, Need}
 use Rattle.cells.specs.Entries.{Entry}
 use Rattle.memo.specs.KeyLog.{spots_of}
+use Rattle.memo.specs.declared.key_log.Given.{Given}
 use Rattle.memo.specs.declared.key_log.Stored.{Stored}
 use Rattle.packrat.specs.SpotGives.{node_marks, tail_marks, AreRight}
 use Rattle.packrat.specs.View.{AreStored, AreImplied, AreAll}
@@ -33,9 +34,9 @@ unit_of found.Failed begun = Failed begun
 unit_of (found.Took end) begun = Took end begun
 
 -- likewise for what a match found, or that the window is too short
-abbrev pub unit_of_match : Option Found → ℕ → UnitAnswer
+abbrev pub unit_of_match : Option Given → ℕ → UnitAnswer
 unit_of_match None begun = Need
-unit_of_match (Some f) begun = unit_of f begun
+unit_of_match (Some given) begun = unit_of given.found begun
 
 -- how many evaluations were begun, where that is told
 abbrev pub told : UnitAnswer → ℕ

@@ -11,8 +11,9 @@ use crate::frames::Frames;
 use crate::machine::Machine;
 use crate::marks::Marks;
 use cells::Found;
+use eventlog::EventLog;
 use gramcheck::SoundPeg;
-use memo::KeyLog;
+use memo::{Given, KeyLog};
 use pegmatch::Unit;
 use ruletable::Memory;
 use std::alloc::Global;
@@ -51,11 +52,11 @@ fn ended(found: Found, begun: u128) -> Unit
 }
 
 // Returns the answer for what a match found; `Need` where the window was too short.
-fn matched_unit(found: Option<Found>, begun: u128) -> Unit
-    ensures { result ≡ unit_of_match found begun }
+fn matched_unit(given: Option<Given>, begun: u128) -> Unit
+    ensures { result ≡ unit_of_match given begun }
 {
-    match found {
-        Some(found) => ended(found, begun),
+    match given {
+        Some(given) => ended(given.found, begun),
         None => Unit::Need,
     }
 }
@@ -68,6 +69,7 @@ impl Packrat {
         Packrat {
             machine: Machine {
                 log: KeyLog::new(alloc),
+                events: EventLog::new(alloc),
                 frames: Frames::new(alloc),
                 begun: 0,
             },
@@ -93,6 +95,7 @@ impl Packrat {
         ensures { self.new ≡ empty }
     {
         self.machine.log.clear();
+        self.machine.events.clear();
         self.machine.frames.clear();
         self.machine.begun = 0;
     }
@@ -129,7 +132,7 @@ impl Packrat {
         }
         let matched = self.machine.evaluate(peg, window, more, marks, root);
         match matched {
-            Ok(found) => Ok(matched_unit(found, self.machine.begun)),
+            Ok(given) => Ok(matched_unit(given, self.machine.begun)),
             Err(fault) => {
                 self.reset();
                 Err(fault)

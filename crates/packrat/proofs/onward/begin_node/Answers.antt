@@ -5,6 +5,8 @@ use Rattle.gramcheck.specs.Nodes as shape
 use Rattle.gramcheck.specs.Nodes.{spells_any, spells_bytes, spells_set}
 use Rattle.gramcheck.proofs.HasShapeLemmas.{has_shape}
 use Rattle.pegread.specs.PegViews.{rules_of}
+use Rattle.gramcheck.specs.Outcome.{Acted, Opened, Closed}
+use Rattle.pegmatch.specs.KeptEvents.{acted, opened, closed}
 use Rattle.pegmatch.proofs.NodeShapeLemmas.{shape_at}
 use Rattle.packrat.proofs.SpotGivesLemmas as L
 use Rattle.packrat.proofs.OnwardLemmas as M
@@ -137,30 +139,36 @@ returns-in-Plus c =
 
 pub returns-in-Act : goal.returns-in-Act
 returns-in-Act c =
-    let here = shape_at c.args.peg.now.nodes c.args.node _ (c.node.ensures ∙ ap Some c.in-Act.is) in
-    let well = c.requires.well in
-    ((
+    let here = shape_at c.args.peg.now.nodes c.args.node _ (c.node.ensures ∙ ap Some c.in-Act.is) in (
       (shape.Act _, here, refl),
-      L.act_spot c.args.peg.now c.args.window.now c.args.more c.requires.some c.requires.sound c.args.node
-          c.args.place _ here,
-    ))
+      (
+        Acted _,
+        acted here,
+        L.act_spot c.args.peg.now c.args.window.now c.args.more c.requires.some c.requires.sound c.args.node
+            c.args.place _ here,
+      ),
+    )
 
 pub returns-in-Open : goal.returns-in-Open
 returns-in-Open c =
-    let here = shape_at c.args.peg.now.nodes c.args.node _ (c.node.ensures ∙ ap Some c.in-Open.is) in
-    let well = c.requires.well in
-    ((
+    let here = shape_at c.args.peg.now.nodes c.args.node _ (c.node.ensures ∙ ap Some c.in-Open.is) in (
       (shape.Open, here, refl),
-      L.open_spot c.args.peg.now c.args.window.now c.args.more c.requires.some c.requires.sound c.args.node
-          c.args.place here,
-    ))
+      (
+        Opened c.args.place,
+        opened,
+        L.open_spot c.args.peg.now c.args.window.now c.args.more c.requires.some c.requires.sound c.args.node
+            c.args.place here,
+      ),
+    )
 
 pub returns-in-Close : goal.returns-in-Close
 returns-in-Close c =
-    let here = shape_at c.args.peg.now.nodes c.args.node _ (c.node.ensures ∙ ap Some c.in-Close.is) in
-    let well = c.requires.well in
-    ((
+    let here = shape_at c.args.peg.now.nodes c.args.node _ (c.node.ensures ∙ ap Some c.in-Close.is) in (
       (shape.Close, here, refl),
-      L.close_spot c.args.peg.now c.args.window.now c.args.more c.requires.some c.requires.sound c.args.node
-          c.args.place here,
-    ))
+      (
+        Closed c.args.place,
+        closed,
+        L.close_spot c.args.peg.now c.args.window.now c.args.more c.requires.some c.requires.sound c.args.node
+            c.args.place here,
+      ),
+    )

@@ -10,8 +10,9 @@ returns-in-Ok-clause-outcome c =
     let matched = rw c.in-Ok.is at c.evaluate-matched.ensures in
     rw c.matched_unit.ensures
     (outcome_of_match c.args.peg.now c.args.window.now c.start.ensures.sound c.args.more c.args.marks.now
-    c.requires.marks c.body_node-root.result at c.in-Ok.found c.evaluate-matched.new.self.frames
-    c.evaluate-matched.new.self.log.stored c.evaluate-matched.new.self.begun matched)
+    c.requires.marks c.body_node-root.result at c.in-Ok.given c.evaluate-matched.new.self.frames
+    c.evaluate-matched.new.self.log.stored c.evaluate-matched.new.self.events c.evaluate-matched.new.self.begun
+    matched)
 
 pub returns-in-Ok-clause-bounded : goal.returns-in-Ok-clause-bounded
 returns-in-Ok-clause-bounded c =
@@ -26,5 +27,6 @@ returns-in-Ok-clause-bounded c =
       frames = c.evaluate-matched.new.self.frames;
       begun = c.evaluate-matched.new.self.begun;
     }) _ (outcome_of_match c.args.peg.now c.args.window.now c.start.ensures.sound c.args.more c.args.marks.now
-    c.requires.marks c.body_node-root.result at c.in-Ok.found c.evaluate-matched.new.self.frames
-    c.evaluate-matched.new.self.log.stored c.evaluate-matched.new.self.begun matched))
+    c.requires.marks c.body_node-root.result at c.in-Ok.given c.evaluate-matched.new.self.frames
+    c.evaluate-matched.new.self.log.stored c.evaluate-matched.new.self.events c.evaluate-matched.new.self.begun
+    matched))
