@@ -1,12 +1,11 @@
 -- What the heads of a log keep.
 -- Serves: EventLog::mark, EventLog::join, EventLog::replay
-use Rattle.std.proofs.Common.{◌≡◌, ℕ, suc, ◌+◌, ◌<◌, ◌≤◌, Bool, true, false, ◌==◌, if◌then◌else◌, List, [], ◌∷◌}
-use Rattle.std.proofs.Common.{◌++◌, length, Result, Ok, Err, IfOk, OnOk, OnErr, refl, sym, ◌∙◌, ap, subst, arith}
+use Rattle.std.proofs.Common.{◌≡◌, ℕ, suc, ◌+◌, ◌≤◌, Bool, true, false, ◌==◌, List, [], ◌∷◌}
+use Rattle.std.proofs.Common.{length, Result, Ok, Err, IfOk, OnOk, OnErr, refl, sym, ◌∙◌, subst, arith}
 use Rattle.std.proofs.lemmas.Bool.{eqb-true, eq-eqb}
 use Rattle.pegmatch.specs.declared.event.Kept.{Kept}
 use Rattle.eventlog.specs.declared.link.Link.{Link}
-use Rattle.eventlog.specs.declared.link.Link.TheVariants.{Opened, Closed, Acted, Join}
-use Rattle.eventlog.specs.EventLog.{IsHead, events_of, kept_at, AreGrown, IsBefore, AreOrdered}
+use Rattle.eventlog.specs.EventLog.{events_of, kept_at, AreGrown}
 
 pub not_equal : (a b : ℕ) → (a ≡ b → ⊥) → (a == b) ≡ false
 not_equal a b other = by (a == b) refl

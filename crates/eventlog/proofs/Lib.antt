@@ -1,2 +1,3 @@
+pub mod TakeEventLemmas
 pub mod KeptAtLemmas
-pub mod AreWaitingLemmas
+pub mod NextWrittenLemmas

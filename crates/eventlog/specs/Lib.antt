@@ -1,2 +1,2 @@
 pub mod EventLog
-pub mod Waiting
+pub mod WaitingHeads

@@ -27,7 +27,7 @@ pub struct EventLog {
 }
 
 impl Model for EventLog {
-    ghost use Rattle.std.specs.Prelude.{reverse};
+    ghost use Rattle.std.specs.Prelude.{List, reverse};
     ghost use Rattle.eventlog.specs.EventLog.{AreOrdered};
     ghost use Rattle.eventlog.specs.declared.link.Link.{Link};
 

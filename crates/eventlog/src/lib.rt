@@ -4,7 +4,6 @@
 
 mod event_log;
 mod link;
-
 mod replay;
 mod take;
 mod waiting;

@@ -7,7 +7,7 @@ ghost use Rattle.pegmatch.specs.KeptEvents.{StandFor};
 ghost use Rattle.pegmatch.specs.Text.{text_of};
 ghost use Rattle.ruletable.specs.Writing.{Writes, Flags};
 ghost use Rattle.eventlog.specs.EventLog.{AreOrdered};
-ghost use Rattle.eventlog.specs.Waiting.{kept_at_all, AreWaiting};
+ghost use Rattle.eventlog.specs.WaitingHeads.{kept_at_all, AreWaiting};
 
 use crate::link::Link;
 use crate::take::take_event;

@@ -2,7 +2,7 @@
 ghost use Rattle.std.specs.Prelude.{◌≡◌, ℕ, ◌+◌, ◌≤◌, [], ◌++◌, length, reverse, slice_get, Some, IfSome, IfNone};
 ghost use Rattle.std.specs.Prelude.{option_to_list};
 ghost use Rattle.eventlog.specs.EventLog.{AreOrdered};
-ghost use Rattle.eventlog.specs.Waiting.{kept_at_all, AreWaiting};
+ghost use Rattle.eventlog.specs.WaitingHeads.{kept_at_all, AreWaiting};
 
 use crate::link::Link;
 use crate::waiting::Waiting;

@@ -14,7 +14,7 @@ pub(crate) struct Waiting {
 
 impl Model for Waiting {
     ghost use Rattle.std.specs.Prelude.{reverse, vec_capacity};
-    ghost use Rattle.eventlog.specs.Waiting.{WaitingView};
+    ghost use Rattle.eventlog.specs.WaitingHeads.{WaitingView};
 
     ghost Value = { WaitingView };
 

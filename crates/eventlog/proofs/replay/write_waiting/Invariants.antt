@@ -4,7 +4,7 @@ use Rattle.gramcheck.specs.Outcome.{Event}
 use Rattle.gramcheck.specs.Rising.{Rise}
 use Rattle.pegmatch.specs.KeptEvents.{StandFor}
 use Rattle.pegmatch.proofs.IsPrintedLemmas.{HaveWritten}
-use Rattle.eventlog.specs.Waiting.{kept_at_all, AreWaiting}
+use Rattle.eventlog.specs.WaitingHeads.{kept_at_all, AreWaiting}
 use Rattle.eventlog.proofs.replay.write_waiting.Given as goal
 
 abbrev pub invariant-events : goal.invariant-events

@@ -1,8 +1,8 @@
-use Rattle.std.proofs.Common.{◌≡◌, ◌+◌, ◌∷◌, length, reverse, refl, sym, arith, ◌∙◌}
+use Rattle.std.proofs.Common.{◌+◌, ◌∷◌, length, refl, sym, arith, ◌∙◌}
 use Rattle.eventlog.specs.declared.link.Link.TheVariants.{Opened, Closed, Acted, Join}
-use Rattle.eventlog.specs.Waiting.{AreWaiting}
-use Rattle.eventlog.proofs.AreWaitingLemmas.{at_head, waiting_within, waiting_next, waiting_join, waiting_fit}
-use Rattle.eventlog.proofs.AreWaitingLemmas.{none_told, one_told, join_told, none_fewer, join_fewer}
+use Rattle.eventlog.specs.WaitingHeads.{AreWaiting}
+use Rattle.eventlog.proofs.TakeEventLemmas.{at_head, waiting_within, waiting_next, waiting_join, waiting_fit}
+use Rattle.eventlog.proofs.TakeEventLemmas.{none_told, one_told, join_told, none_fewer, join_fewer}
 use Rattle.eventlog.proofs.take.take_event.Goals as goal
 
 pub link_at-requires : goal.link_at-requires
@@ -59,11 +59,12 @@ returns-in-Some-Acted-clause-waits c = waiting_next _ c.down.top c.down.waiting.
 
 pub push-requires : goal.push-requires
 push-requires c =
-    let h = at_head c.args.links.now c.down.top _ (Join c.in-Some-Join.first c.in-Some-Join.second)
-    c.requires.order c.in-Some-Join.field-0-is c.in-Some-Join.ensures.some in
-    let fit = waiting_fit (length c.args.links.now + 1) 0
-    (c.in-Some-Join.first ∷ c.in-Some-Join.second ∷ c.down.waiting.heads) (waiting_join _ c.down.top c.down.waiting.heads c.down.invariant.waits _ _ h.before.0
-    h.before.1) in
+    let h = at_head c.args.links.now c.down.top _ (Join c.in-Some-Join.first c.in-Some-Join.second) c.requires.order
+    c.in-Some-Join.field-0-is c.in-Some-Join.ensures.some in
+    let heads = c.in-Some-Join.first ∷ c.in-Some-Join.second ∷ c.down.waiting.heads in
+    let waits : AreWaiting (length c.args.links.now + 1) 0 heads =
+    waiting_join _ c.down.top c.down.waiting.heads c.down.invariant.waits _ _ h.before.0 h.before.1 in
+    let fit = waiting_fit (length c.args.links.now + 1) 0 heads waits in
     let room = c.requires.room in
     let same = c.down.invariant.room in
     omega (arith, fit, room, same)

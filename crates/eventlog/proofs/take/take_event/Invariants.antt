@@ -1,6 +1,6 @@
 use Rattle.std.proofs.Common.{◌≡◌, ◌+◌, ◌∷◌, length, reverse}
-use Rattle.eventlog.specs.Waiting.{kept_at_all, AreWaiting}
-use Rattle.eventlog.proofs.AreWaitingLemmas.{steps_at_all}
+use Rattle.eventlog.specs.WaitingHeads.{kept_at_all, AreWaiting}
+use Rattle.eventlog.proofs.TakeEventLemmas.{steps_at_all}
 use Rattle.eventlog.proofs.take.take_event.Given as goal
 
 abbrev pub invariant-down : goal.invariant-down

@@ -1,5 +1,4 @@
 use Rattle.std.proofs.Common.{append-nil, refl}
-use Rattle.eventlog.specs.EventLog.{kept_at}
 use Rattle.eventlog.proofs.KeptAtLemmas.{none_kept}
 use Rattle.eventlog.proofs.event_log.EventLog.join.Goals as goal
 

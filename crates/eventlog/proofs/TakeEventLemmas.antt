@@ -1,14 +1,15 @@
 -- Heads that wait, and the links that they lead to.
 -- Serves: EventLog::replay
 use Rattle.std.proofs.Common.{◌≡◌, ◌⊎◌, inl, inr, ℕ, zero, suc, ◌+◌, ◌<◌, ◌≤◌, ◌==◌, if◌then◌else◌, List, [], ◌∷◌}
-use Rattle.std.proofs.Common.{◌++◌, length, reverse, slice_get, Some, refl, sym, ◌∙◌, ap, subst, arith, append_assoc}
+use Rattle.std.proofs.Common.{◌++◌, length, reverse, slice_get, Some, refl, sym, ◌∙◌, ap, subst, arith}
+use Rattle.std.proofs.Common.{append_assoc, append-nil}
 use Rattle.std.proofs.lemmas.Bool.{eq-eqb}
 use Rattle.std.proofs.lemmas.List.{reverse-append, length-reverse, reverse-reverse}
 use Rattle.pegmatch.specs.declared.event.Kept.{Kept}
 use Rattle.eventlog.specs.declared.link.Link.{Link}
 use Rattle.eventlog.specs.declared.link.Link.TheVariants.{Opened, Closed, Acted, Join}
 use Rattle.eventlog.specs.EventLog.{events_of, kept_at, IsBefore, AreOrdered}
-use Rattle.eventlog.specs.Waiting.{kept_at_all, AreWaiting}
+use Rattle.eventlog.specs.WaitingHeads.{kept_at_all, AreWaiting}
 use Rattle.eventlog.proofs.KeptAtLemmas.{not_equal, none_kept, kept_before, kept_last}
 
 -- how many links a walk over the events of a link or a head goes through, and one for each head that has none
@@ -113,8 +114,8 @@ link_of_head (last ∷ older) i link o at =
     elim (in_front_or_last (reverse older) last link i (rw (reverse-append (last ∷ []) older) at at)) [
       | inl a ↦ one_more_link last link older (suc i) (link_of_head older i link o.1 a)
       | inr b ↦
-        let is : suc i ≡ suc (length older) = ap suc (b.0 ∙ length-reverse older) in
-        subst (λ v. IsLinkOf (last ∷ older) (suc i) v) b.1 (last_link last older (suc i) o.0 is)
+          let is : suc i ≡ suc (length older) = ap suc (b.0 ∙ length-reverse older) in
+          subst (λ v. IsLinkOf (last ∷ older) (suc i) v) b.1 (last_link last older (suc i) o.0 is)
     ]
 
 -- there is room for all that wait
@@ -189,3 +190,10 @@ module _ (links : List Link) (top : ℕ) (heads : List ℕ) where
       let one = h.steps in
       let rest : steps_at_all links others ≡ steps_at_all links (second ∷ heads) = ap (steps_at_all links) same in
       omega (arith, one, rest)
+
+-- the events of one head that waits
+pub one_waits : (items held links : List Link) (head : ℕ) (heads : List ℕ) → reverse items ≡ links → held ≡ items
+    → heads ≡ head ∷ [] → kept_at_all (reverse held) heads ≡ kept_at links head
+one_waits items held links head heads is same one =
+    ap (λ v. kept_at_all (reverse v) heads) same ∙ ap (kept_at_all (reverse items)) one
+    ∙ append-nil (kept_at (reverse items) head) ∙ ap (λ v. kept_at v head) is
