@@ -1,7 +1,8 @@
 //! Stored keys by hand.
+ghost use Rattle.std.specs.Prelude.{◌≡◌};
 
 use cells::Found;
-use memo::{KeyLog, Spot};
+use memo::{Given, KeyLog, Spot};
 use std::alloc::Global;
 use std::test::Fail;
 
@@ -24,15 +25,23 @@ fn kept(
     let spot = Spot::Pair { node, place };
     let mut log = KeyLog::new(alloc);
     log.begin_unit(2)?;
-    let before = log.get(spot);
+    let before = found_in(&mut log, spot)?;
     if spot.row() < 2 {
-        if spot.place() < 10 {
-            log.put(spot, found)?;
-        }
+        log.put(spot, Given { found, events: 0 })?;
     }
-    let stored = log.get(spot);
+    let stored = found_in(&mut log, spot)?;
     log.begin_unit(2)?;
-    Ok([before, stored, log.get(spot)])
+    Ok([before, stored, found_in(&mut log, spot)?])
+}
+
+// What is found for a key.
+fn found_in(log: &mut KeyLog, spot: Spot) -> Result<Option<Found>, Fail>
+    ensures { log.new ≡ log.old }
+{
+    match log.get(spot)? {
+        Some(given) => Ok(Some(given.found)),
+        None => Ok(None),
+    }
 }
 
 #[test]
@@ -43,6 +52,41 @@ fn a_unit_has_its_own_keys(rt: HostRuntime) -> Result<(), Fail> {
         assert!(rt; found[0] == None, "stored too early");
         assert!(rt; found[1] == Some(row.2), "not stored");
         assert!(rt; found[2] == None, "a key of the unit before");
+    }
+    Ok(())
+}
+
+// The places of a node at which something is found, where two entries hold places in a row and one holds a single key.
+static PLACES: [(usize, Option<Found>); 8] = [
+    (2, None),
+    (3, Some(Found::Took(9))),
+    (5, Some(Found::Took(9))),
+    (6, None),
+    (10, Some(Found::Took(11))),
+    (12, Some(Found::Took(13))),
+    (13, None),
+    (20, Some(Found::Failed)),
+];
+
+#[test]
+fn a_run_has_each_of_its_places(rt: HostRuntime) -> Result<(), Fail> {
+    let mut log = KeyLog::new(rt.alloc());
+    log.begin_unit(2)?;
+    let found = Found::Took(9);
+    log.put_run(1, 3, 5, Given { found, events: 4 })?;
+    log.put_steps(1, 10, 13)?;
+    let failed = Given {
+        found: Found::Failed,
+        events: 0,
+    };
+    log.put(Spot::Pair { node: 1, place: 20 }, failed)?;
+    assert!(rt; log.len() == 7, "a run has one key for each place");
+    for row in &PLACES {
+        let spot = Spot::Pair {
+            node: 1,
+            place: row.0,
+        };
+        assert!(rt; found_in(&mut log, spot)? == row.1, "place {}", row.0);
     }
     Ok(())
 }

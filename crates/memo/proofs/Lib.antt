@@ -1,3 +1,6 @@
 pub mod PartsLemmas
 pub mod RunLemmas
 pub mod KeyLogLemmas
+pub mod LogEntriesLemmas
+pub mod SpotLinksLemmas
+pub mod IsLogLemmas

@@ -1,5 +1,8 @@
 -- The log of the keys, as contracts see it.
-use Rattle.std.specs.Prelude.{◌≡◌, ℕ, ◌<◌, List, map, slice_get, Some}
+use Rattle.std.specs.Prelude.{◌≡◌, ℕ, zero, suc, ◌+◌, ◌-◌, ◌*◌, ◌<◌, ◌≤◌, ◌^◌, List, [], ◌∷◌, map, slice_get, Some}
+use Rattle.cells.specs.declared.cell.Found.TheVariants.{Took}
+use Rattle.memo.specs.Parts.{IsIn}
+use Rattle.memo.specs.declared.key_log.Given.{Given}
 use Rattle.memo.specs.declared.key_log.Mark.{Mark}
 use Rattle.memo.specs.declared.key_log.Stored.{Stored}
 use Rattle.memo.specs.declared.spot.Spot.{Spot}
@@ -21,7 +24,31 @@ abbrev pub place_of : Spot → ℕ
 place_of (Pair n p) = p
 place_of (Tail n i p) = p
 
--- A key that is stored stands below its row's mark, which is of this unit: at the mark or beyond none was stored.
+-- what stands at so many places from `from` on, the last place first
+abbrev pub spread : (ℕ → Stored) → ℕ → ℕ → List Stored
+spread at from zero = []
+spread at from (suc n) = at (from + n) ∷ spread at from n
+
+-- the pairs of a node at the places from `from` to `to`, all with the same outcome
+abbrev pub run_of : ℕ → ℕ → ℕ → Given → List Stored
+run_of node from to given = spread (λ p. record { spot = Pair node p; given = given }) from (to + 1 - from)
+
+-- the pairs of a node at the places from `from` on, short of `to`: each takes one place, with no events
+abbrev pub steps_of : ℕ → ℕ → ℕ → List Stored
+steps_of node from to =
+    spread (λ p. record { spot = Pair node p; given = record { found = Took (p + 1); events = 0 } }) from (to - from)
+
+-- a key's numbers are of 32 bits
+abbrev pub IsNarrow : Spot → Type 0
+IsNarrow (Pair n p) = (n < 2 ^ 32) × (p < 2 ^ 32)
+IsNarrow (Tail n i p) = (n < 2 ^ 32) × (i < 2 ^ 32) × (p < 2 ^ 32)
+
+-- the number of a key; that of the next place is one more
+abbrev pub number_of : Spot → ℕ
+number_of (Pair n p) = n * 668265263 + p
+number_of (Tail n i p) = n * 668265263 + (i + 1) * 374761393 + p
+
+-- A key that is stored stands at its row's mark or below, and the mark is of this unit: beyond it none was stored.
 abbrev pub AreBelow : ℕ → List Mark → List Stored → Type 0
-AreBelow unit high stored = (i : ℕ) (s : Stored) → slice_get stored i ≡ Some s →
-    (mark : Mark) × (slice_get high (row_of s.spot) ≡ Some mark) × (mark.unit ≡ unit) × (place_of s.spot < mark.above)
+AreBelow unit high stored = (s : Stored) → IsIn s stored →
+    (mark : Mark) × (slice_get high (row_of s.spot) ≡ Some mark) × (mark.unit ≡ unit) × (place_of s.spot ≤ mark.highest)

@@ -1,3 +1,5 @@
 pub mod Parts
 pub mod Run
 pub mod KeyLog
+pub mod SpotLinks
+pub mod LogEntries

@@ -1,10 +1,15 @@
 //! The log of the keys.
-ghost use Rattle.std.specs.Prelude.{◌≡◌, ℕ, ◌<◌, ◌≤◌, List, [], ◌∷◌, length, slice_get, Some, IfSome, IfNone, OnOk, IfOk};
-ghost use Rattle.std.specs.Prelude.{OnErr};
-ghost use Rattle.memo.specs.KeyLog.{spots_of, row_of, place_of};
+ghost use Rattle.std.specs.Prelude.{◌≡◌, ℕ, ◌+◌, ◌<◌, ◌≤◌, ◌^◌, [], ◌∷◌, ◌++◌, length, true, IfOk};
+ghost use Rattle.std.specs.Prelude.{IfSome, IfNone, OnOk, OnErr};
+ghost use Rattle.memo.specs.KeyLog.{spots_of, row_of, place_of, run_of, steps_of};
+ghost use Rattle.memo.specs.LogEntries.{node_of, pairs_of, AreCovered};
 ghost use Rattle.memo.specs.Parts.{IsIn};
+ghost use Rattle.memo.specs.SpotLinks.{Place};
 ghost use Rattle.memo.specs.declared.key_log.Stored.{Stored};
 
+use crate::entry::{Entry, given_in};
+use crate::index::Index;
+use crate::narrow::narrow;
 use crate::spot::Spot;
 use cells::Found;
 use ruletable::Memory;
@@ -25,12 +30,13 @@ pub struct Stored {
     pub given: Given,
 }
 
-/// The high-water mark of a row: the unit in which a key of the row was stored last, and a place that no key of the row
-/// reached in that unit.
-#[derive(Clone, Copy, PartialEq, Eq, Debug)]
+/// The high-water mark of a row: the unit in which a key of the row was stored last, the highest place of the row's
+/// keys in that unit, and the entry that was stored last.
+#[derive(Clone, Copy)]
 pub(crate) struct Mark {
     pub(crate) unit: u64,
-    pub(crate) above: usize,
+    pub(crate) highest: u32,
+    pub(crate) last: u32,
 }
 
 /// The keys that were evaluated in a unit, the last one first. Each row has a high-water mark: no key of the row at the
@@ -38,50 +44,78 @@ pub(crate) struct Mark {
 ///
 /// A mark has the number of its unit, and one of an earlier unit counts for nothing. So no mark is reset where a unit
 /// begins.
+///
+/// An entry takes 28 bytes, and has all places of a run. A key below its row's mark is sought in the row's last entry;
+/// then in an index, into which the entries come only where a key is sought there.
 #[derive(Drop)]
 pub struct KeyLog {
-    stored: Vec<Stored>,
+    entries: Vec<Entry>,
+    // so many keys are stored
+    count: usize,
     high: Vec<Mark>,
     unit: u64,
+    index: Index,
+    // the index has the keys of so many entries
+    covered: usize,
 }
 
 impl Model for KeyLog {
-    ghost use Rattle.std.specs.Prelude.{List, reverse, length};
-    ghost use Rattle.memo.specs.KeyLog.{AreBelow, LogView};
-    ghost use Rattle.memo.specs.declared.key_log.Mark.{Mark};
-    ghost use Rattle.memo.specs.declared.key_log.Stored.{Stored};
+    ghost use Rattle.std.specs.Prelude.{reverse, length};
+    ghost use Rattle.memo.specs.KeyLog.{LogView};
+    ghost use Rattle.memo.specs.LogEntries.{stored_of, IsLog};
 
     ghost Value = { LogView };
 
-    ghost view = { λ m. record { stored = reverse m.stored.items; rows = length m.high.items } };
+    ghost view = { λ m. record { stored = stored_of (reverse m.entries.items); rows = length m.high.items } };
 
-    ghost invariant = { λ m. AreBelow m.unit m.high.items m.stored.items };
+    ghost invariant = { λ m. IsLog m.unit m.count m.covered m.high.items m.entries.items m.index };
 }
 
-// Returns what was found for a spot, if it is there.
-fn scan(stored: &[Stored], spot: Spot) -> Option<Given>
-    ensures some { IfSome result (λ g. (i : ℕ) × (slice_get stored.now i ≡ Some (record { spot = spot; given = g }))) }
-    ensures none { IfNone result ((i : ℕ) (s : Stored) → slice_get stored.now i ≡ Some s → s.spot ≡ spot → ⊥) }
+// Returns a row's mark where an entry of the row is stored, whose keys stand at `highest` or below.
+#[inline(always)]
+fn raised(mark: Mark, unit: u64, highest: u32, last: u32) -> Mark
+    ensures unit { result.unit ≡ unit }
+    ensures highest { highest ≤ result.highest }
+    ensures kept { mark.unit ≡ unit → mark.highest ≤ result.highest }
 {
-    for kept in stored {
-        if kept.spot == spot {
-            return Some(kept.given);
+    if mark.unit == unit && highest <= mark.highest {
+        Mark { last, ..mark }
+    } else {
+        Mark {
+            unit,
+            highest,
+            last,
         }
     }
-    None
 }
 
-// Returns a row's mark where a key below `above` is stored in this unit.
-fn raised(mark: Mark, unit: u64, above: usize) -> Mark
-    ensures unit { result.unit ≡ unit }
-    ensures above { above ≤ result.above }
-    ensures kept { mark.unit ≡ unit → mark.above ≤ result.above }
+// Puts so many numbers of an entry into the index.
+fn put_numbers(index: &mut Index, first: usize, count: usize, entry: u32) -> Result<(), Memory>
+    requires room { first + count < 2 ^ 64 }
+    ensures kept { (p : Place) → IsIn p index.old → IsIn p index.new }
+    ensures numbers { OnOk result ((n : ℕ) → first ≤ n → n < first + count
+        → IsIn (record { number = n; entry = entry }) index.new) }
 {
-    if mark.unit == unit && above <= mark.above {
-        mark
-    } else {
-        Mark { unit, above }
+    for number in first..first + count {
+        index.push(number, entry)?;
     }
+    Ok(())
+}
+
+// Puts the keys of the entries into the index, from entry `covered` on.
+fn cover(index: &mut Index, entries: &[Entry], covered: &mut usize) -> Result<(), Memory>
+    requires covered { AreCovered covered.old entries.now index.old }
+    requires within { covered.old ≤ length entries.now }
+    ensures covered { AreCovered covered.new entries.now index.new }
+    ensures within { covered.new ≤ length entries.now }
+    ensures all { OnOk result (length entries.now ≤ covered.new) }
+{
+    for at in *covered..entries.len() {
+        let extent = entries[at].extent();
+        put_numbers(index, extent.first, extent.count, narrow(at)?)?;
+        *covered = at + 1;
+    }
+    Ok(())
 }
 
 impl KeyLog {
@@ -90,9 +124,12 @@ impl KeyLog {
         ensures { result ≡ record { stored = []; rows = 0 } }
     {
         KeyLog {
-            stored: Vec::new(alloc),
+            entries: Vec::new(alloc),
+            count: 0,
             high: Vec::new(alloc),
             unit: 0,
+            index: Index::new(alloc),
+            covered: 0,
         }
     }
 
@@ -100,17 +137,21 @@ impl KeyLog {
     pub fn len(&self) -> usize
         ensures { result ≡ length self.now.stored }
     {
-        self.stored.len()
+        self.count
     }
 
     /// Empties it; its rows stay.
     pub fn clear(&mut self)
         ensures { self.new ≡ record { stored = []; rows = self.old.rows } }
     {
-        self.stored.clear();
+        self.entries.clear();
+        self.count = 0;
+        self.unit = self.unit.wrapping_add(1);
+        self.index.clear();
+        self.covered = 0;
     }
 
-    /// Empties it for the next unit, and gives it so many rows. If it has as many, that takes no time for each row.
+    /// Empties it for the next unit, and gives it so many rows. If it has as many, that takes constant time.
     ///
     /// # Errors
     /// `Memory` if an allocation fails; it is empty.
@@ -118,20 +159,25 @@ impl KeyLog {
         ensures rows { OnOk result (self.new ≡ record { stored = []; rows = rows }) }
         ensures empty { self.new.stored ≡ [] }
     {
-        self.stored.clear();
-        self.unit = self.unit.wrapping_add(1);
-        self.high.resize(rows, Mark { unit: 0, above: 0 })?;
+        self.clear();
+        let none = Mark {
+            unit: 0,
+            highest: 0,
+            last: 0,
+        };
+        self.high.resize(rows, none)?;
         Ok(())
     }
 
     /// Returns the mark of a row: a place that no stored key of the row reaches.
+    #[inline(always)]
     pub fn mark(&self, row: usize) -> usize
         ensures { (s : Stored) → IsIn s self.now.stored → row_of s.spot ≡ row → place_of s.spot < result }
     {
         match self.high.get(row) {
             Some(mark) => {
                 if mark.unit == self.unit {
-                    mark.above
+                    mark.highest as usize + 1
                 } else {
                     0
                 }
@@ -140,46 +186,130 @@ impl KeyLog {
         }
     }
 
+    /// Tells whether a place is at the mark of a row or beyond: no key of the row is stored at the place or beyond.
+    #[inline(always)]
+    pub fn is_new(&self, row: usize, place: usize) -> bool
+        ensures { result ≡ true → (s : Stored) → IsIn s self.now.stored → row_of s.spot ≡ row → place_of s.spot
+            < place }
+    {
+        place >= self.mark(row)
+    }
+
     /// Returns what was found for a key, if it is stored.
     ///
     /// # Errors
     /// `Memory` if an allocation fails.
+    #[inline]
     pub fn get(&mut self, spot: Spot) -> Result<Option<Given>, Memory>
         ensures some { IfOk result (λ found. IfSome found (λ g. IsIn (record { spot = spot; given = g })
             self.old.stored)) }
         ensures none { IfOk result (λ found. IfNone found (IsIn spot (spots_of self.old.stored) → ⊥)) }
         ensures same { self.new ≡ self.old }
     {
-        Ok(self.seek(spot))
+        if self.is_new(spot.row(), spot.place()) {
+            return Ok(None);
+        }
+        match self.last_given(spot) {
+            Some(given) => Ok(Some(given)),
+            None => self.seek(spot),
+        }
     }
 
-    // Returns what was found for a key, if it is stored.
-    fn seek(&self, spot: Spot) -> Option<Given>
-        ensures some { IfSome result (λ g. IsIn (record { spot = spot; given = g }) self.now.stored) }
-        ensures none { IfNone result (IsIn spot (spots_of self.now.stored) → ⊥) }
+    // Returns what the last entry of its row says of a key, if it has the key.
+    fn last_given(&self, spot: Spot) -> Option<Given>
+        ensures { IfSome result (λ g. IsIn (record { spot = spot; given = g }) self.now.stored) }
     {
-        if spot.place() < self.mark(spot.row()) {
-            scan(&self.stored, spot)
-        } else {
-            None
+        match self.high.get(spot.row()) {
+            Some(mark) => given_in(&self.entries, mark.last, spot),
+            None => None,
+        }
+    }
+
+    // Returns what the index says of a key, with all entries in it.
+    #[inline(never)]
+    fn seek(&mut self, spot: Spot) -> Result<Option<Given>, Memory>
+        ensures some { IfOk result (λ found. IfSome found (λ g. IsIn (record { spot = spot; given = g })
+            self.old.stored)) }
+        ensures none { IfOk result (λ found. IfNone found (IsIn spot (spots_of self.old.stored) → ⊥)) }
+        ensures same { self.new ≡ self.old }
+    {
+        match spot.number() {
+            Ok(number) => {
+                cover(&mut self.index, &self.entries, &mut self.covered)?;
+                Ok(self.index.find(&self.entries, number, spot))
+            }
+            Err(_) => Ok(None),
         }
     }
 
     /// Stores what was found for a key, which must be of a row that the log has.
     ///
     /// # Errors
-    /// `Memory` if an allocation fails; nothing is stored.
+    /// `Memory` if an allocation fails, or if a number does not fit into 32 bits; nothing is stored.
+    #[inline]
     pub fn put(&mut self, spot: Spot, given: Given) -> Result<(), Memory>
         requires row { row_of spot < self.old.rows }
-        requires place { place_of spot < 18446744073709551615 }
         ensures stored { OnOk result (self.new.stored ≡ record { spot = spot; given = given } ∷ self.old.stored) }
         ensures rows { self.new.rows ≡ self.old.rows }
         ensures unchanged { OnErr result (self.new.stored ≡ self.old.stored) }
     {
-        self.stored.push(Stored { spot, given })?;
-        let row = spot.row();
-        let above = spot.place() + 1;
-        self.high[row] = raised(self.high[row], self.unit, above);
+        let entry = Entry::of_spot(spot, given)?;
+        self.store(entry)
+    }
+
+    /// Stores what was found for the pairs of a node at the places from `from` to `to`. The node must be a row that the
+    /// log has.
+    ///
+    /// # Errors
+    /// `Memory` if an allocation fails, or if a number does not fit into 32 bits; nothing is stored.
+    #[inline]
+    pub fn put_run(
+        &mut self,
+        node: usize,
+        from: usize,
+        to: usize,
+        given: Given,
+    ) -> Result<(), Memory>
+        requires row { node < self.old.rows }
+        ensures stored { OnOk result (self.new.stored ≡ run_of node from to given ++ self.old.stored) }
+        ensures rows { self.new.rows ≡ self.old.rows }
+        ensures unchanged { OnErr result (self.new.stored ≡ self.old.stored) }
+    {
+        let entry = Entry::run(node, from, to, given)?;
+        self.store(entry)
+    }
+
+    /// Stores that a node takes one byte, with no events, at each place from `from` on, short of `to`. The node must be
+    /// a row that the log has.
+    ///
+    /// # Errors
+    /// `Memory` if an allocation fails, or if a number does not fit into 32 bits; nothing is stored.
+    #[inline]
+    pub fn put_steps(&mut self, node: usize, from: usize, to: usize) -> Result<(), Memory>
+        requires row { node < self.old.rows }
+        ensures stored { OnOk result (self.new.stored ≡ steps_of node from to ++ self.old.stored) }
+        ensures rows { self.new.rows ≡ self.old.rows }
+        ensures unchanged { OnErr result (self.new.stored ≡ self.old.stored) }
+    {
+        let entry = Entry::steps(node, from, to)?;
+        self.store(entry)
+    }
+
+    // Stores an entry.
+    #[inline(always)]
+    fn store(&mut self, entry: Entry) -> Result<(), Memory>
+        requires row { node_of entry < self.old.rows }
+        ensures stored { OnOk result (self.new.stored ≡ pairs_of entry ++ self.old.stored) }
+        ensures rows { self.new.rows ≡ self.old.rows }
+        ensures unchanged { OnErr result (self.new.stored ≡ self.old.stored) }
+    {
+        let extent = entry.extent();
+        let last = narrow(self.entries.len())?;
+        let count = self.count.checked_add(extent.count).ok_or(Memory)?;
+        self.entries.push(entry)?;
+        self.count = count;
+        let row = extent.row;
+        self.high[row] = raised(self.high[row], self.unit, extent.highest, last);
         Ok(())
     }
 }

@@ -1,21 +1,21 @@
-use Rattle.std.proofs.Common.{ap, arith, sym, ◌∙◌}
-use Rattle.memo.proofs.KeyLogLemmas.{none_above, some_found, none_found}
+use Rattle.std.proofs.Common.{ap}
+use Rattle.memo.proofs.IsLogLemmas.{some_stored, none_stored, none_narrow}
 use Rattle.memo.proofs.key_log.KeyLog.seek.Goals as goal
 
-pub returns-then-place-mark-clause-some : goal.returns-then-place-mark-clause-some
-returns-then-place-mark-clause-some c =
-    let is = ap (λ v. v.stored) c.self.view_is in
-    let items = c.deref.ensures.value in
-    rw (← is) (some_found c.self.inside.stored.items c.args.spot c.scan.result (rw items at c.scan.ensures.some))
+pub returns-in_ok-cover-in-Ok-clause-some : goal.returns-in_ok-cover-in-Ok-clause-some
+returns-in_ok-cover-in-Ok-clause-some c =
+    rw (← ap (λ v. v.stored) c.self.view_is) (some_stored c.self.inside.entries.items c.args.spot c.find.result
+    (rw c.deref-in-Ok.ensures.value at c.find.ensures.some))
 
-pub returns-then-place-mark-clause-none : goal.returns-then-place-mark-clause-none
-returns-then-place-mark-clause-none c =
-    let is = ap (λ v. v.stored) c.self.view_is in
+pub returns-in_ok-cover-in-Ok-clause-none : goal.returns-in_ok-cover-in-Ok-clause-none
+returns-in_ok-cover-in-Ok-clause-none c =
     let items = c.deref.ensures.value in
-    rw (← is) (none_found c.self.inside.stored.items c.args.spot c.scan.result (rw items at c.scan.ensures.none))
+    rw (← ap (λ v. v.stored) c.self.view_is) (none_stored c.cover.new.covered c.self.inside.entries.items
+    c.cover.new.index c.args.spot c.in-Ok.number c.find.result (rw items at c.in_ok-cover-in-Ok.ensures.covered)
+    (rw items at c.in_ok-cover-in-Ok.ensures.all) c.in-Ok.ensures.same
+    (rw c.deref-in-Ok.ensures.value at c.find.ensures.none))
 
-pub returns-else-place-mark-clause-none : goal.returns-else-place-mark-clause-none
-returns-else-place-mark-clause-none c =
-    none_above c.args.self.now.stored c.args.spot c.mark.result
-    (λ s i is. c.mark.ensures s i (is ∙ sym c.row.ensures))
-    (let place = c.place.ensures in let le = c.if-place-mark.false in omega (arith, place, le))
+pub returns-in-Err-clause-none : goal.returns-in-Err-clause-none
+returns-in-Err-clause-none c =
+    rw (← ap (λ v. v.stored) c.self.view_is)
+    (none_narrow _ c.args.spot c.self.invariant.narrow c.in-Err.ensures.great)

@@ -1,0 +1,42 @@
+use Rattle.std.proofs.Common.{arith, ◌+◌, ◌-◌, refl, sym}
+use Rattle.memo.specs.LogEntries.{given_of}
+use Rattle.memo.proofs.LogEntriesLemmas.{pair_of_spread, pair_in_spread, step_at}
+use Rattle.memo.proofs.entry.Entry.given_for_pair.Goals.{else-node-own-via-then-node-own+then-place-from+else-place-to, else-node-own-via-then-node-own+else-place-from, else-node-own-via-else-node-own}
+use Rattle.memo.proofs.entry.Entry.given_for_pair.Goals.{else-node-own-2-via-then-node-own-2+then-place-from-2+else-place-to-2, else-node-own-2-via-then-node-own-2+else-place-from-2, else-node-own-2-via-else-node-own-2}
+use Rattle.memo.proofs.entry.Entry.given_for_pair.Goals as goal
+
+pub returns-then-place-to-clause-some : goal.returns-then-place-to-clause-some
+returns-then-place-to-clause-some c =
+    let k = c.in-Run in
+    rw k.is (pair_in_spread k.own (λ _. given_of k.outcome k.events) k.from (k.to + 1 - k.from) c.args.node c.args.place
+    c.given.result c.if-node-own.true c.if-place-from.true (omega arith) (sym c.given.ensures))
+
+pub returns-else-node-own-clause-none : goal.returns-else-node-own-clause-none
+returns-else-node-own-clause-none c i =
+    let k = c.in-Run in
+    let h = pair_of_spread k.own (λ _. given_of k.outcome k.events) k.from (k.to + 1 - k.from) c.args.node c.args.place
+    (rw k.is at i) in
+    elim c.else-node-own.branch [
+      | else-node-own-via-then-node-own+then-place-from+else-place-to w ↦
+          let f = w.if-place-to.false in let a = h.1 in let b = h.2 in omega arith
+      | else-node-own-via-then-node-own+else-place-from w ↦ let f = w.if-place-from.false in let a = h.1 in omega arith
+      | else-node-own-via-else-node-own w ↦ w.if-node-own.false h.0
+    ]
+
+pub returns-then-place-to-2-clause-some : goal.returns-then-place-to-2-clause-some
+returns-then-place-to-2-clause-some c =
+    let k = c.in-Steps in
+    rw k.is (pair_in_spread k.own step_at k.from (k.to - k.from) c.args.node c.args.place
+    (step_at c.args.place) c.if-node-own-2.true c.if-place-from-2.true (omega arith) refl)
+
+pub returns-else-node-own-2-clause-none : goal.returns-else-node-own-2-clause-none
+returns-else-node-own-2-clause-none c i =
+    let k = c.in-Steps in
+    let h = pair_of_spread k.own step_at k.from (k.to - k.from) c.args.node c.args.place (rw k.is at i) in
+    elim c.else-node-own-2.branch [
+      | else-node-own-2-via-then-node-own-2+then-place-from-2+else-place-to-2 w ↦
+          let f = w.if-place-to-2.false in let a = h.1 in let b = h.2 in omega arith
+      | else-node-own-2-via-then-node-own-2+else-place-from-2 w ↦
+          let f = w.if-place-from-2.false in let a = h.1 in omega arith
+      | else-node-own-2-via-else-node-own-2 w ↦ w.if-node-own-2.false h.0
+    ]

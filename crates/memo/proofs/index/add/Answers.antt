@@ -1,0 +1,12 @@
+use Rattle.std.proofs.Common.{arith}
+use Rattle.memo.proofs.SpotLinksLemmas.{linked_added}
+use Rattle.memo.proofs.index.add.Goals as goal
+
+pub returns-clause-linked : goal.returns-clause-linked
+returns-clause-linked c =
+    let next = c.in_ok-next.ensures.same.0 in
+    let len = c.len.ensures in
+    let fits = c.args.cells.now.ok.0 in
+    rw c.in_ok-push.ensures.items
+    (linked_added c.args.cells.now.items c.args.heads.now _ c.bucket-at.result c.in_ok-next.next c.requires.linked
+    (rw c.deref.ensures.value at c.last_of-link.ensures) c.bucket-at.ensures.value (omega arith))

@@ -1,0 +1,12 @@
+use Rattle.std.proofs.Common.{◌∙◌, arith, length, refl, sym}
+use Rattle.std.proofs.Math.Seq.{map-set_same}
+use Rattle.memo.specs.SpotLinks.{place_of_cell}
+use Rattle.memo.proofs.SpotLinksLemmas.{linked_set}
+use Rattle.memo.proofs.index.relink.Goals as goal
+
+pub loop-i-preserved : goal.loop-i-preserved
+loop-i-preserved c = record {
+  linked = linked_set (length c.loop-i.heads) c.loop-i.cells c.loop-i.heads c.loop-i.i c.bucket-at.result _
+      (omega arith) refl c.loop-i.invariant.linked c.last_of-link.ensures (sym c.bucket-at.ensures.value);
+  same = map-set_same place_of_cell c.loop-i.cells c.loop-i.i _ _ refl ∙ c.loop-i.invariant.same;
+}

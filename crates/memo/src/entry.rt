@@ -1,0 +1,300 @@
+//! The entries of the log, in numbers of 32 bits.
+ghost use Rattle.std.specs.Prelude.{◌≡◌, ◌+◌, ◌<◌, ◌≤◌, ◌^◌, [], ◌∷◌, IfOk, IfSome, IfNone, slice_get, Some};
+ghost use Rattle.memo.specs.KeyLog.{spots_of, row_of, run_of, steps_of};
+ghost use Rattle.memo.specs.LogEntries.{found_of, given_of, node_of, pairs_of, IsExtent};
+ghost use Rattle.memo.specs.Parts.{IsIn};
+ghost use Rattle.memo.specs.declared.entry.Entry.{Entry};
+ghost use Rattle.memo.specs.declared.spot.Spot.TheVariants.{Pair, Tail};
+
+use crate::key_log::Given;
+use crate::narrow::narrow;
+use crate::spot::{Spot, pair_number, tail_number};
+use cells::Found;
+use ruletable::Memory;
+use std::mem::size_of;
+
+/// What was found.
+#[derive(Clone, Copy)]
+pub(crate) enum Outcome {
+    /// A failure.
+    Missed,
+    /// A success, which ended there.
+    Ended(u32),
+}
+
+impl Outcome {
+    /// Returns what was found, in 32 bits.
+    ///
+    /// # Errors
+    /// `Memory` if it does not fit.
+    #[inline(always)]
+    pub(crate) fn of(found: Found) -> Result<Outcome, Memory>
+        ensures { IfOk result (λ o. found_of o ≡ found) }
+    {
+        match found {
+            Found::Failed => Ok(Outcome::Missed),
+            Found::Took(end) => Ok(Outcome::Ended(narrow(end)?)),
+        }
+    }
+
+    /// Returns what was found.
+    #[inline(always)]
+    pub(crate) fn found(self) -> Found
+        ensures { result ≡ found_of self }
+    {
+        match self {
+            Outcome::Missed => Found::Failed,
+            Outcome::Ended(end) => Found::Took(end as usize),
+        }
+    }
+}
+
+/// One entry of the log: a key, or keys of a node at places in a row.
+#[derive(Clone, Copy)]
+pub(crate) enum Entry {
+    /// The tail of a node from a member on, at a place.
+    Member {
+        node: u32,
+        index: u32,
+        place: u32,
+        outcome: Outcome,
+        events: u32,
+    },
+    /// A node at the places from `from` to `to`, all with one outcome.
+    Run {
+        node: u32,
+        from: u32,
+        to: u32,
+        outcome: Outcome,
+        events: u32,
+    },
+    /// A node at the places from `from` on, short of `to`, at each of which it takes one byte.
+    Steps {
+        node: u32,
+        from: u32,
+        to: u32,
+    },
+}
+
+// An entry is to stay small: a long match is slowed by the memory that it writes.
+const _: () = prove!(size_of::<Entry>() <= 28);
+
+/// The keys of an entry: their row, their highest place, how many they are, and the number of the first one.
+#[derive(Clone, Copy)]
+pub(crate) struct Extent {
+    pub(crate) row: usize,
+    pub(crate) highest: u32,
+    pub(crate) count: usize,
+    pub(crate) first: usize,
+}
+
+impl Entry {
+    /// Returns an entry of one key.
+    ///
+    /// # Errors
+    /// `Memory` if a number does not fit into 32 bits.
+    #[inline(always)]
+    pub(crate) fn of_spot(spot: Spot, given: Given) -> Result<Entry, Memory>
+        ensures pairs { IfOk result (λ e. pairs_of e ≡ record { spot = spot; given = given } ∷ []) }
+        ensures node { IfOk result (λ e. node_of e ≡ row_of spot) }
+    {
+        match spot {
+            Spot::Pair { node, place } => Entry::run(node, place, place, given),
+            Spot::Tail { node, index, place } => Ok(Entry::Member {
+                node: narrow(node)?,
+                index: narrow(index)?,
+                place: narrow(place)?,
+                outcome: Outcome::of(given.found)?,
+                events: narrow(given.events)?,
+            }),
+        }
+    }
+
+    /// Returns an entry of a node at the places from `from` to `to`.
+    ///
+    /// # Errors
+    /// `Memory` if a number does not fit into 32 bits.
+    #[inline(always)]
+    pub(crate) fn run(node: usize, from: usize, to: usize, given: Given) -> Result<Entry, Memory>
+        ensures pairs { IfOk result (λ e. pairs_of e ≡ run_of node from to given) }
+        ensures node { IfOk result (λ e. node_of e ≡ node) }
+    {
+        Ok(Entry::Run {
+            node: narrow(node)?,
+            from: narrow(from)?,
+            to: narrow(to)?,
+            outcome: Outcome::of(given.found)?,
+            events: narrow(given.events)?,
+        })
+    }
+
+    /// Returns an entry of a node that takes one byte at each place from `from` on, short of `to`.
+    ///
+    /// # Errors
+    /// `Memory` if a number does not fit into 32 bits.
+    #[inline(always)]
+    pub(crate) fn steps(node: usize, from: usize, to: usize) -> Result<Entry, Memory>
+        ensures pairs { IfOk result (λ e. pairs_of e ≡ steps_of node from to) }
+        ensures node { IfOk result (λ e. node_of e ≡ node) }
+    {
+        Ok(Entry::Steps {
+            node: narrow(node)?,
+            from: narrow(from)?,
+            to: narrow(to)?,
+        })
+    }
+
+    /// Returns the extent of its keys.
+    #[inline(always)]
+    pub(crate) fn extent(self) -> Extent
+        ensures extent { IsExtent self result }
+        ensures room { result.first + result.count < 2 ^ 64 }
+    {
+        match self {
+            Entry::Member {
+                node,
+                index,
+                place,
+                outcome: _,
+                events: _,
+            } => Extent {
+                row: node as usize,
+                highest: place,
+                count: 1,
+                first: tail_number(node, index, place),
+            },
+            Entry::Run {
+                node,
+                from,
+                to,
+                outcome: _,
+                events: _,
+            } => Extent {
+                row: node as usize,
+                highest: to,
+                count: (to as usize + 1).saturating_sub(from as usize),
+                first: pair_number(node, from),
+            },
+            Entry::Steps { node, from, to } => Extent {
+                row: node as usize,
+                highest: to.saturating_sub(1),
+                count: (to as usize).saturating_sub(from as usize),
+                first: pair_number(node, from),
+            },
+        }
+    }
+
+    /// Returns what it says of a key, if it has it.
+    #[inline(always)]
+    pub(crate) fn given_for(self, spot: Spot) -> Option<Given>
+        ensures some { IfSome result (λ g. IsIn (record { spot = spot; given = g }) (pairs_of self)) }
+        ensures none { IfNone result (IsIn spot (spots_of (pairs_of self)) → ⊥) }
+    {
+        match spot {
+            Spot::Pair { node, place } => self.given_for_pair(node, place),
+            Spot::Tail { node, index, place } => self.given_for_tail(node, index, place),
+        }
+    }
+
+    // Returns what it says of a pair, if it has it.
+    #[inline(always)]
+    fn given_for_pair(self, node: usize, place: usize) -> Option<Given>
+        ensures some { IfSome result (λ g. IsIn (record { spot = Pair node place; given = g }) (pairs_of self)) }
+        ensures none { IfNone result (IsIn (Pair node place) (spots_of (pairs_of self)) → ⊥) }
+    {
+        match self {
+            Entry::Member {
+                node: _,
+                index: _,
+                place: _,
+                outcome: _,
+                events: _,
+            } => None,
+            Entry::Run {
+                node: own,
+                from,
+                to,
+                outcome,
+                events,
+            } => {
+                if node == own as usize && place >= from as usize && place <= to as usize {
+                    Some(given(outcome, events))
+                } else {
+                    None
+                }
+            }
+            Entry::Steps {
+                node: own,
+                from,
+                to,
+            } => {
+                if node == own as usize && place >= from as usize && place < to as usize {
+                    Some(Given {
+                        found: Found::Took(place + 1),
+                        events: 0,
+                    })
+                } else {
+                    None
+                }
+            }
+        }
+    }
+
+    // Returns what it says of a tail, if it has it.
+    fn given_for_tail(self, node: usize, index: usize, place: usize) -> Option<Given>
+        ensures some { IfSome result (λ g. IsIn (record { spot = Tail node index place; given = g }) (pairs_of self)) }
+        ensures none { IfNone result (IsIn (Tail node index place) (spots_of (pairs_of self)) → ⊥) }
+    {
+        match self {
+            Entry::Member {
+                node: own,
+                index: member,
+                place: there,
+                outcome,
+                events,
+            } => {
+                if node == own as usize && index == member as usize && place == there as usize {
+                    Some(given(outcome, events))
+                } else {
+                    None
+                }
+            }
+            Entry::Run {
+                node: _,
+                from: _,
+                to: _,
+                outcome: _,
+                events: _,
+            } => None,
+            Entry::Steps {
+                node: _,
+                from: _,
+                to: _,
+            } => None,
+        }
+    }
+}
+
+// Returns what was found, with its events.
+#[inline(always)]
+fn given(outcome: Outcome, events: u32) -> Given
+    ensures { result ≡ given_of outcome events }
+{
+    Given {
+        found: outcome.found(),
+        events: events as usize,
+    }
+}
+
+/// Returns what an entry of the log says of a key, if it has it.
+pub(crate) fn given_in(entries: &[Entry], at: u32, spot: Spot) -> Option<Given>
+    ensures some { IfSome result (λ g. (e : Entry) × (slice_get entries.now at ≡ Some e)
+        × IsIn (record { spot = spot; given = g }) (pairs_of e)) }
+    ensures none { IfNone result ((e : Entry) → slice_get entries.now at ≡ Some e → IsIn spot (spots_of (pairs_of e))
+        → ⊥) }
+{
+    match entries.get(at as usize) {
+        Some(entry) => entry.given_for(spot),
+        None => None,
+    }
+}

@@ -1,0 +1,216 @@
+//! An index of keys by their numbers.
+ghost use Rattle.std.specs.Prelude.{◌≡◌, ℕ, ◌<◌, ◌≤◌, ◌^◌, [], ◌∷◌, ◌++◌, length, slice_get, Some, IfSome, IfNone, OnOk};
+ghost use Rattle.std.specs.Prelude.{OnErr};
+ghost use Rattle.memo.specs.KeyLog.{spots_of};
+ghost use Rattle.memo.specs.LogEntries.{pairs_of};
+ghost use Rattle.memo.specs.Parts.{IsIn};
+ghost use Rattle.memo.specs.SpotLinks.{places_of, bucket_of, bucket_of_cell, IsLastCell, AreLinkedCells};
+ghost use Rattle.memo.specs.declared.entry.Entry.{Entry};
+
+use crate::entry::{Entry, given_in};
+use crate::key_log::Given;
+use crate::narrow::narrow;
+use crate::spot::Spot;
+use ruletable::Memory;
+use std::alloc::Global;
+use std::marker::Model;
+
+/// A cell of the index: the number of a key, an entry that has the key, and one more than the index of the last cell
+/// before it in its bucket, or 0.
+#[derive(Clone, Copy)]
+pub(crate) struct IndexCell {
+    pub(crate) number: usize,
+    pub(crate) entry: u32,
+    pub(crate) link: u32,
+}
+
+/// An index of keys by their numbers, seen as the list of its places in the order in which they were put.
+#[derive(Drop)]
+pub(crate) struct Index {
+    cells: Vec<IndexCell>,
+    // of each bucket one more than the index of its last cell, or 0
+    heads: Vec<u32>,
+}
+
+impl Model for Index {
+    ghost use Rattle.std.specs.Prelude.{List, length, ◌<◌};
+    ghost use Rattle.memo.specs.SpotLinks.{Place, places_of, bucket_of_cell, AreLinkedCells};
+
+    ghost Value = { List Place };
+
+    ghost view = { λ m. places_of m.cells.items };
+
+    ghost invariant = { λ m. AreLinkedCells (bucket_of_cell (length m.heads.items)) m.cells.items m.heads.items
+        × (0 < length m.cells.items → 0 < length m.heads.items) };
+}
+
+// So many buckets there are at first.
+const FIRST: usize = 64;
+
+// Returns the bucket of a number.
+#[tactic(auto, unfolding(crate::specs::SpotLinks::bucket_of))]
+#[inline(always)]
+fn bucket(count: usize, number: usize) -> usize
+    requires { 0 < count }
+    ensures value { result ≡ bucket_of count number }
+    ensures within { result < count }
+{
+    number & (count - 1)
+}
+
+// Returns one more than the index of the last cell of the bucket, or 0.
+#[inline(always)]
+fn last_of(cells: &[IndexCell], heads: &[u32], count: usize, at: usize) -> usize
+    requires within { at < length heads.now }
+    requires linked { AreLinkedCells (bucket_of_cell count) cells.now heads.now }
+    ensures { IsLastCell (bucket_of_cell count) cells.now (length cells.now) at result }
+{
+    heads[at] as usize
+}
+
+// Returns what an entry says of the key of that number, sought among the cells of its bucket.
+fn walk(
+    cells: &[IndexCell],
+    heads: &[u32],
+    entries: &[Entry],
+    number: usize,
+    spot: Spot,
+) -> Option<Given>
+    requires some { 0 < length heads.now }
+    requires linked { AreLinkedCells (bucket_of_cell (length heads.now)) cells.now heads.now }
+    ensures some { IfSome result (λ g. (i : ℕ) × (e : Entry) × (slice_get entries.now i ≡ Some e)
+        × IsIn (record { spot = spot; given = g }) (pairs_of e)) }
+    ensures none { IfNone result ((i : ℕ) (e : Entry) → IsIn (record { number = number; entry = i })
+        (places_of cells.now) → slice_get entries.now i ≡ Some e → IsIn spot (spots_of (pairs_of e)) → ⊥) }
+{
+    let mut at = last_of(cells, heads, heads.len(), bucket(heads.len(), number));
+    while at > 0 {
+        let cell = cells[at - 1];
+        if cell.number == number {
+            if let Some(given) = given_in(entries, cell.entry, spot) {
+                return Some(given);
+            }
+        }
+        at = cell.link as usize;
+    }
+    None
+}
+
+// Empties all buckets.
+fn wipe(heads: &mut [u32])
+    ensures count { length heads.new ≡ length heads.old }
+    ensures none { (b h : ℕ) → slice_get heads.new b ≡ Some h → h ≡ 0 }
+{
+    for head in heads.iter_mut() {
+        *head = 0;
+    }
+}
+
+// Links all cells anew, whatever the heads were.
+fn relink(cells: &mut [IndexCell], heads: &mut [u32])
+    requires some { 0 < length heads.old }
+    requires few { length cells.old < 2 ^ 32 }
+    ensures linked { AreLinkedCells (bucket_of_cell (length heads.new)) cells.new heads.new }
+    ensures same { places_of cells.new ≡ places_of cells.old }
+    ensures count { length heads.new ≡ length heads.old }
+{
+    wipe(heads);
+    for i in 0..cells.len() {
+        let cell = cells[i];
+        let at = bucket(heads.len(), cell.number);
+        let link = last_of(&cells[..i], heads, heads.len(), at);
+        cells[i].link = link as u32;
+        heads[at] = i as u32 + 1;
+    }
+}
+
+// Makes twice so many buckets, and some at first.
+fn grow(cells: &mut [IndexCell], heads: &mut Vec<u32>) -> Result<(), Memory>
+    requires few { length cells.old < 2 ^ 32 }
+    requires linked { AreLinkedCells (bucket_of_cell (length heads.old.items)) cells.old heads.old.items }
+    ensures linked { AreLinkedCells (bucket_of_cell (length heads.new.items)) cells.new heads.new.items }
+    ensures same { places_of cells.new ≡ places_of cells.old }
+    ensures some { OnOk result (0 < length heads.new.items) }
+    ensures unchanged { OnErr result (heads.new.items ≡ heads.old.items) }
+{
+    let count = heads.len().saturating_add(heads.len()).max(FIRST);
+    heads.resize(count, 0)?;
+    relink(cells, heads);
+    Ok(())
+}
+
+// Adds a cell behind the last one of its bucket.
+fn add(
+    cells: &mut Vec<IndexCell>,
+    heads: &mut [u32],
+    number: usize,
+    entry: u32,
+) -> Result<(), Memory>
+    requires some { 0 < length heads.old }
+    requires linked { AreLinkedCells (bucket_of_cell (length heads.old)) cells.old.items heads.old }
+    ensures linked { AreLinkedCells (bucket_of_cell (length heads.new)) cells.new.items heads.new }
+    ensures added { OnOk result (places_of cells.new.items ≡ places_of cells.old.items
+        ++ record { number = number; entry = entry } ∷ []) }
+    ensures unchanged { OnErr result (cells.new.items ≡ cells.old.items) }
+    ensures count { length heads.new ≡ length heads.old }
+{
+    let next = narrow(cells.len() + 1)?;
+    let at = bucket(heads.len(), number);
+    let link = last_of(cells, heads, heads.len(), at);
+    cells.push(IndexCell {
+        number,
+        entry,
+        link: link as u32,
+    })?;
+    heads[at] = next;
+    Ok(())
+}
+
+impl Index {
+    /// Returns an index without places; it takes no memory.
+    pub(crate) fn new(alloc: Global) -> Index
+        ensures { result ≡ [] }
+    {
+        Index {
+            cells: Vec::new(alloc),
+            heads: Vec::new(alloc),
+        }
+    }
+
+    /// Empties it, in constant time.
+    pub(crate) fn clear(&mut self)
+        ensures { self.new ≡ [] }
+    {
+        self.cells.clear();
+        self.heads.clear();
+    }
+
+    /// Adds a place: the number of a key, and the entry that has the key.
+    ///
+    /// # Errors
+    /// `Memory` if an allocation fails; no place is added.
+    pub(crate) fn push(&mut self, number: usize, entry: u32) -> Result<(), Memory>
+        ensures added { OnOk result (self.new ≡ self.old ++ record { number = number; entry = entry } ∷ []) }
+        ensures unchanged { OnErr result (self.new ≡ self.old) }
+    {
+        if self.cells.len() >= self.heads.len() {
+            let _few = narrow(self.cells.len())?;
+            grow(&mut self.cells, &mut self.heads)?;
+        }
+        add(&mut self.cells, &mut self.heads, number, entry)
+    }
+
+    /// Returns what an entry says of the key of that number, if the index has the key.
+    pub(crate) fn find(&self, entries: &[Entry], number: usize, spot: Spot) -> Option<Given>
+        ensures some { IfSome result (λ g. (i : ℕ) × (e : Entry) × (slice_get entries.now i ≡ Some e)
+            × IsIn (record { spot = spot; given = g }) (pairs_of e)) }
+        ensures none { IfNone result ((i : ℕ) (e : Entry) → IsIn (record { number = number; entry = i }) self.now
+            → slice_get entries.now i ≡ Some e → IsIn spot (spots_of (pairs_of e)) → ⊥) }
+    {
+        if self.cells.is_empty() {
+            None
+        } else {
+            walk(&self.cells, &self.heads, entries, number, spot)
+        }
+    }
+}
