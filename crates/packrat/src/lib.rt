@@ -9,7 +9,7 @@ mod marks;
 mod onward;
 mod packrat;
 
-pub use frames::Frame;
+pub use frames::{Frame, Wait};
 pub use laws::{
     asked_once, evaluated_once, implied_cells, one_view, one_width, steps_hold, steps_run,
 };
