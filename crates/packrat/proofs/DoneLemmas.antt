@@ -1,6 +1,6 @@
 -- What an evaluation of the start rule's body from an empty log gives and leaves behind.
 -- Serves: Packrat::match_unit
-use Rattle.std.proofs.Common.{◌≡◌, ℕ, ◌+◌, ◌*◌, ◌≤◌, Bool, true, List, ◌∷◌, length, Option, Some, None, refl, sym}
+use Rattle.std.proofs.Common.{◌≡◌, ℕ, ◌+◌, ◌*◌, ◌≤◌, Bool, true, List, [], ◌∷◌, length, Option, Some, None, refl, sym}
 use Rattle.std.proofs.Common.{subst, arith}
 use Rattle.std.specs.Prelude.{slice_get}
 use Rattle.std.proofs.lemmas.List.{length-map}
@@ -9,10 +9,17 @@ use Rattle.gramcheck.specs.Grammar.{Grammar, IsSoundGrammar}
 use Rattle.pegread.specs.Pattern.{Rule}
 use Rattle.gramcheck.proofs.SomeOutcomeLemmas as one
 use Rattle.gramcheck.specs.Nodes.{Shape, Spells, shapes_of, shape_of}
-use Rattle.gramcheck.specs.Outcome.{Outcome}
+use Rattle.gramcheck.specs.Outcome.{Event, Outcome}
 use Rattle.memo.specs.declared.found.Found.{Found}
-use Rattle.pegmatch.specs.Answers.{StartGives}
-use Rattle.pegmatch.specs.KeptEvents.{outcome_of}
+use Rattle.pegmatch.specs.Answers.{StartGives, IsAnswer, HoldsSuccess}
+use Rattle.gramcheck.specs.Rising.{Rise}
+use Rattle.gramcheck.proofs.RiseLemmas.{Rise-upper}
+use Rattle.gramcheck.proofs.StartRuleLemmas.{rises_of_start}
+use Rattle.desk.proofs.HoldsLemmas.{some_cell}
+use Rattle.visits.specs.Visits.{first}
+use Rattle.eventlog.specs.EventLog.{IsHead, kept_at}
+use Rattle.eventlog.proofs.KeptAtLemmas.{none_kept}
+use Rattle.pegmatch.specs.KeptEvents.{outcome_of, StandFor}
 use Rattle.visits.specs.Visits.{NodeGives}
 use Rattle.visits.proofs.AsksLemmas.{visited_there}
 use Rattle.visits.proofs.CodeLemmas.{cells_at_most}
@@ -22,19 +29,21 @@ use Rattle.visits.proofs.VisitsLemmas.{visits_within}
 use Rattle.memo.specs.KeyLog.{spots_of}
 use Rattle.memo.specs.declared.key_log.Stored.{Stored}
 use Rattle.memo.specs.declared.spot.Spot.TheVariants.{Pair, Tail}
-use Rattle.packrat.specs.Done.{Contents, IsDone, Answers, IsOutcome, unit_of_match, told}
+use Rattle.packrat.specs.Done.{Contents, IsDone, Answers, IsOutcome, Holds, empty, head_of, unit_of, unit_of_match, told}
 use Rattle.packrat.specs.MachineSteps.{Works}
 use Rattle.packrat.specs.Onward.{ReachesEnd}
 use Rattle.packrat.specs.SpotSteps.{NextOf}
 use Rattle.packrat.specs.Spots.{Leads, Kids, is_key}
-use Rattle.packrat.specs.Stands.{IsEnded, NeedsMore, IsEvaluated}
+use Rattle.packrat.specs.Stands.{IsEnded, NeedsMore, IsEvaluated, GivenBy}
+use Rattle.eventlog.specs.declared.link.Link.{Link}
+use Rattle.memo.specs.declared.key_log.Given.{Given}
 use Rattle.memo.specs.declared.found.Found.TheVariants as found
 use Rattle.pegmatch.specs.declared.matcher.Unit.{Unit as UnitAnswer}
 use Rattle.pegmatch.specs.declared.matcher.Unit.TheVariants as unit
 use Rattle.memo.specs.Parts.{Reach, in_here}
 use Rattle.memo.specs.declared.spot.Spot.{Spot}
 use Rattle.gramcheck.specs.KeyMarks.{AreMarks}
-use Rattle.packrat.specs.SpotGives.{SpotGives, node_marks, tail_marks}
+use Rattle.packrat.specs.SpotGives.{SpotGives, SpotYields, node_marks, tail_marks}
 use Rattle.packrat.specs.View.{Evaluates, AreStored}
 use Rattle.packrat.specs.declared.frames.Frame.{Frame}
 use Rattle.packrat.specs.declared.marks.Marks.{Marks}
@@ -86,26 +95,31 @@ module _ (g : Grammar) (x : List ℕ) (sound : IsSoundGrammar g) where
         let s = sound.spelled.spelled g.start root at in
         record {
           events = h.0;
-          looked = h.1;
+          looked = h.1.0;
           gives = record {
             body = s.0;
             rule = s.1;
-            gives = gives_as Rs Ns sound.defined g.bodies x s.2 h.2;
+            gives = gives_as Rs Ns sound.defined g.bodies x s.2 h.1.1;
           };
-          enough = h.3;
+          enough = h.1.2;
         }
 
-    unit_done : (f : Found) (frames : List Frame) (stored : List Stored) (begun : ℕ)
-        → IsEnded g x more marks (Pair root 0) f frames stored begun
-        → IsDone g x more marks (record { stored = stored; frames = frames; begun = begun })
-    unit_done f frames stored begun e =
+    found_given : {links : List Link} (a : Spot) (given : Given) → GivenBy g x more links a given
+        → SpotGives g x more a given.found
+    found_given a given h = (h.events, h.yields)
+
+    unit_done : (c : Contents) (given : Given) (links : List Link)
+        → IsEnded g x more marks (Pair root 0) given c.frames c.stored links c.begun → IsDone g x more marks c
+    unit_done c given links e =
         let h = e.gives in
+        let y = h.yields in
         let b = evaluated_begins Rs g.start Ns g.bodies g.ranks x more sound root at
-        (node_marks marks) (tail_marks marks) are (outcome_of f h.0) h.1 h.2 h.3 (spots_of stored) begun e.runs in
+        (node_marks marks) (tail_marks marks) are (outcome_of given.found h.events) y.0 y.1 y.2 (spots_of c.stored)
+        c.begun e.runs in
         record {
           frames = e.empty;
-          keys = unit_stores stored begun e.runs;
-          right = e.right;
+          keys = unit_stores c.stored c.begun e.runs;
+          right = record { right = λ s i. found_given s.spot s.given (e.keys.given s i) };
           cells = b.cells;
           seen = b.implied;
           every = b.every;
@@ -143,14 +157,60 @@ module _ (g : Grammar) (x : List ℕ) (sound : IsSoundGrammar g) where
             (h.0, (has.0, subst (λ k. StartGives g x has.0 k) far has.2))
         by (Tail m i p) is h = absurd h
 
-    pub outcome_of_match : (v : Option Found) (frames : List Frame) (stored : List Stored) (begun : ℕ)
-        → IsEvaluated g x more marks (Pair root 0) v frames stored begun
-        → IsOutcome g x more marks (record { stored = stored; frames = frames; begun = begun }) (unit_of_match v begun)
-    outcome_of_match None frames stored begun h = need_given h
-    outcome_of_match (Some found.Failed) frames stored begun h =
-        (unit_done found.Failed frames stored begun h, answers_of found.Failed h.gives, refl)
-    outcome_of_match (Some (found.Took q)) frames stored begun h =
-        (unit_done (found.Took q) frames stored begun h, answers_of (found.Took q) h.gives, refl)
+    ended_as : (f : Found) (c : Contents) (given : Given) (links : List Link) → given.found ≡ f
+        → IsEnded g x more marks (Pair root 0) given c.frames c.stored links c.begun
+        → IsOutcome g x more marks c (unit_of f c.begun)
+    ended_as found.Failed c given links is h = (
+      unit_done c given links h,
+      subst (Answers g x more) is (answers_of given.found (found_given (Pair root 0) given h.gives)),
+      refl,
+    )
+    ended_as (found.Took q) c given links is h = (
+      unit_done c given links h,
+      subst (Answers g x more) is (answers_of given.found (found_given (Pair root 0) given h.gives)),
+      refl,
+    )
+
+    pub outcome_of_match : (c : Contents) (v : Option Given) (links : List Link)
+        → IsEvaluated g x more marks (Pair root 0) v c.frames c.stored links c.begun
+        → IsOutcome g x more marks c (unit_of_match v c.begun)
+    outcome_of_match c None links h = need_given h
+    outcome_of_match c (Some given) links h = ended_as given.found c given links refl h
+
+    begun_some : (c : Contents) → IsDone g x more marks c → 1 ≤ c.begun
+    begun_some c done =
+        let some = some_cell done.cells root 0 (done.every.whole root 0 (first at)) in
+        omega (arith, some, done.count)
+
+    answered_as : (f : Found) (c : Contents) (given : Given) (links : List Link) → given.found ≡ f
+        → c.kept ≡ kept_at links given.events
+        → IsEnded g x more marks (Pair root 0) given c.frames c.stored links c.begun
+        → IsAnswer g x more (Holds c g x) (unit_of f c.begun)
+    answered_as found.Failed c given links is kept h =
+        let a = subst (Answers g x more) is (answers_of given.found (found_given (Pair root 0) given h.gives)) in
+        (a.looked, a.gives, a.enough, begun_some c (unit_done c given links h))
+    answered_as (found.Took q) c given links is kept h =
+        let s = sound.spelled.spelled g.start root at in
+        let y : SpotYields g x more (Pair root 0) (found.Took q) h.gives.events =
+        subst (λ v. SpotYields g x more (Pair root 0) v h.gives.events) is h.gives.yields in (
+          h.gives.events,
+          y.0,
+          record { body = s.0; rule = s.1; gives = gives_as Rs Ns sound.defined g.bodies x s.2 y.1 },
+          y.2,
+          subst (λ v. StandFor (shapes_of g.nodes) v h.gives.events) (sym kept) h.gives.head.stands,
+          begun_some c (unit_done c given links h),
+        )
+
+    pub answer_of_match : (c : Contents) (v : Option Given) (links : List Link) → c.kept ≡ kept_at links (head_of v)
+        → IsEvaluated g x more marks (Pair root 0) v c.frames c.stored links c.begun
+        → IsAnswer g x more (Holds c g x) (unit_of_match v c.begun)
+    answer_of_match c None links kept h = need_given h
+    answer_of_match c (Some given) links kept h = answered_as given.found c given links refl kept h
+
+    pub head_of_match : (v : Option Given) (frames : List Frame) (stored : List Stored) (links : List Link)
+        (begun : ℕ) → IsEvaluated g x more marks (Pair root 0) v frames stored links begun → IsHead links (head_of v)
+    head_of_match None frames stored links begun h = omega arith
+    head_of_match (Some given) frames stored links begun h = h.gives.head.is
 
     -- no more are begun than nodes at places up to where the start rule looked
     pub unit_bounded : (c : Contents) → IsDone g x more marks c → (o : Outcome) (k : ℕ) → StartGives g x o k
@@ -175,3 +235,15 @@ module _ (g : Grammar) (x : List ℕ) (sound : IsSoundGrammar g) where
     told_bounded c (unit.Failed begun) h o k gives =
         let le = unit_bounded c h.0 o k gives in let is = h.2 in omega (arith, le, is)
     told_bounded c unit.Need h o k gives = omega arith
+
+-- the places of a held success's events stand in order within the window
+pub held_rise : (g : Grammar) (x : List ℕ) (Holding : List Event → Type 0) (h : HoldsSuccess g x Holding)
+    → Rise 0 (length x) h.0
+held_rise g x Holding h =
+    let r = rises_of_start (rules_of g.rules) g.start x h.1 h.2 h.0 h.3 in
+    Rise-upper 0 h.1 (length x) h.0 r.0 r.1
+
+-- where nothing is stored, nothing is held by the head 0
+pub empty_as : (stored : List Stored) (frames : List Frame) (links : List Link) → stored ≡ [] → frames ≡ []
+    → record { stored = stored; frames = frames; begun = 0; kept = kept_at links 0 } ≡ empty
+empty_as stored frames links a b = let none = none_kept links in cc (a, b, none)

@@ -1,6 +1,6 @@
 -- Each turn of the machine's loop lowers what is left.
 -- Serves: Packrat::match_unit
-use Rattle.std.proofs.Common.{◌≡◌, inl, inr, ℕ, zero, suc, ◌+◌, ◌*◌, ◌-◌, ◌<◌, ◌≤◌, Bool, true, false, List}
+use Rattle.std.proofs.Common.{◌≡◌, inl, inr, ℕ, zero, suc, ◌+◌, ◌*◌, ◌-◌, ◌<◌, ◌≤◌, Bool, List}
 use Rattle.std.proofs.Common.{[], ◌∷◌}
 use Rattle.std.proofs.Common.{Some, refl, sym, subst, arith}
 use Rattle.std.specs.Prelude.{slice_get}
@@ -8,18 +8,21 @@ use Rattle.pegread.specs.PegViews.{rules_of}
 use Rattle.gramcheck.specs.Grammar.{Grammar}
 use Rattle.gramcheck.specs.Nodes as node
 use Rattle.gramcheck.specs.Nodes.{Shape, shapes_of}
-use Rattle.memo.specs.declared.found.Found.{Found}
+use Rattle.memo.specs.declared.key_log.Given.{Given}
 use Rattle.memo.specs.declared.spot.Spot.{Spot}
 use Rattle.memo.specs.declared.spot.Spot.TheVariants.{Pair, Tail}
 use Rattle.packrat.specs.TurnsLeft.{members_of, most_members, ask_cost, wait_cost, frames_cost, most_begun}
 use Rattle.packrat.specs.TurnsLeft.{left}
 use Rattle.packrat.specs.Onward.{HasMember, IsWell}
 use Rattle.packrat.specs.SpotSteps.{FirstBy, TailFirstBy, IsFirst}
-use Rattle.gramcheck.specs.Ways.{Way, Leaf, Body, Members, Alternatives, Turns, Operand, way_of}
+use Rattle.gramcheck.specs.NodeWays.{Way, Leaf, Body, Members, Alternatives, Turns, Operand, way_of}
 use Rattle.packrat.specs.Spots.{KidsBy, TailKidsBy}
 use Rattle.packrat.specs.Spots.{Kids}
 use Rattle.packrat.specs.View.{weight}
 use Rattle.packrat.specs.declared.frames.Frame.{Frame}
+use Rattle.packrat.specs.Stands.{AreWaiting}
+use Rattle.packrat.specs.declared.frames.Wait.{Wait}
+use Rattle.packrat.specs.declared.frames.Wait.TheVariants.{First, Last}
 use Rattle.packrat.specs.declared.machine.Turn.TheVariants.{Ask, Answer}
 
 member_counted : (shape : Shape) (i : ℕ) → HasMember shape i → i < members_of (way_of 0 shape)
@@ -128,19 +131,19 @@ module _ (g : Grammar) (x : List ℕ) where
   second_of_tail (Turns o s) n i p j k h = absurd h
   second_of_tail (Operand o) n i p j k h = absurd h
 
-  waits_some : (second : Bool) (a : Spot) → 1 ≤ wait_cost Most second a
-  waits_some true a = omega arith
-  waits_some false (Pair n p) = omega arith
-  waits_some false (Tail n i p) = omega arith
+  waits_some : (w : Wait) (a : Spot) → 1 ≤ wait_cost Most w a
+  waits_some (Last head) a = omega arith
+  waits_some First (Pair n p) = omega arith
+  waits_some First (Tail n i p) = omega arith
 
   -- a spot that is stored
-  pub less_stored : (a : Spot) (f : Found) (fs : List Frame) (begun : ℕ) → IsWell g x a
+  pub less_stored : (a : Spot) (f : Given) (fs : List Frame) (begun : ℕ) → IsWell g x a
       → left g x (Answer f) fs begun < left g x (Ask a) fs begun
   unfolding left
   less_stored a f fs begun w = let some = costs_some a w in omega arith
 
   -- a spot that begins, and gives something at once
-  pub less_leaf : (a : Spot) (f : Found) (fs : List Frame) (begun now : ℕ) → now ≡ begun + weight a
+  pub less_leaf : (a : Spot) (f : Given) (fs : List Frame) (begun now : ℕ) → now ≡ begun + weight a
       → now ≤ most_begun g x → IsWell g x a → left g x (Answer f) fs now < left g x (Ask a) fs begun
   unfolding left
   less_leaf (Pair n p) f fs begun now is le w =
@@ -153,37 +156,63 @@ module _ (g : Grammar) (x : List ℕ) where
       subst (λ v. (4 * Most + 4) * (most_begun g x - v) + (0 + frames_cost Most fs)
       < (4 * Most + 4) * (most_begun g x - begun) + (4 * (Most - i) + frames_cost Most fs)) (sym same) (omega arith)
 
-  -- a spot that begins, and asks for its first
-  pub less_down : (a k : Spot) (fs : List Frame) (begun now : ℕ) → now ≡ begun + weight a → now ≤ most_begun g x
-      → IsWell g x a → F a k
-      → left g x (Ask k) (record { spot = a; second = false } ∷ fs) now < left g x (Ask a) fs begun
+  waiting_costs : (key : Bool) (head : ℕ) (a : Spot) (fs gs : List Frame) → AreWaiting key head a fs gs
+      → frames_cost Most gs ≤ 1 + frames_cost Most fs
+  waiting_costs key head a fs gs (inl is) =
+      subst (λ v. frames_cost Most v ≤ 1 + frames_cost Most fs) (sym is) (omega arith)
+  waiting_costs key head a fs gs (inr h) =
+      subst (λ v. frames_cost Most v ≤ 1 + frames_cost Most fs) (sym h.2) (omega arith)
+
+  -- a spot that begins, and asks for its first; it has a frame that waits, or none
+  down : (a k : Spot) (fs gs : List Frame) (begun now : ℕ) → now ≡ begun + weight a → now ≤ most_begun g x
+      → IsWell g x a → F a k → frames_cost Most gs ≤ wait_cost Most First a + frames_cost Most fs
+      → left g x (Ask k) gs now < left g x (Ask a) fs begun
   unfolding left
-  less_down (Pair n p) k fs begun now is le w h =
+  down (Pair n p) k fs gs begun now is le w h few =
       let more = one_times (4 * Most + 4) (most_begun g x) begun (omega (arith, is, le)) in
       let cost = first_of_node (way_of n h.0) n p k h.2 in
-      subst (λ v. (4 * Most + 4) * (most_begun g x - v) + (ask_cost Most k + (3 + frames_cost Most fs))
-      < (4 * Most + 4) * (most_begun g x - begun) + (1 + frames_cost Most fs)) (sym is) (omega (arith, more, cost))
-  less_down (Tail n i p) k fs begun now is le w h =
+      subst (λ v. (4 * Most + 4) * (most_begun g x - v) + (ask_cost Most k + frames_cost Most gs)
+      < (4 * Most + 4) * (most_begun g x - begun) + (1 + frames_cost Most fs)) (sym is)
+      (omega (arith, more, cost, few))
+  down (Tail n i p) k fs gs begun now is le w h few =
       let lt = member_below n i p w in
       let same : now ≡ begun = omega (arith, is) in
       let cost = first_of_tail (way_of n h.0) n i p k h.2 in
-      subst (λ v. (4 * Most + 4) * (most_begun g x - v) + (ask_cost Most k + ((2 + 4 * (Most - suc i)) + frames_cost
-      Most fs))
+      subst (λ v. (4 * Most + 4) * (most_begun g x - v) + (ask_cost Most k + frames_cost Most gs)
       < (4 * Most + 4) * (most_begun g x - begun) + (4 * (Most - i) + frames_cost Most fs)) (sym same)
-      (omega (arith, cost, lt))
+      (omega (arith, cost, lt, few))
 
-  -- a frame that asks for its second
-  pub less_on : (a j k : Spot) (f : Found) (fs : List Frame) (begun : ℕ) → K a (j ∷ (k ∷ []))
-      → left g x (Ask k) (record { spot = a; second = true } ∷ fs) begun
-      < left g x (Answer f) (record { spot = a; second = false } ∷ fs) begun
+  pub less_down : (a k : Spot) (key : Bool) (fs : List Frame) (begun now : ℕ) → now ≡ begun + weight a
+      → now ≤ most_begun g x → IsWell g x a → F a k
+      → left g x (Ask k) (record { spot = a; key = key; wait = First } ∷ fs) now < left g x (Ask a) fs begun
+  less_down a k key fs begun now is le w h =
+      down a k fs (record { spot = a; key = key; wait = First } ∷ fs) begun now is le w h (omega arith)
+
+  pub less_pass : (a k : Spot) (key : Bool) (head : ℕ) (fs gs : List Frame) (begun now : ℕ) → now ≡ begun + weight a
+      → now ≤ most_begun g x → IsWell g x a → F a k → AreWaiting key head a fs gs
+      → left g x (Ask k) gs now < left g x (Ask a) fs begun
+  less_pass a k key head fs gs begun now is le w h are =
+      let some = waits_some First a in
+      let few = waiting_costs key head a fs gs are in
+      down a k fs gs begun now is le w h (omega (arith, some, few))
+
+  -- a frame that asks for its last
+  pub less_on : (a j k : Spot) (given : Given) (key : Bool) (head : ℕ) (fs gs : List Frame) (begun : ℕ)
+      → K a (j ∷ (k ∷ [])) → AreWaiting key head a fs gs
+      → left g x (Ask k) gs begun
+      < left g x (Answer given) (record { spot = a; key = key; wait = First } ∷ fs) begun
   unfolding left
-  less_on (Pair n p) j k f fs begun h =
-      let cost = second_of_node (way_of n h.0) n p j k h.2 in omega (arith, cost)
-  less_on (Tail n i p) j k f fs begun h =
-      let cost = second_of_tail (way_of n h.0) n i p j k h.2 in omega (arith, cost)
+  less_on (Pair n p) j k given key head fs gs begun h are =
+      let cost = second_of_node (way_of n h.0) n p j k h.2 in
+      let few = waiting_costs key head (Pair n p) fs gs are in
+      omega (arith, cost, few)
+  less_on (Tail n i p) j k given key head fs gs begun h are =
+      let cost = second_of_tail (way_of n h.0) n i p j k h.2 in
+      let few = waiting_costs key head (Tail n i p) fs gs are in
+      omega (arith, cost, few)
 
   -- a frame that ends
-  pub less_up : (a : Spot) (second : Bool) (e f : Found) (fs : List Frame) (begun : ℕ)
-      → left g x (Answer e) fs begun < left g x (Answer f) (record { spot = a; second = second } ∷ fs) begun
+  pub less_up : (l : Frame) (own given : Given) (fs : List Frame) (begun : ℕ)
+      → left g x (Answer own) fs begun < left g x (Answer given) (l ∷ fs) begun
   unfolding left
-  less_up a second e f fs begun = let some = waits_some second a in omega arith
+  less_up l own given fs begun = let some = waits_some l.wait l.spot in omega arith

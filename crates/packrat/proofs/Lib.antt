@@ -7,7 +7,6 @@ pub mod AreImpliedLemmas
 pub mod EndsLemmas
 pub mod EvaluatesLemmas
 pub mod SpotGivesLemmas
-pub mod SpotKeepsLemmas
 pub mod DoneLemmas
 pub mod OneViewLemmas
 pub mod MachineLemmas

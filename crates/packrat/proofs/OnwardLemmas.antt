@@ -1,8 +1,9 @@
 -- How a spot goes on behind its first kid.
 -- Serves: Packrat::match_unit
-use Rattle.std.proofs.Common.{◌≡◌, inl, inr, ℕ, Bool, zero, suc, ◌<◌, ◌≤◌, List, [], ◌∷◌}
+use Rattle.std.proofs.Common.{◌≡◌, inl, inr, ℕ, Bool, true, false, zero, suc, ◌+◌, ◌<◌, ◌≤◌, List, [], ◌∷◌}
 use Rattle.std.proofs.Common.{length, get_or, Some, refl, sym, subst, ap, arith, Vec, Global}
-use Rattle.std.specs.Prelude.{slice_get}
+use Rattle.std.specs.Prelude.{slice_get, ◌==◌}
+use Rattle.std.proofs.lemmas.Bool.{eqb-true}
 use Rattle.std.proofs.lemmas.Option.{slice_get_past, slice_get-get_or}
 use Rattle.pegread.specs.PegViews.{rules_of}
 use Rattle.gramcheck.specs.Grammar.{Grammar, IsSoundGrammar}
@@ -16,22 +17,25 @@ use Rattle.gramcheck.specs.declared.node.Node.TheVariants as code
 use Rattle.memo.specs.declared.found.Found.{Found}
 use Rattle.memo.specs.declared.found.Found.TheVariants.{Failed, Took}
 use Rattle.pegmatch.specs.Answers.{WasEnough}
+use Rattle.gramcheck.specs.Outcome.{Event}
+use Rattle.visits.specs.Visits.{NodeTakes, NodeFails}
+use Rattle.packrat.specs.SpotGives.{joined}
 use Rattle.pegmatch.specs.KeptEvents.{quiet_outcome}
 use Rattle.visits.proofs.AsksLemmas.{goes_onward}
 use Rattle.memo.specs.declared.spot.Spot.{Spot}
 use Rattle.memo.specs.declared.spot.Spot.TheVariants.{Pair, Tail}
-use Rattle.gramcheck.specs.Ways.{way_of}
+use Rattle.gramcheck.specs.NodeWays.{way_of}
 use Rattle.packrat.proofs.SpotGivesLemmas as L
 use Rattle.packrat.specs.declared.onward.Onward.{Onward}
-use Rattle.packrat.specs.declared.onward.Onward.TheVariants.{Gives, Leads}
+use Rattle.packrat.specs.declared.onward.Onward.TheVariants.{Gives, Same, Passes}
 use Rattle.packrat.specs.declared.onward.Begun.{Begun}
 use Rattle.packrat.specs.declared.onward.Begun.TheVariants as begun
-use Rattle.packrat.specs.Onward.{IsWell, AfterOne, HasMember, AfterNone, IsLeaf}
+use Rattle.packrat.specs.Onward.{IsWell, AfterOne, HasMember, AfterNone, IsLeaf, led_to}
 use Rattle.packrat.specs.SpotSteps.{FirstBy, TailFirstBy, IsFirst}
 
 module _ (g : Grammar) (x : List ℕ) (more : Bool) (some : WasEnough x more 0) (sound : IsSoundGrammar g) where
-  abbrev SG : Spot → Found → Type 0
-  SG a f = L.SG g x more some sound a f
+  abbrev SG : Spot → Found → List Event → Type 0
+  SG a f events = L.SG g x more some sound a f events
 
   abbrev F : Spot → Spot → Type 0
   F a j = IsFirst (rules_of g.rules) (shapes_of g.nodes) g.bodies x a j
@@ -40,7 +44,8 @@ module _ (g : Grammar) (x : List ℕ) (more : Bool) (some : WasEnough x more 0) 
   At n shape = slice_get (shapes_of g.nodes) n ≡ Some shape
 
   abbrev pub After : Spot → Found → Onward → Type 0
-  After a found o = (j : Spot) → F a j → SG j found → AfterOne g x more a j o
+  After a found o =
+      (j : Spot) → F a j → (events : List Event) → SG j found events → AfterOne g x more a j found events o
 
   by_first : (n p : ℕ) (shape : Shape) → At n shape → (j : Spot) → F (Pair n p) j
       → FirstBy (rules_of g.rules) (shapes_of g.nodes) g.bodies x (way_of n shape) n p j
@@ -57,18 +62,29 @@ module _ (g : Grammar) (x : List ℕ) (more : Bool) (some : WasEnough x more 0) 
   abbrev NF : ℕ → ℕ → Type 0
   NF k p = L.NF g x more some sound k p
 
-  abbrev NT : ℕ → ℕ → ℕ → Type 0
-  NT k p q = L.NT g x more some sound k p q
+  abbrev NT : ℕ → ℕ → ℕ → List Event → Type 0
+  NT k p q events = L.NT g x more some sound k p q events
 
-  kid_fails : (k p : ℕ) (j : Spot) (found : Found) → j ≡ Pair k p → SG j found → found ≡ Failed → NF k p
-  kid_fails k p j found by d is = L.fails_of g x more some sound k p found (subst (λ v. SG v found) by d) is
+  module _ (k p : ℕ) (j : Spot) (found : Found) (es : List Event) (by : j ≡ Pair k p) (d : SG j found es) where
+    kid_fails : found ≡ Failed → NF k p
+    kid_fails is = L.fails_of g x more some sound k p found es (subst (λ v. SG v found es) by d) is
 
-  kid_takes : (k p q : ℕ) (j : Spot) (found : Found) → j ≡ Pair k p → SG j found → found ≡ Took q → NT k p q
-  kid_takes k p q j found by d is = L.takes_of g x more some sound k p q found (subst (λ v. SG v found) by d) is
+    kid_takes : (q : ℕ) → found ≡ Took q → NT k p q es
+    kid_takes q is = L.takes_of g x more some sound k p q found es (subst (λ v. SG v found es) by d) is
 
-  ends_within : (k p q : ℕ) → p ≤ length x → NT k p q → q ≤ length x
-  ends_within k p q le t = (goes_onward (rules_of g.rules) g.start (shapes_of g.nodes) g.bodies g.ranks x sound k p q
-      le t.takes).high
+    kid_quiet : found ≡ Failed → es ≡ []
+    kid_quiet is = L.none_of g x more some sound k p found es (subst (λ v. SG v found es) by d) is
+
+  took : (k p q : ℕ) (es : List Event) → NT k p q es
+      → NodeTakes (rules_of g.rules) (shapes_of g.nodes) g.bodies x k p q
+  took k p q es t = L.took_of g x more some sound t
+
+  failed : (k p : ℕ) → NF k p → NodeFails (rules_of g.rules) (shapes_of g.nodes) g.bodies x k p
+  failed k p d = L.failed_of g x more some sound d
+
+  ends_within : (k p q : ℕ) (es : List Event) → p ≤ length x → NT k p q es → q ≤ length x
+  ends_within k p q es le t = (goes_onward (rules_of g.rules) g.start (shapes_of g.nodes) g.bodies g.ranks x sound k p q
+      le (took k p q es t)).high
 
   one_kid : (j k : Spot) → j ≡ k → j ∷ [] ≡ k ∷ []
   one_kid j k is = ap (λ v. v ∷ []) is
@@ -83,11 +99,13 @@ module _ (g : Grammar) (x : List ℕ) (more : Bool) (some : WasEnough x more 0) 
       → IsLeaf tried (length x) more o → AfterNone g x more (Pair n p) o
   leaf_after n p tried (begun.Gives f) e k s d le h = (
     k,
-    subst (SG (Pair n p)) (sym h.0)
+    subst (λ v. SG (Pair n p) v []) (sym h.0)
         (L.leaf_spot g x more some sound n p tried.found tried.looked e s d
         (λ is. let ne = h.1 is in omega (arith, ne, le))),
   )
+  leaf_after n p tried (begun.Marks b) e k s d le h = absurd h
   leaf_after n p tried (begun.Leads b) e k s d le h = absurd h
+  leaf_after n p tried (begun.Passes b) e k s d le h = absurd h
   leaf_after n p tried begun.Need e k s d le h = (
     h.0,
     (
@@ -102,194 +120,271 @@ module _ (g : Grammar) (x : List ℕ) (more : Bool) (some : WasEnough x more 0) 
 
   module _ (n k p : ℕ) (found : Found) (w : IsWell g x (Pair n p)) where
     pub star_none : At n (node.Star k) → found ≡ Failed → After (Pair n p) found (Gives (Took p))
-    star_none at is j h d =
+    star_none at is j h es d =
         let by : j ≡ Pair k p = by_first n p (node.Star k) at j h in
-        let nf = kid_fails k p j found by d is in
-        ((node.Star k, at, inl (nf.fails, one_kid j (Pair k p) by)), L.star_ends g x more some sound n k p w.0 at nf)
+        let nf = kid_fails k p j found es by d is in (
+          (node.Star k, at, inl (failed k p nf, one_kid j (Pair k p) by)),
+          L.star_ends g x more some sound n k p w.0 at nf,
+        )
 
-    pub star_more : (q : ℕ) → At n (node.Star k) → found ≡ Took q → After (Pair n p) found (Leads (Pair n q))
-    star_more q at is j h d =
+    pub star_more : (q : ℕ) → At n (node.Star k) → found ≡ Took q → After (Pair n p) found (Passes (Pair n q))
+    star_more q at is j h es d =
         let by : j ≡ Pair k p = by_first n p (node.Star k) at j h in
-        let nt = kid_takes k p q j found by d is in (
-          (node.Star k, at, inr (q, nt.takes, two_kids j (Pair k p) (Pair n q) by)),
-          (λ f e. L.star_goes g x more some sound n k p w.0 q f at nt e),
-          (w.0, ends_within k p q w.1 nt),
+        let nt = kid_takes k p j found es by d q is in (
+          (
+            (node.Star k, at, inr (q, took k p q es nt, two_kids j (Pair k p) (Pair n q) by)),
+            (λ f fs e. L.star_goes g x more some sound n k p w.0 q f es fs at nt e),
+          ),
+          (w.0, ends_within k p q es w.1 nt),
         )
 
     pub plus_none : (s : ℕ) → At n (node.Plus k s) → found ≡ Failed → After (Pair n p) found (Gives Failed)
-    plus_none s at is j h d =
+    plus_none s at is j h es d =
         let by : j ≡ Pair k p = by_first n p (node.Plus k s) at j h in
-        let nf = kid_fails k p j found by d is in (
-          (node.Plus k s, at, inl (nf.fails, one_kid j (Pair k p) by)),
-          L.plus_failed g x more some sound n k p w.0 s
-              at nf,
+        let nf = kid_fails k p j found es by d is in (
+          (node.Plus k s, at, inl (failed k p nf, one_kid j (Pair k p) by)),
+          L.plus_failed g x more some sound n k p w.0 s at nf,
         )
 
-    pub plus_more : (s q : ℕ) → At n (node.Plus k s) → found ≡ Took q → After (Pair n p) found (Leads (Pair s q))
-    plus_more s q at is j h d =
+    pub plus_more : (s q : ℕ) → At n (node.Plus k s) → found ≡ Took q → After (Pair n p) found (Passes (Pair s q))
+    plus_more s q at is j h es d =
         let by : j ≡ Pair k p = by_first n p (node.Plus k s) at j h in
-        let nt = kid_takes k p q j found by d is in (
-          (node.Plus k s, at, inr (q, nt.takes, two_kids j (Pair k p) (Pair s q) by)),
-          (λ f e. L.plus_goes g x more some sound n k p w.0 s q f at nt e),
-          (L.plus_repeats g x more some sound n k p w.0 s at, ends_within k p q w.1 nt),
+        let nt = kid_takes k p j found es by d q is in (
+          (
+            (node.Plus k s, at, inr (q, took k p q es nt, two_kids j (Pair k p) (Pair s q) by)),
+            (λ f fs e. L.plus_goes g x more some sound n k p w.0 s q f es fs at nt e),
+          ),
+          (L.plus_repeats g x more some sound n k p w.0 s at, ends_within k p q es w.1 nt),
         )
 
     pub not_none : At n (node.Not k) → found ≡ Failed → After (Pair n p) found (Gives (Took p))
-    not_none at is j h d =
+    not_none at is j h es d =
         let by : j ≡ Pair k p = by_first n p (node.Not k) at j h in (
           (node.Not k, at, one_kid j (Pair k p) by),
-          L.not_took g x more some sound n k p w.0 at (kid_fails k p j
-              found by d is),
+          L.not_took g x more some sound n k p w.0 at (kid_fails k p j found es by d is),
         )
 
     pub not_some : (q : ℕ) → At n (node.Not k) → found ≡ Took q → After (Pair n p) found (Gives Failed)
-    not_some q at is j h d =
+    not_some q at is j h es d =
         let by : j ≡ Pair k p = by_first n p (node.Not k) at j h in (
           (node.Not k, at, one_kid j (Pair k p) by),
-          L.not_failed g x more some sound n k p w.0 q at (kid_takes k p q j found by
-              d is),
+          L.not_failed g x more some sound n k p w.0 q es at (kid_takes k p j found es by d q is),
         )
 
     pub opt_nothing : At n (node.Opt k) → found ≡ Failed → After (Pair n p) found (Gives (Took p))
-    opt_nothing at is j h d =
+    opt_nothing at is j h es d =
         let by : j ≡ Pair k p = by_first n p (node.Opt k) at j h in (
           (node.Opt k, at, one_kid j (Pair k p) by),
-          L.opt_none g x more some sound n k p w.0 at (kid_fails k p j
-              found by d is),
+          L.opt_none g x more some sound n k p w.0 at (kid_fails k p j found es by d is),
         )
 
-    pub opt_some : (q : ℕ) → At n (node.Opt k) → found ≡ Took q → After (Pair n p) found (Gives (Took q))
-    opt_some q at is j h d =
+    pub opt_some : (q : ℕ) → At n (node.Opt k) → found ≡ Took q → After (Pair n p) found Same
+    opt_some q at is j h es d =
         let by : j ≡ Pair k p = by_first n p (node.Opt k) at j h in (
           (node.Opt k, at, one_kid j (Pair k p) by),
-          L.opt_took g x more some sound n k p w.0 q at (kid_takes k p q j found by d
-              is),
+          subst (λ v. SG (Pair n p) v es) (sym is)
+              (L.opt_took g x more some sound n k p w.0 q es at (kid_takes k p j found es by d q is)),
         )
 
     pub and_none : At n (node.And k) → found ≡ Failed → After (Pair n p) found (Gives Failed)
-    and_none at is j h d =
+    and_none at is j h es d =
         let by : j ≡ Pair k p = by_first n p (node.And k) at j h in (
           (node.And k, at, one_kid j (Pair k p) by),
-          L.and_failed g x more some sound n k p w.0 at (kid_fails k p j
-              found by d is),
+          L.and_failed g x more some sound n k p w.0 at (kid_fails k p j found es by d is),
         )
 
     pub and_some : (q : ℕ) → At n (node.And k) → found ≡ Took q → After (Pair n p) found (Gives (Took p))
-    and_some q at is j h d =
+    and_some q at is j h es d =
         let by : j ≡ Pair k p = by_first n p (node.And k) at j h in (
           (node.And k, at, one_kid j (Pair k p) by),
-          L.and_took g x more some sound n k p w.0 q at (kid_takes k p q j found by d
-              is),
+          L.and_took g x more some sound n k p w.0 q es at (kid_takes k p j found es by d q is),
         )
 
-    pub name_on : At n (node.Name k) → After (Pair n p) found (Gives found)
-    name_on at j h d =
-        let by = by_first n p (node.Name k) at j h in (
+    pub name_on : At n (node.Name k) → After (Pair n p) found Same
+    name_on at j h es d =
+        let by = by_first n p (node.Name k) at j h in
+        let e = subst (λ v. SG v found es) by.2 d in (
           (node.Name k, at, (by.0, by.1, one_kid j (Pair by.0 p) by.2)),
-          L.name_spot g x more some sound n k by.0 p found w.0 at by.1 (subst (λ v. SG v found) by.2 d),
+          subst (SG (Pair n p) found) (sym (L.joined_none g x more some sound found es e.3))
+              (L.name_spot g x more some sound n k by.0 p found es w.0 at by.1 e),
         )
 
   module _ (n p : ℕ) (ms : List ℕ) (found : Found) (w : IsWell g x (Pair n p)) where
-    pub seq_on : At n (node.Seq ms) → After (Pair n p) found (Gives found)
-    seq_on at j h d =
+    pub seq_on : At n (node.Seq ms) → After (Pair n p) found Same
+    seq_on at j h es d =
         let by = by_first n p (node.Seq ms) at j h in (
           (node.Seq ms, at, inr (by.0, by.1, one_kid j (Tail n zero p) by.2)),
-          L.seq_spot g x more some sound n p ms found w.0 at (subst (λ v. SG v found) by.2 d),
+          L.seq_spot g x more some sound n p ms found es w.0 at (subst (λ v. SG v found es) by.2 d),
         )
 
-    pub choice_on : At n (node.Choice ms) → After (Pair n p) found (Gives found)
-    choice_on at j h d =
+    pub choice_on : At n (node.Choice ms) → After (Pair n p) found Same
+    choice_on at j h es d =
         let by = by_first n p (node.Choice ms) at j h in (
           (node.Choice ms, at, inr (by.0, by.1, one_kid j (Tail n zero p) by.2)),
-          L.choice_spot g x more some sound n p ms found w.0 at (subst (λ v. SG v found) by.2 d),
+          L.choice_spot g x more some sound n p ms found es w.0 at (subst (λ v. SG v found es) by.2 d),
         )
 
   pub leaf_on : (n p : ℕ) (shape : Shape) (found : Found) → At n shape
       → ((j : Spot) → FirstBy (rules_of g.rules) (shapes_of g.nodes) g.bodies x (way_of n shape) n p j → ⊥)
-      → After (Pair n p) found (Gives found)
-  leaf_on n p shape found at none j h d = absurd (none j (by_first n p shape at j h))
+      → After (Pair n p) found Same
+  leaf_on n p shape found at none j h es d = absurd (none j (by_first n p shape at j h))
 
   module _ (n i p : ℕ) (ms : List ℕ) (found : Found) (w : IsWell g x (Tail n i p)) where
     pub member_none : At n (node.Seq ms) → found ≡ Failed → After (Tail n i p) found (Gives Failed)
-    member_none at is j h d =
+    member_none at is j h es d =
         let by = by_rest n i p (node.Seq ms) at j h in
-        let nf = kid_fails by.0 p j found by.2 d is in (
-          (node.Seq ms, at, (by.0, by.1, inl (inl nf.fails, one_kid j (Pair by.0 p) by.2))),
+        let nf = kid_fails by.0 p j found es by.2 d is in (
+          (node.Seq ms, at, (by.0, by.1, inl (inl (failed by.0 p nf), one_kid j (Pair by.0 p) by.2))),
           L.rest_fails_at g x more some sound n i p by.0 ms by.1 at nf,
         )
 
     pub member_last : (q : ℕ) → At n (node.Seq ms) → found ≡ Took q → length ms ≤ suc i
-        → After (Tail n i p) found (Gives (Took q))
-    member_last q at is le j h d =
+        → After (Tail n i p) found Same
+    member_last q at is le j h es d =
         let by = by_rest n i p (node.Seq ms) at j h in
-        let nt = kid_takes by.0 p q j found by.2 d is in (
+        let nt = kid_takes by.0 p j found es by.2 d q is in (
           (node.Seq ms, at, (by.0, by.1, inl (inr (slice_get_past ms (suc i) le), one_kid j (Pair by.0 p) by.2))),
-          L.rest_last g x more some sound n i p by.0 ms by.1 q at nt le,
+          subst (λ v. SG (Tail n i p) v es) (sym is) (L.rest_last g x more some sound n i p by.0 ms by.1 q es at nt le),
         )
 
     pub member_more : (q e : ℕ) → suc i ≡ e → At n (node.Seq ms) → found ≡ Took q → suc i < length ms
-        → After (Tail n i p) found (Leads (Tail n e q))
-    member_more q e same at is lt j h d =
+        → After (Tail n i p) found (Passes (Tail n e q))
+    member_more q e same at is lt j h es d =
         let by = by_rest n i p (node.Seq ms) at j h in
-        let nt = kid_takes by.0 p q j found by.2 d is in
-        subst (λ v. AfterOne g x more (Tail n i p) j (Leads (Tail n v q))) same (
+        let nt = kid_takes by.0 p j found es by.2 d q is in
+        let kids = inr (
+          get_or ms (suc i) 0,
+          q,
+          slice_get-get_or ms (suc i) 0 lt,
+          took by.0 p q es nt,
+          two_kids j (Pair by.0 p) (Tail n (suc i) q) by.2,
+        ) in
+        subst (λ v. AfterOne g x more (Tail n i p) j found es (Passes (Tail n v q))) same (
           (
-            node.Seq ms,
-            at,
-            (
-              by.0,
-              by.1,
-              inr (
-                get_or ms (suc i) 0,
-                q,
-                slice_get-get_or ms (suc i) 0 lt,
-                nt.takes,
-                two_kids j (Pair by.0 p) (Tail n (suc i) q) by.2,
-              ),
-            ),
+            (node.Seq ms, at, (by.0, by.1, kids)),
+            (λ f fs c. L.rest_goes g x more some sound n i p by.0 ms by.1 q f es fs at nt c),
           ),
-          (λ f c. L.rest_goes g x more some sound n i p by.0 ms by.1 q f at nt c),
-          (w.0, ends_within by.0 p q w.1 nt, (node.Seq ms, at, lt)),
+          (w.0, ends_within by.0 p q es w.1 nt, (node.Seq ms, at, lt)),
         )
 
-    pub other_some : (q : ℕ) → At n (node.Choice ms) → found ≡ Took q → After (Tail n i p) found (Gives (Took q))
-    other_some q at is j h d =
+    pub other_some : (q : ℕ) → At n (node.Choice ms) → found ≡ Took q → After (Tail n i p) found Same
+    other_some q at is j h es d =
         let by = by_rest n i p (node.Choice ms) at j h in
-        let nt = kid_takes by.0 p q j found by.2 d is in (
-          (node.Choice ms, at, (by.0, by.1, inl (inl (q, nt.takes), one_kid j (Pair by.0 p) by.2))),
-          L.other_takes g x more some sound n i p by.0 ms by.1 q at nt,
+        let nt = kid_takes by.0 p j found es by.2 d q is in (
+          (node.Choice ms, at, (by.0, by.1, inl (inl (q, took by.0 p q es nt), one_kid j (Pair by.0 p) by.2))),
+          subst (λ v. SG (Tail n i p) v es) (sym is) (L.other_takes g x more some sound n i p by.0 ms by.1 q es at nt),
         )
 
     pub other_end : At n (node.Choice ms) → found ≡ Failed → length ms ≤ suc i → After (Tail n i p) found (Gives Failed)
-    other_end at is le j h d =
+    other_end at is le j h es d =
         let by = by_rest n i p (node.Choice ms) at j h in
-        let nf = kid_fails by.0 p j found by.2 d is in (
+        let nf = kid_fails by.0 p j found es by.2 d is in (
           (node.Choice ms, at, (by.0, by.1, inl (inr (slice_get_past ms (suc i) le), one_kid j (Pair by.0 p) by.2))),
           L.other_last g x more some sound n i p by.0 ms by.1 at nf le,
         )
 
     pub other_more : (e : ℕ) → suc i ≡ e → At n (node.Choice ms) → found ≡ Failed → suc i < length ms
-        → After (Tail n i p) found (Leads (Tail n e p))
-    other_more e same at is lt j h d =
+        → After (Tail n i p) found (Passes (Tail n e p))
+    other_more e same at is lt j h es d =
         let by = by_rest n i p (node.Choice ms) at j h in
-        let nf = kid_fails by.0 p j found by.2 d is in
-        subst (λ v. AfterOne g x more (Tail n i p) j (Leads (Tail n v p))) same (
+        let nf = kid_fails by.0 p j found es by.2 d is in
+        let none = kid_quiet by.0 p j found es by.2 d is in
+        let kids = inr (
+          get_or ms (suc i) 0,
+          slice_get-get_or ms (suc i) 0 lt,
+          failed by.0 p nf,
+          two_kids j (Pair by.0 p) (Tail n (suc i) p) by.2,
+        ) in
+        subst (λ v. AfterOne g x more (Tail n i p) j found v (Passes (Tail n e p))) (sym none)
+        (subst (λ v. AfterOne g x more (Tail n i p) j found [] (Passes (Tail n v p))) same (
           (
-            node.Choice ms,
-            at,
-            (
-              by.0,
-              by.1,
-              inr (
-                get_or ms (suc i) 0,
-                slice_get-get_or ms (suc i) 0 lt,
-                nf.fails,
-                two_kids j (Pair by.0 p) (Tail n (suc i) p) by.2,
-              ),
-            ),
+            (node.Choice ms, at, (by.0, by.1, kids)),
+            (λ f fs c. L.other_goes g x more some sound n i p by.0 ms by.1 f fs at nf c),
           ),
-          (λ f c. L.other_goes g x more some sound n i p by.0 ms by.1 f at nf c),
           (w.0, w.1, (node.Choice ms, at, lt)),
+        ))
+
+  module _ (n i p m : ℕ) (ms : List ℕ) (there : slice_get ms i ≡ Some m) (w : IsWell g x (Tail n i p)) where
+    -- the last tail of a sequence or a choice gives what its member gives
+    seq_last : At n (node.Seq ms) → length ms ≤ suc i → (f : Found) (es : List Event) → SG (Pair m p) f es
+        → SG (Tail n i p) f (joined f [] es)
+    seq_last at le Failed es d = L.rest_fails_at g x more some sound n i p m ms there at
+        (L.fails_of g x more some sound m p Failed es d refl)
+    seq_last at le (Took q) es d = L.rest_last g x more some sound n i p m ms there q es at
+        (L.takes_of g x more some sound m p q (Took q) es d refl) le
+
+    choice_last : At n (node.Choice ms) → length ms ≤ suc i → (f : Found) (es : List Event) → SG (Pair m p) f es
+        → SG (Tail n i p) f (joined f [] es)
+    choice_last at le Failed es d = L.other_last g x more some sound n i p m ms there at
+        (L.fails_of g x more some sound m p Failed es d refl) le
+    choice_last at le (Took q) es d = L.other_takes g x more some sound n i p m ms there q es at
+        (L.takes_of g x more some sound m p q (Took q) es d refl)
+
+    -- how a tail begins: it leads to its member, and passes on what that gives if it is the last one
+    pub seq_led : (only : Bool) → only ≡ (i + 1 == length ms) → At n (node.Seq ms)
+        → AfterNone g x more (Tail n i p) (led_to only (Pair m p))
+    seq_led true is at =
+        let le : length ms ≤ suc i = let e = eqb-true (i + 1) (length ms) (sym is) in omega (arith, e) in (
+          (node.Seq ms, at, (m, there, refl)),
+          (L.member_spells_at g x more some sound n i m ms there w.0 (inl at), w.1),
+          (
+            (node.Seq ms, at, (m, there, inl (inr (slice_get_past ms (suc i) le), refl))),
+            seq_last at le,
+          ),
+        )
+    seq_led false is at = (
+      (node.Seq ms, at, (m, there, refl)),
+      (L.member_spells_at g x more some sound n i m ms there w.0 (inl at), w.1),
+    )
+
+    pub choice_led : (only : Bool) → only ≡ (i + 1 == length ms) → At n (node.Choice ms)
+        → AfterNone g x more (Tail n i p) (led_to only (Pair m p))
+    choice_led true is at =
+        let le : length ms ≤ suc i = let e = eqb-true (i + 1) (length ms) (sym is) in omega (arith, e) in (
+          (node.Choice ms, at, (m, there, refl)),
+          (L.member_spells_at g x more some sound n i m ms there w.0 (inr at), w.1),
+          (
+            (node.Choice ms, at, (m, there, inl (inr (slice_get_past ms (suc i) le), refl))),
+            choice_last at le,
+          ),
+        )
+    choice_led false is at = (
+      (node.Choice ms, at, (m, there, refl)),
+      (L.member_spells_at g x more some sound n i m ms there w.0 (inr at), w.1),
+    )
+
+  -- a name, and a sequence or a choice with members
+  pub name_led : (n p k m : ℕ) → IsWell g x (Pair n p) → At n (node.Name k) → slice_get g.bodies k ≡ Some m
+      → IsWell g x (Pair m p) → AfterNone g x more (Pair n p) (begun.Passes (Pair m p))
+  name_led n p k m w at body well = (
+    (node.Name k, at, (m, body, refl)),
+    well,
+    ((node.Name k, at, (m, body, refl)), (λ f es d. L.name_spot g x more some sound n k m p f es w.0 at body d)),
+  )
+
+  module _ (n p : ℕ) (ms : List ℕ) (w : IsWell g x (Pair n p)) (lt : 0 < length ms) where
+    pub members_led : At n (node.Seq ms) → AfterNone g x more (Pair n p) (begun.Passes (Tail n 0 p))
+    members_led at =
+        let there = slice_get-get_or ms 0 0 lt in (
+          (node.Seq ms, at, (get_or ms 0 0, there, refl)),
+          (w.0, w.1, (node.Seq ms, at, lt)),
+          (
+            (node.Seq ms, at, inr (get_or ms 0 0, there, refl)),
+            (λ f es d. L.pair_joined g x more some sound n p ms f es w.0
+                (L.seq_spot g x more some sound n p ms f es w.0 at d)),
+          ),
+        )
+
+    pub alternatives_led : At n (node.Choice ms) → AfterNone g x more (Pair n p) (begun.Passes (Tail n 0 p))
+    alternatives_led at =
+        let there = slice_get-get_or ms 0 0 lt in (
+          (node.Choice ms, at, (get_or ms 0 0, there, refl)),
+          (w.0, w.1, (node.Choice ms, at, lt)),
+          (
+            (node.Choice ms, at, inr (get_or ms 0 0, there, refl)),
+            (λ f es d. L.pair_joined g x more some sound n p ms f es w.0
+                (L.choice_spot g x more some sound n p ms f es w.0 at d)),
+          ),
         )
 
 pub some_of : (ms : List ℕ) → (length ms ≡ 0 → ⊥) → 0 < length ms

@@ -1,55 +1,116 @@
 -- The loop's turns are steps of the machine.
 -- Serves: Packrat::match_unit
-use Rattle.std.proofs.Common.{◌≡◌, ◌⊎◌, inl, inr, ℕ, ◌+◌, Bool, true, false, List, [], ◌∷◌, length, Some}
-use Rattle.std.proofs.Common.{refl, sym, subst, arith, ◌*◌, ◌≤◌}
+use Rattle.std.proofs.Common.{◌≡◌, ◌⊎◌, inl, inr, ℕ, ◌+◌, Bool, true, false, List, [], ◌∷◌, ◌++◌, length, Some}
+use Rattle.std.proofs.Common.{refl, sym, subst, ◌∙◌, arith, ◌*◌, ◌≤◌}
 use Rattle.std.proofs.lemmas.List.{length-map}
 use Rattle.std.specs.Prelude.{slice_get}
 use Rattle.pegread.specs.PegViews.{rules_of}
 use Rattle.gramcheck.specs.Grammar.{Grammar, IsSoundGrammar}
-use Rattle.gramcheck.specs.Nodes.{shapes_of, shape_of}
+use Rattle.gramcheck.specs.Nodes.{Shape, shapes_of, shape_of}
+use Rattle.gramcheck.specs.Outcome.{Event}
+use Rattle.pegmatch.specs.KeptEvents.{StandFor, no_event, one_event}
+use Rattle.pegmatch.specs.declared.event.Kept.{Kept}
+use Rattle.eventlog.specs.EventLog.{IsHead, kept_at, AreGrown}
+use Rattle.eventlog.specs.declared.link.Link.{Link}
+use Rattle.eventlog.proofs.KeptAtLemmas.{none_kept}
 use Rattle.memo.specs.declared.found.Found.{Found}
+use Rattle.memo.specs.declared.found.Found.TheVariants.{Failed, Took}
 use Rattle.packrat.specs.declared.marks.Marks.{Marks}
+use Rattle.memo.specs.declared.key_log.Given.{Given}
 use Rattle.memo.specs.declared.key_log.Stored.{Stored}
 use Rattle.memo.specs.declared.spot.Spot.{Spot}
 use Rattle.memo.specs.declared.spot.Spot.TheVariants.{Pair}
 use Rattle.packrat.specs.TurnsLeft.{most_begun}
 use Rattle.gramcheck.specs.KeyMarks.{AreMarks}
-use Rattle.packrat.specs.SpotGives.{SpotGives, AreRight, node_marks, tail_marks}
-use Rattle.memo.specs.KeyLog.{spots_of}
+use Rattle.packrat.specs.SpotGives.{SpotYields, joined, IsQuiet, node_marks, tail_marks}
+use Rattle.memo.specs.KeyLog.{spots_of, place_of}
 use Rattle.memo.specs.Parts.{IsIn, in_here, in_later}
 use Rattle.memo.specs.Run.{Run, total}
 use Rattle.packrat.specs.Spots.{Kids}
 use Rattle.packrat.specs.View.{weight}
 use Rattle.memo.proofs.KeyLogLemmas.{spot_of_stored}
 use Rattle.packrat.specs.declared.frames.Frame.{Frame}
+use Rattle.packrat.specs.declared.frames.Wait.{Wait}
+use Rattle.packrat.specs.declared.frames.Wait.TheVariants.{First, Last}
+use Rattle.packrat.specs.declared.onward.Onward.{Onward}
 use Rattle.packrat.specs.declared.onward.Begun.TheVariants as start
 use Rattle.packrat.specs.declared.onward.Onward.TheVariants as way
 use Rattle.packrat.specs.declared.machine.Turn.{Turn}
 use Rattle.packrat.specs.declared.machine.Turn.TheVariants.{Ask, Answer}
-use Rattle.packrat.specs.MachineSteps.{State, Works, held, start_at, store, step_stored, step_begin}
+use Rattle.packrat.specs.MachineSteps.{Level, State, Asks, Works, held, start_at, store, step_stored, step_begin}
 use Rattle.packrat.specs.MachineSteps.{step_next, step_last}
 use Rattle.packrat.specs.MachineSteps.{steps_none, steps_more}
-use Rattle.packrat.specs.Onward.{IsWell, ReachesEnd, AfterNone, AfterOne}
+use Rattle.packrat.specs.Onward.{IsWell, ReachesEnd, AfterNone, AfterOne, PassesOn}
 use Rattle.packrat.specs.SpotSteps.{IsFirst, NextOf, next_first, next_second, SpotSteps}
-use Rattle.packrat.specs.Stands.{AreLevels, state_of, key_of, Stands, IsClosed, NeedsMore}
+use Rattle.packrat.specs.Stands.{AreLevels, levels_none, levels_frame, levels_passed, Waiting, state_of, key_of}
+use Rattle.packrat.specs.Stands.{Stands, IsClosed, NeedsMore, HeadStands, kept_joined, IsJoined, IsWaitHead}
+use Rattle.packrat.specs.Stands.{AreWaiting, GivenBy, AreGiven}
 use Rattle.packrat.proofs.BegunLemmas.{begun_at_places}
 use Rattle.packrat.proofs.MachineLemmas.{run_of_steps}
+
+-- events of a head stay where the log grows
+pub head_grown : {nodes : List Shape} {old new : List Link} {head : ℕ} {events : List Event} → AreGrown old new
+    → HeadStands nodes old head events → HeadStands nodes new head events
+head_grown {nodes = nodes} {head = head} {events = events} grown h =
+    let stays = grown head h.is in
+    record { is = stays.0; stands = subst (λ v. StandFor nodes v events) (sym stays.1) h.stands }
+
+-- no events have the head 0
+pub head_none : (nodes : List Shape) (links : List Link) → HeadStands nodes links 0 []
+head_none nodes links = record {
+  is = omega arith;
+  stands = subst (λ v. StandFor nodes v []) (sym (none_kept links)) no_event;
+}
+
+no_events : {nodes : List Shape} {events : List Event} → StandFor nodes [] events → events ≡ []
+no_events no_event = refl
+
+none_at : {nodes : List Shape} {links : List Link} {head : ℕ} {events : List Event} → head ≡ 0
+    → HeadStands nodes links head events → events ≡ []
+none_at {nodes = nodes} {links = links} {events = events} is h =
+    no_events (subst (λ v. StandFor nodes v events) (none_kept links)
+    (subst (λ v. StandFor nodes (kept_at links v) events) is h.stands))
+
+stand_both : {nodes : List Shape} {ks ls : List Kept} {es fs : List Event} → StandFor nodes ks es → StandFor nodes ls fs
+    → StandFor nodes (ks ++ ls) (es ++ fs)
+stand_both no_event h = h
+stand_both (one_event k s) h = one_event k (stand_both s h)
+
+stand_joined : {nodes : List Shape} {ks ls : List Kept} {es fs : List Event} (f : Found) → StandFor nodes ks es
+    → StandFor nodes ls fs → StandFor nodes (kept_joined f ks ls) (joined f es fs)
+stand_joined Failed a b = no_event
+stand_joined (Took q) a b = stand_both a b
+
+joined_quiet : (f : Found) (es fs : List Event) → IsQuiet f (joined f es fs)
+joined_quiet Failed es fs = refl
+joined_quiet (Took q) es fs = tt
+
+joined_none : (f : Found) (es : List Event) → IsQuiet f es → joined f [] es ≡ es
+joined_none Failed es h = sym h
+joined_none (Took q) es h = refl
+
+quiet_none : (f : Found) → IsQuiet f []
+quiet_none Failed = refl
+quiet_none (Took q) = tt
 
 module _ (g : Grammar) (x : List ℕ) (more : Bool) (marks : Marks) where
   abbrev K : Spot → List Spot → Type 0
   K a ks = Kids (rules_of g.rules) (shapes_of g.nodes) g.bodies x a ks
 
-  abbrev SG : Spot → Found → Type 0
-  SG a f = SpotGives g x more a f
+  abbrev SY : Spot → Found → List Event → Type 0
+  SY a f events = SpotYields g x more a f events
+
+  abbrev G : List Link → Spot → Given → Type 0
+  G links a given = GivenBy g x more links a given
 
   abbrev F : Spot → Spot → Type 0
   F a k = IsFirst (rules_of g.rules) (shapes_of g.nodes) g.bodies x a k
 
-  abbrev S : Spot → Turn → List Frame → List Stored → ℕ → Type 0
-  S root t ls st n = Stands g x more marks root t ls st n
+  abbrev S : Spot → Turn → List Frame → List Stored → List Link → ℕ → Type 0
+  S root t ls st ks n = Stands g x more marks root t ls st ks n
 
-  abbrev C : Spot → Found → List Stored → List Stored → Type 0
-  C a f old new = IsClosed g x more marks a f old new
+  abbrev C : List Link → Spot → Given → List Stored → List Stored → Type 0
+  C links a given old new = IsClosed g x more marks links a given old new
 
   abbrev SS : Spot → State Spot → Type 0
   SS root s = SpotSteps (rules_of g.rules) (shapes_of g.nodes) g.bodies x (node_marks marks) (tail_marks marks)
@@ -58,34 +119,161 @@ module _ (g : Grammar) (x : List ℕ) (more : Bool) (marks : Marks) where
   abbrev Key : Spot → Bool
   Key a = key_of marks a
 
-  pub stands_first : (root : Spot) (st : List Stored) → IsWell g x root → st ≡ [] → S root (Ask root) [] st 0
-  stands_first root st well none = subst (λ v. S root (Ask root) [] v 0) (sym none) (record {
+  abbrev L : List Link → Spot → List Frame → List (Level Spot) → Spot → Type 0
+  L links root ls fs b = AreLevels g x more marks links root ls fs b
+
+  given_grown : {old new : List Link} {a : Spot} {given : Given} → AreGrown old new → G old a given → G new a given
+  given_grown grown h =
+      record { events = h.events; yields = h.yields; quiet = h.quiet; head = head_grown grown h.head }
+
+  keys_grown : {old new : List Link} {stored : List Stored} → AreGrown old new → AreGiven g x more old stored
+      → AreGiven g x more new stored
+  keys_grown grown h = record { given = λ s i. given_grown grown (h.given s i) }
+
+  waiting_grown : (old new : List Link) (w : Wait) (a : Spot) (asked : List Spot) (b : Spot) → AreGrown old new
+      → Waiting g x more old w a asked b → Waiting g x more new w a asked b
+  waiting_grown old new First a asked b grown h = h
+  waiting_grown old new (Last head) a asked b grown h = (h.0, head_grown grown h.1, h.2)
+
+  levels_grown : {old new : List Link} {root b : Spot} {ls : List Frame} {fs : List (Level Spot)} → AreGrown old new
+      → L old root ls fs b → L new root ls fs b
+  levels_grown grown levels_none = levels_none
+  levels_grown {old = old} {new = new} grown (levels_frame {l = l} {b = b} {asked = asked} w t h r) =
+      levels_frame w t (waiting_grown old new l.wait l.spot asked b grown h) (levels_grown grown r)
+  levels_grown grown (levels_passed t h r) = levels_passed t h (levels_grown grown r)
+
+  -- what a spot gives without events
+  pub given_none : (links : List Link) (a : Spot) (f : Found) → SY a f []
+      → G links a (record { found = f; events = 0 })
+  given_none links a f h =
+      record { events = []; yields = h; quiet = quiet_none f; head = head_none (shapes_of g.nodes) links }
+
+  -- what a spot gives that takes nothing, and leaves an event behind
+  pub given_marked : (links : List Link) (a : Spot) (p : ℕ) (kept : Kept) (head : ℕ) → p ≡ place_of a
+      → AfterNone g x more a (start.Marks kept) → IsHead links head → kept_at links head ≡ kept ∷ []
+      → G links a (record { found = Took p; events = head })
+  given_marked links a p kept head place h is at =
+      let e = h.1 in
+      record {
+        events = e.0 ∷ [];
+        yields = subst (λ v. SY a (Took v) (e.0 ∷ [])) (sym place) e.2;
+        quiet = tt;
+        head = record {
+          is = is;
+          stands = subst (λ v. StandFor (shapes_of g.nodes) v (e.0 ∷ [])) (sym at) (one_event e.1 no_event);
+        };
+      }
+
+  -- what a spot gives whose last spot gives this, with the events of a head before its events
+  given_joined : (old new : List Link) (a b : Spot) (asked : List Spot) (first : ℕ) (es : List Event)
+      (given all : Given) → HeadStands (shapes_of g.nodes) old first es → PassesOn g x more a asked b es
+      → G old b given → IsJoined old new first given all → G new a all
+  given_joined old new a b asked first es given all hs p h j = record {
+    events = joined given.found es h.events;
+    yields = subst (λ v. SY a v (joined given.found es h.events)) (sym j.found) (p.1 given.found h.events h.yields);
+    quiet = subst (λ v. IsQuiet v (joined given.found es h.events)) (sym j.found)
+        (joined_quiet given.found es h.events);
+    head = record {
+      is = j.is;
+      stands = subst (λ v. StandFor (shapes_of g.nodes) v (joined given.found es h.events)) (sym j.kept)
+          (stand_joined given.found hs.stands h.head.stands);
+    };
+  }
+
+  given_passed : (links : List Link) (a b : Spot) (asked : List Spot) (given : Given)
+      → PassesOn g x more a asked b [] → G links b given → G links a given
+  given_passed links a b asked given p h = record {
+    events = h.events;
+    yields = subst (SY a given.found) (joined_none given.found h.events h.quiet)
+        (p.1 given.found h.events h.yields);
+    quiet = h.quiet;
+    head = h.head;
+  }
+
+  -- the levels of the frames, of which the last one waits for spot b
+  abbrev AreTop : List Link → Spot → List Frame → List (Level Spot) → Spot → Type 0
+  AreTop links root [] fs b = (fs ≡ []) × (b ≡ root)
+  AreTop links root (l ∷ ls) fs b = (asked : List Spot) × (rest : List (Level Spot))
+      × (fs ≡ record { at = l.spot; asked = asked } ∷ rest) × IsWell g x l.spot × (l.key ≡ Key l.spot)
+      × Waiting g x more links l.wait l.spot asked b × L links root ls rest l.spot
+
+  -- an answer for the last frame
+  record Ready (links : List Link) (root : Spot) (ls : List Frame) (given : Given) (st bg : List Spot) : Type 0 where
+    pub levels : List (Level Spot)
+    pub spot : Spot
+    pub are : AreTop links root ls levels spot
+    pub gives : G links spot given
+    pub steps : SS root (Works (record { levels = levels; stored = st; begun = bg }))
+
+  -- the levels without a frame end at once where an answer comes
+  ready : {links : List Link} {root b : Spot} {ls : List Frame} {fs : List (Level Spot)} {st bg : List Spot}
+      → L links root ls fs b
+      → (given : Given) → G links b given → SS root (Works (record { levels = fs; stored = st; begun = bg }))
+      → Ready links root ls given st bg
+  ready {root = root} levels_none given d s =
+      record { levels = []; spot = root; are = (refl, refl); gives = d; steps = s }
+  ready (levels_frame {l = l} {b = b} {asked = asked} {fs = fs} w t h r) given d s = record {
+    levels = record { at = l.spot; asked = asked } ∷ fs;
+    spot = b;
+    are = (asked, fs, refl, w, t, h, r);
+    gives = d;
+    steps = s;
+  }
+  ready {links = links} {root = root} {st = st} {bg = bg} (levels_passed {a = a} {b = b} {asked = asked} {fs = fs} t h r)
+      given d s =
+      ready r given (given_passed links a b asked given h d)
+      (subst (λ v. SS root (Works (record { levels = fs; stored = store Spot v a st; begun = bg }))) t
+      (steps_more s (step_last h.0)))
+
+  ready_of : {root : Spot} {given : Given} {ls : List Frame} {st : List Stored} {links : List Link} {n : ℕ}
+      → (s : S root (Answer given) ls st links n) → Ready links root ls given (spots_of st) s.begun
+  ready_of {given = given} s = ready s.are given s.turns s.steps
+
+  -- the levels of a spot that waits for its last one
+  waiting_levels : (links : List Link) (root a b : Spot) (key : Bool) (head : ℕ) (es : List Event)
+      (asked : List Spot) (ls new : List Frame) (fs : List (Level Spot)) → key ≡ Key a → IsWell g x a
+      → HeadStands (shapes_of g.nodes) links head es → PassesOn g x more a asked b es → AreWaiting key head a ls new
+      → L links root ls fs a → L links root new (record { at = a; asked = asked } ∷ fs) b
+  waiting_levels links root a b key head es asked ls new fs t w hs p (inl is) r =
+      subst (λ v. L links root v (record { at = a; asked = asked } ∷ fs) b) (sym is)
+      (levels_frame {l = record { spot = a; key = key; wait = Last head }} w t (es, hs, p) r)
+  waiting_levels links root a b key head es asked ls new fs t w hs p (inr h) r =
+      subst (λ v. L links root v (record { at = a; asked = asked } ∷ fs) b) (sym h.2)
+      (levels_passed (sym t ∙ h.0) (subst (PassesOn g x more a asked b) (none_at h.1 hs) p) r)
+
+  pub stands_first : (root : Spot) (st : List Stored) (links : List Link) → IsWell g x root → st ≡ []
+      → S root (Ask root) [] st links 0
+  stands_first root st links well none = subst (λ v. S root (Ask root) [] v links 0) (sym none) (record {
     levels = [];
     begun = [];
     spot = root;
-    are = (refl, refl);
+    are = levels_none;
     turns = (refl, well);
-    right = record { right = λ s i. elim i [ ] };
+    given = record { given = λ s i. elim i [ ] };
     is = refl;
     steps = steps_none;
   })
 
-  module _ (root a : Spot) (ls : List Frame) (st : List Stored) (n : ℕ) (s : S root (Ask a) ls st n) where
+  module _ (root a : Spot) (ls : List Frame) (st : List Stored) (links : List Link) (n : ℕ)
+      (s : S root (Ask a) ls st links n) where
     pub asked_well : IsWell g x a
     asked_well = subst (IsWell g x) (sym s.turns.0) s.turns.1
 
     spot_here : a ≡ s.spot
     spot_here = s.turns.0
 
-    pub stands_stored : (f : Found) → Key a ≡ true → IsIn (record { spot = a; found = f }) st
-        → S root (Answer f) ls st n
-    stands_stored f t i = record {
+    above : L links root ls s.levels a
+    above = subst (L links root ls s.levels) (sym spot_here) s.are
+
+    pub stands_stored : (given : Given) → Key a ≡ true → IsIn (record { spot = a; given = given }) st
+        → S root (Answer given) ls st links n
+    stands_stored given t i = record {
       levels = s.levels;
       begun = s.begun;
-      spot = s.spot;
-      are = s.are;
-      turns = subst (λ v. SG v f) spot_here (s.right.right (record { spot = a; found = f }) i);
-      right = s.right;
+      spot = a;
+      are = above;
+      turns = s.given.given (record { spot = a; given = given }) i;
+      given = s.given;
       is = s.is;
       steps = steps_more s.steps (step_stored (subst (λ v. Key v ≡ true) spot_here t)
           (subst (λ v. IsIn v (spots_of st)) spot_here (spot_of_stored i)));
@@ -93,194 +281,250 @@ module _ (g : Grammar) (x : List ℕ) (more : Bool) (marks : Marks) where
 
     module _ (fresh : Key a ≡ true → IsIn a (spots_of st) → ⊥) where
       steps_begin : SS root (Works (record {
-        levels = record { at = s.spot; asked = [] } ∷ s.levels;
+        levels = record { at = a; asked = [] } ∷ s.levels;
         stored = spots_of st;
-        begun = s.spot ∷ s.begun;
+        begun = a ∷ s.begun;
       }))
-      steps_begin = steps_more s.steps (step_begin (subst (λ v. Key v ≡ true → IsIn v (spots_of st) → ⊥) spot_here
-          fresh))
+      steps_begin = steps_more (subst (λ v. SS root (Asks v (record {
+        levels = s.levels;
+        stored = spots_of st;
+        begun = s.begun;
+      }))) (sym spot_here) s.steps) (step_begin fresh)
 
-      begin_counts : total Spot K Key weight (s.spot ∷ s.begun) ≡ n + weight a
-      begin_counts =
-          let is = s.is in
-          let same : weight a ≡ weight s.spot = subst (λ v. weight a ≡ weight v) spot_here refl in
-          omega (arith, is, same)
+      begin_counts : total Spot K Key weight (a ∷ s.begun) ≡ n + weight a
+      begin_counts = let is = s.is in omega (arith, is)
 
       -- a spot whose own comparison reaches the end of the window
       pub stands_need : ReachesEnd g x more a → NeedsMore g x more marks root
       stands_need h = record {
-        spot = s.spot;
-        levels = record { at = s.spot; asked = [] } ∷ s.levels;
+        spot = a;
+        levels = record { at = a; asked = [] } ∷ s.levels;
         stored = spots_of st;
         begun = s.begun;
         steps = steps_begin;
-        reaches = subst (ReachesEnd g x more) spot_here h;
+        reaches = h;
       }
 
-      pub stands_leaf : (f : Found) (new : List Stored) → AfterNone g x more a (start.Gives f) → C a f st new
-          → S root (Answer f) ls new (n + weight a)
-      stands_leaf f new h c = record {
+      pub stands_leaf : (more_links : List Link) (given : Given) (new : List Stored) → AreGrown links more_links
+          → K a [] → G more_links a given → C more_links a given st new
+          → S root (Answer given) ls new more_links (n + weight a)
+      stands_leaf more_links given new grown none h c = record {
         levels = s.levels;
-        begun = s.spot ∷ s.begun;
-        spot = s.spot;
-        are = s.are;
-        turns = subst (λ v. SG v f) spot_here h.1;
-        right = c.right h.1 s.right;
+        begun = a ∷ s.begun;
+        spot = a;
+        are = levels_grown grown above;
+        turns = h;
+        given = c.keeps h (keys_grown grown s.given);
         is = begin_counts;
-        steps = subst (λ v. SS root (Works (record { levels = s.levels; stored = v; begun = s.spot ∷ s.begun })))
-            (sym (subst (λ v. spots_of new ≡ store Spot (Key v) v (spots_of st)) spot_here c.spots))
-            (steps_more steps_begin (step_last (subst (λ v. K v []) spot_here h.0)));
+        steps = subst (λ v. SS root (Works (record { levels = s.levels; stored = v; begun = a ∷ s.begun })))
+            (sym c.spots) (steps_more steps_begin (step_last none));
       }
 
-      pub stands_down : (k : Spot) → AfterNone g x more a (start.Leads k)
-          → S root (Ask k) (record { spot = a; second = false } ∷ ls) st (n + weight a)
-      stands_down k h = record {
-        levels = record { at = s.spot; asked = k ∷ [] } ∷ s.levels;
-        begun = s.spot ∷ s.begun;
+      pub stands_down : (k : Spot) (key : Bool) → key ≡ Key a → AfterNone g x more a (start.Leads k)
+          → S root (Ask k) (record { spot = a; key = key; wait = First } ∷ ls) st links (n + weight a)
+      stands_down k key t h = record {
+        levels = record { at = a; asked = k ∷ [] } ∷ s.levels;
+        begun = a ∷ s.begun;
         spot = k;
-        are = (
-          k ∷ [],
-          s.levels,
-          subst (λ v. record { at = s.spot; asked = k ∷ [] } ∷ s.levels ≡ record { at = v; asked = k ∷ [] } ∷ s.levels)
-              (sym spot_here) refl,
-          asked_well,
-          (h.0, refl),
-          subst (AreLevels g x more root ls s.levels) (sym spot_here) s.are,
-        );
+        are = levels_frame {l = record { spot = a; key = key; wait = First }} asked_well t (h.0, refl) above;
         turns = (refl, h.1);
-        right = s.right;
+        given = s.given;
         is = begin_counts;
-        steps = steps_more steps_begin (step_next (next_first (subst (λ v. F v k) spot_here h.0)));
+        steps = steps_more steps_begin (step_next (next_first h.0));
       }
 
-  module _ (root a : Spot) (f : Found) (ls : List Frame) (st : List Stored) (n : ℕ) where
-    pub level_well : (second : Bool) → S root (Answer f) (record { spot = a; second = second } ∷ ls) st n → IsWell g x a
-    level_well second s = s.are.3
+      -- a spot that passes on what its only one gives
+      pub stands_pass : (k : Spot) (key : Bool) (new : List Frame) → key ≡ Key a
+          → AfterNone g x more a (start.Passes k) → AreWaiting key 0 a ls new
+          → S root (Ask k) new st links (n + weight a)
+      stands_pass k key new t h w = record {
+        levels = record { at = a; asked = k ∷ [] } ∷ s.levels;
+        begun = a ∷ s.begun;
+        spot = k;
+        are = waiting_levels links root a k key 0 [] (k ∷ []) ls new s.levels t asked_well
+            (head_none (shapes_of g.nodes) links) h.2 w above;
+        turns = (refl, h.1);
+        given = s.given;
+        is = begin_counts;
+        steps = steps_more steps_begin (step_next (next_first h.0));
+      }
 
-    at_levels : (second : Bool) → (s : S root (Answer f) (record { spot = a; second = second } ∷ ls) st n)
+  module _ (root a : Spot) (given : Given) (ls : List Frame) (st : List Stored) (links : List Link) (n : ℕ)
+      (key : Bool) where
+    at_levels : (w : Wait) (bg : List Spot)
+        → (r : Ready links root (record { spot = a; key = key; wait = w } ∷ ls) given (spots_of st) bg)
         → SS root (Works (record {
-          levels = record { at = a; asked = s.are.0 } ∷ s.are.1;
+          levels = record { at = a; asked = r.are.0 } ∷ r.are.1;
           stored = spots_of st;
-          begun = s.begun;
+          begun = bg;
         }))
-    at_levels second s =
-        subst (λ v. SS root (Works (record { levels = v; stored = spots_of st; begun = s.begun }))) s.are.2 s.steps
+    at_levels w bg r =
+        subst (λ v. SS root (Works (record { levels = v; stored = spots_of st; begun = bg }))) r.are.2 r.steps
 
-    module _ (s : S root (Answer f) (record { spot = a; second = false } ∷ ls) st n) where
+    module _ (s : S root (Answer given) (record { spot = a; key = key; wait = First } ∷ ls) st links n) where
+      r : Ready links root (record { spot = a; key = key; wait = First } ∷ ls) given (spots_of st) s.begun
+      r = ready_of s
+
       as_first : SS root (Works (record {
-        levels = record { at = a; asked = s.spot ∷ [] } ∷ s.are.1;
+        levels = record { at = a; asked = r.spot ∷ [] } ∷ r.are.1;
         stored = spots_of st;
         begun = s.begun;
       }))
       as_first = subst (λ v. SS root (Works (record {
-        levels = record { at = a; asked = v } ∷ s.are.1;
+        levels = record { at = a; asked = v } ∷ r.are.1;
         stored = spots_of st;
         begun = s.begun;
       })))
-          s.are.4.1 (at_levels false s)
+          r.are.5.1 (at_levels First s.begun r)
 
-      pub stands_on : (k : Spot) → ((j : Spot) → F a j → SG j f → AfterOne g x more a j (way.Leads k))
-          → S root (Ask k) (record { spot = a; second = true } ∷ ls) st n
-      stands_on k after =
-          let h = after s.spot s.are.4.0 s.turns in
+      -- what is known behind the first spot that the frame waited for
+      abbrev After : Onward → Type 0
+      After o = (j : Spot) → F a j → (es : List Event) → SY j given.found es → AfterOne g x more a j given.found es o
+
+      after_here : (o : Onward) → After o → AfterOne g x more a r.spot given.found r.gives.events o
+      after_here o after = after r.spot r.are.5.0 r.gives.events r.gives.yields
+
+      pub first_kid : Spot
+      first_kid = r.spot
+
+      pub second_kid : (k : Spot) → After (way.Passes k) → K a (first_kid ∷ (k ∷ []))
+      unfolding first_kid
+      second_kid k after = (after_here (way.Passes k) after).0.0
+
+      pub stands_on : (k : Spot) (new : List Frame) → After (way.Passes k) → AreWaiting key given.events a ls new
+          → S root (Ask k) new st links n
+      stands_on k new after w =
+          let h = after_here (way.Passes k) after in
           record {
-            levels = record { at = a; asked = s.spot ∷ (k ∷ []) } ∷ s.are.1;
+            levels = record { at = a; asked = r.spot ∷ (k ∷ []) } ∷ r.are.1;
             begun = s.begun;
             spot = k;
-            are = (s.spot ∷ (k ∷ []), s.are.1, refl, s.are.3, (s.spot, refl, h.0, h.1), s.are.5);
-            turns = (refl, h.2);
-            right = s.right;
+            are = waiting_levels links root a k key given.events r.gives.events (r.spot ∷ (k ∷ [])) ls new r.are.1
+                r.are.4 r.are.3 r.gives.head h.0 w r.are.6;
+            turns = (refl, h.1);
+            given = s.given;
             is = s.is;
-            steps = steps_more as_first (step_next (next_second h.0));
+            steps = steps_more as_first (step_next (next_second h.0.0));
           }
 
-      pub stands_up : (e : Found) (new : List Stored) → ((j : Spot) → F a j → SG j f
-          → AfterOne g x more a j (way.Gives e))
-          → C a e st new → S root (Answer e) ls new n
-      stands_up e new after c =
-          let h = after s.spot s.are.4.0 s.turns in
-          record {
-            levels = s.are.1;
-            begun = s.begun;
-            spot = a;
-            are = s.are.5;
-            turns = h.1;
-            right = c.right h.1 s.right;
-            is = s.is;
-            steps = subst (λ v. SS root (Works (record { levels = s.are.1; stored = v; begun = s.begun }))) (sym
-                c.spots)
-                (steps_more as_first (step_last h.0));
-          }
+      ends : (own : Given) (new : List Stored) → K a (r.spot ∷ []) → G links a own → C links a own st new
+          → S root (Answer own) ls new links n
+      ends own new kids h c = record {
+        levels = r.are.1;
+        begun = s.begun;
+        spot = a;
+        are = r.are.6;
+        turns = h;
+        given = c.keeps h s.given;
+        is = s.is;
+        steps = subst (λ v. SS root (Works (record { levels = r.are.1; stored = v; begun = s.begun }))) (sym c.spots)
+            (steps_more as_first (step_last kids));
+      }
 
-    pub stands_last : (s : S root (Answer f) (record { spot = a; second = true } ∷ ls) st n) → (new : List Stored)
-        → C a f st new → S root (Answer f) ls new n
-    stands_last s new c =
-        let w = s.are.4 in
-        let gives = w.3 f s.turns in
+      pub stands_up : (f : Found) (new : List Stored) → After (way.Gives f)
+          → (key ≡ Key a → C links a (record { found = f; events = 0 }) st new)
+          → S root (Answer (record { found = f; events = 0 })) ls new links n
+      stands_up f new after closed =
+          let h = after_here (way.Gives f) after in
+          ends (record { found = f; events = 0 }) new h.0 (given_none links a f h.1) (closed r.are.4)
+
+      pub stands_same : (new : List Stored) → After way.Same → (key ≡ Key a → C links a given st new)
+          → S root (Answer given) ls new links n
+      stands_same new after closed =
+          let h = after_here way.Same after in
+          ends given new h.0
+          (record { events = r.gives.events; yields = h.1; quiet = r.gives.quiet; head = r.gives.head })
+          (closed r.are.4)
+
+    pub stands_last : (head : ℕ) → S root (Answer given) (record { spot = a; key = key; wait = Last head } ∷ ls) st
+        links n → (more_links : List Link) (all : Given) (new : List Stored) → AreGrown links more_links
+        → IsJoined links more_links head given all → (key ≡ Key a → C more_links a all st new)
+        → S root (Answer all) ls new more_links n
+    stands_last head s more_links all new grown j closed =
+        let r = ready_of s in
+        let c = closed r.are.4 in
+        let w = r.are.5 in
+        let h = given_joined links more_links a r.spot r.are.0 head w.0 given all w.1 w.2 r.gives j in
         record {
-          levels = s.are.1;
+          levels = r.are.1;
           begun = s.begun;
           spot = a;
-          are = s.are.5;
-          turns = gives;
-          right = c.right gives s.right;
+          are = levels_grown grown r.are.6;
+          turns = h;
+          given = c.keeps h (keys_grown grown s.given);
           is = s.is;
-          steps = subst (λ v. SS root (Works (record { levels = s.are.1; stored = v; begun = s.begun }))) (sym c.spots)
-              (steps_more (subst (λ v. SS root (Works (record {
-                levels = record { at = a; asked = v } ∷ s.are.1;
-                stored = spots_of st;
-                begun = s.begun;
-              }))) w.1
-              (at_levels true s)) (step_last w.2));
+          steps = subst (λ v. SS root (Works (record { levels = r.are.1; stored = v; begun = s.begun }))) (sym c.spots)
+              (steps_more (at_levels (Last head) s.begun r) (step_last w.2.0));
         }
 
-  module _ (root : Spot) (f : Found) (st : List Stored) (n : ℕ) (s : S root (Answer f) [] st n) where
-    pub end_gives : SG root f
-    end_gives = subst (λ v. SG v f) s.are.1 s.turns
+  wait_head : (links : List Link) (w : Wait) (a b : Spot) (asked : List Spot) → Waiting g x more links w a asked b
+      → IsWaitHead links w
+  wait_head links First a b asked h = tt
+  wait_head links (Last head) a b asked h = h.1.is
+
+  module _ (root : Spot) (l : Frame) (given : Given) (ls : List Frame) (st : List Stored) (links : List Link) (n : ℕ)
+      (s : S root (Answer given) (l ∷ ls) st links n) where
+    pub level_well : IsWell g x l.spot
+    level_well = (ready_of s).are.3
+
+    pub level_head : IsWaitHead links l.wait
+    level_head = let r = ready_of s in wait_head links l.wait l.spot r.spot r.are.0 r.are.5
+
+  pub given_head : (root : Spot) (given : Given) (ls : List Frame) (st : List Stored) (links : List Link) (n : ℕ)
+      → S root (Answer given) ls st links n → IsHead links given.events
+  given_head root given ls st links n s = s.turns.head.is
+
+  module _ (root : Spot) (given : Given) (st : List Stored) (links : List Link) (n : ℕ)
+      (s : S root (Answer given) [] st links n) where
+    pub end_gives : G links root given
+    end_gives = let r = ready_of s in subst (λ v. G links v given) r.are.1 r.gives
 
     pub end_runs : Run Spot K Key weight [] root (spots_of st) n
-    end_runs = subst (Run Spot K Key weight [] root (spots_of st)) s.is
+    end_runs =
+        let r = ready_of s in
+        subst (Run Spot K Key weight [] root (spots_of st)) s.is
         (run_of_steps Spot K (NextOf (rules_of g.rules) (shapes_of g.nodes) g.bodies x) Key weight root (spots_of st)
         s.begun
-        (subst (λ v. SS root (Works (record { levels = v; stored = spots_of st; begun = s.begun }))) s.are.0 s.steps))
+        (subst (λ v. SS root (Works (record { levels = v; stored = spots_of st; begun = s.begun }))) r.are.0 r.steps))
 
-  pub closed_key : (a : Spot) (f : Found) (old new : List Stored) → Key a ≡ true
-      → new ≡ record { spot = a; found = f } ∷ old
-      → C a f old new
-  closed_key a f old new t grown = subst (C a f old) (sym grown) (record {
+  pub closed_key : (links : List Link) (a : Spot) (given : Given) (old new : List Stored) → Key a ≡ true
+      → new ≡ record { spot = a; given = given } ∷ old
+      → C links a given old new
+  closed_key links a given old new t grown = subst (C links a given old) (sym grown) (record {
     spots = subst (λ v. a ∷ spots_of old ≡ store Spot v a (spots_of old)) (sym t) refl;
-    right = λ h r. record { right = λ s i. by s h r (first i) };
+    keeps = λ h r. record { given = λ s i. by s h r (first i) };
   })
     where
-      first : {s : Stored} → IsIn s (record { spot = a; found = f } ∷ old)
-          → (s ≡ record { spot = a; found = f }) ⊎ IsIn s old
+      first : {s : Stored} → IsIn s (record { spot = a; given = given } ∷ old)
+          → (s ≡ record { spot = a; given = given }) ⊎ IsIn s old
       first in_here = inl refl
       first (in_later i) = inr i
 
-      by : (s : Stored) → SG a f → AreRight g x more old → (s ≡ record { spot = a; found = f }) ⊎ IsIn s old
-          → SG s.spot s.found
-      by s h r (inl is) = subst (λ v. SG v.spot v.found) (sym is) h
-      by s h r (inr i) = r.right s i
+      by : (s : Stored) → G links a given → AreGiven g x more links old
+          → (s ≡ record { spot = a; given = given }) ⊎ IsIn s old → G links s.spot s.given
+      by s h r (inl is) = subst (λ v. G links v.spot v.given) (sym is) h
+      by s h r (inr i) = r.given s i
 
-  pub closed_plain : (a : Spot) (f : Found) (old : List Stored) → Key a ≡ false → C a f old old
-  closed_plain a f old t = record {
+  pub closed_plain : (links : List Link) (a : Spot) (given : Given) (old : List Stored) → Key a ≡ false
+      → C links a given old old
+  closed_plain links a given old t = record {
     spots = subst (λ v. spots_of old ≡ store Spot v a (spots_of old)) (sym t) refl;
-    right = λ h r. r;
+    keeps = λ h r. r;
   }
 
-  pub stands_as : (root : Spot) (t u : Turn) (ls ms : List Frame) (st tt2 : List Stored) (n m : ℕ) → t ≡ u
-      → ls ≡ ms → st ≡ tt2
-      → n ≡ m → S root t ls st n → S root u ms tt2 m
-  stands_as root t u ls ms st tt2 n m a b c d s =
-      subst (λ v. S root v ms tt2 m) a (subst (λ v. S root t v tt2 m) b (subst (λ v. S root t ls v m) c
-      (subst (S root t ls st) d s)))
+  pub stands_as : {root : Spot} {t u : Turn} {ls ms : List Frame} {st su : List Stored} {ks kl : List Link} {n m : ℕ}
+      → t ≡ u → ls ≡ ms → st ≡ su → ks ≡ kl → n ≡ m → S root t ls st ks n → S root u ms su kl m
+  stands_as {root = root} {t = t} {u = u} {ls = ls} {ms = ms} {st = st} {su = su} {ks = ks} {kl = kl} {m = m} a b c e d
+      s =
+      subst (λ v. S root v ms su kl m) a (subst (λ v. S root t v su kl m) b (subst (λ v. S root t ls v kl m) c
+      (subst (λ v. S root t ls st v m) e (subst (S root t ls st ks) d s))))
 
   -- no more are begun than nodes at places
-  pub stands_few : (root : ℕ) (t : Turn) (ls : List Frame) (st : List Stored) (n : ℕ) → IsSoundGrammar g
+  pub stands_few : (root : ℕ) (t : Turn) (ls : List Frame) (st : List Stored) (links : List Link) (n : ℕ) → IsSoundGrammar g
       → slice_get g.bodies g.start ≡ Some root
       → AreMarks g.start (shapes_of g.nodes) g.bodies (node_marks marks) (tail_marks marks)
-      → S (Pair root 0) t ls st n → n ≤ most_begun g x
-  stands_few root t ls st n sound at are s =
+      → S (Pair root 0) t ls st links n → n ≤ most_begun g x
+  stands_few root t ls st links n sound at are s =
       let most = begun_at_places (rules_of g.rules) g.start (shapes_of g.nodes) g.bodies g.ranks x false sound root at
       (node_marks marks) (tail_marks marks) are (state_of t s.spot s.levels (spots_of st) s.begun) s.steps in
       let same : length (shapes_of g.nodes) ≡ length g.nodes = length-map g.nodes shape_of in

@@ -7,25 +7,38 @@ use Rattle.gramcheck.specs.Outcome.{Event, Outcome}
 use Rattle.memo.specs.declared.found.Found.{Found}
 use Rattle.memo.specs.declared.found.Found.TheVariants as found
 use Rattle.pegmatch.specs.Answers.{StartGives, WasEnough}
-use Rattle.pegmatch.specs.KeptEvents.{outcome_of}
+use Rattle.pegmatch.specs.KeptEvents.{outcome_of, StandFor}
+use Rattle.pegmatch.specs.declared.event.Kept.{Kept}
 use Rattle.pegmatch.specs.declared.matcher.Unit.{Unit as UnitAnswer}
 use Rattle.pegmatch.specs.declared.matcher.Unit.TheVariants.{Took, Failed, Need}
 use Rattle.memo.specs.Entries.{Entry}
 use Rattle.memo.specs.KeyLog.{spots_of}
+use Rattle.memo.specs.declared.key_log.Given.{Given}
 use Rattle.memo.specs.declared.key_log.Stored.{Stored}
 use Rattle.packrat.specs.SpotGives.{node_marks, tail_marks, AreRight}
 use Rattle.packrat.specs.View.{AreStored, AreImplied, AreAll}
 use Rattle.packrat.specs.declared.frames.Frame.{Frame}
 use Rattle.packrat.specs.declared.marks.Marks.{Marks}
 
--- the stored keys with their outcomes and the frames, each with the last one first, and how many pairs were begun
+-- the stored keys with their outcomes and the frames, each with the last one first; how many pairs were begun; and the
+-- events of the last success
 pub record Contents : Type 0 where
   pub stored : List Stored
   pub frames : List Frame
   pub begun : ℕ
+  pub kept : List Kept
 
 abbrev pub empty : Contents
-empty = record { stored = []; frames = []; begun = 0 }
+empty = record { stored = []; frames = []; begun = 0; kept = [] }
+
+-- It holds these events, for a grammar.
+abbrev pub Holds : Contents → Grammar → List ℕ → List Event → Type 0
+Holds c g x events = StandFor (shapes_of g.nodes) c.kept events
+
+-- the head of the events of what a match found
+abbrev pub head_of : Option Given → ℕ
+head_of None = 0
+head_of (Some given) = given.events
 
 -- the answer for what was found
 abbrev pub unit_of : Found → ℕ → UnitAnswer
@@ -33,9 +46,9 @@ unit_of found.Failed begun = Failed begun
 unit_of (found.Took end) begun = Took end begun
 
 -- likewise for what a match found, or that the window is too short
-abbrev pub unit_of_match : Option Found → ℕ → UnitAnswer
+abbrev pub unit_of_match : Option Given → ℕ → UnitAnswer
 unit_of_match None begun = Need
-unit_of_match (Some f) begun = unit_of f begun
+unit_of_match (Some given) begun = unit_of given.found begun
 
 -- how many evaluations were begun, where that is told
 abbrev pub told : UnitAnswer → ℕ

@@ -2,7 +2,6 @@ pub mod Offset
 pub mod Spots
 pub mod View
 pub mod SpotGives
-pub mod SpotKeeps
 pub mod MachineSteps
 pub mod SpotSteps
 pub mod ByteGives

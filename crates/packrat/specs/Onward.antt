@@ -1,20 +1,22 @@
 -- How a spot goes on, in code: what it gives at once, and what it asks for.
-use Rattle.std.specs.Prelude.{◌≡◌, ℕ, ◌<◌, ◌≤◌, List, [], ◌∷◌, length, slice_get, Some, Bool, true}
+use Rattle.std.specs.Prelude.{◌≡◌, ℕ, ◌<◌, ◌≤◌, List, [], ◌∷◌, length, slice_get, Some, Bool, true, false}
 use Rattle.pegread.specs.PegViews.{rules_of}
 use Rattle.gramcheck.specs.Grammar.{Grammar}
 use Rattle.gramcheck.specs.Nodes.{Shape, Any, Bytes, Set, Name, Seq, Choice, Star, Plus, Opt, And, Not, Act, Open}
 use Rattle.gramcheck.specs.Nodes.{Close, shapes_of}
 use Rattle.memo.specs.declared.found.Found.{Found}
+use Rattle.memo.specs.declared.found.Found.TheVariants.{Took}
 use Rattle.visits.specs.Visits.{NodeGives}
-use Rattle.gramcheck.specs.Outcome.{Outcome}
+use Rattle.gramcheck.specs.Outcome.{Event, Outcome}
 use Rattle.pegmatch.specs.declared.leaves.Tried.{Tried}
-use Rattle.pegmatch.specs.KeptEvents.{SpellsSome}
+use Rattle.pegmatch.specs.KeptEvents.{SpellsSome, StandsFor}
+use Rattle.memo.specs.KeyLog.{place_of}
 use Rattle.memo.specs.declared.spot.Spot.{Spot}
 use Rattle.memo.specs.declared.spot.Spot.TheVariants.{Pair, Tail}
-use Rattle.packrat.specs.SpotGives.{SpotGives}
+use Rattle.packrat.specs.SpotGives.{SpotYields, joined}
 use Rattle.packrat.specs.Spots.{Kids}
 use Rattle.packrat.specs.declared.onward.Onward.{Onward}
-use Rattle.packrat.specs.declared.onward.Onward.TheVariants.{Gives, Leads}
+use Rattle.packrat.specs.declared.onward.Onward.TheVariants.{Gives, Same, Passes}
 use Rattle.packrat.specs.declared.onward.Begun.{Begun}
 use Rattle.packrat.specs.declared.onward.Begun.TheVariants as begun
 use Rattle.packrat.specs.SpotSteps.{IsFirst}
@@ -49,19 +51,40 @@ module _ (g : Grammar) (x : List ℕ) where
   ReachesEnd more (Tail n i p) = ⊥
 
   module _ (more : Bool) where
+    -- a spot that has asked for these, with b last, gives what b gives, with these events before those of b
+    abbrev pub PassesOn : Spot → List Spot → Spot → List Event → Type 0
+    PassesOn a asked b first = Kids (rules_of g.rules) (shapes_of g.nodes) g.bodies x a asked
+        × ((f : Found) (then : List Event) → SpotYields g x more b f then
+        → SpotYields g x more a f (joined f first then))
+
     abbrev pub AfterNone : Spot → Begun → Type 0
-    AfterNone a (begun.Gives f) = Kids (rules_of g.rules) (shapes_of g.nodes) g.bodies x a [] × SpotGives g x more a f
+    AfterNone a (begun.Gives f) =
+        Kids (rules_of g.rules) (shapes_of g.nodes) g.bodies x a [] × SpotYields g x more a f []
+    AfterNone a (begun.Marks kept) = Kids (rules_of g.rules) (shapes_of g.nodes) g.bodies x a []
+        × ((event : Event) × StandsFor (shapes_of g.nodes) kept event
+        × SpotYields g x more a (Took (place_of a)) (event ∷ []))
     AfterNone a (begun.Leads k) = IsFirst (rules_of g.rules) (shapes_of g.nodes) g.bodies x a k × IsWell k
+    AfterNone a (begun.Passes k) = IsFirst (rules_of g.rules) (shapes_of g.nodes) g.bodies x a k × IsWell k
+        × PassesOn a (k ∷ []) k []
     AfterNone a begun.Need = ReachesEnd more a
 
-    -- behind its first kid j
-    abbrev pub AfterOne : Spot → Spot → Onward → Type 0
-    AfterOne a j (Gives f) = Kids (rules_of g.rules) (shapes_of g.nodes) g.bodies x a (j ∷ []) × SpotGives g x more a f
-    AfterOne a j (Leads k) = Kids (rules_of g.rules) (shapes_of g.nodes) g.bodies x a (j ∷ (k ∷ []))
-        × ((f : Found) → SpotGives g x more k f → SpotGives g x more a f) × IsWell k
+    -- behind its first kid j, which gave this with these events
+    abbrev pub AfterOne : Spot → Spot → Found → List Event → Onward → Type 0
+    AfterOne a j found events (Gives f) =
+        Kids (rules_of g.rules) (shapes_of g.nodes) g.bodies x a (j ∷ []) × SpotYields g x more a f []
+    AfterOne a j found events Same =
+        Kids (rules_of g.rules) (shapes_of g.nodes) g.bodies x a (j ∷ []) × SpotYields g x more a found events
+    AfterOne a j found events (Passes k) = PassesOn a (j ∷ (k ∷ [])) k events × IsWell k
 
 -- what a comparison tells: what was found, unless it reached the last byte of a window behind which there is more
 abbrev pub IsLeaf : Tried → ℕ → Bool → Begun → Type 0
 IsLeaf tried n more (begun.Gives f) = (f ≡ tried.found) × (more ≡ true → tried.looked ≡ n → ⊥)
+IsLeaf tried n more (begun.Marks kept) = ⊥
 IsLeaf tried n more (begun.Leads k) = ⊥
+IsLeaf tried n more (begun.Passes k) = ⊥
 IsLeaf tried n more begun.Need = (more ≡ true) × (tried.looked ≡ n)
+
+-- how a spot begins that leads to k, if k is its only one or not
+abbrev pub led_to : Bool → Spot → Begun
+led_to true k = begun.Passes k
+led_to false k = begun.Leads k

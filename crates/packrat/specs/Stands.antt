@@ -1,22 +1,32 @@
 -- Where the loop stands on its way.
-use Rattle.std.specs.Prelude.{◌≡◌, ℕ, ◌<◌, Bool, true, false, List, [], ◌∷◌, Option, Some, None}
+use Rattle.std.specs.Prelude.{◌≡◌, ◌⊎◌, ℕ, ◌<◌, Bool, false, List, [], ◌∷◌, ◌++◌, Option, Some, None}
 use Rattle.pegread.specs.PegViews.{rules_of}
 use Rattle.gramcheck.specs.Grammar.{Grammar}
-use Rattle.gramcheck.specs.Nodes.{shapes_of}
+use Rattle.gramcheck.specs.Nodes.{Shape, shapes_of}
+use Rattle.gramcheck.specs.Outcome.{Event}
+use Rattle.pegmatch.specs.KeptEvents.{StandFor}
+use Rattle.pegmatch.specs.declared.event.Kept.{Kept}
+use Rattle.eventlog.specs.EventLog.{IsHead, kept_at}
+use Rattle.eventlog.specs.declared.link.Link.{Link}
 use Rattle.memo.specs.declared.found.Found.{Found}
+use Rattle.memo.specs.declared.found.Found.TheVariants.{Failed, Took}
+use Rattle.memo.specs.declared.key_log.Given.{Given}
+use Rattle.memo.specs.Parts.{IsIn}
 use Rattle.packrat.specs.declared.marks.Marks.{Marks}
 use Rattle.memo.specs.declared.key_log.Stored.{Stored}
 use Rattle.memo.specs.declared.spot.Spot.{Spot}
-use Rattle.packrat.specs.SpotGives.{SpotGives, AreRight, node_marks, tail_marks}
+use Rattle.packrat.specs.SpotGives.{SpotYields, IsQuiet, node_marks, tail_marks}
 use Rattle.memo.specs.KeyLog.{spots_of}
 use Rattle.memo.specs.Run.{Run, total}
 use Rattle.packrat.specs.Spots.{Kids, is_key}
 use Rattle.packrat.specs.View.{weight}
 use Rattle.packrat.specs.declared.frames.Frame.{Frame}
+use Rattle.packrat.specs.declared.frames.Wait.{Wait}
+use Rattle.packrat.specs.declared.frames.Wait.TheVariants.{First, Last}
 use Rattle.packrat.specs.declared.machine.Turn.{Turn}
 use Rattle.packrat.specs.declared.machine.Turn.TheVariants.{Ask, Answer}
 use Rattle.packrat.specs.MachineSteps.{Level, State, Asks, Works, start_at, store}
-use Rattle.packrat.specs.Onward.{IsWell, ReachesEnd}
+use Rattle.packrat.specs.Onward.{IsWell, ReachesEnd, PassesOn}
 use Rattle.packrat.specs.TurnsLeft.{left}
 use Rattle.packrat.specs.SpotSteps.{IsFirst, SpotSteps}
 
@@ -26,48 +36,90 @@ key_of marks a = is_key (node_marks marks) (tail_marks marks) a
 
 abbrev pub state_of : Turn → Spot → List (Level Spot) → List Spot → List Spot → State Spot
 state_of (Ask a) b fs st bg = Asks b (record { levels = fs; stored = st; begun = bg })
-state_of (Answer f) b fs st bg = Works (record { levels = fs; stored = st; begun = bg })
+state_of (Answer given) b fs st bg = Works (record { levels = fs; stored = st; begun = bg })
+
+-- a head of a log, and what the events that it keeps stand for
+pub record HeadStands (nodes : List Shape) (links : List Link) (head : ℕ) (events : List Event) : Type 0 where
+  pub is : IsHead links head
+  pub stands : StandFor nodes (kept_at links head) events
+
+-- the kept events of what came first and of what came then, where that is the outcome
+abbrev pub kept_joined : Found → List Kept → List Kept → List Kept
+kept_joined Failed first then = []
+kept_joined (Took q) first then = first ++ then
+
+-- what is given in the new log: what was given in the old one, with the events of a head before it
+pub record IsJoined (old new : List Link) (first : ℕ) (given all : Given) : Type 0 where
+  pub found : all.found ≡ given.found
+  pub is : IsHead new all.events
+  pub kept : kept_at new all.events ≡ kept_joined given.found (kept_at old first) (kept_at old given.events)
+
+-- the head that is waited with, if there is one
+abbrev pub IsWaitHead : List Link → Wait → Type 0
+IsWaitHead links First = Unit {0}
+IsWaitHead links (Last head) = IsHead links head
+
+-- The frames of a spot that waits for its last one: it has one, unless it is no key and has no events so far.
+abbrev pub AreWaiting : Bool → ℕ → Spot → List Frame → List Frame → Type 0
+AreWaiting key head a old new = (new ≡ record { spot = a; key = key; wait = Last head } ∷ old)
+    ⊎ ((key ≡ false) × (head ≡ 0) × (new ≡ old))
 
 module _ (g : Grammar) (x : List ℕ) (more : Bool) where
-  -- spot a, which has asked for these, waits for the last one of them
-  abbrev pub Waiting : Bool → Spot → List Spot → Spot → Type 0
-  Waiting false a asked b = IsFirst (rules_of g.rules) (shapes_of g.nodes) g.bodies x a b × (asked ≡ b ∷ [])
-  Waiting true a asked b = (j : Spot) × (asked ≡ j ∷ (b ∷ []))
-      × Kids (rules_of g.rules) (shapes_of g.nodes) g.bodies x a (j ∷ (b ∷ []))
-      × ((f : Found) → SpotGives g x more b f → SpotGives g x more a f)
+  -- a spot gives this, and its head keeps its events
+  pub record GivenBy (links : List Link) (a : Spot) (given : Given) : Type 0 where
+    pub events : List Event
+    pub yields : SpotYields g x more a given.found events
+    pub quiet : IsQuiet given.found events
+    pub head : HeadStands (shapes_of g.nodes) links given.events events
 
-  -- the frames as levels, which wait for spot b
-  abbrev pub AreLevels : Spot → List Frame → List (Level Spot) → Spot → Type 0
-  AreLevels root [] fs b = (fs ≡ []) × (b ≡ root)
-  AreLevels root (l ∷ ls) fs b = (asked : List Spot) × (rest : List (Level Spot))
-      × (fs ≡ record { at = l.spot; asked = asked } ∷ rest) × IsWell g x l.spot × Waiting l.second l.spot asked b
-      × AreLevels root ls rest l.spot
+  -- each stored key has what it gives
+  pub record AreGiven (links : List Link) (stored : List Stored) : Type 0 where
+    pub given : (s : Stored) → IsIn s stored → GivenBy links s.spot s.given
 
-  abbrev pub IsTurn : Turn → Spot → Type 0
-  IsTurn (Ask a) b = (a ≡ b) × IsWell g x b
-  IsTurn (Answer f) b = SpotGives g x more b f
+  -- Spot a has asked for these, and waits for b: for its first; or for its last, to give what that one gives.
+  abbrev pub Waiting : List Link → Wait → Spot → List Spot → Spot → Type 0
+  Waiting links First a asked b =
+      IsFirst (rules_of g.rules) (shapes_of g.nodes) g.bodies x a b × (asked ≡ b ∷ [])
+  Waiting links (Last head) a asked b = (first : List Event) × HeadStands (shapes_of g.nodes) links head first
+      × PassesOn g x more a asked b first
+
+  abbrev pub IsTurn : List Link → Turn → Spot → Type 0
+  IsTurn links (Ask a) b = (a ≡ b) × IsWell g x b
+  IsTurn links (Answer given) b = GivenBy links b given
 
   module _ (marks : Marks) where
+    -- The levels wait for spot b. A level has a frame, or is that of a spot that is no key, and that only waits to give
+    -- what its last one gives.
+    pub data AreLevels (links : List Link) (root : Spot) : List Frame → List (Level Spot) → Spot → Type 0 where
+      levels_none : AreLevels links root [] [] root
+      levels_frame : {l : Frame} {b : Spot} {asked : List Spot} {ls : List Frame} {fs : List (Level Spot)}
+          → IsWell g x l.spot → l.key ≡ key_of marks l.spot → Waiting links l.wait l.spot asked b
+          → AreLevels links root ls fs l.spot
+          → AreLevels links root (l ∷ ls) (record { at = l.spot; asked = asked } ∷ fs) b
+      levels_passed : {a b : Spot} {asked : List Spot} {ls : List Frame} {fs : List (Level Spot)}
+          → key_of marks a ≡ false → PassesOn g x more a asked b [] → AreLevels links root ls fs a
+          → AreLevels links root ls (record { at = a; asked = asked } ∷ fs) b
+
     abbrev pub Comes : Spot → State Spot → Type 0
     Comes root s = SpotSteps (rules_of g.rules) (shapes_of g.nodes) g.bodies x (node_marks marks) (tail_marks marks)
         (start_at Spot root) s
 
     -- The machine comes to this state, from the root where nothing is stored.
-    pub record Stands (root : Spot) (turn : Turn) (frames : List Frame) (stored : List Stored) (count : ℕ)
-        : Type 0 where
+    pub record Stands (root : Spot) (turn : Turn) (frames : List Frame) (stored : List Stored) (links : List Link)
+        (count : ℕ) : Type 0 where
       pub levels : List (Level Spot)
       pub begun : List Spot
       pub spot : Spot
-      pub are : AreLevels root frames levels spot
-      pub turns : IsTurn turn spot
-      pub right : AreRight g x more stored
+      pub are : AreLevels links root frames levels spot
+      pub turns : IsTurn links turn spot
+      pub given : AreGiven links stored
       pub is : total Spot (Kids (rules_of g.rules) (shapes_of g.nodes) g.bodies x) (key_of marks) weight begun ≡ count
       pub steps : Comes root (state_of turn spot levels (spots_of stored) begun)
 
-    -- a spot that gives f is closed: a key is stored
-    pub record IsClosed (a : Spot) (f : Found) (old new : List Stored) : Type 0 where
+    -- a spot that gives this is closed: a key is stored
+    pub record IsClosed (links : List Link) (a : Spot) (given : Given) (old new : List Stored) : Type 0 where
       pub spots : spots_of new ≡ store Spot (key_of marks a) a (spots_of old)
-      pub right : SpotGives g x more a f → AreRight g x more old → AreRight g x more new
+      pub keeps : GivenBy links a given → AreGiven links old → AreGiven links new
 
     -- The machine begins a spot whose own comparison reaches the last byte of a window behind which there is more.
     pub record NeedsMore (root : Spot) : Type 0 where
@@ -79,23 +131,23 @@ module _ (g : Grammar) (x : List ℕ) (more : Bool) where
       pub reaches : ReachesEnd g x more spot
 
     -- what a turn comes to; none where it needs more
-    abbrev pub AreOn : Spot → Option Turn → List Frame → List Stored → ℕ → Type 0
-    AreOn root (Some turn) frames stored count = Stands root turn frames stored count
-    AreOn root None frames stored count = NeedsMore root
+    abbrev pub AreOn : Spot → Option Turn → List Frame → List Stored → List Link → ℕ → Type 0
+    AreOn root (Some turn) frames stored links count = Stands root turn frames stored links count
+    AreOn root None frames stored links count = NeedsMore root
 
-    -- an evaluation that ended with f
-    pub record IsEnded (root : Spot) (f : Found) (frames : List Frame) (stored : List Stored) (count : ℕ)
-        : Type 0 where
-      pub right : AreRight g x more stored
-      pub gives : SpotGives g x more root f
+    -- an evaluation that ended with this
+    pub record IsEnded (root : Spot) (given : Given) (frames : List Frame) (stored : List Stored) (links : List Link)
+        (count : ℕ) : Type 0 where
+      pub keys : AreGiven links stored
+      pub gives : GivenBy links root given
       pub runs : Run Spot (Kids (rules_of g.rules) (shapes_of g.nodes) g.bodies x) (key_of marks) weight [] root
           (spots_of stored) count
       pub empty : frames ≡ []
 
     -- what an evaluation ended with; none where it needs more
-    abbrev pub IsEvaluated : Spot → Option Found → List Frame → List Stored → ℕ → Type 0
-    IsEvaluated root (Some f) frames stored count = IsEnded root f frames stored count
-    IsEvaluated root None frames stored count = NeedsMore root
+    abbrev pub IsEvaluated : Spot → Option Given → List Frame → List Stored → List Link → ℕ → Type 0
+    IsEvaluated root (Some given) frames stored links count = IsEnded root given frames stored links count
+    IsEvaluated root None frames stored links count = NeedsMore root
 
 -- a turn lowers what is left, unless it needs more
 abbrev pub LowersLeft : Grammar → List ℕ → Option Turn → List Frame → ℕ → ℕ → Type 0

@@ -1,11 +1,13 @@
 -- What the machine's loop has left: a number that each turn lowers.
-use Rattle.std.specs.Prelude.{ℕ, suc, ◌+◌, ◌*◌, ◌-◌, max, Bool, true, false, List, [], ◌∷◌, length}
+use Rattle.std.specs.Prelude.{ℕ, suc, ◌+◌, ◌*◌, ◌-◌, max, List, [], ◌∷◌, length}
 use Rattle.gramcheck.specs.Grammar.{Grammar}
 use Rattle.gramcheck.specs.Nodes.{Shape, shapes_of}
 use Rattle.memo.specs.declared.spot.Spot.{Spot}
 use Rattle.memo.specs.declared.spot.Spot.TheVariants.{Pair, Tail}
-use Rattle.gramcheck.specs.Ways.{Way, Leaf, Body, Members, Alternatives, Turns, Operand, way_of}
+use Rattle.gramcheck.specs.NodeWays.{Way, Leaf, Body, Members, Alternatives, Turns, Operand, way_of}
 use Rattle.packrat.specs.declared.frames.Frame.{Frame}
+use Rattle.packrat.specs.declared.frames.Wait.{Wait}
+use Rattle.packrat.specs.declared.frames.Wait.TheVariants.{First, Last}
 use Rattle.packrat.specs.declared.machine.Turn.{Turn}
 use Rattle.packrat.specs.declared.machine.Turn.TheVariants.{Ask, Answer}
 
@@ -29,19 +31,19 @@ module _ (most : ℕ) where
   ask_cost (Pair n p) = 1
   ask_cost (Tail n i p) = 4 * (most - i)
 
-  -- likewise of a frame that waits for its second spot, or for its first
-  abbrev pub wait_cost : Bool → Spot → ℕ
-  wait_cost true a = 1
-  wait_cost false (Pair n p) = 3
-  wait_cost false (Tail n i p) = 2 + 4 * (most - suc i)
+  -- likewise of a frame that waits for its last spot, or for its first
+  abbrev pub wait_cost : Wait → Spot → ℕ
+  wait_cost (Last head) a = 1
+  wait_cost First (Pair n p) = 3
+  wait_cost First (Tail n i p) = 2 + 4 * (most - suc i)
 
   abbrev pub frames_cost : List Frame → ℕ
   frames_cost [] = 0
-  frames_cost (f ∷ fs) = wait_cost f.second f.spot + frames_cost fs
+  frames_cost (f ∷ fs) = wait_cost f.wait f.spot + frames_cost fs
 
   abbrev pub turn_cost : Turn → ℕ
   turn_cost (Ask a) = ask_cost a
-  turn_cost (Answer f) = 0
+  turn_cost (Answer given) = 0
 
 module _ (g : Grammar) (x : List ℕ) where
   -- there are no more pairs

@@ -16,7 +16,7 @@ ghost use Rattle.memo.specs.declared.spot.Spot.{Spot};
 ghost use Rattle.memo.specs.declared.spot.Spot.TheVariants.{Pair};
 ghost use Rattle.packrat.specs.ByteGives.{found_by, GivesBy, StoresItself, ComesWith, turns_on, operands_on};
 ghost use Rattle.packrat.specs.ByteGives.{turns_closed, AreFresh, RepeatsTo};
-ghost use Rattle.packrat.specs.KeyMarks.{AreMarks};
+ghost use Rattle.gramcheck.specs.KeyMarks.{AreMarks};
 ghost use Rattle.packrat.specs.MachineSteps.{Level, Asks, Works, store};
 ghost use Rattle.packrat.specs.SpotGives.{SpotGives};
 ghost use Rattle.packrat.specs.SpotSteps.{SpotSteps};

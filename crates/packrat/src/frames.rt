@@ -7,11 +7,20 @@ use ruletable::Memory;
 use std::alloc::Global;
 use std::marker::Model;
 
-/// A spot that is begun and not ended: it waits for the first spot that it asked for, or for the second.
+/// What a spot waits for: the first spot that it asked for; or the last one, to give what that one gives, with the
+/// events of this head before its events.
+#[derive(Clone, Copy, PartialEq, Eq, Debug)]
+pub enum Wait {
+    First,
+    Last(usize),
+}
+
+/// A spot that is begun and not ended, whether it is a key, and what it waits for.
 #[derive(Clone, Copy, PartialEq, Eq, Debug)]
 pub struct Frame {
     pub spot: Spot,
-    pub second: bool,
+    pub key: bool,
+    pub wait: Wait,
 }
 
 /// The frames, the last one first.

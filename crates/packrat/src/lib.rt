@@ -11,7 +11,7 @@ mod onward;
 mod packrat;
 
 pub use byte_laws::{one_byte_decides, turns_close, turns_give, turns_run};
-pub use frames::Frame;
+pub use frames::{Frame, Wait};
 pub use laws::{
     asked_once, evaluated_once, implied_cells, one_view, one_width, steps_hold, steps_run,
 };

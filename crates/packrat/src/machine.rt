@@ -1,36 +1,45 @@
 //! The machine: it evaluates by a loop over frames in place of recursion, and stores the keys alone.
 ghost use Rattle.std.specs.Prelude.{◌≡◌, ℕ, ◌+◌, ◌*◌, ◌<◌, ◌≤◌, Bool, true, List, [], ◌∷◌, length, slice_get, Some};
-ghost use Rattle.std.specs.Prelude.{IfOk, OnOk};
+ghost use Rattle.std.specs.Prelude.{IfOk, OnOk, IfSome, IfNone};
 ghost use Rattle.gramcheck.specs.Grammar.{IsSoundGrammar};
 ghost use Rattle.gramcheck.specs.Nodes.{shapes_of};
 ghost use Rattle.pegmatch.specs.Answers.{WasEnough};
+ghost use Rattle.eventlog.specs.EventLog.{IsHead, AreGrown};
+ghost use Rattle.eventlog.specs.declared.link.Link.{Link};
+ghost use Rattle.memo.specs.KeyLog.{spots_of};
+ghost use Rattle.memo.specs.Parts.{IsIn};
 ghost use Rattle.memo.specs.declared.spot.Spot.{Spot};
 ghost use Rattle.packrat.specs.TurnsLeft.{left, most_begun};
 ghost use Rattle.gramcheck.specs.KeyMarks.{AreMarks};
 ghost use Rattle.packrat.specs.Onward.{IsWell};
 ghost use Rattle.packrat.specs.SpotGives.{node_marks, tail_marks};
-ghost use Rattle.packrat.specs.Stands.{Stands, IsClosed, AreOn, IsEvaluated, LowersLeft};
+ghost use Rattle.packrat.specs.Stands.{Stands, IsClosed, AreOn, IsEvaluated, LowersLeft, key_of};
+ghost use Rattle.packrat.specs.Stands.{AreWaiting, IsWaitHead, IsJoined};
 ghost use Rattle.packrat.specs.View.{weight};
+ghost use Rattle.packrat.specs.declared.frames.Wait.{Wait};
 ghost use Rattle.packrat.specs.declared.machine.Turn.{Turn};
 
-use crate::frames::{Frame, Frames};
+use crate::frames::{Frame, Frames, Wait};
 use crate::marks::Marks;
 use crate::onward::{Begun, Onward, begin, go_on};
+use eventlog::EventLog;
 use gramcheck::SoundPeg;
-use memo::{Found, KeyLog, Spot};
+use memo::{Found, Given, KeyLog, Spot};
 use ruletable::Memory;
 
-/// A spot is to be evaluated, or one was.
+/// A spot is to be evaluated, or one gave this.
 #[derive(Clone, Copy, PartialEq, Eq, Debug)]
 pub(crate) enum Turn {
     Ask(Spot),
-    Answer(Found),
+    Answer(Given),
 }
 
-/// What a match changes: the keys that are stored, the frames of what is under way, and how many pairs were begun.
+/// What a match changes: the keys that are stored, the events, the frames of what is under way, and how many pairs were
+/// begun.
 #[derive(Drop)]
 pub(crate) struct Machine {
     pub(crate) log: KeyLog,
+    pub(crate) events: EventLog,
     pub(crate) frames: Frames,
     pub(crate) begun: u128,
 }
@@ -50,28 +59,128 @@ fn counted(nodes: usize, length: usize, begun: u128, spot: Spot) -> u128
     }
 }
 
+// Returns what is stored for a spot, if it is a key and was evaluated.
+fn stored(log: &mut KeyLog, spot: Spot, key: bool) -> Result<Option<Given>, Memory>
+    ensures some { IfOk result (λ found. IfSome found (λ g. (key ≡ true)
+        × IsIn (record { spot = spot; given = g }) log.old.stored)) }
+    ensures none { IfOk result (λ found. IfNone found (key ≡ true → IsIn spot (spots_of log.old.stored) → ⊥)) }
+    ensures same { log.new ≡ log.old }
+{
+    if key { log.get(spot) } else { Ok(None) }
+}
+
+// Ends a spot that gives this: a key is stored.
+fn close(
+    log: &mut KeyLog,
+    peg: &SoundPeg,
+    window: &[u8],
+    spot: Spot,
+    key: bool,
+    given: Given,
+) -> Result<(), Memory>
+    requires well { IsWell peg.now window.now spot }
+    requires rows { log.old.rows ≡ length peg.now.nodes }
+    ensures rows { OnOk result (log.new.rows ≡ length peg.now.nodes) }
+    ensures closed { OnOk result ((more : Bool) (marks : Marks) (links : List Link) → key ≡ key_of marks spot →
+        IsClosed peg.now window.now more marks links spot given log.old.stored log.new.stored) }
+{
+    if key {
+        log.put(spot, given)?;
+    }
+    Ok(())
+}
+
+// Waits for the last spot that a spot asks for, with the head of its events so far. A spot that is no key and has none
+// has no frame.
+fn wait_last(frames: &mut Frames, spot: Spot, key: bool, events: usize) -> Result<(), Memory>
+    ensures { OnOk result (AreWaiting key events spot frames.old frames.new) }
+{
+    if !key {
+        if events == 0 {
+            return Ok(());
+        }
+    }
+    frames.push(Frame {
+        spot,
+        key,
+        wait: Wait::Last(events),
+    })
+}
+
+// Returns what a spot gives whose last spot gives this, with the events of a head before its events.
+fn joined(events: &mut EventLog, first: usize, given: Given) -> Result<Given, Memory>
+    requires first { IsHead events.old first }
+    requires second { IsHead events.old given.events }
+    ensures joined { IfOk result (IsJoined events.old events.new first given) }
+    ensures grown { AreGrown events.old events.new }
+{
+    match given.found {
+        Found::Failed => Ok(Given {
+            found: Found::Failed,
+            events: 0,
+        }),
+        Found::Took(end) => Ok(Given {
+            found: Found::Took(end),
+            events: events.join(first, given.events)?,
+        }),
+    }
+}
+
 impl Machine {
-    // Ends a spot that gives this.
-    fn close(
+    // Begins a spot that is not stored, and goes down or gives something; none where the window is too short.
+    fn start_spot(
         &mut self,
         peg: &SoundPeg,
         window: &[u8],
-        marks: &Marks,
+        more: bool,
         spot: Spot,
-        found: Found,
-    ) -> Result<(), Memory>
+        key: bool,
+    ) -> Result<Option<Turn>, Memory>
+        requires some { WasEnough window.now more 0 }
+        requires sound { IsSoundGrammar peg.now }
         requires well { IsWell peg.now window.now spot }
         requires rows { self.old.log.rows ≡ length peg.now.nodes }
+        requires few { self.old.begun ≤ most_begun peg.now window.now }
         ensures rows { OnOk result (self.new.log.rows ≡ length peg.now.nodes) }
-        ensures closed { OnOk result ((more : Bool) → IsClosed peg.now window.now more marks.now spot found
-            self.old.log.stored self.new.log.stored) }
-        ensures frames { self.new.frames ≡ self.old.frames }
-        ensures begun { self.new.begun ≡ self.old.begun }
+        ensures stands { (marks : Marks) (root : Spot) → key ≡ key_of marks spot →
+            (key ≡ true → IsIn spot (spots_of self.old.log.stored) → ⊥) →
+            Stands peg.now window.now more marks root (Turn.Ask spot) self.old.frames
+            self.old.log.stored self.old.events self.old.begun →
+            IfOk result (λ turn. AreOn peg.now window.now more marks root turn
+            self.new.frames self.new.log.stored self.new.events self.new.begun) }
+        ensures less { self.new.begun ≤ most_begun peg.now window.now → IfOk result (λ turn.
+            LowersLeft peg.now window.now turn self.new.frames self.new.begun
+            (left peg.now window.now (Turn.Ask spot) self.old.frames self.old.begun)) }
     {
-        if marks.is_key(spot) {
-            self.log.put(spot, found)?;
+        self.begun = counted(peg.nodes(), window.len(), self.begun, spot);
+        match begin(peg, window, more, spot) {
+            Begun::Gives(found) => {
+                let given = Given { found, events: 0 };
+                close(&mut self.log, peg, window, spot, key, given)?;
+                Ok(Some(Turn::Answer(given)))
+            }
+            Begun::Marks(event) => {
+                let given = Given {
+                    found: Found::Took(spot.place()),
+                    events: self.events.mark(event)?,
+                };
+                close(&mut self.log, peg, window, spot, key, given)?;
+                Ok(Some(Turn::Answer(given)))
+            }
+            Begun::Leads(kid) => {
+                self.frames.push(Frame {
+                    spot,
+                    key,
+                    wait: Wait::First,
+                })?;
+                Ok(Some(Turn::Ask(kid)))
+            }
+            Begun::Passes(kid) => {
+                wait_last(&mut self.frames, spot, key, 0)?;
+                Ok(Some(Turn::Ask(kid)))
+            }
+            Begun::Need => Ok(None),
         }
-        Ok(())
     }
 
     // Evaluates a spot, or begins it and goes down; none where the window is too short.
@@ -90,73 +199,95 @@ impl Machine {
         requires few { self.old.begun ≤ most_begun peg.now window.now }
         ensures rows { OnOk result (self.new.log.rows ≡ length peg.now.nodes) }
         ensures stands { (root : Spot) → Stands peg.now window.now more marks.now root (Turn.Ask spot) self.old.frames
-            self.old.log.stored self.old.begun → IfOk result (λ turn. AreOn peg.now window.now more marks.now root turn
-            self.new.frames self.new.log.stored self.new.begun) }
+            self.old.log.stored self.old.events self.old.begun →
+            IfOk result (λ turn. AreOn peg.now window.now more marks.now root turn
+            self.new.frames self.new.log.stored self.new.events self.new.begun) }
         ensures less { self.new.begun ≤ most_begun peg.now window.now → IfOk result (λ turn.
             LowersLeft peg.now window.now turn self.new.frames self.new.begun
             (left peg.now window.now (Turn.Ask spot) self.old.frames self.old.begun)) }
     {
-        if marks.is_key(spot) {
-            match self.log.get(spot) {
-                Some(found) => return Ok(Some(Turn::Answer(found))),
-                None => {}
-            }
-        }
-        self.begun = counted(peg.nodes(), window.len(), self.begun, spot);
-        match begin(peg, window, more, spot) {
-            Begun::Gives(found) => {
-                self.close(peg, window, marks, spot, found)?;
-                Ok(Some(Turn::Answer(found)))
-            }
-            Begun::Leads(kid) => {
-                self.frames.push(Frame {
-                    spot,
-                    second: false,
-                })?;
-                Ok(Some(Turn::Ask(kid)))
-            }
-            Begun::Need => Ok(None),
+        let key = marks.is_key(spot);
+        match stored(&mut self.log, spot, key)? {
+            Some(given) => Ok(Some(Turn::Answer(given))),
+            None => self.start_spot(peg, window, more, spot, key),
         }
     }
 
-    // Goes on with a frame that was the last one, and whose kid gave this.
+    // Goes on with a frame that was the last one, and whose first spot gave this.
+    fn after_first(
+        &mut self,
+        peg: &SoundPeg,
+        window: &[u8],
+        spot: Spot,
+        key: bool,
+        given: Given,
+    ) -> Result<Turn, Memory>
+        requires sound { IsSoundGrammar peg.now }
+        requires well { IsWell peg.now window.now spot }
+        requires rows { self.old.log.rows ≡ length peg.now.nodes }
+        ensures rows { OnOk result (self.new.log.rows ≡ length peg.now.nodes) }
+        ensures stands { (more : Bool) → WasEnough window.now more 0 → (marks : Marks) (root : Spot) →
+            Stands peg.now window.now more marks root (Turn.Answer given)
+            (record { spot = spot; key = key; wait = Wait.First } ∷ self.old.frames)
+            self.old.log.stored self.old.events self.old.begun →
+            IfOk result (λ turn. Stands peg.now window.now more marks root turn
+            self.new.frames self.new.log.stored self.new.events self.new.begun) }
+        ensures less { (more : Bool) → WasEnough window.now more 0 → (marks : Marks) (root : Spot) →
+            Stands peg.now window.now more marks root (Turn.Answer given)
+            (record { spot = spot; key = key; wait = Wait.First } ∷ self.old.frames)
+            self.old.log.stored self.old.events self.old.begun → IfOk result (λ turn.
+            left peg.now window.now turn self.new.frames self.new.begun
+            < left peg.now window.now (Turn.Answer given)
+            (record { spot = spot; key = key; wait = Wait.First } ∷ self.old.frames) self.old.begun) }
+    {
+        match go_on(peg, window, spot, given.found) {
+            Onward::Gives(found) => {
+                let own = Given { found, events: 0 };
+                close(&mut self.log, peg, window, spot, key, own)?;
+                Ok(Turn::Answer(own))
+            }
+            Onward::Same => {
+                close(&mut self.log, peg, window, spot, key, given)?;
+                Ok(Turn::Answer(given))
+            }
+            Onward::Passes(kid) => {
+                wait_last(&mut self.frames, spot, key, given.events)?;
+                Ok(Turn::Ask(kid))
+            }
+        }
+    }
+
+    // Goes on with a frame that was the last one, and whose spot gave this.
     fn resume(
         &mut self,
         peg: &SoundPeg,
         window: &[u8],
-        marks: &Marks,
         frame: Frame,
-        found: Found,
+        given: Given,
     ) -> Result<Turn, Memory>
         requires sound { IsSoundGrammar peg.now }
         requires well { IsWell peg.now window.now frame.spot }
         requires rows { self.old.log.rows ≡ length peg.now.nodes }
+        requires first { IsWaitHead self.old.events frame.wait }
+        requires second { IsHead self.old.events given.events }
         ensures rows { OnOk result (self.new.log.rows ≡ length peg.now.nodes) }
-        ensures stands { (more : Bool) → WasEnough window.now more 0 → (root : Spot) →
-            Stands peg.now window.now more marks.now root (Turn.Answer found) (frame ∷ self.old.frames)
-            self.old.log.stored self.old.begun → IfOk result (λ turn. Stands peg.now window.now more marks.now root turn
-            self.new.frames self.new.log.stored self.new.begun) }
-        ensures less { (more : Bool) → WasEnough window.now more 0 → (root : Spot) →
-            Stands peg.now window.now more marks.now root (Turn.Answer found)
-            (frame ∷ self.old.frames) self.old.log.stored self.old.begun → IfOk result (λ turn.
+        ensures stands { (more : Bool) → WasEnough window.now more 0 → (marks : Marks) (root : Spot) →
+            Stands peg.now window.now more marks root (Turn.Answer given) (frame ∷ self.old.frames)
+            self.old.log.stored self.old.events self.old.begun →
+            IfOk result (λ turn. Stands peg.now window.now more marks root turn
+            self.new.frames self.new.log.stored self.new.events self.new.begun) }
+        ensures less { (more : Bool) → WasEnough window.now more 0 → (marks : Marks) (root : Spot) →
+            Stands peg.now window.now more marks root (Turn.Answer given)
+            (frame ∷ self.old.frames) self.old.log.stored self.old.events self.old.begun → IfOk result (λ turn.
             left peg.now window.now turn self.new.frames self.new.begun
-            < left peg.now window.now (Turn.Answer found) (frame ∷ self.old.frames) self.old.begun) }
+            < left peg.now window.now (Turn.Answer given) (frame ∷ self.old.frames) self.old.begun) }
     {
-        if frame.second {
-            self.close(peg, window, marks, frame.spot, found)?;
-            return Ok(Turn::Answer(found));
-        }
-        match go_on(peg, window, frame.spot, found) {
-            Onward::Gives(given) => {
-                self.close(peg, window, marks, frame.spot, given)?;
-                Ok(Turn::Answer(given))
-            }
-            Onward::Leads(kid) => {
-                self.frames.push(Frame {
-                    spot: frame.spot,
-                    second: true,
-                })?;
-                Ok(Turn::Ask(kid))
+        match frame.wait {
+            Wait::First => self.after_first(peg, window, frame.spot, frame.key, given),
+            Wait::Last(first) => {
+                let all = joined(&mut self.events, first, given)?;
+                close(&mut self.log, peg, window, frame.spot, frame.key, all)?;
+                Ok(Turn::Answer(all))
             }
         }
     }
@@ -173,7 +304,7 @@ impl Machine {
         more: bool,
         marks: &Marks,
         root: usize,
-    ) -> Result<Option<Found>, Memory>
+    ) -> Result<Option<Given>, Memory>
         requires some { WasEnough window.now more 0 }
         requires sound { IsSoundGrammar peg.now }
         requires root { slice_get peg.now.bodies peg.now.start ≡ Some root }
@@ -181,11 +312,12 @@ impl Machine {
             (tail_marks marks.now) }
         requires rows { self.old.log.rows ≡ length peg.now.nodes }
         requires empty { self.old.log.stored ≡ [] }
-        ensures { IfOk result (λ found. IsEvaluated peg.now window.now more marks.now (Spot.Pair root 0) found
-            self.new.frames self.new.log.stored self.new.begun) }
+        ensures { IfOk result (λ given. IsEvaluated peg.now window.now more marks.now (Spot.Pair root 0) given
+            self.new.frames self.new.log.stored self.new.events self.new.begun) }
     {
         self.begun = 0;
         self.frames.clear();
+        self.events.clear();
         let mut turn = Turn::Ask(Spot::Pair {
             node: root,
             place: 0,
@@ -196,9 +328,9 @@ impl Machine {
                     Some(next) => turn = next,
                     None => return Ok(None),
                 },
-                Turn::Answer(found) => match self.frames.pop() {
-                    None => return Ok(Some(found)),
-                    Some(frame) => turn = self.resume(peg, window, marks, frame, found)?,
+                Turn::Answer(given) => match self.frames.pop() {
+                    None => return Ok(Some(given)),
+                    Some(frame) => turn = self.resume(peg, window, frame, given)?,
                 },
             }
         }

@@ -3,30 +3,36 @@ ghost use Rattle.std.specs.Prelude.{◌≡◌, ℕ, ◌<◌, ◌≤◌, Bool, Li
 ghost use Rattle.pegread.specs.PegViews.{rules_of};
 ghost use Rattle.gramcheck.specs.Grammar.{IsSoundGrammar};
 ghost use Rattle.gramcheck.specs.Nodes.{shapes_of};
+ghost use Rattle.gramcheck.specs.Outcome.{Event};
 ghost use Rattle.pegmatch.specs.Answers.{WasEnough};
 ghost use Rattle.memo.specs.declared.spot.Spot.{Spot};
-ghost use Rattle.packrat.specs.Onward.{IsWell, AfterNone, AfterOne, IsLeaf};
-ghost use Rattle.packrat.specs.SpotGives.{SpotGives};
+ghost use Rattle.packrat.specs.Onward.{IsWell, AfterNone, AfterOne, IsLeaf, led_to};
+ghost use Rattle.packrat.specs.SpotGives.{SpotYields};
 ghost use Rattle.packrat.specs.SpotSteps.{IsFirst};
 
 use gramcheck::{Node, SoundPeg};
 use memo::{Found, Spot};
-use pegmatch::{Tried, match_any, match_bytes, match_set};
+use pegmatch::{Kept, Tried, match_any, match_bytes, match_set};
 
-/// How a spot begins: it gives something, or leads to another spot; or its comparison reaches the last byte of a window
-/// behind which there is more.
+/// How a spot begins: it gives something without events; or takes nothing, and leaves an event behind; or leads to
+/// another spot; or to its only one, and passes on what that one gives; or its comparison reaches the last byte of a
+/// window behind which there is more.
 #[derive(Clone, Copy, PartialEq, Eq, Debug)]
 pub(crate) enum Begun {
     Gives(Found),
+    Marks(Kept),
     Leads(Spot),
+    Passes(Spot),
     Need,
 }
 
-/// How a spot goes on: it gives something, or leads to another spot.
+/// How a spot goes on: it gives something without events; or the same as its first one; or it leads to its last one,
+/// and gives what that one gives, with the events of its first one before those.
 #[derive(Clone, Copy, PartialEq, Eq, Debug)]
 pub(crate) enum Onward {
     Gives(Found),
-    Leads(Spot),
+    Same,
+    Passes(Spot),
 }
 
 // Returns what was tried, if its comparison does not reach the last byte of a window behind which there is more.
@@ -52,7 +58,7 @@ fn begin_node(peg: &SoundPeg, window: &[u8], more: bool, node: usize, place: usi
         Node::Any => leaf(match_any(window, place), window.len(), more),
         Node::Bytes(bytes) => leaf(match_bytes(bytes, window, place), window.len(), more),
         Node::Set(set) => leaf(match_set(set, window, place), window.len(), more),
-        Node::Name(id) => Begun::Leads(Spot::Pair {
+        Node::Name(id) => Begun::Passes(Spot::Pair {
             node: peg.body_node(*id),
             place,
         }),
@@ -60,7 +66,7 @@ fn begin_node(peg: &SoundPeg, window: &[u8], more: bool, node: usize, place: usi
             if members.is_empty() {
                 Begun::Gives(Found::Took(place))
             } else {
-                Begun::Leads(Spot::Tail {
+                Begun::Passes(Spot::Tail {
                     node,
                     index: 0,
                     place,
@@ -71,7 +77,7 @@ fn begin_node(peg: &SoundPeg, window: &[u8], more: bool, node: usize, place: usi
             if alternatives.is_empty() {
                 Begun::Gives(Found::Failed)
             } else {
-                Begun::Leads(Spot::Tail {
+                Begun::Passes(Spot::Tail {
                     node,
                     index: 0,
                     place,
@@ -98,9 +104,20 @@ fn begin_node(peg: &SoundPeg, window: &[u8], more: bool, node: usize, place: usi
             node: *operand,
             place,
         }),
-        Node::Act(_) => Begun::Gives(Found::Took(place)),
-        Node::Open => Begun::Gives(Found::Took(place)),
-        Node::Close => Begun::Gives(Found::Took(place)),
+        Node::Act(_) => Begun::Marks(Kept::Acted(node)),
+        Node::Open => Begun::Marks(Kept::Opened(place)),
+        Node::Close => Begun::Marks(Kept::Closed(place)),
+    }
+}
+
+// How a spot begins that leads to this one, and that passes on what this one gives if this is its only one.
+fn led(only: bool, kid: Spot) -> Begun
+    ensures { result ≡ led_to only kid }
+{
+    if only {
+        Begun::Passes(kid)
+    } else {
+        Begun::Leads(kid)
     }
 }
 
@@ -119,14 +136,20 @@ fn begin_tail(
     ensures { AfterNone peg.now window.now more (Spot.Tail node index place) result }
 {
     match peg.node(node) {
-        Node::Seq(members) => Begun::Leads(Spot::Pair {
-            node: members[index],
-            place,
-        }),
-        Node::Choice(alternatives) => Begun::Leads(Spot::Pair {
-            node: alternatives[index],
-            place,
-        }),
+        Node::Seq(members) => led(
+            index + 1 == members.len(),
+            Spot::Pair {
+                node: members[index],
+                place,
+            },
+        ),
+        Node::Choice(alternatives) => led(
+            index + 1 == alternatives.len(),
+            Spot::Pair {
+                node: alternatives[index],
+                place,
+            },
+        ),
         _ => Begun::Gives(Found::Failed),
     }
 }
@@ -150,13 +173,13 @@ fn go_on_node(peg: &SoundPeg, window: &[u8], node: usize, place: usize, found: F
     requires well { IsWell peg.now window.now (Spot.Pair node place) }
     ensures { (more : Bool) → WasEnough window.now more 0 → (j : Spot) →
         IsFirst (rules_of peg.now.rules) (shapes_of peg.now.nodes) peg.now.bodies window.now
-        (Spot.Pair node place) j → SpotGives peg.now window.now more j found →
-        AfterOne peg.now window.now more (Spot.Pair node place) j result }
+        (Spot.Pair node place) j → (events : List Event) → SpotYields peg.now window.now more j found events →
+        AfterOne peg.now window.now more (Spot.Pair node place) j found events result }
 {
     match peg.node(node) {
         Node::Star(_) => match found {
             Found::Failed => Onward::Gives(Found::Took(place)),
-            Found::Took(end) => Onward::Leads(Spot::Pair { node, place: end }),
+            Found::Took(end) => Onward::Passes(Spot::Pair { node, place: end }),
         },
         Node::Not(_) => match found {
             Found::Failed => Onward::Gives(Found::Took(place)),
@@ -164,28 +187,28 @@ fn go_on_node(peg: &SoundPeg, window: &[u8], node: usize, place: usize, found: F
         },
         Node::Plus { operand: _, star } => match found {
             Found::Failed => Onward::Gives(Found::Failed),
-            Found::Took(end) => Onward::Leads(Spot::Pair {
+            Found::Took(end) => Onward::Passes(Spot::Pair {
                 node: *star,
                 place: end,
             }),
         },
         Node::Opt(_) => match found {
             Found::Failed => Onward::Gives(Found::Took(place)),
-            Found::Took(end) => Onward::Gives(Found::Took(end)),
+            Found::Took(_) => Onward::Same,
         },
         Node::And(_) => match found {
             Found::Failed => Onward::Gives(Found::Failed),
             Found::Took(_) => Onward::Gives(Found::Took(place)),
         },
-        Node::Name(_) => Onward::Gives(found),
-        Node::Seq(_) => Onward::Gives(found),
-        Node::Choice(_) => Onward::Gives(found),
-        Node::Any => Onward::Gives(found),
-        Node::Bytes(_) => Onward::Gives(found),
-        Node::Set(_) => Onward::Gives(found),
-        Node::Act(_) => Onward::Gives(found),
-        Node::Open => Onward::Gives(found),
-        Node::Close => Onward::Gives(found),
+        Node::Name(_) => Onward::Same,
+        Node::Seq(_) => Onward::Same,
+        Node::Choice(_) => Onward::Same,
+        Node::Any => Onward::Same,
+        Node::Bytes(_) => Onward::Same,
+        Node::Set(_) => Onward::Same,
+        Node::Act(_) => Onward::Same,
+        Node::Open => Onward::Same,
+        Node::Close => Onward::Same,
     }
 }
 
@@ -202,29 +225,29 @@ fn go_on_tail(
     requires well { IsWell peg.now window.now (Spot.Tail node index place) }
     ensures { (more : Bool) → WasEnough window.now more 0 → (j : Spot) →
         IsFirst (rules_of peg.now.rules) (shapes_of peg.now.nodes) peg.now.bodies window.now
-        (Spot.Tail node index place) j → SpotGives peg.now window.now more j found →
-        AfterOne peg.now window.now more (Spot.Tail node index place) j result }
+        (Spot.Tail node index place) j → (events : List Event) → SpotYields peg.now window.now more j found events →
+        AfterOne peg.now window.now more (Spot.Tail node index place) j found events result }
 {
     match peg.node(node) {
         Node::Seq(members) => match found {
             Found::Failed => Onward::Gives(Found::Failed),
             Found::Took(end) => {
                 if index + 1 < members.len() {
-                    Onward::Leads(Spot::Tail {
+                    Onward::Passes(Spot::Tail {
                         node,
                         index: index + 1,
                         place: end,
                     })
                 } else {
-                    Onward::Gives(Found::Took(end))
+                    Onward::Same
                 }
             }
         },
         Node::Choice(alternatives) => match found {
-            Found::Took(end) => Onward::Gives(Found::Took(end)),
+            Found::Took(_) => Onward::Same,
             Found::Failed => {
                 if index + 1 < alternatives.len() {
-                    Onward::Leads(Spot::Tail {
+                    Onward::Passes(Spot::Tail {
                         node,
                         index: index + 1,
                         place,
@@ -234,7 +257,7 @@ fn go_on_tail(
                 }
             }
         },
-        _ => Onward::Gives(found),
+        _ => Onward::Same,
     }
 }
 
@@ -244,7 +267,8 @@ pub(crate) fn go_on(peg: &SoundPeg, window: &[u8], spot: Spot, found: Found) -> 
     requires well { IsWell peg.now window.now spot }
     ensures { (more : Bool) → WasEnough window.now more 0 → (j : Spot) →
         IsFirst (rules_of peg.now.rules) (shapes_of peg.now.nodes) peg.now.bodies window.now spot j →
-        SpotGives peg.now window.now more j found → AfterOne peg.now window.now more spot j result }
+        (events : List Event) → SpotYields peg.now window.now more j found events →
+        AfterOne peg.now window.now more spot j found events result }
 {
     match spot {
         Spot::Pair { node, place } => go_on_node(peg, window, node, place, found),

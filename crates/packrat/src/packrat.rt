@@ -1,33 +1,42 @@
 //! The packrat matcher.
-ghost use Rattle.std.specs.Prelude.{◌≡◌, ℕ, ◌+◌, ◌*◌, ◌<◌, ◌≤◌, true, length, IfOk, OnErr};
+ghost use Rattle.std.specs.Prelude.{◌≡◌, ℕ, ◌+◌, ◌*◌, ◌<◌, ◌≤◌, true, false, List, length, IfOk, OnErr, Err};
 ghost use Rattle.gramcheck.specs.Nodes.{shapes_of};
-ghost use Rattle.gramcheck.specs.Outcome.{Outcome};
-ghost use Rattle.pegmatch.specs.Answers.{StartGives};
-ghost use Rattle.packrat.specs.Done.{empty, IsOutcome, told, unit_of, unit_of_match};
+ghost use Rattle.gramcheck.specs.Outcome.{Event, Outcome};
+ghost use Rattle.pegmatch.specs.Answers.{StartGives, IsAnswer, HoldsSuccess, Replays};
+ghost use Rattle.pegmatch.specs.Text.{text_of};
+ghost use Rattle.pegmatch.specs.declared.matcher.ReplayFault.{ReplayFault};
+ghost use Rattle.packrat.specs.Done.{empty, Holds, IsOutcome, head_of, told, unit_of, unit_of_match};
 ghost use Rattle.gramcheck.specs.KeyMarks.{AreMarks};
 ghost use Rattle.packrat.specs.SpotGives.{node_marks, tail_marks};
 
 use crate::frames::Frames;
 use crate::machine::Machine;
 use crate::marks::Marks;
+use eventlog::EventLog;
 use gramcheck::SoundPeg;
-use memo::{Found, KeyLog};
-use pegmatch::Unit;
-use ruletable::Memory;
+use memo::{Found, Given, KeyLog};
+use pegmatch::{ReplayFault, Unit};
+use ruletable::{Memory, Sink};
 use std::alloc::Global;
 use std::marker::Model;
 
+// So many nodes, or bytes of a window, are too many.
+const MOST: usize = 4_294_967_295;
+
 /// A matcher that stores the outcomes of the keys alone, by node and place, and evaluates each node at each place at
-/// most once.
+/// most once. A match in a window of 4,294,967,295 bytes, or by as many nodes, is refused as `Memory`.
 ///
-/// It is seen as the keys that are stored, the frames of what is under way, each with the last one first, and how many
-/// evaluations were begun. It recurses nowhere: its depth is that of its frames.
+/// It is seen as the keys that are stored, the frames of what is under way, each with the last one first, how many
+/// evaluations were begun, and the events of the last success. It recurses nowhere: its depth is that of its frames.
 #[derive(Drop)]
 pub struct Packrat {
     machine: Machine,
+    // that of the events of the last success
+    head: usize,
 }
 
 impl Model for Packrat {
+    ghost use Rattle.eventlog.specs.EventLog.{IsHead, kept_at};
     ghost use Rattle.packrat.specs.Done.{Contents};
 
     ghost Value = { Contents };
@@ -36,7 +45,10 @@ impl Model for Packrat {
       stored = m.machine.log.stored;
       frames = m.machine.frames;
       begun = m.machine.begun;
+      kept = kept_at m.machine.events m.head;
     } };
+
+    ghost invariant = { λ m. IsHead m.machine.events m.head };
 }
 
 // Returns the answer for an outcome.
@@ -50,12 +62,22 @@ fn ended(found: Found, begun: u128) -> Unit
 }
 
 // Returns the answer for what a match found; `Need` where the window was too short.
-fn matched_unit(found: Option<Found>, begun: u128) -> Unit
-    ensures { result ≡ unit_of_match found begun }
+fn matched_unit(given: Option<Given>, begun: u128) -> Unit
+    ensures { result ≡ unit_of_match given begun }
 {
-    match found {
-        Some(found) => ended(found, begun),
+    match given {
+        Some(given) => ended(given.found, begun),
         None => Unit::Need,
+    }
+}
+
+// Returns the head of the events of what a match found.
+fn head_given(given: Option<Given>) -> usize
+    ensures { result ≡ head_of given }
+{
+    match given {
+        Some(given) => given.events,
+        None => 0,
     }
 }
 
@@ -67,9 +89,11 @@ impl Packrat {
         Packrat {
             machine: Machine {
                 log: KeyLog::new(alloc),
+                events: EventLog::new(alloc),
                 frames: Frames::new(alloc),
                 begun: 0,
             },
+            head: 0,
         }
     }
 
@@ -92,8 +116,10 @@ impl Packrat {
         ensures { self.new ≡ empty }
     {
         self.machine.log.clear();
+        self.machine.events.clear();
         self.machine.frames.clear();
         self.machine.begun = 0;
+        self.head = 0;
     }
 
     /// Returns what the start rule gives at the front of the window (Ford 2004, section 3.3). If it is not `Need`,
@@ -116,23 +142,60 @@ impl Packrat {
         requires some { more ≡ true → 0 < length window.now }
         requires marks { AreMarks peg.now.start (shapes_of peg.now.nodes) peg.now.bodies (node_marks marks.now)
             (tail_marks marks.now) }
+        ensures answer { IfOk result (IsAnswer peg.now window.now more (Holds self.new peg.now window.now)) }
         ensures outcome { IfOk result (IsOutcome peg.now window.now more marks.now self.new) }
         ensures bounded { IfOk result (λ unit. (o : Outcome) (k : ℕ) → StartGives peg.now window.now o k →
             told unit ≤ length peg.now.nodes * (k + 1)) }
         ensures empty { OnErr result (self.new ≡ empty) }
     {
         let root = peg.body_node(peg.start());
+        if peg.nodes() >= MOST || window.len() >= MOST {
+            self.reset();
+            return Err(Memory);
+        }
         if self.machine.log.begin_unit(peg.nodes()).is_err() {
             self.reset();
             return Err(Memory);
         }
+        self.head = 0;
         let matched = self.machine.evaluate(peg, window, more, marks, root);
         match matched {
-            Ok(found) => Ok(matched_unit(found, self.machine.begun)),
+            Ok(given) => {
+                self.head = head_given(given);
+                Ok(matched_unit(given, self.machine.begun))
+            }
             Err(fault) => {
                 self.reset();
                 Err(fault)
             }
         }
+    }
+
+    /// Writes what the actions of its last success print, in order. It must hold a success for this grammar and window,
+    /// and then holds it still.
+    ///
+    /// # Errors
+    /// - `Memory` if an allocation fails; nothing was written, and nothing is stored.
+    /// - `Write` if the writer failed; a beginning was written.
+    pub fn replay<W: Sink>(
+        &mut self,
+        peg: &SoundPeg,
+        window: &[u8],
+        raw: bool,
+        out: &mut W,
+    ) -> Result<(), ReplayFault>
+        requires success { HoldsSuccess peg.now window.now (Holds self.old peg.now window.now) }
+        requires out_is_fresh { W.failed out.old ≡ false }
+        ensures text { (events : List Event) → Holds self.old peg.now window.now events →
+            Replays (W.contents out.old) (W.contents out.new) (W.failed out.old) (W.failed out.new)
+            (text_of raw window.now events) result }
+        ensures kept { (result ≡ Err ReplayFault.Memory → ⊥) → self.new ≡ self.old }
+        ensures empty { result ≡ Err ReplayFault.Memory → self.new ≡ empty }
+    {
+        let replayed = self.machine.events.replay(peg, window, raw, self.head, out);
+        if replayed == Err(ReplayFault::Memory) {
+            self.reset();
+        }
+        replayed
     }
 }

@@ -1,10 +1,12 @@
-use Rattle.std.proofs.Common.{◌≡◌, ◌∙◌, inl, ◌<◌, length, get_or}
+use Rattle.std.proofs.Common.{◌≡◌, ◌∙◌, inl, ◌<◌, length}
 use Rattle.std.proofs.Common.{Some, refl, ap, arith}
-use Rattle.std.proofs.lemmas.Option.{slice_get_past, slice_get-get_or}
+use Rattle.std.proofs.lemmas.Option.{slice_get_past}
 use Rattle.gramcheck.specs.Nodes as shape
 use Rattle.gramcheck.specs.Nodes.{spells_any, spells_bytes, spells_set}
 use Rattle.gramcheck.proofs.HasShapeLemmas.{has_shape}
 use Rattle.pegread.specs.PegViews.{rules_of}
+use Rattle.gramcheck.specs.Outcome.{Acted, Opened, Closed}
+use Rattle.pegmatch.specs.KeptEvents.{acted, opened, closed}
 use Rattle.pegmatch.proofs.NodeShapeLemmas.{shape_at}
 use Rattle.packrat.proofs.SpotGivesLemmas as L
 use Rattle.packrat.proofs.OnwardLemmas as M
@@ -37,7 +39,8 @@ returns-in-Name c =
     let here = shape_at c.args.peg.now.nodes c.args.node _ (c.node.ensures ∙ ap Some c.in-Name.is) in
     let well = c.requires.well in
     let body = c.requires.sound.spelled.spelled c.in-Name.id c.body_node.result c.body_node.ensures in
-    (((shape.Name c.in-Name.id, here, (c.body_node.result, c.body_node.ensures, refl)), ((body.0, body.2), well.1)))
+    M.name_led c.args.peg.now c.args.window.now c.args.more c.requires.some c.requires.sound c.args.node c.args.place
+    c.in-Name.id c.body_node.result well here c.body_node.ensures ((body.0, body.2), well.1)
 
 pub returns-then-is_empty : goal.returns-then-is_empty
 returns-then-is_empty c =
@@ -65,19 +68,8 @@ returns-else-is_empty c =
     let not_none : length c.in-Seq.members.items ≡ 0 → ⊥ = let more = L.empty_not _ _ c.is_empty.ensures
     c.if-is_empty.false in (λ h. more (omega (arith, h))) in
     let some : 0 < length c.in-Seq.members.items = M.some_of c.in-Seq.members.items not_none in
-    ((
-      (
-        shape.Seq c.in-Seq.members.items,
-        here,
-        (
-          get_or c.in-Seq.members.items 0 0,
-          slice_get-get_or
-              c.in-Seq.members.items 0 0 some,
-          refl,
-        ),
-      ),
-      (well.0, well.1, (shape.Seq c.in-Seq.members.items, here, some)),
-    ))
+    M.members_led c.args.peg.now c.args.window.now c.args.more c.requires.some c.requires.sound c.args.node c.args.place
+    c.in-Seq.members.items well some here
 
 pub returns-then-is_empty-2 : goal.returns-then-is_empty-2
 returns-then-is_empty-2 c =
@@ -107,27 +99,8 @@ returns-else-is_empty-2 c =
     let not_none : length c.in-Choice.alternatives.items ≡ 0 → ⊥ = let more = L.empty_not _ _
     c.is_empty-in-Choice.ensures c.if-is_empty-2.false in (λ h. more (omega (arith, h))) in
     let some : 0 < length c.in-Choice.alternatives.items = M.some_of c.in-Choice.alternatives.items not_none in
-    ((
-      (
-        shape.Choice c.in-Choice.alternatives.items,
-        here,
-        (
-          get_or c.in-Choice.alternatives.items 0 0,
-          slice_get-get_or c.in-Choice.alternatives.items 0 0 some,
-          refl,
-        ),
-      ),
-      (
-        well.0,
-        well.1,
-        (
-          shape.Choice
-              c.in-Choice.alternatives.items,
-          here,
-          some,
-        ),
-      ),
-    ))
+    M.alternatives_led c.args.peg.now c.args.window.now c.args.more c.requires.some c.requires.sound c.args.node c.args.place
+    c.in-Choice.alternatives.items well some here
 
 pub returns-in-Star : goal.returns-in-Star
 returns-in-Star c =
@@ -166,30 +139,36 @@ returns-in-Plus c =
 
 pub returns-in-Act : goal.returns-in-Act
 returns-in-Act c =
-    let here = shape_at c.args.peg.now.nodes c.args.node _ (c.node.ensures ∙ ap Some c.in-Act.is) in
-    let well = c.requires.well in
-    ((
+    let here = shape_at c.args.peg.now.nodes c.args.node _ (c.node.ensures ∙ ap Some c.in-Act.is) in (
       (shape.Act _, here, refl),
-      L.act_spot c.args.peg.now c.args.window.now c.args.more c.requires.some c.requires.sound c.args.node
-          c.args.place _ here,
-    ))
+      (
+        Acted _,
+        acted here,
+        L.act_spot c.args.peg.now c.args.window.now c.args.more c.requires.some c.requires.sound c.args.node
+            c.args.place _ here,
+      ),
+    )
 
 pub returns-in-Open : goal.returns-in-Open
 returns-in-Open c =
-    let here = shape_at c.args.peg.now.nodes c.args.node _ (c.node.ensures ∙ ap Some c.in-Open.is) in
-    let well = c.requires.well in
-    ((
+    let here = shape_at c.args.peg.now.nodes c.args.node _ (c.node.ensures ∙ ap Some c.in-Open.is) in (
       (shape.Open, here, refl),
-      L.open_spot c.args.peg.now c.args.window.now c.args.more c.requires.some c.requires.sound c.args.node
-          c.args.place here,
-    ))
+      (
+        Opened c.args.place,
+        opened,
+        L.open_spot c.args.peg.now c.args.window.now c.args.more c.requires.some c.requires.sound c.args.node
+            c.args.place here,
+      ),
+    )
 
 pub returns-in-Close : goal.returns-in-Close
 returns-in-Close c =
-    let here = shape_at c.args.peg.now.nodes c.args.node _ (c.node.ensures ∙ ap Some c.in-Close.is) in
-    let well = c.requires.well in
-    ((
+    let here = shape_at c.args.peg.now.nodes c.args.node _ (c.node.ensures ∙ ap Some c.in-Close.is) in (
       (shape.Close, here, refl),
-      L.close_spot c.args.peg.now c.args.window.now c.args.more c.requires.some c.requires.sound c.args.node
-          c.args.place here,
-    ))
+      (
+        Closed c.args.place,
+        closed,
+        L.close_spot c.args.peg.now c.args.window.now c.args.more c.requires.some c.requires.sound c.args.node
+            c.args.place here,
+      ),
+    )

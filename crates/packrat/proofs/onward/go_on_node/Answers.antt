@@ -60,7 +60,7 @@ returns-in-Took-found-3 c = λ more some.
     let here = shape_at c.args.peg.now.nodes c.args.node _ (c.node.ensures ∙ ap Some c.in-Opt.is) in
     let well = c.requires.well in
     (M.opt_some c.args.peg.now c.args.window.now more some c.requires.sound c.args.node c.in-Opt.field-0 c.args.place
-    c.args.found well c.in-Took-found-3.end here c.in-Took-found-3.is)
+    c.args.found well c.in-Took-found-3.field-0 here c.in-Took-found-3.is)
 
 pub returns-in-Failed-found-4 : goal.returns-in-Failed-found-4
 returns-in-Failed-found-4 c = λ more some.

@@ -36,7 +36,7 @@ returns-in-Took-found c = λ more some.
     let here = shape_at c.args.peg.now.nodes c.args.node _ (c.node.ensures ∙ ap Some c.in-Choice.is) in
     let well = c.requires.well in
     (M.other_some c.args.peg.now c.args.window.now more some c.requires.sound c.args.node c.args.index c.args.place
-    c.in-Choice.alternatives.items c.args.found well c.in-Took-found.end here c.in-Took-found.is)
+    c.in-Choice.alternatives.items c.args.found well c.in-Took-found.field-0 here c.in-Took-found.is)
 
 pub returns-then-index-len-2 : goal.returns-then-index-len-2
 returns-then-index-len-2 c = λ more some.

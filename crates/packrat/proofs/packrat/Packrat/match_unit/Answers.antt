@@ -1,6 +1,23 @@
-use Rattle.std.proofs.Common.{◌≡◌, slice_get, Some, subst}
-use Rattle.packrat.proofs.DoneLemmas.{outcome_of_match, told_bounded}
+use Rattle.std.proofs.Common.{◌≡◌, slice_get, Some, subst, ap}
+use Rattle.eventlog.specs.EventLog.{kept_at}
+use Rattle.packrat.proofs.DoneLemmas.{outcome_of_match, answer_of_match, told_bounded}
 use Rattle.packrat.proofs.packrat.Packrat.match_unit.Goals as goal
+
+pub returns-in-Ok-clause-answer : goal.returns-in-Ok-clause-answer
+returns-in-Ok-clause-answer c =
+    let at : slice_get c.args.peg.now.bodies c.args.peg.now.start ≡ Some c.body_node-root.result =
+    subst (λ v. slice_get c.args.peg.now.bodies v ≡ Some c.body_node-root.result) c.start.ensures.id
+    c.body_node-root.ensures in
+    let matched = rw c.in-Ok.is at c.evaluate-matched.ensures in
+    rw c.matched_unit.ensures
+    (answer_of_match c.args.peg.now c.args.window.now c.start.ensures.sound c.args.more c.args.marks.now
+    c.requires.marks c.body_node-root.result at (record {
+      stored = c.evaluate-matched.new.self.log.stored;
+      frames = c.evaluate-matched.new.self.frames;
+      begun = c.evaluate-matched.new.self.begun;
+      kept = kept_at c.evaluate-matched.new.self.events c.head_given-self-inside.result;
+    }) c.in-Ok.given c.evaluate-matched.new.self.events
+    (ap (kept_at c.evaluate-matched.new.self.events) c.head_given-self-inside.ensures) matched)
 
 pub returns-in-Ok-clause-outcome : goal.returns-in-Ok-clause-outcome
 returns-in-Ok-clause-outcome c =
@@ -10,8 +27,12 @@ returns-in-Ok-clause-outcome c =
     let matched = rw c.in-Ok.is at c.evaluate-matched.ensures in
     rw c.matched_unit.ensures
     (outcome_of_match c.args.peg.now c.args.window.now c.start.ensures.sound c.args.more c.args.marks.now
-    c.requires.marks c.body_node-root.result at c.in-Ok.found c.evaluate-matched.new.self.frames
-    c.evaluate-matched.new.self.log.stored c.evaluate-matched.new.self.begun matched)
+    c.requires.marks c.body_node-root.result at (record {
+      stored = c.evaluate-matched.new.self.log.stored;
+      frames = c.evaluate-matched.new.self.frames;
+      begun = c.evaluate-matched.new.self.begun;
+      kept = kept_at c.evaluate-matched.new.self.events c.head_given-self-inside.result;
+    }) c.in-Ok.given c.evaluate-matched.new.self.events matched)
 
 pub returns-in-Ok-clause-bounded : goal.returns-in-Ok-clause-bounded
 returns-in-Ok-clause-bounded c =
@@ -25,6 +46,12 @@ returns-in-Ok-clause-bounded c =
       stored = c.evaluate-matched.new.self.log.stored;
       frames = c.evaluate-matched.new.self.frames;
       begun = c.evaluate-matched.new.self.begun;
-    }) _ (outcome_of_match c.args.peg.now c.args.window.now c.start.ensures.sound c.args.more c.args.marks.now
-    c.requires.marks c.body_node-root.result at c.in-Ok.found c.evaluate-matched.new.self.frames
-    c.evaluate-matched.new.self.log.stored c.evaluate-matched.new.self.begun matched))
+      kept = kept_at c.evaluate-matched.new.self.events c.head_given-self-inside.result;
+    }) _
+    (outcome_of_match c.args.peg.now c.args.window.now c.start.ensures.sound c.args.more c.args.marks.now
+    c.requires.marks c.body_node-root.result at (record {
+      stored = c.evaluate-matched.new.self.log.stored;
+      frames = c.evaluate-matched.new.self.frames;
+      begun = c.evaluate-matched.new.self.begun;
+      kept = kept_at c.evaluate-matched.new.self.events c.head_given-self-inside.result;
+    }) c.in-Ok.given c.evaluate-matched.new.self.events matched))
