@@ -14,7 +14,7 @@ use Rattle.memo.specs.Parts.{Reach, reach_root, reach_edge}
 use Rattle.memo.specs.Run.{Ends, ends}
 use Rattle.memo.specs.declared.spot.Spot.{Spot}
 use Rattle.memo.specs.declared.spot.Spot.TheVariants.{Pair, Tail}
-use Rattle.gramcheck.specs.Ways.{way_of}
+use Rattle.gramcheck.specs.NodeWays.{way_of}
 use Rattle.packrat.specs.Spots.{LeadsBy, TailLeadsBy, Leads}
 use Rattle.packrat.proofs.SpotReachLemmas.{front_drop, drop_none, drop_front}
 

@@ -16,4 +16,3 @@ pub mod BegunLemmas
 pub mod LeftLemmas
 pub mod StandsLemmas
 pub mod OnwardLemmas
-pub mod KeyMarksLemmas

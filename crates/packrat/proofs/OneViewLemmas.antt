@@ -14,7 +14,7 @@ use Rattle.desk.proofs.NodeGivesLemmas.{same_node}
 use Rattle.memo.specs.declared.spot.Spot.{Spot}
 use Rattle.memo.specs.declared.spot.Spot.TheVariants.{Pair, Tail}
 use Rattle.memo.specs.Parts.{Part, part, Parts, parts_none, parts_key, parts_more, Whole, whole_none, whole_more}
-use Rattle.gramcheck.specs.Ways.{Way, Leaf, Body, Members, Alternatives, Turns, Operand, way_of}
+use Rattle.gramcheck.specs.NodeWays.{Way, Leaf, Body, Members, Alternatives, Turns, Operand, way_of}
 use Rattle.packrat.specs.Spots.{KidsBy, TailKidsBy}
 use Rattle.packrat.specs.Spots.{Kids}
 use Rattle.packrat.specs.Spots.{is_key}

@@ -20,7 +20,7 @@ use Rattle.pegmatch.specs.KeptEvents.{quiet_outcome}
 use Rattle.desk.proofs.AsksLemmas.{goes_onward}
 use Rattle.memo.specs.declared.spot.Spot.{Spot}
 use Rattle.memo.specs.declared.spot.Spot.TheVariants.{Pair, Tail}
-use Rattle.gramcheck.specs.Ways.{way_of}
+use Rattle.gramcheck.specs.NodeWays.{way_of}
 use Rattle.packrat.proofs.SpotGivesLemmas as L
 use Rattle.packrat.specs.declared.onward.Onward.{Onward}
 use Rattle.packrat.specs.declared.onward.Onward.TheVariants.{Gives, Leads}

@@ -13,7 +13,7 @@ use Rattle.desk.proofs.NodeGivesLemmas.{same_node}
 use Rattle.memo.specs.Parts.{IsIn, in_here, in_later, Distinct, distinct_none, distinct_more}
 use Rattle.memo.specs.declared.spot.Spot.{Spot}
 use Rattle.memo.specs.declared.spot.Spot.TheVariants.{Pair, Tail}
-use Rattle.gramcheck.specs.Ways.{Way, Leaf, Body, Members, Alternatives, Turns, Operand, way_of}
+use Rattle.gramcheck.specs.NodeWays.{Way, Leaf, Body, Members, Alternatives, Turns, Operand, way_of}
 use Rattle.packrat.specs.Spots.{LeadsBy, TailLeadsBy, Leads, KidsBy, TailKidsBy, Kids}
 
 none_in : {V : Type 0} {b : V} → IsIn b [] → ⊥

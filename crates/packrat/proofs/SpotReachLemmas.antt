@@ -11,7 +11,7 @@ use Rattle.desk.specs.Visits.{alternative_here, alternative_later, AsksBy, Asks,
 use Rattle.memo.specs.Parts.{Reach, reach_root, reach_edge}
 use Rattle.memo.specs.declared.spot.Spot.{Spot}
 use Rattle.memo.specs.declared.spot.Spot.TheVariants.{Pair, Tail}
-use Rattle.gramcheck.specs.Ways.{way_of}
+use Rattle.gramcheck.specs.NodeWays.{way_of}
 use Rattle.packrat.specs.Spots.{LeadsBy, TailLeadsBy, Leads}
 
 pub front_drop : (ms : List ℕ) (i m : ℕ) → slice_get ms i ≡ Some m → drop i ms ≡ m ∷ drop (suc i) ms

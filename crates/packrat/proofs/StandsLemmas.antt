@@ -8,13 +8,14 @@ use Rattle.pegread.specs.PegViews.{rules_of}
 use Rattle.gramcheck.specs.Grammar.{Grammar, IsSoundGrammar}
 use Rattle.gramcheck.specs.Nodes.{shapes_of, shape_of}
 use Rattle.cells.specs.declared.cell.Found.{Found}
-use Rattle.packrat.specs.declared.marks.Marks.{Marks}
+use Rattle.gramcheck.specs.KeyLists.{Marks}
 use Rattle.memo.specs.declared.key_log.Stored.{Stored}
 use Rattle.memo.specs.declared.spot.Spot.{Spot}
 use Rattle.memo.specs.declared.spot.Spot.TheVariants.{Pair}
 use Rattle.packrat.specs.TurnsLeft.{most_begun}
 use Rattle.gramcheck.specs.KeyMarks.{AreMarks}
-use Rattle.packrat.specs.SpotGives.{SpotGives, AreRight, node_marks, tail_marks}
+use Rattle.gramcheck.specs.KeyLists.{node_marks, tail_marks}
+use Rattle.packrat.specs.SpotGives.{SpotGives, AreRight}
 use Rattle.memo.specs.KeyLog.{spots_of}
 use Rattle.memo.specs.Parts.{IsIn, in_here, in_later}
 use Rattle.memo.specs.Run.{Run, total}

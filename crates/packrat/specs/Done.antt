@@ -13,10 +13,11 @@ use Rattle.pegmatch.specs.declared.matcher.Unit.TheVariants.{Took, Failed, Need}
 use Rattle.cells.specs.Entries.{Entry}
 use Rattle.memo.specs.KeyLog.{spots_of}
 use Rattle.memo.specs.declared.key_log.Stored.{Stored}
-use Rattle.packrat.specs.SpotGives.{node_marks, tail_marks, AreRight}
+use Rattle.gramcheck.specs.KeyLists.{node_marks, tail_marks}
+use Rattle.packrat.specs.SpotGives.{AreRight}
 use Rattle.packrat.specs.View.{AreStored, AreImplied, AreAll}
 use Rattle.packrat.specs.declared.frames.Frame.{Frame}
-use Rattle.packrat.specs.declared.marks.Marks.{Marks}
+use Rattle.gramcheck.specs.KeyLists.{Marks}
 
 -- the stored keys with their outcomes and the frames, each with the last one first, and how many pairs were begun
 pub record Contents : Type 0 where

@@ -1,5 +1,5 @@
 -- What a spot gives.
-use Rattle.std.specs.Prelude.{◌≡◌, ℕ, Bool, true, List, [], ◌∷◌, drop, get_or, slice_get, Some}
+use Rattle.std.specs.Prelude.{◌≡◌, ℕ, Bool, List, [], ◌∷◌, drop, slice_get, Some}
 use Rattle.pegread.specs.PegViews.{rules_of}
 use Rattle.gramcheck.specs.Grammar.{Grammar}
 use Rattle.gramcheck.specs.Nodes.{Shape, Any, Bytes, Set, Name, Seq, Choice, Star, Plus, Opt, And, Not, Act, Open}
@@ -13,15 +13,7 @@ use Rattle.desk.specs.Visits.{NodeGives, NodeTakes, NodeFails}
 use Rattle.memo.specs.declared.key_log.Stored.{Stored}
 use Rattle.memo.specs.declared.spot.Spot.{Spot}
 use Rattle.memo.specs.declared.spot.Spot.TheVariants.{Pair, Tail}
-use Rattle.packrat.specs.declared.marks.Marks.{Marks}
 use Rattle.memo.specs.Parts.{IsIn}
-
--- whether a node is marked, and whether the tails of one are; what has no mark counts as marked
-abbrev pub node_marks : Marks → ℕ → Bool
-node_marks marks n = get_or marks.nodes.items n true
-
-abbrev pub tail_marks : Marks → ℕ → ℕ → Bool
-tail_marks marks n i = get_or marks.tails.items n true
 
 module _ (g : Grammar) (x : List ℕ) (more : Bool) where
   -- node m takes what is between p and q, and the window is long enough for that

@@ -4,10 +4,11 @@ use Rattle.pegread.specs.PegViews.{rules_of}
 use Rattle.gramcheck.specs.Grammar.{Grammar}
 use Rattle.gramcheck.specs.Nodes.{shapes_of}
 use Rattle.cells.specs.declared.cell.Found.{Found}
-use Rattle.packrat.specs.declared.marks.Marks.{Marks}
+use Rattle.gramcheck.specs.KeyLists.{Marks}
 use Rattle.memo.specs.declared.key_log.Stored.{Stored}
 use Rattle.memo.specs.declared.spot.Spot.{Spot}
-use Rattle.packrat.specs.SpotGives.{SpotGives, AreRight, node_marks, tail_marks}
+use Rattle.gramcheck.specs.KeyLists.{node_marks, tail_marks}
+use Rattle.packrat.specs.SpotGives.{SpotGives, AreRight}
 use Rattle.memo.specs.KeyLog.{spots_of}
 use Rattle.memo.specs.Run.{Run, total}
 use Rattle.packrat.specs.Spots.{Kids, is_key}

@@ -4,7 +4,7 @@ use Rattle.gramcheck.specs.Grammar.{Grammar}
 use Rattle.gramcheck.specs.Nodes.{Shape, shapes_of}
 use Rattle.memo.specs.declared.spot.Spot.{Spot}
 use Rattle.memo.specs.declared.spot.Spot.TheVariants.{Pair, Tail}
-use Rattle.gramcheck.specs.Ways.{Way, Leaf, Body, Members, Alternatives, Turns, Operand, way_of}
+use Rattle.gramcheck.specs.NodeWays.{Way, Leaf, Body, Members, Alternatives, Turns, Operand, way_of}
 use Rattle.packrat.specs.declared.frames.Frame.{Frame}
 use Rattle.packrat.specs.declared.machine.Turn.{Turn}
 use Rattle.packrat.specs.declared.machine.Turn.TheVariants.{Ask, Answer}

@@ -3,9 +3,9 @@
 #![tactic(auto)]
 
 mod frames;
+mod keys;
 mod laws;
 mod machine;
-mod marks;
 mod onward;
 mod packrat;
 
@@ -13,5 +13,4 @@ pub use frames::Frame;
 pub use laws::{
     asked_once, evaluated_once, implied_cells, one_view, one_width, steps_hold, steps_run,
 };
-pub use marks::Marks;
 pub use packrat::Packrat;

@@ -1,20 +1,18 @@
 //! The machine: it evaluates by a loop over frames in place of recursion, and stores the keys alone.
 ghost use Rattle.std.specs.Prelude.{◌≡◌, ℕ, ◌+◌, ◌*◌, ◌<◌, ◌≤◌, Bool, true, List, [], ◌∷◌, length, slice_get, Some};
 ghost use Rattle.std.specs.Prelude.{IfOk, OnOk};
-ghost use Rattle.gramcheck.specs.Grammar.{IsSoundGrammar};
+ghost use Rattle.gramcheck.specs.Grammar.{HasKeys, IsSoundGrammar};
 ghost use Rattle.gramcheck.specs.Nodes.{shapes_of};
 ghost use Rattle.pegmatch.specs.Answers.{WasEnough};
 ghost use Rattle.memo.specs.declared.spot.Spot.{Spot};
 ghost use Rattle.packrat.specs.TurnsLeft.{left, most_begun};
-ghost use Rattle.gramcheck.specs.KeyMarks.{AreMarks};
 ghost use Rattle.packrat.specs.Onward.{IsWell};
-ghost use Rattle.packrat.specs.SpotGives.{node_marks, tail_marks};
 ghost use Rattle.packrat.specs.Stands.{Stands, IsClosed, AreOn, IsEvaluated, LowersLeft};
 ghost use Rattle.packrat.specs.View.{weight};
 ghost use Rattle.packrat.specs.declared.machine.Turn.{Turn};
 
 use crate::frames::{Frame, Frames};
-use crate::marks::Marks;
+use crate::keys::is_key;
 use crate::onward::{Begun, Onward, begin, go_on};
 use cells::Found;
 use gramcheck::SoundPeg;
@@ -57,19 +55,18 @@ impl Machine {
         &mut self,
         peg: &SoundPeg,
         window: &[u8],
-        marks: &Marks,
         spot: Spot,
         found: Found,
     ) -> Result<(), Memory>
         requires well { IsWell peg.now window.now spot }
         requires rows { self.old.log.rows ≡ length peg.now.nodes }
         ensures rows { OnOk result (self.new.log.rows ≡ length peg.now.nodes) }
-        ensures closed { OnOk result ((more : Bool) → IsClosed peg.now window.now more marks.now spot found
+        ensures closed { OnOk result ((more : Bool) → IsClosed peg.now window.now more peg.now.keys spot found
             self.old.log.stored self.new.log.stored) }
         ensures frames { self.new.frames ≡ self.old.frames }
         ensures begun { self.new.begun ≡ self.old.begun }
     {
-        if marks.is_key(spot) {
+        if is_key(peg, spot) {
             self.log.put(spot, found)?;
         }
         Ok(())
@@ -81,7 +78,6 @@ impl Machine {
         peg: &SoundPeg,
         window: &[u8],
         more: bool,
-        marks: &Marks,
         spot: Spot,
     ) -> Result<Option<Turn>, Memory>
         requires some { WasEnough window.now more 0 }
@@ -90,14 +86,16 @@ impl Machine {
         requires rows { self.old.log.rows ≡ length peg.now.nodes }
         requires few { self.old.begun ≤ most_begun peg.now window.now }
         ensures rows { OnOk result (self.new.log.rows ≡ length peg.now.nodes) }
-        ensures stands { (root : Spot) → Stands peg.now window.now more marks.now root (Turn.Ask spot) self.old.frames
-            self.old.log.stored self.old.begun → IfOk result (λ turn. AreOn peg.now window.now more marks.now root turn
+        ensures stands { (root : Spot) → Stands peg.now window.now more peg.now.keys root (Turn.Ask spot)
+            self.old.frames
+            self.old.log.stored self.old.begun → IfOk result (λ turn. AreOn peg.now window.now more peg.now.keys root
+            turn
             self.new.frames self.new.log.stored self.new.begun) }
         ensures less { self.new.begun ≤ most_begun peg.now window.now → IfOk result (λ turn.
             LowersLeft peg.now window.now turn self.new.frames self.new.begun
             (left peg.now window.now (Turn.Ask spot) self.old.frames self.old.begun)) }
     {
-        if marks.is_key(spot) {
+        if is_key(peg, spot) {
             match self.log.get(spot) {
                 Some(found) => return Ok(Some(Turn::Answer(found))),
                 None => {}
@@ -106,7 +104,7 @@ impl Machine {
         self.begun = counted(peg.nodes(), window.len(), self.begun, spot);
         match begin(peg, window, more, spot) {
             Begun::Gives(found) => {
-                self.close(peg, window, marks, spot, found)?;
+                self.close(peg, window, spot, found)?;
                 Ok(Some(Turn::Answer(found)))
             }
             Begun::Leads(kid) => {
@@ -125,7 +123,6 @@ impl Machine {
         &mut self,
         peg: &SoundPeg,
         window: &[u8],
-        marks: &Marks,
         frame: Frame,
         found: Found,
     ) -> Result<Turn, Memory>
@@ -134,22 +131,23 @@ impl Machine {
         requires rows { self.old.log.rows ≡ length peg.now.nodes }
         ensures rows { OnOk result (self.new.log.rows ≡ length peg.now.nodes) }
         ensures stands { (more : Bool) → WasEnough window.now more 0 → (root : Spot) →
-            Stands peg.now window.now more marks.now root (Turn.Answer found) (frame ∷ self.old.frames)
-            self.old.log.stored self.old.begun → IfOk result (λ turn. Stands peg.now window.now more marks.now root turn
+            Stands peg.now window.now more peg.now.keys root (Turn.Answer found) (frame ∷ self.old.frames)
+            self.old.log.stored self.old.begun → IfOk result (λ turn. Stands peg.now window.now more peg.now.keys root
+            turn
             self.new.frames self.new.log.stored self.new.begun) }
         ensures less { (more : Bool) → WasEnough window.now more 0 → (root : Spot) →
-            Stands peg.now window.now more marks.now root (Turn.Answer found)
+            Stands peg.now window.now more peg.now.keys root (Turn.Answer found)
             (frame ∷ self.old.frames) self.old.log.stored self.old.begun → IfOk result (λ turn.
             left peg.now window.now turn self.new.frames self.new.begun
             < left peg.now window.now (Turn.Answer found) (frame ∷ self.old.frames) self.old.begun) }
     {
         if frame.second {
-            self.close(peg, window, marks, frame.spot, found)?;
+            self.close(peg, window, frame.spot, found)?;
             return Ok(Turn::Answer(found));
         }
         match go_on(peg, window, frame.spot, found) {
             Onward::Gives(given) => {
-                self.close(peg, window, marks, frame.spot, given)?;
+                self.close(peg, window, frame.spot, given)?;
                 Ok(Turn::Answer(given))
             }
             Onward::Leads(kid) => {
@@ -172,17 +170,15 @@ impl Machine {
         peg: &SoundPeg,
         window: &[u8],
         more: bool,
-        marks: &Marks,
         root: usize,
     ) -> Result<Option<Found>, Memory>
         requires some { WasEnough window.now more 0 }
         requires sound { IsSoundGrammar peg.now }
         requires root { slice_get peg.now.bodies peg.now.start ≡ Some root }
-        requires marks { AreMarks peg.now.start (shapes_of peg.now.nodes) peg.now.bodies (node_marks marks.now)
-            (tail_marks marks.now) }
+        requires keys { HasKeys peg.now }
         requires rows { self.old.log.rows ≡ length peg.now.nodes }
         requires empty { self.old.log.stored ≡ [] }
-        ensures { IfOk result (λ found. IsEvaluated peg.now window.now more marks.now (Spot.Pair root 0) found
+        ensures { IfOk result (λ found. IsEvaluated peg.now window.now more peg.now.keys (Spot.Pair root 0) found
             self.new.frames self.new.log.stored self.new.begun) }
     {
         self.begun = 0;
@@ -193,13 +189,13 @@ impl Machine {
         });
         'turns: loop {
             match turn {
-                Turn::Ask(spot) => match self.ask(peg, window, more, marks, spot)? {
+                Turn::Ask(spot) => match self.ask(peg, window, more, spot)? {
                     Some(next) => turn = next,
                     None => return Ok(None),
                 },
                 Turn::Answer(found) => match self.frames.pop() {
                     None => return Ok(Some(found)),
-                    Some(frame) => turn = self.resume(peg, window, marks, frame, found)?,
+                    Some(frame) => turn = self.resume(peg, window, frame, found)?,
                 },
             }
         }

@@ -1,15 +1,11 @@
 //! The packrat matcher.
 ghost use Rattle.std.specs.Prelude.{◌≡◌, ℕ, ◌+◌, ◌*◌, ◌<◌, ◌≤◌, true, length, IfOk, OnErr};
-ghost use Rattle.gramcheck.specs.Nodes.{shapes_of};
 ghost use Rattle.gramcheck.specs.Outcome.{Outcome};
 ghost use Rattle.pegmatch.specs.Answers.{StartGives};
 ghost use Rattle.packrat.specs.Done.{empty, IsOutcome, told, unit_of, unit_of_match};
-ghost use Rattle.gramcheck.specs.KeyMarks.{AreMarks};
-ghost use Rattle.packrat.specs.SpotGives.{node_marks, tail_marks};
 
 use crate::frames::Frames;
 use crate::machine::Machine;
-use crate::marks::Marks;
 use cells::Found;
 use gramcheck::SoundPeg;
 use memo::KeyLog;
@@ -107,17 +103,9 @@ impl Packrat {
     ///
     /// # Errors
     /// `Memory` if an allocation fails; nothing is stored.
-    pub fn match_unit(
-        &mut self,
-        peg: &SoundPeg,
-        window: &[u8],
-        more: bool,
-        marks: &Marks,
-    ) -> Result<Unit, Memory>
+    pub fn match_unit(&mut self, peg: &SoundPeg, window: &[u8], more: bool) -> Result<Unit, Memory>
         requires some { more ≡ true → 0 < length window.now }
-        requires marks { AreMarks peg.now.start (shapes_of peg.now.nodes) peg.now.bodies (node_marks marks.now)
-            (tail_marks marks.now) }
-        ensures outcome { IfOk result (IsOutcome peg.now window.now more marks.now self.new) }
+        ensures outcome { IfOk result (IsOutcome peg.now window.now more peg.now.keys self.new) }
         ensures bounded { IfOk result (λ unit. (o : Outcome) (k : ℕ) → StartGives peg.now window.now o k →
             told unit ≤ length peg.now.nodes * (k + 1)) }
         ensures empty { OnErr result (self.new ≡ empty) }
@@ -127,7 +115,7 @@ impl Packrat {
             self.reset();
             return Err(Memory);
         }
-        let matched = self.machine.evaluate(peg, window, more, marks, root);
+        let matched = self.machine.evaluate(peg, window, more, root);
         match matched {
             Ok(found) => Ok(matched_unit(found, self.machine.begun)),
             Err(fault) => {

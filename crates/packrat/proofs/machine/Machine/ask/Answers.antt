@@ -12,7 +12,7 @@ use Rattle.packrat.proofs.machine.Machine.ask.Goals as goal
 
 pub returns-in-Some-clause-stands : goal.returns-in-Some-clause-stands
 returns-in-Some-clause-stands c = λ root s.
-    L.stands_stored c.args.peg.now c.args.window.now c.args.more c.args.marks.now root c.args.spot
+    L.stands_stored c.args.peg.now c.args.window.now c.args.more c.args.peg.now.keys root c.args.spot
     c.args.self.now.frames
     c.args.self.now.log.stored c.args.self.now.begun s c.in-Some.found
     (cc (c.is_key.ensures, c.if-is_key.true)) c.in-Some.ensures.some
@@ -25,18 +25,19 @@ returns-in-Some-clause-less c = λ le.
 
 pub returns-in_ok-close-in-Gives-clause-stands : goal.returns-in_ok-close-in-Gives-clause-stands
 returns-in_ok-close-in-Gives-clause-stands c = λ root s.
-    let fresh : key_of c.args.marks.now c.args.spot ≡ true
+    let fresh : key_of c.args.peg.now.keys c.args.spot ≡ true
     → IsIn c.args.spot (spots_of c.args.self.now.log.stored) → ⊥ =
     elim c.if-is_key.branch [
       | then-is_key+in-None w ↦ λ t. w.in-None.ensures.none
       | else-is_key w ↦ let own = c.is_key.ensures in λ t. absurd (cc (t, own, w.if-is_key.false))
     ] in
     let begun = c.in_ok-close-in-Gives.ensures.begun ∙ c.counted-self.ensures in
-    L.stands_as c.args.peg.now c.args.window.now c.args.more c.args.marks.now root (Answer c.in-Gives.found)
+    L.stands_as c.args.peg.now c.args.window.now c.args.more c.args.peg.now.keys root (Answer c.in-Gives.found)
     (Answer c.in-Gives.found) c.args.self.now.frames c.close.new.self.frames c.close.new.self.log.stored
     c.close.new.self.log.stored (c.args.self.now.begun + weight c.args.spot) c.close.new.self.begun refl
     (sym c.in_ok-close-in-Gives.ensures.frames) refl (sym begun)
-    (L.stands_leaf c.args.peg.now c.args.window.now c.args.more c.args.marks.now root c.args.spot c.args.self.now.frames
+    (L.stands_leaf c.args.peg.now c.args.window.now c.args.more c.args.peg.now.keys root c.args.spot
+    c.args.self.now.frames
     c.args.self.now.log.stored c.args.self.now.begun s fresh c.in-Gives.found c.close.new.self.log.stored
     c.in-Gives.ensures (c.in_ok-close-in-Gives.ensures.closed c.args.more))
 
@@ -51,18 +52,19 @@ returns-in_ok-close-in-Gives-clause-less c = λ le.
 
 pub returns-in_ok-push-in-Leads-clause-stands : goal.returns-in_ok-push-in-Leads-clause-stands
 returns-in_ok-push-in-Leads-clause-stands c = λ root s.
-    let fresh : key_of c.args.marks.now c.args.spot ≡ true
+    let fresh : key_of c.args.peg.now.keys c.args.spot ≡ true
     → IsIn c.args.spot (spots_of c.args.self.now.log.stored) → ⊥ =
     elim c.if-is_key.branch [
       | then-is_key+in-None w ↦ λ t. w.in-None.ensures.none
       | else-is_key w ↦ let own = c.is_key.ensures in λ t. absurd (cc (t, own, w.if-is_key.false))
     ] in
-    L.stands_as c.args.peg.now c.args.window.now c.args.more c.args.marks.now root (Ask c.in-Leads.kid) (Ask
+    L.stands_as c.args.peg.now c.args.window.now c.args.more c.args.peg.now.keys root (Ask c.in-Leads.kid) (Ask
     c.in-Leads.kid)
     (record { spot = c.args.spot; second = false } ∷ c.args.self.now.frames) c.push.new.self
     c.args.self.now.log.stored c.args.self.now.log.stored (c.args.self.now.begun + weight c.args.spot)
     c.counted-self.result refl (sym c.in_ok-push-in-Leads.ensures) refl (sym c.counted-self.ensures)
-    (L.stands_down c.args.peg.now c.args.window.now c.args.more c.args.marks.now root c.args.spot c.args.self.now.frames
+    (L.stands_down c.args.peg.now c.args.window.now c.args.more c.args.peg.now.keys root c.args.spot
+    c.args.self.now.frames
     c.args.self.now.log.stored c.args.self.now.begun s fresh c.in-Leads.kid c.in-Leads.ensures)
 
 pub returns-in_ok-push-in-Leads-clause-less : goal.returns-in_ok-push-in-Leads-clause-less
@@ -75,11 +77,11 @@ returns-in_ok-push-in-Leads-clause-less c = λ le.
 
 pub returns-in-Need-clause-stands : goal.returns-in-Need-clause-stands
 returns-in-Need-clause-stands c = λ root s.
-    let fresh : key_of c.args.marks.now c.args.spot ≡ true
+    let fresh : key_of c.args.peg.now.keys c.args.spot ≡ true
     → IsIn c.args.spot (spots_of c.args.self.now.log.stored) → ⊥ =
     elim c.if-is_key.branch [
       | then-is_key+in-None w ↦ λ t. w.in-None.ensures.none
       | else-is_key w ↦ let own = c.is_key.ensures in λ t. absurd (cc (t, own, w.if-is_key.false))
     ] in
-    L.stands_need c.args.peg.now c.args.window.now c.args.more c.args.marks.now root c.args.spot
+    L.stands_need c.args.peg.now c.args.window.now c.args.more c.args.peg.now.keys root c.args.spot
     c.args.self.now.frames c.args.self.now.log.stored c.args.self.now.begun s fresh c.in-Need.ensures

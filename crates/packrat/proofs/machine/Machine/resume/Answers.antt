@@ -8,13 +8,14 @@ use Rattle.packrat.proofs.machine.Machine.resume.Goals as goal
 
 pub returns-then-frame-clause-stands : goal.returns-then-frame-clause-stands
 returns-then-frame-clause-stands c = λ more some root s.
-    L.stands_as c.args.peg.now c.args.window.now more c.args.marks.now root (Answer c.args.found) (Answer c.args.found)
+    L.stands_as c.args.peg.now c.args.window.now more c.args.peg.now.keys root (Answer c.args.found) (Answer
+    c.args.found)
     c.args.self.now.frames c.close.new.self.frames c.close.new.self.log.stored c.close.new.self.log.stored
     c.args.self.now.begun c.close.new.self.begun refl (sym c.in_ok-close.ensures.frames) refl
     (sym c.in_ok-close.ensures.begun)
-    (L.stands_last c.args.peg.now c.args.window.now more c.args.marks.now root c.args.frame.spot c.args.found
+    (L.stands_last c.args.peg.now c.args.window.now more c.args.peg.now.keys root c.args.frame.spot c.args.found
     c.args.self.now.frames c.args.self.now.log.stored c.args.self.now.begun
-    (subst (λ v. Stands c.args.peg.now c.args.window.now more c.args.marks.now root (Answer c.args.found)
+    (subst (λ v. Stands c.args.peg.now c.args.window.now more c.args.peg.now.keys root (Answer c.args.found)
     (record { spot = c.args.frame.spot; second = v } ∷ c.args.self.now.frames) c.args.self.now.log.stored
     c.args.self.now.begun) c.if-frame.true s) c.close.new.self.log.stored (c.in_ok-close.ensures.closed more))
 
@@ -33,14 +34,14 @@ returns-then-frame-clause-less c = λ more some root s.
 
 pub returns-in_ok-close-in-Gives-clause-stands : goal.returns-in_ok-close-in-Gives-clause-stands
 returns-in_ok-close-in-Gives-clause-stands c = λ more some root s.
-    L.stands_as c.args.peg.now c.args.window.now more c.args.marks.now root (Answer c.in-Gives.given)
+    L.stands_as c.args.peg.now c.args.window.now more c.args.peg.now.keys root (Answer c.in-Gives.given)
     (Answer c.in-Gives.given) c.args.self.now.frames c.close-in-Gives.new.self.frames
     c.close-in-Gives.new.self.log.stored c.close-in-Gives.new.self.log.stored c.args.self.now.begun
     c.close-in-Gives.new.self.begun refl (sym c.in_ok-close-in-Gives.ensures.frames) refl
     (sym c.in_ok-close-in-Gives.ensures.begun)
-    (L.stands_up c.args.peg.now c.args.window.now more c.args.marks.now root c.args.frame.spot c.args.found
+    (L.stands_up c.args.peg.now c.args.window.now more c.args.peg.now.keys root c.args.frame.spot c.args.found
     c.args.self.now.frames c.args.self.now.log.stored c.args.self.now.begun
-    (subst (λ v. Stands c.args.peg.now c.args.window.now more c.args.marks.now root (Answer c.args.found)
+    (subst (λ v. Stands c.args.peg.now c.args.window.now more c.args.peg.now.keys root (Answer c.args.found)
     (record { spot = c.args.frame.spot; second = v } ∷ c.args.self.now.frames) c.args.self.now.log.stored
     c.args.self.now.begun) c.if-frame.false s) c.in-Gives.given c.close-in-Gives.new.self.log.stored
     (c.in-Gives.ensures more some) (c.in_ok-close-in-Gives.ensures.closed more))
@@ -60,20 +61,20 @@ returns-in_ok-close-in-Gives-clause-less c = λ more some root s.
 
 pub returns-in_ok-push-in-Leads-clause-stands : goal.returns-in_ok-push-in-Leads-clause-stands
 returns-in_ok-push-in-Leads-clause-stands c = λ more some root s.
-    subst (λ v. Stands c.args.peg.now c.args.window.now more c.args.marks.now root (Ask c.in-Leads.kid) v
+    subst (λ v. Stands c.args.peg.now c.args.window.now more c.args.peg.now.keys root (Ask c.in-Leads.kid) v
     c.args.self.now.log.stored c.args.self.now.begun) (sym c.in_ok-push-in-Leads.ensures)
-    (L.stands_on c.args.peg.now c.args.window.now more c.args.marks.now root c.args.frame.spot c.args.found
+    (L.stands_on c.args.peg.now c.args.window.now more c.args.peg.now.keys root c.args.frame.spot c.args.found
     c.args.self.now.frames c.args.self.now.log.stored c.args.self.now.begun
-    (subst (λ v. Stands c.args.peg.now c.args.window.now more c.args.marks.now root (Answer c.args.found)
+    (subst (λ v. Stands c.args.peg.now c.args.window.now more c.args.peg.now.keys root (Answer c.args.found)
     (record { spot = c.args.frame.spot; second = v } ∷ c.args.self.now.frames) c.args.self.now.log.stored
     c.args.self.now.begun) c.if-frame.false s) c.in-Leads.kid (c.in-Leads.ensures more some))
 
 pub returns-in_ok-push-in-Leads-clause-less : goal.returns-in_ok-push-in-Leads-clause-less
 returns-in_ok-push-in-Leads-clause-less c = λ more some root s.
-    let first : Stands c.args.peg.now c.args.window.now more c.args.marks.now root (Answer c.args.found)
+    let first : Stands c.args.peg.now c.args.window.now more c.args.peg.now.keys root (Answer c.args.found)
     (record { spot = c.args.frame.spot; second = false } ∷ c.args.self.now.frames) c.args.self.now.log.stored
     c.args.self.now.begun =
-    subst (λ v. Stands c.args.peg.now c.args.window.now more c.args.marks.now root (Answer c.args.found)
+    subst (λ v. Stands c.args.peg.now c.args.window.now more c.args.peg.now.keys root (Answer c.args.found)
     (record { spot = c.args.frame.spot; second = v } ∷ c.args.self.now.frames) c.args.self.now.log.stored
     c.args.self.now.begun) c.if-frame.false s in
     subst (λ v. left c.args.peg.now c.args.window.now (Ask c.in-Leads.kid) v c.args.self.now.begun

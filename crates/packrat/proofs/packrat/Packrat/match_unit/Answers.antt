@@ -9,8 +9,8 @@ returns-in-Ok-clause-outcome c =
     c.body_node-root.ensures in
     let matched = rw c.in-Ok.is at c.evaluate-matched.ensures in
     rw c.matched_unit.ensures
-    (outcome_of_match c.args.peg.now c.args.window.now c.start.ensures.sound c.args.more c.args.marks.now
-    c.requires.marks c.body_node-root.result at c.in-Ok.found c.evaluate-matched.new.self.frames
+    (outcome_of_match c.args.peg.now c.args.window.now c.start.ensures.sound c.args.more c.args.peg.now.keys
+    c.start.ensures.keys c.body_node-root.result at c.in-Ok.found c.evaluate-matched.new.self.frames
     c.evaluate-matched.new.self.log.stored c.evaluate-matched.new.self.begun matched)
 
 pub returns-in-Ok-clause-bounded : goal.returns-in-Ok-clause-bounded
@@ -20,11 +20,11 @@ returns-in-Ok-clause-bounded c =
     c.body_node-root.ensures in
     let matched = rw c.in-Ok.is at c.evaluate-matched.ensures in
     rw c.matched_unit.ensures
-    (told_bounded c.args.peg.now c.args.window.now c.start.ensures.sound c.args.more c.args.marks.now
-    c.requires.marks c.body_node-root.result at (record {
+    (told_bounded c.args.peg.now c.args.window.now c.start.ensures.sound c.args.more c.args.peg.now.keys
+    c.start.ensures.keys c.body_node-root.result at (record {
       stored = c.evaluate-matched.new.self.log.stored;
       frames = c.evaluate-matched.new.self.frames;
       begun = c.evaluate-matched.new.self.begun;
-    }) _ (outcome_of_match c.args.peg.now c.args.window.now c.start.ensures.sound c.args.more c.args.marks.now
-    c.requires.marks c.body_node-root.result at c.in-Ok.found c.evaluate-matched.new.self.frames
+    }) _ (outcome_of_match c.args.peg.now c.args.window.now c.start.ensures.sound c.args.more c.args.peg.now.keys
+    c.start.ensures.keys c.body_node-root.result at c.in-Ok.found c.evaluate-matched.new.self.frames
     c.evaluate-matched.new.self.log.stored c.evaluate-matched.new.self.begun matched))
