@@ -2,7 +2,7 @@
 
 use crate::desk_units::ROWS;
 use crate::unit_texts::{end_of, sound};
-use packrat::{Marks, Packrat};
+use packrat::Packrat;
 use pegmatch::Unit;
 use std::alloc::Global;
 use std::test::Fail;
@@ -10,10 +10,9 @@ use std::test::Fail;
 // What one matcher answers twice on a window that is the whole rest.
 fn twice(alloc: Global, grammar: &[u8], window: &[u8]) -> Result<[Unit; 2], Fail> {
     let peg = sound(alloc, grammar)?;
-    let marks = Marks::all(alloc);
     let mut matcher = Packrat::new(alloc);
-    let first = matcher.match_unit(&peg, window, false, &marks)?;
-    let second = matcher.match_unit(&peg, window, false, &marks)?;
+    let first = matcher.match_unit(&peg, window, false)?;
+    let second = matcher.match_unit(&peg, window, false)?;
     Ok([first, second])
 }
 
@@ -29,9 +28,8 @@ fn each_is_begun_once_in_a_unit(rt: HostRuntime) -> Result<(), Fail> {
 #[test]
 fn what_is_only_looked_at_needs_more_bytes(rt: HostRuntime) -> Result<(), Fail> {
     let peg = sound(rt.alloc(), b"S <- 'a' !'b'")?;
-    let marks = Marks::all(rt.alloc());
     let mut matcher = Packrat::new(rt.alloc());
-    assert!(rt; matcher.match_unit(&peg, b"ac", true, &marks)? == Unit::Need);
-    assert!(rt; end_of(matcher.match_unit(&peg, b"acd", true, &marks)?) == Some(1));
+    assert!(rt; matcher.match_unit(&peg, b"ac", true)? == Unit::Need);
+    assert!(rt; end_of(matcher.match_unit(&peg, b"acd", true)?) == Some(1));
     Ok(())
 }

@@ -16,7 +16,6 @@ pub mod BegunLemmas
 pub mod LeftLemmas
 pub mod StandsLemmas
 pub mod OnwardLemmas
-pub mod KeyMarksLemmas
 pub mod ByteGivesLemmas
 pub mod ByteKidsLemmas
 pub mod RunStepsLemmas

@@ -15,14 +15,15 @@ use Rattle.eventlog.specs.declared.link.Link.{Link}
 use Rattle.eventlog.proofs.KeptAtLemmas.{none_kept}
 use Rattle.memo.specs.declared.found.Found.{Found}
 use Rattle.memo.specs.declared.found.Found.TheVariants.{Failed, Took}
-use Rattle.packrat.specs.declared.marks.Marks.{Marks}
+use Rattle.gramcheck.specs.KeyLists.{Marks}
 use Rattle.memo.specs.declared.key_log.Given.{Given}
 use Rattle.memo.specs.declared.key_log.Stored.{Stored}
 use Rattle.memo.specs.declared.spot.Spot.{Spot}
 use Rattle.memo.specs.declared.spot.Spot.TheVariants.{Pair}
 use Rattle.packrat.specs.TurnsLeft.{most_begun}
 use Rattle.gramcheck.specs.KeyMarks.{AreMarks}
-use Rattle.packrat.specs.SpotGives.{SpotYields, joined, IsQuiet, node_marks, tail_marks}
+use Rattle.gramcheck.specs.KeyLists.{node_marks, tail_marks}
+use Rattle.packrat.specs.SpotGives.{SpotYields, joined, IsQuiet}
 use Rattle.memo.specs.KeyLog.{spots_of, place_of}
 use Rattle.memo.specs.Parts.{IsIn, in_here, in_later}
 use Rattle.memo.specs.Run.{Run, total}

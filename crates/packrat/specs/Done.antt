@@ -15,10 +15,11 @@ use Rattle.memo.specs.Entries.{Entry}
 use Rattle.memo.specs.KeyLog.{spots_of}
 use Rattle.memo.specs.declared.key_log.Given.{Given}
 use Rattle.memo.specs.declared.key_log.Stored.{Stored}
-use Rattle.packrat.specs.SpotGives.{node_marks, tail_marks, AreRight}
+use Rattle.gramcheck.specs.KeyLists.{node_marks, tail_marks}
+use Rattle.packrat.specs.SpotGives.{AreRight}
 use Rattle.packrat.specs.View.{AreStored, AreImplied, AreAll}
 use Rattle.packrat.specs.declared.frames.Frame.{Frame}
-use Rattle.packrat.specs.declared.marks.Marks.{Marks}
+use Rattle.gramcheck.specs.KeyLists.{Marks}
 
 -- the stored keys with their outcomes and the frames, each with the last one first; how many pairs were begun; and the
 -- events of the last success

@@ -13,15 +13,8 @@ use Rattle.visits.specs.Visits.{NodeGives}
 use Rattle.memo.specs.declared.key_log.Stored.{Stored}
 use Rattle.memo.specs.declared.spot.Spot.{Spot}
 use Rattle.memo.specs.declared.spot.Spot.TheVariants.{Pair, Tail}
-use Rattle.packrat.specs.declared.marks.Marks.{Marks}
+use Rattle.gramcheck.specs.KeyLists.{Marks}
 use Rattle.memo.specs.Parts.{IsIn}
-
--- whether a node is marked, and whether the tails of one are; what has no mark counts as marked
-abbrev pub node_marks : Marks → ℕ → Bool
-node_marks marks n = get_or marks.nodes.items n true
-
-abbrev pub tail_marks : Marks → ℕ → ℕ → Bool
-tail_marks marks n i = get_or marks.tails.items n true
 
 -- the events of what came first and of what came then, where that is the outcome: a failure has none
 abbrev pub joined : Found → List Event → List Event → List Event

@@ -12,10 +12,11 @@ use Rattle.memo.specs.declared.found.Found.{Found}
 use Rattle.memo.specs.declared.found.Found.TheVariants.{Failed, Took}
 use Rattle.memo.specs.declared.key_log.Given.{Given}
 use Rattle.memo.specs.Parts.{IsIn}
-use Rattle.packrat.specs.declared.marks.Marks.{Marks}
+use Rattle.gramcheck.specs.KeyLists.{Marks}
 use Rattle.memo.specs.declared.key_log.Stored.{Stored}
 use Rattle.memo.specs.declared.spot.Spot.{Spot}
-use Rattle.packrat.specs.SpotGives.{SpotYields, IsQuiet, node_marks, tail_marks}
+use Rattle.gramcheck.specs.KeyLists.{node_marks, tail_marks}
+use Rattle.packrat.specs.SpotGives.{SpotYields, IsQuiet}
 use Rattle.memo.specs.KeyLog.{spots_of}
 use Rattle.memo.specs.Run.{Run, total}
 use Rattle.packrat.specs.Spots.{Kids, is_key}

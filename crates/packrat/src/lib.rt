@@ -4,9 +4,9 @@
 
 mod byte_laws;
 mod frames;
+mod keys;
 mod laws;
 mod machine;
-mod marks;
 mod onward;
 mod packrat;
 
@@ -15,5 +15,4 @@ pub use frames::{Frame, Wait};
 pub use laws::{
     asked_once, evaluated_once, implied_cells, one_view, one_width, steps_hold, steps_run,
 };
-pub use marks::Marks;
 pub use packrat::Packrat;

@@ -1,7 +1,7 @@
 //! The machine: it evaluates by a loop over frames in place of recursion, and stores the keys alone.
 ghost use Rattle.std.specs.Prelude.{◌≡◌, ℕ, ◌+◌, ◌*◌, ◌<◌, ◌≤◌, Bool, true, List, [], ◌∷◌, length, slice_get, Some};
 ghost use Rattle.std.specs.Prelude.{IfOk, OnOk, IfSome, IfNone};
-ghost use Rattle.gramcheck.specs.Grammar.{IsSoundGrammar};
+ghost use Rattle.gramcheck.specs.Grammar.{HasKeys, IsSoundGrammar};
 ghost use Rattle.gramcheck.specs.Nodes.{shapes_of};
 ghost use Rattle.pegmatch.specs.Answers.{WasEnough};
 ghost use Rattle.eventlog.specs.EventLog.{IsHead, AreGrown};
@@ -12,7 +12,7 @@ ghost use Rattle.memo.specs.declared.spot.Spot.{Spot};
 ghost use Rattle.packrat.specs.TurnsLeft.{left, most_begun};
 ghost use Rattle.gramcheck.specs.KeyMarks.{AreMarks};
 ghost use Rattle.packrat.specs.Onward.{IsWell};
-ghost use Rattle.packrat.specs.SpotGives.{node_marks, tail_marks};
+ghost use Rattle.gramcheck.specs.KeyLists.{node_marks, tail_marks};
 ghost use Rattle.packrat.specs.Stands.{Stands, IsClosed, AreOn, IsEvaluated, LowersLeft, key_of};
 ghost use Rattle.packrat.specs.Stands.{AreWaiting, IsWaitHead, IsJoined};
 ghost use Rattle.packrat.specs.View.{weight};
@@ -20,7 +20,7 @@ ghost use Rattle.packrat.specs.declared.frames.Wait.{Wait};
 ghost use Rattle.packrat.specs.declared.machine.Turn.{Turn};
 
 use crate::frames::{Frame, Frames, Wait};
-use crate::marks::Marks;
+use crate::keys::is_key;
 use crate::onward::{Begun, Onward, begin, go_on};
 use eventlog::EventLog;
 use gramcheck::SoundPeg;
@@ -189,7 +189,6 @@ impl Machine {
         peg: &SoundPeg,
         window: &[u8],
         more: bool,
-        marks: &Marks,
         spot: Spot,
     ) -> Result<Option<Turn>, Memory>
         requires some { WasEnough window.now more 0 }
@@ -198,15 +197,15 @@ impl Machine {
         requires rows { self.old.log.rows ≡ length peg.now.nodes }
         requires few { self.old.begun ≤ most_begun peg.now window.now }
         ensures rows { OnOk result (self.new.log.rows ≡ length peg.now.nodes) }
-        ensures stands { (root : Spot) → Stands peg.now window.now more marks.now root (Turn.Ask spot) self.old.frames
+        ensures stands { (root : Spot) → Stands peg.now window.now more peg.now.keys root (Turn.Ask spot) self.old.frames
             self.old.log.stored self.old.events self.old.begun →
-            IfOk result (λ turn. AreOn peg.now window.now more marks.now root turn
+            IfOk result (λ turn. AreOn peg.now window.now more peg.now.keys root turn
             self.new.frames self.new.log.stored self.new.events self.new.begun) }
         ensures less { self.new.begun ≤ most_begun peg.now window.now → IfOk result (λ turn.
             LowersLeft peg.now window.now turn self.new.frames self.new.begun
             (left peg.now window.now (Turn.Ask spot) self.old.frames self.old.begun)) }
     {
-        let key = marks.is_key(spot);
+        let key = is_key(peg, spot);
         match stored(&mut self.log, spot, key)? {
             Some(given) => Ok(Some(Turn::Answer(given))),
             None => self.start_spot(peg, window, more, spot, key),
@@ -302,17 +301,15 @@ impl Machine {
         peg: &SoundPeg,
         window: &[u8],
         more: bool,
-        marks: &Marks,
         root: usize,
     ) -> Result<Option<Given>, Memory>
         requires some { WasEnough window.now more 0 }
         requires sound { IsSoundGrammar peg.now }
         requires root { slice_get peg.now.bodies peg.now.start ≡ Some root }
-        requires marks { AreMarks peg.now.start (shapes_of peg.now.nodes) peg.now.bodies (node_marks marks.now)
-            (tail_marks marks.now) }
+        requires keys { HasKeys peg.now }
         requires rows { self.old.log.rows ≡ length peg.now.nodes }
         requires empty { self.old.log.stored ≡ [] }
-        ensures { IfOk result (λ given. IsEvaluated peg.now window.now more marks.now (Spot.Pair root 0) given
+        ensures { IfOk result (λ given. IsEvaluated peg.now window.now more peg.now.keys (Spot.Pair root 0) given
             self.new.frames self.new.log.stored self.new.events self.new.begun) }
     {
         self.begun = 0;
@@ -324,7 +321,7 @@ impl Machine {
         });
         'turns: loop {
             match turn {
-                Turn::Ask(spot) => match self.ask(peg, window, more, marks, spot)? {
+                Turn::Ask(spot) => match self.ask(peg, window, more, spot)? {
                     Some(next) => turn = next,
                     None => return Ok(None),
                 },

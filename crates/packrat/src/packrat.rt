@@ -7,11 +7,10 @@ ghost use Rattle.pegmatch.specs.Text.{text_of};
 ghost use Rattle.pegmatch.specs.declared.matcher.ReplayFault.{ReplayFault};
 ghost use Rattle.packrat.specs.Done.{empty, Holds, IsOutcome, head_of, told, unit_of, unit_of_match};
 ghost use Rattle.gramcheck.specs.KeyMarks.{AreMarks};
-ghost use Rattle.packrat.specs.SpotGives.{node_marks, tail_marks};
+ghost use Rattle.gramcheck.specs.KeyLists.{node_marks, tail_marks};
 
 use crate::frames::Frames;
 use crate::machine::Machine;
-use crate::marks::Marks;
 use eventlog::EventLog;
 use gramcheck::SoundPeg;
 use memo::{Found, Given, KeyLog};
@@ -137,13 +136,11 @@ impl Packrat {
         peg: &SoundPeg,
         window: &[u8],
         more: bool,
-        marks: &Marks,
     ) -> Result<Unit, Memory>
         requires some { more ≡ true → 0 < length window.now }
-        requires marks { AreMarks peg.now.start (shapes_of peg.now.nodes) peg.now.bodies (node_marks marks.now)
-            (tail_marks marks.now) }
+        requires keys { HasKeys peg.now }
         ensures answer { IfOk result (IsAnswer peg.now window.now more (Holds self.new peg.now window.now)) }
-        ensures outcome { IfOk result (IsOutcome peg.now window.now more marks.now self.new) }
+        ensures outcome { IfOk result (IsOutcome peg.now window.now more peg.now.keys self.new) }
         ensures bounded { IfOk result (λ unit. (o : Outcome) (k : ℕ) → StartGives peg.now window.now o k →
             told unit ≤ length peg.now.nodes * (k + 1)) }
         ensures empty { OnErr result (self.new ≡ empty) }
@@ -158,7 +155,7 @@ impl Packrat {
             return Err(Memory);
         }
         self.head = 0;
-        let matched = self.machine.evaluate(peg, window, more, marks, root);
+        let matched = self.machine.evaluate(peg, window, more, root);
         match matched {
             Ok(given) => {
                 self.head = head_given(given);

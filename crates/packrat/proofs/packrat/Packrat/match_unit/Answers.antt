@@ -10,8 +10,8 @@ returns-in-Ok-clause-answer c =
     c.body_node-root.ensures in
     let matched = rw c.in-Ok.is at c.evaluate-matched.ensures in
     rw c.matched_unit.ensures
-    (answer_of_match c.args.peg.now c.args.window.now c.start.ensures.sound c.args.more c.args.marks.now
-    c.requires.marks c.body_node-root.result at (record {
+    (answer_of_match c.args.peg.now c.args.window.now c.start.ensures.sound c.args.more c.args.peg.now.keys
+    c.start.ensures.keys c.body_node-root.result at (record {
       stored = c.evaluate-matched.new.self.log.stored;
       frames = c.evaluate-matched.new.self.frames;
       begun = c.evaluate-matched.new.self.begun;
@@ -26,8 +26,8 @@ returns-in-Ok-clause-outcome c =
     c.body_node-root.ensures in
     let matched = rw c.in-Ok.is at c.evaluate-matched.ensures in
     rw c.matched_unit.ensures
-    (outcome_of_match c.args.peg.now c.args.window.now c.start.ensures.sound c.args.more c.args.marks.now
-    c.requires.marks c.body_node-root.result at (record {
+    (outcome_of_match c.args.peg.now c.args.window.now c.start.ensures.sound c.args.more c.args.peg.now.keys
+    c.start.ensures.keys c.body_node-root.result at (record {
       stored = c.evaluate-matched.new.self.log.stored;
       frames = c.evaluate-matched.new.self.frames;
       begun = c.evaluate-matched.new.self.begun;
@@ -41,15 +41,15 @@ returns-in-Ok-clause-bounded c =
     c.body_node-root.ensures in
     let matched = rw c.in-Ok.is at c.evaluate-matched.ensures in
     rw c.matched_unit.ensures
-    (told_bounded c.args.peg.now c.args.window.now c.start.ensures.sound c.args.more c.args.marks.now
-    c.requires.marks c.body_node-root.result at (record {
+    (told_bounded c.args.peg.now c.args.window.now c.start.ensures.sound c.args.more c.args.peg.now.keys
+    c.start.ensures.keys c.body_node-root.result at (record {
       stored = c.evaluate-matched.new.self.log.stored;
       frames = c.evaluate-matched.new.self.frames;
       begun = c.evaluate-matched.new.self.begun;
       kept = kept_at c.evaluate-matched.new.self.events c.head_given-self-inside.result;
     }) _
-    (outcome_of_match c.args.peg.now c.args.window.now c.start.ensures.sound c.args.more c.args.marks.now
-    c.requires.marks c.body_node-root.result at (record {
+    (outcome_of_match c.args.peg.now c.args.window.now c.start.ensures.sound c.args.more c.args.peg.now.keys
+    c.start.ensures.keys c.body_node-root.result at (record {
       stored = c.evaluate-matched.new.self.log.stored;
       frames = c.evaluate-matched.new.self.frames;
       begun = c.evaluate-matched.new.self.begun;

@@ -1,0 +1,21 @@
+//! Which spots are keys.
+ghost use Rattle.std.specs.Prelude.{◌≡◌};
+ghost use Rattle.gramcheck.specs.KeyLists.{node_marks, tail_marks};
+ghost use Rattle.packrat.specs.Spots.{is_key as is_key_of};
+
+use gramcheck::SoundPeg;
+use memo::Spot;
+
+/// Tells whether a spot is a key of the grammar.
+pub(crate) fn is_key(peg: &SoundPeg, spot: Spot) -> bool
+    ensures { result ≡ is_key_of (node_marks peg.now.keys) (tail_marks peg.now.keys) spot }
+{
+    match spot {
+        Spot::Pair { node, place: _ } => peg.is_key_node(node),
+        Spot::Tail {
+            node,
+            index,
+            place: _,
+        } => peg.is_key_tail(node, index),
+    }
+}
