@@ -32,7 +32,7 @@ use Rattle.visits.proofs.NodeGivesLemmas.{gives_as}
 use Rattle.memo.specs.declared.spot.Spot.{Spot}
 use Rattle.memo.specs.declared.spot.Spot.TheVariants.{Pair, Tail}
 use Rattle.packrat.specs.ByteGives.{found_by, GivesBy}
-use Rattle.packrat.specs.SpotGives.{SpotGives}
+use Rattle.packrat.specs.SpotGives.{IsQuiet, SpotGives}
 use Rattle.packrat.proofs.SpotReachLemmas.{front_drop}
 
 -- beyond the last member there is none
@@ -440,12 +440,16 @@ module _ (rules : List Rule) (start : ℕ) (nodes : List Shape) (bodies ranks x 
           subst (λ w. FirstBy w v) (sym d.2)
           (first_by_some d.0 d.1 v g.looked some g.within (as_own d.3 g.gives))
 
+-- a failure that a byte decides has no events, as all that it decides
+quiet_by : (v : Verdict) (p : ℕ) → IsQuiet (found_by v p) []
+quiet_by Takes p = tt
+quiet_by Stays p = tt
+quiet_by Fails p = refl
+
 module _ (g : Grammar) (x : List ℕ) (more : Bool) (sound : IsSoundGrammar g) where
   pub found_gives : (n p : ℕ) (v : Verdict) → (more ≡ true → p + 1 < length x)
       → GivesBy (rules_of g.rules) (shapes_of g.nodes) g.bodies x n p v → SpotGives g x more (Pair n p) (found_by v p)
   found_gives n p v last d = (
     [],
-    d.looked,
-    d.gives,
-    λ is. let lt = last is in let le = d.within in omega (arith, lt, le),
+    (d.looked, d.gives, (λ is. let lt = last is in let le = d.within in omega (arith, lt, le)), quiet_by v p),
   )

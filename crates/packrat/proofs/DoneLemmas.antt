@@ -15,7 +15,7 @@ use Rattle.pegmatch.specs.Answers.{StartGives, IsAnswer, HoldsSuccess}
 use Rattle.gramcheck.specs.Rising.{Rise}
 use Rattle.gramcheck.proofs.RiseLemmas.{Rise-upper}
 use Rattle.gramcheck.proofs.StartRuleLemmas.{rises_of_start}
-use Rattle.desk.proofs.HoldsLemmas.{some_cell}
+use Rattle.visits.proofs.CodeLemmas.{some_cell}
 use Rattle.visits.specs.Visits.{first}
 use Rattle.eventlog.specs.EventLog.{IsHead, kept_at}
 use Rattle.eventlog.proofs.KeptAtLemmas.{none_kept}

@@ -72,12 +72,16 @@ module _ (g : Grammar) (x : List ℕ) (more : Bool) (sound : IsSoundGrammar g) (
       → (more ≡ true → a + n < length x) → SpotGives g x more (Pair s (a + n)) f → (i : ℕ) → i ≤ n
       → SpotGives g x more (Pair s (a + i)) f
   turns_found {a = a} {n = n} turns Failed last d i le = absurd (star_never_fails (rules_of g.rules) g.start
-      (shapes_of g.nodes) g.bodies g.ranks x sound s k spelled (a + n) d.1 at d.2)
+      (shapes_of g.nodes) g.bodies g.ranks x sound s k spelled (a + n) d.1.0 at d.1.1)
   turns_found {a = a} {n = n} turns (Took q) last d i le =
       let r = turns_repeat (rules_of g.rules) g.start (shapes_of g.nodes) g.bodies g.ranks x sound marks tails s k at
-      spelled turns q d.1 d.0 d.2 i le in (
+      spelled turns q d.1.0 d.0 d.1.1 i le in (
         d.0,
-        r.looked,
-        r.gives,
-        λ is. let lt = last is in let before = d.3 is in let within = r.within in omega (arith, lt, before, within),
+        (
+          r.looked,
+          r.gives,
+          (λ is. let lt = last is in let before = d.1.2 is in let within = r.within in
+          omega (arith, lt, before, within)),
+          tt,
+        ),
       )

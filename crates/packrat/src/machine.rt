@@ -12,7 +12,7 @@ ghost use Rattle.memo.specs.declared.spot.Spot.{Spot};
 ghost use Rattle.packrat.specs.TurnsLeft.{left, most_begun};
 ghost use Rattle.gramcheck.specs.KeyMarks.{AreMarks};
 ghost use Rattle.packrat.specs.Onward.{IsWell};
-ghost use Rattle.gramcheck.specs.KeyLists.{node_marks, tail_marks};
+ghost use Rattle.gramcheck.specs.KeyLists.{Marks};
 ghost use Rattle.packrat.specs.Stands.{Stands, IsClosed, AreOn, IsEvaluated, LowersLeft, key_of};
 ghost use Rattle.packrat.specs.Stands.{AreWaiting, IsWaitHead, IsJoined};
 ghost use Rattle.packrat.specs.View.{weight};

@@ -6,15 +6,13 @@ ghost use Rattle.pegmatch.specs.Answers.{StartGives, IsAnswer, HoldsSuccess, Rep
 ghost use Rattle.pegmatch.specs.Text.{text_of};
 ghost use Rattle.pegmatch.specs.declared.matcher.ReplayFault.{ReplayFault};
 ghost use Rattle.packrat.specs.Done.{empty, Holds, IsOutcome, head_of, told, unit_of, unit_of_match};
-ghost use Rattle.gramcheck.specs.KeyMarks.{AreMarks};
-ghost use Rattle.gramcheck.specs.KeyLists.{node_marks, tail_marks};
 
 use crate::frames::Frames;
 use crate::machine::Machine;
 use eventlog::EventLog;
 use gramcheck::SoundPeg;
 use memo::{Found, Given, KeyLog};
-use pegmatch::{ReplayFault, Unit};
+use pegmatch::{Matcher, ReplayFault, Unit};
 use ruletable::{Memory, Sink};
 use std::alloc::Global;
 use std::marker::Model;
@@ -120,6 +118,10 @@ impl Packrat {
         self.machine.begun = 0;
         self.head = 0;
     }
+}
+
+impl Matcher for Packrat {
+    ghost holds = { λ m g x events. Holds m g x events };
 
     /// Returns what the start rule gives at the front of the window (Ford 2004, section 3.3). If it is not `Need`,
     /// exactly the keys that are reached are stored, each once and with its outcome; the cells that they imply are
@@ -131,14 +133,8 @@ impl Packrat {
     ///
     /// # Errors
     /// `Memory` if an allocation fails; nothing is stored.
-    pub fn match_unit(
-        &mut self,
-        peg: &SoundPeg,
-        window: &[u8],
-        more: bool,
-    ) -> Result<Unit, Memory>
+    fn match_unit(&mut self, peg: &SoundPeg, window: &[u8], more: bool) -> Result<Unit, Memory>
         requires some { more ≡ true → 0 < length window.now }
-        requires keys { HasKeys peg.now }
         ensures answer { IfOk result (IsAnswer peg.now window.now more (Holds self.new peg.now window.now)) }
         ensures outcome { IfOk result (IsOutcome peg.now window.now more peg.now.keys self.new) }
         ensures bounded { IfOk result (λ unit. (o : Outcome) (k : ℕ) → StartGives peg.now window.now o k →
@@ -174,7 +170,7 @@ impl Packrat {
     /// # Errors
     /// - `Memory` if an allocation fails; nothing was written, and nothing is stored.
     /// - `Write` if the writer failed; a beginning was written.
-    pub fn replay<W: Sink>(
+    fn replay<W: Sink>(
         &mut self,
         peg: &SoundPeg,
         window: &[u8],

@@ -152,3 +152,8 @@ cells_at_most cells n k d low =
     let l = low c.node c.place c.has in
     rw c.is (code_below (k + 1) c.node c.place n l.0 (omega (arith, l.1)))) in
     omega (arith, most, length_cell_codes (k + 1) cells)
+
+-- where a pair has a cell there is one
+pub some_cell : (cells : List Entry) (n p : ℕ) → HasCell cells n p → 1 ≤ length cells
+some_cell [] n p h = absurd (cc h.1)
+some_cell (c ∷ cells) n p h = omega arith

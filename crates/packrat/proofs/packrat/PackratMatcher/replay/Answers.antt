@@ -3,7 +3,7 @@ use Rattle.gramcheck.specs.Nodes.{shapes_of}
 use Rattle.pegmatch.specs.KeptEvents.{StandFor}
 use Rattle.packrat.specs.Done.{Holds}
 use Rattle.packrat.proofs.DoneLemmas.{held_rise}
-use Rattle.packrat.proofs.packrat.Packrat.replay.Goals as goal
+use Rattle.packrat.proofs.packrat.PackratMatcher.replay.Goals as goal
 
 pub replay-replayed-requires-clause-success : goal.replay-replayed-requires-clause-success
 replay-replayed-requires-clause-success g c =

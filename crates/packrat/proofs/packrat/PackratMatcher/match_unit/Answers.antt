@@ -1,7 +1,7 @@
 use Rattle.std.proofs.Common.{◌≡◌, slice_get, Some, subst, ap}
 use Rattle.eventlog.specs.EventLog.{kept_at}
 use Rattle.packrat.proofs.DoneLemmas.{outcome_of_match, answer_of_match, told_bounded}
-use Rattle.packrat.proofs.packrat.Packrat.match_unit.Goals as goal
+use Rattle.packrat.proofs.packrat.PackratMatcher.match_unit.Goals as goal
 
 pub returns-in-Ok-clause-answer : goal.returns-in-Ok-clause-answer
 returns-in-Ok-clause-answer c =
