@@ -9,6 +9,7 @@ use Rattle.gramcheck.specs.Grammar.{Grammar, IsSoundGrammar}
 use Rattle.gramcheck.specs.Nodes.{shapes_of, shape_of}
 use Rattle.cells.specs.declared.cell.Found.{Found}
 use Rattle.packrat.specs.declared.marks.Marks.{Marks}
+use Rattle.memo.specs.declared.key_log.Given.{Given}
 use Rattle.memo.specs.declared.key_log.Stored.{Stored}
 use Rattle.memo.specs.declared.spot.Spot.{Spot}
 use Rattle.memo.specs.declared.spot.Spot.TheVariants.{Pair}
@@ -77,14 +78,14 @@ module _ (g : Grammar) (x : List ℕ) (more : Bool) (marks : Marks) where
     spot_here : a ≡ s.spot
     spot_here = s.turns.0
 
-    pub stands_stored : (f : Found) → Key a ≡ true → IsIn (record { spot = a; found = f }) st
-        → S root (Answer f) ls st n
-    stands_stored f t i = record {
+    pub stands_stored : (given : Given) → Key a ≡ true → IsIn (record { spot = a; given = given }) st
+        → S root (Answer given.found) ls st n
+    stands_stored given t i = record {
       levels = s.levels;
       begun = s.begun;
       spot = s.spot;
       are = s.are;
-      turns = subst (λ v. SG v f) spot_here (s.right.right (record { spot = a; found = f }) i);
+      turns = subst (λ v. SG v given.found) spot_here (s.right.right (record { spot = a; given = given }) i);
       right = s.right;
       is = s.is;
       steps = steps_more s.steps (step_stored (subst (λ v. Key v ≡ true) spot_here t)
@@ -244,22 +245,25 @@ module _ (g : Grammar) (x : List ℕ) (more : Bool) (marks : Marks) where
         s.begun
         (subst (λ v. SS root (Works (record { levels = v; stored = spots_of st; begun = s.begun }))) s.are.0 s.steps))
 
+  abbrev stored_as : Spot → Found → Stored
+  stored_as a f = record { spot = a; given = record { found = f; events = 0 } }
+
   pub closed_key : (a : Spot) (f : Found) (old new : List Stored) → Key a ≡ true
-      → new ≡ record { spot = a; found = f } ∷ old
+      → new ≡ stored_as a f ∷ old
       → C a f old new
   closed_key a f old new t grown = subst (C a f old) (sym grown) (record {
     spots = subst (λ v. a ∷ spots_of old ≡ store Spot v a (spots_of old)) (sym t) refl;
     right = λ h r. record { right = λ s i. by s h r (first i) };
   })
     where
-      first : {s : Stored} → IsIn s (record { spot = a; found = f } ∷ old)
-          → (s ≡ record { spot = a; found = f }) ⊎ IsIn s old
+      first : {s : Stored} → IsIn s (stored_as a f ∷ old)
+          → (s ≡ stored_as a f) ⊎ IsIn s old
       first in_here = inl refl
       first (in_later i) = inr i
 
-      by : (s : Stored) → SG a f → AreRight g x more old → (s ≡ record { spot = a; found = f }) ⊎ IsIn s old
-          → SG s.spot s.found
-      by s h r (inl is) = subst (λ v. SG v.spot v.found) (sym is) h
+      by : (s : Stored) → SG a f → AreRight g x more old → (s ≡ stored_as a f) ⊎ IsIn s old
+          → SG s.spot s.given.found
+      by s h r (inl is) = subst (λ v. SG v.spot v.given.found) (sym is) h
       by s h r (inr i) = r.right s i
 
   pub closed_plain : (a : Spot) (f : Found) (old : List Stored) → Key a ≡ false → C a f old old

@@ -73,4 +73,4 @@ module _ (g : Grammar) (x : List ℕ) (more : Bool) where
 
   -- each stored key has what it gives
   pub record AreRight (stored : List Stored) : Type 0 where
-    pub right : (s : Stored) → IsIn s stored → SpotGives s.spot s.found
+    pub right : (s : Stored) → IsIn s stored → SpotGives s.spot s.given.found

@@ -1,15 +1,17 @@
 //! The machine: it evaluates by a loop over frames in place of recursion, and stores the keys alone.
 ghost use Rattle.std.specs.Prelude.{◌≡◌, ℕ, ◌+◌, ◌*◌, ◌<◌, ◌≤◌, Bool, true, List, [], ◌∷◌, length, slice_get, Some};
-ghost use Rattle.std.specs.Prelude.{IfOk, OnOk};
+ghost use Rattle.std.specs.Prelude.{IfOk, IfSome, IfNone, OnOk};
 ghost use Rattle.gramcheck.specs.Grammar.{IsSoundGrammar};
 ghost use Rattle.gramcheck.specs.Nodes.{shapes_of};
 ghost use Rattle.pegmatch.specs.Answers.{WasEnough};
+ghost use Rattle.memo.specs.KeyLog.{spots_of};
+ghost use Rattle.memo.specs.Parts.{IsIn};
 ghost use Rattle.memo.specs.declared.spot.Spot.{Spot};
 ghost use Rattle.packrat.specs.TurnsLeft.{left, most_begun};
 ghost use Rattle.packrat.specs.KeyMarks.{AreMarks};
 ghost use Rattle.packrat.specs.Onward.{IsWell};
 ghost use Rattle.packrat.specs.SpotGives.{node_marks, tail_marks};
-ghost use Rattle.packrat.specs.Stands.{Stands, IsClosed, AreOn, IsEvaluated, LowersLeft};
+ghost use Rattle.packrat.specs.Stands.{key_of, Stands, IsClosed, AreOn, IsEvaluated, LowersLeft};
 ghost use Rattle.packrat.specs.View.{weight};
 ghost use Rattle.packrat.specs.declared.machine.Turn.{Turn};
 
@@ -18,7 +20,7 @@ use crate::marks::Marks;
 use crate::onward::{Begun, Onward, begin, go_on};
 use cells::Found;
 use gramcheck::SoundPeg;
-use memo::{KeyLog, Spot};
+use memo::{Given, KeyLog, Spot};
 use ruletable::Memory;
 
 /// A spot is to be evaluated, or one was.
@@ -51,6 +53,21 @@ fn counted(nodes: usize, length: usize, begun: u128, spot: Spot) -> u128
     }
 }
 
+// Returns what was found for a key that is stored.
+fn known(log: &mut KeyLog, marks: &Marks, spot: Spot) -> Result<Option<Given>, Memory>
+    ensures same { log.new ≡ log.old }
+    ensures some { IfOk result (λ known. IfSome known (λ g. (key_of marks.now spot ≡ true)
+        × IsIn (record { spot = spot; given = g }) log.old.stored)) }
+    ensures none { IfOk result (λ known. IfNone known (key_of marks.now spot ≡ true
+        → IsIn spot (spots_of log.old.stored) → ⊥)) }
+{
+    if marks.is_key(spot) {
+        log.get(spot)
+    } else {
+        Ok(None)
+    }
+}
+
 impl Machine {
     // Ends a spot that gives this.
     fn close(
@@ -70,7 +87,7 @@ impl Machine {
         ensures begun { self.new.begun ≡ self.old.begun }
     {
         if marks.is_key(spot) {
-            self.log.put(spot, found)?;
+            self.log.put(spot, Given { found, events: 0 })?;
         }
         Ok(())
     }
@@ -97,11 +114,9 @@ impl Machine {
             LowersLeft peg.now window.now turn self.new.frames self.new.begun
             (left peg.now window.now (Turn.Ask spot) self.old.frames self.old.begun)) }
     {
-        if marks.is_key(spot) {
-            match self.log.get(spot) {
-                Some(found) => return Ok(Some(Turn::Answer(found))),
-                None => {}
-            }
+        match known(&mut self.log, marks, spot)? {
+            Some(given) => return Ok(Some(Turn::Answer(given.found))),
+            None => {}
         }
         self.begun = counted(peg.nodes(), window.len(), self.begun, spot);
         match begin(peg, window, more, spot) {

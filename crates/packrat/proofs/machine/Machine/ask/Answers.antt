@@ -7,30 +7,24 @@ use Rattle.packrat.specs.TurnsLeft.{left}
 use Rattle.packrat.specs.View.{weight}
 use Rattle.packrat.proofs.StandsLemmas as L
 use Rattle.packrat.proofs.LeftLemmas as M
-use Rattle.packrat.proofs.machine.Machine.ask.Goals.{then-is_key+in-None, else-is_key}
 use Rattle.packrat.proofs.machine.Machine.ask.Goals as goal
 
 pub returns-in-Some-clause-stands : goal.returns-in-Some-clause-stands
 returns-in-Some-clause-stands c = λ root s.
-    L.stands_stored c.args.peg.now c.args.window.now c.args.more c.args.marks.now root c.args.spot
-    c.args.self.now.frames
-    c.args.self.now.log.stored c.args.self.now.begun s c.in-Some.found
-    (cc (c.is_key.ensures, c.if-is_key.true)) c.in-Some.ensures.some
+    let some = rw c.in-Some.is at c.in_ok-given.ensures.some in
+    rw c.in_ok-given.ensures.same (L.stands_stored c.args.peg.now c.args.window.now c.args.more c.args.marks.now root
+    c.args.spot c.args.self.now.frames c.args.self.now.log.stored c.args.self.now.begun s c.in-Some.given some.0 some.1)
 
 pub returns-in-Some-clause-less : goal.returns-in-Some-clause-less
 returns-in-Some-clause-less c = λ le.
-    M.less_stored c.args.peg.now c.args.window.now c.args.spot c.in-Some.found c.args.self.now.frames
-    c.args.self.now.begun
-    c.requires.well
+    M.less_stored c.args.peg.now c.args.window.now c.args.spot c.in-Some.given.found c.args.self.now.frames
+    c.args.self.now.begun c.requires.well
 
 pub returns-in_ok-close-in-Gives-clause-stands : goal.returns-in_ok-close-in-Gives-clause-stands
 returns-in_ok-close-in-Gives-clause-stands c = λ root s.
     let fresh : key_of c.args.marks.now c.args.spot ≡ true
     → IsIn c.args.spot (spots_of c.args.self.now.log.stored) → ⊥ =
-    elim c.if-is_key.branch [
-      | then-is_key+in-None w ↦ λ t. w.in-None.ensures.none
-      | else-is_key w ↦ let own = c.is_key.ensures in λ t. absurd (cc (t, own, w.if-is_key.false))
-    ] in
+    rw c.in-None.is at c.in_ok-given.ensures.none in
     let begun = c.in_ok-close-in-Gives.ensures.begun ∙ c.counted-self.ensures in
     L.stands_as c.args.peg.now c.args.window.now c.args.more c.args.marks.now root (Answer c.in-Gives.found)
     (Answer c.in-Gives.found) c.args.self.now.frames c.close.new.self.frames c.close.new.self.log.stored
@@ -38,7 +32,7 @@ returns-in_ok-close-in-Gives-clause-stands c = λ root s.
     (sym c.in_ok-close-in-Gives.ensures.frames) refl (sym begun)
     (L.stands_leaf c.args.peg.now c.args.window.now c.args.more c.args.marks.now root c.args.spot c.args.self.now.frames
     c.args.self.now.log.stored c.args.self.now.begun s fresh c.in-Gives.found c.close.new.self.log.stored
-    c.in-Gives.ensures (c.in_ok-close-in-Gives.ensures.closed c.args.more))
+    c.in-Gives.ensures (rw c.in_ok-given.ensures.same at (c.in_ok-close-in-Gives.ensures.closed c.args.more)))
 
 pub returns-in_ok-close-in-Gives-clause-less : goal.returns-in_ok-close-in-Gives-clause-less
 returns-in_ok-close-in-Gives-clause-less c = λ le.
@@ -53,17 +47,14 @@ pub returns-in_ok-push-in-Leads-clause-stands : goal.returns-in_ok-push-in-Leads
 returns-in_ok-push-in-Leads-clause-stands c = λ root s.
     let fresh : key_of c.args.marks.now c.args.spot ≡ true
     → IsIn c.args.spot (spots_of c.args.self.now.log.stored) → ⊥ =
-    elim c.if-is_key.branch [
-      | then-is_key+in-None w ↦ λ t. w.in-None.ensures.none
-      | else-is_key w ↦ let own = c.is_key.ensures in λ t. absurd (cc (t, own, w.if-is_key.false))
-    ] in
-    L.stands_as c.args.peg.now c.args.window.now c.args.more c.args.marks.now root (Ask c.in-Leads.kid) (Ask
+    rw c.in-None.is at c.in_ok-given.ensures.none in
+    rw c.in_ok-given.ensures.same (L.stands_as c.args.peg.now c.args.window.now c.args.more c.args.marks.now root (Ask c.in-Leads.kid) (Ask
     c.in-Leads.kid)
     (record { spot = c.args.spot; second = false } ∷ c.args.self.now.frames) c.push.new.self
     c.args.self.now.log.stored c.args.self.now.log.stored (c.args.self.now.begun + weight c.args.spot)
     c.counted-self.result refl (sym c.in_ok-push-in-Leads.ensures) refl (sym c.counted-self.ensures)
     (L.stands_down c.args.peg.now c.args.window.now c.args.more c.args.marks.now root c.args.spot c.args.self.now.frames
-    c.args.self.now.log.stored c.args.self.now.begun s fresh c.in-Leads.kid c.in-Leads.ensures)
+    c.args.self.now.log.stored c.args.self.now.begun s fresh c.in-Leads.kid c.in-Leads.ensures))
 
 pub returns-in_ok-push-in-Leads-clause-less : goal.returns-in_ok-push-in-Leads-clause-less
 returns-in_ok-push-in-Leads-clause-less c = λ le.
@@ -77,9 +68,6 @@ pub returns-in-Need-clause-stands : goal.returns-in-Need-clause-stands
 returns-in-Need-clause-stands c = λ root s.
     let fresh : key_of c.args.marks.now c.args.spot ≡ true
     → IsIn c.args.spot (spots_of c.args.self.now.log.stored) → ⊥ =
-    elim c.if-is_key.branch [
-      | then-is_key+in-None w ↦ λ t. w.in-None.ensures.none
-      | else-is_key w ↦ let own = c.is_key.ensures in λ t. absurd (cc (t, own, w.if-is_key.false))
-    ] in
+    rw c.in-None.is at c.in_ok-given.ensures.none in
     L.stands_need c.args.peg.now c.args.window.now c.args.more c.args.marks.now root c.args.spot
     c.args.self.now.frames c.args.self.now.log.stored c.args.self.now.begun s fresh c.in-Need.ensures
