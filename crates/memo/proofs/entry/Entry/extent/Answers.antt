@@ -61,6 +61,7 @@ returns-in-Steps-clause-extent c =
     let small : k.node < 2 ^ 32 = search rules in
     let wide : k.to < 2 ^ 32 = search rules in
     let low : k.to - 1 < 2 ^ 32 = omega arith in
-    rw (c.saturating_sub-in-Steps.ensures, c.saturating_sub-in-Steps-2.ensures) (spread_extent c.args.self k.node step_at k.from (k.to - k.from) (k.to - 1)
-    c.pair_number-in-Steps.result (ap pairs_of k.is) (ap node_of k.is) small low (λ some. omega arith)
+    rw (c.saturating_sub-in-Steps.ensures, c.saturating_sub-in-Steps-2.ensures) (spread_extent c.args.self k.node
+    step_at k.from (k.to - k.from) (k.to - 1) c.pair_number-in-Steps.result (ap pairs_of k.is)
+    (ap node_of k.is) small low (λ some. omega arith)
     c.pair_number-in-Steps.ensures.same)

@@ -48,8 +48,8 @@ returns-in_ok-push-in-Leads-clause-stands c = λ root s.
     let fresh : key_of c.args.marks.now c.args.spot ≡ true
     → IsIn c.args.spot (spots_of c.args.self.now.log.stored) → ⊥ =
     rw c.in-None.is at c.in_ok-given.ensures.none in
-    rw c.in_ok-given.ensures.same (L.stands_as c.args.peg.now c.args.window.now c.args.more c.args.marks.now root (Ask c.in-Leads.kid) (Ask
-    c.in-Leads.kid)
+    rw c.in_ok-given.ensures.same (L.stands_as c.args.peg.now c.args.window.now c.args.more c.args.marks.now root
+    (Ask c.in-Leads.kid) (Ask c.in-Leads.kid)
     (record { spot = c.args.spot; second = false } ∷ c.args.self.now.frames) c.push.new.self
     c.args.self.now.log.stored c.args.self.now.log.stored (c.args.self.now.begun + weight c.args.spot)
     c.counted-self.result refl (sym c.in_ok-push-in-Leads.ensures) refl (sym c.counted-self.ensures)
