@@ -1,5 +1,6 @@
 //! The entries of the log, in numbers of 32 bits.
-ghost use Rattle.std.specs.Prelude.{◌≡◌, ◌+◌, ◌<◌, ◌≤◌, ◌^◌, true, false, [], ◌∷◌, IfOk, IfSome, IfNone, slice_get, Some};
+ghost use Rattle.std.specs.Prelude.{◌≡◌, ◌+◌, ◌<◌, ◌≤◌, ◌^◌, true, false, [], ◌∷◌, slice_get, Some};
+ghost use Rattle.std.specs.Prelude.{IfOk, IfSome, IfNone};
 ghost use Rattle.memo.specs.KeyLog.{spots_of, row_of, run_of, steps_of};
 ghost use Rattle.memo.specs.LogEntries.{found_of, given_of, node_of, pairs_of, IsExtent};
 ghost use Rattle.memo.specs.Parts.{IsIn};
