@@ -1,10 +1,10 @@
 -- Lists of stored keys, and keys that stand at places in a row.
 -- Serves: KeyLog::get, KeyLog::put, KeyLog::put_run, KeyLog::put_steps, KeyLog::mark
 use Rattle.std.proofs.Common.{◌≡◌, ◌⊎◌, inl, inr, ℕ, zero, suc, ◌+◌, ◌<◌, ◌≤◌, List, [], ◌∷◌, ◌++◌, length, refl, sym}
-use Rattle.std.proofs.Common.{subst, ap, arith, slice_get, Some, reverse}
+use Rattle.std.proofs.Common.{subst, arith, slice_get, Some, reverse}
 use Rattle.std.proofs.lemmas.List.{reverse-append}
 use Rattle.memo.specs.Parts.{IsIn, in_here, in_later}
-use Rattle.memo.specs.KeyLog.{spots_of, row_of, place_of, spread}
+use Rattle.memo.specs.KeyLog.{spots_of, spread}
 use Rattle.memo.specs.declared.key_log.Stored.{Stored}
 use Rattle.memo.specs.declared.spot.Spot.{Spot}
 use Rattle.memo.proofs.PartsLemmas.{in_left, in_right, in_either}
@@ -57,16 +57,6 @@ stored_of_spot (s ∷ stored) spot i = elim (first_or_later i) [
 pub spot_of_stored : {s : Stored} {stored : List Stored} → IsIn s stored → IsIn s.spot (spots_of stored)
 spot_of_stored in_here = in_here
 spot_of_stored (in_later i) = in_later (spot_of_stored i)
-
--- where no key of the row stands at the place or beyond, the key is not stored
-pub none_beyond : (stored : List Stored) (spot : Spot)
-    → ((s : Stored) → IsIn s stored → row_of s.spot ≡ row_of spot → place_of s.spot < place_of spot)
-    → IsIn spot (spots_of stored) → ⊥
-none_beyond stored spot below i =
-    let h = stored_of_spot stored spot i in
-    let less = below h.entry h.there (ap row_of h.is) in
-    let place : place_of h.entry.spot ≡ place_of spot = ap place_of h.is in
-    omega arith
 
 -- one of those that stand at places in a row
 pub record IsSpread (at : ℕ → Stored) (from n : ℕ) (s : Stored) : Type 0 where

@@ -4,4 +4,3 @@ pub mod RunLemmas
 pub mod KeyLogLemmas
 pub mod LogEntriesLemmas
 pub mod SpotLinksLemmas
-pub mod IsLogLemmas

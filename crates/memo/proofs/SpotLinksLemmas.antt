@@ -44,20 +44,6 @@ mapped_from f (x ∷ xs) zero b h = (x, refl, cc h)
 mapped_from f (x ∷ xs) (suc i) b h = mapped_from f xs i b h
 
 module _ (bucket : IndexCell → ℕ) where
-  IsLastCell-none : (b : ℕ) → IsLastCell bucket [] 0 b 0
-  IsLastCell-none b = record {
-    within = omega arith;
-    here = λ h. absurd (omega arith);
-    after = λ j c h g e r. absurd (cc e);
-  }
-
-  pub linked_none : (firsts : List ℕ) → ((b h : ℕ) → slice_get firsts b ≡ Some h → h ≡ 0)
-      → AreLinkedCells bucket [] firsts
-  linked_none firsts none = record {
-    links = λ i c h. absurd (cc h);
-    heads = λ b h e. rw (none b h e) (IsLastCell-none b);
-  }
-
   IsCellAt-push : (cells : List IndexCell) (c : IndexCell) (b j : ℕ) → IsCellAt bucket cells b j
       → IsCellAt bucket (cells ++ c ∷ []) b j
   IsCellAt-push cells c b j i = (i.0, keeps_after_push cells (c ∷ []) j i.0 i.1, i.2)

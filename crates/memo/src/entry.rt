@@ -1,5 +1,6 @@
 //! The entries of the log, in numbers of 32 bits.
-ghost use Rattle.std.specs.Prelude.{◌≡◌, ◌+◌, ◌<◌, ◌≤◌, ◌^◌, [], ◌∷◌, IfOk, IfSome, IfNone, slice_get, Some};
+ghost use Rattle.std.specs.Prelude.{◌≡◌, ◌+◌, ◌<◌, ◌≤◌, ◌^◌, true, false, [], ◌∷◌, slice_get, Some};
+ghost use Rattle.std.specs.Prelude.{IfOk, IfSome, IfNone};
 ghost use Rattle.memo.specs.KeyLog.{spots_of, row_of, run_of, steps_of};
 ghost use Rattle.memo.specs.LogEntries.{found_of, given_of, node_of, pairs_of, IsExtent};
 ghost use Rattle.memo.specs.Parts.{IsIn};
@@ -217,7 +218,7 @@ impl Entry {
                 outcome,
                 events,
             } => {
-                if node == own as usize && place >= from as usize && place <= to as usize {
+                if is_within(node, place, own, from, to as usize + 1) {
                     Some(given(outcome, events))
                 } else {
                     None
@@ -228,7 +229,7 @@ impl Entry {
                 from,
                 to,
             } => {
-                if node == own as usize && place >= from as usize && place < to as usize {
+                if is_within(node, place, own, from, to as usize) {
                     Some(Given {
                         found: Found::Took(place + 1),
                         events: 0,
@@ -273,6 +274,15 @@ impl Entry {
             } => None,
         }
     }
+}
+
+// Tells whether a node at a place is that node, at a place from `from` on, short of `end`.
+#[inline(always)]
+fn is_within(node: usize, place: usize, own: u32, from: u32, end: usize) -> bool
+    ensures yes { result ≡ true → (node ≡ own) × (from ≤ place) × (place < end) }
+    ensures no { result ≡ false → node ≡ own → from ≤ place → place < end → ⊥ }
+{
+    node == own as usize && place >= from as usize && place < end
 }
 
 // Returns what was found, with its events.

@@ -1,6 +1,6 @@
 //! An index of keys by their numbers.
-ghost use Rattle.std.specs.Prelude.{◌≡◌, ℕ, ◌<◌, ◌≤◌, ◌^◌, [], ◌∷◌, ◌++◌, length, slice_get, Some, IfSome, IfNone, OnOk};
-ghost use Rattle.std.specs.Prelude.{OnErr};
+ghost use Rattle.std.specs.Prelude.{◌≡◌, ℕ, ◌<◌, ◌≤◌, ◌^◌, [], ◌∷◌, ◌++◌, length, slice_get, Some, IfSome, IfNone};
+ghost use Rattle.std.specs.Prelude.{OnOk, OnErr};
 ghost use Rattle.memo.specs.KeyLog.{spots_of};
 ghost use Rattle.memo.specs.LogEntries.{pairs_of};
 ghost use Rattle.memo.specs.Parts.{IsIn};

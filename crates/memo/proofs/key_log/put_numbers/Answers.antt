@@ -1,6 +1,23 @@
-use Rattle.memo.proofs.IsLogLemmas.{numbers_more}
-use Rattle.memo.proofs.PartsLemmas.{in_left}
+use Rattle.std.proofs.Common.{◌≡◌, ◌⊎◌, inl, inr, ℕ, ◌+◌, ◌<◌, ◌≤◌, List, [], ◌∷◌, ◌++◌}
+use Rattle.std.proofs.Common.{subst, arith}
+use Rattle.memo.specs.Parts.{IsIn, in_here}
+use Rattle.memo.specs.SpotLinks.{Place}
+use Rattle.memo.proofs.PartsLemmas.{in_left, in_right}
 use Rattle.memo.proofs.key_log.put_numbers.Goals as goal
+
+less_or_last : (i at : ℕ) → i < at + 1 → (i < at) ⊎ (i ≡ at)
+less_or_last i at h = grind arith
+
+-- a number more
+numbers_more : (places : List Place) (first number entry : ℕ)
+    → ((n : ℕ) → first ≤ n → n < number → IsIn (record { number = n; entry = entry }) places) → (n : ℕ) → first ≤ n
+    → n < number + 1
+    → IsIn (record { number = n; entry = entry }) (places ++ record { number = number; entry = entry } ∷ [])
+numbers_more places first number entry h n low less = elim (less_or_last n number less) [
+  | inl before ↦ in_left (record { number = number; entry = entry } ∷ []) (h n low before)
+  | inr is ↦ in_right places (subst (λ m. IsIn {V = Place} (record { number = n; entry = entry })
+      (record { number = m; entry = entry } ∷ [])) is in_here)
+]
 
 pub loop-number-preserved : goal.loop-number-preserved
 loop-number-preserved c = record {

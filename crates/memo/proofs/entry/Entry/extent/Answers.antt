@@ -1,7 +1,50 @@
-use Rattle.std.proofs.Common.{ap, arith, rules, ◌+◌, ◌-◌, ◌<◌, ◌^◌}
-use Rattle.memo.specs.LogEntries.{pairs_of, node_of, given_of}
-use Rattle.memo.proofs.LogEntriesLemmas.{spread_extent, step_at}
+use Rattle.std.proofs.Common.{◌≡◌, ℕ, ◌+◌, ◌-◌, ◌*◌, ◌^◌, ◌<◌, ◌≤◌, length}
+use Rattle.std.proofs.Common.{sym, ◌∙◌, subst, ap, arith}
+use Rattle.memo.specs.Parts.{IsIn}
+use Rattle.memo.specs.KeyLog.{row_of, place_of, number_of, spread, IsNarrow}
+use Rattle.memo.specs.LogEntries.{pairs_of, node_of, IsExtent}
+use Rattle.memo.specs.declared.entry.Entry.{Entry}
+use Rattle.memo.specs.declared.key_log.Given.{Given}
+use Rattle.memo.specs.declared.key_log.Stored.{Stored}
+use Rattle.memo.proofs.KeyLogLemmas.{IsSpread, of_spread, length_spread}
+use Rattle.std.proofs.Common.{rules}
+use Rattle.memo.specs.LogEntries.{given_of}
+use Rattle.memo.proofs.LogEntriesLemmas.{at_pair, step_at}
 use Rattle.memo.proofs.entry.Entry.extent.Goals as goal
+
+-- pairs of a node at places in a row have an extent
+spread_extent : (entry : Entry) (node : ℕ) (given : ℕ → Given) (from n highest first : ℕ)
+    → pairs_of entry ≡ spread (at_pair node given) from n → node_of entry ≡ node → node < 2 ^ 32 → highest < 2 ^ 32
+    → (0 < n → from + n ≤ highest + 1) → first ≡ node * 668265263 + from
+    → IsExtent entry (record { row = node; highest = highest; count = n; first = first })
+spread_extent entry node given from n highest first pairs own small low within is =
+    let one : (s : Stored) → IsIn s (pairs_of entry) → IsSpread (at_pair node given) from n s =
+    λ s i. of_spread (at_pair node given) from n s (subst (λ v. IsIn s v) pairs i) in
+    record {
+      node = sym own;
+      row = λ s i. ap (λ v. row_of v.spot) (one s i).is;
+      place = λ s i.
+          let h = one s i in
+          let below = h.high in
+          let above = h.low in
+          let most = within (omega arith) in
+          subst (λ v. place_of v.spot ≤ highest) (sym h.is) (omega arith);
+      narrow = λ s i.
+          let h = one s i in
+          let below = h.high in
+          let above = h.low in
+          let most = within (omega arith) in
+          subst (λ v. IsNarrow v.spot) (sym h.is) (small, omega arith);
+      first = λ s i.
+          let h = one s i in
+          let above = h.low in
+          subst (λ v. first ≤ number_of v.spot) (sym h.is) (omega arith);
+      last = λ s i.
+          let h = one s i in
+          let below = h.high in
+          subst (λ v. number_of v.spot < first + n) (sym h.is) (omega arith);
+      count = sym (ap length pairs ∙ length_spread (at_pair node given) from n);
+    }
 
 pub returns-in-Run-clause-extent : goal.returns-in-Run-clause-extent
 returns-in-Run-clause-extent c =
@@ -18,6 +61,7 @@ returns-in-Steps-clause-extent c =
     let small : k.node < 2 ^ 32 = search rules in
     let wide : k.to < 2 ^ 32 = search rules in
     let low : k.to - 1 < 2 ^ 32 = omega arith in
-    rw (c.saturating_sub-in-Steps.ensures, c.saturating_sub-in-Steps-2.ensures) (spread_extent c.args.self k.node step_at k.from (k.to - k.from) (k.to - 1)
-    c.pair_number-in-Steps.result (ap pairs_of k.is) (ap node_of k.is) small low (λ some. omega arith)
+    rw (c.saturating_sub-in-Steps.ensures, c.saturating_sub-in-Steps-2.ensures) (spread_extent c.args.self k.node
+    step_at k.from (k.to - k.from) (k.to - 1) c.pair_number-in-Steps.result (ap pairs_of k.is)
+    (ap node_of k.is) small low (λ some. omega arith)
     c.pair_number-in-Steps.ensures.same)

@@ -1,8 +1,23 @@
-use Rattle.std.proofs.Common.{◌+◌, ◌-◌}
+use Rattle.std.proofs.Common.{◌≡◌, ℕ, ◌+◌, ◌-◌}
+use Rattle.std.proofs.Common.{sym, ◌∙◌, ap}
+use Rattle.memo.specs.Parts.{IsIn, in_here}
+use Rattle.memo.specs.KeyLog.{spots_of, spread}
+use Rattle.memo.specs.declared.key_log.Given.{Given}
+use Rattle.memo.specs.declared.spot.Spot.TheVariants.{Pair, Tail}
+use Rattle.memo.proofs.KeyLogLemmas.{stored_of_spot}
+use Rattle.memo.proofs.KeyLogLemmas.{of_spread}
 use Rattle.memo.specs.LogEntries.{given_of}
-use Rattle.memo.specs.Parts.{in_here}
-use Rattle.memo.proofs.LogEntriesLemmas.{no_tail_of_spread, step_at}
+use Rattle.memo.proofs.LogEntriesLemmas.{at_pair, step_at}
 use Rattle.memo.proofs.entry.Entry.given_for_tail.Goals as goal
+
+-- a tail is not among them
+no_tail_of_spread : (own : ℕ) (given : ℕ → Given) (from n node index place : ℕ)
+    → IsIn (Tail node index place) (spots_of (spread (at_pair own given) from n)) → ⊥
+no_tail_of_spread own given from n node index place i =
+    let h = stored_of_spot (spread (at_pair own given) from n) (Tail node index place) i in
+    let one = of_spread (at_pair own given) from n h.entry h.there in
+    let same : Pair own one.place ≡ Tail node index place = sym (ap (λ v. v.spot) one.is) ∙ h.is in
+    absurd (cc same)
 
 pub returns-then-place-there-clause-some : goal.returns-then-place-there-clause-some
 returns-then-place-there-clause-some c =

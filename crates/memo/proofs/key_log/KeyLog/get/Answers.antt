@@ -1,6 +1,20 @@
-use Rattle.std.proofs.Common.{sym, ◌∙◌}
-use Rattle.memo.proofs.KeyLogLemmas.{none_beyond}
+use Rattle.std.proofs.Common.{◌≡◌, ◌<◌, List, ap, arith, sym, ◌∙◌}
+use Rattle.memo.specs.Parts.{IsIn}
+use Rattle.memo.specs.KeyLog.{spots_of, row_of, place_of}
+use Rattle.memo.specs.declared.key_log.Stored.{Stored}
+use Rattle.memo.specs.declared.spot.Spot.{Spot}
+use Rattle.memo.proofs.KeyLogLemmas.{stored_of_spot}
 use Rattle.memo.proofs.key_log.KeyLog.get.Goals as goal
+
+-- where no key of the row stands at the place or beyond, the key is not stored
+none_beyond : (stored : List Stored) (spot : Spot)
+    → ((s : Stored) → IsIn s stored → row_of s.spot ≡ row_of spot → place_of s.spot < place_of spot)
+    → IsIn spot (spots_of stored) → ⊥
+none_beyond stored spot below i =
+    let h = stored_of_spot stored spot i in
+    let less = below h.entry h.there (ap row_of h.is) in
+    let place : place_of h.entry.spot ≡ place_of spot = ap place_of h.is in
+    omega arith
 
 pub returns-then-is_new-clause-none : goal.returns-then-is_new-clause-none
 returns-then-is_new-clause-none c =

@@ -1,6 +1,19 @@
-use Rattle.std.proofs.Common.{ap}
-use Rattle.memo.proofs.IsLogLemmas.{some_at}
+use Rattle.std.proofs.Common.{◌≡◌, ℕ, List}
+use Rattle.std.proofs.Common.{ap, slice_get, Some, None, Option, IfSome, reverse}
+use Rattle.memo.specs.Parts.{IsIn}
+use Rattle.memo.specs.LogEntries.{pairs_of, stored_of}
+use Rattle.memo.specs.declared.entry.Entry.{Entry}
+use Rattle.memo.specs.declared.key_log.Given.{Given}
+use Rattle.memo.specs.declared.spot.Spot.{Spot}
+use Rattle.memo.proofs.LogEntriesLemmas.{stored_of_entry}
 use Rattle.memo.proofs.key_log.KeyLog.last_given.Goals as goal
+
+some_at : (items : List Entry) (at : ℕ) (spot : Spot) (v : Option Given)
+    → IfSome v (λ g. (e : Entry) × (slice_get items at ≡ Some e)
+    × IsIn (record { spot = spot; given = g }) (pairs_of e))
+    → IfSome v (λ g. IsIn (record { spot = spot; given = g }) (stored_of (reverse items)))
+some_at items at spot None h = tt
+some_at items at spot (Some g) h = stored_of_entry items at h.0 (record { spot = spot; given = g }) h.1 h.2
 
 pub returns-in-Some : goal.returns-in-Some
 returns-in-Some c =

@@ -1,6 +1,47 @@
-use Rattle.std.proofs.Common.{ap}
-use Rattle.memo.proofs.IsLogLemmas.{some_stored, none_stored, none_narrow}
+use Rattle.std.proofs.Common.{◌≡◌, ℕ, ◌≤◌, List, length, sym}
+use Rattle.std.proofs.Common.{◌∙◌, subst, ap, arith, slice_get, Some, None, Option, IfSome, IfNone, reverse}
+use Rattle.std.proofs.lemmas.Option.{slice_get_within}
+use Rattle.memo.specs.Parts.{IsIn}
+use Rattle.memo.specs.KeyLog.{spots_of, number_of, IsNarrow}
+use Rattle.memo.specs.LogEntries.{pairs_of, stored_of, AreCovered}
+use Rattle.memo.specs.SpotLinks.{Place}
+use Rattle.memo.specs.declared.entry.Entry.{Entry}
+use Rattle.memo.specs.declared.key_log.Given.{Given}
+use Rattle.memo.specs.declared.key_log.Stored.{Stored}
+use Rattle.memo.specs.declared.spot.Spot.{Spot}
+use Rattle.memo.proofs.KeyLogLemmas.{stored_of_spot, spot_of_stored}
+use Rattle.memo.proofs.LogEntriesLemmas.{entry_of_stored, stored_of_entry}
 use Rattle.memo.proofs.key_log.KeyLog.seek.Goals as goal
+
+-- where an entry has the key, it is stored
+some_stored : (items : List Entry) (spot : Spot) (v : Option Given)
+    → IfSome v (λ g. (i : ℕ) × (e : Entry) × (slice_get items i ≡ Some e)
+    × IsIn (record { spot = spot; given = g }) (pairs_of e))
+    → IfSome v (λ g. IsIn (record { spot = spot; given = g }) (stored_of (reverse items)))
+some_stored items spot None h = tt
+some_stored items spot (Some g) h = stored_of_entry items h.0 h.1 (record { spot = spot; given = g }) h.2 h.3
+
+-- where no entry that the index names has the key, it is not stored
+none_stored : (covered : ℕ) (items : List Entry) (places : List Place) (spot : Spot) (number : ℕ) (v : Option Given)
+    → AreCovered covered items places → length items ≤ covered → number ≡ number_of spot
+    → IfNone v ((i : ℕ) (e : Entry) → IsIn (record { number = number; entry = i }) places → slice_get items i ≡ Some e
+    → IsIn spot (spots_of (pairs_of e)) → ⊥)
+    → IfNone v (IsIn spot (spots_of (stored_of (reverse items))) → ⊥)
+none_stored covered items places spot number (Some g) all full is h = tt
+none_stored covered items places spot number None all full is h = λ i.
+    let s = stored_of_spot (stored_of (reverse items)) spot i in
+    let e = entry_of_stored items s.entry s.there in
+    let lt = slice_get_within items e.index e.entry e.at in
+    let there = all e.index e.entry s.entry (omega arith) e.at e.has in
+    h e.index e.entry
+    (subst (λ n. IsIn (record { number = n; entry = e.index }) places) (ap number_of s.is ∙ sym is) there) e.at
+    (subst (λ v. IsIn v (spots_of (pairs_of e.entry))) s.is (spot_of_stored e.has))
+
+-- a key whose numbers do not fit is not stored
+none_narrow : (stored : List Stored) (spot : Spot) → ((s : Stored) → IsIn s stored → IsNarrow s.spot)
+    → (IsNarrow spot → ⊥) → IsIn spot (spots_of stored) → ⊥
+none_narrow stored spot all great i =
+    let s = stored_of_spot stored spot i in great (subst IsNarrow s.is (all s.entry s.there))
 
 pub returns-in_ok-cover-in-Ok-clause-some : goal.returns-in_ok-cover-in-Ok-clause-some
 returns-in_ok-cover-in-Ok-clause-some c =
