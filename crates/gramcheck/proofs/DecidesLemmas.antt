@@ -1,12 +1,12 @@
 -- What code tells of a byte is what the byte decides.
 -- Serves: decide
-use Rattle.std.proofs.Common.{◌≡◌, ℕ, zero, suc, ◌+◌, ◌<◌, ◌≤◌, Bool, true, false, List, [], ◌∷◌, Option, Some, None, refl, sym}
+use Rattle.std.proofs.Common.{◌≡◌, ℕ, suc, ◌+◌, ◌<◌, ◌≤◌, Bool, true, false, List, [], ◌∷◌, Option, Some, None, refl, sym}
 use Rattle.std.proofs.Common.{subst, arith, IfSome, length}
 use Rattle.gramcheck.specs.declared.node.Node.{Node}
 use Rattle.std.specs.Prelude.{slice_get, get_or}
 use Rattle.std.proofs.lemmas.Option.{slice_get-get_or, slice_get_past}
-use Rattle.gramcheck.specs.Nodes.{Shape, Any, Bytes, Set, Name, Seq, Choice, Star, Plus, Opt, And, Not, shape_of, shapes_of}
-use Rattle.gramcheck.specs.ByByte.{Succeeds, ByByte, by_shape, Below, below, ByShape, by_any, by_set_in, by_set_out}
+use Rattle.gramcheck.specs.Nodes.{Shape, Bytes, Set, Name, Seq, Choice, Star, Plus, Opt, And, Not, shape_of, shapes_of}
+use Rattle.gramcheck.specs.ByByte.{Succeeds, by_shape, Below, ByShape, by_set_in, by_set_out}
 use Rattle.gramcheck.specs.ByByte.{by_no_bytes, by_one_byte, by_other_byte, by_name, by_members, by_alternatives}
 use Rattle.gramcheck.specs.ByByte.{by_opt_some, by_opt_none, by_and, by_and_fails, by_not, by_not_fails, by_no_turn}
 use Rattle.gramcheck.specs.ByByte.{by_no_plus, ByMembers, members_end, member_stays, member_fails, member_takes}
