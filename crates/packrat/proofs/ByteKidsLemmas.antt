@@ -1,5 +1,5 @@
 -- The evaluation of a pair that the byte at its place decides stores nothing but itself.
--- Serves: one_byte_decides, turns_run
+-- Serves: one_byte_decides, turns_run, turns_whole
 use Rattle.std.proofs.Common.{◌≡◌, inl, inr, ℕ, zero, suc, ◌+◌, Bool, true, false, List, [], ◌∷◌, Some, None, Option}
 use Rattle.std.proofs.Common.{refl, sym, subst, arith}
 use Rattle.std.specs.Prelude.{slice_get}

@@ -1,5 +1,5 @@
 -- To each evaluation the machine comes, from wherever it stands; what it begins stands in front.
--- Serves: one_byte_decides, turns_run
+-- Serves: one_byte_decides, turns_run, turns_whole
 use Rattle.std.proofs.Common.{◌≡◌, ℕ, ◌+◌, Bool, true, false, List, [], ◌∷◌, ◌++◌, refl, sym, subst}
 use Rattle.std.proofs.Common.{arith, append-nil}
 use Rattle.memo.specs.Parts.{IsIn}
