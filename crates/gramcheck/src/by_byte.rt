@@ -176,7 +176,7 @@ fn below(grammar: &MarkedNodes<'_>, n: usize, b: u8, levels: usize) -> Option<De
     by_node(grammar, n, b, levels - 1)
 }
 
-// Returns what a byte decides of the members of a sequence. Nothing is asked of one behind a member that takes the byte.
+// Returns what a byte decides of the members of a sequence. Only the last one may take the byte.
 #[cycle(deciding)]
 fn by_members(
     grammar: &MarkedNodes<'_>,

@@ -105,13 +105,14 @@ fn entries_of(
 }
 
 // Returns how far bytes are taken, where one byte alone is not taken.
-fn run_to(stop: Stop, window: &[u8], from: usize) -> Run
-    requires { from ≤ length window.now }
-    ensures { IsRunTo stop window.now from result }
+fn run_to(stop: Stop, window: &[u8], from: usize, to: usize) -> Run
+    requires from { from ≤ to }
+    requires to { to ≤ length window.now }
+    ensures { IsRunTo stop window.now from to result }
 {
-    let end = match memchr(stop.byte, &window[from..]) {
+    let end = match memchr(stop.byte, &window[from..to]) {
         Some(i) => from + i,
-        None => window.len(),
+        None => to,
     };
     let turns = (end - from) as u128;
     let pairs = turns * u128::from(stop.pairs);
@@ -119,21 +120,21 @@ fn run_to(stop: Stop, window: &[u8], from: usize) -> Run
 }
 
 // Returns how far bytes are taken, with the sum of their numbers.
-fn run_along(entries: &[Option<Decided>], window: &[u8], from: usize) -> Run
+fn run_along(entries: &[Option<Decided>], window: &[u8], from: usize, to: usize) -> Run
     requires whole { length entries.now ≡ 256 }
-    requires from { from ≤ length window.now }
-    ensures { IsRun entries.now window.now from result }
+    requires from { from ≤ to }
+    requires to { to ≤ length window.now }
+    ensures { IsRun entries.now window.now from to result }
 {
     let mut pairs: u128 = 0;
-    for end in from..window.len() {
+    for end in from..to {
         let turn = pairs_of(entries[usize::from(window[end])]);
         if turn == 0 {
             return Run { end, pairs };
         }
         pairs += u128::from(turn);
     }
-    let end = window.len();
-    Run { end, pairs }
+    Run { end: to, pairs }
 }
 
 impl RunTable {
@@ -156,15 +157,16 @@ impl RunTable {
         self.entries[usize::from(b)]
     }
 
-    /// Returns how far the node takes the bytes of a window from a place on, and how many pairs the turns of a
-    /// repetition over them are.
-    pub fn run(&self, window: &[u8], from: usize) -> Run
-        requires { from ≤ length window.now }
-        ensures { IsRun self.now.entries.items window.now from result }
+    /// Returns how far the node takes the bytes of a window from a place up to another, and how many pairs the turns of
+    /// a repetition over them are.
+    pub fn run(&self, window: &[u8], from: usize, to: usize) -> Run
+        requires from { from ≤ to }
+        requires to { to ≤ length window.now }
+        ensures { IsRun self.now.entries.items window.now from to result }
     {
         match self.stop {
-            Some(stop) => run_to(stop, window, from),
-            None => run_along(&self.entries, window, from),
+            Some(stop) => run_to(stop, window, from, to),
+            None => run_along(&self.entries, window, from, to),
         }
     }
 }
