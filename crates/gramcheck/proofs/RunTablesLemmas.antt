@@ -68,8 +68,8 @@ module _ (entries : List (Option Decided)) (x : List ℕ) (from : ℕ) where
   turns_each (suc n) m some each nodes bodies marks tails k table =
       let last = each n (omega arith) in
       let before = turns_each n m some (λ i lt. each i (omega arith)) in
-      let next = turns_next (from + n) (n * m) m last.0 (omega arith) before last.1 last.2 some nodes bodies marks tails k
-      table in
+      let next = turns_next (from + n) (n * m) m last.0 (omega arith) before last.1 last.2 some nodes bodies marks
+      tails k table in
       turns_as nodes bodies marks tails k (((from + n) + 1) - from) ((from + suc n) - from) (n * m + m) (suc n * m)
       (omega arith) (omega arith) next
 

@@ -39,8 +39,8 @@ module _ (entries : List (Option Decided)) (x : List ℕ) (from : ℕ) where
   TurnsTo to pairs = (nodes : List Shape) (bodies : List ℕ) (marks : ℕ → Bool) (tails : ℕ → ℕ → Bool) (k : ℕ)
       → IsTable nodes bodies marks tails k entries → AreTurns nodes bodies x marks tails k from (to - from) pairs
 
-  -- The bytes from place `from` on are taken up to the run's end. That is place `to`, or a byte stands there that is not
-  -- known to be taken.
+  -- The bytes from place `from` on are taken up to the run's end. That is place `to`, or a byte stands there that is
+  -- not known to be taken.
   pub record IsRun (to : ℕ) (run : Run) : Type 0 where
     pub low : from ≤ run.end
     pub high : run.end ≤ to

@@ -179,7 +179,8 @@ module _ (rules : List Rule) (start : ℕ) (nodes : List Shape) (bodies ranks x 
             let no_more = none is in
             subst (λ d. Itself (Pair n p) (1 + d)) (sym no_more)
             (itself_of (Pair n p) [] 0 (empty [] (is, refl)) quiet_none)
-        by (Some m) is = itself_of (Pair n p) (Tail n zero p ∷ []) c (some m is) (quiet_one (Tail n zero p) c (rest m is))
+        by (Some m) is =
+            itself_of (Pair n p) (Tail n zero p ∷ []) c (some m is) (quiet_one (Tail n zero p) c (rest m is))
 
     mutual
       pub by_byte_itself : {n c : ℕ} {v : Verdict} → ByByte nodes bodies marks tails b n v c → Has n

@@ -71,7 +71,8 @@ module _ (V : Type 0) (Kids : V → List V → Type 0) (Next : V → List V → 
     all_goes {old = old} run_none a before fs bg k = record {
       front = [];
       count = refl;
-      steps = subst (λ v. St (Works (record { levels = record { at = a; asked = before } ∷ fs; stored = old; begun = bg }))
+      steps = subst (λ v. St
+          (Works (record { levels = record { at = a; asked = before } ∷ fs; stored = old; begun = bg }))
           (Works (record { levels = record { at = a; asked = v } ∷ fs; stored = old; begun = bg })))
           (sym (append-nil before)) steps_none;
     }
@@ -91,7 +92,10 @@ module _ (V : Type 0) (Kids : V → List V → Type 0) (Next : V → List V → 
               (sym (append_other g.front h.front bg))
               (subst (λ v. St
               (Works (record { levels = record { at = a; asked = before } ∷ fs; stored = old; begun = bg }))
-              (Works (record { levels = record { at = a; asked = v } ∷ fs; stored = new;
-                begun = g.front ++ (h.front ++ bg) }))) whole
+              (Works (record {
+                levels = record { at = a; asked = v } ∷ fs;
+                stored = new;
+                begun = g.front ++ (h.front ++ bg);
+              }))) whole
               (steps_then (steps_then (steps_more steps_none (step_next (all a b before ks k))) h.steps) g.steps));
         }

@@ -14,7 +14,9 @@ ghost use Rattle.cells.specs.declared.cell.Found.{Found};
 ghost use Rattle.cells.specs.declared.cell.Found.TheVariants.{Took};
 ghost use Rattle.pegmatch.specs.KeptEvents.{SpellsSome};
 ghost use Rattle.desk.specs.Visits.{NodeGives};
+ghost use Rattle.memo.specs.KeyLog.{spots_of, row_of, place_of};
 ghost use Rattle.memo.specs.Parts.{IsIn};
+ghost use Rattle.memo.specs.declared.key_log.Stored.{Stored};
 ghost use Rattle.memo.specs.declared.spot.Spot.{Spot};
 ghost use Rattle.memo.specs.declared.spot.Spot.TheVariants.{Pair};
 ghost use Rattle.packrat.specs.ByteGives.{found_by, GivesBy, StoresItself, ComesWith, turns_on, operands_on};
@@ -47,8 +49,11 @@ pub fn one_byte_decides()
         (levels : List (Level Spot)) (stored begun : List Spot) → (marks n ≡ true → IsIn (Pair n p) stored → ⊥) →
         ComesWith rules nodes bodies x marks tails
         (Asks (Pair n p) (record { levels = levels; stored = stored; begun = begun }))
-        (λ front. Works (record { levels = levels; stored = store Spot (marks n) (Pair n p) stored;
-            begun = front ++ begun })) c }
+        (λ front. Works (record {
+          levels = levels;
+          stored = store Spot (marks n) (Pair n p) stored;
+          begun = front ++ begun;
+        })) c }
 {}
 
 /// Where bytes decide that the operand of a repetition takes each of them, the machine comes from the repetition's pair
@@ -64,8 +69,11 @@ pub fn turns_run()
         AreFresh (marks k) k a n stored →
         ComesWith rules nodes bodies x marks tails
         (Asks (Pair s a) (record { levels = levels; stored = stored; begun = begun }))
-        (λ front. Asks (Pair s (a + n)) (record { levels = turns_on s k a n levels;
-            stored = operands_on (marks k) k a n stored; begun = front ++ begun })) c }
+        (λ front. Asks (Pair s (a + n)) (record {
+          levels = turns_on s k a n levels;
+          stored = operands_on (marks k) k a n stored;
+          begun = front ++ begun;
+        })) c }
 {}
 
 /// The levels of such turns close one after the other; each stores its pair if the repetition is a key.
@@ -111,8 +119,12 @@ pub fn turns_whole()
         AreFresh (marks k) k a n stored →
         ComesWith rules nodes bodies x marks tails
         (Asks (Pair s a) (record { levels = levels; stored = stored; begun = begun }))
-        (λ front. Works (record { levels = levels; stored = turns_closed (marks s) s a (suc n)
-            (operands_on (marks k) k a n stored); begun = front ++ begun })) (c + d) }
+        (λ front. Works (record {
+          levels = levels;
+          stored = turns_closed (marks s) s a (suc n)
+              (operands_on (marks k) k a n stored);
+          begun = front ++ begun;
+        })) (c + d) }
     ensures gives { (rules : List Rule) (start : ℕ) (nodes : List Shape) (bodies ranks x : List ℕ) →
         IsRanked rules start nodes bodies ranks → (marks : ℕ → Bool) (tails : ℕ → ℕ → Bool) (s k a n c b d : ℕ) →
         slice_get nodes s ≡ Some (Star k) → SpellsSome rules nodes s →
@@ -125,4 +137,11 @@ pub fn turns_whole()
         AreTurns (shapes_of g.nodes) g.bodies x marks tails k a n c → slice_get x (a + n) ≡ Some b →
         ByByte (shapes_of g.nodes) g.bodies marks tails b s Stays d → (more ≡ true → (a + n) + 1 < length x) →
         SpotGives g x more (Pair s a) (Took (a + n)) }
+{}
+
+/// Above a place that no stored key of the node reaches, none of its pairs is stored.
+pub fn fresh_above_mark()
+    ensures { (key : Bool) (m a n mark : ℕ) (stored : List Stored) →
+        ((s : Stored) → IsIn s stored → row_of s.spot ≡ m → place_of s.spot < mark) → mark ≤ a →
+        AreFresh key m a n (spots_of stored) }
 {}

@@ -3,7 +3,8 @@ use Rattle.packrat.proofs.TurnsGiveLemmas.{whole_repeats, whole_found}
 use Rattle.packrat.proofs.byte_laws.turns_whole.Goals as goal
 
 pub returns-clause-steps : goal.returns-clause-steps
-returns-clause-steps r = λ rules start nodes bodies ranks x sound root is marks tails are s k a n c b d at spelled turns.
+returns-clause-steps r = λ rules start nodes bodies ranks x sound root is marks tails are s k a n c b d at
+    spelled turns.
     whole_comes rules start nodes bodies ranks x sound root is marks tails are s k at spelled b d turns
 
 pub returns-clause-gives : goal.returns-clause-gives
