@@ -1,8 +1,8 @@
 -- What a pair gives where the byte at its place decides it.
 -- Serves: one_byte_decides, turns_run, turns_close, turns_give, turns_whole
-use Rattle.std.proofs.Common.{◌≡◌, ℕ, zero, suc, ◌+◌, ◌<◌, ◌≤◌, max, Bool, true, false, List, [], ◌∷◌, ◌++◌, length}
+use Rattle.std.proofs.Common.{◌≡◌, ℕ, zero, suc, ◌+◌, ◌<◌, ◌≤◌, max, Bool, true, false, List, [], ◌∷◌, length}
 use Rattle.std.proofs.Common.{drop, Some, None, refl, sym, subst, ap, arith, ◌∙◌}
-use Rattle.std.specs.Prelude.{slice_get, ◌==◌, ◌&&◌}
+use Rattle.std.specs.Prelude.{slice_get, ◌==◌}
 use Rattle.std.proofs.lemmas.Bool.{eqb-true, eq-eqb}
 use Rattle.pegread.specs.Pattern as expr
 use Rattle.pegread.specs.Pattern.{Pattern, Patterns, Rule}
@@ -30,8 +30,7 @@ use Rattle.desk.specs.Visits.{NodeGives}
 use Rattle.desk.proofs.GivesLemmas.{name_gives, star_gives_none, not_gives_takes, not_gives_fails, plus_gives_fails}
 use Rattle.desk.proofs.GivesLemmas.{opt_gives_takes, opt_gives_none, and_gives_takes, and_gives_fails}
 use Rattle.desk.proofs.NodeGivesLemmas.{gives_as}
-use Rattle.memo.specs.declared.spot.Spot.{Spot}
-use Rattle.memo.specs.declared.spot.Spot.TheVariants.{Pair, Tail}
+use Rattle.memo.specs.declared.spot.Spot.TheVariants.{Pair}
 use Rattle.packrat.specs.ByteGives.{found_by, GivesBy}
 use Rattle.packrat.specs.SpotGives.{SpotGives}
 use Rattle.packrat.proofs.SpotReachLemmas.{front_drop}

@@ -22,7 +22,7 @@ use Rattle.memo.specs.declared.spot.Spot.{Spot}
 use Rattle.memo.specs.declared.spot.Spot.TheVariants.{Pair, Tail}
 use Rattle.packrat.specs.ByteGives.{GivesBy, StoresItself}
 use Rattle.packrat.specs.MachineSteps.{store}
-use Rattle.packrat.specs.Spots.{Way, way_of, KidsBy, TailKidsBy, Kids, is_key}
+use Rattle.packrat.specs.Spots.{Kids, is_key}
 use Rattle.packrat.specs.View.{weight}
 use Rattle.packrat.proofs.ByteGivesLemmas.{gives_by, name_has, seq_has, choice_has, star_has, plus_has, opt_has}
 use Rattle.packrat.proofs.ByteGivesLemmas.{and_has, not_has}

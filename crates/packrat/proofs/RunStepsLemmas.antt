@@ -1,10 +1,10 @@
 -- To each evaluation the machine comes, from wherever it stands; what it begins stands in front.
 -- Serves: one_byte_decides, turns_run, turns_whole
-use Rattle.std.proofs.Common.{◌≡◌, ℕ, ◌+◌, Bool, true, false, List, [], ◌∷◌, ◌++◌, refl, sym, subst}
+use Rattle.std.proofs.Common.{◌≡◌, ℕ, ◌+◌, Bool, true, List, [], ◌∷◌, ◌++◌, refl, sym, subst}
 use Rattle.std.proofs.Common.{arith, append-nil}
 use Rattle.memo.specs.Parts.{IsIn}
 use Rattle.memo.specs.Run.{Run, run_stored, run_key, run_plain, RunAll, run_none, run_more, total}
-use Rattle.packrat.specs.MachineSteps.{Level, State, Asks, Works, store, Step, step_stored, step_begin}
+use Rattle.packrat.specs.MachineSteps.{Level, State, Asks, Works, store, step_stored, step_begin}
 use Rattle.packrat.specs.MachineSteps.{step_next, step_last, Steps, steps_none, steps_more}
 
 pub append_other : {V : Type 0} (xs ys zs : List V) → (xs ++ ys) ++ zs ≡ xs ++ (ys ++ zs)

@@ -1,7 +1,7 @@
 -- Steps over bytes that decide what is evaluated.
 -- Serves: one_byte_decides, turns_run, turns_close, turns_whole, fresh_above_mark
-use Rattle.std.proofs.Common.{◌≡◌, inl, inr, ℕ, zero, suc, ◌+◌, ◌<◌, ◌≤◌, max, Bool, true, false, List, [], ◌∷◌, ◌++◌}
-use Rattle.std.proofs.Common.{length, Some, refl, sym, subst, ap, arith}
+use Rattle.std.proofs.Common.{◌≡◌, inl, inr, ℕ, zero, suc, ◌+◌, ◌<◌, ◌≤◌, Bool, true, false, List, [], ◌∷◌, ◌++◌}
+use Rattle.std.proofs.Common.{Some, refl, sym, subst, ap, arith}
 use Rattle.std.specs.Prelude.{slice_get}
 use Rattle.pegread.specs.Pattern.{Rule}
 use Rattle.gramcheck.specs.ByByte.{ByByte, by_shape, ByShape, by_no_turn, AreTurns, turns_none, turns_more}
@@ -9,19 +9,19 @@ use Rattle.gramcheck.specs.Nodes as node
 use Rattle.gramcheck.specs.Nodes.{Shape}
 use Rattle.gramcheck.specs.Sound.{IsRanked}
 use Rattle.gramcheck.specs.declared.by_byte.Verdict.{Verdict}
-use Rattle.gramcheck.specs.declared.by_byte.Verdict.TheVariants.{Takes, Stays, Fails}
+use Rattle.gramcheck.specs.declared.by_byte.Verdict.TheVariants.{Takes, Stays}
 use Rattle.pegmatch.specs.KeptEvents.{SpellsSome}
 use Rattle.memo.specs.Parts.{IsIn, in_here, in_later}
 use Rattle.memo.specs.KeyLog.{spots_of, row_of, place_of}
 use Rattle.memo.specs.declared.key_log.Stored.{Stored}
 use Rattle.memo.specs.Run.{total}
 use Rattle.memo.specs.declared.spot.Spot.{Spot}
-use Rattle.memo.specs.declared.spot.Spot.TheVariants.{Pair, Tail}
-use Rattle.packrat.specs.ByteGives.{GivesBy, StoresItself, ComesWith, turn_at}
+use Rattle.memo.specs.declared.spot.Spot.TheVariants.{Pair}
+use Rattle.packrat.specs.ByteGives.{GivesBy, ComesWith, turn_at}
 use Rattle.packrat.specs.ByteGives.{turns_on, operands_on, turns_closed, AreFresh}
 use Rattle.packrat.specs.KeyMarks.{AreMarks}
 use Rattle.packrat.specs.MachineSteps.{Level, State, Asks, Works, store, step_begin, step_next, step_last}
-use Rattle.packrat.specs.MachineSteps.{Steps, steps_none, steps_more}
+use Rattle.packrat.specs.MachineSteps.{steps_none, steps_more}
 use Rattle.packrat.specs.SpotSteps.{NextOf, next_first, next_second, SpotSteps}
 use Rattle.packrat.specs.Spots.{Kids, is_key}
 use Rattle.packrat.specs.View.{weight}
