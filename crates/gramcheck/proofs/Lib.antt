@@ -35,5 +35,6 @@ pub mod RunTablesLemmas
 pub mod ShorterInputLemmas
 pub mod SomeOutcomeLemmas
 pub mod StartRuleLemmas
+pub mod StarTablesLemmas
 pub mod StepsToBodyLemmas
 pub mod UsesLemmas

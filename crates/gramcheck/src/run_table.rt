@@ -9,21 +9,21 @@ use memchr::memchr;
 use ruletable::Memory;
 use std::alloc::Global;
 
-/// The only byte that a node is not known to take, and how many pairs a turn over each other byte is.
+/// Names the only byte that a node is not known to take, and tells how many pairs a turn over each other byte is.
 #[derive(Clone, Copy, Debug, PartialEq, Eq)]
 pub struct Stop {
     pub byte: u8,
     pub pairs: u64,
 }
 
-/// A run of bytes that a node takes: where it ends, and how many pairs the turns of a repetition over it are.
+/// Tells where a run of bytes that a node takes ends, and how many pairs the turns of a repetition over it are.
 #[derive(Clone, Copy, Debug, PartialEq, Eq)]
 pub struct Run {
     pub end: usize,
     pub pairs: u128,
 }
 
-/// Of each byte what it decides of a node, if it does.
+/// Tells of each byte what it decides of a node, if it does.
 #[derive(Drop)]
 pub struct RunTable {
     pub entries: Vec<Option<Decided>>,
@@ -148,6 +148,11 @@ impl RunTable {
         let entries = entries_of(alloc, grammar, n)?;
         let stop = find_stop(&entries);
         Ok(RunTable { entries, stop })
+    }
+
+    /// Returns whether some byte is known to be taken.
+    pub(crate) fn takes_some(&self) -> bool {
+        self.entries.iter().any(|entry| pairs_of(*entry) > 0)
     }
 
     /// Returns what a byte decides of the node, if it does.
