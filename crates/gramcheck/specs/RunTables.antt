@@ -1,5 +1,5 @@
 -- Tables of what each byte decides of a node, and runs of bytes that it takes.
-use Rattle.std.specs.Prelude.{◌≡◌, ℕ, ◌+◌, ◌-◌, ◌*◌, ◌<◌, ◌≤◌, Bool, List, length, Option, slice_get, Some, None}
+use Rattle.std.specs.Prelude.{◌≡◌, ℕ, ◌+◌, ◌-◌, ◌*◌, ◌<◌, ◌≤◌, Bool, List, Option, slice_get, Some, None}
 use Rattle.gramcheck.specs.ByByte.{ByByte, AreTurns}
 use Rattle.gramcheck.specs.Nodes.{Shape}
 use Rattle.gramcheck.specs.declared.by_byte.Decided.{Decided}
