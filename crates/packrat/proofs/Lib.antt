@@ -20,5 +20,5 @@ pub mod KeyMarksLemmas
 pub mod ByteGivesLemmas
 pub mod ByteKidsLemmas
 pub mod RunStepsLemmas
-pub mod TurnsLemmas
+pub mod RunTurnsLemmas
 pub mod TurnsGiveLemmas

@@ -1,4 +1,4 @@
-use Rattle.packrat.proofs.TurnsLemmas.{whole_comes}
+use Rattle.packrat.proofs.RunTurnsLemmas.{whole_comes}
 use Rattle.packrat.proofs.TurnsGiveLemmas.{whole_repeats, whole_found}
 use Rattle.packrat.proofs.byte_laws.turns_whole.Goals as goal
 
