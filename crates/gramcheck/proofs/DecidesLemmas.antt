@@ -1,12 +1,13 @@
 -- What code tells of a byte is what the byte decides.
 -- Serves: decide
-use Rattle.std.proofs.Common.{◌≡◌, ℕ, zero, suc, ◌+◌, ◌<◌, ◌≤◌, Bool, true, false, List, [], ◌∷◌, Option, Some, None, refl, sym}
+use Rattle.std.proofs.Common.{◌≡◌, ℕ, suc, ◌+◌, ◌<◌, ◌≤◌, Bool, true, false, List, [], ◌∷◌, Option, Some, None}
+use Rattle.std.proofs.Common.{refl, sym}
 use Rattle.std.proofs.Common.{subst, arith, IfSome, length}
 use Rattle.gramcheck.specs.declared.node.Node.{Node}
 use Rattle.std.specs.Prelude.{slice_get, get_or}
 use Rattle.std.proofs.lemmas.Option.{slice_get-get_or, slice_get_past}
-use Rattle.gramcheck.specs.Nodes.{Shape, Any, Bytes, Set, Name, Seq, Choice, Star, Plus, Opt, And, Not, shape_of, shapes_of}
-use Rattle.gramcheck.specs.ByByte.{Succeeds, ByByte, by_shape, Below, below, ByShape, by_any, by_set_in, by_set_out}
+use Rattle.gramcheck.specs.Nodes.{Shape, Bytes, Set, Name, Seq, Choice, Star, Plus, Opt, And, Not, shape_of, shapes_of}
+use Rattle.gramcheck.specs.ByByte.{Succeeds, by_shape, Below, ByShape, by_set_in, by_set_out}
 use Rattle.gramcheck.specs.ByByte.{by_no_bytes, by_one_byte, by_other_byte, by_name, by_members, by_alternatives}
 use Rattle.gramcheck.specs.ByByte.{by_opt_some, by_opt_none, by_and, by_and_fails, by_not, by_not_fails, by_no_turn}
 use Rattle.gramcheck.specs.ByByte.{by_no_plus, ByMembers, members_end, member_stays, member_fails, member_takes}
@@ -62,7 +63,8 @@ pub lifted : (shape : ℕ → Shape) (o : Decided) (v w u : Verdict) (r : Option
     → IfSome r (λ d. (g : MarkedNodes) (b n m : ℕ) → DecidesBelow g b m o → DecidesShape g b n (shape m) d)
 lifted shape o v w u None is same lifts h = tt
 lifted shape o v w u (Some d) is same lifts h = λ g b n m k.
-    shape_of_sum g b n (1 + o.count) (shape m) w d (cc (h.0, same)) h.1 (lifts g b n m o.count (below_of g b m v o is k))
+    shape_of_sum g b n (1 + o.count) (shape m) w d (cc (h.0, same)) h.1
+    (lifts g b n m o.count (below_of g b m v o is k))
 
 pub opt_takes_by : Lifts Opt Takes Takes
 opt_takes_by g b n m c h = by_opt_some tt h
@@ -185,7 +187,8 @@ module _ (g : MarkedNodes) (b n : ℕ) (ms : List ℕ) (i : ℕ) where
       alternatives_more is v e r =
           let whole = sum.1 in
           alternatives_as 0 0 (count + (m.count + e)) (d.count + e) v v refl refl (omega (arith, whole))
-          (all v (m.count + e) (alternative_fails (slice_get-get_or ms i 0 lt) t (below_of g b (get_or ms i 0) Fails m is h)
+          (all v (m.count + e) (alternative_fails (slice_get-get_or ms i 0 lt) t
+          (below_of g b (get_or ms i 0) Fails m is h)
           (alternatives_as (i + 1) (suc i) e e v v (omega arith) refl refl r)))
 
       pub alternatives_succeeded : Succeeds m.verdict → DecidesAlternatives g b n ms d

@@ -38,6 +38,7 @@ pub mod RunTablesLemmas
 pub mod ShorterInputLemmas
 pub mod SomeOutcomeLemmas
 pub mod StartRuleLemmas
+pub mod StarTablesLemmas
 pub mod StepsToBodyLemmas
 pub mod UsesLemmas
 pub mod WidthsLemmas

@@ -4,12 +4,12 @@ use Rattle.std.proofs.Common.{◌≡◌, ℕ, zero, suc, ◌+◌, ◌-◌, ◌*�
 use Rattle.std.proofs.Common.{Some, None, refl, sym, subst, ap, arith, ◌∙◌, get_or, length-drop}
 use Rattle.std.specs.Prelude.{slice_get, slice_index, ◌==◌}
 use Rattle.std.proofs.lemmas.Bool.{eqb-true, eq-eqb}
-use Rattle.std.proofs.lemmas.List.{take_rest, get_or-drop}
-use Rattle.std.proofs.lemmas.Option.{slice_get-get_or, slice_get_past, get_or_from_slice_get}
+use Rattle.std.proofs.lemmas.List.{get_or-take, get_or-drop, length-take-le}
+use Rattle.std.proofs.lemmas.Option.{slice_get-get_or, get_or_from_slice_get}
 use Rattle.memchr.specs.Find.{IsFirstByte, is_byte}
 use Rattle.gramcheck.specs.ByByte.{ByByte, AreTurns, turns_none, turns_more}
 use Rattle.gramcheck.specs.Nodes.{Shape}
-use Rattle.gramcheck.specs.RunTables.{IsTable, pairs_by, turn_pairs, IsStop, TurnsTo, IsRun, IsRunTo}
+use Rattle.gramcheck.specs.RunTables.{pairs_by, turn_pairs, TurnsTo, IsRun, IsRunTo}
 use Rattle.gramcheck.specs.declared.by_byte.Decided.{Decided}
 use Rattle.gramcheck.specs.declared.by_byte.Verdict.{Verdict}
 use Rattle.gramcheck.specs.declared.by_byte.Verdict.TheVariants.{Takes, Stays, Fails}
@@ -68,8 +68,8 @@ module _ (entries : List (Option Decided)) (x : List ℕ) (from : ℕ) where
   turns_each (suc n) m some each nodes bodies marks tails k table =
       let last = each n (omega arith) in
       let before = turns_each n m some (λ i lt. each i (omega arith)) in
-      let next = turns_next (from + n) (n * m) m last.0 (omega arith) before last.1 last.2 some nodes bodies marks tails k
-      table in
+      let next = turns_next (from + n) (n * m) m last.0 (omega arith) before last.1 last.2 some nodes bodies marks
+      tails k table in
       turns_as nodes bodies marks tails k (((from + n) + 1) - from) ((from + suc n) - from) (n * m + m) (suc n * m)
       (omega arith) (omega arith) next
 
@@ -81,27 +81,25 @@ module _ (entries : List (Option Decided)) (x : List ℕ) (from : ℕ) where
       → turn_pairs (slice_get entries b) ≡ m
   pairs_at b m lt is = ap turn_pairs (slice_get-get_or entries b None lt) ∙ sym is
 
-  pub no_byte_at : (b m : ℕ) → slice_get x (length x) ≡ Some b → m ≡ 0
-  no_byte_at b m is = let none = slice_get_past x (length x) (omega arith) in absurd (cc (is, none))
-
   pub same_byte_at : (to b : ℕ) → slice_get x to ≡ Some b → get_or x to 0 ≡ b
   same_byte_at to b is = get_or_from_slice_get x to b 0 is
 
-  module _ (s : Stop) (run : Run) (bytes : (i : ℕ) → get_or x i 0 < 256) (to : IsRunTo s x from run)
+  module _ (s : Stop) (end : ℕ) (run : Run) (within : end ≤ length x) (bytes : (i : ℕ) → get_or x i 0 < 256)
+      (to : IsRunTo s x from end run)
       (none : turn_pairs (slice_get entries s.byte) ≡ 0) (some : 0 < s.pairs)
       (others : (b : ℕ) → b < 256 → (b ≡ s.byte → ⊥) → turn_pairs (slice_get entries b) ≡ s.pairs) where
     each_taken : (i : ℕ) → i < run.end - from
         → (b : ℕ) × (slice_get x (from + i) ≡ Some b) × (turn_pairs (slice_get entries b) ≡ s.pairs)
     each_taken i lt =
         let high = to.high in
-        let at = byte_at (from + i) (omega (arith, lt, high)) in
+        let at = byte_at (from + i) (omega (arith, lt, high, within)) in
         let not = to.before (from + i) (omega arith) (omega (arith, lt)) in (
           get_or x (from + i) 0,
           at,
           others (get_or x (from + i) 0) (bytes (from + i)) (λ same. not (cc (at, same))),
         )
 
-    pub run_is : IsRun entries x from run
+    pub run_is : IsRun entries x from end run
     run_is =
         let low = to.low in
         let place : from + (run.end - from) ≡ run.end = omega (arith, low) in
@@ -111,57 +109,62 @@ module _ (entries : List (Option Decided)) (x : List ℕ) (from : ℕ) where
           turns = subst (λ p. TurnsTo entries x from run.end p) (sym to.pairs)
               (subst (λ q. TurnsTo entries x from q ((run.end - from) * s.pairs)) place
               (turns_each (run.end - from) s.pairs (λ is. omega (arith, is, some)) each_taken));
-          ends = λ b is. let same = to.ends b is in ap (λ c. turn_pairs (slice_get entries c)) same ∙ none;
+          ends = λ less b is. let same = to.ends less b is in ap (λ c. turn_pairs (slice_get entries c)) same ∙ none;
         }
 
 -- the search for the byte
-module _ (s : Stop) (x : List ℕ) (from end pairs : ℕ) (within : from ≤ length x)
+module _ (s : Stop) (x : List ℕ) (from to end pairs : ℕ) (low : from ≤ to) (within : to ≤ length x)
     (is : pairs ≡ (end - from) * s.pairs) where
   abbrev Hay : List ℕ
-  Hay = take (length x - from) (drop from x)
+  Hay = take (to - from) (drop from x)
 
-  hay_at : (i : ℕ) → slice_index Hay i ≡ slice_index x (from + i)
-  hay_at i = ap (λ l. slice_index l i) (take_rest x from) ∙ get_or-drop from x i 0
+  hay_at : (i : ℕ) → i < to - from → slice_index Hay i ≡ slice_index x (from + i)
+  hay_at i lt = get_or-take (to - from) (drop from x) i 0 lt ∙ get_or-drop from x i 0
 
-  hay_length : length Hay ≡ length x - from
-  hay_length = ap length (take_rest x from) ∙ length-drop from x
+  hay_length : length Hay ≡ to - from
+  hay_length =
+      let rest = length-drop from x in
+      length-take-le (to - from) (drop from x) (omega (arith, rest, low, within))
 
   -- before the end of the search there is no such byte
-  not_before : (i : ℕ) → (slice_index Hay i == s.byte ≡ true → ⊥) → slice_get x (from + i) ≡ Some s.byte → ⊥
-  not_before i not at =
+  not_before : (i : ℕ) → i < to - from → (slice_index Hay i == s.byte ≡ true → ⊥) → slice_get x (from + i) ≡ Some s.byte
+      → ⊥
+  not_before i lt not at =
       let here = get_or_from_slice_get x (from + i) s.byte 0 at in
-      not (eq-eqb (slice_index Hay i) s.byte (hay_at i ∙ here))
+      not (eq-eqb (slice_index Hay i) s.byte (hay_at i lt ∙ here))
 
   pub found_to : (i : ℕ) → end ≡ from + i → IsFirstByte (is_byte s.byte) Hay (Some i)
-      → IsRunTo s x from (record { end = end; pairs = pairs })
+      → IsRunTo s x from to (record { end = end; pairs = pairs })
   found_to i at h =
       let lt = h.0.high in
       let whole = hay_length in
       record {
         low = omega (arith, at);
-        high = omega (arith, at, lt, whole, within);
+        high = omega (arith, at, lt, whole, low);
         before = λ j le less same.
             let place : from + (j - from) ≡ j = omega (arith, le) in
-            not_before (j - from) (h.0.before (j - from) (omega arith) (omega (arith, le, less, at)))
+            not_before (j - from) (omega (arith, le, less, at, lt, whole))
+            (h.0.before (j - from) (omega arith) (omega (arith, le, less, at)))
             (subst (λ q. slice_get x q ≡ Some s.byte) (sym place) same);
-        ends = λ b same.
+        ends = λ less b same.
             let here = get_or_from_slice_get x end b 0 same in
             let there : slice_index Hay i ≡ s.byte = eqb-true (slice_index Hay i) s.byte h.1 in
-            sym here ∙ ap (λ q. slice_index x q) at ∙ sym (hay_at i) ∙ there;
+            sym here ∙ ap (λ q. slice_index x q) at ∙ sym (hay_at i (omega (arith, lt, whole))) ∙ there;
         pairs = is;
       }
 
-  pub found_none : end ≡ length x → IsFirstByte (is_byte s.byte) Hay None
-      → IsRunTo s x from (record { end = end; pairs = pairs })
+  pub found_none : end ≡ to → IsFirstByte (is_byte s.byte) Hay None
+      → IsRunTo s x from to (record { end = end; pairs = pairs })
   found_none at h =
       let whole = hay_length in
       record {
-        low = omega (arith, at, within);
+        low = omega (arith, at, low);
         high = omega (arith, at);
         before = λ j le less same.
             let place : from + (j - from) ≡ j = omega (arith, le) in
-            not_before (j - from) (h (j - from) (omega arith) (omega (arith, le, less, at, whole)))
+            not_before (j - from) (omega (arith, le, less, at))
+            (h (j - from) (omega arith) (omega (arith, le, less, at, whole)))
             (subst (λ q. slice_get x q ≡ Some s.byte) (sym place) same);
-        ends = λ b same. let none = slice_get_past x end (omega (arith, at)) in absurd (cc (same, none));
+        ends = λ less b same. absurd (omega (arith, less, at));
         pairs = is;
       }

@@ -24,6 +24,7 @@ pub mod Ranks
 pub mod Rising
 pub mod RunTables
 pub mod Slots
+pub mod StarTables
 pub mod Sound
 pub mod Templates
 pub mod Uses

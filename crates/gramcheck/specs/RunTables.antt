@@ -1,5 +1,5 @@
 -- Tables of what each byte decides of a node, and runs of bytes that it takes.
-use Rattle.std.specs.Prelude.{◌≡◌, ℕ, ◌+◌, ◌-◌, ◌*◌, ◌<◌, ◌≤◌, Bool, List, length, Option, slice_get, Some, None}
+use Rattle.std.specs.Prelude.{◌≡◌, ℕ, ◌+◌, ◌-◌, ◌*◌, ◌<◌, ◌≤◌, Bool, List, Option, slice_get, Some, None}
 use Rattle.gramcheck.specs.ByByte.{ByByte, AreTurns}
 use Rattle.gramcheck.specs.Nodes.{Shape}
 use Rattle.gramcheck.specs.declared.by_byte.Decided.{Decided}
@@ -39,18 +39,18 @@ module _ (entries : List (Option Decided)) (x : List ℕ) (from : ℕ) where
   TurnsTo to pairs = (nodes : List Shape) (bodies : List ℕ) (marks : ℕ → Bool) (tails : ℕ → ℕ → Bool) (k : ℕ)
       → IsTable nodes bodies marks tails k entries → AreTurns nodes bodies x marks tails k from (to - from) pairs
 
-  -- The bytes from place `from` on are taken up to the run's end. There the window ends, or there is a byte that is not
-  -- known to be taken.
-  pub record IsRun (run : Run) : Type 0 where
+  -- The bytes from place `from` on are taken up to the run's end. That is place `to`, or a byte stands there that is
+  -- not known to be taken.
+  pub record IsRun (to : ℕ) (run : Run) : Type 0 where
     pub low : from ≤ run.end
-    pub high : run.end ≤ length x
+    pub high : run.end ≤ to
     pub turns : TurnsTo run.end run.pairs
-    pub ends : (b : ℕ) → slice_get x run.end ≡ Some b → turn_pairs (slice_get entries b) ≡ 0
+    pub ends : run.end < to → (b : ℕ) → slice_get x run.end ≡ Some b → turn_pairs (slice_get entries b) ≡ 0
 
--- The run goes on to this byte, or to the end of the window; each byte before is so many pairs.
-pub record IsRunTo (stop : Stop) (x : List ℕ) (from : ℕ) (run : Run) : Type 0 where
+-- The run goes on to this byte, or to place `to`; each byte before is so many pairs.
+pub record IsRunTo (stop : Stop) (x : List ℕ) (from to : ℕ) (run : Run) : Type 0 where
   pub low : from ≤ run.end
-  pub high : run.end ≤ length x
+  pub high : run.end ≤ to
   pub before : (i : ℕ) → from ≤ i → i < run.end → slice_get x i ≡ Some stop.byte → ⊥
-  pub ends : (b : ℕ) → slice_get x run.end ≡ Some b → b ≡ stop.byte
+  pub ends : run.end < to → (b : ℕ) → slice_get x run.end ≡ Some b → b ≡ stop.byte
   pub pairs : run.pairs ≡ (run.end - from) * stop.pairs

@@ -27,8 +27,8 @@ pub struct Decided {
     pub count: u32,
 }
 
-/// Numbered nodes, of each rule the node of its body, and marks of the keys among the nodes and of those whose tails
-/// are keys. What has no mark is a key.
+/// Holds numbered nodes, of each rule the node of its body, and marks of the nodes that are keys and of those whose
+/// tails are. What has no mark is a key.
 #[derive(Clone, Copy)]
 pub struct MarkedNodes<'a> {
     pub nodes: &'a [Node],
@@ -50,8 +50,8 @@ fn is_marked(marks: &[bool], n: usize) -> bool
     }
 }
 
-// Returns the node of that number.
-fn node_at(nodes: &[Node], n: usize) -> Option<&Node>
+/// Returns the node of that number.
+pub(crate) fn node_at(nodes: &[Node], n: usize) -> Option<&Node>
     ensures { IfSome result (λ node. slice_get (shapes_of nodes.now) n ≡ Some (shape_of node.now)) }
 {
     nodes.get(n)
@@ -176,7 +176,7 @@ fn below(grammar: &MarkedNodes<'_>, n: usize, b: u8, levels: usize) -> Option<De
     by_node(grammar, n, b, levels - 1)
 }
 
-// Returns what a byte decides of the members of a sequence. Nothing is asked of one behind a member that takes the byte.
+// Returns what a byte decides of the members of a sequence. Only the last one may take the byte.
 #[cycle(deciding)]
 fn by_members(
     grammar: &MarkedNodes<'_>,

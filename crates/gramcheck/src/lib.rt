@@ -18,6 +18,7 @@ mod printing;
 mod ranked_laws;
 mod run_table;
 mod sound;
+mod star_tables;
 mod template;
 mod uses;
 mod widths;
@@ -36,4 +37,5 @@ pub use ranked_laws::{
 };
 pub use run_table::{Run, RunTable, Stop};
 pub use sound::SoundPeg;
+pub use star_tables::run_tables;
 pub use template::{Put, Slot, Template};

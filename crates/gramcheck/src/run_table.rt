@@ -9,21 +9,21 @@ use memchr::memchr;
 use ruletable::Memory;
 use std::alloc::Global;
 
-/// The only byte that a node is not known to take, and how many pairs a turn over each other byte is.
+/// Names the only byte that a node is not known to take, and tells how many pairs a turn over each other byte is.
 #[derive(Clone, Copy, Debug, PartialEq, Eq)]
 pub struct Stop {
     pub byte: u8,
     pub pairs: u64,
 }
 
-/// A run of bytes that a node takes: where it ends, and how many pairs the turns of a repetition over it are.
+/// Tells where a run of bytes that a node takes ends, and how many pairs the turns of a repetition over it are.
 #[derive(Clone, Copy, Debug, PartialEq, Eq)]
 pub struct Run {
     pub end: usize,
     pub pairs: u128,
 }
 
-/// Of each byte what it decides of a node, if it does.
+/// Tells of each byte what it decides of a node, if it does.
 #[derive(Drop)]
 pub struct RunTable {
     pub entries: Vec<Option<Decided>>,
@@ -105,13 +105,14 @@ fn entries_of(
 }
 
 // Returns how far bytes are taken, where one byte alone is not taken.
-fn run_to(stop: Stop, window: &[u8], from: usize) -> Run
-    requires { from ≤ length window.now }
-    ensures { IsRunTo stop window.now from result }
+fn run_to(stop: Stop, window: &[u8], from: usize, to: usize) -> Run
+    requires from { from ≤ to }
+    requires to { to ≤ length window.now }
+    ensures { IsRunTo stop window.now from to result }
 {
-    let end = match memchr(stop.byte, &window[from..]) {
+    let end = match memchr(stop.byte, &window[from..to]) {
         Some(i) => from + i,
-        None => window.len(),
+        None => to,
     };
     let turns = (end - from) as u128;
     let pairs = turns * u128::from(stop.pairs);
@@ -119,21 +120,21 @@ fn run_to(stop: Stop, window: &[u8], from: usize) -> Run
 }
 
 // Returns how far bytes are taken, with the sum of their numbers.
-fn run_along(entries: &[Option<Decided>], window: &[u8], from: usize) -> Run
+fn run_along(entries: &[Option<Decided>], window: &[u8], from: usize, to: usize) -> Run
     requires whole { length entries.now ≡ 256 }
-    requires from { from ≤ length window.now }
-    ensures { IsRun entries.now window.now from result }
+    requires from { from ≤ to }
+    requires to { to ≤ length window.now }
+    ensures { IsRun entries.now window.now from to result }
 {
     let mut pairs: u128 = 0;
-    for end in from..window.len() {
+    for end in from..to {
         let turn = pairs_of(entries[usize::from(window[end])]);
         if turn == 0 {
             return Run { end, pairs };
         }
         pairs += u128::from(turn);
     }
-    let end = window.len();
-    Run { end, pairs }
+    Run { end: to, pairs }
 }
 
 impl RunTable {
@@ -149,6 +150,11 @@ impl RunTable {
         Ok(RunTable { entries, stop })
     }
 
+    /// Returns whether some byte is known to be taken.
+    pub(crate) fn takes_some(&self) -> bool {
+        self.entries.iter().any(|entry| pairs_of(*entry) > 0)
+    }
+
     /// Returns what a byte decides of the node, if it does.
     pub fn decided(&self, b: u8) -> Option<Decided>
         ensures { slice_get self.now.entries.items b ≡ Some result }
@@ -156,15 +162,16 @@ impl RunTable {
         self.entries[usize::from(b)]
     }
 
-    /// Returns how far the node takes the bytes of a window from a place on, and how many pairs the turns of a
-    /// repetition over them are.
-    pub fn run(&self, window: &[u8], from: usize) -> Run
-        requires { from ≤ length window.now }
-        ensures { IsRun self.now.entries.items window.now from result }
+    /// Returns how far the node takes the bytes of a window from a place up to another, and how many pairs the turns of
+    /// a repetition over them are.
+    pub fn run(&self, window: &[u8], from: usize, to: usize) -> Run
+        requires from { from ≤ to }
+        requires to { to ≤ length window.now }
+        ensures { IsRun self.now.entries.items window.now from to result }
     {
         match self.stop {
-            Some(stop) => run_to(stop, window, from),
-            None => run_along(&self.entries, window, from),
+            Some(stop) => run_to(stop, window, from, to),
+            None => run_along(&self.entries, window, from, to),
         }
     }
 }

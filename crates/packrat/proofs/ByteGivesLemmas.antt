@@ -1,8 +1,8 @@
 -- What a pair gives where the byte at its place decides it.
--- Serves: one_byte_decides, turns_run, turns_give
-use Rattle.std.proofs.Common.{◌≡◌, ℕ, zero, suc, ◌+◌, ◌<◌, ◌≤◌, max, Bool, true, false, List, [], ◌∷◌, ◌++◌, length}
+-- Serves: one_byte_decides, turns_run, turns_close, turns_give, turns_whole
+use Rattle.std.proofs.Common.{◌≡◌, ℕ, zero, suc, ◌+◌, ◌<◌, ◌≤◌, max, Bool, true, false, List, [], ◌∷◌, length}
 use Rattle.std.proofs.Common.{drop, Some, None, refl, sym, subst, ap, arith, ◌∙◌}
-use Rattle.std.specs.Prelude.{slice_get, ◌==◌, ◌&&◌}
+use Rattle.std.specs.Prelude.{slice_get, ◌==◌}
 use Rattle.std.proofs.lemmas.Bool.{eqb-true, eq-eqb}
 use Rattle.pegread.specs.Pattern as expr
 use Rattle.pegread.specs.Pattern.{Pattern, Patterns, Rule}
@@ -17,7 +17,8 @@ use Rattle.gramcheck.specs.Nodes as node
 use Rattle.gramcheck.specs.Nodes.{Shape, shapes_of, Spells, SpellAll, spell_none, spell_more, spells_any, spells_set}
 use Rattle.gramcheck.specs.Nodes.{spells_bytes}
 use Rattle.gramcheck.specs.Outcome as outcome
-use Rattle.gramcheck.specs.Outcome.{Outcome, Gives, any_takes, set_takes, set_fails, bytes_take, bytes_fail, seq, choice}
+use Rattle.gramcheck.specs.Outcome.{Outcome, Gives, any_takes, set_takes, set_fails, bytes_take, bytes_fail, seq}
+use Rattle.gramcheck.specs.Outcome.{choice}
 use Rattle.gramcheck.specs.Outcome.{GivesAll, all_done, one_fails, rest_fails, rest_takes, GivesFirst, all_failed}
 use Rattle.gramcheck.specs.Outcome.{first_takes, first_fails, begins_with, compared, looked_at}
 use Rattle.gramcheck.specs.Sound.{IsRanked}

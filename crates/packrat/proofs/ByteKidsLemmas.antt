@@ -1,5 +1,5 @@
 -- The evaluation of a pair that the byte at its place decides stores nothing but itself.
--- Serves: one_byte_decides, turns_run
+-- Serves: one_byte_decides, turns_run, turns_whole
 use Rattle.std.proofs.Common.{◌≡◌, inl, inr, ℕ, zero, suc, ◌+◌, Bool, true, false, List, [], ◌∷◌, Some, None, Option}
 use Rattle.std.proofs.Common.{refl, sym, subst, arith}
 use Rattle.std.specs.Prelude.{slice_get}
@@ -22,8 +22,7 @@ use Rattle.memo.specs.declared.spot.Spot.{Spot}
 use Rattle.memo.specs.declared.spot.Spot.TheVariants.{Pair, Tail}
 use Rattle.packrat.specs.ByteGives.{GivesBy, StoresItself}
 use Rattle.packrat.specs.MachineSteps.{store}
-use Rattle.gramcheck.specs.NodeWays.{Way, way_of}
-use Rattle.packrat.specs.Spots.{KidsBy, TailKidsBy, Kids, is_key}
+use Rattle.packrat.specs.Spots.{Kids, is_key}
 use Rattle.packrat.specs.View.{weight}
 use Rattle.packrat.proofs.ByteGivesLemmas.{gives_by, name_has, seq_has, choice_has, star_has, plus_has, opt_has}
 use Rattle.packrat.proofs.ByteGivesLemmas.{and_has, not_has}
@@ -180,7 +179,8 @@ module _ (rules : List Rule) (start : ℕ) (nodes : List Shape) (bodies ranks x 
             let no_more = none is in
             subst (λ d. Itself (Pair n p) (1 + d)) (sym no_more)
             (itself_of (Pair n p) [] 0 (empty [] (is, refl)) quiet_none)
-        by (Some m) is = itself_of (Pair n p) (Tail n zero p ∷ []) c (some m is) (quiet_one (Tail n zero p) c (rest m is))
+        by (Some m) is =
+            itself_of (Pair n p) (Tail n zero p ∷ []) c (some m is) (quiet_one (Tail n zero p) c (rest m is))
 
     mutual
       pub by_byte_itself : {n c : ℕ} {v : Verdict} → ByByte nodes bodies marks tails b n v c → Has n

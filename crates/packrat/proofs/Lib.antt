@@ -19,5 +19,5 @@ pub mod OnwardLemmas
 pub mod ByteGivesLemmas
 pub mod ByteKidsLemmas
 pub mod RunStepsLemmas
-pub mod TurnsLemmas
+pub mod RunTurnsLemmas
 pub mod TurnsGiveLemmas

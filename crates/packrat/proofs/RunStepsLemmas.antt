@@ -1,10 +1,10 @@
 -- To each evaluation the machine comes, from wherever it stands; what it begins stands in front.
--- Serves: one_byte_decides, turns_run
-use Rattle.std.proofs.Common.{◌≡◌, ℕ, ◌+◌, Bool, true, false, List, [], ◌∷◌, ◌++◌, refl, sym, subst}
+-- Serves: one_byte_decides, turns_run, turns_whole
+use Rattle.std.proofs.Common.{◌≡◌, ℕ, ◌+◌, Bool, true, List, [], ◌∷◌, ◌++◌, refl, sym, subst}
 use Rattle.std.proofs.Common.{arith, append-nil}
 use Rattle.memo.specs.Parts.{IsIn}
 use Rattle.memo.specs.Run.{Run, run_stored, run_key, run_plain, RunAll, run_none, run_more, total}
-use Rattle.packrat.specs.MachineSteps.{Level, State, Asks, Works, store, Step, step_stored, step_begin}
+use Rattle.packrat.specs.MachineSteps.{Level, State, Asks, Works, store, step_stored, step_begin}
 use Rattle.packrat.specs.MachineSteps.{step_next, step_last, Steps, steps_none, steps_more}
 
 pub append_other : {V : Type 0} (xs ys zs : List V) → (xs ++ ys) ++ zs ≡ xs ++ (ys ++ zs)
@@ -71,7 +71,8 @@ module _ (V : Type 0) (Kids : V → List V → Type 0) (Next : V → List V → 
     all_goes {old = old} run_none a before fs bg k = record {
       front = [];
       count = refl;
-      steps = subst (λ v. St (Works (record { levels = record { at = a; asked = before } ∷ fs; stored = old; begun = bg }))
+      steps = subst (λ v. St
+          (Works (record { levels = record { at = a; asked = before } ∷ fs; stored = old; begun = bg }))
           (Works (record { levels = record { at = a; asked = v } ∷ fs; stored = old; begun = bg })))
           (sym (append-nil before)) steps_none;
     }
@@ -91,7 +92,10 @@ module _ (V : Type 0) (Kids : V → List V → Type 0) (Next : V → List V → 
               (sym (append_other g.front h.front bg))
               (subst (λ v. St
               (Works (record { levels = record { at = a; asked = before } ∷ fs; stored = old; begun = bg }))
-              (Works (record { levels = record { at = a; asked = v } ∷ fs; stored = new;
-                begun = g.front ++ (h.front ++ bg) }))) whole
+              (Works (record {
+                levels = record { at = a; asked = v } ∷ fs;
+                stored = new;
+                begun = g.front ++ (h.front ++ bg);
+              }))) whole
               (steps_then (steps_then (steps_more steps_none (step_next (all a b before ks k))) h.steps) g.steps));
         }

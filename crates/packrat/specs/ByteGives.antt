@@ -1,7 +1,6 @@
 -- What a pair gives where the byte at its place decides it, and what its evaluation stores and begins.
-use Rattle.std.specs.Prelude.{◌≡◌, ℕ, zero, suc, ◌+◌, ◌<◌, ◌≤◌, max, Bool, true, List, [], ◌∷◌, ◌++◌, slice_get, Some}
+use Rattle.std.specs.Prelude.{◌≡◌, ℕ, zero, suc, ◌+◌, ◌<◌, ◌≤◌, Bool, true, List, [], ◌∷◌}
 use Rattle.pegread.specs.Pattern.{Rule}
-use Rattle.gramcheck.specs.ByByte.{ByByte}
 use Rattle.gramcheck.specs.Nodes.{Shape}
 use Rattle.gramcheck.specs.Outcome.{Event}
 use Rattle.gramcheck.specs.Outcome as outcome
@@ -15,7 +14,7 @@ use Rattle.memo.specs.Parts.{IsIn}
 use Rattle.memo.specs.Run.{RunAll, total}
 use Rattle.memo.specs.declared.spot.Spot.{Spot}
 use Rattle.memo.specs.declared.spot.Spot.TheVariants.{Pair}
-use Rattle.packrat.specs.MachineSteps.{Level, State, Asks, Works, store}
+use Rattle.packrat.specs.MachineSteps.{Level, State, store}
 use Rattle.packrat.specs.SpotSteps.{SpotSteps}
 use Rattle.packrat.specs.Spots.{Kids, is_key}
 use Rattle.packrat.specs.View.{weight}

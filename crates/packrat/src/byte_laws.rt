@@ -1,5 +1,6 @@
 //! Laws of evaluations that the byte at their place decides, and of runs of turns of a repetition over such bytes.
-ghost use Rattle.std.specs.Prelude.{◌≡◌, ℕ, ◌+◌, ◌<◌, ◌≤◌, max, Bool, true, List, ◌++◌, length, slice_get, Some};
+ghost use Rattle.std.specs.Prelude.{◌≡◌, ℕ, suc, ◌+◌, ◌<◌, ◌≤◌, max, Bool, true, List, [], ◌++◌, length};
+ghost use Rattle.std.specs.Prelude.{slice_get, Some};
 ghost use Rattle.pegread.specs.Pattern.{Rule};
 ghost use Rattle.pegread.specs.PegViews.{rules_of};
 ghost use Rattle.gramcheck.specs.ByByte.{ByByte, AreTurns};
@@ -8,10 +9,14 @@ ghost use Rattle.gramcheck.specs.Nodes.{Shape, Star, shapes_of};
 ghost use Rattle.gramcheck.specs.Outcome.{Event, Takes};
 ghost use Rattle.gramcheck.specs.Sound.{IsRanked};
 ghost use Rattle.gramcheck.specs.declared.by_byte.Verdict.{Verdict};
+ghost use Rattle.gramcheck.specs.declared.by_byte.Verdict.TheVariants.{Stays};
 ghost use Rattle.memo.specs.declared.found.Found.{Found};
+ghost use Rattle.memo.specs.declared.found.Found.TheVariants.{Took};
 ghost use Rattle.pegmatch.specs.KeptEvents.{SpellsSome};
 ghost use Rattle.visits.specs.Visits.{NodeGives};
+ghost use Rattle.memo.specs.KeyLog.{spots_of, row_of, place_of};
 ghost use Rattle.memo.specs.Parts.{IsIn};
+ghost use Rattle.memo.specs.declared.key_log.Stored.{Stored};
 ghost use Rattle.memo.specs.declared.spot.Spot.{Spot};
 ghost use Rattle.memo.specs.declared.spot.Spot.TheVariants.{Pair};
 ghost use Rattle.packrat.specs.ByteGives.{found_by, GivesBy, StoresItself, ComesWith, turns_on, operands_on};
@@ -44,8 +49,11 @@ pub fn one_byte_decides()
         (levels : List (Level Spot)) (stored begun : List Spot) → (marks n ≡ true → IsIn (Pair n p) stored → ⊥) →
         ComesWith rules nodes bodies x marks tails
         (Asks (Pair n p) (record { levels = levels; stored = stored; begun = begun }))
-        (λ front. Works (record { levels = levels; stored = store Spot (marks n) (Pair n p) stored;
-            begun = front ++ begun })) c }
+        (λ front. Works (record {
+          levels = levels;
+          stored = store Spot (marks n) (Pair n p) stored;
+          begun = front ++ begun;
+        })) c }
 {}
 
 /// Where bytes decide that the operand of a repetition takes each of them, the machine comes from the repetition's pair
@@ -61,8 +69,11 @@ pub fn turns_run()
         AreFresh (marks k) k a n stored →
         ComesWith rules nodes bodies x marks tails
         (Asks (Pair s a) (record { levels = levels; stored = stored; begun = begun }))
-        (λ front. Asks (Pair s (a + n)) (record { levels = turns_on s k a n levels;
-            stored = operands_on (marks k) k a n stored; begun = front ++ begun })) c }
+        (λ front. Asks (Pair s (a + n)) (record {
+          levels = turns_on s k a n levels;
+          stored = operands_on (marks k) k a n stored;
+          begun = front ++ begun;
+        })) c }
 {}
 
 /// The levels of such turns close one after the other; each stores its pair if the repetition is a key.
@@ -92,4 +103,45 @@ pub fn turns_give()
         AreTurns (shapes_of g.nodes) g.bodies x marks tails k a n c → (f : Found) →
         (more ≡ true → a + n < length x) → SpotGives g x more (Pair s (a + n)) f → (i : ℕ) → i ≤ n →
         SpotGives g x more (Pair s (a + i)) f }
+{}
+
+/// Where a byte stands behind such turns that decides that the repetition stays before it, the machine comes to the
+/// repetition's end at that place. Stored are then its pairs at all these places if it is a key, those of the operand
+/// if that is one, and nothing else. The repetition takes the bytes of the turns, without events.
+pub fn turns_whole()
+    ensures steps { (rules : List Rule) (start : ℕ) (nodes : List Shape) (bodies ranks x : List ℕ) →
+        IsRanked rules start nodes bodies ranks → (root : ℕ) → slice_get bodies start ≡ Some root →
+        (marks : ℕ → Bool) (tails : ℕ → ℕ → Bool) → AreMarks start nodes bodies marks tails → (s k a n c b d : ℕ) →
+        slice_get nodes s ≡ Some (Star k) → SpellsSome rules nodes s →
+        AreTurns nodes bodies x marks tails k a n c → slice_get x (a + n) ≡ Some b →
+        ByByte nodes bodies marks tails b s Stays d →
+        (levels : List (Level Spot)) (stored begun : List Spot) → AreFresh (marks s) s a (suc n) stored →
+        AreFresh (marks k) k a n stored →
+        ComesWith rules nodes bodies x marks tails
+        (Asks (Pair s a) (record { levels = levels; stored = stored; begun = begun }))
+        (λ front. Works (record {
+          levels = levels;
+          stored = turns_closed (marks s) s a (suc n)
+              (operands_on (marks k) k a n stored);
+          begun = front ++ begun;
+        })) (c + d) }
+    ensures gives { (rules : List Rule) (start : ℕ) (nodes : List Shape) (bodies ranks x : List ℕ) →
+        IsRanked rules start nodes bodies ranks → (marks : ℕ → Bool) (tails : ℕ → ℕ → Bool) (s k a n c b d : ℕ) →
+        slice_get nodes s ≡ Some (Star k) → SpellsSome rules nodes s →
+        AreTurns nodes bodies x marks tails k a n c → slice_get x (a + n) ≡ Some b →
+        ByByte nodes bodies marks tails b s Stays d →
+        RepeatsTo rules nodes bodies x s a (a + n) [] ((a + n) + 1) }
+    ensures found { (g : Grammar) (x : List ℕ) (more : Bool) → IsSoundGrammar g →
+        (marks : ℕ → Bool) (tails : ℕ → ℕ → Bool) (s k a n c b d : ℕ) →
+        slice_get (shapes_of g.nodes) s ≡ Some (Star k) → SpellsSome (rules_of g.rules) (shapes_of g.nodes) s →
+        AreTurns (shapes_of g.nodes) g.bodies x marks tails k a n c → slice_get x (a + n) ≡ Some b →
+        ByByte (shapes_of g.nodes) g.bodies marks tails b s Stays d → (more ≡ true → (a + n) + 1 < length x) →
+        SpotGives g x more (Pair s a) (Took (a + n)) }
+{}
+
+/// Above a place that no stored key of the node reaches, none of its pairs is stored.
+pub fn fresh_above_mark()
+    ensures { (key : Bool) (m a n mark : ℕ) (stored : List Stored) →
+        ((s : Stored) → IsIn s stored → row_of s.spot ≡ m → place_of s.spot < mark) → mark ≤ a →
+        AreFresh key m a n (spots_of stored) }
 {}

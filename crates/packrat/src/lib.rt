@@ -10,7 +10,9 @@ mod machine;
 mod onward;
 mod packrat;
 
-pub use byte_laws::{one_byte_decides, turns_close, turns_give, turns_run};
+pub use byte_laws::{
+    fresh_above_mark, one_byte_decides, turns_close, turns_give, turns_run, turns_whole,
+};
 pub use frames::{Frame, Wait};
 pub use laws::{
     asked_once, evaluated_once, implied_cells, one_view, one_width, steps_hold, steps_run,

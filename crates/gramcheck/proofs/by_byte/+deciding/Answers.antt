@@ -1,8 +1,8 @@
 -- What is told of a node, from what is told of those below.
-use Rattle.std.proofs.Common.{◌≡◌, ◌∙◌, sym, ℕ, subst}
+use Rattle.std.proofs.Common.{◌∙◌, sym, subst}
 use Rattle.gramcheck.specs.ByByte.{below, by_any}
-use Rattle.gramcheck.specs.Decides.{Decides, DecidesShape}
-use Rattle.gramcheck.specs.Nodes.{Bytes, Name, Seq, Choice, Star, Plus, Opt, And, Not, shape_of}
+use Rattle.gramcheck.specs.Decides.{DecidesShape}
+use Rattle.gramcheck.specs.Nodes.{Bytes, Seq, Choice}
 use Rattle.gramcheck.proofs.DecidesLemmas.{some_as, at_node, name_decides, seq_decides, choice_decides, members_done}
 use Rattle.gramcheck.proofs.DecidesLemmas.{members_more, members_failed, members_took, alternatives_done}
 use Rattle.gramcheck.proofs.DecidesLemmas.{alternatives_more, alternatives_succeeded, takes_succeeds, stays_succeeds}

@@ -1,5 +1,5 @@
 -- A node is looked into from its members, and those one level below.
-use Rattle.std.proofs.Common.{◌≡◌, ℕ, ◌+◌, ◌*◌}
+use Rattle.std.proofs.Common.{ℕ, ◌+◌, ◌*◌}
 use Rattle.gramcheck.specs.ByByte.{ByMembers, ByAlternatives, mark_in, tail_in}
 use Rattle.gramcheck.specs.Nodes.{shapes_of}
 use Rattle.gramcheck.specs.declared.by_byte.Verdict.{Verdict}

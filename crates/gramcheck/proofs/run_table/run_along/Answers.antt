@@ -1,6 +1,6 @@
-use Rattle.std.proofs.Common.{◌≡◌, ◌<◌, ◌+◌, Some, slice_get, arith, sym, ap, ◌∙◌, subst, length, get_or}
+use Rattle.std.proofs.Common.{◌≡◌, ◌<◌, ◌+◌, Some, slice_get, arith, sym, ap, ◌∙◌, subst}
 use Rattle.gramcheck.specs.RunTables.{TurnsTo, turn_pairs}
-use Rattle.gramcheck.proofs.RunTablesLemmas.{turns_begin, turns_next, byte_at, pairs_at, no_byte_at, same_byte_at}
+use Rattle.gramcheck.proofs.RunTablesLemmas.{turns_begin, turns_next, byte_at, pairs_at, same_byte_at}
 use Rattle.gramcheck.proofs.run_table.run_along.Goals as goal
 
 pub loop-end-init : goal.loop-end-init
@@ -18,12 +18,15 @@ loop-end-preserved c =
     let byte : c.from.result < 256 = let here = c.from.ensures in
     omega (arith, here, c.type_inv.window c.loop-end.end) in
     let whole = c.requires.whole in
+    let last = c.loop-end-test.true in
+    let to = c.requires.to in
     record {
       turns = subst (λ m. TurnsTo c.args.entries.now c.args.window.now c.args.from (c.loop-end.end + 1)
           (c.loop-end.pairs + m)) (sym is)
           (turns_next c.args.entries.now c.args.window.now c.args.from c.loop-end.end c.loop-end.pairs
           c.pairs_of-turn.result c.from.result low c.loop-end.invariant.turns
-          (byte_at c.args.entries.now c.args.window.now c.args.from c.loop-end.end c.loop-end-test.true
+          (byte_at c.args.entries.now c.args.window.now c.args.from c.loop-end.end
+          (omega (arith, last, to))
           ∙ ap Some (sym c.from.ensures))
           (pairs_at c.args.entries.now c.args.window.now c.args.from c.from.result c.pairs_of-turn.result
           (omega (arith, byte, whole)) c.pairs_of-turn.ensures.pairs) c.if-turn-eq0.false);
@@ -40,7 +43,7 @@ returns-then-turn-eq0 c =
       low = c.loop-end.auto.end;
       high = omega (arith, last);
       turns = c.loop-end.invariant.turns;
-      ends = λ b is.
+      ends = λ less b is.
           let same = same_byte_at c.args.entries.now c.args.window.now c.args.from c.loop-end.end b is in
           ap (λ v. turn_pairs (slice_get c.args.entries.now v)) (sym (c.from.ensures ∙ same))
           ∙ pairs_at c.args.entries.now c.args.window.now c.args.from c.from.result c.pairs_of-turn.result
@@ -52,11 +55,11 @@ returns c =
     let last = c.loop-end-test.false in
     let most = c.loop-end.auto.end-end in
     let from = c.requires.from in
-    let end : c.loop-end.end ≡ length c.args.window.now = omega (arith, last, most, from) in
+    let end : c.loop-end.end ≡ c.args.to = omega (arith, last, most, from) in
     record {
       low = from;
       high = omega arith;
       turns = subst (λ q. TurnsTo c.args.entries.now c.args.window.now c.args.from q c.loop-end.pairs) end
           c.loop-end.invariant.turns;
-      ends = λ b is. no_byte_at c.args.entries.now c.args.window.now c.args.from b _ is;
+      ends = λ less b is. absurd (omega (arith, less));
     }

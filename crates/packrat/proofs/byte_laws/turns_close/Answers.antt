@@ -1,4 +1,4 @@
-use Rattle.packrat.proofs.TurnsLemmas.{turns_end}
+use Rattle.packrat.proofs.RunTurnsLemmas.{turns_end}
 use Rattle.packrat.proofs.byte_laws.turns_close.Goals as goal
 
 pub returns : goal.returns

@@ -1,4 +1,4 @@
-use Rattle.packrat.proofs.TurnsLemmas.{turns_come}
+use Rattle.packrat.proofs.RunTurnsLemmas.{turns_come}
 use Rattle.packrat.proofs.byte_laws.turns_run.Goals as goal
 
 pub returns : goal.returns

@@ -1,7 +1,7 @@
 -- Steps over bytes that decide what is evaluated.
--- Serves: one_byte_decides, turns_run, turns_close, turns_give
-use Rattle.std.proofs.Common.{◌≡◌, inl, inr, ℕ, zero, suc, ◌+◌, ◌<◌, ◌≤◌, max, Bool, true, false, List, [], ◌∷◌, ◌++◌}
-use Rattle.std.proofs.Common.{length, Some, refl, sym, subst, arith}
+-- Serves: one_byte_decides, turns_run, turns_close, turns_whole, fresh_above_mark
+use Rattle.std.proofs.Common.{◌≡◌, inl, inr, ℕ, zero, suc, ◌+◌, ◌<◌, ◌≤◌, Bool, true, false, List, [], ◌∷◌, ◌++◌}
+use Rattle.std.proofs.Common.{Some, refl, sym, subst, ap, arith}
 use Rattle.std.specs.Prelude.{slice_get}
 use Rattle.pegread.specs.Pattern.{Rule}
 use Rattle.gramcheck.specs.ByByte.{ByByte, by_shape, ByShape, by_no_turn, AreTurns, turns_none, turns_more}
@@ -9,16 +9,19 @@ use Rattle.gramcheck.specs.Nodes as node
 use Rattle.gramcheck.specs.Nodes.{Shape}
 use Rattle.gramcheck.specs.Sound.{IsRanked}
 use Rattle.gramcheck.specs.declared.by_byte.Verdict.{Verdict}
-use Rattle.gramcheck.specs.declared.by_byte.Verdict.TheVariants.{Takes, Stays, Fails}
+use Rattle.gramcheck.specs.declared.by_byte.Verdict.TheVariants.{Takes, Stays}
 use Rattle.pegmatch.specs.KeptEvents.{SpellsSome}
-use Rattle.memo.specs.Parts.{IsIn}
+use Rattle.memo.specs.Parts.{IsIn, in_here, in_later}
+use Rattle.memo.specs.KeyLog.{spots_of, row_of, place_of}
+use Rattle.memo.specs.declared.key_log.Stored.{Stored}
+use Rattle.memo.specs.Run.{total}
 use Rattle.memo.specs.declared.spot.Spot.{Spot}
-use Rattle.memo.specs.declared.spot.Spot.TheVariants.{Pair, Tail}
-use Rattle.packrat.specs.ByteGives.{GivesBy, StoresItself, ComesWith, turn_at}
+use Rattle.memo.specs.declared.spot.Spot.TheVariants.{Pair}
+use Rattle.packrat.specs.ByteGives.{GivesBy, ComesWith, turn_at}
 use Rattle.packrat.specs.ByteGives.{turns_on, operands_on, turns_closed, AreFresh}
 use Rattle.gramcheck.specs.KeyMarks.{AreMarks}
 use Rattle.packrat.specs.MachineSteps.{Level, State, Asks, Works, store, step_begin, step_next, step_last}
-use Rattle.packrat.specs.MachineSteps.{Steps, steps_none, steps_more}
+use Rattle.packrat.specs.MachineSteps.{steps_none, steps_more}
 use Rattle.packrat.specs.SpotSteps.{NextOf, next_first, next_second, SpotSteps}
 use Rattle.packrat.specs.Spots.{Kids, is_key}
 use Rattle.packrat.specs.View.{weight}
@@ -26,7 +29,7 @@ use Rattle.packrat.proofs.ByteGivesLemmas.{gives_by, star_has}
 use Rattle.packrat.proofs.ByteKidsLemmas.{by_byte_itself, itself_runs}
 use Rattle.packrat.proofs.NextOfLemmas.{is_next}
 use Rattle.packrat.proofs.RunStepsLemmas.{run_goes, total_append, append_other, steps_then}
-use Rattle.packrat.proofs.GoodLemmas.{in_front}
+use Rattle.packrat.proofs.GoodLemmas.{in_front, not_in}
 
 -- no pair of those places is that of another node, or of a later place
 not_among : (key : Bool) (m k a n q : ℕ) (stored : List Spot) → (m ≡ k → q < a + n → ⊥)
@@ -43,24 +46,55 @@ not_among false m k a (suc n) q stored not free i =
 no_later : (a n : ℕ) → a + n < a + n → ⊥
 no_later a n lt = omega arith
 
+-- a stored key with this spot
+in_spots : (spot : Spot) (stored : List Stored) → IsIn spot (spots_of stored)
+    → (s : Stored) × IsIn s stored × (s.spot ≡ spot)
+in_spots spot [] i = absurd (not_in i)
+in_spots spot (s ∷ stored) i = elim (in_front i) [
+  | inl e ↦ (s, in_here, sym e)
+  | inr e ↦ let r = in_spots spot stored e in (r.0, in_later r.1, r.2)
+]
+
+pub fresh_above : (key : Bool) (m a n mark : ℕ) (stored : List Stored)
+    → ((s : Stored) → IsIn s stored → row_of s.spot ≡ m → place_of s.spot < mark) → mark ≤ a
+    → AreFresh key m a n (spots_of stored)
+fresh_above key m a n mark stored below le i lt is there =
+    let r = in_spots (Pair m (a + i)) stored there in
+    let less = below r.0 r.1 (ap row_of r.2) in
+    let place : place_of r.0.spot ≡ a + i = ap place_of r.2 in
+    omega (arith, less, place, le)
+
 module _ (rules : List Rule) (start : ℕ) (nodes : List Shape) (bodies ranks x : List ℕ)
     (sound : IsRanked rules start nodes bodies ranks) (root : ℕ) (is_root : slice_get bodies start ≡ Some root)
     (marks : ℕ → Bool) (tails : ℕ → ℕ → Bool) (are : AreMarks start nodes bodies marks tails) where
   abbrev Comes : State Spot → (List Spot → State Spot) → ℕ → Type 0
   Comes s to c = ComesWith rules nodes bodies x marks tails s to c
 
+  next_all : (a k : Spot) (asked rest : List Spot) → Kids rules nodes bodies x a (asked ++ k ∷ rest)
+      → NextOf rules nodes bodies x a asked k
+  next_all = (is_next rules start nodes bodies ranks x false sound root is_root marks tails are).all
+
+  both_fronts : (xs ys : List Spot) → total Spot (Kids rules nodes bodies x) (is_key marks tails) weight (xs ++ ys)
+      ≡ total Spot (Kids rules nodes bodies x) (is_key marks tails) weight xs
+      + total Spot (Kids rules nodes bodies x) (is_key marks tails) weight ys
+  both_fronts =
+      total_append Spot (Kids rules nodes bodies x) (NextOf rules nodes bodies x) (is_key marks tails) weight next_all
+
   -- a pair that its byte decides
   pub decided_comes : (b n p c : ℕ) (v : Verdict) → ByByte nodes bodies marks tails b n v c → slice_get x p ≡ Some b
       → SpellsSome rules nodes n → (levels : List (Level Spot)) (stored begun : List Spot)
       → (marks n ≡ true → IsIn (Pair n p) stored → ⊥)
       → Comes (Asks (Pair n p) (record { levels = levels; stored = stored; begun = begun }))
-      (λ front. Works (record { levels = levels; stored = store Spot (marks n) (Pair n p) stored;
-        begun = front ++ begun })) c
+      (λ front. Works (record {
+        levels = levels;
+        stored = store Spot (marks n) (Pair n p) stored;
+        begun = front ++ begun;
+      })) c
   decided_comes b n p c v h here s levels stored begun fresh =
       let itself = by_byte_itself rules start nodes bodies ranks x sound marks tails b p here h s in
       let g = run_goes Spot (Kids rules nodes bodies x) (NextOf rules nodes bodies x) (is_key marks tails) weight
-      (is_next rules start nodes bodies ranks x false sound root is_root marks tails are).all
-      (itself_runs rules start nodes bodies ranks x sound marks tails (Pair n p) c stored fresh itself) levels begun in
+      next_all (itself_runs rules start nodes bodies ranks x sound marks tails (Pair n p) c stored fresh itself) levels
+      begun in
       record { front = g.front; is = g.count; steps = g.steps }
 
   module _ (s k : ℕ) (at : slice_get nodes s ≡ Some (node.Star k)) (spelled : SpellsSome rules nodes s) where
@@ -71,8 +105,8 @@ module _ (rules : List Rule) (start : ℕ) (nodes : List Shape) (bodies ranks x 
     St u v = SpotSteps rules nodes bodies x marks tails u v
 
     both_steps : {t u v : State Spot} → St t u → St u v → St t v
-    both_steps p q = steps_then Spot (Kids rules nodes bodies x) (NextOf rules nodes bodies x) (is_key marks tails) weight
-        (is_next rules start nodes bodies ranks x false sound root is_root marks tails are).all p q
+    both_steps p q = steps_then Spot (Kids rules nodes bodies x) (NextOf rules nodes bodies x) (is_key marks tails)
+        weight next_all p q
 
     operand_takes : (b p c : ℕ) → ByByte nodes bodies marks tails b k Takes c → slice_get x p ≡ Some b
         → GivesBy rules nodes bodies x k p Takes
@@ -93,23 +127,28 @@ module _ (rules : List Rule) (start : ℕ) (nodes : List Shape) (bodies ranks x 
         → (levels : List (Level Spot)) (stored begun : List Spot) → (marks s ≡ true → IsIn (Pair s p) stored → ⊥)
         → (marks k ≡ true → IsIn (Pair k p) stored → ⊥)
         → Comes (Asks (Pair s p) (record { levels = levels; stored = stored; begun = begun }))
-        (λ front. Asks (Pair s (p + 1)) (record { levels = turn_at s k p ∷ levels;
-          stored = store Spot (marks k) (Pair k p) stored; begun = front ++ begun })) (1 + d)
+        (λ front. Asks (Pair s (p + 1)) (record {
+          levels = turn_at s k p ∷ levels;
+          stored = store Spot (marks k) (Pair k p) stored;
+          begun = front ++ begun;
+        })) (1 + d)
     turn_comes b p d h here levels stored begun fresh free =
         let has = star_has rules start nodes bodies ranks x sound s k at spelled in
         let g = operand_takes b p d h here in
         let r = decided_comes b k p d Takes h here has (record { at = Pair s p; asked = Pair k p ∷ [] } ∷ levels)
         stored (Pair s p ∷ begun) free in
         let is = r.is in
-        let sum = total_append Spot (Kids rules nodes bodies x) (NextOf rules nodes bodies x) (is_key marks tails) weight
-        (is_next rules start nodes bodies ranks x false sound root is_root marks tails are).all r.front
+        let sum = both_fronts r.front
         (Pair s p ∷ []) in
         record {
           front = r.front ++ Pair s p ∷ [];
           is = omega (arith, is, sum);
           steps = subst (λ v. St (Asks (Pair s p) (record { levels = levels; stored = stored; begun = begun }))
-              (Asks (Pair s (p + 1)) (record { levels = turn_at s k p ∷ levels;
-                stored = store Spot (marks k) (Pair k p) stored; begun = v })))
+              (Asks (Pair s (p + 1)) (record {
+                levels = turn_at s k p ∷ levels;
+                stored = store Spot (marks k) (Pair k p) stored;
+                begun = v;
+              })))
               (sym (append_other r.front (Pair s p ∷ []) begun))
               (steps_more (both_steps (steps_more (steps_more steps_none (step_begin fresh))
               (step_next (next_first (node.Star k, at, refl)))) r.steps) (step_next (next_second (turn_kids p g))));
@@ -130,8 +169,11 @@ module _ (rules : List Rule) (start : ℕ) (nodes : List Shape) (bodies ranks x 
     pub turns_come : {a n c : ℕ} → Turned a n c → (levels : List (Level Spot)) (stored begun : List Spot)
         → AreFresh (marks s) s a n stored → AreFresh (marks k) k a n stored
         → Comes (Asks (Pair s a) (record { levels = levels; stored = stored; begun = begun }))
-        (λ front. Asks (Pair s (a + n)) (record { levels = turns_on s k a n levels;
-          stored = operands_on (marks k) k a n stored; begun = front ++ begun })) c
+        (λ front. Asks (Pair s (a + n)) (record {
+          levels = turns_on s k a n levels;
+          stored = operands_on (marks k) k a n stored;
+          begun = front ++ begun;
+        })) c
     turns_come {a = a} turns_none levels stored begun fresh free =
         let same : a ≡ a + 0 = omega arith in
         record {
@@ -148,21 +190,25 @@ module _ (rules : List Rule) (start : ℕ) (nodes : List Shape) (bodies ranks x 
         (λ t i. not_among (marks k) k k a n (a + n) stored (λ e lt. no_later a n lt) (free n (omega arith) t) i) in
         let one = before.is in
         let two = turn.is in
-        let sum = total_append Spot (Kids rules nodes bodies x) (NextOf rules nodes bodies x) (is_key marks tails) weight
-        (is_next rules start nodes bodies ranks x false sound root is_root marks tails are).all turn.front
+        let sum = both_fronts turn.front
         before.front in
         let next : (a + n) + 1 ≡ a + suc n = omega arith in
         record {
           front = turn.front ++ before.front;
           is = omega (arith, one, two, sum);
           steps = subst (λ v. St (Asks (Pair s a) (record { levels = levels; stored = stored; begun = begun }))
-              (Asks (Pair s (a + suc n)) (record { levels = turns_on s k a (suc n) levels;
-                stored = operands_on (marks k) k a (suc n) stored; begun = v })))
+              (Asks (Pair s (a + suc n)) (record {
+                levels = turns_on s k a (suc n) levels;
+                stored = operands_on (marks k) k a (suc n) stored;
+                begun = v;
+              })))
               (sym (append_other turn.front before.front begun))
               (subst (λ q. St (Asks (Pair s a) (record { levels = levels; stored = stored; begun = begun }))
-              (Asks (Pair s q) (record { levels = turns_on s k a (suc n) levels;
+              (Asks (Pair s q) (record {
+                levels = turns_on s k a (suc n) levels;
                 stored = operands_on (marks k) k a (suc n) stored;
-                begun = turn.front ++ (before.front ++ begun) }))) next
+                begun = turn.front ++ (before.front ++ begun);
+              }))) next
               (both_steps before.steps turn.steps));
         }
 
@@ -174,3 +220,38 @@ module _ (rules : List Rule) (start : ℕ) (nodes : List Shape) (bodies ranks x 
     turns_end {a = a} (turns_more {n = n} {d = d} {b = b} r here h) levels stored begun =
         both_steps (steps_more steps_none (step_last (turn_kids (a + n) (operand_takes b (a + n) d h here))))
         (turns_end r levels (store Spot (marks s) (Pair s (a + n)) stored) begun)
+
+    -- the turns, and then a byte that the repetition stays before
+    pub whole_comes : {a n c : ℕ} (b d : ℕ) → Turned a n c → slice_get x (a + n) ≡ Some b
+        → ByByte nodes bodies marks tails b s Stays d → (levels : List (Level Spot)) (stored begun : List Spot)
+        → AreFresh (marks s) s a (suc n) stored → AreFresh (marks k) k a n stored
+        → Comes (Asks (Pair s a) (record { levels = levels; stored = stored; begun = begun }))
+        (λ front. Works (record {
+          levels = levels;
+          stored = turns_closed (marks s) s a (suc n)
+              (operands_on (marks k) k a n stored);
+          begun = front ++ begun;
+        })) (c + d)
+    whole_comes {a = a} {n = n} b d turns here h levels stored begun fresh free =
+        let before = turns_come turns levels stored begun (λ i lt. fresh i (omega arith)) free in
+        let last = decided_comes b s (a + n) d Stays h here spelled (turns_on s k a n levels)
+        (operands_on (marks k) k a n stored) (before.front ++ begun)
+        (λ t i. not_among (marks k) s k a n (a + n) stored (λ e lt. no_later a n lt) (fresh n (omega arith) t) i) in
+        let end = turns_end turns levels (store Spot (marks s) (Pair s (a + n)) (operands_on (marks k) k a n stored))
+        (last.front ++ (before.front ++ begun)) in
+        let one = before.is in
+        let two = last.is in
+        let sum = both_fronts last.front
+        before.front in
+        record {
+          front = last.front ++ before.front;
+          is = omega (arith, one, two, sum);
+          steps = subst (λ v. St (Asks (Pair s a) (record { levels = levels; stored = stored; begun = begun }))
+              (Works (record {
+                levels = levels;
+                stored = turns_closed (marks s) s a (suc n)
+                    (operands_on (marks k) k a n stored);
+                begun = v;
+              }))) (sym (append_other last.front before.front begun))
+              (both_steps (both_steps before.steps last.steps) end);
+        }
