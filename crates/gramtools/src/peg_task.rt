@@ -11,7 +11,7 @@ ghost use Rattle.toolrun.specs.declared.settings.Mode.TheVariants.{Run, Check, P
 
 use crate::engine::run_units;
 use crate::printing::{Printable, print_rules, read_again};
-use desk::Desk;
+use packrat::Packrat;
 use feed::Source;
 use gramcheck::{Checked, SoundPeg, check_peg};
 use pegread::{Peg, read_peg};
@@ -150,7 +150,7 @@ impl Tool for PegTask {
         match self {
             PegTask::Prints(peg) => print_rules(peg, out),
             PegTask::Runs(peg) => {
-                let mut matcher = Desk::new(alloc);
+                let mut matcher = Packrat::new(alloc);
                 run_units(alloc, &mut matcher, peg, settings, reader, out)
             }
         }

@@ -105,7 +105,5 @@ module _ (g : Grammar) (x : List ℕ) (more : Bool) (sound : IsSoundGrammar g) (
       let r = whole_repeats (rules_of g.rules) g.start (shapes_of g.nodes) g.bodies g.ranks x sound marks tails s k at
       spelled b d turns here h in (
         [],
-        r.looked,
-        r.gives,
-        λ is. let lt = last is in let within = r.within in omega (arith, lt, within),
+        (r.looked, r.gives, (λ is. let lt = last is in let within = r.within in omega (arith, lt, within)), tt),
       )
