@@ -29,7 +29,8 @@ use Rattle.visits.proofs.VisitsLemmas.{visits_within}
 use Rattle.memo.specs.KeyLog.{spots_of}
 use Rattle.memo.specs.declared.key_log.Stored.{Stored}
 use Rattle.memo.specs.declared.spot.Spot.TheVariants.{Pair, Tail}
-use Rattle.packrat.specs.Done.{Contents, IsDone, Answers, IsOutcome, Holds, empty, head_of, unit_of, unit_of_match, told}
+use Rattle.packrat.specs.Done.{Contents, IsDone, Answers, IsOutcome, Holds, empty, head_of, unit_of}
+use Rattle.packrat.specs.Done.{unit_of_match, told}
 use Rattle.packrat.specs.MachineSteps.{Works}
 use Rattle.packrat.specs.Onward.{ReachesEnd}
 use Rattle.packrat.specs.SpotSteps.{NextOf}
@@ -43,8 +44,8 @@ use Rattle.pegmatch.specs.declared.matcher.Unit.TheVariants as unit
 use Rattle.memo.specs.Parts.{Reach, in_here}
 use Rattle.memo.specs.declared.spot.Spot.{Spot}
 use Rattle.gramcheck.specs.KeyMarks.{AreMarks}
-use Rattle.gramcheck.specs.KeyLists.{node_marks, tail_marks}
 use Rattle.packrat.specs.SpotGives.{SpotGives, SpotYields}
+use Rattle.gramcheck.specs.KeyLists.{node_marks, tail_marks}
 use Rattle.packrat.specs.View.{Evaluates, AreStored}
 use Rattle.packrat.specs.declared.frames.Frame.{Frame}
 use Rattle.gramcheck.specs.KeyLists.{Marks}

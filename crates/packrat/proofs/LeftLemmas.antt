@@ -1,7 +1,7 @@
 -- Each turn of the machine's loop lowers what is left.
 -- Serves: Packrat::match_unit
 use Rattle.std.proofs.Common.{◌≡◌, inl, inr, ℕ, zero, suc, ◌+◌, ◌*◌, ◌-◌, ◌<◌, ◌≤◌, Bool, List}
-use Rattle.std.proofs.Common.{[], ◌∷◌}
+use Rattle.std.proofs.Common.{[], ◌∷◌, true, false}
 use Rattle.std.proofs.Common.{Some, refl, sym, subst, arith}
 use Rattle.std.specs.Prelude.{slice_get}
 use Rattle.pegread.specs.PegViews.{rules_of}
@@ -20,7 +20,10 @@ use Rattle.packrat.specs.Spots.{KidsBy, TailKidsBy}
 use Rattle.packrat.specs.Spots.{Kids}
 use Rattle.packrat.specs.View.{weight}
 use Rattle.packrat.specs.declared.frames.Frame.{Frame}
-use Rattle.packrat.specs.Stands.{AreWaiting}
+use Rattle.packrat.specs.Stands.{AreWaiting, entered, IsEntered}
+use Rattle.packrat.specs.Onward.{tail_of, member_of}
+use Rattle.packrat.specs.declared.onward.Entering.{Entering}
+use Rattle.gramcheck.specs.KeyLists.{Marks}
 use Rattle.packrat.specs.declared.frames.Wait.{Wait}
 use Rattle.packrat.specs.declared.frames.Wait.TheVariants.{First, Last}
 use Rattle.packrat.specs.declared.machine.Turn.TheVariants.{Ask, Answer}
@@ -182,6 +185,33 @@ module _ (g : Grammar) (x : List ℕ) where
       < (4 * Most + 4) * (most_begun g x - begun) + (4 * (Most - i) + frames_cost Most fs)) (sym same)
       (omega (arith, cost, lt, few))
 
+  -- a tail that asks for its member costs less, also with a frame
+  down_tail : (n i p m q : ℕ) (fs gs : List Frame) (begun : ℕ) → IsWell g x (Tail n i p)
+      → frames_cost Most gs ≤ wait_cost Most First (Tail n i p) + frames_cost Most fs
+      → left g x (Ask (Pair m q)) gs begun < left g x (Ask (Tail n i p)) fs begun
+  unfolding left
+  down_tail n i p m q fs gs begun w few =
+      let lt = member_below n i p w in
+      omega (arith, lt, few)
+
+  entered_costs : (only : Bool) (a : Spot) (fs : List Frame)
+      → frames_cost Most (entered only a fs) ≤ wait_cost Most First a + frames_cost Most fs
+  entered_costs true a fs = omega arith
+  entered_costs false a fs = omega arith
+
+  -- a tail that is entered costs no more than one that is asked for
+  pub entered_less : (marks : Marks) (e : Entering) (fs gs : List Frame) (a : Spot) (begun : ℕ)
+      → IsWell g x (tail_of e) → IsEntered marks e fs gs a
+      → left g x (Ask a) gs begun ≤ left g x (Ask (tail_of e)) fs begun
+  entered_less marks e fs gs a begun w (inl is) =
+      subst (λ v. left g x (Ask v) gs begun ≤ left g x (Ask (tail_of e)) fs begun) (sym is.0)
+      (subst (λ v. left g x (Ask (tail_of e)) v begun ≤ left g x (Ask (tail_of e)) fs begun) (sym is.1) (omega arith))
+  entered_less marks e fs gs a begun w (inr is) =
+      subst (λ v. left g x (Ask v) gs begun ≤ left g x (Ask (tail_of e)) fs begun) (sym is.1)
+      (subst (λ v. left g x (Ask (member_of e)) v begun ≤ left g x (Ask (tail_of e)) fs begun) (sym is.2)
+      (let less = down_tail e.node e.index e.place e.member e.place fs (entered e.only (tail_of e) fs) begun w
+      (entered_costs e.only (tail_of e) fs) in omega (arith, less)))
+
   pub less_down : (a k : Spot) (key : Bool) (fs : List Frame) (begun now : ℕ) → now ≡ begun + weight a
       → now ≤ most_begun g x → IsWell g x a → F a k
       → left g x (Ask k) (record { spot = a; key = key; wait = First } ∷ fs) now < left g x (Ask a) fs begun
@@ -216,3 +246,22 @@ module _ (g : Grammar) (x : List ℕ) where
       → left g x (Answer own) fs begun < left g x (Answer given) (l ∷ fs) begun
   unfolding left
   less_up l own given fs begun = let some = waits_some l.wait l.spot in omega arith
+
+  -- with a tail that is entered
+  pub less_pass_in : (marks : Marks) (a b : Spot) (e : Entering) (key : Bool) (head : ℕ) (fs mid gs : List Frame)
+      (begun now : ℕ) → now ≡ begun + weight a
+      → now ≤ most_begun g x → IsWell g x a → F a (tail_of e) → IsWell g x (tail_of e) → AreWaiting key head a fs mid
+      → IsEntered marks e mid gs b → left g x (Ask b) gs now < left g x (Ask a) fs begun
+  less_pass_in marks a b e key head fs mid gs begun now is le w h well are i =
+      let one = less_pass a (tail_of e) key head fs mid begun now is le w h are in
+      let two = entered_less marks e mid gs b now well i in
+      omega (arith, one, two)
+
+  pub less_on_in : (marks : Marks) (a j b : Spot) (e : Entering) (given : Given) (key : Bool) (head : ℕ)
+      (fs mid gs : List Frame) (begun : ℕ) → K a (j ∷ (tail_of e ∷ [])) → IsWell g x (tail_of e)
+      → AreWaiting key head a fs mid → IsEntered marks e mid gs b → left g x (Ask b) gs begun
+      < left g x (Answer given) (record { spot = a; key = key; wait = First } ∷ fs) begun
+  less_on_in marks a j b e given key head fs mid gs begun h well are i =
+      let one = less_on a j (tail_of e) given key head fs mid begun h are in
+      let two = entered_less marks e mid gs b begun well i in
+      omega (arith, one, two)

@@ -27,10 +27,10 @@ use Rattle.memo.specs.declared.spot.Spot.TheVariants.{Pair, Tail}
 use Rattle.gramcheck.specs.NodeWays.{way_of}
 use Rattle.packrat.proofs.SpotGivesLemmas as L
 use Rattle.packrat.specs.declared.onward.Onward.{Onward}
-use Rattle.packrat.specs.declared.onward.Onward.TheVariants.{Gives, Same, Passes}
+use Rattle.packrat.specs.declared.onward.Onward.TheVariants.{Gives, Same, Passes, Enters}
 use Rattle.packrat.specs.declared.onward.Begun.{Begun}
 use Rattle.packrat.specs.declared.onward.Begun.TheVariants as begun
-use Rattle.packrat.specs.Onward.{IsWell, AfterOne, HasMember, AfterNone, IsLeaf, led_to}
+use Rattle.packrat.specs.Onward.{IsWell, AfterOne, HasMember, AfterNone, IsLeaf, IsLed, led_to, entering_of}
 use Rattle.packrat.specs.SpotSteps.{FirstBy, TailFirstBy, IsFirst}
 
 module _ (g : Grammar) (x : List ℕ) (more : Bool) (some : WasEnough x more 0) (sound : IsSoundGrammar g) where
@@ -106,6 +106,7 @@ module _ (g : Grammar) (x : List ℕ) (more : Bool) (some : WasEnough x more 0) 
   leaf_after n p tried (begun.Marks b) e k s d le h = absurd h
   leaf_after n p tried (begun.Leads b) e k s d le h = absurd h
   leaf_after n p tried (begun.Passes b) e k s d le h = absurd h
+  leaf_after n p tried (begun.Enters b) e k s d le h = absurd h
   leaf_after n p tried begun.Need e k s d le h = (
     h.0,
     (
@@ -386,6 +387,57 @@ module _ (g : Grammar) (x : List ℕ) (more : Bool) (some : WasEnough x more 0) 
                 (L.choice_spot g x more some sound n p ms f es w.0 at d)),
           ),
         )
+
+  -- a sequence or a choice with members enters its first tail
+  module _ (n p : ℕ) (ms : List ℕ) (w : IsWell g x (Pair n p)) (lt : 0 < length ms) where
+    pub members_enter : At n (node.Seq ms) → AfterNone g x more (Pair n p) (begun.Enters (entering_of n ms 0 p))
+    members_enter at = (
+      members_led n p ms w lt at,
+      led (0 + 1 == length ms) refl,
+    )
+      where
+        led : (only : Bool) → only ≡ (0 + 1 == length ms) → IsLed g x more only (Tail n 0 p) (Pair (get_or ms 0 0) p)
+        led true is = seq_led n 0 p (get_or ms 0 0) ms (slice_get-get_or ms 0 0 lt)
+            (w.0, w.1, (node.Seq ms, at, lt)) true is at
+        led false is = seq_led n 0 p (get_or ms 0 0) ms (slice_get-get_or ms 0 0 lt)
+            (w.0, w.1, (node.Seq ms, at, lt)) false is at
+
+    pub alternatives_enter : At n (node.Choice ms)
+        → AfterNone g x more (Pair n p) (begun.Enters (entering_of n ms 0 p))
+    alternatives_enter at = (
+      alternatives_led n p ms w lt at,
+      led (0 + 1 == length ms) refl,
+    )
+      where
+        led : (only : Bool) → only ≡ (0 + 1 == length ms) → IsLed g x more only (Tail n 0 p) (Pair (get_or ms 0 0) p)
+        led true is = choice_led n 0 p (get_or ms 0 0) ms (slice_get-get_or ms 0 0 lt)
+            (w.0, w.1, (node.Choice ms, at, lt)) true is at
+        led false is = choice_led n 0 p (get_or ms 0 0) ms (slice_get-get_or ms 0 0 lt)
+            (w.0, w.1, (node.Choice ms, at, lt)) false is at
+
+  -- a tail enters the next one
+  module _ (n i p : ℕ) (ms : List ℕ) (found : Found) (w : IsWell g x (Tail n i p)) where
+    pub member_enters : (q e : ℕ) → suc i ≡ e → At n (node.Seq ms) → found ≡ Took q → e < length ms
+        → After (Tail n i p) found (Enters (entering_of n ms e q))
+    member_enters q e same at is lt j h es d =
+        let more_of = member_more n i p ms found w q e same at is (omega (arith, same, lt)) j h es d in
+        (more_of, led more_of.1 (e + 1 == length ms) refl)
+      where
+        led : IsWell g x (Tail n e q) → (only : Bool) → only ≡ (e + 1 == length ms)
+            → IsLed g x more only (Tail n e q) (Pair (get_or ms e 0) q)
+        led v true is = seq_led n e q (get_or ms e 0) ms (slice_get-get_or ms e 0 lt) v true is at
+        led v false is = seq_led n e q (get_or ms e 0) ms (slice_get-get_or ms e 0 lt) v false is at
+
+    pub other_enters : (e : ℕ) → suc i ≡ e → At n (node.Choice ms) → found ≡ Failed → e < length ms
+        → After (Tail n i p) found (Enters (entering_of n ms e p))
+    other_enters e same at is lt j h es d =
+        let more_of = other_more n i p ms found w e same at is (omega (arith, same, lt)) j h es d in
+        (more_of, led more_of.1 (e + 1 == length ms) refl)
+      where
+        led : IsWell g x (Tail n e p) → (only : Bool) → only ≡ (e + 1 == length ms)
+            → IsLed g x more only (Tail n e p) (Pair (get_or ms e 0) p)
+        led v true is = choice_led n e p (get_or ms e 0) ms (slice_get-get_or ms e 0 lt) v true is at
+        led v false is = choice_led n e p (get_or ms e 0) ms (slice_get-get_or ms e 0 lt) v false is at
 
 pub some_of : (ms : List ℕ) → (length ms ≡ 0 → ⊥) → 0 < length ms
 some_of [] h = absurd (h refl)

@@ -22,8 +22,8 @@ use Rattle.memo.specs.declared.spot.Spot.{Spot}
 use Rattle.memo.specs.declared.spot.Spot.TheVariants.{Pair}
 use Rattle.packrat.specs.TurnsLeft.{most_begun}
 use Rattle.gramcheck.specs.KeyMarks.{AreMarks}
-use Rattle.gramcheck.specs.KeyLists.{node_marks, tail_marks}
 use Rattle.packrat.specs.SpotGives.{SpotYields, joined, IsQuiet}
+use Rattle.gramcheck.specs.KeyLists.{node_marks, tail_marks}
 use Rattle.memo.specs.KeyLog.{spots_of, place_of}
 use Rattle.memo.specs.Parts.{IsIn, in_here, in_later}
 use Rattle.memo.specs.Run.{Run, total}
@@ -41,11 +41,12 @@ use Rattle.packrat.specs.declared.machine.Turn.TheVariants.{Ask, Answer}
 use Rattle.packrat.specs.MachineSteps.{Level, State, Asks, Works, held, start_at, store, step_stored, step_begin}
 use Rattle.packrat.specs.MachineSteps.{step_next, step_last}
 use Rattle.packrat.specs.MachineSteps.{steps_none, steps_more}
-use Rattle.packrat.specs.Onward.{IsWell, ReachesEnd, AfterNone, AfterOne, PassesOn}
+use Rattle.packrat.specs.Onward.{IsWell, ReachesEnd, AfterNone, AfterOne, PassesOn, IsLed, tail_of, member_of}
 use Rattle.packrat.specs.SpotSteps.{IsFirst, NextOf, next_first, next_second, SpotSteps}
 use Rattle.packrat.specs.Stands.{AreLevels, levels_none, levels_frame, levels_passed, Waiting, state_of, key_of}
 use Rattle.packrat.specs.Stands.{Stands, IsClosed, NeedsMore, HeadStands, kept_joined, IsJoined, IsWaitHead}
-use Rattle.packrat.specs.Stands.{AreWaiting, GivenBy, AreGiven}
+use Rattle.packrat.specs.Stands.{AreWaiting, GivenBy, AreGiven, entered, IsEntered}
+use Rattle.packrat.specs.declared.onward.Entering.{Entering}
 use Rattle.packrat.proofs.BegunLemmas.{begun_at_places}
 use Rattle.packrat.proofs.MachineLemmas.{run_of_steps}
 
@@ -220,8 +221,8 @@ module _ (g : Grammar) (x : List ℕ) (more : Bool) (marks : Marks) where
     gives = d;
     steps = s;
   }
-  ready {links = links} {root = root} {st = st} {bg = bg} (levels_passed {a = a} {b = b} {asked = asked} {fs = fs} t h r)
-      given d s =
+  ready {links = links} {root = root} {st = st} {bg = bg}
+      (levels_passed {a = a} {b = b} {asked = asked} {fs = fs} t h r) given d s =
       ready r given (given_passed links a b asked given h d)
       (subst (λ v. SS root (Works (record { levels = fs; stored = store Spot v a st; begun = bg }))) t
       (steps_more s (step_last h.0)))
@@ -350,6 +351,26 @@ module _ (g : Grammar) (x : List ℕ) (more : Bool) (marks : Marks) where
         steps = steps_more steps_begin (step_next (next_first h.0));
       }
 
+  -- a tail that is entered
+  module _ (root : Spot) (e : Entering) (ls : List Frame) (st : List Stored) (links : List Link) (n : ℕ)
+      (s : S root (Ask (tail_of e)) ls st links n) where
+    member_asked : (only : Bool) → Key (tail_of e) ≡ false → IsLed g x more only (tail_of e) (member_of e)
+        → S root (Ask (member_of e)) (entered only (tail_of e) ls) st links (n + 0)
+    member_asked true plain h =
+        stands_pass root (tail_of e) ls st links n s (λ t. absurd (cc (t, plain))) (member_of e) false ls (sym plain) h
+        (inr (refl, refl, refl))
+    member_asked false plain h =
+        stands_down root (tail_of e) ls st links n s (λ t. absurd (cc (t, plain))) (member_of e) false (sym plain) h
+
+    pub stands_entered : (new : List Frame) (a : Spot) → IsLed g x more e.only (tail_of e) (member_of e)
+        → IsEntered marks e ls new a → S root (Ask a) new st links n
+    stands_entered new a h (inl is) = subst (λ v. S root (Ask a) v st links n) (sym is.1)
+        (subst (λ v. S root (Ask v) ls st links n) (sym is.0) s)
+    stands_entered new a h (inr is) = subst (λ v. S root (Ask a) v st links n) (sym is.2)
+        (subst (λ v. S root (Ask v) (entered e.only (tail_of e) ls) st links n) (sym is.1)
+        (subst (λ v. S root (Ask (member_of e)) (entered e.only (tail_of e) ls) st links v) (omega arith)
+        (member_asked e.only is.0 h)))
+
   module _ (root a : Spot) (given : Given) (ls : List Frame) (st : List Stored) (links : List Link) (n : ℕ)
       (key : Bool) where
     at_levels : (w : Wait) (bg : List Spot)
@@ -392,6 +413,10 @@ module _ (g : Grammar) (x : List ℕ) (more : Bool) (marks : Marks) where
       unfolding first_kid
       second_kid k after = (after_here (way.Passes k) after).0.0
 
+      pub second_tail : (e : Entering) → After (way.Enters e) → K a (first_kid ∷ (tail_of e ∷ []))
+      unfolding first_kid
+      second_tail e after = (after_here (way.Enters e) after).0.0.0
+
       pub stands_on : (k : Spot) (new : List Frame) → After (way.Passes k) → AreWaiting key given.events a ls new
           → S root (Ask k) new st links n
       stands_on k new after w =
@@ -407,6 +432,15 @@ module _ (g : Grammar) (x : List ℕ) (more : Bool) (marks : Marks) where
             is = s.is;
             steps = steps_more as_first (step_next (next_second h.0.0));
           }
+
+      pub tail_well : (e : Entering) → After (way.Enters e) → IsWell g x (tail_of e)
+      tail_well e after = (after_here (way.Enters e) after).0.1
+
+      pub stands_into : (e : Entering) (mid new : List Frame) (b : Spot) → After (way.Enters e)
+          → AreWaiting key given.events a ls mid → IsEntered marks e mid new b → S root (Ask b) new st links n
+      stands_into e mid new b after w i =
+          stands_entered root e mid st links n (stands_on (tail_of e) mid
+          (λ j f es y. (after j f es y).0) w) new b (after_here (way.Enters e) after).1 i
 
       ends : (own : Given) (new : List Stored) → K a (r.spot ∷ []) → G links a own → C links a own st new
           → S root (Answer own) ls new links n
@@ -521,8 +555,8 @@ module _ (g : Grammar) (x : List ℕ) (more : Bool) (marks : Marks) where
       (subst (λ v. S root t ls st v m) e (subst (S root t ls st ks) d s))))
 
   -- no more are begun than nodes at places
-  pub stands_few : (root : ℕ) (t : Turn) (ls : List Frame) (st : List Stored) (links : List Link) (n : ℕ) → IsSoundGrammar g
-      → slice_get g.bodies g.start ≡ Some root
+  pub stands_few : (root : ℕ) (t : Turn) (ls : List Frame) (st : List Stored) (links : List Link) (n : ℕ)
+      → IsSoundGrammar g → slice_get g.bodies g.start ≡ Some root
       → AreMarks g.start (shapes_of g.nodes) g.bodies (node_marks marks) (tail_marks marks)
       → S (Pair root 0) t ls st links n → n ≤ most_begun g x
   stands_few root t ls st links n sound at are s =

@@ -13,8 +13,10 @@ use Rattle.gramcheck.proofs.HasShapeLemmas.{has_shape}
 use Rattle.visits.specs.Visits.{NodeTakes}
 use Rattle.visits.proofs.GivesLemmas.{is_name}
 use Rattle.visits.proofs.NodeGivesLemmas.{one_spelled}
-use Rattle.gramcheck.specs.Width.{Width, width_any, width_set, width_bytes, width_act, width_open, width_close, width_and}
-use Rattle.gramcheck.specs.Width.{width_not, width_opt, width_name, width_seq, width_choice, WidthSum, sum_none, sum_more}
+use Rattle.gramcheck.specs.Width.{Width, width_any, width_set, width_bytes, width_act, width_open, width_close}
+use Rattle.gramcheck.specs.Width.{width_and}
+use Rattle.gramcheck.specs.Width.{width_not, width_opt, width_name, width_seq, width_choice, WidthSum, sum_none}
+use Rattle.gramcheck.specs.Width.{sum_more}
 use Rattle.gramcheck.specs.Width.{WidthEach, each_none, each_more}
 
 module _ (rules : List Rule) (x : List ℕ) where

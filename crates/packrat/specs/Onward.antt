@@ -1,5 +1,6 @@
 -- How a spot goes on, in code: what it gives at once, and what it asks for.
-use Rattle.std.specs.Prelude.{◌≡◌, ℕ, ◌<◌, ◌≤◌, List, [], ◌∷◌, length, slice_get, Some, Bool, true, false}
+use Rattle.std.specs.Prelude.{◌≡◌, ℕ, ◌+◌, ◌<◌, ◌≤◌, ◌==◌, get_or, List, [], ◌∷◌, length, slice_get, Some}
+use Rattle.std.specs.Prelude.{Bool, true, false}
 use Rattle.pegread.specs.PegViews.{rules_of}
 use Rattle.gramcheck.specs.Grammar.{Grammar}
 use Rattle.gramcheck.specs.Nodes.{Shape, Any, Bytes, Set, Name, Seq, Choice, Star, Plus, Opt, And, Not, Act, Open}
@@ -16,8 +17,9 @@ use Rattle.memo.specs.declared.spot.Spot.TheVariants.{Pair, Tail}
 use Rattle.packrat.specs.SpotGives.{SpotYields, joined}
 use Rattle.packrat.specs.Spots.{Kids}
 use Rattle.packrat.specs.declared.onward.Onward.{Onward}
-use Rattle.packrat.specs.declared.onward.Onward.TheVariants.{Gives, Same, Passes}
+use Rattle.packrat.specs.declared.onward.Onward.TheVariants.{Gives, Same, Passes, Enters}
 use Rattle.packrat.specs.declared.onward.Begun.{Begun}
+use Rattle.packrat.specs.declared.onward.Entering.{Entering}
 use Rattle.packrat.specs.declared.onward.Begun.TheVariants as begun
 use Rattle.packrat.specs.SpotSteps.{IsFirst}
 
@@ -36,6 +38,18 @@ HasMember (Not k) i = ⊥
 HasMember (Act t) i = ⊥
 HasMember Open i = ⊥
 HasMember Close i = ⊥
+
+-- the tail that is entered, and its first member
+abbrev pub tail_of : Entering → Spot
+tail_of e = Tail e.node e.index e.place
+
+abbrev pub member_of : Entering → Spot
+member_of e = Pair e.member e.place
+
+-- the tail of a node with these members, from this one on
+abbrev pub entering_of : ℕ → List ℕ → ℕ → ℕ → Entering
+entering_of n ms i p =
+    record { node = n; index = i; place = p; member = get_or ms i 0; only = i + 1 == length ms }
 
 module _ (g : Grammar) (x : List ℕ) where
   -- a spot of the grammar and the window
@@ -57,15 +71,20 @@ module _ (g : Grammar) (x : List ℕ) where
         × ((f : Found) (then : List Event) → SpotYields g x more b f then
         → SpotYields g x more a f (joined f first then))
 
+    -- a spot leads to k first; if k is its only one, it gives what k gives
+    abbrev pub IsLed : Bool → Spot → Spot → Type 0
+    IsLed false a k = IsFirst (rules_of g.rules) (shapes_of g.nodes) g.bodies x a k × IsWell k
+    IsLed true a k = IsFirst (rules_of g.rules) (shapes_of g.nodes) g.bodies x a k × IsWell k × PassesOn a (k ∷ []) k []
+
     abbrev pub AfterNone : Spot → Begun → Type 0
     AfterNone a (begun.Gives f) =
         Kids (rules_of g.rules) (shapes_of g.nodes) g.bodies x a [] × SpotYields g x more a f []
     AfterNone a (begun.Marks kept) = Kids (rules_of g.rules) (shapes_of g.nodes) g.bodies x a []
         × ((event : Event) × StandsFor (shapes_of g.nodes) kept event
         × SpotYields g x more a (Took (place_of a)) (event ∷ []))
-    AfterNone a (begun.Leads k) = IsFirst (rules_of g.rules) (shapes_of g.nodes) g.bodies x a k × IsWell k
-    AfterNone a (begun.Passes k) = IsFirst (rules_of g.rules) (shapes_of g.nodes) g.bodies x a k × IsWell k
-        × PassesOn a (k ∷ []) k []
+    AfterNone a (begun.Leads k) = IsLed false a k
+    AfterNone a (begun.Passes k) = IsLed true a k
+    AfterNone a (begun.Enters e) = IsLed true a (tail_of e) × IsLed e.only (tail_of e) (member_of e)
     AfterNone a begun.Need = ReachesEnd more a
 
     -- behind its first kid j, which gave this with these events
@@ -75,6 +94,8 @@ module _ (g : Grammar) (x : List ℕ) where
     AfterOne a j found events Same =
         Kids (rules_of g.rules) (shapes_of g.nodes) g.bodies x a (j ∷ []) × SpotYields g x more a found events
     AfterOne a j found events (Passes k) = PassesOn a (j ∷ (k ∷ [])) k events × IsWell k
+    AfterOne a j found events (Enters e) = (PassesOn a (j ∷ (tail_of e ∷ [])) (tail_of e) events × IsWell (tail_of e))
+        × IsLed e.only (tail_of e) (member_of e)
 
 -- what a comparison tells: what was found, unless it reached the last byte of a window behind which there is more
 abbrev pub IsLeaf : Tried → ℕ → Bool → Begun → Type 0
@@ -82,6 +103,7 @@ IsLeaf tried n more (begun.Gives f) = (f ≡ tried.found) × (more ≡ true → 
 IsLeaf tried n more (begun.Marks kept) = ⊥
 IsLeaf tried n more (begun.Leads k) = ⊥
 IsLeaf tried n more (begun.Passes k) = ⊥
+IsLeaf tried n more (begun.Enters e) = ⊥
 IsLeaf tried n more begun.Need = (more ≡ true) × (tried.looked ≡ n)
 
 -- how a spot begins that leads to k, if k is its only one or not

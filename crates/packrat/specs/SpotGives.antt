@@ -1,5 +1,5 @@
 -- What a spot gives.
-use Rattle.std.specs.Prelude.{◌≡◌, ℕ, Bool, true, List, [], ◌∷◌, ◌++◌, drop, get_or, slice_get, Some}
+use Rattle.std.specs.Prelude.{◌≡◌, ℕ, Bool, List, [], ◌∷◌, ◌++◌, drop, slice_get, Some}
 use Rattle.pegread.specs.PegViews.{rules_of}
 use Rattle.gramcheck.specs.Grammar.{Grammar}
 use Rattle.gramcheck.specs.Nodes.{Shape, Any, Bytes, Set, Name, Seq, Choice, Star, Plus, Opt, And, Not, Act, Open}
@@ -13,7 +13,6 @@ use Rattle.visits.specs.Visits.{NodeGives}
 use Rattle.memo.specs.declared.key_log.Stored.{Stored}
 use Rattle.memo.specs.declared.spot.Spot.{Spot}
 use Rattle.memo.specs.declared.spot.Spot.TheVariants.{Pair, Tail}
-use Rattle.gramcheck.specs.KeyLists.{Marks}
 use Rattle.memo.specs.Parts.{IsIn}
 
 -- the events of what came first and of what came then, where that is the outcome: a failure has none

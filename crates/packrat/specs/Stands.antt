@@ -1,5 +1,5 @@
 -- Where the loop stands on its way.
-use Rattle.std.specs.Prelude.{◌≡◌, ◌⊎◌, ℕ, ◌<◌, Bool, false, List, [], ◌∷◌, ◌++◌, Option, Some, None}
+use Rattle.std.specs.Prelude.{◌≡◌, ◌⊎◌, ℕ, ◌<◌, Bool, true, false, List, [], ◌∷◌, ◌++◌, Option, Some, None}
 use Rattle.pegread.specs.PegViews.{rules_of}
 use Rattle.gramcheck.specs.Grammar.{Grammar}
 use Rattle.gramcheck.specs.Nodes.{Shape, shapes_of}
@@ -15,8 +15,8 @@ use Rattle.memo.specs.Parts.{IsIn}
 use Rattle.gramcheck.specs.KeyLists.{Marks}
 use Rattle.memo.specs.declared.key_log.Stored.{Stored}
 use Rattle.memo.specs.declared.spot.Spot.{Spot}
-use Rattle.gramcheck.specs.KeyLists.{node_marks, tail_marks}
 use Rattle.packrat.specs.SpotGives.{SpotYields, IsQuiet}
+use Rattle.gramcheck.specs.KeyLists.{node_marks, tail_marks}
 use Rattle.memo.specs.KeyLog.{spots_of}
 use Rattle.memo.specs.Run.{Run, total}
 use Rattle.packrat.specs.Spots.{Kids, is_key}
@@ -27,7 +27,8 @@ use Rattle.packrat.specs.declared.frames.Wait.TheVariants.{First, Last}
 use Rattle.packrat.specs.declared.machine.Turn.{Turn}
 use Rattle.packrat.specs.declared.machine.Turn.TheVariants.{Ask, Answer}
 use Rattle.packrat.specs.MachineSteps.{Level, State, Asks, Works, start_at, store}
-use Rattle.packrat.specs.Onward.{IsWell, ReachesEnd, PassesOn}
+use Rattle.packrat.specs.Onward.{IsWell, ReachesEnd, PassesOn, tail_of, member_of}
+use Rattle.packrat.specs.declared.onward.Entering.{Entering}
 use Rattle.packrat.specs.TurnsLeft.{left}
 use Rattle.packrat.specs.SpotSteps.{IsFirst, SpotSteps}
 
@@ -64,6 +65,16 @@ IsWaitHead links (Last head) = IsHead links head
 abbrev pub AreWaiting : Bool → ℕ → Spot → List Frame → List Frame → Type 0
 AreWaiting key head a old new = (new ≡ record { spot = a; key = key; wait = Last head } ∷ old)
     ⊎ ((key ≡ false) × (head ≡ 0) × (new ≡ old))
+
+-- The frames of a tail that leads to its member: it has one, unless the member is its last one.
+abbrev pub entered : Bool → Spot → List Frame → List Frame
+entered true a ls = ls
+entered false a ls = record { spot = a; key = false; wait = First } ∷ ls
+
+-- The tail is a key, and is asked for; or its member is, and then the tail has begun.
+abbrev pub IsEntered : Marks → Entering → List Frame → List Frame → Spot → Type 0
+IsEntered marks e old new a = ((a ≡ tail_of e) × (new ≡ old))
+    ⊎ ((key_of marks (tail_of e) ≡ false) × (a ≡ member_of e) × (new ≡ entered e.only (tail_of e) old))
 
 module _ (g : Grammar) (x : List ℕ) (more : Bool) where
   -- a spot gives this, and its head keeps its events

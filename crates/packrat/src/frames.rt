@@ -1,5 +1,5 @@
 //! The frames of what is under way.
-ghost use Rattle.std.specs.Prelude.{◌≡◌, List, [], ◌∷◌, IfSome, IfNone, OnOk};
+ghost use Rattle.std.specs.Prelude.{◌≡◌, ◌<◌, List, [], ◌∷◌, IfSome, IfNone, OnOk, vec_capacity, vec_len};
 ghost use Rattle.packrat.specs.declared.frames.Frame.{Frame};
 
 use memo::Spot;
@@ -38,6 +38,28 @@ impl Model for Frames {
     ghost view = { λ m. reverse m.frames.items };
 }
 
+// Makes room for more frames.
+#[inline(never)]
+fn more_frames(frames: &mut Vec<Frame>) -> Result<(), Memory>
+    ensures items { frames.new.items ≡ frames.old.items }
+    ensures room { OnOk result (vec_len frames.new < vec_capacity frames.new) }
+{
+    frames.reserve(1)?;
+    Ok(())
+}
+
+// Makes room for one more frame.
+#[inline(always)]
+fn make_room(frames: &mut Vec<Frame>) -> Result<(), Memory>
+    ensures items { frames.new.items ≡ frames.old.items }
+    ensures room { OnOk result (vec_len frames.new < vec_capacity frames.new) }
+{
+    if frames.len() < frames.capacity() {
+        return Ok(());
+    }
+    more_frames(frames)
+}
+
 impl Frames {
     /// Returns an empty stack; it takes no memory.
     pub(crate) fn new(alloc: Global) -> Frames
@@ -59,14 +81,17 @@ impl Frames {
     ///
     /// # Errors
     /// `Memory` if an allocation fails.
+    #[inline(always)]
     pub(crate) fn push(&mut self, frame: Frame) -> Result<(), Memory>
         ensures { OnOk result (self.new ≡ frame ∷ self.old) }
     {
-        self.frames.push(frame)?;
+        make_room(&mut self.frames)?;
+        self.frames.push_reserved(frame);
         Ok(())
     }
 
     /// Takes the last frame off.
+    #[inline(always)]
     pub(crate) fn pop(&mut self) -> Option<Frame>
         ensures some { IfSome result (λ frame. self.old ≡ frame ∷ self.new) }
         ensures none { IfNone result (self.old ≡ []) }

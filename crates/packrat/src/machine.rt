@@ -2,26 +2,24 @@
 ghost use Rattle.std.specs.Prelude.{◌≡◌, ℕ, ◌+◌, ◌*◌, ◌<◌, ◌≤◌, Bool, true, List, [], ◌∷◌, length, slice_get, Some};
 ghost use Rattle.std.specs.Prelude.{IfOk, OnOk, IfSome, IfNone};
 ghost use Rattle.gramcheck.specs.Grammar.{HasKeys, IsSoundGrammar};
-ghost use Rattle.gramcheck.specs.Nodes.{shapes_of};
 ghost use Rattle.pegmatch.specs.Answers.{WasEnough};
 ghost use Rattle.eventlog.specs.EventLog.{IsHead, AreGrown};
 ghost use Rattle.eventlog.specs.declared.link.Link.{Link};
 ghost use Rattle.memo.specs.KeyLog.{spots_of};
 ghost use Rattle.memo.specs.Parts.{IsIn};
 ghost use Rattle.memo.specs.declared.spot.Spot.{Spot};
-ghost use Rattle.packrat.specs.TurnsLeft.{left, most_begun};
-ghost use Rattle.gramcheck.specs.KeyMarks.{AreMarks};
-ghost use Rattle.packrat.specs.Onward.{IsWell};
 ghost use Rattle.gramcheck.specs.KeyLists.{Marks};
+ghost use Rattle.packrat.specs.TurnsLeft.{left, most_begun};
+ghost use Rattle.packrat.specs.Onward.{IsWell};
 ghost use Rattle.packrat.specs.Stands.{Stands, IsClosed, AreOn, IsEvaluated, LowersLeft, key_of};
-ghost use Rattle.packrat.specs.Stands.{AreWaiting, IsWaitHead, IsJoined};
+ghost use Rattle.packrat.specs.Stands.{AreWaiting, IsWaitHead, IsEntered, IsJoined};
 ghost use Rattle.packrat.specs.View.{weight};
 ghost use Rattle.packrat.specs.declared.frames.Wait.{Wait};
 ghost use Rattle.packrat.specs.declared.machine.Turn.{Turn};
 
 use crate::frames::{Frame, Frames, Wait};
 use crate::keys::is_key;
-use crate::onward::{Begun, Onward, begin, go_on};
+use crate::onward::{Begun, Entering, Onward, begin, go_on};
 use eventlog::EventLog;
 use gramcheck::SoundPeg;
 use memo::{Found, Given, KeyLog, Spot};
@@ -45,6 +43,7 @@ pub(crate) struct Machine {
 }
 
 // Returns how many pairs are begun with this spot; there are no more than nodes at places.
+#[inline(always)]
 fn counted(nodes: usize, length: usize, begun: u128, spot: Spot) -> u128
     requires { begun ≤ nodes * (length + 1) }
     ensures { result ≡ begun + weight spot }
@@ -60,6 +59,7 @@ fn counted(nodes: usize, length: usize, begun: u128, spot: Spot) -> u128
 }
 
 // Returns what is stored for a spot, if it is a key and was evaluated.
+#[inline(always)]
 fn stored(log: &mut KeyLog, spot: Spot, key: bool) -> Result<Option<Given>, Memory>
     ensures some { IfOk result (λ found. IfSome found (λ g. (key ≡ true)
         × IsIn (record { spot = spot; given = g }) log.old.stored)) }
@@ -70,6 +70,7 @@ fn stored(log: &mut KeyLog, spot: Spot, key: bool) -> Result<Option<Given>, Memo
 }
 
 // Ends a spot that gives this: a key is stored.
+#[inline(always)]
 fn close(
     log: &mut KeyLog,
     peg: &SoundPeg,
@@ -92,6 +93,7 @@ fn close(
 
 // Waits for the last spot that a spot asks for, with the head of its events so far. A spot that is no key and has none
 // has no frame.
+#[inline(always)]
 fn wait_last(frames: &mut Frames, spot: Spot, key: bool, events: usize) -> Result<(), Memory>
     ensures { OnOk result (AreWaiting key events spot frames.old frames.new) }
 {
@@ -107,7 +109,35 @@ fn wait_last(frames: &mut Frames, spot: Spot, key: bool, events: usize) -> Resul
     })
 }
 
+// Enters a tail, and returns what is asked for then: a tail that is no key leads to its member at once, and has a frame
+// only if it has another member.
+#[inline(always)]
+fn enter(frames: &mut Frames, peg: &SoundPeg, entering: Entering) -> Result<Spot, Memory>
+    ensures { IfOk result (λ spot. IsEntered peg.now.keys entering frames.old frames.new spot) }
+{
+    let tail = Spot::Tail {
+        node: entering.node,
+        index: entering.index,
+        place: entering.place,
+    };
+    if is_key(peg, tail) {
+        return Ok(tail);
+    }
+    if !entering.only {
+        frames.push(Frame {
+            spot: tail,
+            key: false,
+            wait: Wait::First,
+        })?;
+    }
+    Ok(Spot::Pair {
+        node: entering.member,
+        place: entering.place,
+    })
+}
+
 // Returns what a spot gives whose last spot gives this, with the events of a head before its events.
+#[inline(always)]
 fn joined(events: &mut EventLog, first: usize, given: Given) -> Result<Given, Memory>
     requires first { IsHead events.old first }
     requires second { IsHead events.old given.events }
@@ -128,6 +158,7 @@ fn joined(events: &mut EventLog, first: usize, given: Given) -> Result<Given, Me
 
 impl Machine {
     // Begins a spot that is not stored, and goes down or gives something; none where the window is too short.
+    #[inline(always)]
     fn start_spot(
         &mut self,
         peg: &SoundPeg,
@@ -142,11 +173,11 @@ impl Machine {
         requires rows { self.old.log.rows ≡ length peg.now.nodes }
         requires few { self.old.begun ≤ most_begun peg.now window.now }
         ensures rows { OnOk result (self.new.log.rows ≡ length peg.now.nodes) }
-        ensures stands { (marks : Marks) (root : Spot) → key ≡ key_of marks spot →
+        ensures stands { (root : Spot) → key ≡ key_of peg.now.keys spot →
             (key ≡ true → IsIn spot (spots_of self.old.log.stored) → ⊥) →
-            Stands peg.now window.now more marks root (Turn.Ask spot) self.old.frames
+            Stands peg.now window.now more peg.now.keys root (Turn.Ask spot) self.old.frames
             self.old.log.stored self.old.events self.old.begun →
-            IfOk result (λ turn. AreOn peg.now window.now more marks root turn
+            IfOk result (λ turn. AreOn peg.now window.now more peg.now.keys root turn
             self.new.frames self.new.log.stored self.new.events self.new.begun) }
         ensures less { self.new.begun ≤ most_begun peg.now window.now → IfOk result (λ turn.
             LowersLeft peg.now window.now turn self.new.frames self.new.begun
@@ -179,11 +210,17 @@ impl Machine {
                 wait_last(&mut self.frames, spot, key, 0)?;
                 Ok(Some(Turn::Ask(kid)))
             }
+            Begun::Enters(entering) => {
+                wait_last(&mut self.frames, spot, key, 0)?;
+                let next = enter(&mut self.frames, peg, entering)?;
+                Ok(Some(Turn::Ask(next)))
+            }
             Begun::Need => Ok(None),
         }
     }
 
     // Evaluates a spot, or begins it and goes down; none where the window is too short.
+    #[inline(always)]
     fn ask(
         &mut self,
         peg: &SoundPeg,
@@ -213,6 +250,7 @@ impl Machine {
     }
 
     // Goes on with a frame that was the last one, and whose first spot gave this.
+    #[inline(always)]
     fn after_first(
         &mut self,
         peg: &SoundPeg,
@@ -225,14 +263,14 @@ impl Machine {
         requires well { IsWell peg.now window.now spot }
         requires rows { self.old.log.rows ≡ length peg.now.nodes }
         ensures rows { OnOk result (self.new.log.rows ≡ length peg.now.nodes) }
-        ensures stands { (more : Bool) → WasEnough window.now more 0 → (marks : Marks) (root : Spot) →
-            Stands peg.now window.now more marks root (Turn.Answer given)
+        ensures stands { (more : Bool) → WasEnough window.now more 0 → (root : Spot) →
+            Stands peg.now window.now more peg.now.keys root (Turn.Answer given)
             (record { spot = spot; key = key; wait = Wait.First } ∷ self.old.frames)
             self.old.log.stored self.old.events self.old.begun →
-            IfOk result (λ turn. Stands peg.now window.now more marks root turn
+            IfOk result (λ turn. Stands peg.now window.now more peg.now.keys root turn
             self.new.frames self.new.log.stored self.new.events self.new.begun) }
-        ensures less { (more : Bool) → WasEnough window.now more 0 → (marks : Marks) (root : Spot) →
-            Stands peg.now window.now more marks root (Turn.Answer given)
+        ensures less { (more : Bool) → WasEnough window.now more 0 → (root : Spot) →
+            Stands peg.now window.now more peg.now.keys root (Turn.Answer given)
             (record { spot = spot; key = key; wait = Wait.First } ∷ self.old.frames)
             self.old.log.stored self.old.events self.old.begun → IfOk result (λ turn.
             left peg.now window.now turn self.new.frames self.new.begun
@@ -253,10 +291,16 @@ impl Machine {
                 wait_last(&mut self.frames, spot, key, given.events)?;
                 Ok(Turn::Ask(kid))
             }
+            Onward::Enters(entering) => {
+                wait_last(&mut self.frames, spot, key, given.events)?;
+                let next = enter(&mut self.frames, peg, entering)?;
+                Ok(Turn::Ask(next))
+            }
         }
     }
 
     // Goes on with a frame that was the last one, and whose spot gave this.
+    #[inline(always)]
     fn resume(
         &mut self,
         peg: &SoundPeg,
@@ -270,13 +314,13 @@ impl Machine {
         requires first { IsWaitHead self.old.events frame.wait }
         requires second { IsHead self.old.events given.events }
         ensures rows { OnOk result (self.new.log.rows ≡ length peg.now.nodes) }
-        ensures stands { (more : Bool) → WasEnough window.now more 0 → (marks : Marks) (root : Spot) →
-            Stands peg.now window.now more marks root (Turn.Answer given) (frame ∷ self.old.frames)
+        ensures stands { (more : Bool) → WasEnough window.now more 0 → (root : Spot) →
+            Stands peg.now window.now more peg.now.keys root (Turn.Answer given) (frame ∷ self.old.frames)
             self.old.log.stored self.old.events self.old.begun →
-            IfOk result (λ turn. Stands peg.now window.now more marks root turn
+            IfOk result (λ turn. Stands peg.now window.now more peg.now.keys root turn
             self.new.frames self.new.log.stored self.new.events self.new.begun) }
-        ensures less { (more : Bool) → WasEnough window.now more 0 → (marks : Marks) (root : Spot) →
-            Stands peg.now window.now more marks root (Turn.Answer given)
+        ensures less { (more : Bool) → WasEnough window.now more 0 → (root : Spot) →
+            Stands peg.now window.now more peg.now.keys root (Turn.Answer given)
             (frame ∷ self.old.frames) self.old.log.stored self.old.events self.old.begun → IfOk result (λ turn.
             left peg.now window.now turn self.new.frames self.new.begun
             < left peg.now window.now (Turn.Answer given) (frame ∷ self.old.frames) self.old.begun) }

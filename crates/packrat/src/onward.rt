@@ -6,7 +6,7 @@ ghost use Rattle.gramcheck.specs.Nodes.{shapes_of};
 ghost use Rattle.gramcheck.specs.Outcome.{Event};
 ghost use Rattle.pegmatch.specs.Answers.{WasEnough};
 ghost use Rattle.memo.specs.declared.spot.Spot.{Spot};
-ghost use Rattle.packrat.specs.Onward.{IsWell, AfterNone, AfterOne, IsLeaf, led_to};
+ghost use Rattle.packrat.specs.Onward.{IsWell, AfterNone, AfterOne, IsLeaf, led_to, entering_of};
 ghost use Rattle.packrat.specs.SpotGives.{SpotYields};
 ghost use Rattle.packrat.specs.SpotSteps.{IsFirst};
 
@@ -14,28 +14,56 @@ use gramcheck::{Node, SoundPeg};
 use memo::{Found, Spot};
 use pegmatch::{Kept, Tried, match_any, match_bytes, match_set};
 
+/// The tail of a node from a member on, at a place, with that member, and whether it is the last one.
+#[derive(Clone, Copy, PartialEq, Eq, Debug)]
+pub(crate) struct Entering {
+    pub(crate) node: usize,
+    pub(crate) index: usize,
+    pub(crate) place: usize,
+    pub(crate) member: usize,
+    pub(crate) only: bool,
+}
+
 /// How a spot begins: it gives something without events; or takes nothing, and leaves an event behind; or leads to
-/// another spot; or to its only one, and passes on what that one gives; or its comparison reaches the last byte of a
-/// window behind which there is more.
+/// another spot; or to its only one, or to a tail that is its only one, and passes on what that one gives; or its
+/// comparison reaches the last byte of a window behind which there is more.
 #[derive(Clone, Copy, PartialEq, Eq, Debug)]
 pub(crate) enum Begun {
     Gives(Found),
     Marks(Kept),
     Leads(Spot),
     Passes(Spot),
+    Enters(Entering),
     Need,
 }
 
-/// How a spot goes on: it gives something without events; or the same as its first one; or it leads to its last one,
-/// and gives what that one gives, with the events of its first one before those.
+/// How a spot goes on: it gives something without events; or the same as its first one; or it leads to its last one, or
+/// to a tail that is its last one, and gives what that one gives, with the events of its first one before those.
 #[derive(Clone, Copy, PartialEq, Eq, Debug)]
 pub(crate) enum Onward {
     Gives(Found),
     Same,
     Passes(Spot),
+    Enters(Entering),
+}
+
+// Returns the tail of a node with these members, from this one on.
+#[inline(always)]
+fn tail_from(node: usize, members: &[usize], index: usize, place: usize) -> Entering
+    requires { index < length members.now }
+    ensures { result ≡ entering_of node members.now index place }
+{
+    Entering {
+        node,
+        index,
+        place,
+        member: members[index],
+        only: index + 1 == members.len(),
+    }
 }
 
 // Returns what was tried, if its comparison does not reach the last byte of a window behind which there is more.
+#[inline(always)]
 fn leaf(tried: Tried, length: usize, more: bool) -> Begun
     ensures { IsLeaf tried length more result }
 {
@@ -48,6 +76,7 @@ fn leaf(tried: Tried, length: usize, more: bool) -> Begun
 }
 
 // How a node begins at a place.
+#[inline(always)]
 fn begin_node(peg: &SoundPeg, window: &[u8], more: bool, node: usize, place: usize) -> Begun
     requires some { WasEnough window.now more 0 }
     requires sound { IsSoundGrammar peg.now }
@@ -66,22 +95,14 @@ fn begin_node(peg: &SoundPeg, window: &[u8], more: bool, node: usize, place: usi
             if members.is_empty() {
                 Begun::Gives(Found::Took(place))
             } else {
-                Begun::Passes(Spot::Tail {
-                    node,
-                    index: 0,
-                    place,
-                })
+                Begun::Enters(tail_from(node, members, 0, place))
             }
         }
         Node::Choice(alternatives) => {
             if alternatives.is_empty() {
                 Begun::Gives(Found::Failed)
             } else {
-                Begun::Passes(Spot::Tail {
-                    node,
-                    index: 0,
-                    place,
-                })
+                Begun::Enters(tail_from(node, alternatives, 0, place))
             }
         }
         Node::Star(operand) => Begun::Leads(Spot::Pair {
@@ -111,6 +132,7 @@ fn begin_node(peg: &SoundPeg, window: &[u8], more: bool, node: usize, place: usi
 }
 
 // How a spot begins that leads to this one, and that passes on what this one gives if this is its only one.
+#[inline(always)]
 fn led(only: bool, kid: Spot) -> Begun
     ensures { result ≡ led_to only kid }
 {
@@ -122,6 +144,7 @@ fn led(only: bool, kid: Spot) -> Begun
 }
 
 // How the tail of a node, from the member of that index on, begins at a place.
+#[inline(always)]
 fn begin_tail(
     peg: &SoundPeg,
     window: &[u8],
@@ -155,6 +178,7 @@ fn begin_tail(
 }
 
 /// Returns how a spot begins: what it gives at once, or what it asks for first.
+#[inline(always)]
 pub(crate) fn begin(peg: &SoundPeg, window: &[u8], more: bool, spot: Spot) -> Begun
     requires some { WasEnough window.now more 0 }
     requires sound { IsSoundGrammar peg.now }
@@ -168,6 +192,7 @@ pub(crate) fn begin(peg: &SoundPeg, window: &[u8], more: bool, spot: Spot) -> Be
 }
 
 // How a node goes on at a place whose first kid gave this.
+#[inline(always)]
 fn go_on_node(peg: &SoundPeg, window: &[u8], node: usize, place: usize, found: Found) -> Onward
     requires sound { IsSoundGrammar peg.now }
     requires well { IsWell peg.now window.now (Spot.Pair node place) }
@@ -213,6 +238,7 @@ fn go_on_node(peg: &SoundPeg, window: &[u8], node: usize, place: usize, found: F
 }
 
 // How a tail goes on at a place whose member gave this.
+#[inline(always)]
 fn go_on_tail(
     peg: &SoundPeg,
     window: &[u8],
@@ -233,11 +259,7 @@ fn go_on_tail(
             Found::Failed => Onward::Gives(Found::Failed),
             Found::Took(end) => {
                 if index + 1 < members.len() {
-                    Onward::Passes(Spot::Tail {
-                        node,
-                        index: index + 1,
-                        place: end,
-                    })
+                    Onward::Enters(tail_from(node, members, index + 1, end))
                 } else {
                     Onward::Same
                 }
@@ -247,11 +269,7 @@ fn go_on_tail(
             Found::Took(_) => Onward::Same,
             Found::Failed => {
                 if index + 1 < alternatives.len() {
-                    Onward::Passes(Spot::Tail {
-                        node,
-                        index: index + 1,
-                        place,
-                    })
+                    Onward::Enters(tail_from(node, alternatives, index + 1, place))
                 } else {
                     Onward::Gives(Found::Failed)
                 }
@@ -262,6 +280,7 @@ fn go_on_tail(
 }
 
 /// Returns how a spot goes on whose first kid gave this.
+#[inline(always)]
 pub(crate) fn go_on(peg: &SoundPeg, window: &[u8], spot: Spot, found: Found) -> Onward
     requires sound { IsSoundGrammar peg.now }
     requires well { IsWell peg.now window.now spot }

@@ -121,9 +121,9 @@ impl Packrat {
 }
 
 impl Matcher for Packrat {
-    ghost holds = { λ m g x events. Holds m g x events };
+    ghost holds = { λ d g x events. Holds d g x events };
 
-    /// Returns what the start rule gives at the front of the window (Ford 2004, section 3.3). If it is not `Need`,
+    /// Returns what the start rule gives at the front of the window. If it is not `Need`,
     /// exactly the keys that are reached are stored, each once and with its outcome; the cells that they imply are
     /// exactly the pairs that are visited, each with its outcome and once; and as many were begun.
     ///

@@ -68,8 +68,10 @@ returns-else-is_empty c =
     let not_none : length c.in-Seq.members.items ≡ 0 → ⊥ = let more = L.empty_not _ _ c.is_empty.ensures
     c.if-is_empty.false in (λ h. more (omega (arith, h))) in
     let some : 0 < length c.in-Seq.members.items = M.some_of c.in-Seq.members.items not_none in
-    M.members_led c.args.peg.now c.args.window.now c.args.more c.requires.some c.requires.sound c.args.node c.args.place
-    c.in-Seq.members.items well some here
+    rw (c.tail_from.ensures, c.deref-else-is_empty.ensures.value)
+    (M.members_enter c.args.peg.now c.args.window.now c.args.more c.requires.some c.requires.sound c.args.node
+    c.args.place
+    c.in-Seq.members.items well some here)
 
 pub returns-then-is_empty-2 : goal.returns-then-is_empty-2
 returns-then-is_empty-2 c =
@@ -99,8 +101,10 @@ returns-else-is_empty-2 c =
     let not_none : length c.in-Choice.alternatives.items ≡ 0 → ⊥ = let more = L.empty_not _ _
     c.is_empty-in-Choice.ensures c.if-is_empty-2.false in (λ h. more (omega (arith, h))) in
     let some : 0 < length c.in-Choice.alternatives.items = M.some_of c.in-Choice.alternatives.items not_none in
-    M.alternatives_led c.args.peg.now c.args.window.now c.args.more c.requires.some c.requires.sound c.args.node c.args.place
-    c.in-Choice.alternatives.items well some here
+    rw (c.tail_from-else-is_empty-2.ensures, c.deref-else-is_empty-2.ensures.value)
+    (M.alternatives_enter c.args.peg.now c.args.window.now c.args.more c.requires.some c.requires.sound c.args.node
+    c.args.place
+    c.in-Choice.alternatives.items well some here)
 
 pub returns-in-Star : goal.returns-in-Star
 returns-in-Star c =

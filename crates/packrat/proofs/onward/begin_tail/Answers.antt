@@ -30,14 +30,17 @@ returns-in-Choice c =
     let here = shape_at c.args.peg.now.nodes c.args.node _ (c.node.ensures ∙ ap Some c.in-Choice.is) in
     let well = c.requires.well in
     let same : well.2.0 ≡ shape.Choice c.in-Choice.alternatives.items = cc (well.2.1, here) in
-    let lt : c.args.index < length c.in-Choice.alternatives.items = subst (λ v. HasMember v c.args.index) same well.2.2 in
+    let lt : c.args.index < length c.in-Choice.alternatives.items = subst (λ v. HasMember v c.args.index) same
+    well.2.2 in
     let there : slice_get c.in-Choice.alternatives.items c.args.index ≡ Some c.index-in-Choice.result.now =
-    slice_get_read c.in-Choice.alternatives.items (length c.in-Choice.alternatives.items) c.args.index c.index-in-Choice.result.now refl lt
+    slice_get_read c.in-Choice.alternatives.items (length c.in-Choice.alternatives.items) c.args.index
+    c.index-in-Choice.result.now refl lt
     c.index-in-Choice.ensures in
     subst (AfterNone c.args.peg.now c.args.window.now c.args.more (Tail c.args.node c.args.index c.args.place))
     (sym c.led-in-Choice.ensures)
     (M.choice_led c.args.peg.now c.args.window.now c.args.more c.requires.some c.requires.sound c.args.node c.args.index
-    c.args.place c.index-in-Choice.result.now c.in-Choice.alternatives.items there well (c.args.index + 1 == c.len-in-Choice.result)
+    c.args.place c.index-in-Choice.result.now c.in-Choice.alternatives.items there well (c.args.index + 1 ==
+    c.len-in-Choice.result)
     (ap (λ v. c.args.index + 1 == v) (c.len-in-Choice.ensures ∙ c.in-Choice.alternatives.ok.0)) here)
 
 pub returns-in_default : goal.returns-in_default

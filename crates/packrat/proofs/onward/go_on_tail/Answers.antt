@@ -18,9 +18,10 @@ pub returns-then-index-len : goal.returns-then-index-len
 returns-then-index-len c = λ more some.
     let here = shape_at c.args.peg.now.nodes c.args.node _ (c.node.ensures ∙ ap Some c.in-Seq.is) in
     let well = c.requires.well in
-    let lt : suc c.args.index < length c.in-Seq.members.items = omega (arith, c.len.ensures, c.if-index-len.true) in
+    let lt : c.args.index + 1 < length c.in-Seq.members.items = omega (arith, c.len.ensures, c.if-index-len.true) in
     let same : suc c.args.index ≡ c.args.index + 1 = omega arith in
-    (M.member_more c.args.peg.now c.args.window.now more some c.requires.sound c.args.node c.args.index c.args.place
+    rw (c.tail_from.ensures, c.deref.ensures.value)
+    (M.member_enters c.args.peg.now c.args.window.now more some c.requires.sound c.args.node c.args.index c.args.place
     c.in-Seq.members.items c.args.found well c.in-Took.end (c.args.index + 1) same here c.in-Took.is lt)
 
 pub returns-else-index-len : goal.returns-else-index-len
@@ -42,13 +43,14 @@ pub returns-then-index-len-2 : goal.returns-then-index-len-2
 returns-then-index-len-2 c = λ more some.
     let here = shape_at c.args.peg.now.nodes c.args.node _ (c.node.ensures ∙ ap Some c.in-Choice.is) in
     let well = c.requires.well in
-    let lt : suc c.args.index < length c.in-Choice.alternatives.items = omega (
+    let lt : c.args.index + 1 < length c.in-Choice.alternatives.items = omega (
       arith,
       c.len-in-Failed-found.ensures,
       c.if-index-len-2.true,
     ) in
     let same : suc c.args.index ≡ c.args.index + 1 = omega arith in
-    (M.other_more c.args.peg.now c.args.window.now more some c.requires.sound c.args.node c.args.index c.args.place
+    rw (c.tail_from-then-index-len-2.ensures, c.deref-then-index-len-2.ensures.value)
+    (M.other_enters c.args.peg.now c.args.window.now more some c.requires.sound c.args.node c.args.index c.args.place
     c.in-Choice.alternatives.items c.args.found well (c.args.index + 1) same here c.in-Failed-found.is lt)
 
 pub returns-else-index-len-2 : goal.returns-else-index-len-2

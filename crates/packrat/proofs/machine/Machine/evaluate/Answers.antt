@@ -25,7 +25,8 @@ ask-requires-clause-few c =
 
 pub turns-smaller-in-Some : goal.turns-smaller-in-Some
 turns-smaller-in-Some c =
-    let stands = L.stands_as c.args.peg.now c.args.window.now c.args.more c.args.peg.now.keys c.in-Ask.is refl refl refl refl c.turns.invariant.stands in
+    let stands = L.stands_as c.args.peg.now c.args.window.now c.args.more c.args.peg.now.keys c.in-Ask.is refl refl refl
+    refl c.turns.invariant.stands in
     let on : AreOn c.args.peg.now c.args.window.now c.args.more c.args.peg.now.keys (Pair c.args.root 0)
     (Some c.in-Some.next) c.ask.new.self.frames c.ask.new.self.log.stored c.ask.new.self.events c.ask.new.self.begun =
     subst (λ v. AreOn c.args.peg.now c.args.window.now c.args.more c.args.peg.now.keys (Pair c.args.root 0) v
@@ -45,14 +46,16 @@ turns-smaller-in-Some c =
 
 pub returns-in-None : goal.returns-in-None
 returns-in-None c =
-    let stands = L.stands_as c.args.peg.now c.args.window.now c.args.more c.args.peg.now.keys c.in-Ask.is refl refl refl refl c.turns.invariant.stands in
+    let stands = L.stands_as c.args.peg.now c.args.window.now c.args.more c.args.peg.now.keys c.in-Ask.is refl refl refl
+    refl c.turns.invariant.stands in
     subst (λ v. AreOn c.args.peg.now c.args.window.now c.args.more c.args.peg.now.keys (Pair c.args.root 0) v
     c.ask.new.self.frames c.ask.new.self.log.stored c.ask.new.self.events c.ask.new.self.begun) c.in-None.is
     (c.in_ok-next-in-Ask.ensures.stands (Pair c.args.root 0) stands)
 
 pub returns-in-None-pop : goal.returns-in-None-pop
 returns-in-None-pop c =
-    let stands = L.stands_as c.args.peg.now c.args.window.now c.args.more c.args.peg.now.keys c.in-Answer.is c.in-None-pop.ensures.none refl refl refl c.turns.invariant.stands in
+    let stands = L.stands_as c.args.peg.now c.args.window.now c.args.more c.args.peg.now.keys c.in-Answer.is
+    c.in-None-pop.ensures.none refl refl refl c.turns.invariant.stands in
     record {
       keys = c.turns.invariant.stands.given;
       gives = L.end_gives c.args.peg.now c.args.window.now c.args.more c.args.peg.now.keys (Pair c.args.root 0)
@@ -64,29 +67,36 @@ returns-in-None-pop c =
 
 pub turns-smaller : goal.turns-smaller
 turns-smaller c =
-    let stands = L.stands_as c.args.peg.now c.args.window.now c.args.more c.args.peg.now.keys c.in-Answer.is c.in-Some-pop.ensures.some refl refl refl c.turns.invariant.stands in
+    let stands = L.stands_as c.args.peg.now c.args.window.now c.args.more c.args.peg.now.keys c.in-Answer.is
+    c.in-Some-pop.ensures.some refl refl refl c.turns.invariant.stands in
     subst (λ v. left c.args.peg.now c.args.window.now c.in_ok-turn-in-Some-pop.turn c.resume.new.self.frames
     c.resume.new.self.begun < left c.args.peg.now c.args.window.now v c.turns.self.frames c.turns.self.begun)
     (sym c.in-Answer.is)
     (subst (λ v. left c.args.peg.now c.args.window.now c.in_ok-turn-in-Some-pop.turn c.resume.new.self.frames
     c.resume.new.self.begun < left c.args.peg.now c.args.window.now (Answer c.in-Answer.given) v
     c.turns.self.begun) (sym c.in-Some-pop.ensures.some)
-    (c.in_ok-turn-in-Some-pop.ensures.less c.args.more c.requires.some c.args.peg.now.keys (Pair c.args.root 0) stands))
+    (c.in_ok-turn-in-Some-pop.ensures.less c.args.more c.requires.some (Pair c.args.root 0) stands))
 
 pub resume-requires-clause-well : goal.resume-requires-clause-well
 resume-requires-clause-well c =
-    L.level_well c.args.peg.now c.args.window.now c.args.more c.args.peg.now.keys (Pair c.args.root 0) c.in-Some-pop.frame c.in-Answer.given c.pop.new.self
+    L.level_well c.args.peg.now c.args.window.now c.args.more c.args.peg.now.keys (Pair c.args.root 0)
+    c.in-Some-pop.frame c.in-Answer.given c.pop.new.self
     c.turns.self.log.stored c.turns.self.events c.turns.self.begun
-    (L.stands_as c.args.peg.now c.args.window.now c.args.more c.args.peg.now.keys c.in-Answer.is c.in-Some-pop.ensures.some refl refl refl c.turns.invariant.stands)
+    (L.stands_as c.args.peg.now c.args.window.now c.args.more c.args.peg.now.keys c.in-Answer.is
+    c.in-Some-pop.ensures.some refl refl refl c.turns.invariant.stands)
 
 pub resume-requires-clause-first : goal.resume-requires-clause-first
 resume-requires-clause-first c =
-    L.level_head c.args.peg.now c.args.window.now c.args.more c.args.peg.now.keys (Pair c.args.root 0) c.in-Some-pop.frame c.in-Answer.given c.pop.new.self
+    L.level_head c.args.peg.now c.args.window.now c.args.more c.args.peg.now.keys (Pair c.args.root 0)
+    c.in-Some-pop.frame c.in-Answer.given c.pop.new.self
     c.turns.self.log.stored c.turns.self.events c.turns.self.begun
-    (L.stands_as c.args.peg.now c.args.window.now c.args.more c.args.peg.now.keys c.in-Answer.is c.in-Some-pop.ensures.some refl refl refl c.turns.invariant.stands)
+    (L.stands_as c.args.peg.now c.args.window.now c.args.more c.args.peg.now.keys c.in-Answer.is
+    c.in-Some-pop.ensures.some refl refl refl c.turns.invariant.stands)
 
 pub resume-requires-clause-second : goal.resume-requires-clause-second
 resume-requires-clause-second c =
-    L.given_head c.args.peg.now c.args.window.now c.args.more c.args.peg.now.keys (Pair c.args.root 0) c.in-Answer.given (c.in-Some-pop.frame ∷ c.pop.new.self)
+    L.given_head c.args.peg.now c.args.window.now c.args.more c.args.peg.now.keys (Pair c.args.root 0) c.in-Answer.given
+    (c.in-Some-pop.frame ∷ c.pop.new.self)
     c.turns.self.log.stored c.turns.self.events c.turns.self.begun
-    (L.stands_as c.args.peg.now c.args.window.now c.args.more c.args.peg.now.keys c.in-Answer.is c.in-Some-pop.ensures.some refl refl refl c.turns.invariant.stands)
+    (L.stands_as c.args.peg.now c.args.window.now c.args.more c.args.peg.now.keys c.in-Answer.is
+    c.in-Some-pop.ensures.some refl refl refl c.turns.invariant.stands)

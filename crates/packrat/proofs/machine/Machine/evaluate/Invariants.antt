@@ -7,7 +7,8 @@ use Rattle.packrat.proofs.machine.Machine.evaluate.Given as goal
 abbrev pub invariant-turns : goal.invariant-turns
 invariant-turns l = record {
   rows : l.self.log.rows ≡ length l.peg.nodes;
-  stands : Stands l.peg l.window l.more l.peg.keys (Pair l.fn.root 0) l.turn l.self.frames l.self.log.stored l.self.events
+  stands : Stands l.peg l.window l.more l.peg.keys (Pair l.fn.root 0) l.turn l.self.frames l.self.log.stored
+      l.self.events
       l.self.begun;
 }
 

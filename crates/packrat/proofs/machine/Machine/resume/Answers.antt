@@ -7,28 +7,28 @@ use Rattle.packrat.proofs.LeftLemmas as M
 use Rattle.packrat.proofs.machine.Machine.resume.Goals as goal
 
 pub returns-in-First-clause-less : goal.returns-in-First-clause-less
-returns-in-First-clause-less c = λ more some marks root.
-    subst (λ v. Stands c.args.peg.now c.args.window.now more marks root (Answer c.args.given)
+returns-in-First-clause-less c = λ more some root.
+    subst (λ v. Stands c.args.peg.now c.args.window.now more c.args.peg.now.keys root (Answer c.args.given)
     (record { spot = c.args.frame.spot; key = c.args.frame.key; wait = v } ∷ c.args.self.now.frames)
     c.args.self.now.log.stored c.args.self.now.events c.args.self.now.begun → IfOk c.after_first.result (λ turn.
     left c.args.peg.now c.args.window.now turn c.after_first.new.self.frames c.after_first.new.self.begun
     < left c.args.peg.now c.args.window.now (Answer c.args.given)
     (record { spot = c.args.frame.spot; key = c.args.frame.key; wait = v } ∷ c.args.self.now.frames)
-    c.args.self.now.begun)) (sym c.in-First.is) (c.after_first.ensures.less more some marks root)
+    c.args.self.now.begun)) (sym c.in-First.is) (c.after_first.ensures.less more some root)
 
 pub returns-in_ok-close-in-Last-clause-stands : goal.returns-in_ok-close-in-Last-clause-stands
-returns-in_ok-close-in-Last-clause-stands c = λ more some marks root s.
-    L.stands_last c.args.peg.now c.args.window.now more marks root c.args.frame.spot c.args.given
+returns-in_ok-close-in-Last-clause-stands c = λ more some root s.
+    L.stands_last c.args.peg.now c.args.window.now more c.args.peg.now.keys root c.args.frame.spot c.args.given
     c.args.self.now.frames c.args.self.now.log.stored c.args.self.now.events c.args.self.now.begun c.args.frame.key
     c.in-Last.first
-    (subst (λ v. Stands c.args.peg.now c.args.window.now more marks root (Answer c.args.given)
+    (subst (λ v. Stands c.args.peg.now c.args.window.now more c.args.peg.now.keys root (Answer c.args.given)
     (record { spot = c.args.frame.spot; key = c.args.frame.key; wait = v } ∷ c.args.self.now.frames)
     c.args.self.now.log.stored c.args.self.now.events c.args.self.now.begun) c.in-Last.is s)
     c.joined.new.events c.in_ok-all-in-Last.all c.close.new.log.stored c.in_ok-all-in-Last.ensures.grown
     c.in_ok-all-in-Last.ensures.joined
-    (c.in_ok-close-in-Last.ensures.closed more marks c.joined.new.events)
+    (c.in_ok-close-in-Last.ensures.closed more c.args.peg.now.keys c.joined.new.events)
 
 pub returns-in_ok-close-in-Last-clause-less : goal.returns-in_ok-close-in-Last-clause-less
-returns-in_ok-close-in-Last-clause-less c = λ more some marks root s.
+returns-in_ok-close-in-Last-clause-less c = λ more some root s.
     M.less_up c.args.peg.now c.args.window.now c.args.frame c.in_ok-all-in-Last.all c.args.given
     c.args.self.now.frames c.args.self.now.begun
