@@ -1,5 +1,5 @@
 -- Nodes whose outcome at a place is decided by the byte there alone.
-use Rattle.std.specs.Prelude.{◌≡◌, ℕ, zero, suc, ◌+◌, Bool, true, false, List, [], ◌∷◌, slice_get, get_or}
+use Rattle.std.specs.Prelude.{◌≡◌, ℕ, zero, suc, ◌+◌, Bool, true, false, List, [], ◌∷◌, slice_get}
 use Rattle.std.specs.Prelude.{Some, None}
 use Rattle.gramcheck.specs.Nodes.{Shape, Any, Bytes, Set, Name, Seq, Choice, Star, Plus, Opt, And, Not}
 use Rattle.gramcheck.specs.declared.by_byte.Verdict.{Verdict}
@@ -68,11 +68,3 @@ module _ (nodes : List Shape) (bodies x : List ℕ) (marks : ℕ → Bool) (tail
     turns_none : AreTurns k a zero zero
     turns_more : {n c d b : ℕ} → AreTurns k a n c → slice_get x (a + n) ≡ Some b
         → ByByte nodes bodies marks tails b k Takes d → AreTurns k a (suc n) (c + (1 + d))
-
--- the marks of a list; what has none is marked
-abbrev pub mark_in : List Bool → ℕ → Bool
-mark_in marks n = get_or marks n true
-
--- likewise of the tails of a node
-abbrev pub tail_in : List Bool → ℕ → ℕ → Bool
-tail_in marks n i = get_or marks n true

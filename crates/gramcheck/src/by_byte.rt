@@ -1,11 +1,13 @@
 //! Nodes whose outcome at a place is decided by the byte there alone.
 ghost use Rattle.std.specs.Prelude.{◌≡◌, ℕ, ◌+◌, Bool, List, IfSome, slice_get, Some, get_or, false};
-ghost use Rattle.gramcheck.specs.ByByte.{ByByte, mark_in};
+ghost use Rattle.gramcheck.specs.ByByte.{ByByte};
 ghost use Rattle.gramcheck.specs.Decides.{Decides, DecidesBelow, DecidesShape, DecidesMembers, DecidesAlternatives};
-ghost use Rattle.gramcheck.specs.Nodes.{Shape, Bytes, Set, Name, Star, Plus, Opt, And, Not, shape_of, shapes_of};
+ghost use Rattle.gramcheck.specs.Nodes.{Shape, Bytes, Set, Name, Seq, Choice, Star, Plus, Opt, And, Not};
+ghost use Rattle.gramcheck.specs.Nodes.{shape_of, shapes_of};
 ghost use Rattle.gramcheck.specs.declared.by_byte.MarkedNodes.{MarkedNodes};
 ghost use Rattle.gramcheck.specs.declared.by_byte.Verdict.{Verdict};
 
+use crate::keys::{is_key_of_members, mark_or};
 use crate::node::Node;
 use ruletable::ByteSet;
 
@@ -27,28 +29,18 @@ pub struct Decided {
     pub count: u32,
 }
 
-/// Numbered nodes, of each rule the node of its body, and marks of the keys among the nodes and of those whose tails
-/// are keys. What has no mark is a key.
+/// Numbered nodes, of each rule the node of its body, and marks of the keys among the nodes and of those behind which
+/// the tails of sequences are keys. What has no mark is a key.
 #[derive(Clone, Copy)]
 pub struct MarkedNodes<'a> {
     pub nodes: &'a [Node],
     pub bodies: &'a [usize],
     pub keys: &'a [bool],
-    pub tails: &'a [bool],
+    pub behind: &'a [bool],
 }
 
 // how deep a node is looked into
 const MOST_LEVELS: usize = 40;
-
-// Returns the mark of a node; one without a mark counts as marked.
-fn is_marked(marks: &[bool], n: usize) -> bool
-    ensures { result ≡ mark_in marks.now n }
-{
-    match marks.get(n) {
-        Some(mark) => *mark,
-        None => true,
-    }
-}
 
 // Returns the node of that number.
 fn node_at(nodes: &[Node], n: usize) -> Option<&Node>
@@ -170,7 +162,7 @@ fn over_plus(operand: Decided) -> Option<Decided>
 fn below(grammar: &MarkedNodes<'_>, n: usize, b: u8, levels: usize) -> Option<Decided>
     ensures { IfSome result (λ d. DecidesBelow grammar.now b n d) }
 {
-    if levels == 0 || is_marked(grammar.keys, n) {
+    if levels == 0 || mark_or(grammar.keys, n, true) {
         return None;
     }
     by_node(grammar, n, b, levels - 1)
@@ -185,11 +177,12 @@ fn by_members(
     b: u8,
     levels: usize,
 ) -> Option<Decided>
+    requires { slice_get (shapes_of grammar.now.nodes.now) n ≡ Some (Seq members.now) }
     ensures { IfSome result (λ d. DecidesMembers grammar.now b n members.now d) }
 {
     let mut count = 0;
     for i in 0..members.len() {
-        if is_marked(grammar.tails, n) {
+        if is_key_of_members(members, grammar.behind, i) {
             return None;
         }
         let member = below(grammar, members[i], b, levels)?;
@@ -218,13 +211,11 @@ fn by_alternatives(
     b: u8,
     levels: usize,
 ) -> Option<Decided>
+    requires { slice_get (shapes_of grammar.now.nodes.now) n ≡ Some (Choice alternatives.now) }
     ensures { IfSome result (λ d. DecidesAlternatives grammar.now b n alternatives.now d) }
 {
     let mut count = 0;
     for i in 0..alternatives.len() {
-        if is_marked(grammar.tails, n) {
-            return None;
-        }
         let alternative = below(grammar, alternatives[i], b, levels)?;
         let sum = summed(alternative.verdict, count, alternative.count)?;
         match alternative.verdict {
