@@ -37,6 +37,7 @@ pub mod RuleNameLemmas
 pub mod RunTablesLemmas
 pub mod ShorterInputLemmas
 pub mod SomeOutcomeLemmas
+pub mod StarTablesLemmas
 pub mod StartRuleLemmas
 pub mod StepsToBodyLemmas
 pub mod UsesLemmas

@@ -22,6 +22,7 @@ pub mod Printing
 pub mod Ranks
 pub mod Rising
 pub mod RunTables
+pub mod StarTables
 pub mod Slots
 pub mod Sound
 pub mod Templates

@@ -17,6 +17,7 @@ mod number;
 mod printing;
 mod ranked_laws;
 mod run_table;
+mod star_tables;
 mod sound;
 mod template;
 mod uses;

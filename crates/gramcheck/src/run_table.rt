@@ -1,5 +1,5 @@
 //! Tables of what each byte decides of a node, and runs of bytes that it takes.
-ghost use Rattle.std.specs.Prelude.{◌≡◌, ◌<◌, ◌≤◌, length, IfOk, IfSome, slice_get, true, Some};
+ghost use Rattle.std.specs.Prelude.{◌≡◌, ◌↔◌, ◌<◌, ◌≤◌, ℕ, length, IfOk, IfSome, slice_get, true, Some};
 ghost use Rattle.gramcheck.specs.Decides.{mark_in, tail_in};
 ghost use Rattle.gramcheck.specs.Nodes.{shapes_of};
 ghost use Rattle.gramcheck.specs.RunTables.{IsTable, turn_pairs, OthersTake, IsStop, IsRun, IsRunTo};
@@ -147,6 +147,18 @@ impl RunTable {
         let entries = entries_of(alloc, grammar, n)?;
         let stop = find_stop(&entries);
         Ok(RunTable { entries, stop })
+    }
+
+    /// Tells whether the node takes some byte.
+    pub(crate) fn takes_some(&self) -> bool
+        ensures { (result ≡ true) ↔ ((b : ℕ) × (0 < turn_pairs (slice_get self.now.entries.items b))) }
+    {
+        for b in 0..self.entries.len() {
+            if pairs_of(self.entries[b]) > 0 {
+                return true;
+            }
+        }
+        false
     }
 
     /// Returns what a byte decides of the node, if it does.
