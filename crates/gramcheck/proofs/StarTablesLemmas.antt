@@ -1,8 +1,9 @@
 -- Tables of a grammar's repetitions, added node by node.
 -- Serves: check_peg, SoundPeg::run_table
 use Rattle.std.proofs.Common.{◌≡◌, ◌⊎◌, ℕ, suc, zero, Option, List, [], ◌∷◌, ◌++◌, length, IfSome, Some, None}
-use Rattle.std.proofs.Common.{refl, sym, subst, ap, inl, inr, ⊎_elim, ◌∙◌}
+use Rattle.std.proofs.Common.{refl, sym, subst, ap, inl, inr, ⊎_elim, ◌∙◌, ◌<◌, get_or, MatchOption}
 use Rattle.std.specs.Prelude.{slice_get}
+use Rattle.std.proofs.lemmas.Option.{slice_get-get_or, get_or_from_slice_get}
 use Rattle.gramcheck.specs.KeyLists.{Marks, node_marks, tail_marks}
 use Rattle.gramcheck.specs.Nodes.{Shape, Star}
 use Rattle.gramcheck.specs.RunTables.{IsTable}
@@ -18,6 +19,16 @@ get_pushed [] x (suc k) y is = absurd cc
 get_pushed (z ∷ xs) x zero y is = inl is
 get_pushed (z ∷ xs) x (suc k) y is =
     ⊎_elim (λ old. inl old) (λ new. inr (ap suc new.0, new.1)) (get_pushed xs x k y is)
+
+-- an element that is read
+pub read_at : {A : Type 0} (xs : List A) (n : ℕ) (v w : A) → n < length xs → v ≡ get_or xs n v → v ≡ w
+    → slice_get xs n ≡ Some w
+read_at xs n v w lt is same = slice_get-get_or xs n v lt ∙ ap Some (sym is ∙ same)
+
+pub some_read : {A : Type 0} (N : Type 0) (P Q : A → Type 0) (r : Option A) → ((x : A) → P x → Q x)
+    → MatchOption r N P → IfSome r Q
+some_read N P Q None f h = tt
+some_read N P Q (Some x) f h = f x h
 
 module _ (nodes : List Shape) (bodies : List ℕ) (marks : Marks) where
   pub is_table_of : (n m : ℕ) (t : RunTable) → slice_get nodes n ≡ Some (Star m)
@@ -58,3 +69,12 @@ module _ (nodes : List Shape) (bodies : List ℕ) (marks : Marks) where
       ⊎_elim (λ old. table_kept tables new more star p grown (are star p old))
       (λ last. table_here new n star place p (last.0 ∙ long) last.1 here)
       (get_pushed places place star (Some p) (rw is at at))
+
+  -- the table that is read at a node's place
+  pub table_read : (places : List (Option ℕ)) (tables : List RunTable) (star place : ℕ) (t : RunTable)
+      → AreStarTables nodes bodies marks places tables → slice_get places star ≡ Some (Some place)
+      → t ≡ get_or tables place t → IsTableOf nodes bodies marks star t
+  table_read places tables star place t are at is =
+      let has = are star place at in
+      subst (IsTableOf nodes bodies marks star)
+      (sym (is ∙ get_or_from_slice_get tables place has.table t has.there)) has.is_table

@@ -1,19 +1,23 @@
 //! Sound grammars.
-ghost use Rattle.std.specs.Prelude.{◌≡◌, ◌↔◌, ◌<◌, ℕ, List, length, slice_get, true, Some};
+ghost use Rattle.std.specs.Prelude.{◌≡◌, ◌↔◌, ◌<◌, ℕ, IfSome, List, length, slice_get, true, Some};
 ghost use Rattle.pegread.specs.Pattern.{Pattern};
 ghost use Rattle.pegread.specs.PegViews.{rules_of};
 ghost use Rattle.gramcheck.specs.Grammar.{HasKeys, IsSoundGrammar};
 ghost use Rattle.gramcheck.specs.KeyLists.{marks_of, node_marks, tail_marks};
 ghost use Rattle.gramcheck.specs.KeyMarks.{AreMarks};
 ghost use Rattle.gramcheck.specs.NodeCounts.{node_counts};
-ghost use Rattle.gramcheck.specs.Nodes.{Act, shapes_of, Spells};
+ghost use Rattle.gramcheck.specs.Nodes.{Act, Star, shapes_of, Spells};
 ghost use Rattle.gramcheck.specs.Printing.{ArePrintMarks, Prints};
+ghost use Rattle.gramcheck.specs.RunTables.{IsTable};
 ghost use Rattle.gramcheck.specs.Slots.{AreCuts, IsCut};
 ghost use Rattle.gramcheck.specs.Sound.{IsRanked};
+ghost use Rattle.gramcheck.specs.StarTables.{AreStarTables};
 
 use crate::cut::Cut;
 use crate::keys::{Keys, is_key_from, mark_or};
 use crate::node::Node;
+use crate::run_table::RunTable;
+use crate::star_tables::StarTables;
 use crate::template::{Template, Templates};
 use pegread::Expr;
 use ruletable::RuleTable;
@@ -30,6 +34,8 @@ pub(crate) struct Tables {
     pub(crate) templates: Templates,
     /// Which nodes, and which tails of sequences, are keys.
     pub(crate) keys: Keys,
+    /// What each byte decides of the operands of repetitions.
+    pub(crate) stars: StarTables,
 }
 
 /// A grammar that can be run: its rules, their bodies cut into numbered nodes, a start rule, of each node a rank, and
@@ -47,6 +53,8 @@ pub struct SoundPeg {
     printing: Vec<bool>,
     templates: Templates,
     keys: Keys,
+    // what each byte decides of the operands of repetitions
+    stars: StarTables,
 }
 
 impl Model for SoundPeg {
@@ -57,6 +65,7 @@ impl Model for SoundPeg {
     ghost use Rattle.gramcheck.specs.Printing.{ArePrintMarks};
     ghost use Rattle.gramcheck.specs.Slots.{AreCuts};
     ghost use Rattle.gramcheck.specs.Sound.{IsRanked};
+    ghost use Rattle.gramcheck.specs.StarTables.{AreStarTables};
     ghost use Rattle.gramcheck.specs.contracts.node.Node as n;
     ghost use Rattle.pegread.specs.PegViews.{rules_of};
     ghost use Rattle.pegread.specs.contracts.expr.Expr as e;
@@ -80,7 +89,10 @@ impl Model for SoundPeg {
         × AreCuts (shapes_of p.nodes.items) p.templates.places.items p.templates.cuts.items
         × AreMarks p.start (shapes_of p.nodes.items) p.bodies.items
         (node_marks (marks_of (shapes_of p.nodes.items) p.keys.nodes.items p.keys.behind.items))
-        (tail_marks (marks_of (shapes_of p.nodes.items) p.keys.nodes.items p.keys.behind.items)) };
+        (tail_marks (marks_of (shapes_of p.nodes.items) p.keys.nodes.items p.keys.behind.items))
+        × AreStarTables (shapes_of p.nodes.items) p.bodies.items
+        (marks_of (shapes_of p.nodes.items) p.keys.nodes.items p.keys.behind.items)
+        p.stars.places.items p.stars.tables.items };
 }
 
 impl SoundPeg {
@@ -94,6 +106,9 @@ impl SoundPeg {
         requires keys { AreMarks start (shapes_of cut.nodes.items) cut.bodies.items
             (node_marks (marks_of (shapes_of cut.nodes.items) tables.keys.nodes.items tables.keys.behind.items))
             (tail_marks (marks_of (shapes_of cut.nodes.items) tables.keys.nodes.items tables.keys.behind.items)) }
+        requires stars { AreStarTables (shapes_of cut.nodes.items) cut.bodies.items
+            (marks_of (shapes_of cut.nodes.items) tables.keys.nodes.items tables.keys.behind.items)
+            tables.stars.places.items tables.stars.tables.items }
         ensures rules { result.rules ≡ rules }
         ensures start { result.start ≡ start }
         ensures sound { IsSoundGrammar result }
@@ -107,6 +122,7 @@ impl SoundPeg {
             printing: tables.printing,
             templates: tables.templates,
             keys: tables.keys,
+            stars: tables.stars,
         }
     }
 
@@ -199,6 +215,20 @@ impl SoundPeg {
         match self.nodes.get(n) {
             Some(node) => is_key_from(node, &self.keys.behind, i),
             None => false,
+        }
+    }
+
+    /// Returns of each byte what it decides of the operand of a repetition, the node of that number, if there is a table
+    /// of that.
+    pub fn run_table(&self, star: usize) -> Option<&RunTable>
+        ensures { IfSome result (λ t. (k : ℕ) → slice_get (shapes_of self.now.nodes) star ≡ Some (Star k)
+            → IsTable (shapes_of self.now.nodes) self.now.bodies (node_marks self.now.keys) (tail_marks self.now.keys)
+            k t.now.entries.items) }
+    {
+        let place = self.stars.places.get(star)?;
+        match *place {
+            Some(place) => self.stars.tables.get(usize::from(place)),
+            None => None,
         }
     }
 }
