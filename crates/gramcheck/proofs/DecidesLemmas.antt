@@ -1,17 +1,19 @@
 -- What code tells of a byte is what the byte decides.
 -- Serves: decide
-use Rattle.std.proofs.Common.{◌≡◌, ℕ, zero, suc, ◌+◌, ◌<◌, ◌≤◌, Bool, true, false, List, [], ◌∷◌, Option, Some, None, refl, sym}
-use Rattle.std.proofs.Common.{subst, arith, IfSome, length, ◌∙◌}
+use Rattle.std.proofs.Common.{◌≡◌, ℕ, suc, ◌+◌, ◌<◌, ◌≤◌, Bool, true, false, List, [], ◌∷◌, Option, Some, None}
+use Rattle.std.proofs.Common.{refl, sym, subst, arith, IfSome, length, ◌∙◌}
 use Rattle.gramcheck.specs.declared.node.Node.{Node}
 use Rattle.std.specs.Prelude.{slice_get, get_or}
 use Rattle.std.proofs.lemmas.Option.{slice_get-get_or, slice_get_past}
-use Rattle.gramcheck.specs.Nodes.{Shape, Any, Bytes, Set, Name, Seq, Choice, Star, Plus, Opt, And, Not, shape_of, shapes_of}
-use Rattle.gramcheck.specs.ByByte.{Succeeds, ByByte, by_shape, Below, below, ByShape, by_any, by_set_in, by_set_out}
+use Rattle.gramcheck.specs.Nodes.{Shape, Bytes, Set, Name, Seq, Choice, Star, Plus, Opt, And, Not}
+use Rattle.gramcheck.specs.Nodes.{shape_of, shapes_of}
+use Rattle.gramcheck.specs.ByByte.{Succeeds, by_shape, Below, ByShape, by_set_in, by_set_out}
 use Rattle.gramcheck.specs.ByByte.{by_no_bytes, by_one_byte, by_other_byte, by_name, by_members, by_alternatives}
 use Rattle.gramcheck.specs.ByByte.{by_opt_some, by_opt_none, by_and, by_and_fails, by_not, by_not_fails, by_no_turn}
 use Rattle.gramcheck.specs.ByByte.{by_no_plus, ByMembers, members_end, member_stays, member_fails, member_takes}
 use Rattle.gramcheck.specs.ByByte.{ByAlternatives, alternatives_end, alternative_fails, alternative_succeeds}
-use Rattle.gramcheck.specs.Decides.{mark_in, tail_in, Decides, DecidesBelow, DecidesShape, DecidesMembers, DecidesAlternatives}
+use Rattle.gramcheck.specs.Decides.{mark_in, tail_in, Decides, DecidesBelow, DecidesShape, DecidesMembers}
+use Rattle.gramcheck.specs.Decides.{DecidesAlternatives}
 use Rattle.gramcheck.specs.KeyLists.{tails_of}
 use Rattle.gramcheck.specs.declared.by_byte.Decided.{Decided}
 use Rattle.gramcheck.specs.declared.by_byte.MarkedNodes.{MarkedNodes}
@@ -63,7 +65,8 @@ pub lifted : (shape : ℕ → Shape) (o : Decided) (v w u : Verdict) (r : Option
     → IfSome r (λ d. (g : MarkedNodes) (b n m : ℕ) → DecidesBelow g b m o → DecidesShape g b n (shape m) d)
 lifted shape o v w u None is same lifts h = tt
 lifted shape o v w u (Some d) is same lifts h = λ g b n m k.
-    shape_of_sum g b n (1 + o.count) (shape m) w d (cc (h.0, same)) h.1 (lifts g b n m o.count (below_of g b m v o is k))
+    shape_of_sum g b n (1 + o.count) (shape m) w d (cc (h.0, same)) h.1
+    (lifts g b n m o.count (below_of g b m v o is k))
 
 pub opt_takes_by : Lifts Opt Takes Takes
 opt_takes_by g b n m c h = by_opt_some tt h
@@ -163,20 +166,23 @@ module _ (g : MarkedNodes) (b n : ℕ) (ms : List ℕ) (i : ℕ) where
       members_more is v e r =
           let whole = sum.1 in
           members_as 0 0 (count + (m.count + e)) (d.count + e) v v refl refl (omega (arith, whole))
-          (all v (m.count + e) (member_stays (slice_get-get_or ms i 0 lt) seq_has_no_key (below_of g b (get_or ms i 0) Stays m is h)
+          (all v (m.count + e) (member_stays (slice_get-get_or ms i 0 lt) seq_has_no_key
+          (below_of g b (get_or ms i 0) Stays m is h)
           (members_as (i + 1) (suc i) e e v v (omega arith) refl refl r)))
 
       pub members_failed : m.verdict ≡ Fails → DecidesMembers g b n ms d
       members_failed is =
           let same = sum.0 in
           members_as 0 0 (count + m.count) d.count Fails d.verdict refl (cc (same, is)) (sym sum.1)
-          (all Fails m.count (member_fails (slice_get-get_or ms i 0 lt) seq_has_no_key (below_of g b (get_or ms i 0) Fails m is h)))
+          (all Fails m.count (member_fails (slice_get-get_or ms i 0 lt) seq_has_no_key
+          (below_of g b (get_or ms i 0) Fails m is h)))
 
       pub members_took : m.verdict ≡ Takes → length ms ≤ i + 1 → DecidesMembers g b n ms d
       members_took is le =
           let same = sum.0 in
           members_as 0 0 (count + m.count) d.count Takes d.verdict refl (cc (same, is)) (sym sum.1)
-          (all Takes m.count (member_takes (slice_get-get_or ms i 0 lt) (slice_get_past ms (suc i) (omega arith)) seq_has_no_key
+          (all Takes m.count (member_takes (slice_get-get_or ms i 0 lt) (slice_get_past ms (suc i) (omega arith))
+          seq_has_no_key
           (below_of g b (get_or ms i 0) Takes m is h)))
 
   module _ (count : ℕ) (all : (v : Verdict) (d : ℕ) → A i v d → A 0 v (count + d)) where
@@ -193,7 +199,8 @@ module _ (g : MarkedNodes) (b n : ℕ) (ms : List ℕ) (i : ℕ) where
       alternatives_more is v e r =
           let whole = sum.1 in
           alternatives_as 0 0 (count + (m.count + e)) (d.count + e) v v refl refl (omega (arith, whole))
-          (all v (m.count + e) (alternative_fails (slice_get-get_or ms i 0 lt) choice_has_no_key (below_of g b (get_or ms i 0) Fails m is h)
+          (all v (m.count + e) (alternative_fails (slice_get-get_or ms i 0 lt) choice_has_no_key
+          (below_of g b (get_or ms i 0) Fails m is h)
           (alternatives_as (i + 1) (suc i) e e v v (omega arith) refl refl r)))
 
       pub alternatives_succeeded : Succeeds m.verdict → DecidesAlternatives g b n ms d

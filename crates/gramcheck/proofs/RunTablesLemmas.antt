@@ -9,7 +9,7 @@ use Rattle.std.proofs.lemmas.Option.{slice_get-get_or, slice_get_past, get_or_fr
 use Rattle.memchr.specs.Find.{IsFirstByte, is_byte}
 use Rattle.gramcheck.specs.ByByte.{ByByte, AreTurns, turns_none, turns_more}
 use Rattle.gramcheck.specs.Nodes.{Shape}
-use Rattle.gramcheck.specs.RunTables.{IsTable, pairs_by, turn_pairs, IsStop, TurnsTo, IsRun, IsRunTo}
+use Rattle.gramcheck.specs.RunTables.{pairs_by, turn_pairs, TurnsTo, IsRun, IsRunTo}
 use Rattle.gramcheck.specs.declared.by_byte.Decided.{Decided}
 use Rattle.gramcheck.specs.declared.by_byte.Verdict.{Verdict}
 use Rattle.gramcheck.specs.declared.by_byte.Verdict.TheVariants.{Takes, Stays, Fails}

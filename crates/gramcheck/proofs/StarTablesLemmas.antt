@@ -58,7 +58,8 @@ module _ (nodes : List Shape) (bodies : List ℕ) (marks : Marks) where
   table_here tables n m None p same is h = absurd (cc is)
   table_here tables n m (Some q) p same is h =
       let place : q ≡ p = cc is in
-      subst (λ j. HasTable nodes bodies marks tables j p) (sym same) (subst (HasTable nodes bodies marks tables n) place h)
+      subst (λ j. HasTable nodes bodies marks tables j p) (sym same)
+      (subst (HasTable nodes bodies marks tables n) place h)
 
   -- one node more
   pub tables_next : (places all : List (Option ℕ)) (tables new more : List RunTable) (n : ℕ) (place : Option ℕ)

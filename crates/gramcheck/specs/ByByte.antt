@@ -30,7 +30,8 @@ module _ (nodes : List Shape) (bodies : List ℕ) (marks : ℕ → Bool) (tails 
       by_no_bytes : {n : ℕ} → ByShape n (Bytes []) Stays 1
       by_one_byte : {n c : ℕ} → c ≡ b → ByShape n (Bytes (c ∷ [])) Takes 1
       by_other_byte : {n c : ℕ} {cs : List ℕ} → (c ≡ b → ⊥) → ByShape n (Bytes (c ∷ cs)) Fails 1
-      by_name : {n id m c : ℕ} {v : Verdict} → slice_get bodies id ≡ Some m → Below m v c → ByShape n (Name id) v (1 + c)
+      by_name : {n id m c : ℕ} {v : Verdict} → slice_get bodies id ≡ Some m → Below m v c
+          → ByShape n (Name id) v (1 + c)
       by_members : {n c : ℕ} {ms : List ℕ} {v : Verdict} → ByMembers n ms 0 v c → ByShape n (Seq ms) v (1 + c)
       by_alternatives : {n c : ℕ} {ms : List ℕ} {v : Verdict} → ByAlternatives n ms 0 v c
           → ByShape n (Choice ms) v (1 + c)
@@ -46,19 +47,23 @@ module _ (nodes : List Shape) (bodies : List ℕ) (marks : ℕ → Bool) (tails 
     -- Of the members of a sequence from the i-th on, one that fails ends it, and only the last one takes the byte.
     pub data ByMembers : ℕ → List ℕ → ℕ → Verdict → ℕ → Type 0 where
       members_end : {n i : ℕ} {ms : List ℕ} → slice_get ms i ≡ None → ByMembers n ms i Stays 0
-      member_stays : {n i m c d : ℕ} {ms : List ℕ} {v : Verdict} → slice_get ms i ≡ Some m → tails n i ≡ false → Below m Stays c
+      member_stays : {n i m c d : ℕ} {ms : List ℕ} {v : Verdict}
+          → slice_get ms i ≡ Some m → tails n i ≡ false → Below m Stays c
           → ByMembers n ms (suc i) v d → ByMembers n ms i v (c + d)
       member_fails : {n i m c : ℕ} {ms : List ℕ} → slice_get ms i ≡ Some m → tails n i ≡ false → Below m Fails c
           → ByMembers n ms i Fails c
-      member_takes : {n i m c : ℕ} {ms : List ℕ} → slice_get ms i ≡ Some m → slice_get ms (suc i) ≡ None → tails n i ≡ false
+      member_takes : {n i m c : ℕ} {ms : List ℕ}
+          → slice_get ms i ≡ Some m → slice_get ms (suc i) ≡ None → tails n i ≡ false
           → Below m Takes c → ByMembers n ms i Takes c
 
     -- Of the alternatives of a choice from the i-th on, the first one that succeeds decides.
     pub data ByAlternatives : ℕ → List ℕ → ℕ → Verdict → ℕ → Type 0 where
       alternatives_end : {n i : ℕ} {ms : List ℕ} → slice_get ms i ≡ None → ByAlternatives n ms i Fails 0
-      alternative_fails : {n i m c d : ℕ} {ms : List ℕ} {v : Verdict} → slice_get ms i ≡ Some m → tails n i ≡ false → Below m Fails c
+      alternative_fails : {n i m c d : ℕ} {ms : List ℕ} {v : Verdict}
+          → slice_get ms i ≡ Some m → tails n i ≡ false → Below m Fails c
           → ByAlternatives n ms (suc i) v d → ByAlternatives n ms i v (c + d)
-      alternative_succeeds : {n i m c : ℕ} {ms : List ℕ} {v : Verdict} → slice_get ms i ≡ Some m → tails n i ≡ false → Succeeds v
+      alternative_succeeds : {n i m c : ℕ} {ms : List ℕ} {v : Verdict}
+          → slice_get ms i ≡ Some m → tails n i ≡ false → Succeeds v
           → Below m v c → ByAlternatives n ms i v c
 
 module _ (nodes : List Shape) (bodies x : List ℕ) (marks : ℕ → Bool) (tails : ℕ → ℕ → Bool) where

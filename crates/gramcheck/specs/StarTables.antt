@@ -19,4 +19,5 @@ module _ (nodes : List Shape) (bodies : List ℕ) (marks : Marks) where
 
   -- of each node the place of its table, if it has one
   abbrev pub AreStarTables : List (Option ℕ) → List RunTable → Type 0
-  AreStarTables places tables = (star place : ℕ) → slice_get places star ≡ Some (Some place) → HasTable tables star place
+  AreStarTables places tables = (star place : ℕ) → slice_get places star ≡ Some (Some place)
+      → HasTable tables star place

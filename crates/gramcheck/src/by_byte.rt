@@ -26,7 +26,7 @@ pub enum Verdict {
 #[derive(Clone, Copy, Debug, PartialEq, Eq)]
 pub struct Decided {
     pub verdict: Verdict,
-    pub count: u32,
+    pub count: u16,
 }
 
 /// Numbered nodes, of each rule the node of its body, and marks of the keys among the nodes and of those behind which
@@ -39,8 +39,12 @@ pub struct MarkedNodes<'a> {
     pub behind: &'a [bool],
 }
 
-// how deep a node is looked into
+// How deep a node is looked into.
 const MOST_LEVELS: usize = 40;
+
+// How many pairs are evaluated at most where a byte decides: so a table of a choice of very many alternatives costs no
+// more than some thousands of them.
+const MOST_PAIRS: u16 = 1000;
 
 // Returns the node of that number.
 fn node_at(nodes: &[Node], n: usize) -> Option<&Node>
@@ -57,11 +61,14 @@ fn body_at(bodies: &[usize], id: usize) -> Option<usize>
     Some(*body)
 }
 
-// Returns a verdict with the sum of two numbers, if that fits.
-fn summed(verdict: Verdict, count: u32, more: u32) -> Option<Decided>
+// Returns a verdict with the sum of two numbers, if that is not too great.
+fn summed(verdict: Verdict, count: u16, more: u16) -> Option<Decided>
     ensures { IfSome result (λ d. (d.verdict ≡ verdict) × (d.count ≡ count + more)) }
 {
     let count = count.checked_add(more)?;
+    if count > MOST_PAIRS {
+        return None;
+    }
     Some(Decided { verdict, count })
 }
 
@@ -168,7 +175,8 @@ fn below(grammar: &MarkedNodes<'_>, n: usize, b: u8, levels: usize) -> Option<De
     by_node(grammar, n, b, levels - 1)
 }
 
-// Returns what a byte decides of the members of a sequence. Nothing is asked of one behind a member that takes the byte.
+// Returns what a byte decides of the members of a sequence. Nothing is asked of one behind a member that takes the
+// byte.
 #[cycle(deciding)]
 fn by_members(
     grammar: &MarkedNodes<'_>,

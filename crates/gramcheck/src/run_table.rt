@@ -35,7 +35,7 @@ pub struct RunTable {
 // Returns how many pairs a turn over the byte of this entry is, or 0 if the byte is not taken.
 fn pairs_of(entry: Option<Decided>) -> u64
     ensures pairs { result ≡ turn_pairs (Some entry) }
-    ensures fits { result ≤ 4294967296 }
+    ensures fits { result ≤ 65536 }
 {
     match entry {
         Some(decided) => match decided.verdict {

@@ -23,11 +23,7 @@ pub(crate) struct StarTables {
 }
 
 // Returns the table of a repetition's operand, if the table is of use.
-fn table_of(
-    alloc: Global,
-    grammar: &MarkedNodes<'_>,
-    n: usize,
-) -> Result<Option<RunTable>, Memory>
+fn table_of(alloc: Global, grammar: &MarkedNodes<'_>, n: usize) -> Result<Option<RunTable>, Memory>
     ensures { IfOk result (λ made. IfSome made (IsTableOf (shapes_of grammar.now.nodes.now) grammar.now.bodies.now
         (marks_in grammar.now) n)) }
 {

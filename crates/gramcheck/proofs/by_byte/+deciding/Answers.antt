@@ -1,8 +1,8 @@
 -- What is told of a node, from what is told of those below.
-use Rattle.std.proofs.Common.{◌≡◌, ◌∙◌, sym, ℕ, subst}
+use Rattle.std.proofs.Common.{◌∙◌, sym, subst}
 use Rattle.gramcheck.specs.ByByte.{below, by_any}
-use Rattle.gramcheck.specs.Decides.{Decides, DecidesShape}
-use Rattle.gramcheck.specs.Nodes.{Bytes, Name, Seq, Choice, Star, Plus, Opt, And, Not, shape_of}
+use Rattle.gramcheck.specs.Decides.{DecidesShape}
+use Rattle.gramcheck.specs.Nodes.{Bytes, Seq, Choice}
 use Rattle.gramcheck.proofs.DecidesLemmas.{some_as, at_node, name_decides, seq_decides, choice_decides, members_done}
 use Rattle.gramcheck.proofs.DecidesLemmas.{members_more, members_failed, members_took, alternatives_done}
 use Rattle.gramcheck.proofs.DecidesLemmas.{alternatives_more, alternatives_succeeded, takes_succeeds, stays_succeeds}
@@ -40,19 +40,22 @@ by_alternatives-returns t c =
 pub by_members-returns-in-Fails : goal.by_members-returns-in-Fails
 by_members-returns-in-Fails t c =
     members_failed c.args.grammar.now c.args.b c.args.n c.args.members.now c.loop-i.i c.loop-i.count
-    c.loop-i.invariant c.loop-i-test.true c.requires (sym c.is_key_of_members.ensures ∙ c.if-is_key_of_members.false) c.in_ok-member.member
+    c.loop-i.invariant c.loop-i-test.true c.requires
+    (sym c.is_key_of_members.ensures ∙ c.if-is_key_of_members.false) c.in_ok-member.member
     c.in_ok-sum.sum c.in_ok-member.ensures c.in_ok-sum.ensures c.in-Fails.is
 
 pub by_members-returns-in-Takes : goal.by_members-returns-in-Takes
 by_members-returns-in-Takes t c =
     members_took c.args.grammar.now c.args.b c.args.n c.args.members.now c.loop-i.i c.loop-i.count
-    c.loop-i.invariant c.loop-i-test.true c.requires (sym c.is_key_of_members.ensures ∙ c.if-is_key_of_members.false) c.in_ok-member.member
+    c.loop-i.invariant c.loop-i-test.true c.requires
+    (sym c.is_key_of_members.ensures ∙ c.if-is_key_of_members.false) c.in_ok-member.member
     c.in_ok-sum.sum c.in_ok-member.ensures c.in_ok-sum.ensures c.in-Takes.is c.if-i-members.false
 
 pub by_members-loop-i-preserved : goal.by_members-loop-i-preserved
 by_members-loop-i-preserved t c =
     members_more c.args.grammar.now c.args.b c.args.n c.args.members.now c.loop-i.i c.loop-i.count
-    c.loop-i.invariant c.loop-i-test.true c.requires (sym c.is_key_of_members.ensures ∙ c.if-is_key_of_members.false) c.in_ok-member.member
+    c.loop-i.invariant c.loop-i-test.true c.requires
+    (sym c.is_key_of_members.ensures ∙ c.if-is_key_of_members.false) c.in_ok-member.member
     c.in_ok-sum.sum c.in_ok-member.ensures c.in_ok-sum.ensures c.in-Stays.is
 
 pub by_members-returns : goal.by_members-returns

@@ -1,4 +1,3 @@
-use Rattle.std.proofs.Common.{refl}
 use Rattle.gramcheck.specs.Nodes.{And}
 use Rattle.gramcheck.proofs.DecidesLemmas.{lifted, and_takes_by, and_stays_by, and_fails_by}
 use Rattle.gramcheck.proofs.by_byte.over_and.Goals as goal

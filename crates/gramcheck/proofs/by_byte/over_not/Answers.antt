@@ -1,4 +1,3 @@
-use Rattle.std.proofs.Common.{refl}
 use Rattle.gramcheck.specs.Nodes.{Not}
 use Rattle.gramcheck.proofs.DecidesLemmas.{lifted, not_takes_by, not_stays_by, not_fails_by}
 use Rattle.gramcheck.proofs.by_byte.over_not.Goals as goal

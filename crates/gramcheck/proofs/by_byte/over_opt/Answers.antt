@@ -1,4 +1,3 @@
-use Rattle.std.proofs.Common.{refl}
 use Rattle.gramcheck.specs.Nodes.{Opt}
 use Rattle.gramcheck.proofs.DecidesLemmas.{lifted, opt_takes_by, opt_stays_by, opt_fails_by}
 use Rattle.gramcheck.proofs.by_byte.over_opt.Goals as goal

@@ -69,5 +69,9 @@ pub new-sound-requires-clause-keys : goal.new-sound-requires-clause-keys
 new-sound-requires-clause-keys c = rw (c.deref-6.ensures.value, c.deref-7.ensures.value) at c.in_ok-keys.ensures
 
 pub new-sound-requires-clause-stars : goal.new-sound-requires-clause-stars
-new-sound-requires-clause-stars c = rw (c.deref-8.ensures.value, c.deref-9.ensures.value, c.deref-10.ensures.value,
-    c.deref-11.ensures.value) at c.in_ok-stars.ensures
+new-sound-requires-clause-stars c = rw (
+  c.deref-8.ensures.value,
+  c.deref-9.ensures.value,
+  c.deref-10.ensures.value,
+  c.deref-11.ensures.value,
+) at c.in_ok-stars.ensures

@@ -8,5 +8,6 @@ use Rattle.gramcheck.proofs.run_table.entries_of.Given as goal
 abbrev pub invariant-loop-b : goal.invariant-loop-b
 invariant-loop-b l = record {
   count : length l.entries.items ≡ l.b;
-  table : IsTable (shapes_of l.grammar.nodes.now) l.grammar.bodies.now (mark_in l.grammar) (tail_in l.grammar) l.n l.entries.items;
+  table : IsTable (shapes_of l.grammar.nodes.now) l.grammar.bodies.now (mark_in l.grammar)
+      (tail_in l.grammar) l.n l.entries.items;
 }

@@ -1,4 +1,4 @@
-use Rattle.std.proofs.Common.{◌≡◌, ◌<◌, ◌+◌, Some, slice_get, arith, sym, ap, ◌∙◌, subst, length, get_or}
+use Rattle.std.proofs.Common.{◌≡◌, ◌<◌, ◌+◌, Some, slice_get, arith, sym, ap, ◌∙◌, subst, length}
 use Rattle.gramcheck.specs.RunTables.{TurnsTo, turn_pairs}
 use Rattle.gramcheck.proofs.RunTablesLemmas.{turns_begin, turns_next, byte_at, pairs_at, no_byte_at, same_byte_at}
 use Rattle.gramcheck.proofs.run_table.run_along.Goals as goal

@@ -1,4 +1,4 @@
-use Rattle.std.proofs.Common.{◌≡◌, ◌*◌, ◌-◌, ap}
+use Rattle.std.proofs.Common.{◌*◌, ◌-◌, ap}
 use Rattle.gramcheck.proofs.RunTablesLemmas.{found_to, found_none}
 use Rattle.gramcheck.proofs.run_table.run_to.Goals as goal
 use Rattle.gramcheck.proofs.run_table.run_to.Goals.{in-Some, in-None}

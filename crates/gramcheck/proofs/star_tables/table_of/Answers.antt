@@ -1,7 +1,7 @@
 use Rattle.std.proofs.Common.{◌<◌, length, sym}
 use Rattle.std.proofs.lemmas.Bool.{ltb-true}
 use Rattle.gramcheck.specs.Decides.{marks_in}
-use Rattle.gramcheck.specs.Nodes.{Star, shape_of, shapes_of}
+use Rattle.gramcheck.specs.Nodes.{shapes_of}
 use Rattle.gramcheck.proofs.HasShapeLemmas.{node_at}
 use Rattle.gramcheck.proofs.StarTablesLemmas.{is_table_of}
 use Rattle.gramcheck.proofs.star_tables.table_of.Goals as goal
