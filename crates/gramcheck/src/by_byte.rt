@@ -42,8 +42,8 @@ pub struct MarkedNodes<'a> {
 // How deep a node is looked into.
 const MOST_LEVELS: usize = 40;
 
-// How many pairs are evaluated at most where a byte decides: so a table of a choice of very many alternatives costs no
-// more than some thousands of them.
+// How many pairs are evaluated at most where a byte decides. So what a byte decides of a choice of very many
+// alternatives is soon found, or left open.
 const MOST_PAIRS: u16 = 1000;
 
 // Returns the node of that number.

@@ -199,16 +199,16 @@ impl SoundPeg {
         }
     }
 
-    /// Tells whether the node of that number is a key: whether it may be asked for twice at a place where it is not told
-    /// from a key that is.
+    /// Tells whether the node of that number is a key: whether it may be asked for twice at a place where it is not
+    /// told from a key that is.
     pub fn is_key_node(&self, n: usize) -> bool
         ensures { result ≡ node_marks self.now.keys n }
     {
         mark_or(&self.keys.nodes, n, true)
     }
 
-    /// Tells whether what is left of a node from member `i` on is a key, likewise. Only what is left of a sequence behind
-    /// its first member is.
+    /// Tells whether what is left of a node from member `i` on is a key, likewise. Only what is left of a sequence
+    /// behind its first member is.
     pub fn is_key_tail(&self, n: usize, i: usize) -> bool
         ensures { result ≡ tail_marks self.now.keys n i }
     {

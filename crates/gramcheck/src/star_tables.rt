@@ -11,7 +11,7 @@ use crate::run_table::RunTable;
 use ruletable::Memory;
 use std::alloc::Global;
 
-// How many tables a grammar has at most: a table takes 3 KB and some microseconds, so a grammar of more repetitions
+// How many tables a grammar has at most. A table takes 1.5 KB and some microseconds, so a grammar of more repetitions
 // runs the others without.
 const MOST_TABLES: usize = 256;
 
