@@ -1,6 +1,6 @@
 //! Which nodes, and which tails of sequences, may be asked for twice at a place.
-ghost use Rattle.std.specs.Prelude.{◌≡◌, ◌⊎◌, ◌↔◌, ◌<◌, ℕ, true, false, List, length, [], slice_get, get_or, Some, IfOk};
-ghost use Rattle.std.specs.Prelude.{Contains};
+ghost use Rattle.std.specs.Prelude.{◌≡◌, ◌⊎◌, ◌↔◌, ◌<◌, ℕ, true, false, List, length, [], slice_get, get_or};
+ghost use Rattle.std.specs.Prelude.{Contains, Some, IfOk};
 ghost use Rattle.leastset.specs.Demands.{demand_of, demands_of, row_of, One};
 ghost use Rattle.leastset.specs.NumberMarks.{IsMarked};
 ghost use Rattle.gramcheck.specs.KeyLists.{marks_of, node_marks, tail_marks, tails_of};

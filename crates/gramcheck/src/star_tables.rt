@@ -1,7 +1,7 @@
 //! Tables of the operands of a grammar's repetitions.
-ghost use Rattle.std.specs.Prelude.{◌≡◌, ◌++◌, ◌∷◌, [], List, Option, ℕ, length, IfOk, IfSome, Some, map, slice_get};
+ghost use Rattle.std.specs.Prelude.{◌≡◌, ◌++◌, List, IfOk, IfSome};
 ghost use Rattle.gramcheck.specs.Decides.{marks_in};
-ghost use Rattle.gramcheck.specs.Nodes.{Star, shape_of, shapes_of};
+ghost use Rattle.gramcheck.specs.Nodes.{shapes_of};
 ghost use Rattle.gramcheck.specs.StarTables.{AreStarTables, HasTable, IsTableOf};
 ghost use Rattle.gramcheck.specs.declared.run_table.RunTable.{RunTable};
 
