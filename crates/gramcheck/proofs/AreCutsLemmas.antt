@@ -11,12 +11,13 @@ use Rattle.gramcheck.specs.declared.template.Template.{Template}
 use Rattle.gramcheck.specs.Nodes.{Act, shape_of, shapes_of}
 use Rattle.gramcheck.specs.Slots.{IsCut, HasCut, AreCuts}
 
-get_before : {A : Type 0} (xs ys : List A) (k : ℕ) {x : A} → slice_get xs k ≡ Some x → slice_get (xs ++ ys) k ≡ Some x
+pub get_before : {A : Type 0} (xs ys : List A) (k : ℕ) {x : A} → slice_get xs k ≡ Some x
+    → slice_get (xs ++ ys) k ≡ Some x
 get_before [] ys k is = cc
 get_before (x ∷ xs) ys zero is = is
 get_before (x ∷ xs) ys (suc k) is = get_before xs ys k is
 
-get_new : {A : Type 0} (xs : List A) (x : A) → slice_get (xs ++ x ∷ []) (length xs) ≡ Some x
+pub get_new : {A : Type 0} (xs : List A) (x : A) → slice_get (xs ++ x ∷ []) (length xs) ≡ Some x
 get_new [] x = refl
 get_new (y ∷ xs) x = get_new xs x
 

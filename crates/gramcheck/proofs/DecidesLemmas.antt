@@ -1,23 +1,25 @@
 -- What code tells of a byte is what the byte decides.
 -- Serves: decide
 use Rattle.std.proofs.Common.{◌≡◌, ℕ, suc, ◌+◌, ◌<◌, ◌≤◌, Bool, true, false, List, [], ◌∷◌, Option, Some, None}
-use Rattle.std.proofs.Common.{refl, sym}
-use Rattle.std.proofs.Common.{subst, arith, IfSome, length}
+use Rattle.std.proofs.Common.{refl, sym, subst, arith, IfSome, length, ◌∙◌}
 use Rattle.gramcheck.specs.declared.node.Node.{Node}
 use Rattle.std.specs.Prelude.{slice_get, get_or}
 use Rattle.std.proofs.lemmas.Option.{slice_get-get_or, slice_get_past}
-use Rattle.gramcheck.specs.Nodes.{Shape, Bytes, Set, Name, Seq, Choice, Star, Plus, Opt, And, Not, shape_of, shapes_of}
+use Rattle.gramcheck.specs.Nodes.{Shape, Bytes, Set, Name, Seq, Choice, Star, Plus, Opt, And, Not}
+use Rattle.gramcheck.specs.Nodes.{shape_of, shapes_of}
 use Rattle.gramcheck.specs.ByByte.{Succeeds, by_shape, Below, ByShape, by_set_in, by_set_out}
 use Rattle.gramcheck.specs.ByByte.{by_no_bytes, by_one_byte, by_other_byte, by_name, by_members, by_alternatives}
 use Rattle.gramcheck.specs.ByByte.{by_opt_some, by_opt_none, by_and, by_and_fails, by_not, by_not_fails, by_no_turn}
 use Rattle.gramcheck.specs.ByByte.{by_no_plus, ByMembers, members_end, member_stays, member_fails, member_takes}
 use Rattle.gramcheck.specs.ByByte.{ByAlternatives, alternatives_end, alternative_fails, alternative_succeeds}
-use Rattle.gramcheck.specs.ByByte.{mark_in, tail_in}
-use Rattle.gramcheck.specs.Decides.{Decides, DecidesBelow, DecidesShape, DecidesMembers, DecidesAlternatives}
+use Rattle.gramcheck.specs.Decides.{mark_in, tail_in, Decides, DecidesBelow, DecidesShape, DecidesMembers}
+use Rattle.gramcheck.specs.Decides.{DecidesAlternatives}
+use Rattle.gramcheck.specs.KeyLists.{tails_of}
 use Rattle.gramcheck.specs.declared.by_byte.Decided.{Decided}
 use Rattle.gramcheck.specs.declared.by_byte.MarkedNodes.{MarkedNodes}
 use Rattle.gramcheck.specs.declared.by_byte.Verdict.{Verdict}
 use Rattle.gramcheck.specs.declared.by_byte.Verdict.TheVariants.{Takes, Stays, Fails}
+use Rattle.gramcheck.proofs.KeyNeedsLemmas.{tails_at}
 
 -- a literal of one byte or none, or that begins with another byte
 pub no_byte : (g : MarkedNodes) (b n : ℕ) (bytes : List ℕ) → None ≡ slice_get bytes 0
@@ -38,25 +40,25 @@ first_alone g b n c (a ∷ (e ∷ cs)) is same one = absurd (omega (arith, one))
 
 -- a verdict and a sum, for a shape
 pub shape_of_sum : (g : MarkedNodes) (b n c : ℕ) (s : Shape) (v : Verdict) (d : Decided) → d.verdict ≡ v → d.count ≡ c
-    → ByShape (shapes_of g.nodes.now) g.bodies.now (mark_in g.keys.now) (tail_in g.tails.now) b n s v c
+    → ByShape (shapes_of g.nodes.now) g.bodies.now (mark_in g) (tail_in g) b n s v c
     → DecidesShape g b n s d
 shape_of_sum g b n c s v d same sum h =
-    subst (λ w. ByShape (shapes_of g.nodes.now) g.bodies.now (mark_in g.keys.now) (tail_in g.tails.now) b n s w d.count)
+    subst (λ w. ByShape (shapes_of g.nodes.now) g.bodies.now (mark_in g) (tail_in g) b n s w d.count)
     (sym same)
-    (subst (λ e. ByShape (shapes_of g.nodes.now) g.bodies.now (mark_in g.keys.now) (tail_in g.tails.now) b n s v e)
+    (subst (λ e. ByShape (shapes_of g.nodes.now) g.bodies.now (mark_in g) (tail_in g) b n s v e)
     (sym sum) h)
 
 pub below_of : (g : MarkedNodes) (b m : ℕ) (v : Verdict) (d : Decided) → d.verdict ≡ v → DecidesBelow g b m d
-    → Below (shapes_of g.nodes.now) g.bodies.now (mark_in g.keys.now) (tail_in g.tails.now) b m v d.count
+    → Below (shapes_of g.nodes.now) g.bodies.now (mark_in g) (tail_in g) b m v d.count
 below_of g b m v d same h =
-    subst (λ w. Below (shapes_of g.nodes.now) g.bodies.now (mark_in g.keys.now) (tail_in g.tails.now) b m w d.count)
+    subst (λ w. Below (shapes_of g.nodes.now) g.bodies.now (mark_in g) (tail_in g) b m w d.count)
     same h
 
 -- the verdict of a node with an operand, from the operand's
 abbrev pub Lifts : (ℕ → Shape) → Verdict → Verdict → Type 0
 Lifts shape v w = (g : MarkedNodes) (b n m c : ℕ)
-    → Below (shapes_of g.nodes.now) g.bodies.now (mark_in g.keys.now) (tail_in g.tails.now) b m v c
-    → ByShape (shapes_of g.nodes.now) g.bodies.now (mark_in g.keys.now) (tail_in g.tails.now) b n (shape m) w (1 + c)
+    → Below (shapes_of g.nodes.now) g.bodies.now (mark_in g) (tail_in g) b m v c
+    → ByShape (shapes_of g.nodes.now) g.bodies.now (mark_in g) (tail_in g) b n (shape m) w (1 + c)
 
 pub lifted : (shape : ℕ → Shape) (o : Decided) (v w u : Verdict) (r : Option Decided) → o.verdict ≡ v → u ≡ w
     → Lifts shape v w → IfSome r (λ d. (d.verdict ≡ u) × (d.count ≡ 1 + o.count))
@@ -136,10 +138,10 @@ choice_decides g b n ms o d h sum =
 
 module _ (g : MarkedNodes) (b n : ℕ) (ms : List ℕ) (i : ℕ) where
   abbrev M : ℕ → Verdict → ℕ → Type 0
-  M j v c = ByMembers (shapes_of g.nodes.now) g.bodies.now (mark_in g.keys.now) (tail_in g.tails.now) b n ms j v c
+  M j v c = ByMembers (shapes_of g.nodes.now) g.bodies.now (mark_in g) (tail_in g) b n ms j v c
 
   abbrev A : ℕ → Verdict → ℕ → Type 0
-  A j v c = ByAlternatives (shapes_of g.nodes.now) g.bodies.now (mark_in g.keys.now) (tail_in g.tails.now) b n ms j v c
+  A j v c = ByAlternatives (shapes_of g.nodes.now) g.bodies.now (mark_in g) (tail_in g) b n ms j v c
 
   members_as : (j k c d : ℕ) (v w : Verdict) → j ≡ k → v ≡ w → c ≡ d → M j v c → M k w d
   members_as j k c d v w place same sum h =
@@ -154,26 +156,33 @@ module _ (g : MarkedNodes) (b n : ℕ) (ms : List ℕ) (i : ℕ) where
     members_done le = members_as 0 0 (count + 0) count Stays Stays refl refl (omega arith)
         (all Stays 0 (members_end (slice_get_past ms i le)))
 
-    module _ (lt : i < length ms) (t : mark_in g.tails.now n ≡ false) (m d : Decided)
+    module _ (lt : i < length ms) (at : slice_get (shapes_of g.nodes.now) n ≡ Some (Seq ms))
+        (t : get_or (tails_of g.behind.now (Seq ms)) i false ≡ false) (m d : Decided)
         (h : DecidesBelow g b (get_or ms i 0) m) (sum : (d.verdict ≡ m.verdict) × (d.count ≡ count + m.count)) where
+      seq_has_no_key : tail_in g n i ≡ false
+      seq_has_no_key = sym (tails_at (shapes_of g.nodes.now) g.keys.now g.behind.now n i (Seq ms) at) ∙ t
+
       pub members_more : m.verdict ≡ Stays → (v : Verdict) (e : ℕ) → M (i + 1) v e → M 0 v (d.count + e)
       members_more is v e r =
           let whole = sum.1 in
           members_as 0 0 (count + (m.count + e)) (d.count + e) v v refl refl (omega (arith, whole))
-          (all v (m.count + e) (member_stays (slice_get-get_or ms i 0 lt) t (below_of g b (get_or ms i 0) Stays m is h)
+          (all v (m.count + e) (member_stays (slice_get-get_or ms i 0 lt) seq_has_no_key
+          (below_of g b (get_or ms i 0) Stays m is h)
           (members_as (i + 1) (suc i) e e v v (omega arith) refl refl r)))
 
       pub members_failed : m.verdict ≡ Fails → DecidesMembers g b n ms d
       members_failed is =
           let same = sum.0 in
           members_as 0 0 (count + m.count) d.count Fails d.verdict refl (cc (same, is)) (sym sum.1)
-          (all Fails m.count (member_fails (slice_get-get_or ms i 0 lt) t (below_of g b (get_or ms i 0) Fails m is h)))
+          (all Fails m.count (member_fails (slice_get-get_or ms i 0 lt) seq_has_no_key
+          (below_of g b (get_or ms i 0) Fails m is h)))
 
       pub members_took : m.verdict ≡ Takes → length ms ≤ i + 1 → DecidesMembers g b n ms d
       members_took is le =
           let same = sum.0 in
           members_as 0 0 (count + m.count) d.count Takes d.verdict refl (cc (same, is)) (sym sum.1)
-          (all Takes m.count (member_takes (slice_get-get_or ms i 0 lt) (slice_get_past ms (suc i) (omega arith)) t
+          (all Takes m.count (member_takes (slice_get-get_or ms i 0 lt) (slice_get_past ms (suc i) (omega arith))
+          seq_has_no_key
           (below_of g b (get_or ms i 0) Takes m is h)))
 
   module _ (count : ℕ) (all : (v : Verdict) (d : ℕ) → A i v d → A 0 v (count + d)) where
@@ -181,20 +190,23 @@ module _ (g : MarkedNodes) (b n : ℕ) (ms : List ℕ) (i : ℕ) where
     alternatives_done le = alternatives_as 0 0 (count + 0) count Fails Fails refl refl (omega arith)
         (all Fails 0 (alternatives_end (slice_get_past ms i le)))
 
-    module _ (lt : i < length ms) (t : mark_in g.tails.now n ≡ false) (m d : Decided)
+    module _ (lt : i < length ms) (at : slice_get (shapes_of g.nodes.now) n ≡ Some (Choice ms)) (m d : Decided)
         (h : DecidesBelow g b (get_or ms i 0) m) (sum : (d.verdict ≡ m.verdict) × (d.count ≡ count + m.count)) where
+      choice_has_no_key : tail_in g n i ≡ false
+      choice_has_no_key = sym (tails_at (shapes_of g.nodes.now) g.keys.now g.behind.now n i (Choice ms) at)
+
       pub alternatives_more : m.verdict ≡ Fails → (v : Verdict) (e : ℕ) → A (i + 1) v e → A 0 v (d.count + e)
       alternatives_more is v e r =
           let whole = sum.1 in
           alternatives_as 0 0 (count + (m.count + e)) (d.count + e) v v refl refl (omega (arith, whole))
-          (all v (m.count + e) (alternative_fails (slice_get-get_or ms i 0 lt) t
+          (all v (m.count + e) (alternative_fails (slice_get-get_or ms i 0 lt) choice_has_no_key
           (below_of g b (get_or ms i 0) Fails m is h)
           (alternatives_as (i + 1) (suc i) e e v v (omega arith) refl refl r)))
 
       pub alternatives_succeeded : Succeeds m.verdict → DecidesAlternatives g b n ms d
       alternatives_succeeded is =
           alternatives_as 0 0 (count + m.count) d.count m.verdict d.verdict refl (sym sum.0) (sym sum.1)
-          (all m.verdict m.count (alternative_succeeds (slice_get-get_or ms i 0 lt) t is h))
+          (all m.verdict m.count (alternative_succeeds (slice_get-get_or ms i 0 lt) choice_has_no_key is h))
 
 pub takes_succeeds : (v : Verdict) → v ≡ Takes → Succeeds v
 takes_succeeds v is = subst Succeeds (sym is) tt

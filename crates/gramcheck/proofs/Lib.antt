@@ -37,8 +37,8 @@ pub mod RuleNameLemmas
 pub mod RunTablesLemmas
 pub mod ShorterInputLemmas
 pub mod SomeOutcomeLemmas
-pub mod StartRuleLemmas
 pub mod StarTablesLemmas
+pub mod StartRuleLemmas
 pub mod StepsToBodyLemmas
 pub mod UsesLemmas
 pub mod WidthsLemmas

@@ -1,5 +1,5 @@
 -- Nodes whose outcome at a place is decided by the byte there alone.
-use Rattle.std.specs.Prelude.{◌≡◌, ℕ, zero, suc, ◌+◌, Bool, true, false, List, [], ◌∷◌, slice_get, get_or}
+use Rattle.std.specs.Prelude.{◌≡◌, ℕ, zero, suc, ◌+◌, Bool, true, false, List, [], ◌∷◌, slice_get}
 use Rattle.std.specs.Prelude.{Some, None}
 use Rattle.gramcheck.specs.Nodes.{Shape, Any, Bytes, Set, Name, Seq, Choice, Star, Plus, Opt, And, Not}
 use Rattle.gramcheck.specs.declared.by_byte.Verdict.{Verdict}
@@ -47,20 +47,24 @@ module _ (nodes : List Shape) (bodies : List ℕ) (marks : ℕ → Bool) (tails 
     -- Of the members of a sequence from the i-th on, one that fails ends it, and only the last one takes the byte.
     pub data ByMembers : ℕ → List ℕ → ℕ → Verdict → ℕ → Type 0 where
       members_end : {n i : ℕ} {ms : List ℕ} → slice_get ms i ≡ None → ByMembers n ms i Stays 0
-      member_stays : {n i m c d : ℕ} {ms : List ℕ} {v : Verdict} → slice_get ms i ≡ Some m → tails n i ≡ false
-          → Below m Stays c → ByMembers n ms (suc i) v d → ByMembers n ms i v (c + d)
+      member_stays : {n i m c d : ℕ} {ms : List ℕ} {v : Verdict}
+          → slice_get ms i ≡ Some m → tails n i ≡ false → Below m Stays c
+          → ByMembers n ms (suc i) v d → ByMembers n ms i v (c + d)
       member_fails : {n i m c : ℕ} {ms : List ℕ} → slice_get ms i ≡ Some m → tails n i ≡ false → Below m Fails c
           → ByMembers n ms i Fails c
-      member_takes : {n i m c : ℕ} {ms : List ℕ} → slice_get ms i ≡ Some m → slice_get ms (suc i) ≡ None
-          → tails n i ≡ false → Below m Takes c → ByMembers n ms i Takes c
+      member_takes : {n i m c : ℕ} {ms : List ℕ}
+          → slice_get ms i ≡ Some m → slice_get ms (suc i) ≡ None → tails n i ≡ false
+          → Below m Takes c → ByMembers n ms i Takes c
 
     -- Of the alternatives of a choice from the i-th on, the first one that succeeds decides.
     pub data ByAlternatives : ℕ → List ℕ → ℕ → Verdict → ℕ → Type 0 where
       alternatives_end : {n i : ℕ} {ms : List ℕ} → slice_get ms i ≡ None → ByAlternatives n ms i Fails 0
-      alternative_fails : {n i m c d : ℕ} {ms : List ℕ} {v : Verdict} → slice_get ms i ≡ Some m → tails n i ≡ false
-          → Below m Fails c → ByAlternatives n ms (suc i) v d → ByAlternatives n ms i v (c + d)
-      alternative_succeeds : {n i m c : ℕ} {ms : List ℕ} {v : Verdict} → slice_get ms i ≡ Some m → tails n i ≡ false
-          → Succeeds v → Below m v c → ByAlternatives n ms i v c
+      alternative_fails : {n i m c d : ℕ} {ms : List ℕ} {v : Verdict}
+          → slice_get ms i ≡ Some m → tails n i ≡ false → Below m Fails c
+          → ByAlternatives n ms (suc i) v d → ByAlternatives n ms i v (c + d)
+      alternative_succeeds : {n i m c : ℕ} {ms : List ℕ} {v : Verdict}
+          → slice_get ms i ≡ Some m → tails n i ≡ false → Succeeds v
+          → Below m v c → ByAlternatives n ms i v c
 
 module _ (nodes : List Shape) (bodies x : List ℕ) (marks : ℕ → Bool) (tails : ℕ → ℕ → Bool) where
   -- The bytes from place a on decide that node k takes each of n of them. The turns of a repetition of k over them are
@@ -69,11 +73,3 @@ module _ (nodes : List Shape) (bodies x : List ℕ) (marks : ℕ → Bool) (tail
     turns_none : AreTurns k a zero zero
     turns_more : {n c d b : ℕ} → AreTurns k a n c → slice_get x (a + n) ≡ Some b
         → ByByte nodes bodies marks tails b k Takes d → AreTurns k a (suc n) (c + (1 + d))
-
--- the marks of a list; what has none is marked
-abbrev pub mark_in : List Bool → ℕ → Bool
-mark_in marks n = get_or marks n true
-
--- likewise of the tails of a node
-abbrev pub tail_in : List Bool → ℕ → ℕ → Bool
-tail_in marks n i = get_or marks n true

@@ -23,8 +23,8 @@ pub mod Printing
 pub mod Ranks
 pub mod Rising
 pub mod RunTables
-pub mod Slots
 pub mod StarTables
+pub mod Slots
 pub mod Sound
 pub mod Templates
 pub mod Uses

@@ -1,16 +1,23 @@
--- The tables of repetitions.
+-- Tables of the operands of a grammar's repetitions.
 use Rattle.std.specs.Prelude.{◌≡◌, ℕ, List, Option, slice_get, Some}
-use Rattle.gramcheck.specs.ByByte.{mark_in, tail_in}
-use Rattle.gramcheck.specs.Nodes.{Star, shapes_of}
+use Rattle.gramcheck.specs.KeyLists.{Marks, node_marks, tail_marks}
+use Rattle.gramcheck.specs.Nodes.{Shape, Star}
 use Rattle.gramcheck.specs.RunTables.{IsTable}
-use Rattle.gramcheck.specs.declared.by_byte.MarkedNodes.{MarkedNodes}
 use Rattle.gramcheck.specs.declared.run_table.RunTable.{RunTable}
 
--- node n is a repetition, and the table is that of its operand
-abbrev pub IsOfStar : MarkedNodes → ℕ → RunTable → Type 0
-IsOfStar g n t = (k : ℕ) × (slice_get (shapes_of g.nodes.now) n ≡ Some (Star k))
-    × IsTable (shapes_of g.nodes.now) g.bodies.now (mark_in g.keys.now) (tail_in g.tails.now) k t.entries.items
+module _ (nodes : List Shape) (bodies : List ℕ) (marks : Marks) where
+  -- if a node is a repetition, the table is that of its operand
+  abbrev pub IsTableOf : ℕ → RunTable → Type 0
+  IsTableOf star table = (k : ℕ) → slice_get nodes star ≡ Some (Star k)
+      → IsTable nodes bodies (node_marks marks) (tail_marks marks) k table.entries.items
 
--- each node that has a table is such a repetition
-abbrev pub AreStarTables : MarkedNodes → List (Option RunTable) → Type 0
-AreStarTables g tables = (n : ℕ) (t : RunTable) → slice_get tables n ≡ Some (Some t) → IsOfStar g n t
+  -- the place of a node's table, if it has one
+  pub record HasTable (tables : List RunTable) (star place : ℕ) : Type 0 where
+    pub table : RunTable
+    pub there : slice_get tables place ≡ Some table
+    pub is_table : IsTableOf star table
+
+  -- of each node the place of its table, if it has one
+  abbrev pub AreStarTables : List (Option ℕ) → List RunTable → Type 0
+  AreStarTables places tables = (star place : ℕ) → slice_get places star ≡ Some (Some place)
+      → HasTable tables star place

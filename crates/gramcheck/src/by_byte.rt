@@ -1,11 +1,13 @@
 //! Nodes whose outcome at a place is decided by the byte there alone.
 ghost use Rattle.std.specs.Prelude.{◌≡◌, ℕ, ◌+◌, Bool, List, IfSome, slice_get, Some, get_or, false};
-ghost use Rattle.gramcheck.specs.ByByte.{ByByte, mark_in};
+ghost use Rattle.gramcheck.specs.ByByte.{ByByte};
 ghost use Rattle.gramcheck.specs.Decides.{Decides, DecidesBelow, DecidesShape, DecidesMembers, DecidesAlternatives};
-ghost use Rattle.gramcheck.specs.Nodes.{Shape, Bytes, Set, Name, Star, Plus, Opt, And, Not, shape_of, shapes_of};
+ghost use Rattle.gramcheck.specs.Nodes.{Shape, Bytes, Set, Name, Seq, Choice, Star, Plus, Opt, And, Not};
+ghost use Rattle.gramcheck.specs.Nodes.{shape_of, shapes_of};
 ghost use Rattle.gramcheck.specs.declared.by_byte.MarkedNodes.{MarkedNodes};
 ghost use Rattle.gramcheck.specs.declared.by_byte.Verdict.{Verdict};
 
+use crate::keys::{is_key_of_members, mark_or};
 use crate::node::Node;
 use ruletable::ByteSet;
 
@@ -24,31 +26,25 @@ pub enum Verdict {
 #[derive(Clone, Copy, Debug, PartialEq, Eq)]
 pub struct Decided {
     pub verdict: Verdict,
-    pub count: u32,
+    pub count: u16,
 }
 
-/// Holds numbered nodes, of each rule the node of its body, and marks of the nodes that are keys and of those whose
-/// tails are. What has no mark is a key.
+/// Numbered nodes, of each rule the node of its body, and marks of the keys among the nodes and of those behind which
+/// the tails of sequences are keys. What has no mark is a key.
 #[derive(Clone, Copy)]
 pub struct MarkedNodes<'a> {
     pub nodes: &'a [Node],
     pub bodies: &'a [usize],
     pub keys: &'a [bool],
-    pub tails: &'a [bool],
+    pub behind: &'a [bool],
 }
 
-// how deep a node is looked into
+// How deep a node is looked into.
 const MOST_LEVELS: usize = 40;
 
-// Returns the mark of a node; one without a mark counts as marked.
-fn is_marked(marks: &[bool], n: usize) -> bool
-    ensures { result ≡ mark_in marks.now n }
-{
-    match marks.get(n) {
-        Some(mark) => *mark,
-        None => true,
-    }
-}
+// How many pairs are evaluated at most where a byte decides. So what a byte decides of a choice of very many
+// alternatives is soon found, or left open.
+const MOST_PAIRS: u16 = 1000;
 
 /// Returns the node of that number.
 pub(crate) fn node_at(nodes: &[Node], n: usize) -> Option<&Node>
@@ -65,11 +61,14 @@ fn body_at(bodies: &[usize], id: usize) -> Option<usize>
     Some(*body)
 }
 
-// Returns a verdict with the sum of two numbers, if that fits.
-fn summed(verdict: Verdict, count: u32, more: u32) -> Option<Decided>
+// Returns a verdict with the sum of two numbers, if that is not too great.
+fn summed(verdict: Verdict, count: u16, more: u16) -> Option<Decided>
     ensures { IfSome result (λ d. (d.verdict ≡ verdict) × (d.count ≡ count + more)) }
 {
     let count = count.checked_add(more)?;
+    if count > MOST_PAIRS {
+        return None;
+    }
     Some(Decided { verdict, count })
 }
 
@@ -170,13 +169,14 @@ fn over_plus(operand: Decided) -> Option<Decided>
 fn below(grammar: &MarkedNodes<'_>, n: usize, b: u8, levels: usize) -> Option<Decided>
     ensures { IfSome result (λ d. DecidesBelow grammar.now b n d) }
 {
-    if levels == 0 || is_marked(grammar.keys, n) {
+    if levels == 0 || mark_or(grammar.keys, n, true) {
         return None;
     }
     by_node(grammar, n, b, levels - 1)
 }
 
-// Returns what a byte decides of the members of a sequence. Only the last one may take the byte.
+// Returns what a byte decides of the members of a sequence. Nothing is asked of one behind a member that takes the
+// byte.
 #[cycle(deciding)]
 fn by_members(
     grammar: &MarkedNodes<'_>,
@@ -185,11 +185,12 @@ fn by_members(
     b: u8,
     levels: usize,
 ) -> Option<Decided>
+    requires { slice_get (shapes_of grammar.now.nodes.now) n ≡ Some (Seq members.now) }
     ensures { IfSome result (λ d. DecidesMembers grammar.now b n members.now d) }
 {
     let mut count = 0;
     for i in 0..members.len() {
-        if is_marked(grammar.tails, n) {
+        if is_key_of_members(members, grammar.behind, i) {
             return None;
         }
         let member = below(grammar, members[i], b, levels)?;
@@ -218,13 +219,11 @@ fn by_alternatives(
     b: u8,
     levels: usize,
 ) -> Option<Decided>
+    requires { slice_get (shapes_of grammar.now.nodes.now) n ≡ Some (Choice alternatives.now) }
     ensures { IfSome result (λ d. DecidesAlternatives grammar.now b n alternatives.now d) }
 {
     let mut count = 0;
     for i in 0..alternatives.len() {
-        if is_marked(grammar.tails, n) {
-            return None;
-        }
         let alternative = below(grammar, alternatives[i], b, levels)?;
         let sum = summed(alternative.verdict, count, alternative.count)?;
         match alternative.verdict {

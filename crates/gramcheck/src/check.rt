@@ -13,11 +13,13 @@ ghost use Rattle.gramcheck.specs.GrammarNotes.{AreNotes, names_at};
 ghost use Rattle.gramcheck.specs.Sound.{IsRanked};
 
 use crate::analysis::analysed;
+use crate::by_byte::MarkedNodes;
 use crate::cut::{Cut, cut_grammar};
 use crate::keys::find_keys;
 use crate::notes::{notes, refused};
 use crate::printing::print_marks;
 use crate::sound::{SoundPeg, Tables};
+use crate::star_tables::find_tables;
 use crate::template::cut_templates;
 use pegread::{Expr, Peg};
 use ruletable::{Memory, NameCase, Note, RuleTable};
@@ -64,11 +66,19 @@ pub fn check_peg(alloc: Global, peg: Peg, start: Option<&str>) -> Result<Checked
     let printing = print_marks(alloc, &cut.nodes, &cut.bodies)?;
     let templates = cut_templates(alloc, &cut.nodes)?;
     let keys = find_keys(alloc, &cut.nodes, &cut.bodies, first)?;
+    let marked = MarkedNodes {
+        nodes: &cut.nodes,
+        bodies: &cut.bodies,
+        keys: &keys.nodes,
+        behind: &keys.behind,
+    };
+    let stars = find_tables(alloc, &marked)?;
     let tables = Tables {
         ranks: judged.ranks,
         printing,
         templates,
         keys,
+        stars,
     };
     let sound = SoundPeg::new(rules, first, cut, tables);
     Ok(Checked {

@@ -1,14 +1,13 @@
 //! Which nodes, and which tails of sequences, may be asked for twice at a place.
-ghost use Rattle.std.specs.Prelude.{◌≡◌, ◌⊎◌, ◌↔◌, ◌<◌, ℕ, true, false, List, length, [], slice_get, get_or, Some};
-ghost use Rattle.std.specs.Prelude.{IfOk};
-ghost use Rattle.std.specs.Prelude.{Contains};
+ghost use Rattle.std.specs.Prelude.{◌≡◌, ◌⊎◌, ◌↔◌, ◌<◌, ℕ, true, false, List, length, [], slice_get, get_or};
+ghost use Rattle.std.specs.Prelude.{Contains, Some, IfOk};
 ghost use Rattle.leastset.specs.Demands.{demand_of, demands_of, row_of, One};
 ghost use Rattle.leastset.specs.NumberMarks.{IsMarked};
 ghost use Rattle.gramcheck.specs.KeyLists.{marks_of, node_marks, tail_marks, tails_of};
 ghost use Rattle.gramcheck.specs.KeyMarks.{AreMarks, IsPlain, IsLoop};
 ghost use Rattle.gramcheck.specs.KeyNeeds.{IsGoing, GoesOnce, MayBePlain, MayBeLoop, AreKnown, Justifies, AreJustified};
 ghost use Rattle.gramcheck.specs.KeyNeeds.{AreSingles, IsPassed, going_of};
-ghost use Rattle.gramcheck.specs.Nodes.{Star, shape_of, shapes_of};
+ghost use Rattle.gramcheck.specs.Nodes.{Seq, Star, shape_of, shapes_of};
 ghost use Rattle.gramcheck.specs.NodeWays.{way_of};
 
 use crate::namers::{Namer, namer_of, namers};
@@ -257,20 +256,26 @@ pub(crate) struct Keys {
     pub(crate) behind: Vec<bool>,
 }
 
+/// Tells whether what is left of a sequence of these members from the i-th on is a key, given behind which members it
+/// is.
+pub(crate) fn is_key_of_members(members: &[usize], behind: &[bool], i: usize) -> bool
+    ensures { result ≡ get_or (tails_of behind.now (Seq members.now)) i false }
+{
+    if i == 0 {
+        return false;
+    }
+    match members.get(i - 1) {
+        Some(member) => mark_or(behind, *member, true),
+        None => false,
+    }
+}
+
 /// Tells whether the tail of a node from member `i` on is a key, given behind which members it is.
 pub(crate) fn is_key_from(node: &Node, behind: &[bool], i: usize) -> bool
     ensures { result ≡ get_or (tails_of behind.now (shape_of node.now)) i false }
 {
     match node {
-        Node::Seq(members) => {
-            if i == 0 {
-                return false;
-            }
-            match members.get(i - 1) {
-                Some(member) => mark_or(behind, *member, true),
-                None => false,
-            }
-        }
+        Node::Seq(members) => is_key_of_members(members, behind, i),
         Node::Any
         | Node::Bytes(_)
         | Node::Set(_)

@@ -37,5 +37,4 @@ pub use ranked_laws::{
 };
 pub use run_table::{Run, RunTable, Stop};
 pub use sound::SoundPeg;
-pub use star_tables::run_tables;
 pub use template::{Put, Slot, Template};

@@ -1,6 +1,6 @@
 //! Tables of what each byte decides of a node, and runs of bytes that it takes.
-ghost use Rattle.std.specs.Prelude.{◌≡◌, ◌<◌, ◌≤◌, length, IfOk, IfSome, slice_get, true, Some};
-ghost use Rattle.gramcheck.specs.ByByte.{mark_in, tail_in};
+ghost use Rattle.std.specs.Prelude.{◌≡◌, ◌↔◌, ◌<◌, ◌≤◌, ℕ, length, IfOk, IfSome, slice_get, true, Some};
+ghost use Rattle.gramcheck.specs.Decides.{mark_in, tail_in};
 ghost use Rattle.gramcheck.specs.Nodes.{shapes_of};
 ghost use Rattle.gramcheck.specs.RunTables.{IsTable, turn_pairs, OthersTake, IsStop, IsRun, IsRunTo};
 
@@ -35,7 +35,7 @@ pub struct RunTable {
 // Returns how many pairs a turn over the byte of this entry is, or 0 if the byte is not taken.
 fn pairs_of(entry: Option<Decided>) -> u64
     ensures pairs { result ≡ turn_pairs (Some entry) }
-    ensures fits { result ≤ 4294967296 }
+    ensures fits { result ≤ 65536 }
 {
     match entry {
         Some(decided) => match decided.verdict {
@@ -95,7 +95,7 @@ fn entries_of(
 ) -> Result<Vec<Option<Decided>>, Memory>
     ensures count { IfOk result (λ entries. length entries.items ≡ 256) }
     ensures table { IfOk result (λ entries. IsTable (shapes_of grammar.now.nodes.now) grammar.now.bodies.now
-        (mark_in grammar.now.keys.now) (tail_in grammar.now.tails.now) n entries.items) }
+        (mark_in grammar.now) (tail_in grammar.now) n entries.items) }
 {
     let mut entries = Vec::with_capacity(alloc, 256)?;
     for b in 0..256_usize {
@@ -143,16 +143,23 @@ impl RunTable {
     /// `Memory` if an allocation fails.
     pub fn new(alloc: Global, grammar: &MarkedNodes<'_>, n: usize) -> Result<RunTable, Memory>
         ensures { IfOk result (λ table. IsTable (shapes_of grammar.now.nodes.now) grammar.now.bodies.now
-            (mark_in grammar.now.keys.now) (tail_in grammar.now.tails.now) n table.entries.items) }
+            (mark_in grammar.now) (tail_in grammar.now) n table.entries.items) }
     {
         let entries = entries_of(alloc, grammar, n)?;
         let stop = find_stop(&entries);
         Ok(RunTable { entries, stop })
     }
 
-    /// Returns whether some byte is known to be taken.
-    pub(crate) fn takes_some(&self) -> bool {
-        self.entries.iter().any(|entry| pairs_of(*entry) > 0)
+    /// Tells whether the node takes some byte.
+    pub(crate) fn takes_some(&self) -> bool
+        ensures { (result ≡ true) ↔ ((b : ℕ) × (0 < turn_pairs (slice_get self.now.entries.items b))) }
+    {
+        for b in 0..self.entries.len() {
+            if pairs_of(self.entries[b]) > 0 {
+                return true;
+            }
+        }
+        false
     }
 
     /// Returns what a byte decides of the node, if it does.

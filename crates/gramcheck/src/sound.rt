@@ -1,19 +1,23 @@
 //! Sound grammars.
-ghost use Rattle.std.specs.Prelude.{◌≡◌, ◌↔◌, ◌<◌, ℕ, List, length, slice_get, true, Some};
+ghost use Rattle.std.specs.Prelude.{◌≡◌, ◌↔◌, ◌<◌, ℕ, IfSome, List, length, slice_get, true, Some};
 ghost use Rattle.pegread.specs.Pattern.{Pattern};
 ghost use Rattle.pegread.specs.PegViews.{rules_of};
 ghost use Rattle.gramcheck.specs.Grammar.{HasKeys, IsSoundGrammar};
 ghost use Rattle.gramcheck.specs.KeyLists.{marks_of, node_marks, tail_marks};
 ghost use Rattle.gramcheck.specs.KeyMarks.{AreMarks};
 ghost use Rattle.gramcheck.specs.NodeCounts.{node_counts};
-ghost use Rattle.gramcheck.specs.Nodes.{Act, shapes_of, Spells};
+ghost use Rattle.gramcheck.specs.Nodes.{Act, Star, shapes_of, Spells};
 ghost use Rattle.gramcheck.specs.Printing.{ArePrintMarks, Prints};
+ghost use Rattle.gramcheck.specs.RunTables.{IsTable};
 ghost use Rattle.gramcheck.specs.Slots.{AreCuts, IsCut};
 ghost use Rattle.gramcheck.specs.Sound.{IsRanked};
+ghost use Rattle.gramcheck.specs.StarTables.{AreStarTables};
 
 use crate::cut::Cut;
 use crate::keys::{Keys, is_key_from, mark_or};
 use crate::node::Node;
+use crate::run_table::RunTable;
+use crate::star_tables::StarTables;
 use crate::template::{Template, Templates};
 use pegread::Expr;
 use ruletable::RuleTable;
@@ -30,6 +34,8 @@ pub(crate) struct Tables {
     pub(crate) templates: Templates,
     /// Which nodes, and which tails of sequences, are keys.
     pub(crate) keys: Keys,
+    /// What each byte decides of the operands of repetitions.
+    pub(crate) stars: StarTables,
 }
 
 /// A grammar that can be run: its rules, their bodies cut into numbered nodes, a start rule, of each node a rank, and
@@ -47,6 +53,8 @@ pub struct SoundPeg {
     printing: Vec<bool>,
     templates: Templates,
     keys: Keys,
+    // what each byte decides of the operands of repetitions
+    stars: StarTables,
 }
 
 impl Model for SoundPeg {
@@ -57,6 +65,7 @@ impl Model for SoundPeg {
     ghost use Rattle.gramcheck.specs.Printing.{ArePrintMarks};
     ghost use Rattle.gramcheck.specs.Slots.{AreCuts};
     ghost use Rattle.gramcheck.specs.Sound.{IsRanked};
+    ghost use Rattle.gramcheck.specs.StarTables.{AreStarTables};
     ghost use Rattle.gramcheck.specs.contracts.node.Node as n;
     ghost use Rattle.pegread.specs.PegViews.{rules_of};
     ghost use Rattle.pegread.specs.contracts.expr.Expr as e;
@@ -80,7 +89,10 @@ impl Model for SoundPeg {
         × AreCuts (shapes_of p.nodes.items) p.templates.places.items p.templates.cuts.items
         × AreMarks p.start (shapes_of p.nodes.items) p.bodies.items
         (node_marks (marks_of (shapes_of p.nodes.items) p.keys.nodes.items p.keys.behind.items))
-        (tail_marks (marks_of (shapes_of p.nodes.items) p.keys.nodes.items p.keys.behind.items)) };
+        (tail_marks (marks_of (shapes_of p.nodes.items) p.keys.nodes.items p.keys.behind.items))
+        × AreStarTables (shapes_of p.nodes.items) p.bodies.items
+        (marks_of (shapes_of p.nodes.items) p.keys.nodes.items p.keys.behind.items)
+        p.stars.places.items p.stars.tables.items };
 }
 
 impl SoundPeg {
@@ -94,6 +106,9 @@ impl SoundPeg {
         requires keys { AreMarks start (shapes_of cut.nodes.items) cut.bodies.items
             (node_marks (marks_of (shapes_of cut.nodes.items) tables.keys.nodes.items tables.keys.behind.items))
             (tail_marks (marks_of (shapes_of cut.nodes.items) tables.keys.nodes.items tables.keys.behind.items)) }
+        requires stars { AreStarTables (shapes_of cut.nodes.items) cut.bodies.items
+            (marks_of (shapes_of cut.nodes.items) tables.keys.nodes.items tables.keys.behind.items)
+            tables.stars.places.items tables.stars.tables.items }
         ensures rules { result.rules ≡ rules }
         ensures start { result.start ≡ start }
         ensures sound { IsSoundGrammar result }
@@ -107,6 +122,7 @@ impl SoundPeg {
             printing: tables.printing,
             templates: tables.templates,
             keys: tables.keys,
+            stars: tables.stars,
         }
     }
 
@@ -183,22 +199,36 @@ impl SoundPeg {
         }
     }
 
-    /// Tells whether the node of that number is a key. One that is none is named by one node alone, once, or is a
-    /// repetition that one node enters, at one place at most.
+    /// Tells whether the node of that number is a key: whether it may be asked for twice at a place where it is not
+    /// told from a key that is.
     pub fn is_key_node(&self, n: usize) -> bool
         ensures { result ≡ node_marks self.now.keys n }
     {
         mark_or(&self.keys.nodes, n, true)
     }
 
-    /// Tells whether what is left of a node from member `i` on is a key. It is one only in a sequence that may be asked
-    /// for at several places, behind a member whose width is not known.
+    /// Tells whether what is left of a node from member `i` on is a key, likewise. Only what is left of a sequence
+    /// behind its first member is.
     pub fn is_key_tail(&self, n: usize, i: usize) -> bool
         ensures { result ≡ tail_marks self.now.keys n i }
     {
         match self.nodes.get(n) {
             Some(node) => is_key_from(node, &self.keys.behind, i),
             None => false,
+        }
+    }
+
+    /// Returns the table of the operand of the repetition that is the node of that number, if the grammar has one. Only
+    /// an operand that takes some byte for that byte alone has one, and not each does in a grammar of very many.
+    pub fn run_table(&self, star: usize) -> Option<&RunTable>
+        ensures { IfSome result (λ t. (k : ℕ) → slice_get (shapes_of self.now.nodes) star ≡ Some (Star k)
+            → IsTable (shapes_of self.now.nodes) self.now.bodies (node_marks self.now.keys) (tail_marks self.now.keys)
+            k t.now.entries.items) }
+    {
+        let place = self.stars.places.get(star)?;
+        match *place {
+            Some(place) => self.stars.tables.get(usize::from(place)),
+            None => None,
         }
     }
 }

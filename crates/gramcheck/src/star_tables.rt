@@ -1,58 +1,79 @@
-//! Tables of what each byte decides of the operands of repetitions.
-ghost use Rattle.std.specs.Prelude.{◌≡◌, length, IfOk, IfSome};
-ghost use Rattle.gramcheck.specs.StarTables.{IsOfStar, AreStarTables};
+//! Tables of the operands of a grammar's repetitions.
+ghost use Rattle.std.specs.Prelude.{◌≡◌, ◌++◌, List, IfOk, IfSome};
+ghost use Rattle.gramcheck.specs.Decides.{marks_in};
+ghost use Rattle.gramcheck.specs.Nodes.{shapes_of};
+ghost use Rattle.gramcheck.specs.StarTables.{AreStarTables, HasTable, IsTableOf};
+ghost use Rattle.gramcheck.specs.declared.run_table.RunTable.{RunTable};
 
-use crate::by_byte::{MarkedNodes, node_at};
+use crate::by_byte::MarkedNodes;
 use crate::node::Node;
 use crate::run_table::RunTable;
 use ruletable::Memory;
 use std::alloc::Global;
 
-// so many repetitions have tables at most
-const MOST_TABLES: usize = 1024;
+// How many tables a grammar has at most. A table takes 1.5 KB and some microseconds, so a grammar of more repetitions
+// runs the others without.
+const MOST_TABLES: usize = 256;
 
-// Returns the table of a repetition's operand, if there is room for one; none if the node is no repetition, or if its
-// operand is known to take no byte.
-fn table_of(
+/// The tables of a grammar's repetitions, and of each node the place of its table, if it has one.
+#[derive(Drop)]
+pub(crate) struct StarTables {
+    pub(crate) tables: Vec<RunTable>,
+    pub(crate) places: Vec<Option<u16>>,
+}
+
+// Returns the table of a repetition's operand, if the table is of use.
+fn table_of(alloc: Global, grammar: &MarkedNodes<'_>, n: usize) -> Result<Option<RunTable>, Memory>
+    ensures { IfOk result (λ made. IfSome made (IsTableOf (shapes_of grammar.now.nodes.now) grammar.now.bodies.now
+        (marks_in grammar.now) n)) }
+{
+    let Some(Node::Star(operand)) = grammar.nodes.get(n) else {
+        return Ok(None);
+    };
+    let table = RunTable::new(alloc, grammar, *operand)?;
+    if !table.takes_some() {
+        return Ok(None);
+    }
+    Ok(Some(table))
+}
+
+// Adds the table of a node, if it has one, and returns its place.
+fn add_table(
     alloc: Global,
     grammar: &MarkedNodes<'_>,
     n: usize,
-    room: usize,
-) -> Result<Option<RunTable>, Memory>
-    ensures { IfOk result (λ table. IfSome table (λ t. IsOfStar grammar.now n t)) }
+    tables: &mut Vec<RunTable>,
+) -> Result<Option<u16>, Memory>
+    ensures kept { IfOk result (λ _. (more : List RunTable) × (tables.new.items ≡ tables.old.items ++ more)) }
+    ensures added { IfOk result (λ added. IfSome added (HasTable (shapes_of grammar.now.nodes.now)
+        grammar.now.bodies.now (marks_in grammar.now) tables.new.items n)) }
 {
-    if room == 0 {
+    let place = tables.len();
+    if place >= MOST_TABLES {
         return Ok(None);
     }
-    match node_at(grammar.nodes, n) {
-        Some(Node::Star(operand)) => {
-            let table = RunTable::new(alloc, grammar, *operand)?;
-            if table.takes_some() {
-                Ok(Some(table))
-            } else {
-                Ok(None)
-            }
+    match table_of(alloc, grammar, n)? {
+        Some(table) => {
+            tables.push(table)?;
+            Ok(Some(place as u16))
         }
-        _ => Ok(None),
+        None => Ok(None),
     }
 }
 
-/// Returns of each repetition the table of its operand. One has none if its operand is known to take no byte, or if
-/// very many others have tables.
+/// Makes the tables of the operands of a grammar's repetitions, of those that take some byte.
 ///
+/// # Errors
 /// `Memory` if an allocation fails.
-pub fn run_tables(alloc: Global, grammar: &MarkedNodes<'_>) -> Result<Vec<Option<RunTable>>, Memory>
-    ensures count { IfOk result (λ tables. length tables.items ≡ length grammar.now.nodes.now) }
-    ensures tables { IfOk result (λ tables. AreStarTables grammar.now tables.items) }
+pub(crate) fn find_tables(alloc: Global, grammar: &MarkedNodes<'_>) -> Result<StarTables, Memory>
+    ensures { IfOk result (λ stars. AreStarTables (shapes_of grammar.now.nodes.now) grammar.now.bodies.now
+        (marks_in grammar.now) stars.places.items stars.tables.items) }
 {
-    let mut tables = Vec::with_capacity(alloc, grammar.nodes.len())?;
-    let mut room = MOST_TABLES;
+    let mut places = Vec::with_capacity(alloc, grammar.nodes.len())?;
+    let mut tables = Vec::new(alloc);
     for n in 0..grammar.nodes.len() {
-        let table = table_of(alloc, grammar, n, room)?;
-        if table.is_some() {
-            room = room.saturating_sub(1);
-        }
-        tables.push(table)?;
+        let place = add_table(alloc, grammar, n, &mut tables)?;
+        places.push(place)?;
     }
-    Ok(tables)
+    Ok(StarTables { tables, places })
 }

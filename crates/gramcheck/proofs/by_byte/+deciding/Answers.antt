@@ -9,27 +9,27 @@ use Rattle.gramcheck.proofs.DecidesLemmas.{alternatives_more, alternatives_succe
 use Rattle.gramcheck.proofs.by_byte.+deciding.Goals as goal
 
 pub below-returns : goal.below-returns
-below-returns t c = some_as _ _ c.by_node.result (λ d h. below (sym c.is_marked.ensures ∙ c.if-is_marked.false) h)
+below-returns t c = some_as _ _ c.by_node.result (λ d h. below (sym c.mark_or.ensures ∙ c.if-mark_or.false) h)
     c.by_node.ensures
 
 pub by_alternatives-returns-in-Takes : goal.by_alternatives-returns-in-Takes
 by_alternatives-returns-in-Takes t c =
     alternatives_succeeded c.args.grammar.now c.args.b c.args.n c.args.alternatives.now c.loop-i.i c.loop-i.count
-    c.loop-i.invariant c.loop-i-test.true (sym c.is_marked.ensures ∙ c.if-is_marked.false)
+    c.loop-i.invariant c.loop-i-test.true c.requires
     c.in_ok-alternative.alternative c.in_ok-sum.sum c.in_ok-alternative.ensures c.in_ok-sum.ensures
     (takes_succeeds _ c.in-Takes.is)
 
 pub by_alternatives-returns-in-Stays : goal.by_alternatives-returns-in-Stays
 by_alternatives-returns-in-Stays t c =
     alternatives_succeeded c.args.grammar.now c.args.b c.args.n c.args.alternatives.now c.loop-i.i c.loop-i.count
-    c.loop-i.invariant c.loop-i-test.true (sym c.is_marked.ensures ∙ c.if-is_marked.false)
+    c.loop-i.invariant c.loop-i-test.true c.requires
     c.in_ok-alternative.alternative c.in_ok-sum.sum c.in_ok-alternative.ensures c.in_ok-sum.ensures
     (stays_succeeds _ c.in-Stays.is)
 
 pub by_alternatives-loop-i-preserved : goal.by_alternatives-loop-i-preserved
 by_alternatives-loop-i-preserved t c =
     alternatives_more c.args.grammar.now c.args.b c.args.n c.args.alternatives.now c.loop-i.i c.loop-i.count
-    c.loop-i.invariant c.loop-i-test.true (sym c.is_marked.ensures ∙ c.if-is_marked.false)
+    c.loop-i.invariant c.loop-i-test.true c.requires
     c.in_ok-alternative.alternative c.in_ok-sum.sum c.in_ok-alternative.ensures c.in_ok-sum.ensures c.in-Fails.is
 
 pub by_alternatives-returns : goal.by_alternatives-returns
@@ -40,19 +40,22 @@ by_alternatives-returns t c =
 pub by_members-returns-in-Fails : goal.by_members-returns-in-Fails
 by_members-returns-in-Fails t c =
     members_failed c.args.grammar.now c.args.b c.args.n c.args.members.now c.loop-i.i c.loop-i.count
-    c.loop-i.invariant c.loop-i-test.true (sym c.is_marked.ensures ∙ c.if-is_marked.false) c.in_ok-member.member
+    c.loop-i.invariant c.loop-i-test.true c.requires
+    (sym c.is_key_of_members.ensures ∙ c.if-is_key_of_members.false) c.in_ok-member.member
     c.in_ok-sum.sum c.in_ok-member.ensures c.in_ok-sum.ensures c.in-Fails.is
 
 pub by_members-returns-in-Takes : goal.by_members-returns-in-Takes
 by_members-returns-in-Takes t c =
     members_took c.args.grammar.now c.args.b c.args.n c.args.members.now c.loop-i.i c.loop-i.count
-    c.loop-i.invariant c.loop-i-test.true (sym c.is_marked.ensures ∙ c.if-is_marked.false) c.in_ok-member.member
+    c.loop-i.invariant c.loop-i-test.true c.requires
+    (sym c.is_key_of_members.ensures ∙ c.if-is_key_of_members.false) c.in_ok-member.member
     c.in_ok-sum.sum c.in_ok-member.ensures c.in_ok-sum.ensures c.in-Takes.is c.if-i-members.false
 
 pub by_members-loop-i-preserved : goal.by_members-loop-i-preserved
 by_members-loop-i-preserved t c =
     members_more c.args.grammar.now c.args.b c.args.n c.args.members.now c.loop-i.i c.loop-i.count
-    c.loop-i.invariant c.loop-i-test.true (sym c.is_marked.ensures ∙ c.if-is_marked.false) c.in_ok-member.member
+    c.loop-i.invariant c.loop-i-test.true c.requires
+    (sym c.is_key_of_members.ensures ∙ c.if-is_key_of_members.false) c.in_ok-member.member
     c.in_ok-sum.sum c.in_ok-member.ensures c.in_ok-sum.ensures c.in-Stays.is
 
 pub by_members-returns : goal.by_members-returns

@@ -1,6 +1,7 @@
 -- A node is looked into from its members, and those one level below.
 use Rattle.std.proofs.Common.{ℕ, ◌+◌, ◌*◌}
-use Rattle.gramcheck.specs.ByByte.{ByMembers, ByAlternatives, mark_in, tail_in}
+use Rattle.gramcheck.specs.ByByte.{ByMembers, ByAlternatives}
+use Rattle.gramcheck.specs.Decides.{mark_in, tail_in}
 use Rattle.gramcheck.specs.Nodes.{shapes_of}
 use Rattle.gramcheck.specs.declared.by_byte.Verdict.{Verdict}
 use Rattle.gramcheck.proofs.by_byte.+deciding.Given as goal
@@ -23,14 +24,14 @@ decreases-by_node l = 3 * l.levels + 2
 -- what the members from here on decide, with those so far, all decide
 abbrev pub invariant-by_members-loop-i : goal.invariant-by_members-loop-i
 invariant-by_members-loop-i l = (v : Verdict) (d : ℕ) →
-    ByMembers (shapes_of l.grammar.nodes.now) l.grammar.bodies.now (mark_in l.grammar.keys.now)
-    (tail_in l.grammar.tails.now) l.b l.n l.members l.i v d →
-    ByMembers (shapes_of l.grammar.nodes.now) l.grammar.bodies.now (mark_in l.grammar.keys.now)
-    (tail_in l.grammar.tails.now) l.b l.n l.members 0 v (l.count + d)
+    ByMembers (shapes_of l.grammar.nodes.now) l.grammar.bodies.now (mark_in l.grammar) (tail_in l.grammar) l.b l.n
+    l.members l.i v d →
+    ByMembers (shapes_of l.grammar.nodes.now) l.grammar.bodies.now (mark_in l.grammar) (tail_in l.grammar) l.b l.n
+    l.members 0 v (l.count + d)
 
 abbrev pub invariant-by_alternatives-loop-i : goal.invariant-by_alternatives-loop-i
 invariant-by_alternatives-loop-i l = (v : Verdict) (d : ℕ) →
-    ByAlternatives (shapes_of l.grammar.nodes.now) l.grammar.bodies.now (mark_in l.grammar.keys.now)
-    (tail_in l.grammar.tails.now) l.b l.n l.alternatives l.i v d →
-    ByAlternatives (shapes_of l.grammar.nodes.now) l.grammar.bodies.now (mark_in l.grammar.keys.now)
-    (tail_in l.grammar.tails.now) l.b l.n l.alternatives 0 v (l.count + d)
+    ByAlternatives (shapes_of l.grammar.nodes.now) l.grammar.bodies.now (mark_in l.grammar) (tail_in l.grammar) l.b l.n
+    l.alternatives l.i v d →
+    ByAlternatives (shapes_of l.grammar.nodes.now) l.grammar.bodies.now (mark_in l.grammar) (tail_in l.grammar) l.b l.n
+    l.alternatives 0 v (l.count + d)

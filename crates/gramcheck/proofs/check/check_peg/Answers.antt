@@ -44,7 +44,7 @@ find_keys-requires c =
     let same = ap length c.deref-7.ensures.value in
     omega (arith, first, count, same)
 
-module _ (c : goal.In_ok-keys) where
+module _ (c : goal.In_ok-stars) where
   is_sound : IsRanked (rules_of c.args.peg.rules) c.in_ok-first.first
       (shapes_of c.in_ok-judged.judged.cut.nodes.items) c.in_ok-judged.judged.cut.bodies.items
       c.in_ok-judged.judged.ranks.items
@@ -67,3 +67,11 @@ new-sound-requires-clause-printing c =
 
 pub new-sound-requires-clause-keys : goal.new-sound-requires-clause-keys
 new-sound-requires-clause-keys c = rw (c.deref-6.ensures.value, c.deref-7.ensures.value) at c.in_ok-keys.ensures
+
+pub new-sound-requires-clause-stars : goal.new-sound-requires-clause-stars
+new-sound-requires-clause-stars c = rw (
+  c.deref-8.ensures.value,
+  c.deref-9.ensures.value,
+  c.deref-10.ensures.value,
+  c.deref-11.ensures.value,
+) at c.in_ok-stars.ensures

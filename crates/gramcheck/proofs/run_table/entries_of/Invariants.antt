@@ -1,5 +1,5 @@
 use Rattle.std.proofs.Common.{◌≡◌, length}
-use Rattle.gramcheck.specs.ByByte.{mark_in, tail_in}
+use Rattle.gramcheck.specs.Decides.{mark_in, tail_in}
 use Rattle.gramcheck.specs.Nodes.{shapes_of}
 use Rattle.gramcheck.specs.RunTables.{IsTable}
 use Rattle.gramcheck.proofs.run_table.entries_of.Given as goal
@@ -8,6 +8,6 @@ use Rattle.gramcheck.proofs.run_table.entries_of.Given as goal
 abbrev pub invariant-loop-b : goal.invariant-loop-b
 invariant-loop-b l = record {
   count : length l.entries.items ≡ l.b;
-  table : IsTable (shapes_of l.grammar.nodes.now) l.grammar.bodies.now (mark_in l.grammar.keys.now)
-      (tail_in l.grammar.tails.now) l.n l.entries.items;
+  table : IsTable (shapes_of l.grammar.nodes.now) l.grammar.bodies.now (mark_in l.grammar)
+      (tail_in l.grammar) l.n l.entries.items;
 }

@@ -6,5 +6,5 @@ use Rattle.gramcheck.proofs.run_table.run_along.Given as goal
 abbrev pub invariant-loop-end : goal.invariant-loop-end
 invariant-loop-end l = record {
   turns : TurnsTo l.entries l.window l.from l.end l.pairs;
-  fits : l.pairs ≤ (l.end - l.from) * 2 ^ 32;
+  fits : l.pairs ≤ (l.end - l.from) * 2 ^ 16;
 }
