@@ -1,5 +1,5 @@
 -- The loop's turns are steps of the machine.
--- Serves: Packrat::match_unit
+-- Serves: Packrat::match_unit, Packrat::replay
 use Rattle.std.proofs.Common.{◌≡◌, ◌⊎◌, inl, inr, ℕ, ◌+◌, Bool, true, false, List, [], ◌∷◌, ◌++◌, length, Some}
 use Rattle.std.proofs.Common.{refl, sym, subst, ◌∙◌, arith, ◌*◌, ◌≤◌}
 use Rattle.std.proofs.lemmas.List.{length-map}
