@@ -10,7 +10,7 @@ ghost use Rattle.lazydfa.specs.ClassBounds.{AreClasses, IsClassOf};
 ghost use Rattle.lazydfa.specs.declared.cache.State.{State};
 ghost use Rattle.lazydfa.specs.RunVerdicts.{IsRunVerdict};
 
-use crate::cache::{Cache, Cell, forget, state_of, widen_states};
+use crate::cache::{Cache, Cell, state_of, widen_states};
 use crate::classes::class_of;
 use crate::close::{Ids, close, empty, enter};
 use crate::conts::{Conts, widen_conts};
@@ -75,28 +75,6 @@ fn begin(
     Ok(Some(t))
 }
 
-/// Returns the number of the start. All is forgotten if an allocation fails.
-fn start(
-    alloc: Global,
-    tables: &Tables,
-    samples: &[u32],
-    cache: &mut Cache,
-) -> Result<Option<usize>, Memory>
-    requires cached { IsCache tables.now samples.now cache.old }
-    ensures cached { IsCache tables.now samples.now cache.new }
-    ensures grows { IfOk result (λ told. Grows cache.old cache.new) }
-    ensures is { IfOk result (λ told. IfSome told (IsStartAt tables.now cache.new.conts.items.items
-        cache.new.states.items)) }
-{
-    match begin(alloc, tables, samples, cache) {
-        Ok(told) => Ok(told),
-        Err(error) => {
-            forget(cache);
-            Err(error)
-        }
-    }
-}
-
 /// Returns the cell of a state and a class, which is filled if it is not known.
 #[inline(always)]
 fn cell_of(
@@ -108,7 +86,7 @@ fn cell_of(
     class: usize,
 ) -> Result<Cell, Memory>
     requires cached { IsCache tables.now samples.now cache.old }
-    ensures cached { IsCache tables.now samples.now cache.new }
+    ensures cached { IfOk result (λ cell. IsCache tables.now samples.now cache.new) }
     ensures grows { IfOk result (λ cell. Grows cache.old cache.new) }
     ensures is { IfOk result (λ cell. (d : ℕ) → slice_get samples.now class ≡ Some d → IsCell tables.now d
         cache.new.conts.items.items cache.new.states.items state cell) }
@@ -148,7 +126,10 @@ fn settle(
         RunsOver tables.now memo.old state x j → RunsAt tables.now memo.new t x j)) }
 {
     let mut now = state;
-    'parts: while has_ended(&memo.cache, now) {
+    'parts: while memo.parts.len() > 0 {
+        if !has_ended(&memo.cache, now) {
+            return Ok(Some(now));
+        }
         let Some(part) = memo.parts.pop() else {
             return Ok(Some(now));
         };
@@ -243,7 +224,7 @@ fn follow<L: Letter>(
         (map L.number line.now))) }
 {
     prepare(memo, line.len())?;
-    let Some(first) = start(alloc, tables, samples, &mut memo.cache)? else {
+    let Some(first) = begin(alloc, tables, samples, &mut memo.cache)? else {
         return Ok(None);
     };
     let mut state = first;

@@ -15,13 +15,13 @@ use Rattle.lazydfa.proofs.run.follow.Goals as goal
 pub returns-in_default-clause-memo : goal.returns-in_default-clause-memo
 returns-in_default-clause-memo g c = record {
   cached = c.in_ok-first.ensures.cached;
-  unfolds = subst (λ v. AreUnfolds c.args.tables.now c.start.new.cache.conts.items.items
-      c.start.new.cache.states.items v.items) (sym c.in_ok-prepare.ensures.unfolds)
-      (unfolds_kept c.args.tables.now c.args.memo.now.cache.conts.items.items c.start.new.cache.conts.items.items
-      c.args.memo.now.cache.states.items c.start.new.cache.states.items
-      (subst (λ v. AreKept v.items c.start.new.cache.conts.items.items) c.in_ok-prepare.ensures.conts
+  unfolds = subst (λ v. AreUnfolds c.args.tables.now c.begin.new.cache.conts.items.items
+      c.begin.new.cache.states.items v.items) (sym c.in_ok-prepare.ensures.unfolds)
+      (unfolds_kept c.args.tables.now c.args.memo.now.cache.conts.items.items c.begin.new.cache.conts.items.items
+      c.args.memo.now.cache.states.items c.begin.new.cache.states.items
+      (subst (λ v. AreKept v.items c.begin.new.cache.conts.items.items) c.in_ok-prepare.ensures.conts
       c.in_ok-first.ensures.grows.conts)
-      (subst (λ v. AreGrown v.items c.start.new.cache.states.items) c.in_ok-prepare.ensures.states
+      (subst (λ v. AreGrown v.items c.begin.new.cache.states.items) c.in_ok-prepare.ensures.states
       c.in_ok-first.ensures.grows.states) c.requires.memo.cached.within c.args.memo.now.unfolds.items
       c.requires.memo.unfolds);
 }
@@ -30,21 +30,21 @@ pub loop-at-init : goal.loop-at-init
 loop-at-init g c = (
   record {
     cached = c.in_ok-first.ensures.cached;
-    unfolds = subst (λ v. AreUnfolds c.args.tables.now c.start.new.cache.conts.items.items
-        c.start.new.cache.states.items v.items) (sym c.in_ok-prepare.ensures.unfolds)
-        (unfolds_kept c.args.tables.now c.args.memo.now.cache.conts.items.items c.start.new.cache.conts.items.items
-        c.args.memo.now.cache.states.items c.start.new.cache.states.items
-        (subst (λ v. AreKept v.items c.start.new.cache.conts.items.items) c.in_ok-prepare.ensures.conts
+    unfolds = subst (λ v. AreUnfolds c.args.tables.now c.begin.new.cache.conts.items.items
+        c.begin.new.cache.states.items v.items) (sym c.in_ok-prepare.ensures.unfolds)
+        (unfolds_kept c.args.tables.now c.args.memo.now.cache.conts.items.items c.begin.new.cache.conts.items.items
+        c.args.memo.now.cache.states.items c.begin.new.cache.states.items
+        (subst (λ v. AreKept v.items c.begin.new.cache.conts.items.items) c.in_ok-prepare.ensures.conts
         c.in_ok-first.ensures.grows.conts)
-        (subst (λ v. AreGrown v.items c.start.new.cache.states.items) c.in_ok-prepare.ensures.states
+        (subst (λ v. AreGrown v.items c.begin.new.cache.states.items) c.in_ok-prepare.ensures.states
         c.in_ok-first.ensures.grows.states) c.requires.memo.cached.within c.args.memo.now.unfolds.items
         c.requires.memo.unfolds);
   },
   settled_start c.args.tables.now c.requires.roots (map g.L.Letter.number c.args.line.now)
-      c.start.new.cache.conts.items.items c.start.new.cache.states.items c.prepare.new.memo.parts.items
+      c.begin.new.cache.conts.items.items c.begin.new.cache.states.items c.prepare.new.memo.parts.items
       c.in-Some.first c.in_ok-prepare.ensures.parts
-      (subst (λ v. IfSome v (IsStartAt c.args.tables.now c.start.new.cache.conts.items.items
-      c.start.new.cache.states.items)) c.in-Some.is c.in_ok-first.ensures.is),
+      (subst (λ v. IfSome v (IsStartAt c.args.tables.now c.begin.new.cache.conts.items.items
+      c.begin.new.cache.states.items)) c.in-Some.is c.in_ok-first.ensures.is),
   λ some. absurd (omega (arith, some)),
 )
 
