@@ -12,7 +12,8 @@ use ruletable::Memory;
 use std::alloc::Global;
 
 /// Returns where the cell of a state and a class stands.
-fn spot(state: usize, classes: usize, class: usize) -> Option<usize>
+#[inline(always)]
+pub(crate) fn spot(state: usize, classes: usize, class: usize) -> Option<usize>
     ensures { IfSome result (λ at. at ≡ state * classes + class) }
 {
     let row = state.checked_mul(classes)?;

@@ -9,6 +9,7 @@ mod classes;
 mod close;
 mod conts;
 mod fill;
+mod glide;
 mod memo;
 mod parts;
 mod run;

@@ -10,11 +10,12 @@ ghost use Rattle.lazydfa.specs.ClassBounds.{AreClasses, IsClassOf};
 ghost use Rattle.lazydfa.specs.declared.cache.State.{State};
 ghost use Rattle.lazydfa.specs.RunVerdicts.{IsRunVerdict};
 
-use crate::cache::{Cache, Cell, state_of, widen_states};
+use crate::cache::{Cache, Cell, has_ended, state_of, widen_states};
 use crate::classes::class_of;
 use crate::close::{Ids, close, empty, enter};
 use crate::conts::{Conts, widen_conts};
 use crate::fill::{fill, look, may_fill};
+use crate::glide::{Stand, glide};
 use crate::memo::{Memo, forget_all, unfolded, widen_unfolds};
 use crate::transition::{Front, readers};
 use flatgrammar::{Tables, Verdict, whole_root};
@@ -95,17 +96,6 @@ fn cell_of(
     match cell {
         Cell::Unknown => fill(alloc, tables, samples, cache, state, class),
         Cell::Over | Cell::Dead | Cell::To(_) | Cell::Push(_, _) => Ok(cell),
-    }
-}
-
-// Tells whether the whole may end where a state is.
-#[inline(always)]
-fn has_ended(cache: &Cache, state: usize) -> bool
-    ensures { (got : State) → slice_get cache.now.states.items state ≡ Some got → result ≡ got.ended }
-{
-    match cache.states.get(state) {
-        Some(got) => got.ended,
-        None => false,
     }
 }
 
@@ -227,24 +217,32 @@ fn follow<L: Letter>(
     let Some(first) = begin(alloc, tables, samples, &mut memo.cache)? else {
         return Ok(None);
     };
-    let mut state = first;
-    for (at, letter) in line.iter().enumerate() {
-        let Some(class) = class_of(low, samples, letter.value()) else {
+    let start = Stand {
+        state: first,
+        at: 0,
+    };
+    let mut stand = glide(memo, low, samples, line, start);
+    while stand.at < line.len() {
+        let Some(class) = class_of(low, samples, line[stand.at].value()) else {
             return Ok(None);
         };
-        match take_step(alloc, tables, samples, memo, state, class)? {
+        match take_step(alloc, tables, samples, memo, stand.state, class)? {
             Step::To(t) => {
-                state = t;
+                let next = Stand {
+                    state: t,
+                    at: stand.at + 1,
+                };
+                stand = glide(memo, low, samples, line, next);
             }
             Step::Dead => {
-                return Ok(Some(Verdict::No(at)));
+                return Ok(Some(Verdict::No(stand.at)));
             }
             Step::Over => {
                 return Ok(None);
             }
         }
     }
-    Ok(Some(verdict_at_end(has_ended(&memo.cache, state), line.len())))
+    Ok(Some(verdict_at_end(has_ended(&memo.cache, stand.state), line.len())))
 }
 
 /// Tells what `follow` tells. All is forgotten if an allocation fails.
