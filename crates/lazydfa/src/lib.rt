@@ -10,6 +10,7 @@ mod close;
 mod conts;
 mod fill;
 mod glide;
+mod hops;
 mod memo;
 mod parts;
 mod run;

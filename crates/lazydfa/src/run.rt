@@ -16,6 +16,7 @@ use crate::close::{Ids, close, empty, enter};
 use crate::conts::{Conts, widen_conts};
 use crate::fill::{fill, look, may_fill};
 use crate::glide::{Stand, glide};
+use crate::hops::note_hop;
 use crate::memo::{Memo, forget_all, unfolded, widen_unfolds};
 use crate::transition::{Front, readers};
 use flatgrammar::{Tables, Verdict, whole_root};
@@ -157,10 +158,13 @@ fn take_step(
         IsStepTaken tables.now memo.new x j step) }
 {
     match cell_of(alloc, tables, samples, &mut memo.cache, state, class)? {
-        Cell::To(t) => match settle(alloc, tables, samples, memo, t)? {
-            Some(settled) => Ok(Step::To(settled)),
-            None => Ok(Step::Over),
-        },
+        Cell::To(t) => {
+            note_hop(&memo.cache, samples.len(), &mut memo.hops, state, class, t)?;
+            match settle(alloc, tables, samples, memo, t)? {
+                Some(settled) => Ok(Step::To(settled)),
+                None => Ok(Step::Over),
+            }
+        }
         Cell::Push(t, part) => {
             memo.parts.push(part)?;
             Ok(Step::To(t))
@@ -175,6 +179,7 @@ fn prepare(memo: &mut Memo, letters: usize) -> Result<(), Memory>
     ensures conts { memo.new.cache.conts.items ≡ memo.old.cache.conts.items }
     ensures states { memo.new.cache.states ≡ memo.old.cache.states }
     ensures cells { memo.new.cache.cells ≡ memo.old.cache.cells }
+    ensures hops { memo.new.hops ≡ memo.old.hops }
     ensures unfolds { memo.new.unfolds ≡ memo.old.unfolds }
     ensures parts { IfOk result (λ done. memo.new.parts.items ≡ []) }
 {

@@ -5,42 +5,38 @@ use Rattle.flatgrammar.specs.NodeSteps.{flat_of}
 use Rattle.lazydfa.specs.Cached.{IsStartAt, AreGrown}
 use Rattle.lazydfa.specs.ClassBounds.{IsClassOf}
 use Rattle.lazydfa.specs.Conts.{last_of, AreKept}
-use Rattle.lazydfa.specs.Memos.{AreUnfolds, IsMemo, IsStepTaken}
+use Rattle.lazydfa.specs.Memos.{IsMemo, IsStepTaken}
 use Rattle.lazydfa.specs.StackParts.{below_of}
 use Rattle.lazydfa.specs.RunVerdicts.{IsRunVerdict}
-use Rattle.lazydfa.proofs.IsOverLemmas.{settled_start, unfolds_kept, plain_below}
+use Rattle.lazydfa.proofs.AreHopsLemmas.{memo_kept}
+use Rattle.lazydfa.proofs.IsOverLemmas.{settled_start, plain_below}
 use Rattle.lazydfa.proofs.IsRunVerdictLemmas.{number_at, dead_verdict, end_verdict}
 use Rattle.lazydfa.proofs.run.follow.Goals as goal
 
 pub returns-in_default-clause-memo : goal.returns-in_default-clause-memo
-returns-in_default-clause-memo g c = record {
-  cached = c.in_ok-first.ensures.cached;
-  unfolds = subst (λ v. AreUnfolds c.args.tables.now c.begin.new.cache.conts.items.items
-      c.begin.new.cache.states.items v.items) (sym c.in_ok-prepare.ensures.unfolds)
-      (unfolds_kept c.args.tables.now c.args.memo.now.cache.conts.items.items c.begin.new.cache.conts.items.items
-      c.args.memo.now.cache.states.items c.begin.new.cache.states.items
-      (subst (λ v. AreKept v.items c.begin.new.cache.conts.items.items) c.in_ok-prepare.ensures.conts
-      c.in_ok-first.ensures.grows.conts)
-      (subst (λ v. AreGrown v.items c.begin.new.cache.states.items) c.in_ok-prepare.ensures.states
-      c.in_ok-first.ensures.grows.states) c.requires.memo.cached.within c.args.memo.now.unfolds.items
-      c.requires.memo.unfolds);
-}
+returns-in_default-clause-memo g c =
+    memo_kept c.args.tables.now c.args.samples.now c.args.memo.now
+    (record c.prepare.new.memo { cache = c.begin.new.cache }) c.requires.memo c.in_ok-first.ensures.cached
+    (record {
+      conts = subst (λ v. AreKept v.items c.begin.new.cache.conts.items.items) c.in_ok-prepare.ensures.conts
+          c.in_ok-first.ensures.grows.conts;
+      states = subst (λ v. AreGrown v.items c.begin.new.cache.states.items) c.in_ok-prepare.ensures.states
+          c.in_ok-first.ensures.grows.states;
+    })
+    (ap (λ v. v.items) c.in_ok-prepare.ensures.unfolds) (ap (λ v. v.items) c.in_ok-prepare.ensures.hops)
 
 pub loop-stand-init : goal.loop-stand-init
 loop-stand-init g c =
     let memo : IsMemo c.args.tables.now c.args.samples.now (record c.prepare.new.memo { cache = c.begin.new.cache }) =
-    record {
-      cached = c.in_ok-first.ensures.cached;
-      unfolds = subst (λ v. AreUnfolds c.args.tables.now c.begin.new.cache.conts.items.items
-          c.begin.new.cache.states.items v.items) (sym c.in_ok-prepare.ensures.unfolds)
-          (unfolds_kept c.args.tables.now c.args.memo.now.cache.conts.items.items c.begin.new.cache.conts.items.items
-          c.args.memo.now.cache.states.items c.begin.new.cache.states.items
-          (subst (λ v. AreKept v.items c.begin.new.cache.conts.items.items) c.in_ok-prepare.ensures.conts
-          c.in_ok-first.ensures.grows.conts)
-          (subst (λ v. AreGrown v.items c.begin.new.cache.states.items) c.in_ok-prepare.ensures.states
-          c.in_ok-first.ensures.grows.states) c.requires.memo.cached.within c.args.memo.now.unfolds.items
-          c.requires.memo.unfolds);
-    } in
+    memo_kept c.args.tables.now c.args.samples.now c.args.memo.now
+    (record c.prepare.new.memo { cache = c.begin.new.cache }) c.requires.memo c.in_ok-first.ensures.cached
+    (record {
+      conts = subst (λ v. AreKept v.items c.begin.new.cache.conts.items.items) c.in_ok-prepare.ensures.conts
+          c.in_ok-first.ensures.grows.conts;
+      states = subst (λ v. AreGrown v.items c.begin.new.cache.states.items) c.in_ok-prepare.ensures.states
+          c.in_ok-first.ensures.grows.states;
+    })
+    (ap (λ v. v.items) c.in_ok-prepare.ensures.unfolds) (ap (λ v. v.items) c.in_ok-prepare.ensures.hops) in
     record {
       memo = memo;
       within = c.glide-stand.ensures.within;
