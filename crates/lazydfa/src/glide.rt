@@ -35,9 +35,7 @@ fn hop_on<L: Letter>(memo: &Memo, low: &[usize], samples: &[u32], line: &[L], fr
     let hops = memo.hops.as_slice();
     let mut track = from;
     while track.at < line.len() {
-        let Some(class) = class_of(low, samples, line[track.at].value()) else {
-            return track;
-        };
+        let class = class_of(low, samples, line[track.at].value());
         let Some(row) = next_row(hops, is_bare, track.row, class) else {
             return track;
         };

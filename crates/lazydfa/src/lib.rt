@@ -2,6 +2,7 @@
 #![tactic(auto)]
 
 mod automaton;
+mod bounds;
 mod budget;
 mod cache;
 mod chains;

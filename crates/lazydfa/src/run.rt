@@ -228,9 +228,7 @@ fn follow<L: Letter>(
     };
     let mut stand = glide(memo, low, samples, line, start);
     while stand.at < line.len() {
-        let Some(class) = class_of(low, samples, line[stand.at].value()) else {
-            return Ok(None);
-        };
+        let class = class_of(low, samples, line[stand.at].value());
         match take_step(alloc, tables, samples, memo, stand.state, class)? {
             Step::To(t) => {
                 let next = Stand {

@@ -14,17 +14,16 @@ loop-track-preserved g c = record {
   further = omega arith;
   glides = λ tables roots classes memo track.
       hop_taken tables roots c.args.samples.now c.args.memo.now memo (map g.L.Letter.number c.args.line.now)
-      c.loop-track.track.row c.loop-track.track.at c.value.result c.in-Some.class c.in-Some-next_row.row
+      c.loop-track.track.row c.loop-track.track.at c.value.result c.class_of-class.result c.in-Some.row
       (nat_eq c.len-is_bare.result 0)
       (λ bare. nil_from_length c.args.memo.now.parts.items
       (let z = eqb-true c.len-is_bare.result 0 bare in let l = c.len-is_bare.ensures in omega (arith, z, l)))
       (c.loop-track.invariant.glides tables roots classes memo track)
       (number_at g.L.Letter.number c.args.line.now c.loop-track.track.at c.index-line-track.result
       c.value.result c.loop-track-test.true c.index-line-track.is c.value.ensures.number)
-      (subst (λ v. IfSome v (IsClassOf (flat_of tables) c.args.samples.now c.value.result)) c.in-Some.is
-      (c.class_of.ensures (flat_of tables) classes))
-      (subst (λ v. IsTaken v (nat_eq c.len-is_bare.result 0) (c.loop-track.track.row + c.in-Some.class)
-      c.in-Some-next_row.row) c.as_slice-hops.ensures.value
+      (c.class_of-class.ensures (flat_of tables) classes)
+      (subst (λ v. IsTaken v (nat_eq c.len-is_bare.result 0) (c.loop-track.track.row + c.class_of-class.result)
+      c.in-Some.row) c.as_slice-hops.ensures.value
       (subst (λ v. IfSome v (IsTaken c.as_slice-hops.result.now (nat_eq c.len-is_bare.result 0)
-      (c.loop-track.track.row + c.in-Some.class))) c.in-Some-next_row.is c.next_row.ensures));
+      (c.loop-track.track.row + c.class_of-class.result))) c.in-Some.is c.next_row.ensures));
 }

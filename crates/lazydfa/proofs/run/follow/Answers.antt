@@ -62,8 +62,7 @@ returns-in-Dead-clause-told g c =
     (c.in_ok-t.ensures.taken (map g.L.Letter.number c.args.line.now) c.loop-stand.stand.at c.value.result
     (number_at g.L.Letter.number c.args.line.now c.loop-stand.stand.at c.index-line-stand.result c.value.result
     c.loop-stand-test.true c.index-line-stand.is c.value.ensures.number)
-    (subst (λ v. IfSome v (IsClassOf (flat_of c.args.tables.now) c.args.samples.now c.value.result))
-    c.in-Some-class_of.is (c.class_of.ensures (flat_of c.args.tables.now) c.requires.classes))
+    (c.class_of-class.ensures (flat_of c.args.tables.now) c.requires.classes)
     c.loop-stand.invariant.stands.runs))
 
 pub loop-stand-preserved : goal.loop-stand-preserved
@@ -73,8 +72,7 @@ loop-stand-preserved g c =
     (c.in_ok-t.ensures.taken (map g.L.Letter.number c.args.line.now) c.loop-stand.stand.at c.value.result
     (number_at g.L.Letter.number c.args.line.now c.loop-stand.stand.at c.index-line-stand.result c.value.result
     c.loop-stand-test.true c.index-line-stand.is c.value.ensures.number)
-    (subst (λ v. IfSome v (IsClassOf (flat_of c.args.tables.now) c.args.samples.now c.value.result))
-    c.in-Some-class_of.is (c.class_of.ensures (flat_of c.args.tables.now) c.requires.classes))
+    (c.class_of-class.ensures (flat_of c.args.tables.now) c.requires.classes)
     c.loop-stand.invariant.stands.runs) in
     record {
       memo = c.in_ok-t.ensures.memo;
