@@ -1,8 +1,8 @@
 pub mod Cached
 pub mod ClassBounds
 pub mod Conts
+pub mod Hops
 pub mod Memos
 pub mod RunVerdicts
 pub mod Spines
 pub mod StackParts
-pub mod Hops

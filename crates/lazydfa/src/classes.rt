@@ -109,6 +109,8 @@ fn ascend(bounds: &mut Vec<u32>)
 }
 
 // Returns the class of a number by a search: that of the last sample up to it.
+#[cold]
+#[inline(never)]
 fn class_above(samples: &[u32], value: u32) -> usize
     ensures { (flat : Flat) → AreParted flat samples.now → IsClassOf flat samples.now value result }
 {
