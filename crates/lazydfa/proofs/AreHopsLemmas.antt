@@ -1,6 +1,6 @@
 -- Known cells that lead to states.
 -- Serves: judge, viable.
-use Rattle.std.proofs.Common.{◌≡◌, ℕ, ◌+◌, ◌*◌, ◌/◌, ◌%◌, ◌<◌, ◌≤◌, Bool, true, false, List, [], length, refl, sym, ◌∙◌}
+use Rattle.std.proofs.Common.{◌≡◌, ℕ, ◌+◌, ◌*◌, ◌/◌, ◌<◌, ◌≤◌, Bool, true, false, List, [], length, refl, sym, ◌∙◌}
 use Rattle.std.proofs.Common.{subst, arith, ◌⊎◌, inl, inr, if◌then◌else◌}
 use Rattle.std.proofs.Math.ListN.{set}
 use Rattle.std.proofs.lemmas.Bool.{cases_lt}
@@ -14,7 +14,7 @@ use Rattle.lazydfa.specs.declared.hops.Hop.{Hop}
 use Rattle.lazydfa.specs.declared.hops.Hop.TheVariants.{Unknown, Runs, Ends}
 use Rattle.lazydfa.specs.Conts.{AreKept}
 use Rattle.lazydfa.specs.Cached.{AreGrown, Grows, IsCache, IsCell}
-use Rattle.lazydfa.specs.Hops.{IsHopTo, IsHop, AreHops, IsHopPut, IsHopMade, AreHopsNoted}
+use Rattle.lazydfa.specs.Hops.{IsHopTo, IsHop, AreHops, IsHopMade, AreHopsNoted}
 use Rattle.lazydfa.specs.Memos.{AreUnfolds, IsMemo}
 use Rattle.lazydfa.specs.declared.memo.Memo.{Memo}
 use Rattle.lazydfa.proofs.AreCachedLemmas.{cached_none, cell_kept, grown_at, row_is, class_is}

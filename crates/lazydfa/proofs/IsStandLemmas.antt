@@ -1,7 +1,7 @@
 -- A run goes on to a state that is kept.
 -- Serves: judge, viable.
 use Rattle.std.proofs.Common.{◌≡◌, ℕ, ◌+◌, ◌*◌, ◌/◌, ◌<◌, Bool, true, false, List, [], length, refl, sym, ◌∙◌, ap}
-use Rattle.std.proofs.Common.{subst, arith, ◌⊎◌, inl, inr}
+use Rattle.std.proofs.Common.{subst, arith, inl, inr}
 use Rattle.std.proofs.lemmas.Option.{slice_get_within}
 use Rattle.std.specs.Prelude.{slice_get, Some}
 use Rattle.flatgrammar.specs.NodeSteps.{flat_of}

@@ -2,7 +2,6 @@ use Rattle.std.proofs.Common.{nat_eq, eqb-true, subst, map, arith, ◌+◌}
 use Rattle.std.proofs.lemmas.List.{nil_from_length}
 use Rattle.std.specs.Prelude.{IfSome}
 use Rattle.flatgrammar.specs.NodeSteps.{flat_of}
-use Rattle.lazydfa.specs.ClassBounds.{IsClassOf}
 use Rattle.lazydfa.specs.Hops.{IsTaken}
 use Rattle.lazydfa.proofs.IsRunVerdictLemmas.{number_at}
 use Rattle.lazydfa.proofs.IsStandLemmas.{hop_taken}

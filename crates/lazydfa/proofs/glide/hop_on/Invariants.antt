@@ -1,4 +1,4 @@
-use Rattle.std.proofs.Common.{ℕ, ◌≤◌, ◌-◌, length, map}
+use Rattle.std.proofs.Common.{◌≤◌, ◌-◌, length, map}
 use Rattle.lazydfa.specs.Memos.{GlidesOver}
 use Rattle.lazydfa.proofs.glide.hop_on.Given as goal
 

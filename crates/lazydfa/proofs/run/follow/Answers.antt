@@ -1,9 +1,8 @@
-use Rattle.std.proofs.Common.{◌<◌, subst, sym, ◌∙◌, ap, arith, map, length}
+use Rattle.std.proofs.Common.{subst, sym, ap, arith, map, length}
 use Rattle.std.proofs.lemmas.List.{length-map}
 use Rattle.std.specs.Prelude.{IfSome}
 use Rattle.flatgrammar.specs.NodeSteps.{flat_of}
 use Rattle.lazydfa.specs.Cached.{IsStartAt, AreGrown}
-use Rattle.lazydfa.specs.ClassBounds.{IsClassOf}
 use Rattle.lazydfa.specs.Conts.{last_of, AreKept}
 use Rattle.lazydfa.specs.Memos.{IsMemo, IsStepTaken}
 use Rattle.lazydfa.specs.StackParts.{below_of}

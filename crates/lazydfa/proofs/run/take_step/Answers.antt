@@ -1,9 +1,8 @@
 use Rattle.std.proofs.Common.{◌+◌, subst, refl, sym, ℕ, List}
 use Rattle.std.specs.Prelude.{IfSome, false}
 use Rattle.lazydfa.specs.StackParts.{below_of}
-use Rattle.lazydfa.specs.declared.cache.Cell.TheVariants.{To}
 use Rattle.lazydfa.specs.Cached.{IsCell}
-use Rattle.lazydfa.specs.Memos.{IsMemo, RunsOver, RunsAt}
+use Rattle.lazydfa.specs.Memos.{RunsOver, RunsAt}
 use Rattle.lazydfa.proofs.AreHopsLemmas.{memo_kept, hops_noted}
 use Rattle.lazydfa.proofs.IsAtLemmas.{step_to, step_push, step_reached, push_reached, push_runs, pushed_part, step_dead}
 use Rattle.lazydfa.proofs.IsOverLemmas.{over_kept, over_pushed, plain_below, settled_running}
