@@ -18,5 +18,5 @@ loop-node-preserved c = (
 
 pub returns-clause-split : goal.returns-clause-split
 returns-clause-split c =
-    split_to_end node_of IsNodeSplit more_node_split c.loop-node.bounds.numbers.items c.args.nodes.now c.loop-node.node-index
-    c.loop-node-test.false c.loop-node.invariant.1
+    split_to_end node_of IsNodeSplit more_node_split c.loop-node.bounds.numbers.items c.args.nodes.now
+    c.loop-node.node-index c.loop-node-test.false c.loop-node.invariant.1

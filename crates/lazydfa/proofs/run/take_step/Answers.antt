@@ -50,8 +50,8 @@ returns-in-Some-clause-taken c = λ x j letter is class at. (
 pub returns-in_ok-push-in-Push-clause-memo : goal.returns-in_ok-push-in-Push-clause-memo
 returns-in_ok-push-in-Push-clause-memo c =
     memo_kept c.args.tables.now c.args.samples.now c.args.memo.now
-    (record c.args.memo.now { cache = c.cell_of.new.cache; parts = c.push.new.self }) c.requires.memo c.in_ok-t.ensures.cached
-    c.in_ok-t.ensures.grows refl refl
+    (record c.args.memo.now { cache = c.cell_of.new.cache; parts = c.push.new.self }) c.requires.memo
+    c.in_ok-t.ensures.cached c.in_ok-t.ensures.grows refl refl
 
 pub returns-in_ok-push-in-Push-clause-taken : goal.returns-in_ok-push-in-Push-clause-taken
 returns-in_ok-push-in-Push-clause-taken c = λ x j letter is class at. (
