@@ -1,7 +1,7 @@
 -- What is cached stays so while the cache grows.
 -- Serves: judge.
 use Rattle.std.proofs.Common.{◌≡◌, ℕ, zero, suc, ◌+◌, ◌*◌, ◌/◌, ◌%◌, ◌<◌}
-use Rattle.std.proofs.Common.{◌≤◌, Bool, true, false, List, [], ◌∷◌, ◌++◌, length}
+use Rattle.std.proofs.Common.{◌≤◌, Bool, false, List, [], ◌∷◌, ◌++◌, length}
 use Rattle.std.proofs.Common.{refl, sym, ◌∙◌, ap}
 use Rattle.std.proofs.Common.{subst, arith, ◌⊎◌, inl, inr}
 use Rattle.std.proofs.lemmas.List.{append-nil}
@@ -23,7 +23,6 @@ use Rattle.lazydfa.specs.Conts.{TopReads}
 use Rattle.lazydfa.specs.Cached.{IsStart, AreGrown, IsStateOf, IsInterned, IsStep, IsPush, IsCell, AreCached}
 use Rattle.lazydfa.specs.Cached.{AreAddedUnknown}
 use Rattle.lazydfa.specs.StackParts.{IsSplitOff}
-use Rattle.stacks.specs.Stacks.{Lifted}
 use Rattle.lazydfa.proofs.ContsLemmas.{kept_stack, kept_within, kept_same, kept_both}
 use Rattle.lazydfa.proofs.IsClosureLemmas.{stands_at}
 

@@ -7,8 +7,7 @@ use Rattle.std.proofs.lemmas.Bool.{cases_lt}
 use Rattle.std.proofs.lemmas.List.{length-map, get_or_default}
 use Rattle.std.proofs.lemmas.List.Elements.{Contains-append_left, Contains-push}
 use Rattle.std.proofs.lemmas.Option.{slice_get-map, slice_get_within, slice_get-get_or}
-use Rattle.std.specs.Prelude.{slice_get, Option, Some, None, IfSome, option_map, Contains}
-use Rattle.std.specs.Option.{SomeIff}
+use Rattle.std.specs.Prelude.{slice_get, Some, option_map, Contains}
 use Rattle.std.proofs.lemmas.List.Filters.{dedup_is}
 use Rattle.std.proofs.lemmas.List.Kept.{Contains-dedup_nat}
 use Rattle.std.proofs.lemmas.List.Sorted.{Contains-permutation, IsNonDecreasingBy-from_all_adjacent}
@@ -21,7 +20,7 @@ use Rattle.flatgrammar.specs.Flat.{Flat, Node, Letters, Place, Set, Has, letter,
 use Rattle.flatgrammar.proofs.FlatCutLemmas.{push_cases}
 use Rattle.stacks.specs.Stacks.{AreAlike}
 use Rattle.lazydfa.specs.ClassBounds.{IsFree, AreMoreBounds, IsBoundAdded, IsSplit, IsNodeSplit, AreNodesSplit}
-use Rattle.lazydfa.specs.ClassBounds.{AreJoined, IsClassOf, AreLow, AreClasses}
+use Rattle.lazydfa.specs.ClassBounds.{AreJoined, AreParted, IsClassOf, AreLow, AreClasses}
 
 pub bound_added : (old new : List ℕ) (n : ℕ) → new ≡ old ++ n ∷ [] → IsBoundAdded old new n
 bound_added old new n is i free = (
@@ -31,6 +30,9 @@ bound_added old new n is i free = (
   λ same. free.none (subst (λ v. Contains v i) (sym is)
       (subst (λ v. Contains (old ++ n ∷ []) v) (sym same) (Contains-push old n))),
 )
+
+pub bound_there : (bounds : List ℕ) (n : ℕ) → Contains bounds n → IsBoundAdded bounds bounds n
+bound_there bounds n there i free = (free, λ same. free.none (subst (λ v. Contains bounds v) (sym same) there))
 
 pub more_split : (old new : List ℕ) (set : Set) → AreMoreBounds old new → IsSplit old set → IsSplit new set
 more_split old new set more h c fits free = h c fits (more (c + 1) free)
@@ -129,12 +131,22 @@ module _ (flat : Flat) (bounds : List ℕ) (split : AreNodesSplit bounds flat.no
       );
     }
 
-  pub class_found : (ordered : IsNonDecreasing bounds) (c above : ℕ) → c < 2 ^ 32 → above ≤ length bounds
-      → IsPartitionPoint (λ y. leb y c ≡ true) (λ y. leb y c ≡ false) bounds above → (class : Option ℕ)
-      → SomeIff class (1 ≤ above) (above - 1) → IfSome class (IsClassOf flat bounds c)
-  class_found ordered c above fits within point None h = tt
-  class_found ordered c above fits within point (Some k) h =
-      class_told ordered c k above fits within (let some = h.0 in let is = h.1 in omega (arith, some, is)) point
+-- a number has a class
+pub class_found : (flat : Flat) (bounds : List ℕ) → AreParted flat bounds → (c above : ℕ) → c < 2 ^ 32
+    → above ≤ length bounds → IsPartitionPoint (λ y. leb y c ≡ true) (λ y. leb y c ≡ false) bounds above
+    → (class : ℕ) → class ≡ above - 1 → IsClassOf flat bounds c class
+class_found flat bounds parted c above fits within point class is = by (cases_lt 0 above)
+  where
+    by : (0 < above) ⊎ (above ≤ 0) → IsClassOf flat bounds c class
+    by (inl some) =
+        class_told flat bounds parted.split parted.ordered c class above fits within (omega (arith, some, is)) point
+    by (inr none) = absurd (parted.first (record {
+      none = λ h.
+          let lt = h.1 in
+          let same = h.2 in
+          let more = leb-false (get_or bounds h.0 0) c (point.1 h.0 0 (omega (arith, none)) lt) in
+          omega (arith, more, same);
+    }))
 
 -- the classes of the first numbers, number by number
 pub record AreLowTo (flat : Flat) (samples low : List ℕ) (n : ℕ) : Type 0 where
@@ -174,15 +186,16 @@ ascended_more old mid new moved filtered i free = record {
       (Contains-dedup_nat mid i (Contains-permutation old mid i moved h)));
 }
 
-pub classes_made : (flat : Flat) (added sorted got low : List ℕ) → got ≡ sorted → AreNodesSplit added flat.nodes
-    → AreMoreBounds added sorted → IsNonDecreasing sorted → ((flat : Flat) → IsNonDecreasing got
-    → AreNodesSplit got flat.nodes → AreLow flat got low) → AreClasses flat low sorted
-classes_made flat added sorted got low same split more ordered low_are =
-    let parted = more_nodes_split added sorted flat.nodes more split in
-    record {
-      low_are = subst (λ v. AreLow flat v low) same
-          (low_are flat (subst (λ v. IsNonDecreasing v) (sym same) ordered)
-          (subst (λ v. AreNodesSplit v flat.nodes) (sym same) parted));
+pub classes_made : (flat : Flat) (none begun added sorted got low : List ℕ) → got ≡ sorted → IsBoundAdded none begun 0
+    → AreMoreBounds begun added → AreNodesSplit added flat.nodes → AreMoreBounds added sorted → IsNonDecreasing sorted
+    → ((flat : Flat) → AreParted flat got → AreLow flat got low) → AreClasses flat low sorted
+classes_made flat none begun added sorted got low same begins older split more ordered low_are =
+    let parted : AreParted flat sorted = record {
+      first = λ free. (begins 0 (older 0 (more 0 free))).1 refl;
       ordered = ordered;
-      split = parted;
+      split = more_nodes_split added sorted flat.nodes more split;
+    } in
+    record {
+      low_are = subst (λ v. AreLow flat v low) same (low_are flat (subst (λ v. AreParted flat v) (sym same) parted));
+      parted = parted;
     }

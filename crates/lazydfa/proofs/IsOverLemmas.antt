@@ -1,6 +1,6 @@
 -- States over parts.
 -- Serves: judge, viable.
-use Rattle.std.proofs.Common.{◌≡◌, ℕ, zero, suc, ◌+◌, ◌<◌, ◌≤◌, Bool, true, false, List, [], ◌∷◌, ◌++◌, length, refl}
+use Rattle.std.proofs.Common.{◌≡◌, ℕ, suc, ◌≤◌, Bool, true, false, List, [], ◌∷◌, ◌++◌, length, refl}
 use Rattle.std.proofs.Common.{sym, ◌∙◌, ap, subst, arith, ◌⊎◌, inl, inr}
 use Rattle.std.proofs.lemmas.List.Elements.{Contains-append_left, Contains-push, Contains-push_cases}
 use Rattle.std.specs.Prelude.{slice_get, Some, Contains}
@@ -14,7 +14,7 @@ use Rattle.lazydfa.specs.declared.conts.Cont.{Cont}
 use Rattle.lazydfa.specs.declared.cache.State.{State}
 use Rattle.lazydfa.specs.declared.memo.Unfold.{Unfold}
 use Rattle.lazydfa.specs.Conts.{last_of, stack_of, AreKept, IsStackOf}
-use Rattle.lazydfa.specs.Cached.{AreGrown, IsStart, IsStartAt, IsAt, IsInterned}
+use Rattle.lazydfa.specs.Cached.{AreGrown, IsStartAt, IsAt, IsInterned}
 use Rattle.lazydfa.specs.StackParts.{PutsBack, AreParts, below_onto, below_of}
 use Rattle.lazydfa.specs.Memos.{IsUnfold, IsKnown, AreUnfolds, IsOver, IsSettled}
 use Rattle.lazydfa.proofs.ContsLemmas.{kept_stack, kept_within, kept_same}

@@ -1,16 +1,14 @@
 -- What all tops stand on is split off.
 -- Serves: judge, viable.
-use Rattle.std.proofs.Common.{◌≡◌, ℕ, zero, suc, ◌+◌, ◌-◌, ◌<◌, ◌≤◌, List, [], ◌∷◌, ◌++◌, length, refl, sym, ◌∙◌, ap}
-use Rattle.std.proofs.Common.{subst, arith, ◌↔◌, ◌⊎◌, inl, inr}
+use Rattle.std.proofs.Common.{◌≡◌, ℕ, ◌+◌, ◌-◌, ◌<◌, ◌≤◌, List, [], ◌++◌, length, refl, sym, ◌∙◌, ap}
+use Rattle.std.proofs.Common.{subst, arith, ◌⊎◌, inl, inr}
 use Rattle.std.proofs.lemmas.Bool.{cases_lt}
 use Rattle.std.proofs.lemmas.List.{append-nil}
-use Rattle.std.proofs.lemmas.Option.{slice_get_within}
 use Rattle.std.specs.Prelude.{slice_get, Some, Contains}
-use Rattle.flatgrammar.specs.Flat.{Place, at}
+use Rattle.flatgrammar.specs.Flat.{Place}
 use Rattle.flatgrammar.specs.declared.tables.Tables as code_flat
 use Rattle.stacks.specs.Stacks.{Lifted}
 use Rattle.lazydfa.specs.declared.conts.Cont.{Cont}
-use Rattle.lazydfa.specs.declared.cache.State.{State}
 use Rattle.lazydfa.specs.Conts.{stack_of, AreKept, AreOlder, IsStackOf, TopReads}
 use Rattle.lazydfa.specs.Spines.{IsMoveOn, AreMoved}
 use Rattle.lazydfa.specs.StackParts.{IsSplitOff}

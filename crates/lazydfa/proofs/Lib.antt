@@ -9,6 +9,8 @@ pub mod IsMoveOnLemmas
 pub mod IsSplitOffLemmas
 pub mod PutsBackLemmas
 pub mod IsOverLemmas
+pub mod AreHopsLemmas
+pub mod IsStandLemmas
 pub mod IsRunVerdictLemmas
 pub mod AreUncountedLemmas
 pub mod AreClassesLemmas

@@ -53,8 +53,12 @@ pub record IsClassOf (flat : Flat) (samples : List ℕ) (c k : ℕ) : Type 0 whe
 abbrev pub AreLow : Flat → List ℕ → List ℕ → Type 0
 AreLow flat samples low = (c k : ℕ) → slice_get low c ≡ Some k → IsClassOf flat samples c k
 
--- the samples begin classes, in ascending order
-pub record AreClasses (flat : Flat) (low samples : List ℕ) : Type 0 where
-  pub low_are : AreLow flat samples low
+-- the samples begin classes, in ascending order, the first of them at 0
+pub record AreParted (flat : Flat) (samples : List ℕ) : Type 0 where
+  pub first : IsFree samples 0 → ⊥
   pub ordered : IsNonDecreasing samples
   pub split : AreNodesSplit samples flat.nodes
+
+pub record AreClasses (flat : Flat) (low samples : List ℕ) : Type 0 where
+  pub low_are : AreLow flat samples low
+  pub parted : AreParted flat samples

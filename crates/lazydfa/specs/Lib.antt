@@ -1,6 +1,7 @@
 pub mod Cached
 pub mod ClassBounds
 pub mod Conts
+pub mod Hops
 pub mod Memos
 pub mod RunVerdicts
 pub mod Spines

@@ -1,15 +1,20 @@
 -- What is kept from line to line beside the cache, and where a run over a line stands.
-use Rattle.std.specs.Prelude.{◌≡◌, ℕ, ◌+◌, ◌<◌, ◌≤◌, true, List, [], length, slice_get, Some}
+use Rattle.std.specs.Prelude.{◌≡◌, ℕ, ◌+◌, ◌*◌, ◌<◌, ◌≤◌, true, List, [], length, slice_get, Some}
 use Rattle.flatgrammar.specs.NodeSteps.{flat_of}
+use Rattle.flatgrammar.specs.TableViews.{GiveRoots}
 use Rattle.flatgrammar.specs.declared.tables.Tables as code_flat
 use Rattle.lazydfa.specs.declared.conts.Cont.{Cont}
 use Rattle.lazydfa.specs.declared.cache.State.{State}
 use Rattle.lazydfa.specs.declared.memo.Memo.{Memo}
 use Rattle.lazydfa.specs.declared.memo.Unfold.{Unfold}
+use Rattle.lazydfa.specs.declared.glide.Stand.{Stand}
+use Rattle.lazydfa.specs.declared.glide.Track.{Track}
 use Rattle.lazydfa.specs.declared.run.Step.{Step}
 use Rattle.lazydfa.specs.declared.run.Step.TheVariants.{To, Dead, Over}
 use Rattle.lazydfa.specs.Conts.{last_of}
 use Rattle.lazydfa.specs.Cached.{IsCache, IsAt}
+use Rattle.lazydfa.specs.ClassBounds.{AreClasses}
+use Rattle.lazydfa.specs.Hops.{AreHops}
 use Rattle.lazydfa.specs.StackParts.{PutsBack, AreParts, below_of}
 use Rattle.lazydfa.specs.RunVerdicts.{IsReached}
 
@@ -38,6 +43,7 @@ AreUnfolds tables conts states unfolds = (k : ℕ) (u : Unfold) → slice_get un
 pub record IsMemo (tables : code_flat.Tables) (samples : List ℕ) (memo : Memo) : Type 0 where
   pub cached : IsCache tables samples memo.cache
   pub unfolds : AreUnfolds tables memo.cache.conts.items.items memo.cache.states.items memo.unfolds.items
+  pub hops : AreHops tables samples memo.cache.conts.items.items memo.cache.states.items memo.hops.items
 
 -- a state is the front behind the first j letters, over the parts
 pub record IsOver (tables : code_flat.Tables) (conts : List Cont) (states : List State) (parts : List ℕ) (s : ℕ)
@@ -56,6 +62,29 @@ RunsOver tables memo = IsOver tables memo.cache.conts.items.items memo.cache.sta
 
 abbrev pub RunsAt : code_flat.Tables → Memo → ℕ → List ℕ → ℕ → Type 0
 RunsAt tables memo = IsSettled tables memo.cache.conts.items.items memo.cache.states.items memo.parts.items
+
+-- a run goes on from there, and some letters led to something
+pub record IsStand (tables : code_flat.Tables) (memo : Memo) (x : List ℕ) (stand : Stand) : Type 0 where
+  pub runs : RunsAt tables memo stand.state x stand.at
+  pub reached : 0 < stand.at → IsReached (flat_of tables) (last_of tables) x stand.at
+
+-- .. and that state is given by its first cell
+pub record IsTrack (tables : code_flat.Tables) (samples : List ℕ) (memo : Memo) (x : List ℕ) (track : Track) : Type 0
+  where
+    pub state : ℕ
+    pub row : track.row ≡ state * length samples
+    pub stands : IsStand tables memo x (record { state = state; at = track.at })
+
+-- where a run goes on, it goes on to there, by any grammar that the memo is of
+abbrev pub GlidesOver : List ℕ → List ℕ → Memo → List ℕ → Track → Track → Type 0
+GlidesOver low samples memo x from to = (tables : code_flat.Tables) → GiveRoots (flat_of tables) tables.roots.items
+    → AreClasses (flat_of tables) low samples → IsMemo tables samples memo → IsTrack tables samples memo x from
+    → IsTrack tables samples memo x to
+
+abbrev pub Glides : List ℕ → List ℕ → Memo → List ℕ → Stand → Stand → Type 0
+Glides low samples memo x from to = (tables : code_flat.Tables) → GiveRoots (flat_of tables) tables.roots.items
+    → AreClasses (flat_of tables) low samples → IsMemo tables samples memo → IsStand tables memo x from
+    → IsStand tables memo x to
 
 -- what the letter behind the first j leads to
 abbrev pub IsStepTaken : code_flat.Tables → Memo → List ℕ → ℕ → Step → Type 0

@@ -111,10 +111,12 @@ fn empty_memo(alloc: Global, nodes: usize) -> Memo
     ensures conts { result.cache.conts.items.items ≡ [] }
     ensures states { result.cache.states.items ≡ [] }
     ensures cells { result.cache.cells.items ≡ [] }
+    ensures hops { result.hops.items ≡ [] }
     ensures unfolds { result.unfolds.items ≡ [] }
 {
     Memo {
         cache: empty_cache(alloc, nodes),
+        hops: Vec::new(alloc),
         unfolds: Vec::new(alloc),
         chains: Chains::new(alloc),
         parts: Vec::new(alloc),

@@ -5,6 +5,7 @@ ghost use Rattle.flatgrammar.specs.Flat.{Place};
 ghost use Rattle.lazydfa.specs.Conts.{AreKept, AreOlder, ReadsOn, ReadsFrom, stack_of};
 ghost use Rattle.lazydfa.specs.Cached.{AreCached, IsCache, IsCell, IsStart, IsStateOf, IsInterned, AreGrown};
 ghost use Rattle.lazydfa.specs.Cached.{AreAddedUnknown, Grows};
+ghost use Rattle.lazydfa.specs.declared.cache.State.{State};
 
 use crate::budget::Budget;
 use crate::chains::Chains;
@@ -102,6 +103,17 @@ fn is_same(state: &State, tops: &[usize], ended: bool) -> bool
     ensures { IsTrue result → (state.now.tops.items ≡ tops.now) × (state.now.ended ≡ ended) }
 {
     state.ended == ended && state.tops.as_slice() == tops
+}
+
+/// Tells whether the whole may end where a state is.
+#[inline(always)]
+pub(crate) fn has_ended(cache: &Cache, state: usize) -> bool
+    ensures { (got : State) → slice_get cache.now.states.items state ≡ Some got → result ≡ got.ended }
+{
+    match cache.states.get(state) {
+        Some(got) => got.ended,
+        None => false,
+    }
 }
 
 // Returns what a state with these tops hashes to.

@@ -1,12 +1,13 @@
 //! Classes of letters that the sets of a grammar do not tell apart.
-ghost use Rattle.std.specs.Prelude.{IfOk, IfSome, map};
+ghost use Rattle.std.specs.Prelude.{IfOk, map};
 ghost use Rattle.std.specs.List.Sorted.{IsNonDecreasing};
 ghost use Rattle.flatgrammar.specs.Flat.{Flat, EitherCase};
 ghost use Rattle.flatgrammar.specs.FlatViews.{node_of, nodes_of, set_of};
 ghost use Rattle.flatgrammar.specs.NodeSteps.{flat_of};
 ghost use Rattle.lazydfa.specs.ClassBounds.{AreCases, AreClasses, AreEndsAdded, AreLow, AreMoreBounds, AreNodesSplit};
-ghost use Rattle.lazydfa.specs.ClassBounds.{AreSplit, IsBoundAdded, IsClassOf, IsNodeSplit, IsSplit};
+ghost use Rattle.lazydfa.specs.ClassBounds.{AreParted, AreSplit, IsClassOf, IsNodeSplit, IsSplit};
 
+use crate::bounds::{Bounds, add_bound, empty_bounds};
 use flatgrammar::{Node, Set, Tables};
 use ruletable::Memory;
 use std::alloc::Global;
@@ -18,17 +19,9 @@ pub(crate) struct Classes {
     pub(crate) samples: Vec<u32>,
 }
 
-// Adds a number. `Memory` if an allocation fails.
-fn add_bound(number: u32, bounds: &mut Vec<u32>) -> Result<(), Memory>
-    ensures { IfOk result (λ done. IsBoundAdded bounds.old.items bounds.new.items number) }
-{
-    bounds.push(number)?;
-    Ok(())
-}
-
 // Adds the first number of a range and the one behind its last. `Memory` if an allocation fails.
-fn add_ends(low: u32, high: u32, bounds: &mut Vec<u32>) -> Result<(), Memory>
-    ensures { IfOk result (λ done. AreEndsAdded bounds.old.items bounds.new.items low high) }
+fn add_ends(low: u32, high: u32, bounds: &mut Bounds) -> Result<(), Memory>
+    ensures { IfOk result (λ done. AreEndsAdded bounds.old.numbers.items bounds.new.numbers.items low high) }
 {
     add_bound(low, bounds)?;
     if high < u32::MAX {
@@ -51,9 +44,9 @@ fn other_case(value: u32) -> u32
 }
 
 // Adds where both cases of a letter begin and end. `Memory` if an allocation fails.
-fn add_cases(value: u32, bounds: &mut Vec<u32>) -> Result<(), Memory>
-    ensures more { IfOk result (λ done. AreMoreBounds bounds.old.items bounds.new.items) }
-    ensures split { IfOk result (λ done. IsSplit bounds.new.items (EitherCase value)) }
+fn add_cases(value: u32, bounds: &mut Bounds) -> Result<(), Memory>
+    ensures more { IfOk result (λ done. AreMoreBounds bounds.old.numbers.items bounds.new.numbers.items) }
+    ensures split { IfOk result (λ done. IsSplit bounds.new.numbers.items (EitherCase value)) }
 {
     let other = other_case(value);
     add_ends(value, value, bounds)?;
@@ -62,9 +55,9 @@ fn add_cases(value: u32, bounds: &mut Vec<u32>) -> Result<(), Memory>
 }
 
 // Adds where a set begins and ends. `Memory` if an allocation fails.
-fn add_set(set: &Set, bounds: &mut Vec<u32>) -> Result<(), Memory>
-    ensures more { IfOk result (λ done. AreMoreBounds bounds.old.items bounds.new.items) }
-    ensures split { IfOk result (λ done. IsSplit bounds.new.items (set_of set.now)) }
+fn add_set(set: &Set, bounds: &mut Bounds) -> Result<(), Memory>
+    ensures more { IfOk result (λ done. AreMoreBounds bounds.old.numbers.items bounds.new.numbers.items) }
+    ensures split { IfOk result (λ done. IsSplit bounds.new.numbers.items (set_of set.now)) }
 {
     match set {
         Set::Exactly(value) => add_ends(*value, *value, bounds),
@@ -74,9 +67,9 @@ fn add_set(set: &Set, bounds: &mut Vec<u32>) -> Result<(), Memory>
 }
 
 // Adds where sets begin and end. `Memory` if an allocation fails.
-fn add_sets(sets: &[Set], bounds: &mut Vec<u32>) -> Result<(), Memory>
-    ensures more { IfOk result (λ done. AreMoreBounds bounds.old.items bounds.new.items) }
-    ensures split { IfOk result (λ done. AreSplit bounds.new.items (map set_of sets.now)) }
+fn add_sets(sets: &[Set], bounds: &mut Bounds) -> Result<(), Memory>
+    ensures more { IfOk result (λ done. AreMoreBounds bounds.old.numbers.items bounds.new.numbers.items) }
+    ensures split { IfOk result (λ done. AreSplit bounds.new.numbers.items (map set_of sets.now)) }
 {
     for set in sets {
         add_set(set, bounds)?;
@@ -85,9 +78,9 @@ fn add_sets(sets: &[Set], bounds: &mut Vec<u32>) -> Result<(), Memory>
 }
 
 // Adds where the sets of a node begin and end. `Memory` if an allocation fails.
-fn add_node(node: &Node, bounds: &mut Vec<u32>) -> Result<(), Memory>
-    ensures more { IfOk result (λ done. AreMoreBounds bounds.old.items bounds.new.items) }
-    ensures split { IfOk result (λ done. IsNodeSplit bounds.new.items (node_of node.now)) }
+fn add_node(node: &Node, bounds: &mut Bounds) -> Result<(), Memory>
+    ensures more { IfOk result (λ done. AreMoreBounds bounds.old.numbers.items bounds.new.numbers.items) }
+    ensures split { IfOk result (λ done. IsNodeSplit bounds.new.numbers.items (node_of node.now)) }
 {
     match node {
         Node::Letters(sets) => add_sets(sets, bounds),
@@ -96,8 +89,9 @@ fn add_node(node: &Node, bounds: &mut Vec<u32>) -> Result<(), Memory>
 }
 
 // Adds where the sets of nodes begin and end. `Memory` if an allocation fails.
-fn add_nodes(nodes: &[Node], bounds: &mut Vec<u32>) -> Result<(), Memory>
-    ensures { IfOk result (λ done. AreNodesSplit bounds.new.items (nodes_of nodes.now)) }
+fn add_nodes(nodes: &[Node], bounds: &mut Bounds) -> Result<(), Memory>
+    ensures more { IfOk result (λ done. AreMoreBounds bounds.old.numbers.items bounds.new.numbers.items) }
+    ensures split { IfOk result (λ done. AreNodesSplit bounds.new.numbers.items (nodes_of nodes.now)) }
 {
     for node in nodes {
         add_node(node, bounds)?;
@@ -115,36 +109,33 @@ fn ascend(bounds: &mut Vec<u32>)
 }
 
 // Returns the class of a number by a search: that of the last sample up to it.
-fn class_above(samples: &[u32], value: u32) -> Option<usize>
-    ensures { (flat : Flat) → IsNonDecreasing samples.now → AreNodesSplit samples.now flat.nodes →
-        IfSome result (IsClassOf flat samples.now value) }
+#[cold]
+#[inline(never)]
+fn class_above(samples: &[u32], value: u32) -> usize
+    ensures { (flat : Flat) → AreParted flat samples.now → IsClassOf flat samples.now value result }
 {
     let above = samples.partition_point(|sample| *sample <= value);
-    above.checked_sub(1)
+    above.saturating_sub(1)
 }
 
 // Returns the classes of the numbers below 256. `Memory` if an allocation fails.
 fn low_classes(alloc: Global, samples: &[u32]) -> Result<Vec<usize>, Memory>
-    ensures { IfOk result (λ low. (flat : Flat) → IsNonDecreasing samples.now → AreNodesSplit samples.now flat.nodes →
-        AreLow flat samples.now low.items) }
+    ensures { IfOk result (λ low. (flat : Flat) → AreParted flat samples.now → AreLow flat samples.now low.items) }
 {
     let mut low = Vec::new(alloc);
     for number in 0..256u32 {
-        let Some(class) = class_above(samples, number) else {
-            return Ok(low);
-        };
-        low.push(class)?;
+        low.push(class_above(samples, number))?;
     }
     Ok(low)
 }
 
-/// Returns the class of a number, if it has one. Those below 256 are looked up.
+/// Returns the class of a number. Those below 256 are looked up.
 #[inline(always)]
-pub(crate) fn class_of(low: &[usize], samples: &[u32], value: u32) -> Option<usize>
-    ensures { (flat : Flat) → AreClasses flat low.now samples.now → IfSome result (IsClassOf flat samples.now value) }
+pub(crate) fn class_of(low: &[usize], samples: &[u32], value: u32) -> usize
+    ensures { (flat : Flat) → AreClasses flat low.now samples.now → IsClassOf flat samples.now value result }
 {
     match low.get(value as usize) {
-        Some(class) => Some(*class),
+        Some(class) => *class,
         None => class_above(samples, value),
     }
 }
@@ -153,9 +144,10 @@ pub(crate) fn class_of(low: &[usize], samples: &[u32], value: u32) -> Option<usi
 pub(crate) fn find_classes(alloc: Global, tables: &Tables) -> Result<Classes, Memory>
     ensures { IfOk result (λ classes. AreClasses (flat_of tables.now) classes.low.items classes.samples.items) }
 {
-    let mut samples = Vec::new(alloc);
-    samples.push(0u32)?;
-    add_nodes(&tables.nodes, &mut samples)?;
+    let mut bounds = empty_bounds(alloc);
+    add_bound(0, &mut bounds)?;
+    add_nodes(&tables.nodes, &mut bounds)?;
+    let mut samples = bounds.numbers;
     ascend(&mut samples);
     let low = low_classes(alloc, &samples)?;
     Ok(Classes { low, samples })

@@ -4,7 +4,7 @@ ghost use Rattle.std.specs.Prelude.{Contains};
 ghost use Rattle.lazydfa.specs.Conts.{AreKept, AreOlder};
 ghost use Rattle.lazydfa.specs.Cached.{IsCache, IsCell, Grows};
 
-use crate::cache::{Cache, Cell, any_reads, forget, state_of};
+use crate::cache::{Cache, Cell, any_reads, state_of};
 use crate::parts::split_off;
 use crate::transition::{Front, transition};
 use flatgrammar::Tables;
@@ -12,7 +12,8 @@ use ruletable::Memory;
 use std::alloc::Global;
 
 /// Returns where the cell of a state and a class stands.
-fn spot(state: usize, classes: usize, class: usize) -> Option<usize>
+#[inline(always)]
+pub(crate) fn spot(state: usize, classes: usize, class: usize) -> Option<usize>
     ensures { IfSome result (λ at. at ≡ state * classes + class) }
 {
     let row = state.checked_mul(classes)?;
@@ -133,8 +134,8 @@ fn charge(cache: &mut Cache, state: usize, cell: Cell)
         .spend(tops.saturating_add(ids).saturating_add(1));
 }
 
-/// Fills the cell of a state and a class, if that may be, and returns it. `Memory` if an allocation fails; all is
-/// forgotten then.
+/// Fills the cell of a state and a class, if that may be, and returns it. `Memory` if an allocation fails; the cache is
+/// of no use then.
 pub(crate) fn fill(
     alloc: Global,
     tables: &Tables,
@@ -144,7 +145,7 @@ pub(crate) fn fill(
     class: usize,
 ) -> Result<Cell, Memory>
     requires cached { IsCache tables.now samples.now cache.old }
-    ensures cached { IsCache tables.now samples.now cache.new }
+    ensures cached { IfOk result (λ cell. IsCache tables.now samples.now cache.new) }
     ensures grows { IfOk result (λ cell. Grows cache.old cache.new) }
     ensures is { IfOk result (λ cell. (d : ℕ) → slice_get samples.now class ≡ Some d → IsCell tables.now d
         cache.new.conts.items.items cache.new.states.items state cell) }
@@ -152,15 +153,8 @@ pub(crate) fn fill(
     if !may_fill(cache) {
         return Ok(Cell::Over);
     }
-    match lead(alloc, tables, samples, cache, state, class) {
-        Ok(cell) => {
-            write(tables, samples, cache, state, class, cell);
-            charge(cache, state, cell);
-            Ok(cell)
-        }
-        Err(error) => {
-            forget(cache);
-            Err(error)
-        }
-    }
+    let cell = lead(alloc, tables, samples, cache, state, class)?;
+    write(tables, samples, cache, state, class, cell);
+    charge(cache, state, cell);
+    Ok(cell)
 }

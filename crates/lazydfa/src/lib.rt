@@ -2,6 +2,7 @@
 #![tactic(auto)]
 
 mod automaton;
+mod bounds;
 mod budget;
 mod cache;
 mod chains;
@@ -9,6 +10,8 @@ mod classes;
 mod close;
 mod conts;
 mod fill;
+mod glide;
+mod hops;
 mod memo;
 mod parts;
 mod run;

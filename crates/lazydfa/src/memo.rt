@@ -7,6 +7,7 @@ ghost use Rattle.lazydfa.specs.declared.cache.State.{State};
 use crate::cache::{Cache, forget, state_of};
 use crate::chains::Chains;
 use crate::fill::may_fill;
+use crate::hops::Hop;
 use crate::parts::put_back;
 use flatgrammar::Tables;
 use ruletable::Memory;
@@ -20,10 +21,12 @@ pub(crate) struct Unfold {
     pub(crate) to: usize,
 }
 
-/// Holds a cache and its unfolds, and of the line that is read the parts below its state, the topmost last.
+/// Holds a cache, the hops of its cells and its unfolds, and of the line that is read the parts below its state, the
+/// topmost last.
 #[derive(Drop)]
 pub(crate) struct Memo {
     pub(crate) cache: Cache,
+    pub(crate) hops: Vec<Hop>,
     pub(crate) unfolds: Vec<Unfold>,
     pub(crate) chains: Chains,
     pub(crate) parts: Vec<usize>,
@@ -34,9 +37,11 @@ pub(crate) fn forget_all(memo: &mut Memo)
     ensures conts { memo.new.cache.conts.items.items ≡ [] }
     ensures states { memo.new.cache.states.items ≡ [] }
     ensures cells { memo.new.cache.cells.items ≡ [] }
+    ensures hops { memo.new.hops.items ≡ [] }
     ensures unfolds { memo.new.unfolds.items ≡ [] }
 {
     forget(&mut memo.cache);
+    memo.hops.clear();
     memo.unfolds.clear();
     memo.chains.clear();
 }
@@ -75,6 +80,7 @@ fn chain_unfolds(unfolds: &[Unfold], chains: &mut Chains) -> Result<(), Memory> 
 /// Makes more chains where there are fewer than unfolds. `Memory` if an allocation fails.
 pub(crate) fn widen_unfolds(memo: &mut Memo) -> Result<(), Memory>
     ensures cache { memo.new.cache ≡ memo.old.cache }
+    ensures hops { memo.new.hops ≡ memo.old.hops }
     ensures unfolds { memo.new.unfolds ≡ memo.old.unfolds }
     ensures parts { memo.new.parts ≡ memo.old.parts }
 {

@@ -10,11 +10,13 @@ ghost use Rattle.lazydfa.specs.ClassBounds.{AreClasses, IsClassOf};
 ghost use Rattle.lazydfa.specs.declared.cache.State.{State};
 ghost use Rattle.lazydfa.specs.RunVerdicts.{IsRunVerdict};
 
-use crate::cache::{Cache, Cell, forget, state_of, widen_states};
+use crate::cache::{Cache, Cell, has_ended, state_of, widen_states};
 use crate::classes::class_of;
 use crate::close::{Ids, close, empty, enter};
 use crate::conts::{Conts, widen_conts};
 use crate::fill::{fill, look, may_fill};
+use crate::glide::{Stand, glide};
+use crate::hops::note_hop;
 use crate::memo::{Memo, forget_all, unfolded, widen_unfolds};
 use crate::transition::{Front, readers};
 use flatgrammar::{Tables, Verdict, whole_root};
@@ -75,28 +77,6 @@ fn begin(
     Ok(Some(t))
 }
 
-/// Returns the number of the start. All is forgotten if an allocation fails.
-fn start(
-    alloc: Global,
-    tables: &Tables,
-    samples: &[u32],
-    cache: &mut Cache,
-) -> Result<Option<usize>, Memory>
-    requires cached { IsCache tables.now samples.now cache.old }
-    ensures cached { IsCache tables.now samples.now cache.new }
-    ensures grows { IfOk result (λ told. Grows cache.old cache.new) }
-    ensures is { IfOk result (λ told. IfSome told (IsStartAt tables.now cache.new.conts.items.items
-        cache.new.states.items)) }
-{
-    match begin(alloc, tables, samples, cache) {
-        Ok(told) => Ok(told),
-        Err(error) => {
-            forget(cache);
-            Err(error)
-        }
-    }
-}
-
 /// Returns the cell of a state and a class, which is filled if it is not known.
 #[inline(always)]
 fn cell_of(
@@ -108,7 +88,7 @@ fn cell_of(
     class: usize,
 ) -> Result<Cell, Memory>
     requires cached { IsCache tables.now samples.now cache.old }
-    ensures cached { IsCache tables.now samples.now cache.new }
+    ensures cached { IfOk result (λ cell. IsCache tables.now samples.now cache.new) }
     ensures grows { IfOk result (λ cell. Grows cache.old cache.new) }
     ensures is { IfOk result (λ cell. (d : ℕ) → slice_get samples.now class ≡ Some d → IsCell tables.now d
         cache.new.conts.items.items cache.new.states.items state cell) }
@@ -117,17 +97,6 @@ fn cell_of(
     match cell {
         Cell::Unknown => fill(alloc, tables, samples, cache, state, class),
         Cell::Over | Cell::Dead | Cell::To(_) | Cell::Push(_, _) => Ok(cell),
-    }
-}
-
-// Tells whether the whole may end where a state is.
-#[inline(always)]
-fn has_ended(cache: &Cache, state: usize) -> bool
-    ensures { (got : State) → slice_get cache.now.states.items state ≡ Some got → result ≡ got.ended }
-{
-    match cache.states.get(state) {
-        Some(got) => got.ended,
-        None => false,
     }
 }
 
@@ -148,7 +117,10 @@ fn settle(
         RunsOver tables.now memo.old state x j → RunsAt tables.now memo.new t x j)) }
 {
     let mut now = state;
-    'parts: while has_ended(&memo.cache, now) {
+    'parts: while memo.parts.len() > 0 {
+        if !has_ended(&memo.cache, now) {
+            return Ok(Some(now));
+        }
         let Some(part) = memo.parts.pop() else {
             return Ok(Some(now));
         };
@@ -186,10 +158,13 @@ fn take_step(
         IsStepTaken tables.now memo.new x j step) }
 {
     match cell_of(alloc, tables, samples, &mut memo.cache, state, class)? {
-        Cell::To(t) => match settle(alloc, tables, samples, memo, t)? {
-            Some(settled) => Ok(Step::To(settled)),
-            None => Ok(Step::Over),
-        },
+        Cell::To(t) => {
+            note_hop(&memo.cache, samples.len(), &mut memo.hops, state, class, t)?;
+            match settle(alloc, tables, samples, memo, t)? {
+                Some(settled) => Ok(Step::To(settled)),
+                None => Ok(Step::Over),
+            }
+        }
         Cell::Push(t, part) => {
             memo.parts.push(part)?;
             Ok(Step::To(t))
@@ -204,6 +179,7 @@ fn prepare(memo: &mut Memo, letters: usize) -> Result<(), Memory>
     ensures conts { memo.new.cache.conts.items ≡ memo.old.cache.conts.items }
     ensures states { memo.new.cache.states ≡ memo.old.cache.states }
     ensures cells { memo.new.cache.cells ≡ memo.old.cache.cells }
+    ensures hops { memo.new.hops ≡ memo.old.hops }
     ensures unfolds { memo.new.unfolds ≡ memo.old.unfolds }
     ensures parts { IfOk result (λ done. memo.new.parts.items ≡ []) }
 {
@@ -243,27 +219,33 @@ fn follow<L: Letter>(
         (map L.number line.now))) }
 {
     prepare(memo, line.len())?;
-    let Some(first) = start(alloc, tables, samples, &mut memo.cache)? else {
+    let Some(first) = begin(alloc, tables, samples, &mut memo.cache)? else {
         return Ok(None);
     };
-    let mut state = first;
-    for (at, letter) in line.iter().enumerate() {
-        let Some(class) = class_of(low, samples, letter.value()) else {
-            return Ok(None);
-        };
-        match take_step(alloc, tables, samples, memo, state, class)? {
+    let start = Stand {
+        state: first,
+        at: 0,
+    };
+    let mut stand = glide(memo, low, samples, line, start);
+    while stand.at < line.len() {
+        let class = class_of(low, samples, line[stand.at].value());
+        match take_step(alloc, tables, samples, memo, stand.state, class)? {
             Step::To(t) => {
-                state = t;
+                let next = Stand {
+                    state: t,
+                    at: stand.at + 1,
+                };
+                stand = glide(memo, low, samples, line, next);
             }
             Step::Dead => {
-                return Ok(Some(Verdict::No(at)));
+                return Ok(Some(Verdict::No(stand.at)));
             }
             Step::Over => {
                 return Ok(None);
             }
         }
     }
-    Ok(Some(verdict_at_end(has_ended(&memo.cache, state), line.len())))
+    Ok(Some(verdict_at_end(has_ended(&memo.cache, stand.state), line.len())))
 }
 
 /// Tells what `follow` tells. All is forgotten if an allocation fails.

@@ -11,3 +11,6 @@ returns-in_default g c =
     let judged = c.args.grammar.now.judged in
     no_line_was_run (AnswersFor rules judged s) (form_of s)
     (c.lines_have_answers.ensures s.letters s.viable rules judged) _ _ _ _ _
+
+pub returns : goal.returns
+returns g c = rw c.line_form-form.ensures at c.run_lines.ensures

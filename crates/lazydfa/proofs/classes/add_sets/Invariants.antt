@@ -4,5 +4,5 @@ use Rattle.lazydfa.proofs.AreClassesLemmas.{AreSplitTo, more_split}
 use Rattle.lazydfa.proofs.classes.add_sets.Given as goal
 
 abbrev pub invariant-loop-set : goal.invariant-loop-set
-invariant-loop-set l = AreMoreBounds l.initial.bounds.items l.bounds.items
-    × AreSplitTo set_of IsSplit more_split l.bounds.items l.sets l.set-index
+invariant-loop-set l = AreMoreBounds l.initial.bounds.numbers.items l.bounds.numbers.items
+    × AreSplitTo set_of IsSplit more_split l.bounds.numbers.items l.sets l.set-index

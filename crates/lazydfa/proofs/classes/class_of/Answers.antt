@@ -10,4 +10,4 @@ returns-in-Some c = λ flat classes.
     ∙ ap (λ v. Some v) (sym c.in-Some.ensures.lookup.1))
 
 pub returns-in-None : goal.returns-in-None
-returns-in-None c = λ flat classes. c.class_above.ensures flat classes.ordered classes.split
+returns-in-None c = λ flat classes. c.class_above.ensures flat classes.parted

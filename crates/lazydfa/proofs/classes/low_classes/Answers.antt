@@ -1,15 +1,11 @@
-use Rattle.std.proofs.Common.{subst}
-use Rattle.std.specs.Prelude.{IfSome}
-use Rattle.lazydfa.specs.ClassBounds.{IsClassOf}
 use Rattle.lazydfa.proofs.AreClassesLemmas.{low_next}
 use Rattle.lazydfa.proofs.classes.low_classes.Goals as goal
 
 pub loop-number-preserved : goal.loop-number-preserved
-loop-number-preserved c = λ flat ordered split.
-    low_next flat c.args.samples.now c.loop-number.low.items c.push.new.self.items c.loop-number.number c.in-Some.class
-    c.in_ok-push.ensures.items
-    (subst (λ v. IfSome v (IsClassOf flat c.args.samples.now c.loop-number.number)) c.in-Some.is
-    (c.class_above.ensures flat ordered split)) (c.loop-number.invariant flat ordered split)
+loop-number-preserved c = λ flat parted.
+    low_next flat c.args.samples.now c.loop-number.low.items c.push.new.self.items c.loop-number.number
+    c.class_above.result c.in_ok-push.ensures.items (c.class_above.ensures flat parted)
+    (c.loop-number.invariant flat parted)
 
 pub returns : goal.returns
-returns c = λ flat ordered split. (c.loop-number.invariant flat ordered split).low_are
+returns c = λ flat parted. (c.loop-number.invariant flat parted).low_are

@@ -1,1 +1,0 @@
-use Rattle.lazydfa.proofs.memo.find.Goals as goal

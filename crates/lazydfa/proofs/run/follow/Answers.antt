@@ -1,91 +1,97 @@
-use Rattle.std.proofs.Common.{◌<◌, subst, sym, ◌∙◌, ap, arith, map, length}
+use Rattle.std.proofs.Common.{subst, sym, ap, arith, map, length}
 use Rattle.std.proofs.lemmas.List.{length-map}
 use Rattle.std.specs.Prelude.{IfSome}
 use Rattle.flatgrammar.specs.NodeSteps.{flat_of}
 use Rattle.lazydfa.specs.Cached.{IsStartAt, AreGrown}
-use Rattle.lazydfa.specs.ClassBounds.{IsClassOf}
 use Rattle.lazydfa.specs.Conts.{last_of, AreKept}
-use Rattle.lazydfa.specs.Memos.{AreUnfolds, IsStepTaken}
+use Rattle.lazydfa.specs.Memos.{IsMemo, IsStepTaken}
 use Rattle.lazydfa.specs.StackParts.{below_of}
 use Rattle.lazydfa.specs.RunVerdicts.{IsRunVerdict}
-use Rattle.lazydfa.proofs.IsOverLemmas.{settled_start, unfolds_kept, plain_below}
+use Rattle.lazydfa.proofs.AreHopsLemmas.{memo_kept}
+use Rattle.lazydfa.proofs.IsOverLemmas.{settled_start, plain_below}
 use Rattle.lazydfa.proofs.IsRunVerdictLemmas.{number_at, dead_verdict, end_verdict}
 use Rattle.lazydfa.proofs.run.follow.Goals as goal
 
 pub returns-in_default-clause-memo : goal.returns-in_default-clause-memo
-returns-in_default-clause-memo g c = record {
-  cached = c.in_ok-first.ensures.cached;
-  unfolds = subst (λ v. AreUnfolds c.args.tables.now c.start.new.cache.conts.items.items
-      c.start.new.cache.states.items v.items) (sym c.in_ok-prepare.ensures.unfolds)
-      (unfolds_kept c.args.tables.now c.args.memo.now.cache.conts.items.items c.start.new.cache.conts.items.items
-      c.args.memo.now.cache.states.items c.start.new.cache.states.items
-      (subst (λ v. AreKept v.items c.start.new.cache.conts.items.items) c.in_ok-prepare.ensures.conts
-      c.in_ok-first.ensures.grows.conts)
-      (subst (λ v. AreGrown v.items c.start.new.cache.states.items) c.in_ok-prepare.ensures.states
-      c.in_ok-first.ensures.grows.states) c.requires.memo.cached.within c.args.memo.now.unfolds.items
-      c.requires.memo.unfolds);
-}
+returns-in_default-clause-memo g c =
+    memo_kept c.args.tables.now c.args.samples.now c.args.memo.now
+    (record c.prepare.new.memo { cache = c.begin.new.cache }) c.requires.memo c.in_ok-first.ensures.cached
+    (record {
+      conts = subst (λ v. AreKept v.items c.begin.new.cache.conts.items.items) c.in_ok-prepare.ensures.conts
+          c.in_ok-first.ensures.grows.conts;
+      states = subst (λ v. AreGrown v.items c.begin.new.cache.states.items) c.in_ok-prepare.ensures.states
+          c.in_ok-first.ensures.grows.states;
+    })
+    (ap (λ v. v.items) c.in_ok-prepare.ensures.unfolds) (ap (λ v. v.items) c.in_ok-prepare.ensures.hops)
 
-pub loop-at-init : goal.loop-at-init
-loop-at-init g c = (
-  record {
-    cached = c.in_ok-first.ensures.cached;
-    unfolds = subst (λ v. AreUnfolds c.args.tables.now c.start.new.cache.conts.items.items
-        c.start.new.cache.states.items v.items) (sym c.in_ok-prepare.ensures.unfolds)
-        (unfolds_kept c.args.tables.now c.args.memo.now.cache.conts.items.items c.start.new.cache.conts.items.items
-        c.args.memo.now.cache.states.items c.start.new.cache.states.items
-        (subst (λ v. AreKept v.items c.start.new.cache.conts.items.items) c.in_ok-prepare.ensures.conts
-        c.in_ok-first.ensures.grows.conts)
-        (subst (λ v. AreGrown v.items c.start.new.cache.states.items) c.in_ok-prepare.ensures.states
-        c.in_ok-first.ensures.grows.states) c.requires.memo.cached.within c.args.memo.now.unfolds.items
-        c.requires.memo.unfolds);
-  },
-  settled_start c.args.tables.now c.requires.roots (map g.L.Letter.number c.args.line.now)
-      c.start.new.cache.conts.items.items c.start.new.cache.states.items c.prepare.new.memo.parts.items
-      c.in-Some.first c.in_ok-prepare.ensures.parts
-      (subst (λ v. IfSome v (IsStartAt c.args.tables.now c.start.new.cache.conts.items.items
-      c.start.new.cache.states.items)) c.in-Some.is c.in_ok-first.ensures.is),
-  λ some. absurd (omega (arith, some)),
-)
+pub loop-stand-init : goal.loop-stand-init
+loop-stand-init g c =
+    let memo : IsMemo c.args.tables.now c.args.samples.now (record c.prepare.new.memo { cache = c.begin.new.cache }) =
+    memo_kept c.args.tables.now c.args.samples.now c.args.memo.now
+    (record c.prepare.new.memo { cache = c.begin.new.cache }) c.requires.memo c.in_ok-first.ensures.cached
+    (record {
+      conts = subst (λ v. AreKept v.items c.begin.new.cache.conts.items.items) c.in_ok-prepare.ensures.conts
+          c.in_ok-first.ensures.grows.conts;
+      states = subst (λ v. AreGrown v.items c.begin.new.cache.states.items) c.in_ok-prepare.ensures.states
+          c.in_ok-first.ensures.grows.states;
+    })
+    (ap (λ v. v.items) c.in_ok-prepare.ensures.unfolds) (ap (λ v. v.items) c.in_ok-prepare.ensures.hops) in
+    record {
+      memo = memo;
+      within = c.glide-stand.ensures.within;
+      stands = c.glide-stand.ensures.glides c.args.tables.now c.requires.roots c.requires.classes memo (record {
+        runs = settled_start c.args.tables.now c.requires.roots (map g.L.Letter.number c.args.line.now)
+            c.begin.new.cache.conts.items.items c.begin.new.cache.states.items c.prepare.new.memo.parts.items
+            c.in-Some.first c.in_ok-prepare.ensures.parts
+            (subst (λ v. IfSome v (IsStartAt c.args.tables.now c.begin.new.cache.conts.items.items
+            c.begin.new.cache.states.items)) c.in-Some.is c.in_ok-first.ensures.is);
+        reached = λ some. absurd (omega (arith, some));
+      });
+    }
 
 pub returns-in-Dead-clause-told : goal.returns-in-Dead-clause-told
 returns-in-Dead-clause-told g c =
     dead_verdict (flat_of c.args.tables.now) (last_of c.args.tables.now) (map g.L.Letter.number c.args.line.now)
-    c.loop-at.at
-    (let size = length-map c.args.line.now g.L.Letter.number in let lt = c.loop-at-test.true in omega (arith, size, lt))
-    c.loop-at.invariant.2
+    c.loop-stand.stand.at
+    (let size = length-map c.args.line.now g.L.Letter.number in let lt = c.loop-stand-test.true in
+    omega (arith, size, lt))
+    c.loop-stand.invariant.stands.reached
     (subst (λ v. IsStepTaken c.args.tables.now c.take_step.new.memo (map g.L.Letter.number c.args.line.now)
-    c.loop-at.at v) c.in-Dead.is
-    (c.in_ok-t.ensures.taken (map g.L.Letter.number c.args.line.now) c.loop-at.at c.value.result
-    (number_at g.L.Letter.number c.args.line.now c.loop-at.at c.index-line-at.result c.value.result
-    c.loop-at-test.true c.index-line-at.is c.value.ensures.number)
-    (subst (λ v. IfSome v (IsClassOf (flat_of c.args.tables.now) c.args.samples.now c.value.result))
-    c.in-Some-class_of.is (c.class_of.ensures (flat_of c.args.tables.now) c.requires.classes))
-    c.loop-at.invariant.1))
+    c.loop-stand.stand.at v) c.in-Dead.is
+    (c.in_ok-t.ensures.taken (map g.L.Letter.number c.args.line.now) c.loop-stand.stand.at c.value.result
+    (number_at g.L.Letter.number c.args.line.now c.loop-stand.stand.at c.index-line-stand.result c.value.result
+    c.loop-stand-test.true c.index-line-stand.is c.value.ensures.number)
+    (c.class_of-class.ensures (flat_of c.args.tables.now) c.requires.classes)
+    c.loop-stand.invariant.stands.runs))
 
-pub loop-at-preserved : goal.loop-at-preserved
-loop-at-preserved g c =
+pub loop-stand-preserved : goal.loop-stand-preserved
+loop-stand-preserved g c =
     let taken = subst (λ v. IsStepTaken c.args.tables.now c.take_step.new.memo
-    (map g.L.Letter.number c.args.line.now) c.loop-at.at v) c.in-To.is
-    (c.in_ok-t.ensures.taken (map g.L.Letter.number c.args.line.now) c.loop-at.at c.value.result
-    (number_at g.L.Letter.number c.args.line.now c.loop-at.at c.index-line-at.result c.value.result
-    c.loop-at-test.true c.index-line-at.is c.value.ensures.number)
-    (subst (λ v. IfSome v (IsClassOf (flat_of c.args.tables.now) c.args.samples.now c.value.result))
-    c.in-Some-class_of.is (c.class_of.ensures (flat_of c.args.tables.now) c.requires.classes))
-    c.loop-at.invariant.1) in
-    (c.in_ok-t.ensures.memo, taken.0, λ _. taken.1)
+    (map g.L.Letter.number c.args.line.now) c.loop-stand.stand.at v) c.in-To.is
+    (c.in_ok-t.ensures.taken (map g.L.Letter.number c.args.line.now) c.loop-stand.stand.at c.value.result
+    (number_at g.L.Letter.number c.args.line.now c.loop-stand.stand.at c.index-line-stand.result c.value.result
+    c.loop-stand-test.true c.index-line-stand.is c.value.ensures.number)
+    (c.class_of-class.ensures (flat_of c.args.tables.now) c.requires.classes)
+    c.loop-stand.invariant.stands.runs) in
+    record {
+      memo = c.in_ok-t.ensures.memo;
+      within = c.glide-stand-in-To.ensures.within;
+      stands = c.glide-stand-in-To.ensures.glides c.args.tables.now c.requires.roots c.requires.classes
+          c.in_ok-t.ensures.memo (record { runs = taken.0; reached = λ _. taken.1 });
+    }
 
 pub returns-clause-told : goal.returns-clause-told
 returns-clause-told g c =
     let size = length-map c.args.line.now g.L.Letter.number in
-    let at = c.loop-at.invariant.1.over.at in
+    let runs = c.loop-stand.invariant.stands.runs in
     subst (λ v. IsRunVerdict (flat_of c.args.tables.now) (last_of c.args.tables.now)
     (map g.L.Letter.number c.args.line.now) v) (sym c.verdict_at_end.ensures)
-    (end_verdict c.args.tables.now c.loop-at.memo.cache.conts.items.items c.loop-at.memo.cache.states.items
-    c.loop-at.state (map g.L.Letter.number c.args.line.now) c.loop-at.at
-    (below_of c.loop-at.memo.cache.conts.items.items c.loop-at.memo.parts.items) at
-    (plain_below c.loop-at.memo.cache.conts.items.items c.loop-at.memo.parts.items at.state.ended
-    c.loop-at.invariant.1.plain)
-    (let a = c.loop-at-test.false in let b = c.loop-at.auto.at-end in omega (arith, a, b, size))
-    c.loop-at.invariant.2 (length c.args.line.now) (omega (arith, size)) c.has_ended.result
-    (c.has_ended.ensures at.state at.is))
+    (end_verdict c.args.tables.now c.loop-stand.memo.cache.conts.items.items
+    c.loop-stand.memo.cache.states.items c.loop-stand.stand.state (map g.L.Letter.number c.args.line.now)
+    c.loop-stand.stand.at
+    (below_of c.loop-stand.memo.cache.conts.items.items c.loop-stand.memo.parts.items) runs.over.at
+    (plain_below c.loop-stand.memo.cache.conts.items.items c.loop-stand.memo.parts.items runs.over.at.state.ended
+    runs.plain)
+    (let a = c.loop-stand-test.false in let b = c.loop-stand.invariant.within in omega (arith, a, b, size))
+    c.loop-stand.invariant.stands.reached (length c.args.line.now) (omega (arith, size)) c.has_ended.result
+    (c.has_ended.ensures runs.over.at.state runs.over.at.is))

@@ -1,24 +1,32 @@
 use Rattle.std.proofs.Common.{◌+◌, subst, refl, sym, ℕ, List}
 use Rattle.std.specs.Prelude.{IfSome, false}
 use Rattle.lazydfa.specs.StackParts.{below_of}
+use Rattle.lazydfa.specs.Cached.{IsCell}
 use Rattle.lazydfa.specs.Memos.{RunsOver, RunsAt}
+use Rattle.lazydfa.proofs.AreHopsLemmas.{memo_kept, hops_noted}
 use Rattle.lazydfa.proofs.IsAtLemmas.{step_to, step_push, step_reached, push_reached, push_runs, pushed_part, step_dead}
-use Rattle.lazydfa.proofs.IsOverLemmas.{over_kept, over_pushed, plain_below, unfolds_kept, settled_running}
+use Rattle.lazydfa.proofs.IsOverLemmas.{over_kept, over_pushed, plain_below, settled_running}
 use Rattle.lazydfa.proofs.run.take_step.Goals as goal
 
 pub settle-requires-clause-memo : goal.settle-requires-clause-memo
-settle-requires-clause-memo c = record {
-  cached = c.in_ok-t.ensures.cached;
-  unfolds = unfolds_kept c.args.tables.now c.args.memo.now.cache.conts.items.items
-      c.cell_of.new.cache.conts.items.items c.args.memo.now.cache.states.items c.cell_of.new.cache.states.items
-      c.in_ok-t.ensures.grows.conts c.in_ok-t.ensures.grows.states c.requires.memo.cached.within
-      c.args.memo.now.unfolds.items c.requires.memo.unfolds;
-}
+settle-requires-clause-memo c =
+    let memo = memo_kept c.args.tables.now c.args.samples.now c.args.memo.now
+    (record c.args.memo.now { cache = c.cell_of.new.cache }) c.requires.memo c.in_ok-t.ensures.cached
+    c.in_ok-t.ensures.grows refl refl in
+    record {
+      cached = memo.cached;
+      unfolds = memo.unfolds;
+      hops = hops_noted c.args.tables.now c.args.samples.now c.cell_of.new.cache.conts.items.items
+          c.cell_of.new.cache.states.items c.args.state c.args.class c.in-To.t
+          (λ d sample. subst (λ v. IsCell c.args.tables.now d c.cell_of.new.cache.conts.items.items
+          c.cell_of.new.cache.states.items c.args.state v) c.in-To.is (c.in_ok-t.ensures.is d sample))
+          c.args.memo.now.hops.items c.note_hop.new.hops.items c.in_ok-note_hop-in-To.ensures memo.hops;
+    }
 
 pub returns-in-Some-clause-taken : goal.returns-in-Some-clause-taken
 returns-in-Some-clause-taken c = λ x j letter is class at. (
   subst (λ v. IfSome v (λ t. (x : List ℕ) (j : ℕ) → RunsOver c.args.tables.now
-      (record c.args.memo.now { cache = c.cell_of.new.cache }) c.in-To.t x j
+      (record c.args.memo.now { cache = c.cell_of.new.cache; hops = c.note_hop.new.hops }) c.in-To.t x j
       → RunsAt c.args.tables.now c.settle.new.memo t x j)) c.in-Some.is c.in_ok-settled-in-To.ensures.settled x (j + 1)
       (over_kept c.args.tables.now c.args.memo.now.cache.conts.items.items c.cell_of.new.cache.conts.items.items
       c.args.memo.now.cache.states.items c.cell_of.new.cache.states.items c.in_ok-t.ensures.grows.conts
@@ -40,13 +48,10 @@ returns-in-Some-clause-taken c = λ x j letter is class at. (
 )
 
 pub returns-in_ok-push-in-Push-clause-memo : goal.returns-in_ok-push-in-Push-clause-memo
-returns-in_ok-push-in-Push-clause-memo c = record {
-  cached = c.in_ok-t.ensures.cached;
-  unfolds = unfolds_kept c.args.tables.now c.args.memo.now.cache.conts.items.items
-      c.cell_of.new.cache.conts.items.items c.args.memo.now.cache.states.items c.cell_of.new.cache.states.items
-      c.in_ok-t.ensures.grows.conts c.in_ok-t.ensures.grows.states c.requires.memo.cached.within
-      c.args.memo.now.unfolds.items c.requires.memo.unfolds;
-}
+returns-in_ok-push-in-Push-clause-memo c =
+    memo_kept c.args.tables.now c.args.samples.now c.args.memo.now
+    (record c.args.memo.now { cache = c.cell_of.new.cache; parts = c.push.new.self }) c.requires.memo
+    c.in_ok-t.ensures.cached c.in_ok-t.ensures.grows refl refl
 
 pub returns-in_ok-push-in-Push-clause-taken : goal.returns-in_ok-push-in-Push-clause-taken
 returns-in_ok-push-in-Push-clause-taken c = λ x j letter is class at. (
@@ -86,22 +91,16 @@ returns-in_ok-push-in-Push-clause-taken c = λ x j letter is class at. (
 )
 
 pub returns-in-Unknown-clause-memo : goal.returns-in-Unknown-clause-memo
-returns-in-Unknown-clause-memo c = record {
-  cached = c.in_ok-t.ensures.cached;
-  unfolds = unfolds_kept c.args.tables.now c.args.memo.now.cache.conts.items.items
-      c.cell_of.new.cache.conts.items.items c.args.memo.now.cache.states.items c.cell_of.new.cache.states.items
-      c.in_ok-t.ensures.grows.conts c.in_ok-t.ensures.grows.states c.requires.memo.cached.within
-      c.args.memo.now.unfolds.items c.requires.memo.unfolds;
-}
+returns-in-Unknown-clause-memo c =
+    memo_kept c.args.tables.now c.args.samples.now c.args.memo.now
+    (record c.args.memo.now { cache = c.cell_of.new.cache }) c.requires.memo c.in_ok-t.ensures.cached
+    c.in_ok-t.ensures.grows refl refl
 
 pub returns-in-Dead-clause-memo : goal.returns-in-Dead-clause-memo
-returns-in-Dead-clause-memo c = record {
-  cached = c.in_ok-t.ensures.cached;
-  unfolds = unfolds_kept c.args.tables.now c.args.memo.now.cache.conts.items.items
-      c.cell_of.new.cache.conts.items.items c.args.memo.now.cache.states.items c.cell_of.new.cache.states.items
-      c.in_ok-t.ensures.grows.conts c.in_ok-t.ensures.grows.states c.requires.memo.cached.within
-      c.args.memo.now.unfolds.items c.requires.memo.unfolds;
-}
+returns-in-Dead-clause-memo c =
+    memo_kept c.args.tables.now c.args.samples.now c.args.memo.now
+    (record c.args.memo.now { cache = c.cell_of.new.cache }) c.requires.memo c.in_ok-t.ensures.cached
+    c.in_ok-t.ensures.grows refl refl
 
 pub returns-in-Dead-clause-taken : goal.returns-in-Dead-clause-taken
 returns-in-Dead-clause-taken c = λ x j letter is class at.

@@ -1,4 +1,4 @@
-use Rattle.std.proofs.Common.{◌++◌, ap, sym, ◌∙◌, subst, refl}
+use Rattle.std.proofs.Common.{◌++◌, ap, sym, ◌∙◌, refl}
 use Rattle.std.proofs.lemmas.Bool.{eqb-true}
 use Rattle.lazydfa.specs.Conts.{stack_of}
 use Rattle.lazydfa.specs.Spines.{places_of}

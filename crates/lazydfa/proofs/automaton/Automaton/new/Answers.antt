@@ -3,8 +3,7 @@ use Rattle.flatgrammar.specs.NodeSteps.{flat_of}
 use Rattle.stacks.specs.Stacks.{AreUncounted}
 use Rattle.lazydfa.specs.RunVerdicts.{IsOne}
 use Rattle.lazydfa.specs.ClassBounds.{AreClasses}
-use Rattle.lazydfa.proofs.AreCachedLemmas.{cached_none}
-use Rattle.lazydfa.proofs.IsOverLemmas.{unfolds_none}
+use Rattle.lazydfa.proofs.AreHopsLemmas.{memo_none}
 use Rattle.lazydfa.proofs.automaton.Automaton.new.Goals as goal
 
 pub invariant_of-result : goal.invariant_of-result
@@ -14,13 +13,7 @@ invariant_of-result c = (
   subst (λ v. IsOne (flat_of v)) c.deref.ensures (c.are_served.ensures c.if-not-are_served.false).1,
   subst (λ v. AreClasses (flat_of v) c.in_ok-classes.classes.low.items c.in_ok-classes.classes.samples.items)
       c.deref-2.ensures c.in_ok-classes.ensures,
-  record {
-    cached = cached_none c.in_ok-tables.tables.value c.in_ok-classes.classes.samples.items
-        c.empty_memo-memo.result.cache.conts.items.items c.empty_memo-memo.result.cache.states.items
-        c.empty_memo-memo.result.cache.cells.items c.empty_memo-memo.ensures.conts c.empty_memo-memo.ensures.states
-        c.empty_memo-memo.ensures.cells;
-    unfolds = unfolds_none c.in_ok-tables.tables.value c.empty_memo-memo.result.cache.conts.items.items
-        c.empty_memo-memo.result.cache.states.items c.empty_memo-memo.result.unfolds.items
-        c.empty_memo-memo.ensures.unfolds;
-  },
+  memo_none c.in_ok-tables.tables.value c.in_ok-classes.classes.samples.items c.empty_memo-memo.result
+      c.empty_memo-memo.ensures.conts c.empty_memo-memo.ensures.states c.empty_memo-memo.ensures.cells
+      c.empty_memo-memo.ensures.hops c.empty_memo-memo.ensures.unfolds,
 )
