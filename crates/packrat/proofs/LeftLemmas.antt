@@ -13,6 +13,8 @@ use Rattle.memo.specs.declared.spot.Spot.{Spot}
 use Rattle.memo.specs.declared.spot.Spot.TheVariants.{Pair, Tail}
 use Rattle.packrat.specs.TurnsLeft.{members_of, most_members, ask_cost, wait_cost, frames_cost, most_begun}
 use Rattle.packrat.specs.TurnsLeft.{left}
+use Rattle.packrat.specs.Turned.{AreTurnedFrames}
+use Rattle.packrat.specs.declared.turns.Turns as told
 use Rattle.packrat.specs.Onward.{HasMember, IsWell}
 use Rattle.packrat.specs.SpotSteps.{FirstBy, TailFirstBy, IsFirst}
 use Rattle.gramcheck.specs.NodeWays.{Way, Leaf, Body, Members, Alternatives, Turns, Operand, way_of}
@@ -174,6 +176,20 @@ module _ (g : Grammar) (x : List ℕ) where
       let more = one_times (4 * Most + 4) (most_begun g x) begun (omega (arith, is, le, some)) in
       let rest = times_less (4 * Most + 4) (most_begun g x) (begun + 1) now (omega (arith, is, some)) in
       omega (arith, more, rest, few)
+
+  -- a spot that begins so many pairs, and gives something
+  pub less_ended : (n p : ℕ) (f : Given) (fs : List Frame) (begun now pairs : ℕ) → now ≡ begun + pairs → 1 ≤ pairs
+      → now ≤ most_begun g x → left g x (Answer f) fs now < left g x (Ask (Pair n p)) fs begun
+  unfolding left
+  less_ended n p f fs begun now pairs is some le =
+      let more = one_times (4 * Most + 4) (most_begun g x) begun (omega (arith, is, le, some)) in
+      let rest = times_less (4 * Most + 4) (most_begun g x) (begun + 1) now (omega (arith, is, some)) in
+      omega (arith, more, rest)
+
+  pub turned_costs : (key : Bool) (t : told.Turns) (fs gs : List Frame) → AreTurnedFrames key t fs gs
+      → frames_cost Most gs ≤ 1 + frames_cost Most fs
+  turned_costs true t fs gs is = subst (λ v. frames_cost Most v ≤ 1 + frames_cost Most fs) (sym is) (omega arith)
+  turned_costs false t fs gs is = subst (λ v. frames_cost Most v ≤ 1 + frames_cost Most fs) (sym is) (omega arith)
 
   waiting_costs : (key : Bool) (head : ℕ) (a : Spot) (fs gs : List Frame) → AreWaiting key head a fs gs
       → frames_cost Most gs ≤ 1 + frames_cost Most fs

@@ -264,18 +264,17 @@ module _ (g : Grammar) (x : List ℕ) (more : Bool) (marks : Marks) where
       record { levels = []; spot = root; are = (refl, refl); gives = d; steps = s }
   ready {links = links} {root = root} (levels_frame {l = l} {b = b} {asked = asked} {ls = ls} {fs = fs} w t h r) given d
       s = record {
-    levels = record { at = l.spot; asked = asked } ∷ fs;
-    spot = b;
-    are = top_of_frame links root l.wait l ls asked fs b w t h r;
-    gives = d;
-    steps = s;
-  }
+        levels = record { at = l.spot; asked = asked } ∷ fs;
+        spot = b;
+        are = top_of_frame links root l.wait l ls asked fs b w t h r;
+        gives = d;
+        steps = s;
+      }
   ready {links = links} {root = root} {st = st} {bg = bg}
       (levels_passed {a = a} {b = b} {asked = asked} {fs = fs} t h r) given d s =
       ready r given (given_passed links a b asked given h d)
       (subst (λ v. SS root (Works (record { levels = fs; stored = store Spot v a st; begun = bg }))) t
       (steps_more s (step_last h.0)))
-
   ready {links = links} {root = root}
       (levels_turned {s = n} {k = k} {p = p} {last = last} {count = count} {ls = ls} {fs = fs} t key w r) given d s =
       record {

@@ -10,7 +10,7 @@ use Rattle.gramcheck.specs.Grammar.{Grammar, IsSoundGrammar}
 use Rattle.gramcheck.specs.KeyLists.{Marks, node_marks, tail_marks}
 use Rattle.gramcheck.specs.KeyMarks.{AreMarks}
 use Rattle.gramcheck.specs.Nodes as node
-use Rattle.gramcheck.specs.Nodes.{shapes_of}
+use Rattle.gramcheck.specs.Nodes.{Shape, shapes_of}
 use Rattle.gramcheck.specs.Outcome as outcome
 use Rattle.gramcheck.specs.Outcome.{Event}
 use Rattle.gramcheck.specs.RunTables.{IsTable, IsRun}
@@ -76,9 +76,14 @@ pub closed_none : (s p n : ℕ) (spots : List Spot) → turns_closed false s p n
 closed_none s p zero spots = refl
 closed_none s p (suc n) spots = closed_none s p n spots
 
+-- each turn is a pair at least
+pub turns_some : {nodes : List Shape} {bodies x : List ℕ} {m : ℕ → Bool} {tails : ℕ → ℕ → Bool} {k a n c : ℕ}
+    → AreTurns nodes bodies x m tails k a n c → n ≤ c
+turns_some turns_none = omega arith
+turns_some (turns_more r here h) = let le = turns_some r in omega (arith, le)
+
 before_last : (i n : ℕ) → i < suc n → (i ≡ n) ⊎ (i < n)
 before_last i n lt = grind arith
-
 
 module _ (g : Grammar) (x : List ℕ) (more : Bool) (marks : Marks) where
   pub turned_to : (s k p to : ℕ) (entries : List (Option Decided)) (run : Run)
@@ -190,7 +195,7 @@ module _ (g : Grammar) (x : List ℕ) (more : Bool) (marks : Marks) where
             r.looked,
             r.gives,
             (λ is. let lt = t.last is in let before = d.2 is in let within = r.within in
-            omega (arith, lt, before, within, same)),
+                omega (arith, lt, before, within, same)),
             tt,
           )
 
@@ -230,7 +235,7 @@ module _ (g : Grammar) (x : List ℕ) (more : Bool) (marks : Marks) where
             star_gives_more (rules_of g.rules) g.start (shapes_of g.nodes) g.bodies g.ranks x sound s k t.spelled
                 (p + i) ((p + i) + 1) e b.looked d.0 [] then t.at b.gives d.1,
             (λ is. let end = t.last is in let before = d.2 is in let within = b.within in
-            omega (arith, end, before, within, lt)),
+                omega (arith, end, before, within, lt)),
             tt,
           )
 
@@ -284,10 +289,11 @@ module _ (g : Grammar) (x : List ℕ) (more : Bool) (marks : Marks) (sound : IsS
         let b = taken_at g x more marks sound s k p q count t (turns_more turns here h) n (omega arith) in
         subst (λ v. L links root ls (turns_on s k p (suc n) fs) (Pair s v)) next
         (levels_passed {a = Pair s (p + n)} {b = Pair s ((p + n) + 1)}
-        {asked = Pair k (p + n) ∷ (Pair s ((p + n) + 1) ∷ [])} plain
-        (turn_kids (rules_of g.rules) g.start (shapes_of g.nodes) g.bodies g.ranks x sound body is_body
-        (node_marks marks) (tail_marks marks) are s k t.at t.spelled (p + n) b,
-        λ f then d. turn_passes g x more marks sound s k p q count t n (omega (arith, le)) f then d)
+        {asked = Pair k (p + n) ∷ (Pair s ((p + n) + 1) ∷ [])} plain (
+          turn_kids (rules_of g.rules) g.start (shapes_of g.nodes) g.bodies g.ranks x sound body is_body
+              (node_marks marks) (tail_marks marks) are s k t.at t.spelled (p + n) b,
+          λ f then d. turn_passes g x more marks sound s k p q count t n (omega (arith, le)) f then d,
+        )
         (passed_levels links root ls fs turns (omega (arith, le)) plain r))
 
     turned_level : (links : List Link) (root : Spot) (ls : List Frame) (fs : List (Level Spot)) (last : ℕ)
@@ -348,10 +354,10 @@ module _ (g : Grammar) (x : List ℕ) (more : Bool) (marks : Marks) (sound : IsS
               begun = come.front ++ h.begun;
             }))) (to_end g x more marks sound t.star t.operand t.from t.end count d)
                 (subst (λ v. SS root (Asks (Pair t.star (t.from + (t.end - t.from))) (record {
-              levels = turns_on t.star t.operand t.from (t.end - t.from) h.levels;
-              stored = v;
-              begun = come.front ++ h.begun;
-            }))) (sym spots) (then_steps t.star t.operand t.from t.end count d here come.steps));
+                  levels = turns_on t.star t.operand t.from (t.end - t.from) h.levels;
+                  stored = v;
+                  begun = come.front ++ h.begun;
+                }))) (sym spots) (then_steps t.star t.operand t.from t.end count d here come.steps));
           }
 
       -- the loop goes to the repetition's end

@@ -22,7 +22,7 @@ ghost use Rattle.packrat.specs.declared.machine.Turn.{Turn};
 use crate::frames::{Frame, Frames, Wait};
 use crate::keys::is_key;
 use crate::onward::{Begun, Entering, Onward, begin, go_on};
-use crate::turns::{Turns, are_new, find_turns};
+use crate::turns::{Turns, find_turns, is_fresh};
 use eventlog::EventLog;
 use gramcheck::{Node, SoundPeg};
 use memo::{Found, Given, KeyLog, Spot};
@@ -161,12 +161,7 @@ fn joined(events: &mut EventLog, first: usize, given: Given) -> Result<Given, Me
 
 // Stores what the turns of a repetition found of its operand, if that is a key.
 #[inline(always)]
-fn put_operands(
-    log: &mut KeyLog,
-    peg: &SoundPeg,
-    window: &[u8],
-    turns: Turns,
-) -> Result<(), Memory>
+fn put_operands(log: &mut KeyLog, peg: &SoundPeg, window: &[u8], turns: Turns) -> Result<(), Memory>
     requires sound { IsSoundGrammar peg.now }
     requires rows { log.old.rows ≡ length peg.now.nodes }
     requires operand { turns.operand < length peg.now.nodes }
@@ -212,11 +207,7 @@ fn put_turns(
 
 // Waits for what a repetition gives behind its turns. One that is no key has no frame.
 #[inline(always)]
-fn wait_turned(
-    frames: &mut Frames,
-    peg: &SoundPeg,
-    turns: Turns,
-) -> Result<(), Memory>
+fn wait_turned(frames: &mut Frames, peg: &SoundPeg, turns: Turns) -> Result<(), Memory>
     requires some { turns.from < turns.end }
     ensures { OnOk result (AreTurnedFrames (node_marks peg.now.keys turns.star) turns frames.old frames.new) }
 {
@@ -314,7 +305,10 @@ impl Machine {
             } => None,
             Spot::Pair { node, place } => match peg.node(node) {
                 Node::Star(operand) => {
-                    if !are_new(&self.log, peg, node, *operand, place) {
+                    if !is_fresh(&self.log, peg, node, place) {
+                        return None;
+                    }
+                    if !is_fresh(&self.log, peg, *operand, place) {
                         return None;
                     }
                     let turns = find_turns(peg, window, more, node, *operand, place)?;

@@ -58,7 +58,11 @@ fn closing(table: &RunTable, window: &[u8], at: usize, to: usize) -> Option<u128
 pub(crate) fn summed(a: u128, b: u128) -> Option<u128>
     ensures { IfSome result (λ sum. sum ≡ a + b) }
 {
-    if b <= u128::MAX - a { Some(a + b) } else { None }
+    if b <= u128::MAX - a {
+        Some(a + b)
+    } else {
+        None
+    }
 }
 
 /// Returns what the bytes from a place on decide of a repetition of this operand, if they decide a turn or its end.
@@ -107,21 +111,14 @@ pub(crate) fn find_turns(
     })
 }
 
-/// Tells whether no pair of a repetition and of its operand, as far as these are keys, is stored from a place on.
+/// Tells whether no pair of a node is stored from a place on, if the node is a key.
 #[inline(always)]
-pub(crate) fn are_new(log: &KeyLog, peg: &SoundPeg, star: usize, operand: usize, from: usize) -> bool
-    ensures star { result ≡ true → (n : ℕ) →
-        AreFresh (node_marks peg.now.keys star) star from n (spots_of log.now.stored) }
-    ensures operand { result ≡ true → (n : ℕ) →
-        AreFresh (node_marks peg.now.keys operand) operand from n (spots_of log.now.stored) }
+pub(crate) fn is_fresh(log: &KeyLog, peg: &SoundPeg, node: usize, from: usize) -> bool
+    ensures { result ≡ true → (n : ℕ) →
+        AreFresh (node_marks peg.now.keys node) node from n (spots_of log.now.stored) }
 {
-    if peg.is_key_node(star) {
-        if !log.is_new(star, from) {
-            return false;
-        }
-    }
-    if peg.is_key_node(operand) {
-        return log.is_new(operand, from);
+    if peg.is_key_node(node) {
+        return log.is_new(node, from);
     }
     true
 }
