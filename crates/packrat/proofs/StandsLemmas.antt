@@ -248,7 +248,8 @@ module _ (g : Grammar) (x : List ℕ) (more : Bool) (marks : Marks) where
   top_head links root (Turned last) l ls fs b h = tt
 
   -- an answer for the last frame
-  pub record Ready (links : List Link) (root : Spot) (ls : List Frame) (given : Given) (st bg : List Spot) : Type 0 where
+  pub record Ready (links : List Link) (root : Spot) (ls : List Frame) (given : Given) (st bg : List Spot)
+      : Type 0 where
     pub levels : List (Level Spot)
     pub spot : Spot
     pub are : AreTop links root ls levels spot

@@ -1,6 +1,6 @@
 //! The machine: it evaluates by a loop over frames in place of recursion, and stores the keys alone.
-ghost use Rattle.std.specs.Prelude.{◌≡◌, ℕ, ◌+◌, ◌-◌, ◌*◌, ◌^◌, ◌<◌, ◌≤◌, Bool, true, List, [], ◌∷◌, length, slice_get, Some};
-ghost use Rattle.std.specs.Prelude.{IfOk, OnOk, IfSome, IfNone};
+ghost use Rattle.std.specs.Prelude.{◌≡◌, ℕ, ◌+◌, ◌-◌, ◌*◌, ◌^◌, ◌<◌, ◌≤◌, Bool, true, List, [], ◌∷◌, length};
+ghost use Rattle.std.specs.Prelude.{slice_get, Some, IfOk, OnOk, IfSome, IfNone};
 ghost use Rattle.gramcheck.specs.Grammar.{HasKeys, IsSoundGrammar};
 ghost use Rattle.pegmatch.specs.Answers.{WasEnough};
 ghost use Rattle.eventlog.specs.EventLog.{IsHead, AreGrown};

@@ -15,7 +15,8 @@ use Rattle.memo.proofs.entry.Entry.extent.Goals as goal
 -- pairs of a node at places in a row have an extent
 spread_extent : (entry : Entry) (node : ℕ) (given : ℕ → Given) (from n highest first : ℕ)
     → ((s : Stored) → IsIn s (pairs_of entry) → IsSpread (at_pair node given) from n s) → length (pairs_of entry) ≡ n
-    → node_of entry ≡ node → node < 2 ^ 32 → highest < 2 ^ 32 → (0 < n → from + n ≤ highest + 1) → first ≡ node * 668265263 + from
+    → node_of entry ≡ node → node < 2 ^ 32 → highest < 2 ^ 32 → (0 < n → from + n ≤ highest + 1)
+    → first ≡ node * 668265263 + from
     → IsExtent entry (record { row = node; highest = highest; count = n; first = first })
 spread_extent entry node given from n highest first one many own small low within is =
     record {
@@ -67,5 +68,6 @@ returns-in-Steps-clause-extent c =
     rw (c.saturating_sub-in-Steps.ensures, c.saturating_sub-in-Steps-2.ensures) (spread_extent c.args.self k.node
     step_at k.from (k.to - k.from) (k.to - 1) c.pair_number-in-Steps.result
     (λ s i. of_spread (at_pair k.node step_at) k.from (k.to - k.from) s (subst (λ v. IsIn s v) pairs i))
-    (ap length pairs ∙ length_spread (at_pair k.node step_at) k.from (k.to - k.from)) (ap node_of k.is) small low (λ some. omega arith)
+    (ap length pairs ∙ length_spread (at_pair k.node step_at) k.from (k.to - k.from)) (ap node_of k.is) small low
+    (λ some. omega arith)
     c.pair_number-in-Steps.ensures.same)
