@@ -1,10 +1,10 @@
 -- Lists of stored keys, and keys that stand at places in a row.
 -- Serves: KeyLog::get, KeyLog::put, KeyLog::put_run, KeyLog::put_steps, KeyLog::mark
 use Rattle.std.proofs.Common.{◌≡◌, ◌⊎◌, inl, inr, ℕ, zero, suc, ◌+◌, ◌<◌, ◌≤◌, List, [], ◌∷◌, ◌++◌, length, refl, sym}
-use Rattle.std.proofs.Common.{subst, arith, slice_get, Some, reverse}
+use Rattle.std.proofs.Common.{subst, ap, arith, slice_get, Some, reverse}
 use Rattle.std.proofs.lemmas.List.{reverse-append}
 use Rattle.memo.specs.Parts.{IsIn, in_here, in_later}
-use Rattle.memo.specs.KeyLog.{spots_of, spread}
+use Rattle.memo.specs.KeyLog.{spots_of, spread, rising}
 use Rattle.memo.specs.declared.key_log.Stored.{Stored}
 use Rattle.memo.specs.declared.spot.Spot.{Spot}
 use Rattle.memo.proofs.PartsLemmas.{in_left, in_right, in_either}
@@ -86,3 +86,38 @@ in_spread at from (suc n) p low high = elim (last_or_before p from n high) [
 pub length_spread : (at : ℕ → Stored) (from n : ℕ) → length (spread at from n) ≡ n
 length_spread at from zero = refl
 length_spread at from (suc n) = let h = length_spread at from n in omega arith
+
+pub of_rising : (at : ℕ → Stored) (from n : ℕ) (s : Stored) → IsIn s (rising at from n) → IsSpread at from n s
+of_rising at from zero s i = elim i [ ]
+of_rising at from (suc n) s i = elim (first_or_later i) [
+  | inl is ↦ record { place = from; is = is; low = omega arith; high = omega arith }
+  | inr j ↦ let h = of_rising at (suc from) n s j in
+      record {
+        place = h.place;
+        is = h.is;
+        low = let k = h.low in omega arith;
+        high = let k = h.high in omega arith;
+      }
+]
+
+first_or_beyond : (p m : ℕ) → m ≤ p → (p ≡ m) ⊎ (suc m ≤ p)
+first_or_beyond p m h = grind arith
+
+pub in_rising : (at : ℕ → Stored) (from n p : ℕ) → from ≤ p → p < from + n → IsIn (at p) (rising at from n)
+in_rising at from zero p low high = absurd (omega arith)
+in_rising at from (suc n) p low high = elim (first_or_beyond p from low) [
+  | inl is ↦ subst (λ v. IsIn (at v) (rising at from (suc n))) (sym is) in_here
+  | inr more ↦ in_later (in_rising at (suc from) n p more (omega arith))
+]
+
+pub length_rising : (at : ℕ → Stored) (from n : ℕ) → length (rising at from n) ≡ n
+length_rising at from zero = refl
+length_rising at from (suc n) = let h = length_rising at (suc from) n in omega arith
+
+-- the last one of them
+pub rising_last : (at : ℕ → Stored) (from n : ℕ) → rising at from (suc n) ≡ rising at from n ++ at (from + n) ∷ []
+rising_last at from zero = let is : from ≡ from + 0 = omega arith in ap (λ v. at v ∷ []) is
+rising_last at from (suc n) =
+    let is : suc from + n ≡ from + suc n = omega arith in
+    ap (λ v. at from ∷ v) (subst (λ v. rising at (suc from) (suc n) ≡ rising at (suc from) n ++ at v ∷ []) is
+    (rising_last at (suc from) n))

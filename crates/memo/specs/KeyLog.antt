@@ -29,11 +29,17 @@ abbrev pub spread : (ℕ → Stored) → ℕ → ℕ → List Stored
 spread at from zero = []
 spread at from (suc n) = at (from + n) ∷ spread at from n
 
--- the pairs of a node at the places from `from` to `to`, all with the same outcome
-abbrev pub run_of : ℕ → ℕ → ℕ → Given → List Stored
-run_of node from to given = spread (λ p. record { spot = Pair node p; given = given }) from (to + 1 - from)
+-- likewise, the first place first
+abbrev pub rising : (ℕ → Stored) → ℕ → ℕ → List Stored
+rising at from zero = []
+rising at from (suc n) = at from ∷ rising at (suc from) n
 
--- the pairs of a node at the places from `from` on, short of `to`: each takes one place, with no events
+-- the pairs of a node at the places from `from` to `to`, the first place first, all with the same outcome
+abbrev pub run_of : ℕ → ℕ → ℕ → Given → List Stored
+run_of node from to given = rising (λ p. record { spot = Pair node p; given = given }) from (to + 1 - from)
+
+-- the pairs of a node at the places from `from` on, short of `to`, the last place first: each takes one place, with
+-- no events
 abbrev pub steps_of : ℕ → ℕ → ℕ → List Stored
 steps_of node from to =
     spread (λ p. record { spot = Pair node p; given = record { found = Took (p + 1); events = 0 } }) from (to - from)

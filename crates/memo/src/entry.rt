@@ -7,10 +7,10 @@ ghost use Rattle.memo.specs.Parts.{IsIn};
 ghost use Rattle.memo.specs.declared.entry.Entry.{Entry};
 ghost use Rattle.memo.specs.declared.spot.Spot.TheVariants.{Pair, Tail};
 
+use crate::found::Found;
 use crate::key_log::Given;
 use crate::narrow::narrow;
 use crate::spot::{Spot, pair_number, tail_number};
-use crate::found::Found;
 use ruletable::Memory;
 use std::mem::size_of;
 

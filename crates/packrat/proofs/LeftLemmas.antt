@@ -13,6 +13,8 @@ use Rattle.memo.specs.declared.spot.Spot.{Spot}
 use Rattle.memo.specs.declared.spot.Spot.TheVariants.{Pair, Tail}
 use Rattle.packrat.specs.TurnsLeft.{members_of, most_members, ask_cost, wait_cost, frames_cost, most_begun}
 use Rattle.packrat.specs.TurnsLeft.{left}
+use Rattle.packrat.specs.Turned.{AreTurnedFrames}
+use Rattle.packrat.specs.declared.turns.Turns as told
 use Rattle.packrat.specs.Onward.{HasMember, IsWell}
 use Rattle.packrat.specs.SpotSteps.{FirstBy, TailFirstBy, IsFirst}
 use Rattle.gramcheck.specs.NodeWays.{Way, Leaf, Body, Members, Alternatives, Turns, Operand, way_of}
@@ -25,7 +27,7 @@ use Rattle.packrat.specs.Onward.{tail_of, member_of}
 use Rattle.packrat.specs.declared.onward.Entering.{Entering}
 use Rattle.gramcheck.specs.KeyLists.{Marks}
 use Rattle.packrat.specs.declared.frames.Wait.{Wait}
-use Rattle.packrat.specs.declared.frames.Wait.TheVariants.{First, Last}
+use Rattle.packrat.specs.declared.frames.Wait.TheVariants.{First, Last, Turned}
 use Rattle.packrat.specs.declared.machine.Turn.TheVariants.{Ask, Answer}
 
 member_counted : (shape : Shape) (i : ℕ) → HasMember shape i → i < members_of (way_of 0 shape)
@@ -60,6 +62,11 @@ one_times : (c most begun : ℕ) → begun + 1 ≤ most → c * (most - begun) �
 one_times c most begun le =
     let is : most - begun ≡ suc (most - (begun + 1)) = omega arith in
     subst (λ v. c * v ≡ c + c * (most - (begun + 1))) (sym is) (grind arith)
+
+times_less : (c most less more : ℕ) → less ≤ more → c * (most - more) ≤ c * (most - less)
+times_less c most less more le =
+    let under : most - more ≤ most - less = omega (arith, le) in
+    grind (arith, under)
 
 module _ (g : Grammar) (x : List ℕ) where
   abbrev Most : ℕ
@@ -136,6 +143,7 @@ module _ (g : Grammar) (x : List ℕ) where
 
   waits_some : (w : Wait) (a : Spot) → 1 ≤ wait_cost Most w a
   waits_some (Last head) a = omega arith
+  waits_some (Turned last) a = omega arith
   waits_some First (Pair n p) = omega arith
   waits_some First (Tail n i p) = omega arith
 
@@ -158,6 +166,30 @@ module _ (g : Grammar) (x : List ℕ) where
       let same : now ≡ begun = omega (arith, is) in
       subst (λ v. (4 * Most + 4) * (most_begun g x - v) + (0 + frames_cost Most fs)
       < (4 * Most + 4) * (most_begun g x - begun) + (4 * (Most - i) + frames_cost Most fs)) (sym same) (omega arith)
+
+  -- a spot that begins so many pairs, with a frame or none
+  pub less_turns : (n p m q : ℕ) (fs gs : List Frame) (begun now pairs : ℕ) → now ≡ begun + pairs → 1 ≤ pairs
+      → now ≤ most_begun g x → frames_cost Most gs ≤ 1 + frames_cost Most fs
+      → left g x (Ask (Pair m q)) gs now < left g x (Ask (Pair n p)) fs begun
+  unfolding left
+  less_turns n p m q fs gs begun now pairs is some le few =
+      let more = one_times (4 * Most + 4) (most_begun g x) begun (omega (arith, is, le, some)) in
+      let rest = times_less (4 * Most + 4) (most_begun g x) (begun + 1) now (omega (arith, is, some)) in
+      omega (arith, more, rest, few)
+
+  -- a spot that begins so many pairs, and gives something
+  pub less_ended : (n p : ℕ) (f : Given) (fs : List Frame) (begun now pairs : ℕ) → now ≡ begun + pairs → 1 ≤ pairs
+      → now ≤ most_begun g x → left g x (Answer f) fs now < left g x (Ask (Pair n p)) fs begun
+  unfolding left
+  less_ended n p f fs begun now pairs is some le =
+      let more = one_times (4 * Most + 4) (most_begun g x) begun (omega (arith, is, le, some)) in
+      let rest = times_less (4 * Most + 4) (most_begun g x) (begun + 1) now (omega (arith, is, some)) in
+      omega (arith, more, rest)
+
+  pub turned_costs : (key : Bool) (t : told.Turns) (fs gs : List Frame) → AreTurnedFrames key t fs gs
+      → frames_cost Most gs ≤ 1 + frames_cost Most fs
+  turned_costs true t fs gs is = subst (λ v. frames_cost Most v ≤ 1 + frames_cost Most fs) (sym is) (omega arith)
+  turned_costs false t fs gs is = subst (λ v. frames_cost Most v ≤ 1 + frames_cost Most fs) (sym is) (omega arith)
 
   waiting_costs : (key : Bool) (head : ℕ) (a : Spot) (fs gs : List Frame) → AreWaiting key head a fs gs
       → frames_cost Most gs ≤ 1 + frames_cost Most fs

@@ -74,7 +74,7 @@ module _ (rules : List Rule) (start : ℕ) (nodes : List Shape) (bodies ranks x 
       → NextOf rules nodes bodies x a asked k
   next_all = (is_next rules start nodes bodies ranks x false sound root is_root marks tails are).all
 
-  both_fronts : (xs ys : List Spot) → total Spot (Kids rules nodes bodies x) (is_key marks tails) weight (xs ++ ys)
+  pub both_fronts : (xs ys : List Spot) → total Spot (Kids rules nodes bodies x) (is_key marks tails) weight (xs ++ ys)
       ≡ total Spot (Kids rules nodes bodies x) (is_key marks tails) weight xs
       + total Spot (Kids rules nodes bodies x) (is_key marks tails) weight ys
   both_fronts =
@@ -104,7 +104,7 @@ module _ (rules : List Rule) (start : ℕ) (nodes : List Shape) (bodies ranks x 
     abbrev St : State Spot → State Spot → Type 0
     St u v = SpotSteps rules nodes bodies x marks tails u v
 
-    both_steps : {t u v : State Spot} → St t u → St u v → St t v
+    pub both_steps : {t u v : State Spot} → St t u → St u v → St t v
     both_steps p q = steps_then Spot (Kids rules nodes bodies x) (NextOf rules nodes bodies x) (is_key marks tails)
         weight next_all p q
 
@@ -114,7 +114,7 @@ module _ (rules : List Rule) (start : ℕ) (nodes : List Shape) (bodies ranks x 
         (star_has rules start nodes bodies ranks x sound s k at spelled)
 
     -- the kids of a turn
-    turn_kids : (p : ℕ) → GivesBy rules nodes bodies x k p Takes
+    pub turn_kids : (p : ℕ) → GivesBy rules nodes bodies x k p Takes
         → Kids rules nodes bodies x (Pair s p) (Pair k p ∷ (Pair s (p + 1) ∷ []))
     turn_kids p g = (
       node.Star k,

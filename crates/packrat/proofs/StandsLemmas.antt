@@ -1,7 +1,7 @@
 -- The loop's turns are steps of the machine.
 -- Serves: Packrat::match_unit, Packrat::replay
 use Rattle.std.proofs.Common.{◌≡◌, ◌⊎◌, inl, inr, ℕ, ◌+◌, Bool, true, false, List, [], ◌∷◌, ◌++◌, length, Some}
-use Rattle.std.proofs.Common.{refl, sym, subst, ◌∙◌, arith, ◌*◌, ◌≤◌}
+use Rattle.std.proofs.Common.{refl, sym, subst, ◌∙◌, arith, ◌*◌, ◌-◌, ◌≤◌}
 use Rattle.std.proofs.lemmas.List.{length-map}
 use Rattle.std.specs.Prelude.{slice_get}
 use Rattle.pegread.specs.PegViews.{rules_of}
@@ -20,6 +20,8 @@ use Rattle.memo.specs.declared.key_log.Given.{Given}
 use Rattle.memo.specs.declared.key_log.Stored.{Stored}
 use Rattle.memo.specs.declared.spot.Spot.{Spot}
 use Rattle.memo.specs.declared.spot.Spot.TheVariants.{Pair}
+use Rattle.packrat.specs.ByteGives.{turns_on}
+use Rattle.packrat.specs.Turned.{AreTurned}
 use Rattle.packrat.specs.TurnsLeft.{most_begun}
 use Rattle.gramcheck.specs.KeyMarks.{AreMarks}
 use Rattle.packrat.specs.SpotGives.{SpotYields, joined, IsQuiet}
@@ -32,7 +34,7 @@ use Rattle.packrat.specs.View.{weight}
 use Rattle.memo.proofs.KeyLogLemmas.{spot_of_stored}
 use Rattle.packrat.specs.declared.frames.Frame.{Frame}
 use Rattle.packrat.specs.declared.frames.Wait.{Wait}
-use Rattle.packrat.specs.declared.frames.Wait.TheVariants.{First, Last}
+use Rattle.packrat.specs.declared.frames.Wait.TheVariants.{First, Last, Turned}
 use Rattle.packrat.specs.declared.onward.Onward.{Onward}
 use Rattle.packrat.specs.declared.onward.Begun.TheVariants as start
 use Rattle.packrat.specs.declared.onward.Onward.TheVariants as way
@@ -43,7 +45,8 @@ use Rattle.packrat.specs.MachineSteps.{step_next, step_last}
 use Rattle.packrat.specs.MachineSteps.{steps_none, steps_more}
 use Rattle.packrat.specs.Onward.{IsWell, ReachesEnd, AfterNone, AfterOne, PassesOn, IsLed, tail_of, member_of}
 use Rattle.packrat.specs.SpotSteps.{IsFirst, NextOf, next_first, next_second, SpotSteps}
-use Rattle.packrat.specs.Stands.{AreLevels, levels_none, levels_frame, levels_passed, Waiting, state_of, key_of}
+use Rattle.packrat.specs.Stands.{AreLevels, levels_none, levels_frame, levels_passed, levels_turned}
+use Rattle.packrat.specs.Stands.{Waiting, state_of, key_of}
 use Rattle.packrat.specs.Stands.{Stands, IsClosed, NeedsMore, HeadStands, kept_joined, IsJoined, IsWaitHead}
 use Rattle.packrat.specs.Stands.{AreWaiting, GivenBy, AreGiven, entered, IsEntered}
 use Rattle.packrat.specs.declared.onward.Entering.{Entering}
@@ -136,6 +139,7 @@ module _ (g : Grammar) (x : List ℕ) (more : Bool) (marks : Marks) where
       → Waiting g x more old w a asked b → Waiting g x more new w a asked b
   waiting_grown old new First a asked b grown h = h
   waiting_grown old new (Last head) a asked b grown h = (h.0, head_grown grown h.1, h.2)
+  waiting_grown old new (Turned last) a asked b grown h = absurd h
 
   levels_grown : {old new : List Link} {root b : Spot} {ls : List Frame} {fs : List (Level Spot)} → AreGrown old new
       → L old root ls fs b → L new root ls fs b
@@ -143,6 +147,7 @@ module _ (g : Grammar) (x : List ℕ) (more : Bool) (marks : Marks) where
   levels_grown {old = old} {new = new} grown (levels_frame {l = l} {b = b} {asked = asked} w t h r) =
       levels_frame w t (waiting_grown old new l.wait l.spot asked b grown h) (levels_grown grown r)
   levels_grown grown (levels_passed t h r) = levels_passed t h (levels_grown grown r)
+  levels_grown grown (levels_turned d t w r) = levels_turned d t w (levels_grown grown r)
 
   -- what a spot gives without events
   pub given_none : (links : List Link) (a : Spot) (f : Found) → SY a f []
@@ -192,15 +197,59 @@ module _ (g : Grammar) (x : List ℕ) (more : Bool) (marks : Marks) where
     head = h.head;
   }
 
-  -- the levels of the frames, of which the last one waits for spot b
+  -- the levels of turns, of which the last one waits for spot b
+  pub record IsTurnedTop (links : List Link) (root a : Spot) (last : ℕ) (ls : List Frame) (fs : List (Level Spot))
+      (b : Spot) : Type 0 where
+    pub star : ℕ
+    pub operand : ℕ
+    pub from : ℕ
+    pub count : ℕ
+    pub rest : List (Level Spot)
+    pub is : a ≡ Pair star from
+    pub turned : AreTurned g x more marks star operand from (last + 1) count
+    pub key : Key (Pair star from) ≡ true
+    pub well : IsWell g x (Pair star from)
+    pub above : L links root ls rest (Pair star from)
+    pub levels : fs ≡ turns_on star operand from (last + 1 - from) rest
+    pub waits : b ≡ Pair star (last + 1)
+
+  -- the levels of the frames, of which the last one waits so for spot b
+  abbrev TopBy : List Link → Spot → Wait → Frame → List Frame → List (Level Spot) → Spot → Type 0
+  TopBy links root First l ls fs b = (asked : List Spot) × (rest : List (Level Spot))
+      × (fs ≡ record { at = l.spot; asked = asked } ∷ rest) × IsWell g x l.spot × (l.key ≡ Key l.spot)
+      × Waiting g x more links First l.spot asked b × L links root ls rest l.spot
+  TopBy links root (Last head) l ls fs b = (asked : List Spot) × (rest : List (Level Spot))
+      × (fs ≡ record { at = l.spot; asked = asked } ∷ rest) × IsWell g x l.spot × (l.key ≡ Key l.spot)
+      × Waiting g x more links (Last head) l.spot asked b × L links root ls rest l.spot
+  TopBy links root (Turned last) l ls fs b = IsTurnedTop links root l.spot last ls fs b
+
   abbrev AreTop : List Link → Spot → List Frame → List (Level Spot) → Spot → Type 0
   AreTop links root [] fs b = (fs ≡ []) × (b ≡ root)
-  AreTop links root (l ∷ ls) fs b = (asked : List Spot) × (rest : List (Level Spot))
-      × (fs ≡ record { at = l.spot; asked = asked } ∷ rest) × IsWell g x l.spot × (l.key ≡ Key l.spot)
-      × Waiting g x more links l.wait l.spot asked b × L links root ls rest l.spot
+  AreTop links root (l ∷ ls) fs b = TopBy links root l.wait l ls fs b
+
+  top_of_frame : (links : List Link) (root : Spot) (w : Wait) (l : Frame) (ls : List Frame) (asked : List Spot)
+      (fs : List (Level Spot)) (b : Spot) → IsWell g x l.spot → l.key ≡ Key l.spot
+      → Waiting g x more links w l.spot asked b → L links root ls fs l.spot
+      → TopBy links root w l ls (record { at = l.spot; asked = asked } ∷ fs) b
+  top_of_frame links root First l ls asked fs b w t h r = (asked, fs, refl, w, t, h, r)
+  top_of_frame links root (Last head) l ls asked fs b w t h r = (asked, fs, refl, w, t, h, r)
+  top_of_frame links root (Turned last) l ls asked fs b w t h r = absurd h
+
+  top_well : (links : List Link) (root : Spot) (w : Wait) (l : Frame) (ls : List Frame) (fs : List (Level Spot))
+      (b : Spot) → TopBy links root w l ls fs b → IsWell g x l.spot
+  top_well links root First l ls fs b h = h.3
+  top_well links root (Last head) l ls fs b h = h.3
+  top_well links root (Turned last) l ls fs b h = subst (IsWell g x) (sym h.is) h.well
+
+  top_head : (links : List Link) (root : Spot) (w : Wait) (l : Frame) (ls : List Frame) (fs : List (Level Spot))
+      (b : Spot) → TopBy links root w l ls fs b → IsWaitHead links w
+  top_head links root First l ls fs b h = tt
+  top_head links root (Last head) l ls fs b h = h.5.1.is
+  top_head links root (Turned last) l ls fs b h = tt
 
   -- an answer for the last frame
-  record Ready (links : List Link) (root : Spot) (ls : List Frame) (given : Given) (st bg : List Spot) : Type 0 where
+  pub record Ready (links : List Link) (root : Spot) (ls : List Frame) (given : Given) (st bg : List Spot)
+      : Type 0 where
     pub levels : List (Level Spot)
     pub spot : Spot
     pub are : AreTop links root ls levels spot
@@ -214,20 +263,43 @@ module _ (g : Grammar) (x : List ℕ) (more : Bool) (marks : Marks) where
       → Ready links root ls given st bg
   ready {root = root} levels_none given d s =
       record { levels = []; spot = root; are = (refl, refl); gives = d; steps = s }
-  ready (levels_frame {l = l} {b = b} {asked = asked} {fs = fs} w t h r) given d s = record {
-    levels = record { at = l.spot; asked = asked } ∷ fs;
-    spot = b;
-    are = (asked, fs, refl, w, t, h, r);
-    gives = d;
-    steps = s;
-  }
+  ready {links = links} {root = root} (levels_frame {l = l} {b = b} {asked = asked} {ls = ls} {fs = fs} w t h r) given d
+      s = record {
+        levels = record { at = l.spot; asked = asked } ∷ fs;
+        spot = b;
+        are = top_of_frame links root l.wait l ls asked fs b w t h r;
+        gives = d;
+        steps = s;
+      }
   ready {links = links} {root = root} {st = st} {bg = bg}
       (levels_passed {a = a} {b = b} {asked = asked} {fs = fs} t h r) given d s =
       ready r given (given_passed links a b asked given h d)
       (subst (λ v. SS root (Works (record { levels = fs; stored = store Spot v a st; begun = bg }))) t
       (steps_more s (step_last h.0)))
+  ready {links = links} {root = root}
+      (levels_turned {s = n} {k = k} {p = p} {last = last} {count = count} {ls = ls} {fs = fs} t key w r) given d s =
+      record {
+        levels = turns_on n k p (last + 1 - p) fs;
+        spot = Pair n (last + 1);
+        are = record {
+          star = n;
+          operand = k;
+          from = p;
+          count = count;
+          rest = fs;
+          is = refl;
+          turned = t;
+          key = key;
+          well = w;
+          above = r;
+          levels = refl;
+          waits = refl;
+        };
+        gives = d;
+        steps = s;
+      }
 
-  ready_of : {root : Spot} {given : Given} {ls : List Frame} {st : List Stored} {links : List Link} {n : ℕ}
+  pub ready_of : {root : Spot} {given : Given} {ls : List Frame} {st : List Stored} {links : List Link} {n : ℕ}
       → (s : S root (Answer given) ls st links n) → Ready links root ls given (spots_of st) s.begun
   ready_of {given = given} s = ready s.are given s.turns s.steps
 
@@ -261,10 +333,10 @@ module _ (g : Grammar) (x : List ℕ) (more : Bool) (marks : Marks) where
     pub asked_well : IsWell g x a
     asked_well = subst (IsWell g x) (sym s.turns.0) s.turns.1
 
-    spot_here : a ≡ s.spot
+    pub spot_here : a ≡ s.spot
     spot_here = s.turns.0
 
-    above : L links root ls s.levels a
+    pub above : L links root ls s.levels a
     above = subst (L links root ls s.levels) (sym spot_here) s.are
 
     pub stands_stored : (given : Given) → Key a ≡ true → IsIn (record { spot = a; given = given }) st
@@ -373,15 +445,11 @@ module _ (g : Grammar) (x : List ℕ) (more : Bool) (marks : Marks) where
 
   module _ (root a : Spot) (given : Given) (ls : List Frame) (st : List Stored) (links : List Link) (n : ℕ)
       (key : Bool) where
-    at_levels : (w : Wait) (bg : List Spot)
-        → (r : Ready links root (record { spot = a; key = key; wait = w } ∷ ls) given (spots_of st) bg)
-        → SS root (Works (record {
-          levels = record { at = a; asked = r.are.0 } ∷ r.are.1;
-          stored = spots_of st;
-          begun = bg;
-        }))
-    at_levels w bg r =
-        subst (λ v. SS root (Works (record { levels = v; stored = spots_of st; begun = bg }))) r.are.2 r.steps
+    at_levels : (bg : List Spot) (levels now : List (Level Spot)) → levels ≡ now
+        → SS root (Works (record { levels = levels; stored = spots_of st; begun = bg }))
+        → SS root (Works (record { levels = now; stored = spots_of st; begun = bg }))
+    at_levels bg levels now is s =
+        subst (λ v. SS root (Works (record { levels = v; stored = spots_of st; begun = bg }))) is s
 
     module _ (s : S root (Answer given) (record { spot = a; key = key; wait = First } ∷ ls) st links n) where
       r : Ready links root (record { spot = a; key = key; wait = First } ∷ ls) given (spots_of st) s.begun
@@ -397,7 +465,8 @@ module _ (g : Grammar) (x : List ℕ) (more : Bool) (marks : Marks) where
         stored = spots_of st;
         begun = s.begun;
       })))
-          r.are.5.1 (at_levels First s.begun r)
+          r.are.5.1
+          (at_levels s.begun r.levels (record { at = a; asked = r.are.0 } ∷ r.are.1) r.are.2 r.steps)
 
       -- what is known behind the first spot that the frame waited for
       abbrev After : Onward → Type 0
@@ -489,21 +558,17 @@ module _ (g : Grammar) (x : List ℕ) (more : Bool) (marks : Marks) where
           given = c.keeps h (keys_grown grown s.given);
           is = s.is;
           steps = subst (λ v. SS root (Works (record { levels = r.are.1; stored = v; begun = s.begun }))) (sym c.spots)
-              (steps_more (at_levels (Last head) s.begun r) (step_last w.2.0));
+              (steps_more (at_levels s.begun r.levels (record { at = a; asked = r.are.0 } ∷ r.are.1) r.are.2 r.steps)
+              (step_last w.2.0));
         }
-
-  wait_head : (links : List Link) (w : Wait) (a b : Spot) (asked : List Spot) → Waiting g x more links w a asked b
-      → IsWaitHead links w
-  wait_head links First a b asked h = tt
-  wait_head links (Last head) a b asked h = h.1.is
 
   module _ (root : Spot) (l : Frame) (given : Given) (ls : List Frame) (st : List Stored) (links : List Link) (n : ℕ)
       (s : S root (Answer given) (l ∷ ls) st links n) where
     pub level_well : IsWell g x l.spot
-    level_well = (ready_of s).are.3
+    level_well = let r = ready_of s in top_well links root l.wait l ls r.levels r.spot r.are
 
     pub level_head : IsWaitHead links l.wait
-    level_head = let r = ready_of s in wait_head links l.wait l.spot r.spot r.are.0 r.are.5
+    level_head = let r = ready_of s in top_head links root l.wait l ls r.levels r.spot r.are
 
   pub given_head : (root : Spot) (given : Given) (ls : List Frame) (st : List Stored) (links : List Link) (n : ℕ)
       → S root (Answer given) ls st links n → IsHead links given.events

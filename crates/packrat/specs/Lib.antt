@@ -6,6 +6,7 @@ pub mod MachineSteps
 pub mod SpotSteps
 pub mod ByteGives
 pub mod Onward
+pub mod Turned
 pub mod TurnsLeft
 pub mod Stands
 pub mod Done

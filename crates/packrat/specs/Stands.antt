@@ -1,5 +1,5 @@
 -- Where the loop stands on its way.
-use Rattle.std.specs.Prelude.{◌≡◌, ◌⊎◌, ℕ, ◌<◌, Bool, true, false, List, [], ◌∷◌, ◌++◌, Option, Some, None}
+use Rattle.std.specs.Prelude.{◌≡◌, ◌⊎◌, ℕ, ◌+◌, ◌-◌, ◌<◌, Bool, true, false, List, [], ◌∷◌, ◌++◌, Option, Some, None}
 use Rattle.pegread.specs.PegViews.{rules_of}
 use Rattle.gramcheck.specs.Grammar.{Grammar}
 use Rattle.gramcheck.specs.Nodes.{Shape, shapes_of}
@@ -15,6 +15,7 @@ use Rattle.memo.specs.Parts.{IsIn}
 use Rattle.gramcheck.specs.KeyLists.{Marks}
 use Rattle.memo.specs.declared.key_log.Stored.{Stored}
 use Rattle.memo.specs.declared.spot.Spot.{Spot}
+use Rattle.memo.specs.declared.spot.Spot.TheVariants.{Pair}
 use Rattle.packrat.specs.SpotGives.{SpotYields, IsQuiet}
 use Rattle.gramcheck.specs.KeyLists.{node_marks, tail_marks}
 use Rattle.memo.specs.KeyLog.{spots_of}
@@ -23,12 +24,14 @@ use Rattle.packrat.specs.Spots.{Kids, is_key}
 use Rattle.packrat.specs.View.{weight}
 use Rattle.packrat.specs.declared.frames.Frame.{Frame}
 use Rattle.packrat.specs.declared.frames.Wait.{Wait}
-use Rattle.packrat.specs.declared.frames.Wait.TheVariants.{First, Last}
+use Rattle.packrat.specs.declared.frames.Wait.TheVariants.{First, Last, Turned}
 use Rattle.packrat.specs.declared.machine.Turn.{Turn}
 use Rattle.packrat.specs.declared.machine.Turn.TheVariants.{Ask, Answer}
 use Rattle.packrat.specs.MachineSteps.{Level, State, Asks, Works, start_at, store}
 use Rattle.packrat.specs.Onward.{IsWell, ReachesEnd, PassesOn, tail_of, member_of}
 use Rattle.packrat.specs.declared.onward.Entering.{Entering}
+use Rattle.packrat.specs.ByteGives.{turns_on}
+use Rattle.packrat.specs.Turned.{AreTurned}
 use Rattle.packrat.specs.TurnsLeft.{left}
 use Rattle.packrat.specs.SpotSteps.{IsFirst, SpotSteps}
 
@@ -60,6 +63,7 @@ pub record IsJoined (old new : List Link) (first : ℕ) (given all : Given) : Ty
 abbrev pub IsWaitHead : List Link → Wait → Type 0
 IsWaitHead links First = Unit {0}
 IsWaitHead links (Last head) = IsHead links head
+IsWaitHead links (Turned last) = Unit {0}
 
 -- The frames of a spot that waits for its last one: it has one, unless it is no key and has no events so far.
 abbrev pub AreWaiting : Bool → ℕ → Spot → List Frame → List Frame → Type 0
@@ -88,12 +92,14 @@ module _ (g : Grammar) (x : List ℕ) (more : Bool) where
   pub record AreGiven (links : List Link) (stored : List Stored) : Type 0 where
     pub given : (s : Stored) → IsIn s stored → GivenBy links s.spot s.given
 
-  -- Spot a has asked for these, and waits for b: for its first; or for its last, to give what that one gives.
+  -- Spot a has asked for these, and waits for b: for its first; or for its last, to give what that one gives. Turns of
+  -- a repetition are not one spot.
   abbrev pub Waiting : List Link → Wait → Spot → List Spot → Spot → Type 0
   Waiting links First a asked b =
       IsFirst (rules_of g.rules) (shapes_of g.nodes) g.bodies x a b × (asked ≡ b ∷ [])
   Waiting links (Last head) a asked b = (first : List Event) × HeadStands (shapes_of g.nodes) links head first
       × PassesOn g x more a asked b first
+  Waiting links (Turned last) a asked b = ⊥
 
   abbrev pub IsTurn : List Link → Turn → Spot → Type 0
   IsTurn links (Ask a) b = (a ≡ b) × IsWell g x b
@@ -101,7 +107,8 @@ module _ (g : Grammar) (x : List ℕ) (more : Bool) where
 
   module _ (marks : Marks) where
     -- The levels wait for spot b. A level has a frame, or is that of a spot that is no key, and that only waits to give
-    -- what its last one gives.
+    -- what its last one gives. The levels of turns over bytes that decide them have one frame, which names the last
+    -- place.
     pub data AreLevels (links : List Link) (root : Spot) : List Frame → List (Level Spot) → Spot → Type 0 where
       levels_none : AreLevels links root [] [] root
       levels_frame : {l : Frame} {b : Spot} {asked : List Spot} {ls : List Frame} {fs : List (Level Spot)}
@@ -111,6 +118,11 @@ module _ (g : Grammar) (x : List ℕ) (more : Bool) where
       levels_passed : {a b : Spot} {asked : List Spot} {ls : List Frame} {fs : List (Level Spot)}
           → key_of marks a ≡ false → PassesOn g x more a asked b [] → AreLevels links root ls fs a
           → AreLevels links root ls (record { at = a; asked = asked } ∷ fs) b
+      levels_turned : {s k p last count : ℕ} {ls : List Frame} {fs : List (Level Spot)}
+          → AreTurned g x more marks s k p (last + 1) count → key_of marks (Pair s p) ≡ true → IsWell g x (Pair s p)
+          → AreLevels links root ls fs (Pair s p)
+          → AreLevels links root (record { spot = Pair s p; key = true; wait = Turned last } ∷ ls)
+          (turns_on s k p (last + 1 - p) fs) (Pair s (last + 1))
 
     abbrev pub Comes : Spot → State Spot → Type 0
     Comes root s = SpotSteps (rules_of g.rules) (shapes_of g.nodes) g.bodies x (node_marks marks) (tail_marks marks)

@@ -7,7 +7,7 @@ use Rattle.memo.specs.declared.spot.Spot.TheVariants.{Pair, Tail}
 use Rattle.gramcheck.specs.NodeWays.{Way, Leaf, Body, Members, Alternatives, Turns, Operand, way_of}
 use Rattle.packrat.specs.declared.frames.Frame.{Frame}
 use Rattle.packrat.specs.declared.frames.Wait.{Wait}
-use Rattle.packrat.specs.declared.frames.Wait.TheVariants.{First, Last}
+use Rattle.packrat.specs.declared.frames.Wait.TheVariants.{First, Last, Turned}
 use Rattle.packrat.specs.declared.machine.Turn.{Turn}
 use Rattle.packrat.specs.declared.machine.Turn.TheVariants.{Ask, Answer}
 
@@ -31,9 +31,10 @@ module _ (most : ℕ) where
   ask_cost (Pair n p) = 1
   ask_cost (Tail n i p) = 4 * (most - i)
 
-  -- likewise of a frame that waits for its last spot, or for its first
+  -- likewise of a frame that waits for its last spot, for what stands behind its turns, or for its first spot
   abbrev pub wait_cost : Wait → Spot → ℕ
   wait_cost (Last head) a = 1
+  wait_cost (Turned last) a = 1
   wait_cost First (Pair n p) = 3
   wait_cost First (Tail n i p) = 2 + 4 * (most - suc i)
 

@@ -1,6 +1,6 @@
 //! The machine: it evaluates by a loop over frames in place of recursion, and stores the keys alone.
-ghost use Rattle.std.specs.Prelude.{◌≡◌, ℕ, ◌+◌, ◌*◌, ◌<◌, ◌≤◌, Bool, true, List, [], ◌∷◌, length, slice_get, Some};
-ghost use Rattle.std.specs.Prelude.{IfOk, OnOk, IfSome, IfNone};
+ghost use Rattle.std.specs.Prelude.{◌≡◌, ℕ, ◌+◌, ◌-◌, ◌*◌, ◌^◌, ◌<◌, ◌≤◌, Bool, true, List, [], ◌∷◌, length};
+ghost use Rattle.std.specs.Prelude.{slice_get, Some, IfOk, OnOk, IfSome, IfNone};
 ghost use Rattle.gramcheck.specs.Grammar.{HasKeys, IsSoundGrammar};
 ghost use Rattle.pegmatch.specs.Answers.{WasEnough};
 ghost use Rattle.eventlog.specs.EventLog.{IsHead, AreGrown};
@@ -8,11 +8,13 @@ ghost use Rattle.eventlog.specs.declared.link.Link.{Link};
 ghost use Rattle.memo.specs.KeyLog.{spots_of};
 ghost use Rattle.memo.specs.Parts.{IsIn};
 ghost use Rattle.memo.specs.declared.spot.Spot.{Spot};
-ghost use Rattle.gramcheck.specs.KeyLists.{Marks};
+ghost use Rattle.gramcheck.specs.KeyLists.{Marks, node_marks};
+ghost use Rattle.packrat.specs.ByteGives.{operands_on, turns_closed};
+ghost use Rattle.packrat.specs.Turned.{AreDecided, AreFree, AreTurnedFrames, IsKeyed};
 ghost use Rattle.packrat.specs.TurnsLeft.{left, most_begun};
 ghost use Rattle.packrat.specs.Onward.{IsWell};
 ghost use Rattle.packrat.specs.Stands.{Stands, IsClosed, AreOn, IsEvaluated, LowersLeft, key_of};
-ghost use Rattle.packrat.specs.Stands.{AreWaiting, IsWaitHead, IsEntered, IsJoined};
+ghost use Rattle.packrat.specs.Stands.{AreWaiting, IsWaitHead, IsEntered, IsJoined, GivenBy, AreGiven};
 ghost use Rattle.packrat.specs.View.{weight};
 ghost use Rattle.packrat.specs.declared.frames.Wait.{Wait};
 ghost use Rattle.packrat.specs.declared.machine.Turn.{Turn};
@@ -20,8 +22,9 @@ ghost use Rattle.packrat.specs.declared.machine.Turn.{Turn};
 use crate::frames::{Frame, Frames, Wait};
 use crate::keys::is_key;
 use crate::onward::{Begun, Entering, Onward, begin, go_on};
+use crate::turns::{Turns, find_turns, is_fresh};
 use eventlog::EventLog;
-use gramcheck::SoundPeg;
+use gramcheck::{Node, SoundPeg};
 use memo::{Found, Given, KeyLog, Spot};
 use ruletable::Memory;
 
@@ -156,6 +159,71 @@ fn joined(events: &mut EventLog, first: usize, given: Given) -> Result<Given, Me
     }
 }
 
+// Stores what the turns of a repetition found of its operand, if that is a key.
+#[inline(always)]
+fn put_operands(log: &mut KeyLog, peg: &SoundPeg, window: &[u8], turns: Turns) -> Result<(), Memory>
+    requires sound { IsSoundGrammar peg.now }
+    requires rows { log.old.rows ≡ length peg.now.nodes }
+    requires operand { turns.operand < length peg.now.nodes }
+    ensures rows { OnOk result (log.new.rows ≡ length peg.now.nodes) }
+    ensures spots { OnOk result (spots_of log.new.stored ≡ operands_on (node_marks peg.now.keys turns.operand)
+        turns.operand turns.from (turns.end - turns.from) (spots_of log.old.stored)) }
+    ensures keeps { OnOk result ((more : Bool) (links : List Link) →
+        AreDecided peg.now window.now more peg.now.keys turns →
+        AreGiven peg.now window.now more links log.old.stored →
+        AreGiven peg.now window.now more links log.new.stored) }
+{
+    if peg.is_key_node(turns.operand) {
+        log.put_steps(turns.operand, turns.from, turns.end)?;
+    }
+    Ok(())
+}
+
+// Stores what a repetition gives that ends behind its turns, at all their places and there, if it is a key.
+#[inline(always)]
+fn put_turns(
+    log: &mut KeyLog,
+    peg: &SoundPeg,
+    window: &[u8],
+    turns: Turns,
+    given: Given,
+) -> Result<(), Memory>
+    requires rows { log.old.rows ≡ length peg.now.nodes }
+    requires star { turns.star < length peg.now.nodes }
+    ensures rows { OnOk result (log.new.rows ≡ length peg.now.nodes) }
+    ensures spots { OnOk result (spots_of log.new.stored ≡ turns_closed (node_marks peg.now.keys turns.star)
+        turns.star turns.from (turns.end + 1 - turns.from) (spots_of log.old.stored)) }
+    ensures keeps { OnOk result ((more : Bool) (links : List Link) →
+        ((p : ℕ) → turns.from ≤ p → p < turns.from + (turns.end + 1 - turns.from) →
+        GivenBy peg.now window.now more links (Spot.Pair turns.star p) given) →
+        AreGiven peg.now window.now more links log.old.stored →
+        AreGiven peg.now window.now more links log.new.stored) }
+{
+    if peg.is_key_node(turns.star) {
+        log.put_run(turns.star, turns.from, turns.end, given)?;
+    }
+    Ok(())
+}
+
+// Waits for what a repetition gives behind its turns. One that is no key has no frame.
+#[inline(always)]
+fn wait_turned(frames: &mut Frames, peg: &SoundPeg, turns: Turns) -> Result<(), Memory>
+    requires some { turns.from < turns.end }
+    ensures { OnOk result (AreTurnedFrames (node_marks peg.now.keys turns.star) turns frames.old frames.new) }
+{
+    if peg.is_key_node(turns.star) {
+        frames.push(Frame {
+            spot: Spot::Pair {
+                node: turns.star,
+                place: turns.from,
+            },
+            key: true,
+            wait: Wait::Turned(turns.end - 1),
+        })?;
+    }
+    Ok(())
+}
+
 impl Machine {
     // Begins a spot that is not stored, and goes down or gives something; none where the window is too short.
     #[inline(always)]
@@ -219,6 +287,83 @@ impl Machine {
         }
     }
 
+    // Returns turns from a spot on that bytes decide, if it is a pair of a repetition, and no key among their pairs is
+    // stored.
+    #[inline(always)]
+    fn turns_at(&self, peg: &SoundPeg, window: &[u8], more: bool, spot: Spot) -> Option<Turns>
+        requires some { WasEnough window.now more 0 }
+        requires well { IsWell peg.now window.now spot }
+        ensures free { IfSome result (λ t. AreFree peg.now window.now more peg.now.keys (spots_of self.now.log.stored)
+            spot t) }
+        ensures fits { IfSome result (λ t. self.now.begun + t.pairs < 2 ^ 128) }
+    {
+        match spot {
+            Spot::Tail {
+                node: _,
+                index: _,
+                place: _,
+            } => None,
+            Spot::Pair { node, place } => match peg.node(node) {
+                Node::Star(operand) => {
+                    if !is_fresh(&self.log, peg, node, place) {
+                        return None;
+                    }
+                    if !is_fresh(&self.log, peg, *operand, place) {
+                        return None;
+                    }
+                    let turns = find_turns(peg, window, more, node, *operand, place)?;
+                    if u128::MAX - self.begun < turns.pairs {
+                        return None;
+                    }
+                    Some(turns)
+                }
+                _ => None,
+            },
+        }
+    }
+
+    // Goes along turns that bytes decide, to the repetition's end or to its pair behind them.
+    fn run_turns(
+        &mut self,
+        peg: &SoundPeg,
+        window: &[u8],
+        more: bool,
+        turns: Turns,
+    ) -> Result<Turn, Memory>
+        requires sound { IsSoundGrammar peg.now }
+        requires keyed { IsKeyed peg.now }
+        requires rows { self.old.log.rows ≡ length peg.now.nodes }
+        requires free { AreFree peg.now window.now more peg.now.keys (spots_of self.old.log.stored)
+            (Spot.Pair turns.star turns.from) turns }
+        requires fits { self.old.begun + turns.pairs < 2 ^ 128 }
+        ensures rows { OnOk result (self.new.log.rows ≡ length peg.now.nodes) }
+        ensures stands { (root : Spot) → Stands peg.now window.now more peg.now.keys root
+            (Turn.Ask (Spot.Pair turns.star turns.from)) self.old.frames
+            self.old.log.stored self.old.events self.old.begun →
+            IfOk result (λ turn. Stands peg.now window.now more peg.now.keys root turn
+            self.new.frames self.new.log.stored self.new.events self.new.begun) }
+        ensures less { self.new.begun ≤ most_begun peg.now window.now → IfOk result (λ turn.
+            left peg.now window.now turn self.new.frames self.new.begun
+            < left peg.now window.now (Turn.Ask (Spot.Pair turns.star turns.from)) self.old.frames self.old.begun) }
+    {
+        self.begun += turns.pairs;
+        put_operands(&mut self.log, peg, window, turns)?;
+        if turns.whole {
+            let given = Given {
+                found: Found::Took(turns.end),
+                events: 0,
+            };
+            put_turns(&mut self.log, peg, window, turns, given)?;
+            Ok(Turn::Answer(given))
+        } else {
+            wait_turned(&mut self.frames, peg, turns)?;
+            Ok(Turn::Ask(Spot::Pair {
+                node: turns.star,
+                place: turns.end,
+            }))
+        }
+    }
+
     // Evaluates a spot, or begins it and goes down; none where the window is too short.
     #[inline(always)]
     fn ask(
@@ -230,6 +375,7 @@ impl Machine {
     ) -> Result<Option<Turn>, Memory>
         requires some { WasEnough window.now more 0 }
         requires sound { IsSoundGrammar peg.now }
+        requires keyed { IsKeyed peg.now }
         requires well { IsWell peg.now window.now spot }
         requires rows { self.old.log.rows ≡ length peg.now.nodes }
         requires few { self.old.begun ≤ most_begun peg.now window.now }
@@ -245,7 +391,10 @@ impl Machine {
         let key = is_key(peg, spot);
         match stored(&mut self.log, spot, key)? {
             Some(given) => Ok(Some(Turn::Answer(given))),
-            None => self.start_spot(peg, window, more, spot, key),
+            None => match self.turns_at(peg, window, more, spot) {
+                Some(turns) => Ok(Some(self.run_turns(peg, window, more, turns)?)),
+                None => self.start_spot(peg, window, more, spot, key),
+            },
         }
     }
 
@@ -309,6 +458,7 @@ impl Machine {
         given: Given,
     ) -> Result<Turn, Memory>
         requires sound { IsSoundGrammar peg.now }
+        requires keyed { IsKeyed peg.now }
         requires well { IsWell peg.now window.now frame.spot }
         requires rows { self.old.log.rows ≡ length peg.now.nodes }
         requires first { IsWaitHead self.old.events frame.wait }
@@ -327,6 +477,11 @@ impl Machine {
     {
         match frame.wait {
             Wait::First => self.after_first(peg, window, frame.spot, frame.key, given),
+            Wait::Turned(last) => {
+                let spot = frame.spot;
+                self.log.put_run(spot.row(), spot.place(), last, given)?;
+                Ok(Turn::Answer(given))
+            }
             Wait::Last(first) => {
                 let all = joined(&mut self.events, first, given)?;
                 close(&mut self.log, peg, window, frame.spot, frame.key, all)?;

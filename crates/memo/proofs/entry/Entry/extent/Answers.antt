@@ -1,12 +1,12 @@
 use Rattle.std.proofs.Common.{◌≡◌, ℕ, ◌+◌, ◌-◌, ◌*◌, ◌^◌, ◌<◌, ◌≤◌, length}
 use Rattle.std.proofs.Common.{sym, ◌∙◌, subst, ap, arith}
 use Rattle.memo.specs.Parts.{IsIn}
-use Rattle.memo.specs.KeyLog.{row_of, place_of, number_of, spread, IsNarrow}
+use Rattle.memo.specs.KeyLog.{row_of, place_of, number_of, IsNarrow}
 use Rattle.memo.specs.LogEntries.{pairs_of, node_of, IsExtent}
 use Rattle.memo.specs.declared.entry.Entry.{Entry}
 use Rattle.memo.specs.declared.key_log.Given.{Given}
 use Rattle.memo.specs.declared.key_log.Stored.{Stored}
-use Rattle.memo.proofs.KeyLogLemmas.{IsSpread, of_spread, length_spread}
+use Rattle.memo.proofs.KeyLogLemmas.{IsSpread, of_spread, length_spread, of_rising, length_rising}
 use Rattle.std.proofs.Common.{rules}
 use Rattle.memo.specs.LogEntries.{given_of}
 use Rattle.memo.proofs.LogEntriesLemmas.{at_pair, step_at}
@@ -14,12 +14,11 @@ use Rattle.memo.proofs.entry.Entry.extent.Goals as goal
 
 -- pairs of a node at places in a row have an extent
 spread_extent : (entry : Entry) (node : ℕ) (given : ℕ → Given) (from n highest first : ℕ)
-    → pairs_of entry ≡ spread (at_pair node given) from n → node_of entry ≡ node → node < 2 ^ 32 → highest < 2 ^ 32
-    → (0 < n → from + n ≤ highest + 1) → first ≡ node * 668265263 + from
+    → ((s : Stored) → IsIn s (pairs_of entry) → IsSpread (at_pair node given) from n s) → length (pairs_of entry) ≡ n
+    → node_of entry ≡ node → node < 2 ^ 32 → highest < 2 ^ 32 → (0 < n → from + n ≤ highest + 1)
+    → first ≡ node * 668265263 + from
     → IsExtent entry (record { row = node; highest = highest; count = n; first = first })
-spread_extent entry node given from n highest first pairs own small low within is =
-    let one : (s : Stored) → IsIn s (pairs_of entry) → IsSpread (at_pair node given) from n s =
-    λ s i. of_spread (at_pair node given) from n s (subst (λ v. IsIn s v) pairs i) in
+spread_extent entry node given from n highest first one many own small low within is =
     record {
       node = sym own;
       row = λ s i. ap (λ v. row_of v.spot) (one s i).is;
@@ -43,7 +42,7 @@ spread_extent entry node given from n highest first pairs own small low within i
           let h = one s i in
           let below = h.high in
           subst (λ v. number_of v.spot < first + n) (sym h.is) (omega arith);
-      count = sym (ap length pairs ∙ length_spread (at_pair node given) from n);
+      count = sym many;
     }
 
 pub returns-in-Run-clause-extent : goal.returns-in-Run-clause-extent
@@ -51,9 +50,13 @@ returns-in-Run-clause-extent c =
     let k = c.in-Run in
     let small : k.node < 2 ^ 32 = search rules in
     let low : k.to < 2 ^ 32 = search rules in
-    rw c.saturating_sub.ensures (spread_extent c.args.self k.node (λ _. given_of k.outcome k.events) k.from
-    (k.to + 1 - k.from) k.to c.pair_number.result (ap pairs_of k.is) (ap node_of k.is) small low (λ some. omega arith)
-    c.pair_number.ensures.same)
+    let given : ℕ → Given = λ _. given_of k.outcome k.events in
+    let pairs = ap pairs_of k.is in
+    rw c.saturating_sub.ensures (spread_extent c.args.self k.node given k.from
+    (k.to + 1 - k.from) k.to c.pair_number.result
+    (λ s i. of_rising (at_pair k.node given) k.from (k.to + 1 - k.from) s (subst (λ v. IsIn s v) pairs i))
+    (ap length pairs ∙ length_rising (at_pair k.node given) k.from (k.to + 1 - k.from)) (ap node_of k.is) small low
+    (λ some. omega arith) c.pair_number.ensures.same)
 
 pub returns-in-Steps-clause-extent : goal.returns-in-Steps-clause-extent
 returns-in-Steps-clause-extent c =
@@ -61,7 +64,10 @@ returns-in-Steps-clause-extent c =
     let small : k.node < 2 ^ 32 = search rules in
     let wide : k.to < 2 ^ 32 = search rules in
     let low : k.to - 1 < 2 ^ 32 = omega arith in
+    let pairs = ap pairs_of k.is in
     rw (c.saturating_sub-in-Steps.ensures, c.saturating_sub-in-Steps-2.ensures) (spread_extent c.args.self k.node
-    step_at k.from (k.to - k.from) (k.to - 1) c.pair_number-in-Steps.result (ap pairs_of k.is)
-    (ap node_of k.is) small low (λ some. omega arith)
+    step_at k.from (k.to - k.from) (k.to - 1) c.pair_number-in-Steps.result
+    (λ s i. of_spread (at_pair k.node step_at) k.from (k.to - k.from) s (subst (λ v. IsIn s v) pairs i))
+    (ap length pairs ∙ length_spread (at_pair k.node step_at) k.from (k.to - k.from)) (ap node_of k.is) small low
+    (λ some. omega arith)
     c.pair_number-in-Steps.ensures.same)

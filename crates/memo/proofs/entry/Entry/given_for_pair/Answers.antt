@@ -1,22 +1,23 @@
-use Rattle.std.proofs.Common.{◌≡◌, ℕ, ◌+◌, ◌-◌, ◌<◌, ◌≤◌}
+use Rattle.std.proofs.Common.{◌≡◌, ℕ, ◌+◌, ◌-◌, ◌<◌, ◌≤◌, List}
 use Rattle.std.proofs.Common.{refl, sym, ◌∙◌, subst, ap, arith}
 use Rattle.memo.specs.Parts.{IsIn}
-use Rattle.memo.specs.KeyLog.{spots_of, spread}
+use Rattle.memo.specs.KeyLog.{spots_of, spread, rising}
 use Rattle.memo.specs.declared.key_log.Given.{Given}
+use Rattle.memo.specs.declared.key_log.Stored.{Stored}
 use Rattle.memo.specs.declared.spot.Spot.TheVariants.{Pair}
 use Rattle.memo.proofs.KeyLogLemmas.{stored_of_spot}
-use Rattle.memo.proofs.KeyLogLemmas.{of_spread, in_spread}
+use Rattle.memo.proofs.KeyLogLemmas.{IsSpread, of_spread, in_spread, of_rising, in_rising}
 use Rattle.memo.specs.LogEntries.{given_of}
 use Rattle.memo.proofs.LogEntriesLemmas.{at_pair, step_at}
 use Rattle.memo.proofs.entry.Entry.given_for_pair.Goals as goal
 
 -- a pair among pairs of a node at places in a row
-pair_of_spread : (own : ℕ) (given : ℕ → Given) (from n node place : ℕ)
-    → IsIn (Pair node place) (spots_of (spread (at_pair own given) from n))
+pair_of_spread : (own : ℕ) (given : ℕ → Given) (from n node place : ℕ) (pairs : List Stored)
+    → ((s : Stored) → IsIn s pairs → IsSpread (at_pair own given) from n s) → IsIn (Pair node place) (spots_of pairs)
     → (node ≡ own) × (from ≤ place) × (place < from + n)
-pair_of_spread own given from n node place i =
-    let h = stored_of_spot (spread (at_pair own given) from n) (Pair node place) i in
-    let one = of_spread (at_pair own given) from n h.entry h.there in
+pair_of_spread own given from n node place pairs are i =
+    let h = stored_of_spot pairs (Pair node place) i in
+    let one = are h.entry h.there in
     let same : Pair own one.place ≡ Pair node place = sym (ap (λ v. v.spot) one.is) ∙ h.is in
     let node_is : node ≡ own = cc same in
     let place_is : place ≡ one.place = cc same in
@@ -24,26 +25,29 @@ pair_of_spread own given from n node place i =
     let high = one.high in
     (node_is, omega arith, omega arith)
 
-pair_in_spread : (own : ℕ) (given : ℕ → Given) (from n node place : ℕ) (g : Given) → node ≡ own → from ≤ place
-    → place < from + n → given place ≡ g
-    → IsIn (record { spot = Pair node place; given = g }) (spread (at_pair own given) from n)
-pair_in_spread own given from n node place g is low high same =
-    rw is (subst (λ v. IsIn (record { spot = Pair own place; given = v }) (spread (at_pair own given) from n)) same
-    (in_spread (at_pair own given) from n place low high))
+pair_in_spread : (own : ℕ) (given : ℕ → Given) (node place : ℕ) (g : Given) (pairs : List Stored) → node ≡ own
+    → given place ≡ g → IsIn (at_pair own given place) pairs
+    → IsIn (record { spot = Pair node place; given = g }) pairs
+pair_in_spread own given node place g pairs is same i =
+    rw is (subst (λ v. IsIn (record { spot = Pair own place; given = v }) pairs) same i)
 
 pub returns-then-is_within-clause-some : goal.returns-then-is_within-clause-some
 returns-then-is_within-clause-some c =
     let k = c.in-Run in
     let yes = c.is_within.ensures.yes c.if-is_within.true in
     let below = yes.2 in
-    rw k.is (pair_in_spread k.own (λ _. given_of k.outcome k.events) k.from (k.to + 1 - k.from) c.args.node c.args.place
-    c.given.result yes.0 yes.1 (omega arith) (sym c.given.ensures))
+    let given : ℕ → Given = λ _. given_of k.outcome k.events in
+    rw k.is (pair_in_spread k.own given c.args.node c.args.place c.given.result
+    (rising (at_pair k.own given) k.from (k.to + 1 - k.from)) yes.0 (sym c.given.ensures)
+    (in_rising (at_pair k.own given) k.from (k.to + 1 - k.from) c.args.place yes.1 (omega arith)))
 
 pub returns-else-is_within-clause-none : goal.returns-else-is_within-clause-none
 returns-else-is_within-clause-none c i =
     let k = c.in-Run in
-    let h = pair_of_spread k.own (λ _. given_of k.outcome k.events) k.from (k.to + 1 - k.from) c.args.node c.args.place
-    (rw k.is at i) in
+    let given : ℕ → Given = λ _. given_of k.outcome k.events in
+    let h = pair_of_spread k.own given k.from (k.to + 1 - k.from) c.args.node c.args.place
+    (rising (at_pair k.own given) k.from (k.to + 1 - k.from))
+    (of_rising (at_pair k.own given) k.from (k.to + 1 - k.from)) (rw k.is at i) in
     let low = h.1 in
     let high = h.2 in
     c.is_within.ensures.no c.if-is_within.false h.0 low (omega arith)
@@ -53,13 +57,16 @@ returns-then-is_within-2-clause-some c =
     let k = c.in-Steps in
     let yes = c.is_within-in-Steps.ensures.yes c.if-is_within-2.true in
     let below = yes.2 in
-    rw k.is (pair_in_spread k.own step_at k.from (k.to - k.from) c.args.node c.args.place (step_at c.args.place) yes.0
-    yes.1 (omega arith) refl)
+    rw k.is (pair_in_spread k.own step_at c.args.node c.args.place (step_at c.args.place)
+    (spread (at_pair k.own step_at) k.from (k.to - k.from)) yes.0 refl
+    (in_spread (at_pair k.own step_at) k.from (k.to - k.from) c.args.place yes.1 (omega arith)))
 
 pub returns-else-is_within-2-clause-none : goal.returns-else-is_within-2-clause-none
 returns-else-is_within-2-clause-none c i =
     let k = c.in-Steps in
-    let h = pair_of_spread k.own step_at k.from (k.to - k.from) c.args.node c.args.place (rw k.is at i) in
+    let h = pair_of_spread k.own step_at k.from (k.to - k.from) c.args.node c.args.place
+    (spread (at_pair k.own step_at) k.from (k.to - k.from))
+    (of_spread (at_pair k.own step_at) k.from (k.to - k.from)) (rw k.is at i) in
     let low = h.1 in
     let high = h.2 in
     c.is_within-in-Steps.ensures.no c.if-is_within-2.false h.0 low (omega arith)

@@ -1,21 +1,23 @@
-use Rattle.std.proofs.Common.{◌≡◌, ℕ, ◌+◌, ◌-◌}
+use Rattle.std.proofs.Common.{◌≡◌, ℕ, ◌+◌, ◌-◌, List}
 use Rattle.std.proofs.Common.{sym, ◌∙◌, ap}
 use Rattle.memo.specs.Parts.{IsIn, in_here}
-use Rattle.memo.specs.KeyLog.{spots_of, spread}
+use Rattle.memo.specs.KeyLog.{spots_of, spread, rising}
 use Rattle.memo.specs.declared.key_log.Given.{Given}
+use Rattle.memo.specs.declared.key_log.Stored.{Stored}
 use Rattle.memo.specs.declared.spot.Spot.TheVariants.{Pair, Tail}
 use Rattle.memo.proofs.KeyLogLemmas.{stored_of_spot}
-use Rattle.memo.proofs.KeyLogLemmas.{of_spread}
+use Rattle.memo.proofs.KeyLogLemmas.{IsSpread, of_spread, of_rising}
 use Rattle.memo.specs.LogEntries.{given_of}
 use Rattle.memo.proofs.LogEntriesLemmas.{at_pair, step_at}
 use Rattle.memo.proofs.entry.Entry.given_for_tail.Goals as goal
 
 -- a tail is not among them
-no_tail_of_spread : (own : ℕ) (given : ℕ → Given) (from n node index place : ℕ)
-    → IsIn (Tail node index place) (spots_of (spread (at_pair own given) from n)) → ⊥
-no_tail_of_spread own given from n node index place i =
-    let h = stored_of_spot (spread (at_pair own given) from n) (Tail node index place) i in
-    let one = of_spread (at_pair own given) from n h.entry h.there in
+no_tail_of_spread : (own : ℕ) (given : ℕ → Given) (from n node index place : ℕ) (pairs : List Stored)
+    → ((s : Stored) → IsIn s pairs → IsSpread (at_pair own given) from n s)
+    → IsIn (Tail node index place) (spots_of pairs) → ⊥
+no_tail_of_spread own given from n node index place pairs are i =
+    let h = stored_of_spot pairs (Tail node index place) i in
+    let one = are h.entry h.there in
     let same : Pair own one.place ≡ Tail node index place = sym (ap (λ v. v.spot) one.is) ∙ h.is in
     absurd (cc same)
 
@@ -27,10 +29,14 @@ returns-then-place-there-clause-some c =
 pub returns-in-Run-clause-none : goal.returns-in-Run-clause-none
 returns-in-Run-clause-none c i =
     let k = c.in-Run in
-    no_tail_of_spread k.node (λ _. given_of k.outcome k.events) k.from (k.to + 1 - k.from) c.args.node c.args.index
-    c.args.place (rw k.is at i)
+    let given : ℕ → Given = λ _. given_of k.outcome k.events in
+    no_tail_of_spread k.node given k.from (k.to + 1 - k.from) c.args.node c.args.index c.args.place
+    (rising (at_pair k.node given) k.from (k.to + 1 - k.from))
+    (of_rising (at_pair k.node given) k.from (k.to + 1 - k.from)) (rw k.is at i)
 
 pub returns-in-Steps-clause-none : goal.returns-in-Steps-clause-none
 returns-in-Steps-clause-none c i =
     let k = c.in-Steps in
-    no_tail_of_spread k.node step_at k.from (k.to - k.from) c.args.node c.args.index c.args.place (rw k.is at i)
+    no_tail_of_spread k.node step_at k.from (k.to - k.from) c.args.node c.args.index c.args.place
+    (spread (at_pair k.node step_at) k.from (k.to - k.from))
+    (of_spread (at_pair k.node step_at) k.from (k.to - k.from)) (rw k.is at i)

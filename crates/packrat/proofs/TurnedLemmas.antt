@@ -1,0 +1,433 @@
+-- Turns of a repetition over bytes that decide them, where the loop goes along them.
+-- Serves: Packrat::match_unit
+use Rattle.std.proofs.Common.{◌≡◌, ◌⊎◌, inl, inr, ℕ, zero, suc, ◌+◌, ◌-◌, ◌<◌, ◌≤◌, max, Bool, true, false, List, []}
+use Rattle.std.proofs.Common.{◌∷◌, ◌++◌, Option, length, Some, refl, sym, subst, ap, ◌∙◌, arith}
+use Rattle.std.specs.Prelude.{slice_get}
+use Rattle.pegread.specs.PegViews.{rules_of}
+use Rattle.eventlog.specs.declared.link.Link.{Link}
+use Rattle.gramcheck.specs.ByByte.{ByByte, by_shape, by_no_turn, below, AreTurns, turns_none, turns_more}
+use Rattle.gramcheck.specs.Grammar.{Grammar, IsSoundGrammar}
+use Rattle.gramcheck.specs.KeyLists.{Marks, node_marks, tail_marks}
+use Rattle.gramcheck.specs.KeyMarks.{AreMarks}
+use Rattle.gramcheck.specs.Nodes as node
+use Rattle.gramcheck.specs.Nodes.{Shape, shapes_of}
+use Rattle.gramcheck.specs.Outcome as outcome
+use Rattle.gramcheck.specs.Outcome.{Event}
+use Rattle.gramcheck.specs.RunTables.{IsTable, IsRun}
+use Rattle.gramcheck.specs.declared.by_byte.Decided.{Decided}
+use Rattle.gramcheck.specs.declared.by_byte.Verdict.TheVariants.{Takes, Stays}
+use Rattle.gramcheck.specs.declared.run_table.Run.{Run}
+use Rattle.pegmatch.specs.KeptEvents.{SpellsSome}
+use Rattle.memo.specs.KeyLog.{spots_of, row_of, place_of, run_of, steps_of, spread, rising}
+use Rattle.memo.specs.Parts.{IsIn}
+use Rattle.memo.specs.Run.{total}
+use Rattle.memo.specs.declared.found.Found.{Found}
+use Rattle.memo.specs.declared.found.Found.TheVariants.{Failed, Took}
+use Rattle.memo.specs.declared.key_log.Given.{Given}
+use Rattle.memo.specs.declared.key_log.Stored.{Stored}
+use Rattle.memo.specs.declared.spot.Spot.{Spot}
+use Rattle.memo.specs.declared.spot.Spot.TheVariants.{Pair}
+use Rattle.memo.proofs.KeyLogLemmas.{of_spread, of_rising, rising_last}
+use Rattle.memo.proofs.PartsLemmas.{in_either}
+use Rattle.visits.proofs.GivesLemmas.{star_gives_more, star_never_fails}
+use Rattle.visits.specs.Visits.{NodeGives}
+use Rattle.packrat.specs.ByteGives.{GivesBy, turns_on, operands_on, turns_closed, AreFresh}
+use Rattle.packrat.specs.MachineSteps.{Level, State, Asks, Works, start_at}
+use Rattle.packrat.specs.Onward.{IsWell}
+use Rattle.packrat.specs.SpotGives.{SpotYields, joined}
+use Rattle.packrat.specs.Spots.{Kids}
+use Rattle.packrat.specs.SpotSteps.{SpotSteps}
+use Rattle.packrat.specs.Stands.{AreLevels, levels_passed, levels_turned, key_of, Stands, GivenBy, AreGiven}
+use Rattle.packrat.specs.Turned.{IsClosing, AreTurned, IsStayed, AreTurnedFrames}
+use Rattle.packrat.specs.View.{weight}
+use Rattle.packrat.specs.declared.frames.Frame.{Frame}
+use Rattle.packrat.specs.declared.frames.Wait.TheVariants.{Turned}
+use Rattle.packrat.specs.declared.machine.Turn.{Turn}
+use Rattle.packrat.specs.declared.machine.Turn.TheVariants.{Ask, Answer}
+use Rattle.packrat.specs.declared.turns.Turns.{Turns}
+use Rattle.packrat.proofs.ByteGivesLemmas.{gives_by, star_has}
+use Rattle.packrat.proofs.RunStepsLemmas.{append_other}
+use Rattle.packrat.proofs.RunTurnsLemmas.{both_fronts, both_steps, turn_kids, turns_come, turns_end, whole_comes}
+use Rattle.packrat.proofs.StandsLemmas.{given_none, spot_here, above, ready_of}
+use Rattle.packrat.proofs.TurnsGiveLemmas.{turns_repeat}
+
+-- the pairs of a run stand as the levels of its turns store them
+pub closed_run : (s p n : ℕ) (given : Given) (stored : List Stored)
+    → spots_of (rising (λ q. record { spot = Pair s q; given = given }) p n ++ stored)
+    ≡ turns_closed true s p n (spots_of stored)
+closed_run s p zero given stored = refl
+closed_run s p (suc n) given stored =
+    let at : ℕ → Stored = λ q. record { spot = Pair s q; given = given } in
+    let one : rising at p (suc n) ++ stored ≡ rising at p n ++ at (p + n) ∷ stored =
+    ap (λ v. v ++ stored) (rising_last at p n) ∙ append_other (rising at p n) (at (p + n) ∷ []) stored in
+    ap spots_of one ∙ closed_run s p n given (at (p + n) ∷ stored)
+
+pub taken_steps : (k p n : ℕ) (stored : List Stored)
+    → spots_of (spread (λ q. record { spot = Pair k q; given = record { found = Took (q + 1); events = 0 } }) p n
+    ++ stored) ≡ operands_on true k p n (spots_of stored)
+taken_steps k p zero stored = refl
+taken_steps k p (suc n) stored = ap (λ v. Pair k (p + n) ∷ v) (taken_steps k p n stored)
+
+pub operands_none : (k p n : ℕ) (spots : List Spot) → operands_on false k p n spots ≡ spots
+operands_none k p zero spots = refl
+operands_none k p (suc n) spots = operands_none k p n spots
+
+pub closed_none : (s p n : ℕ) (spots : List Spot) → turns_closed false s p n spots ≡ spots
+closed_none s p zero spots = refl
+closed_none s p (suc n) spots = closed_none s p n spots
+
+-- each turn is a pair at least
+pub turns_some : {nodes : List Shape} {bodies x : List ℕ} {m : ℕ → Bool} {tails : ℕ → ℕ → Bool} {k a n c : ℕ}
+    → AreTurns nodes bodies x m tails k a n c → n ≤ c
+turns_some turns_none = omega arith
+turns_some (turns_more r here h) = let le = turns_some r in omega (arith, le)
+
+before_last : (i n : ℕ) → i < suc n → (i ≡ n) ⊎ (i < n)
+before_last i n lt = grind arith
+
+module _ (g : Grammar) (x : List ℕ) (more : Bool) (marks : Marks) where
+  pub turned_to : (s k p to : ℕ) (entries : List (Option Decided)) (run : Run)
+      → slice_get (shapes_of g.nodes) s ≡ Some (node.Star k)
+      → SpellsSome (rules_of g.rules) (shapes_of g.nodes) s → to ≤ length x → (more ≡ true → to < length x)
+      → IsTable (shapes_of g.nodes) g.bodies (node_marks marks) (tail_marks marks) k entries → IsRun entries x p to run
+      → AreTurned g x more marks s k p run.end run.pairs
+  turned_to s k p to entries run at spelled le last table is = record {
+    at = at;
+    spelled = spelled;
+    low = is.low;
+    within = let high = is.high in omega (arith, high, le);
+    last = λ t. let lt = last t in let high = is.high in omega (arith, high, lt);
+    turns = is.turns (shapes_of g.nodes) g.bodies (node_marks marks) (tail_marks marks) k table;
+  }
+
+  pub closing_stays : (s k q to pairs : ℕ) (entries : List (Option Decided))
+      → slice_get (shapes_of g.nodes) s ≡ Some (node.Star k)
+      → IsTable (shapes_of g.nodes) g.bodies (node_marks marks) (tail_marks marks) k entries
+      → node_marks marks k ≡ false → (more ≡ true → to < length x) → IsClosing entries x q to pairs
+      → IsStayed g x more marks s k q pairs
+  closing_stays s k q to pairs entries at table plain last c =
+      let fails = subst (λ v. ByByte (shapes_of g.nodes) g.bodies (node_marks marks) (tail_marks marks) c.byte k v
+      c.decided.count) c.fails (table c.byte c.decided c.entry) in
+      let is = c.count in
+      record {
+        byte = c.byte;
+        here = c.here;
+        stays = subst (λ v. ByByte (shapes_of g.nodes) g.bodies (node_marks marks) (tail_marks marks) c.byte s Stays v)
+            (sym is) (by_shape at (by_no_turn (below plain fails)));
+        some = omega (arith, is);
+        last = λ t. let lt = last t in let before = c.before in omega (arith, before, lt);
+      }
+
+  append_given : (links : List Link) (new old : List Stored)
+      → ((s : Stored) → IsIn s new → GivenBy g x more links s.spot s.given) → AreGiven g x more links old
+      → AreGiven g x more links (new ++ old)
+  append_given links new old here h = record {
+    given = λ s i. elim (in_either new old i) [ inl j ↦ here s j | inr j ↦ h.given s j ];
+  }
+
+  pub run_given : (links : List Link) (s p n : ℕ) (given : Given) (old : List Stored)
+      → ((q : ℕ) → p ≤ q → q < p + n → GivenBy g x more links (Pair s q) given) → AreGiven g x more links old
+      → AreGiven g x more links (rising (λ q. record { spot = Pair s q; given = given }) p n ++ old)
+  run_given links s p n given old each h =
+      let at : ℕ → Stored = λ q. record { spot = Pair s q; given = given } in
+      append_given links (rising at p n) old
+      (λ e i. let r = of_rising at p n e i in
+      subst (λ v. GivenBy g x more links v.spot v.given) (sym r.is) (each r.place r.low r.high)) h
+
+  module _ (sound : IsSoundGrammar g) where
+    abbrev SY : Spot → Found → List Event → Type 0
+    SY a f events = SpotYields g x more a f events
+
+    abbrev Gives : ℕ → ℕ → Type 0
+    Gives k p = GivesBy (rules_of g.rules) (shapes_of g.nodes) g.bodies x k p Takes
+
+    module _ (s k p q count : ℕ) (t : AreTurned g x more marks s k p q count) where
+      has : SpellsSome (rules_of g.rules) (shapes_of g.nodes) k
+      has = star_has (rules_of g.rules) g.start (shapes_of g.nodes) g.bodies g.ranks x sound s k t.at t.spelled
+
+      taken_at : {n c : ℕ} → AreTurns (shapes_of g.nodes) g.bodies x (node_marks marks) (tail_marks marks) k p n c
+          → (i : ℕ) → i < n → Gives k (p + i)
+      taken_at turns_none i lt = absurd (omega arith)
+      taken_at (turns_more {n = n} {b = b} r here h) i lt = elim (before_last i n lt) [
+        | inl is ↦ subst (λ v. Gives k (p + v)) (sym is)
+            (gives_by (rules_of g.rules) g.start (shapes_of g.nodes) g.bodies g.ranks x sound (node_marks marks)
+            (tail_marks marks) b (p + n) here h has)
+        | inr less ↦ taken_at r i less
+      ]
+
+      operand_yields : (i : ℕ) → i < q - p → SY (Pair k (p + i)) (Took ((p + i) + 1)) []
+      operand_yields i lt =
+          let d = taken_at t.turns i lt in (
+            d.looked,
+            d.gives,
+            (λ is. let end = t.last is in let within = d.within in omega (arith, end, within, lt)),
+            tt,
+          )
+
+      pub steps_given : (links : List Link) (old : List Stored) → AreGiven g x more links old
+          → AreGiven g x more links (steps_of k p q ++ old)
+      steps_given links old h =
+          let at : ℕ → Stored = λ r. record { spot = Pair k r; given = record { found = Took (r + 1); events = 0 } } in
+          append_given links (steps_of k p q) old
+          (λ e i. let r = of_spread at p (q - p) e i in
+          let low = r.low in
+          let high = r.high in
+          let place : p + (r.place - p) ≡ r.place = omega (arith, low) in
+          subst (λ v. GivenBy g x more links v.spot v.given) (sym r.is)
+          (subst (λ v. GivenBy g x more links (Pair k v) (record { found = Took (v + 1); events = 0 })) place
+          (given_none g x more marks links (Pair k (p + (r.place - p))) (Took ((p + (r.place - p)) + 1))
+          (operand_yields (r.place - p) (omega (arith, low, high)))))) h
+
+      pub to_end : p + (q - p) ≡ q
+      to_end = let le = t.low in omega (arith, le)
+
+      -- what the repetition gives behind its turns, it gives before them
+      yields_before : (f : Found) (events : List Event) → SY (Pair s q) f events → (i : ℕ) → i ≤ q - p
+          → SY (Pair s (p + i)) f events
+      yields_before Failed events d i le = absurd (star_never_fails (rules_of g.rules) g.start (shapes_of g.nodes)
+          g.bodies g.ranks x sound s k t.spelled q d.0 t.at d.1)
+      yields_before (Took e) events d i le =
+          let r = turns_repeat (rules_of g.rules) g.start (shapes_of g.nodes) g.bodies g.ranks x sound
+          (node_marks marks) (tail_marks marks) s k t.at t.spelled t.turns e d.0 events
+          (subst (λ v. NodeGives (rules_of g.rules) (shapes_of g.nodes) g.bodies x s v (outcome.Takes e events) d.0)
+          (sym to_end) d.1) i le in
+          let same = to_end in (
+            r.looked,
+            r.gives,
+            (λ is. let lt = t.last is in let before = d.2 is in let within = r.within in
+                omega (arith, lt, before, within, same)),
+            tt,
+          )
+
+      given_before : (links : List Link) (given : Given) → GivenBy g x more links (Pair s q) given → (r : ℕ) → p ≤ r
+          → r ≤ q → GivenBy g x more links (Pair s r) given
+      given_before links given h r low high =
+          let place : p + (r - p) ≡ r = omega (arith, low) in
+          subst (λ v. GivenBy g x more links (Pair s v) given) place (record {
+            events = h.events;
+            yields = yields_before given.found h.events h.yields (r - p) (omega (arith, high));
+            quiet = h.quiet;
+            head = h.head;
+          })
+
+      -- it ends behind them
+      pub ended_given : (links : List Link) (d : ℕ) → IsStayed g x more marks s k q d → (r : ℕ) → p ≤ r → r ≤ q
+          → GivenBy g x more links (Pair s r) (record { found = Took q; events = 0 })
+      ended_given links d e r low high =
+          let b = gives_by (rules_of g.rules) g.start (shapes_of g.nodes) g.bodies g.ranks x sound (node_marks marks)
+          (tail_marks marks) e.byte q e.here e.stays t.spelled in
+          given_before links (record { found = Took q; events = 0 })
+          (given_none g x more marks links (Pair s q) (Took q) (
+            b.looked,
+            b.gives,
+            (λ is. let lt = e.last is in let within = b.within in omega (arith, lt, within)),
+            tt,
+          )) r low high
+
+      -- a turn passes on what the next one gives
+      turn_passes : (i : ℕ) → i < q - p → (f : Found) (then : List Event) → SY (Pair s ((p + i) + 1)) f then
+          → SY (Pair s (p + i)) f (joined f [] then)
+      turn_passes i lt Failed then d = absurd (star_never_fails (rules_of g.rules) g.start (shapes_of g.nodes)
+          g.bodies g.ranks x sound s k t.spelled ((p + i) + 1) d.0 t.at d.1)
+      turn_passes i lt (Took e) then d =
+          let b = taken_at t.turns i lt in (
+            max b.looked d.0,
+            star_gives_more (rules_of g.rules) g.start (shapes_of g.nodes) g.bodies g.ranks x sound s k t.spelled
+                (p + i) ((p + i) + 1) e b.looked d.0 [] then t.at b.gives d.1,
+            (λ is. let end = t.last is in let before = d.2 is in let within = b.within in
+                omega (arith, end, before, within, lt)),
+            tt,
+          )
+
+module _ (g : Grammar) (x : List ℕ) (more : Bool) (marks : Marks) (sound : IsSoundGrammar g) (body : ℕ)
+    (is_body : slice_get g.bodies g.start ≡ Some body)
+    (are : AreMarks g.start (shapes_of g.nodes) g.bodies (node_marks marks) (tail_marks marks)) where
+  abbrev S : Spot → Turn → List Frame → List Stored → List Link → ℕ → Type 0
+  S root t ls st links n = Stands g x more marks root t ls st links n
+
+  abbrev L : List Link → Spot → List Frame → List (Level Spot) → Spot → Type 0
+  L links root ls fs b = AreLevels g x more marks links root ls fs b
+
+  abbrev SS : Spot → State Spot → Type 0
+  SS root s = SpotSteps (rules_of g.rules) (shapes_of g.nodes) g.bodies x (node_marks marks) (tail_marks marks)
+      (start_at Spot root) s
+
+  abbrev T : List Spot → ℕ
+  T spots = total Spot (Kids (rules_of g.rules) (shapes_of g.nodes) g.bodies x) (key_of marks) weight spots
+
+  fronts_add : (xs ys : List Spot) → T (xs ++ ys) ≡ T xs + T ys
+  fronts_add = both_fronts (rules_of g.rules) g.start (shapes_of g.nodes) g.bodies g.ranks x sound body is_body
+      (node_marks marks) (tail_marks marks) are
+
+  asks_here : (root a : Spot) (ls : List Frame) (st : List Stored) (links : List Link) (n : ℕ)
+      (h : S root (Ask a) ls st links n)
+      → SS root (Asks a (record { levels = h.levels; stored = spots_of st; begun = h.begun }))
+  asks_here root a ls st links n h =
+      subst (λ v. SS root (Asks v (record { levels = h.levels; stored = spots_of st; begun = h.begun })))
+      (sym (spot_here g x more marks root a ls st links n h)) h.steps
+
+  module _ (s k p q count : ℕ) (t : AreTurned g x more marks s k p q count) where
+    then_steps : {u v w : State Spot} → SpotSteps (rules_of g.rules) (shapes_of g.nodes) g.bodies x (node_marks marks)
+        (tail_marks marks) u v → SpotSteps (rules_of g.rules) (shapes_of g.nodes) g.bodies x (node_marks marks)
+        (tail_marks marks) v w → SpotSteps (rules_of g.rules) (shapes_of g.nodes) g.bodies x (node_marks marks)
+        (tail_marks marks) u w
+    then_steps a b = both_steps (rules_of g.rules) g.start (shapes_of g.nodes) g.bodies g.ranks x sound body is_body
+        (node_marks marks) (tail_marks marks) are s k t.at t.spelled a b
+
+    well : IsWell g x (Pair s p)
+    well = let low = t.low in let within = t.within in (t.spelled, omega (arith, low, within))
+
+    passed_levels : {n c : ℕ} (links : List Link) (root : Spot) (ls : List Frame) (fs : List (Level Spot))
+        → AreTurns (shapes_of g.nodes) g.bodies x (node_marks marks) (tail_marks marks) k p n c → n ≤ q - p
+        → node_marks marks s ≡ false → L links root ls fs (Pair s p)
+        → L links root ls (turns_on s k p n fs) (Pair s (p + n))
+    passed_levels links root ls fs turns_none le plain r =
+        let same : p ≡ p + 0 = omega arith in
+        subst (λ v. L links root ls fs (Pair s v)) same r
+    passed_levels links root ls fs (turns_more {n = n} {b = b} turns here h) le plain r =
+        let next : (p + n) + 1 ≡ p + suc n = omega arith in
+        let b = taken_at g x more marks sound s k p q count t (turns_more turns here h) n (omega arith) in
+        subst (λ v. L links root ls (turns_on s k p (suc n) fs) (Pair s v)) next
+        (levels_passed {a = Pair s (p + n)} {b = Pair s ((p + n) + 1)}
+        {asked = Pair k (p + n) ∷ (Pair s ((p + n) + 1) ∷ [])} plain (
+          turn_kids (rules_of g.rules) g.start (shapes_of g.nodes) g.bodies g.ranks x sound body is_body
+              (node_marks marks) (tail_marks marks) are s k t.at t.spelled (p + n) b,
+          λ f then d. turn_passes g x more marks sound s k p q count t n (omega (arith, le)) f then d,
+        )
+        (passed_levels links root ls fs turns (omega (arith, le)) plain r))
+
+    turned_level : (links : List Link) (root : Spot) (ls : List Frame) (fs : List (Level Spot)) (last : ℕ)
+        → last + 1 ≡ q → node_marks marks s ≡ true → L links root ls fs (Pair s p)
+        → L links root (record { spot = Pair s p; key = true; wait = Turned last } ∷ ls) (turns_on s k p (q - p) fs)
+        (Pair s q)
+    turned_level links root ls fs last is key r =
+        subst (λ v. L links root (record { spot = Pair s p; key = true; wait = Turned last } ∷ ls)
+        (turns_on s k p (v - p) fs) (Pair s v)) is
+        (levels_turned (subst (λ v. AreTurned g x more marks s k p v count) (sym is) t) key well r)
+
+  module _ (t : Turns) (count : ℕ) (d : AreTurned g x more marks t.star t.operand t.from t.end count) where
+    along : (key : Bool) → node_marks marks t.star ≡ key → (links : List Link) (root : Spot) (ls new : List Frame)
+        (fs : List (Level Spot)) → AreTurnedFrames key t ls new → t.from < t.end
+        → L links root ls fs (Pair t.star t.from)
+        → L links root new (turns_on t.star t.operand t.from (t.end - t.from) fs) (Pair t.star t.end)
+    along true key links root ls new fs is lt r =
+        subst (λ v. L links root v (turns_on t.star t.operand t.from (t.end - t.from) fs) (Pair t.star t.end)) (sym is)
+        (turned_level t.star t.operand t.from t.end count d links root ls fs (t.end - 1) (omega (arith, lt)) key r)
+    along false key links root ls new fs is lt r =
+        subst (λ v. L links root v (turns_on t.star t.operand t.from (t.end - t.from) fs) (Pair t.star t.end)) (sym is)
+        (subst (λ v. L links root ls (turns_on t.star t.operand t.from (t.end - t.from) fs) (Pair t.star v))
+        (to_end g x more marks sound t.star t.operand t.from t.end count d)
+        (passed_levels t.star t.operand t.from t.end count d links root ls fs d.turns (omega arith) key r))
+
+    module _ (root : Spot) (ls : List Frame) (st su : List Stored) (links : List Link) (n : ℕ)
+        (h : S root (Ask (Pair t.star t.from)) ls st links n)
+        (fresh : (m : ℕ) → AreFresh (node_marks marks t.star) t.star t.from m (spots_of st))
+        (free : (m : ℕ) → AreFresh (node_marks marks t.operand) t.operand t.from m (spots_of st))
+        (keeps : AreGiven g x more links st → AreGiven g x more links su) where
+      here : SS root (Asks (Pair t.star t.from)
+          (record { levels = h.levels; stored = spots_of st; begun = h.begun }))
+      here = asks_here root (Pair t.star t.from) ls st links n h
+
+      -- the loop goes along the turns
+      pub stands_along : (new : List Frame) → AreTurnedFrames (node_marks marks t.star) t ls new → t.from < t.end
+          → spots_of su ≡ operands_on (node_marks marks t.operand) t.operand t.from (t.end - t.from) (spots_of st)
+          → S root (Ask (Pair t.star t.end)) new su links (n + count)
+      stands_along new frames lt spots =
+          let come = turns_come (rules_of g.rules) g.start (shapes_of g.nodes) g.bodies g.ranks x sound body is_body
+          (node_marks marks) (tail_marks marks) are t.star t.operand d.at d.spelled d.turns h.levels (spots_of st)
+          h.begun (fresh (t.end - t.from)) (free (t.end - t.from)) in
+          let one : T come.front ≡ count = come.is in
+          let two : T h.begun ≡ n = h.is in
+          let sum = fronts_add come.front h.begun in
+          record {
+            levels = turns_on t.star t.operand t.from (t.end - t.from) h.levels;
+            begun = come.front ++ h.begun;
+            spot = Pair t.star t.end;
+            are = along (node_marks marks t.star) refl links root ls new h.levels frames lt
+                (above g x more marks root (Pair t.star t.from) ls st links n h);
+            turns = (refl, (d.spelled, d.within));
+            given = keeps h.given;
+            is = omega (arith, one, two, sum);
+            steps = subst (λ v. SS root (Asks (Pair t.star v) (record {
+              levels = turns_on t.star t.operand t.from (t.end - t.from) h.levels;
+              stored = spots_of su;
+              begun = come.front ++ h.begun;
+            }))) (to_end g x more marks sound t.star t.operand t.from t.end count d)
+                (subst (λ v. SS root (Asks (Pair t.star (t.from + (t.end - t.from))) (record {
+                  levels = turns_on t.star t.operand t.from (t.end - t.from) h.levels;
+                  stored = v;
+                  begun = come.front ++ h.begun;
+                }))) (sym spots) (then_steps t.star t.operand t.from t.end count d here come.steps));
+          }
+
+      -- the loop goes to the repetition's end
+      pub stands_ended : (c : ℕ) → IsStayed g x more marks t.star t.operand t.end c
+          → spots_of su ≡ turns_closed (node_marks marks t.star) t.star t.from (t.end + 1 - t.from)
+          (operands_on (node_marks marks t.operand) t.operand t.from (t.end - t.from) (spots_of st))
+          → S root (Answer (record { found = Took t.end; events = 0 })) ls su links (n + (count + c))
+      stands_ended c e spots =
+          let low = d.low in
+          let same : t.end + 1 - t.from ≡ suc (t.end - t.from) = omega (arith, low) in
+          let stays = subst (λ v. slice_get x v ≡ Some e.byte) (sym (to_end g x more marks sound t.star t.operand
+          t.from t.end count d)) e.here in
+          let come = whole_comes (rules_of g.rules) g.start (shapes_of g.nodes) g.bodies g.ranks x sound body is_body
+          (node_marks marks) (tail_marks marks) are t.star t.operand d.at d.spelled e.byte c d.turns stays e.stays
+          h.levels (spots_of st) h.begun (fresh (suc (t.end - t.from))) (free (t.end - t.from)) in
+          let one : T come.front ≡ count + c = come.is in
+          let two : T h.begun ≡ n = h.is in
+          let sum = fronts_add come.front h.begun in
+          let now = subst (λ v. spots_of su ≡ turns_closed (node_marks marks t.star) t.star t.from v
+          (operands_on (node_marks marks t.operand) t.operand t.from (t.end - t.from) (spots_of st))) same spots in
+          record {
+            levels = h.levels;
+            begun = come.front ++ h.begun;
+            spot = Pair t.star t.from;
+            are = above g x more marks root (Pair t.star t.from) ls st links n h;
+            turns = ended_given g x more marks sound t.star t.operand t.from t.end count d links c e t.from
+                (omega arith) d.low;
+            given = keeps h.given;
+            is = omega (arith, one, two, sum);
+            steps = subst (λ v. SS root (Works (record {
+              levels = h.levels;
+              stored = v;
+              begun = come.front ++ h.begun;
+            }))) (sym now) (then_steps t.star t.operand t.from t.end count d here come.steps);
+          }
+
+  -- an answer comes to the frame of turns
+  pub stands_back : (root a : Spot) (given : Given) (ls : List Frame) (st new : List Stored) (links : List Link)
+      (n last : ℕ) (key : Bool)
+      → S root (Answer given) (record { spot = a; key = key; wait = Turned last } ∷ ls) st links n
+      → new ≡ run_of (row_of a) (place_of a) last given ++ st → S root (Answer given) ls new links n
+  stands_back root a given ls st new links n last key s is =
+      let r = ready_of g x more marks s in
+      let top = r.are in
+      let run = subst (λ v. new ≡ run_of (row_of v) (place_of v) last given ++ st) top.is is in
+      let give = subst (λ v. GivenBy g x more links v given) top.waits r.gives in
+      let d = top.turned in
+      let some = d.low in
+      let spots : spots_of new ≡ turns_closed true top.star top.from (last + 1 - top.from) (spots_of st) =
+      ap spots_of run ∙ closed_run top.star top.from (last + 1 - top.from) given st in
+      let marked : node_marks marks top.star ≡ true = top.key in
+      let now = subst (λ v. spots_of new ≡ turns_closed v top.star top.from (last + 1 - top.from) (spots_of st))
+      (sym marked) spots in
+      let end = turns_end (rules_of g.rules) g.start (shapes_of g.nodes) g.bodies g.ranks x sound body is_body
+      (node_marks marks) (tail_marks marks) are top.star top.operand d.at d.spelled d.turns top.rest (spots_of st)
+      s.begun in
+      let at = subst (λ v. SS root (Works (record { levels = v; stored = spots_of st; begun = s.begun }))) top.levels
+      r.steps in
+      record {
+        levels = top.rest;
+        begun = s.begun;
+        spot = Pair top.star top.from;
+        are = top.above;
+        turns = given_before g x more marks sound top.star top.operand top.from (last + 1) top.count d links given give
+            top.from (omega arith) some;
+        given = subst (AreGiven g x more links) (sym run) (run_given g x more marks links top.star top.from
+            (last + 1 - top.from) given st
+            (λ q low high. given_before g x more marks sound top.star top.operand top.from (last + 1) top.count d links
+            given give q low (omega (arith, some, high))) s.given);
+        is = s.is;
+        steps = subst (λ v. SS root (Works (record { levels = top.rest; stored = v; begun = s.begun }))) (sym now)
+            (then_steps top.star top.operand top.from (last + 1) top.count d at end);
+      }

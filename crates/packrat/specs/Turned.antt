@@ -1,0 +1,71 @@
+-- Turns of a repetition over bytes that decide them.
+use Rattle.std.specs.Prelude.{◌≡◌, ℕ, ◌+◌, ◌-◌, ◌<◌, ◌≤◌, Bool, true, false, List, ◌∷◌, Option, length, slice_get, Some}
+use Rattle.pegread.specs.PegViews.{rules_of}
+use Rattle.gramcheck.specs.ByByte.{ByByte, AreTurns}
+use Rattle.gramcheck.specs.Grammar.{Grammar, HasKeys}
+use Rattle.gramcheck.specs.KeyLists.{Marks, node_marks, tail_marks}
+use Rattle.gramcheck.specs.Nodes.{Star, shapes_of}
+use Rattle.gramcheck.specs.declared.by_byte.Decided.{Decided}
+use Rattle.gramcheck.specs.declared.by_byte.Verdict.TheVariants.{Stays, Fails}
+use Rattle.pegmatch.specs.KeptEvents.{SpellsSome}
+use Rattle.memo.specs.declared.spot.Spot.{Spot}
+use Rattle.memo.specs.declared.spot.Spot.TheVariants.{Pair}
+use Rattle.packrat.specs.ByteGives.{AreFresh}
+use Rattle.packrat.specs.declared.frames.Frame.{Frame}
+use Rattle.packrat.specs.declared.frames.Wait.TheVariants.{Turned}
+use Rattle.packrat.specs.declared.turns.Turns.{Turns}
+
+-- a byte stands there, before the place `to`, whose entry says that the node fails, and these are all pairs but one
+pub record IsClosing (entries : List (Option Decided)) (x : List ℕ) (at to pairs : ℕ) : Type 0 where
+  pub before : at < to
+  pub byte : ℕ
+  pub here : slice_get x at ≡ Some byte
+  pub decided : Decided
+  pub entry : slice_get entries byte ≡ Some (Some decided)
+  pub fails : decided.verdict ≡ Fails
+  pub count : pairs ≡ 1 + decided.count
+
+module _ (g : Grammar) (x : List ℕ) (more : Bool) (marks : Marks) where
+  -- Repetition s of node k takes the bytes between p and q by turns that the bytes decide, which are so many pairs. If
+  -- there is more behind the window, its last byte is none of them, and does not stand behind them.
+  pub record AreTurned (s k p q count : ℕ) : Type 0 where
+    pub at : slice_get (shapes_of g.nodes) s ≡ Some (Star k)
+    pub spelled : SpellsSome (rules_of g.rules) (shapes_of g.nodes) s
+    pub low : p ≤ q
+    pub within : q ≤ length x
+    pub last : more ≡ true → q < length x
+    pub turns : AreTurns (shapes_of g.nodes) g.bodies x (node_marks marks) (tail_marks marks) k p (q - p) count
+
+  -- the byte behind such turns decides that the repetition stays before it, with so many pairs
+  pub record IsStayed (s k q count : ℕ) : Type 0 where
+    pub byte : ℕ
+    pub here : slice_get x q ≡ Some byte
+    pub stays : ByByte (shapes_of g.nodes) g.bodies (node_marks marks) (tail_marks marks) byte s Stays count
+    pub some : 1 ≤ count
+    pub last : more ≡ true → q + 1 < length x
+
+  -- the turns end at a byte that decides so; or there is a turn at least
+  abbrev pub AreEnded : Bool → Turns → ℕ → Type 0
+  AreEnded true t count = (d : ℕ) × IsStayed t.star t.operand t.end d × (t.pairs ≡ count + d)
+  AreEnded false t count = (t.from < t.end) × (t.pairs ≡ count)
+
+  -- what is told of a repetition from a place on
+  abbrev pub AreDecided : Turns → Type 0
+  AreDecided t = (count : ℕ) × AreTurned t.star t.operand t.from t.end count × AreEnded t.whole t count
+
+  -- turns from a spot on; none of their pairs is stored that is a key
+  pub record AreFree (stored : List Spot) (a : Spot) (t : Turns) : Type 0 where
+    pub decided : AreDecided t
+    pub spot : a ≡ Pair t.star t.from
+    pub star : (n : ℕ) → AreFresh (node_marks marks t.star) t.star t.from n stored
+    pub operand : (n : ℕ) → AreFresh (node_marks marks t.operand) t.operand t.from n stored
+
+-- The frames of a repetition that waits for what it gives behind its turns: it has one if it is a key.
+abbrev pub AreTurnedFrames : Bool → Turns → List Frame → List Frame → Type 0
+AreTurnedFrames true t old new =
+    new ≡ record { spot = Pair t.star t.from; key = true; wait = Turned (t.end - 1) } ∷ old
+AreTurnedFrames false t old new = new ≡ old
+
+-- its marks are right, and its start rule has a body
+abbrev pub IsKeyed : Grammar → Type 0
+IsKeyed g = HasKeys g × ((root : ℕ) × (slice_get g.bodies g.start ≡ Some root))

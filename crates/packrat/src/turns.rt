@@ -1,0 +1,124 @@
+//! Turns of a repetition over bytes that decide them.
+ghost use Rattle.std.specs.Prelude.{◌≡◌, ◌+◌, ◌<◌, ◌≤◌, ℕ, true, length, slice_get, Some, IfSome};
+ghost use Rattle.pegread.specs.PegViews.{rules_of};
+ghost use Rattle.gramcheck.specs.Grammar.{IsSoundGrammar};
+ghost use Rattle.gramcheck.specs.KeyLists.{node_marks};
+ghost use Rattle.gramcheck.specs.Nodes.{Star, shapes_of};
+ghost use Rattle.memo.specs.KeyLog.{spots_of};
+ghost use Rattle.pegmatch.specs.Answers.{WasEnough};
+ghost use Rattle.pegmatch.specs.KeptEvents.{SpellsSome};
+ghost use Rattle.packrat.specs.ByteGives.{AreFresh};
+ghost use Rattle.packrat.specs.Turned.{IsClosing, AreDecided};
+
+use gramcheck::{RunTable, SoundPeg, Verdict};
+use memo::KeyLog;
+
+/// Names a repetition, its operand, and two places between which it takes the bytes by turns that the bytes decide.
+/// So many pairs begin with that. If `whole` is true, the byte behind them decides that it ends there.
+#[derive(Clone, Copy, PartialEq, Eq, Debug)]
+pub(crate) struct Turns {
+    pub(crate) star: usize,
+    pub(crate) operand: usize,
+    pub(crate) from: usize,
+    pub(crate) end: usize,
+    pub(crate) pairs: u128,
+    pub(crate) whole: bool,
+}
+
+// Returns the place up to which the bytes of a window may decide: all do but the last one if there is more behind it.
+#[inline(always)]
+fn sure_end(window: &[u8], more: bool) -> usize
+    requires { WasEnough window.now more 0 }
+    ensures within { result ≤ length window.now }
+    ensures last { more ≡ true → result < length window.now }
+{
+    if more { window.len() - 1 } else { window.len() }
+}
+
+// Returns how many pairs begin where a repetition ends at a place, if the byte there, before the place `to`, decides
+// that its operand fails.
+#[inline(always)]
+fn closing(table: &RunTable, window: &[u8], at: usize, to: usize) -> Option<u128>
+    requires { to ≤ length window.now }
+    ensures { IfSome result (λ pairs. IsClosing table.now.entries.items window.now at to pairs) }
+{
+    if at >= to {
+        return None;
+    }
+    let decided = table.decided(window[at])?;
+    match decided.verdict {
+        Verdict::Fails => Some(1 + u128::from(decided.count)),
+        Verdict::Stays => None,
+        Verdict::Takes => None,
+    }
+}
+
+// Returns the sum of two numbers, if it fits.
+#[inline(always)]
+pub(crate) fn summed(a: u128, b: u128) -> Option<u128>
+    ensures { IfSome result (λ sum. sum ≡ a + b) }
+{
+    if b <= u128::MAX - a {
+        Some(a + b)
+    } else {
+        None
+    }
+}
+
+/// Returns what the bytes from a place on decide of a repetition of this operand, if they decide a turn or its end.
+pub(crate) fn find_turns(
+    peg: &SoundPeg,
+    window: &[u8],
+    more: bool,
+    star: usize,
+    operand: usize,
+    from: usize,
+) -> Option<Turns>
+    requires some { WasEnough window.now more 0 }
+    requires at { slice_get (shapes_of peg.now.nodes) star ≡ Some (Star operand) }
+    requires spelled { SpellsSome (rules_of peg.now.rules) (shapes_of peg.now.nodes) star }
+    ensures { IfSome result (λ t. AreDecided peg.now window.now more peg.now.keys t
+        × (t.star ≡ star) × (t.operand ≡ operand) × (t.from ≡ from)) }
+{
+    let table = peg.run_table(star)?;
+    let to = sure_end(window, more);
+    if from >= to {
+        return None;
+    }
+    let run = table.run(window, from, to);
+    if !peg.is_key_node(operand) {
+        if let Some(last) = closing(table, window, run.end, to) {
+            return Some(Turns {
+                star,
+                operand,
+                from,
+                end: run.end,
+                pairs: summed(run.pairs, last)?,
+                whole: true,
+            });
+        }
+    }
+    if run.end == from {
+        return None;
+    }
+    Some(Turns {
+        star,
+        operand,
+        from,
+        end: run.end,
+        pairs: run.pairs,
+        whole: false,
+    })
+}
+
+/// Tells whether no pair of a node is stored from a place on, if the node is a key.
+#[inline(always)]
+pub(crate) fn is_fresh(log: &KeyLog, peg: &SoundPeg, node: usize, from: usize) -> bool
+    ensures { result ≡ true → (n : ℕ) →
+        AreFresh (node_marks peg.now.keys node) node from n (spots_of log.now.stored) }
+{
+    if peg.is_key_node(node) {
+        return log.is_new(node, from);
+    }
+    true
+}
