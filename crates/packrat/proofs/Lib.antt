@@ -21,3 +21,4 @@ pub mod ByteKidsLemmas
 pub mod RunStepsLemmas
 pub mod RunTurnsLemmas
 pub mod TurnsGiveLemmas
+pub mod WalkLemmas

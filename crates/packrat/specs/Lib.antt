@@ -9,3 +9,4 @@ pub mod Onward
 pub mod TurnsLeft
 pub mod Stands
 pub mod Done
+pub mod Walk

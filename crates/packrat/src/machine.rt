@@ -44,7 +44,7 @@ pub(crate) struct Machine {
 
 // Returns how many pairs are begun with this spot; there are no more than nodes at places.
 #[inline(always)]
-fn counted(nodes: usize, length: usize, begun: u128, spot: Spot) -> u128
+pub(crate) fn counted(nodes: usize, length: usize, begun: u128, spot: Spot) -> u128
     requires { begun ≤ nodes * (length + 1) }
     ensures { result ≡ begun + weight spot }
 {
@@ -94,7 +94,7 @@ fn close(
 // Waits for the last spot that a spot asks for, with the head of its events so far. A spot that is no key and has none
 // has no frame.
 #[inline(always)]
-fn wait_last(frames: &mut Frames, spot: Spot, key: bool, events: usize) -> Result<(), Memory>
+pub(crate) fn wait_last(frames: &mut Frames, spot: Spot, key: bool, events: usize) -> Result<(), Memory>
     ensures { OnOk result (AreWaiting key events spot frames.old frames.new) }
 {
     if !key {
@@ -112,7 +112,7 @@ fn wait_last(frames: &mut Frames, spot: Spot, key: bool, events: usize) -> Resul
 // Enters a tail, and returns what is asked for then: a tail that is no key leads to its member at once, and has a frame
 // only if it has another member.
 #[inline(always)]
-fn enter(frames: &mut Frames, peg: &SoundPeg, entering: Entering) -> Result<Spot, Memory>
+pub(crate) fn enter(frames: &mut Frames, peg: &SoundPeg, entering: Entering) -> Result<Spot, Memory>
     ensures { IfOk result (λ spot. IsEntered peg.now.keys entering frames.old frames.new spot) }
 {
     let tail = Spot::Tail {
