@@ -1,6 +1,6 @@
 -- The walk over the members of a node makes the turns of the machine.
 -- Serves: Packrat::match_unit
-use Rattle.std.proofs.Common.{◌≡◌, inr, ℕ, ◌+◌, ◌<◌, ◌≤◌, Bool, true, false, List, [], ◌∷◌, length, refl, sym, subst, arith}
+use Rattle.std.proofs.Common.{◌≡◌, inr, ℕ, ◌+◌, ◌<◌, ◌≤◌, Bool, true, false, List, [], ◌∷◌, length, refl, sym, subst, arith, ◌∙◌}
 use Rattle.pegread.specs.PegViews.{rules_of}
 use Rattle.gramcheck.specs.Grammar.{Grammar, HasKeys, IsSoundGrammar}
 use Rattle.gramcheck.specs.Nodes.{shapes_of}
@@ -17,8 +17,10 @@ use Rattle.packrat.specs.SpotGives.{SpotYields}
 use Rattle.packrat.specs.SpotSteps.{IsFirst}
 use Rattle.packrat.specs.Spots.{Kids}
 use Rattle.packrat.specs.View.{weight}
-use Rattle.packrat.specs.Onward.{IsWell, AfterOne, IsLed, tail_of, member_of}
-use Rattle.packrat.specs.Stands.{Stands, AreWaiting, entered, IsEntered}
+use Rattle.memo.specs.Parts.{IsIn}
+use Rattle.memo.specs.KeyLog.{spots_of}
+use Rattle.packrat.specs.Onward.{IsWell, AfterNone, AfterOne, IsLed, tail_of, member_of}
+use Rattle.packrat.specs.Stands.{Stands, key_of, AreWaiting, entered, IsEntered}
 use Rattle.packrat.specs.TurnsLeft.{left, most_begun}
 use Rattle.packrat.specs.Walk.{IsLeafGiven, StandsAt, IsReachedTail}
 use Rattle.packrat.specs.declared.frames.Frame.{Frame}
@@ -52,6 +54,28 @@ module _ (g : Grammar) (x : List ℕ) where
       O.leaf_after g x more some sound n p tried (begun.Gives f) e k s d le (h.0, λ m. h.1)
   sure_leaf sound n p tried (leaf.Marks kept) e k s d le h = absurd h
   sure_leaf sound n p tried leaf.Other e k s d le h = tt
+
+  -- a tail that a spot asks for last
+  module _ (more : Bool) (root a : Spot) (ls : List Frame) (st : List Stored) (links : List Link) (n : ℕ) (key : Bool)
+      (e : Entering) (mid : List Frame) where
+    pub at_pass : Stands g x more g.keys root (Ask a) ls st links n → key ≡ key_of g.keys a
+        → (key ≡ true → IsIn a (spots_of st) → ⊥) → AfterNone g x more a (begun.Enters e)
+        → AreWaiting key 0 a ls mid → (now : ℕ) → now ≡ n + weight a → StandsAt g x more root e mid st links now
+    at_pass s t fresh h w now counts = subst (StandsAt g x more root e mid st links) (sym counts) (record {
+      stands = L.stands_pass g x more g.keys root a ls st links n s (λ k. fresh (t ∙ k)) (tail_of e) key mid t h.0 w;
+      led = h.1;
+    })
+
+    module _ (given : Given) where
+      pub at_on : Stands g x more g.keys root (Answer given) (record { spot = a; key = key; wait = First } ∷ ls) st links n
+          → ((j : Spot) → IsFirst (rules_of g.rules) (shapes_of g.nodes) g.bodies x a j → (es : List Event)
+          → SpotYields g x more j given.found es → AfterOne g x more a j given.found es (way.Enters e))
+          → AreWaiting key given.events a ls mid → StandsAt g x more root e mid st links n
+      at_on s after w = record {
+        stands = L.stands_on g x more g.keys root a given ls st links n key s (tail_of e) mid
+            (λ j i es y. (after j i es y).0) w;
+        led = L.tail_led g x more g.keys root a given ls st links n key s e after;
+      }
 
   led_well : (more only : Bool) (a k : Spot) → IsLed g x more only a k → IsWell g x k
   led_well more true a k h = h.1
@@ -111,11 +135,7 @@ module _ (g : Grammar) (x : List ℕ) where
 
       pub walk_enters : (f : Entering) (new : List Frame) → After (way.Enters f)
           → AreWaiting false given.events (tail_of e) ls new → StandsAt g x more root f new st now count
-      walk_enters f new after w = record {
-        stands = L.stands_on g x more g.keys root (tail_of e) given ls st now count false framed (tail_of f) new
-            (λ j i es y. (after j i es y).0) w;
-        led = L.tail_led g x more g.keys root (tail_of e) given ls st now count false framed f after;
-      }
+      walk_enters f new after w = at_on more root (tail_of e) ls st now count false f new given framed after w
 
       pub passes_kids : (k : Spot) → After (way.Passes k)
           → (j : Spot) × Kids (rules_of g.rules) (shapes_of g.nodes) g.bodies x (tail_of e) (j ∷ (k ∷ []))

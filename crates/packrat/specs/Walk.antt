@@ -48,13 +48,16 @@ module _ (g : Grammar) (x : List ℕ) where
     pub led : IsLed g x more e.only (tail_of e) (member_of e)
 
   -- The machine comes to this turn from the start rule's body.
-  pub record IsReached (turn : Turn) (frames : List Frame) (stored : List Stored) (links : List Link) (count : ℕ)
-      : Type 0 where
-    pub more : Bool
-    pub some : WasEnough x more 0
+  pub record IsReached (more : Bool) (turn : Turn) (frames : List Frame) (stored : List Stored) (links : List Link)
+      (count : ℕ) : Type 0 where
     pub root : ℕ
     pub body : slice_get g.bodies g.start ≡ Some root
     pub stands : Stands g x more g.keys (Pair root 0) turn frames stored links count
+
+  -- The same, whatever stands behind the window.
+  abbrev pub IsReachedSome : Turn → List Frame → List Stored → List Link → ℕ → Type 0
+  IsReachedSome turn frames stored links count =
+      (more : Bool) × WasEnough x more 0 × IsReached more turn frames stored links count
 
   -- The machine comes to this tail from the start rule's body.
   pub record IsReachedTail (e : Entering) (frames : List Frame) (stored : List Stored) (links : List Link) (count : ℕ)

@@ -14,6 +14,7 @@ ghost use Rattle.packrat.specs.Onward.{IsWell};
 ghost use Rattle.packrat.specs.Stands.{Stands, IsClosed, AreOn, IsEvaluated, LowersLeft, key_of};
 ghost use Rattle.packrat.specs.Stands.{AreWaiting, IsWaitHead, IsEntered, IsJoined};
 ghost use Rattle.packrat.specs.View.{weight};
+ghost use Rattle.packrat.specs.Walk.{IsReached, IsReachedSome};
 ghost use Rattle.packrat.specs.declared.frames.Wait.{Wait};
 ghost use Rattle.packrat.specs.declared.machine.Turn.{Turn};
 
@@ -94,7 +95,12 @@ fn close(
 // Waits for the last spot that a spot asks for, with the head of its events so far. A spot that is no key and has none
 // has no frame.
 #[inline(always)]
-pub(crate) fn wait_last(frames: &mut Frames, spot: Spot, key: bool, events: usize) -> Result<(), Memory>
+pub(crate) fn wait_last(
+    frames: &mut Frames,
+    spot: Spot,
+    key: bool,
+    events: usize,
+) -> Result<(), Memory>
     ensures { OnOk result (AreWaiting key events spot frames.old frames.new) }
 {
     if !key {
@@ -172,6 +178,11 @@ impl Machine {
         requires well { IsWell peg.now window.now spot }
         requires rows { self.old.log.rows ≡ length peg.now.nodes }
         requires few { self.old.begun ≤ most_begun peg.now window.now }
+        requires keys { HasKeys peg.now }
+        requires key { key ≡ key_of peg.now.keys spot }
+        requires fresh { key ≡ true → IsIn spot (spots_of self.old.log.stored) → ⊥ }
+        requires reached { IsReached peg.now window.now more (Turn.Ask spot) self.old.frames self.old.log.stored
+            self.old.events self.old.begun }
         ensures rows { OnOk result (self.new.log.rows ≡ length peg.now.nodes) }
         ensures stands { (root : Spot) → key ≡ key_of peg.now.keys spot →
             (key ≡ true → IsIn spot (spots_of self.old.log.stored) → ⊥) →
@@ -212,8 +223,8 @@ impl Machine {
             }
             Begun::Enters(entering) => {
                 wait_last(&mut self.frames, spot, key, 0)?;
-                let next = enter(&mut self.frames, peg, entering)?;
-                Ok(Some(Turn::Ask(next)))
+                let next = self.walk(peg, window, entering)?;
+                Ok(Some(next))
             }
             Begun::Need => Ok(None),
         }
@@ -233,6 +244,9 @@ impl Machine {
         requires well { IsWell peg.now window.now spot }
         requires rows { self.old.log.rows ≡ length peg.now.nodes }
         requires few { self.old.begun ≤ most_begun peg.now window.now }
+        requires keys { HasKeys peg.now }
+        requires reached { IsReached peg.now window.now more (Turn.Ask spot) self.old.frames self.old.log.stored
+            self.old.events self.old.begun }
         ensures rows { OnOk result (self.new.log.rows ≡ length peg.now.nodes) }
         ensures stands { (root : Spot) → Stands peg.now window.now more peg.now.keys root (Turn.Ask spot) self.old.frames
             self.old.log.stored self.old.events self.old.begun →
@@ -261,6 +275,10 @@ impl Machine {
     ) -> Result<Turn, Memory>
         requires sound { IsSoundGrammar peg.now }
         requires well { IsWell peg.now window.now spot }
+        requires keys { HasKeys peg.now }
+        requires reached { IsReachedSome peg.now window.now (Turn.Answer given)
+            (record { spot = spot; key = key; wait = Wait.First } ∷ self.old.frames)
+            self.old.log.stored self.old.events self.old.begun }
         requires rows { self.old.log.rows ≡ length peg.now.nodes }
         ensures rows { OnOk result (self.new.log.rows ≡ length peg.now.nodes) }
         ensures stands { (more : Bool) → WasEnough window.now more 0 → (root : Spot) →
@@ -293,8 +311,8 @@ impl Machine {
             }
             Onward::Enters(entering) => {
                 wait_last(&mut self.frames, spot, key, given.events)?;
-                let next = enter(&mut self.frames, peg, entering)?;
-                Ok(Turn::Ask(next))
+                let next = self.walk(peg, window, entering)?;
+                Ok(next)
             }
         }
     }
@@ -310,6 +328,9 @@ impl Machine {
     ) -> Result<Turn, Memory>
         requires sound { IsSoundGrammar peg.now }
         requires well { IsWell peg.now window.now frame.spot }
+        requires keys { HasKeys peg.now }
+        requires reached { IsReachedSome peg.now window.now (Turn.Answer given) (frame ∷ self.old.frames)
+            self.old.log.stored self.old.events self.old.begun }
         requires rows { self.old.log.rows ≡ length peg.now.nodes }
         requires first { IsWaitHead self.old.events frame.wait }
         requires second { IsHead self.old.events given.events }

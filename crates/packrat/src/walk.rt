@@ -83,7 +83,13 @@ fn leaf_given(
     if is_key(peg, Spot::Tail { node, index, place }) {
         return Ok(None);
     }
-    if is_key(peg, Spot::Pair { node: member, place }) {
+    if is_key(
+        peg,
+        Spot::Pair {
+            node: member,
+            place,
+        },
+    ) {
         return Ok(None);
     }
     match leaf_of(peg, window, member, place) {
@@ -136,7 +142,10 @@ impl Machine {
                         member,
                         only,
                     } = next;
-                    let own = Spot::Pair { node: member, place };
+                    let own = Spot::Pair {
+                        node: member,
+                        place,
+                    };
                     self.begun = counted(peg.nodes(), window.len(), self.begun, own);
                     if only {
                         return Ok(Turn::Answer(given));

@@ -1,5 +1,4 @@
-use Rattle.std.proofs.Common.{◌≡◌, ◌<◌, ◌≤◌, ◌+◌, ◌*◌, Bool, refl, sym, subst, arith}
-use Rattle.packrat.specs.Onward.{tail_of}
+use Rattle.std.proofs.Common.{refl, sym, arith}
 use Rattle.packrat.proofs.WalkLemmas as W
 use Rattle.packrat.proofs.StandsLemmas as L
 use Rattle.packrat.proofs.LeftLemmas as M
@@ -155,9 +154,9 @@ members-preserved c =
     record {
       log = c.members.invariant.log;
       stands = λ more some root s. W.walk_enters c.args.peg.now c.args.window.now more some root c.members.next c.members.self.frames
-    c.members.self.log.stored c.members.self.events c.leaf_given.new.events c.members.self.begun
-    (c.members.invariant.stands more some root s) c.in-Some.given c.in_ok-leaf_given.ensures.grown h
-    c.counted-self.result c.counted-self.ensures
+          c.members.self.log.stored c.members.self.events c.leaf_given.new.events c.members.self.begun
+          (c.members.invariant.stands more some root s) c.in-Some.given c.in_ok-leaf_given.ensures.grown h
+          c.counted-self.result c.counted-self.ensures
           c.if-only.false c.in-Enters.further c.wait_last-in-Enters.new.frames (c.in-Enters.ensures more some)
           c.in_ok-wait_last-in-Enters.ensures;
       less = omega (arith, one, two);

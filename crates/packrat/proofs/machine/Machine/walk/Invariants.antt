@@ -1,4 +1,4 @@
-use Rattle.std.proofs.Common.{◌≡◌, Bool, length, ◌≤◌}
+use Rattle.std.proofs.Common.{◌≡◌, Bool, ◌≤◌}
 use Rattle.pegmatch.specs.Answers.{WasEnough}
 use Rattle.memo.specs.declared.spot.Spot.{Spot}
 use Rattle.packrat.specs.Onward.{tail_of}
