@@ -505,6 +505,9 @@ module _ (g : Grammar) (x : List ℕ) (more : Bool) (marks : Marks) where
       pub tail_well : (e : Entering) → After (way.Enters e) → IsWell g x (tail_of e)
       tail_well e after = (after_here (way.Enters e) after).0.1
 
+      pub tail_led : (e : Entering) → After (way.Enters e) → IsLed g x more e.only (tail_of e) (member_of e)
+      tail_led e after = (after_here (way.Enters e) after).1
+
       pub stands_into : (e : Entering) (mid new : List Frame) (b : Spot) → After (way.Enters e)
           → AreWaiting key given.events a ls mid → IsEntered marks e mid new b → S root (Ask b) new st links n
       stands_into e mid new b after w i =

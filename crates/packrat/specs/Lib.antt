@@ -10,3 +10,4 @@ pub mod Turned
 pub mod TurnsLeft
 pub mod Stands
 pub mod Done
+pub mod Walk

@@ -16,6 +16,7 @@ ghost use Rattle.packrat.specs.Onward.{IsWell};
 ghost use Rattle.packrat.specs.Stands.{Stands, IsClosed, AreOn, IsEvaluated, LowersLeft, key_of};
 ghost use Rattle.packrat.specs.Stands.{AreWaiting, IsWaitHead, IsEntered, IsJoined, GivenBy, AreGiven};
 ghost use Rattle.packrat.specs.View.{weight};
+ghost use Rattle.packrat.specs.Walk.{IsReached, IsReachedSome};
 ghost use Rattle.packrat.specs.declared.frames.Wait.{Wait};
 ghost use Rattle.packrat.specs.declared.machine.Turn.{Turn};
 
@@ -47,7 +48,7 @@ pub(crate) struct Machine {
 
 // Returns how many pairs are begun with this spot; there are no more than nodes at places.
 #[inline(always)]
-fn counted(nodes: usize, length: usize, begun: u128, spot: Spot) -> u128
+pub(crate) fn counted(nodes: usize, length: usize, begun: u128, spot: Spot) -> u128
     requires { begun ≤ nodes * (length + 1) }
     ensures { result ≡ begun + weight spot }
 {
@@ -97,7 +98,12 @@ fn close(
 // Waits for the last spot that a spot asks for, with the head of its events so far. A spot that is no key and has none
 // has no frame.
 #[inline(always)]
-fn wait_last(frames: &mut Frames, spot: Spot, key: bool, events: usize) -> Result<(), Memory>
+pub(crate) fn wait_last(
+    frames: &mut Frames,
+    spot: Spot,
+    key: bool,
+    events: usize,
+) -> Result<(), Memory>
     ensures { OnOk result (AreWaiting key events spot frames.old frames.new) }
 {
     if !key {
@@ -115,7 +121,7 @@ fn wait_last(frames: &mut Frames, spot: Spot, key: bool, events: usize) -> Resul
 // Enters a tail, and returns what is asked for then: a tail that is no key leads to its member at once, and has a frame
 // only if it has another member.
 #[inline(always)]
-fn enter(frames: &mut Frames, peg: &SoundPeg, entering: Entering) -> Result<Spot, Memory>
+pub(crate) fn enter(frames: &mut Frames, peg: &SoundPeg, entering: Entering) -> Result<Spot, Memory>
     ensures { IfOk result (λ spot. IsEntered peg.now.keys entering frames.old frames.new spot) }
 {
     let tail = Spot::Tail {
@@ -240,6 +246,11 @@ impl Machine {
         requires well { IsWell peg.now window.now spot }
         requires rows { self.old.log.rows ≡ length peg.now.nodes }
         requires few { self.old.begun ≤ most_begun peg.now window.now }
+        requires keys { HasKeys peg.now }
+        requires key { key ≡ key_of peg.now.keys spot }
+        requires fresh { key ≡ true → IsIn spot (spots_of self.old.log.stored) → ⊥ }
+        requires reached { IsReached peg.now window.now more (Turn.Ask spot) self.old.frames self.old.log.stored
+            self.old.events self.old.begun }
         ensures rows { OnOk result (self.new.log.rows ≡ length peg.now.nodes) }
         ensures stands { (root : Spot) → key ≡ key_of peg.now.keys spot →
             (key ≡ true → IsIn spot (spots_of self.old.log.stored) → ⊥) →
@@ -280,8 +291,8 @@ impl Machine {
             }
             Begun::Enters(entering) => {
                 wait_last(&mut self.frames, spot, key, 0)?;
-                let next = enter(&mut self.frames, peg, entering)?;
-                Ok(Some(Turn::Ask(next)))
+                let next = self.walk(peg, window, entering)?;
+                Ok(Some(next))
             }
             Begun::Need => Ok(None),
         }
@@ -379,6 +390,9 @@ impl Machine {
         requires well { IsWell peg.now window.now spot }
         requires rows { self.old.log.rows ≡ length peg.now.nodes }
         requires few { self.old.begun ≤ most_begun peg.now window.now }
+        requires keys { HasKeys peg.now }
+        requires reached { IsReached peg.now window.now more (Turn.Ask spot) self.old.frames self.old.log.stored
+            self.old.events self.old.begun }
         ensures rows { OnOk result (self.new.log.rows ≡ length peg.now.nodes) }
         ensures stands { (root : Spot) → Stands peg.now window.now more peg.now.keys root (Turn.Ask spot) self.old.frames
             self.old.log.stored self.old.events self.old.begun →
@@ -410,6 +424,10 @@ impl Machine {
     ) -> Result<Turn, Memory>
         requires sound { IsSoundGrammar peg.now }
         requires well { IsWell peg.now window.now spot }
+        requires keys { HasKeys peg.now }
+        requires reached { IsReachedSome peg.now window.now (Turn.Answer given)
+            (record { spot = spot; key = key; wait = Wait.First } ∷ self.old.frames)
+            self.old.log.stored self.old.events self.old.begun }
         requires rows { self.old.log.rows ≡ length peg.now.nodes }
         ensures rows { OnOk result (self.new.log.rows ≡ length peg.now.nodes) }
         ensures stands { (more : Bool) → WasEnough window.now more 0 → (root : Spot) →
@@ -442,8 +460,8 @@ impl Machine {
             }
             Onward::Enters(entering) => {
                 wait_last(&mut self.frames, spot, key, given.events)?;
-                let next = enter(&mut self.frames, peg, entering)?;
-                Ok(Turn::Ask(next))
+                let next = self.walk(peg, window, entering)?;
+                Ok(next)
             }
         }
     }
@@ -460,6 +478,9 @@ impl Machine {
         requires sound { IsSoundGrammar peg.now }
         requires keyed { IsKeyed peg.now }
         requires well { IsWell peg.now window.now frame.spot }
+        requires keys { HasKeys peg.now }
+        requires reached { IsReachedSome peg.now window.now (Turn.Answer given) (frame ∷ self.old.frames)
+            self.old.log.stored self.old.events self.old.begun }
         requires rows { self.old.log.rows ≡ length peg.now.nodes }
         requires first { IsWaitHead self.old.events frame.wait }
         requires second { IsHead self.old.events given.events }

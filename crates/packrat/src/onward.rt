@@ -239,7 +239,7 @@ fn go_on_node(peg: &SoundPeg, window: &[u8], node: usize, place: usize, found: F
 
 // How a tail goes on at a place whose member gave this.
 #[inline(always)]
-fn go_on_tail(
+pub(crate) fn go_on_tail(
     peg: &SoundPeg,
     window: &[u8],
     node: usize,

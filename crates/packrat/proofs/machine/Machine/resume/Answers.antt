@@ -2,11 +2,18 @@ use Rattle.std.proofs.Common.{◌≡◌, ◌<◌, ◌∷◌, ◌++◌, IfOk, sym
 use Rattle.packrat.specs.declared.machine.Turn.TheVariants.{Answer}
 use Rattle.packrat.specs.Stands.{Stands}
 use Rattle.packrat.specs.TurnsLeft.{left}
+use Rattle.packrat.specs.Walk.{IsReachedSome}
 use Rattle.packrat.proofs.StandsLemmas as L
 use Rattle.packrat.proofs.LeftLemmas as M
 use Rattle.memo.specs.KeyLog.{run_of, place_of}
 use Rattle.packrat.proofs.TurnedLemmas.{stands_back}
 use Rattle.packrat.proofs.machine.Machine.resume.Goals as goal
+
+pub after_first-requires-clause-reached : goal.after_first-requires-clause-reached
+after_first-requires-clause-reached c =
+    subst (λ v. IsReachedSome c.args.peg.now c.args.window.now (Answer c.args.given)
+    (record { spot = c.args.frame.spot; key = c.args.frame.key; wait = v } ∷ c.args.self.now.frames)
+    c.args.self.now.log.stored c.args.self.now.events c.args.self.now.begun) c.in-First.is c.requires.reached
 
 pub returns-in-First-clause-less : goal.returns-in-First-clause-less
 returns-in-First-clause-less c = λ more some root.
