@@ -174,7 +174,9 @@ fn put_operands(log: &mut KeyLog, peg: &SoundPeg, window: &[u8], turns: Turns) -
         AreGiven peg.now window.now more links log.new.stored) }
 {
     if peg.is_key_node(turns.operand) {
-        log.put_steps(turns.operand, turns.from, turns.end)?;
+        if turns.from < turns.end {
+            log.put_steps(turns.operand, turns.from, turns.end)?;
+        }
     }
     Ok(())
 }
@@ -349,6 +351,15 @@ impl Machine {
         self.begun += turns.pairs;
         put_operands(&mut self.log, peg, window, turns)?;
         if turns.whole {
+            let last = Spot::Pair {
+                node: turns.operand,
+                place: turns.end,
+            };
+            let failed = Given {
+                found: Found::Failed,
+                events: 0,
+            };
+            close(&mut self.log, peg, window, last, is_key(peg, last), failed)?;
             let given = Given {
                 found: Found::Took(turns.end),
                 events: 0,
@@ -380,8 +391,8 @@ impl Machine {
         requires rows { self.old.log.rows ≡ length peg.now.nodes }
         requires few { self.old.begun ≤ most_begun peg.now window.now }
         ensures rows { OnOk result (self.new.log.rows ≡ length peg.now.nodes) }
-        ensures stands { (root : Spot) → Stands peg.now window.now more peg.now.keys root (Turn.Ask spot) self.old.frames
-            self.old.log.stored self.old.events self.old.begun →
+        ensures stands { (root : Spot) →
+            Stands peg.now window.now more peg.now.keys root (Turn.Ask spot) self.old.frames self.old.log.stored self.old.events self.old.begun →
             IfOk result (λ turn. AreOn peg.now window.now more peg.now.keys root turn
             self.new.frames self.new.log.stored self.new.events self.new.begun) }
         ensures less { self.new.begun ≤ most_begun peg.now window.now → IfOk result (λ turn.
