@@ -392,7 +392,8 @@ impl Machine {
         requires few { self.old.begun ≤ most_begun peg.now window.now }
         ensures rows { OnOk result (self.new.log.rows ≡ length peg.now.nodes) }
         ensures stands { (root : Spot) →
-            Stands peg.now window.now more peg.now.keys root (Turn.Ask spot) self.old.frames self.old.log.stored self.old.events self.old.begun →
+            Stands peg.now window.now more peg.now.keys root (Turn.Ask spot) self.old.frames
+            self.old.log.stored self.old.events self.old.begun →
             IfOk result (λ turn. AreOn peg.now window.now more peg.now.keys root turn
             self.new.frames self.new.log.stored self.new.events self.new.begun) }
         ensures less { self.new.begun ≤ most_begun peg.now window.now → IfOk result (λ turn.
