@@ -1,5 +1,5 @@
 -- Steps over bytes that decide what is evaluated.
--- Serves: one_byte_decides, turns_run, turns_close, turns_whole, fresh_above_mark
+-- Serves: one_byte_decides, turns_run, turns_close, turns_whole, fresh_above_mark, Packrat::match_unit
 use Rattle.std.proofs.Common.{◌≡◌, inl, inr, ℕ, zero, suc, ◌+◌, ◌<◌, ◌≤◌, Bool, true, false, List, [], ◌∷◌, ◌++◌}
 use Rattle.std.proofs.Common.{Some, refl, sym, subst, ap, arith}
 use Rattle.std.specs.Prelude.{slice_get}
@@ -9,7 +9,7 @@ use Rattle.gramcheck.specs.Nodes as node
 use Rattle.gramcheck.specs.Nodes.{Shape}
 use Rattle.gramcheck.specs.Sound.{IsRanked}
 use Rattle.gramcheck.specs.declared.by_byte.Verdict.{Verdict}
-use Rattle.gramcheck.specs.declared.by_byte.Verdict.TheVariants.{Takes, Stays}
+use Rattle.gramcheck.specs.declared.by_byte.Verdict.TheVariants.{Takes, Stays, Fails}
 use Rattle.pegmatch.specs.KeptEvents.{SpellsSome}
 use Rattle.memo.specs.Parts.{IsIn, in_here, in_later}
 use Rattle.memo.specs.KeyLog.{spots_of, row_of, place_of}
@@ -251,6 +251,79 @@ module _ (rules : List Rule) (start : ℕ) (nodes : List Shape) (bodies ranks x 
                 levels = levels;
                 stored = turns_closed (marks s) s a (suc n)
                     (operands_on (marks k) k a n stored);
+                begun = v;
+              }))) (sym (append_other last.front before.front begun))
+              (both_steps (both_steps before.steps last.steps) end);
+        }
+
+    stop_kids : (q : ℕ) → GivesBy rules nodes bodies x k q Fails → Kids rules nodes bodies x (Pair s q) (Pair k q ∷ [])
+    stop_kids q g = (node.Star k, at, inl (record { looked = g.looked; gives = g.gives }, refl))
+
+    -- a byte that decides that the operand fails ends the repetition
+    stop_comes : (b q d : ℕ) → ByByte nodes bodies marks tails b k Fails d → slice_get x q ≡ Some b
+        → (levels : List (Level Spot)) (stored begun : List Spot) → (marks s ≡ true → IsIn (Pair s q) stored → ⊥)
+        → (marks k ≡ true → IsIn (Pair k q) stored → ⊥)
+        → Comes (Asks (Pair s q) (record { levels = levels; stored = stored; begun = begun }))
+        (λ front. Works (record {
+          levels = levels;
+          stored = store Spot (marks s) (Pair s q) (store Spot (marks k) (Pair k q) stored);
+          begun = front ++ begun;
+        })) (1 + d)
+    stop_comes b q d h here levels stored begun fresh free =
+        let has = star_has rules start nodes bodies ranks x sound s k at spelled in
+        let g = gives_by rules start nodes bodies ranks x sound marks tails b q here h has in
+        let r = decided_comes b k q d Fails h here has (record { at = Pair s q; asked = Pair k q ∷ [] } ∷ levels)
+        stored (Pair s q ∷ begun) free in
+        let is = r.is in
+        let sum = both_fronts r.front
+        (Pair s q ∷ []) in
+        record {
+          front = r.front ++ Pair s q ∷ [];
+          is = omega (arith, is, sum);
+          steps = subst (λ v. St (Asks (Pair s q) (record { levels = levels; stored = stored; begun = begun }))
+              (Works (record {
+                levels = levels;
+                stored = store Spot (marks s) (Pair s q) (store Spot (marks k) (Pair k q) stored);
+                begun = v;
+              })))
+              (sym (append_other r.front (Pair s q ∷ []) begun))
+              (steps_more (both_steps (steps_more (steps_more steps_none (step_begin fresh))
+              (step_next (next_first (node.Star k, at, refl)))) r.steps) (step_last (stop_kids q g)));
+        }
+
+    -- the turns, and then such a byte
+    pub turns_stop : {a n c : ℕ} (b d : ℕ) → Turned a n c → slice_get x (a + n) ≡ Some b
+        → ByByte nodes bodies marks tails b k Fails d → (levels : List (Level Spot)) (stored begun : List Spot)
+        → AreFresh (marks s) s a (suc n) stored → AreFresh (marks k) k a (suc n) stored
+        → Comes (Asks (Pair s a) (record { levels = levels; stored = stored; begun = begun }))
+        (λ front. Works (record {
+          levels = levels;
+          stored = turns_closed (marks s) s a (suc n)
+              (store Spot (marks k) (Pair k (a + n)) (operands_on (marks k) k a n stored));
+          begun = front ++ begun;
+        })) (c + (1 + d))
+    turns_stop {a = a} {n = n} b d turns here h levels stored begun fresh free =
+        let before = turns_come turns levels stored begun (λ i lt. fresh i (omega arith))
+        (λ i lt. free i (omega arith)) in
+        let last = stop_comes b (a + n) d h here (turns_on s k a n levels)
+        (operands_on (marks k) k a n stored) (before.front ++ begun)
+        (λ t i. not_among (marks k) s k a n (a + n) stored (λ e lt. no_later a n lt) (fresh n (omega arith) t) i)
+        (λ t i. not_among (marks k) k k a n (a + n) stored (λ e lt. no_later a n lt) (free n (omega arith) t) i) in
+        let end = turns_end turns levels (store Spot (marks s) (Pair s (a + n))
+        (store Spot (marks k) (Pair k (a + n)) (operands_on (marks k) k a n stored)))
+        (last.front ++ (before.front ++ begun)) in
+        let one = before.is in
+        let two = last.is in
+        let sum = both_fronts last.front
+        before.front in
+        record {
+          front = last.front ++ before.front;
+          is = omega (arith, one, two, sum);
+          steps = subst (λ v. St (Asks (Pair s a) (record { levels = levels; stored = stored; begun = begun }))
+              (Works (record {
+                levels = levels;
+                stored = turns_closed (marks s) s a (suc n)
+                    (store Spot (marks k) (Pair k (a + n)) (operands_on (marks k) k a n stored));
                 begun = v;
               }))) (sym (append_other last.front before.front begun))
               (both_steps (both_steps before.steps last.steps) end);

@@ -5,7 +5,7 @@ use Rattle.std.proofs.Common.{◌∷◌, ◌++◌, Option, length, Some, refl, s
 use Rattle.std.specs.Prelude.{slice_get}
 use Rattle.pegread.specs.PegViews.{rules_of}
 use Rattle.eventlog.specs.declared.link.Link.{Link}
-use Rattle.gramcheck.specs.ByByte.{ByByte, by_shape, by_no_turn, below, AreTurns, turns_none, turns_more}
+use Rattle.gramcheck.specs.ByByte.{ByByte, AreTurns, turns_none, turns_more}
 use Rattle.gramcheck.specs.Grammar.{Grammar, IsSoundGrammar}
 use Rattle.gramcheck.specs.KeyLists.{Marks, node_marks, tail_marks}
 use Rattle.gramcheck.specs.KeyMarks.{AreMarks}
@@ -15,7 +15,7 @@ use Rattle.gramcheck.specs.Outcome as outcome
 use Rattle.gramcheck.specs.Outcome.{Event}
 use Rattle.gramcheck.specs.RunTables.{IsTable, IsRun}
 use Rattle.gramcheck.specs.declared.by_byte.Decided.{Decided}
-use Rattle.gramcheck.specs.declared.by_byte.Verdict.TheVariants.{Takes, Stays}
+use Rattle.gramcheck.specs.declared.by_byte.Verdict.TheVariants.{Takes, Fails}
 use Rattle.gramcheck.specs.declared.run_table.Run.{Run}
 use Rattle.pegmatch.specs.KeptEvents.{SpellsSome}
 use Rattle.memo.specs.KeyLog.{spots_of, row_of, place_of, run_of, steps_of, spread, rising}
@@ -29,16 +29,16 @@ use Rattle.memo.specs.declared.spot.Spot.{Spot}
 use Rattle.memo.specs.declared.spot.Spot.TheVariants.{Pair}
 use Rattle.memo.proofs.KeyLogLemmas.{of_spread, of_rising, rising_last}
 use Rattle.memo.proofs.PartsLemmas.{in_either}
-use Rattle.visits.proofs.GivesLemmas.{star_gives_more, star_never_fails}
+use Rattle.visits.proofs.GivesLemmas.{star_gives_more, star_gives_none, star_never_fails}
 use Rattle.visits.specs.Visits.{NodeGives}
 use Rattle.packrat.specs.ByteGives.{GivesBy, turns_on, operands_on, turns_closed, AreFresh}
-use Rattle.packrat.specs.MachineSteps.{Level, State, Asks, Works, start_at}
+use Rattle.packrat.specs.MachineSteps.{Level, State, Asks, Works, start_at, store}
 use Rattle.packrat.specs.Onward.{IsWell}
 use Rattle.packrat.specs.SpotGives.{SpotYields, joined}
 use Rattle.packrat.specs.Spots.{Kids}
 use Rattle.packrat.specs.SpotSteps.{SpotSteps}
 use Rattle.packrat.specs.Stands.{AreLevels, levels_passed, levels_turned, key_of, Stands, GivenBy, AreGiven}
-use Rattle.packrat.specs.Turned.{IsClosing, AreTurned, IsStayed, AreTurnedFrames}
+use Rattle.packrat.specs.Turned.{IsClosing, AreTurned, IsStopped, AreTurnedFrames}
 use Rattle.packrat.specs.View.{weight}
 use Rattle.packrat.specs.declared.frames.Frame.{Frame}
 use Rattle.packrat.specs.declared.frames.Wait.TheVariants.{Turned}
@@ -47,7 +47,7 @@ use Rattle.packrat.specs.declared.machine.Turn.TheVariants.{Ask, Answer}
 use Rattle.packrat.specs.declared.turns.Turns.{Turns}
 use Rattle.packrat.proofs.ByteGivesLemmas.{gives_by, star_has}
 use Rattle.packrat.proofs.RunStepsLemmas.{append_other}
-use Rattle.packrat.proofs.RunTurnsLemmas.{both_fronts, both_steps, turn_kids, turns_come, turns_end, whole_comes}
+use Rattle.packrat.proofs.RunTurnsLemmas.{both_fronts, both_steps, turn_kids, turns_come, turns_end, turns_stop}
 use Rattle.packrat.proofs.StandsLemmas.{given_none, spot_here, above, ready_of}
 use Rattle.packrat.proofs.TurnsGiveLemmas.{turns_repeat}
 
@@ -100,21 +100,17 @@ module _ (g : Grammar) (x : List ℕ) (more : Bool) (marks : Marks) where
     turns = is.turns (shapes_of g.nodes) g.bodies (node_marks marks) (tail_marks marks) k table;
   }
 
-  pub closing_stays : (s k q to pairs : ℕ) (entries : List (Option Decided))
-      → slice_get (shapes_of g.nodes) s ≡ Some (node.Star k)
+  pub closing_stops : (k q to pairs : ℕ) (entries : List (Option Decided))
       → IsTable (shapes_of g.nodes) g.bodies (node_marks marks) (tail_marks marks) k entries
-      → node_marks marks k ≡ false → (more ≡ true → to < length x) → IsClosing entries x q to pairs
-      → IsStayed g x more marks s k q pairs
-  closing_stays s k q to pairs entries at table plain last c =
-      let fails = subst (λ v. ByByte (shapes_of g.nodes) g.bodies (node_marks marks) (tail_marks marks) c.byte k v
-      c.decided.count) c.fails (table c.byte c.decided c.entry) in
-      let is = c.count in
+      → (more ≡ true → to < length x) → IsClosing entries x q to pairs → IsStopped g x more marks k q pairs
+  closing_stops k q to pairs entries table last c =
       record {
         byte = c.byte;
         here = c.here;
-        stays = subst (λ v. ByByte (shapes_of g.nodes) g.bodies (node_marks marks) (tail_marks marks) c.byte s Stays v)
-            (sym is) (by_shape at (by_no_turn (below plain fails)));
-        some = omega (arith, is);
+        pairs = c.decided.count;
+        fails = subst (λ v. ByByte (shapes_of g.nodes) g.bodies (node_marks marks) (tail_marks marks) c.byte k v
+            c.decided.count) c.fails (table c.byte c.decided c.entry);
+        is = c.count;
         last = λ t. let lt = last t in let before = c.before in omega (arith, before, lt);
       }
 
@@ -210,16 +206,36 @@ module _ (g : Grammar) (x : List ℕ) (more : Bool) (marks : Marks) where
             head = h.head;
           })
 
+      stop_gives : (d : ℕ) → (e : IsStopped g x more marks k q d)
+          → GivesBy (rules_of g.rules) (shapes_of g.nodes) g.bodies x k q Fails
+      stop_gives d e = gives_by (rules_of g.rules) g.start (shapes_of g.nodes) g.bodies g.ranks x sound
+          (node_marks marks) (tail_marks marks) e.byte q e.here e.fails has
+
+      -- the operand fails behind them
+      pub stop_given : (links : List Link) (d : ℕ) → IsStopped g x more marks k q d
+          → GivenBy g x more links (Pair k q) (record { found = Failed; events = 0 })
+      stop_given links d e =
+          let b = stop_gives d e in
+          given_none g x more marks links (Pair k q) Failed (
+            b.looked,
+            b.gives,
+            (λ is. let lt = e.last is in let within = b.within in omega (arith, lt, within)),
+            refl,
+          )
+
+      pub operand_well : IsWell g x (Pair k q)
+      operand_well = (has, t.within)
+
       -- it ends behind them
-      pub ended_given : (links : List Link) (d : ℕ) → IsStayed g x more marks s k q d → (r : ℕ) → p ≤ r → r ≤ q
+      pub ended_given : (links : List Link) (d : ℕ) → IsStopped g x more marks k q d → (r : ℕ) → p ≤ r → r ≤ q
           → GivenBy g x more links (Pair s r) (record { found = Took q; events = 0 })
       ended_given links d e r low high =
-          let b = gives_by (rules_of g.rules) g.start (shapes_of g.nodes) g.bodies g.ranks x sound (node_marks marks)
-          (tail_marks marks) e.byte q e.here e.stays t.spelled in
+          let b = stop_gives d e in
           given_before links (record { found = Took q; events = 0 })
           (given_none g x more marks links (Pair s q) (Took q) (
             b.looked,
-            b.gives,
+            star_gives_none (rules_of g.rules) g.start (shapes_of g.nodes) g.bodies g.ranks x sound s k t.spelled q
+                b.looked t.at b.gives,
             (λ is. let lt = e.last is in let within = b.within in omega (arith, lt, within)),
             tt,
           )) r low high
@@ -361,23 +377,30 @@ module _ (g : Grammar) (x : List ℕ) (more : Bool) (marks : Marks) (sound : IsS
           }
 
       -- the loop goes to the repetition's end
-      pub stands_ended : (c : ℕ) → IsStayed g x more marks t.star t.operand t.end c
+      pub stands_ended : (c : ℕ) → IsStopped g x more marks t.operand t.end c
           → spots_of su ≡ turns_closed (node_marks marks t.star) t.star t.from (t.end + 1 - t.from)
-          (operands_on (node_marks marks t.operand) t.operand t.from (t.end - t.from) (spots_of st))
+          (store Spot (node_marks marks t.operand) (Pair t.operand t.end)
+          (operands_on (node_marks marks t.operand) t.operand t.from (t.end - t.from) (spots_of st)))
           → S root (Answer (record { found = Took t.end; events = 0 })) ls su links (n + (count + c))
       stands_ended c e spots =
           let low = d.low in
           let same : t.end + 1 - t.from ≡ suc (t.end - t.from) = omega (arith, low) in
           let stays = subst (λ v. slice_get x v ≡ Some e.byte) (sym (to_end g x more marks sound t.star t.operand
           t.from t.end count d)) e.here in
-          let come = whole_comes (rules_of g.rules) g.start (shapes_of g.nodes) g.bodies g.ranks x sound body is_body
-          (node_marks marks) (tail_marks marks) are t.star t.operand d.at d.spelled e.byte c d.turns stays e.stays
-          h.levels (spots_of st) h.begun (fresh (suc (t.end - t.from))) (free (t.end - t.from)) in
-          let one : T come.front ≡ count + c = come.is in
+          let come = turns_stop (rules_of g.rules) g.start (shapes_of g.nodes) g.bodies g.ranks x sound body is_body
+          (node_marks marks) (tail_marks marks) are t.star t.operand d.at d.spelled e.byte e.pairs d.turns stays e.fails
+          h.levels (spots_of st) h.begun (fresh (suc (t.end - t.from))) (free (suc (t.end - t.from))) in
+          let more_pairs = e.is in
+          let one : T come.front ≡ count + (1 + e.pairs) = come.is in
           let two : T h.begun ≡ n = h.is in
           let sum = fronts_add come.front h.begun in
-          let now = subst (λ v. spots_of su ≡ turns_closed (node_marks marks t.star) t.star t.from v
-          (operands_on (node_marks marks t.operand) t.operand t.from (t.end - t.from) (spots_of st))) same spots in
+          let sized = subst (λ v. spots_of su ≡ turns_closed (node_marks marks t.star) t.star t.from v
+          (store Spot (node_marks marks t.operand) (Pair t.operand t.end)
+          (operands_on (node_marks marks t.operand) t.operand t.from (t.end - t.from) (spots_of st)))) same spots in
+          let now = subst (λ v. spots_of su ≡ turns_closed (node_marks marks t.star) t.star t.from
+          (suc (t.end - t.from)) (store Spot (node_marks marks t.operand) (Pair t.operand v)
+          (operands_on (node_marks marks t.operand) t.operand t.from (t.end - t.from) (spots_of st))))
+          (sym (to_end g x more marks sound t.star t.operand t.from t.end count d)) sized in
           record {
             levels = h.levels;
             begun = come.front ++ h.begun;
@@ -386,7 +409,7 @@ module _ (g : Grammar) (x : List ℕ) (more : Bool) (marks : Marks) (sound : IsS
             turns = ended_given g x more marks sound t.star t.operand t.from t.end count d links c e t.from
                 (omega arith) d.low;
             given = keeps h.given;
-            is = omega (arith, one, two, sum);
+            is = omega (arith, one, two, sum, more_pairs);
             steps = subst (λ v. SS root (Works (record {
               levels = h.levels;
               stored = v;

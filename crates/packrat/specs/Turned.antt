@@ -6,7 +6,7 @@ use Rattle.gramcheck.specs.Grammar.{Grammar, HasKeys}
 use Rattle.gramcheck.specs.KeyLists.{Marks, node_marks, tail_marks}
 use Rattle.gramcheck.specs.Nodes.{Star, shapes_of}
 use Rattle.gramcheck.specs.declared.by_byte.Decided.{Decided}
-use Rattle.gramcheck.specs.declared.by_byte.Verdict.TheVariants.{Stays, Fails}
+use Rattle.gramcheck.specs.declared.by_byte.Verdict.TheVariants.{Fails}
 use Rattle.pegmatch.specs.KeptEvents.{SpellsSome}
 use Rattle.memo.specs.declared.spot.Spot.{Spot}
 use Rattle.memo.specs.declared.spot.Spot.TheVariants.{Pair}
@@ -15,7 +15,8 @@ use Rattle.packrat.specs.declared.frames.Frame.{Frame}
 use Rattle.packrat.specs.declared.frames.Wait.TheVariants.{Turned}
 use Rattle.packrat.specs.declared.turns.Turns.{Turns}
 
--- a byte stands there, before the place `to`, whose entry says that the node fails, and these are all pairs but one
+-- A byte stands there, before the place `to`, whose entry says that the node fails. The pairs are those that the entry
+-- counts, and one more.
 pub record IsClosing (entries : List (Option Decided)) (x : List ℕ) (at to pairs : ℕ) : Type 0 where
   pub before : at < to
   pub byte : ℕ
@@ -27,7 +28,7 @@ pub record IsClosing (entries : List (Option Decided)) (x : List ℕ) (at to pai
 
 module _ (g : Grammar) (x : List ℕ) (more : Bool) (marks : Marks) where
   -- Repetition s of node k takes the bytes between p and q by turns that the bytes decide, which are so many pairs. If
-  -- there is more behind the window, its last byte is none of them, and does not stand behind them.
+  -- there is more behind the window, its last byte is none of them.
   pub record AreTurned (s k p q count : ℕ) : Type 0 where
     pub at : slice_get (shapes_of g.nodes) s ≡ Some (Star k)
     pub spelled : SpellsSome (rules_of g.rules) (shapes_of g.nodes) s
@@ -36,17 +37,18 @@ module _ (g : Grammar) (x : List ℕ) (more : Bool) (marks : Marks) where
     pub last : more ≡ true → q < length x
     pub turns : AreTurns (shapes_of g.nodes) g.bodies x (node_marks marks) (tail_marks marks) k p (q - p) count
 
-  -- the byte behind such turns decides that the repetition stays before it, with so many pairs
-  pub record IsStayed (s k q count : ℕ) : Type 0 where
+  -- the byte at place q decides that node k fails there, and so that a repetition of it ends there, with so many pairs
+  pub record IsStopped (k q count : ℕ) : Type 0 where
     pub byte : ℕ
     pub here : slice_get x q ≡ Some byte
-    pub stays : ByByte (shapes_of g.nodes) g.bodies (node_marks marks) (tail_marks marks) byte s Stays count
-    pub some : 1 ≤ count
+    pub pairs : ℕ
+    pub fails : ByByte (shapes_of g.nodes) g.bodies (node_marks marks) (tail_marks marks) byte k Fails pairs
+    pub is : count ≡ 1 + pairs
     pub last : more ≡ true → q + 1 < length x
 
-  -- the turns end at a byte that decides so; or there is a turn at least
+  -- The byte behind the turns decides that the repetition ends there; or there is a turn at least.
   abbrev pub AreEnded : Bool → Turns → ℕ → Type 0
-  AreEnded true t count = (d : ℕ) × IsStayed t.star t.operand t.end d × (t.pairs ≡ count + d)
+  AreEnded true t count = (d : ℕ) × IsStopped t.operand t.end d × (t.pairs ≡ count + d)
   AreEnded false t count = (t.from < t.end) × (t.pairs ≡ count)
 
   -- what is told of a repetition from a place on

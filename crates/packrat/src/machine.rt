@@ -180,7 +180,9 @@ fn put_operands(log: &mut KeyLog, peg: &SoundPeg, window: &[u8], turns: Turns) -
         AreGiven peg.now window.now more links log.new.stored) }
 {
     if peg.is_key_node(turns.operand) {
-        log.put_steps(turns.operand, turns.from, turns.end)?;
+        if turns.from < turns.end {
+            log.put_steps(turns.operand, turns.from, turns.end)?;
+        }
     }
     Ok(())
 }
@@ -360,6 +362,15 @@ impl Machine {
         self.begun += turns.pairs;
         put_operands(&mut self.log, peg, window, turns)?;
         if turns.whole {
+            let last = Spot::Pair {
+                node: turns.operand,
+                place: turns.end,
+            };
+            let failed = Given {
+                found: Found::Failed,
+                events: 0,
+            };
+            close(&mut self.log, peg, window, last, is_key(peg, last), failed)?;
             let given = Given {
                 found: Found::Took(turns.end),
                 events: 0,
@@ -394,7 +405,8 @@ impl Machine {
         requires reached { IsReached peg.now window.now more (Turn.Ask spot) self.old.frames self.old.log.stored
             self.old.events self.old.begun }
         ensures rows { OnOk result (self.new.log.rows ≡ length peg.now.nodes) }
-        ensures stands { (root : Spot) → Stands peg.now window.now more peg.now.keys root (Turn.Ask spot) self.old.frames
+        ensures stands { (root : Spot) →
+            Stands peg.now window.now more peg.now.keys root (Turn.Ask spot) self.old.frames
             self.old.log.stored self.old.events self.old.begun →
             IfOk result (λ turn. AreOn peg.now window.now more peg.now.keys root turn
             self.new.frames self.new.log.stored self.new.events self.new.begun) }

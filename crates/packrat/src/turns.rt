@@ -55,7 +55,7 @@ fn closing(table: &RunTable, window: &[u8], at: usize, to: usize) -> Option<u128
 
 // Returns the sum of two numbers, if it fits.
 #[inline(always)]
-pub(crate) fn summed(a: u128, b: u128) -> Option<u128>
+fn summed(a: u128, b: u128) -> Option<u128>
     ensures { IfSome result (λ sum. sum ≡ a + b) }
 {
     if b <= u128::MAX - a {
@@ -86,17 +86,15 @@ pub(crate) fn find_turns(
         return None;
     }
     let run = table.run(window, from, to);
-    if !peg.is_key_node(operand) {
-        if let Some(last) = closing(table, window, run.end, to) {
-            return Some(Turns {
-                star,
-                operand,
-                from,
-                end: run.end,
-                pairs: summed(run.pairs, last)?,
-                whole: true,
-            });
-        }
+    if let Some(last) = closing(table, window, run.end, to) {
+        return Some(Turns {
+            star,
+            operand,
+            from,
+            end: run.end,
+            pairs: summed(run.pairs, last)?,
+            whole: true,
+        });
     }
     if run.end == from {
         return None;

@@ -1,5 +1,5 @@
 use Rattle.std.proofs.Common.{refl}
-use Rattle.packrat.proofs.TurnedLemmas.{closing_stays, turned_to}
+use Rattle.packrat.proofs.TurnedLemmas.{closing_stops, turned_to}
 use Rattle.packrat.proofs.turns.find_turns.Goals as goal
 
 pub returns-in-Some : goal.returns-in-Some
@@ -12,9 +12,9 @@ returns-in-Some c =
             c.requires.spelled c.sure_end-to.ensures.within c.sure_end-to.ensures.last table c.run-run.ensures,
         (
           c.in-Some.last,
-          closing_stays c.args.peg.now c.args.window.now c.args.more c.args.peg.now.keys c.args.star c.args.operand
+          closing_stops c.args.peg.now c.args.window.now c.args.more c.args.peg.now.keys c.args.operand
               c.run-run.result.end c.sure_end-to.result c.in-Some.last c.in_ok-table.table.now.entries.items
-              c.requires.at table (cc (c.is_key_node.ensures, c.if-not-is_key_node.true)) c.sure_end-to.ensures.last
+              table c.sure_end-to.ensures.last
               c.in-Some.ensures,
           c.in_ok-summed.ensures,
         ),

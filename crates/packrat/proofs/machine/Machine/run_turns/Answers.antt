@@ -5,9 +5,11 @@ use Rattle.memo.specs.KeyLog.{spots_of}
 use Rattle.pegmatch.proofs.NodeShapeLemmas.{node_within}
 use Rattle.memo.specs.declared.found.Found.TheVariants.{Took}
 use Rattle.packrat.specs.ByteGives.{turns_closed}
+use Rattle.packrat.specs.MachineSteps.{store}
 use Rattle.packrat.specs.Stands.{Stands}
 use Rattle.packrat.specs.Turned.{AreEnded}
 use Rattle.packrat.specs.declared.machine.Turn.TheVariants.{Ask, Answer}
+use Rattle.memo.specs.declared.spot.Spot.{Spot}
 use Rattle.memo.specs.declared.spot.Spot.TheVariants.{Pair}
 use Rattle.packrat.proofs.TurnedLemmas as L
 use Rattle.packrat.proofs.LeftLemmas as M
@@ -21,6 +23,13 @@ put_operands-requires-clause-operand c =
     let within = node_within c.args.peg.now.nodes t.star (Star t.operand) at in
     omega (arith, below, within)
 
+pub close-requires-clause-well : goal.close-requires-clause-well
+close-requires-clause-well c =
+    let t = c.args.turns in
+    let d = c.requires.free.decided in
+    L.operand_well c.args.peg.now c.args.window.now c.args.more c.args.peg.now.keys c.requires.sound t.star t.operand
+    t.from t.end d.0 d.1
+
 pub put_turns-requires-clause-star : goal.put_turns-requires-clause-star
 put_turns-requires-clause-star c =
     node_within c.args.peg.now.nodes c.args.turns.star (Star c.args.turns.operand) c.requires.free.decided.1.at
@@ -33,6 +42,8 @@ returns-in_ok-put_turns-clause-stands c = λ root s.
     c.if-turns.true d.2 in
     let sum = e.2 in
     let low = d.1.low in
+    let closed = c.in_ok-close.ensures.closed c.args.more c.args.peg.now.keys c.args.self.now.events
+    c.is_key.ensures in
     subst (λ v. Stands c.args.peg.now c.args.window.now c.args.more c.args.peg.now.keys root
     (Answer (record { found = Took t.end; events = 0 })) c.args.self.now.frames c.put_turns.new.log.stored
     c.args.self.now.events (c.args.self.now.begun + v)) (sym sum)
@@ -43,9 +54,14 @@ returns-in_ok-put_turns-clause-stands c = λ root s.
     (λ h. c.in_ok-put_turns.ensures.keeps c.args.more c.args.self.now.events
     (λ p from to. L.ended_given c.args.peg.now c.args.window.now c.args.more c.args.peg.now.keys c.requires.sound
     t.star t.operand t.from t.end d.0 d.1 c.args.self.now.events e.0 e.1 p from (omega (arith, low, to)))
-    (c.in_ok-put_operands.ensures.keeps c.args.more c.args.self.now.events d h)) e.0 e.1
+    (closed.keeps (L.stop_given c.args.peg.now c.args.window.now c.args.more c.args.peg.now.keys c.requires.sound
+    t.star t.operand t.from t.end d.0 d.1 c.args.self.now.events e.0 e.1)
+    (c.in_ok-put_operands.ensures.keeps c.args.more c.args.self.now.events d h))) e.0 e.1
     (subst (λ v. spots_of c.put_turns.new.log.stored ≡ turns_closed (node_marks c.args.peg.now.keys t.star) t.star
-    t.from (t.end + 1 - t.from) v) c.in_ok-put_operands.ensures.spots c.in_ok-put_turns.ensures.spots))
+    t.from (t.end + 1 - t.from) (store Spot (node_marks c.args.peg.now.keys t.operand) (Pair t.operand t.end) v))
+    c.in_ok-put_operands.ensures.spots
+    (subst (λ v. spots_of c.put_turns.new.log.stored ≡ turns_closed (node_marks c.args.peg.now.keys t.star) t.star
+    t.from (t.end + 1 - t.from) v) closed.spots c.in_ok-put_turns.ensures.spots)))
 
 pub returns-in_ok-put_turns-clause-less : goal.returns-in_ok-put_turns-clause-less
 returns-in_ok-put_turns-clause-less c = λ le.
@@ -54,7 +70,7 @@ returns-in_ok-put_turns-clause-less c = λ le.
     let e = subst (λ v. AreEnded c.args.peg.now c.args.window.now c.args.more c.args.peg.now.keys v t d.0)
     c.if-turns.true d.2 in
     let sum = e.2 in
-    let some = e.1.some in
+    let some = e.1.is in
     M.less_ended c.args.peg.now c.args.window.now t.star t.from (record { found = Took t.end; events = 0 })
     c.args.self.now.frames c.args.self.now.begun (c.args.self.now.begun + t.pairs) t.pairs refl
     (omega (arith, sum, some)) le
