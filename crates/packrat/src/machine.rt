@@ -1,11 +1,11 @@
 //! The machine: it evaluates by a loop over frames in place of recursion, and stores the keys alone.
 ghost use Rattle.std.specs.Prelude.{◌≡◌, ℕ, ◌+◌, ◌-◌, ◌*◌, ◌^◌, ◌<◌, ◌≤◌, Bool, true, List, [], ◌∷◌, length};
-ghost use Rattle.std.specs.Prelude.{slice_get, Some, IfOk, OnOk, IfSome, IfNone};
+ghost use Rattle.std.specs.Prelude.{◌++◌, slice_get, Some, IfOk, OnOk, IfSome, IfNone};
 ghost use Rattle.gramcheck.specs.Grammar.{HasKeys, IsSoundGrammar};
 ghost use Rattle.pegmatch.specs.Answers.{WasEnough};
 ghost use Rattle.eventlog.specs.EventLog.{IsHead, AreGrown};
 ghost use Rattle.eventlog.specs.declared.link.Link.{Link};
-ghost use Rattle.memo.specs.KeyLog.{spots_of};
+ghost use Rattle.memo.specs.KeyLog.{place_of, row_of, run_of, spots_of};
 ghost use Rattle.memo.specs.Parts.{IsIn};
 ghost use Rattle.memo.specs.declared.spot.Spot.{Spot};
 ghost use Rattle.gramcheck.specs.KeyLists.{Marks, node_marks};
@@ -93,6 +93,25 @@ fn close(
         log.put(spot, given)?;
     }
     Ok(())
+}
+
+// Ends the turns of a repetition from a spot's place to the last one, which all give this: they are stored.
+#[inline(always)]
+fn end_turns(
+    log: &mut KeyLog,
+    peg: &SoundPeg,
+    window: &[u8],
+    spot: Spot,
+    last: usize,
+    given: Given,
+) -> Result<(), Memory>
+    requires well { IsWell peg.now window.now spot }
+    requires rows { log.old.rows ≡ length peg.now.nodes }
+    ensures rows { OnOk result (log.new.rows ≡ length peg.now.nodes) }
+    ensures stored { OnOk result (log.new.stored ≡ run_of (row_of spot) (place_of spot) last given
+        ++ log.old.stored) }
+{
+    log.put_run(spot.row(), spot.place(), last, given)
 }
 
 // Waits for the last spot that a spot asks for, with the head of its events so far. A spot that is no key and has none
@@ -511,8 +530,7 @@ impl Machine {
         match frame.wait {
             Wait::First => self.after_first(peg, window, frame.spot, frame.key, given),
             Wait::Turned(last) => {
-                let spot = frame.spot;
-                self.log.put_run(spot.row(), spot.place(), last, given)?;
+                end_turns(&mut self.log, peg, window, frame.spot, last, given)?;
                 Ok(Turn::Answer(given))
             }
             Wait::Last(first) => {
