@@ -1,6 +1,7 @@
 -- The walk over the members of a node makes the turns of the machine.
 -- Serves: Packrat::match_unit
-use Rattle.std.proofs.Common.{◌≡◌, inr, ℕ, ◌+◌, ◌<◌, ◌≤◌, Bool, true, false, List, [], ◌∷◌, length, refl, sym, subst, arith, ◌∙◌}
+use Rattle.std.proofs.Common.{◌≡◌, inr, ℕ, ◌+◌, ◌<◌, ◌≤◌, Bool, true, false, List, [], ◌∷◌, length}
+use Rattle.std.proofs.Common.{refl, sym, subst, arith, ◌∙◌}
 use Rattle.pegread.specs.PegViews.{rules_of}
 use Rattle.gramcheck.specs.Grammar.{Grammar, HasKeys, IsSoundGrammar}
 use Rattle.gramcheck.specs.Nodes.{shapes_of}
@@ -67,8 +68,8 @@ module _ (g : Grammar) (x : List ℕ) where
     })
 
     module _ (given : Given) where
-      pub at_on : Stands g x more g.keys root (Answer given) (record { spot = a; key = key; wait = First } ∷ ls) st links n
-          → ((j : Spot) → IsFirst (rules_of g.rules) (shapes_of g.nodes) g.bodies x a j → (es : List Event)
+      pub at_on : Stands g x more g.keys root (Answer given) (record { spot = a; key = key; wait = First } ∷ ls) st links
+          n → ((j : Spot) → IsFirst (rules_of g.rules) (shapes_of g.nodes) g.bodies x a j → (es : List Event)
           → SpotYields g x more j given.found es → AfterOne g x more a j given.found es (way.Enters e))
           → AreWaiting key given.events a ls mid → StandsAt g x more root e mid st links n
       at_on s after w = record {
@@ -107,7 +108,8 @@ module _ (g : Grammar) (x : List ℕ) where
     member_asked = L.stands_entered g x more g.keys root e ls st links n s.stands inner (member_of e) s.led is_entered
 
     pub member_given : S (Answer given) inner now count
-    member_given = subst (S (Answer given) inner now) (sym counts) (L.stands_leaf g x more g.keys root (member_of e) inner st links n member_asked
+    member_given = subst (S (Answer given) inner now) (sym counts)
+        (L.stands_leaf g x more g.keys root (member_of e) inner st links n member_asked
         (λ t. absurd (cc (t, h.member))) now given st grown h.kids (h.gives more some)
         (L.closed_plain g x more g.keys now (member_of e) given st h.member))
 

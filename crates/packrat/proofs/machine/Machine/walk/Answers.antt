@@ -153,7 +153,8 @@ members-preserved c =
     let two = c.members.invariant.less in
     record {
       log = c.members.invariant.log;
-      stands = λ more some root s. W.walk_enters c.args.peg.now c.args.window.now more some root c.members.next c.members.self.frames
+      stands = λ more some root s. W.walk_enters c.args.peg.now c.args.window.now more some root c.members.next
+          c.members.self.frames
           c.members.self.log.stored c.members.self.events c.leaf_given.new.events c.members.self.begun
           (c.members.invariant.stands more some root s) c.in-Some.given c.in_ok-leaf_given.ensures.grown h
           c.counted-self.result c.counted-self.ensures
