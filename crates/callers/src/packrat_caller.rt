@@ -9,8 +9,8 @@ use packrat::Packrat;
 use pegmatch::ReplayFault;
 use std::alloc::Global;
 
-/// Returns what the actions of the start rule print at the front of a text, each node evaluated once at each place; none
-/// if the rule fails there.
+/// Returns what the actions of the start rule print at the front of a text, each node evaluated once at each place;
+/// none if the rule fails there.
 pub fn print_once(
     alloc: Global,
     peg: &SoundPeg,

@@ -60,11 +60,11 @@ Lifts shape v w = (g : MarkedNodes) (b n m c : ℕ)
     → Below (shapes_of g.nodes.now) g.bodies.now (mark_in g) (tail_in g) b m v c
     → ByShape (shapes_of g.nodes.now) g.bodies.now (mark_in g) (tail_in g) b n (shape m) w (1 + c)
 
-pub lifted : (shape : ℕ → Shape) (o : Decided) (v w u : Verdict) (r : Option Decided) → o.verdict ≡ v → u ≡ w
+pub verdict_lifted : (shape : ℕ → Shape) (o : Decided) (v w u : Verdict) (r : Option Decided) → o.verdict ≡ v → u ≡ w
     → Lifts shape v w → IfSome r (λ d. (d.verdict ≡ u) × (d.count ≡ 1 + o.count))
     → IfSome r (λ d. (g : MarkedNodes) (b n m : ℕ) → DecidesBelow g b m o → DecidesShape g b n (shape m) d)
-lifted shape o v w u None is same lifts h = tt
-lifted shape o v w u (Some d) is same lifts h = λ g b n m k.
+verdict_lifted shape o v w u None is same lifts h = tt
+verdict_lifted shape o v w u (Some d) is same lifts h = λ g b n m k.
     shape_of_sum g b n (1 + o.count) (shape m) w d (cc (h.0, same)) h.1
     (lifts g b n m o.count (below_of g b m v o is k))
 

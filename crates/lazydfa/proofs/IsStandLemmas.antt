@@ -62,19 +62,19 @@ module _ (tables : code_flat.Tables) (roots : GiveRoots (flat_of tables) tables.
     (letter : slice_get x j ≡ Some c) (class : IsClassOf (flat_of tables) samples c k) where
   module _ (ended : Bool) (hop : IsHopTo tables samples memo.cache.conts.items.items memo.cache.states.items (row + k)
       next ended) where
-    within : k < length samples
-    within = slice_get_within samples k class.sample class.is
+    class_within : k < length samples
+    class_within = slice_get_within samples k class.sample class.is
 
-    place : row + k ≡ before.state * length samples + k
-    place = ap (λ v. v + k) before.row
+    cell_place : row + k ≡ before.state * length samples + k
+    cell_place = ap (λ v. v + k) before.row
 
-    known : (d : ℕ) → slice_get samples k ≡ Some d
+    cell_known : (d : ℕ) → slice_get samples k ≡ Some d
         → IsCell tables d memo.cache.conts.items.items memo.cache.states.items before.state (To hop.to)
-    known d sample =
+    cell_known d sample =
         subst (λ v. IsCell tables d memo.cache.conts.items.items memo.cache.states.items v (To hop.to))
-        (row_is before.state k (length samples) (row + k) within place)
+        (row_is before.state k (length samples) (row + k) class_within cell_place)
         (hop.leads d (subst (λ v. slice_get samples v ≡ Some d)
-        (sym (class_is before.state k (length samples) (row + k) within place)) sample))
+        (sym (class_is before.state k (length samples) (row + k) class_within cell_place)) sample))
 
     track_to : IsSettled tables memo.cache.conts.items.items memo.cache.states.items memo.parts.items hop.to x (j + 1)
         → IsTrack tables samples memo x (record { row = next; at = j + 1 })
@@ -85,7 +85,7 @@ module _ (tables : code_flat.Tables) (roots : GiveRoots (flat_of tables) tables.
         runs = settled;
         reached = λ _. next_reached tables roots samples memo.cache.conts.items.items memo.cache.states.items
             memo.cache.cells.items is_memo.cached memo.parts.items x before.state j c k hop.to before.stands.runs
-            letter class known;
+            letter class cell_known;
       };
     }
 
@@ -93,13 +93,13 @@ module _ (tables : code_flat.Tables) (roots : GiveRoots (flat_of tables) tables.
     track_bare is =
         track_to (next_bare tables roots samples memo.cache.conts.items.items memo.cache.states.items
         memo.cache.cells.items is_memo.cached memo.parts.items x before.state j c k hop.to before.stands.runs letter
-        class known (none is))
+        class cell_known (none is))
 
     track_running : ended ≡ false → IsTrack tables samples memo x (record { row = next; at = j + 1 })
     track_running runs_on =
         track_to (next_running tables roots samples memo.cache.conts.items.items memo.cache.states.items
         memo.cache.cells.items is_memo.cached memo.parts.items x before.state j c k hop.to before.stands.runs letter
-        class known hop.there hop.there_is (hop.ended_is ∙ runs_on))
+        class cell_known hop.there hop.there_is (hop.ended_is ∙ runs_on))
 
   pub hop_taken : IsTaken memo.hops.items bare (row + k) next
       → IsTrack tables samples memo x (record { row = next; at = j + 1 })

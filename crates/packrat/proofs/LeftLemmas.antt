@@ -199,17 +199,17 @@ module _ (g : Grammar) (x : List ℕ) where
       subst (λ v. frames_cost Most v ≤ 1 + frames_cost Most fs) (sym h.2) (omega arith)
 
   -- a spot that begins, and asks for its first; it has a frame that waits, or none
-  down : (a k : Spot) (fs gs : List Frame) (begun now : ℕ) → now ≡ begun + weight a → now ≤ most_begun g x
+  spot_down : (a k : Spot) (fs gs : List Frame) (begun now : ℕ) → now ≡ begun + weight a → now ≤ most_begun g x
       → IsWell g x a → F a k → frames_cost Most gs ≤ wait_cost Most First a + frames_cost Most fs
       → left g x (Ask k) gs now < left g x (Ask a) fs begun
   unfolding left
-  down (Pair n p) k fs gs begun now is le w h few =
+  spot_down (Pair n p) k fs gs begun now is le w h few =
       let more = one_times (4 * Most + 4) (most_begun g x) begun (omega (arith, is, le)) in
       let cost = first_of_node (way_of n h.0) n p k h.2 in
       subst (λ v. (4 * Most + 4) * (most_begun g x - v) + (ask_cost Most k + frames_cost Most gs)
       < (4 * Most + 4) * (most_begun g x - begun) + (1 + frames_cost Most fs)) (sym is)
       (omega (arith, more, cost, few))
-  down (Tail n i p) k fs gs begun now is le w h few =
+  spot_down (Tail n i p) k fs gs begun now is le w h few =
       let lt = member_below n i p w in
       let same : now ≡ begun = omega (arith, is) in
       let cost = first_of_tail (way_of n h.0) n i p k h.2 in
@@ -248,7 +248,7 @@ module _ (g : Grammar) (x : List ℕ) where
       → now ≤ most_begun g x → IsWell g x a → F a k
       → left g x (Ask k) (record { spot = a; key = key; wait = First } ∷ fs) now < left g x (Ask a) fs begun
   less_down a k key fs begun now is le w h =
-      down a k fs (record { spot = a; key = key; wait = First } ∷ fs) begun now is le w h (omega arith)
+      spot_down a k fs (record { spot = a; key = key; wait = First } ∷ fs) begun now is le w h (omega arith)
 
   pub less_pass : (a k : Spot) (key : Bool) (head : ℕ) (fs gs : List Frame) (begun now : ℕ) → now ≡ begun + weight a
       → now ≤ most_begun g x → IsWell g x a → F a k → AreWaiting key head a fs gs
@@ -256,7 +256,7 @@ module _ (g : Grammar) (x : List ℕ) where
   less_pass a k key head fs gs begun now is le w h are =
       let some = waits_some First a in
       let few = waiting_costs key head a fs gs are in
-      down a k fs gs begun now is le w h (omega (arith, some, few))
+      spot_down a k fs gs begun now is le w h (omega (arith, some, few))
 
   -- a frame that asks for its last
   pub less_on : (a j k : Spot) (given : Given) (key : Bool) (head : ℕ) (fs gs : List Frame) (begun : ℕ)

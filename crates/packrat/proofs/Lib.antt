@@ -22,4 +22,4 @@ pub mod RunStepsLemmas
 pub mod RunTurnsLemmas
 pub mod TurnsGiveLemmas
 pub mod TurnedLemmas
-pub mod WalkLemmas
+pub mod MemberWalkLemmas

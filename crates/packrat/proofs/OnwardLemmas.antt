@@ -75,16 +75,16 @@ module _ (g : Grammar) (x : List ℕ) (more : Bool) (some : WasEnough x more 0) 
     kid_quiet : found ≡ Failed → es ≡ []
     kid_quiet is = L.none_of g x more some sound k p found es (subst (λ v. SG v found es) by d) is
 
-  took : (k p q : ℕ) (es : List Event) → NT k p q es
+  takes_there : (k p q : ℕ) (es : List Event) → NT k p q es
       → NodeTakes (rules_of g.rules) (shapes_of g.nodes) g.bodies x k p q
-  took k p q es t = L.took_of g x more some sound t
+  takes_there k p q es t = L.took_of g x more some sound t
 
-  failed : (k p : ℕ) → NF k p → NodeFails (rules_of g.rules) (shapes_of g.nodes) g.bodies x k p
-  failed k p d = L.failed_of g x more some sound d
+  fails_there : (k p : ℕ) → NF k p → NodeFails (rules_of g.rules) (shapes_of g.nodes) g.bodies x k p
+  fails_there k p d = L.failed_of g x more some sound d
 
   ends_within : (k p q : ℕ) (es : List Event) → p ≤ length x → NT k p q es → q ≤ length x
   ends_within k p q es le t = (goes_onward (rules_of g.rules) g.start (shapes_of g.nodes) g.bodies g.ranks x sound k p q
-      le (took k p q es t)).high
+      le (takes_there k p q es t)).high
 
   one_kid : (j k : Spot) → j ≡ k → j ∷ [] ≡ k ∷ []
   one_kid j k is = ap (λ v. v ∷ []) is
@@ -124,7 +124,7 @@ module _ (g : Grammar) (x : List ℕ) (more : Bool) (some : WasEnough x more 0) 
     star_none at is j h es d =
         let by : j ≡ Pair k p = by_first n p (node.Star k) at j h in
         let nf = kid_fails k p j found es by d is in (
-          (node.Star k, at, inl (failed k p nf, one_kid j (Pair k p) by)),
+          (node.Star k, at, inl (fails_there k p nf, one_kid j (Pair k p) by)),
           L.star_ends g x more some sound n k p w.0 at nf,
         )
 
@@ -133,7 +133,7 @@ module _ (g : Grammar) (x : List ℕ) (more : Bool) (some : WasEnough x more 0) 
         let by : j ≡ Pair k p = by_first n p (node.Star k) at j h in
         let nt = kid_takes k p j found es by d q is in (
           (
-            (node.Star k, at, inr (q, took k p q es nt, two_kids j (Pair k p) (Pair n q) by)),
+            (node.Star k, at, inr (q, takes_there k p q es nt, two_kids j (Pair k p) (Pair n q) by)),
             (λ f fs e. L.star_goes g x more some sound n k p w.0 q f es fs at nt e),
           ),
           (w.0, ends_within k p q es w.1 nt),
@@ -143,7 +143,7 @@ module _ (g : Grammar) (x : List ℕ) (more : Bool) (some : WasEnough x more 0) 
     plus_none s at is j h es d =
         let by : j ≡ Pair k p = by_first n p (node.Plus k s) at j h in
         let nf = kid_fails k p j found es by d is in (
-          (node.Plus k s, at, inl (failed k p nf, one_kid j (Pair k p) by)),
+          (node.Plus k s, at, inl (fails_there k p nf, one_kid j (Pair k p) by)),
           L.plus_failed g x more some sound n k p w.0 s at nf,
         )
 
@@ -152,7 +152,7 @@ module _ (g : Grammar) (x : List ℕ) (more : Bool) (some : WasEnough x more 0) 
         let by : j ≡ Pair k p = by_first n p (node.Plus k s) at j h in
         let nt = kid_takes k p j found es by d q is in (
           (
-            (node.Plus k s, at, inr (q, took k p q es nt, two_kids j (Pair k p) (Pair s q) by)),
+            (node.Plus k s, at, inr (q, takes_there k p q es nt, two_kids j (Pair k p) (Pair s q) by)),
             (λ f fs e. L.plus_goes g x more some sound n k p w.0 s q f es fs at nt e),
           ),
           (L.plus_repeats g x more some sound n k p w.0 s at, ends_within k p q es w.1 nt),
@@ -235,7 +235,7 @@ module _ (g : Grammar) (x : List ℕ) (more : Bool) (some : WasEnough x more 0) 
     member_none at is j h es d =
         let by = by_rest n i p (node.Seq ms) at j h in
         let nf = kid_fails by.0 p j found es by.2 d is in (
-          (node.Seq ms, at, (by.0, by.1, inl (inl (failed by.0 p nf), one_kid j (Pair by.0 p) by.2))),
+          (node.Seq ms, at, (by.0, by.1, inl (inl (fails_there by.0 p nf), one_kid j (Pair by.0 p) by.2))),
           L.rest_fails_at g x more some sound n i p by.0 ms by.1 at nf,
         )
 
@@ -257,7 +257,7 @@ module _ (g : Grammar) (x : List ℕ) (more : Bool) (some : WasEnough x more 0) 
           get_or ms (suc i) 0,
           q,
           slice_get-get_or ms (suc i) 0 lt,
-          took by.0 p q es nt,
+          takes_there by.0 p q es nt,
           two_kids j (Pair by.0 p) (Tail n (suc i) q) by.2,
         ) in
         subst (λ v. AfterOne g x more (Tail n i p) j found es (Passes (Tail n v q))) same (
@@ -272,7 +272,7 @@ module _ (g : Grammar) (x : List ℕ) (more : Bool) (some : WasEnough x more 0) 
     other_some q at is j h es d =
         let by = by_rest n i p (node.Choice ms) at j h in
         let nt = kid_takes by.0 p j found es by.2 d q is in (
-          (node.Choice ms, at, (by.0, by.1, inl (inl (q, took by.0 p q es nt), one_kid j (Pair by.0 p) by.2))),
+          (node.Choice ms, at, (by.0, by.1, inl (inl (q, takes_there by.0 p q es nt), one_kid j (Pair by.0 p) by.2))),
           subst (λ v. SG (Tail n i p) v es) (sym is) (L.other_takes g x more some sound n i p by.0 ms by.1 q es at nt),
         )
 
@@ -293,7 +293,7 @@ module _ (g : Grammar) (x : List ℕ) (more : Bool) (some : WasEnough x more 0) 
         let kids = inr (
           get_or ms (suc i) 0,
           slice_get-get_or ms (suc i) 0 lt,
-          failed by.0 p nf,
+          fails_there by.0 p nf,
           two_kids j (Pair by.0 p) (Tail n (suc i) p) by.2,
         ) in
         subst (λ v. AfterOne g x more (Tail n i p) j found v (Passes (Tail n e p))) (sym none)

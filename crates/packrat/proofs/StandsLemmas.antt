@@ -257,13 +257,14 @@ module _ (g : Grammar) (x : List ℕ) (more : Bool) (marks : Marks) where
     pub steps : SS root (Works (record { levels = levels; stored = st; begun = bg }))
 
   -- the levels without a frame end at once where an answer comes
-  ready : {links : List Link} {root b : Spot} {ls : List Frame} {fs : List (Level Spot)} {st bg : List Spot}
+  ready_when : {links : List Link} {root b : Spot} {ls : List Frame} {fs : List (Level Spot)} {st bg : List Spot}
       → L links root ls fs b
       → (given : Given) → G links b given → SS root (Works (record { levels = fs; stored = st; begun = bg }))
       → Ready links root ls given st bg
-  ready {root = root} levels_none given d s =
+  ready_when {root = root} levels_none given d s =
       record { levels = []; spot = root; are = (refl, refl); gives = d; steps = s }
-  ready {links = links} {root = root} (levels_frame {l = l} {b = b} {asked = asked} {ls = ls} {fs = fs} w t h r) given d
+  ready_when {links = links} {root = root}
+      (levels_frame {l = l} {b = b} {asked = asked} {ls = ls} {fs = fs} w t h r) given d
       s = record {
         levels = record { at = l.spot; asked = asked } ∷ fs;
         spot = b;
@@ -271,12 +272,12 @@ module _ (g : Grammar) (x : List ℕ) (more : Bool) (marks : Marks) where
         gives = d;
         steps = s;
       }
-  ready {links = links} {root = root} {st = st} {bg = bg}
+  ready_when {links = links} {root = root} {st = st} {bg = bg}
       (levels_passed {a = a} {b = b} {asked = asked} {fs = fs} t h r) given d s =
-      ready r given (given_passed links a b asked given h d)
+      ready_when r given (given_passed links a b asked given h d)
       (subst (λ v. SS root (Works (record { levels = fs; stored = store Spot v a st; begun = bg }))) t
       (steps_more s (step_last h.0)))
-  ready {links = links} {root = root}
+  ready_when {links = links} {root = root}
       (levels_turned {s = n} {k = k} {p = p} {last = last} {count = count} {ls = ls} {fs = fs} t key w r) given d s =
       record {
         levels = turns_on n k p (last + 1 - p) fs;
@@ -301,7 +302,7 @@ module _ (g : Grammar) (x : List ℕ) (more : Bool) (marks : Marks) where
 
   pub ready_of : {root : Spot} {given : Given} {ls : List Frame} {st : List Stored} {links : List Link} {n : ℕ}
       → (s : S root (Answer given) ls st links n) → Ready links root ls given (spots_of st) s.begun
-  ready_of {given = given} s = ready s.are given s.turns s.steps
+  ready_of {given = given} s = ready_when s.are given s.turns s.steps
 
   -- the levels of a spot that waits for its last one
   waiting_levels : (links : List Link) (root a b : Spot) (key : Bool) (head : ℕ) (es : List Event)
@@ -336,8 +337,8 @@ module _ (g : Grammar) (x : List ℕ) (more : Bool) (marks : Marks) where
     pub spot_here : a ≡ s.spot
     spot_here = s.turns.0
 
-    pub above : L links root ls s.levels a
-    above = subst (L links root ls s.levels) (sym spot_here) s.are
+    pub levels_above : L links root ls s.levels a
+    levels_above = subst (L links root ls s.levels) (sym spot_here) s.are
 
     pub stands_stored : (given : Given) → Key a ≡ true → IsIn (record { spot = a; given = given }) st
         → S root (Answer given) ls st links n
@@ -345,7 +346,7 @@ module _ (g : Grammar) (x : List ℕ) (more : Bool) (marks : Marks) where
       levels = s.levels;
       begun = s.begun;
       spot = a;
-      are = above;
+      are = levels_above;
       turns = s.given.given (record { spot = a; given = given }) i;
       given = s.given;
       is = s.is;
@@ -386,7 +387,7 @@ module _ (g : Grammar) (x : List ℕ) (more : Bool) (marks : Marks) where
         levels = s.levels;
         begun = a ∷ s.begun;
         spot = a;
-        are = levels_grown grown above;
+        are = levels_grown grown levels_above;
         turns = h;
         given = c.keeps h (keys_grown grown s.given);
         is = begin_counts;
@@ -400,7 +401,7 @@ module _ (g : Grammar) (x : List ℕ) (more : Bool) (marks : Marks) where
         levels = record { at = a; asked = k ∷ [] } ∷ s.levels;
         begun = a ∷ s.begun;
         spot = k;
-        are = levels_frame {l = record { spot = a; key = key; wait = First }} asked_well t (h.0, refl) above;
+        are = levels_frame {l = record { spot = a; key = key; wait = First }} asked_well t (h.0, refl) levels_above;
         turns = (refl, h.1);
         given = s.given;
         is = begin_counts;
@@ -416,7 +417,7 @@ module _ (g : Grammar) (x : List ℕ) (more : Bool) (marks : Marks) where
         begun = a ∷ s.begun;
         spot = k;
         are = waiting_levels links root a k key 0 [] (k ∷ []) ls new s.levels t asked_well
-            (head_none (shapes_of g.nodes) links) h.2 w above;
+            (head_none (shapes_of g.nodes) links) h.2 w levels_above;
         turns = (refl, h.1);
         given = s.given;
         is = begin_counts;
@@ -452,31 +453,32 @@ module _ (g : Grammar) (x : List ℕ) (more : Bool) (marks : Marks) where
         subst (λ v. SS root (Works (record { levels = v; stored = spots_of st; begun = bg }))) is s
 
     module _ (s : S root (Answer given) (record { spot = a; key = key; wait = First } ∷ ls) st links n) where
-      r : Ready links root (record { spot = a; key = key; wait = First } ∷ ls) given (spots_of st) s.begun
-      r = ready_of s
+      is_ready : Ready links root (record { spot = a; key = key; wait = First } ∷ ls) given (spots_of st) s.begun
+      is_ready = ready_of s
 
       as_first : SS root (Works (record {
-        levels = record { at = a; asked = r.spot ∷ [] } ∷ r.are.1;
+        levels = record { at = a; asked = is_ready.spot ∷ [] } ∷ is_ready.are.1;
         stored = spots_of st;
         begun = s.begun;
       }))
       as_first = subst (λ v. SS root (Works (record {
-        levels = record { at = a; asked = v } ∷ r.are.1;
+        levels = record { at = a; asked = v } ∷ is_ready.are.1;
         stored = spots_of st;
         begun = s.begun;
       })))
-          r.are.5.1
-          (at_levels s.begun r.levels (record { at = a; asked = r.are.0 } ∷ r.are.1) r.are.2 r.steps)
+          is_ready.are.5.1
+          (at_levels s.begun is_ready.levels (record { at = a; asked = is_ready.are.0 } ∷ is_ready.are.1)
+          is_ready.are.2 is_ready.steps)
 
       -- what is known behind the first spot that the frame waited for
       abbrev After : Onward → Type 0
       After o = (j : Spot) → F a j → (es : List Event) → SY j given.found es → AfterOne g x more a j given.found es o
 
-      after_here : (o : Onward) → After o → AfterOne g x more a r.spot given.found r.gives.events o
-      after_here o after = after r.spot r.are.5.0 r.gives.events r.gives.yields
+      after_here : (o : Onward) → After o → AfterOne g x more a is_ready.spot given.found is_ready.gives.events o
+      after_here o after = after is_ready.spot is_ready.are.5.0 is_ready.gives.events is_ready.gives.yields
 
       pub first_kid : Spot
-      first_kid = r.spot
+      first_kid = is_ready.spot
 
       pub second_kid : (k : Spot) → After (way.Passes k) → K a (first_kid ∷ (k ∷ []))
       unfolding first_kid
@@ -491,11 +493,12 @@ module _ (g : Grammar) (x : List ℕ) (more : Bool) (marks : Marks) where
       stands_on k new after w =
           let h = after_here (way.Passes k) after in
           record {
-            levels = record { at = a; asked = r.spot ∷ (k ∷ []) } ∷ r.are.1;
+            levels = record { at = a; asked = is_ready.spot ∷ (k ∷ []) } ∷ is_ready.are.1;
             begun = s.begun;
             spot = k;
-            are = waiting_levels links root a k key given.events r.gives.events (r.spot ∷ (k ∷ [])) ls new r.are.1
-                r.are.4 r.are.3 r.gives.head h.0 w r.are.6;
+            are = waiting_levels links root a k key given.events is_ready.gives.events
+                (is_ready.spot ∷ (k ∷ [])) ls new is_ready.are.1
+                is_ready.are.4 is_ready.are.3 is_ready.gives.head h.0 w is_ready.are.6;
             turns = (refl, h.1);
             given = s.given;
             is = s.is;
@@ -514,17 +517,18 @@ module _ (g : Grammar) (x : List ℕ) (more : Bool) (marks : Marks) where
           stands_entered root e mid st links n (stands_on (tail_of e) mid
           (λ j f es y. (after j f es y).0) w) new b (after_here (way.Enters e) after).1 i
 
-      ends : (own : Given) (new : List Stored) → K a (r.spot ∷ []) → G links a own → C links a own st new
+      spot_ends : (own : Given) (new : List Stored) → K a (is_ready.spot ∷ []) → G links a own → C links a own st new
           → S root (Answer own) ls new links n
-      ends own new kids h c = record {
-        levels = r.are.1;
+      spot_ends own new kids h c = record {
+        levels = is_ready.are.1;
         begun = s.begun;
         spot = a;
-        are = r.are.6;
+        are = is_ready.are.6;
         turns = h;
         given = c.keeps h s.given;
         is = s.is;
-        steps = subst (λ v. SS root (Works (record { levels = r.are.1; stored = v; begun = s.begun }))) (sym c.spots)
+        steps = subst (λ v. SS root (Works (record { levels = is_ready.are.1; stored = v; begun = s.begun })))
+            (sym c.spots)
             (steps_more as_first (step_last kids));
       }
 
@@ -533,15 +537,20 @@ module _ (g : Grammar) (x : List ℕ) (more : Bool) (marks : Marks) where
           → S root (Answer (record { found = f; events = 0 })) ls new links n
       stands_up f new after closed =
           let h = after_here (way.Gives f) after in
-          ends (record { found = f; events = 0 }) new h.0 (given_none links a f h.1) (closed r.are.4)
+          spot_ends (record { found = f; events = 0 }) new h.0 (given_none links a f h.1) (closed is_ready.are.4)
 
       pub stands_same : (new : List Stored) → After way.Same → (key ≡ Key a → C links a given st new)
           → S root (Answer given) ls new links n
       stands_same new after closed =
           let h = after_here way.Same after in
-          ends given new h.0
-          (record { events = r.gives.events; yields = h.1; quiet = r.gives.quiet; head = r.gives.head })
-          (closed r.are.4)
+          spot_ends given new h.0
+          (record {
+            events = is_ready.gives.events;
+            yields = h.1;
+            quiet = is_ready.gives.quiet;
+            head = is_ready.gives.head;
+          })
+          (closed is_ready.are.4)
 
     pub stands_last : (head : ℕ) → S root (Answer given) (record { spot = a; key = key; wait = Last head } ∷ ls) st
         links n → (more_links : List Link) (all : Given) (new : List Stored) → AreGrown links more_links

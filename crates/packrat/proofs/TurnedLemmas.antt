@@ -48,7 +48,7 @@ use Rattle.packrat.specs.declared.turns.Turns.{Turns}
 use Rattle.packrat.proofs.ByteGivesLemmas.{gives_by, star_has}
 use Rattle.packrat.proofs.RunStepsLemmas.{append_other}
 use Rattle.packrat.proofs.RunTurnsLemmas.{both_fronts, both_steps, turn_kids, turns_come, turns_end, turns_stop}
-use Rattle.packrat.proofs.StandsLemmas.{given_none, spot_here, above, ready_of}
+use Rattle.packrat.proofs.StandsLemmas.{given_none, spot_here, levels_above, ready_of}
 use Rattle.packrat.proofs.TurnsGiveLemmas.{turns_repeat}
 
 -- the pairs of a run stand as the levels of its turns store them
@@ -138,8 +138,8 @@ module _ (g : Grammar) (x : List ℕ) (more : Bool) (marks : Marks) where
     Gives k p = GivesBy (rules_of g.rules) (shapes_of g.nodes) g.bodies x k p Takes
 
     module _ (s k p q count : ℕ) (t : AreTurned g x more marks s k p q count) where
-      has : SpellsSome (rules_of g.rules) (shapes_of g.nodes) k
-      has = star_has (rules_of g.rules) g.start (shapes_of g.nodes) g.bodies g.ranks x sound s k t.at t.spelled
+      operand_has : SpellsSome (rules_of g.rules) (shapes_of g.nodes) k
+      operand_has = star_has (rules_of g.rules) g.start (shapes_of g.nodes) g.bodies g.ranks x sound s k t.at t.spelled
 
       taken_at : {n c : ℕ} → AreTurns (shapes_of g.nodes) g.bodies x (node_marks marks) (tail_marks marks) k p n c
           → (i : ℕ) → i < n → Gives k (p + i)
@@ -147,7 +147,7 @@ module _ (g : Grammar) (x : List ℕ) (more : Bool) (marks : Marks) where
       taken_at (turns_more {n = n} {b = b} r here h) i lt = elim (before_last i n lt) [
         | inl is ↦ subst (λ v. Gives k (p + v)) (sym is)
             (gives_by (rules_of g.rules) g.start (shapes_of g.nodes) g.bodies g.ranks x sound (node_marks marks)
-            (tail_marks marks) b (p + n) here h has)
+            (tail_marks marks) b (p + n) here h operand_has)
         | inr less ↦ taken_at r i less
       ]
 
@@ -209,7 +209,7 @@ module _ (g : Grammar) (x : List ℕ) (more : Bool) (marks : Marks) where
       stop_gives : (d : ℕ) → (e : IsStopped g x more marks k q d)
           → GivesBy (rules_of g.rules) (shapes_of g.nodes) g.bodies x k q Fails
       stop_gives d e = gives_by (rules_of g.rules) g.start (shapes_of g.nodes) g.bodies g.ranks x sound
-          (node_marks marks) (tail_marks marks) e.byte q e.here e.fails has
+          (node_marks marks) (tail_marks marks) e.byte q e.here e.fails operand_has
 
       -- the operand fails behind them
       pub stop_given : (links : List Link) (d : ℕ) → IsStopped g x more marks k q d
@@ -224,7 +224,7 @@ module _ (g : Grammar) (x : List ℕ) (more : Bool) (marks : Marks) where
           )
 
       pub operand_well : IsWell g x (Pair k q)
-      operand_well = (has, t.within)
+      operand_well = (operand_has, t.within)
 
       -- it ends behind them
       pub ended_given : (links : List Link) (d : ℕ) → IsStopped g x more marks k q d → (r : ℕ) → p ≤ r → r ≤ q
@@ -290,8 +290,8 @@ module _ (g : Grammar) (x : List ℕ) (more : Bool) (marks : Marks) (sound : IsS
     then_steps a b = both_steps (rules_of g.rules) g.start (shapes_of g.nodes) g.bodies g.ranks x sound body is_body
         (node_marks marks) (tail_marks marks) are s k t.at t.spelled a b
 
-    well : IsWell g x (Pair s p)
-    well = let low = t.low in let within = t.within in (t.spelled, omega (arith, low, within))
+    start_well : IsWell g x (Pair s p)
+    start_well = let low = t.low in let within = t.within in (t.spelled, omega (arith, low, within))
 
     passed_levels : {n c : ℕ} (links : List Link) (root : Spot) (ls : List Frame) (fs : List (Level Spot))
         → AreTurns (shapes_of g.nodes) g.bodies x (node_marks marks) (tail_marks marks) k p n c → n ≤ q - p
@@ -319,17 +319,17 @@ module _ (g : Grammar) (x : List ℕ) (more : Bool) (marks : Marks) (sound : IsS
     turned_level links root ls fs last is key r =
         subst (λ v. L links root (record { spot = Pair s p; key = true; wait = Turned last } ∷ ls)
         (turns_on s k p (v - p) fs) (Pair s v)) is
-        (levels_turned (subst (λ v. AreTurned g x more marks s k p v count) (sym is) t) key well r)
+        (levels_turned (subst (λ v. AreTurned g x more marks s k p v count) (sym is) t) key start_well r)
 
   module _ (t : Turns) (count : ℕ) (d : AreTurned g x more marks t.star t.operand t.from t.end count) where
-    along : (key : Bool) → node_marks marks t.star ≡ key → (links : List Link) (root : Spot) (ls new : List Frame)
+    goes_along : (key : Bool) → node_marks marks t.star ≡ key → (links : List Link) (root : Spot) (ls new : List Frame)
         (fs : List (Level Spot)) → AreTurnedFrames key t ls new → t.from < t.end
         → L links root ls fs (Pair t.star t.from)
         → L links root new (turns_on t.star t.operand t.from (t.end - t.from) fs) (Pair t.star t.end)
-    along true key links root ls new fs is lt r =
+    goes_along true key links root ls new fs is lt r =
         subst (λ v. L links root v (turns_on t.star t.operand t.from (t.end - t.from) fs) (Pair t.star t.end)) (sym is)
         (turned_level t.star t.operand t.from t.end count d links root ls fs (t.end - 1) (omega (arith, lt)) key r)
-    along false key links root ls new fs is lt r =
+    goes_along false key links root ls new fs is lt r =
         subst (λ v. L links root v (turns_on t.star t.operand t.from (t.end - t.from) fs) (Pair t.star t.end)) (sym is)
         (subst (λ v. L links root ls (turns_on t.star t.operand t.from (t.end - t.from) fs) (Pair t.star v))
         (to_end g x more marks sound t.star t.operand t.from t.end count d)
@@ -340,9 +340,9 @@ module _ (g : Grammar) (x : List ℕ) (more : Bool) (marks : Marks) (sound : IsS
         (fresh : (m : ℕ) → AreFresh (node_marks marks t.star) t.star t.from m (spots_of st))
         (free : (m : ℕ) → AreFresh (node_marks marks t.operand) t.operand t.from m (spots_of st))
         (keeps : AreGiven g x more links st → AreGiven g x more links su) where
-      here : SS root (Asks (Pair t.star t.from)
+      asks_there : SS root (Asks (Pair t.star t.from)
           (record { levels = h.levels; stored = spots_of st; begun = h.begun }))
-      here = asks_here root (Pair t.star t.from) ls st links n h
+      asks_there = asks_here root (Pair t.star t.from) ls st links n h
 
       -- the loop goes along the turns
       pub stands_along : (new : List Frame) → AreTurnedFrames (node_marks marks t.star) t ls new → t.from < t.end
@@ -359,8 +359,8 @@ module _ (g : Grammar) (x : List ℕ) (more : Bool) (marks : Marks) (sound : IsS
             levels = turns_on t.star t.operand t.from (t.end - t.from) h.levels;
             begun = come.front ++ h.begun;
             spot = Pair t.star t.end;
-            are = along (node_marks marks t.star) refl links root ls new h.levels frames lt
-                (above g x more marks root (Pair t.star t.from) ls st links n h);
+            are = goes_along (node_marks marks t.star) refl links root ls new h.levels frames lt
+                (levels_above g x more marks root (Pair t.star t.from) ls st links n h);
             turns = (refl, (d.spelled, d.within));
             given = keeps h.given;
             is = omega (arith, one, two, sum);
@@ -373,7 +373,7 @@ module _ (g : Grammar) (x : List ℕ) (more : Bool) (marks : Marks) (sound : IsS
                   levels = turns_on t.star t.operand t.from (t.end - t.from) h.levels;
                   stored = v;
                   begun = come.front ++ h.begun;
-                }))) (sym spots) (then_steps t.star t.operand t.from t.end count d here come.steps));
+                }))) (sym spots) (then_steps t.star t.operand t.from t.end count d asks_there come.steps));
           }
 
       -- the loop goes to the repetition's end
@@ -405,7 +405,7 @@ module _ (g : Grammar) (x : List ℕ) (more : Bool) (marks : Marks) (sound : IsS
             levels = h.levels;
             begun = come.front ++ h.begun;
             spot = Pair t.star t.from;
-            are = above g x more marks root (Pair t.star t.from) ls st links n h;
+            are = levels_above g x more marks root (Pair t.star t.from) ls st links n h;
             turns = ended_given g x more marks sound t.star t.operand t.from t.end count d links c e t.from
                 (omega arith) d.low;
             given = keeps h.given;
@@ -414,7 +414,7 @@ module _ (g : Grammar) (x : List ℕ) (more : Bool) (marks : Marks) (sound : IsS
               levels = h.levels;
               stored = v;
               begun = come.front ++ h.begun;
-            }))) (sym now) (then_steps t.star t.operand t.from t.end count d here come.steps);
+            }))) (sym now) (then_steps t.star t.operand t.from t.end count d asks_there come.steps);
           }
 
   -- an answer comes to the frame of turns

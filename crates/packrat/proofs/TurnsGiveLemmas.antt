@@ -93,7 +93,7 @@ module _ (g : Grammar) (x : List ℕ) (more : Bool) (sound : IsSoundGrammar g) (
           r.looked,
           r.gives,
           (λ is. let lt = last is in let before = d.1.2 is in let within = r.within in
-          omega (arith, lt, before, within)),
+              omega (arith, lt, before, within)),
           tt,
         ),
       )

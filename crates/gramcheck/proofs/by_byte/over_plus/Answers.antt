@@ -3,7 +3,7 @@ use Rattle.gramcheck.specs.Nodes.{Plus}
 use Rattle.gramcheck.specs.Decides.{DecidesBelow, DecidesShape}
 use Rattle.gramcheck.specs.declared.by_byte.Decided.{Decided}
 use Rattle.gramcheck.specs.declared.by_byte.MarkedNodes.{MarkedNodes}
-use Rattle.gramcheck.proofs.DecidesLemmas.{lifted, plus_fails_by}
+use Rattle.gramcheck.proofs.DecidesLemmas.{verdict_lifted, plus_fails_by}
 use Rattle.gramcheck.proofs.by_byte.over_plus.Goals as goal
 
 each_star : (o : Decided) (r : Option Decided)
@@ -14,4 +14,5 @@ each_star o (Some d) h = λ g b n m s. h s g b n m
 
 pub returns-in-Fails : goal.returns-in-Fails
 returns-in-Fails c = each_star c.args.operand c.summed.result (λ s.
-    lifted (λ m. Plus m s) c.args.operand _ _ _ c.summed.result c.in-Fails.is refl (plus_fails_by s) c.summed.ensures)
+    verdict_lifted (λ m. Plus m s) c.args.operand _ _ _ c.summed.result c.in-Fails.is refl (plus_fails_by s)
+    c.summed.ensures)

@@ -6,7 +6,7 @@ use Rattle.gramcheck.specs.Outcome.{Acted, Opened, Closed}
 use Rattle.pegmatch.specs.KeptEvents.{acted, opened, closed}
 use Rattle.pegmatch.proofs.NodeShapeLemmas.{shape_at}
 use Rattle.packrat.proofs.SpotGivesLemmas as L
-use Rattle.packrat.proofs.WalkLemmas as W
+use Rattle.packrat.proofs.MemberWalkLemmas as W
 use Rattle.packrat.proofs.walk.leaf_of.Goals as goal
 
 pub returns-in-Any : goal.returns-in-Any

@@ -4,7 +4,7 @@ use Rattle.packrat.specs.Onward.{tail_of}
 use Rattle.packrat.specs.declared.frames.Wait.TheVariants.{First}
 use Rattle.packrat.proofs.StandsLemmas as L
 use Rattle.packrat.proofs.LeftLemmas as M
-use Rattle.packrat.proofs.WalkLemmas as W
+use Rattle.packrat.proofs.MemberWalkLemmas as W
 use Rattle.packrat.proofs.machine.Machine.after_first.Goals as goal
 
 pub returns-in_ok-close-in-Gives-clause-stands : goal.returns-in_ok-close-in-Gives-clause-stands

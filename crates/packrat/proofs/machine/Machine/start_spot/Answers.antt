@@ -7,7 +7,7 @@ use Rattle.packrat.specs.Onward.{tail_of}
 use Rattle.packrat.specs.TurnsLeft.{left}
 use Rattle.packrat.proofs.StandsLemmas as L
 use Rattle.packrat.proofs.LeftLemmas as M
-use Rattle.packrat.proofs.WalkLemmas as W
+use Rattle.packrat.proofs.MemberWalkLemmas as W
 use Rattle.packrat.proofs.machine.Machine.start_spot.Goals as goal
 
 pub returns-in_ok-close-in-Gives-clause-stands : goal.returns-in_ok-close-in-Gives-clause-stands

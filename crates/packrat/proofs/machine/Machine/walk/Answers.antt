@@ -1,5 +1,5 @@
 use Rattle.std.proofs.Common.{refl, sym, arith}
-use Rattle.packrat.proofs.WalkLemmas as W
+use Rattle.packrat.proofs.MemberWalkLemmas as W
 use Rattle.packrat.proofs.StandsLemmas as L
 use Rattle.packrat.proofs.LeftLemmas as M
 use Rattle.packrat.proofs.machine.Machine.walk.Goals as goal

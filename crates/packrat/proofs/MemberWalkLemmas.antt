@@ -68,7 +68,8 @@ module _ (g : Grammar) (x : List ℕ) where
     })
 
     module _ (given : Given) where
-      pub at_on : Stands g x more g.keys root (Answer given) (record { spot = a; key = key; wait = First } ∷ ls) st links
+      pub at_on : Stands g x more g.keys root (Answer given)
+          (record { spot = a; key = key; wait = First } ∷ ls) st links
           n → ((j : Spot) → IsFirst (rules_of g.rules) (shapes_of g.nodes) g.bodies x a j → (es : List Event)
           → SpotYields g x more j given.found es → AfterOne g x more a j given.found es (way.Enters e))
           → AreWaiting key given.events a ls mid → StandsAt g x more root e mid st links n
@@ -117,33 +118,33 @@ module _ (g : Grammar) (x : List ℕ) where
     walk_only is = subst (λ v. S (Answer given) (entered v (tail_of e) ls) now count) is member_given
 
     module _ (others : e.only ≡ false) where
-      framed : S (Answer given) (waits ∷ ls) now count
-      framed = subst (λ v. S (Answer given) (entered v (tail_of e) ls) now count) others member_given
+      member_framed : S (Answer given) (waits ∷ ls) now count
+      member_framed = subst (λ v. S (Answer given) (entered v (tail_of e) ls) now count) others member_given
 
       pub walk_gives : (f : Found) → After (way.Gives f) → S (Answer (record { found = f; events = 0 })) ls now count
       walk_gives f after =
-          L.stands_up g x more g.keys root (tail_of e) given ls st now count false framed f st after
+          L.stands_up g x more g.keys root (tail_of e) given ls st now count false member_framed f st after
           (λ k. L.closed_plain g x more g.keys now (tail_of e) (record { found = f; events = 0 }) st h.tail)
 
       pub walk_same : After way.Same → S (Answer given) ls now count
       walk_same after =
-          L.stands_same g x more g.keys root (tail_of e) given ls st now count false framed st after
+          L.stands_same g x more g.keys root (tail_of e) given ls st now count false member_framed st after
           (λ k. L.closed_plain g x more g.keys now (tail_of e) given st h.tail)
 
       pub walk_passes : (k : Spot) (new : List Frame) → After (way.Passes k)
           → AreWaiting false given.events (tail_of e) ls new → S (Ask k) new now count
       walk_passes k new after w =
-          L.stands_on g x more g.keys root (tail_of e) given ls st now count false framed k new after w
+          L.stands_on g x more g.keys root (tail_of e) given ls st now count false member_framed k new after w
 
       pub walk_enters : (f : Entering) (new : List Frame) → After (way.Enters f)
           → AreWaiting false given.events (tail_of e) ls new → StandsAt g x more root f new st now count
-      walk_enters f new after w = at_on more root (tail_of e) ls st now count false f new given framed after w
+      walk_enters f new after w = at_on more root (tail_of e) ls st now count false f new given member_framed after w
 
       pub passes_kids : (k : Spot) → After (way.Passes k)
           → (j : Spot) × Kids (rules_of g.rules) (shapes_of g.nodes) g.bodies x (tail_of e) (j ∷ (k ∷ []))
       passes_kids k after = (
-        L.first_kid g x more g.keys root (tail_of e) given ls st now count false framed,
-        L.second_kid g x more g.keys root (tail_of e) given ls st now count false framed k after,
+        L.first_kid g x more g.keys root (tail_of e) given ls st now count false member_framed,
+        L.second_kid g x more g.keys root (tail_of e) given ls st now count false member_framed k after,
       )
 
     -- what is left
