@@ -104,7 +104,7 @@ fn leaf_given(
 }
 
 impl Machine {
-    // Enters a tail of a node with these members, likewise.
+    // Enters a tail of a node with these members, and goes on over those that give something at once.
     #[inline(always)]
     fn walk_row(
         &mut self,
