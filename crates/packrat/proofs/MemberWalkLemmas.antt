@@ -13,7 +13,7 @@ use Rattle.memo.specs.declared.found.Found.{Found}
 use Rattle.memo.specs.declared.key_log.Given.{Given}
 use Rattle.memo.specs.declared.key_log.Stored.{Stored}
 use Rattle.memo.specs.declared.spot.Spot.{Spot}
-use Rattle.memo.specs.declared.spot.Spot.TheVariants.{Pair}
+use Rattle.memo.specs.declared.spot.Spot.TheVariants.{Pair, Tail}
 use Rattle.packrat.specs.SpotGives.{SpotYields}
 use Rattle.packrat.specs.SpotSteps.{IsFirst}
 use Rattle.packrat.specs.Spots.{Kids}
@@ -36,7 +36,11 @@ use Rattle.gramcheck.specs.Outcome.{Gives}
 use Rattle.gramcheck.specs.Nodes.{Spells}
 use Rattle.pegmatch.specs.KeptEvents.{quiet_outcome}
 use Rattle.pegmatch.specs.declared.leaves.Tried.{Tried}
-use Rattle.packrat.specs.Walk.{IsSure, IsLeafOf}
+use Rattle.packrat.specs.Walk.{IsSure, IsLeafOf, Follows, row_shape}
+use Rattle.packrat.specs.Onward.{HasMember}
+use Rattle.packrat.specs.declared.onward.Row.{Row}
+use Rattle.packrat.specs.declared.onward.Row.TheVariants as rows
+use Rattle.std.specs.Prelude.{slice_get, Some}
 use Rattle.packrat.specs.declared.walk.Leaf.{Leaf}
 use Rattle.packrat.specs.declared.walk.Leaf.TheVariants as leaf
 use Rattle.packrat.specs.declared.onward.Begun.TheVariants as begun
@@ -68,9 +72,11 @@ module _ (g : Grammar) (x : List ℕ) where
     })
 
     module _ (given : Given) where
-      pub at_on : Stands g x more g.keys root (Answer given)
-          (record { spot = a; key = key; wait = First } ∷ ls) st links
-          n → ((j : Spot) → IsFirst (rules_of g.rules) (shapes_of g.nodes) g.bodies x a j → (es : List Event)
+      abbrev with_frame : List Frame
+      with_frame = record { spot = a; key = key; wait = First } ∷ ls
+
+      pub at_on : Stands g x more g.keys root (Answer given) with_frame st links n
+          → ((j : Spot) → IsFirst (rules_of g.rules) (shapes_of g.nodes) g.bodies x a j → (es : List Event)
           → SpotYields g x more j given.found es → AfterOne g x more a j given.found es (way.Enters e))
           → AreWaiting key given.events a ls mid → StandsAt g x more root e mid st links n
       at_on s after w = record {
@@ -78,6 +84,16 @@ module _ (g : Grammar) (x : List ℕ) where
             (λ j i es y. (after j i es y).0) w;
         led = L.tail_led g x more g.keys root a given ls st links n key s e after;
       }
+
+  row_has : (row : Row) (ms : List ℕ) (i : ℕ) → HasMember (row_shape row ms) i → i < length ms
+  row_has rows.Sequence ms i h = h
+  row_has rows.Choice ms i h = h
+
+  pub row_member : (row : Row) (ms : List ℕ) (n i p : ℕ) → slice_get (shapes_of g.nodes) n ≡ Some (row_shape row ms)
+      → IsWell g x (Tail n i p) → i < length ms
+  row_member row ms n i p at w =
+      let same : w.2.0 ≡ row_shape row ms = cc (w.2.1, at) in
+      row_has row ms i (subst (λ v. HasMember v i) same w.2.2)
 
   led_well : (more only : Bool) (a k : Spot) → IsLed g x more only a k → IsWell g x k
   led_well more true a k h = h.1
@@ -216,12 +232,6 @@ module _ (g : Grammar) (x : List ℕ) where
         (entered e.only (tail_of e) ls) st now count sound w.body keys
         (member_given w.more w.some (Pair w.root 0) e ls st links now n w.here given grown h count counts)
 
-    abbrev Known : Given → Onward → Type 0
-    Known given o = (more : Bool) → WasEnough x more 0 → (j : Spot)
-        → IsFirst (rules_of g.rules) (shapes_of g.nodes) g.bodies x (tail_of e) j
-        → (es : List Event) → SpotYields g x more j given.found es
-        → AfterOne g x more (tail_of e) j given.found es o
-
     module _ (now : List Link) (given : Given) (count : ℕ) (grown : AreGrown links now)
         (h : IsLeafGiven g x now e given) (counts : count ≡ n + weight (member_of e)) where
       pub reached_only : e.only ≡ true → left g x (Answer given) ls count < left g x (Ask (tail_of e)) ls n
@@ -233,13 +243,15 @@ module _ (g : Grammar) (x : List ℕ) where
       reached_answer is own = answer_less w.more w.some (Pair w.root 0) e ls st links now n w.here given grown h count
           counts (member_few now given count grown h counts) is own
 
-      pub reached_passes : e.only ≡ false → (k : Spot) (new : List Frame) → Known given (way.Passes k)
+      pub reached_passes : e.only ≡ false → (k : Spot) (new : List Frame)
+          → Follows g x (tail_of e) given.found (way.Passes k)
           → AreWaiting false given.events (tail_of e) ls new
           → left g x (Ask k) new count < left g x (Ask (tail_of e)) ls n
       reached_passes is k new after are = passes_less w.more w.some (Pair w.root 0) e ls st links now n w.here given
           grown h count counts (member_few now given count grown h counts) is k new (after w.more w.some) are
 
-      pub reached_enters : e.only ≡ false → (f : Entering) (new : List Frame) → Known given (way.Enters f)
+      pub reached_enters : e.only ≡ false → (f : Entering) (new : List Frame)
+          → Follows g x (tail_of e) given.found (way.Enters f)
           → AreWaiting false given.events (tail_of e) ls new
           → left g x (Ask (tail_of f)) new count < left g x (Ask (tail_of e)) ls n
       reached_enters is f new after are = enters_less w.more w.some (Pair w.root 0) e ls st links now n w.here given

@@ -1,18 +1,19 @@
 //! The walk over the members of a node: those that give something at once take no turn and no frame.
-ghost use Rattle.std.specs.Prelude.{◌≡◌, ℕ, ◌<◌, ◌≤◌, Bool, length, IfOk, OnOk, IfSome, IfNone};
+ghost use Rattle.std.specs.Prelude.{◌≡◌, ℕ, ◌<◌, ◌≤◌, Bool, length, IfOk, OnOk, IfSome, IfNone, slice_get, Some};
 ghost use Rattle.gramcheck.specs.Grammar.{HasKeys, IsSoundGrammar};
+ghost use Rattle.gramcheck.specs.Nodes.{shapes_of};
 ghost use Rattle.pegmatch.specs.Answers.{WasEnough};
 ghost use Rattle.eventlog.specs.EventLog.{AreGrown};
 ghost use Rattle.memo.specs.declared.spot.Spot.{Spot};
 ghost use Rattle.packrat.specs.Onward.{IsWell, tail_of, member_of};
 ghost use Rattle.packrat.specs.Stands.{Stands};
 ghost use Rattle.packrat.specs.TurnsLeft.{left};
-ghost use Rattle.packrat.specs.Walk.{IsSure, IsLeafOf, IsLeafGiven, StandsAt, IsReachedTail};
+ghost use Rattle.packrat.specs.Walk.{IsSure, IsLeafOf, IsLeafGiven, StandsAt, IsReachedTail, row_shape};
 ghost use Rattle.packrat.specs.declared.machine.Turn.{Turn};
 
 use crate::keys::is_key;
 use crate::machine::{Machine, Turn, counted, enter, wait_last};
-use crate::onward::{Entering, Onward, go_on_tail};
+use crate::onward::{Entering, Onward, Row, after_row};
 use eventlog::EventLog;
 use gramcheck::{Node, SoundPeg};
 use memo::{Found, Given, Spot};
@@ -103,19 +104,19 @@ fn leaf_given(
 }
 
 impl Machine {
-    /// Enters a tail, and goes on over its members that give something at once; returns what is asked for then, or what
-    /// the tail gives.
-    ///
-    /// # Errors
-    /// `Memory` if an allocation fails.
-    pub(crate) fn walk(
+    // Enters a tail of a node with these members, and goes on over those that give something at once.
+    #[inline(always)]
+    fn walk_row(
         &mut self,
         peg: &SoundPeg,
         window: &[u8],
+        row: Row,
+        members: &[usize],
         entering: Entering,
     ) -> Result<Turn, Memory>
         requires sound { IsSoundGrammar peg.now }
         requires keys { HasKeys peg.now }
+        requires shape { slice_get (shapes_of peg.now.nodes) entering.node ≡ Some (row_shape row members.now) }
         requires reached { IsReachedTail peg.now window.now entering self.old.frames self.old.log.stored self.old.events
             self.old.begun }
         ensures log { self.new.log ≡ self.old.log }
@@ -151,7 +152,7 @@ impl Machine {
                         return Ok(Turn::Answer(given));
                     }
                     let tail = Spot::Tail { node, index, place };
-                    match go_on_tail(peg, window, node, index, place, given.found) {
+                    match after_row(row, members, node, index, place, given.found) {
                         Onward::Gives(found) => {
                             return Ok(Turn::Answer(Given { found, events: 0 }));
                         }
@@ -166,6 +167,42 @@ impl Machine {
                         }
                     }
                 }
+            }
+        }
+    }
+
+    /// Enters a tail, and goes on over its members that give something at once; returns what is asked for then, or what
+    /// the tail gives.
+    ///
+    /// # Errors
+    /// `Memory` if an allocation fails.
+    pub(crate) fn walk(
+        &mut self,
+        peg: &SoundPeg,
+        window: &[u8],
+        entering: Entering,
+    ) -> Result<Turn, Memory>
+        requires sound { IsSoundGrammar peg.now }
+        requires keys { HasKeys peg.now }
+        requires reached { IsReachedTail peg.now window.now entering self.old.frames self.old.log.stored self.old.events
+            self.old.begun }
+        ensures log { self.new.log ≡ self.old.log }
+        ensures stands { (more : Bool) → WasEnough window.now more 0 → (root : Spot) →
+            StandsAt peg.now window.now more root entering self.old.frames self.old.log.stored self.old.events
+            self.old.begun →
+            IfOk result (λ turn. Stands peg.now window.now more peg.now.keys root turn
+            self.new.frames self.new.log.stored self.new.events self.new.begun) }
+        ensures less { IfOk result (λ turn. left peg.now window.now turn self.new.frames self.new.begun
+            ≤ left peg.now window.now (Turn.Ask (tail_of entering)) self.old.frames self.old.begun) }
+    {
+        match peg.node(entering.node) {
+            Node::Seq(members) => self.walk_row(peg, window, Row::Sequence, members, entering),
+            Node::Choice(alternatives) => {
+                self.walk_row(peg, window, Row::Choice, alternatives, entering)
+            }
+            _ => {
+                let asked = enter(&mut self.frames, peg, entering)?;
+                Ok(Turn::Ask(asked))
             }
         }
     }
