@@ -30,8 +30,7 @@ use Rattle.visits.specs.Visits.{NodeGives}
 use Rattle.visits.proofs.GivesLemmas.{name_gives, star_gives_none, not_gives_takes, not_gives_fails, plus_gives_fails}
 use Rattle.visits.proofs.GivesLemmas.{opt_gives_takes, opt_gives_none, and_gives_takes, and_gives_fails}
 use Rattle.visits.proofs.NodeGivesLemmas.{gives_as}
-use Rattle.memo.specs.declared.spot.Spot.{Spot}
-use Rattle.memo.specs.declared.spot.Spot.TheVariants.{Pair, Tail}
+use Rattle.memo.specs.declared.spot.Spot.TheVariants.{Pair}
 use Rattle.packrat.specs.ByteGives.{found_by, GivesBy}
 use Rattle.packrat.specs.SpotGives.{IsQuiet, SpotGives}
 use Rattle.packrat.proofs.SpotReachLemmas.{front_drop}

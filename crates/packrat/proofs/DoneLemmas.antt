@@ -1,5 +1,5 @@
 -- What an evaluation of the start rule's body from an empty log gives and leaves behind.
--- Serves: Packrat::match_unit, Packrat::replay
+-- Serves: Packrat::match_unit
 use Rattle.std.proofs.Common.{◌≡◌, ℕ, ◌+◌, ◌*◌, ◌≤◌, Bool, true, List, [], ◌∷◌, length, Option, Some, None, refl, sym}
 use Rattle.std.proofs.Common.{subst, arith}
 use Rattle.std.specs.Prelude.{slice_get}

@@ -22,4 +22,3 @@ pub mod RunStepsLemmas
 pub mod RunTurnsLemmas
 pub mod TurnsGiveLemmas
 pub mod TurnedLemmas
-pub mod MemberWalkLemmas

@@ -1,5 +1,5 @@
 -- The loop's turns are steps of the machine.
--- Serves: Packrat::match_unit, Packrat::replay
+-- Serves: Packrat::match_unit
 use Rattle.std.proofs.Common.{◌≡◌, ◌⊎◌, inl, inr, ℕ, ◌+◌, Bool, true, false, List, [], ◌∷◌, ◌++◌, length, Some}
 use Rattle.std.proofs.Common.{refl, sym, subst, ◌∙◌, arith, ◌*◌, ◌-◌, ◌≤◌}
 use Rattle.std.proofs.lemmas.List.{length-map}
@@ -507,9 +507,6 @@ module _ (g : Grammar) (x : List ℕ) (more : Bool) (marks : Marks) where
 
       pub tail_well : (e : Entering) → After (way.Enters e) → IsWell g x (tail_of e)
       tail_well e after = (after_here (way.Enters e) after).0.1
-
-      pub tail_led : (e : Entering) → After (way.Enters e) → IsLed g x more e.only (tail_of e) (member_of e)
-      tail_led e after = (after_here (way.Enters e) after).1
 
       pub stands_into : (e : Entering) (mid new : List Frame) (b : Spot) → After (way.Enters e)
           → AreWaiting key given.events a ls mid → IsEntered marks e mid new b → S root (Ask b) new st links n

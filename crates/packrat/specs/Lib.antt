@@ -10,4 +10,3 @@ pub mod Turned
 pub mod TurnsLeft
 pub mod Stands
 pub mod Done
-pub mod Walk

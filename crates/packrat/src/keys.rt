@@ -7,7 +7,6 @@ use gramcheck::SoundPeg;
 use memo::Spot;
 
 /// Tells whether a spot is a key of the grammar.
-#[inline(always)]
 pub(crate) fn is_key(peg: &SoundPeg, spot: Spot) -> bool
     ensures { result ≡ is_key_of (node_marks peg.now.keys) (tail_marks peg.now.keys) spot }
 {

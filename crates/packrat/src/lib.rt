@@ -10,7 +10,6 @@ mod machine;
 mod onward;
 mod packrat;
 mod turns;
-mod walk;
 
 pub use byte_laws::{
     fresh_above_mark, one_byte_decides, turns_close, turns_give, turns_run, turns_whole,

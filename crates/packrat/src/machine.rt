@@ -1,11 +1,11 @@
 //! The machine: it evaluates by a loop over frames in place of recursion, and stores the keys alone.
 ghost use Rattle.std.specs.Prelude.{◌≡◌, ℕ, ◌+◌, ◌-◌, ◌*◌, ◌^◌, ◌<◌, ◌≤◌, Bool, true, List, [], ◌∷◌, length};
-ghost use Rattle.std.specs.Prelude.{◌++◌, slice_get, Some, IfOk, OnOk, IfSome, IfNone};
+ghost use Rattle.std.specs.Prelude.{slice_get, Some, IfOk, OnOk, IfSome, IfNone};
 ghost use Rattle.gramcheck.specs.Grammar.{HasKeys, IsSoundGrammar};
 ghost use Rattle.pegmatch.specs.Answers.{WasEnough};
 ghost use Rattle.eventlog.specs.EventLog.{IsHead, AreGrown};
 ghost use Rattle.eventlog.specs.declared.link.Link.{Link};
-ghost use Rattle.memo.specs.KeyLog.{place_of, row_of, run_of, spots_of};
+ghost use Rattle.memo.specs.KeyLog.{spots_of};
 ghost use Rattle.memo.specs.Parts.{IsIn};
 ghost use Rattle.memo.specs.declared.spot.Spot.{Spot};
 ghost use Rattle.gramcheck.specs.KeyLists.{Marks, node_marks};
@@ -16,7 +16,6 @@ ghost use Rattle.packrat.specs.Onward.{IsWell};
 ghost use Rattle.packrat.specs.Stands.{Stands, IsClosed, AreOn, IsEvaluated, LowersLeft, key_of};
 ghost use Rattle.packrat.specs.Stands.{AreWaiting, IsWaitHead, IsEntered, IsJoined, GivenBy, AreGiven};
 ghost use Rattle.packrat.specs.View.{weight};
-ghost use Rattle.packrat.specs.Walk.{IsReached, IsReachedSome};
 ghost use Rattle.packrat.specs.declared.frames.Wait.{Wait};
 ghost use Rattle.packrat.specs.declared.machine.Turn.{Turn};
 
@@ -48,7 +47,7 @@ pub(crate) struct Machine {
 
 // Returns how many pairs are begun with this spot; there are no more than nodes at places.
 #[inline(always)]
-pub(crate) fn counted(nodes: usize, length: usize, begun: u128, spot: Spot) -> u128
+fn counted(nodes: usize, length: usize, begun: u128, spot: Spot) -> u128
     requires { begun ≤ nodes * (length + 1) }
     ensures { result ≡ begun + weight spot }
 {
@@ -95,34 +94,10 @@ fn close(
     Ok(())
 }
 
-// Ends the turns of a repetition from a spot's place to the last one, which all give this: they are stored.
-#[inline(always)]
-fn end_turns(
-    log: &mut KeyLog,
-    peg: &SoundPeg,
-    window: &[u8],
-    spot: Spot,
-    last: usize,
-    given: Given,
-) -> Result<(), Memory>
-    requires well { IsWell peg.now window.now spot }
-    requires rows { log.old.rows ≡ length peg.now.nodes }
-    ensures rows { OnOk result (log.new.rows ≡ length peg.now.nodes) }
-    ensures stored { OnOk result (log.new.stored ≡ run_of (row_of spot) (place_of spot) last given
-        ++ log.old.stored) }
-{
-    log.put_run(spot.row(), spot.place(), last, given)
-}
-
 // Waits for the last spot that a spot asks for, with the head of its events so far. A spot that is no key and has none
 // has no frame.
 #[inline(always)]
-pub(crate) fn wait_last(
-    frames: &mut Frames,
-    spot: Spot,
-    key: bool,
-    events: usize,
-) -> Result<(), Memory>
+fn wait_last(frames: &mut Frames, spot: Spot, key: bool, events: usize) -> Result<(), Memory>
     ensures { OnOk result (AreWaiting key events spot frames.old frames.new) }
 {
     if !key {
@@ -140,7 +115,7 @@ pub(crate) fn wait_last(
 // Enters a tail, and returns what is asked for then: a tail that is no key leads to its member at once, and has a frame
 // only if it has another member.
 #[inline(always)]
-pub(crate) fn enter(frames: &mut Frames, peg: &SoundPeg, entering: Entering) -> Result<Spot, Memory>
+fn enter(frames: &mut Frames, peg: &SoundPeg, entering: Entering) -> Result<Spot, Memory>
     ensures { IfOk result (λ spot. IsEntered peg.now.keys entering frames.old frames.new spot) }
 {
     let tail = Spot::Tail {
@@ -267,11 +242,6 @@ impl Machine {
         requires well { IsWell peg.now window.now spot }
         requires rows { self.old.log.rows ≡ length peg.now.nodes }
         requires few { self.old.begun ≤ most_begun peg.now window.now }
-        requires keys { HasKeys peg.now }
-        requires key { key ≡ key_of peg.now.keys spot }
-        requires fresh { key ≡ true → IsIn spot (spots_of self.old.log.stored) → ⊥ }
-        requires reached { IsReached peg.now window.now more (Turn.Ask spot) self.old.frames self.old.log.stored
-            self.old.events self.old.begun }
         ensures rows { OnOk result (self.new.log.rows ≡ length peg.now.nodes) }
         ensures stands { (root : Spot) → key ≡ key_of peg.now.keys spot →
             (key ≡ true → IsIn spot (spots_of self.old.log.stored) → ⊥) →
@@ -312,8 +282,8 @@ impl Machine {
             }
             Begun::Enters(entering) => {
                 wait_last(&mut self.frames, spot, key, 0)?;
-                let next = self.walk(peg, window, entering)?;
-                Ok(Some(next))
+                let next = enter(&mut self.frames, peg, entering)?;
+                Ok(Some(Turn::Ask(next)))
             }
             Begun::Need => Ok(None),
         }
@@ -420,9 +390,6 @@ impl Machine {
         requires well { IsWell peg.now window.now spot }
         requires rows { self.old.log.rows ≡ length peg.now.nodes }
         requires few { self.old.begun ≤ most_begun peg.now window.now }
-        requires keys { HasKeys peg.now }
-        requires reached { IsReached peg.now window.now more (Turn.Ask spot) self.old.frames self.old.log.stored
-            self.old.events self.old.begun }
         ensures rows { OnOk result (self.new.log.rows ≡ length peg.now.nodes) }
         ensures stands { (root : Spot) →
             Stands peg.now window.now more peg.now.keys root (Turn.Ask spot) self.old.frames
@@ -455,10 +422,6 @@ impl Machine {
     ) -> Result<Turn, Memory>
         requires sound { IsSoundGrammar peg.now }
         requires well { IsWell peg.now window.now spot }
-        requires keys { HasKeys peg.now }
-        requires reached { IsReachedSome peg.now window.now (Turn.Answer given)
-            (record { spot = spot; key = key; wait = Wait.First } ∷ self.old.frames)
-            self.old.log.stored self.old.events self.old.begun }
         requires rows { self.old.log.rows ≡ length peg.now.nodes }
         ensures rows { OnOk result (self.new.log.rows ≡ length peg.now.nodes) }
         ensures stands { (more : Bool) → WasEnough window.now more 0 → (root : Spot) →
@@ -491,8 +454,8 @@ impl Machine {
             }
             Onward::Enters(entering) => {
                 wait_last(&mut self.frames, spot, key, given.events)?;
-                let next = self.walk(peg, window, entering)?;
-                Ok(next)
+                let next = enter(&mut self.frames, peg, entering)?;
+                Ok(Turn::Ask(next))
             }
         }
     }
@@ -509,9 +472,6 @@ impl Machine {
         requires sound { IsSoundGrammar peg.now }
         requires keyed { IsKeyed peg.now }
         requires well { IsWell peg.now window.now frame.spot }
-        requires keys { HasKeys peg.now }
-        requires reached { IsReachedSome peg.now window.now (Turn.Answer given) (frame ∷ self.old.frames)
-            self.old.log.stored self.old.events self.old.begun }
         requires rows { self.old.log.rows ≡ length peg.now.nodes }
         requires first { IsWaitHead self.old.events frame.wait }
         requires second { IsHead self.old.events given.events }
@@ -530,7 +490,8 @@ impl Machine {
         match frame.wait {
             Wait::First => self.after_first(peg, window, frame.spot, frame.key, given),
             Wait::Turned(last) => {
-                end_turns(&mut self.log, peg, window, frame.spot, last, given)?;
+                let spot = frame.spot;
+                self.log.put_run(spot.row(), spot.place(), last, given)?;
                 Ok(Turn::Answer(given))
             }
             Wait::Last(first) => {

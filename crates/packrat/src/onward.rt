@@ -1,7 +1,7 @@
 //! How a spot goes on: what it gives at once, and what it asks for.
-ghost use Rattle.std.specs.Prelude.{◌≡◌, ℕ, ◌<◌, ◌≤◌, Bool, List, length, slice_get, Some};
+ghost use Rattle.std.specs.Prelude.{◌≡◌, ℕ, ◌<◌, ◌≤◌, Bool, List, length};
 ghost use Rattle.pegread.specs.PegViews.{rules_of};
-ghost use Rattle.gramcheck.specs.Grammar.{Grammar, IsSoundGrammar};
+ghost use Rattle.gramcheck.specs.Grammar.{IsSoundGrammar};
 ghost use Rattle.gramcheck.specs.Nodes.{shapes_of};
 ghost use Rattle.gramcheck.specs.Outcome.{Event};
 ghost use Rattle.pegmatch.specs.Answers.{WasEnough};
@@ -9,7 +9,6 @@ ghost use Rattle.memo.specs.declared.spot.Spot.{Spot};
 ghost use Rattle.packrat.specs.Onward.{IsWell, AfterNone, AfterOne, IsLeaf, led_to, entering_of};
 ghost use Rattle.packrat.specs.SpotGives.{SpotYields};
 ghost use Rattle.packrat.specs.SpotSteps.{IsFirst};
-ghost use Rattle.packrat.specs.Walk.{Follows, StaysAt, row_shape};
 
 use gramcheck::{Node, SoundPeg};
 use memo::{Found, Spot};
@@ -46,13 +45,6 @@ pub(crate) enum Onward {
     Same,
     Passes(Spot),
     Enters(Entering),
-}
-
-/// How members stand in their node: one after another, or each for the case that those before it fail.
-#[derive(Clone, Copy, PartialEq, Eq, Debug)]
-pub(crate) enum Row {
-    Sequence,
-    Choice,
 }
 
 // Returns the tail of a node with these members, from this one on.
@@ -245,47 +237,6 @@ fn go_on_node(peg: &SoundPeg, window: &[u8], node: usize, place: usize, found: F
     }
 }
 
-// How a tail of these members goes on at a place whose member gave this.
-#[inline(always)]
-pub(crate) fn after_row(
-    row: Row,
-    members: &[usize],
-    node: usize,
-    index: usize,
-    place: usize,
-    found: Found,
-) -> Onward
-    requires { index < length members.now }
-    ensures follows { (g : Grammar) → (x : List ℕ) → IsSoundGrammar g →
-        slice_get (shapes_of g.nodes) node ≡ Some (row_shape row members.now) →
-        IsWell g x (Spot.Tail node index place) → Follows g x (Spot.Tail node index place) found result }
-    ensures node { StaysAt node result }
-{
-    let further = index + 1;
-    match row {
-        Row::Sequence => match found {
-            Found::Failed => Onward::Gives(Found::Failed),
-            Found::Took(end) => {
-                if further < members.len() {
-                    Onward::Enters(tail_from(node, members, further, end))
-                } else {
-                    Onward::Same
-                }
-            }
-        },
-        Row::Choice => match found {
-            Found::Took(_) => Onward::Same,
-            Found::Failed => {
-                if further < members.len() {
-                    Onward::Enters(tail_from(node, members, further, place))
-                } else {
-                    Onward::Gives(Found::Failed)
-                }
-            }
-        },
-    }
-}
-
 // How a tail goes on at a place whose member gave this.
 #[inline(always)]
 fn go_on_tail(
@@ -304,15 +255,26 @@ fn go_on_tail(
         AfterOne peg.now window.now more (Spot.Tail node index place) j found events result }
 {
     match peg.node(node) {
-        Node::Seq(members) => after_row(Row::Sequence, members, node, index, place, found),
-        Node::Choice(alternatives) => after_row(
-            Row::Choice,
-            alternatives,
-            node,
-            index,
-            place,
-            found,
-        ),
+        Node::Seq(members) => match found {
+            Found::Failed => Onward::Gives(Found::Failed),
+            Found::Took(end) => {
+                if index + 1 < members.len() {
+                    Onward::Enters(tail_from(node, members, index + 1, end))
+                } else {
+                    Onward::Same
+                }
+            }
+        },
+        Node::Choice(alternatives) => match found {
+            Found::Took(_) => Onward::Same,
+            Found::Failed => {
+                if index + 1 < alternatives.len() {
+                    Onward::Enters(tail_from(node, alternatives, index + 1, place))
+                } else {
+                    Onward::Gives(Found::Failed)
+                }
+            }
+        },
         _ => Onward::Same,
     }
 }

@@ -1,39 +1,69 @@
-use Rattle.std.proofs.Common.{◌≡◌, ◌∙◌, ◌<◌, length}
-use Rattle.std.proofs.Common.{Some, subst, sym, ap}
+use Rattle.std.proofs.Common.{◌≡◌, ◌∙◌, suc, ◌+◌, ◌<◌, ◌≤◌, length}
+use Rattle.std.proofs.Common.{Some, subst, ap, arith}
 use Rattle.gramcheck.specs.Nodes as shape
+use Rattle.gramcheck.specs.Nodes.{spells_any, spells_bytes, spells_set}
 use Rattle.pegmatch.proofs.NodeShapeLemmas.{shape_at}
 use Rattle.packrat.specs.Onward.{HasMember}
 use Rattle.packrat.proofs.OnwardLemmas as M
 use Rattle.packrat.proofs.onward.go_on_tail.Goals as goal
 
-pub after_row-requires : goal.after_row-requires
-after_row-requires c =
+pub returns-in-Failed : goal.returns-in-Failed
+returns-in-Failed c = λ more some.
     let here = shape_at c.args.peg.now.nodes c.args.node _ (c.node.ensures ∙ ap Some c.in-Seq.is) in
     let well = c.requires.well in
-    let same : well.2.0 ≡ shape.Seq c.in-Seq.members.items = cc (well.2.1, here) in
-    let lt : c.args.index < length c.in-Seq.members.items = subst (λ v. HasMember v c.args.index) same well.2.2 in
-    rw c.deref.ensures.value lt
+    (M.member_none c.args.peg.now c.args.window.now more some c.requires.sound c.args.node c.args.index c.args.place
+    c.in-Seq.members.items c.args.found well here c.in-Failed.is)
 
-pub returns-in-Seq : goal.returns-in-Seq
-returns-in-Seq c = λ more some.
+pub returns-then-index-len : goal.returns-then-index-len
+returns-then-index-len c = λ more some.
     let here = shape_at c.args.peg.now.nodes c.args.node _ (c.node.ensures ∙ ap Some c.in-Seq.is) in
-    c.after_row.ensures.follows c.args.peg.now c.args.window.now c.requires.sound
-    (here ∙ ap (λ v. Some (shape.Seq v)) (sym c.deref.ensures.value)) c.requires.well more some
+    let well = c.requires.well in
+    let lt : c.args.index + 1 < length c.in-Seq.members.items = omega (arith, c.len.ensures, c.if-index-len.true) in
+    let same : suc c.args.index ≡ c.args.index + 1 = omega arith in
+    rw (c.tail_from.ensures, c.deref.ensures.value)
+    (M.member_enters c.args.peg.now c.args.window.now more some c.requires.sound c.args.node c.args.index c.args.place
+    c.in-Seq.members.items c.args.found well c.in-Took.end (c.args.index + 1) same here c.in-Took.is lt)
 
-pub after_row-requires-in-Choice : goal.after_row-requires-in-Choice
-after_row-requires-in-Choice c =
+pub returns-else-index-len : goal.returns-else-index-len
+returns-else-index-len c = λ more some.
+    let here = shape_at c.args.peg.now.nodes c.args.node _ (c.node.ensures ∙ ap Some c.in-Seq.is) in
+    let well = c.requires.well in
+    let le : length c.in-Seq.members.items ≤ suc c.args.index = omega (arith, c.len.ensures, c.if-index-len.false) in
+    (M.member_last c.args.peg.now c.args.window.now more some c.requires.sound c.args.node c.args.index c.args.place
+    c.in-Seq.members.items c.args.found well c.in-Took.end here c.in-Took.is le)
+
+pub returns-in-Took-found : goal.returns-in-Took-found
+returns-in-Took-found c = λ more some.
     let here = shape_at c.args.peg.now.nodes c.args.node _ (c.node.ensures ∙ ap Some c.in-Choice.is) in
     let well = c.requires.well in
-    let same : well.2.0 ≡ shape.Choice c.in-Choice.alternatives.items = cc (well.2.1, here) in
-    let lt : c.args.index < length c.in-Choice.alternatives.items =
-    subst (λ v. HasMember v c.args.index) same well.2.2 in
-    rw c.deref-in-Choice.ensures.value lt
+    (M.other_some c.args.peg.now c.args.window.now more some c.requires.sound c.args.node c.args.index c.args.place
+    c.in-Choice.alternatives.items c.args.found well c.in-Took-found.field-0 here c.in-Took-found.is)
 
-pub returns-in-Choice : goal.returns-in-Choice
-returns-in-Choice c = λ more some.
+pub returns-then-index-len-2 : goal.returns-then-index-len-2
+returns-then-index-len-2 c = λ more some.
     let here = shape_at c.args.peg.now.nodes c.args.node _ (c.node.ensures ∙ ap Some c.in-Choice.is) in
-    c.after_row-in-Choice.ensures.follows c.args.peg.now c.args.window.now c.requires.sound
-    (here ∙ ap (λ v. Some (shape.Choice v)) (sym c.deref-in-Choice.ensures.value)) c.requires.well more some
+    let well = c.requires.well in
+    let lt : c.args.index + 1 < length c.in-Choice.alternatives.items = omega (
+      arith,
+      c.len-in-Failed-found.ensures,
+      c.if-index-len-2.true,
+    ) in
+    let same : suc c.args.index ≡ c.args.index + 1 = omega arith in
+    rw (c.tail_from-then-index-len-2.ensures, c.deref-then-index-len-2.ensures.value)
+    (M.other_enters c.args.peg.now c.args.window.now more some c.requires.sound c.args.node c.args.index c.args.place
+    c.in-Choice.alternatives.items c.args.found well (c.args.index + 1) same here c.in-Failed-found.is lt)
+
+pub returns-else-index-len-2 : goal.returns-else-index-len-2
+returns-else-index-len-2 c = λ more some.
+    let here = shape_at c.args.peg.now.nodes c.args.node _ (c.node.ensures ∙ ap Some c.in-Choice.is) in
+    let well = c.requires.well in
+    let le : length c.in-Choice.alternatives.items ≤ suc c.args.index = omega (
+      arith,
+      c.len-in-Failed-found.ensures,
+      c.if-index-len-2.false,
+    ) in
+    (M.other_end c.args.peg.now c.args.window.now more some c.requires.sound c.args.node c.args.index c.args.place
+    c.in-Choice.alternatives.items c.args.found well here c.in-Failed-found.is le)
 
 pub returns-in_default : goal.returns-in_default
 returns-in_default c = λ more some.

@@ -1,10 +1,6 @@
-use Rattle.std.proofs.Common.{arith}
-use Rattle.memo.specs.declared.spot.Spot.TheVariants.{Pair}
-use Rattle.packrat.specs.Onward.{tail_of}
 use Rattle.packrat.specs.declared.frames.Wait.TheVariants.{First}
 use Rattle.packrat.proofs.StandsLemmas as L
 use Rattle.packrat.proofs.LeftLemmas as M
-use Rattle.packrat.proofs.MemberWalkLemmas as W
 use Rattle.packrat.proofs.machine.Machine.after_first.Goals as goal
 
 pub returns-in_ok-close-in-Gives-clause-stands : goal.returns-in_ok-close-in-Gives-clause-stands
@@ -48,37 +44,24 @@ returns-in_ok-wait_last-in-Passes-clause-less c = λ more some root s.
     c.args.self.now.frames c.args.self.now.log.stored c.args.self.now.events c.args.self.now.begun c.args.key s
     c.in-Passes.kid (c.in-Passes.ensures more some)) c.in_ok-wait_last-in-Passes.ensures
 
-pub walk-requires-clause-reached : goal.walk-requires-clause-reached
-walk-requires-clause-reached c =
-    let w = c.requires.reached in
-    record {
-      more = w.0;
-      some = w.1;
-      root = w.2.root;
-      body = w.2.body;
-      here = W.at_on c.args.peg.now c.args.window.now w.0 (Pair w.2.root 0) c.args.spot
-          c.args.self.now.frames c.args.self.now.log.stored c.args.self.now.events c.args.self.now.begun c.args.key
-          c.in-Enters.entering c.wait_last-in-Enters.new.frames c.args.given w.2.stands (c.in-Enters.ensures w.0 w.1)
-          c.in_ok-wait_last-in-Enters.ensures;
-    }
-
 pub returns-in_ok-next-in-Enters-clause-stands : goal.returns-in_ok-next-in-Enters-clause-stands
 returns-in_ok-next-in-Enters-clause-stands c = λ more some root s.
-    c.in_ok-next-in-Enters.ensures.stands more some root
-    (W.at_on c.args.peg.now c.args.window.now more root c.args.spot
-    c.args.self.now.frames c.args.self.now.log.stored c.args.self.now.events c.args.self.now.begun c.args.key
-    c.in-Enters.entering c.wait_last-in-Enters.new.frames c.args.given s (c.in-Enters.ensures more some)
-    c.in_ok-wait_last-in-Enters.ensures)
+    L.stands_into c.args.peg.now c.args.window.now more c.args.peg.now.keys root c.args.spot c.args.given
+    c.args.self.now.frames c.args.self.now.log.stored c.args.self.now.events c.args.self.now.begun c.args.key s
+    c.in-Enters.entering c.wait_last-in-Enters.new.frames c.enter.new.frames c.in_ok-next-in-Enters.next
+    (c.in-Enters.ensures more some) c.in_ok-wait_last-in-Enters.ensures c.in_ok-next-in-Enters.ensures
 
 pub returns-in_ok-next-in-Enters-clause-less : goal.returns-in_ok-next-in-Enters-clause-less
 returns-in_ok-next-in-Enters-clause-less c = λ more some root s.
-    let one = M.less_on c.args.peg.now c.args.window.now c.args.spot
+    M.less_on_in c.args.peg.now c.args.window.now c.args.peg.now.keys c.args.spot
     (L.first_kid c.args.peg.now c.args.window.now more c.args.peg.now.keys root c.args.spot c.args.given
     c.args.self.now.frames c.args.self.now.log.stored c.args.self.now.events c.args.self.now.begun c.args.key s)
-    (tail_of c.in-Enters.entering) c.args.given c.args.key c.args.given.events
-    c.args.self.now.frames c.wait_last-in-Enters.new.frames c.args.self.now.begun
+    c.in_ok-next-in-Enters.next c.in-Enters.entering c.args.given c.args.key c.args.given.events
+    c.args.self.now.frames c.wait_last-in-Enters.new.frames c.enter.new.frames c.args.self.now.begun
     (L.second_tail c.args.peg.now c.args.window.now more c.args.peg.now.keys root c.args.spot c.args.given
     c.args.self.now.frames c.args.self.now.log.stored c.args.self.now.events c.args.self.now.begun c.args.key s
-    c.in-Enters.entering (c.in-Enters.ensures more some)) c.in_ok-wait_last-in-Enters.ensures in
-    let two = c.in_ok-next-in-Enters.ensures.less in
-    omega (arith, one, two)
+    c.in-Enters.entering (c.in-Enters.ensures more some))
+    (L.tail_well c.args.peg.now c.args.window.now more c.args.peg.now.keys root c.args.spot c.args.given
+    c.args.self.now.frames c.args.self.now.log.stored c.args.self.now.events c.args.self.now.begun c.args.key s
+    c.in-Enters.entering (c.in-Enters.ensures more some))
+    c.in_ok-wait_last-in-Enters.ensures c.in_ok-next-in-Enters.ensures

@@ -23,14 +23,6 @@ ask-requires-clause-few c =
     c.turns.self.frames c.turns.self.log.stored c.turns.self.events c.turns.self.begun c.requires.sound c.requires.root
     c.requires.keys c.turns.invariant.stands
 
-pub ask-requires-clause-reached : goal.ask-requires-clause-reached
-ask-requires-clause-reached c = record {
-  root = c.args.root;
-  body = c.requires.root;
-  stands = L.stands_as c.args.peg.now c.args.window.now c.args.more c.args.peg.now.keys c.in-Ask.is refl refl refl
-      refl c.turns.invariant.stands;
-}
-
 pub turns-smaller-in-Some : goal.turns-smaller-in-Some
 turns-smaller-in-Some c =
     let stands = L.stands_as c.args.peg.now c.args.window.now c.args.more c.args.peg.now.keys c.in-Ask.is refl refl refl
@@ -92,18 +84,6 @@ resume-requires-clause-well c =
     c.turns.self.log.stored c.turns.self.events c.turns.self.begun
     (L.stands_as c.args.peg.now c.args.window.now c.args.more c.args.peg.now.keys c.in-Answer.is
     c.in-Some-pop.ensures.some refl refl refl c.turns.invariant.stands)
-
-pub resume-requires-clause-reached : goal.resume-requires-clause-reached
-resume-requires-clause-reached c = (
-  c.args.more,
-  c.requires.some,
-  record {
-    root = c.args.root;
-    body = c.requires.root;
-    stands = L.stands_as c.args.peg.now c.args.window.now c.args.more c.args.peg.now.keys c.in-Answer.is
-        c.in-Some-pop.ensures.some refl refl refl c.turns.invariant.stands;
-  },
-)
 
 pub resume-requires-clause-first : goal.resume-requires-clause-first
 resume-requires-clause-first c =

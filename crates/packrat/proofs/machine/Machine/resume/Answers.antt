@@ -2,18 +2,11 @@ use Rattle.std.proofs.Common.{◌≡◌, ◌<◌, ◌∷◌, ◌++◌, IfOk, sym
 use Rattle.packrat.specs.declared.machine.Turn.TheVariants.{Answer}
 use Rattle.packrat.specs.Stands.{Stands}
 use Rattle.packrat.specs.TurnsLeft.{left}
-use Rattle.packrat.specs.Walk.{IsReachedSome}
 use Rattle.packrat.proofs.StandsLemmas as L
 use Rattle.packrat.proofs.LeftLemmas as M
 use Rattle.memo.specs.KeyLog.{run_of, place_of}
 use Rattle.packrat.proofs.TurnedLemmas.{stands_back}
 use Rattle.packrat.proofs.machine.Machine.resume.Goals as goal
-
-pub after_first-requires-clause-reached : goal.after_first-requires-clause-reached
-after_first-requires-clause-reached c =
-    subst (λ v. IsReachedSome c.args.peg.now c.args.window.now (Answer c.args.given)
-    (record { spot = c.args.frame.spot; key = c.args.frame.key; wait = v } ∷ c.args.self.now.frames)
-    c.args.self.now.log.stored c.args.self.now.events c.args.self.now.begun) c.in-First.is c.requires.reached
 
 pub returns-in-First-clause-less : goal.returns-in-First-clause-less
 returns-in-First-clause-less c = λ more some root.
@@ -42,18 +35,21 @@ returns-in_ok-close-in-Last-clause-less c = λ more some root s.
     M.less_up c.args.peg.now c.args.window.now c.args.frame c.in_ok-all-in-Last.all c.args.given
     c.args.self.now.frames c.args.self.now.begun
 
-pub returns-in_ok-end_turns-in-Turned-clause-stands : goal.returns-in_ok-end_turns-in-Turned-clause-stands
-returns-in_ok-end_turns-in-Turned-clause-stands c = λ more some root s.
+pub returns-in_ok-put_run-in-Turned-clause-stands : goal.returns-in_ok-put_run-in-Turned-clause-stands
+returns-in_ok-put_run-in-Turned-clause-stands c = λ more some root s.
     stands_back c.args.peg.now c.args.window.now more c.args.peg.now.keys c.requires.sound c.requires.keyed.1.0
     c.requires.keyed.1.1 c.requires.keyed.0 root c.args.frame.spot c.args.given c.args.self.now.frames
-    c.args.self.now.log.stored c.end_turns.new.log.stored c.args.self.now.events c.args.self.now.begun c.in-Turned.last
+    c.args.self.now.log.stored c.put_run.new.self.stored c.args.self.now.events c.args.self.now.begun c.in-Turned.last
     c.args.frame.key
     (subst (λ v. Stands c.args.peg.now c.args.window.now more c.args.peg.now.keys root (Answer c.args.given)
     (record { spot = c.args.frame.spot; key = c.args.frame.key; wait = v } ∷ c.args.self.now.frames)
     c.args.self.now.log.stored c.args.self.now.events c.args.self.now.begun) c.in-Turned.is s)
-    c.in_ok-end_turns-in-Turned.ensures.stored
+    (subst (λ v. c.put_run.new.self.stored ≡ run_of v (place_of c.args.frame.spot) c.in-Turned.last c.args.given
+    ++ c.args.self.now.log.stored) c.row.ensures
+    (subst (λ v. c.put_run.new.self.stored ≡ run_of c.row.result v c.in-Turned.last c.args.given
+    ++ c.args.self.now.log.stored) c.place.ensures c.in_ok-put_run-in-Turned.ensures.stored))
 
-pub returns-in_ok-end_turns-in-Turned-clause-less : goal.returns-in_ok-end_turns-in-Turned-clause-less
-returns-in_ok-end_turns-in-Turned-clause-less c = λ more some root s.
+pub returns-in_ok-put_run-in-Turned-clause-less : goal.returns-in_ok-put_run-in-Turned-clause-less
+returns-in_ok-put_run-in-Turned-clause-less c = λ more some root s.
     M.less_up c.args.peg.now c.args.window.now c.args.frame c.args.given c.args.given
     c.args.self.now.frames c.args.self.now.begun

@@ -1,13 +1,12 @@
-use Rattle.std.proofs.Common.{◌<◌, refl, sym, subst, ◌∙◌, arith}
+use Rattle.std.proofs.Common.{◌<◌, ◌+◌, refl, sym, subst, ◌∙◌}
 use Rattle.memo.specs.declared.found.Found.TheVariants.{Took}
-use Rattle.memo.specs.declared.spot.Spot.TheVariants.{Pair}
 use Rattle.eventlog.proofs.KeptAtLemmas.{grown_same}
 use Rattle.packrat.specs.declared.machine.Turn.TheVariants.{Ask}
 use Rattle.packrat.specs.Onward.{tail_of}
 use Rattle.packrat.specs.TurnsLeft.{left}
+use Rattle.packrat.specs.View.{weight}
 use Rattle.packrat.proofs.StandsLemmas as L
 use Rattle.packrat.proofs.LeftLemmas as M
-use Rattle.packrat.proofs.MemberWalkLemmas as W
 use Rattle.packrat.proofs.machine.Machine.start_spot.Goals as goal
 
 pub returns-in_ok-close-in-Gives-clause-stands : goal.returns-in_ok-close-in-Gives-clause-stands
@@ -90,38 +89,23 @@ returns-in-Need-clause-stands c = λ root key fresh s.
     c.args.self.now.frames c.args.self.now.log.stored
     c.args.self.now.events c.args.self.now.begun s (λ t. fresh (key ∙ t)) c.in-Need.ensures
 
-pub walk-requires-clause-reached : goal.walk-requires-clause-reached
-walk-requires-clause-reached c = record {
-  more = c.args.more;
-  some = c.requires.some;
-  root = c.requires.reached.root;
-  body = c.requires.reached.body;
-  here = W.at_pass c.args.peg.now c.args.window.now c.args.more (Pair c.requires.reached.root 0) c.args.spot
-      c.args.self.now.frames c.args.self.now.log.stored c.args.self.now.events c.args.self.now.begun c.args.key
-      c.in-Enters.entering c.wait_last-in-Enters.new.frames c.requires.reached.stands c.requires.key c.requires.fresh
-      c.in-Enters.ensures c.in_ok-wait_last-in-Enters.ensures c.counted-self.result c.counted-self.ensures;
-}
-
 pub returns-in_ok-next-in-Enters-clause-stands : goal.returns-in_ok-next-in-Enters-clause-stands
 returns-in_ok-next-in-Enters-clause-stands c = λ root key fresh s.
-    c.in_ok-next-in-Enters.ensures.stands c.args.more c.requires.some root
-    (W.at_pass c.args.peg.now c.args.window.now c.args.more root c.args.spot
-    c.args.self.now.frames c.args.self.now.log.stored c.args.self.now.events c.args.self.now.begun c.args.key
-    c.in-Enters.entering c.wait_last-in-Enters.new.frames s key fresh
-    c.in-Enters.ensures c.in_ok-wait_last-in-Enters.ensures c.counted-self.result c.counted-self.ensures)
+    L.stands_as c.args.peg.now c.args.window.now c.args.more c.args.peg.now.keys refl refl refl refl
+    (sym c.counted-self.ensures)
+    (L.stands_entered c.args.peg.now c.args.window.now c.args.more c.args.peg.now.keys root c.in-Enters.entering
+    c.wait_last-in-Enters.new.frames c.args.self.now.log.stored c.args.self.now.events
+    (c.args.self.now.begun + weight c.args.spot)
+    (L.stands_pass c.args.peg.now c.args.window.now c.args.more c.args.peg.now.keys root c.args.spot
+    c.args.self.now.frames c.args.self.now.log.stored
+    c.args.self.now.events c.args.self.now.begun s (λ t. fresh (key ∙ t))
+    (tail_of c.in-Enters.entering) c.args.key c.wait_last-in-Enters.new.frames key c.in-Enters.ensures.0
+    c.in_ok-wait_last-in-Enters.ensures)
+    c.enter.new.frames c.in_ok-next-in-Enters.next c.in-Enters.ensures.1 c.in_ok-next-in-Enters.ensures)
 
 pub returns-in_ok-next-in-Enters-clause-less : goal.returns-in_ok-next-in-Enters-clause-less
 returns-in_ok-next-in-Enters-clause-less c = λ le.
-    let here = W.at_pass c.args.peg.now c.args.window.now c.args.more (Pair c.requires.reached.root 0) c.args.spot
-    c.args.self.now.frames c.args.self.now.log.stored c.args.self.now.events c.args.self.now.begun c.args.key
-    c.in-Enters.entering c.wait_last-in-Enters.new.frames c.requires.reached.stands c.requires.key c.requires.fresh
-    c.in-Enters.ensures c.in_ok-wait_last-in-Enters.ensures c.counted-self.result c.counted-self.ensures in
-    let few = L.stands_few c.args.peg.now c.args.window.now c.args.more c.args.peg.now.keys c.requires.reached.root
-    (Ask (tail_of c.in-Enters.entering)) c.wait_last-in-Enters.new.frames c.args.self.now.log.stored
-    c.args.self.now.events c.counted-self.result c.requires.sound c.requires.reached.body c.requires.keys
-    here.stands in
-    let one = M.less_pass c.args.peg.now c.args.window.now c.args.spot (tail_of c.in-Enters.entering) c.args.key 0
-    c.args.self.now.frames c.wait_last-in-Enters.new.frames c.args.self.now.begun c.counted-self.result
-    c.counted-self.ensures few c.requires.well c.in-Enters.ensures.0.0 c.in_ok-wait_last-in-Enters.ensures in
-    let two = c.in_ok-next-in-Enters.ensures.less in
-    omega (arith, one, two)
+    M.less_pass_in c.args.peg.now c.args.window.now c.args.peg.now.keys c.args.spot c.in_ok-next-in-Enters.next
+    c.in-Enters.entering c.args.key 0 c.args.self.now.frames c.wait_last-in-Enters.new.frames c.enter.new.frames
+    c.args.self.now.begun c.counted-self.result c.counted-self.ensures le c.requires.well c.in-Enters.ensures.0.0
+    c.in-Enters.ensures.0.1 c.in_ok-wait_last-in-Enters.ensures c.in_ok-next-in-Enters.ensures
