@@ -11,9 +11,9 @@ ghost use Rattle.toolrun.specs.declared.settings.Mode.TheVariants.{Run, Check, P
 
 use crate::engine::run_units;
 use crate::printing::{Printable, print_rules, read_again};
-use packrat::Packrat;
 use feed::Source;
 use gramcheck::{Checked, SoundPeg, check_peg};
+use packrat::Packrat;
 use pegread::{Peg, read_peg};
 use ruletable::{Memory, ReadFault, Sink, WriteFault};
 use std::alloc::Global;
