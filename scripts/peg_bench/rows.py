@@ -1,5 +1,5 @@
-"""The rows of run.py: each a grammar for pegi, the same for peg(1) with actions in C, the same for LPeg, and an input. All
-three print the same text."""
+"""The rows of run.py: each a grammar for pegi, the same for peg(1) with actions in C, the same for LPeg, and an input.
+All three print the same text."""
 import random
 
 # What the actions of peg(1)'s grammars print: a text and a line feed, or the text of the capture.
@@ -84,7 +84,7 @@ def of_peg(grammar, actions):
 
 
 def letters(size):
-    return ("".join(chr(random.Random(1).randrange(97, 123)) for _ in range(1)) + "username and more ") * (size // 18)
+    return "eusername and more " * (size // 18)
 
 
 def words(size):
@@ -140,7 +140,8 @@ def json(size):
 
 # A name, the options of pegi, the three grammars, and what makes an input of some size.
 ROWS = (
-    ("username", [], USERNAME, of_peg(USERNAME, [("{USER}", SAY % "USER"), ("{yytext}", CAPTURED)]), LUA_USERNAME, letters),
+    ("username", [], USERNAME, of_peg(USERNAME, [("{USER}", SAY % "USER"), ("{yytext}", CAPTURED)]), LUA_USERNAME,
+     letters),
     ("calculator", [], CALCULATOR, of_peg(CALCULATOR, [("{ %s }" % it, SAY % it) for it in "=+-*/"] +
                                           [("{ yytext }", CAPTURED)]), LUA_CALCULATOR, sums),
     ("json", ["-l", "16777216"], JSON, of_peg(JSON, [("{ yyleng }", "printf(\"%d\\n\", yyleng);")]), LUA_JSON, json),

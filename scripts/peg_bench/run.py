@@ -3,10 +3,10 @@
 
 usage: run.py [-n ROUNDS] [PROGRAM ..]
 
-The programs are builds of pegi; bin/pegi if none is given. Prints for each row of rows.py and each program the processor
-time a byte in nanoseconds, the least of so many rounds (5 if not given), on an input of one megabyte; the programs run in
-turn. Behind that stands the memory of one run more in MB, by time(1). LPeg is Lua's (Debian: lua5.3 and lua-lpeg); peg(1) is
-Debian's peg, whose parser is compiled by gcc -O2. What is not installed is left out.
+The programs are builds of pegi; bin/pegi if none is given. Prints for each row of rows.py and each program the
+processor time a byte in nanoseconds, the least of so many rounds (5 if not given), on an input of one megabyte; the
+programs run in turn. Behind that stands the memory of one run more in MB, by time(1). LPeg is Lua's (Debian: lua5.3
+and lua-lpeg); peg(1) is Debian's peg, whose parser is compiled by gcc -O2. What is not installed is left out.
 """
 import os
 import pathlib
@@ -57,7 +57,8 @@ def built(folder, grammar):
 
 def scripted(folder, program):
     """Returns the words that run LPeg's program, or none if Lua or LPeg is not installed."""
-    if not shutil.which("lua5.3") or subprocess.run(["lua5.3", "-e", 'require "lpeg"'], stderr=subprocess.DEVNULL).returncode:
+    asked = ["lua5.3", "-e", 'require "lpeg"']
+    if not shutil.which("lua5.3") or subprocess.run(asked, stderr=subprocess.DEVNULL, check=False).returncode:
         return None
     (folder / "it.lua").write_text(LUA_HEAD + program)
     return ["lua5.3", folder / "it.lua"]
@@ -88,7 +89,8 @@ def main(given):
             (folder / "grammar").write_text(grammar)
             words = [[it, *options, folder / "grammar"] for it in programs]
             found = measure(folder, [*words, scripted(folder, of_lua), built(folder, of_peg)], text, rounds)
-            print(f"| {name} | " + " | ".join(f"{it[0]:.1f} | {it[1]:.1f}" if it else " | " for it in found) + " |", flush=True)
+            told = " | ".join(f"{it[0]:.1f} | {it[1]:.1f}" if it else " | " for it in found)
+            print(f"| {name} | {told} |", flush=True)
             if len({it[2] for it in found if it}) > 1:
                 wrong += 1
                 print(f"{name}: they do not print the same")
