@@ -61,7 +61,7 @@ ALTERNATIVES = b'k = %s"Ab"\n  / "cd"\nK =/ 2*3%x78'
 LINES = b"Ab\nab\nCD\nxx\nxxxx\n"
 ABNF_PRINTED = abnf("a grammar in ABNF printed", ALTERNATIVES, b"", [b'k = %s"Ab" / "cd" / 2*3%x78\n'], words=PRINT)
 
-# The runs in which each growth is refused.
+# The runs in which each allocation fails.
 GROWING = [
     USERNAME,
     peg("a capture that rules share", b"S <- B <'a'> B <> B\nB <- {yytext.}", b"a", [b".\na.\n.\n"]),

@@ -20,7 +20,7 @@ fn take_body(alloc: Global, rules: &mut RuleTable<Elem>, id: usize) -> Elem
 
 /// Returns the file's rules, then the core rules that it leaves alone.
 ///
-/// `Memory` where a growth was refused.
+/// `Memory` if an allocation fails.
 pub fn join(
     alloc: Global,
     file: RuleTable<Elem>,

@@ -51,7 +51,7 @@ abbrev pub IsTooLarge : List Marked → ℕ → Marked → Type 0
 IsTooLarge ms i m = IsOver ms i × (is_bracket m ≡ false)
 
 -- The text is refused for that fault. Its length is looked at first, then the first token that is hopeless or over a
--- limit decides. Memory may want at any growth, but a text that is too long is refused for its length alone.
+-- limit decides. Any allocation may fail, but a text that is too long is refused for its length alone.
 abbrev pub IsFaultOf : List ℕ → ReadFault → Type 0
 IsFaultOf text (faults.Syntax line) = IsDecidedAt text line IsSyntax
 IsFaultOf text (faults.Depth line) = IsDecidedAt text line IsTooDeep

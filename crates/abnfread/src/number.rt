@@ -20,7 +20,7 @@ pub const MAX_VALUE: u32 = 4294967295;
 pub(crate) enum NumberFault {
     /// One is over the limit.
     TooLarge,
-    /// A growth was refused.
+    /// An allocation failed.
     Memory,
 }
 

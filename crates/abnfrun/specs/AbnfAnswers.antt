@@ -42,5 +42,5 @@ pub data AbnfStates (text : List ℕ) (settings : Settings) (input : Input) : Li
   -- it is only to be printed, and defines no rule again
   printed : (definitions : List Definition) → Reads text definitions → AreAgain definitions [] → settings.mode ≡ Print →
       AbnfStates text settings input [] (printed_rules (file_rules definitions))
-  -- a growth was refused in reading or checking the text, which is not too long
+  -- an allocation failed in reading or checking the text, which is not too long
   no_memory : IsFaultOf text Memory → AbnfStates text settings input [] (without_memory [] 0)

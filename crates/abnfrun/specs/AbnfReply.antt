@@ -56,13 +56,13 @@ AnswersFor rules judged settings = IsAnswerTo settings.letters settings.viable r
 abbrev pub form_of : Settings → LineForm
 form_of settings = record { limit = settings.limit; end = cond settings.nul 0 (code "\n") }
 
--- each line of the input is judged by that rule, and no growth is refused
+-- each line of the input is judged by that rule, and no allocation fails
 abbrev pub JudgeReplies : List Rule → ℕ → Settings → Input → Reply → Type 0
 JudgeReplies rules judged settings input reply =
     Replies (Lines (AnswersFor rules judged settings) (form_of settings) input)
     (Ends (AnswersFor rules judged settings) (form_of settings) input) (place_taken settings.limit input) reply
 
--- each line of the input is judged by that rule, or the first ones where a growth is refused
+-- each line of the input is judged by that rule, or the first ones if an allocation fails
 abbrev pub JudgeReply : List Rule → ℕ → Settings → Input → Reply → Type 0
 JudgeReply rules judged settings input reply = LinesReply (AnswersFor rules judged settings) (form_of settings) input
     reply

@@ -35,7 +35,7 @@ use toolrun::{Settings, Status, run_tool};
 ///   by `write error` on `err`: right behind the notes, or behind all else where the flush of `out` failed. Where `err`
 ///   fails in the notes, nothing is read, and nothing is written on `out`. Writers that have not failed are flushed
 ///   once at the end, `out` first.
-/// - Where a growth is refused, the answers before stand whole: `out of memory`, `NoMemory`.
+/// - If an allocation fails, the answers before stand whole: `out of memory`, `NoMemory`.
 pub fn run_abnf<R: Source, O: Sink, E: Sink>(
     alloc: Global,
     grammar: &[u8],

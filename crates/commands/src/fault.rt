@@ -45,7 +45,7 @@ fn show_help<O: Sink, E: Sink>(text: &str, out: &mut O, err: &mut E) -> Status
 }
 
 /// Ends a program whose words were not parsed: the help that was asked for goes to `out`, and what is wrong with the
-/// words to `err`. Where a growth was refused, `out of memory`.
+/// words to `err`. If an allocation fails, `out of memory`.
 pub fn end_unparsed<O: Sink, E: Sink>(
     alloc: Global,
     error: &Error,
@@ -87,7 +87,7 @@ fn invalid_utf8(alloc: Global, program: Program) -> Result<Error, AllocError>
     command.error(ErrorKind::ValueValidation, INVALID_UTF8)
 }
 
-/// Ends a program whose words are not all UTF-8 text: that is told on `err`, `Refused`. Where a growth was refused,
+/// Ends a program whose words are not all UTF-8 text: that is told on `err`, `Refused`. If an allocation fails,
 /// `out of memory`, `NoMemory`.
 pub fn refuse_invalid_utf8<O: Sink, E: Sink>(
     alloc: Global,

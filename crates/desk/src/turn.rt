@@ -53,7 +53,7 @@ fn leaf_turn(tried: Tried, window: &[u8], more: bool) -> Turn
     }
 }
 
-/// Hands on what a node gives at a place.
+/// Returns what a node gives at a place.
 pub(crate) fn same(found: Option<Found>, node: usize, place: usize) -> Turn
     ensures { result ≡ same_turn node place found }
 {
@@ -96,7 +96,7 @@ pub(crate) fn not(found: Option<Found>, operand: usize, place: usize) -> Turn
     }
 }
 
-/// Hands on what the node that goes on with a repetition gives at the end of one turn of it.
+/// Returns the result of the remainder of a repetition at the end of one turn of it.
 pub(crate) fn again(cells: &CellMap, node: usize, end: usize) -> Turn
     ensures { result ≡ again_turn node end (found_at cells.now node end) }
 {
@@ -168,7 +168,7 @@ fn all(cells: &CellMap, members: &[usize], next: usize, end: usize) -> Turn
     Turn::Answer(Found::Took(end))
 }
 
-// On through the alternatives that have cells.
+// Resumes a choice over the alternatives that have cells.
 fn first(cells: &CellMap, alternatives: &[usize], next: usize, place: usize) -> Turn
     ensures { HaveFailed cells.now place alternatives.now next → IsSearch cells.now alternatives.now place result }
 {

@@ -29,7 +29,7 @@ pub(crate) struct Analysis {
 /// Finds the nullable nodes, the left-recursive rules, the rules that repeat a nullable expression, and ranks of the
 /// nodes.
 ///
-/// `Memory` where a growth was refused.
+/// `Memory` if an allocation fails.
 pub(crate) fn analysed(alloc: Global, nodes: &[Node], bodies: &[usize]) -> Result<Analysis, Memory>
     requires built { IsBuilt (shapes_of nodes.now) }
     requires bodies { AreBelow bodies.now (length nodes.now) }

@@ -45,7 +45,7 @@ pub struct Checked<S> {
 /// The grammar has one node for each occurrence of an expression in the rules' bodies, and one more for each `+`.
 ///
 /// # Errors
-/// `Memory` where a growth was refused; the grammar is dropped then.
+/// `Memory` if an allocation fails; the grammar is dropped then.
 pub fn check_peg(alloc: Global, peg: Peg, start: Option<&str>) -> Result<Checked<SoundPeg>, Memory>
     ensures notes { IfOk result (λ c. AreNotes (rules_of peg.rules) (names_at (rules_of peg.rules) peg.redefined.items)
         (option_copied start.entry) (map said_of c.notes.items)) }

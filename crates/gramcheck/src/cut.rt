@@ -40,7 +40,7 @@ fn number_body(
 
 /// Cuts the bodies into nodes, rule by rule.
 ///
-/// `Memory` where a growth was refused.
+/// `Memory` if an allocation fails.
 pub(crate) fn cut_grammar(alloc: Global, rules: &RuleTable<Expr>) -> Result<Cut, Memory>
     requires { rules.now.names ≡ NameCase.Exact }
     ensures bodies { IfOk result (λ cut. AreBodies (rules_of rules.now) (shapes_of cut.nodes.items) cut.bodies.items) }

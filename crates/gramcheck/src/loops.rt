@@ -32,7 +32,7 @@ fn repeats(node: &Node, nulls: &[bool], marks: &[bool]) -> bool
 
 /// Marks the nodes within which a nullable one is repeated.
 ///
-/// `Memory` where a growth was refused.
+/// `Memory` if an allocation fails.
 pub(crate) fn loops(alloc: Global, nodes: &[Node], nulls: &[bool]) -> Result<Vec<bool>, Memory>
     requires built { IsBuilt (shapes_of nodes.now) }
     requires count { length nulls.now ≡ length nodes.now }
@@ -48,7 +48,7 @@ pub(crate) fn loops(alloc: Global, nodes: &[Node], nulls: &[bool]) -> Result<Vec
 
 /// Returns the marks of the rules' bodies.
 ///
-/// `Memory` where a growth was refused.
+/// `Memory` if an allocation fails.
 pub(crate) fn body_marks(
     alloc: Global,
     bodies: &[usize],

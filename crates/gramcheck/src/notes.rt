@@ -17,7 +17,7 @@ use std::alloc::Global;
 /// `redefined`, on names that no rule has, on rules that are not used, and on those marked as left-recursive and as
 /// looping.
 ///
-/// `Memory` where a growth was refused.
+/// `Memory` if an allocation fails.
 pub(crate) fn notes(
     alloc: Global,
     rules: &RuleTable<Expr>,
@@ -50,7 +50,7 @@ pub(crate) fn notes(
 /// Returns the notes on the rules that a grammar defines again, alone, by the order of the rules.
 ///
 /// # Errors
-/// `Memory` where a growth was refused.
+/// `Memory` if an allocation fails.
 pub fn redefinitions(alloc: Global, peg: &Peg) -> Result<Vec<Note>, Memory>
     ensures { IfOk result (λ notes. AreRedefinitions (rules_of peg.now.rules)
         (names_at (rules_of peg.now.rules) peg.now.redefined.items) (map said_of notes.items)) }

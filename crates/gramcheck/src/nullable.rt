@@ -63,7 +63,7 @@ fn needs<'a>(alloc: Global, nodes: &'a [Node], bodies: &'a [usize]) -> Result<Ve
 
 /// Returns the marks of the nullable nodes.
 ///
-/// `Memory` where a growth was refused.
+/// `Memory` if an allocation fails.
 pub(crate) fn nullable(alloc: Global, nodes: &[Node], bodies: &[usize]) -> Result<Vec<bool>, Memory>
     requires built { IsBuilt (shapes_of nodes.now) }
     requires bodies { AreBelow bodies.now (length nodes.now) }

@@ -47,7 +47,7 @@ fn print_needs<'a>(
 
 /// Returns the marks of the nodes that may print.
 ///
-/// `Memory` where a growth was refused.
+/// `Memory` if an allocation fails.
 pub(crate) fn print_marks(
     alloc: Global,
     nodes: &[Node],

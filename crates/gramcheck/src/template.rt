@@ -121,7 +121,7 @@ fn slots_of(alloc: Global, text: &[u8], from: usize, to: usize) -> Result<Vec<Sl
 
 /// Cuts an action's text.
 ///
-/// `Memory` where a growth was refused.
+/// `Memory` if an allocation fails.
 pub(crate) fn cut_template(alloc: Global, text: &[u8]) -> Result<Template, Memory>
     ensures { IfOk result (λ cut. IsCut text.now cut) }
 {
@@ -140,7 +140,7 @@ pub(crate) struct Templates {
 
 /// Cuts the templates of the actions among the nodes.
 ///
-/// `Memory` where a growth was refused.
+/// `Memory` if an allocation fails.
 pub(crate) fn cut_templates(alloc: Global, nodes: &[Node]) -> Result<Templates, Memory>
     ensures { IfOk result (λ all. AreCuts (shapes_of nodes.now) all.places.items all.cuts.items) }
 {

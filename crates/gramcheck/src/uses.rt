@@ -78,7 +78,7 @@ fn add_start(rules: &RuleTable<Expr>, start: Option<&str>, uses: &mut Uses) -> R
 
 /// Returns all uses in a grammar: that of its start rule, and then those in the rules' bodies.
 ///
-/// `Memory` where a growth was refused.
+/// `Memory` if an allocation fails.
 pub(crate) fn uses_of(
     alloc: Global,
     rules: &RuleTable<Expr>,

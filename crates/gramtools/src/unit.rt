@@ -25,7 +25,7 @@ pub enum Attempt {
     Failed,
     /// It would look at the last byte of a window behind which there is more.
     TooLong,
-    /// A growth was refused; nothing is printed.
+    /// An allocation failed; nothing is printed.
     NoMemory,
 }
 

@@ -25,7 +25,7 @@ use toolrun::Status;
 /// - `-h`: the help on `out`, `Done`.
 /// - Other words, or a value out of its range: what is wrong with them on `err`, `Refused`, and nothing is read.
 /// - A file that cannot be read: `cannot read the grammar`, `Fault`.
-/// - Where a growth was refused in parsing the words or reading the file: `out of memory`, `NoMemory`.
+/// - If an allocation fails in parsing the words or reading the file: `out of memory`, `NoMemory`.
 pub fn pegi_main<R: Files + AllocGlobal, I: Source, O: Sink, E: Sink>(
     rt: &R,
     words: &[String],

@@ -24,7 +24,7 @@ pub enum Unit {
 /// Why a replay stopped.
 #[derive(Clone, Copy, Debug, PartialEq, Eq, Error)]
 pub enum ReplayFault {
-    /// A growth was refused; nothing was written.
+    /// An allocation failed; nothing was written.
     #[error("out of memory")]
     Memory,
     /// The writer failed; a beginning was written.
@@ -44,7 +44,7 @@ pub trait Matcher {
     /// with the window.
     ///
     /// # Errors
-    /// `Memory` where a growth was refused.
+    /// `Memory` if an allocation fails.
     fn match_unit(&mut self, peg: &SoundPeg, window: &[u8], more: bool) -> Result<Unit, Memory>
         requires { more ≡ true → 0 < length window.now }
         ensures { IfOk result (IsAnswer peg.now window.now more (holds self.new peg.now window.now)) };
@@ -52,7 +52,7 @@ pub trait Matcher {
     /// Writes what the actions of its last success print, in order. It must hold a success for this grammar and window.
     ///
     /// # Errors
-    /// - `Memory` where a growth was refused; nothing was written.
+    /// - `Memory` if an allocation fails; nothing was written.
     /// - `Write` where the writer failed; a beginning was written.
     fn replay<W: Sink>(
         &mut self,

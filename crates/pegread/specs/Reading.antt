@@ -55,7 +55,7 @@ pub record IsDecidedAt (text : List ℕ) (line : ℕ) (Decides : List Tok → �
   pub line_is : line ≡ line_at Any text (start_of token)
 
 -- The text is refused for that fault. Its length is looked at first, then the first token that is hopeless or opens too
--- many brackets decides. Memory may want at any growth, but a text that is too long is refused for its length alone.
+-- many brackets decides. Any allocation may fail, but a text that is too long is refused for its length alone.
 abbrev pub IsFaultOf : List ℕ → ReadFault → Type 0
 IsFaultOf text (faults.Syntax line) = IsDecidedAt text line (λ ts i. IsHopeless ts i × (IsCodePredicate ts i → ⊥))
 IsFaultOf text (faults.CodePredicate line) = IsDecidedAt text line (λ ts i. IsHopeless ts i × IsCodePredicate ts i)

@@ -11,7 +11,7 @@ use std::alloc::Global;
 /// Returns the bytes that a literal's slice spells between its quotes. The slice must be one of a literal token.
 ///
 /// # Errors
-/// `Memory` where a growth was refused.
+/// `Memory` if an allocation fails.
 pub fn literal_bytes(alloc: Global, slice: &[u8]) -> Result<Vec<u8>, Memory>
     requires { IsLiteral slice.now }
     ensures { IfOk result (λ bytes. SpellsBytes slice.now bytes.items) }

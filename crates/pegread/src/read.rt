@@ -32,7 +32,7 @@ use std::alloc::Global;
 /// - Else the first token decides with which the text is no beginning of a grammar any more, or which opens one bracket
 ///   more than `MAX_OPEN` at once: `Depth` for the latter, `CodePredicate` for an action right behind `&`, and `Syntax`
 ///   for any other. The line is that of the token's first byte, where lines end with LF, CR LF or CR.
-/// - `Memory` where a growth was refused.
+/// - `Memory` if an allocation fails.
 pub fn read_peg(alloc: Global, text: &[u8]) -> Result<Peg, ReadFault>
     ensures long { MAX_GRAMMAR < length text.now → result ≡ Err ReadFault.TooLong }
     ensures found { IfOk result (λ peg. (definitions : List Rule) × Reads text.now definitions

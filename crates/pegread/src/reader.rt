@@ -19,7 +19,7 @@ use std::alloc::{AllocError, AllocFailed, Global};
 pub(crate) enum Stop {
     /// With this word the words so far begin no grammar.
     Hopeless,
-    /// A growth was refused.
+    /// An allocation failed.
     Memory,
 }
 

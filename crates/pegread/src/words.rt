@@ -39,7 +39,7 @@ pub(crate) enum Word<'a> {
 /// Returns what a token says; `None` for `Bad`, which says nothing.
 ///
 /// # Errors
-/// `Memory` where a growth was refused.
+/// `Memory` if an allocation fails.
 pub(crate) fn word_in(alloc: Global, token: Token<'_, Kind>) -> Result<Option<Word<'_>>, Memory>
     requires { IsCut token.kind token.slice.now }
     ensures { IfOk result (λ said. MatchOption said ((w : words.Word) → Says (tok_of token.entry) w → ⊥)

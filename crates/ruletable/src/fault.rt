@@ -24,7 +24,7 @@ pub enum ReadFault {
     /// More bytes than a grammar may have.
     #[error("grammar too long")]
     TooLong,
-    /// A growth was refused.
+    /// An allocation failed.
     #[error("out of memory")]
     Memory,
     /// A number over its limit.

@@ -28,7 +28,7 @@ pub trait Sink {
         ensures bytes { WriteAppends (contents self.old) (contents self.new) result bytes.now }
         ensures flag { Flags (failed self.old) (failed self.new) result };
 
-    /// Hands on what it holds back, or fails. A writer that has failed is not flushed.
+    /// Writes out what it holds back, or fails. A writer that has failed is not flushed.
     fn flush(&mut self) -> Result<(), WriteFault>
         requires { failed self.old ≡ false }
         ensures bytes { Keeps (contents self.old) (contents self.new) }

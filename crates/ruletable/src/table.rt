@@ -95,7 +95,7 @@ impl<E> RuleTable<E> {
         }
     }
 
-    /// Adds a rule as the last one, unless there is one of that name. `Memory` where a growth was refused; the table
+    /// Adds a rule as the last one, unless there is one of that name. `Memory` if an allocation fails; the table
     /// then stays as it was, as it does for a name that is there.
     pub fn define(&mut self, name: &[u8], body: E, span: Span) -> Result<Defined, Memory>
     where

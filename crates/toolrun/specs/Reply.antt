@@ -22,6 +22,6 @@ notes_alone status = record { out = []; err = []; status = status; taken = 0 }
 abbrev pub text_alone : List ℕ → Reply
 text_alone text = record { out = text; err = []; status = 0; taken = 0 }
 
--- a growth is refused after this output and so many bytes of input
+-- an allocation fails after this output and so many bytes of input
 abbrev pub without_memory : List ℕ → ℕ → Reply
 without_memory out taken = record { out = out; err = codes "out of memory\n"; status = 5; taken = taken }

@@ -26,7 +26,7 @@ module _ {Point : Type 0} (Before : Point → List ℕ → Type 0) (Ends : Point
     pub status : reply.status ≡ code_of (status_of stop)
     pub taken : reply.taken ≡ taken_at point
 
-  -- a run states its reply, or the text of the first steps where a growth is refused
+  -- a run states its reply, or the text of the first steps if an allocation fails
   pub data RunStates : Reply → Type 0 where
     replied : (reply : Reply) → Replies reply → RunStates reply
     no_memory : (point : Point) (out : List ℕ) (reply : Reply) → Before point out → Replies reply

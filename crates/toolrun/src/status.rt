@@ -15,7 +15,7 @@ pub enum Status {
     Overlong,
     /// A reader or a writer failed.
     Fault,
-    /// A growth was refused.
+    /// An allocation failed.
     NoMemory,
 }
 

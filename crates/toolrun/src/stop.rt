@@ -20,7 +20,7 @@ pub enum Stop {
     LongLine { line: usize, limit: usize },
     /// The reader failed before all that was to be looked at was held.
     Broken,
-    /// A growth was refused.
+    /// An allocation failed.
     NoMemory,
     /// The grammar's text has this fault.
     Refused(ReadFault),
