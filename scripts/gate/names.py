@@ -172,7 +172,7 @@ def of_long_lines(top, files):
 
 def main():
     """Prints what breaks the rules, by rule, and returns 1 where something does."""
-    top = pathlib.Path(__file__).resolve().parent.parent
+    top = pathlib.Path(__file__).resolve().parents[2]
     files = sources(top)
     rules = {
         "names of lemma files": of_lemma_names(files, definitions(top, files)),
