@@ -29,8 +29,8 @@ example: programs
 	@echo '$$ echo word | bin/abnfi crates/abnfi/data/word.abnf'
 	@echo word | bin/abnfi crates/abnfi/data/word.abnf
 
-# Each folder of examples/, compared with what it must print. The gate's tests hold the same texts. And the examples of the
-# manual pages, as they stand there.
+# Each folder of examples/, compared with what it must print, and the examples of the manual pages, as they stand there.
+# The gate runs them too; its tests hold the texts of most folders.
 examples: programs
 	@python3 scripts/docs/example_tests.py check
 	@sh scripts/docs/run_examples.sh

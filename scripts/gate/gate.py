@@ -1,8 +1,9 @@
 #!/usr/bin/env python3
 """The gate: the rules of names, the names in the documents, the form of the edits that must fail, the pages of the
 libraries and the completions; if these are green `rt ci`; if that is green too the programs as users run them: those
-that `rt ci` built are put into bin/, and run on random cases against slow answers, and with memory, writes, reads and
-stack refused; then what shells complete and what is packed is tested.
+that `rt ci` built are put into bin/, and run on the folders of examples/ and the examples of the manual pages, on
+random cases against slow answers, and with memory, writes, reads and stack refused; then what shells complete and what
+is packed is tested.
 
 usage: gate.py
 
@@ -22,8 +23,8 @@ BEFORE = (
     ("docs/example_tests.py", "check"), ("build/completions.py", "--check")
 )
 BEHIND = (
-    ("docs/man_examples.py",), ("oracles/random_cases.py", "-n", "5000", "-u", "-w", "-z"), ("gate/faults.py",),
-    ("gate/completions_test.py",), ("gate/package_test.py",)
+    ("docs/run_examples.sh",), ("docs/man_examples.py",), ("oracles/random_cases.py", "-n", "5000", "-u", "-w", "-z"),
+    ("gate/faults.py",), ("gate/completions_test.py",), ("gate/package_test.py",)
 )
 TOP = pathlib.Path(__file__).resolve().parents[2]
 RT = os.environ.get("RT", "rt").split()
@@ -31,7 +32,8 @@ RT = os.environ.get("RT", "rt").split()
 
 def script(name, *words):
     """Runs one of the scripts, and tells whether it ended well."""
-    return subprocess.run([sys.executable, "-B", TOP / "scripts" / name, *words], cwd=TOP, check=False).returncode == 0
+    by = ["sh"] if name.endswith(".sh") else [sys.executable, "-B"]
+    return subprocess.run([*by, TOP / "scripts" / name, *words], cwd=TOP, check=False).returncode == 0
 
 
 def ci():
