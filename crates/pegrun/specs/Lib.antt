@@ -1,0 +1,9 @@
+pub mod Answers
+pub mod Attempts
+pub mod Checking
+pub mod Noted
+pub mod PegTask
+pub mod PegPrinting
+pub mod PegReply
+pub mod PegStopped
+pub mod Units
