@@ -93,7 +93,7 @@ pub fn run_tool<T: Tool, R: Source, O: Sink, E: Sink>(
         (passed O.contents O.failed out.old out.new) (passed E.contents E.failed err.old err.new) (code_of result) }
 {
     let plan: Plan<T> = T::plan(alloc, grammar, settings);
-    if write_notes(plan.notes.as_slice(), err).is_err() {
+    if write_notes(alloc, plan.notes.as_slice(), err).is_err() {
         return close(out, err);
     }
     let stop = act(&plan.task, alloc, settings, reader, out);
