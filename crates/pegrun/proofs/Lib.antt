@@ -4,7 +4,6 @@ pub mod FirstsLemmas
 pub mod LooksOfStartLemmas
 pub mod NextUnitLemmas
 pub mod OneReplyLemmas
-pub mod PegTaskLemmas
 pub mod SomeReplyLemmas
 pub mod StatesLemmas
 pub mod StepLemmas

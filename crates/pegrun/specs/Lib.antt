@@ -1,9 +1,7 @@
 pub mod Answers
 pub mod Attempts
-pub mod Checking
 pub mod Noted
-pub mod PegTask
-pub mod PegPrinting
+pub mod PegLanguage
 pub mod PegReply
 pub mod PegStopped
 pub mod Units

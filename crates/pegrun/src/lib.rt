@@ -3,8 +3,7 @@
 
 mod engine;
 mod laws;
-mod peg_task;
-mod printing;
+mod peg_language;
 mod run;
 mod unit;
 

@@ -5,7 +5,7 @@ ghost use Rattle.pegrun.specs.Answers.{States};
 ghost use Rattle.toolrun.specs.Right.{IsRight};
 ghost use Rattle.toolrun.specs.Status.{code_of};
 
-use crate::peg_task::PegTask;
+use crate::peg_language::PegLanguage;
 use feed::Source;
 use ruletable::Sink;
 use std::alloc::Global;
@@ -57,5 +57,5 @@ pub fn run_peg<R: Source, O: Sink, E: Sink>(
           status = code_of result;
         })) }
 {
-    run_tool::<PegTask, R, O, E>(alloc, grammar, settings, reader, out, err)
+    run_tool::<PegLanguage, R, O, E>(alloc, grammar, settings, reader, out, err)
 }
