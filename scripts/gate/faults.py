@@ -129,9 +129,11 @@ def is_as_stated(run, ended):
 
 
 def may_go_on(run, number):
-    """Tells whether a run may go on without that growth. Earley's sets answer where the automaton has no memory."""
+    """Tells whether a run may go on without that growth. Earley's sets answer where the automaton has no memory, and
+    notes are written by pieces where there is none for their lines."""
     has_automaton = run.program == "abnfi" and "-m" not in run.words and run.name not in NO_AUTOMATON
-    return has_automaton or number <= len(run.words) + GROWTHS_OF_WORDS
+    has_notes = bool(run.told)
+    return has_automaton or has_notes or number <= len(run.words) + GROWTHS_OF_WORDS
 
 
 def refuse_each(tools, run, **more):

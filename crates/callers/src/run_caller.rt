@@ -1,16 +1,12 @@
-//! Callers of `gramtools`, `abnfrun` and `toolrun`: whole runs in memory.
+//! Callers of `gramtools`, `pegrun`, `abnfrun` and `toolrun`: whole runs in memory.
 ghost use Rattle.std.specs.Prelude.{Some, false};
-ghost use Rattle.abnfrun.specs.AbnfAnswers.{AbnfStates};
 ghost use Rattle.callers.specs.MemoryRun.{IsMemoryRun};
+ghost use Rattle.gramtools.specs.AbnfAnswers.{AbnfStates};
 ghost use Rattle.gramtools.specs.Answers.{States};
-ghost use Rattle.toolrun.specs.Status.{code_of};
+ghost use Rattle.gramtools.specs.Status.{code_of};
 
-use abnfrun::run_abnf;
-use feed::{Broken, Source};
-use gramtools::run_peg;
-use ruletable::SinkOf;
+use gramtools::{Broken, Settings, SinkOf, Source, Status, run_abnf, run_peg};
 use std::alloc::Global;
-use toolrun::{Settings, Status};
 
 /// A reader over bytes in memory, which never fails.
 #[derive(Drop)]

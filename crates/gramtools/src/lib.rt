@@ -1,16 +1,16 @@
-//! The peg tool: it reads a grammar, checks or prints it or runs it on an input, and answers on two writers.
+//! The door to both tools: their runs, their command lines, the bodies of their programs, and what these take and give.
+//! It has nothing of its own; each item comes from the crate that proves it.
 #![tactic(auto)]
 
-mod engine;
-mod laws;
-mod peg_task;
-mod printing;
-mod run;
-mod unit;
-
-pub use feed::{Broken, Source, SourceOf};
-pub use laws::{one_reply, one_statement};
-pub use run::run_peg;
+pub use abnfrun::{one_reply_of_abnf, one_statement_of_abnf, run_abnf};
+pub use commands::{
+    Asked, Job, Program, Unready, abnfi_command, end_unready, is_a_simple_command, parse,
+    pegi_command, read_job, read_words, refuse_invalid_utf8, settings_of,
+};
+pub use feed::{Broken, Feed, Flow, Held, Source, SourceOf};
+pub use mains::{abnfi_main, pegi_main};
+pub use pegrun::{one_reply, one_statement, run_peg};
+pub use ruletable::{Sink, SinkOf, WriteFault};
 pub use toolrun::{
     Alphabet, DEFAULT_LIMIT, MAX_LIMIT, Mode, Settings, Status, Stop, close_run, end_run,
 };

@@ -1,9 +1,7 @@
 //! Whole runs of the ABNF tool: lines, their answers, notes, and where a run ends.
 
 use crate::ends::{Ends, run_over, settings_of};
-use abnfrun::{one_reply_of_abnf, one_statement_of_abnf};
-use commands::Program;
-use gramtools::{Alphabet, Mode, Status};
+use gramtools::{Alphabet, Mode, Program, Status, one_reply_of_abnf, one_statement_of_abnf};
 use std::process::Abort;
 
 // A grammar, the judged rule, how many bytes a line may have, an input, what is to come on both outputs, the status,

@@ -1,8 +1,7 @@
 //! Whole runs of `pegi`, with the grammar in a file.
 
 use crate::command_words::{CommandRow, check_rows, run_on};
-use commands::Program;
-use gramtools::Status;
+use gramtools::{Program, Status};
 use std::test::Fail;
 
 static ROWS: [CommandRow; 31] = [

@@ -1,11 +1,9 @@
 //! The programs' words, their files, and what they write, over readers and writers in memory.
 
-use commands::{
-    Asked, Program, abnfi_command, is_a_simple_command, parse, pegi_command, read_words,
-    refuse_invalid_utf8, settings_of,
+use gramtools::{
+    Asked, Mode, Program, SourceOf, Status, abnfi_command, abnfi_main, is_a_simple_command, parse,
+    pegi_command, pegi_main, read_words, refuse_invalid_utf8, settings_of,
 };
-use gramtools::{Mode, SourceOf, Status};
-use mains::{abnfi_main, pegi_main};
 use ruletable::SinkOf;
 use std::alloc::Global;
 use std::fs;

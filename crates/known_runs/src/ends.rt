@@ -1,9 +1,9 @@
 //! Runs over a reader and writers in memory.
 
-use abnfrun::run_abnf;
-use commands::Program;
 use fakes::{ALL, Paper, Takes, Tape};
-use gramtools::{Alphabet, MAX_LIMIT, Mode, Settings, SourceOf, Status, run_peg};
+use gramtools::{
+    Alphabet, MAX_LIMIT, Mode, Program, Settings, SourceOf, Status, run_abnf, run_peg,
+};
 use ruletable::SinkOf;
 use std::alloc::Global;
 use std::cell::Cell;

@@ -1,8 +1,7 @@
 //! Whole runs of the ABNF tool over records that end with NUL.
 
 use crate::ends::{Ends, run_over, settings_of};
-use commands::Program;
-use gramtools::{Mode, Status};
+use gramtools::{Mode, Program, Status};
 use std::process::Abort;
 
 // Whether viable beginnings are told, an input, what is to come on both outputs, and the status.

@@ -1,8 +1,7 @@
 //! Whole runs of `abnfi` on repetitions with large numbers.
 
 use crate::command_words::{CommandRow, check_rows};
-use commands::Program;
-use gramtools::Status;
+use gramtools::{Program, Status};
 use std::test::Fail;
 
 static ROWS: [CommandRow; 11] = [

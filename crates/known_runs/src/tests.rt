@@ -1,8 +1,7 @@
 //! Whole runs, over readers and writers in memory that give and take a few bytes a call.
 
 use crate::ends::{Ends, run_over, settings_of};
-use commands::Program;
-use gramtools::{Mode, Status, one_reply, one_statement};
+use gramtools::{Mode, Program, Status, one_reply, one_statement};
 use std::process::Abort;
 
 mod examples;

@@ -1,8 +1,7 @@
 //! Whole runs of the ABNF tool that tell of each line that it refuses how far it begins something that is derived.
 
 use crate::ends::{Ends, run_over, settings_of};
-use commands::Program;
-use gramtools::{Alphabet, DEFAULT_LIMIT, Mode, Status};
+use gramtools::{Alphabet, DEFAULT_LIMIT, Mode, Program, Status};
 use std::process::Abort;
 use std::test::Fail;
 

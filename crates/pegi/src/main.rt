@@ -2,8 +2,8 @@
 #![tactic(auto)]
 
 use commands::{Program, refuse_invalid_utf8};
-use gramtools::{SourceOf, Status};
 use mains::pegi_main;
+use pegrun::{SourceOf, Status};
 use ruletable::SinkOf;
 use std::io::{BufReader, BufWriter, ErrorKind};
 use std::process::ExitCode;

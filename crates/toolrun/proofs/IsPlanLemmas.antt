@@ -1,14 +1,25 @@
--- The plan for a grammar's text that was not read.
--- Serves: run_peg, run_abnf (right)
-use Rattle.std.proofs.Common.{◌≢◌, List, [], ℕ, refl}
-use Rattle.std.specs.Prelude.{Err}
+-- The plan for a grammar's text is what is stated.
+-- Serves: run_tool, run_peg, run_abnf (right)
+use Rattle.std.proofs.Common.{◌≡◌, ◌≢◌, List, [], ℕ, refl, Option, Some, None, option_copied}
+use Rattle.std.specs.Prelude.{Result, Ok, Err}
+use Rattle.ruletable.specs.Notes.{Said}
 use Rattle.ruletable.specs.declared.fault.ReadFault.{ReadFault}
 use Rattle.ruletable.specs.declared.fault.ReadFault.TheVariants as fault
 use Rattle.toolrun.specs.Input.{Input}
+use Rattle.toolrun.specs.Language.{AreStated}
+use Rattle.toolrun.specs.NotesText.{notes_text}
 use Rattle.toolrun.specs.Plan.{IsPlan, does_of, stopped}
-use Rattle.toolrun.specs.Reply.{Reply, refusal, without_memory}
+use Rattle.toolrun.specs.Reply.{Reply, refusal, text_alone, without_memory}
 use Rattle.toolrun.specs.Stop.{unread}
-use Rattle.toolrun.specs.declared.stop.Stop.TheVariants.{NoMemory, Refused}
+use Rattle.toolrun.specs.Tasks.{checked_task, task_does}
+use Rattle.toolrun.specs.declared.plan.Task.{Task}
+use Rattle.toolrun.specs.declared.plan.Task.TheVariants.{Prints}
+use Rattle.toolrun.specs.declared.settings.Mode.{Mode}
+use Rattle.toolrun.specs.declared.settings.Mode.TheVariants.{Run, Check, Print}
+use Rattle.toolrun.specs.declared.settings.Settings.{Settings}
+use Rattle.toolrun.specs.declared.status.Status.TheVariants as status
+use Rattle.toolrun.specs.declared.stop.Stop.{Stop}
+use Rattle.toolrun.specs.declared.stop.Stop.TheVariants.{NoMemory, Quiet, Refused}
 
 module _ (States : Input → List ℕ → Reply → Type 0) (IsFault : ReadFault → Type 0)
     (refuses : (input : Input) (why : ReadFault) → IsFault why → why ≢ fault.Memory → States input [] (refusal why))
@@ -31,3 +42,52 @@ module _ (States : Input → List ℕ → Reply → Type 0) (IsFault : ReadFault
     some = λ input. (stopped NoMemory, refl);
   }
   unread-plan (fault.NumberTooLarge line) faulty = refused-plan (fault.NumberTooLarge line) faulty (λ e. absurd (cc))
+
+module _ {Grammar Sound : Type 0} {States : List ℕ → Settings → Input → List ℕ → Reply → Type 0}
+    {HasFault : List ℕ → ReadFault → Type 0} {IsRead : List ℕ → Grammar → Type 0}
+    {IsChecked : List ℕ → Option (List ℕ) → List Said → Option Sound → Type 0}
+    {IsPrintable : List ℕ → Grammar → List Said → Type 0} {canonical : Grammar → List ℕ}
+    {Runs : Sound → Settings → Input → Reply → Type 0}
+    (law : AreStated States HasFault IsRead IsChecked IsPrintable canonical Runs) (text : List ℕ) (settings : Settings)
+    where
+  abbrev Planned : List ℕ → Result (Task Grammar Sound) Stop → Type 0
+  Planned notes task = IsPlan (States text settings) notes (does_of (λ t. task_does canonical Runs t settings) task)
+
+  -- a text that was not read
+  pub plan_unread : (why : ReadFault) → HasFault text why → Planned [] (Err (unread why))
+  plan_unread why faulty =
+      unread-plan (States text settings) (HasFault text) (λ input why f other. law.refused text settings input why f other)
+      (λ input f. law.no_memory text settings input f) (λ (t : Task Grammar Sound). task_does canonical Runs t settings)
+      why faulty
+
+  -- a grammar that was checked
+  pub plan_checked : (notes : List Said) (mode : Mode) (sound : Option Sound) → settings.mode ≡ mode → mode ≢ Print
+      → IsChecked text (option_copied settings.start) notes sound → Planned (notes_text notes) (checked_task mode sound)
+  plan_checked notes mode None is other c = record {
+    stated = λ input reply r. rw r (law.noted text settings input notes c (rw is other));
+    some = λ input. (stopped (Quiet status.Refused), refl);
+  }
+  plan_checked notes Run (Some sound) is other c = record {
+    stated = λ input reply r. law.run text settings input notes sound reply c is r;
+    some = λ input. law.replies text settings input notes sound c;
+  }
+  plan_checked notes Check (Some sound) is other c = record {
+    stated = λ input reply r. rw r (law.checked text settings input notes sound c is);
+    some = λ input. (stopped (Quiet status.Done), refl);
+  }
+  plan_checked notes Print (Some sound) is other c = absurd (other refl)
+
+  -- a grammar that was read to be printed, with notes and without
+  pub plan_again : (grammar : Grammar) (notes : List Said) → settings.mode ≡ Print → notes ≢ []
+      → IsPrintable text grammar notes → Planned (notes_text notes) (Err (Quiet status.Refused))
+  plan_again grammar notes print some p = record {
+    stated = λ input reply r. rw r (law.again text settings input grammar notes p some print);
+    some = λ input. (stopped (Quiet status.Refused), refl);
+  }
+
+  pub plan_printed : (grammar : Grammar) (notes : List Said) → settings.mode ≡ Print → notes ≡ []
+      → IsPrintable text grammar notes → Planned (notes_text notes) (Ok (Prints grammar))
+  plan_printed grammar notes print none p = let q = rw none at p in rw none (record {
+    stated = λ input reply r. rw r (law.printed text settings input grammar q print);
+    some = λ input. (text_alone (canonical grammar), refl);
+  })

@@ -3,6 +3,7 @@ pub mod Delivery
 pub mod Finish
 pub mod Flush
 pub mod Input
+pub mod Language
 pub mod NotesText
 pub mod Plan
 pub mod Reply
@@ -12,3 +13,4 @@ pub mod Status
 pub mod Stop
 pub mod Stopped
 pub mod Stream
+pub mod Tasks

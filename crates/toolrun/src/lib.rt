@@ -1,16 +1,19 @@
-//! The run of a tool: it plans from a grammar's text, performs the plan on an input, and ends.
+//! The run of a tool for a language of grammars: it plans from a grammar's text, performs the plan on an input, and ends.
 #![tactic(auto)]
 
 mod finish;
+mod language;
 mod notes;
+mod plan;
 mod settings;
 mod status;
 mod stop;
 mod tool;
 
 pub use finish::{close as close_run, finish as end_run};
+pub use language::{Checked, Language};
 pub use letters::Alphabet;
 pub use settings::{DEFAULT_LIMIT, MAX_LIMIT, Mode, Settings};
 pub use status::Status;
-pub use stop::{Stop, stop_unread};
-pub use tool::{Plan, Tool, run_tool};
+pub use stop::Stop;
+pub use tool::run_tool;

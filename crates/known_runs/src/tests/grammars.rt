@@ -1,8 +1,7 @@
 //! Runs that read nothing: grammars that are refused, checked alone or printed, and what is said of them.
 
 use crate::ends::{Ends, run_over, settings_of};
-use commands::Program;
-use gramtools::{DEFAULT_LIMIT, Mode, Settings, Status};
+use gramtools::{DEFAULT_LIMIT, Mode, Program, Settings, Status};
 use std::alloc::Global;
 use std::process::Abort;
 use std::test::Fail;

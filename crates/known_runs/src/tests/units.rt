@@ -2,8 +2,7 @@
 
 use super::{Row, USERNAME, check_rows};
 use crate::ends::{Ends, run_over, settings_of};
-use commands::Program;
-use gramtools::{DEFAULT_LIMIT, Mode, Settings, Status};
+use gramtools::{DEFAULT_LIMIT, Mode, Program, Settings, Status};
 use std::test::Fail;
 
 /// The default limit.

@@ -2,9 +2,8 @@
 
 use super::USERNAME;
 use crate::ends::{Ended, Ends, run_over, settings_of};
-use commands::Program;
 use fakes::{ALL, Takes};
-use gramtools::{DEFAULT_LIMIT, Mode, Status};
+use gramtools::{DEFAULT_LIMIT, Mode, Program, Status};
 use std::alloc::Global;
 use std::process::Abort;
 

@@ -1,7 +1,7 @@
 -- With a job the tool is run on its grammar; without one the end says what the words came to, and the reader is as it
 -- was.
 use Rattle.std.proofs.Common.{rules, map, string_bytes, Global}
-use Rattle.gramtools.specs.Answers.{States}
+use Rattle.pegrun.specs.Answers.{States}
 use Rattle.clap.specs.Words.{fault_of, matches_of}
 use Rattle.mains.proofs.AnswersLemmas.{no_faults, no_help}
 use Rattle.mains.proofs.JobStatesLemmas.{job_comes, unready_comes}

@@ -6,6 +6,7 @@ use Rattle.toolrun.specs.NotesText.{notes_text}
 use Rattle.toolrun.specs.Status.{code_of}
 use Rattle.toolrun.specs.Plan.{does_of}
 use Rattle.toolrun.specs.Stream.{passed}
+use Rattle.toolrun.specs.Tasks.{task_does}
 use Rattle.toolrun.proofs.IsRightLemmas.{run_is_right, cut_short, wrote-all, wrote-part}
 use Rattle.toolrun.proofs.tool.run_tool.Goals as goal
 
@@ -13,9 +14,9 @@ pub returns-then-is_err : goal.returns-then-is_err
 returns-then-is_err g c = record {
   right =
       let failed : is_err c.write_notes.result ≡ true = sym c.if-is_err.ensures.value in
-      cut_short (g.T.Tool.states c.args.grammar.now c.args.settings.now)
-      (notes_text (map said_of c.plan-plan.result.notes.items))
-      (does_of (λ t. g.T.Tool.does t c.args.settings.now) c.plan-plan.result.task) c.plan-plan.ensures
+      cut_short (g.L.Language.states c.args.grammar.now c.args.settings.now)
+      (notes_text (map said_of c.plan_of-plan.result.notes.items))
+      (does_of (λ t. task_does g.L.Language.canonical g.L.Language.runs t c.args.settings.now) c.plan_of-plan.result.task) c.plan_of-plan.ensures
       (passed g.R.Source.remaining g.R.Source.failed c.args.reader.now c.args.reader.now)
       (passed g.O.Sink.contents g.O.Sink.failed c.args.out.now c.close.new.out)
       (passed g.E.Sink.contents g.E.Sink.failed c.args.err.now c.close.new.err)
@@ -28,9 +29,9 @@ pub returns : goal.returns
 returns g c = record {
   right =
       let fine : is_err c.write_notes.result ≡ false = sym c.if-is_err.ensures.value in
-      run_is_right (g.T.Tool.states c.args.grammar.now c.args.settings.now)
-      (notes_text (map said_of c.plan-plan.result.notes.items))
-      (does_of (λ t. g.T.Tool.does t c.args.settings.now) c.plan-plan.result.task) c.plan-plan.ensures
+      run_is_right (g.L.Language.states c.args.grammar.now c.args.settings.now)
+      (notes_text (map said_of c.plan_of-plan.result.notes.items))
+      (does_of (λ t. task_does g.L.Language.canonical g.L.Language.runs t c.args.settings.now) c.plan_of-plan.result.task) c.plan_of-plan.ensures
       (passed g.R.Source.remaining g.R.Source.failed c.args.reader.now c.act-stop.new.reader)
       (passed g.O.Sink.contents g.O.Sink.failed c.args.out.now c.act-stop.new.out)
       (passed g.O.Sink.contents g.O.Sink.failed c.args.out.now c.finish.new.out)

@@ -1,0 +1,11 @@
+pub mod AttemptLemmas
+pub mod CutLemmas
+pub mod FirstsLemmas
+pub mod LooksOfStartLemmas
+pub mod NextUnitLemmas
+pub mod OneReplyLemmas
+pub mod SomeReplyLemmas
+pub mod StatesLemmas
+pub mod StepLemmas
+pub mod TextOfLemmas
+pub mod WindowLemmas

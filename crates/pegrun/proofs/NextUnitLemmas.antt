@@ -1,0 +1,159 @@
+-- What a window over a reader says of every input of which so much has been seen.
+-- Serves: run_peg (right)
+use Rattle.std.proofs.Common.{◌≡◌, ℕ, zero, suc, ◌+◌, ◌<◌, ◌≤◌, ◌==◌, Bool, true, false, Option, List, [], ◌++◌, length}
+use Rattle.std.proofs.Common.{drop, take, refl, sym, ◌∙◌, ap, subst, arith, nat_lt, inr, length-append}
+use Rattle.std.proofs.Common.{if◌then◌else◌}
+use Rattle.std.specs.Prelude.{Result, Ok, Err}
+use Rattle.std.proofs.lemmas.Grind.{common_steps}
+use Rattle.std.proofs.lemmas.List.{take_all}
+use Rattle.ruletable.specs.declared.sink.WriteFault.{WriteFault}
+use Rattle.feed.specs.declared.held.Flow.{Flow}
+use Rattle.feed.specs.declared.held.Flow.TheVariants.{Ended, Broken}
+use Rattle.pegread.specs.PegViews.{rules_of}
+use Rattle.gramcheck.specs.Grammar.{Grammar, IsSoundGrammar}
+use Rattle.gramcheck.proofs.StartRuleLemmas.{rises_of_start}
+use Rattle.toolrun.specs.Agrees.{Agrees}
+use Rattle.pegrun.specs.Attempts.{IsAttempt, IsStep, IsStepOn, StaysWithin, step_after, stop_at}
+use Rattle.toolrun.specs.Input.{Input}
+use Rattle.pegrun.specs.Units.{taken_at}
+use Rattle.toolrun.specs.declared.settings.Settings.{Settings}
+use Rattle.toolrun.specs.declared.status.Status.TheVariants.{Done}
+use Rattle.toolrun.specs.declared.stop.Stop.TheVariants as stop
+use Rattle.pegrun.specs.declared.unit.Attempt.{Attempt}
+use Rattle.pegrun.specs.declared.unit.Attempt.TheVariants.{Printed, Failed, TooLong, NoMemory}
+use Rattle.pegrun.specs.declared.unit.Step.{Step}
+use Rattle.pegrun.specs.declared.unit.Step.TheVariants.{Stops}
+use Rattle.toolrun.proofs.AgreesLemmas.{bytes_len, rest_held, rest_is, taken_end, taken_full, window_is}
+use Rattle.pegrun.proofs.StepLemmas.{step_broken, step_is}
+
+-- whether a place is the end depends on whether the lengths tell so
+same_stop : (s m n : ℕ) → (s == m) ≡ (s == n) → stop_at s m ≡ stop_at s n
+same_stop s m n e = ap (λ b. if b then stop.Quiet Done else stop.NoMatch s) e
+
+same_step : (limit s m n : ℕ) (r : Result Attempt WriteFault) → (s == m) ≡ (s == n)
+    → step_after limit s m r ≡ step_after limit s n r
+same_step limit s m n (Ok (Printed zero)) e = rw (same_stop s m n e) refl
+same_step limit s m n (Ok (Printed (suc k))) e = refl
+same_step limit s m n (Ok Failed) e = rw (same_stop s m n e) refl
+same_step limit s m n (Ok TooLong) e = refl
+same_step limit s m n (Ok NoMemory) e = refl
+same_step limit s m n (Err fault) e = refl
+
+not-equal : (s m : ℕ) → s < m → (s == m) ≡ false
+not-equal s m h = grind (arith, common_steps)
+
+-- a unit lies in what is held
+fits_of : (g : Grammar) (items : List ℕ) (more raw : Bool) (limit s : ℕ) (old new : Option (List ℕ))
+    (r : Result Attempt WriteFault) → IsAttempt g items more raw old new r →
+    StaysWithin (s + length items) s (step_after limit s (s + length items) r)
+fits_of g items more raw limit s old new (Ok (Printed zero)) a = tt
+fits_of g items more raw limit s old new (Ok (Printed (suc n))) (events, looked, d, enough, wrote) =
+    let r = rises_of_start (rules_of g.rules) g.start items (suc n) looked events d in (omega arith, omega (arith, r.1))
+fits_of g items more raw limit s old new (Ok Failed) a = tt
+fits_of g items more raw limit s old new (Ok TooLong) a = tt
+fits_of g items more raw limit s old new (Ok NoMemory) a = tt
+fits_of g items more raw limit s old new (Err fault) a = tt
+
+pub step_on_fits : (g : Grammar) (held items : List ℕ) (more : Bool) (settings : Settings) (s : ℕ)
+    (old new : Option (List ℕ)) (r : Result Step WriteFault) → items ≡ held →
+    IsStepOn g held more settings s old new r → StaysWithin (s + length items) s r
+step_on_fits g held items more settings s old new r is (attempted, a, e) =
+    rw is (subst (λ v. StaysWithin (s + length held) s v) (sym e)
+    (fits_of g held more settings.raw settings.limit s old new attempted a))
+
+module _ (settings : Settings) (start : ℕ) (before items : List ℕ) (flow : Flow) (input : Input)
+    (here : length before ≡ start)
+    (agrees : Agrees (before ++ items) flow input) where
+  abbrev rest : List ℕ
+  rest = drop start input.bytes
+
+  start_inside : start ≤ length input.bytes
+  start_inside = let l = bytes_len before items here agrees in omega (arith, l)
+
+  -- a full window
+  module _ (full : length items ≡ suc settings.limit) where
+    rest_long : settings.limit < length rest
+    rest_long =
+        let l = ap length (rest_is before items here agrees) in
+        omega (arith, l, full, length-append items agrees.more)
+
+    full_step : (g : Grammar) → IsSoundGrammar g → (old new : Option (List ℕ)) (r : Result Step WriteFault)
+        → IsStepOn g items true settings start old new r →
+        IsStep (rules_of g.rules) g.start settings input start old new r
+        × (length (before ++ items) ≡ taken_at settings input start)
+    full_step g sound old new r (attempted, a, e) =
+        let more : true ≡ nat_lt settings.limit (length rest) = let l = rest_long in grind (arith, common_steps, l) in
+        let there : IsAttempt g (take (suc settings.limit) rest) (nat_lt settings.limit (length rest)) settings.raw old
+        new attempted =
+        subst (λ (b : Bool). IsAttempt g (take (suc settings.limit) rest) b settings.raw old new attempted) more
+        (subst (λ (w : List ℕ). IsAttempt g w true settings.raw old new attempted)
+        (sym (window_is before items here agrees (suc settings.limit) full)) a) in
+        let same = same_step settings.limit start (start + length items) (length input.bytes) attempted
+        (not-equal start (start + length items) (omega (arith, full))
+        ∙ sym (not-equal start (length input.bytes)
+        (let l = bytes_len before items here agrees in omega (arith, l, full)))) in (
+          subst (λ v. IsStep (rules_of g.rules) g.start settings input start old new v) (sym (e ∙ same))
+              (step_is g settings input start start_inside sound (λ _. rest_long) old new attempted there),
+          taken_full before items here agrees settings.limit (omega (arith, full)),
+        )
+
+  -- all that was left
+  module _ (none : agrees.more ≡ []) (short : length items ≤ settings.limit) where
+    end_len : length input.bytes ≡ start + length items
+    end_len = let l = ap length none in let k = bytes_len before items here agrees in omega (arith, l, k)
+
+    short_rest : length rest ≤ settings.limit
+    short_rest = rw (rest_held before items here agrees none) short
+
+    pub taken_to_end : length (before ++ items) ≡ taken_at settings input start
+    taken_to_end = taken_end before items here agrees settings.limit none (omega (arith, short))
+
+  end_step : flow ≡ Ended → length items ≤ settings.limit → (g : Grammar) → IsSoundGrammar g
+      → (old new : Option (List ℕ)) (r : Result Step WriteFault) →
+      IsStepOn g items false settings start old new r →
+      IsStep (rules_of g.rules) g.start settings input start old new r
+      × (length (before ++ items) ≡ taken_at settings input start)
+  end_step ended short g sound old new r (attempted, a, e) =
+      let last = agrees.ended ended in
+      let l = short_rest last.0 short in
+      let more : false ≡ nat_lt settings.limit (length rest) = grind (arith, common_steps, l) in
+      let window : items ≡ take (suc settings.limit) rest = sym (rest_held before items here agrees last.0)
+      ∙ sym (take_all (suc settings.limit) rest (omega (arith, l))) in
+      let there : IsAttempt g (take (suc settings.limit) rest) (nat_lt settings.limit (length rest)) settings.raw old
+      new attempted =
+      subst (λ (b : Bool). IsAttempt g (take (suc settings.limit) rest) b settings.raw old new attempted) more
+      (subst (λ (w : List ℕ). IsAttempt g w false settings.raw old new attempted) window a) in
+      let same = same_step settings.limit start (start + length items) (length input.bytes) attempted
+      (ap (λ n. start == n) (sym (end_len last.0 short))) in (
+        subst (λ v. IsStep (rules_of g.rules) g.start settings input start old new v) (sym (e ∙ same))
+            (step_is g settings input start start_inside sound (λ f. absurd (let o = last.1 in cc)) old new attempted
+            there),
+        taken_to_end last.0 short,
+      )
+
+  pub broken_step : flow ≡ Broken → length items ≤ settings.limit → (g : Grammar) → (old : Option (List ℕ))
+      → (r : Result Step WriteFault) → r ≡ Ok (Stops stop.Broken) →
+      IsStep (rules_of g.rules) g.start settings input start old old r
+      × (length (before ++ items) ≡ taken_at settings input start)
+  broken_step broken short g old r is =
+      let last = agrees.broken broken in (
+        rw is (inr (step_broken g settings input start start_inside old last.1 (short_rest last.0 short))),
+        taken_to_end last.0 short,
+      )
+
+-- what is held stays so as it is looked at
+module _ (g : Grammar) (sound : IsSoundGrammar g) (settings : Settings) (start : ℕ) (before held items : List ℕ)
+    (flow : Flow) (input : Input)
+    (here : length before ≡ start) (agrees : Agrees (before ++ items) flow input) (is : items ≡ held)
+    (old new : Option (List ℕ)) (r : Result Step WriteFault) where
+  pub full_window : length held ≡ suc settings.limit → IsStepOn g held true settings start old new r →
+      IsStep (rules_of g.rules) g.start settings input start old new r
+      × (length (before ++ items) ≡ taken_at settings input start)
+  full_window full on = rw is (full_step settings start before held flow input here (rw is at agrees) full g sound old
+      new r on)
+
+  pub last_window : flow ≡ Ended → length held ≤ settings.limit → IsStepOn g held false settings start old new r →
+      IsStep (rules_of g.rules) g.start settings input start old new r
+      × (length (before ++ items) ≡ taken_at settings input start)
+  last_window ended short on = rw is (end_step settings start before held flow input here (rw is at agrees) ended short
+      g sound old new r on)

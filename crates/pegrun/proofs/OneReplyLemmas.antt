@@ -1,0 +1,277 @@
+-- The units of an input and how a run on it ends are determined, and so is its reply.
+-- Serves: one_reply
+use Rattle.std.proofs.Common.{◌≡◌, ℕ, ◌+◌, ◌<◌, ◌≤◌, true, List, [], ◌++◌, length, refl, sym, ◌∙◌, ap, subst, arith}
+use Rattle.pegread.specs.Pattern.{Rule}
+use Rattle.gramcheck.specs.Outcome.{Outcome, Fails, Takes, RuleGives}
+use Rattle.gramcheck.proofs.StartRuleLemmas.{same_of_start}
+use Rattle.toolrun.specs.Input.{Input}
+use Rattle.pegrun.specs.PegReply.{Replies}
+use Rattle.toolrun.specs.Reply.{Reply}
+use Rattle.toolrun.specs.Status.{code_of}
+use Rattle.toolrun.specs.Stop.{message_of, status_of}
+use Rattle.pegrun.specs.Units.{taken_at, rest_from, MayRun, GivesAt, IsUnit, Units, none, one_more, Ends, broken}
+use Rattle.pegrun.specs.Units.{overlong, no_match, finished, empty_before_end, empty_at_end}
+use Rattle.toolrun.specs.declared.settings.Settings.{Settings}
+use Rattle.toolrun.specs.declared.stop.Stop.{Stop}
+
+-- two replies of the same parts
+same_reply : (a b : Reply) → a.out ≡ b.out → a.err ≡ b.err → a.status ≡ b.status → a.taken ≡ b.taken → a ≡ b
+same_reply a b out err status taken =
+    let is : record { out = a.out; err = a.err; status = a.status; taken = a.taken }
+    ≡ record { out = b.out; err = b.err; status = b.status; taken = b.taken } = cc in is
+
+module _ (rules : List Rule) (start : ℕ) (settings : Settings) (input : Input) where
+  abbrev Gives : ℕ → Outcome → Type 0
+  Gives s o = GivesAt rules start settings input s o
+
+  abbrev UnitAt : ℕ → ℕ → List ℕ → Type 0
+  UnitAt s k text = IsUnit rules start settings input s k text
+
+  abbrev UnitsTo : ℕ → List ℕ → Type 0
+  UnitsTo s text = Units rules start settings input s text
+
+  abbrev EndsAt : ℕ → List ℕ → Stop → Type 0
+  EndsAt s last stop = Ends rules start settings input s last stop
+
+  -- one outcome at a place
+  one_gift : (s : ℕ) (o c : Outcome) (d : Gives s o) (g : Gives s c) → o ≡ c
+  one_gift s o c d g =
+      (same_of_start rules start (rest_from input s) d.looked g.looked o c d.gives g.gives).outcome
+
+  -- two units are the same
+  record OneUnit (k j : ℕ) (text other : List ℕ) : Type 0 where
+    bytes : k ≡ j
+    texts : text ≡ other
+
+  -- one number of bytes and one text at a place
+  one_unit : (s k j : ℕ) (text other : List ℕ) → UnitAt s k text → UnitAt s j other → OneUnit k j text other
+  one_unit s k j text other u v =
+      let h = one_gift s (Takes k u.events) (Takes j v.events) u.gives v.gives in
+      let events : u.events ≡ v.events = cc in
+      record { bytes = cc; texts = let p = u.prints in let q = v.prints in cc }
+
+  -- a unit of some bytes leads from s to s' or before it
+  record Reaches (s s' : ℕ) : Type 0 where
+    bytes : ℕ
+    text : List ℕ
+    unit : UnitAt s bytes text
+    some : 0 < bytes
+    within : s + bytes ≤ s'
+
+  -- two places to which units lead: the same, with the same text, or from one of them a unit leads on towards the other
+  data Compares (s : ℕ) (text : List ℕ) (s' : ℕ) (text' : List ℕ) : Type 0 where
+    same : s ≡ s' → text ≡ text' → Compares s text s' text'
+    before : Reaches s s' → Compares s text s' text'
+    behind : Reaches s' s → Compares s text s' text'
+
+  -- one more unit behind units that begin so
+  begins_further : (at k : ℕ) (front more : List ℕ) → UnitAt at k more → 0 < k → Compares 0 [] at front
+      → Compares 0 [] (at + k) (front ++ more)
+  begins_further at k front more unit some (same here text) =
+      before (record {
+        bytes = k;
+        text = more;
+        unit = subst (λ v. UnitAt v k more) (sym here) unit;
+        some = some;
+        within = omega (arith, here);
+      })
+  begins_further at k front more unit some (before r) =
+      before (record { bytes = r.bytes; text = r.text; unit = r.unit; some = r.some; within = omega (arith, r.within) })
+  begins_further at k front more unit some (behind r) = absurd (omega (arith, r.some, r.within))
+
+  -- units lead nowhere, or begin with one of some bytes
+  compares_begin : (s : ℕ) (text : List ℕ) → UnitsTo s text → Compares 0 [] s text
+  compares_begin s text none = same refl refl
+  compares_begin s text (one_more at k front more u unit some) =
+      begins_further at k front more unit some (compares_begin at front u)
+
+  -- the other way round
+  compares_turned : (s s' : ℕ) (text text' : List ℕ) → Compares s text s' text' → Compares s' text' s text
+  compares_turned s s' text text' (same here is) = same (sym here) (sym is)
+  compares_turned s s' text text' (before r) = behind r
+  compares_turned s s' text text' (behind r) = before r
+
+  -- both go on by a unit
+  module _ (s k s' k' : ℕ) (text more text' more' : List ℕ) (unit : UnitAt s k more) (unit' : UnitAt s' k' more')
+      (some : 0 < k) (some' : 0 < k') where
+    -- the second went on from the end of the first without its last unit
+    both_before : Reaches s s' → Compares (s + k) (text ++ more) s' text' → Compares (s + k) (text ++ more) (s' + k')
+        (text' ++ more')
+    both_before r (same here is) =
+        before (record {
+          bytes = k';
+          text = more';
+          unit = subst (λ v. UnitAt v k' more') (sym here) unit';
+          some = some';
+          within = omega (arith, here);
+        })
+    both_before r (before q) =
+        before (record {
+          bytes = q.bytes;
+          text = q.text;
+          unit = q.unit;
+          some = q.some;
+          within = omega (arith, q.within);
+        })
+    both_before r (behind q) =
+        let h = one_unit s k r.bytes more r.text unit r.unit in
+        absurd (omega (arith, h.bytes, r.within, q.some, q.within))
+
+    -- the first went on from the end of the second without its last unit
+    both_behind : Reaches s' s → Compares s text (s' + k') (text' ++ more') → Compares (s + k) (text ++ more) (s' + k')
+        (text' ++ more')
+    both_behind r (same here is) =
+        behind (record {
+          bytes = k;
+          text = more;
+          unit = subst (λ v. UnitAt v k more) here unit;
+          some = some;
+          within = omega (arith, here);
+        })
+    both_behind r (behind q) =
+        behind (record {
+          bytes = q.bytes;
+          text = q.text;
+          unit = q.unit;
+          some = q.some;
+          within = omega (arith, q.within);
+        })
+    both_behind r (before q) =
+        let h = one_unit s' k' r.bytes more' r.text unit' r.unit in
+        absurd (omega (arith, h.bytes, r.within, q.some, q.within))
+
+    -- the two ends compare, whichever came first without the last units
+    compares_both : Compares s text s' text' → Compares s text (s' + k') (text' ++ more')
+        → Compares (s + k) (text ++ more) s' text' →
+        Compares (s + k) (text ++ more) (s' + k') (text' ++ more')
+    compares_both (same here is) whole whole' =
+        let h = one_unit s k k' more more' unit (subst (λ v. UnitAt v k' more') (sym here) unit') in
+        let e = h.bytes in
+        let t = h.texts in
+        same (omega (arith, here, e)) cc
+    compares_both (before r) whole whole' = both_before r whole'
+    compares_both (behind r) whole whole' = both_behind r whole
+
+  -- the first goes on by a unit, and up to there all compare with it
+  goes_on : (s k : ℕ) (text more : List ℕ) → UnitsTo s text → (unit : UnitAt s k more) → (some : 0 < k) →
+      ((s' : ℕ) (text' : List ℕ) → UnitsTo s' text' → Compares s text s' text') →
+      (s' : ℕ) (text' : List ℕ) → UnitsTo s' text' → Compares (s + k) (text ++ more) s' text'
+  goes_on s k text more u unit some so_far s' text' none =
+      compares_turned 0 (s + k) [] (text ++ more)
+      (compares_begin (s + k) (text ++ more) (one_more s k text more u unit some))
+  goes_on s k text more u unit some so_far s' text' (one_more at k' front more' u' unit' some') =
+      compares_both s k at k' text more front more' unit unit' some some' (so_far at front u')
+      (so_far (at + k') (front ++ more') (one_more at k' front more' u' unit' some'))
+      (goes_on s k text more u unit some so_far at front u')
+
+  -- all places to which units lead compare
+  units_compare : (s : ℕ) (text : List ℕ) → UnitsTo s text → (s' : ℕ) (text' : List ℕ) → UnitsTo s' text'
+      → Compares s text s' text'
+  units_compare s text none s' text' u' = compares_begin s' text' u'
+  units_compare s text (one_more at k front more u unit some) s' text' u' =
+      goes_on at k front more u unit some (λ t other v. units_compare at front u t other v) s' text' u'
+
+  -- what looks further than the limit is no outcome within it
+  not_long : (s looked : ℕ) (o c : Outcome) → RuleGives rules start (rest_from input s) o looked
+      → settings.limit < looked → Gives s c → ⊥
+  not_long s looked o c d over g =
+      let h = (same_of_start rules start (rest_from input s) looked g.looked o c d g.gives).looked in
+      omega (arith, h, over, g.within)
+
+  -- no failure where a unit stands
+  not_both : (s k : ℕ) (text : List ℕ) → Gives s Fails → UnitAt s k text → ⊥
+  not_both s k text d u = let h = one_gift s Fails (Takes k u.events) d u.gives in absurd cc
+
+  -- after a fault no unit is run on too few bytes
+  few_bytes : (s : ℕ) → input.fault ≡ true → length input.bytes < s + settings.limit + 1 → MayRun settings input s → ⊥
+  few_bytes s fault few may = let m = may fault in omega (arith, m, few)
+
+  -- no run ends where a unit of some bytes stands
+  no_end : (s s' : ℕ) (last : List ℕ) (stop : Stop) → Reaches s s' → EndsAt s last stop → ⊥
+  no_end s s' last stop r (broken fault few) = few_bytes s fault few r.unit.gives.may_run
+  no_end s s' last stop r (overlong o looked may d over) = not_long s looked o (Takes r.bytes r.unit.events) d over
+      r.unit.gives
+  no_end s s' last stop r (no_match d inside) = not_both s r.bytes r.text d r.unit
+  no_end s s' last stop r (finished d all) = not_both s r.bytes r.text d r.unit
+  no_end s s' last stop r (empty_before_end text u inside) = let h = one_unit s 0 r.bytes last r.text u r.unit in
+      omega (arith, h.bytes, r.some)
+  no_end s s' last stop r (empty_at_end text u all) = let h = one_unit s 0 r.bytes last r.text u r.unit in
+      omega (arith, h.bytes, r.some)
+
+  -- two ends are the same
+  record OneEnd (last other : List ℕ) (stop end : Stop) : Type 0 where
+    lasts : last ≡ other
+    stops : stop ≡ end
+
+  -- one end at a place
+  one_end : (s : ℕ) (last other : List ℕ) (stop end : Stop) → EndsAt s last stop → EndsAt s other end
+      → OneEnd last other stop end
+  one_end s last other stop end (broken f few) (broken f' few') = record { lasts = refl; stops = refl }
+  one_end s last other stop end (broken f few) (overlong o n may d over) = absurd (few_bytes s f few may)
+  one_end s last other stop end (broken f few) (no_match d lt) = absurd (few_bytes s f few d.may_run)
+  one_end s last other stop end (broken f few) (finished d all) = absurd (few_bytes s f few d.may_run)
+  one_end s last other stop end (broken f few) (empty_before_end text u lt) = absurd (few_bytes s f few u.gives.may_run)
+  one_end s last other stop end (broken f few) (empty_at_end text u all) = absurd (few_bytes s f few u.gives.may_run)
+  one_end s last other stop end (overlong o n may d over) (broken f few) = absurd (few_bytes s f few may)
+  one_end s last other stop end (overlong o n may d over) (overlong o' n' may' d' over') =
+      record { lasts = refl; stops = refl }
+  one_end s last other stop end (overlong o n may d over) (no_match g lt) = absurd (not_long s n o Fails d over g)
+  one_end s last other stop end (overlong o n may d over) (finished g all) = absurd (not_long s n o Fails d over g)
+  one_end s last other stop end (overlong o n may d over) (empty_before_end text u lt) =
+      absurd (not_long s n o (Takes 0 u.events) d over u.gives)
+  one_end s last other stop end (overlong o n may d over) (empty_at_end text u all) =
+      absurd (not_long s n o (Takes 0 u.events) d over u.gives)
+  one_end s last other stop end (no_match d lt) (broken f few) = absurd (few_bytes s f few d.may_run)
+  one_end s last other stop end (no_match d lt) (overlong o n may g over) = absurd (not_long s n o Fails g over d)
+  one_end s last other stop end (no_match d lt) (no_match g lt') = record { lasts = refl; stops = refl }
+  one_end s last other stop end (no_match d lt) (finished g all) = absurd (omega (arith, lt, all))
+  one_end s last other stop end (no_match d lt) (empty_before_end text u lt') = absurd (not_both s 0 text d u)
+  one_end s last other stop end (no_match d lt) (empty_at_end text u all) = absurd (not_both s 0 text d u)
+  one_end s last other stop end (finished d all) (broken f few) = absurd (few_bytes s f few d.may_run)
+  one_end s last other stop end (finished d all) (overlong o n may g over) = absurd (not_long s n o Fails g over d)
+  one_end s last other stop end (finished d all) (no_match g lt) = absurd (omega (arith, lt, all))
+  one_end s last other stop end (finished d all) (finished g all') = record { lasts = refl; stops = refl }
+  one_end s last other stop end (finished d all) (empty_before_end text u lt) = absurd (not_both s 0 text d u)
+  one_end s last other stop end (finished d all) (empty_at_end text u all') = absurd (not_both s 0 text d u)
+  one_end s last other stop end (empty_before_end text u lt) (broken f few) = absurd (few_bytes s f few u.gives.may_run)
+  one_end s last other stop end (empty_before_end text u lt) (overlong o n may d over) =
+      absurd (not_long s n o (Takes 0 u.events) d over u.gives)
+  one_end s last other stop end (empty_before_end text u lt) (no_match d lt') = absurd (not_both s 0 text d u)
+  one_end s last other stop end (empty_before_end text u lt) (finished d all) = absurd (not_both s 0 text d u)
+  one_end s last other stop end (empty_before_end text u lt) (empty_before_end text' u' lt') =
+      record { lasts = (one_unit s 0 0 text text' u u').texts; stops = refl }
+  one_end s last other stop end (empty_before_end text u lt) (empty_at_end text' u' all) =
+      absurd (omega (arith, lt, all))
+  one_end s last other stop end (empty_at_end text u all) (broken f few) = absurd (few_bytes s f few u.gives.may_run)
+  one_end s last other stop end (empty_at_end text u all) (overlong o n may d over) =
+      absurd (not_long s n o (Takes 0 u.events) d over u.gives)
+  one_end s last other stop end (empty_at_end text u all) (no_match d lt) = absurd (not_both s 0 text d u)
+  one_end s last other stop end (empty_at_end text u all) (finished d all') = absurd (not_both s 0 text d u)
+  one_end s last other stop end (empty_at_end text u all) (empty_before_end text' u' lt) =
+      absurd (omega (arith, lt, all))
+  one_end s last other stop end (empty_at_end text u all) (empty_at_end text' u' all') =
+      record { lasts = (one_unit s 0 0 text text' u u').texts; stops = refl }
+
+  -- two replies whose units compare so
+  replies_settled : (a b : Reply) (r : Replies rules start settings input a)
+      (q : Replies rules start settings input b) →
+      Compares r.point r.before q.point q.before → a ≡ b
+  replies_settled a b r q (same here is) =
+      let h = one_end r.point r.last q.last r.stop q.stop r.ends
+      (subst (λ v. EndsAt v q.last q.stop) (sym here) q.ends) in
+      let last = h.lasts in
+      let stop = h.stops in
+      same_reply a b (r.out ∙ ap (λ t. t ++ r.last) is ∙ ap (λ t. q.before ++ t) last ∙ sym q.out)
+      (r.err ∙ ap (λ w. message_of w) stop ∙ sym q.err)
+      (r.status ∙ ap (λ w. code_of (status_of w)) stop ∙ sym q.status)
+      (r.taken ∙ ap (λ v. taken_at settings input v) here ∙ sym q.taken)
+  replies_settled a b r q (before to) = absurd (no_end r.point q.point r.last r.stop to r.ends)
+  replies_settled a b r q (behind to) = absurd (no_end q.point r.point q.last q.stop to q.ends)
+
+-- one reply
+pub one_reply : (rules : List Rule) (start : ℕ) (settings : Settings) (input : Input) (a b : Reply)
+    → Replies rules start settings input a →
+    Replies rules start settings input b → a ≡ b
+one_reply rules start settings input a b r q =
+    replies_settled rules start settings input a b r q
+    (units_compare rules start settings input r.point r.before r.steps q.point q.before q.steps)

@@ -1,0 +1,183 @@
+-- Each input has a reply, and the text of the first units is a beginning of it.
+-- Serves: run_peg (right)
+use Rattle.std.proofs.Common.{◌≡◌, ℕ, suc, zero, ◌+◌, ◌<◌, ◌≤◌, Bool, true, false, List, [], ◌++◌, length, drop, refl}
+use Rattle.std.proofs.Common.{sym, arith, inl, inr, ◌⊎◌, length-drop}
+use Rattle.std.proofs.Math.Nat.{min-le_left, min-le_right, le-min}
+use Rattle.std.proofs.lemmas.Bool.{cases_lt, cases_eq}
+use Rattle.ruletable.proofs.AppendsLemmas.{IsBeginning-same, IsBeginning-trans}
+use Rattle.pegread.specs.PegViews.{rules_of}
+use Rattle.gramcheck.specs.Grammar.{Grammar, IsSoundGrammar}
+use Rattle.gramcheck.specs.Nodes.{shapes_of}
+use Rattle.gramcheck.specs.Outcome.{Outcome, Fails, Takes}
+use Rattle.gramcheck.proofs.SomeOutcomeLemmas.{has_of_start}
+use Rattle.gramcheck.proofs.StartRuleLemmas.{rises_of_start}
+use Rattle.pegmatch.specs.Text.{text_of}
+use Rattle.toolrun.specs.Input.{Input}
+use Rattle.pegrun.specs.PegReply.{Replies}
+use Rattle.toolrun.specs.Reply.{Reply}
+use Rattle.toolrun.specs.RunSteps.{Begins}
+use Rattle.toolrun.specs.Status.{code_of}
+use Rattle.toolrun.specs.Stop.{message_of, status_of}
+use Rattle.pegrun.specs.Units.{taken_at, MayRun, GivesAt, IsUnit, Units, none, one_more, Ends, broken, overlong}
+use Rattle.pegrun.specs.Units.{no_match, finished, empty_before_end, empty_at_end}
+use Rattle.toolrun.specs.declared.settings.Settings.{Settings}
+use Rattle.toolrun.specs.declared.status.Status.TheVariants.{Done}
+use Rattle.toolrun.specs.declared.stop.Stop.{Stop}
+use Rattle.toolrun.specs.declared.stop.Stop.TheVariants.{Quiet, NoMatch, LongUnit, Broken}
+
+-- a reply that begins with the text and takes no less than a unit at s
+abbrev pub Goes : Grammar → Settings → Input → ℕ → List ℕ → Type 0
+Goes g settings input s text = Begins (Units (rules_of g.rules) g.start settings input)
+    (Ends (rules_of g.rules) g.start settings input)
+    (taken_at settings input) (taken_at settings input s) text
+
+module _ (g : Grammar) (settings : Settings) (input : Input) where
+  abbrev rest : ℕ → List ℕ
+  rest s = drop s input.bytes
+
+  abbrev UnitsTo : ℕ → List ℕ → Type 0
+  UnitsTo s text = Units (rules_of g.rules) g.start settings input s text
+
+  abbrev UnitAt : ℕ → ℕ → List ℕ → Type 0
+  UnitAt s k text = IsUnit (rules_of g.rules) g.start settings input s k text
+
+  abbrev EndsAt : ℕ → List ℕ → Stop → Type 0
+  EndsAt s last stop = Ends (rules_of g.rules) g.start settings input s last stop
+
+  -- the reply of a run that stops here
+  abbrev pub reply_of : ℕ → List ℕ → Stop → Reply
+  reply_of s out stop = record {
+    out = out;
+    err = message_of stop;
+    status = code_of (status_of stop);
+    taken = taken_at settings input s;
+  }
+
+  pub replies_there : (s : ℕ) (text last : List ℕ) (stop : Stop) → UnitsTo s text → EndsAt s last stop →
+      Replies (rules_of g.rules) g.start settings input (reply_of s (text ++ last) stop)
+  replies_there s text last stop units ends = record {
+    point = s;
+    before = text;
+    last = last;
+    stop = stop;
+    steps = units;
+    ends = ends;
+    out = refl;
+    err = refl;
+    status = refl;
+    taken = refl;
+  }
+
+  goes_to_stop : (s : ℕ) (text last : List ℕ) (stop : Stop) → UnitsTo s text → EndsAt s last stop
+      → Goes g settings input s (text ++ last)
+  goes_to_stop s text last stop units ends = record {
+    reply = reply_of s (text ++ last) stop;
+    replies = replies_there s text last stop units ends;
+    front = IsBeginning-same (text ++ last);
+    taken = omega arith;
+  }
+
+  takes_more : (s t n : ℕ) → s ≤ t → taken_at settings input t ≤ n → taken_at settings input s ≤ n
+  takes_more s t n le h =
+      let a = min-le_left (length input.bytes) (s + settings.limit + 1) in
+      let b = min-le_right (length input.bytes) (s + settings.limit + 1) in
+      let m : taken_at settings input s ≤ taken_at settings input t = le-min a (omega (arith, b, le)) in
+      omega (arith, m, h)
+
+  -- a reply that goes on from the text begins with it
+  goes_before : (s t : ℕ) (text more : List ℕ) → s ≤ t → Goes g settings input t (text ++ more)
+      → Goes g settings input s text
+  goes_before s t text more le h = record {
+    reply = h.reply;
+    replies = h.replies;
+    front = IsBeginning-trans text (text ++ more) h.reply.out (more, refl) h.front;
+    taken = takes_more s t h.reply.taken le h.taken;
+  }
+
+  pub unit_inside : (s k : ℕ) (text : List ℕ) → s ≤ length input.bytes → UnitAt s k text → s + k ≤ length input.bytes
+  unit_inside s k text inside unit =
+      let r = rises_of_start (rules_of g.rules) g.start (rest s) k unit.gives.looked unit.events unit.gives.gives in
+      let l = length-drop s input.bytes in
+      omega (arith, r.1)
+
+  pub units_inside : (s : ℕ) (text : List ℕ) → UnitsTo s text → s ≤ length input.bytes
+  units_inside s text none = omega arith
+  units_inside s text (one_more t k front more units unit some) = unit_inside t k more (units_inside t front units) unit
+
+  goes_at_empty : (s : ℕ) (text last : List ℕ) → UnitsTo s text → s ≤ length input.bytes → UnitAt s 0 last
+      → Goes g settings input s (text ++ last)
+  goes_at_empty s text last units inside unit = elim (cases_eq s (length input.bytes)) [
+    | inl at_end ↦ goes_to_stop s text last (Quiet Done) units (empty_at_end last unit at_end)
+    | inr before ↦ goes_to_stop s text last (NoMatch s) units (empty_before_end last unit (omega arith))
+  ]
+
+  goes_at_failure : (s : ℕ) (text : List ℕ) → UnitsTo s text → s ≤ length input.bytes
+      → GivesAt (rules_of g.rules) g.start settings input s Fails → Goes g settings input s text
+  goes_at_failure s text units inside d = elim (cases_eq s (length input.bytes)) [
+    | inl at_end ↦ goes_before s s text [] (omega arith) (goes_to_stop s text [] (Quiet Done) units (finished d at_end))
+    | inr before ↦ goes_before s s text [] (omega arith)
+        (goes_to_stop s text [] (NoMatch s) units (no_match d (omega arith)))
+  ]
+
+  may_run : (s : ℕ) (b : Bool) → b ≡ input.fault → (MayRun settings input s)
+      ⊎ ((input.fault ≡ true) × (length input.bytes < s + settings.limit + 1))
+  may_run s false e = inl (λ f. absurd (cc))
+  may_run s true e = elim (cases_lt (length input.bytes) (s + settings.limit + 1))
+      [ inl short ↦ inr (sym e, short) | inr long ↦ inl (λ f. long) ]
+
+  -- whatever stands at a place within so many bytes of the end, some reply goes on from it
+  abbrev GoesFrom : ℕ → Type 0
+  GoesFrom fuel = (s : ℕ) (text : List ℕ) → UnitsTo s text → s ≤ length input.bytes → length input.bytes < s + fuel
+      → Goes g settings input s text
+
+  goes_within : (fuel s : ℕ) (text : List ℕ) → GoesFrom fuel → UnitsTo s text → s ≤ length input.bytes
+      → length input.bytes < s + suc fuel →
+      (o : Outcome) → GivesAt (rules_of g.rules) g.start settings input s o → Goes g settings input s text
+  goes_within fuel s text later units inside room Fails d = goes_at_failure s text units inside d
+  goes_within fuel s text later units inside room (Takes zero events) d =
+      let last : List ℕ = text_of settings.raw (rest s) events in
+      goes_before s s text last (omega arith) (goes_at_empty s text last units inside
+      (record { events = events; gives = d; prints = refl }))
+  goes_within fuel s text later units inside room (Takes (suc k) events) d =
+      let more : List ℕ = text_of settings.raw (rest s) events in
+      let unit : UnitAt s (suc k) more = record { events = events; gives = d; prints = refl } in
+      goes_before s (s + suc k) text more (omega arith) (later (s + suc k) (text ++ more)
+      (one_more s (suc k) text more units unit (omega arith)) (unit_inside s (suc k) more inside unit)
+      (omega arith))
+
+  module _ (sound : IsSoundGrammar g) where
+    goes_on : (fuel s : ℕ) (text : List ℕ) → GoesFrom fuel → UnitsTo s text → s ≤ length input.bytes
+        → length input.bytes < s + suc fuel →
+        MayRun settings input s → Goes g settings input s text
+    goes_on fuel s text later units inside room may =
+        let some = has_of_start (rules_of g.rules) g.start (shapes_of g.nodes) g.bodies g.ranks sound (rest s) in
+        elim (cases_lt settings.limit some.1) [
+          | inl over ↦ goes_before s s text [] (omega arith)
+              (goes_to_stop s text [] (LongUnit s settings.limit) units (overlong some.0 some.1 may some.2 over))
+          | inr le ↦ goes_within fuel s text later units inside room some.0
+              (record { may_run = may; looked = some.1; gives = some.2; within = le })
+        ]
+
+    goes_with_fuel : (fuel : ℕ) → GoesFrom fuel
+    goes_with_fuel zero s text units inside room = absurd (omega arith)
+    goes_with_fuel (suc fuel) s text units inside room = elim (may_run s input.fault refl) [
+      | inr cut ↦ goes_before s s text [] (omega arith) (goes_to_stop s text [] Broken units (broken cut.0 cut.1))
+      | inl may ↦ goes_on fuel s text (goes_with_fuel fuel) units inside room may
+    ]
+
+    pub units_go_on : (s : ℕ) (text : List ℕ) → UnitsTo s text → Goes g settings input s text
+    units_go_on s text units =
+        goes_with_fuel (suc (length input.bytes)) s text units (units_inside s text units) (omega arith)
+
+    -- and the text of one more unit, of any length
+    pub unit_goes_on : (s k : ℕ) (text last : List ℕ) → UnitsTo s text → UnitAt s k last
+        → Goes g settings input s (text ++ last)
+    unit_goes_on s zero text last units unit = goes_at_empty s text last units (units_inside s text units) unit
+    unit_goes_on s (suc k) text last units unit =
+        let goes = units_go_on (s + suc k) (text ++ last) (one_more s (suc k) text last units unit (omega arith)) in
+        record {
+          reply = goes.reply;
+          replies = goes.replies;
+          front = goes.front;
+          taken = takes_more s (s + suc k) goes.reply.taken (omega arith) goes.taken;
+        }

@@ -1,0 +1,102 @@
+-- What came of the start rule at the front of a window is a step of the run.
+-- Serves: run_peg (right)
+use Rattle.std.proofs.Common.{◌≡◌, ℕ, zero, suc, ◌<◌, ◌≤◌, Bool, true, false, Option, List, [], length, drop, take}
+use Rattle.std.proofs.Common.{refl, arith, nat_lt, inl, inr, length-drop, length-take, if◌then◌else◌, ◌==◌}
+use Rattle.std.specs.Prelude.{Result, Ok, Err}
+use Rattle.std.proofs.lemmas.Grind.{common_steps}
+use Rattle.std.specs.Io.KnownBytes.{Appends}
+use Rattle.ruletable.specs.declared.sink.WriteFault.{WriteFault}
+use Rattle.ruletable.proofs.AppendsLemmas.{Appends-none, Appends-same}
+use Rattle.pegread.specs.PegViews.{rules_of}
+use Rattle.gramcheck.specs.Grammar.{Grammar, IsSoundGrammar}
+use Rattle.gramcheck.specs.Outcome.{Outcome, Fails, Takes, Event}
+use Rattle.gramcheck.proofs.StartRuleLemmas.{rises_of_start}
+use Rattle.pegmatch.specs.Answers.{StartGives, WasEnough}
+use Rattle.pegmatch.specs.Text.{text_of}
+use Rattle.pegrun.specs.Attempts.{IsAttempt, IsStep, StaysWithin, step_after}
+use Rattle.toolrun.specs.Input.{Input}
+use Rattle.pegrun.specs.Units.{MayRun, GivesAt, IsUnit, Ends, broken, overlong, no_match, finished, empty_before_end}
+use Rattle.pegrun.specs.Units.{empty_at_end}
+use Rattle.toolrun.specs.declared.settings.Settings.{Settings}
+use Rattle.toolrun.specs.declared.status.Status.TheVariants.{Done}
+use Rattle.toolrun.specs.declared.stop.Stop.TheVariants.{Quiet, NoMatch, Broken}
+use Rattle.pegrun.specs.declared.unit.Attempt.{Attempt}
+use Rattle.pegrun.specs.declared.unit.Attempt.TheVariants.{Printed, Failed, TooLong, NoMemory}
+use Rattle.pegrun.proofs.WindowLemmas.{window_seen, seen_text, seen_long}
+
+module _ (g : Grammar) (settings : Settings) (input : Input) (s : ℕ) (inside : s ≤ length input.bytes) where
+  abbrev rest : List ℕ
+  rest = drop s input.bytes
+
+  abbrev window : List ℕ
+  window = take (suc settings.limit) rest
+
+  abbrev more : Bool
+  more = nat_lt settings.limit (length rest)
+
+  -- the reader failed, and too few bytes are left
+  pub step_broken : (old : Option (List ℕ)) → input.fault ≡ true → length rest ≤ settings.limit →
+      (last : List ℕ) × Ends (rules_of g.rules) g.start settings input s last Broken × Appends old old last
+  step_broken old fault short = let l = length-drop s input.bytes in ([], broken fault (omega arith), Appends-same old)
+
+  module _ (sound : IsSoundGrammar g) (may : input.fault ≡ true → settings.limit < length rest) where
+    may_run : MayRun settings input s
+    may_run f = let l = length-drop s input.bytes in let lt = may f in omega arith
+
+    gives_at : (o : Outcome) (looked : ℕ) → StartGives g window o looked → WasEnough window more looked
+        → GivesAt (rules_of g.rules) g.start settings input s o
+    gives_at o looked d enough =
+        let seen_here = window_seen g rest settings.limit o looked d enough in
+        record { may_run = may_run; looked = seen_here.looked; gives = seen_here.gives; within = seen_here.within }
+
+    is_unit : (k : ℕ) (events : List Event) (looked : ℕ) → StartGives g window (Takes k events) looked
+        → WasEnough window more looked →
+        IsUnit (rules_of g.rules) g.start settings input s k (text_of settings.raw window events)
+    is_unit k events looked d enough = record {
+      events = events;
+      gives = gives_at (Takes k events) looked d enough;
+      prints = seen_text g rest settings.limit settings.raw k events looked d;
+    }
+
+    fails_here : (b : Bool) → (s == length input.bytes) ≡ b → GivesAt (rules_of g.rules) g.start settings input s
+        Fails →
+        Ends (rules_of g.rules) g.start settings input s [] (if b then Quiet Done else NoMatch s)
+    fails_here true e d = finished d (grind (arith, common_steps, e))
+    fails_here false e d = let h : s < length input.bytes = grind (arith, common_steps, e) in no_match d h
+
+    empty_here : (b : Bool) (text : List ℕ) → (s == length input.bytes) ≡ b → IsUnit (rules_of g.rules) g.start settings
+        input s 0 text →
+        Ends (rules_of g.rules) g.start settings input s text (if b then Quiet Done else NoMatch s)
+    empty_here true text e d = empty_at_end text d (grind (arith, common_steps, e))
+    empty_here false text e d = let h : s < length input.bytes = grind (arith, common_steps, e) in
+        empty_before_end text d h
+
+    pub step_is : (old new : Option (List ℕ)) (r : Result Attempt WriteFault) → IsAttempt g window more settings.raw old
+        new r →
+        IsStep (rules_of g.rules) g.start settings input s old new (step_after settings.limit s (length input.bytes) r)
+    step_is old new (Ok (Printed zero)) (events, looked, d, enough, wrote) =
+        inr (_, empty_here (s == length input.bytes) _ refl (is_unit zero events looked d enough), wrote)
+    step_is old new (Ok (Printed (suc n))) (events, looked, d, enough, wrote) =
+        (_, is_unit (suc n) events looked d enough, wrote, omega arith)
+    step_is old new (Ok Failed) (looked, d, enough, kept) =
+        inr ([], fails_here (s == length input.bytes) refl (gives_at Fails looked d enough), Appends-none old new kept)
+    step_is old new (Ok TooLong) (is, d, kept) =
+        let full : settings.limit < length rest = grind (arith, common_steps, is) in
+        let long = seen_long g rest settings.limit sound d.0 full d.1 in
+        inr ([], overlong long.0 long.1 may_run long.2 long.3, Appends-none old new kept)
+    step_is old new (Ok NoMemory) kept = inl (refl, kept)
+    step_is old new (Err fault) (k, events, looked, d, enough, wrote) = (k, _, is_unit k events looked d enough, wrote)
+
+  pub step_fits : (old new : Option (List ℕ)) (r : Result Attempt WriteFault) → IsAttempt g window more settings.raw old
+      new r →
+      StaysWithin (length input.bytes) s (step_after settings.limit s (length input.bytes) r)
+  step_fits old new (Ok (Printed zero)) a = tt
+  step_fits old new (Ok (Printed (suc n))) (events, looked, d, enough, wrote) =
+      let r = rises_of_start (rules_of g.rules) g.start window (suc n) looked events d in
+      let l = length-drop s input.bytes in
+      let w = length-take (suc settings.limit) rest in
+      (omega arith, omega (arith, r.1))
+  step_fits old new (Ok Failed) a = tt
+  step_fits old new (Ok TooLong) a = tt
+  step_fits old new (Ok NoMemory) a = tt
+  step_fits old new (Err fault) a = tt

@@ -1,0 +1,28 @@
+-- The units so far, of every input that begins with what was seen, have been written.
+use Rattle.std.proofs.Common.{◌≡◌, ◌+◌, ◌-◌, ◌++◌, length, ℕ, List}
+use Rattle.std.specs.Io.KnownBytes.{Appends, Consumes}
+use Rattle.feed.specs.Feed.{IsTrueOfReader, SameLoan, allowance_of, bytes_of, capacity_of, flow_of, input_limit}
+use Rattle.feed.specs.Feed.{reader_of}
+use Rattle.pegread.specs.PegViews.{rules_of}
+use Rattle.toolrun.specs.Agrees.{Agrees}
+use Rattle.toolrun.specs.Input.{Input}
+use Rattle.pegrun.specs.Units.{Units}
+use Rattle.pegrun.proofs.engine.cut.Given as goal
+
+abbrev pub invariant-loop-n : goal.invariant-loop-n
+invariant-loop-n g l = record {
+  capacity : capacity_of l.feed ≡ l.settings.limit + 1;
+  within : l.start + length (bytes_of l.feed) + allowance_of l.feed ≡ input_limit;
+  told : IsTrueOfReader g.R.Source.remaining g.R.Source.failed g.R.Source.ended l.feed;
+  loan : SameLoan l.fn.feed l.feed;
+  flag : g.O.Sink.failed l.out ≡ g.O.Sink.failed l.fn.out;
+  written : (before : List ℕ) × (length before ≡ l.start) ×
+      Consumes (g.R.Source.remaining (reader_of l.fn.feed)) (g.R.Source.remaining (reader_of l.feed))
+      (before ++ bytes_of l.feed) ×
+      ((input : Input) → Agrees (before ++ bytes_of l.feed) (flow_of l.feed) input →
+      (text : List ℕ) × Units (rules_of l.peg.rules) l.peg.start l.settings input l.start text ×
+      Appends (g.O.Sink.contents l.fn.out) (g.O.Sink.contents l.out) text);
+}
+
+abbrev pub decreases-loop-n : goal.decreases-loop-n
+decreases-loop-n g l = input_limit - l.start

@@ -1,0 +1,9 @@
+-- The first piece is a beginning of what is held.
+use Rattle.pegrun.proofs.AttemptLemmas.{attempt_behind}
+use Rattle.pegrun.proofs.unit.attempt_front.Goals as goal
+
+pub returns-clause-answer : goal.returns-clause-answer
+returns-clause-answer g c =
+    attempt_behind c.args.peg.now c.front-front.result.now c.args.feed.now.ring.items c.args.raw
+    (g.O.Sink.contents c.args.out.now)
+    (g.O.Sink.contents c.print_unit.new.out) c.print_unit.result c.front-front.ensures c.print_unit.ensures.answer

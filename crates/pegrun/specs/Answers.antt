@@ -1,0 +1,44 @@
+-- What is stated for a grammar's text, settings and an input.
+use Rattle.std.specs.Prelude.{◌≡◌, ◌≢◌, ℕ, true, false, List, []}
+use Rattle.ruletable.specs.Notes.{Said}
+use Rattle.ruletable.specs.declared.fault.ReadFault.{ReadFault}
+use Rattle.ruletable.specs.declared.fault.ReadFault.TheVariants.{Memory}
+use Rattle.pegread.specs.Definitions.{firsts}
+use Rattle.pegread.specs.Pattern.{Rule}
+use Rattle.pegread.specs.Reading.{Reads, IsFaultOf}
+use Rattle.gramcheck.specs.Checked.{is_refused, IsStart}
+use Rattle.toolrun.specs.Input.{Input}
+use Rattle.pegrun.specs.Noted.{AreNotesOn, AreAgain, start_given}
+use Rattle.pegrun.specs.PegReply.{printed_text, RunStates}
+use Rattle.toolrun.specs.NotesText.{notes_text}
+use Rattle.toolrun.specs.Reply.{Reply, notes_alone, refusal, without_memory}
+use Rattle.toolrun.specs.declared.settings.Mode.TheVariants.{Run, Check, Print}
+use Rattle.toolrun.specs.declared.settings.Settings.{Settings}
+
+-- what is stated for a grammar's text and an input: the notes, and what follows them
+pub data States (text : List ℕ) (settings : Settings) (input : Input) : List ℕ → Reply → Type 0 where
+  -- the text has a fault, which is told
+  refused : (fault : ReadFault) → IsFaultOf text fault → fault ≢ Memory → States text settings input [] (refusal fault)
+  -- the text is a grammar that a note refuses
+  noted : (definitions : List Rule) (notes : List Said) → Reads text definitions
+      → AreNotesOn definitions (start_given settings) notes →
+      is_refused notes ≡ true → settings.mode ≢ Print → States text settings input (notes_text notes) (notes_alone 2)
+  -- it is a grammar that no note refuses, and no more is asked
+  checked : (definitions : List Rule) (notes : List Said) → Reads text definitions
+      → AreNotesOn definitions (start_given settings) notes →
+      is_refused notes ≡ false → settings.mode ≡ Check → States text settings input (notes_text notes) (notes_alone 0)
+  -- its start rule is run on the input
+  runs : (definitions : List Rule) (notes : List Said) (start : ℕ) (stated : Reply) → Reads text definitions
+      → AreNotesOn definitions (start_given settings) notes →
+      is_refused notes ≡ false → settings.mode ≡ Run → IsStart (start_given settings) (firsts [] definitions) start →
+      RunStates (firsts [] definitions) start settings input stated → States text settings input (notes_text notes)
+      stated
+  -- it is only to be printed, but defines a rule again
+  again : (definitions : List Rule) (notes : List Said) → Reads text definitions → AreAgain definitions notes
+      → notes ≢ [] → settings.mode ≡ Print →
+      States text settings input (notes_text notes) (notes_alone 2)
+  -- it is only to be printed, and defines no rule again
+  printed : (definitions : List Rule) → Reads text definitions → AreAgain definitions [] → settings.mode ≡ Print
+      → States text settings input [] (printed_text definitions)
+  -- an allocation failed in reading or checking the text, which is not too long
+  no_memory : IsFaultOf text Memory → States text settings input [] (without_memory [] 0)

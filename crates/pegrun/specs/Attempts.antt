@@ -1,0 +1,73 @@
+-- What one attempt at a unit comes to, and what it writes.
+use Rattle.std.specs.Prelude.{◌≡◌, ℕ, zero, suc, ◌+◌, ◌<◌, ◌≤◌, ◌⊎◌, ◌==◌, ⊤, Bool, true, List, length, Option, Result}
+use Rattle.std.specs.Prelude.{Ok, Err, if◌then◌else◌}
+use Rattle.std.specs.Io.KnownBytes.{Appends, Keeps}
+use Rattle.ruletable.specs.Writing.{AppendsPart}
+use Rattle.ruletable.specs.declared.sink.WriteFault.{WriteFault}
+use Rattle.pegread.specs.Pattern.{Rule}
+use Rattle.gramcheck.specs.Grammar.{Grammar}
+use Rattle.gramcheck.specs.Outcome.{Outcome, Fails, Takes, Event}
+use Rattle.pegmatch.specs.Answers.{StartGives, WasEnough}
+use Rattle.pegmatch.specs.Text.{text_of}
+use Rattle.toolrun.specs.Input.{Input}
+use Rattle.pegrun.specs.Units.{IsUnit, Ends}
+use Rattle.toolrun.specs.declared.settings.Settings.{Settings}
+use Rattle.toolrun.specs.declared.stop.Stop.{Stop}
+use Rattle.toolrun.specs.declared.status.Status.TheVariants.{Done}
+use Rattle.toolrun.specs.declared.stop.Stop.TheVariants as stop
+use Rattle.pegrun.specs.declared.unit.Attempt.{Attempt}
+use Rattle.pegrun.specs.declared.unit.Attempt.TheVariants.{Printed, Failed, TooLong, NoMemory}
+use Rattle.pegrun.specs.declared.unit.Step.{Step}
+use Rattle.pegrun.specs.declared.unit.Step.TheVariants.{Takes as Goes, Stops}
+
+-- At the front of a window a success prints its text, and all else prints nothing, unless the writer fails.
+abbrev pub IsAttempt : Grammar → List ℕ → Bool → Bool → Option (List ℕ) → Option (List ℕ) → Result Attempt WriteFault
+    → Type 0
+IsAttempt g window more raw old new (Ok (Printed k)) = (events : List Event) × (looked : ℕ) ×
+    StartGives g window (Takes k events) looked × WasEnough window more looked
+    × Appends old new (text_of raw window events)
+IsAttempt g window more raw old new (Ok Failed) =
+    (looked : ℕ) × StartGives g window Fails looked × WasEnough window more looked × Keeps old new
+IsAttempt g window more raw old new (Ok TooLong) =
+    (more ≡ true) × ((o : Outcome) × StartGives g window o (length window)) × Keeps old new
+IsAttempt g window more raw old new (Ok NoMemory) = Keeps old new
+IsAttempt g window more raw old new (Err fault) = (k : ℕ) × (events : List Event) × (looked : ℕ) ×
+    StartGives g window (Takes k events) looked × WasEnough window more looked
+    × AppendsPart old new (text_of raw window events)
+
+-- how a run ends at a place where no unit goes on
+abbrev pub stop_at : ℕ → ℕ → Stop
+stop_at place len = if place == len then stop.Quiet Done else stop.NoMatch place
+
+-- what follows at a place where this came of the start rule, which may look at so many bytes
+abbrev pub step_after : ℕ → ℕ → ℕ → Result Attempt WriteFault → Result Step WriteFault
+step_after limit place len (Ok (Printed zero)) = Ok (Stops (stop_at place len))
+step_after limit place len (Ok (Printed (suc n))) = Ok (Goes (suc n))
+step_after limit place len (Ok Failed) = Ok (Stops (stop_at place len))
+step_after limit place len (Ok TooLong) = Ok (Stops (stop.LongUnit place limit))
+step_after limit place len (Ok NoMemory) = Ok (Stops stop.NoMemory)
+step_after limit place len (Err fault) = Err fault
+
+-- what follows at a place from which these bytes are held
+abbrev pub IsStepOn : Grammar → List ℕ → Bool → Settings → ℕ → Option (List ℕ) → Option (List ℕ)
+    → Result Step WriteFault → Type 0
+IsStepOn g items more settings s old new result = (attempted : Result Attempt WriteFault)
+    × IsAttempt g items more settings.raw old new attempted ×
+    (result ≡ step_after settings.limit s (s + length items) attempted)
+
+-- A unit of some bytes was printed, or the run ends here and the text of its last unit was printed, or memory was
+-- refused and nothing was.
+abbrev pub IsStep : List Rule → ℕ → Settings → Input → ℕ → Option (List ℕ) → Option (List ℕ) → Result Step WriteFault
+    → Type 0
+IsStep rules start settings input s old new (Ok (Goes k)) =
+    (text : List ℕ) × IsUnit rules start settings input s k text × Appends old new text × (0 < k)
+IsStep rules start settings input s old new (Ok (Stops why)) =
+    ((why ≡ stop.NoMemory) × Keeps old new) ⊎ ((last : List ℕ) × Ends rules start settings input s last why
+    × Appends old new last)
+IsStep rules start settings input s old new (Err fault) =
+    (k : ℕ) × (text : List ℕ) × IsUnit rules start settings input s k text × AppendsPart old new text
+
+-- a unit takes some of the bytes that are there
+abbrev pub StaysWithin : ℕ → ℕ → Result Step WriteFault → Type 0
+StaysWithin len s (Ok (Goes k)) = (0 < k) × (s + k ≤ len)
+StaysWithin len s _ = ⊤

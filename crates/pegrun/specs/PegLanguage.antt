@@ -1,0 +1,34 @@
+-- What a grammar's text is read as, and what is known of it when it is checked or only to be printed. It serves private
+-- helpers alone.
+use Rattle.std.specs.Prelude.{◌≡◌, ℕ, true, false, List, [], Option, MatchOption}
+use Rattle.ruletable.specs.Notes.{Said}
+use Rattle.ruletable.specs.Rules as table
+use Rattle.pegread.specs.Definitions.{firsts, IsTableOf}
+use Rattle.pegread.specs.Pattern.{Rule}
+use Rattle.pegread.specs.PegViews.{rules_of}
+use Rattle.pegread.specs.Reading.{Reads}
+use Rattle.pegread.specs.declared.expr.Expr.{Expr}
+use Rattle.gramcheck.specs.Checked.{is_refused, IsStart}
+use Rattle.gramcheck.specs.Grammar.{Grammar, IsSoundGrammar}
+use Rattle.pegrun.specs.Noted.{AreAgain, AreNotesOn}
+
+-- the text is read as these rules, with the ids of those that it defines again
+abbrev pub IsReadAs : List ℕ → table.Rules Expr → List ℕ → Type 0
+IsReadAs text rules redefined = (definitions : List Rule) × Reads text definitions × IsTableOf definitions rules redefined
+
+-- the text's grammar with its notes, ready to run where none of them refuses it
+pub record IsChecked (text : List ℕ) (start : Option (List ℕ)) (notes : List Said) (sound : Option Grammar) : Type
+    0 where
+  pub definitions : List Rule
+  pub reads : Reads text definitions
+  pub are_notes : AreNotesOn definitions start notes
+  pub ready : MatchOption sound (is_refused notes ≡ true)
+      (λ g. (is_refused notes ≡ false) × (rules_of g.rules ≡ firsts [] definitions)
+      × IsStart start (firsts [] definitions) g.start × IsSoundGrammar g)
+
+-- the text's grammar, with the notes on the rules that it defines again
+pub record IsPrintable (text : List ℕ) (rules : List Rule) (again : List Said) : Type 0 where
+  pub definitions : List Rule
+  pub reads : Reads text definitions
+  pub kept : rules ≡ firsts [] definitions
+  pub are_again : AreAgain definitions again

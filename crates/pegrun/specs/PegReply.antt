@@ -1,0 +1,24 @@
+-- What a run of a grammar on an input states.
+use Rattle.std.specs.Prelude.{ℕ, List, []}
+use Rattle.pegread.specs.Canon.{grammar_text}
+use Rattle.pegread.specs.Definitions.{firsts}
+use Rattle.pegread.specs.Pattern.{Rule}
+use Rattle.pegrun.specs.Units.{Units, Ends, taken_at}
+use Rattle.toolrun.specs.Input.{Input}
+use Rattle.toolrun.specs.Reply.{Reply, text_alone}
+use Rattle.toolrun.specs.RunSteps as steps
+use Rattle.toolrun.specs.declared.settings.Settings.{Settings}
+
+-- the canonical text of the grammar is written, and nothing is taken
+abbrev pub printed_text : List Rule → Reply
+printed_text definitions = text_alone (grammar_text (firsts [] definitions))
+
+-- the units of the input in turn, and how the run ends
+abbrev pub Replies : List Rule → ℕ → Settings → Input → Reply → Type 0
+Replies rules start settings input reply = steps.Replies (Units rules start settings input)
+    (Ends rules start settings input) (taken_at settings input) reply
+
+-- a run states its reply, or the text of the first units if an allocation fails
+abbrev pub RunStates : List Rule → ℕ → Settings → Input → Reply → Type 0
+RunStates rules start settings input reply = steps.RunStates (Units rules start settings input)
+    (Ends rules start settings input) (taken_at settings input) reply

@@ -1,0 +1,84 @@
+//! The units of an input that is read as far as they need it.
+ghost use Rattle.std.specs.Prelude.{◌≡◌, ℕ, List, ◌+◌, [], length, false};
+ghost use Rattle.std.specs.Io.KnownBytes.{Consumes};
+ghost use Rattle.ruletable.specs.Writing.{Flags};
+ghost use Rattle.feed.specs.Feed.{IsTrueOfReader, SameLoan, allowance_of, bytes_of, capacity_of, flow_of, input_limit};
+ghost use Rattle.feed.specs.Feed.{reader_of};
+ghost use Rattle.pegread.specs.PegViews.{rules_of};
+ghost use Rattle.toolrun.specs.Agrees.{Agrees};
+ghost use Rattle.toolrun.specs.Input.{Input};
+ghost use Rattle.pegrun.specs.PegReply.{RunStates};
+ghost use Rattle.pegrun.specs.PegStopped.{IsCut};
+ghost use Rattle.toolrun.specs.Stopped.{Performs};
+ghost use Rattle.toolrun.specs.Stream.{passed};
+
+use crate::unit::{Step, next_unit};
+use feed::{Feed, Source};
+use gramcheck::SoundPeg;
+use pegmatch::Matcher;
+use ruletable::{Sink, WriteFault};
+use std::alloc::Global;
+use toolrun::{Settings, Stop};
+
+/// Runs the units of an input in turn, each from where the one before ended, and prints the text of each.
+pub fn cut<M: Matcher, R: Source, O: Sink>(
+    matcher: &mut M,
+    peg: &SoundPeg,
+    settings: &Settings<'_>,
+    feed: &mut Feed<'_, R>,
+    out: &mut O,
+) -> Result<Stop, WriteFault>
+    requires capacity { capacity_of feed.old ≡ settings.now.limit + 1 }
+    requires empty { bytes_of feed.old ≡ [] }
+    requires allowance { allowance_of feed.old ≡ input_limit }
+    requires told { IsTrueOfReader R.remaining R.failed R.ended feed.old }
+    requires out_is_fresh { O.failed out.old ≡ false }
+    ensures loan { SameLoan feed.old feed.new }
+    ensures told { IsTrueOfReader R.remaining R.failed R.ended feed.new }
+    ensures units { (seen : List ℕ) × Consumes (R.remaining (reader_of feed.old)) (R.remaining
+        (reader_of feed.new)) seen ×
+        (allowance_of feed.new + length seen ≡ input_limit) ×
+        ((input : Input) → Agrees seen (flow_of feed.new) input → IsCut (rules_of peg.now.rules) peg.now.start
+        settings.now input (length seen)
+        (O.contents out.old) (O.contents out.new) result) }
+    ensures flag { Flags (O.failed out.old) (O.failed out.new) result }
+{
+    let mut start = 0;
+    loop {
+        match next_unit(matcher, peg, settings, feed, start, out) {
+            Ok(Step::Takes(n)) => {
+                feed.skip(n);
+                start += n;
+            }
+            Ok(Step::Stops(stop)) => return Ok(stop),
+            Err(fault) => return Err(fault),
+        }
+    }
+}
+
+/// Runs the units of a grammar on what a reader gives.
+pub fn run_units<M: Matcher, R: Source, O: Sink>(
+    alloc: Global,
+    matcher: &mut M,
+    peg: &SoundPeg,
+    settings: &Settings<'_>,
+    reader: &mut R,
+    out: &mut O,
+) -> Result<Stop, WriteFault>
+    requires reader_is_fresh { R.failed reader.old ≡ false }
+    requires reader_is_open { R.ended reader.old ≡ false }
+    requires out_is_fresh { O.failed out.old ≡ false }
+    ensures { Performs (RunStates (rules_of peg.now.rules) peg.now.start settings.now)
+        (passed R.remaining R.failed reader.old reader.new) (passed O.contents O.failed out.old out.new) result }
+{
+    // its contract says that the grammar is sound
+    let _ = peg.start();
+    let ring = match Feed::<R>::room(alloc, settings.limit) {
+        Ok(ring) => ring,
+        Err(_) => return Ok(Stop::NoMemory),
+    };
+    let mut feed = Feed::new(ring, reader);
+    let stop = cut(matcher, peg, settings, &mut feed, out);
+    let _reader = feed.into_reader();
+    stop
+}

@@ -1,0 +1,37 @@
+//! Laws of what is stated for a grammar and an input: there is at most one answer.
+ghost use Rattle.std.specs.Prelude.{◌≡◌, ◌≢◌, ℕ, List, []};
+ghost use Rattle.ruletable.specs.declared.fault.ReadFault.{ReadFault};
+ghost use Rattle.pegread.specs.Pattern.{Rule};
+ghost use Rattle.pegread.specs.Reading.{IsFaultOf, Reads};
+ghost use Rattle.toolrun.specs.Input.{Input};
+ghost use Rattle.pegrun.specs.Answers.{States};
+ghost use Rattle.pegrun.specs.PegReply.{Replies};
+ghost use Rattle.toolrun.specs.Reply.{Reply, refusal};
+ghost use Rattle.toolrun.specs.declared.settings.Settings.{Settings};
+
+use pegread::one_reading;
+
+/// Says that a list of rules, a start rule and settings have at most one reply to an input.
+pub fn one_reply()
+    ensures { (rules : List Rule) (start : ℕ) (settings : Settings) (input : Input) (a b : Reply) →
+        Replies rules start settings input a → Replies rules start settings input b → a ≡ b }
+{}
+
+/// Says that a text is a grammar of at most one list of definitions, or has at most one fault, and never both; but
+/// memory may be refused in reading it. A text, settings and an input have at most one list of notes and one reply, but
+/// for those that tell want of memory, status 5. A text that is too long is told so, whatever memory does.
+pub fn one_statement()
+    ensures definitions { (text : List ℕ) (a b : List Rule) → Reads text a → Reads text b → a ≡ b }
+    ensures no_fault { (text : List ℕ) (definitions : List Rule) (fault : ReadFault) →
+        IsFaultOf text fault → fault ≢ ReadFault.Memory → Reads text definitions → ⊥ }
+    ensures one_fault { (text : List ℕ) (a b : ReadFault) →
+        IsFaultOf text a → IsFaultOf text b → a ≢ ReadFault.Memory → b ≢ ReadFault.Memory → a ≡ b }
+    ensures whole { (text : List ℕ) (settings : Settings) (input : Input) (notes others : List ℕ) (a b : Reply) →
+        States text settings input notes a → States text settings input others b → a.status ≢ 5 → b.status ≢ 5 →
+        (notes ≡ others) × (a ≡ b) }
+    ensures long { (text : List ℕ) (settings : Settings) (input : Input) (notes : List ℕ) (reply : Reply) →
+        IsFaultOf text ReadFault.TooLong → States text settings input notes reply →
+        (notes ≡ []) × (reply ≡ refusal ReadFault.TooLong) }
+{
+    one_reading();
+}

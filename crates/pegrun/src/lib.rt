@@ -1,0 +1,15 @@
+//! The peg tool: it reads a grammar, checks or prints it or runs it on an input, and answers on two writers.
+#![tactic(auto)]
+
+mod engine;
+mod laws;
+mod peg_language;
+mod run;
+mod unit;
+
+pub use feed::{Broken, Source, SourceOf};
+pub use laws::{one_reply, one_statement};
+pub use run::run_peg;
+pub use toolrun::{
+    Alphabet, DEFAULT_LIMIT, MAX_LIMIT, Mode, Settings, Status, Stop, close_run, end_run,
+};

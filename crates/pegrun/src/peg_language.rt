@@ -1,0 +1,72 @@
+//! The language of peg(1), whose grammars are run on units of an input.
+ghost use Rattle.pegread.specs.Canon.{grammar_text};
+ghost use Rattle.pegread.specs.PegViews.{rules_of};
+ghost use Rattle.pegread.specs.Reading.{IsFaultOf};
+ghost use Rattle.pegrun.specs.Answers.{States};
+ghost use Rattle.pegrun.specs.PegLanguage.{IsChecked, IsPrintable, IsReadAs};
+ghost use Rattle.pegrun.specs.PegReply.{RunStates};
+
+use crate::engine::run_units;
+use feed::Source;
+use gramcheck::{SoundPeg, check_peg, redefinitions};
+use packrat::Packrat;
+use pegread::{Peg, print_peg, read_peg};
+use ruletable::{Memory, Note, ReadFault, Sink, WriteFault};
+use std::alloc::Global;
+use toolrun::{Checked, Language, Settings, Stop};
+
+/// The language of peg(1).
+pub struct PegLanguage;
+
+impl Language for PegLanguage {
+    type Grammar = Peg;
+    type Sound = SoundPeg;
+
+    ghost states = { States };
+
+    ghost has_fault = { IsFaultOf };
+
+    ghost is_read = { λ text peg. IsReadAs text peg.rules peg.redefined.items };
+
+    ghost is_checked = { IsChecked };
+
+    ghost is_printable = { λ text peg again. IsPrintable text (rules_of peg.rules) again };
+
+    ghost canonical = { λ peg. grammar_text (rules_of peg.rules) };
+
+    ghost runs = { λ peg. RunStates (rules_of peg.rules) peg.start };
+
+    fn read(alloc: Global, text: &[u8]) -> Result<Peg, ReadFault> {
+        read_peg(alloc, text)
+    }
+
+    fn check(
+        alloc: Global,
+        grammar: Peg,
+        start: Option<&str>,
+    ) -> Result<Checked<SoundPeg>, Memory> {
+        let gramcheck::Checked { notes, sound } = check_peg(alloc, grammar, start)?;
+        Ok(Checked { notes, sound })
+    }
+
+    fn redefinitions(alloc: Global, grammar: &Peg) -> Result<Vec<Note>, Memory> {
+        redefinitions(alloc, grammar)
+    }
+
+    fn print<O: Sink>(grammar: &Peg, out: &mut O) -> Result<(), WriteFault> {
+        print_peg(grammar, out)
+    }
+
+    fn run<R: Source, O: Sink>(
+        alloc: Global,
+        grammar: &SoundPeg,
+        settings: &Settings<'_>,
+        reader: &mut R,
+        out: &mut O,
+    ) -> Result<Stop, WriteFault> {
+        let mut matcher = Packrat::new(alloc);
+        run_units(alloc, &mut matcher, grammar, settings, reader, out)
+    }
+
+    fn follows() {}
+}

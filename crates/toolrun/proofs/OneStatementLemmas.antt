@@ -1,0 +1,114 @@
+-- What the tool of a language states for a text, settings and an input is one, but for want of memory.
+-- Serves: one_statement, one_statement_of_abnf
+use Rattle.std.proofs.Common.{◌≡◌, ◌≢◌, ℕ, ◌⊎◌, inl, inr, List, [], refl, sym, ◌∙◌, ap, subst}
+use Rattle.ruletable.specs.Notes.{Said}
+use Rattle.ruletable.specs.declared.fault.ReadFault.{ReadFault}
+use Rattle.ruletable.specs.declared.fault.ReadFault.TheVariants.{Memory}
+use Rattle.toolrun.specs.NotesText.{notes_text}
+use Rattle.toolrun.specs.Reply.{Reply, notes_alone, refusal}
+use Rattle.toolrun.specs.declared.settings.Mode.{Mode}
+use Rattle.toolrun.specs.declared.settings.Mode.TheVariants.{Run, Check, Print}
+
+-- Of a text, IsFault says what is wrong with it, and Reads which definitions it spells. Of definitions, AreNotes and
+-- AreAgain say what is noted, IsRefused and IsSound which notes refuse them and which do not, Runs what a run of them
+-- states, and printed what is written of them.
+module _ {Definitions : Type 0} (IsFault : ReadFault → Type 0) (Reads : Definitions → Type 0)
+    (AreNotes IsRefused IsSound AreAgain : Definitions → List Said → Type 0) (Runs : Definitions → Reply → Type 0)
+    (printed : Definitions → Reply) (mode : Mode) where
+  -- what is stated for a text that spells these definitions
+  pub data StatesOf (definitions : Definitions) : List ℕ → Reply → Type 0 where
+    is_noted : (notes : List Said) → AreNotes definitions notes → IsRefused definitions notes → mode ≢ Print
+        → StatesOf definitions (notes_text notes) (notes_alone 2)
+    is_checked : (notes : List Said) → AreNotes definitions notes → IsSound definitions notes → mode ≡ Check
+        → StatesOf definitions (notes_text notes) (notes_alone 0)
+    is_run : (notes : List Said) (stated : Reply) → AreNotes definitions notes → IsSound definitions notes → mode ≡ Run
+        → Runs definitions stated → StatesOf definitions (notes_text notes) stated
+    is_again : (notes : List Said) → AreAgain definitions notes → notes ≢ [] → mode ≡ Print
+        → StatesOf definitions (notes_text notes) (notes_alone 2)
+    is_printed : AreAgain definitions [] → mode ≡ Print → StatesOf definitions [] (printed definitions)
+
+  -- the text has a fault, which is told, or spells definitions
+  pub record IsRefusal (notes : List ℕ) (reply : Reply) : Type 0 where
+    pub fault : ReadFault
+    pub is_fault : IsFault fault
+    pub other : fault ≢ Memory
+    pub none : notes ≡ []
+    pub told : reply ≡ refusal fault
+
+  pub record IsReadFor (notes : List ℕ) (reply : Reply) : Type 0 where
+    pub definitions : Definitions
+    pub reads : Reads definitions
+    pub states : StatesOf definitions notes reply
+
+  module _ (one_reading : (a b : Definitions) → Reads a → Reads b → a ≡ b)
+      (one_fault : (a b : ReadFault) → IsFault a → IsFault b → a ≢ Memory → b ≢ Memory → a ≡ b)
+      (no_fault : (definitions : Definitions) (fault : ReadFault) → Reads definitions → IsFault fault → fault ≡ Memory)
+      (one_notes : (definitions : Definitions) (a b : List Said) → AreNotes definitions a → AreNotes definitions b
+      → a ≡ b)
+      (one_again : (definitions : Definitions) (a b : List Said) → AreAgain definitions a → AreAgain definitions b
+      → a ≡ b)
+      (one_verdict : (definitions : Definitions) (notes : List Said) → IsRefused definitions notes
+      → IsSound definitions notes → ⊥)
+      (one_run : (definitions : Definitions) (a b : Reply) → Runs definitions a → Runs definitions b → a.status ≢ 5
+      → b.status ≢ 5 → a ≡ b) where
+    module _ (definitions : Definitions) where
+      one_text : (a b : List Said) → AreNotes definitions a → AreNotes definitions b → notes_text a ≡ notes_text b
+      one_text a b g h = ap notes_text (one_notes definitions a b g h)
+
+      -- no list of notes refuses the grammar beside one that does not
+      not_both : (a b : List Said) → AreNotes definitions a → AreNotes definitions b → IsRefused definitions a
+          → IsSound definitions b → ⊥
+      not_both a b g h bad fine =
+          one_verdict definitions b (subst (IsRefused definitions) (one_notes definitions a b g h) bad) fine
+
+      one_of : (notes others : List ℕ) (a b : Reply) → StatesOf definitions notes a → StatesOf definitions others b
+          → a.status ≢ 5 → b.status ≢ 5 → (notes ≡ others) × (a ≡ b)
+      one_of notes others a b (is_noted v g bad mode) (is_noted w h bad' mode') m n = (one_text v w g h, refl)
+      one_of notes others a b (is_noted v g bad mode) (is_checked w h fine mode') m n =
+          absurd (not_both v w g h bad fine)
+      one_of notes others a b (is_noted v g bad mode) (is_run w stated h fine mode' run) m n =
+          absurd (not_both v w g h bad fine)
+      one_of notes others a b (is_noted v g bad mode) (is_again w h some mode') m n = absurd (mode mode')
+      one_of notes others a b (is_noted v g bad mode) (is_printed h mode') m n = absurd (mode mode')
+      one_of notes others a b (is_checked v g fine mode) (is_noted w h bad mode') m n =
+          absurd (not_both w v h g bad fine)
+      one_of notes others a b (is_checked v g fine mode) (is_checked w h fine' mode') m n = (one_text v w g h, refl)
+      one_of notes others a b (is_checked v g fine mode) (is_run w stated h fine' mode' run) m n = absurd (cc)
+      one_of notes others a b (is_checked v g fine mode) (is_again w h some mode') m n = absurd (cc)
+      one_of notes others a b (is_checked v g fine mode) (is_printed h mode') m n = absurd (cc)
+      one_of notes others a b (is_run v stated g fine mode run) (is_noted w h bad mode') m n =
+          absurd (not_both w v h g bad fine)
+      one_of notes others a b (is_run v stated g fine mode run) (is_checked w h fine' mode') m n = absurd (cc)
+      one_of notes others a b (is_run v stated g fine mode run) (is_run w told h fine' mode' run') m n =
+          (one_text v w g h, one_run definitions a b run run' m n)
+      one_of notes others a b (is_run v stated g fine mode run) (is_again w h some mode') m n = absurd (cc)
+      one_of notes others a b (is_run v stated g fine mode run) (is_printed h mode') m n = absurd (cc)
+      one_of notes others a b (is_again v g some mode) (is_noted w h bad mode') m n = absurd (mode' mode)
+      one_of notes others a b (is_again v g some mode) (is_checked w h fine mode') m n = absurd (cc)
+      one_of notes others a b (is_again v g some mode) (is_run w stated h fine mode' run) m n = absurd (cc)
+      one_of notes others a b (is_again v g some mode) (is_again w h some' mode') m n =
+          (ap notes_text (one_again definitions v w g h), refl)
+      one_of notes others a b (is_again v g some mode) (is_printed h mode') m n =
+          absurd (some (one_again definitions v [] g h))
+      one_of notes others a b (is_printed g mode) (is_noted w h bad mode') m n = absurd (mode' mode)
+      one_of notes others a b (is_printed g mode) (is_checked w h fine mode') m n = absurd (cc)
+      one_of notes others a b (is_printed g mode) (is_run w stated h fine mode' run) m n = absurd (cc)
+      one_of notes others a b (is_printed g mode) (is_again w h some mode') m n =
+          absurd (some (one_again definitions w [] h g))
+      one_of notes others a b (is_printed g mode) (is_printed h mode') m n = (refl, refl)
+
+    -- one list of notes and one reply
+    pub one_stated : (notes others : List ℕ) (a b : Reply) → IsRefusal notes a ⊎ IsReadFor notes a
+        → IsRefusal others b ⊎ IsReadFor others b → a.status ≢ 5 → b.status ≢ 5 → (notes ≡ others) × (a ≡ b)
+    one_stated notes others a b (inl g) (inl h) m n = (
+      g.none ∙ sym h.none,
+      g.told ∙ ap refusal (one_fault g.fault h.fault g.is_fault h.is_fault g.other h.other) ∙ sym h.told,
+    )
+    one_stated notes others a b (inl g) (inr h) m n =
+        absurd (let other = g.other in other (no_fault h.definitions g.fault h.reads g.is_fault))
+    one_stated notes others a b (inr g) (inl h) m n =
+        absurd (let other = h.other in other (no_fault g.definitions h.fault g.reads h.is_fault))
+    one_stated notes others a b (inr g) (inr h) m n =
+        let same : h.definitions ≡ g.definitions = one_reading h.definitions g.definitions h.reads g.reads in
+        one_of g.definitions notes others a b g.states
+        (subst (λ (ds : Definitions). StatesOf ds others b) same h.states) m n

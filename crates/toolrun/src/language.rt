@@ -1,0 +1,95 @@
+//! A grammar language, and what its tool does.
+ghost use Rattle.std.specs.Prelude.{◌≡◌, ℕ, List, Option, IfOk, IfErr, false, map, option_copied};
+ghost use Rattle.ruletable.specs.Notes.{Said, said_of};
+ghost use Rattle.ruletable.specs.Writing.{Flags, Writes};
+ghost use Rattle.ruletable.specs.declared.fault.ReadFault.{ReadFault as Fault};
+ghost use Rattle.toolrun.specs.Input.{Input};
+ghost use Rattle.toolrun.specs.Language.{AreStated};
+ghost use Rattle.toolrun.specs.Reply.{Reply};
+ghost use Rattle.toolrun.specs.Stopped.{Performs};
+ghost use Rattle.toolrun.specs.Stream.{passed};
+ghost use Rattle.toolrun.specs.declared.settings.Settings.{Settings as AllSettings};
+
+use crate::settings::Settings;
+use crate::stop::Stop;
+use feed::Source;
+use ruletable::{Memory, Note, ReadFault, Sink, WriteFault};
+use std::alloc::Global;
+
+/// What the checks of a grammar gave.
+#[derive(Drop)]
+pub struct Checked<S> {
+    /// What there is to say of it, in order.
+    pub notes: Vec<Note>,
+    /// The grammar, ready to run, unless it is refused.
+    pub sound: Option<S>,
+}
+
+/// A language of grammars: how a text is read, checked and printed, and what a grammar is run for.
+pub trait Language {
+    /// What a text is read as.
+    type Grammar: Drop;
+
+    /// A grammar that was checked and is not refused.
+    type Sound: Drop;
+
+    /// What is stated for a grammar's text, settings and an input: the notes, and what follows them.
+    ghost states: { List ℕ → AllSettings → Input → List ℕ → Reply → Type 0 };
+
+    /// What is wrong with a text.
+    ghost has_fault: { List ℕ → Fault → Type 0 };
+
+    /// What a text is read as.
+    ghost is_read: { List ℕ → Self.Grammar → Type 0 };
+
+    /// What is noted of a text's grammar for the name of a start rule, and what is ready to run.
+    ghost is_checked: { List ℕ → Option (List ℕ) → List Said → Option Self.Sound → Type 0 };
+
+    /// What is noted of a text's grammar that is only to be printed.
+    ghost is_printable: { List ℕ → Self.Grammar → List Said → Type 0 };
+
+    /// The canonical text of a grammar.
+    ghost canonical: { Self.Grammar → List ℕ };
+
+    /// What a run of a grammar states for settings and an input.
+    ghost runs: { Self.Sound → AllSettings → Input → Reply → Type 0 };
+
+    /// Reads a grammar's text.
+    fn read(alloc: Global, text: &[u8]) -> Result<Self::Grammar, ReadFault>
+        ensures read { IfOk result (λ grammar. is_read text.now grammar) }
+        ensures fault { IfErr result (λ fault. has_fault text.now fault) };
+
+    /// Checks a grammar, and notes what there is to say of it. `Memory` if an allocation fails.
+    fn check(alloc: Global, grammar: Self::Grammar, start: Option<&str>) -> Result<Checked<Self::Sound>, Memory>
+        ensures { IfOk result (λ c. (text : List ℕ) → is_read text grammar →
+            is_checked text (option_copied start.entry) (map said_of c.notes.items) c.sound) };
+
+    /// Returns the notes on the rules that a grammar defines again, alone. `Memory` if an allocation fails.
+    fn redefinitions(alloc: Global, grammar: &Self::Grammar) -> Result<Vec<Note>, Memory>
+        ensures { IfOk result (λ notes. (text : List ℕ) → is_read text grammar.now →
+            is_printable text grammar.now (map said_of notes.items)) };
+
+    /// Writes the canonical text of a grammar. `WriteFault` if the writer fails; then a beginning of it is written.
+    fn print<O: Sink>(grammar: &Self::Grammar, out: &mut O) -> Result<(), WriteFault>
+        requires { O.failed out.old ≡ false }
+        ensures bytes { Writes (O.contents out.old) (O.contents out.new) (canonical grammar.now) result }
+        ensures flag { Flags (O.failed out.old) (O.failed out.new) result };
+
+    /// Runs a grammar on what a reader gives. `WriteFault` if the output fails; then a beginning is written.
+    fn run<R: Source, O: Sink>(
+        alloc: Global,
+        grammar: &Self::Sound,
+        settings: &Settings<'_>,
+        reader: &mut R,
+        out: &mut O,
+    ) -> Result<Stop, WriteFault>
+        requires reader_is_fresh { R.failed reader.old ≡ false }
+        requires reader_is_open { R.ended reader.old ≡ false }
+        requires out_is_fresh { O.failed out.old ≡ false }
+        ensures { Performs (runs grammar.now settings.now) (passed R.remaining R.failed reader.old reader.new)
+            (passed O.contents O.failed out.old out.new) result };
+
+    /// Says that what is stated follows from what is read, checked, printed and run. It does nothing.
+    fn follows()
+        ensures { AreStated states has_fault is_read is_checked is_printable canonical runs };
+}

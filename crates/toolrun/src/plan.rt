@@ -1,0 +1,157 @@
+//! What is to be done for a grammar's text.
+ghost use Rattle.std.specs.Prelude.{◌≡◌, ◌≢◌, Option, [], Err, IfOk, IfErr, map, option_copied};
+ghost use Rattle.ruletable.specs.Notes.{said_of};
+ghost use Rattle.toolrun.specs.NotesText.{notes_text};
+ghost use Rattle.toolrun.specs.Plan.{IsPlan, does_of};
+ghost use Rattle.toolrun.specs.Stop.{unread};
+ghost use Rattle.toolrun.specs.Tasks.{checked_task, task_does};
+ghost use Rattle.toolrun.specs.declared.settings.Mode.TheVariants.{Print};
+
+use crate::language::{Checked, Language};
+use crate::settings::{Mode, Settings};
+use crate::status::Status;
+use crate::stop::{Stop, stop_unread};
+use ruletable::{Memory, Note, ReadFault};
+use std::alloc::Global;
+
+/// What is left to do with a grammar when its notes are written.
+#[derive(Drop)]
+pub enum Task<G, S> {
+    /// Its canonical text is printed.
+    Prints(G),
+    /// It is run on the input.
+    Runs(S),
+}
+
+/// What is to be done for a grammar's text: the notes are written, and then the task is performed, or the run stops at
+/// once.
+#[derive(Drop)]
+pub struct Plan<G, S> {
+    pub notes: Vec<Note>,
+    pub task: Result<Task<G, S>, Stop>,
+}
+
+/// A grammar that was read, and the notes on the rules that it defines again.
+#[derive(Drop)]
+struct Printable<G> {
+    grammar: G,
+    again: Vec<Note>,
+}
+
+/// Reads a grammar's text, and checks it.
+fn checked<L: Language>(
+    alloc: Global,
+    text: &[u8],
+    start: Option<&str>,
+) -> Result<Checked<L::Sound>, ReadFault>
+    ensures checked { IfOk result (λ c. L.is_checked text.now (option_copied start.entry) (map said_of c.notes.items)
+        c.sound) }
+    ensures fault { IfErr result (λ f. L.has_fault text.now f) }
+{
+    L::follows();
+    let grammar = L::read(alloc, text)?;
+    match L::check(alloc, grammar, start) {
+        Ok(checked) => Ok(checked),
+        Err(Memory) => Err(ReadFault::Memory),
+    }
+}
+
+/// Reads a grammar's text to print it.
+fn read_again<L: Language>(alloc: Global, text: &[u8]) -> Result<Printable<L::Grammar>, ReadFault>
+    ensures read { IfOk result (λ p. L.is_printable text.now p.grammar (map said_of p.again.items)) }
+    ensures fault { IfErr result (λ f. L.has_fault text.now f) }
+{
+    L::follows();
+    let grammar = L::read(alloc, text)?;
+    match L::redefinitions(alloc, &grammar) {
+        Ok(again) => Ok(Printable { grammar, again }),
+        Err(Memory) => Err(ReadFault::Memory),
+    }
+}
+
+/// Returns what is left to do with a checked grammar: it is run, unless it was to be checked alone.
+fn task_of<G, S: Drop>(mode: Mode, sound: Option<S>) -> Result<Task<G, S>, Stop>
+    ensures { result ≡ checked_task mode sound }
+{
+    match sound {
+        None => Err(Stop::Quiet(Status::Refused)),
+        Some(sound) => match mode {
+            Mode::Run => Ok(Task::Runs(sound)),
+            Mode::Check | Mode::Print => Err(Stop::Quiet(Status::Done)),
+        },
+    }
+}
+
+/// Returns the plan where no grammar was read: the run stops at once.
+fn plan_stop<G, S>(alloc: Global, fault: ReadFault) -> Plan<G, S>
+    ensures notes { result.notes.items ≡ [] }
+    ensures task { result.task ≡ Err (unread fault) }
+{
+    Plan {
+        notes: Vec::new(alloc),
+        task: Err(stop_unread(fault)),
+    }
+}
+
+/// Reads and checks a grammar's text that is to be run, or to be checked alone.
+fn plan_checked<L: Language>(
+    alloc: Global,
+    text: &[u8],
+    settings: &Settings<'_>,
+) -> Plan<L::Grammar, L::Sound>
+    requires { settings.now.mode ≢ Print }
+    ensures { IsPlan (L.states text.now settings.now) (notes_text (map said_of result.notes.items))
+        (does_of (λ t. task_does L.canonical L.runs t settings.now) result.task) }
+{
+    L::follows();
+    match checked::<L>(alloc, text, settings.start) {
+        Ok(Checked { notes, sound }) => Plan {
+            notes,
+            task: task_of(settings.mode, sound),
+        },
+        Err(fault) => plan_stop(alloc, fault),
+    }
+}
+
+/// Reads a grammar's text that is only to be printed.
+fn plan_print<L: Language>(
+    alloc: Global,
+    text: &[u8],
+    settings: &Settings<'_>,
+) -> Plan<L::Grammar, L::Sound>
+    requires { settings.now.mode ≡ Print }
+    ensures { IsPlan (L.states text.now settings.now) (notes_text (map said_of result.notes.items))
+        (does_of (λ t. task_does L.canonical L.runs t settings.now) result.task) }
+{
+    L::follows();
+    match read_again::<L>(alloc, text) {
+        Ok(Printable { grammar, again }) => {
+            if again.is_empty() {
+                return Plan {
+                    notes: again,
+                    task: Ok(Task::Prints(grammar)),
+                };
+            }
+            Plan {
+                notes: again,
+                task: Err(Stop::Quiet(Status::Refused)),
+            }
+        }
+        Err(fault) => plan_stop(alloc, fault),
+    }
+}
+
+/// Reads a grammar's text, and checks it, or looks for redefinitions alone if it is only to be printed.
+pub fn plan_of<L: Language>(
+    alloc: Global,
+    text: &[u8],
+    settings: &Settings<'_>,
+) -> Plan<L::Grammar, L::Sound>
+    ensures { IsPlan (L.states text.now settings.now) (notes_text (map said_of result.notes.items))
+        (does_of (λ t. task_does L.canonical L.runs t settings.now) result.task) }
+{
+    match settings.mode {
+        Mode::Print => plan_print::<L>(alloc, text, settings),
+        Mode::Run | Mode::Check => plan_checked::<L>(alloc, text, settings),
+    }
+}
