@@ -15,16 +15,16 @@ use Rattle.flatgrammar.specs.Blocks.{spot, item_at, begin_count, block_of, IsAlo
 use Rattle.flatgrammar.proofs.CallOfLemmas.{some_same, equal_or, place_node, place_step, calling_callee, calls_late}
 use Rattle.flatgrammar.proofs.CallOfLemmas.{get_unmap}
 use Rattle.flatgrammar.proofs.InLemmas.{in_left}
-use Rattle.earley.specs.Fronts.{Front}
+use Rattle.earley.specs.EarleySets.{EarleySet}
 use Rattle.earley.specs.Closed.{HoldAll}
-use Rattle.earley.specs.FrontViews.{view, views}
-use Rattle.earley.specs.ItemSets.{Adds, IsResumed}
+use Rattle.earley.specs.SetViews.{view, views}
+use Rattle.earley.specs.ItemSets.{Adds, IsAdvanced}
 use Rattle.earley.specs.Waiting.{BeginHere, BeginAll}
 use Rattle.earley.proofs.AddsLemmas.{adds_as}
 use Rattle.earley.proofs.BlockLemmas.{in_expand}
 use Rattle.earley.proofs.ExpandLemmas.{get_views}
 use Rattle.earley.proofs.ItemLemmas.{item_same}
-use Rattle.earley.proofs.ItemRowsLemmas.{get_in}
+use Rattle.earley.proofs.AreBucketsLemmas.{get_in}
 
 module _ (flat : code_flat.Tables) where
   reading_late : {node : Node} {k l : ℕ} {set : Set} → Reading node k set l → l < meaning.begin_count node → ⊥
@@ -73,25 +73,28 @@ module _ (flat : code_flat.Tables) where
       by (inr other) = absurd (calls_late flat c other
           (subst (λ v. place_step r < begin_count flat v) (calls_node c) lt))
 
-  pub begin_all : (x : List ℕ) (fronts : List Front) → HoldAll (flat_of flat) x (views flat 0 fronts)
-      → BeginAll flat fronts
-  begin_all x fronts earlier k f is a t l stands lt call moves =
+  pub begin_all : (x : List ℕ) (kept_sets : List EarleySet) → HoldAll (flat_of flat) x (views flat 0 kept_sets)
+      → BeginAll flat kept_sets
+  begin_all x kept_sets earlier k f is a t l stands lt call moves =
       let z : 0 + k ≡ k = omega arith in
-      let at_k = get_views flat 0 fronts k f is ∙ ap (λ v. Some (view flat v f)) z in
+      let at_k = get_views flat 0 kept_sets k f is ∙ ap (λ v. Some (view flat v f)) z in
       begun_here x (earlier k (view flat k f) at_k a stands) lt (λ s c. moves (calls_next t l a.origin c call))
 
   -- where such a node is done, one place alone goes on
-  pub alone_adds : (root : ℕ) (i : Inner) (front : Front) (j home : ℕ) (old new : List Item) → IsAlone flat root i
-      → slice_get front.heads home ≡ Some i.head →
-      BeginHere flat j (view flat j front) → Adds (λ a. a ≡ record { node = i.node; step = i.next; origin = j }) old new
-      → Adds (IsResumed flat root (view flat j front)) old new
-  alone_adds root i front j home old new one at_home begun p =
-      adds_as (λ a. a ≡ record { node = i.node; step = i.next; origin = j }) (IsResumed flat root (view flat j front))
+  pub alone_adds : (root : ℕ) (i : Inner) (kept_set : EarleySet) (j hint : ℕ) (old new : List Item)
+      → IsAlone flat root i
+      → slice_get kept_set.heads hint ≡ Some i.head →
+      BeginHere flat j (view flat j kept_set) → Adds (λ a. a ≡ record { node = i.node; step = i.next; origin = j })
+      old new
+      → Adds (IsAdvanced flat root (view flat j kept_set)) old new
+  alone_adds root i kept_set j hint old new one at_hint begun p =
+      adds_as (λ a. a ≡ record { node = i.node; step = i.next; origin = j }) (IsAdvanced flat root (view flat j
+      kept_set))
       old new
       (λ a h. record {
         from = item_at j (spot i.node i.step);
-        waits = in_left front.items (in_expand (block_of flat) j i.head front.heads (spot i.node i.step)
-            (get_in i.head front.heads home at_home) one.stands);
+        stands = in_left kept_set.items (in_expand (block_of flat) j i.head kept_set.heads (spot i.node i.step)
+            (get_in i.head kept_set.heads hint at_hint) one.stands);
         call = one.call ∙ ap (λ v. Some (root, v)) (sym (ap (λ v. v.step) h));
         node = ap (λ v. v.node) h;
         origin = ap (λ v. v.origin) h;
@@ -106,4 +109,4 @@ module _ (flat : code_flat.Tables) where
       subst (λ v. r.from.step < begin_count flat v) only.0
       (subst (λ v. v < begin_count flat i.node) only.1 one.begins) in
       item_same a i.node i.next j (r.node ∙ sym only.0) (sym next)
-      (r.origin ∙ begun r.from root a.step r.waits lt r.call (λ same. one.moves (next ∙ (same ∙ sym only.1))))) p
+      (r.origin ∙ begun r.from root a.step r.stands lt r.call (λ same. one.moves (next ∙ (same ∙ sym only.1))))) p

@@ -8,9 +8,9 @@ use Rattle.flatgrammar.specs.declared.flat_item.Item.{Item}
 use Rattle.flatgrammar.specs.declared.tables.Tables as code_flat
 use Rattle.flatgrammar.proofs.FlatCutLemmas.{push_cases}
 use Rattle.flatgrammar.proofs.InLemmas.{in_left, at_end, before_end, different_end}
-use Rattle.earley.specs.Fronts.{Front}
-use Rattle.earley.specs.declared.later.Homed.{Homed}
-use Rattle.earley.specs.declared.later.Caller.{Caller}
+use Rattle.earley.specs.EarleySets.{EarleySet}
+use Rattle.earley.specs.declared.postdot.HintedItem.{HintedItem}
+use Rattle.earley.specs.declared.postdot.Caller.{Caller}
 use Rattle.earley.specs.Chosen.{items_of, callers_of, Calls, ReadsSome, AreChosen, AreCallers, AreReaders}
 use Rattle.flatgrammar.specs.TableViews.{call_of}
 use Rattle.earley.specs.ItemSets.{Adds}
@@ -19,16 +19,16 @@ use Rattle.earley.proofs.ExpandLemmas.{map_end, take_one, take_past}
 use Rattle.earley.proofs.FillLemmas.{front_same}
 
 -- the readers of a set that is put behind the others
-pub readers_push : (flat : code_flat.Tables) (fronts : List Front) (front : Front) (items : List Item)
-    (readers : List Homed) → front.items ≡ items → AreChosen (ReadsSome flat) items (items_of readers)
-    → AreReaders flat (fronts ++ front ∷ []) readers
-readers_push flat fronts front items readers same are k f size is = by (push_cases fronts front k f is)
+pub readers_push : (flat : code_flat.Tables) (kept_sets : List EarleySet) (kept_set : EarleySet) (items : List Item)
+    (readers : List HintedItem) → kept_set.items ≡ items → AreChosen (ReadsSome flat) items (items_of readers)
+    → AreReaders flat (kept_sets ++ kept_set ∷ []) readers
+readers_push flat kept_sets kept_set items readers same are k f size is = by (push_cases kept_sets kept_set k f is)
   where
-    by : (slice_get fronts k ≡ Some f) ⊎ ((k ≡ length fronts) × (front ≡ f))
+    by : (slice_get kept_sets k ≡ Some f) ⊎ ((k ≡ length kept_sets) × (kept_set ≡ f))
         → AreChosen (ReadsSome flat) f.items (items_of readers)
     by (inl old) =
-        let lt = slice_get_within fronts k f old in
-        let count = length-append fronts (front ∷ []) in absurd (omega (arith, lt, size, count))
+        let lt = slice_get_within kept_sets k f old in
+        let count = length-append kept_sets (kept_set ∷ []) in absurd (omega (arith, lt, size, count))
     by (inr new) = subst (λ v. AreChosen (ReadsSome flat) v.items (items_of readers)) new.1
         (subst (λ v. AreChosen (ReadsSome flat) v (items_of readers)) (sym same) are)
 

@@ -11,11 +11,11 @@ use Rattle.flatgrammar.specs.NodeSteps.{flat_of}
 use Rattle.flatgrammar.specs.TableViews.{call_of, takes_of, GiveRoots}
 use Rattle.earley.specs.ItemSets.{waiting_or, IsPredicted, IsCompleted}
 use Rattle.earley.specs.Closed.{HoldAll}
-use Rattle.earley.specs.Worklist.{IsPassed, IsWork, IsWorked}
+use Rattle.earley.specs.Worklist.{AdvancesNullable, IsWork, IsWorked}
 use Rattle.flatgrammar.specs.declared.block.Spot.{Spot}
 use Rattle.flatgrammar.specs.Blocks.{item_at, Block, begin_count, call_at, Inside, begun, called}
-use Rattle.earley.specs.FrontViews.{expand, full, AreBlocks, AreOpened}
-use Rattle.earley.proofs.FollowLemmas.{predicted_holds}
+use Rattle.earley.specs.SetViews.{expand, full, AreBlocks, AreOpened}
+use Rattle.earley.proofs.ScanLastLemmas.{predicted_holds}
 use Rattle.flatgrammar.proofs.InLemmas.{in_left}
 use Rattle.earley.proofs.ItemLemmas.{item_same}
 
@@ -110,7 +110,7 @@ module _ (flat : code_flat.Tables) (blocks : ℕ → Block) (sets : List (List I
           cases (inr own) = in_expand blocks (length sets) e.head heads (record { node = p.root; step = b.step })
               (among e.head e.stands) (own b.step p.begun.1)
 
-      passed : (e : Expanded blocks (length sets) front a) → IsPassed flat a b
+      passed : (e : Expanded blocks (length sets) front a) → AdvancesNullable flat a b
           → In b (full blocks (length sets) heads items)
       passed e p =
           let block = are.block e.head (among e.head e.stands) in
@@ -143,9 +143,9 @@ module _ (flat : code_flat.Tables) (blocks : ℕ → Block) (sets : List (List I
           → In b (full blocks (length sets) heads items)
       completed e c =
           let origin : a.origin ≡ length sets = ap (λ v. v.origin) e.is in
-          let waits : In c.resumed.from (waiting_or [] (slice_get sets (length sets))) =
-          subst (λ v. In c.resumed.from (waiting_or [] (slice_get sets v))) origin c.resumed.waits in
-          nobody c.resumed.from (subst (λ v. In c.resumed.from (waiting_or [] v)) none waits)
+          let waiters : In c.advanced.from (waiting_or [] (slice_get sets (length sets))) =
+          subst (λ v. In c.advanced.from (waiting_or [] (slice_get sets v))) origin c.advanced.stands in
+          nobody c.advanced.from (subst (λ v. In c.advanced.from (waiting_or [] v)) none waiters)
         where
           nobody : (from : Item) → In from [] → In b (full blocks (length sets) heads items)
           nobody from h = elim h [ ]

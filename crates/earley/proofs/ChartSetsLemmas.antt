@@ -9,14 +9,14 @@ use Rattle.flatgrammar.specs.Flat.{Flat, Place, at}
 use Rattle.flatgrammar.specs.Holds.{Holds, begins, called, has_read, returned}
 use Rattle.flatgrammar.specs.Places.{In, now, on, places}
 use Rattle.flatgrammar.specs.declared.flat_item.Item.{Item}
-use Rattle.earley.specs.Fronts.{Front}
+use Rattle.earley.specs.EarleySets.{EarleySet}
 use Rattle.flatgrammar.specs.declared.tables.Tables as code_flat
 use Rattle.flatgrammar.specs.NodeSteps.{flat_of}
 use Rattle.earley.specs.Charts.{item_of, IsExact, IsExactSet}
 use Rattle.earley.specs.ChartSets.{pair, chart_of, set_at, IsSet, AreSized}
 use Rattle.flatgrammar.specs.declared.block.Spot.{Spot}
 use Rattle.flatgrammar.specs.Blocks.{Block, item_at, block_of}
-use Rattle.earley.specs.FrontViews.{expand, full, view, views}
+use Rattle.earley.specs.SetViews.{expand, full, view, views}
 use Rattle.flatgrammar.proofs.BeforeLemmas.{get_below}
 use Rattle.flatgrammar.proofs.FlatCutLemmas.{push_cases}
 use Rattle.earley.proofs.ExpandLemmas.{get_views, length_views, take_one, expand_end}
@@ -52,8 +52,8 @@ pair_stands a [] h = elim h [ ]
 pair_stands a (b ∷ set) (now same) = now (ap pair same)
 pair_stands a (b ∷ set) (on h) = on (pair_stands a set h)
 
-module _ (tables : code_flat.Tables) (x : List ℕ) (fronts : List Front) (size : length fronts ≡ length x + 1)
-    (exact : IsExact tables x (views tables 0 fronts)) where
+module _ (tables : code_flat.Tables) (x : List ℕ) (kept_sets : List EarleySet) (size : length kept_sets ≡ length x + 1)
+    (exact : IsExact tables x (views tables 0 kept_sets)) where
   filled_set : (j : ℕ) (set : List Item) → IsExactSet tables x j set → IsSet (flat_of tables) x j (map pair set)
   filled_set j set e = record {
     held = λ p i h. held p i (in_map (p, i) set h);
@@ -82,57 +82,60 @@ module _ (tables : code_flat.Tables) (x : List ℕ) (fronts : List Front) (size 
       nobody : (p : Place) (i : ℕ) → In {A = Place × ℕ} (p, i) [] → Holds (flat_of tables) x j p i
       nobody p i h = elim h [ ]
 
-  pub chart_set : (j : ℕ) → IsSet (flat_of tables) x j (set_at (map (λ set. map pair set) (views tables 0 fronts)) j)
+  pub chart_set : (j : ℕ) → IsSet (flat_of tables) x j (set_at (map (λ set. map pair set) (views tables 0 kept_sets)) j)
   chart_set j = ⊎_elim
       (λ h. subst (λ v. IsSet (flat_of tables) x j v)
-      (sym (index_map (λ set. map pair set) (views tables 0 fronts) j h.0 [] h.1))
+      (sym (index_map (λ set. map pair set) (views tables 0 kept_sets) j h.0 [] h.1))
       (filled_set j h.0 (exact j h.0 h.1)))
-      (λ past. let count = length_views tables 0 fronts in
+      (λ past. let count = length_views tables 0 kept_sets in
       subst (λ v. IsSet (flat_of tables) x j v) (sym
-      (index_past (λ set. map pair set) (views tables 0 fronts) j [] past))
+      (index_past (λ set. map pair set) (views tables 0 kept_sets) j [] past))
       (no_set j (omega (arith, past, count, size))))
-      (there_or_past (views tables 0 fronts) j)
+      (there_or_past (views tables 0 kept_sets) j)
 
 pub set_bound : (flat : Flat) (x : List ℕ) (j : ℕ) (set : List (Place × ℕ)) → IsSet flat x j set
     → length set ≤ places flat.nodes * (j + 1)
 set_bound flat x j set e = items_at_most flat x j set e.different e.held
 
 -- sizes
-size_at : (tables : code_flat.Tables) (fronts : List Front) (j : ℕ) (f : Front) → slice_get fronts j ≡ Some f
+size_at : (tables : code_flat.Tables) (kept_sets : List EarleySet) (j : ℕ) (f : EarleySet)
+    → slice_get kept_sets j ≡ Some f
     → f.size ≡ length (view tables j f) →
-    f.size ≡ length (set_at (map (λ set. map pair set) (views tables 0 fronts)) j)
-size_at tables fronts j f is same =
+    f.size ≡ length (set_at (map (λ set. map pair set) (views tables 0 kept_sets)) j)
+size_at tables kept_sets j f is same =
     let zero_is : 0 + j ≡ j = omega arith in
-    let there = get_views tables 0 fronts j f is ∙ ap (λ v. Some (view tables v f)) zero_is in
+    let there = get_views tables 0 kept_sets j f is ∙ ap (λ v. Some (view tables v f)) zero_is in
     same ∙ (sym (length-map (view tables j f) pair)
-    ∙ ap (λ v. length v) (sym (index_map (λ set. map pair set) (views tables 0 fronts) j (view tables j f) []
+    ∙ ap (λ v. length v) (sym (index_map (λ set. map pair set) (views tables 0 kept_sets) j (view tables j f) []
     there)))
 
-pub are_sized : (tables : Rc code_flat.Tables Global) (fronts : List Front)
-    → ((j : ℕ) (f : Front) → slice_get fronts j ≡ Some f → f.size ≡ length (view tables.value j f)) →
-    AreSized (Some tables) fronts
-are_sized tables fronts same = record { size = λ j f is. size_at tables.value fronts j f is (same j f is) }
+pub are_sized : (tables : Rc code_flat.Tables Global) (kept_sets : List EarleySet)
+    → ((j : ℕ) (f : EarleySet) → slice_get kept_sets j ≡ Some f → f.size ≡ length (view tables.value j f)) →
+    AreSized (Some tables) kept_sets
+are_sized tables kept_sets same = record { size = λ j f is. size_at tables.value kept_sets j f is (same j f is) }
 
-pub none_sized : (tables : Option (Rc code_flat.Tables Global)) (fronts : List Front) → fronts ≡ []
-    → AreSized tables fronts
-none_sized tables fronts none = rw none (record { size = λ j f is. absurd (cc is) })
+pub none_sized : (tables : Option (Rc code_flat.Tables Global)) (kept_sets : List EarleySet) → kept_sets ≡ []
+    → AreSized tables kept_sets
+none_sized tables kept_sets none = rw none (record { size = λ j f is. absurd (cc is) })
 
 -- the size of a set that is there, and of one that is not
-pub size_past : (tables : Option (Rc code_flat.Tables Global)) (fronts : List Front) (j : ℕ) → length fronts ≤ j
-    → length (set_at (chart_of tables fronts) j) ≡ 0
-size_past None fronts j le = refl
-size_past (Some t) fronts j le =
-    let count = length_views t.value 0 fronts in
-    ap (λ v. length v) (index_past (λ set. map pair set) (views t.value 0 fronts) j [] (omega (arith, le, count)))
+pub size_past : (tables : Option (Rc code_flat.Tables Global)) (kept_sets : List EarleySet) (j : ℕ)
+    → length kept_sets ≤ j
+    → length (set_at (chart_of tables kept_sets) j) ≡ 0
+size_past None kept_sets j le = refl
+size_past (Some t) kept_sets j le =
+    let count = length_views t.value 0 kept_sets in
+    ap (λ v. length v) (index_past (λ set. map pair set) (views t.value 0 kept_sets) j [] (omega (arith, le, count)))
 
 -- one set more
-pub sized_push : (tables : code_flat.Tables) (fronts : List Front) (front : Front)
-    → ((j : ℕ) (f : Front) → slice_get fronts j ≡ Some f → f.size ≡ length (view tables j f)) →
-    ((j : ℕ) → front.size ≡ length (view tables j front)) → (j : ℕ) (f : Front) → slice_get (fronts ++ front ∷ []) j
+pub sized_push : (tables : code_flat.Tables) (kept_sets : List EarleySet) (kept_set : EarleySet)
+    → ((j : ℕ) (f : EarleySet) → slice_get kept_sets j ≡ Some f → f.size ≡ length (view tables j f)) →
+    ((j : ℕ) → kept_set.size ≡ length (view tables j kept_set)) → (j : ℕ) (f : EarleySet)
+    → slice_get (kept_sets ++ kept_set ∷ []) j
     ≡ Some f → f.size ≡ length (view tables j f)
-sized_push tables fronts front all last j f is =
+sized_push tables kept_sets kept_set all last j f is =
     ⊎_elim (λ was. all j f was) (λ h. subst (λ v. v.size ≡ length (view tables j v)) h.1 (last j))
-    (push_cases fronts front j f is)
+    (push_cases kept_sets kept_set j f is)
 
 -- one block more
 pub size_more : (blocks : ℕ → Block) (j : ℕ) (heads : List ℕ) (k d : ℕ) (spots : List Spot) → k < length heads

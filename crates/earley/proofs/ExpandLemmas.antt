@@ -8,10 +8,10 @@ use Rattle.flatgrammar.specs.Places.{In, now, on}
 use Rattle.flatgrammar.specs.declared.flat_item.Item.{Item}
 use Rattle.flatgrammar.specs.declared.tables.Tables as code_flat
 use Rattle.flatgrammar.specs.declared.block.Spot.{Spot}
-use Rattle.earley.specs.ItemSets.{Adds, IsResumed, IsCompleted, waiting_or, waiting_in}
+use Rattle.earley.specs.ItemSets.{Adds, IsAdvanced, IsCompleted, waiting_or, waiting_in}
 use Rattle.flatgrammar.specs.TableViews.{call_of, done_of, null_of, takes_of}
-use Rattle.earley.specs.Fronts.{Front}
-use Rattle.earley.specs.FrontViews.{view, views, IsOn, IsAsked, expand}
+use Rattle.earley.specs.EarleySets.{EarleySet}
+use Rattle.earley.specs.SetViews.{view, views, MovesOverNullable, IsPredictedRoot, expand}
 use Rattle.earley.proofs.ItemLemmas.{item_same}
 use Rattle.flatgrammar.proofs.CallOfLemmas.{some_same}
 use Rattle.flatgrammar.specs.Blocks.{item_at, Block}
@@ -57,44 +57,50 @@ in_none old = adds_none (λ a. In a []) old (λ a h. nobody a h)
     nobody a h = elim h [ ]
 
 module _ (flat : code_flat.Tables) (root : ℕ) where
-  resumed_from : (ws vs : List Item) (a : Item) (r : IsResumed flat root ws a) → In r.from vs → IsResumed flat root vs a
-  resumed_from ws vs a r h = record { from = r.from; waits = h; call = r.call; node = r.node; origin = r.origin }
+  advanced_from : (ws vs : List Item) (a : Item) (r : IsAdvanced flat root ws a) → In r.from vs
+      → IsAdvanced flat root vs a
+  advanced_from ws vs a r h = record { from = r.from; stands = h; call = r.call; node = r.node; origin = r.origin }
 
-  pub resumed_none : (old : List Item) → Adds (IsResumed flat root []) old old
-  resumed_none old = adds_none (IsResumed flat root []) old (λ a r. nobody a r.from r.waits)
+  pub advanced_none : (old : List Item) → Adds (IsAdvanced flat root []) old old
+  advanced_none old = adds_none (IsAdvanced flat root []) old (λ a r. nobody a r.from r.stands)
     where
       nobody : (a b : Item) → In b [] → In a old
       nobody a b h = elim h [ ]
 
-  pub resumed_both : (ws vs : List Item) (old mid new : List Item) → Adds (IsResumed flat root ws) old mid
-      → Adds (IsResumed flat root vs) mid new →
-      Adds (IsResumed flat root (ws ++ vs)) old new
-  resumed_both ws vs old mid new p q = adds_both (IsResumed flat root ws) (IsResumed flat root vs)
-      (IsResumed flat root (ws ++ vs)) old mid new p q
-      (λ a r. cases a r (in_either ws r.waits)) (λ a r. resumed_from ws (ws ++ vs) a r (in_left vs r.waits))
-      (λ a r. resumed_from vs (ws ++ vs) a r (in_right ws r.waits))
+  pub advanced_both : (ws vs : List Item) (old mid new : List Item) → Adds (IsAdvanced flat root ws) old mid
+      → Adds (IsAdvanced flat root vs) mid new →
+      Adds (IsAdvanced flat root (ws ++ vs)) old new
+  advanced_both ws vs old mid new p q = adds_both (IsAdvanced flat root ws) (IsAdvanced flat root vs)
+      (IsAdvanced flat root (ws ++ vs)) old mid new p q
+      (λ a r. cases a r (in_either ws r.stands)) (λ a r. advanced_from ws (ws ++ vs) a r (in_left vs r.stands))
+      (λ a r. advanced_from vs (ws ++ vs) a r (in_right ws r.stands))
     where
-      cases : (a : Item) (r : IsResumed flat root (ws ++ vs) a) → In r.from ws ⊎ In r.from vs → IsResumed flat root ws a
-          ⊎ IsResumed flat root vs a
-      cases a r (inl h) = inl (resumed_from (ws ++ vs) ws a r h)
-      cases a r (inr h) = inr (resumed_from (ws ++ vs) vs a r h)
+      cases : (a : Item) (r : IsAdvanced flat root (ws ++ vs) a) → In r.from ws ⊎ In r.from vs
+          → IsAdvanced flat root ws a
+          ⊎ IsAdvanced flat root vs a
+      cases a r (inl h) = inl (advanced_from (ws ++ vs) ws a r h)
+      cases a r (inr h) = inr (advanced_from (ws ++ vs) vs a r h)
 
 module _ (flat : code_flat.Tables) (root : ℕ) where
-  pub resumed_one : (item : Item) (step : ℕ) (old new : List Item) → call_of flat item ≡ Some (root, step) →
+  pub advanced_one : (item : Item) (step : ℕ) (old new : List Item) → call_of flat item ≡ Some (root, step) →
       Adds (λ a. a ≡ record { node = item.node; step = step; origin = item.origin }) old new
-      → Adds (IsResumed flat root (item ∷ [])) old new
-  resumed_one item step old new is p = adds_as (λ a. a ≡ record { node = item.node; step = step; origin = item.origin })
-      (IsResumed flat root (item ∷ [])) old new
+      → Adds (IsAdvanced flat root (item ∷ [])) old new
+  advanced_one item step old new is p = adds_as (λ a. a ≡ record {
+    node = item.node;
+    step = step;
+    origin = item.origin;
+  })
+      (IsAdvanced flat root (item ∷ [])) old new
       (λ a h. record {
         from = item;
-        waits = now refl;
+        stands = now refl;
         call = is ∙ ap (λ v. Some (root, v)) (sym (ap (λ v. v.step) h));
         node = ap (λ v. v.node) h;
         origin = ap (λ v. v.origin) h;
       })
-      (λ a r. back a r r.waits) p
+      (λ a r. back a r r.stands) p
     where
-      back : (a : Item) (r : IsResumed flat root (item ∷ []) a) → In r.from (item ∷ [])
+      back : (a : Item) (r : IsAdvanced flat root (item ∷ []) a) → In r.from (item ∷ [])
           → a ≡ record { node = item.node; step = step; origin = item.origin }
       back a r (now same) =
           let call : call_of flat item ≡ Some (root, a.step) = subst (λ v. call_of flat v ≡ Some (root, a.step)) same
@@ -104,77 +110,80 @@ module _ (flat : code_flat.Tables) (root : ℕ) where
           (r.origin ∙ ap (λ v. v.origin) same)
       back a r (on h) = elim h [ ]
 
-  pub resumed_not : (item : Item) (old : List Item) → ((step : ℕ) → call_of flat item ≡ Some (root, step) → ⊥)
-      → Adds (IsResumed flat root (item ∷ [])) old old
-  resumed_not item old never = adds_none (IsResumed flat root (item ∷ [])) old (λ a r. nobody a r r.waits)
+  pub advanced_not : (item : Item) (old : List Item) → ((step : ℕ) → call_of flat item ≡ Some (root, step) → ⊥)
+      → Adds (IsAdvanced flat root (item ∷ [])) old old
+  advanced_not item old never = adds_none (IsAdvanced flat root (item ∷ [])) old (λ a r. nobody a r r.stands)
     where
-      nobody : (a : Item) (r : IsResumed flat root (item ∷ []) a) → In r.from (item ∷ []) → In a old
+      nobody : (a : Item) (r : IsAdvanced flat root (item ∷ []) a) → In r.from (item ∷ []) → In a old
       nobody a r (now same) = absurd (never a.step (subst (λ v. call_of flat v ≡ Some (root, a.step)) same r.call))
       nobody a r (on h) = elim h [ ]
 
-  pub resumed_more : (ws : List Item) (k : ℕ) (d : Item) (old mid new : List Item) → k < length ws
-      → Adds (IsResumed flat root (take k ws)) old mid →
-      Adds (IsResumed flat root (slice_index_or ws k d ∷ [])) mid new → Adds (IsResumed flat root (take (k + 1) ws))
+  pub advanced_more : (ws : List Item) (k : ℕ) (d : Item) (old mid new : List Item) → k < length ws
+      → Adds (IsAdvanced flat root (take k ws)) old mid →
+      Adds (IsAdvanced flat root (slice_index_or ws k d ∷ [])) mid new → Adds (IsAdvanced flat root (take (k + 1) ws))
       old new
-  resumed_more ws k d old mid new lt p q =
-      subst (λ v. Adds (IsResumed flat root v) old new) (sym (take_one ws k d lt))
-      (resumed_both flat root (take k ws) (slice_index_or ws k d ∷ []) old mid new p q)
+  advanced_more ws k d old mid new lt p q =
+      subst (λ v. Adds (IsAdvanced flat root v) old new) (sym (take_one ws k d lt))
+      (advanced_both flat root (take k ws) (slice_index_or ws k d ∷ []) old mid new p q)
 
-  pub resumed_spots_more : (j : ℕ) (ws : List Spot) (k : ℕ) (d : Spot) (old mid new : List Item) → k < length ws
-      → Adds (IsResumed flat root (map (item_at j) (take k ws))) old mid →
-      Adds (IsResumed flat root (item_at j (slice_index_or ws k d) ∷ [])) mid new
-      → Adds (IsResumed flat root (map (item_at j) (take (k + 1) ws))) old new
-  resumed_spots_more j ws k d old mid new lt p q =
-      subst (λ v. Adds (IsResumed flat root v) old new)
+  pub advanced_spots_more : (j : ℕ) (ws : List Spot) (k : ℕ) (d : Spot) (old mid new : List Item) → k < length ws
+      → Adds (IsAdvanced flat root (map (item_at j) (take k ws))) old mid →
+      Adds (IsAdvanced flat root (item_at j (slice_index_or ws k d) ∷ [])) mid new
+      → Adds (IsAdvanced flat root (map (item_at j) (take (k + 1) ws))) old new
+  advanced_spots_more j ws k d old mid new lt p q =
+      subst (λ v. Adds (IsAdvanced flat root v) old new)
       (sym (ap (λ v. map (item_at j) v) (take_one ws k d lt)
       ∙ map_end (item_at j) (take k ws) (slice_index_or ws k d)))
-      (resumed_both flat root (map (item_at j) (take k ws)) (item_at j (slice_index_or ws k d) ∷ []) old mid new p q)
+      (advanced_both flat root (map (item_at j) (take k ws)) (item_at j (slice_index_or ws k d) ∷ []) old mid new p q)
 
-  pub resumed_heads_more : (blocks : ℕ → Block) (j : ℕ) (hs : List ℕ) (k d : ℕ) (spots : List Spot)
+  pub advanced_heads_more : (blocks : ℕ → Block) (j : ℕ) (hs : List ℕ) (k d : ℕ) (spots : List Spot)
       (old mid new : List Item) → k < length hs →
-      spots ≡ (blocks (slice_index_or hs k d)).spots → Adds (IsResumed flat root (expand blocks j (take k hs))) old
+      spots ≡ (blocks (slice_index_or hs k d)).spots → Adds (IsAdvanced flat root (expand blocks j (take k hs))) old
       mid →
-      Adds (IsResumed flat root (map (item_at j) spots)) mid new
-      → Adds (IsResumed flat root (expand blocks j (take (k + 1) hs))) old new
-  resumed_heads_more blocks j hs k d spots old mid new lt is p q =
-      subst (λ v. Adds (IsResumed flat root v) old new)
+      Adds (IsAdvanced flat root (map (item_at j) spots)) mid new
+      → Adds (IsAdvanced flat root (expand blocks j (take (k + 1) hs))) old new
+  advanced_heads_more blocks j hs k d spots old mid new lt is p q =
+      subst (λ v. Adds (IsAdvanced flat root v) old new)
       (sym (ap (λ v. expand blocks j v) (take_one hs k d lt)
       ∙ expand_end blocks j (take k hs) (slice_index_or hs k d)))
-      (resumed_both flat root (expand blocks j (take k hs)) (map (item_at j) (blocks (slice_index_or hs k d)).spots) old
+      (advanced_both flat root (expand blocks j (take k hs)) (map (item_at j) (blocks (slice_index_or hs k d)).spots)
+      old
       mid new p
-      (subst (λ v. Adds (IsResumed flat root (map (item_at j) v)) mid new) is q))
+      (subst (λ v. Adds (IsAdvanced flat root (map (item_at j) v)) mid new) is q))
 
-pub get_views : (flat : code_flat.Tables) (j : ℕ) (fronts : List Front) (k : ℕ) (front : Front)
-    → slice_get fronts k ≡ Some front → slice_get (views flat j fronts) k ≡ Some (view flat (j + k) front)
-get_views flat j [] k front is = absurd cc
-get_views flat j (f ∷ fronts) zero front is = let same : f ≡ front = cc in let z : j ≡ j + 0 = omega arith in
-    ap (λ v. Some (view flat j v)) same ∙ ap (λ v. Some (view flat v front)) z
-get_views flat j (f ∷ fronts) (suc k) front is = let z : suc j + k ≡ j + suc k = omega arith in
-    get_views flat (suc j) fronts k front is ∙ ap (λ v. Some (view flat v front)) z
+pub get_views : (flat : code_flat.Tables) (j : ℕ) (kept_sets : List EarleySet) (k : ℕ) (kept_set : EarleySet)
+    → slice_get kept_sets k ≡ Some kept_set → slice_get (views flat j kept_sets) k ≡ Some (view flat (j + k) kept_set)
+get_views flat j [] k kept_set is = absurd cc
+get_views flat j (f ∷ kept_sets) zero kept_set is = let same : f ≡ kept_set = cc in let z : j ≡ j + 0 = omega arith in
+    ap (λ v. Some (view flat j v)) same ∙ ap (λ v. Some (view flat v kept_set)) z
+get_views flat j (f ∷ kept_sets) (suc k) kept_set is = let z : suc j + k ≡ j + suc k = omega arith in
+    get_views flat (suc j) kept_sets k kept_set is ∙ ap (λ v. Some (view flat v kept_set)) z
 
-pub none_views : (flat : code_flat.Tables) (j : ℕ) (fronts : List Front) (k : ℕ) → slice_get fronts k ≡ None
-    → slice_get (views flat j fronts) k ≡ None
+pub none_views : (flat : code_flat.Tables) (j : ℕ) (kept_sets : List EarleySet) (k : ℕ) → slice_get kept_sets k ≡ None
+    → slice_get (views flat j kept_sets) k ≡ None
 none_views flat j [] k is = refl
-none_views flat j (f ∷ fronts) zero is = absurd cc
-none_views flat j (f ∷ fronts) (suc k) is = none_views flat (suc j) fronts k is
+none_views flat j (f ∷ kept_sets) zero is = absurd cc
+none_views flat j (f ∷ kept_sets) (suc k) is = none_views flat (suc j) kept_sets k is
 
 -- what waits in the set of an origin, if there is one
-pub waiting_some : (flat : code_flat.Tables) (fronts : List Front) (origin : ℕ) (front : Front)
-    → slice_get fronts origin ≡ Some front → waiting_in (views flat 0 fronts) [] origin ≡ view flat origin front
-waiting_some flat fronts origin front is =
+pub waiting_some : (flat : code_flat.Tables) (kept_sets : List EarleySet) (origin : ℕ) (kept_set : EarleySet)
+    → slice_get kept_sets origin ≡ Some kept_set → waiting_in (views flat 0 kept_sets) [] origin ≡ view flat origin
+    kept_set
+waiting_some flat kept_sets origin kept_set is =
     let z : 0 + origin ≡ origin = omega arith in
-    ap (λ v. waiting_or [] v) (get_views flat 0 fronts origin front is ∙ ap (λ v. Some (view flat v front)) z)
+    ap (λ v. waiting_or [] v) (get_views flat 0 kept_sets origin kept_set is ∙ ap (λ v. Some (view flat v kept_set)) z)
 
-pub waiting_none : (flat : code_flat.Tables) (fronts : List Front) (origin : ℕ) → slice_get fronts origin ≡ None
-    → waiting_in (views flat 0 fronts) [] origin ≡ []
-waiting_none flat fronts origin is = ap (λ v. waiting_or [] v) (none_views flat 0 fronts origin is)
+pub waiting_none : (flat : code_flat.Tables) (kept_sets : List EarleySet) (origin : ℕ)
+    → slice_get kept_sets origin ≡ None
+    → waiting_in (views flat 0 kept_sets) [] origin ≡ []
+waiting_none flat kept_sets origin is = ap (λ v. waiting_or [] v) (none_views flat 0 kept_sets origin is)
 
 pub completed_from : (flat : code_flat.Tables) (sets : List (List Item)) (item : Item) (old new : List Item)
-    → done_of flat item ≡ true → Adds (IsResumed flat item.node (waiting_in sets [] item.origin)) old new
+    → done_of flat item ≡ true → Adds (IsAdvanced flat item.node (waiting_in sets [] item.origin)) old new
     → Adds (IsCompleted flat sets [] item) old new
 completed_from flat sets item old new done p =
-    adds_as (IsResumed flat item.node (waiting_in sets [] item.origin)) (IsCompleted flat sets [] item) old new
-    (λ a r. record { done = done; resumed = r }) (λ a c. c.resumed) p
+    adds_as (IsAdvanced flat item.node (waiting_in sets [] item.origin)) (IsCompleted flat sets [] item) old new
+    (λ a r. record { done = done; advanced = r }) (λ a c. c.advanced) p
 
 pub completed_undone : (flat : code_flat.Tables) (sets : List (List Item)) (item : Item) (old : List Item)
     → (done_of flat item ≡ true → ⊥) → Adds (IsCompleted flat sets [] item) old old
@@ -184,9 +193,10 @@ pub one_on : (flat : code_flat.Tables) (item : Item) (root next : ℕ) (old new 
     → call_of flat item ≡ Some (root, next) → null_of flat root ≡ true → takes_of flat item ≡ false
     → (next ≡ item.step → ⊥) →
     Adds (λ a. a ≡ record { node = item.node; step = next; origin = item.origin }) old new
-    → Adds (IsOn flat item) old new
+    → Adds (MovesOverNullable flat item) old new
 one_on flat item root next old new is marked free moves p =
-    adds_as (λ a. a ≡ record { node = item.node; step = next; origin = item.origin }) (IsOn flat item) old new
+    adds_as (λ a. a ≡ record { node = item.node; step = next; origin = item.origin }) (MovesOverNullable flat item)
+    old new
     (λ a h. record {
       passed = record {
         root = root;
@@ -204,17 +214,17 @@ one_on flat item root next old new is marked free moves p =
 pub none_on : (flat : code_flat.Tables) (item : Item) (old : List Item)
     → ((root next : ℕ) → call_of flat item ≡ Some (root, next) → null_of flat root ≡ true → takes_of flat item ≡ false
     → (next ≡ item.step → ⊥) → ⊥) →
-    Adds (IsOn flat item) old old
-none_on flat item old never = adds_none (IsOn flat item) old
+    Adds (MovesOverNullable flat item) old old
+none_on flat item old never = adds_none (MovesOverNullable flat item) old
     (λ a h. absurd (never h.passed.root a.step h.passed.call h.passed.null h.passed.free h.moves))
 
 pub asked_one : (flat : code_flat.Tables) (item : Item) (root next : ℕ) (old new : List ℕ)
-    → call_of flat item ≡ Some (root, next) → Adds (λ t. t ≡ root) old new → Adds (IsAsked flat item) old new
-asked_one flat item root next old new is p = adds_as (λ t. t ≡ root) (IsAsked flat item) old new
+    → call_of flat item ≡ Some (root, next) → Adds (λ t. t ≡ root) old new → Adds (IsPredictedRoot flat item) old new
+asked_one flat item root next old new is p = adds_as (λ t. t ≡ root) (IsPredictedRoot flat item) old new
     (λ t h. record { next = next; call = is ∙ ap (λ v. Some (v, next)) (sym h) })
     (λ t h. ap (λ v. v.0) (some_same (sym h.call ∙ is))) p
 
-pub length_views : (flat : code_flat.Tables) (j : ℕ) (fronts : List Front) → length (views flat j fronts)
-    ≡ length fronts
+pub length_views : (flat : code_flat.Tables) (j : ℕ) (kept_sets : List EarleySet) → length (views flat j kept_sets)
+    ≡ length kept_sets
 length_views flat j [] = refl
-length_views flat j (f ∷ fronts) = ap suc (length_views flat (suc j) fronts)
+length_views flat j (f ∷ kept_sets) = ap suc (length_views flat (suc j) kept_sets)

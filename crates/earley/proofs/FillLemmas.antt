@@ -19,10 +19,10 @@ use Rattle.earley.specs.Closed.{Hold, HoldAll, IsClosed, Keeps}
 use Rattle.earley.specs.Worklist.{IsWork, IsWorked}
 use Rattle.flatgrammar.specs.Blocks.{item_at, begin_count, Inside, begun, called, IsBlock, block_of, IsHead, IsLate}
 use Rattle.flatgrammar.specs.Blocks.{AreTables}
-use Rattle.earley.specs.FrontViews.{expand, full, AreBlocks, IsAsked, IsOn, IsFurther, IsGoing}
+use Rattle.earley.specs.SetViews.{expand, full, AreBlocks, IsPredictedRoot, MovesOverNullable, IsAddedFor, IsWorklist}
 use Rattle.earley.proofs.SetAtMostLemmas.{set_at_most}
 use Rattle.flatgrammar.proofs.CallOfLemmas.{equal_or, root_stands, calls_late, called_of, get_below}
-use Rattle.earley.proofs.FollowLemmas.{predicted_holds, completed_holds}
+use Rattle.earley.proofs.ScanLastLemmas.{predicted_holds, completed_holds}
 use Rattle.earley.proofs.IsWorkedLemmas.{passed_holds, none_hold, worked_closed}
 use Rattle.flatgrammar.proofs.InLemmas.{in_left, among_more, at_index_in, in_front}
 use Rattle.earley.proofs.BlockLemmas.{in_right, in_either, in_expand, from_expand, blocks_worked, inside_holds}
@@ -82,34 +82,34 @@ module _ (flat : code_flat.Tables) (roots : GiveRoots (flat_of flat) flat.roots.
       (record { node = t; step = k; origin = length sets }) h
       (record { root = t; next = l; call = call; begun = (refl, lt, refl) })
 
-  on_begins : (item a : Item) → IsOn flat item a → a.step < begin_count flat a.node → ⊥
+  on_begins : (item a : Item) → MovesOverNullable flat item a → a.step < begin_count flat a.node → ⊥
   on_begins item a o lt = late_moves item o.passed.root a.step o.passed.call o.moves
       (subst (λ v. a.step < begin_count flat v) o.passed.node lt)
 
   completed_late : (item a : Item) → IsCompleted flat sets [] item a → IsLate flat a
-  completed_late item a c = by (equal_or a.step c.resumed.from.step)
+  completed_late item a c = by (equal_or a.step c.advanced.from.step)
     where
-      by : (a.step ≡ c.resumed.from.step) ⊎ (a.step ≡ c.resumed.from.step → ⊥) → IsLate flat a
-      by (inl same) = inr (item.node, call_same flat a c.resumed.from c.resumed.node same ∙ c.resumed.call)
-      by (inr moves) = inl (λ lt. late_moves c.resumed.from item.node a.step c.resumed.call moves
-          (subst (λ v. a.step < begin_count flat v) c.resumed.node lt))
+      by : (a.step ≡ c.advanced.from.step) ⊎ (a.step ≡ c.advanced.from.step → ⊥) → IsLate flat a
+      by (inl same) = inr (item.node, call_same flat a c.advanced.from c.advanced.node same ∙ c.advanced.call)
+      by (inr moves) = inl (λ lt. late_moves c.advanced.from item.node a.step c.advanced.call moves
+          (subst (λ v. a.step < begin_count flat v) c.advanced.node lt))
 
   completed_beside : (item a : Item) → IsCompleted flat sets [] item a → a.origin ≡ length sets → ⊥
-  completed_beside item a c same = by (slice_get sets item.origin) refl c.resumed.waits
+  completed_beside item a c same = by (slice_get sets item.origin) refl c.advanced.stands
     where
-      by : (o : Option (List Item)) → slice_get sets item.origin ≡ o → In c.resumed.from (waiting_or [] o) → ⊥
+      by : (o : Option (List Item)) → slice_get sets item.origin ≡ o → In c.advanced.from (waiting_or [] o) → ⊥
       by None is h = elim h [ ]
       by (Some set) is h =
-          let one = holds_origin (flat_of flat) (earlier item.origin set is c.resumed.from h) in
+          let one = holds_origin (flat_of flat) (earlier item.origin set is c.advanced.from h) in
           let two = get_below sets item.origin is in
-          let origin = c.resumed.origin in
+          let origin = c.advanced.origin in
           absurd (omega (arith, one, two, origin, same))
 
-  further_late : (item a : Item) → IsFurther flat sets item a → IsLate flat a
+  further_late : (item a : Item) → IsAddedFor flat sets item a → IsLate flat a
   further_late item a (inl o) = inl (on_begins item a o)
   further_late item a (inr c) = completed_late item a c
 
-  further_beside : (item a : Item) → IsFurther flat sets item a → a.origin ≡ length sets
+  further_beside : (item a : Item) → IsAddedFor flat sets item a → a.origin ≡ length sets
       → a.step < begin_count flat a.node → ⊥
   further_beside item a (inl o) same lt = on_begins item a o lt
   further_beside item a (inr c) same lt = completed_beside item a c same
@@ -121,14 +121,14 @@ module _ (flat : code_flat.Tables) (roots : GiveRoots (flat_of flat) flat.roots.
   waits_early o (Some set) is h = get_below sets o is
 
   further_holds : (item a : Item) → Holds (flat_of flat) x (length sets) (at item.node item.step) item.origin
-      → IsFurther flat sets item a →
+      → IsAddedFor flat sets item a →
       Holds (flat_of flat) x (length sets) (at a.node a.step) a.origin
   further_holds item a h (inl o) = passed_holds flat roots nulls x sets earlier item a h o.passed
   further_holds item a h (inr c) = completed_holds flat roots x sets [] earlier
       (none_hold flat roots nulls x sets earlier) item a h c
-      (λ t. waits_early item.origin (slice_get sets item.origin) refl c.resumed.waits)
+      (λ t. waits_early item.origin (slice_get sets item.origin) refl c.advanced.stands)
 
-  module _ (ii hi : ℕ) (heads : List ℕ) (items : List Item) (g : IsGoing flat x sets ii hi heads items) where
+  module _ (ii hi : ℕ) (heads : List ℕ) (items : List Item) (g : IsWorklist flat x sets ii hi heads items) where
     spot_holds : (h : ℕ) (p : Spot) → In h heads → In p (block_of flat h).spots
         → Holds (flat_of flat) x (length sets) (at p.node p.step) (length sets)
     spot_holds h p at_h lies = inside_holds flat roots x sets earlier h (g.predicted h at_h)
@@ -176,8 +176,8 @@ module _ (flat : code_flat.Tables) (roots : GiveRoots (flat_of flat) flat.roots.
 
     -- one item more
     module _ (d : Item) (heads' : List ℕ) (items' : List Item) (below : ii < length items)
-        (asked : Adds (IsAsked flat (slice_index_or items ii d)) heads heads')
-        (further : Adds (IsFurther flat sets (slice_index_or items ii d)) items items') where
+        (asked : Adds (IsPredictedRoot flat (slice_index_or items ii d)) heads heads')
+        (further : Adds (IsAddedFor flat sets (slice_index_or items ii d)) items items') where
       this_held : Holds (flat_of flat) x (length sets)
           (at (slice_index_or items ii d).node (slice_index_or items ii d).step) (slice_index_or items ii d).origin
       this_held = g.held (slice_index_or items ii d) (at_index_in items ii d below)
@@ -212,7 +212,7 @@ module _ (flat : code_flat.Tables) (roots : GiveRoots (flat_of flat) flat.roots.
               (further.all b (inl (record { passed = p; moves = moves })))
       this_worked b (inr c) = in_right (expand (block_of flat) (length sets) heads') (further.all b (inr c))
 
-      pub item_more : IsGoing flat x sets (ii + 1) hi heads' items'
+      pub item_more : IsWorklist flat x sets (ii + 1) hi heads' items'
       item_more = record {
         within_items = (let size = ap (λ v. length v) further.is ∙ length-append items further.added in
             omega (arith, below, size));
@@ -243,29 +243,30 @@ module _ (flat : code_flat.Tables) (roots : GiveRoots (flat_of flat) flat.roots.
           same_heads : take hi heads' ≡ take hi heads
           same_heads = front_same hi heads asked.added heads' asked.is g.within_heads
 
-          predicted : (h : ℕ) → In h heads ⊎ IsAsked flat (slice_index_or items ii d) h → (k : ℕ)
+          predicted : (h : ℕ) → In h heads ⊎ IsPredictedRoot flat (slice_index_or items ii d) h → (k : ℕ)
               → k < begin_count flat h → Holds (flat_of flat) x (length sets) (at h k) (length sets)
           predicted h (inl i) k lt = g.predicted h i k lt
           predicted h (inr a) k lt = asked_predicted (slice_index_or items ii d) h a.next k this_held a.call lt
 
-          under : (h : ℕ) → In h heads ⊎ IsAsked flat (slice_index_or items ii d) h → h < length flat.nodes.items
+          under : (h : ℕ) → In h heads ⊎ IsPredictedRoot flat (slice_index_or items ii d) h
+              → h < length flat.nodes.items
           under h (inl i) = g.below h i
           under h (inr a) = root_below (slice_index_or items ii d) h a.next a.call
 
-          are : (h : ℕ) → In h heads ⊎ IsAsked flat (slice_index_or items ii d) h → IsHead flat h
+          are : (h : ℕ) → In h heads ⊎ IsPredictedRoot flat (slice_index_or items ii d) h → IsHead flat h
           are h (inl i) = g.are_heads h i
           are h (inr a) = tables.outer (slice_index_or items ii d) h a.next this_late a.call
 
-          held : (a : Item) → In a items ⊎ IsFurther flat sets (slice_index_or items ii d) a
+          held : (a : Item) → In a items ⊎ IsAddedFor flat sets (slice_index_or items ii d) a
               → Holds (flat_of flat) x (length sets) (at a.node a.step) a.origin
           held a (inl i) = g.held a i
           held a (inr f) = further_holds (slice_index_or items ii d) a this_held f
 
-          late : (a : Item) → In a items ⊎ IsFurther flat sets (slice_index_or items ii d) a → IsLate flat a
+          late : (a : Item) → In a items ⊎ IsAddedFor flat sets (slice_index_or items ii d) a → IsLate flat a
           late a (inl i) = g.late a i
           late a (inr f) = further_late (slice_index_or items ii d) a f
 
-          beside : (a : Item) → In a items ⊎ IsFurther flat sets (slice_index_or items ii d) a → a.origin ≡ length sets
+          beside : (a : Item) → In a items ⊎ IsAddedFor flat sets (slice_index_or items ii d) a → a.origin ≡ length sets
               → a.step < begin_count flat a.node → ⊥
           beside a (inl i) = g.beside a i
           beside a (inr f) = further_beside (slice_index_or items ii d) a f
@@ -299,7 +300,7 @@ module _ (flat : code_flat.Tables) (roots : GiveRoots (flat_of flat) flat.roots.
           passed_holds flat roots nulls x sets earlier (item_at (length sets) p.from) (item_at (length sets) r) from
           (record { root = p.root; call = p.call; null = p.null; free = p.free; node = p.node; origin = refl })
 
-      pub head_more : IsGoing flat x sets ii (hi + 1) heads' items'
+      pub head_more : IsWorklist flat x sets ii (hi + 1) heads' items'
       head_more = record {
         within_items = (let size = ap (λ v. length v) passed_items.is ∙ length-append items passed_items.added in
             let le = g.within_items in omega (arith, le, size));
@@ -407,7 +408,8 @@ module _ (flat : code_flat.Tables) (roots : GiveRoots (flat_of flat) flat.roots.
             by (inr i) = g.worked a (in_front a items ii items_done i) b w
 
   -- the measure
-  pub measure_falls : (ii hi ii' hi' : ℕ) (heads : List ℕ) (items : List Item) → IsGoing flat x sets ii hi heads items
+  pub measure_falls : (ii hi ii' hi' : ℕ) (heads : List ℕ) (items : List Item) → IsWorklist flat x sets ii hi heads
+      items
       → ii + hi < ii' + hi' → (ii < length items) ⊎ (hi < length heads) →
       places (flat_of flat).nodes * (length sets + 1) + length flat.nodes.items - (ii' + hi')
       < places (flat_of flat).nodes * (length sets + 1) + length flat.nodes.items - (ii + hi)

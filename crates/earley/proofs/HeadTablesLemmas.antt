@@ -5,7 +5,7 @@ use Rattle.std.proofs.Common.{◌∙◌, arith, slice_get}
 use Rattle.flatgrammar.specs.Places.{In}
 use Rattle.flatgrammar.proofs.FlatCutLemmas.{push_cases}
 use Rattle.earley.specs.HeadTables.{IsTable}
-use Rattle.earley.proofs.ItemRowsLemmas.{keeps_get, get_in}
+use Rattle.earley.proofs.AreBucketsLemmas.{keeps_get, get_in}
 
 set_here : (xs : List ℕ) (i v : ℕ) → i < length xs → slice_get (set xs i v) i ≡ Some v
 set_here [] i v lt = absurd (omega (arith, lt))

@@ -31,12 +31,12 @@ get_there (x ∷ xs) zero lt = record { what = x; is = refl }
 get_there (x ∷ xs) (suc k) lt = let less : k < length xs = omega arith in let t = get_there xs k less in
     record { what = t.what; is = t.is }
 
-pub get_front : {A : Type 0} (xs : List A) (j k : ℕ) → k < j → slice_get (take j xs) k ≡ slice_get xs k
-get_front [] zero k lt = refl
-get_front [] (suc j) k lt = refl
-get_front (x ∷ xs) zero k lt = absurd (omega arith)
-get_front (x ∷ xs) (suc j) zero lt = refl
-get_front (x ∷ xs) (suc j) (suc k) lt = let less : k < j = omega arith in get_front xs j k less
+pub get_set : {A : Type 0} (xs : List A) (j k : ℕ) → k < j → slice_get (take j xs) k ≡ slice_get xs k
+get_set [] zero k lt = refl
+get_set [] (suc j) k lt = refl
+get_set (x ∷ xs) zero k lt = absurd (omega arith)
+get_set (x ∷ xs) (suc j) zero lt = refl
+get_set (x ∷ xs) (suc j) (suc k) lt = let less : k < j = omega arith in get_set xs j k less
 
 get_past : {A : Type 0} (xs : List A) (j k : ℕ) → j ≤ k → slice_get (take j xs) k ≡ None
 get_past [] zero k le = refl
@@ -161,11 +161,11 @@ module _ (flat : code_flat.Tables) (roots : GiveRoots (flat_of flat) flat.roots.
         });
       }))
 
-  resumed_in : (i j k : ℕ) {s : ℕ} {q r p : Place} (set earlier : List Item) → slice_get sets j ≡ Some set
+  advanced_in : (i j k : ℕ) {s : ℕ} {q r p : Place} (set earlier : List Item) → slice_get sets j ≡ Some set
       → slice_get sets k ≡ Some earlier → k ≤ j →
       In (item_of p k) set → Ends (flat_of flat) p s → In (item_of q i) earlier → Calls (flat_of flat) q s r
       → (Takes (flat_of flat) q → k < j) → In (item_of r i) set
-  resumed_in i j o {p = p} set earlier is is_earlier le h e g
+  advanced_in i j o {p = p} set earlier is is_earlier le h e g
       (calls {s = n} {k = k} {t = t} {l = l} {node = node} at_n c) takes =
       let b = ends_at e in
       let u = get_unmap node_of flat.nodes.items b.root b.node b.stands in
@@ -178,9 +178,9 @@ module _ (flat : code_flat.Tables) (roots : GiveRoots (flat_of flat) flat.roots.
         next = inr (record {
           completed = record {
             done = done_is;
-            resumed = record {
+            advanced = record {
               from = item_of (at n k) i;
-              waits = waits (cases_lt o j);
+              stands = waiters (cases_lt o j);
               call = call_is n k i at_n c b.rooted;
               node = refl;
               origin = refl;
@@ -197,9 +197,9 @@ module _ (flat : code_flat.Tables) (roots : GiveRoots (flat_of flat) flat.roots.
       some_same : {a b : List Item} → Some a ≡ Some b → a ≡ b
       some_same h = cc
 
-      waits : (o < j) ⊎ (j ≤ o) → In (item_of (at n k) i) (waiting_in (take j sets) set o)
-      waits (inl less) = rw (get_front sets j o less, is_earlier) g
-      waits (inr past) =
+      waiters : (o < j) ⊎ (j ≤ o) → In (item_of (at n k) i) (waiting_in (take j sets) set o)
+      waiters (inl less) = rw (get_set sets j o less, is_earlier) g
+      waiters (inr past) =
           let same : o ≡ j = omega arith in
           let one : earlier ≡ set = some_same (sym is_earlier ∙ (ap (λ v. slice_get sets v) same ∙ is)) in
           rw (get_past sets j o past) (subst (λ v. In (item_of (at n k) i) v) one g)
@@ -235,5 +235,5 @@ module _ (flat : code_flat.Tables) (roots : GiveRoots (flat_of flat) flat.roots.
       let le = holds_origin (flat_of flat) h in
       let below : k < length sets = omega (arith, get_below sets j is, le) in
       let before = get_there sets k below in
-      resumed_in i j k set before.what is before.is le (chart_contains h set is) e
+      advanced_in i j k set before.what is before.is le (chart_contains h set is) e
       (chart_contains g before.what before.is) c takes

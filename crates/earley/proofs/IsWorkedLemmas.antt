@@ -14,11 +14,11 @@ use Rattle.flatgrammar.specs.declared.flat_node.Node as code_node
 use Rattle.flatgrammar.specs.declared.tables.Tables as code_flat
 use Rattle.flatgrammar.specs.FlatViews.{node_of}
 use Rattle.flatgrammar.specs.NodeSteps.{flat_of}
-use Rattle.earley.specs.ItemSets.{waiting_or, IsResumed, IsNextOf}
+use Rattle.earley.specs.ItemSets.{waiting_or, IsAdvanced, IsNextOf}
 use Rattle.flatgrammar.specs.TableViews.{done_in, GiveRoots, AreNulls, null_in, takes_of}
 use Rattle.flatgrammar.specs.Roots.{Root, own, named}
 use Rattle.earley.specs.Closed.{Hold, HoldAll, IsClosed}
-use Rattle.earley.specs.Worklist.{IsPassed, IsWorked}
+use Rattle.earley.specs.Worklist.{AdvancesNullable, IsWorked}
 use Rattle.flatgrammar.proofs.CallOfLemmas.{get_map, below_get, called_of, takes_true}
 use Rattle.flatgrammar.proofs.NodeStepsLemmas.{done_is}
 
@@ -39,7 +39,7 @@ module _ (flat : code_flat.Tables) (roots : GiveRoots (flat_of flat) flat.roots.
     (nulls : AreNulls (flat_of flat) flat.nulls.items)
     (x : List ℕ) (sets : List (List Item)) (earlier : HoldAll (flat_of flat) x sets) where
   pub passed_holds : (item a : Item) → Holds (flat_of flat) x (length sets) (at item.node item.step) item.origin
-      → IsPassed flat item a →
+      → AdvancesNullable flat item a →
       Holds (flat_of flat) x (length sets) (at a.node a.step) a.origin
   passed_holds item a h p =
       let c = called_of flat roots item p.root a.step p.call in
@@ -64,12 +64,12 @@ module _ (flat : code_flat.Tables) (roots : GiveRoots (flat_of flat) flat.roots.
       (worked : IsWorked flat sets set set) where
     goes_back : (by a : Item) → In by set → (o : Option (List Item)) → slice_get sets by.origin ≡ o
         → done_in (slice_get flat.nodes.items by.node) by.step ≡ true →
-        (r : IsResumed flat by.node (waiting_or set o) a) → (takes_of flat r.from ≡ true → by.origin < length sets)
+        (r : IsAdvanced flat by.node (waiting_or set o) a) → (takes_of flat r.from ≡ true → by.origin < length sets)
         → In a set
     goes_back by a stands (Some old) is d r later =
         worked by stands a (inr (record {
           done = d;
-          resumed = subst (λ v. IsResumed flat by.node (waiting_or [] v)
+          advanced = subst (λ v. IsAdvanced flat by.node (waiting_or [] v)
               a) (sym is) r;
         }))
     goes_back by a stands None is d r later =
@@ -80,7 +80,7 @@ module _ (flat : code_flat.Tables) (roots : GiveRoots (flat_of flat) flat.roots.
         let n = done_null by.node by.step (slice_get flat.nodes.items by.node) refl d
         (passes_where_begun (flat_of flat) x h same) in
         let free = not_true (takes_of flat r.from) (λ t. let lt = later t in omega (arith, lt, same)) in
-        worked r.from r.waits a (inl (inr (record {
+        worked r.from r.stands a (inl (inr (record {
           root = by.node;
           call = r.call;
           null = ap null_in ((nulls by.node).1 n);
@@ -95,4 +95,4 @@ module _ (flat : code_flat.Tables) (roots : GiveRoots (flat_of flat) flat.roots.
         by : IsNextOf flat sets set n.by a → In a set
         by (inl p) = worked n.by n.stands a (inl (inl p))
         by (inr c) =
-            goes_back n.by a n.stands (slice_get sets n.by.origin) refl c.completed.done c.completed.resumed c.later
+            goes_back n.by a n.stands (slice_get sets n.by.origin) refl c.completed.done c.completed.advanced c.later

@@ -1,11 +1,11 @@
 pub mod AddsLemmas
 pub mod AloneLemmas
 pub mod AreChosenLemmas
-pub mod AreReadLemmas
+pub mod AreScannedLemmas
 pub mod BlockLemmas
 pub mod ChartSetsLemmas
 pub mod ExpandLemmas
-pub mod FollowLemmas
+pub mod ScanLastLemmas
 pub mod HeadTablesLemmas
 pub mod IsBuiltLemmas
 pub mod IsChartLemmas
@@ -13,9 +13,9 @@ pub mod FillLemmas
 pub mod IsVerdictLemmas
 pub mod IsWorkedLemmas
 pub mod ItemLemmas
-pub mod ItemRowsLemmas
+pub mod AreBucketsLemmas
 pub mod RecordsLemmas
 pub mod SetAtMostLemmas
 pub mod SetsLemmas
 pub mod ViewsLemmas
-pub mod WaitAllLemmas
+pub mod AreWaitingLemmas

@@ -11,11 +11,11 @@ use Rattle.earley.specs.declared.sets.Part.{Part}
 use Rattle.earley.specs.declared.sets.Record.{Record}
 use Rattle.earley.specs.declared.sets.Bounds.{Bounds}
 use Rattle.earley.specs.declared.sets.Stores.{Stores}
-use Rattle.earley.specs.Fronts.{Front, part_of, front_in, fronts_in, the_record, heads_of, firsts_of, IsFirstOf}
-use Rattle.earley.specs.Fronts.{IsOwned}
-use Rattle.earley.specs.Fronts.{AreBounds, AreStored, AreSameOwners, IsOwnPart, GoesOn, GoOn}
-use Rattle.earley.proofs.IsChartLemmas.{get_front}
-use Rattle.earley.proofs.ItemRowsLemmas.{keeps_get, or_get, get_index}
+use Rattle.earley.specs.EarleySets.{EarleySet, part_of, set_in, sets_in, the_record, heads_of, firsts_of, IsFirstOf}
+use Rattle.earley.specs.EarleySets.{IsOwned}
+use Rattle.earley.specs.EarleySets.{AreBounds, AreStored, AreSameOwners, IsOwnPart, GoesOn, GoOn}
+use Rattle.earley.proofs.IsChartLemmas.{get_set}
+use Rattle.earley.proofs.AreBucketsLemmas.{keeps_get, or_get, get_index}
 use Rattle.earley.proofs.ExpandLemmas.{take_past, take_one, map_end}
 use Rattle.earley.proofs.SetsLemmas.{all_bounds_push, part_appended, behind_new, rest_long, go_longer}
 
@@ -23,11 +23,11 @@ use Rattle.earley.proofs.SetsLemmas.{all_bounds_push, part_appended, behind_new,
 below_or : (k n : ℕ) → (k < n) ⊎ (n ≤ k)
 below_or k n = grind arith
 
-front_get : {A : Type 0} (xs ys : List A) (k : ℕ) (a : A) → k < length xs → slice_get (xs ++ ys) k ≡ Some a
+set_get : {A : Type 0} (xs ys : List A) (k : ℕ) (a : A) → k < length xs → slice_get (xs ++ ys) k ≡ Some a
     → slice_get xs k ≡ Some a
-front_get [] ys k a lt h = absurd (omega (arith, lt))
-front_get (x ∷ xs) ys zero a lt h = h
-front_get (x ∷ xs) ys (suc k) a lt h = front_get xs ys k a (let less : k < length xs = omega (arith, lt) in less) h
+set_get [] ys k a lt h = absurd (omega (arith, lt))
+set_get (x ∷ xs) ys zero a lt h = h
+set_get (x ∷ xs) ys (suc k) a lt h = set_get xs ys k a (let less : k < length xs = omega (arith, lt) in less) h
 
 get_behind : {A : Type 0} (xs ys : List A) (k : ℕ) (a : A) → length xs ≤ k → slice_get (xs ++ ys) k ≡ Some a
     → slice_get ys (k - length xs) ≡ Some a
@@ -49,7 +49,7 @@ part_get : {A : Type 0} (xs : List A) (part : Part) (k : ℕ) (a : A) → part.f
 part_get xs part k a ge lt is =
     let less : k - part.from < part.to - part.from = omega (arith, ge, lt) in
     let same : part.from + (k - part.from) ≡ k = omega (arith, ge) in
-    get_front (drop part.from xs) (part.to - part.from) (k - part.from) less
+    get_set (drop part.from xs) (part.to - part.from) (k - part.from) less
     ∙ (drop_get part.from xs (k - part.from) ∙ (ap (λ n. slice_get xs n) same ∙ is))
 
 -- heads of records by index
@@ -163,7 +163,7 @@ stored_push old new bounds b go are here own = record {
     by : (k : ℕ) (r : Record) → slice_get new.records.items k ≡ Some r
         → (k < length old.records.items) ⊎ (length old.records.items ≤ k) → IsOwned (bounds ++ b ∷ []) k r
     by k r is (inl lt) =
-        let was = front_get old.records.items go.records.0 k r lt
+        let was = set_get old.records.items go.records.0 k r lt
         (ap (λ v. slice_get v k) (sym go.records.1) ∙ is) in
         let o = are.owned k r was in
         record { owner = o.owner; set = keeps_get bounds (b ∷ []) r.set o.owner o.set; from = o.from; to = o.to }
@@ -190,30 +190,30 @@ stored_none s none = record {
 }
 
 -- a record tells where the list of its head begins
-pub first_found : (s : Stores) (bounds : List Bounds) (home head number first : ℕ) → AreStored s bounds
-    → slice_get s.records.items home ≡ Some (the_record head number first) →
-    (f : Front) × (slice_get (fronts_in s bounds) number ≡ Some f) × IsFirstOf f head first
-first_found s bounds home head number first are is =
-    let o = are.owned home (the_record head number first) is in
-    let here = part_get s.records.items o.owner.records home (the_record head number first) o.from o.to is in (
-      front_in s o.owner,
-      get_map (front_in s) bounds number o.set,
+pub first_found : (s : Stores) (bounds : List Bounds) (hint head number first : ℕ) → AreStored s bounds
+    → slice_get s.records.items hint ≡ Some (the_record head number first) →
+    (f : EarleySet) × (slice_get (sets_in s bounds) number ≡ Some f) × IsFirstOf f head first
+first_found s bounds hint head number first are is =
+    let o = are.owned hint (the_record head number first) is in
+    let here = part_get s.records.items o.owner.records hint (the_record head number first) o.from o.to is in (
+      set_in s o.owner,
+      get_map (set_in s) bounds number o.set,
       record {
-        index = home - o.owner.records.from;
-        head_is = get_map (λ r. r.head) (part_of s.records.items o.owner.records) (home - o.owner.records.from) here;
-        first_is = sym (or_get (firsts_of (part_of s.records.items o.owner.records)) (home - o.owner.records.from) 0
+        index = hint - o.owner.records.from;
+        head_is = get_map (λ r. r.head) (part_of s.records.items o.owner.records) (hint - o.owner.records.from) here;
+        first_is = sym (or_get (firsts_of (part_of s.records.items o.owner.records)) (hint - o.owner.records.from) 0
             first
-            (get_map (λ r. r.first) (part_of s.records.items o.owner.records) (home - o.owner.records.from) here));
+            (get_map (λ r. r.first) (part_of s.records.items o.owner.records) (hint - o.owner.records.from) here));
       },
     )
 
--- the waits of a set stand among all
-pub waits_go : (s : Stores) (bounds : List Bounds) (k : ℕ) (f : Front) → slice_get (fronts_in s bounds) k ≡ Some f
-    → GoesOn f.waits s.waits.items
+-- the waiting lists of a set stand among all
+pub waits_go : (s : Stores) (bounds : List Bounds) (k : ℕ) (f : EarleySet) → slice_get (sets_in s bounds) k ≡ Some f
+    → GoesOn f.waiters s.waiters.items
 waits_go s bounds k f is =
-    let u = get_unmap (front_in s) bounds k f is in
-    subst (λ v. GoesOn v s.waits.items) (ap (λ v. v.waits) u.is)
-    (drop u.from.waits s.waits.items, sym (take-append-drop u.from.waits s.waits.items))
+    let u = get_unmap (set_in s) bounds k f is in
+    subst (λ v. GoesOn v s.waiters.items) (ap (λ v. v.waiters) u.is)
+    (drop u.from.waiters s.waiters.items, sym (take-append-drop u.from.waiters s.waiters.items))
 
 -- the lists of a further set
 pub added_stored : (old new : Stores) (bounds all : List Bounds) (b : Bounds) → all ≡ bounds ++ b ∷ [] → GoOn old new

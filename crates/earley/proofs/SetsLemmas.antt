@@ -10,8 +10,8 @@ use Rattle.flatgrammar.proofs.FlatCutLemmas.{push_cases}
 use Rattle.earley.specs.declared.sets.Part.{Part}
 use Rattle.earley.specs.declared.sets.Bounds.{Bounds}
 use Rattle.earley.specs.declared.sets.Stores.{Stores}
-use Rattle.earley.specs.Fronts.{Front, part_of, front_in, fronts_in, IsPart, AreBounds, AreAllBounds, GoesOn, GoOn}
-use Rattle.earley.specs.Fronts.{IsAppended}
+use Rattle.earley.specs.EarleySets.{EarleySet, part_of, set_in, sets_in, IsPart, AreBounds, AreAllBounds, GoesOn, GoOn}
+use Rattle.earley.specs.EarleySets.{IsAppended}
 use borrow.Rule.Slice.PartMut.{put_mid, post_of}
 use Rattle.std.proofs.lemmas.Slice.{take-put_mid}
 
@@ -36,9 +36,9 @@ part_within old new part go is =
     record { ordered = is.ordered; inside = omega (arith, inside, size) }
 
 -- the first entries of a list that goes on
-front_part_same : {A : Type 0} (old new : List A) (count : ℕ) → GoesOn old new → count ≤ length old
+set_part_same : {A : Type 0} (old new : List A) (count : ℕ) → GoesOn old new → count ≤ length old
     → take count new ≡ take count old
-front_part_same old new count go le = ap (λ v. take count v) go.1 ∙ take-append-le count old go.0 le
+set_part_same old new count go le = ap (λ v. take count v) go.1 ∙ take-append-le count old go.0 le
 
 pub go_longer : {A : Type 0} (old new : List A) → GoesOn old new → length old ≤ length new
 go_longer old new go = let size = ap (λ v. length v) go.1 ∙ length-append old go.0 in omega (arith, size)
@@ -97,27 +97,27 @@ pub goes_nowhere : {A : Type 0} (old new : List A) → new ≡ old → GoesOn ol
 goes_nowhere old new is = ([], is ∙ sym (append-nil old))
 
 -- a set that stands there stands there on
-front_same : (old new : Stores) (b : Bounds) → GoOn old new → AreBounds old b → front_in new b ≡ front_in old b
+front_same : (old new : Stores) (b : Bounds) → GoOn old new → AreBounds old b → set_in new b ≡ set_in old b
 front_same old new b go are =
     let one = part_same old.records.items new.records.items b.records go.records are.records in
     let two = part_same old.items.items new.items.items b.items go.items are.items in
-    let three = front_part_same old.waits.items new.waits.items b.waits go.waits are.waits in
+    let three = set_part_same old.waiters.items new.waiters.items b.waiters go.waiters are.waiters in
     rw (one, two, three) refl
 
 bounds_same : (old new : Stores) (b : Bounds) → GoOn old new → AreBounds old b → AreBounds new b
 bounds_same old new b go are = record {
   records = part_within old.records.items new.records.items b.records go.records are.records;
   items = part_within old.items.items new.items.items b.items go.items are.items;
-  waits = (let size = go_longer old.waits.items new.waits.items go.waits in
-      let within = are.waits in omega (arith, within, size));
+  waiters = (let size = go_longer old.waiters.items new.waiters.items go.waiters in
+      let within = are.waiters in omega (arith, within, size));
 }
 
-pub fronts_same : (old new : Stores) (bounds : List Bounds) → GoOn old new → AreAllBounds old bounds
-    → fronts_in new bounds ≡ fronts_in old bounds
-fronts_same old new [] go are = refl
-fronts_same old new (b ∷ bounds) go are =
+pub sets_same : (old new : Stores) (bounds : List Bounds) → GoOn old new → AreAllBounds old bounds
+    → sets_in new bounds ≡ sets_in old bounds
+sets_same old new [] go are = refl
+sets_same old new (b ∷ bounds) go are =
     let here = front_same old new b go (are 0 b refl) in
-    let rest = fronts_same old new bounds go (λ j c is. are (suc j) c is) in
+    let rest = sets_same old new bounds go (λ j c is. are (suc j) c is) in
     rw (here, rest) refl
 
 pub all_bounds_same : (old new : Stores) (bounds : List Bounds) → GoOn old new → AreAllBounds old bounds
@@ -125,13 +125,13 @@ pub all_bounds_same : (old new : Stores) (bounds : List Bounds) → GoOn old new
 all_bounds_same old new bounds go are j b is = bounds_same old new b go (are j b is)
 
 -- one set more
-pub fronts_push : (old new : Stores) (bounds : List Bounds) (b : Bounds) (front : Front) → GoOn old new
-    → AreAllBounds old bounds → front_in new b ≡ front →
-    fronts_in new (bounds ++ b ∷ []) ≡ fronts_in old bounds ++ front ∷ []
-fronts_push old new bounds b front go are is =
-    map-append (front_in new) bounds (b ∷ [])
-    ∙ (ap (λ v. v ++ front_in new b ∷ []) (fronts_same old new bounds go are)
-    ∙ ap (λ v. fronts_in old bounds ++ v ∷ []) is)
+pub sets_push : (old new : Stores) (bounds : List Bounds) (b : Bounds) (kept_set : EarleySet) → GoOn old new
+    → AreAllBounds old bounds → set_in new b ≡ kept_set →
+    sets_in new (bounds ++ b ∷ []) ≡ sets_in old bounds ++ kept_set ∷ []
+sets_push old new bounds b kept_set go are is =
+    map-append (set_in new) bounds (b ∷ [])
+    ∙ (ap (λ v. v ++ set_in new b ∷ []) (sets_same old new bounds go are)
+    ∙ ap (λ v. sets_in old bounds ++ v ∷ []) is)
 
 pub all_bounds_push : (old new : Stores) (bounds : List Bounds) (b : Bounds) → GoOn old new → AreAllBounds old bounds
     → AreBounds new b → AreAllBounds new (bounds ++ b ∷ [])

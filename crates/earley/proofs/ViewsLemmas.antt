@@ -6,7 +6,7 @@ use Rattle.flatgrammar.specs.Flat.{at}
 use Rattle.flatgrammar.specs.Holds.{Holds, begins}
 use Rattle.flatgrammar.specs.Places.{In, AreDifferent}
 use Rattle.flatgrammar.specs.declared.flat_item.Item.{Item}
-use Rattle.earley.specs.Fronts.{Front}
+use Rattle.earley.specs.EarleySets.{EarleySet}
 use Rattle.flatgrammar.specs.declared.flat_node.Node as code_node
 use Rattle.flatgrammar.specs.declared.tables.Tables as code_flat
 use Rattle.flatgrammar.specs.declared.flat_node.Node.TheVariants as vn
@@ -14,12 +14,12 @@ use Rattle.flatgrammar.specs.FlatViews.{node_of}
 use Rattle.flatgrammar.specs.NodeSteps.{flat_of, IfSomeSet}
 use Rattle.earley.specs.ItemSets.{Adds}
 use Rattle.flatgrammar.specs.TableViews.{count_in, read_in, GiveRoots, whole_root, AreNulls}
-use Rattle.earley.specs.ReadItems.{IsRead}
+use Rattle.earley.specs.ScannedItems.{IsScanned}
 use Rattle.earley.specs.Closed.{Hold, IsClosed, Keeps}
 use Rattle.earley.specs.Charts.{IsFirst, IsAfter, IsBuilt}
 use Rattle.flatgrammar.specs.declared.block.Spot.{Spot}
 use Rattle.flatgrammar.specs.Blocks.{item_at, Block, begin_count, block_of, AreTables}
-use Rattle.earley.specs.FrontViews.{expand, full, view, views, IsGoing, IsWholeAt}
+use Rattle.earley.specs.SetViews.{expand, full, view, views, IsWorklist, IsWholeAt}
 use Rattle.flatgrammar.proofs.CallOfLemmas.{begun_starts, root_stands, get_below, some_same}
 use Rattle.earley.proofs.IsBuiltLemmas.{after_holds, root_is, built_more}
 use Rattle.earley.proofs.BlockLemmas.{in_expand, in_right, in_map, from_map, in_either}
@@ -29,13 +29,14 @@ use Rattle.earley.proofs.ExpandLemmas.{length_views, take_one, take_past, map_en
 use Rattle.earley.proofs.AddsLemmas.{adds_as, adds_none}
 use Rattle.earley.proofs.ItemLemmas.{item_same}
 
-pub views_more : (flat : code_flat.Tables) (j : ℕ) (fronts : List Front) (front : Front)
-    → views flat j (fronts ++ front ∷ []) ≡ views flat j fronts ++ view flat (j + length fronts) front ∷ []
-views_more flat j [] front = let z : j ≡ j + 0 = omega arith in ap (λ v. view flat v front ∷ []) z
-views_more flat j (f ∷ fronts) front =
-    let z : suc j + length fronts ≡ j + suc (length fronts) = omega arith in
-    ap (λ v. view flat j f ∷ v) (views_more flat (suc j) fronts front)
-    ∙ ap (λ v. view flat j f ∷ (views flat (suc j) fronts ++ view flat v front ∷ [])) z
+pub views_more : (flat : code_flat.Tables) (j : ℕ) (kept_sets : List EarleySet) (kept_set : EarleySet)
+    → views flat j (kept_sets ++ kept_set ∷ []) ≡ views flat j kept_sets ++ view flat (j + length kept_sets) kept_set
+    ∷ []
+views_more flat j [] kept_set = let z : j ≡ j + 0 = omega arith in ap (λ v. view flat v kept_set ∷ []) z
+views_more flat j (f ∷ kept_sets) kept_set =
+    let z : suc j + length kept_sets ≡ j + suc (length kept_sets) = omega arith in
+    ap (λ v. view flat j f ∷ v) (views_more flat (suc j) kept_sets kept_set)
+    ∙ ap (λ v. view flat j f ∷ (views flat (suc j) kept_sets ++ view flat v kept_set ∷ [])) z
 
 -- what was read begins nothing
 read_late : (flat : code_flat.Tables) (c k : ℕ) (o : Option code_node.Node) → IfSomeSet (read_in o k) c
@@ -78,7 +79,7 @@ module _ (flat : code_flat.Tables) (roots : GiveRoots (flat_of flat) flat.roots.
   nothing_in : {A B : Type 0} {a : A} → In a [] → B
   nothing_in h = elim h [ ]
 
-  pub going_first : IsGoing flat x sets 0 0 heads items
+  pub going_first : IsWorklist flat x sets 0 0 heads items
   going_first = record {
     within_items = omega arith;
     within_heads = omega arith;
@@ -120,10 +121,10 @@ module _ (flat : code_flat.Tables) (roots : GiveRoots (flat_of flat) flat.roots.
       at_root spot))
   first_in a (inr r) = in_right (expand (block_of flat) (length sets) heads) (after.all a r)
 
-  pub front_built : (new : List Item) → Hold (flat_of flat) x (length sets) new → AreDifferent new
+  pub set_built : (new : List Item) → Hold (flat_of flat) x (length sets) new → AreDifferent new
       → Keeps (full (block_of flat) (length sets) heads items) new → IsClosed flat sets new →
       IsBuilt flat x (sets ++ new ∷ [])
-  front_built new hold different keeps closed = built_more flat roots x sets built new hold different closed
+  set_built new hold different keeps closed = built_more flat roots x sets built new hold different closed
       (λ a f. keeps a (first_in a f))
 
 pub begun_here : (flat : code_flat.Tables) (j root : ℕ) (old new : List ℕ) → j ≡ 0 → whole_root flat ≡ Some root
@@ -137,59 +138,62 @@ begun_not flat j old never = adds_none (IsWholeAt flat j) old (λ t w. absurd (n
 
 module _ (flat : code_flat.Tables) (x : List ℕ) (sets : List (List Item)) (old new : List Item) where
   pub after_last : (k c : ℕ) (last : List Item) → length sets ≡ k + 1 → slice_get sets k ≡ Some last
-      → slice_get x k ≡ Some c → Adds (IsRead flat c last) old new →
+      → slice_get x k ≡ Some c → Adds (IsScanned flat c last) old new →
       Adds (IsAfter flat x sets) old new
-  after_last k c last size set letter p = adds_as (IsRead flat c last) (IsAfter flat x sets) old new
+  after_last k c last size set letter p = adds_as (IsScanned flat c last) (IsAfter flat x sets) old new
       (λ a r. record { at = k; letter = c; last = last; size = size; set = set; letter_is = letter; read = r })
       (λ a h. by a h) p
     where
-      by : (a : Item) → IsAfter flat x sets a → IsRead flat c last a
+      by : (a : Item) → IsAfter flat x sets a → IsScanned flat c last a
       by a h =
           let same : h.at ≡ k = omega (arith, h.size, size) in
           let one : h.last ≡ last = some_same (sym h.set ∙ (ap (λ v. slice_get sets v) same ∙ set)) in
           let two : h.letter ≡ c = some_same (sym h.letter_is ∙ (ap (λ v. slice_get x v) same ∙ letter)) in
-          subst (λ v. IsRead flat v last a) two (subst (λ v. IsRead flat h.letter v a) one h.read)
+          subst (λ v. IsScanned flat v last a) two (subst (λ v. IsScanned flat h.letter v a) one h.read)
 
   pub after_none : length sets ≡ 0 → Adds (IsAfter flat x sets) old old
   after_none none = adds_none (IsAfter flat x sets) old (λ a h. absurd (omega (arith, h.size, none)))
 
 module _ (flat : code_flat.Tables) (roots : GiveRoots (flat_of flat) flat.roots.items)
     (nulls : AreNulls (flat_of flat) flat.nulls.items) (tables : AreTables flat)
-    (x : List ℕ) (fronts : List Front) (built : IsBuilt flat x (views flat 0 fronts))
-    (number : ℕ) (is_number : number ≡ length fronts) (heads : List ℕ) (items : List Item)
+    (x : List ℕ) (kept_sets : List EarleySet) (built : IsBuilt flat x (views flat 0 kept_sets))
+    (number : ℕ) (is_number : number ≡ length kept_sets) (heads : List ℕ) (items : List Item)
     (begun : Adds (IsWholeAt flat number) [] heads)
-    (after : Adds (IsAfter flat x (views flat 0 fronts)) [] items) where
-  begun_there : Adds (IsWholeAt flat (length (views flat 0 fronts))) [] heads
-  begun_there = subst (λ v. Adds (IsWholeAt flat v) [] heads) (is_number ∙ sym (length_views flat 0 fronts)) begun
+    (after : Adds (IsAfter flat x (views flat 0 kept_sets)) [] items) where
+  begun_there : Adds (IsWholeAt flat (length (views flat 0 kept_sets))) [] heads
+  begun_there = subst (λ v. Adds (IsWholeAt flat v) [] heads) (is_number ∙ sym (length_views flat 0 kept_sets)) begun
 
-  pub going_from : IsGoing flat x (views flat 0 fronts) 0 0 heads items
-  going_from = going_first flat roots nulls tables x (views flat 0 fronts) built heads items begun_there after
+  pub going_from : IsWorklist flat x (views flat 0 kept_sets) 0 0 heads items
+  going_from = going_first flat roots nulls tables x (views flat 0 kept_sets) built heads items begun_there after
 
-  built_from : (front : Front) → Hold (flat_of flat) x (length (views flat 0 fronts))
-      (full (block_of flat) (length (views flat 0 fronts)) front.heads front.items) →
-      AreDifferent (full (block_of flat) (length (views flat 0 fronts)) front.heads front.items) →
-      Keeps (full (block_of flat) (length (views flat 0 fronts)) heads items)
-      (full (block_of flat) (length (views flat 0 fronts)) front.heads front.items) →
-      IsClosed flat (views flat 0 fronts) (full (block_of flat) (length (views flat 0 fronts)) front.heads
-      front.items) → IsBuilt flat x (views flat 0 (fronts ++ front ∷ []))
-  built_from front hold different keeps closed =
-      let more = front_built flat roots nulls tables x (views flat 0 fronts) built heads items begun_there after
-      (full (block_of flat) (length (views flat 0 fronts)) front.heads front.items) hold different keeps closed in
-      let count : length (views flat 0 fronts) ≡ 0 + length fronts =
-      (let size = length_views flat 0 fronts in omega (arith, size)) in
-      subst (λ v. IsBuilt flat x v) (sym (views_more flat 0 fronts front))
-      (subst (λ n. IsBuilt flat x (views flat 0 fronts ++ full (block_of flat) n front.heads front.items ∷ []))
+  built_from : (kept_set : EarleySet) → Hold (flat_of flat) x (length (views flat 0 kept_sets))
+      (full (block_of flat) (length (views flat 0 kept_sets)) kept_set.heads kept_set.items) →
+      AreDifferent (full (block_of flat) (length (views flat 0 kept_sets)) kept_set.heads kept_set.items) →
+      Keeps (full (block_of flat) (length (views flat 0 kept_sets)) heads items)
+      (full (block_of flat) (length (views flat 0 kept_sets)) kept_set.heads kept_set.items) →
+      IsClosed flat (views flat 0 kept_sets) (full (block_of flat) (length (views flat 0 kept_sets)) kept_set.heads
+      kept_set.items) → IsBuilt flat x (views flat 0 (kept_sets ++ kept_set ∷ []))
+  built_from kept_set hold different keeps closed =
+      let more = set_built flat roots nulls tables x (views flat 0 kept_sets) built heads items begun_there after
+      (full (block_of flat) (length (views flat 0 kept_sets)) kept_set.heads kept_set.items) hold different keeps
+      closed in
+      let count : length (views flat 0 kept_sets) ≡ 0 + length kept_sets =
+      (let size = length_views flat 0 kept_sets in omega (arith, size)) in
+      subst (λ v. IsBuilt flat x v) (sym (views_more flat 0 kept_sets kept_set))
+      (subst (λ n. IsBuilt flat x (views flat 0 kept_sets ++ full (block_of flat) n kept_set.heads kept_set.items ∷ []))
       count more)
 
-  pub built_by : (front : Front) (heads' : List ℕ) (items' : List Item) → front.heads ≡ heads' → front.items ≡ items' →
-      Hold (flat_of flat) x (length (views flat 0 fronts))
-      (full (block_of flat) (length (views flat 0 fronts)) heads' items') →
-      AreDifferent (full (block_of flat) (length (views flat 0 fronts)) heads' items') →
-      Keeps (full (block_of flat) (length (views flat 0 fronts)) heads items)
-      (full (block_of flat) (length (views flat 0 fronts)) heads' items') →
-      IsClosed flat (views flat 0 fronts) (full (block_of flat) (length (views flat 0 fronts)) heads' items')
-      → IsBuilt flat x (views flat 0 (fronts ++ front ∷ []))
-  built_by front heads' items' h i hold different keeps closed = built_from front (rw (h, i) hold) (rw (h, i) different)
+  pub built_by : (kept_set : EarleySet) (heads' : List ℕ) (items' : List Item) → kept_set.heads ≡ heads'
+      → kept_set.items ≡ items' →
+      Hold (flat_of flat) x (length (views flat 0 kept_sets))
+      (full (block_of flat) (length (views flat 0 kept_sets)) heads' items') →
+      AreDifferent (full (block_of flat) (length (views flat 0 kept_sets)) heads' items') →
+      Keeps (full (block_of flat) (length (views flat 0 kept_sets)) heads items)
+      (full (block_of flat) (length (views flat 0 kept_sets)) heads' items') →
+      IsClosed flat (views flat 0 kept_sets) (full (block_of flat) (length (views flat 0 kept_sets)) heads' items')
+      → IsBuilt flat x (views flat 0 (kept_sets ++ kept_set ∷ []))
+  built_by kept_set heads' items' h i hold different keeps closed = built_from kept_set (rw (h, i) hold) (rw (h, i)
+      different)
       (rw (h, i) keeps) (rw (h, i) closed)
 
 -- looking for an item, one entry after another

@@ -6,18 +6,18 @@ use Rattle.flatgrammar.specs.Flat.{Flat, Place, at}
 use Rattle.flatgrammar.specs.Holds.{Holds}
 use Rattle.flatgrammar.specs.Places.{In, AreDifferent}
 use Rattle.flatgrammar.specs.declared.flat_item.Item.{Item}
-use Rattle.earley.specs.Fronts.{Front}
+use Rattle.earley.specs.EarleySets.{EarleySet}
 use Rattle.flatgrammar.specs.declared.tables.Tables as code_flat
-use Rattle.earley.specs.FrontViews.{views}
+use Rattle.earley.specs.SetViews.{views}
 
 -- an item as the definitions name it
 abbrev pub pair : Item → Place × ℕ
 pair a = (at a.node a.step, a.origin)
 
 -- the sets of a chart; with no tables there are none
-abbrev pub chart_of : Option (Rc code_flat.Tables Global) → List Front → List (List (Place × ℕ))
-chart_of None fronts = []
-chart_of (Some tables) fronts = map (λ set. map pair set) (views tables.value 0 fronts)
+abbrev pub chart_of : Option (Rc code_flat.Tables Global) → List EarleySet → List (List (Place × ℕ))
+chart_of None kept_sets = []
+chart_of (Some tables) kept_sets = map (λ set. map pair set) (views tables.value 0 kept_sets)
 
 -- set j; one that is not there is empty
 abbrev pub set_at : List (List (Place × ℕ)) → ℕ → List (Place × ℕ)
@@ -30,6 +30,6 @@ pub record IsSet (flat : Flat) (x : List ℕ) (j : ℕ) (set : List (Place × �
   pub different : AreDifferent set
 
 -- each set has its size beside it
-pub record AreSized (tables : Option (Rc code_flat.Tables Global)) (fronts : List Front) : Type 0 where
-  pub size : (j : ℕ) (front : Front) → slice_get fronts j ≡ Some front
-      → front.size ≡ length (set_at (chart_of tables fronts) j)
+pub record AreSized (tables : Option (Rc code_flat.Tables Global)) (kept_sets : List EarleySet) : Type 0 where
+  pub size : (j : ℕ) (kept_set : EarleySet) → slice_get kept_sets j ≡ Some kept_set
+      → kept_set.size ≡ length (set_at (chart_of tables kept_sets) j)

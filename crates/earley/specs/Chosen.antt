@@ -5,12 +5,12 @@ use Rattle.flatgrammar.specs.Places.{In, AreDifferent}
 use Rattle.flatgrammar.specs.TableViews.{call_of, read_of}
 use Rattle.flatgrammar.specs.declared.flat_item.Item.{Item}
 use Rattle.flatgrammar.specs.declared.tables.Tables as code_flat
-use Rattle.earley.specs.Fronts.{Front}
-use Rattle.earley.specs.declared.later.Homed.{Homed}
-use Rattle.earley.specs.declared.later.Caller.{Caller}
+use Rattle.earley.specs.EarleySets.{EarleySet}
+use Rattle.earley.specs.declared.postdot.HintedItem.{HintedItem}
+use Rattle.earley.specs.declared.postdot.Caller.{Caller}
 
--- the items without their homes
-abbrev pub items_of : List Homed → List Item
+-- the items without their hints
+abbrev pub items_of : List HintedItem → List Item
 items_of list = map (λ h. h.item) list
 
 -- an item calls a root
@@ -41,6 +41,6 @@ pub record AreCallers (flat : code_flat.Tables) (all : List Item) (callers : Lis
   pub tell : AreCalls flat callers
 
 -- the readers are those of the last set
-abbrev pub AreReaders : code_flat.Tables → List Front → List Homed → Type 0
-AreReaders flat fronts readers = (k : ℕ) (f : Front) → length fronts ≡ k + 1 → slice_get fronts k ≡ Some f
+abbrev pub AreReaders : code_flat.Tables → List EarleySet → List HintedItem → Type 0
+AreReaders flat kept_sets readers = (k : ℕ) (f : EarleySet) → length kept_sets ≡ k + 1 → slice_get kept_sets k ≡ Some f
     → AreChosen (ReadsSome flat) f.items (items_of readers)

@@ -17,10 +17,10 @@ pub record Adds {A : Type 0} (Q : A → Type 0) (old : List A) (new : List A) : 
 abbrev pub IsBegun : ℕ → ℕ → ℕ → Item → Type 0
 IsBegun root count j a = (a.node ≡ root) × (a.step < count) × (a.origin ≡ j)
 
--- the items that wait for a root and go on
-pub record IsResumed (flat : code_flat.Tables) (root : ℕ) (waiting : List Item) (a : Item) : Type 0 where
+-- those that wait for a root, advanced over it
+pub record IsAdvanced (flat : code_flat.Tables) (root : ℕ) (waiting : List Item) (a : Item) : Type 0 where
   pub from : Item
-  pub waits : In from waiting
+  pub stands : In from waiting
   pub call : call_of flat from ≡ Some (root, a.step)
   pub node : a.node ≡ from.node
   pub origin : a.origin ≡ from.origin
@@ -33,29 +33,29 @@ waiting_or seen (Some earlier) = earlier
 abbrev pub waiting_in : List (List Item) → List Item → ℕ → List Item
 waiting_in sets seen o = waiting_or seen (slice_get sets o)
 
--- the items that one asks for by what it calls
+-- the items that one predicts
 pub record IsPredicted (flat : code_flat.Tables) (j : ℕ) (item : Item) (a : Item) : Type 0 where
   pub root : ℕ
   pub next : ℕ
   pub call : call_of flat item ≡ Some (root, next)
   pub begun : IsBegun root (count_in (slice_get flat.nodes.items root)) j a
 
--- the items that go on where one is done
+-- the items that the completion of one adds
 pub record IsCompleted (flat : code_flat.Tables) (sets : List (List Item)) (seen : List Item) (item : Item)
     (a : Item) : Type 0 where
   pub done : done_of flat item ≡ true
-  pub resumed : IsResumed flat item.node (waiting_in sets seen item.origin) a
+  pub advanced : IsAdvanced flat item.node (waiting_in sets seen item.origin) a
 
--- of them, those that go on: behind a turn that takes a letter one goes on only in a later set
-pub record IsGoingOn (flat : code_flat.Tables) (sets : List (List Item)) (seen : List Item) (item : Item)
+-- of them, those that are allowed: behind a turn that takes a letter only in a later set
+pub record IsAllowedCompletion (flat : code_flat.Tables) (sets : List (List Item)) (seen : List Item) (item : Item)
     (a : Item) : Type 0 where
   pub completed : IsCompleted flat sets seen item a
-  pub later : takes_of flat completed.resumed.from ≡ true → item.origin < length sets
+  pub later : takes_of flat completed.advanced.from ≡ true → item.origin < length sets
 
 abbrev pub IsNextOf : code_flat.Tables → List (List Item) → List Item → Item → Item → Type 0
-IsNextOf flat sets seen item a = IsPredicted flat (length sets) item a ⊎ IsGoingOn flat sets seen item a
+IsNextOf flat sets seen item a = IsPredicted flat (length sets) item a ⊎ IsAllowedCompletion flat sets seen item a
 
--- the items that the front of a set asks for
+-- the items that the front of a set predicts or completes
 pub record IsNext (flat : code_flat.Tables) (sets : List (List Item)) (seen : List Item) (front : List Item)
     (a : Item) : Type 0 where
   pub by : Item

@@ -2,11 +2,11 @@ pub mod ChartSets
 pub mod Charts
 pub mod Chosen
 pub mod Closed
-pub mod FrontViews
-pub mod Fronts
+pub mod SetViews
+pub mod EarleySets
 pub mod HeadTables
-pub mod ItemRows
+pub mod ItemBuckets
 pub mod ItemSets
-pub mod ReadItems
+pub mod ScannedItems
 pub mod Waiting
 pub mod Worklist

@@ -1,4 +1,4 @@
--- What waits for the heads of a set, as lists of links.
+-- The waiting lists of the heads of a set, as lists of links.
 use Rattle.std.specs.Prelude.{◌≡◌, ℕ, suc, ◌<◌, ◌≤◌, ◌⊎◌, List, [], ◌∷◌, Some, None, length, slice_get, slice_index_or}
 use Rattle.flatgrammar.specs.declared.flat_item.Item.{Item}
 use Rattle.flatgrammar.specs.declared.tables.Tables as code_flat
@@ -6,28 +6,29 @@ use Rattle.flatgrammar.specs.TableViews.{call_of}
 use Rattle.flatgrammar.specs.declared.spot_list.Ask.{Ask}
 use Rattle.flatgrammar.specs.Blocks.{item_at, begin_count, inner_of}
 use Rattle.flatgrammar.specs.Places.{In}
-use Rattle.earley.specs.Fronts.{Front}
-use Rattle.earley.specs.declared.wait.Wait.{Wait}
-use Rattle.earley.specs.ItemSets.{IsResumed}
-use Rattle.earley.specs.FrontViews.{view}
+use Rattle.earley.specs.EarleySets.{EarleySet}
+use Rattle.earley.specs.declared.waiters.Waiter.{Waiter}
+use Rattle.earley.specs.ItemSets.{IsAdvanced}
+use Rattle.earley.specs.SetViews.{view}
 
 -- the items of a list of links, which begins one before that index
-pub data Chain (waits : List Wait) : ℕ → List Item → Type 0 where
-  ended : Chain waits 0 []
-  linked : {k : ℕ} {w : Wait} {items : List Item} → slice_get waits k ≡ Some w → w.next ≤ k → Chain waits w.next items
-      → Chain waits (suc k) (w.item ∷ items)
+pub data Chain (waiters : List Waiter) : ℕ → List Item → Type 0 where
+  ended : Chain waiters 0 []
+  linked : {k : ℕ} {w : Waiter} {items : List Item} → slice_get waiters k ≡ Some w → w.next ≤ k
+      → Chain waiters w.next items
+      → Chain waiters (suc k) (w.item ∷ items)
 
 -- what a list has before a link stands in a set, and the rest is listed from that link on
-pub record IsSkippedTo (waits : List Wait) (at : ℕ) (items set : List Item) : Type 0 where
+pub record IsSkippedTo (waiters : List Waiter) (at : ℕ) (items set : List Item) : Type 0 where
   pub rest : List Item
-  pub chain : Chain waits at rest
+  pub chain : Chain waiters at rest
   pub seen : (a : Item) → In a items → In a set ⊎ In a rest
   pub left : (a : Item) → In a rest → In a items
 
 -- the list has those of Q
-pub record IsListed (waits : List Wait) (first : ℕ) (Q : Item → Type 0) : Type 0 where
+pub record IsListed (waiters : List Waiter) (first : ℕ) (Q : Item → Type 0) : Type 0 where
   pub items : List Item
-  pub chain : Chain waits first items
+  pub chain : Chain waiters first items
   pub all : (a : Item) → Q a → In a items
   pub only : (a : Item) → In a items → Q a
 
@@ -35,30 +36,31 @@ pub record IsListed (waits : List Wait) (first : ℕ) (Q : Item → Type 0) : Ty
 abbrev pub item_from : Item → ℕ → Item
 item_from item step = record { node = item.node; step = step; origin = item.origin }
 
--- the item of a spot that asks
-abbrev pub asked_at : ℕ → Ask → Item
-asked_at j ask = item_at j ask.spot
+-- the item of a call site
+abbrev pub call_site_at : ℕ → Ask → Item
+call_site_at j site = item_at j site.spot
 
--- for each head that no one place alone calls, what goes on behind those of the places that call it
-abbrev pub AreWaiting : code_flat.Tables → List Item → List ℕ → List ℕ → List Wait → Type 0
-AreWaiting flat places heads firsts waits = (h t : ℕ) → slice_get heads h ≡ Some t → inner_of flat t ≡ None
-    → IsListed waits (slice_index_or firsts h 0) (IsResumed flat t places)
+-- for each head that no one place alone calls, the items behind those that call it
+abbrev pub AreWaiting : code_flat.Tables → List Item → List ℕ → List ℕ → List Waiter → Type 0
+AreWaiting flat places heads firsts waiters = (h t : ℕ) → slice_get heads h ≡ Some t → inner_of flat t ≡ None
+    → IsListed waiters (slice_index_or firsts h 0) (IsAdvanced flat t places)
 
-abbrev pub AreWaitingAll : code_flat.Tables → List Front → Type 0
-AreWaitingAll flat fronts = (k : ℕ) (f : Front) → slice_get fronts k ≡ Some f
-    → AreWaiting flat (view flat k f) f.heads f.firsts f.waits
+abbrev pub AreWaitingAll : code_flat.Tables → List EarleySet → Type 0
+AreWaitingAll flat kept_sets = (k : ℕ) (f : EarleySet) → slice_get kept_sets k ≡ Some f
+    → AreWaiting flat (view flat k f) f.heads f.firsts f.waiters
 
 -- a set as it is kept, of those heads and items
-pub record IsKept (flat : code_flat.Tables) (j : ℕ) (heads : List ℕ) (items : List Item) (front : Front) : Type 0 where
-  pub same_heads : front.heads ≡ heads
-  pub same_items : front.items ≡ items
-  pub size : (k : ℕ) → front.size ≡ length (view flat k front)
-  pub waiting : AreWaiting flat (view flat j front) front.heads front.firsts front.waits
+pub record IsKept (flat : code_flat.Tables) (j : ℕ) (heads : List ℕ) (items : List Item) (kept_set : EarleySet) : Type
+    0 where
+  pub same_heads : kept_set.heads ≡ heads
+  pub same_items : kept_set.items ≡ items
+  pub size : (k : ℕ) → kept_set.size ≡ length (view flat k kept_set)
+  pub waiting : AreWaiting flat (view flat j kept_set) kept_set.heads kept_set.firsts kept_set.waiters
 
 -- what begins in a set and goes on elsewhere began there
 abbrev pub BeginHere : code_flat.Tables → ℕ → List Item → Type 0
 BeginHere flat j set = (a : Item) (t l : ℕ) → In a set → a.step < begin_count flat a.node → call_of flat a ≡ Some (t, l)
     → (l ≡ a.step → ⊥) → a.origin ≡ j
 
-abbrev pub BeginAll : code_flat.Tables → List Front → Type 0
-BeginAll flat fronts = (k : ℕ) (f : Front) → slice_get fronts k ≡ Some f → BeginHere flat k (view flat k f)
+abbrev pub BeginAll : code_flat.Tables → List EarleySet → Type 0
+BeginAll flat kept_sets = (k : ℕ) (f : EarleySet) → slice_get kept_sets k ≡ Some f → BeginHere flat k (view flat k f)

@@ -7,7 +7,7 @@ use Rattle.earley.specs.ItemSets.{IsPredicted, IsCompleted}
 use Rattle.flatgrammar.specs.Places.{In}
 
 -- the item after one that calls a nullable root, but for a turn that takes a letter
-pub record IsPassed (flat : code_flat.Tables) (item : Item) (a : Item) : Type 0 where
+pub record AdvancesNullable (flat : code_flat.Tables) (item : Item) (a : Item) : Type 0 where
   pub root : ℕ
   pub call : call_of flat item ≡ Some (root, a.step)
   pub null : null_of flat root ≡ true
@@ -15,11 +15,11 @@ pub record IsPassed (flat : code_flat.Tables) (item : Item) (a : Item) : Type 0 
   pub node : a.node ≡ item.node
   pub origin : a.origin ≡ item.origin
 
--- those that an item adds: where what it calls begins, what goes on at once, and what goes on from earlier sets
+-- those that an item adds: by prediction, over a nullable root, and by completion
 abbrev pub IsWork : code_flat.Tables → List (List Item) → Item → Item → Type 0
-IsWork flat sets item a = (IsPredicted flat (length sets) item a ⊎ IsPassed flat item a)
+IsWork flat sets item a = (IsPredicted flat (length sets) item a ⊎ AdvancesNullable flat item a)
     ⊎ IsCompleted flat sets [] item a
 
--- all that the items of a front ask for is there
+-- what is predicted, advanced and completed for the items of a front is there
 abbrev pub IsWorked : code_flat.Tables → List (List Item) → List Item → List Item → Type 0
 IsWorked flat sets front set = (a : Item) → In a front → (b : Item) → IsWork flat sets a b → In b set

@@ -12,20 +12,20 @@ ghost use Rattle.flatgrammar.specs.Blocks.{AreExact, block_of, item_at, AreTable
 ghost use Rattle.earley.specs.ItemSets.{Adds};
 ghost use Rattle.earley.specs.Waiting.{IsKept};
 ghost use Rattle.earley.specs.Chosen.{AreReaders};
-ghost use Rattle.earley.specs.FrontViews.{expand, full, view, views, IsWholeAt};
+ghost use Rattle.earley.specs.SetViews.{expand, full, view, views, IsWholeAt};
 ghost use Rattle.flatgrammar.specs.Places.{In, AreDifferent, places};
 ghost use Rattle.flatgrammar.specs.Flat.{Place};
 ghost use Rattle.flatgrammar.specs.Holds.{Holds};
 ghost use Rattle.letters.specs.Letters.{has};
-ghost use Rattle.earley.specs.Fronts.{Front as front, heads_of};
+ghost use Rattle.earley.specs.EarleySets.{EarleySet as kept_set, heads_of};
 
+use crate::earley_set::EarleySet;
 use crate::fill::fill;
-use crate::front::Front;
 use crate::heads::Heads;
 use crate::item::{holds, same};
 use crate::items::Items;
-use crate::later::{Homed, Later};
-use crate::read_front::read;
+use crate::postdot::{HintedItem, Postdot};
+use crate::scan::scan;
 use crate::sets::{Filled, Record, Sets};
 use flatgrammar::{Flat, Item, Spot, Tables, items_tell, spots, values_are_letters, whole_root};
 use letters::Letter;
@@ -49,7 +49,7 @@ pub struct Chart {
 struct Kept {
     heads: Heads,
     items: Items,
-    later: Later,
+    postdot: Postdot,
 }
 
 impl Kept {
@@ -58,7 +58,7 @@ impl Kept {
         Kept {
             heads: Heads::new(alloc),
             items: Items::new(alloc),
-            later: Later::new(alloc),
+            postdot: Postdot::new(alloc),
         }
     }
 }
@@ -93,7 +93,7 @@ impl Chart {
         ensures { result ≡ length (set_at self.now j) }
     {
         match self.sets.get(j) {
-            Some(front) => front.size(),
+            Some(kept_set) => kept_set.size(),
             None => 0,
         }
     }
@@ -111,7 +111,7 @@ impl Chart {
 
     // Keeps the sets of a line, with the tables that they were filled by, and what is kept for the next line.
     fn keep(&mut self, tables: Rc<Tables>, sets: Sets, kept: Kept)
-        requires { (j : ℕ) (f : front) → slice_get sets j ≡ Some f → f.size ≡ length (view tables.value j f) }
+        requires { (j : ℕ) (f : kept_set) → slice_get sets j ≡ Some f → f.size ≡ length (view tables.value j f) }
         ensures { self.new ≡ chart_of (Some tables) sets }
     {
         self.tables = Some(tables);
@@ -121,39 +121,39 @@ impl Chart {
 }
 
 // Predicts the whole, before the first letter.
-fn begin(flat: &Tables, number: usize, heads: &mut Heads) -> Result<(), Memory>
+fn predict_start(flat: &Tables, number: usize, heads: &mut Heads) -> Result<(), Memory>
     ensures { IfOk result (λ done. Adds (IsWholeAt flat.now number) heads.old heads.new) }
 {
     if number == 0 {
         if let Some(root) = whole_root(flat) {
-            heads.note(root)?;
+            heads.add(root)?;
         }
     }
     Ok(())
 }
 
-// Adds what the last set has after its letter, where there are no items. Of its items those that read are given.
-fn follow<L: Letter>(
+// Scans the letter behind the last set, where there are no items. Of its items those that read are given.
+fn scan_last<L: Letter>(
     flat: &Tables,
     line: &[L],
     sets: &Sets,
-    readers: &[Homed],
+    readers: &[HintedItem],
     items: &mut Items,
 ) -> Result<(), Memory>
     requires length { length sets.now ≤ length line.now }
     requires lists { AreSpotLists flat.now }
     requires readers { AreReaders flat.now sets.now readers.now }
-    requires different { (k : ℕ) (f : front) → slice_get sets.now k ≡ Some f → AreDifferent (view flat.now k f) }
+    requires different { (k : ℕ) (f : kept_set) → slice_get sets.now k ≡ Some f → AreDifferent (view flat.now k f) }
     requires empty { items.old ≡ [] }
     ensures { IfOk result (λ done. Adds (IsAfter flat.now (map L.number line.now) (views flat.now 0 sets.now)) items.old
         items.new) }
 {
     if sets.len() > 0 {
         let last = sets.len() - 1;
-        let Some(front) = sets.get(last) else {
+        let Some(kept_set) = sets.get(last) else {
             unreachable!()
         };
-        read(flat, line[last], &front, readers, last, items)?;
+        scan(flat, line[last], &kept_set, readers, last, items)?;
     }
     Ok(())
 }
@@ -164,7 +164,7 @@ fn fill_sets<L: Letter>(
     line: &[L],
     heads: &mut Heads,
     items: &mut Items,
-    later: &mut Later,
+    postdot: &mut Postdot,
     sets: &mut Sets,
 ) -> Result<(), Memory>
     requires roots { GiveRoots (flat_of flat.now) flat.now.roots.items }
@@ -176,18 +176,18 @@ fn fill_sets<L: Letter>(
     requires no_items { items.old ≡ [] }
     requires no_sets { sets.old ≡ [] }
     ensures size { OnOk result (length sets.new ≡ length line.now + 1) }
-    ensures sized { OnOk result ((j : ℕ) (f : front) → slice_get sets.new j ≡ Some f
+    ensures sized { OnOk result ((j : ℕ) (f : kept_set) → slice_get sets.new j ≡ Some f
         → f.size ≡ length (view flat.now j f)) }
     ensures exact { OnOk result (IsExact flat.now (map L.number line.now) (views flat.now 0 sets.new)) }
 {
     while sets.len() <= line.len() {
-        begin(flat, sets.len(), heads)?;
-        follow(flat, line, sets, &later.readers, items)?;
-        let blocks = fill(flat, line, sets, heads, items, later)?;
+        predict_start(flat, sets.len(), heads)?;
+        scan_last(flat, line, sets, &postdot.readers, items)?;
+        let blocks = fill(flat, line, sets, heads, items, postdot)?;
         let filled = Filled {
             heads,
             items: items.list(),
-            callers: &later.callers,
+            callers: &postdot.callers,
             blocks,
         };
         sets.push(flat, filled)?;
@@ -225,13 +225,13 @@ fn in_heads(flat: &Tables, records: &[Record], number: usize, item: Item) -> boo
 }
 
 // Whether an item stands in a set.
-fn stands(flat: &Tables, front: &Front<'_>, number: usize, item: Item) -> bool
-    ensures { IsTrue result ↔ In item (view flat.now number front.now) }
+fn contains(flat: &Tables, kept_set: &EarleySet<'_>, number: usize, item: Item) -> bool
+    ensures { IsTrue result ↔ In item (view flat.now number kept_set.now) }
 {
-    if in_heads(flat, front.records(), number, item) {
+    if in_heads(flat, kept_set.records(), number, item) {
         return true;
     }
-    holds(front.items(), item)
+    holds(kept_set.items(), item)
 }
 
 // Tells whether the last set holds the whole's end with origin 0.
@@ -246,10 +246,10 @@ fn is_yes<L: Letter>(flat: &Tables, sets: &Sets, line: &[L]) -> bool
         step: 1,
         origin: 0,
     };
-    let Some(front) = sets.get(line.len()) else {
+    let Some(kept_set) = sets.get(line.len()) else {
         unreachable!()
     };
-    stands(flat, &front, line.len(), whole)
+    contains(flat, &kept_set, line.len(), whole)
 }
 
 // Fills an empty chart by these tables, and answers.
@@ -279,7 +279,7 @@ fn judge_by<L: Letter>(
         line,
         &mut kept.heads,
         &mut kept.items,
-        &mut kept.later,
+        &mut kept.postdot,
         &mut sets,
     )?;
     let answer = is_yes(&tables, &sets, line);

@@ -8,7 +8,7 @@ use ruletable::Memory;
 use std::alloc::Global;
 use std::marker::Model;
 
-/// The heads of a set, in the order in which they were noted, seen as a list.
+/// The heads of a set, in the order in which they were predicted, seen as a list.
 ///
 /// Each has its index in a table by head. The table may say anything of what is no head, so that emptying takes no
 /// time.
@@ -123,7 +123,7 @@ impl Heads {
 
     /// Adds a head unless it is there. `Memory` if an allocation fails.
     #[inline(always)]
-    pub(crate) fn note(&mut self, head: usize) -> Result<(), Memory>
+    pub(crate) fn add(&mut self, head: usize) -> Result<(), Memory>
         ensures { IfOk result (λ done. Adds (λ a. a ≡ head) self.old self.new) }
     {
         match self.find(head) {

@@ -5,64 +5,64 @@ ghost use Rattle.flatgrammar.specs.Places.{In};
 ghost use Rattle.flatgrammar.specs.declared.flat_item.Item as code_item;
 ghost use Rattle.earley.specs.ItemSets.{Adds};
 ghost use Rattle.earley.specs.Waiting.{Chain, IsSkippedTo};
-ghost use Rattle.earley.specs.ItemRows.{row_of as the_row_of, IsLast, AreLinked, AreWithin, AreRows};
+ghost use Rattle.earley.specs.ItemBuckets.{bucket_of as the_bucket_of, IsLast, AreLinked, AreWithin, AreBuckets};
 
 use crate::item::{holds, same};
-use crate::wait::Wait;
+use crate::waiters::Waiter;
 use flatgrammar::Item;
 use ruletable::Memory;
 use std::alloc::Global;
 use std::marker::Model;
 
 // So many items are looked through one by one.
-const FEW: usize = 5;
+const LINEAR: usize = 5;
 
-// The rows of a first growth.
-const FIRST: usize = 64;
+// The buckets of a first growth.
+const BUCKETS: usize = 64;
 
 /// The items of a set beside its blocks, in the order in which they were added, seen as a list.
 ///
-/// Before an item is sought among more than a few, all are linked: those of one row with one another, the last one
-/// first. They stay linked while there is room for them in the rows. A row tells of an item by its number from a base
-/// on, which grows past all numbers told whenever the items are linked anew or go. So emptying takes no time, and an
-/// item is pushed without a link.
+/// Before an item is sought among more than a few, all are linked: those of one bucket with one another, the last one
+/// first. They stay linked while there is room for them in the buckets. A bucket tells of an item by its number from a
+/// base on, which grows past all numbers told whenever the items are linked anew or go. So emptying takes no time, and
+/// an item is pushed without a link.
 #[derive(Drop)]
 pub(crate) struct Items {
     list: Vec<Item>,
-    // of each item one more than the index of the last one before it in its row, or 0
+    // of each item one more than the index of the last one before it in its bucket, or 0
     links: Vec<usize>,
-    // of each row one more than the index of its last item, and the base
-    rows: Vec<usize>,
-    // of each item the index of the record of the head that it belongs to. It is not relied on
-    homes: Vec<usize>,
+    // of each bucket one more than the index of its last item, and the base
+    buckets: Vec<usize>,
+    // of each item a hint: the index of the record of its head in the set of its origin. It is not relied on
+    hints: Vec<usize>,
     base: usize,
-    // the links and rows are those of the items while there are fewer of these
+    // the links and buckets are those of the items while there are fewer of these
     room: usize,
 }
 
 impl Model for Items {
     ghost use Rattle.std.specs.Prelude.{List, length, ◌≤◌};
     ghost use Rattle.flatgrammar.specs.declared.flat_item.Item.{Item};
-    ghost use Rattle.earley.specs.ItemRows.{AreRows};
+    ghost use Rattle.earley.specs.ItemBuckets.{AreBuckets};
 
     ghost Value = { List Item };
 
     ghost view = { λ s. s.list.items };
 
-    ghost invariant = { λ s. AreRows s.list.items s.links.items s.rows.items s.base s.room
-        × (length s.list.items ≤ length s.homes.items) };
+    ghost invariant = { λ s. AreBuckets s.list.items s.links.items s.buckets.items s.base s.room
+        × (length s.list.items ≤ length s.hints.items) };
 }
 
 // An odd number whose products have mixed bits. It is near 2^64 by the golden ratio, and no small multiple of its last
 // bits is near 0.
 const MIX: usize = 11_400_714_819_323_198_059;
 
-// The row of an item among that many, a power of two. The origins of one place take every fourth row.
-#[tactic(auto, unfolding(crate::specs::ItemRows::row_of))]
+// The bucket of an item among that many, a power of two. The origins of one place take every fourth bucket.
+#[tactic(auto, unfolding(crate::specs::ItemBuckets::bucket_of))]
 #[inline(always)]
-fn row_of(count: usize, item: Item) -> usize
+fn bucket_of(count: usize, item: Item) -> usize
     requires { 0 < count }
-    ensures value { result ≡ the_row_of count item }
+    ensures value { result ≡ the_bucket_of count item }
     ensures within { result < count }
 {
     let place = item.node.wrapping_add(item.step);
@@ -72,11 +72,12 @@ fn row_of(count: usize, item: Item) -> usize
         & (count - 1)
 }
 
-// Tells whether an item stands in a list, whose last one in the same row is given.
+// Tells whether an item stands in a list, whose last one in the same bucket is given.
 #[inline(always)]
 fn stands(list: &[Item], links: &[usize], count: usize, last: usize, item: Item) -> bool
-    requires linked { (rows : List ℕ) × ((base : ℕ) × (AreLinked (the_row_of count) list.now links.now rows base)) }
-    requires last { IsLast (the_row_of count) list.now (length list.now) (the_row_of count item) last }
+    requires linked { (buckets : List ℕ) × ((base : ℕ) × (AreLinked (the_bucket_of count) list.now links.now buckets
+        base)) }
+    requires last { IsLast (the_bucket_of count) list.now (length list.now) (the_bucket_of count item) last }
     ensures { IsTrue result ↔ In item list.now }
 {
     let mut at = last;
@@ -106,30 +107,30 @@ fn set_link(links: &mut Vec<usize>, index: usize, link: usize) -> Result<(), Mem
     Ok(())
 }
 
-// Adds an item to its row, whose last one is given.
+// Adds an item to its bucket, whose last one is given.
 #[inline(always)]
 fn push(
     list: &mut Vec<Item>,
     links: &mut Vec<usize>,
-    rows: &mut [usize],
+    buckets: &mut [usize],
     base: usize,
     last: usize,
     item: Item,
 ) -> Result<(), Memory>
     requires fits { base + length list.old.items + 1 < 2 ^ 64 }
-    requires linked { AreLinked (the_row_of (length rows.old)) list.old.items links.old.items rows.old base }
-    requires last { IsLast (the_row_of (length rows.old)) list.old.items (length list.old.items)
-        (the_row_of (length rows.old) item) last }
-    ensures linked { AreLinked (the_row_of (length rows.new)) list.new.items links.new.items rows.new base }
+    requires linked { AreLinked (the_bucket_of (length buckets.old)) list.old.items links.old.items buckets.old base }
+    requires last { IsLast (the_bucket_of (length buckets.old)) list.old.items (length list.old.items)
+        (the_bucket_of (length buckets.old) item) last }
+    ensures linked { AreLinked (the_bucket_of (length buckets.new)) list.new.items links.new.items buckets.new base }
     ensures pushed { IfOk result (λ done. list.new.items ≡ list.old.items ++ item ∷ []) }
     ensures short { length list.new.items ≤ length list.old.items + 1 }
 {
-    let row = row_of(rows.len(), item);
+    let bucket = bucket_of(buckets.len(), item);
     let index = list.len();
     let told = base + index + 1;
     set_link(links, index, last)?;
     list.push(item)?;
-    rows[row] = told;
+    buckets[bucket] = told;
     Ok(())
 }
 
@@ -138,91 +139,96 @@ fn push(
 fn insert(
     list: &mut Vec<Item>,
     links: &mut Vec<usize>,
-    rows: &mut [usize],
+    buckets: &mut [usize],
     base: usize,
     item: Item,
 ) -> Result<(), Memory>
     requires fits { base + length list.old.items + 1 < 2 ^ 64 }
-    requires linked { AreLinked (the_row_of (length rows.old)) list.old.items links.old.items rows.old base }
-    ensures linked { AreLinked (the_row_of (length rows.new)) list.new.items links.new.items rows.new base }
+    requires linked { AreLinked (the_bucket_of (length buckets.old)) list.old.items links.old.items buckets.old base }
+    ensures linked { AreLinked (the_bucket_of (length buckets.new)) list.new.items links.new.items buckets.new base }
     ensures added { IfOk result (λ done. Adds (λ a. a ≡ item) list.old.items list.new.items) }
     ensures short { length list.new.items ≤ length list.old.items + 1 }
 {
-    let last = rows[row_of(rows.len(), item)].saturating_sub(base);
-    if !stands(list, links, rows.len(), last, item) {
-        push(list, links, rows, base, last, item)?;
+    let last = buckets[bucket_of(buckets.len(), item)].saturating_sub(base);
+    if !stands(list, links, buckets.len(), last, item) {
+        push(list, links, buckets, base, last, item)?;
     }
     Ok(())
 }
 
-// Links all items, of which the rows tell nothing.
-fn relink(list: &[Item], links: &mut [usize], rows: &mut [usize], base: usize) -> Result<(), Memory>
-    requires some { 0 < length rows.old }
+// Links all items, of which the buckets tell nothing.
+fn relink(
+    list: &[Item],
+    links: &mut [usize],
+    buckets: &mut [usize],
+    base: usize,
+) -> Result<(), Memory>
+    requires some { 0 < length buckets.old }
     requires long { length list.now ≤ length links.old }
-    requires none { AreWithin [] rows.old base }
-    ensures linked { OnOk result (AreLinked (the_row_of (length rows.new)) list.now links.new rows.new base) }
-    ensures within { AreWithin list.now rows.new base }
-    ensures count { length rows.new ≡ length rows.old }
+    requires none { AreWithin [] buckets.old base }
+    ensures linked { OnOk result (AreLinked (the_bucket_of (length buckets.new)) list.now links.new buckets.new base) }
+    ensures within { AreWithin list.now buckets.new base }
+    ensures count { length buckets.new ≡ length buckets.old }
 {
     for i in 0..list.len() {
-        let row = row_of(rows.len(), list[i]);
+        let bucket = bucket_of(buckets.len(), list[i]);
         let Some(told) = base.checked_add(i + 1) else {
             return Err(Memory);
         };
-        links[i] = rows[row].saturating_sub(base);
-        rows[row] = told;
+        links[i] = buckets[bucket].saturating_sub(base);
+        buckets[bucket] = told;
     }
     Ok(())
 }
 
-// Makes rows and links for all items. There are more rows if they were few. `Memory` if an allocation fails.
-fn make_room(list: &[Item], links: &mut Vec<usize>, rows: &mut Vec<usize>) -> Result<(), Memory>
+// Makes buckets and links for all items. There are more buckets if they were few. `Memory` if an allocation fails.
+fn make_room(list: &[Item], links: &mut Vec<usize>, buckets: &mut Vec<usize>) -> Result<(), Memory>
     ensures long { OnOk result (length list.now ≤ length links.new.items) }
-    ensures some { OnOk result (0 < length rows.new.items) }
-    ensures kept { (b h : ℕ) → slice_get rows.new.items b ≡ Some h → 0 < h → slice_get rows.old.items b ≡ Some h }
+    ensures some { OnOk result (0 < length buckets.new.items) }
+    ensures kept { (b h : ℕ) → slice_get buckets.new.items b ≡ Some h → 0 < h → slice_get buckets.old.items b ≡ Some h }
 {
     if links.len() < list.len() {
         links.resize(list.len(), 0)?;
     }
-    if rows.is_empty() {
-        rows.resize(FIRST, 0)?;
-    } else if list.len() >= rows.len() / 2 {
-        let count = rows.len().saturating_mul(2);
-        rows.resize(count, 0)?;
+    if buckets.is_empty() {
+        buckets.resize(BUCKETS, 0)?;
+    } else if list.len() >= buckets.len() / 2 {
+        let count = buckets.len().saturating_mul(2);
+        buckets.resize(count, 0)?;
     }
     Ok(())
 }
 
-// Links all items anew, of which the rows tell nothing. There are more rows if they were few. `Memory` if an allocation
-// fails.
+// Links all items anew, of which the buckets tell nothing. There are more buckets if they were few. `Memory` if an
+// allocation fails.
 #[inline(never)]
 fn prepare(
     list: &[Item],
     links: &mut Vec<usize>,
-    rows: &mut Vec<usize>,
+    buckets: &mut Vec<usize>,
     base: usize,
 ) -> Result<(), Memory>
-    requires none { AreWithin [] rows.old.items base }
+    requires none { AreWithin [] buckets.old.items base }
     ensures linked { OnOk result
-        (AreLinked (the_row_of (length rows.new.items)) list.now links.new.items rows.new.items base) }
-    ensures within { AreWithin list.now rows.new.items base }
+        (AreLinked (the_bucket_of (length buckets.new.items)) list.now links.new.items buckets.new.items base) }
+    ensures within { AreWithin list.now buckets.new.items base }
 {
-    make_room(list, links, rows)?;
-    relink(list, links, rows, base)
+    make_room(list, links, buckets)?;
+    relink(list, links, buckets, base)
 }
 
 // Links all items anew. `Memory` if an allocation fails, or if the base comes to 2^64.
 fn link(
     list: &[Item],
     links: &mut Vec<usize>,
-    rows: &mut Vec<usize>,
+    buckets: &mut Vec<usize>,
     base: &mut usize,
     room: &mut usize,
 ) -> Result<(), Memory>
-    requires { AreRows list.now links.old.items rows.old.items base.old room.old }
-    ensures rows { AreRows list.now links.new.items rows.new.items base.new room.new }
+    requires { AreBuckets list.now links.old.items buckets.old.items base.old room.old }
+    ensures buckets { AreBuckets list.now links.new.items buckets.new.items base.new room.new }
     ensures linked { OnOk result
-        (AreLinked (the_row_of (length rows.new.items)) list.now links.new.items rows.new.items base.new) }
+        (AreLinked (the_bucket_of (length buckets.new.items)) list.now links.new.items buckets.new.items base.new) }
     ensures fits { OnOk result (base.new + length list.now + 1 < 2 ^ 64) }
 {
     let Some(next) = base.checked_add(list.len()) else {
@@ -230,21 +236,21 @@ fn link(
     };
     *base = next;
     *room = 0;
-    prepare(list, links, rows, next)?;
-    let most = rows.len().max(list.len() + 1);
+    prepare(list, links, buckets, next)?;
+    let most = buckets.len().max(list.len() + 1);
     if next.checked_add(most).is_none() {
         return Err(Memory);
     }
-    *room = rows.len() / 2;
+    *room = buckets.len() / 2;
     Ok(())
 }
 
 // Adds an item to a few unless it is there.
 #[inline(always)]
-fn add_few(list: &mut Vec<Item>, item: Item) -> Result<(), Memory>
+fn add_linear(list: &mut Vec<Item>, item: Item) -> Result<(), Memory>
     ensures added { IfOk result (λ done. Adds (λ a. a ≡ item) list.old.items list.new.items) }
-    ensures more { (rows : List ℕ) (base : ℕ) → AreWithin list.old.items rows base
-        → AreWithin list.new.items rows base }
+    ensures more { (buckets : List ℕ) (base : ℕ) → AreWithin list.old.items buckets base
+        → AreWithin list.new.items buckets base }
     ensures short { length list.new.items ≤ length list.old.items + 1 }
 {
     if !holds(list, item) {
@@ -258,19 +264,19 @@ fn add_few(list: &mut Vec<Item>, item: Item) -> Result<(), Memory>
 fn add_linked(
     list: &mut Vec<Item>,
     links: &mut Vec<usize>,
-    rows: &mut [usize],
+    buckets: &mut [usize],
     base: usize,
     room: usize,
     item: Item,
 ) -> Result<(), Memory>
     requires fits { base + length list.old.items + 1 < 2 ^ 64 }
     requires room { base + room < 2 ^ 64 }
-    requires linked { AreLinked (the_row_of (length rows.old)) list.old.items links.old.items rows.old base }
-    ensures rows { AreRows list.new.items links.new.items rows.new base room }
+    requires linked { AreLinked (the_bucket_of (length buckets.old)) list.old.items links.old.items buckets.old base }
+    ensures buckets { AreBuckets list.new.items links.new.items buckets.new base room }
     ensures added { IfOk result (λ done. Adds (λ a. a ≡ item) list.old.items list.new.items) }
     ensures short { length list.new.items ≤ length list.old.items + 1 }
 {
-    insert(list, links, rows, base, item)
+    insert(list, links, buckets, base, item)
 }
 
 // Adds an item unless it is there.
@@ -278,50 +284,50 @@ fn add_linked(
 fn put(
     list: &mut Vec<Item>,
     links: &mut Vec<usize>,
-    rows: &mut Vec<usize>,
+    buckets: &mut Vec<usize>,
     base: &mut usize,
     room: &mut usize,
     item: Item,
 ) -> Result<(), Memory>
-    requires { AreRows list.old.items links.old.items rows.old.items base.old room.old }
-    ensures rows { AreRows list.new.items links.new.items rows.new.items base.new room.new }
+    requires { AreBuckets list.old.items links.old.items buckets.old.items base.old room.old }
+    ensures buckets { AreBuckets list.new.items links.new.items buckets.new.items base.new room.new }
     ensures added { IfOk result (λ done. Adds (λ a. a ≡ item) list.old.items list.new.items) }
     ensures short { length list.new.items ≤ length list.old.items + 1 }
 {
     if list.len() >= *room {
-        if *room == 0 && list.len() < FEW {
-            return add_few(list, item);
+        if *room == 0 && list.len() < LINEAR {
+            return add_linear(list, item);
         }
-        link(list, links, rows, base, room)?;
+        link(list, links, buckets, base, room)?;
     }
-    add_linked(list, links, rows, *base, *room, item)
+    add_linked(list, links, buckets, *base, *room, item)
 }
 
-// Sets the home of an index, which is at most one past the last.
+// Sets the hint of an index, which is at most one past the last.
 #[inline(always)]
-fn set_home(homes: &mut Vec<usize>, index: usize, home: usize) -> Result<(), Memory>
-    requires { index ≤ length homes.old.items }
-    ensures room { IfOk result (λ done. index < length homes.new.items) }
-    ensures long { length homes.old.items ≤ length homes.new.items }
+fn set_hint(hints: &mut Vec<usize>, index: usize, hint: usize) -> Result<(), Memory>
+    requires { index ≤ length hints.old.items }
+    ensures room { IfOk result (λ done. index < length hints.new.items) }
+    ensures long { length hints.old.items ≤ length hints.new.items }
 {
-    if index < homes.len() {
-        homes[index] = home;
+    if index < hints.len() {
+        hints[index] = hint;
     } else {
-        homes.push(home)?;
+        hints.push(hint)?;
     }
     Ok(())
 }
 
 // Tells of some items of a list that they stand there. It takes one look.
 #[inline(always)]
-fn is_near(list: &[Item], rows: &[usize], base: usize, item: Item) -> bool
-    requires { AreWithin list.now rows.now base }
+fn is_last(list: &[Item], buckets: &[usize], base: usize, item: Item) -> bool
+    requires { AreWithin list.now buckets.now base }
     ensures { IsTrue result → In item list.now }
 {
-    if rows.is_empty() {
+    if buckets.is_empty() {
         return false;
     }
-    let last = rows[row_of(rows.len(), item)].saturating_sub(base);
+    let last = buckets[bucket_of(buckets.len(), item)].saturating_sub(base);
     if last == 0 {
         return false;
     }
@@ -331,17 +337,23 @@ fn is_near(list: &[Item], rows: &[usize], base: usize, item: Item) -> bool
 // Goes along a list from a link on, and returns the link of the first item that is not seen at once to stand among the
 // items, or 0.
 #[inline(never)]
-fn skip_near(waits: &[Wait], first: usize, list: &[Item], rows: &[usize], base: usize) -> usize
-    requires chain { (items : List code_item.Item) × (Chain waits.now first items) }
-    requires within { AreWithin list.now rows.now base }
+fn skip_last(
+    waiters: &[Waiter],
+    first: usize,
+    list: &[Item],
+    buckets: &[usize],
+    base: usize,
+) -> usize
+    requires chain { (items : List code_item.Item) × (Chain waiters.now first items) }
+    requires within { AreWithin list.now buckets.now base }
     ensures order { result ≤ first }
-    ensures skipped { (items : List code_item.Item) → Chain waits.now first items
-        → IsSkippedTo waits.now result items list.now }
+    ensures skipped { (items : List code_item.Item) → Chain waiters.now first items
+        → IsSkippedTo waiters.now result items list.now }
 {
     let mut at = first;
     while at > 0 {
-        let wait = waits[at - 1];
-        if !is_near(list, rows, base, wait.item) {
+        let wait = waiters[at - 1];
+        if !is_last(list, buckets, base, wait.item) {
             return at;
         }
         at = wait.next;
@@ -357,8 +369,8 @@ impl Items {
         Items {
             list: Vec::new(alloc),
             links: Vec::new(alloc),
-            rows: Vec::new(alloc),
-            homes: Vec::new(alloc),
+            buckets: Vec::new(alloc),
+            hints: Vec::new(alloc),
             base: 0,
             room: 0,
         }
@@ -386,38 +398,38 @@ impl Items {
         self.list[index]
     }
 
-    /// Returns the home of the item at that index.
-    pub(crate) fn home(&self, index: usize) -> usize
+    /// Returns the hint of the item at that index.
+    pub(crate) fn hint(&self, index: usize) -> usize
         requires { index < length self.now }
     {
-        self.homes[index]
+        self.hints[index]
     }
 
     /// Goes along a list from a link on, and returns the link of the first item that is not seen at once to stand
     /// there, or 0.
     #[inline(always)]
-    pub(crate) fn skip_from(&self, waits: &[Wait], first: usize) -> usize
-        requires { (items : List code_item.Item) × (Chain waits.now first items) }
+    pub(crate) fn skip_from(&self, waiters: &[Waiter], first: usize) -> usize
+        requires { (items : List code_item.Item) × (Chain waiters.now first items) }
         ensures order { result ≤ first }
-        ensures skipped { (items : List code_item.Item) → Chain waits.now first items
-            → IsSkippedTo waits.now result items self.now }
+        ensures skipped { (items : List code_item.Item) → Chain waiters.now first items
+            → IsSkippedTo waiters.now result items self.now }
     {
         if first == 0 {
             return 0;
         }
-        skip_near(waits, first, &self.list, &self.rows, self.base)
+        skip_last(waiters, first, &self.list, &self.buckets, self.base)
     }
 
     /// Adds an item unless it is there. `Memory` if an allocation fails.
     #[inline(always)]
-    pub(crate) fn add(&mut self, item: Item, home: usize) -> Result<(), Memory>
+    pub(crate) fn add(&mut self, item: Item, hint: usize) -> Result<(), Memory>
         ensures { IfOk result (λ done. Adds (λ a. a ≡ item) self.old self.new) }
     {
-        set_home(&mut self.homes, self.list.len(), home)?;
+        set_hint(&mut self.hints, self.list.len(), hint)?;
         put(
             &mut self.list,
             &mut self.links,
-            &mut self.rows,
+            &mut self.buckets,
             &mut self.base,
             &mut self.room,
             item,
@@ -426,10 +438,10 @@ impl Items {
 
     /// Adds an item behind the others, and looks for none. `Memory` if an allocation fails.
     #[inline(always)]
-    pub(crate) fn push(&mut self, item: Item, home: usize) -> Result<(), Memory>
+    pub(crate) fn push(&mut self, item: Item, hint: usize) -> Result<(), Memory>
         ensures { IfOk result (λ done. self.new ≡ self.old ++ item ∷ []) }
     {
-        set_home(&mut self.homes, self.list.len(), home)?;
+        set_hint(&mut self.hints, self.list.len(), hint)?;
         self.room = 0;
         self.list.push(item)?;
         Ok(())
@@ -443,7 +455,7 @@ impl Items {
         match self.base.checked_add(self.list.len()) {
             Some(next) => self.base = next,
             None => {
-                self.rows.clear();
+                self.buckets.clear();
                 self.base = 0;
             }
         }

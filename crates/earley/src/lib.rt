@@ -2,16 +2,16 @@
 #![tactic(auto)]
 
 mod chart;
+mod earley_set;
 mod fill;
-mod front;
 mod heads;
 mod item;
 mod items;
-mod later;
-mod read_front;
+mod postdot;
+mod scan;
 mod sets;
 mod verdict;
-mod wait;
+mod waiters;
 
 pub use chart::{Chart, judge};
 pub use verdict::viable;

@@ -2,15 +2,15 @@
 ghost use Rattle.std.specs.Prelude.{◌≡◌, ◌++◌, ◌∷◌, ℕ, List, [], length, slice_get, Some, IfOk, IfSome, OnOk};
 ghost use Rattle.flatgrammar.specs.Blocks.{block_of, AreSpotLists};
 ghost use Rattle.earley.specs.Chosen.{AreCallers};
-ghost use Rattle.earley.specs.FrontViews.{expand};
-ghost use Rattle.earley.specs.Fronts.{Front as front, front_in, fronts_in, AreBounds, AreStored, GoesOn, GoOn};
-ghost use Rattle.earley.specs.Fronts.{IsAppended, the_record, IsFirstOf, IsOwnPart};
+ghost use Rattle.earley.specs.SetViews.{expand};
+ghost use Rattle.earley.specs.EarleySets.{EarleySet as kept_set, set_in, sets_in, AreBounds, AreStored, GoesOn, GoOn};
+ghost use Rattle.earley.specs.EarleySets.{IsAppended, the_record, IsFirstOf, IsOwnPart};
 ghost use Rattle.earley.specs.Waiting.{IsKept};
 
-use crate::front::Front;
+use crate::earley_set::EarleySet;
 use crate::heads::Heads;
-use crate::later::Caller;
-use crate::wait::{Wait, list_waits};
+use crate::postdot::Caller;
+use crate::waiters::{Waiter, list_waiters};
 use flatgrammar::{Item, Tables};
 use ruletable::Memory;
 use std::alloc::Global;
@@ -23,7 +23,8 @@ pub(crate) struct Part {
     pub(crate) to: usize,
 }
 
-/// A head of a set: its root, the number of the set, and one more than the index of the first that waits for it, or 0.
+/// A head of a set: its root, the number of the set, and one more than the index of its waiting list's first entry, or
+/// 0.
 #[derive(Clone, Copy)]
 pub(crate) struct Record {
     pub(crate) head: usize,
@@ -31,13 +32,13 @@ pub(crate) struct Record {
     pub(crate) first: usize,
 }
 
-/// Where the lists of a set stand, and the number of its items. What waits for its heads stands among the first `waits`
-/// of all that wait.
+/// Where the lists of a set stand, and the number of its items. The waiting lists of its heads stand among the
+/// first `waiters` entries.
 #[derive(Clone, Copy)]
 pub(crate) struct Bounds {
     pub(crate) records: Part,
     pub(crate) items: Part,
-    pub(crate) waits: usize,
+    pub(crate) waiters: usize,
     pub(crate) size: usize,
 }
 
@@ -56,7 +57,7 @@ pub(crate) struct Filled<'a> {
 pub(crate) struct Stores {
     pub(crate) records: Vec<Record>,
     pub(crate) items: Vec<Item>,
-    pub(crate) waits: Vec<Wait>,
+    pub(crate) waiters: Vec<Waiter>,
 }
 
 /// Holds the sets of a line, seen as a list of them.
@@ -68,11 +69,11 @@ pub(crate) struct Sets {
 
 impl Model for Sets {
     ghost use Rattle.std.specs.Prelude.{List};
-    ghost use Rattle.earley.specs.Fronts.{Front, fronts_in, AreStored};
+    ghost use Rattle.earley.specs.EarleySets.{EarleySet, sets_in, AreStored};
 
-    ghost Value = { List Front };
+    ghost Value = { List EarleySet };
 
-    ghost view = { λ s. fronts_in s.stores s.bounds.items };
+    ghost view = { λ s. sets_in s.stores s.bounds.items };
 
     ghost invariant = { λ s. AreStored s.stores s.bounds.items };
 }
@@ -107,24 +108,24 @@ fn store(
     ensures owned { IfOk result (λ bounds. IsOwnPart number stores.old.records.items stores.new.records.items
         bounds.records) }
     ensures kept { IfOk result (λ bounds. IsKept flat.now number filled.entry.heads.now filled.entry.items.now
-        (front_in stores.new bounds)) }
+        (set_in stores.new bounds)) }
 {
     let Some(size) = filled.blocks.checked_add(filled.items.len()) else {
         return Err(Memory);
     };
     let items = append(&mut stores.items, filled.items)?;
-    let records = list_waits(
+    let records = list_waiters(
         flat,
         filled.heads,
         filled.callers,
         number,
         &mut stores.records,
-        &mut stores.waits,
+        &mut stores.waiters,
     )?;
     Ok(Bounds {
         records,
         items,
-        waits: stores.waits.len(),
+        waiters: stores.waiters.len(),
         size,
     })
 }
@@ -142,8 +143,8 @@ fn add_set(
     requires callers { AreCallers flat.now filled.items.now filled.callers.now }
     requires blocks { (j : ℕ) → filled.blocks ≡ length (expand (block_of flat.now) j filled.heads.now) }
     ensures stored { OnOk result (AreStored stores.new bounds.new.items) }
-    ensures added { IfOk result (λ _. (f : front)
-        × ((fronts_in stores.new bounds.new.items ≡ fronts_in stores.old bounds.old.items ++ f ∷ [])
+    ensures added { IfOk result (λ _. (f : kept_set)
+        × ((sets_in stores.new bounds.new.items ≡ sets_in stores.old bounds.old.items ++ f ∷ [])
         × IsKept flat.now (length bounds.old.items) filled.entry.heads.now filled.entry.items.now f)) }
 {
     let more = store(flat, filled, bounds.len(), stores)?;
@@ -159,15 +160,16 @@ fn empty(bounds: &mut Vec<Bounds>, stores: &mut Stores)
     bounds.clear();
     stores.records.clear();
     stores.items.clear();
-    stores.waits.clear();
+    stores.waiters.clear();
 }
 
-// Returns one more than the index of the first that waits for a head of a set, or 0, if its record has that index.
+// Returns one more than the index of the first entry of a head's waiting list, or 0, if the head's record has that
+// index.
 #[inline(always)]
-fn first_in(records: &[Record], home: usize, head: usize, set: usize) -> Option<usize>
-    ensures { IfSome result (λ first. slice_get records.now home ≡ Some (the_record head set first)) }
+fn first_in(records: &[Record], hint: usize, head: usize, set: usize) -> Option<usize>
+    ensures { IfSome result (λ first. slice_get records.now hint ≡ Some (the_record head set first)) }
 {
-    match records.get(home) {
+    match records.get(hint) {
         Some(record) if record.head == head && record.set == set => Some(record.first),
         _ => None,
     }
@@ -183,7 +185,7 @@ impl Sets {
             stores: Stores {
                 records: Vec::new(alloc),
                 items: Vec::new(alloc),
-                waits: Vec::new(alloc),
+                waiters: Vec::new(alloc),
             },
         }
     }
@@ -198,11 +200,11 @@ impl Sets {
 
     /// Returns set `j`, if there is one.
     #[inline(always)]
-    pub(crate) fn get(&self, j: usize) -> Option<Front<'_>>
+    pub(crate) fn get(&self, j: usize) -> Option<EarleySet<'_>>
         ensures { result ≡ slice_get self.now j }
     {
         match self.bounds.get(j) {
-            Some(bounds) => Some(Front {
+            Some(bounds) => Some(EarleySet {
                 stores: &self.stores,
                 bounds,
             }),
@@ -210,38 +212,38 @@ impl Sets {
         }
     }
 
-    /// Returns one more than the index of the first that waits for a head of a set, or 0, if the head's record has that
+    /// Returns one more than the index of the first entry of a head's waiting list, or 0, if the head's record has that
     /// index.
     #[inline(always)]
-    pub(crate) fn first(&self, home: usize, head: usize, set: usize) -> Option<usize>
-        ensures { IfSome result (λ first. (f : front) × (slice_get self.now set ≡ Some f) × IsFirstOf f head first) }
+    pub(crate) fn first(&self, hint: usize, head: usize, set: usize) -> Option<usize>
+        ensures { IfSome result (λ first. (f : kept_set) × (slice_get self.now set ≡ Some f) × IsFirstOf f head first) }
     {
-        let first = first_in(&self.stores.records, home, head, set)?;
+        let first = first_in(&self.stores.records, hint, head, set)?;
         Some(first)
     }
 
-    /// Returns what waits for the heads of all sets.
+    /// Returns the waiting lists of all sets.
     #[inline(always)]
-    pub(crate) fn waits(&self) -> &[Wait]
-        ensures { (k : ℕ) (f : front) → slice_get self.now k ≡ Some f → GoesOn f.waits result.now }
+    pub(crate) fn waiters(&self) -> &[Waiter]
+        ensures { (k : ℕ) (f : kept_set) → slice_get self.now k ≡ Some f → GoesOn f.waiters result.now }
     {
-        &self.stores.waits
+        &self.stores.waiters
     }
 
     /// Returns the index that the first record of a further set has.
     #[inline(always)]
-    pub(crate) fn home(&self) -> usize {
+    pub(crate) fn next_record(&self) -> usize {
         self.stores.records.len()
     }
 
-    /// Adds a set as it was filled, with what waits for its heads. `Memory` if its items are more than a number of 64
-    /// bits tells, or if an allocation fails; there is no set then.
+    /// Adds a set as it was filled, with the waiting lists of its heads. `Memory` if its items are more than a number
+    /// of 64 bits tells, or if an allocation fails; there is no set then.
     #[inline(always)]
     pub(crate) fn push(&mut self, flat: &Tables, filled: Filled<'_>) -> Result<(), Memory>
         requires lists { AreSpotLists flat.now }
         requires callers { AreCallers flat.now filled.items.now filled.callers.now }
         requires blocks { (j : ℕ) → filled.blocks ≡ length (expand (block_of flat.now) j filled.heads.now) }
-        ensures { IfOk result (λ _. (f : front) × ((self.new ≡ self.old ++ f ∷ [])
+        ensures { IfOk result (λ _. (f : kept_set) × ((self.new ≡ self.old ++ f ∷ [])
             × IsKept flat.now (length self.old) filled.entry.heads.now filled.entry.items.now f)) }
     {
         match add_set(flat, filled, &mut self.bounds, &mut self.stores) {

@@ -2,8 +2,8 @@ use Rattle.std.proofs.Common.{◌≡◌, ℕ, [], ◌+◌, ◌-◌, ◌≤◌, S
 use Rattle.earley.specs.Charts.{IsBuilt}
 use Rattle.earley.specs.Chosen.{AreReaders}
 use Rattle.earley.specs.Waiting.{AreWaitingAll}
-use Rattle.earley.specs.FrontViews.{view, views}
-use Rattle.earley.specs.Fronts.{Front}
+use Rattle.earley.specs.SetViews.{view, views}
+use Rattle.earley.specs.EarleySets.{EarleySet}
 use Rattle.earley.proofs.chart.fill_sets.Given as goal
 
 abbrev pub invariant-loop-sets : goal.invariant-loop-sets
@@ -13,8 +13,8 @@ invariant-loop-sets g l = record {
   no_heads : l.heads ≡ [];
   no_items : l.items ≡ [];
   waiting : AreWaitingAll l.flat l.sets;
-  readers : AreReaders l.flat l.sets l.later.readers.items;
-  sized : (j : ℕ) (f : Front) → slice_get l.sets j ≡ Some f → f.size ≡ length (view l.flat j f);
+  readers : AreReaders l.flat l.sets l.postdot.readers.items;
+  sized : (j : ℕ) (f : EarleySet) → slice_get l.sets j ≡ Some f → f.size ≡ length (view l.flat j f);
 }
 
 abbrev pub decreases-loop-sets : goal.decreases-loop-sets

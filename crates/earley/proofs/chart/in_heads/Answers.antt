@@ -1,6 +1,6 @@
 use Rattle.std.proofs.Common.{◌∙◌, ap, refl, arith}
 use Rattle.flatgrammar.specs.Blocks.{block_of}
-use Rattle.earley.specs.Fronts.{heads_of}
+use Rattle.earley.specs.EarleySets.{heads_of}
 use Rattle.earley.proofs.RecordsLemmas.{below_heads, head_at, heads_long}
 use Rattle.earley.proofs.ViewsLemmas.{heads_none, heads_some, heads_all}
 use Rattle.earley.proofs.chart.in_heads.Goals as goal

@@ -1,8 +1,8 @@
 use Rattle.std.proofs.Common.{take}
 use Rattle.flatgrammar.specs.Places.{In}
 use Rattle.flatgrammar.specs.Blocks.{block_of}
-use Rattle.earley.specs.FrontViews.{expand}
-use Rattle.earley.specs.Fronts.{heads_of}
+use Rattle.earley.specs.SetViews.{expand}
+use Rattle.earley.specs.EarleySets.{heads_of}
 use Rattle.earley.proofs.chart.in_heads.Given as goal
 
 abbrev pub invariant-loop-record : goal.invariant-loop-record

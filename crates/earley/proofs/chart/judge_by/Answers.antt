@@ -4,7 +4,7 @@ use Rattle.flatgrammar.specs.NodeSteps.{flat_of}
 use Rattle.flatgrammar.specs.Blocks.{AreAlone, AreSpotLists}
 use Rattle.earley.specs.Charts.{IsExact}
 use Rattle.earley.specs.ChartSets.{set_at, IsSet}
-use Rattle.earley.specs.FrontViews.{views}
+use Rattle.earley.specs.SetViews.{views}
 use Rattle.earley.proofs.ChartSetsLemmas.{chart_set}
 use Rattle.earley.proofs.chart.judge_by.Goals as goal
 

@@ -5,7 +5,7 @@ use Rattle.flatgrammar.specs.declared.flat_item.Item.{Item}
 use Rattle.earley.specs.ItemSets.{Adds}
 use Rattle.flatgrammar.specs.Blocks.{block_of, item_at}
 use Rattle.earley.specs.Chosen.{items_of, callers_of, Calls, ReadsSome, AreChosen}
-use Rattle.earley.specs.FrontViews.{expand, views, IsAsked, IsFurther}
+use Rattle.earley.specs.SetViews.{expand, views, IsPredictedRoot, IsAddedFor}
 use Rattle.earley.proofs.FillLemmas.{measure_falls, more_keeps, item_more, head_more}
 use Rattle.earley.proofs.FillLemmas.{front_same, full_held, all_different, all_closed}
 use Rattle.earley.proofs.ChartSetsLemmas.{size_more}
@@ -13,7 +13,7 @@ use Rattle.earley.proofs.AloneLemmas.{begin_all}
 use Rattle.earley.proofs.AreChosenLemmas.{chosen_next, chosen_still, chosen_end}
 use Rattle.earley.proofs.ExpandLemmas.{length_views, take_past}
 use Rattle.flatgrammar.proofs.CallOfLemmas.{past_get}
-use Rattle.earley.proofs.ItemRowsLemmas.{index_get}
+use Rattle.earley.proofs.AreBucketsLemmas.{index_get}
 use Rattle.earley.proofs.fill.fill.Goals as goal
 
 pub loop-item_index-smaller-then-item_index-len : goal.loop-item_index-smaller-then-item_index-len
@@ -31,37 +31,41 @@ loop-item_index-preserved-then-item_index-len g c =
     let below : c.loop-item_index.item_index < length c.loop-item_index.items =
     (let test = c.if-item_index-len.true in let len = c.len.ensures in omega (arith, test, len)) in
     let item_is = index_get c.loop-item_index.items c.loop-item_index.item_index c.at-item.result c.at-item.ensures in
-    let asked = subst (λ v. Adds (IsAsked c.args.flat.now v) c.loop-item_index.heads c.work.new.heads) item_is
-    c.in_ok-work.ensures.heads in
-    let further = subst (λ v. Adds (IsFurther c.args.flat.now (views c.args.flat.now 0 c.args.sets.now) v)
-    c.loop-item_index.items c.work.new.items) item_is c.in_ok-work.ensures.items in
+    let asked = subst (λ v. Adds (IsPredictedRoot c.args.flat.now v) c.loop-item_index.heads c.process_item.new.heads)
+    item_is
+    c.in_ok-process_item.ensures.heads in
+    let further = subst (λ v. Adds (IsAddedFor c.args.flat.now (views c.args.flat.now 0 c.args.sets.now) v)
+    c.loop-item_index.items c.process_item.new.items) item_is c.in_ok-process_item.ensures.items in
     record {
       going = item_more c.args.flat.now c.requires.roots c.requires.nulls c.requires.tables
           (map g.L.Letter.number c.args.line.now) (views c.args.flat.now 0 c.args.sets.now) c.requires.earlier
           c.loop-item_index.item_index c.loop-item_index.head_index c.loop-item_index.heads c.loop-item_index.items
           c.loop-item_index.invariant.going c.at-item.result
-          c.work.new.heads c.work.new.items below asked further;
+          c.process_item.new.heads c.process_item.new.items below asked further;
       keeps = λ a h. more_keeps c.args.flat.now c.requires.roots c.requires.nulls c.requires.tables
           (map g.L.Letter.number c.args.line.now) (views c.args.flat.now 0 c.args.sets.now) c.requires.earlier
-          (length (views c.args.flat.now 0 c.args.sets.now)) c.loop-item_index.heads c.work.new.heads
-          c.loop-item_index.items c.work.new.items asked further a (c.loop-item_index.invariant.keeps a h);
-      callers = (let called = c.in_ok-work.ensures.callers
+          (length (views c.args.flat.now 0 c.args.sets.now)) c.loop-item_index.heads c.process_item.new.heads
+          c.loop-item_index.items c.process_item.new.items asked further a (c.loop-item_index.invariant.keeps a h);
+      callers = (let called = c.in_ok-process_item.ensures.callers
           (take c.loop-item_index.item_index c.loop-item_index.items) c.loop-item_index.invariant.callers in record {
-            chosen = chosen_next (Calls c.args.flat.now) c.loop-item_index.items c.work.new.items
-                (callers_of c.work.new.later.callers.items) c.loop-item_index.item_index further c.at-item.result below
+            chosen = chosen_next (Calls c.args.flat.now) c.loop-item_index.items c.process_item.new.items
+                (callers_of c.process_item.new.postdot.callers.items) c.loop-item_index.item_index further
+                c.at-item.result below
                 (subst (λ v. AreChosen (Calls c.args.flat.now)
                 (take c.loop-item_index.item_index c.loop-item_index.items
-                ++ v ∷ []) (callers_of c.work.new.later.callers.items)) item_is called.chosen);
+                ++ v ∷ []) (callers_of c.process_item.new.postdot.callers.items)) item_is called.chosen);
             tell = called.tell;
           });
       counted = λ j. c.loop-item_index.invariant.counted j ∙ ap (λ v. length (expand (block_of c.args.flat.now) j v))
-          (sym (front_same c.loop-item_index.head_index c.loop-item_index.heads asked.added c.work.new.heads asked.is
+          (sym (front_same c.loop-item_index.head_index c.loop-item_index.heads asked.added c.process_item.new.heads
+          asked.is
           c.loop-item_index.invariant.going.within_heads));
-      readers = chosen_next (ReadsSome c.args.flat.now) c.loop-item_index.items c.work.new.items
-          (items_of c.work.new.later.readers.items) c.loop-item_index.item_index further c.at-item.result below
+      readers = chosen_next (ReadsSome c.args.flat.now) c.loop-item_index.items c.process_item.new.items
+          (items_of c.process_item.new.postdot.readers.items) c.loop-item_index.item_index further c.at-item.result
+          below
           (subst (λ v. AreChosen (ReadsSome c.args.flat.now) (take c.loop-item_index.item_index c.loop-item_index.items
-          ++ v ∷ []) (items_of c.work.new.later.readers.items)) item_is
-          (c.in_ok-work.ensures.readers (take c.loop-item_index.item_index c.loop-item_index.items)
+          ++ v ∷ []) (items_of c.process_item.new.postdot.readers.items)) item_is
+          (c.in_ok-process_item.ensures.readers (take c.loop-item_index.item_index c.loop-item_index.items)
           c.loop-item_index.invariant.readers));
     }
 
@@ -83,29 +87,29 @@ loop-item_index-preserved g c =
     omega (arith, test, len)) in
     let head_is = index_get c.loop-item_index.heads c.loop-item_index.head_index c.at-head.result c.at-head.ensures in
     let called = subst (λ v. Adds {A = ℕ} (λ t. In t (block_of c.args.flat.now v).calls) c.loop-item_index.heads
-    c.open.new.heads) head_is c.in_ok-open.ensures.heads in
+    c.process_head.new.heads) head_is c.in_ok-process_head.ensures.heads in
     let passed = subst (λ n. Adds {A = Item} (λ a. In a
     (map (item_at n) (block_of c.args.flat.now (slice_index_or c.loop-item_index.heads c.loop-item_index.head_index
     c.at-head.result)).passes))
-    c.loop-item_index.items c.open.new.items)
+    c.loop-item_index.items c.process_head.new.items)
     (c.len-then-head_index-len.ensures ∙ sym (length_views c.args.flat.now 0 c.args.sets.now))
     (subst (λ v. Adds {A = Item} (λ a. In a (map (item_at c.len-then-head_index-len.result)
-    (block_of c.args.flat.now v).passes)) c.loop-item_index.items c.open.new.items) head_is
-    c.in_ok-open.ensures.items) in
+    (block_of c.args.flat.now v).passes)) c.loop-item_index.items c.process_head.new.items) head_is
+    c.in_ok-process_head.ensures.items) in
     record {
       going = head_more c.args.flat.now c.requires.roots c.requires.nulls c.requires.tables
           (map g.L.Letter.number c.args.line.now) (views c.args.flat.now 0 c.args.sets.now) c.requires.earlier
           c.loop-item_index.item_index c.loop-item_index.head_index c.loop-item_index.heads c.loop-item_index.items
           c.loop-item_index.invariant.going c.at-head.result
-          c.open.new.heads c.open.new.items below called passed;
+          c.process_head.new.heads c.process_head.new.items below called passed;
       keeps = λ a h. more_keeps c.args.flat.now c.requires.roots c.requires.nulls c.requires.tables
           (map g.L.Letter.number c.args.line.now) (views c.args.flat.now 0 c.args.sets.now) c.requires.earlier
-          (length (views c.args.flat.now 0 c.args.sets.now)) c.loop-item_index.heads c.open.new.heads
-          c.loop-item_index.items c.open.new.items called passed a
+          (length (views c.args.flat.now 0 c.args.sets.now)) c.loop-item_index.heads c.process_head.new.heads
+          c.loop-item_index.items c.process_head.new.items called passed a
           (c.loop-item_index.invariant.keeps a h);
       callers = record {
-        chosen = chosen_still (Calls c.args.flat.now) c.loop-item_index.items c.open.new.items
-            (callers_of c.loop-item_index.later.callers.items) c.loop-item_index.item_index passed
+        chosen = chosen_still (Calls c.args.flat.now) c.loop-item_index.items c.process_head.new.items
+            (callers_of c.loop-item_index.postdot.callers.items) c.loop-item_index.item_index passed
             c.loop-item_index.invariant.going.within_items c.loop-item_index.invariant.callers.chosen;
         tell = c.loop-item_index.invariant.callers.tell;
       };
@@ -114,13 +118,14 @@ loop-item_index-preserved g c =
           c.at-head.result c.spots.result.now below
           (c.spots.ensures ∙ ap (λ v. (block_of c.args.flat.now v).spots) head_is) in
           let front = ap (λ v. length (expand (block_of c.args.flat.now) j v))
-          (front_same (c.loop-item_index.head_index + 1) c.loop-item_index.heads called.added c.open.new.heads called.is
+          (front_same (c.loop-item_index.head_index + 1) c.loop-item_index.heads called.added c.process_head.new.heads
+          called.is
           (omega (arith, below))) in
           let was = c.loop-item_index.invariant.counted j in
           let sum = c.in-Some.ensures in
           omega (arith, more, front, was, sum);
-      readers = chosen_still (ReadsSome c.args.flat.now) c.loop-item_index.items c.open.new.items
-          (items_of c.loop-item_index.later.readers.items) c.loop-item_index.item_index passed
+      readers = chosen_still (ReadsSome c.args.flat.now) c.loop-item_index.items c.process_head.new.items
+          (items_of c.loop-item_index.postdot.readers.items) c.loop-item_index.item_index passed
           c.loop-item_index.invariant.going.within_items c.loop-item_index.invariant.readers;
     }
 
@@ -153,7 +158,7 @@ returns-else-head_index-len-clause-closed g c =
 pub returns-else-head_index-len-clause-callers : goal.returns-else-head_index-len-clause-callers
 returns-else-head_index-len-clause-callers g c = record {
   chosen = chosen_end (Calls c.args.flat.now) c.loop-item_index.items
-      (callers_of c.loop-item_index.later.callers.items) c.loop-item_index.item_index
+      (callers_of c.loop-item_index.postdot.callers.items) c.loop-item_index.item_index
       (let test = c.if-item_index-len.false in let len = c.len.ensures in omega (arith, test, len))
       c.loop-item_index.invariant.callers.chosen;
   tell = c.loop-item_index.invariant.callers.tell;
@@ -161,12 +166,13 @@ returns-else-head_index-len-clause-callers g c = record {
 
 pub returns-else-head_index-len-clause-readers : goal.returns-else-head_index-len-clause-readers
 returns-else-head_index-len-clause-readers g c = chosen_end (ReadsSome c.args.flat.now) c.loop-item_index.items
-    (items_of c.loop-item_index.later.readers.items) c.loop-item_index.item_index
+    (items_of c.loop-item_index.postdot.readers.items) c.loop-item_index.item_index
     (let test = c.if-item_index-len.false in let len = c.len.ensures in omega (arith, test, len))
     c.loop-item_index.invariant.readers
 
-pub work-requires-clause-begun : goal.work-requires-clause-begun
-work-requires-clause-begun g c = begin_all c.args.flat.now (map g.L.Letter.number c.args.line.now) c.args.sets.now
+pub process_item-requires-clause-begun : goal.process_item-requires-clause-begun
+process_item-requires-clause-begun g c = begin_all c.args.flat.now (map g.L.Letter.number c.args.line.now)
+    c.args.sets.now
     c.requires.earlier
 
 pub returns-else-head_index-len-clause-blocks : goal.returns-else-head_index-len-clause-blocks

@@ -4,18 +4,18 @@ use Rattle.flatgrammar.specs.NodeSteps.{flat_of}
 use Rattle.earley.specs.Chosen.{items_of, ReadsSome, AreChosen, AreCallers}
 use Rattle.earley.specs.Closed.{Keeps}
 use Rattle.flatgrammar.specs.Blocks.{block_of}
-use Rattle.earley.specs.FrontViews.{expand, full, views, IsGoing}
+use Rattle.earley.specs.SetViews.{expand, full, views, IsWorklist}
 use Rattle.earley.proofs.fill.fill.Given as goal
 
 abbrev pub invariant-loop-item_index : goal.invariant-loop-item_index
 invariant-loop-item_index g l = record {
-  going : IsGoing l.flat (map g.L.Letter.number l.line) (views l.flat 0 l.sets) l.item_index l.head_index l.heads
+  going : IsWorklist l.flat (map g.L.Letter.number l.line) (views l.flat 0 l.sets) l.item_index l.head_index l.heads
       l.items;
   keeps : Keeps (full (block_of l.flat) (length (views l.flat 0 l.sets)) l.initial.heads l.initial.items)
       (full (block_of l.flat) (length (views l.flat 0 l.sets)) l.heads l.items);
-  callers : AreCallers l.flat (take l.item_index l.items) l.later.callers.items;
+  callers : AreCallers l.flat (take l.item_index l.items) l.postdot.callers.items;
   counted : (j : ℕ) → l.blocks ≡ length (expand (block_of l.flat) j (take l.head_index l.heads));
-  readers : AreChosen (ReadsSome l.flat) (take l.item_index l.items) (items_of l.later.readers.items);
+  readers : AreChosen (ReadsSome l.flat) (take l.item_index l.items) (items_of l.postdot.readers.items);
 }
 
 abbrev pub decreases-loop-item_index : goal.decreases-loop-item_index

@@ -2,7 +2,7 @@ use Rattle.std.proofs.Common.{◌≡◌, length, Some, slice_get, ap, sym, ◌�
 use Rattle.std.proofs.lemmas.Option.{slice_get_within}
 use Rattle.flatgrammar.proofs.CallOfLemmas.{some_same}
 use Rattle.earley.proofs.IsBuiltLemmas.{get_is}
-use Rattle.earley.proofs.ItemRowsLemmas.{in_get, get_index, or_get}
+use Rattle.earley.proofs.AreBucketsLemmas.{in_get, get_index, or_get}
 use Rattle.earley.proofs.heads.index_of.Goals as goal
 use Rattle.earley.proofs.heads.index_of.Goals.{else-index-list-via-then-index-list+else-list-index}
 use Rattle.earley.proofs.heads.index_of.Goals.{else-index-list-via-else-index-list}

@@ -1,8 +1,8 @@
-use Rattle.earley.specs.ItemRows.{row_of}
-use Rattle.earley.proofs.ItemRowsLemmas.{linked_within}
+use Rattle.earley.specs.ItemBuckets.{bucket_of}
+use Rattle.earley.proofs.AreBucketsLemmas.{linked_within}
 use Rattle.earley.proofs.items.add_linked.Goals as goal
 
-pub returns-clause-rows : goal.returns-clause-rows
-returns-clause-rows c =
+pub returns-clause-buckets : goal.returns-clause-buckets
+returns-clause-buckets c =
     let l = c.insert.ensures.linked in
-    record { within = linked_within (row_of _) _ _ _ _ l; linked = λ t. l; fits = c.requires.room }
+    record { within = linked_within (bucket_of _) _ _ _ _ l; linked = λ t. l; fits = c.requires.room }

@@ -1,6 +1,6 @@
 use Rattle.std.proofs.Common.{◌≡◌, length, length-set, Some, subst, arith, slice_get}
-use Rattle.earley.specs.ItemRows.{row_of}
-use Rattle.earley.proofs.ItemRowsLemmas.{linked_same, linked_push}
+use Rattle.earley.specs.ItemBuckets.{bucket_of}
+use Rattle.earley.proofs.AreBucketsLemmas.{linked_same, linked_push}
 use Rattle.earley.proofs.items.push.Goals as goal
 
 pub returns-in_err-push-clause-linked : goal.returns-in_err-push-clause-linked
@@ -9,8 +9,8 @@ returns-in_err-push-clause-linked c =
     (let e = c.len-index.ensures in let o = c.args.list.now.ok.0 in omega (arith, e, o)) in
     let long = c.in_ok-set_link.ensures.long in
     let was = c.requires.linked.long in
-    rw (c.in_err-push.ensures.items) (linked_same (row_of (length c.args.rows.now)) c.args.list.now.items
-    c.args.links.now.items c.set_link.new.links.items c.args.rows.now c.args.base c.requires.linked
+    rw (c.in_err-push.ensures.items) (linked_same (bucket_of (length c.args.buckets.now)) c.args.list.now.items
+    c.args.links.now.items c.set_link.new.links.items c.args.buckets.now c.args.base c.requires.linked
     (omega (arith, long, was)) (λ i l lt g. c.in_ok-set_link.ensures.others i l (omega (arith, lt, count)) g))
 
 pub returns-clause-linked : goal.returns-clause-linked
@@ -19,15 +19,16 @@ returns-clause-linked c =
     (let e = c.len-index.ensures in let o = c.args.list.now.ok.0 in omega (arith, e, o)) in
     let long = c.in_ok-set_link.ensures.long in
     let was = c.requires.linked.long in
-    let links = linked_same (row_of (length c.args.rows.now)) c.args.list.now.items c.args.links.now.items
-    c.set_link.new.links.items c.args.rows.now c.args.base c.requires.linked
+    let links = linked_same (bucket_of (length c.args.buckets.now)) c.args.list.now.items c.args.links.now.items
+    c.set_link.new.links.items c.args.buckets.now c.args.base c.requires.linked
     (omega (arith, long, was)) (λ i l lt g. c.in_ok-set_link.ensures.others i l (omega (arith, lt, count)) g) in
     let here = subst (λ n. slice_get c.set_link.new.links.items n ≡ Some c.args.last) count
     c.in_ok-set_link.ensures.here in
     rw (
       c.in_ok-push.ensures.items,
-      c.row_of-row.ensures.value,
-      length-set c.args.rows.now (row_of (length c.args.rows.now) c.args.item) _,
+      c.bucket_of-bucket.ensures.value,
+      length-set c.args.buckets.now (bucket_of (length c.args.buckets.now) c.args.item) _,
     )
-    (linked_push (row_of (length c.args.rows.now)) c.args.list.now.items c.set_link.new.links.items c.args.rows.now
+    (linked_push (bucket_of (length c.args.buckets.now)) c.args.list.now.items c.set_link.new.links.items
+    c.args.buckets.now
     c.args.base c.args.item c.args.last _ links here c.requires.last (omega (arith, count)))

@@ -1,6 +1,6 @@
 use Rattle.std.proofs.Common.{◌-◌, Some, ap, ◌∙◌, refl, arith}
-use Rattle.earley.specs.ItemRows.{row_of}
-use Rattle.earley.proofs.ItemRowsLemmas.{get_in, get_index, sought_step, sought_none}
+use Rattle.earley.specs.ItemBuckets.{bucket_of}
+use Rattle.earley.proofs.AreBucketsLemmas.{get_in, get_index, sought_step, sought_none}
 use Rattle.earley.proofs.items.stands.Goals as goal
 
 pub returns-then-same : goal.returns-then-same
@@ -15,13 +15,15 @@ returns-then-same c =
 
 pub loop-at-smaller : goal.loop-at-smaller
 loop-at-smaller c =
-    (sought_step (row_of c.args.count) c.args.list.now c.args.links.now c.args.item c.loop-at.at _ _ c.requires.linked
+    (sought_step (bucket_of c.args.count) c.args.list.now c.args.links.now c.args.item c.loop-at.at _ _
+    c.requires.linked
     c.loop-at.invariant c.loop-at-test.true
     (λ same. let t = c.same.ensures.1 same in let f = c.if-same.false in absurd cc)).0
 
 pub loop-at-preserved : goal.loop-at-preserved
 loop-at-preserved c =
-    (sought_step (row_of c.args.count) c.args.list.now c.args.links.now c.args.item c.loop-at.at _ _ c.requires.linked
+    (sought_step (bucket_of c.args.count) c.args.list.now c.args.links.now c.args.item c.loop-at.at _ _
+    c.requires.linked
     c.loop-at.invariant c.loop-at-test.true
     (λ same. let t = c.same.ensures.1 same in let f = c.if-same.false in absurd cc)).1
 
@@ -29,6 +31,6 @@ pub returns : goal.returns
 returns c =
     let test = c.loop-at-test.false in (
       (λ t. absurd cc),
-      (λ h. absurd (sought_none (row_of c.args.count) c.args.list.now c.args.item c.loop-at.at
+      (λ h. absurd (sought_none (bucket_of c.args.count) c.args.list.now c.args.item c.loop-at.at
           (omega (arith, test)) c.loop-at.invariant h)),
     )

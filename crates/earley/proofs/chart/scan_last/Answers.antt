@@ -1,0 +1,29 @@
+use Rattle.std.proofs.Common.{◌≡◌, ◌+◌, ◌-◌, ◌<◌, Some, length, map, slice_get, ap, sym, ◌∙◌, arith}
+use Rattle.earley.specs.SetViews.{view, views}
+use Rattle.flatgrammar.proofs.CallOfLemmas.{get_map}
+use Rattle.earley.proofs.IsBuiltLemmas.{get_is}
+use Rattle.earley.proofs.ExpandLemmas.{get_views, length_views}
+use Rattle.earley.proofs.ViewsLemmas.{after_last}
+use Rattle.earley.proofs.chart.scan_last.Goals as goal
+
+pub returns-in_ok-scan : goal.returns-in_ok-scan
+returns-in_ok-scan g c =
+    let sets = c.args.sets.now in
+    let last = c.len-last.result - 1 in
+    let some = c.if-len-gt0.true in
+    let one = c.len.ensures in
+    let two = c.len-last.ensures in
+    let room = c.requires.length in
+    let within : last < length c.args.line.now = omega (arith, some, one, two, room) in
+    let zero : 0 + last ≡ last = omega arith in
+    let there : slice_get sets last ≡ Some c.in-Some.kept_set = sym {b = slice_get sets last} c.in-Some.ensures in
+    let size : length (views c.args.flat.now 0 sets) ≡ last + 1 =
+    (let n = length_views c.args.flat.now 0 sets in omega (arith, some, one, two, n)) in
+    after_last c.args.flat.now (map g.L.Letter.number c.args.line.now) (views c.args.flat.now 0 sets)
+    c.args.items.now c.scan.new.set last (g.L.Letter.number c.index-line-last.result)
+    (view c.args.flat.now last c.in-Some.kept_set) size
+    (get_views c.args.flat.now 0 sets last c.in-Some.kept_set there
+    ∙ ap (λ v. Some (view c.args.flat.now v c.in-Some.kept_set)) zero)
+    (get_map g.L.Letter.number c.args.line.now last
+    (get_is c.args.line.now last c.index-line-last.result within c.index-line-last.is))
+    c.in_ok-scan.ensures

@@ -1,8 +1,0 @@
-use Rattle.std.proofs.Common.{take, map}
-use Rattle.earley.specs.ReadItems.{AreRead}
-use Rattle.flatgrammar.specs.Blocks.{item_at}
-use Rattle.earley.proofs.read_front.read_spots.Given as goal
-
-abbrev pub invariant-loop-spot : goal.invariant-loop-spot
-invariant-loop-spot l = AreRead l.flat l.value (map (item_at l.origin) (take l.spot-index l.from)) l.initial.set
-    l.set

@@ -1,0 +1,99 @@
+-- Sets as they are kept, one behind the other: each is a part of three lists.
+use Rattle.std.specs.Prelude.{◌≡◌, ℕ, ◌<◌, ◌≤◌, ◌++◌, List, length, map, slice_get, slice_index_or, slice_range, take}
+use Rattle.std.specs.Prelude.{Some}
+use Rattle.flatgrammar.specs.declared.flat_item.Item.{Item}
+use Rattle.earley.specs.declared.waiters.Waiter.{Waiter}
+use Rattle.earley.specs.declared.sets.Part.{Part}
+use Rattle.earley.specs.declared.sets.Record.{Record}
+use Rattle.earley.specs.declared.sets.Bounds.{Bounds}
+use Rattle.earley.specs.declared.sets.Stores.{Stores}
+
+-- a set as it is kept
+pub record EarleySet : Type 0 where
+  pub heads : List ℕ
+  pub items : List Item
+  pub firsts : List ℕ
+  pub waiters : List Waiter
+  pub size : ℕ
+
+-- a part of a list
+abbrev pub part_of : {A : Type 0} → List A → Part → List A
+part_of xs part = slice_range xs part.from part.to
+
+abbrev pub the_record : ℕ → ℕ → ℕ → Record
+the_record head set first = record { head = head; set = set; first = first }
+
+abbrev pub heads_of : List Record → List ℕ
+heads_of records = map (λ r. r.head) records
+
+abbrev pub firsts_of : List Record → List ℕ
+firsts_of records = map (λ r. r.first) records
+
+-- the set that stands between those bounds
+abbrev pub set_in : Stores → Bounds → EarleySet
+set_in s b = record {
+  heads = heads_of (part_of s.records.items b.records);
+  items = part_of s.items.items b.items;
+  firsts = firsts_of (part_of s.records.items b.records);
+  waiters = take b.waiters s.waiters.items;
+  size = b.size;
+}
+
+-- what the list of a set's head begins with
+pub record IsFirstOf (kept_set : EarleySet) (head first : ℕ) : Type 0 where
+  pub index : ℕ
+  pub head_is : slice_get kept_set.heads index ≡ Some head
+  pub first_is : first ≡ slice_index_or kept_set.firsts index 0
+
+abbrev pub sets_in : Stores → List Bounds → List EarleySet
+sets_in s bounds = map (set_in s) bounds
+
+-- a part lies within so many entries
+pub record IsPart (part : Part) (count : ℕ) : Type 0 where
+  pub ordered : part.from ≤ part.to
+  pub inside : part.to ≤ count
+
+pub record AreBounds (s : Stores) (b : Bounds) : Type 0 where
+  pub records : IsPart b.records (length s.records.items)
+  pub items : IsPart b.items (length s.items.items)
+  pub waiters : b.waiters ≤ length s.waiters.items
+
+abbrev pub AreAllBounds : Stores → List Bounds → Type 0
+AreAllBounds s bounds = (j : ℕ) (b : Bounds) → slice_get bounds j ≡ Some b → AreBounds s b
+
+-- a record stands among those of the set that it names
+pub record IsOwned (bounds : List Bounds) (k : ℕ) (r : Record) : Type 0 where
+  pub owner : Bounds
+  pub set : slice_get bounds r.set ≡ Some owner
+  pub from : owner.records.from ≤ k
+  pub to : k < owner.records.to
+
+-- the lists of some sets
+pub record AreStored (s : Stores) (bounds : List Bounds) : Type 0 where
+  pub within : AreAllBounds s bounds
+  pub owned : (k : ℕ) (r : Record) → slice_get s.records.items k ≡ Some r → IsOwned bounds k r
+
+-- the records behind those of before are the part of a set, and name it
+pub record IsOwnPart (number : ℕ) (old new : List Record) (part : Part) : Type 0 where
+  pub from : part.from ≡ length old
+  pub to : part.to ≡ length new
+  pub set : (k : ℕ) (r : Record) → slice_get new k ≡ Some r → length old ≤ k → r.set ≡ number
+
+-- the same heads of the same sets, whose waiting lists may differ
+abbrev pub AreSameOwners : List Record → List Record → Type 0
+AreSameOwners old new = map (λ r. the_record r.head r.set 0) new ≡ map (λ r. the_record r.head r.set 0) old
+
+-- a list goes on behind its end
+abbrev pub GoesOn : {A : Type 0} → List A → List A → Type 0
+GoesOn {A} old new = (more : List A) × (new ≡ old ++ more)
+
+-- all lists go on behind their ends
+pub record GoOn (old new : Stores) : Type 0 where
+  pub records : GoesOn old.records.items new.records.items
+  pub items : GoesOn old.items.items new.items.items
+  pub waiters : GoesOn old.waiters.items new.waiters.items
+
+-- the part of a list that was put behind it
+pub record IsAppended {A : Type 0} (new more : List A) (part : Part) : Type 0 where
+  pub is : part_of new part ≡ more
+  pub within : IsPart part (length new)
