@@ -1,0 +1,2 @@
+pub mod TakenPartLemmas
+pub mod PictureLemmas

@@ -1,0 +1,5 @@
+pub mod LinesAround
+pub mod PhraseLists
+pub mod Pictures
+pub mod ShownBytes
+pub mod ToldPhrases
