@@ -1,0 +1,3 @@
+pub mod StandLemmas
+pub mod CanStandLemmas
+pub mod TakenTokensLemmas

@@ -1,0 +1,3 @@
+pub mod PegDecisions
+pub mod PegExpected
+pub mod PegStands

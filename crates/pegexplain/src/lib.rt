@@ -1,0 +1,6 @@
+//! What explains a fault of a grammar's text in the syntax of peg(1).
+#![tactic(auto)]
+
+mod deciding_token;
+mod stand;
+
