@@ -1,3 +1,4 @@
 pub mod StandLemmas
 pub mod CanStandLemmas
 pub mod TakenTokensLemmas
+pub mod PegExplainedLemmas

@@ -2,5 +2,8 @@
 #![tactic(auto)]
 
 mod deciding_token;
+mod explain;
+mod phrases;
 mod stand;
 
+pub use explain::explain_fault;

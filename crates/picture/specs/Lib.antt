@@ -3,3 +3,5 @@ pub mod PhraseLists
 pub mod Pictures
 pub mod ShownBytes
 pub mod ToldPhrases
+pub mod FactRows
+pub mod FirstBytes

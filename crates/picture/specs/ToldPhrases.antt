@@ -1,5 +1,6 @@
 -- Which phrases tell what can stand at a place.
-use Rattle.std.specs.Prelude.{List, [], ◌∷◌, ℕ, All}
+use Rattle.std.specs.Prelude.{List, [], ◌∷◌, ℕ, All, Bool, ◌&&◌, not}
+use Rattle.std.specs.List.{list_all, list_any}
 
 -- a phrase, the kinds that it means, and those that another phrase would mean too
 pub record Phrase (K : Type 0) : Type 0 where
@@ -19,3 +20,7 @@ pub data Told {K : Type 0} (CanStand : K → Type 0) : List (Phrase K) → List 
       → Told CanStand (p ∷ ps) (p.words ∷ ws)
   told_not : {p : Phrase K} {ps : List (Phrase K)} {ws : List (List ℕ)} → (IsTold CanStand p → ⊥)
       → Told CanStand ps ws → Told CanStand (p ∷ ps) ws
+
+-- whether the phrase is told where those kinds can stand that pass the test
+abbrev pub tells : {K : Type 0} → (K → Bool) → Phrase K → Bool
+tells can p = list_all can p.kinds && not (list_any can p.bars)
