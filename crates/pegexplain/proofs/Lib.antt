@@ -1,0 +1,4 @@
+pub mod StandLemmas
+pub mod CanStandLemmas
+pub mod TakenTokensLemmas
+pub mod PegExplainedLemmas

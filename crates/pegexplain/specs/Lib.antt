@@ -1,0 +1,5 @@
+pub mod PegDecisions
+pub mod PegExpected
+pub mod PegExplained
+pub mod PegStands
+pub mod PhraseRows

@@ -1,0 +1,9 @@
+//! What explains a fault of a grammar's text in the syntax of peg(1).
+#![tactic(auto)]
+
+mod deciding_token;
+mod explain;
+mod phrases;
+mod stand;
+
+pub use explain::explain_fault;

@@ -1,0 +1,164 @@
+//! The phrases that tell what can stand at a place.
+ghost use Rattle.std.specs.Prelude.{◌≡◌, ◌≤◌, true, map, IfOk};
+ghost use Rattle.std.specs.List.{list_all, list_any};
+ghost use Rattle.lexer.specs.declared.limits.TheConstants.{MAX_OPEN};
+ghost use Rattle.picture.specs.ToldPhrases.{Told, tells};
+ghost use Rattle.pegexplain.specs.PegExpected.{phrases};
+ghost use Rattle.pegexplain.specs.PegStands.{allows};
+ghost use Rattle.pegexplain.specs.PhraseRows.{phrase_of};
+
+use crate::stand::Place;
+use pegread::Kind;
+use ruletable::Memory;
+use std::alloc::Global;
+
+/// A phrase, the kinds that it means, and those that another phrase would mean too.
+#[derive(Clone, Copy)]
+pub(crate) struct Phrase {
+    pub(crate) words: &'static [u8],
+    pub(crate) kinds: &'static [Kind],
+    pub(crate) bars: &'static [Kind],
+}
+
+static PHRASES: [Phrase; 12] = [
+    Phrase {
+        words: b"a name",
+        kinds: &[Kind::Ident],
+        bars: &[Kind::Literal],
+    },
+    Phrase {
+        words: b"\"<-\"",
+        kinds: &[Kind::Arrow],
+        bars: &[],
+    },
+    Phrase {
+        words: b"an element",
+        kinds: &[
+            Kind::Ident,
+            Kind::Literal,
+            Kind::Class,
+            Kind::Dot,
+            Kind::LParen,
+            Kind::Begin,
+            Kind::EndCap,
+            Kind::Action,
+        ],
+        bars: &[],
+    },
+    Phrase {
+        words: b"an element but an action",
+        kinds: &[
+            Kind::Ident,
+            Kind::Literal,
+            Kind::Class,
+            Kind::Dot,
+            Kind::LParen,
+            Kind::Begin,
+            Kind::EndCap,
+        ],
+        bars: &[Kind::Action],
+    },
+    Phrase {
+        words: b"\"&\"",
+        kinds: &[Kind::Amp],
+        bars: &[],
+    },
+    Phrase {
+        words: b"\"!\"",
+        kinds: &[Kind::Bang],
+        bars: &[],
+    },
+    Phrase {
+        words: b"\"?\"",
+        kinds: &[Kind::Quest],
+        bars: &[],
+    },
+    Phrase {
+        words: b"\"*\"",
+        kinds: &[Kind::Star],
+        bars: &[],
+    },
+    Phrase {
+        words: b"\"+\"",
+        kinds: &[Kind::Plus],
+        bars: &[],
+    },
+    Phrase {
+        words: b"\"/\"",
+        kinds: &[Kind::Slash],
+        bars: &[],
+    },
+    Phrase {
+        words: b"\")\"",
+        kinds: &[Kind::RParen],
+        bars: &[],
+    },
+    Phrase {
+        words: b"the end of the text",
+        kinds: &[Kind::End],
+        bars: &[],
+    },
+];
+
+fn allows_all(place: Place, kinds: &[Kind]) -> bool
+    requires { place.depth ≤ MAX_OPEN }
+    ensures { result ≡ list_all (allows place) kinds.now }
+{
+    for kind in kinds {
+        if !place.allows(*kind) {
+            return false;
+        }
+    }
+    true
+}
+
+fn allows_any(place: Place, kinds: &[Kind]) -> bool
+    requires { place.depth ≤ MAX_OPEN }
+    ensures { result ≡ list_any (allows place) kinds.now }
+{
+    for kind in kinds {
+        if place.allows(*kind) {
+            return true;
+        }
+    }
+    false
+}
+
+fn is_told(place: Place, phrase: &Phrase) -> bool
+    requires { place.depth ≤ MAX_OPEN }
+    ensures { result ≡ tells (allows place) (phrase_of phrase.now) }
+{
+    allows_all(place, phrase.kinds) && !allows_any(place, phrase.bars)
+}
+
+fn all_phrases() -> &'static [Phrase]
+    ensures { map phrase_of result.now ≡ phrases }
+{
+    &PHRASES
+}
+
+// The words of the phrases of a table that are told.
+fn told_of(alloc: Global, place: Place, table: &[Phrase]) -> Result<Vec<&'static [u8]>, Memory>
+    requires { place.depth ≤ MAX_OPEN }
+    ensures { IfOk result (λ v. Told (λ k. allows place k ≡ true) (map phrase_of table.now)
+        (map (λ w. w.now) v.items)) }
+{
+    let mut told = Vec::new(alloc);
+    for phrase in table {
+        if is_told(place, phrase) {
+            told.push(phrase.words)?;
+        }
+    }
+    Ok(told)
+}
+
+/// Returns the words of the phrases that tell what can stand there, in their order.
+///
+/// # Errors
+/// `Memory` where a growth was refused.
+pub(crate) fn told_phrases(alloc: Global, place: Place) -> Result<Vec<&'static [u8]>, Memory>
+    requires { place.depth ≤ MAX_OPEN }
+    ensures { IfOk result (λ v. Told (λ k. allows place k ≡ true) phrases (map (λ w. w.now) v.items)) }
+{
+    told_of(alloc, place, all_phrases())
+}

@@ -1,0 +1,4 @@
+pub mod TakenPartLemmas
+pub mod PictureLemmas
+pub mod FirstToldLemmas
+pub mod PhraseLemmas
