@@ -19,10 +19,9 @@ use Rattle.abnfread.specs.declared.elem.Elem.{Elem}
 use Rattle.abnfcheck.specs.AbnfGrammar.{Grammar}
 use Rattle.abnfcheck.specs.AbnfNotes.{AreNotes, IsSoundUnlessRefused, judged_in}
 use Rattle.abnfcheck.specs.WithCore.{has_name, one_each, left_alone, with_core}
-use Rattle.abnfrun.specs.AbnfChecking.{IsChecked}
+use Rattle.abnfrun.specs.AbnfLanguage.{IsChecked, IsPrintable}
 use Rattle.abnfprint.specs.AbnfReadBack.{file_rules}
 use Rattle.abnfrun.specs.AbnfNoted.{AreRedefinitions, IsRefusedFor, all_rules, judged_of}
-use Rattle.abnfrun.specs.AbnfPrinting.{IsPrintable}
 use Rattle.abnfrun.proofs.EarlyInLemmas.{earlies_are_early}
 
 any_map : {A B : Type 0} (f : A → B) (p : B → Bool) (xs : List A) → list_any p (map f xs)

@@ -1,5 +1,4 @@
 pub mod AbnfStatesLemmas
-pub mod AbnfTaskLemmas
 pub mod AllRulesLemmas
 pub mod AreRedefinitionsLemmas
 pub mod EarlyInLemmas

@@ -1,7 +1,5 @@
 pub mod AbnfAnswers
-pub mod AbnfChecking
+pub mod AbnfLanguage
 pub mod AbnfNoted
-pub mod AbnfPrinting
 pub mod AbnfReply
-pub mod AbnfTasks
 pub mod LetterAnswers

@@ -5,7 +5,7 @@ ghost use Rattle.abnfrun.specs.AbnfAnswers.{AbnfStates};
 ghost use Rattle.toolrun.specs.Right.{IsRight};
 ghost use Rattle.toolrun.specs.Status.{code_of};
 
-use crate::abnf_task::AbnfTask;
+use crate::abnf_language::AbnfLanguage;
 use feed::Source;
 use ruletable::Sink;
 use std::alloc::Global;
@@ -62,5 +62,5 @@ pub fn run_abnf<R: Source, O: Sink, E: Sink>(
           status = code_of result;
         })) }
 {
-    run_tool::<AbnfTask, R, O, E>(alloc, grammar, settings, reader, out, err)
+    run_tool::<AbnfLanguage, R, O, E>(alloc, grammar, settings, reader, out, err)
 }

@@ -1,13 +1,13 @@
 //! The ABNF tool: it reads a grammar, checks or prints it or judges lines by it, and answers on two writers.
 #![tactic(auto)]
 
-mod abnf_printing;
+mod abnf_language;
 mod abnf_run;
-mod abnf_task;
 mod engines;
 mod laws;
 mod line_judge;
 
+pub use abnf_language::AbnfLanguage;
 pub use abnf_run::run_abnf;
 pub use feed::{Broken, Source, SourceOf};
 pub use laws::{one_reply_of_abnf, one_statement_of_abnf};

@@ -2,15 +2,16 @@
 //! It has nothing of its own; each item comes from the crate that proves it.
 #![tactic(auto)]
 
-pub use abnfrun::{one_reply_of_abnf, one_statement_of_abnf, run_abnf};
+pub use abnfrun::{AbnfLanguage, one_reply_of_abnf, one_statement_of_abnf, run_abnf};
 pub use commands::{
     Asked, Job, Program, Unready, abnfi_command, end_unready, is_a_simple_command, parse,
     pegi_command, read_job, read_words, refuse_invalid_utf8, settings_of,
 };
 pub use feed::{Broken, Feed, Flow, Held, Source, SourceOf};
-pub use mains::{abnfi_main, pegi_main};
-pub use pegrun::{one_reply, one_statement, run_peg};
+pub use mains::{abnfi_main, end_without_memory, pegi_main, words_of};
+pub use pegrun::{PegLanguage, one_reply, one_statement, run_peg};
 pub use ruletable::{Sink, SinkOf, WriteFault};
 pub use toolrun::{
-    Alphabet, DEFAULT_LIMIT, MAX_LIMIT, Mode, Settings, Status, Stop, close_run, end_run,
+    Alphabet, Checked, DEFAULT_LIMIT, Language, MAX_LIMIT, Mode, Settings, Status, Stop, close_run,
+    end_run, run_tool,
 };

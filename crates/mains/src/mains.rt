@@ -11,13 +11,49 @@ ghost use Rattle.toolrun.specs.Right.{Comes};
 ghost use Rattle.toolrun.specs.Status.{code_of};
 ghost use Rattle.toolrun.specs.Stream.{passed};
 
-use abnfrun::run_abnf;
+use abnfrun::AbnfLanguage;
 use commands::{Program, end_unready, read_job};
 use feed::Source;
-use pegrun::run_peg;
+use pegrun::PegLanguage;
 use ruletable::Sink;
 use std::rt::Files;
-use toolrun::Status;
+use toolrun::{Language, Status, run_tool};
+
+/// Runs a program of a language, whose words are its own name and those of its command.
+fn tool_main<L: Language, R: Files + AllocGlobal, I: Source, O: Sink, E: Sink>(
+    rt: &R,
+    program: Program,
+    words: &[String],
+    reader: &mut I,
+    out: &mut O,
+    err: &mut E,
+) -> Status
+    requires reader_is_fresh { I.failed reader.old ≡ false }
+    requires reader_is_open { I.ended reader.old ≡ false }
+    requires out_is_fresh { O.failed out.old ≡ false }
+    requires err_is_fresh { E.failed err.old ≡ false }
+    ensures words { (app : _) × IsAppOf program app × Answers (fault_of app (map string_bytes words.now))
+        (Keeps (I.remaining reader.old) (I.remaining reader.new) × Keeps (O.contents out.old) (O.contents out.new) ×
+        EndsAs (O.failed out.new) (E.failed err.new) Status.Refused result)
+        (Keeps (I.remaining reader.old) (I.remaining reader.new) ×
+        EndsAs (O.failed out.new) (E.failed err.new) Status.Done result) }
+    ensures right { (app : _) × IsAppOf program app × (fault_of app (map string_bytes words.now) ≡ [] →
+        Comes (JobStates L.states (matches_of app (map string_bytes words.now)))
+        (passed I.remaining I.failed reader.old reader.new) (passed O.contents O.failed out.old out.new)
+        (passed E.contents E.failed err.old err.new) (code_of result)) }
+{
+    match read_job(rt, program, words) {
+        Ok(job) => run_tool::<L, I, O, E>(
+            rt.alloc(),
+            job.grammar.as_slice(),
+            &job.settings,
+            reader,
+            out,
+            err,
+        ),
+        Err(why) => end_unready(rt.alloc(), &why, out, err),
+    }
+}
 
 /// Runs the program `pegi`, whose words are its own name and `[-m MODE] [-l N] [-s RULE] [-r] GRAMMAR`: it runs the
 /// grammar in the file GRAMMAR on what the reader gives, as `run_peg` says, with the settings of the words.
@@ -47,17 +83,7 @@ pub fn pegi_main<R: Files + AllocGlobal, I: Source, O: Sink, E: Sink>(
         (passed I.remaining I.failed reader.old reader.new) (passed O.contents O.failed out.old out.new)
         (passed E.contents E.failed err.old err.new) (code_of result)) }
 {
-    match read_job(rt, Program::Pegi, words) {
-        Ok(job) => run_peg(
-            rt.alloc(),
-            job.grammar.as_slice(),
-            &job.settings,
-            reader,
-            out,
-            err,
-        ),
-        Err(why) => end_unready(rt.alloc(), &why, out, err),
-    }
+    tool_main::<PegLanguage, R, I, O, E>(rt, Program::Pegi, words, reader, out, err)
 }
 
 /// Runs the program `abnfi`, whose words are its own name and `[-m MODE] [-l N] [-s RULE] [-u MODE] [-w] GRAMMAR`: it
@@ -86,15 +112,5 @@ pub fn abnfi_main<R: Files + AllocGlobal, I: Source, O: Sink, E: Sink>(
         (passed I.remaining I.failed reader.old reader.new) (passed O.contents O.failed out.old out.new)
         (passed E.contents E.failed err.old err.new) (code_of result)) }
 {
-    match read_job(rt, Program::Abnfi, words) {
-        Ok(job) => run_abnf(
-            rt.alloc(),
-            job.grammar.as_slice(),
-            &job.settings,
-            reader,
-            out,
-            err,
-        ),
-        Err(why) => end_unready(rt.alloc(), &why, out, err),
-    }
+    tool_main::<AbnfLanguage, R, I, O, E>(rt, Program::Abnfi, words, reader, out, err)
 }

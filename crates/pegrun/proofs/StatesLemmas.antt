@@ -1,6 +1,6 @@
 -- What is stated for a grammar's text, settings and an input is one, but for want of memory.
 -- Serves: one_statement
-use Rattle.std.proofs.Common.{◌≡◌, ◌≢◌, ℕ, ◌⊎◌, inl, inr, List, [], refl, sym, ◌∙◌, ap, subst, map, arith, true, false}
+use Rattle.std.proofs.Common.{◌≡◌, ◌≢◌, ℕ, inl, inr, List, [], refl, sym, ◌∙◌, ap, map, arith, true, false}
 use Rattle.std.specs.Prelude.{Contains}
 use Rattle.ruletable.specs.Notes.{Said, said}
 use Rattle.ruletable.specs.declared.fault.ReadFault.{ReadFault}
@@ -19,11 +19,10 @@ use Rattle.pegrun.specs.PegReply.{printed_text, RunStates}
 use Rattle.pegrun.proofs.FirstsLemmas.{start_is_one}
 use Rattle.pegrun.proofs.OneReplyLemmas.{one_reply}
 use Rattle.toolrun.specs.Input.{Input}
-use Rattle.toolrun.specs.NotesText.{notes_text}
-use Rattle.toolrun.specs.Reply.{Reply, notes_alone, refusal}
+use Rattle.toolrun.specs.Reply.{Reply, refusal}
 use Rattle.toolrun.specs.RunSteps as steps
-use Rattle.toolrun.specs.declared.settings.Mode.TheVariants.{Run, Check, Print}
 use Rattle.toolrun.specs.declared.settings.Settings.{Settings}
+use Rattle.toolrun.proofs.OneStatementLemmas.{Stated, one_stated, is_noted, is_checked, is_run, is_again, is_printed}
 
 -- the notes on redefinitions are one list
 again_is_one : (definitions : List Rule) (a b : List Said) → AreAgain definitions a → AreAgain definitions b → a ≡ b
@@ -34,130 +33,69 @@ again_is_one definitions a b g h =
     g.all ∙ ap (map (λ (rule : Rule). said Redefined rule.name)) rules ∙ sym h.all
 
 module _ (settings : Settings) (input : Input) where
-  -- what is stated for a text that spells these definitions
-  data StatesOf (definitions : List Rule) : List ℕ → Reply → Type 0 where
-    is_noted : (notes : List Said) → AreNotesOn definitions (start_given settings) notes → is_refused notes ≡ true
-        → settings.mode ≢ Print → StatesOf definitions (notes_text notes) (notes_alone 2)
-    is_checked : (notes : List Said) → AreNotesOn definitions (start_given settings) notes → is_refused notes ≡ false
-        → settings.mode ≡ Check → StatesOf definitions (notes_text notes) (notes_alone 0)
-    is_run : (notes : List Said) (start : ℕ) (stated : Reply) → AreNotesOn definitions (start_given settings) notes
-        → is_refused notes ≡ false → settings.mode ≡ Run
-        → IsStart (start_given settings) (firsts [] definitions) start
-        → RunStates (firsts [] definitions) start settings input stated → StatesOf definitions (notes_text notes) stated
-    is_again : (notes : List Said) → AreAgain definitions notes → notes ≢ [] → settings.mode ≡ Print
-        → StatesOf definitions (notes_text notes) (notes_alone 2)
-    is_printed : AreAgain definitions [] → settings.mode ≡ Print → StatesOf definitions [] (printed_text definitions)
+  -- what a run of these definitions states
+  record RunOf (definitions : List Rule) (reply : Reply) : Type 0 where
+    start : ℕ
+    is_start : IsStart (start_given settings) (firsts [] definitions) start
+    states : RunStates (firsts [] definitions) start settings input reply
 
-  -- the text has a fault, which is told, or spells definitions
-  record IsRefusal (text notes : List ℕ) (reply : Reply) : Type 0 where
-    fault : ReadFault
-    is_fault : IsFaultOf text fault
-    other : fault ≢ Memory
-    none : notes ≡ []
-    told : reply ≡ refusal fault
+  one_run : (definitions : List Rule) (a b : Reply) → RunOf definitions a → RunOf definitions b → a.status ≢ 5
+      → b.status ≢ 5 → a ≡ b
+  one_run definitions a b g h m n = by g.states h.states
+    where
+      same : h.start ≡ g.start
+      same = start_is_one (start_given settings) definitions h.start g.start h.is_start g.is_start
 
-  record IsRead (text notes : List ℕ) (reply : Reply) : Type 0 where
-    definitions : List Rule
-    reads : Reads text definitions
-    states : StatesOf definitions notes reply
+      by : RunStates (firsts [] definitions) g.start settings input a
+          → RunStates (firsts [] definitions) h.start settings input b → a ≡ b
+      by (steps.replied r i) (steps.replied q j) =
+          one_reply (firsts [] definitions) g.start settings input a b i (let k = j in rw same at k)
+      by (steps.no_memory point out reply before replies front) j = absurd (m refl)
+      by i (steps.no_memory point out reply before replies front) = absurd (n refl)
 
-  parts_of : (text notes : List ℕ) (reply : Reply) → States text settings input notes reply → reply.status ≢ 5
-      → IsRefusal text notes reply ⊎ IsRead text notes reply
-  parts_of text notes reply (refused fault f m) ample =
-      inl (record { fault = fault; is_fault = f; other = m; none = refl; told = refl })
-  parts_of text notes reply (noted ds said r are bad mode) ample =
-      inr (record { definitions = ds; reads = r; states = is_noted said are bad mode })
-  parts_of text notes reply (checked ds said r are fine mode) ample =
-      inr (record { definitions = ds; reads = r; states = is_checked said are fine mode })
-  parts_of text notes reply (runs ds said start stated r are fine mode is run) ample =
-      inr (record { definitions = ds; reads = r; states = is_run said start stated are fine mode is run })
-  parts_of text notes reply (again ds said r are some mode) ample =
-      inr (record { definitions = ds; reads = r; states = is_again said are some mode })
-  parts_of text notes reply (printed ds r are mode) ample =
-      inr (record { definitions = ds; reads = r; states = is_printed are mode })
-  parts_of text notes reply (no_memory within) ample = absurd (ample refl)
+  notes_are_one : (definitions : List Rule) (a b : List Said) → AreNotesOn definitions (start_given settings) a
+      → AreNotesOn definitions (start_given settings) b → a ≡ b
+  notes_are_one definitions = notes-one (firsts [] definitions) (names_at (firsts [] definitions) (agains [] definitions))
+      (start_given settings)
 
-  module _ (definitions : List Rule) where
-    notes_are_one : (a b : List Said) → AreNotesOn definitions (start_given settings) a
-        → AreNotesOn definitions (start_given settings) b → a ≡ b
-    notes_are_one a b g h =
-        notes-one (firsts [] definitions) (names_at (firsts [] definitions) (agains [] definitions))
-        (start_given settings) a b g h
+  module _ (text : List ℕ) where
+    abbrev IsStated : List ℕ → Reply → Type 0
+    IsStated = Stated (IsFaultOf text) (Reads text) (λ definitions. AreNotesOn definitions (start_given settings))
+        (λ definitions notes. is_refused notes ≡ true) (λ definitions notes. is_refused notes ≡ false) AreAgain RunOf
+        printed_text settings.mode
 
-    one_text : (a b : List Said) → AreNotesOn definitions (start_given settings) a
-        → AreNotesOn definitions (start_given settings) b → notes_text a ≡ notes_text b
-    one_text a b g h = ap notes_text (notes_are_one a b g h)
+    parts_of : (notes : List ℕ) (reply : Reply) → States text settings input notes reply → reply.status ≢ 5
+        → IsStated notes reply
+    parts_of notes reply (refused fault f m) ample =
+        inl (record { fault = fault; is_fault = f; other = m; none = refl; told = refl })
+    parts_of notes reply (noted ds said r are bad mode) ample =
+        inr (record { definitions = ds; reads = r; states = is_noted said are bad mode })
+    parts_of notes reply (checked ds said r are fine mode) ample =
+        inr (record { definitions = ds; reads = r; states = is_checked said are fine mode })
+    parts_of notes reply (runs ds said start stated r are fine mode is run) ample = inr (record {
+      definitions = ds;
+      reads = r;
+      states = is_run said stated are fine mode (record { start = start; is_start = is; states = run });
+    })
+    parts_of notes reply (again ds said r are some mode) ample =
+        inr (record { definitions = ds; reads = r; states = is_again said are some mode })
+    parts_of notes reply (printed ds r are mode) ample =
+        inr (record { definitions = ds; reads = r; states = is_printed are mode })
+    parts_of notes reply (no_memory within) ample = absurd (ample refl)
 
-    -- no list of notes refuses the grammar beside one that does not
-    not_both : (a b : List Said) → AreNotesOn definitions (start_given settings) a
-        → AreNotesOn definitions (start_given settings) b → is_refused a ≡ true → is_refused b ≡ false → ⊥
-    not_both a b g h bad fine = let same = ap is_refused (notes_are_one a b g h) in cc
-
-    one_run : (s t : ℕ) (a b : Reply) → IsStart (start_given settings) (firsts [] definitions) s
-        → IsStart (start_given settings) (firsts [] definitions) t →
-        RunStates (firsts [] definitions) s settings input a → RunStates (firsts [] definitions) t settings input b
-        → a.status ≢ 5 → b.status ≢ 5 → a ≡ b
-    one_run s t a b i j (steps.replied r g) (steps.replied q h) m n =
-        let same : t ≡ s = start_is_one (start_given settings) definitions t s j i in
-        one_reply (firsts [] definitions) s settings input a b g (let k = h in rw same at k)
-    one_run s t a b i j (steps.no_memory point out reply before replies front) h m n = absurd (m refl)
-    one_run s t a b i j g (steps.no_memory point out reply before replies front) m n = absurd (n refl)
-
-    one_of : (notes others : List ℕ) (a b : Reply) → StatesOf definitions notes a → StatesOf definitions others b
-        → a.status ≢ 5 → b.status ≢ 5 → (notes ≡ others) × (a ≡ b)
-    one_of notes others a b (is_noted v g bad mode) (is_noted w h bad' mode') m n = (one_text v w g h, refl)
-    one_of notes others a b (is_noted v g bad mode) (is_checked w h fine mode') m n = absurd (not_both v w g h bad fine)
-    one_of notes others a b (is_noted v g bad mode) (is_run w s stated h fine mode' is run) m n =
-        absurd (not_both v w g h bad fine)
-    one_of notes others a b (is_noted v g bad mode) (is_again w h some mode') m n = absurd (mode mode')
-    one_of notes others a b (is_noted v g bad mode) (is_printed h mode') m n = absurd (mode mode')
-    one_of notes others a b (is_checked v g fine mode) (is_noted w h bad mode') m n = absurd (not_both w v h g bad fine)
-    one_of notes others a b (is_checked v g fine mode) (is_checked w h fine' mode') m n = (one_text v w g h, refl)
-    one_of notes others a b (is_checked v g fine mode) (is_run w s stated h fine' mode' is run) m n = absurd (cc)
-    one_of notes others a b (is_checked v g fine mode) (is_again w h some mode') m n = absurd (cc)
-    one_of notes others a b (is_checked v g fine mode) (is_printed h mode') m n = absurd (cc)
-    one_of notes others a b (is_run v s stated g fine mode is run) (is_noted w h bad mode') m n =
-        absurd (not_both w v h g bad fine)
-    one_of notes others a b (is_run v s stated g fine mode is run) (is_checked w h fine' mode') m n = absurd (cc)
-    one_of notes others a b (is_run v s stated g fine mode is run) (is_run w t told h fine' mode' is' run') m n =
-        (one_text v w g h, one_run s t a b is is' run run' m n)
-    one_of notes others a b (is_run v s stated g fine mode is run) (is_again w h some mode') m n = absurd (cc)
-    one_of notes others a b (is_run v s stated g fine mode is run) (is_printed h mode') m n = absurd (cc)
-    one_of notes others a b (is_again v g some mode) (is_noted w h bad mode') m n = absurd (mode' mode)
-    one_of notes others a b (is_again v g some mode) (is_checked w h fine mode') m n = absurd (cc)
-    one_of notes others a b (is_again v g some mode) (is_run w s stated h fine mode' is run) m n = absurd (cc)
-    one_of notes others a b (is_again v g some mode) (is_again w h some' mode') m n =
-        (ap notes_text (again_is_one definitions v w g h), refl)
-    one_of notes others a b (is_again v g some mode) (is_printed h mode') m n =
-        absurd (some (again_is_one definitions v [] g h))
-    one_of notes others a b (is_printed g mode) (is_noted w h bad mode') m n = absurd (mode' mode)
-    one_of notes others a b (is_printed g mode) (is_checked w h fine mode') m n = absurd (cc)
-    one_of notes others a b (is_printed g mode) (is_run w s stated h fine mode' is run) m n = absurd (cc)
-    one_of notes others a b (is_printed g mode) (is_again w h some mode') m n =
-        absurd (some (again_is_one definitions w [] h g))
-    one_of notes others a b (is_printed g mode) (is_printed h mode') m n = (refl, refl)
-
-  one_in : (text notes others : List ℕ) (a b : Reply) → IsRefusal text notes a ⊎ IsRead text notes a
-      → IsRefusal text others b ⊎ IsRead text others b → a.status ≢ 5 → b.status ≢ 5 → (notes ≡ others) × (a ≡ b)
-  one_in text notes others a b (inl g) (inl h) m n = (
-    g.none ∙ sym h.none,
-    g.told ∙ ap refusal (one-fault text g.fault h.fault g.is_fault h.is_fault g.other h.other) ∙ sym h.told,
-  )
-  one_in text notes others a b (inl g) (inr h) m n =
-      absurd (let other = g.other in other (no-fault text h.definitions g.fault h.reads g.is_fault))
-  one_in text notes others a b (inr g) (inl h) m n =
-      absurd (let other = h.other in other (no-fault text g.definitions h.fault g.reads h.is_fault))
-  one_in text notes others a b (inr g) (inr h) m n =
-      let same : h.definitions ≡ g.definitions = one-reading text h.definitions g.definitions h.reads g.reads in
-      one_of g.definitions notes others a b g.states (subst (λ (ds : List Rule). StatesOf ds others b) same h.states)
-      m n
+    one_of_text : (notes others : List ℕ) (a b : Reply) → IsStated notes a → IsStated others b → a.status ≢ 5
+        → b.status ≢ 5 → (notes ≡ others) × (a ≡ b)
+    one_of_text = one_stated (IsFaultOf text) (Reads text) (λ definitions. AreNotesOn definitions (start_given settings))
+        (λ definitions notes. is_refused notes ≡ true) (λ definitions notes. is_refused notes ≡ false) AreAgain RunOf
+        printed_text settings.mode (one-reading text) (one-fault text) (no-fault text) notes_are_one again_is_one
+        (λ definitions notes bad fine. absurd (cc)) one_run
 
 -- one list of notes and one reply
 pub statement_is_one : (text : List ℕ) (settings : Settings) (input : Input) (notes others : List ℕ) (a b : Reply) →
     States text settings input notes a → States text settings input others b → a.status ≢ 5 → b.status ≢ 5
     → (notes ≡ others) × (a ≡ b)
 statement_is_one text settings input notes others a b g h m n =
-    one_in settings input text notes others a b (parts_of settings input text notes a g m)
+    one_of_text settings input text notes others a b (parts_of settings input text notes a g m)
     (parts_of settings input text others b h n) m n
 
 -- what spells definitions is not too long

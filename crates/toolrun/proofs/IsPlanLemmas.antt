@@ -49,45 +49,45 @@ module _ {Grammar Sound : Type 0} {States : List ℕ → Settings → Input → 
     {IsPrintable : List ℕ → Grammar → List Said → Type 0} {canonical : Grammar → List ℕ}
     {Runs : Sound → Settings → Input → Reply → Type 0}
     (law : AreStated States HasFault IsRead IsChecked IsPrintable canonical Runs) (text : List ℕ) (settings : Settings)
-    where
-  abbrev Planned : List ℕ → Result (Task Grammar Sound) Stop → Type 0
-  Planned notes task = IsPlan (States text settings) notes (does_of (λ t. task_does canonical Runs t settings) task)
+  where
+    abbrev Planned : List ℕ → Result (Task Grammar Sound) Stop → Type 0
+    Planned notes task = IsPlan (States text settings) notes (does_of (λ t. task_does canonical Runs t settings) task)
 
-  -- a text that was not read
-  pub plan_unread : (why : ReadFault) → HasFault text why → Planned [] (Err (unread why))
-  plan_unread why faulty =
-      unread-plan (States text settings) (HasFault text) (λ input why f other. law.refused text settings input why f other)
-      (λ input f. law.no_memory text settings input f) (λ (t : Task Grammar Sound). task_does canonical Runs t settings)
-      why faulty
+    -- a text that was not read
+    pub plan_unread : (why : ReadFault) → HasFault text why → Planned [] (Err (unread why))
+    plan_unread why faulty =
+        unread-plan (States text settings) (HasFault text) (λ input why f other. law.refused text settings input why f other)
+        (λ input f. law.no_memory text settings input f) (λ (t : Task Grammar Sound). task_does canonical Runs t settings)
+        why faulty
 
-  -- a grammar that was checked
-  pub plan_checked : (notes : List Said) (mode : Mode) (sound : Option Sound) → settings.mode ≡ mode → mode ≢ Print
-      → IsChecked text (option_copied settings.start) notes sound → Planned (notes_text notes) (checked_task mode sound)
-  plan_checked notes mode None is other c = record {
-    stated = λ input reply r. rw r (law.noted text settings input notes c (rw is other));
-    some = λ input. (stopped (Quiet status.Refused), refl);
-  }
-  plan_checked notes Run (Some sound) is other c = record {
-    stated = λ input reply r. law.run text settings input notes sound reply c is r;
-    some = λ input. law.replies text settings input notes sound c;
-  }
-  plan_checked notes Check (Some sound) is other c = record {
-    stated = λ input reply r. rw r (law.checked text settings input notes sound c is);
-    some = λ input. (stopped (Quiet status.Done), refl);
-  }
-  plan_checked notes Print (Some sound) is other c = absurd (other refl)
+    -- a grammar that was checked
+    pub plan_checked : (notes : List Said) (mode : Mode) (sound : Option Sound) → settings.mode ≡ mode → mode ≢ Print
+        → IsChecked text (option_copied settings.start) notes sound → Planned (notes_text notes) (checked_task mode sound)
+    plan_checked notes mode None is other c = record {
+      stated = λ input reply r. rw r (law.noted text settings input notes c (rw is other));
+      some = λ input. (stopped (Quiet status.Refused), refl);
+    }
+    plan_checked notes Run (Some sound) is other c = record {
+      stated = λ input reply r. law.run text settings input notes sound reply c is r;
+      some = λ input. law.replies text settings input notes sound c;
+    }
+    plan_checked notes Check (Some sound) is other c = record {
+      stated = λ input reply r. rw r (law.checked text settings input notes sound c is);
+      some = λ input. (stopped (Quiet status.Done), refl);
+    }
+    plan_checked notes Print (Some sound) is other c = absurd (other refl)
 
-  -- a grammar that was read to be printed, with notes and without
-  pub plan_again : (grammar : Grammar) (notes : List Said) → settings.mode ≡ Print → notes ≢ []
-      → IsPrintable text grammar notes → Planned (notes_text notes) (Err (Quiet status.Refused))
-  plan_again grammar notes print some p = record {
-    stated = λ input reply r. rw r (law.again text settings input grammar notes p some print);
-    some = λ input. (stopped (Quiet status.Refused), refl);
-  }
+    -- a grammar that was read to be printed, with notes and without
+    pub plan_again : (grammar : Grammar) (notes : List Said) → settings.mode ≡ Print → notes ≢ []
+        → IsPrintable text grammar notes → Planned (notes_text notes) (Err (Quiet status.Refused))
+    plan_again grammar notes print some p = record {
+      stated = λ input reply r. rw r (law.again text settings input grammar notes p some print);
+      some = λ input. (stopped (Quiet status.Refused), refl);
+    }
 
-  pub plan_printed : (grammar : Grammar) (notes : List Said) → settings.mode ≡ Print → notes ≡ []
-      → IsPrintable text grammar notes → Planned (notes_text notes) (Ok (Prints grammar))
-  plan_printed grammar notes print none p = let q = rw none at p in rw none (record {
-    stated = λ input reply r. rw r (law.printed text settings input grammar q print);
-    some = λ input. (text_alone (canonical grammar), refl);
-  })
+    pub plan_printed : (grammar : Grammar) (notes : List Said) → settings.mode ≡ Print → notes ≡ []
+        → IsPrintable text grammar notes → Planned (notes_text notes) (Ok (Prints grammar))
+    plan_printed grammar notes print none p = let q = rw none at p in rw none (record {
+      stated = λ input reply r. rw r (law.printed text settings input grammar q print);
+      some = λ input. (text_alone (canonical grammar), refl);
+    })

@@ -40,6 +40,9 @@ module _ {Definitions : Type 0} (IsFault : ReadFault → Type 0) (Reads : Defini
     pub reads : Reads definitions
     pub states : StatesOf definitions notes reply
 
+  abbrev pub Stated : List ℕ → Reply → Type 0
+  Stated notes reply = IsRefusal notes reply ⊎ IsReadFor notes reply
+
   module _ (one_reading : (a b : Definitions) → Reads a → Reads b → a ≡ b)
       (one_fault : (a b : ReadFault) → IsFault a → IsFault b → a ≢ Memory → b ≢ Memory → a ≡ b)
       (no_fault : (definitions : Definitions) (fault : ReadFault) → Reads definitions → IsFault fault → fault ≡ Memory)
@@ -98,8 +101,8 @@ module _ {Definitions : Type 0} (IsFault : ReadFault → Type 0) (Reads : Defini
       one_of notes others a b (is_printed g mode) (is_printed h mode') m n = (refl, refl)
 
     -- one list of notes and one reply
-    pub one_stated : (notes others : List ℕ) (a b : Reply) → IsRefusal notes a ⊎ IsReadFor notes a
-        → IsRefusal others b ⊎ IsReadFor others b → a.status ≢ 5 → b.status ≢ 5 → (notes ≡ others) × (a ≡ b)
+    pub one_stated : (notes others : List ℕ) (a b : Reply) → Stated notes a → Stated others b
+        → a.status ≢ 5 → b.status ≢ 5 → (notes ≡ others) × (a ≡ b)
     one_stated notes others a b (inl g) (inl h) m n = (
       g.none ∙ sym h.none,
       g.told ∙ ap refusal (one_fault g.fault h.fault g.is_fault h.is_fault g.other h.other) ∙ sym h.told,

@@ -60,7 +60,11 @@ pub trait Language {
         ensures fault { IfErr result (λ fault. has_fault text.now fault) };
 
     /// Checks a grammar, and notes what there is to say of it. `Memory` if an allocation fails.
-    fn check(alloc: Global, grammar: Self::Grammar, start: Option<&str>) -> Result<Checked<Self::Sound>, Memory>
+    fn check(
+        alloc: Global,
+        grammar: Self::Grammar,
+        start: Option<&str>,
+    ) -> Result<Checked<Self::Sound>, Memory>
         ensures { IfOk result (λ c. (text : List ℕ) → is_read text grammar →
             is_checked text (option_copied start.entry) (map said_of c.notes.items) c.sound) };
 

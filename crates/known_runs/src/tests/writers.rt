@@ -1,10 +1,14 @@
 //! Writers that fail at a byte or in a flush, and notes that stand before a run.
+ghost use Rattle.std.specs.Prelude.{None};
 
 use super::USERNAME;
 use crate::ends::{Ended, Ends, run_over, settings_of};
-use fakes::{ALL, Takes};
-use gramtools::{DEFAULT_LIMIT, Mode, Program, Status};
+use fakes::{ALL, Takes, Tape};
+use gramtools::{DEFAULT_LIMIT, Mode, Program, SourceOf, Status, run_peg};
+use ruletable::SinkOf;
 use std::alloc::Global;
+use std::io;
+use std::io::Write;
 use std::process::Abort;
 
 /// A mode, a grammar, an input, and what is to come on both outputs where neither fails.
@@ -137,4 +141,41 @@ fn both_outputs_are_flushed_once(rt: HostRuntime) {
     check_flushes(&rt, &NOTED, Status::NoMatch);
     check_failing_flushes(&rt, &PLAIN, b"write error\n");
     check_failing_flushes(&rt, &PRINTED, b"write error\n");
+}
+
+/// A writer that takes all, and counts the calls.
+#[derive(Drop)]
+struct Counter {
+    calls: u32,
+}
+
+impl Write for Counter {
+    ghost contents = { λ _. None };
+
+    fn write(&mut self, buf: &[u8]) -> io::Result<usize> {
+        self.calls = self.calls.wrapping_add(1);
+        Ok(buf.len())
+    }
+
+    fn flush(&mut self) -> io::Result<()> {
+        Ok(())
+    }
+}
+
+#[test]
+fn notes_are_handed_on_by_one_write(rt: HostRuntime) {
+    let settings = settings_of(Mode::Check, DEFAULT_LIMIT, None);
+    let mut reader = SourceOf::new(Tape::new(b"", 1, false));
+    let mut out = SinkOf::new(Counter { calls: 0 });
+    let mut err = SinkOf::new(Counter { calls: 0 });
+    let status = run_peg(
+        rt.alloc(),
+        NOTED.1,
+        &settings,
+        &mut reader,
+        &mut out,
+        &mut err,
+    );
+    let (written, told) = (out.into_inner().calls, err.into_inner().calls);
+    assert!(rt; status == Status::Done && written == 0 && told == 1);
 }

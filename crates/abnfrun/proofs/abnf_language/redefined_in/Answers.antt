@@ -2,7 +2,7 @@
 use Rattle.std.proofs.Common.{map}
 use Rattle.ruletable.specs.Notes.{said_of}
 use Rattle.abnfrun.proofs.AreRedefinitionsLemmas.{are_redefined}
-use Rattle.abnfrun.proofs.abnf_printing.redefinitions.Goals as goal
+use Rattle.abnfrun.proofs.abnf_language.redefined_in.Goals as goal
 
 pub returns : goal.returns
 returns c =

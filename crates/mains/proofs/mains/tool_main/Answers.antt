@@ -1,13 +1,12 @@
 -- With a job the tool is run on its grammar; without one the end says what the words came to, and the reader is as it
 -- was.
 use Rattle.std.proofs.Common.{rules, map, string_bytes, Global}
-use Rattle.pegrun.specs.Answers.{States}
 use Rattle.clap.specs.Words.{fault_of, matches_of}
 use Rattle.mains.proofs.AnswersLemmas.{no_faults, no_help}
 use Rattle.mains.proofs.JobStatesLemmas.{job_comes, unready_comes}
 use Rattle.toolrun.specs.Status.{code_of}
 use Rattle.toolrun.specs.Stream.{passed}
-use Rattle.mains.proofs.mains.pegi_main.Goals as goal
+use Rattle.mains.proofs.mains.tool_main.Goals as goal
 
 pub returns-in-Ok : goal.returns-in-Ok
 returns-in-Ok g c =
@@ -23,12 +22,12 @@ returns-in-Ok g c =
       right = (
         job.0,
         job.1,
-        λ none. job_comes States (matches_of job.0 words) (record { settings = c.in-Ok.job.settings; path = job.2.1.0 })
-            job.2.1.1 c.as_slice.result.now
-            (passed g.I.Source.remaining g.I.Source.failed c.args.reader.now c.run_peg.new.reader)
-            (passed g.O.Sink.contents g.O.Sink.failed c.args.out.now c.run_peg.new.out)
-            (passed g.E.Sink.contents g.E.Sink.failed c.args.err.now c.run_peg.new.err) (code_of c.run_peg.result)
-            c.run_peg.ensures.right,
+        λ none. job_comes g.L.Language.states (matches_of job.0 words)
+            (record { settings = c.in-Ok.job.settings; path = job.2.1.0 }) job.2.1.1 c.as_slice.result.now
+            (passed g.I.Source.remaining g.I.Source.failed c.args.reader.now c.run_tool.new.reader)
+            (passed g.O.Sink.contents g.O.Sink.failed c.args.out.now c.run_tool.new.out)
+            (passed g.E.Sink.contents g.E.Sink.failed c.args.err.now c.run_tool.new.err) (code_of c.run_tool.result)
+            c.run_tool.ensures.right,
       );
     }
 
@@ -47,7 +46,7 @@ returns-in-Err g c =
       right = (
         job.0,
         job.1,
-        λ none. unready_comes States (matches_of job.0 words) (g.I.Source.remaining c.args.reader.now)
+        λ none. unready_comes g.L.Language.states (matches_of job.0 words) (g.I.Source.remaining c.args.reader.now)
             (g.I.Source.failed c.args.reader.now)
             (g.I.Source.failed c.args.reader.now) (passed g.O.Sink.contents g.O.Sink.failed c.args.out.now
             c.end_unready.new.out)

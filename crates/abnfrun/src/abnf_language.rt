@@ -1,0 +1,88 @@
+//! The language of ABNF, whose grammars judge the lines of an input.
+ghost use Rattle.std.specs.Prelude.{IfOk, map};
+ghost use Rattle.ruletable.specs.Notes.{said_of};
+ghost use Rattle.abnfread.specs.AbnfReading.{IsFaultOf};
+ghost use Rattle.abnfread.specs.AbnfViews.{rules_of};
+ghost use Rattle.abnfprint.specs.CanonicalAbnf.{grammar_text};
+ghost use Rattle.abnfrun.specs.AbnfAnswers.{AbnfStates};
+ghost use Rattle.abnfrun.specs.AbnfLanguage.{IsChecked, IsPrintable, IsReadAs};
+ghost use Rattle.abnfrun.specs.AbnfNoted.{AreRedefinitions};
+ghost use Rattle.abnfrun.specs.AbnfReply.{JudgeReply};
+
+use crate::line_judge::{judge_lines, lines_have_answers};
+use abnfcheck::{SoundAbnf, check_abnf};
+use abnfprint::print_abnf;
+use abnfread::{Abnf, read_abnf};
+use feed::Source;
+use rulenames::{marks_at, note_marked};
+use ruletable::{Memory, Note, NoteKind, ReadFault, Sink, WriteFault};
+use std::alloc::Global;
+use toolrun::{Checked, Language, Settings, Stop};
+
+/// Returns the notes on the rules that a grammar defines again, alone, by the order of the rules.
+fn redefined_in(alloc: Global, abnf: &Abnf) -> Result<Vec<Note>, Memory>
+    ensures { IfOk result (λ notes. AreRedefinitions (rules_of abnf.now.rules) abnf.now.redefined.items
+        (map said_of notes.items)) }
+{
+    let marks = marks_at(alloc, &abnf.redefined, abnf.rules.len())?;
+    let mut notes = Vec::new(alloc);
+    note_marked(alloc, &abnf.rules, &marks, NoteKind::Redefined, &mut notes)?;
+    Ok(notes)
+}
+
+/// The language of ABNF.
+pub struct AbnfLanguage;
+
+impl Language for AbnfLanguage {
+    type Grammar = Abnf;
+    type Sound = SoundAbnf;
+
+    ghost states = { AbnfStates };
+
+    ghost has_fault = { IsFaultOf };
+
+    ghost is_read = { λ text abnf. IsReadAs text abnf.rules abnf.core abnf.redefined.items abnf.extended.items };
+
+    ghost is_checked = { IsChecked };
+
+    ghost is_printable = { λ text abnf again. IsPrintable text (rules_of abnf.rules) again };
+
+    ghost canonical = { λ abnf. grammar_text (rules_of abnf.rules) };
+
+    ghost runs = { λ abnf. JudgeReply (rules_of abnf.rules) abnf.judged };
+
+    fn read(alloc: Global, text: &[u8]) -> Result<Abnf, ReadFault> {
+        read_abnf(alloc, text)
+    }
+
+    fn check(
+        alloc: Global,
+        grammar: Abnf,
+        start: Option<&str>,
+    ) -> Result<Checked<SoundAbnf>, Memory> {
+        let abnfcheck::Checked { notes, sound } = check_abnf(alloc, grammar, start)?;
+        Ok(Checked { notes, sound })
+    }
+
+    fn redefinitions(alloc: Global, grammar: &Abnf) -> Result<Vec<Note>, Memory> {
+        redefined_in(alloc, grammar)
+    }
+
+    fn print<O: Sink>(grammar: &Abnf, out: &mut O) -> Result<(), WriteFault> {
+        print_abnf(grammar, out)
+    }
+
+    fn run<R: Source, O: Sink>(
+        alloc: Global,
+        grammar: &SoundAbnf,
+        settings: &Settings<'_>,
+        reader: &mut R,
+        out: &mut O,
+    ) -> Result<Stop, WriteFault> {
+        judge_lines(alloc, grammar, settings, reader, out)
+    }
+
+    fn follows() {
+        lines_have_answers();
+    }
+}
