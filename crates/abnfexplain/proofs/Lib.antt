@@ -1,0 +1,5 @@
+pub mod AbnfStandLemmas
+pub mod BracketLemmas
+pub mod LargeRunLemmas
+pub mod AbnfCanStandLemmas
+pub mod TakenMarksLemmas

@@ -1,0 +1,51 @@
+-- Which token of a text decides that it is no grammar.
+use Rattle.std.specs.Prelude.{◌≡◌, ℕ, ◌⊎◌, Bool, true, false, slice_get, take, List, [], ◌∷◌, Option, Some, None}
+use Rattle.std.specs.Option.{option_map}
+use Rattle.abnfread.specs.AbnfReading.{is_bracket}
+use Rattle.abnfread.specs.AbnfSays.{IsHopeless, IsOver}
+use Rattle.abnfread.specs.MarkedTokens.{Marked, marked_of, AreMarked}
+use Rattle.abnfexplain.specs.declared.abnf_decide.Decision.{Decision}
+use Rattle.abnfexplain.specs.declared.abnf_decide.Decision.TheVariants.{Hopeless, TooDeep, TooLarge}
+use Rattle.abnfexplain.specs.declared.abnf_decide.Refused.{Refused}
+use Rattle.abnfexplain.specs.declared.abnf_stand.Form.{Form}
+use Rattle.abnfexplain.specs.declared.abnf_stand.Place.{Place}
+use Rattle.abnfexplain.specs.AbnfExpected.{CanStand}
+use Rattle.abnfexplain.specs.AbnfPlaces.{place_allows}
+
+abbrev pub first_of : List Marked → Option Marked
+first_of [] = None
+first_of (m ∷ ms) = Some m
+
+abbrev pub last_of : List Marked → Option Marked
+last_of [] = None
+last_of (m ∷ []) = Some m
+last_of (m ∷ n ∷ ms) = last_of (n ∷ ms)
+
+-- the token of the text for which that holds
+pub record IsTokenOf (text : List ℕ) (m : Marked) (Holds : List Marked → ℕ → Type 0) : Type 0 where
+  pub all : List Marked
+  pub are_tokens : AreMarked text all
+  pub number : ℕ
+  pub there : slice_get all number ≡ Some m
+  pub holds : Holds all number
+
+-- the place tells which tokens can stand where token i does
+pub record TellsForms (place : Place) (ms : List Marked) (i : ℕ) : Type 0 where
+  pub stand : (form : Form) → place_allows place form ≡ true → CanStand ms i form
+  pub other : (form : Form) → place_allows place form ≡ false → CanStand ms i form → ⊥
+
+-- with that token the tokens begin no grammar, and what is known of those before it
+pub record IsRefused (r : Refused) (ms : List Marked) (i : ℕ) : Type 0 where
+  pub hopeless : IsHopeless ms i
+  pub tells : TellsForms r.place ms i
+  pub origin : option_map marked_of r.origin ≡ first_of (take i ms)
+  pub before : option_map marked_of r.before ≡ last_of (take i ms)
+
+abbrev pub Decides : List ℕ → Decision → Type 0
+Decides text (Hopeless r) = IsTokenOf text (marked_of r.token) (IsRefused r)
+Decides text (TooDeep t) = IsTokenOf text (marked_of t) (λ ms i. IsOver ms i × (is_bracket (marked_of t) ≡ true))
+Decides text (TooLarge t) = IsTokenOf text (marked_of t) (λ ms i. IsOver ms i × (is_bracket (marked_of t) ≡ false))
+
+-- no token of the text decides
+abbrev pub NoneDecides : List ℕ → Type 0
+NoneDecides text = (all : List Marked) → AreMarked text all → (i : ℕ) → IsHopeless all i ⊎ IsOver all i → ⊥

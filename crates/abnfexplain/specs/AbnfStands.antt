@@ -1,0 +1,111 @@
+-- What can stand behind tokens, as far as their kinds and marks tell: the reader's machine without what it makes.
+use Rattle.std.specs.Prelude.{ℕ, Bool, true, false, ◌&&◌, not, Option, Some, None, List, [], ◌∷◌}
+use Rattle.abnfread.specs.declared.kind.AbnfKind.{AbnfKind}
+use Rattle.abnfread.specs.declared.kind.AbnfKind.TheVariants.{Name, Is, Adds, Slash, LParen, RParen, LBrack, RBrack}
+use Rattle.abnfread.specs.declared.kind.AbnfKind.TheVariants.{Repeat, Text, Num, Prose, Bad, End}
+use Rattle.abnfexplain.specs.declared.abnf_stand.Bracket.{Bracket}
+use Rattle.abnfexplain.specs.declared.abnf_stand.Bracket.TheVariants.{Paren, Brack}
+use Rattle.abnfexplain.specs.declared.abnf_stand.Form.{Form}
+use Rattle.abnfexplain.specs.declared.abnf_stand.Stand.{Stand}
+use Rattle.abnfexplain.specs.declared.abnf_stand.Stand.TheVariants.{Start, Named, Fresh, Awaits, Read, Done}
+
+-- whether it begins an element
+abbrev pub is_inner : AbnfKind → Bool
+is_inner Name = true
+is_inner Text = true
+is_inner Num = true
+is_inner Prose = true
+is_inner LParen = true
+is_inner LBrack = true
+is_inner _ = false
+
+-- whether it begins a repetition
+abbrev pub is_item : AbnfKind → Bool
+is_item Repeat = true
+is_item k = is_inner k
+
+abbrev pub is_name : AbnfKind → Bool
+is_name Name = true
+is_name _ = false
+
+abbrev pub is_paren : Option Bracket → Bool
+is_paren (Some Paren) = true
+is_paren _ = false
+
+abbrev pub is_brack : Option Bracket → Bool
+is_brack (Some Brack) = true
+is_brack _ = false
+
+abbrev pub is_outside : Option Bracket → Bool
+is_outside None = true
+is_outside (Some b) = false
+
+-- behind a repetition, where `top` is the innermost bracket that is open
+abbrev pub allows_read : Option Bracket → AbnfKind → Bool → Bool
+allows_read top Slash gap = true
+allows_read top RParen gap = is_paren top
+allows_read top RBrack gap = is_brack top
+allows_read top End gap = is_outside top
+allows_read top k gap = gap && is_item k
+
+abbrev pub defines : AbnfKind → Bool
+defines Is = true
+defines Adds = true
+defines _ = false
+
+-- a token that is the first of no line that begins a rule
+abbrev pub allows_later : Stand → Option Bracket → AbnfKind → Bool → Bool
+allows_later Named top k gap = defines k
+allows_later Fresh top k gap = is_item k
+allows_later Awaits top k gap = not gap && is_inner k
+allows_later Read top k gap = allows_read top k gap
+allows_later _ top k gap = false
+
+-- and one that is
+abbrev pub allows_first : Stand → Option Bracket → AbnfKind → Bool
+allows_first Start top k = is_name k
+allows_first Read top k = is_outside top && is_name k
+allows_first _ top k = false
+
+abbrev pub allows_marked : Stand → Option Bracket → AbnfKind → Bool → Bool → Bool
+allows_marked s top k gap true = allows_first s top k
+allows_marked s top k gap false = allows_later s top k gap
+
+-- whether such a token can stand there
+abbrev pub allows : Stand → Option Bracket → Form → Bool
+allows s top form = allows_marked s top form.kind form.gap form.first
+
+abbrev pub behind_later : AbnfKind → Stand
+behind_later Is = Fresh
+behind_later Adds = Fresh
+behind_later Slash = Fresh
+behind_later LParen = Fresh
+behind_later LBrack = Fresh
+behind_later Repeat = Awaits
+behind_later End = Done
+behind_later Bad = Done
+behind_later _ = Read
+
+abbrev pub behind_marked : AbnfKind → Bool → Stand
+behind_marked k true = Named
+behind_marked k false = behind_later k
+
+-- where the next token stands, behind one that can stand
+abbrev pub behind : Form → Stand
+behind form = behind_marked form.kind form.first
+
+abbrev pub without_first : List Bracket → List Bracket
+without_first [] = []
+without_first (b ∷ bs) = bs
+
+-- the brackets that are open behind it, the innermost first
+abbrev pub brackets_behind : AbnfKind → List Bracket → List Bracket
+brackets_behind LParen bs = Paren ∷ bs
+brackets_behind LBrack bs = Brack ∷ bs
+brackets_behind RParen bs = without_first bs
+brackets_behind RBrack bs = without_first bs
+brackets_behind k bs = bs
+
+abbrev pub innermost : List Bracket → Option Bracket
+innermost [] = None
+innermost (b ∷ bs) = Some b

@@ -1,0 +1,23 @@
+-- Runs of digits that are numbers over the limit.
+use Prim.Native.Char.{code}
+use Rattle.std.specs.Prelude.{ℕ, ◌+◌, ◌*◌, ◌==◌, ◌||◌, nat_lt, Bool, false, List, [], ◌∷◌, if◌then◌else◌}
+use Rattle.std.specs.Char.{digit_value}
+use Rattle.abnfread.specs.BaseDigits.{is_digit}
+use Rattle.abnfread.specs.declared.number.TheConstants.{MAX_VALUE}
+
+-- whether a run of digits is over, where the digits before say n
+abbrev pub runs_over : ℕ → ℕ → List ℕ → Bool
+runs_over base n [] = false
+runs_over base n (b ∷ bs) = if is_digit base b
+    then (nat_lt MAX_VALUE (n * base + digit_value b) || runs_over base (n * base + digit_value b) bs)
+    else runs_over base 0 bs
+
+-- the base that the letter tells
+abbrev pub base_told : ℕ → ℕ
+base_told c = if (c == code "b") || (c == code "B") then 2 else if (c == code "d") || (c == code "D") then 10 else 16
+
+-- behind `%` and that letter
+abbrev pub over_behind : List ℕ → Bool
+over_behind [] = false
+over_behind (p ∷ []) = false
+over_behind (p ∷ c ∷ t) = if p == code "%" then runs_over (base_told c) 0 t else false

@@ -1,0 +1,5 @@
+pub mod AbnfDecisions
+pub mod AbnfExpected
+pub mod AbnfPlaces
+pub mod AbnfStands
+pub mod LargeRuns

@@ -1,0 +1,75 @@
+//! The token that decides that a text is no grammar in ABNF.
+ghost use Rattle.std.specs.Prelude.{IfOk, MatchOption, ◌≡◌};
+ghost use Rattle.abnfexplain.specs.AbnfDecisions.{Decides, NoneDecides};
+
+use crate::abnf_stand::{Form, Place};
+use crate::large::is_large;
+use abnfread::{AbnfKind, MarkedToken, abnf_tokens};
+use lexer::{MAX_OPEN, have_tokens};
+use ruletable::Memory;
+use std::alloc::Global;
+
+/// A token with which the tokens begin no grammar any more.
+#[derive(Drop)]
+pub(crate) struct Refused<'a> {
+    pub(crate) place: Place,
+    pub(crate) token: MarkedToken<'a>,
+    /// The text's first token, if this is another one.
+    pub(crate) origin: Option<MarkedToken<'a>>,
+    /// The token before it.
+    pub(crate) before: Option<MarkedToken<'a>>,
+}
+
+/// The token that decides that a text is no grammar.
+#[derive(Drop)]
+pub(crate) enum Decision<'a> {
+    Hopeless(Refused<'a>),
+    /// It opens one bracket more than `MAX_OPEN`.
+    TooDeep(MarkedToken<'a>),
+    /// It is a number over its limit.
+    TooLarge(MarkedToken<'a>),
+}
+
+fn form_of(token: MarkedToken<'_>) -> Form
+    ensures { result ≡ record { kind = token.entry.token.kind; gap = token.entry.gap; first = token.entry.first } }
+{
+    Form {
+        kind: token.token.kind,
+        gap: token.gap,
+        first: token.first,
+    }
+}
+
+/// Returns the token that decides, if the text is no grammar.
+///
+/// # Errors
+/// `Memory` where a growth was refused.
+pub(crate) fn deciding_token(alloc: Global, text: &[u8]) -> Result<Option<Decision<'_>>, Memory>
+    ensures { IfOk result (λ o. MatchOption o (NoneDecides text.now) (λ d. Decides text.now d)) }
+{
+    have_tokens::<AbnfKind>(text);
+    let mut place = Place::start(alloc);
+    let mut origin = None;
+    let mut before = None;
+    for token in abnf_tokens(text) {
+        let form = form_of(token);
+        if !place.allows(form) {
+            return Ok(Some(Decision::Hopeless(Refused {
+                place,
+                token,
+                origin,
+                before,
+            })));
+        }
+        if is_large(token.token) {
+            return Ok(Some(Decision::TooLarge(token)));
+        }
+        place.advance(form)?;
+        if place.brackets.len() > MAX_OPEN {
+            return Ok(Some(Decision::TooDeep(token)));
+        }
+        origin = Some(origin.unwrap_or(token));
+        before = Some(token);
+    }
+    Ok(None)
+}

@@ -1,0 +1,164 @@
+//! Where a token of ABNF stands in a grammar, as far as the kinds of the tokens before it tell.
+ghost use Rattle.std.specs.Prelude.{◌≡◌, [], OnOk};
+ghost use Rattle.abnfexplain.specs.AbnfStands.{is_item, is_inner, allows, allows_read, behind, brackets_behind};
+
+use abnfread::AbnfKind;
+use ruletable::Memory;
+use std::alloc::Global;
+
+/// What was taken last.
+#[derive(Clone, Copy)]
+pub(crate) enum Stand {
+    /// Nothing: the first rule's name is to come.
+    Start,
+    /// A rule's name.
+    Named,
+    /// What a repetition must follow.
+    Fresh,
+    /// A repeat, which waits for its element.
+    Awaits,
+    /// A repetition.
+    Read,
+    /// The end.
+    Done,
+}
+
+/// A bracket that is open.
+#[derive(Clone, Copy)]
+pub(crate) enum Bracket {
+    Paren,
+    Brack,
+}
+
+/// What the machine sees of a token: its kind, whether white space stands before it, and whether it is the first of a
+/// line that begins a rule.
+#[derive(Clone, Copy)]
+pub(crate) struct Form {
+    pub(crate) kind: AbnfKind,
+    pub(crate) gap: bool,
+    pub(crate) first: bool,
+}
+
+// Whether it begins an element.
+fn begins_inner(kind: AbnfKind) -> bool
+    ensures { result ≡ is_inner kind }
+{
+    match kind {
+        AbnfKind::Name
+        | AbnfKind::Text
+        | AbnfKind::Num
+        | AbnfKind::Prose
+        | AbnfKind::LParen
+        | AbnfKind::LBrack => true,
+        _ => false,
+    }
+}
+
+// Whether it begins a repetition.
+fn begins_item(kind: AbnfKind) -> bool
+    ensures { result ≡ is_item kind }
+{
+    match kind {
+        AbnfKind::Repeat => true,
+        _ => begins_inner(kind),
+    }
+}
+
+// Whether it closes the innermost bracket, or ends where none is open.
+fn allows_behind(top: Option<Bracket>, kind: AbnfKind, gap: bool) -> bool
+    ensures { result ≡ allows_read top kind gap }
+{
+    match kind {
+        AbnfKind::Slash => true,
+        AbnfKind::RParen => matches!(top, Some(Bracket::Paren)),
+        AbnfKind::RBrack => matches!(top, Some(Bracket::Brack)),
+        AbnfKind::End => top.is_none(),
+        _ => gap && begins_item(kind),
+    }
+}
+
+/// Returns whether such a token can stand there, where `top` is the innermost bracket that is open.
+pub(crate) fn allows_form(stand: Stand, top: Option<Bracket>, form: Form) -> bool
+    ensures { result ≡ allows stand top form }
+{
+    if form.first {
+        return match stand {
+            Stand::Start => matches!(form.kind, AbnfKind::Name),
+            Stand::Read => top.is_none() && matches!(form.kind, AbnfKind::Name),
+            _ => false,
+        };
+    }
+    match stand {
+        Stand::Named => matches!(form.kind, AbnfKind::Is | AbnfKind::Adds),
+        Stand::Fresh => begins_item(form.kind),
+        Stand::Awaits => !form.gap && begins_inner(form.kind),
+        Stand::Read => allows_behind(top, form.kind, form.gap),
+        Stand::Start | Stand::Done => false,
+    }
+}
+
+/// Returns where the next token stands, behind one that can stand.
+pub(crate) fn stand_behind(form: Form) -> Stand
+    ensures { result ≡ behind form }
+{
+    if form.first {
+        return Stand::Named;
+    }
+    match form.kind {
+        AbnfKind::Is
+        | AbnfKind::Adds
+        | AbnfKind::Slash
+        | AbnfKind::LParen
+        | AbnfKind::LBrack => Stand::Fresh,
+        AbnfKind::Repeat => Stand::Awaits,
+        AbnfKind::End | AbnfKind::Bad => Stand::Done,
+        _ => Stand::Read,
+    }
+}
+
+/// A place between two tokens.
+#[derive(Drop)]
+pub(crate) struct Place {
+    pub(crate) stand: Stand,
+    /// The brackets that are open, the innermost last.
+    pub(crate) brackets: Vec<Bracket>,
+}
+
+impl Place {
+    ghost use Rattle.abnfexplain.specs.AbnfPlaces.{brackets_of, place_allows, IsAt};
+
+    pub(crate) fn start(alloc: Global) -> Place
+        ensures { IsAt result Stand.Start [] }
+    {
+        Place {
+            stand: Stand::Start,
+            brackets: Vec::new(alloc),
+        }
+    }
+
+    /// Returns whether such a token can stand here.
+    pub(crate) fn allows(&self, form: Form) -> bool
+        ensures { result ≡ place_allows self.now form }
+    {
+        allows_form(self.stand, self.brackets.last().copied(), form)
+    }
+
+    /// Goes on behind such a token, which can stand here.
+    ///
+    /// # Errors
+    /// `Memory` where a growth was refused.
+    pub(crate) fn advance(&mut self, form: Form) -> Result<(), Memory>
+        ensures { OnOk result (IsAt self.new (behind form) (brackets_behind form.kind (brackets_of self.old))) }
+    {
+        match form.kind {
+            AbnfKind::LParen => self.brackets.push(Bracket::Paren)?,
+            AbnfKind::LBrack => self.brackets.push(Bracket::Brack)?,
+            AbnfKind::RParen | AbnfKind::RBrack => {
+                self.brackets.pop();
+            }
+            _ => {}
+        }
+        self.stand = stand_behind(form);
+        Ok(())
+    }
+}
