@@ -3,6 +3,7 @@ ghost use Rattle.std.specs.Prelude.{◌≡◌, ◌↔◌, ◌<◌, ◌≤◌, �
 ghost use Rattle.gramcheck.specs.Decides.{mark_in, tail_in};
 ghost use Rattle.gramcheck.specs.Nodes.{shapes_of};
 ghost use Rattle.gramcheck.specs.RunTables.{IsTable, turn_pairs, OthersTake, IsStop, IsRun, IsRunTo};
+ghost use Rattle.gramcheck.specs.declared.by_byte.Decided.{Decided};
 
 use crate::by_byte::{Decided, MarkedNodes, Verdict, decide};
 use memchr::memchr;
@@ -150,12 +151,12 @@ impl RunTable {
         Ok(RunTable { entries, stop })
     }
 
-    /// Tells whether the node takes some byte.
-    pub(crate) fn takes_some(&self) -> bool
-        ensures { (result ≡ true) ↔ ((b : ℕ) × (0 < turn_pairs (slice_get self.now.entries.items b))) }
+    /// Tells whether some byte decides anything of the node.
+    pub(crate) fn decides_some(&self) -> bool
+        ensures { (result ≡ true) ↔ ((b : ℕ) × (d : Decided) × (slice_get self.now.entries.items b ≡ Some (Some d))) }
     {
         for b in 0..self.entries.len() {
-            if pairs_of(self.entries[b]) > 0 {
+            if self.entries[b].is_some() {
                 return true;
             }
         }

@@ -219,7 +219,7 @@ impl SoundPeg {
     }
 
     /// Returns the table of the operand of the repetition that is the node of that number, if the grammar has one. Only
-    /// an operand that takes some byte for that byte alone has one, and not each does in a grammar of very many.
+    /// an operand of which some byte alone decides anything has one, and not each does in a grammar of very many.
     pub fn run_table(&self, star: usize) -> Option<&RunTable>
         ensures { IfSome result (λ t. (k : ℕ) → slice_get (shapes_of self.now.nodes) star ≡ Some (Star k)
             → IsTable (shapes_of self.now.nodes) self.now.bodies (node_marks self.now.keys) (tail_marks self.now.keys)

@@ -31,7 +31,7 @@ fn table_of(alloc: Global, grammar: &MarkedNodes<'_>, n: usize) -> Result<Option
         return Ok(None);
     };
     let table = RunTable::new(alloc, grammar, *operand)?;
-    if !table.takes_some() {
+    if !table.decides_some() {
         return Ok(None);
     }
     Ok(Some(table))
@@ -61,7 +61,7 @@ fn add_table(
     }
 }
 
-/// Makes the tables of the operands of a grammar's repetitions, of those that take some byte.
+/// Makes the tables of the operands of a grammar's repetitions, of those of which some byte decides anything.
 ///
 /// # Errors
 /// `Memory` if an allocation fails.

@@ -2,7 +2,7 @@
 ghost use Rattle.std.specs.Prelude.{◌≡◌, ◌+◌, ◌<◌, ◌≤◌, ◌^◌, true, false, [], ◌∷◌, slice_get, Some};
 ghost use Rattle.std.specs.Prelude.{IfOk, IfSome, IfNone};
 ghost use Rattle.memo.specs.KeyLog.{spots_of, row_of, run_of, steps_of};
-ghost use Rattle.memo.specs.LogEntries.{found_of, given_of, node_of, pairs_of, IsExtent};
+ghost use Rattle.memo.specs.LogEntries.{taken, missed, node_of, pairs_of, extent_of_member, extent_of_run, IsExtent};
 ghost use Rattle.memo.specs.Parts.{IsIn};
 ghost use Rattle.memo.specs.declared.entry.Entry.{Entry};
 ghost use Rattle.memo.specs.declared.spot.Spot.TheVariants.{Pair, Tail};
@@ -14,59 +14,37 @@ use crate::spot::{Spot, pair_number, tail_number};
 use ruletable::Memory;
 use std::mem::size_of;
 
-/// What was found.
-#[derive(Clone, Copy)]
-pub(crate) enum Outcome {
-    /// A failure.
-    Missed,
-    /// A success, which ended there.
-    Ended(u32),
-}
-
-impl Outcome {
-    /// Returns what was found, in 32 bits.
-    ///
-    /// # Errors
-    /// `Memory` if it does not fit.
-    #[inline(always)]
-    pub(crate) fn of(found: Found) -> Result<Outcome, Memory>
-        ensures { IfOk result (λ o. found_of o ≡ found) }
-    {
-        match found {
-            Found::Failed => Ok(Outcome::Missed),
-            Found::Took(end) => Ok(Outcome::Ended(narrow(end)?)),
-        }
-    }
-
-    /// Returns what was found.
-    #[inline(always)]
-    pub(crate) fn found(self) -> Found
-        ensures { result ≡ found_of self }
-    {
-        match self {
-            Outcome::Missed => Found::Failed,
-            Outcome::Ended(end) => Found::Took(end as usize),
-        }
-    }
-}
-
 /// One entry of the log: a key, or keys of a node at places in a row.
 #[derive(Clone, Copy)]
 pub(crate) enum Entry {
-    /// The tail of a node from a member on, at a place.
+    /// The tail of a node from a member on, at a place, which succeeded and ended there.
     Member {
         node: u32,
         index: u32,
         place: u32,
-        outcome: Outcome,
+        end: u32,
         events: u32,
     },
-    /// A node at the places from `from` to `to`, all with one outcome.
+    /// Likewise, which failed.
+    FailedMember {
+        node: u32,
+        index: u32,
+        place: u32,
+        events: u32,
+    },
+    /// A node at the places from `from` to `to`, which succeeded and ended there.
     Run {
         node: u32,
         from: u32,
         to: u32,
-        outcome: Outcome,
+        end: u32,
+        events: u32,
+    },
+    /// Likewise, which failed.
+    FailedRun {
+        node: u32,
+        from: u32,
+        to: u32,
         events: u32,
     },
     /// A node at the places from `from` on, short of `to`, at each of which it takes one byte.
@@ -78,7 +56,7 @@ pub(crate) enum Entry {
 }
 
 // An entry is to stay small: a long match is slowed by the memory that it writes.
-const _: () = prove!(size_of::<Entry>() <= 28);
+const _: () = prove!(size_of::<Entry>() <= 24);
 
 /// The keys of an entry: their row, their highest place, how many they are, and the number of the first one.
 #[derive(Clone, Copy)]
@@ -101,12 +79,33 @@ impl Entry {
     {
         match spot {
             Spot::Pair { node, place } => Entry::run(node, place, place, given),
-            Spot::Tail { node, index, place } => Ok(Entry::Member {
-                node: narrow(node)?,
-                index: narrow(index)?,
-                place: narrow(place)?,
-                outcome: Outcome::of(given.found)?,
-                events: narrow(given.events)?,
+            Spot::Tail { node, index, place } => Entry::member(node, index, place, given),
+        }
+    }
+
+    // Returns an entry of a tail.
+    #[inline(always)]
+    fn member(node: usize, index: usize, place: usize, given: Given) -> Result<Entry, Memory>
+        ensures pairs { IfOk result (λ e. pairs_of e ≡ record { spot = Tail node index place; given = given } ∷ []) }
+        ensures node { IfOk result (λ e. node_of e ≡ node) }
+    {
+        let node = narrow(node)?;
+        let index = narrow(index)?;
+        let place = narrow(place)?;
+        let events = narrow(given.events)?;
+        match given.found {
+            Found::Took(end) => Ok(Entry::Member {
+                node,
+                index,
+                place,
+                end: narrow(end)?,
+                events,
+            }),
+            Found::Failed => Ok(Entry::FailedMember {
+                node,
+                index,
+                place,
+                events,
             }),
         }
     }
@@ -120,13 +119,25 @@ impl Entry {
         ensures pairs { IfOk result (λ e. pairs_of e ≡ run_of node from to given) }
         ensures node { IfOk result (λ e. node_of e ≡ node) }
     {
-        Ok(Entry::Run {
-            node: narrow(node)?,
-            from: narrow(from)?,
-            to: narrow(to)?,
-            outcome: Outcome::of(given.found)?,
-            events: narrow(given.events)?,
-        })
+        let node = narrow(node)?;
+        let from = narrow(from)?;
+        let to = narrow(to)?;
+        let events = narrow(given.events)?;
+        match given.found {
+            Found::Took(end) => Ok(Entry::Run {
+                node,
+                from,
+                to,
+                end: narrow(end)?,
+                events,
+            }),
+            Found::Failed => Ok(Entry::FailedRun {
+                node,
+                from,
+                to,
+                events,
+            }),
+        }
     }
 
     /// Returns an entry of a node that takes one byte at each place from `from` on, short of `to`.
@@ -156,26 +167,28 @@ impl Entry {
                 node,
                 index,
                 place,
-                outcome: _,
+                end: _,
                 events: _,
-            } => Extent {
-                row: node as usize,
-                highest: place,
-                count: 1,
-                first: tail_number(node, index, place),
-            },
+            } => member_extent(node, index, place),
+            Entry::FailedMember {
+                node,
+                index,
+                place,
+                events: _,
+            } => member_extent(node, index, place),
             Entry::Run {
                 node,
                 from,
                 to,
-                outcome: _,
+                end: _,
                 events: _,
-            } => Extent {
-                row: node as usize,
-                highest: to,
-                count: (to as usize + 1).saturating_sub(from as usize),
-                first: pair_number(node, from),
-            },
+            } => run_extent(node, from, to),
+            Entry::FailedRun {
+                node,
+                from,
+                to,
+                events: _,
+            } => run_extent(node, from, to),
             Entry::Steps { node, from, to } => Extent {
                 row: node as usize,
                 highest: to.saturating_sub(1),
@@ -204,22 +217,27 @@ impl Entry {
         ensures none { IfNone result (IsIn (Pair node place) (spots_of (pairs_of self)) → ⊥) }
     {
         match self {
-            Entry::Member {
-                node: _,
-                index: _,
-                place: _,
-                outcome: _,
-                events: _,
-            } => None,
             Entry::Run {
                 node: own,
                 from,
                 to,
-                outcome,
+                end,
                 events,
             } => {
                 if is_within(node, place, own, from, to as usize + 1) {
-                    Some(given(outcome, events))
+                    Some(took(end, events))
+                } else {
+                    None
+                }
+            }
+            Entry::FailedRun {
+                node: own,
+                from,
+                to,
+                events,
+            } => {
+                if is_within(node, place, own, from, to as usize + 1) {
+                    Some(failed(events))
                 } else {
                     None
                 }
@@ -238,6 +256,19 @@ impl Entry {
                     None
                 }
             }
+            Entry::Member {
+                node: _,
+                index: _,
+                place: _,
+                end: _,
+                events: _,
+            } => None,
+            Entry::FailedMember {
+                node: _,
+                index: _,
+                place: _,
+                events: _,
+            } => None,
         }
     }
 
@@ -251,11 +282,23 @@ impl Entry {
                 node: own,
                 index: member,
                 place: there,
-                outcome,
+                end,
                 events,
             } => {
                 if node == own as usize && index == member as usize && place == there as usize {
-                    Some(given(outcome, events))
+                    Some(took(end, events))
+                } else {
+                    None
+                }
+            }
+            Entry::FailedMember {
+                node: own,
+                index: member,
+                place: there,
+                events,
+            } => {
+                if node == own as usize && index == member as usize && place == there as usize {
+                    Some(failed(events))
                 } else {
                     None
                 }
@@ -264,7 +307,13 @@ impl Entry {
                 node: _,
                 from: _,
                 to: _,
-                outcome: _,
+                end: _,
+                events: _,
+            } => None,
+            Entry::FailedRun {
+                node: _,
+                from: _,
+                to: _,
                 events: _,
             } => None,
             Entry::Steps {
@@ -273,6 +322,32 @@ impl Entry {
                 to: _,
             } => None,
         }
+    }
+}
+
+// Returns the extent of a tail.
+#[inline(always)]
+fn member_extent(node: u32, index: u32, place: u32) -> Extent
+    ensures { result ≡ extent_of_member node index place }
+{
+    Extent {
+        row: node as usize,
+        highest: place,
+        count: 1,
+        first: tail_number(node, index, place),
+    }
+}
+
+// Returns the extent of a node at the places from `from` to `to`.
+#[inline(always)]
+fn run_extent(node: u32, from: u32, to: u32) -> Extent
+    ensures { result ≡ extent_of_run node from to }
+{
+    Extent {
+        row: node as usize,
+        highest: to,
+        count: (to as usize + 1).saturating_sub(from as usize),
+        first: pair_number(node, from),
     }
 }
 
@@ -285,13 +360,24 @@ fn is_within(node: usize, place: usize, own: u32, from: u32, end: usize) -> bool
     node == own as usize && place >= from as usize && place < end
 }
 
-// Returns what was found, with its events.
+// Returns a success that ended there, with its events.
 #[inline(always)]
-fn given(outcome: Outcome, events: u32) -> Given
-    ensures { result ≡ given_of outcome events }
+fn took(end: u32, events: u32) -> Given
+    ensures { result ≡ taken end events }
 {
     Given {
-        found: outcome.found(),
+        found: Found::Took(end as usize),
+        events: events as usize,
+    }
+}
+
+// Returns a failure, with its events.
+#[inline(always)]
+fn failed(events: u32) -> Given
+    ensures { result ≡ missed events }
+{
+    Given {
+        found: Found::Failed,
         events: events as usize,
     }
 }

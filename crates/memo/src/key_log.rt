@@ -45,7 +45,7 @@ pub(crate) struct Mark {
 /// A mark has the number of its unit, and one of an earlier unit counts for nothing. So no mark is reset where a unit
 /// begins.
 ///
-/// An entry takes 28 bytes, and has all places of a run. A key below its row's mark is sought in the row's last entry;
+/// An entry takes 24 bytes, and has all places of a run. A key below its row's mark is sought in the row's last entry;
 /// then in an index, into which the entries come only where a key is sought there.
 #[derive(Drop)]
 pub struct KeyLog {
