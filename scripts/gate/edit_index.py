@@ -36,7 +36,8 @@ EXEMPT = (
     "pegmatch: Plain.replay", "pegmatch: writing.write_event",
     # Another function of the crate has such a body, and its edit shows the same mistake.
     "commands: command.abnfi_command", "mains: mains.abnfi_main", "leastset: needs.are_needs_within",
-    "pegmatch: leaves.match_any", "feed: Feed.front",
+    "pegmatch: leaves.match_any", "feed: Feed.front", "pegnodes: cut.cut_grammar", "pegnodes: star_tables.find_tables",
+    "pegnodes: template.cut_templates",
 )
 
 

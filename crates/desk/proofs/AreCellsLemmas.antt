@@ -2,7 +2,7 @@
 -- Serves: Desk::begin, Desk::step.
 use Rattle.std.proofs.Common.{◌≡◌, inl, inr, ℕ, ◌+◌, ◌*◌, ◌<◌, ◌≤◌, Bool, List, [], ◌∷◌, length, None, refl, arith}
 use Rattle.pegread.specs.Pattern.{Rule}
-use Rattle.gramcheck.specs.Nodes.{Shape}
+use Rattle.pegnodes.specs.Nodes.{Shape}
 use Rattle.gramcheck.specs.Sound.{IsRanked}
 use Rattle.memo.specs.Entries.{Entry, found_at, AreDifferent}
 use Rattle.desk.specs.declared.frame.Frame.{Frame}

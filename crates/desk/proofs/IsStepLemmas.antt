@@ -9,7 +9,7 @@ use Rattle.std.proofs.lemmas.List.{length-map}
 use Rattle.pegread.specs.Pattern.{Rule}
 use Rattle.pegread.specs.PegViews.{rules_of}
 use Rattle.gramcheck.specs.Grammar.{Grammar, IsSoundGrammar}
-use Rattle.gramcheck.specs.Nodes.{Shape, shape_of, shapes_of}
+use Rattle.pegnodes.specs.Nodes.{Shape, shape_of, shapes_of}
 use Rattle.gramcheck.specs.Outcome.{Outcome}
 use Rattle.pegmatch.specs.Answers.{StartGives}
 use Rattle.pegmatch.specs.KeptEvents.{SpellsSome}

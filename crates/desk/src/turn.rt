@@ -2,7 +2,7 @@
 ghost use Rattle.std.specs.Prelude.{◌≡◌, ℕ, ◌<◌, ◌≤◌, length, slice_get, Some, true};
 ghost use Rattle.pegread.specs.PegViews.{rules_of};
 ghost use Rattle.gramcheck.specs.Grammar.{IsSoundGrammar};
-ghost use Rattle.gramcheck.specs.Nodes.{shapes_of};
+ghost use Rattle.pegnodes.specs.Nodes.{shapes_of};
 ghost use Rattle.pegmatch.specs.KeptEvents.{SpellsSome};
 ghost use Rattle.memo.specs.Entries.{found_at};
 ghost use Rattle.desk.specs.State.{HaveTaken, HaveFailed, IsUnderWay, AreCells};
@@ -11,9 +11,10 @@ ghost use Rattle.desk.specs.Turns.{IsLeafTurn, IsWalk, IsSearch, IsTurn};
 
 use crate::cell_map::CellMap;
 use crate::frame::Frame;
-use gramcheck::{Node, SoundPeg};
+use gramcheck::SoundPeg;
 use memo::Found;
 use pegmatch::{Tried, match_any, match_bytes, match_set};
+use pegnodes::Node;
 
 /// What an evaluation does next.
 #[derive(Clone, Copy)]

@@ -4,7 +4,7 @@ use Rattle.std.proofs.Common.{◌≡◌, ℕ, ◌<◌, Bool, List, [], ◌∷◌
 use Rattle.std.specs.Prelude.{slice_range}
 use Rattle.std.specs.Io.KnownBytes.{Appends}
 use Rattle.ruletable.specs.Writing.{AppendsPart}
-use Rattle.gramcheck.specs.Nodes.{Shape}
+use Rattle.pegnodes.specs.Nodes.{Shape}
 use Rattle.gramcheck.specs.Outcome.{Event}
 use Rattle.pegmatch.specs.EventPrinting.{event_text, capture_by}
 use Rattle.pegmatch.specs.Text.{text_of}

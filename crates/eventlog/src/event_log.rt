@@ -1,6 +1,6 @@
 //! The log of the events.
 ghost use Rattle.std.specs.Prelude.{◌≡◌, ℕ, List, [], ◌∷◌, ◌++◌, ◌+◌, length, false, IfOk, OnOk, OnErr};
-ghost use Rattle.gramcheck.specs.Nodes.{shapes_of};
+ghost use Rattle.pegnodes.specs.Nodes.{shapes_of};
 ghost use Rattle.gramcheck.specs.Outcome.{Event};
 ghost use Rattle.gramcheck.specs.Rising.{Rise};
 ghost use Rattle.pegmatch.specs.Answers.{Replays};

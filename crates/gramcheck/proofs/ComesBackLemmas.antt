@@ -5,10 +5,10 @@ use Rattle.std.proofs.Common.{refl, sym, ap, subst, arith, ⊎_elim, inl, inr, �
 use Rattle.std.specs.Prelude.{slice_get}
 use Rattle.std.proofs.lemmas.List.{length-map, length-replicate}
 use Rattle.std.proofs.lemmas.Option.{slice_get_within}
-use Rattle.gramcheck.specs.Bodies.{IsBuilt, IsOperand}
+use Rattle.pegnodes.specs.Bodies.{IsBuilt, IsOperand}
 use Rattle.leastset.specs.NumberMarks.{IsMarked, AreBelow}
-use Rattle.gramcheck.specs.Nodes as node
-use Rattle.gramcheck.specs.Nodes.{Shape}
+use Rattle.pegnodes.specs.Nodes as node
+use Rattle.pegnodes.specs.Nodes.{Shape}
 use Rattle.gramcheck.specs.NodeRows.{front, steps_of, step_rows, AreNameSteps, ComesBack, AreComingBack, MarksNames}
 use Rattle.leastset.specs.Leads.{Leads, one, more, AreCycleMarks}
 use Rattle.leastset.specs.StepRows.{Step, AreStepsWithin}
@@ -16,7 +16,7 @@ use Rattle.leastset.proofs.IsMarkedLemmas.{none_set}
 use Rattle.leastset.proofs.LeadsLemmas.{leads_joined}
 use Rattle.leastset.proofs.TurnsLemmas.{row_within}
 use Rattle.leastset.proofs.ContainsLemmas.{none_of, only_one, in_first, in_later, cons_cases, in_get}
-use Rattle.gramcheck.proofs.BodyOfLemmas.{name_body}
+use Rattle.pegnodes.proofs.BodyOfLemmas.{name_body}
 use Rattle.gramcheck.proofs.LeftStepLemmas.{step_at, step_from, step_node}
 
 further_within : (nulls : List Bool) (m : ℕ) (ns : List ℕ) (v : Bool) → (Contains (front nulls ns) m → Contains ns m) →

@@ -6,10 +6,10 @@ use Rattle.std.proofs.lemmas.List.{get_or-map, length-map}
 use Rattle.std.proofs.lemmas.Option.{slice_get_within, slice_get-get_or, get_or_from_slice_get}
 use Rattle.pegread.specs.Pattern.{Rule}
 use Rattle.gramcheck.specs.Analysis.{IsAnalysed}
-use Rattle.gramcheck.specs.Bodies.{AreBodies}
+use Rattle.pegnodes.specs.Bodies.{AreBodies}
 use Rattle.gramcheck.specs.Loops.{LoopsTo, AreLoopMarks}
-use Rattle.gramcheck.specs.Nodes as node
-use Rattle.gramcheck.specs.Nodes.{Shape}
+use Rattle.pegnodes.specs.Nodes as node
+use Rattle.pegnodes.specs.Nodes.{Shape}
 use Rattle.gramcheck.specs.Nulls.{AreNullMarks}
 use Rattle.gramcheck.specs.NodeRows.{IsLeft}
 use Rattle.gramcheck.proofs.LoopMarksLemmas.{loop_marks}

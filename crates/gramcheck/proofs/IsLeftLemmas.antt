@@ -6,12 +6,12 @@ use Rattle.std.specs.Prelude.{slice_get, bytes_eq, option_map}
 use Rattle.std.proofs.lemmas.Option.{slice_get_within, slice_get-get_or, slice_get-map, get_or_from_slice_get}
 use Rattle.std.proofs.lemmas.Slice.Eq.{bytes_eq-Decides}
 use Rattle.pegread.specs.Pattern.{Pattern, Rule}
-use Rattle.gramcheck.specs.Bodies.{AreBodies, IsBuilt}
+use Rattle.pegnodes.specs.Bodies.{AreBodies, IsBuilt}
 use Rattle.leastset.specs.Leads.{AreCycleMarks, AreRanksBut}
 use Rattle.gramcheck.specs.Left.{LeftChain, IsLeftRecursive}
-use Rattle.gramcheck.specs.Nodes.{Shape, id_of, Spells, spells_any, spells_bytes, spells_set, spells_name, spells_seq}
-use Rattle.gramcheck.specs.Nodes.{spells_choice, spells_star, spells_plus, spells_opt, spells_and, spells_not}
-use Rattle.gramcheck.specs.Nodes.{spells_act, spells_open, spells_close}
+use Rattle.pegnodes.specs.Nodes.{Shape, id_of, Spells, spells_any, spells_bytes, spells_set, spells_name, spells_seq}
+use Rattle.pegnodes.specs.Nodes.{spells_choice, spells_star, spells_plus, spells_opt, spells_and, spells_not}
+use Rattle.pegnodes.specs.Nodes.{spells_act, spells_open, spells_close}
 use Rattle.gramcheck.specs.Nulls.{AreNullMarks}
 use Rattle.gramcheck.specs.NodeRows.{step_rows, ComesBack, AreComingBack, IsLeft, front, steps_of}
 use Rattle.gramcheck.proofs.LeftStepLemmas.{chain_leads, leads_chain, step_at}
@@ -22,7 +22,7 @@ use Rattle.leastset.specs.StepRows.{Step}
 use Rattle.leastset.proofs.ContainsLemmas.{in_first, in_later}
 use Rattle.gramcheck.specs.Ranks.{FrontNode, front_first, front_later, NodeStep, AreRanks}
 use Rattle.pegread.specs.Pattern as e
-use Rattle.gramcheck.specs.Nodes as node
+use Rattle.pegnodes.specs.Nodes as node
 use Rattle.gramcheck.specs.Ranks as r
 
 -- where no node comes back to itself, ranks that steps lower are ranks of the nodes

@@ -19,7 +19,7 @@ use Rattle.pegread.specs.PegViews.{rule_of, rules_of}
 use Rattle.std.specs.Option.{option_map}
 use Rattle.pegread.specs.declared.expr.Expr.{Expr}
 use Rattle.gramcheck.specs.Analysis.{IsAnalysed}
-use Rattle.gramcheck.specs.Bodies.{AreBodies, IsBuilt}
+use Rattle.pegnodes.specs.Bodies.{AreBodies, IsBuilt}
 use Rattle.gramcheck.specs.Checked.{is_refused, IsStart}
 use Rattle.gramcheck.specs.Defined.{IsGiven}
 use Rattle.gramcheck.specs.Left.{IsLeftRecursive, Loops, Nullable, no_bytes, an_act, an_open, a_close, an_and, a_not}
@@ -28,27 +28,27 @@ use Rattle.gramcheck.specs.Left.{SomeNullable, some_first, some_later, RepeatsNu
 use Rattle.gramcheck.specs.Left.{in_plus, in_opt, in_and, in_not, in_seq, in_choice, SomeRepeats, repeats_first}
 use Rattle.gramcheck.specs.Left.{repeats_later}
 use Rattle.leastset.specs.NumberMarks.{IsMarked}
-use Rattle.gramcheck.specs.NodeCounts.{node_counts}
-use Rattle.gramcheck.specs.Nodes.{Shape, id_of, Spells, spells_any, spells_bytes, spells_set, spells_name, spells_seq}
-use Rattle.gramcheck.specs.Nodes.{spells_choice, spells_star, spells_plus, spells_opt, spells_and, spells_not}
-use Rattle.gramcheck.specs.Nodes.{spells_act, spells_open, spells_close, SpellAll, spell_none, spell_more}
+use Rattle.pegnodes.specs.NodeCounts.{node_counts}
+use Rattle.pegnodes.specs.Nodes.{Shape, id_of, Spells, spells_any, spells_bytes, spells_set, spells_name, spells_seq}
+use Rattle.pegnodes.specs.Nodes.{spells_choice, spells_star, spells_plus, spells_opt, spells_and, spells_not}
+use Rattle.pegnodes.specs.Nodes.{spells_act, spells_open, spells_close, SpellAll, spell_none, spell_more}
 use Rattle.gramcheck.specs.GrammarNotes.{Those, no_more, not_this, AreNotes, AreMarks, said_refuses}
-use Rattle.gramcheck.specs.Numbering.{AreStanding}
+use Rattle.pegnodes.specs.Numbering.{AreStanding}
 use Rattle.gramcheck.specs.Sound.{IsRanked}
 use Rattle.gramcheck.specs.Uses.{names_in, names_in_all, names_used, rule_names}
-use Rattle.gramcheck.specs.Within.{Within, WithinSome, StandsIn, itself, of_seq, of_choice, of_star, of_plus, of_opt}
-use Rattle.gramcheck.specs.Within.{of_and, of_not, of_first, of_later}
-use Rattle.gramcheck.proofs.OwnIdLemmas.{id_found, own_id, body_at_id}
+use Rattle.pegnodes.specs.Within.{Within, WithinSome, StandsIn, itself, of_seq, of_choice, of_star, of_plus, of_opt}
+use Rattle.pegnodes.specs.Within.{of_and, of_not, of_first, of_later}
+use Rattle.pegnodes.proofs.OwnIdLemmas.{id_found, own_id, body_at_id}
 use Rattle.leastset.proofs.IsMarkedLemmas.{marked_lt}
 use Rattle.gramcheck.proofs.RuleNameLemmas.{same-name, own-name, names-same}
 use Rattle.gramcheck.proofs.AreNotesLemmas.{among-contains}
 use Rattle.gramcheck.specs.Ranks.{AreRanks, RepeatsNoNull}
-use Rattle.gramcheck.proofs.HasShapeLemmas.{has_shape}
-use Rattle.gramcheck.proofs.PushCasesLemmas.{mapped_from}
+use Rattle.pegnodes.proofs.HasShapeLemmas.{has_shape}
+use Rattle.pegnodes.proofs.PushCasesLemmas.{mapped_from}
 use Rattle.ruletable.specs.Rules as table
 use Rattle.pegread.specs.Pattern as expr
 use Rattle.pegread.specs.declared.expr.Expr.TheVariants as exprs
-use Rattle.gramcheck.specs.Nodes as node
+use Rattle.pegnodes.specs.Nodes as node
 
 -- where no rule's body repeats a nullable expression, no node repeats a nullable one
 -- what repeats a nullable expression within an expression repeats it in the whole

@@ -7,21 +7,21 @@ use Rattle.std.proofs.lemmas.List.{length-map}
 use Rattle.std.proofs.lemmas.Option.{get_or_from_slice_get, slice_get-get_or}
 use Rattle.pegread.specs.Pattern as e
 use Rattle.pegread.specs.Pattern.{Pattern, Patterns, Rule, body_of}
-use Rattle.gramcheck.specs.Bodies.{AreBodies}
+use Rattle.pegnodes.specs.Bodies.{AreBodies}
 use Rattle.gramcheck.specs.Left.{Among, among_first, among_later, Front, front_first, front_later, LeftStep, to_body}
 use Rattle.gramcheck.specs.Left.{to_alternative, to_member, to_starred, to_repeated, to_optional, to_asserted}
 use Rattle.gramcheck.specs.Left.{to_denied, LeftChain, one_step, more_steps}
-use Rattle.gramcheck.specs.Nodes as node
-use Rattle.gramcheck.specs.Nodes.{Shape, id_of, Spells, spells_any, spells_bytes, spells_set, spells_name, spells_seq}
-use Rattle.gramcheck.specs.Nodes.{spells_choice, spells_star, spells_plus, spells_opt, spells_and, spells_not}
-use Rattle.gramcheck.specs.Nodes.{spells_act, spells_open, spells_close, SpellAll, spell_none, spell_more}
+use Rattle.pegnodes.specs.Nodes as node
+use Rattle.pegnodes.specs.Nodes.{Shape, id_of, Spells, spells_any, spells_bytes, spells_set, spells_name, spells_seq}
+use Rattle.pegnodes.specs.Nodes.{spells_choice, spells_star, spells_plus, spells_opt, spells_and, spells_not}
+use Rattle.pegnodes.specs.Nodes.{spells_act, spells_open, spells_close, SpellAll, spell_none, spell_more}
 use Rattle.gramcheck.specs.Nulls.{AreNullMarks}
 use Rattle.gramcheck.specs.NodeRows.{front, steps_of, step_rows}
 use Rattle.leastset.specs.Leads.{Leads, one, more}
 use Rattle.leastset.specs.StepRows.{row_at, Step}
 use Rattle.leastset.proofs.TurnsLemmas.{row_within}
 use Rattle.leastset.proofs.ContainsLemmas.{none_of, only_one, in_first, in_later, cons_cases}
-use Rattle.gramcheck.proofs.BodyOfLemmas.{said_here, name_body, body_node, node_body}
+use Rattle.pegnodes.proofs.BodyOfLemmas.{said_here, name_body, body_node, node_body}
 
 module _ (bodies : List ℕ) (nulls : List Bool) (nodes : List Shape) where
   row_here : (n : ℕ) (a : Shape) → slice_get nodes n ≡ Some a →

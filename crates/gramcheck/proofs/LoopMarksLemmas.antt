@@ -7,15 +7,15 @@ use Rattle.std.proofs.lemmas.Bool.{cases_lt}
 use Rattle.std.proofs.lemmas.List.{get_or_at, get_or_append_left}
 use Rattle.std.proofs.lemmas.Option.{slice_get_within}
 use Rattle.pegread.specs.Pattern.{Pattern, Patterns, Rule}
-use Rattle.gramcheck.specs.Bodies.{IsBuilt, IsOperand}
+use Rattle.pegnodes.specs.Bodies.{IsBuilt, IsOperand}
 use Rattle.gramcheck.specs.Left.{RepeatsNullable, loop_star, loop_plus, in_star, in_plus, in_opt, in_and, in_not}
 use Rattle.gramcheck.specs.Left.{in_seq, in_choice, SomeRepeats, repeats_first, repeats_later}
 use Rattle.gramcheck.specs.Loops.{LoopsNow, LoopsTo, AreLoopMarks}
 use Rattle.leastset.specs.NumberMarks.{IsMarked}
-use Rattle.gramcheck.specs.Nodes as node
-use Rattle.gramcheck.specs.Nodes.{Shape, Spells, spells_any, spells_bytes, spells_set, spells_name, spells_seq}
-use Rattle.gramcheck.specs.Nodes.{spells_choice, spells_star, spells_plus, spells_opt, spells_and, spells_not}
-use Rattle.gramcheck.specs.Nodes.{spells_act, spells_open, spells_close, SpellAll, spell_none, spell_more}
+use Rattle.pegnodes.specs.Nodes as node
+use Rattle.pegnodes.specs.Nodes.{Shape, Spells, spells_any, spells_bytes, spells_set, spells_name, spells_seq}
+use Rattle.pegnodes.specs.Nodes.{spells_choice, spells_star, spells_plus, spells_opt, spells_and, spells_not}
+use Rattle.pegnodes.specs.Nodes.{spells_act, spells_open, spells_close, SpellAll, spell_none, spell_more}
 use Rattle.gramcheck.specs.Nulls.{AreNullMarks}
 use Rattle.leastset.proofs.ContainsLemmas.{none_of, in_first, in_later, cons_cases}
 

@@ -6,9 +6,9 @@ use Rattle.std.specs.Prelude.{slice_index, Contains, slice_get}
 use Rattle.std.proofs.lemmas.Option.{slice_get-get_or, slice_get_within}
 use Rattle.pegread.specs.Pattern.{Pattern, Patterns, Rule, body_of}
 use Rattle.gramcheck.specs.Left.{Nullable}
-use Rattle.gramcheck.specs.Nodes.{Shape, Spells, spells_any, spells_bytes, spells_set, spells_name, spells_seq}
-use Rattle.gramcheck.specs.Nodes.{spells_choice, spells_star, spells_plus, spells_opt, spells_and, spells_not}
-use Rattle.gramcheck.specs.Nodes.{spells_act, spells_open, spells_close, SpellAll, spell_none, spell_more}
+use Rattle.pegnodes.specs.Nodes.{Shape, Spells, spells_any, spells_bytes, spells_set, spells_name, spells_seq}
+use Rattle.pegnodes.specs.Nodes.{spells_choice, spells_star, spells_plus, spells_opt, spells_and, spells_not}
+use Rattle.pegnodes.specs.Nodes.{spells_act, spells_open, spells_close, SpellAll, spell_none, spell_more}
 use Rattle.gramcheck.specs.Outcome.{Outcome, Fails, Takes, Gives, RuleGives, act, open_at, close_at, name, seq, choice}
 use Rattle.gramcheck.specs.Outcome.{GivesAll, all_done, GivesFirst, all_failed, Event, begins_with, compared, looked_at}
 use Rattle.gramcheck.specs.Outcome.{any_takes, any_at_end, set_takes, set_fails, set_at_end, bytes_take, bytes_fail}
@@ -18,12 +18,12 @@ use Rattle.gramcheck.specs.Outcome.{first_fails}
 use Rattle.gramcheck.specs.Ranks.{NodeStep, to_alternative, to_member, to_starred, to_repeated, to_optional}
 use Rattle.gramcheck.specs.Ranks.{to_asserted, to_denied, FrontNode, front_first, front_later}
 use Rattle.gramcheck.specs.Sound.{IsRanked, GivesOne, StartGivesOne}
-use Rattle.gramcheck.specs.Within.{Within, itself, StandsIn}
+use Rattle.pegnodes.specs.Within.{Within, itself, StandsIn}
 use Rattle.std.proofs.lemmas.List.{length-map}
 use Rattle.gramcheck.proofs.OneOutcomeLemmas.{gives_same}
 use Rattle.gramcheck.proofs.StartRuleLemmas.{same_of_start}
 use Rattle.leastset.proofs.ContainsLemmas.{in_first, in_later}
-use Rattle.gramcheck.proofs.NodeSpellsLemmas.{is_there, part_spelled}
+use Rattle.pegnodes.proofs.NodeSpellsLemmas.{is_there, part_spelled}
 use Rattle.gramcheck.proofs.StepsToBodyLemmas.{rank_bound, rank_lower, steps_to_body}
 use Rattle.gramcheck.proofs.NullIfLemmas.{takes_forward, null_of}
 use Rattle.std.proofs.Math.Nat.{mul-le-mul_right}

@@ -4,14 +4,14 @@ use Rattle.std.proofs.Common.{◌≡◌, ℕ, ◌<◌, ◌≤◌, List, length, 
 use Rattle.std.specs.Prelude.{slice_get, slice_index, Contains}
 use Rattle.std.proofs.lemmas.Option.{slice_get-get_or, slice_get_within}
 use Rattle.pegread.specs.Pattern.{Pattern, Rule, body_of}
-use Rattle.gramcheck.specs.Nodes as node
-use Rattle.gramcheck.specs.Nodes.{Shape, id_of, Spells}
+use Rattle.pegnodes.specs.Nodes as node
+use Rattle.pegnodes.specs.Nodes.{Shape, id_of, Spells}
 use Rattle.gramcheck.specs.Ranks.{NodeStep, to_body, to_alternative, to_member, to_starred, to_repeated, to_optional}
 use Rattle.gramcheck.specs.Ranks.{to_asserted, to_denied, FrontNode, front_first, front_later}
 use Rattle.gramcheck.specs.Sound.{IsRanked}
-use Rattle.gramcheck.proofs.OwnIdLemmas.{body_there}
+use Rattle.pegnodes.proofs.OwnIdLemmas.{body_there}
 use Rattle.leastset.proofs.ContainsLemmas.{in_first, in_later}
-use Rattle.gramcheck.proofs.NodeSpellsLemmas.{is_there}
+use Rattle.pegnodes.proofs.NodeSpellsLemmas.{is_there}
 
 module _ (rules : List Rule) (nodes : List Shape) (bodies : List ℕ) where
   steps_from : {n m : ℕ} → NodeStep rules nodes bodies n m → n < length nodes

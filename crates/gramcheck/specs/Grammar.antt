@@ -3,10 +3,10 @@ use Rattle.std.specs.Prelude.{ℕ, List}
 use Rattle.ruletable.specs.Rules as table
 use Rattle.pegread.specs.declared.expr.Expr.{Expr}
 use Rattle.pegread.specs.PegViews.{rules_of}
-use Rattle.gramcheck.specs.KeyLists.{Marks, node_marks, tail_marks}
-use Rattle.gramcheck.specs.KeyMarks.{AreMarks}
-use Rattle.gramcheck.specs.declared.node.Node.{Node}
-use Rattle.gramcheck.specs.Nodes.{shapes_of}
+use Rattle.pegnodes.specs.KeyLists.{Marks, node_marks, tail_marks}
+use Rattle.pegnodes.specs.KeyMarks.{AreMarks}
+use Rattle.pegnodes.specs.declared.node.Node.{Node}
+use Rattle.pegnodes.specs.Nodes.{shapes_of}
 use Rattle.gramcheck.specs.Sound.{IsRanked}
 
 -- the rules, the id of the start rule, the numbered nodes, of each rule the node that spells its body, of each node its

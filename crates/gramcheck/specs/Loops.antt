@@ -3,8 +3,8 @@ use Rattle.std.specs.Prelude.{◌≡◌, ◌⊎◌, ℕ, ◌<◌, Bool, List, le
 use Rattle.pegread.specs.Pattern.{Pattern, Rule}
 use Rattle.gramcheck.specs.Left.{RepeatsNullable}
 use Rattle.leastset.specs.NumberMarks.{IsMarked}
-use Rattle.gramcheck.specs.Nodes.{Shape, Any, Bytes, Set, Name, Seq, Choice, Star, Plus, Opt, And, Not, Act, Open}
-use Rattle.gramcheck.specs.Nodes.{Close, Spells}
+use Rattle.pegnodes.specs.Nodes.{Shape, Any, Bytes, Set, Name, Seq, Choice, Star, Plus, Opt, And, Not, Act, Open}
+use Rattle.pegnodes.specs.Nodes.{Close, Spells}
 
 -- what the marks of a node's operands say of it
 abbrev pub LoopsNow : List Bool → List Bool → Shape → Type 0

@@ -6,8 +6,8 @@ use Rattle.leastset.specs.Leads.{Leads}
 use Rattle.leastset.specs.NumberMarks.{IsMarked}
 use Rattle.leastset.specs.StepRows.{Step}
 use Rattle.gramcheck.specs.Left.{IsLeftRecursive}
-use Rattle.gramcheck.specs.Nodes.{Shape, Any, Bytes, Set, Name, Seq, Choice, Star, Plus, Opt, And, Not, Act, Open}
-use Rattle.gramcheck.specs.Nodes.{Close, id_of}
+use Rattle.pegnodes.specs.Nodes.{Shape, Any, Bytes, Set, Name, Seq, Choice, Star, Plus, Opt, And, Not, Act, Open}
+use Rattle.pegnodes.specs.Nodes.{Close, id_of}
 use Rattle.gramcheck.specs.Ranks.{AreRanks}
 
 -- the first members, as far as the first that isn't marked nullable

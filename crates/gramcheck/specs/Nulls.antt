@@ -5,8 +5,8 @@ use Rattle.leastset.specs.Demands as d
 use Rattle.leastset.specs.Demands.{Demand}
 use Rattle.gramcheck.specs.Left.{Nullable}
 use Rattle.leastset.specs.NumberMarks.{IsMarked}
-use Rattle.gramcheck.specs.Nodes.{Shape, Any, Bytes, Set, Name, Seq, Choice, Star, Plus, Opt, And, Not, Act, Open}
-use Rattle.gramcheck.specs.Nodes.{Close, Spells}
+use Rattle.pegnodes.specs.Nodes.{Shape, Any, Bytes, Set, Name, Seq, Choice, Star, Plus, Opt, And, Not, Act, Open}
+use Rattle.pegnodes.specs.Nodes.{Close, Spells}
 
 -- the nodes of which all or one must be nullable before a node is: all of none where it is at once, one of none where
 -- it never is

@@ -5,8 +5,8 @@ use Rattle.pegread.specs.Pattern.{body_of}
 use Rattle.leastset.specs.Demands as d
 use Rattle.leastset.specs.Demands.{Demand}
 use Rattle.leastset.specs.NumberMarks.{IsMarked}
-use Rattle.gramcheck.specs.Nodes as node
-use Rattle.gramcheck.specs.Nodes.{Shape, Spells}
+use Rattle.pegnodes.specs.Nodes as node
+use Rattle.pegnodes.specs.Nodes.{Shape, Spells}
 
 module _ (rules : List Rule) where
   mutual

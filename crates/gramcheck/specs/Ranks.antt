@@ -2,7 +2,7 @@
 use Rattle.std.specs.Prelude.{◌≡◌, ℕ, ◌<◌, ◌≤◌, List, ◌∷◌, length, slice_get, Some, Contains}
 use Rattle.pegread.specs.Pattern.{Pattern, Rule}
 use Rattle.gramcheck.specs.Left.{Nullable}
-use Rattle.gramcheck.specs.Nodes.{Shape, Name, Seq, Choice, Star, Plus, Opt, And, Not, Spells}
+use Rattle.pegnodes.specs.Nodes.{Shape, Name, Seq, Choice, Star, Plus, Opt, And, Not, Spells}
 
 module _ (rules : List Rule) (nodes : List Shape) (bodies : List ℕ) where
   -- the node spells a nullable expression

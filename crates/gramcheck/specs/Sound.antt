@@ -1,9 +1,9 @@
 -- Grammars whose ranks show that every expression has an outcome.
 use Rattle.std.specs.Prelude.{◌≡◌, ℕ, ◌<◌, List, length, slice_get, Some}
 use Rattle.pegread.specs.Pattern.{Pattern, Rule}
-use Rattle.gramcheck.specs.Bodies.{AreBodies, IsBuilt}
-use Rattle.gramcheck.specs.NodeCounts.{node_counts}
-use Rattle.gramcheck.specs.Nodes.{Shape, Name}
+use Rattle.pegnodes.specs.Bodies.{AreBodies, IsBuilt}
+use Rattle.pegnodes.specs.NodeCounts.{node_counts}
+use Rattle.pegnodes.specs.Nodes.{Shape, Name}
 use Rattle.gramcheck.specs.Outcome.{Outcome, Gives, RuleGives}
 use Rattle.gramcheck.specs.Ranks.{AreRanks, RepeatsNoNull}
 

@@ -2,14 +2,14 @@
 ghost use Rattle.std.specs.Prelude.{◌≡◌, List, length, IfOk};
 ghost use Rattle.pegread.specs.Pattern.{Rule};
 ghost use Rattle.gramcheck.specs.Analysis.{IsAnalysed};
-ghost use Rattle.gramcheck.specs.Bodies.{AreBodies, IsBuilt};
+ghost use Rattle.pegnodes.specs.Bodies.{AreBodies, IsBuilt};
 ghost use Rattle.leastset.specs.NumberMarks.{AreBelow};
-ghost use Rattle.gramcheck.specs.Nodes.{shapes_of};
+ghost use Rattle.pegnodes.specs.Nodes.{shapes_of};
 
 use crate::left::find_left;
 use crate::loops::{body_marks, loops};
-use crate::node::Node;
 use crate::nullable::nullable;
+use pegnodes::Node;
 use ruletable::Memory;
 use std::alloc::Global;
 

@@ -6,7 +6,7 @@ ghost use Rattle.gramcheck.specs.Grammar.{Grammar, IsSoundGrammar};
 ghost use Rattle.gramcheck.specs.Outcome.{Event, Outcome, Gives, RuleGives};
 ghost use Rattle.gramcheck.specs.Printing.{Prints};
 ghost use Rattle.gramcheck.specs.Rising.{Rise};
-ghost use Rattle.gramcheck.specs.Within.{StandsIn};
+ghost use Rattle.pegnodes.specs.Within.{StandsIn};
 
 /// An expression gives at most one outcome at a place, and looks equally far each time.
 pub fn one_outcome()

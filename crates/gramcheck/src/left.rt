@@ -3,14 +3,13 @@ ghost use Rattle.std.specs.Prelude.{◌≡◌, ◌⊎◌, ℕ, ◌<◌, Bool, Li
 ghost use Rattle.pegread.specs.Pattern.{Rule};
 ghost use Rattle.leastset.specs.NumberMarks.{IsMarked, AreBelow};
 ghost use Rattle.leastset.specs.StepRows.{slices_of};
-ghost use Rattle.gramcheck.specs.Bodies.{AreBodies, IsBuilt, IsOperand};
+ghost use Rattle.pegnodes.specs.Bodies.{AreBodies, IsBuilt, IsOperand};
 ghost use Rattle.gramcheck.specs.NodeRows.{front, steps_of, step_rows, MarksNames, IsLeft};
-ghost use Rattle.gramcheck.specs.Nodes.{Name, shape_of, shapes_of};
+ghost use Rattle.pegnodes.specs.Nodes.{Name, shape_of, shapes_of};
 ghost use Rattle.gramcheck.specs.Nulls.{AreNullMarks};
 
-use crate::node::Node;
-use crate::nullable::body_of;
 use leastset::on_cycle;
+use pegnodes::{Node, body_of};
 use ruletable::Memory;
 use std::alloc::Global;
 use std::slice::from_ref;

@@ -1,12 +1,12 @@
 //! Nodes and rules that repeat a nullable expression.
 ghost use Rattle.std.specs.Prelude.{◌≡◌, ◌↔◌, ℕ, ◌<◌, Bool, length, map, slice_index_or, IfOk};
-ghost use Rattle.gramcheck.specs.Bodies.{IsBuilt, IsOperand};
+ghost use Rattle.pegnodes.specs.Bodies.{IsBuilt, IsOperand};
 ghost use Rattle.gramcheck.specs.Loops.{LoopsNow, LoopsTo};
 ghost use Rattle.leastset.specs.NumberMarks.{AreBelow};
-ghost use Rattle.gramcheck.specs.Nodes.{shape_of, shapes_of};
+ghost use Rattle.pegnodes.specs.Nodes.{shape_of, shapes_of};
 
-use crate::node::Node;
 use leastset::some_marked;
+use pegnodes::Node;
 use ruletable::Memory;
 use std::alloc::Global;
 

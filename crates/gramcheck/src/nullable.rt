@@ -1,27 +1,17 @@
 //! Nullable nodes.
-ghost use Rattle.std.specs.Prelude.{◌≡◌, List, length, slice_get, option_to_list, IfOk};
+ghost use Rattle.std.specs.Prelude.{◌≡◌, List, length, IfOk};
 ghost use Rattle.pegread.specs.Pattern.{Rule};
-ghost use Rattle.gramcheck.specs.Bodies.{AreBodies, IsBuilt};
+ghost use Rattle.pegnodes.specs.Bodies.{AreBodies, IsBuilt};
 ghost use Rattle.leastset.specs.Demands.{demand_of, demands_of};
 ghost use Rattle.leastset.specs.NumberMarks.{AreBelow};
-ghost use Rattle.gramcheck.specs.Nodes.{shape_of, shapes_of};
+ghost use Rattle.pegnodes.specs.Nodes.{shape_of, shapes_of};
 ghost use Rattle.gramcheck.specs.Nulls.{null_demand, null_demands, AreNullMarks};
 
-use crate::node::Node;
 use leastset::{Need, least};
+use pegnodes::{Node, body_of};
 use ruletable::Memory;
 use std::alloc::Global;
 use std::slice::from_ref;
-
-/// Returns the node of the body of the rule `id`, if there is such a rule.
-pub(crate) fn body_of(bodies: &[usize], id: usize) -> &[usize]
-    ensures { result.now ≡ option_to_list (slice_get bodies.now id) }
-{
-    match bodies.get(id) {
-        Some(body) => from_ref(body),
-        None => &[],
-    }
-}
 
 // Returns what a node needs before it is nullable.
 fn need<'a>(node: &'a Node, bodies: &'a [usize]) -> Need<'a>

@@ -1,11 +1,11 @@
 //! Laws of grammars whose ranks fall with every left step: in them every expression has one outcome at every place.
 ghost use Rattle.std.specs.Prelude.{◌≡◌, ℕ, ◌<◌, ◌≤◌, List, length, slice_index};
 ghost use Rattle.pegread.specs.Pattern.{Pattern, Rule};
-ghost use Rattle.gramcheck.specs.Nodes.{Shape, Spells};
+ghost use Rattle.pegnodes.specs.Nodes.{Shape, Spells};
 ghost use Rattle.gramcheck.specs.Outcome.{Outcome, Gives};
 ghost use Rattle.gramcheck.specs.Ranks.{NodeStep};
 ghost use Rattle.gramcheck.specs.Sound.{IsRanked, GivesOne, StartGivesOne};
-ghost use Rattle.gramcheck.specs.Within.{StandsIn};
+ghost use Rattle.pegnodes.specs.Within.{StandsIn};
 
 /// A left step leads to a node, and lowers the rank.
 pub fn ranks_fall()

@@ -3,22 +3,17 @@ ghost use Rattle.std.specs.Prelude.{◌≡◌, ◌↔◌, ◌<◌, ℕ, IfSome, 
 ghost use Rattle.pegread.specs.Pattern.{Pattern};
 ghost use Rattle.pegread.specs.PegViews.{rules_of};
 ghost use Rattle.gramcheck.specs.Grammar.{HasKeys, IsSoundGrammar};
-ghost use Rattle.gramcheck.specs.KeyLists.{marks_of, node_marks, tail_marks};
-ghost use Rattle.gramcheck.specs.KeyMarks.{AreMarks};
-ghost use Rattle.gramcheck.specs.NodeCounts.{node_counts};
-ghost use Rattle.gramcheck.specs.Nodes.{Act, Star, shapes_of, Spells};
+ghost use Rattle.pegnodes.specs.KeyLists.{marks_of, node_marks, tail_marks};
+ghost use Rattle.pegnodes.specs.KeyMarks.{AreMarks};
+ghost use Rattle.pegnodes.specs.NodeCounts.{node_counts};
+ghost use Rattle.pegnodes.specs.Nodes.{Act, Star, shapes_of, Spells};
 ghost use Rattle.gramcheck.specs.Printing.{ArePrintMarks, Prints};
-ghost use Rattle.gramcheck.specs.RunTables.{IsTable};
-ghost use Rattle.gramcheck.specs.Slots.{AreCuts, IsCut};
+ghost use Rattle.pegnodes.specs.RunTables.{IsTable};
+ghost use Rattle.pegnodes.specs.Slots.{AreCuts, IsCut};
 ghost use Rattle.gramcheck.specs.Sound.{IsRanked};
-ghost use Rattle.gramcheck.specs.StarTables.{AreStarTables};
+ghost use Rattle.pegnodes.specs.StarTables.{AreStarTables};
 
-use crate::cut::Cut;
-use crate::keys::{Keys, is_key_from, mark_or};
-use crate::node::Node;
-use crate::run_table::RunTable;
-use crate::star_tables::StarTables;
-use crate::template::{Template, Templates};
+use pegnodes::{Cut, Keys, Node, RunTable, StarTables, Template, Templates, is_key_from, mark_or};
 use pegread::Expr;
 use ruletable::RuleTable;
 use std::marker::Model;
@@ -59,14 +54,14 @@ pub struct SoundPeg {
 
 impl Model for SoundPeg {
     ghost use Rattle.gramcheck.specs.Grammar.{Grammar};
-    ghost use Rattle.gramcheck.specs.KeyLists.{marks_of, node_marks, tail_marks};
-    ghost use Rattle.gramcheck.specs.KeyMarks.{AreMarks};
-    ghost use Rattle.gramcheck.specs.Nodes.{shapes_of};
+    ghost use Rattle.pegnodes.specs.KeyLists.{marks_of, node_marks, tail_marks};
+    ghost use Rattle.pegnodes.specs.KeyMarks.{AreMarks};
+    ghost use Rattle.pegnodes.specs.Nodes.{shapes_of};
     ghost use Rattle.gramcheck.specs.Printing.{ArePrintMarks};
-    ghost use Rattle.gramcheck.specs.Slots.{AreCuts};
+    ghost use Rattle.pegnodes.specs.Slots.{AreCuts};
     ghost use Rattle.gramcheck.specs.Sound.{IsRanked};
-    ghost use Rattle.gramcheck.specs.StarTables.{AreStarTables};
-    ghost use Rattle.gramcheck.specs.contracts.node.Node as n;
+    ghost use Rattle.pegnodes.specs.StarTables.{AreStarTables};
+    ghost use Rattle.pegnodes.specs.contracts.node.Node as n;
     ghost use Rattle.pegread.specs.PegViews.{rules_of};
     ghost use Rattle.pegread.specs.contracts.expr.Expr as e;
     ghost use Rattle.std.specs.Coded.{codes};

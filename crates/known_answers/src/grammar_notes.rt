@@ -1,11 +1,12 @@
 //! The checks of whole texts: their notes, and the grammars that are ready to run.
 
 use gramcheck::{
-    Node, SoundPeg, check_peg, events_rise, events_rise_of_start, exactly_one_outcome,
+    SoundPeg, check_peg, events_rise, events_rise_of_start, exactly_one_outcome,
     exactly_one_outcome_of_start, longer_input, longer_input_of_start, one_list_of_notes,
     one_outcome, one_outcome_of_start, ranks_fall, shorter_input, shorter_input_of_start,
     silent_leaves_no_event, some_outcome, some_outcome_of_ranked, some_outcome_of_start,
 };
+use pegnodes::Node;
 use pegread::read_peg;
 use ruletable::{Note, SinkOf, WriteFault, write_note};
 use std::alloc::Global;

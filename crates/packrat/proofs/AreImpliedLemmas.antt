@@ -5,14 +5,14 @@ use Rattle.std.proofs.Common.{Some, None}
 use Rattle.std.proofs.Common.{Option, refl, subst}
 use Rattle.std.specs.Prelude.{slice_get}
 use Rattle.pegread.specs.Pattern.{Rule}
-use Rattle.gramcheck.specs.Nodes.{Shape}
+use Rattle.pegnodes.specs.Nodes.{Shape}
 use Rattle.gramcheck.specs.Sound.{IsRanked}
 use Rattle.memo.specs.declared.found.Found.{Found}
 use Rattle.memo.specs.Entries.{Entry, found_at, AreDifferent}
 use Rattle.memo.proofs.FoundAtLemmas.{is_of, is_own, is_of_own}
 use Rattle.visits.specs.CellOutcomes.{IsFound, HasCell}
 use Rattle.visits.proofs.AsksLemmas.{is_visited}
-use Rattle.gramcheck.specs.KeyMarks.{AreMarks}
+use Rattle.pegnodes.specs.KeyMarks.{AreMarks}
 use Rattle.memo.specs.Parts.{IsIn, in_here, in_later, Distinct, distinct_more, Reach, IsForest}
 use Rattle.memo.specs.declared.spot.Spot.{Spot}
 use Rattle.memo.specs.declared.spot.Spot.TheVariants.{Pair, Tail}

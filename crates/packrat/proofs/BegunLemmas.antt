@@ -4,7 +4,7 @@ use Rattle.std.proofs.Common.{◌≡◌, inl, inr, ℕ, ◌+◌, ◌*◌, ◌≤
 use Rattle.std.proofs.Common.{length, Some, None, Option, refl, sym, subst, arith}
 use Rattle.std.specs.Prelude.{slice_get}
 use Rattle.pegread.specs.Pattern.{Rule}
-use Rattle.gramcheck.specs.Nodes.{Shape}
+use Rattle.pegnodes.specs.Nodes.{Shape}
 use Rattle.gramcheck.specs.Sound.{IsRanked}
 use Rattle.memo.specs.declared.found.Found.{Found}
 use Rattle.memo.specs.Entries.{Entry, found_at, AreDifferent}
@@ -12,7 +12,7 @@ use Rattle.memo.specs.declared.found.Found.TheVariants.{Failed}
 use Rattle.memo.proofs.FoundAtLemmas.{is_of, is_own}
 use Rattle.visits.proofs.AsksLemmas.{visited_there}
 use Rattle.visits.proofs.CodeLemmas.{cells_at_most}
-use Rattle.gramcheck.specs.KeyMarks.{AreMarks}
+use Rattle.pegnodes.specs.KeyMarks.{AreMarks}
 use Rattle.memo.specs.Parts.{IsIn, in_here, in_later, Distinct, distinct_none, distinct_more}
 use Rattle.memo.specs.Run.{total}
 use Rattle.memo.specs.declared.spot.Spot.{Spot}

@@ -7,24 +7,24 @@ use Rattle.std.proofs.lemmas.Bool.{eqb-true, eq-eqb}
 use Rattle.pegread.specs.Pattern as expr
 use Rattle.pegread.specs.Pattern.{Pattern, Patterns, Rule}
 use Rattle.pegread.specs.PegViews.{rules_of}
-use Rattle.gramcheck.specs.ByByte.{Succeeds, ByByte, by_shape, Below, below, ByShape, by_any, by_set_in, by_set_out}
-use Rattle.gramcheck.specs.ByByte.{by_no_bytes, by_one_byte, by_other_byte, by_name, by_members, by_alternatives}
-use Rattle.gramcheck.specs.ByByte.{by_opt_some, by_opt_none, by_and, by_and_fails, by_not, by_not_fails, by_no_turn}
-use Rattle.gramcheck.specs.ByByte.{by_no_plus, ByMembers, members_end, member_stays, member_fails, member_takes}
-use Rattle.gramcheck.specs.ByByte.{ByAlternatives, alternatives_end, alternative_fails, alternative_succeeds}
+use Rattle.pegnodes.specs.ByByte.{Succeeds, ByByte, by_shape, Below, below, ByShape, by_any, by_set_in, by_set_out}
+use Rattle.pegnodes.specs.ByByte.{by_no_bytes, by_one_byte, by_other_byte, by_name, by_members, by_alternatives}
+use Rattle.pegnodes.specs.ByByte.{by_opt_some, by_opt_none, by_and, by_and_fails, by_not, by_not_fails, by_no_turn}
+use Rattle.pegnodes.specs.ByByte.{by_no_plus, ByMembers, members_end, member_stays, member_fails, member_takes}
+use Rattle.pegnodes.specs.ByByte.{ByAlternatives, alternatives_end, alternative_fails, alternative_succeeds}
 use Rattle.gramcheck.specs.Grammar.{Grammar, IsSoundGrammar}
-use Rattle.gramcheck.specs.Nodes as node
-use Rattle.gramcheck.specs.Nodes.{Shape, shapes_of, Spells, SpellAll, spell_none, spell_more, spells_any, spells_set}
-use Rattle.gramcheck.specs.Nodes.{spells_bytes}
+use Rattle.pegnodes.specs.Nodes as node
+use Rattle.pegnodes.specs.Nodes.{Shape, shapes_of, Spells, SpellAll, spell_none, spell_more, spells_any, spells_set}
+use Rattle.pegnodes.specs.Nodes.{spells_bytes}
 use Rattle.gramcheck.specs.Outcome as outcome
 use Rattle.gramcheck.specs.Outcome.{Outcome, Gives, any_takes, set_takes, set_fails, bytes_take, bytes_fail, seq}
 use Rattle.gramcheck.specs.Outcome.{choice}
 use Rattle.gramcheck.specs.Outcome.{GivesAll, all_done, one_fails, rest_fails, rest_takes, GivesFirst, all_failed}
 use Rattle.gramcheck.specs.Outcome.{first_takes, first_fails, begins_with, compared, looked_at}
 use Rattle.gramcheck.specs.Sound.{IsRanked}
-use Rattle.gramcheck.specs.declared.by_byte.Verdict.{Verdict}
-use Rattle.gramcheck.specs.declared.by_byte.Verdict.TheVariants.{Takes, Stays, Fails}
-use Rattle.gramcheck.proofs.HasShapeLemmas.{has_shape}
+use Rattle.pegnodes.specs.declared.by_byte.Verdict.{Verdict}
+use Rattle.pegnodes.specs.declared.by_byte.Verdict.TheVariants.{Takes, Stays, Fails}
+use Rattle.pegnodes.proofs.HasShapeLemmas.{has_shape}
 use Rattle.pegmatch.specs.KeptEvents.{quiet_outcome, SpellsSome}
 use Rattle.visits.specs.Visits.{NodeGives}
 use Rattle.visits.proofs.GivesLemmas.{name_gives, star_gives_none, not_gives_takes, not_gives_fails, plus_gives_fails}

@@ -4,16 +4,16 @@ use Rattle.std.proofs.Common.{◌≡◌, inl, inr, ℕ, zero, suc, ◌+◌, Bool
 use Rattle.std.proofs.Common.{refl, sym, subst, arith}
 use Rattle.std.specs.Prelude.{slice_get}
 use Rattle.pegread.specs.Pattern.{Rule}
-use Rattle.gramcheck.specs.ByByte.{Succeeds, ByByte, by_shape, Below, below, ByShape, by_any, by_set_in, by_set_out}
-use Rattle.gramcheck.specs.ByByte.{by_no_bytes, by_one_byte, by_other_byte, by_name, by_members, by_alternatives}
-use Rattle.gramcheck.specs.ByByte.{by_opt_some, by_opt_none, by_and, by_and_fails, by_not, by_not_fails, by_no_turn}
-use Rattle.gramcheck.specs.ByByte.{by_no_plus, ByMembers, members_end, member_stays, member_fails, member_takes}
-use Rattle.gramcheck.specs.ByByte.{ByAlternatives, alternatives_end, alternative_fails, alternative_succeeds}
-use Rattle.gramcheck.specs.Nodes as node
-use Rattle.gramcheck.specs.Nodes.{Shape}
+use Rattle.pegnodes.specs.ByByte.{Succeeds, ByByte, by_shape, Below, below, ByShape, by_any, by_set_in, by_set_out}
+use Rattle.pegnodes.specs.ByByte.{by_no_bytes, by_one_byte, by_other_byte, by_name, by_members, by_alternatives}
+use Rattle.pegnodes.specs.ByByte.{by_opt_some, by_opt_none, by_and, by_and_fails, by_not, by_not_fails, by_no_turn}
+use Rattle.pegnodes.specs.ByByte.{by_no_plus, ByMembers, members_end, member_stays, member_fails, member_takes}
+use Rattle.pegnodes.specs.ByByte.{ByAlternatives, alternatives_end, alternative_fails, alternative_succeeds}
+use Rattle.pegnodes.specs.Nodes as node
+use Rattle.pegnodes.specs.Nodes.{Shape}
 use Rattle.gramcheck.specs.Sound.{IsRanked}
-use Rattle.gramcheck.specs.declared.by_byte.Verdict.{Verdict}
-use Rattle.gramcheck.specs.declared.by_byte.Verdict.TheVariants.{Takes, Stays, Fails}
+use Rattle.pegnodes.specs.declared.by_byte.Verdict.{Verdict}
+use Rattle.pegnodes.specs.declared.by_byte.Verdict.TheVariants.{Takes, Stays, Fails}
 use Rattle.pegmatch.specs.KeptEvents.{SpellsSome}
 use Rattle.visits.specs.Visits.{NodeTakes, NodeFails}
 use Rattle.memo.specs.Parts.{IsIn}

@@ -8,7 +8,7 @@ use Rattle.pegread.specs.PegViews.{rules_of}
 use Rattle.gramcheck.specs.Grammar.{Grammar, IsSoundGrammar}
 use Rattle.pegread.specs.Pattern.{Rule}
 use Rattle.gramcheck.proofs.SomeOutcomeLemmas as one
-use Rattle.gramcheck.specs.Nodes.{Shape, Spells, shapes_of, shape_of}
+use Rattle.pegnodes.specs.Nodes.{Shape, Spells, shapes_of, shape_of}
 use Rattle.gramcheck.specs.Outcome.{Event, Outcome}
 use Rattle.memo.specs.declared.found.Found.{Found}
 use Rattle.pegmatch.specs.Answers.{StartGives, IsAnswer, HoldsSuccess}
@@ -43,12 +43,12 @@ use Rattle.pegmatch.specs.declared.matcher.Unit.{Unit as UnitAnswer}
 use Rattle.pegmatch.specs.declared.matcher.Unit.TheVariants as unit
 use Rattle.memo.specs.Parts.{Reach, in_here}
 use Rattle.memo.specs.declared.spot.Spot.{Spot}
-use Rattle.gramcheck.specs.KeyMarks.{AreMarks}
+use Rattle.pegnodes.specs.KeyMarks.{AreMarks}
 use Rattle.packrat.specs.SpotGives.{SpotGives, SpotYields}
-use Rattle.gramcheck.specs.KeyLists.{node_marks, tail_marks}
+use Rattle.pegnodes.specs.KeyLists.{node_marks, tail_marks}
 use Rattle.packrat.specs.View.{Evaluates, AreStored}
 use Rattle.packrat.specs.declared.frames.Frame.{Frame}
-use Rattle.gramcheck.specs.KeyLists.{Marks}
+use Rattle.pegnodes.specs.KeyLists.{Marks}
 use Rattle.packrat.proofs.EndsLemmas.{reached_ends}
 use Rattle.packrat.proofs.GoodLemmas.{steps_are_good}
 use Rattle.packrat.proofs.NextOfLemmas.{is_next, forest_of}

@@ -4,8 +4,8 @@ use Rattle.std.proofs.Common.{◌≡◌, inl, inr, ℕ, zero, suc, ◌+◌, ◌<
 use Rattle.std.proofs.Common.{subst, arith}
 use Rattle.std.specs.Prelude.{slice_get}
 use Rattle.pegread.specs.Pattern.{Rule}
-use Rattle.gramcheck.specs.Nodes as node
-use Rattle.gramcheck.specs.Nodes.{Shape}
+use Rattle.pegnodes.specs.Nodes as node
+use Rattle.pegnodes.specs.Nodes.{Shape}
 use Rattle.gramcheck.specs.Sound.{IsRanked}
 use Rattle.visits.specs.Visits.{AsksMember, member_here, member_later, AsksAlternative, alternative_here}
 use Rattle.visits.specs.Visits.{alternative_later, AsksBy, Asks, Visits, first, asked, NodeTakes, NodeFails}
@@ -14,7 +14,7 @@ use Rattle.memo.specs.Parts.{Reach, reach_root, reach_edge}
 use Rattle.memo.specs.Run.{Ends, ends}
 use Rattle.memo.specs.declared.spot.Spot.{Spot}
 use Rattle.memo.specs.declared.spot.Spot.TheVariants.{Pair, Tail}
-use Rattle.gramcheck.specs.NodeWays.{way_of}
+use Rattle.pegnodes.specs.NodeWays.{way_of}
 use Rattle.packrat.specs.Spots.{LeadsBy, TailLeadsBy, Leads}
 use Rattle.packrat.proofs.SpotReachLemmas.{front_drop, drop_none, drop_front}
 

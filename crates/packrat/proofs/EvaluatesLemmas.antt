@@ -4,7 +4,7 @@ use Rattle.std.proofs.Common.{◌≡◌, ℕ, ◌≤◌, Bool, List, [], ◌∷�
 use Rattle.std.proofs.Common.{refl, arith}
 use Rattle.std.specs.Prelude.{slice_get}
 use Rattle.pegread.specs.Pattern.{Rule}
-use Rattle.gramcheck.specs.Nodes.{Shape}
+use Rattle.pegnodes.specs.Nodes.{Shape}
 use Rattle.gramcheck.specs.Outcome.{Outcome, Fails, Takes}
 use Rattle.gramcheck.specs.Sound.{IsRanked}
 use Rattle.memo.specs.declared.found.Found.{Found}
@@ -14,7 +14,7 @@ use Rattle.pegmatch.specs.Answers.{WasEnough}
 use Rattle.visits.specs.CellOutcomes.{IsFound}
 use Rattle.visits.specs.Visits.{NodeGives}
 use Rattle.visits.proofs.VisitsLemmas.{visits_within}
-use Rattle.gramcheck.specs.KeyMarks.{AreMarks}
+use Rattle.pegnodes.specs.KeyMarks.{AreMarks}
 use Rattle.memo.specs.Parts.{IsIn, in_here, in_later, distinct_none, Reach, reach_root}
 use Rattle.memo.specs.Run.{total}
 use Rattle.memo.specs.declared.spot.Spot.{Spot}

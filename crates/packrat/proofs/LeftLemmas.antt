@@ -6,8 +6,8 @@ use Rattle.std.proofs.Common.{Some, refl, sym, subst, arith}
 use Rattle.std.specs.Prelude.{slice_get}
 use Rattle.pegread.specs.PegViews.{rules_of}
 use Rattle.gramcheck.specs.Grammar.{Grammar}
-use Rattle.gramcheck.specs.Nodes as node
-use Rattle.gramcheck.specs.Nodes.{Shape, shapes_of}
+use Rattle.pegnodes.specs.Nodes as node
+use Rattle.pegnodes.specs.Nodes.{Shape, shapes_of}
 use Rattle.memo.specs.declared.key_log.Given.{Given}
 use Rattle.memo.specs.declared.spot.Spot.{Spot}
 use Rattle.memo.specs.declared.spot.Spot.TheVariants.{Pair, Tail}
@@ -17,7 +17,7 @@ use Rattle.packrat.specs.Turned.{AreTurnedFrames}
 use Rattle.packrat.specs.declared.turns.Turns as told
 use Rattle.packrat.specs.Onward.{HasMember, IsWell}
 use Rattle.packrat.specs.SpotSteps.{FirstBy, TailFirstBy, IsFirst}
-use Rattle.gramcheck.specs.NodeWays.{Way, Leaf, Body, Members, Alternatives, Turns, Operand, way_of}
+use Rattle.pegnodes.specs.NodeWays.{Way, Leaf, Body, Members, Alternatives, Turns, Operand, way_of}
 use Rattle.packrat.specs.Spots.{KidsBy, TailKidsBy}
 use Rattle.packrat.specs.Spots.{Kids}
 use Rattle.packrat.specs.View.{weight}
@@ -25,7 +25,7 @@ use Rattle.packrat.specs.declared.frames.Frame.{Frame}
 use Rattle.packrat.specs.Stands.{AreWaiting, entered, IsEntered}
 use Rattle.packrat.specs.Onward.{tail_of, member_of}
 use Rattle.packrat.specs.declared.onward.Entering.{Entering}
-use Rattle.gramcheck.specs.KeyLists.{Marks}
+use Rattle.pegnodes.specs.KeyLists.{Marks}
 use Rattle.packrat.specs.declared.frames.Wait.{Wait}
 use Rattle.packrat.specs.declared.frames.Wait.TheVariants.{First, Last, Turned}
 use Rattle.packrat.specs.declared.machine.Turn.TheVariants.{Ask, Answer}

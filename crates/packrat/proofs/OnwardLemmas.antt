@@ -10,10 +10,10 @@ use Rattle.gramcheck.specs.Grammar.{Grammar, IsSoundGrammar}
 use Rattle.pegread.specs.Pattern.{Pattern}
 use Rattle.pegmatch.specs.declared.leaves.Tried.{Tried}
 use Rattle.gramcheck.specs.Outcome as Outcomes
-use Rattle.gramcheck.specs.Nodes as node
-use Rattle.gramcheck.specs.Nodes.{Shape, Spells, shapes_of, shape_of}
-use Rattle.gramcheck.specs.declared.node.Node.{Node}
-use Rattle.gramcheck.specs.declared.node.Node.TheVariants as code
+use Rattle.pegnodes.specs.Nodes as node
+use Rattle.pegnodes.specs.Nodes.{Shape, Spells, shapes_of, shape_of}
+use Rattle.pegnodes.specs.declared.node.Node.{Node}
+use Rattle.pegnodes.specs.declared.node.Node.TheVariants as code
 use Rattle.memo.specs.declared.found.Found.{Found}
 use Rattle.memo.specs.declared.found.Found.TheVariants.{Failed, Took}
 use Rattle.pegmatch.specs.Answers.{WasEnough}
@@ -24,7 +24,7 @@ use Rattle.pegmatch.specs.KeptEvents.{quiet_outcome}
 use Rattle.visits.proofs.AsksLemmas.{goes_onward}
 use Rattle.memo.specs.declared.spot.Spot.{Spot}
 use Rattle.memo.specs.declared.spot.Spot.TheVariants.{Pair, Tail}
-use Rattle.gramcheck.specs.NodeWays.{way_of}
+use Rattle.pegnodes.specs.NodeWays.{way_of}
 use Rattle.packrat.proofs.SpotGivesLemmas as L
 use Rattle.packrat.specs.declared.onward.Onward.{Onward}
 use Rattle.packrat.specs.declared.onward.Onward.TheVariants.{Gives, Same, Passes, Enters}

@@ -4,12 +4,12 @@ use Rattle.std.proofs.Common.{◌≡◌, inl, inr, ℕ, zero, suc, ◌+◌, ◌<
 use Rattle.std.proofs.Common.{Some, refl, sym, subst, ap, arith}
 use Rattle.std.specs.Prelude.{slice_get}
 use Rattle.pegread.specs.Pattern.{Rule}
-use Rattle.gramcheck.specs.ByByte.{ByByte, by_shape, ByShape, by_no_turn, AreTurns, turns_none, turns_more}
-use Rattle.gramcheck.specs.Nodes as node
-use Rattle.gramcheck.specs.Nodes.{Shape}
+use Rattle.pegnodes.specs.ByByte.{ByByte, by_shape, ByShape, by_no_turn, AreTurns, turns_none, turns_more}
+use Rattle.pegnodes.specs.Nodes as node
+use Rattle.pegnodes.specs.Nodes.{Shape}
 use Rattle.gramcheck.specs.Sound.{IsRanked}
-use Rattle.gramcheck.specs.declared.by_byte.Verdict.{Verdict}
-use Rattle.gramcheck.specs.declared.by_byte.Verdict.TheVariants.{Takes, Stays, Fails}
+use Rattle.pegnodes.specs.declared.by_byte.Verdict.{Verdict}
+use Rattle.pegnodes.specs.declared.by_byte.Verdict.TheVariants.{Takes, Stays, Fails}
 use Rattle.pegmatch.specs.KeptEvents.{SpellsSome}
 use Rattle.memo.specs.Parts.{IsIn, in_here, in_later}
 use Rattle.memo.specs.KeyLog.{spots_of, row_of, place_of}
@@ -19,7 +19,7 @@ use Rattle.memo.specs.declared.spot.Spot.{Spot}
 use Rattle.memo.specs.declared.spot.Spot.TheVariants.{Pair}
 use Rattle.packrat.specs.ByteGives.{GivesBy, ComesWith, turn_at}
 use Rattle.packrat.specs.ByteGives.{turns_on, operands_on, turns_closed, AreFresh}
-use Rattle.gramcheck.specs.KeyMarks.{AreMarks}
+use Rattle.pegnodes.specs.KeyMarks.{AreMarks}
 use Rattle.packrat.specs.MachineSteps.{Level, State, Asks, Works, store, step_begin, step_next, step_last}
 use Rattle.packrat.specs.MachineSteps.{steps_none, steps_more}
 use Rattle.packrat.specs.SpotSteps.{NextOf, next_first, next_second, SpotSteps}

@@ -4,17 +4,17 @@ use Rattle.std.proofs.Common.{◌≡◌, ◌⊎◌, inl, inr, ℕ, zero, suc, �
 use Rattle.std.proofs.Common.{arith}
 use Rattle.std.specs.Prelude.{slice_get}
 use Rattle.pegread.specs.Pattern.{Rule}
-use Rattle.gramcheck.specs.Nodes as node
-use Rattle.gramcheck.specs.Nodes.{Shape}
+use Rattle.pegnodes.specs.Nodes as node
+use Rattle.pegnodes.specs.Nodes.{Shape}
 use Rattle.gramcheck.specs.Sound.{IsRanked}
 use Rattle.visits.specs.Visits.{NodeTakes}
 use Rattle.memo.specs.Parts.{Reach, reach_root, reach_edge}
 use Rattle.memo.specs.declared.spot.Spot.{Spot}
 use Rattle.memo.specs.declared.spot.Spot.TheVariants.{Pair, Tail}
-use Rattle.gramcheck.specs.NodeWays.{Way, Leaf, Body, Members, Alternatives, Turns, Operand, way_of}
+use Rattle.pegnodes.specs.NodeWays.{Way, Leaf, Body, Members, Alternatives, Turns, Operand, way_of}
 use Rattle.packrat.specs.Spots.{LeadsBy, TailLeadsBy, Leads, is_key}
-use Rattle.gramcheck.specs.KeyMarks.{WayNames, WayNamesOnce, DoesNotRepeat, IsPlain, Single, single_root, single_below}
-use Rattle.gramcheck.specs.KeyMarks.{AreMarks, IsLoop, WayEntersOnce}
+use Rattle.pegnodes.specs.KeyMarks.{WayNames, WayNamesOnce, DoesNotRepeat, IsPlain, Single, single_root, single_below}
+use Rattle.pegnodes.specs.KeyMarks.{AreMarks, IsLoop, WayEntersOnce}
 use Rattle.std.proofs.Common.{◌<◌, ◌≤◌}
 use Rattle.visits.proofs.AsksLemmas.{goes_onward, is_visited}
 use Rattle.packrat.proofs.SpotReachLemmas.{reached_is_visited}

@@ -9,11 +9,11 @@ use Rattle.pegread.specs.Pattern as expr
 use Rattle.pegread.specs.Pattern.{Pattern, Patterns}
 use Rattle.pegread.specs.PegViews.{rules_of}
 use Rattle.gramcheck.specs.Grammar.{Grammar, IsSoundGrammar}
-use Rattle.gramcheck.specs.Nodes as node
-use Rattle.gramcheck.specs.Nodes.{Shape, shapes_of, Spells, SpellAll, spell_none, spell_more}
+use Rattle.pegnodes.specs.Nodes as node
+use Rattle.pegnodes.specs.Nodes.{Shape, shapes_of, Spells, SpellAll, spell_none, spell_more}
 use Rattle.gramcheck.specs.Outcome.{Event, Outcome, Takes, Fails, Gives, seq, choice, GivesAll, all_done, one_fails}
 use Rattle.gramcheck.specs.Outcome.{rest_fails, rest_takes, GivesFirst, all_failed, first_takes, first_fails}
-use Rattle.gramcheck.proofs.HasShapeLemmas.{has_shape}
+use Rattle.pegnodes.proofs.HasShapeLemmas.{has_shape}
 use Rattle.memo.specs.declared.found.Found.{Found}
 use Rattle.memo.specs.declared.found.Found.TheVariants.{Failed, Took}
 use Rattle.pegmatch.specs.Answers.{WasEnough}
@@ -22,7 +22,7 @@ use Rattle.visits.specs.Visits.{NodeGives, NodeTakes, NodeFails}
 use Rattle.visits.proofs.GivesLemmas.{name_gives, star_gives_none, star_gives_more, star_never_fails, not_gives_takes}
 use Rattle.visits.proofs.GivesLemmas.{not_gives_fails, plus_gives_fails, plus_gives_takes, plus_star, opt_gives_takes}
 use Rattle.visits.proofs.GivesLemmas.{opt_gives_none, and_gives_takes, and_gives_fails}
-use Rattle.gramcheck.specs.Nodes.{spells_act, spells_open, spells_close}
+use Rattle.pegnodes.specs.Nodes.{spells_act, spells_open, spells_close}
 use Rattle.gramcheck.specs.Outcome.{Acted, Opened, Closed, act, open_at, close_at}
 use Rattle.visits.proofs.NodeGivesLemmas.{gives_as}
 use Rattle.memo.specs.declared.spot.Spot.{Spot}

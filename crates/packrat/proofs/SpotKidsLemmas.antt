@@ -3,17 +3,17 @@
 use Rattle.std.proofs.Common.{◌≡◌, ◌⊎◌, inl, inr, ℕ, zero, suc, List, [], ◌∷◌, Some, refl, sym, subst, arith}
 use Rattle.std.specs.Prelude.{slice_get}
 use Rattle.pegread.specs.Pattern.{Rule}
-use Rattle.gramcheck.specs.Nodes as node
-use Rattle.gramcheck.specs.Nodes.{Shape}
+use Rattle.pegnodes.specs.Nodes as node
+use Rattle.pegnodes.specs.Nodes.{Shape}
 use Rattle.gramcheck.specs.Sound.{IsRanked}
-use Rattle.gramcheck.proofs.HasShapeLemmas.{has_shape}
+use Rattle.pegnodes.proofs.HasShapeLemmas.{has_shape}
 use Rattle.pegmatch.specs.KeptEvents.{SpellsSome}
 use Rattle.visits.specs.Visits.{NodeTakes, NodeFails}
 use Rattle.visits.proofs.NodeGivesLemmas.{same_node}
 use Rattle.memo.specs.Parts.{IsIn, in_here, in_later, Distinct, distinct_none, distinct_more}
 use Rattle.memo.specs.declared.spot.Spot.{Spot}
 use Rattle.memo.specs.declared.spot.Spot.TheVariants.{Pair, Tail}
-use Rattle.gramcheck.specs.NodeWays.{Way, Leaf, Body, Members, Alternatives, Turns, Operand, way_of}
+use Rattle.pegnodes.specs.NodeWays.{Way, Leaf, Body, Members, Alternatives, Turns, Operand, way_of}
 use Rattle.packrat.specs.Spots.{LeadsBy, TailLeadsBy, Leads, KidsBy, TailKidsBy, Kids}
 
 none_in : {V : Type 0} {b : V} → IsIn b [] → ⊥

@@ -4,14 +4,14 @@ use Rattle.std.proofs.Common.{◌≡◌, inl, inr, ℕ, zero, suc, List, [], ◌
 use Rattle.std.proofs.Common.{◌∙◌}
 use Rattle.std.specs.Prelude.{slice_get}
 use Rattle.pegread.specs.Pattern.{Rule}
-use Rattle.gramcheck.specs.Nodes as node
-use Rattle.gramcheck.specs.Nodes.{Shape}
+use Rattle.pegnodes.specs.Nodes as node
+use Rattle.pegnodes.specs.Nodes.{Shape}
 use Rattle.visits.specs.Visits.{AsksMember, member_here, member_later, AsksAlternative}
 use Rattle.visits.specs.Visits.{alternative_here, alternative_later, AsksBy, Asks, Visits, first, asked}
 use Rattle.memo.specs.Parts.{Reach, reach_root, reach_edge}
 use Rattle.memo.specs.declared.spot.Spot.{Spot}
 use Rattle.memo.specs.declared.spot.Spot.TheVariants.{Pair, Tail}
-use Rattle.gramcheck.specs.NodeWays.{way_of}
+use Rattle.pegnodes.specs.NodeWays.{way_of}
 use Rattle.packrat.specs.Spots.{LeadsBy, TailLeadsBy, Leads}
 
 pub front_drop : (ms : List ℕ) (i m : ℕ) → slice_get ms i ≡ Some m → drop i ms ≡ m ∷ drop (suc i) ms

@@ -6,7 +6,7 @@ use Rattle.std.proofs.lemmas.List.{length-map}
 use Rattle.std.specs.Prelude.{slice_get}
 use Rattle.pegread.specs.PegViews.{rules_of}
 use Rattle.gramcheck.specs.Grammar.{Grammar, IsSoundGrammar}
-use Rattle.gramcheck.specs.Nodes.{Shape, shapes_of, shape_of}
+use Rattle.pegnodes.specs.Nodes.{Shape, shapes_of, shape_of}
 use Rattle.gramcheck.specs.Outcome.{Event}
 use Rattle.pegmatch.specs.KeptEvents.{StandFor, no_event, one_event}
 use Rattle.pegmatch.specs.declared.event.Kept.{Kept}
@@ -15,7 +15,7 @@ use Rattle.eventlog.specs.declared.link.Link.{Link}
 use Rattle.eventlog.proofs.KeptAtLemmas.{none_kept}
 use Rattle.memo.specs.declared.found.Found.{Found}
 use Rattle.memo.specs.declared.found.Found.TheVariants.{Failed, Took}
-use Rattle.gramcheck.specs.KeyLists.{Marks}
+use Rattle.pegnodes.specs.KeyLists.{Marks}
 use Rattle.memo.specs.declared.key_log.Given.{Given}
 use Rattle.memo.specs.declared.key_log.Stored.{Stored}
 use Rattle.memo.specs.declared.spot.Spot.{Spot}
@@ -23,9 +23,9 @@ use Rattle.memo.specs.declared.spot.Spot.TheVariants.{Pair}
 use Rattle.packrat.specs.ByteGives.{turns_on}
 use Rattle.packrat.specs.Turned.{AreTurned}
 use Rattle.packrat.specs.TurnsLeft.{most_begun}
-use Rattle.gramcheck.specs.KeyMarks.{AreMarks}
+use Rattle.pegnodes.specs.KeyMarks.{AreMarks}
 use Rattle.packrat.specs.SpotGives.{SpotYields, joined, IsQuiet}
-use Rattle.gramcheck.specs.KeyLists.{node_marks, tail_marks}
+use Rattle.pegnodes.specs.KeyLists.{node_marks, tail_marks}
 use Rattle.memo.specs.KeyLog.{spots_of, place_of}
 use Rattle.memo.specs.Parts.{IsIn, in_here, in_later}
 use Rattle.memo.specs.Run.{Run, total}

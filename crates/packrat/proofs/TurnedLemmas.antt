@@ -5,18 +5,18 @@ use Rattle.std.proofs.Common.{◌∷◌, ◌++◌, Option, length, Some, refl, s
 use Rattle.std.specs.Prelude.{slice_get}
 use Rattle.pegread.specs.PegViews.{rules_of}
 use Rattle.eventlog.specs.declared.link.Link.{Link}
-use Rattle.gramcheck.specs.ByByte.{ByByte, AreTurns, turns_none, turns_more}
+use Rattle.pegnodes.specs.ByByte.{ByByte, AreTurns, turns_none, turns_more}
 use Rattle.gramcheck.specs.Grammar.{Grammar, IsSoundGrammar}
-use Rattle.gramcheck.specs.KeyLists.{Marks, node_marks, tail_marks}
-use Rattle.gramcheck.specs.KeyMarks.{AreMarks}
-use Rattle.gramcheck.specs.Nodes as node
-use Rattle.gramcheck.specs.Nodes.{Shape, shapes_of}
+use Rattle.pegnodes.specs.KeyLists.{Marks, node_marks, tail_marks}
+use Rattle.pegnodes.specs.KeyMarks.{AreMarks}
+use Rattle.pegnodes.specs.Nodes as node
+use Rattle.pegnodes.specs.Nodes.{Shape, shapes_of}
 use Rattle.gramcheck.specs.Outcome as outcome
 use Rattle.gramcheck.specs.Outcome.{Event}
-use Rattle.gramcheck.specs.RunTables.{IsTable, IsRun}
-use Rattle.gramcheck.specs.declared.by_byte.Decided.{Decided}
-use Rattle.gramcheck.specs.declared.by_byte.Verdict.TheVariants.{Takes, Fails}
-use Rattle.gramcheck.specs.declared.run_table.Run.{Run}
+use Rattle.pegnodes.specs.RunTables.{IsTable, IsRun}
+use Rattle.pegnodes.specs.declared.by_byte.Decided.{Decided}
+use Rattle.pegnodes.specs.declared.by_byte.Verdict.TheVariants.{Takes, Fails}
+use Rattle.pegnodes.specs.declared.run_table.Run.{Run}
 use Rattle.pegmatch.specs.KeptEvents.{SpellsSome}
 use Rattle.memo.specs.KeyLog.{spots_of, row_of, place_of, run_of, steps_of, spread, rising}
 use Rattle.memo.specs.Parts.{IsIn}

@@ -6,8 +6,8 @@ use Rattle.std.specs.Prelude.{slice_get}
 use Rattle.pegread.specs.Pattern.{Rule}
 use Rattle.pegread.specs.PegViews.{rules_of}
 use Rattle.gramcheck.specs.Grammar.{Grammar, IsSoundGrammar}
-use Rattle.gramcheck.specs.Nodes as node
-use Rattle.gramcheck.specs.Nodes.{Shape, shapes_of}
+use Rattle.pegnodes.specs.Nodes as node
+use Rattle.pegnodes.specs.Nodes.{Shape, shapes_of}
 use Rattle.gramcheck.specs.Outcome as outcome
 use Rattle.gramcheck.specs.Outcome.{Event}
 use Rattle.gramcheck.specs.Sound.{IsRanked}
@@ -17,8 +17,8 @@ use Rattle.pegmatch.specs.KeptEvents.{SpellsSome}
 use Rattle.visits.specs.Visits.{NodeGives}
 use Rattle.visits.proofs.GivesLemmas.{star_gives_more, star_never_fails}
 use Rattle.memo.specs.declared.spot.Spot.TheVariants.{Pair}
-use Rattle.gramcheck.specs.declared.by_byte.Verdict.TheVariants.{Stays}
-use Rattle.gramcheck.specs.ByByte.{ByByte, AreTurns, turns_none, turns_more}
+use Rattle.pegnodes.specs.declared.by_byte.Verdict.TheVariants.{Stays}
+use Rattle.pegnodes.specs.ByByte.{ByByte, AreTurns, turns_none, turns_more}
 use Rattle.packrat.specs.ByteGives.{RepeatsTo}
 use Rattle.packrat.specs.SpotGives.{SpotGives}
 use Rattle.packrat.proofs.ByteGivesLemmas.{gives_by, star_has}

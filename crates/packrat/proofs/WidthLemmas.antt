@@ -3,21 +3,21 @@
 use Rattle.std.proofs.Common.{◌≡◌, ℕ, ◌+◌, Bool, List, length, Some, refl, sym, subst, arith}
 use Rattle.pegread.specs.Pattern as expr
 use Rattle.pegread.specs.Pattern.{Pattern, Patterns, Rule}
-use Rattle.gramcheck.specs.Nodes as node
-use Rattle.gramcheck.specs.Nodes.{Shape, Spells, SpellAll, spell_none, spell_more}
+use Rattle.pegnodes.specs.Nodes as node
+use Rattle.pegnodes.specs.Nodes.{Shape, Spells, SpellAll, spell_none, spell_more}
 use Rattle.gramcheck.specs.Outcome.{Event, Takes, Gives, any_takes, set_takes, bytes_take, act, open_at}
 use Rattle.gramcheck.specs.Outcome.{close_at, name, seq, choice, opt_takes, opt_none, and_takes, not_takes}
 use Rattle.gramcheck.specs.Outcome.{GivesAll, all_done, rest_takes, GivesFirst, first_takes, first_fails}
 use Rattle.gramcheck.specs.Sound.{IsRanked}
-use Rattle.gramcheck.proofs.HasShapeLemmas.{has_shape}
+use Rattle.pegnodes.proofs.HasShapeLemmas.{has_shape}
 use Rattle.visits.specs.Visits.{NodeTakes}
 use Rattle.visits.proofs.GivesLemmas.{is_name}
 use Rattle.visits.proofs.NodeGivesLemmas.{one_spelled}
-use Rattle.gramcheck.specs.Width.{Width, width_any, width_set, width_bytes, width_act, width_open, width_close}
-use Rattle.gramcheck.specs.Width.{width_and}
-use Rattle.gramcheck.specs.Width.{width_not, width_opt, width_name, width_seq, width_choice, WidthSum, sum_none}
-use Rattle.gramcheck.specs.Width.{sum_more}
-use Rattle.gramcheck.specs.Width.{WidthEach, each_none, each_more}
+use Rattle.pegnodes.specs.Width.{Width, width_any, width_set, width_bytes, width_act, width_open, width_close}
+use Rattle.pegnodes.specs.Width.{width_and}
+use Rattle.pegnodes.specs.Width.{width_not, width_opt, width_name, width_seq, width_choice, WidthSum, sum_none}
+use Rattle.pegnodes.specs.Width.{sum_more}
+use Rattle.pegnodes.specs.Width.{WidthEach, each_none, each_more}
 
 module _ (rules : List Rule) (x : List ℕ) where
   any_width : {p q k : ℕ} {es : List Event} → Gives rules x expr.Any p (Takes q es) k → q ≡ p + 1

@@ -2,7 +2,7 @@
 use Rattle.std.specs.Prelude.{◌≡◌, ℕ, Bool, true, List, [], length, slice_get, Option, Some, None}
 use Rattle.pegread.specs.PegViews.{rules_of}
 use Rattle.gramcheck.specs.Grammar.{Grammar}
-use Rattle.gramcheck.specs.Nodes.{shapes_of}
+use Rattle.pegnodes.specs.Nodes.{shapes_of}
 use Rattle.gramcheck.specs.Outcome.{Event, Outcome}
 use Rattle.memo.specs.declared.found.Found.{Found}
 use Rattle.memo.specs.declared.found.Found.TheVariants as found
@@ -15,11 +15,11 @@ use Rattle.memo.specs.Entries.{Entry}
 use Rattle.memo.specs.KeyLog.{spots_of}
 use Rattle.memo.specs.declared.key_log.Given.{Given}
 use Rattle.memo.specs.declared.key_log.Stored.{Stored}
-use Rattle.gramcheck.specs.KeyLists.{node_marks, tail_marks}
+use Rattle.pegnodes.specs.KeyLists.{node_marks, tail_marks}
 use Rattle.packrat.specs.SpotGives.{AreRight}
 use Rattle.packrat.specs.View.{AreStored, AreImplied, AreAll}
 use Rattle.packrat.specs.declared.frames.Frame.{Frame}
-use Rattle.gramcheck.specs.KeyLists.{Marks}
+use Rattle.pegnodes.specs.KeyLists.{Marks}
 
 -- the stored keys with their outcomes and the frames, each with the last one first; how many pairs were begun; and the
 -- events of the last success

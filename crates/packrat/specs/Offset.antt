@@ -1,10 +1,10 @@
 -- Nodes that one node asks for, at a fixed distance.
 use Rattle.std.specs.Prelude.{◌≡◌, ◌⊎◌, ℕ, ◌+◌, List, ◌∷◌, slice_get, Some, Contains}
-use Rattle.gramcheck.specs.Nodes.{Shape, Any, Bytes, Set, Name, Seq, Choice, Star, Plus, Opt, And, Not, Act, Open}
-use Rattle.gramcheck.specs.Nodes.{Close}
+use Rattle.pegnodes.specs.Nodes.{Shape, Any, Bytes, Set, Name, Seq, Choice, Star, Plus, Opt, And, Not, Act, Open}
+use Rattle.pegnodes.specs.Nodes.{Close}
 use Rattle.pegread.specs.Pattern.{Rule}
 use Rattle.visits.specs.Visits.{Asks, Visits}
-use Rattle.gramcheck.specs.Width.{Width}
+use Rattle.pegnodes.specs.Width.{Width}
 
 -- m stands once in the list
 pub data Once (m : ℕ) : List ℕ → Type 0 where

@@ -1,8 +1,8 @@
 -- Evaluations in steps: a pair of a node and a place, or what is left of a sequence or a choice from a member on.
 use Rattle.std.specs.Prelude.{◌≡◌, ◌⊎◌, ℕ, zero, suc, Bool, List, [], ◌∷◌, slice_get, Some, None}
 use Rattle.pegread.specs.Pattern.{Rule}
-use Rattle.gramcheck.specs.Nodes.{Shape}
-use Rattle.gramcheck.specs.NodeWays.{Way, Leaf, Body, Members, Alternatives, Turns, Operand, way_of}
+use Rattle.pegnodes.specs.Nodes.{Shape}
+use Rattle.pegnodes.specs.NodeWays.{Way, Leaf, Body, Members, Alternatives, Turns, Operand, way_of}
 use Rattle.visits.specs.Visits.{NodeTakes, NodeFails}
 use Rattle.memo.specs.declared.spot.Spot.{Spot}
 use Rattle.memo.specs.declared.spot.Spot.TheVariants.{Pair, Tail}

@@ -2,7 +2,7 @@
 use Rattle.std.specs.Prelude.{◌≡◌, ◌⊎◌, ℕ, ◌+◌, ◌-◌, ◌<◌, Bool, true, false, List, [], ◌∷◌, ◌++◌, Option, Some, None}
 use Rattle.pegread.specs.PegViews.{rules_of}
 use Rattle.gramcheck.specs.Grammar.{Grammar}
-use Rattle.gramcheck.specs.Nodes.{Shape, shapes_of}
+use Rattle.pegnodes.specs.Nodes.{Shape, shapes_of}
 use Rattle.gramcheck.specs.Outcome.{Event}
 use Rattle.pegmatch.specs.KeptEvents.{StandFor}
 use Rattle.pegmatch.specs.declared.event.Kept.{Kept}
@@ -12,12 +12,12 @@ use Rattle.memo.specs.declared.found.Found.{Found}
 use Rattle.memo.specs.declared.found.Found.TheVariants.{Failed, Took}
 use Rattle.memo.specs.declared.key_log.Given.{Given}
 use Rattle.memo.specs.Parts.{IsIn}
-use Rattle.gramcheck.specs.KeyLists.{Marks}
+use Rattle.pegnodes.specs.KeyLists.{Marks}
 use Rattle.memo.specs.declared.key_log.Stored.{Stored}
 use Rattle.memo.specs.declared.spot.Spot.{Spot}
 use Rattle.memo.specs.declared.spot.Spot.TheVariants.{Pair}
 use Rattle.packrat.specs.SpotGives.{SpotYields, IsQuiet}
-use Rattle.gramcheck.specs.KeyLists.{node_marks, tail_marks}
+use Rattle.pegnodes.specs.KeyLists.{node_marks, tail_marks}
 use Rattle.memo.specs.KeyLog.{spots_of}
 use Rattle.memo.specs.Run.{Run, total}
 use Rattle.packrat.specs.Spots.{Kids, is_key}

@@ -1,12 +1,12 @@
 -- Turns of a repetition over bytes that decide them.
 use Rattle.std.specs.Prelude.{◌≡◌, ℕ, ◌+◌, ◌-◌, ◌<◌, ◌≤◌, Bool, true, false, List, ◌∷◌, Option, length, slice_get, Some}
 use Rattle.pegread.specs.PegViews.{rules_of}
-use Rattle.gramcheck.specs.ByByte.{ByByte, AreTurns}
+use Rattle.pegnodes.specs.ByByte.{ByByte, AreTurns}
 use Rattle.gramcheck.specs.Grammar.{Grammar, HasKeys}
-use Rattle.gramcheck.specs.KeyLists.{Marks, node_marks, tail_marks}
-use Rattle.gramcheck.specs.Nodes.{Star, shapes_of}
-use Rattle.gramcheck.specs.declared.by_byte.Decided.{Decided}
-use Rattle.gramcheck.specs.declared.by_byte.Verdict.TheVariants.{Fails}
+use Rattle.pegnodes.specs.KeyLists.{Marks, node_marks, tail_marks}
+use Rattle.pegnodes.specs.Nodes.{Star, shapes_of}
+use Rattle.pegnodes.specs.declared.by_byte.Decided.{Decided}
+use Rattle.pegnodes.specs.declared.by_byte.Verdict.TheVariants.{Fails}
 use Rattle.pegmatch.specs.KeptEvents.{SpellsSome}
 use Rattle.memo.specs.declared.spot.Spot.{Spot}
 use Rattle.memo.specs.declared.spot.Spot.TheVariants.{Pair}

@@ -1,10 +1,10 @@
 -- What the machine's loop has left: a number that each turn lowers.
 use Rattle.std.specs.Prelude.{ℕ, suc, ◌+◌, ◌*◌, ◌-◌, max, List, [], ◌∷◌, length}
 use Rattle.gramcheck.specs.Grammar.{Grammar}
-use Rattle.gramcheck.specs.Nodes.{Shape, shapes_of}
+use Rattle.pegnodes.specs.Nodes.{Shape, shapes_of}
 use Rattle.memo.specs.declared.spot.Spot.{Spot}
 use Rattle.memo.specs.declared.spot.Spot.TheVariants.{Pair, Tail}
-use Rattle.gramcheck.specs.NodeWays.{Way, Leaf, Body, Members, Alternatives, Turns, Operand, way_of}
+use Rattle.pegnodes.specs.NodeWays.{Way, Leaf, Body, Members, Alternatives, Turns, Operand, way_of}
 use Rattle.packrat.specs.declared.frames.Frame.{Frame}
 use Rattle.packrat.specs.declared.frames.Wait.{Wait}
 use Rattle.packrat.specs.declared.frames.Wait.TheVariants.{First, Last, Turned}

@@ -1,7 +1,7 @@
 -- The cells that a few stored keys imply.
 use Rattle.std.specs.Prelude.{◌≡◌, ℕ, Bool, true, List, [], ◌∷◌, length, Some}
 use Rattle.pegread.specs.Pattern.{Rule}
-use Rattle.gramcheck.specs.Nodes.{Shape}
+use Rattle.pegnodes.specs.Nodes.{Shape}
 use Rattle.memo.specs.declared.found.Found.{Found}
 use Rattle.memo.specs.Entries.{Entry, found_at, AreDifferent}
 use Rattle.visits.specs.CellOutcomes.{IsFound, HasCell}

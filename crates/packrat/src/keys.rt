@@ -1,6 +1,6 @@
 //! Which spots are keys.
 ghost use Rattle.std.specs.Prelude.{◌≡◌};
-ghost use Rattle.gramcheck.specs.KeyLists.{node_marks, tail_marks};
+ghost use Rattle.pegnodes.specs.KeyLists.{node_marks, tail_marks};
 ghost use Rattle.packrat.specs.Spots.{is_key as is_key_of};
 
 use gramcheck::SoundPeg;

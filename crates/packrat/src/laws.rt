@@ -2,7 +2,7 @@
 //! steps.
 ghost use Rattle.std.specs.Prelude.{◌≡◌, ℕ, ◌+◌, ◌≤◌, Bool, List, [], length, slice_get, Some};
 ghost use Rattle.pegread.specs.Pattern.{Rule};
-ghost use Rattle.gramcheck.specs.Nodes.{Shape};
+ghost use Rattle.pegnodes.specs.Nodes.{Shape};
 ghost use Rattle.gramcheck.specs.Outcome.{Outcome};
 ghost use Rattle.gramcheck.specs.Sound.{IsRanked};
 ghost use Rattle.memo.specs.Entries.{Entry};
@@ -12,12 +12,12 @@ ghost use Rattle.memo.specs.Run.{total};
 ghost use Rattle.memo.specs.declared.spot.Spot.{Spot};
 ghost use Rattle.memo.specs.declared.spot.Spot.TheVariants.{Pair};
 ghost use Rattle.packrat.specs.MachineSteps.{State, Works, held, start_at, IsGood};
-ghost use Rattle.gramcheck.specs.KeyMarks.{AreMarks};
+ghost use Rattle.pegnodes.specs.KeyMarks.{AreMarks};
 ghost use Rattle.packrat.specs.Offset.{Offset, IsAskedBy};
 ghost use Rattle.packrat.specs.SpotSteps.{SpotSteps};
 ghost use Rattle.packrat.specs.Spots.{Leads, Kids, is_key};
 ghost use Rattle.packrat.specs.View.{weight, AreStored, AreImplied, AreAll, AreBegun, Evaluates};
-ghost use Rattle.gramcheck.specs.Width.{Width};
+ghost use Rattle.pegnodes.specs.Width.{Width};
 
 /// A node of a width takes that many bytes wherever it succeeds.
 pub fn one_width()

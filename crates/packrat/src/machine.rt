@@ -8,7 +8,7 @@ ghost use Rattle.eventlog.specs.declared.link.Link.{Link};
 ghost use Rattle.memo.specs.KeyLog.{spots_of};
 ghost use Rattle.memo.specs.Parts.{IsIn};
 ghost use Rattle.memo.specs.declared.spot.Spot.{Spot};
-ghost use Rattle.gramcheck.specs.KeyLists.{Marks, node_marks};
+ghost use Rattle.pegnodes.specs.KeyLists.{Marks, node_marks};
 ghost use Rattle.packrat.specs.ByteGives.{operands_on, turns_closed};
 ghost use Rattle.packrat.specs.Turned.{AreDecided, AreFree, AreTurnedFrames, IsKeyed};
 ghost use Rattle.packrat.specs.TurnsLeft.{left, most_begun};
@@ -24,8 +24,9 @@ use crate::keys::is_key;
 use crate::onward::{Begun, Entering, Onward, begin, go_on};
 use crate::turns::{Turns, find_turns, is_fresh};
 use eventlog::EventLog;
-use gramcheck::{Node, SoundPeg};
+use gramcheck::SoundPeg;
 use memo::{Found, Given, KeyLog, Spot};
+use pegnodes::Node;
 use ruletable::Memory;
 
 /// A spot is to be evaluated, or one gave this.

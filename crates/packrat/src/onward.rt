@@ -2,7 +2,7 @@
 ghost use Rattle.std.specs.Prelude.{◌≡◌, ℕ, ◌<◌, ◌≤◌, Bool, List, length};
 ghost use Rattle.pegread.specs.PegViews.{rules_of};
 ghost use Rattle.gramcheck.specs.Grammar.{IsSoundGrammar};
-ghost use Rattle.gramcheck.specs.Nodes.{shapes_of};
+ghost use Rattle.pegnodes.specs.Nodes.{shapes_of};
 ghost use Rattle.gramcheck.specs.Outcome.{Event};
 ghost use Rattle.pegmatch.specs.Answers.{WasEnough};
 ghost use Rattle.memo.specs.declared.spot.Spot.{Spot};
@@ -10,9 +10,10 @@ ghost use Rattle.packrat.specs.Onward.{IsWell, AfterNone, AfterOne, IsLeaf, led_
 ghost use Rattle.packrat.specs.SpotGives.{SpotYields};
 ghost use Rattle.packrat.specs.SpotSteps.{IsFirst};
 
-use gramcheck::{Node, SoundPeg};
+use gramcheck::SoundPeg;
 use memo::{Found, Spot};
 use pegmatch::{Kept, Tried, match_any, match_bytes, match_set};
+use pegnodes::Node;
 
 /// The tail of a node from a member on, at a place, with that member, and whether it is the last one.
 #[derive(Clone, Copy, PartialEq, Eq, Debug)]

@@ -1,6 +1,6 @@
 //! The packrat matcher.
 ghost use Rattle.std.specs.Prelude.{◌≡◌, ℕ, ◌+◌, ◌*◌, ◌<◌, ◌≤◌, true, false, List, length, IfOk, OnErr, Err};
-ghost use Rattle.gramcheck.specs.Nodes.{shapes_of};
+ghost use Rattle.pegnodes.specs.Nodes.{shapes_of};
 ghost use Rattle.gramcheck.specs.Outcome.{Event, Outcome};
 ghost use Rattle.pegmatch.specs.Answers.{StartGives, IsAnswer, HoldsSuccess, Replays};
 ghost use Rattle.pegmatch.specs.Text.{text_of};

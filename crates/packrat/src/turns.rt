@@ -2,16 +2,17 @@
 ghost use Rattle.std.specs.Prelude.{◌≡◌, ◌+◌, ◌<◌, ◌≤◌, ℕ, true, length, slice_get, Some, IfSome};
 ghost use Rattle.pegread.specs.PegViews.{rules_of};
 ghost use Rattle.gramcheck.specs.Grammar.{IsSoundGrammar};
-ghost use Rattle.gramcheck.specs.KeyLists.{node_marks};
-ghost use Rattle.gramcheck.specs.Nodes.{Star, shapes_of};
+ghost use Rattle.pegnodes.specs.KeyLists.{node_marks};
+ghost use Rattle.pegnodes.specs.Nodes.{Star, shapes_of};
 ghost use Rattle.memo.specs.KeyLog.{spots_of};
 ghost use Rattle.pegmatch.specs.Answers.{WasEnough};
 ghost use Rattle.pegmatch.specs.KeptEvents.{SpellsSome};
 ghost use Rattle.packrat.specs.ByteGives.{AreFresh};
 ghost use Rattle.packrat.specs.Turned.{IsClosing, AreDecided};
 
-use gramcheck::{RunTable, SoundPeg, Verdict};
+use gramcheck::SoundPeg;
 use memo::KeyLog;
+use pegnodes::{RunTable, Verdict};
 
 /// Names a repetition, its operand, and two places between which it takes the bytes by turns that the bytes decide.
 /// So many pairs begin with that. If `whole` is true, the byte behind them decides that it ends there.

@@ -7,14 +7,14 @@ use Rattle.std.specs.Io.KnownBytes.{Appends}
 use Rattle.std.proofs.lemmas.Grind.{common_steps}
 use Rattle.ruletable.specs.Writing.{AppendsPart}
 use Rattle.ruletable.proofs.AppendsLemmas.{Appends-join, Appends-same, AppendsPart-join, AppendsPart-first}
-use Rattle.gramcheck.specs.Nodes.{Shape, Act}
+use Rattle.pegnodes.specs.Nodes.{Shape, Act}
 use Rattle.gramcheck.specs.Outcome as event
 use Rattle.gramcheck.specs.Outcome.{Event}
 use Rattle.gramcheck.specs.Rising.{Rise}
 use Rattle.gramcheck.proofs.RiseLemmas.{Rise-le}
 use Rattle.pegmatch.specs.KeptEvents.{StandsFor, opened, closed, acted, StandFor, no_event, one_event}
 use Rattle.pegmatch.specs.EventPrinting.{event_text, closed_at, capture_by, IsPrinted}
-use Rattle.gramcheck.specs.Templates.{printed}
+use Rattle.pegnodes.specs.Templates.{printed}
 use Rattle.pegmatch.specs.Text.{text_after, text_of}
 use Rattle.pegmatch.specs.declared.event.Kept.{Kept}
 use Rattle.pegmatch.specs.declared.writing.Capture.{Capture}

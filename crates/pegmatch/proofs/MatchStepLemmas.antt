@@ -6,7 +6,7 @@ use Rattle.std.proofs.Math.Seq.{take-append_seam}
 use Rattle.std.proofs.lemmas.Grind.{common_steps}
 use Rattle.std.proofs.lemmas.Option.{slice_get-get_or, slice_get_past}
 use Rattle.pegread.specs.Pattern.{Pattern, Patterns, none, more, Rule, Any, Bytes, Set}
-use Rattle.gramcheck.specs.Nodes.{Shape, Spells, SpellAll, spell_none, spell_more}
+use Rattle.pegnodes.specs.Nodes.{Shape, Spells, SpellAll, spell_none, spell_more}
 use Rattle.gramcheck.specs.Outcome.{Outcome, Fails, Takes, Gives, any_takes, any_at_end, set_takes, set_fails}
 use Rattle.gramcheck.specs.Outcome.{set_at_end, bytes_take, bytes_fail, GivesAll, all_done, one_fails, rest_fails}
 use Rattle.gramcheck.specs.Outcome.{rest_takes, seq, choice, GivesFirst, all_failed, first_takes, first_fails}

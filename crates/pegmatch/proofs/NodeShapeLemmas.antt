@@ -7,13 +7,13 @@ use Rattle.std.specs.Prelude.{slice_get}
 use Rattle.std.proofs.lemmas.Option.{slice_get-map, slice_get_within}
 use Rattle.pegread.specs.Pattern as e
 use Rattle.pegread.specs.Pattern.{Pattern, Rule}
-use Rattle.gramcheck.specs.declared.node.Node.{Node}
-use Rattle.gramcheck.specs.Nodes as shape
-use Rattle.gramcheck.specs.Nodes.{Shape, shape_of, shapes_of, Spells}
+use Rattle.pegnodes.specs.declared.node.Node.{Node}
+use Rattle.pegnodes.specs.Nodes as shape
+use Rattle.pegnodes.specs.Nodes.{Shape, shape_of, shapes_of, Spells}
 use Rattle.gramcheck.specs.Outcome.{Outcome, Fails, Takes, Gives, GivesAll, GivesFirst, name, seq, choice, act, open_at}
 use Rattle.gramcheck.specs.Outcome.{close_at}
-use Rattle.gramcheck.proofs.OwnIdLemmas.{body_at_id}
-use Rattle.gramcheck.proofs.HasShapeLemmas.{has_shape}
+use Rattle.pegnodes.proofs.OwnIdLemmas.{body_at_id}
+use Rattle.pegnodes.proofs.HasShapeLemmas.{has_shape}
 use Rattle.pegmatch.specs.KeptEvents.{no_event, one_event, opened, closed, acted, quiet_outcome, MatchesBy, IsMatch}
 use Rattle.pegmatch.specs.KeptEvents.{IsMatchOver, IsMatchOfAll, IsMatchOfFirst}
 use Rattle.pegmatch.specs.declared.event.Kept.{Kept}

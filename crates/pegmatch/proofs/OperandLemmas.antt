@@ -5,15 +5,15 @@ use Rattle.std.proofs.Common.{arith, add-one, drop-cons}
 use Rattle.std.specs.Prelude.{slice_get, slice_index}
 use Rattle.std.proofs.Math.Nat.{mul-le-mul_right}
 use Rattle.pegread.specs.Pattern.{Patterns, Rule}
-use Rattle.gramcheck.specs.Nodes as shape
-use Rattle.gramcheck.specs.Nodes.{Shape, Spells, SpellAll, spell_none, spell_more}
+use Rattle.pegnodes.specs.Nodes as shape
+use Rattle.pegnodes.specs.Nodes.{Shape, Spells, SpellAll, spell_none, spell_more}
 use Rattle.gramcheck.specs.Outcome.{Gives}
 use Rattle.gramcheck.specs.Ranks.{IsNullNode, NodeStep, FrontNode, front_first, front_later}
 use Rattle.gramcheck.specs.Sound.{IsRanked}
 use Rattle.gramcheck.proofs.SomeOutcomeLemmas.{measure, measure_falls, falls_here}
 use Rattle.gramcheck.proofs.StepsToBodyLemmas.{rank_bound, rank_lower}
-use Rattle.gramcheck.proofs.HasShapeLemmas.{has_shape}
-use Rattle.gramcheck.proofs.NodeSpellsLemmas.{is_there}
+use Rattle.pegnodes.proofs.HasShapeLemmas.{has_shape}
+use Rattle.pegnodes.proofs.NodeSpellsLemmas.{is_there}
 use Rattle.gramcheck.proofs.NullIfLemmas.{takes_forward, null_of}
 use Rattle.pegmatch.specs.KeptEvents.{SpellsSome, MatchesBy, IsMatch}
 use Rattle.pegmatch.specs.declared.event.Kept.{Kept}

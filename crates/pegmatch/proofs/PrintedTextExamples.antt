@@ -2,7 +2,7 @@
 use Rattle.std.proofs.Common.{◌≡◌, [], ◌∷◌, ◌++◌, refl, true, false, append_assoc, append-nil, decimal}
 use Rattle.std.specs.Prelude.{codes}
 use Rattle.gramcheck.specs.Outcome.{Opened, Closed, Acted}
-use Rattle.gramcheck.specs.Templates.{Word, Other, pieces_of}
+use Rattle.pegnodes.specs.Templates.{Word, Other, pieces_of}
 use Rattle.pegmatch.specs.Text.{text_of}
 
 -- word bytes that stand side by side are one run

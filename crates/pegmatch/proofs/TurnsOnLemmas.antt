@@ -2,7 +2,7 @@
 -- Serves: Plain::match_unit
 use Rattle.std.proofs.Common.{◌≡◌, ℕ, max, List, [], ◌++◌, sym, ◌∙◌, ap, subst, append_assoc, append-nil}
 use Rattle.pegread.specs.Pattern.{Pattern, Rule, Star, Plus, Opt, And, Not}
-use Rattle.gramcheck.specs.Nodes.{Shape, Spells}
+use Rattle.pegnodes.specs.Nodes.{Shape, Spells}
 use Rattle.gramcheck.specs.Outcome as event
 use Rattle.gramcheck.specs.Outcome.{Outcome, Fails, Takes, Gives, opt_takes, opt_none, star_none, star_more, plus_fails}
 use Rattle.gramcheck.specs.Outcome.{plus_takes, and_takes, and_fails, not_takes, not_fails}

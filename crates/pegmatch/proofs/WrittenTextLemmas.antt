@@ -7,14 +7,14 @@ use Rattle.std.specs.Io.KnownBytes.{Appends}
 use Rattle.std.proofs.lemmas.List.{drop_all}
 use Rattle.ruletable.specs.Writing.{AppendsPart, Writes}
 use Rattle.ruletable.proofs.AppendsLemmas.{Appends-join, AppendsPart-join, AppendsPart-first, Writes-then}
-use Rattle.gramcheck.specs.declared.template.Slot.{Slot}
-use Rattle.gramcheck.specs.declared.template.Template.{Template}
-use Rattle.gramcheck.specs.Nodes.{Shape, Act}
+use Rattle.pegnodes.specs.declared.template.Slot.{Slot}
+use Rattle.pegnodes.specs.declared.template.Template.{Template}
+use Rattle.pegnodes.specs.Nodes.{Shape, Act}
 use Rattle.gramcheck.specs.Outcome as event
 use Rattle.gramcheck.specs.Outcome.{Event}
-use Rattle.gramcheck.specs.Slots.{put_text, put_in, AreSlots, IsCut}
-use Rattle.gramcheck.specs.Templates.{printed}
-use Rattle.gramcheck.proofs.PutInLemmas.{AreSlots-ordered, AreSlots-earlier, AreSlots-further}
+use Rattle.pegnodes.specs.Slots.{put_text, put_in, AreSlots, IsCut}
+use Rattle.pegnodes.specs.Templates.{printed}
+use Rattle.pegnodes.proofs.PutInLemmas.{AreSlots-ordered, AreSlots-earlier, AreSlots-further}
 use Rattle.pegmatch.specs.KeptEvents.{StandsFor, opened, closed, acted}
 use Rattle.pegmatch.specs.EventPrinting.{event_text}
 use Rattle.pegmatch.specs.declared.event.Kept.{Kept}

@@ -3,7 +3,7 @@ use Rattle.std.specs.Prelude.{◌≡◌, ℕ, ◌≤◌, Bool, List, [], ◌++�
 use Rattle.gramcheck.specs.Rising.{Rise}
 use Rattle.gramcheck.specs.Outcome as event
 use Rattle.gramcheck.specs.Outcome.{Event}
-use Rattle.gramcheck.specs.Templates.{printed}
+use Rattle.pegnodes.specs.Templates.{printed}
 use Rattle.pegmatch.specs.Text.{text_after, text_of}
 use Rattle.pegmatch.specs.declared.event.Kept.{Kept}
 use Rattle.pegmatch.specs.declared.event.Kept.TheVariants.{Opened, Closed, Acted}

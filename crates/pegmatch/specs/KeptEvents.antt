@@ -1,7 +1,7 @@
 -- What the kept events stand for, and what was found for a node.
 use Rattle.std.specs.Prelude.{◌≡◌, ℕ, ◌≤◌, List, [], ◌∷◌, ◌++◌, slice_get, Some, Result, Ok, Err}
 use Rattle.pegread.specs.Pattern.{Pattern, Patterns, Rule}
-use Rattle.gramcheck.specs.Nodes.{Shape, Act, Spells, SpellAll}
+use Rattle.pegnodes.specs.Nodes.{Shape, Act, Spells, SpellAll}
 use Rattle.gramcheck.specs.Outcome as event
 use Rattle.gramcheck.specs.Outcome.{Outcome, Fails, Takes, Gives, GivesAll, GivesFirst}
 use Rattle.pegmatch.specs.declared.event.Kept.{Kept}

@@ -2,7 +2,7 @@
 -- this project's own).
 use Rattle.std.specs.Prelude.{ℕ, Bool, List, [], ◌∷◌, ◌++◌, Option, Some, None, slice_range}
 use Rattle.gramcheck.specs.Outcome.{Event, Opened, Closed, Acted}
-use Rattle.gramcheck.specs.Templates.{printed}
+use Rattle.pegnodes.specs.Templates.{printed}
 
 -- What the events print, with the place where a capture was opened last, and the capture so far.
 abbrev pub text_after : Bool → List ℕ → List Event → Option ℕ → List ℕ → List ℕ

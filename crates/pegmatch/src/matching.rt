@@ -3,7 +3,7 @@ ghost use Rattle.std.specs.Prelude.{◌≡◌, ◌≤◌, length, slice_get, Som
 ghost use Rattle.pegread.specs.Pattern.{Pattern};
 ghost use Rattle.pegread.specs.PegViews.{rules_of};
 ghost use Rattle.gramcheck.specs.Grammar.{IsSoundGrammar};
-ghost use Rattle.gramcheck.specs.Nodes.{Shape, shapes_of};
+ghost use Rattle.pegnodes.specs.Nodes.{Shape, shapes_of};
 ghost use Rattle.gramcheck.specs.Ranks.{IsNullNode};
 ghost use Rattle.pegmatch.specs.KeptEvents.{SpellsSome, IsMatch, IsMatchOfAll, IsMatchOfFirst, IsMatchOver, IsSeen};
 ghost use Rattle.pegmatch.specs.KeptEvents.{EndsWithin};
@@ -11,8 +11,9 @@ ghost use Rattle.pegmatch.specs.KeptEvents.{EndsWithin};
 use crate::compare::further;
 use crate::event::Kept;
 use crate::leaves::{Tried, keep, match_any, match_bytes, match_set};
-use gramcheck::{Node, SoundPeg};
+use gramcheck::SoundPeg;
 use memo::Found;
+use pegnodes::Node;
 use ruletable::Memory;
 
 /// Matches a node at a place of the window, adds the events of a success, and counts the evaluations begun.

@@ -1,7 +1,7 @@
 //! The matcher by plain recursion.
 ghost use Rattle.std.specs.Prelude.{◌≡◌, ℕ, ◌<◌, List, [], length, true, IfOk, false};
 ghost use Rattle.gramcheck.specs.Outcome.{Event};
-ghost use Rattle.gramcheck.specs.Nodes.{shapes_of};
+ghost use Rattle.pegnodes.specs.Nodes.{shapes_of};
 ghost use Rattle.pegmatch.specs.Answers.{IsAnswer, HoldsSuccess, Replays};
 ghost use Rattle.pegmatch.specs.KeptEvents.{StandFor, IsEmptyUnlessTook};
 ghost use Rattle.pegmatch.specs.Text.{text_of};

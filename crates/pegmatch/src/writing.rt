@@ -1,16 +1,17 @@
 //! Writes what an action prints, as its template is cut.
 ghost use Rattle.std.specs.Prelude.{◌≡◌, ◌≤◌, ◌++◌, length, slice_range, false};
-ghost use Rattle.gramcheck.specs.Nodes.{shapes_of};
+ghost use Rattle.pegnodes.specs.Nodes.{shapes_of};
 ghost use Rattle.gramcheck.specs.Outcome.{Event};
-ghost use Rattle.gramcheck.specs.Slots.{put_text, put_in, AreSlots, IsCut};
-ghost use Rattle.gramcheck.specs.Templates.{printed};
+ghost use Rattle.pegnodes.specs.Slots.{put_text, put_in, AreSlots, IsCut};
+ghost use Rattle.pegnodes.specs.Templates.{printed};
 ghost use Rattle.ruletable.specs.Writing.{Writes, Flags};
 ghost use Rattle.pegmatch.specs.KeptEvents.{StandsFor};
 ghost use Rattle.pegmatch.specs.EventPrinting.{capture_by, event_text};
 
 use crate::event::Kept;
-use gramcheck::{Node, Put, Slot, SoundPeg, Template};
+use gramcheck::SoundPeg;
 use itoa::Buffer;
+use pegnodes::{Node, Put, Slot, Template};
 use ruletable::{Sink, WriteFault, write_whole};
 
 // Writes bytes, if there are any.

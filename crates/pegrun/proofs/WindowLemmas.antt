@@ -8,7 +8,7 @@ use Rattle.std.proofs.lemmas.List.{take-append-drop, length-take-le, take_all}
 use Rattle.pegread.specs.PegViews.{rules_of}
 use Rattle.gramcheck.specs.Grammar.{Grammar, IsSoundGrammar}
 use Rattle.gramcheck.specs.Outcome.{Outcome, Takes, Event}
-use Rattle.gramcheck.specs.Nodes.{shapes_of}
+use Rattle.pegnodes.specs.Nodes.{shapes_of}
 use Rattle.gramcheck.proofs.SomeOutcomeLemmas.{has_of_start}
 use Rattle.gramcheck.proofs.StartRuleLemmas.{same_of_start, rises_of_start, grows_of_start, shrinks_of_start}
 use Rattle.pegmatch.specs.Answers.{StartGives, WasEnough}

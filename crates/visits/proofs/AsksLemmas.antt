@@ -4,14 +4,14 @@ use Rattle.std.proofs.Common.{◌≡◌, inl, inr, ℕ, ◌<◌, ◌≤◌, List
 use Rattle.std.specs.Prelude.{slice_get, Contains}
 use Rattle.pegread.specs.Pattern as expr
 use Rattle.pegread.specs.Pattern.{Pattern, Patterns, Rule}
-use Rattle.gramcheck.specs.Nodes as node
-use Rattle.gramcheck.specs.Nodes.{Shape, Spells, spells_star, SpellAll, spell_none, spell_more}
+use Rattle.pegnodes.specs.Nodes as node
+use Rattle.pegnodes.specs.Nodes.{Shape, Spells, spells_star, SpellAll, spell_none, spell_more}
 use Rattle.gramcheck.specs.Ranks.{IsNullNode, NodeStep, FrontNode, front_first, front_later, to_body, to_alternative}
 use Rattle.gramcheck.specs.Ranks.{to_member, to_starred, to_repeated, to_optional, to_asserted, to_denied}
 use Rattle.gramcheck.specs.Sound.{IsRanked}
 use Rattle.leastset.proofs.ContainsLemmas.{in_first, in_later}
-use Rattle.gramcheck.proofs.HasShapeLemmas.{has_shape}
-use Rattle.gramcheck.proofs.NodeSpellsLemmas.{is_there}
+use Rattle.pegnodes.proofs.HasShapeLemmas.{has_shape}
+use Rattle.pegnodes.proofs.NodeSpellsLemmas.{is_there}
 use Rattle.gramcheck.proofs.NullIfLemmas.{takes_forward, null_of}
 use Rattle.pegmatch.proofs.OperandLemmas.{at, falls_to}
 use Rattle.pegmatch.specs.KeptEvents.{SpellsSome}

@@ -4,13 +4,13 @@ use Rattle.std.proofs.Common.{◌≡◌, ℕ, max, List, [], ◌++◌, map, Some
 use Rattle.std.specs.Prelude.{slice_get}
 use Rattle.pegread.specs.Pattern as expr
 use Rattle.pegread.specs.Pattern.{Pattern, Patterns, Rule}
-use Rattle.gramcheck.specs.Nodes as node
-use Rattle.gramcheck.specs.Nodes.{Shape, Spells, spells_star}
+use Rattle.pegnodes.specs.Nodes as node
+use Rattle.pegnodes.specs.Nodes.{Shape, Spells, spells_star}
 use Rattle.gramcheck.specs.Outcome.{Event, Outcome, Fails, Takes, Gives, name, opt_takes, opt_none, star_none}
 use Rattle.gramcheck.specs.Outcome.{star_more, plus_fails, plus_takes, and_takes, and_fails, not_takes, not_fails}
 use Rattle.gramcheck.specs.Sound.{IsRanked}
-use Rattle.gramcheck.proofs.OwnIdLemmas.{body_at_id}
-use Rattle.gramcheck.proofs.HasShapeLemmas.{has_shape}
+use Rattle.pegnodes.proofs.OwnIdLemmas.{body_at_id}
+use Rattle.pegnodes.proofs.HasShapeLemmas.{has_shape}
 use Rattle.pegmatch.specs.KeptEvents.{SpellsSome}
 use Rattle.visits.specs.Visits.{NodeGives}
 use Rattle.visits.proofs.NodeGivesLemmas.{gives_as}

@@ -6,14 +6,14 @@ use Rattle.std.specs.Prelude.{slice_get}
 use Rattle.std.specs.Str.{bytes_eq}
 use Rattle.pegread.specs.Pattern as expr
 use Rattle.pegread.specs.Pattern.{Pattern, Patterns, Rule}
-use Rattle.gramcheck.specs.Nodes as node
-use Rattle.gramcheck.specs.Nodes.{Shape, id_of, Spells, spells_any, spells_bytes, spells_set, spells_name, spells_seq}
-use Rattle.gramcheck.specs.Nodes.{spells_choice, spells_star, spells_plus, spells_opt, spells_and, spells_not}
-use Rattle.gramcheck.specs.Nodes.{spells_act, spells_open, spells_close, SpellAll, spell_none, spell_more}
+use Rattle.pegnodes.specs.Nodes as node
+use Rattle.pegnodes.specs.Nodes.{Shape, id_of, Spells, spells_any, spells_bytes, spells_set, spells_name, spells_seq}
+use Rattle.pegnodes.specs.Nodes.{spells_choice, spells_star, spells_plus, spells_opt, spells_and, spells_not}
+use Rattle.pegnodes.specs.Nodes.{spells_act, spells_open, spells_close, SpellAll, spell_none, spell_more}
 use Rattle.gramcheck.specs.Outcome.{Outcome, Gives}
 use Rattle.gramcheck.proofs.OneOutcomeLemmas.{gives_same, Same}
 use Rattle.gramcheck.proofs.RuleNameLemmas.{same-name}
-use Rattle.gramcheck.proofs.HasShapeLemmas.{has_shape}
+use Rattle.pegnodes.proofs.HasShapeLemmas.{has_shape}
 use Rattle.visits.specs.Visits.{NodeGives}
 
 -- the id of a rule is that of one name

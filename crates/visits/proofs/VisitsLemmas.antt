@@ -4,15 +4,15 @@ use Rattle.std.proofs.Common.{◌≡◌, inl, inr, ℕ, ◌≤◌, max, List, So
 use Rattle.std.specs.Prelude.{slice_get}
 use Rattle.pegread.specs.Pattern as expr
 use Rattle.pegread.specs.Pattern.{Pattern, Patterns, Rule, body_of}
-use Rattle.gramcheck.specs.Nodes as node
-use Rattle.gramcheck.specs.Nodes.{Shape, Spells, spells_star, SpellAll, spell_none, spell_more}
+use Rattle.pegnodes.specs.Nodes as node
+use Rattle.pegnodes.specs.Nodes.{Shape, Spells, spells_star, SpellAll, spell_none, spell_more}
 use Rattle.gramcheck.specs.Outcome.{Outcome, Fails, Takes, Gives, name, seq, choice, opt_takes, opt_none, star_none}
 use Rattle.gramcheck.specs.Outcome.{star_more, plus_fails, plus_takes, and_takes, and_fails, not_takes, not_fails}
 use Rattle.gramcheck.specs.Outcome.{GivesAll, one_fails, rest_fails, rest_takes, GivesFirst, first_takes, first_fails}
 use Rattle.gramcheck.specs.Sound.{IsRanked}
 use Rattle.gramcheck.proofs.OneOutcomeLemmas.{gives_same}
 use Rattle.gramcheck.proofs.LongerInputLemmas.{ends_by}
-use Rattle.gramcheck.proofs.HasShapeLemmas.{has_shape}
+use Rattle.pegnodes.proofs.HasShapeLemmas.{has_shape}
 use Rattle.visits.specs.Visits.{NodeGives, NodeTakes, AsksMember, member_here, member_later, AsksAlternative}
 use Rattle.visits.specs.Visits.{alternative_here, alternative_later, AsksBy, Asks, Visits, first, asked}
 use Rattle.visits.proofs.GivesLemmas.{is_name}

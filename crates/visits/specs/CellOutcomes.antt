@@ -1,7 +1,7 @@
 -- Cells of pairs of a node and a place: that one is there, and that it holds the outcome.
 use Rattle.std.specs.Prelude.{◌≡◌, ℕ, ◌<◌, Bool, true, List, length, Some}
 use Rattle.pegread.specs.Pattern.{Rule}
-use Rattle.gramcheck.specs.Nodes.{Shape}
+use Rattle.pegnodes.specs.Nodes.{Shape}
 use Rattle.gramcheck.specs.Outcome.{Event}
 use Rattle.memo.specs.Entries.{Entry, found_at}
 use Rattle.memo.specs.declared.found.Found.{Found}

@@ -1,7 +1,7 @@
 //! Laws of visited pairs.
 ghost use Rattle.std.specs.Prelude.{ℕ, ◌<◌, ◌≤◌, List, length};
 ghost use Rattle.pegread.specs.Pattern.{Rule};
-ghost use Rattle.gramcheck.specs.Nodes.{Shape};
+ghost use Rattle.pegnodes.specs.Nodes.{Shape};
 ghost use Rattle.gramcheck.specs.Sound.{IsRanked};
 ghost use Rattle.visits.specs.Visits.{Visits};
 

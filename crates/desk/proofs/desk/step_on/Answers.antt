@@ -1,7 +1,7 @@
 use Rattle.std.proofs.Common.{refl}
 use Rattle.std.proofs.lemmas.Bool.{both_ways}
 use Rattle.std.proofs.lemmas.List.{length-map}
-use Rattle.gramcheck.specs.Nodes.{shape_of}
+use Rattle.pegnodes.specs.Nodes.{shape_of}
 use Rattle.desk.proofs.IsStepLemmas.{read_top, some_frame, is_top, fits_at_most, pushed_step, dropped_step, ended_here}
 use Rattle.desk.proofs.IsStepLemmas.{ended_step}
 use Rattle.desk.proofs.desk.step_on.Goals as goal

@@ -1,8 +1,8 @@
 use Rattle.std.proofs.Common.{ap, Some, ◌≡◌, ◌∙◌}
 use Rattle.std.specs.Prelude.{slice_get}
-use Rattle.gramcheck.specs.Nodes as shape
-use Rattle.gramcheck.specs.Nodes.{shapes_of, spells_any, spells_bytes, spells_set, spells_act, spells_open}
-use Rattle.gramcheck.specs.Nodes.{spells_close}
+use Rattle.pegnodes.specs.Nodes as shape
+use Rattle.pegnodes.specs.Nodes.{shapes_of, spells_any, spells_bytes, spells_set, spells_act, spells_open}
+use Rattle.pegnodes.specs.Nodes.{spells_close}
 use Rattle.gramcheck.specs.Outcome.{act, open_at, close_at}
 use Rattle.pegmatch.proofs.NodeShapeLemmas.{shape_at}
 use Rattle.desk.proofs.IsTurnLemmas.{leaf_turns, mark_turns, name_is_turn, opt_is_turn, and_is_turn, not_is_turn}

@@ -1,5 +1,5 @@
 use Rattle.std.proofs.Common.{◌≡◌, ◌+◌, ◌≤◌, List, length, reverse}
-use Rattle.gramcheck.specs.Nodes.{shapes_of}
+use Rattle.pegnodes.specs.Nodes.{shapes_of}
 use Rattle.gramcheck.specs.Outcome.{Event}
 use Rattle.gramcheck.specs.Rising.{Rise}
 use Rattle.pegmatch.specs.KeptEvents.{StandFor}

@@ -1,6 +1,6 @@
 use Rattle.std.proofs.Common.{arith, sym, length, ap}
 use Rattle.std.proofs.lemmas.List.{length-map}
-use Rattle.gramcheck.specs.Nodes.{shape_of}
+use Rattle.pegnodes.specs.Nodes.{shape_of}
 use Rattle.gramcheck.proofs.IsAnalysedLemmas as a
 use Rattle.gramcheck.proofs.analysis.analysed.Goals as goal
 

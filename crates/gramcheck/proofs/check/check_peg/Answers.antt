@@ -5,7 +5,7 @@ use Rattle.leastset.specs.NumberMarks.{AreBelow}
 use Rattle.ruletable.specs.Notes.{said_of}
 use Rattle.pegread.specs.PegViews.{rules_of}
 use Rattle.gramcheck.specs.Checked.{is_refused}
-use Rattle.gramcheck.specs.Nodes.{shape_of, shapes_of}
+use Rattle.pegnodes.specs.Nodes.{shape_of, shapes_of}
 use Rattle.gramcheck.specs.Sound.{IsRanked}
 use Rattle.gramcheck.proofs.JudgeLemmas.{start-below}
 use Rattle.gramcheck.proofs.PrintMarksLemmas.{bodies_below}

@@ -5,7 +5,7 @@ use Rattle.ruletable.specs.Notes.{said_of}
 use Rattle.pegread.specs.Pattern.{Rule}
 use Rattle.pegread.specs.PegViews.{rules_of}
 use Rattle.gramcheck.specs.Analysis.{IsAnalysed}
-use Rattle.gramcheck.specs.Nodes.{shape_of, shapes_of}
+use Rattle.pegnodes.specs.Nodes.{shape_of, shapes_of}
 use Rattle.gramcheck.specs.GrammarNotes.{AreNotes, names_at}
 use Rattle.gramcheck.proofs.JudgeLemmas.{marks-recursive, marks-looping, own-ids, ranked_first, start-known, is-given}
 use Rattle.gramcheck.proofs.check.judge.Goals as goal

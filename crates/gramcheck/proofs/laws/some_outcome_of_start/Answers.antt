@@ -1,5 +1,5 @@
 use Rattle.pegread.specs.PegViews.{rules_of}
-use Rattle.gramcheck.specs.Nodes.{shapes_of}
+use Rattle.pegnodes.specs.Nodes.{shapes_of}
 use Rattle.gramcheck.proofs.SomeOutcomeLemmas.{has_of_start}
 use Rattle.gramcheck.proofs.laws.some_outcome_of_start.Goals as goal
 

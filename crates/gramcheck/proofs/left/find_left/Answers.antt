@@ -3,7 +3,7 @@ use Rattle.std.proofs.lemmas.List.{length-map}
 use Rattle.leastset.specs.Leads.{AreCycleMarks, AreRanksBut}
 use Rattle.leastset.specs.StepRows.{slices_of, AreStepsWithin}
 use Rattle.gramcheck.specs.NodeRows.{steps_of, step_rows}
-use Rattle.gramcheck.specs.Nodes.{shape_of, shapes_of}
+use Rattle.pegnodes.specs.Nodes.{shape_of, shapes_of}
 use Rattle.gramcheck.proofs.ComesBackLemmas as b
 use Rattle.gramcheck.proofs.IsLeftLemmas as l
 use Rattle.gramcheck.proofs.left.find_left.Goals as goal

@@ -1,5 +1,5 @@
 use Rattle.gramcheck.specs.NodeRows.{MarksNames}
-use Rattle.gramcheck.specs.Nodes.{shapes_of}
+use Rattle.pegnodes.specs.Nodes.{shapes_of}
 use Rattle.gramcheck.proofs.left.mark_names.Given as goal
 
 abbrev pub invariant-loop-n : goal.invariant-loop-n

@@ -1,5 +1,5 @@
 use Rattle.std.proofs.Common.{arith}
-use Rattle.gramcheck.proofs.HasShapeLemmas as t
+use Rattle.pegnodes.proofs.HasShapeLemmas as t
 use Rattle.gramcheck.proofs.left.steps.Goals as goal
 
 pub steps_from-requires : goal.steps_from-requires

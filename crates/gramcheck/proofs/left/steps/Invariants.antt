@@ -1,7 +1,7 @@
 use Rattle.std.proofs.Common.{◌≡◌, take}
 use Rattle.leastset.specs.StepRows.{slices_of}
 use Rattle.gramcheck.specs.NodeRows.{step_rows}
-use Rattle.gramcheck.specs.Nodes.{shapes_of}
+use Rattle.pegnodes.specs.Nodes.{shapes_of}
 use Rattle.gramcheck.proofs.left.steps.Given as goal
 
 abbrev pub invariant-loop-node : goal.invariant-loop-node

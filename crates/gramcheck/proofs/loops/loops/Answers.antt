@@ -1,6 +1,6 @@
 use Rattle.std.proofs.Common.{arith, length, ap}
 use Rattle.gramcheck.proofs.LoopMarksLemmas as o
-use Rattle.gramcheck.proofs.HasShapeLemmas as t
+use Rattle.pegnodes.proofs.HasShapeLemmas as t
 use Rattle.gramcheck.proofs.loops.loops.Goals as goal
 
 pub repeats-repeats-requires-clause-nulls : goal.repeats-repeats-requires-clause-nulls

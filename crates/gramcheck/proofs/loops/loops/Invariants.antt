@@ -1,5 +1,5 @@
 use Rattle.gramcheck.specs.Loops.{LoopsTo}
-use Rattle.gramcheck.specs.Nodes.{shapes_of}
+use Rattle.pegnodes.specs.Nodes.{shapes_of}
 use Rattle.gramcheck.proofs.loops.loops.Given as goal
 
 abbrev pub invariant-loop-n : goal.invariant-loop-n

@@ -3,7 +3,7 @@ use Rattle.std.proofs.Common.{◌++◌, take, append_assoc}
 use Rattle.ruletable.specs.declared.table.NameCase.TheVariants.{Exact}
 use Rattle.gramcheck.specs.Uses.{names_in_all, names_in, rule_names}
 use Rattle.pegread.specs.PegViews.{patterns_of, pattern_of}
-use Rattle.gramcheck.proofs.PatternOfLemmas.{pattern-Name}
+use Rattle.pegnodes.proofs.PatternOfLemmas.{pattern-Name}
 use Rattle.gramcheck.proofs.UsesLemmas.{all-next, ok-then}
 use Rattle.gramcheck.proofs.uses.+using_names.Goals as goal
 

@@ -1,9 +1,9 @@
 use Rattle.std.proofs.Common.{◌≡◌, ◌∙◌, inl, ◌<◌, length}
 use Rattle.std.proofs.Common.{Some, refl, ap, arith}
 use Rattle.std.proofs.lemmas.Option.{slice_get_past}
-use Rattle.gramcheck.specs.Nodes as shape
-use Rattle.gramcheck.specs.Nodes.{spells_any, spells_bytes, spells_set}
-use Rattle.gramcheck.proofs.HasShapeLemmas.{has_shape}
+use Rattle.pegnodes.specs.Nodes as shape
+use Rattle.pegnodes.specs.Nodes.{spells_any, spells_bytes, spells_set}
+use Rattle.pegnodes.proofs.HasShapeLemmas.{has_shape}
 use Rattle.pegread.specs.PegViews.{rules_of}
 use Rattle.gramcheck.specs.Outcome.{Acted, Opened, Closed}
 use Rattle.pegmatch.specs.KeptEvents.{acted, opened, closed}

@@ -1,5 +1,5 @@
 use Rattle.std.proofs.Common.{arith}
-use Rattle.gramcheck.specs.KeyLists.{node_marks}
+use Rattle.pegnodes.specs.KeyLists.{node_marks}
 use Rattle.packrat.proofs.RunTurnsLemmas.{fresh_above}
 use Rattle.packrat.proofs.turns.is_fresh.Goals as goal
 

@@ -1,9 +1,9 @@
 use Rattle.std.proofs.Common.{rules, arith, Some, ap, ◌≡◌, ◌∙◌, length}
 use Rattle.pegread.specs.Pattern as expr
-use Rattle.gramcheck.specs.Nodes as shape
+use Rattle.pegnodes.specs.Nodes as shape
 use Rattle.gramcheck.specs.Ranks.{to_body, to_alternative, to_member, to_starred, to_repeated, to_optional, to_asserted}
 use Rattle.gramcheck.specs.Ranks.{to_denied}
-use Rattle.gramcheck.proofs.HasShapeLemmas.{has_shape}
+use Rattle.pegnodes.proofs.HasShapeLemmas.{has_shape}
 use Rattle.std.proofs.lemmas.List.Elements.{Contains-get_or}
 use Rattle.pegmatch.proofs.OperandLemmas.{falls_to, falls_at, falls_on, member_of_seq, member_of_choice, goes_onward}
 use Rattle.pegmatch.proofs.OperandLemmas.{front_here, front_next}

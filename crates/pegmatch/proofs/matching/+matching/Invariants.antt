@@ -1,7 +1,7 @@
 use Rattle.std.proofs.Common.{◌≡◌, ◌+◌, ◌-◌, ◌*◌, ◌≤◌, length}
 use Rattle.pegread.specs.Pattern.{Pattern, Patterns}
 use Rattle.pegread.specs.PegViews.{rules_of}
-use Rattle.gramcheck.specs.Nodes.{shapes_of, Spells, SpellAll}
+use Rattle.pegnodes.specs.Nodes.{shapes_of, Spells, SpellAll}
 use Rattle.pegmatch.proofs.OperandLemmas.{at, IsFront}
 use Rattle.pegmatch.proofs.MatchStepLemmas.{HaveTaken, HaveFailed}
 use Rattle.pegmatch.proofs.TurnsOnLemmas.{HaveTurned}

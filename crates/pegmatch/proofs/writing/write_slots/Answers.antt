@@ -1,7 +1,7 @@
 use Rattle.std.proofs.Common.{◌∙◌, ◌≤◌, arith, refl}
 use Rattle.std.specs.Prelude.{slice_index_or}
-use Rattle.gramcheck.specs.declared.template.Put.{Put}
-use Rattle.gramcheck.specs.declared.template.Slot.{Slot}
+use Rattle.pegnodes.specs.declared.template.Put.{Put}
+use Rattle.pegnodes.specs.declared.template.Slot.{Slot}
 use Rattle.pegmatch.proofs.WrittenTextLemmas.{written_next, written_fault, written_last, order_next, slot_ends}
 use Rattle.pegmatch.proofs.writing.write_slots.Goals as goal
 

@@ -1,5 +1,5 @@
 use Rattle.std.proofs.Common.{◌≡◌, drop}
-use Rattle.gramcheck.specs.Slots.{AreSlots}
+use Rattle.pegnodes.specs.Slots.{AreSlots}
 use Rattle.pegmatch.proofs.WrittenTextLemmas.{IsWritten}
 use Rattle.pegmatch.proofs.writing.write_slots.Given as goal
 

@@ -1,10 +1,10 @@
 use Rattle.std.proofs.Common.{◌<◌, ◌∙◌, length, sym, ap, get_or, false}
 use Rattle.std.proofs.lemmas.Bool.{ltb-true}
 use Rattle.gramcheck.specs.Grammar.{Grammar}
-use Rattle.gramcheck.specs.KeyLists.{tail_marks, tails_of}
-use Rattle.gramcheck.specs.Nodes.{shape_of, shapes_of}
-use Rattle.gramcheck.proofs.HasShapeLemmas.{node_at}
-use Rattle.gramcheck.proofs.KeyNeedsLemmas.{tails_at}
+use Rattle.pegnodes.specs.KeyLists.{tail_marks, tails_of}
+use Rattle.pegnodes.specs.Nodes.{shape_of, shapes_of}
+use Rattle.pegnodes.proofs.HasShapeLemmas.{node_at}
+use Rattle.pegnodes.proofs.KeyNeedsLemmas.{tails_at}
 use Rattle.gramcheck.proofs.sound.SoundPeg.is_key_tail.Goals as goal
 
 pub returns-in-Some : goal.returns-in-Some

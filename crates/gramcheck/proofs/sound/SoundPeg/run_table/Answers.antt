@@ -2,10 +2,10 @@ use Rattle.std.proofs.Common.{◌≡◌, ◌<◌, IfSome, length, Some, sym, sub
 use Rattle.std.specs.Prelude.{slice_get}
 use Rattle.std.proofs.lemmas.Bool.{ltb-true}
 use Rattle.gramcheck.specs.Grammar.{Grammar}
-use Rattle.gramcheck.specs.KeyLists.{marks_of}
-use Rattle.gramcheck.specs.Nodes.{shapes_of}
-use Rattle.gramcheck.specs.StarTables.{IsTableOf}
-use Rattle.gramcheck.proofs.StarTablesLemmas.{read_at, some_read, table_read}
+use Rattle.pegnodes.specs.KeyLists.{marks_of}
+use Rattle.pegnodes.specs.Nodes.{shapes_of}
+use Rattle.pegnodes.specs.StarTables.{IsTableOf}
+use Rattle.pegnodes.proofs.StarTablesLemmas.{read_at, some_read, table_read}
 use Rattle.gramcheck.proofs.sound.SoundPeg.run_table.Goals as goal
 
 module _ (c : goal.After-get-in-Some) where

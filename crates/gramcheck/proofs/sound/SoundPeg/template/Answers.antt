@@ -1,10 +1,10 @@
 use Rattle.std.proofs.Common.{◌≡◌, ◌<◌, ℕ, List, length, Some, ap, arith}
 use Rattle.std.specs.Prelude.{slice_get}
-use Rattle.gramcheck.specs.declared.node.Node.{Node}
-use Rattle.gramcheck.specs.declared.template.Template.{Template}
-use Rattle.gramcheck.specs.Nodes.{Act, shapes_of}
-use Rattle.gramcheck.specs.Slots.{AreCuts, HasCut}
-use Rattle.gramcheck.proofs.AreCutsLemmas.{place_within, cut_within, cut_is_read}
+use Rattle.pegnodes.specs.declared.node.Node.{Node}
+use Rattle.pegnodes.specs.declared.template.Template.{Template}
+use Rattle.pegnodes.specs.Nodes.{Act, shapes_of}
+use Rattle.pegnodes.specs.Slots.{AreCuts, HasCut}
+use Rattle.pegnodes.proofs.AreCutsLemmas.{place_within, cut_within, cut_is_read}
 use Rattle.gramcheck.proofs.sound.SoundPeg.template.Goals as goal
 
 has_cut : (nodes seen : List Node) (places : List ℕ) (cuts : List Template) → AreCuts (shapes_of nodes) places cuts

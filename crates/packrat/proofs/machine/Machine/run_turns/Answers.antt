@@ -1,6 +1,6 @@
 use Rattle.std.proofs.Common.{◌≡◌, ◌+◌, ◌-◌, refl, sym, subst, arith}
-use Rattle.gramcheck.specs.Nodes.{Star}
-use Rattle.gramcheck.specs.KeyLists.{node_marks}
+use Rattle.pegnodes.specs.Nodes.{Star}
+use Rattle.pegnodes.specs.KeyLists.{node_marks}
 use Rattle.memo.specs.KeyLog.{spots_of}
 use Rattle.pegmatch.proofs.NodeShapeLemmas.{node_within}
 use Rattle.memo.specs.declared.found.Found.TheVariants.{Took}

@@ -1,5 +1,5 @@
 use Rattle.std.proofs.Common.{ℕ, refl, sym, subst}
-use Rattle.gramcheck.specs.KeyLists.{node_marks}
+use Rattle.pegnodes.specs.KeyLists.{node_marks}
 use Rattle.memo.specs.KeyLog.{spots_of}
 use Rattle.packrat.specs.ByteGives.{AreFresh}
 use Rattle.packrat.proofs.machine.Machine.turns_at.Goals as goal

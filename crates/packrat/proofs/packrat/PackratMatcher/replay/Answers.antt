@@ -1,5 +1,5 @@
 use Rattle.std.proofs.Common.{subst, sym}
-use Rattle.gramcheck.specs.Nodes.{shapes_of}
+use Rattle.pegnodes.specs.Nodes.{shapes_of}
 use Rattle.pegmatch.specs.KeptEvents.{StandFor}
 use Rattle.packrat.specs.Done.{Holds}
 use Rattle.packrat.proofs.DoneLemmas.{held_rise}

@@ -1,6 +1,0 @@
-use Rattle.gramcheck.proofs.ByByteLemmas.{verdicts_agree}
-use Rattle.gramcheck.proofs.by_byte.one_verdict.Goals as goal
-
-pub returns : goal.returns
-returns r = λ nodes bodies marks tails b n c d v w h k.
-    let a = verdicts_agree nodes bodies marks tails b h k in (a.same, a.count)

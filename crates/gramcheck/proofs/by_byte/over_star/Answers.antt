@@ -1,8 +1,0 @@
-use Rattle.std.proofs.Common.{refl}
-use Rattle.gramcheck.specs.Nodes.{Star}
-use Rattle.gramcheck.proofs.DecidesLemmas.{verdict_lifted, star_fails_by}
-use Rattle.gramcheck.proofs.by_byte.over_star.Goals as goal
-
-pub returns-in-Fails : goal.returns-in-Fails
-returns-in-Fails c =
-    verdict_lifted Star c.args.operand _ _ _ c.summed.result c.in-Fails.is refl star_fails_by c.summed.ensures

@@ -1,6 +1,0 @@
-use Rattle.gramcheck.specs.Namers.{AreNamersTo, name_rows}
-use Rattle.gramcheck.specs.Nodes.{shapes_of}
-use Rattle.gramcheck.proofs.namers.add_nodes.Given as goal
-
-abbrev pub invariant-loop-n : goal.invariant-loop-n
-invariant-loop-n l = AreNamersTo (name_rows l.bodies (shapes_of l.nodes)) l.n 0 l.namers

@@ -1,7 +1,0 @@
-use Rattle.gramcheck.specs.Nodes.{shapes_of}
-use Rattle.gramcheck.specs.Width.{AreWidths}
-use Rattle.gramcheck.proofs.widths.add_widths.Given as goal
-
-abbrev pub invariant-loop-n : goal.invariant-loop-n
-invariant-loop-n l = AreWidths (shapes_of l.nodes) l.bodies l.initial.widths
-    → AreWidths (shapes_of l.nodes) l.bodies l.widths

@@ -1,0 +1,135 @@
+-- A byte decides one verdict of a node.
+-- Serves: one_verdict
+use Rattle.std.proofs.Common.{◌≡◌, ℕ, ◌+◌, Bool, List, refl, subst, arith}
+use Rattle.pegnodes.specs.Nodes.{Shape}
+use Rattle.pegnodes.specs.ByByte.{Succeeds, ByByte, by_shape, Below, below, ByShape, by_any, by_set_in, by_set_out}
+use Rattle.pegnodes.specs.ByByte.{by_no_bytes, by_one_byte, by_other_byte, by_name, by_members, by_alternatives}
+use Rattle.pegnodes.specs.ByByte.{by_opt_some, by_opt_none, by_and, by_and_fails, by_not, by_not_fails, by_no_turn}
+use Rattle.pegnodes.specs.ByByte.{by_no_plus, ByMembers, members_end, member_stays, member_fails, member_takes}
+use Rattle.pegnodes.specs.ByByte.{ByAlternatives, alternatives_end, alternative_fails, alternative_succeeds}
+use Rattle.pegnodes.specs.declared.by_byte.Verdict.{Verdict}
+use Rattle.pegnodes.specs.declared.by_byte.Verdict.TheVariants.{Takes, Stays, Fails}
+
+pub succeeds_not_fails : (v : Verdict) → Succeeds v → v ≡ Fails → ⊥
+succeeds_not_fails Takes h is = cc is
+succeeds_not_fails Stays h is = cc is
+succeeds_not_fails Fails h is = h
+
+-- the same verdict and the same number
+pub record Agree (v w : Verdict) (c d : ℕ) : Type 0 where
+  pub same : v ≡ w
+  pub count : c ≡ d
+
+agree_more : {v w : Verdict} {c d : ℕ} → Agree v w c d → Agree v w (1 + c) (1 + d)
+agree_more a = let is = a.count in record { same = a.same; count = omega (arith, is) }
+
+agree_as : {v w t u : Verdict} {c d : ℕ} → t ≡ u → Agree v w c d → Agree t u (1 + c) (1 + d)
+agree_as same a = let is = a.count in record { same = same; count = omega (arith, is) }
+
+module _ (nodes : List Shape) (bodies : List ℕ) (marks : ℕ → Bool) (tails : ℕ → ℕ → Bool) (b : ℕ) where
+  abbrev B : ℕ → Verdict → ℕ → Type 0
+  B m v c = Below nodes bodies marks tails b m v c
+
+  abbrev S : ℕ → Shape → Verdict → ℕ → Type 0
+  S n s v c = ByShape nodes bodies marks tails b n s v c
+
+  abbrev M : ℕ → List ℕ → ℕ → Verdict → ℕ → Type 0
+  M n ms i v c = ByMembers nodes bodies marks tails b n ms i v c
+
+  abbrev A : ℕ → List ℕ → ℕ → Verdict → ℕ → Type 0
+  A n ms i v c = ByAlternatives nodes bodies marks tails b n ms i v c
+
+  same_node : {m k c : ℕ} {v : Verdict} → k ≡ m → B k v c → B m v c
+  same_node {c = c} {v = v} is h = subst (λ j. B j v c) is h
+
+  mutual
+    pub verdicts_agree : {n c d : ℕ} {v w : Verdict} → ByByte nodes bodies marks tails b n v c
+        → ByByte nodes bodies marks tails b n w d → Agree v w c d
+    verdicts_agree {n = n} {d = d} {w = w} (by_shape {s = s} at h) (by_shape {s = t} there k) =
+        let same : t ≡ s = cc (at, there) in
+        shapes_agree h (subst (λ u. S n u w d) same k)
+
+    below_agrees : {n c d : ℕ} {v w : Verdict} → B n v c → B n w d → Agree v w c d
+    below_agrees (below t h) (below u k) = verdicts_agree h k
+
+    shapes_agree : {n c d : ℕ} {s : Shape} {v w : Verdict} → S n s v c → S n s w d → Agree v w c d
+    shapes_agree by_any by_any = record { same = refl; count = refl }
+    shapes_agree (by_set_in t) (by_set_in u) = record { same = refl; count = refl }
+    shapes_agree (by_set_in t) (by_set_out u) = absurd (cc (t, u))
+    shapes_agree (by_set_out t) (by_set_in u) = absurd (cc (t, u))
+    shapes_agree (by_set_out t) (by_set_out u) = record { same = refl; count = refl }
+    shapes_agree by_no_bytes by_no_bytes = record { same = refl; count = refl }
+    shapes_agree (by_one_byte t) (by_one_byte u) = record { same = refl; count = refl }
+    shapes_agree (by_one_byte t) (by_other_byte u) = absurd (u t)
+    shapes_agree (by_other_byte t) (by_one_byte u) = absurd (t u)
+    shapes_agree (by_other_byte t) (by_other_byte u) = record { same = refl; count = refl }
+    shapes_agree (by_name {m = m} t h) (by_name {m = l} u k) =
+        agree_more (below_agrees h (same_node (cc (t, u)) k))
+    shapes_agree (by_members h) (by_members k) = agree_more (members_agree h k)
+    shapes_agree (by_alternatives h) (by_alternatives k) = agree_more (alternatives_agree h k)
+    shapes_agree (by_opt_some t h) (by_opt_some u k) = agree_more (below_agrees h k)
+    shapes_agree (by_opt_some {v = v} t h) (by_opt_none k) =
+        absurd (succeeds_not_fails v t (below_agrees h k).same)
+    shapes_agree (by_opt_none h) (by_opt_some {v = v} t k) =
+        absurd (let is = (below_agrees h k).same in succeeds_not_fails v t (cc is))
+    shapes_agree (by_opt_none h) (by_opt_none k) = agree_as refl (below_agrees h k)
+    shapes_agree (by_and t h) (by_and u k) = agree_as refl (below_agrees h k)
+    shapes_agree (by_and {v = v} t h) (by_and_fails k) = absurd (succeeds_not_fails v t (below_agrees h k).same)
+    shapes_agree (by_and_fails h) (by_and {v = v} t k) =
+        absurd (let is = (below_agrees h k).same in succeeds_not_fails v t (cc is))
+    shapes_agree (by_and_fails h) (by_and_fails k) = agree_as refl (below_agrees h k)
+    shapes_agree (by_not h) (by_not k) = agree_as refl (below_agrees h k)
+    shapes_agree (by_not h) (by_not_fails {v = v} t k) =
+        absurd (let is = (below_agrees h k).same in succeeds_not_fails v t (cc is))
+    shapes_agree (by_not_fails {v = v} t h) (by_not k) = absurd (succeeds_not_fails v t (below_agrees h k).same)
+    shapes_agree (by_not_fails t h) (by_not_fails u k) = agree_as refl (below_agrees h k)
+    shapes_agree (by_no_turn h) (by_no_turn k) = agree_as refl (below_agrees h k)
+    shapes_agree (by_no_plus h) (by_no_plus k) = agree_as refl (below_agrees h k)
+
+    members_agree : {n i c d : ℕ} {ms : List ℕ} {v w : Verdict} → M n ms i v c → M n ms i w d → Agree v w c d
+    members_agree (members_end e) (members_end f) = record { same = refl; count = refl }
+    members_agree (members_end e) (member_stays f u k l) = absurd (cc (e, f))
+    members_agree (members_end e) (member_fails f u k) = absurd (cc (e, f))
+    members_agree (members_end e) (member_takes f g u k) = absurd (cc (e, f))
+    members_agree (member_stays e t h r) (members_end f) = absurd (cc (e, f))
+    members_agree (member_stays e t h r) (member_stays f u k l) =
+        let here = below_agrees h (same_node (cc (e, f)) k) in
+        let rest = members_agree r l in
+        let one = here.count in
+        let two = rest.count in
+        record { same = rest.same; count = omega (arith, one, two) }
+    members_agree (member_stays e t h r) (member_fails f u k) =
+        absurd (let is = (below_agrees h (same_node (cc (e, f)) k)).same in cc is)
+    members_agree (member_stays e t h r) (member_takes f g u k) =
+        absurd (let is = (below_agrees h (same_node (cc (e, f)) k)).same in cc is)
+    members_agree (member_fails e t h) (members_end f) = absurd (cc (e, f))
+    members_agree (member_fails e t h) (member_stays f u k l) =
+        absurd (let is = (below_agrees h (same_node (cc (e, f)) k)).same in cc is)
+    members_agree (member_fails e t h) (member_fails f u k) = below_agrees h (same_node (cc (e, f)) k)
+    members_agree (member_fails e t h) (member_takes f g u k) =
+        absurd (let is = (below_agrees h (same_node (cc (e, f)) k)).same in cc is)
+    members_agree (member_takes e z t h) (members_end f) = absurd (cc (e, f))
+    members_agree (member_takes e z t h) (member_stays f u k l) =
+        absurd (let is = (below_agrees h (same_node (cc (e, f)) k)).same in cc is)
+    members_agree (member_takes e z t h) (member_fails f u k) =
+        absurd (let is = (below_agrees h (same_node (cc (e, f)) k)).same in cc is)
+    members_agree (member_takes e z t h) (member_takes f g u k) = below_agrees h (same_node (cc (e, f)) k)
+
+    alternatives_agree : {n i c d : ℕ} {ms : List ℕ} {v w : Verdict} → A n ms i v c → A n ms i w d → Agree v w c d
+    alternatives_agree (alternatives_end e) (alternatives_end f) = record { same = refl; count = refl }
+    alternatives_agree (alternatives_end e) (alternative_fails f u k l) = absurd (cc (e, f))
+    alternatives_agree (alternatives_end e) (alternative_succeeds f u s k) = absurd (cc (e, f))
+    alternatives_agree (alternative_fails e t h r) (alternatives_end f) = absurd (cc (e, f))
+    alternatives_agree (alternative_fails e t h r) (alternative_fails f u k l) =
+        let here = below_agrees h (same_node (cc (e, f)) k) in
+        let rest = alternatives_agree r l in
+        let one = here.count in
+        let two = rest.count in
+        record { same = rest.same; count = omega (arith, one, two) }
+    alternatives_agree (alternative_fails e t h r) (alternative_succeeds {v = v} f u s k) =
+        absurd (let is = (below_agrees h (same_node (cc (e, f)) k)).same in succeeds_not_fails v s (cc is))
+    alternatives_agree (alternative_succeeds e t s h) (alternatives_end f) = absurd (cc (e, f))
+    alternatives_agree (alternative_succeeds {v = v} e t s h) (alternative_fails f u k l) =
+        absurd (succeeds_not_fails v s (below_agrees h (same_node (cc (e, f)) k)).same)
+    alternatives_agree (alternative_succeeds e t s h) (alternative_succeeds f u z k) =
+        below_agrees h (same_node (cc (e, f)) k)

@@ -1,0 +1,17 @@
+pub mod Bodies
+pub mod ByByte
+pub mod Decides
+pub mod KeyLists
+pub mod KeyMarks
+pub mod KeyNeeds
+pub mod Namers
+pub mod NodeCounts
+pub mod NodeWays
+pub mod Nodes
+pub mod Numbering
+pub mod RunTables
+pub mod StarTables
+pub mod Slots
+pub mod Templates
+pub mod Width
+pub mod Within

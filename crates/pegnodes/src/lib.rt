@@ -1,0 +1,23 @@
+//! The numbered nodes of a grammar, which of them are keys of a packrat matcher, and what one byte decides of them.
+#![tactic(auto)]
+
+mod bodies;
+mod by_byte;
+mod cut;
+mod keys;
+mod namers;
+mod node;
+mod number;
+mod run_table;
+mod star_tables;
+mod template;
+mod widths;
+
+pub use bodies::body_of;
+pub use by_byte::{Decided, MarkedNodes, Verdict, decide, one_verdict};
+pub use cut::{Cut, cut_grammar};
+pub use keys::{Keys, find_keys, is_key_from, mark_or};
+pub use node::Node;
+pub use run_table::{Run, RunTable, Stop};
+pub use star_tables::{StarTables, find_tables};
+pub use template::{Put, Slot, Template, Templates, cut_templates};

@@ -1,0 +1,185 @@
+//! Tables of what each byte decides of a node, and runs of bytes that it takes.
+ghost use Rattle.std.specs.Prelude.{◌≡◌, ◌↔◌, ◌<◌, ◌≤◌, ℕ, length, IfOk, IfSome, slice_get, true, Some};
+ghost use Rattle.pegnodes.specs.Decides.{mark_in, tail_in};
+ghost use Rattle.pegnodes.specs.Nodes.{shapes_of};
+ghost use Rattle.pegnodes.specs.RunTables.{IsTable, turn_pairs, OthersTake, IsStop, IsRun, IsRunTo};
+ghost use Rattle.pegnodes.specs.declared.by_byte.Decided.{Decided};
+
+use crate::by_byte::{Decided, MarkedNodes, Verdict, decide};
+use memchr::memchr;
+use ruletable::Memory;
+use std::alloc::Global;
+
+/// Names the only byte that a node is not known to take, and tells how many pairs a turn over each other byte is.
+#[derive(Clone, Copy, Debug, PartialEq, Eq)]
+pub struct Stop {
+    pub byte: u8,
+    pub pairs: u64,
+}
+
+/// Tells where a run of bytes that a node takes ends, and how many pairs the turns of a repetition over it are.
+#[derive(Clone, Copy, Debug, PartialEq, Eq)]
+pub struct Run {
+    pub end: usize,
+    pub pairs: u128,
+}
+
+/// Tells of each byte what it decides of a node, if it does.
+#[derive(Drop)]
+pub struct RunTable {
+    pub entries: Vec<Option<Decided>>,
+    pub stop: Option<Stop>,
+    pub ghost whole: { length entries.items ≡ 256 },
+    pub ghost stops: { IsStop entries.items stop },
+}
+
+// Returns how many pairs a turn over the byte of this entry is, or 0 if the byte is not taken.
+fn pairs_of(entry: Option<Decided>) -> u64
+    ensures pairs { result ≡ turn_pairs (Some entry) }
+    ensures fits { result ≤ 65536 }
+{
+    match entry {
+        Some(decided) => match decided.verdict {
+            Verdict::Takes => u64::from(decided.count) + 1,
+            Verdict::Stays => 0,
+            Verdict::Fails => 0,
+        },
+        None => 0,
+    }
+}
+
+// Returns the first byte that is not known to be taken.
+fn first_left(entries: &[Option<Decided>]) -> Option<u8>
+    requires { length entries.now ≡ 256 }
+    ensures { IfSome result (λ b. turn_pairs (slice_get entries.now b) ≡ 0) }
+{
+    for b in 0..=u8::MAX {
+        if pairs_of(entries[usize::from(b)]) == 0 {
+            return Some(b);
+        }
+    }
+    None
+}
+
+// Tells whether all bytes but one are taken, with so many pairs.
+fn others_take(entries: &[Option<Decided>], byte: u8, pairs: u64) -> bool
+    requires { length entries.now ≡ 256 }
+    ensures { result ≡ true → OthersTake entries.now byte pairs }
+{
+    for b in 0..entries.len() {
+        if b != usize::from(byte) && pairs_of(entries[b]) != pairs {
+            return false;
+        }
+    }
+    true
+}
+
+// Returns the byte that alone is not taken, if there is one and a turn over each other byte is as many pairs.
+fn find_stop(entries: &[Option<Decided>]) -> Option<Stop>
+    requires { length entries.now ≡ 256 }
+    ensures { IsStop entries.now result }
+{
+    let byte = first_left(entries)?;
+    let other = if byte == 0 { 1 } else { 0 };
+    let pairs = pairs_of(entries[other]);
+    if pairs == 0 || !others_take(entries, byte, pairs) {
+        return None;
+    }
+    Some(Stop { byte, pairs })
+}
+
+// Returns of each byte what it decides of a node.
+fn entries_of(
+    alloc: Global,
+    grammar: &MarkedNodes<'_>,
+    n: usize,
+) -> Result<Vec<Option<Decided>>, Memory>
+    ensures count { IfOk result (λ entries. length entries.items ≡ 256) }
+    ensures table { IfOk result (λ entries. IsTable (shapes_of grammar.now.nodes.now) grammar.now.bodies.now
+        (mark_in grammar.now) (tail_in grammar.now) n entries.items) }
+{
+    let mut entries = Vec::with_capacity(alloc, 256)?;
+    for b in 0..256_usize {
+        entries.push(decide(grammar, n, b as u8))?;
+    }
+    Ok(entries)
+}
+
+// Returns how far bytes are taken, where one byte alone is not taken.
+fn run_to(stop: Stop, window: &[u8], from: usize, to: usize) -> Run
+    requires from { from ≤ to }
+    requires to { to ≤ length window.now }
+    ensures { IsRunTo stop window.now from to result }
+{
+    let end = match memchr(stop.byte, &window[from..to]) {
+        Some(i) => from + i,
+        None => to,
+    };
+    let turns = (end - from) as u128;
+    let pairs = turns * u128::from(stop.pairs);
+    Run { end, pairs }
+}
+
+// Returns how far bytes are taken, with the sum of their numbers.
+fn run_along(entries: &[Option<Decided>], window: &[u8], from: usize, to: usize) -> Run
+    requires whole { length entries.now ≡ 256 }
+    requires from { from ≤ to }
+    requires to { to ≤ length window.now }
+    ensures { IsRun entries.now window.now from to result }
+{
+    let mut pairs: u128 = 0;
+    for end in from..to {
+        let turn = pairs_of(entries[usize::from(window[end])]);
+        if turn == 0 {
+            return Run { end, pairs };
+        }
+        pairs += u128::from(turn);
+    }
+    Run { end: to, pairs }
+}
+
+impl RunTable {
+    /// Returns the table of a node.
+    ///
+    /// `Memory` if an allocation fails.
+    pub fn new(alloc: Global, grammar: &MarkedNodes<'_>, n: usize) -> Result<RunTable, Memory>
+        ensures { IfOk result (λ table. IsTable (shapes_of grammar.now.nodes.now) grammar.now.bodies.now
+            (mark_in grammar.now) (tail_in grammar.now) n table.entries.items) }
+    {
+        let entries = entries_of(alloc, grammar, n)?;
+        let stop = find_stop(&entries);
+        Ok(RunTable { entries, stop })
+    }
+
+    /// Tells whether some byte decides anything of the node.
+    pub(crate) fn decides_some(&self) -> bool
+        ensures { (result ≡ true) ↔ ((b : ℕ) × (d : Decided) × (slice_get self.now.entries.items b ≡ Some (Some d))) }
+    {
+        for b in 0..self.entries.len() {
+            if self.entries[b].is_some() {
+                return true;
+            }
+        }
+        false
+    }
+
+    /// Returns what a byte decides of the node, if it does.
+    pub fn decided(&self, b: u8) -> Option<Decided>
+        ensures { slice_get self.now.entries.items b ≡ Some result }
+    {
+        self.entries[usize::from(b)]
+    }
+
+    /// Returns how far the node takes the bytes of a window from a place up to another, and how many pairs the turns of
+    /// a repetition over them are.
+    pub fn run(&self, window: &[u8], from: usize, to: usize) -> Run
+        requires from { from ≤ to }
+        requires to { to ≤ length window.now }
+        ensures { IsRun self.now.entries.items window.now from to result }
+    {
+        match self.stop {
+            Some(stop) => run_to(stop, window, from, to),
+            None => run_along(&self.entries, window, from, to),
+        }
+    }
+}
