@@ -14,7 +14,7 @@ use Rattle.memo.specs.declared.found.Found.{Found}
 use Rattle.pegmatch.specs.Answers.{StartGives, IsAnswer, HoldsSuccess}
 use Rattle.gramcheck.specs.Rising.{Rise}
 use Rattle.gramcheck.proofs.RiseLemmas.{Rise-upper}
-use Rattle.gramcheck.proofs.StartRuleLemmas.{rises_of_start}
+use Rattle.gramcheck.proofs.StartRuleLemmas.{rises_of_start, same_of_start}
 use Rattle.visits.proofs.CodeLemmas.{some_cell}
 use Rattle.visits.specs.Visits.{first}
 use Rattle.eventlog.specs.EventLog.{IsHead, kept_at}
@@ -29,8 +29,8 @@ use Rattle.visits.proofs.VisitsLemmas.{visits_within}
 use Rattle.memo.specs.KeyLog.{spots_of}
 use Rattle.memo.specs.declared.key_log.Stored.{Stored}
 use Rattle.memo.specs.declared.spot.Spot.TheVariants.{Pair, Tail}
-use Rattle.packrat.specs.Done.{Contents, IsDone, Answers, IsOutcome, Holds, empty, head_of, unit_of}
-use Rattle.packrat.specs.Done.{unit_of_match, told}
+use Rattle.packrat.specs.Done.{Contents, IsDone, IsOnTheWay, Answers, IsOutcome, Holds, empty, head_of, unit_of}
+use Rattle.packrat.specs.Done.{unit_of_match}
 use Rattle.packrat.specs.MachineSteps.{Works}
 use Rattle.packrat.specs.Onward.{ReachesEnd}
 use Rattle.packrat.specs.SpotSteps.{NextOf}
@@ -49,6 +49,7 @@ use Rattle.pegnodes.specs.KeyLists.{node_marks, tail_marks}
 use Rattle.packrat.specs.View.{Evaluates, AreStored}
 use Rattle.packrat.specs.declared.frames.Frame.{Frame}
 use Rattle.pegnodes.specs.KeyLists.{Marks}
+use Rattle.packrat.proofs.BegunLemmas.{begun_at_places}
 use Rattle.packrat.proofs.EndsLemmas.{reached_ends}
 use Rattle.packrat.proofs.GoodLemmas.{steps_are_good}
 use Rattle.packrat.proofs.NextOfLemmas.{is_next, forest_of}
@@ -129,8 +130,9 @@ module _ (g : Grammar) (x : List ℕ) (sound : IsSoundGrammar g) where
         }
 
     -- a spot that needs more is reached, so the start rule looks as far
-    need_given : NeedsMore g x more marks (Pair root 0) → (more ≡ true) × ((o : Outcome) × StartGives g x o (length x))
-    need_given n = by n.spot refl n.reaches
+    need_given : (stored : List Stored) (begun : ℕ) → NeedsMore g x more marks (Pair root 0) stored begun
+        → (more ≡ true) × ((o : Outcome) × StartGives g x o (length x))
+    need_given stored begun n = by n.spot refl n.reaches
       where
         reached : Reach Spot (Leads Rs Ns g.bodies x) (Pair root 0) n.spot
         reached =
@@ -140,7 +142,7 @@ module _ (g : Grammar) (x : List ℕ) (sound : IsSoundGrammar g) where
             are)
             (is_next Rs g.start Ns g.bodies g.ranks x more sound root at (node_marks marks) (tail_marks marks) are)
             (λ a r. reached_ends Rs g.start Ns g.bodies g.ranks x sound root at r)
-            (Works (record { levels = n.levels; stored = n.stored; begun = n.spot ∷ n.begun })) n.steps in
+            (Works (record { levels = n.levels; stored = spots_of stored; begun = n.spot ∷ n.begun })) n.steps in
             good.reached n.spot in_here
 
         by : (a : Spot) → n.spot ≡ a → ReachesEnd g x more a → (more ≡ true)
@@ -159,6 +161,16 @@ module _ (g : Grammar) (x : List ℕ) (sound : IsSoundGrammar g) where
             (h.0, (has.0, subst (λ k. StartGives g x has.0 k) far has.2))
         by (Tail m i p) is h = absurd h
 
+    on_the_way : (c : Contents) → NeedsMore g x more marks (Pair root 0) c.stored c.begun → IsOnTheWay g x more marks c
+    on_the_way c n = record {
+      root = root;
+      at = at;
+      levels = n.levels;
+      begun = n.spot ∷ n.begun;
+      steps = n.steps;
+      count = n.is;
+    }
+
     ended_as : (f : Found) (c : Contents) (given : Given) (links : List Link) → given.found ≡ f
         → IsEnded g x more marks (Pair root 0) given c.frames c.stored links c.begun
         → IsOutcome g x more marks c (unit_of f c.begun)
@@ -176,7 +188,7 @@ module _ (g : Grammar) (x : List ℕ) (sound : IsSoundGrammar g) where
     pub outcome_of_match : (c : Contents) (v : Option Given) (links : List Link)
         → IsEvaluated g x more marks (Pair root 0) v c.frames c.stored links c.begun
         → IsOutcome g x more marks c (unit_of_match v c.begun)
-    outcome_of_match c None links h = need_given h
+    outcome_of_match c None links h = let given = need_given c.stored c.begun h in (on_the_way c h, given.0, given.1)
     outcome_of_match c (Some given) links h = ended_as given.found c given links refl h
 
     begun_some : (c : Contents) → IsDone g x more marks c → 1 ≤ c.begun
@@ -206,7 +218,7 @@ module _ (g : Grammar) (x : List ℕ) (sound : IsSoundGrammar g) where
     pub answer_of_match : (c : Contents) (v : Option Given) (links : List Link) → c.kept ≡ kept_at links (head_of v)
         → IsEvaluated g x more marks (Pair root 0) v c.frames c.stored links c.begun
         → IsAnswer g x more (Holds c g x) (unit_of_match v c.begun)
-    answer_of_match c None links kept h = need_given h
+    answer_of_match c None links kept h = need_given c.stored c.begun h
     answer_of_match c (Some given) links kept h = answered_as given.found c given links refl kept h
 
     pub head_of_match : (v : Option Given) (frames : List Frame) (stored : List Stored) (links : List Link)
@@ -230,13 +242,20 @@ module _ (g : Grammar) (x : List ℕ) (sound : IsSoundGrammar g) where
         let same : length (shapes_of g.nodes) ≡ length g.nodes = length-map g.nodes shape_of in
         subst (λ v. c.begun ≤ v * (k + 1)) same (omega (arith, most, count))
 
-    pub told_bounded : (c : Contents) (u : UnitAnswer) → IsOutcome g x more marks c u → (o : Outcome) (k : ℕ)
-        → StartGives g x o k → told u ≤ length g.nodes * (k + 1)
-    told_bounded c (unit.Took end begun) h o k gives =
-        let le = unit_bounded c h.0 o k gives in let is = h.2 in omega (arith, le, is)
-    told_bounded c (unit.Failed begun) h o k gives =
-        let le = unit_bounded c h.0 o k gives in let is = h.2 in omega (arith, le, is)
-    told_bounded c unit.Need h o k gives = omega arith
+    pub begun_bounded : (c : Contents) (u : UnitAnswer) → IsOutcome g x more marks c u → (o : Outcome) (k : ℕ)
+        → StartGives g x o k → c.begun ≤ length g.nodes * (k + 1)
+    begun_bounded c (unit.Took end begun) h o k gives = unit_bounded c h.0 o k gives
+    begun_bounded c (unit.Failed begun) h o k gives = unit_bounded c h.0 o k gives
+    begun_bounded c unit.Need h o k gives =
+        let way = h.0 in
+        let most = begun_at_places Rs g.start Ns g.bodies g.ranks x more sound way.root way.at (node_marks marks)
+        (tail_marks marks) are
+        (Works (record { levels = way.levels; stored = spots_of c.stored; begun = way.begun })) way.steps in
+        let far = (same_of_start Rs g.start x k (length x) o h.2.0 gives h.2.1).looked in
+        let count = way.count in
+        let same : length (shapes_of g.nodes) ≡ length g.nodes = length-map g.nodes shape_of in
+        subst (λ v. c.begun ≤ v * (k + 1)) same
+        (subst (λ v. c.begun ≤ length Ns * (v + 1)) (sym far) (omega (arith, most, count)))
 
 -- the places of a held success's events stand in order within the window
 pub held_rise : (g : Grammar) (x : List ℕ) (Holding : List Event → Type 0) (h : HoldsSuccess g x Holding)

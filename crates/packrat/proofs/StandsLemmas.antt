@@ -370,12 +370,12 @@ module _ (g : Grammar) (x : List ℕ) (more : Bool) (marks : Marks) where
       begin_counts = let is = s.is in omega (arith, is)
 
       -- a spot whose own comparison reaches the end of the window
-      pub stands_need : ReachesEnd g x more a → NeedsMore g x more marks root
+      pub stands_need : ReachesEnd g x more a → NeedsMore g x more marks root st (n + weight a)
       stands_need h = record {
         spot = a;
         levels = record { at = a; asked = [] } ∷ s.levels;
-        stored = spots_of st;
         begun = s.begun;
+        is = begin_counts;
         steps = steps_begin;
         reaches = h;
       }

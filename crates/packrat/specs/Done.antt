@@ -16,8 +16,14 @@ use Rattle.memo.specs.KeyLog.{spots_of}
 use Rattle.memo.specs.declared.key_log.Given.{Given}
 use Rattle.memo.specs.declared.key_log.Stored.{Stored}
 use Rattle.pegnodes.specs.KeyLists.{node_marks, tail_marks}
+use Rattle.memo.specs.Run.{total}
+use Rattle.memo.specs.declared.spot.Spot.{Spot}
+use Rattle.memo.specs.declared.spot.Spot.TheVariants.{Pair}
+use Rattle.packrat.specs.MachineSteps.{Level, Works, start_at}
 use Rattle.packrat.specs.SpotGives.{AreRight}
-use Rattle.packrat.specs.View.{AreStored, AreImplied, AreAll}
+use Rattle.packrat.specs.SpotSteps.{SpotSteps}
+use Rattle.packrat.specs.Spots.{Kids, is_key}
+use Rattle.packrat.specs.View.{AreStored, AreImplied, AreAll, weight}
 use Rattle.packrat.specs.declared.frames.Frame.{Frame}
 use Rattle.pegnodes.specs.KeyLists.{Marks}
 
@@ -51,12 +57,6 @@ abbrev pub unit_of_match : Option Given → ℕ → UnitAnswer
 unit_of_match None begun = Need
 unit_of_match (Some given) begun = unit_of given.found begun
 
--- how many evaluations were begun, where that is told
-abbrev pub told : UnitAnswer → ℕ
-told (Took end begun) = begun
-told (Failed begun) = begun
-told Need = 0
-
 module _ (g : Grammar) (x : List ℕ) (more : Bool) where
   -- Stored are exactly the keys that are reached, each once and with what it gives. The cells that they imply are
   -- exactly the pairs that are visited, each with its outcome and once, and as many as were begun.
@@ -79,9 +79,21 @@ module _ (g : Grammar) (x : List ℕ) (more : Bool) where
     pub gives : StartGives g x (outcome_of f events) looked
     pub enough : WasEnough x more looked
 
+  -- Where a match stops for want of bytes: the machine comes from nothing to what is stored, and to so many pairs begun.
+  pub record IsOnTheWay (marks : Marks) (c : Contents) : Type 0 where
+    pub root : ℕ
+    pub at : slice_get g.bodies g.start ≡ Some root
+    pub levels : List (Level Spot)
+    pub begun : List Spot
+    pub steps : SpotSteps (rules_of g.rules) (shapes_of g.nodes) g.bodies x (node_marks marks) (tail_marks marks)
+        (start_at Spot (Pair root 0))
+        (Works (record { levels = levels; stored = spots_of c.stored; begun = begun }))
+    pub count : total Spot (Kids (rules_of g.rules) (shapes_of g.nodes) g.bodies x)
+        (is_key (node_marks marks) (tail_marks marks)) weight begun ≡ c.begun
+
   -- what a match ends with: all is evaluated; or the start rule looks at the last byte of a window behind which there
-  -- is more
+  -- is more, and the match stops on its way
   abbrev pub IsOutcome : Marks → Contents → UnitAnswer → Type 0
   IsOutcome marks c (Took end begun) = IsDone marks c × Answers (found.Took end) × (begun ≡ c.begun)
   IsOutcome marks c (Failed begun) = IsDone marks c × Answers found.Failed × (begun ≡ c.begun)
-  IsOutcome marks c Need = (more ≡ true) × ((o : Outcome) × StartGives g x o (length x))
+  IsOutcome marks c Need = IsOnTheWay marks c × (more ≡ true) × ((o : Outcome) × StartGives g x o (length x))

@@ -146,18 +146,19 @@ module _ (g : Grammar) (x : List ℕ) (more : Bool) where
       pub keeps : GivenBy links a given → AreGiven links old → AreGiven links new
 
     -- The machine begins a spot whose own comparison reaches the last byte of a window behind which there is more.
-    pub record NeedsMore (root : Spot) : Type 0 where
+    pub record NeedsMore (root : Spot) (stored : List Stored) (count : ℕ) : Type 0 where
       pub spot : Spot
       pub levels : List (Level Spot)
-      pub stored : List Spot
       pub begun : List Spot
-      pub steps : Comes root (Works (record { levels = levels; stored = stored; begun = spot ∷ begun }))
+      pub is : total Spot (Kids (rules_of g.rules) (shapes_of g.nodes) g.bodies x) (key_of marks) weight (spot ∷ begun)
+          ≡ count
+      pub steps : Comes root (Works (record { levels = levels; stored = spots_of stored; begun = spot ∷ begun }))
       pub reaches : ReachesEnd g x more spot
 
     -- what a turn comes to; none where it needs more
     abbrev pub AreOn : Spot → Option Turn → List Frame → List Stored → List Link → ℕ → Type 0
     AreOn root (Some turn) frames stored links count = Stands root turn frames stored links count
-    AreOn root None frames stored links count = NeedsMore root
+    AreOn root None frames stored links count = NeedsMore root stored count
 
     -- an evaluation that ended with this
     pub record IsEnded (root : Spot) (given : Given) (frames : List Frame) (stored : List Stored) (links : List Link)
@@ -171,7 +172,7 @@ module _ (g : Grammar) (x : List ℕ) (more : Bool) where
     -- what an evaluation ended with; none where it needs more
     abbrev pub IsEvaluated : Spot → Option Given → List Frame → List Stored → List Link → ℕ → Type 0
     IsEvaluated root (Some given) frames stored links count = IsEnded root given frames stored links count
-    IsEvaluated root None frames stored links count = NeedsMore root
+    IsEvaluated root None frames stored links count = NeedsMore root stored count
 
 -- a turn lowers what is left, unless it needs more
 abbrev pub LowersLeft : Grammar → List ℕ → Option Turn → List Frame → ℕ → ℕ → Type 0

@@ -5,7 +5,7 @@ ghost use Rattle.gramcheck.specs.Outcome.{Event, Outcome};
 ghost use Rattle.pegmatch.specs.Answers.{StartGives, IsAnswer, HoldsSuccess, Replays};
 ghost use Rattle.pegmatch.specs.Text.{text_of};
 ghost use Rattle.pegmatch.specs.declared.matcher.ReplayFault.{ReplayFault};
-ghost use Rattle.packrat.specs.Done.{empty, Holds, IsOutcome, head_of, told, unit_of, unit_of_match};
+ghost use Rattle.packrat.specs.Done.{empty, Holds, IsOutcome, head_of, unit_of, unit_of_match};
 
 use crate::frames::Frames;
 use crate::machine::Machine;
@@ -129,7 +129,10 @@ impl Matcher for Packrat {
     ///
     /// Without `more` the window is the whole rest of the input, and the answer is never `Need`. With `more` the window
     /// is not empty, and `Need` says that its last byte was compared; any other answer holds for every rest that begins
-    /// with the window.
+    /// with the window. At `Need` the machine stands on its way: each pair that was begun is visited and was begun once.
+    ///
+    /// However it ends, it has begun at most as many pairs as there are nodes at the places up to where the start rule
+    /// looks.
     ///
     /// # Errors
     /// `Memory` if an allocation fails; nothing is stored.
@@ -138,7 +141,7 @@ impl Matcher for Packrat {
         ensures answer { IfOk result (IsAnswer peg.now window.now more (Holds self.new peg.now window.now)) }
         ensures outcome { IfOk result (IsOutcome peg.now window.now more peg.now.keys self.new) }
         ensures bounded { IfOk result (λ unit. (o : Outcome) (k : ℕ) → StartGives peg.now window.now o k →
-            told unit ≤ length peg.now.nodes * (k + 1)) }
+            self.new.begun ≤ length peg.now.nodes * (k + 1)) }
         ensures empty { OnErr result (self.new ≡ empty) }
     {
         let root = peg.body_node(peg.start());

@@ -3,6 +3,7 @@ use Rattle.memo.specs.declared.found.Found.TheVariants.{Took}
 use Rattle.eventlog.proofs.KeptAtLemmas.{grown_same}
 use Rattle.packrat.specs.declared.machine.Turn.TheVariants.{Ask}
 use Rattle.packrat.specs.Onward.{tail_of}
+use Rattle.packrat.specs.Stands.{NeedsMore}
 use Rattle.packrat.specs.TurnsLeft.{left}
 use Rattle.packrat.specs.View.{weight}
 use Rattle.packrat.proofs.StandsLemmas as L
@@ -85,9 +86,11 @@ returns-in_ok-wait_last-in-Passes-clause-less c = λ le.
 
 pub returns-in-Need-clause-stands : goal.returns-in-Need-clause-stands
 returns-in-Need-clause-stands c = λ root key fresh s.
-    L.stands_need c.args.peg.now c.args.window.now c.args.more c.args.peg.now.keys root c.args.spot
+    subst (λ v. NeedsMore c.args.peg.now c.args.window.now c.args.more c.args.peg.now.keys root
+    c.args.self.now.log.stored v) (sym c.counted-self.ensures)
+    (L.stands_need c.args.peg.now c.args.window.now c.args.more c.args.peg.now.keys root c.args.spot
     c.args.self.now.frames c.args.self.now.log.stored
-    c.args.self.now.events c.args.self.now.begun s (λ t. fresh (key ∙ t)) c.in-Need.ensures
+    c.args.self.now.events c.args.self.now.begun s (λ t. fresh (key ∙ t)) c.in-Need.ensures)
 
 pub returns-in_ok-next-in-Enters-clause-stands : goal.returns-in_ok-next-in-Enters-clause-stands
 returns-in_ok-next-in-Enters-clause-stands c = λ root key fresh s.

@@ -1,6 +1,6 @@
 use Rattle.std.proofs.Common.{◌≡◌, slice_get, Some, subst, ap}
 use Rattle.eventlog.specs.EventLog.{kept_at}
-use Rattle.packrat.proofs.DoneLemmas.{outcome_of_match, answer_of_match, told_bounded}
+use Rattle.packrat.proofs.DoneLemmas.{outcome_of_match, answer_of_match, begun_bounded}
 use Rattle.packrat.proofs.packrat.PackratMatcher.match_unit.Goals as goal
 
 pub returns-in-Ok-clause-answer : goal.returns-in-Ok-clause-answer
@@ -40,8 +40,7 @@ returns-in-Ok-clause-bounded c =
     subst (λ v. slice_get c.args.peg.now.bodies v ≡ Some c.body_node-root.result) c.start.ensures.id
     c.body_node-root.ensures in
     let matched = rw c.in-Ok.is at c.evaluate-matched.ensures in
-    rw c.matched_unit.ensures
-    (told_bounded c.args.peg.now c.args.window.now c.start.ensures.sound c.args.more c.args.peg.now.keys
+    begun_bounded c.args.peg.now c.args.window.now c.start.ensures.sound c.args.more c.args.peg.now.keys
     c.start.ensures.keys c.body_node-root.result at (record {
       stored = c.evaluate-matched.new.self.log.stored;
       frames = c.evaluate-matched.new.self.frames;
@@ -54,4 +53,4 @@ returns-in-Ok-clause-bounded c =
       frames = c.evaluate-matched.new.self.frames;
       begun = c.evaluate-matched.new.self.begun;
       kept = kept_at c.evaluate-matched.new.self.events c.head_given-self-inside.result;
-    }) c.in-Ok.given c.evaluate-matched.new.self.events matched))
+    }) c.in-Ok.given c.evaluate-matched.new.self.events matched)
