@@ -26,9 +26,9 @@ DEFINITION = re.compile(r"(?:(?:unfoldable|abbrev|pub|data|record) )+([^\s(){}:.
 # Crates of the two grammar languages, which call what is the same in both by one name, and the crates on which both
 # stand and whose words they speak.
 LANGUAGES = (
-    {"abnfread", "abnfprint", "abnfcheck", "abnfrun", "flatgrammar"},
-    {"pegread", "pegnodes", "gramcheck", "gramtools", "pegmatch"},
-    {"lexer", "rulenames", "ruletable", "toolrun"},
+    {"abnfread", "abnfprint", "abnfexplain", "abnfcheck", "abnfrun", "flatgrammar"},
+    {"pegread", "pegexplain", "pegnodes", "gramcheck", "pegrun", "pegmatch"},
+    {"lexer", "picture", "rulenames", "ruletable", "toolrun"},
 )
 # Names that stand in crates of one language, or in crates that speak of something else each; agreed, and not to grow.
 TWINS = set(
