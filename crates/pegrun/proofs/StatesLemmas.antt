@@ -55,7 +55,8 @@ module _ (settings : Settings) (input : Input) where
 
   notes_are_one : (definitions : List Rule) (a b : List Said) → AreNotesOn definitions (start_given settings) a
       → AreNotesOn definitions (start_given settings) b → a ≡ b
-  notes_are_one definitions = notes-one (firsts [] definitions) (names_at (firsts [] definitions) (agains [] definitions))
+  notes_are_one definitions =
+      notes-one (firsts [] definitions) (names_at (firsts [] definitions) (agains [] definitions))
       (start_given settings)
 
   module _ (text : List ℕ) where
@@ -85,9 +86,10 @@ module _ (settings : Settings) (input : Input) where
 
     one_of_text : (notes others : List ℕ) (a b : Reply) → IsStated notes a → IsStated others b → a.status ≢ 5
         → b.status ≢ 5 → (notes ≡ others) × (a ≡ b)
-    one_of_text = one_stated (IsFaultOf text) (Reads text) (λ definitions. AreNotesOn definitions (start_given settings))
-        (λ definitions notes. is_refused notes ≡ true) (λ definitions notes. is_refused notes ≡ false) AreAgain RunOf
-        printed_text settings.mode (one-reading text) (one-fault text) (no-fault text) notes_are_one again_is_one
+    one_of_text = one_stated (IsFaultOf text) (Reads text)
+        (λ definitions. AreNotesOn definitions (start_given settings)) (λ definitions notes. is_refused notes ≡ true)
+        (λ definitions notes. is_refused notes ≡ false) AreAgain RunOf printed_text settings.mode
+        (one-reading text) (one-fault text) (no-fault text) notes_are_one again_is_one
         (λ definitions notes bad fine. absurd (cc)) one_run
 
 -- one list of notes and one reply
