@@ -56,13 +56,16 @@ module _ {Grammar Sound : Type 0} {States : List ℕ → Settings → Input → 
     -- a text that was not read
     pub plan_unread : (why : ReadFault) → HasFault text why → Planned [] (Err (unread why))
     plan_unread why faulty =
-        unread-plan (States text settings) (HasFault text) (λ input why f other. law.refused text settings input why f other)
-        (λ input f. law.no_memory text settings input f) (λ (t : Task Grammar Sound). task_does canonical Runs t settings)
+        unread-plan (States text settings) (HasFault text)
+        (λ input why f other. law.refused text settings input why f other)
+        (λ input f. law.no_memory text settings input f)
+        (λ (t : Task Grammar Sound). task_does canonical Runs t settings)
         why faulty
 
     -- a grammar that was checked
     pub plan_checked : (notes : List Said) (mode : Mode) (sound : Option Sound) → settings.mode ≡ mode → mode ≢ Print
-        → IsChecked text (option_copied settings.start) notes sound → Planned (notes_text notes) (checked_task mode sound)
+        → IsChecked text (option_copied settings.start) notes sound
+        → Planned (notes_text notes) (checked_task mode sound)
     plan_checked notes mode None is other c = record {
       stated = λ input reply r. rw r (law.noted text settings input notes c (rw is other));
       some = λ input. (stopped (Quiet status.Refused), refl);

@@ -16,7 +16,8 @@ returns-then-is_err g c = record {
       let failed : is_err c.write_notes.result ≡ true = sym c.if-is_err.ensures.value in
       cut_short (g.L.Language.states c.args.grammar.now c.args.settings.now)
       (notes_text (map said_of c.plan_of-plan.result.notes.items))
-      (does_of (λ t. task_does g.L.Language.canonical g.L.Language.runs t c.args.settings.now) c.plan_of-plan.result.task) c.plan_of-plan.ensures
+      (does_of (λ t. task_does g.L.Language.canonical g.L.Language.runs t c.args.settings.now)
+      c.plan_of-plan.result.task) c.plan_of-plan.ensures
       (passed g.R.Source.remaining g.R.Source.failed c.args.reader.now c.args.reader.now)
       (passed g.O.Sink.contents g.O.Sink.failed c.args.out.now c.close.new.out)
       (passed g.E.Sink.contents g.E.Sink.failed c.args.err.now c.close.new.err)
@@ -31,7 +32,8 @@ returns g c = record {
       let fine : is_err c.write_notes.result ≡ false = sym c.if-is_err.ensures.value in
       run_is_right (g.L.Language.states c.args.grammar.now c.args.settings.now)
       (notes_text (map said_of c.plan_of-plan.result.notes.items))
-      (does_of (λ t. task_does g.L.Language.canonical g.L.Language.runs t c.args.settings.now) c.plan_of-plan.result.task) c.plan_of-plan.ensures
+      (does_of (λ t. task_does g.L.Language.canonical g.L.Language.runs t c.args.settings.now)
+      c.plan_of-plan.result.task) c.plan_of-plan.ensures
       (passed g.R.Source.remaining g.R.Source.failed c.args.reader.now c.act-stop.new.reader)
       (passed g.O.Sink.contents g.O.Sink.failed c.args.out.now c.act-stop.new.out)
       (passed g.O.Sink.contents g.O.Sink.failed c.args.out.now c.finish.new.out)
