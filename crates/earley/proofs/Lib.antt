@@ -18,4 +18,4 @@ pub mod RecordsLemmas
 pub mod SetAtMostLemmas
 pub mod SetsLemmas
 pub mod ViewsLemmas
-pub mod AreWaitingLemmas
+pub mod ListAllLemmas

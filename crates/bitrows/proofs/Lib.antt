@@ -1,0 +1,3 @@
+pub mod LenLemmas
+pub mod RowMembersLemmas
+pub mod WordInLemmas
