@@ -7,12 +7,12 @@ all: programs example
 # Runs an example of each program before anything is proved, in about a minute; or a program on a grammar and an input
 # of your own: make try TOOL=pegi GRAMMAR=f INPUT=g, and OPTIONS='-m check' if it is to have some.
 try:
-	@python3 -B scripts/try_tools.py
+	@python3 -B scripts/build/try_tools.py
 
 # Proves the crates that the programs stand on, as many side by side as processors and memory allow (JOBS=n says how
 # many), builds the programs, and puts them into bin/.
 programs:
-	@python3 -B scripts/prove.py pegi abnfi
+	@python3 -B scripts/build/prove.py pegi abnfi
 
 # A run of each program: the one rule of the peg(1) manual that replaces `username`, and a line of letters.
 example: programs
@@ -29,12 +29,12 @@ example: programs
 	@echo '$$ echo word | bin/abnfi crates/abnfi/data/word.abnf'
 	@echo word | bin/abnfi crates/abnfi/data/word.abnf
 
-# Each folder of examples/, compared with what it must print. The gate's tests hold the same texts. And the examples of the
-# manual pages, as they stand there.
+# Each folder of examples/, compared with what it must print, and the examples of the manual pages, as they stand there.
+# The gate runs them too; its tests hold the texts of most folders.
 examples: programs
-	@python3 scripts/example_tests.py check
-	@sh scripts/run_examples.sh
-	@python3 -B scripts/man_examples.py
+	@python3 scripts/docs/example_tests.py check
+	@sh scripts/docs/run_examples.sh
+	@python3 -B scripts/docs/man_examples.py
 
 # The programs, their manual pages, completions for shells, README and examples, below PREFIX. `put` takes the programs
 # from bin/ as they are.
@@ -55,19 +55,19 @@ put:
 
 # What a machine without the toolchain needs, in bin/: an archive for any Linux on x86-64, and a package for Debian.
 dist: programs
-	@python3 -B scripts/package.py dist
+	@python3 -B scripts/build/package.py dist
 
 deb: programs
-	@python3 -B scripts/package.py deb
+	@python3 -B scripts/build/package.py deb
 
 # The gate: every proof from nothing, the edits that the prover must refuse, tests and programs; then the programs are
 # put into bin/, and run on random cases and with memory, writes, reads and stack refused.
 test:
-	@python3 -B scripts/gate.py
+	@python3 -B scripts/gate/gate.py
 
 # The edits that the prover must refuse, crate by crate.
 edits:
-	@python3 -B scripts/edit_index.py
+	@python3 -B scripts/gate/edit_index.py
 
 # Every proof, over what earlier checks kept.
 check:

@@ -1,4 +1,4 @@
-# Completes the command line of abnfi in fish. scripts/completions.py wrote this file.
+# Completes the command line of abnfi in fish. scripts/build/completions.py wrote this file.
 
 # Prints the names of the rules of the grammar on the line, if it is there.
 function __abnfi_rules

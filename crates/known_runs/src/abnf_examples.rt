@@ -1,4 +1,4 @@
-//! The folders of `examples/` in ABNF, word for word: `scripts/example_tests.py` wrote this file.
+//! The folders of `examples/` in ABNF, word for word: `scripts/docs/example_tests.py` wrote this file.
 
 use crate::abnf_runs::{AbnfRow, check_row};
 use gramtools::{DEFAULT_LIMIT, Status};

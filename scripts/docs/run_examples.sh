@@ -3,7 +3,7 @@
 # printed.txt, tell its told.txt on the error output, or nothing where there is none, and end with the status in its
 # file status, or else 0. `make programs` builds the programs; a folder whose program is not built is skipped.
 set -eu
-cd "$(dirname "$0")/.."
+cd "$(dirname "$0")/../.."
 made=$(mktemp -d)
 trap 'rm -rf "$made"' EXIT
 PATH=$PWD/bin:$PATH

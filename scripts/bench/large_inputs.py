@@ -5,7 +5,7 @@ compares the answers and the status with those of `abnfi` alone.
 usage: large_inputs.py [MEGABYTES]
 
 It needs bin/abnfi, GNU parallel, and room for the lines in a temporary folder; 1 megabyte if no number is given. The
-lines are those of scripts/judge_bench/lines.py, again and again, with a line that is refused at the end.
+lines are those of scripts/bench/judge/lines.py, again and again, with a line that is refused at the end.
 """
 import os
 import pathlib
@@ -16,7 +16,7 @@ import sys
 import tempfile
 import time
 
-TOP = pathlib.Path(__file__).resolve().parent.parent
+TOP = pathlib.Path(__file__).resolve().parents[2]
 PAGE = TOP / "docs/LARGE_INPUTS.md"
 # A name of lines.py, and what the table calls the grammar and the lines.
 INPUTS = (("date", "RFC 3339, `date-time`"), ("uri", "RFC 3986, `URI-reference`"))
@@ -31,7 +31,7 @@ def write_scripts(folder):
 
 def write_lines(name, size, folder):
     """Writes a grammar, and so many bytes of lines."""
-    words = [sys.executable, TOP / "scripts/judge_bench/lines.py", name]
+    words = [sys.executable, TOP / "scripts/bench/judge/lines.py", name]
     made = subprocess.run(words, check=True, capture_output=True)
     grammar, lines = made.stdout.split(b"\0", 1)
     (folder / "g.abnf").write_bytes(grammar)

@@ -8,7 +8,7 @@ import pathlib
 import re
 import sys
 
-top = pathlib.Path(__file__).resolve().parent.parent
+top = pathlib.Path(__file__).resolve().parents[2]
 peg_file = top / "crates/known_runs/src/tests/examples.rt"
 abnf_file = top / "crates/known_runs/src/abnf_examples.rt"
 inputs = {
@@ -20,7 +20,7 @@ inputs = {
 }
 abnf_names = ["abnf", "rfc3339", "rfc3986", "rfc5322", "rfc8259"]
 
-HEAD = '''//! The folders of `examples/`, word for word: `scripts/example_tests.py` wrote this file.
+HEAD = '''//! The folders of `examples/`, word for word: `scripts/docs/example_tests.py` wrote this file.
 
 use super::{Row, check_rows};
 use gramtools::{DEFAULT_LIMIT, Status};
@@ -44,7 +44,7 @@ fn examples_print_what_they_must(rt: HostRuntime) {{
 {calls}}}
 '''
 
-ABNF_HEAD = '''//! The folders of `examples/` in ABNF, word for word: `scripts/example_tests.py` wrote this file.
+ABNF_HEAD = '''//! The folders of `examples/` in ABNF, word for word: `scripts/docs/example_tests.py` wrote this file.
 
 use crate::abnf_runs::{AbnfRow, check_row};
 use gramtools::{DEFAULT_LIMIT, Status};
@@ -120,7 +120,7 @@ def main(words):
         if words != ["check"]:
             file.write_text(text)
         elif not file.exists() or file.read_text() != text:
-            sys.exit(f"{file.relative_to(top)} is not what scripts/example_tests.py writes")
+            sys.exit(f"{file.relative_to(top)} is not what scripts/docs/example_tests.py writes")
 
 
 main(sys.argv[1:])

@@ -79,7 +79,7 @@ def main(given):
     rounds = 5
     if given[:1] == ["-n"]:
         rounds, given = int(given[1]), given[2:]
-    programs = given or [str(HERE.parent.parent / "bin" / "pegi")]
+    programs = given or [str(HERE.parents[2] / "bin" / "pegi")]
     print("| row | " + " | ".join(f"{it} ns | MB" for it in [*programs, "LPeg", "peg(1)"]) + " |")
     wrong = 0
     for name, options, grammar, of_peg, of_lua, make in ROWS:

@@ -1,8 +1,9 @@
 #!/usr/bin/env python3
 """The gate: the rules of names, the names in the documents, the form of the edits that must fail, the pages of the
 libraries and the completions; if these are green `rt ci`; if that is green too the programs as users run them: those
-that `rt ci` built are put into bin/, and run on random cases against slow answers, and with memory, writes, reads and
-stack refused; then what shells complete and what is packed is tested.
+that `rt ci` built are put into bin/, and run on the folders of examples/ and the examples of the manual pages, on
+random cases against slow answers, and with memory, writes, reads and stack refused; then what shells complete and what
+is packed is tested.
 
 usage: gate.py
 
@@ -18,19 +19,21 @@ import sys
 PROGRAMS = ("pegi", "abnfi")
 # What is looked at before anything is proved, and what the programs are run by.
 BEFORE = (
-    ("names.py",), ("doc_names.py",), ("edit_index.py", "-q"), ("pages.py", "--check"), ("completions.py", "--check")
+    ("gate/names.py",), ("gate/doc_names.py",), ("gate/edit_index.py", "-q"), ("docs/pages.py", "--check"),
+    ("docs/example_tests.py", "check"), ("build/completions.py", "--check")
 )
 BEHIND = (
-    ("man_examples.py",), ("random_cases.py", "-n", "5000", "-u", "-w", "-z"), ("faults.py",), ("completions_test.py",),
-    ("package_test.py",)
+    ("docs/run_examples.sh",), ("docs/man_examples.py",), ("oracles/random_cases.py", "-n", "5000", "-u", "-w", "-z"),
+    ("gate/faults.py",), ("gate/completions_test.py",), ("gate/package_test.py",)
 )
-TOP = pathlib.Path(__file__).resolve().parent.parent
+TOP = pathlib.Path(__file__).resolve().parents[2]
 RT = os.environ.get("RT", "rt").split()
 
 
 def script(name, *words):
-    """Runs a script beside this one, and tells whether it ended well."""
-    return subprocess.run([sys.executable, "-B", TOP / "scripts" / name, *words], cwd=TOP, check=False).returncode == 0
+    """Runs one of the scripts, and tells whether it ended well."""
+    by = ["sh"] if name.endswith(".sh") else [sys.executable, "-B"]
+    return subprocess.run([*by, TOP / "scripts" / name, *words], cwd=TOP, check=False).returncode == 0
 
 
 def ci():
@@ -53,7 +56,7 @@ def put_programs():
     """Puts the programs that `rt ci` built into bin/, or else builds them. Tells whether both are there."""
     built = [TOP / "crates" / it / "out" / it for it in PROGRAMS]
     if not all(it.is_file() for it in built):
-        return script("prove.py", *PROGRAMS)
+        return script("build/prove.py", *PROGRAMS)
     (TOP / "bin").mkdir(exist_ok=True)
     for it in built:
         shutil.copy(it, TOP / "bin" / it.name)

@@ -5,8 +5,8 @@ here=$(cd "$(dirname "$0")" && pwd)
 top=${TMPDIR:-/tmp}/judge_bench.$(id -u)
 mkdir -p "$top"
 rm -rf "$top/crates"
-cp -r "$here/../../crates" "$top/crates"
-cp "$here/../../crates.txt" "$top/crates.txt"
+cp -r "$here/../../../crates" "$top/crates"
+cp "$here/../../../crates.txt" "$top/crates.txt"
 echo 'judge_bench: abnfcheck abnfread earley flatgrammar ruletable' >> "$top/crates.txt"
 mkdir -p "$top/crates/judge_bench/src"
 cp "$here/program.txt" "$top/crates/judge_bench/src/main.rt"

@@ -18,7 +18,7 @@ import subprocess
 import sys
 import tempfile
 
-TOP = pathlib.Path(__file__).resolve().parent.parent
+TOP = pathlib.Path(__file__).resolve().parents[2]
 STACK = 256 * 1024
 # So many growths at most make the list of a program's words, beside one for each word before the grammar's. The list
 # asks first for all that it will need, and where that is refused it asks again, so the run can go on.
@@ -96,7 +96,7 @@ class Tools:
     def build(self):
         """Makes the library; False where there is no compiler."""
         self.library = self.folder / "faults.so"
-        words = ["cc", "-shared", "-fPIC", "-O1", "-o", self.library, TOP / "scripts/faults/faults.c"]
+        words = ["cc", "-shared", "-fPIC", "-O1", "-o", self.library, TOP / "scripts/gate/faults.c"]
         return bool(shutil.which("cc")) and bool(subprocess.run(words, check=True))
 
     def run(self, run, **faults):

@@ -13,9 +13,11 @@ A page has sentences written by hand, and blocks between two markers, of which t
 A library without a page gets one. With --check nothing is written: each page that is not up to date is named, and the
 status is 1.
 """
+import pathlib
 import re
 import sys
 
+sys.path.insert(0, str(pathlib.Path(__file__).resolve().parents[1]))  # scripts/, for what groups share
 from contract_index import OWNER, TOP, definitions, functions, head_end, owner_of
 from crates import in_order
 
@@ -217,7 +219,7 @@ def main(*words):
                 file.parent.mkdir(parents=True, exist_ok=True)
                 file.write_text(new)
     for file in stale if "--check" in words else []:
-        print(f"{file.relative_to(TOP)} is not up to date: run scripts/pages.py", file=sys.stderr)
+        print(f"{file.relative_to(TOP)} is not up to date: run scripts/docs/pages.py", file=sys.stderr)
     return 1 if stale and "--check" in words else 0
 
 

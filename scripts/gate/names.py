@@ -21,6 +21,31 @@ PARTICIPLES = {"Begun", "Chosen", "Kept", "Left", "Made", "Read", "Said", "Taken
 BLOCK = re.compile(r"(?:(?:pub|unfoldable) )*(?:(abbrev) )?(?:pub )?(?:(data|record)|module|mutual)\b(?! *\{)")
 # A name of one word, and what it says, which may begin on the next line.
 ONE_WORD = re.compile(r"(?:(?:private|pub|unfoldable) )*([a-z][A-Za-z0-9]*)(?: :(?: |$)|$)")
+# A definition's name, at the margin of a file of specs/.
+DEFINITION = re.compile(r"(?:(?:unfoldable|abbrev|pub|data|record) )+([^\s(){}:.]+)")
+# Crates of the two grammar languages, which call what is the same in both by one name, and the crates on which both
+# stand and whose words they speak.
+LANGUAGES = (
+    {"abnfread", "abnfprint", "abnfcheck", "abnfrun", "flatgrammar"},
+    {"pegread", "gramcheck", "gramtools", "pegmatch"},
+    {"lexer", "rulenames", "ruletable", "toolrun"},
+)
+# Names that stand in crates of one language, or in crates that speak of something else each; agreed, and not to grow.
+TWINS = set(
+    """
+    Adds AreBelow AreCallers AreDifferent AreGrown AreOrdered AreReaders AreRows AreWaiting AreWithin Begins
+    Chain Closes Drops Finishes GoesOn Grammar Grows IsAdded IsBegun IsBuilt IsClosing IsCut IsFirst IsHead IsIn
+    IsLast IsNext IsOver IsPart IsPassed IsPrinted IsRanked IsRead IsStart IsStep IsTable IsTaken Names Piece
+    Place Reads Says Way Writes empty head_of is_blank key_of members_of node_of pair place_of places_of row_of
+    run_text spots_of steps_of taken_at unit_of way_of
+    """.split()
+)
+# The most functions that a crate has, and the crates that have more: so many each. Tests count for nothing.
+LARGEST_CRATE = 105
+LARGER = {"gramcheck": 132, "lazydfa": 120}
+# The most entries that a folder has, and the folders that have more.
+LARGEST_FOLDER = 40
+WIDER = {"crates/gramcheck/proofs": 65}
 # Folders that hold no sources.
 BUILT = {".git", "__pycache__", "bin", "out"}
 TEXTS = {".antt", ".edit", ".md", ".py", ".rt", ".sh"}
@@ -147,6 +172,51 @@ def of_twins(files):
             yield f"{name}: {', '.join(map(str, paths))}"
 
 
+def crates_that_define(top, files):
+    """Returns, for each name of a definition, the crates in whose specs/ it stands."""
+    found = collections.defaultdict(set)
+    for path in files:
+        if path.suffix == ".antt" and path.parts[0] == "crates" and path.parts[2] == "specs":
+            for line in (top / path).read_text().splitlines():
+                match = DEFINITION.match(line)
+                if match and match[1] not in ("mod", "mutual", "use"):
+                    found[match[1]].add(path.parts[1])
+    return found
+
+
+def of_twin_definitions(top, files):
+    """Yields the definitions whose name stands in two crates, unless these are one of each language or it is agreed."""
+    for name, crates in sorted(crates_that_define(top, files).items()):
+        by_language = [len(crates & language) for language in LANGUAGES]
+        one_of_each = sum(by_language) == len(crates) and max(by_language, default=0) <= 1
+        if len(crates) > 1 and not one_of_each and name not in TWINS:
+            yield f"{name}: {', '.join(sorted(crates))}"
+
+
+def of_large_crates(top, files):
+    """Yields the crates that have too many functions."""
+    count = collections.Counter()
+    for path in files:
+        if path.suffix == ".rt" and path.parts[0] == "crates":
+            text = (top / path).read_text()
+            count[path.parts[1]] += len(re.findall(r"^ *(?:pub(?:\([a-z]+\))? )?(?:const )?fn ", text, re.M))
+            count[path.parts[1]] -= text.count("#[test]")
+    for crate, functions_of_it in sorted(count.items()):
+        if functions_of_it > LARGER.get(crate, LARGEST_CRATE):
+            yield f"{crate}: {functions_of_it} functions"
+
+
+def of_wide_folders(files):
+    """Yields the folders that have too many entries."""
+    entries = collections.defaultdict(set)
+    for path in files:
+        for parent, child in zip(path.parents, [path, *path.parents]):
+            entries[parent].add(child.name)
+    for folder, names in sorted(entries.items()):
+        if len(names) > WIDER.get(str(folder), LARGEST_FOLDER):
+            yield f"{folder}: {len(names)} entries"
+
+
 def of_long_files(top, files):
     """Yields the files that have too many lines."""
     for path in files:
@@ -172,13 +242,16 @@ def of_long_lines(top, files):
 
 def main():
     """Prints what breaks the rules, by rule, and returns 1 where something does."""
-    top = pathlib.Path(__file__).resolve().parent.parent
+    top = pathlib.Path(__file__).resolve().parents[2]
     files = sources(top)
     rules = {
         "names of lemma files": of_lemma_names(files, definitions(top, files)),
         "the functions that lemma files serve": of_served(top, files),
         "lemmas whose name is one word": of_short_names(top, files),
         "names that stand more than once": of_twins(files),
+        "definitions whose name stands in two crates": of_twin_definitions(top, files),
+        f"crates of more than {LARGEST_CRATE} functions": of_large_crates(top, files),
+        f"folders of more than {LARGEST_FOLDER} entries": of_wide_folders(files),
         f"files of more than {LONGEST_FILE} lines": of_long_files(top, files),
         f"lines of more than {LONGEST_LINE} characters": of_long_lines(top, files),
     }

@@ -11,9 +11,10 @@ import pathlib
 import re
 import sys
 
+sys.path.insert(0, str(pathlib.Path(__file__).resolve().parents[1]))  # scripts/, for what groups share
 from crates import in_order
 
-TOP = pathlib.Path(__file__).resolve().parent.parent
+TOP = pathlib.Path(__file__).resolve().parents[2]
 FUNCTION = re.compile(r"^( *)pub fn (\w+)", re.M)
 OWNER = re.compile(r"^(?:impl|pub trait)(?:<.*?>)? (?:(?:\w+)(?:<.*?>)? for )?(\w+)", re.M)
 METHOD = re.compile(r"^( +)fn (\w+)", re.M)

@@ -14,7 +14,7 @@ import sys
 
 from names import sources
 
-TOP = pathlib.Path(__file__).resolve().parent.parent
+TOP = pathlib.Path(__file__).resolve().parents[2]
 # What begins and ends a part that pages.py writes, and what fences code.
 WRITTEN = re.compile(r"<!-- (?!end).*?<!-- end -->", re.S)
 FENCED = re.compile(r"^```.*?^```", re.S | re.M)

@@ -20,7 +20,8 @@ import sys
 import tempfile
 import time
 
-from completions import FOLDER, GRAMMAR, PROGRAMS, TOP
+sys.path.insert(0, str(pathlib.Path(__file__).resolve().parents[1]))  # scripts/, for what groups share
+from build.completions import FOLDER, GRAMMAR, PROGRAMS, TOP
 
 # Each grammar has three rules, of which the last is used by none.
 GRAMMARS = {
@@ -66,7 +67,7 @@ def faults_of_help(program):
     """Returns in what -h and the description differ."""
     options, grammar = shown(program)
     described = {(it.letter, it.value, it.text, it.values) for it in program.options}
-    faults = [f"{program.name} -h and scripts/completions.py differ in {it}" for it in options ^ described]
+    faults = [f"{program.name} -h and scripts/build/completions.py differ in {it}" for it in options ^ described]
     return faults + ([] if grammar == GRAMMAR else [f"{program.name} -h says of the grammar: {grammar}"])
 
 

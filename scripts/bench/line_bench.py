@@ -5,7 +5,7 @@ usage: line_bench.py [PROGRAM ..]
 
 The programs are builds of abnfi; bin/abnfi if none is given. Prints for each input and program the processor time a
 byte in nanoseconds, the least of three runs, and the greatest memory in MB. The lines are those of
-judge_bench/lines.py, as often as a run takes a fifth of a second or reads 32 MB; so starting, reading and cutting of
+judge/lines.py, as often as a run takes a fifth of a second or reads 32 MB; so starting, reading and cutting of
 lines are part of it.
 """
 import os
@@ -28,7 +28,7 @@ ENOUGH, MOST = 0.2, 32_000_000
 
 def given(name, letters):
     """Returns a grammar, and lines to judge by it."""
-    said = subprocess.check_output([sys.executable, HERE / "judge_bench/lines.py", name])
+    said = subprocess.check_output([sys.executable, HERE / "judge/lines.py", name])
     grammar, _, lines = said.partition(b"\0")
     return grammar, lines if letters is None else b"a" * letters + b"\n"
 
@@ -64,7 +64,7 @@ def measure(words, lines, file, least=1):
 
 
 def main(programs):
-    programs = programs or [str(HERE.parent / "bin" / "abnfi")]
+    programs = programs or [str(HERE.parents[1] / "bin" / "abnfi")]
     with tempfile.TemporaryDirectory(prefix="line_bench-") as folder:
         folder = pathlib.Path(folder)
         for name, letters, options, said in ROWS:

@@ -22,7 +22,7 @@ import random_peg
 import slow_abnf
 import slow_peg
 
-TOP = pathlib.Path(__file__).resolve().parent.parent
+TOP = pathlib.Path(__file__).resolve().parents[2]
 LINES = 40
 
 # A run: the words behind the grammar's name, the grammar's text, the input, and what is to come of it.

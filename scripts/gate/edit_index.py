@@ -10,9 +10,10 @@ import pathlib
 import re
 import sys
 
+sys.path.insert(0, str(pathlib.Path(__file__).resolve().parents[1]))  # scripts/, for what groups share
 from crates import in_order
 
-TOP = pathlib.Path(__file__).resolve().parent.parent
+TOP = pathlib.Path(__file__).resolve().parents[2]
 # What a first line names where no clause of the function refuses the edit.
 OTHERS = r"ensures|invariant|loop|safe|ends|requires of [\w.]+"
 # Traits whose methods need no edit of their own.

@@ -23,9 +23,10 @@ import sys
 import tempfile
 import time
 
+sys.path.insert(0, str(pathlib.Path(__file__).resolve().parents[1]))  # scripts/, for what groups share
 from crates import below, in_order, lines_of, uses
 
-TOP = pathlib.Path(__file__).resolve().parent.parent
+TOP = pathlib.Path(__file__).resolve().parents[2]
 RT = os.environ.get("RT", "rt").split()
 # The folders of a crate that `rt` reads.
 PARTS = ("src", "specs", "proofs")
@@ -47,7 +48,7 @@ def processors():
 
 def seconds():
     """Returns the seconds of proof_seconds.txt, by the crate's name."""
-    lines = (it.partition("#")[0].split() for it in (TOP / "scripts/proof_seconds.txt").read_text().splitlines())
+    lines = (it.partition("#")[0].split() for it in (TOP / "scripts/build/proof_seconds.txt").read_text().splitlines())
     return {crate: int(time) for crate, time in filter(None, lines)}
 
 

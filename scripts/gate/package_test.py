@@ -15,9 +15,10 @@ import sys
 import tarfile
 import tempfile
 
-from package import NAME, deb, dist
+sys.path.insert(0, str(pathlib.Path(__file__).resolve().parents[1]))  # scripts/, for what groups share
+from build.package import NAME, deb, dist
 
-TOP = pathlib.Path(__file__).resolve().parent.parent
+TOP = pathlib.Path(__file__).resolve().parents[2]
 
 
 def run(*words, folder=TOP):
@@ -29,7 +30,7 @@ def run(*words, folder=TOP):
 def faults_of_examples(prefix, pages):
     """Returns what is wrong with the installed examples: those of the manual pages, and the folders of examples/."""
     environment = {**os.environ, "PATH": f"{prefix / 'bin'}:{os.environ['PATH']}"}
-    found = run(sys.executable, "-B", TOP / "scripts/man_examples.py", prefix / "bin", pages)
+    found = run(sys.executable, "-B", TOP / "scripts/docs/man_examples.py", prefix / "bin", pages)
     for folder in sorted((prefix / f"share/doc/{NAME}/examples").iterdir()):
         ran = subprocess.run(["sh", "run.sh"], cwd=folder, env=environment, capture_output=True, check=False)
         status = folder / "status"

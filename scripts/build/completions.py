@@ -11,7 +11,7 @@ import dataclasses
 import pathlib
 import sys
 
-TOP = pathlib.Path(__file__).resolve().parent.parent
+TOP = pathlib.Path(__file__).resolve().parents[2]
 FOLDER = TOP / "completions"
 
 
@@ -61,7 +61,7 @@ PROGRAMS = (
     ), "="),
 )
 
-BASH = r"""# Completes the command line of @NAME@ in bash. scripts/completions.py wrote this file.
+BASH = r"""# Completes the command line of @NAME@ in bash. scripts/build/completions.py wrote this file.
 
 # Prints the names of the rules of the grammar on the line, if it is there.
 _@NAME@_rules() {
@@ -112,7 +112,7 @@ BASH_VALUES = """        -@LETTER@)
             ;;"""
 
 ZSH = r"""#compdef @NAME@
-# Completes the command line of @NAME@ in zsh. scripts/completions.py wrote this file.
+# Completes the command line of @NAME@ in zsh. scripts/build/completions.py wrote this file.
 
 # Offers the names of the rules of the grammar on the line, if it is there.
 _@NAME@_rules() {
@@ -138,7 +138,7 @@ _arguments -s \
     '1:grammar:_files'
 """
 
-FISH = r"""# Completes the command line of @NAME@ in fish. scripts/completions.py wrote this file.
+FISH = r"""# Completes the command line of @NAME@ in fish. scripts/build/completions.py wrote this file.
 
 # Prints the names of the rules of the grammar on the line, if it is there.
 function __@NAME@_rules
@@ -219,7 +219,7 @@ def main(words):
         file = FOLDER / path
         if "--check" in words:
             if not file.is_file() or file.read_text() != text:
-                print(f"completions/{path}: not what scripts/completions.py writes")
+                print(f"completions/{path}: not what scripts/build/completions.py writes")
                 wrong += 1
         else:
             file.parent.mkdir(parents=True, exist_ok=True)

@@ -19,7 +19,7 @@ import sys
 import tarfile
 import tempfile
 
-TOP = pathlib.Path(__file__).resolve().parent.parent
+TOP = pathlib.Path(__file__).resolve().parents[2]
 NAME = "fanquber"
 PROGRAMS = ("pegi", "abnfi")
 LIBRARIES = {"libc.so.6", "ld-linux-x86-64.so.2"}
