@@ -1,10 +1,12 @@
 -- Members of rows of bits.
--- Serves: BitRow::contains, BitRow::insert, BitRow::len, BitRow::merge, BitRow::next
+-- Serves: BitRow::insert, BitRow::len, BitRow::merge, BitRow::next
 use Rattle.std.proofs.Common.{◌≡◌, ◌≢◌, ℕ, zero, suc, ◌+◌, ◌-◌, ◌*◌, ◌/◌, ◌%◌, ◌^◌, ◌<◌, ◌≤◌, ◌⊎◌, inl, inr, Bool, true}
 use Rattle.std.proofs.Common.{false, ◌==◌, List, [], ◌∷◌, length, cond, Contains, refl, sym, ap}
 use Rattle.std.proofs.Common.{subst, ◌∙◌, arith, ◌↔◌, bit_and, bit_or, min, nat_le, set}
 use Rattle.std.specs.Int.{bit_at, bit_not, w64}
 use Rattle.std.specs.List.{filter, range_with_len}
+use Rattle.std.specs.List.Sorted.{IsStrictlyIncreasing}
+use Rattle.std.proofs.lemmas.List.Kept.{IsStrictlyIncreasing-filter}
 use Rattle.std.proofs.lemmas.Bool.Decides.{Decides-eqb, eqb_tells, nat_tests}
 use Rattle.std.proofs.lemmas.List.FromFn.{length-range_with_len, get_or-range_with_len}
 use Rattle.std.proofs.lemmas.Nat.Bits.{bit_at-zero, bit_at-lt, bit_at_or, bit_at_and, bit_at_not, bit_at_set_same}
@@ -83,8 +85,13 @@ or_cases u v r h = by (eqb_tells (bit_at u r) 1)
         → (bit_at u r ≡ 1) ⊎ (bit_at v r ≡ 1)
     by (inl is) = inl is.1
     by (inr is_not) =
-        let is = bit_at_or u v r in let a = bit_at-lt u r in let other = is_not.1 in inr (omega (arith, is, a, other,
-            h))
+        let is = bit_at_or u v r in let a = bit_at-lt u r in let other = is_not.1 in inr (omega (
+          arith,
+          is,
+          a,
+          other,
+          h,
+        ))
 
 or_left : (u v r : ℕ) → bit_at u r ≡ 1 → bit_at (bit_or u v) r ≡ 1
 or_left u v r h = let is = bit_at_or u v r in let b = bit_at-lt v r in omega (arith, is, b, h)
@@ -283,3 +290,15 @@ none_found f words row is none x h =
     by (inl zero_word) set = let zero_bit = bit_at-zero (x % 64) in
         absurd (omega (arith, sym (ap (λ w. bit_at w (x % 64)) zero_word ∙ zero_bit) ∙ set))
     by (inr within) set = let low = within.0 in let short = within.1 in absurd (omega (arith, low, short, none))
+
+range_ascends : (a n : ℕ) → IsStrictlyIncreasing (range_with_len a n)
+range_ascends a n k lt =
+    let size = length-range_with_len a n in
+    let here = get_or-range_with_len a n k 0 (omega (arith, lt, size)) in
+    let next = get_or-range_with_len a n (k + 1) 0 (omega (arith, lt, size)) in
+    omega (arith, here, next)
+
+pub members_ascend : (first : ℕ) (words : List ℕ) → IsStrictlyIncreasing (members first words)
+unfolding members
+members_ascend first words = IsStrictlyIncreasing-filter (has_bit first words)
+    (range_with_len (first * 64) (length words * 64)) (range_ascends (first * 64) (length words * 64))

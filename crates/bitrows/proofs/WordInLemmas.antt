@@ -183,7 +183,7 @@ missing_in f a g words words' more known fa ga each q = by (nat_le f q) refl (na
         let place : (q - f) - (a - f) + (a - g) ≡ q - g = omega (arith, fa, ga, from, le) in
         word_from f words' q from ∙ each (q - f)
         ∙ ap (λ v. bit_or v (bit_and (word_in (a - f) more (q - f)) (bit_not w64 other))) (sym (word_from f words q
-            from))
+        from))
         ∙ ap (λ v. bit_or (word_in f words q) (bit_and v (bit_not w64 other))) (word_moved f a more q fa from)
         ∙ ap (λ v. bit_or (word_in f words q) (bit_and (word_in a more q) (bit_not w64 v)))
         (ap (λ v. slice_index_or known v 0) place ∙ sym (word_from g known q (omega (arith, ga, le))))
@@ -193,7 +193,7 @@ missing_in f a g words words' more known fa ga each q = by (nat_le f q) refl (na
         let none = word_before a more q lt in
         word_from f words' q from ∙ each (q - f)
         ∙ ap (λ v. bit_or v (bit_and (word_in (a - f) more (q - f)) (bit_not w64 other))) (sym (word_from f words q
-            from))
+        from))
         ∙ ap (λ v. bit_or (word_in f words q) (bit_and v (bit_not w64 other))) (word_moved f a more q fa from ∙ none)
         ∙ ap (λ v. bit_or (word_in f words q) (bit_and v (bit_not w64 (word_in g known q)))) (sym none)
     by false is d past =
@@ -201,7 +201,7 @@ missing_in f a g words words' more known fa ga each q = by (nat_le f q) refl (na
         let none = word_before a more q (omega (arith, fa, lt)) in
         word_before f words' q lt
         ∙ sym (ap (λ v. bit_or v (bit_and (word_in a more q) (bit_not w64 (word_in g known q)))) (word_before f words
-            q lt)
+        q lt)
         ∙ ap (λ v. bit_or 0 (bit_and v (bit_not w64 (word_in g known q)))) none)
 
 pub default_same : (words : List ℕ) (i d e : ℕ) → i < length words → slice_index_or words i d ≡ slice_index_or words i e

@@ -1,6 +1,7 @@
 //! Rows of bits.
 ghost use Rattle.std.specs.Prelude.{◌≡◌, ◌↔◌, ◌⊎◌, ◌<◌, ◌≤◌, ◌^◌, ℕ, [], length, Contains, IfOk, IfSome};
 ghost use Rattle.std.specs.Prelude.{IfNone, OnErr};
+ghost use Rattle.std.specs.List.Sorted.{IsStrictlyIncreasing};
 
 use crate::words::{count_bits, cover, lowest_bit, or_missing, or_words, word};
 use ruletable::Memory;
@@ -107,9 +108,10 @@ impl BitRow {
         None
     }
 
-    /// Returns the number of members.
+    /// Returns the number of members. Each is listed once.
     pub fn len(&self) -> usize
-        ensures { result ≡ length self.now }
+        ensures count { result ≡ length self.now }
+        ensures ascend { IsStrictlyIncreasing self.now }
     {
         count_bits(&self.words)
     }

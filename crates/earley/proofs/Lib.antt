@@ -1,7 +1,7 @@
 pub mod AddsLemmas
 pub mod AloneLemmas
 pub mod AreChosenLemmas
-pub mod AreScannedLemmas
+pub mod AreScannedItemsLemmas
 pub mod BlockLemmas
 pub mod ChartSetsLemmas
 pub mod ExpandLemmas

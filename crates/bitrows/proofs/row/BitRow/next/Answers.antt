@@ -1,6 +1,22 @@
 -- The lowest bit of the first word that has one.
-use Rattle.std.proofs.Common.{◌≡◌, ◌+◌, ◌*◌, ◌/◌, ◌%◌, ◌<◌, ◌≤◌, ap, sym, ◌∙◌, subst, arith, Contains, Bool, true,
-    false}
+use Rattle.std.proofs.Common.{
+  ◌≡◌,
+  ◌+◌,
+  ◌*◌,
+  ◌/◌,
+  ◌%◌,
+  ◌<◌,
+  ◌≤◌,
+  ap,
+  sym,
+  ◌∙◌,
+  subst,
+  arith,
+  Contains,
+  Bool,
+  true,
+  false,
+}
 use Rattle.std.proofs.Common.{refl, nat_le}
 use Rattle.std.specs.Int.{bit_at}
 use Rattle.std.proofs.lemmas.Bool.Decides.{nat_tests}
