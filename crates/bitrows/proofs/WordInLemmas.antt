@@ -204,10 +204,11 @@ missing_in f a g words words' more known fa ga each q = by (nat_le f q) refl (na
         q lt)
         ∙ ap (λ v. bit_or 0 (bit_and v (bit_not w64 (word_in g known q)))) none)
 
-pub default_same : (words : List ℕ) (i d e : ℕ) → i < length words → slice_index_or words i d ≡ slice_index_or words i e
+pub default_same : {A : Type 0} (xs : List A) (i : ℕ) (d e : A) → i < length xs
+    → slice_index_or xs i d ≡ slice_index_or xs i e
 default_same [] i d e lt = absurd (omega (arith, lt))
-default_same (w ∷ ws) zero d e lt = refl
-default_same (w ∷ ws) (suc i) d e lt = default_same ws i d e (omega (arith, lt))
+default_same (x ∷ xs) zero d e lt = refl
+default_same (x ∷ xs) (suc i) d e lt = default_same xs i d e (omega (arith, lt))
 
 pub small_words : (first : ℕ) (words : List ℕ) → ((i : ℕ) → slice_index_or words i 0 < 2 ^ 64) → (q : ℕ)
     → word_in first words q < 2 ^ 64

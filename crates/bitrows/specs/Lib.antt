@@ -1,1 +1,2 @@
 pub mod RowMembers
+pub mod RowSets

@@ -2,6 +2,8 @@
 #![tactic(auto)]
 
 mod row;
+mod row_set;
 mod words;
 
 pub use row::BitRow;
+pub use row_set::RowSet;

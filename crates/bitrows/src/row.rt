@@ -57,7 +57,7 @@ impl BitRow {
 
     /// Adds the members of another set, and to `pending` those of them that are new. `Memory` if an allocation fails;
     /// both sets keep their members then.
-    pub fn merge(&mut self, found: &BitRow, pending: &mut BitRow) -> Result<(), Memory>
+    pub(crate) fn merge(&mut self, found: &BitRow, pending: &mut BitRow) -> Result<(), Memory>
         ensures members { IfOk result (λ done. (x : ℕ) → Contains self.new x ↔ (Contains self.old x
             ⊎ Contains found.now x)) }
         ensures pending { IfOk result (λ done. (x : ℕ) → Contains pending.new x ↔ (Contains pending.old x
