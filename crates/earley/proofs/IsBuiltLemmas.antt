@@ -12,7 +12,7 @@ use Rattle.flatgrammar.specs.declared.tables.Tables as code_flat
 use Rattle.flatgrammar.specs.NodeSteps.{flat_of, read_at, IfSomeSet}
 use Rattle.flatgrammar.specs.TableViews.{GiveRoots, read_in}
 use Rattle.earley.specs.Closed.{Hold, HoldAll, IsClosed}
-use Rattle.earley.specs.ScannedItems.{IsScanned}
+use Rattle.earley.specs.ScannedItems.{IsScannedItem}
 use Rattle.earley.specs.Charts.{item_of, IsFirst, IsWhole, IsAfter, IsExact, IsBuilt}
 use Rattle.flatgrammar.specs.FlatViews.{node_of}
 use Rattle.earley.specs.ItemSets.{Adds}
@@ -93,7 +93,7 @@ module _ (flat : code_flat.Tables) (roots : GiveRoots (flat_of flat) flat.roots.
 
     read_more : (j c : ℕ) (s next : List Item) → (slice_get sets j ≡ Some s) ⊎ AtEnd sets set j s
         → (slice_get sets (j + 1) ≡ Some next) ⊎ AtEnd sets set (j + 1) next →
-        slice_get x j ≡ Some c → (a : Item) → IsScanned flat c s a → In a next
+        slice_get x j ≡ Some c → (a : Item) → IsScannedItem flat c s a → In a next
     read_more j c s next (inl is) (inl is_next) letter a r = b.chart.read j c s next is is_next letter a r
     read_more j c s next (inl is) (inr e) letter a r =
         subst (λ v. In a v) e.is (first a (inr (record {
@@ -202,16 +202,16 @@ module _ (flat : code_flat.Tables) (x : List ℕ) (sets : List (List Item)) (old
   some_same h = cc
 
   pub first_after : (k c : ℕ) (last : List Item) → length sets ≡ k + 1 → slice_get sets k ≡ Some last
-      → slice_get x k ≡ Some c → Adds (IsScanned flat c last) old new →
+      → slice_get x k ≡ Some c → Adds (IsScannedItem flat c last) old new →
       Adds (IsFirst flat x sets) old new
-  first_after k c last size set letter p = adds_as (IsScanned flat c last) (IsFirst flat x sets) old new
+  first_after k c last size set letter p = adds_as (IsScannedItem flat c last) (IsFirst flat x sets) old new
       (λ a r. inr (record { at = k; letter = c; last = last; size = size; set = set; letter_is = letter; read = r }))
       (λ a h. by a h) p
     where
-      by : (a : Item) → IsFirst flat x sets a → IsScanned flat c last a
+      by : (a : Item) → IsFirst flat x sets a → IsScannedItem flat c last a
       by a (inl h) = absurd (omega (arith, h.0, size))
       by a (inr h) =
           let same : h.at ≡ k = omega (arith, h.size, size) in
           let one : h.last ≡ last = some_same (sym h.set ∙ (ap (λ v. slice_get sets v) same ∙ set)) in
           let two : h.letter ≡ c = some_same (sym h.letter_is ∙ (ap (λ v. slice_get x v) same ∙ letter)) in
-          subst (λ v. IsScanned flat v last a) two (subst (λ v. IsScanned flat h.letter v a) one h.read)
+          subst (λ v. IsScannedItem flat v last a) two (subst (λ v. IsScannedItem flat h.letter v a) one h.read)

@@ -1,7 +1,7 @@
 pub mod AddsLemmas
 pub mod AloneLemmas
 pub mod AreChosenLemmas
-pub mod AreScannedLemmas
+pub mod AreScannedItemsLemmas
 pub mod BlockLemmas
 pub mod ChartSetsLemmas
 pub mod ExpandLemmas
@@ -18,4 +18,4 @@ pub mod RecordsLemmas
 pub mod SetAtMostLemmas
 pub mod SetsLemmas
 pub mod ViewsLemmas
-pub mod AreWaitingLemmas
+pub mod ListAllLemmas

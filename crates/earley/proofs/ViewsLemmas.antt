@@ -14,7 +14,7 @@ use Rattle.flatgrammar.specs.FlatViews.{node_of}
 use Rattle.flatgrammar.specs.NodeSteps.{flat_of, IfSomeSet}
 use Rattle.earley.specs.ItemSets.{Adds}
 use Rattle.flatgrammar.specs.TableViews.{count_in, read_in, GiveRoots, whole_root, AreNulls}
-use Rattle.earley.specs.ScannedItems.{IsScanned}
+use Rattle.earley.specs.ScannedItems.{IsScannedItem}
 use Rattle.earley.specs.Closed.{Hold, IsClosed, Keeps}
 use Rattle.earley.specs.Charts.{IsFirst, IsAfter, IsBuilt}
 use Rattle.flatgrammar.specs.declared.block.Spot.{Spot}
@@ -138,18 +138,18 @@ begun_not flat j old never = adds_none (IsWholeAt flat j) old (λ t w. absurd (n
 
 module _ (flat : code_flat.Tables) (x : List ℕ) (sets : List (List Item)) (old new : List Item) where
   pub after_last : (k c : ℕ) (last : List Item) → length sets ≡ k + 1 → slice_get sets k ≡ Some last
-      → slice_get x k ≡ Some c → Adds (IsScanned flat c last) old new →
+      → slice_get x k ≡ Some c → Adds (IsScannedItem flat c last) old new →
       Adds (IsAfter flat x sets) old new
-  after_last k c last size set letter p = adds_as (IsScanned flat c last) (IsAfter flat x sets) old new
+  after_last k c last size set letter p = adds_as (IsScannedItem flat c last) (IsAfter flat x sets) old new
       (λ a r. record { at = k; letter = c; last = last; size = size; set = set; letter_is = letter; read = r })
       (λ a h. by a h) p
     where
-      by : (a : Item) → IsAfter flat x sets a → IsScanned flat c last a
+      by : (a : Item) → IsAfter flat x sets a → IsScannedItem flat c last a
       by a h =
           let same : h.at ≡ k = omega (arith, h.size, size) in
           let one : h.last ≡ last = some_same (sym h.set ∙ (ap (λ v. slice_get sets v) same ∙ set)) in
           let two : h.letter ≡ c = some_same (sym h.letter_is ∙ (ap (λ v. slice_get x v) same ∙ letter)) in
-          subst (λ v. IsScanned flat v last a) two (subst (λ v. IsScanned flat h.letter v a) one h.read)
+          subst (λ v. IsScannedItem flat v last a) two (subst (λ v. IsScannedItem flat h.letter v a) one h.read)
 
   pub after_none : length sets ≡ 0 → Adds (IsAfter flat x sets) old old
   after_none none = adds_none (IsAfter flat x sets) old (λ a h. absurd (omega (arith, h.size, none)))

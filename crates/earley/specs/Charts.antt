@@ -7,7 +7,7 @@ use Rattle.earley.specs.Closed.{Hold, HoldAll, IsClosed}
 use Rattle.earley.specs.ItemSets.{IsBegun}
 use Rattle.flatgrammar.specs.TableViews.{whole_root, count_in}
 use Rattle.flatgrammar.specs.Holds.{Holds}
-use Rattle.earley.specs.ScannedItems.{IsScanned}
+use Rattle.earley.specs.ScannedItems.{IsScannedItem}
 use Rattle.flatgrammar.specs.Flat.{Place, at, Starts}
 use Rattle.flatgrammar.specs.Places.{In, AreDifferent}
 
@@ -20,7 +20,7 @@ pub record IsChart (flat : code_flat.Tables) (x : List ℕ) (sets : List (List I
   pub closed : (j : ℕ) (set : List Item) → slice_get sets j ≡ Some set → IsClosed flat (take j sets) set
   pub read : (j c : ℕ) (set next : List Item) → slice_get sets j ≡ Some set → slice_get sets (j + 1) ≡ Some next
       → slice_get x j ≡ Some c →
-      (a : Item) → IsScanned flat c set a → In a next
+      (a : Item) → IsScannedItem flat c set a → In a next
 
 -- the items where the whole begins
 pub record IsWhole (flat : code_flat.Tables) (a : Item) : Type 0 where
@@ -36,7 +36,7 @@ pub record IsAfter (flat : code_flat.Tables) (x : List ℕ) (sets : List (List I
   pub size : length sets ≡ at + 1
   pub set : slice_get sets at ≡ Some last
   pub letter_is : slice_get x at ≡ Some letter
-  pub read : IsScanned flat letter last a
+  pub read : IsScannedItem flat letter last a
 
 -- what a further set begins with
 abbrev pub IsFirst : code_flat.Tables → List ℕ → List (List Item) → Item → Type 0

@@ -3,8 +3,8 @@ use Rattle.std.specs.Prelude.{◌≡◌, ℕ, ◌+◌, ◌-◌, ◌*◌, ◌%◌
 use Rattle.flatgrammar.specs.declared.flat_item.Item.{Item}
 
 -- places a few numbers apart are mixed, and the origins of a place take every fourth bucket
-unfoldable pub bucket_of : ℕ → Item → ℕ
-bucket_of count a =
+unfoldable pub item_bucket : ℕ → Item → ℕ
+item_bucket count a =
     bit_and (((a.origin * 4 % 2 ^ 64) + ((a.node + a.step) % 2 ^ 64 * 11400714819323198059 % 2 ^ 64)) % 2 ^ 64)
     (count - 1)
 
@@ -33,5 +33,5 @@ pub record AreLinked (bucket : Item → ℕ) (list : List Item) (links buckets :
 -- the buckets of some items, which are linked while they are fewer than `room`
 pub record AreBuckets (list : List Item) (links buckets : List ℕ) (base room : ℕ) : Type 0 where
   pub within : AreWithin list buckets base
-  pub linked : length list < room → AreLinked (bucket_of (length buckets)) list links buckets base
+  pub linked : length list < room → AreLinked (item_bucket (length buckets)) list links buckets base
   pub fits : base + room < 2 ^ 64

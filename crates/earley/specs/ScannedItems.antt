@@ -6,7 +6,7 @@ use Rattle.flatgrammar.specs.NodeSteps.{IfSomeSet}
 use Rattle.flatgrammar.specs.Places.{In, AreDifferent}
 use Rattle.flatgrammar.specs.TableViews.{read_of}
 
-pub record IsScanned (flat : code_flat.Tables) (c : ℕ) (from : List Item) (a : Item) : Type 0 where
+pub record IsScannedItem (flat : code_flat.Tables) (c : ℕ) (from : List Item) (a : Item) : Type 0 where
   pub by : Item
   pub stands : In by from
   pub reads : IfSomeSet (read_of flat by) c
@@ -15,9 +15,9 @@ pub record IsScanned (flat : code_flat.Tables) (c : ℕ) (from : List Item) (a :
   pub origin : a.origin ≡ by.origin
 
 -- new is old, and behind it what the items have after the letter, each once where the items are different
-pub record AreScanned (flat : code_flat.Tables) (c : ℕ) (from old new : List Item) : Type 0 where
+pub record AreScannedItems (flat : code_flat.Tables) (c : ℕ) (from old new : List Item) : Type 0 where
   pub added : List Item
   pub is : new ≡ old ++ added
-  pub all : (a : Item) → IsScanned flat c from a → In a added
-  pub only : (a : Item) → In a added → IsScanned flat c from a
+  pub all : (a : Item) → IsScannedItem flat c from a → In a added
+  pub only : (a : Item) → In a added → IsScannedItem flat c from a
   pub different : AreDifferent from → AreDifferent added

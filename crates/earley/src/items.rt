@@ -5,7 +5,7 @@ ghost use Rattle.flatgrammar.specs.Places.{In};
 ghost use Rattle.flatgrammar.specs.declared.flat_item.Item as code_item;
 ghost use Rattle.earley.specs.ItemSets.{Adds};
 ghost use Rattle.earley.specs.Waiting.{Chain, IsSkippedTo};
-ghost use Rattle.earley.specs.ItemBuckets.{bucket_of as the_bucket_of, IsLast, AreLinked, AreWithin, AreBuckets};
+ghost use Rattle.earley.specs.ItemBuckets.{item_bucket as the_item_bucket, IsLast, AreLinked, AreWithin, AreBuckets};
 
 use crate::item::{holds, same};
 use crate::waiters::Waiter;
@@ -58,11 +58,11 @@ impl Model for Items {
 const MIX: usize = 11_400_714_819_323_198_059;
 
 // The bucket of an item among that many, a power of two. The origins of one place take every fourth bucket.
-#[tactic(auto, unfolding(crate::specs::ItemBuckets::bucket_of))]
+#[tactic(auto, unfolding(crate::specs::ItemBuckets::item_bucket))]
 #[inline(always)]
-fn bucket_of(count: usize, item: Item) -> usize
+fn item_bucket(count: usize, item: Item) -> usize
     requires { 0 < count }
-    ensures value { result ≡ the_bucket_of count item }
+    ensures value { result ≡ the_item_bucket count item }
     ensures within { result < count }
 {
     let place = item.node.wrapping_add(item.step);
@@ -75,9 +75,9 @@ fn bucket_of(count: usize, item: Item) -> usize
 // Tells whether an item stands in a list, whose last one in the same bucket is given.
 #[inline(always)]
 fn stands(list: &[Item], links: &[usize], count: usize, last: usize, item: Item) -> bool
-    requires linked { (buckets : List ℕ) × ((base : ℕ) × (AreLinked (the_bucket_of count) list.now links.now buckets
+    requires linked { (buckets : List ℕ) × ((base : ℕ) × (AreLinked (the_item_bucket count) list.now links.now buckets
         base)) }
-    requires last { IsLast (the_bucket_of count) list.now (length list.now) (the_bucket_of count item) last }
+    requires last { IsLast (the_item_bucket count) list.now (length list.now) (the_item_bucket count item) last }
     ensures { IsTrue result ↔ In item list.now }
 {
     let mut at = last;
@@ -118,14 +118,14 @@ fn push(
     item: Item,
 ) -> Result<(), Memory>
     requires fits { base + length list.old.items + 1 < 2 ^ 64 }
-    requires linked { AreLinked (the_bucket_of (length buckets.old)) list.old.items links.old.items buckets.old base }
-    requires last { IsLast (the_bucket_of (length buckets.old)) list.old.items (length list.old.items)
-        (the_bucket_of (length buckets.old) item) last }
-    ensures linked { AreLinked (the_bucket_of (length buckets.new)) list.new.items links.new.items buckets.new base }
+    requires linked { AreLinked (the_item_bucket (length buckets.old)) list.old.items links.old.items buckets.old base }
+    requires last { IsLast (the_item_bucket (length buckets.old)) list.old.items (length list.old.items)
+        (the_item_bucket (length buckets.old) item) last }
+    ensures linked { AreLinked (the_item_bucket (length buckets.new)) list.new.items links.new.items buckets.new base }
     ensures pushed { IfOk result (λ done. list.new.items ≡ list.old.items ++ item ∷ []) }
     ensures short { length list.new.items ≤ length list.old.items + 1 }
 {
-    let bucket = bucket_of(buckets.len(), item);
+    let bucket = item_bucket(buckets.len(), item);
     let index = list.len();
     let told = base + index + 1;
     set_link(links, index, last)?;
@@ -144,12 +144,12 @@ fn insert(
     item: Item,
 ) -> Result<(), Memory>
     requires fits { base + length list.old.items + 1 < 2 ^ 64 }
-    requires linked { AreLinked (the_bucket_of (length buckets.old)) list.old.items links.old.items buckets.old base }
-    ensures linked { AreLinked (the_bucket_of (length buckets.new)) list.new.items links.new.items buckets.new base }
+    requires linked { AreLinked (the_item_bucket (length buckets.old)) list.old.items links.old.items buckets.old base }
+    ensures linked { AreLinked (the_item_bucket (length buckets.new)) list.new.items links.new.items buckets.new base }
     ensures added { IfOk result (λ done. Adds (λ a. a ≡ item) list.old.items list.new.items) }
     ensures short { length list.new.items ≤ length list.old.items + 1 }
 {
-    let last = buckets[bucket_of(buckets.len(), item)].saturating_sub(base);
+    let last = buckets[item_bucket(buckets.len(), item)].saturating_sub(base);
     if !stands(list, links, buckets.len(), last, item) {
         push(list, links, buckets, base, last, item)?;
     }
@@ -166,12 +166,13 @@ fn relink(
     requires some { 0 < length buckets.old }
     requires long { length list.now ≤ length links.old }
     requires none { AreWithin [] buckets.old base }
-    ensures linked { OnOk result (AreLinked (the_bucket_of (length buckets.new)) list.now links.new buckets.new base) }
+    ensures linked { OnOk result (AreLinked (the_item_bucket (length buckets.new)) list.now links.new buckets.new
+        base) }
     ensures within { AreWithin list.now buckets.new base }
     ensures count { length buckets.new ≡ length buckets.old }
 {
     for i in 0..list.len() {
-        let bucket = bucket_of(buckets.len(), list[i]);
+        let bucket = item_bucket(buckets.len(), list[i]);
         let Some(told) = base.checked_add(i + 1) else {
             return Err(Memory);
         };
@@ -210,7 +211,7 @@ fn prepare(
 ) -> Result<(), Memory>
     requires none { AreWithin [] buckets.old.items base }
     ensures linked { OnOk result
-        (AreLinked (the_bucket_of (length buckets.new.items)) list.now links.new.items buckets.new.items base) }
+        (AreLinked (the_item_bucket (length buckets.new.items)) list.now links.new.items buckets.new.items base) }
     ensures within { AreWithin list.now buckets.new.items base }
 {
     make_room(list, links, buckets)?;
@@ -228,7 +229,7 @@ fn link(
     requires { AreBuckets list.now links.old.items buckets.old.items base.old room.old }
     ensures buckets { AreBuckets list.now links.new.items buckets.new.items base.new room.new }
     ensures linked { OnOk result
-        (AreLinked (the_bucket_of (length buckets.new.items)) list.now links.new.items buckets.new.items base.new) }
+        (AreLinked (the_item_bucket (length buckets.new.items)) list.now links.new.items buckets.new.items base.new) }
     ensures fits { OnOk result (base.new + length list.now + 1 < 2 ^ 64) }
 {
     let Some(next) = base.checked_add(list.len()) else {
@@ -271,7 +272,7 @@ fn add_linked(
 ) -> Result<(), Memory>
     requires fits { base + length list.old.items + 1 < 2 ^ 64 }
     requires room { base + room < 2 ^ 64 }
-    requires linked { AreLinked (the_bucket_of (length buckets.old)) list.old.items links.old.items buckets.old base }
+    requires linked { AreLinked (the_item_bucket (length buckets.old)) list.old.items links.old.items buckets.old base }
     ensures buckets { AreBuckets list.new.items links.new.items buckets.new base room }
     ensures added { IfOk result (λ done. Adds (λ a. a ≡ item) list.old.items list.new.items) }
     ensures short { length list.new.items ≤ length list.old.items + 1 }
@@ -327,7 +328,7 @@ fn is_last(list: &[Item], buckets: &[usize], base: usize, item: Item) -> bool
     if buckets.is_empty() {
         return false;
     }
-    let last = buckets[bucket_of(buckets.len(), item)].saturating_sub(base);
+    let last = buckets[item_bucket(buckets.len(), item)].saturating_sub(base);
     if last == 0 {
         return false;
     }

@@ -4,7 +4,7 @@ ghost use Rattle.std.specs.Prelude.{◌∷◌};
 ghost use Rattle.flatgrammar.specs.NodeSteps.{IfSomeSet};
 ghost use Rattle.flatgrammar.specs.Places.{AreDifferent};
 ghost use Rattle.earley.specs.ItemSets.{Adds};
-ghost use Rattle.earley.specs.ScannedItems.{IsScanned, AreScanned};
+ghost use Rattle.earley.specs.ScannedItems.{IsScannedItem, AreScannedItems};
 ghost use Rattle.earley.specs.Chosen.{items_of, ReadsSome, AreChosen};
 ghost use Rattle.flatgrammar.specs.TableViews.{read_of};
 ghost use Rattle.flatgrammar.specs.Blocks.{block_of, item_at, AreSpotLists};
@@ -27,7 +27,7 @@ fn scan_item(
     hint: usize,
     set: &mut Items,
 ) -> Result<(), Memory>
-    ensures { IfOk result (λ done. AreScanned flat.now value (item ∷ []) set.old set.new) }
+    ensures { IfOk result (λ done. AreScannedItems flat.now value (item ∷ []) set.old set.new) }
 {
     if reads(flat, item, value) {
         set.push(
@@ -44,7 +44,7 @@ fn scan_item(
 
 /// Scans a letter for some items.
 fn scan_items(flat: &Tables, value: u32, from: &[HintedItem], set: &mut Items) -> Result<(), Memory>
-    ensures { IfOk result (λ done. AreScanned flat.now value (items_of from.now) set.old set.new) }
+    ensures { IfOk result (λ done. AreScannedItems flat.now value (items_of from.now) set.old set.new) }
 {
     for at in from {
         scan_item(flat, value, at.item, at.hint, set)?;
@@ -61,7 +61,7 @@ fn scan_spots(
     hint: usize,
     set: &mut Items,
 ) -> Result<(), Memory>
-    ensures { IfOk result (λ done. AreScanned flat.now value (map (item_at origin) from.now) set.old set.new) }
+    ensures { IfOk result (λ done. AreScannedItems flat.now value (map (item_at origin) from.now) set.old set.new) }
 {
     for spot in from {
         scan_item(
@@ -89,7 +89,8 @@ fn scan_heads(
     set: &mut Items,
 ) -> Result<(), Memory>
     requires { AreSpotLists flat.now }
-    ensures { IfOk result (λ done. AreScanned flat.now value (expand (block_of flat.now) origin (heads_of records.now))
+    ensures { IfOk result (λ done. AreScannedItems flat.now value (expand (block_of flat.now) origin (heads_of
+        records.now))
         set.old set.new) }
 {
     let mut hint = hint;
@@ -115,7 +116,8 @@ pub(crate) fn scan<L: Letter>(
     requires readers { AreChosen (ReadsSome flat.now) from.now.items (items_of readers.now) }
     requires different { AreDifferent (view flat.now origin from.now) }
     requires empty { set.old ≡ [] }
-    ensures { IfOk result (λ done. Adds (IsScanned flat.now (L.number letter) (view flat.now origin from.now)) set.old
+    ensures { IfOk result (λ done. Adds (IsScannedItem flat.now (L.number letter) (view flat.now origin from.now))
+        set.old
         set.new) }
 {
     let value = letter.value();

@@ -10,7 +10,7 @@ use Rattle.earley.specs.SetViews.{view, views, IsWholeAt}
 use Rattle.earley.specs.Waiting.{AreWaitingAll}
 use Rattle.earley.proofs.AreChosenLemmas.{readers_push}
 use Rattle.earley.proofs.ExpandLemmas.{get_views}
-use Rattle.earley.proofs.AreWaitingLemmas.{waiting_push}
+use Rattle.earley.proofs.ListAllLemmas.{waiting_push}
 use Rattle.earley.proofs.IsBuiltLemmas.{built_exact}
 use Rattle.earley.proofs.ViewsLemmas.{going_from, built_by}
 use Rattle.earley.proofs.ChartSetsLemmas.{sized_push}

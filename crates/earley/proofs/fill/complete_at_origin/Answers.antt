@@ -1,7 +1,7 @@
 use Rattle.std.proofs.Common.{sym, subst}
 use Rattle.earley.specs.ItemSets.{Adds, IsAdvanced}
 use Rattle.earley.proofs.ExpandLemmas.{waiting_some}
-use Rattle.earley.proofs.AreWaitingLemmas.{listed_adds, listed_chain}
+use Rattle.earley.proofs.ListAllLemmas.{listed_adds, listed_chain}
 use Rattle.earley.proofs.fill.complete_at_origin.Goals as goal
 
 pub complete_listed-requires : goal.complete_listed-requires

@@ -1,5 +1,5 @@
 use Rattle.std.proofs.Common.{arith}
-use Rattle.earley.proofs.AreWaitingLemmas.{chain_within, chain_next, along_start, along_next, along_skipped, along_end}
+use Rattle.earley.proofs.ListAllLemmas.{chain_within, chain_next, along_start, along_next, along_skipped, along_end}
 use Rattle.earley.proofs.fill.complete_listed.Goals as goal
 
 pub loop-at-init : goal.loop-at-init

@@ -1,7 +1,7 @@
 use Rattle.std.proofs.Common.{List}
 use Rattle.flatgrammar.specs.declared.flat_item.Item.{Item}
 use Rattle.earley.specs.Waiting.{Chain}
-use Rattle.earley.proofs.AreWaitingLemmas.{IsAlong}
+use Rattle.earley.proofs.ListAllLemmas.{IsAlong}
 use Rattle.earley.proofs.fill.complete_listed.Given as goal
 
 abbrev pub invariant-loop-at : goal.invariant-loop-at

@@ -6,8 +6,8 @@ pub returns : goal.returns
 returns c t =
     let list = c.args.list.now in
     let buckets = c.args.buckets.now in
-    let bucket = c.bucket_of.result in
-    let at = get_index buckets bucket 0 c.bucket_of.ensures.within in
+    let bucket = c.item_bucket.result in
+    let at = get_index buckets bucket 0 c.item_bucket.ensures.within in
     let le = c.requires bucket (slice_index_or buckets bucket 0) at in
     let last = c.saturating_sub-last.ensures in
     let pos = c.if-last-eq0.false in

@@ -1,5 +1,5 @@
 use Rattle.std.proofs.Common.{◌≡◌, length, length-set, Some, subst, arith, slice_get}
-use Rattle.earley.specs.ItemBuckets.{bucket_of}
+use Rattle.earley.specs.ItemBuckets.{item_bucket}
 use Rattle.earley.proofs.AreBucketsLemmas.{linked_same, linked_push}
 use Rattle.earley.proofs.items.push.Goals as goal
 
@@ -9,7 +9,7 @@ returns-in_err-push-clause-linked c =
     (let e = c.len-index.ensures in let o = c.args.list.now.ok.0 in omega (arith, e, o)) in
     let long = c.in_ok-set_link.ensures.long in
     let was = c.requires.linked.long in
-    rw (c.in_err-push.ensures.items) (linked_same (bucket_of (length c.args.buckets.now)) c.args.list.now.items
+    rw (c.in_err-push.ensures.items) (linked_same (item_bucket (length c.args.buckets.now)) c.args.list.now.items
     c.args.links.now.items c.set_link.new.links.items c.args.buckets.now c.args.base c.requires.linked
     (omega (arith, long, was)) (λ i l lt g. c.in_ok-set_link.ensures.others i l (omega (arith, lt, count)) g))
 
@@ -19,16 +19,16 @@ returns-clause-linked c =
     (let e = c.len-index.ensures in let o = c.args.list.now.ok.0 in omega (arith, e, o)) in
     let long = c.in_ok-set_link.ensures.long in
     let was = c.requires.linked.long in
-    let links = linked_same (bucket_of (length c.args.buckets.now)) c.args.list.now.items c.args.links.now.items
+    let links = linked_same (item_bucket (length c.args.buckets.now)) c.args.list.now.items c.args.links.now.items
     c.set_link.new.links.items c.args.buckets.now c.args.base c.requires.linked
     (omega (arith, long, was)) (λ i l lt g. c.in_ok-set_link.ensures.others i l (omega (arith, lt, count)) g) in
     let here = subst (λ n. slice_get c.set_link.new.links.items n ≡ Some c.args.last) count
     c.in_ok-set_link.ensures.here in
     rw (
       c.in_ok-push.ensures.items,
-      c.bucket_of-bucket.ensures.value,
-      length-set c.args.buckets.now (bucket_of (length c.args.buckets.now) c.args.item) _,
+      c.item_bucket-bucket.ensures.value,
+      length-set c.args.buckets.now (item_bucket (length c.args.buckets.now) c.args.item) _,
     )
-    (linked_push (bucket_of (length c.args.buckets.now)) c.args.list.now.items c.set_link.new.links.items
+    (linked_push (item_bucket (length c.args.buckets.now)) c.args.list.now.items c.set_link.new.links.items
     c.args.buckets.now
     c.args.base c.args.item c.args.last _ links here c.requires.last (omega (arith, count)))

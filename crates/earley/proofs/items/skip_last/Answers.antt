@@ -1,5 +1,5 @@
 use Rattle.std.proofs.Common.{arith, rules}
-use Rattle.earley.proofs.AreWaitingLemmas.{chain_within, chain_next, skipped_start, skipped_next}
+use Rattle.earley.proofs.ListAllLemmas.{chain_within, chain_next, skipped_start, skipped_next}
 use Rattle.earley.proofs.items.skip_last.Goals as goal
 
 pub loop-at-init : goal.loop-at-init

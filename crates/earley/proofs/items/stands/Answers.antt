@@ -1,5 +1,5 @@
 use Rattle.std.proofs.Common.{◌-◌, Some, ap, ◌∙◌, refl, arith}
-use Rattle.earley.specs.ItemBuckets.{bucket_of}
+use Rattle.earley.specs.ItemBuckets.{item_bucket}
 use Rattle.earley.proofs.AreBucketsLemmas.{get_in, get_index, sought_step, sought_none}
 use Rattle.earley.proofs.items.stands.Goals as goal
 
@@ -15,14 +15,14 @@ returns-then-same c =
 
 pub loop-at-smaller : goal.loop-at-smaller
 loop-at-smaller c =
-    (sought_step (bucket_of c.args.count) c.args.list.now c.args.links.now c.args.item c.loop-at.at _ _
+    (sought_step (item_bucket c.args.count) c.args.list.now c.args.links.now c.args.item c.loop-at.at _ _
     c.requires.linked
     c.loop-at.invariant c.loop-at-test.true
     (λ same. let t = c.same.ensures.1 same in let f = c.if-same.false in absurd cc)).0
 
 pub loop-at-preserved : goal.loop-at-preserved
 loop-at-preserved c =
-    (sought_step (bucket_of c.args.count) c.args.list.now c.args.links.now c.args.item c.loop-at.at _ _
+    (sought_step (item_bucket c.args.count) c.args.list.now c.args.links.now c.args.item c.loop-at.at _ _
     c.requires.linked
     c.loop-at.invariant c.loop-at-test.true
     (λ same. let t = c.same.ensures.1 same in let f = c.if-same.false in absurd cc)).1
@@ -31,6 +31,6 @@ pub returns : goal.returns
 returns c =
     let test = c.loop-at-test.false in (
       (λ t. absurd cc),
-      (λ h. absurd (sought_none (bucket_of c.args.count) c.args.list.now c.args.item c.loop-at.at
+      (λ h. absurd (sought_none (item_bucket c.args.count) c.args.list.now c.args.item c.loop-at.at
           (omega (arith, test)) c.loop-at.invariant h)),
     )

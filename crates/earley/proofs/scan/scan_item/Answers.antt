@@ -1,4 +1,4 @@
-use Rattle.earley.proofs.AreScannedLemmas.{scan_item, read_not}
+use Rattle.earley.proofs.AreScannedItemsLemmas.{scan_item, read_not}
 use Rattle.earley.proofs.scan.scan_item.Goals as goal
 
 pub returns-in_ok-push : goal.returns-in_ok-push

@@ -1,4 +1,4 @@
-use Rattle.earley.proofs.AreScannedLemmas.{read_none, scan_hinted_more}
+use Rattle.earley.proofs.AreScannedItemsLemmas.{read_none, scan_hinted_more}
 use Rattle.earley.proofs.scan.scan_items.Goals as goal
 
 pub loop-at-init : goal.loop-at-init

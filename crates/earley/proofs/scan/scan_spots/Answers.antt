@@ -1,4 +1,4 @@
-use Rattle.earley.proofs.AreScannedLemmas.{read_none, scan_spots_more}
+use Rattle.earley.proofs.AreScannedItemsLemmas.{read_none, scan_spots_more}
 use Rattle.earley.proofs.scan.scan_spots.Goals as goal
 
 pub loop-spot-init : goal.loop-spot-init

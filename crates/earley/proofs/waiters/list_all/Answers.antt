@@ -5,7 +5,7 @@ use Rattle.earley.specs.SetViews.{expand}
 use Rattle.earley.specs.EarleySets.{firsts_of}
 use Rattle.earley.specs.Waiting.{AreWaiting}
 use Rattle.earley.proofs.SetsLemmas.{goes_farther}
-use Rattle.earley.proofs.AreWaitingLemmas.{waiting_start, waiting_fewer}
+use Rattle.earley.proofs.ListAllLemmas.{waiting_start, waiting_fewer}
 use Rattle.earley.proofs.waiters.list_all.Goals as goal
 
 pub returns-clause-same : goal.returns-clause-same

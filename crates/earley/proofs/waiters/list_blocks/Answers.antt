@@ -5,7 +5,7 @@ use Rattle.earley.specs.EarleySets.{firsts_of}
 use Rattle.earley.specs.Waiting.{call_site_at, AreWaiting}
 use Rattle.earley.proofs.ExpandLemmas.{take_one, take_past, expand_end}
 use Rattle.earley.proofs.SetsLemmas.{goes_farther}
-use Rattle.earley.proofs.AreWaitingLemmas.{waiting_then, waiting_callers}
+use Rattle.earley.proofs.ListAllLemmas.{waiting_then, waiting_callers}
 use Rattle.earley.proofs.waiters.list_blocks.Goals as goal
 
 pub loop-head-preserved : goal.loop-head-preserved

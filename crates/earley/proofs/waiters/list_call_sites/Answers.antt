@@ -4,7 +4,7 @@ use Rattle.earley.specs.Waiting.{call_site_at, AreWaiting}
 use Rattle.earley.proofs.ExpandLemmas.{take_one, take_past, map_end}
 use Rattle.flatgrammar.proofs.InLemmas.{at_index_in}
 use Rattle.earley.proofs.SetsLemmas.{goes_farther}
-use Rattle.earley.proofs.AreWaitingLemmas.{waiting_then}
+use Rattle.earley.proofs.ListAllLemmas.{waiting_then}
 use Rattle.earley.proofs.waiters.list_call_sites.Goals as goal
 
 pub loop-site-preserved : goal.loop-site-preserved

@@ -5,7 +5,7 @@ use Rattle.earley.specs.Waiting.{AreWaiting}
 use Rattle.flatgrammar.proofs.InLemmas.{at_index_in}
 use Rattle.earley.proofs.ExpandLemmas.{take_one, take_past, map_end}
 use Rattle.earley.proofs.SetsLemmas.{goes_farther}
-use Rattle.earley.proofs.AreWaitingLemmas.{waiting_then}
+use Rattle.earley.proofs.ListAllLemmas.{waiting_then}
 use Rattle.earley.proofs.waiters.list_callers.Goals as goal
 
 pub loop-caller-preserved : goal.loop-caller-preserved

@@ -2,7 +2,7 @@ use Rattle.std.proofs.Common.{◌≡◌, ◌+◌, ◌<◌, length, Some, sym, �
 use Rattle.flatgrammar.proofs.CallOfLemmas.{some_same}
 use Rattle.earley.specs.EarleySets.{firsts_of, the_record}
 use Rattle.earley.specs.Waiting.{item_from}
-use Rattle.earley.proofs.AreWaitingLemmas.{waiting_none, waiting_more}
+use Rattle.earley.proofs.ListAllLemmas.{waiting_none, waiting_more}
 use Rattle.earley.proofs.AreBucketsLemmas.{get_in}
 use Rattle.earley.proofs.RecordsLemmas.{below_firsts, first_at, first_set}
 use Rattle.earley.proofs.waiters.list_item.Goals as goal

@@ -1,6 +1,6 @@
 use Rattle.std.proofs.Common.{subst}
 use Rattle.earley.specs.Waiting.{IsSkippedTo}
-use Rattle.earley.proofs.AreWaitingLemmas.{skipped_start}
+use Rattle.earley.proofs.ListAllLemmas.{skipped_start}
 use Rattle.earley.proofs.items.Items.skip_from.Goals as goal
 
 pub returns-then-first-eq0-clause-skipped : goal.returns-then-first-eq0-clause-skipped

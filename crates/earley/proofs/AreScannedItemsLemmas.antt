@@ -15,7 +15,7 @@ use Rattle.flatgrammar.proofs.InLemmas.{in_left}
 use Rattle.earley.specs.declared.postdot.HintedItem.{HintedItem}
 use Rattle.earley.specs.Chosen.{items_of}
 use Rattle.earley.specs.ItemSets.{Adds}
-use Rattle.earley.specs.ScannedItems.{IsScanned, AreScanned}
+use Rattle.earley.specs.ScannedItems.{IsScannedItem, AreScannedItems}
 use Rattle.earley.specs.SetViews.{expand}
 use Rattle.earley.proofs.ItemLemmas.{item_same}
 use Rattle.earley.proofs.BlockLemmas.{in_right, in_either, in_map, from_map, different_left, different_right}
@@ -23,19 +23,19 @@ use Rattle.earley.proofs.BlockLemmas.{different_apart, different_both, different
 use Rattle.earley.proofs.ExpandLemmas.{take_one, map_end, expand_end}
 
 module _ (flat : code_flat.Tables) (c : ℕ) where
-  read_by : (ws vs : List Item) (a : Item) (r : IsScanned flat c ws a) → In r.by vs → IsScanned flat c vs a
+  read_by : (ws vs : List Item) (a : Item) (r : IsScannedItem flat c ws a) → In r.by vs → IsScannedItem flat c vs a
   read_by ws vs a r h =
       record { by = r.by; stands = h; reads = r.reads; node = r.node; step = r.step; origin = r.origin }
 
   -- an item stands behind one alone
-  same_by : (ws vs : List Item) (a : Item) (r : IsScanned flat c ws a) (s : IsScanned flat c vs a) → s.by ≡ r.by
+  same_by : (ws vs : List Item) (a : Item) (r : IsScannedItem flat c ws a) (s : IsScannedItem flat c vs a) → s.by ≡ r.by
   same_by ws vs a r s =
       let here = r.step in
       let there = s.step in
       let step : s.by.step ≡ r.by.step = omega (arith, here, there) in
       item_same s.by r.by.node r.by.step r.by.origin (sym s.node ∙ r.node) step (sym s.origin ∙ r.origin)
 
-  pub read_none : (old : List Item) → AreScanned flat c [] old old
+  pub read_none : (old : List Item) → AreScannedItems flat c [] old old
   read_none old = record {
     added = [];
     is = sym (append-nil old);
@@ -47,9 +47,9 @@ module _ (flat : code_flat.Tables) (c : ℕ) where
       nobody : (a b : Item) → In b [] → In a []
       nobody a b h = elim h [ ]
 
-  pub read_both : (ws vs : List Item) (old mid new : List Item) → AreScanned flat c ws old mid
-      → AreScanned flat c vs mid new
-      → AreScanned flat c (ws ++ vs) old new
+  pub read_both : (ws vs : List Item) (old mid new : List Item) → AreScannedItems flat c ws old mid
+      → AreScannedItems flat c vs mid new
+      → AreScannedItems flat c (ws ++ vs) old new
   read_both ws vs old mid new p q = record {
     added = p.added ++ q.added;
     is = q.is ∙ (ap (λ v. v ++ q.added) p.is ∙ append_assoc old p.added q.added);
@@ -59,20 +59,20 @@ module _ (flat : code_flat.Tables) (c : ℕ) where
         (q.different (different_right ws vs d)) (λ a h g. apart a d (p.only a h) (q.only a g));
   }
     where
-      all : (a : Item) (r : IsScanned flat c (ws ++ vs) a) → In r.by ws ⊎ In r.by vs → In a (p.added ++ q.added)
+      all : (a : Item) (r : IsScannedItem flat c (ws ++ vs) a) → In r.by ws ⊎ In r.by vs → In a (p.added ++ q.added)
       all a r (inl h) = in_left q.added (p.all a (read_by (ws ++ vs) ws a r h))
       all a r (inr h) = in_right p.added (q.all a (read_by (ws ++ vs) vs a r h))
 
-      only : (a : Item) → In a p.added ⊎ In a q.added → IsScanned flat c (ws ++ vs) a
+      only : (a : Item) → In a p.added ⊎ In a q.added → IsScannedItem flat c (ws ++ vs) a
       only a (inl h) = let r = p.only a h in read_by ws (ws ++ vs) a r (in_left vs r.stands)
       only a (inr h) = let r = q.only a h in read_by vs (ws ++ vs) a r (in_right ws r.stands)
 
-      apart : (a : Item) → AreDifferent (ws ++ vs) → IsScanned flat c ws a → IsScanned flat c vs a → ⊥
+      apart : (a : Item) → AreDifferent (ws ++ vs) → IsScannedItem flat c ws a → IsScannedItem flat c vs a → ⊥
       apart a d r s = different_apart ws vs d r.stands (subst (λ v. In v vs) (same_by ws vs a r s) s.stands)
 
   pub scan_item : (item : Item) (old new : List Item) → IfSomeSet (read_of flat item) c
       → new ≡ old ++ record { node = item.node; step = item.step + 1; origin = item.origin } ∷ []
-      → AreScanned flat c (item ∷ []) old new
+      → AreScannedItems flat c (item ∷ []) old new
   scan_item item old new reads is = record {
     added = record { node = item.node; step = item.step + 1; origin = item.origin } ∷ [];
     is = is;
@@ -82,7 +82,7 @@ module _ (flat : code_flat.Tables) (c : ℕ) where
   }
     where
       by : (a : Item) → In a (record { node = item.node; step = item.step + 1; origin = item.origin } ∷ [])
-          → IsScanned flat c (item ∷ []) a
+          → IsScannedItem flat c (item ∷ []) a
       by a (now h) = record {
         by = item;
         stands = now refl;
@@ -93,14 +93,14 @@ module _ (flat : code_flat.Tables) (c : ℕ) where
       }
       by a (on h) = elim h [ ]
 
-      back : (a : Item) (r : IsScanned flat c (item ∷ []) a) → In r.by (item ∷ [])
+      back : (a : Item) (r : IsScannedItem flat c (item ∷ []) a) → In r.by (item ∷ [])
           → In a (record { node = item.node; step = item.step + 1; origin = item.origin } ∷ [])
       back a r (now same) = now (item_same a item.node (item.step + 1) item.origin (r.node ∙ ap (λ v. v.node) same)
           (r.step ∙ ap (λ v. v.step + 1) same) (r.origin ∙ ap (λ v. v.origin) same))
       back a r (on h) = elim h [ ]
 
   pub read_not : (item : Item) (old : List Item) → (IfSomeSet (read_of flat item) c → ⊥)
-      → AreScanned flat c (item ∷ []) old old
+      → AreScannedItems flat c (item ∷ []) old old
   read_not item old never = record {
     added = [];
     is = sym (append-nil old);
@@ -109,39 +109,40 @@ module _ (flat : code_flat.Tables) (c : ℕ) where
     different = λ d. tt;
   }
     where
-      nobody : (a : Item) (r : IsScanned flat c (item ∷ []) a) → In r.by (item ∷ []) → In a []
+      nobody : (a : Item) (r : IsScannedItem flat c (item ∷ []) a) → In r.by (item ∷ []) → In a []
       nobody a r (now same) = absurd (never (subst (λ v. IfSomeSet (read_of flat v) c) same r.reads))
       nobody a r (on h) = elim h [ ]
 
   pub scan_hinted_more : (ws : List HintedItem) (k : ℕ) (d : HintedItem) (old mid new : List Item) → k < length ws
-      → AreScanned flat c (items_of (take k ws)) old mid → AreScanned flat c ((slice_index_or ws k d).item ∷ []) mid new
-      → AreScanned flat c (items_of (take (k + 1) ws)) old new
+      → AreScannedItems flat c (items_of (take k ws)) old mid → AreScannedItems flat c ((slice_index_or ws k d).item ∷
+      []) mid new
+      → AreScannedItems flat c (items_of (take (k + 1) ws)) old new
   scan_hinted_more ws k d old mid new lt p q =
-      subst (λ v. AreScanned flat c v old new) (sym (ap (λ v. items_of v) (take_one ws k d lt)
+      subst (λ v. AreScannedItems flat c v old new) (sym (ap (λ v. items_of v) (take_one ws k d lt)
       ∙ map_end (λ h. h.item) (take k ws) (slice_index_or ws k d)))
       (read_both (items_of (take k ws)) ((slice_index_or ws k d).item ∷ []) old mid new p q)
 
   pub scan_spots_more : (j : ℕ) (ws : List Spot) (k : ℕ) (d : Spot) (old mid new : List Item) → k < length ws
-      → AreScanned flat c (map (item_at j) (take k ws)) old mid
-      → AreScanned flat c (item_at j (slice_index_or ws k d) ∷ []) mid new
-      → AreScanned flat c (map (item_at j) (take (k + 1) ws)) old new
+      → AreScannedItems flat c (map (item_at j) (take k ws)) old mid
+      → AreScannedItems flat c (item_at j (slice_index_or ws k d) ∷ []) mid new
+      → AreScannedItems flat c (map (item_at j) (take (k + 1) ws)) old new
   scan_spots_more j ws k d old mid new lt p q =
-      subst (λ v. AreScanned flat c v old new) (sym (ap (λ v. map (item_at j) v) (take_one ws k d lt)
+      subst (λ v. AreScannedItems flat c v old new) (sym (ap (λ v. map (item_at j) v) (take_one ws k d lt)
       ∙ map_end (item_at j) (take k ws) (slice_index_or ws k d)))
       (read_both (map (item_at j) (take k ws)) (item_at j (slice_index_or ws k d) ∷ []) old mid new p q)
 
   pub scan_heads_more : (blocks : ℕ → Block) (j : ℕ) (hs : List ℕ) (k d : ℕ) (old mid new : List Item)
-      → k < length hs → AreScanned flat c (expand blocks j (take k hs)) old mid
-      → AreScanned flat c (map (item_at j) (blocks (slice_index_or hs k d)).spots) mid new
-      → AreScanned flat c (expand blocks j (take (k + 1) hs)) old new
+      → k < length hs → AreScannedItems flat c (expand blocks j (take k hs)) old mid
+      → AreScannedItems flat c (map (item_at j) (blocks (slice_index_or hs k d)).spots) mid new
+      → AreScannedItems flat c (expand blocks j (take (k + 1) hs)) old new
   scan_heads_more blocks j hs k d old mid new lt p q =
-      subst (λ v. AreScanned flat c v old new) (sym (ap (λ v. expand blocks j v) (take_one hs k d lt)
+      subst (λ v. AreScannedItems flat c v old new) (sym (ap (λ v. expand blocks j v) (take_one hs k d lt)
       ∙ expand_end blocks j (take k hs) (slice_index_or hs k d)))
       (read_both (expand blocks j (take k hs)) (map (item_at j) (blocks (slice_index_or hs k d)).spots) old mid new p q)
 
   -- where there was nothing, what different items have after the letter is added
-  pub read_adds : (from new : List Item) → AreDifferent from → AreScanned flat c from [] new
-      → Adds (IsScanned flat c from) [] new
+  pub read_adds : (from new : List Item) → AreDifferent from → AreScannedItems flat c from [] new
+      → Adds (IsScannedItem flat c from) [] new
   read_adds from new d r = record {
     added = r.added;
     is = r.is;
@@ -154,7 +155,7 @@ module _ (flat : code_flat.Tables) (c : ℕ) (old new : List Item) where
   -- items that do not read the letter may be left out
   pub read_fewer : (few all : List Item) → ((a : Item) → In a few → In a all)
       → ((a : Item) → In a all → IfSomeSet (read_of flat a) c → In a few) → (AreDifferent all → AreDifferent few)
-      → AreScanned flat c few old new → AreScanned flat c all old new
+      → AreScannedItems flat c few old new → AreScannedItems flat c all old new
   read_fewer few all stand reading differ p = record {
     added = p.added;
     is = p.is;
@@ -165,8 +166,8 @@ module _ (flat : code_flat.Tables) (c : ℕ) (old new : List Item) where
 
   -- of a block the spots that are tried on the letter are enough
   pub block_read : (lists : AreSpotLists flat) (head j : ℕ)
-      → AreScanned flat c (map (item_at j) (readers_of flat head c)) old new
-      → AreScanned flat c (map (item_at j) (block_of flat head).spots) old new
+      → AreScannedItems flat c (map (item_at j) (readers_of flat head c)) old new
+      → AreScannedItems flat c (map (item_at j) (block_of flat head).spots) old new
   block_read lists head j =
       let picks = readers_pick flat head c lists in
       read_fewer (map (item_at j) (readers_of flat head c)) (map (item_at j) (block_of flat head).spots)

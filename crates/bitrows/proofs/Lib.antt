@@ -1,0 +1,4 @@
+pub mod LenLemmas
+pub mod RowMembersLemmas
+pub mod RowSetsLemmas
+pub mod WordInLemmas

@@ -1,0 +1,2 @@
+pub mod RowMembers
+pub mod RowSets

@@ -1,0 +1,125 @@
+//! Rows of bits.
+ghost use Rattle.std.specs.Prelude.{◌≡◌, ◌↔◌, ◌⊎◌, ◌<◌, ◌≤◌, ◌^◌, ℕ, [], length, Contains, IfOk, IfSome};
+ghost use Rattle.std.specs.Prelude.{IfNone, OnErr};
+ghost use Rattle.std.specs.List.Sorted.{IsStrictlyIncreasing};
+
+use crate::words::{count_bits, cover, lowest_bit, or_missing, or_words, word};
+use ruletable::Memory;
+use std::alloc::Global;
+use std::marker::Model;
+
+/// A set of numbers below 2^63, seen as the ascending list of its members.
+///
+/// Bit `k % 64` of word `k / 64` tells whether `k` is a member. The words from the first to the last that has a bit are
+/// kept, so that a set takes a bit for each number between its least and its greatest member.
+#[derive(Drop)]
+pub struct BitRow {
+    alloc: Global,
+    // the number of the first word that is kept
+    first: usize,
+    words: Vec<u64>,
+}
+
+impl Model for BitRow {
+    ghost use Rattle.std.specs.Prelude.{ℕ, List, length, ◌+◌, ◌≤◌, ◌^◌};
+    ghost use Rattle.bitrows.specs.RowMembers.{members};
+
+    ghost Value = { List ℕ };
+
+    ghost view = { λ r. members r.first r.words.items };
+
+    ghost invariant = { λ r. r.first + length r.words.items ≤ 2 ^ 57 };
+}
+
+impl BitRow {
+    /// Returns the empty set. It takes no memory.
+    pub fn new(alloc: Global) -> BitRow
+        ensures { result ≡ [] }
+    {
+        BitRow {
+            alloc,
+            first: 0,
+            words: Vec::new(alloc),
+        }
+    }
+
+    /// Makes `k` a member. `Memory` if an allocation fails; the set stays as it is then.
+    pub fn insert(&mut self, k: usize) -> Result<(), Memory>
+        requires { k < 2 ^ 63 }
+        ensures members { IfOk result (λ done. (x : ℕ) → Contains self.new x ↔ (Contains self.old x ⊎ (x ≡ k))) }
+        ensures err { OnErr result (self.new ≡ self.old) }
+    {
+        let at = k / 64;
+        cover(self.alloc, &mut self.first, &mut self.words, at, at + 1)?;
+        self.words[at - self.first] |= 1 << (k % 64);
+        Ok(())
+    }
+
+    /// Adds the members of another set, and to `pending` those of them that are new. `Memory` if an allocation fails;
+    /// both sets keep their members then.
+    pub(crate) fn merge(&mut self, found: &BitRow, pending: &mut BitRow) -> Result<(), Memory>
+        ensures members { IfOk result (λ done. (x : ℕ) → Contains self.new x ↔ (Contains self.old x
+            ⊎ Contains found.now x)) }
+        ensures pending { IfOk result (λ done. (x : ℕ) → Contains pending.new x ↔ (Contains pending.old x
+            ⊎ (Contains found.now x × (Contains self.old x → ⊥)))) }
+        ensures err { OnErr result ((x : ℕ) → Contains self.new x ↔ Contains self.old x) }
+        ensures err_pending { OnErr result ((x : ℕ) → Contains pending.new x ↔ Contains pending.old x) }
+    {
+        if found.words.is_empty() {
+            return Ok(());
+        }
+        let low = found.first;
+        let high = found.first + found.words.len();
+        cover(self.alloc, &mut self.first, &mut self.words, low, high)?;
+        cover(
+            pending.alloc,
+            &mut pending.first,
+            &mut pending.words,
+            low,
+            high,
+        )?;
+        let at = low - self.first;
+        or_missing(
+            &mut pending.words,
+            low - pending.first,
+            &found.words,
+            &self.words,
+            at,
+        );
+        or_words(&mut self.words, at, &found.words);
+        Ok(())
+    }
+
+    /// Returns the least member from `from` on.
+    pub fn next(&self, from: usize) -> Option<usize>
+        ensures found { IfSome result (λ k. (from ≤ k) × Contains self.now k) }
+        ensures first { IfSome result (λ k. (x : ℕ) → Contains self.now x → from ≤ x → k ≤ x) }
+        ensures none { IfNone result ((x : ℕ) → Contains self.now x → x < from) }
+    {
+        let start = from / 64;
+        if let Some(bit) = lowest_bit(word(self.first, &self.words, start), (from % 64) as u32) {
+            return Some(start * 64 + bit as usize);
+        }
+        for i in start + 1..self.first + self.words.len() {
+            if let Some(bit) = lowest_bit(word(self.first, &self.words, i), 0) {
+                return Some(i * 64 + bit as usize);
+            }
+        }
+        None
+    }
+
+    /// Returns the number of members. Each is listed once.
+    pub fn len(&self) -> usize
+        ensures count { result ≡ length self.now }
+        ensures ascend { IsStrictlyIncreasing self.now }
+    {
+        count_bits(&self.words)
+    }
+
+    /// Empties it, and keeps its memory.
+    pub fn clear(&mut self)
+        ensures { self.new ≡ [] }
+    {
+        self.words.clear();
+    }
+}
