@@ -1,6 +1,6 @@
 -- The lines so far, the step that follows them, and the run of them all.
 -- Serves: run_lines
-use Rattle.std.proofs.Common.{◌≡◌, ℕ, ◌+◌, Bool, true, Option, List, [], ◌++◌, length, refl, subst, arith, inl, inr}
+use Rattle.std.proofs.Common.{◌≡◌, ℕ, ◌+◌, ◌≤◌, Bool, true, Option, List, [], ◌++◌, length, refl, subst, arith, inl, inr}
 use Rattle.std.specs.Prelude.{Result, Ok, Err}
 use Rattle.std.proofs.lemmas.List.{append-nil}
 use Rattle.std.specs.Io.KnownBytes.{Appends, Consumes}
@@ -63,7 +63,7 @@ module _ (Told : List ℕ → Answer → Type 0) (form : LineForm) (input : Inpu
 
     pub fails_there : ((line : List ℕ) → (said : Answer) × Told line said) → (taken : ℕ) (fault : WriteFault)
         → IsStep Told form input at mid new (Err fault) →
-        taken ≡ taken_at form.limit input at.place → Runs taken old new (Err fault)
+        taken ≤ taken_at form.limit input at.place → Runs taken old new (Err fault)
     fails_there decided taken fault (said, part, either) took =
         let goes = answer_goes_on Told form input decided at text said lines either in (
           text ++ answer_text said,

@@ -71,6 +71,12 @@ module _ {R : Type 0} (f : Feed R) (end limit : ℕ) (before : List ℕ) (input 
   abbrev Taken : Type 0
   Taken = length (before ++ items) ≡ taken_at limit input (length before)
 
+  -- no more than that is held
+  pub held_within : length (before ++ items) ≤ taken_at limit input (length before)
+  held_within =
+      let all = ap length agrees.bytes in
+      omega (arith, all, length-append (before ++ items) agrees.more, length-append before items, fits, room)
+
   taken_all : agrees.more ≡ [] → Taken
   taken_all none = taken_end before items refl agrees limit none (omega (arith, fits, room))
 

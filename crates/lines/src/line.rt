@@ -40,9 +40,9 @@ fn without_end(held: Held, len: usize) -> Line
     }
 }
 
-/// Reads until the window is full, the input ends or a read fails, and returns what stands at its front, where that
-/// byte ends a line. The window has room for one byte more than a line may have; a line that is returned has fewer
-/// bytes than there is room for.
+/// Returns what stands at the front, where that byte ends a line. Nothing is read if the end of a line is held; else it
+/// reads until the window is full, the input ends or a read fails. The window has room for one byte more than a line
+/// may have; a line that is returned has fewer bytes than there is room for.
 pub fn next_line<R: Source>(feed: &mut Feed<'_, R>, end: u8) -> Line
     requires { IsTrueOfReader R.remaining R.failed R.ended feed.old }
     ensures loan { SameLoan feed.old feed.new }
@@ -51,10 +51,15 @@ pub fn next_line<R: Source>(feed: &mut Feed<'_, R>, end: u8) -> Line
     ensures follows { (limit : ℕ) (before : List ℕ) (input : Input) → capacity_of feed.new ≡ limit + 1 →
         Agrees (before ++ bytes_of feed.new) (flow_of feed.new) input →
         IsNext (record { limit = limit; end = end }) input (length before) result ×
-        (length (before ++ bytes_of feed.new) ≡ taken_at limit input (length before)) }
+        (length (before ++ bytes_of feed.new) ≤ taken_at limit input (length before)) }
     ensures fits { LiesWithin (length (bytes_of feed.new)) result }
     ensures short { IsShort (capacity_of feed.new) result }
 {
+    // its contract says that no more is held than there is room for
+    let _ = feed.len();
+    if let Some(k) = feed.find(end) {
+        return Line::Whole(k);
+    }
     let held = feed.fill();
     let len = feed.len();
     match feed.find(end) {

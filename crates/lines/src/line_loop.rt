@@ -108,7 +108,7 @@ fn next_step<W, J: Judge<W>, R: Source, O: Sink>(
     ensures follows { (before : List ℕ) (input : Input) → length before ≡ at.place → Agrees (before
         ++ bytes_of feed.new) (flow_of feed.new) input →
         IsStep (J.told judge.now) form input at (O.contents out.old) (O.contents out.new) result ×
-        (length (before ++ bytes_of feed.new) ≡ taken_at form.limit input at.place) }
+        (length (before ++ bytes_of feed.new) ≤ taken_at form.limit input at.place) }
     ensures fits { FitsIn (length (bytes_of feed.new)) result }
     ensures flag { Flags (O.failed out.old) (O.failed out.new) result }
 {
@@ -167,7 +167,11 @@ fn answer_lines<W, J: Judge<W>, R: Source, O: Sink>(
                     all: still_all(at.all, said),
                 };
             }
-            Ok(Step::Stops(stop)) => return Ok(stop),
+            Ok(Step::Stops(stop)) => {
+                // a run that stops has taken as much as the greatest line takes there
+                let _ = feed.fill();
+                return Ok(stop);
+            }
             Err(fault) => return Err(fault),
         }
     }

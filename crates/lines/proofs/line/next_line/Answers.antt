@@ -1,14 +1,16 @@
 -- What was found in the window, or was not.
-use Rattle.std.proofs.Common.{length, arith}
-use Rattle.lines.proofs.NextLineLemmas.{held_taken, line_found, not_found, without_fits, without_short}
+use Rattle.std.proofs.Common.{◌≤◌, length, arith}
+use Rattle.feed.specs.Feed.{bytes_of, capacity_of}
+use Rattle.lines.proofs.NextLineLemmas.{held_within, line_found, not_found, without_fits, without_short}
 use Rattle.lines.proofs.line.next_line.Goals as goal
 
 pub returns-in-Some-clause-follows : goal.returns-in-Some-clause-follows
 returns-in-Some-clause-follows g c = λ limit before input room a.
-    let feed = c.fill-held.new.self in (
-      line_found feed c.args.end limit before input room c.fill-held.ensures.within a c.in-Some.k c.in-Some.ensures,
-      held_taken feed c.args.end limit before input room c.fill-held.ensures.within a c.fill-held.result
-          c.fill-held.ensures.held,
+    let len = c.len.ensures.len in
+    let most = c.len.ensures.within in
+    let within : length (bytes_of c.args.feed.now) ≤ capacity_of c.args.feed.now = omega (arith, len, most) in (
+      line_found c.args.feed.now c.args.end limit before input room within a c.in-Some.k c.in-Some.ensures,
+      held_within c.args.feed.now c.args.end limit before input room within a,
     )
 
 pub returns-in-Some-clause-fits : goal.returns-in-Some-clause-fits
@@ -18,6 +20,28 @@ pub returns-in-Some-clause-short : goal.returns-in-Some-clause-short
 returns-in-Some-clause-short g c =
     let is = c.in-Some.ensures in
     let high = is.0.high in
+    let len = c.len.ensures.len in
+    let most = c.len.ensures.within in
+    omega (arith, high, len, most)
+
+pub returns-in-Some-find-clause-follows : goal.returns-in-Some-find-clause-follows
+returns-in-Some-find-clause-follows g c = λ limit before input room a.
+    let feed = c.fill-held.new.self in (
+      line_found feed c.args.end limit before input room c.fill-held.ensures.within a c.in-Some-find.k
+          c.in-Some-find.ensures,
+      held_within feed c.args.end limit before input room c.fill-held.ensures.within a,
+    )
+
+pub returns-in-Some-find-clause-fits : goal.returns-in-Some-find-clause-fits
+returns-in-Some-find-clause-fits g c =
+    let is = c.in-Some-find.ensures in
+    let high = is.0.high in
+    omega (arith, high)
+
+pub returns-in-Some-find-clause-short : goal.returns-in-Some-find-clause-short
+returns-in-Some-find-clause-short g c =
+    let is = c.in-Some-find.ensures in
+    let high = is.0.high in
     omega (arith, high, c.fill-held.ensures.within)
 
 pub returns-in-None-clause-follows : goal.returns-in-None-clause-follows
@@ -26,8 +50,7 @@ returns-in-None-clause-follows g c = λ limit before input room a.
       rw (c.without_end.ensures, c.len-len.ensures.len)
           (not_found feed c.args.end limit before input room c.fill-held.ensures.within a c.in-None.ensures
           c.fill-held.result c.fill-held.ensures.held),
-      held_taken feed c.args.end limit before input room c.fill-held.ensures.within a c.fill-held.result
-          c.fill-held.ensures.held,
+      held_within feed c.args.end limit before input room c.fill-held.ensures.within a,
     )
 
 pub returns-in-None-clause-fits : goal.returns-in-None-clause-fits

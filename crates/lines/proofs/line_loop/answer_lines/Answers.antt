@@ -2,10 +2,12 @@
 use Rattle.std.proofs.Common.{ℕ, [], ◌+◌, ◌++◌, ◌≤◌, ◌∙◌, length, take, refl, ap, rules, arith, length-append}
 use Rattle.std.proofs.Common.{length-drop}
 use Rattle.ruletable.proofs.AppendsLemmas.{Appends-same}
+use Rattle.feed.specs.Feed.{bytes_of}
 use Rattle.feed.proofs.GrowsLemmas.{Consumes-same}
 use Rattle.toolrun.proofs.AgreesLemmas.{agrees_earlier, seen_more, slides-bytes, slides-len}
 use Rattle.lines.specs.InputLines.{none}
 use Rattle.lines.proofs.LineRunLemmas.{one_more_line, stops_there, fails_there}
+use Rattle.lines.proofs.NextLineLemmas.{held_taken}
 use Rattle.lines.proofs.line_loop.answer_lines.Goals as goal
 
 pub loop-said-init : goal.loop-said-init
@@ -67,25 +69,34 @@ pub returns-in-Ok-Stops-clause-lines : goal.returns-in-Ok-Stops-clause-lines
 returns-in-Ok-Stops-clause-lines g c =
     let so_far = c.loop-said.invariant.written in
     let grew = c.in-Ok-Stops.ensures.grows in
-    let items = c.next_step.new.feed.ring.items in (
-      so_far.0 ++ items,
-      seen_more _ _ _ grew so_far.0 _ so_far.2,
-      let more = ap length grew.bytes in
+    let more = c.fill.ensures.grows in
+    let feed = c.fill.new.self in (
+      so_far.0 ++ bytes_of feed,
+      seen_more _ _ _ more so_far.0 _ (seen_more _ _ _ grew so_far.0 _ so_far.2),
+      let first = ap length grew.bytes in
+          let second = ap length more.bytes in
           omega (
             arith,
-            length-append so_far.0 items,
+            length-append so_far.0 (bytes_of feed),
             so_far.1,
             grew.allowance,
-            more,
+            more.allowance,
+            first,
+            second,
             length-append c.loop-said.feed.ring.items grew.more,
+            length-append c.next_step.new.feed.ring.items more.more,
             c.loop-said.invariant.within,
           ),
       λ input a.
-          let front = so_far.3 input (agrees_earlier _ _ _ grew so_far.0 input a) in
-          let step = c.in-Ok-Stops.ensures.follows so_far.0 input so_far.1 a in
+          let then_ = agrees_earlier _ _ _ more so_far.0 input a in
+          let front = so_far.3 input (agrees_earlier _ _ _ grew so_far.0 input then_) in
+          let step = c.in-Ok-Stops.ensures.follows so_far.0 input so_far.1 then_ in
           stops_there (g.J.Judge.told c.args.judge.now) c.args.form input c.loop-said.at _ _ _ front.0 front.1 front.2
-          (length (so_far.0 ++ items))
-          c.in-Ok-Stops.stop (rw c.in-Ok-Stops.field-0-is at step.0) step.1,
+          (length (so_far.0 ++ bytes_of feed))
+          c.in-Ok-Stops.stop (rw c.in-Ok-Stops.field-0-is at step.0)
+          (rw so_far.1 at (held_taken feed c.args.form.end c.args.form.limit so_far.0 input
+          (more.capacity ∙ grew.capacity ∙ c.loop-said.invariant.capacity) c.fill.ensures.within a c.fill.result
+          c.fill.ensures.held)),
     )
 
 pub returns-in-Err-clause-lines : goal.returns-in-Err-clause-lines
