@@ -72,6 +72,8 @@ GROWING = [
     abnf("an ambiguous rule", b's = s s / "a" / ""', b"aaa\n\nb\n", [YES, YES, NO], status=1),
     abnf("a counted repetition of an option", b's = 2*3["a"] "b"', b"aab\nab\nac\n", [YES, YES, b"no 1\n"], status=1,
          words=["-w"]),
+    abnf("lines again whose cells were filled", b's = "a" s / "b" / "c" s "d"', b"aab\nccbdd\naab\nccbdd\ncb\n",
+         [YES, YES, YES, YES, NO], status=1),
     abnf("alternatives added to a rule", ALTERNATIVES, LINES, [YES, NO, YES, YES, NO], status=1),
     ABNF_PRINTED,
     CHECKED,

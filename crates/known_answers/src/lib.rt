@@ -6,6 +6,8 @@ mod abnf_checks;
 #[cfg(test)]
 mod abnf_texts;
 #[cfg(test)]
+mod automaton_rooms;
+#[cfg(test)]
 mod canonical_texts;
 #[cfg(test)]
 mod code_points;

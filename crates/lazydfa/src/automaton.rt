@@ -13,7 +13,7 @@ ghost use Rattle.letters.specs.Letters.{has};
 ghost use Rattle.stacks.specs.Stacks.{AreUncounted};
 ghost use Rattle.lazydfa.specs.RunVerdicts.{IsOne};
 
-use crate::budget::Budget;
+use crate::budget::{Budget, ROOM};
 use crate::cache::Cache;
 use crate::chains::Chains;
 use crate::classes::{Classes, find_classes};
@@ -106,8 +106,8 @@ fn are_served(tables: &Tables) -> bool
     are_uncounted(tables) && is_one(tables)
 }
 
-// Returns a memo with no state and no unfold, of a grammar of so many nodes. It takes no memory.
-fn empty_memo(alloc: Global, nodes: usize) -> Memo
+// Returns a memo with no state and no unfold, of a grammar of so many nodes, in such a room. It takes no memory.
+fn empty_memo(alloc: Global, nodes: usize, room: usize) -> Memo
     ensures conts { result.cache.conts.items.items ≡ [] }
     ensures states { result.cache.states.items ≡ [] }
     ensures cells { result.cache.cells.items ≡ [] }
@@ -115,7 +115,7 @@ fn empty_memo(alloc: Global, nodes: usize) -> Memo
     ensures unfolds { result.unfolds.items ≡ [] }
 {
     Memo {
-        cache: empty_cache(alloc, nodes),
+        cache: empty_cache(alloc, nodes, room),
         hops: Vec::new(alloc),
         unfolds: Vec::new(alloc),
         chains: Chains::new(alloc),
@@ -123,8 +123,8 @@ fn empty_memo(alloc: Global, nodes: usize) -> Memo
     }
 }
 
-// Returns a cache of a grammar of so many nodes, with no state. It takes no memory.
-fn empty_cache(alloc: Global, nodes: usize) -> Cache
+// Returns a cache of a grammar of so many nodes, with no state, in such a room. It takes no memory.
+fn empty_cache(alloc: Global, nodes: usize, room: usize) -> Cache
     ensures conts { result.conts.items.items ≡ [] }
     ensures states { result.states.items ≡ [] }
     ensures cells { result.cells.items ≡ [] }
@@ -143,7 +143,7 @@ fn empty_cache(alloc: Global, nodes: usize) -> Cache
         states: Vec::new(alloc),
         chains: Chains::new(alloc),
         cells: Vec::new(alloc),
-        budget: Budget::of(nodes),
+        budget: Budget::of(nodes, room),
     }
 }
 
@@ -153,12 +153,21 @@ impl Automaton {
     pub fn new(alloc: Global, flat: &Flat) -> Result<Option<Automaton>, Memory>
         ensures { IfOk result (λ made. IfSome made (λ automaton. automaton ≡ flat.now)) }
     {
+        let made = Automaton::with_room(alloc, flat, ROOM)?;
+        Ok(made)
+    }
+
+    /// Returns an automaton as `new` does, which fills no more once it keeps so many tops of states, continuations,
+    /// cells and unfolds. With no room it tells nothing, and with little it tells of some lines.
+    pub fn with_room(alloc: Global, flat: &Flat, room: usize) -> Result<Option<Automaton>, Memory>
+        ensures { IfOk result (λ made. IfSome made (λ automaton. automaton ≡ flat.now)) }
+    {
         let tables = flat.share()?;
         if !are_served(&tables) {
             return Ok(None);
         }
         let classes = find_classes(alloc, &tables)?;
-        let memo = empty_memo(alloc, tables.nodes.len());
+        let memo = empty_memo(alloc, tables.nodes.len(), room);
         Ok(Some(Automaton {
             alloc,
             tables,

@@ -1,19 +1,24 @@
 //! What may be spent on filling cells.
 
-/// How many ids may still be gone over, and how many tops and unfolds there are.
+/// So many tops of states, continuations, cells and unfolds are kept by an automaton of which nothing else is asked.
+pub(crate) const ROOM: usize = 2_000_000;
+
+/// How many ids may still be gone over, how many tops and unfolds there are, and for how many entries there is room.
 #[derive(Drop)]
 pub(crate) struct Budget {
     turns: usize,
     tops: usize,
+    room: usize,
     is_shut: bool,
 }
 
 impl Budget {
-    /// Returns what may be spent by a grammar of so many nodes before a line is read.
-    pub(crate) fn of(nodes: usize) -> Budget {
+    /// Returns what may be spent by a grammar of so many nodes before a line is read, in room for so many entries.
+    pub(crate) fn of(nodes: usize, room: usize) -> Budget {
         Budget {
             turns: nodes.saturating_mul(128).saturating_add(65_536),
             tops: 0,
+            room,
             is_shut: false,
         }
     }
@@ -40,6 +45,6 @@ impl Budget {
 
     /// Tells whether so many turns may be spent while there are so many continuations and cells.
     pub(crate) fn allows(&self, turns: usize, entries: usize) -> bool {
-        !self.is_shut && turns <= self.turns && self.tops.saturating_add(entries) < 2_000_000
+        !self.is_shut && turns <= self.turns && self.tops.saturating_add(entries) < self.room
     }
 }

@@ -143,26 +143,23 @@ fn find(states: &[State], chains: &Chains, tops: &[usize], ended: bool) -> Optio
 }
 
 // Adds all states to chains.
-fn chain_states(states: &[State], chains: &mut Chains) -> Result<(), Memory> {
+fn chain_all(states: &[State], chains: &mut Chains) -> Result<(), Memory> {
     for state in states {
         chains.add(hash_of_tops(&state.tops))?;
     }
     Ok(())
 }
 
-/// Makes more chains where there are fewer than states. `Memory` if an allocation fails.
-pub(crate) fn widen_states(cache: &mut Cache) -> Result<(), Memory>
-    ensures conts { cache.new.conts ≡ cache.old.conts }
-    ensures states { cache.new.states ≡ cache.old.states }
-    ensures cells { cache.new.cells ≡ cache.old.cells }
-{
-    if cache.chains.is_crowded() {
-        cache
-            .chains
-            .restart(cache.states.len().saturating_mul(4).max(256))?;
-        chain_states(&cache.states, &mut cache.chains)?;
+// Adds the last state to chains. Where there are fewer chains than states, more of them are made.
+fn chain_last(states: &[State], chains: &mut Chains) -> Result<(), Memory> {
+    if chains.is_crowded() {
+        chains.restart(states.len().saturating_mul(4).max(256))?;
+        return chain_all(states, chains);
     }
-    Ok(())
+    match states.last() {
+        Some(state) => chains.add(hash_of_tops(&state.tops)),
+        None => Ok(()),
+    }
 }
 
 /// Adds cells that are not known.
@@ -187,11 +184,11 @@ pub(crate) fn state_of(cache: &mut Cache, classes: usize, front: Front) -> Resul
     }
     let t = cache.states.len();
     cache.budget.note(front.tops.len());
-    cache.chains.add(hash_of_tops(&front.tops))?;
     cache.states.push(State {
         tops: front.tops,
         ended: front.ended,
     })?;
+    chain_last(&cache.states, &mut cache.chains)?;
     add_cells(classes, &mut cache.cells)?;
     Ok(t)
 }

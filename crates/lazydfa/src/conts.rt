@@ -51,6 +51,26 @@ pub(crate) struct Conts {
     pub(crate) chains: Chains,
 }
 
+// Adds all continuations to chains.
+fn chain_all(conts: &[Cont], chains: &mut Chains) -> Result<(), Memory> {
+    for cont in conts {
+        chains.add(hash_of_cont(*cont))?;
+    }
+    Ok(())
+}
+
+// Adds the last continuation to chains. Where there are fewer chains than continuations, more of them are made.
+fn chain_last(conts: &[Cont], chains: &mut Chains) -> Result<(), Memory> {
+    if chains.is_crowded() {
+        chains.restart(conts.len().saturating_mul(4).max(1024))?;
+        return chain_all(conts, chains);
+    }
+    match conts.last() {
+        Some(cont) => chains.add(hash_of_cont(*cont)),
+        None => Ok(()),
+    }
+}
+
 /// Returns the id of a continuation, which is added if it is not found. `Memory` if an allocation fails.
 pub(crate) fn id_of(conts: &mut Conts, cont: Cont) -> Result<usize, Memory>
     requires within { cont.next ≤ length conts.old.items.items }
@@ -63,27 +83,6 @@ pub(crate) fn id_of(conts: &mut Conts, cont: Cont) -> Result<usize, Memory>
         return Ok(id);
     }
     conts.items.push(cont)?;
-    conts.chains.add(hash_of_cont(cont))?;
+    chain_last(&conts.items, &mut conts.chains)?;
     Ok(conts.items.len())
-}
-
-// Adds all continuations to chains.
-fn chain_conts(conts: &[Cont], chains: &mut Chains) -> Result<(), Memory> {
-    for cont in conts {
-        chains.add(hash_of_cont(*cont))?;
-    }
-    Ok(())
-}
-
-/// Makes more chains where there are fewer than continuations. `Memory` if an allocation fails.
-pub(crate) fn widen_conts(conts: &mut Conts) -> Result<(), Memory>
-    ensures { conts.new.items ≡ conts.old.items }
-{
-    if conts.chains.is_crowded() {
-        conts
-            .chains
-            .restart(conts.items.len().saturating_mul(4).max(1024))?;
-        chain_conts(&conts.items, &mut conts.chains)?;
-    }
-    Ok(())
 }

@@ -70,26 +70,23 @@ fn find(unfolds: &[Unfold], chains: &Chains, state: usize, part: usize) -> Optio
 }
 
 // Adds all unfolds to chains.
-fn chain_unfolds(unfolds: &[Unfold], chains: &mut Chains) -> Result<(), Memory> {
+fn chain_all(unfolds: &[Unfold], chains: &mut Chains) -> Result<(), Memory> {
     for known in unfolds {
         chains.add(hash_of_pair(known.state, known.part))?;
     }
     Ok(())
 }
 
-/// Makes more chains where there are fewer than unfolds. `Memory` if an allocation fails.
-pub(crate) fn widen_unfolds(memo: &mut Memo) -> Result<(), Memory>
-    ensures cache { memo.new.cache ≡ memo.old.cache }
-    ensures hops { memo.new.hops ≡ memo.old.hops }
-    ensures unfolds { memo.new.unfolds ≡ memo.old.unfolds }
-    ensures parts { memo.new.parts ≡ memo.old.parts }
-{
-    if memo.chains.is_crowded() {
-        memo.chains
-            .restart(memo.unfolds.len().saturating_mul(4).max(64))?;
-        chain_unfolds(&memo.unfolds, &mut memo.chains)?;
+// Adds the last unfold to chains. Where there are fewer chains than unfolds, more of them are made.
+fn chain_last(unfolds: &[Unfold], chains: &mut Chains) -> Result<(), Memory> {
+    if chains.is_crowded() {
+        chains.restart(unfolds.len().saturating_mul(4).max(64))?;
+        return chain_all(unfolds, chains);
     }
-    Ok(())
+    match unfolds.last() {
+        Some(known) => chains.add(hash_of_pair(known.state, known.part)),
+        None => Ok(()),
+    }
 }
 
 // Returns the state of a state that has ended and a part, which is added if there is none; `None` if that takes more
@@ -150,6 +147,6 @@ pub(crate) fn unfolded(
         return Ok(None);
     };
     memo.unfolds.push(Unfold { state, part, to })?;
-    memo.chains.add(hash_of_pair(state, part))?;
+    chain_last(&memo.unfolds, &mut memo.chains)?;
     Ok(Some(to))
 }

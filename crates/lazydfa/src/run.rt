@@ -10,14 +10,14 @@ ghost use Rattle.lazydfa.specs.ClassBounds.{AreClasses, IsClassOf};
 ghost use Rattle.lazydfa.specs.declared.cache.State.{State};
 ghost use Rattle.lazydfa.specs.RunVerdicts.{IsRunVerdict};
 
-use crate::cache::{Cache, Cell, has_ended, state_of, widen_states};
+use crate::cache::{Cache, Cell, has_ended, state_of};
 use crate::classes::class_of;
 use crate::close::{Ids, close, empty, enter};
-use crate::conts::{Conts, widen_conts};
+use crate::conts::Conts;
 use crate::fill::{fill, look, may_fill};
 use crate::glide::{Stand, glide};
 use crate::hops::note_hop;
-use crate::memo::{Memo, forget_all, unfolded, widen_unfolds};
+use crate::memo::{Memo, forget_all, unfolded};
 use crate::transition::{Front, readers};
 use flatgrammar::{Tables, Verdict, whole_root};
 use letters::Letter;
@@ -174,20 +174,17 @@ fn take_step(
     }
 }
 
-/// Makes a memo ready for a line of so many letters. `Memory` if an allocation fails.
-fn prepare(memo: &mut Memo, letters: usize) -> Result<(), Memory>
+/// Makes a memo ready for a line of so many letters.
+fn prepare(memo: &mut Memo, letters: usize)
     ensures conts { memo.new.cache.conts.items ≡ memo.old.cache.conts.items }
     ensures states { memo.new.cache.states ≡ memo.old.cache.states }
     ensures cells { memo.new.cache.cells ≡ memo.old.cache.cells }
     ensures hops { memo.new.hops ≡ memo.old.hops }
     ensures unfolds { memo.new.unfolds ≡ memo.old.unfolds }
-    ensures parts { IfOk result (λ done. memo.new.parts.items ≡ []) }
+    ensures parts { memo.new.parts.items ≡ [] }
 {
     memo.parts.clear();
     memo.cache.budget.earn(letters);
-    widen_conts(&mut memo.cache.conts)?;
-    widen_states(&mut memo.cache)?;
-    widen_unfolds(memo)
 }
 
 // Returns what a run tells that came to a line's end.
@@ -218,7 +215,7 @@ fn follow<L: Letter>(
     ensures told { IfOk result (λ told. IfSome told (IsRunVerdict (flat_of tables.now) (last_of tables.now)
         (map L.number line.now))) }
 {
-    prepare(memo, line.len())?;
+    prepare(memo, line.len());
     let Some(first) = begin(alloc, tables, samples, &mut memo.cache)? else {
         return Ok(None);
     };

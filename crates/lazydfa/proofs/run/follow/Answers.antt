@@ -17,12 +17,12 @@ returns-in_default-clause-memo g c =
     memo_kept c.args.tables.now c.args.samples.now c.args.memo.now
     (record c.prepare.new.memo { cache = c.begin.new.cache }) c.requires.memo c.in_ok-first.ensures.cached
     (record {
-      conts = subst (λ v. AreKept v.items c.begin.new.cache.conts.items.items) c.in_ok-prepare.ensures.conts
+      conts = subst (λ v. AreKept v.items c.begin.new.cache.conts.items.items) c.prepare.ensures.conts
           c.in_ok-first.ensures.grows.conts;
-      states = subst (λ v. AreGrown v.items c.begin.new.cache.states.items) c.in_ok-prepare.ensures.states
+      states = subst (λ v. AreGrown v.items c.begin.new.cache.states.items) c.prepare.ensures.states
           c.in_ok-first.ensures.grows.states;
     })
-    (ap (λ v. v.items) c.in_ok-prepare.ensures.unfolds) (ap (λ v. v.items) c.in_ok-prepare.ensures.hops)
+    (ap (λ v. v.items) c.prepare.ensures.unfolds) (ap (λ v. v.items) c.prepare.ensures.hops)
 
 pub loop-stand-init : goal.loop-stand-init
 loop-stand-init g c =
@@ -30,19 +30,19 @@ loop-stand-init g c =
     memo_kept c.args.tables.now c.args.samples.now c.args.memo.now
     (record c.prepare.new.memo { cache = c.begin.new.cache }) c.requires.memo c.in_ok-first.ensures.cached
     (record {
-      conts = subst (λ v. AreKept v.items c.begin.new.cache.conts.items.items) c.in_ok-prepare.ensures.conts
+      conts = subst (λ v. AreKept v.items c.begin.new.cache.conts.items.items) c.prepare.ensures.conts
           c.in_ok-first.ensures.grows.conts;
-      states = subst (λ v. AreGrown v.items c.begin.new.cache.states.items) c.in_ok-prepare.ensures.states
+      states = subst (λ v. AreGrown v.items c.begin.new.cache.states.items) c.prepare.ensures.states
           c.in_ok-first.ensures.grows.states;
     })
-    (ap (λ v. v.items) c.in_ok-prepare.ensures.unfolds) (ap (λ v. v.items) c.in_ok-prepare.ensures.hops) in
+    (ap (λ v. v.items) c.prepare.ensures.unfolds) (ap (λ v. v.items) c.prepare.ensures.hops) in
     record {
       memo = memo;
       within = c.glide-stand.ensures.within;
       stands = c.glide-stand.ensures.glides c.args.tables.now c.requires.roots c.requires.classes memo (record {
         runs = settled_start c.args.tables.now c.requires.roots (map g.L.Letter.number c.args.line.now)
             c.begin.new.cache.conts.items.items c.begin.new.cache.states.items c.prepare.new.memo.parts.items
-            c.in-Some.first c.in_ok-prepare.ensures.parts
+            c.in-Some.first c.prepare.ensures.parts
             (subst (λ v. IfSome v (IsStartAt c.args.tables.now c.begin.new.cache.conts.items.items
             c.begin.new.cache.states.items)) c.in-Some.is c.in_ok-first.ensures.is);
         reached = λ some. absurd (omega (arith, some));

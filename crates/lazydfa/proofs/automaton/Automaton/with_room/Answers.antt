@@ -4,7 +4,7 @@ use Rattle.stacks.specs.Stacks.{AreUncounted}
 use Rattle.lazydfa.specs.RunVerdicts.{IsOne}
 use Rattle.lazydfa.specs.ClassBounds.{AreClasses}
 use Rattle.lazydfa.proofs.AreHopsLemmas.{memo_none}
-use Rattle.lazydfa.proofs.automaton.Automaton.new.Goals as goal
+use Rattle.lazydfa.proofs.automaton.Automaton.with_room.Goals as goal
 
 pub invariant_of-result : goal.invariant_of-result
 invariant_of-result c = (
