@@ -11,11 +11,13 @@ use std::test::Fail;
 use viable::lower_viable;
 
 // Room for no entry, for the start alone, for a few states, and for all of them.
-static ROOMS: [usize; 5] = [0, 1, 50, 200, 2_000_000];
+static ROOMS: [usize; 4] = [0, 1, 50, 2_000_000];
 
 // The letters of words, as bytes and in UTF-8, and how many words have at most four of them.
 static BYTES: [&[u8]; 3] = [b"a", b"B", b"\xE9"];
+
 static POINTS: [&[u8]; 3] = [b"a", b"B", b"\xC3\xA9"];
+
 const WORDS: usize = 121;
 
 // Writes the word of a number. Shorter words have lower numbers.
@@ -109,7 +111,13 @@ fn agrees_in_room(alloc: Global, judged: &Judged, room: usize) -> Result<bool, M
     let mut word = Vec::new(alloc);
     for number in 0..WORDS {
         write_word(letters, number, &mut word)?;
-        if !agrees_on_word(judged, &mut automaton, &mut chart, word.as_slice(), &mut points)? {
+        if !agrees_on_word(
+            judged,
+            &mut automaton,
+            &mut chart,
+            word.as_slice(),
+            &mut points,
+        )? {
             return Ok(false);
         }
     }
@@ -225,6 +233,7 @@ impl Draws {
 }
 
 static REPEATS: [&str; 10] = ["", "", "", "", "", "", "*", "1*", "2", "1*2"];
+
 static MEMBERS: [&str; 10] = [
     "\"a\"",
     "\"b\"",
@@ -242,13 +251,17 @@ static MEMBERS: [&str; 10] = [
 fn automata_of_random_grammars(rt: HostRuntime) -> Result<(), Fail> {
     let mut draws = Draws { last: 1 };
     let mut text = Vec::new(rt.alloc());
-    for _ in 0..60 {
+    for _ in 0..24 {
         text.clear();
         for name in [b'r', b's', b't'] {
             draws.add_rule(name, &mut text)?;
         }
         let sound = grammar(rt.alloc(), text.as_slice())?;
-        assert!(rt; agrees_by_each(rt.alloc(), &sound)?, "{:?}", text.as_slice());
+        assert!(rt;
+            agrees_by_each(rt.alloc(), &sound)?,
+            "{:?}",
+            text.as_slice()
+        );
     }
     Ok(())
 }
