@@ -19,8 +19,8 @@ HERE = pathlib.Path(__file__).resolve().parent
 SIZE, LINE = 1_000_000, 16_777_216
 SECONDS, PART = 120, 65_536
 
-# What a case is of, the words before the grammar's name, the grammar, its lines in pieces, each with how often it stands
-# there, the answers and the status.
+# What a case is of, the words before the grammar's name, the grammar, its lines in pieces, each with how often it
+# stands there, the answers and the status.
 Case = collections.namedtuple("Case", "name words grammar lines answers status")
 LONG = ["-l", str(LINE)]
 
@@ -48,7 +48,8 @@ def cases():
     yield Case("overlapping counts", [], filled(b"s = ", turns), [(b"ba\nbb\nabab\n", 1), (b"b", 50), (b"\n", 1)],
                b"yes\nno\nyes\nno\n", 1)
     count = SIZE // 10
-    yield Case("options in a row", [], filled(b"s = ", [b'["a"]'] * count, b" "), [(b"aaaa\n\nb\n", 1)], b"yes\nyes\nno\n", 1)
+    options = filled(b"s = ", [b'["a"]'] * count, b" ")
+    yield Case("options in a row", [], options, [(b"aaaa\n\nb\n", 1)], b"yes\nyes\nno\n", 1)
     yield Case("a text of a megabyte", LONG, b's = "' + b"a" * SIZE + b'"\n',
                [(b"a", SIZE), (b"\n", 1), (b"A", SIZE - 1), (b"\n", 1), (b"A", SIZE), (b"\n", 1)],
                b"yes\nno\nyes\n", 1)
@@ -86,7 +87,7 @@ def run(program, case, folder):
 
 
 def main(programs):
-    program, is_right = programs[0] if programs else str(HERE.parent / "bin" / "abnfi"), True
+    program, is_right = programs[0] if programs else str(HERE.parents[1] / "bin" / "abnfi"), True
     with tempfile.TemporaryDirectory(prefix="hostile-") as folder:
         for case in cases():
             answers, status, took, memory = run(program, case, pathlib.Path(folder))

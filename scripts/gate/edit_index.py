@@ -35,6 +35,8 @@ EXEMPT = (
     "packrat: Marks.all",
     # Its equation stands behind a premise, and `requires` says that something meets the premise.
     "pegmatch: Plain.replay", "pegmatch: writing.write_event",
+    # It passes on what `Automaton::with_room` returns.
+    "lazydfa: Automaton.new",
     # Another function of the crate has such a body, and its edit shows the same mistake.
     "commands: command.abnfi_command", "mains: mains.abnfi_main", "leastset: needs.are_needs_within",
     "pegmatch: leaves.match_any", "feed: Feed.front", "pegnodes: cut.cut_grammar", "pegnodes: star_tables.find_tables",
