@@ -79,7 +79,7 @@ module _ (g : Grammar) (x : List ℕ) (more : Bool) where
     pub gives : StartGives g x (outcome_of f events) looked
     pub enough : WasEnough x more looked
 
-  -- Where a match stops for want of bytes: the machine comes from nothing to what is stored, and to so many pairs begun.
+  -- Where a match stops for want of bytes: the machine comes from nothing to what is stored and to these begun pairs.
   pub record IsOnTheWay (marks : Marks) (c : Contents) : Type 0 where
     pub root : ℕ
     pub at : slice_get g.bodies g.start ≡ Some root
