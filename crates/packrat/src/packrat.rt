@@ -130,8 +130,8 @@ impl Matcher for Packrat {
     /// Without `more` the window is the whole rest of the input, and the answer is never `Need`. With `more` the window
     /// is not empty, and `Need` says that its last byte was compared; any other answer holds for every rest that begins
     /// with the window. At `Need` the machine stands on its way, and each pair that was begun is visited and was begun
-    /// once. However it ends, it has begun at most as many pairs as there are nodes at the places up to where the start rule
-    /// looks.
+    /// once. However it ends, it has begun at most as many pairs as there are nodes at the places up to where the start
+    /// rule looks.
     ///
     /// # Errors
     /// `Memory` if an allocation fails; nothing is stored.
