@@ -28,6 +28,8 @@ mod least_sets;
 #[cfg(test)]
 mod log_rows;
 #[cfg(test)]
+mod matchers_agree;
+#[cfg(test)]
 mod packrat_units;
 #[cfg(test)]
 mod printed_abnf;

@@ -1,45 +1,38 @@
 -- The entries of the log, and the index over them.
-use Rattle.std.specs.Prelude.{◌≡◌, ℕ, ◌+◌, ◌-◌, ◌<◌, ◌≤◌, List, [], ◌∷◌, ◌++◌, length, reverse, slice_get, Some}
+use Rattle.std.specs.Prelude.{◌≡◌, ℕ, ◌+◌, ◌<◌, ◌≤◌, List, [], ◌∷◌, ◌++◌, length, reverse, slice_get, Some}
+use Rattle.memo.specs.declared.found.Found.{Found}
 use Rattle.memo.specs.declared.found.Found.TheVariants.{Failed, Took}
 use Rattle.memo.specs.Parts.{IsIn}
 use Rattle.memo.specs.KeyLog.{run_of, steps_of, row_of, place_of, number_of, IsNarrow, AreBelow}
 use Rattle.memo.specs.SpotLinks.{Place}
 use Rattle.memo.specs.declared.entry.Entry.{Entry}
-use Rattle.memo.specs.declared.entry.Entry.TheVariants.{Member, FailedMember, Run, FailedRun, Steps}
+use Rattle.memo.specs.declared.entry.Entry.TheVariants.{Member, Run, Steps}
 use Rattle.memo.specs.declared.entry.Extent.{Extent}
+use Rattle.memo.specs.declared.entry.Ending.{Ending}
+use Rattle.memo.specs.declared.entry.Ending.TheVariants.{Missed, Ended}
 use Rattle.memo.specs.declared.key_log.Given.{Given}
 use Rattle.memo.specs.declared.key_log.Mark.{Mark}
 use Rattle.memo.specs.declared.key_log.Stored.{Stored}
-use Rattle.memo.specs.declared.spot.Spot.TheVariants.{Pair, Tail}
+use Rattle.memo.specs.declared.spot.Spot.TheVariants.{Tail}
 
--- a success that ended there, and a failure
-abbrev pub taken : ℕ → ℕ → Given
-taken end events = record { found = Took end; events = events }
+-- what was found, by how it ended and where
+abbrev pub found_of : Ending → ℕ → Found
+found_of Missed e = Failed
+found_of Ended e = Took e
 
-abbrev pub missed : ℕ → Given
-missed events = record { found = Failed; events = events }
+abbrev pub given_of : Ending → ℕ → ℕ → Given
+given_of o e events = record { found = found_of o e; events = events }
 
 abbrev pub node_of : Entry → ℕ
-node_of (Member n i p end events) = n
-node_of (FailedMember n i p events) = n
-node_of (Run n from to end events) = n
-node_of (FailedRun n from to events) = n
+node_of (Member o n i p e events) = n
+node_of (Run o n from to e events) = n
 node_of (Steps n from to) = n
 
 -- what an entry stands for
 abbrev pub pairs_of : Entry → List Stored
-pairs_of (Member n i p end events) = record { spot = Tail n i p; given = taken end events } ∷ []
-pairs_of (FailedMember n i p events) = record { spot = Tail n i p; given = missed events } ∷ []
-pairs_of (Run n from to end events) = run_of n from to (taken end events)
-pairs_of (FailedRun n from to events) = run_of n from to (missed events)
+pairs_of (Member o n i p e events) = record { spot = Tail n i p; given = given_of o e events } ∷ []
+pairs_of (Run o n from to e events) = run_of n from to (given_of o e events)
 pairs_of (Steps n from to) = steps_of n from to
-
--- the extent of a tail, and of a node at the places from `from` to `to`
-abbrev pub extent_of_member : ℕ → ℕ → ℕ → Extent
-extent_of_member n i p = record { row = n; highest = p; count = 1; first = number_of (Tail n i p) }
-
-abbrev pub extent_of_run : ℕ → ℕ → ℕ → Extent
-extent_of_run n from to = record { row = n; highest = to; count = to + 1 - from; first = number_of (Pair n from) }
 
 -- what the entries stand for, one after the other
 abbrev pub stored_of : List Entry → List Stored

@@ -2,7 +2,7 @@
 ghost use Rattle.std.specs.Prelude.{◌≡◌, ◌+◌, ◌<◌, ◌≤◌, ◌^◌, true, false, [], ◌∷◌, slice_get, Some};
 ghost use Rattle.std.specs.Prelude.{IfOk, IfSome, IfNone};
 ghost use Rattle.memo.specs.KeyLog.{spots_of, row_of, run_of, steps_of};
-ghost use Rattle.memo.specs.LogEntries.{taken, missed, node_of, pairs_of, extent_of_member, extent_of_run, IsExtent};
+ghost use Rattle.memo.specs.LogEntries.{found_of, given_of, node_of, pairs_of, IsExtent};
 ghost use Rattle.memo.specs.Parts.{IsIn};
 ghost use Rattle.memo.specs.declared.entry.Entry.{Entry};
 ghost use Rattle.memo.specs.declared.spot.Spot.TheVariants.{Pair, Tail};
@@ -14,37 +14,63 @@ use crate::spot::{Spot, pair_number, tail_number};
 use ruletable::Memory;
 use std::mem::size_of;
 
+/// How an evaluation ended.
+#[derive(Clone, Copy)]
+pub(crate) enum Ending {
+    /// It failed.
+    Missed,
+    /// It succeeded.
+    Ended,
+}
+
+/// What was found: how an evaluation ended, and where, or 0 if it failed.
+#[derive(Clone, Copy)]
+pub(crate) struct Outcome {
+    pub(crate) ending: Ending,
+    pub(crate) end: u32,
+}
+
+impl Outcome {
+    /// Returns what was found, in 32 bits.
+    ///
+    /// # Errors
+    /// `Memory` if it does not fit.
+    #[inline(always)]
+    pub(crate) fn of(found: Found) -> Result<Outcome, Memory>
+        ensures { IfOk result (λ o. found_of o.ending o.end ≡ found) }
+    {
+        match found {
+            Found::Failed => Ok(Outcome {
+                ending: Ending::Missed,
+                end: 0,
+            }),
+            Found::Took(end) => Ok(Outcome {
+                ending: Ending::Ended,
+                end: narrow(end)?,
+            }),
+        }
+    }
+}
+
 /// One entry of the log: a key, or keys of a node at places in a row.
 #[derive(Clone, Copy)]
 pub(crate) enum Entry {
-    /// The tail of a node from a member on, at a place, which succeeded and ended there.
+    /// The tail of a node from a member on, at a place.
     Member {
+        ending: Ending,
         node: u32,
         index: u32,
         place: u32,
         end: u32,
         events: u32,
     },
-    /// Likewise, which failed.
-    FailedMember {
-        node: u32,
-        index: u32,
-        place: u32,
-        events: u32,
-    },
-    /// A node at the places from `from` to `to`, which succeeded and ended there.
+    /// A node at the places from `from` to `to`, all with one outcome.
     Run {
+        ending: Ending,
         node: u32,
         from: u32,
         to: u32,
         end: u32,
-        events: u32,
-    },
-    /// Likewise, which failed.
-    FailedRun {
-        node: u32,
-        from: u32,
-        to: u32,
         events: u32,
     },
     /// A node at the places from `from` on, short of `to`, at each of which it takes one byte.
@@ -79,34 +105,17 @@ impl Entry {
     {
         match spot {
             Spot::Pair { node, place } => Entry::run(node, place, place, given),
-            Spot::Tail { node, index, place } => Entry::member(node, index, place, given),
-        }
-    }
-
-    // Returns an entry of a tail.
-    #[inline(always)]
-    fn member(node: usize, index: usize, place: usize, given: Given) -> Result<Entry, Memory>
-        ensures pairs { IfOk result (λ e. pairs_of e ≡ record { spot = Tail node index place; given = given } ∷ []) }
-        ensures node { IfOk result (λ e. node_of e ≡ node) }
-    {
-        let node = narrow(node)?;
-        let index = narrow(index)?;
-        let place = narrow(place)?;
-        let events = narrow(given.events)?;
-        match given.found {
-            Found::Took(end) => Ok(Entry::Member {
-                node,
-                index,
-                place,
-                end: narrow(end)?,
-                events,
-            }),
-            Found::Failed => Ok(Entry::FailedMember {
-                node,
-                index,
-                place,
-                events,
-            }),
+            Spot::Tail { node, index, place } => {
+                let outcome = Outcome::of(given.found)?;
+                Ok(Entry::Member {
+                    ending: outcome.ending,
+                    node: narrow(node)?,
+                    index: narrow(index)?,
+                    place: narrow(place)?,
+                    end: outcome.end,
+                    events: narrow(given.events)?,
+                })
+            }
         }
     }
 
@@ -119,25 +128,15 @@ impl Entry {
         ensures pairs { IfOk result (λ e. pairs_of e ≡ run_of node from to given) }
         ensures node { IfOk result (λ e. node_of e ≡ node) }
     {
-        let node = narrow(node)?;
-        let from = narrow(from)?;
-        let to = narrow(to)?;
-        let events = narrow(given.events)?;
-        match given.found {
-            Found::Took(end) => Ok(Entry::Run {
-                node,
-                from,
-                to,
-                end: narrow(end)?,
-                events,
-            }),
-            Found::Failed => Ok(Entry::FailedRun {
-                node,
-                from,
-                to,
-                events,
-            }),
-        }
+        let outcome = Outcome::of(given.found)?;
+        Ok(Entry::Run {
+            ending: outcome.ending,
+            node: narrow(node)?,
+            from: narrow(from)?,
+            to: narrow(to)?,
+            end: outcome.end,
+            events: narrow(given.events)?,
+        })
     }
 
     /// Returns an entry of a node that takes one byte at each place from `from` on, short of `to`.
@@ -168,27 +167,27 @@ impl Entry {
                 index,
                 place,
                 end: _,
+                ending: _,
                 events: _,
-            } => member_extent(node, index, place),
-            Entry::FailedMember {
-                node,
-                index,
-                place,
-                events: _,
-            } => member_extent(node, index, place),
+            } => Extent {
+                row: node as usize,
+                highest: place,
+                count: 1,
+                first: tail_number(node, index, place),
+            },
             Entry::Run {
                 node,
                 from,
                 to,
                 end: _,
+                ending: _,
                 events: _,
-            } => run_extent(node, from, to),
-            Entry::FailedRun {
-                node,
-                from,
-                to,
-                events: _,
-            } => run_extent(node, from, to),
+            } => Extent {
+                row: node as usize,
+                highest: to,
+                count: (to as usize + 1).saturating_sub(from as usize),
+                first: pair_number(node, from),
+            },
             Entry::Steps { node, from, to } => Extent {
                 row: node as usize,
                 highest: to.saturating_sub(1),
@@ -217,27 +216,24 @@ impl Entry {
         ensures none { IfNone result (IsIn (Pair node place) (spots_of (pairs_of self)) → ⊥) }
     {
         match self {
+            Entry::Member {
+                node: _,
+                index: _,
+                place: _,
+                end: _,
+                ending: _,
+                events: _,
+            } => None,
             Entry::Run {
                 node: own,
                 from,
                 to,
                 end,
+                ending,
                 events,
             } => {
                 if is_within(node, place, own, from, to as usize + 1) {
-                    Some(took(end, events))
-                } else {
-                    None
-                }
-            }
-            Entry::FailedRun {
-                node: own,
-                from,
-                to,
-                events,
-            } => {
-                if is_within(node, place, own, from, to as usize + 1) {
-                    Some(failed(events))
+                    Some(given(ending, end, events))
                 } else {
                     None
                 }
@@ -256,19 +252,6 @@ impl Entry {
                     None
                 }
             }
-            Entry::Member {
-                node: _,
-                index: _,
-                place: _,
-                end: _,
-                events: _,
-            } => None,
-            Entry::FailedMember {
-                node: _,
-                index: _,
-                place: _,
-                events: _,
-            } => None,
         }
     }
 
@@ -283,22 +266,11 @@ impl Entry {
                 index: member,
                 place: there,
                 end,
+                ending,
                 events,
             } => {
                 if node == own as usize && index == member as usize && place == there as usize {
-                    Some(took(end, events))
-                } else {
-                    None
-                }
-            }
-            Entry::FailedMember {
-                node: own,
-                index: member,
-                place: there,
-                events,
-            } => {
-                if node == own as usize && index == member as usize && place == there as usize {
-                    Some(failed(events))
+                    Some(given(ending, end, events))
                 } else {
                     None
                 }
@@ -308,12 +280,7 @@ impl Entry {
                 from: _,
                 to: _,
                 end: _,
-                events: _,
-            } => None,
-            Entry::FailedRun {
-                node: _,
-                from: _,
-                to: _,
+                ending: _,
                 events: _,
             } => None,
             Entry::Steps {
@@ -322,32 +289,6 @@ impl Entry {
                 to: _,
             } => None,
         }
-    }
-}
-
-// Returns the extent of a tail.
-#[inline(always)]
-fn member_extent(node: u32, index: u32, place: u32) -> Extent
-    ensures { result ≡ extent_of_member node index place }
-{
-    Extent {
-        row: node as usize,
-        highest: place,
-        count: 1,
-        first: tail_number(node, index, place),
-    }
-}
-
-// Returns the extent of a node at the places from `from` to `to`.
-#[inline(always)]
-fn run_extent(node: u32, from: u32, to: u32) -> Extent
-    ensures { result ≡ extent_of_run node from to }
-{
-    Extent {
-        row: node as usize,
-        highest: to,
-        count: (to as usize + 1).saturating_sub(from as usize),
-        first: pair_number(node, from),
     }
 }
 
@@ -360,24 +301,17 @@ fn is_within(node: usize, place: usize, own: u32, from: u32, end: usize) -> bool
     node == own as usize && place >= from as usize && place < end
 }
 
-// Returns a success that ended there, with its events.
+// Returns what was found, with its events.
 #[inline(always)]
-fn took(end: u32, events: u32) -> Given
-    ensures { result ≡ taken end events }
+fn given(ending: Ending, end: u32, events: u32) -> Given
+    ensures { result ≡ given_of ending end events }
 {
+    let found = match ending {
+        Ending::Missed => Found::Failed,
+        Ending::Ended => Found::Took(end as usize),
+    };
     Given {
-        found: Found::Took(end as usize),
-        events: events as usize,
-    }
-}
-
-// Returns a failure, with its events.
-#[inline(always)]
-fn failed(events: u32) -> Given
-    ensures { result ≡ missed events }
-{
-    Given {
-        found: Found::Failed,
+        found,
         events: events as usize,
     }
 }

@@ -59,7 +59,6 @@ fn write_slot<W: Sink>(
 }
 
 // Writes a text from one place to another, with the capture put in the slots between them.
-#[inline(always)]
 fn write_slots<W: Sink>(
     out: &mut W,
     text: &[u8],

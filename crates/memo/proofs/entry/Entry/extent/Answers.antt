@@ -1,14 +1,14 @@
 use Rattle.std.proofs.Common.{◌≡◌, ℕ, ◌+◌, ◌-◌, ◌*◌, ◌^◌, ◌<◌, ◌≤◌, length}
-use Rattle.std.proofs.Common.{refl, sym, ◌∙◌, subst, ap, arith}
+use Rattle.std.proofs.Common.{sym, ◌∙◌, subst, ap, arith}
 use Rattle.memo.specs.Parts.{IsIn}
-use Rattle.memo.specs.KeyLog.{row_of, place_of, number_of, run_of, IsNarrow}
+use Rattle.memo.specs.KeyLog.{row_of, place_of, number_of, IsNarrow}
 use Rattle.memo.specs.LogEntries.{pairs_of, node_of, IsExtent}
 use Rattle.memo.specs.declared.entry.Entry.{Entry}
 use Rattle.memo.specs.declared.key_log.Given.{Given}
 use Rattle.memo.specs.declared.key_log.Stored.{Stored}
 use Rattle.memo.proofs.KeyLogLemmas.{IsSpread, of_spread, length_spread, of_rising, length_rising}
 use Rattle.std.proofs.Common.{rules}
-use Rattle.memo.specs.LogEntries.{taken, missed, extent_of_run}
+use Rattle.memo.specs.LogEntries.{given_of}
 use Rattle.memo.proofs.LogEntriesLemmas.{at_pair, step_at}
 use Rattle.memo.proofs.entry.Entry.extent.Goals as goal
 
@@ -45,30 +45,18 @@ spread_extent entry node given from n highest first one many own small low withi
       count = sym many;
     }
 
--- likewise where they all have one outcome
-run_is_extent : (entry : Entry) (node from to : ℕ) (given : Given) → pairs_of entry ≡ run_of node from to given
-    → node_of entry ≡ node → node < 2 ^ 32 → to < 2 ^ 32 → IsExtent entry (extent_of_run node from to)
-run_is_extent entry node from to given pairs own small low =
-    let at : ℕ → Given = λ _. given in
-    spread_extent entry node at from (to + 1 - from) to (node * 668265263 + from)
-    (λ s i. of_rising (at_pair node at) from (to + 1 - from) s (subst (λ v. IsIn s v) pairs i))
-    (ap length pairs ∙ length_rising (at_pair node at) from (to + 1 - from)) own small low (λ some. omega arith) refl
-
 pub returns-in-Run-clause-extent : goal.returns-in-Run-clause-extent
 returns-in-Run-clause-extent c =
     let k = c.in-Run in
     let small : k.node < 2 ^ 32 = search rules in
     let low : k.to < 2 ^ 32 = search rules in
-    rw c.run_extent.ensures (run_is_extent c.args.self k.node k.from k.to (taken k.end k.events) (ap pairs_of k.is)
-    (ap node_of k.is) small low)
-
-pub returns-in-FailedRun-clause-extent : goal.returns-in-FailedRun-clause-extent
-returns-in-FailedRun-clause-extent c =
-    let k = c.in-FailedRun in
-    let small : k.node < 2 ^ 32 = search rules in
-    let low : k.to < 2 ^ 32 = search rules in
-    rw c.run_extent-in-FailedRun.ensures (run_is_extent c.args.self k.node k.from k.to (missed k.events)
-    (ap pairs_of k.is) (ap node_of k.is) small low)
+    let given : ℕ → Given = λ _. given_of k.ending k.end k.events in
+    let pairs = ap pairs_of k.is in
+    rw c.saturating_sub.ensures (spread_extent c.args.self k.node given k.from
+    (k.to + 1 - k.from) k.to c.pair_number.result
+    (λ s i. of_rising (at_pair k.node given) k.from (k.to + 1 - k.from) s (subst (λ v. IsIn s v) pairs i))
+    (ap length pairs ∙ length_rising (at_pair k.node given) k.from (k.to + 1 - k.from)) (ap node_of k.is) small low
+    (λ some. omega arith) c.pair_number.ensures.same)
 
 pub returns-in-Steps-clause-extent : goal.returns-in-Steps-clause-extent
 returns-in-Steps-clause-extent c =
@@ -77,9 +65,9 @@ returns-in-Steps-clause-extent c =
     let wide : k.to < 2 ^ 32 = search rules in
     let low : k.to - 1 < 2 ^ 32 = omega arith in
     let pairs = ap pairs_of k.is in
-    rw (c.saturating_sub.ensures, c.saturating_sub-in-Steps.ensures) (spread_extent c.args.self k.node
-    step_at k.from (k.to - k.from) (k.to - 1) c.pair_number.result
+    rw (c.saturating_sub-in-Steps.ensures, c.saturating_sub-in-Steps-2.ensures) (spread_extent c.args.self k.node
+    step_at k.from (k.to - k.from) (k.to - 1) c.pair_number-in-Steps.result
     (λ s i. of_spread (at_pair k.node step_at) k.from (k.to - k.from) s (subst (λ v. IsIn s v) pairs i))
     (ap length pairs ∙ length_spread (at_pair k.node step_at) k.from (k.to - k.from)) (ap node_of k.is) small low
     (λ some. omega arith)
-    c.pair_number.ensures.same)
+    c.pair_number-in-Steps.ensures.same)

@@ -1,13 +1,13 @@
 use Rattle.std.proofs.Common.{◌≡◌, ℕ, ◌+◌, ◌-◌, ◌<◌, ◌≤◌, List}
 use Rattle.std.proofs.Common.{refl, sym, ◌∙◌, subst, ap, arith}
 use Rattle.memo.specs.Parts.{IsIn}
-use Rattle.memo.specs.KeyLog.{spots_of, run_of, spread, rising}
+use Rattle.memo.specs.KeyLog.{spots_of, spread, rising}
 use Rattle.memo.specs.declared.key_log.Given.{Given}
 use Rattle.memo.specs.declared.key_log.Stored.{Stored}
 use Rattle.memo.specs.declared.spot.Spot.TheVariants.{Pair}
 use Rattle.memo.proofs.KeyLogLemmas.{stored_of_spot}
 use Rattle.memo.proofs.KeyLogLemmas.{IsSpread, of_spread, in_spread, of_rising, in_rising}
-use Rattle.memo.specs.LogEntries.{taken, missed, pairs_of}
+use Rattle.memo.specs.LogEntries.{given_of}
 use Rattle.memo.proofs.LogEntriesLemmas.{at_pair, step_at}
 use Rattle.memo.proofs.entry.Entry.given_for_pair.Goals as goal
 
@@ -31,66 +31,42 @@ pair_in_spread : (own : ℕ) (given : ℕ → Given) (node place : ℕ) (g : Giv
 pair_in_spread own given node place g pairs is same i =
     rw is (subst (λ v. IsIn (record { spot = Pair own place; given = v }) pairs) same i)
 
--- a pair of a run
-run_has : (own from to node place : ℕ) (given g : Given) (pairs : List Stored) → pairs ≡ run_of own from to given
-    → (node ≡ own) × (from ≤ place) × (place < to + 1) → g ≡ given
-    → IsIn (record { spot = Pair node place; given = g }) pairs
-run_has own from to node place given g pairs is inside same =
-    let at : ℕ → Given = λ _. given in
-    let low = inside.1 in
-    let below = inside.2 in
-    rw is (pair_in_spread own at node place g (rising (at_pair own at) from (to + 1 - from)) inside.0 (sym same)
-    (in_rising (at_pair own at) from (to + 1 - from) place inside.1 (omega (arith, low, below))))
-
-run_has_not : (own from to node place : ℕ) (given : Given) (pairs : List Stored) → pairs ≡ run_of own from to given
-    → (node ≡ own → from ≤ place → place < to + 1 → ⊥) → IsIn (Pair node place) (spots_of pairs) → ⊥
-run_has_not own from to node place given pairs is outside i =
-    let at : ℕ → Given = λ _. given in
-    let h = pair_of_spread own at from (to + 1 - from) node place (rising (at_pair own at) from (to + 1 - from))
-    (of_rising (at_pair own at) from (to + 1 - from)) (subst (λ v. IsIn (Pair node place) (spots_of v)) is i) in
-    let low = h.1 in
-    let high = h.2 in
-    outside h.0 low (omega (arith, low, high))
-
 pub returns-then-is_within-clause-some : goal.returns-then-is_within-clause-some
 returns-then-is_within-clause-some c =
     let k = c.in-Run in
-    run_has k.own k.from k.to c.args.node c.args.place (taken k.end k.events) c.took.result (pairs_of c.args.self)
-    (ap pairs_of k.is) (c.is_within.ensures.yes c.if-is_within.true) c.took.ensures
+    let yes = c.is_within.ensures.yes c.if-is_within.true in
+    let below = yes.2 in
+    let given : ℕ → Given = λ _. given_of k.ending k.end k.events in
+    rw k.is (pair_in_spread k.own given c.args.node c.args.place c.given.result
+    (rising (at_pair k.own given) k.from (k.to + 1 - k.from)) yes.0 (sym c.given.ensures)
+    (in_rising (at_pair k.own given) k.from (k.to + 1 - k.from) c.args.place yes.1 (omega arith)))
 
 pub returns-else-is_within-clause-none : goal.returns-else-is_within-clause-none
 returns-else-is_within-clause-none c i =
     let k = c.in-Run in
-    run_has_not k.own k.from k.to c.args.node c.args.place (taken k.end k.events) (pairs_of c.args.self)
-    (ap pairs_of k.is) (c.is_within.ensures.no c.if-is_within.false) i
+    let given : ℕ → Given = λ _. given_of k.ending k.end k.events in
+    let h = pair_of_spread k.own given k.from (k.to + 1 - k.from) c.args.node c.args.place
+    (rising (at_pair k.own given) k.from (k.to + 1 - k.from))
+    (of_rising (at_pair k.own given) k.from (k.to + 1 - k.from)) (rw k.is at i) in
+    let low = h.1 in
+    let high = h.2 in
+    c.is_within.ensures.no c.if-is_within.false h.0 low (omega arith)
 
 pub returns-then-is_within-2-clause-some : goal.returns-then-is_within-2-clause-some
 returns-then-is_within-2-clause-some c =
-    let k = c.in-FailedRun in
-    run_has k.own k.from k.to c.args.node c.args.place (missed k.events) c.failed.result (pairs_of c.args.self)
-    (ap pairs_of k.is) (c.is_within-in-FailedRun.ensures.yes c.if-is_within-2.true) c.failed.ensures
-
-pub returns-else-is_within-2-clause-none : goal.returns-else-is_within-2-clause-none
-returns-else-is_within-2-clause-none c i =
-    let k = c.in-FailedRun in
-    run_has_not k.own k.from k.to c.args.node c.args.place (missed k.events) (pairs_of c.args.self)
-    (ap pairs_of k.is) (c.is_within-in-FailedRun.ensures.no c.if-is_within-2.false) i
-
-pub returns-then-is_within-3-clause-some : goal.returns-then-is_within-3-clause-some
-returns-then-is_within-3-clause-some c =
     let k = c.in-Steps in
-    let yes = c.is_within-in-Steps.ensures.yes c.if-is_within-3.true in
+    let yes = c.is_within-in-Steps.ensures.yes c.if-is_within-2.true in
     let below = yes.2 in
     rw k.is (pair_in_spread k.own step_at c.args.node c.args.place (step_at c.args.place)
     (spread (at_pair k.own step_at) k.from (k.to - k.from)) yes.0 refl
     (in_spread (at_pair k.own step_at) k.from (k.to - k.from) c.args.place yes.1 (omega arith)))
 
-pub returns-else-is_within-3-clause-none : goal.returns-else-is_within-3-clause-none
-returns-else-is_within-3-clause-none c i =
+pub returns-else-is_within-2-clause-none : goal.returns-else-is_within-2-clause-none
+returns-else-is_within-2-clause-none c i =
     let k = c.in-Steps in
     let h = pair_of_spread k.own step_at k.from (k.to - k.from) c.args.node c.args.place
     (spread (at_pair k.own step_at) k.from (k.to - k.from))
     (of_spread (at_pair k.own step_at) k.from (k.to - k.from)) (rw k.is at i) in
     let low = h.1 in
     let high = h.2 in
-    c.is_within-in-Steps.ensures.no c.if-is_within-3.false h.0 low (omega arith)
+    c.is_within-in-Steps.ensures.no c.if-is_within-2.false h.0 low (omega arith)

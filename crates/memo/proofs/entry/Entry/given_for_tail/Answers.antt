@@ -7,7 +7,7 @@ use Rattle.memo.specs.declared.key_log.Stored.{Stored}
 use Rattle.memo.specs.declared.spot.Spot.TheVariants.{Pair, Tail}
 use Rattle.memo.proofs.KeyLogLemmas.{stored_of_spot}
 use Rattle.memo.proofs.KeyLogLemmas.{IsSpread, of_spread, of_rising}
-use Rattle.memo.specs.LogEntries.{taken, missed}
+use Rattle.memo.specs.LogEntries.{given_of}
 use Rattle.memo.proofs.LogEntriesLemmas.{at_pair, step_at}
 use Rattle.memo.proofs.entry.Entry.given_for_tail.Goals as goal
 
@@ -24,25 +24,12 @@ no_tail_of_spread own given from n node index place pairs are i =
 pub returns-then-place-there-clause-some : goal.returns-then-place-there-clause-some
 returns-then-place-there-clause-some c =
     let k = c.in-Member in
-    rw (k.is, c.took.ensures, c.if-node-own.true, c.if-index-member.true, c.if-place-there.true) in_here
-
-pub returns-then-place-there-2-clause-some : goal.returns-then-place-there-2-clause-some
-returns-then-place-there-2-clause-some c =
-    let k = c.in-FailedMember in
-    rw (k.is, c.failed.ensures, c.if-node-own-2.true, c.if-index-member-2.true, c.if-place-there-2.true) in_here
+    rw (k.is, c.given.ensures, c.if-node-own.true, c.if-index-member.true, c.if-place-there.true) in_here
 
 pub returns-in-Run-clause-none : goal.returns-in-Run-clause-none
 returns-in-Run-clause-none c i =
     let k = c.in-Run in
-    let given : ℕ → Given = λ _. taken k.end k.events in
-    no_tail_of_spread k.node given k.from (k.to + 1 - k.from) c.args.node c.args.index c.args.place
-    (rising (at_pair k.node given) k.from (k.to + 1 - k.from))
-    (of_rising (at_pair k.node given) k.from (k.to + 1 - k.from)) (rw k.is at i)
-
-pub returns-in-FailedRun-clause-none : goal.returns-in-FailedRun-clause-none
-returns-in-FailedRun-clause-none c i =
-    let k = c.in-FailedRun in
-    let given : ℕ → Given = λ _. missed k.events in
+    let given : ℕ → Given = λ _. given_of k.ending k.end k.events in
     no_tail_of_spread k.node given k.from (k.to + 1 - k.from) c.args.node c.args.index c.args.place
     (rising (at_pair k.node given) k.from (k.to + 1 - k.from))
     (of_rising (at_pair k.node given) k.from (k.to + 1 - k.from)) (rw k.is at i)
