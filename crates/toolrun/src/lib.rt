@@ -2,6 +2,7 @@
 #![tactic(auto)]
 
 mod finish;
+mod first;
 mod language;
 mod notes;
 mod plan;
