@@ -3,3 +3,4 @@ pub mod BracketLemmas
 pub mod LargeRunLemmas
 pub mod AbnfCanStandLemmas
 pub mod TakenMarksLemmas
+pub mod AbnfExplainedLemmas

@@ -2,5 +2,9 @@
 #![tactic(auto)]
 
 mod abnf_decide;
+mod abnf_explain;
+mod abnf_phrases;
 mod abnf_stand;
 mod large;
+
+pub use abnf_explain::explain_abnf_fault;

@@ -1,0 +1,8 @@
+use Rattle.std.proofs.Common.{◌≡◌, drop}
+use Rattle.std.specs.List.{list_all}
+use Rattle.abnfexplain.specs.AbnfPlaces.{place_allows}
+use Rattle.abnfexplain.proofs.abnf_phrases.allows_all.Given as goal
+
+abbrev pub invariant-loop-form : goal.invariant-loop-form
+invariant-loop-form l = list_all (place_allows l.place) (drop l.form-index l.forms) ≡ list_all (place_allows l.place)
+    l.forms

@@ -1,0 +1,295 @@
+//! What explains a fault of a grammar in ABNF.
+ghost use Rattle.std.specs.Prelude.{◌≡◌, ℕ, ◌≤◌, ◌++◌, ◌&&◌, List, Some, true, length, map, codes, OnOk, IfOk};
+ghost use Rattle.std.specs.Option.{option_map};
+ghost use Rattle.lexer.specs.declared.limits.TheConstants.{MAX_GRAMMAR};
+ghost use Rattle.picture.specs.FactRows.{row_of};
+ghost use Rattle.picture.specs.PhraseLists.{listed};
+ghost use Rattle.picture.specs.ToldPhrases.{Told};
+ghost use Rattle.abnfread.specs.AbnfReading.{IsFaultOf};
+ghost use Rattle.abnfread.specs.MarkedTokens.{marked_of};
+ghost use Rattle.abnfexplain.specs.AbnfDecisions.{NoneDecides};
+ghost use Rattle.abnfexplain.specs.AbnfExpected.{phrases};
+ghost use Rattle.abnfexplain.specs.AbnfExplained.{bad_rows, token_place, bad_fact, indent, line_fact, name_fact};
+ghost use Rattle.abnfexplain.specs.AbnfExplained.{is_later_name as later_name, token_facts, Why, Explains};
+ghost use Rattle.abnfexplain.specs.AbnfPlaces.{place_allows};
+ghost use Rattle.abnfexplain.specs.AbnfStands.{defines as defining};
+ghost use Rattle.abnfread.specs.declared.marks.MarkedToken.{MarkedToken as Marks};
+
+use crate::abnf_decide::{Decision, Refused, deciding_token};
+use crate::abnf_phrases::told_phrases;
+use crate::abnf_stand::Place;
+use abnfread::{AbnfKind, MarkedToken};
+use lexer::tokens_make_up;
+use picture::{Fact, line_around, push_fact, push_number, push_phrases, push_place};
+use ruletable::{LineRule, Memory, ReadFault};
+use std::alloc::Global;
+
+static BAD_FACTS: [Fact; 12] = [
+    Fact {
+        begins: b"\xEF\xBB\xBF",
+        told: b"a byte order mark is no part of a grammar",
+    },
+    Fact {
+        begins: b"|",
+        told: b"alternatives have \"/\" between them",
+    },
+    Fact {
+        begins: b":",
+        told: b"a rule is defined by \"=\"",
+    },
+    Fact {
+        begins: b"_",
+        told: b"names hold letters, digits and \"-\"",
+    },
+    Fact {
+        begins: b"#",
+        told: b"\"#\" is no part of ABNF in RFC 5234; lists of RFC 9110, section 5.6.1, are to be written out",
+    },
+    Fact {
+        begins: b"'",
+        told: b"texts stand in double quotes",
+    },
+    Fact {
+        begins: b"\"",
+        told: b"the text has no closing quote, or holds a byte that is not %x20-7E",
+    },
+    Fact {
+        begins: b"<",
+        told: b"the prose has no closing \">\", or holds a byte that is not %x20-7E",
+    },
+    Fact {
+        begins: b"%",
+        told: b"a number is %x, %d or %b and digits",
+    },
+    Fact {
+        begins: b"{",
+        told: b"repetitions are written *(e)",
+    },
+    Fact {
+        begins: b"+",
+        told: b"repetitions are written 1*e",
+    },
+    Fact {
+        begins: b"?",
+        told: b"options are written [e]",
+    },
+];
+
+fn bad_facts() -> &'static [Fact]
+    ensures { map row_of result.now ≡ bad_rows }
+{
+    &BAD_FACTS
+}
+
+// Adds where a token stands.
+fn push_token_place(out: &mut Vec<u8>, text: &[u8], token: MarkedToken<'_>) -> Result<(), Memory>
+    requires { token.token.span.start ≤ length text.now }
+    ensures { OnOk result (out.new.items ≡ out.old.items ++ token_place text.now (marked_of token.entry)) }
+{
+    match token.token.kind {
+        AbnfKind::End => {
+            out.extend_from_slice(b"  at the end of the text: ")?;
+            Ok(())
+        }
+        _ => push_place(out, text, token.token.span.start, LineRule::Lf),
+    }
+}
+
+// Adds what the first bytes of a bad token tell.
+fn push_bad_fact(out: &mut Vec<u8>, token: MarkedToken<'_>) -> Result<(), Memory>
+    ensures { OnOk result (out.new.items ≡ out.old.items ++ bad_fact (marked_of token.entry)) }
+{
+    match token.token.kind {
+        AbnfKind::Bad => push_fact(out, bad_facts(), token.token.slice),
+        _ => Ok(()),
+    }
+}
+
+// How many bytes stand before the token on its line.
+fn indent_of(text: &[u8], token: MarkedToken<'_>) -> usize
+    requires { token.token.span.start ≤ length text.now }
+    ensures { result ≡ indent text.now (marked_of token.entry) }
+{
+    line_around(text, token.token.span.start, LineRule::Lf).before
+}
+
+// Adds how the line of a token that begins a rule is indented.
+fn push_line_fact(
+    out: &mut Vec<u8>,
+    text: &[u8],
+    origin: Option<MarkedToken<'_>>,
+    token: MarkedToken<'_>,
+) -> Result<(), Memory>
+    requires first { (o : Marks) → origin ≡ Some o → o.token.span.start ≤ length text.now }
+    requires within { token.token.span.start ≤ length text.now }
+    ensures { OnOk result (out.new.items ≡ out.old.items ++ line_fact text.now (option_map marked_of origin.entry)
+        (marked_of token.entry)) }
+{
+    let Some(origin) = origin else {
+        return Ok(());
+    };
+    if !token.first {
+        return Ok(());
+    }
+    out.extend_from_slice(b"  its line begins a rule: it is indented by ")?;
+    push_number(out, indent_of(text, token))?;
+    out.extend_from_slice(b", the first by ")?;
+    push_number(out, indent_of(text, origin))?;
+    out.extend_from_slice(b"\n")?;
+    Ok(())
+}
+
+fn is_later_name(token: MarkedToken<'_>) -> bool
+    ensures { result ≡ later_name (marked_of token.entry) }
+{
+    matches!(token.token.kind, AbnfKind::Name) && !token.first
+}
+
+fn defines(kind: AbnfKind) -> bool
+    ensures { result ≡ defining kind }
+{
+    matches!(kind, AbnfKind::Is | AbnfKind::Adds)
+}
+
+// Whether the token would define the name before it, which begins no rule.
+fn defines_later_name(before: MarkedToken<'_>, token: MarkedToken<'_>) -> bool
+    ensures { result ≡ (later_name (marked_of before.entry) && defining token.entry.token.kind) }
+{
+    is_later_name(before) && defines(token.token.kind)
+}
+
+// Adds how far rules may be indented, where a name that begins none would be defined.
+fn push_name_fact(
+    out: &mut Vec<u8>,
+    text: &[u8],
+    origin: Option<MarkedToken<'_>>,
+    before: Option<MarkedToken<'_>>,
+    token: MarkedToken<'_>,
+) -> Result<(), Memory>
+    requires { (o : Marks) → origin ≡ Some o → o.token.span.start ≤ length text.now }
+    ensures { OnOk result (out.new.items ≡ out.old.items ++ name_fact text.now (option_map marked_of origin.entry)
+        (option_map marked_of before.entry) (marked_of token.entry)) }
+{
+    let Some(origin) = origin else {
+        return Ok(());
+    };
+    let Some(before) = before else {
+        return Ok(());
+    };
+    if !defines_later_name(before, token) {
+        return Ok(());
+    }
+    out.extend_from_slice(
+        b"  the name before it does not begin a rule: rules are indented by at most ",
+    )?;
+    push_number(out, indent_of(text, origin))?;
+    out.extend_from_slice(b"\n")?;
+    Ok(())
+}
+
+// Adds what can stand there.
+fn push_expected(alloc: Global, out: &mut Vec<u8>, place: &Place) -> Result<(), Memory>
+    ensures { OnOk result ((told : List (List ℕ)) × Told (λ k. place_allows place.now k ≡ true) phrases told
+        × (out.new.items ≡ out.old.items ++ listed told)) }
+{
+    let told = told_phrases(alloc, place)?;
+    push_phrases(out, told.as_slice())?;
+    Ok(())
+}
+
+// Adds what is told behind what can stand there.
+fn push_token_facts(
+    out: &mut Vec<u8>,
+    text: &[u8],
+    origin: Option<MarkedToken<'_>>,
+    before: Option<MarkedToken<'_>>,
+    token: MarkedToken<'_>,
+) -> Result<(), Memory>
+    requires first { (o : Marks) → origin ≡ Some o → o.token.span.start ≤ length text.now }
+    requires within { token.token.span.start ≤ length text.now }
+    ensures { OnOk result (out.new.items ≡ out.old.items ++ token_facts text.now (option_map marked_of origin.entry)
+        (option_map marked_of before.entry) (marked_of token.entry)) }
+{
+    push_bad_fact(out, token)?;
+    push_line_fact(out, text, origin, token)?;
+    push_name_fact(out, text, origin, before, token)?;
+    Ok(())
+}
+
+// The lines on a token that goes on no grammar.
+fn hopeless_lines(alloc: Global, text: &[u8], refused: &Refused<'_>) -> Result<Vec<u8>, Memory>
+    requires first { (o : Marks) → refused.now.origin ≡ Some o → o.token.span.start ≤ length text.now }
+    requires within { refused.now.token.token.span.start ≤ length text.now }
+    ensures { IfOk result (λ v. (told : List (List ℕ)) × Told (λ k. place_allows refused.now.place k ≡ true) phrases told
+        × (v.items ≡ token_place text.now (marked_of refused.now.token) ++ (codes "expected " ++ (listed told
+        ++ (codes "\n" ++ token_facts text.now (option_map marked_of refused.now.origin)
+        (option_map marked_of refused.now.before) (marked_of refused.now.token)))))) }
+{
+    let mut out = Vec::new(alloc);
+    push_token_place(&mut out, text, refused.token)?;
+    out.extend_from_slice(b"expected ")?;
+    push_expected(alloc, &mut out, &refused.place)?;
+    out.extend_from_slice(b"\n")?;
+    push_token_facts(&mut out, text, refused.origin, refused.before, refused.token)?;
+    Ok(out)
+}
+
+// The line on a token that passes a limit.
+fn limit_lines(
+    alloc: Global,
+    text: &[u8],
+    token: MarkedToken<'_>,
+    told: &[u8],
+) -> Result<Vec<u8>, Memory>
+    requires { token.token.span.start ≤ length text.now }
+    ensures { IfOk result (λ v. v.items ≡ token_place text.now (marked_of token.entry) ++ told.now) }
+{
+    let mut out = Vec::new(alloc);
+    push_token_place(&mut out, text, token)?;
+    out.extend_from_slice(told)?;
+    Ok(out)
+}
+
+// The lines on the token that decides.
+fn explain_token(alloc: Global, text: &[u8]) -> Result<Vec<u8>, Memory>
+    requires within { length text.now ≤ MAX_GRAMMAR }
+    requires decided { NoneDecides text.now → ⊥ }
+    ensures { IfOk result (λ why. Why text.now why.items) }
+{
+    tokens_make_up::<AbnfKind>();
+    let decision = deciding_token(alloc, text)?;
+    match decision {
+        Some(Decision::Hopeless(refused)) => {
+            let why = hopeless_lines(alloc, text, &refused)?;
+            Ok(why)
+        }
+        Some(Decision::TooDeep(token)) => {
+            let why = limit_lines(alloc, text, token, b"200 brackets are open before it\n")?;
+            Ok(why)
+        }
+        Some(Decision::TooLarge(token)) => {
+            let why = limit_lines(alloc, text, token, b"above 4294967295\n")?;
+            Ok(why)
+        }
+        None => unreachable!(),
+    }
+}
+
+/// Returns the lines that explain the fault of a grammar's text: a picture of the token that decides, its column, what
+/// can stand in its place, and what is known of it and of the tokens before. There are none for want of memory.
+///
+/// # Errors
+/// `Memory` where a growth was refused.
+pub fn explain_abnf_fault(alloc: Global, text: &[u8], fault: ReadFault) -> Result<Vec<u8>, Memory>
+    requires { IsFaultOf text.now fault }
+    ensures { IfOk result (λ why. Explains text.now fault why.items) }
+{
+    match fault {
+        ReadFault::Memory => Ok(Vec::new(alloc)),
+        ReadFault::TooLong => {
+            let why = Vec::from_slice(alloc, b"  a grammar has at most 1048576 bytes\n")?;
+            Ok(why)
+        }
+        _ => explain_token(alloc, text),
+    }
+}

@@ -1,0 +1,358 @@
+//! The phrases that tell what can stand at a place in ABNF.
+ghost use Rattle.std.specs.Prelude.{◌≡◌, true, map, IfOk};
+ghost use Rattle.std.specs.List.{list_all, list_any};
+ghost use Rattle.picture.specs.ToldPhrases.{Told, tells};
+ghost use Rattle.abnfexplain.specs.AbnfExpected.{phrases};
+ghost use Rattle.abnfexplain.specs.AbnfPhraseRows.{phrase_of};
+ghost use Rattle.abnfexplain.specs.AbnfPlaces.{place_allows};
+
+use crate::abnf_stand::{Form, Place};
+use abnfread::AbnfKind;
+use ruletable::Memory;
+use std::alloc::Global;
+
+/// A phrase, the tokens that it means, and those that another phrase would mean too.
+#[derive(Clone, Copy)]
+pub(crate) struct Phrase {
+    pub(crate) words: &'static [u8],
+    pub(crate) forms: &'static [Form],
+    pub(crate) bars: &'static [Form],
+}
+
+static PHRASES: [Phrase; 10] = [
+    Phrase {
+        words: b"an element",
+        forms: &[
+            Form {
+                kind: AbnfKind::Name,
+                gap: true,
+                first: false,
+            },
+            Form {
+                kind: AbnfKind::Text,
+                gap: true,
+                first: false,
+            },
+            Form {
+                kind: AbnfKind::Num,
+                gap: true,
+                first: false,
+            },
+            Form {
+                kind: AbnfKind::Prose,
+                gap: true,
+                first: false,
+            },
+            Form {
+                kind: AbnfKind::LParen,
+                gap: true,
+                first: false,
+            },
+            Form {
+                kind: AbnfKind::LBrack,
+                gap: true,
+                first: false,
+            },
+            Form {
+                kind: AbnfKind::Repeat,
+                gap: true,
+                first: false,
+            },
+            Form {
+                kind: AbnfKind::Name,
+                gap: false,
+                first: false,
+            },
+            Form {
+                kind: AbnfKind::Text,
+                gap: false,
+                first: false,
+            },
+            Form {
+                kind: AbnfKind::Num,
+                gap: false,
+                first: false,
+            },
+            Form {
+                kind: AbnfKind::Prose,
+                gap: false,
+                first: false,
+            },
+            Form {
+                kind: AbnfKind::LParen,
+                gap: false,
+                first: false,
+            },
+            Form {
+                kind: AbnfKind::LBrack,
+                gap: false,
+                first: false,
+            },
+            Form {
+                kind: AbnfKind::Repeat,
+                gap: false,
+                first: false,
+            },
+        ],
+        bars: &[],
+    },
+    Phrase {
+        words: b"white space and an element",
+        forms: &[
+            Form {
+                kind: AbnfKind::Name,
+                gap: true,
+                first: false,
+            },
+            Form {
+                kind: AbnfKind::Text,
+                gap: true,
+                first: false,
+            },
+            Form {
+                kind: AbnfKind::Num,
+                gap: true,
+                first: false,
+            },
+            Form {
+                kind: AbnfKind::Prose,
+                gap: true,
+                first: false,
+            },
+            Form {
+                kind: AbnfKind::LParen,
+                gap: true,
+                first: false,
+            },
+            Form {
+                kind: AbnfKind::LBrack,
+                gap: true,
+                first: false,
+            },
+            Form {
+                kind: AbnfKind::Repeat,
+                gap: true,
+                first: false,
+            },
+        ],
+        bars: &[
+            Form {
+                kind: AbnfKind::Name,
+                gap: false,
+                first: false,
+            },
+        ],
+    },
+    Phrase {
+        words: b"an element right behind it",
+        forms: &[
+            Form {
+                kind: AbnfKind::Name,
+                gap: false,
+                first: false,
+            },
+            Form {
+                kind: AbnfKind::Text,
+                gap: false,
+                first: false,
+            },
+            Form {
+                kind: AbnfKind::Num,
+                gap: false,
+                first: false,
+            },
+            Form {
+                kind: AbnfKind::Prose,
+                gap: false,
+                first: false,
+            },
+            Form {
+                kind: AbnfKind::LParen,
+                gap: false,
+                first: false,
+            },
+            Form {
+                kind: AbnfKind::LBrack,
+                gap: false,
+                first: false,
+            },
+        ],
+        bars: &[
+            Form {
+                kind: AbnfKind::Repeat,
+                gap: false,
+                first: false,
+            },
+        ],
+    },
+    Phrase {
+        words: b"\"=\"",
+        forms: &[
+            Form {
+                kind: AbnfKind::Is,
+                gap: true,
+                first: false,
+            },
+            Form {
+                kind: AbnfKind::Is,
+                gap: false,
+                first: false,
+            },
+        ],
+        bars: &[],
+    },
+    Phrase {
+        words: b"\"=/\"",
+        forms: &[
+            Form {
+                kind: AbnfKind::Adds,
+                gap: true,
+                first: false,
+            },
+            Form {
+                kind: AbnfKind::Adds,
+                gap: false,
+                first: false,
+            },
+        ],
+        bars: &[],
+    },
+    Phrase {
+        words: b"\"/\"",
+        forms: &[
+            Form {
+                kind: AbnfKind::Slash,
+                gap: true,
+                first: false,
+            },
+            Form {
+                kind: AbnfKind::Slash,
+                gap: false,
+                first: false,
+            },
+        ],
+        bars: &[],
+    },
+    Phrase {
+        words: b"\")\"",
+        forms: &[
+            Form {
+                kind: AbnfKind::RParen,
+                gap: true,
+                first: false,
+            },
+            Form {
+                kind: AbnfKind::RParen,
+                gap: false,
+                first: false,
+            },
+        ],
+        bars: &[],
+    },
+    Phrase {
+        words: b"\"]\"",
+        forms: &[
+            Form {
+                kind: AbnfKind::RBrack,
+                gap: true,
+                first: false,
+            },
+            Form {
+                kind: AbnfKind::RBrack,
+                gap: false,
+                first: false,
+            },
+        ],
+        bars: &[],
+    },
+    Phrase {
+        words: b"a rule",
+        forms: &[
+            Form {
+                kind: AbnfKind::Name,
+                gap: true,
+                first: true,
+            },
+            Form {
+                kind: AbnfKind::Name,
+                gap: false,
+                first: true,
+            },
+        ],
+        bars: &[],
+    },
+    Phrase {
+        words: b"the end of the text",
+        forms: &[
+            Form {
+                kind: AbnfKind::End,
+                gap: true,
+                first: false,
+            },
+            Form {
+                kind: AbnfKind::End,
+                gap: false,
+                first: false,
+            },
+        ],
+        bars: &[],
+    },
+];
+
+fn allows_all(place: &Place, forms: &[Form]) -> bool
+    ensures { result ≡ list_all (place_allows place.now) forms.now }
+{
+    for form in forms {
+        if !place.allows(*form) {
+            return false;
+        }
+    }
+    true
+}
+
+fn allows_any(place: &Place, forms: &[Form]) -> bool
+    ensures { result ≡ list_any (place_allows place.now) forms.now }
+{
+    for form in forms {
+        if place.allows(*form) {
+            return true;
+        }
+    }
+    false
+}
+
+fn is_told(place: &Place, phrase: &Phrase) -> bool
+    ensures { result ≡ tells (place_allows place.now) (phrase_of phrase.now) }
+{
+    allows_all(place, phrase.forms) && !allows_any(place, phrase.bars)
+}
+
+fn all_phrases() -> &'static [Phrase]
+    ensures { map phrase_of result.now ≡ phrases }
+{
+    &PHRASES
+}
+
+// The words of the phrases of a table that are told.
+fn told_of(alloc: Global, place: &Place, table: &[Phrase]) -> Result<Vec<&'static [u8]>, Memory>
+    ensures { IfOk result (λ v. Told (λ k. place_allows place.now k ≡ true) (map phrase_of table.now)
+        (map (λ w. w.now) v.items)) }
+{
+    let mut told = Vec::new(alloc);
+    for phrase in table {
+        if is_told(place, phrase) {
+            told.push(phrase.words)?;
+        }
+    }
+    Ok(told)
+}
+
+/// Returns the words of the phrases that tell what can stand there, in their order.
+///
+/// # Errors
+/// `Memory` where a growth was refused.
+pub(crate) fn told_phrases(alloc: Global, place: &Place) -> Result<Vec<&'static [u8]>, Memory>
+    ensures { IfOk result (λ v. Told (λ k. place_allows place.now k ≡ true) phrases (map (λ w. w.now) v.items)) }
+{
+    told_of(alloc, place, all_phrases())
+}
