@@ -12,7 +12,7 @@ use Rattle.toolrun.specs.Input.{Input}
 use Rattle.toolrun.specs.Language.{AreStated}
 use Rattle.toolrun.specs.NotesText.{notes_text}
 use Rattle.toolrun.specs.Plan.{Behind, behind_notes, in_reply, IsPlan, does_of, stopped, told_behind}
-use Rattle.toolrun.specs.Reply.{Reply, refusal, text_alone, unexplained, without_memory}
+use Rattle.toolrun.specs.Reply.{Reply, refusal, text_alone, unexplained_fault, without_memory}
 use Rattle.toolrun.specs.Stop.{unread}
 use Rattle.toolrun.specs.Tasks.{checked_task, task_does}
 use Rattle.toolrun.specs.declared.plan.Task.{Task}
@@ -34,7 +34,7 @@ whole-refusal : (why : ReadFault) (lines : List ℕ)
 whole-refusal why lines = ap (λ (t : List ℕ). record { out = []; err = t; status = 2; taken = 0 })
     (sym (append-nil (fault_text why ++ lines)))
 
-whole-unexplained : (why : ReadFault) → unexplained why ≡ told_behind (fault_text why ++ []) (stopped NoMemory)
+whole-unexplained : (why : ReadFault) → unexplained_fault why ≡ told_behind (fault_text why ++ []) (stopped NoMemory)
 whole-unexplained why =
     ap (λ (t : List ℕ). record { out = []; err = t ++ codes "out of memory\n"; status = 5; taken = 0 })
     (sym (append-nil (fault_text why)))

@@ -6,7 +6,7 @@ use Rattle.ruletable.specs.declared.fault.ReadFault.TheVariants.{Memory}
 use Rattle.toolrun.specs.Explained.{Explained}
 use Rattle.toolrun.specs.Input.{Input}
 use Rattle.toolrun.specs.NotesText.{notes_text}
-use Rattle.toolrun.specs.Reply.{Reply, notes_alone, refusal, text_alone, unexplained, without_memory}
+use Rattle.toolrun.specs.Reply.{Reply, notes_alone, refusal, text_alone, unexplained_fault, without_memory}
 use Rattle.toolrun.specs.declared.settings.Mode.TheVariants.{Run, Check, Print}
 use Rattle.toolrun.specs.declared.settings.Settings.{Settings}
 
@@ -24,7 +24,7 @@ pub record AreStated {Grammar Sound : Type 0} (States : List ℕ → Settings �
       → HasFault text fault → fault ≢ Memory → Explained settings (Explains text fault) why
       → States text settings input [] (refusal fault why)
   pub unexplained : (text : List ℕ) (settings : Settings) (input : Input) (fault : ReadFault) → HasFault text fault
-      → fault ≢ Memory → settings.explain ≡ true → States text settings input [] (unexplained fault)
+      → fault ≢ Memory → settings.explain ≡ true → States text settings input [] (unexplained_fault fault)
   -- any allocation may fail in reading a text or behind that
   pub within : (text : List ℕ) (grammar : Grammar) → IsRead text grammar → HasFault text Memory
   pub no_memory : (text : List ℕ) (settings : Settings) (input : Input) → HasFault text Memory

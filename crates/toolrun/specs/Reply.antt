@@ -15,8 +15,8 @@ abbrev pub refusal : ReadFault → List ℕ → Reply
 refusal fault why = record { out = []; err = fault_text fault ++ why; status = 2; taken = 0 }
 
 -- an allocation fails in explaining the fault of a grammar's text: its message stands whole
-abbrev pub unexplained : ReadFault → Reply
-unexplained fault = record { out = []; err = fault_text fault ++ codes "out of memory\n"; status = 5; taken = 0 }
+abbrev pub unexplained_fault : ReadFault → Reply
+unexplained_fault fault = record { out = []; err = fault_text fault ++ codes "out of memory\n"; status = 5; taken = 0 }
 
 -- nothing is written behind the notes, and nothing is taken
 abbrev pub notes_alone : ℕ → Reply
