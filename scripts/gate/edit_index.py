@@ -16,8 +16,9 @@ from crates import in_order
 TOP = pathlib.Path(__file__).resolve().parents[2]
 # What a first line names where no clause of the function refuses the edit.
 OTHERS = r"ensures|invariant|loop|safe|ends|requires of [\w.]+"
-# Traits whose methods need no edit of their own.
-PLAIN_TRAITS = ("From", "Model", "Display", "Drop")
+# Traits whose methods need no edit of their own. A method of a `Language` hands on what one function of a crate below
+# says, where that function has its edit.
+PLAIN_TRAITS = ("From", "Model", "Display", "Drop", "Language")
 # Crates that show how to call the others, or that tests alone call: they need no edits.
 EXAMPLES = ("callers", "fakes")
 # Words that equate what they speak of.

@@ -27,7 +27,7 @@ DEFINITION = re.compile(r"(?:(?:unfoldable|abbrev|pub|data|record) )+([^\s(){}:.
 # stand and whose words they speak.
 LANGUAGES = (
     {"abnfread", "abnfprint", "abnfcheck", "abnfrun", "flatgrammar"},
-    {"pegread", "gramcheck", "gramtools", "pegmatch"},
+    {"pegread", "gramcheck", "pegrun", "pegmatch"},
     {"lexer", "rulenames", "ruletable", "toolrun"},
 )
 # Names that stand in crates of one language, or in crates that speak of something else each; agreed, and not to grow.

@@ -37,6 +37,7 @@ pub struct AbnfLanguage;
 
 impl Language for AbnfLanguage {
     type Grammar = Abnf;
+
     type Sound = SoundAbnf;
 
     ghost states = { AbnfStates };

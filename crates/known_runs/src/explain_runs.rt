@@ -224,7 +224,9 @@ fn a_long_line_is_shown_around_the_fault(rt: HostRuntime) -> Result<(), Fail> {
     push_many(&mut told, 68, b'a')?;
     told.extend_from_slice(b" | b\n  ")?;
     push_many(&mut told, 71, b' ')?;
-    told.extend_from_slice(b"^\n  column 1000007: expected \"<-\", an element, \"&\", \"!\", \"?\", ")?;
+    told.extend_from_slice(
+        b"^\n  column 1000007: expected \"<-\", an element, \"&\", \"!\", \"?\", ",
+    )?;
     told.extend_from_slice(b"\"*\", \"+\", \"/\" or the end of the text\n")?;
     told.extend_from_slice(b"  alternatives have \"/\" between them\n")?;
     check_told(&rt, Program::Pegi, grammar.as_slice(), told.as_slice());
@@ -254,7 +256,10 @@ fn an_error_output_that_fails_holds_a_beginning_of_an_explanation(rt: HostRuntim
             };
             let settings = explaining(Mode::Run);
             let ran = run_over(rt.alloc(), row.program, row.grammar, &settings, &ends);
-            assert!(rt; ran.is(b"", &row.told[..room], Status::Fault), "room {room}");
+            assert!(rt;
+                ran.is(b"", &row.told[..room], Status::Fault),
+                "room {room}"
+            );
             assert!(rt; ran.left == 2 && ran.flushed == (1, 0), "room {room}");
         }
     }
@@ -264,7 +269,13 @@ fn an_error_output_that_fails_holds_a_beginning_of_an_explanation(rt: HostRuntim
 fn a_grammar_without_a_fault_runs_as_it_does_without_explanations(rt: HostRuntime) {
     let ends = Ends::new(b"ab", 1);
     let settings = explaining(Mode::Run);
-    let ran = run_over(rt.alloc(), Program::Pegi, b"S <- 'a' {x}\nT <- 'b'", &settings, &ends);
+    let ran = run_over(
+        rt.alloc(),
+        Program::Pegi,
+        b"S <- 'a' {x}\nT <- 'b'",
+        &settings,
+        &ends,
+    );
     let told = b"rule 'T' defined but not used\nno match at byte 1\n";
     assert!(rt; ran.is(b"x\n", told, Status::NoMatch));
     let ends = Ends::new(b"a\nb\n", 1);

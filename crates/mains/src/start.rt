@@ -1,9 +1,8 @@
 //! What a program has before its run: its words, or no memory.
 
-use std::env;
-use std::io;
 use std::process::ExitCode;
 use std::rt::Env;
+use std::{env, io};
 use toolrun::Status;
 
 /// Returns the program's words, its own name first.

@@ -46,23 +46,26 @@ module _ (settings : Settings) (input : Input) where
     is_start : IsStart (start_given settings) (firsts [] definitions) start
     states : RunStates (firsts [] definitions) start settings input reply
 
+  one_run_from : (definitions : List Rule) (s t : ℕ) (a b : Reply)
+      → IsStart (start_given settings) (firsts [] definitions) s
+      → IsStart (start_given settings) (firsts [] definitions) t →
+      RunStates (firsts [] definitions) s settings input a → RunStates (firsts [] definitions) t settings input b
+      → a.status ≢ 5 → b.status ≢ 5 → a ≡ b
+  one_run_from definitions s t a b i j (steps.replied r g) (steps.replied q h) m n =
+      let same : t ≡ s = start_is_one (start_given settings) definitions t s j i in
+      one_reply (firsts [] definitions) s settings input a b g (let k = h in rw same at k)
+  one_run_from definitions s t a b i j (steps.no_memory point out reply before replies front) h m n = absurd (m refl)
+  one_run_from definitions s t a b i j g (steps.no_memory point out reply before replies front) m n = absurd (n refl)
+
   one_run : (definitions : List Rule) (a b : Reply) → RunOf definitions a → RunOf definitions b → a.status ≢ 5
       → b.status ≢ 5 → a ≡ b
-  one_run definitions a b g h m n = by g.states h.states
-    where
-      same : h.start ≡ g.start
-      same = start_is_one (start_given settings) definitions h.start g.start h.is_start g.is_start
-
-      by : RunStates (firsts [] definitions) g.start settings input a
-          → RunStates (firsts [] definitions) h.start settings input b → a ≡ b
-      by (steps.replied r i) (steps.replied q j) =
-          one_reply (firsts [] definitions) g.start settings input a b i (let k = j in rw same at k)
-      by (steps.no_memory point out reply before replies front) j = absurd (m refl)
-      by i (steps.no_memory point out reply before replies front) = absurd (n refl)
+  one_run definitions a b g h m n =
+      one_run_from definitions g.start h.start a b g.is_start h.is_start g.states h.states m n
 
   notes_are_one : (definitions : List Rule) (a b : List Said) → AreNotesOn definitions (start_given settings) a
       → AreNotesOn definitions (start_given settings) b → a ≡ b
-  notes_are_one definitions = notes-one (firsts [] definitions) (names_at (firsts [] definitions) (agains [] definitions))
+  notes_are_one definitions =
+      notes-one (firsts [] definitions) (names_at (firsts [] definitions) (agains [] definitions))
       (start_given settings)
 
   module _ (text : List ℕ) where

@@ -14,7 +14,8 @@ use Rattle.pegrun.specs.Noted.{AreAgain, AreNotesOn}
 
 -- the text is read as these rules, with the ids of those that it defines again
 abbrev pub IsReadAs : List ℕ → table.Rules Expr → List ℕ → Type 0
-IsReadAs text rules redefined = (definitions : List Rule) × Reads text definitions × IsTableOf definitions rules redefined
+IsReadAs text rules redefined =
+    (definitions : List Rule) × Reads text definitions × IsTableOf definitions rules redefined
 
 -- the text's grammar with its notes, ready to run where none of them refuses it
 pub record IsChecked (text : List ℕ) (start : Option (List ℕ)) (notes : List Said) (sound : Option Grammar) : Type

@@ -22,6 +22,7 @@ pub struct PegLanguage;
 
 impl Language for PegLanguage {
     type Grammar = Peg;
+
     type Sound = SoundPeg;
 
     ghost states = { States };

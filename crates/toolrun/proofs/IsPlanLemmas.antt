@@ -118,7 +118,8 @@ module _ {Grammar Sound : Type 0} {States : List ℕ → Settings → Input → 
 
     -- a grammar that was checked
     pub plan_checked : (notes : List Said) (mode : Mode) (sound : Option Sound) → settings.mode ≡ mode → mode ≢ Print
-        → IsChecked text (option_copied settings.start) notes sound → Planned (notes_text notes) (checked_task mode sound)
+        → IsChecked text (option_copied settings.start) notes sound
+        → Planned (notes_text notes) (checked_task mode sound)
     plan_checked notes mode None is other c = record {
       stated = λ input reply r. rw r (behind_notes (law.noted text settings input notes c (rw is other)));
       some = λ input. (stopped (Quiet status.Refused), refl);

@@ -240,9 +240,16 @@ module _ (States : Input → List ℕ → Reply → Type 0) (given : List ℕ) (
 pub comes_behind : (States : Input → List ℕ → Reply → Type 0) (reader out err : Stream) (code : ℕ)
     → Comes (Behind States) reader out err code → Comes States reader out err code
 comes_behind States reader out err code =
-    if_some reader.old _ _ (λ given (taken, wrote, told, gives, writes, tells, right).
-    (taken, wrote, told, gives, writes, tells, told_right States given _ right.notes right.stated right.states
-    right.delivers right.within right.exact))
+    if_some reader.old _ _ (λ given (taken, wrote, told, gives, writes, tells, right). (
+      taken,
+      wrote,
+      told,
+      gives,
+      writes,
+      tells,
+      told_right States given _ right.notes right.stated right.states
+          right.delivers right.within right.exact,
+    ))
 
 -- whether a write failed
 module _ {A E : Type 0} (a b : Option (List ℕ)) (text : List ℕ) where

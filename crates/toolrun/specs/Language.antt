@@ -42,7 +42,8 @@ pub record AreStated {Grammar Sound : Type 0} (States : List ℕ → Settings �
       → IsChecked text (option_copied settings.start) notes (Some sound) → settings.mode ≡ Run
       → Runs sound settings input reply → States text settings input (notes_text notes) reply
   pub replies : (text : List ℕ) (settings : Settings) (input : Input) (notes : List Said) (sound : Sound)
-      → IsChecked text (option_copied settings.start) notes (Some sound) → (reply : Reply) × Runs sound settings input reply
+      → IsChecked text (option_copied settings.start) notes (Some sound)
+      → (reply : Reply) × Runs sound settings input reply
   -- a grammar that is only to be printed, but defines a rule again
   pub again : (text : List ℕ) (settings : Settings) (input : Input) (grammar : Grammar) (notes : List Said)
       → IsPrintable text grammar notes → notes ≢ [] → settings.mode ≡ Print

@@ -1,4 +1,5 @@
-//! The run of a tool for a language of grammars: it plans from a grammar's text, performs the plan on an input, and ends.
+//! The run of a tool for a language of grammars: it plans from a grammar's text, performs the plan on an input, and
+//! ends.
 #![tactic(auto)]
 
 mod finish;
