@@ -27,8 +27,8 @@ import slow_peg
 TOP = pathlib.Path(__file__).resolve().parents[2]
 LINES = 40
 # Pieces of text that are put in a grammar's, some of them wrong in most places.
-PIECES = [*(bytes([it]) for it in b"|=_-'\"[](){}/&!*+?<>%#;a9 \t\n\r"), b"::=", b"<-", b"4294967296", b"\r\n", b"\xC3\xA9",
-          b"\xE2\x86\x90", b"\xEF\xBB\xBF", b"(" * 201, b"x " * 50]
+PIECES = [*(bytes([it]) for it in b"|=_-'\"[](){}/&!*+?<>%#;a9 \t\n\r"), b"::=", b"<-", b"4294967296", b"\r\n",
+          b"\xC3\xA9", b"\xE2\x86\x90", b"\xEF\xBB\xBF", b"(" * 201, b"x " * 50]
 
 # A run: the words behind the grammar's name, the grammar's text, the input, and what is to come of it.
 Case = collections.namedtuple("Case", "words grammar given wanted count")

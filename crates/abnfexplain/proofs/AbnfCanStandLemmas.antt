@@ -1,7 +1,7 @@
 -- Which tokens can stand behind tokens that the machine took.
 -- Serves: explain_fault
-use Rattle.std.proofs.Common.{◌≡◌, ℕ, ◌+◌, ◌⊎◌, inl, inr, Bool, true, false, Option, Some, None, List, [], ◌∷◌, ◌++◌}
-use Rattle.std.proofs.Common.{length, take, refl, sym, ap, ◌∙◌}
+use Rattle.std.proofs.Common.{◌≡◌, ℕ, ◌⊎◌, inl, inr, Bool, true, false, Option, Some, None, List, [], ◌∷◌, ◌++◌}
+use Rattle.std.proofs.Common.{length, refl, sym, ap, ◌∙◌}
 use Rattle.std.proofs.Math.Seq.{take-append_seam}
 use Rattle.ruletable.specs.declared.span.Span.{Span}
 use Rattle.lexer.specs.TokenLists.{Tok, tok, kind_of}
@@ -20,14 +20,14 @@ use Rattle.abnfread.specs.BaseDigits.{hexadecimal}
 use Rattle.abnfread.specs.MarkedTokens.{Marked, marked}
 use Rattle.abnfread.specs.Numerals.{says_between, says_values, says_range, last_number}
 use Rattle.abnfread.proofs.AbnfViabilityLemmas.{runs-begins, stops-begins}
-use Rattle.abnfread.proofs.SaysKindLemmas.{one-word, bad-silent}
+use Rattle.abnfread.proofs.SaysKindLemmas.{one-word}
 use Rattle.abnfexplain.specs.declared.abnf_stand.Bracket.{Bracket}
 use Rattle.abnfexplain.specs.declared.abnf_stand.Form.{Form}
 use Rattle.abnfexplain.specs.declared.abnf_stand.Place.{Place}
 use Rattle.abnfexplain.specs.declared.abnf_stand.Stand.{Stand}
 use Rattle.abnfexplain.specs.declared.abnf_stand.Stand.TheVariants as stands
 use Rattle.abnfexplain.specs.AbnfExpected.{CanStand}
-use Rattle.abnfexplain.specs.AbnfPlaces.{brackets_of, place_allows, IsAt}
+use Rattle.abnfexplain.specs.AbnfPlaces.{brackets_of, place_allows}
 use Rattle.abnfexplain.specs.AbnfStands.{allows_marked, allows_first, allows_later, allows_read, innermost}
 use Rattle.abnfexplain.specs.AbnfStands.{behind_marked, brackets_behind}
 use Rattle.abnfexplain.proofs.AbnfStandLemmas.{kind_said, stand_of, open_of, Comes, step-comes}
@@ -41,27 +41,27 @@ record Sample (k : AbnfKind) : Type 0 where
   said : Said
   says_so : SaysKind k slice no_span said
 
-sample : (k : AbnfKind) (z : List ℕ) (s : Said) → SaysKind k z no_span s → Sample k
-sample k z s h = record { slice = z; said = s; says_so = h }
+sample-of : (k : AbnfKind) (z : List ℕ) (s : Said) → SaysKind k z no_span s → Sample k
+sample-of k z s h = record { slice = z; said = s; says_so = h }
 
 -- each kind but `Bad` has one
 some-sample : (k : AbnfKind) → (k ≡ kinds.Bad) ⊎ Sample k
-some-sample kinds.Name = inr (sample kinds.Name [] (words.Name [] no_span) says_name)
-some-sample kinds.Is = inr (sample kinds.Is [] words.Is says_is)
-some-sample kinds.Adds = inr (sample kinds.Adds [] words.Adds says_adds)
-some-sample kinds.Slash = inr (sample kinds.Slash [] words.Slash says_slash)
-some-sample kinds.LParen = inr (sample kinds.LParen [] words.LParen says_lparen)
-some-sample kinds.RParen = inr (sample kinds.RParen [] words.RParen says_rparen)
-some-sample kinds.LBrack = inr (sample kinds.LBrack [] words.LBrack says_lbrack)
-some-sample kinds.RBrack = inr (sample kinds.RBrack [] words.RBrack says_rbrack)
-some-sample kinds.Repeat = inr (sample kinds.Repeat (42 ∷ []) (words.Repeat 0 None)
+some-sample kinds.Name = inr (sample-of kinds.Name [] (words.Name [] no_span) says_name)
+some-sample kinds.Is = inr (sample-of kinds.Is [] words.Is says_is)
+some-sample kinds.Adds = inr (sample-of kinds.Adds [] words.Adds says_adds)
+some-sample kinds.Slash = inr (sample-of kinds.Slash [] words.Slash says_slash)
+some-sample kinds.LParen = inr (sample-of kinds.LParen [] words.LParen says_lparen)
+some-sample kinds.RParen = inr (sample-of kinds.RParen [] words.RParen says_rparen)
+some-sample kinds.LBrack = inr (sample-of kinds.LBrack [] words.LBrack says_lbrack)
+some-sample kinds.RBrack = inr (sample-of kinds.RBrack [] words.RBrack says_rbrack)
+some-sample kinds.Repeat = inr (sample-of kinds.Repeat (42 ∷ []) (words.Repeat 0 None)
     (says_repeat (says_between {ds = []} {es = []} refl none none)))
-some-sample kinds.Text = inr (sample kinds.Text (34 ∷ 34 ∷ []) (words.Text true []) (says_text {t = []} refl))
-some-sample kinds.Num = inr (sample kinds.Num (37 ∷ 120 ∷ 49 ∷ []) (words.Values (1 ∷ []))
+some-sample kinds.Text = inr (sample-of kinds.Text (34 ∷ 34 ∷ []) (words.Text true []) (says_text {t = []} refl))
+some-sample kinds.Num = inr (sample-of kinds.Num (37 ∷ 120 ∷ 49 ∷ []) (words.Values (1 ∷ []))
     (says_num (says_values {base = 16} {c = 120} (hexadecimal refl) (last_number (digits refl none)))))
-some-sample kinds.Prose = inr (sample kinds.Prose (60 ∷ 62 ∷ []) (words.Prose []) (says_prose {t = []} refl))
+some-sample kinds.Prose = inr (sample-of kinds.Prose (60 ∷ 62 ∷ []) (words.Prose []) (says_prose {t = []} refl))
 some-sample kinds.Bad = inl refl
-some-sample kinds.End = inr (sample kinds.End [] words.End says_end)
+some-sample kinds.End = inr (sample-of kinds.End [] words.End says_end)
 
 pub said-kind : {k : AbnfKind} {z : List ℕ} {p : Span} {s : Said} → SaysKind k z p s → kind_said s ≡ k
 said-kind says_name = refl

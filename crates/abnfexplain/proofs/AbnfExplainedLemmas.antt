@@ -1,7 +1,8 @@
 -- The lines that explain a fault, piece by piece.
 -- Serves: explain_abnf_fault
-use Rattle.std.proofs.Common.{◌≡◌, ◌≢◌, ℕ, zero, suc, ◌<◌, ◌≤◌, ◌⊎◌, inl, inr, ◌&&◌, Bool, true, false, Option, Some, None}
-use Rattle.std.proofs.Common.{List, [], ◌∷◌, ◌++◌, length, slice_get, get_or, map, take, refl, sym, ap, ◌∙◌, arith}
+use Rattle.std.proofs.Common.{◌≡◌, ◌≢◌, ℕ, zero, suc, ◌≤◌, ◌⊎◌, inl, inr, ◌&&◌, Bool, true, false}
+use Rattle.std.proofs.Common.{Option, Some, None}
+use Rattle.std.proofs.Common.{List, [], ◌∷◌, ◌++◌, length, slice_get, map, take, refl, sym, ap, ◌∙◌, arith}
 use Rattle.std.proofs.Common.{append_assoc, All}
 use Rattle.std.proofs.lemmas.Option.{slice_get_within, get_or_from_slice_get, slice_get-map}
 use Rattle.std.specs.Option.{option_map}
@@ -22,7 +23,7 @@ use Rattle.ruletable.specs.declared.fault.ReadFault.TheVariants as faults
 use Rattle.abnfexplain.specs.declared.abnf_decide.Refused.{Refused}
 use Rattle.abnfexplain.specs.declared.abnf_stand.Form.{Form}
 use Rattle.abnfexplain.specs.declared.abnf_stand.Place.{Place}
-use Rattle.abnfexplain.specs.AbnfDecisions.{first_of, last_of, IsTokenOf, TellsForms, IsRefused, NoneDecides}
+use Rattle.abnfexplain.specs.AbnfDecisions.{first_of, IsTokenOf, TellsForms, IsRefused, NoneDecides}
 use Rattle.abnfexplain.specs.AbnfExpected.{CanStand, phrases}
 use Rattle.abnfexplain.specs.AbnfExplained.{indent, line_fact, is_later_name, name_fact, token_place, token_facts, Why}
 use Rattle.abnfexplain.specs.AbnfExplained.{hopeless, too_deep, too_large}

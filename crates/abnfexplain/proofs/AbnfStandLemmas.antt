@@ -1,16 +1,14 @@
 -- The machine's steps, as far as kinds and marks tell.
 -- Serves: explain_fault
-use Rattle.std.proofs.Common.{◌≡◌, ℕ, zero, suc, Bool, true, false, Option, Some, None, List, [], ◌∷◌, length, refl, ap}
-use Rattle.std.proofs.Common.{◌∙◌}
-use Rattle.ruletable.specs.declared.span.Span.{Span}
+use Rattle.std.proofs.Common.{◌≡◌, suc, Bool, true, false, Option, Some, None, List, [], ◌∷◌, length, refl, ap}
 use Rattle.abnfread.specs.declared.kind.AbnfKind.{AbnfKind}
 use Rattle.abnfread.specs.declared.kind.AbnfKind.TheVariants as kinds
-use Rattle.abnfread.specs.AbnfMachine.{Config, start, named, body, done, Head, Times, just, times, Last, fresh, awaits}
+use Rattle.abnfread.specs.AbnfMachine.{Config, start, named, body, done, Head, Times, just, times, fresh, awaits}
 use Rattle.abnfread.specs.AbnfMachine.{read, Level, level, levels, levels_in, paren, brack, element_step, fresh_step}
 use Rattle.abnfread.specs.AbnfMachine.{read_step, first_step, later_step, step}
 use Rattle.abnfread.specs.AbnfWords.{Said, word, Name, Is, Adds, Slash, LParen, RParen, LBrack, RBrack, Repeat, Text}
 use Rattle.abnfread.specs.AbnfWords.{Values, Range, Prose, End}
-use Rattle.abnfread.specs.Element.{Element, Elements, Definition}
+use Rattle.abnfread.specs.Element.{Elements}
 use Rattle.abnfexplain.specs.declared.abnf_stand.Bracket.{Bracket}
 use Rattle.abnfexplain.specs.declared.abnf_stand.Bracket.TheVariants as brackets
 use Rattle.abnfexplain.specs.declared.abnf_stand.Stand.{Stand}

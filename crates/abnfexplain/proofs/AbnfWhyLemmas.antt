@@ -71,30 +71,39 @@ one-why text a b (too_long l) (too_large w are at h is) = absurd (omega (arith, 
 one-why text a b (hopeless w are at h told) (too_long l) = absurd (omega (arith, l, w))
 one-why text a b (too_deep w are at h is) (too_long l) = absurd (omega (arith, l, w))
 one-why text a b (too_large w are at h is) (too_long l) = absurd (omega (arith, l, w))
-one-why text a b (hopeless {all = all} {i = i} {m = m} {told = said} w are at h told) (hopeless {all = others} {i = j} {m = n} {told = say} v are' at' k tell) =
+one-why text a b (hopeless {all = all} {i = i} {m = m} {told = said} w are at h told)
+    (hopeless {all = others} {i = j} {m = n} {told = say} v are' at' k tell) =
     let one = one-token text all others i j m n are are' at at' (inl h) (inl k) in
     let there : Told (CanStand all i) phrases say = (let d = tell in rw (one.lists, one.numbers) at d) in
     ap (λ (x : Marked). told_lines text all i x said) one.tokens
     ∙ ap (λ (ws : List (List ℕ)). told_lines text all i n ws) (one-told told there)
     ∙ ap (λ (x : ℕ). told_lines text all x n say) (sym one.numbers)
     ∙ ap (λ (ms : List Marked). told_lines text ms j n say) (sym one.lists)
-one-why text a b (hopeless {all = all} {i = i} {m = m} w are at h told) (too_deep {all = others} {i = j} {m = n} v are' at' k is) =
+one-why text a b (hopeless {all = all} {i = i} {m = m} w are at h told)
+    (too_deep {all = others} {i = j} {m = n} v are' at' k is) =
     absurd (not-both text all others i j m n are are' at at' h k)
-one-why text a b (hopeless {all = all} {i = i} {m = m} w are at h told) (too_large {all = others} {i = j} {m = n} v are' at' k is) =
+one-why text a b (hopeless {all = all} {i = i} {m = m} w are at h told)
+    (too_large {all = others} {i = j} {m = n} v are' at' k is) =
     absurd (not-both text all others i j m n are are' at at' h k)
-one-why text a b (too_deep {all = all} {i = i} {m = m} w are at h is) (hopeless {all = others} {i = j} {m = n} v are' at' k told) =
+one-why text a b (too_deep {all = all} {i = i} {m = m} w are at h is)
+    (hopeless {all = others} {i = j} {m = n} v are' at' k told) =
     absurd (not-both text others all j i n m are' are at' at k h)
-one-why text a b (too_large {all = all} {i = i} {m = m} w are at h is) (hopeless {all = others} {i = j} {m = n} v are' at' k told) =
+one-why text a b (too_large {all = all} {i = i} {m = m} w are at h is)
+    (hopeless {all = others} {i = j} {m = n} v are' at' k told) =
     absurd (not-both text others all j i n m are' are at' at k h)
-one-why text a b (too_deep {all = all} {i = i} {m = m} w are at h is) (too_deep {all = others} {i = j} {m = n} v are' at' k so) =
+one-why text a b (too_deep {all = all} {i = i} {m = m} w are at h is)
+    (too_deep {all = others} {i = j} {m = n} v are' at' k so) =
     let one = one-token text all others i j m n are are' at at' (inr h) (inr k) in
     ap (λ (x : Marked). token_place text x ++ codes "200 brackets are open before it\n") one.tokens
-one-why text a b (too_large {all = all} {i = i} {m = m} w are at h is) (too_large {all = others} {i = j} {m = n} v are' at' k so) =
+one-why text a b (too_large {all = all} {i = i} {m = m} w are at h is)
+    (too_large {all = others} {i = j} {m = n} v are' at' k so) =
     let one = one-token text all others i j m n are are' at at' (inr h) (inr k) in
     ap (λ (x : Marked). token_place text x ++ codes "above 4294967295\n") one.tokens
-one-why text a b (too_deep {all = all} {i = i} {m = m} w are at h is) (too_large {all = others} {i = j} {m = n} v are' at' k isnt) =
+one-why text a b (too_deep {all = all} {i = i} {m = m} w are at h is)
+    (too_large {all = others} {i = j} {m = n} v are' at' k isnt) =
     absurd (not-bracket text all others i j m n are are' at at' h k is isnt)
-one-why text a b (too_large {all = all} {i = i} {m = m} w are at h isnt) (too_deep {all = others} {i = j} {m = n} v are' at' k is) =
+one-why text a b (too_large {all = all} {i = i} {m = m} w are at h isnt)
+    (too_deep {all = others} {i = j} {m = n} v are' at' k is) =
     absurd (not-bracket text others all j i n m are' are at' at k h is isnt)
 
 pub one-explanation : (text : List ℕ) (fault : ReadFault) (a b : List ℕ) → Explains text fault a → Explains text fault b

@@ -1,6 +1,7 @@
 -- The last bracket of a list is the first of its reverse.
 -- Serves: explain_fault
-use Rattle.std.proofs.Common.{◌≡◌, ℕ, ◌+◌, ◌-◌, ◌⊎◌, inl, inr, Some, None, List, [], ◌∷◌, ◌++◌, length, reverse, slice_get}
+use Rattle.std.proofs.Common.{◌≡◌, ℕ, ◌-◌, ◌⊎◌, inl, inr, Some, List, [], ◌∷◌, ◌++◌}
+use Rattle.std.proofs.Common.{length, reverse, slice_get}
 use Rattle.std.proofs.Common.{refl, sym, ap, ◌∙◌, arith, length-append}
 use Rattle.std.proofs.Math.Seq.{get_or-append_seam}
 use Rattle.std.proofs.lemmas.List.{reverse-append}

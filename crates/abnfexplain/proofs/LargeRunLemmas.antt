@@ -1,6 +1,7 @@
 -- Numbers over their limit are runs of digits that are.
 -- Serves: explain_fault
-use Rattle.std.proofs.Common.{◌≡◌, ℕ, suc, ◌+◌, ◌*◌, ◌<◌, ◌≤◌, ◌||◌, nat_lt, Bool, true, false, Option, Some, None, List, []}
+use Rattle.std.proofs.Common.{◌≡◌, ℕ, suc, ◌+◌, ◌*◌, ◌<◌, ◌≤◌, ◌||◌, nat_lt, Bool, true, false, Option, Some}
+use Rattle.std.proofs.Common.{None, List, []}
 use Rattle.std.proofs.Common.{◌∷◌, ◌++◌, refl, sym, ap, ◌∙◌, arith, append-nil, All, MatchBool, inl, inr}
 use Rattle.std.proofs.lemmas.Bool.{cases_lt}
 use Rattle.std.proofs.lemmas.List.Elements.{All-cons, All-nil}
@@ -9,7 +10,7 @@ use Rattle.std.specs.Char.{digit_value}
 use Rattle.std.specs.Str.Parse.{digits_value, digits_value_after}
 use Rattle.abnfread.specs.declared.number.TheConstants.{MAX_VALUE, MAX_REPEAT}
 use Rattle.abnfread.specs.AbnfSays.{IsSmall}
-use Rattle.abnfread.specs.AbnfSlices.{Run, none, more, Digits, digits}
+use Rattle.abnfread.specs.AbnfSlices.{Run, none, more}
 use Rattle.abnfread.specs.AbnfWords as words
 use Rattle.abnfread.specs.BaseDigits.{is_digit, Tells, binary, decimals, hexadecimal}
 use Rattle.abnfread.specs.Numerals.{SaysRepeat, says_exactly, says_between, most, Listed, last_number, more_numbers}
@@ -56,13 +57,13 @@ run-over base n rest w le none ends =
     rw small (rest-over base n rest ends)
 run-over base n rest w le (more {b} {bs} e h) ends = elim (cases_lt MAX_VALUE (n * base + digit_value b)) [
   | inl lt ↦
-    (let over = lt-test MAX_VALUE (n * base + digit_value b) lt in
-    let ge = after-ge base (n * base + digit_value b) bs w in
-    let all = lt-test MAX_VALUE (digits_value_after base (n * base + digit_value b) bs) (omega arith) in
-    digit-over base n b (bs ++ rest) e ∙ rw (over, all) refl)
+      (let over = lt-test MAX_VALUE (n * base + digit_value b) lt in
+      let ge = after-ge base (n * base + digit_value b) bs w in
+      let all = lt-test MAX_VALUE (digits_value_after base (n * base + digit_value b) bs) (omega arith) in
+      digit-over base n b (bs ++ rest) e ∙ rw (over, all) refl)
   | inr ge ↦
-    (let small = ge-test MAX_VALUE (n * base + digit_value b) ge in
-    digit-over base n b (bs ++ rest) e ∙ rw small (run-over base (n * base + digit_value b) rest w ge h ends))
+      (let small = ge-test MAX_VALUE (n * base + digit_value b) ge in
+      digit-over base n b (bs ++ rest) e ∙ rw small (run-over base (n * base + digit_value b) rest w ge h ends))
 ]
 
 whole-over : (base : ℕ) (ds : List ℕ) → 2 ≤ base → Run (is_digit base) ds [] → runs_over base 0 ds

@@ -1,20 +1,20 @@
 -- What the search for the deciding token has come to.
 -- Serves: explain_fault
-use Rattle.std.proofs.Common.{◌≡◌, ℕ, ◌+◌, ◌<◌, ◌≤◌, ◌⊎◌, inl, inr, Bool, true, false, Option, Some, None, List, []}
-use Rattle.std.proofs.Common.{◌∷◌, ◌++◌, length, take, slice_get, refl, sym, ap, ◌∙◌, append_assoc, append-nil, arith}
+use Rattle.std.proofs.Common.{◌≡◌, ℕ, ◌<◌, ◌≤◌, ◌⊎◌, Bool, true, false, Option, Some, None, List, []}
+use Rattle.std.proofs.Common.{◌∷◌, ◌++◌, length, slice_get, refl, sym, ap, ◌∙◌, append-nil, arith}
 use Rattle.std.proofs.Common.{length-append}
 use Rattle.std.proofs.lemmas.List.{length-reverse}
 use Rattle.std.proofs.Math.Seq.{get_or-append_seam, take-append_seam}
 use Rattle.std.proofs.lemmas.Option.{slice_get-get_or}
 use Rattle.std.specs.Option.{option_map, unwrap_or}
 use Rattle.ruletable.specs.declared.span.Span.{Span}
-use Rattle.lexer.specs.TokenLists.{tok, kind_of}
+use Rattle.lexer.specs.TokenLists.{tok}
 use Rattle.lexer.specs.declared.limits.TheConstants.{MAX_OPEN}
 use Rattle.lexer.proofs.ViabilityLemmas as lemmas
 use Rattle.abnfread.specs.declared.kind.AbnfKind.{AbnfKind}
 use Rattle.abnfread.specs.declared.kind.AbnfKind.TheVariants as kinds
 use Rattle.abnfread.specs.declared.marks.MarkedToken.{MarkedToken}
-use Rattle.abnfread.specs.AbnfMachine.{Config, start, step, run, levels_in}
+use Rattle.abnfread.specs.AbnfMachine.{Config, start, step, levels_in}
 use Rattle.abnfread.specs.AbnfReading.{is_bracket}
 use Rattle.abnfread.specs.AbnfSays.{SaysKind, says_name, says_end, says_lparen, says_lbrack, Says, says, SayAll, Viable}
 use Rattle.abnfread.specs.AbnfSays.{IsSmall, AreSmall, AreWithin, IsHopeless, IsOver}
@@ -30,7 +30,7 @@ use Rattle.abnfexplain.specs.declared.abnf_decide.Refused.{Refused}
 use Rattle.abnfexplain.specs.declared.abnf_stand.Form.{Form}
 use Rattle.abnfexplain.specs.declared.abnf_stand.Place.{Place}
 use Rattle.abnfexplain.specs.declared.abnf_stand.Stand.TheVariants.{Start}
-use Rattle.abnfexplain.specs.AbnfDecisions.{first_of, last_of, IsTokenOf, TellsForms, IsRefused, NoneDecides}
+use Rattle.abnfexplain.specs.AbnfDecisions.{first_of, last_of, IsTokenOf, IsRefused, NoneDecides}
 use Rattle.abnfexplain.specs.AbnfPlaces.{brackets_of, place_allows, IsAt}
 use Rattle.abnfexplain.specs.AbnfStands.{behind, brackets_behind, innermost}
 use Rattle.abnfexplain.proofs.AbnfCanStandLemmas.{StandsAt, Onward, goes-on, stops-there, can-stand, cannot-stand}
@@ -93,7 +93,8 @@ large-no_bracket g f says_lbrack h = absurd (h tt)
 large-no_bracket g f _ h = refl
 
 module _ {text : List ℕ} {left : List Marked → Type 0} {place : Place} {origin before : Option MarkedToken}
-    {ms : List Marked} (t : IsTaken text left place origin before ms) (k : AbnfKind) (z : List ℕ) (p : Span) (g f : Bool)
+    {ms : List Marked} (t : IsTaken text left place origin before ms) (k : AbnfKind) (z : List ℕ) (p : Span)
+    (g f : Bool)
     (others : List Marked) (given : (t.taken).rest ≡ marked (tok k z p) g f ∷ others) where
   abbrev h : HasTaken text left t.config ms
   h = t.taken
@@ -152,8 +153,8 @@ module _ {text : List ℕ} {left : List Marked → Type 0} {place : Place} {orig
     abbrev said : Said
     said = said-here.0
 
-    onward : Onward t.config g f said
-    onward = goes-on t.config place t.stands said g f
+    step-onward : Onward t.config g f said
+    step-onward = goes-on t.config place t.stands said g f
         (let kind = said-kind said-here.1 in
         ap (λ (j : AbnfKind). place_allows place (record { kind = j; gap = g; first = f })) kind ∙ does)
 
@@ -161,7 +162,7 @@ module _ {text : List ℕ} {left : List Marked → Type 0} {place : Place} {orig
     over-there over =
         lemmas.over-at Viable AreWithin ms here others
         (lemmas.viable-next Says Grammar step start runs-begins stops-begins one-word t.config h.say h.reached here
-        (word g f said) onward.config (says said-here.1) onward.steps) within-here over
+        (word g f said) step-onward.config (says said-here.1) step-onward.steps) within-here over
 
     next-words : (vs : List Word) → SayAll (ms ++ here ∷ []) vs → vs ≡ h.words ++ word g f said ∷ []
     next-words vs all = lemmas.one-words Says one-word all (lemmas.say-snoc Says h.say (says said-here.1))
@@ -175,28 +176,31 @@ module _ {text : List ℕ} {left : List Marked → Type 0} {place : Place} {orig
     )
 
     module _ (next : Place) (at : IsAt next (behind form) (brackets_behind k (brackets_of place))) where
-      next-stands : StandsAt onward.config next
+      next-stands : StandsAt step-onward.config next
       next-stands =
           let kind = said-kind said-here.1 in
           record {
-            stand = (let e = onward.stand in rw kind at e) ∙ sym at.stand;
-            brackets = (let e = onward.brackets in let o = (t.stands).brackets in rw (kind, o) at e)
+            stand = (let e = step-onward.stand in rw kind at e) ∙ sym at.stand;
+            brackets = (let e = step-onward.brackets in let o = (t.stands).brackets in rw (kind, o) at e)
                 ∙ sym at.brackets;
           }
 
-      next-levels : levels_in onward.config ≡ length next.brackets.items
-      next-levels = sym (open-count onward.config) ∙ ap length next-stands.brackets
+      next-levels : levels_in step-onward.config ≡ length next.brackets.items
+      next-levels = sym (open-count step-onward.config) ∙ ap length next-stands.brackets
           ∙ length-reverse next.brackets.items
 
       pub deep-there : MAX_OPEN < length next.brackets.items
           → IsTokenOf text here (λ us i. IsOver us i × (is_bracket here ≡ true))
       deep-there lt = there-is (λ us i. IsOver us i × (is_bracket here ≡ true)) (
-        over-there (λ v. deeper-next h.words (word g f said) t.config onward.config h.reached onward.steps MAX_OPEN
+        over-there (λ v. deeper-next h.words (word g f said) t.config step-onward.config h.reached step-onward.steps
+            MAX_OPEN
             (let e = next-levels in omega arith)
             (let e = next-words v.words v.say in let y = v.shallow in rw e at y)),
         opens-bracket g f MAX_OPEN (levels_in t.config) said-here.1
             (levels-within h.words t.config MAX_OPEN h.reached h.shallow)
-            (let e = step-opens t.config onward.config g f said onward.steps in let l = next-levels in omega arith),
+            (let e = step-opens t.config step-onward.config g f said step-onward.steps in
+            let l = next-levels in
+            omega arith),
       )
 
       -- one token more
@@ -205,9 +209,9 @@ module _ {text : List ℕ} {left : List Marked → Type 0} {place : Place} {orig
           → option_map marked_of first ≡ first_of (ms ++ here ∷ []) → option_map marked_of last ≡ Some here →
           IsTaken text onwards next first last (ms ++ here ∷ [])
       one-more onwards first last are small le o b = record {
-        config = onward.config;
-        taken = one-taken h k z p g f others given onwards onward.config g f said are (says said-here.1)
-            (small said said-here.1) onward.steps (let e = next-levels in omega arith);
+        config = step-onward.config;
+        taken = one-taken h k z p g f others given onwards step-onward.config g f said are (says said-here.1)
+            (small said said-here.1) step-onward.steps (let e = next-levels in omega arith);
         stands = next-stands;
         origin_is = o;
         before_is = b ∙ sym (last-snoc ms here);

@@ -1,14 +1,13 @@
 -- What explains a fault of a grammar's text: the lines behind its message.
 use Rattle.std.specs.Prelude.{◌≡◌, ℕ, ◌<◌, ◌≤◌, ◌&&◌, Bool, true, false, length, slice_get, take, List, [], ◌∷◌, ◌++◌}
 use Rattle.std.specs.Prelude.{Option, Some, None, codes, decimal, if◌then◌else◌}
-use Rattle.lexer.specs.TokenLists.{Tok, tok, kind_of, start_of}
+use Rattle.lexer.specs.TokenLists.{tok, kind_of, start_of}
 use Rattle.lexer.specs.declared.limits.TheConstants.{MAX_GRAMMAR}
 use Rattle.picture.specs.FirstBytes.{Row, first_told}
 use Rattle.picture.specs.LinesAround.{bytes_before}
 use Rattle.picture.specs.PhraseLists.{listed}
 use Rattle.picture.specs.Pictures.{place_told}
 use Rattle.picture.specs.ToldPhrases.{Told}
-use Rattle.abnfread.specs.declared.kind.AbnfKind.{AbnfKind}
 use Rattle.abnfread.specs.declared.kind.AbnfKind.TheVariants.{Name, Bad, End}
 use Rattle.abnfread.specs.AbnfReading.{is_bracket}
 use Rattle.abnfread.specs.AbnfSays.{IsHopeless, IsOver}

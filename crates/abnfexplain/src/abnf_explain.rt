@@ -220,8 +220,8 @@ fn push_token_facts(
 fn hopeless_lines(alloc: Global, text: &[u8], refused: &Refused<'_>) -> Result<Vec<u8>, Memory>
     requires first { (o : Marks) → refused.now.origin ≡ Some o → o.token.span.start ≤ length text.now }
     requires within { refused.now.token.token.span.start ≤ length text.now }
-    ensures { IfOk result (λ v. (told : List (List ℕ)) × Told (λ k. place_allows refused.now.place k ≡ true) phrases told
-        × (v.items ≡ token_place text.now (marked_of refused.now.token) ++ (codes "expected " ++ (listed told
+    ensures { IfOk result (λ v. (told : List (List ℕ)) × Told (λ k. place_allows refused.now.place k ≡ true) phrases
+        told × (v.items ≡ token_place text.now (marked_of refused.now.token) ++ (codes "expected " ++ (listed told
         ++ (codes "\n" ++ token_facts text.now (option_map marked_of refused.now.origin)
         (option_map marked_of refused.now.before) (marked_of refused.now.token)))))) }
 {
@@ -230,7 +230,13 @@ fn hopeless_lines(alloc: Global, text: &[u8], refused: &Refused<'_>) -> Result<V
     out.extend_from_slice(b"expected ")?;
     push_expected(alloc, &mut out, &refused.place)?;
     out.extend_from_slice(b"\n")?;
-    push_token_facts(&mut out, text, refused.origin, refused.before, refused.token)?;
+    push_token_facts(
+        &mut out,
+        text,
+        refused.origin,
+        refused.before,
+        refused.token,
+    )?;
     Ok(out)
 }
 

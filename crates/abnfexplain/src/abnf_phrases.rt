@@ -135,13 +135,11 @@ static PHRASES: [Phrase; 10] = [
                 first: false,
             },
         ],
-        bars: &[
-            Form {
-                kind: AbnfKind::Name,
-                gap: false,
-                first: false,
-            },
-        ],
+        bars: &[Form {
+            kind: AbnfKind::Name,
+            gap: false,
+            first: false,
+        }],
     },
     Phrase {
         words: b"an element right behind it",
@@ -177,13 +175,11 @@ static PHRASES: [Phrase; 10] = [
                 first: false,
             },
         ],
-        bars: &[
-            Form {
-                kind: AbnfKind::Repeat,
-                gap: false,
-                first: false,
-            },
-        ],
+        bars: &[Form {
+            kind: AbnfKind::Repeat,
+            gap: false,
+            first: false,
+        }],
     },
     Phrase {
         words: b"\"=\"",

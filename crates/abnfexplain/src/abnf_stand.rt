@@ -105,11 +105,8 @@ pub(crate) fn stand_behind(form: Form) -> Stand
         return Stand::Named;
     }
     match form.kind {
-        AbnfKind::Is
-        | AbnfKind::Adds
-        | AbnfKind::Slash
-        | AbnfKind::LParen
-        | AbnfKind::LBrack => Stand::Fresh,
+        AbnfKind::Is | AbnfKind::Adds | AbnfKind::Slash | AbnfKind::LParen | AbnfKind::LBrack =>
+            Stand::Fresh,
         AbnfKind::Repeat => Stand::Awaits,
         AbnfKind::End | AbnfKind::Bad => Stand::Done,
         _ => Stand::Read,

@@ -11,7 +11,8 @@ use Rattle.abnfread.specs.Element.{Definition, Rule}
 use Rattle.abnfread.proofs.AbnfFaultLemmas.{one-reading, one-fault, no-fault}
 use Rattle.abnfcheck.proofs.AbnfNotesLemmas.{notes_same, those_same}
 use Rattle.abnfexplain.specs.AbnfExplained.{Explains}
-use Rattle.abnfrun.specs.AbnfAnswers.{AbnfStates, refused, unexplained, noted, checked, judges, again, printed, no_memory}
+use Rattle.abnfrun.specs.AbnfAnswers.{AbnfStates, refused, unexplained, noted, checked, judges, again, printed}
+use Rattle.abnfrun.specs.AbnfAnswers.{no_memory}
 use Rattle.abnfprint.specs.AbnfReadBack.{file_rules}
 use Rattle.abnfrun.specs.AbnfNoted.{all_rules, again_in, early_in, judged_of, AreNotesOn, IsRefusedFor, AreAgain}
 use Rattle.abnfrun.specs.AbnfNoted.{rule_given}
@@ -25,7 +26,8 @@ use Rattle.toolrun.specs.Explained.{Explained, IsLongReply}
 use Rattle.toolrun.specs.Reply.{Reply, refusal, unexplained_fault}
 use Rattle.toolrun.specs.RunSteps as steps
 use Rattle.toolrun.specs.declared.settings.Settings.{Settings}
-use Rattle.toolrun.proofs.OneStatementLemmas.{Stated, one_stated, one-explained, is_noted, is_checked, is_run, is_again, is_printed}
+use Rattle.toolrun.proofs.OneStatementLemmas.{Stated, one_stated, one-explained, is_noted, is_checked, is_run}
+use Rattle.toolrun.proofs.OneStatementLemmas.{is_again, is_printed}
 
 -- each line has one answer
 abbrev AnswersAreOne : Settings → Type 0
@@ -93,23 +95,25 @@ module _ (settings : Settings) (input : Input) where
         inr (record { definitions = ds; reads = r; states = is_printed are mode })
     parts_of_states notes reply (no_memory within) ample = absurd (ample refl)
 
-    one_of_text : ExplanationsAreOne → AnswersAreOne settings → (notes others : List ℕ) (a b : Reply) → IsStated notes a → IsStated others b
-        → a.status ≢ 5 → b.status ≢ 5 → (notes ≡ others) × (a ≡ b)
+    one_of_text : ExplanationsAreOne → AnswersAreOne settings → (notes others : List ℕ) (a b : Reply)
+        → IsStated notes a → IsStated others b → a.status ≢ 5 → b.status ≢ 5 → (notes ≡ others) × (a ≡ b)
     one_of_text explained one = one_stated (IsFaultOf text)
         (λ fault. Explained settings (Explains text fault)) (Reads text)
         (λ definitions. AreNotesOn definitions (rule_given settings))
         (λ definitions notes. IsRefusedFor definitions (rule_given settings))
         (λ definitions notes. IsRefusedFor definitions (rule_given settings) → ⊥) AreAgain RunOf
         (λ definitions. printed_rules (file_rules definitions)) settings.mode (one-reading text) (one-fault text)
-        (λ fault. one-explained settings (Explains text fault) (explained text fault)) (no-fault text) notes_are_one one_again (λ definitions notes bad fine. fine bad) (one_run one)
+        (λ fault. one-explained settings (Explains text fault) (explained text fault)) (no-fault text) notes_are_one
+        one_again (λ definitions notes bad fine. fine bad) (one_run one)
 
 -- one list of notes and one reply
-pub one_statement : ExplanationsAreOne → TextIsOne → FurthestIsOne → (text : List ℕ) (settings : Settings) (input : Input)
-    (notes others : List ℕ) (a b : Reply) →
+pub one_statement : ExplanationsAreOne → TextIsOne → FurthestIsOne → (text : List ℕ) (settings : Settings)
+    (input : Input) (notes others : List ℕ) (a b : Reply) →
     AbnfStates text settings input notes a → AbnfStates text settings input others b → a.status ≢ 5 → b.status ≢ 5
     → (notes ≡ others) × (a ≡ b)
 one_statement explained one furthest text settings input notes others a b g h m n =
-    one_of_text settings input text explained (λ rules judged line. one_answer one furthest settings.letters rules judged line
+    one_of_text settings input text explained
+    (λ rules judged line. one_answer one furthest settings.letters rules judged line
     settings.viable) notes others a b (parts_of_states settings input text notes a g m)
     (parts_of_states settings input text others b h n) m n
 

@@ -1,6 +1,6 @@
 -- Which kinds can stand behind tokens that the machine took.
 -- Serves: explain_fault
-use Rattle.std.proofs.Common.{◌≡◌, ℕ, ◌+◌, ◌<◌, ◌≤◌, ◌⊎◌, inl, inr, Bool, true, false, Option, Some, None, List, []}
+use Rattle.std.proofs.Common.{◌≡◌, ℕ, ◌+◌, ◌⊎◌, inl, inr, true, false, Option, Some, None, List, []}
 use Rattle.std.proofs.Common.{◌∷◌, ◌++◌, length, take, refl, sym, ap, ◌∙◌, arith, length-append, is_some}
 use Rattle.std.proofs.Math.Seq.{take-append_seam}
 use Rattle.std.proofs.lemmas.List.{take_all}
@@ -14,7 +14,6 @@ use Rattle.pegread.specs.declared.kind.Kind.TheVariants as kinds
 use Rattle.pegread.specs.Chars.{no_chars}
 use Rattle.pegread.specs.Classes.{positive, no_items, in_ranges, bytes_in, SpellsSet}
 use Rattle.pegread.specs.Literals.{SpellsBytes}
-use Rattle.pegread.specs.Limits.{IsShallow}
 use Rattle.pegread.specs.Machine.{Config, start, step, run, levels_in}
 use Rattle.pegread.specs.Reading.{AreWithin}
 use Rattle.pegread.specs.Spelling.{Viable}
@@ -44,34 +43,34 @@ record Sample (k : Kind) : Type 0 where
   kind : kind_of token ≡ k
   says : Says token word
 
-named : (k : Kind) (z : List ℕ) (w : Word) → Says (tok k z no_span) w → Sample k
-named k z w h = record { token = tok k z no_span; word = w; kind = refl; says = h }
+sample-of : (k : Kind) (z : List ℕ) (w : Word) → Says (tok k z no_span) w → Sample k
+sample-of k z w h = record { token = tok k z no_span; word = w; kind = refl; says = h }
 
 -- each kind but `Bad` has one
 some-sample : (k : Kind) → (k ≡ kinds.Bad) ⊎ Sample k
-some-sample kinds.Ident = inr (named kinds.Ident [] (Ident [] no_span) says_name)
-some-sample kinds.Arrow = inr (named kinds.Arrow [] Arrow says_arrow)
-some-sample kinds.Begin = inr (named kinds.Begin [] Begin says_begin)
-some-sample kinds.EndCap = inr (named kinds.EndCap [] EndCap says_end_cap)
-some-sample kinds.Slash = inr (named kinds.Slash [] Slash says_slash)
-some-sample kinds.Amp = inr (named kinds.Amp [] Amp says_amp)
-some-sample kinds.Bang = inr (named kinds.Bang [] Bang says_bang)
-some-sample kinds.Quest = inr (named kinds.Quest [] Quest says_quest)
-some-sample kinds.Star = inr (named kinds.Star [] Star says_star)
-some-sample kinds.Plus = inr (named kinds.Plus [] Plus says_plus)
-some-sample kinds.Dot = inr (named kinds.Dot [] Dot says_dot)
-some-sample kinds.LParen = inr (named kinds.LParen [] LParen says_lparen)
-some-sample kinds.RParen = inr (named kinds.RParen [] RParen says_rparen)
+some-sample kinds.Ident = inr (sample-of kinds.Ident [] (Ident [] no_span) says_name)
+some-sample kinds.Arrow = inr (sample-of kinds.Arrow [] Arrow says_arrow)
+some-sample kinds.Begin = inr (sample-of kinds.Begin [] Begin says_begin)
+some-sample kinds.EndCap = inr (sample-of kinds.EndCap [] EndCap says_end_cap)
+some-sample kinds.Slash = inr (sample-of kinds.Slash [] Slash says_slash)
+some-sample kinds.Amp = inr (sample-of kinds.Amp [] Amp says_amp)
+some-sample kinds.Bang = inr (sample-of kinds.Bang [] Bang says_bang)
+some-sample kinds.Quest = inr (sample-of kinds.Quest [] Quest says_quest)
+some-sample kinds.Star = inr (sample-of kinds.Star [] Star says_star)
+some-sample kinds.Plus = inr (sample-of kinds.Plus [] Plus says_plus)
+some-sample kinds.Dot = inr (sample-of kinds.Dot [] Dot says_dot)
+some-sample kinds.LParen = inr (sample-of kinds.LParen [] LParen says_lparen)
+some-sample kinds.RParen = inr (sample-of kinds.RParen [] RParen says_rparen)
 some-sample kinds.Literal =
     let empty : SpellsBytes (34 ∷ 34 ∷ []) [] = record { mark = 34; inside = []; cut = refl; chars = no_chars } in
-    inr (named kinds.Literal (34 ∷ 34 ∷ []) (Literal []) (says_literal empty))
+    inr (sample-of kinds.Literal (34 ∷ 34 ∷ []) (Literal []) (says_literal empty))
 some-sample kinds.Class =
     let empty : SpellsSet (91 ∷ 93 ∷ []) (bytes_in (in_ranges [])) =
     positive {inside = []} {xs = []} _ refl tt no_items (λ b. refl) in
-    inr (named kinds.Class (91 ∷ 93 ∷ []) (Class (bytes_in (in_ranges []))) (says_class empty))
-some-sample kinds.Action = inr (named kinds.Action (123 ∷ 125 ∷ []) (Action []) (says_action {t = []} refl))
+    inr (sample-of kinds.Class (91 ∷ 93 ∷ []) (Class (bytes_in (in_ranges []))) (says_class empty))
+some-sample kinds.Action = inr (sample-of kinds.Action (123 ∷ 125 ∷ []) (Action []) (says_action {t = []} refl))
 some-sample kinds.Bad = inl refl
-some-sample kinds.End = inr (named kinds.End [] End says_end)
+some-sample kinds.End = inr (sample-of kinds.End [] End says_end)
 
 pub after-some : (x : Option Config) (p : Place) → place_after x ≡ Some p → (d : Config) × (x ≡ Some d)
     × (place_of d ≡ p)
@@ -122,11 +121,11 @@ viable-onward : {ts : List Tok} {ws : List Word} (c : Config) (say : SayAll ts w
     (within : AreWithin ts) (t : Tok) (w : Word) (d : Config) → Says t w → step c w ≡ Some d → Viable (ts ++ t ∷ [])
 viable-onward {ts} {ws} c say runs within t w d says steps = elim (cases_lt MAX_OPEN (levels_in d)) [
   | inl lt ↦
-    (let h = too_deep-next c say runs within t [] d w says steps lt in
-    let v = h.viable in
-    rw (whole-taken ts t) at v)
+      (let h = too_deep-next c say runs within t [] d w says steps lt in
+      let v = h.viable in
+      rw (whole-taken ts t) at v)
   | inr le ↦ viable-taken d (say-snoc Says say says) (run-snoc step ws w start c runs ∙ steps)
-    (shallow-next c d say runs says steps MAX_OPEN within le)
+      (shallow-next c d say runs says steps MAX_OPEN within le)
 ]
 
 module _ {ts : List Tok} {ws : List Word} (c : Config) (say : SayAll ts ws) (runs : run start ws ≡ Some c)

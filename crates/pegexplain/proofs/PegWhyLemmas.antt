@@ -63,16 +63,20 @@ one-why text a b (too_long l) (hopeless w are at h told) = absurd (omega (arith,
 one-why text a b (too_long l) (too_deep w are at h) = absurd (omega (arith, l, w))
 one-why text a b (hopeless w are at h told) (too_long l) = absurd (omega (arith, l, w))
 one-why text a b (too_deep w are at h) (too_long l) = absurd (omega (arith, l, w))
-one-why text a b (hopeless {all = all} {i = i} {t = t} {told = said} w are at h told) (hopeless {all = others} {i = j} {t = u} {told = say} v are' at' k tell) =
+one-why text a b (hopeless {all = all} {i = i} {t = t} {told = said} w are at h told)
+    (hopeless {all = others} {i = j} {t = u} {told = say} v are' at' k tell) =
     let one = one-token text all others i j t u are are' at at' (inl h) (inl k) in
     let there : Told (CanStand all i) phrases say = (let d = tell in rw (one.lists, one.numbers) at d) in
     ap (λ (x : Tok). told_lines text x said) one.tokens
     ∙ ap (λ (ws : List (List ℕ)). told_lines text u ws) (one-told told there)
-one-why text a b (hopeless {all = all} {i = i} {t = t} w are at h told) (too_deep {all = others} {i = j} {t = u} v are' at' k) =
+one-why text a b (hopeless {all = all} {i = i} {t = t} w are at h told)
+    (too_deep {all = others} {i = j} {t = u} v are' at' k) =
     absurd (not-both text all others i j t u are are' at at' h k)
-one-why text a b (too_deep {all = all} {i = i} {t = t} w are at h) (hopeless {all = others} {i = j} {t = u} v are' at' k told) =
+one-why text a b (too_deep {all = all} {i = i} {t = t} w are at h)
+    (hopeless {all = others} {i = j} {t = u} v are' at' k told) =
     absurd (not-both text others all j i u t are' are at' at k h)
-one-why text a b (too_deep {all = all} {i = i} {t = t} w are at h) (too_deep {all = others} {i = j} {t = u} v are' at' k) =
+one-why text a b (too_deep {all = all} {i = i} {t = t} w are at h)
+    (too_deep {all = others} {i = j} {t = u} v are' at' k) =
     let one = one-token text all others i j t u are are' at at' (inr h) (inr k) in
     ap (λ (x : Tok). token_place text x ++ codes "200 brackets are open before it\n") one.tokens
 

@@ -1,9 +1,8 @@
 -- The machine's steps, as far as kinds tell.
 -- Serves: explain_fault
-use Rattle.std.proofs.Common.{◌≡◌, ◌≢◌, ℕ, zero, suc, Option, Some, None, List, [], ◌∷◌, refl, Bool, true, false}
-use Rattle.std.specs.Option.{option_map}
+use Rattle.std.proofs.Common.{◌≡◌, ℕ, Option, Some, None, List, [], ◌∷◌, refl}
 use Rattle.ruletable.specs.declared.span.Span.{Span}
-use Rattle.lexer.specs.TokenLists.{tok, kind_of}
+use Rattle.lexer.specs.TokenLists.{kind_of}
 use Rattle.pegread.specs.declared.kind.Kind.{Kind}
 use Rattle.pegread.specs.declared.kind.Kind.TheVariants as kinds
 use Rattle.pegread.specs.Pattern.{Pattern, Name, Patterns}
@@ -12,11 +11,12 @@ use Rattle.pegread.specs.Words.{Word, Ident, Arrow, Begin, EndCap, Slash, Amp, B
 use Rattle.pegread.specs.Words.{RParen, Literal, Class, Action, End, Says, says_name, says_arrow, says_begin}
 use Rattle.pegread.specs.Words.{says_end_cap, says_slash, says_amp, says_bang, says_quest, says_star, says_plus}
 use Rattle.pegread.specs.Words.{says_dot, says_lparen, says_rparen, says_literal, says_class, says_action, says_end}
-use Rattle.pegread.specs.Machine.{Config, start, named, body, done, Head, Level, level, levels, levels_in, Mark, no_mark}
-use Rattle.pegread.specs.Machine.{not_mark, and_mark, Last, fresh, read, read_name, snoc, apply, fresh_step, read_step}
+use Rattle.pegread.specs.Machine.{Config, start, named, body, done, Head, Level, level, levels}
+use Rattle.pegread.specs.Machine.{levels_in, Mark, no_mark}
+use Rattle.pegread.specs.Machine.{not_mark, and_mark, fresh, read, read_name, snoc, apply, fresh_step, read_step}
 use Rattle.pegread.specs.Machine.{name_step, step}
 use Rattle.pegexplain.specs.declared.stand.Place.{Place}
-use Rattle.pegexplain.specs.PegStands.{place_of, stand_of, goes, unmarked, behind_primary}
+use Rattle.pegexplain.specs.PegStands.{place_of, stand_of, goes, behind_primary}
 
 -- the kind of the tokens that say a word
 abbrev pub kind_said : Word → Kind

@@ -1,5 +1,5 @@
 -- Which token of a text decides that it is no grammar.
-use Rattle.std.specs.Prelude.{◌≡◌, ℕ, ◌≤◌, ◌⊎◌, Bool, true, false, length, slice_get, List, Some}
+use Rattle.std.specs.Prelude.{◌≡◌, ℕ, ◌≤◌, ◌⊎◌, true, false, length, slice_get, List, Some}
 use Rattle.lexer.specs.declared.limits.TheConstants.{MAX_OPEN}
 use Rattle.lexer.specs.TokenLists.{tok_of}
 use Rattle.pegread.specs.declared.kind.Kind.{Kind}

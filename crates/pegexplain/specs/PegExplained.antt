@@ -1,12 +1,11 @@
 -- What explains a fault of a grammar's text: the lines behind its message.
 use Rattle.std.specs.Prelude.{◌≡◌, ℕ, ◌<◌, ◌≤◌, length, slice_get, List, [], ◌∷◌, ◌++◌, Some, codes}
-use Rattle.lexer.specs.TokenLists.{tok, start_of}
+use Rattle.lexer.specs.TokenLists.{tok}
 use Rattle.lexer.specs.declared.limits.TheConstants.{MAX_GRAMMAR}
 use Rattle.picture.specs.FirstBytes.{Row, first_told}
 use Rattle.picture.specs.PhraseLists.{listed}
 use Rattle.picture.specs.Pictures.{place_told}
 use Rattle.picture.specs.ToldPhrases.{Told}
-use Rattle.pegread.specs.declared.kind.Kind.{Kind}
 use Rattle.pegread.specs.declared.kind.Kind.TheVariants.{Bad, End}
 use Rattle.pegread.specs.Reading.{IsHopeless, IsTooDeep}
 use Rattle.pegread.specs.Tokens.{Tok, AreTokens}

@@ -1,10 +1,9 @@
 -- What can stand behind tokens, as far as their kinds tell: the reader's machine without what it makes.
 use Rattle.std.specs.Prelude.{ℕ, zero, suc, Bool, true, false, Option, Some, None, is_some}
 use Rattle.pegread.specs.declared.kind.Kind.{Kind}
-use Rattle.pegread.specs.declared.kind.Kind.TheVariants as kinds
 use Rattle.pegread.specs.declared.kind.Kind.TheVariants.{Ident, Arrow, Begin, EndCap, Slash, Amp, Bang, Quest, Star}
 use Rattle.pegread.specs.declared.kind.Kind.TheVariants.{Plus, Dot, LParen, RParen, Literal, Class, Action, End}
-use Rattle.pegread.specs.Machine.{Config, start, named, body, done, Mark, no_mark, not_mark, and_mark, Last, fresh}
+use Rattle.pegread.specs.Machine.{Config, start, named, body, done, no_mark, not_mark, and_mark, fresh}
 use Rattle.pegread.specs.Machine.{read, read_name, levels_in}
 use Rattle.pegexplain.specs.declared.stand.Stand.{Stand}
 use Rattle.pegexplain.specs.declared.stand.Stand.TheVariants.{Start, Named, Fresh, Not, And, Primary, Name}

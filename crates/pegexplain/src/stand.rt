@@ -46,7 +46,11 @@ fn at(stand: Stand, depth: usize) -> Option<Place>
 fn close(depth: usize) -> Option<Place>
     ensures { result ≡ closed depth }
 {
-    if depth == 0 { None } else { at(Stand::Primary, depth - 1) }
+    if depth == 0 {
+        None
+    } else {
+        at(Stand::Primary, depth - 1)
+    }
 }
 
 fn end(depth: usize) -> Option<Place>
@@ -58,7 +62,11 @@ fn end(depth: usize) -> Option<Place>
 fn begin(depth: usize) -> Option<Place>
     ensures { result ≡ begun depth }
 {
-    if depth == 0 { at(Stand::Fresh, 0) } else { None }
+    if depth == 0 {
+        at(Stand::Fresh, 0)
+    } else {
+        None
+    }
 }
 
 // Behind a primary that is neither a name nor an action.

@@ -24,7 +24,8 @@ use Rattle.toolrun.specs.Explained.{Explained, IsLongReply}
 use Rattle.toolrun.specs.Reply.{Reply, refusal, unexplained_fault}
 use Rattle.toolrun.specs.RunSteps as steps
 use Rattle.toolrun.specs.declared.settings.Settings.{Settings}
-use Rattle.toolrun.proofs.OneStatementLemmas.{Stated, one_stated, one-explained, is_noted, is_checked, is_run, is_again, is_printed}
+use Rattle.toolrun.proofs.OneStatementLemmas.{Stated, one_stated, one-explained, is_noted, is_checked, is_run}
+use Rattle.toolrun.proofs.OneStatementLemmas.{is_again, is_printed}
 
 -- the notes on redefinitions are one list
 again_is_one : (definitions : List Rule) (a b : List Said) → AreAgain definitions a → AreAgain definitions b → a ≡ b
@@ -102,17 +103,19 @@ module _ (settings : Settings) (input : Input) where
         inr (record { definitions = ds; reads = r; states = is_printed are mode })
     parts_of notes reply (no_memory within) ample = absurd (ample refl)
 
-    one_of_text : ExplanationsAreOne → (notes others : List ℕ) (a b : Reply) → IsStated notes a → IsStated others b → a.status ≢ 5
-        → b.status ≢ 5 → (notes ≡ others) × (a ≡ b)
+    one_of_text : ExplanationsAreOne → (notes others : List ℕ) (a b : Reply) → IsStated notes a
+        → IsStated others b → a.status ≢ 5 → b.status ≢ 5 → (notes ≡ others) × (a ≡ b)
     one_of_text one = one_stated (IsFaultOf text) (λ fault. Explained settings (Explains text fault)) (Reads text)
         (λ definitions. AreNotesOn definitions (start_given settings))
         (λ definitions notes. is_refused notes ≡ true) (λ definitions notes. is_refused notes ≡ false) AreAgain RunOf
         printed_text settings.mode (one-reading text) (one-fault text)
-        (λ fault. one-explained settings (Explains text fault) (one text fault)) (no-fault text) notes_are_one again_is_one
+        (λ fault. one-explained settings (Explains text fault) (one text fault)) (no-fault text) notes_are_one
+        again_is_one
         (λ definitions notes bad fine. absurd (cc)) one_run
 
 -- one list of notes and one reply
-pub statement_is_one : ExplanationsAreOne → (text : List ℕ) (settings : Settings) (input : Input) (notes others : List ℕ) (a b : Reply) →
+pub statement_is_one : ExplanationsAreOne → (text : List ℕ) (settings : Settings) (input : Input)
+    (notes others : List ℕ) (a b : Reply) →
     States text settings input notes a → States text settings input others b → a.status ≢ 5 → b.status ≢ 5
     → (notes ≡ others) × (a ≡ b)
 statement_is_one one text settings input notes others a b g h m n =

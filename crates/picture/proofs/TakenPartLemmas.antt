@@ -20,4 +20,5 @@ pub cut-pushed : (before between after bytes : List ℕ) (m : ℕ) → m ≡ min
 cut-pushed before between after bytes m e h k =
     let same : take m bytes ≡ take MAX_CUT bytes = take-within MAX_CUT m bytes e in
     k ∙ ap (λ (t : List ℕ). t ++ dots (nat_lt MAX_CUT (length bytes)))
-    (h ∙ ap (λ (t : List ℕ). before ++ shown t) same) ∙ append_assoc before (shown (take MAX_CUT bytes)) (dots (nat_lt MAX_CUT (length bytes)))
+    (h ∙ ap (λ (t : List ℕ). before ++ shown t) same) ∙ append_assoc before
+    (shown (take MAX_CUT bytes)) (dots (nat_lt MAX_CUT (length bytes)))

@@ -71,8 +71,8 @@ pub fn push_picture(out: &mut Vec<u8>, place: LineAround<'_>) -> Result<(), Memo
     Ok(())
 }
 
-/// Adds a picture of the place at an offset of a text, and `column C: ` for what is told of it, where C counts the bytes
-/// of the line from 1.
+/// Adds a picture of the place at an offset of a text, and `column C: ` for what is told of it, where C counts the
+/// bytes of the line from 1.
 ///
 /// # Errors
 /// `Memory` where a growth was refused.

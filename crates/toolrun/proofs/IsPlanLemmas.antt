@@ -26,7 +26,8 @@ use Rattle.toolrun.specs.declared.stop.Stop.TheVariants.{NoMemory, Quiet, Refuse
 
 -- a fault that is not explained is told by its line alone
 plain-refusal : (why : ReadFault) → refusal why [] ≡ stopped (Refused why)
-plain-refusal why = ap (λ (t : List ℕ). record { out = []; err = t; status = 2; taken = 0 }) (append-nil (fault_text why))
+plain-refusal why = ap (λ (t : List ℕ). record { out = []; err = t; status = 2; taken = 0 })
+    (append-nil (fault_text why))
 
 -- what is told first is all that is told
 whole-refusal : (why : ReadFault) (lines : List ℕ)
@@ -76,7 +77,8 @@ module _ {Grammar Sound : Type 0} {States : List ℕ → Settings → Input → 
     {IsChecked : List ℕ → Option (List ℕ) → List Said → Option Sound → Type 0}
     {IsPrintable : List ℕ → Grammar → List Said → Type 0} {canonical : Grammar → List ℕ}
     {Runs : Sound → Settings → Input → Reply → Type 0}
-    (law : AreStated States HasFault Explains IsRead IsChecked IsPrintable canonical Runs) (text : List ℕ) (settings : Settings)
+    (law : AreStated States HasFault Explains IsRead IsChecked IsPrintable canonical Runs) (text : List ℕ)
+    (settings : Settings)
   where
     abbrev Planned : List ℕ → Result (Task Grammar Sound) Stop → Type 0
     Planned first task = IsPlan (Behind (States text settings)) first
@@ -88,7 +90,8 @@ module _ {Grammar Sound : Type 0} {States : List ℕ → Settings → Input → 
         unread-plan (States text settings) (HasFault text)
         (λ input why f other. law.refused text settings input why [] f other
         (explained_not settings (Explains text why) plain))
-        (λ input f. law.no_memory text settings input f) (λ (t : Task Grammar Sound). task_does canonical Runs t settings)
+        (λ input f. law.no_memory text settings input f)
+        (λ (t : Task Grammar Sound). task_does canonical Runs t settings)
         why faulty
 
     pub plan_without_memory : (why : ReadFault) → why ≡ fault.Memory → HasFault text why → Planned [] (Err (unread why))

@@ -11,8 +11,8 @@ use Rattle.toolrun.specs.declared.settings.Mode.TheVariants.{Run, Check, Print}
 use Rattle.toolrun.specs.declared.settings.Settings.{Settings}
 
 -- States is what the tool states. Of a text: HasFault says what is wrong with it, Explains what explains that, IsRead
--- what it is read as, IsChecked what is noted of its grammar and what is ready to run, IsPrintable what is noted where it
--- is only to be printed. Of a grammar: canonical is its text, Runs what a run of it states.
+-- what it is read as, IsChecked what is noted of its grammar and what is ready to run, IsPrintable what is noted where
+-- it is only to be printed. Of a grammar: canonical is its text, Runs what a run of it states.
 pub record AreStated {Grammar Sound : Type 0} (States : List ℕ → Settings → Input → List ℕ → Reply → Type 0)
     (HasFault : List ℕ → ReadFault → Type 0) (Explains : List ℕ → ReadFault → List ℕ → Type 0)
     (IsRead : List ℕ → Grammar → Type 0)

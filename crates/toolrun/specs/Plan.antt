@@ -27,7 +27,12 @@ first_text (Fault fault why) = fault_text fault ++ why.items
 
 -- the reply that tells this text first
 abbrev pub told_behind : List ℕ → Reply → Reply
-told_behind first reply = record { out = reply.out; err = first ++ reply.err; status = reply.status; taken = reply.taken }
+told_behind first reply = record {
+  out = reply.out;
+  err = first ++ reply.err;
+  status = reply.status;
+  taken = reply.taken;
+}
 
 -- What is stated where this text is told first: it is the notes, or the reply tells it, which writes nothing.
 pub data Behind (States : Input → List ℕ → Reply → Type 0) (input : Input) (first : List ℕ) (reply : Reply) : Type

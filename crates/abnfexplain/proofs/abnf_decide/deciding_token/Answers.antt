@@ -5,7 +5,8 @@ use Rattle.abnfread.specs.AbnfMachine.{start}
 use Rattle.abnfread.specs.MarkedIteration.{AreLeft}
 use Rattle.abnfread.specs.MarkedTokens.{marked_of}
 use Rattle.abnfread.proofs.HasTakenLemmas as reading
-use Rattle.abnfexplain.proofs.TakenMarksLemmas.{none-taken, refused-there, large-there, deep-there, one-more, none-decide}
+use Rattle.abnfexplain.proofs.TakenMarksLemmas.{none-taken, refused-there, large-there}
+use Rattle.abnfexplain.proofs.TakenMarksLemmas.{deep-there, one-more, none-decide}
 use Rattle.abnfexplain.proofs.TakenMarksLemmas.{first-kept}
 use Rattle.abnfexplain.proofs.abnf_decide.deciding_token.Goals as goal
 

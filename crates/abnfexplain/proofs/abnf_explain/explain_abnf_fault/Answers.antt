@@ -1,5 +1,4 @@
 use Rattle.abnfexplain.specs.AbnfExplained.{too_long}
-use Rattle.abnfexplain.proofs.AbnfExplainedLemmas.{fault-decided}
 use Rattle.abnfexplain.proofs.abnf_explain.explain_abnf_fault.Goals as goal
 
 pub returns-in_ok-why-in-TooLong : goal.returns-in_ok-why-in-TooLong

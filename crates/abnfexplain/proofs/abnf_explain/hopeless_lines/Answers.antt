@@ -3,8 +3,7 @@ use Rattle.abnfexplain.proofs.abnf_explain.hopeless_lines.Goals as goal
 
 pub returns : goal.returns
 returns c =
-    let told = c.in_ok-push_expected.ensures in
-    (
+    let told = c.in_ok-push_expected.ensures in (
       told.0,
       told.1,
       six-pieces _ _ _ _ _ _ _ _ _ _ _ c.new-out.ensures.items c.in_ok-push_token_place.ensures

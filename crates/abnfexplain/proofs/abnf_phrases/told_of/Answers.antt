@@ -9,14 +9,14 @@ use Rattle.abnfexplain.proofs.abnf_phrases.told_of.Goals.{then-is_told+in_ok-pus
 pub loop-phrase-preserved : goal.loop-phrase-preserved
 loop-phrase-preserved c = elim c.if-is_told.branch [
   | then-is_told+in_ok-push w ↦
-    (let h = row-told (place_allows c.args.place.now) phrase_of c.args.table.now c.loop-phrase.phrase-index _ _
-    c.loop-phrase-test.true (sym c.is_told.ensures ∙ w.if-is_told.true) c.loop-phrase.invariant in
-    let items = w.in_ok-push.ensures.items in
-    rw (w.told-is, items, map-append) h)
+      (let h = row-told (place_allows c.args.place.now) phrase_of c.args.table.now c.loop-phrase.phrase-index _ _
+      c.loop-phrase-test.true (sym c.is_told.ensures ∙ w.if-is_told.true) c.loop-phrase.invariant in
+      let items = w.in_ok-push.ensures.items in
+      rw (w.told-is, items, map-append) h)
   | else-is_told w ↦
-    (let h = row-barred (place_allows c.args.place.now) phrase_of c.args.table.now c.loop-phrase.phrase-index _ _
-    c.loop-phrase-test.true (sym c.is_told.ensures ∙ w.if-is_told.false) c.loop-phrase.invariant in
-    rw w.told-is h)
+      (let h = row-barred (place_allows c.args.place.now) phrase_of c.args.table.now c.loop-phrase.phrase-index _ _
+      c.loop-phrase-test.true (sym c.is_told.ensures ∙ w.if-is_told.false) c.loop-phrase.invariant in
+      rw w.told-is h)
 ]
 
 pub returns : goal.returns

@@ -5,4 +5,5 @@ use Rattle.abnfexplain.specs.AbnfPhraseRows.{phrase_of}
 use Rattle.abnfexplain.proofs.abnf_phrases.told_of.Given as goal
 
 abbrev pub invariant-loop-phrase : goal.invariant-loop-phrase
-invariant-loop-phrase l = TellsRest (place_allows l.place) phrase_of l.table l.phrase-index (map (λ w. w.now) l.told.items)
+invariant-loop-phrase l = TellsRest (place_allows l.place) phrase_of l.table l.phrase-index
+    (map (λ w. w.now) l.told.items)

@@ -1,5 +1,4 @@
 use Rattle.pegexplain.specs.PegExplained.{too_long}
-use Rattle.pegexplain.proofs.PegExplainedLemmas.{fault-decided}
 use Rattle.pegexplain.proofs.explain.explain_fault.Goals as goal
 
 pub returns-in_ok-why-in-TooLong : goal.returns-in_ok-why-in-TooLong

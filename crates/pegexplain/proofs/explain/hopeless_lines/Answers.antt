@@ -1,11 +1,9 @@
-use Rattle.std.proofs.Common.{map}
 use Rattle.pegexplain.proofs.PegExplainedLemmas.{five-join}
 use Rattle.pegexplain.proofs.explain.hopeless_lines.Goals as goal
 
 pub returns : goal.returns
 returns c =
-    let told = c.in_ok-push_expected.ensures in
-    (
+    let told = c.in_ok-push_expected.ensures in (
       told.0,
       told.1,
       five-join _ _ _ _ _ _ _ _ _ _ _ c.new-out.ensures.items c.in_ok-push_token_place.ensures

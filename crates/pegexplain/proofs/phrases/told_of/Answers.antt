@@ -9,14 +9,14 @@ use Rattle.pegexplain.proofs.phrases.told_of.Goals.{then-is_told+in_ok-push, els
 pub loop-phrase-preserved : goal.loop-phrase-preserved
 loop-phrase-preserved c = elim c.if-is_told.branch [
   | then-is_told+in_ok-push w ↦
-    (let h = row-told (allows c.args.place) phrase_of c.args.table.now c.loop-phrase.phrase-index _ _
-    c.loop-phrase-test.true (sym c.is_told.ensures ∙ w.if-is_told.true) c.loop-phrase.invariant in
-    let items = w.in_ok-push.ensures.items in
-    rw (w.told-is, items, map-append) h)
+      (let h = row-told (allows c.args.place) phrase_of c.args.table.now c.loop-phrase.phrase-index _ _
+      c.loop-phrase-test.true (sym c.is_told.ensures ∙ w.if-is_told.true) c.loop-phrase.invariant in
+      let items = w.in_ok-push.ensures.items in
+      rw (w.told-is, items, map-append) h)
   | else-is_told w ↦
-    (let h = row-barred (allows c.args.place) phrase_of c.args.table.now c.loop-phrase.phrase-index _ _
-    c.loop-phrase-test.true (sym c.is_told.ensures ∙ w.if-is_told.false) c.loop-phrase.invariant in
-    rw w.told-is h)
+      (let h = row-barred (allows c.args.place) phrase_of c.args.table.now c.loop-phrase.phrase-index _ _
+      c.loop-phrase-test.true (sym c.is_told.ensures ∙ w.if-is_told.false) c.loop-phrase.invariant in
+      rw w.told-is h)
 ]
 
 pub returns : goal.returns

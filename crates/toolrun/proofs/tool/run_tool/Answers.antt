@@ -18,8 +18,8 @@ returns-then-is_err g c = record {
       (passed g.E.Sink.contents g.E.Sink.failed c.args.err.now c.close.new.err) (code_of c.close.result)
       (cut_short (Behind (g.L.Language.states c.args.grammar.now c.args.settings.now))
       (first_text c.plan_of-plan.result.first)
-      (does_of (λ t. task_does g.L.Language.canonical g.L.Language.runs t c.args.settings.now) c.plan_of-plan.result.task)
-      c.plan_of-plan.ensures
+      (does_of (λ t. task_does g.L.Language.canonical g.L.Language.runs t c.args.settings.now)
+      c.plan_of-plan.result.task) c.plan_of-plan.ensures
       (passed g.R.Source.remaining g.R.Source.failed c.args.reader.now c.args.reader.now)
       (passed g.O.Sink.contents g.O.Sink.failed c.args.out.now c.close.new.out)
       (passed g.E.Sink.contents g.E.Sink.failed c.args.err.now c.close.new.err)
@@ -37,8 +37,8 @@ returns g c = record {
       (passed g.E.Sink.contents g.E.Sink.failed c.args.err.now c.finish.new.err) (code_of c.finish.result)
       (run_is_right (Behind (g.L.Language.states c.args.grammar.now c.args.settings.now))
       (first_text c.plan_of-plan.result.first)
-      (does_of (λ t. task_does g.L.Language.canonical g.L.Language.runs t c.args.settings.now) c.plan_of-plan.result.task)
-      c.plan_of-plan.ensures
+      (does_of (λ t. task_does g.L.Language.canonical g.L.Language.runs t c.args.settings.now)
+      c.plan_of-plan.result.task) c.plan_of-plan.ensures
       (passed g.R.Source.remaining g.R.Source.failed c.args.reader.now c.act-stop.new.reader)
       (passed g.O.Sink.contents g.O.Sink.failed c.args.out.now c.act-stop.new.out)
       (passed g.O.Sink.contents g.O.Sink.failed c.args.out.now c.finish.new.out)
